@@ -1,0 +1,10 @@
+pub mod Texts
+pub mod Numbers
+pub mod RefNames
+pub mod Idents
+pub mod Faults
+pub mod Paths
+pub mod Items
+pub mod Spelling
+pub mod Commands
+pub mod Grammar

@@ -1,0 +1,30 @@
+-- Texts are byte strings. What stands before and after a byte in them, and which bytes they lack.
+use Rattle.std.specs.Prelude.{ℕ, Bool, true, false, not, ◌&&◌, ◌||◌, ◌==◌, List, [], ◌∷◌, Option, Some, None, nat_eq, if◌then◌else◌}
+use Rattle.std.specs.Option.{option_map}
+use Rattle.std.specs.List.{list_any, list_all}
+use Rattle.std.specs.Str.{bytes_eq}
+
+abbrev pub Bytes : Type 0
+Bytes = List ℕ
+
+abbrev pub same_bytes : Bytes → Bytes → Bool
+same_bytes = bytes_eq
+
+-- what stands before the first c, and what stands after it; nothing where no c stands
+unfoldable pub cut_at : ℕ → Bytes → Option (Bytes × Bytes)
+cut_at c [] = None
+cut_at c (b ∷ bs) = if b == c then Some ([], bs) else option_map (λ p. (b ∷ p.0, p.1)) (cut_at c bs)
+
+-- some two neighbours are a and b
+abbrev pub has_pair : ℕ → ℕ → Bytes → Bool
+has_pair a b [] = false
+has_pair a b (x ∷ []) = false
+has_pair a b (x ∷ y ∷ zs) = (x == a && y == b) || has_pair a b (y ∷ zs)
+
+-- whether c stands nowhere
+abbrev pub lacks : ℕ → Bytes → Bool
+lacks c bs = not (list_any (λ b. b == c) bs)
+
+-- with no LF
+abbrev pub is_line : Bytes → Bool
+is_line = list_all (λ b. not (nat_eq b 10))

@@ -1,0 +1,11 @@
+//! The definitions that every contract of the workspace cites, with their laws.
+//! No program logic stands here: a law is the contract of a public function with an empty body.
+#![tactic(auto)]
+
+mod faults;
+mod features;
+mod objects;
+
+pub use faults::Fault;
+pub use features::Feature;
+pub use objects::{Kind, Mode};

@@ -1,0 +1,15 @@
+-- The list of a tree's files.
+use Rattle.std.specs.Prelude.{List, [], ◌∷◌, ◌++◌, map}
+use Rattle.gx_model.specs.Texts.{Bytes}
+use Rattle.gx_model.specs.Paths.{Path}
+use Rattle.gx_model.specs.Files.{FileMap}
+use Rattle.gx_model.specs.declared.objects.Mode.{Mode}
+use Rattle.gx_tree.specs.declared.stand_in.Name.{Name}
+
+-- a listed file, as an entry of a file map
+abbrev pub listed : Path × Mode × Name → Path × (Mode × Bytes)
+listed t = (t.0, (t.1, t.2.bytes))
+
+-- the same files below a path
+abbrev pub below : Path → FileMap Bytes → FileMap Bytes
+below p f = map (λ e. (p ++ e.0, e.1)) f

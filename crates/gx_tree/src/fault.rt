@@ -1,0 +1,36 @@
+//! Why a tree refuses a call.
+ghost use Rattle.std.specs.Prelude.{◌≡◌};
+
+use std::alloc::AllocError;
+use thiserror::Error;
+
+/// Why an edit of a tree, its writing or its loading is refused.
+#[derive(Clone, Copy, Debug, Error, PartialEq, Eq)]
+pub enum TreeFault {
+    /// A growth was refused.
+    #[error("OutOfMemory")]
+    OutOfMemory,
+    /// Nothing stands at or below the source of a copy or a rename.
+    #[error("NoSuchPath")]
+    NoSuchPath,
+    /// A file would be the root.
+    #[error("RootNotTree")]
+    RootNotTree,
+    /// A new path has more than 4,095 bytes.
+    #[error("PathTooLong")]
+    PathTooLong,
+    /// A tree to be stored has the name of another object.
+    #[error("NameHeld")]
+    NameHeld,
+}
+
+impl From<AllocError> for TreeFault {
+    ghost use Rattle.std.specs.Prelude.{◌≡◌};
+    ghost use Rattle.gx_tree.specs.declared.fault.TreeFault.TheVariants.{OutOfMemory};
+
+    ghost from_gives = { λ _ fault. fault ≡ OutOfMemory };
+
+    fn from(_error: AllocError) -> TreeFault {
+        TreeFault::OutOfMemory
+    }
+}

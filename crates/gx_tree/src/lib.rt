@@ -1,0 +1,14 @@
+//! The files of a branch: a tree of directories, seen as a map from whole paths to modes and names.
+//! Its edits are set operations on that map, and it writes and loads the canonical trees.
+#![tactic(auto)]
+
+mod directory;
+mod edits;
+mod fault;
+mod listing;
+mod path_tree;
+mod stand_in;
+
+pub use fault::TreeFault;
+pub use path_tree::{Found, PathTree};
+pub use stand_in::{Name, TreePath};

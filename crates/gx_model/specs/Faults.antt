@@ -17,10 +17,14 @@ Gives fault view (Err e) given = IsFaultOf (fault e) given
 abbrev pub Given : Type 0 → Type 0
 Given A = Result A Fault
 
+-- the first step, and with what it gives the second; or the first fault
+abbrev pub and_then : {A B E : Type 0} → Result A E → (A → Result B E) → Result B E
+and_then (Ok x) f = f x
+and_then (Err e) f = Err e
+
 infixl 10 ◌>>=◌
 abbrev pub ◌>>=◌ : {A B : Type 0} → Result A Fault → (A → Result B Fault) → Result B Fault
-(Ok x) >>= f = f x
-(Err e) >>= f = Err e
+r >>= f = and_then r f
 
 abbrev pub or_fault : {A : Type 0} → Option A → Fault → Result A Fault
 or_fault (Some x) f = Ok x

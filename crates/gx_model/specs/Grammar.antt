@@ -1,6 +1,5 @@
 -- The commands of items, from left to right.
-use Rattle.std.specs.Prelude.{◌≡◌, ℕ, zero, suc, ◌+◌, ◌<◌, Bool, true, false, not, ◌&&◌, ◌||◌, ◌==◌, nat_lt, nat_le, codes, List, [], ◌∷◌, ◌++◌, length, Option, Some, None, Result, Ok, Err, if◌then◌else◌}
-use Rattle.std.specs.Option.{option_map, option_and_then}
+use Rattle.std.specs.Prelude.{ℕ, zero, suc, Bool, true, false, ◌&&◌, ◌||◌, ◌==◌, nat_le, codes, List, [], ◌∷◌, ◌++◌, length, Option, Some, None, Result, Ok, Err, if◌then◌else◌}
 use Rattle.std.specs.List.{list_any, list_all}
 use Rattle.std.specs.Str.{bytes_eq}
 use Rattle.gx_model.specs.Texts.{Bytes, cut_at}
@@ -16,7 +15,7 @@ use Rattle.gx_model.specs.declared.objects.Mode.{Mode}
 use Rattle.gx_model.specs.declared.objects.Mode.TheVariants as modes
 use Rattle.gx_model.specs.declared.features.Feature.{Feature}
 use Rattle.gx_model.specs.declared.features.Feature.TheVariants as features
-use Rattle.gx_model.specs.Commands.{CommitIsh, Marked, Named, DataRef, Mark, Object, Inline, Change, Modify, Remove, Copy, Rename, Clear, BlobParts, CommitParts, TagParts, ResetParts, Command, Blob, Commit, Tag, Reset, Checkpoint, Progress, Asks, OptionLine, Done, Commands}
+use Rattle.gx_model.specs.Commands.{CommitIsh, Marked, Named, DataRef, Mark, Object, Inline, Change, Modify, Remove, Copy, Rename, Clear, Command, Blob, Commit, Tag, Reset, Checkpoint, Progress, Asks, OptionLine, Done, Commands}
 
 -- what some first items give, with the items after them, or the first fault
 abbrev pub Read : Type 0 → Type 0

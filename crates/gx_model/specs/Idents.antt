@@ -1,5 +1,5 @@
 -- Identities: who made a commit or a tag, and when. Source: git-fast-import(1), "author", "committer" and "Date Formats".
-use Rattle.std.specs.Prelude.{IsTrue, ◌≡◌, ℕ, Bool, true, false, ◌&&◌, ◌||◌, ◌==◌, nat_eq, nat_lt, nat_le, codes, List, [], ◌∷◌, ◌++◌, length, Option, Some, None, ◌⊎◌}
+use Rattle.std.specs.Prelude.{IsTrue, ◌≡◌, ℕ, Bool, false, ◌&&◌, ◌||◌, ◌==◌, nat_eq, nat_lt, nat_le, codes, [], ◌∷◌, ◌++◌, length, Option, Some, None, ◌⊎◌}
 use Rattle.std.specs.List.{list_all, ends_with}
 use Rattle.std.specs.Char.{is_ascii_digit}
 use Rattle.std.specs.Str.Parse.{digits_value}

@@ -1,0 +1,210 @@
+-- The export text of a history.
+use Rattle.std.specs.Prelude.{ℕ, suc, Bool, if◌then◌else◌, List, [], ◌∷◌, ◌++◌, map, length, Option, None, Some, codes}
+use Rattle.std.specs.List.{filter, filter_map, flat_map, fold, list_any}
+use Rattle.std.specs.Fmt.{decimal}
+use Rattle.gx_model.specs.declared.objects.Mode.{Mode}
+use Rattle.gx_model.specs.declared.objects.Mode.TheVariants.{File, Exec, Link, Gitlink, Dir}
+use Rattle.gx_model.specs.declared.features.Feature.TheVariants as features
+use Rattle.gx_model.specs.Commands as command
+use Rattle.gx_model.specs.Texts.{Bytes}
+use Rattle.gx_model.specs.Paths.{Path, path_text, printed}
+use Rattle.gx_model.specs.Items.{Data, Item, Line}
+use Rattle.gx_model.specs.Commands.{Asks, Blob, Change, Checkpoint, Clear, Command, CommitIsh, Copy, DataRef, Done, Inline, Mark, Marked, Modify, Named, Object, OptionLine, Progress, Remove, Rename, Reset}
+use Rattle.gx_model.specs.Files.{FileMap, Leaf}
+use Rattle.gx_model.specs.Values.{Commit, Value, blob_value, commit_value, files_of, list_of, parents_of, same_value, text_of}
+use Rattle.gx_model.specs.Histories.{History, Target, at_commit, at_tag, is_in}
+use Rattle.gx_model.specs.Ranges.{commit_of, reaches}
+use Rattle.gx_model.specs.Replay.{peeled_at}
+
+-- ---- the commits, in the order in which they were first made
+
+abbrev pub is_reached : List (Bytes × Target) → Commit → Bool
+is_reached refs c = list_any (λ r. reaches (peeled_at r.1) c) refs
+
+abbrev pub reached_commits : History → List Commit
+reached_commits h = filter (is_reached h.refs) (filter_map commit_of h.values)
+
+-- ---- marks
+
+-- The number of a value among those written, the newest first: they are numbered from 1 in the order of writing.
+abbrev pub number_in : List Value → Value → ℕ
+number_in [] v = 0
+number_in (w ∷ ws) v = if same_value w v then suc (length ws) else number_in ws v
+
+abbrev pub marked_in : List Value → Value → CommitIsh
+marked_in ws v = Marked (number_in ws v)
+
+-- ---- one commit
+
+abbrev pub content_in : Mode → Bytes → Option Bytes
+content_in Gitlink x = None
+content_in _ x = Some x
+
+-- the bytes of the files that are no gitlinks
+abbrev pub contents : FileMap Bytes → List Bytes
+contents f = filter_map (λ e. content_in e.1.0 e.1.1) f
+
+-- each blob that wasn't written yet
+abbrev pub blob_commands : List Value → List Bytes → List Command
+blob_commands ws [] = []
+blob_commands ws (x ∷ xs) =
+    if is_in ws (blob_value x) then blob_commands ws xs
+    else command.Blob (record { mark = Some (suc (length ws)); bytes = x }) ∷ blob_commands (blob_value x ∷ ws) xs
+
+abbrev pub with_blobs : List Value → List Bytes → List Value
+with_blobs ws [] = ws
+with_blobs ws (x ∷ xs) = with_blobs (if is_in ws (blob_value x) then ws else blob_value x ∷ ws) xs
+
+-- the branch that carries the commits
+abbrev pub carrier : Bytes
+carrier = codes "refs/gx/export"
+
+abbrev pub to_nothing : Bytes → Command
+to_nothing r = command.Reset (record { ref = r; parent = None })
+
+abbrev pub root_reset : List Commit → List Command
+root_reset [] = to_nothing carrier ∷ []
+root_reset (p ∷ ps) = []
+
+abbrev pub first_parent : List Value → List Commit → Option CommitIsh
+first_parent ws [] = None
+first_parent ws (p ∷ ps) = Some (marked_in ws (commit_value p))
+
+abbrev pub other_parents : List Value → List Commit → List CommitIsh
+other_parents ws [] = []
+other_parents ws (p ∷ ps) = map (λ q. marked_in ws (commit_value q)) ps
+
+abbrev pub dataref_in : List Value → Mode → Bytes → DataRef
+dataref_in ws Gitlink x = Object x
+dataref_in ws _ x = Mark (number_in ws (blob_value x))
+
+abbrev pub file_change : List Value → Path × Leaf Bytes → Change
+file_change ws e = Modify e.1.0 (dataref_in ws e.1.0 e.1.1) e.0
+
+abbrev pub commit_command : List Value → Commit → Command
+commit_command ws c = command.Commit (record {
+  ref = carrier;
+  mark = Some (suc (length ws));
+  author = Some (text_of c).author;
+  committer = (text_of c).committer;
+  encoding = (text_of c).encoding;
+  message = (text_of c).message;
+  parent = first_parent ws (list_of (parents_of c));
+  merges = other_parents ws (list_of (parents_of c));
+  changes = Clear ∷ map (file_change ws) (files_of c);
+})
+
+-- its blobs, then itself
+abbrev pub with_commit : List Value → Commit → List Value
+with_commit ws c = commit_value c ∷ with_blobs ws (contents (files_of c))
+
+abbrev pub one_commit : List Value → Commit → List Command
+one_commit ws c =
+    blob_commands ws (contents (files_of c)) ++ (root_reset (list_of (parents_of c)) ++ (commit_command (with_blobs ws (contents (files_of c))) c ∷ []))
+
+-- ---- all of them, and the refs
+
+abbrev pub commit_commands : List Value → List Commit → List Command
+commit_commands ws [] = []
+commit_commands ws (c ∷ cs) = one_commit ws c ++ commit_commands (with_commit ws c) cs
+
+abbrev pub all_written : List Commit → List Value
+all_written cs = fold with_commit [] cs
+
+abbrev pub last_reset : List Commit → List Command
+last_reset [] = []
+last_reset (c ∷ cs) = to_nothing carrier ∷ []
+
+abbrev pub ref_command : List Value → Bytes × Target → Command
+ref_command ws (r, at_commit c) = command.Reset (record { ref = r; parent = Some (marked_in ws (commit_value c)) })
+ref_command ws (r, at_tag t) = command.Tag (record { name = t.name; mark = None; target = marked_in ws (commit_value t.target); tagger = t.tagger; message = t.message })
+
+-- the commands between `feature done` and `done`
+abbrev pub inner_commands : List Commit → List (Bytes × Target) → List Command
+inner_commands cs refs = commit_commands [] cs ++ (last_reset cs ++ map (ref_command (all_written cs)) refs)
+
+abbrev pub export_commands : History → List Command
+export_commands h = command.Asks features.Done ∷ (inner_commands (reached_commits h) h.refs ++ command.Done ∷ [])
+
+-- ---- the items of a command
+
+abbrev pub word_line : Bytes → Bytes → Item
+word_line word rest = Line (word ++ 32 ∷ rest)
+
+abbrev pub optional_line : Bytes → Option Bytes → List Item
+optional_line word None = []
+optional_line word (Some x) = word_line word x ∷ []
+
+abbrev pub mark_text : ℕ → Bytes
+mark_text n = 58 ∷ decimal n
+
+abbrev pub mark_line : Option ℕ → List Item
+mark_line None = []
+mark_line (Some n) = word_line (codes "mark") (mark_text n) ∷ []
+
+abbrev pub commit_ish_text : CommitIsh → Bytes
+commit_ish_text (Marked n) = mark_text n
+commit_ish_text (Named x) = x
+
+abbrev pub from_line : Option CommitIsh → List Item
+from_line None = []
+from_line (Some c) = word_line (codes "from") (commit_ish_text c) ∷ []
+
+-- six digits
+abbrev pub mode_digits : Mode → Bytes
+mode_digits File = codes "100644"
+mode_digits Exec = codes "100755"
+mode_digits Link = codes "120000"
+mode_digits Gitlink = codes "160000"
+mode_digits Dir = codes "040000"
+
+abbrev pub dataref_text : DataRef → Bytes
+dataref_text (Mark n) = mark_text n
+dataref_text (Object x) = x
+dataref_text (Inline x) = codes "inline"
+
+abbrev pub dataref_block : DataRef → List Item
+dataref_block (Mark n) = []
+dataref_block (Object x) = []
+dataref_block (Inline x) = Data x ∷ []
+
+-- an export has no other changes
+abbrev pub change_items : Change → List Item
+change_items (Modify m s p) = word_line (codes "M") (mode_digits m ++ 32 ∷ dataref_text s ++ 32 ∷ printed (path_text p)) ∷ dataref_block s
+change_items Clear = Line (codes "deleteall") ∷ []
+change_items (Remove p) = []
+change_items (Copy p q) = []
+change_items (Rename p q) = []
+
+-- an LF after a reset that has a commit
+abbrev pub reset_items : Option CommitIsh → List Item
+reset_items None = []
+reset_items (Some c) = word_line (codes "from") (commit_ish_text c) ∷ Line [] ∷ []
+
+-- an export has no other commands
+abbrev pub command_items : Command → List Item
+command_items (command.Blob b) = Line (codes "blob") ∷ mark_line b.mark ++ Data b.bytes ∷ []
+command_items (command.Commit c) =
+    word_line (codes "commit") c.ref ∷ (mark_line c.mark ++ (optional_line (codes "author") c.author ++ (word_line (codes "committer") c.committer
+    ∷ (optional_line (codes "encoding") c.encoding ++ (Data c.message ∷ (from_line c.parent ++ (map (λ p. word_line (codes "merge") (commit_ish_text p)) c.merges
+    ++ (flat_map change_items c.changes ++ Line [] ∷ []))))))))
+command_items (command.Tag t) =
+    word_line (codes "tag") t.name ∷ mark_line t.mark ++ word_line (codes "from") (commit_ish_text t.target) ∷ optional_line (codes "tagger") t.tagger ++ Data t.message ∷ []
+command_items (command.Reset r) = word_line (codes "reset") r.ref ∷ reset_items r.parent
+command_items (command.Asks f) = Line (codes "feature done") ∷ []
+command_items command.Done = Line (codes "done") ∷ []
+command_items command.Checkpoint = []
+command_items (command.Progress x) = []
+command_items (command.OptionLine x) = []
+
+abbrev pub export_items : History → List Item
+export_items h = flat_map command_items (export_commands h)
+
+-- ---- the text of items
+
+abbrev pub item_text : Item → Bytes
+item_text (Line l) = l ++ 10 ∷ []
+item_text (Data x) = codes "data " ++ decimal (length x) ++ 10 ∷ x ++ 10 ∷ []
+
+abbrev pub export_text : History → Bytes
+export_text h = flat_map item_text (export_items h)

@@ -1,0 +1,312 @@
+-- What the laws of the export text suppose and say.
+use Rattle.std.specs.Prelude.{map, ◌⊎◌, suc, if◌then◌else◌, Result, Ok, ◌≡◌, ℕ, ◌^◌, ◌<◌, Bool, true, false, IsTrue, List, [], ◌∷◌, ◌++◌, length, codes, nat_eq, Option, None, Some, is_some}
+use Rattle.std.specs.List.{AllByRecursion, filter_map, flat_map, starts_with}
+use Rattle.gx_model.specs.declared.objects.Mode.{Mode}
+use Rattle.gx_model.specs.declared.objects.Mode.TheVariants.{File, Exec, Link, Gitlink}
+use Rattle.gx_model.specs.declared.objects.Kind.{Kind}
+use Rattle.gx_model.specs.declared.faults.Fault.{Fault}
+use Rattle.gx_model.specs.declared.features.Feature.TheVariants as features
+use Rattle.gx_model.specs.Commands as command
+use Rattle.gx_model.specs.Texts.{Bytes, is_line}
+use Rattle.gx_model.specs.RefNames.{is_ref_name}
+use Rattle.gx_model.specs.Idents.{is_ident}
+use Rattle.gx_model.specs.Faults.{and_then}
+use Rattle.gx_model.specs.Paths.{AreBytes, Path, is_file_path, path_text}
+use Rattle.gx_model.specs.Items.{Data, End, Finished, Item, Line, items_of}
+use Rattle.gx_model.specs.Spelling.{IsReading}
+use Rattle.gx_model.specs.Commands.{Asks, Blob, Change, Clear, Command, CommitIsh, CommitParts, Copy, DataRef, Done, Mark, Marked, Modify, Named, Object, Remove, Rename, Reset, TagParts}
+use Rattle.gx_model.specs.Grammar.{commands_of, is_null}
+use Rattle.gx_model.specs.Files.{Leaf, is_file_map}
+use Rattle.gx_model.specs.Values.{Commit, Value, blob_value, commit_value, files_of, is_name_text, is_proper, list_of, parents_of, parts, text_of}
+use Rattle.gx_model.specs.Histories.{History, IsHistory, IsIn, Target, at_commit, at_tag, is_in, value_at, with_one, with_value}
+use Rattle.gx_model.specs.Denotation.{Revision}
+use Rattle.gx_model.specs.Ranges.{commit_of}
+use Rattle.gx_model.specs.Replay.{Outcome, State, finished, or_else, replayed, start, step}
+use Rattle.gx_model.specs.Export.{all_written, carrier, command_items, contents, export_commands, export_text, inner_commands, item_text, one_commit, reached_commits, with_commit}
+use Rattle.gx_model.specs.Laws.{IsWhole}
+
+-- a line with no LF that is no comment and announces no block
+pub record IsItemLine (l : Bytes) : Type 0 where
+  pub line : IsTrue (is_line l)
+  pub no_comment : starts_with nat_eq l (codes "#") ≡ false
+  pub no_data : starts_with nat_eq l (codes "data ") ≡ false
+
+-- what a text can spell
+abbrev pub IsItem : Item → Type 0
+IsItem (Line l) = IsItemLine l
+IsItem (Data x) = length x < 2 ^ 64
+
+-- items are read again
+abbrev pub ItemsAreRead : Type 0
+ItemsAreRead = (is : List Item) → AllByRecursion IsItem is → items_of (flat_map item_text is) false ≡ record { items = is; end = Finished }
+
+-- ---- commands
+
+abbrev pub IsMark : ℕ → Type 0
+IsMark n = (0 < n) × (n < 2 ^ 64)
+
+abbrev pub IsIdent : Bytes → Type 0
+IsIdent x = (is_ident x ≡ true) × IsTrue (is_line x)
+
+abbrev pub IsOptional : (Bytes → Type 0) → Option Bytes → Type 0
+IsOptional P None = Unit {0}
+IsOptional P (Some x) = P x
+
+abbrev pub IsEncoding : Bytes → Type 0
+IsEncoding x = (nat_eq (length x) 0 ≡ false) × IsTrue (is_line x)
+
+abbrev pub IsMarked : CommitIsh → Type 0
+IsMarked (Marked n) = IsMark n
+IsMarked (Named x) = ⊥
+
+abbrev pub IsMarkedIf : Option CommitIsh → Type 0
+IsMarkedIf None = Unit {0}
+IsMarkedIf (Some c) = IsMarked c
+
+-- a gitlink's digits, which aren't forty zeros
+abbrev pub IsLink : Bytes → Type 0
+IsLink x = IsTrue (is_name_text x) × (is_null x ≡ false)
+
+-- a mark, or a gitlink's digits
+abbrev pub IsDataRef : Mode → DataRef → Type 0
+IsDataRef Gitlink (Object x) = IsLink x
+IsDataRef File (Mark n) = IsMark n
+IsDataRef Exec (Mark n) = IsMark n
+IsDataRef Link (Mark n) = IsMark n
+IsDataRef m s = ⊥
+
+abbrev pub IsPath : Path → Type 0
+IsPath p = IsTrue (is_file_path p) × AreBytes (path_text p)
+
+-- a change that an export has
+abbrev pub IsSpelledChange : Change → Type 0
+IsSpelledChange (Modify m s p) = IsDataRef m s × IsPath p
+IsSpelledChange Clear = Unit {0}
+IsSpelledChange (Remove p) = ⊥
+IsSpelledChange (Copy p q) = ⊥
+IsSpelledChange (Rename p q) = ⊥
+
+abbrev pub HasMark : Option ℕ → Type 0
+HasMark None = ⊥
+HasMark (Some n) = IsMark n
+
+pub record IsSpelledCommit (c : CommitParts) : Type 0 where
+  pub ref : is_ref_name c.ref ≡ true
+  pub mark : HasMark c.mark
+  pub author : IsIdent (or_else c.author [])
+  pub has_author : is_some c.author ≡ true
+  pub committer : IsIdent c.committer
+  pub encoding : IsOptional IsEncoding c.encoding
+  pub message : length c.message < 2 ^ 64
+  pub parent : IsMarkedIf c.parent
+  pub merges : AllByRecursion IsMarked c.merges
+  pub changes : AllByRecursion IsSpelledChange c.changes
+
+pub record IsSpelledTag (t : TagParts) : Type 0 where
+  pub name : is_ref_name (codes "refs/tags/" ++ t.name) ≡ true
+  pub mark : t.mark ≡ None
+  pub target : IsMarked t.target
+  pub tagger : IsOptional IsIdent t.tagger
+  pub message : length t.message < 2 ^ 64
+
+-- a command that an export has between `feature done` and `done`
+abbrev pub IsSpelled : Command → Type 0
+IsSpelled (command.Blob b) = HasMark b.mark × (length b.bytes < 2 ^ 64)
+IsSpelled (command.Commit c) = IsSpelledCommit c
+IsSpelled (command.Tag t) = IsSpelledTag t
+IsSpelled (command.Reset r) = (is_ref_name r.ref ≡ true) × IsMarkedIf r.parent
+IsSpelled _ = ⊥
+
+abbrev pub between : List Command → List Command
+between cs = command.Asks features.Done ∷ (cs ++ command.Done ∷ [])
+
+-- their items can be spelled
+abbrev pub CommandsAreItems : Type 0
+CommandsAreItems = (cs : List Command) → AllByRecursion IsSpelled cs → AllByRecursion IsItem (flat_map command_items (between cs))
+
+-- and are read as these commands
+abbrev pub CommandsAreRead : Type 0
+CommandsAreRead =
+    (cs : List Command) → AllByRecursion IsSpelled cs → commands_of (record { items = flat_map command_items (between cs); end = Finished }) ≡ record { list = between cs; fault = None }
+
+-- ---- the replay
+
+-- the values written, with their numbers, the newest first
+abbrev pub numbered : List Value → List (ℕ × Value)
+numbered [] = []
+numbered (w ∷ ws) = (suc (length ws), w) ∷ numbered ws
+
+-- the carrier's place among the branches: not there yet, or with a commit or none
+abbrev pub carried : Option (Option Commit) → List (Bytes × Option Commit)
+carried None = []
+carried (Some c) = (carrier, c) ∷ []
+
+-- The state of a replay while an export's commits are read: these were written, and the history holds these values.
+abbrev pub state_at : List Value → List Value → Option (Option Commit) → State
+state_at ws vs b = record {
+  history = record { values = vs; refs = [] };
+  marks = numbered ws;
+  branches = carried b;
+  tags = [];
+  needs_done = true;
+  is_forced = false;
+  progress = [];
+}
+
+-- what the blobs of a commit that weren't written yet make of the values
+abbrev pub values_with_blobs : List Value → List Value → List Bytes → List Value
+values_with_blobs ws vs [] = vs
+values_with_blobs ws vs (x ∷ xs) =
+    if is_in ws (blob_value x) then values_with_blobs ws vs xs else values_with_blobs (blob_value x ∷ ws) (with_one vs (blob_value x)) xs
+
+abbrev pub values_with_commit : List Value → List Value → Commit → List Value
+values_with_commit ws vs c = with_value (values_with_blobs ws vs (contents (files_of c))) (commit_value c)
+
+module _ (name : Kind → Bytes → Bytes) (read : Bytes → Result Revision Fault) where
+  -- the state after some commands, without the end
+  abbrev pub steps : State → List Command → Result State Fault
+  steps s [] = Ok s
+  steps s (c ∷ cs) = and_then (step name read s c) (λ t. steps t cs)
+
+  -- One commit's block, where its parents were written: it meets no fault, mark n still stands for the nth blob or commit written, and the values are these.
+  abbrev pub DataIsReplayed : Type 0
+  DataIsReplayed =
+      (ws vs : List Value) (b : Option (Option Commit)) (c : Commit) → IsTrue (is_file_map (files_of c)) → AllByRecursion (λ p. IsIn ws (commit_value p)) (list_of (parents_of c))
+      → steps (state_at ws vs b) (one_commit ws c) ≡ Ok (state_at (with_commit ws c) (values_with_commit ws vs c) (Some (Some c)))
+
+-- ---- what a history reaches
+
+-- a value is made of another, through its parts
+pub data Reaches : Value → Value → Type 0 where
+  itself : (v : Value) → Reaches v v
+  through : {u : Value} (v w : Value) → IsIn (parts v) w → Reaches w u → Reaches v u
+
+abbrev pub AnyReaches : List Value → Value → Type 0
+AnyReaches [] u = ⊥
+AnyReaches (v ∷ vs) u = Reaches v u ⊎ AnyReaches vs u
+
+-- reached from a ref
+abbrev pub IsReached : History → Value → Type 0
+IsReached h u = AnyReaches (map (λ r. value_at r.1) h.refs) u
+
+abbrev pub IsOne : List Commit → Commit → Type 0
+IsOne [] c = ⊥
+IsOne (d ∷ ds) c = (d ≡ c) ⊎ IsOne ds c
+
+-- After these commits were read: what was written is held, and the history holds exactly what these commits reach, the commits in their order.
+pub record HoldsWhat (ws vs : List Value) (cs : List Commit) : Type 0 where
+  pub whole : IsWhole vs
+  pub written : (v : Value) → IsIn ws v → IsIn vs v
+  pub order : filter_map commit_of vs ≡ cs
+  pub commits : AllByRecursion (λ c. IsIn ws (commit_value c)) cs
+  pub only : (u : Value) → IsIn vs u → AnyReaches (map commit_value cs) u
+
+abbrev pub DataKeeps : Type 0
+DataKeeps =
+    (ws vs : List Value) (cs : List Commit) (c : Commit) → HoldsWhat ws vs cs → IsTrue (is_proper (commit_value c)) → AllByRecursion (IsOne cs) (list_of (parents_of c)) → (IsOne cs c → ⊥)
+    → HoldsWhat (with_commit ws c) (values_with_commit ws vs c) (cs ++ c ∷ [])
+
+-- ---- all commits
+
+-- each is proper and new, after its parents
+abbrev pub FollowsAll : List Commit → List Commit → Type 0
+FollowsAll before [] = Unit {0}
+FollowsAll before (c ∷ cs) =
+    IsTrue (is_proper (commit_value c)) × AllByRecursion (IsOne before) (list_of (parents_of c)) × (IsOne before c → ⊥) × FollowsAll (before ++ c ∷ []) cs
+
+-- a tag's own name makes its ref
+abbrev pub IsOwn : Bytes × Target → Type 0
+IsOwn (n, at_commit c) = Unit {0}
+IsOwn (n, at_tag t) = n ≡ codes "refs/tags/" ++ t.name
+
+pub record IsExported (h : History) : Type 0 where
+  pub history : IsHistory h
+  pub own : AllByRecursion IsOwn h.refs
+
+abbrev pub nothing : History
+nothing = record { values = []; refs = [] }
+
+-- An export's commands are replayed without a fault: the refs are equal, the values are exactly those that were reached, and the commits stand in their order.
+pub record IsAgain (h k : History) : Type 0 where
+  pub refs : k.refs ≡ h.refs
+  pub order : filter_map commit_of k.values ≡ reached_commits h
+  pub only : (u : Value) → IsIn k.values u → IsReached h u
+  pub all : (u : Value) → IsReached h u → IsIn k.values u
+  pub held : (u : Value) → IsIn k.values u → IsIn h.values u
+  pub whole : IsWhole k.values
+
+abbrev pub ExportIsReplayed : Type 0
+ExportIsReplayed =
+    (name : Kind → Bytes → Bytes) (read : Bytes → Result Revision Fault) (h : History) → IsExported h
+    → (k : History) × IsAgain h k × (replayed name read 0 (start nothing) (export_commands h) None ≡ finished k [] (length (export_commands h)))
+
+-- ---- what an export can be read of
+
+-- no gitlink of forty zeros
+abbrev pub IsNotNull : Mode → Bytes → Type 0
+IsNotNull Gitlink x = is_null x ≡ false
+IsNotNull _ x = Unit {0}
+
+abbrev pub IsReadableFile : Path × Leaf Bytes → Type 0
+IsReadableFile e = AreBytes (path_text e.0) × IsNotNull e.1.0 e.1.1 × (length e.1.1 < 2 ^ 64)
+
+pub record IsReadableCommit (c : Commit) : Type 0 where
+  pub author : IsIdent (text_of c).author
+  pub committer : IsIdent (text_of c).committer
+  pub encoding : IsOptional IsEncoding (text_of c).encoding
+  pub message : length (text_of c).message < 2 ^ 64
+  pub files : AllByRecursion IsReadableFile (files_of c)
+
+abbrev pub IsReadableRef : Bytes × Target → Type 0
+IsReadableRef (n, at_commit c) = is_ref_name n ≡ true
+IsReadableRef (n, at_tag t) = (is_ref_name (codes "refs/tags/" ++ t.name) ≡ true) × IsOptional IsIdent t.tagger × (length t.message < 2 ^ 64)
+
+-- The texts in it have their forms, no file map has a gitlink of forty zeros, and lengths and marks are below 2 ^ 64.
+pub record IsReadable (h : History) : Type 0 where
+  pub commits : AllByRecursion IsReadableCommit (reached_commits h)
+  pub refs : AllByRecursion IsReadableRef h.refs
+  pub marks : length (all_written (reached_commits h)) < 2 ^ 64
+
+-- the commands of a history that can be read
+abbrev pub ExportIsSpelled : Type 0
+ExportIsSpelled = (h : History) → IsExported h → IsReadable h → AllByRecursion IsSpelled (inner_commands (reached_commits h) h.refs)
+
+-- what an import of a text into nothing gives, where its reading ends so
+abbrev pub imported : (Kind → Bytes → Bytes) → (Bytes → Result Revision Fault) → Bytes → Outcome
+imported name read text = let cs = commands_of (items_of text false) in replayed name read 0 (start nothing) cs.list cs.fault
+
+-- importing the export of a history gives the same refs and exactly what they reach
+abbrev pub ExportIsImported : Type 0
+ExportIsImported =
+    (name : Kind → Bytes → Bytes) (read : Bytes → Result Revision Fault) (h : History) → IsExported h → IsReadable h
+    → (k : History) × IsAgain h k × (imported name read (export_text h) ≡ finished k [] (length (export_commands h)))
+
+-- ---- the function and the relation
+
+abbrev pub OneReading : Type 0
+OneReading = (text : Bytes) (fails : Bool) (is : List Item) (e : End) → IsReading fails text is e → items_of text fails ≡ record { items = is; end = e }
+
+abbrev pub SomeReading : Type 0
+SomeReading = (text : Bytes) (fails : Bool) → IsReading fails text (items_of text fails).items (items_of text fails).end
+
+-- ---- lengths and marks fit where the text does
+
+abbrev pub IsFormedFile : Path × Leaf Bytes → Type 0
+IsFormedFile e = AreBytes (path_text e.0) × IsNotNull e.1.0 e.1.1
+
+pub record IsFormedCommit (c : Commit) : Type 0 where
+  pub author : IsIdent (text_of c).author
+  pub committer : IsIdent (text_of c).committer
+  pub encoding : IsOptional IsEncoding (text_of c).encoding
+  pub files : AllByRecursion IsFormedFile (files_of c)
+
+abbrev pub IsFormedRef : Bytes × Target → Type 0
+IsFormedRef (n, at_commit c) = is_ref_name n ≡ true
+IsFormedRef (n, at_tag t) = (is_ref_name (codes "refs/tags/" ++ t.name) ≡ true) × IsOptional IsIdent t.tagger
+
+pub record IsFormed (h : History) : Type 0 where
+  pub commits : AllByRecursion IsFormedCommit (reached_commits h)
+  pub refs : AllByRecursion IsFormedRef h.refs
+
+abbrev pub FormedIsReadable : Type 0
+FormedIsReadable = (h : History) → IsExported h → IsFormed h → length (export_text h) < 2 ^ 64 → IsReadable h

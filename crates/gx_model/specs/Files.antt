@@ -1,0 +1,60 @@
+-- Paths, and file maps: finite maps from whole paths to a mode and a content.
+-- A file map is the list of its entries in the byte order of whole paths. Contents are bytes, or names in a tree's map.
+use Rattle.std.specs.Prelude.{ℕ, Bool, true, not, ◌&&◌, List, [], ◌∷◌, map, length, drop, max, if◌then◌else◌, Option}
+use Rattle.std.specs.List.{list_all, filter}
+use Rattle.std.specs.FinMap.Entries.{is_sorted}
+use Rattle.std.specs.Map.{lookup}
+use Rattle.gx_model.specs.declared.objects.Mode.{Mode}
+use Rattle.gx_model.specs.Texts.{Bytes, same_bytes}
+use Rattle.gx_model.specs.Paths.{Path, are_in_line, begins, is_file_path, path_cmp, same_path}
+
+abbrev pub first_component : Path → Bytes
+first_component [] = []
+first_component (c ∷ p) = c
+
+-- before these, unless it is the first of them
+abbrev pub with_first : Bytes → List Bytes → List Bytes
+with_first c [] = c ∷ []
+with_first c (d ∷ ds) = if same_bytes c d then d ∷ ds else c ∷ d ∷ ds
+
+module _ (C : Type 0) where
+  abbrev pub Leaf : Type 0
+  Leaf = Mode × C
+
+  -- the entries of a file map, in order
+  abbrev pub FileMap : Type 0
+  FileMap = List (Path × Leaf)
+
+module _ {X : Type 0} where
+  -- no path is in line with a later one
+  abbrev pub are_apart : List (Path × X) → Bool
+  are_apart [] = true
+  are_apart (e ∷ es) = list_all (λ f. not (are_in_line e.0 f.0)) es && are_apart es
+
+  abbrev pub are_file_paths : List (Path × X) → Bool
+  are_file_paths es = list_all (λ e. is_file_path e.0) es
+
+  abbrev pub is_file_map : List (Path × X) → Bool
+  is_file_map es = are_file_paths es && are_apart es && is_sorted path_cmp es
+
+  -- what stands at a path
+  abbrev pub file_at : List (Path × X) → Path → Option X
+  file_at es p = lookup (same_path p) es
+
+  -- what is at or below p
+  abbrev pub under : Path → List (Path × X) → List (Path × X)
+  under p = filter (λ e. begins p e.0)
+
+  -- what is at or below p, with p taken off
+  abbrev pub sub_map : List (Path × X) → Path → List (Path × X)
+  sub_map es p = map (λ e. (drop (length p) e.0, e.1)) (under p es)
+
+  -- the first components, each once
+  abbrev pub first_components : List (Path × X) → List Bytes
+  first_components [] = []
+  first_components (e ∷ es) = with_first (first_component e.0) (first_components es)
+
+  -- the number of components of the longest path
+  abbrev pub depth : List (Path × X) → ℕ
+  depth [] = 0
+  depth (e ∷ es) = max (length e.0) (depth es)

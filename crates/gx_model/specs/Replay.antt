@@ -1,0 +1,237 @@
+-- The replay of a stream's commands on values.
+use Rattle.std.specs.Prelude.{ℕ, ◌+◌, Bool, true, false, ◌||◌, nat_eq, if◌then◌else◌, List, [], ◌∷◌, ◌++◌, Option, None, Some, codes}
+use Rattle.std.specs.declared.result.Result.{Result}
+use Rattle.std.specs.declared.result.Result.TheVariants.{Ok, Err}
+use Rattle.std.specs.List.{list_all, fold}
+use Rattle.std.specs.Map.{lookup}
+use Rattle.std.specs.Ordering.{nat_cmp}
+use Rattle.std.specs.Cmp.Lexicographic.{slice_cmp}
+use Rattle.std.specs.FinMap.Entries.{put}
+use Rattle.std.specs.declared.cmp.Ordering.{Ordering}
+use Rattle.gx_model.specs.declared.objects.Kind.{Kind}
+use Rattle.gx_model.specs.declared.objects.Mode.{Mode}
+use Rattle.gx_model.specs.declared.objects.Mode.TheVariants.{Gitlink}
+use Rattle.gx_model.specs.declared.faults.Fault.{Fault}
+use Rattle.gx_model.specs.declared.faults.Fault.TheVariants as fault
+use Rattle.gx_model.specs.declared.features.Feature.TheVariants as features
+use Rattle.gx_model.specs.Commands as command
+use Rattle.gx_model.specs.Texts.{Bytes, same_bytes}
+use Rattle.gx_model.specs.Faults.{and_then}
+use Rattle.gx_model.specs.Commands.{Asks, Blob, Change, Checkpoint, Clear, Command, CommitIsh, CommitParts, Copy, DataRef, Done, Inline, Mark, Marked, Modify, Named, Object, OptionLine, Progress, Remove, Rename, Reset, TagParts}
+use Rattle.gx_model.specs.Files.{FileMap}
+use Rattle.gx_model.specs.Edits.{copied, modified, removed, renamed}
+use Rattle.gx_model.specs.Values.{Commit, CommitText, Tag, Value, blob_value, commit, commit_value, commits_of, files_of, tag_value}
+use Rattle.gx_model.specs.Histories.{History, Target, at_commit, at_tag, with_value}
+use Rattle.gx_model.specs.Denotation.{Revision, Shown, base_value, denoted, object, ref_at, submodule}
+use Rattle.gx_model.specs.Ranges.{reaches}
+
+abbrev pub or_else : Option Bytes → Bytes → Bytes
+or_else None x = x
+or_else (Some y) x = y
+
+-- ---- the state of a replay
+
+pub record State : Type 0 where
+  -- the values so far, with the refs as at the start
+  pub history : History
+  -- the newest first
+  pub marks : List (ℕ × Value)
+  -- a branch's commit, or none
+  pub branches : List (Bytes × Option Commit)
+  pub tags : List (Bytes × Tag)
+  pub needs_done : Bool
+  pub is_forced : Bool
+  pub progress : Bytes
+
+abbrev pub start : History → State
+start h = record { history = h; marks = []; branches = []; tags = []; needs_done = false; is_forced = false; progress = [] }
+
+abbrev pub byte_cmp : Bytes → Bytes → Ordering
+byte_cmp = slice_cmp nat_cmp
+
+abbrev pub added : Value → State → State
+added v s = record s { history = record { values = with_value s.history.values v; refs = s.history.refs } }
+
+abbrev pub marked : Option ℕ → Value → State → State
+marked None v s = s
+marked (Some n) v s = record s { marks = (n, v) ∷ s.marks }
+
+abbrev pub on_branch : Bytes → Option Commit → State → State
+on_branch n c s = record s { branches = put byte_cmp n c s.branches }
+
+-- ---- what a commit-ish gives
+
+abbrev pub ok_or_mark : Option Value → Result Value Fault
+ok_or_mark None = Err fault.UnknownMark
+ok_or_mark (Some v) = Ok v
+
+abbrev pub at : State → ℕ → Result Value Fault
+at s n = ok_or_mark (lookup (nat_eq n) s.marks)
+
+abbrev pub commit_peeled : Value → Result Commit Fault
+commit_peeled (commit_value c) = Ok c
+commit_peeled (tag_value t) = Ok t.target
+commit_peeled _ = Err fault.WrongKind
+
+-- no tag of a tag
+abbrev pub commit_alone : Value → Result Commit Fault
+commit_alone (commit_value c) = Ok c
+commit_alone _ = Err fault.WrongKind
+
+abbrev pub shown_value : Result Shown Fault → Result Value Fault
+shown_value (Ok (object v)) = Ok v
+shown_value (Ok (submodule x)) = Err fault.WrongKind
+shown_value (Err e) = Err e
+
+abbrev pub peeled_at : Target → Commit
+peeled_at (at_commit c) = c
+peeled_at (at_tag t) = t.target
+
+-- the new history, the progress text and the commands read; or a fault with its command's number, and that text so far
+pub data Outcome : Type 0 where
+  finished : History → Bytes → ℕ → Outcome
+  refused : ℕ → Fault → Bytes → Outcome
+
+-- ---- the end
+
+abbrev pub is_forward : Option Target → Option Commit → Bool
+is_forward (Some old) (Some new) = reaches new (peeled_at old)
+is_forward _ _ = true
+
+abbrev pub is_fast_forward : State → Bool
+is_fast_forward s = s.is_forced || list_all (λ b. is_forward (ref_at s.history b.0) b.1) s.branches
+
+abbrev pub with_branch : List (Bytes × Target) → Bytes × Option Commit → List (Bytes × Target)
+with_branch rs b = elim b.1 [ None ↦ rs | Some c ↦ put byte_cmp b.0 (at_commit c) rs ]
+
+abbrev pub final_refs : State → List (Bytes × Target)
+final_refs s = fold (λ rs t. put byte_cmp t.0 (at_tag t.1) rs) (fold with_branch s.history.refs s.branches) s.tags
+
+abbrev pub final : State → History
+final s = record { values = s.history.values; refs = final_refs s }
+
+-- n commands were read before; the end is the reader's: none, or a fault
+abbrev pub ended : ℕ → State → Option Fault → Outcome
+ended n s (Some e) = refused (n + 1) e s.progress
+ended n s None = if is_fast_forward s then finished (final s) s.progress n else refused (n + 1) fault.NotFastForward s.progress
+
+-- the name of values, and how a revision's text is read
+module _ (name : Kind → Bytes → Bytes) (read : Bytes → Result Revision Fault) where
+  abbrev pub revision_value : History → Result Revision Fault → Result Value Fault
+  revision_value h (Err e) = Err e
+  revision_value h (Ok r) = shown_value (denoted name h r)
+
+  abbrev pub branch_commit : Option Commit → Result Commit Fault
+  branch_commit None = Err fault.EmptyBranch
+  branch_commit (Some c) = Ok c
+
+  abbrev pub or_branch : Option (Option Commit) → Result Commit Fault → Result Commit Fault
+  or_branch None r = r
+  or_branch (Some c) r = branch_commit c
+
+  abbrev pub committed : (Value → Result Commit Fault) → State → CommitIsh → Result Commit Fault
+  committed kind s (Marked n) = and_then (at s n) kind
+  committed kind s (Named x) = or_branch (lookup (same_bytes x) s.branches) (and_then (revision_value s.history (read x)) kind)
+
+  -- for the commits and resets of a branch: itself is refused first
+  abbrev pub is_itself : Bytes → CommitIsh → Bool
+  is_itself b (Marked n) = false
+  is_itself b (Named x) = same_bytes b x
+
+  abbrev pub committed_for : Bytes → State → CommitIsh → Result Commit Fault
+  committed_for b s x = if is_itself b x then Err fault.FromItself else committed commit_peeled s x
+
+  abbrev pub all_committed : Bytes → State → List CommitIsh → Result (List Commit) Fault
+  all_committed b s [] = Ok []
+  all_committed b s (x ∷ xs) = and_then (committed_for b s x) (λ c. and_then (all_committed b s xs) (λ cs. Ok (c ∷ cs)))
+
+  -- ---- changes: the state, where inline bytes are added, and the files
+
+  abbrev pub blob_bytes : Value → Result Bytes Fault
+  blob_bytes (blob_value x) = Ok x
+  blob_bytes _ = Err fault.WrongKind
+
+  abbrev pub object_of : State → Bytes → Result Value Fault
+  object_of s x = shown_value (and_then (base_value name s.history x) (λ v. Ok (object v)))
+
+  abbrev pub content : State → Mode → DataRef → Result (State × Bytes) Fault
+  content s Gitlink (Object x) = Ok (s, x)
+  content s m (Mark n) = and_then (at s n) (λ v. and_then (blob_bytes v) (λ x. Ok (s, x)))
+  content s m (Object x) = and_then (object_of s x) (λ v. and_then (blob_bytes v) (λ y. Ok (s, y)))
+  content s m (Inline x) = Ok (added (blob_value x) s, x)
+
+  abbrev pub changed : State → FileMap Bytes → Change → Result (State × FileMap Bytes) Fault
+  changed s f (Modify m d p) = and_then (content s m d) (λ r. and_then (modified f p (m, r.1)) (λ g. Ok (r.0, g)))
+  changed s f (Remove p) = Ok (s, removed f p)
+  changed s f (Copy p q) = and_then (copied f p q) (λ g. Ok (s, g))
+  changed s f (Rename p q) = and_then (renamed f p q) (λ g. Ok (s, g))
+  changed s f Clear = Ok (s, [])
+
+  abbrev pub all_changed : State → FileMap Bytes → List Change → Result (State × FileMap Bytes) Fault
+  all_changed s f [] = Ok (s, f)
+  all_changed s f (c ∷ cs) = and_then (changed s f c) (λ r. all_changed r.0 r.1 cs)
+
+  -- ---- one command
+
+  -- the first parent: that of `from`, or else the branch's own
+  abbrev pub own_commit : Option (Option Commit) → Option Commit
+  own_commit (Some c) = c
+  own_commit None = None
+
+  abbrev pub first_parent : State → CommitParts → Result (Option Commit) Fault
+  first_parent s c = elim c.parent [
+    | None ↦ Ok (own_commit (lookup (same_bytes c.ref) s.branches))
+    | Some x ↦ and_then (committed_for c.ref s x) (λ p. Ok (Some p))
+  ]
+
+  -- a missing author is the committer
+  abbrev pub text_made : CommitParts → CommitText
+  text_made c = record { author = or_else c.author c.committer; committer = c.committer; encoding = c.encoding; message = c.message }
+
+  abbrev pub starting_files : Option Commit → FileMap Bytes
+  starting_files None = []
+  starting_files (Some c) = files_of c
+
+  abbrev pub with_first_parent : Option Commit → List Commit → List Commit
+  with_first_parent None cs = cs
+  with_first_parent (Some c) cs = c ∷ cs
+
+  abbrev pub committed_to : CommitParts → Commit → State → State
+  committed_to c v s = on_branch c.ref (Some v) (marked c.mark (commit_value v) (added (commit_value v) s))
+
+  abbrev pub step_commit : State → CommitParts → Result State Fault
+  step_commit s c =
+      and_then (first_parent s c) (λ first.
+      and_then (all_committed c.ref s c.merges) (λ others.
+      and_then (all_changed s (starting_files first) c.changes) (λ r.
+      Ok (committed_to c (commit r.1 (commits_of (with_first_parent first others)) (text_made c)) r.0))))
+
+  abbrev pub step_tag : State → TagParts → Result State Fault
+  step_tag s t =
+      and_then (committed commit_alone s t.target) (λ c.
+      let v : Tag = record { target = c; name = t.name; tagger = t.tagger; message = t.message } in
+      let s' : State = marked t.mark (tag_value v) (added (tag_value v) s) in
+      Ok (record s' { tags = put byte_cmp (codes "refs/tags/" ++ t.name) v s'.tags }))
+
+  abbrev pub step_reset : State → Bytes → Option CommitIsh → Result State Fault
+  step_reset s b None = Ok (on_branch b None s)
+  step_reset s b (Some x) = and_then (committed_for b s x) (λ c. Ok (on_branch b (Some c) s))
+
+  abbrev pub step : State → Command → Result State Fault
+  step s (Blob b) = Ok (marked b.mark (blob_value b.bytes) (added (blob_value b.bytes) s))
+  step s (command.Commit c) = step_commit s c
+  step s (command.Tag t) = step_tag s t
+  step s (Reset r) = step_reset s r.ref r.parent
+  step s (Progress x) = Ok (record s { progress = s.progress ++ codes "progress " ++ x ++ 10 ∷ [] })
+  step s (Asks features.Done) = Ok (record s { needs_done = true })
+  step s (Asks features.Force) = Ok (record s { is_forced = true })
+  step s Checkpoint = Ok s
+  step s (Asks features.RawDates) = Ok s
+  step s (OptionLine t) = Ok s
+  step s Done = Ok s
+
+  -- ---- all commands
+
+  abbrev pub replayed : ℕ → State → List Command → Option Fault → Outcome
+  replayed n s [] end = ended n s end
+  replayed n s (c ∷ cs) end = elim (step s c) [ Ok t ↦ replayed (n + 1) t cs end | Err e ↦ refused (n + 1) e s.progress ]

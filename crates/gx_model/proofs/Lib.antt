@@ -1,8 +1,11 @@
 pub mod PathTests
 pub mod FileMapEdits
+pub mod FoundFiles
+pub mod EditMeanings
 pub mod SameValues
 pub mod PathOrder
 pub mod PathRuns
+pub mod SameFileMaps
 pub mod TreeBodies
 pub mod EntryTexts
 pub mod HexDigits

@@ -1,21 +1,20 @@
 -- What is found at a path of a file map, and after an edit of it.
-use Rattle.std.proofs.Common.{◌≡◌, Bool, true, false, cond, refl, sym, ap, subst, ◌∙◌, List, [], ◌∷◌, ◌++◌, length, drop, map, Option, None, Some}
-use Rattle.std.specs.Prelude.{T, not, ◌&&◌, ◌||◌, is_some, nat_eq}
+use Rattle.std.proofs.Common.{◌≡◌, Bool, true, false, cond, refl, sym, ap, subst, ◌∙◌, List, [], ◌∷◌, ◌++◌, length, drop, Option, None, Some}
+use Rattle.std.specs.Prelude.{T, not, ◌&&◌, is_some, nat_eq}
 use Rattle.std.specs.List.{list_all, filter}
 use Rattle.std.specs.Bool.{passes}
-use Rattle.std.specs.Ordering.{is_lt}
 use Rattle.std.specs.declared.cmp.Ordering.TheVariants.{Less, Equal, Greater}
-use Rattle.std.specs.Ordering.{ordering_reverse, is_eq}
+use Rattle.std.specs.Ordering.{is_eq}
 use Rattle.std.specs.Cmp.{tied_itself}
 use Rattle.std.specs.Cmp.Lexicographic.{texts_ties}
-use Rattle.std.specs.FinMap.Entries.{put, by_order, below_all, is_sorted}
+use Rattle.std.specs.FinMap.Entries.{put, by_order}
 use Rattle.gx_model.specs.Texts.{Bytes, same_bytes}
-use Rattle.gx_model.specs.Paths.{Path, are_in_line, begins, is_component, is_file_path, path_cmp, path_text, same_path}
-use Rattle.gx_model.specs.Files.{are_apart, are_file_paths, file_at, under}
-use Rattle.gx_model.specs.Edits.{moved, with_all, without_line}
-use Rattle.gx_model.proofs.PathTests.{begins_append, both, component_free, first, is_same, is_true, left_or, not_both, path_is, path_same, same_is, second}
+use Rattle.gx_model.specs.Paths.{Path, begins, is_component, is_file_path, path_cmp, path_text, same_path}
+use Rattle.gx_model.specs.Files.{are_file_paths, file_at, under}
+use Rattle.gx_model.specs.Edits.{moved, with_all}
+use Rattle.gx_model.proofs.PathTests.{begins_append, both, component_free, first, is_same, is_true, path_is, same_is, second}
 use Rattle.gx_model.proofs.EntryTexts.{split_at}
-use Rattle.gx_model.proofs.FileMapEdits.{Parts, all_put, path_order}
+use Rattle.gx_model.proofs.FileMapEdits.{all_put, path_order}
 
 -- ---- a path is told by its text
 

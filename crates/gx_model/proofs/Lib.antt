@@ -29,5 +29,6 @@ pub mod TreeWalks
 pub mod HeldNames
 pub mod FirstRecords
 pub mod FoundRecords
+pub mod ShownValues
 pub mod TagBodies
 pub mod ShortPaths

@@ -69,7 +69,7 @@ module _ (name : Kind → Bytes → Bytes) (namer : IsNamer name) where
         ]
       ] refl
 
-  some_sub : (c : Bytes) (f : FileMap Bytes) → T (has_some (sub_map f (c ∷ []))) → Some_ (λ x. x ≡ c) (first_components f)
+  pub some_sub : (c : Bytes) (f : FileMap Bytes) → T (has_some (sub_map f (c ∷ []))) → Some_ (λ x. x ≡ c) (first_components f)
   some_sub c f h = from f h
     where
       put_in : (d : Bytes) (ds : List Bytes) → T (same_bytes c d) → Some_ (λ x. x ≡ c) (with_first d ds)

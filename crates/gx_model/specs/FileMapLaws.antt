@@ -1,5 +1,5 @@
 -- The laws of file maps and of their edits. Source: git-fast-import(1), "filemodify", "filedelete", "filecopy" and "filerename".
-use Rattle.std.specs.Prelude.{◌≡◌, ◌≢◌, ◌↔◌, false, ◌∷◌, ◌++◌, [], Result, Ok, Err, Some, None, is_some, IsTrue, IfOk}
+use Rattle.std.specs.Prelude.{◌≡◌, ◌≢◌, ◌↔◌, false, ◌∷◌, ◌++◌, [], Ok, Err, Some, None, is_some, IsTrue, IfOk}
 use Rattle.std.specs.declared.cmp.Ordering.TheVariants.{Less}
 use Rattle.std.specs.List.{list_all}
 use Rattle.gx_model.specs.declared.faults.Fault.{Fault}

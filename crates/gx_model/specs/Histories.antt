@@ -55,6 +55,11 @@ abbrev pub IsIn : List Value → Value → Type 0
 IsIn [] v = ⊥
 IsIn (w ∷ vs) v = (w ≡ v) ⊎ IsIn vs v
 
+-- a value is made of another, through its parts
+pub data Reaches : Value → Value → Type 0 where
+  itself : (v : Value) → Reaches v v
+  through : {u : Value} (v w : Value) → IsIn (parts v) w → Reaches w u → Reaches v u
+
 -- each of these values is new and proper, and its parts stand before it
 abbrev pub IsClosedAfter : List Value → List Value → Type 0
 IsClosedAfter before [] = ⊤

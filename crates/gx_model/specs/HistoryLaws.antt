@@ -2,7 +2,7 @@
 use Rattle.std.specs.Prelude.{◌≡◌, ◌⊎◌, Bool, IsTrue, List, [], ◌∷◌, ◌++◌, map}
 use Rattle.std.specs.List.{AllByRecursion}
 use Rattle.gx_model.specs.Values.{Commit, Commits, Value, blob_value, blobs_of, commit_value, files_of, is_proper, list_of, more, none, parents_of, tag_value, tree_value}
-use Rattle.gx_model.specs.Histories.{IsIn, IsWhole, with_value}
+use Rattle.gx_model.specs.Histories.{IsIn, IsWhole, Reaches, with_value}
 use Rattle.gx_model.specs.Ranges.{reaches}
 
 abbrev pub IsParent : Commit → Commits → Type 0
@@ -15,10 +15,13 @@ pub record ReachedIsLeast : Type 0 where
   pub closed : (c d p : Commit) → IsTrue (reaches c d) → IsParent p (parents_of d) → IsTrue (reaches c p)
   pub least : (P : Commit → Bool) (c : Commit) → IsTrue (P c) → ((d p : Commit) → IsTrue (P d) → IsParent p (parents_of d) → IsTrue (P p)) → (d : Commit) → IsTrue (reaches c d) → IsTrue (P d)
 
+-- these are the values with one more: the old ones stand in front, and each new one is that one or something that it is made of
 pub record IsAdded (vs : List Value) (w : Value) (ws : List Value) : Type 0 where
   pub whole : IsWhole ws
   pub has : IsIn ws w
-  pub keeps : (u : Value) → IsIn vs u → IsIn ws u
+  pub new : List Value
+  pub front : ws ≡ vs ++ new
+  pub only : (u : Value) → IsIn new u → Reaches w u
 
 -- what has to stand in a history before a value is added; the rest of its parts is added with it
 abbrev pub needs : Value → List Value

@@ -26,3 +26,4 @@ pub mod Export
 pub mod Laws
 pub mod SoundLaws
 pub mod ExportLaws
+pub mod StreamLaws

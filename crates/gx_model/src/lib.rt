@@ -5,6 +5,7 @@
 mod faults;
 mod features;
 mod objects;
+pub mod stream_laws;
 
 pub use faults::Fault;
 pub use features::Feature;

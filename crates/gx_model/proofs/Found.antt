@@ -14,7 +14,6 @@ use Rattle.gx_model.specs.Items.{Item, Line, Data, End, Finished, Failed, Stream
 use Rattle.gx_model.proofs.Readings.{Finds, finds, first_of-line, plain_line, comment_first, counted_first, delimited_first, nothing_before, one_line, its_line, no_line_left, by_zero, spells_shorter, counted_no, refuted}
 use Rattle.gx_model.specs.Spelling.{HasNoLf, BeginsLine, comment_line, data_line, delimiter_text, IsNot, NoLfFirst, EndsBlock, AreOther, text_of_lines, IsCounted, IsDelimited, Spells, IsCut, Ends, IsReading, ended, taken, dropped}
 
-
 -- ---- lines
 
 abbrev Splits : ℕ → Bytes → Type 0
@@ -67,12 +66,22 @@ Found d text fails (Some p) = (ls : List Bytes) × (more : Bytes) × AreOther d 
 Found d text fails None = (ls : List Bytes) × (last : Bytes) × AreOther d ls × (text ≡ text_of_lines ls ++ last) × HasNoLf last × (fails ≡ false → last ≡ d → last ≡ [])
 
 with_first : (d text : Bytes) (fails : Bool) (l rest : Bytes) (o : Option (Bytes × Bytes)) → HasNoLf l → (l ≡ d → ⊥) → text ≡ l ++ 10 ∷ rest → Found d rest fails o → Found d text fails (with_line l o)
-with_first d text fails l rest (Some p) h other e f =
-    (l ∷ f.0, f.1, (h, other, f.2), ap (λ x. l ++ 10 ∷ x) f.3 ∙ sym (append_assoc l (10 ∷ []) (text_of_lines f.0)),
-     e ∙ ap (λ x. l ++ 10 ∷ x) f.4 ∙ sym (append_assoc l (10 ∷ []) (text_of_lines f.0 ++ f.1)) ∙ sym (append_assoc (l ++ 10 ∷ []) (text_of_lines f.0) f.1), f.5)
-with_first d text fails l rest None h other e f =
-    (l ∷ f.0, f.1, (h, other, f.2),
-     e ∙ ap (λ x. l ++ 10 ∷ x) f.3 ∙ sym (append_assoc l (10 ∷ []) (text_of_lines f.0 ++ f.1)) ∙ sym (append_assoc (l ++ 10 ∷ []) (text_of_lines f.0) f.1), f.4, f.5)
+with_first d text fails l rest (Some p) h other e f = (
+  l ∷ f.0,
+  f.1,
+  (h, other, f.2),
+  ap (λ x. l ++ 10 ∷ x) f.3 ∙ sym (append_assoc l (10 ∷ []) (text_of_lines f.0)),
+  e ∙ ap (λ x. l ++ 10 ∷ x) f.4 ∙ sym (append_assoc l (10 ∷ []) (text_of_lines f.0 ++ f.1)) ∙ sym (append_assoc (l ++ 10 ∷ []) (text_of_lines f.0) f.1),
+  f.5,
+)
+with_first d text fails l rest None h other e f = (
+  l ∷ f.0,
+  f.1,
+  (h, other, f.2),
+  e ∙ ap (λ x. l ++ 10 ∷ x) f.3 ∙ sym (append_assoc l (10 ∷ []) (text_of_lines f.0 ++ f.1)) ∙ sym (append_assoc (l ++ 10 ∷ []) (text_of_lines f.0) f.1),
+  f.4,
+  f.5,
+)
 
 lines_there : (n : ℕ) (d text : Bytes) (fails : Bool) → length text < n → Found d text fails (lines_before n d text fails)
 lines_there zero d text fails lt = absurd (omega arith)
@@ -90,6 +99,7 @@ lines_there (suc n) d text fails lt = by (λ rest l. lines_there n d rest fails 
       let other = λ (x : l ≡ d). false≢true (sym e ∙ (bytes_eq-Decides l d).1 x) in
       let result = one_line n d text fails l rest (k, inr q) other ∙ ap (λ r. with_line l (lines_before n d r fails)) q.1 ∙ ap (with_line l) (nothing_before n d fails) in
       subst (Found d text fails) (sym result) ([], text, tt, refl, subst HasNoLf (sym q.0) k, λ f x. absurd (other (sym q.0 ∙ x)))
+
   by : ((rest : Bytes) → length rest < n → Found d rest fails (lines_before n d rest fails)) → (t : Bool) → has_no_line text fails ≡ t → Found d text fails (lines_before (suc n) d text fails)
   by again true e = let h = no_line_there text fails e in subst (Found d text fails) (sym (no_line_left n d text fails e)) ([], text, tt, refl, h.0, λ f x. h.1 f)
   by again false e = other_line again (take (line_len text) text) (drop (line_len text + 1) text) (line_there text fails e) (bytes_eq (take (line_len text) text) d) refl
@@ -125,9 +135,11 @@ delimited_there text fails d bytes b = by (lines_before (suc (length bytes)) d b
       zero_of : (g : Bool) (n : ℕ) → (g && nat_eq n 0) ≡ true → n ≡ 0
       zero_of true n e = (Decides-eqb n 0).0 e
       zero_of false n e = absurd (false≢true e)
+
       fails_of : (g x : Bool) → (g && x) ≡ true → g ≡ true
       fails_of true x e = refl
       fails_of false x e = absurd (false≢true e)
+
       last : ((f.1 ≡ d ++ 10 ∷ p.1) ⊎ ((f.1 ≡ d) × (p.1 ≡ []) × (0 < length d) × (fails ≡ false))) → fails ≡ true → p.1 ≡ [] → f.1 ≡ d ++ 10 ∷ []
       last (inl q) g z = q ∙ ap (λ x. d ++ 10 ∷ x) z
       last (inr q) g z = absurd (false≢true (sym q.3 ∙ g))
@@ -137,6 +149,7 @@ delimited_there text fails d bytes b = by (lines_before (suc (length bytes)) d b
       some_of : (g : Bool) (n : ℕ) → (g && nat_eq n 0) ≡ false → g ≡ true → 0 < n
       some_of true n e h = grind (arith, nat_tests)
       some_of false n e h = absurd (false≢true h)
+
   by : (o : Option (Bytes × Bytes)) → Found d bytes fails o → Is text fails (delimited_by o fails)
   by None f = cut_there text fails (delimiter_text d, bytes, b, inr (d, refl, f.0, f.1, f.2, f.3, inl (f.4, f.5)))
   by (Some p) f = whole p f (fails && nat_eq (length p.1) 0) refl
@@ -147,9 +160,11 @@ block_there text fails y bytes n b o e = by (nat_lt (length bytes) n || (fails &
   few : (g : Bool) (k m : ℕ) → (nat_lt k m || (g && nat_eq k m)) ≡ true → (k ≤ m) × (g ≡ false → k < m)
   few true k m e = (grind (arith, nat_tests), λ h. absurd (false≢true (sym h)))
   few false k m e = (grind (arith, nat_tests), λ h. grind (arith, nat_tests))
+
   enough : (g : Bool) (k m : ℕ) → (nat_lt k m || (g && nat_eq k m)) ≡ false → (m ≤ k) × (g ≡ true → m < k)
   enough true k m e = (grind (arith, nat_tests), λ h. grind (arith, nat_tests))
   enough false k m e = (grind (arith, nat_tests), λ h. absurd (false≢true h))
+
   by : (t : Bool) → (nat_lt (length bytes) n || (fails && nat_eq (length bytes) n)) ≡ t → Is text fails (cond t (ends (cut_off fails)) (takes (Data (take n bytes)) (without_lf (drop n bytes))))
   by true t = let f = few fails (length bytes) n t in cut_there text fails (y, bytes, b, inl (o, n, e, f.0, f.1))
   by false t =

@@ -27,3 +27,4 @@ pub mod Laws
 pub mod SoundLaws
 pub mod ExportLaws
 pub mod StreamLaws
+pub mod TextLaws

@@ -6,6 +6,7 @@ mod faults;
 mod features;
 mod objects;
 pub mod stream_laws;
+pub mod text_laws;
 
 pub use faults::Fault;
 pub use features::Feature;

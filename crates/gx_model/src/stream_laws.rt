@@ -6,12 +6,10 @@ ghost use Rattle.gx_model.specs.StreamLaws.{OneReading, SomeReading};
 #[tactic(auto, using(crate::proofs::Found::has_reading))]
 pub fn some_reading()
     ensures reading { SomeReading }
-{
-}
+{}
 
 /// No text has two readings.
 #[tactic(auto, using(crate::proofs::Readings::only_reading))]
 pub fn one_reading()
     ensures reading { OneReading }
-{
-}
+{}

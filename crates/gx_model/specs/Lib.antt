@@ -30,3 +30,4 @@ pub mod RepositoryLaws
 pub mod ExportLaws
 pub mod StreamLaws
 pub mod TextLaws
+pub mod StreamRows

@@ -8,9 +8,9 @@ pub mod file_map_laws;
 pub mod history_laws;
 pub mod object_laws;
 mod objects;
+pub mod repository_laws;
 pub mod stream_laws;
 pub mod text_laws;
-pub mod repository_laws;
 
 pub use faults::Fault;
 pub use features::Feature;

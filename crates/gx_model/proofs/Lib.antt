@@ -36,3 +36,7 @@ pub mod FirstRecords
 pub mod FoundRecords
 pub mod TagBodies
 pub mod ShortPaths
+pub mod ItemTexts
+pub mod CommandFields
+pub mod CommandItems
+pub mod SpelledItems

@@ -1,6 +1,6 @@
 -- Texts that hold no LF.
-use Rattle.std.proofs.Common.{◌≡◌, ℕ, ◌+◌, ◌/◌, ◌%◌, Bool, true, false, cond, not, ◌&&◌, Option, Some, None, List, [], ◌∷◌, ◌++◌, nat_eq, refl, sym, ap, ◌∙◌, arith, inl, inr, ◌⊎◌, append_assoc}
-use Rattle.std.specs.List.{list_all, list_any, flat_map}
+use Rattle.std.proofs.Common.{◌≡◌, ℕ, ◌+◌, ◌/◌, ◌%◌, Bool, true, false, cond, not, ◌&&◌, Option, Some, None, [], ◌∷◌, ◌++◌, nat_eq, refl, sym, ap, ◌∙◌, arith, inl, inr, ◌⊎◌, append_assoc}
+use Rattle.std.specs.List.{list_all, flat_map}
 use Rattle.std.specs.Char.{is_ascii_digit}
 use Rattle.std.proofs.lemmas.Bool.{false≢true, and_from, not-true, or_parts, not_from_false}
 use Rattle.std.proofs.lemmas.Bool.Decides.{Decides-eqb, nat_tests}
@@ -8,7 +8,7 @@ use Rattle.std.proofs.lemmas.List.Folds.{list_all-append}
 use Rattle.gx_model.specs.Texts.{Bytes, is_line, lacks}
 use Rattle.gx_model.specs.Numbers.{is_number}
 use Rattle.gx_model.specs.RefNames.{is_ref_name, is_ref_byte, tag_ref, is_tag_name}
-use Rattle.gx_model.specs.Idents.{is_ident, is_plain, is_offset, IsIdent, IsIdentHead}
+use Rattle.gx_model.specs.Idents.{is_ident, is_plain, is_offset, IsIdentHead}
 use Rattle.gx_model.specs.Paths.{printed, printed_byte, is_printed_bare, letter_of, escaped}
 use Rattle.gx_model.proofs.Idents.{and_one, and_two, reads_ident}
 

@@ -1,9 +1,9 @@
 -- Texts between quotes: what is read is what was written, and what was printed is read again.
-use Rattle.std.proofs.Common.{◌≡◌, ◌↔◌, ℕ, zero, suc, ◌+◌, ◌-◌, ◌*◌, ◌/◌, ◌%◌, ◌<◌, ◌≤◌, Bool, true, false, cond, not, ◌||◌, ◌&&◌, eqb, leb, List, [], ◌∷◌, ◌++◌, length, Option, Some, None, Result, Ok, Err, refl, sym, ap, subst, ◌∙◌, arith, inl, inr, ◌⊎◌, append_assoc}
+use Rattle.std.proofs.Common.{◌≡◌, ◌↔◌, ℕ, zero, suc, ◌+◌, ◌-◌, ◌*◌, ◌/◌, ◌%◌, ◌<◌, ◌≤◌, Bool, true, false, cond, ◌||◌, ◌&&◌, eqb, leb, [], ◌∷◌, ◌++◌, length, Option, Some, None, Result, Ok, Err, refl, sym, ap, subst, ◌∙◌, arith, inl, inr, ◌⊎◌, append_assoc}
 use Rattle.std.specs.Prelude.{◌==◌}
-use Rattle.std.specs.List.{list_all, flat_map, AllByRecursion}
+use Rattle.std.specs.List.{list_all, flat_map}
 use Rattle.std.specs.Option.{option_map, option_and_then}
-use Rattle.std.proofs.lemmas.Bool.{eqb-true, false≢true}
+use Rattle.std.proofs.lemmas.Bool.{eqb-true}
 use Rattle.std.proofs.lemmas.Bool.Decides.{nat_tests}
 use Rattle.std.proofs.lemmas.List.{length-append}
 use Rattle.std.proofs.lemmas.List.Concat.{flat_map-cons}
@@ -11,11 +11,11 @@ use Rattle.gx_model.specs.declared.faults.Fault.{Fault}
 use Rattle.gx_model.specs.declared.faults.Fault.TheVariants as faults
 use Rattle.gx_model.specs.Faults.{◌>>=◌}
 use Rattle.gx_model.specs.Texts.{Bytes}
-use Rattle.gx_model.specs.Paths.{Path, AreBytes, is_quoted, with_rest, path_text, path_of, path_at, IsPathOf, named, is_octal, octal_of, escape_at, char_at, with_char, unquote_within, unquote, quoted_of, is_itself, WritesByte, as_itself, by_letter, by_digits, WritesText, writes_none, writes_more, IsQuotedText, letter_of, is_printed_bare, octal_digits, escaped, printed_byte, printed}
+use Rattle.gx_model.specs.Paths.{Path, AreBytes, is_quoted, with_rest, path_text, path_of, path_at, named, is_octal, octal_of, escape_at, char_at, with_char, unquote_within, unquote, quoted_of, is_itself, WritesByte, as_itself, by_letter, by_digits, WritesText, writes_none, writes_more, IsQuotedText, letter_of, is_printed_bare, escaped, printed_byte, printed}
 use Rattle.gx_model.specs.Grammar.{last_path}
 use Rattle.gx_model.specs.TextLaws.{IsQuotedPath, IsQuotedFault, HasNoQuotedText}
 use Rattle.gx_model.proofs.Cuts.{some_is, map_some}
-use Rattle.gx_model.proofs.Idents.{and_one, and_two}
+use Rattle.gx_model.proofs.Idents.{and_one}
 use Rattle.gx_model.proofs.PathTexts.{path_tells}
 
 -- ---- what is read was written

@@ -8,8 +8,8 @@ use Rattle.gx_model.specs.Texts.{Bytes, cut_at}
 use Rattle.gx_model.specs.Idents.{is_ident}
 use Rattle.gx_model.specs.Paths.{char_at, unquote_within, quoted_of}
 use Rattle.gx_model.specs.Spelling.{text_of_lines}
-use Rattle.gx_model.specs.Items.{Item, Line, Data, End, Finished, Failed, Stream, counted_block, lines_before, delimited, first_line, first_of, read_upto, items_of}
-use Rattle.gx_model.specs.Commands.{CommitIsh, Marked, Named, DataRef, Mark, Object, Inline, Change, Modify, Remove, Copy, Rename, Clear, CommitParts, Command, Blob, Commit, Tag, Reset, Checkpoint, Progress, Asks, OptionLine, Done, Commands, faulty_command}
+use Rattle.gx_model.specs.Items.{Item, Line, Data, End, Finished, Failed, counted_block, lines_before, delimited, first_line, first_of, read_upto, items_of}
+use Rattle.gx_model.specs.Commands.{Marked, Named, Mark, Object, Inline, Change, Modify, Remove, Copy, Rename, Clear, CommitParts, Blob, Commit, Tag, Reset, Checkpoint, Progress, Asks, OptionLine, Done, Commands, faulty_command}
 use Rattle.gx_model.specs.Grammar.{rest_line_in, block_in, unsigned_in, item_after_in, mark_of, commit_ish_of, last_path, source_path, modify_at, two_paths, change_at, changes_within, merges_within, blob_at, links_at, commit_at, tag_at, reset_at, command_at, commands_within, commands_of}
 
 -- ---- items

@@ -1,5 +1,5 @@
 -- What holds of numbers, ref names, identities and paths.
-use Rattle.std.specs.Prelude.{◌≡◌, ◌↔◌, ◌⊎◌, IsTrue, ℕ, ◌^◌, ◌<◌, true, List, length, Option, Some, Result, Ok, Err}
+use Rattle.std.specs.Prelude.{◌≡◌, ◌↔◌, ◌⊎◌, IsTrue, ℕ, ◌^◌, ◌<◌, true, length, Some, Ok, Err}
 use Rattle.std.specs.List.{list_all}
 use Rattle.std.specs.Fmt.{decimal}
 use Rattle.gx_model.specs.declared.faults.Fault.{Fault}

@@ -1,3 +1,9 @@
+pub mod Cuts
+pub mod Decimals
+pub mod Idents
+pub mod LineTexts
+pub mod PathTexts
+pub mod Quotes
 pub mod Readings
 pub mod Found
 pub mod PathTests
@@ -30,3 +36,7 @@ pub mod FirstRecords
 pub mod FoundRecords
 pub mod TagBodies
 pub mod ShortPaths
+pub mod ItemTexts
+pub mod CommandFields
+pub mod CommandItems
+pub mod SpelledItems

@@ -29,3 +29,5 @@ pub mod HistoryLaws
 pub mod RepositoryLaws
 pub mod ExportLaws
 pub mod StreamLaws
+pub mod TextLaws
+pub mod StreamRows

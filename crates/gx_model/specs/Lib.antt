@@ -20,6 +20,7 @@ pub mod Growth
 pub mod Walks
 pub mod Lookups
 pub mod Denotation
+pub mod Naming
 pub mod Ranges
 pub mod Replay
 pub mod Export

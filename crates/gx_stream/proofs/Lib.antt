@@ -1,3 +1,4 @@
 pub mod Lines
 pub mod Delimiters
 pub mod Firsts
+pub mod Comments

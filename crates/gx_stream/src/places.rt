@@ -27,11 +27,11 @@ pub(crate) enum Found {
 }
 
 /// The first item from a place on, past the comments before it.
-pub(crate) fn find_item(text: &[u8], at: usize, fails: bool) -> Found
-    requires { at ≤ length text.now }
-    ensures { Finds text.now fails at result }
+pub(crate) fn find_item(text: &[u8], start: usize, fails: bool) -> Found
+    requires { start ≤ length text.now }
+    ensures { Finds text.now fails start result }
 {
-    let mut at = at;
+    let mut at = start;
     loop {
         let Some(line) = line_at(text, at, fails) else {
             return Found::End(end_of(fails));

@@ -1,14 +1,13 @@
 -- The lines of a block up to its delimiter, one line after another.
-use Rattle.std.proofs.Common.{◌≡◌, ℕ, zero, suc, ◌+◌, ◌-◌, ◌<◌, ◌≤◌, Bool, true, false, cond, ◌||◌, ◌&&◌, ◌⊎◌, inl, inr, Option, Some, None, List, [], ◌∷◌, ◌++◌, length, take, drop, nat_eq, refl, sym, ap, subst, ◌∙◌, arith, rules, slice_range, append_assoc, append-nil}
+use Rattle.std.proofs.Common.{◌≡◌, ℕ, zero, suc, ◌+◌, ◌-◌, ◌<◌, ◌≤◌, Bool, true, false, cond, Option, Some, None, [], ◌∷◌, ◌++◌, length, take, drop, refl, sym, ap, ◌∙◌, arith, slice_range, append_assoc, append-nil}
 use Rattle.std.specs.Option.{option_map}
 use Rattle.std.specs.Str.{bytes_eq}
 use Rattle.std.proofs.Math.Seq.{take-add}
 use Rattle.std.proofs.Math.Logic.{⊎_elim}
-use Rattle.std.proofs.lemmas.Bool.{false≢true, cases_lt}
-use Rattle.std.proofs.lemmas.Bool.Decides.{nat_tests}
-use Rattle.std.proofs.lemmas.List.{drop_all, drop-drop, length-drop, take_all, take-append-drop}
+use Rattle.std.proofs.lemmas.Bool.{cases_lt}
+use Rattle.std.proofs.lemmas.List.{drop_all, drop-drop, length-drop}
 use Rattle.gx_model.specs.Texts.{Bytes}
-use Rattle.gx_model.specs.Items.{is_lf, line_len, has_no_line, with_line, lines_before}
+use Rattle.gx_model.specs.Items.{line_len, has_no_line, with_line, lines_before}
 use Rattle.gx_stream.specs.Places.{IsLine, IsDelimiterAt, bytes_at}
 use Rattle.gx_stream.specs.declared.places.Place.{Place}
 use Rattle.gx_stream.proofs.Lines.{not_empty, line_and_lf}
@@ -42,9 +41,9 @@ lines_before-same zero m d text fails l k = absurd (omega (arith, l))
 lines_before-same (suc n) zero d text fails l k = absurd (omega (arith, k))
 lines_before-same (suc n) (suc m) d text fails l k =
     same_cond (has_no_line text fails) (bytes_eq (take (line_len text) text) d) _ _ _ _ (λ h e.
-        let some = not_empty text fails h in
-        let less = length-drop (line_len text + 1) text in
-        ap (with_line (take (line_len text) text)) (lines_before-same n m d (drop (line_len text + 1) text) fails (omega (arith, some, less, l)) (omega (arith, some, less, k))))
+    let some = not_empty text fails h in
+    let less = length-drop (line_len text + 1) text in
+    ap (with_line (take (line_len text) text)) (lines_before-same n m d (drop (line_len text + 1) text) fails (omega (arith, some, less, l)) (omega (arith, some, less, k))))
 
 -- lines before those that a definition gives
 abbrev pub behind : Bytes → Option (Bytes × Bytes) → Option (Bytes × Bytes)
@@ -73,14 +72,14 @@ past_line d text fails n h e l rest =
     let along = step ∙ ap (with_line (take (line_len text) text)) (fuel ∙ ap (λ t. lines_before (suc (length (drop n text))) d t fails) (sym rest)) in
     let o = lines_before (suc (length (drop n text))) d (drop n text) fails in
     ⊎_elim
-      (λ lt.
-        let same : n ≡ line_len text + 1 = omega (arith, ap length rest, less, left, lt, l) in
-        along ∙ with_line-behind (take (line_len text) text) o ∙ ap (λ xs. behind xs o) (sym (line_and_lf text lt) ∙ ap (λ k. take k text) (sym same)))
-      (λ le.
-        let empty : drop n text ≡ [] = rest ∙ drop_all (line_len text + 1) text (omega (arith, le)) in
-        let none : o ≡ None = ap (λ t. lines_before (suc (length (drop n text))) d t fails) empty ∙ nothing_before (suc (length (drop n text))) d fails in
-        along ∙ ap (with_line (take (line_len text) text)) none ∙ ap (behind (take n text)) (sym none))
-      (cases_lt (line_len text) (length text))
+    (λ lt.
+    let same : n ≡ line_len text + 1 = omega (arith, ap length rest, less, left, lt, l) in
+    along ∙ with_line-behind (take (line_len text) text) o ∙ ap (λ xs. behind xs o) (sym (line_and_lf text lt) ∙ ap (λ k. take k text) (sym same)))
+    (λ le.
+    let empty : drop n text ≡ [] = rest ∙ drop_all (line_len text + 1) text (omega (arith, le)) in
+    let none : o ≡ None = ap (λ t. lines_before (suc (length (drop n text))) d t fails) empty ∙ nothing_before (suc (length (drop n text))) d fails in
+    along ∙ ap (with_line (take (line_len text) text)) none ∙ ap (behind (take n text)) (sym none))
+    (cases_lt (line_len text) (length text))
 
 -- how far the search for the delimiter came: the lines so far, and those that the rest gives
 pub record Searched (text d : Bytes) (fails : Bool) (start at : ℕ) : Type 0 where
@@ -94,9 +93,9 @@ Searched-none text d fails start l =
       from = omega arith;
       within = l;
       same =
-        let zero : start - start ≡ 0 = omega arith in
-        let none : slice_range text start start ≡ [] = ap (λ k. take k (drop start text)) zero in
-        sym (ap (λ xs. behind xs (lines_before (suc (length (drop start text))) d (drop start text) fails)) none ∙ behind-none _);
+          let zero : start - start ≡ 0 = omega arith in
+          let none : slice_range text start start ≡ [] = ap (λ k. take k (drop start text)) zero in
+          sym (ap (λ xs. behind xs (lines_before (suc (length (drop start text))) d (drop start text) fails)) none ∙ behind-none _);
     }
 
 -- two neighbouring ranges
@@ -113,13 +112,13 @@ Searched-more text d fails start at line is e s =
       from = omega (arith, s.from, is.further);
       within = is.within.2;
       same =
-        let n : ℕ = line.next - at in
-        let there : at + n ≡ line.next = omega (arith, is.further) in
-        let to : drop n (drop at text) ≡ drop line.next text = drop-drop n at text ∙ ap (λ k. drop k text) there in
-        let step = past_line d (drop at text) fails n is.some (ap (λ bs. bytes_eq bs d) (sym is.bytes) ∙ e) (omega (arith, length-drop at text, is.within.2)) (to ∙ is.rest) in
-        let o = lines_before (suc (length (drop line.next text))) d (drop line.next text) fails in
-        let next = step ∙ ap (λ t. behind (take n (drop at text)) (lines_before (suc (length t)) d t fails)) to in
-        s.same ∙ ap (behind (slice_range text start at)) next ∙ behind-more (slice_range text start at) (slice_range text at line.next) o ∙ ap (λ xs. behind xs o) (ranges_join text start at line.next s.from (omega (arith, is.further)));
+          let n : ℕ = line.next - at in
+          let there : at + n ≡ line.next = omega (arith, is.further) in
+          let to : drop n (drop at text) ≡ drop line.next text = drop-drop n at text ∙ ap (λ k. drop k text) there in
+          let step = past_line d (drop at text) fails n is.some (ap (λ bs. bytes_eq bs d) (sym is.bytes) ∙ e) (omega (arith, length-drop at text, is.within.2)) (to ∙ is.rest) in
+          let o = lines_before (suc (length (drop line.next text))) d (drop line.next text) fails in
+          let next = step ∙ ap (λ t. behind (take n (drop at text)) (lines_before (suc (length t)) d t fails)) to in
+          s.same ∙ ap (behind (slice_range text start at)) next ∙ behind-more (slice_range text start at) (slice_range text at line.next) o ∙ ap (λ xs. behind xs o) (ranges_join text start at line.next s.from (omega (arith, is.further)));
     }
 
 pub Searched-none_left : (text d : Bytes) (fails : Bool) (start at : ℕ) → has_no_line (drop at text) fails ≡ true → Searched text d fails start at → IsDelimiterAt text d fails start None
@@ -129,8 +128,7 @@ Searched-none_left text d fails start at h s =
 pub Searched-found : (text d : Bytes) (fails : Bool) (start at : ℕ) (line : Place) → IsLine text fails at line → bytes_eq (bytes_at text line) d ≡ true → Searched text d fails start at → IsDelimiterAt text d fails start (Some line)
 Searched-found text d fails start at line is e s =
     let here = its_line (length (drop at text)) d (drop at text) fails is.some (ap (λ bs. bytes_eq bs d) (sym is.bytes) ∙ e) in
-    let lines = append-nil (slice_range text start at) ∙ ap (slice_range text start) (sym is.start) in
-    (
+    let lines = append-nil (slice_range text start at) ∙ ap (slice_range text start) (sym is.start) in (
       omega (arith, s.from, is.start),
       omega (arith, is.start, is.further),
       is.within.2,

@@ -2,3 +2,4 @@ pub mod Lines
 pub mod Delimiters
 pub mod Firsts
 pub mod Comments
+pub mod Arrivals

@@ -1,5 +1,5 @@
 -- The items that a source stands for.
-use Rattle.std.specs.Prelude.{ℕ, ◌-◌, ◌^◌, true, length, take, nat_lt, if◌then◌else◌}
+use Rattle.std.specs.Prelude.{◌-◌, ◌^◌, true, length, take, nat_lt, if◌then◌else◌}
 use Rattle.gx_text.specs.Devices.{Coming}
 use Rattle.gx_model.specs.Items.{Stream, items_of}
 

@@ -1,3 +1,4 @@
 pub mod Heard
 pub mod Faults
 pub mod Places
+pub mod Reading

@@ -1,9 +1,8 @@
 -- Where lines, blocks and items stand in a text.
-use Rattle.std.specs.Prelude.{◌≡◌, ℕ, ◌+◌, ◌<◌, ◌≤◌, Bool, true, false, List, length, drop, take, slice_range, Option, Some, None, suc}
+use Rattle.std.specs.Prelude.{◌≡◌, ℕ, ◌+◌, ◌<◌, ◌≤◌, Bool, true, false, length, drop, take, slice_range, Option, Some, None, suc}
 use Rattle.gx_model.specs.Texts.{Bytes}
-use Rattle.gx_model.specs.Items.{Item, Line, Data, Stream, First, takes, ends, line_len, has_no_line, lines_before, items_of, then_comes}
+use Rattle.gx_model.specs.Items.{Line, Data, First, takes, ends, line_len, has_no_line, lines_before, items_of, then_comes}
 use Rattle.gx_stream.specs.Faults.{end_seen, ended}
-use Rattle.gx_stream.specs.declared.fault.StreamFault.{StreamFault}
 use Rattle.gx_stream.specs.declared.places.Place.{Place}
 use Rattle.gx_stream.specs.declared.places.Found.{Found}
 use Rattle.gx_stream.specs.declared.places.Found.TheVariants as found

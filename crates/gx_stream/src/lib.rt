@@ -5,8 +5,11 @@
 mod fault;
 mod item;
 mod places;
-//mod reader;
+mod reader;
 
 pub use fault::StreamFault;
 pub use item::Item;
-//pub use reader::ItemReader;
+pub use reader::ItemReader;
+
+#[cfg(test)]
+mod tests;

@@ -1,4 +1,4 @@
-use Rattle.std.proofs.Common.{◌≡◌, ◌∙◌, sym, rules}
+use Rattle.std.proofs.Common.{◌∙◌, sym}
 use Rattle.gx_stream.proofs.Delimiters.{Searched-none, Searched-more, Searched-none_left, Searched-found}
 use Rattle.gx_stream.proofs.places.find_delimiter.Goals as goal
 

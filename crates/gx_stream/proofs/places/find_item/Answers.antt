@@ -1,4 +1,4 @@
-use Rattle.std.proofs.Common.{◌≡◌, ◌∙◌, sym, rules}
+use Rattle.std.proofs.Common.{◌∙◌, sym}
 use Rattle.gx_stream.proofs.Comments.{Skipped-none, Skipped-more, Finds-none, Finds-item}
 use Rattle.gx_stream.proofs.places.find_item.Goals as goal
 

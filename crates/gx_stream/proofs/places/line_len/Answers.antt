@@ -1,4 +1,4 @@
-use Rattle.std.proofs.Common.{◌≡◌, ◌∙◌}
+use Rattle.std.proofs.Common.{◌∙◌}
 use Rattle.gx_stream.proofs.Lines.{line_len-found}
 use Rattle.gx_stream.proofs.places.line_len.Goals as goal
 

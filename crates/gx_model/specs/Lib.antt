@@ -4,6 +4,7 @@ pub mod RefNames
 pub mod Idents
 pub mod Faults
 pub mod Paths
+pub mod Revisions
 pub mod Items
 pub mod Spelling
 pub mod Commands

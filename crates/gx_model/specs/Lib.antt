@@ -24,6 +24,11 @@ pub mod Denotation
 pub mod Ranges
 pub mod Replay
 pub mod Export
+pub mod StoreText
 pub mod Laws
 pub mod SoundLaws
 pub mod ExportLaws
+pub mod RowTexts
+pub mod ExportRows
+pub mod ImportRows
+pub mod RevisionRows

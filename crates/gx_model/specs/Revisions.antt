@@ -139,8 +139,18 @@ without_last n x = take (length x - n) x
 abbrev pub digits_last : Bytes → ℕ
 digits_last = suffix_len is_ascii_digit
 
+-- what stands before a `^-` and digits at the end, and these digits
+abbrev pub minus_of : Bytes → Option (Bytes × Bytes)
+minus_of x =
+    let body : Bytes = without_last (digits_last x) x in
+    if ends_with nat_eq body (codes "^-") then Some (without_last 2 body, drop (length body) x) else None
+
 abbrev pub without_parent : Revision → ℕ → Given RangeWord
 without_parent r n = if n == 0 then Err BadRevision else Ok (WithoutOne r n)
+
+abbrev pub minus_or_alone : Bytes → Option (Bytes × Bytes) → Given RangeWord
+minus_or_alone x (Some p) = revision_of p.0 >>= λ r. number_or_one p.1 >>= λ n. without_parent r n
+minus_or_alone x None = revision_of x >>= λ r. Ok (WithAncestors r)
 
 -- the first of these whose shape it has: ^r, r^@, r^!, r^-n, r
 abbrev pub undotted : Bytes → Given RangeWord
@@ -148,9 +158,7 @@ undotted x =
     if starts_with nat_eq x (codes "^") then (revision_of (drop 1 x) >>= λ r. Ok (WithoutAncestors r))
     else (if ends_with nat_eq x (codes "^@") then (revision_of (without_last 2 x) >>= λ r. Ok (AllParents r))
     else (if ends_with nat_eq x (codes "^!") then (revision_of (without_last 2 x) >>= λ r. Ok (Alone r))
-    else (if ends_with nat_eq (without_last (digits_last x) x) (codes "^-")
-    then (revision_of (without_last 2 (without_last (digits_last x) x)) >>= λ r. number_or_one (drop (length x - digits_last x) x) >>= λ n. without_parent r n)
-    else (revision_of x >>= λ r. Ok (WithAncestors r)))))
+    else minus_or_alone x (minus_of x)))
 
 abbrev pub range_by : Bytes → Option (Bytes × Bytes) → Given RangeWord
 range_by x (Some p) = dotted p.0 p.1

@@ -32,3 +32,9 @@ pub mod RowTexts
 pub mod ExportRows
 pub mod ImportRows
 pub mod RevisionRows
+pub mod FileMapLaws
+pub mod ObjectLaws
+pub mod HistoryLaws
+pub mod RepositoryLaws
+pub mod ExportLaws
+pub mod StreamLaws

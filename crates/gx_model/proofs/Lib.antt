@@ -1,3 +1,11 @@
+pub mod Cuts
+pub mod Decimals
+pub mod Idents
+pub mod LineTexts
+pub mod PathTexts
+pub mod Quotes
+pub mod Readings
+pub mod Found
 pub mod PathTests
 pub mod FileMapEdits
 pub mod FoundFiles
@@ -32,3 +40,7 @@ pub mod FoundRecords
 pub mod ShownValues
 pub mod TagBodies
 pub mod ShortPaths
+pub mod ItemTexts
+pub mod CommandFields
+pub mod CommandItems
+pub mod SpelledItems

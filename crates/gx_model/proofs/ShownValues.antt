@@ -18,7 +18,8 @@ use Rattle.gx_model.specs.Records.{kind_of, name_of}
 use Rattle.gx_model.specs.Histories.{AreDistinct, History, IsHistory, IsIn, IsWhole, Records, Target, value_at}
 use Rattle.gx_model.specs.HistoryOf.{history_of}
 use Rattle.gx_model.specs.Sound.{IsSound}
-use Rattle.gx_model.specs.Denotation.{Revision, Shown, Suffix, all_suffixed, ancestor, are_digits, as_blob, as_commit, as_tag, as_tree, at_path, base_value, begun_by, commit_in, denoted, files_in, find_ref, first_ref, full_name, itself, nth_ancestor, nth_parent, object, of_leaf, of_sub_map, only_blob, only_commit, only_tag, or_no_parent, or_ref, parent, peel, peeled, ref_at, ref_names, shown_at, submodule, suffixed, the_one}
+use Rattle.gx_model.specs.Revisions.{Revision, Suffix, ancestor, as_blob, as_commit, as_tag, as_tree, itself, parent, peeled}
+use Rattle.gx_model.specs.Denotation.{Shown, all_suffixed, are_digits, at_path, base_value, begun_by, commit_in, denoted, files_in, find_ref, first_ref, full_name, nth_ancestor, nth_parent, object, of_leaf, of_sub_map, only_blob, only_commit, only_tag, or_no_parent, or_ref, peel, ref_at, ref_names, shown_at, submodule, suffixed, the_one}
 use Rattle.gx_model.specs.RepositoryLaws.{AreOneAnswer}
 use Rattle.gx_model.proofs.OneTree.{all_left, found_known, only_file}
 use Rattle.gx_model.proofs.OneHistory.{told_by_name}
@@ -236,6 +237,7 @@ module _ (name : Kind → Bytes → Bytes) (namer : IsNamer name) (h : History) 
   shown_stands v (Some p) w i e = let g = both_gave (files_in v) (λ f. at_path f p) (object w) e in path_stands g.0 p w (files_stand v g.0 i g.1) g.2
 
   denoted_stands : (a : Revision) (w : Value) → denoted name h a ≡ Ok (object w) → Stands w
+  unfolding denoted
   denoted_stands a w e =
       let g = both_gave (base_value name h a.base) (λ v. and_then (all_suffixed v a.suffixes) (λ u. shown_at u a.path)) (object w) e in
       let k = both_gave (all_suffixed g.0 a.suffixes) (λ u. shown_at u a.path) (object w) g.2 in

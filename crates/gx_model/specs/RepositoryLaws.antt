@@ -20,7 +20,8 @@ use Rattle.gx_model.specs.Sound.{HasShortPaths, IsHeldAs, IsLinked, IsNamedMap, 
 use Rattle.gx_model.specs.Growth.{AreReady, all_trees, clashes, put, put_all, record_named, tree_records, with_values}
 use Rattle.gx_model.specs.Walks.{place_in, walked}
 use Rattle.gx_model.specs.Lookups.{commit_name_of, commit_named, first_named, records_begun_by}
-use Rattle.gx_model.specs.Denotation.{Revision, Shown, begun_by, denoted, find_ref, object, ref_names, submodule}
+use Rattle.gx_model.specs.Revisions.{Revision}
+use Rattle.gx_model.specs.Denotation.{Shown, begun_by, denoted, find_ref, object, ref_names, submodule}
 
 -- a repository stands for one history at most
 abbrev pub StandsForOne : (Kind → Bytes → Bytes) → Type 0

@@ -1,0 +1,25 @@
+//! The texts of a stream and of a repository: numbers, ref names, identities and paths, each read by its written grammar.
+//! It also has the devices that streams come from and go to, over memory and over the system's readers and writers.
+#![tactic(auto)]
+
+mod cuts;
+mod device;
+mod fault;
+mod ident;
+mod memory;
+mod number;
+mod outside;
+mod path;
+mod printed;
+mod quoted;
+mod ref_name;
+
+pub use cuts::cut;
+pub use device::{Failed, Sink, Source, send};
+pub use fault::TextFault;
+pub use ident::Ident;
+pub use memory::{Bytes, Held};
+pub use number::decimal;
+pub use outside::{FromRead, IntoWrite};
+pub use path::TreePath;
+pub use ref_name::is_ref_name;

@@ -1,25 +1,24 @@
 -- Worked rows on imports: what streams give, and why they are refused.
-use Rattle.std.specs.Prelude.{◌≡◌, ℕ, List, [], ◌∷◌, ◌++◌, map, replicate, codes, Option, Some, None, Result, Ok, Err, refl}
+use Rattle.std.specs.Prelude.{◌≡◌, ℕ, List, [], ◌∷◌, ◌++◌, map, replicate, codes, Some, None, Ok, Err, refl}
 use Rattle.std.specs.Fmt.{digits}
-use Rattle.std.specs.Map.{lookup}
-use Rattle.gx_model.specs.declared.objects.Kind.TheVariants.{Blob, Tree}
+use Rattle.gx_model.specs.declared.objects.Kind.TheVariants.{Blob}
 use Rattle.gx_model.specs.declared.objects.Mode.TheVariants.{File, Dir}
 use Rattle.gx_model.specs.declared.faults.Fault.{Fault}
 use Rattle.gx_model.specs.declared.faults.Fault.TheVariants as fault
-use Rattle.gx_model.specs.Texts.{Bytes, cut_at, same_bytes}
+use Rattle.gx_model.specs.Texts.{Bytes, cut_at}
 use Rattle.gx_model.specs.Idents.{is_ident}
-use Rattle.gx_model.specs.Paths.{Path, path_text, char_at, unquote_within, quoted_of}
+use Rattle.gx_model.specs.Paths.{path_text, char_at, unquote_within, quoted_of}
 use Rattle.gx_model.specs.Items.{counted_block, lines_before, delimited, first_line, first_of, read_upto, items_of}
 use Rattle.gx_model.specs.Grammar.{unsigned_in, item_after_in, rest_line_in, block_in, mark_of, commit_ish_of, last_path, source_path, modify_at, two_paths, change_at, changes_within, merges_within, blob_at, commit_at, links_at, tag_at, reset_at, command_at, commands_within}
 use Rattle.gx_model.specs.Faults.{Given, and_then}
 use Rattle.gx_model.specs.Revisions.{revision_of}
 use Rattle.gx_model.specs.Files.{FileMap}
-use Rattle.gx_model.specs.Values.{blob_value, commit_value, files_of, tag_value, tree_value}
+use Rattle.gx_model.specs.Values.{blob_value, tree_value}
 use Rattle.gx_model.specs.Objects.{Entry}
 use Rattle.gx_model.specs.Records.{body_of, entries, named_map}
 use Rattle.gx_model.specs.Histories.{History}
 use Rattle.gx_model.specs.Denotation.{Shown, denoted, object}
-use Rattle.gx_model.specs.Replay.{Outcome, Report, finished, imported, refused}
+use Rattle.gx_model.specs.Replay.{Outcome, finished, imported, refused}
 use Rattle.gx_model.specs.RowTexts.{acceptance, history_after, history_of_lines, imported_lines, imported_to, refusal, short_name, shown}
 
 -- one commit on main with these changes

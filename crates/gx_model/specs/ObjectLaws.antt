@@ -27,15 +27,15 @@ abbrev pub TreesAreCanonical : (Kind → Bytes → Bytes) → Type 0
 TreesAreCanonical name = (f : FileMap Bytes) → IsTrue (is_content f) → IsTrue (is_canonical (entries name (named_map name f)))
 
 -- a path of a file at this entry, or below it where it is a directory's
-abbrev pub IsPathOf : Entry → Path → Type 0
-IsPathOf e [] = ⊥
-IsPathOf e (c ∷ []) = (c ≡ e.component) × (is_dir e.mode ≡ false)
-IsPathOf e (c ∷ d ∷ p) = (c ≡ e.component) × (is_dir e.mode ≡ true)
+abbrev pub IsAtOrBelow : Entry → Path → Type 0
+IsAtOrBelow e [] = ⊥
+IsAtOrBelow e (c ∷ []) = (c ≡ e.component) × (is_dir e.mode ≡ false)
+IsAtOrBelow e (c ∷ d ∷ p) = (c ≡ e.component) × (is_dir e.mode ≡ true)
 
 -- the order of a tree's entries is the byte order of the whole paths at and below them
 abbrev pub EntriesStandInPathOrder : Type 0
 EntriesStandInPathOrder =
-    (e f : Entry) (p q : Path) → IsTrue (is_component e.component) → IsTrue (is_component f.component) → e.component ≢ f.component → IsPathOf e p → IsPathOf f q
+    (e f : Entry) (p q : Path) → IsTrue (is_component e.component) → IsTrue (is_component f.component) → e.component ≢ f.component → IsAtOrBelow e p → IsAtOrBelow f q
     → path_cmp p q ≡ slice_cmp nat_cmp (entry_key e) (entry_key f)
 
 -- two file maps with one body are one, where what is below them stands among values that their names tell apart

@@ -1,12 +1,9 @@
 -- Worked rows on revisions and range words: how they are read, and what they give.
-use Rattle.std.specs.Prelude.{◌≡◌, ℕ, ◌^◌, ◌-◌, List, [], ◌∷◌, ◌++◌, map, replicate, codes, Option, Some, None, Result, Ok, Err, refl}
+use Rattle.std.specs.Prelude.{◌≡◌, ◌^◌, ◌-◌, List, [], ◌∷◌, ◌++◌, map, replicate, codes, Option, Some, None, Result, Ok, Err, refl}
 use Rattle.std.specs.Fmt.{digits}
-use Rattle.std.specs.Map.{lookup}
-use Rattle.std.specs.Char.{is_ascii_digit}
-use Rattle.gx_model.specs.declared.objects.Mode.TheVariants.{File, Gitlink}
-use Rattle.gx_model.specs.declared.faults.Fault.{Fault}
+use Rattle.gx_model.specs.declared.objects.Mode.TheVariants.{File}
 use Rattle.gx_model.specs.declared.faults.Fault.TheVariants as fault
-use Rattle.gx_model.specs.Texts.{Bytes, cut_at, same_bytes}
+use Rattle.gx_model.specs.Texts.{Bytes, cut_at}
 use Rattle.gx_model.specs.Idents.{is_ident}
 use Rattle.gx_model.specs.Paths.{char_at, unquote_within, quoted_of}
 use Rattle.gx_model.specs.Items.{counted_block, lines_before, delimited, first_line, first_of, read_upto, items_of}
@@ -14,14 +11,13 @@ use Rattle.gx_model.specs.Grammar.{unsigned_in, item_after_in, rest_line_in, blo
 use Rattle.gx_model.specs.Faults.{Given}
 use Rattle.gx_model.specs.Revisions.{AllParents, Alone, Apart, Between, RangeWord, Revision, Suffix, WithAncestors, WithoutAncestors, WithoutOne, ancestor, as_blob, as_commit, as_tag, as_tree, itself, parent, peeled, range_of, revision_of}
 use Rattle.gx_model.specs.Files.{FileMap}
-use Rattle.gx_model.specs.Values.{Commit, CommitText, Tag, Value, blob_value, commit, commit_value, more, none, tag_value, tree_value}
-use Rattle.gx_model.specs.Objects.{hex}
+use Rattle.gx_model.specs.Values.{Commit, CommitText, Tag, blob_value, commit, commit_value, more, none, tag_value, tree_value}
 use Rattle.gx_model.specs.Records.{name_of}
 use Rattle.gx_model.specs.Histories.{History, at_commit, at_tag}
-use Rattle.gx_model.specs.Denotation.{Shown, denoted, object, submodule}
-use Rattle.gx_model.specs.Ranges.{WordFault, each_word, listed}
+use Rattle.gx_model.specs.Denotation.{Shown, denoted, object}
+use Rattle.gx_model.specs.Ranges.{WordFault, listed}
 use Rattle.gx_model.specs.Replay.{imported}
-use Rattle.gx_model.specs.RowTexts.{history_of_lines, imported_lines, log, short_name, shown}
+use Rattle.gx_model.specs.RowTexts.{history_of_lines, log, short_name, shown}
 
 -- ---- how they are read
 

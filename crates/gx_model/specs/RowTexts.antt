@@ -1,5 +1,5 @@
 -- What the worked rows share: texts from lines, namers, and what imports, revisions and range words give.
-use Rattle.std.specs.Prelude.{ℕ, ◌%◌, false, List, [], ◌∷◌, ◌++◌, length, replicate, Option, Some, None, Result, Ok, Err}
+use Rattle.std.specs.Prelude.{ℕ, ◌%◌, false, List, [], ◌∷◌, ◌++◌, length, replicate, Option, Some, None, Result, Ok}
 use Rattle.std.specs.List.{flat_map, fold}
 use Rattle.gx_model.specs.declared.objects.Kind.{Kind}
 use Rattle.gx_model.specs.declared.objects.Kind.TheVariants as kind

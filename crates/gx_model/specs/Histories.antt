@@ -55,11 +55,21 @@ abbrev pub IsIn : List Value → Value → Type 0
 IsIn [] v = ⊥
 IsIn (w ∷ vs) v = (w ≡ v) ⊎ IsIn vs v
 
+-- a value is made of another, through its parts
+pub data Reaches : Value → Value → Type 0 where
+  itself : (v : Value) → Reaches v v
+  through : {u : Value} (v w : Value) → IsIn (parts v) w → Reaches w u → Reaches v u
+
 -- each of these values is new and proper, and its parts stand before it
 abbrev pub IsClosedAfter : List Value → List Value → Type 0
 IsClosedAfter before [] = ⊤
 IsClosedAfter before (v ∷ vs) =
     (is_in before v ≡ false) × AllByRecursion (IsIn before) (parts v) × IsClosedAfter (before ++ v ∷ []) vs
+
+-- the values of a history: each new, proper, and after its parts
+pub record IsWhole (vs : List Value) : Type 0 where
+  pub closed : IsClosedAfter [] vs
+  pub proper : IsTrue (list_all is_proper vs)
 
 -- a tag's own name makes its ref
 abbrev pub IsRefOf : Bytes → Target → Type 0

@@ -115,3 +115,7 @@ IsTagText p body = (body ≡ tag_text p) × IsTrue (is_name p.object) × IsTrue 
 pub record IsNamer (name : Kind → Bytes → Bytes) : Type 0 where
   pub long : (k : Kind) (body : Bytes) → length (name k body) ≡ 20
   pub bytes : (k : Kind) (body : Bytes) → IsTrue (list_all (λ b. nat_lt b 256) (name k body))
+
+-- what holds for every namer
+abbrev pub ForEachNamer : ((Kind → Bytes → Bytes) → Type 0) → Type 0
+ForEachNamer Law = (name : Kind → Bytes → Bytes) → IsNamer name → Law name

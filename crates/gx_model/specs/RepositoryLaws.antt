@@ -1,5 +1,5 @@
--- The laws of sound repositories.
-use Rattle.std.specs.Prelude.{◌≡◌, IsTrue, List, ◌∷◌, ◌++◌, map, Some, None, true, ◌↔◌}
+-- The laws of repositories.
+use Rattle.std.specs.Prelude.{◌≡◌, ◌↔◌, true, IsTrue, List, ◌∷◌, ◌++◌, map, Some, None, Ok}
 use Rattle.std.specs.List.{list_all, fold, AllByRecursion}
 use Rattle.std.specs.Option.{option_map}
 use Rattle.std.specs.Ordering.{nat_cmp}
@@ -12,15 +12,20 @@ use Rattle.gx_model.specs.RefNames.{is_ref_name}
 use Rattle.gx_model.specs.Paths.{Path, is_short}
 use Rattle.gx_model.specs.Files.{FileMap}
 use Rattle.gx_model.specs.Values.{Value, blobs_of, is_content, is_proper, parts, tree_value}
-use Rattle.gx_model.specs.Objects.{Entry, IsNamer, IsTreeText}
-use Rattle.gx_model.specs.Records.{name_of, named_map, tree_name}
+use Rattle.gx_model.specs.Objects.{Entry, IsTreeText}
+use Rattle.gx_model.specs.Records.{kind_of, name_of, named_map, tree_name}
 use Rattle.gx_model.specs.Histories.{History, IsIn, Record, Records, StandsFor, record_of, with_one, with_tree, with_value}
 use Rattle.gx_model.specs.HistoryOf.{contents_of, files_of_entries, history_of, named_values, target_in, value_in, value_of_name}
 use Rattle.gx_model.specs.Sound.{HasShortPaths, IsHeldAs, IsLinked, IsNamedMap, IsSound, IsTarget}
 use Rattle.gx_model.specs.Growth.{AreReady, all_trees, clashes, put, put_all, record_named, tree_records, with_values}
 use Rattle.gx_model.specs.Walks.{place_in, walked}
 use Rattle.gx_model.specs.Lookups.{commit_name_of, commit_named, first_named, records_begun_by}
-use Rattle.gx_model.specs.Denotation.{begun_by, find_ref, ref_names}
+use Rattle.gx_model.specs.Revisions.{Revision}
+use Rattle.gx_model.specs.Denotation.{Shown, begun_by, denoted, find_ref, object, ref_names, submodule}
+
+-- a repository stands for one history at most
+abbrev pub StandsForOne : (Kind → Bytes → Bytes) → Type 0
+StandsForOne name = (r : Records) (h k : History) → StandsFor name r h → StandsFor name r k → h ≡ k
 
 -- a sound repository stands for the history that is read from it, and whatever stands for a history is sound
 pub record HistoriesOf (name : Kind → Bytes → Bytes) : Type 0 where
@@ -84,8 +89,20 @@ ShortPathsTell name = (r : Records) → IsSound name r → (es : List Entry) (bo
 
 -- names and values give each other
 pub record NamesTell (name : Kind → Bytes → Bytes) : Type 0 where
+  pub same : (r : Records) → IsSound name r → (v w : Value) → IsIn (values_of r) v → IsIn (values_of r) w → (name_of name v ≡ name_of name w) ↔ (v ≡ w)
   pub of_record : (r : Records) → IsSound name r → (n : Bytes) (s : Record) → record_named r.records n ≡ Some s → IsIn (values_of r) (value_of_name r.records n) × (record_of name (value_of_name r.records n) ≡ s)
   pub of_value : (r : Records) → IsSound name r → (v : Value) → IsIn (values_of r) v → (record_named r.records (name_of name v) ≡ Some (record_of name v)) × (value_of_name r.records (name_of name v) ≡ v)
+
+-- what is answered for these two is one: a kind and a name, or a submodule's digits
+abbrev pub AreOneAnswer : (Kind → Bytes → Bytes) → Shown → Shown → Type 0
+AreOneAnswer name (object v) (object w) = (kind_of name v ≡ kind_of name w) × (name_of name v ≡ name_of name w)
+AreOneAnswer name (submodule x) (submodule y) = x ≡ y
+AreOneAnswer name _ _ = ⊥
+
+-- what revisions give is told by what is answered for it
+pub record AnswersTell (name : Kind → Bytes → Bytes) : Type 0 where
+  pub held : (r : Records) → IsSound name r → (a : Revision) (v : Value) → denoted name (history_of r) a ≡ Ok (object v) → IsIn (values_of r) v
+  pub one : (r : Records) → IsSound name r → (a b : Revision) (s t : Shown) → denoted name (history_of r) a ≡ Ok s → denoted name (history_of r) b ≡ Ok t → AreOneAnswer name s t ↔ (s ≡ t)
 
 -- refs, digits and names find the same among records as in the history
 pub record RecordsFind (name : Kind → Bytes → Bytes) : Type 0 where
@@ -99,17 +116,3 @@ pub record PartsChange (name : Kind → Bytes → Bytes) : Type 0 where
       → IsSound name (with_refs r refs) × (values_of (with_refs r refs) ≡ values_of r)
   pub first : (xs ys : List Record) (refs : List (Bytes × Bytes)) → IsSound name (record { records = xs ++ ys; refs = refs }) → AllByRecursion (λ x. IsTarget xs x.0 x.1) refs
       → IsSound name (record { records = xs; refs = refs }) × ((more : List Value) × (values_of (record { records = xs ++ ys; refs = refs }) ≡ values_of (record { records = xs; refs = refs }) ++ more))
-
-pub record SoundLaws (name : Kind → Bytes → Bytes) : Type 0 where
-  pub histories : HistoriesOf name
-  pub puts : PutsGrow name
-  pub trees : TreesGrow name
-  pub links : LinksTell name
-  pub short : ShortPathsTell name
-  pub walks : WalksTell name
-  pub names : NamesTell name
-  pub find : RecordsFind name
-  pub changes : PartsChange name
-
-abbrev pub SoundLawsHold : Type 0
-SoundLawsHold = (name : Kind → Bytes → Bytes) → IsNamer name → SoundLaws name

@@ -30,9 +30,9 @@ sub_map-whole (e ∷ f) = ap (λ r. e ∷ r) (sub_map-whole f)
 pub sub_map-placed : (c : Bytes) (p : Path) (f : FileMap Bytes) → sub_map (placed c f) (c ∷ p) ≡ sub_map f p
 sub_map-placed c p [] = refl
 sub_map-placed c p (e ∷ f) = rw (same_itself c) (elim (begins p e.0) as (λ b. off (suc (length p)) (cond b ((c ∷ e.0, e.1) ∷ under (c ∷ p) (placed c f)) (under (c ∷ p) (placed c f))) ≡ off (length p) (cond b (e ∷ under p f) (under p f))) [
-    | true ↦ ap (λ r. (drop (length p) e.0, e.1) ∷ r) (sub_map-placed c p f)
-    | false ↦ sub_map-placed c p f
-  ])
+  | true ↦ ap (λ r. (drop (length p) e.0, e.1) ∷ r) (sub_map-placed c p f)
+  | false ↦ sub_map-placed c p f
+])
 
 pub sub_map-other : (c d : Bytes) (p : Path) (f : FileMap Bytes) → same_bytes c d ≡ false → sub_map (placed d f) (c ∷ p) ≡ []
 sub_map-other c d p [] n = refl
@@ -61,37 +61,37 @@ no_more c k (e ∷ es) h = rw h.0.0 (no_more c k es h.1)
 file_at_none : (c : Bytes) (p : Path) (es : Level) → kept_at c es ≡ None → file_at (files es) (c ∷ p) ≡ None
 file_at_none c p [] n = refl
 file_at_none c p (e ∷ es) n = elim (cases_bytes c e.0) [
-    | inl s ↦ let clash : Some e.1 ≡ None = rw (bytes_same c e.0 s) at n in cc
-    | inr m ↦ file_at-append (c ∷ p) (placed e.0 (kept_map e.1)) (files es) ∙ rw (file_at-other c e.0 p (kept_map e.1) m) (file_at_none c p es (rw m at n))
-  ]
+  | inl s ↦ let clash : Some e.1 ≡ None = rw (bytes_same c e.0 s) at n in cc
+  | inr m ↦ file_at-append (c ∷ p) (placed e.0 (kept_map e.1)) (files es) ∙ rw (file_at-other c e.0 p (kept_map e.1) m) (file_at_none c p es (rw m at n))
+]
 
 -- what stands below a component, by what is kept there
 pub file_at-files : (c : Bytes) (p : Path) (es : Level) → IsLevel es → file_at (files es) (c ∷ p) ≡ file_at (map_if (kept_at c es)) p
 file_at-files c p [] h = refl
 file_at-files c p (e ∷ es) h = elim (cases_bytes c e.0) [
-    | inl s ↦ rw (bytes_same c e.0 s)
-        (file_at-append (c ∷ p) (placed e.0 (kept_map e.1)) (files es)
-        ∙ ap (λ z. either (file_at (placed z (kept_map e.1)) (c ∷ p)) (file_at (files es) (c ∷ p))) (sym s)
-        ∙ rw (file_at-placed c p (kept_map e.1), file_at_none c p es (ap (λ z. kept_at z es) s ∙ no_more e.0 e.1 es h.2)) (either_none (file_at (kept_map e.1) p)))
-    | inr n ↦ file_at-append (c ∷ p) (placed e.0 (kept_map e.1)) (files es) ∙ rw (file_at-other c e.0 p (kept_map e.1) n, n) (file_at-files c p es h.3)
-  ]
+  | inl s ↦ rw (bytes_same c e.0 s)
+      (file_at-append (c ∷ p) (placed e.0 (kept_map e.1)) (files es)
+      ∙ ap (λ z. either (file_at (placed z (kept_map e.1)) (c ∷ p)) (file_at (files es) (c ∷ p))) (sym s)
+      ∙ rw (file_at-placed c p (kept_map e.1), file_at_none c p es (ap (λ z. kept_at z es) s ∙ no_more e.0 e.1 es h.2)) (either_none (file_at (kept_map e.1) p)))
+  | inr n ↦ file_at-append (c ∷ p) (placed e.0 (kept_map e.1)) (files es) ∙ rw (file_at-other c e.0 p (kept_map e.1) n, n) (file_at-files c p es h.3)
+]
 
 sub_map_none : (c : Bytes) (p : Path) (es : Level) → kept_at c es ≡ None → sub_map (files es) (c ∷ p) ≡ []
 sub_map_none c p [] n = refl
 sub_map_none c p (e ∷ es) n = elim (cases_bytes c e.0) [
-    | inl s ↦ let clash : Some e.1 ≡ None = rw (bytes_same c e.0 s) at n in cc
-    | inr m ↦ sub_map-append (c ∷ p) (placed e.0 (kept_map e.1)) (files es) ∙ rw (sub_map-other c e.0 p (kept_map e.1) m) (sub_map_none c p es (rw m at n))
-  ]
+  | inl s ↦ let clash : Some e.1 ≡ None = rw (bytes_same c e.0 s) at n in cc
+  | inr m ↦ sub_map-append (c ∷ p) (placed e.0 (kept_map e.1)) (files es) ∙ rw (sub_map-other c e.0 p (kept_map e.1) m) (sub_map_none c p es (rw m at n))
+]
 
 pub sub_map-files : (c : Bytes) (p : Path) (es : Level) → IsLevel es → sub_map (files es) (c ∷ p) ≡ sub_map (map_if (kept_at c es)) p
 sub_map-files c p [] h = refl
 sub_map-files c p (e ∷ es) h = elim (cases_bytes c e.0) [
-    | inl s ↦ rw (bytes_same c e.0 s)
-        (sub_map-append (c ∷ p) (placed e.0 (kept_map e.1)) (files es)
-        ∙ ap (λ z. sub_map (placed z (kept_map e.1)) (c ∷ p) ++ sub_map (files es) (c ∷ p)) (sym s)
-        ∙ rw (sub_map-placed c p (kept_map e.1), sub_map_none c p es (ap (λ z. kept_at z es) s ∙ no_more e.0 e.1 es h.2)) (append-nil (sub_map (kept_map e.1) p)))
-    | inr n ↦ sub_map-append (c ∷ p) (placed e.0 (kept_map e.1)) (files es) ∙ rw (sub_map-other c e.0 p (kept_map e.1) n, n) (sub_map-files c p es h.3)
-  ]
+  | inl s ↦ rw (bytes_same c e.0 s)
+      (sub_map-append (c ∷ p) (placed e.0 (kept_map e.1)) (files es)
+      ∙ ap (λ z. sub_map (placed z (kept_map e.1)) (c ∷ p) ++ sub_map (files es) (c ∷ p)) (sym s)
+      ∙ rw (sub_map-placed c p (kept_map e.1), sub_map_none c p es (ap (λ z. kept_at z es) s ∙ no_more e.0 e.1 es h.2)) (append-nil (sub_map (kept_map e.1) p)))
+  | inr n ↦ sub_map-append (c ∷ p) (placed e.0 (kept_map e.1)) (files es) ∙ rw (sub_map-other c e.0 p (kept_map e.1) n, n) (sub_map-files c p es h.3)
+]
 
 abbrev pub IsKeptAt : Option Kept → Type 0
 IsKeptAt None = Unit {0}
@@ -100,9 +100,9 @@ IsKeptAt (Some k) = IsKept k
 pub IsKeptAt-kept_at : (c : Bytes) (es : Level) → IsLevel es → IsKeptAt (kept_at c es)
 IsKeptAt-kept_at c [] h = tt
 IsKeptAt-kept_at c (e ∷ es) h = elim (cases_bytes c e.0) [
-    | inl s ↦ rw (bytes_same c e.0 s) h.1
-    | inr n ↦ rw n (IsKeptAt-kept_at c es h.3)
-  ]
+  | inl s ↦ rw (bytes_same c e.0 s) h.1
+  | inr n ↦ rw n (IsKeptAt-kept_at c es h.3)
+]
 
 -- ---- what a path leads to
 

@@ -59,15 +59,15 @@ modified_below (d ∷ p) q x (Some (folder f)) hp h = sym (file_at-with_file (d 
 
 modified_at : (c d : Bytes) (p q : Path) (x : Leaf Bytes) (es : Level) → is_inner_path (c ∷ p) ≡ true → IsLevel es → IsLevel (with_kept c (kept_modified p x (kept_at c es)) es) → file_at (with_file (c ∷ p) x (files es)) (d ∷ q) ≡ file_at (files (with_kept c (kept_modified p x (kept_at c es)) es)) (d ∷ q)
 modified_at c d p q x es hp h g = elim (cases_bytes d c) [
-    | inl s ↦
-        let a = bytes_same d c s in let b = bytes_same c d (sym s) in
-        rw (file_at-with_file (c ∷ p) (d ∷ q) x (files es) hp (IsInner-files es h).paths, file_at-files d q es h, file_at-files d q _ g, kept_at-with_kept c d (kept_modified p x (kept_at c es)) es, a, b)
-        (ap (λ o. cond (same_path q p) (Some x) (cond (is_beside p q) (file_at (map_if o) q) None)) (ap (λ y. kept_at y es) s)
-        ∙ modified_below p q x (kept_at c es) (and_parts _ _ hp).1 (IsKeptAt-kept_at c es h))
-    | inr n ↦
-        let m : same_bytes c d ≡ false = same_bytes_flip c d ∙ n in
-        rw (file_at-with_file (c ∷ p) (d ∷ q) x (files es) hp (IsInner-files es h).paths, file_at-files d q es h, file_at-files d q _ g, kept_at-with_kept c d (kept_modified p x (kept_at c es)) es, n, m) refl
-  ]
+  | inl s ↦
+      let a = bytes_same d c s in let b = bytes_same c d (sym s) in
+      rw (file_at-with_file (c ∷ p) (d ∷ q) x (files es) hp (IsInner-files es h).paths, file_at-files d q es h, file_at-files d q _ g, kept_at-with_kept c d (kept_modified p x (kept_at c es)) es, a, b)
+      (ap (λ o. cond (same_path q p) (Some x) (cond (is_beside p q) (file_at (map_if o) q) None)) (ap (λ y. kept_at y es) s)
+      ∙ modified_below p q x (kept_at c es) (and_parts _ _ hp).1 (IsKeptAt-kept_at c es h))
+  | inr n ↦
+      let m : same_bytes c d ≡ false = same_bytes_flip c d ∙ n in
+      rw (file_at-with_file (c ∷ p) (d ∷ q) x (files es) hp (IsInner-files es h).paths, file_at-files d q es h, file_at-files d q _ g, kept_at-with_kept c d (kept_modified p x (kept_at c es)) es, n, m) refl
+]
 
 pub IsLevel-modified : (c : Bytes) (p : Path) (x : Leaf Bytes) (es : Level) → is_inner_path (c ∷ p) ≡ true → IsLevel es → IsLevel (with_kept c (kept_modified p x (kept_at c es)) es)
 IsLevel-modified c p x es hp h = IsLevel-with_kept c (kept_modified p x (kept_at c es)) es (and_parts _ _ hp).0 (IsKept-modified p x (kept_at c es) (and_parts _ _ hp).1 (IsKeptAt-kept_at c es h)) h
@@ -75,16 +75,16 @@ IsLevel-modified c p x es hp h = IsLevel-with_kept c (kept_modified p x (kept_at
 -- maps that answer alike at each path but the root, where both have none, are equal
 pub same_files : (f g : FileMap Bytes) → IsInner f → IsInner g → ((c : Bytes) (p : Path) → file_at f (c ∷ p) ≡ file_at g (c ∷ p)) → f ≡ g
 same_files f g hf hg same = same_maps f g hf.sorted hg.sorted (λ q. elim q as (λ q. file_at f q ≡ file_at g q) [
-    | [] ↦ no_root f hf.paths ∙ sym (no_root g hg.paths)
-    | c ∷ p ↦ same c p
-  ])
+  | [] ↦ no_root f hf.paths ∙ sym (no_root g hg.paths)
+  | c ∷ p ↦ same c p
+])
 
 -- a file at a path is one at the rest of the path, below its first component
 pub modified_files : (c : Bytes) (p : Path) (x : Leaf Bytes) (es : Level) → is_inner_path (c ∷ p) ≡ true → IsLevel es → with_file (c ∷ p) x (files es) ≡ files (with_kept c (kept_modified p x (kept_at c es)) es)
 modified_files c p x es hp h =
     let g = IsLevel-modified c p x es hp h in
     same_files (with_file (c ∷ p) x (files es)) (files (with_kept c (kept_modified p x (kept_at c es)) es))
-      (IsInner-with_file (c ∷ p) x (files es) hp (IsInner-files es h)) (IsInner-files (with_kept c (kept_modified p x (kept_at c es)) es) g) (λ d q. modified_at c d p q x es hp h g)
+    (IsInner-with_file (c ∷ p) x (files es) hp (IsInner-files es h)) (IsInner-files (with_kept c (kept_modified p x (kept_at c es)) es) g) (λ d q. modified_at c d p q x es hp h g)
 
 -- ---- without what stands at or below a path
 
@@ -145,4 +145,4 @@ pub removed_files : (c : Bytes) (p : Path) (es : Level) → is_component c ≡ t
 removed_files c p es hc h =
     let g = IsLevel-removed c p es hc h in
     same_files (removed (files es) (c ∷ p)) (files (replaced c (kept_removed p (kept_at c es)) es))
-      (IsInner-removed (c ∷ p) (files es) (IsInner-files es h)) (IsInner-files (replaced c (kept_removed p (kept_at c es)) es) g) (λ d q. removed_at c d p q es h g)
+    (IsInner-removed (c ∷ p) (files es) (IsInner-files es h)) (IsInner-files (replaced c (kept_removed p (kept_at c es)) es) g) (λ d q. removed_at c d p q es h g)

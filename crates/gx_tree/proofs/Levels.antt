@@ -53,8 +53,8 @@ before_files : (c : Bytes) (p : Path) (k : Kept) (es : Level) → is_component c
 before_files c p k [] hc t a h = refl
 before_files c p k (e ∷ es) hc t a h =
     below_all-append (c ∷ p) (placed e.0 (kept_map e.1)) (files es)
-      (before_placed c e.0 p e.1 (kept_map e.1) hc h.0 (differ_from c e.0 a.0.0) (ap (λ z. is_lt (byte_cmp z (key e.0 e.1))) t ∙ a.0.1) (all_fit e.0 e.1 h.1))
-      (before_files c p k es hc t a.1 h.3)
+    (before_placed c e.0 p e.1 (kept_map e.1) hc h.0 (differ_from c e.0 a.0.0) (ap (λ z. is_lt (byte_cmp z (key e.0 e.1))) t ∙ a.0.1) (all_fit e.0 e.1 h.1))
+    (before_files c p k es hc t a.1 h.3)
 
 -- ---- entries in order give files in order
 
@@ -101,54 +101,54 @@ IsInner-files es h = record { paths = files_inner es h; sorted = files_sorted es
 pub kept_at-others : (c d : Bytes) (es : Level) → kept_at d (others c es) ≡ cond (same_bytes d c) None (kept_at d es)
 kept_at-others c d [] = elim (same_bytes d c) as (λ b. ◌≡◌ {A = Option Kept} None (cond b None None)) [ true ↦ refl | false ↦ refl ]
 kept_at-others c d (e ∷ es) = elim (cases_bytes c e.0) [
-    | inl s ↦ elim (cases_bytes d e.0) [
-      | inl t ↦ let x = bytes_same c e.0 s in let y = bytes_same d c (t ∙ sym s) in rw (x, y) (rw y at (kept_at-others c d es))
-      | inr t ↦ let x = bytes_same c e.0 s in let y : same_bytes d c ≡ false = rw s t in rw (x, y, t) (rw y at (kept_at-others c d es))
-    ]
-    | inr n ↦ elim (cases_bytes d e.0) [
-      | inl t ↦ let x = bytes_same d e.0 t in let y : same_bytes d c ≡ false = rw t (same_bytes_flip e.0 c ∙ n) in rw (n, x, y) refl
-      | inr t ↦ rw (n, t) (kept_at-others c d es)
-    ]
+  | inl s ↦ elim (cases_bytes d e.0) [
+    | inl t ↦ let x = bytes_same c e.0 s in let y = bytes_same d c (t ∙ sym s) in rw (x, y) (rw y at (kept_at-others c d es))
+    | inr t ↦ let x = bytes_same c e.0 s in let y : same_bytes d c ≡ false = rw s t in rw (x, y, t) (rw y at (kept_at-others c d es))
   ]
+  | inr n ↦ elim (cases_bytes d e.0) [
+    | inl t ↦ let x = bytes_same d e.0 t in let y : same_bytes d c ≡ false = rw t (same_bytes_flip e.0 c ∙ n) in rw (n, x, y) refl
+    | inr t ↦ rw (n, t) (kept_at-others c d es)
+  ]
+]
 
 all_after-others : (a : Bytes × Kept) (c : Bytes) (es : Level) → AllByRecursion (IsAfter a) es → AllByRecursion (IsAfter a) (others c es)
 all_after-others a c [] h = tt
 all_after-others a c (e ∷ es) h = elim (same_bytes c e.0) as (λ b. AllByRecursion (IsAfter a) (cond (not b) (e ∷ others c es) (others c es))) [
-    | true ↦ all_after-others a c es h.1
-    | false ↦ (h.0, all_after-others a c es h.1)
-  ]
+  | true ↦ all_after-others a c es h.1
+  | false ↦ (h.0, all_after-others a c es h.1)
+]
 
 pub IsLevel-others : (c : Bytes) (es : Level) → IsLevel es → IsLevel (others c es)
 IsLevel-others c [] h = tt
 IsLevel-others c (e ∷ es) h = elim (same_bytes c e.0) as (λ b. IsLevel (cond (not b) (e ∷ others c es) (others c es))) [
-    | true ↦ IsLevel-others c es h.3
-    | false ↦ (h.0, h.1, all_after-others e c es h.2, IsLevel-others c es h.3)
-  ]
+  | true ↦ IsLevel-others c es h.3
+  | false ↦ (h.0, h.1, all_after-others e c es h.2, IsLevel-others c es h.3)
+]
 
 -- ---- with an entry at its place
 
 inserted_head : (c d : Bytes) (k : Kept) (e : Bytes × Kept) (es fs : Level) → same_bytes c e.0 ≡ false → kept_at d fs ≡ cond (same_bytes d c) (Some k) (kept_at d es) → kept_at d (cond (comes_before c k e) ((c, k) ∷ e ∷ es) (e ∷ fs)) ≡ cond (same_bytes d c) (Some k) (cond (same_bytes d e.0) (Some e.1) (kept_at d es))
 inserted_head c d k e es fs n ih = elim (cases_Bool (comes_before c k e)) [
-    | inl a ↦ rw a refl
-    | inr a ↦ elim (cases_bytes d c) [
-      | inl t ↦ let x = bytes_same d c t in let y : same_bytes d e.0 ≡ false = rw t n in rw (a, x, y) (rw x at ih)
-      | inr t ↦ rw (a, ih, t) refl
-    ]
+  | inl a ↦ rw a refl
+  | inr a ↦ elim (cases_bytes d c) [
+    | inl t ↦ let x = bytes_same d c t in let y : same_bytes d e.0 ≡ false = rw t n in rw (a, x, y) (rw x at ih)
+    | inr t ↦ rw (a, ih, t) refl
   ]
+]
 
 pub kept_at-inserted : (c d : Bytes) (k : Kept) (es : Level) → kept_at c es ≡ None → kept_at d (inserted c k es) ≡ cond (same_bytes d c) (Some k) (kept_at d es)
 kept_at-inserted c d k [] h = refl
 kept_at-inserted c d k (e ∷ es) h = elim (cases_bytes c e.0) [
-    | inl s ↦ let clash : Some e.1 ≡ None = rw (bytes_same c e.0 s) at h in cc
-    | inr n ↦ inserted_head c d k e es (inserted c k es) n (kept_at-inserted c d k es (rw n at h))
-  ]
+  | inl s ↦ let clash : Some e.1 ≡ None = rw (bytes_same c e.0 s) at h in cc
+  | inr n ↦ inserted_head c d k e es (inserted c k es) n (kept_at-inserted c d k es (rw n at h))
+]
 
 all_after-inserted : (a : Bytes × Kept) (c : Bytes) (k : Kept) (es : Level) → IsAfter a (c, k) → AllByRecursion (IsAfter a) es → AllByRecursion (IsAfter a) (inserted c k es)
 all_after-inserted a c k [] n h = (n, tt)
 all_after-inserted a c k (e ∷ es) n h = elim (comes_before c k e) as (λ b. AllByRecursion (IsAfter a) (cond b ((c, k) ∷ e ∷ es) (e ∷ inserted c k es))) [
-    | true ↦ (n, h)
-    | false ↦ (h.0, all_after-inserted a c k es n h.1)
-  ]
+  | true ↦ (n, h)
+  | false ↦ (h.0, all_after-inserted a c k es n h.1)
+]
 
 pub key_trans : (a b c : Bytes) → is_lt (byte_cmp a b) ≡ true → is_lt (byte_cmp b c) ≡ true → is_lt (byte_cmp a c) ≡ true
 key_trans a b c h k = ap is_lt (nat_list_cmp_total.trans a b c (less_is _ h) (less_is _ k))
@@ -156,9 +156,9 @@ key_trans a b c h k = ap is_lt (nat_list_cmp_total.trans a b c (less_is _ h) (le
 after_trans : (c : Bytes) (k : Kept) (e : Bytes × Kept) (es : Level) → comes_before c k e ≡ true → kept_at c es ≡ None → AllByRecursion (IsAfter e) es → AllByRecursion (IsAfter (c, k)) es
 after_trans c k e [] l n h = tt
 after_trans c k e (f ∷ es) l n h = elim (cases_bytes c f.0) [
-    | inl s ↦ let clash : Some f.1 ≡ None = rw (bytes_same c f.0 s) at n in cc
-    | inr t ↦ ((t, key_trans (key c k) (key e.0 e.1) (key f.0 f.1) l h.0.1), after_trans c k e es l (rw t at n) h.1)
-  ]
+  | inl s ↦ let clash : Some f.1 ≡ None = rw (bytes_same c f.0 s) at n in cc
+  | inr t ↦ ((t, key_trans (key c k) (key e.0 e.1) (key f.0 f.1) l h.0.1), after_trans c k e es l (rw t at n) h.1)
+]
 
 -- a path that may follow a component where k is kept
 follows : Kept → Path
@@ -182,21 +182,21 @@ one_comes_first c d j k hc hd n l =
 pub IsLevel-inserted : (c : Bytes) (k : Kept) (es : Level) → is_component c ≡ true → IsKept k → kept_at c es ≡ None → IsLevel es → IsLevel (inserted c k es)
 IsLevel-inserted c k [] hc hk n h = (hc, hk, tt, tt)
 IsLevel-inserted c k (e ∷ es) hc hk n h = elim (cases_bytes c e.0) [
-    | inl s ↦ let clash : Some e.1 ≡ None = rw (bytes_same c e.0 s) at n in cc
-    | inr t ↦ elim (cases_Bool (comes_before c k e)) [
-      | inl a ↦ rw a (hc, hk, ((t, a), after_trans c k e es a (rw t at n) h.2), h)
-      | inr a ↦ rw a (h.0, h.1, all_after-inserted e c k es (rw (same_bytes_flip e.0 c) t, one_comes_first c e.0 k e.1 hc h.0 (differ_from c e.0 t) a) h.2, IsLevel-inserted c k es hc hk (rw t at n) h.3)
-    ]
+  | inl s ↦ let clash : Some e.1 ≡ None = rw (bytes_same c e.0 s) at n in cc
+  | inr t ↦ elim (cases_Bool (comes_before c k e)) [
+    | inl a ↦ rw a (hc, hk, ((t, a), after_trans c k e es a (rw t at n) h.2), h)
+    | inr a ↦ rw a (h.0, h.1, all_after-inserted e c k es (rw (same_bytes_flip e.0 c) t, one_comes_first c e.0 k e.1 hc h.0 (differ_from c e.0 t) a) h.2, IsLevel-inserted c k es hc hk (rw t at n) h.3)
   ]
+]
 
 gone : (c : Bytes) (es : Level) → kept_at c (others c es) ≡ None
 gone c es = kept_at-others c c es ∙ rw (same_itself c) refl
 
 pub kept_at-with_kept : (c d : Bytes) (k : Kept) (es : Level) → kept_at d (with_kept c k es) ≡ cond (same_bytes d c) (Some k) (kept_at d es)
 kept_at-with_kept c d k es = kept_at-inserted c d k (others c es) (gone c es) ∙ elim (cases_Bool (same_bytes d c)) [
-    | inl t ↦ rw t refl
-    | inr t ↦ rw (t, kept_at-others c d es, t) refl
-  ]
+  | inl t ↦ rw t refl
+  | inr t ↦ rw (t, kept_at-others c d es, t) refl
+]
 
 pub IsLevel-with_kept : (c : Bytes) (k : Kept) (es : Level) → is_component c ≡ true → IsKept k → IsLevel es → IsLevel (with_kept c k es)
 IsLevel-with_kept c k es hc hk h = IsLevel-inserted c k (others c es) hc hk (gone c es) (IsLevel-others c es h)

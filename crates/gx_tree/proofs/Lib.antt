@@ -6,3 +6,6 @@ pub mod Below
 pub mod Copies
 pub mod EditLaws
 pub mod EditSteps
+pub mod Listed
+pub mod NamedFiles
+pub mod Measures

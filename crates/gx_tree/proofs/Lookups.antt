@@ -149,7 +149,7 @@ module _ {X : Type 0} where
   put_later k q x e es fs g ih =
       ap (cond (same_path q e.0) (Some e.1)) ih
       ∙ swapped (same_path q e.0) (same_path q k) (Some e.1) (Some x) (file_at es q)
-        (λ a b. let s : k ≡ e.0 = sym (path_is q k b) ∙ path_is q e.0 a in let t = sym g ∙ ap (λ z. path_cmp z e.0) s ∙ tied_itself path_order e.0 in cc)
+      (λ a b. let s : k ≡ e.0 = sym (path_is q k b) ∙ path_is q e.0 a in let t = sym g ∙ ap (λ z. path_cmp z e.0) s ∙ tied_itself path_order e.0 in cc)
 
   pub file_at-put : (k q : Path) (x : X) (es : List (Path × X)) → is_inner_path k ≡ true → AreInner es → file_at (put path_cmp k x es) q ≡ cond (same_path q k) (Some x) (file_at es q)
   file_at-put k q x [] h g = refl
@@ -181,6 +181,6 @@ module _ {X : Type 0} where
   pub no_root : (es : List (Path × X)) → AreInner es → file_at es [] ≡ None
   no_root [] h = refl
   no_root (e ∷ es) h = elim e.0 as (λ p. is_inner_path p ≡ true → cond (same_path [] p) (Some e.1) (file_at es []) ≡ None) [
-      | [] ↦ λ n. absurd (false≢true n)
-      | c ∷ p ↦ λ n. no_root es (and_parts _ _ h).1
-    ] (and_parts _ _ h).0
+    | [] ↦ λ n. absurd (false≢true n)
+    | c ∷ p ↦ λ n. no_root es (and_parts _ _ h).1
+  ] (and_parts _ _ h).0

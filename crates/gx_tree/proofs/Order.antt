@@ -156,10 +156,10 @@ pub paths_equal : (p q : Path) → is_inner_path p ≡ true → is_inner_path q 
 paths_equal [] q f g e = absurd (false≢true f)
 paths_equal (c ∷ p) [] f g e = absurd (false≢true g)
 paths_equal (c ∷ p) (d ∷ q) f g e = elim (cases_bytes c d) [
-    | inl s ↦ equal_below c d p q s (paths_equal p q) f g (ap (λ z. path_cmp (z ∷ p) (d ∷ q)) (sym s) ∙ e)
-    | inr n ↦
-        let m = differ_from c d n in
-        let a = (and_parts _ _ f).0 in
-        let b = (and_parts _ _ g).0 in
-        absurd (first_texts_differ c d p q a b m (texts_equal (first_text c p) (first_text d q) (sym (cmp_other c d p q a b m) ∙ e)))
-  ]
+  | inl s ↦ equal_below c d p q s (paths_equal p q) f g (ap (λ z. path_cmp (z ∷ p) (d ∷ q)) (sym s) ∙ e)
+  | inr n ↦
+      let m = differ_from c d n in
+      let a = (and_parts _ _ f).0 in
+      let b = (and_parts _ _ g).0 in
+      absurd (first_texts_differ c d p q a b m (texts_equal (first_text c p) (first_text d q) (sym (cmp_other c d p q a b m) ∙ e)))
+]

@@ -4,7 +4,7 @@ use Rattle.gx_model.specs.Texts.{Bytes}
 use Rattle.gx_model.specs.Paths.{Path}
 use Rattle.gx_model.specs.Files.{FileMap}
 use Rattle.gx_model.specs.declared.objects.Mode.{Mode}
-use Rattle.gx_tree.specs.declared.stand_in.Name.{Name}
+use Rattle.gx_object.specs.declared.name.Name.{Name}
 
 -- a listed file, as an entry of a file map
 abbrev pub listed : Path × Mode × Name → Path × (Mode × Bytes)

@@ -10,8 +10,8 @@ ghost use Rattle.gx_tree.specs.Standings.{standing_of, standing_at};
 ghost use Rattle.gx_tree.specs.Steps.{files_of, replaced};
 
 use crate::path_tree::Found;
-use crate::stand_in::{Name, TreePath};
-use gx_model::Mode;
+use gx_object::{Mode, Name};
+use gx_text::TreePath;
 use std::alloc::{AllocError, Allocator};
 use std::cmp::Ordering;
 use std::marker::Model;
@@ -157,7 +157,10 @@ impl<A: Allocator + Copy> Entry<A> {
 }
 
 /// What stands at a component.
-pub(crate) fn find<'a, A: Allocator + Copy>(entries: &'a [Entry<A>], component: &[u8]) -> Option<&'a Item<A>>
+pub(crate) fn find<'a, A: Allocator + Copy>(
+    entries: &'a [Entry<A>],
+    component: &[u8],
+) -> Option<&'a Item<A>>
     ensures { kept_at component.now (seen_all entries.now) ≡ option_kept result }
 {
     for entry in entries {
@@ -169,7 +172,9 @@ pub(crate) fn find<'a, A: Allocator + Copy>(entries: &'a [Entry<A>], component: 
 }
 
 /// The directory that an item is, if it is one.
-pub(crate) fn folder_in<'a, A: Allocator + Copy>(item: Option<&'a Item<A>>) -> Option<&'a Directory<A>>
+pub(crate) fn folder_in<'a, A: Allocator + Copy>(
+    item: Option<&'a Item<A>>,
+) -> Option<&'a Directory<A>>
     ensures { files_of (option_kept item.entry) ≡ option_files result }
 {
     match item {
@@ -209,7 +214,11 @@ fn copied_others<A: Allocator + Copy>(
 }
 
 /// Copies of the entries, with `new` in place of what stood at its component.
-pub(crate) fn with_entry<A: Allocator + Copy>(alloc: A, entries: &[Entry<A>], new: Entry<A>) -> Result<Vec<Entry<A>, A>, AllocError>
+pub(crate) fn with_entry<A: Allocator + Copy>(
+    alloc: A,
+    entries: &[Entry<A>],
+    new: Entry<A>,
+) -> Result<Vec<Entry<A>, A>, AllocError>
     ensures { IfOk result (λ v. seen_all v.items ≡ with_kept (seen new).0 (seen new).1 (seen_all entries.now)) }
 {
     let mut copies = copied_others(alloc, entries, new.component.as_slice())?;

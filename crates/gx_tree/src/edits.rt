@@ -5,8 +5,8 @@ ghost use Rattle.gx_tree.specs.Steps.{with_file, kept_modified, kept_removed};
 ghost use Rattle.gx_tree.specs.Views.{kept, kept_if, option_kept};
 
 use crate::directory::{Directory, Entry, Item, find, folder_in, with_entry, with_item};
-use crate::stand_in::{Name, TreePath};
-use gx_model::Mode;
+use gx_object::{Mode, Name};
+use gx_text::TreePath;
 use std::alloc::{AllocError, Allocator};
 
 impl<A: Allocator + Copy> Directory<A> {
@@ -33,7 +33,12 @@ impl<A: Allocator + Copy> Directory<A> {
 
     /// The directory without what stands at or below the rest of the path.
     #[cycle(remove)]
-    pub(crate) fn removed(&self, alloc: A, path: &TreePath<A>, depth: usize) -> Result<Directory<A>, AllocError>
+    pub(crate) fn removed(
+        &self,
+        alloc: A,
+        path: &TreePath<A>,
+        depth: usize,
+    ) -> Result<Directory<A>, AllocError>
         requires { depth < length path.now }
         ensures { IfOk result (λ d. d ≡ removed self.now (drop depth path.now)) }
     {

@@ -7,8 +7,6 @@ mod edits;
 mod fault;
 mod listing;
 mod path_tree;
-mod stand_in;
 
 pub use fault::TreeFault;
 pub use path_tree::{Found, PathTree};
-pub use stand_in::{Name, TreePath};

@@ -1,12 +1,12 @@
 //! The list of a directory's files.
-ghost use Rattle.std.specs.Prelude.{◌≡◌, ◌++◌, map, OnOk, IsTrue};
+ghost use Rattle.std.specs.Prelude.{◌≡◌, ◌++◌, ◌∷◌, [], map, OnOk, IfOk, IsTrue};
 ghost use Rattle.std.specs.List.{list_all};
-ghost use Rattle.gx_model.specs.Paths.{is_short};
+ghost use Rattle.gx_model.specs.Paths.{is_component, is_short};
 ghost use Rattle.gx_tree.specs.Lists.{below, listed};
 
 use crate::directory::{Directory, Item};
-use crate::stand_in::{Name, TreePath};
-use gx_model::Mode;
+use gx_object::{Mode, Name};
+use gx_text::{TextFault, TreePath};
 use std::alloc::{AllocError, Allocator};
 
 impl<A: Allocator + Copy> Directory<A> {
@@ -21,12 +21,36 @@ impl<A: Allocator + Copy> Directory<A> {
         ensures { OnOk result (map listed out.new.items ≡ map listed out.old.items ++ below front.now self.now) }
     {
         for entry in &self.entries {
-            let path = front.joined(alloc, entry.component.as_slice())?;
+            let path = child(alloc, front, entry.component.as_slice())?;
             match &entry.item {
                 Item::File(mode, name) => out.push((path, *mode, *name))?,
                 Item::Folder(below) => below.list_into(alloc, &path, out)?,
             }
         }
         Ok(())
+    }
+}
+
+// The path with one more component.
+fn child<A: Allocator + Copy>(
+    alloc: A,
+    front: &TreePath<A>,
+    component: &[u8],
+) -> Result<TreePath<A>, AllocError>
+    requires component { IsTrue (is_component component.now) }
+    requires short { IsTrue (is_short (front.now ++ component.now ∷ [])) }
+    ensures { IfOk result (λ path. path ≡ front.now ++ component.now ∷ []) }
+{
+    let mut text = Vec::from_slice(alloc, front.joined())?;
+    if front.len() > 0 {
+        text.push(b'/')?;
+    }
+    text.extend_from_slice(component)?;
+    match TreePath::read(alloc, &text) {
+        Ok(path) => Ok(path),
+        Err(fault) => match fault {
+            TextFault::OutOfMemory => Err(AllocError),
+            _ => unreachable!(),
+        },
     }
 }

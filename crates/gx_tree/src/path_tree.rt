@@ -1,8 +1,9 @@
 //! Trees of files by their paths.
-ghost use Rattle.std.specs.Prelude.{◌≡◌, ◌≢◌, [], map, Ok, OnErr};
+ghost use Rattle.std.specs.Prelude.{◌≡◌, ◌≢◌, [], length, map, Ok, OnErr, IsTrue};
 ghost use Rattle.std.specs.Option.{option_map};
 ghost use Rattle.gx_model.specs.Edits.{modified, removed};
 ghost use Rattle.gx_model.specs.Faults.{Gives};
+ghost use Rattle.gx_model.specs.Objects.{is_name};
 ghost use Rattle.gx_tree.specs.Faults.{fault_of};
 ghost use Rattle.gx_tree.specs.Lists.{listed};
 ghost use Rattle.gx_tree.specs.NameMaps.{IsNameMap};
@@ -11,8 +12,8 @@ ghost use Rattle.gx_model.specs.declared.objects.Mode.TheVariants as modes;
 
 use crate::directory::Directory;
 use crate::fault::TreeFault;
-use crate::stand_in::{Name, TreePath};
-use gx_model::Mode;
+use gx_object::{Mode, Name};
+use gx_text::TreePath;
 use std::alloc::Allocator;
 use std::marker::Model;
 
@@ -58,7 +59,7 @@ impl<A: Allocator + Copy> PathTree<A> {
     pub fn clear(&mut self)
         ensures { self.new ≡ [] }
     {
-        *self = PathTree::empty(self.alloc);
+        self.root = Directory::new(self.alloc);
     }
 
     /// Each tree is a file map of files' modes and names. Takes no memory.
@@ -88,7 +89,8 @@ impl<A: Allocator + Copy> PathTree<A> {
         ensures { Gives fault_of (λ files. map listed files.items) result (Ok self.now) }
     {
         let mut files = Vec::new(self.alloc);
-        self.root.list_into(self.alloc, &TreePath::root(self.alloc), &mut files)?;
+        self.root
+            .list_into(self.alloc, &TreePath::root(self.alloc), &mut files)?;
         Ok(files)
     }
 
@@ -100,6 +102,7 @@ impl<A: Allocator + Copy> PathTree<A> {
         if path.len() == 0 {
             return Err(TreeFault::RootNotTree);
         }
+        is_name(name.bytes.as_slice());
         self.root = self.root.modified(self.alloc, path, 0, mode, name)?;
         Ok(())
     }
@@ -116,3 +119,9 @@ impl<A: Allocator + Copy> PathTree<A> {
         Ok(())
     }
 }
+
+// 20 bytes are a name.
+fn is_name(bytes: &[u8])
+    requires { length bytes.now ≡ 20 }
+    ensures { IsTrue (is_name bytes.now) }
+{}

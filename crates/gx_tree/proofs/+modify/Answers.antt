@@ -1,4 +1,5 @@
 use Rattle.std.proofs.Common.{◌≡◌, ℕ, ◌+◌, drop, refl, sym, ap, ◌∙◌, arith}
+use Rattle.std.proofs.lemmas.Bool.{and_parts}
 use Rattle.gx_tree.proofs.Below.{no_root_before}
 use Rattle.gx_tree.proofs.EditSteps.{modified_step, kept_modified_folder}
 use Rattle.gx_tree.specs.Views.{option_kept, seen_all}
@@ -8,11 +9,11 @@ use Rattle.gx_tree.proofs.+modify.Goals.{edits::item_modified-in-Some+in_ok-belo
 
 pub directory::Directory::modified-returns : goal.directory::Directory::modified-returns
 directory::Directory::modified-returns g t c =
-    (modified_step c.args.path.now c.args.depth (seen_all c.self.inside.entries.items) (seen_all c.in_ok-entries.entries.items) (c.args.mode, c.args.name.bytes) (option_kept c.find-old.result) c.requires c.component-component.ensures.components c.self.view_is c.self.invariant c.component-component.ensures.value c.in_ok-component.ensures.items (ap seen_all c.deref.ensures.value) (ap seen_all c.deref-2.ensures.value) c.find-old.ensures c.in_ok-item.ensures c.in_ok-entries.ensures).is
+    (modified_step c.args.path.now c.args.depth (seen_all c.self.inside.entries.items) (seen_all c.in_ok-entries.entries.items) (c.args.mode, c.args.name.bytes) (option_kept c.find-old.result) c.requires (and_parts _ _ c.component-component.ensures.path).0 c.self.view_is c.self.invariant c.component-component.ensures.component c.in_ok-component.ensures.items (ap seen_all c.deref.ensures.value) (ap seen_all c.deref-2.ensures.value) c.find-old.ensures c.in_ok-item.ensures c.in_ok-entries.ensures).is
 
 pub directory::Directory::modified-invariant_of-result : goal.directory::Directory::modified-invariant_of-result
 directory::Directory::modified-invariant_of-result g t c =
-    (modified_step c.args.path.now c.args.depth (seen_all c.self.inside.entries.items) (seen_all c.in_ok-entries.entries.items) (c.args.mode, c.args.name.bytes) (option_kept c.find-old.result) c.requires c.component-component.ensures.components c.self.view_is c.self.invariant c.component-component.ensures.value c.in_ok-component.ensures.items (ap seen_all c.deref.ensures.value) (ap seen_all c.deref-2.ensures.value) c.find-old.ensures c.in_ok-item.ensures c.in_ok-entries.ensures).level
+    (modified_step c.args.path.now c.args.depth (seen_all c.self.inside.entries.items) (seen_all c.in_ok-entries.entries.items) (c.args.mode, c.args.name.bytes) (option_kept c.find-old.result) c.requires (and_parts _ _ c.component-component.ensures.path).0 c.self.view_is c.self.invariant c.component-component.ensures.component c.in_ok-component.ensures.items (ap seen_all c.deref.ensures.value) (ap seen_all c.deref-2.ensures.value) c.find-old.ensures c.in_ok-item.ensures c.in_ok-entries.ensures).level
 
 pub edits::item_modified-returns : goal.edits::item_modified-returns
 edits::item_modified-returns g t c =

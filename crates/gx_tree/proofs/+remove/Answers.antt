@@ -4,17 +4,18 @@ use Rattle.gx_model.specs.Edits.{removed}
 use Rattle.gx_tree.specs.Nodes.{folder}
 use Rattle.gx_tree.specs.Steps.{kept_removed}
 use Rattle.gx_tree.specs.Views.{kept, kept_if, option_kept, seen_all}
+use Rattle.std.proofs.lemmas.Bool.{and_parts}
 use Rattle.gx_tree.proofs.Below.{no_root_before}
 use Rattle.gx_tree.proofs.EditSteps.{removed_step, kept_removed_file, kept_removed_folder, kept_removed_none}
 use Rattle.gx_tree.proofs.+remove.Goals as goal
 
 pub directory::Directory::removed-returns : goal.directory::Directory::removed-returns
 directory::Directory::removed-returns g t c =
-    (removed_step c.args.path.now c.args.depth (seen_all c.self.inside.entries.items) (seen_all c.in_ok-entries.entries.items) (option_kept c.find-old.result) (kept_if c.in_ok-left.left) c.requires c.component-component.ensures.components c.self.view_is c.self.invariant c.component-component.ensures.value (ap seen_all c.deref.ensures.value) (ap seen_all c.deref-2.ensures.value) c.find-old.ensures c.in_ok-left.ensures c.in_ok-entries.ensures).is
+    (removed_step c.args.path.now c.args.depth (seen_all c.self.inside.entries.items) (seen_all c.in_ok-entries.entries.items) (option_kept c.find-old.result) (kept_if c.in_ok-left.left) c.requires (and_parts _ _ c.component-component.ensures.path).0 c.self.view_is c.self.invariant c.component-component.ensures.component (ap seen_all c.deref.ensures.value) (ap seen_all c.deref-2.ensures.value) c.find-old.ensures c.in_ok-left.ensures c.in_ok-entries.ensures).is
 
 pub directory::Directory::removed-invariant_of-result : goal.directory::Directory::removed-invariant_of-result
 directory::Directory::removed-invariant_of-result g t c =
-    (removed_step c.args.path.now c.args.depth (seen_all c.self.inside.entries.items) (seen_all c.in_ok-entries.entries.items) (option_kept c.find-old.result) (kept_if c.in_ok-left.left) c.requires c.component-component.ensures.components c.self.view_is c.self.invariant c.component-component.ensures.value (ap seen_all c.deref.ensures.value) (ap seen_all c.deref-2.ensures.value) c.find-old.ensures c.in_ok-left.ensures c.in_ok-entries.ensures).level
+    (removed_step c.args.path.now c.args.depth (seen_all c.self.inside.entries.items) (seen_all c.in_ok-entries.entries.items) (option_kept c.find-old.result) (kept_if c.in_ok-left.left) c.requires (and_parts _ _ c.component-component.ensures.path).0 c.self.view_is c.self.invariant c.component-component.ensures.component (ap seen_all c.deref.ensures.value) (ap seen_all c.deref-2.ensures.value) c.find-old.ensures c.in_ok-left.ensures c.in_ok-entries.ensures).level
 
 pub edits::item_removed-returns-in-File : goal.edits::item_removed-returns-in-File
 edits::item_removed-returns-in-File g t c =

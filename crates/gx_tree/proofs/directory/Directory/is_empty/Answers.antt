@@ -9,6 +9,7 @@ pub returns : goal.returns
 returns g c =
     let es = c.self.inside.entries.items in
     let ok = c.self.inside.entries.ok in
-    let e = c.is_empty.ensures in
-    ( (λ t. sym c.self.view_is ∙ no_entries (seen_all es) (length-map es seen ∙ sym ok.0 ∙ eqb-true _ _ (sym e ∙ t)))
-    , (λ z. e ∙ eq-eqb _ _ (ok.0 ∙ sym (length-map es seen) ∙ no_files (seen_all es) c.self.invariant (c.self.view_is ∙ z))) )
+    let e = c.is_empty.ensures in (
+      (λ t. sym c.self.view_is ∙ no_entries (seen_all es) (length-map es seen ∙ sym ok.0 ∙ eqb-true _ _ (sym e ∙ t))),
+      (λ z. e ∙ eq-eqb _ _ (ok.0 ∙ sym (length-map es seen) ∙ no_files (seen_all es) c.self.invariant (c.self.view_is ∙ z))),
+    )

@@ -1,0 +1,24 @@
+-- A directory below another has fewer components.
+use Rattle.std.proofs.Common.{◌≡◌, ℕ, ◌+◌, ◌<◌, ◌≤◌, zero, suc, List, [], ◌∷◌, ◌++◌, length, get_or, refl, sym, ap, ◌∙◌, arith, subst}
+use Rattle.gx_model.specs.Files.{FileMap}
+use Rattle.gx_model.specs.Texts.{Bytes}
+use Rattle.gx_model.specs.HistoryOf.{placed}
+use Rattle.gx_tree.specs.Nodes.{IsKept, IsLevel, components, files, folder, kept_map}
+use Rattle.gx_tree.specs.Falls.{components-append, components-placed, some_length}
+use Rattle.gx_tree.specs.Views.{kept, seen_all}
+use Rattle.gx_tree.specs.declared.directory.Entry.{Entry}
+
+folder_at : {A : Type 0} (es : List (Entry A)) (i : ℕ) (d : Entry A) (f : FileMap Bytes) → IsLevel (seen_all es) → i < length es → kept (get_or es i d).item ≡ folder f → components f < components (files (seen_all es))
+folder_at [] i d f h l e = absurd (omega arith)
+folder_at (x ∷ es) zero d f h l e =
+    let k : IsKept (folder f) = subst IsKept e h.1 in
+    let same : components (placed x.component.items (kept_map (kept x.item))) ≡ components (placed x.component.items f) = ap (λ z. components (placed x.component.items (kept_map z))) e in
+    omega (arith, components-append (placed x.component.items (kept_map (kept x.item))) (files (seen_all es)), same, components-placed x.component.items f, some_length f k.0)
+folder_at (x ∷ es) (suc i) d f h l e = omega (arith, folder_at es i d f h.3 (omega arith) e, components-append (placed x.component.items (kept_map (kept x.item))) (files (seen_all es)))
+
+-- the entry at i, read as r
+pub folder_less : {A : Type 0} {f : FileMap Bytes} (es xs : List (Entry A)) (i : ℕ) (r : Entry A) (g b : FileMap Bytes) → i < length xs → r ≡ get_or xs i r → xs ≡ es → files (seen_all es) ≡ f → IsLevel (seen_all es) → kept r.item ≡ folder g → b ≡ g → components b < components f
+folder_less es xs i r g b l ir ex view h ek eb =
+    let k : kept (get_or xs i r).item ≡ folder g = ap (λ z. kept z.item) (sym ir) ∙ ek in
+    let a = folder_at xs i r g (subst (λ z. IsLevel (seen_all z)) (sym ex) h) l k in
+    omega (arith, a, ap components eb, ap (λ z. components (files (seen_all z))) ex, ap components view)

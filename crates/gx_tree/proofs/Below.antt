@@ -1,15 +1,16 @@
 -- What stands at and below a path, by one directory's entries.
-use Rattle.std.proofs.Common.{◌≡◌, ◌≢◌, ℕ, ◌+◌, ◌<◌, zero, suc, Bool, true, false, cond, ◌&&◌, List, [], ◌∷◌, ◌++◌, map, length, get_or, drop, Option, Some, None, ◌⊎◌, inl, inr, refl, sym, ap, ◌∙◌, arith, add-one}
+use Rattle.std.proofs.Common.{◌≡◌, ◌≢◌, ℕ, ◌+◌, ◌<◌, zero, suc, true, false, cond, [], ◌∷◌, ◌++◌, map, length, get_or, drop, Option, Some, None, inl, inr, refl, sym, ap, ◌∙◌, arith, add-one}
 use Rattle.std.proofs.Math.Seq.{drop-cons}
-use Rattle.std.specs.List.{filter, AllByRecursion}
+use Rattle.std.specs.List.{AllByRecursion}
+use Rattle.std.proofs.lemmas.Bool.{false≢true, true≢false}
 use Rattle.std.proofs.lemmas.List.{append-nil, map-append}
 use Rattle.std.proofs.lemmas.List.Elements.{filter-append}
 use Rattle.gx_model.specs.Texts.{Bytes, same_bytes}
 use Rattle.gx_model.specs.Paths.{Path, begins, same_path}
-use Rattle.gx_model.specs.Files.{FileMap, Leaf, file_at, sub_map, under}
+use Rattle.gx_model.specs.Files.{FileMap, file_at, sub_map, under}
 use Rattle.gx_model.specs.HistoryOf.{placed}
 use Rattle.gx_model.specs.Edits.{is_root}
-use Rattle.gx_tree.specs.Nodes.{Kept, Level, IsAfter, IsKept, IsLevel, file, files, folder, kept_at, kept_map}
+use Rattle.gx_tree.specs.Nodes.{Kept, Level, IsAfter, IsKeptAt, IsLevel, file, files, folder, kept_at, kept_map, map_if}
 use Rattle.gx_tree.specs.Steps.{files_of}
 use Rattle.gx_tree.specs.Standings.{Standing, a_directory, a_file, standing_at, standing_by}
 use Rattle.gx_tree.proofs.Lookups.{either, either_none, file_at-append, no_root}
@@ -47,11 +48,6 @@ file_at-placed c p (e ∷ f) = rw (same_itself c) (ap (cond (same_path p e.0) (S
 pub file_at-other : (c d : Bytes) (p : Path) (f : FileMap Bytes) → same_bytes c d ≡ false → file_at (placed d f) (c ∷ p) ≡ None
 file_at-other c d p [] n = refl
 file_at-other c d p (e ∷ f) n = rw n (file_at-other c d p f n)
-
--- the files of what may be kept
-abbrev pub map_if : Option Kept → FileMap Bytes
-map_if None = []
-map_if (Some k) = kept_map k
 
 -- an entry's component stands once
 pub no_more : (c : Bytes) (k : Kept) (es : Level) → AllByRecursion (IsAfter (c, k)) es → kept_at c es ≡ None
@@ -92,10 +88,6 @@ sub_map-files c p (e ∷ es) h = elim (cases_bytes c e.0) [
       ∙ rw (sub_map-placed c p (kept_map e.1), sub_map_none c p es (ap (λ z. kept_at z es) s ∙ no_more e.0 e.1 es h.2)) (append-nil (sub_map (kept_map e.1) p)))
   | inr n ↦ sub_map-append (c ∷ p) (placed e.0 (kept_map e.1)) (files es) ∙ rw (sub_map-other c e.0 p (kept_map e.1) n, n) (sub_map-files c p es h.3)
 ]
-
-abbrev pub IsKeptAt : Option Kept → Type 0
-IsKeptAt None = Unit {0}
-IsKeptAt (Some k) = IsKept k
 
 pub IsKeptAt-kept_at : (c : Bytes) (es : Level) → IsLevel es → IsKeptAt (kept_at c es)
 IsKeptAt-kept_at c [] h = tt
@@ -145,3 +137,35 @@ no_root_before (c ∷ p) (suc i) l = no_root_before p i (omega arith)
 pub standing_step : {f : FileMap Bytes} {c : Bytes} {xs : Level} (p : Path) (i : ℕ) (es : Level) → i < length p → files es ≡ f → IsLevel es → c ≡ get_or p i [] → xs ≡ es → (o : Option Kept) → kept_at c xs ≡ o → standing_kept (drop (i + 1) p) o ≡ standing_at f (drop i p)
 standing_step {f} {c} {xs} p i es l view level ec ex o e =
     rw (at_component p i l ec, ← view, ← e, ex) (sym (standing_files c (drop (i + 1) p) es level))
+
+-- ---- what a copy takes
+
+-- what stands at the path, by what is kept at its first component
+pub taken_step : {f : FileMap Bytes} {c : Bytes} {xs : Level} (p : Path) (i : ℕ) (es : Level) (o : Option Kept) → i < length p → files es ≡ f → IsLevel es → c ≡ get_or p i [] → xs ≡ es → kept_at c xs ≡ o → sub_map f (drop i p) ≡ sub_map (map_if o) (drop (i + 1) p)
+taken_step {f} {c} {xs} p i es o l view level ec ex eo =
+    let old : kept_at c es ≡ o = ap (kept_at c) (sym ex) ∙ eo in
+    rw (at_component p i l ec, ← view, ← old) (sub_map-files c (drop (i + 1) p) es level)
+
+root_is : (p : Path) → is_root p ≡ true → p ≡ []
+root_is [] h = refl
+root_is (c ∷ p) h = absurd (false≢true h)
+
+pub taken_end : {f : FileMap Bytes} {c : Bytes} {xs : Level} (p : Path) (i : ℕ) (es : Level) (o : Option Kept) → i + 1 ≡ length p → files es ≡ f → IsLevel es → c ≡ get_or p i [] → xs ≡ es → kept_at c xs ≡ o → sub_map f (drop i p) ≡ map_if o
+taken_end p i es o l view level ec ex eo =
+    taken_step p i es o (omega arith) view level ec ex eo ∙ ap (sub_map (map_if o)) (root_is (drop (i + 1) p) (root_at_end p i l)) ∙ sub_map-whole (map_if o)
+
+below_file : (p : Path) (o : Option Kept) → is_root p ≡ false → sub_map (map_if o) p ≡ sub_map (files_of o) p
+below_file [] o h = absurd (true≢false h)
+below_file (c ∷ p) None h = refl
+below_file (c ∷ p) (Some (file x)) h = refl
+below_file (c ∷ p) (Some (folder f)) h = refl
+
+pub taken_further : {f : FileMap Bytes} {c : Bytes} {xs : Level} (p : Path) (i : ℕ) (es : Level) (o : Option Kept) → i + 1 < length p → files es ≡ f → IsLevel es → c ≡ get_or p i [] → xs ≡ es → kept_at c xs ≡ o → sub_map f (drop i p) ≡ sub_map (files_of o) (drop (i + 1) p)
+taken_further p i es o l view level ec ex eo = taken_step p i es o (omega arith) view level ec ex eo ∙ below_file (drop (i + 1) p) o (no_root_before p (i + 1) l)
+
+pub kept_step : {xs : Level} (c : Bytes) (es : Level) (o : Option Kept) → IsLevel es → xs ≡ es → kept_at c xs ≡ o → IsKeptAt o
+kept_step c es o level ex eo = rw (← eo, ex) (IsKeptAt-kept_at c es level)
+
+pub sub_map-none : (p : Path) (f : FileMap Bytes) → length p ≡ 0 → sub_map f p ≡ f
+sub_map-none [] f l = sub_map-whole f
+sub_map-none (c ∷ p) f l = absurd (omega arith)

@@ -1,10 +1,10 @@
 -- Going over a directory's entries: a step of each loop.
-use Rattle.std.proofs.Common.{◌≡◌, ℕ, ◌+◌, ◌<◌, ◌≤◌, Bool, true, false, cond, not, List, [], ◌∷◌, ◌++◌, map, length, get_or, drop, take, refl, sym, ap, ◌∙◌, append_assoc}
-use Rattle.std.proofs.lemmas.List.{append-nil, drop_all, drop_more, map-append, map_more}
+use Rattle.std.proofs.Common.{◌≡◌, ℕ, ◌+◌, ◌<◌, Bool, true, false, not, List, [], ◌∷◌, ◌++◌, length, get_or, drop, take, refl, sym, ap, ◌∙◌, append_assoc}
+use Rattle.std.proofs.lemmas.List.{drop_more, map-append, map_more}
 use Rattle.std.proofs.lemmas.Bool.{not-true, not-false}
 use Rattle.std.specs.List.{insert}
 use Rattle.gx_model.specs.Texts.{Bytes, same_bytes}
-use Rattle.gx_tree.specs.Nodes.{Kept, Level, comes_before, inserted, others, with_kept}
+use Rattle.gx_tree.specs.Nodes.{Kept, comes_before, inserted, others, with_kept}
 use Rattle.gx_tree.specs.Views.{kept, seen, seen_all}
 use Rattle.gx_tree.specs.declared.directory.Entry.{Entry}
 

@@ -1,19 +1,17 @@
 -- The edits of a file map, by one directory's entries.
-use Rattle.std.proofs.Common.{◌≡◌, ◌≢◌, Bool, true, false, cond, not, ◌&&◌, ◌||◌, List, [], ◌∷◌, ◌++◌, Option, Some, None, ◌⊎◌, inl, inr, refl, sym, ap, ◌∙◌}
-use Rattle.std.specs.List.{filter, list_all}
+use Rattle.std.proofs.Common.{◌≡◌, ◌≢◌, Bool, true, false, cond, not, [], ◌∷◌, Option, Some, None, inl, inr, refl, sym, ap, ◌∙◌}
 use Rattle.std.specs.declared.cmp.Ordering.TheVariants.{Less, Equal, Greater}
 use Rattle.std.specs.FinMap.Entries.{by_order, put}
-use Rattle.std.proofs.lemmas.Bool.{and_parts}
 use Rattle.gx_model.specs.Texts.{Bytes, same_bytes}
-use Rattle.gx_model.specs.Paths.{Path, are_in_line, begins, is_component, path_cmp, same_path}
+use Rattle.gx_model.specs.Paths.{Path, are_in_line, begins, is_component, path_cmp}
 use Rattle.gx_model.specs.Files.{FileMap, Leaf, file_at}
-use Rattle.gx_model.specs.Edits.{removed, without_line}
-use Rattle.gx_tree.specs.Nodes.{Kept, Level, IsInner, IsKept, IsLevel, file, files, folder, is_inner_path, kept_at, kept_map, others, with_kept}
-use Rattle.gx_tree.specs.Steps.{files_of, folder_if_any, kept_modified, kept_removed, replaced, with_file}
-use Rattle.gx_tree.proofs.Texts.{bytes_same, cases_bytes, same_bytes_flip, same_itself}
-use Rattle.gx_tree.proofs.Lookups.{AreInner, all-filter, all-put, file_at-filter, file_at-put, no_root, same_maps, sorted-filter, sorted-put}
+use Rattle.gx_model.specs.Edits.{removed}
+use Rattle.gx_tree.specs.Nodes.{Kept, Level, IsInner, IsKeptAt, IsLevel, file, files, folder, is_inner_path, kept_at, map_if}
+use Rattle.gx_tree.specs.Steps.{files_of, folder_if_any, kept_removed, replaced}
+use Rattle.gx_tree.proofs.Texts.{bytes_same, cases_bytes, same_bytes_flip}
+use Rattle.gx_tree.proofs.Lookups.{all-filter, file_at-filter, no_root, same_maps, sorted-filter}
 use Rattle.gx_tree.proofs.Levels.{IsInner-files, IsLevel-others, IsLevel-with_kept, kept_at-others, kept_at-with_kept}
-use Rattle.gx_tree.proofs.Below.{IsKeptAt, IsKeptAt-kept_at, file_at-files, map_if}
+use Rattle.gx_tree.proofs.Below.{IsKeptAt-kept_at, file_at-files}
 
 abbrev pub is_beside : Path → Path → Bool
 is_beside p q = not (are_in_line p q)
@@ -21,19 +19,6 @@ is_beside p q = not (are_in_line p q)
 pub cond_none : {X : Type 0} (b : Bool) → ◌≡◌ {A = Option X} (cond b None None) None
 cond_none true = refl
 cond_none false = refl
-
--- ---- a file at a path
-
-pub file_at-with_file : (p q : Path) (x : Leaf Bytes) (f : FileMap Bytes) → is_inner_path p ≡ true → AreInner f → file_at (with_file p x f) q ≡ cond (same_path q p) (Some x) (cond (is_beside p q) (file_at f q) None)
-file_at-with_file p q x f hp h =
-    file_at-put p q x (without_line p f) hp (all-filter (λ e. is_inner_path e.0) (λ e. is_beside p e.0) f h)
-    ∙ ap (cond (same_path q p) (Some x)) (file_at-filter (is_beside p) q f)
-
-pub IsInner-with_file : (p : Path) (x : Leaf Bytes) (f : FileMap Bytes) → is_inner_path p ≡ true → IsInner f → IsInner (with_file p x f)
-IsInner-with_file p x f hp h = record {
-  paths = all-put is_inner_path p x (without_line p f) hp (all-filter (λ e. is_inner_path e.0) (λ e. is_beside p e.0) f h.paths);
-  sorted = sorted-put p x (without_line p f) (sorted-filter (is_beside p) f h.sorted);
-}
 
 pub put_some : (p : Path) (x : Leaf Bytes) (f : FileMap Bytes) → put path_cmp p x f ≢ []
 put_some p x [] = λ e. cc
@@ -44,47 +29,12 @@ IsInner-files_of None h = record { paths = refl; sorted = refl }
 IsInner-files_of (Some (file x)) h = record { paths = refl; sorted = refl }
 IsInner-files_of (Some (folder f)) h = h.1
 
-pub IsKept-modified : (p : Path) (x : Leaf Bytes) (o : Option Kept) → list_all is_component p ≡ true → IsKeptAt o → IsKept (kept_modified p x o)
-IsKept-modified [] x o hp h = tt
-IsKept-modified (d ∷ p) x o hp h = (put_some (d ∷ p) x (without_line (d ∷ p) (files_of o)), IsInner-with_file (d ∷ p) x (files_of o) hp (IsInner-files_of o h))
-
--- what stands below the component afterwards
-modified_below : (p q : Path) (x : Leaf Bytes) (o : Option Kept) → list_all is_component p ≡ true → IsKeptAt o → cond (same_path q p) (Some x) (cond (is_beside p q) (file_at (map_if o) q) None) ≡ file_at (kept_map (kept_modified p x o)) q
-modified_below [] [] x o hp h = refl
-modified_below [] (e ∷ q) x o hp h = refl
-modified_below (d ∷ p) q x None hp h = sym (file_at-with_file (d ∷ p) q x [] hp refl)
-modified_below (d ∷ p) [] x (Some (file y)) hp h = sym (file_at-with_file (d ∷ p) [] x [] hp refl)
-modified_below (d ∷ p) (e ∷ q) x (Some (file y)) hp h = sym (file_at-with_file (d ∷ p) (e ∷ q) x [] hp refl)
-modified_below (d ∷ p) q x (Some (folder f)) hp h = sym (file_at-with_file (d ∷ p) q x f hp h.1.paths)
-
-modified_at : (c d : Bytes) (p q : Path) (x : Leaf Bytes) (es : Level) → is_inner_path (c ∷ p) ≡ true → IsLevel es → IsLevel (with_kept c (kept_modified p x (kept_at c es)) es) → file_at (with_file (c ∷ p) x (files es)) (d ∷ q) ≡ file_at (files (with_kept c (kept_modified p x (kept_at c es)) es)) (d ∷ q)
-modified_at c d p q x es hp h g = elim (cases_bytes d c) [
-  | inl s ↦
-      let a = bytes_same d c s in let b = bytes_same c d (sym s) in
-      rw (file_at-with_file (c ∷ p) (d ∷ q) x (files es) hp (IsInner-files es h).paths, file_at-files d q es h, file_at-files d q _ g, kept_at-with_kept c d (kept_modified p x (kept_at c es)) es, a, b)
-      (ap (λ o. cond (same_path q p) (Some x) (cond (is_beside p q) (file_at (map_if o) q) None)) (ap (λ y. kept_at y es) s)
-      ∙ modified_below p q x (kept_at c es) (and_parts _ _ hp).1 (IsKeptAt-kept_at c es h))
-  | inr n ↦
-      let m : same_bytes c d ≡ false = same_bytes_flip c d ∙ n in
-      rw (file_at-with_file (c ∷ p) (d ∷ q) x (files es) hp (IsInner-files es h).paths, file_at-files d q es h, file_at-files d q _ g, kept_at-with_kept c d (kept_modified p x (kept_at c es)) es, n, m) refl
-]
-
-pub IsLevel-modified : (c : Bytes) (p : Path) (x : Leaf Bytes) (es : Level) → is_inner_path (c ∷ p) ≡ true → IsLevel es → IsLevel (with_kept c (kept_modified p x (kept_at c es)) es)
-IsLevel-modified c p x es hp h = IsLevel-with_kept c (kept_modified p x (kept_at c es)) es (and_parts _ _ hp).0 (IsKept-modified p x (kept_at c es) (and_parts _ _ hp).1 (IsKeptAt-kept_at c es h)) h
-
 -- maps that answer alike at each path but the root, where both have none, are equal
 pub same_files : (f g : FileMap Bytes) → IsInner f → IsInner g → ((c : Bytes) (p : Path) → file_at f (c ∷ p) ≡ file_at g (c ∷ p)) → f ≡ g
 same_files f g hf hg same = same_maps f g hf.sorted hg.sorted (λ q. elim q as (λ q. file_at f q ≡ file_at g q) [
   | [] ↦ no_root f hf.paths ∙ sym (no_root g hg.paths)
   | c ∷ p ↦ same c p
 ])
-
--- a file at a path is one at the rest of the path, below its first component
-pub modified_files : (c : Bytes) (p : Path) (x : Leaf Bytes) (es : Level) → is_inner_path (c ∷ p) ≡ true → IsLevel es → with_file (c ∷ p) x (files es) ≡ files (with_kept c (kept_modified p x (kept_at c es)) es)
-modified_files c p x es hp h =
-    let g = IsLevel-modified c p x es hp h in
-    same_files (with_file (c ∷ p) x (files es)) (files (with_kept c (kept_modified p x (kept_at c es)) es))
-    (IsInner-with_file (c ∷ p) x (files es) hp (IsInner-files es h)) (IsInner-files (with_kept c (kept_modified p x (kept_at c es)) es) g) (λ d q. modified_at c d p q x es hp h g)
 
 -- ---- without what stands at or below a path
 

@@ -1,5 +1,5 @@
 -- A step of an edit, at the component at i of the path.
-use Rattle.std.proofs.Common.{◌≡◌, ◌≢◌, ℕ, ◌+◌, ◌<◌, zero, suc, true, false, List, [], ◌∷◌, ◌++◌, length, get_or, drop, map, Option, Some, None, refl, sym, ap, ◌∙◌, arith, subst}
+use Rattle.std.proofs.Common.{◌≡◌, ◌≢◌, ℕ, ◌+◌, ◌<◌, zero, suc, true, false, [], ◌∷◌, ◌++◌, length, get_or, drop, Option, Some, None, refl, sym, ap, ◌∙◌, arith, subst}
 use Rattle.std.specs.List.{list_all}
 use Rattle.std.proofs.lemmas.Bool.{and_parts, true≢false}
 use Rattle.gx_model.specs.Texts.{Bytes}
@@ -8,9 +8,10 @@ use Rattle.gx_model.specs.Files.{FileMap, Leaf}
 use Rattle.gx_model.specs.HistoryOf.{placed}
 use Rattle.gx_model.specs.Edits.{is_root, removed}
 use Rattle.gx_tree.specs.Nodes.{Kept, Level, IsKept, IsLevel, file, files, folder, is_inner_path, kept_at, kept_map, with_kept}
-use Rattle.gx_tree.specs.Steps.{files_of, folder_if_any, kept_modified, kept_removed, replaced, with_file}
+use Rattle.gx_tree.specs.Steps.{files_of, folder_if_any, grafted, kept_grafted, kept_removed, replaced}
 use Rattle.gx_tree.proofs.Below.{at_component}
-use Rattle.gx_tree.proofs.EditLaws.{IsLevel-modified, IsLevel-removed, modified_files, removed_files}
+use Rattle.gx_tree.proofs.EditLaws.{IsLevel-removed, removed_files}
+use Rattle.gx_tree.proofs.Grafts.{IsLevel-grafted, grafted_files}
 
 components-drop : (p : Path) (i : ℕ) → list_all is_component p ≡ true → list_all is_component (drop i p) ≡ true
 components-drop p zero h = h
@@ -25,20 +26,24 @@ pub record Leaves (f : FileMap Bytes) (out : Level) : Type 0 where
   pub level : IsLevel out
   pub is : files out ≡ f
 
-pub modified_step : {f : FileMap Bytes} {c c' : Bytes} {xs ys : Level} {k : Kept} (p : Path) (i : ℕ) (es out : Level) (x : Leaf Bytes) (o : Option Kept) → i < length p → list_all is_component p ≡ true → files es ≡ f → IsLevel es → c ≡ get_or p i [] → c' ≡ c → xs ≡ es → ys ≡ es → kept_at c xs ≡ o → k ≡ kept_modified (drop (i + 1) p) x o → out ≡ with_kept c' k ys → Leaves (with_file (drop i p) x f) out
-modified_step {f} {c} {c'} {xs} {ys} {k} p i es out x o l hp view level ec ec' ex ey eo ek eout =
+pub grafted_step : {f : FileMap Bytes} {c c' : Bytes} {xs ys : Level} {k : Kept} (p : Path) (i : ℕ) (es out : Level) (j : Kept) (o : Option Kept) → i < length p → IsKept j → list_all is_component p ≡ true → files es ≡ f → IsLevel es → c ≡ get_or p i [] → c' ≡ c → xs ≡ es → ys ≡ es → kept_at c xs ≡ o → k ≡ kept_grafted (drop (i + 1) p) j o → out ≡ with_kept c' k ys → Leaves (grafted (drop i p) (kept_map j) f) out
+grafted_step {f} {c} {c'} {xs} {ys} {k} p i es out j o l hj hp view level ec ec' ex ey eo ek eout =
     let at = at_component p i l ec in
     let q = inner_at p i l ec hp in
     let old : kept_at c es ≡ o = ap (kept_at c) (sym ex) ∙ eo in
-    let new : out ≡ with_kept c (kept_modified (drop (i + 1) p) x (kept_at c es)) es = rw (eout, ec', ek, ey, old) refl in
+    let new : out ≡ with_kept c (kept_grafted (drop (i + 1) p) j (kept_at c es)) es = rw (eout, ec', ek, ey, old) refl in
     record {
-      level = rw new (IsLevel-modified c (drop (i + 1) p) x es q level);
-      is = rw (new, at, ← view) (sym (modified_files c (drop (i + 1) p) x es q level));
+      level = rw new (IsLevel-grafted c (drop (i + 1) p) j es q hj level);
+      is = rw (new, at, ← view) (sym (grafted_files c (drop (i + 1) p) j es q hj level));
     }
 
-pub kept_modified_folder : (q : Path) (x : Leaf Bytes) (o : Option Kept) → is_root q ≡ false → folder (with_file q x (files_of o)) ≡ kept_modified q x o
-kept_modified_folder [] x o h = absurd (true≢false h)
-kept_modified_folder (d ∷ q) x o h = refl
+pub kept_grafted_folder : (q : Path) (j : Kept) (o : Option Kept) → is_root q ≡ false → folder (grafted q (kept_map j) (files_of o)) ≡ kept_grafted q j o
+kept_grafted_folder [] j o h = absurd (true≢false h)
+kept_grafted_folder (d ∷ q) j o h = refl
+
+pub kept_grafted_here : (q : Path) (j : Kept) (o : Option Kept) → is_root q ≡ true → j ≡ kept_grafted q j o
+kept_grafted_here [] j o h = refl
+kept_grafted_here (d ∷ q) j o h = absurd (true≢false (sym h))
 
 pub removed_step : {f : FileMap Bytes} {c : Bytes} {xs ys : Level} (p : Path) (i : ℕ) (es out : Level) (o k : Option Kept) → i < length p → list_all is_component p ≡ true → files es ≡ f → IsLevel es → c ≡ get_or p i [] → xs ≡ es → ys ≡ es → kept_at c xs ≡ o → k ≡ kept_removed (drop (i + 1) p) o → out ≡ replaced c k ys → Leaves (removed f (drop i p)) out
 removed_step {f} {c} {xs} {ys} p i es out o k l hp view level ec ex ey eo ek eout =

@@ -5,7 +5,10 @@ pub mod Levels
 pub mod Below
 pub mod Copies
 pub mod EditLaws
+pub mod Grafts
 pub mod EditSteps
 pub mod Listed
 pub mod NamedFiles
 pub mod Measures
+pub mod CopyLaws
+pub mod Rooms

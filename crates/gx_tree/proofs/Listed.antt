@@ -1,8 +1,8 @@
 -- The list of a tree's files, made directory by directory.
-use Rattle.std.proofs.Common.{◌≡◌, ◌≢◌, ℕ, ◌+◌, ◌<◌, ◌≤◌, zero, suc, Bool, true, false, ◌&&◌, List, [], ◌∷◌, ◌++◌, map, length, get_or, drop, refl, sym, ap, ◌∙◌, arith, append_assoc, subst}
-use Rattle.std.specs.Prelude.{nat_le, Result, Ok}
+use Rattle.std.proofs.Common.{◌≡◌, ◌≢◌, ℕ, ◌+◌, ◌<◌, ◌≤◌, zero, suc, true, ◌&&◌, List, [], ◌∷◌, ◌++◌, map, length, get_or, drop, refl, sym, ap, ◌∙◌, arith, append_assoc, subst}
+use Rattle.std.specs.Prelude.{Result, Ok}
 use Rattle.std.specs.List.{list_all, AllByRecursion}
-use Rattle.std.proofs.lemmas.List.{append-nil, length-append, length-map, map-append, get_or-map}
+use Rattle.std.proofs.lemmas.List.{length-append, length-map, map-append, get_or-map}
 use Rattle.std.proofs.lemmas.List.Folds.{list_all-append}
 use Rattle.std.proofs.lemmas.Bool.{and_from, and_parts, leb-true, le-leb, false≢true}
 use Rattle.gx_model.specs.declared.objects.Mode.{Mode}
@@ -14,7 +14,7 @@ use Rattle.gx_text.specs.declared.fault.TextFault.{TextFault}
 use Rattle.gx_text.specs.declared.fault.TextFault.TheVariants.{OutOfMemory, BadPath, PathTooLong, BadIdent}
 use Rattle.gx_text.specs.TextFaults.{fault_of}
 use Rattle.gx_model.specs.Paths.{Path, is_component, is_file_path, is_short, path_of, path_text}
-use Rattle.gx_model.specs.Files.{FileMap, are_apart, are_file_paths, is_file_map}
+use Rattle.gx_model.specs.Files.{FileMap, are_file_paths, is_file_map}
 use Rattle.gx_model.specs.HistoryOf.{placed}
 use Rattle.gx_model.proofs.PathTexts.{path_again}
 use Rattle.gx_tree.specs.Nodes.{Kept, Level, IsKept, IsLevel, file, files, folder, kept_map}

@@ -1,5 +1,5 @@
 -- A directory below another has fewer components.
-use Rattle.std.proofs.Common.{◌≡◌, ℕ, ◌+◌, ◌<◌, ◌≤◌, zero, suc, List, [], ◌∷◌, ◌++◌, length, get_or, refl, sym, ap, ◌∙◌, arith, subst}
+use Rattle.std.proofs.Common.{◌≡◌, ℕ, ◌<◌, zero, suc, List, [], ◌∷◌, length, get_or, sym, ap, ◌∙◌, arith, subst}
 use Rattle.gx_model.specs.Files.{FileMap}
 use Rattle.gx_model.specs.Texts.{Bytes}
 use Rattle.gx_model.specs.HistoryOf.{placed}

@@ -1,13 +1,13 @@
 -- Each directory below has fewer components than the whole.
-use Rattle.std.specs.Prelude.{◌≡◌, ◌≢◌, ℕ, ◌+◌, ◌≤◌, max, List, [], ◌∷◌, ◌++◌, length, refl}
+use Rattle.std.specs.Prelude.{◌≡◌, ◌≢◌, ◌+◌, ◌≤◌, max, List, [], ◌∷◌, ◌++◌, length, refl}
 use Rattle.std.proofs.Common.{arith}
 use Rattle.std.specs.declared.alloc.Allocator.{Ghosts}
 use denote.Param.Weighed.{most}
 use Rattle.gx_model.specs.Texts.{Bytes}
 use Rattle.gx_model.specs.Files.{FileMap}
 use Rattle.gx_model.specs.HistoryOf.{placed}
-use Rattle.gx_tree.specs.Nodes.{Kept, file, folder, kept_map, files, components, IsKept, IsLevel}
-use Rattle.gx_tree.specs.Views.{kept, seen, seen_all}
+use Rattle.gx_tree.specs.Nodes.{kept_map, files, components, IsKept, IsLevel}
+use Rattle.gx_tree.specs.Views.{kept, seen_all}
 use Rattle.gx_tree.specs.declared.directory.Item.{Item}
 use Rattle.gx_tree.specs.declared.directory.Item.TheVariants.{File, Folder}
 use Rattle.gx_tree.specs.declared.directory.Entry.{Entry}

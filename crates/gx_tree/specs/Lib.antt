@@ -4,5 +4,6 @@ pub mod Falls
 pub mod Steps
 pub mod Standings
 pub mod Lists
+pub mod Copies
 pub mod Faults
 pub mod NameMaps

@@ -1,5 +1,5 @@
 -- The list of a tree's files.
-use Rattle.std.specs.Prelude.{List, [], ◌∷◌, ◌++◌, map}
+use Rattle.std.specs.Prelude.{◌++◌, map}
 use Rattle.gx_model.specs.Texts.{Bytes}
 use Rattle.gx_model.specs.Paths.{Path}
 use Rattle.gx_model.specs.Files.{FileMap}

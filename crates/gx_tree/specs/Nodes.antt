@@ -1,5 +1,5 @@
 -- What a directory keeps, one level at a time: at each component a file, or a directory by its file map.
-use Rattle.std.specs.Prelude.{◌≡◌, ◌≢◌, ℕ, ◌+◌, Bool, true, false, not, ◌&&◌, if◌then◌else◌, List, [], ◌∷◌, ◌++◌, length, IsTrue, ⊤, Option}
+use Rattle.std.specs.Prelude.{◌≡◌, ◌≢◌, ℕ, ◌+◌, Bool, false, not, if◌then◌else◌, List, [], ◌∷◌, ◌++◌, length, IsTrue, ⊤, Option, None, Some}
 use Rattle.std.specs.List.{filter, flat_map, list_all, AllByRecursion}
 use Rattle.std.specs.Map.{lookup}
 use Rattle.std.specs.Ordering.{nat_cmp, is_lt}
@@ -22,6 +22,11 @@ Level = List (Bytes × Kept)
 abbrev pub kept_map : Kept → FileMap Bytes
 kept_map (file x) = ([], x) ∷ []
 kept_map (folder f) = f
+
+-- the files of what may be kept
+abbrev pub map_if : Option Kept → FileMap Bytes
+map_if None = []
+map_if (Some k) = kept_map k
 
 -- the files below a directory's entries
 abbrev pub files : Level → FileMap Bytes
@@ -62,6 +67,10 @@ pub record IsInner (f : FileMap Bytes) : Type 0 where
 abbrev pub IsKept : Kept → Type 0
 IsKept (file x) = ⊤
 IsKept (folder f) = (f ≢ []) × IsInner f
+
+abbrev pub IsKeptAt : Option Kept → Type 0
+IsKeptAt None = ⊤
+IsKeptAt (Some k) = IsKept k
 
 -- each entry has a component, and stands before the later ones
 abbrev pub IsLevel : Level → Type 0

@@ -1,5 +1,5 @@
 -- What a path leads to.
-use Rattle.std.specs.Prelude.{List, [], ◌∷◌, Option, Some, None}
+use Rattle.std.specs.Prelude.{[], ◌∷◌, Option, Some, None}
 use Rattle.gx_model.specs.Texts.{Bytes}
 use Rattle.gx_model.specs.Paths.{Path}
 use Rattle.gx_model.specs.Files.{FileMap, Leaf, file_at, sub_map}

@@ -1,15 +1,15 @@
 -- What stands at a component after an edit below it.
-use Rattle.std.specs.Prelude.{List, [], ◌∷◌, Option, Some, None}
-use Rattle.std.specs.FinMap.Entries.{put}
+use Rattle.std.specs.Prelude.{[], ◌∷◌, Option, Some, None}
 use Rattle.gx_model.specs.Texts.{Bytes}
-use Rattle.gx_model.specs.Paths.{Path, path_cmp}
-use Rattle.gx_model.specs.Files.{FileMap, Leaf}
-use Rattle.gx_model.specs.Edits.{removed, without_line}
-use Rattle.gx_tree.specs.Nodes.{Kept, Level, file, folder, others, with_kept}
+use Rattle.gx_model.specs.Paths.{Path}
+use Rattle.gx_model.specs.Files.{FileMap}
+use Rattle.gx_model.specs.Edits.{removed, with_all, without_line}
+use Rattle.gx_tree.specs.Nodes.{Kept, Level, file, folder, kept_map, others, with_kept}
+use Rattle.gx_tree.specs.Lists.{below}
 
--- with a file at a path that is not the root: what `modified` gives there
-abbrev pub with_file : Path → Leaf Bytes → FileMap Bytes → FileMap Bytes
-with_file p x f = put path_cmp p x (without_line p f)
+-- with these files below a path that is not the root, in place of what is in line with it
+abbrev pub grafted : Path → FileMap Bytes → FileMap Bytes → FileMap Bytes
+grafted p g f = with_all (below p g) (without_line p f)
 
 -- the files of a directory, and none of a file
 abbrev pub files_of : Option Kept → FileMap Bytes
@@ -17,9 +17,10 @@ files_of None = []
 files_of (Some (file x)) = []
 files_of (Some (folder f)) = f
 
-abbrev pub kept_modified : Path → Leaf Bytes → Option Kept → Kept
-kept_modified [] x o = file x
-kept_modified (c ∷ p) x o = folder (with_file (c ∷ p) x (files_of o))
+-- with k at the path
+abbrev pub kept_grafted : Path → Kept → Option Kept → Kept
+kept_grafted [] k o = k
+kept_grafted (c ∷ p) k o = folder (grafted (c ∷ p) (kept_map k) (files_of o))
 
 abbrev pub folder_if_any : FileMap Bytes → Option Kept
 folder_if_any [] = None

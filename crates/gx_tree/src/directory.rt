@@ -4,7 +4,7 @@ ghost use Rattle.std.specs.Cmp.Lexicographic.{slice_cmp};
 ghost use Rattle.std.specs.Option.{option_map};
 ghost use Rattle.std.specs.Ordering.{nat_cmp};
 ghost use Rattle.gx_model.specs.Texts.{same_bytes};
-ghost use Rattle.gx_tree.specs.Nodes.{kept_at, key, mark, comes_before, inserted, others, with_kept};
+ghost use Rattle.gx_tree.specs.Nodes.{IsInner, kept_at, key, mark, comes_before, inserted, others, with_kept};
 ghost use Rattle.gx_tree.specs.Views.{kept, kept_if, option_kept, option_files, seen, seen_all};
 ghost use Rattle.gx_tree.specs.Standings.{standing_of, standing_at};
 ghost use Rattle.gx_tree.specs.Steps.{files_of, replaced};
@@ -71,6 +71,13 @@ impl<A: Allocator + Copy> Directory<A> {
         ensures { IsTrue result ↔ (self.now ≡ []) }
     {
         self.entries.is_empty()
+    }
+
+    /// The files stand in order.
+    pub(crate) fn order(&self)
+        ensures { IsInner self.now }
+    {
+        let _ = &self.entries;
     }
 
     /// What stands at the rest of the path, from the component at `depth` on.

@@ -1,31 +1,49 @@
 //! What an edit makes of a directory: the directories on its path are made anew, and no other changes.
 ghost use Rattle.std.specs.Prelude.{◌≡◌, ◌<◌, ◌+◌, IfOk, drop, length};
 ghost use Rattle.gx_model.specs.Edits.{removed};
-ghost use Rattle.gx_tree.specs.Steps.{with_file, kept_modified, kept_removed};
+ghost use Rattle.gx_model.specs.Files.{sub_map};
+ghost use Rattle.gx_tree.specs.Nodes.{IsKept, kept_map, map_if, IsKeptAt};
+ghost use Rattle.gx_tree.specs.Steps.{grafted, kept_grafted, kept_removed};
 ghost use Rattle.gx_tree.specs.Views.{kept, kept_if, option_kept};
 
 use crate::directory::{Directory, Entry, Item, find, folder_in, with_entry, with_item};
-use gx_object::{Mode, Name};
 use gx_text::TreePath;
 use std::alloc::{AllocError, Allocator};
 
 impl<A: Allocator + Copy> Directory<A> {
-    /// The directory with a file at the rest of the path.
-    #[cycle(modify)]
-    pub(crate) fn modified(
+    /// What stands at the rest of the path, which is not the root.
+    pub(crate) fn item_at<'a>(&'a self, path: &TreePath<A>, depth: usize) -> Option<&'a Item<A>>
+        requires { depth < length path.now }
+        ensures files { sub_map self.entry.now (drop depth path.now) ≡ map_if (option_kept result) }
+        ensures kept { IsKeptAt (option_kept result) }
+    {
+        let length = path.len();
+        let item = find(&self.entries, path.component(depth));
+        if depth + 1 == length {
+            return item;
+        }
+        match folder_in(item) {
+            Some(below) => below.item_at(path, depth + 1),
+            None => None,
+        }
+    }
+
+    /// The directory with an item at the rest of the path, in place of what stands there, above it or below it.
+    #[cycle(graft)]
+    pub(crate) fn grafted(
         &self,
         alloc: A,
         path: &TreePath<A>,
         depth: usize,
-        mode: Mode,
-        name: Name,
+        item: Item<A>,
     ) -> Result<Directory<A>, AllocError>
-        requires { depth < length path.now }
-        ensures { IfOk result (λ d. d ≡ with_file (drop depth path.now) (mode, name.bytes) self.now) }
+        requires within { depth < length path.now }
+        requires kept { IsKept (kept item) }
+        ensures { IfOk result (λ d. d ≡ grafted (drop depth path.now) (kept_map (kept item)) self.now) }
     {
         let component = path.component(depth);
         let old = find(&self.entries, component);
-        let item = item_modified(alloc, old, path, depth, mode, name)?;
+        let item = item_grafted(alloc, old, path, depth, item)?;
         let component = Vec::from_slice(alloc, component)?;
         let entries = with_entry(alloc, &self.entries, Entry { component, item })?;
         Ok(Directory { entries })
@@ -50,26 +68,26 @@ impl<A: Allocator + Copy> Directory<A> {
     }
 }
 
-// What stands at the component at `depth` after a file was put at the path.
-#[cycle(modify)]
-fn item_modified<A: Allocator + Copy>(
+// What stands at the component at `depth` after an item was put at the path.
+#[cycle(graft)]
+fn item_grafted<A: Allocator + Copy>(
     alloc: A,
     old: Option<&Item<A>>,
     path: &TreePath<A>,
     depth: usize,
-    mode: Mode,
-    name: Name,
+    item: Item<A>,
 ) -> Result<Item<A>, AllocError>
-    requires { depth < length path.now }
-    ensures { IfOk result (λ i. kept i ≡ kept_modified (drop (depth + 1) path.now) (mode, name.bytes) (option_kept old.entry)) }
+    requires within { depth < length path.now }
+    requires kept { IsKept (kept item) }
+    ensures { IfOk result (λ i. kept i ≡ kept_grafted (drop (depth + 1) path.now) (kept item) (option_kept old.entry)) }
 {
     let length = path.len();
     if depth + 1 == length {
-        return Ok(Item::File(mode, name));
+        return Ok(item);
     }
     let below = match folder_in(old) {
-        Some(below) => below.modified(alloc, path, depth + 1, mode, name)?,
-        None => Directory::new(alloc).modified(alloc, path, depth + 1, mode, name)?,
+        Some(below) => below.grafted(alloc, path, depth + 1, item)?,
+        None => Directory::new(alloc).grafted(alloc, path, depth + 1, item)?,
     };
     Ok(Item::Folder(Box::new(alloc, below)?))
 }

@@ -1,20 +1,25 @@
 //! Trees of files by their paths.
-ghost use Rattle.std.specs.Prelude.{◌≡◌, ◌≢◌, [], length, map, Ok, OnErr, IsTrue};
+ghost use Rattle.std.specs.Prelude.{◌≡◌, ◌≢◌, [], length, map, None, Ok, IfOk, OnErr, IsTrue};
 ghost use Rattle.std.specs.Option.{option_map};
-ghost use Rattle.gx_model.specs.Edits.{modified, removed};
+ghost use Rattle.gx_model.specs.Edits.{copied, modified, removed, renamed};
 ghost use Rattle.gx_model.specs.Faults.{Gives};
+ghost use Rattle.gx_model.specs.Files.{sub_map};
 ghost use Rattle.gx_model.specs.Objects.{is_name};
+ghost use Rattle.gx_tree.specs.Copies.{graft_fault, kept_held, option_held};
 ghost use Rattle.gx_tree.specs.Faults.{fault_of};
 ghost use Rattle.gx_tree.specs.Lists.{listed};
 ghost use Rattle.gx_tree.specs.NameMaps.{IsNameMap};
+ghost use Rattle.gx_tree.specs.Nodes.{IsKept, IsKeptAt, kept_map, map_if};
+ghost use Rattle.gx_tree.specs.Steps.{grafted};
 ghost use Rattle.gx_tree.specs.Standings.{standing_of, standing_at};
 ghost use Rattle.gx_model.specs.declared.objects.Mode.TheVariants as modes;
 
-use crate::directory::Directory;
+use crate::copying::Held;
+use crate::directory::{Directory, Item};
 use crate::fault::TreeFault;
 use gx_object::{Mode, Name};
 use gx_text::TreePath;
-use std::alloc::Allocator;
+use std::alloc::{AllocError, Allocator};
 use std::marker::Model;
 
 /// What a path leads to.
@@ -103,7 +108,9 @@ impl<A: Allocator + Copy> PathTree<A> {
             return Err(TreeFault::RootNotTree);
         }
         is_name(name.bytes.as_slice());
-        self.root = self.root.modified(self.alloc, path, 0, mode, name)?;
+        self.root = self
+            .root
+            .grafted(self.alloc, path, 0, Item::File(mode, name))?;
         Ok(())
     }
 
@@ -111,12 +118,112 @@ impl<A: Allocator + Copy> PathTree<A> {
         ensures map { Gives fault_of (λ _. self.new) result (Ok (removed self.old path.now)) }
         ensures unchanged { OnErr result (self.new ≡ self.old) }
     {
-        if path.len() == 0 {
-            self.clear();
-            return Ok(());
-        }
-        self.root = self.root.removed(self.alloc, path, 0)?;
+        self.root = self.root_without(path)?;
         Ok(())
+    }
+
+    pub fn copy(&mut self, source: &TreePath<A>, destination: &TreePath<A>) -> Result<(), TreeFault>
+        ensures map { Gives fault_of (λ _. self.new) result (copied self.old source.now destination.now) }
+        ensures unchanged { OnErr result (self.new ≡ self.old) }
+    {
+        self.root = self.copied_root(source, destination)?;
+        Ok(())
+    }
+
+    pub fn rename(
+        &mut self,
+        source: &TreePath<A>,
+        destination: &TreePath<A>,
+    ) -> Result<(), TreeFault>
+        ensures map { Gives fault_of (λ _. self.new) result (renamed self.old source.now destination.now) }
+        ensures unchanged { OnErr result (self.new ≡ self.old) }
+    {
+        self.root = self.renamed_root(source, destination)?;
+        Ok(())
+    }
+
+    fn copied_root(
+        &self,
+        source: &TreePath<A>,
+        destination: &TreePath<A>,
+    ) -> Result<Directory<A>, TreeFault>
+        ensures files { Gives fault_of (λ root. root) result (copied self.now source.now destination.now) }
+        ensures names { IfOk result IsNameMap }
+    {
+        let Some(held) = self.held_at(source) else {
+            return Err(TreeFault::NoSuchPath);
+        };
+        if let Some(fault) = held.refusal(destination) {
+            return Err(fault);
+        }
+        Ok(placed(self.alloc, &self.root, &held, destination)?)
+    }
+
+    fn renamed_root(
+        &self,
+        source: &TreePath<A>,
+        destination: &TreePath<A>,
+    ) -> Result<Directory<A>, TreeFault>
+        ensures files { Gives fault_of (λ root. root) result (renamed self.now source.now destination.now) }
+        ensures names { IfOk result IsNameMap }
+    {
+        let Some(held) = self.held_at(source) else {
+            return Err(TreeFault::NoSuchPath);
+        };
+        if let Some(fault) = held.refusal(destination) {
+            return Err(fault);
+        }
+        let rest = self.root_without(source)?;
+        Ok(placed(self.alloc, &rest, &held, destination)?)
+    }
+
+    // What stands at a path.
+    fn held_at(&self, path: &TreePath<A>) -> Option<Held<'_, A>>
+        ensures held { sub_map self.now path.now ≡ map_if (option_held result) }
+        ensures kept { IsKeptAt (option_held result) }
+    {
+        if path.len() == 0 {
+            self.root.order();
+            if self.root.is_empty() {
+                return None;
+            }
+            return Some(Held::Folder(&self.root));
+        }
+        match self.root.item_at(path, 0)? {
+            Item::File(mode, name) => Some(Held::File(*mode, *name)),
+            Item::Folder(below) => Some(Held::Folder(below)),
+        }
+    }
+
+    // The root without what stands at or below a path.
+    fn root_without(&self, path: &TreePath<A>) -> Result<Directory<A>, AllocError>
+        ensures { IfOk result (λ d. d ≡ removed self.now path.now) }
+    {
+        if path.len() == 0 {
+            return Ok(Directory::new(self.alloc));
+        }
+        self.root.removed(self.alloc, path, 0)
+    }
+}
+
+// The directory with what is held at a path, in place of what stands there, above it or below it.
+fn placed<A: Allocator + Copy>(
+    alloc: A,
+    rest: &Directory<A>,
+    held: &Held<'_, A>,
+    path: &TreePath<A>,
+) -> Result<Directory<A>, AllocError>
+    requires kept { IsKept (kept_held held.now) }
+    requires checked { graft_fault (kept_held held.now) path.now ≡ None }
+    ensures { IfOk result (λ d. d ≡ grafted path.now (kept_map (kept_held held.now)) rest.now) }
+{
+    if path.len() > 0 {
+        let item = held.item(alloc)?;
+        return rest.grafted(alloc, path, 0, item);
+    }
+    match held {
+        Held::Folder(below) => below.copied(alloc),
+        Held::File(_, _) => unreachable!(),
     }
 }
 

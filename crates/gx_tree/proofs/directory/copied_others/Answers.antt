@@ -1,4 +1,3 @@
-use Rattle.std.proofs.Common.{sym}
 use Rattle.gx_tree.proofs.Copies.{others_kept, others_left}
 use Rattle.gx_tree.proofs.directory.copied_others.Goals as goal
 use Rattle.gx_tree.proofs.directory.copied_others.Goals.{then-ne+in_ok-copied+in_ok-push, else-ne}

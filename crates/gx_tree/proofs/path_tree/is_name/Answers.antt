@@ -1,4 +1,4 @@
-use Rattle.std.proofs.Common.{◌∙◌, arith}
+use Rattle.std.proofs.Common.{arith}
 use Rattle.gx_object.proofs.Digits.{is_name_from}
 use Rattle.gx_tree.proofs.path_tree.is_name.Goals as goal
 

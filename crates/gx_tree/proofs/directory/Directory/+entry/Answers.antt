@@ -1,6 +1,6 @@
-use Rattle.std.proofs.Common.{◌≡◌, ℕ, ◌+◌, ◌<◌, length, Some, None, Option, sym, ap, ◌∙◌, arith, cond}
+use Rattle.std.proofs.Common.{◌≡◌, ◌+◌, ◌<◌, length, Some, None, sym, ap, ◌∙◌, arith, cond}
 use Rattle.gx_tree.proofs.Below.{standing_step, root_at_end, no_root_before}
-use Rattle.gx_tree.specs.Nodes.{Kept, file, folder, kept_at}
+use Rattle.gx_tree.specs.Nodes.{file, folder, kept_at}
 use Rattle.gx_tree.specs.Standings.{a_file}
 use Rattle.gx_tree.specs.Views.{kept, seen_all}
 use Rattle.gx_tree.proofs.directory.Directory.+entry.Goals as goal

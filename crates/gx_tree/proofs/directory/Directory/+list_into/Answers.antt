@@ -1,11 +1,11 @@
-use Rattle.std.proofs.Common.{◌≡◌, ◌<◌, arith, true, rules, sym, ap, ◌∙◌, subst}
+use Rattle.std.proofs.Common.{◌≡◌, ◌<◌, arith, true, rules, ap, ◌∙◌}
 use Rattle.std.specs.List.{list_all}
 use Rattle.gx_model.specs.Paths.{is_component, is_short}
 use Rattle.gx_tree.specs.Nodes.{components, file, folder}
 use Rattle.gx_tree.specs.Lists.{below}
-use Rattle.gx_tree.specs.Views.{kept, seen}
+use Rattle.gx_tree.specs.Views.{kept}
 use Rattle.gx_tree.proofs.Measures.{folder_less}
-use Rattle.gx_tree.proofs.Listed.{IsListed, listed_at, list_file, list_folder, list_more}
+use Rattle.gx_tree.proofs.Listed.{listed_at, list_file, list_folder, list_more}
 use Rattle.gx_tree.proofs.directory.Directory.+list_into.Goals as goal
 use Rattle.gx_tree.proofs.directory.Directory.+list_into.Goals.{in-File+in_ok-push-in-File, in-Folder+in_ok-list_into-in-Folder}
 

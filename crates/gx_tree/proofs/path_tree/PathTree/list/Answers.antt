@@ -1,4 +1,4 @@
-use Rattle.std.proofs.Common.{◌≡◌, ◌++◌, Ok, sym, ap, ◌∙◌, map}
+use Rattle.std.proofs.Common.{◌++◌, Ok, sym, ap, ◌∙◌, map}
 use Rattle.std.specs.List.{list_all}
 use Rattle.gx_model.specs.Paths.{is_short}
 use Rattle.gx_tree.specs.Lists.{below, listed}

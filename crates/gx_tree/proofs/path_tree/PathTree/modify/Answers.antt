@@ -1,7 +1,7 @@
-use Rattle.std.proofs.Common.{◌≡◌, ◌<◌, length, Ok, sym, ap, ◌∙◌, arith, subst}
+use Rattle.std.proofs.Common.{◌<◌, ◌∷◌, [], length, Ok, sym, ap, ◌∙◌, arith, subst}
 use Rattle.gx_model.specs.Objects.{is_name}
 use Rattle.gx_tree.specs.NameMaps.{IsNameMap}
-use Rattle.gx_tree.specs.Steps.{with_file}
+use Rattle.gx_tree.specs.Steps.{grafted}
 use Rattle.gx_tree.proofs.NamedFiles.{modified_is, names-modified}
 use Rattle.gx_tree.proofs.path_tree.PathTree.modify.Goals as goal
 
@@ -14,4 +14,4 @@ pub returns-clause-map : goal.returns-clause-map
 returns-clause-map g c =
     let l : 0 < length c.args.path.now = omega arith in
     modified_is c.args.self.now c.args.path.now (c.args.mode, c.args.name.bytes) l
-    ∙ ap Ok (ap (with_file c.args.path.now (c.args.mode, c.args.name.bytes)) (sym c.self.view_is) ∙ sym c.in_ok-self-inside.ensures)
+    ∙ ap Ok (ap (grafted c.args.path.now (([], (c.args.mode, c.args.name.bytes)) ∷ [])) (sym c.self.view_is) ∙ sym c.in_ok-self-inside.ensures)

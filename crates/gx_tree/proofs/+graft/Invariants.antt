@@ -1,0 +1,8 @@
+use Rattle.std.proofs.Common.{◌-◌, ◌+◌, ◌*◌, length}
+use Rattle.gx_tree.proofs.+graft.Given as goal
+
+abbrev pub decreases-directory::Directory::grafted : goal.decreases-directory::Directory::grafted
+decreases-directory::Directory::grafted g l = 2 * (length l.path.now - l.depth) + 1
+
+abbrev pub decreases-edits::item_grafted : goal.decreases-edits::item_grafted
+decreases-edits::item_grafted g l = 2 * (length l.path.now - l.depth)

@@ -1,0 +1,8 @@
+use Rattle.std.proofs.Common.{subst}
+use Rattle.gx_tree.specs.Nodes.{IsInner}
+use Rattle.gx_tree.specs.Views.{seen_all}
+use Rattle.gx_tree.proofs.Levels.{IsInner-files}
+use Rattle.gx_tree.proofs.directory.Directory.order.Goals as goal
+
+pub returns : goal.returns
+returns g c = subst IsInner c.self.view_is (IsInner-files (seen_all c.self.inside.entries.items) c.self.invariant)

@@ -1,0 +1,96 @@
+//! What a copy or a rename takes from one path to another.
+ghost use Rattle.std.specs.Prelude.{◌≡◌, IfOk, IsTrue, length};
+ghost use Rattle.std.specs.List.{list_all};
+ghost use Rattle.std.specs.Option.{option_map};
+ghost use Rattle.gx_model.specs.Paths.{is_short};
+ghost use Rattle.gx_text.specs.TreePaths.{is_path};
+ghost use Rattle.gx_tree.specs.Copies.{graft_fault, is_within, kept_held, kept_within};
+ghost use Rattle.gx_tree.specs.Faults.{fault_of};
+ghost use Rattle.gx_tree.specs.Lists.{below};
+ghost use Rattle.gx_tree.specs.Nodes.{IsKept, folder};
+ghost use Rattle.gx_tree.specs.Views.{kept, seen};
+
+use crate::directory::{Directory, Entry, Item};
+use crate::fault::TreeFault;
+use gx_object::{Mode, Name};
+use gx_text::TreePath;
+use std::alloc::{AllocError, Allocator};
+
+/// The bytes of the longest path.
+const MOST_BYTES: usize = 4095;
+
+/// What stands at a path: a file, or a directory with files.
+#[derive(Drop)]
+pub(crate) enum Held<'a, A: Allocator> {
+    File(Mode, Name),
+    Folder(&'a Directory<A>),
+}
+
+impl<'a, A: Allocator + Copy> Held<'a, A> {
+    /// Why it may not stand at the path: a file isn't the root, and no path gets too long.
+    pub(crate) fn refusal(&self, path: &TreePath<A>) -> Option<TreeFault>
+        requires { IsKept (kept_held self.now) }
+        ensures fault { option_map fault_of result ≡ graft_fault (kept_held self.now) path.now }
+        ensures path { IsTrue (is_path path.now) }
+    {
+        let length = path.len();
+        match self {
+            Held::File(_, _) if length == 0 => Some(TreeFault::RootNotTree),
+            Held::Folder(below) if !below.fits_below(path) => Some(TreeFault::PathTooLong),
+            _ => None,
+        }
+    }
+
+    /// A copy of it, as an item.
+    pub(crate) fn item(&self, alloc: A) -> Result<Item<A>, AllocError>
+        ensures { IfOk result (λ i. kept i ≡ kept_held self.now) }
+    {
+        match self {
+            Held::File(mode, name) => Ok(Item::File(*mode, *name)),
+            Held::Folder(below) => {
+                let copy = below.copied(alloc)?;
+                Ok(Item::Folder(Box::new(alloc, copy)?))
+            }
+        }
+    }
+}
+
+impl<A: Allocator + Copy> Directory<A> {
+    // Whether the paths of the files are short below a path.
+    fn fits_below(&self, path: &TreePath<A>) -> bool
+        requires { IsKept (folder self.now) }
+        ensures { result ≡ list_all (λ e. is_short e.0) (below path.now self.now) }
+    {
+        if path.len() == 0 {
+            return self.fits(MOST_BYTES);
+        }
+        let used = path.joined().len();
+        used < MOST_BYTES && self.fits(MOST_BYTES - used - 1)
+    }
+
+    // Whether the paths of the files have at most `room` bytes.
+    #[cycle(fits)]
+    fn fits(&self, room: usize) -> bool
+        ensures { result ≡ list_all (is_within room) self.now }
+    {
+        for entry in &self.entries {
+            if !entry.fits(room) {
+                return false;
+            }
+        }
+        true
+    }
+}
+
+impl<A: Allocator + Copy> Entry<A> {
+    #[cycle(fits)]
+    fn fits(&self, room: usize) -> bool
+        ensures { result ≡ kept_within room (length (seen self.now).0) (seen self.now).1 }
+    {
+        let used = self.component.len();
+        match &self.item {
+            Item::File(_, _) => used <= room,
+            Item::Folder(below) => used < room && below.fits(room - used - 1),
+        }
+    }
+}

@@ -1,1 +1,4 @@
 pub mod Namers
+pub mod Order
+pub mod Trees
+pub mod Entries

@@ -4,6 +4,7 @@ pub mod RefNames
 pub mod Idents
 pub mod Faults
 pub mod Paths
+pub mod Revisions
 pub mod Items
 pub mod Spelling
 pub mod Commands
@@ -24,6 +25,16 @@ pub mod Naming
 pub mod Ranges
 pub mod Replay
 pub mod Export
-pub mod Laws
-pub mod SoundLaws
+pub mod StoreText
+pub mod FileMapLaws
+pub mod ObjectLaws
+pub mod HistoryLaws
+pub mod RepositoryLaws
 pub mod ExportLaws
+pub mod StreamLaws
+pub mod TextLaws
+pub mod StreamRows
+pub mod RowTexts
+pub mod ImportRows
+pub mod RevisionRows
+pub mod ExportRows

@@ -1,0 +1,15 @@
+use Rattle.std.proofs.Common.{◌≡◌, ◌++◌, ◌-◌, length, take, drop, sym, ap, subst, ◌∙◌, Ok, arith}
+use Rattle.std.proofs.Math.Seq.{take-add}
+use Rattle.std.proofs.lemmas.List.{take_rest, length-take}
+use Rattle.gx_text.specs.Devices.{Sends}
+use Rattle.gx_text.proofs.Sending.{Sends-none, Sends-more, Sends-failed}
+use Rattle.gx_text.proofs.device.send.Goals as goal
+
+pub loop-sent-preserved : goal.loop-sent-preserved
+loop-sent-preserved g c =
+    let bytes = c.args.bytes.now in
+    let given = rw (take_rest bytes c.loop-sent.sent) at c.in-Ok.ensures.bytes in
+    record {
+      within = omega (arith, c.in-Ok.ensures.bound, length-take (length bytes - c.loop-sent.sent) (drop c.loop-sent.sent bytes));
+      sent = subst (λ bs. Sends (g.W.Sink.taken c.args.sink.now) (g.W.Sink.taken c.push.new.self) bs (Ok tt)) (sym (take-add c.loop-sent.sent c.in-Ok.count bytes)) (Sends-more _ _ _ _ _ _ c.loop-sent.invariant.sent given);
+    }

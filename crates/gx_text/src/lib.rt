@@ -1,0 +1,15 @@
+//! The texts of a stream and of a repository: numbers, ref names, identities and paths, each read by its written grammar.
+//! It also has the devices that streams come from and go to, over memory and over the system's readers and writers.
+#![tactic(auto)]
+
+mod cuts;
+mod device;
+mod memory;
+mod number;
+mod outside;
+
+pub use cuts::cut;
+pub use device::{Failed, Sink, Source, send};
+pub use memory::{Bytes, Held};
+pub use number::decimal;
+pub use outside::{FromRead, IntoWrite};

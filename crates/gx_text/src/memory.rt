@@ -1,0 +1,139 @@
+//! Devices over memory, which tell their bytes.
+
+ghost use Rattle.std.specs.Prelude.{◌≡◌, ◌<◌, ◌≤◌, ◌+◌, length, [], Some, IfOk, false, IsOk};
+ghost use Rattle.std.specs.Vec.{vec_len, vec_capacity};
+ghost use Rattle.gx_text.specs.Devices.{Coming, Supply, Pulls, Taken, Holding, Pushes};
+
+use crate::device::{Failed, Sink, Source};
+use std::alloc::{AllocError, Allocator};
+use std::marker::Model;
+
+/// A source over memory.
+#[derive(Drop)]
+pub struct Bytes<'a> {
+    rest: &'a [u8],
+    piece: usize,
+    fails: bool,
+}
+
+impl<'a> Model for Bytes<'a> {
+    ghost use Rattle.std.specs.Prelude.{◌<◌};
+    ghost use Rattle.gx_text.specs.Devices.{Supply};
+
+    ghost Value = { Supply };
+
+    ghost view = { λ s. record {
+      coming = record { bytes = s.rest.now; fails = s.fails };
+      piece = s.piece;
+    } };
+
+    ghost invariant = { λ s. 0 < s.piece };
+}
+
+impl<'a> Bytes<'a> {
+    /// Gives at most `piece` bytes per pull, then an end, or a failure where `fails` is true.
+    pub fn new(bytes: &'a [u8], piece: usize, fails: bool) -> Bytes<'a>
+        requires { 0 < piece }
+        ensures coming { result.coming ≡ record { bytes = bytes.now; fails = fails } }
+        ensures piece { result.piece ≡ piece }
+    {
+        Bytes {
+            rest: bytes,
+            piece,
+            fails,
+        }
+    }
+}
+
+impl<'a> Source for Bytes<'a> {
+    ghost coming = { λ s. Some s.coming };
+
+    fn pull(&mut self, buffer: &mut [u8]) -> Result<usize, Failed>
+        requires nonempty { 0 < length buffer.old }
+        ensures bound { IfOk result (λ n. n ≤ length buffer.new) }
+        ensures bytes { Pulls (Some self.old.coming) (Some self.new.coming) buffer.new result }
+        ensures few { IfOk result (λ n. n ≤ self.old.piece) }
+        ensures piece { self.new.piece ≡ self.old.piece }
+    {
+        let count = self.rest.len().min(self.piece).min(buffer.len());
+        if count == 0 {
+            return if self.fails { Err(Failed) } else { Ok(0) };
+        }
+        let (front, rest) = self.rest.split_at(count);
+        buffer[..count].copy_from_slice(front);
+        self.rest = rest;
+        Ok(count)
+    }
+}
+
+/// A sink over memory that takes so many bytes, and then fails.
+#[derive(Drop)]
+pub struct Held<A: Allocator> {
+    bytes: Vec<u8, A>,
+    room: usize,
+    failed: bool,
+}
+
+impl<A: Allocator> Model for Held<A> {
+    ghost use Rattle.std.specs.Prelude.{◌≤◌, ◌+◌};
+    ghost use Rattle.std.specs.Vec.{vec_len, vec_capacity};
+    ghost use Rattle.gx_text.specs.Devices.{Holding};
+
+    ghost Value = { Holding };
+
+    ghost view = { λ h. record {
+      taken = record { bytes = h.bytes.items; failed = h.failed };
+      room = h.room;
+    } };
+
+    ghost invariant = { λ h. vec_len h.bytes + h.room ≤ vec_capacity h.bytes };
+}
+
+impl<A: Allocator + Copy> Held<A> {
+    /// Takes `room` bytes, and then fails.
+    pub fn new(alloc: A, room: usize) -> Result<Held<A>, AllocError>
+        ensures { IfOk result (λ h. h ≡ record {
+          taken = record { bytes = []; failed = false };
+          room = room;
+        }) }
+    {
+        Ok(Held {
+            bytes: Vec::with_capacity(alloc, room)?,
+            room,
+            failed: false,
+        })
+    }
+
+    /// What it took.
+    pub fn bytes(&self) -> &[u8]
+        ensures { result.now ≡ self.now.taken.bytes }
+    {
+        self.bytes.as_slice()
+    }
+}
+
+impl<A: Allocator + Copy> Sink for Held<A> {
+    ghost taken = { λ h. Some h.taken };
+
+    fn push(&mut self, bytes: &[u8]) -> Result<usize, Failed>
+        requires nonempty { 0 < length bytes.now }
+        ensures bound { IfOk result (λ n. n ≤ length bytes.now) }
+        ensures some { IfOk result (λ n. 0 < n) }
+        ensures bytes { Pushes (Some self.old.taken) (Some self.new.taken) bytes.now result }
+        ensures room { IfOk result (λ n. self.new.room + n ≡ self.old.room) }
+        ensures fails { (0 < self.old.room) × (self.old.taken.failed ≡ false) → IsOk result }
+    {
+        let count = bytes.len().min(self.room);
+        if self.failed || count == 0 {
+            self.failed = true;
+            return Err(Failed);
+        }
+        match self.bytes.extend_from_slice(&bytes[..count]) {
+            Ok(()) => {
+                self.room -= count;
+                Ok(count)
+            }
+            Err(_) => unreachable!(),
+        }
+    }
+}

@@ -23,7 +23,7 @@ use Rattle.gx_model.specs.Denotation.{Revision}
 use Rattle.gx_model.specs.Ranges.{commit_of}
 use Rattle.gx_model.specs.Replay.{Outcome, State, finished, or_else, replayed, start, step}
 use Rattle.gx_model.specs.Export.{all_written, carrier, command_items, contents, export_commands, export_text, inner_commands, item_text, one_commit, reached_commits, with_commit}
-use Rattle.gx_model.specs.Laws.{IsWhole}
+use Rattle.gx_model.specs.Histories.{IsWhole}
 
 -- a line with no LF that is no comment and announces no block
 pub record IsItemLine (l : Bytes) : Type 0 where

@@ -23,6 +23,9 @@ pub mod Denotation
 pub mod Ranges
 pub mod Replay
 pub mod Export
-pub mod Laws
-pub mod SoundLaws
+pub mod FileMapLaws
+pub mod ObjectLaws
+pub mod HistoryLaws
+pub mod RepositoryLaws
 pub mod ExportLaws
+pub mod StreamLaws

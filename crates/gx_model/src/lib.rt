@@ -4,7 +4,12 @@
 
 mod faults;
 mod features;
+pub mod file_map_laws;
+pub mod history_laws;
+pub mod object_laws;
 mod objects;
+pub mod repository_laws;
+pub mod stream_laws;
 
 pub use faults::Fault;
 pub use features::Feature;

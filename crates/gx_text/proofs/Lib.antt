@@ -1,3 +1,4 @@
 pub mod Sending
 pub mod Numbers
 pub mod Cutting
+pub mod Neighbours

@@ -4,12 +4,18 @@
 
 mod cuts;
 mod device;
+mod fault;
+mod ident;
 mod memory;
 mod number;
 mod outside;
+mod ref_name;
 
 pub use cuts::cut;
 pub use device::{Failed, Sink, Source, send};
+pub use fault::TextFault;
+pub use ident::Ident;
 pub use memory::{Bytes, Held};
 pub use number::decimal;
 pub use outside::{FromRead, IntoWrite};
+pub use ref_name::is_ref_name;

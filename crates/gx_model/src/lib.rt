@@ -2,6 +2,7 @@
 //! No program logic stands here: a law is the contract of a public function with an empty body.
 #![tactic(auto)]
 
+pub mod export_laws;
 mod faults;
 mod features;
 pub mod file_map_laws;
@@ -10,6 +11,7 @@ pub mod object_laws;
 mod objects;
 pub mod repository_laws;
 pub mod stream_laws;
+pub mod text_laws;
 
 pub use faults::Fault;
 pub use features::Feature;

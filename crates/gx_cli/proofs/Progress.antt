@@ -18,7 +18,7 @@ use Rattle.gx_stream.specs.declared.item.Item.{Item}
 use Rattle.gx_stream.specs.declared.fault.StreamFault.{StreamFault}
 use Rattle.gx_stream.specs.declared.fault.StreamFault.TheVariants as stream
 use Rattle.gx_stream.specs.Faults.{fault_of, end_seen, ended as only}
-use Rattle.gx_stream.specs.Readers.{Reads, item_of}
+use Rattle.gx_stream.specs.Reading.{Reads, item_of}
 use Rattle.gx_cli.specs.Blobs.{BlobRun, Stop, refused, blobs_of, behind, first_body, stops}
 use Rattle.gx_cli.specs.Steps.{Step, stop, go, body, run_of, step_of, stepped, stop_at}
 use Rattle.gx_cli.specs.Printing.{blob_line, printed, blob_record, wrote, stop_of, Clashes, Stops, IsHeldForOther, FailsWithin, Prints, PrintsBlobs, PrintsOne, kind_of}
@@ -33,16 +33,11 @@ use Rattle.gx_cli.proofs.Staged.{blobs_of-run}
 abbrev pub staged : Stage → Stream → BlobRun
 staged stage s = run_of s.items stage s.end
 
--- the names of the blobs are printed, where the source and the sink tell their bytes
-abbrev pub PrintsStaged : (Kind → Bytes → Bytes) → Option Stream → Option Taken → Option Taken → Result ℕ BlobsFault → Type 0
-PrintsStaged names None was is r = Unit {0}
-PrintsStaged names (Some s) None is r = Unit {0}
-PrintsStaged names (Some s) (Some was) is r = Prints names (staged Expected s) was is r
+abbrev refused_at : ℕ → BlobsKind → Result ℕ BlobsFault
+refused_at count kind = Err (record { command = count + 1; kind = kind })
 
-pub printed-staged : (names : Kind → Bytes → Bytes) (start : Option Stream) (was is : Option Taken) (r : Result ℕ BlobsFault) → PrintsStaged names start was is r → PrintsBlobs names start was is r
-printed-staged names None was is r h = tt
-printed-staged names (Some s) None is r h = tt
-printed-staged names (Some s) (Some was) is r h = subst (λ run. Prints names run was is r) (sym (blobs_of-run s)) h
+as_blobs : (names : Kind → Bytes → Bytes) (s : Stream) (was : Taken) (is : Option Taken) (r : Result ℕ BlobsFault) → Prints names (staged Expected s) was is r → Prints names (blobs_of s) was is r
+as_blobs names s was is r h = subst (λ run. Prints names run was is r) (sym (blobs_of-run s)) h
 
 -- the blobs so far, and then those of what is left
 abbrev pub Goes : Option Stream → Option Stream → Stage → List Bytes → Type 0
@@ -130,16 +125,7 @@ HeldAmong-push : (names : Kind → Bytes → Bytes) (front : List Bytes) (x : By
 HeldAmong-push names front x [] h = tt
 HeldAmong-push names front x (r ∷ rs) h = ((h.0.0, IsIn-push h.0.0 x front h.0.1, h.0.2), HeldAmong-push names front x rs h.1)
 
-HeldAmong-put-grows : (old new : List Record) (r : Record) → put old r ≡ Some new → (new ≡ old) ⊎ (new ≡ old ++ r ∷ [])
-put-grows old new r e = by (record_named old r.name) e where
-  by : (found : Option Record) → put_under found old r ≡ Some new → (new ≡ old) ⊎ (new ≡ old ++ r ∷ [])
-  by None e = inr cc
-  by (Some s) e = if_same (same_object s r) e where
-    if_same : (b : Bool) → (if b then Some old else None) ≡ Some new → (new ≡ old) ⊎ (new ≡ old ++ r ∷ [])
-    if_same true e = inl cc
-    if_same false e = absurd (none-some new e)
-
-added : (names : Kind → Bytes → Bytes) (front : List Bytes) (x : Bytes) (held : List Record) → HeldAmong names front held → HeldAmong names (front ++ x ∷ []) (held ++ blob_record names x ∷ [])
+HeldAmong-added : (names : Kind → Bytes → Bytes) (front : List Bytes) (x : Bytes) (held : List Record) → HeldAmong names front held → HeldAmong names (front ++ x ∷ []) (held ++ blob_record names x ∷ [])
 HeldAmong-added names front x [] h = ((x, IsIn-last x front, refl), tt)
 HeldAmong-added names front x (r ∷ rs) h = ((h.0.0, IsIn-push h.0.0 x front h.0.1, h.0.2), HeldAmong-added names front x rs h.1)
 
@@ -152,6 +138,15 @@ Wrote-more None is new bytes more w s = tt
 Wrote-more (Some was) is new bytes more w s =
     let t = rw w at s in
     t.0 ∙ ap (λ bs. Some (record was { bytes = bs })) (append_assoc was.bytes bytes more)
+
+put-grows : (old new : List Record) (r : Record) → put old r ≡ Some new → (new ≡ old) ⊎ (new ≡ old ++ r ∷ [])
+put-grows old new r e = by (record_named old r.name) e where
+  by : (found : Option Record) → put_under found old r ≡ Some new → (new ≡ old) ⊎ (new ≡ old ++ r ∷ [])
+  by None e = inr cc
+  by (Some s) e = if_same (same_object s r) e where
+    if_same : (b : Bool) → (if b then Some old else None) ≡ Some new → (new ≡ old) ⊎ (new ≡ old ++ r ∷ [])
+    if_same true e = inl cc
+    if_same false e = absurd (none-some new e)
 
 added : (names : Kind → Bytes → Bytes) (front : List Bytes) (x : Bytes) (held now : List Record) → (now ≡ held) ⊎ (now ≡ held ++ blob_record names x ∷ []) → HeldAmong names front held → HeldAmong names (front ++ x ∷ []) now
 added names front x held now (inl e) h = subst (HeldAmong names (front ++ x ∷ [])) (sym e) (HeldAmong-push names front x held h)
@@ -179,23 +174,23 @@ unfolding run_of
 at_end r left stage front f e g =
     g ∙ ap (λ v. behind front (staged stage v)) e ∙ ap (λ bs. record { bodies = bs; stop = stop_at stage f }) (append-nil front)
 
-pub Prints-end : (names : Kind → Bytes → Bytes) (start : Option Stream) (now new : Option Stream) (stage : Stage) (was is : Option Taken) (held : List Record) (count : ℕ) → stop_at stage Finished ≡ None → Progress names start now stage was is held count → Reads now new (Ok None) → PrintsStaged names start was is (Ok count)
+pub Prints-end : (names : Kind → Bytes → Bytes) (start : Option Stream) (now new : Option Stream) (stage : Stage) (was is : Option Taken) (held : List Record) (count : ℕ) → stop_at stage Finished ≡ None → Progress names start now stage was is held count → Reads now new (Ok None) → PrintsBlobs names start was is (Ok count)
 Prints-end names None now new stage was is held count e p r = tt
 Prints-end names (Some c) now new stage None is held count e p r = tt
 Prints-end names (Some c) now new stage (Some was) is held count e p r =
     let t = rw p.goes.1 at r in
-    rw (at_end c p.goes.0 stage p.front Finished t.0 p.goes.2) (e, p.counted, p.wrote)
+    as_blobs names c was is (Ok count) (rw (at_end c p.goes.0 stage p.front Finished t.0 p.goes.2) (e, p.counted, p.wrote))
 
 own_fault : (names : Kind → Bytes → Bytes) (run : BlobRun) (front : List Bytes) (was : Taken) (is : Option Taken) (count : ℕ) (kind : BlobsKind) → run ≡ record { bodies = front; stop = Some (stop_of kind) } → count ≡ length front → is ≡ Some (wrote was (printed names front)) → Prints names run was is (Err (record { command = count + 1; kind = kind }))
 own_fault names run front was is count kind e n w =
     rw e (front, [], sym (append-nil front), ap (λ k. k + 1) n, inl (refl, refl, w))
 
-pub Prints-cut : (names : Kind → Bytes → Bytes) (start : Option Stream) (now new : Option Stream) (stage : Stage) (was is : Option Taken) (held : List Record) (count : ℕ) (kind : BlobsKind) → stop_at stage Finished ≡ Some (stop_of kind) → Progress names start now stage was is held count → Reads now new (Ok None) → PrintsStaged names start was is (Err (record { command = count + 1; kind = kind }))
+pub Prints-cut : (names : Kind → Bytes → Bytes) (start : Option Stream) (now new : Option Stream) (stage : Stage) (was is : Option Taken) (held : List Record) (count : ℕ) (kind : BlobsKind) → stop_at stage Finished ≡ Some (stop_of kind) → Progress names start now stage was is held count → Reads now new (Ok None) → PrintsBlobs names start was is (Err (record { command = count + 1; kind = kind }))
 Prints-cut names None now new stage was is held count kind e p r = tt
 Prints-cut names (Some c) now new stage None is held count kind e p r = tt
 Prints-cut names (Some c) now new stage (Some was) is held count kind e p r =
     let t = rw p.goes.1 at r in
-    own_fault names (staged Expected c) p.front was is count kind (at_end c p.goes.0 stage p.front Finished t.0 p.goes.2 ∙ ap (λ k. record { bodies = p.front; stop = k }) e) p.counted p.wrote
+    as_blobs names c was is (refused_at count kind) (own_fault names (staged Expected c) p.front was is count kind (at_end c p.goes.0 stage p.front Finished t.0 p.goes.2 ∙ ap (λ k. record { bodies = p.front; stop = k }) e) p.counted p.wrote)
 
 no_memory : (names : Kind → Bytes → Bytes) (run next : BlobRun) (front : List Bytes) (was : Taken) (is : Option Taken) (count : ℕ) → run ≡ behind front next → count ≡ length front → is ≡ Some (wrote was (printed names front)) → Prints names run was is (Err (record { command = count + 1; kind = kinds.OutOfMemory }))
 no_memory names run next front was is count e n w =
@@ -207,12 +202,12 @@ fault_case names r left stage front was is count f g n w (inl e) =
 fault_case names r left stage front was is count f g n w (inr e) =
     own_fault names (staged Expected r) front was is count (kind_of f) (at_end r left stage front (Failed (fault_of f)) e g ∙ ap (λ k. record { bodies = front; stop = Some k }) (sym (stop_of-fault f))) n w
 
-pub Prints-fault : (names : Kind → Bytes → Bytes) (start : Option Stream) (now new : Option Stream) (stage : Stage) (was is : Option Taken) (held : List Record) (count : ℕ) (f : StreamFault) → Progress names start now stage was is held count → Reads now new (Err f) → PrintsStaged names start was is (Err (record { command = count + 1; kind = kind_of f }))
+pub Prints-fault : (names : Kind → Bytes → Bytes) (start : Option Stream) (now new : Option Stream) (stage : Stage) (was is : Option Taken) (held : List Record) (count : ℕ) (f : StreamFault) → Progress names start now stage was is held count → Reads now new (Err f) → PrintsBlobs names start was is (Err (record { command = count + 1; kind = kind_of f }))
 Prints-fault names None now new stage was is held count f p r = tt
 Prints-fault names (Some c) now new stage None is held count f p r = tt
 Prints-fault names (Some c) now new stage (Some was) is held count f p r =
     let t = rw p.goes.1 at r in
-    fault_case names c p.goes.0 stage p.front was is count f p.goes.2 p.counted p.wrote t.1
+    as_blobs names c was is (refused_at count (kind_of f)) (fault_case names c p.goes.0 stage p.front was is count f p.goes.2 p.counted p.wrote t.1)
 
 -- what is left where an item came
 comes : (r : Stream) (now new : Option Stream) (stage : Stage) (front : List Bytes) (item : Item) (s : Step) → step_of stage (item_of item) ≡ s → Goes (Some r) now stage front → Reads now new (Ok (Some item)) → (left : Stream) × (staged Expected r ≡ behind front (stepped s (λ n. staged n left)))
@@ -220,12 +215,12 @@ comes r now new stage front item s e g h =
     let t = rw g.1 at h in
     (t.0, g.2 ∙ ap (λ v. behind front (staged stage v)) t.1 ∙ ap (behind front) (staged-item stage (item_of item) t.0 ∙ ap (λ v. stepped v (λ n. staged n t.0)) e))
 
-pub Prints-stop : (names : Kind → Bytes → Bytes) (start : Option Stream) (now new : Option Stream) (stage : Stage) (was is : Option Taken) (held : List Record) (count : ℕ) (item : Item) (kind : BlobsKind) → step_of stage (item_of item) ≡ stop (stop_of kind) → Progress names start now stage was is held count → Reads now new (Ok (Some item)) → PrintsStaged names start was is (Err (record { command = count + 1; kind = kind }))
+pub Prints-stop : (names : Kind → Bytes → Bytes) (start : Option Stream) (now new : Option Stream) (stage : Stage) (was is : Option Taken) (held : List Record) (count : ℕ) (item : Item) (kind : BlobsKind) → step_of stage (item_of item) ≡ stop (stop_of kind) → Progress names start now stage was is held count → Reads now new (Ok (Some item)) → PrintsBlobs names start was is (Err (record { command = count + 1; kind = kind }))
 Prints-stop names None now new stage was is held count item kind e p r = tt
 Prints-stop names (Some c) now new stage None is held count item kind e p r = tt
 Prints-stop names (Some c) now new stage (Some was) is held count item kind e p r =
     let t = comes c now new stage p.front item (stop (stop_of kind)) e p.goes r in
-    own_fault names (staged Expected c) p.front was is count kind (t.1 ∙ ap (λ bs. record { bodies = bs; stop = Some (stop_of kind) }) (append-nil p.front)) p.counted p.wrote
+    as_blobs names c was is (refused_at count kind) (own_fault names (staged Expected c) p.front was is count kind (t.1 ∙ ap (λ bs. record { bodies = bs; stop = Some (stop_of kind) }) (append-nil p.front)) p.counted p.wrote)
 
 -- a held object under the name at hand came from one of the blobs before
 clash : (names : Kind → Bytes → Bytes) (x y : Bytes) (front : List Bytes) → IsIn y front → names kind.Blob y ≡ names kind.Blob x → y ≢ x → Clashes names front x
@@ -234,12 +229,14 @@ clash names x y (z ∷ zs) (inl i) e d = inl (rw (sym i) e, rw (sym i) d)
 clash names x y (z ∷ zs) (inr i) e d = inr (clash names x y zs i e d)
 
 -- the record of a name is one of these, and has the name
+found_by : (names : Kind → Bytes → Bytes) (n : Bytes) (front : List Bytes) (r : Record) (v : Option Record) (other : Record) (b : Bool) → Decides b (n ≡ r.name) → (y : Bytes) × IsIn y front × (r ≡ blob_record names y)
+    → (v ≡ Some other → (y : Bytes) × IsIn y front × (other ≡ blob_record names y) × (n ≡ other.name)) → (if b then Some r else v) ≡ Some other → (y : Bytes) × IsIn y front × (other ≡ blob_record names y) × (n ≡ other.name)
+found_by names n front r v other true same of more e = let is : r ≡ other = cc in (of.0, of.1, sym is ∙ of.2, same.0 refl ∙ ap (λ (s : Record). s.name) is)
+found_by names n front r v other false same of more e = more e
+
 found : (names : Kind → Bytes → Bytes) (n : Bytes) (front : List Bytes) (held : List Record) (other : Record) → record_named held n ≡ Some other → HeldAmong names front held → (y : Bytes) × IsIn y front × (other ≡ blob_record names y) × (n ≡ other.name)
 found names n front [] other e h = absurd (none-some other e)
-found names n front (r ∷ rs) other e h = at_name (same_bytes n r.name) (bytes_eq-Decides n r.name) e where
-  at_name : (b : Bool) → Decides b (n ≡ r.name) → (if b then Some r else record_named rs n) ≡ Some other → (y : Bytes) × IsIn y front × (other ≡ blob_record names y) × (n ≡ other.name)
-  at_name true same e = let is : r ≡ other = cc in (h.0.0, h.0.1, sym is ∙ h.0.2, same.0 refl ∙ ap (λ (s : Record). s.name) is)
-  at_name false same e = found names n front rs other e h.1
+found names n front (r ∷ rs) other e h = found_by names n front r (record_named rs n) other (same_bytes n r.name) (bytes_eq-Decides n r.name) h.0 (λ d. found names n front rs other d h.1) e
 
 -- a blob's record that is not the same object has other bytes
 other_bytes : (names : Kind → Bytes → Bytes) (x y : Bytes) (other : Record) → other ≡ blob_record names y → (held : List Record) → put_under (Some other) held (blob_record names x) ≡ None → y ≢ x
@@ -270,12 +267,12 @@ one_case names run next front x was is out held kept count kinds.BadNumber e n w
 one_case names run next front x was is out held kept count kinds.TruncatedData e n w h o = absurd o
 one_case names run next front x was is out held kept count kinds.NotABlob e n w h o = absurd o
 
-pub Prints-one : (names : Kind → Bytes → Bytes) (start : Option Stream) (now new : Option Stream) (stage : Stage) (was is out : Option Taken) (held kept : List Record) (count : ℕ) (item : Item) (x : Bytes) (kind : BlobsKind) → step_of stage (item_of item) ≡ body x → Progress names start now stage was is held count → Reads now new (Ok (Some item)) → PrintsOne names held kept is out x (Err kind) → PrintsStaged names start was out (Err (record { command = count + 1; kind = kind }))
+pub Prints-one : (names : Kind → Bytes → Bytes) (start : Option Stream) (now new : Option Stream) (stage : Stage) (was is out : Option Taken) (held kept : List Record) (count : ℕ) (item : Item) (x : Bytes) (kind : BlobsKind) → step_of stage (item_of item) ≡ body x → Progress names start now stage was is held count → Reads now new (Ok (Some item)) → PrintsOne names held kept is out x (Err kind) → PrintsBlobs names start was out (Err (record { command = count + 1; kind = kind }))
 Prints-one names None now new stage was is out held kept count item x kind e p r o = tt
 Prints-one names (Some c) now new stage None is out held kept count item x kind e p r o = tt
 Prints-one names (Some c) now new stage (Some was) is out held kept count item x kind e p r o =
     let t = comes c now new stage p.front item (body x) e p.goes r in
-    one_case names (staged Expected c) (staged Expected t.0) p.front x was is out held kept count kind t.1 p.counted p.wrote p.among o
+    as_blobs names c was out (refused_at count kind) (one_case names (staged Expected c) (staged Expected t.0) p.front x was is out held kept count kind t.1 p.counted p.wrote p.among o)
 
 pub PrintsOne-at : {N : Type 0} (f : N → Kind → Bytes → Bytes) (a b : N) (held kept : List Record) (is out : Option Taken) (x : Bytes) (r : Result (Unit {0}) BlobsKind) → a ≡ b → PrintsOne (f a) held kept is out x r → PrintsOne (f b) held kept is out x r
 PrintsOne-at f a b held kept is out x r e h = subst (λ n. PrintsOne (f n) held kept is out x r) e h

@@ -5,7 +5,7 @@ ghost use Rattle.std.specs.Option.{option_map};
 ghost use Rattle.gx_model.specs.Items.{Line as a_line, Finished};
 ghost use Rattle.gx_model.specs.Grammar.{mark_of};
 ghost use Rattle.gx_stream.specs.Heard.{items_from};
-ghost use Rattle.gx_stream.specs.Readers.{item_of};
+ghost use Rattle.gx_stream.specs.Reading.{item_of};
 ghost use Rattle.gx_cli.specs.Steps.{step_of, stop_at, marked_as, marked_by, named_by, command_line, mark_line, oid_line};
 ghost use Rattle.gx_cli.specs.Printing.{step_seen, stop_of, kind_of, name_line, PrintsOne, PrintsBlobs};
 
@@ -190,7 +190,7 @@ fn mark_line<'a>(line: &[u8]) -> Step<'a>
 }
 
 /// A mark's text: a colon, and a number from 1.
-#[tactic(auto, unfolding(Rattle::gx_model::specs::Grammar::mark_of))]
+#[tactic(auto, unfolding(gx_model::specs::Grammar::mark_of))]
 fn mark<'a>(text: &[u8]) -> Step<'a>
     ensures { step_seen result ≡ marked_as (mark_of text.now) }
 {

@@ -1,18 +1,18 @@
 -- Refs, digits and names find the same among records as in the history.
 use Rattle.std.proofs.Common.{◌≡◌, true, false, cond, refl, sym, ap, ◌∙◌, List, [], ◌∷◌, map, Option, None, Some}
-use Rattle.std.specs.List.{filter, starts_with}
+use Rattle.std.specs.List.{filter}
 use Rattle.std.specs.Option.{option_map}
 use Rattle.std.specs.Map.{lookup}
 use Rattle.std.specs.Bool.{passes}
 use Rattle.gx_model.specs.declared.objects.Kind.{Kind}
 use Rattle.gx_model.specs.Texts.{Bytes, same_bytes}
 use Rattle.gx_model.specs.Values.{Value, blob_value, tree_value, commit_value, tag_value}
-use Rattle.gx_model.specs.Objects.{IsNamer, hex}
+use Rattle.gx_model.specs.Objects.{IsNamer}
 use Rattle.gx_model.specs.Records.{name_of, kind_of, body_of}
 use Rattle.gx_model.specs.Histories.{Record, Records, IsIn, Target, record_of}
 use Rattle.gx_model.specs.Sound.{IsSound}
 use Rattle.gx_model.specs.HistoryOf.{target_in, value_of_name, history_of}
-use Rattle.gx_model.specs.Denotation.{first_ref, or_ref, begun_by, lower, same_number}
+use Rattle.gx_model.specs.Denotation.{first_ref, or_ref, begins_with_digits, begun_by}
 use Rattle.gx_model.specs.Lookups.{or_else, first_named, records_begun_by, commit_of_record, commit_named, commit_name_of}
 use Rattle.gx_model.proofs.LinkedValues.{proper_in}
 use Rattle.gx_model.proofs.BodiesReadBack.{tag_read}
@@ -35,10 +35,10 @@ first_found r (n ∷ ns) =
     ∙ or_mapped (λ m. target_in (value_of_name r.records m)) (lookup (same_bytes n) r.refs) (first_named r.refs ns)
 
 module _ (name : Kind → Bytes → Bytes) (namer : IsNamer name) where
-  begun : (vs : List Value) (digits : Bytes) → map (record_of name) (filter (λ v. starts_with same_number (map lower digits) (hex (name_of name v))) vs) ≡ records_begun_by (map (record_of name) vs) digits
+  begun : (vs : List Value) (digits : Bytes) → map (record_of name) (filter (λ v. begins_with_digits digits (name_of name v)) vs) ≡ records_begun_by (map (record_of name) vs) digits
   begun [] digits = refl
   begun (v ∷ vs) digits =
-      elim (starts_with same_number (map lower digits) (hex (name_of name v))) as (λ b. map (record_of name) (cond b (v ∷ filter (λ v. starts_with same_number (map lower digits) (hex (name_of name v))) vs) (filter (λ v. starts_with same_number (map lower digits) (hex (name_of name v))) vs)) ≡ cond b (record_of name v ∷ records_begun_by (map (record_of name) vs) digits) (records_begun_by (map (record_of name) vs) digits)) [
+      elim (begins_with_digits digits (name_of name v)) as (λ b. map (record_of name) (cond b (v ∷ filter (λ v. begins_with_digits digits (name_of name v)) vs) (filter (λ v. begins_with_digits digits (name_of name v)) vs)) ≡ cond b (record_of name v ∷ records_begun_by (map (record_of name) vs) digits) (records_begun_by (map (record_of name) vs) digits)) [
         | true ↦ ap (λ rs. record_of name v ∷ rs) (begun vs digits)
         | false ↦ begun vs digits
       ]

@@ -8,9 +8,12 @@ pub mod Readings
 pub mod Found
 pub mod PathTests
 pub mod FileMapEdits
+pub mod FoundFiles
+pub mod EditMeanings
 pub mod SameValues
 pub mod PathOrder
 pub mod PathRuns
+pub mod SameFileMaps
 pub mod TreeBodies
 pub mod EntryTexts
 pub mod HexDigits

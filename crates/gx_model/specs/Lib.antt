@@ -4,6 +4,7 @@ pub mod RefNames
 pub mod Idents
 pub mod Faults
 pub mod Paths
+pub mod Revisions
 pub mod Items
 pub mod Spelling
 pub mod Commands
@@ -20,9 +21,11 @@ pub mod Growth
 pub mod Walks
 pub mod Lookups
 pub mod Denotation
+pub mod Naming
 pub mod Ranges
 pub mod Replay
 pub mod Export
+pub mod StoreText
 pub mod FileMapLaws
 pub mod ObjectLaws
 pub mod HistoryLaws
@@ -31,3 +34,7 @@ pub mod ExportLaws
 pub mod StreamLaws
 pub mod TextLaws
 pub mod StreamRows
+pub mod RowTexts
+pub mod ImportRows
+pub mod RevisionRows
+pub mod ExportRows

@@ -16,7 +16,7 @@ use Rattle.gx_model.specs.Export.{export_text}
 use Rattle.gx_model.specs.RowTexts.{lines, nothing, imported_lines, history_of_lines, refusal}
 
 -- two branches with a merge, a gitlink and a tag
-abbrev stream : List Bytes
+abbrev pub stream : List Bytes
 stream =
     codes "commit refs/heads/a" ∷
     codes "mark :1" ∷

@@ -1,5 +1,5 @@
 -- The text of a store file, version 1: all records in their order, and the refs.
-use Rattle.std.specs.Prelude.{List, ◌∷◌, ◌++◌, [], length, codes}
+use Rattle.std.specs.Prelude.{ℕ, List, ◌∷◌, ◌++◌, [], length, map, codes}
 use Rattle.std.specs.List.{flat_map}
 use Rattle.std.specs.Fmt.{decimal}
 use Rattle.gx_model.specs.declared.objects.Kind.{Kind}

@@ -187,7 +187,7 @@ module _ {X : Type 0} where
   none_at t [] h = tt
   none_at t (e ∷ es) h = elim (t e.0) as (λ b. is_some (cond b (Some e.1) (lookup t es)) ≡ false → T (not b && list_all (λ e. not (t e.0)) es)) [ true ↦ λ k. absurd (cc) | false ↦ λ k. none_at t es k ] h
 
-  moved_paths : (s d : Path) (es : List (Path × X)) → T (list_all is_component d) → T (are_file_paths es) → copy_fault es s d ≡ None → T (are_file_paths (moved s d (under s es)))
+  pub moved_paths : (s d : Path) (es : List (Path × X)) → T (list_all is_component d) → T (are_file_paths es) → copy_fault es s d ≡ None → T (are_file_paths (moved s d (under s es)))
   moved_paths s [] es k f h =
       let n = no_fault _ _ _ h in
       all_into_root s (under s es) (under_passes s es) (all_filter _ _ es f) (passes _ n.2)

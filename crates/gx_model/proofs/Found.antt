@@ -1,18 +1,16 @@
 -- Each text has a reading.
-use Rattle.std.proofs.Common.{◌≡◌, ◌≢◌, ℕ, zero, suc, ◌+◌, ◌-◌, ◌<◌, ◌≤◌, Bool, true, false, cond, not, ◌||◌, ◌&&◌, ◌⊎◌, inl, inr, Option, Some, None, List, [], ◌∷◌, ◌++◌, length, take, drop, nat_eq, nat_lt, codes, eqb, refl, sym, ap, subst, ◌∙◌, arith, rules, append-nil, append_assoc}
-use Rattle.std.specs.List.{starts_with, flat_map}
+use Rattle.std.proofs.Common.{◌≡◌, ℕ, zero, suc, ◌+◌, ◌<◌, ◌≤◌, Bool, true, false, cond, ◌||◌, ◌&&◌, ◌⊎◌, inl, inr, Option, Some, None, List, [], ◌∷◌, ◌++◌, length, take, drop, nat_eq, nat_lt, codes, refl, sym, ap, subst, ◌∙◌, arith, append_assoc}
+use Rattle.std.specs.List.{starts_with}
 use Rattle.std.specs.Str.{bytes_eq}
-use Rattle.std.proofs.lemmas.Bool.{false≢true, cases_lt}
-use Rattle.std.proofs.lemmas.List.{take_at, drop_at, length-append, length-drop, length-take, take-append-drop, take_all, drop_all, nil_from_length}
+use Rattle.std.proofs.lemmas.Bool.{false≢true}
+use Rattle.std.proofs.lemmas.List.{length-drop, length-take, take-append-drop, take_all, drop_all, nil_from_length}
 use Rattle.std.proofs.lemmas.Slice.Eq.{starts_is, bytes_eq-Decides}
-use Rattle.std.proofs.Math.Seq.{drop-append-add}
 use Rattle.std.proofs.lemmas.Bool.Decides.{Decides-eqb, nat_tests}
 use Rattle.gx_model.specs.Numbers.{decimal_of}
 use Rattle.gx_model.specs.Texts.{Bytes}
-use Rattle.gx_model.specs.declared.faults.Fault.TheVariants as faults
-use Rattle.gx_model.specs.Items.{Item, Line, Data, End, Finished, Failed, Stream, First, takes, drops, ends, first_of, first_line, announced, counted, counted_block, delimited, delimited_by, lines_before, with_line, without_lf, is_lf, line_len, has_no_line, end_of, cut_off, then_comes, after, read_upto, items_of}
-use Rattle.gx_model.proofs.Readings.{Finds, finds, first_of-line, plain_line, comment_first, counted_first, delimited_first, nothing_before, one_line, its_line, no_line_left, by_zero, spells_shorter, counted_no, refuted}
-use Rattle.gx_model.specs.Spelling.{HasNoLf, BeginsLine, comment_line, data_line, delimiter_text, IsNot, NoLfFirst, EndsBlock, AreOther, text_of_lines, IsCounted, IsDelimited, Spells, IsCut, Ends, IsReading, ended, taken, dropped}
+use Rattle.gx_model.specs.Items.{Line, Data, First, takes, drops, ends, first_of, first_line, announced, counted, counted_block, delimited, delimited_by, lines_before, with_line, without_lf, is_lf, line_len, has_no_line, end_of, cut_off, after, read_upto, items_of}
+use Rattle.gx_model.proofs.Readings.{finds, nothing_before, one_line, its_line, no_line_left, spells_shorter}
+use Rattle.gx_model.specs.Spelling.{HasNoLf, BeginsLine, comment_line, data_line, delimiter_text, IsNot, EndsBlock, AreOther, text_of_lines, Spells, IsCut, Ends, IsReading, ended, taken, dropped}
 
 -- ---- lines
 
@@ -179,7 +177,7 @@ counted_there text fails y bytes (Some n) b o e = block_there text fails y bytes
 form_is : (p l : Bytes) → starts_with nat_eq l p ≡ true → l ≡ p ++ drop (length p) l
 form_is p l e = (starts_is Decides-eqb l p _ refl).0 e
 
-not_form : (p l : Bytes) → starts_with nat_eq l p ≡ false → (x : Bytes) → l ≡ p ++ x → ⊥
+pub not_form : (p l : Bytes) → starts_with nat_eq l p ≡ false → (x : Bytes) → l ≡ p ++ x → ⊥
 not_form p l e x is = false≢true (sym e ∙ (starts_is Decides-eqb l p _ refl).1 x is)
 
 announced_there : (text : Bytes) (fails : Bool) (y bytes : Bytes) → BeginsLine text fails (data_line y) bytes → (t : Bool) → starts_with nat_eq y (codes "<<") ≡ t → Is text fails (cond t (delimited (drop 2 y) bytes fails) (counted (decimal_of y) bytes fails))

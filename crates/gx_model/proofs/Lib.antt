@@ -1,10 +1,19 @@
+pub mod Cuts
+pub mod Decimals
+pub mod Idents
+pub mod LineTexts
+pub mod PathTexts
+pub mod Quotes
 pub mod Readings
 pub mod Found
 pub mod PathTests
 pub mod FileMapEdits
+pub mod FoundFiles
+pub mod EditMeanings
 pub mod SameValues
 pub mod PathOrder
 pub mod PathRuns
+pub mod SameFileMaps
 pub mod TreeBodies
 pub mod EntryTexts
 pub mod HexDigits
@@ -30,3 +39,7 @@ pub mod FirstRecords
 pub mod FoundRecords
 pub mod TagBodies
 pub mod ShortPaths
+pub mod ItemTexts
+pub mod CommandFields
+pub mod CommandItems
+pub mod SpelledItems

@@ -1,17 +1,17 @@
 -- A text has one reading at most.
-use Rattle.std.proofs.Common.{◌≡◌, ◌≢◌, ℕ, zero, suc, ◌+◌, ◌-◌, ◌<◌, ◌≤◌, Bool, true, false, cond, not, ◌||◌, ◌&&◌, ◌⊎◌, inl, inr, Option, Some, None, List, [], ◌∷◌, ◌++◌, length, take, drop, nat_eq, nat_lt, codes, eqb, refl, sym, ap, subst, ◌∙◌, arith, rules, append-nil, append_assoc}
-use Rattle.std.specs.List.{starts_with, flat_map}
+use Rattle.std.proofs.Common.{◌≡◌, ℕ, zero, suc, ◌+◌, ◌<◌, ◌≤◌, Bool, true, false, ◌||◌, ◌&&◌, inl, inr, Some, None, List, [], ◌∷◌, ◌++◌, length, take, drop, nat_eq, nat_lt, codes, refl, sym, ap, ◌∙◌, arith, append_assoc}
+use Rattle.std.specs.List.{starts_with}
 use Rattle.std.specs.Str.{bytes_eq}
-use Rattle.std.proofs.lemmas.Bool.{false≢true, cases_lt}
-use Rattle.std.proofs.lemmas.List.{take_at, drop_at, length-append, length-drop, length-take, take-append-drop, take_all, drop_all, nil_from_length}
+use Rattle.std.proofs.lemmas.Bool.{false≢true}
+use Rattle.std.proofs.lemmas.List.{take_at, drop_at, length-append, take_all, drop_all}
 use Rattle.std.proofs.lemmas.Slice.Eq.{starts_is, bytes_eq-Decides}
 use Rattle.std.proofs.Math.Seq.{drop-append-add}
 use Rattle.std.proofs.lemmas.Bool.Decides.{Decides-eqb, nat_tests}
 use Rattle.gx_model.specs.Numbers.{decimal_of}
 use Rattle.gx_model.specs.Texts.{Bytes}
 use Rattle.gx_model.specs.declared.faults.Fault.TheVariants as faults
-use Rattle.gx_model.specs.Items.{Item, Line, Data, End, Finished, Failed, Stream, First, takes, drops, ends, first_of, first_line, announced, counted, counted_block, delimited, delimited_by, lines_before, with_line, without_lf, is_lf, line_len, has_no_line, end_of, cut_off, then_comes, after, read_upto, items_of}
-use Rattle.gx_model.specs.Spelling.{HasNoLf, BeginsLine, comment_line, data_line, delimiter_text, IsNot, NoLfFirst, EndsBlock, AreOther, text_of_lines, IsCounted, IsDelimited, Spells, IsCut, Ends, IsReading, ended, taken, dropped}
+use Rattle.gx_model.specs.Items.{Item, Line, Data, End, Finished, Failed, takes, drops, ends, first_of, first_line, counted, counted_block, delimited, delimited_by, lines_before, with_line, without_lf, line_len, has_no_line, end_of, cut_off, then_comes, after, read_upto, items_of}
+use Rattle.gx_model.specs.Spelling.{HasNoLf, BeginsLine, comment_line, data_line, delimiter_text, IsNot, NoLfFirst, EndsBlock, AreOther, text_of_lines, Spells, IsCut, Ends, IsReading, ended, taken, dropped}
 
 pub refuted : (b : Bool) → (b ≡ true → ⊥) → b ≡ false
 refuted true h = absurd (h refl)

@@ -21,6 +21,7 @@ pub mod Growth
 pub mod Walks
 pub mod Lookups
 pub mod Denotation
+pub mod Naming
 pub mod Ranges
 pub mod Replay
 pub mod Export
@@ -33,6 +34,8 @@ pub mod HistoryLaws
 pub mod RepositoryLaws
 pub mod ExportLaws
 pub mod StreamLaws
+pub mod TextLaws
+pub mod StreamRows
 pub mod RowTexts
 pub mod ImportRows
 pub mod RevisionRows

@@ -2,6 +2,7 @@
 //! No program logic stands here: a law is the contract of a public function with an empty body.
 #![tactic(auto)]
 
+pub mod export_laws;
 mod faults;
 mod features;
 pub mod file_map_laws;
@@ -11,6 +12,7 @@ mod objects;
 pub mod repository_laws;
 mod store_faults;
 pub mod stream_laws;
+pub mod text_laws;
 
 pub use faults::Fault;
 pub use features::Feature;

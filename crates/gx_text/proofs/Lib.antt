@@ -2,3 +2,8 @@ pub mod Sending
 pub mod Numbers
 pub mod Cutting
 pub mod Neighbours
+pub mod PathTexts
+pub mod Quotes
+pub mod Unquoting
+pub mod Rests
+pub mod Components

@@ -1,3 +1,4 @@
 pub mod Devices
 pub mod TextFaults
 pub mod Idents
+pub mod TreePaths

@@ -9,6 +9,9 @@ mod ident;
 mod memory;
 mod number;
 mod outside;
+mod path;
+mod printed;
+mod quoted;
 mod ref_name;
 
 pub use cuts::cut;
@@ -18,4 +21,5 @@ pub use ident::Ident;
 pub use memory::{Bytes, Held};
 pub use number::decimal;
 pub use outside::{FromRead, IntoWrite};
+pub use path::TreePath;
 pub use ref_name::is_ref_name;

@@ -1,0 +1,8 @@
+use Rattle.std.proofs.Common.{rules, tests}
+use Rattle.std.proofs.lemmas.Iterator.{YieldsList-from_slice}
+use Rattle.std.proofs.lemmas.Iterator.Search.{all_from_yields_List}
+use Rattle.gx_model.specs.Paths.{is_printed_bare}
+use Rattle.gx_text.proofs.printed.are_bare.Goals as goal
+
+pub returns : goal.returns
+returns c = all_from_yields_List is_printed_bare _ _ c.all.result c.all.ensures.ran (YieldsList-from_slice c.args.text.now c.iter.ensures.rest) (λ x b q k. search (rules, tests))

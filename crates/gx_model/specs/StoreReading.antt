@@ -1,5 +1,5 @@
 -- The reading of a store file's text, version 1, from front to back: the records and the refs, or the first fault.
-use Rattle.std.specs.Prelude.{ℕ, zero, suc, ◌+◌, Bool, true, false, not, ◌&&◌, nat_eq, nat_lt, if◌then◌else◌, List, [], ◌∷◌, ◌++◌, length, take, drop, codes, Option, None, Some, Result, Ok, Err}
+use Rattle.std.specs.Prelude.{ℕ, zero, suc, ◌+◌, Bool, true, false, ◌&&◌, nat_eq, nat_lt, if◌then◌else◌, List, [], ◌∷◌, ◌++◌, length, take, drop, codes, Option, None, Some, Result, Ok, Err}
 use Rattle.std.specs.Option.{option_and_then}
 use Rattle.std.specs.List.{starts_with}
 use Rattle.std.specs.Map.{lookup}
@@ -22,7 +22,7 @@ use Rattle.gx_model.specs.Histories.{Record, Records}
 use Rattle.gx_model.specs.HistoryOf.{tag_parts_in}
 use Rattle.gx_model.specs.Growth.{record_named}
 use Rattle.gx_model.specs.RecordFaults.{record_fault}
-use Rattle.gx_model.specs.StoreText.{kind_word}
+use Rattle.gx_model.specs.Naming.{kind_word}
 
 abbrev pub Stored : Type 0 → Type 0
 Stored A = Result A FileFault

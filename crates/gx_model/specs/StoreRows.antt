@@ -13,15 +13,17 @@ use Rattle.gx_model.specs.Paths.{char_at, unquote_within, quoted_of}
 use Rattle.gx_model.specs.Items.{counted_block, lines_before, delimited, first_line, first_of, read_upto, items_of}
 use Rattle.gx_model.specs.Grammar.{unsigned_in, item_after_in, rest_line_in, block_in, mark_of, commit_ish_of, last_path, source_path, modify_at, two_paths, change_at, changes_within, merges_within, blob_at, commit_at, links_at, tag_at, reset_at, command_at, commands_within}
 use Rattle.gx_model.specs.Revisions.{revision_of}
+use Rattle.gx_model.specs.Spelling.{text_of_lines}
 use Rattle.gx_model.specs.Values.{CommitText}
-use Rattle.gx_model.specs.Objects.{Entry, commit_text, hex, tag_text, tree_text}
-use Rattle.gx_model.specs.Histories.{History, Record, Records, record_of, value_at}
+use Rattle.gx_model.specs.Objects.{Entry, commit_text, tag_text, tree_text}
+use Rattle.gx_model.specs.Histories.{History, Records, record_of, value_at}
 use Rattle.gx_model.specs.Records.{name_of}
+use Rattle.gx_model.specs.Naming.{short_name}
 use Rattle.gx_model.specs.Replay.{imported}
 use Rattle.gx_model.specs.RecordFaults.{record_fault}
 use Rattle.gx_model.specs.StoreText.{store_text}
 use Rattle.gx_model.specs.StoreReading.{store_of}
-use Rattle.gx_model.specs.RowTexts.{history_of_lines, last_byte_name, lines, nothing}
+use Rattle.gx_model.specs.RowTexts.{history_of_lines, last_byte_name, nothing}
 use Rattle.gx_model.specs.ExportRows.{stream}
 
 -- the names in these rows
@@ -37,13 +39,13 @@ branches = history_of_lines stream
 
 pub record StoreRows : Type 0 where
   -- the text of an empty repository, and of one with a blob
-  pub empty : store_text (records_of nothing) ≡ lines (codes "gxstore 1" ∷ codes "objects 0" ∷ codes "refs 0" ∷ codes "end" ∷ [])
-  pub one_blob : store_text (records_of (history_of_lines (codes "blob" ∷ codes "mark :1" ∷ codes "data 13" ∷ codes "test content" ∷ []))) ≡ lines (codes "gxstore 1" ∷ codes "objects 1" ∷ codes "blob 13" ∷ codes "test content" ∷ [] ∷ codes "refs 0" ∷ codes "end" ∷ [])
+  pub empty : store_text (records_of nothing) ≡ text_of_lines (codes "gxstore 1" ∷ codes "objects 0" ∷ codes "refs 0" ∷ codes "end" ∷ [])
+  pub one_blob : store_text (records_of (history_of_lines (codes "blob" ∷ codes "mark :1" ∷ codes "data 13" ∷ codes "test content" ∷ []))) ≡ text_of_lines (codes "gxstore 1" ∷ codes "objects 1" ∷ codes "blob 13" ∷ codes "test content" ∷ [] ∷ codes "refs 0" ∷ codes "end" ∷ [])
   -- a text that was written is read again
   pub read_again : store_of name (store_text (records_of branches)) ≡ Ok (records_of branches)
 
 pub store_rows : StoreRows
-unfolding char_at unsigned_in item_after_in rest_line_in block_in cut_at is_ident unquote_within quoted_of mark_of commit_ish_of last_path source_path modify_at two_paths change_at changes_within merges_within blob_at commit_at links_at tag_at reset_at command_at commands_within counted_block lines_before delimited first_line first_of read_upto items_of digits revision_of imported store_text store_of record_fault
+unfolding char_at unsigned_in item_after_in rest_line_in block_in cut_at is_ident unquote_within quoted_of mark_of commit_ish_of last_path source_path modify_at two_paths change_at changes_within merges_within blob_at commit_at links_at tag_at reset_at command_at commands_within counted_block lines_before delimited first_line first_of read_upto items_of digits revision_of imported store_text store_of record_fault short_name
 store_rows = record { empty = refl; one_blob = refl; read_again = refl }
 
 -- ---- texts that are refused
@@ -107,16 +109,16 @@ root = commit_with (tree [])
 abbrev bad_lines : List (Bytes × FileFault)
 bad_lines =
     ([], fault.Truncated)
-    ∷ (lines (codes "gitstore 1" ∷ []), fault.BadMagic)
-    ∷ (lines (codes "gxstore 9" ∷ []), fault.BadVersion)
-    ∷ (lines (codes "gxstore 1" ∷ codes "objects 01" ∷ []), fault.BadRecord)
-    ∷ (lines (codes "gxstore 1" ∷ codes "objects 18446744073709551616" ∷ []), fault.BadRecord)
-    ∷ (lines (codes "gxstore 1" ∷ codes "objects 18446744073709551615" ∷ []), fault.Truncated)
-    ∷ (lines (codes "gxstore 1" ∷ codes "objects 1" ∷ codes "blob 6" ∷ []) ++ codes "hel", fault.Truncated)
-    ∷ (lines (codes "gxstore 1" ∷ codes "objects 1" ∷ codes "blob 2" ∷ codes "hello" ∷ []), fault.BadRecord)
-    ∷ (lines (codes "gxstore 1" ∷ codes "objects 1" ∷ codes "tree 2" ∷ codes "xy" ∷ []), fault.BadObject)
-    ∷ (lines (codes "gxstore 1" ∷ codes "objects 0" ∷ codes "refs 0" ∷ codes "ends" ∷ []), fault.BadRecord)
-    ∷ (lines (codes "gxstore 1" ∷ codes "objects 0" ∷ codes "refs 0" ∷ codes "end" ∷ []) ++ 0 ∷ [], fault.TrailingBytes)
+    ∷ (text_of_lines (codes "gitstore 1" ∷ []), fault.BadMagic)
+    ∷ (text_of_lines (codes "gxstore 9" ∷ []), fault.BadVersion)
+    ∷ (text_of_lines (codes "gxstore 1" ∷ codes "objects 01" ∷ []), fault.BadRecord)
+    ∷ (text_of_lines (codes "gxstore 1" ∷ codes "objects 18446744073709551616" ∷ []), fault.BadRecord)
+    ∷ (text_of_lines (codes "gxstore 1" ∷ codes "objects 18446744073709551615" ∷ []), fault.Truncated)
+    ∷ (text_of_lines (codes "gxstore 1" ∷ codes "objects 1" ∷ codes "blob 6" ∷ []) ++ codes "hel", fault.Truncated)
+    ∷ (text_of_lines (codes "gxstore 1" ∷ codes "objects 1" ∷ codes "blob 2" ∷ codes "hello" ∷ []), fault.BadRecord)
+    ∷ (text_of_lines (codes "gxstore 1" ∷ codes "objects 1" ∷ codes "tree 2" ∷ codes "xy" ∷ []), fault.BadObject)
+    ∷ (text_of_lines (codes "gxstore 1" ∷ codes "objects 0" ∷ codes "refs 0" ∷ codes "ends" ∷ []), fault.BadRecord)
+    ∷ (text_of_lines (codes "gxstore 1" ∷ codes "objects 0" ∷ codes "refs 0" ∷ codes "end" ∷ []) ++ 0 ∷ [], fault.TrailingBytes)
     ∷ []
 
 -- ---- of records and refs
@@ -160,5 +162,5 @@ pub record StoreRefusals : Type 0 where
   pub own_name : fault_of (text_with (root_commit ++ tag_of root ∷ []) (ref (codes "refs/heads/a") root ∷ ref (codes "refs/tags/v1") (tag_of root) ∷ [])) ≡ None
 
 pub store_refusals : StoreRefusals
-unfolding char_at unsigned_in item_after_in rest_line_in block_in cut_at is_ident unquote_within quoted_of mark_of commit_ish_of last_path source_path modify_at two_paths change_at changes_within merges_within blob_at commit_at links_at tag_at reset_at command_at commands_within counted_block lines_before delimited first_line first_of read_upto items_of digits revision_of imported store_text store_of record_fault
+unfolding char_at unsigned_in item_after_in rest_line_in block_in cut_at is_ident unquote_within quoted_of mark_of commit_ish_of last_path source_path modify_at two_paths change_at changes_within merges_within blob_at commit_at links_at tag_at reset_at command_at commands_within counted_block lines_before delimited first_line first_of read_upto items_of digits revision_of imported store_text store_of record_fault short_name
 store_refusals = record { lines_refused = refl; records_refused = refl; long_path = refl; too_long = refl; own_name = refl }

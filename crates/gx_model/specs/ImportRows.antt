@@ -7,12 +7,13 @@ use Rattle.gx_model.specs.declared.faults.Fault.{Fault}
 use Rattle.gx_model.specs.declared.faults.Fault.TheVariants as fault
 use Rattle.gx_model.specs.Texts.{Bytes, cut_at}
 use Rattle.gx_model.specs.Idents.{is_ident}
-use Rattle.gx_model.specs.Paths.{path_text, char_at, unquote_within, quoted_of}
+use Rattle.gx_model.specs.Paths.{path_of, path_text, char_at, unquote_within, quoted_of}
 use Rattle.gx_model.specs.Items.{counted_block, lines_before, delimited, first_line, first_of, read_upto, items_of}
 use Rattle.gx_model.specs.Grammar.{unsigned_in, item_after_in, rest_line_in, block_in, mark_of, commit_ish_of, last_path, source_path, modify_at, two_paths, change_at, changes_within, merges_within, blob_at, commit_at, links_at, tag_at, reset_at, command_at, commands_within}
 use Rattle.gx_model.specs.Faults.{Given, and_then}
 use Rattle.gx_model.specs.Revisions.{revision_of}
 use Rattle.gx_model.specs.Files.{FileMap}
+use Rattle.gx_model.specs.Edits.{renamed}
 use Rattle.gx_model.specs.Values.{Commit, blob_value, commit, none, commit_value, tree_value}
 use Rattle.gx_model.specs.Objects.{Entry, is_canonical}
 use Rattle.gx_model.specs.Records.{body_of, entries, named_map}
@@ -142,6 +143,13 @@ below_a = on_main (codes "M 644 inline a" ∷ codes "data 6" ∷ codes "hello" �
 abbrev moved_below_itself : History
 moved_below_itself = history_of_lines (below_a ++ next_commit (codes "R a a/c" ∷ []))
 
+-- a file below `e` whose path has 4,095 bytes
+abbrev long_below_e : FileMap Bytes
+long_below_e = (codes "e" ∷ replicate 4093 97 ∷ [], (File, [])) ∷ []
+
+abbrev long_below_d : FileMap Bytes
+long_below_d = (codes "d" ∷ replicate 4093 97 ∷ [], (File, [])) ∷ []
+
 pub record CopyRows : Type 0 where
   -- what each change makes of the files `a` and `d/x`
   pub table : map (λ r. after_change r.0) copies ≡ map (λ r. r.1) copies
@@ -154,10 +162,13 @@ pub record CopyRows : Type 0 where
   pub before : shown moved_below_itself (codes "main~1:a/b") ≡ Ok (object (blob_value version_1))
   -- a rename to the same path changes nothing
   pub renamed_to_itself : shown (history_of_lines (below_a ++ next_commit (codes "R a a" ∷ []))) (codes "main^{tree}") ≡ of_tree ((codes "a" ∷ codes "b" ∷ [], (File, version_1)) ∷ [])
+  -- a path may have 4,095 bytes and no more, as it is read and after a move
+  pub long_path : map path_of (replicate 4095 97 ∷ replicate 4096 97 ∷ []) ≡ Ok (replicate 4095 97 ∷ []) ∷ Err fault.PathTooLong ∷ []
+  pub long_move : map (λ c. renamed long_below_e (codes "e" ∷ []) (c ∷ [])) (codes "d" ∷ codes "dd" ∷ []) ≡ Ok long_below_d ∷ Err fault.PathTooLong ∷ []
 
 pub copy_rows : CopyRows
 unfolding char_at unsigned_in item_after_in rest_line_in block_in cut_at is_ident unquote_within quoted_of mark_of commit_ish_of last_path source_path modify_at two_paths change_at changes_within merges_within blob_at commit_at links_at tag_at reset_at command_at commands_within counted_block lines_before delimited first_line first_of read_upto items_of digits revision_of imported denoted short_name
-copy_rows = record { table = refl; no_root = refl; file_gives_way = refl; moved = refl; before = refl; renamed_to_itself = refl }
+copy_rows = record { table = refl; no_root = refl; file_gives_way = refl; moved = refl; before = refl; renamed_to_itself = refl; long_path = refl; long_move = refl }
 
 -- ---- the end of an import
 

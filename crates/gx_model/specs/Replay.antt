@@ -74,7 +74,7 @@ ok_or_mark (Some v) = Ok v
 abbrev pub at : State → ℕ → Result Value Fault
 at s n = ok_or_mark (lookup (nat_eq n) s.marks)
 
--- for a tag: no tag of a tag
+-- a commit or a reset peels a tag (`commit_in`); the target of a tag is a commit itself
 abbrev pub commit_alone : Value → Result Commit Fault
 commit_alone (commit_value c) = Ok c
 commit_alone _ = Err fault.WrongKind

@@ -14,9 +14,9 @@ use Rattle.gx_model.specs.Histories.{History, Record, Records, Target, at_commit
 -- ---- the parts of a body
 
 -- what stands before the first b, and after it
-abbrev pub cut_at : ℕ → Bytes → Bytes × Bytes
-cut_at b [] = ([], [])
-cut_at b (x ∷ s) = if nat_eq x b then ([], s) else (x ∷ (cut_at b s).0, (cut_at b s).1)
+abbrev pub sides_at : ℕ → Bytes → Bytes × Bytes
+sides_at b [] = ([], [])
+sides_at b (x ∷ s) = if nat_eq x b then ([], s) else (x ∷ (sides_at b s).0, (sides_at b s).1)
 
 abbrev pub mode_in : Bytes → Mode
 mode_in x =
@@ -27,10 +27,10 @@ mode_in x =
     else Dir
 
 abbrev pub entry_in : Bytes → Entry
-entry_in s = record { mode = mode_in (cut_at 32 s).0; component = (cut_at 0 (cut_at 32 s).1).0; name = take 20 (cut_at 0 (cut_at 32 s).1).1 }
+entry_in s = record { mode = mode_in (sides_at 32 s).0; component = (sides_at 0 (sides_at 32 s).1).0; name = take 20 (sides_at 0 (sides_at 32 s).1).1 }
 
 abbrev pub after_entry : Bytes → Bytes
-after_entry s = drop 20 (cut_at 0 (cut_at 32 s).1).1
+after_entry s = drop 20 (sides_at 0 (sides_at 32 s).1).1
 
 abbrev pub entries_in_to : ℕ → Bytes → List Entry
 entries_in_to zero s = []
@@ -42,7 +42,7 @@ entries_in s = entries_in_to (length s) s
 
 -- a line's rest, after a word and its space; and what follows the line
 abbrev pub field : ℕ → Bytes → Bytes × Bytes
-field n s = cut_at 10 (drop n s)
+field n s = sides_at 10 (drop n s)
 
 -- the lines that begin with a p
 abbrev pub parents_in_to : ℕ → Bytes → List Bytes × Bytes
@@ -78,20 +78,20 @@ tag_parts_in s =
 
 -- ---- the value of a body
 
-abbrev pub bytes_in : Value → Bytes
-bytes_in (blob_value x) = x
-bytes_in _ = []
+abbrev pub bytes_of_blob : Value → Bytes
+bytes_of_blob (blob_value x) = x
+bytes_of_blob _ = []
 
-abbrev pub files_in : Value → FileMap Bytes
-files_in (tree_value f) = f
-files_in _ = []
+abbrev pub files_of_tree : Value → FileMap Bytes
+files_of_tree (tree_value f) = f
+files_of_tree _ = []
 
 abbrev pub no_text : CommitText
 no_text = record { author = []; committer = []; encoding = None; message = [] }
 
-abbrev pub commit_in : Value → Commit
-commit_in (commit_value c) = c
-commit_in _ = commit [] none no_text
+abbrev pub commit_of_value : Value → Commit
+commit_of_value (commit_value c) = c
+commit_of_value _ = commit [] none no_text
 
 -- the values at hand, by their names
 abbrev pub Named : Type 0
@@ -103,9 +103,9 @@ value_named (k ∷ ks) n = if same_bytes n k.0 then k.1 else value_named ks n
 
 -- what is at or below an entry, with its component taken off
 abbrev pub files_at : Named → Mode → Bytes → FileMap Bytes
-files_at ks Dir n = files_in (value_named ks n)
+files_at ks Dir n = files_of_tree (value_named ks n)
 files_at ks Gitlink n = ([], (Gitlink, hex n)) ∷ []
-files_at ks m n = ([], (m, bytes_in (value_named ks n))) ∷ []
+files_at ks m n = ([], (m, bytes_of_blob (value_named ks n))) ∷ []
 
 abbrev pub placed : Bytes → FileMap Bytes → FileMap Bytes
 placed c f = map (λ x. (c ∷ x.0, x.1)) f
@@ -114,10 +114,10 @@ abbrev pub files_of_entries : Named → List Entry → FileMap Bytes
 files_of_entries ks = flat_map (λ e. placed e.component (files_at ks e.mode e.name))
 
 abbrev pub commit_of_parts : Named → CommitParts → Commit
-commit_of_parts ks p = commit (files_in (value_named ks p.tree)) (commits_of (map (λ n. commit_in (value_named ks n)) p.parents)) p.text
+commit_of_parts ks p = commit (files_of_tree (value_named ks p.tree)) (commits_of (map (λ n. commit_of_value (value_named ks n)) p.parents)) p.text
 
 abbrev pub tag_of_parts : Named → TagParts → Tag
-tag_of_parts ks p = record { target = commit_in (value_named ks p.object); name = p.name; tagger = p.tagger; message = p.message }
+tag_of_parts ks p = record { target = commit_of_value (value_named ks p.object); name = p.name; tagger = p.tagger; message = p.message }
 
 abbrev pub value_in : Named → Kind → Bytes → Value
 value_in ks kind.Blob body = blob_value body
@@ -140,7 +140,7 @@ named_values = named_from []
 
 abbrev pub target_in : Value → Target
 target_in (tag_value t) = at_tag t
-target_in v = at_commit (commit_in v)
+target_in v = at_commit (commit_of_value v)
 
 -- of a sound repository, the history that it stands for
 abbrev pub history_of : Records → History
@@ -157,7 +157,7 @@ value_of_name rs n = value_named (named_values rs) n
 
 abbrev pub content_of : Named → Mode → Bytes → Bytes
 content_of ks Gitlink n = hex n
-content_of ks m n = bytes_in (value_named ks n)
+content_of ks m n = bytes_of_blob (value_named ks n)
 
 abbrev pub contents_of : Named → FileMap Bytes → FileMap Bytes
 contents_of ks g = map (λ e. (e.0, (e.1.0, content_of ks e.1.0 e.1.1))) g

@@ -16,18 +16,18 @@ use Rattle.gx_model.specs.Objects.{CommitParts, Entry, IsCommitText, IsTagText, 
 use Rattle.gx_model.specs.Histories.{AreDistinct, Record, Records}
 
 -- some element passes
-abbrev pub Some_ : {X : Type 0} → (X → Type 0) → List X → Type 0
-Some_ P [] = ⊥
-Some_ P (x ∷ xs) = P x ⊎ Some_ P xs
+abbrev pub AnyByRecursion : {X : Type 0} → (X → Type 0) → List X → Type 0
+AnyByRecursion P [] = ⊥
+AnyByRecursion P (x ∷ xs) = P x ⊎ AnyByRecursion P xs
 
 -- a record of this kind and name
 abbrev pub Holds : List Record → Kind → Bytes → Type 0
-Holds rs k n = Some_ (λ r. (r.kind ≡ k) × (r.name ≡ n)) rs
+Holds rs k n = AnyByRecursion (λ r. (r.kind ≡ k) × (r.name ≡ n)) rs
 
 -- a directory's tree is held and has entries; a gitlink is no link
 abbrev pub IsHeldAs : List Record → Mode → Bytes → Type 0
 IsHeldAs rs Gitlink n = ⊤
-IsHeldAs rs Dir n = Some_ (λ r. (r.kind ≡ kind.Tree) × (r.name ≡ n) × (r.body ≢ [])) rs
+IsHeldAs rs Dir n = AnyByRecursion (λ r. (r.kind ≡ kind.Tree) × (r.name ≡ n) × (r.body ≢ [])) rs
 IsHeldAs rs _ n = Holds rs kind.Blob n
 
 abbrev pub IsTree : List Record → Bytes → Type 0
@@ -53,14 +53,14 @@ IsLinkedAfter before (r ∷ rs) = IsLinked before r.kind r.body × IsLinkedAfter
 
 -- a path of a file below these entries
 pub data HasPath (rs : List Record) : List Entry → Path → Type 0 where
-  here : {es : List Entry} (e : Entry) → Some_ (λ x. x ≡ e) es → e.mode ≢ Dir → HasPath rs es (e.component ∷ [])
-  below : {es : List Entry} {p : Path} (e : Entry) (fs : List Entry) → Some_ (λ x. x ≡ e) es → e.mode ≡ Dir
-      → Some_ (λ r. (r.kind ≡ kind.Tree) × (r.name ≡ e.name) × IsTreeText fs r.body) rs → HasPath rs fs p → HasPath rs es (e.component ∷ p)
+  here : {es : List Entry} (e : Entry) → AnyByRecursion (λ x. x ≡ e) es → e.mode ≢ Dir → HasPath rs es (e.component ∷ [])
+  below : {es : List Entry} {p : Path} (e : Entry) (fs : List Entry) → AnyByRecursion (λ x. x ≡ e) es → e.mode ≡ Dir
+      → AnyByRecursion (λ r. (r.kind ≡ kind.Tree) × (r.name ≡ e.name) × IsTreeText fs r.body) rs → HasPath rs fs p → HasPath rs es (e.component ∷ p)
 
 -- a commit, or a tag whose own name makes this ref
 abbrev pub IsTarget : List Record → Bytes → Bytes → Type 0
 IsTarget rs ref n =
-    Holds rs kind.Commit n ⊎ Some_ (λ r. (r.kind ≡ kind.Tag) × (r.name ≡ n) × ((p : TagParts) × IsTagText p r.body × (ref ≡ tag_ref p.name))) rs
+    Holds rs kind.Commit n ⊎ AnyByRecursion (λ r. (r.kind ≡ kind.Tag) × (r.name ≡ n) × ((p : TagParts) × IsTagText p r.body × (ref ≡ tag_ref p.name))) rs
 
 -- no path below a tree is too long
 abbrev pub HasShortPaths : List Record → Record → Type 0

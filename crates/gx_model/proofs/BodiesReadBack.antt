@@ -11,16 +11,16 @@ use Rattle.gx_model.specs.Paths.{is_component}
 use Rattle.gx_model.specs.Values.{CommitText, is_optional_line, is_proper_text}
 use Rattle.gx_model.specs.Texts.{is_line}
 use Rattle.gx_model.specs.Objects.{Entry, tree_text, entry_text, mode_text, hex, hex_digit, digit_value, unhex, line, optional_line, text_lines, CommitParts, commit_text, TagParts, tag_text, is_name, is_canonical, IsTreeText, IsCommitText, IsTagText}
-use Rattle.gx_model.specs.HistoryOf.{cut_at, mode_in, entry_in, after_entry, entries_in_to, entries_in, field, parents_in_to, optional_in, text_in, commit_parts_in, tag_parts_in}
+use Rattle.gx_model.specs.HistoryOf.{sides_at, mode_in, entry_in, after_entry, entries_in_to, entries_in, field, parents_in_to, optional_in, text_in, commit_parts_in, tag_parts_in}
 use Rattle.gx_model.proofs.PathTests.{component_free, first, is_true, second}
 use Rattle.gx_model.proofs.EntryTexts.{is_free, AreNamed, entry_flat, mode_free, starts_some}
 use Rattle.gx_model.proofs.OneHistory.{line_flat, text_flat, hex_line}
 use Rattle.gx_model.proofs.PlainTexts.{text_lines_of, tag_line, optional_ident_line}
 
-pub cut_law : (b : ℕ) (x r : Bytes) → T (is_free b x) → cut_at b (x ++ (b ∷ r)) ≡ (x, r)
-cut_law b [] r f = ap (λ c. cond c ([], r) (b ∷ (cut_at b r).0, (cut_at b r).1)) (eq-eqb b b refl)
+pub cut_law : (b : ℕ) (x r : Bytes) → T (is_free b x) → sides_at b (x ++ (b ∷ r)) ≡ (x, r)
+cut_law b [] r f = ap (λ c. cond c ([], r) (b ∷ (sides_at b r).0, (sides_at b r).1)) (eq-eqb b b refl)
 cut_law b (a ∷ x) r f =
-    ap (λ c. cond c ([], x ++ (b ∷ r)) (a ∷ (cut_at b (x ++ (b ∷ r))).0, (cut_at b (x ++ (b ∷ r))).1)) (as_no (nat_eq a b) (first _ _ f))
+    ap (λ c. cond c ([], x ++ (b ∷ r)) (a ∷ (sides_at b (x ++ (b ∷ r))).0, (sides_at b (x ++ (b ∷ r))).1)) (as_no (nat_eq a b) (first _ _ f))
     ∙ ap (λ (q : Bytes × Bytes). let p : Bytes × Bytes = (a ∷ q.0, q.1) in p) (cut_law b x r (second _ _ f))
   where
     as_no : (c : Bool) → T (not c) → c ≡ false
@@ -47,17 +47,17 @@ drop_long (a ∷ x) r zero e = absurd (omega arith)
 drop_long (a ∷ x) r (suc n) e = drop_long x r n (omega arith)
 
 module _ (e : Entry) (r : Bytes) (f : T (is_component e.component)) where
-  mode_cut : cut_at 32 (entry_text e ++ r) ≡ (mode_text e.mode, e.component ++ (0 ∷ (e.name ++ r)))
-  mode_cut = ap (cut_at 32) (entry_flat e r) ∙ cut_law 32 (mode_text e.mode) (e.component ++ (0 ∷ (e.name ++ r))) (mode_free e.mode)
+  mode_cut : sides_at 32 (entry_text e ++ r) ≡ (mode_text e.mode, e.component ++ (0 ∷ (e.name ++ r)))
+  mode_cut = ap (sides_at 32) (entry_flat e r) ∙ cut_law 32 (mode_text e.mode) (e.component ++ (0 ∷ (e.name ++ r))) (mode_free e.mode)
 
-  component_cut : cut_at 0 (cut_at 32 (entry_text e ++ r)).1 ≡ (e.component, e.name ++ r)
-  component_cut = ap (λ (q : Bytes × Bytes). cut_at 0 q.1) mode_cut ∙ cut_law 0 e.component (e.name ++ r) (component_free e.component f).1
+  component_cut : sides_at 0 (sides_at 32 (entry_text e ++ r)).1 ≡ (e.component, e.name ++ r)
+  component_cut = ap (λ (q : Bytes × Bytes). sides_at 0 q.1) mode_cut ∙ cut_law 0 e.component (e.name ++ r) (component_free e.component f).1
 
   pub entry_law : length e.name ≡ 20 → entry_in (entry_text e ++ r) ≡ e
   entry_law l =
       let a = component_cut in
-      let m : mode_in (cut_at 32 (entry_text e ++ r)).0 ≡ e.mode = ap (λ (q : Bytes × Bytes). mode_in q.0) mode_cut ∙ mode_law e.mode in
-      let n : take 20 (cut_at 0 (cut_at 32 (entry_text e ++ r)).1).1 ≡ e.name = ap (λ (q : Bytes × Bytes). take 20 q.1) a ∙ take_long e.name r 20 l in
+      let m : mode_in (sides_at 32 (entry_text e ++ r)).0 ≡ e.mode = ap (λ (q : Bytes × Bytes). mode_in q.0) mode_cut ∙ mode_law e.mode in
+      let n : take 20 (sides_at 0 (sides_at 32 (entry_text e ++ r)).1).1 ≡ e.name = ap (λ (q : Bytes × Bytes). take 20 q.1) a ∙ take_long e.name r 20 l in
       λ i. record { mode = m i; component = (a i).0; name = n i }
 
   pub after_law : length e.name ≡ 20 → after_entry (entry_text e ++ r) ≡ r
@@ -142,7 +142,7 @@ unhex_hex (b ∷ x) h =
 -- ---- lines
 
 -- with the word written out, what is dropped before the cut is gone
-line_cut : (x r : Bytes) → T (is_line x) → cut_at 10 (x ++ (10 ∷ r)) ≡ (x, r)
+line_cut : (x r : Bytes) → T (is_line x) → sides_at 10 (x ++ (10 ∷ r)) ≡ (x, r)
 line_cut x r h = cut_law 10 x r h
 
 author_law : (x r : Bytes) → T (is_line x) → field 7 (line (codes "author") x ++ r) ≡ (x, r)

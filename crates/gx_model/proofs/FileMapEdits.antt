@@ -13,7 +13,7 @@ use Rattle.gx_model.specs.Texts.{Bytes}
 use Rattle.gx_model.specs.Paths.{Path, path_cmp, path_text, begins, are_in_line, is_file_path, is_component, is_short, same_path}
 use Rattle.gx_model.specs.Files.{are_apart, are_file_paths, is_file_map, under}
 use Rattle.std.specs.Map.{lookup}
-use Rattle.gx_model.specs.Edits.{without_line, without, with_all, moved, modified, removed, copy_fault, or_fault, copied, renamed}
+use Rattle.gx_model.specs.Edits.{without_line, without, with_all, moved, modified, removed, copy_fault, unless, copied, renamed}
 use Rattle.gx_model.proofs.PathTests.{both, first, second, is_true, not_by, not_both, all_filter, all_passing, all_each, all_append, all_drop, same_is, path_same, or_comm, in_line_above, in_line_moved}
 
 pub path_order : IsTotalOrder path_cmp
@@ -196,7 +196,7 @@ module _ {X : Type 0} where
       let n = no_fault _ _ _ h in
       all_into s c d (under s es) k (all_filter _ _ es f) (passes _ n.2)
 
-  fault_or : (f : Option Fault) (es : List (Path × X)) → (f ≡ None → Parts es) → IfOk (or_fault f es) Parts
+  fault_or : (f : Option Fault) (es : List (Path × X)) → (f ≡ None → Parts es) → IfOk (unless f es) Parts
   fault_or None es h = h refl
   fault_or (Some f) es h = tt
 

@@ -9,11 +9,11 @@ use Rattle.gx_model.specs.Paths.{Path}
 use Rattle.gx_model.specs.Values.{Value}
 use Rattle.gx_model.specs.Objects.{Entry}
 use Rattle.gx_model.specs.Histories.{Record, AreDistinct}
-use Rattle.gx_model.specs.Sound.{Some_, IsLinkedAfter, HasPath, here, below, HasShortPaths, IsTarget, IsSound}
+use Rattle.gx_model.specs.Sound.{AnyByRecursion, IsLinkedAfter, HasPath, here, below, HasShortPaths, IsTarget, IsSound}
 use Rattle.gx_model.specs.HistoryOf.{Named, named_from, with_record, value_in, history_of}
 use Rattle.gx_model.proofs.OneTree.{all_left}
 
-some_left : {X : Type 0} (P : X → Type 0) (xs ys : List X) → Some_ P xs → Some_ P (xs ++ ys)
+some_left : {X : Type 0} (P : X → Type 0) (xs ys : List X) → AnyByRecursion P xs → AnyByRecursion P (xs ++ ys)
 some_left P [] ys h = absurd h
 some_left P (x ∷ xs) ys h = elim h [ inl p ↦ inl p | inr q ↦ inr (some_left P xs ys q) ]
 

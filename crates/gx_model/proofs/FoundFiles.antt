@@ -1,51 +1,26 @@
 -- What is found at a path of a file map, and after an edit of it.
-use Rattle.std.proofs.Common.{◌≡◌, Bool, true, false, cond, refl, sym, ap, subst, ◌∙◌, List, [], ◌∷◌, ◌++◌, length, drop, map, Option, None, Some}
-use Rattle.std.specs.Prelude.{T, not, ◌&&◌, ◌||◌, is_some, nat_eq}
+use Rattle.std.proofs.Common.{◌≡◌, Bool, true, false, cond, refl, sym, ap, subst, ◌∙◌, List, [], ◌∷◌, ◌++◌, length, drop, Option, None, Some}
+use Rattle.std.specs.Prelude.{T, ◌&&◌, is_some}
 use Rattle.std.specs.List.{list_all, filter}
 use Rattle.std.specs.Bool.{passes}
-use Rattle.std.specs.Ordering.{is_lt}
 use Rattle.std.specs.declared.cmp.Ordering.TheVariants.{Less, Equal, Greater}
-use Rattle.std.specs.Ordering.{ordering_reverse, is_eq}
+use Rattle.std.specs.Ordering.{is_eq}
 use Rattle.std.specs.Cmp.{tied_itself}
 use Rattle.std.specs.Cmp.Lexicographic.{texts_ties}
-use Rattle.std.specs.FinMap.Entries.{put, by_order, below_all, is_sorted}
-use Rattle.gx_model.specs.Texts.{Bytes, same_bytes}
-use Rattle.gx_model.specs.Paths.{Path, are_in_line, begins, is_component, is_file_path, path_cmp, path_text, same_path}
-use Rattle.gx_model.specs.Files.{are_apart, are_file_paths, file_at, under}
-use Rattle.gx_model.specs.Edits.{moved, with_all, without_line}
-use Rattle.gx_model.proofs.PathTests.{begins_append, both, component_free, first, is_same, is_true, left_or, not_both, path_is, path_same, same_is, second}
-use Rattle.gx_model.proofs.EntryTexts.{split_at}
-use Rattle.gx_model.proofs.FileMapEdits.{Parts, all_put, path_order}
+use Rattle.std.specs.FinMap.Entries.{put, by_order}
+use Rattle.gx_model.specs.Texts.{same_bytes}
+use Rattle.gx_model.specs.Paths.{Path, begins, is_component, is_file_path, parts_of, path_cmp, path_text, same_path}
+use Rattle.gx_model.specs.Files.{are_file_paths, file_at, under}
+use Rattle.gx_model.specs.Edits.{moved, with_all}
+use Rattle.gx_model.proofs.PathTests.{begins_append, both, first, is_same, is_true, path_is, same_is, second}
+use Rattle.gx_model.proofs.PathTexts.{parts_joined}
+use Rattle.gx_model.proofs.FileMapEdits.{all_put, path_order}
 
 -- ---- a path is told by its text
 
-component_of : (c : Bytes) (p : Path) → T (is_file_path (c ∷ p)) → T (is_component c)
-component_of c p h = first (is_component c) (list_all is_component p) (first _ _ h)
-
-nothing_but : (c x : Bytes) → [] ≡ c ++ (47 ∷ x) → ⊥
-nothing_but [] x e = cc
-nothing_but (b ∷ c) x e = cc
-
-slash_in : (c d x : Bytes) → T (is_component c) → c ≡ d ++ (47 ∷ x) → ⊥
-slash_in c d x h e = holds d (subst (λ (y : Bytes). T (list_all (λ b. not (nat_eq b 47)) y)) e (component_free c h).0)
-  where
-    holds : (d : Bytes) → T (list_all (λ b. not (nat_eq b 47)) (d ++ (47 ∷ x))) → ⊥
-    holds [] k = k
-    holds (b ∷ d) k = holds d (second (not (nat_eq b 47)) _ k)
-
 -- components with no slash, joined by slashes, are told by their text
 one_path : (p q : Path) → T (list_all is_component p) → T (list_all is_component q) → path_text p ≡ path_text q → p ≡ q
-one_path [] [] h g e = refl
-one_path [] (d ∷ []) h g e = absurd (subst (λ (x : Bytes). T (is_component x)) (sym e) (first (is_component d) true g))
-one_path [] (d ∷ d' ∷ q) h g e = absurd (nothing_but d (path_text (d' ∷ q)) e)
-one_path (c ∷ []) [] h g e = absurd (subst (λ (x : Bytes). T (is_component x)) e (first (is_component c) true h))
-one_path (c ∷ c' ∷ p) [] h g e = absurd (nothing_but c (path_text (c' ∷ p)) (sym e))
-one_path (c ∷ []) (d ∷ []) h g e = ap (λ x. x ∷ []) e
-one_path (c ∷ []) (d ∷ d' ∷ q) h g e = absurd (slash_in c d (path_text (d' ∷ q)) (first (is_component c) true h) e)
-one_path (c ∷ c' ∷ p) (d ∷ []) h g e = absurd (slash_in d c (path_text (c' ∷ p)) (first (is_component d) true g) (sym e))
-one_path (c ∷ c' ∷ p) (d ∷ d' ∷ q) h g e =
-    let s = split_at 47 c d (path_text (c' ∷ p)) (path_text (d' ∷ q)) (component_free c (first _ _ h)).0 (component_free d (first _ _ g)).0 e in
-    λ i. s.0 i ∷ one_path (c' ∷ p) (d' ∷ q) (second (is_component c) _ h) (second (is_component d) _ g) s.1 i
+one_path p q h g e = sym (parts_joined p (is_true _ h)) ∙ ap parts_of e ∙ parts_joined q (is_true _ g)
 
 of_components : (p : Path) → T (is_file_path p) → T (list_all is_component p)
 of_components [] h = absurd h

@@ -18,7 +18,7 @@ use Rattle.gx_model.specs.HistoryOf.{history_of}
 use Rattle.gx_model.specs.Growth.{same_kind, same_object, record_named, put_under, put, and_some, put_all, AreReady, clashes, with_values}
 use Rattle.gx_model.proofs.PathTests.{both, first, second, is_true, is_same, same_is}
 use Rattle.gx_model.proofs.SameValues.{value_same}
-use Rattle.gx_model.proofs.AddedValues.{is_in_is, one_added}
+use Rattle.gx_model.proofs.AddedValues.{is_in_is, keeps, one_added}
 use Rattle.gx_model.proofs.OneHistory.{one_value, told_by_name, no_other, one_history, names_of_records}
 use Rattle.gx_model.proofs.LinkedValues.{proper_in, parts_in}
 use Rattle.gx_model.proofs.HistoriesExist.{stands}
@@ -165,7 +165,7 @@ module _ (name : Kind → Bytes → Bytes) (namer : IsNamer name) where
   are_added [] vs us h d r e = let k : vs ≡ us = cc in subst (AreAdded vs []) k (record { whole = h; distinct = d; keeps = λ u i. i; added = refl })
   are_added (w ∷ ws) vs us h d r e =
       let a = one_added vs w h (passes _ r.0) r.1 in
-      by (clashes name vs w) refl e (λ n k. let rest = are_added ws (with_one vs w) us a.whole (distinct_one vs d w n) r.2 k in record { whole = rest.whole; distinct = rest.distinct; keeps = λ u i. rest.keeps u (a.keeps u i); added = rest.added })
+      by (clashes name vs w) refl e (λ n k. let rest = are_added ws (with_one vs w) us a.whole (distinct_one vs d w n) r.2 k in record { whole = rest.whole; distinct = rest.distinct; keeps = λ u i. rest.keeps u (keeps vs w (with_one vs w) a u i); added = rest.added })
     where
       by : (b : Bool) → clashes name vs w ≡ b → cond b None (with_values name (with_one vs w) ws) ≡ Some us → (clashes name vs w ≡ false → with_values name (with_one vs w) ws ≡ Some us → AreAdded vs (w ∷ ws) us) → AreAdded vs (w ∷ ws) us
       by true k j f = absurd (cc)

@@ -18,7 +18,7 @@ use Rattle.gx_model.specs.RefNames.{is_ref_name}
 use Rattle.gx_model.specs.Objects.{TagParts, IsTagText, IsNamer, is_name}
 use Rattle.gx_model.specs.Records.{commit_body, kind_of, name_of, content_name, named_map}
 use Rattle.gx_model.specs.Histories.{Record, Records, AreDistinct, IsIn, record_of, StandsFor}
-use Rattle.gx_model.specs.Sound.{Some_, IsHeldAs, IsLinked, HasShortPaths, IsTarget, IsSound, IsNamedMap}
+use Rattle.gx_model.specs.Sound.{AnyByRecursion, IsHeldAs, IsLinked, HasShortPaths, IsTarget, IsSound, IsNamedMap}
 use Rattle.gx_model.specs.HistoryOf.{Named, value_in, named_values, value_named, value_of_name, content_of, contents_of, history_of}
 use Rattle.gx_model.specs.Growth.{record_named}
 use Rattle.gx_model.proofs.PathTests.{both, first, second, is_true, same_is}
@@ -29,10 +29,10 @@ use Rattle.gx_model.proofs.HistoriesExist.{tag_text_is, stands, named_is, hex_te
 use Rattle.gx_model.proofs.GrownRecords.{Lookup, looked_up, whole_of, distinct_of}
 
 module _ (name : Kind → Bytes → Bytes) (namer : IsNamer name) where
-  lookup_is : (vs : List Value) (n : Bytes) (w : Value) → record_named (map (record_of name) vs) n ≡ Some (record_of name w) → Some_ (λ r. (r.name ≡ n) × (r ≡ record_of name w)) (map (record_of name) vs)
+  lookup_is : (vs : List Value) (n : Bytes) (w : Value) → record_named (map (record_of name) vs) n ≡ Some (record_of name w) → AnyByRecursion (λ r. (r.name ≡ n) × (r ≡ record_of name w)) (map (record_of name) vs)
   lookup_is [] n w h = absurd (cc)
   lookup_is (v ∷ vs) n w h =
-      elim (same_bytes n (name_of name v)) as (λ b. same_bytes n (name_of name v) ≡ b → cond b (Some (record_of name v)) (record_named (map (record_of name) vs) n) ≡ Some (record_of name w) → Some_ (λ r. (r.name ≡ n) × (r ≡ record_of name w)) (map (record_of name) (v ∷ vs))) [
+      elim (same_bytes n (name_of name v)) as (λ b. same_bytes n (name_of name v) ≡ b → cond b (Some (record_of name v)) (record_named (map (record_of name) vs) n) ≡ Some (record_of name w) → AnyByRecursion (λ r. (r.name ≡ n) × (r ≡ record_of name w)) (map (record_of name) (v ∷ vs))) [
         | true ↦ λ k i. let e : record_of name v ≡ record_of name w = cc i in inl (sym (same_is n (name_of name v) (passes _ k)), e)
         | false ↦ λ k i. inr (lookup_is vs n w i)
       ] refl h
@@ -82,7 +82,7 @@ module _ (name : Kind → Bytes → Bytes) (namer : IsNamer name) where
       let t = stands name namer r i in
       let vs = (history_of r).values in
       let q = is_read name namer vs (whole_of name namer (history_of r) t.history) (distinct_of name namer r (history_of r) t) r.records
-      (λ P v j p. subst (Some_ P) (sym t.records) (holds name P vs v j p)) k body (subst (λ rs. IsLinked rs k body) t.records l) (λ es p e x h. passes _ (s es p e x h)) in
+      (λ P v j p. subst (AnyByRecursion P) (sym t.records) (holds name P vs v j p)) k body (subst (λ rs. IsLinked rs k body) t.records l) (λ es p e x h. passes _ (s es p e x h)) in
       subst (λ ks. IsLinkedValue r k body (value_in ks k body)) (sym (named_is name namer r i))
       (record { proper = is_true _ q.proper; known = q.known; recorded = λ z. record { name = name (q.same_kind z) (q.same_body z); kind = q.same_kind z; body = q.same_body z } })
 

@@ -22,8 +22,8 @@ use Rattle.gx_model.specs.Objects.{IsNamer, Entry, is_name, IsTreeText, IsTagTex
 use Rattle.gx_model.specs.Records.{node, named_map, tree_body, tree_name, kind_of, body_of, name_of, commit_body, names_of, tag_body}
 use Rattle.gx_model.specs.Histories.{Record, Records, AreDistinct, IsIn, is_in, History, Target, value_at, IsRefOf, record_of, StandsFor}
 use Rattle.gx_model.specs.Histories.{IsWhole}
-use Rattle.gx_model.specs.Sound.{Some_, Holds, IsHeldAs, IsTree, IsCommit, IsTag, IsLinked, IsLinkedAfter, HasPath, here, below, HasShortPaths, IsTarget, IsSound}
-use Rattle.gx_model.specs.HistoryOf.{value_named, bytes_in, files_in, commit_in, entries_in, commit_parts_in, tag_parts_in, placed, files_at, files_of_entries, commit_of_parts, tag_of_parts, value_in, named_from, named_values, target_in, history_of}
+use Rattle.gx_model.specs.Sound.{AnyByRecursion, Holds, IsHeldAs, IsTree, IsCommit, IsTag, IsLinked, IsLinkedAfter, HasPath, here, below, HasShortPaths, IsTarget, IsSound}
+use Rattle.gx_model.specs.HistoryOf.{value_named, bytes_of_blob, files_of_tree, commit_of_value, entries_in, commit_parts_in, tag_parts_in, placed, files_at, files_of_entries, commit_of_parts, tag_of_parts, value_in, named_from, named_values, target_in, history_of}
 use Rattle.gx_model.proofs.PathTests.{both, first, second, is_true, is_same, all_append}
 use Rattle.gx_model.proofs.HexDigits.{digit_is}
 use Rattle.gx_model.proofs.PathOrder.{node_key}
@@ -111,7 +111,7 @@ module _ (name : Kind → Bytes → Bytes) (namer : IsNamer name) (vs : List Val
       by File c n k nm h s =
           let r = found name namer (λ r. (r.kind ≡ kind.Blob) × (r.name ≡ n)) n (λ r q. q.1) vs distinct h in
           let v = value_named (named name vs) n in
-          let e : v ≡ blob_value (bytes_in v) = is_blob name v r.1.0 in
+          let e : v ≡ blob_value (bytes_of_blob v) = is_blob name v r.1.0 in
           record {
             fits = record { some = tt; component = k; keys = (refl, tt); paths = both _ _ (both _ _ (both (is_component c) true k tt) (first _ _ s)) tt; apart = tt; sorted = tt };
             told = λ i. (File, (ap (name_of name) (sym e) ∙ r.1.1) i);
@@ -122,7 +122,7 @@ module _ (name : Kind → Bytes → Bytes) (namer : IsNamer name) (vs : List Val
       by Exec c n k nm h s =
           let r = found name namer (λ r. (r.kind ≡ kind.Blob) × (r.name ≡ n)) n (λ r q. q.1) vs distinct h in
           let v = value_named (named name vs) n in
-          let e : v ≡ blob_value (bytes_in v) = is_blob name v r.1.0 in
+          let e : v ≡ blob_value (bytes_of_blob v) = is_blob name v r.1.0 in
           record {
             fits = record { some = tt; component = k; keys = (refl, tt); paths = both _ _ (both _ _ (both (is_component c) true k tt) (first _ _ s)) tt; apart = tt; sorted = tt };
             told = λ i. (Exec, (ap (name_of name) (sym e) ∙ r.1.1) i);
@@ -133,7 +133,7 @@ module _ (name : Kind → Bytes → Bytes) (namer : IsNamer name) (vs : List Val
       by Link c n k nm h s =
           let r = found name namer (λ r. (r.kind ≡ kind.Blob) × (r.name ≡ n)) n (λ r q. q.1) vs distinct h in
           let v = value_named (named name vs) n in
-          let e : v ≡ blob_value (bytes_in v) = is_blob name v r.1.0 in
+          let e : v ≡ blob_value (bytes_of_blob v) = is_blob name v r.1.0 in
           record {
             fits = record { some = tt; component = k; keys = (refl, tt); paths = both _ _ (both _ _ (both (is_component c) true k tt) (first _ _ s)) tt; apart = tt; sorted = tt };
             told = λ i. (Link, (ap (name_of name) (sym e) ∙ r.1.1) i);
@@ -151,7 +151,7 @@ module _ (name : Kind → Bytes → Bytes) (namer : IsNamer name) (vs : List Val
       by Dir c n k nm h s =
           let r = found name namer (λ r. (r.kind ≡ kind.Tree) × (r.name ≡ n) × (r.body ≢ [])) n (λ r q. q.1) vs distinct h in
           let v = value_named (named name vs) n in
-          let f = files_in v in
+          let f = files_of_tree v in
           let e : v ≡ tree_value f = is_tree name v r.1.0 in
           let i : IsIn vs (tree_value f) = subst (IsIn vs) e r.0 in
           let t : T (is_content f) = proper_in vs (tree_value f) (passes _ whole.proper) i in
@@ -171,9 +171,9 @@ module _ (name : Kind → Bytes → Bytes) (namer : IsNamer name) (vs : List Val
             dir = λ j. i;
           }
 
-  module _ (all : List Record) (kept : (P : Record → Type 0) (v : Value) → IsIn vs v → P (record_of name v) → Some_ P all) where
+  module _ (all : List Record) (kept : (P : Record → Type 0) (v : Value) → IsIn vs v → P (record_of name v) → AnyByRecursion P all) where
     -- no path below a held entry is too long
-    pub entry_short : (es : List Entry) → ((p : Path) → HasPath all es p → T (is_short p)) → (e : Entry) → Some_ (λ x. x ≡ e) es → IsHeldAs (map (record_of name) vs) e.mode e.name → T (list_all (λ q. is_short (e.component ∷ q.0)) (g e))
+    pub entry_short : (es : List Entry) → ((p : Path) → HasPath all es p → T (is_short p)) → (e : Entry) → AnyByRecursion (λ x. x ≡ e) es → IsHeldAs (map (record_of name) vs) e.mode e.name → T (list_all (λ q. is_short (e.component ∷ q.0)) (g e))
     entry_short es short e s h = by e.mode refl h
       where
         leaf : (x : Leaf Bytes) → (e.mode ≡ Dir → ⊥) → T (is_short (e.component ∷ []) && true)
@@ -187,7 +187,7 @@ module _ (name : Kind → Bytes → Bytes) (namer : IsNamer name) (vs : List Val
         by Dir i k =
             let r = found name namer (λ r. (r.kind ≡ kind.Tree) × (r.name ≡ e.name) × (r.body ≢ [])) e.name (λ r q. q.1) vs distinct k in
             let v = value_named (named name vs) e.name in
-            let f = files_in v in
+            let f = files_of_tree v in
             let j : v ≡ tree_value f = is_tree name v r.1.0 in
             let u : IsIn vs (tree_value f) = subst (IsIn vs) j r.0 in
             each_path (λ p. is_short (e.component ∷ p)) f
@@ -196,7 +196,7 @@ module _ (name : Kind → Bytes → Bytes) (namer : IsNamer name) (vs : List Val
             (kept (λ r. (r.kind ≡ kind.Tree) × (r.name ≡ e.name) × IsTreeText (entries_of name namer f) r.body) (tree_value f) u (refl, ap (name_of name) (sym j) ∙ r.1.1, text_of_tree name namer f (proper_in vs (tree_value f) (passes _ whole.proper) u)))
             (has_path name namer vs whole distinct all kept p f u o)))
 
-    all_read : (es fs : List Entry) → ((e : Entry) → Some_ (λ x. x ≡ e) fs → Some_ (λ x. x ≡ e) es) → ((p : Path) → HasPath all es p → T (is_short p)) → T (list_all (λ e. is_component e.component) fs) → T (list_all (λ e. is_name e.name) fs)
+    all_read : (es fs : List Entry) → ((e : Entry) → AnyByRecursion (λ x. x ≡ e) fs → AnyByRecursion (λ x. x ≡ e) es) → ((p : Path) → HasPath all es p → T (is_short p)) → T (list_all (λ e. is_component e.component) fs) → T (list_all (λ e. is_name e.name) fs)
         → AllByRecursion (λ e. IsHeldAs (map (record_of name) vs) e.mode e.name) fs → AllByRecursion (Reads g name namer (IsIn vs)) fs
     all_read es [] i short c n h = tt
     all_read es (e ∷ fs) i short c n h = (
@@ -219,22 +219,22 @@ module _ (name : Kind → Bytes → Bytes) (namer : IsNamer name) (vs : List Val
         let f : tree_value (files_of_entries (named name vs) (entries_in body)) ≡ tree_value (files_of_entries (named name vs) es) = ap (λ z. tree_value (files_of_entries (named name vs) z)) r in
         subst (IsRead kind.Tree body) (sym f) (record { same_kind = refl; same_body = b.body ∙ sym h.1.0; proper = b.content; known = b.parts_known })
 
-    commit_held : (n : Bytes) → Holds (map (record_of name) vs) kind.Commit n → IsIn vs (commit_value (commit_in (value_named (named name vs) n))) × (name kind.Commit (commit_body name (commit_in (value_named (named name vs) n))) ≡ n)
+    commit_held : (n : Bytes) → Holds (map (record_of name) vs) kind.Commit n → IsIn vs (commit_value (commit_of_value (value_named (named name vs) n))) × (name kind.Commit (commit_body name (commit_of_value (value_named (named name vs) n))) ≡ n)
     commit_held n h =
         let r = found name namer (λ r. (r.kind ≡ kind.Commit) × (r.name ≡ n)) n (λ r q. q.1) vs distinct h in
         let v = value_named (named name vs) n in
-        let e : v ≡ commit_value (commit_in v) = is_commit name v r.1.0 in
+        let e : v ≡ commit_value (commit_of_value v) = is_commit name v r.1.0 in
         (subst (IsIn vs) e r.0, ap (name_of name) (sym e) ∙ r.1.1)
 
-    tree_held : (n : Bytes) → Holds (map (record_of name) vs) kind.Tree n → IsIn vs (tree_value (files_in (value_named (named name vs) n))) × (tree_name name (files_in (value_named (named name vs) n)) ≡ n)
+    tree_held : (n : Bytes) → Holds (map (record_of name) vs) kind.Tree n → IsIn vs (tree_value (files_of_tree (value_named (named name vs) n))) × (tree_name name (files_of_tree (value_named (named name vs) n)) ≡ n)
     tree_held n h =
         let r = found name namer (λ r. (r.kind ≡ kind.Tree) × (r.name ≡ n)) n (λ r q. q.1) vs distinct h in
         let v = value_named (named name vs) n in
-        let e : v ≡ tree_value (files_in v) = is_tree name v r.1.0 in
+        let e : v ≡ tree_value (files_of_tree v) = is_tree name v r.1.0 in
         (subst (IsIn vs) e r.0, ap (name_of name) (sym e) ∙ r.1.1)
 
     commits_held : (ns : List Bytes) → AllByRecursion (Holds (map (record_of name) vs) kind.Commit) ns
-        → AllByRecursion (IsIn vs) (map commit_value (list_of (commits_of (map (λ n. commit_in (value_named (named name vs) n)) ns)))) × (names_of name (commits_of (map (λ n. commit_in (value_named (named name vs) n)) ns)) ≡ ns)
+        → AllByRecursion (IsIn vs) (map commit_value (list_of (commits_of (map (λ n. commit_of_value (value_named (named name vs) n)) ns)))) × (names_of name (commits_of (map (λ n. commit_of_value (value_named (named name vs) n)) ns)) ≡ ns)
     commits_held [] h = (tt, refl)
     commits_held (n ∷ ns) h =
         let r = commit_held n h.0 in
@@ -246,13 +246,13 @@ module _ (name : Kind → Bytes → Bytes) (namer : IsNamer name) (vs : List Val
         let p = h.0 in
         let t = tree_held p.tree h.2 in
         let ps = commits_held p.parents h.3 in
-        let e : commit_text (record { tree = tree_name name (files_in (value_named (named name vs) p.tree)); parents = names_of name (commits_of (map (λ n. commit_in (value_named (named name vs) n)) p.parents)); text = p.text }) ≡ body =
+        let e : commit_text (record { tree = tree_name name (files_of_tree (value_named (named name vs) p.tree)); parents = names_of name (commits_of (map (λ n. commit_of_value (value_named (named name vs) n)) p.parents)); text = p.text }) ≡ body =
         (λ i. commit_text (record { tree = t.1 i; parents = ps.1 i; text = p.text })) ∙ sym h.1.0 in
         let f : commit_value (commit_of_parts (named name vs) (commit_parts_in body)) ≡ commit_value (commit_of_parts (named name vs) p) = ap (λ z. commit_value (commit_of_parts (named name vs) z)) (commit_read p body h.1) in
         subst (IsRead kind.Commit body) (sym f) (record {
           same_kind = refl;
           same_body = e;
-          proper = both _ _ (proper_in vs (tree_value (files_in (value_named (named name vs) p.tree))) (passes _ whole.proper) t.0) (passes _ h.1.3);
+          proper = both _ _ (proper_in vs (tree_value (files_of_tree (value_named (named name vs) p.tree))) (passes _ whole.proper) t.0) (passes _ h.1.3);
           known = (t.0, ps.0);
         })
 
@@ -260,7 +260,7 @@ module _ (name : Kind → Bytes → Bytes) (namer : IsNamer name) (vs : List Val
     tag_is_read body h =
         let p = h.0 in
         let c = commit_held p.object h.2 in
-        let e : tag_text (record { object = name kind.Commit (commit_body name (commit_in (value_named (named name vs) p.object))); name = p.name; tagger = p.tagger; message = p.message }) ≡ body =
+        let e : tag_text (record { object = name kind.Commit (commit_body name (commit_of_value (value_named (named name vs) p.object))); name = p.name; tagger = p.tagger; message = p.message }) ≡ body =
         (λ i. tag_text (record { object = c.1 i; name = p.name; tagger = p.tagger; message = p.message })) ∙ sym h.1.0 in
         let f : tag_value (tag_of_parts (named name vs) (tag_parts_in body)) ≡ tag_value (tag_of_parts (named name vs) p) = ap (λ z. tag_value (tag_of_parts (named name vs) z)) (tag_read p body h.1) in
         subst (IsRead kind.Tag body) (sym f) (record {
@@ -338,10 +338,10 @@ module _ (name : Kind → Bytes → Bytes) (namer : IsNamer name) where
     pub recorded : map (record_of name) values ≡ map (record_of name) vs ++ rs
     pub whole : IsWhole values
 
-  kept_by : (vs : List Value) (rs all : List Record) → map (record_of name) vs ++ rs ≡ all → (P : Record → Type 0) (v : Value) → IsIn vs v → P (record_of name v) → Some_ P all
-  kept_by vs rs all e P v i p = subst (Some_ P) e (some_left (map (record_of name) vs) rs (holds name P vs v i p))
+  kept_by : (vs : List Value) (rs all : List Record) → map (record_of name) vs ++ rs ≡ all → (P : Record → Type 0) (v : Value) → IsIn vs v → P (record_of name v) → AnyByRecursion P all
+  kept_by vs rs all e P v i p = subst (AnyByRecursion P) e (some_left (map (record_of name) vs) rs (holds name P vs v i p))
     where
-      some_left : (xs ys : List Record) → Some_ P xs → Some_ P (xs ++ ys)
+      some_left : (xs ys : List Record) → AnyByRecursion P xs → AnyByRecursion P (xs ++ ys)
       some_left [] ys h = absurd h
       some_left (x ∷ xs) ys h = elim h [ inl q ↦ inl q | inr q ↦ inr (some_left xs ys q) ]
 

@@ -37,6 +37,7 @@ pub mod TreeWalks
 pub mod HeldNames
 pub mod FirstRecords
 pub mod FoundRecords
+pub mod ShownValues
 pub mod TagBodies
 pub mod ShortPaths
 pub mod ItemTexts

@@ -11,8 +11,8 @@ use Rattle.gx_model.specs.Objects.{IsNamer}
 use Rattle.gx_model.specs.Records.{kind_of, name_of}
 use Rattle.gx_model.specs.Histories.{Record, AreDistinct, IsIn, IsClosedAfter, record_of}
 use Rattle.gx_model.specs.Histories.{IsWhole}
-use Rattle.gx_model.specs.Sound.{Some_}
-use Rattle.gx_model.specs.HistoryOf.{Named, value_named, bytes_in, files_in, commit_in}
+use Rattle.gx_model.specs.Sound.{AnyByRecursion}
+use Rattle.gx_model.specs.HistoryOf.{Named, value_named, bytes_of_blob, files_of_tree, commit_of_value}
 use Rattle.gx_model.proofs.PathTests.{first, second, is_true, is_same, same_is}
 use Rattle.gx_model.proofs.AddedValues.{in_left, all_keep}
 use Rattle.gx_model.proofs.OneHistory.{no_other}
@@ -37,19 +37,19 @@ module _ (name : Kind → Bytes → Bytes) where
   abbrev pub named : List Value → Named
   named vs = map (λ v. (name_of name v, v)) vs
 
-  pub is_blob : (v : Value) → kind_of name v ≡ kind.Blob → v ≡ blob_value (bytes_in v)
+  pub is_blob : (v : Value) → kind_of name v ≡ kind.Blob → v ≡ blob_value (bytes_of_blob v)
   is_blob (blob_value x) e = refl
   is_blob (tree_value f) e = absurd (cc)
   is_blob (commit_value c) e = absurd (cc)
   is_blob (tag_value t) e = absurd (cc)
 
-  pub is_tree : (v : Value) → kind_of name v ≡ kind.Tree → v ≡ tree_value (files_in v)
+  pub is_tree : (v : Value) → kind_of name v ≡ kind.Tree → v ≡ tree_value (files_of_tree v)
   is_tree (blob_value x) e = absurd (cc)
   is_tree (tree_value f) e = refl
   is_tree (commit_value c) e = absurd (cc)
   is_tree (tag_value t) e = absurd (cc)
 
-  pub is_commit : (v : Value) → kind_of name v ≡ kind.Commit → v ≡ commit_value (commit_in v)
+  pub is_commit : (v : Value) → kind_of name v ≡ kind.Commit → v ≡ commit_value (commit_of_value v)
   is_commit (blob_value x) e = absurd (cc)
   is_commit (tree_value f) e = absurd (cc)
   is_commit (commit_value c) e = refl
@@ -66,7 +66,7 @@ module _ (name : Kind → Bytes → Bytes) where
   is_tag d (tag_value t) e = refl
 
   -- a held record's name finds its value
-  pub found : IsNamer name → (P : Record → Type 0) (n : Bytes) → ((r : Record) → P r → r.name ≡ n) → (vs : List Value) → AreDistinct (map (name_of name) vs) → Some_ P (map (record_of name) vs)
+  pub found : IsNamer name → (P : Record → Type 0) (n : Bytes) → ((r : Record) → P r → r.name ≡ n) → (vs : List Value) → AreDistinct (map (name_of name) vs) → AnyByRecursion P (map (record_of name) vs)
       → IsIn vs (value_named (named vs) n) × P (record_of name (value_named (named vs) n))
   found m P n f [] d h = absurd h
   found m P n f (v ∷ vs) d h =
@@ -79,6 +79,6 @@ module _ (name : Kind → Bytes → Bytes) where
       ] refl
 
   -- what stands in the list is held
-  pub holds : (P : Record → Type 0) (vs : List Value) (v : Value) → IsIn vs v → P (record_of name v) → Some_ P (map (record_of name) vs)
+  pub holds : (P : Record → Type 0) (vs : List Value) (v : Value) → IsIn vs v → P (record_of name v) → AnyByRecursion P (map (record_of name) vs)
   holds P [] v i p = absurd i
   holds P (w ∷ vs) v i p = elim i [ inl e ↦ inl (subst (λ u. P (record_of name u)) (sym e) p) | inr k ↦ inr (holds P vs v k p) ]

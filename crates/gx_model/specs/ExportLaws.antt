@@ -17,13 +17,12 @@ use Rattle.gx_model.specs.Spelling.{IsReading}
 use Rattle.gx_model.specs.Commands.{Asks, Blob, Change, Clear, Command, CommitIsh, CommitParts, Copy, DataRef, Done, Mark, Marked, Modify, Named, Object, Remove, Rename, Reset, TagParts}
 use Rattle.gx_model.specs.Grammar.{commands_of, is_null}
 use Rattle.gx_model.specs.Files.{Leaf}
-use Rattle.gx_model.specs.Values.{Commit, Value, blob_value, commit_value, files_of, is_content, is_name_text, is_proper, list_of, parents_of, parts, text_of}
-use Rattle.gx_model.specs.Histories.{History, IsHistory, IsIn, Target, at_commit, at_tag, is_in, value_at, with_one, with_value}
+use Rattle.gx_model.specs.Values.{Commit, Value, blob_value, commit_value, files_of, is_content, is_name_text, is_proper, list_of, parents_of, text_of}
+use Rattle.gx_model.specs.Histories.{History, IsHistory, IsIn, IsWhole, Reaches, Target, at_commit, at_tag, is_in, value_at, with_one, with_value}
 use Rattle.gx_model.specs.Revisions.{Revision}
 use Rattle.gx_model.specs.Ranges.{commit_of}
 use Rattle.gx_model.specs.Replay.{Report, State, finished, or_else, replayed, replayed_text, start, step}
 use Rattle.gx_model.specs.Export.{all_written, carrier, command_items, contents, export_commands, export_text, inner_commands, item_text, one_commit, reached_commits, with_commit}
-use Rattle.gx_model.specs.Histories.{IsWhole}
 
 -- a line with no LF that is no comment and announces no block
 pub record IsItemLine (l : Bytes) : Type 0 where
@@ -175,11 +174,6 @@ module _ (name : Kind → Bytes → Bytes) (read : Bytes → Result Revision Fau
       → steps (state_at ws vs b) (one_commit ws c) ≡ Ok (state_at (with_commit ws c) (values_with_commit ws vs c) (Some (Some c)))
 
 -- ---- what a history reaches
-
--- a value is made of another, through its parts
-pub data Reaches : Value → Value → Type 0 where
-  itself : (v : Value) → Reaches v v
-  through : {u : Value} (v w : Value) → IsIn (parts v) w → Reaches w u → Reaches v u
 
 abbrev pub AnyReaches : List Value → Value → Type 0
 AnyReaches [] u = ⊥

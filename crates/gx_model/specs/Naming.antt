@@ -1,5 +1,5 @@
 -- How objects get their names. Source: Pro Git, "Git Objects", and FIPS 180-4.
-use Rattle.std.specs.Prelude.{ℕ, ◌%◌, ◌&&◌, nat_eq, if◌then◌else◌, List, [], ◌∷◌, ◌++◌, length, map, codes, decimal, replicate, Option, Some, None}
+use Rattle.std.specs.Prelude.{ℕ, ◌%◌, ◌&&◌, nat_eq, if◌then◌else◌, [], ◌∷◌, ◌++◌, length, map, codes, decimal, replicate, Option, Some, None}
 use Rattle.std.specs.List.{list_all}
 use Rattle.gx_model.specs.declared.objects.Kind.{Kind}
 use Rattle.gx_model.specs.declared.objects.Kind.TheVariants.{Blob, Tree, Commit, Tag}

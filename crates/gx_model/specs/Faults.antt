@@ -22,10 +22,12 @@ abbrev pub and_then : {A B E : Type 0} → Result A E → (A → Result B E) →
 and_then (Ok x) f = f x
 and_then (Err e) f = Err e
 
+-- and_then, between two steps
 infixl 10 ◌>>=◌
 abbrev pub ◌>>=◌ : {A B : Type 0} → Result A Fault → (A → Result B Fault) → Result B Fault
 r >>= f = and_then r f
 
+-- a value, or this fault where there is none
 abbrev pub or_fault : {A : Type 0} → Option A → Fault → Result A Fault
 or_fault (Some x) f = Ok x
 or_fault None f = Err f

@@ -33,12 +33,15 @@ pub record HistoriesOf (name : Kind → Bytes → Bytes) : Type 0 where
   pub sound : (repository : Records) (history : History) → StandsFor name repository history → IsSound name repository
   pub one : (repository : Records) (history : History) → StandsFor name repository history → history ≡ history_of repository
 
+-- the values of a repository's history
 abbrev pub values_of : Records → List Value
 values_of repository = (history_of repository).values
 
+-- a repository with these records
 abbrev pub with_records : Records → List Record → Records
 with_records repository records = record { records = records; refs = repository.refs }
 
+-- a repository with these refs
 abbrev pub with_refs : Records → List (Bytes × Bytes) → Records
 with_refs repository refs = record { records = repository.records; refs = refs }
 

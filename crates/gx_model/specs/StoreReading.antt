@@ -24,6 +24,7 @@ use Rattle.gx_model.specs.Growth.{record_named}
 use Rattle.gx_model.specs.RecordFaults.{record_fault}
 use Rattle.gx_model.specs.Naming.{kind_word}
 
+-- what is read of a store text, or the first fault
 abbrev pub Stored : Type 0 → Type 0
 Stored A = Result A FileFault
 
@@ -31,10 +32,12 @@ infixl 10 ◌>>=◌
 abbrev ◌>>=◌ : {A B : Type 0} → Stored A → (A → Stored B) → Stored B
 r >>= f = and_then r f
 
+-- what is read where a test holds, and otherwise this fault
 abbrev pub stored_if : {A : Type 0} → FileFault → Option A → Stored A
 stored_if f None = Err f
 stored_if f (Some x) = Ok x
 
+-- what is read unless there is this fault
 abbrev pub unless : Bool → FileFault → Stored (Unit {0})
 unless holds f = if holds then Ok tt else Err f
 
@@ -48,6 +51,7 @@ stored_line text = stored_if fault.Truncated (cut_at 10 text)
 abbrev pub if_written_so : Bytes → ℕ → Option ℕ
 if_written_so x n = if same_bytes (decimal n) x then Some n else None
 
+-- a number without leading zeros
 abbrev pub stored_number : Bytes → Option ℕ
 stored_number x = option_and_then (if_written_so x) (decimal_of x)
 
@@ -72,9 +76,11 @@ after_magic text = do
 
 -- ---- records
 
+-- the kinds by their words
 abbrev pub kind_words : List (Bytes × Kind)
 kind_words = (kind_word kind.Blob, kind.Blob) ∷ (kind_word kind.Tree, kind.Tree) ∷ (kind_word kind.Commit, kind.Commit) ∷ (kind_word kind.Tag, kind.Tag) ∷ []
 
+-- a kind with the length of its body
 abbrev pub with_length : Bytes → Kind → Option (Kind × ℕ)
 with_length x k = option_and_then (λ n. Some (k, n)) (stored_number x)
 
@@ -89,11 +95,13 @@ stored_body n text = do
   ended ← unless (starts_with nat_eq (drop n text) (10 ∷ [])) fault.BadRecord
   Ok (take n text, drop (n + 1) text)
 
+-- a record that the repository takes
 abbrev pub admitted : List Record → Record → Option FileFault → Stored (List Record)
 admitted rs r None = Ok (rs ++ r ∷ [])
 admitted rs r (Some f) = Err f
 
 module _ (name : Kind → Bytes → Bytes) where
+  -- a record with its name
   abbrev pub record_made : Kind → Bytes → Record
   record_made k body = record { name = name k body; kind = k; body = body }
 
@@ -106,6 +114,7 @@ module _ (name : Kind → Bytes → Bytes) where
     more ← admitted rs (record_made k.0 body.0) (record_fault rs (record_made k.0 body.0))
     Ok (more, body.1)
 
+  -- the records that come next
   abbrev pub next_records : ℕ → List Record → Bytes → Stored (List Record × Bytes)
   next_records zero rs text = Ok (rs, text)
   next_records (suc n) rs text = next_record rs text >>= λ x. next_records n x.0 x.1
@@ -116,6 +125,7 @@ module _ (name : Kind → Bytes → Bytes) where
 abbrev pub if_ref : Bytes × Bytes → Option (Bytes × Bytes)
 if_ref p = if is_name_text p.0 && is_ref_name p.1 then Some (p.1, unhex p.0) else None
 
+-- the line of a ref
 abbrev pub ref_line : Bytes → Option (Bytes × Bytes)
 ref_line l = option_and_then if_ref (cut_at 32 l)
 
@@ -125,10 +135,12 @@ is_target_of_kind ref kind.Commit body = true
 is_target_of_kind ref kind.Tag body = same_bytes ref (tag_ref (tag_parts_in body).name)
 is_target_of_kind ref _ body = false
 
+-- whether a ref may hold this
 abbrev pub is_target : Bytes → Option Record → Bool
 is_target ref None = false
 is_target ref (Some r) = is_target_of_kind ref r.kind r.body
 
+-- whether a ref name stands before another
 abbrev pub is_less : Ordering → Bool
 is_less Less = true
 is_less Equal = false
@@ -139,6 +151,7 @@ abbrev pub is_after : Option Bytes → Bytes → Bool
 is_after None ref = true
 is_after (Some last) ref = is_less (slice_cmp nat_cmp last ref)
 
+-- the ref that comes next
 abbrev pub next_ref : List Record → Option Bytes → Bytes → Stored ((Bytes × Bytes) × Bytes)
 next_ref rs last text = do
   l ← stored_line text
@@ -147,18 +160,21 @@ next_ref rs last text = do
   ordered ← unless (is_after last x.0) fault.RefOrder
   Ok (x, l.1)
 
+-- the refs that come next
 abbrev pub next_refs : ℕ → List Record → Option Bytes → Bytes → Stored (List (Bytes × Bytes) × Bytes)
 next_refs zero rs last text = Ok ([], text)
 next_refs (suc n) rs last text = next_ref rs last text >>= λ x. next_refs n rs (Some x.0.0) x.1 >>= λ xs. Ok (x.0 ∷ xs.0, xs.1)
 
 -- ---- the whole
 
+-- the end of a store text
 abbrev pub stored_end : Bytes → Stored (Unit {0})
 stored_end text = do
   l ← stored_line text
   word ← unless (same_bytes l.0 (codes "end")) fault.BadRecord
   unless (nat_eq (length l.1) 0) fault.TrailingBytes
 
+-- the records and refs of a store text, or the first fault
 unfoldable pub store_of : (Kind → Bytes → Bytes) → Bytes → Stored Records
 store_of name text = do
   start ← after_magic text

@@ -15,6 +15,7 @@ stored_record r = line (kind_word r.kind) (decimal (length r.body)) ++ r.body ++
 abbrev pub stored_ref : Bytes × Bytes → Bytes
 stored_ref x = line (hex x.1) x.0
 
+-- the text of a store file
 unfoldable pub store_text : Records → Bytes
 store_text r =
     line (codes "gxstore") (codes "1") ++ line (codes "objects") (decimal (length r.records)) ++ flat_map stored_record r.records

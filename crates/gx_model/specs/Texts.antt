@@ -4,9 +4,11 @@ use Rattle.std.specs.Option.{option_map}
 use Rattle.std.specs.List.{list_any, list_all}
 use Rattle.std.specs.Str.{bytes_eq}
 
+-- a text: its bytes, each below 256 where it was read
 abbrev pub Bytes : Type 0
 Bytes = List ℕ
 
+-- whether two texts are equal
 abbrev pub same_bytes : Bytes → Bytes → Bool
 same_bytes = bytes_eq
 

@@ -1,4 +1,5 @@
 -- The export text of a history.
+-- Source: git-fast-export(1), `--full-tree`; the exact text is this project's.
 use Rattle.std.specs.Prelude.{ℕ, suc, Bool, if◌then◌else◌, List, [], ◌∷◌, ◌++◌, map, length, Option, None, Some, codes}
 use Rattle.std.specs.List.{filter, filter_map, flat_map, fold, list_any}
 use Rattle.std.specs.Fmt.{decimal}

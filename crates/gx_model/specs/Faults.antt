@@ -1,4 +1,5 @@
 -- How a call's answer goes with what a definition gives, and steps that may be refused.
+-- Source: this project's own.
 use Rattle.std.specs.Prelude.{◌≡◌, Option, Some, None, Result, Ok, Err}
 use Rattle.gx_model.specs.declared.faults.Fault.{Fault}
 use Rattle.gx_model.specs.declared.faults.Fault.TheVariants.{OutOfMemory}

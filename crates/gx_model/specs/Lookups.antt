@@ -1,4 +1,5 @@
 -- What refs, digits and names find among records.
+-- Source: gitrevisions(7), "Specifying Revisions".
 use Rattle.std.specs.Prelude.{List, [], ◌∷◌, Option, None, Some}
 use Rattle.std.specs.List.{filter}
 use Rattle.std.specs.Map.{lookup}

@@ -1,4 +1,5 @@
 -- Why a record is refused by a repository: its body, its links, what is below it, its name.
+-- Source: Pro Git, "Git Objects".
 use Rattle.std.specs.Prelude.{Bool, true, false, not, ◌&&◌, ◌||◌, nat_eq, if◌then◌else◌, List, length, Option, None, Some, is_some}
 use Rattle.std.specs.List.{list_all, list_any}
 use Rattle.gx_model.specs.declared.objects.Kind.{Kind}

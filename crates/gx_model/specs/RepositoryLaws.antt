@@ -1,4 +1,5 @@
 -- The laws of repositories: their histories, how both grow, and what names, walks and refs find in both.
+-- Source: gitglossary(7), "object database", and gitrevisions(7).
 use Rattle.std.specs.Prelude.{◌≡◌, ◌↔◌, true, IsTrue, List, ◌∷◌, ◌++◌, map, Some, None, Ok}
 use Rattle.std.specs.List.{list_all, fold, AllByRecursion}
 use Rattle.std.specs.Option.{option_map}

@@ -1,4 +1,5 @@
 -- How a text spells its items: a relation on the whole text, without positions or pieces.
+-- Source: git-fast-import(1), "Comments" and "data".
 use Rattle.std.specs.Prelude.{◌≡◌, ℕ, ◌<◌, ◌≤◌, ◌⊎◌, Bool, true, false, List, [], ◌∷◌, ◌++◌, length, codes, Some, None}
 use Rattle.std.specs.List.{flat_map}
 use Rattle.gx_model.specs.Numbers.{decimal_of}

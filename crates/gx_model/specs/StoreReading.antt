@@ -1,4 +1,5 @@
 -- The reading of a store file's text, version 1, from front to back: the records and the refs, or the first fault.
+-- Source: this project's own format.
 use Rattle.std.specs.Prelude.{ℕ, zero, suc, ◌+◌, Bool, true, false, ◌&&◌, nat_eq, nat_lt, if◌then◌else◌, List, [], ◌∷◌, ◌++◌, length, take, drop, codes, Option, None, Some, Result, Ok, Err}
 use Rattle.std.specs.Option.{option_and_then}
 use Rattle.std.specs.List.{starts_with}

@@ -1,4 +1,5 @@
 -- The text of a store file, version 1: all records in their order, and the refs.
+-- Source: this project's own format.
 use Rattle.std.specs.Prelude.{◌∷◌, ◌++◌, [], length, codes}
 use Rattle.std.specs.List.{flat_map}
 use Rattle.std.specs.Fmt.{decimal}

@@ -1,4 +1,5 @@
 -- What holds of numbers, ref names, identities and paths.
+-- Source: git-fast-import(1), git-check-ref-format(1).
 use Rattle.std.specs.Prelude.{◌≡◌, ◌↔◌, ◌⊎◌, IsTrue, ℕ, ◌^◌, ◌<◌, true, length, Some, Ok, Err}
 use Rattle.std.specs.List.{list_all}
 use Rattle.std.specs.Fmt.{decimal}

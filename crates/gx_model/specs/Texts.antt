@@ -1,4 +1,5 @@
 -- Texts are byte strings. What stands before and after a byte in them, and which bytes they lack.
+-- Source: this project's own.
 use Rattle.std.specs.Prelude.{ℕ, Bool, false, not, ◌&&◌, ◌||◌, ◌==◌, List, [], ◌∷◌, Option, Some, None, nat_eq, if◌then◌else◌}
 use Rattle.std.specs.Option.{option_map}
 use Rattle.std.specs.List.{list_any, list_all}

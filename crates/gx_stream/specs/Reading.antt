@@ -27,20 +27,29 @@ answer_of (Err f) = Err f
 
 -- Where the items to come are known, the first is answered and the others are left. A fault other than want of memory
 -- is answered only where it is the end that comes next, and it is all that is left then. So is the end.
-abbrev pub Reads : Option Stream → Option Stream → Result (Option model.Item) StreamFault → Type 0
-Reads None new (Ok None) = new ≡ Some (ended Finished)
-Reads None new (Ok (Some item)) = Unit {0}
-Reads None new (Err f) = new ≡ Some (ended (Failed (fault_of f)))
-Reads (Some old) new (Ok None) = (old ≡ ended Finished) × (new ≡ Some (ended Finished))
-Reads (Some old) new (Ok (Some item)) = (left : Stream) × (old ≡ then_comes item left) × (new ≡ Some left)
-Reads (Some old) new (Err f) = (new ≡ Some (ended (Failed (fault_of f)))) × ((f ≡ OutOfMemory) ⊎ (old ≡ ended (Failed (fault_of f))))
+abbrev pub ReadsAs : Option Stream → Option Stream → Result (Option model.Item) StreamFault → Type 0
+ReadsAs None new (Ok None) = new ≡ Some (ended Finished)
+ReadsAs None new (Ok (Some item)) = Unit {0}
+ReadsAs None new (Err f) = new ≡ Some (ended (Failed (fault_of f)))
+ReadsAs (Some old) new (Ok None) = (old ≡ ended Finished) × (new ≡ Some (ended Finished))
+ReadsAs (Some old) new (Ok (Some item)) = (left : Stream) × (old ≡ then_comes item left) × (new ≡ Some left)
+ReadsAs (Some old) new (Err f) = (new ≡ Some (ended (Failed (fault_of f)))) × ((f ≡ OutOfMemory) ⊎ (old ≡ ended (Failed (fault_of f))))
+
+abbrev pub Reads : Option Stream → Option Stream → Result (Option Item) StreamFault → Type 0
+Reads old new answer = ReadsAs old new (answer_of answer)
 
 -- each item lowers the bound
-abbrev pub Falls : ℕ → ℕ → Result (Option model.Item) StreamFault → Type 0
-Falls old new (Ok None) = new ≤ old
-Falls old new (Ok (Some item)) = new < old
-Falls old new (Err f) = new ≤ old
+abbrev pub FallsAs : ℕ → ℕ → Result (Option model.Item) StreamFault → Type 0
+FallsAs old new (Ok None) = new ≤ old
+FallsAs old new (Ok (Some item)) = new < old
+FallsAs old new (Err f) = new ≤ old
+
+abbrev pub Falls : ℕ → ℕ → Result (Option Item) StreamFault → Type 0
+Falls old new answer = FallsAs old new (answer_of answer)
 
 -- what one call answers and leaves
-abbrev pub Answers : Seen → Seen → Result (Option model.Item) StreamFault → Type 0
-Answers old new answer = Reads old.stream new.stream answer × Falls old.most new.most answer
+abbrev pub AnswersAs : Seen → Seen → Result (Option model.Item) StreamFault → Type 0
+AnswersAs old new answer = ReadsAs old.stream new.stream answer × FallsAs old.most new.most answer
+
+abbrev pub Answers : Seen → Seen → Result (Option Item) StreamFault → Type 0
+Answers old new answer = AnswersAs old new (answer_of answer)

@@ -1,7 +1,7 @@
 //! What came from a source, and the items in it.
 
 ghost use Rattle.std.specs.Prelude.{◌≡◌, ◌<◌, ◌≤◌, ◌+◌, length, drop, IfOk, OnOk};
-ghost use Rattle.gx_stream.specs.Reading.{Answers};
+ghost use Rattle.gx_stream.specs.Reading.{AnswersAs};
 ghost use Rattle.gx_stream.specs.Input.{seen, stream_seen, IsSound, IsFoundWithin, answer_at, Looks, is_whole, Takes, Keeps, KeepsStream, pulls_left};
 ghost use Rattle.gx_stream.specs.declared.input.State.TheVariants.{Open};
 
@@ -42,7 +42,7 @@ impl<R: Source, A: Allocator + Copy> Input<R, A> {
         requires { IsSound self.old }
         ensures sound { IsSound self.new }
         ensures within { IsFoundWithin self.new.text.items result }
-        ensures answers { Answers (seen self.old (R.coming self.old.source)) (seen self.new (R.coming self.new.source))
+        ensures answers { AnswersAs (seen self.old (R.coming self.old.source)) (seen self.new (R.coming self.new.source))
             (answer_at self.new.text.items result) }
     {
         loop {

@@ -5,7 +5,7 @@ ghost use Rattle.std.specs.Option.{option_map};
 ghost use Rattle.std.specs.Borrow.{sem};
 ghost use Rattle.std.specs.Io.BufRead.{Rests};
 ghost use Rattle.gx_stream.specs.Heard.{items_from};
-ghost use Rattle.gx_stream.specs.Reading.{Answers, answer_of};
+ghost use Rattle.gx_stream.specs.Reading.{Answers};
 ghost use Rattle.gx_stream.specs.contracts.reader.ItemReader.{the_row};
 
 use crate::fault::StreamFault;
@@ -63,7 +63,7 @@ impl<R: Source, A: Allocator + Copy> ItemReader<R, A> {
     /// a line or a delimited block that comes in several pieces is looked through once for each.
     /// Source: git-fast-import(1), "Comments" and "data".
     pub fn next(&mut self) -> Result<Option<Item<'_>>, StreamFault>
-        ensures* reads { sem 𝓛 (Rests (the_row R.row A.row R.Source A.Allocator) self.entry (λ new. Answers self.old new (answer_of result))) }
+        ensures* reads { sem 𝓛 (Rests (the_row R.row A.row R.Source A.Allocator) self.entry (λ new. Answers self.old new result)) }
     {
         match self.input.take_next() {
             Found::Line(place) => Ok(Some(Item::Line(&self.input.text[place.start..place.end]))),

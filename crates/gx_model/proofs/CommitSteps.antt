@@ -1,5 +1,5 @@
 -- The commands of one commit are replayed without a fault, and what the state is then.
-use Rattle.std.proofs.Common.{◌≡◌, suc, ◌+◌, ◌-◌, ◌≤◌, Bool, true, false, cond, not, ◌||◌, Option, Some, None, Result, Ok, Err, List, [], ◌∷◌, ◌++◌, length, map, nat_eq, refl, sym, ap, subst, ◌∙◌, arith, append-nil, append_assoc, inl, inr}
+use Rattle.std.proofs.Common.{◌≡◌, suc, ◌≤◌, Bool, true, false, cond, not, ◌||◌, Option, Some, None, Result, Ok, Err, List, [], ◌∷◌, ◌++◌, length, map, nat_eq, refl, sym, ap, subst, ◌∙◌, arith, append-nil, append_assoc, inl, inr}
 use Rattle.std.proofs.lemmas.Bool.Decides.{nat_tests}
 use Rattle.std.specs.Bool.{passes}
 use Rattle.std.specs.FinMap.Entries.{put, is_sorted, below_all}
@@ -207,9 +207,9 @@ module _ (name : Kind → Bytes → Bytes) (read : Bytes → Result Revision Fau
       reset_replayed ws vs b (commit_command ws (commit f none t) ∷ []) ∙ alone _ ∙ commit_replayed ws vs (Some None) (commit f none t) h k g (λ _. refl)
   last_replayed ws vs b (commit f (more p ps) t) h k g = alone _ ∙ commit_replayed ws vs b (commit f (more p ps) t) h k g (λ e. absurd cc)
 
-  pub commit_block_replayed : (ws vs : List Value) (b : Option (Option Commit)) (c : Commit) → IsTrue (is_content (files_of c)) → AllByRecursion (λ p. IsIn ws (commit_value p)) (list_of (parents_of c))
+  pub one_commit_replayed : (ws vs : List Value) (b : Option (Option Commit)) (c : Commit) → IsTrue (is_content (files_of c)) → AllByRecursion (λ p. IsIn ws (commit_value p)) (list_of (parents_of c))
       → steps name read (state_at ws vs b) (one_commit ws c) ≡ Ok (state_at (with_commit ws c) (values_with_commit ws vs c) (Some (Some c)))
-  commit_block_replayed ws vs b c h k =
+  one_commit_replayed ws vs b c h k =
       let xs = contents (files_of c) in
       let end = root_reset (list_of (parents_of c)) ++ (commit_command (with_blobs ws xs) c ∷ []) in
       steps-append (state_at ws vs b) (blob_commands ws xs) end ∙ ap (λ r. and_then r (λ t. steps name read t end)) (blobs_replayed ws vs b xs)

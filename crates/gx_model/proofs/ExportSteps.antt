@@ -8,7 +8,7 @@ use Rattle.std.specs.Prelude.{T}
 use Rattle.gx_model.specs.Commands.{Command}
 use Rattle.gx_model.specs.Denotation.{ref_at}
 use Rattle.gx_model.specs.Export.{all_written, carrier, commit_commands, export_commands, inner_commands, is_reached, last_reset, one_commit, reached_commits, ref_command, with_commit}
-use Rattle.gx_model.specs.ExportLaws.{FollowsAll, HoldsWhat, IsAgain, IsOne, IsReached, carried, exported_report, nothing, state_at, steps, values_with_commit}
+use Rattle.gx_model.specs.ExportLaws.{HoldsWhat, IsAgain, IsOne, IsReached, carried, exported_report, nothing, state_at, steps, values_with_commit}
 use Rattle.gx_model.specs.Faults.{and_then}
 use Rattle.gx_model.specs.Histories.{History, IsHistory, IsIn, IsWhole, Target, value_at}
 use Rattle.gx_model.specs.Ranges.{commit_of}
@@ -18,8 +18,8 @@ use Rattle.gx_model.specs.Texts.{Bytes}
 use Rattle.gx_model.specs.Values.{Commit, Value, commit_value, files_of, is_content, is_proper, is_proper_text, list_of, parents_of, text_of}
 use Rattle.gx_model.specs.declared.faults.Fault.{Fault}
 use Rattle.gx_model.specs.declared.objects.Kind.{Kind}
-use Rattle.gx_model.proofs.CommitSteps.{commit_block_replayed, steps-append}
-use Rattle.gx_model.proofs.KeptCommits.{all_in, among, any_from, commit_keeps, each_one, one_of_all, reached_held}
+use Rattle.gx_model.proofs.CommitSteps.{one_commit_replayed, steps-append}
+use Rattle.gx_model.proofs.KeptCommits.{FollowsAll, all_in, among, any_from, commit_keeps, each_one, one_of_all, reached_held}
 use Rattle.gx_model.proofs.LinkedValues.{proper_in}
 use Rattle.gx_model.proofs.PathTests.{first, is_true}
 use Rattle.gx_model.proofs.PublishedRefs.{ArePeeled, Branches, Refs, all_peeled, at_branch, looked, ref_branches, ref_tags, ref_values, refs_held, refs_replayed, same_refs, state_with}
@@ -54,7 +54,7 @@ module _ (name : Kind → Bytes → Bytes) (read : Bytes → Result Revision Fau
       → steps name read (state_at ws vs b) (commit_commands ws cs) ≡ Ok (state_at (fold with_commit ws cs) (values_after ws vs cs) (last_carried b cs))
   commits_replayed ws vs b before [] h f = refl
   commits_replayed ws vs b before (c ∷ cs) h f =
-      let one = commit_block_replayed name read ws vs b c (is_true _ (first (is_content (files_of c)) (is_proper_text (text_of c)) (passes _ f.0))) (each_one (IsOne before) (λ p. IsIn ws (commit_value p)) (λ p i. one_of_all (λ d. IsIn ws (commit_value d)) before p h.commits i) (list_of (parents_of c)) f.1) in
+      let one = one_commit_replayed name read ws vs b c (is_true _ (first (is_content (files_of c)) (is_proper_text (text_of c)) (passes _ f.0))) (each_one (IsOne before) (λ p. IsIn ws (commit_value p)) (λ p i. one_of_all (λ d. IsIn ws (commit_value d)) before p h.commits i) (list_of (parents_of c)) f.1) in
       let rest = commits_replayed (with_commit ws c) (values_with_commit ws vs c) (Some (Some c)) (before ++ c ∷ []) cs (commit_keeps ws vs before c h f.0 f.1 f.2) f.3 in
       steps-append name read (state_at ws vs b) (one_commit ws c) (commit_commands (with_commit ws c) cs) ∙ ap (λ r. and_then r (λ t. steps name read t (commit_commands (with_commit ws c) cs))) one ∙ rest
 

@@ -1,5 +1,5 @@
 -- What the commands of one commit add to the values of a history.
-use Rattle.std.proofs.Common.{◌≡◌, ℕ, zero, suc, ◌+◌, true, false, cond, Option, Some, None, List, [], ◌∷◌, ◌++◌, map, refl, sym, ap, subst, ◌∙◌, append-nil, inl, inr}
+use Rattle.std.proofs.Common.{◌≡◌, ℕ, zero, suc, true, false, cond, Option, Some, None, List, [], ◌∷◌, ◌++◌, map, refl, sym, ap, subst, ◌∙◌, append-nil, inl, inr}
 use Rattle.std.proofs.lemmas.List.Elements.{filter_map-append}
 use Rattle.std.specs.Bool.{passes}
 use Rattle.std.specs.List.{filter_map, fold, AllByRecursion, cons_option}
@@ -148,7 +148,7 @@ order_commit vs c h =
       | false ↦ λ e. filter_map-append commit_of vs (commit_value c ∷ [])
     ] refl
 
--- ---- a block
+-- ---- the commands of one commit
 
 pub one_of_all : (P : Commit → Type 0) (cs : List Commit) (c : Commit) → AllByRecursion P cs → IsOne cs c → P c
 one_of_all P [] c h k = absurd k
@@ -206,3 +206,11 @@ commit_keeps ws vs cs c h p k new =
       by : (ys : List Bytes) → AllByRecursion (λ x. IsIn (with_blobs ws (contents (files_of c))) (blob_value x)) ys → AllByRecursion (λ x. IsIn (values_with_blobs ws vs (contents (files_of c))) (blob_value x)) ys
       by [] g = tt
       by (y ∷ ys) g = (f (blob_value y) g.0, by ys g.1)
+
+-- ---- all commits
+
+-- each is proper and new, after its parents
+abbrev pub FollowsAll : List Commit → List Commit → Type 0
+FollowsAll before [] = Unit {0}
+FollowsAll before (c ∷ cs) =
+    IsTrue (is_proper (commit_value c)) × AllByRecursion (IsOne before) (list_of (parents_of c)) × (IsOne before c → ⊥) × FollowsAll (before ++ c ∷ []) cs

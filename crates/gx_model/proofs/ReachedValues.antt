@@ -1,11 +1,11 @@
 -- Which commits and values the refs of a history reach.
-use Rattle.std.proofs.Common.{◌≡◌, ◌+◌, Bool, true, false, cond, Option, None, List, [], ◌∷◌, ◌++◌, map, refl, sym, ap, subst, ◌∙◌, append-nil, append_assoc, inl, inr}
+use Rattle.std.proofs.Common.{◌≡◌, Bool, true, false, cond, Option, None, List, [], ◌∷◌, ◌++◌, map, refl, sym, ap, subst, ◌∙◌, append-nil, append_assoc, inl, inr}
 use Rattle.std.proofs.lemmas.Bool.{false≢true}
 use Rattle.std.proofs.lemmas.List.Elements.{filter_map-append, filter-append}
 use Rattle.std.specs.List.{list_all, filter, filter_map, AllByRecursion, cons_option}
 use Rattle.std.specs.Prelude.{T, ◌⊎◌}
 use Rattle.gx_model.specs.Export.{is_reached}
-use Rattle.gx_model.specs.ExportLaws.{AnyReaches, FollowsAll, IsOne}
+use Rattle.gx_model.specs.ExportLaws.{AnyReaches, IsOne}
 use Rattle.gx_model.specs.Histories.{IsClosedAfter, IsIn, IsWhole, Reaches, Target, at_commit, at_tag, itself, through, value_at}
 use Rattle.gx_model.specs.HistoryLaws.{IsParent}
 use Rattle.gx_model.specs.Ranges.{commit_of, reaches, some_reaches}
@@ -13,7 +13,7 @@ use Rattle.gx_model.specs.Replay.{peeled_at}
 use Rattle.gx_model.specs.Texts.{Bytes}
 use Rattle.gx_model.specs.Values.{Commit, Commits, Value, blob_value, commit, commit_value, is_proper, list_of, more, none, parents_of, parts, same_commit, tag_value, tree_value}
 use Rattle.gx_model.proofs.GrownRecords.{is_is_in}
-use Rattle.gx_model.proofs.KeptCommits.{among, reaches_trans}
+use Rattle.gx_model.proofs.KeptCommits.{FollowsAll, among, reaches_trans}
 use Rattle.gx_model.proofs.LinkedValues.{parts_after}
 use Rattle.gx_model.proofs.PathTests.{both, first, is_true, left_or, one_of, right_or, second}
 use Rattle.gx_model.proofs.PublishedRefs.{Refs}

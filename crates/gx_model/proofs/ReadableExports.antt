@@ -10,7 +10,7 @@ use Rattle.std.specs.List.{flat_map, fold, AllByRecursion, cons_option}
 use Rattle.std.specs.Prelude.{T}
 use Rattle.gx_model.specs.Commands.{Command}
 use Rattle.gx_model.specs.Export.{all_written, blob_commands, command_items, commit_command, commit_commands, content_in, contents, export_items, export_text, inner_commands, item_text, last_reset, one_commit, optional_line, reached_commits, ref_command, root_reset, with_blobs, with_commit}
-use Rattle.gx_model.specs.ExportLaws.{FollowsAll, IsFormed, IsFormedFile, IsReadable, IsReadableCommit, IsReadableFile, IsReadableTarget}
+use Rattle.gx_model.specs.ExportLaws.{IsFormed, IsFormedFile, IsReadable, IsReadableCommit, IsReadableFile, IsReadableTarget}
 use Rattle.gx_model.specs.Files.{FileMap}
 use Rattle.gx_model.specs.Histories.{History, IsHistory, IsIn, Target, at_commit, at_tag, is_in}
 use Rattle.gx_model.specs.Items.{Data, Item, Line}
@@ -22,6 +22,7 @@ use Rattle.gx_model.specs.declared.objects.Mode.TheVariants.{Dir, Exec, File, Gi
 use Rattle.gx_model.proofs.AddedValues.{is_in_is}
 use Rattle.gx_model.proofs.CommitSteps.{are_leaves, leaves_of}
 use Rattle.gx_model.proofs.ExportSteps.{all_follow}
+use Rattle.gx_model.proofs.KeptCommits.{FollowsAll}
 use Rattle.gx_model.proofs.PathTests.{first, is_true, second}
 use Rattle.gx_model.specs.Commands as command
 
@@ -40,8 +41,8 @@ fit_right : (is js : List Item) → AllFit (is ++ js) → AllFit js
 fit_right [] js h = h
 fit_right (i ∷ is) js h = fit_right is js h.1
 
-block_in_text : (x : Bytes) → length x ≤ length (item_text (Data x))
-block_in_text x =
+data_in_text : (x : Bytes) → length x ≤ length (item_text (Data x))
+data_in_text x =
     let a = length-append (codes "data " ++ decimal (length x) ++ 10 ∷ x) (10 ∷ []) in
     let b = length-append (codes "data " ++ decimal (length x)) (10 ∷ x) in
     omega (arith, a, b)
@@ -56,7 +57,7 @@ all_text (i ∷ is) = rw flat_map-cons (omega (arith, some_text i, all_text is, 
 
 item_fits : (i : Item) (n : ℕ) → length (item_text i) ≤ n → n < 2 ^ 64 → Fits i
 item_fits (Line l) n h lt = tt
-item_fits (Data x) n h lt = omega (arith, h, lt, block_in_text x)
+item_fits (Data x) n h lt = omega (arith, h, lt, data_in_text x)
 
 all_fit : (is : List Item) → length (flat_map item_text is) < 2 ^ 64 → AllFit is
 all_fit [] lt = tt

@@ -1,11 +1,11 @@
 -- An export's commands can be spelled, and its text is imported.
-use Rattle.std.proofs.Common.{◌≡◌, suc, ◌+◌, ◌<◌, ◌≤◌, ◌^◌, Bool, true, false, cond, ◌&&◌, Some, Result, List, [], ◌∷◌, ◌++◌, length, map, refl, sym, ap, subst, ◌∙◌, arith, inl, inr}
+use Rattle.std.proofs.Common.{◌≡◌, suc, ◌<◌, ◌≤◌, ◌^◌, Bool, true, false, cond, ◌&&◌, Some, Result, List, [], ◌∷◌, ◌++◌, length, map, refl, sym, ap, subst, ◌∙◌, arith, inl, inr}
 use Rattle.std.specs.Bool.{passes}
 use Rattle.std.specs.List.{list_all, fold, AllByRecursion, cons_option}
 use Rattle.std.specs.Prelude.{T, ◌⊎◌}
 use Rattle.gx_model.specs.Commands.{Command}
 use Rattle.gx_model.specs.Export.{all_written, blob_commands, carrier, commit_command, commit_commands, content_in, contents, dataref_in, export_items, export_text, file_change, first_parent, inner_commands, last_reset, marked_in, number_in, one_commit, other_parents, reached_commits, ref_command, root_reset, with_blobs, with_commit}
-use Rattle.gx_model.specs.ExportLaws.{FollowsAll, IsAgain, IsDataRef, IsMark, IsMarked, IsMarkedIf, IsNotNull, IsOne, IsReadable, IsReadableCommit, IsReadableFile, IsReadableTarget, IsSpelled, IsSpelledChange, exported_report, nothing}
+use Rattle.gx_model.specs.ExportLaws.{IsAgain, IsDataRef, IsMark, IsMarked, IsMarkedIf, IsNotNull, IsOne, IsReadable, IsReadableCommit, IsReadableFile, IsReadableTarget, IsSpelled, IsSpelledChange, exported_report, nothing}
 use Rattle.gx_model.specs.Files.{FileMap, are_file_paths}
 use Rattle.gx_model.specs.Grammar.{commands_of}
 use Rattle.gx_model.specs.Histories.{History, IsHistory, IsIn, Target, at_commit, at_tag, is_in, value_at}
@@ -25,7 +25,7 @@ use Rattle.gx_model.proofs.CommitSteps.{blobs_have, blobs_keep, front_of, leaves
 use Rattle.gx_model.proofs.ExportSteps.{all_follow, export_replayed, peeled_ones, proper_refs}
 use Rattle.gx_model.proofs.FileMapEdits.{parts_of}
 use Rattle.gx_model.proofs.ItemTexts.{items_read}
-use Rattle.gx_model.proofs.KeptCommits.{each_one, one_of_all, snoc_all}
+use Rattle.gx_model.proofs.KeptCommits.{FollowsAll, each_one, one_of_all, snoc_all}
 use Rattle.gx_model.proofs.PathTests.{first, is_true, second}
 use Rattle.gx_model.proofs.SameValues.{value_same}
 use Rattle.gx_model.proofs.SpelledItems.{between_spelled}
@@ -61,7 +61,7 @@ spelled_append : (xs ys : List Command) → AreSpelled xs → AreSpelled ys → 
 spelled_append [] ys h g = g
 spelled_append (x ∷ xs) ys h g = (h.0, spelled_append xs ys h.1 g)
 
--- ---- a block
+-- ---- the commands of one commit
 
 blobs_spelled : (ws : List Value) (xs : List Bytes) → AllByRecursion (λ x. length x < 2 ^ 64) xs → length (with_blobs ws xs) < 2 ^ 64 → AreSpelled (blob_commands ws xs)
 blobs_spelled ws [] h lt = tt
@@ -71,19 +71,19 @@ blobs_spelled ws (x ∷ xs) h lt =
       | false ↦ λ l. (((omega arith, omega (arith, more_blobs (blob_value x ∷ ws) xs)), h.0), blobs_spelled (blob_value x ∷ ws) xs h.1 l)
     ] lt
 
-source_spelled : (ws : List Value) (m : Mode) (x : Bytes) → length ws < 2 ^ 64 → T (is_leaf m x) → IsNotNull m x → AllByRecursion (λ y. IsIn ws (blob_value y)) (cons_option (content_in m x) []) → IsDataRef m (dataref_in ws m x)
-source_spelled ws File x lt l n h = is_mark ws (blob_value x) h.0 lt
-source_spelled ws Exec x lt l n h = is_mark ws (blob_value x) h.0 lt
-source_spelled ws Link x lt l n h = is_mark ws (blob_value x) h.0 lt
-source_spelled ws Gitlink x lt l n h = (is_true _ l, n)
-source_spelled ws Dir x lt l n h = absurd l
+dataref_spelled : (ws : List Value) (m : Mode) (x : Bytes) → length ws < 2 ^ 64 → T (is_leaf m x) → IsNotNull m x → AllByRecursion (λ y. IsIn ws (blob_value y)) (cons_option (content_in m x) []) → IsDataRef m (dataref_in ws m x)
+dataref_spelled ws File x lt l n h = is_mark ws (blob_value x) h.0 lt
+dataref_spelled ws Exec x lt l n h = is_mark ws (blob_value x) h.0 lt
+dataref_spelled ws Link x lt l n h = is_mark ws (blob_value x) h.0 lt
+dataref_spelled ws Gitlink x lt l n h = (is_true _ l, n)
+dataref_spelled ws Dir x lt l n h = absurd l
 
 changes_spelled : (ws : List Value) (f : FileMap Bytes) → length ws < 2 ^ 64 → T (are_file_paths f) → T (list_all (λ e. is_leaf e.1.0 e.1.1) f) → AllByRecursion IsReadableFile f → AllByRecursion (λ y. IsIn ws (blob_value y)) (contents f) → AllByRecursion IsSpelledChange (map (file_change ws) f)
 changes_spelled ws [] lt p l r h = tt
 changes_spelled ws (e ∷ f) lt p l r h =
     let o = content_in e.1.0 e.1.1 in
     let P = λ (y : Bytes). IsIn ws (blob_value y) in
-    ((source_spelled ws e.1.0 e.1.1 lt (first _ _ l) r.0.0.1 (front_of P o (contents f) h), (is_true _ (first _ _ p), r.0.0.0)), changes_spelled ws f lt (second (is_file_path e.0) _ p) (second (is_leaf e.1.0 e.1.1) _ l) r.1 (rest_of P o (contents f) h))
+    ((dataref_spelled ws e.1.0 e.1.1 lt (first _ _ l) r.0.0.1 (front_of P o (contents f) h), (is_true _ (first _ _ p), r.0.0.0)), changes_spelled ws f lt (second (is_file_path e.0) _ p) (second (is_leaf e.1.0 e.1.1) _ l) r.1 (rest_of P o (contents f) h))
 
 parent_spelled : (ws : List Value) (ps : List Commit) → length ws < 2 ^ 64 → AllByRecursion (λ p. IsIn ws (commit_value p)) ps → IsMarkedIf (first_parent ws ps)
 parent_spelled ws [] lt h = tt

@@ -16,7 +16,7 @@ use Rattle.gx_model.specs.Items.{Data, Finished, Item, Line, items_of}
 use Rattle.gx_model.specs.Commands.{Change, Clear, Command, CommitIsh, CommitParts, Copy, DataRef, Mark, Marked, Modify, Named, Object, Remove, Rename, TagParts}
 use Rattle.gx_model.specs.Grammar.{commands_of, is_null}
 use Rattle.gx_model.specs.Files.{Leaf}
-use Rattle.gx_model.specs.Values.{Commit, Value, blob_value, commit_value, files_of, is_content, is_name_text, is_proper, list_of, parents_of, text_of, is_optional_encoding, is_optional_ident}
+use Rattle.gx_model.specs.Values.{Commit, Value, blob_value, commit_value, files_of, is_content, is_name_text, is_optional_encoding, is_optional_ident, is_proper, list_of, parents_of, text_of}
 use Rattle.gx_model.specs.Histories.{History, IsHistory, IsIn, IsWhole, Reaches, Target, at_commit, at_tag, is_in, value_at, with_one, with_value}
 use Rattle.gx_model.specs.Revisions.{Revision}
 use Rattle.gx_model.specs.Ranges.{commit_of}
@@ -156,7 +156,7 @@ module _ (name : Kind → Bytes → Bytes) (read : Bytes → Result Revision Fau
   steps s [] = Ok s
   steps s (c ∷ cs) = and_then (step name read s c) (λ t. steps t cs)
 
-  -- One commit's block, where its parents were written: it meets no fault, mark n still stands for the nth blob or commit written, and the values are these.
+  -- One commit's commands, where its parents were written: they meet no fault, mark n still stands for the nth blob or commit written, and the values are these.
   abbrev pub CommitIsReplayed : Type 0
   CommitIsReplayed =
       (ws vs : List Value) (b : Option (Option Commit)) (c : Commit) → IsTrue (is_content (files_of c)) → AllByRecursion (λ p. IsIn ws (commit_value p)) (list_of (parents_of c))
@@ -190,12 +190,6 @@ CommitKeeps =
     → HoldsWhat (with_commit ws c) (values_with_commit ws vs c) (cs ++ c ∷ [])
 
 -- ---- all commits
-
--- each is proper and new, after its parents
-abbrev pub FollowsAll : List Commit → List Commit → Type 0
-FollowsAll before [] = Unit {0}
-FollowsAll before (c ∷ cs) =
-    IsTrue (is_proper (commit_value c)) × AllByRecursion (IsOne before) (list_of (parents_of c)) × (IsOne before c → ⊥) × FollowsAll (before ++ c ∷ []) cs
 
 abbrev pub nothing : History
 nothing = record { values = []; refs = [] }

@@ -20,7 +20,7 @@ pub fn commands_are_read()
 
 /// The commands of one commit, whose parents were written, are replayed without a fault, and write it and the blobs that it lacked.
 /// After them a history holds exactly what the commits so far reach.
-#[tactic(auto, using(crate::proofs::CommitSteps::commit_block_replayed))]
+#[tactic(auto, using(crate::proofs::CommitSteps::one_commit_replayed))]
 pub fn commits_are_replayed()
     ensures replayed { (name : Kind → List ℕ → List ℕ) (read : List ℕ → Result Revision Fault) → CommitIsReplayed name read }
     ensures kept { CommitKeeps }

@@ -44,3 +44,4 @@ pub mod ItemTexts
 pub mod CommandFields
 pub mod CommandItems
 pub mod SpelledItems
+pub mod LowerDigits

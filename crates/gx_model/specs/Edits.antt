@@ -8,6 +8,7 @@ use Rattle.gx_model.specs.declared.faults.Fault.TheVariants.{NoSuchPath, RootNot
 use Rattle.gx_model.specs.Paths.{Path, are_in_line, begins, is_short, path_cmp}
 use Rattle.gx_model.specs.Files.{file_at, under}
 
+-- whether a path is the root
 abbrev pub is_root : Path → Bool
 is_root [] = true
 is_root (c ∷ p) = false
@@ -30,10 +31,12 @@ module _ {X : Type 0} where
   abbrev pub moved : Path → Path → List (Path × X) → List (Path × X)
   moved source dest = map (λ entry. (dest ++ drop (length source) entry.0, entry.1))
 
+  -- the map with this file at p, and with nothing in line with p besides
   abbrev pub modified : List (Path × X) → Path → X → Result (List (Path × X)) Fault
   modified files [] leaf = Err RootNotTree
   modified files (c ∷ p) leaf = Ok (put path_cmp (c ∷ p) leaf (without_line (c ∷ p) files))
 
+  -- the map without what stands at or below p
   abbrev pub removed : List (Path × X) → Path → List (Path × X)
   removed files path = without path files
 

@@ -9,6 +9,7 @@ use Rattle.gx_model.specs.Paths.{Path, are_in_line, begins, is_component, is_fil
 use Rattle.gx_model.specs.Files.{FileMap, Leaf, file_at, is_file_map}
 use Rattle.gx_model.specs.Edits.{copied, modified, removed, renamed}
 
+-- a list of entries is a file map
 abbrev pub IsFileMap : FileMap Bytes → Type 0
 IsFileMap files = IsTrue (is_file_map files)
 

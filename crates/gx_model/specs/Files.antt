@@ -8,6 +8,7 @@ use Rattle.gx_model.specs.declared.objects.Mode.{Mode}
 use Rattle.gx_model.specs.Texts.{Bytes, same_bytes}
 use Rattle.gx_model.specs.Paths.{Path, are_in_line, begins, is_file_path, path_cmp, same_path}
 
+-- the first component of a path
 abbrev pub first_component : Path → Bytes
 first_component [] = []
 first_component (c ∷ p) = c

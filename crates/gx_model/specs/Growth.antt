@@ -9,6 +9,7 @@ use Rattle.gx_model.specs.Values.{Value, is_proper, parts, sub_maps}
 use Rattle.gx_model.specs.Records.{name_of, tree_body}
 use Rattle.gx_model.specs.Histories.{IsIn, Record, is_in, with_one}
 
+-- whether two kinds are equal
 abbrev pub same_kind : Kind → Kind → Bool
 same_kind kind.Blob kind.Blob = true
 same_kind kind.Tree kind.Tree = true
@@ -34,6 +35,7 @@ put_under (Some held) records new = if same_object held new then Some records el
 abbrev pub put : List Record → Record → Option (List Record)
 put records new = put_under (record_named records new.name) records new
 
+-- the next step, where there is something
 abbrev pub and_some : {A B : Type 0} → Option A → (A → Option B) → Option B
 and_some None step = None
 and_some (Some x) step = step x
@@ -48,6 +50,7 @@ abbrev pub all_trees_to : ℕ → FileMap Bytes → List (FileMap Bytes)
 all_trees_to zero files = files ∷ []
 all_trees_to (suc n) files = flat_map (all_trees_to n) (sub_maps files) ++ files ∷ []
 
+-- a file map and its sub-maps, those first
 abbrev pub all_trees : FileMap Bytes → List (FileMap Bytes)
 all_trees files = all_trees_to (depth files) files
 

@@ -13,6 +13,7 @@ use Rattle.gx_model.specs.Records.{body_of, kind_of, name_of}
 
 -- ---- adding a value
 
+-- whether a value stands in a list
 abbrev pub is_in : List Value → Value → Bool
 is_in values value = list_any (same_value value) values
 
@@ -43,6 +44,7 @@ pub data Target : Type 0 where
   at_commit : Commit → Target
   at_tag : Tag → Target
 
+-- the value that a ref holds
 abbrev pub value_at : Target → Value
 value_at (at_commit revision) = commit_value revision
 value_at (at_tag tag) = tag_value tag
@@ -102,11 +104,13 @@ pub record Records : Type 0 where
   pub records : List Record
   pub refs : List (Bytes × Bytes)
 
+-- no two names are equal
 abbrev pub AreDistinct : List Bytes → Type 0
 AreDistinct [] = ⊤
 AreDistinct (n ∷ ns) = (list_any (same_bytes n) ns ≡ false) × AreDistinct ns
 
 module _ (name : Kind → Bytes → Bytes) where
+  -- the canonical record of a value
   abbrev pub record_of : Value → Record
   record_of value = record { name = name_of name value; kind = kind_of name value; body = body_of name value }
 

@@ -5,6 +5,7 @@ use Rattle.gx_model.specs.Values.{Commit, Commits, Value, blob_value, blobs_of, 
 use Rattle.gx_model.specs.Histories.{IsIn, IsWhole, Reaches, with_value}
 use Rattle.gx_model.specs.Ranges.{reaches}
 
+-- a commit is one of these parents
 abbrev pub IsParent : Commit → Commits → Type 0
 IsParent parent none = ⊥
 IsParent parent (more c cs) = (c ≡ parent) ⊎ IsParent parent cs

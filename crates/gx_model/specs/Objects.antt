@@ -14,6 +14,7 @@ use Rattle.gx_model.specs.Values.{CommitText, is_optional_ident, is_proper_text}
 
 -- ---- digits
 
+-- the lower-case digit of a number below 16
 abbrev pub hex_digit : ℕ → ℕ
 hex_digit value = if nat_lt value 10 then 48 + value else 87 + value
 
@@ -21,6 +22,7 @@ hex_digit value = if nat_lt value 10 then 48 + value else 87 + value
 abbrev pub hex : Bytes → Bytes
 hex = flat_map (λ byte. hex_digit (byte / 16) ∷ hex_digit (byte % 16) ∷ [])
 
+-- the number of a lower-case digit
 abbrev pub digit_value : ℕ → ℕ
 digit_value digit = if nat_lt digit 58 then digit - 48 else digit - 87
 
@@ -45,6 +47,7 @@ pub record Entry : Type 0 where
   pub component : Bytes
   pub name : Bytes
 
+-- an entry in the body of a tree
 abbrev pub entry_text : Entry → Bytes
 entry_text entry = mode_text entry.mode ++ (32 ∷ (entry.component ++ 0 ∷ entry.name))
 
@@ -56,10 +59,12 @@ tree_text = flat_map entry_text
 abbrev pub line : Bytes → Bytes → Bytes
 line word rest = word ++ 32 ∷ rest ++ 10 ∷ []
 
+-- a line that may be left out
 abbrev pub optional_line : Bytes → Option Bytes → Bytes
 optional_line word None = []
 optional_line word (Some rest) = line word rest
 
+-- the lines of a commit behind its parents, and its message
 abbrev pub text_lines : CommitText → Bytes
 text_lines text =
     line (codes "author") text.author ++ line (codes "committer") text.committer ++ optional_line (codes "encoding") text.encoding
@@ -71,15 +76,18 @@ pub record CommitParts : Type 0 where
   pub parents : List Bytes
   pub text : CommitText
 
+-- the parts of a tag object
 pub record TagParts : Type 0 where
   pub object : Bytes
   pub name : Bytes
   pub tagger : Option Bytes
   pub message : Bytes
 
+-- the body of a commit
 abbrev pub commit_text : CommitParts → Bytes
 commit_text parts = line (codes "tree") (hex parts.tree) ++ flat_map (λ name. line (codes "parent") (hex name)) parts.parents ++ text_lines parts.text
 
+-- the body of a tag
 abbrev pub tag_text : TagParts → Bytes
 tag_text parts =
     line (codes "object") (hex parts.object) ++ line (codes "type") (codes "commit") ++ line (codes "tag") parts.name
@@ -87,6 +95,7 @@ tag_text parts =
 
 -- ---- which entries are those of a tree
 
+-- the mode of a directory
 abbrev pub is_dir : Mode → Bool
 is_dir Dir = true
 is_dir _ = false
@@ -95,6 +104,7 @@ is_dir _ = false
 abbrev pub entry_key : Entry → Bytes
 entry_key entry = if is_dir entry.mode then entry.component ++ 47 ∷ [] else entry.component
 
+-- no two texts are equal
 abbrev pub are_different : List Bytes → Bool
 are_different [] = true
 are_different (c ∷ cs) = not (list_any (same_bytes c) cs) && are_different cs
@@ -113,9 +123,11 @@ is_name name = nat_eq (length name) 20 && list_all (λ byte. nat_lt byte 256) na
 abbrev pub IsTreeText : List Entry → Bytes → Type 0
 IsTreeText entries body = (body ≡ tree_text entries) × IsTrue (is_canonical entries) × IsTrue (list_all (λ entry. is_name entry.name) entries)
 
+-- this is the canonical body of a commit with these parts
 abbrev pub IsCommitText : CommitParts → Bytes → Type 0
 IsCommitText parts body = (body ≡ commit_text parts) × IsTrue (is_name parts.tree) × IsTrue (list_all is_name parts.parents) × IsTrue (is_proper_text parts.text)
 
+-- this is the canonical body of a tag with these parts
 abbrev pub IsTagText : TagParts → Bytes → Type 0
 IsTagText parts body = (body ≡ tag_text parts) × IsTrue (is_name parts.object) × IsTrue (is_tag_name parts.name) × IsTrue (is_optional_ident parts.tagger)
 

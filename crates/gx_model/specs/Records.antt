@@ -25,6 +25,7 @@ module _ (name : Kind → Bytes → Bytes) where
   node (Some leaf) tree = leaf
   node None tree = (Dir, tree)
 
+  -- the entry of a component
   abbrev pub entry : Bytes → Leaf Bytes → Entry
   entry component leaf = record { mode = leaf.0; component = component; name = leaf.1 }
 
@@ -57,23 +58,28 @@ module _ (name : Kind → Bytes → Bytes) where
     names_of none = []
     names_of (more c cs) = name kind.Commit (commit_body c) ∷ names_of cs
 
+  -- the parent lines of a commit
   abbrev pub parent_lines : Commits → Bytes
   parent_lines parents = flat_map (λ parent. line (codes "parent") (hex parent)) (names_of parents)
 
+  -- the body of a tag
   abbrev pub tag_body : Tag → Bytes
   tag_body tag = tag_text (record { object = name kind.Commit (commit_body tag.target); name = tag.name; tagger = tag.tagger; message = tag.message })
 
+  -- the kind of a value
   abbrev pub kind_of : Value → Kind
   kind_of (blob_value bytes) = kind.Blob
   kind_of (tree_value files) = kind.Tree
   kind_of (commit_value revision) = kind.Commit
   kind_of (tag_value tag) = kind.Tag
 
+  -- the body of a value
   abbrev pub body_of : Value → Bytes
   body_of (blob_value bytes) = bytes
   body_of (tree_value files) = tree_body (named_map files)
   body_of (commit_value revision) = commit_body revision
   body_of (tag_value tag) = tag_body tag
 
+  -- the name of a value
   abbrev pub name_of : Value → Bytes
   name_of value = name (kind_of value) (body_of value)

@@ -1,4 +1,5 @@
 -- The laws of repositories: their histories, how both grow, and what names, walks and refs find in both.
+-- Source: gitglossary(7), "object database", and gitrevisions(7).
 use Rattle.std.specs.Prelude.{◌≡◌, ◌↔◌, true, IsTrue, List, ◌∷◌, ◌++◌, map, Some, None, Ok}
 use Rattle.std.specs.List.{list_all, fold, AllByRecursion}
 use Rattle.std.specs.Option.{option_map}
@@ -33,12 +34,15 @@ pub record HistoriesOf (name : Kind → Bytes → Bytes) : Type 0 where
   pub sound : (repository : Records) (history : History) → StandsFor name repository history → IsSound name repository
   pub one : (repository : Records) (history : History) → StandsFor name repository history → history ≡ history_of repository
 
+-- the values of a repository's history
 abbrev pub values_of : Records → List Value
 values_of repository = (history_of repository).values
 
+-- a repository with these records
 abbrev pub with_records : Records → List Record → Records
 with_records repository records = record { records = records; refs = repository.refs }
 
+-- a repository with these refs
 abbrev pub with_refs : Records → List (Bytes × Bytes) → Records
 with_refs repository refs = record { records = repository.records; refs = refs }
 

@@ -142,7 +142,7 @@ pub record AllAdded (vs : List Value) (gs : List (FileMap Bytes)) (ws : List Val
 pub keeps_all : (vs : List Value) (gs : List (FileMap Bytes)) (ws : List Value) → AllAdded vs gs ws → (u : Value) → IsIn vs u → IsIn ws u
 keeps_all vs gs ws a u i = subst (λ (us : List Value). IsIn us u) (sym a.front) (in_left vs a.new u i)
 
-in_some : (vs ws : List Value) (u : Value) → IsIn (vs ++ ws) u → IsIn vs u ⊎ IsIn ws u
+pub in_some : (vs ws : List Value) (u : Value) → IsIn (vs ++ ws) u → IsIn vs u ⊎ IsIn ws u
 in_some [] ws u h = inr h
 in_some (v ∷ vs) ws u h = elim h [ inl e ↦ inl (inl e) | inr k ↦ elim (in_some vs ws u k) [ inl m ↦ inl (inr m) | inr m ↦ inr m ] ]
 

@@ -23,7 +23,7 @@ proper_in [] v h i = absurd i
 proper_in (w ∷ vs) v h i = elim i [ inl e ↦ subst (λ u. T (is_proper u)) e (first _ _ h) | inr k ↦ proper_in vs v (second (is_proper w) _ h) k ]
 
 -- the parts of a value stand in the list
-parts_after : (before vs : List Value) (v : Value) → IsClosedAfter before vs → IsIn vs v → AllByRecursion (IsIn (before ++ vs)) (parts v)
+pub parts_after : (before vs : List Value) (v : Value) → IsClosedAfter before vs → IsIn vs v → AllByRecursion (IsIn (before ++ vs)) (parts v)
 parts_after before [] v c i = absurd i
 parts_after before (w ∷ vs) v c i =
     elim i [

@@ -1,5 +1,5 @@
 -- What the laws of the export text suppose and say.
-use Rattle.std.specs.Prelude.{map, ◌⊎◌, suc, if◌then◌else◌, Result, Ok, ◌≡◌, ℕ, ◌^◌, ◌<◌, Bool, true, false, IsTrue, List, [], ◌∷◌, ◌++◌, length, codes, nat_eq, Option, None, Some, is_some}
+use Rattle.std.specs.Prelude.{map, ◌⊎◌, suc, if◌then◌else◌, Result, Ok, ◌≡◌, ℕ, ◌^◌, ◌<◌, true, false, IsTrue, List, [], ◌∷◌, ◌++◌, length, codes, nat_eq, Option, None, Some, is_some}
 use Rattle.std.specs.List.{AllByRecursion, filter_map, flat_map, starts_with}
 use Rattle.gx_model.specs.declared.objects.Mode.{Mode}
 use Rattle.gx_model.specs.declared.objects.Mode.TheVariants.{File, Exec, Link, Gitlink}
@@ -8,16 +8,15 @@ use Rattle.gx_model.specs.declared.faults.Fault.{Fault}
 use Rattle.gx_model.specs.declared.features.Feature.TheVariants as features
 use Rattle.gx_model.specs.Commands as command
 use Rattle.gx_model.specs.Texts.{Bytes, is_line}
-use Rattle.gx_model.specs.RefNames.{is_ref_name}
+use Rattle.gx_model.specs.RefNames.{is_ref_name, is_tag_name}
 use Rattle.gx_model.specs.Idents.{is_ident}
 use Rattle.gx_model.specs.Faults.{and_then}
 use Rattle.gx_model.specs.Paths.{AreBytes, Path, is_file_path, path_text}
-use Rattle.gx_model.specs.Items.{Data, End, Finished, Item, Line, items_of}
-use Rattle.gx_model.specs.Spelling.{IsReading}
-use Rattle.gx_model.specs.Commands.{Asks, Blob, Change, Clear, Command, CommitIsh, CommitParts, Copy, DataRef, Done, Mark, Marked, Modify, Named, Object, Remove, Rename, Reset, TagParts}
+use Rattle.gx_model.specs.Items.{Data, Finished, Item, Line, items_of}
+use Rattle.gx_model.specs.Commands.{Change, Clear, Command, CommitIsh, CommitParts, Copy, DataRef, Mark, Marked, Modify, Named, Object, Remove, Rename, TagParts}
 use Rattle.gx_model.specs.Grammar.{commands_of, is_null}
 use Rattle.gx_model.specs.Files.{Leaf}
-use Rattle.gx_model.specs.Values.{Commit, Value, blob_value, commit_value, files_of, is_content, is_name_text, is_proper, list_of, parents_of, text_of}
+use Rattle.gx_model.specs.Values.{Commit, Value, blob_value, commit_value, files_of, is_content, is_name_text, is_proper, list_of, parents_of, text_of, is_optional_encoding, is_optional_ident}
 use Rattle.gx_model.specs.Histories.{History, IsHistory, IsIn, IsWhole, Reaches, Target, at_commit, at_tag, is_in, value_at, with_one, with_value}
 use Rattle.gx_model.specs.Revisions.{Revision}
 use Rattle.gx_model.specs.Ranges.{commit_of}
@@ -43,16 +42,6 @@ ItemsAreRead = (is : List Item) → AllByRecursion IsItem is → items_of (flat_
 
 abbrev pub IsMark : ℕ → Type 0
 IsMark n = (0 < n) × (n < 2 ^ 64)
-
-abbrev pub IsIdent : Bytes → Type 0
-IsIdent x = (is_ident x ≡ true) × IsTrue (is_line x)
-
-abbrev pub IsOptional : (Bytes → Type 0) → Option Bytes → Type 0
-IsOptional P None = Unit {0}
-IsOptional P (Some x) = P x
-
-abbrev pub IsEncoding : Bytes → Type 0
-IsEncoding x = (nat_eq (length x) 0 ≡ false) × IsTrue (is_line x)
 
 abbrev pub IsMarked : CommitIsh → Type 0
 IsMarked (Marked n) = IsMark n
@@ -92,20 +81,20 @@ HasMark (Some n) = IsMark n
 pub record IsSpelledCommit (c : CommitParts) : Type 0 where
   pub ref : is_ref_name c.ref ≡ true
   pub mark : HasMark c.mark
-  pub author : IsIdent (or_else c.author [])
+  pub author : is_ident (or_else c.author []) ≡ true
   pub has_author : is_some c.author ≡ true
-  pub committer : IsIdent c.committer
-  pub encoding : IsOptional IsEncoding c.encoding
+  pub committer : is_ident c.committer ≡ true
+  pub encoding : is_optional_encoding c.encoding ≡ true
   pub message : length c.message < 2 ^ 64
   pub parent : IsMarkedIf c.parent
   pub merges : AllByRecursion IsMarked c.merges
   pub changes : AllByRecursion IsSpelledChange c.changes
 
 pub record IsSpelledTag (t : TagParts) : Type 0 where
-  pub name : is_ref_name (codes "refs/tags/" ++ t.name) ≡ true
+  pub name : is_tag_name t.name ≡ true
   pub mark : t.mark ≡ None
   pub target : IsMarked t.target
-  pub tagger : IsOptional IsIdent t.tagger
+  pub tagger : is_optional_ident t.tagger ≡ true
   pub message : length t.message < 2 ^ 64
 
 -- a command that an export has between `feature done` and `done`
@@ -236,24 +225,28 @@ abbrev pub IsNotNull : Mode → Bytes → Type 0
 IsNotNull Gitlink x = is_null x ≡ false
 IsNotNull _ x = Unit {0}
 
+abbrev pub IsFormedFile : Path × Leaf Bytes → Type 0
+IsFormedFile e = AreBytes (path_text e.0) × IsNotNull e.1.0 e.1.1
+
+-- The paths that a history's commits hold are bytes, and no file map has a gitlink of forty zeros.
+abbrev pub IsFormed : History → Type 0
+IsFormed h = AllByRecursion (λ c. AllByRecursion IsFormedFile (files_of c)) (reached_commits h)
+
 abbrev pub IsReadableFile : Path × Leaf Bytes → Type 0
-IsReadableFile e = AreBytes (path_text e.0) × IsNotNull e.1.0 e.1.1 × (length e.1.1 < 2 ^ 64)
+IsReadableFile e = IsFormedFile e × (length e.1.1 < 2 ^ 64)
 
 pub record IsReadableCommit (c : Commit) : Type 0 where
-  pub author : IsIdent (text_of c).author
-  pub committer : IsIdent (text_of c).committer
-  pub encoding : IsOptional IsEncoding (text_of c).encoding
   pub message : length (text_of c).message < 2 ^ 64
   pub files : AllByRecursion IsReadableFile (files_of c)
 
-abbrev pub IsReadableRef : Bytes × Target → Type 0
-IsReadableRef (n, at_commit c) = is_ref_name n ≡ true
-IsReadableRef (n, at_tag t) = (is_ref_name (codes "refs/tags/" ++ t.name) ≡ true) × IsOptional IsIdent t.tagger × (length t.message < 2 ^ 64)
+abbrev pub IsReadableTarget : Target → Type 0
+IsReadableTarget (at_commit c) = Unit {0}
+IsReadableTarget (at_tag t) = length t.message < 2 ^ 64
 
--- The texts in it have their forms, no file map has a gitlink of forty zeros, and lengths and marks are below 2 ^ 64.
+-- It is formed, and lengths and marks are below 2 ^ 64.
 pub record IsReadable (h : History) : Type 0 where
   pub commits : AllByRecursion IsReadableCommit (reached_commits h)
-  pub refs : AllByRecursion IsReadableRef h.refs
+  pub refs : AllByRecursion (λ r. IsReadableTarget r.1) h.refs
   pub marks : length (all_written (reached_commits h)) < 2 ^ 64
 
 -- the commands of a history that can be read
@@ -266,32 +259,6 @@ ExportIsImported =
     (name : Kind → Bytes → Bytes) (read : Bytes → Result Revision Fault) (h : History) → IsHistory h → IsReadable h
     → (k : History) × IsAgain h k × (replayed_text name read nothing (export_text h) false ≡ finished k [] (exported_report h k))
 
--- ---- the function and the relation
-
-abbrev pub OneReading : Type 0
-OneReading = (text : Bytes) (fails : Bool) (is : List Item) (e : End) → IsReading fails text is e → items_of text fails ≡ record { items = is; end = e }
-
-abbrev pub SomeReading : Type 0
-SomeReading = (text : Bytes) (fails : Bool) → IsReading fails text (items_of text fails).items (items_of text fails).end
-
--- ---- lengths and marks fit where the text does
-
-abbrev pub IsFormedFile : Path × Leaf Bytes → Type 0
-IsFormedFile e = AreBytes (path_text e.0) × IsNotNull e.1.0 e.1.1
-
-pub record IsFormedCommit (c : Commit) : Type 0 where
-  pub author : IsIdent (text_of c).author
-  pub committer : IsIdent (text_of c).committer
-  pub encoding : IsOptional IsEncoding (text_of c).encoding
-  pub files : AllByRecursion IsFormedFile (files_of c)
-
-abbrev pub IsFormedRef : Bytes × Target → Type 0
-IsFormedRef (n, at_commit c) = is_ref_name n ≡ true
-IsFormedRef (n, at_tag t) = (is_ref_name (codes "refs/tags/" ++ t.name) ≡ true) × IsOptional IsIdent t.tagger
-
-pub record IsFormed (h : History) : Type 0 where
-  pub commits : AllByRecursion IsFormedCommit (reached_commits h)
-  pub refs : AllByRecursion IsFormedRef h.refs
-
+-- lengths and marks fit where the text does
 abbrev pub FormedIsReadable : Type 0
 FormedIsReadable = (h : History) → IsHistory h → IsFormed h → length (export_text h) < 2 ^ 64 → IsReadable h

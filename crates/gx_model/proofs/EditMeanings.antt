@@ -196,21 +196,27 @@ granted : (P : FileMap Bytes → Type 0) (o : Option Fault) (fs : FileMap Bytes)
 granted P None fs h = h refl
 granted P (Some f) fs h = tt
 
+-- a modify is never refused, and puts its leaf
 pub modify_means : (es : FileMap Bytes) (p : Path) (x : Leaf Bytes) → Parts es → T (is_file_path p) → (fs : FileMap Bytes) × (modified es p x ≡ Ok fs) × IsModified es p x fs
 modify_means es [] x h f = absurd f
 modify_means es (c ∷ p) x h f = (put path_cmp (c ∷ p) x (without_line (c ∷ p) es), refl, modified_means es c p x f h)
 
+-- a remove takes out what is at or below its path
 pub remove_means : (es : FileMap Bytes) (p : Path) → IsRemoved es p (removed es p)
 remove_means = removed_means
 
+-- a copy that isn't refused places what its source has
 pub copy_means : (es : FileMap Bytes) (s d : Path) → Parts es → T (list_all is_component d) → IfOk (copied es s d) (IsPlaced es es s d)
 copy_means es s d h k = granted (IsPlaced es es s d) (copy_fault es s d) _ (λ n. placed_means es es s d (moved_paths s d es k h.paths n) h)
 
+-- a rename that isn't refused places what its source has, in what is left without it
 pub rename_means : (es : FileMap Bytes) (s d : Path) → Parts es → T (list_all is_component d) → IfOk (renamed es s d) (IsPlaced es (removed es s) s d)
 rename_means es s d h k = granted (IsPlaced es (removed es s) s d) (copy_fault es s d) _ (λ n. placed_means es (without s es) s d (moved_paths s d es k h.paths n) (removed_parts es s h))
 
+-- a copy is refused for the stated causes, and for no other
 pub copy_refused : (es : FileMap Bytes) (s d : Path) (f : Fault) → (copied es s d ≡ Err f) ↔ IsRefusal es s d f
 copy_refused es s d f = refused es _ s d f
 
+-- a rename is refused for the stated causes, and for no other
 pub rename_refused : (es : FileMap Bytes) (s d : Path) (f : Fault) → (renamed es s d ≡ Err f) ↔ IsRefusal es s d f
 rename_refused es s d f = refused es _ s d f

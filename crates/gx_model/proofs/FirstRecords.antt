@@ -48,6 +48,7 @@ named_from_more ks (y ∷ ys) =
     ((y.name, value_in ks y.kind y.body) ∷ r.0, r.1 ∙ append_assoc ks ((y.name, value_in ks y.kind y.body) ∷ []) r.0)
 
 module _ (name : Kind → Bytes → Bytes) where
+  -- the first records of a sound repository are sound, where they hold what its refs name
   pub kept : (xs ys : List Record) (refs : List (Bytes × Bytes)) → IsSound name (record { records = xs ++ ys; refs = refs }) → AllByRecursion (λ x. IsTarget xs x.0 x.1) refs → IsSound name (record { records = xs; refs = refs })
   kept xs ys refs i h = record {
     named = all_left (λ x. x.name ≡ name x.kind x.body) xs ys i.named;

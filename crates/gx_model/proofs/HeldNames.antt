@@ -72,11 +72,13 @@ module _ (name : Kind → Bytes → Bytes) (namer : IsNamer name) where
 
   -- ---- a body whose links are held
 
+  -- the value is proper, its parts stand, and this is its record
   pub record IsLinkedValue (r : Records) (k : Kind) (body : Bytes) (v : Value) : Type 0 where
     pub proper : IsTrue (is_proper v)
     pub known : AllByRecursion (IsIn (history_of r).values) (parts v)
     pub recorded : record_of name v ≡ record { name = name k body; kind = k; body = body }
 
+  -- a canonical body whose links are held is that of a value whose parts stand
   pub linked_value : (r : Records) → IsSound name r → (k : Kind) (body : Bytes) → IsLinked r.records k body → HasShortPaths r.records (record { name = name k body; kind = k; body = body }) → IsLinkedValue r k body (value_in (named_values r.records) k body)
   linked_value r i k body l s =
       let t = stands name namer r i in
@@ -88,6 +90,7 @@ module _ (name : Kind → Bytes → Bytes) (namer : IsNamer name) where
 
   -- ---- refs
 
+  -- other sound refs leave the repository sound, and its values as they are
   pub published : (r : Records) → IsSound name r → (refs : List (Bytes × Bytes)) → IsTrue (is_sorted (slice_cmp nat_cmp) refs) → IsTrue (list_all (λ x. is_ref_name x.0) refs) → AllByRecursion (λ x. IsTarget r.records x.0 x.1) refs
       → IsSound name (record { records = r.records; refs = refs }) × ((history_of (record { records = r.records; refs = refs })).values ≡ (history_of r).values)
   published r i refs s n h = (record { named = i.named; distinct = i.distinct; linked = i.linked; paths = i.paths; sorted = s; ref_names = n; held = h }, refl)
@@ -120,6 +123,7 @@ module _ (name : Kind → Bytes → Bytes) (namer : IsNamer name) where
         let a = first (are_file_paths g && are_apart g) (is_sorted path_cmp g) h in
         both _ _ (both _ _ (paths_kept g (first (are_file_paths g) (are_apart g) a)) (apart_kept g (second (are_file_paths g) (are_apart g) a))) (sorted_kept g (second (are_file_paths g && are_apart g) (is_sorted path_cmp g) h))
 
+  -- a name is that of this content, which stands
   pub record IsContentOf (vs : List Value) (m : Mode) (n : Bytes) (x : Bytes) : Type 0 where
     pub leaf : T (is_leaf m x)
     pub same : content_name name m x ≡ n
@@ -141,6 +145,7 @@ module _ (name : Kind → Bytes → Bytes) (namer : IsNamer name) where
   is_content_of vs d Gitlink n k i h = record { leaf = hex_text n i; same = unhex_hex n (bytes_name n i); known = tt }
   is_content_of vs d Dir n k i h = absurd (k refl)
 
+  -- names are those of these contents, which stand
   pub record AreContents (vs : List Value) (g f : FileMap Bytes) : Type 0 where
     pub leaves : T (list_all (λ e. is_leaf e.1.0 e.1.1) f)
     pub same : named_map name f ≡ g
@@ -162,6 +167,7 @@ module _ (name : Kind → Bytes → Bytes) (namer : IsNamer name) where
       put_known None p us q = q
       put_known (Some v) p us q = (p, q)
 
+  -- a map of names is that of this file map, whose bytes stand
   pub record IsContents (r : Records) (g f : FileMap Bytes) : Type 0 where
     pub content : IsTrue (is_content f)
     pub same : named_map name f ≡ g

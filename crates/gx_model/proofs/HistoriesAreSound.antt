@@ -41,6 +41,7 @@ in_or c d (e ∷ ds) h = elim (same_bytes d e) as (λ b. AnyByRecursion (λ x. x
 abbrev off_first : FileMap Bytes → FileMap Bytes
 off_first es = map (λ e. (drop 1 e.0, e.1)) es
 
+-- below a first component is something
 pub sub_some : (c : Bytes) (f : FileMap Bytes) → T (are_file_paths f) → AnyByRecursion (λ x. x ≡ c) (first_components f) → T (has_some (sub_map f (c ∷ [])))
 sub_some c [] h s = absurd s
 sub_some c (e ∷ es) h s = by e.0 (first _ _ h) (sub_some c es (second (is_file_path e.0) (are_file_paths es) h)) (in_or c (first_component e.0) (first_components es) s)
@@ -67,9 +68,11 @@ short_path p (e ∷ es) h s =
     ] refl s
 
 module _ (Known : Value → Type 0) where
+  -- a file that is no gitlink has known bytes
   abbrev pub IsKnown : Leaf Bytes → Type 0
   IsKnown x = IfSome (blob_of x.0 x.1) Known
 
+  -- the file at a path has known bytes
   pub file_known : (f : FileMap Bytes) (p : Path) → AllByRecursion Known (blobs_of f) → IfSome (file_at f p) IsKnown
   file_known [] p h = tt
   file_known (e ∷ es) p h =
@@ -80,6 +83,7 @@ module _ (Known : Value → Type 0) where
       by None vs k = (tt, k)
       by (Some v) vs k = (k.0, k.1)
 
+  -- the sub-maps at directories are known
   pub subs_known : (f : FileMap Bytes) → AllByRecursion Known (parts (tree_value f)) → AllByRecursion (λ c. is_none (file_at f (c ∷ [])) ≡ true → Known (tree_value (sub_map f (c ∷ [])))) (first_components f)
   subs_known f h =
       all_unfilter (λ c. Known (tree_value (sub_map f (c ∷ [])))) (λ c. is_none (file_at f (c ∷ []))) (first_components f)

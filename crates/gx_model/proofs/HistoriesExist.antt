@@ -54,10 +54,12 @@ hex_digits (b ∷ x) h =
     digit : (n : ℕ) → n < 16 → T (is_hex_digit (hex_digit n))
     digit n k = elim (digit_is n k).1 [ inl a ↦ low (hex_digit n) (omega arith) (omega arith) | inr a ↦ high (hex_digit n) (omega arith) (omega arith) ]
 
+-- there are two digits a byte
 pub hex_long : (n : Bytes) → length (hex n) ≡ 2 * length n
 hex_long [] = refl
 hex_long (b ∷ x) = let r = hex_long x in omega arith
 
+-- a name's digits are 40
 pub hex_text : (n : Bytes) → T (is_name n) → T (is_name_text (hex n))
 hex_text n h = let l = long_name n h in let m = hex_long n in both _ _ (passes _ (eq-eqb (length (hex n)) 40 (omega arith))) (hex_digits n (bytes_name n h))
 
@@ -270,6 +272,7 @@ module _ (name : Kind → Bytes → Bytes) (namer : IsNamer name) (vs : List Val
           known = (c.0, tt);
         })
 
+    -- a linked body is read as a proper value of known parts, whose body it is
     pub is_read : (k : Kind) (body : Bytes) → IsLinked (map (record_of name) vs) k body → ((es : List Entry) (p : Path) → k ≡ kind.Tree → IsTreeText es body → HasPath all es p → T (is_short p)) → IsRead k body (value_in (named name vs) k body)
     is_read kind.Blob body h short = record { same_kind = refl; same_body = refl; proper = tt; known = tt }
     is_read kind.Tree body h short = tree_is_read body h (λ es p t q. short es p refl t q)
@@ -286,10 +289,12 @@ module _ {X Y : Type 0} (f : Bytes × X → Y) where
   below_keys k [] b = tt
   below_keys k (e ∷ es) b = both _ _ (first _ _ b) (below_keys k es (second (is_lt (slice_cmp nat_cmp k e.0)) (below_all (slice_cmp nat_cmp) k es) b))
 
+  -- refs keep their order with other targets
   pub keys_sorted : (rs : List (Bytes × X)) → T (is_sorted (slice_cmp nat_cmp) rs) → T (is_sorted (slice_cmp nat_cmp) (with_values rs))
   keys_sorted [] h = tt
   keys_sorted (r ∷ rs) h = both _ _ (below_keys r.0 rs (first _ _ h)) (keys_sorted rs (second (below_all (slice_cmp nat_cmp) r.0 rs) _ h))
 
+  -- refs keep their names with other targets
   pub keys_named : (t : Bytes → Bool) (rs : List (Bytes × X)) → T (list_all (λ x. t x.0) rs) → T (list_all (λ x. t x.0) (with_values rs))
   keys_named t [] h = tt
   keys_named t (r ∷ rs) h = both _ _ (first _ _ h) (keys_named t rs (second (t r.0) _ h))
@@ -332,6 +337,7 @@ module _ (name : Kind → Bytes → Bytes) (namer : IsNamer name) where
       by true e = absurd (h (is_in_is vs v (passes _ e)))
       by false e = refl
 
+  -- the values are whole, have distinct names, and these are their records
   pub record IsReadTo (vs : List Value) (rs : List Record) : Type 0 where
     pub values : List Value
     pub read : named_from (named name vs) rs ≡ named name values
@@ -345,6 +351,7 @@ module _ (name : Kind → Bytes → Bytes) (namer : IsNamer name) where
       some_left [] ys h = absurd h
       some_left (x ∷ xs) ys h = elim h [ inl q ↦ inl q | inr q ↦ inr (some_left xs ys q) ]
 
+  -- records that link to earlier ones are read as values
   pub read_all : (all rs : List Record) (vs : List Value) → IsWhole vs → map (record_of name) vs ++ rs ≡ all → AreDistinct (map (λ r. r.name) all) → AllByRecursion (λ r. r.name ≡ name r.kind r.body) rs
       → IsLinkedAfter (map (record_of name) vs) rs → AllByRecursion (HasShortPaths all) rs → IsReadTo vs rs
   read_all all [] vs w e d n l s = record { values = vs; read = refl; recorded = sym (append-nil (map (record_of name) vs)); whole = w }
@@ -386,6 +393,7 @@ module _ (name : Kind → Bytes → Bytes) (namer : IsNamer name) where
   pub tag_parts_of : Tag → TagParts
   tag_parts_of t = record { object = name kind.Commit (commit_body name t.target); name = t.name; tagger = t.tagger; message = t.message }
 
+  -- a proper tag's body is that of proper parts
   pub tag_text_is : (t : Tag) → T (is_proper (tag_value t)) → IsTagText (record { object = name kind.Commit (commit_body name t.target); name = t.name; tagger = t.tagger; message = t.message }) (tag_body name t)
   tag_text_is t h = (refl, is_true _ (name_is_name name namer kind.Commit (commit_body name t.target)), is_true _ (first (is_tag_name t.name) (is_optional_ident t.tagger) h), is_true _ (second (is_tag_name t.name) (is_optional_ident t.tagger) h))
 
@@ -396,6 +404,7 @@ module _ (name : Kind → Bytes → Bytes) (namer : IsNamer name) where
   own_tag (tag_value u) n p h k t e =
       e ∙ ap tag_ref (ap (λ z. z.name) (sym (tag_read p (tag_body name u) t) ∙ tag_read (record { object = name kind.Commit (commit_body name u.target); name = u.name; tagger = u.tagger; message = u.message }) (tag_body name u) (tag_text_is u h)))
 
+  -- a target is found in the history, and is the tag's own where it is a tag's
   pub record IsGoodRef (vs : List Value) (n m : Bytes) : Type 0 where
     pub same : name_of name (value_at (target_in (value_named (named name vs) m))) ≡ m
     pub held : IsIn vs (value_at (target_in (value_named (named name vs) m)))

@@ -17,6 +17,7 @@ use Rattle.gx_model.proofs.PathTests.{first, second, is_true, is_same, same_is}
 use Rattle.gx_model.proofs.AddedValues.{in_left, all_keep}
 use Rattle.gx_model.proofs.OneHistory.{no_other}
 
+-- a value among proper ones is proper
 pub proper_in : (vs : List Value) (v : Value) → T (list_all is_proper vs) → IsIn vs v → T (is_proper v)
 proper_in [] v h i = absurd i
 proper_in (w ∷ vs) v h i = elim i [ inl e ↦ subst (λ u. T (is_proper u)) e (first _ _ h) | inr k ↦ proper_in vs v (second (is_proper w) _ h) k ]
@@ -30,35 +31,42 @@ parts_after before (w ∷ vs) v c i =
       | inr k ↦ subst (λ us. AllByRecursion (IsIn us) (parts v)) (append_assoc before (w ∷ []) vs) (parts_after (before ++ w ∷ []) vs v c.2 k)
     ]
 
+-- the parts of a value stand in the list
 pub parts_in : (vs : List Value) (v : Value) → IsWhole vs → IsIn vs v → AllByRecursion (IsIn vs) (parts v)
 parts_in vs v h i = parts_after [] vs v h.closed i
 
 module _ (name : Kind → Bytes → Bytes) where
+  -- values by their names
   abbrev pub named : List Value → Named
   named vs = map (λ v. (name_of name v, v)) vs
 
+  -- a value of kind blob is its bytes
   pub is_blob : (v : Value) → kind_of name v ≡ kind.Blob → v ≡ blob_value (bytes_of_blob v)
   is_blob (blob_value x) e = refl
   is_blob (tree_value f) e = absurd (cc)
   is_blob (commit_value c) e = absurd (cc)
   is_blob (tag_value t) e = absurd (cc)
 
+  -- a value of kind tree is its file map
   pub is_tree : (v : Value) → kind_of name v ≡ kind.Tree → v ≡ tree_value (files_of_tree v)
   is_tree (blob_value x) e = absurd (cc)
   is_tree (tree_value f) e = refl
   is_tree (commit_value c) e = absurd (cc)
   is_tree (tag_value t) e = absurd (cc)
 
+  -- a value of kind commit is its commit
   pub is_commit : (v : Value) → kind_of name v ≡ kind.Commit → v ≡ commit_value (commit_of_value v)
   is_commit (blob_value x) e = absurd (cc)
   is_commit (tree_value f) e = absurd (cc)
   is_commit (commit_value c) e = refl
   is_commit (tag_value t) e = absurd (cc)
 
+  -- a value's tag, or else this one
   abbrev pub tag_in : Tag → Value → Tag
   tag_in d (tag_value t) = t
   tag_in d _ = d
 
+  -- a value of kind tag is its tag
   pub is_tag : (d : Tag) (v : Value) → kind_of name v ≡ kind.Tag → v ≡ tag_value (tag_in d v)
   is_tag d (blob_value x) e = absurd (cc)
   is_tag d (tree_value f) e = absurd (cc)

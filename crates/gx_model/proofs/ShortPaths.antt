@@ -96,6 +96,7 @@ module _ (name : Kind → Bytes → Bytes) (namer : IsNamer name) (vs : List Val
     λ s. is_true _ (all_short es es (λ e z. z) (λ p q. passes _ (s es p refl t q)) h),
   )
 
+-- the paths below a tree's entries are short where those of the file map are that the entries give
 pub short_paths : (name : Kind → Bytes → Bytes) → IsNamer name → (r : Records) → IsSound name r → (es : List Entry) (body : Bytes) → IsTreeText es body → AllByRecursion (λ e. IsHeldAs r.records e.mode e.name) es
     → IsTrue (list_all (λ x. is_short x.0) (files_of_entries (named_values r.records) es)) ↔ HasShortPaths r.records (record { name = name kind.Tree body; kind = kind.Tree; body = body })
 short_paths name namer r i es body t h =

@@ -30,18 +30,22 @@ use Rattle.gx_model.proofs.LinkedValues.{proper_in, parts_in}
 
 -- ---- some element
 
+-- an element's image is among the images
 pub some_map : {A B : Type 0} (h : A → B) (a : A) (xs : List A) → AnyByRecursion (λ x. x ≡ a) xs → AnyByRecursion (λ y. y ≡ h a) (map h xs)
 some_map h a [] s = absurd s
 some_map h a (x ∷ xs) s = elim s [ inl e ↦ inl (ap h e) | inr k ↦ inr (some_map h a xs k) ]
 
+-- an image is that of an element
 pub some_unmap : {A B : Type 0} (h : A → B) (b : B) (xs : List A) → AnyByRecursion (λ y. y ≡ b) (map h xs) → (a : A) × AnyByRecursion (λ x. x ≡ a) xs × (h a ≡ b)
 some_unmap h b [] s = absurd s
 some_unmap h b (x ∷ xs) s = elim s [ inl e ↦ (x, inl refl, e) | inr k ↦ let r = some_unmap h b xs k in (r.0, inr r.1, r.2) ]
 
+-- what holds of all elements holds of one of them
 pub pick : {A : Type 0} (P : A → Type 0) (a : A) (xs : List A) → AllByRecursion P xs → AnyByRecursion (λ x. x ≡ a) xs → P a
 pick P a [] h s = absurd s
 pick P a (x ∷ xs) h s = elim s [ inl e ↦ subst P e h.0 | inr k ↦ pick P a xs h.1 k ]
 
+-- what holds of some record of values holds of the record of one that stands
 pub some_unrecord : (name : Kind → Bytes → Bytes) (P : Record → Type 0) (vs : List Value) → AnyByRecursion P (map (record_of name) vs) → (v : Value) × IsIn vs v × P (record_of name v)
 some_unrecord name P [] s = absurd s
 some_unrecord name P (v ∷ vs) s = elim s [ inl p ↦ (v, inl refl, p) | inr k ↦ let r = some_unrecord name P vs k in (r.0, inr r.1, r.2) ]
@@ -51,6 +55,7 @@ some_unrecord name P (v ∷ vs) s = elim s [ inl p ↦ (v, inl refl, p) | inr k 
 abbrev off_first : FileMap Bytes → FileMap Bytes
 off_first es = map (λ e. (drop 1 e.0, e.1)) es
 
+-- what is found in the sub-map at a component is found below that component
 pub file_sub : (c : Bytes) (p : Path) (f : FileMap Bytes) → file_at (sub_map f (c ∷ [])) p ≡ file_at f (c ∷ p)
 file_sub c p [] = refl
 file_sub c p (e ∷ es) = by e.0 (file_sub c p es)
@@ -84,6 +89,7 @@ first_in c p (e ∷ es) h = by e.0 (first_in c p es) h
           | false ↦ λ i j. keep_in c d (first_components es) (rest j)
         ] refl k
 
+-- no file is at the root
 pub none_at_root : (f : FileMap Bytes) → T (are_file_paths f) → file_at f [] ≡ None
 none_at_root [] h = refl
 none_at_root (e ∷ es) h = by e.0 (first _ _ h) (none_at_root es (second (is_file_path e.0) (are_file_paths es) h))
@@ -112,6 +118,7 @@ each_path t f h = go [] f (λ p i. h p i)
         both _ _ (k e.0 (ap (λ b. is_some (cond b (Some e.1) (file_at es e.0))) (is_true _ (path_same e.0))))
         (go before es (λ p i. k p (elim (same_path p e.0) as (λ b. is_some (cond b (Some e.1) (file_at es p)) ≡ true) [ true ↦ refl | false ↦ i ])))
 
+-- contents are a file map
 pub content_parts : (f : FileMap Bytes) → T (is_content f) → Parts f
 content_parts f h = parts_of f (is_true _ (first (is_file_map f) _ h))
 
@@ -134,10 +141,12 @@ unhex_bytes (a ∷ b ∷ x) h =
     lt_test : (m n : ℕ) → m < n → nat_lt m n ≡ true
     lt_test m n h = grind (arith, nat_tests)
 
+-- what a namer gives is a name
 pub name_is_name : (name : Kind → Bytes → Bytes) → IsNamer name → (k : Kind) (body : Bytes) → T (is_name (name k body))
 name_is_name name namer k body = both _ _ (passes _ (eq-eqb (length (name k body)) 20 (namer.long k body))) (passes _ (namer.bytes k body))
 
 module _ (name : Kind → Bytes → Bytes) (namer : IsNamer name) where
+  -- the entries of a file map
   abbrev pub entries_of : FileMap Bytes → List Entry
   entries_of f = entries name (named_map name f)
 
@@ -149,6 +158,7 @@ module _ (name : Kind → Bytes → Bytes) (namer : IsNamer name) where
   pub entry_in_tree : (f : FileMap Bytes) (c : Bytes) → AnyByRecursion (λ x. x ≡ c) (first_components f) → AnyByRecursion (λ x. x ≡ node_entry name namer f c) (entries_of f)
   entry_in_tree f c s = subst (AnyByRecursion (λ x. x ≡ node_entry name namer f c)) (sym (spelling name namer f)) (some_map (node_entry name namer f) c (first_components f) s)
 
+  -- each entry is that at a first component
   pub entry_of_tree : (f : FileMap Bytes) (e : Entry) → AnyByRecursion (λ x. x ≡ e) (entries_of f) → (c : Bytes) × AnyByRecursion (λ x. x ≡ c) (first_components f) × (node_entry name namer f c ≡ e)
   entry_of_tree f e s = some_unmap (node_entry name namer f) e (first_components f) (subst (AnyByRecursion (λ x. x ≡ e)) (spelling name namer f) s)
 
@@ -158,6 +168,7 @@ module _ (name : Kind → Bytes → Bytes) (namer : IsNamer name) where
   node_leaf : (f : FileMap Bytes) (c : Bytes) (x : Leaf Bytes) → file_at f (c ∷ []) ≡ Some x → node_of name namer f c ≡ leaf_named name namer x
   node_leaf f c x h = ap (λ o. node name (option_map (leaf_named name namer) o) (tree_name name (sub_map f (c ∷ [])))) h
 
+  -- what is found in contents may stand there
   pub leaf_at : (f : FileMap Bytes) (p : Path) (x : Leaf Bytes) → T (is_content f) → file_at f p ≡ Some x → T (is_leaf x.0 x.1)
   leaf_at f p x h e = subst (λ o. IfSome o (λ y. T (is_leaf y.0 y.1))) e (leaves name namer f p h)
 
@@ -181,9 +192,11 @@ module _ (name : Kind → Bytes → Bytes) (namer : IsNamer name) where
   text_of_tree f h = (refl, is_true _ (canonical_entries name namer f h), is_true _ (subst (λ es. T (list_all (λ e. is_name e.name) es)) (sym (spelling name namer f)) (nodes_are_named f (first_components f) h)))
 
   module _ (vs : List Value) (whole : IsWhole vs) (distinct : AreDistinct (map (name_of name) vs)) where
+    -- a file map that stands is one of contents
     pub content_in : (f : FileMap Bytes) → IsIn vs (tree_value f) → T (is_content f)
     content_in f i = proper_in vs (tree_value f) (passes _ whole.proper) i
 
+    -- the sub-map at a directory of a file map that stands does, too
     pub sub_in : (f : FileMap Bytes) (c : Bytes) → IsIn vs (tree_value f) → AnyByRecursion (λ x. x ≡ c) (first_components f) → file_at f (c ∷ []) ≡ None → IsIn vs (tree_value (sub_map f (c ∷ [])))
     sub_in f c i s n =
         pick (λ d. is_none (file_at f (d ∷ [])) ≡ true → IsIn vs (tree_value (sub_map f (d ∷ [])))) c (first_components f)

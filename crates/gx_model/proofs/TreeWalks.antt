@@ -69,6 +69,7 @@ module _ (name : Kind → Bytes → Bytes) (namer : IsNamer name) where
         ]
       ] refl
 
+  -- below a component is something only where it is a first component
   pub some_sub : (c : Bytes) (f : FileMap Bytes) → T (has_some (sub_map f (c ∷ []))) → AnyByRecursion (λ x. x ≡ c) (first_components f)
   some_sub c f h = from f h
     where
@@ -116,6 +117,7 @@ module _ (name : Kind → Bytes → Bytes) (namer : IsNamer name) where
     nothing_below : (q : Path) → place_of name (file_at [] q) (sub_map [] q) ≡ None
     nothing_below q = refl
 
+    -- a walk down the records of values gives what the whole map has
     pub walk : (p : Path) (f : FileMap Bytes) → IsIn vs (tree_value f) → walked (map (record_of name) vs) (tree_name name f) p ≡ place_in name f p
     walk [] f i = refl
     walk (c ∷ p) f i =
@@ -146,6 +148,7 @@ module _ (name : Kind → Bytes → Bytes) (namer : IsNamer name) where
             rec (x ∷ xs) j
             ∙ (λ z. place_of name (file_at (sym k z) (d ∷ p)) (sub_map (sym k z) (d ∷ p))) ∙ (λ z. place_of name (file_sub c (d ∷ p) f z) (sym (sub_sub c (d ∷ p) f) z))
 
+  -- a walk down the records of a sound repository gives what the whole map has
   pub walk_sound : (r : Records) → IsSound name r → (f : FileMap Bytes) → IsIn (history_of r).values (tree_value f) → (p : Path) → walked r.records (tree_name name f) p ≡ place_in name f p
   walk_sound r i f j p =
       let t = stands name namer r i in

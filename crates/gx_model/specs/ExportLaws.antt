@@ -1,4 +1,5 @@
 -- What the laws of the export text suppose and say.
+-- Source: git-fast-export(1) and git-fast-import(1).
 use Rattle.std.specs.Prelude.{map, ◌⊎◌, suc, if◌then◌else◌, Result, Ok, ◌≡◌, ℕ, ◌^◌, ◌<◌, true, false, IsTrue, List, [], ◌∷◌, ◌++◌, length, codes, nat_eq, Option, None, Some, is_some}
 use Rattle.std.specs.List.{AllByRecursion, filter_map, flat_map, starts_with}
 use Rattle.gx_model.specs.declared.objects.Mode.{Mode}
@@ -40,13 +41,16 @@ ItemsAreRead = (is : List Item) → AllByRecursion IsItem is → items_of (flat_
 
 -- ---- commands
 
+-- the number of a mark
 abbrev pub IsMark : ℕ → Type 0
 IsMark n = (0 < n) × (n < 2 ^ 64)
 
+-- a commit that is named by its mark
 abbrev pub IsMarked : CommitIsh → Type 0
 IsMarked (Marked n) = IsMark n
 IsMarked (Named x) = ⊥
 
+-- the same, or none
 abbrev pub IsMarkedIf : Option CommitIsh → Type 0
 IsMarkedIf None = Unit {0}
 IsMarkedIf (Some c) = IsMarked c
@@ -63,6 +67,7 @@ IsDataRef Exec (Mark n) = IsMark n
 IsDataRef Link (Mark n) = IsMark n
 IsDataRef m s = ⊥
 
+-- a file's path, in bytes
 abbrev pub IsPath : Path → Type 0
 IsPath p = IsTrue (is_file_path p) × AreBytes (path_text p)
 
@@ -74,10 +79,12 @@ IsSpelledChange (Remove p) = ⊥
 IsSpelledChange (Copy p q) = ⊥
 IsSpelledChange (Rename p q) = ⊥
 
+-- a mark is set
 abbrev pub HasMark : Option ℕ → Type 0
 HasMark None = ⊥
 HasMark (Some n) = IsMark n
 
+-- a commit command whose parts have their forms
 pub record IsSpelledCommit (c : CommitParts) : Type 0 where
   pub ref : is_ref_name c.ref ≡ true
   pub mark : HasMark c.mark
@@ -90,6 +97,7 @@ pub record IsSpelledCommit (c : CommitParts) : Type 0 where
   pub merges : AllByRecursion IsMarked c.merges
   pub changes : AllByRecursion IsSpelledChange c.changes
 
+-- a tag command whose parts have their forms
 pub record IsSpelledTag (t : TagParts) : Type 0 where
   pub name : is_tag_name t.name ≡ true
   pub mark : t.mark ≡ None
@@ -105,6 +113,7 @@ IsSpelled (command.Tag t) = IsSpelledTag t
 IsSpelled (command.Reset r) = (is_ref_name r.ref ≡ true) × IsMarkedIf r.parent
 IsSpelled _ = ⊥
 
+-- commands between `feature done` and `done`
 abbrev pub between : List Command → List Command
 between cs = command.Asks features.Done ∷ (cs ++ command.Done ∷ [])
 
@@ -147,6 +156,7 @@ values_with_blobs ws vs [] = vs
 values_with_blobs ws vs (x ∷ xs) =
     if is_in ws (blob_value x) then values_with_blobs ws vs xs else values_with_blobs (blob_value x ∷ ws) (with_one vs (blob_value x)) xs
 
+-- the values that a commit's block adds
 abbrev pub values_with_commit : List Value → List Value → Commit → List Value
 values_with_commit ws vs c = with_value (values_with_blobs ws vs (contents (files_of c))) (commit_value c)
 
@@ -164,6 +174,7 @@ module _ (name : Kind → Bytes → Bytes) (read : Bytes → Result Revision Fau
 
 -- ---- what a history reaches
 
+-- one of these values is made of another
 abbrev pub AnyReaches : List Value → Value → Type 0
 AnyReaches [] u = ⊥
 AnyReaches (v ∷ vs) u = Reaches v u ⊎ AnyReaches vs u
@@ -172,6 +183,7 @@ AnyReaches (v ∷ vs) u = Reaches v u ⊎ AnyReaches vs u
 abbrev pub IsReached : History → Value → Type 0
 IsReached h u = AnyReaches (map (λ r. value_at r.1) h.refs) u
 
+-- a commit is one of these
 abbrev pub IsOne : List Commit → Commit → Type 0
 IsOne [] c = ⊥
 IsOne (d ∷ ds) c = (d ≡ c) ⊎ IsOne ds c
@@ -184,6 +196,7 @@ pub record HoldsWhat (ws vs : List Value) (cs : List Commit) : Type 0 where
   pub commits : AllByRecursion (λ c. IsIn ws (commit_value c)) cs
   pub only : (u : Value) → IsIn vs u → AnyReaches (map commit_value cs) u
 
+-- after a commit's block the history holds what the commits so far reach, and no more
 abbrev pub CommitKeeps : Type 0
 CommitKeeps =
     (ws vs : List Value) (cs : List Commit) (c : Commit) → HoldsWhat ws vs cs → IsTrue (is_proper (commit_value c)) → AllByRecursion (IsOne cs) (list_of (parents_of c)) → (IsOne cs c → ⊥)
@@ -191,6 +204,7 @@ CommitKeeps =
 
 -- ---- all commits
 
+-- the empty history
 abbrev pub nothing : History
 nothing = record { values = []; refs = [] }
 
@@ -207,6 +221,7 @@ pub record IsAgain (h k : History) : Type 0 where
 abbrev pub exported_report : History → History → Report
 exported_report h k = record { commands = length (export_commands h); objects = length k.values; refs = length h.refs }
 
+-- the commands of an export, replayed from nothing, give its refs and what they reach
 abbrev pub ExportIsReplayed : Type 0
 ExportIsReplayed =
     (name : Kind → Bytes → Bytes) (read : Bytes → Result Revision Fault) (h : History) → IsHistory h
@@ -219,6 +234,7 @@ abbrev pub IsNotNull : Mode → Bytes → Type 0
 IsNotNull Gitlink x = is_null x ≡ false
 IsNotNull _ x = Unit {0}
 
+-- a file whose path is of bytes, and that is no gitlink of zeros
 abbrev pub IsFormedFile : Path × Leaf Bytes → Type 0
 IsFormedFile e = AreBytes (path_text e.0) × IsNotNull e.1.0 e.1.1
 
@@ -226,13 +242,16 @@ IsFormedFile e = AreBytes (path_text e.0) × IsNotNull e.1.0 e.1.1
 abbrev pub IsFormed : History → Type 0
 IsFormed h = AllByRecursion (λ c. AllByRecursion IsFormedFile (files_of c)) (reached_commits h)
 
+-- the same, with a length below 2 ^ 64
 abbrev pub IsReadableFile : Path × Leaf Bytes → Type 0
 IsReadableFile e = IsFormedFile e × (length e.1.1 < 2 ^ 64)
 
+-- a commit that can be read again
 pub record IsReadableCommit (c : Commit) : Type 0 where
   pub message : length (text_of c).message < 2 ^ 64
   pub files : AllByRecursion IsReadableFile (files_of c)
 
+-- what a ref holds can be read again
 abbrev pub IsReadableTarget : Target → Type 0
 IsReadableTarget (at_commit c) = Unit {0}
 IsReadableTarget (at_tag t) = length t.message < 2 ^ 64

@@ -15,27 +15,33 @@ use Rattle.gx_model.proofs.TreeBodies.{depth_sub}
 use Rattle.gx_model.proofs.OneTree.{all_left as all_split_left, all_right as all_split_right}
 use Rattle.gx_model.proofs.SubMaps.{sub_content}
 
+-- what stands in a list stands in one that it begins
 pub in_left : (vs ws : List Value) (u : Value) → IsIn vs u → IsIn (vs ++ ws) u
 in_left [] ws u h = absurd h
 in_left (v ∷ vs) ws u h = elim h [ inl e ↦ inl e | inr k ↦ inr (in_left vs ws u k) ]
 
+-- what stands in a list stands in one that it ends
 pub in_right : (vs ws : List Value) (u : Value) → IsIn ws u → IsIn (vs ++ ws) u
 in_right [] ws u h = h
 in_right (v ∷ vs) ws u h = inr (in_right vs ws u h)
 
+-- a value that the test finds stands in the list
 pub is_in_is : (vs : List Value) (u : Value) → T (is_in vs u) → IsIn vs u
 is_in_is [] u h = absurd h
 is_in_is (v ∷ vs) u h =
     elim (same_value u v) as (λ b. same_value u v ≡ b → T (b || is_in vs u) → (v ≡ u) ⊎ IsIn vs u) [ true ↦ λ k i. inl (sym (value_is u v (passes _ k))) | false ↦ λ k i. inr (is_in_is vs u i) ] refl h
 
+-- what stands in a list stands in one that has all of it
 pub all_keep : (vs ws : List Value) → ((u : Value) → IsIn vs u → IsIn ws u) → (us : List Value) → AllByRecursion (IsIn vs) us → AllByRecursion (IsIn ws) us
 all_keep vs ws f [] h = tt
 all_keep vs ws f (u ∷ us) h = (f u h.0, all_keep vs ws f us h.1)
 
+-- what holds of the elements of two lists holds of those of both in a row
 pub all_join : (P : Value → Type 0) (us ws : List Value) → AllByRecursion P us → AllByRecursion P ws → AllByRecursion P (us ++ ws)
 all_join P [] ws h g = g
 all_join P (u ∷ us) ws h g = (h.0, all_join P us ws h.1 g)
 
+-- a value that is new, after its parts, may come last
 pub snoc_closed : (before vs : List Value) (w : Value) → IsClosedAfter before vs → is_in (before ++ vs) w ≡ false → AllByRecursion (IsIn (before ++ vs)) (parts w) → IsClosedAfter before (vs ++ w ∷ [])
 snoc_closed before [] w h n p =
     (subst (λ xs. is_in xs w ≡ false) (append-nil before) n, subst (λ xs. AllByRecursion (IsIn xs) (parts w)) (append-nil before) p, tt)
@@ -52,6 +58,7 @@ only_itself : (w u : Value) → IsIn (w ∷ []) u → Reaches w u
 only_itself w u (inl e) = subst (Reaches w) e (itself w)
 only_itself w u (inr i) = absurd i
 
+-- a value whose parts stand is added alone
 pub one_added : (vs : List Value) (w : Value) → IsWhole vs → T (is_proper w) → AllByRecursion (IsIn vs) (parts w) → IsAdded vs w (with_one vs w)
 one_added vs w h p q =
     elim (is_in vs w) as (λ b. is_in vs w ≡ b → IsAdded vs w (cond b vs (vs ++ w ∷ []))) [
@@ -84,11 +91,13 @@ blobs_sub P c (e ∷ es) h =
     again None vs ws k r = r
     again (Some v) vs ws k r = (k.0, r)
 
+-- a file map of this depth whose bytes stand
 pub record CanAdd (n : ℕ) (vs : List Value) (g : FileMap Bytes) : Type 0 where
   pub deep : depth g ≤ n
   pub content : T (is_content g)
   pub blobs : AllByRecursion (IsIn vs) (blobs_of g)
 
+-- the sub-maps of a map that can be added can be
 pub subs_can : (n : ℕ) (vs : List Value) (f : FileMap Bytes) → depth f ≤ suc n → T (is_content f) → AllByRecursion (IsIn vs) (blobs_of f) → (cs : List Bytes)
     → AllByRecursion (CanAdd n vs) (map (λ c. sub_map f (c ∷ [])) (filter (λ c. is_none (file_at f (c ∷ []))) cs))
 subs_can n vs f d h b [] = tt
@@ -103,6 +112,7 @@ subs_can n vs f d h b (c ∷ cs) =
     nothing None e = refl
     nothing (Some x) e = absurd (cc)
 
+-- a file map with no component is empty
 pub empty_of : (f : FileMap Bytes) → depth f ≤ 0 → T (are_file_paths f) → f ≡ []
 empty_of [] d h = refl
 empty_of (e ∷ es) d h = absurd (by e.0 (first (is_file_path e.0) (are_file_paths es) h) (omega arith))
@@ -111,9 +121,11 @@ empty_of (e ∷ es) d h = absurd (by e.0 (first (is_file_path e.0) (are_file_pat
     by [] k l = k
     by (c ∷ p) k l = omega arith
 
+-- the paths of contents are those of files
 pub paths_of : (f : FileMap Bytes) → T (is_content f) → T (are_file_paths f)
 paths_of f h = first _ _ (first _ _ (first (is_file_map f) _ h))
 
+-- what can be added to a list can be to one that has all of it
 pub can_later : (n : ℕ) (vs ws : List Value) → ((u : Value) → IsIn vs u → IsIn ws u) → (gs : List (FileMap Bytes)) → AllByRecursion (CanAdd n vs) gs → AllByRecursion (CanAdd n ws) gs
 can_later n vs ws f [] h = tt
 can_later n vs ws f (g ∷ gs) h = (record { deep = h.0.deep; content = h.0.content; blobs = all_keep vs ws f (blobs_of g) h.0.blobs }, can_later n vs ws f gs h.1)
@@ -126,13 +138,15 @@ pub record AllAdded (vs : List Value) (gs : List (FileMap Bytes)) (ws : List Val
   pub front : ws ≡ vs ++ new
   pub only : (u : Value) → IsIn new u → (w : Value) × IsIn (map tree_value gs) w × Reaches w u
 
+-- what stood stands among the values with these file maps
 pub keeps_all : (vs : List Value) (gs : List (FileMap Bytes)) (ws : List Value) → AllAdded vs gs ws → (u : Value) → IsIn vs u → IsIn ws u
 keeps_all vs gs ws a u i = subst (λ (us : List Value). IsIn us u) (sym a.front) (in_left vs a.new u i)
 
-in_some : (vs ws : List Value) (u : Value) → IsIn (vs ++ ws) u → IsIn vs u ⊎ IsIn ws u
+pub in_some : (vs ws : List Value) (u : Value) → IsIn (vs ++ ws) u → IsIn vs u ⊎ IsIn ws u
 in_some [] ws u h = inr h
 in_some (v ∷ vs) ws u h = elim h [ inl e ↦ inl (inl e) | inr k ↦ elim (in_some vs ws u k) [ inl m ↦ inl (inr m) | inr m ↦ inr m ] ]
 
+-- file maps are added one after the other
 pub all_added : (n : ℕ) → ((vs : List Value) (g : FileMap Bytes) → IsWhole vs → CanAdd n vs g → IsAdded vs (tree_value g) (with_tree_to n vs g)) → (gs : List (FileMap Bytes)) (vs : List Value) → IsWhole vs → AllByRecursion (CanAdd n vs) gs
     → AllAdded vs gs (fold (with_tree_to n) vs gs)
 all_added n one [] vs h k = record { whole = h; have = tt; new = []; front = sym (append-nil vs); only = λ u i. absurd i }
@@ -158,6 +172,7 @@ then_one vs us new w ws e f a = record {
   only = λ u i. elim (in_some new a.new u i) [ inl j ↦ f u j | inr j ↦ a.only u j ];
 }
 
+-- a file map is added after its sub-maps
 pub tree_added_to : (n : ℕ) (vs : List Value) (f : FileMap Bytes) → IsWhole vs → CanAdd n vs f → IsAdded vs (tree_value f) (with_tree_to n vs f)
 tree_added_to zero vs f h k =
     one_added vs (tree_value f) h k.content
@@ -170,6 +185,7 @@ tree_added_to (suc n) vs f h k =
     (λ u i. let m = below.only u i in through (tree_value f) m.0 (in_right (blobs_of f) (map tree_value (sub_maps f)) m.0 m.1) m.2)
     (one_added us (tree_value f) below.whole k.content (all_join (IsIn us) (blobs_of f) (map tree_value (sub_maps f)) (all_keep vs us (keeps_all vs (sub_maps f) us below) (blobs_of f) k.blobs) below.have))
 
+-- a file map whose bytes stand is added
 pub tree_added : (vs : List Value) (f : FileMap Bytes) → IsWhole vs → T (is_content f) → AllByRecursion (IsIn vs) (blobs_of f) → IsAdded vs (tree_value f) (with_tree vs f)
 tree_added vs f h k b = tree_added_to (depth f) vs f h (record { deep = omega arith; content = k; blobs = b })
 
@@ -182,6 +198,7 @@ tree_first vs f ps w e p h k b q =
     (λ u i. through w (tree_value f) (subst (λ (zs : List Value). IsIn zs (tree_value f)) (sym e) (inl refl)) (a.only u i))
     (one_added us w a.whole p (subst (AllByRecursion (IsIn us)) (sym e) (a.has, all_keep vs us (keeps vs (tree_value f) us a) ps q)))
 
+-- a value is added after what it lacks
 pub value_added : (vs : List Value) (v : Value) → IsWhole vs → T (is_proper v) → AllByRecursion (IsIn vs) (needs v) → IsAdded vs v (with_value vs v)
 value_added vs (blob_value x) h p n = one_added vs (blob_value x) h tt tt
 value_added vs (tree_value f) h p n = tree_added vs f h p n

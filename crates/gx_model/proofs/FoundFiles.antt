@@ -48,6 +48,7 @@ abbrev pub or_else : {X : Type 0} → Option X → Option X → Option X
 or_else (Some x) o = Some x
 or_else None o = o
 
+-- or else nothing adds nothing
 pub or_nothing : {X : Type 0} (o : Option X) → or_else o None ≡ o
 or_nothing None = refl
 or_nothing (Some x) = refl
@@ -80,6 +81,7 @@ module _ {X : Type 0} where
         | false ↦ λ i j. test_at t es q (second (t e.0) _ h) j
       ] refl k
 
+  -- nothing is found at a path that fails a test which all paths pass
   pub none_where : (t : Path → Bool) (es : List (Path × X)) (q : Path) → T (list_all (λ e. t e.0) es) → (T (t q) → ⊥) → file_at es q ≡ None
   none_where t es q h n = by (file_at es q) refl
     where
@@ -89,6 +91,7 @@ module _ {X : Type 0} where
 
   -- ---- after a filter, and after a put
 
+  -- after a filter of paths, what passes is found as before
   pub at_filter : (t : Path → Bool) (es : List (Path × X)) (q : Path) → file_at (filter (λ e. t e.0) es) q ≡ cond (t q) (file_at es q) None
   at_filter t [] q = elim (t q) as (λ b. ◌≡◌ {A = Option X} None (cond b None None)) [ true ↦ refl | false ↦ refl ]
   at_filter t (e ∷ es) q =
@@ -105,6 +108,7 @@ module _ {X : Type 0} where
             ∙ at_filter t es q
       ] refl
 
+  -- after a put, the new leaf is found at its path
   pub at_put : (k : Path) (v : X) (es : List (Path × X)) (q : Path) → T (is_file_path k) → T (are_file_paths es) → file_at (put path_cmp k v es) q ≡ cond (same_path q k) (Some v) (file_at es q)
   at_put k v [] q h g = refl
   at_put k v (e ∷ es) q h g =
@@ -126,6 +130,7 @@ module _ {X : Type 0} where
   all_with t [] es h g = g
   all_with t (e ∷ new) es h g = all_put t e.0 e.1 (with_all new es) (first _ _ h) (all_with t new es (second _ _ h) g)
 
+  -- after many puts, a new leaf is found before an old one
   pub at_with_all : (new es : List (Path × X)) (q : Path) → T (are_file_paths new) → T (are_file_paths es) → file_at (with_all new es) q ≡ or_else (file_at new q) (file_at es q)
   at_with_all [] es q h g = refl
   at_with_all (e ∷ new) es q h g =
@@ -135,6 +140,7 @@ module _ {X : Type 0} where
 
   -- ---- after a move
 
+  -- below the new place is found what was below the old one
   pub at_moved : (s d : Path) (es : List (Path × X)) (r : Path) → file_at (moved s d (under s es)) (d ++ r) ≡ file_at es (s ++ r)
   at_moved s d [] r = refl
   at_moved s d (e ∷ es) r =
@@ -147,5 +153,6 @@ module _ {X : Type 0} where
   all_moved s d [] = tt
   all_moved s d (e ∷ es) = both _ _ (begins_append d (drop (length s) e.0)) (all_moved s d es)
 
+  -- elsewhere nothing that was moved is found
   pub none_moved : (s d : Path) (es : List (Path × X)) (q : Path) → (T (begins d q) → ⊥) → file_at (moved s d es) q ≡ None
   none_moved s d es q n = none_where (begins d) (moved s d es) q (all_moved s d es) n

@@ -44,3 +44,11 @@ pub mod ItemTexts
 pub mod CommandFields
 pub mod CommandItems
 pub mod SpelledItems
+pub mod LowerDigits
+pub mod CommitSteps
+pub mod KeptCommits
+pub mod PublishedRefs
+pub mod ReachedValues
+pub mod ExportSteps
+pub mod SpelledExports
+pub mod ReadableExports

@@ -13,6 +13,7 @@ use Rattle.gx_model.specs.Objects.{Entry, entry_key}
 use Rattle.gx_model.specs.ObjectLaws.{IsAtOrBelow}
 use Rattle.gx_model.proofs.PathTests.{component_free, first, second, not_both}
 
+-- the byte order
 abbrev pub byte_cmp : Bytes → Bytes → Ordering
 byte_cmp = slice_cmp nat_cmp
 
@@ -64,6 +65,7 @@ node_key [] = []
 node_key (c ∷ []) = c
 node_key (c ∷ d ∷ p) = c ++ 47 ∷ []
 
+-- paths of different first components stand in the order of these, with a slash where they are directories'
 pub by_node : (c d : Bytes) (p q : Path) → T (is_component c) → T (is_component d) → c ≢ d → path_cmp (c ∷ p) (d ∷ q) ≡ byte_cmp (node_key (c ∷ p)) (node_key (d ∷ q))
 by_node c d [] [] f g n = refl
 by_node c d [] (e ∷ q) f g n =

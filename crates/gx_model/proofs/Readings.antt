@@ -232,31 +232,7 @@ end_first text fails (Failed faults.ReadFailed) (f, inl h) =
     let t : has_no_line text true ≡ true = grind (arith, nat_tests) in
     ap (first_of text) f ∙ no_line text true t
 end_first text fails (Failed faults.ReadFailed) (f, inr c) = cut_first text fails c ∙ ap (λ f. ends (cut_off f)) f
-end_first text fails (Failed faults.OutOfMemory) h = absurd h
-end_first text fails (Failed faults.WriteFailed) h = absurd h
-end_first text fails (Failed faults.UnknownCommand) h = absurd h
-end_first text fails (Failed faults.BadLine) h = absurd h
-end_first text fails (Failed faults.BadPath) h = absurd h
-end_first text fails (Failed faults.PathTooLong) h = absurd h
-end_first text fails (Failed faults.BadMode) h = absurd h
-end_first text fails (Failed faults.BadIdent) h = absurd h
-end_first text fails (Failed faults.BadRefName) h = absurd h
-end_first text fails (Failed faults.UnknownMark) h = absurd h
-end_first text fails (Failed faults.WrongKind) h = absurd h
-end_first text fails (Failed faults.UnknownObject) h = absurd h
-end_first text fails (Failed faults.NoSuchPath) h = absurd h
-end_first text fails (Failed faults.RootNotTree) h = absurd h
-end_first text fails (Failed faults.FromItself) h = absurd h
-end_first text fails (Failed faults.EmptyBranch) h = absurd h
-end_first text fails (Failed faults.Unsupported) h = absurd h
-end_first text fails (Failed faults.LateOption) h = absurd h
-end_first text fails (Failed faults.MissingDone) h = absurd h
-end_first text fails (Failed faults.NotFastForward) h = absurd h
-end_first text fails (Failed faults.NameHeld) h = absurd h
-end_first text fails (Failed faults.BadRevision) h = absurd h
-end_first text fails (Failed faults.UnknownRef) h = absurd h
-end_first text fails (Failed faults.Ambiguous) h = absurd h
-end_first text fails (Failed faults.NoParent) h = absurd h
+end_first text fails (Failed _) h = absurd h
 
 -- ---- the whole text
 

@@ -52,6 +52,7 @@ module _ {X : Type 0} where
         | false ↦ λ k e. e
       ] refl is
 
+  -- file maps that give the same at every path are one
   pub same_maps : (es fs : List (Path × X)) → Parts es → Parts fs → ((q : Path) → file_at es q ≡ file_at fs q) → es ≡ fs
   same_maps [] [] g h is = refl
   same_maps [] (f ∷ fs) g h is = let e : None ≡ Some f.1 = is f.0 ∙ at_first f fs in absurd cc

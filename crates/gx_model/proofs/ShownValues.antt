@@ -247,9 +247,11 @@ module _ (name : Kind → Bytes → Bytes) (namer : IsNamer name) (r : Records) 
   apart : AreDistinct (map (name_of name) (history_of r).values)
   apart = distinct_of name namer r (history_of r) (stands name namer r sound)
 
+  -- a value that a revision gives stands in the history
   pub held_value : (a : Revision) (v : Value) → denoted name (history_of r) a ≡ Ok (object v) → IsIn (history_of r).values v
   held_value a v e = denoted_stands name namer (history_of r) (stands name namer r sound).history apart a v e
 
+  -- what two revisions give is one where it is answered alike
   pub one_answer : (a b : Revision) (s t : Shown) → denoted name (history_of r) a ≡ Ok s → denoted name (history_of r) b ≡ Ok t → AreOneAnswer name s t ↔ (s ≡ t)
   one_answer a b (object v) (object w) e f = (
     λ q. ap object (told_by_name name namer (history_of r).values apart v w (held_value a v e) (held_value b w f) q.1),

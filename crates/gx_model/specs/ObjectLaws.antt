@@ -14,32 +14,33 @@ use Rattle.gx_model.specs.Histories.{AreDistinct, IsIn}
 
 -- ---- bodies
 
--- a canonical body has one kind of parts only
+-- a canonical body is that of one set of parts only
 pub record BodiesTellParts : Type 0 where
-  pub trees : (es fs : List Entry) (body : Bytes) → IsTreeText es body → IsTreeText fs body → es ≡ fs
-  pub commits : (p q : CommitParts) (body : Bytes) → IsCommitText p body → IsCommitText q body → p ≡ q
-  pub tags : (p q : TagParts) (body : Bytes) → IsTagText p body → IsTagText q body → p ≡ q
+  pub trees : (listed others : List Entry) (body : Bytes) → IsTreeText listed body → IsTreeText others body → listed ≡ others
+  pub commits : (commit other : CommitParts) (body : Bytes) → IsCommitText commit body → IsCommitText other body → commit ≡ other
+  pub tags : (tag other : TagParts) (body : Bytes) → IsTagText tag body → IsTagText other body → tag ≡ other
 
 -- ---- trees
 
 -- the entries of a file map are canonical
 abbrev pub TreesAreCanonical : (Kind → Bytes → Bytes) → Type 0
-TreesAreCanonical name = (f : FileMap Bytes) → IsTrue (is_content f) → IsTrue (is_canonical (entries name (named_map name f)))
+TreesAreCanonical name = (files : FileMap Bytes) → IsTrue (is_content files) → IsTrue (is_canonical (entries name (named_map name files)))
 
 -- a path of a file at this entry, or below it where it is a directory's
 abbrev pub IsAtOrBelow : Entry → Path → Type 0
-IsAtOrBelow e [] = ⊥
-IsAtOrBelow e (c ∷ []) = (c ≡ e.component) × (is_dir e.mode ≡ false)
-IsAtOrBelow e (c ∷ d ∷ p) = (c ≡ e.component) × (is_dir e.mode ≡ true)
+IsAtOrBelow entry [] = ⊥
+IsAtOrBelow entry (c ∷ []) = (c ≡ entry.component) × (is_dir entry.mode ≡ false)
+IsAtOrBelow entry (c ∷ d ∷ p) = (c ≡ entry.component) × (is_dir entry.mode ≡ true)
 
 -- the order of a tree's entries is the byte order of the whole paths at and below them
 abbrev pub EntriesStandInPathOrder : Type 0
 EntriesStandInPathOrder =
-    (e f : Entry) (p q : Path) → IsTrue (is_component e.component) → IsTrue (is_component f.component) → e.component ≢ f.component → IsAtOrBelow e p → IsAtOrBelow f q
-    → path_cmp p q ≡ slice_cmp nat_cmp (entry_key e) (entry_key f)
+    (entry other : Entry) (path another : Path) → IsTrue (is_component entry.component) → IsTrue (is_component other.component) → entry.component ≢ other.component
+    → IsAtOrBelow entry path → IsAtOrBelow other another → path_cmp path another ≡ slice_cmp nat_cmp (entry_key entry) (entry_key other)
 
 -- two file maps with one body are one, where what is below them stands among values that their names tell apart
 abbrev pub TreesTellMaps : (Kind → Bytes → Bytes) → Type 0
 TreesTellMaps name =
-    (vs : List Value) → AreDistinct (map (name_of name) vs) → (f g : FileMap Bytes) → IsTrue (is_content f) → IsTrue (is_content g)
-    → AllByRecursion (IsIn vs) (parts (tree_value f)) → AllByRecursion (IsIn vs) (parts (tree_value g)) → tree_body name (named_map name f) ≡ tree_body name (named_map name g) → f ≡ g
+    (values : List Value) → AreDistinct (map (name_of name) values) → (files others : FileMap Bytes) → IsTrue (is_content files) → IsTrue (is_content others)
+    → AllByRecursion (IsIn values) (parts (tree_value files)) → AllByRecursion (IsIn values) (parts (tree_value others))
+    → tree_body name (named_map name files) ≡ tree_body name (named_map name others) → files ≡ others

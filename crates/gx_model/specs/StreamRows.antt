@@ -6,7 +6,7 @@ use Rattle.gx_model.specs.declared.features.Feature.TheVariants as features
 use Rattle.gx_model.specs.declared.objects.Mode.TheVariants as modes
 use Rattle.gx_model.specs.Texts.{Bytes, cut_at}
 use Rattle.gx_model.specs.Idents.{is_ident}
-use Rattle.gx_model.specs.Paths.{char_at, unquote_within, quoted_of}
+use Rattle.gx_model.specs.Paths.{char_at, unquote_within, quoted_of, printed}
 use Rattle.gx_model.specs.Spelling.{text_of_lines}
 use Rattle.gx_model.specs.Items.{Item, Line, Data, End, Finished, Failed, counted_block, lines_before, delimited, first_line, first_of, read_upto, items_of}
 use Rattle.gx_model.specs.Commands.{Marked, Named, Mark, Object, Inline, Change, Modify, Remove, Copy, Rename, Clear, CommitParts, Blob, Commit, Tag, Reset, Checkpoint, Progress, Asks, OptionLine, Done, Commands, faulty_command}
@@ -92,6 +92,12 @@ item_rows =
       text = text_of_lines (codes "# a comment" ∷ codes "blob" ∷ codes "#" ∷ codes "data 2" ∷ codes "#x" ∷ []);
       fails = false;
       items = Line (codes "blob") ∷ Data (codes "#x") ∷ [];
+      end = Finished;
+    }
+    ∷ record {
+      text = text_of_lines (codes "data <<E" ∷ codes "# x" ∷ codes "E " ∷ codes "E" ∷ []);
+      fails = false;
+      items = Data (text_of_lines (codes "# x" ∷ codes "E " ∷ [])) ∷ [];
       end = Finished;
     }
     -- a word alone announces nothing, and CR has no meaning
@@ -311,6 +317,7 @@ first_refusals =
     ∷ (codes "tag v1" ∷ (codes "from " ++ zeros) ∷ [], faults.Unsupported)
     -- the fault after a commit or a reset is its own
     ∷ (codes "reset refs/heads/a" ∷ codes "data x" ∷ [], faults.BadNumber)
+    ∷ (codes "reset refs/heads/a" ∷ codes "from :1" ∷ codes "data x" ∷ [], faults.BadNumber)
     ∷ (commit_head ++ (codes "data 5" ∷ codes "abc" ∷ []), faults.TruncatedData)
     ∷ []
 
@@ -421,6 +428,22 @@ later_refused = refl
 failed_read : commands_of (items_of (text_of_lines (codes "progress a" ∷ codes "progress b" ∷ [])) true) ≡ record { list = Progress (codes "a") ∷ Progress (codes "b") ∷ []; fault = Some faults.ReadFailed }
 unfolding cut_at counted_block lines_before delimited first_line first_of read_upto items_of command_at commands_within
 failed_read = refl
+
+-- ---- printed paths
+
+-- a path's text, and how it is printed
+abbrev pub printed_rows : List (Bytes × Bytes)
+printed_rows =
+    (codes "copy", codes "copy")
+    ∷ (codes "a b/c'd", codes "a b/c'd")
+    ∷ ([], [])
+    ∷ (codes "a b\"" ++ 195 ∷ 169 ∷ [], codes "\"a b\\\"\\303\\251\"")
+    ∷ (7 ∷ 8 ∷ 9 ∷ 10 ∷ 11 ∷ 12 ∷ 13 ∷ 92 ∷ [], codes "\"\\a\\b\\t\\n\\v\\f\\r\\\\\"")
+    ∷ (1 ∷ 31 ∷ 32 ∷ 126 ∷ 127 ∷ 128 ∷ 255 ∷ [], codes "\"\\001\\037 ~\\177\\200\\377\"")
+    ∷ []
+
+paths_printed : map (λ row. printed row.0) printed_rows ≡ map (λ row. row.1) printed_rows
+paths_printed = refl
 
 -- ---- the length of a path
 

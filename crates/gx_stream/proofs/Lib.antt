@@ -2,4 +2,6 @@ pub mod Lines
 pub mod Delimiters
 pub mod Firsts
 pub mod Comments
+pub mod Longer
 pub mod Arrivals
+pub mod Views

@@ -1,8 +1,10 @@
 -- Where lines, blocks and items stand in a text.
-use Rattle.std.specs.Prelude.{◌≡◌, ℕ, ◌+◌, ◌<◌, ◌≤◌, Bool, true, false, length, drop, take, slice_range, Option, Some, None, suc}
+use Rattle.std.specs.Prelude.{◌≡◌, ℕ, ◌+◌, ◌<◌, ◌≤◌, Bool, true, false, [], ◌++◌, length, drop, take, slice_range, Option, Some, None, suc}
 use Rattle.gx_model.specs.Texts.{Bytes}
-use Rattle.gx_model.specs.Items.{Line, Data, First, takes, ends, line_len, has_no_line, lines_before, items_of, then_comes}
+use Rattle.gx_model.specs.Items.{Item, Line, Data, First, takes, ends, line_len, has_no_line, lines_before, items_of, then_comes}
 use Rattle.gx_stream.specs.Faults.{end_seen, ended}
+use Rattle.gx_stream.specs.declared.fault.StreamFault.{StreamFault}
+use Rattle.gx_stream.specs.declared.fault.StreamFault.TheVariants.{BadNumber}
 use Rattle.gx_stream.specs.declared.places.Place.{Place}
 use Rattle.gx_stream.specs.declared.places.Found.{Found}
 use Rattle.gx_stream.specs.declared.places.Found.TheVariants as found
@@ -39,8 +41,30 @@ Begins text first (found.Line p) = IsWithin text p × (first ≡ takes (Line (by
 Begins text first (found.Data p) = IsWithin text p × (first ≡ takes (Data (bytes_at text p)) (drop p.next text))
 Begins text first (found.End e) = first ≡ ends (end_seen e)
 
--- The item that comes next from a place on stands there, and the others come after it. Or there is none.
+-- A text that fails may be the front of a longer one, and of any. A text that ends is the whole.
+abbrev pub GoesOn : Bool → Bytes → Bool → Type 0
+GoesOn true more then_fails = Unit {0}
+GoesOn false more then_fails = (more ≡ []) × (then_fails ≡ false)
+
+-- only comments stand between two places, however the text goes on
+pub record Skipped (text : Bytes) (fails : Bool) (start at : ℕ) : Type 0 where
+  pub from : start ≤ at
+  pub within : at ≤ length text
+  pub same : (more : Bytes) (then_fails : Bool) → GoesOn fails more then_fails → items_of (drop start text ++ more) then_fails ≡ items_of (drop at text ++ more) then_fails
+
+-- an item comes next, with the text after it, however the text goes on
+pub record ComesNext (text : Bytes) (fails : Bool) (at : ℕ) (item : Item) (p : Place) : Type 0 where
+  pub within : IsWithin text p
+  pub further : at < p.next
+  pub next : (more : Bytes) (then_fails : Bool) → GoesOn fails more then_fails → items_of (drop at text ++ more) then_fails ≡ then_comes item (items_of (drop p.next text ++ more) then_fails)
+
+-- no item comes, and if the count of a block is none, then however the text goes on
+pub record NoneComes (text : Bytes) (fails : Bool) (at : ℕ) (e : Option StreamFault) : Type 0 where
+  pub end : items_of (drop at text) fails ≡ ended (end_seen e)
+  pub stays : e ≡ Some BadNumber → (more : Bytes) (then_fails : Bool) → GoesOn fails more then_fails → items_of (drop at text ++ more) then_fails ≡ ended (end_seen e)
+
+-- the item that comes next from a place on stands there, or there is none
 abbrev pub Finds : Bytes → Bool → ℕ → Found → Type 0
-Finds text fails at (found.Line p) = IsWithin text p × (at < p.next) × (items_of (drop at text) fails ≡ then_comes (Line (bytes_at text p)) (items_of (drop p.next text) fails))
-Finds text fails at (found.Data p) = IsWithin text p × (at < p.next) × (items_of (drop at text) fails ≡ then_comes (Data (bytes_at text p)) (items_of (drop p.next text) fails))
-Finds text fails at (found.End e) = items_of (drop at text) fails ≡ ended (end_seen e)
+Finds text fails at (found.Line p) = ComesNext text fails at (Line (bytes_at text p)) p
+Finds text fails at (found.Data p) = ComesNext text fails at (Data (bytes_at text p)) p
+Finds text fails at (found.End e) = NoneComes text fails at e

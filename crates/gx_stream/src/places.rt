@@ -4,7 +4,7 @@ ghost use Rattle.std.specs.Prelude.{◌≡◌, ◌≤◌, ◌+◌, length, drop,
 ghost use Rattle.std.specs.List.{starts_with};
 ghost use Rattle.gx_model.specs.Items.{line_len, has_no_line, without_lf, counted_block, delimited, announced, first_line, end_of, cut_off};
 ghost use Rattle.gx_stream.specs.Faults.{end_seen};
-ghost use Rattle.gx_stream.specs.Places.{IsLineAt, IsDelimiterAt, Begins, Finds};
+ghost use Rattle.gx_stream.specs.Places.{IsLineAt, IsDelimiterAt, Begins, Skipped, Finds};
 
 use crate::fault::StreamFault;
 use gx_text::decimal;
@@ -26,20 +26,20 @@ pub(crate) enum Found {
     End(Option<StreamFault>),
 }
 
-/// The first item from a place on, past the comments before it.
-pub(crate) fn find_item(text: &[u8], start: usize, fails: bool) -> Found
-    requires { start ≤ length text.now }
-    ensures { Finds text.now fails start result }
+/// The item that a text goes on with. The place moves past the comments before it.
+pub(crate) fn find_item(text: &[u8], at: &mut usize, fails: bool) -> Found
+    requires { at.old ≤ length text.now }
+    ensures skipped { Skipped text.now fails at.old at.new }
+    ensures found { Finds text.now fails at.new result }
 {
-    let mut at = start;
     loop {
-        let Some(line) = line_at(text, at, fails) else {
+        let Some(line) = line_at(text, *at, fails) else {
             return Found::End(end_of(fails));
         };
         if !text[line.start..line.end].starts_with(b"#") {
             return find_from(text, line, fails);
         }
-        at = line.next;
+        *at = line.next;
     }
 }
 

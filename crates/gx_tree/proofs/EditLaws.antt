@@ -55,7 +55,7 @@ IsKeptAt-folder (e ∷ f) h = ((λ z. cc), h)
 pub IsKeptAt-removed : (p : Path) (o : Option Kept) → IsKeptAt o → IsKeptAt (kept_removed p o)
 IsKeptAt-removed p None h = tt
 IsKeptAt-removed [] (Some k) h = tt
-IsKeptAt-removed (d ∷ p) (Some (file x)) h = tt
+IsKeptAt-removed (d ∷ p) (Some (file x)) h = h
 IsKeptAt-removed (d ∷ p) (Some (folder f)) h = IsKeptAt-folder (removed f (d ∷ p)) (IsInner-removed (d ∷ p) f h.1)
 
 pub IsLevel-replaced : (c : Bytes) (o : Option Kept) (es : Level) → is_component c ≡ true → IsKeptAt o → IsLevel es → IsLevel (replaced c o es)

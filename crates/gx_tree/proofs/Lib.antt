@@ -12,3 +12,6 @@ pub mod NamedFiles
 pub mod Measures
 pub mod CopyLaws
 pub mod Rooms
+pub mod TreeRecords
+pub mod Puts
+pub mod WrittenRecords

@@ -7,3 +7,5 @@ pub mod Lists
 pub mod Copies
 pub mod Faults
 pub mod NameMaps
+pub mod Writes
+pub mod StoreFaults

@@ -5,6 +5,7 @@ use Rattle.std.specs.Map.{lookup}
 use Rattle.std.specs.Ordering.{nat_cmp, is_lt}
 use Rattle.std.specs.Cmp.Lexicographic.{slice_cmp}
 use Rattle.std.specs.FinMap.Entries.{is_sorted}
+use Rattle.gx_model.specs.declared.objects.Mode.TheVariants.{Dir}
 use Rattle.gx_model.specs.Texts.{Bytes, same_bytes}
 use Rattle.gx_model.specs.Paths.{Path, is_component, path_cmp}
 use Rattle.gx_model.specs.Files.{FileMap, Leaf}
@@ -63,9 +64,9 @@ pub record IsInner (f : FileMap Bytes) : Type 0 where
   pub paths : IsTrue (list_all (λ e. is_inner_path e.0) f)
   pub sorted : IsTrue (is_sorted path_cmp f)
 
--- a directory below another has a file
+-- a file is no directory, and a directory below another has a file
 abbrev pub IsKept : Kept → Type 0
-IsKept (file x) = ⊤
+IsKept (file x) = x.0 ≢ Dir
 IsKept (folder f) = (f ≢ []) × IsInner f
 
 abbrev pub IsKeptAt : Option Kept → Type 0

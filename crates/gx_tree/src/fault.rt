@@ -1,6 +1,7 @@
 //! Why a tree refuses a call.
 ghost use Rattle.std.specs.Prelude.{◌≡◌};
 
+use gx_store::StoreFault;
 use std::alloc::AllocError;
 use thiserror::Error;
 
@@ -32,5 +33,19 @@ impl From<AllocError> for TreeFault {
 
     fn from(_error: AllocError) -> TreeFault {
         TreeFault::OutOfMemory
+    }
+}
+
+impl From<StoreFault> for TreeFault {
+    ghost use Rattle.std.specs.Prelude.{◌≡◌};
+    ghost use Rattle.gx_tree.specs.StoreFaults.{tree_fault};
+
+    ghost from_gives = { λ error fault. fault ≡ tree_fault error };
+
+    fn from(error: StoreFault) -> TreeFault {
+        match error {
+            StoreFault::OutOfMemory => TreeFault::OutOfMemory,
+            StoreFault::NameHeld => TreeFault::NameHeld,
+        }
     }
 }

@@ -8,6 +8,7 @@ mod edits;
 mod fault;
 mod listing;
 mod path_tree;
+mod writing;
 
 pub use fault::TreeFault;
 pub use path_tree::{Found, PathTree};

@@ -1,9 +1,10 @@
 //! Trees of files by their paths.
-ghost use Rattle.std.specs.Prelude.{◌≡◌, ◌≢◌, [], length, map, None, Ok, IfOk, OnErr, IsTrue};
+ghost use Rattle.std.specs.Prelude.{◌≡◌, ◌≢◌, [], length, map, take, None, Ok, IfOk, OnErr, IsTrue};
 ghost use Rattle.std.specs.Option.{option_map};
 ghost use Rattle.gx_model.specs.Edits.{copied, modified, removed, renamed};
 ghost use Rattle.gx_model.specs.Faults.{Gives};
 ghost use Rattle.gx_model.specs.Files.{sub_map};
+ghost use Rattle.gx_model.specs.Growth.{tree_records};
 ghost use Rattle.gx_model.specs.Objects.{is_name};
 ghost use Rattle.gx_tree.specs.Copies.{graft_fault, kept_held, option_held};
 ghost use Rattle.gx_tree.specs.Faults.{fault_of};
@@ -11,13 +12,15 @@ ghost use Rattle.gx_tree.specs.Lists.{listed};
 ghost use Rattle.gx_tree.specs.NameMaps.{IsNameMap};
 ghost use Rattle.gx_tree.specs.Nodes.{IsKept, IsKeptAt, kept_map, map_if};
 ghost use Rattle.gx_tree.specs.Steps.{grafted};
+ghost use Rattle.gx_tree.specs.Writes.{PutsAll, map_name};
 ghost use Rattle.gx_tree.specs.Standings.{standing_of, standing_at};
 ghost use Rattle.gx_model.specs.declared.objects.Mode.TheVariants as modes;
 
 use crate::copying::Held;
 use crate::directory::{Directory, Item};
 use crate::fault::TreeFault;
-use gx_object::{Mode, Name};
+use gx_object::{Mode, Name, Namer};
+use gx_store::Store;
 use gx_text::TreePath;
 use std::alloc::{AllocError, Allocator};
 use std::marker::Model;
@@ -140,6 +143,16 @@ impl<A: Allocator + Copy> PathTree<A> {
     {
         self.root = self.renamed_root(source, destination)?;
         Ok(())
+    }
+
+    pub fn write<N: Namer>(&mut self, store: &mut Store<N, A>) -> Result<Name, TreeFault>
+        ensures name { IfOk result (λ name. name.bytes ≡ map_name (N.name_of store.old.0) self.old) }
+        ensures records { PutsAll (tree_records (N.name_of store.old.0) self.old) store.old.1 store.new.1 result }
+        ensures front { take (length store.old.1) store.new.1 ≡ store.old.1 }
+        ensures namer { store.new.0 ≡ store.old.0 }
+        ensures map { self.new ≡ self.old }
+    {
+        self.root.write_into(self.alloc, store)
     }
 
     fn copied_root(

@@ -1,0 +1,37 @@
+-- What writing a tree puts into a store.
+use Rattle.std.specs.Prelude.{◌≡◌, List, [], Some, None, Result, Ok, Err, ⊤}
+use Rattle.gx_model.specs.declared.objects.Kind.{Kind}
+use Rattle.gx_model.specs.declared.objects.Kind.TheVariants as kind
+use Rattle.gx_model.specs.declared.objects.Mode.{Mode}
+use Rattle.gx_model.specs.declared.objects.Mode.TheVariants.{Dir}
+use Rattle.gx_model.specs.Texts.{Bytes}
+use Rattle.gx_model.specs.Files.{FileMap, Leaf}
+use Rattle.gx_model.specs.Records.{tree_body}
+use Rattle.gx_model.specs.Histories.{Record}
+use Rattle.gx_model.specs.Growth.{put_all, tree_records}
+use Rattle.gx_object.specs.declared.name.Name.{Name}
+use Rattle.gx_tree.specs.Nodes.{Kept, file, folder}
+use Rattle.gx_tree.specs.declared.fault.TreeFault.{TreeFault}
+use Rattle.gx_tree.specs.declared.fault.TreeFault.TheVariants.{OutOfMemory, NameHeld}
+
+module _ (name : Kind → Bytes → Bytes) where
+  -- the name of a map's tree
+  abbrev pub map_name : FileMap Bytes → Bytes
+  map_name g = name kind.Tree (tree_body name g)
+
+  -- what an entry is and names
+  abbrev pub kept_leaf : Kept → Leaf Bytes
+  kept_leaf (file x) = x
+  kept_leaf (folder g) = (Dir, map_name g)
+
+  -- the records of a directory's trees, and none of a file
+  abbrev pub kept_records : Kept → List Record
+  kept_records (file x) = []
+  kept_records (folder g) = tree_records name g
+
+-- these records are put, or one of them has the name of another
+abbrev pub PutsAll : {Y : Type 0} → List Record → List Record → List Record → Result Y TreeFault → Type 0
+PutsAll rs old new (Ok y) = put_all old rs ≡ Some new
+PutsAll rs old new (Err NameHeld) = put_all old rs ≡ None
+PutsAll rs old new (Err OutOfMemory) = ⊤
+PutsAll rs old new (Err f) = ⊥

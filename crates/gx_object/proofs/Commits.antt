@@ -1,14 +1,13 @@
 -- A decoded commit's body is the text of its parts, and the text of parts is decoded as them.
-use Rattle.std.proofs.Common.{◌≡◌, ℕ, Bool, true, false, cond, List, [], ◌∷◌, ◌++◌, length, Option, Some, None, Result, Ok, Err, refl, sym, ap, subst, ◌∙◌, arith, append_assoc}
-use Rattle.std.specs.Prelude.{codes, nat_eq, IsTrue, IfOk, IsOkAnd, ◌&&◌}
-use Rattle.std.specs.List.{list_all}
+use Rattle.std.proofs.Common.{◌≡◌, Bool, true, false, [], ◌∷◌, ◌++◌, length, Option, Some, None, Result, Ok, Err, refl, sym, ap, subst, ◌∙◌, arith, append_assoc}
+use Rattle.std.specs.Prelude.{codes, nat_eq, IfOk, IsOkAnd, ◌&&◌}
 use Rattle.std.specs.Result.{result_ok}
 use Rattle.std.proofs.lemmas.Bool.{and_from, and_parts, false≢true, ne_eqb}
 use Rattle.gx_model.specs.Texts.{Bytes, is_line}
 use Rattle.gx_model.specs.Idents.{is_ident}
-use Rattle.gx_model.specs.Values.{CommitText, is_optional_encoding, is_proper_text}
-use Rattle.gx_model.specs.Objects.{CommitParts, IsCommitText, commit_text, hex, is_name, line, optional_line, text_lines}
-use Rattle.gx_object.specs.Lines.{◌>>=◌, field, ident_field, name_field, or_absent, stripped}
+use Rattle.gx_model.specs.Values.{CommitText, is_optional_encoding}
+use Rattle.gx_model.specs.Objects.{CommitParts, IsCommitText, commit_text, hex, line, optional_line, text_lines}
+use Rattle.gx_object.specs.Lines.{field, ident_field, name_field, or_absent, stripped}
 use Rattle.gx_object.specs.Commits.{commit_of, encoding_field, parent_lines, parents_of}
 use Rattle.gx_object.proofs.Fields.{bind_some, refused_some, field_spelled, field_again, ident_spelled, ident_again, name_spelled, name_field_again, stripped_spelled, stripped_again}
 use Rattle.gx_object.proofs.Parents.{parents_spelled, parents_again}

@@ -184,11 +184,11 @@ unhex_small (a ∷ b ∷ x) h =
     let low = small_digit b q.0 in
     and_from _ _ (lt-ltb _ 256 (omega arith)) (unhex_small x q.1)
 
-hex_long : (x : Bytes) → length (hex x) ≡ 2 * length x
+pub hex_long : (x : Bytes) → length (hex x) ≡ 2 * length x
 hex_long [] = refl
 hex_long (b ∷ x) = let rest = hex_long x in omega arith
 
-hex_lower : (x : Bytes) → list_all (λ b. nat_lt b 256) x ≡ true → list_all is_lower_digit (hex x) ≡ true
+pub hex_lower : (x : Bytes) → list_all (λ b. nat_lt b 256) x ≡ true → list_all is_lower_digit (hex x) ≡ true
 hex_lower [] h = refl
 hex_lower (b ∷ x) h =
     let p = and_parts (nat_lt b 256) _ h in

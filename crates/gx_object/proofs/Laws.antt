@@ -1,15 +1,15 @@
 -- A decoded tree's body is the text of its entries, and the text of entries is decoded as them.
-use Rattle.std.proofs.Common.{◌≡◌, ℕ, zero, suc, ◌<◌, Bool, true, false, cond, List, [], ◌∷◌, ◌++◌, length, Option, Some, None, Result, Ok, Err, refl, sym, ap, subst, ◌∙◌, arith}
-use Rattle.std.specs.Prelude.{IsTrue, IfOk, IsOkAnd, ◌&&◌, nat_lt, nat_eq, slice_index}
-use Rattle.std.specs.List.{list_all, flat_map, AllByRecursion}
+use Rattle.std.proofs.Common.{◌≡◌, ℕ, zero, suc, Bool, true, false, cond, List, [], ◌∷◌, ◌++◌, length, Some, None, Result, Ok, Err, refl, sym, ap, subst, ◌∙◌}
+use Rattle.std.specs.Prelude.{IfOk, IsOkAnd, nat_lt, nat_eq}
+use Rattle.std.specs.List.{list_all, AllByRecursion}
 use Rattle.std.specs.Result.{result_ok}
-use Rattle.std.proofs.lemmas.Bool.{false≢true, and_from, and_parts, eq-eqb, eqb-true, lt-ltb}
+use Rattle.std.proofs.lemmas.Bool.{and_from, and_parts, eq-eqb, eqb-true}
 use Rattle.std.proofs.lemmas.List.Concat.{flat_map-cons}
 use Rattle.std.proofs.lemmas.List.Folds.{list_all-append}
 use Rattle.gx_model.specs.Texts.{Bytes, lacks}
 use Rattle.gx_model.specs.Paths.{is_component}
 use Rattle.gx_model.specs.Objects.{Entry, IsTreeText, entry_text, is_canonical, is_name, mode_text, tree_text}
-use Rattle.gx_object.specs.Trees.{◌>>=◌, entry_at, entries_within, entries_of, tree_of}
+use Rattle.gx_object.specs.Trees.{entry_at, entries_within, entries_of, tree_of}
 use Rattle.gx_object.proofs.Digits.{AreBytes, all_bytes}
 use Rattle.gx_object.proofs.Orders.{canonical_parts}
 use Rattle.gx_object.proofs.Bodies.{bind_some, some_is, Takes, entry_takes, entry_again, entries_step}

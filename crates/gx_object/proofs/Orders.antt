@@ -1,6 +1,6 @@
 -- The order as it is tested is the canonical one.
-use Rattle.std.proofs.Common.{◌≡◌, ℕ, zero, suc, ◌+◌, ◌-◌, ◌<◌, ◌≤◌, get_or, drop, add-one, Bool, true, false, not, List, [], ◌∷◌, ◌++◌, map, length, take, refl, sym, ap, subst, ◌∙◌, arith, Ordering, inl, inr}
-use Rattle.std.specs.Prelude.{◌&&◌, ◌||◌, nat_eq, IsTrue}
+use Rattle.std.proofs.Common.{◌≡◌, ℕ, zero, suc, ◌+◌, ◌-◌, ◌<◌, ◌≤◌, get_or, drop, add-one, true, false, not, List, [], ◌∷◌, ◌++◌, map, length, take, refl, sym, ap, subst, ◌∙◌, arith, Ordering, inl, inr}
+use Rattle.std.specs.Prelude.{◌&&◌, nat_eq}
 use Rattle.std.specs.List.{list_all, list_any, starts_with}
 use Rattle.std.specs.Ordering.{is_lt, nat_cmp, ordering_then}
 use Rattle.std.specs.declared.cmp.Ordering.TheVariants.{Less, Equal, Greater}
@@ -9,7 +9,7 @@ use Rattle.std.specs.FinMap.Entries.{is_sorted, below_all}
 use Rattle.std.proofs.Math.ListN.{drop_of_length-le}
 use Rattle.std.proofs.lemmas.List.{append-nil, take_rest}
 use Rattle.std.proofs.lemmas.Cmp.{nat_list_cmp_total, tied_itself}
-use Rattle.std.proofs.lemmas.Bool.{false≢true, true≢false, and_from, and_parts, or_cases, or_parts, or_left, or_right, false_from_ne_true, not-true, not_from_false, both_ways}
+use Rattle.std.proofs.lemmas.Bool.{false≢true, and_from, and_parts, or_cases, or_left, or_right, false_from_ne_true, not-true, not_from_false, both_ways}
 use Rattle.std.proofs.lemmas.Bool.Decides.{nat_tests, same_from_decides}
 use Rattle.gx_model.specs.declared.objects.Mode.{Mode}
 use Rattle.gx_model.specs.declared.objects.Mode.TheVariants.{File, Exec, Link, Gitlink, Dir}
@@ -18,7 +18,7 @@ use Rattle.gx_model.specs.Paths.{is_component}
 use Rattle.gx_model.specs.Objects.{Entry, are_different, entry_key, is_canonical, is_dir}
 use Rattle.gx_object.specs.declared.entry.Entry.{Entry as Read}
 use Rattle.gx_object.specs.Entries.{mark_of, shown}
-use Rattle.gx_object.specs.Order.{are_ordered, comes_before, is_repeated, leads, meets, precedes}
+use Rattle.gx_object.specs.Order.{are_ordered, is_repeated, leads, meets, precedes}
 
 abbrev order : Bytes → Bytes → Ordering
 order = slice_cmp nat_cmp

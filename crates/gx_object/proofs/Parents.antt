@@ -1,9 +1,9 @@
 -- The lines of a commit's parents: what is read stands there, the lines of names are read as them, and each has its place.
-use Rattle.std.proofs.Common.{◌≡◌, ℕ, zero, suc, ◌+◌, ◌-◌, ◌*◌, ◌/◌, ◌<◌, ◌≤◌, true, List, [], ◌∷◌, ◌++◌, length, take, drop, Option, Some, None, refl, sym, ap, subst, ◌∙◌, arith, append_assoc}
-use Rattle.std.specs.Prelude.{nat_eq, codes, slice_get}
-use Rattle.std.specs.List.{list_all, flat_map}
+use Rattle.std.proofs.Common.{◌≡◌, ℕ, zero, suc, ◌+◌, ◌*◌, ◌<◌, ◌≤◌, true, List, [], ◌∷◌, ◌++◌, length, take, drop, Option, Some, None, refl, sym, ap, ◌∙◌, arith, append_assoc}
+use Rattle.std.specs.Prelude.{codes, slice_get}
+use Rattle.std.specs.List.{list_all}
 use Rattle.std.proofs.lemmas.Bool.{and_from, and_parts}
-use Rattle.std.proofs.lemmas.List.{append-nil, length-append, take_at, drop_at}
+use Rattle.std.proofs.lemmas.List.{append-nil, length-append, take_at}
 use Rattle.std.proofs.Math.Seq.{drop-append-add}
 use Rattle.std.proofs.lemmas.List.Concat.{flat_map-cons}
 use Rattle.gx_model.specs.Texts.{Bytes}
@@ -12,7 +12,7 @@ use Rattle.gx_model.specs.Naming.{lower_name_in}
 use Rattle.gx_object.specs.Lines.{field, name_field, stripped}
 use Rattle.gx_object.specs.Commits.{AreParents, parent_lines, parents_of, parents_within, with_first}
 use Rattle.gx_object.proofs.Digits.{name_again, name_long}
-use Rattle.gx_object.proofs.Fields.{HasName, name_spelled, name_field_again}
+use Rattle.gx_object.proofs.Fields.{name_spelled, name_field_again}
 
 abbrev parent : Bytes → Bytes
 parent name = line (codes "parent") (hex name)

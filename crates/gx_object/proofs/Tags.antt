@@ -1,17 +1,16 @@
 -- A decoded tag's body is the text of its parts, and the text of parts is decoded as them.
-use Rattle.std.proofs.Common.{◌≡◌, ℕ, suc, ◌-◌, ◌<◌, length-append, Bool, true, false, cond, not, List, [], ◌∷◌, ◌++◌, length, drop, Option, Some, None, Result, Ok, Err, refl, sym, ap, subst, ◌∙◌, arith, append_assoc}
-use Rattle.std.specs.Prelude.{codes, nat_eq, IsTrue, IfOk, IsOkAnd, ◌&&◌, ◌||◌}
+use Rattle.std.proofs.Common.{◌≡◌, ℕ, suc, ◌-◌, ◌<◌, length-append, Bool, true, false, not, [], ◌∷◌, ◌++◌, length, drop, Option, Some, None, Result, Ok, Err, refl, sym, ap, subst, ◌∙◌, arith}
+use Rattle.std.specs.Prelude.{codes, nat_eq, IfOk, IsOkAnd, ◌&&◌, ◌||◌}
 use Rattle.std.specs.List.{list_all, ends_with}
 use Rattle.std.specs.Result.{result_ok}
 use Rattle.std.specs.Cmp.Lexicographic.{bytes_decides, pointwise}
 use Rattle.gx_model.specs.Texts.{Bytes, has_pair, same_bytes}
-use Rattle.gx_model.specs.Idents.{is_ident}
 use Rattle.gx_model.specs.RefNames.{is_ref_byte, is_ref_component, is_ref_name, is_tag_name, ref_components, tag_ref}
 use Rattle.gx_model.specs.Values.{is_optional_ident}
-use Rattle.gx_model.specs.Objects.{IsTagText, TagParts, hex, is_name, line, optional_line, tag_text}
+use Rattle.gx_model.specs.Objects.{IsTagText, TagParts, hex, line, optional_line, tag_text}
 use Rattle.gx_model.proofs.BodiesReadBack.{tag_text_flat}
 use Rattle.gx_model.proofs.LineTexts.{tag_is_line}
-use Rattle.gx_object.specs.Lines.{◌>>=◌, field, ident_field, name_field, or_absent, stripped}
+use Rattle.gx_object.specs.Lines.{field, ident_field, name_field, or_absent, stripped}
 use Rattle.gx_object.specs.Tags.{tag_field, tag_of}
 use Rattle.gx_object.proofs.Fields.{bind_some, test_some, field_spelled, field_again, ident_spelled, ident_again, name_spelled, name_field_again, stripped_spelled, stripped_again}
 use Rattle.gx_object.proofs.Commits.{HasOptional}

@@ -1,5 +1,5 @@
 -- The body of a commit, read from the left.
-use Rattle.std.specs.Prelude.{◌≡◌, ℕ, zero, suc, nat_eq, if◌then◌else◌, List, [], ◌∷◌, length, codes, map, Option, None, Some, IsTrue}
+use Rattle.std.specs.Prelude.{◌≡◌, ℕ, zero, suc, nat_eq, if◌then◌else◌, List, [], ◌∷◌, length, codes, Option, None, Some, IsTrue}
 use Rattle.std.specs.List.{flat_map, list_all}
 use Rattle.gx_model.specs.Texts.{Bytes}
 use Rattle.gx_model.specs.Objects.{CommitParts, hex, is_name, line}

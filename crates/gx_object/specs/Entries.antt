@@ -1,7 +1,7 @@
 -- An entry without where its component lies in memory, and what its mode adds to the component in the order.
 use Rattle.std.specs.Prelude.{[], codes}
 use Rattle.gx_model.specs.declared.objects.Mode.{Mode}
-use Rattle.gx_model.specs.declared.objects.Mode.TheVariants.{File, Exec, Link, Gitlink, Dir}
+use Rattle.gx_model.specs.declared.objects.Mode.TheVariants.{Dir}
 use Rattle.gx_model.specs.Texts.{Bytes}
 use Rattle.gx_model.specs.Objects.{Entry as TreeEntry}
 use Rattle.gx_object.specs.declared.entry.Entry.{Entry}

@@ -1,5 +1,5 @@
 -- The lines of a commit's or a tag's body, read from the left: a word, a space, and the rest of the line.
-use Rattle.std.specs.Prelude.{ℕ, zero, suc, nat_eq, if◌then◌else◌, List, [], ◌∷◌, length, take, drop, Option, None, Some}
+use Rattle.std.specs.Prelude.{nat_eq, if◌then◌else◌, [], ◌∷◌, length, take, drop, Option, None, Some}
 use Rattle.std.specs.Cmp.Lexicographic.{pointwise}
 use Rattle.std.specs.Option.{option_and_then}
 use Rattle.gx_model.specs.Texts.{Bytes, cut_at}

@@ -1,8 +1,6 @@
 -- The parts of commits and tags without where they lie in memory.
-use Rattle.std.specs.Prelude.{map, Option}
+use Rattle.std.specs.Prelude.{map}
 use Rattle.std.specs.Option.{option_map}
-use Rattle.std.specs.Borrow.{Bor}
-use Rattle.gx_model.specs.Texts.{Bytes}
 use Rattle.gx_model.specs.Objects.{CommitParts, TagParts}
 use Rattle.gx_text.specs.Idents.{ident_bytes}
 use Rattle.gx_object.specs.declared.commit.CommitParts.{CommitParts as GivenCommit}

@@ -148,3 +148,6 @@ fn split_tagger(bytes: &[u8]) -> (Option<&[u8]>, &[u8])
         None => (None, bytes),
     }
 }
+
+#[cfg(test)]
+mod tests;

@@ -160,3 +160,6 @@ fn meets(component: &[u8], others: TreeEntries<'_>) -> bool
     }
     false
 }
+
+#[cfg(test)]
+mod tests;

@@ -1,6 +1,5 @@
-use Rattle.std.proofs.Common.{◌≡◌, ◌+◌, ◌-◌, ◌<◌, ◌≤◌, length, take, sym, ap, ◌∙◌, arith, refl}
+use Rattle.std.proofs.Common.{◌≡◌, ◌-◌, length, take, sym, ap, ◌∙◌, arith, refl}
 use Rattle.std.proofs.lemmas.List.{length-append, take_at}
-use Rattle.gx_model.specs.Texts.{Bytes}
 use Rattle.gx_object.specs.Commits.{parent_lines, parents_of}
 use Rattle.gx_object.proofs.Parents.{after_shorter, parents_step, parents_end, parents_spelled}
 use Rattle.gx_object.proofs.commit.split_parents.Goals as goal

@@ -1,8 +1,6 @@
-use Rattle.std.proofs.Common.{rules, tests, refl, sym, ◌∙◌, ap, arith, ◌<◌, length}
+use Rattle.std.proofs.Common.{sym, ◌∙◌, ap, arith, ◌<◌, length}
 use Rattle.std.specs.Option.{is_some}
 use Rattle.std.proofs.lemmas.Bool.Decides.{nat_tests}
-use Rattle.std.proofs.lemmas.List.{nil_from_length}
-use Rattle.std.proofs.lemmas.Bool.{eqb-true}
 use Rattle.gx_object.specs.Entries.{shown}
 use Rattle.gx_object.proofs.Bodies.{is_some-step, entries_stop, entry_shorter, no_entries}
 use Rattle.gx_object.proofs.tree.are_entries.Goals as goal

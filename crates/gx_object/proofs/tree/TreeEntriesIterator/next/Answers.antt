@@ -1,4 +1,4 @@
-use Rattle.std.proofs.Common.{rules, ◌≡◌, List, [], sym, ◌∙◌, arith}
+use Rattle.std.proofs.Common.{◌≡◌, [], sym, ◌∙◌}
 use Rattle.gx_object.specs.Entries.{shown}
 use Rattle.gx_object.proofs.Bodies.{is_some-step, left-step, left-end, goes-on}
 use Rattle.gx_object.proofs.tree.TreeEntriesIterator.next.Goals as goal

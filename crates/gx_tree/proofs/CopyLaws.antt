@@ -8,7 +8,7 @@ use Rattle.gx_model.specs.declared.faults.Fault.TheVariants as model
 use Rattle.gx_model.specs.Texts.{Bytes}
 use Rattle.gx_model.specs.Paths.{Path, begins, path_cmp}
 use Rattle.gx_model.specs.Files.{FileMap, Leaf, file_at, sub_map, under}
-use Rattle.gx_model.specs.Edits.{copied, copy_fault, moved, or_fault, removed, renamed, with_all, without, without_line}
+use Rattle.gx_model.specs.Edits.{copied, copy_fault, moved, removed, renamed, with_all, without, without_line, unless}
 use Rattle.gx_model.proofs.FoundFiles.{at_moved}
 use Rattle.gx_tree.specs.Copies.{graft_fault, is_file}
 use Rattle.gx_tree.specs.Lists.{below}
@@ -64,20 +64,20 @@ copy_fault_is f s d k e h =
     let m : moved s d (under s f) ≡ below d (kept_map k) = moved_is s d (under s f) ∙ ap (below d) e in
     rw (a, b, m) refl
 
-pub copied_is : (f : FileMap Bytes) (s d : Path) (k : Kept) → sub_map f s ≡ kept_map k → IsKept k → copied f s d ≡ or_fault (graft_fault k d) (grafted d (kept_map k) f)
+pub copied_is : (f : FileMap Bytes) (s d : Path) (k : Kept) → sub_map f s ≡ kept_map k → IsKept k → copied f s d ≡ unless (graft_fault k d) (grafted d (kept_map k) f)
 copied_is f s d k e h =
-    ap (λ g. or_fault (copy_fault f s d) (with_all g (without_line d f))) (moved_is s d (under s f) ∙ ap (below d) e)
-    ∙ ap (λ o. or_fault o (grafted d (kept_map k) f)) (copy_fault_is f s d k e h)
+    ap (λ g. unless (copy_fault f s d) (with_all g (without_line d f))) (moved_is s d (under s f) ∙ ap (below d) e)
+    ∙ ap (λ o. unless o (grafted d (kept_map k) f)) (copy_fault_is f s d k e h)
 
-pub renamed_is : (f : FileMap Bytes) (s d : Path) (k : Kept) → sub_map f s ≡ kept_map k → IsKept k → renamed f s d ≡ or_fault (graft_fault k d) (grafted d (kept_map k) (removed f s))
+pub renamed_is : (f : FileMap Bytes) (s d : Path) (k : Kept) → sub_map f s ≡ kept_map k → IsKept k → renamed f s d ≡ unless (graft_fault k d) (grafted d (kept_map k) (removed f s))
 renamed_is f s d k e h =
-    ap (λ g. or_fault (copy_fault f s d) (with_all g (without_line d (without s f)))) (moved_is s d (under s f) ∙ ap (below d) e)
-    ∙ ap (λ o. or_fault o (grafted d (kept_map k) (removed f s))) (copy_fault_is f s d k e h)
+    ap (λ g. unless (copy_fault f s d) (with_all g (without_line d (without s f)))) (moved_is s d (under s f) ∙ ap (below d) e)
+    ∙ ap (λ o. unless o (grafted d (kept_map k) (removed f s))) (copy_fault_is f s d k e h)
 
-pub refused_by : (o : Option Fault) (x : TreeFault) (g : FileMap Bytes) → Some (fault_of x) ≡ o → IsFaultOf (fault_of x) (or_fault o g)
-refused_by o x g e = subst (λ r. IsFaultOf (fault_of x) (or_fault r g)) e (itself (fault_of x) g)
+pub refused_by : (o : Option Fault) (x : TreeFault) (g : FileMap Bytes) → Some (fault_of x) ≡ o → IsFaultOf (fault_of x) (unless o g)
+refused_by o x g e = subst (λ r. IsFaultOf (fault_of x) (unless r g)) e (itself (fault_of x) g)
   where
-    itself : (f : Fault) (g : FileMap Bytes) → IsFaultOf f (or_fault (Some f) g)
+    itself : (f : Fault) (g : FileMap Bytes) → IsFaultOf f (unless (Some f) g)
     itself model.OutOfMemory g = tt
     itself model.NoSuchPath g = refl
     itself model.RootNotTree g = refl

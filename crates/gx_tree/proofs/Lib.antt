@@ -15,3 +15,5 @@ pub mod Rooms
 pub mod TreeRecords
 pub mod Puts
 pub mod WrittenRecords
+pub mod LevelsOf
+pub mod HeldLevels

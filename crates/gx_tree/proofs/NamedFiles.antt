@@ -74,7 +74,7 @@ each-with_all : (P : Leaf Bytes → Type 0) (g f : FileMap Bytes) → AllByRecur
 each-with_all P [] f h k = k
 each-with_all P (e ∷ g) f h k = each-put P e.0 e.1 (with_all g f) h.0 (each-with_all P g f h.1 k)
 
-each-off : (P : Leaf Bytes → Type 0) (n : ℕ) (f : FileMap Bytes) → AllByRecursion (λ e. P e.1) f → AllByRecursion (λ (e : Path × Leaf Bytes). P e.1) (map (λ e. (drop n e.0, e.1)) f)
+pub each-off : (P : Leaf Bytes → Type 0) (n : ℕ) (f : FileMap Bytes) → AllByRecursion (λ e. P e.1) f → AllByRecursion (λ (e : Path × Leaf Bytes). P e.1) (map (λ e. (drop n e.0, e.1)) f)
 each-off P n [] h = tt
 each-off P n (e ∷ f) h = (h.0, each-off P n f h.1)
 

@@ -1,5 +1,5 @@
 -- Putting records one after the other.
-use Rattle.std.proofs.Common.{◌≡◌, ℕ, ◌+◌, ◌≤◌, Bool, true, false, cond, List, [], ◌∷◌, ◌++◌, length, take, Option, Some, None, refl, sym, ap, ◌∙◌, subst, arith}
+use Rattle.std.proofs.Common.{◌≡◌, ◌≤◌, true, false, cond, List, [], ◌∷◌, ◌++◌, length, take, Option, Some, None, refl, sym, ap, ◌∙◌, arith}
 use Rattle.std.proofs.lemmas.List.{take-append-le, length-take, take_all, take-take}
 use Rattle.gx_model.specs.Histories.{Record}
 use Rattle.gx_model.specs.Growth.{and_some, put, put_all, put_under, record_named, same_object}
@@ -42,9 +42,9 @@ front_trans old mid new h k =
 front_under : (o : Option Record) (old new : List Record) (r : Record) → put_under o old r ≡ Some new → take (length old) new ≡ old
 front_under None old new r h = let e : old ++ r ∷ [] ≡ new = cc in ap (take (length old)) (sym e) ∙ take-append-le (length old) old (r ∷ []) (omega arith) ∙ front_itself old
 front_under (Some s) old new r h = elim (same_object s r) as (λ b. cond b (Some old) None ≡ Some new → take (length old) new ≡ old) [
-    | true ↦ λ k. let e : new ≡ old = cc in front_same old new e
-    | false ↦ λ k. cc
-  ] h
+  | true ↦ λ k. let e : new ≡ old = cc in front_same old new e
+  | false ↦ λ k. cc
+] h
 
 pub front_put : (old new : List Record) (r : Record) → put old r ≡ Some new → take (length old) new ≡ old
 front_put old new r h = front_under (record_named old r.name) old new r h

@@ -32,7 +32,7 @@ same_test a b m n f g = elim (leb_tells a m) [
 text_after : (p q : Path) (used room : ℕ) → length (path_text p) ≡ used + 1 + length (path_text q) → used < room → nat_le (length (path_text p)) room ≡ nat_le (length (path_text q)) (room - used - 1)
 text_after p q used room e l = same_test (length (path_text p)) (length (path_text q)) room (room - used - 1) (λ h. omega (arith, e, h, l)) (λ h. omega (arith, e, h, l))
 
-child_length : (c : Bytes) (q : Path) → is_inner_path q ≡ true → length (path_text (c ∷ q)) ≡ length c + 1 + length (path_text q)
+pub child_length : (c : Bytes) (q : Path) → is_inner_path q ≡ true → length (path_text (c ∷ q)) ≡ length c + 1 + length (path_text q)
 child_length c [] h = absurd (false≢true h)
 child_length c (d ∷ q) h = omega (arith, length-append c (47 ∷ path_text (d ∷ q)))
 

@@ -1,24 +1,22 @@
 -- The records of a directory's trees, by its entries.
-use Rattle.std.proofs.Common.{◌≡◌, ◌≢◌, ℕ, zero, suc, ◌+◌, ◌≤◌, Bool, true, false, cond, not, ◌&&◌, ◌||◌, List, [], ◌∷◌, ◌++◌, map, length, drop, Option, Some, None, ◌⊎◌, inl, inr, refl, sym, ap, ◌∙◌, subst, arith, append_assoc, append-nil}
-use Rattle.std.specs.Prelude.{is_none, max}
+use Rattle.std.proofs.Common.{◌≡◌, ◌≢◌, ℕ, zero, suc, ◌≤◌, true, false, cond, List, [], ◌∷◌, ◌++◌, map, length, Option, Some, None, inl, inr, refl, sym, ap, ◌∙◌, arith, append-nil}
+use Rattle.std.specs.Prelude.{is_none}
 use Rattle.std.specs.List.{filter, flat_map, list_all, list_any, AllByRecursion}
-use Rattle.std.specs.Ordering.{is_lt, nat_cmp}
+use Rattle.std.specs.Ordering.{nat_cmp}
 use Rattle.std.specs.Cmp.Lexicographic.{slice_cmp}
 use Rattle.std.specs.FinMap.Entries.{below_all, is_sorted}
 use Rattle.std.proofs.lemmas.List.{map-append}
 use Rattle.std.proofs.lemmas.Bool.{and_from, and_parts, or_from, false≢true, not_from_false}
 use Rattle.gx_model.specs.declared.objects.Kind.{Kind}
-use Rattle.gx_model.specs.declared.objects.Kind.TheVariants as kind
 use Rattle.gx_model.specs.declared.objects.Mode.{Mode}
 use Rattle.gx_model.specs.declared.objects.Mode.TheVariants.{File, Exec, Link, Gitlink, Dir}
 use Rattle.gx_model.specs.Texts.{Bytes, same_bytes}
-use Rattle.gx_model.specs.Paths.{Path, begins, is_component}
-use Rattle.gx_model.specs.Files.{FileMap, Leaf, depth, file_at, first_component, first_components, sub_map, under, with_first}
+use Rattle.gx_model.specs.Paths.{Path, is_component}
+use Rattle.gx_model.specs.Files.{FileMap, Leaf, depth, file_at, first_components, sub_map, with_first}
 use Rattle.gx_model.specs.HistoryOf.{placed}
-use Rattle.gx_model.specs.Objects.{Entry, are_different, entry_key, is_canonical, is_dir, tree_text}
-use Rattle.gx_model.specs.Records.{entries, entry, node, tree_body, tree_entries}
+use Rattle.gx_model.specs.Objects.{Entry, are_different, entry_key, is_canonical, is_dir}
+use Rattle.gx_model.specs.Records.{entries, entry, node}
 use Rattle.gx_model.specs.Values.{sub_maps}
-use Rattle.gx_model.specs.Histories.{Record}
 use Rattle.gx_model.specs.Growth.{all_trees, all_trees_to, tree_record, tree_records}
 use Rattle.gx_model.proofs.TreeBodies.{depth_sub, unrolled}
 use Rattle.gx_tree.specs.Nodes.{Kept, Level, IsAfter, IsKept, IsLevel, file, files, folder, is_inner_path, kept_at, kept_map, key, map_if}
@@ -88,7 +86,7 @@ module _ (name : Kind → Bytes → Bytes) where
   entries_among es [] h a = refl
   entries_among es (f ∷ fs) h a =
       let one : node name (file_at (files es) (f.0 ∷ [])) (map_name name (sub_map (files es) (f.0 ∷ []))) ≡ kept_leaf name f.1 =
-          rw (file_at-files f.0 [] es h, sub_map-files f.0 [] es h, a.0.0, sub_map-whole (kept_map f.1)) (node_kept f.1 a.0.1) in
+      rw (file_at-files f.0 [] es h, sub_map-files f.0 [] es h, a.0.0, sub_map-whole (kept_map f.1)) (node_kept f.1 a.0.1) in
       let rest = entries_among es fs h a.1 in
       λ i. entry name f.0 (one i) ∷ rest i
 
@@ -147,13 +145,13 @@ module _ (name : Kind → Bytes → Bytes) where
 inner_more : (c : Bytes) (p : Path) (x : Leaf Bytes) (f : FileMap Bytes) → is_inner_path p ≡ true → (file_at f (c ∷ []) ≡ None → AreInner (sub_map f (c ∷ []))) → file_at ((p, x) ∷ f) (c ∷ []) ≡ None → AreInner (sub_map ((p, x) ∷ f) (c ∷ []))
 inner_more c [] x f k ih n = absurd (false≢true k)
 inner_more c (d ∷ []) x f k ih n = elim (cases_bytes c d) [
-    | inl s ↦ let clash : Some x ≡ None = rw (bytes_same c d s) at n in cc
-    | inr s ↦ rw s (ih (rw s at n))
-  ]
+  | inl s ↦ let clash : Some x ≡ None = rw (bytes_same c d s) at n in cc
+  | inr s ↦ rw s (ih (rw s at n))
+]
 inner_more c (d ∷ e ∷ p) x f k ih n = elim (cases_bytes c d) [
-    | inl s ↦ rw (bytes_same c d s) (and_from _ _ (and_parts _ _ k).1 (ih (rw (bytes_same c d s) at n)))
-    | inr s ↦ rw s (ih (rw s at n))
-  ]
+  | inl s ↦ rw (bytes_same c d s) (and_from _ _ (and_parts _ _ k).1 (ih (rw (bytes_same c d s) at n)))
+  | inr s ↦ rw s (ih (rw s at n))
+]
 
 sub_inner : (c : Bytes) (f : FileMap Bytes) → AreInner f → file_at f (c ∷ []) ≡ None → AreInner (sub_map f (c ∷ []))
 sub_inner c [] h n = refl

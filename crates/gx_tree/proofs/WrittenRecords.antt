@@ -1,5 +1,5 @@
 -- Writing a directory's trees, entry by entry.
-use Rattle.std.proofs.Common.{◌≡◌, ℕ, ◌+◌, ◌<◌, ◌≤◌, List, [], ◌∷◌, ◌++◌, map, length, get_or, drop, take, Option, Some, None, refl, sym, ap, ◌∙◌, subst, arith, append_assoc}
+use Rattle.std.proofs.Common.{◌≡◌, ℕ, ◌+◌, ◌<◌, ◌≤◌, List, [], ◌∷◌, ◌++◌, map, length, get_or, drop, take, Some, None, sym, ap, ◌∙◌, subst, append_assoc}
 use Rattle.std.specs.Prelude.{Result, Ok, Err, IsErr, IsErrAnd}
 use Rattle.std.specs.List.{flat_map}
 use Rattle.std.proofs.lemmas.List.{append-nil, drop_all, map_more, take-append-drop, take_all, map-append}
@@ -10,7 +10,7 @@ use Rattle.gx_model.specs.declared.objects.Kind.TheVariants as kind
 use Rattle.gx_model.specs.Texts.{Bytes}
 use Rattle.gx_model.specs.Files.{FileMap}
 use Rattle.gx_model.specs.Objects.{Entry as TreeEntry, IsTreeText, tree_text}
-use Rattle.gx_model.specs.Records.{entries, tree_body}
+use Rattle.gx_model.specs.Records.{tree_body}
 use Rattle.gx_model.specs.Histories.{Record}
 use Rattle.gx_model.specs.Growth.{put, put_all, tree_record, tree_records}
 use Rattle.gx_store.specs.Stores.{Puts, record_for}
@@ -19,13 +19,13 @@ use Rattle.gx_store.specs.declared.fault.StoreFault.TheVariants as store
 use Rattle.gx_tree.specs.Nodes.{IsLevel, files}
 use Rattle.gx_tree.specs.StoreFaults.{tree_fault}
 use Rattle.gx_tree.specs.Views.{kept, seen, seen_all}
-use Rattle.gx_tree.specs.Writes.{PutsAll, kept_records, map_name}
+use Rattle.gx_tree.specs.Writes.{PutsAll, kept_records}
 use Rattle.gx_tree.specs.declared.directory.Entry.{Entry}
 use Rattle.gx_tree.specs.declared.fault.TreeFault.{TreeFault}
 use Rattle.gx_tree.specs.declared.fault.TreeFault.TheVariants.{OutOfMemory, NoSuchPath, RootNotTree, PathTooLong, NameHeld}
 use Rattle.gx_tree.proofs.Copies.{seen_more}
 use Rattle.gx_tree.proofs.Levels.{IsInner-files}
-use Rattle.gx_tree.proofs.Puts.{front_put, front_trans, put_all_more, put_all_stops, put_none, put_one}
+use Rattle.gx_tree.proofs.Puts.{front_trans, put_all_more, put_all_stops, put_none, put_one}
 use Rattle.gx_tree.proofs.TreeRecords.{entries-files, kept_entry, tree_records-files}
 
 module _ (name : Kind → Bytes → Bytes) where
@@ -69,10 +69,10 @@ module _ (name : Kind → Bytes → Bytes) where
   writing_stops {f} Y Z es xs i r out old mid new new' NameHeld l ir ex view level p h =
       let level' : IsLevel (seen_all xs) = subst (λ z. IsLevel (seen_all z)) (sym ex) level in
       let all : tree_records name (files (seen_all xs)) ≡ level_records (take i xs) ++ (kept_records name (kept r.item) ++ (level_records (drop (i + 1) xs) ++ tree_record name (files (seen_all xs)) ∷ [])) =
-        whole xs level'
-        ∙ ap (λ z. z ++ tree_record name (files (seen_all xs)) ∷ []) (records_split xs i r l ir)
-        ∙ append_assoc (level_records (take i xs)) (kept_records name (kept r.item) ++ level_records (drop (i + 1) xs)) (tree_record name (files (seen_all xs)) ∷ [])
-        ∙ ap (λ z. level_records (take i xs) ++ z) (append_assoc (kept_records name (kept r.item)) (level_records (drop (i + 1) xs)) (tree_record name (files (seen_all xs)) ∷ [])) in
+      whole xs level'
+      ∙ ap (λ z. z ++ tree_record name (files (seen_all xs)) ∷ []) (records_split xs i r l ir)
+      ∙ append_assoc (level_records (take i xs)) (kept_records name (kept r.item) ++ level_records (drop (i + 1) xs)) (tree_record name (files (seen_all xs)) ∷ [])
+      ∙ ap (λ z. level_records (take i xs) ++ z) (append_assoc (kept_records name (kept r.item)) (level_records (drop (i + 1) xs)) (tree_record name (files (seen_all xs)) ∷ [])) in
       ap (λ z. put_all old (tree_records name z)) (sym view ∙ ap (λ z. files (seen_all z)) (sym ex)) ∙ ap (put_all old) all
       ∙ put_all_stops old mid (level_records (take i xs)) (kept_records name (kept r.item)) (level_records (drop (i + 1) xs) ++ tree_record name (files (seen_all xs)) ∷ []) h.puts p
   writing_stops Y Z es xs i r out old mid new new' NoSuchPath l ir ex view level p h = absurd p

@@ -8,4 +8,5 @@ pub mod Copies
 pub mod Faults
 pub mod NameMaps
 pub mod Writes
+pub mod HeldTrees
 pub mod StoreFaults

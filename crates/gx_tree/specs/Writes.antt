@@ -2,14 +2,12 @@
 use Rattle.std.specs.Prelude.{◌≡◌, List, [], Some, None, Result, Ok, Err, ⊤}
 use Rattle.gx_model.specs.declared.objects.Kind.{Kind}
 use Rattle.gx_model.specs.declared.objects.Kind.TheVariants as kind
-use Rattle.gx_model.specs.declared.objects.Mode.{Mode}
 use Rattle.gx_model.specs.declared.objects.Mode.TheVariants.{Dir}
 use Rattle.gx_model.specs.Texts.{Bytes}
 use Rattle.gx_model.specs.Files.{FileMap, Leaf}
 use Rattle.gx_model.specs.Records.{tree_body}
 use Rattle.gx_model.specs.Histories.{Record}
 use Rattle.gx_model.specs.Growth.{put_all, tree_records}
-use Rattle.gx_object.specs.declared.name.Name.{Name}
 use Rattle.gx_tree.specs.Nodes.{Kept, file, folder}
 use Rattle.gx_tree.specs.declared.fault.TreeFault.{TreeFault}
 use Rattle.gx_tree.specs.declared.fault.TreeFault.TheVariants.{OutOfMemory, NameHeld}

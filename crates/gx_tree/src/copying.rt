@@ -17,7 +17,7 @@ use gx_text::TreePath;
 use std::alloc::{AllocError, Allocator};
 
 /// The bytes of the longest path.
-const MOST_BYTES: usize = 4095;
+pub(crate) const MOST_BYTES: usize = 4095;
 
 /// What stands at a path: a file, or a directory with files.
 #[derive(Drop)]

@@ -7,6 +7,7 @@ mod directory;
 mod edits;
 mod fault;
 mod listing;
+mod loading;
 mod path_tree;
 mod writing;
 

@@ -3,11 +3,13 @@ ghost use Rattle.std.specs.Prelude.{◌≡◌, ◌≢◌, [], length, map, take,
 ghost use Rattle.std.specs.Option.{option_map};
 ghost use Rattle.gx_model.specs.Edits.{copied, modified, removed, renamed};
 ghost use Rattle.gx_model.specs.Faults.{Gives};
-ghost use Rattle.gx_model.specs.Files.{sub_map};
+ghost use Rattle.gx_model.specs.Files.{FileMap, sub_map};
+ghost use Rattle.gx_model.specs.Texts.{Bytes};
 ghost use Rattle.gx_model.specs.Growth.{tree_records};
 ghost use Rattle.gx_model.specs.Objects.{is_name};
 ghost use Rattle.gx_tree.specs.Copies.{graft_fault, kept_held, option_held};
 ghost use Rattle.gx_tree.specs.Faults.{fault_of};
+ghost use Rattle.gx_tree.specs.HeldTrees.{IsHeldTree};
 ghost use Rattle.gx_tree.specs.Lists.{listed};
 ghost use Rattle.gx_tree.specs.NameMaps.{IsNameMap};
 ghost use Rattle.gx_tree.specs.Nodes.{IsKept, IsKeptAt, kept_map, map_if};
@@ -16,7 +18,7 @@ ghost use Rattle.gx_tree.specs.Writes.{PutsAll, map_name};
 ghost use Rattle.gx_tree.specs.Standings.{standing_of, standing_at};
 ghost use Rattle.gx_model.specs.declared.objects.Mode.TheVariants as modes;
 
-use crate::copying::Held;
+use crate::copying::{Held, MOST_BYTES};
 use crate::directory::{Directory, Item};
 use crate::fault::TreeFault;
 use gx_object::{Mode, Name, Namer};
@@ -61,6 +63,18 @@ impl<A: Allocator + Copy> PathTree<A> {
             root: Directory::new(alloc),
             alloc,
         }
+    }
+
+    pub fn load<N: Namer>(
+        alloc: A,
+        store: &Store<N, A>,
+        name: &Name,
+    ) -> Result<PathTree<A>, TreeFault>
+        requires { (g : FileMap Bytes) × IsHeldTree (N.name_of store.now.0) store.now.1 name.now.bytes g }
+        ensures files { (g : FileMap Bytes) → IsHeldTree (N.name_of store.now.0) store.now.1 name.now.bytes g → Gives fault_of (λ tree. tree) result (Ok g) }
+    {
+        let root = Directory::load(alloc, store, name, MOST_BYTES)?;
+        Ok(PathTree { root, alloc })
     }
 
     /// Removes each file. Takes no memory.

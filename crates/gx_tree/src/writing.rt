@@ -13,7 +13,11 @@ use std::alloc::Allocator;
 impl<A: Allocator + Copy> Directory<A> {
     /// Puts the trees at and below the directory, and answers the name of its own.
     #[cycle(write)]
-    pub(crate) fn write_into<N: Namer>(&self, alloc: A, store: &mut Store<N, A>) -> Result<Name, TreeFault>
+    pub(crate) fn write_into<N: Namer>(
+        &self,
+        alloc: A,
+        store: &mut Store<N, A>,
+    ) -> Result<Name, TreeFault>
         ensures namer { store.new.0 ≡ store.old.0 }
         ensures name { IfOk result (λ name. name.bytes ≡ map_name (N.name_of store.old.0) self.now) }
         ensures puts { PutsAll (tree_records (N.name_of store.old.0) self.now) store.old.1 store.new.1 result }
@@ -23,7 +27,11 @@ impl<A: Allocator + Copy> Directory<A> {
         for entry in &self.entries {
             let (mode, name) = entry.item.write_into(alloc, store)?;
             let component = entry.component.as_slice();
-            let Ok(()) = entries.push(Entry { mode, component, name }) else {
+            let Ok(()) = entries.push(Entry {
+                mode,
+                component,
+                name,
+            }) else {
                 return Err(TreeFault::OutOfMemory);
             };
         }
@@ -35,7 +43,11 @@ impl<A: Allocator + Copy> Directory<A> {
 impl<A: Allocator + Copy> Item<A> {
     // Puts the trees of a directory, and answers what an entry is and names.
     #[cycle(write)]
-    fn write_into<N: Namer>(&self, alloc: A, store: &mut Store<N, A>) -> Result<(Mode, Name), TreeFault>
+    fn write_into<N: Namer>(
+        &self,
+        alloc: A,
+        store: &mut Store<N, A>,
+    ) -> Result<(Mode, Name), TreeFault>
         ensures namer { store.new.0 ≡ store.old.0 }
         ensures leaf { IfOk result (λ leaf. (leaf.0, leaf.1.bytes) ≡ kept_leaf (N.name_of store.old.0) (kept self.now)) }
         ensures puts { PutsAll (kept_records (N.name_of store.old.0) (kept self.now)) store.old.1 store.new.1 result }

@@ -1,5 +1,5 @@
 use Rattle.std.proofs.Common.{◌≡◌, Ok, sym, ap, ◌∙◌, subst}
-use Rattle.gx_model.specs.Edits.{renamed, removed, or_fault}
+use Rattle.gx_model.specs.Edits.{renamed, removed, unless}
 use Rattle.gx_model.specs.Faults.{IsFaultOf}
 use Rattle.gx_tree.specs.Copies.{kept_held}
 use Rattle.gx_tree.specs.Faults.{fault_of}
@@ -24,7 +24,7 @@ returns-clause-files g c =
     let k = kept_held c.in-Some.held in
     let is : c.in_ok-placed.field-0 ≡ grafted c.args.destination.now (kept_map k) (removed c.args.self.now c.args.source.now) = c.in_ok-placed.ensures ∙ ap (grafted c.args.destination.now (kept_map (kept_held c.in-Some.held))) c.in_ok-rest.ensures in
     renamed_is c.args.self.now c.args.source.now c.args.destination.now k c.in-Some.ensures.held c.in-Some.ensures.kept
-    ∙ ap (λ o. or_fault o (grafted c.args.destination.now (kept_map k) (removed c.args.self.now c.args.source.now))) (sym c.in_default-refusal.ensures.fault) ∙ ap Ok (sym is)
+    ∙ ap (λ o. unless o (grafted c.args.destination.now (kept_map k) (removed c.args.self.now c.args.source.now))) (sym c.in_default-refusal.ensures.fault) ∙ ap Ok (sym is)
 
 pub returns-clause-names : goal.returns-clause-names
 returns-clause-names g c =
@@ -32,7 +32,7 @@ returns-clause-names g c =
     let is : c.in_ok-placed.field-0 ≡ grafted c.args.destination.now (kept_map k) (removed c.args.self.now c.args.source.now) = c.in_ok-placed.ensures ∙ ap (grafted c.args.destination.now (kept_map (kept_held c.in-Some.held))) c.in_ok-rest.ensures in
     let whole : renamed c.args.self.now c.args.source.now c.args.destination.now ≡ Ok c.in_ok-placed.field-0 =
     renamed_is c.args.self.now c.args.source.now c.args.destination.now k c.in-Some.ensures.held c.in-Some.ensures.kept
-    ∙ ap (λ o. or_fault o (grafted c.args.destination.now (kept_map k) (removed c.args.self.now c.args.source.now))) (sym c.in_default-refusal.ensures.fault) ∙ ap Ok (sym is) in
+    ∙ ap (λ o. unless o (grafted c.args.destination.now (kept_map k) (removed c.args.self.now c.args.source.now))) (sym c.in_default-refusal.ensures.fault) ∙ ap Ok (sym is) in
     names-renamed c.args.self.now (kept_map k) c.in_ok-placed.field-0 c.args.source.now c.args.destination.now c.refusal.ensures.path c.in-Some.ensures.held is whole (subst IsNameMap c.self.view_is c.self.invariant)
 
 pub placed-requires-clause-kept : goal.placed-requires-clause-kept

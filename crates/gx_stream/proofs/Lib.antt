@@ -3,5 +3,6 @@ pub mod Delimiters
 pub mod Firsts
 pub mod Comments
 pub mod Longer
-pub mod Arrivals
+pub mod Scans
 pub mod Views
+pub mod Arrivals

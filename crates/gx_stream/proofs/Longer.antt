@@ -1,5 +1,5 @@
 -- What a failing text begins with, a longer text begins with too.
-use Rattle.std.proofs.Common.{◌≡◌, ℕ, zero, suc, ◌+◌, ◌<◌, ◌≤◌, Bool, true, false, cond, ◌||◌, ◌&&◌, Option, Some, None, [], ◌∷◌, ◌++◌, length, take, drop, nat_eq, nat_lt, codes, refl, sym, ap, ◌∙◌, arith, append-nil, eqb}
+use Rattle.std.proofs.Common.{◌≡◌, ℕ, zero, suc, ◌+◌, ◌<◌, ◌≤◌, Bool, true, false, cond, ◌||◌, ◌&&◌, Option, Some, None, [], ◌∷◌, ◌++◌, length, take, drop, nat_eq, nat_lt, codes, refl, sym, ap, subst, ◌∙◌, arith, append-nil, eqb}
 use Rattle.std.specs.List.{starts_with}
 use Rattle.std.specs.Str.{bytes_eq}
 use Rattle.std.proofs.lemmas.Bool.Decides.{nat_tests}
@@ -25,6 +25,11 @@ IsDecided (takes i rest) = Unit {0}
 IsDecided (drops rest) = Unit {0}
 IsDecided (ends e) = e ≡ Failed faults.BadNumber
 
+-- a text goes on with nothing
+pub nothing_more : (fails : Bool) → GoesOn fails [] fails
+nothing_more true = tt
+nothing_more false = (refl, refl)
+
 -- ---- one of two
 
 same_test : (b : Bool) (v w longer_v longer_w : First) (more : Bytes) → (IsDecided v → longer_v ≡ and_more v more) → (IsDecided w → longer_w ≡ and_more w more) → IsDecided (cond b v w) → cond b longer_v longer_w ≡ and_more (cond b v w) more
@@ -39,7 +44,7 @@ no_end false c e v longer more h d =
 
 -- ---- lines
 
-some_line : (n m : ℕ) → m ≤ n → (nat_eq n 0 || (true && nat_eq m n)) ≡ false → m < n
+pub some_line : (n m : ℕ) → m ≤ n → (nat_eq n 0 || (true && nat_eq m n)) ≡ false → m < n
 some_line n m l e = grind (arith, nat_tests)
 
 no_test : (n m : ℕ) (fails : Bool) → m < n → (nat_eq n 0 || (fails && nat_eq m n)) ≡ false
@@ -47,12 +52,13 @@ no_test n m true l = grind (arith, nat_tests)
 no_test n m false l = grind (arith, nat_tests)
 
 -- a longer text begins with the same line
-record SameLine (text more : Bytes) (then_fails : Bool) : Type 0 where
+pub record SameLine (text more : Bytes) (then_fails : Bool) : Type 0 where
   pub some : has_no_line (text ++ more) then_fails ≡ false
+  pub len : line_len (text ++ more) ≡ line_len text
   pub front : take (line_len (text ++ more)) (text ++ more) ≡ take (line_len text) text
   pub back : drop (line_len (text ++ more) + 1) (text ++ more) ≡ drop (line_len text + 1) text ++ more
 
-same_line : (text more : Bytes) (then_fails : Bool) → has_no_line text true ≡ false → SameLine text more then_fails
+pub same_line : (text more : Bytes) (then_fails : Bool) → has_no_line text true ≡ false → SameLine text more then_fails
 same_line text more then_fails h =
     let l : line_len text < length text = some_line (length text) (line_len text) (prefix_len-le-length _ text) h in
     let apart : eqb (line_len text) (length text) ≡ false = grind (arith, nat_tests) in
@@ -60,9 +66,21 @@ same_line text more then_fails h =
     let long = length-append text more in
     record {
       some = no_test (length (text ++ more)) (line_len (text ++ more)) then_fails (omega (arith, l, len, long));
+      len = len;
       front = ap (λ k. take k (text ++ more)) len ∙ take-append-le (line_len text) text more (omega (arith, l));
       back = ap (λ k. drop (k + 1) (text ++ more)) len ∙ drop-append-le (line_len text + 1) text more (omega (arith, l));
     }
+
+-- and where it is the whole, its line is its own
+pub goes_on_line : (text more : Bytes) (fails then_fails : Bool) → has_no_line text fails ≡ false → GoesOn fails more then_fails → SameLine text more then_fails
+goes_on_line text more true then_fails h g = same_line text more then_fails h
+goes_on_line text more false then_fails h g =
+    subst (λ m. SameLine text m then_fails) (sym g.0) (subst (SameLine text []) (sym g.1) (record {
+      some = ap (λ t. has_no_line t false) (append-nil text) ∙ h;
+      len = ap line_len (append-nil text);
+      front = ap (λ t. take (line_len t) t) (append-nil text);
+      back = ap (λ t. drop (line_len t + 1) t) (append-nil text) ∙ sym (append-nil (drop (line_len text + 1) text));
+    }))
 
 -- ---- blocks
 
@@ -167,9 +185,9 @@ first_of-longer text more then_fails d =
 pub first_of-goes_on : (text more : Bytes) (fails then_fails : Bool) → GoesOn fails more then_fails → IsDecided (first_of text fails) → first_of (text ++ more) then_fails ≡ and_more (first_of text fails) more
 first_of-goes_on text more true then_fails g d = first_of-longer text more then_fails d
 first_of-goes_on text more false then_fails g d =
-    ap (λ m. first_of (text ++ m) then_fails) g.0 ∙ ap (λ t. first_of t then_fails) (append-nil text) ∙ ap (first_of text) g.1 ∙ sym (ap (and_more (first_of text false)) g.0 ∙ nothing_more (first_of text false))
+    ap (λ m. first_of (text ++ m) then_fails) g.0 ∙ ap (λ t. first_of t then_fails) (append-nil text) ∙ ap (first_of text) g.1 ∙ sym (ap (and_more (first_of text false)) g.0 ∙ with_nothing (first_of text false))
   where
-    nothing_more : (v : First) → and_more v [] ≡ v
-    nothing_more (takes i rest) = ap (takes i) (append-nil rest)
-    nothing_more (drops rest) = ap drops (append-nil rest)
-    nothing_more (ends e) = refl
+    with_nothing : (v : First) → and_more v [] ≡ v
+    with_nothing (takes i rest) = ap (takes i) (append-nil rest)
+    with_nothing (drops rest) = ap drops (append-nil rest)
+    with_nothing (ends e) = refl

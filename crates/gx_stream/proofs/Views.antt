@@ -1,13 +1,14 @@
 -- What a reader is seen as, before and after an item, the end or a fault.
-use Rattle.std.proofs.Common.{◌≡◌, ℕ, ◌<◌, ◌≤◌, Bool, true, false, inr, Option, Some, None, Result, Ok, Err, [], ◌++◌, length, drop, refl, sym, ap, subst, ◌∙◌, arith, append-nil}
+use Rattle.std.proofs.Common.{◌≡◌, ℕ, ◌<◌, ◌≤◌, Bool, true, inr, Option, Some, None, Result, Ok, Err, [], ◌++◌, length, drop, refl, sym, ap, subst, ◌∙◌, arith, append-nil}
 use Rattle.std.proofs.lemmas.List.{length-drop}
 use Rattle.gx_model.specs.Texts.{Bytes}
 use Rattle.gx_model.specs.Items.{Item, Line, Data, Stream, then_comes, items_of}
 use Rattle.gx_text.specs.Devices.{Coming}
 use Rattle.gx_stream.specs.Heard.{heard_upto}
-use Rattle.gx_stream.specs.Places.{GoesOn, Skipped, ComesNext, NoneComes, bytes_at}
+use Rattle.gx_stream.specs.Places.{Skipped, ComesNext, NoneComes, bytes_at}
 use Rattle.gx_stream.specs.Reading.{Seen, AnswersAs, ReadsAs, FallsAs}
 use Rattle.gx_stream.specs.Input.{stream_seen, most_seen, answer_at, Looks, is_whole, Takes, Keeps, KeepsStream}
+use Rattle.gx_stream.proofs.Longer.{nothing_more}
 use Rattle.gx_stream.specs.declared.fault.StreamFault.{StreamFault}
 use Rattle.gx_stream.specs.declared.fault.StreamFault.TheVariants as fault
 use Rattle.gx_stream.specs.declared.places.Place.{Place}
@@ -32,18 +33,13 @@ Falls-kept old mid new (Err e) k f = omega (arith, k, f)
 
 -- ---- one answer
 
--- a text goes on with nothing
-alone : (fails : Bool) → GoesOn fails [] fails
-alone true = tt
-alone false = (refl, refl)
-
 Skipped-alone : (text : Bytes) (fails : Bool) (start at : ℕ) → Skipped text fails start at → items_of (drop start text) fails ≡ items_of (drop at text) fails
 Skipped-alone text fails start at s =
-    ap (λ t. items_of t fails) (sym (append-nil (drop start text))) ∙ s.same [] fails (alone fails) ∙ ap (λ t. items_of t fails) (append-nil (drop at text))
+    ap (λ t. items_of t fails) (sym (append-nil (drop start text))) ∙ s.same [] fails (nothing_more fails) ∙ ap (λ t. items_of t fails) (append-nil (drop at text))
 
 next_alone : (text : Bytes) (fails : Bool) (at : ℕ) (i : Item) (p : Place) → ComesNext text fails at i p → items_of (drop at text) fails ≡ then_comes i (items_of (drop p.next text) fails)
 next_alone text fails at i p n =
-    ap (λ t. items_of t fails) (sym (append-nil (drop at text))) ∙ n.next [] fails (alone fails) ∙ ap (λ t. then_comes i (items_of t fails)) (append-nil (drop p.next text))
+    ap (λ t. items_of t fails) (sym (append-nil (drop at text))) ∙ n.next [] fails (nothing_more fails) ∙ ap (λ t. then_comes i (items_of t fails)) (append-nil (drop p.next text))
 
 shorter : (text : Bytes) (fails : Bool) (start at : ℕ) (i : Item) (p : Place) → Skipped text fails start at → ComesNext text fails at i p → length (drop p.next text) < length (drop start text)
 shorter text fails start at i p s n = omega (arith, s.from, n.further, n.within.2, length-drop p.next text, length-drop start text)

@@ -7,9 +7,10 @@ use Rattle.gx_text.specs.Devices.{Coming}
 use Rattle.gx_stream.specs.Heard.{heard_upto}
 use Rattle.gx_stream.specs.Faults.{fault_of, ended}
 use Rattle.gx_stream.specs.Reading.{Seen}
-use Rattle.gx_stream.specs.Places.{bytes_at, IsWithin, Skipped, Finds}
+use Rattle.gx_stream.specs.Places.{bytes_at, IsWithin, IsScanned, Skipped, Finds}
 use Rattle.gx_stream.specs.declared.fault.StreamFault.{StreamFault}
 use Rattle.gx_stream.specs.declared.fault.StreamFault.TheVariants.{OutOfMemory, ReadFailed, TruncatedData, BadNumber}
+use Rattle.gx_stream.specs.declared.places.Scan.{Scan}
 use Rattle.gx_stream.specs.declared.places.Found.{Found}
 use Rattle.gx_stream.specs.declared.places.Found.TheVariants.{Line, Data, End}
 use Rattle.gx_stream.specs.declared.input.Input.{Input}
@@ -35,9 +36,15 @@ seen i coming = record {
   most = most_seen i.state i.room (drop i.at i.text.items);
 }
 
+-- what is known of the item that comes next counts where more of it may come
+abbrev pub FitsState : Bytes → State → ℕ → Scan → Type 0
+FitsState text Open at scan = IsScanned text true at scan
+FitsState text (Ended fails) at scan = Unit {0}
+FitsState text (Stuck f) at scan = Unit {0}
+
 -- what isn't read yet begins within the text, and no more than 2 ^ 63 - 1 bytes are taken in all
 abbrev pub IsSound : {R A : Type 0} → Input R A → Type 0
-IsSound i = (i.at ≤ length i.text.items) × (length i.text.items + i.room ≤ 2 ^ 63 - 1)
+IsSound i = (i.at ≤ length i.text.items) × (length i.text.items + i.room ≤ 2 ^ 63 - 1) × FitsState i.text.items i.state i.at i.scan
 
 -- ---- one look
 
@@ -93,6 +100,10 @@ KeepsStream (Some s) new = new ≡ Some s
 
 abbrev pub Keeps : Seen → Seen → Type 0
 Keeps old new = KeepsStream old.stream new.stream × (new.most ≤ old.most)
+
+-- a text has more bytes at its end
+abbrev pub IsLonger : Bytes → Bytes → Type 0
+IsLonger old new = (more : Bytes) × (new ≡ old ++ more)
 
 -- how many pulls may follow at most
 abbrev pub pulls_left : State → ℕ → ℕ

@@ -2,11 +2,11 @@
 
 ghost use Rattle.std.specs.Prelude.{◌≡◌, ◌<◌, ◌≤◌, ◌+◌, length, drop, IfOk, OnOk};
 ghost use Rattle.gx_stream.specs.Reading.{AnswersAs};
-ghost use Rattle.gx_stream.specs.Input.{seen, stream_seen, IsSound, IsFoundWithin, answer_at, Looks, is_whole, Takes, Keeps, KeepsStream, pulls_left};
+ghost use Rattle.gx_stream.specs.Input.{seen, stream_seen, IsSound, FitsState, IsLonger, IsFoundWithin, answer_at, Looks, is_whole, Takes, Keeps, KeepsStream, pulls_left};
 ghost use Rattle.gx_stream.specs.declared.input.State.TheVariants.{Open};
 
 use crate::fault::StreamFault;
-use crate::places::{Found, find_item};
+use crate::places::{Found, Scan, find_item};
 use gx_text::{Failed, Source};
 use std::alloc::{AllocError, Allocator};
 
@@ -31,6 +31,7 @@ pub(crate) struct Input<R: Source, A: Allocator> {
     pub(crate) piece: Vec<u8, A>,
     pub(crate) text: Vec<u8, A>,
     pub(crate) at: usize,
+    pub(crate) scan: Scan,
     pub(crate) room: usize,
     pub(crate) state: State,
 }
@@ -46,9 +47,10 @@ impl<R: Source, A: Allocator + Copy> Input<R, A> {
             (answer_at self.new.text.items result) }
     {
         loop {
-            let found = look(&self.text, &mut self.at, self.state);
+            let found = look(&self.text, &mut self.at, &mut self.scan, self.state);
             if is_whole(self.state, found) {
                 take(&mut self.at, &mut self.state, found);
+                self.scan = Scan::from_line(self.at);
                 return found;
             }
             if self.pull().is_err() {
@@ -67,6 +69,7 @@ impl<R: Source, A: Allocator + Copy> Input<R, A> {
         ensures fewer { OnOk result (pulls_left self.new.state self.new.room < pulls_left self.old.state self.old.room) }
     {
         remove_front(&mut self.text, self.at);
+        self.scan = self.scan.without(self.at);
         self.at = 0;
         make_buffer(&mut self.piece)?;
         self.state = append_piece(
@@ -80,13 +83,18 @@ impl<R: Source, A: Allocator + Copy> Input<R, A> {
 }
 
 /// What the text goes on with, as far as it came. The place moves past comments.
-fn look(text: &[u8], at: &mut usize, state: State) -> Found
-    requires { at.old ≤ length text.now }
-    ensures { Looks text.now state at.old at.new result }
+fn look(text: &[u8], at: &mut usize, scan: &mut Scan, state: State) -> Found
+    requires within { at.old ≤ length text.now }
+    requires scan { FitsState text.now state at.old scan.old }
+    ensures looks { Looks text.now state at.old at.new result }
+    ensures scan { FitsState text.now state at.new scan.new }
 {
     match state {
-        State::Open => find_item(text, at, true),
-        State::Ended(fails) => find_item(text, at, fails),
+        State::Open => find_item(text, at, scan, true),
+        State::Ended(fails) => {
+            *scan = Scan::from_line(*at);
+            find_item(text, at, scan, fails)
+        }
         State::Stuck(fault) => Found::End(Some(fault)),
     }
 }
@@ -145,6 +153,7 @@ fn append_piece<R: Source, A: Allocator>(
     room: &mut usize,
 ) -> Result<State, AllocError>
     requires { 0 < length buffer.old }
+    ensures longer { IsLonger text.old.items text.new.items }
     ensures within { length text.new.items + room.new ≤ length text.old.items + room.old }
     ensures keeps { IfOk result (λ state. KeepsStream (stream_seen Open room.old (R.coming source.old) text.old.items)
         (stream_seen state room.new (R.coming source.new) text.new.items)) }

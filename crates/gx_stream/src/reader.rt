@@ -11,7 +11,7 @@ ghost use Rattle.gx_stream.specs.contracts.reader.ItemReader.{the_row};
 use crate::fault::StreamFault;
 use crate::input::{Input, LIMIT, State};
 use crate::item::Item;
-use crate::places::Found;
+use crate::places::{Found, Scan};
 use gx_text::Source;
 use std::alloc::Allocator;
 use std::marker::Model;
@@ -45,6 +45,7 @@ impl<R: Source, A: Allocator + Copy> ItemReader<R, A> {
                 piece: Vec::new(alloc),
                 text: Vec::new(alloc),
                 at: 0,
+                scan: Scan::from_line(0),
                 room: LIMIT,
                 state: State::Open,
             },
@@ -59,8 +60,8 @@ impl<R: Source, A: Allocator + Copy> ItemReader<R, A> {
     /// a number nor `<<`.
     ///
     /// The source is asked for more only where no whole item is left, and for at most 64 KiB at a time. Memory grows with
-    /// the longest item that came, never with a stated count. Cost: the bytes of the item and of the comments before it;
-    /// a line or a delimited block that comes in several pieces is looked through once for each.
+    /// the longest item that came, never with a stated count. Cost: the bytes of the item and of the comments before it,
+    /// however they are cut.
     /// Source: git-fast-import(1), "Comments" and "data".
     pub fn next(&mut self) -> Result<Option<Item<'_>>, StreamFault>
         ensures* reads { sem 𝓛 (Rests (the_row R.row A.row R.Source A.Allocator) self.entry (λ new. Answers self.old new result)) }

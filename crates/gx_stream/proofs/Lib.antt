@@ -1,0 +1,5 @@
+pub mod Lines
+pub mod Delimiters
+pub mod Firsts
+pub mod Comments
+pub mod Arrivals

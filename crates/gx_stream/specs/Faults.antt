@@ -1,0 +1,22 @@
+-- The faults of a stream as those of the model.
+use Rattle.std.specs.Prelude.{[], Option, Some, None}
+use Rattle.gx_model.specs.Items.{End, Finished, Failed, Stream}
+use Rattle.gx_model.specs.declared.faults.Fault.{Fault}
+use Rattle.gx_model.specs.declared.faults.Fault.TheVariants as model
+use Rattle.gx_stream.specs.declared.fault.StreamFault.{StreamFault}
+use Rattle.gx_stream.specs.declared.fault.StreamFault.TheVariants.{OutOfMemory, ReadFailed, TruncatedData, BadNumber}
+
+abbrev pub fault_of : StreamFault → Fault
+fault_of OutOfMemory = model.OutOfMemory
+fault_of ReadFailed = model.ReadFailed
+fault_of TruncatedData = model.TruncatedData
+fault_of BadNumber = model.BadNumber
+
+-- an end, or a fault
+abbrev pub end_seen : Option StreamFault → End
+end_seen None = Finished
+end_seen (Some f) = Failed (fault_of f)
+
+-- nothing to come but an end
+abbrev pub ended : End → Stream
+ended e = record { items = []; end = e }

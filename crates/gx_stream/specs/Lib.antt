@@ -1,0 +1,4 @@
+pub mod Heard
+pub mod Faults
+pub mod Places
+pub mod Reading

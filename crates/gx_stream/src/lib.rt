@@ -1,0 +1,15 @@
+//! The items of a stream: lines, and the blocks of bytes that a `data` line announces.
+//! The items that a reader gives are those of the whole text, however its source cuts that into pieces.
+#![tactic(auto)]
+
+mod fault;
+mod item;
+mod places;
+mod reader;
+
+pub use fault::StreamFault;
+pub use item::Item;
+pub use reader::ItemReader;
+
+#[cfg(test)]
+mod tests;

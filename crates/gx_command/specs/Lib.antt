@@ -1,0 +1,5 @@
+pub mod CommandFaults
+pub mod Lines
+pub mod Views
+pub mod ChangeLines
+pub mod Ahead

@@ -1,5 +1,6 @@
 -- The items that are still to come, with the one that was read ahead.
 use Rattle.std.specs.Prelude.{◌≡◌, ℕ, ◌+◌, ◌≤◌, ◌<◌, ◌⊎◌, Option, Some, None, Result, Ok, Err, option_map}
+use Rattle.std.specs.Borrow.{Bor}
 use Rattle.gx_model.specs.Texts.{Bytes}
 use Rattle.gx_model.specs.Faults.{IsFaultOf}
 use Rattle.gx_model.specs.Items as model
@@ -9,6 +10,7 @@ use Rattle.gx_stream.specs.Faults.{ended}
 use Rattle.gx_stream.specs.Reading.{item_of}
 use Rattle.gx_stream.specs.declared.item.Item.{Item}
 use Rattle.gx_command.specs.CommandFaults.{fault_of}
+use Rattle.gx_command.specs.Lines.{rest_in}
 use Rattle.gx_command.specs.declared.fault.CommandFault.{CommandFault}
 use Rattle.gx_command.specs.declared.fault.CommandFault.TheVariants.{OutOfMemory}
 use Rattle.gx_command.specs.declared.ahead.Ahead.{Ahead}
@@ -57,6 +59,33 @@ TakesFrom answers s new (Err f) = (f ≡ OutOfMemory) ⊎ ((s ≡ ended (Failed 
 abbrev pub Takes : {T : Type 0} → (Item → Result (Option T) CommandFault → Type 0) → Option Stream → Option Stream → Result (Option T) CommandFault → Type 0
 Takes answers None new answer = Unit {0}
 Takes answers (Some s) new answer = TakesFrom answers s new answer
+
+-- the rest of the line that comes next was read by a function that may answer so
+pub record ReadRest {T : Type 0} (answers : Bor Bytes → Result T CommandFault → Type 0) (word : Bytes) (s left : Stream) (answer : Result T CommandFault) : Type 0 where
+  pub rest : Bor Bytes
+  pub line : rest_line word s ≡ Ok (Some rest.now, left)
+  pub read : answers rest answer
+
+-- what a function answers that reads the rest of a line with the word
+pub record RestOf {T : Type 0} (answers : Bor Bytes → Result T CommandFault → Type 0) (word : Bytes) (item : Item) (answer : Result T CommandFault) : Type 0 where
+  pub rest : Bor Bytes
+  pub line : rest_in word (item_of item) ≡ Ok (Some rest.now)
+  pub read : answers rest answer
+
+abbrev pub AnswersRest : {T : Type 0} → (Bor Bytes → Result T CommandFault → Type 0) → Bytes → Item → Result (Option T) CommandFault → Type 0
+AnswersRest answers word item (Ok None) = rest_in word (item_of item) ≡ Ok None
+AnswersRest answers word item (Ok (Some x)) = RestOf answers word item (Ok x)
+AnswersRest answers word item (Err f) = IsFaultOf (fault_of f) (rest_in word (item_of item)) ⊎ RestOf answers word item (Err f)
+
+-- A line with the word is taken, and its rest is read.
+abbrev pub TakesLineFrom : {T : Type 0} → Bytes → (Bor Bytes → Result T CommandFault → Type 0) → Stream → Option Stream → Result (Option T) CommandFault → Type 0
+TakesLineFrom word answers s new (Ok (Some x)) = (left : Stream) × ReadRest answers word s left (Ok x) × (new ≡ Some left)
+TakesLineFrom word answers s new (Ok None) = (left : Stream) × (rest_line word s ≡ Ok (None, left)) × (new ≡ Some left)
+TakesLineFrom word answers s new (Err f) = IsFaultOf (fault_of f) (rest_line word s) ⊎ ((left : Stream) × ReadRest answers word s left (Err f))
+
+abbrev pub TakesLine : {T : Type 0} → Bytes → (Bor Bytes → Result T CommandFault → Type 0) → Option Stream → Option Stream → Result (Option T) CommandFault → Type 0
+TakesLine word answers None new answer = Unit {0}
+TakesLine word answers (Some s) new answer = TakesLineFrom word answers s new answer
 
 -- the bound falls with each item that is taken
 abbrev pub Falls : {T : Type 0} → ℕ → ℕ → Result (Option T) CommandFault → Type 0

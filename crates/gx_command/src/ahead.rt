@@ -2,9 +2,10 @@
 
 ghost use Rattle.std.specs.Prelude.{◌≡◌, IfOk};
 ghost use Rattle.gx_stream.specs.Reading.{item_of};
-ghost use Rattle.gx_command.specs.Ahead.{Takes, Falls, to_come, most, held_item};
+ghost use Rattle.gx_command.specs.Ahead.{AnswersRest, Takes, TakesLine, Falls, to_come, most, held_item};
 
 use crate::fault::CommandFault;
+use crate::lines::rest_in;
 use gx_stream::{Item, ItemReader};
 use gx_text::Source;
 use std::alloc::{AllocError, Allocator};
@@ -68,5 +69,34 @@ impl<R: Source, A: Allocator + Copy> Ahead<R, A> {
             self.held = Some(Held::copy(self.alloc, item)?);
         }
         Ok(taken)
+    }
+
+    /// Takes the next line where it has this word, and reads its rest. Otherwise the item stays.
+    #[tactic(auto, unfolding(gx_model::specs::Grammar::rest_line_in))]
+    pub(crate) fn optional<T: Drop, F>(
+        &mut self,
+        word: &[u8],
+        read: F,
+    ) -> Result<Option<T>, CommandFault>
+    where
+        F: FnOnce(&[u8]) -> Result<T, CommandFault>,
+        requires { F.IsAlwaysCallable read }
+        ensures takes { TakesLine word.now (F.post read) (to_come self.old) (to_come self.new) result }
+        ensures falls { Falls (most self.old) (most self.new) result }
+    {
+        self.take(|item| read_rest(item, word, read))
+    }
+}
+
+/// The rest of a line that has this word, as `read` reads it. Another item gives none.
+fn read_rest<T: Drop, F>(item: Item<'_>, word: &[u8], read: F) -> Result<Option<T>, CommandFault>
+where
+    F: FnOnce(&[u8]) -> Result<T, CommandFault>,
+    requires { F.IsAlwaysCallable read }
+    ensures { AnswersRest (F.post read) word.now item.entry result }
+{
+    match rest_in(item, word)? {
+        Some(rest) => Ok(Some(read(rest)?)),
+        None => Ok(None),
     }
 }

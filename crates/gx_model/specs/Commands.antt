@@ -1,5 +1,5 @@
 -- The commands of a stream. Source: git-fast-import(1), "Commands".
-use Rattle.std.specs.Prelude.{ℕ, List, Option}
+use Rattle.std.specs.Prelude.{ℕ, suc, List, length, Option}
 use Rattle.gx_model.specs.declared.faults.Fault.{Fault}
 use Rattle.gx_model.specs.declared.objects.Mode.{Mode}
 use Rattle.gx_model.specs.Texts.{Bytes}
@@ -64,3 +64,7 @@ pub data Command : Type 0 where
 pub record Commands : Type 0 where
   pub list : List Command
   pub fault : Option Fault
+
+-- the number of the command that the fault belongs to, from 1: the commands read before it, and one
+abbrev pub faulty_command : Commands → ℕ
+faulty_command cs = suc (length cs.list)

@@ -1,4 +1,4 @@
--- What a revision and a range give in a history.
+-- What a revision gives in a history. Source: gitrevisions(7).
 use Rattle.std.specs.Prelude.{ℕ, zero, suc, ◌+◌, Bool, ◌&&◌, ◌||◌, nat_lt, nat_le, if◌then◌else◌, List, [], ◌∷◌, ◌++◌, map, length, Option, None, Some, codes}
 use Rattle.std.specs.declared.result.Result.{Result}
 use Rattle.std.specs.declared.result.Result.TheVariants.{Ok, Err}
@@ -13,6 +13,7 @@ use Rattle.std.specs.Bool.{nat_eq}
 use Rattle.gx_model.specs.Texts.{Bytes, same_bytes}
 use Rattle.gx_model.specs.Faults.{and_then}
 use Rattle.gx_model.specs.Paths.{Path}
+use Rattle.gx_model.specs.Revisions.{Revision, Suffix, parent, ancestor, peeled, itself, as_commit, as_blob, as_tree, as_tag}
 use Rattle.gx_model.specs.Files.{FileMap, Leaf, file_at, sub_map}
 use Rattle.gx_model.specs.Values.{Commit, Value, blob_value, commit_value, files_of, list_of, parents_of, tag_value, tree_value}
 use Rattle.gx_model.specs.Objects.{hex}
@@ -48,13 +49,14 @@ is_any_digit d = (nat_le 48 d && nat_le d 57) || (nat_le 97 d && nat_le d 102) |
 abbrev pub lower : ℕ → ℕ
 lower d = if nat_le 65 d && nat_le d 70 then d + 32 else d
 
-abbrev pub same_number : ℕ → ℕ → Bool
-same_number = nat_eq
+-- a name's digits begin with these
+abbrev pub begins_with_digits : Bytes → Bytes → Bool
+begins_with_digits digits n = starts_with nat_eq (hex n) (map lower digits)
 
 module _ (name : Kind → Bytes → Bytes) where
   -- the values whose name begins with these digits
   abbrev pub begun_by : History → Bytes → List Value
-  begun_by h digits = filter (λ v. starts_with same_number (map lower digits) (hex (name_of name v))) h.values
+  begun_by h digits = filter (λ v. begins_with_digits digits (name_of name v)) h.values
 
   abbrev pub the_one : List Value → Result Value Fault
   the_one [] = Err fault.UnknownRef
@@ -77,23 +79,6 @@ module _ (name : Kind → Bytes → Bytes) where
       ]
 
 -- ---- suffixes
-
-pub data Suffix : Type 0 where
-  -- ^n and ~n
-  parent : ℕ → Suffix
-  ancestor : ℕ → Suffix
-  -- ^{} and ^{object}, and ^{..} with a kind
-  peeled : Suffix
-  itself : Suffix
-  as_commit : Suffix
-  as_blob : Suffix
-  as_tree : Suffix
-  as_tag : Suffix
-
-pub record Revision : Type 0 where
-  pub base : Bytes
-  pub suffixes : List Suffix
-  pub path : Option Path
 
 abbrev pub peel : Value → Value
 peel (tag_value t) = commit_value t.target
@@ -153,6 +138,7 @@ all_suffixed v (s ∷ ss) = and_then (suffixed v s) (λ w. all_suffixed w ss)
 
 pub data Shown : Type 0 where
   object : Value → Shown
+  -- a gitlink's digits
   submodule : Bytes → Shown
 
 abbrev pub of_leaf : Mode → Bytes → Shown
@@ -172,7 +158,7 @@ abbrev pub shown_at : Value → Option Path → Result Shown Fault
 shown_at v None = Ok (object v)
 shown_at v (Some p) = and_then (files_in v) (λ f. at_path f p)
 
-abbrev pub denoted : (Kind → Bytes → Bytes) → History → Revision → Result Shown Fault
+unfoldable pub denoted : (Kind → Bytes → Bytes) → History → Revision → Result Shown Fault
 denoted name h r = and_then (base_value name h r.base) (λ v. and_then (all_suffixed v r.suffixes) (λ w. shown_at w r.path))
 
 -- the mode and bytes of a file
@@ -184,3 +170,21 @@ of_file None (e ∷ es) = Err fault.WrongKind
 abbrev pub file_shown : FileMap Bytes → Path → Result (Leaf Bytes) Fault
 file_shown f [] = Err fault.WrongKind
 file_shown f (c ∷ p) = of_file (file_at f (c ∷ p)) (sub_map f (c ∷ p))
+
+-- ---- what is asked of a revision
+
+abbrev pub shown_value : Shown → Result Value Fault
+shown_value (object v) = Ok v
+shown_value (submodule x) = Err fault.WrongKind
+
+-- the value of a revision, which is no submodule
+abbrev pub value_denoted : (Kind → Bytes → Bytes) → History → Revision → Result Value Fault
+value_denoted name h r = and_then (denoted name h r) shown_value
+
+-- the commit of a revision, after peeling
+abbrev pub commit_denoted : (Kind → Bytes → Bytes) → History → Revision → Result Commit Fault
+commit_denoted name h r = and_then (value_denoted name h r) commit_in
+
+-- the mode and bytes of the file at a path in a revision's tree
+unfoldable pub looked_up : (Kind → Bytes → Bytes) → History → Revision → Path → Result (Leaf Bytes) Fault
+looked_up name h r p = and_then (value_denoted name h r) (λ v. and_then (files_in v) (λ f. file_shown f p))

@@ -16,14 +16,14 @@ use Rattle.gx_model.specs.Items.{Data, End, Finished, Item, Line, items_of}
 use Rattle.gx_model.specs.Spelling.{IsReading}
 use Rattle.gx_model.specs.Commands.{Asks, Blob, Change, Clear, Command, CommitIsh, CommitParts, Copy, DataRef, Done, Mark, Marked, Modify, Named, Object, Remove, Rename, Reset, TagParts}
 use Rattle.gx_model.specs.Grammar.{commands_of, is_null}
-use Rattle.gx_model.specs.Files.{Leaf, is_file_map}
-use Rattle.gx_model.specs.Values.{Commit, Value, blob_value, commit_value, files_of, is_name_text, is_proper, list_of, parents_of, parts, text_of}
+use Rattle.gx_model.specs.Files.{Leaf}
+use Rattle.gx_model.specs.Values.{Commit, Value, blob_value, commit_value, files_of, is_content, is_name_text, is_proper, list_of, parents_of, parts, text_of}
 use Rattle.gx_model.specs.Histories.{History, IsHistory, IsIn, Target, at_commit, at_tag, is_in, value_at, with_one, with_value}
-use Rattle.gx_model.specs.Denotation.{Revision}
+use Rattle.gx_model.specs.Revisions.{Revision}
 use Rattle.gx_model.specs.Ranges.{commit_of}
-use Rattle.gx_model.specs.Replay.{Outcome, State, finished, or_else, replayed, start, step}
+use Rattle.gx_model.specs.Replay.{Report, State, finished, or_else, replayed, replayed_text, start, step}
 use Rattle.gx_model.specs.Export.{all_written, carrier, command_items, contents, export_commands, export_text, inner_commands, item_text, one_commit, reached_commits, with_commit}
-use Rattle.gx_model.specs.Laws.{IsWhole}
+use Rattle.gx_model.specs.Histories.{IsWhole}
 
 -- a line with no LF that is no comment and announces no block
 pub record IsItemLine (l : Bytes) : Type 0 where
@@ -148,9 +148,9 @@ state_at ws vs b = record {
   marks = numbered ws;
   branches = carried b;
   tags = [];
-  needs_done = true;
   is_forced = false;
   progress = [];
+  held = 0;
 }
 
 -- what the blobs of a commit that weren't written yet make of the values
@@ -169,9 +169,9 @@ module _ (name : Kind → Bytes → Bytes) (read : Bytes → Result Revision Fau
   steps s (c ∷ cs) = and_then (step name read s c) (λ t. steps t cs)
 
   -- One commit's block, where its parents were written: it meets no fault, mark n still stands for the nth blob or commit written, and the values are these.
-  abbrev pub DataIsReplayed : Type 0
-  DataIsReplayed =
-      (ws vs : List Value) (b : Option (Option Commit)) (c : Commit) → IsTrue (is_file_map (files_of c)) → AllByRecursion (λ p. IsIn ws (commit_value p)) (list_of (parents_of c))
+  abbrev pub CommitIsReplayed : Type 0
+  CommitIsReplayed =
+      (ws vs : List Value) (b : Option (Option Commit)) (c : Commit) → IsTrue (is_content (files_of c)) → AllByRecursion (λ p. IsIn ws (commit_value p)) (list_of (parents_of c))
       → steps (state_at ws vs b) (one_commit ws c) ≡ Ok (state_at (with_commit ws c) (values_with_commit ws vs c) (Some (Some c)))
 
 -- ---- what a history reaches
@@ -201,8 +201,8 @@ pub record HoldsWhat (ws vs : List Value) (cs : List Commit) : Type 0 where
   pub commits : AllByRecursion (λ c. IsIn ws (commit_value c)) cs
   pub only : (u : Value) → IsIn vs u → AnyReaches (map commit_value cs) u
 
-abbrev pub DataKeeps : Type 0
-DataKeeps =
+abbrev pub CommitKeeps : Type 0
+CommitKeeps =
     (ws vs : List Value) (cs : List Commit) (c : Commit) → HoldsWhat ws vs cs → IsTrue (is_proper (commit_value c)) → AllByRecursion (IsOne cs) (list_of (parents_of c)) → (IsOne cs c → ⊥)
     → HoldsWhat (with_commit ws c) (values_with_commit ws vs c) (cs ++ c ∷ [])
 
@@ -213,15 +213,6 @@ abbrev pub FollowsAll : List Commit → List Commit → Type 0
 FollowsAll before [] = Unit {0}
 FollowsAll before (c ∷ cs) =
     IsTrue (is_proper (commit_value c)) × AllByRecursion (IsOne before) (list_of (parents_of c)) × (IsOne before c → ⊥) × FollowsAll (before ++ c ∷ []) cs
-
--- a tag's own name makes its ref
-abbrev pub IsOwn : Bytes × Target → Type 0
-IsOwn (n, at_commit c) = Unit {0}
-IsOwn (n, at_tag t) = n ≡ codes "refs/tags/" ++ t.name
-
-pub record IsExported (h : History) : Type 0 where
-  pub history : IsHistory h
-  pub own : AllByRecursion IsOwn h.refs
 
 abbrev pub nothing : History
 nothing = record { values = []; refs = [] }
@@ -235,10 +226,14 @@ pub record IsAgain (h k : History) : Type 0 where
   pub held : (u : Value) → IsIn k.values u → IsIn h.values u
   pub whole : IsWhole k.values
 
+-- each command was read, and each value and each ref is new
+abbrev pub exported_report : History → History → Report
+exported_report h k = record { commands = length (export_commands h); objects = length k.values; refs = length h.refs }
+
 abbrev pub ExportIsReplayed : Type 0
 ExportIsReplayed =
-    (name : Kind → Bytes → Bytes) (read : Bytes → Result Revision Fault) (h : History) → IsExported h
-    → (k : History) × IsAgain h k × (replayed name read 0 (start nothing) (export_commands h) None ≡ finished k [] (length (export_commands h)))
+    (name : Kind → Bytes → Bytes) (read : Bytes → Result Revision Fault) (h : History) → IsHistory h
+    → (k : History) × IsAgain h k × (replayed name read 0 (start nothing) (export_commands h) None ≡ finished k [] (exported_report h k))
 
 -- ---- what an export can be read of
 
@@ -269,17 +264,13 @@ pub record IsReadable (h : History) : Type 0 where
 
 -- the commands of a history that can be read
 abbrev pub ExportIsSpelled : Type 0
-ExportIsSpelled = (h : History) → IsExported h → IsReadable h → AllByRecursion IsSpelled (inner_commands (reached_commits h) h.refs)
-
--- what an import of a text into nothing gives, where its reading ends so
-abbrev pub imported : (Kind → Bytes → Bytes) → (Bytes → Result Revision Fault) → Bytes → Outcome
-imported name read text = let cs = commands_of (items_of text false) in replayed name read 0 (start nothing) cs.list cs.fault
+ExportIsSpelled = (h : History) → IsHistory h → IsReadable h → AllByRecursion IsSpelled (inner_commands (reached_commits h) h.refs)
 
 -- importing the export of a history gives the same refs and exactly what they reach
 abbrev pub ExportIsImported : Type 0
 ExportIsImported =
-    (name : Kind → Bytes → Bytes) (read : Bytes → Result Revision Fault) (h : History) → IsExported h → IsReadable h
-    → (k : History) × IsAgain h k × (imported name read (export_text h) ≡ finished k [] (length (export_commands h)))
+    (name : Kind → Bytes → Bytes) (read : Bytes → Result Revision Fault) (h : History) → IsHistory h → IsReadable h
+    → (k : History) × IsAgain h k × (replayed_text name read nothing (export_text h) false ≡ finished k [] (exported_report h k))
 
 -- ---- the function and the relation
 
@@ -309,4 +300,4 @@ pub record IsFormed (h : History) : Type 0 where
   pub refs : AllByRecursion IsFormedRef h.refs
 
 abbrev pub FormedIsReadable : Type 0
-FormedIsReadable = (h : History) → IsExported h → IsFormed h → length (export_text h) < 2 ^ 64 → IsReadable h
+FormedIsReadable = (h : History) → IsHistory h → IsFormed h → length (export_text h) < 2 ^ 64 → IsReadable h

@@ -271,11 +271,6 @@ item_after s = item_after_in s.items s
 
 -- ---- commands
 
-abbrev pub next_is : Bytes → List Item → Bool
-next_is name [] = false
-next_is name (Data b ∷ more) = false
-next_is name (Line l ∷ more) = is_word (words_of l) name
-
 -- no signature follows a committer
 unfoldable pub unsigned_in : List Item → Stream → Read (Unit {0})
 unsigned_in [] s = at_end s.end (Ok (tt, s))

@@ -61,6 +61,11 @@ IsClosedAfter before [] = ⊤
 IsClosedAfter before (v ∷ vs) =
     (is_in before v ≡ false) × AllByRecursion (IsIn before) (parts v) × IsClosedAfter (before ++ v ∷ []) vs
 
+-- the values of a history: each new, proper, and after its parts
+pub record IsWhole (vs : List Value) : Type 0 where
+  pub closed : IsClosedAfter [] vs
+  pub proper : IsTrue (list_all is_proper vs)
+
 -- a tag's own name makes its ref
 abbrev pub IsRefOf : Bytes → Target → Type 0
 IsRefOf n (at_commit c) = ⊤

@@ -1,17 +1,16 @@
 -- What refs, digits and names find among records.
-use Rattle.std.specs.Prelude.{List, [], ◌∷◌, map, Option, None, Some}
-use Rattle.std.specs.List.{filter, starts_with}
+use Rattle.std.specs.Prelude.{List, [], ◌∷◌, Option, None, Some}
+use Rattle.std.specs.List.{filter}
 use Rattle.std.specs.Map.{lookup}
 use Rattle.gx_model.specs.declared.objects.Kind.{Kind}
 use Rattle.gx_model.specs.declared.objects.Kind.TheVariants as kind
 use Rattle.gx_model.specs.Texts.{Bytes, same_bytes}
 use Rattle.gx_model.specs.Values.{Value, blob_value, commit_value, tag_value, tree_value}
-use Rattle.gx_model.specs.Objects.{hex}
 use Rattle.gx_model.specs.Records.{name_of}
 use Rattle.gx_model.specs.Histories.{Record}
 use Rattle.gx_model.specs.HistoryOf.{tag_parts_in}
 use Rattle.gx_model.specs.Growth.{record_named}
-use Rattle.gx_model.specs.Denotation.{lower, same_number}
+use Rattle.gx_model.specs.Denotation.{begins_with_digits}
 
 abbrev pub or_else : Option Bytes → Option Bytes → Option Bytes
 or_else (Some n) o = Some n
@@ -24,7 +23,7 @@ first_named refs (n ∷ ns) = or_else (lookup (same_bytes n) refs) (first_named 
 
 -- the records whose name begins with these digits
 abbrev pub records_begun_by : List Record → Bytes → List Record
-records_begun_by rs digits = filter (λ r. starts_with same_number (map lower digits) (hex r.name)) rs
+records_begun_by rs digits = filter (λ r. begins_with_digits digits r.name) rs
 
 -- the commit that a commit's or a tag's record gives
 abbrev pub commit_of_record : Kind → Bytes → Bytes → Option Bytes

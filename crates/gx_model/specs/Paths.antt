@@ -1,5 +1,5 @@
 -- Paths: their components, their text, and the quoted form. Source: git-fast-import(1), "filemodify", on paths and on quoted paths.
-use Rattle.std.specs.Prelude.{ℕ, zero, suc, ◌+◌, ◌-◌, ◌*◌, ◌/◌, ◌%◌, ◌<◌, Bool, true, false, not, ◌&&◌, ◌||◌, ◌==◌, nat_lt, nat_le, codes, List, [], ◌∷◌, ◌++◌, length, Option, Some, None, Result, Ok, Err, if◌then◌else◌}
+use Rattle.std.specs.Prelude.{◌≡◌, IsTrue, ℕ, zero, suc, ◌+◌, ◌-◌, ◌*◌, ◌/◌, ◌%◌, ◌<◌, ◌≤◌, Bool, true, false, not, ◌&&◌, ◌||◌, ◌==◌, nat_lt, nat_le, codes, List, [], ◌∷◌, ◌++◌, length, Option, Some, None, Result, Ok, Err, if◌then◌else◌}
 use Rattle.std.specs.Option.{option_map, option_and_then}
 use Rattle.std.specs.List.{list_any, list_all, slice_split, join_with_byte, flat_map, AllByRecursion}
 use Rattle.std.specs.Str.{bytes_eq}
@@ -62,6 +62,12 @@ abbrev pub path_of : Bytes → Result (Path) Fault
 path_of bs =
     if list_all is_component (parts_of bs) then (if nat_le (length bs) 4095 then Ok (parts_of bs) else Err faults.PathTooLong)
     else Err faults.BadPath
+
+-- the path of a text: its proper components, joined by slashes, are the text
+pub record IsPathOf (text : Bytes) (p : Path) : Type 0 where
+  pub joined : path_text p ≡ text
+  pub components : IsTrue (list_all is_component p)
+  pub short : length text ≤ 4095
 
 -- ---- quoted texts
 
@@ -127,14 +133,26 @@ path_at (Some p) = with_rest p.1 (path_of p.0)
 unfoldable pub quoted_of : Bytes → Result (Path × Bytes) Fault
 quoted_of bs = path_at (unquote bs)
 
--- nothing follows a path that ends its line
-abbrev pub whole : Result (Path × Bytes) Fault → Result (Path) Fault
-whole (Err e) = Err e
-whole (Ok p) = if length p.1 == 0 then Ok p.0 else Err faults.BadPath
+-- a byte that stands for itself between quotes
+abbrev pub is_itself : ℕ → Bool
+is_itself b = not (b == 34) && not (b == 92) && not (b == 10) && not (b == 0)
 
--- the path of a field that ends its line
-unfoldable pub field_of : Bytes → Result (Path) Fault
-field_of bs = if is_quoted bs then whole (quoted_of bs) else path_of bs
+-- how a byte is written between quotes: as itself, by a letter, or by three octal digits
+pub data WritesByte : Bytes → ℕ → Type 0 where
+  as_itself : {b : ℕ} → IsTrue (is_itself b) → WritesByte (b ∷ []) b
+  by_letter : {l b : ℕ} → named l ≡ Some b → WritesByte (92 ∷ l ∷ []) b
+  by_digits : {x y z b : ℕ} → octal_of x y z ≡ Some b → WritesByte (92 ∷ x ∷ y ∷ z ∷ []) b
+
+-- how a text is written between quotes, byte by byte
+pub data WritesText : Bytes → Bytes → Type 0 where
+  writes_none : WritesText [] []
+  writes_more : {w ws bs : Bytes} {b : ℕ} → WritesByte w b → WritesText ws bs → WritesText (w ++ ws) (b ∷ bs)
+
+-- a text between quotes, and what follows it
+pub record IsQuotedText (bs text rest : Bytes) : Type 0 where
+  pub body : Bytes
+  pub spelled : bs ≡ 34 ∷ (body ++ 34 ∷ rest)
+  pub writes : WritesText body text
 
 -- ---- printing
 

@@ -1,5 +1,5 @@
--- The replay of a stream's commands on values.
-use Rattle.std.specs.Prelude.{ℕ, ◌+◌, Bool, true, false, ◌||◌, nat_eq, if◌then◌else◌, List, [], ◌∷◌, ◌++◌, Option, None, Some, codes}
+-- The replay of a stream's commands on values. Source: git-fast-import(1), "Commands".
+use Rattle.std.specs.Prelude.{ℕ, ◌+◌, ◌-◌, Bool, true, false, ◌||◌, nat_eq, if◌then◌else◌, List, [], ◌∷◌, ◌++◌, length, map, Option, None, Some, codes}
 use Rattle.std.specs.declared.result.Result.{Result}
 use Rattle.std.specs.declared.result.Result.TheVariants.{Ok, Err}
 use Rattle.std.specs.List.{list_all, fold}
@@ -16,13 +16,17 @@ use Rattle.gx_model.specs.declared.faults.Fault.TheVariants as fault
 use Rattle.gx_model.specs.declared.features.Feature.TheVariants as features
 use Rattle.gx_model.specs.Commands as command
 use Rattle.gx_model.specs.Texts.{Bytes, same_bytes}
+use Rattle.gx_model.specs.RefNames.{tag_ref}
 use Rattle.gx_model.specs.Faults.{and_then}
-use Rattle.gx_model.specs.Commands.{Asks, Blob, Change, Checkpoint, Clear, Command, CommitIsh, CommitParts, Copy, DataRef, Done, Inline, Mark, Marked, Modify, Named, Object, OptionLine, Progress, Remove, Rename, Reset, TagParts}
+use Rattle.gx_model.specs.Revisions.{Revision, revision_of}
+use Rattle.gx_model.specs.Items.{items_of}
+use Rattle.gx_model.specs.Commands.{Asks, Blob, Change, Checkpoint, Clear, Command, Commands, CommitIsh, CommitParts, Copy, DataRef, Done, Inline, Mark, Marked, Modify, Named, Object, OptionLine, Progress, Remove, Rename, Reset, TagParts}
+use Rattle.gx_model.specs.Grammar.{commands_of}
 use Rattle.gx_model.specs.Files.{FileMap}
 use Rattle.gx_model.specs.Edits.{copied, modified, removed, renamed}
 use Rattle.gx_model.specs.Values.{Commit, CommitText, Tag, Value, blob_value, commit, commit_value, commits_of, files_of, tag_value}
 use Rattle.gx_model.specs.Histories.{History, Target, at_commit, at_tag, with_value}
-use Rattle.gx_model.specs.Denotation.{Revision, Shown, base_value, denoted, object, ref_at, submodule}
+use Rattle.gx_model.specs.Denotation.{base_value, commit_in, lower, ref_at, value_denoted}
 use Rattle.gx_model.specs.Ranges.{reaches}
 
 abbrev pub or_else : Option Bytes → Bytes → Bytes
@@ -38,13 +42,15 @@ pub record State : Type 0 where
   pub marks : List (ℕ × Value)
   -- a branch's commit, or none
   pub branches : List (Bytes × Option Commit)
+  -- the tags made, by their refs
   pub tags : List (Bytes × Tag)
-  pub needs_done : Bool
   pub is_forced : Bool
   pub progress : Bytes
+  -- how many values there were at the start
+  pub held : ℕ
 
 abbrev pub start : History → State
-start h = record { history = h; marks = []; branches = []; tags = []; needs_done = false; is_forced = false; progress = [] }
+start h = record { history = h; marks = []; branches = []; tags = []; is_forced = false; progress = []; held = length h.values }
 
 abbrev pub byte_cmp : Bytes → Bytes → Ordering
 byte_cmp = slice_cmp nat_cmp
@@ -68,29 +74,14 @@ ok_or_mark (Some v) = Ok v
 abbrev pub at : State → ℕ → Result Value Fault
 at s n = ok_or_mark (lookup (nat_eq n) s.marks)
 
-abbrev pub commit_peeled : Value → Result Commit Fault
-commit_peeled (commit_value c) = Ok c
-commit_peeled (tag_value t) = Ok t.target
-commit_peeled _ = Err fault.WrongKind
-
--- no tag of a tag
+-- for a tag: no tag of a tag
 abbrev pub commit_alone : Value → Result Commit Fault
 commit_alone (commit_value c) = Ok c
 commit_alone _ = Err fault.WrongKind
 
-abbrev pub shown_value : Result Shown Fault → Result Value Fault
-shown_value (Ok (object v)) = Ok v
-shown_value (Ok (submodule x)) = Err fault.WrongKind
-shown_value (Err e) = Err e
-
 abbrev pub peeled_at : Target → Commit
 peeled_at (at_commit c) = c
 peeled_at (at_tag t) = t.target
-
--- the new history, the progress text and the commands read; or a fault with its command's number, and that text so far
-pub data Outcome : Type 0 where
-  finished : History → Bytes → ℕ → Outcome
-  refused : ℕ → Fault → Bytes → Outcome
 
 -- ---- the end
 
@@ -104,22 +95,41 @@ is_fast_forward s = s.is_forced || list_all (λ b. is_forward (ref_at s.history 
 abbrev pub with_branch : List (Bytes × Target) → Bytes × Option Commit → List (Bytes × Target)
 with_branch rs b = elim b.1 [ None ↦ rs | Some c ↦ put byte_cmp b.0 (at_commit c) rs ]
 
+-- these refs, overwritten by the branches with a commit, and then by the tags
+abbrev pub overwritten : State → List (Bytes × Target) → List (Bytes × Target)
+overwritten s refs = fold (λ rs t. put byte_cmp t.0 (at_tag t.1) rs) (fold with_branch refs s.branches) s.tags
+
 abbrev pub final_refs : State → List (Bytes × Target)
-final_refs s = fold (λ rs t. put byte_cmp t.0 (at_tag t.1) rs) (fold with_branch s.history.refs s.branches) s.tags
+final_refs s = overwritten s s.history.refs
 
 abbrev pub final : State → History
 final s = record { values = s.history.values; refs = final_refs s }
 
+-- how many commands were read, values added, and refs published, each name once
+pub record Report : Type 0 where
+  pub commands : ℕ
+  pub objects : ℕ
+  pub refs : ℕ
+
+-- after n commands
+abbrev pub report : ℕ → State → Report
+report n s = record { commands = n; objects = length s.history.values - s.held; refs = length (overwritten s []) }
+
+-- the new history, the progress text and the report; or a fault with its command's number, and the progress text so far
+pub data Outcome : Type 0 where
+  finished : History → Bytes → Report → Outcome
+  refused : ℕ → Fault → Bytes → Outcome
+
 -- n commands were read before; the end is the reader's: none, or a fault
 abbrev pub ended : ℕ → State → Option Fault → Outcome
 ended n s (Some e) = refused (n + 1) e s.progress
-ended n s None = if is_fast_forward s then finished (final s) s.progress n else refused (n + 1) fault.NotFastForward s.progress
+ended n s None = if is_fast_forward s then finished (final s) s.progress (report n s) else refused (n + 1) fault.NotFastForward s.progress
 
 -- the name of values, and how a revision's text is read
 module _ (name : Kind → Bytes → Bytes) (read : Bytes → Result Revision Fault) where
-  abbrev pub revision_value : History → Result Revision Fault → Result Value Fault
-  revision_value h (Err e) = Err e
-  revision_value h (Ok r) = shown_value (denoted name h r)
+  -- over the refs as at the start and the values so far
+  abbrev pub revision_value : State → Bytes → Result Value Fault
+  revision_value s x = and_then (read x) (λ r. value_denoted name s.history r)
 
   abbrev pub branch_commit : Option Commit → Result Commit Fault
   branch_commit None = Err fault.EmptyBranch
@@ -131,7 +141,7 @@ module _ (name : Kind → Bytes → Bytes) (read : Bytes → Result Revision Fau
 
   abbrev pub committed : (Value → Result Commit Fault) → State → CommitIsh → Result Commit Fault
   committed kind s (Marked n) = and_then (at s n) kind
-  committed kind s (Named x) = or_branch (lookup (same_bytes x) s.branches) (and_then (revision_value s.history (read x)) kind)
+  committed kind s (Named x) = or_branch (lookup (same_bytes x) s.branches) (and_then (revision_value s x) kind)
 
   -- for the commits and resets of a branch: itself is refused first
   abbrev pub is_itself : Bytes → CommitIsh → Bool
@@ -139,7 +149,7 @@ module _ (name : Kind → Bytes → Bytes) (read : Bytes → Result Revision Fau
   is_itself b (Named x) = same_bytes b x
 
   abbrev pub committed_for : Bytes → State → CommitIsh → Result Commit Fault
-  committed_for b s x = if is_itself b x then Err fault.FromItself else committed commit_peeled s x
+  committed_for b s x = if is_itself b x then Err fault.FromItself else committed commit_in s x
 
   abbrev pub all_committed : Bytes → State → List CommitIsh → Result (List Commit) Fault
   all_committed b s [] = Ok []
@@ -151,13 +161,11 @@ module _ (name : Kind → Bytes → Bytes) (read : Bytes → Result Revision Fau
   blob_bytes (blob_value x) = Ok x
   blob_bytes _ = Err fault.WrongKind
 
-  abbrev pub object_of : State → Bytes → Result Value Fault
-  object_of s x = shown_value (and_then (base_value name s.history x) (λ v. Ok (object v)))
-
+  -- a gitlink's digits are kept in lower case
   abbrev pub content : State → Mode → DataRef → Result (State × Bytes) Fault
-  content s Gitlink (Object x) = Ok (s, x)
+  content s Gitlink (Object x) = Ok (s, map lower x)
   content s m (Mark n) = and_then (at s n) (λ v. and_then (blob_bytes v) (λ x. Ok (s, x)))
-  content s m (Object x) = and_then (object_of s x) (λ v. and_then (blob_bytes v) (λ y. Ok (s, y)))
+  content s m (Object x) = and_then (base_value name s.history x) (λ v. and_then (blob_bytes v) (λ y. Ok (s, y)))
   content s m (Inline x) = Ok (added (blob_value x) s, x)
 
   abbrev pub changed : State → FileMap Bytes → Change → Result (State × FileMap Bytes) Fault
@@ -211,7 +219,7 @@ module _ (name : Kind → Bytes → Bytes) (read : Bytes → Result Revision Fau
       and_then (committed commit_alone s t.target) (λ c.
       let v : Tag = record { target = c; name = t.name; tagger = t.tagger; message = t.message } in
       let s' : State = marked t.mark (tag_value v) (added (tag_value v) s) in
-      Ok (record s' { tags = put byte_cmp (codes "refs/tags/" ++ t.name) v s'.tags }))
+      Ok (record s' { tags = put byte_cmp (tag_ref t.name) v s'.tags }))
 
   abbrev pub step_reset : State → Bytes → Option CommitIsh → Result State Fault
   step_reset s b None = Ok (on_branch b None s)
@@ -223,15 +231,27 @@ module _ (name : Kind → Bytes → Bytes) (read : Bytes → Result Revision Fau
   step s (command.Tag t) = step_tag s t
   step s (Reset r) = step_reset s r.ref r.parent
   step s (Progress x) = Ok (record s { progress = s.progress ++ codes "progress " ++ x ++ 10 ∷ [] })
-  step s (Asks features.Done) = Ok (record s { needs_done = true })
   step s (Asks features.Force) = Ok (record s { is_forced = true })
+  -- the reader asks for the command `done` where the feature does
+  step s (Asks features.Done) = Ok s
   step s Checkpoint = Ok s
   step s (Asks features.RawDates) = Ok s
   step s (OptionLine t) = Ok s
   step s Done = Ok s
 
-  -- ---- all commands
+  -- ---- all commands, of which n were read before
 
   abbrev pub replayed : ℕ → State → List Command → Option Fault → Outcome
   replayed n s [] end = ended n s end
   replayed n s (c ∷ cs) end = elim (step s c) [ Ok t ↦ replayed (n + 1) t cs end | Err e ↦ refused (n + 1) e s.progress ]
+
+  -- the commands of a text that an end follows, or a failure, from a history on
+  abbrev pub replayed_commands : History → Commands → Outcome
+  replayed_commands h cs = replayed 0 (start h) cs.list cs.fault
+
+  abbrev pub replayed_text : History → Bytes → Bool → Outcome
+  replayed_text h text fails = replayed_commands h (commands_of (items_of text fails))
+
+-- what the import of a text gives
+unfoldable pub imported : (Kind → Bytes → Bytes) → History → Bytes → Bool → Outcome
+imported name h text fails = replayed_text name revision_of h text fails

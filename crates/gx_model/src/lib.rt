@@ -2,9 +2,16 @@
 //! No program logic stands here: a law is the contract of a public function with an empty body.
 #![tactic(auto)]
 
+pub mod export_laws;
 mod faults;
 mod features;
+pub mod file_map_laws;
+pub mod history_laws;
+pub mod object_laws;
 mod objects;
+pub mod repository_laws;
+pub mod stream_laws;
+pub mod text_laws;
 
 pub use faults::Fault;
 pub use features::Feature;

@@ -1,4 +1,4 @@
--- The laws of sound repositories.
+-- The laws of repositories.
 use Rattle.std.specs.Prelude.{◌≡◌, IsTrue, List, ◌∷◌, ◌++◌, map, Some, None, true, ◌↔◌}
 use Rattle.std.specs.List.{list_all, fold, AllByRecursion}
 use Rattle.std.specs.Option.{option_map}
@@ -21,6 +21,11 @@ use Rattle.gx_model.specs.Growth.{AreReady, all_trees, clashes, put, put_all, re
 use Rattle.gx_model.specs.Walks.{place_in, walked}
 use Rattle.gx_model.specs.Lookups.{commit_name_of, commit_named, first_named, records_begun_by}
 use Rattle.gx_model.specs.Denotation.{begun_by, find_ref, ref_names}
+
+-- a repository stands for one history at most
+abbrev pub StandsForOne : Type 0
+StandsForOne =
+    (name : Kind → Bytes → Bytes) → IsNamer name → (r : Records) (h k : History) → StandsFor name r h → StandsFor name r k → h ≡ k
 
 -- a sound repository stands for the history that is read from it, and whatever stands for a history is sound
 pub record HistoriesOf (name : Kind → Bytes → Bytes) : Type 0 where

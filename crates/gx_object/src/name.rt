@@ -1,0 +1,62 @@
+//! The names of objects.
+
+ghost use Rattle.std.specs.Prelude.{◌≡◌, ℕ, length, IsTrue, ◌↔◌};
+ghost use Rattle.std.specs.Option.{option_map};
+ghost use Rattle.std.specs.List.{list_all};
+ghost use Rattle.gx_model.specs.Objects.{hex, is_name};
+ghost use Rattle.gx_model.specs.Naming.{name_in, lower_name_in};
+
+/// The name of an object: 20 bytes, ordered byte by byte. Source: gitglossary(7), "object name".
+#[derive(Clone, Copy, Debug, PartialEq, Eq, PartialOrd, Ord, Hash)]
+pub struct Name {
+    pub bytes: [u8; 20],
+}
+
+impl Name {
+    /// Its 40 digits, in lower case. Takes no memory.
+    pub fn hex(&self) -> [u8; 40]
+        ensures digits { result ≡ hex self.now.bytes }
+        ensures bytes { IsTrue (is_name self.now.bytes) }
+    {
+        digits(self.bytes.as_slice())
+    }
+
+    /// The name that 40 digits of either case give, and none for any other text.
+    /// Cost: the length of the text. Takes no memory. Source: gitrevisions(7), "sha1".
+    pub fn read(text: &[u8]) -> Option<Name>
+        ensures { option_map (λ name. name.bytes) result ≡ name_in text.now }
+    {
+        let mut bytes = [0; 20];
+        match hex::decode_to_slice(text, &mut bytes) {
+            Ok(()) => Some(Name { bytes }),
+            Err(_) => None,
+        }
+    }
+
+    /// The name that 40 lower-case digits give, and none for any other text.
+    /// Cost: the length of the text. Takes no memory.
+    pub fn read_lower(text: &[u8]) -> Option<Name>
+        ensures { option_map (λ name. name.bytes) result ≡ lower_name_in text.now }
+    {
+        if text.iter().any(|b| b.is_ascii_uppercase()) {
+            return None;
+        }
+        Name::read(text)
+    }
+}
+
+/// Two lower-case digits for each of 20 bytes.
+fn digits(bytes: &[u8]) -> [u8; 40]
+    requires { length bytes.now ≡ 20 }
+    ensures digits { result ≡ hex bytes.now }
+    ensures bytes { IsTrue (is_name bytes.now) }
+{
+    let mut digits = [0; 40];
+    match hex::encode_to_slice(bytes, &mut digits) {
+        Ok(()) => digits,
+        Err(_) => unreachable!(),
+    }
+}
+
+#[cfg(test)]
+mod tests;

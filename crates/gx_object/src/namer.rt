@@ -1,0 +1,95 @@
+//! What gives objects their names.
+
+ghost use Rattle.std.specs.Prelude.{◌≡◌, ℕ, List};
+ghost use Rattle.sha1.specs.Sha1.{sha1};
+ghost use Rattle.gx_model.specs.declared.objects.Kind.{Kind};
+ghost use Rattle.gx_model.specs.Objects.{IsNamer};
+ghost use Rattle.gx_model.specs.Naming.{kind_word, kind_number, record_text, short_name};
+ghost use Rattle.gx_object.specs.Namers.{sha1_is_namer, short_is_namer};
+
+use crate::{Kind, Name};
+use itoa::Buffer;
+use sha1::Sha1;
+
+/// Gives objects their names: equal kinds and bodies have equal names.
+pub trait Namer {
+    /// The bytes of the name that a kind and a body get.
+    ghost name_of: { Self → Kind → List ℕ → List ℕ };
+
+    /// The name of an object of this kind and body. Takes no memory.
+    fn name(&self, kind: Kind, body: &[u8]) -> Name
+        ensures { result.bytes ≡ name_of self.now kind body.now };
+
+    /// A name has 20 bytes.
+    ghost is_namer: { (n : Self) → IsNamer (name_of n) };
+}
+
+/// Names objects as Git does: by the SHA-1 digest of the kind's word, a space, the body's length, a NUL and the body.
+/// One pass over the body, which is not copied. Source: Pro Git, "Git Objects", and FIPS 180-4.
+#[derive(Clone, Copy, Debug)]
+pub struct Sha1Namer;
+
+impl Namer for Sha1Namer {
+    ghost name_of = { λ _ kind body. sha1 (record_text kind body) };
+
+    ghost is_namer = { λ _. sha1_is_namer };
+
+    fn name(&self, kind: Kind, body: &[u8]) -> Name {
+        let mut buffer = Buffer::new();
+        let mut hasher = Sha1::new();
+        hasher.update(word(kind));
+        hasher.update(b" ");
+        hasher.update(buffer.format(body.len()).as_bytes());
+        hasher.update(b"\0");
+        hasher.update(body);
+        Name {
+            bytes: hasher.finalize(),
+        }
+    }
+}
+
+/// Names many objects alike, for tests: 18 bytes 0x11, one byte for the kind (a blob 0, a tree 1, a commit 2, a tag 3),
+/// and the body's length modulo 256.
+#[derive(Clone, Copy, Debug)]
+pub struct ShortNamer;
+
+impl Namer for ShortNamer {
+    ghost name_of = { λ _ kind body. short_name kind body };
+
+    ghost is_namer = { λ _. short_is_namer };
+
+    #[tactic(auto, unfolding(gx_model::specs::Naming::short_name))]
+    fn name(&self, kind: Kind, body: &[u8]) -> Name {
+        let mut bytes = [0x11; 20];
+        bytes[18] = number(kind);
+        bytes[19] = (body.len() % 256) as u8;
+        Name { bytes }
+    }
+}
+
+/// The word that stands before a body where it is named.
+fn word(kind: Kind) -> &'static [u8]
+    ensures { result.now ≡ kind_word kind }
+{
+    match kind {
+        Kind::Blob => b"blob",
+        Kind::Tree => b"tree",
+        Kind::Commit => b"commit",
+        Kind::Tag => b"tag",
+    }
+}
+
+/// The kind's byte in the names of `ShortNamer`.
+fn number(kind: Kind) -> u8
+    ensures { result ≡ kind_number kind }
+{
+    match kind {
+        Kind::Blob => 0,
+        Kind::Tree => 1,
+        Kind::Commit => 2,
+        Kind::Tag => 3,
+    }
+}
+
+#[cfg(test)]
+mod tests;

@@ -1,0 +1,51 @@
+-- Records of which no two have one name, with one more.
+use Rattle.std.proofs.Common.{◌≡◌, Bool, true, false, cond, List, [], ◌∷◌, ◌++◌, length, map, Option, Some, None, refl, sym, ap, ◌∙◌}
+use Rattle.std.specs.Prelude.{nat_lt}
+use Rattle.std.specs.List.{list_all, list_any, AllByRecursion}
+use Rattle.std.specs.Cmp.Lexicographic.{bytes_decides}
+use Rattle.std.proofs.lemmas.List.{map_push}
+use Rattle.std.proofs.lemmas.List.Folds.{list_all-append}
+use Rattle.std.proofs.lemmas.Bool.{false≢true, false_from_ne_true, and_from, or_from, or_parts, eq-eqb}
+use Rattle.gx_model.specs.declared.objects.Kind.{Kind}
+use Rattle.gx_model.specs.Texts.{Bytes, same_bytes}
+use Rattle.gx_model.specs.Objects.{IsNamer, is_name}
+use Rattle.gx_model.specs.Histories.{AreDistinct, Record}
+use Rattle.gx_model.specs.Growth.{record_named}
+use Rattle.gx_store.specs.Stores.{AreHeld}
+
+abbrev names : List Record → List Bytes
+names rs = map (λ r. r.name) rs
+
+free_of : (b : Bool) (r : Record) (o : Option Record) → cond b (Some r) o ≡ None → (b ≡ false) × (o ≡ None)
+free_of true r o e = cc
+free_of false r o e = (refl, e)
+
+-- names that differ one way differ the other way
+apart : (a b : Bytes) → same_bytes a b ≡ false → same_bytes b a ≡ false
+apart a b e = false_from_ne_true _ (λ same. false≢true (sym e ∙ (bytes_decides a b).1 (sym ((bytes_decides b a).0 same))))
+
+not_among : (n : Bytes) (ns : List Bytes) (new : Bytes) → list_any (same_bytes n) ns ≡ false → same_bytes n new ≡ false → list_any (same_bytes n) (ns ++ new ∷ []) ≡ false
+not_among n [] new e h = or_from _ _ h refl
+not_among n (m ∷ ns) new e h = let p = or_parts (same_bytes n m) _ e in or_from _ _ p.0 (not_among n ns new p.1 h)
+
+distinct_more : (rs : List Record) (r : Record) → record_named rs r.name ≡ None → AreDistinct (names rs) → AreDistinct (names (rs ++ r ∷ []))
+distinct_more [] r free d = (refl, tt)
+distinct_more (s ∷ rs) r free d =
+    let p = free_of (same_bytes r.name s.name) s (record_named rs r.name) free in
+    let more = map_push (λ (x : Record). x.name) rs r in
+    (ap (list_any (same_bytes s.name)) more ∙ not_among s.name (names rs) r.name d.0 (apart r.name s.name p.0), distinct_more rs r p.1 d.1)
+
+named_more : (name : Kind → Bytes → Bytes) (rs : List Record) (r : Record) → r.name ≡ name r.kind r.body → AllByRecursion (λ s. s.name ≡ name s.kind s.body) rs → AllByRecursion (λ s. s.name ≡ name s.kind s.body) (rs ++ r ∷ [])
+named_more name [] r e h = (e, tt)
+named_more name (s ∷ rs) r e h = (h.0, named_more name rs r e h.1)
+
+pub held_more : (name : Kind → Bytes → Bytes) → IsNamer name → (rs : List Record) (r : Record) → r.name ≡ name r.kind r.body → record_named rs r.name ≡ None
+    → AreHeld name rs → AreHeld name (rs ++ r ∷ [])
+held_more name namer rs r e free h =
+    let long = ap length e ∙ namer.long r.kind r.body in
+    let bytes = ap (list_all (λ b. nat_lt b 256)) e ∙ namer.bytes r.kind r.body in
+    record {
+      distinct = distinct_more rs r free h.distinct;
+      named = named_more name rs r e h.named;
+      names = list_all-append (λ (s : Record). is_name s.name) rs (r ∷ []) ∙ and_from _ _ h.names (and_from _ _ (and_from _ _ (eq-eqb (length r.name) 20 long) bytes) refl);
+    }

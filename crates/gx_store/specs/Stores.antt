@@ -1,0 +1,38 @@
+-- What a store holds, and what a put does to it.
+use Rattle.std.specs.Prelude.{◌≡◌, List, map, Some, None, Result, Ok, Err, IsTrue}
+use Rattle.std.specs.List.{list_all, AllByRecursion}
+use Rattle.std.specs.Borrow.{Bor}
+use Rattle.gx_model.specs.declared.objects.Kind.{Kind}
+use Rattle.gx_model.specs.Texts.{Bytes}
+use Rattle.gx_model.specs.Objects.{is_name}
+use Rattle.gx_model.specs.Histories.{AreDistinct, Record}
+use Rattle.gx_model.specs.Growth.{put, record_named}
+use Rattle.gx_object.specs.declared.name.Name.{Name}
+use Rattle.gx_store.specs.declared.fault.StoreFault.{StoreFault}
+use Rattle.gx_store.specs.declared.fault.StoreFault.TheVariants.{OutOfMemory, NameHeld}
+
+-- a kind and a body, under their name
+abbrev pub record_for : (Kind → Bytes → Bytes) → Kind → Bytes → Record
+record_for name kind body = record { name = name kind body; kind = kind; body = body }
+
+-- names differ, and each is the namer's
+pub record AreHeld (name : Kind → Bytes → Bytes) (rs : List Record) : Type 0 where
+  pub distinct : AreDistinct (map (λ r. r.name) rs)
+  pub named : AllByRecursion (λ r. r.name ≡ name r.kind r.body) rs
+  pub names : IsTrue (list_all (λ r. is_name r.name) rs)
+
+-- what a put of this record does, and answers
+abbrev pub Puts : List Record → List Record → Record → Result Name StoreFault → Type 0
+Puts old new r (Ok name) = (name.bytes ≡ r.name) × (put old r ≡ Some new)
+Puts old new r (Err OutOfMemory) = (record_named old r.name ≡ None) × (new ≡ old)
+Puts old new r (Err NameHeld) = (put old r ≡ None) × (new ≡ old)
+
+-- what a look-up shows, through the reference that it lends
+abbrev pub seen : Kind × Bor Bytes → Kind × Bytes
+seen o = (o.0, o.1.now)
+
+abbrev pub object_of : Record → Kind × Bytes
+object_of r = (r.kind, r.body)
+
+abbrev pub seen_at : Name × Kind × Bor Bytes → Record
+seen_at o = record { name = o.0.bytes; kind = o.1; body = o.2.now }

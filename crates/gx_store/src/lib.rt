@@ -1,0 +1,9 @@
+//! Objects under their names, in the order in which they came.
+//! A record never changes, and other bytes under a held name are refused.
+#![tactic(auto)]
+
+mod fault;
+mod store;
+
+pub use fault::StoreFault;
+pub use store::Store;

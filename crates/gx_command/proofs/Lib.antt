@@ -1,1 +1,4 @@
 pub mod Takes
+pub mod Sequences
+pub mod Leaves
+pub mod Unrolled

@@ -4,7 +4,7 @@ use Rattle.std.proofs.lemmas.Grind.{common_steps}
 use Rattle.std.specs.Borrow.{Bor}
 use Rattle.gx_model.specs.declared.faults.Fault.TheVariants as model_faults
 use Rattle.gx_model.specs.Texts.{Bytes}
-use Rattle.gx_model.specs.Faults.{IsFaultOf, or_fault, ◌>>=◌}
+use Rattle.gx_model.specs.Faults.{IsFaultOf, ◌>>=◌}
 use Rattle.gx_model.specs.Items as model
 use Rattle.gx_model.specs.Items.{Stream, then_comes, Finished, Failed}
 use Rattle.gx_model.specs.Grammar.{rest_line, rest_line_in, words_of, is_word, rest_of}
@@ -14,7 +14,10 @@ use Rattle.gx_stream.specs.declared.item.Item.{Item}
 use Rattle.gx_stream.specs.declared.item.Item.TheVariants as items
 use Rattle.gx_command.specs.CommandFaults.{fault_of}
 use Rattle.gx_command.specs.Lines.{rest_in}
-use Rattle.gx_command.specs.Ahead.{AnswersRest, ReadNext, ReadRest, Takes, TakesFrom, TakesLine, TakesLineFrom}
+use Rattle.gx_command.specs.Ahead.{AnswersRest, Fails, ReadNext, ReadRest, Takes, TakesFrom, TakesLine, TakesLineFrom}
+use Rattle.gx_command.specs.Bodies.{ChangeIn, TakesChange, next_change, next_change_in}
+use Rattle.gx_command.specs.ChangeLines.{completed}
+use Rattle.gx_command.specs.declared.change_lines.ChangeLine.{ChangeLine}
 use Rattle.gx_command.specs.declared.fault.CommandFault.{CommandFault}
 use Rattle.gx_command.specs.declared.fault.CommandFault.TheVariants as faults
 
@@ -28,7 +31,7 @@ line_of_some : (word : Bytes) (i : Item) (s left : Stream) (rest : Bytes) → s 
 unfolding rest_line_in
 line_of_some word i s left rest first some = grind (arith, common_steps)
 
-line_of_fault : (word : Bytes) (i : Item) (s left : Stream) (f : CommandFault) → s ≡ then_comes (item_of i) left → IsFaultOf (fault_of f) (rest_in word (item_of i)) → IsFaultOf (fault_of f) (rest_line word s)
+line_of_fault : (word : Bytes) (i : Item) (s left : Stream) (f : CommandFault) → s ≡ then_comes (item_of i) left → Fails f (rest_in word (item_of i)) → Fails f (rest_line word s)
 unfolding rest_line_in
 line_of_fault word i s left f first fault = grind (arith, common_steps)
 
@@ -36,7 +39,7 @@ no_line : (word : Bytes) (s : Stream) → s ≡ ended Finished → rest_line wor
 unfolding rest_line_in
 no_line word s end = rw end refl
 
-failed_line : (word : Bytes) (s : Stream) (f : CommandFault) → s ≡ ended (Failed (fault_of f)) → IsFaultOf (fault_of f) (rest_line word s)
+failed_line : (word : Bytes) (s : Stream) (f : CommandFault) → s ≡ ended (Failed (fault_of f)) → Fails f (rest_line word s)
 unfolding rest_line_in
 failed_line word s f end = grind (arith, common_steps)
 
@@ -47,9 +50,46 @@ takes_line post answers word (Some s) new (Ok None) says (same, inr (left, n)) =
 takes_line post answers word (Some s) new (Ok (Some x)) says (left, n, same) =
     let a : AnswersRest answers word n.item (Ok (Some x)) = says n.item (Ok (Some x)) n.read in
     (left, record { rest = a.rest; line = line_of_some word n.item s left a.rest.now n.first a.line; read = a.read }, same)
-takes_line post answers word (Some s) new (Err f) says (inl out) = inl (rw out tt)
+takes_line post answers word (Some s) new (Err f) says (inl out) = inl (inl out)
 takes_line post answers word (Some s) new (Err f) says (inr (inl end)) = inl (failed_line word s f end)
 takes_line post answers word (Some s) new (Err f) says (inr (inr (left, n))) = by (says n.item (Err f) n.read) where
   by : AnswersRest answers word n.item (Err f) → TakesLineFrom word answers s new (Err f)
   by (inl fault) = inl (line_of_fault word n.item s left f n.first fault)
   by (inr a) = inr (left, record { rest = a.rest; line = line_of_some word n.item s left a.rest.now n.first a.line; read = a.read })
+
+-- ---- the item that comes next as the change that comes next
+
+change_none : (s : Stream) → s ≡ ended Finished → next_change s ≡ Ok (None, s)
+unfolding next_change_in
+change_none s end = rw end refl
+
+change_failed : (s : Stream) (f : CommandFault) → s ≡ ended (Failed (fault_of f)) → Fails f (next_change s)
+unfolding next_change_in
+change_failed s f end = inr (rw end refl)
+
+change_not : (A : Type 0) (i : Item) (s left : Stream) → s ≡ then_comes (item_of i) left → ChangeIn {A = A} (item_of i) left (Ok None) → next_change s ≡ Ok (None, s)
+unfolding next_change_in
+change_not A (items.Data b) s left first none = rw first refl
+change_not A (items.Line l) s left first none = rw (first, none) refl
+
+change_begun : {A : Type 0} (i : Item) (s left : Stream) (line : ChangeLine A) → s ≡ then_comes (item_of i) left → ChangeIn (item_of i) left (Ok (Some line)) → next_change s ≡ (completed line left >>= λ x. Ok (Some x.0, x.1))
+unfolding next_change_in
+change_begun (items.Data b) s left line first some = absurd cc
+change_begun (items.Line l) s left line first some = rw (first, some) refl
+
+change_refused : (A : Type 0) (i : Item) (s left : Stream) (f : CommandFault) → s ≡ then_comes (item_of i) left → ChangeIn {A = A} (item_of i) left (Err f) → Fails f (next_change s)
+unfolding next_change_in
+change_refused A (items.Data b) s left f first fault = absurd cc
+change_refused A (items.Line l) s left f first (given, is, fault) = by f fault where
+  by : (f : CommandFault) → IsFaultOf (fault_of f) given → Fails f (next_change s)
+  by faults.OutOfMemory h = inl refl
+  by f h = inr (rw (first, is, h) refl)
+
+pub takes_change : {A : Type 0} (post : Item → Result (Option (ChangeLine A)) CommandFault → Type 0) (old new : Option Stream) (r : Result (Option (ChangeLine A)) CommandFault) → ((i : Item) (q : Result (Option (ChangeLine A)) CommandFault) → post i q → (s : Stream) → ChangeIn (item_of i) s q) → Takes post old new r → TakesChange old new r
+takes_change post None new r says h = tt
+takes_change post (Some s) new (Ok None) says (same, inl end) = (same, change_none s end)
+takes_change {A} post (Some s) new (Ok None) says (same, inr (left, n)) = (same, change_not A n.item s left n.first (says n.item (Ok None) n.read left))
+takes_change post (Some s) new (Ok (Some line)) says (left, n, same) = (left, same, change_begun n.item s left line n.first (says n.item (Ok (Some line)) n.read left))
+takes_change post (Some s) new (Err f) says (inl out) = inl out
+takes_change post (Some s) new (Err f) says (inr (inl end)) = change_failed s f end
+takes_change {A} post (Some s) new (Err f) says (inr (inr (left, n))) = change_refused A n.item s left f n.first (says n.item (Err f) n.read left)

@@ -2,7 +2,7 @@
 use Rattle.std.specs.Prelude.{◌≡◌, ℕ, ◌+◌, ◌≤◌, ◌<◌, ◌⊎◌, Option, Some, None, Result, Ok, Err, option_map}
 use Rattle.std.specs.Borrow.{Bor}
 use Rattle.gx_model.specs.Texts.{Bytes}
-use Rattle.gx_model.specs.Faults.{IsFaultOf}
+use Rattle.gx_model.specs.Faults.{Given}
 use Rattle.gx_model.specs.Items as model
 use Rattle.gx_model.specs.Items.{Stream, then_comes, Finished, Failed}
 use Rattle.gx_model.specs.Grammar.{Read, rest_line}
@@ -26,7 +26,7 @@ with_held None s = s
 with_held (Some h) s = option_map (then_comes (held_item h)) s
 
 -- what is still to come, where the source tells it
-abbrev pub to_come : {R A : Type 0} → Ahead R A → Option Stream
+unfoldable pub to_come : {R A : Type 0} → Ahead R A → Option Stream
 to_come a = with_held a.held a.items.stream
 
 abbrev pub held_count : {A : Type 0} → Option (Held A) → ℕ
@@ -34,15 +34,18 @@ held_count None = 0
 held_count (Some h) = 1
 
 -- how many items may come at most
-abbrev pub most : {R A : Type 0} → Ahead R A → ℕ
+unfoldable pub most : {R A : Type 0} → Ahead R A → ℕ
 most a = a.items.most + held_count a.held
 
+-- The fault is the definition's, unless memory ran out.
+abbrev pub Fails : {Y : Type 0} → CommandFault → Given Y → Type 0
+Fails f given = (f ≡ OutOfMemory) ⊎ (given ≡ Err (fault_of f))
+
 -- Where the items to come are told, the answer, seen so, and what is left are what the definition gives of them.
--- So is the fault, unless memory ran out.
 abbrev pub Reads : {X Y : Type 0} → (X → Y) → (Stream → Read Y) → Option Stream → Option Stream → Result X CommandFault → Type 0
 Reads view reading None new answer = Unit {0}
 Reads view reading (Some s) new (Ok x) = (t : Stream) × (new ≡ Some t) × (reading s ≡ Ok (view x, t))
-Reads view reading (Some s) new (Err f) = IsFaultOf (fault_of f) (reading s)
+Reads view reading (Some s) new (Err f) = Fails f (reading s)
 
 -- the item that comes next was read by a function that may answer so
 pub record ReadNext {T : Type 0} (answers : Item → Result (Option T) CommandFault → Type 0) (s left : Stream) (answer : Result (Option T) CommandFault) : Type 0 where
@@ -75,13 +78,13 @@ pub record RestOf {T : Type 0} (answers : Bor Bytes → Result T CommandFault �
 abbrev pub AnswersRest : {T : Type 0} → (Bor Bytes → Result T CommandFault → Type 0) → Bytes → Item → Result (Option T) CommandFault → Type 0
 AnswersRest answers word item (Ok None) = rest_in word (item_of item) ≡ Ok None
 AnswersRest answers word item (Ok (Some x)) = RestOf answers word item (Ok x)
-AnswersRest answers word item (Err f) = IsFaultOf (fault_of f) (rest_in word (item_of item)) ⊎ RestOf answers word item (Err f)
+AnswersRest answers word item (Err f) = Fails f (rest_in word (item_of item)) ⊎ RestOf answers word item (Err f)
 
 -- A line with the word is taken, and its rest is read.
 abbrev pub TakesLineFrom : {T : Type 0} → Bytes → (Bor Bytes → Result T CommandFault → Type 0) → Stream → Option Stream → Result (Option T) CommandFault → Type 0
 TakesLineFrom word answers s new (Ok (Some x)) = (left : Stream) × ReadRest answers word s left (Ok x) × (new ≡ Some left)
 TakesLineFrom word answers s new (Ok None) = (left : Stream) × (rest_line word s ≡ Ok (None, left)) × (new ≡ Some left)
-TakesLineFrom word answers s new (Err f) = IsFaultOf (fault_of f) (rest_line word s) ⊎ ((left : Stream) × ReadRest answers word s left (Err f))
+TakesLineFrom word answers s new (Err f) = Fails f (rest_line word s) ⊎ ((left : Stream) × ReadRest answers word s left (Err f))
 
 abbrev pub TakesLine : {T : Type 0} → Bytes → (Bor Bytes → Result T CommandFault → Type 0) → Option Stream → Option Stream → Result (Option T) CommandFault → Type 0
 TakesLine word answers None new answer = Unit {0}

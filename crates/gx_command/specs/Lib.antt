@@ -3,3 +3,4 @@ pub mod Lines
 pub mod Views
 pub mod ChangeLines
 pub mod Ahead
+pub mod Bodies

@@ -47,6 +47,7 @@ pub(crate) struct Ahead<R: Source, A: Allocator> {
 
 impl<R: Source, A: Allocator + Copy> Ahead<R, A> {
     /// Takes the next item where `read` reads it. Otherwise the item stays.
+    #[tactic(auto, unfolding(crate::specs::Ahead::to_come, crate::specs::Ahead::most))]
     pub(crate) fn take<T: Drop, F>(&mut self, read: F) -> Result<Option<T>, CommandFault>
     where
         F: FnOnce(Item<'_>) -> Result<Option<T>, CommandFault>,

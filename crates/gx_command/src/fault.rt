@@ -6,7 +6,7 @@ ghost use Rattle.gx_command.specs.CommandFaults.{fault_of, of_stream, of_text};
 
 use gx_stream::StreamFault;
 use gx_text::TextFault;
-use std::alloc::AllocError;
+use std::alloc::{AllocError, AllocFailed};
 use thiserror::Error;
 
 /// Why a stream has no further command.
@@ -46,6 +46,14 @@ impl From<AllocError> for CommandFault {
     ghost from_gives = { λ _ fault. fault ≡ OutOfMemory };
 
     fn from(_error: AllocError) -> CommandFault {
+        CommandFault::OutOfMemory
+    }
+}
+
+impl<T: Drop> From<AllocFailed<T>> for CommandFault {
+    ghost from_gives = { λ _ fault. fault ≡ OutOfMemory };
+
+    fn from(_error: AllocFailed<T>) -> CommandFault {
         CommandFault::OutOfMemory
     }
 }

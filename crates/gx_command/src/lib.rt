@@ -3,6 +3,7 @@
 #![tactic(auto)]
 
 mod ahead;
+mod bodies;
 mod change_lines;
 mod commands;
 mod fault;

@@ -107,8 +107,9 @@ of_mark (Some g) = g
 unfoldable pub mark_of : Bytes → Given ℕ
 mark_of bs = of_mark (mark_text bs)
 
-abbrev pub any_text : Bytes → Given (Bytes)
-any_text bs = Ok bs
+-- a text that plays no part
+abbrev pub any_text : Bytes → Given (Unit {0})
+any_text bs = Ok tt
 
 abbrev pub some_text : Bytes → Given (Bytes)
 some_text bs = if length bs == 0 then Err faults.BadLine else Ok bs
@@ -257,7 +258,7 @@ merges_within (suc n) s = optional (codes "merge") commit_ish_of s >>= λ x. by 
   by (Some c) t again = again >>= λ xs. Ok (c ∷ xs.0, xs.1)
 
 abbrev pub merges : Stream → Read (List CommitIsh)
-merges s = merges_within (length s.items) s
+merges s = merges_within (suc (length s.items)) s
 
 -- what stands after a commit or a reset: an empty line is taken, and another item stays
 unfoldable pub item_after_in : List Item → Stream → Read (Unit {0})

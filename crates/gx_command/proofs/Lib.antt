@@ -1,4 +1,6 @@
-pub mod Takes
+pub mod TakenLines
+pub mod TakenChanges
+pub mod TakenHeads
 pub mod Sequences
 pub mod Leaves
 pub mod Unrolled

@@ -34,3 +34,8 @@ all_read shown x (Some s) = (s, refl, refl)
 pub falls_not : {T : Type 0} (old new : ℕ) (taken : Option T) → Falls old new (Ok taken) → new ≤ old
 falls_not old new None h = h
 falls_not old new (Some x) h = omega (arith, h)
+
+-- another view of the same answer
+pub reads_as : {X Y Z : Type 0} (view : X → Y) (shown : Z → Y) (reading : Stream → Read Y) (old new : Option Stream) (x : X) (z : Z) → view x ≡ shown z → Reads view reading old new (Ok x) → Reads shown reading old new (Ok z)
+reads_as view shown reading None new x z same h = tt
+reads_as view shown reading (Some s) new x z same (t, is, e) = (t, is, e ∙ ap (λ y. Ok (y, t)) same)

@@ -4,3 +4,4 @@ pub mod Views
 pub mod ChangeLines
 pub mod Ahead
 pub mod Bodies
+pub mod Heads

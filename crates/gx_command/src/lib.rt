@@ -7,6 +7,7 @@ mod bodies;
 mod change_lines;
 mod commands;
 mod fault;
+mod heads;
 mod lines;
 mod texts;
 

@@ -1,5 +1,5 @@
 use Rattle.std.proofs.Common.{rules}
-use Rattle.gx_command.proofs.Takes.{takes_change}
+use Rattle.gx_command.proofs.TakenChanges.{takes_change}
 use Rattle.gx_command.proofs.ahead.Ahead.change_line.Goals as goal
 
 pub returns-clause-takes : goal.returns-clause-takes

@@ -1,5 +1,5 @@
 use Rattle.std.proofs.Common.{rules, arith}
-use Rattle.gx_command.proofs.Takes.{takes_line}
+use Rattle.gx_command.proofs.TakenLines.{takes_line}
 use Rattle.gx_command.proofs.ahead.Ahead.optional.Goals as goal
 
 pub returns-clause-takes : goal.returns-clause-takes

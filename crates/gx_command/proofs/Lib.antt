@@ -4,3 +4,5 @@ pub mod TakenHeads
 pub mod Sequences
 pub mod Leaves
 pub mod Unrolled
+pub mod Steps
+pub mod NextCommands

@@ -5,3 +5,4 @@ pub mod ChangeLines
 pub mod Ahead
 pub mod Bodies
 pub mod Heads
+pub mod Reading

@@ -1,6 +1,8 @@
 //! The items of a stream, with the one that was read ahead.
 
-ghost use Rattle.std.specs.Prelude.{◌≡◌, IfOk};
+ghost use Rattle.std.specs.Prelude.{◌≡◌, ◌-◌, ◌^◌, IfOk};
+ghost use Rattle.std.specs.Option.{option_map};
+ghost use Rattle.gx_stream.specs.Heard.{items_from};
 ghost use Rattle.gx_stream.specs.Reading.{item_of};
 ghost use Rattle.gx_command.specs.Ahead.{AnswersRest, Takes, TakesLine, Falls, to_come, most, held_item};
 
@@ -46,6 +48,19 @@ pub(crate) struct Ahead<R: Source, A: Allocator> {
 }
 
 impl<R: Source, A: Allocator + Copy> Ahead<R, A> {
+    /// All the items of a source.
+    #[tactic(auto, unfolding(crate::specs::Ahead::to_come, crate::specs::Ahead::most))]
+    pub(crate) fn new(alloc: A, source: R) -> Ahead<R, A>
+        ensures comes { to_come result ≡ option_map items_from (R.coming source) }
+        ensures most { most result ≡ 2 ^ 63 - 1 }
+    {
+        Ahead {
+            alloc,
+            items: ItemReader::new(alloc, source),
+            held: None,
+        }
+    }
+
     /// Takes the next item where `read` reads it. Otherwise the item stays.
     #[tactic(auto, unfolding(crate::specs::Ahead::to_come, crate::specs::Ahead::most))]
     pub(crate) fn take<T: Drop, F>(&mut self, read: F) -> Result<Option<T>, CommandFault>

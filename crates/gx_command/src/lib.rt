@@ -9,8 +9,10 @@ mod commands;
 mod fault;
 mod heads;
 mod lines;
+mod reader;
 mod texts;
 
 pub use commands::{Blob, Change, Command, Commit, CommitIsh, DataRef, Reset, Tag};
 pub use fault::CommandFault;
 pub use gx_model::Feature;
+pub use reader::CommandReader;

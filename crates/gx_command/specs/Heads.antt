@@ -17,9 +17,9 @@ use Rattle.gx_command.specs.declared.heads.Start.TheVariants as start
 -- the command that begins so, with the items after its first line
 abbrev pub begun : {A : Type 0} → Head A → Stream → Read model.Command
 begun Blob s = blob_at s
-begun (Commit ref) s = commit_at ref.items s
-begun (Tag name) s = tag_at name.items s
-begun (Reset ref) s = reset_at ref.items s
+begun (Commit branch) s = commit_at branch.bytes.items s
+begun (Tag name) s = tag_at name.bytes.items s
+begun (Reset branch) s = reset_at branch.bytes.items s
 begun (Whole c) s = Ok (shown_command c, s)
 
 abbrev pub Begins : {A : Type 0} → Stream → Result (Head A) CommandFault → Read model.Command → Type 0

@@ -1,5 +1,7 @@
 pub mod CommandFaults
 pub mod Lines
+pub mod DataRefs
+pub mod Places
 pub mod Views
 pub mod ChangeLines
 pub mod Ahead

@@ -11,6 +11,7 @@ use Rattle.gx_command.specs.declared.commands.CommitIsh.{CommitIsh}
 use Rattle.gx_command.specs.declared.commands.CommitIsh.TheVariants as commit_ish
 use Rattle.gx_command.specs.declared.commands.DataRef.{DataRef}
 use Rattle.gx_command.specs.declared.commands.DataRef.TheVariants as data_ref
+use Rattle.gx_command.specs.declared.commands.Modify.{Modify}
 use Rattle.gx_command.specs.declared.commands.Change.{Change}
 use Rattle.gx_command.specs.declared.commands.Change.TheVariants as change
 use Rattle.gx_command.specs.declared.commands.Command.{Command}
@@ -23,11 +24,14 @@ shown_commit_ish (commit_ish.Text t) = model.Named t.items
 
 abbrev pub shown_data : {A : Type 0} → DataRef A → model.DataRef
 shown_data (data_ref.Mark n) = model.Mark n
-shown_data (data_ref.Name digits) = model.Object digits
+shown_data (data_ref.Name d) = model.Object d.digits
 shown_data (data_ref.Inline bytes) = model.Inline bytes.items
 
+abbrev pub shown_modify : {A : Type 0} → Modify A → model.Change
+shown_modify m = model.Modify m.mode (shown_data m.data_ref) m.path
+
 abbrev pub shown_change : {A : Type 0} → Change A → model.Change
-shown_change (change.Modify mode from path) = model.Modify mode (shown_data from) path
+shown_change (change.Modify m) = shown_modify m
 shown_change (change.Remove path) = model.Remove path
 shown_change (change.Copy source destination) = model.Copy source destination
 shown_change (change.Rename source destination) = model.Rename source destination
@@ -38,11 +42,11 @@ shown_blob b = model.Blob (record { mark = b.mark; bytes = b.bytes.items })
 
 abbrev pub shown_commit : {A : Type 0} → Commit A → model.Command
 shown_commit c = model.Commit (record {
-  ref = c.ref_name.items;
+  ref = c.branch.bytes.items;
   mark = c.mark;
-  author = option_map (λ v. v.items) c.author;
-  committer = c.committer.items;
-  encoding = option_map (λ v. v.items) c.encoding;
+  author = option_map (λ i. i.bytes.items) c.author;
+  committer = c.committer.bytes.items;
+  encoding = option_map (λ e. e.name.items) c.encoding;
   message = c.message.items;
   parent = option_map shown_commit_ish c.from;
   merges = map shown_commit_ish c.merges.items;
@@ -51,15 +55,15 @@ shown_commit c = model.Commit (record {
 
 abbrev pub shown_tag : {A : Type 0} → Tag A → model.Command
 shown_tag t = model.Tag (record {
-  name = t.name.items;
+  name = t.name.bytes.items;
   mark = t.mark;
   target = shown_commit_ish t.from;
-  tagger = option_map (λ v. v.items) t.tagger;
+  tagger = option_map (λ i. i.bytes.items) t.tagger;
   message = t.message.items;
 })
 
 abbrev pub shown_reset : {A : Type 0} → Reset A → model.Command
-shown_reset r = model.Reset (record { ref = r.ref_name.items; parent = option_map shown_commit_ish r.from })
+shown_reset r = model.Reset (record { ref = r.branch.bytes.items; parent = option_map shown_commit_ish r.from })
 
 abbrev pub shown_command : {A : Type 0} → Command A → model.Command
 shown_command (command.Blob b) = shown_blob b

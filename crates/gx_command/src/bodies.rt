@@ -1,22 +1,28 @@
 //! The lines and blocks of each command after its first line.
 
-ghost use Rattle.std.specs.Prelude.{◌≡◌, codes, map};
+ghost use Rattle.std.specs.Prelude.{◌≡◌, IsTrue, codes, map, IfOk};
 ghost use Rattle.std.specs.Option.{option_map};
 ghost use Rattle.gx_model.specs.Faults.{Gives};
 ghost use Rattle.gx_model.specs.Items.{Stream};
 ghost use Rattle.gx_stream.specs.Reading.{item_of};
-ghost use Rattle.gx_model.specs.Grammar.{optional, needed, block, mark_of, any_text, ident_of, some_text, commit_ish_of, unsigned, item_after, merges, changes, blob_at, links_at, commit_at, tag_at, reset_at};
+ghost use Rattle.gx_model.specs.Grammar.{optional, needed, block, mark_of, any_text, ident_of, some_text, commit_ish_of, unsigned, item_after, bytes_from, merges, changes, blob_at, links_at, commit_at, tag_at, reset_at};
 ghost use Rattle.gx_command.specs.Ahead.{Reads, Falls, FallsNot, to_come, most};
 ghost use Rattle.gx_command.specs.Bodies.{next_change, shown_links, ChangeIn, TakesChange, signature_in, empty_line};
 ghost use Rattle.gx_command.specs.CommandFaults.{fault_of};
-ghost use Rattle.gx_command.specs.Views.{shown_commit_ish, shown_change, shown_blob, shown_commit, shown_tag, shown_reset};
+ghost use Rattle.gx_model.specs.declared.objects.Mode.{Mode};
+ghost use Rattle.gx_command.specs.ChangeLines.{completed_modify, shown_place};
+ghost use Rattle.gx_command.specs.DataRefs.{is_suited};
+ghost use Rattle.gx_command.specs.Places.{is_suited_place};
+ghost use Rattle.gx_command.specs.Views.{shown_commit_ish, shown_data, shown_modify, shown_change, shown_blob, shown_commit, shown_tag, shown_reset};
 
 use crate::ahead::{Ahead, Held};
 use crate::change_lines::{ChangeLine, read_change};
-use crate::commands::{Blob, Change, Commit, CommitIsh, DataRef, Reset, Tag};
+use crate::commands::{Blob, Change, Commit, CommitIsh, DataRef, Modify, Reset, Tag};
 use crate::fault::CommandFault;
 use crate::lines::Words;
-use crate::texts::{read_commit_ish, read_encoding, read_ident, read_mark};
+use crate::marks::{read_commit_ish, read_mark};
+use crate::modify_line::{ModifyLine, Place};
+use crate::texts::{Encoding, Identity, RefName, TagName};
 use gx_stream::Item;
 use gx_text::Source;
 use std::alloc::Allocator;
@@ -42,8 +48,8 @@ impl<R: Source, A: Allocator + Copy> Ahead<R, A> {
     }
 
     #[tactic(auto, unfolding(gx_model::specs::Grammar::commit_at))]
-    pub(crate) fn commit(&mut self, ref_name: Vec<u8, A>) -> Result<Commit<A>, CommandFault>
-        ensures reads { Reads shown_commit (commit_at ref_name.items) (to_come self.old) (to_come self.new) result }
+    pub(crate) fn commit(&mut self, branch: RefName<A>) -> Result<Commit<A>, CommandFault>
+        ensures reads { Reads shown_commit (commit_at branch.bytes.items) (to_come self.old) (to_come self.new) result }
         ensures falls { FallsNot (most self.old) (most self.new) result }
     {
         let mark = self.mark()?;
@@ -59,7 +65,7 @@ impl<R: Source, A: Allocator + Copy> Ahead<R, A> {
             changes,
         } = self.links()?;
         Ok(Commit {
-            ref_name,
+            branch,
             mark,
             author,
             committer,
@@ -88,8 +94,8 @@ impl<R: Source, A: Allocator + Copy> Ahead<R, A> {
     }
 
     #[tactic(auto, unfolding(gx_model::specs::Grammar::tag_at))]
-    pub(crate) fn tag(&mut self, name: Vec<u8, A>) -> Result<Tag<A>, CommandFault>
-        ensures reads { Reads shown_tag (tag_at name.items) (to_come self.old) (to_come self.new) result }
+    pub(crate) fn tag(&mut self, name: TagName<A>) -> Result<Tag<A>, CommandFault>
+        ensures reads { Reads shown_tag (tag_at name.bytes.items) (to_come self.old) (to_come self.new) result }
         ensures falls { FallsNot (most self.old) (most self.new) result }
     {
         let mark = self.mark()?;
@@ -107,13 +113,13 @@ impl<R: Source, A: Allocator + Copy> Ahead<R, A> {
     }
 
     #[tactic(auto, unfolding(gx_model::specs::Grammar::reset_at))]
-    pub(crate) fn reset(&mut self, ref_name: Vec<u8, A>) -> Result<Reset<A>, CommandFault>
-        ensures reads { Reads shown_reset (reset_at ref_name.items) (to_come self.old) (to_come self.new) result }
+    pub(crate) fn reset(&mut self, branch: RefName<A>) -> Result<Reset<A>, CommandFault>
+        ensures reads { Reads shown_reset (reset_at branch.bytes.items) (to_come self.old) (to_come self.new) result }
         ensures falls { FallsNot (most self.old) (most self.new) result }
     {
         let from = self.commit_ish(b"from")?;
         self.end()?;
-        Ok(Reset { ref_name, from })
+        Ok(Reset { branch, from })
     }
 
     fn mark(&mut self) -> Result<Option<u64>, CommandFault>
@@ -130,27 +136,27 @@ impl<R: Source, A: Allocator + Copy> Ahead<R, A> {
         self.optional(b"original-oid", |_text| Ok(()))
     }
 
-    fn ident(&mut self, word: &[u8]) -> Result<Option<Vec<u8, A>>, CommandFault>
-        ensures reads { Reads (option_map (λ v. v.items)) (optional word.now ident_of) (to_come self.old) (to_come self.new) result }
+    fn ident(&mut self, word: &[u8]) -> Result<Option<Identity<A>>, CommandFault>
+        ensures reads { Reads (option_map (λ i. i.bytes.items)) (optional word.now ident_of) (to_come self.old) (to_come self.new) result }
         ensures falls { FallsNot (most self.old) (most self.new) result }
     {
         let alloc = self.alloc;
-        self.optional(word, |text| read_ident(alloc, text))
+        self.optional(word, |text| Identity::read(alloc, text))
     }
 
-    fn needed_ident(&mut self, word: &[u8]) -> Result<Vec<u8, A>, CommandFault>
-        ensures reads { Reads (λ v. v.items) (needed word.now ident_of) (to_come self.old) (to_come self.new) result }
+    fn needed_ident(&mut self, word: &[u8]) -> Result<Identity<A>, CommandFault>
+        ensures reads { Reads (λ i. i.bytes.items) (needed word.now ident_of) (to_come self.old) (to_come self.new) result }
         ensures falls { FallsNot (most self.old) (most self.new) result }
     {
         self.ident(word)?.ok_or(CommandFault::BadLine)
     }
 
-    fn encoding(&mut self) -> Result<Option<Vec<u8, A>>, CommandFault>
-        ensures reads { Reads (option_map (λ v. v.items)) (optional (codes "encoding") some_text) (to_come self.old) (to_come self.new) result }
+    fn encoding(&mut self) -> Result<Option<Encoding<A>>, CommandFault>
+        ensures reads { Reads (option_map (λ e. e.name.items)) (optional (codes "encoding") some_text) (to_come self.old) (to_come self.new) result }
         ensures falls { FallsNot (most self.old) (most self.new) result }
     {
         let alloc = self.alloc;
-        self.optional(b"encoding", |text| read_encoding(alloc, text))
+        self.optional(b"encoding", |text| Encoding::read(alloc, text))
     }
 
     fn commit_ish(&mut self, word: &[u8]) -> Result<Option<CommitIsh<A>>, CommandFault>
@@ -199,14 +205,33 @@ impl<R: Source, A: Allocator + Copy> Ahead<R, A> {
         match self.change_line()? {
             None => Ok(None),
             Some(ChangeLine::Whole(change)) => Ok(Some(change)),
-            Some(ChangeLine::Inline { mode, path }) => {
-                let data_ref = DataRef::Inline(self.block()?);
-                Ok(Some(Change::Modify {
-                    mode,
-                    data_ref,
-                    path,
-                }))
-            }
+            Some(ChangeLine::Modify(line)) => Ok(Some(Change::Modify(self.modify(line)?))),
+        }
+    }
+
+    /// The modify of a line, with the block that may belong to it.
+    fn modify(&mut self, line: ModifyLine<A>) -> Result<Modify<A>, CommandFault>
+        ensures reads { Reads shown_modify (completed_modify line) (to_come self.old) (to_come self.new) result }
+        ensures falls { FallsNot (most self.old) (most self.new) result }
+    {
+        let ModifyLine { mode, place, path } = line;
+        let data_ref = self.data_ref(place)?;
+        Ok(Modify {
+            mode,
+            data_ref,
+            path,
+        })
+    }
+
+    fn data_ref(&mut self, place: Place) -> Result<DataRef<A>, CommandFault>
+        ensures reads { Reads shown_data (bytes_from (shown_place place)) (to_come self.old) (to_come self.new) result }
+        ensures suits { IfOk result (λ data_ref. (mode : Mode) → IsTrue (is_suited_place mode place) → IsTrue (is_suited mode data_ref)) }
+        ensures falls { FallsNot (most self.old) (most self.new) result }
+    {
+        match place {
+            Place::Mark(mark) => Ok(DataRef::Mark(mark)),
+            Place::Name(digits) => Ok(DataRef::Name(digits)),
+            Place::Block => Ok(DataRef::Inline(self.block()?)),
         }
     }
 

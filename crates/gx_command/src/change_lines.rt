@@ -1,6 +1,7 @@
 //! The lines of changes.
 
-ghost use Rattle.std.specs.Prelude.{◌≡◌};
+ghost use Rattle.std.specs.Prelude.{◌≡◌, IsTrue, IfOk, OnOk};
+ghost use Rattle.gx_command.specs.Places.{is_file_mode, is_suited_place};
 ghost use Rattle.gx_model.specs.Faults.{Gives};
 ghost use Rattle.gx_model.specs.Items.{Stream};
 ghost use Rattle.gx_model.specs.Paths.{is_quoted};
@@ -8,27 +9,21 @@ ghost use Rattle.gx_model.specs.Grammar.{mode_of, where_of, suits, last_path, so
 ghost use Rattle.gx_command.specs.CommandFaults.{fault_of};
 ghost use Rattle.gx_command.specs.ChangeLines.{shown_place, BeginsModify, BeginsChange};
 
-use crate::commands::{Change, DataRef};
+use crate::commands::Change;
 use crate::fault::CommandFault;
 use crate::lines::Words;
-use crate::texts::{is_name, is_null, read_mark_number};
+use crate::marks::read_mark_number;
+use crate::modify_line::{ModifyLine, Place};
+use crate::texts::{Digits, is_name, is_null};
 use gx_model::Mode;
 use gx_text::{TreePath, cut};
 use std::alloc::Allocator;
 
-/// A change's line: all of the change, or a modify whose bytes follow in a block.
+/// A change's line: all of the change, or a modify, whose bytes may follow in a block.
 #[derive(Drop)]
 pub(crate) enum ChangeLine<A: Allocator> {
     Whole(Change<A>),
-    Inline { mode: Mode, path: TreePath<A> },
-}
-
-/// Where a modify's bytes are.
-#[derive(Clone, Copy)]
-enum Place {
-    Mark(u64),
-    Name([u8; 40]),
-    Block,
+    Modify(ModifyLine<A>),
 }
 
 /// The change that a line is, or begins. Another line gives none.
@@ -41,7 +36,8 @@ pub(crate) fn read_change<A: Allocator + Copy>(
 {
     let words = Words::of(line);
     let change = if words.is(b"M") {
-        return Ok(Some(read_modify(alloc, words.rest()?)?));
+        let line = read_modify(alloc, words.rest()?)?;
+        return Ok(Some(ChangeLine::Modify(line)));
     } else if words.is(b"D") {
         Change::Remove(read_last_path(alloc, words.rest()?)?)
     } else if words.is(b"C") {
@@ -69,7 +65,7 @@ pub(crate) fn read_change<A: Allocator + Copy>(
 
 /// A modify's mode, dataref and path.
 #[tactic(auto, unfolding(gx_model::specs::Grammar::modify_at))]
-fn read_modify<A: Allocator + Copy>(alloc: A, text: &[u8]) -> Result<ChangeLine<A>, CommandFault>
+fn read_modify<A: Allocator + Copy>(alloc: A, text: &[u8]) -> Result<ModifyLine<A>, CommandFault>
     ensures { (s : Stream) → BeginsModify s result (modify_at text.now s) }
 {
     let first = Words::of(text);
@@ -78,20 +74,12 @@ fn read_modify<A: Allocator + Copy>(alloc: A, text: &[u8]) -> Result<ChangeLine<
     let place = read_place(second.word)?;
     check_suits(mode, place)?;
     let path = read_last_path(alloc, second.rest()?)?;
-    let data_ref = match place {
-        Place::Mark(mark) => DataRef::Mark(mark),
-        Place::Name(digits) => DataRef::Name(digits),
-        Place::Block => return Ok(ChangeLine::Inline { mode, path }),
-    };
-    Ok(ChangeLine::Whole(Change::Modify {
-        mode,
-        data_ref,
-        path,
-    }))
+    Ok(ModifyLine { mode, place, path })
 }
 
 fn read_mode(text: &[u8]) -> Result<Mode, CommandFault>
-    ensures { Gives fault_of (λ mode. mode) result (mode_of text.now) }
+    ensures mode { Gives fault_of (λ mode. mode) result (mode_of text.now) }
+    ensures file { IfOk result (λ mode. IsTrue (is_file_mode mode)) }
 {
     if text == b"100644".as_slice() || text == b"644".as_slice() {
         Ok(Mode::File)
@@ -125,12 +113,14 @@ fn read_place(text: &[u8]) -> Result<Place, CommandFault>
     }
     let mut digits = [0; 40];
     digits.copy_from_slice(text);
-    Ok(Place::Name(digits))
+    Ok(Place::Name(Digits { digits }))
 }
 
 /// A gitlink is given by its digits alone.
 fn check_suits(mode: Mode, place: Place) -> Result<(), CommandFault>
-    ensures { Gives fault_of (λ u. u) result (suits mode (shown_place place)) }
+    requires { IsTrue (is_file_mode mode) }
+    ensures suits { Gives fault_of (λ u. u) result (suits mode (shown_place place)) }
+    ensures suited { OnOk result (IsTrue (is_suited_place mode place)) }
 {
     match (mode, place) {
         (Mode::Gitlink, Place::Mark(_) | Place::Block) => Err(CommandFault::Unsupported),

@@ -1,5 +1,9 @@
 //! What a command consists of.
 
+ghost use Rattle.std.specs.Prelude.{IsTrue};
+ghost use Rattle.gx_command.specs.DataRefs.{is_suited};
+
+use crate::texts::{Digits, Encoding, Identity, RefName, TagName};
 use gx_model::{Feature, Mode};
 use gx_text::TreePath;
 use std::alloc::Allocator;
@@ -27,34 +31,34 @@ pub struct Blob<A: Allocator> {
     pub bytes: Vec<u8, A>,
 }
 
-/// A commit on the branch of a ref. Author and committer are identities; the encoding isn't empty.
+/// A commit on the branch of a ref.
 #[derive(Drop)]
 pub struct Commit<A: Allocator> {
-    pub ref_name: Vec<u8, A>,
+    pub branch: RefName<A>,
     pub mark: Option<u64>,
-    pub author: Option<Vec<u8, A>>,
-    pub committer: Vec<u8, A>,
-    pub encoding: Option<Vec<u8, A>>,
+    pub author: Option<Identity<A>>,
+    pub committer: Identity<A>,
+    pub encoding: Option<Encoding<A>>,
     pub message: Vec<u8, A>,
     pub from: Option<CommitIsh<A>>,
     pub merges: Vec<CommitIsh<A>, A>,
     pub changes: Vec<Change<A>, A>,
 }
 
-/// An annotated tag. `refs/tags/` followed by its name is a ref name.
+/// An annotated tag.
 #[derive(Drop)]
 pub struct Tag<A: Allocator> {
-    pub name: Vec<u8, A>,
+    pub name: TagName<A>,
     pub mark: Option<u64>,
     pub from: CommitIsh<A>,
-    pub tagger: Option<Vec<u8, A>>,
+    pub tagger: Option<Identity<A>>,
     pub message: Vec<u8, A>,
 }
 
 /// A branch that is set to a commit, or to none.
 #[derive(Drop)]
 pub struct Reset<A: Allocator> {
-    pub ref_name: Vec<u8, A>,
+    pub branch: RefName<A>,
     pub from: Option<CommitIsh<A>>,
 }
 
@@ -68,12 +72,7 @@ pub enum CommitIsh<A: Allocator> {
 /// A change of a commit's files. Source: git-fast-import(1), "filemodify" to "filedeleteall".
 #[derive(Drop)]
 pub enum Change<A: Allocator> {
-    /// The mode isn't `Dir`.
-    Modify {
-        mode: Mode,
-        data_ref: DataRef<A>,
-        path: TreePath<A>,
-    },
+    Modify(Modify<A>),
     Remove(TreePath<A>),
     Copy {
         source: TreePath<A>,
@@ -86,10 +85,19 @@ pub enum Change<A: Allocator> {
     Clear,
 }
 
-/// What a modified file gets: a blob's mark, the 40 hexadecimal digits of an object name, or bytes of its own.
+/// A file that is set. Its mode isn't `Dir`, and a gitlink is given by digits.
+#[derive(Drop)]
+pub struct Modify<A: Allocator> {
+    pub mode: Mode,
+    pub data_ref: DataRef<A>,
+    pub path: TreePath<A>,
+    pub ghost suits: { IsTrue (is_suited mode data_ref) },
+}
+
+/// What a modified file gets: a blob's mark, the digits of an object name, or bytes of its own.
 #[derive(Drop)]
 pub enum DataRef<A: Allocator> {
     Mark(u64),
-    Name([u8; 40]),
+    Name(Digits),
     Inline(Vec<u8, A>),
 }

@@ -4,7 +4,7 @@ ghost use Rattle.std.specs.Prelude.{◌≡◌, ◌||◌, codes, Ok};
 ghost use Rattle.std.specs.Option.{option_map};
 ghost use Rattle.gx_model.specs.Faults.{Gives, and_then};
 ghost use Rattle.gx_model.specs.Items.{Stream};
-ghost use Rattle.gx_model.specs.Grammar.{command_at, is_word, rest_of, if_early};
+ghost use Rattle.gx_model.specs.Grammar.{command_at, is_word, rest_of, if_early, feature_of};
 ghost use Rattle.gx_stream.specs.Reading.{item_of};
 ghost use Rattle.gx_command.specs.Ahead.{Reads, Falls, FallsNot, to_come, most};
 ghost use Rattle.gx_command.specs.CommandFaults.{fault_of};
@@ -16,7 +16,8 @@ use crate::ahead::Ahead;
 use crate::commands::Command;
 use crate::fault::CommandFault;
 use crate::lines::Words;
-use crate::texts::{read_feature, read_ref, read_tag_name};
+use crate::texts::{RefName, TagName};
+use gx_model::Feature;
 use gx_stream::Item;
 use gx_text::Source;
 use std::alloc::Allocator;
@@ -25,12 +26,9 @@ use std::alloc::Allocator;
 #[derive(Drop)]
 pub(crate) enum Head<A: Allocator> {
     Blob,
-    /// The commit's ref.
-    Commit(Vec<u8, A>),
-    /// The tag's name.
-    Tag(Vec<u8, A>),
-    /// The branch's ref.
-    Reset(Vec<u8, A>),
+    Commit(RefName<A>),
+    Tag(TagName<A>),
+    Reset(RefName<A>),
     /// All of the command.
     Whole(Command<A>),
 }
@@ -61,9 +59,9 @@ impl<R: Source, A: Allocator + Copy> Ahead<R, A> {
     {
         match head {
             Head::Blob => Ok(Command::Blob(self.blob()?)),
-            Head::Commit(ref_name) => Ok(Command::Commit(self.commit(ref_name)?)),
+            Head::Commit(branch) => Ok(Command::Commit(self.commit(branch)?)),
             Head::Tag(name) => Ok(Command::Tag(self.tag(name)?)),
-            Head::Reset(ref_name) => Ok(Command::Reset(self.reset(ref_name)?)),
+            Head::Reset(branch) => Ok(Command::Reset(self.reset(branch)?)),
             Head::Whole(command) => Ok(command),
         }
     }
@@ -122,11 +120,11 @@ fn read_head<A: Allocator + Copy>(
         words.check_bare()?;
         Ok(Head::Blob)
     } else if words.is(b"commit") {
-        Ok(Head::Commit(read_ref(alloc, words.rest()?)?))
+        Ok(Head::Commit(RefName::read(alloc, words.rest()?)?))
     } else if words.is(b"tag") {
-        Ok(Head::Tag(read_tag_name(alloc, words.rest()?)?))
+        Ok(Head::Tag(TagName::read(alloc, words.rest()?)?))
     } else if words.is(b"reset") {
-        Ok(Head::Reset(read_ref(alloc, words.rest()?)?))
+        Ok(Head::Reset(RefName::read(alloc, words.rest()?)?))
     } else if words.is(b"checkpoint") {
         words.check_bare()?;
         Ok(Head::Whole(Command::Checkpoint))
@@ -166,4 +164,18 @@ fn is_left_out(words: Words<'_>) -> bool
     ensures { result ≡ (is_word (shown_words words.entry) (codes "ls") || is_word (shown_words words.entry) (codes "cat-blob") || is_word (shown_words words.entry) (codes "get-mark") || is_word (shown_words words.entry) (codes "alias")) }
 {
     words.is(b"ls") || words.is(b"cat-blob") || words.is(b"get-mark") || words.is(b"alias")
+}
+
+fn read_feature(text: &[u8]) -> Result<Feature, CommandFault>
+    ensures { Gives fault_of (λ f. f) result (feature_of text.now) }
+{
+    if text == b"done".as_slice() {
+        Ok(Feature::Done)
+    } else if text == b"date-format=raw".as_slice() {
+        Ok(Feature::RawDates)
+    } else if text == b"force".as_slice() {
+        Ok(Feature::Force)
+    } else {
+        Err(CommandFault::Unsupported)
+    }
 }

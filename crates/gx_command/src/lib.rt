@@ -9,10 +9,13 @@ mod commands;
 mod fault;
 mod heads;
 mod lines;
+mod marks;
+mod modify_line;
 mod reader;
 mod texts;
 
-pub use commands::{Blob, Change, Command, Commit, CommitIsh, DataRef, Reset, Tag};
+pub use commands::{Blob, Change, Command, Commit, CommitIsh, DataRef, Modify, Reset, Tag};
 pub use fault::CommandFault;
 pub use gx_model::Feature;
 pub use reader::CommandReader;
+pub use texts::{Digits, Encoding, Identity, RefName, TagName};

@@ -1,103 +1,99 @@
-//! The texts in lines: marks, identities, names, commit-ishes and encodings.
+//! The texts of commands: names of refs and tags, identities, encodings and the digits of object names.
 
-ghost use Rattle.std.specs.Prelude.{◌≡◌, ◌==◌, ◌&&◌, length};
+ghost use Rattle.std.specs.Prelude.{◌≡◌, IsTrue, true, false, ◌==◌, ◌&&◌, nat_eq, length};
 ghost use Rattle.std.specs.List.{list_all};
 ghost use Rattle.gx_model.specs.Faults.{Gives};
-ghost use Rattle.gx_model.specs.Grammar.{mark_number, mark_of, ident_of, ref_of, tag_of, some_text, feature_of, is_null, is_hex_digit, is_name, commit_ish_of};
+ghost use Rattle.gx_model.specs.Idents.{is_ident};
+ghost use Rattle.gx_model.specs.RefNames.{is_ref_name, is_tag_name};
+ghost use Rattle.gx_model.specs.Grammar.{ident_of, ref_of, tag_of, some_text, is_null, is_hex_digit, is_name};
 ghost use Rattle.gx_command.specs.CommandFaults.{fault_of};
-ghost use Rattle.gx_command.specs.Views.{shown_commit_ish};
 
-use crate::commands::CommitIsh;
 use crate::fault::CommandFault;
-use gx_model::Feature;
-use gx_text::{Ident, decimal, is_ref_name};
+use gx_text::Ident;
 use std::alloc::Allocator;
 
-/// The digits of a mark, which is a number from 1.
-pub(crate) fn read_mark_number(digits: &[u8]) -> Result<u64, CommandFault>
-    ensures { Gives fault_of (λ n. n) result (mark_number digits.now) }
-{
-    match decimal(digits) {
-        None | Some(0) => Err(CommandFault::BadNumber),
-        Some(n) => Ok(n),
+/// A ref name. Source: git-check-ref-format(1).
+#[derive(Drop)]
+pub struct RefName<A: Allocator> {
+    pub bytes: Vec<u8, A>,
+    pub ghost proper: { IsTrue (is_ref_name bytes.items) },
+}
+
+/// The name of a tag: `refs/tags/` followed by it is a ref name.
+#[derive(Drop)]
+pub struct TagName<A: Allocator> {
+    pub bytes: Vec<u8, A>,
+    pub ghost proper: { IsTrue (is_tag_name bytes.items) },
+}
+
+/// Who made a commit or a tag, and when, as written.
+#[derive(Drop)]
+pub struct Identity<A: Allocator> {
+    pub bytes: Vec<u8, A>,
+    pub ghost proper: { IsTrue (is_ident bytes.items) },
+}
+
+/// The name of a text's encoding, which isn't empty.
+#[derive(Drop)]
+pub struct Encoding<A: Allocator> {
+    pub name: Vec<u8, A>,
+    pub ghost some: { nat_eq (length name.items) 0 ≡ false },
+}
+
+/// Forty hexadecimal digits of either case, not all of them zeros.
+#[derive(Clone, Copy)]
+pub struct Digits {
+    pub digits: [u8; 40],
+    pub ghost proper: { IsTrue (is_name digits) },
+    pub ghost some: { is_null digits ≡ false },
+}
+
+impl<A: Allocator + Copy> RefName<A> {
+    pub(crate) fn read(alloc: A, text: &[u8]) -> Result<RefName<A>, CommandFault>
+        ensures { Gives fault_of (λ name. name.bytes.items) result (ref_of text.now) }
+    {
+        if !gx_text::is_ref_name(text) {
+            return Err(CommandFault::BadRefName);
+        }
+        let bytes = Vec::from_slice(alloc, text)?;
+        Ok(RefName { bytes })
     }
 }
 
-/// A colon and a mark's number.
-#[tactic(auto, unfolding(gx_model::specs::Grammar::mark_of))]
-pub(crate) fn read_mark(text: &[u8]) -> Result<u64, CommandFault>
-    ensures { Gives fault_of (λ n. n) result (mark_of text.now) }
-{
-    match text.split_first() {
-        Some((b':', digits)) => read_mark_number(digits),
-        _ => Err(CommandFault::BadLine),
+impl<A: Allocator + Copy> TagName<A> {
+    pub(crate) fn read(alloc: A, text: &[u8]) -> Result<TagName<A>, CommandFault>
+        ensures { Gives fault_of (λ name. name.bytes.items) result (tag_of text.now) }
+    {
+        let mut ref_name = Vec::from_slice(alloc, b"refs/tags/")?;
+        ref_name.extend_from_slice(text)?;
+        if !gx_text::is_ref_name(&ref_name) {
+            return Err(CommandFault::BadRefName);
+        }
+        let bytes = Vec::from_slice(alloc, text)?;
+        Ok(TagName { bytes })
     }
 }
 
-pub(crate) fn read_ident<A: Allocator + Copy>(
-    alloc: A,
-    text: &[u8],
-) -> Result<Vec<u8, A>, CommandFault>
-    ensures { Gives fault_of (λ v. v.items) result (ident_of text.now) }
-{
-    let ident = Ident::read(text)?;
-    Ok(Vec::from_slice(alloc, ident.bytes())?)
+impl<A: Allocator + Copy> Identity<A> {
+    pub(crate) fn read(alloc: A, text: &[u8]) -> Result<Identity<A>, CommandFault>
+        ensures { Gives fault_of (λ identity. identity.bytes.items) result (ident_of text.now) }
+    {
+        let ident = Ident::read(text)?;
+        let bytes = Vec::from_slice(alloc, ident.bytes())?;
+        Ok(Identity { bytes })
+    }
 }
 
-pub(crate) fn read_ref<A: Allocator + Copy>(
-    alloc: A,
-    text: &[u8],
-) -> Result<Vec<u8, A>, CommandFault>
-    ensures { Gives fault_of (λ v. v.items) result (ref_of text.now) }
-{
-    if !is_ref_name(text) {
-        return Err(CommandFault::BadRefName);
+impl<A: Allocator + Copy> Encoding<A> {
+    pub(crate) fn read(alloc: A, text: &[u8]) -> Result<Encoding<A>, CommandFault>
+        ensures { Gives fault_of (λ encoding. encoding.name.items) result (some_text text.now) }
+    {
+        if text.is_empty() {
+            return Err(CommandFault::BadLine);
+        }
+        let name = Vec::from_slice(alloc, text)?;
+        Ok(Encoding { name })
     }
-    Ok(Vec::from_slice(alloc, text)?)
-}
-
-/// A tag's name: `refs/tags/` followed by it is a ref name.
-pub(crate) fn read_tag_name<A: Allocator + Copy>(
-    alloc: A,
-    text: &[u8],
-) -> Result<Vec<u8, A>, CommandFault>
-    ensures { Gives fault_of (λ v. v.items) result (tag_of text.now) }
-{
-    let mut ref_name = Vec::from_slice(alloc, b"refs/tags/")?;
-    ref_name.extend_from_slice(text)?;
-    if !is_ref_name(&ref_name) {
-        return Err(CommandFault::BadRefName);
-    }
-    Ok(Vec::from_slice(alloc, text)?)
-}
-
-/// An encoding, which isn't empty.
-pub(crate) fn read_encoding<A: Allocator + Copy>(
-    alloc: A,
-    text: &[u8],
-) -> Result<Vec<u8, A>, CommandFault>
-    ensures { Gives fault_of (λ v. v.items) result (some_text text.now) }
-{
-    if text.is_empty() {
-        return Err(CommandFault::BadLine);
-    }
-    Ok(Vec::from_slice(alloc, text)?)
-}
-
-#[tactic(auto, unfolding(gx_model::specs::Grammar::commit_ish_of))]
-pub(crate) fn read_commit_ish<A: Allocator + Copy>(
-    alloc: A,
-    text: &[u8],
-) -> Result<CommitIsh<A>, CommandFault>
-    ensures { Gives fault_of shown_commit_ish result (commit_ish_of text.now) }
-{
-    if let Some((b':', digits)) = text.split_first() {
-        return Ok(CommitIsh::Mark(read_mark_number(digits)?));
-    }
-    if is_null(text) {
-        return Err(CommandFault::Unsupported);
-    }
-    Ok(CommitIsh::Text(Vec::from_slice(alloc, text)?))
 }
 
 /// Whether the text is forty zeros, which name no object.
@@ -130,18 +126,4 @@ fn is_hex_digit(b: u8) -> bool
     ensures { result ≡ is_hex_digit b }
 {
     matches!(b, b'0'..=b'9' | b'a'..=b'f' | b'A'..=b'F')
-}
-
-pub(crate) fn read_feature(text: &[u8]) -> Result<Feature, CommandFault>
-    ensures { Gives fault_of (λ f. f) result (feature_of text.now) }
-{
-    if text == b"done".as_slice() {
-        Ok(Feature::Done)
-    } else if text == b"date-format=raw".as_slice() {
-        Ok(Feature::RawDates)
-    } else if text == b"force".as_slice() {
-        Ok(Feature::Force)
-    } else {
-        Err(CommandFault::Unsupported)
-    }
 }

@@ -11,22 +11,24 @@ use Rattle.gx_model.specs.Paths.{is_component}
 use Rattle.gx_model.specs.Values.{CommitText, is_optional_line, is_proper_text}
 use Rattle.gx_model.specs.Texts.{is_line}
 use Rattle.gx_model.specs.Objects.{Entry, tree_text, entry_text, mode_text, hex, hex_digit, digit_value, unhex, line, optional_line, text_lines, CommitParts, commit_text, TagParts, tag_text, is_name, is_canonical, IsTreeText, IsCommitText, IsTagText}
-use Rattle.gx_model.specs.HistoryOf.{cut_at, mode_in, entry_in, after_entry, entries_in_to, entries_in, field, parents_in_to, optional_in, text_in, commit_parts_in, tag_parts_in}
+use Rattle.gx_model.specs.HistoryOf.{sides_at, mode_in, entry_in, after_entry, entries_in_to, entries_in, field, parents_in_to, optional_in, text_in, commit_parts_in, tag_parts_in}
 use Rattle.gx_model.proofs.PathTests.{component_free, first, is_true, second}
 use Rattle.gx_model.proofs.EntryTexts.{is_free, AreNamed, entry_flat, mode_free, starts_some}
 use Rattle.gx_model.proofs.OneHistory.{line_flat, text_flat, hex_line}
 use Rattle.gx_model.proofs.PlainTexts.{text_lines_of, tag_line, optional_ident_line}
 
-pub cut_law : (b : ℕ) (x r : Bytes) → T (is_free b x) → cut_at b (x ++ (b ∷ r)) ≡ (x, r)
-cut_law b [] r f = ap (λ c. cond c ([], r) (b ∷ (cut_at b r).0, (cut_at b r).1)) (eq-eqb b b refl)
+-- a text is cut at the first mark
+pub cut_law : (b : ℕ) (x r : Bytes) → T (is_free b x) → sides_at b (x ++ (b ∷ r)) ≡ (x, r)
+cut_law b [] r f = ap (λ c. cond c ([], r) (b ∷ (sides_at b r).0, (sides_at b r).1)) (eq-eqb b b refl)
 cut_law b (a ∷ x) r f =
-    ap (λ c. cond c ([], x ++ (b ∷ r)) (a ∷ (cut_at b (x ++ (b ∷ r))).0, (cut_at b (x ++ (b ∷ r))).1)) (as_no (nat_eq a b) (first _ _ f))
+    ap (λ c. cond c ([], x ++ (b ∷ r)) (a ∷ (sides_at b (x ++ (b ∷ r))).0, (sides_at b (x ++ (b ∷ r))).1)) (as_no (nat_eq a b) (first _ _ f))
     ∙ ap (λ (q : Bytes × Bytes). let p : Bytes × Bytes = (a ∷ q.0, q.1) in p) (cut_law b x r (second _ _ f))
   where
     as_no : (c : Bool) → T (not c) → c ≡ false
     as_no true h = absurd h
     as_no false h = refl
 
+-- a mode is read from its octal digits
 pub mode_law : (m : Mode) → mode_in (mode_text m) ≡ m
 mode_law File = refl
 mode_law Exec = refl
@@ -47,19 +49,21 @@ drop_long (a ∷ x) r zero e = absurd (omega arith)
 drop_long (a ∷ x) r (suc n) e = drop_long x r n (omega arith)
 
 module _ (e : Entry) (r : Bytes) (f : T (is_component e.component)) where
-  mode_cut : cut_at 32 (entry_text e ++ r) ≡ (mode_text e.mode, e.component ++ (0 ∷ (e.name ++ r)))
-  mode_cut = ap (cut_at 32) (entry_flat e r) ∙ cut_law 32 (mode_text e.mode) (e.component ++ (0 ∷ (e.name ++ r))) (mode_free e.mode)
+  mode_cut : sides_at 32 (entry_text e ++ r) ≡ (mode_text e.mode, e.component ++ (0 ∷ (e.name ++ r)))
+  mode_cut = ap (sides_at 32) (entry_flat e r) ∙ cut_law 32 (mode_text e.mode) (e.component ++ (0 ∷ (e.name ++ r))) (mode_free e.mode)
 
-  component_cut : cut_at 0 (cut_at 32 (entry_text e ++ r)).1 ≡ (e.component, e.name ++ r)
-  component_cut = ap (λ (q : Bytes × Bytes). cut_at 0 q.1) mode_cut ∙ cut_law 0 e.component (e.name ++ r) (component_free e.component f).1
+  component_cut : sides_at 0 (sides_at 32 (entry_text e ++ r)).1 ≡ (e.component, e.name ++ r)
+  component_cut = ap (λ (q : Bytes × Bytes). sides_at 0 q.1) mode_cut ∙ cut_law 0 e.component (e.name ++ r) (component_free e.component f).1
 
+  -- an entry is read at the front of its text
   pub entry_law : length e.name ≡ 20 → entry_in (entry_text e ++ r) ≡ e
   entry_law l =
       let a = component_cut in
-      let m : mode_in (cut_at 32 (entry_text e ++ r)).0 ≡ e.mode = ap (λ (q : Bytes × Bytes). mode_in q.0) mode_cut ∙ mode_law e.mode in
-      let n : take 20 (cut_at 0 (cut_at 32 (entry_text e ++ r)).1).1 ≡ e.name = ap (λ (q : Bytes × Bytes). take 20 q.1) a ∙ take_long e.name r 20 l in
+      let m : mode_in (sides_at 32 (entry_text e ++ r)).0 ≡ e.mode = ap (λ (q : Bytes × Bytes). mode_in q.0) mode_cut ∙ mode_law e.mode in
+      let n : take 20 (sides_at 0 (sides_at 32 (entry_text e ++ r)).1).1 ≡ e.name = ap (λ (q : Bytes × Bytes). take 20 q.1) a ∙ take_long e.name r 20 l in
       λ i. record { mode = m i; component = (a i).0; name = n i }
 
+  -- what follows an entry is what follows its text
   pub after_law : length e.name ≡ 20 → after_entry (entry_text e ++ r) ≡ r
   after_law l = ap (λ (q : Bytes × Bytes). drop 20 q.1) component_cut ∙ drop_long e.name r 20 l
 
@@ -88,9 +92,11 @@ entries_law (suc n) (e ∷ es) h l =
     let rest = ap (entries_in_to n) (after_law e (tree_text es) h.0.0 h.0.1) ∙ entries_law n es h.1 (omega arith) in
     unstuck n (tree_text (e ∷ es)) (starts_some e.mode (32 ∷ (e.component ++ 0 ∷ e.name)) (tree_text es)) ∙ (λ i. one i ∷ rest i)
 
+-- a name has 20 bytes
 pub long_name : (n : Bytes) → T (is_name n) → length n ≡ 20
 long_name n h = eqb→eq (length n) 20 (first (nat_eq (length n) 20) (list_all (λ b. nat_lt b 256) n) h)
 
+-- the bytes of a name are below 256
 pub bytes_name : (n : Bytes) → T (is_name n) → T (list_all (λ b. nat_lt b 256) n)
 bytes_name n h = second (nat_eq (length n) 20) (list_all (λ b. nat_lt b 256) n) h
 
@@ -98,9 +104,11 @@ named_all : (es : List Entry) → T (list_all (λ e. is_component e.component) e
 named_all [] c h = tt
 named_all (e ∷ es) c h = ((first _ _ c, long_name e.name (first _ _ h)), named_all es (second (is_component e.component) _ c) (second (is_name e.name) _ h))
 
+-- canonical entries have components
 pub components_all : (es : List Entry) → T (is_canonical es) → T (list_all (λ e. is_component e.component) es)
 components_all es h = first _ _ (first _ _ h)
 
+-- the entries of a tree's body are read from it
 pub entries_read : (es : List Entry) (body : Bytes) → IsTreeText es body → entries_in body ≡ es
 entries_read es body h =
     ap entries_in h.0 ∙ entries_law (length (tree_text es)) es (named_all es (components_all es (passes _ h.1)) (passes _ h.2)) (omega arith)
@@ -128,6 +136,7 @@ digit_law n h = by (nat_lt n 10) refl
             pick true i = let j : 87 + n < 58 = grind (arith, nat_tests) in absurd (omega arith)
             pick false i = omega arith
 
+-- bytes are read from their digits
 pub unhex_hex : (x : Bytes) → T (list_all (λ b. nat_lt b 256) x) → unhex (hex x) ≡ x
 unhex_hex [] h = refl
 unhex_hex (b ∷ x) h =
@@ -142,7 +151,7 @@ unhex_hex (b ∷ x) h =
 -- ---- lines
 
 -- with the word written out, what is dropped before the cut is gone
-line_cut : (x r : Bytes) → T (is_line x) → cut_at 10 (x ++ (10 ∷ r)) ≡ (x, r)
+line_cut : (x r : Bytes) → T (is_line x) → sides_at 10 (x ++ (10 ∷ r)) ≡ (x, r)
 line_cut x r h = cut_law 10 x r h
 
 author_law : (x r : Bytes) → T (is_line x) → field 7 (line (codes "author") x ++ r) ≡ (x, r)
@@ -193,6 +202,7 @@ lines_long (n ∷ ns) s =
     let d : 1 ≤ length (line (codes "parent") (hex n)) = omega arith in
     omega arith
 
+-- the parts of a commit's body are read from it
 pub commit_read : (p : CommitParts) (body : Bytes) → IsCommitText p body → commit_parts_in body ≡ p
 commit_read p body h =
     let flat = append_assoc (line (codes "tree") (hex p.tree)) (parent_lines_of p.parents) (text_lines p.text) ∙ line_flat (codes "tree") (hex p.tree) (parent_lines_of p.parents ++ text_lines p.text) in
@@ -203,12 +213,14 @@ commit_read p body h =
     let n = ap (λ (q : Bytes × Bytes). unhex q.0) t ∙ unhex_hex p.tree (bytes_name p.tree (passes _ h.1)) in
     ap commit_parts_in h.0 ∙ (λ i. record { tree = n i; parents = (q i).0; text = u i })
 
+-- a tag's body, grouped to the right
 pub tag_text_flat : (p : TagParts) → tag_text p ≡ line (codes "object") (hex p.object) ++ (line (codes "type") (codes "commit") ++ (line (codes "tag") p.name ++ (optional_line (codes "tagger") p.tagger ++ (10 ∷ p.message))))
 tag_text_flat p =
     append_assoc (line (codes "object") (hex p.object) ++ line (codes "type") (codes "commit") ++ line (codes "tag") p.name) (optional_line (codes "tagger") p.tagger) (10 ∷ p.message)
     ∙ append_assoc (line (codes "object") (hex p.object) ++ line (codes "type") (codes "commit")) (line (codes "tag") p.name) (optional_line (codes "tagger") p.tagger ++ (10 ∷ p.message))
     ∙ append_assoc (line (codes "object") (hex p.object)) (line (codes "type") (codes "commit")) (line (codes "tag") p.name ++ (optional_line (codes "tagger") p.tagger ++ (10 ∷ p.message)))
 
+-- the parts of a tag's body are read from it
 pub tag_read : (p : TagParts) (body : Bytes) → IsTagText p body → tag_parts_in body ≡ p
 tag_read p body h =
     let r2 = line (codes "tag") p.name ++ (optional_line (codes "tagger") p.tagger ++ (10 ∷ p.message)) in

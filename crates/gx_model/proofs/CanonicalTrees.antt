@@ -20,6 +20,7 @@ use Rattle.gx_model.proofs.PathRuns.{runs, heads, good_runs, AreDistinct, runs_a
 use Rattle.gx_model.proofs.SortedKeys.{keys, key_at, sorted_keys}
 use Rattle.gx_model.proofs.OneTree.{spelling, node_entry, leaf_named, IsLeaf, leaves, firsts_proper}
 
+-- no leaf is a directory
 pub no_dir : (m : Mode) (x : Bytes) → T (is_leaf m x) → is_dir m ≡ false
 no_dir File x h = refl
 no_dir Exec x h = refl
@@ -53,6 +54,7 @@ module _ (name : Kind → Bytes → Bytes) (namer : IsNamer name) where
   proper_are f [] h = tt
   proper_are f (c ∷ cs) h = both _ _ (first _ _ h) (proper_are f cs (second (is_component c) _ h))
 
+  -- the entries of a file map's tree are components, in order, each once
   pub canonical_entries : (f : FileMap Bytes) → T (is_content f) → T (is_canonical (entries name (named_map name f)))
   canonical_entries f h =
       let p : Parts f = parts_of f (is_true _ (first (is_file_map f) _ h)) in

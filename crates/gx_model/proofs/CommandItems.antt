@@ -1,5 +1,5 @@
 -- The items of an export's commands are read as these commands.
-use Rattle.std.proofs.Common.{◌≡◌, ℕ, zero, suc, ◌<◌, ◌≤◌, ◌^◌, Bool, true, false, Option, Some, None, Ok, List, [], ◌∷◌, ◌++◌, length, map, codes, refl, sym, ap, subst, ◌∙◌, arith, append_assoc}
+use Rattle.std.proofs.Common.{◌≡◌, ℕ, zero, suc, ◌<◌, ◌≤◌, ◌^◌, Bool, true, false, Option, Some, None, Ok, List, [], ◌∷◌, ◌++◌, length, map, nat_eq, codes, refl, sym, ap, subst, ◌∙◌, arith, append_assoc}
 use Rattle.std.specs.Prelude.{is_some}
 use Rattle.std.specs.List.{list_all, flat_map, AllByRecursion}
 use Rattle.std.specs.Fmt.{decimal}
@@ -7,21 +7,25 @@ use Rattle.std.specs.Str.{bytes_eq}
 use Rattle.std.proofs.lemmas.List.{length-append, length-map}
 use Rattle.std.proofs.lemmas.List.Concat.{flat_map-cons}
 use Rattle.std.proofs.lemmas.Grind.{flat_map-append}
+use Rattle.std.proofs.lemmas.Bool.{false≢true}
+use Rattle.std.proofs.lemmas.Bool.Decides.{nat_tests}
 use Rattle.std.proofs.lemmas.Slice.Eq.{bytes_eq-Decides}
 use Rattle.gx_model.specs.declared.objects.Mode.{Mode}
 use Rattle.gx_model.specs.declared.objects.Mode.TheVariants.{File, Exec, Link, Gitlink, Dir}
 use Rattle.gx_model.specs.declared.features.Feature.TheVariants as features
 use Rattle.gx_model.specs.Texts.{Bytes, cut_at, lacks}
 use Rattle.gx_model.specs.RefNames.{is_ref_name, is_tag_name}
+use Rattle.gx_model.specs.Idents.{is_ident}
 use Rattle.gx_model.specs.Faults.{Given, ◌>>=◌}
 use Rattle.gx_model.specs.Paths.{Path, path_text, printed}
 use Rattle.gx_model.specs.Items.{Item, Line, Data, Finished, Stream}
 use Rattle.gx_model.specs.Commands.{CommitIsh, Marked, Named, DataRef, Mark, Object, Inline, Change, Modify, Remove, Copy, Rename, Clear, Command}
 use Rattle.gx_model.specs.Commands as command
 use Rattle.gx_model.specs.Grammar.{words_of, words_by, is_word, rest_line_in, optional, block_in, commit_ish_of, modify_at, change_at, changes_within, merges_within, item_after_in, unsigned_in, blob_at, commit_at, links_at, read_some, ident_of, some_text, ref_of, tag_of, item_after, tag_at, reset_at, command_at, commands_within, commands_of, is_option, is_done, with_first}
+use Rattle.gx_model.specs.Values.{is_optional_encoding, is_optional_ident}
 use Rattle.gx_model.specs.Replay.{or_else}
 use Rattle.gx_model.specs.Export.{mode_digits, dataref_text, dataref_block, reset_items, commit_ish_text, change_items, command_items, from_line, optional_line}
-use Rattle.gx_model.specs.ExportLaws.{IsMark, IsLink, IsPath, IsIdent, IsDataRef, IsMarked, IsMarkedIf, IsOptional, IsEncoding, IsSpelledChange, IsSpelled, HasMark, between}
+use Rattle.gx_model.specs.ExportLaws.{IsMark, IsLink, IsPath, IsDataRef, IsMarked, IsMarkedIf, IsSpelledChange, IsSpelled, HasMark, between}
 use Rattle.gx_model.proofs.Cuts.{cut_after}
 use Rattle.gx_model.proofs.CommandFields.{mark_read, commit_ish_read, where_mark, where_link, mark_no_space, link_no_space, path_read}
 
@@ -186,11 +190,12 @@ links_read parent ms cs rest h k g =
 
 -- ---- commands
 
-ident_read : (x : Bytes) → IsIdent x → ident_of x ≡ Ok x
-ident_read x h = rw h.0 refl
+ident_read : (x : Bytes) → is_ident x ≡ true → ident_of x ≡ Ok x
+ident_read x h = rw h refl
 
-text_read : (x : Bytes) → IsEncoding x → some_text x ≡ Ok x
-text_read x h = rw h.0 refl
+text_read : (x : Bytes) → is_optional_encoding (Some x) ≡ true → some_text x ≡ Ok x
+text_read [] h = absurd (false≢true h)
+text_read (b ∷ x) h = let e : nat_eq (length (b ∷ x)) 0 ≡ false = grind (arith, nat_tests) in rw e refl
 
 blob_read : (n : ℕ) (x : Bytes) (rest : List Item) → IsMark n → blob_at (stream (Line (codes "mark" ++ 32 ∷ 58 ∷ decimal n) ∷ Data x ∷ rest)) ≡ Ok (command.Blob (record { mark = Some n; bytes = x }), stream rest)
 unfolding blob_at rest_line_in block_in cut_at
@@ -201,7 +206,7 @@ abbrev commit_end : Bytes → Option CommitIsh → List CommitIsh → List Chang
 commit_end message parent ms cs rest = Data message ∷ (from_line parent ++ (map merge_item ms ++ (flat_map change_items cs ++ Line [] ∷ rest)))
 
 commit_read : (ref : Bytes) (n : ℕ) (author committer : Bytes) (encoding : Option Bytes) (message : Bytes) (parent : Option CommitIsh) (ms : List CommitIsh) (cs : List Change) (rest : List Item)
-    → IsMark n → IsIdent author → IsIdent committer → IsOptional IsEncoding encoding → IsMarkedIf parent → AllByRecursion IsMarked ms → AllByRecursion IsSpelledChange cs
+    → IsMark n → is_ident author ≡ true → is_ident committer ≡ true → is_optional_encoding encoding ≡ true → IsMarkedIf parent → AllByRecursion IsMarked ms → AllByRecursion IsSpelledChange cs
     → commit_at ref (stream (Line (codes "mark" ++ 32 ∷ 58 ∷ decimal n) ∷ Line (codes "author" ++ 32 ∷ author) ∷ Line (codes "committer" ++ 32 ∷ committer) ∷ (optional_line (codes "encoding") encoding ++ commit_end message parent ms cs rest)))
     ≡ Ok (command.Commit (record { ref = ref; mark = Some n; author = Some author; committer = committer; encoding = encoding; message = message; parent = parent; merges = ms; changes = cs }), stream rest)
 unfolding commit_at rest_line_in block_in unsigned_in cut_at
@@ -210,7 +215,7 @@ commit_read ref n author committer None message parent ms cs rest a b c d e f g 
 commit_read ref n author committer (Some x) message parent ms cs rest a b c d e f g =
     rw (mark_read n a, ident_read author b, ident_read committer c, text_read x d, links_read parent ms cs rest e f g) refl
 
-tag_read : (name : Bytes) (target : CommitIsh) (tagger : Option Bytes) (message : Bytes) (rest : List Item) → IsMarked target → IsOptional IsIdent tagger
+tag_read : (name : Bytes) (target : CommitIsh) (tagger : Option Bytes) (message : Bytes) (rest : List Item) → IsMarked target → is_optional_ident tagger ≡ true
     → tag_at name (stream (Line (codes "from" ++ 32 ∷ commit_ish_text target) ∷ (optional_line (codes "tagger") tagger ++ Data message ∷ rest)))
     ≡ Ok (command.Tag (record { name = name; mark = None; target = target; tagger = tagger; message = message }), stream rest)
 unfolding tag_at rest_line_in block_in cut_at
@@ -286,7 +291,7 @@ read_first (command.Blob b) rest h k = by b.mark b.bytes h where
     goes_on = refl;
   }
 read_first (command.Commit c) rest h k = by c.mark c.author h.mark h.has_author h.author where
-  by : (m : Option ℕ) (a : Option Bytes) → HasMark m → is_some a ≡ true → IsIdent (or_else a []) → IsReadFirst (command.Commit (record { ref = c.ref; mark = m; author = a; committer = c.committer; encoding = c.encoding; message = c.message; parent = c.parent; merges = c.merges; changes = c.changes })) rest
+  by : (m : Option ℕ) (a : Option Bytes) → HasMark m → is_some a ≡ true → is_ident (or_else a []) ≡ true → IsReadFirst (command.Commit (record { ref = c.ref; mark = m; author = a; committer = c.committer; encoding = c.encoding; message = c.message; parent = c.parent; merges = c.merges; changes = c.changes })) rest
   by None a hm ha hi = absurd hm
   by (Some n) None hm ha hi = absurd cc
   by (Some n) (Some a) hm ha hi = record {

@@ -1,18 +1,17 @@
 -- What is found after an edit of a file map, and when one is refused.
-use Rattle.std.proofs.Common.{◌≡◌, Bool, true, false, cond, refl, sym, ap, subst, ◌∙◌, List, [], ◌∷◌, ◌++◌, length, drop, append-nil, Option, None, Some, Result, Ok, Err}
-use Rattle.std.specs.Prelude.{T, not, ◌&&◌, ◌||◌, ◌≢◌, ◌⊎◌, ◌↔◌, is_some, IfOk, IsTrue}
-use Rattle.std.proofs.Common.{inl, inr}
+use Rattle.std.proofs.Common.{◌≡◌, Bool, true, false, cond, refl, sym, ap, subst, ◌∙◌, [], ◌∷◌, ◌++◌, length, drop, append-nil, Option, None, Some, Ok, Err}
+use Rattle.std.specs.Prelude.{T, not, ◌&&◌, ◌||◌, ◌≢◌, ◌↔◌, is_some, IfOk}
 use Rattle.std.specs.List.{list_all}
 use Rattle.std.specs.Bool.{passes}
 use Rattle.std.specs.FinMap.Entries.{put}
 use Rattle.gx_model.specs.declared.faults.Fault.{Fault}
 use Rattle.gx_model.specs.declared.faults.Fault.TheVariants.{NoSuchPath, RootNotTree, PathTooLong}
-use Rattle.gx_model.specs.Texts.{Bytes, same_bytes}
+use Rattle.gx_model.specs.Texts.{Bytes}
 use Rattle.gx_model.specs.Paths.{Path, are_in_line, begins, is_component, is_file_path, is_short, path_cmp, same_path}
 use Rattle.gx_model.specs.Files.{FileMap, Leaf, are_file_paths, file_at, under}
-use Rattle.gx_model.specs.Edits.{copied, copy_fault, is_root, modified, moved, or_fault, removed, renamed, with_all, without, without_line}
+use Rattle.gx_model.specs.Edits.{copied, copy_fault, is_root, modified, moved, unless, removed, renamed, with_all, without, without_line}
 use Rattle.gx_model.specs.FileMapLaws.{HasLongPath, IsFileForRoot, IsModified, IsPlaced, IsRefusal, IsRemoved}
-use Rattle.gx_model.proofs.PathTests.{all_filter, begins_append, both, first, is_same, is_true, left_or, not_both, path_is, path_same, right_or, same_is, second}
+use Rattle.gx_model.proofs.PathTests.{begins_append, both, first, is_same, is_true, left_or, not_both, path_is, path_same, right_or, same_is, second}
 use Rattle.gx_model.proofs.FileMapEdits.{Parts, filter_parts, moved_paths, removed_parts}
 use Rattle.gx_model.proofs.FoundFiles.{at_filter, at_moved, at_put, at_with_all, none_moved, none_where, or_else, or_nothing, test_at}
 
@@ -182,36 +181,42 @@ module _ (s d : Path) where
       long false k = k
   fault_of es _ h = absurd h
 
-or_fault_is : (o : Option Fault) (fs : FileMap Bytes) (f : Fault) → (or_fault o fs ≡ Err f) ↔ (o ≡ Some f)
+or_fault_is : (o : Option Fault) (fs : FileMap Bytes) (f : Fault) → (unless o fs ≡ Err f) ↔ (o ≡ Some f)
 or_fault_is None fs f = ((λ e. absurd cc), (λ e. absurd cc))
 or_fault_is (Some g) fs f = ((λ e. let same : g ≡ f = cc in ap Some same), (λ e. let same : g ≡ f = cc in ap (λ h. Err h) same))
 
-refused : (es fs : FileMap Bytes) (s d : Path) (f : Fault) → (or_fault (copy_fault es s d) fs ≡ Err f) ↔ IsRefusal es s d f
+refused : (es fs : FileMap Bytes) (s d : Path) (f : Fault) → (unless (copy_fault es s d) fs ≡ Err f) ↔ IsRefusal es s d f
 refused es fs s d f =
     let told = or_fault_is (copy_fault es s d) fs f in
     ((λ e. refusal_of s d es f (told.0 e)), (λ h. told.1 (fault_of s d es f h)))
 
 -- ---- the edits
 
-granted : (P : FileMap Bytes → Type 0) (o : Option Fault) (fs : FileMap Bytes) → (o ≡ None → P fs) → IfOk (or_fault o fs) P
+granted : (P : FileMap Bytes → Type 0) (o : Option Fault) (fs : FileMap Bytes) → (o ≡ None → P fs) → IfOk (unless o fs) P
 granted P None fs h = h refl
 granted P (Some f) fs h = tt
 
+-- a modify is never refused, and puts its leaf
 pub modify_means : (es : FileMap Bytes) (p : Path) (x : Leaf Bytes) → Parts es → T (is_file_path p) → (fs : FileMap Bytes) × (modified es p x ≡ Ok fs) × IsModified es p x fs
 modify_means es [] x h f = absurd f
 modify_means es (c ∷ p) x h f = (put path_cmp (c ∷ p) x (without_line (c ∷ p) es), refl, modified_means es c p x f h)
 
+-- a remove takes out what is at or below its path
 pub remove_means : (es : FileMap Bytes) (p : Path) → IsRemoved es p (removed es p)
 remove_means = removed_means
 
+-- a copy that isn't refused places what its source has
 pub copy_means : (es : FileMap Bytes) (s d : Path) → Parts es → T (list_all is_component d) → IfOk (copied es s d) (IsPlaced es es s d)
 copy_means es s d h k = granted (IsPlaced es es s d) (copy_fault es s d) _ (λ n. placed_means es es s d (moved_paths s d es k h.paths n) h)
 
+-- a rename that isn't refused places what its source has, in what is left without it
 pub rename_means : (es : FileMap Bytes) (s d : Path) → Parts es → T (list_all is_component d) → IfOk (renamed es s d) (IsPlaced es (removed es s) s d)
 rename_means es s d h k = granted (IsPlaced es (removed es s) s d) (copy_fault es s d) _ (λ n. placed_means es (without s es) s d (moved_paths s d es k h.paths n) (removed_parts es s h))
 
+-- a copy is refused for the stated causes, and for no other
 pub copy_refused : (es : FileMap Bytes) (s d : Path) (f : Fault) → (copied es s d ≡ Err f) ↔ IsRefusal es s d f
 copy_refused es s d f = refused es _ s d f
 
+-- a rename is refused for the stated causes, and for no other
 pub rename_refused : (es : FileMap Bytes) (s d : Path) (f : Fault) → (renamed es s d ≡ Err f) ↔ IsRefusal es s d f
 rename_refused es s d f = refused es _ s d f

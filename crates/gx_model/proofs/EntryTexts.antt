@@ -12,12 +12,15 @@ use Rattle.gx_model.specs.Objects.{Entry, tree_text, entry_text, mode_text}
 use Rattle.gx_model.proofs.PathTests.{component_free, first, second, not_both, is_same}
 use Rattle.gx_model.proofs.SameValues.{mode_is}
 
+-- the byte stands nowhere in the text
 abbrev pub is_free : ℕ → Bytes → Bool
 is_free b = list_all (λ a. not (nat_eq a b))
 
+-- a byte that the test tells from another isn't that one
 pub is_not : (a b : ℕ) → T (not (nat_eq a b)) → a ≡ b → ⊥
 is_not a b h e = not_both (nat_eq a b) h (passes _ (eq-eqb a b e))
 
+-- two texts up to a mark that neither holds are told by what they begin
 pub split_at : (b : ℕ) (x y r s : Bytes) → T (is_free b x) → T (is_free b y) → x ++ (b ∷ r) ≡ y ++ (b ∷ s) → (x ≡ y) × (r ≡ s)
 split_at b [] [] r s f g e = (refl, cc)
 split_at b [] (a ∷ y) r s f g e = let k : a ≡ b = cc in absurd (is_not a b (first _ _ g) k)
@@ -28,6 +31,7 @@ split_at b (a ∷ x) (a' ∷ y) r s f g e =
     let rest = split_at b x y r s (second _ _ f) (second _ _ g) t in
     (λ i. k i ∷ rest.0 i, rest.1)
 
+-- two texts of one length are told by what they begin
 pub split_long : (x y r s : Bytes) → length x ≡ length y → x ++ r ≡ y ++ s → (x ≡ y) × (r ≡ s)
 split_long [] [] r s l e = (refl, e)
 split_long [] (a ∷ y) r s l e = absurd (omega arith)
@@ -49,6 +53,7 @@ modes_told _ _ = refl
 one_mode : (m n : Mode) → mode_text m ≡ mode_text n → m ≡ n
 one_mode m n e = mode_is m n (subst T (modes_told m n) (is_same _ _ e))
 
+-- a mode's digits hold no space
 pub mode_free : (m : Mode) → T (is_free 32 (mode_text m))
 mode_free File = tt
 mode_free Exec = tt
@@ -56,6 +61,7 @@ mode_free Link = tt
 mode_free Gitlink = tt
 mode_free Dir = tt
 
+-- an entry's text, grouped to the right
 pub entry_flat : (e : Entry) (r : Bytes) → entry_text e ++ r ≡ mode_text e.mode ++ (32 ∷ (e.component ++ (0 ∷ (e.name ++ r))))
 entry_flat e r = append_assoc (mode_text e.mode) (32 ∷ (e.component ++ 0 ∷ e.name)) r ∙ ap (λ z. mode_text e.mode ++ (32 ∷ z)) (append_assoc e.component (0 ∷ e.name) r)
 
@@ -67,6 +73,7 @@ one_entry e f r s h g l k =
     let m = one_mode e.mode f.mode a.0 in
     (λ i. record { mode = m i; component = b.0 i; name = d.0 i }, d.1)
 
+-- an entry's text isn't empty
 pub starts_some : (m : Mode) (x r : Bytes) → (mode_text m ++ x) ++ r ≡ [] → ⊥
 starts_some File x r e = cc
 starts_some Exec x r e = cc

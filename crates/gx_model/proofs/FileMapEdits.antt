@@ -13,9 +13,10 @@ use Rattle.gx_model.specs.Texts.{Bytes}
 use Rattle.gx_model.specs.Paths.{Path, path_cmp, path_text, begins, are_in_line, is_file_path, is_component, is_short, same_path}
 use Rattle.gx_model.specs.Files.{are_apart, are_file_paths, is_file_map, under}
 use Rattle.std.specs.Map.{lookup}
-use Rattle.gx_model.specs.Edits.{without_line, without, with_all, moved, modified, removed, copy_fault, or_fault, copied, renamed}
+use Rattle.gx_model.specs.Edits.{without_line, without, with_all, moved, modified, removed, copy_fault, unless, copied, renamed}
 use Rattle.gx_model.proofs.PathTests.{both, first, second, is_true, not_by, not_both, all_filter, all_passing, all_each, all_append, all_drop, same_is, path_same, or_comm, in_line_above, in_line_moved}
 
+-- the byte order of whole paths is a total order
 pub path_order : IsTotalOrder path_cmp
 path_order = on_texts path_text
 
@@ -79,12 +80,14 @@ module _ {X : Type 0} where
     pub apart : T (are_apart es)
     pub sorted : T (is_sorted path_cmp es)
 
+  -- what a file map's test tells
   pub parts_of : (es : List (Path × X)) → is_file_map es ≡ true → Parts es
   parts_of es h =
       let t : T (is_file_map es) = passes _ h in
       let fst : T (are_file_paths es && are_apart es) = first _ _ t in
       record { paths = first _ _ fst; apart = second _ _ fst; sorted = second (are_file_paths es && are_apart es) _ t }
 
+  -- what tells that a list is a file map
   pub of_parts : (es : List (Path × X)) → Parts es → is_file_map es ≡ true
   of_parts es p = is_true _ (both _ _ (both _ _ p.paths p.apart) p.sorted)
 
@@ -124,6 +127,7 @@ module _ {X : Type 0} where
       (not_weaker (are_in_line e.0 f.0) (are_in_line (d ++ drop (length s) e.0) (d ++ drop (length s) f.0)) (in_line_moved s d e.0 f.0 b (first _ _ bs)) (first _ _ h))
       (one_moved s d e es b (second _ _ bs) (second _ _ h))
 
+  -- entries that are moved together stay apart
   pub apart_moved : (s d : Path) (es : List (Path × X)) → T (list_all (λ f. begins s f.0) es) → T (are_apart es) → T (are_apart (moved s d es))
   apart_moved s d [] b h = tt
   apart_moved s d (e ∷ es) b h = both _ _ (one_moved s d e es (first _ _ b) (second _ _ b) (first _ _ h)) (apart_moved s d es (second _ _ b) (second _ _ h))
@@ -136,21 +140,26 @@ module _ {X : Type 0} where
       (all_each (λ f. not (are_in_line d f.0)) (λ f. not (are_in_line (d ++ drop (length s) e.0) f.0)) (λ f. not_weaker (are_in_line d f.0) (are_in_line (d ++ drop (length s) e.0) f.0) (in_line_above d (drop (length s) e.0) f.0)) es h)
       (moved_from_rest s d new es h)
 
+  -- what is left without a line isn't in that line
   pub without_line_passes : (d : Path) (es : List (Path × X)) → T (list_all (λ f. not (are_in_line d f.0)) (without_line d es))
   without_line_passes d es = all_passing (λ f. not (are_in_line d f.0)) (λ f. not (are_in_line d f.0)) (λ f h. h) es
 
+  -- what is under a path is begun by it
   pub under_passes : (s : Path) (es : List (Path × X)) → T (list_all (λ f. begins s f.0) (under s es))
   under_passes s es = all_passing (λ f. begins s f.0) (λ f. begins s f.0) (λ f h. h) es
 
   -- ---- the edits
+  -- a modify gives a file map
   pub modified_parts : (es : List (Path × X)) (p : Path) (x : X) → T (is_file_path p) → Parts es → IfOk (modified es p x) Parts
   modified_parts es [] x f h = tt
   modified_parts es (c ∷ p) x f h =
       put_parts (c ∷ p) x (without_line (c ∷ p) es) f (without_line_passes (c ∷ p) es) (filter_parts (λ q. not (are_in_line (c ∷ p) q)) es h)
 
+  -- a remove gives a file map
   pub removed_parts : (es : List (Path × X)) (p : Path) → Parts es → Parts (removed es p)
   removed_parts es p h = filter_parts (λ q. not (begins p q)) es h
 
+  -- what is moved together, put where its place is cleared, gives a file map
   pub placed_parts : (s d : Path) (es rest : List (Path × X)) → T (are_file_paths (moved s d (under s es))) → Parts es → Parts rest → Parts (with_all (moved s d (under s es)) (without_line d rest))
   placed_parts s d es rest f h r =
       with_all_parts (moved s d (under s es)) (without_line d rest) f
@@ -169,6 +178,7 @@ module _ {X : Type 0} where
       by [] q c k = absurd (not_one e s n (nothing_left s e.0 b q))
       by (c ∷ q) r l k = both _ _ l k
 
+  -- what is moved to the root has paths of files, unless a file is
   pub all_into_root : (s : Path) (es : List (Path × X)) → T (list_all (λ e. begins s e.0) es) → T (are_file_paths es) → T (list_all (λ e. is_short e.0) (moved s [] es))
       → T (list_all (λ e. not (same_path s e.0)) es) → T (are_file_paths (moved s [] es))
   all_into_root s [] b f h n = tt
@@ -183,10 +193,12 @@ module _ {X : Type 0} where
       (both _ _ (all_append is_component (c ∷ d) (drop (length s) e.0) k (all_drop is_component (length s) e.0 (components e.0 (first _ _ f)))) (first _ _ h))
       (all_into s c d es k (second _ _ f) (second _ _ h))
 
+  -- where nothing is found, no path passes the test
   pub none_at : (t : Path → Bool) (es : List (Path × X)) → is_some (lookup t es) ≡ false → T (list_all (λ e. not (t e.0)) es)
   none_at t [] h = tt
   none_at t (e ∷ es) h = elim (t e.0) as (λ b. is_some (cond b (Some e.1) (lookup t es)) ≡ false → T (not b && list_all (λ e. not (t e.0)) es)) [ true ↦ λ k. absurd (cc) | false ↦ λ k. none_at t es k ] h
 
+  -- where a copy isn't refused, what is moved has paths of files
   pub moved_paths : (s d : Path) (es : List (Path × X)) → T (list_all is_component d) → T (are_file_paths es) → copy_fault es s d ≡ None → T (are_file_paths (moved s d (under s es)))
   moved_paths s [] es k f h =
       let n = no_fault _ _ _ h in
@@ -196,12 +208,14 @@ module _ {X : Type 0} where
       let n = no_fault _ _ _ h in
       all_into s c d (under s es) k (all_filter _ _ es f) (passes _ n.2)
 
-  fault_or : (f : Option Fault) (es : List (Path × X)) → (f ≡ None → Parts es) → IfOk (or_fault f es) Parts
+  fault_or : (f : Option Fault) (es : List (Path × X)) → (f ≡ None → Parts es) → IfOk (unless f es) Parts
   fault_or None es h = h refl
   fault_or (Some f) es h = tt
 
+  -- a copy that isn't refused gives a file map
   pub copied_parts : (es : List (Path × X)) (s d : Path) → T (list_all is_component d) → Parts es → IfOk (copied es s d) Parts
   copied_parts es s d k h = fault_or (copy_fault es s d) _ (λ n. placed_parts s d es es (moved_paths s d es k h.paths n) h h)
 
+  -- a rename that isn't refused gives a file map
   pub renamed_parts : (es : List (Path × X)) (s d : Path) → T (list_all is_component d) → Parts es → IfOk (renamed es s d) Parts
   renamed_parts es s d k h = fault_or (copy_fault es s d) _ (λ n. placed_parts s d es (without s es) (moved_paths s d es k h.paths n) h (removed_parts es s h))

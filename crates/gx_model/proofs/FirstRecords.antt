@@ -9,11 +9,11 @@ use Rattle.gx_model.specs.Paths.{Path}
 use Rattle.gx_model.specs.Values.{Value}
 use Rattle.gx_model.specs.Objects.{Entry}
 use Rattle.gx_model.specs.Histories.{Record, AreDistinct}
-use Rattle.gx_model.specs.Sound.{Some_, IsLinkedAfter, HasPath, here, below, HasShortPaths, IsTarget, IsSound}
+use Rattle.gx_model.specs.Sound.{AnyByRecursion, IsLinkedAfter, HasPath, here, below, HasShortPaths, IsTarget, IsSound}
 use Rattle.gx_model.specs.HistoryOf.{Named, named_from, with_record, value_in, history_of}
 use Rattle.gx_model.proofs.OneTree.{all_left}
 
-some_left : {X : Type 0} (P : X → Type 0) (xs ys : List X) → Some_ P xs → Some_ P (xs ++ ys)
+some_left : {X : Type 0} (P : X → Type 0) (xs ys : List X) → AnyByRecursion P xs → AnyByRecursion P (xs ++ ys)
 some_left P [] ys h = absurd h
 some_left P (x ∷ xs) ys h = elim h [ inl p ↦ inl p | inr q ↦ inr (some_left P xs ys q) ]
 
@@ -48,6 +48,7 @@ named_from_more ks (y ∷ ys) =
     ((y.name, value_in ks y.kind y.body) ∷ r.0, r.1 ∙ append_assoc ks ((y.name, value_in ks y.kind y.body) ∷ []) r.0)
 
 module _ (name : Kind → Bytes → Bytes) where
+  -- the first records of a sound repository are sound, where they hold what its refs name
   pub kept : (xs ys : List Record) (refs : List (Bytes × Bytes)) → IsSound name (record { records = xs ++ ys; refs = refs }) → AllByRecursion (λ x. IsTarget xs x.0 x.1) refs → IsSound name (record { records = xs; refs = refs })
   kept xs ys refs i h = record {
     named = all_left (λ x. x.name ≡ name x.kind x.body) xs ys i.named;

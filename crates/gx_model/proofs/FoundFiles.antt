@@ -1,51 +1,26 @@
 -- What is found at a path of a file map, and after an edit of it.
-use Rattle.std.proofs.Common.{◌≡◌, Bool, true, false, cond, refl, sym, ap, subst, ◌∙◌, List, [], ◌∷◌, ◌++◌, length, drop, map, Option, None, Some}
-use Rattle.std.specs.Prelude.{T, not, ◌&&◌, ◌||◌, is_some, nat_eq}
+use Rattle.std.proofs.Common.{◌≡◌, Bool, true, false, cond, refl, sym, ap, subst, ◌∙◌, List, [], ◌∷◌, ◌++◌, length, drop, Option, None, Some}
+use Rattle.std.specs.Prelude.{T, ◌&&◌, is_some}
 use Rattle.std.specs.List.{list_all, filter}
 use Rattle.std.specs.Bool.{passes}
-use Rattle.std.specs.Ordering.{is_lt}
 use Rattle.std.specs.declared.cmp.Ordering.TheVariants.{Less, Equal, Greater}
-use Rattle.std.specs.Ordering.{ordering_reverse, is_eq}
+use Rattle.std.specs.Ordering.{is_eq}
 use Rattle.std.specs.Cmp.{tied_itself}
 use Rattle.std.specs.Cmp.Lexicographic.{texts_ties}
-use Rattle.std.specs.FinMap.Entries.{put, by_order, below_all, is_sorted}
-use Rattle.gx_model.specs.Texts.{Bytes, same_bytes}
-use Rattle.gx_model.specs.Paths.{Path, are_in_line, begins, is_component, is_file_path, path_cmp, path_text, same_path}
-use Rattle.gx_model.specs.Files.{are_apart, are_file_paths, file_at, under}
-use Rattle.gx_model.specs.Edits.{moved, with_all, without_line}
-use Rattle.gx_model.proofs.PathTests.{begins_append, both, component_free, first, is_same, is_true, left_or, not_both, path_is, path_same, same_is, second}
-use Rattle.gx_model.proofs.EntryTexts.{split_at}
-use Rattle.gx_model.proofs.FileMapEdits.{Parts, all_put, path_order}
+use Rattle.std.specs.FinMap.Entries.{put, by_order}
+use Rattle.gx_model.specs.Texts.{same_bytes}
+use Rattle.gx_model.specs.Paths.{Path, begins, is_component, is_file_path, parts_of, path_cmp, path_text, same_path}
+use Rattle.gx_model.specs.Files.{are_file_paths, file_at, under}
+use Rattle.gx_model.specs.Edits.{moved, with_all}
+use Rattle.gx_model.proofs.PathTests.{begins_append, both, first, is_same, is_true, path_is, same_is, second}
+use Rattle.gx_model.proofs.PathTexts.{parts_joined}
+use Rattle.gx_model.proofs.FileMapEdits.{all_put, path_order}
 
 -- ---- a path is told by its text
 
-component_of : (c : Bytes) (p : Path) → T (is_file_path (c ∷ p)) → T (is_component c)
-component_of c p h = first (is_component c) (list_all is_component p) (first _ _ h)
-
-nothing_but : (c x : Bytes) → [] ≡ c ++ (47 ∷ x) → ⊥
-nothing_but [] x e = cc
-nothing_but (b ∷ c) x e = cc
-
-slash_in : (c d x : Bytes) → T (is_component c) → c ≡ d ++ (47 ∷ x) → ⊥
-slash_in c d x h e = holds d (subst (λ (y : Bytes). T (list_all (λ b. not (nat_eq b 47)) y)) e (component_free c h).0)
-  where
-    holds : (d : Bytes) → T (list_all (λ b. not (nat_eq b 47)) (d ++ (47 ∷ x))) → ⊥
-    holds [] k = k
-    holds (b ∷ d) k = holds d (second (not (nat_eq b 47)) _ k)
-
 -- components with no slash, joined by slashes, are told by their text
 one_path : (p q : Path) → T (list_all is_component p) → T (list_all is_component q) → path_text p ≡ path_text q → p ≡ q
-one_path [] [] h g e = refl
-one_path [] (d ∷ []) h g e = absurd (subst (λ (x : Bytes). T (is_component x)) (sym e) (first (is_component d) true g))
-one_path [] (d ∷ d' ∷ q) h g e = absurd (nothing_but d (path_text (d' ∷ q)) e)
-one_path (c ∷ []) [] h g e = absurd (subst (λ (x : Bytes). T (is_component x)) e (first (is_component c) true h))
-one_path (c ∷ c' ∷ p) [] h g e = absurd (nothing_but c (path_text (c' ∷ p)) (sym e))
-one_path (c ∷ []) (d ∷ []) h g e = ap (λ x. x ∷ []) e
-one_path (c ∷ []) (d ∷ d' ∷ q) h g e = absurd (slash_in c d (path_text (d' ∷ q)) (first (is_component c) true h) e)
-one_path (c ∷ c' ∷ p) (d ∷ []) h g e = absurd (slash_in d c (path_text (c' ∷ p)) (first (is_component d) true g) (sym e))
-one_path (c ∷ c' ∷ p) (d ∷ d' ∷ q) h g e =
-    let s = split_at 47 c d (path_text (c' ∷ p)) (path_text (d' ∷ q)) (component_free c (first _ _ h)).0 (component_free d (first _ _ g)).0 e in
-    λ i. s.0 i ∷ one_path (c' ∷ p) (d' ∷ q) (second (is_component c) _ h) (second (is_component d) _ g) s.1 i
+one_path p q h g e = sym (parts_joined p (is_true _ h)) ∙ ap parts_of e ∙ parts_joined q (is_true _ g)
 
 of_components : (p : Path) → T (is_file_path p) → T (list_all is_component p)
 of_components [] h = absurd h
@@ -73,6 +48,7 @@ abbrev pub or_else : {X : Type 0} → Option X → Option X → Option X
 or_else (Some x) o = Some x
 or_else None o = o
 
+-- or else nothing adds nothing
 pub or_nothing : {X : Type 0} (o : Option X) → or_else o None ≡ o
 or_nothing None = refl
 or_nothing (Some x) = refl
@@ -105,6 +81,7 @@ module _ {X : Type 0} where
         | false ↦ λ i j. test_at t es q (second (t e.0) _ h) j
       ] refl k
 
+  -- nothing is found at a path that fails a test which all paths pass
   pub none_where : (t : Path → Bool) (es : List (Path × X)) (q : Path) → T (list_all (λ e. t e.0) es) → (T (t q) → ⊥) → file_at es q ≡ None
   none_where t es q h n = by (file_at es q) refl
     where
@@ -114,6 +91,7 @@ module _ {X : Type 0} where
 
   -- ---- after a filter, and after a put
 
+  -- after a filter of paths, what passes is found as before
   pub at_filter : (t : Path → Bool) (es : List (Path × X)) (q : Path) → file_at (filter (λ e. t e.0) es) q ≡ cond (t q) (file_at es q) None
   at_filter t [] q = elim (t q) as (λ b. ◌≡◌ {A = Option X} None (cond b None None)) [ true ↦ refl | false ↦ refl ]
   at_filter t (e ∷ es) q =
@@ -130,6 +108,7 @@ module _ {X : Type 0} where
             ∙ at_filter t es q
       ] refl
 
+  -- after a put, the new leaf is found at its path
   pub at_put : (k : Path) (v : X) (es : List (Path × X)) (q : Path) → T (is_file_path k) → T (are_file_paths es) → file_at (put path_cmp k v es) q ≡ cond (same_path q k) (Some v) (file_at es q)
   at_put k v [] q h g = refl
   at_put k v (e ∷ es) q h g =
@@ -151,6 +130,7 @@ module _ {X : Type 0} where
   all_with t [] es h g = g
   all_with t (e ∷ new) es h g = all_put t e.0 e.1 (with_all new es) (first _ _ h) (all_with t new es (second _ _ h) g)
 
+  -- after many puts, a new leaf is found before an old one
   pub at_with_all : (new es : List (Path × X)) (q : Path) → T (are_file_paths new) → T (are_file_paths es) → file_at (with_all new es) q ≡ or_else (file_at new q) (file_at es q)
   at_with_all [] es q h g = refl
   at_with_all (e ∷ new) es q h g =
@@ -160,6 +140,7 @@ module _ {X : Type 0} where
 
   -- ---- after a move
 
+  -- below the new place is found what was below the old one
   pub at_moved : (s d : Path) (es : List (Path × X)) (r : Path) → file_at (moved s d (under s es)) (d ++ r) ≡ file_at es (s ++ r)
   at_moved s d [] r = refl
   at_moved s d (e ∷ es) r =
@@ -172,5 +153,6 @@ module _ {X : Type 0} where
   all_moved s d [] = tt
   all_moved s d (e ∷ es) = both _ _ (begins_append d (drop (length s) e.0)) (all_moved s d es)
 
+  -- elsewhere nothing that was moved is found
   pub none_moved : (s d : Path) (es : List (Path × X)) (q : Path) → (T (begins d q) → ⊥) → file_at (moved s d es) q ≡ None
   none_moved s d es q n = none_where (begins d) (moved s d es) q (all_moved s d es) n

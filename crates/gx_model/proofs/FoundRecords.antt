@@ -28,6 +28,7 @@ module _ (f : Bytes → Target) where
   or_mapped None p = refl
   or_mapped (Some n) p = refl
 
+-- the first ref of some names is the same among records and in the history
 pub first_found : (r : Records) (ns : List Bytes) → first_ref (history_of r) ns ≡ option_map (λ m. target_in (value_of_name r.records m)) (first_named r.refs ns)
 first_found r [] = refl
 first_found r (n ∷ ns) =
@@ -43,9 +44,11 @@ module _ (name : Kind → Bytes → Bytes) (namer : IsNamer name) where
         | false ↦ begun vs digits
       ]
 
+  -- digits find the records of the values that they find
   pub digits_find : (r : Records) → IsSound name r → (digits : Bytes) → map (record_of name) (begun_by name (history_of r) digits) ≡ records_begun_by r.records digits
   digits_find r i digits = begun (history_of r).values digits ∙ ap (λ rs. records_begun_by rs digits) (sym (stands name namer r i).records)
 
+  -- a commit's or a tag's record gives the name of its commit
   pub commits_found : (r : Records) → IsSound name r → (v : Value) → IsIn (history_of r).values v → commit_named r.records (name_of name v) ≡ commit_name_of name v
   commits_found r i v j = ap (λ (o : Option Record). elim o [ None ↦ None | Some s ↦ commit_of_record s.kind s.name s.body ]) (value_found name namer r i v j).0 ∙ by v j
     where

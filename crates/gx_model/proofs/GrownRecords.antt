@@ -18,7 +18,7 @@ use Rattle.gx_model.specs.HistoryOf.{history_of}
 use Rattle.gx_model.specs.Growth.{same_kind, same_object, record_named, put_under, put, and_some, put_all, AreReady, clashes, with_values}
 use Rattle.gx_model.proofs.PathTests.{both, first, second, is_true, is_same, same_is}
 use Rattle.gx_model.proofs.SameValues.{value_same}
-use Rattle.gx_model.proofs.AddedValues.{is_in_is, one_added}
+use Rattle.gx_model.proofs.AddedValues.{is_in_is, keeps, one_added}
 use Rattle.gx_model.proofs.OneHistory.{one_value, told_by_name, no_other, one_history, names_of_records}
 use Rattle.gx_model.proofs.LinkedValues.{proper_in, parts_in}
 use Rattle.gx_model.proofs.HistoriesExist.{stands}
@@ -37,6 +37,7 @@ kind_same kind.Tree = tt
 kind_same kind.Commit = tt
 kind_same kind.Tag = tt
 
+-- a value that stands in a list is found there
 pub is_is_in : (vs : List Value) (v : Value) → IsIn vs v → is_in vs v ≡ true
 is_is_in [] v i = absurd i
 is_is_in (w ∷ vs) v i =
@@ -49,6 +50,7 @@ is_is_in (w ∷ vs) v i =
     or_true true h = refl
     or_true false h = h
 
+-- a name that is new may come last
 pub distinct_snoc : (ns : List Bytes) (n : Bytes) → AreDistinct ns → list_any (same_bytes n) ns ≡ false → AreDistinct (ns ++ n ∷ [])
 distinct_snoc [] n d h = (refl, tt)
 distinct_snoc (m ∷ ns) n d h = (last m ns d.0 (parts_of_or (same_bytes n m) h).0, distinct_snoc ns n d.1 (parts_of_or (same_bytes n m) h).1)
@@ -75,6 +77,7 @@ module _ (name : Kind → Bytes → Bytes) (namer : IsNamer name) where
       ((list_any (same_bytes n) (names vs) ≡ false) × (record_named (map (record_of name) vs) n ≡ None))
       ⊎ ((w : Value) × IsIn vs w × (name_of name w ≡ n) × (list_any (same_bytes n) (names vs) ≡ true) × (record_named (map (record_of name) vs) n ≡ Some (record_of name w)))
 
+  -- a name is found among the records of values, or it isn't
   pub looked_up : (vs : List Value) (n : Bytes) → Lookup vs n
   looked_up [] n = inl (refl, refl)
   looked_up (v ∷ vs) n =
@@ -124,6 +127,7 @@ module _ (name : Kind → Bytes → Bytes) (namer : IsNamer name) where
         | false ↦ λ k. subst AreDistinct (sym (map-append (name_of name) vs (v ∷ []))) (distinct_snoc (names vs) (name_of name v) d k)
       ] h
 
+  -- the records of values that are put are those of the values that are added
   pub all_put : (ws vs : List Value) → IsWhole vs → AreDistinct (names vs) → AreReady vs ws → put_all (map (record_of name) vs) (map (record_of name) ws) ≡ option_map (map (record_of name)) (with_values name vs ws)
   all_put [] vs h d r = refl
   all_put (w ∷ ws) vs h d r =
@@ -138,9 +142,11 @@ module _ (name : Kind → Bytes → Bytes) (namer : IsNamer name) where
   abbrev pub grown_records : Records → Value → Records
   grown_records r v = record { records = r.records ++ record_of name v ∷ []; refs = r.refs }
 
+  -- a history with one value more
   abbrev pub grown_history : History → Value → History
   grown_history h v = record { values = h.values ++ v ∷ []; refs = h.refs }
 
+  -- refs stand at values that are kept
   pub refs_kept : (vs us : List Value) → ((u : Value) → IsIn vs u → IsIn us u) → (rs : List (Bytes × Target)) → AllByRecursion (λ x. IsIn vs (value_at x.1)) rs → AllByRecursion (λ x. IsIn us (value_at x.1)) rs
   refs_kept vs us f [] h = tt
   refs_kept vs us f (r ∷ rs) h = (f (value_at r.1) h.0, refs_kept vs us f rs h.1)
@@ -155,26 +161,30 @@ module _ (name : Kind → Bytes → Bytes) (namer : IsNamer name) where
     refs = s.refs;
   }
 
+  -- these are the values with some more
   pub record AreAdded (vs ws us : List Value) : Type 0 where
     pub whole : IsWhole us
     pub distinct : AreDistinct (names us)
     pub keeps : (u : Value) → IsIn vs u → IsIn us u
     pub added : us ≡ fold with_one vs ws
 
+  -- values that can be added are added
   pub are_added : (ws vs us : List Value) → IsWhole vs → AreDistinct (names vs) → AreReady vs ws → with_values name vs ws ≡ Some us → AreAdded vs ws us
   are_added [] vs us h d r e = let k : vs ≡ us = cc in subst (AreAdded vs []) k (record { whole = h; distinct = d; keeps = λ u i. i; added = refl })
   are_added (w ∷ ws) vs us h d r e =
       let a = one_added vs w h (passes _ r.0) r.1 in
-      by (clashes name vs w) refl e (λ n k. let rest = are_added ws (with_one vs w) us a.whole (distinct_one vs d w n) r.2 k in record { whole = rest.whole; distinct = rest.distinct; keeps = λ u i. rest.keeps u (a.keeps u i); added = rest.added })
+      by (clashes name vs w) refl e (λ n k. let rest = are_added ws (with_one vs w) us a.whole (distinct_one vs d w n) r.2 k in record { whole = rest.whole; distinct = rest.distinct; keeps = λ u i. rest.keeps u (keeps vs w (with_one vs w) a u i); added = rest.added })
     where
       by : (b : Bool) → clashes name vs w ≡ b → cond b None (with_values name (with_one vs w) ws) ≡ Some us → (clashes name vs w ≡ false → with_values name (with_one vs w) ws ≡ Some us → AreAdded vs (w ∷ ws) us) → AreAdded vs (w ∷ ws) us
       by true k j f = absurd (cc)
       by false k j f = f k j
 
   -- ---- a repository that grows
+  -- the values of a history are whole
   pub whole_of : (h : History) → IsHistory h → IsWhole h.values
   whole_of h i = record { closed = i.closed; proper = i.proper }
 
+  -- the values of a history that a repository stands for have distinct names
   pub distinct_of : (r : Records) (h : History) → StandsFor name r h → AreDistinct (names h.values)
   distinct_of r h s = subst AreDistinct (ap (map (λ x. x.name)) s.records ∙ names_of_records name namer h.values) s.distinct
 
@@ -186,10 +196,12 @@ module _ (name : Kind → Bytes → Bytes) (namer : IsNamer name) where
       let vs = (history_of r).values in
       ap (λ z. put_all z (map (record_of name) ws)) s.records ∙ all_put ws vs (whole_of (history_of r) s.history) (distinct_of r (history_of r) s) a
 
+  -- with these records the repository is sound, and its history has these values, too
   pub record Grew (r : Records) (ws : List Value) (rs : List Record) : Type 0 where
     pub sound : IsSound name (record { records = rs; refs = r.refs })
     pub history : history_of (record { records = rs; refs = r.refs }) ≡ record { values = fold with_one (history_of r).values ws; refs = (history_of r).refs }
 
+  -- records that are put make the history grow
   pub puts_grow : (r : Records) → IsSound name r → (ws : List Value) → AreReady (history_of r).values ws → (rs : List Record) → put_all r.records (map (record_of name) ws) ≡ Some rs → Grew r ws rs
   puts_grow r i ws a rs e = by (with_values name vs ws) refl (sym (puts_add r i ws a) ∙ e)
     where
@@ -207,12 +219,14 @@ module _ (name : Kind → Bytes → Bytes) (namer : IsNamer name) where
           let one = one_history name namer (record { records = map (record_of name) us; refs = r.refs }) (history_of (record { records = map (record_of name) us; refs = r.refs })) (record { values = us; refs = (history_of r).refs }) (stands name namer (record { records = map (record_of name) us; refs = r.refs }) u) t in
           subst (Grew r ws) q (record { sound = u; history = one ∙ (λ z. record { values = m.added z; refs = (history_of r).refs }) })
 
+  -- one record that is put makes the history grow
   pub put_grows : (r : Records) → IsSound name r → (v : Value) → IsTrue (is_proper v) → AllByRecursion (IsIn (history_of r).values) (parts v) → (rs : List Record) → put r.records (record_of name v) ≡ Some rs
       → IsSound name (record { records = rs; refs = r.refs }) × (history_of (record { records = rs; refs = r.refs }) ≡ record { values = with_one (history_of r).values v; refs = (history_of r).refs })
   put_grows r i v p q rs e =
       let g = puts_grow r i (v ∷ []) (p, q, tt) rs (ap (λ o. and_some o (λ s. Some s)) e) in
       (g.sound, g.history)
 
+-- to put what is held changes nothing
 pub put_held : (rs : List Record) (r s : Record) → record_named rs r.name ≡ Some s → s.kind ≡ r.kind → s.body ≡ r.body → put rs r ≡ Some rs
 put_held rs r s e k b =
     ap (λ o. put_under o rs r) e

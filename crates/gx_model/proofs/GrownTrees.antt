@@ -16,7 +16,7 @@ use Rattle.gx_model.proofs.PathTests.{is_true}
 use Rattle.gx_model.proofs.OneTree.{all_right, sub_named, at_named, firsts_named}
 use Rattle.gx_model.proofs.LinkedValues.{parts_in}
 use Rattle.gx_model.proofs.GrownRecords.{is_is_in}
-use Rattle.gx_model.proofs.AddedValues.{CanAdd, all_added, all_join, all_keep, subs_can, can_later, empty_of, paths_of, tree_added_to}
+use Rattle.gx_model.proofs.AddedValues.{CanAdd, all_added, all_join, all_keep, subs_can, can_later, empty_of, keeps, keeps_all, paths_of, tree_added_to}
 
 fold_append : {A B : Type 0} (f : A → B → A) (a : A) (xs ys : List B) → fold f a (xs ++ ys) ≡ fold f (fold f a xs) ys
 fold_append f a [] ys = refl
@@ -34,6 +34,7 @@ subs_fold n one (g ∷ gs) vs =
     ∙ subs_fold n one gs (fold with_one vs (map tree_value (all_trees_to n g)))
     ∙ sym (ap (fold with_one vs) (map-append tree_value (all_trees_to n g) (flat_map (all_trees_to n) gs)) ∙ fold_append with_one vs (map tree_value (all_trees_to n g)) (map tree_value (flat_map (all_trees_to n) gs)))
 
+-- a file map is added by adding its trees one after the other
 pub trees_fold_to : (n : ℕ) (vs : List Value) (f : FileMap Bytes) → with_tree_to n vs f ≡ fold with_one vs (map tree_value (all_trees_to n f))
 trees_fold_to zero vs f = refl
 trees_fold_to (suc n) vs f =
@@ -57,7 +58,7 @@ ready_subs n one (g ∷ gs) vs w k =
     let a = tree_added_to n vs g w k.0 in
     subst (AreReady vs) (sym (map-append tree_value (all_trees_to n g) (flat_map (all_trees_to n) gs)))
     (ready_append (map tree_value (all_trees_to n g)) (map tree_value (flat_map (all_trees_to n) gs)) vs (one vs g w k.0)
-    (subst (λ z. AreReady z (map tree_value (flat_map (all_trees_to n) gs))) (trees_fold_to n vs g) (ready_subs n one gs (with_tree_to n vs g) a.whole (can_later n vs (with_tree_to n vs g) a.keeps gs k.1))))
+    (subst (λ z. AreReady z (map tree_value (flat_map (all_trees_to n) gs))) (trees_fold_to n vs g) (ready_subs n one gs (with_tree_to n vs g) a.whole (can_later n vs (with_tree_to n vs g) (keeps vs (tree_value g) (with_tree_to n vs g) a) gs k.1))))
 
 ready_to : (n : ℕ) (vs : List Value) (f : FileMap Bytes) → IsWhole vs → CanAdd n vs f → AreReady vs (map tree_value (all_trees_to n f))
 ready_to zero vs f w k = (
@@ -72,8 +73,9 @@ ready_to (suc n) vs f w k =
     (ready_append (map tree_value (flat_map (all_trees_to n) (sub_maps f))) (tree_value f ∷ []) vs
     (ready_subs n (ready_to n) (sub_maps f) vs w (subs_can n vs f k.deep k.content k.blobs (first_components f)))
     (subst (λ z. AreReady z (tree_value f ∷ [])) (subs_fold n (trees_fold_to n) (sub_maps f) vs)
-    (is_true _ k.content, all_join (IsIn ws) (blobs_of f) (map tree_value (sub_maps f)) (all_keep vs ws below.keeps (blobs_of f) k.blobs) below.have, tt)))
+    (is_true _ k.content, all_join (IsIn ws) (blobs_of f) (map tree_value (sub_maps f)) (all_keep vs ws (keeps_all vs (sub_maps f) ws below) (blobs_of f) k.blobs) below.have, tt)))
 
+-- the trees of a file map whose bytes stand can be added one after the other
 pub trees_ready : (vs : List Value) (f : FileMap Bytes) → IsWhole vs → T (is_content f) → AllByRecursion (IsIn vs) (blobs_of f) → AreReady vs (map tree_value (all_trees f))
 trees_ready vs f w c b = ready_to (depth f) vs f w (record { deep = omega arith; content = c; blobs = b })
 
@@ -92,6 +94,7 @@ held_to (suc n) vs w f i =
     ap (λ z. with_one z (tree_value f)) (held_subs n vs (held_to n vs w) (sub_maps f) (all_right (IsIn vs) (blobs_of f) (map tree_value (sub_maps f)) (parts_in vs (tree_value f) w i)))
     ∙ held_one vs (tree_value f) i
 
+-- a file map that is held isn't added again
 pub tree_held : (vs : List Value) → IsWhole vs → (f : FileMap Bytes) → IsIn vs (tree_value f) → with_tree vs f ≡ vs
 tree_held vs w f i = held_to (depth f) vs w f i
 

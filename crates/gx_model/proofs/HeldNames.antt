@@ -18,7 +18,7 @@ use Rattle.gx_model.specs.RefNames.{is_ref_name}
 use Rattle.gx_model.specs.Objects.{TagParts, IsTagText, IsNamer, is_name}
 use Rattle.gx_model.specs.Records.{commit_body, kind_of, name_of, content_name, named_map}
 use Rattle.gx_model.specs.Histories.{Record, Records, AreDistinct, IsIn, record_of, StandsFor}
-use Rattle.gx_model.specs.Sound.{Some_, IsHeldAs, IsLinked, HasShortPaths, IsTarget, IsSound, IsNamedMap}
+use Rattle.gx_model.specs.Sound.{AnyByRecursion, IsHeldAs, IsLinked, HasShortPaths, IsTarget, IsSound, IsNamedMap}
 use Rattle.gx_model.specs.HistoryOf.{Named, value_in, named_values, value_named, value_of_name, content_of, contents_of, history_of}
 use Rattle.gx_model.specs.Growth.{record_named}
 use Rattle.gx_model.proofs.PathTests.{both, first, second, is_true, same_is}
@@ -29,10 +29,10 @@ use Rattle.gx_model.proofs.HistoriesExist.{tag_text_is, stands, named_is, hex_te
 use Rattle.gx_model.proofs.GrownRecords.{Lookup, looked_up, whole_of, distinct_of}
 
 module _ (name : Kind → Bytes → Bytes) (namer : IsNamer name) where
-  lookup_is : (vs : List Value) (n : Bytes) (w : Value) → record_named (map (record_of name) vs) n ≡ Some (record_of name w) → Some_ (λ r. (r.name ≡ n) × (r ≡ record_of name w)) (map (record_of name) vs)
+  lookup_is : (vs : List Value) (n : Bytes) (w : Value) → record_named (map (record_of name) vs) n ≡ Some (record_of name w) → AnyByRecursion (λ r. (r.name ≡ n) × (r ≡ record_of name w)) (map (record_of name) vs)
   lookup_is [] n w h = absurd (cc)
   lookup_is (v ∷ vs) n w h =
-      elim (same_bytes n (name_of name v)) as (λ b. same_bytes n (name_of name v) ≡ b → cond b (Some (record_of name v)) (record_named (map (record_of name) vs) n) ≡ Some (record_of name w) → Some_ (λ r. (r.name ≡ n) × (r ≡ record_of name w)) (map (record_of name) (v ∷ vs))) [
+      elim (same_bytes n (name_of name v)) as (λ b. same_bytes n (name_of name v) ≡ b → cond b (Some (record_of name v)) (record_named (map (record_of name) vs) n) ≡ Some (record_of name w) → AnyByRecursion (λ r. (r.name ≡ n) × (r ≡ record_of name w)) (map (record_of name) (v ∷ vs))) [
         | true ↦ λ k i. let e : record_of name v ≡ record_of name w = cc i in inl (sym (same_is n (name_of name v) (passes _ k)), e)
         | false ↦ λ k i. inr (lookup_is vs n w i)
       ] refl h
@@ -72,22 +72,25 @@ module _ (name : Kind → Bytes → Bytes) (namer : IsNamer name) where
 
   -- ---- a body whose links are held
 
+  -- the value is proper, its parts stand, and this is its record
   pub record IsLinkedValue (r : Records) (k : Kind) (body : Bytes) (v : Value) : Type 0 where
     pub proper : IsTrue (is_proper v)
     pub known : AllByRecursion (IsIn (history_of r).values) (parts v)
     pub recorded : record_of name v ≡ record { name = name k body; kind = k; body = body }
 
+  -- a canonical body whose links are held is that of a value whose parts stand
   pub linked_value : (r : Records) → IsSound name r → (k : Kind) (body : Bytes) → IsLinked r.records k body → HasShortPaths r.records (record { name = name k body; kind = k; body = body }) → IsLinkedValue r k body (value_in (named_values r.records) k body)
   linked_value r i k body l s =
       let t = stands name namer r i in
       let vs = (history_of r).values in
       let q = is_read name namer vs (whole_of name namer (history_of r) t.history) (distinct_of name namer r (history_of r) t) r.records
-      (λ P v j p. subst (Some_ P) (sym t.records) (holds name P vs v j p)) k body (subst (λ rs. IsLinked rs k body) t.records l) (λ es p e x h. passes _ (s es p e x h)) in
+      (λ P v j p. subst (AnyByRecursion P) (sym t.records) (holds name P vs v j p)) k body (subst (λ rs. IsLinked rs k body) t.records l) (λ es p e x h. passes _ (s es p e x h)) in
       subst (λ ks. IsLinkedValue r k body (value_in ks k body)) (sym (named_is name namer r i))
       (record { proper = is_true _ q.proper; known = q.known; recorded = λ z. record { name = name (q.same_kind z) (q.same_body z); kind = q.same_kind z; body = q.same_body z } })
 
   -- ---- refs
 
+  -- other sound refs leave the repository sound, and its values as they are
   pub published : (r : Records) → IsSound name r → (refs : List (Bytes × Bytes)) → IsTrue (is_sorted (slice_cmp nat_cmp) refs) → IsTrue (list_all (λ x. is_ref_name x.0) refs) → AllByRecursion (λ x. IsTarget r.records x.0 x.1) refs
       → IsSound name (record { records = r.records; refs = refs }) × ((history_of (record { records = r.records; refs = refs })).values ≡ (history_of r).values)
   published r i refs s n h = (record { named = i.named; distinct = i.distinct; linked = i.linked; paths = i.paths; sorted = s; ref_names = n; held = h }, refl)
@@ -120,6 +123,7 @@ module _ (name : Kind → Bytes → Bytes) (namer : IsNamer name) where
         let a = first (are_file_paths g && are_apart g) (is_sorted path_cmp g) h in
         both _ _ (both _ _ (paths_kept g (first (are_file_paths g) (are_apart g) a)) (apart_kept g (second (are_file_paths g) (are_apart g) a))) (sorted_kept g (second (are_file_paths g && are_apart g) (is_sorted path_cmp g) h))
 
+  -- a name is that of this content, which stands
   pub record IsContentOf (vs : List Value) (m : Mode) (n : Bytes) (x : Bytes) : Type 0 where
     pub leaf : T (is_leaf m x)
     pub same : content_name name m x ≡ n
@@ -141,6 +145,7 @@ module _ (name : Kind → Bytes → Bytes) (namer : IsNamer name) where
   is_content_of vs d Gitlink n k i h = record { leaf = hex_text n i; same = unhex_hex n (bytes_name n i); known = tt }
   is_content_of vs d Dir n k i h = absurd (k refl)
 
+  -- names are those of these contents, which stand
   pub record AreContents (vs : List Value) (g f : FileMap Bytes) : Type 0 where
     pub leaves : T (list_all (λ e. is_leaf e.1.0 e.1.1) f)
     pub same : named_map name f ≡ g
@@ -162,6 +167,7 @@ module _ (name : Kind → Bytes → Bytes) (namer : IsNamer name) where
       put_known None p us q = q
       put_known (Some v) p us q = (p, q)
 
+  -- a map of names is that of this file map, whose bytes stand
   pub record IsContents (r : Records) (g f : FileMap Bytes) : Type 0 where
     pub content : IsTrue (is_content f)
     pub same : named_map name f ≡ g

@@ -8,9 +8,11 @@ use Rattle.gx_model.specs.Values.{is_hex_digit}
 use Rattle.gx_model.specs.Objects.{hex, hex_digit, digit_value, unhex}
 use Rattle.gx_model.proofs.PathTests.{first, second, is_true, one_of}
 
+-- the byte is a lower-case digit of this value
 abbrev pub IsDigit : ℕ → ℕ → Type 0
 IsDigit d v = (v < 16) × (((v < 10) × (d ≡ 48 + v)) ⊎ ((10 ≤ v) × (d ≡ 87 + v)))
 
+-- a value below 16 has a digit
 pub digit_is : (n : ℕ) → n < 16 → IsDigit (hex_digit n) n
 digit_is n h = by (nat_lt n 10) refl
   where
@@ -18,6 +20,7 @@ digit_is n h = by (nat_lt n 10) refl
     by true e = (h, inl (grind (arith, nat_tests), refl))
     by false e = (h, inr (grind (arith, nat_tests), refl))
 
+-- a lower-case digit has a value
 pub value_is : (d : ℕ) → T (is_hex_digit d) → IsDigit d (digit_value d)
 value_is d h = one_of _ _ h
     (λ k. by (nat_lt d 58) refl (low k))
@@ -49,6 +52,7 @@ digit_of d e v h g =
       | inr a ↦ elim g.1 [ inl b ↦ absurd (omega arith) | inr b ↦ omega arith ]
     ]
 
+-- bytes are told by their digits
 pub one_hex : (x y : Bytes) → T (list_all (λ b. nat_lt b 256) x) → T (list_all (λ b. nat_lt b 256) y) → hex x ≡ hex y → x ≡ y
 one_hex [] [] f g e = refl
 one_hex [] (b ∷ y) f g e = absurd (cc)
@@ -67,6 +71,7 @@ one_hex (a ∷ x) (b ∷ y) f g e =
     let rest = one_hex x y (second (nat_lt a 256) _ f) (second (nat_lt b 256) _ g) r in
     λ i. w i ∷ rest i
 
+-- digits are told by their bytes
 pub one_unhex : (x y : Bytes) → T (list_all is_hex_digit x) → T (list_all is_hex_digit y) → length x ≡ length y → length x % 2 ≡ 0 → unhex x ≡ unhex y → x ≡ y
 one_unhex [] [] f g l m e = refl
 one_unhex [] (b ∷ y) f g l m e = absurd (omega arith)

@@ -21,7 +21,7 @@ use Rattle.gx_model.specs.Objects.{IsNamer, tree_text, is_name}
 use Rattle.gx_model.specs.Records.{node, named_map, tree_body, tree_name, content_name, kind_of, body_of, name_of, commit_body, names_of}
 use Rattle.gx_model.specs.Histories.{Records, AreDistinct, IsIn, IsClosedAfter, History, Target, at_commit, at_tag, value_at, IsRefOf, record_of, StandsFor}
 use Rattle.gx_model.specs.Histories.{IsWhole}
-use Rattle.gx_model.specs.Sound.{Some_, Holds, IsHeldAs, IsLinked, IsLinkedAfter, HasShortPaths, IsTarget, IsSound}
+use Rattle.gx_model.specs.Sound.{AnyByRecursion, Holds, IsHeldAs, IsLinked, IsLinkedAfter, HasShortPaths, IsTarget, IsSound}
 use Rattle.gx_model.proofs.PathTests.{both, first, second, is_true, is_same, path_is, all_append}
 use Rattle.gx_model.proofs.OneTree.{leaf_named, node_entry, spelling, leaves, all_left, all_right, all_unmap, all_unfilter}
 use Rattle.gx_model.proofs.EntryTexts.{starts_some}
@@ -34,18 +34,19 @@ use Rattle.gx_model.proofs.HistoriesExist.{tag_text_is, keys_sorted, keys_named}
 
 -- ---- a directory has something below it
 
-in_or : (c d : Bytes) (ds : List Bytes) → Some_ (λ x. x ≡ c) (with_first d ds) → (d ≡ c) ⊎ Some_ (λ x. x ≡ c) ds
+in_or : (c d : Bytes) (ds : List Bytes) → AnyByRecursion (λ x. x ≡ c) (with_first d ds) → (d ≡ c) ⊎ AnyByRecursion (λ x. x ≡ c) ds
 in_or c d [] h = elim h [ inl e ↦ inl e | inr k ↦ absurd k ]
-in_or c d (e ∷ ds) h = elim (same_bytes d e) as (λ b. Some_ (λ x. x ≡ c) (cond b (e ∷ ds) (d ∷ e ∷ ds)) → (d ≡ c) ⊎ Some_ (λ x. x ≡ c) (e ∷ ds)) [ true ↦ λ k. inr k | false ↦ λ k. k ] h
+in_or c d (e ∷ ds) h = elim (same_bytes d e) as (λ b. AnyByRecursion (λ x. x ≡ c) (cond b (e ∷ ds) (d ∷ e ∷ ds)) → (d ≡ c) ⊎ AnyByRecursion (λ x. x ≡ c) (e ∷ ds)) [ true ↦ λ k. inr k | false ↦ λ k. k ] h
 
 abbrev off_first : FileMap Bytes → FileMap Bytes
 off_first es = map (λ e. (drop 1 e.0, e.1)) es
 
-pub sub_some : (c : Bytes) (f : FileMap Bytes) → T (are_file_paths f) → Some_ (λ x. x ≡ c) (first_components f) → T (has_some (sub_map f (c ∷ [])))
+-- below a first component is something
+pub sub_some : (c : Bytes) (f : FileMap Bytes) → T (are_file_paths f) → AnyByRecursion (λ x. x ≡ c) (first_components f) → T (has_some (sub_map f (c ∷ [])))
 sub_some c [] h s = absurd s
 sub_some c (e ∷ es) h s = by e.0 (first _ _ h) (sub_some c es (second (is_file_path e.0) (are_file_paths es) h)) (in_or c (first_component e.0) (first_components es) s)
   where
-    by : (q : Path) → T (is_file_path q) → (Some_ (λ x. x ≡ c) (first_components es) → T (has_some (sub_map es (c ∷ [])))) → (first_component q ≡ c) ⊎ Some_ (λ x. x ≡ c) (first_components es) → T (has_some (sub_map ((q, e.1) ∷ es) (c ∷ [])))
+    by : (q : Path) → T (is_file_path q) → (AnyByRecursion (λ x. x ≡ c) (first_components es) → T (has_some (sub_map es (c ∷ [])))) → (first_component q ≡ c) ⊎ AnyByRecursion (λ x. x ≡ c) (first_components es) → T (has_some (sub_map ((q, e.1) ∷ es) (c ∷ [])))
     by [] k rest o = absurd k
     by (d ∷ q) k rest o =
         elim (same_bytes c d) as (λ b. same_bytes c d ≡ b → T (has_some (off_first (cond (b && true) ((d ∷ q, e.1) ∷ under (c ∷ []) es) (under (c ∷ []) es))))) [
@@ -67,9 +68,11 @@ short_path p (e ∷ es) h s =
     ] refl s
 
 module _ (Known : Value → Type 0) where
+  -- a file that is no gitlink has known bytes
   abbrev pub IsKnown : Leaf Bytes → Type 0
   IsKnown x = IfSome (blob_of x.0 x.1) Known
 
+  -- the file at a path has known bytes
   pub file_known : (f : FileMap Bytes) (p : Path) → AllByRecursion Known (blobs_of f) → IfSome (file_at f p) IsKnown
   file_known [] p h = tt
   file_known (e ∷ es) p h =
@@ -80,6 +83,7 @@ module _ (Known : Value → Type 0) where
       by None vs k = (tt, k)
       by (Some v) vs k = (k.0, k.1)
 
+  -- the sub-maps at directories are known
   pub subs_known : (f : FileMap Bytes) → AllByRecursion Known (parts (tree_value f)) → AllByRecursion (λ c. is_none (file_at f (c ∷ [])) ≡ true → Known (tree_value (sub_map f (c ∷ [])))) (first_components f)
   subs_known f h =
       all_unfilter (λ c. Known (tree_value (sub_map f (c ∷ [])))) (λ c. is_none (file_at f (c ∷ []))) (first_components f)
@@ -118,7 +122,7 @@ module _ (name : Kind → Bytes → Bytes) (namer : IsNamer name) where
     node_held None g l k d = let r = d refl in holds name (λ r. (r.kind ≡ kind.Tree) × (r.name ≡ tree_name name g) × (r.body ≢ [])) vs (tree_value g) r.0 (refl, refl, body_some g r.2 r.1)
     node_held (Some x) g l k d = leaf_held x.0 x.1 l k
 
-    nodes_held : (f : FileMap Bytes) → T (is_content f) → T (list_all is_proper vs) → AllByRecursion (IsIn vs) (blobs_of f) → (cs : List Bytes) → ((c : Bytes) → Some_ (λ x. x ≡ c) cs → Some_ (λ x. x ≡ c) (first_components f))
+    nodes_held : (f : FileMap Bytes) → T (is_content f) → T (list_all is_proper vs) → AllByRecursion (IsIn vs) (blobs_of f) → (cs : List Bytes) → ((c : Bytes) → AnyByRecursion (λ x. x ≡ c) cs → AnyByRecursion (λ x. x ≡ c) (first_components f))
         → AllByRecursion (λ c. is_none (file_at f (c ∷ [])) ≡ true → IsIn vs (tree_value (sub_map f (c ∷ [])))) (first_components f)
         → AllByRecursion (λ e. IsHeldAs (map (record_of name) vs) e.mode e.name) (map (node_entry name namer f) cs)
     nodes_held f t p b [] i d = tt

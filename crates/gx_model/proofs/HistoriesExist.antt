@@ -22,8 +22,8 @@ use Rattle.gx_model.specs.Objects.{IsNamer, Entry, is_name, IsTreeText, IsTagTex
 use Rattle.gx_model.specs.Records.{node, named_map, tree_body, tree_name, kind_of, body_of, name_of, commit_body, names_of, tag_body}
 use Rattle.gx_model.specs.Histories.{Record, Records, AreDistinct, IsIn, is_in, History, Target, value_at, IsRefOf, record_of, StandsFor}
 use Rattle.gx_model.specs.Histories.{IsWhole}
-use Rattle.gx_model.specs.Sound.{Some_, Holds, IsHeldAs, IsTree, IsCommit, IsTag, IsLinked, IsLinkedAfter, HasPath, here, below, HasShortPaths, IsTarget, IsSound}
-use Rattle.gx_model.specs.HistoryOf.{value_named, bytes_in, files_in, commit_in, entries_in, commit_parts_in, tag_parts_in, placed, files_at, files_of_entries, commit_of_parts, tag_of_parts, value_in, named_from, named_values, target_in, history_of}
+use Rattle.gx_model.specs.Sound.{AnyByRecursion, Holds, IsHeldAs, IsTree, IsCommit, IsTag, IsLinked, IsLinkedAfter, HasPath, here, below, HasShortPaths, IsTarget, IsSound}
+use Rattle.gx_model.specs.HistoryOf.{value_named, bytes_of_blob, files_of_tree, commit_of_value, entries_in, commit_parts_in, tag_parts_in, placed, files_at, files_of_entries, commit_of_parts, tag_of_parts, value_in, named_from, named_values, target_in, history_of}
 use Rattle.gx_model.proofs.PathTests.{both, first, second, is_true, is_same, all_append}
 use Rattle.gx_model.proofs.HexDigits.{digit_is}
 use Rattle.gx_model.proofs.PathOrder.{node_key}
@@ -54,10 +54,12 @@ hex_digits (b ∷ x) h =
     digit : (n : ℕ) → n < 16 → T (is_hex_digit (hex_digit n))
     digit n k = elim (digit_is n k).1 [ inl a ↦ low (hex_digit n) (omega arith) (omega arith) | inr a ↦ high (hex_digit n) (omega arith) (omega arith) ]
 
+-- there are two digits a byte
 pub hex_long : (n : Bytes) → length (hex n) ≡ 2 * length n
 hex_long [] = refl
 hex_long (b ∷ x) = let r = hex_long x in omega arith
 
+-- a name's digits are 40
 pub hex_text : (n : Bytes) → T (is_name n) → T (is_name_text (hex n))
 hex_text n h = let l = long_name n h in let m = hex_long n in both _ _ (passes _ (eq-eqb (length (hex n)) 40 (omega arith))) (hex_digits n (bytes_name n h))
 
@@ -111,7 +113,7 @@ module _ (name : Kind → Bytes → Bytes) (namer : IsNamer name) (vs : List Val
       by File c n k nm h s =
           let r = found name namer (λ r. (r.kind ≡ kind.Blob) × (r.name ≡ n)) n (λ r q. q.1) vs distinct h in
           let v = value_named (named name vs) n in
-          let e : v ≡ blob_value (bytes_in v) = is_blob name v r.1.0 in
+          let e : v ≡ blob_value (bytes_of_blob v) = is_blob name v r.1.0 in
           record {
             fits = record { some = tt; component = k; keys = (refl, tt); paths = both _ _ (both _ _ (both (is_component c) true k tt) (first _ _ s)) tt; apart = tt; sorted = tt };
             told = λ i. (File, (ap (name_of name) (sym e) ∙ r.1.1) i);
@@ -122,7 +124,7 @@ module _ (name : Kind → Bytes → Bytes) (namer : IsNamer name) (vs : List Val
       by Exec c n k nm h s =
           let r = found name namer (λ r. (r.kind ≡ kind.Blob) × (r.name ≡ n)) n (λ r q. q.1) vs distinct h in
           let v = value_named (named name vs) n in
-          let e : v ≡ blob_value (bytes_in v) = is_blob name v r.1.0 in
+          let e : v ≡ blob_value (bytes_of_blob v) = is_blob name v r.1.0 in
           record {
             fits = record { some = tt; component = k; keys = (refl, tt); paths = both _ _ (both _ _ (both (is_component c) true k tt) (first _ _ s)) tt; apart = tt; sorted = tt };
             told = λ i. (Exec, (ap (name_of name) (sym e) ∙ r.1.1) i);
@@ -133,7 +135,7 @@ module _ (name : Kind → Bytes → Bytes) (namer : IsNamer name) (vs : List Val
       by Link c n k nm h s =
           let r = found name namer (λ r. (r.kind ≡ kind.Blob) × (r.name ≡ n)) n (λ r q. q.1) vs distinct h in
           let v = value_named (named name vs) n in
-          let e : v ≡ blob_value (bytes_in v) = is_blob name v r.1.0 in
+          let e : v ≡ blob_value (bytes_of_blob v) = is_blob name v r.1.0 in
           record {
             fits = record { some = tt; component = k; keys = (refl, tt); paths = both _ _ (both _ _ (both (is_component c) true k tt) (first _ _ s)) tt; apart = tt; sorted = tt };
             told = λ i. (Link, (ap (name_of name) (sym e) ∙ r.1.1) i);
@@ -151,7 +153,7 @@ module _ (name : Kind → Bytes → Bytes) (namer : IsNamer name) (vs : List Val
       by Dir c n k nm h s =
           let r = found name namer (λ r. (r.kind ≡ kind.Tree) × (r.name ≡ n) × (r.body ≢ [])) n (λ r q. q.1) vs distinct h in
           let v = value_named (named name vs) n in
-          let f = files_in v in
+          let f = files_of_tree v in
           let e : v ≡ tree_value f = is_tree name v r.1.0 in
           let i : IsIn vs (tree_value f) = subst (IsIn vs) e r.0 in
           let t : T (is_content f) = proper_in vs (tree_value f) (passes _ whole.proper) i in
@@ -171,9 +173,9 @@ module _ (name : Kind → Bytes → Bytes) (namer : IsNamer name) (vs : List Val
             dir = λ j. i;
           }
 
-  module _ (all : List Record) (kept : (P : Record → Type 0) (v : Value) → IsIn vs v → P (record_of name v) → Some_ P all) where
+  module _ (all : List Record) (kept : (P : Record → Type 0) (v : Value) → IsIn vs v → P (record_of name v) → AnyByRecursion P all) where
     -- no path below a held entry is too long
-    pub entry_short : (es : List Entry) → ((p : Path) → HasPath all es p → T (is_short p)) → (e : Entry) → Some_ (λ x. x ≡ e) es → IsHeldAs (map (record_of name) vs) e.mode e.name → T (list_all (λ q. is_short (e.component ∷ q.0)) (g e))
+    pub entry_short : (es : List Entry) → ((p : Path) → HasPath all es p → T (is_short p)) → (e : Entry) → AnyByRecursion (λ x. x ≡ e) es → IsHeldAs (map (record_of name) vs) e.mode e.name → T (list_all (λ q. is_short (e.component ∷ q.0)) (g e))
     entry_short es short e s h = by e.mode refl h
       where
         leaf : (x : Leaf Bytes) → (e.mode ≡ Dir → ⊥) → T (is_short (e.component ∷ []) && true)
@@ -187,7 +189,7 @@ module _ (name : Kind → Bytes → Bytes) (namer : IsNamer name) (vs : List Val
         by Dir i k =
             let r = found name namer (λ r. (r.kind ≡ kind.Tree) × (r.name ≡ e.name) × (r.body ≢ [])) e.name (λ r q. q.1) vs distinct k in
             let v = value_named (named name vs) e.name in
-            let f = files_in v in
+            let f = files_of_tree v in
             let j : v ≡ tree_value f = is_tree name v r.1.0 in
             let u : IsIn vs (tree_value f) = subst (IsIn vs) j r.0 in
             each_path (λ p. is_short (e.component ∷ p)) f
@@ -196,7 +198,7 @@ module _ (name : Kind → Bytes → Bytes) (namer : IsNamer name) (vs : List Val
             (kept (λ r. (r.kind ≡ kind.Tree) × (r.name ≡ e.name) × IsTreeText (entries_of name namer f) r.body) (tree_value f) u (refl, ap (name_of name) (sym j) ∙ r.1.1, text_of_tree name namer f (proper_in vs (tree_value f) (passes _ whole.proper) u)))
             (has_path name namer vs whole distinct all kept p f u o)))
 
-    all_read : (es fs : List Entry) → ((e : Entry) → Some_ (λ x. x ≡ e) fs → Some_ (λ x. x ≡ e) es) → ((p : Path) → HasPath all es p → T (is_short p)) → T (list_all (λ e. is_component e.component) fs) → T (list_all (λ e. is_name e.name) fs)
+    all_read : (es fs : List Entry) → ((e : Entry) → AnyByRecursion (λ x. x ≡ e) fs → AnyByRecursion (λ x. x ≡ e) es) → ((p : Path) → HasPath all es p → T (is_short p)) → T (list_all (λ e. is_component e.component) fs) → T (list_all (λ e. is_name e.name) fs)
         → AllByRecursion (λ e. IsHeldAs (map (record_of name) vs) e.mode e.name) fs → AllByRecursion (Reads g name namer (IsIn vs)) fs
     all_read es [] i short c n h = tt
     all_read es (e ∷ fs) i short c n h = (
@@ -219,22 +221,22 @@ module _ (name : Kind → Bytes → Bytes) (namer : IsNamer name) (vs : List Val
         let f : tree_value (files_of_entries (named name vs) (entries_in body)) ≡ tree_value (files_of_entries (named name vs) es) = ap (λ z. tree_value (files_of_entries (named name vs) z)) r in
         subst (IsRead kind.Tree body) (sym f) (record { same_kind = refl; same_body = b.body ∙ sym h.1.0; proper = b.content; known = b.parts_known })
 
-    commit_held : (n : Bytes) → Holds (map (record_of name) vs) kind.Commit n → IsIn vs (commit_value (commit_in (value_named (named name vs) n))) × (name kind.Commit (commit_body name (commit_in (value_named (named name vs) n))) ≡ n)
+    commit_held : (n : Bytes) → Holds (map (record_of name) vs) kind.Commit n → IsIn vs (commit_value (commit_of_value (value_named (named name vs) n))) × (name kind.Commit (commit_body name (commit_of_value (value_named (named name vs) n))) ≡ n)
     commit_held n h =
         let r = found name namer (λ r. (r.kind ≡ kind.Commit) × (r.name ≡ n)) n (λ r q. q.1) vs distinct h in
         let v = value_named (named name vs) n in
-        let e : v ≡ commit_value (commit_in v) = is_commit name v r.1.0 in
+        let e : v ≡ commit_value (commit_of_value v) = is_commit name v r.1.0 in
         (subst (IsIn vs) e r.0, ap (name_of name) (sym e) ∙ r.1.1)
 
-    tree_held : (n : Bytes) → Holds (map (record_of name) vs) kind.Tree n → IsIn vs (tree_value (files_in (value_named (named name vs) n))) × (tree_name name (files_in (value_named (named name vs) n)) ≡ n)
+    tree_held : (n : Bytes) → Holds (map (record_of name) vs) kind.Tree n → IsIn vs (tree_value (files_of_tree (value_named (named name vs) n))) × (tree_name name (files_of_tree (value_named (named name vs) n)) ≡ n)
     tree_held n h =
         let r = found name namer (λ r. (r.kind ≡ kind.Tree) × (r.name ≡ n)) n (λ r q. q.1) vs distinct h in
         let v = value_named (named name vs) n in
-        let e : v ≡ tree_value (files_in v) = is_tree name v r.1.0 in
+        let e : v ≡ tree_value (files_of_tree v) = is_tree name v r.1.0 in
         (subst (IsIn vs) e r.0, ap (name_of name) (sym e) ∙ r.1.1)
 
     commits_held : (ns : List Bytes) → AllByRecursion (Holds (map (record_of name) vs) kind.Commit) ns
-        → AllByRecursion (IsIn vs) (map commit_value (list_of (commits_of (map (λ n. commit_in (value_named (named name vs) n)) ns)))) × (names_of name (commits_of (map (λ n. commit_in (value_named (named name vs) n)) ns)) ≡ ns)
+        → AllByRecursion (IsIn vs) (map commit_value (list_of (commits_of (map (λ n. commit_of_value (value_named (named name vs) n)) ns)))) × (names_of name (commits_of (map (λ n. commit_of_value (value_named (named name vs) n)) ns)) ≡ ns)
     commits_held [] h = (tt, refl)
     commits_held (n ∷ ns) h =
         let r = commit_held n h.0 in
@@ -246,13 +248,13 @@ module _ (name : Kind → Bytes → Bytes) (namer : IsNamer name) (vs : List Val
         let p = h.0 in
         let t = tree_held p.tree h.2 in
         let ps = commits_held p.parents h.3 in
-        let e : commit_text (record { tree = tree_name name (files_in (value_named (named name vs) p.tree)); parents = names_of name (commits_of (map (λ n. commit_in (value_named (named name vs) n)) p.parents)); text = p.text }) ≡ body =
+        let e : commit_text (record { tree = tree_name name (files_of_tree (value_named (named name vs) p.tree)); parents = names_of name (commits_of (map (λ n. commit_of_value (value_named (named name vs) n)) p.parents)); text = p.text }) ≡ body =
         (λ i. commit_text (record { tree = t.1 i; parents = ps.1 i; text = p.text })) ∙ sym h.1.0 in
         let f : commit_value (commit_of_parts (named name vs) (commit_parts_in body)) ≡ commit_value (commit_of_parts (named name vs) p) = ap (λ z. commit_value (commit_of_parts (named name vs) z)) (commit_read p body h.1) in
         subst (IsRead kind.Commit body) (sym f) (record {
           same_kind = refl;
           same_body = e;
-          proper = both _ _ (proper_in vs (tree_value (files_in (value_named (named name vs) p.tree))) (passes _ whole.proper) t.0) (passes _ h.1.3);
+          proper = both _ _ (proper_in vs (tree_value (files_of_tree (value_named (named name vs) p.tree))) (passes _ whole.proper) t.0) (passes _ h.1.3);
           known = (t.0, ps.0);
         })
 
@@ -260,7 +262,7 @@ module _ (name : Kind → Bytes → Bytes) (namer : IsNamer name) (vs : List Val
     tag_is_read body h =
         let p = h.0 in
         let c = commit_held p.object h.2 in
-        let e : tag_text (record { object = name kind.Commit (commit_body name (commit_in (value_named (named name vs) p.object))); name = p.name; tagger = p.tagger; message = p.message }) ≡ body =
+        let e : tag_text (record { object = name kind.Commit (commit_body name (commit_of_value (value_named (named name vs) p.object))); name = p.name; tagger = p.tagger; message = p.message }) ≡ body =
         (λ i. tag_text (record { object = c.1 i; name = p.name; tagger = p.tagger; message = p.message })) ∙ sym h.1.0 in
         let f : tag_value (tag_of_parts (named name vs) (tag_parts_in body)) ≡ tag_value (tag_of_parts (named name vs) p) = ap (λ z. tag_value (tag_of_parts (named name vs) z)) (tag_read p body h.1) in
         subst (IsRead kind.Tag body) (sym f) (record {
@@ -270,6 +272,7 @@ module _ (name : Kind → Bytes → Bytes) (namer : IsNamer name) (vs : List Val
           known = (c.0, tt);
         })
 
+    -- a linked body is read as a proper value of known parts, whose body it is
     pub is_read : (k : Kind) (body : Bytes) → IsLinked (map (record_of name) vs) k body → ((es : List Entry) (p : Path) → k ≡ kind.Tree → IsTreeText es body → HasPath all es p → T (is_short p)) → IsRead k body (value_in (named name vs) k body)
     is_read kind.Blob body h short = record { same_kind = refl; same_body = refl; proper = tt; known = tt }
     is_read kind.Tree body h short = tree_is_read body h (λ es p t q. short es p refl t q)
@@ -286,10 +289,12 @@ module _ {X Y : Type 0} (f : Bytes × X → Y) where
   below_keys k [] b = tt
   below_keys k (e ∷ es) b = both _ _ (first _ _ b) (below_keys k es (second (is_lt (slice_cmp nat_cmp k e.0)) (below_all (slice_cmp nat_cmp) k es) b))
 
+  -- refs keep their order with other targets
   pub keys_sorted : (rs : List (Bytes × X)) → T (is_sorted (slice_cmp nat_cmp) rs) → T (is_sorted (slice_cmp nat_cmp) (with_values rs))
   keys_sorted [] h = tt
   keys_sorted (r ∷ rs) h = both _ _ (below_keys r.0 rs (first _ _ h)) (keys_sorted rs (second (below_all (slice_cmp nat_cmp) r.0 rs) _ h))
 
+  -- refs keep their names with other targets
   pub keys_named : (t : Bytes → Bool) (rs : List (Bytes × X)) → T (list_all (λ x. t x.0) rs) → T (list_all (λ x. t x.0) (with_values rs))
   keys_named t [] h = tt
   keys_named t (r ∷ rs) h = both _ _ (first _ _ h) (keys_named t rs (second (t r.0) _ h))
@@ -332,19 +337,21 @@ module _ (name : Kind → Bytes → Bytes) (namer : IsNamer name) where
       by true e = absurd (h (is_in_is vs v (passes _ e)))
       by false e = refl
 
+  -- the values are whole, have distinct names, and these are their records
   pub record IsReadTo (vs : List Value) (rs : List Record) : Type 0 where
     pub values : List Value
     pub read : named_from (named name vs) rs ≡ named name values
     pub recorded : map (record_of name) values ≡ map (record_of name) vs ++ rs
     pub whole : IsWhole values
 
-  kept_by : (vs : List Value) (rs all : List Record) → map (record_of name) vs ++ rs ≡ all → (P : Record → Type 0) (v : Value) → IsIn vs v → P (record_of name v) → Some_ P all
-  kept_by vs rs all e P v i p = subst (Some_ P) e (some_left (map (record_of name) vs) rs (holds name P vs v i p))
+  kept_by : (vs : List Value) (rs all : List Record) → map (record_of name) vs ++ rs ≡ all → (P : Record → Type 0) (v : Value) → IsIn vs v → P (record_of name v) → AnyByRecursion P all
+  kept_by vs rs all e P v i p = subst (AnyByRecursion P) e (some_left (map (record_of name) vs) rs (holds name P vs v i p))
     where
-      some_left : (xs ys : List Record) → Some_ P xs → Some_ P (xs ++ ys)
+      some_left : (xs ys : List Record) → AnyByRecursion P xs → AnyByRecursion P (xs ++ ys)
       some_left [] ys h = absurd h
       some_left (x ∷ xs) ys h = elim h [ inl q ↦ inl q | inr q ↦ inr (some_left xs ys q) ]
 
+  -- records that link to earlier ones are read as values
   pub read_all : (all rs : List Record) (vs : List Value) → IsWhole vs → map (record_of name) vs ++ rs ≡ all → AreDistinct (map (λ r. r.name) all) → AllByRecursion (λ r. r.name ≡ name r.kind r.body) rs
       → IsLinkedAfter (map (record_of name) vs) rs → AllByRecursion (HasShortPaths all) rs → IsReadTo vs rs
   read_all all [] vs w e d n l s = record { values = vs; read = refl; recorded = sym (append-nil (map (record_of name) vs)); whole = w }
@@ -386,6 +393,7 @@ module _ (name : Kind → Bytes → Bytes) (namer : IsNamer name) where
   pub tag_parts_of : Tag → TagParts
   tag_parts_of t = record { object = name kind.Commit (commit_body name t.target); name = t.name; tagger = t.tagger; message = t.message }
 
+  -- a proper tag's body is that of proper parts
   pub tag_text_is : (t : Tag) → T (is_proper (tag_value t)) → IsTagText (record { object = name kind.Commit (commit_body name t.target); name = t.name; tagger = t.tagger; message = t.message }) (tag_body name t)
   tag_text_is t h = (refl, is_true _ (name_is_name name namer kind.Commit (commit_body name t.target)), is_true _ (first (is_tag_name t.name) (is_optional_ident t.tagger) h), is_true _ (second (is_tag_name t.name) (is_optional_ident t.tagger) h))
 
@@ -396,6 +404,7 @@ module _ (name : Kind → Bytes → Bytes) (namer : IsNamer name) where
   own_tag (tag_value u) n p h k t e =
       e ∙ ap tag_ref (ap (λ z. z.name) (sym (tag_read p (tag_body name u) t) ∙ tag_read (record { object = name kind.Commit (commit_body name u.target); name = u.name; tagger = u.tagger; message = u.message }) (tag_body name u) (tag_text_is u h)))
 
+  -- a target is found in the history, and is the tag's own where it is a tag's
   pub record IsGoodRef (vs : List Value) (n m : Bytes) : Type 0 where
     pub same : name_of name (value_at (target_in (value_named (named name vs) m))) ≡ m
     pub held : IsIn vs (value_at (target_in (value_named (named name vs) m)))

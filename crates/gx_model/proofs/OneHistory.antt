@@ -21,6 +21,7 @@ use Rattle.gx_model.proofs.PlainTexts.{text_lines_of, tag_line, optional_ident_l
 
 -- ---- lines
 
+-- a line and what follows it, grouped to the right
 pub line_flat : (w x r : Bytes) → line w x ++ r ≡ w ++ (32 ∷ (x ++ (10 ∷ r)))
 line_flat w x r = append_assoc (w ++ 32 ∷ x) (10 ∷ []) r ∙ append_assoc w (32 ∷ x) (10 ∷ r)
 
@@ -43,6 +44,7 @@ one_optional b w (Some x) (Some y) m n h f g e =
     let l : m ≡ n = cc (k.1) in
     (ap Some k.0, l)
 
+-- the lines of a commit's text, grouped to the right
 pub text_flat : (t : CommitText) → text_lines t ≡ line (codes "author") t.author ++ (line (codes "committer") t.committer ++ (optional_line (codes "encoding") t.encoding ++ (10 ∷ t.message)))
 text_flat t =
     append_assoc (line (codes "author") t.author ++ line (codes "committer") t.committer) (optional_line (codes "encoding") t.encoding) (10 ∷ t.message)
@@ -57,6 +59,7 @@ one_text t u f g e =
     let o = one_optional 101 (codes "ncoding") t.encoding u.encoding t.message u.message (λ k. omega arith) f2.encoding g2.encoding c.1 in
     λ i. record { author = a.0 i; committer = c.0 i; encoding = o.0 i; message = o.1 i }
 
+-- digits are a line
 pub hex_line : (x : Bytes) → T (is_line (hex x))
 hex_line [] = tt
 hex_line (b ∷ x) = both _ _ (digit_line (b / 16)) (both _ _ (digit_line (b % 16)) (hex_line x))
@@ -105,6 +108,7 @@ module _ (name : Kind → Bytes → Bytes) (namer : IsNamer name) where
         let o = one_text t u (second (is_content f) _ h) (second (is_content g) _ k) b.1 in
         λ i. commit (s i) (b.0 i) (o i)
 
+    -- a tag's body, grouped to the right
     pub tag_flat : (t : Tag) → tag_body name t ≡ line (codes "object") (hex (name kind.Commit (commit_body name t.target))) ++ (line (codes "type") (codes "commit") ++ (line (codes "tag") t.name ++ (optional_line (codes "tagger") t.tagger ++ (10 ∷ t.message))))
     tag_flat t =
         append_assoc (line (codes "object") (hex (name kind.Commit (commit_body name t.target))) ++ line (codes "type") (codes "commit") ++ line (codes "tag") t.name) (optional_line (codes "tagger") t.tagger) (10 ∷ t.message)
@@ -144,6 +148,7 @@ module _ (name : Kind → Bytes → Bytes) (namer : IsNamer name) where
   names : List Value → List Bytes
   names vs = map (name_of name) vs
 
+  -- a name that no value has isn't that of a value that stands
   pub no_other : (n : Bytes) (vs : List Value) (v : Value) → list_any (same_bytes n) (map (name_of name) vs) ≡ false → IsIn vs v → n ≡ name_of name v → ⊥
   no_other n [] v h i e = i
   no_other n (w ∷ vs) v h i e =
@@ -162,6 +167,7 @@ module _ (name : Kind → Bytes → Bytes) (namer : IsNamer name) where
           by true k = absurd (cc)
           by false k = k
 
+  -- values that stand are told by their names, where these are distinct
   pub told_by_name : (vs : List Value) → AreDistinct (map (name_of name) vs) → (x y : Value) → IsIn vs x → IsIn vs y → name_of name x ≡ name_of name y → x ≡ y
   told_by_name [] d x y i j e = absurd i
   told_by_name (w ∷ vs) d x y i j e =
@@ -179,6 +185,7 @@ module _ (name : Kind → Bytes → Bytes) (namer : IsNamer name) where
   distinct_left [] ws h = tt
   distinct_left (v ∷ vs) ws h = (any_left (name_of name v) vs ws h.0, distinct_left vs ws h.1)
 
+  -- records tell their values
   pub one_list : (before vs ws : List Value) → AreDistinct (map (name_of name) (before ++ vs)) → IsClosedAfter before vs → IsClosedAfter before ws → T (list_all is_proper vs) → T (list_all is_proper ws)
       → map (record_of name) vs ≡ map (record_of name) ws → vs ≡ ws
   one_list before [] [] d c g p q e = refl
@@ -214,10 +221,12 @@ module _ (name : Kind → Bytes → Bytes) (namer : IsNamer name) where
       let more_refs = one_refs vs d rs qs h.1 g.1 rest in
       λ i. ((one i).0, t i) ∷ more_refs i
 
+  -- the names of the records of values are the values' names
   pub names_of_records : (vs : List Value) → map (λ x. x.name) (map (record_of name) vs) ≡ map (name_of name) vs
   names_of_records [] = refl
   names_of_records (v ∷ vs) = ap (λ ns. name_of name v ∷ ns) (names_of_records vs)
 
+  -- a repository stands for one history at most
   pub one_history : (r : Records) (h k : History) → StandsFor name r h → StandsFor name r k → h ≡ k
   one_history r h k a b =
       let d : AreDistinct (map (name_of name) h.values) = subst AreDistinct (ap (map (λ x. x.name)) a.records ∙ names_of_records h.values) a.distinct in

@@ -24,18 +24,22 @@ use Rattle.gx_model.proofs.HexDigits.{one_unhex}
 
 -- ---- what holds of each element
 
+-- what holds of all elements of two lists in a row holds of the first's
 pub all_left : {X : Type 0} (P : X → Type 0) (xs ys : List X) → AllByRecursion P (xs ++ ys) → AllByRecursion P xs
 all_left P [] ys h = tt
 all_left P (x ∷ xs) ys h = (h.0, all_left P xs ys h.1)
 
+-- what holds of all elements of two lists in a row holds of the second's
 pub all_right : {X : Type 0} (P : X → Type 0) (xs ys : List X) → AllByRecursion P (xs ++ ys) → AllByRecursion P ys
 all_right P [] ys h = h
 all_right P (x ∷ xs) ys h = all_right P xs ys h.1
 
+-- what holds of the images holds of the elements' images
 pub all_unmap : {X Y : Type 0} (P : Y → Type 0) (f : X → Y) (xs : List X) → AllByRecursion P (map f xs) → AllByRecursion (λ x. P (f x)) xs
 all_unmap P f [] h = tt
 all_unmap P f (x ∷ xs) h = (h.0, all_unmap P f xs h.1)
 
+-- what holds of what passes a test holds of each element that does
 pub all_unfilter : {X : Type 0} (P : X → Type 0) (t : X → Bool) (xs : List X) → AllByRecursion P (filter t xs) → AllByRecursion (λ x. t x ≡ true → P x) xs
 all_unfilter P t [] h = tt
 all_unfilter P t (x ∷ xs) h =
@@ -50,6 +54,7 @@ found t u (e ∷ es) h = elim (t e.0) as (λ b. IfSome (cond b (Some e.1) (looku
 
 -- ---- a map of names
 
+-- the sub-map of a map of names is the names of the sub-map
 pub sub_named : (name : Kind → Bytes → Bytes) (f : FileMap Bytes) (c : Bytes) → sub_map (named_map name f) (c ∷ []) ≡ named_map name (sub_map f (c ∷ []))
 sub_named name [] c = refl
 sub_named name (e ∷ es) c =
@@ -58,11 +63,13 @@ sub_named name (e ∷ es) c =
       | false ↦ sub_named name es c
     ]
 
+-- what is found in a map of names is the name of what is found in the file map
 pub at_named : (name : Kind → Bytes → Bytes) (f : FileMap Bytes) (p : Path) → file_at (named_map name f) p ≡ option_map (λ x. (x.0, content_name name x.0 x.1)) (file_at f p)
 at_named name [] p = refl
 at_named name (e ∷ es) p =
     elim (same_path p e.0) as (λ b. cond b (Some (e.1.0, content_name name e.1.0 e.1.1)) (file_at (named_map name es) p) ≡ option_map (λ x. (x.0, content_name name x.0 x.1)) (cond b (Some e.1) (file_at es p))) [ true ↦ refl | false ↦ at_named name es p ]
 
+-- a map of names has the first components of its file map
 pub firsts_named : (name : Kind → Bytes → Bytes) (f : FileMap Bytes) → first_components (named_map name f) ≡ first_components f
 firsts_named name [] = refl
 firsts_named name (e ∷ es) = ap (with_first (first_component e.0)) (firsts_named name es)
@@ -100,6 +107,7 @@ module _ {X : Type 0} where
       ∙ ap (λ z. ([], z) ∷ []) i in
       subst (λ q. sub_map ((q, v) ∷ ys) (c ∷ []) ≡ ([], x) ∷ []) s start
 
+  -- below a file's component is that file alone
   pub only_file : (c : Bytes) (f : List (Path × X)) (x : X) → T (are_apart f) → file_at f (c ∷ []) ≡ Some x → sub_map f (c ∷ []) ≡ ([], x) ∷ []
   only_file c [] x h e = absurd (cc)
   only_file c (y ∷ ys) x h e =
@@ -118,6 +126,7 @@ by_subs : {X : Type 0} (f : List (Path × X)) (rs : List (Bytes × List (Path ×
 by_subs f [] h = refl
 by_subs f (r ∷ rs) h = λ i. below r.0 (h.0 i) ++ by_subs f rs h.1 i
 
+-- a file map is its sub-maps at first components in a row
 pub rebuilt : {X : Type 0} (f : List (Path × X)) → Parts f → f ≡ flat_map (λ c. below c (sub_map f (c ∷ []))) (first_components f)
 rebuilt f h = sym (runs_are f h.paths) ∙ by_subs f (runs f) (good_runs f h).subs ∙ ap (flat_map (λ c. below c (sub_map f (c ∷ [])))) (heads f)
 
@@ -125,10 +134,12 @@ same_subs : {X : Type 0} (f g : List (Path × X)) (cs : List Bytes) → AllByRec
 same_subs f g [] h = refl
 same_subs f g (c ∷ cs) h = λ i. below c (h.0 i) ++ same_subs f g cs h.1 i
 
+-- file maps with one row of sub-maps are one
 pub from_subs : {X : Type 0} (f g : List (Path × X)) → Parts f → Parts g → first_components f ≡ first_components g → AllByRecursion (λ c. sub_map f (c ∷ []) ≡ sub_map g (c ∷ [])) (first_components f) → f ≡ g
 from_subs f g h k e a =
     rebuilt f h ∙ same_subs f g (first_components f) a ∙ ap (flat_map (λ c. below c (sub_map g (c ∷ [])))) e ∙ sym (rebuilt g k)
 
+-- the first components are components
 pub firsts_proper : {X : Type 0} (f : List (Path × X)) → T (are_file_paths f) → T (list_all is_component (first_components f))
 firsts_proper [] h = tt
 firsts_proper (e ∷ es) h = put_first (first_component e.0) (first_components es) (of_path e.0 (first _ _ h)) (firsts_proper es (second _ _ h))
@@ -141,6 +152,7 @@ firsts_proper (e ∷ es) h = put_first (first_component e.0) (first_components e
     put_first c [] k r = both (is_component c) true k tt
     put_first c (d ∷ ds) k r = elim (same_bytes c d) as (λ b. T (list_all is_component (cond b (d ∷ ds) (c ∷ d ∷ ds)))) [ true ↦ r | false ↦ both _ _ k r ]
 
+-- there is one byte for two digits
 pub unhex_long : (x : Bytes) (n : ℕ) → length x ≡ 2 * n → length (unhex x) ≡ n
 unhex_long [] n e = omega arith
 unhex_long (a ∷ []) n e = absurd (omega arith)
@@ -151,9 +163,11 @@ all_three : {A : Type 0} (P Q R S : A → Type 0) → ((a : A) → P a → Q a �
 all_three P Q R S f [] p q r = tt
 all_three P Q R S f (x ∷ xs) p q r = (f x p.0 q.0 r.0, all_three P Q R S f xs p.1 q.1 r.1)
 
+-- a name's digits are 40
 pub forty : (x : Bytes) → T (is_name_text x) → length x ≡ 40
 forty x h = eqb→eq (length x) 40 (first (nat_eq (length x) 40) (list_all is_hex_digit x) h)
 
+-- a name's digits are lower-case digits
 pub digits_of : (x : Bytes) → T (is_name_text x) → T (list_all is_hex_digit x)
 digits_of x h = second (nat_eq (length x) 40) (list_all is_hex_digit x) h
 
@@ -173,9 +187,11 @@ module _ (name : Kind → Bytes → Bytes) (namer : IsNamer name) where
   content_long Gitlink x h = unhex_long x 20 (forty x h)
   content_long Dir x h = absurd h
 
+  -- a name in place of a content
   abbrev pub leaf_named : Leaf Bytes → Leaf Bytes
   leaf_named x = (x.0, content_name name x.0 x.1)
 
+  -- a leaf that may stand in a file map
   abbrev pub IsLeaf : Leaf Bytes → Type 0
   IsLeaf x = T (is_leaf x.0 x.1)
 
@@ -183,9 +199,11 @@ module _ (name : Kind → Bytes → Bytes) (namer : IsNamer name) where
   abbrev pub node_of : FileMap Bytes → Bytes → Leaf Bytes
   node_of f c = node name (option_map leaf_named (file_at f (c ∷ []))) (tree_name name (sub_map f (c ∷ [])))
 
+  -- the entry at a first component
   abbrev pub node_entry : FileMap Bytes → Bytes → Entry
   node_entry f c = entry name c (node_of f c)
 
+  -- the entries of a file map are those at its first components
   pub spelling : (f : FileMap Bytes) → entries name (named_map name f) ≡ map (node_entry f) (first_components f)
   spelling f =
       unrolled name (named_map name f)
@@ -195,9 +213,11 @@ module _ (name : Kind → Bytes → Bytes) (namer : IsNamer name) where
   node_long None n h e = e
   node_long (Some x) n h e = content_long x.0 x.1 h
 
+  -- what is found in a file map may stand there
   pub leaves : (f : FileMap Bytes) (p : Path) → T (is_content f) → IfSome (file_at f p) IsLeaf
   leaves f p h = found (same_path p) (λ x. is_leaf x.0 x.1) f (second (is_file_map f) _ h)
 
+  -- the entries of a file map have components and names of 20 bytes
   pub nodes_named : (f : FileMap Bytes) (cs : List Bytes) → T (is_content f) → T (list_all is_component cs) → AreNamed 20 (map (node_entry f) cs)
   nodes_named f [] h k = tt
   nodes_named f (c ∷ cs) h k = ((first _ _ k, node_long (file_at f (c ∷ [])) _ (leaves f (c ∷ []) h) (namer.long kind.Tree _)), nodes_named f cs h (second _ _ k))
@@ -218,6 +238,7 @@ module _ (name : Kind → Bytes → Bytes) (namer : IsNamer name) where
     abbrev IsKnown : Leaf Bytes → Type 0
     IsKnown x = IfSome (blob_of x.0 x.1) Known
 
+    -- the file at a path has known bytes
     pub found_known : (f : FileMap Bytes) (p : Path) → AllByRecursion Known (blobs_of f) → IfSome (file_at f p) IsKnown
     found_known [] p h = tt
     found_known (e ∷ es) p h =
@@ -257,6 +278,7 @@ module _ (name : Kind → Bytes → Bytes) (namer : IsNamer name) where
     one_sub f g c (Some x) (Some y) af ag i j h k u v s t e =
         only_file c f x af i ∙ ap (λ z. ([], z) ∷ []) (one_leaf x y h k u v e) ∙ sym (only_file c g y ag j)
 
+    -- the sub-maps at directories are known
     pub dirs_known : (f : FileMap Bytes) → AllByRecursion Known (parts (tree_value f)) → AllByRecursion (λ c. is_none (file_at f (c ∷ [])) ≡ true → Known (tree_value (sub_map f (c ∷ [])))) (first_components f)
     dirs_known f h =
         all_unfilter (λ c. Known (tree_value (sub_map f (c ∷ [])))) (λ c. is_none (file_at f (c ∷ []))) (first_components f)

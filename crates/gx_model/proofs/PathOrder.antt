@@ -1,5 +1,5 @@
 -- The byte order of whole paths is that of a tree's entries, and keeps the files of one first component together.
-use Rattle.std.proofs.Common.{◌≡◌, ℕ, refl, sym, ap, subst, ◌∙◌, [], ◌∷◌, ◌++◌, append-nil}
+use Rattle.std.proofs.Common.{◌≡◌, ℕ, cond, refl, sym, ap, subst, ◌∙◌, [], ◌∷◌, ◌++◌, append-nil}
 use Rattle.std.specs.Prelude.{T, not, nat_eq, ◌≢◌}
 use Rattle.std.specs.List.{list_all}
 use Rattle.std.specs.declared.cmp.Ordering.{Ordering}
@@ -9,8 +9,11 @@ use Rattle.std.specs.Cmp.Lexicographic.{slice_cmp}
 use Rattle.std.specs.FinMap.{nat_cmp-IsAntisymmetric}
 use Rattle.gx_model.specs.Texts.{Bytes}
 use Rattle.gx_model.specs.Paths.{Path, path_text, path_cmp, is_component}
+use Rattle.gx_model.specs.Objects.{Entry, entry_key}
+use Rattle.gx_model.specs.ObjectLaws.{IsAtOrBelow}
 use Rattle.gx_model.proofs.PathTests.{component_free, first, second, not_both}
 
+-- the byte order
 abbrev pub byte_cmp : Bytes → Bytes → Ordering
 byte_cmp = slice_cmp nat_cmp
 
@@ -62,6 +65,7 @@ node_key [] = []
 node_key (c ∷ []) = c
 node_key (c ∷ d ∷ p) = c ++ 47 ∷ []
 
+-- paths of different first components stand in the order of these, with a slash where they are directories'
 pub by_node : (c d : Bytes) (p q : Path) → T (is_component c) → T (is_component d) → c ≢ d → path_cmp (c ∷ p) (d ∷ q) ≡ byte_cmp (node_key (c ∷ p)) (node_key (d ∷ q))
 by_node c d [] [] f g n = refl
 by_node c d [] (e ∷ q) f g n =
@@ -74,3 +78,22 @@ by_node c d (e ∷ p) [] f g n =
     ∙ ap (byte_cmp (c ++ 47 ∷ [])) (append-nil d)
 by_node c d (e ∷ p) (e' ∷ q) f g n =
     cut c d (47 ∷ path_text (e ∷ p)) (47 ∷ path_text (e' ∷ q)) (47 ∷ []) (47 ∷ []) (component_free c f).0 (component_free d g).0 n (refl, refl) (refl, refl)
+
+-- an entry's key is that of each path at or below it
+key_of_path : (e : Entry) (c : Bytes) (p : Path) → IsAtOrBelow e (c ∷ p) → node_key (c ∷ p) ≡ entry_key e
+key_of_path e c [] h = h.0 ∙ ap (λ b. cond b (e.component ++ 47 ∷ []) e.component) (sym h.1)
+key_of_path e c (d ∷ p) h = ap (λ x. x ++ 47 ∷ []) h.0 ∙ ap (λ b. cond b (e.component ++ 47 ∷ []) e.component) (sym h.1)
+
+first_of_path : (e : Entry) (c : Bytes) (p : Path) → IsAtOrBelow e (c ∷ p) → c ≡ e.component
+first_of_path e c [] h = h.0
+first_of_path e c (d ∷ p) h = h.0
+
+-- the byte order of paths at or below two entries is that of the entries
+pub by_entry : (e f : Entry) (p q : Path) → T (is_component e.component) → T (is_component f.component) → e.component ≢ f.component → IsAtOrBelow e p → IsAtOrBelow f q → path_cmp p q ≡ byte_cmp (entry_key e) (entry_key f)
+by_entry e f [] q h g n k l = absurd k
+by_entry e f (c ∷ p) [] h g n k l = absurd l
+by_entry e f (c ∷ p) (d ∷ q) h g n k l =
+    let a = first_of_path e c p k in
+    let b = first_of_path f d q l in
+    by_node c d p q (subst (λ x. T (is_component x)) (sym a) h) (subst (λ x. T (is_component x)) (sym b) g) (λ same. n (sym a ∙ same ∙ b))
+    ∙ (λ i. byte_cmp (key_of_path e c p k i) (key_of_path f d q l i))

@@ -15,10 +15,12 @@ use Rattle.gx_model.proofs.PathTests.{both, first, second, is_true, not_by, not_
 use Rattle.gx_model.proofs.PathOrder.{by_node, node_key, byte_cmp}
 use Rattle.gx_model.proofs.FileMapEdits.{Parts}
 
+-- a path without its first component
 abbrev pub off : Path → Path
 off [] = []
 off (c ∷ p) = p
 
+-- what is below is less
 pub less_is : (o : Ordering) → T (is_lt o) → o ≡ Less
 less_is Less h = refl
 less_is Equal h = absurd h
@@ -27,28 +29,35 @@ less_is Greater h = absurd h
 not_between : (a b : Bytes) → byte_cmp a b ≡ Less → byte_cmp b a ≡ Less → ⊥
 not_between a b h g = let k = sym h ∙ nat_list_cmp_total.antisymm a b ∙ ap ordering_reverse g in cc
 
+-- components that the test tells apart are two
 pub other : (c d : Bytes) → same_bytes c d ≡ false → c ≢ d
 other c d h e = let k = is_true _ (is_same c d e) in cc
 
+-- the test of two components can be turned
 pub flip : (c d : Bytes) → T (not (same_bytes c d)) → T (not (same_bytes d c))
 flip c d h = not_by _ (λ k. not_both (same_bytes c d) h (is_same c d (sym (same_is d c k))))
 
+-- a test that fails is false
 pub as_false : (b : Bool) → T (not b) → b ≡ false
 as_false true h = absurd h
 as_false false h = refl
 
+-- a component is itself
 pub same_itself : (c : Bytes) → same_bytes c c ≡ true
 same_itself c = is_true _ (is_same c c refl)
 
 module _ {X : Type 0} where
+  -- an entry before the first run, or in it
   abbrev pub join_run : Bytes → Path × X → List (Bytes × List (Path × X)) → List (Bytes × List (Path × X))
   join_run c e [] = (c, e ∷ []) ∷ []
   join_run c e (r ∷ rs) = cond (same_bytes c r.0) ((r.0, e ∷ r.1) ∷ rs) ((c, e ∷ []) ∷ r ∷ rs)
 
+  -- the runs of a file map
   abbrev pub runs : List (Path × X) → List (Bytes × List (Path × X))
   runs [] = []
   runs (e ∷ es) = join_run (first_component e.0) (off e.0, e.1) (runs es)
 
+  -- the entries of a run, with its component
   abbrev pub in_run : Bytes × List (Path × X) → List (Path × X)
   in_run r = map (λ e. (r.0 ∷ e.0, e.1)) r.1
 
@@ -61,6 +70,7 @@ module _ {X : Type 0} where
         | false ↦ λ h. refl
       ] refl
 
+  -- the runs in a row are the map
   pub runs_are : (f : List (Path × X)) → T (are_file_paths f) → flat_map in_run (runs f) ≡ f
   runs_are [] h = refl
   runs_are (e ∷ es) h = by e.0 (first _ _ h) ∙ ap (λ fs. e ∷ fs) (runs_are es (second _ _ h))
@@ -75,14 +85,17 @@ module _ {X : Type 0} where
   heads_join c e (r ∷ rs) =
       elim (same_bytes c r.0) as (λ b. map (λ r. r.0) (cond b ((r.0, e ∷ r.1) ∷ rs) ((c, e ∷ []) ∷ r ∷ rs)) ≡ cond b (r.0 ∷ map (λ r. r.0) rs) (c ∷ r.0 ∷ map (λ r. r.0) rs)) [ true ↦ refl | false ↦ refl ]
 
+  -- the heads of the runs are the first components
   pub heads : (f : List (Path × X)) → map (λ r. r.0) (runs f) ≡ first_components f
   heads [] = refl
   heads (e ∷ es) = heads_join (first_component e.0) (off e.0, e.1) (runs es) ∙ ap (with_first (first_component e.0)) (heads es)
 
   -- ---- each run is the sub-map at its head
+  -- no path has this first component
   abbrev pub avoids : Bytes → List (Path × X) → Bool
   avoids c es = list_all (λ e. not (same_bytes c (first_component e.0))) es
 
+  -- no run has this head
   abbrev pub runs_avoid : Bytes → List (Bytes × List (Path × X)) → Bool
   runs_avoid c rs = list_all (λ r. not (same_bytes c r.0)) rs
 
@@ -109,10 +122,12 @@ module _ {X : Type 0} where
   avoid_runs c [] h = tt
   avoid_runs c (e ∷ es) h = avoid_join c (first_component e.0) (off e.0, e.1) (runs es) (first _ _ h) (avoid_runs c es (second _ _ h))
 
+  -- each run has a head of its own
   abbrev pub AreDistinct : List (Bytes × List (Path × X)) → Type 0
   AreDistinct [] = ⊤
   AreDistinct (r ∷ rs) = T (runs_avoid r.0 rs) × AreDistinct rs
 
+  -- the runs of a file map are its sub-maps, under distinct heads
   pub record Good (f : List (Path × X)) (rs : List (Bytes × List (Path × X))) : Type 0 where
     pub subs : AllByRecursion (λ r. r.1 ≡ sub_map f (r.0 ∷ [])) rs
     pub distinct : AreDistinct rs
@@ -157,6 +172,7 @@ module _ {X : Type 0} where
   join_some c e (s ∷ rs) h =
       elim (same_bytes c s.0) as (λ b. cond b ((s.0, e ∷ s.1) ∷ rs) ((c, e ∷ []) ∷ s ∷ rs) ≡ [] → ⊥) [ true ↦ λ i. (cc) | false ↦ λ i. (cc) ] h
 
+-- the first component of a file's path is a component
 pub component_of : (c : Bytes) (p : Path) → T (is_file_path (c ∷ p)) → T (is_component c)
 component_of c p h = first (is_component c) (list_all is_component p) (first _ _ h)
 
@@ -169,6 +185,7 @@ key_same c (d ∷ p) [] n = absurd (not_both _ n (subst T (sym (or_false (same_b
 key_same c (d ∷ p) (e ∷ r) n = refl
 
 module _ {X : Type 0} where
+  -- a file map without its first entry is one
   pub tail_parts : (e : Path × X) (es : List (Path × X)) → Parts (e ∷ es) → Parts es
   tail_parts e es p = record { paths = second _ _ p.paths; apart = second _ _ p.apart; sorted = second _ _ p.sorted }
 
@@ -191,6 +208,7 @@ module _ {X : Type 0} where
               (sym (by_node c d p q kc kd n) ∙ l)
               (ap (byte_cmp (node_key (d ∷ q))) (key_same c p r w') ∙ sym (by_node d c q r kd kc (λ j. n (sym j))) ∙ m')
 
+  -- a first component that another follows doesn't come again
   pub avoids_rest : (c : Bytes) (p : Path) (x : X) (e : Path × X) (es : List (Path × X)) → Parts ((c ∷ p, x) ∷ e ∷ es) → same_bytes c (first_component e.0) ≡ false → T (avoids c (e ∷ es))
   avoids_rest c p x e es h n =
       by e.0 n (first _ _ (second _ _ h.paths)) (less_is _ (first _ _ (first (below_all path_cmp (c ∷ p) (e ∷ es)) _ h.sorted))) (first _ _ (second _ _ h.sorted))
@@ -219,6 +237,7 @@ module _ {X : Type 0} where
   good_step [] x es h g = absurd h.paths
   good_step (c ∷ p) x es h g = step_good c p x es h g
 
+  -- each run is the sub-map at its head, and the heads are distinct
   pub good_runs : (f : List (Path × X)) → Parts f → Good f (runs f)
   good_runs [] h = record { subs = tt; distinct = tt }
   good_runs (e ∷ es) h = good_step e.0 e.1 es h (good_runs es (tail_parts e es h))

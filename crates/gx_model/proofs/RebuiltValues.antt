@@ -22,6 +22,7 @@ use Rattle.gx_model.proofs.PathRuns.{flip, same_itself, as_false, other}
 use Rattle.gx_model.proofs.OneTree.{spelling, node_entry, node_of, leaf_named}
 use Rattle.gx_model.proofs.AddedValues.{all_join}
 
+-- there is an entry
 abbrev pub has_some : FileMap Bytes → Bool
 has_some [] = false
 has_some (e ∷ es) = true
@@ -75,6 +76,7 @@ sub_other c d (e ∷ es) h =
 
 -- ---- files
 
+-- the first of two, or else the second
 abbrev pub or_else : Option (Leaf Bytes) → Option (Leaf Bytes) → Option (Leaf Bytes)
 or_else (Some x) o = Some x
 or_else None o = o
@@ -83,6 +85,7 @@ or_none : (o : Option (Leaf Bytes)) → or_else o None ≡ o
 or_none None = refl
 or_none (Some x) = refl
 
+-- what is found in two lists in a row is found in the first, or else in the second
 pub at_append : (p : Path) (xs ys : FileMap Bytes) → file_at (xs ++ ys) p ≡ or_else (file_at xs p) (file_at ys p)
 at_append p [] ys = refl
 at_append p (x ∷ xs) ys =
@@ -152,6 +155,7 @@ leaves_placed c [] h = tt
 leaves_placed c (e ∷ es) h = both _ _ (first _ _ h) (leaves_placed c es (second (is_leaf e.1.0 e.1.1) _ h))
 
 module _ (g : Entry → FileMap Bytes) where
+  -- the file map of some entries
   abbrev pub whole : List Entry → FileMap Bytes
   whole = flat_map (λ e. placed e.component (g e))
 
@@ -170,6 +174,7 @@ module _ (g : Entry → FileMap Bytes) where
   abbrev entry_keys : List Entry → List (Bytes × Bytes)
   entry_keys es = map (λ e. (entry_key e, e.component)) es
 
+  -- the first components of a map are those of its entries
   pub firsts_whole : (es : List Entry) → AllByRecursion Fits es → T (are_different (components es)) → first_components (whole es) ≡ components es
   firsts_whole [] h d = refl
   firsts_whole (e ∷ es) h d =
@@ -189,6 +194,7 @@ module _ (g : Entry → FileMap Bytes) where
       at_append (c ∷ []) (placed e.component (g e)) (whole es)
       ∙ (λ i. or_else (at_other c e.component (g e) (as_false _ (head_other c e.component (components es) h)) i) (none_file c es (tail_other c e.component (components es) h) i))
 
+  -- what a map has at an entry's component is what the entry has
   pub record AtEntry (f : FileMap Bytes) (e : Entry) : Type 0 where
     pub sub : sub_map f (e.component ∷ []) ≡ g e
     pub file : file_at f (e.component ∷ []) ≡ file_at (g e) []
@@ -204,6 +210,7 @@ module _ (g : Entry → FileMap Bytes) where
         skip_all e rest es (tail_other e.component d.component (components es) n) h.1,
       )
 
+  -- a map has at each component what its entry has
   pub at_all : (es : List Entry) → T (are_different (components es)) → AllByRecursion (AtEntry (whole es)) es
   at_all [] d = tt
   at_all (e ∷ es) d =
@@ -266,11 +273,13 @@ module _ (g : Entry → FileMap Bytes) where
   differ : (es : List Entry) → T (is_canonical es) → T (are_different (components es))
   differ es c = second (list_all (λ e. is_component e.component) es && is_sorted byte_cmp (entry_keys es)) _ c
 
+  -- the map of canonical entries is a file map
   pub whole_parts : (es : List Entry) → AllByRecursion Fits es → T (is_canonical es) → Parts (whole es)
   whole_parts es h c = record { paths = paths_whole es h; apart = apart_whole es h (differ es c); sorted = sorted_whole es h (differ es c) (keys_of es c) }
 
   -- ---- its tree's entries, and its parts
   module _ (name : Kind → Bytes → Bytes) (namer : IsNamer name) (Known : Value → Type 0) where
+    -- what an entry gives is a sub-map that its name tells
     pub record Reads (e : Entry) : Type 0 where
       pub fits : Fits e
       pub told : ◌≡◌ {A = Leaf Bytes} (node name (option_map (leaf_named name namer) (file_at (g e) [])) (tree_name name (g e))) (e.mode, e.name)
@@ -289,6 +298,7 @@ module _ (g : Entry → FileMap Bytes) where
         let rest = told_all f es h.1 a.1 in
         λ i. entry name e.component (one i) ∷ rest i
 
+    -- the entries of the map are those that it is of
     pub whole_entries : (es : List Entry) → AllByRecursion Reads es → T (is_canonical es) → entries name (named_map name (whole es)) ≡ es
     whole_entries es h c =
         spelling name namer (whole es) ∙ ap (map (node_entry name namer (whole es))) (firsts_whole es (all_fit es h) (differ es c)) ∙ told_all (whole es) es h (at_all es (differ es c))
@@ -313,11 +323,13 @@ module _ (g : Entry → FileMap Bytes) where
           | false ↦ λ k. rest
         ] refl
 
+    -- a file map with known parts, whose entries these are
     pub record IsRebuilt (es : List Entry) : Type 0 where
       pub content : T (is_content (whole es))
       pub body : tree_body name (named_map name (whole es)) ≡ tree_text es
       pub parts_known : AllByRecursion Known (parts (tree_value (whole es)))
 
+    -- canonical entries give a file map whose entries they are
     pub rebuilt : (es : List Entry) → AllByRecursion Reads es → T (is_canonical es) → IsRebuilt es
     rebuilt es h c = record {
       content = both _ _ (passes _ (of_parts _ (whole_parts es (all_fit es h) c))) (leaves_whole es h);

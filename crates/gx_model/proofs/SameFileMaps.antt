@@ -1,19 +1,18 @@
 -- A file map is known by what it gives at each path; its paths rise, and none begins another.
-use Rattle.std.proofs.Common.{◌≡◌, Bool, true, false, cond, refl, sym, ap, subst, ◌∙◌, List, [], ◌∷◌, ◌++◌, Option, None, Some}
-use Rattle.std.specs.Prelude.{T, not, ◌&&◌, is_some}
+use Rattle.std.proofs.Common.{◌≡◌, true, false, cond, refl, sym, ap, subst, ◌∙◌, List, [], ◌∷◌, ◌++◌, None, Some}
+use Rattle.std.specs.Prelude.{T, not, is_some}
 use Rattle.std.specs.List.{list_all}
 use Rattle.std.specs.Bool.{passes}
 use Rattle.std.specs.Ordering.{is_lt, ordering_reverse}
-use Rattle.std.specs.declared.cmp.Ordering.{Ordering}
 use Rattle.std.specs.declared.cmp.Ordering.TheVariants.{Less, Equal, Greater}
 use Rattle.std.specs.Cmp.{tied_itself}
 use Rattle.std.specs.FinMap.Entries.{below_all, is_sorted}
-use Rattle.gx_model.specs.Paths.{Path, are_in_line, begins, is_file_path, path_cmp, same_path}
-use Rattle.gx_model.specs.Files.{are_apart, are_file_paths, file_at}
+use Rattle.gx_model.specs.Paths.{Path, are_in_line, begins, path_cmp, same_path}
+use Rattle.gx_model.specs.Files.{are_apart, file_at}
 use Rattle.gx_model.proofs.PathTests.{both, first, is_true, not_both, or_comm, path_is, path_same, second}
 use Rattle.gx_model.proofs.FileMapEdits.{Parts, path_order}
 use Rattle.gx_model.proofs.PathRuns.{less_is, tail_parts}
-use Rattle.gx_model.proofs.FoundFiles.{none_where, test_at, tied_paths}
+use Rattle.gx_model.proofs.FoundFiles.{test_at, tied_paths}
 
 module _ {X : Type 0} where
   below_chain : (p q : Path) (es : List (Path × X)) → path_cmp p q ≡ Less → T (below_all path_cmp q es) → T (below_all path_cmp p es)
@@ -53,6 +52,7 @@ module _ {X : Type 0} where
         | false ↦ λ k e. e
       ] refl is
 
+  -- file maps that give the same at every path are one
   pub same_maps : (es fs : List (Path × X)) → Parts es → Parts fs → ((q : Path) → file_at es q ≡ file_at fs q) → es ≡ fs
   same_maps [] [] g h is = refl
   same_maps [] (f ∷ fs) g h is = let e : None ≡ Some f.1 = is f.0 ∙ at_first f fs in absurd cc

@@ -15,8 +15,8 @@ use Rattle.gx_model.specs.Objects.{IsNamer, Entry, IsTreeText}
 use Rattle.gx_model.specs.Records.{name_of, body_of}
 use Rattle.gx_model.specs.Histories.{Records, AreDistinct, IsIn, record_of}
 use Rattle.gx_model.specs.Histories.{IsWhole}
-use Rattle.gx_model.specs.Sound.{Some_, IsHeldAs, HasPath, here, below, HasShortPaths, IsSound}
-use Rattle.gx_model.specs.HistoryOf.{Named, value_named, files_in, entries_in, placed, files_at, files_of_entries, named_values, history_of}
+use Rattle.gx_model.specs.Sound.{AnyByRecursion, IsHeldAs, HasPath, here, below, HasShortPaths, IsSound}
+use Rattle.gx_model.specs.HistoryOf.{Named, value_named, files_of_tree, entries_in, placed, files_at, files_of_entries, named_values, history_of}
 use Rattle.gx_model.proofs.PathTests.{both, first, second, is_true, path_is, all_append}
 use Rattle.gx_model.proofs.PathRuns.{same_itself}
 use Rattle.gx_model.proofs.OneHistory.{told_by_name}
@@ -48,7 +48,7 @@ right_some : (o p : Option (Leaf Bytes)) → is_some p ≡ true → is_some (or_
 right_some None p h = h
 right_some (Some x) p h = refl
 
-in_whole : (ks : Named) (e : Entry) (q : Path) (es : List Entry) → Some_ (λ x. x ≡ e) es → is_some (file_at (files_at ks e.mode e.name) q) ≡ true → is_some (file_at (files_of_entries ks es) (e.component ∷ q)) ≡ true
+in_whole : (ks : Named) (e : Entry) (q : Path) (es : List Entry) → AnyByRecursion (λ x. x ≡ e) es → is_some (file_at (files_at ks e.mode e.name) q) ≡ true → is_some (file_at (files_of_entries ks es) (e.component ∷ q)) ≡ true
 in_whole ks e q [] s h = absurd s
 in_whole ks e q (x ∷ xs) s h =
     ap is_some (at_append (e.component ∷ q) (placed x.component (files_at ks x.mode x.name)) (files_of_entries ks xs))
@@ -69,20 +69,20 @@ module _ (name : Kind → Bytes → Bytes) (namer : IsNamer name) (vs : List Val
   held_path es p (here e s m) = in_whole (named name vs) e [] es s (leaf_some (named name vs) e.mode e.name m)
   held_path es p (below {p = q} e fs s m r rest) =
       let u = some_unrecord name _ vs r in
-      let f = files_in u.0 in
+      let f = files_of_tree u.0 in
       let t : u.0 ≡ tree_value f = is_tree name u.0 u.2.0 in
       let j : IsIn vs (tree_value f) = subst (IsIn vs) t u.1 in
       let g : fs ≡ entries_of name namer f = sym (entries_read fs _ u.2.2) ∙ ap (λ v. entries_in (body_of name v)) t ∙ entries_read (entries_of name namer f) _ (text_of_tree name namer f (content_in name namer vs whole distinct f j)) in
       let k = path_held name namer vs whole distinct fs q rest f j g in
       let w = found name namer (λ z. z.name ≡ e.name) e.name (λ z h. h) vs distinct (holds name (λ z. z.name ≡ e.name) vs u.0 u.1 u.2.1) in
       let v : value_named (named name vs) e.name ≡ u.0 = told_by_name name namer vs distinct (value_named (named name vs) e.name) u.0 w.0 u.1 (w.1 ∙ sym u.2.1) in
-      in_whole (named name vs) e q es s (ap (λ z. is_some (file_at (files_at (named name vs) z e.name) q)) m ∙ ap (λ z. is_some (file_at (files_in z) q)) v ∙ k)
+      in_whole (named name vs) e q es s (ap (λ z. is_some (file_at (files_at (named name vs) z e.name) q)) m ∙ ap (λ z. is_some (file_at (files_of_tree z) q)) v ∙ k)
 
   short_placed : (c : Bytes) (f : FileMap Bytes) → T (list_all (λ q. is_short (c ∷ q.0)) f) → T (list_all (λ x. is_short x.0) (placed c f))
   short_placed c [] h = tt
   short_placed c (e ∷ es) h = both _ _ (first _ _ h) (short_placed c es (second (is_short (c ∷ e.0)) _ h))
 
-  all_short : (es fs : List Entry) → ((e : Entry) → Some_ (λ x. x ≡ e) fs → Some_ (λ x. x ≡ e) es) → ((p : Path) → HasPath (map (record_of name) vs) es p → T (is_short p)) → AllByRecursion (λ e. IsHeldAs (map (record_of name) vs) e.mode e.name) fs → T (list_all (λ x. is_short x.0) (files_of_entries (named name vs) fs))
+  all_short : (es fs : List Entry) → ((e : Entry) → AnyByRecursion (λ x. x ≡ e) fs → AnyByRecursion (λ x. x ≡ e) es) → ((p : Path) → HasPath (map (record_of name) vs) es p → T (is_short p)) → AllByRecursion (λ e. IsHeldAs (map (record_of name) vs) e.mode e.name) fs → T (list_all (λ x. is_short x.0) (files_of_entries (named name vs) fs))
   all_short es [] i s h = tt
   all_short es (e ∷ fs) i s h =
       all_append (λ x. is_short x.0) (placed e.component (files_at (named name vs) e.mode e.name)) (files_of_entries (named name vs) fs)
@@ -96,6 +96,7 @@ module _ (name : Kind → Bytes → Bytes) (namer : IsNamer name) (vs : List Val
     λ s. is_true _ (all_short es es (λ e z. z) (λ p q. passes _ (s es p refl t q)) h),
   )
 
+-- the paths below a tree's entries are short where those of the file map are that the entries give
 pub short_paths : (name : Kind → Bytes → Bytes) → IsNamer name → (r : Records) → IsSound name r → (es : List Entry) (body : Bytes) → IsTreeText es body → AllByRecursion (λ e. IsHeldAs r.records e.mode e.name) es
     → IsTrue (list_all (λ x. is_short x.0) (files_of_entries (named_values r.records) es)) ↔ HasShortPaths r.records (record { name = name kind.Tree body; kind = kind.Tree; body = body })
 short_paths name namer r i es body t h =

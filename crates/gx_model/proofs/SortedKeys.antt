@@ -33,6 +33,7 @@ head_is c (e ∷ ds) d more h =
     ] refl h
 
 module _ {X : Type 0} where
+  -- the key of a first component
   abbrev pub key_of : List (Path × X) → Bytes → Bytes
   key_of f c = key_at (file_at f (c ∷ [])) c
 
@@ -88,6 +89,7 @@ module _ {X : Type 0} where
       put_first c [] k r = (k, tt)
       put_first c (d ∷ ds) k r = elim (same_bytes c d) as (λ b. AllByRecursion P (cond b (d ∷ ds) (c ∷ d ∷ ds))) [ true ↦ r | false ↦ (k, r) ]
 
+  -- the keys of first components, with these
   abbrev pub keys : List (Path × X) → List Bytes → List (Bytes × Bytes)
   keys f cs = map (λ c. (key_of f c, c)) cs
 

@@ -8,17 +8,18 @@ use Rattle.std.proofs.lemmas.Grind.{flat_map-append}
 use Rattle.gx_model.specs.declared.objects.Mode.{Mode}
 use Rattle.gx_model.specs.declared.objects.Mode.TheVariants.{File, Exec, Link, Gitlink, Dir}
 use Rattle.gx_model.specs.Texts.{Bytes, is_line}
+use Rattle.gx_model.specs.Idents.{is_ident}
 use Rattle.gx_model.specs.Paths.{Path, path_text, printed}
 use Rattle.gx_model.specs.Items.{Item, Line, Data}
 use Rattle.gx_model.specs.Commands.{CommitIsh, Marked, Named, DataRef, Mark, Object, Inline, Change, Modify, Remove, Copy, Rename, Clear, Command}
 use Rattle.gx_model.specs.Commands as command
-use Rattle.gx_model.specs.Values.{is_hex_digit}
+use Rattle.gx_model.specs.Values.{is_hex_digit, is_optional_encoding, is_optional_ident}
 use Rattle.gx_model.specs.Replay.{or_else}
 use Rattle.gx_model.specs.Export.{mode_digits, dataref_text, commit_ish_text, change_items, command_items, from_line, optional_line, mark_line, reset_items}
-use Rattle.gx_model.specs.ExportLaws.{IsItemLine, IsItem, IsMark, IsLink, IsIdent, IsDataRef, IsMarked, IsMarkedIf, IsOptional, IsEncoding, IsSpelledChange, IsSpelled, HasMark, between}
+use Rattle.gx_model.specs.ExportLaws.{IsItemLine, IsItem, IsMark, IsLink, IsDataRef, IsMarked, IsMarkedIf, IsSpelledChange, IsSpelled, HasMark, between}
 use Rattle.gx_model.proofs.Idents.{and_two}
 use Rattle.gx_model.proofs.Decimals.{decimal_digits}
-use Rattle.gx_model.proofs.LineTexts.{line_by, line_append, digits_are_line, ref_is_line, tag_is_line, printed_is_line}
+use Rattle.gx_model.proofs.LineTexts.{line_by, line_append, digits_are_line, ref_is_line, tag_is_line, ident_is_line, printed_is_line}
 use Rattle.gx_model.proofs.CommandItems.{no_block, merge_item}
 
 -- ---- no LF stands in the parts of a line
@@ -84,17 +85,18 @@ mark_spelled : (m : Option ℕ) → HasMark m → AreItems (mark_line m)
 mark_spelled None h = absurd h
 mark_spelled (Some n) h = (record { line = mark_is_line n h; no_comment = refl; no_data = refl }, tt)
 
-author_spelled : (a : Option Bytes) → is_some a ≡ true → IsIdent (or_else a []) → AreItems (optional_line (codes "author") a)
+author_spelled : (a : Option Bytes) → is_some a ≡ true → is_ident (or_else a []) ≡ true → AreItems (optional_line (codes "author") a)
 author_spelled None e h = absurd (false≢true e)
-author_spelled (Some x) e h = (record { line = h.1; no_comment = refl; no_data = refl }, tt)
+author_spelled (Some x) e h = (record { line = ident_is_line x h; no_comment = refl; no_data = refl }, tt)
 
-tagger_spelled : (a : Option Bytes) → IsOptional IsIdent a → AreItems (optional_line (codes "tagger") a)
+tagger_spelled : (a : Option Bytes) → is_optional_ident a ≡ true → AreItems (optional_line (codes "tagger") a)
 tagger_spelled None h = tt
-tagger_spelled (Some x) h = (record { line = h.1; no_comment = refl; no_data = refl }, tt)
+tagger_spelled (Some x) h = (record { line = ident_is_line x h; no_comment = refl; no_data = refl }, tt)
 
-encoding_spelled : (a : Option Bytes) → IsOptional IsEncoding a → AreItems (optional_line (codes "encoding") a)
+encoding_spelled : (a : Option Bytes) → is_optional_encoding a ≡ true → AreItems (optional_line (codes "encoding") a)
 encoding_spelled None h = tt
-encoding_spelled (Some x) h = (record { line = h.1; no_comment = refl; no_data = refl }, tt)
+encoding_spelled (Some []) h = absurd (false≢true h)
+encoding_spelled (Some (b ∷ x)) h = (record { line = h; no_comment = refl; no_data = refl }, tt)
 
 from_spelled : (c : Option CommitIsh) → IsMarkedIf c → AreItems (from_line c)
 from_spelled None h = tt
@@ -113,7 +115,7 @@ command_spelled (command.Commit c) h = (
   record { line = ref_is_line c.ref h.ref; no_comment = refl; no_data = refl },
   items_append (mark_line c.mark) _ (mark_spelled c.mark h.mark)
       (items_append (optional_line (codes "author") c.author) _ (author_spelled c.author h.has_author h.author) (
-        record { line = h.committer.1; no_comment = refl; no_data = refl },
+        record { line = ident_is_line c.committer h.committer; no_comment = refl; no_data = refl },
         items_append (optional_line (codes "encoding") c.encoding) _ (encoding_spelled c.encoding h.encoding) (
           h.message,
           items_append (from_line c.parent) _ (from_spelled c.parent h.parent)

@@ -19,6 +19,7 @@ cmp_prefix : (x a b : Bytes) → byte_cmp (x ++ a) (x ++ b) ≡ byte_cmp a b
 cmp_prefix [] a b = refl
 cmp_prefix (n ∷ x) a b = ap (λ o. ordering_then o (byte_cmp (x ++ a) (x ++ b))) (tied_itself nat_cmp_total n) ∙ cmp_prefix x a b
 
+-- paths below one component stand in the order that they have without it
 pub cmp_below : (c : Bytes) (d : Bytes) (p : Path) (e : Bytes) (q : Path) → path_cmp (c ∷ d ∷ p) (c ∷ e ∷ q) ≡ path_cmp (d ∷ p) (e ∷ q)
 cmp_below c d p e q = cmp_prefix c (47 ∷ path_text (d ∷ p)) (47 ∷ path_text (e ∷ q))
 
@@ -76,6 +77,7 @@ module _ {X : Type 0} where
   short_off [] h = tt
   short_off (e ∷ es) h = both _ _ (shorter e.0 (short_of e.0 (first _ _ h))) (short_off es (second (is_file_path e.0) (are_file_paths es) h))
 
+  -- the sub-map at a directory is a file map
   pub sub_parts : (c : Bytes) (f : List (Path × X)) → Parts f → file_at f (c ∷ []) ≡ None → Parts (sub_map f (c ∷ []))
   sub_parts c f h n =
       let u : Parts (under (c ∷ []) f) = filter_parts (begins (c ∷ [])) f h in

@@ -14,6 +14,7 @@ taken [] r (suc n) e = absurd (omega arith)
 taken (a ∷ x) r zero e = absurd (omega arith)
 taken (a ∷ x) r (suc n) e = ap (λ y. a ∷ y) (taken x r n (omega arith))
 
+-- a tag's body has the digits of its object after 7 bytes
 pub digits_at : (p : TagParts) (body : Bytes) → IsTagText p body → (take 40 (drop 7 body) ≡ hex p.object) × (47 ≤ length body)
 digits_at p body h =
     let r1 = line (codes "type") (codes "commit") ++ (line (codes "tag") p.name ++ (optional_line (codes "tagger") p.tagger ++ (10 ∷ p.message))) in

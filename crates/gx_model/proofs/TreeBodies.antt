@@ -20,6 +20,7 @@ module _ {X : Type 0} where
       by [] k r = r
       by (d ∷ p) k r = elim (same_bytes c d && true) as (λ b. depth (map (λ (e : Path × X). let q : Path × X = (drop 1 e.0, e.1) in q) (cond b ((d ∷ p, e.1) ∷ filter (λ e. begins (c ∷ []) e.0) es) (filter (λ e. begins (c ∷ []) e.0) es))) ≤ n) [ true ↦ omega arith | false ↦ r ]
 
+  -- below a component of a map with no components is nothing
   pub flat_sub : (c : Bytes) (f : List (Path × X)) → depth f ≤ 0 → sub_map f (c ∷ []) ≡ []
   flat_sub c [] h = refl
   flat_sub c (e ∷ es) h = by e.0 (omega arith) (flat_sub c es (omega arith))
@@ -33,12 +34,14 @@ module _ (name : Kind → Bytes → Bytes) where
   no_entries zero = refl
   no_entries (suc n) = refl
 
+  -- entries go by the names of the sub-maps alone
   pub alike : (m n : FileMap Bytes → Bytes) (f : FileMap Bytes) → ((c : Bytes) → m (sub_map f (c ∷ [])) ≡ n (sub_map f (c ∷ []))) → tree_entries name m f ≡ tree_entries name n f
   alike m n f h = λ i. map (λ c. entry name c (node name (file_at f (c ∷ [])) (h c i))) (first_components f)
 
   flat_names : (m : ℕ) (f : FileMap Bytes) (c : Bytes) → depth f ≤ 0 → name kind.Tree [] ≡ name kind.Tree (tree_text (entries_to name m (sub_map f (c ∷ []))))
   flat_names m f c h = ap (λ es. name kind.Tree (tree_text es)) (sym (no_entries m) ∙ ap (entries_to name m) (sym (flat_sub c f h)))
 
+  -- more depth than there is changes nothing
   pub fuel : (m n : ℕ) (f : FileMap Bytes) → depth f ≤ m → depth f ≤ n → entries_to name m f ≡ entries_to name n f
   fuel zero zero f h k = refl
   fuel zero (suc n) f h k = alike (λ g. name kind.Tree []) (λ g. name kind.Tree (tree_text (entries_to name n g))) f (λ c. flat_names n f c h)

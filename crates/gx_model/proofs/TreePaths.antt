@@ -16,7 +16,7 @@ use Rattle.gx_model.specs.Objects.{IsNamer, unhex, digit_value, Entry, is_name, 
 use Rattle.gx_model.specs.Records.{content_name, node, entries, named_map, tree_name, tree_body, name_of, body_of}
 use Rattle.gx_model.specs.Histories.{Record, AreDistinct, IsIn, record_of}
 use Rattle.gx_model.specs.Histories.{IsWhole}
-use Rattle.gx_model.specs.Sound.{Some_, HasPath, here, below}
+use Rattle.gx_model.specs.Sound.{AnyByRecursion, HasPath, here, below}
 use Rattle.gx_model.specs.HistoryOf.{entries_in}
 use Rattle.gx_model.proofs.PathTests.{both, first, second, is_true, is_same, same_is, path_same}
 use Rattle.gx_model.proofs.FileMapEdits.{Parts, parts_of}
@@ -30,19 +30,23 @@ use Rattle.gx_model.proofs.LinkedValues.{proper_in, parts_in}
 
 -- ---- some element
 
-pub some_map : {A B : Type 0} (h : A → B) (a : A) (xs : List A) → Some_ (λ x. x ≡ a) xs → Some_ (λ y. y ≡ h a) (map h xs)
+-- an element's image is among the images
+pub some_map : {A B : Type 0} (h : A → B) (a : A) (xs : List A) → AnyByRecursion (λ x. x ≡ a) xs → AnyByRecursion (λ y. y ≡ h a) (map h xs)
 some_map h a [] s = absurd s
 some_map h a (x ∷ xs) s = elim s [ inl e ↦ inl (ap h e) | inr k ↦ inr (some_map h a xs k) ]
 
-pub some_unmap : {A B : Type 0} (h : A → B) (b : B) (xs : List A) → Some_ (λ y. y ≡ b) (map h xs) → (a : A) × Some_ (λ x. x ≡ a) xs × (h a ≡ b)
+-- an image is that of an element
+pub some_unmap : {A B : Type 0} (h : A → B) (b : B) (xs : List A) → AnyByRecursion (λ y. y ≡ b) (map h xs) → (a : A) × AnyByRecursion (λ x. x ≡ a) xs × (h a ≡ b)
 some_unmap h b [] s = absurd s
 some_unmap h b (x ∷ xs) s = elim s [ inl e ↦ (x, inl refl, e) | inr k ↦ let r = some_unmap h b xs k in (r.0, inr r.1, r.2) ]
 
-pub pick : {A : Type 0} (P : A → Type 0) (a : A) (xs : List A) → AllByRecursion P xs → Some_ (λ x. x ≡ a) xs → P a
+-- what holds of all elements holds of one of them
+pub pick : {A : Type 0} (P : A → Type 0) (a : A) (xs : List A) → AllByRecursion P xs → AnyByRecursion (λ x. x ≡ a) xs → P a
 pick P a [] h s = absurd s
 pick P a (x ∷ xs) h s = elim s [ inl e ↦ subst P e h.0 | inr k ↦ pick P a xs h.1 k ]
 
-pub some_unrecord : (name : Kind → Bytes → Bytes) (P : Record → Type 0) (vs : List Value) → Some_ P (map (record_of name) vs) → (v : Value) × IsIn vs v × P (record_of name v)
+-- what holds of some record of values holds of the record of one that stands
+pub some_unrecord : (name : Kind → Bytes → Bytes) (P : Record → Type 0) (vs : List Value) → AnyByRecursion P (map (record_of name) vs) → (v : Value) × IsIn vs v × P (record_of name v)
 some_unrecord name P [] s = absurd s
 some_unrecord name P (v ∷ vs) s = elim s [ inl p ↦ (v, inl refl, p) | inr k ↦ let r = some_unrecord name P vs k in (r.0, inr r.1, r.2) ]
 
@@ -51,6 +55,7 @@ some_unrecord name P (v ∷ vs) s = elim s [ inl p ↦ (v, inl refl, p) | inr k 
 abbrev off_first : FileMap Bytes → FileMap Bytes
 off_first es = map (λ e. (drop 1 e.0, e.1)) es
 
+-- what is found in the sub-map at a component is found below that component
 pub file_sub : (c : Bytes) (p : Path) (f : FileMap Bytes) → file_at (sub_map f (c ∷ [])) p ≡ file_at f (c ∷ p)
 file_sub c p [] = refl
 file_sub c p (e ∷ es) = by e.0 (file_sub c p es)
@@ -63,27 +68,28 @@ file_sub c p (e ∷ es) = by e.0 (file_sub c p es)
           | false ↦ rest
         ]
 
-put_in : (c d : Bytes) (ds : List Bytes) → T (same_bytes d c) → Some_ (λ x. x ≡ c) (with_first d ds)
+put_in : (c d : Bytes) (ds : List Bytes) → T (same_bytes d c) → AnyByRecursion (λ x. x ≡ c) (with_first d ds)
 put_in c d [] h = inl (same_is d c h)
-put_in c d (e ∷ ds) h = elim (same_bytes d e) as (λ b. same_bytes d e ≡ b → Some_ (λ x. x ≡ c) (cond b (e ∷ ds) (d ∷ e ∷ ds))) [ true ↦ λ k. inl (sym (same_is d e (passes _ k)) ∙ same_is d c h) | false ↦ λ k. inl (same_is d c h) ] refl
+put_in c d (e ∷ ds) h = elim (same_bytes d e) as (λ b. same_bytes d e ≡ b → AnyByRecursion (λ x. x ≡ c) (cond b (e ∷ ds) (d ∷ e ∷ ds))) [ true ↦ λ k. inl (sym (same_is d e (passes _ k)) ∙ same_is d c h) | false ↦ λ k. inl (same_is d c h) ] refl
 
-keep_in : (c d : Bytes) (ds : List Bytes) → Some_ (λ x. x ≡ c) ds → Some_ (λ x. x ≡ c) (with_first d ds)
+keep_in : (c d : Bytes) (ds : List Bytes) → AnyByRecursion (λ x. x ≡ c) ds → AnyByRecursion (λ x. x ≡ c) (with_first d ds)
 keep_in c d [] h = absurd h
-keep_in c d (e ∷ ds) h = elim (same_bytes d e) as (λ b. Some_ (λ x. x ≡ c) (cond b (e ∷ ds) (d ∷ e ∷ ds))) [ true ↦ h | false ↦ inr h ]
+keep_in c d (e ∷ ds) h = elim (same_bytes d e) as (λ b. AnyByRecursion (λ x. x ≡ c) (cond b (e ∷ ds) (d ∷ e ∷ ds))) [ true ↦ h | false ↦ inr h ]
 
 -- a path's first component is among the first components
-pub first_in : (c : Bytes) (p : Path) (f : FileMap Bytes) → is_some (file_at f (c ∷ p)) ≡ true → Some_ (λ x. x ≡ c) (first_components f)
+pub first_in : (c : Bytes) (p : Path) (f : FileMap Bytes) → is_some (file_at f (c ∷ p)) ≡ true → AnyByRecursion (λ x. x ≡ c) (first_components f)
 first_in c p [] h = absurd (cc)
 first_in c p (e ∷ es) h = by e.0 (first_in c p es) h
   where
-    by : (q : Path) → (is_some (file_at es (c ∷ p)) ≡ true → Some_ (λ x. x ≡ c) (first_components es)) → is_some (cond (same_path (c ∷ p) q) (Some e.1) (file_at es (c ∷ p))) ≡ true → Some_ (λ x. x ≡ c) (with_first (first_component q) (first_components es))
+    by : (q : Path) → (is_some (file_at es (c ∷ p)) ≡ true → AnyByRecursion (λ x. x ≡ c) (first_components es)) → is_some (cond (same_path (c ∷ p) q) (Some e.1) (file_at es (c ∷ p))) ≡ true → AnyByRecursion (λ x. x ≡ c) (with_first (first_component q) (first_components es))
     by [] rest k = keep_in c [] (first_components es) (rest k)
     by (d ∷ q) rest k =
-        elim (same_bytes c d) as (λ b. same_bytes c d ≡ b → is_some (cond (b && same_path p q) (Some e.1) (file_at es (c ∷ p))) ≡ true → Some_ (λ x. x ≡ c) (with_first d (first_components es))) [
+        elim (same_bytes c d) as (λ b. same_bytes c d ≡ b → is_some (cond (b && same_path p q) (Some e.1) (file_at es (c ∷ p))) ≡ true → AnyByRecursion (λ x. x ≡ c) (with_first d (first_components es))) [
           | true ↦ λ i j. put_in c d (first_components es) (is_same d c (sym (same_is c d (passes _ i))))
           | false ↦ λ i j. keep_in c d (first_components es) (rest j)
         ] refl k
 
+-- no file is at the root
 pub none_at_root : (f : FileMap Bytes) → T (are_file_paths f) → file_at f [] ≡ None
 none_at_root [] h = refl
 none_at_root (e ∷ es) h = by e.0 (first _ _ h) (none_at_root es (second (is_file_path e.0) (are_file_paths es) h))
@@ -112,6 +118,7 @@ each_path t f h = go [] f (λ p i. h p i)
         both _ _ (k e.0 (ap (λ b. is_some (cond b (Some e.1) (file_at es e.0))) (is_true _ (path_same e.0))))
         (go before es (λ p i. k p (elim (same_path p e.0) as (λ b. is_some (cond b (Some e.1) (file_at es p)) ≡ true) [ true ↦ refl | false ↦ i ])))
 
+-- contents are a file map
 pub content_parts : (f : FileMap Bytes) → T (is_content f) → Parts f
 content_parts f h = parts_of f (is_true _ (first (is_file_map f) _ h))
 
@@ -134,10 +141,12 @@ unhex_bytes (a ∷ b ∷ x) h =
     lt_test : (m n : ℕ) → m < n → nat_lt m n ≡ true
     lt_test m n h = grind (arith, nat_tests)
 
+-- what a namer gives is a name
 pub name_is_name : (name : Kind → Bytes → Bytes) → IsNamer name → (k : Kind) (body : Bytes) → T (is_name (name k body))
 name_is_name name namer k body = both _ _ (passes _ (eq-eqb (length (name k body)) 20 (namer.long k body))) (passes _ (namer.bytes k body))
 
 module _ (name : Kind → Bytes → Bytes) (namer : IsNamer name) where
+  -- the entries of a file map
   abbrev pub entries_of : FileMap Bytes → List Entry
   entries_of f = entries name (named_map name f)
 
@@ -146,11 +155,12 @@ module _ (name : Kind → Bytes → Bytes) (namer : IsNamer name) where
   named_entries (e ∷ es) h = both _ _ h.0 (named_entries es h.1)
 
   -- the entry at a first component
-  pub entry_in_tree : (f : FileMap Bytes) (c : Bytes) → Some_ (λ x. x ≡ c) (first_components f) → Some_ (λ x. x ≡ node_entry name namer f c) (entries_of f)
-  entry_in_tree f c s = subst (Some_ (λ x. x ≡ node_entry name namer f c)) (sym (spelling name namer f)) (some_map (node_entry name namer f) c (first_components f) s)
+  pub entry_in_tree : (f : FileMap Bytes) (c : Bytes) → AnyByRecursion (λ x. x ≡ c) (first_components f) → AnyByRecursion (λ x. x ≡ node_entry name namer f c) (entries_of f)
+  entry_in_tree f c s = subst (AnyByRecursion (λ x. x ≡ node_entry name namer f c)) (sym (spelling name namer f)) (some_map (node_entry name namer f) c (first_components f) s)
 
-  pub entry_of_tree : (f : FileMap Bytes) (e : Entry) → Some_ (λ x. x ≡ e) (entries_of f) → (c : Bytes) × Some_ (λ x. x ≡ c) (first_components f) × (node_entry name namer f c ≡ e)
-  entry_of_tree f e s = some_unmap (node_entry name namer f) e (first_components f) (subst (Some_ (λ x. x ≡ e)) (spelling name namer f) s)
+  -- each entry is that at a first component
+  pub entry_of_tree : (f : FileMap Bytes) (e : Entry) → AnyByRecursion (λ x. x ≡ e) (entries_of f) → (c : Bytes) × AnyByRecursion (λ x. x ≡ c) (first_components f) × (node_entry name namer f c ≡ e)
+  entry_of_tree f e s = some_unmap (node_entry name namer f) e (first_components f) (subst (AnyByRecursion (λ x. x ≡ e)) (spelling name namer f) s)
 
   node_dir : (f : FileMap Bytes) (c : Bytes) → file_at f (c ∷ []) ≡ None → ◌≡◌ {A = Leaf Bytes} (node_of name namer f c) (Dir, tree_name name (sub_map f (c ∷ [])))
   node_dir f c h = ap (λ o. node name (option_map (leaf_named name namer) o) (tree_name name (sub_map f (c ∷ [])))) h
@@ -158,6 +168,7 @@ module _ (name : Kind → Bytes → Bytes) (namer : IsNamer name) where
   node_leaf : (f : FileMap Bytes) (c : Bytes) (x : Leaf Bytes) → file_at f (c ∷ []) ≡ Some x → node_of name namer f c ≡ leaf_named name namer x
   node_leaf f c x h = ap (λ o. node name (option_map (leaf_named name namer) o) (tree_name name (sub_map f (c ∷ [])))) h
 
+  -- what is found in contents may stand there
   pub leaf_at : (f : FileMap Bytes) (p : Path) (x : Leaf Bytes) → T (is_content f) → file_at f p ≡ Some x → T (is_leaf x.0 x.1)
   leaf_at f p x h e = subst (λ o. IfSome o (λ y. T (is_leaf y.0 y.1))) e (leaves name namer f p h)
 
@@ -181,16 +192,18 @@ module _ (name : Kind → Bytes → Bytes) (namer : IsNamer name) where
   text_of_tree f h = (refl, is_true _ (canonical_entries name namer f h), is_true _ (subst (λ es. T (list_all (λ e. is_name e.name) es)) (sym (spelling name namer f)) (nodes_are_named f (first_components f) h)))
 
   module _ (vs : List Value) (whole : IsWhole vs) (distinct : AreDistinct (map (name_of name) vs)) where
+    -- a file map that stands is one of contents
     pub content_in : (f : FileMap Bytes) → IsIn vs (tree_value f) → T (is_content f)
     content_in f i = proper_in vs (tree_value f) (passes _ whole.proper) i
 
-    pub sub_in : (f : FileMap Bytes) (c : Bytes) → IsIn vs (tree_value f) → Some_ (λ x. x ≡ c) (first_components f) → file_at f (c ∷ []) ≡ None → IsIn vs (tree_value (sub_map f (c ∷ [])))
+    -- the sub-map at a directory of a file map that stands does, too
+    pub sub_in : (f : FileMap Bytes) (c : Bytes) → IsIn vs (tree_value f) → AnyByRecursion (λ x. x ≡ c) (first_components f) → file_at f (c ∷ []) ≡ None → IsIn vs (tree_value (sub_map f (c ∷ [])))
     sub_in f c i s n =
         pick (λ d. is_none (file_at f (d ∷ [])) ≡ true → IsIn vs (tree_value (sub_map f (d ∷ [])))) c (first_components f)
         (dirs_known name namer (IsIn vs) (told_by_name name namer vs distinct) f (parts_in vs (tree_value f) whole i)) s (ap is_none n)
 
     -- each path of the map is one below its entries
-    pub has_path : (all : List Record) → ((P : Record → Type 0) (v : Value) → IsIn vs v → P (record_of name v) → Some_ P all) → (p : Path) (f : FileMap Bytes) → IsIn vs (tree_value f) → is_some (file_at f p) ≡ true → HasPath all (entries_of f) p
+    pub has_path : (all : List Record) → ((P : Record → Type 0) (v : Value) → IsIn vs v → P (record_of name v) → AnyByRecursion P all) → (p : Path) (f : FileMap Bytes) → IsIn vs (tree_value f) → is_some (file_at f p) ≡ true → HasPath all (entries_of f) p
     has_path all held [] f i h = absurd (let k = ap is_some (none_at_root f (content_parts f (content_in f i)).paths) in let l = sym k ∙ h in (cc))
     has_path all held (c ∷ []) f i h = by (file_at f (c ∷ [])) refl
       where
@@ -212,7 +225,7 @@ module _ (name : Kind → Bytes → Bytes) (namer : IsNamer name) where
     -- and each path below its entries is one of the map
     pub path_held : (es : List Entry) (p : Path) → HasPath (map (record_of name) vs) es p → (f : FileMap Bytes) → IsIn vs (tree_value f) → es ≡ entries_of f → is_some (file_at f p) ≡ true
     path_held es p (here e s m) f i q =
-        let t = entry_of_tree f e (subst (Some_ (λ x. x ≡ e)) q s) in
+        let t = entry_of_tree f e (subst (AnyByRecursion (λ x. x ≡ e)) q s) in
         let c = t.0 in
         by c (ap (λ x. x.component) t.2) (λ k. m (sym (ap (λ x. x.mode) t.2) ∙ k)) (file_at f (c ∷ [])) refl
       where
@@ -220,7 +233,7 @@ module _ (name : Kind → Bytes → Bytes) (namer : IsNamer name) where
         by c k n None j = absurd (n (ap (λ (y : Leaf Bytes). y.0) (node_dir f c j)))
         by c k n (Some x) j = ap (λ d. is_some (file_at f (d ∷ []))) (sym k) ∙ ap is_some j
     path_held es p (below {p = q} e fs s m r rest) f i eq =
-        let t = entry_of_tree f e (subst (Some_ (λ x. x ≡ e)) eq s) in
+        let t = entry_of_tree f e (subst (AnyByRecursion (λ x. x ≡ e)) eq s) in
         let c = t.0 in
         let n : file_at f (c ∷ []) ≡ None = dir_none c (ap (λ x. x.mode) t.2 ∙ m) (file_at f (c ∷ [])) refl in
         let j = sub_in f c i t.1 n in

@@ -12,7 +12,7 @@ use Rattle.gx_model.specs.Objects.{IsNamer, is_dir}
 use Rattle.gx_model.specs.Records.{node, named_map, content_name, tree_name, tree_body, body_of, name_of}
 use Rattle.gx_model.specs.Histories.{Record, Records, AreDistinct, IsIn, record_of}
 use Rattle.gx_model.specs.Histories.{IsWhole}
-use Rattle.gx_model.specs.Sound.{Some_}
+use Rattle.gx_model.specs.Sound.{AnyByRecursion}
 use Rattle.gx_model.specs.HistoryOf.{entries_in}
 use Rattle.gx_model.specs.Walks.{entry_at, entries_named, place_at_end, walked, walked_from, place_of, place_in, entry_for}
 use Rattle.gx_model.proofs.PathTests.{is_true, is_same, same_is}
@@ -58,10 +58,10 @@ module _ (name : Kind → Bytes → Bytes) (namer : IsNamer name) where
   nothing_at c None [] h k = refl
   nothing_at c None (e ∷ es) h k = absurd (k tt)
 
-  entry_among : (f : FileMap Bytes) (c : Bytes) (cs : List Bytes) → ((Some_ (λ x. x ≡ c) cs) × (entry_at (map (node_entry name namer f) cs) c ≡ Some (node_entry name namer f c))) ⊎ ((Some_ (λ x. x ≡ c) cs → ⊥) × (entry_at (map (node_entry name namer f) cs) c ≡ None))
+  entry_among : (f : FileMap Bytes) (c : Bytes) (cs : List Bytes) → ((AnyByRecursion (λ x. x ≡ c) cs) × (entry_at (map (node_entry name namer f) cs) c ≡ Some (node_entry name namer f c))) ⊎ ((AnyByRecursion (λ x. x ≡ c) cs → ⊥) × (entry_at (map (node_entry name namer f) cs) c ≡ None))
   entry_among f c [] = inr (λ s. s, refl)
   entry_among f c (d ∷ ds) =
-      elim (same_bytes c d) as (λ b. same_bytes c d ≡ b → ((Some_ (λ x. x ≡ c) (d ∷ ds)) × (cond b (Some (node_entry name namer f d)) (entry_at (map (node_entry name namer f) ds) c) ≡ Some (node_entry name namer f c))) ⊎ ((Some_ (λ x. x ≡ c) (d ∷ ds) → ⊥) × (cond b (Some (node_entry name namer f d)) (entry_at (map (node_entry name namer f) ds) c) ≡ None))) [
+      elim (same_bytes c d) as (λ b. same_bytes c d ≡ b → ((AnyByRecursion (λ x. x ≡ c) (d ∷ ds)) × (cond b (Some (node_entry name namer f d)) (entry_at (map (node_entry name namer f) ds) c) ≡ Some (node_entry name namer f c))) ⊎ ((AnyByRecursion (λ x. x ≡ c) (d ∷ ds) → ⊥) × (cond b (Some (node_entry name namer f d)) (entry_at (map (node_entry name namer f) ds) c) ≡ None))) [
         | true ↦ λ k. inl (inl (sym (same_is c d (passes _ k))), ap (λ x. Some (node_entry name namer f x)) (sym (same_is c d (passes _ k))))
         | false ↦ λ k. elim (entry_among f c ds) [
           | inl r ↦ inl (inr r.0, r.1)
@@ -69,26 +69,27 @@ module _ (name : Kind → Bytes → Bytes) (namer : IsNamer name) where
         ]
       ] refl
 
-  some_sub : (c : Bytes) (f : FileMap Bytes) → T (has_some (sub_map f (c ∷ []))) → Some_ (λ x. x ≡ c) (first_components f)
+  -- below a component is something only where it is a first component
+  pub some_sub : (c : Bytes) (f : FileMap Bytes) → T (has_some (sub_map f (c ∷ []))) → AnyByRecursion (λ x. x ≡ c) (first_components f)
   some_sub c f h = from f h
     where
-      put_in : (d : Bytes) (ds : List Bytes) → T (same_bytes c d) → Some_ (λ x. x ≡ c) (with_first d ds)
+      put_in : (d : Bytes) (ds : List Bytes) → T (same_bytes c d) → AnyByRecursion (λ x. x ≡ c) (with_first d ds)
       put_in d [] k = inl (sym (same_is c d k))
-      put_in d (e ∷ ds) k = elim (same_bytes d e) as (λ b. same_bytes d e ≡ b → Some_ (λ x. x ≡ c) (cond b (e ∷ ds) (d ∷ e ∷ ds))) [ true ↦ λ j. inl (sym (same_is d e (passes _ j)) ∙ sym (same_is c d k)) | false ↦ λ j. inl (sym (same_is c d k)) ] refl
+      put_in d (e ∷ ds) k = elim (same_bytes d e) as (λ b. same_bytes d e ≡ b → AnyByRecursion (λ x. x ≡ c) (cond b (e ∷ ds) (d ∷ e ∷ ds))) [ true ↦ λ j. inl (sym (same_is d e (passes _ j)) ∙ sym (same_is c d k)) | false ↦ λ j. inl (sym (same_is c d k)) ] refl
 
-      keep_in : (d : Bytes) (ds : List Bytes) → Some_ (λ x. x ≡ c) ds → Some_ (λ x. x ≡ c) (with_first d ds)
+      keep_in : (d : Bytes) (ds : List Bytes) → AnyByRecursion (λ x. x ≡ c) ds → AnyByRecursion (λ x. x ≡ c) (with_first d ds)
       keep_in d [] k = absurd k
-      keep_in d (e ∷ ds) k = elim (same_bytes d e) as (λ b. Some_ (λ x. x ≡ c) (cond b (e ∷ ds) (d ∷ e ∷ ds))) [ true ↦ k | false ↦ inr k ]
+      keep_in d (e ∷ ds) k = elim (same_bytes d e) as (λ b. AnyByRecursion (λ x. x ≡ c) (cond b (e ∷ ds) (d ∷ e ∷ ds))) [ true ↦ k | false ↦ inr k ]
 
-      one : (e : Path × Leaf Bytes) (es : FileMap Bytes) (q : Path) → (T (has_some (sub_map es (c ∷ []))) → Some_ (λ x. x ≡ c) (first_components es)) → T (has_some (sub_map ((q, e.1) ∷ es) (c ∷ []))) → Some_ (λ x. x ≡ c) (with_first (first_component q) (first_components es))
+      one : (e : Path × Leaf Bytes) (es : FileMap Bytes) (q : Path) → (T (has_some (sub_map es (c ∷ []))) → AnyByRecursion (λ x. x ≡ c) (first_components es)) → T (has_some (sub_map ((q, e.1) ∷ es) (c ∷ []))) → AnyByRecursion (λ x. x ≡ c) (with_first (first_component q) (first_components es))
       one e es [] r k = keep_in [] (first_components es) (r k)
       one e es (d ∷ q) r k =
-          elim (same_bytes c d) as (λ b. same_bytes c d ≡ b → T (has_some (off (cond (b && true) ((d ∷ q, e.1) ∷ under (c ∷ []) es) (under (c ∷ []) es)) (c ∷ []))) → Some_ (λ x. x ≡ c) (with_first d (first_components es))) [
+          elim (same_bytes c d) as (λ b. same_bytes c d ≡ b → T (has_some (off (cond (b && true) ((d ∷ q, e.1) ∷ under (c ∷ []) es) (under (c ∷ []) es)) (c ∷ []))) → AnyByRecursion (λ x. x ≡ c) (with_first d (first_components es))) [
             | true ↦ λ j i. put_in d (first_components es) (passes _ j)
             | false ↦ λ j i. keep_in d (first_components es) (r i)
           ] refl k
 
-      from : (f : FileMap Bytes) → T (has_some (sub_map f (c ∷ []))) → Some_ (λ x. x ≡ c) (first_components f)
+      from : (f : FileMap Bytes) → T (has_some (sub_map f (c ∷ []))) → AnyByRecursion (λ x. x ≡ c) (first_components f)
       from [] k = absurd k
       from (e ∷ es) k = one e es e.0 (from es) k
 
@@ -116,6 +117,7 @@ module _ (name : Kind → Bytes → Bytes) (namer : IsNamer name) where
     nothing_below : (q : Path) → place_of name (file_at [] q) (sub_map [] q) ≡ None
     nothing_below q = refl
 
+    -- a walk down the records of values gives what the whole map has
     pub walk : (p : Path) (f : FileMap Bytes) → IsIn vs (tree_value f) → walked (map (record_of name) vs) (tree_name name f) p ≡ place_in name f p
     walk [] f i = refl
     walk (c ∷ p) f i =
@@ -141,11 +143,12 @@ module _ (name : Kind → Bytes → Bytes) (namer : IsNamer name) where
         by p None e [] k rec = (λ j. place_of name (file_at (sym k j) p) (sub_map (sym k j) p)) ∙ (λ j. place_of name (file_sub c p f j) (sym (sub_sub c p f) j))
         by [] None e (x ∷ xs) k rec = (λ j. place_of name (sym e j) (sym k j))
         by (d ∷ p) None e (x ∷ xs) k rec =
-            let s : Some_ (λ y. y ≡ c) (first_components f) = some_sub c f (subst (λ g. T (has_some g)) (sym k) tt) in
+            let s : AnyByRecursion (λ y. y ≡ c) (first_components f) = some_sub c f (subst (λ g. T (has_some g)) (sym k) tt) in
             let j : IsIn vs (tree_value (x ∷ xs)) = subst (λ g. IsIn vs (tree_value g)) k (sub_in name namer vs whole distinct f c i s e) in
             rec (x ∷ xs) j
             ∙ (λ z. place_of name (file_at (sym k z) (d ∷ p)) (sub_map (sym k z) (d ∷ p))) ∙ (λ z. place_of name (file_sub c (d ∷ p) f z) (sym (sub_sub c (d ∷ p) f) z))
 
+  -- a walk down the records of a sound repository gives what the whole map has
   pub walk_sound : (r : Records) → IsSound name r → (f : FileMap Bytes) → IsIn (history_of r).values (tree_value f) → (p : Path) → walked r.records (tree_name name f) p ≡ place_in name f p
   walk_sound r i f j p =
       let t = stands name namer r i in

@@ -6,6 +6,7 @@ use Rattle.gx_model.specs.Texts.{Bytes}
 use Rattle.gx_model.specs.Paths.{Path}
 use Rattle.gx_model.specs.declared.features.Feature.{Feature}
 
+-- what names a commit: a mark, or a text that is read when the command is applied
 pub data CommitIsh : Type 0 where
   Marked : ℕ → CommitIsh
   Named : Bytes → CommitIsh
@@ -16,6 +17,7 @@ pub data DataRef : Type 0 where
   Object : Bytes → DataRef
   Inline : Bytes → DataRef
 
+-- a change of the files of a commit
 pub data Change : Type 0 where
   Modify : Mode → DataRef → Path → Change
   Remove : Path → Change
@@ -23,10 +25,12 @@ pub data Change : Type 0 where
   Rename : Path → Path → Change
   Clear : Change
 
+-- the parts of a blob command
 pub record BlobParts : Type 0 where
   pub mark : Option ℕ
   pub bytes : Bytes
 
+-- the parts of a commit command
 pub record CommitParts : Type 0 where
   pub ref : Bytes
   pub mark : Option ℕ
@@ -38,6 +42,7 @@ pub record CommitParts : Type 0 where
   pub merges : List CommitIsh
   pub changes : List Change
 
+-- the parts of a tag command
 pub record TagParts : Type 0 where
   pub name : Bytes
   pub mark : Option ℕ
@@ -45,10 +50,12 @@ pub record TagParts : Type 0 where
   pub tagger : Option Bytes
   pub message : Bytes
 
+-- the parts of a reset command
 pub record ResetParts : Type 0 where
   pub ref : Bytes
   pub parent : Option CommitIsh
 
+-- a command of a stream
 pub data Command : Type 0 where
   Blob : BlobParts → Command
   Commit : CommitParts → Command

@@ -1,4 +1,5 @@
 -- The export text of a history.
+-- Source: git-fast-export(1), `--full-tree`; the exact text is this project's.
 use Rattle.std.specs.Prelude.{ℕ, suc, Bool, if◌then◌else◌, List, [], ◌∷◌, ◌++◌, map, length, Option, None, Some, codes}
 use Rattle.std.specs.List.{filter, filter_map, flat_map, fold, list_any}
 use Rattle.std.specs.Fmt.{decimal}
@@ -18,9 +19,11 @@ use Rattle.gx_model.specs.Replay.{peeled_at}
 
 -- ---- the commits, in the order in which they were first made
 
+-- whether a ref reaches a commit
 abbrev pub is_reached : List (Bytes × Target) → Commit → Bool
 is_reached refs c = list_any (λ r. reaches (peeled_at r.1) c) refs
 
+-- the commits that refs reach, in the order in which they were made
 abbrev pub reached_commits : History → List Commit
 reached_commits h = filter (is_reached h.refs) (filter_map commit_of h.values)
 
@@ -31,11 +34,13 @@ abbrev pub number_in : List Value → Value → ℕ
 number_in [] v = 0
 number_in (w ∷ ws) v = if same_value w v then suc (length ws) else number_in ws v
 
+-- the mark of a value
 abbrev pub marked_in : List Value → Value → CommitIsh
 marked_in ws v = Marked (number_in ws v)
 
 -- ---- one commit
 
+-- the bytes of a file that is no gitlink
 abbrev pub content_in : Mode → Bytes → Option Bytes
 content_in Gitlink x = None
 content_in _ x = Some x
@@ -51,6 +56,7 @@ blob_commands ws (x ∷ xs) =
     if is_in ws (blob_value x) then blob_commands ws xs
     else command.Blob (record { mark = Some (suc (length ws)); bytes = x }) ∷ blob_commands (blob_value x ∷ ws) xs
 
+-- what was written, with the blobs of a commit
 abbrev pub with_blobs : List Value → List Bytes → List Value
 with_blobs ws [] = ws
 with_blobs ws (x ∷ xs) = with_blobs (if is_in ws (blob_value x) then ws else blob_value x ∷ ws) xs
@@ -59,28 +65,35 @@ with_blobs ws (x ∷ xs) = with_blobs (if is_in ws (blob_value x) then ws else b
 abbrev pub carrier : Bytes
 carrier = codes "refs/gx/export"
 
+-- a reset to no commit
 abbrev pub to_nothing : Bytes → Command
 to_nothing r = command.Reset (record { ref = r; parent = None })
 
+-- the reset before a commit without parents
 abbrev pub root_reset : List Commit → List Command
 root_reset [] = to_nothing carrier ∷ []
 root_reset (p ∷ ps) = []
 
+-- the mark of the first parent
 abbrev pub first_parent : List Value → List Commit → Option CommitIsh
 first_parent ws [] = None
 first_parent ws (p ∷ ps) = Some (marked_in ws (commit_value p))
 
+-- the marks of the other parents
 abbrev pub other_parents : List Value → List Commit → List CommitIsh
 other_parents ws [] = []
 other_parents ws (p ∷ ps) = map (λ q. marked_in ws (commit_value q)) ps
 
+-- what a file's line names: a mark, or a gitlink's digits
 abbrev pub dataref_in : List Value → Mode → Bytes → DataRef
 dataref_in ws Gitlink x = Object x
 dataref_in ws _ x = Mark (number_in ws (blob_value x))
 
+-- the line of a file
 abbrev pub file_change : List Value → Path × Leaf Bytes → Change
 file_change ws e = Modify e.1.0 (dataref_in ws e.1.0 e.1.1) e.0
 
+-- the command of a commit
 abbrev pub commit_command : List Value → Commit → Command
 commit_command ws c = command.Commit (record {
   ref = carrier;
@@ -98,23 +111,28 @@ commit_command ws c = command.Commit (record {
 abbrev pub with_commit : List Value → Commit → List Value
 with_commit ws c = commit_value c ∷ with_blobs ws (contents (files_of c))
 
+-- the commands of a commit, its blobs first
 abbrev pub one_commit : List Value → Commit → List Command
 one_commit ws c =
     blob_commands ws (contents (files_of c)) ++ (root_reset (list_of (parents_of c)) ++ (commit_command (with_blobs ws (contents (files_of c))) c ∷ []))
 
 -- ---- all of them, and the refs
 
+-- the commands of all commits
 abbrev pub commit_commands : List Value → List Commit → List Command
 commit_commands ws [] = []
 commit_commands ws (c ∷ cs) = one_commit ws c ++ commit_commands (with_commit ws c) cs
 
+-- the values that all commits write, the newest first
 abbrev pub all_written : List Commit → List Value
 all_written cs = fold with_commit [] cs
 
+-- the reset of the carrier at the end
 abbrev pub last_reset : List Commit → List Command
 last_reset [] = []
 last_reset (c ∷ cs) = to_nothing carrier ∷ []
 
+-- the command of a ref
 abbrev pub ref_command : List Value → Bytes × Target → Command
 ref_command ws (r, at_commit c) = command.Reset (record { ref = r; parent = Some (marked_in ws (commit_value c)) })
 ref_command ws (r, at_tag t) = command.Tag (record { name = t.name; mark = None; target = marked_in ws (commit_value t.target); tagger = t.tagger; message = t.message })
@@ -123,29 +141,36 @@ ref_command ws (r, at_tag t) = command.Tag (record { name = t.name; mark = None;
 abbrev pub inner_commands : List Commit → List (Bytes × Target) → List Command
 inner_commands cs refs = commit_commands [] cs ++ (last_reset cs ++ map (ref_command (all_written cs)) refs)
 
+-- all commands of an export
 abbrev pub export_commands : History → List Command
 export_commands h = command.Asks features.Done ∷ (inner_commands (reached_commits h) h.refs ++ command.Done ∷ [])
 
 -- ---- the items of a command
 
+-- a line with a word and a rest
 abbrev pub word_line : Bytes → Bytes → Item
 word_line word rest = Line (word ++ 32 ∷ rest)
 
+-- a line that may be left out
 abbrev pub optional_line : Bytes → Option Bytes → List Item
 optional_line word None = []
 optional_line word (Some x) = word_line word x ∷ []
 
+-- a mark as a text
 abbrev pub mark_text : ℕ → Bytes
 mark_text n = 58 ∷ decimal n
 
+-- the line of a mark
 abbrev pub mark_line : Option ℕ → List Item
 mark_line None = []
 mark_line (Some n) = word_line (codes "mark") (mark_text n) ∷ []
 
+-- what names a commit, as a text
 abbrev pub commit_ish_text : CommitIsh → Bytes
 commit_ish_text (Marked n) = mark_text n
 commit_ish_text (Named x) = x
 
+-- the line of a first parent
 abbrev pub from_line : Option CommitIsh → List Item
 from_line None = []
 from_line (Some c) = word_line (codes "from") (commit_ish_text c) ∷ []
@@ -158,11 +183,13 @@ mode_digits Link = codes "120000"
 mode_digits Gitlink = codes "160000"
 mode_digits Dir = codes "040000"
 
+-- what a file's line names, as a text
 abbrev pub dataref_text : DataRef → Bytes
 dataref_text (Mark n) = mark_text n
 dataref_text (Object x) = x
 dataref_text (Inline x) = codes "inline"
 
+-- the block behind an inline file
 abbrev pub dataref_block : DataRef → List Item
 dataref_block (Mark n) = []
 dataref_block (Object x) = []
@@ -197,14 +224,17 @@ command_items command.Checkpoint = []
 command_items (command.Progress x) = []
 command_items (command.OptionLine x) = []
 
+-- all items of an export
 abbrev pub export_items : History → List Item
 export_items h = flat_map command_items (export_commands h)
 
 -- ---- the text of items
 
+-- an item as a text
 abbrev pub item_text : Item → Bytes
 item_text (Line l) = l ++ 10 ∷ []
 item_text (Data x) = codes "data " ++ decimal (length x) ++ 10 ∷ x ++ 10 ∷ []
 
+-- the export text of a history
 abbrev pub export_text : History → Bytes
 export_text h = flat_map item_text (export_items h)

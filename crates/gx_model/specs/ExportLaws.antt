@@ -1,5 +1,6 @@
 -- What the laws of the export text suppose and say.
-use Rattle.std.specs.Prelude.{map, ◌⊎◌, suc, if◌then◌else◌, Result, Ok, ◌≡◌, ℕ, ◌^◌, ◌<◌, Bool, true, false, IsTrue, List, [], ◌∷◌, ◌++◌, length, codes, nat_eq, Option, None, Some, is_some}
+-- Source: git-fast-export(1) and git-fast-import(1).
+use Rattle.std.specs.Prelude.{map, ◌⊎◌, suc, if◌then◌else◌, Result, Ok, ◌≡◌, ℕ, ◌^◌, ◌<◌, true, false, IsTrue, List, [], ◌∷◌, ◌++◌, length, codes, nat_eq, Option, None, Some, is_some}
 use Rattle.std.specs.List.{AllByRecursion, filter_map, flat_map, starts_with}
 use Rattle.gx_model.specs.declared.objects.Mode.{Mode}
 use Rattle.gx_model.specs.declared.objects.Mode.TheVariants.{File, Exec, Link, Gitlink}
@@ -8,22 +9,20 @@ use Rattle.gx_model.specs.declared.faults.Fault.{Fault}
 use Rattle.gx_model.specs.declared.features.Feature.TheVariants as features
 use Rattle.gx_model.specs.Commands as command
 use Rattle.gx_model.specs.Texts.{Bytes, is_line}
-use Rattle.gx_model.specs.RefNames.{is_ref_name}
+use Rattle.gx_model.specs.RefNames.{is_ref_name, is_tag_name}
 use Rattle.gx_model.specs.Idents.{is_ident}
 use Rattle.gx_model.specs.Faults.{and_then}
 use Rattle.gx_model.specs.Paths.{AreBytes, Path, is_file_path, path_text}
-use Rattle.gx_model.specs.Items.{Data, End, Finished, Item, Line, items_of}
-use Rattle.gx_model.specs.Spelling.{IsReading}
-use Rattle.gx_model.specs.Commands.{Asks, Blob, Change, Clear, Command, CommitIsh, CommitParts, Copy, DataRef, Done, Mark, Marked, Modify, Named, Object, Remove, Rename, Reset, TagParts}
+use Rattle.gx_model.specs.Items.{Data, Finished, Item, Line, items_of}
+use Rattle.gx_model.specs.Commands.{Change, Clear, Command, CommitIsh, CommitParts, Copy, DataRef, Mark, Marked, Modify, Named, Object, Remove, Rename, TagParts}
 use Rattle.gx_model.specs.Grammar.{commands_of, is_null}
 use Rattle.gx_model.specs.Files.{Leaf}
-use Rattle.gx_model.specs.Values.{Commit, Value, blob_value, commit_value, files_of, is_content, is_name_text, is_proper, list_of, parents_of, parts, text_of}
-use Rattle.gx_model.specs.Histories.{History, IsHistory, IsIn, Target, at_commit, at_tag, is_in, value_at, with_one, with_value}
+use Rattle.gx_model.specs.Values.{Commit, Value, blob_value, commit_value, files_of, is_content, is_name_text, is_optional_encoding, is_optional_ident, is_proper, list_of, parents_of, text_of}
+use Rattle.gx_model.specs.Histories.{History, IsHistory, IsIn, IsWhole, Reaches, Target, at_commit, at_tag, is_in, value_at, with_one, with_value}
 use Rattle.gx_model.specs.Revisions.{Revision}
 use Rattle.gx_model.specs.Ranges.{commit_of}
 use Rattle.gx_model.specs.Replay.{Report, State, finished, or_else, replayed, replayed_text, start, step}
 use Rattle.gx_model.specs.Export.{all_written, carrier, command_items, contents, export_commands, export_text, inner_commands, item_text, one_commit, reached_commits, with_commit}
-use Rattle.gx_model.specs.Histories.{IsWhole}
 
 -- a line with no LF that is no comment and announces no block
 pub record IsItemLine (l : Bytes) : Type 0 where
@@ -42,23 +41,16 @@ ItemsAreRead = (is : List Item) → AllByRecursion IsItem is → items_of (flat_
 
 -- ---- commands
 
+-- the number of a mark
 abbrev pub IsMark : ℕ → Type 0
 IsMark n = (0 < n) × (n < 2 ^ 64)
 
-abbrev pub IsIdent : Bytes → Type 0
-IsIdent x = (is_ident x ≡ true) × IsTrue (is_line x)
-
-abbrev pub IsOptional : (Bytes → Type 0) → Option Bytes → Type 0
-IsOptional P None = Unit {0}
-IsOptional P (Some x) = P x
-
-abbrev pub IsEncoding : Bytes → Type 0
-IsEncoding x = (nat_eq (length x) 0 ≡ false) × IsTrue (is_line x)
-
+-- a commit that is named by its mark
 abbrev pub IsMarked : CommitIsh → Type 0
 IsMarked (Marked n) = IsMark n
 IsMarked (Named x) = ⊥
 
+-- the same, or none
 abbrev pub IsMarkedIf : Option CommitIsh → Type 0
 IsMarkedIf None = Unit {0}
 IsMarkedIf (Some c) = IsMarked c
@@ -75,6 +67,7 @@ IsDataRef Exec (Mark n) = IsMark n
 IsDataRef Link (Mark n) = IsMark n
 IsDataRef m s = ⊥
 
+-- a file's path, in bytes
 abbrev pub IsPath : Path → Type 0
 IsPath p = IsTrue (is_file_path p) × AreBytes (path_text p)
 
@@ -86,27 +79,30 @@ IsSpelledChange (Remove p) = ⊥
 IsSpelledChange (Copy p q) = ⊥
 IsSpelledChange (Rename p q) = ⊥
 
+-- a mark is set
 abbrev pub HasMark : Option ℕ → Type 0
 HasMark None = ⊥
 HasMark (Some n) = IsMark n
 
+-- a commit command whose parts have their forms
 pub record IsSpelledCommit (c : CommitParts) : Type 0 where
   pub ref : is_ref_name c.ref ≡ true
   pub mark : HasMark c.mark
-  pub author : IsIdent (or_else c.author [])
+  pub author : is_ident (or_else c.author []) ≡ true
   pub has_author : is_some c.author ≡ true
-  pub committer : IsIdent c.committer
-  pub encoding : IsOptional IsEncoding c.encoding
+  pub committer : is_ident c.committer ≡ true
+  pub encoding : is_optional_encoding c.encoding ≡ true
   pub message : length c.message < 2 ^ 64
   pub parent : IsMarkedIf c.parent
   pub merges : AllByRecursion IsMarked c.merges
   pub changes : AllByRecursion IsSpelledChange c.changes
 
+-- a tag command whose parts have their forms
 pub record IsSpelledTag (t : TagParts) : Type 0 where
-  pub name : is_ref_name (codes "refs/tags/" ++ t.name) ≡ true
+  pub name : is_tag_name t.name ≡ true
   pub mark : t.mark ≡ None
   pub target : IsMarked t.target
-  pub tagger : IsOptional IsIdent t.tagger
+  pub tagger : is_optional_ident t.tagger ≡ true
   pub message : length t.message < 2 ^ 64
 
 -- a command that an export has between `feature done` and `done`
@@ -117,6 +113,7 @@ IsSpelled (command.Tag t) = IsSpelledTag t
 IsSpelled (command.Reset r) = (is_ref_name r.ref ≡ true) × IsMarkedIf r.parent
 IsSpelled _ = ⊥
 
+-- commands between `feature done` and `done`
 abbrev pub between : List Command → List Command
 between cs = command.Asks features.Done ∷ (cs ++ command.Done ∷ [])
 
@@ -159,6 +156,7 @@ values_with_blobs ws vs [] = vs
 values_with_blobs ws vs (x ∷ xs) =
     if is_in ws (blob_value x) then values_with_blobs ws vs xs else values_with_blobs (blob_value x ∷ ws) (with_one vs (blob_value x)) xs
 
+-- the values that a commit's block adds
 abbrev pub values_with_commit : List Value → List Value → Commit → List Value
 values_with_commit ws vs c = with_value (values_with_blobs ws vs (contents (files_of c))) (commit_value c)
 
@@ -168,7 +166,7 @@ module _ (name : Kind → Bytes → Bytes) (read : Bytes → Result Revision Fau
   steps s [] = Ok s
   steps s (c ∷ cs) = and_then (step name read s c) (λ t. steps t cs)
 
-  -- One commit's block, where its parents were written: it meets no fault, mark n still stands for the nth blob or commit written, and the values are these.
+  -- One commit's commands, where its parents were written: they meet no fault, mark n still stands for the nth blob or commit written, and the values are these.
   abbrev pub CommitIsReplayed : Type 0
   CommitIsReplayed =
       (ws vs : List Value) (b : Option (Option Commit)) (c : Commit) → IsTrue (is_content (files_of c)) → AllByRecursion (λ p. IsIn ws (commit_value p)) (list_of (parents_of c))
@@ -176,11 +174,7 @@ module _ (name : Kind → Bytes → Bytes) (read : Bytes → Result Revision Fau
 
 -- ---- what a history reaches
 
--- a value is made of another, through its parts
-pub data Reaches : Value → Value → Type 0 where
-  itself : (v : Value) → Reaches v v
-  through : {u : Value} (v w : Value) → IsIn (parts v) w → Reaches w u → Reaches v u
-
+-- one of these values is made of another
 abbrev pub AnyReaches : List Value → Value → Type 0
 AnyReaches [] u = ⊥
 AnyReaches (v ∷ vs) u = Reaches v u ⊎ AnyReaches vs u
@@ -189,6 +183,7 @@ AnyReaches (v ∷ vs) u = Reaches v u ⊎ AnyReaches vs u
 abbrev pub IsReached : History → Value → Type 0
 IsReached h u = AnyReaches (map (λ r. value_at r.1) h.refs) u
 
+-- a commit is one of these
 abbrev pub IsOne : List Commit → Commit → Type 0
 IsOne [] c = ⊥
 IsOne (d ∷ ds) c = (d ≡ c) ⊎ IsOne ds c
@@ -201,6 +196,7 @@ pub record HoldsWhat (ws vs : List Value) (cs : List Commit) : Type 0 where
   pub commits : AllByRecursion (λ c. IsIn ws (commit_value c)) cs
   pub only : (u : Value) → IsIn vs u → AnyReaches (map commit_value cs) u
 
+-- after a commit's block the history holds what the commits so far reach, and no more
 abbrev pub CommitKeeps : Type 0
 CommitKeeps =
     (ws vs : List Value) (cs : List Commit) (c : Commit) → HoldsWhat ws vs cs → IsTrue (is_proper (commit_value c)) → AllByRecursion (IsOne cs) (list_of (parents_of c)) → (IsOne cs c → ⊥)
@@ -208,12 +204,7 @@ CommitKeeps =
 
 -- ---- all commits
 
--- each is proper and new, after its parents
-abbrev pub FollowsAll : List Commit → List Commit → Type 0
-FollowsAll before [] = Unit {0}
-FollowsAll before (c ∷ cs) =
-    IsTrue (is_proper (commit_value c)) × AllByRecursion (IsOne before) (list_of (parents_of c)) × (IsOne before c → ⊥) × FollowsAll (before ++ c ∷ []) cs
-
+-- the empty history
 abbrev pub nothing : History
 nothing = record { values = []; refs = [] }
 
@@ -230,6 +221,7 @@ pub record IsAgain (h k : History) : Type 0 where
 abbrev pub exported_report : History → History → Report
 exported_report h k = record { commands = length (export_commands h); objects = length k.values; refs = length h.refs }
 
+-- the commands of an export, replayed from nothing, give its refs and what they reach
 abbrev pub ExportIsReplayed : Type 0
 ExportIsReplayed =
     (name : Kind → Bytes → Bytes) (read : Bytes → Result Revision Fault) (h : History) → IsHistory h
@@ -242,24 +234,32 @@ abbrev pub IsNotNull : Mode → Bytes → Type 0
 IsNotNull Gitlink x = is_null x ≡ false
 IsNotNull _ x = Unit {0}
 
-abbrev pub IsReadableFile : Path × Leaf Bytes → Type 0
-IsReadableFile e = AreBytes (path_text e.0) × IsNotNull e.1.0 e.1.1 × (length e.1.1 < 2 ^ 64)
+-- a file whose path is of bytes, and that is no gitlink of zeros
+abbrev pub IsFormedFile : Path × Leaf Bytes → Type 0
+IsFormedFile e = AreBytes (path_text e.0) × IsNotNull e.1.0 e.1.1
 
+-- The paths that a history's commits hold are bytes, and no file map has a gitlink of forty zeros.
+abbrev pub IsFormed : History → Type 0
+IsFormed h = AllByRecursion (λ c. AllByRecursion IsFormedFile (files_of c)) (reached_commits h)
+
+-- the same, with a length below 2 ^ 64
+abbrev pub IsReadableFile : Path × Leaf Bytes → Type 0
+IsReadableFile e = IsFormedFile e × (length e.1.1 < 2 ^ 64)
+
+-- a commit that can be read again
 pub record IsReadableCommit (c : Commit) : Type 0 where
-  pub author : IsIdent (text_of c).author
-  pub committer : IsIdent (text_of c).committer
-  pub encoding : IsOptional IsEncoding (text_of c).encoding
   pub message : length (text_of c).message < 2 ^ 64
   pub files : AllByRecursion IsReadableFile (files_of c)
 
-abbrev pub IsReadableRef : Bytes × Target → Type 0
-IsReadableRef (n, at_commit c) = is_ref_name n ≡ true
-IsReadableRef (n, at_tag t) = (is_ref_name (codes "refs/tags/" ++ t.name) ≡ true) × IsOptional IsIdent t.tagger × (length t.message < 2 ^ 64)
+-- what a ref holds can be read again
+abbrev pub IsReadableTarget : Target → Type 0
+IsReadableTarget (at_commit c) = Unit {0}
+IsReadableTarget (at_tag t) = length t.message < 2 ^ 64
 
--- The texts in it have their forms, no file map has a gitlink of forty zeros, and lengths and marks are below 2 ^ 64.
+-- It is formed, and lengths and marks are below 2 ^ 64.
 pub record IsReadable (h : History) : Type 0 where
   pub commits : AllByRecursion IsReadableCommit (reached_commits h)
-  pub refs : AllByRecursion IsReadableRef h.refs
+  pub refs : AllByRecursion (λ r. IsReadableTarget r.1) h.refs
   pub marks : length (all_written (reached_commits h)) < 2 ^ 64
 
 -- the commands of a history that can be read
@@ -272,32 +272,6 @@ ExportIsImported =
     (name : Kind → Bytes → Bytes) (read : Bytes → Result Revision Fault) (h : History) → IsHistory h → IsReadable h
     → (k : History) × IsAgain h k × (replayed_text name read nothing (export_text h) false ≡ finished k [] (exported_report h k))
 
--- ---- the function and the relation
-
-abbrev pub OneReading : Type 0
-OneReading = (text : Bytes) (fails : Bool) (is : List Item) (e : End) → IsReading fails text is e → items_of text fails ≡ record { items = is; end = e }
-
-abbrev pub SomeReading : Type 0
-SomeReading = (text : Bytes) (fails : Bool) → IsReading fails text (items_of text fails).items (items_of text fails).end
-
--- ---- lengths and marks fit where the text does
-
-abbrev pub IsFormedFile : Path × Leaf Bytes → Type 0
-IsFormedFile e = AreBytes (path_text e.0) × IsNotNull e.1.0 e.1.1
-
-pub record IsFormedCommit (c : Commit) : Type 0 where
-  pub author : IsIdent (text_of c).author
-  pub committer : IsIdent (text_of c).committer
-  pub encoding : IsOptional IsEncoding (text_of c).encoding
-  pub files : AllByRecursion IsFormedFile (files_of c)
-
-abbrev pub IsFormedRef : Bytes × Target → Type 0
-IsFormedRef (n, at_commit c) = is_ref_name n ≡ true
-IsFormedRef (n, at_tag t) = (is_ref_name (codes "refs/tags/" ++ t.name) ≡ true) × IsOptional IsIdent t.tagger
-
-pub record IsFormed (h : History) : Type 0 where
-  pub commits : AllByRecursion IsFormedCommit (reached_commits h)
-  pub refs : AllByRecursion IsFormedRef h.refs
-
+-- lengths and marks fit where the text does
 abbrev pub FormedIsReadable : Type 0
 FormedIsReadable = (h : History) → IsHistory h → IsFormed h → length (export_text h) < 2 ^ 64 → IsReadable h

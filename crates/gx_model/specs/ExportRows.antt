@@ -1,5 +1,5 @@
 -- Worked rows: an import's export, and what that text imports to.
-use Rattle.std.specs.Prelude.{◌≡◌, false, List, [], ◌∷◌, ◌++◌, replicate, codes, Option, Some, None, refl}
+use Rattle.std.specs.Prelude.{◌≡◌, List, [], ◌∷◌, ◌++◌, replicate, codes, Some, None, refl}
 use Rattle.std.specs.Fmt.{digits}
 use Rattle.gx_model.specs.declared.objects.Mode.TheVariants.{Gitlink}
 use Rattle.gx_model.specs.declared.faults.Fault.TheVariants as fault
@@ -9,14 +9,16 @@ use Rattle.gx_model.specs.Paths.{char_at, unquote_within, quoted_of}
 use Rattle.gx_model.specs.Items.{counted_block, lines_before, delimited, first_line, first_of, read_upto, items_of}
 use Rattle.gx_model.specs.Grammar.{unsigned_in, item_after_in, rest_line_in, block_in, mark_of, commit_ish_of, last_path, source_path, modify_at, two_paths, change_at, changes_within, merges_within, blob_at, commit_at, links_at, tag_at, reset_at, command_at, commands_within}
 use Rattle.gx_model.specs.Revisions.{revision_of}
+use Rattle.gx_model.specs.Spelling.{text_of_lines}
 use Rattle.gx_model.specs.Values.{Commit, commit, commit_value, none}
 use Rattle.gx_model.specs.Histories.{History, at_commit, with_value}
+use Rattle.gx_model.specs.Naming.{short_name}
 use Rattle.gx_model.specs.Replay.{imported}
 use Rattle.gx_model.specs.Export.{export_text}
-use Rattle.gx_model.specs.RowTexts.{lines, nothing, imported_lines, history_of_lines, refusal}
+use Rattle.gx_model.specs.RowTexts.{nothing, imported_lines, history_of_lines, refusal}
 
 -- two branches with a merge, a gitlink and a tag
-abbrev stream : List Bytes
+abbrev pub stream : List Bytes
 stream =
     codes "commit refs/heads/a" ∷
     codes "mark :1" ∷
@@ -130,21 +132,21 @@ null_export =
 
 pub record ExportRows : Type 0 where
   -- the export text, byte for byte
-  pub exported : export_text (history_of_lines stream) ≡ lines export
+  pub exported : export_text (history_of_lines stream) ≡ text_of_lines export
   -- that text imports to the same refs
   pub same_refs : (history_of_lines export).refs ≡ (history_of_lines stream).refs
   -- and what it imports to is exported to the same text
-  pub exported_again : export_text (history_of_lines export) ≡ lines export
+  pub exported_again : export_text (history_of_lines export) ≡ text_of_lines export
   -- a text that was cut before its last line is refused
   pub cut_off : refusal (imported_lines all_but_done) ≡ Some (12, fault.MissingDone)
   -- the export of nothing
-  pub empty : export_text nothing ≡ lines (codes "feature done" ∷ codes "done" ∷ [])
+  pub empty : export_text nothing ≡ text_of_lines (codes "feature done" ∷ codes "done" ∷ [])
   -- a blob that no ref reaches isn't written
-  pub unreached : export_text (history_of_lines (codes "blob" ∷ codes "data 13" ∷ codes "test content" ∷ [])) ≡ lines (codes "feature done" ∷ codes "done" ∷ [])
+  pub unreached : export_text (history_of_lines (codes "blob" ∷ codes "data 13" ∷ codes "test content" ∷ [])) ≡ text_of_lines (codes "feature done" ∷ codes "done" ∷ [])
   -- a gitlink of forty zeros is written as it is, and not read again
-  pub null_exported : export_text null_history ≡ lines null_export
+  pub null_exported : export_text null_history ≡ text_of_lines null_export
   pub null_refused : refusal (imported_lines null_export) ≡ Some (3, fault.Unsupported)
 
 pub export_rows : ExportRows
-unfolding char_at unsigned_in item_after_in rest_line_in block_in cut_at is_ident unquote_within quoted_of mark_of commit_ish_of last_path source_path modify_at two_paths change_at changes_within merges_within blob_at commit_at links_at tag_at reset_at command_at commands_within counted_block lines_before delimited first_line first_of read_upto items_of digits revision_of imported
+unfolding char_at unsigned_in item_after_in rest_line_in block_in cut_at is_ident unquote_within quoted_of mark_of commit_ish_of last_path source_path modify_at two_paths change_at changes_within merges_within blob_at commit_at links_at tag_at reset_at command_at commands_within counted_block lines_before delimited first_line first_of read_upto items_of digits revision_of imported short_name
 export_rows = record { exported = refl; same_refs = refl; exported_again = refl; cut_off = refl; empty = refl; unreached = refl; null_exported = refl; null_refused = refl }

@@ -1,4 +1,5 @@
 -- How a call's answer goes with what a definition gives, and steps that may be refused.
+-- Source: this project's own.
 use Rattle.std.specs.Prelude.{◌≡◌, Option, Some, None, Result, Ok, Err}
 use Rattle.gx_model.specs.declared.faults.Fault.{Fault}
 use Rattle.gx_model.specs.declared.faults.Fault.TheVariants.{OutOfMemory}
@@ -22,10 +23,12 @@ abbrev pub and_then : {A B E : Type 0} → Result A E → (A → Result B E) →
 and_then (Ok x) f = f x
 and_then (Err e) f = Err e
 
+-- and_then, between two steps
 infixl 10 ◌>>=◌
 abbrev pub ◌>>=◌ : {A B : Type 0} → Result A Fault → (A → Result B Fault) → Result B Fault
 r >>= f = and_then r f
 
+-- a value, or this fault where there is none
 abbrev pub or_fault : {A : Type 0} → Option A → Fault → Result A Fault
 or_fault (Some x) f = Ok x
 or_fault None f = Err f

@@ -1,4 +1,5 @@
 -- The commands of items, from left to right.
+-- Source: git-fast-import(1), "Commands".
 use Rattle.std.specs.Prelude.{ℕ, zero, suc, Bool, true, false, ◌&&◌, ◌||◌, ◌==◌, nat_le, codes, List, [], ◌∷◌, ◌++◌, length, Option, Some, None, Result, Ok, Err, if◌then◌else◌}
 use Rattle.std.specs.List.{list_any, list_all}
 use Rattle.std.specs.Str.{bytes_eq}
@@ -28,13 +29,16 @@ pub record Words : Type 0 where
   pub word : Bytes
   pub rest : Option (Bytes)
 
+-- the word and the rest, from the cut at the first space
 abbrev pub words_by : Bytes → Option (Bytes × Bytes) → Words
 words_by line None = record { word = line; rest = None }
 words_by line (Some p) = record { word = p.0; rest = Some p.1 }
 
+-- the word of a line, and its rest
 abbrev pub words_of : Bytes → Words
 words_of line = words_by line (cut_at 32 line)
 
+-- whether the word is this
 abbrev pub is_word : Words → Bytes → Bool
 is_word w name = bytes_eq w.word name
 
@@ -42,18 +46,22 @@ is_word w name = bytes_eq w.word name
 abbrev pub rest_of : Words → Given (Bytes)
 rest_of w = or_fault w.rest faults.BadLine
 
+-- nothing, where there is no rest
 abbrev pub bare_by : Option (Bytes) → Given (Unit {0})
 bare_by None = Ok tt
 bare_by (Some r) = Err faults.BadLine
 
+-- a line that needs no rest has none
 abbrev pub bare : Words → Given (Unit {0})
 bare w = bare_by w.rest
 
 -- ---- what stands after the items: the fault of an end, where there is one
+-- at the end of the items: what is given there, or the fault of the end
 abbrev pub at_end : {A : Type 0} → End → Given A → Given A
 at_end Finished otherwise = otherwise
 at_end (Failed f) otherwise = Err f
 
+-- the items that are left
 abbrev pub after : List Item → Stream → Stream
 after more s = record s { items = more }
 
@@ -63,9 +71,11 @@ rest_line_in name [] s = at_end s.end (Ok (None, s))
 rest_line_in name (Data b ∷ more) s = Ok (None, s)
 rest_line_in name (Line l ∷ more) s = if is_word (words_of l) name then (rest_of (words_of l) >>= λ r. Ok (Some r, after more s)) else Ok (None, s)
 
+-- the rest of the next line, where it has this word
 abbrev pub rest_line : Bytes → Stream → Read (Option (Bytes))
 rest_line name s = rest_line_in name s.items s
 
+-- the rest of an optional line, read
 abbrev pub read_some : {A : Type 0} → (Bytes → Given A) → Option (Bytes) → Given (Option A)
 read_some read None = Ok None
 read_some read (Some r) = read r >>= λ x. Ok (Some x)
@@ -79,19 +89,23 @@ abbrev pub read_needed : {A : Type 0} → (Bytes → Given A) → Option (Bytes)
 read_needed read None = Err faults.BadLine
 read_needed read (Some r) = read r
 
+-- a line with this word, which is needed, with its rest read
 abbrev pub needed : {A : Type 0} → Bytes → (Bytes → Given A) → Stream → Read A
 needed name read s = rest_line name s >>= λ r. read_needed read r.0 >>= λ x. Ok (x, r.1)
 
+-- the block that comes next, which is needed
 unfoldable pub block_in : List Item → Stream → Read (Bytes)
 block_in [] s = at_end s.end (Err faults.BadLine)
 block_in (Data b ∷ more) s = Ok (b, after more s)
 block_in (Line l ∷ more) s = Err faults.BadLine
 
+-- the block that comes next, which is needed
 abbrev pub block : Stream → Read (Bytes)
 block s = block_in s.items s
 
 -- ---- the parts of lines
 
+-- the number of a mark, from 1
 abbrev pub mark_number : Bytes → Given ℕ
 mark_number ds = or_fault (decimal_of ds) faults.BadNumber >>= λ n. if n == 0 then Err faults.BadNumber else Ok n
 
@@ -100,10 +114,12 @@ abbrev pub mark_text : Bytes → Option (Given ℕ)
 mark_text [] = None
 mark_text (b ∷ bs) = if b == 58 then Some (mark_number bs) else None
 
+-- a mark, or BadLine where there is no `:`
 abbrev pub of_mark : Option (Given ℕ) → Given ℕ
 of_mark None = Err faults.BadLine
 of_mark (Some g) = g
 
+-- the number of a mark, behind its `:`
 unfoldable pub mark_of : Bytes → Given ℕ
 mark_of bs = of_mark (mark_text bs)
 
@@ -111,21 +127,27 @@ mark_of bs = of_mark (mark_text bs)
 abbrev pub any_text : Bytes → Given (Unit {0})
 any_text bs = Ok tt
 
+-- a text that is not empty
 abbrev pub some_text : Bytes → Given (Bytes)
 some_text bs = if length bs == 0 then Err faults.BadLine else Ok bs
 
+-- an identity
 abbrev pub ident_of : Bytes → Given (Bytes)
 ident_of bs = if is_ident bs then Ok bs else Err faults.BadIdent
 
+-- a ref name
 abbrev pub ref_of : Bytes → Given (Bytes)
 ref_of bs = if is_ref_name bs then Ok bs else Err faults.BadRefName
 
+-- a tag name
 abbrev pub tag_of : Bytes → Given (Bytes)
 tag_of bs = if is_tag_name bs then Ok bs else Err faults.BadRefName
 
+-- a hexadecimal digit of either case
 abbrev pub is_hex_digit : ℕ → Bool
 is_hex_digit b = (nat_le 48 b && nat_le b 57) || (nat_le 97 b && nat_le b 102) || (nat_le 65 b && nat_le b 70)
 
+-- forty hexadecimal digits
 abbrev pub is_name : Bytes → Bool
 is_name bs = list_all is_hex_digit bs && length bs == 40
 
@@ -133,19 +155,23 @@ is_name bs = list_all is_hex_digit bs && length bs == 40
 abbrev pub is_null : Bytes → Bool
 is_null bs = list_all (λ b. b == 48) bs && length bs == 40
 
+-- a mark, or any other text but forty zeros
 abbrev pub commit_ish_by : Bytes → Option (Given ℕ) → Given CommitIsh
 commit_ish_by bs (Some g) = g >>= λ n. Ok (Marked n)
 commit_ish_by bs None = if is_null bs then Err faults.Unsupported else Ok (Named bs)
 
+-- what names a commit
 unfoldable pub commit_ish_of : Bytes → Given CommitIsh
 commit_ish_of bs = commit_ish_by bs (mark_text bs)
 
+-- a feature that is known
 abbrev pub feature_of : Bytes → Given Feature
 feature_of bs =
     if bytes_eq bs (codes "done") then Ok features.Done
     else (if bytes_eq bs (codes "date-format=raw") then Ok features.RawDates
     else (if bytes_eq bs (codes "force") then Ok features.Force else Err faults.Unsupported))
 
+-- the mode of a modify line
 abbrev pub mode_of : Bytes → Given Mode
 mode_of bs =
     if bytes_eq bs (codes "100644") || bytes_eq bs (codes "644") then Ok modes.File
@@ -162,6 +188,7 @@ last_path bs =
     if is_quoted bs then (quoted_of bs >>= λ p. if length p.1 == 0 then Ok p.0 else Err faults.BadLine)
     else path_of bs
 
+-- what follows a quoted source: a space
 abbrev pub after_space : {A : Type 0} → A → Bytes → Given (A × Bytes)
 after_space x [] = Err faults.BadLine
 after_space x (b ∷ bs) = if b == 32 then Ok (x, bs) else Err faults.BadLine
@@ -184,6 +211,7 @@ pub data Where : Type 0 where
   AtName : Bytes → Where
   AtBlock : Where
 
+-- a mark, `inline`, or forty digits that are no zeros
 abbrev pub where_by : Bytes → Option (Given ℕ) → Given Where
 where_by bs (Some g) = g >>= λ n. Ok (AtMark n)
 where_by bs None =
@@ -191,6 +219,7 @@ where_by bs None =
     else (if is_null bs then Err faults.Unsupported
     else (if is_name bs then Ok (AtName bs) else Err faults.BadLine))
 
+-- where the bytes of a modify are
 abbrev pub where_of : Bytes → Given Where
 where_of bs = where_by bs (mark_text bs)
 
@@ -204,11 +233,13 @@ suits modes.Exec at = Ok tt
 suits modes.Link at = Ok tt
 suits modes.Dir at = Ok tt
 
+-- the content of a modify: what its line names, or the block that follows
 abbrev pub bytes_from : Where → Stream → Read DataRef
 bytes_from (AtMark n) s = Ok (Mark n, s)
 bytes_from (AtName ds) s = Ok (Object ds, s)
 bytes_from AtBlock s = block s >>= λ b. Ok (Inline b.0, b.1)
 
+-- a modify, with its parts from left to right
 unfoldable pub modify_at : Bytes → Stream → Read Change
 modify_at bs s = do
   first ← Ok (part_of bs)
@@ -220,6 +251,7 @@ modify_at bs s = do
   bytes ← bytes_from at s
   Ok (Modify mode bytes.0 path, bytes.1)
 
+-- a source and a destination
 unfoldable pub two_paths : Bytes → Given (Path × Path)
 two_paths bs = do
   source ← source_path bs
@@ -247,9 +279,11 @@ changes_within (suc n) (Line l ∷ more) s = by (change_at (words_of l) (after m
   by None again s = Ok ([], s)
   by (Some read) again s = read >>= λ x. again x.1 >>= λ xs. Ok (x.0 ∷ xs.0, xs.1)
 
+-- the changes that come next
 abbrev pub changes : Stream → Read (List Change)
 changes s = changes_within (length s.items) s.items s
 
+-- the merge lines that come next, at most n
 unfoldable pub merges_within : ℕ → Stream → Read (List CommitIsh)
 merges_within zero s = Ok ([], s)
 merges_within (suc n) s = optional (codes "merge") commit_ish_of s >>= λ x. by x.0 x.1 (merges_within n x.1) where
@@ -257,6 +291,7 @@ merges_within (suc n) s = optional (codes "merge") commit_ish_of s >>= λ x. by 
   by None t again = Ok ([], t)
   by (Some c) t again = again >>= λ xs. Ok (c ∷ xs.0, xs.1)
 
+-- the merge lines that come next
 abbrev pub merges : Stream → Read (List CommitIsh)
 merges s = merges_within (suc (length s.items)) s
 
@@ -267,6 +302,7 @@ item_after_in (Data b ∷ more) s = Ok (tt, s)
 item_after_in (Line [] ∷ more) s = Ok (tt, after more s)
 item_after_in (Line (b ∷ bs) ∷ more) s = Ok (tt, s)
 
+-- what stands after a commit or a reset: an empty line is taken
 abbrev pub item_after : Stream → Read (Unit {0})
 item_after s = item_after_in s.items s
 
@@ -278,9 +314,11 @@ unsigned_in [] s = at_end s.end (Ok (tt, s))
 unsigned_in (Data b ∷ more) s = Ok (tt, s)
 unsigned_in (Line l ∷ more) s = if is_word (words_of l) (codes "gpgsig") then Err faults.Unsupported else Ok (tt, s)
 
+-- no signature comes next
 abbrev pub unsigned : Stream → Read (Unit {0})
 unsigned s = unsigned_in s.items s
 
+-- a blob command, behind its first line
 unfoldable pub blob_at : Stream → Read Command
 blob_at s = do
   mark ← optional (codes "mark") mark_of s
@@ -297,6 +335,7 @@ links_at s = do
   ended ← item_after changed.1
   Ok ((parent.0, (merged.0, changed.0)), ended.1)
 
+-- a commit command, behind its first line
 unfoldable pub commit_at : Bytes → Stream → Read Command
 commit_at ref s = do
   mark ← optional (codes "mark") mark_of s
@@ -309,6 +348,7 @@ commit_at ref s = do
   links ← links_at message.1
   Ok (Commit (record { ref = ref; mark = mark.0; author = author.0; committer = committer.0; encoding = encoding.0; message = message.0; parent = links.0.0; merges = links.0.1.0; changes = links.0.1.1 }), links.1)
 
+-- a tag command, behind its first line
 unfoldable pub tag_at : Bytes → Stream → Read Command
 tag_at name s = do
   mark ← optional (codes "mark") mark_of s
@@ -318,6 +358,7 @@ tag_at name s = do
   message ← block tagger.1
   Ok (Tag (record { name = name; mark = mark.0; target = target.0; tagger = tagger.0; message = message.0 }), message.1)
 
+-- a reset command, behind its first line
 unfoldable pub reset_at : Bytes → Stream → Read Command
 reset_at ref s = do
   parent ← optional (codes "from") commit_ish_of s
@@ -344,6 +385,7 @@ command_at early w s =
     else (if is_word w (codes "ls") || is_word w (codes "cat-blob") || is_word w (codes "get-mark") || is_word w (codes "alias") then Err faults.Unsupported
     else Err faults.UnknownCommand)))))))))
 
+-- a feature or an option
 abbrev pub is_option : Command → Bool
 is_option (Asks f) = true
 is_option (OptionLine t) = true
@@ -355,6 +397,7 @@ is_option Checkpoint = false
 is_option (Progress t) = false
 is_option Done = false
 
+-- a feature that asks for `done`
 abbrev pub asks_done : Command → Bool
 asks_done (Asks features.Done) = true
 asks_done (Asks features.RawDates) = false
@@ -368,6 +411,7 @@ asks_done Checkpoint = false
 asks_done (Progress t) = false
 asks_done Done = false
 
+-- the command `done`
 abbrev pub is_done : Command → Bool
 is_done Done = true
 is_done (Asks f) = false
@@ -384,9 +428,11 @@ abbrev pub fault_at_end : List Command → End → Option Fault
 fault_at_end before Finished = if list_any asks_done before then Some faults.MissingDone else None
 fault_at_end before (Failed f) = Some f
 
+-- no command, and this fault, if there is one
 abbrev pub stops : Option Fault → Commands
 stops f = record { list = []; fault = f }
 
+-- a command, and then these
 abbrev pub with_first : Command → Commands → Commands
 with_first c cs = record { list = c ∷ cs.list; fault = cs.fault }
 

@@ -1,4 +1,4 @@
--- How records grow: one is put, or the trees of a file map are, each after its sub-trees.
+-- How records grow: one is put, or the trees of a file map are, each after its sub-trees. Source: Pro Git, "Git Objects", on content-addressed storage.
 use Rattle.std.specs.Prelude.{ℕ, zero, suc, Bool, true, false, not, ◌&&◌, if◌then◌else◌, List, [], ◌∷◌, ◌++◌, map, Option, None, Some, IsTrue, ⊤}
 use Rattle.std.specs.List.{list_any, flat_map, AllByRecursion}
 use Rattle.gx_model.specs.declared.objects.Kind.{Kind}
@@ -9,6 +9,7 @@ use Rattle.gx_model.specs.Values.{Value, is_proper, parts, sub_maps}
 use Rattle.gx_model.specs.Records.{name_of, tree_body}
 use Rattle.gx_model.specs.Histories.{IsIn, Record, is_in, with_one}
 
+-- whether two kinds are equal
 abbrev pub same_kind : Kind → Kind → Bool
 same_kind kind.Blob kind.Blob = true
 same_kind kind.Tree kind.Tree = true
@@ -18,55 +19,60 @@ same_kind _ _ = false
 
 -- one kind and one body
 abbrev pub same_object : Record → Record → Bool
-same_object r s = same_kind r.kind s.kind && same_bytes r.body s.body
+same_object held other = same_kind held.kind other.kind && same_bytes held.body other.body
 
+-- the record of a name
 abbrev pub record_named : List Record → Bytes → Option Record
-record_named [] n = None
-record_named (r ∷ rs) n = if same_bytes n r.name then Some r else record_named rs n
+record_named [] name = None
+record_named (r ∷ rs) name = if same_bytes name r.name then Some r else record_named rs name
 
+-- a record put where its name has this one
 abbrev pub put_under : Option Record → List Record → Record → Option (List Record)
-put_under None rs r = Some (rs ++ r ∷ [])
-put_under (Some s) rs r = if same_object s r then Some rs else None
+put_under None records new = Some (records ++ new ∷ [])
+put_under (Some held) records new = if same_object held new then Some records else None
 
 -- a record last, unless it is held; or none where another one has its name
 abbrev pub put : List Record → Record → Option (List Record)
-put rs r = put_under (record_named rs r.name) rs r
+put records new = put_under (record_named records new.name) records new
 
+-- the next step, where there is something
 abbrev pub and_some : {A B : Type 0} → Option A → (A → Option B) → Option B
-and_some None f = None
-and_some (Some a) f = f a
+and_some None step = None
+and_some (Some x) step = step x
 
+-- records put one after the other
 abbrev pub put_all : List Record → List Record → Option (List Record)
-put_all rs [] = Some rs
-put_all rs (n ∷ ns) = and_some (put rs n) (λ s. put_all s ns)
+put_all records [] = Some records
+put_all records (n ∷ ns) = and_some (put records n) (λ now. put_all now ns)
 
 -- a file map's sub-maps at first components, each in this way, and then the map
 abbrev pub all_trees_to : ℕ → FileMap Bytes → List (FileMap Bytes)
-all_trees_to zero f = f ∷ []
-all_trees_to (suc n) f = flat_map (all_trees_to n) (sub_maps f) ++ f ∷ []
+all_trees_to zero files = files ∷ []
+all_trees_to (suc n) files = flat_map (all_trees_to n) (sub_maps files) ++ files ∷ []
 
+-- a file map and its sub-maps, those first
 abbrev pub all_trees : FileMap Bytes → List (FileMap Bytes)
-all_trees f = all_trees_to (depth f) f
+all_trees files = all_trees_to (depth files) files
 
 -- each value is proper, and its parts stand when it is added
 abbrev pub AreReady : List Value → List Value → Type 0
-AreReady vs [] = ⊤
-AreReady vs (w ∷ ws) = IsTrue (is_proper w) × AllByRecursion (IsIn vs) (parts w) × AreReady (with_one vs w) ws
+AreReady values [] = ⊤
+AreReady values (w ∷ ws) = IsTrue (is_proper w) × AllByRecursion (IsIn values) (parts w) × AreReady (with_one values w) ws
 
 module _ (name : Kind → Bytes → Bytes) where
   -- the record of a map of names
   abbrev pub tree_record : FileMap Bytes → Record
-  tree_record g = record { name = name kind.Tree (tree_body name g); kind = kind.Tree; body = tree_body name g }
+  tree_record names = record { name = name kind.Tree (tree_body name names); kind = kind.Tree; body = tree_body name names }
 
   -- the records of a map of names and of what is below it, in the order in which they are put
   abbrev pub tree_records : FileMap Bytes → List Record
-  tree_records g = map tree_record (all_trees g)
+  tree_records names = map tree_record (all_trees names)
 
-  -- v is new, and has the name of another value
+  -- the value is new, and has the name of another one
   abbrev pub clashes : List Value → Value → Bool
-  clashes vs v = not (is_in vs v) && list_any (same_bytes (name_of name v)) (map (name_of name) vs)
+  clashes values value = not (is_in values value) && list_any (same_bytes (name_of name value)) (map (name_of name) values)
 
   -- the values one after the other, or none where one clashes with those that stand then
   abbrev pub with_values : List Value → List Value → Option (List Value)
-  with_values vs [] = Some vs
-  with_values vs (w ∷ ws) = if clashes vs w then None else with_values (with_one vs w) ws
+  with_values values [] = Some values
+  with_values values (w ∷ ws) = if clashes values w then None else with_values (with_one values w) ws

@@ -1,4 +1,4 @@
--- Histories, how a value is added to one, and the repositories that stand for one.
+-- Histories, how a value is added to one, and the repositories that stand for one. Source: gitglossary(7), "object database" and "ref".
 use Rattle.std.specs.Prelude.{◌≡◌, ℕ, zero, suc, Bool, false, if◌then◌else◌, List, [], ◌∷◌, ◌++◌, map, IsTrue, ⊤, ◌⊎◌}
 use Rattle.std.specs.List.{fold, list_any, list_all, AllByRecursion}
 use Rattle.std.specs.Ordering.{nat_cmp}
@@ -13,26 +13,29 @@ use Rattle.gx_model.specs.Records.{body_of, kind_of, name_of}
 
 -- ---- adding a value
 
+-- whether a value stands in a list
 abbrev pub is_in : List Value → Value → Bool
-is_in vs v = list_any (same_value v) vs
+is_in values value = list_any (same_value value) values
 
--- v last, unless it stands there
+-- the value last, unless it stands there
 abbrev pub with_one : List Value → Value → List Value
-with_one vs v = if is_in vs v then vs else vs ++ v ∷ []
+with_one values value = if is_in values value then values else values ++ value ∷ []
 
 -- a file map whose paths have at most n components, after its sub-maps
 abbrev pub with_tree_to : ℕ → List Value → FileMap Bytes → List Value
-with_tree_to zero vs f = with_one vs (tree_value f)
-with_tree_to (suc n) vs f = with_one (fold (with_tree_to n) vs (sub_maps f)) (tree_value f)
+with_tree_to zero values files = with_one values (tree_value files)
+with_tree_to (suc n) values files = with_one (fold (with_tree_to n) values (sub_maps files)) (tree_value files)
 
+-- a file map, after its sub-maps
 abbrev pub with_tree : List Value → FileMap Bytes → List Value
-with_tree vs f = with_tree_to (depth f) vs f
+with_tree values files = with_tree_to (depth files) values files
 
+-- a value, after what it lacks
 abbrev pub with_value : List Value → Value → List Value
-with_value vs (blob_value x) = with_one vs (blob_value x)
-with_value vs (tree_value f) = with_tree vs f
-with_value vs (commit_value c) = with_one (with_tree vs (files_of c)) (commit_value c)
-with_value vs (tag_value t) = with_one vs (tag_value t)
+with_value values (blob_value bytes) = with_one values (blob_value bytes)
+with_value values (tree_value files) = with_tree values files
+with_value values (commit_value revision) = with_one (with_tree values (files_of revision)) (commit_value revision)
+with_value values (tag_value tag) = with_one values (tag_value tag)
 
 -- ---- histories
 
@@ -41,65 +44,79 @@ pub data Target : Type 0 where
   at_commit : Commit → Target
   at_tag : Tag → Target
 
+-- the value that a ref holds
 abbrev pub value_at : Target → Value
-value_at (at_commit c) = commit_value c
-value_at (at_tag t) = tag_value t
+value_at (at_commit revision) = commit_value revision
+value_at (at_tag tag) = tag_value tag
 
+-- what a repository means
 pub record History : Type 0 where
   -- in order of first making
   pub values : List Value
   -- in byte order of names
   pub refs : List (Bytes × Target)
 
+-- the value stands among these
 abbrev pub IsIn : List Value → Value → Type 0
-IsIn [] v = ⊥
-IsIn (w ∷ vs) v = (w ≡ v) ⊎ IsIn vs v
+IsIn [] value = ⊥
+IsIn (w ∷ vs) value = (w ≡ value) ⊎ IsIn vs value
 
--- each of these values is new and proper, and its parts stand before it
+-- a value is made of another, through its parts
+pub data Reaches : Value → Value → Type 0 where
+  itself : (v : Value) → Reaches v v
+  through : {u : Value} (v w : Value) → IsIn (parts v) w → Reaches w u → Reaches v u
+
+-- each of these values is new, and its parts stand before it
 abbrev pub IsClosedAfter : List Value → List Value → Type 0
 IsClosedAfter before [] = ⊤
 IsClosedAfter before (v ∷ vs) =
     (is_in before v ≡ false) × AllByRecursion (IsIn before) (parts v) × IsClosedAfter (before ++ v ∷ []) vs
 
 -- the values of a history: each new, proper, and after its parts
-pub record IsWhole (vs : List Value) : Type 0 where
-  pub closed : IsClosedAfter [] vs
-  pub proper : IsTrue (list_all is_proper vs)
+pub record IsWhole (values : List Value) : Type 0 where
+  pub closed : IsClosedAfter [] values
+  pub proper : IsTrue (list_all is_proper values)
 
 -- a tag's own name makes its ref
 abbrev pub IsRefOf : Bytes → Target → Type 0
-IsRefOf n (at_commit c) = ⊤
-IsRefOf n (at_tag t) = n ≡ tag_ref t.name
+IsRefOf ref (at_commit revision) = ⊤
+IsRefOf ref (at_tag tag) = ref ≡ tag_ref tag.name
 
-pub record IsHistory (h : History) : Type 0 where
-  pub proper : IsTrue (list_all is_proper h.values)
-  pub closed : IsClosedAfter [] h.values
-  pub sorted : IsTrue (is_sorted (slice_cmp nat_cmp) h.refs)
-  pub ref_names : IsTrue (list_all (λ r. is_ref_name r.0) h.refs)
-  pub held : AllByRecursion (λ r. IsIn h.values (value_at r.1)) h.refs
-  pub own : AllByRecursion (λ r. IsRefOf r.0 r.1) h.refs
+-- a history's values are whole, and its refs are in order, have ref names, and stand at its commits and at tags of their own
+pub record IsHistory (history : History) : Type 0 where
+  pub proper : IsTrue (list_all is_proper history.values)
+  pub closed : IsClosedAfter [] history.values
+  pub sorted : IsTrue (is_sorted (slice_cmp nat_cmp) history.refs)
+  pub ref_names : IsTrue (list_all (λ ref. is_ref_name ref.0) history.refs)
+  pub held : AllByRecursion (λ ref. IsIn history.values (value_at ref.1)) history.refs
+  pub own : AllByRecursion (λ ref. IsRefOf ref.0 ref.1) history.refs
 
 -- ---- repositories
 
+-- an object that is held
 pub record Record : Type 0 where
   pub name : Bytes
   pub kind : Kind
   pub body : Bytes
 
+-- a repository: its objects in the order in which they were put, and its refs by their names
 pub record Records : Type 0 where
   pub records : List Record
   pub refs : List (Bytes × Bytes)
 
+-- no two names are equal
 abbrev pub AreDistinct : List Bytes → Type 0
 AreDistinct [] = ⊤
 AreDistinct (n ∷ ns) = (list_any (same_bytes n) ns ≡ false) × AreDistinct ns
 
 module _ (name : Kind → Bytes → Bytes) where
+  -- the canonical record of a value
   abbrev pub record_of : Value → Record
-  record_of v = record { name = name_of name v; kind = kind_of name v; body = body_of name v }
+  record_of value = record { name = name_of name value; kind = kind_of name value; body = body_of name value }
 
-  pub record StandsFor (r : Records) (h : History) : Type 0 where
-    pub history : IsHistory h
-    pub records : r.records ≡ map record_of h.values
-    pub distinct : AreDistinct (map (λ x. x.name) r.records)
-    pub refs : r.refs ≡ map (λ x. (x.0, name_of name (value_at x.1))) h.refs
+  -- each record is that of the value at its place, names are distinct, and each ref holds the name of its value
+  pub record StandsFor (repository : Records) (meant : History) : Type 0 where
+    pub history : IsHistory meant
+    pub records : repository.records ≡ map record_of meant.values
+    pub distinct : AreDistinct (map (λ held. held.name) repository.records)
+    pub refs : repository.refs ≡ map (λ ref. (ref.0, name_of name (value_at ref.1))) meant.refs

@@ -34,17 +34,21 @@ pub record IsIdent (bs : Bytes) : Type 0 where
 
 -- ---- the same, read from the left
 
+-- the test of a value, failed where there is none
 abbrev pub on_some : {A : Type 0} → Option A → (A → Bool) → Bool
 on_some None f = false
 on_some (Some x) f = f x
 
+-- the same as IsIdentHead, as a test
 abbrev pub is_head : Bytes → Bool
 is_head head = length head == 0 || (is_plain head && ends_with nat_eq head (codes " "))
 
+-- a sign and the digits of an offset
 abbrev pub is_signed_offset : Bytes → Bool
 is_signed_offset [] = false
 is_signed_offset (sign ∷ offset) = (sign == 43 || sign == 45) && is_offset offset
 
+-- the same as IsIdent, as a test
 unfoldable pub is_ident : Bytes → Bool
 is_ident bs =
     on_some (cut_at 60 bs) (λ a. on_some (cut_at 62 a.1) (λ b. on_some (cut_at 32 b.1) (λ c. on_some (cut_at 32 c.1) (λ d.

@@ -1,26 +1,27 @@
 -- Worked rows on imports: what streams give, and why they are refused.
-use Rattle.std.specs.Prelude.{◌≡◌, ℕ, List, [], ◌∷◌, ◌++◌, map, replicate, codes, Option, Some, None, Result, Ok, Err, refl}
+use Rattle.std.specs.Prelude.{◌≡◌, ℕ, true, false, List, [], ◌∷◌, ◌++◌, map, replicate, codes, Some, None, Ok, Err, refl}
 use Rattle.std.specs.Fmt.{digits}
-use Rattle.std.specs.Map.{lookup}
-use Rattle.gx_model.specs.declared.objects.Kind.TheVariants.{Blob, Tree}
+use Rattle.gx_model.specs.declared.objects.Kind.TheVariants.{Blob}
 use Rattle.gx_model.specs.declared.objects.Mode.TheVariants.{File, Dir}
 use Rattle.gx_model.specs.declared.faults.Fault.{Fault}
 use Rattle.gx_model.specs.declared.faults.Fault.TheVariants as fault
-use Rattle.gx_model.specs.Texts.{Bytes, cut_at, same_bytes}
+use Rattle.gx_model.specs.Texts.{Bytes, cut_at}
 use Rattle.gx_model.specs.Idents.{is_ident}
-use Rattle.gx_model.specs.Paths.{Path, path_text, char_at, unquote_within, quoted_of}
+use Rattle.gx_model.specs.Paths.{path_of, path_text, char_at, unquote_within, quoted_of}
 use Rattle.gx_model.specs.Items.{counted_block, lines_before, delimited, first_line, first_of, read_upto, items_of}
 use Rattle.gx_model.specs.Grammar.{unsigned_in, item_after_in, rest_line_in, block_in, mark_of, commit_ish_of, last_path, source_path, modify_at, two_paths, change_at, changes_within, merges_within, blob_at, commit_at, links_at, tag_at, reset_at, command_at, commands_within}
 use Rattle.gx_model.specs.Faults.{Given, and_then}
 use Rattle.gx_model.specs.Revisions.{revision_of}
 use Rattle.gx_model.specs.Files.{FileMap}
-use Rattle.gx_model.specs.Values.{blob_value, commit_value, files_of, tag_value, tree_value}
-use Rattle.gx_model.specs.Objects.{Entry}
+use Rattle.gx_model.specs.Edits.{renamed}
+use Rattle.gx_model.specs.Values.{Commit, blob_value, commit, none, commit_value, tree_value}
+use Rattle.gx_model.specs.Objects.{Entry, is_canonical}
 use Rattle.gx_model.specs.Records.{body_of, entries, named_map}
 use Rattle.gx_model.specs.Histories.{History}
 use Rattle.gx_model.specs.Denotation.{Shown, denoted, object}
-use Rattle.gx_model.specs.Replay.{Outcome, Report, finished, imported, refused}
-use Rattle.gx_model.specs.RowTexts.{acceptance, history_after, history_of_lines, imported_lines, imported_to, refusal, short_name, shown}
+use Rattle.gx_model.specs.Naming.{short_name}
+use Rattle.gx_model.specs.Replay.{Outcome, finished, imported, refused}
+use Rattle.gx_model.specs.RowTexts.{acceptance, history_after, history_of_lines, imported_lines, imported_to, refusal, shown}
 
 -- one commit on main with these changes
 abbrev on_main : List Bytes → List Bytes
@@ -73,6 +74,20 @@ three_entries =
     ∷ record { mode = Dir; component = codes "a"; name = replicate 18 17 ++ 1 ∷ 36 ∷ [] }
     ∷ record { mode = File; component = codes "a0"; name = short_name Blob hello } ∷ []
 
+-- the second entry before the first: the order of plain components
+abbrev in_component_order : List Entry → List Entry
+in_component_order (e ∷ f ∷ es) = f ∷ e ∷ es
+in_component_order es = es
+
+abbrev test_files : FileMap Bytes
+test_files = (codes "test.txt" ∷ [], (File, version_1)) ∷ []
+
+abbrev two_files : FileMap Bytes
+two_files = (codes "a" ∷ codes "test.txt" ∷ [], (File, version_1)) ∷ (codes "a0" ∷ [], (File, hello)) ∷ []
+
+abbrev two_files_made : Commit
+two_files_made = commit two_files none (record { author = codes "A <a@x> 1 +0000"; committer = codes "A <a@x> 1 +0000"; encoding = None; message = [] })
+
 -- the tree of main after a commit with these changes
 abbrev main_tree : List Bytes → Given Shown
 main_tree changes = shown (history_of_lines (on_main changes)) (codes "main^{tree}")
@@ -85,13 +100,16 @@ pub record TreeRows : Type 0 where
   pub any_order : map main_tree six_orders ≡ replicate 6 (of_tree three_files)
   -- a directory stands among the entries as if its name ended in a slash
   pub slash_order : entries short_name (named_map short_name three_files) ≡ three_entries
+  pub canonical : map is_canonical (three_entries ∷ in_component_order three_entries ∷ []) ≡ true ∷ false ∷ []
+  -- what a commit lacks is added first: blobs as they come, then each tree after those below it
+  pub below_first : (history_of_lines (on_main (file_below_a ++ file_a0))).values ≡ blob_value version_1 ∷ blob_value hello ∷ tree_value test_files ∷ tree_value two_files ∷ commit_value two_files_made ∷ []
   -- a directory goes with its last file: the tree is the empty one
   pub no_empty_directory : main_tree (codes "M 100644 inline d/e/f" ∷ codes "data 0" ∷ codes "D d/e/f" ∷ []) ≡ of_tree []
   pub empty_tree : body_of short_name (tree_value []) ≡ []
 
 pub tree_rows : TreeRows
-unfolding char_at unsigned_in item_after_in rest_line_in block_in cut_at is_ident unquote_within quoted_of mark_of commit_ish_of last_path source_path modify_at two_paths change_at changes_within merges_within blob_at commit_at links_at tag_at reset_at command_at commands_within counted_block lines_before delimited first_line first_of read_upto items_of digits revision_of imported denoted
-tree_rows = record { any_order = refl; slash_order = refl; no_empty_directory = refl; empty_tree = refl }
+unfolding char_at unsigned_in item_after_in rest_line_in block_in cut_at is_ident unquote_within quoted_of mark_of commit_ish_of last_path source_path modify_at two_paths change_at changes_within merges_within blob_at commit_at links_at tag_at reset_at command_at commands_within counted_block lines_before delimited first_line first_of read_upto items_of digits revision_of imported denoted short_name
+tree_rows = record { any_order = refl; slash_order = refl; canonical = refl; below_first = refl; no_empty_directory = refl; empty_tree = refl }
 
 -- ---- copies and renames
 
@@ -125,6 +143,13 @@ below_a = on_main (codes "M 644 inline a" ∷ codes "data 6" ∷ codes "hello" �
 abbrev moved_below_itself : History
 moved_below_itself = history_of_lines (below_a ++ next_commit (codes "R a a/c" ∷ []))
 
+-- a file below `e` whose path has 4,095 bytes
+abbrev long_below_e : FileMap Bytes
+long_below_e = (codes "e" ∷ replicate 4093 97 ∷ [], (File, [])) ∷ []
+
+abbrev long_below_d : FileMap Bytes
+long_below_d = (codes "d" ∷ replicate 4093 97 ∷ [], (File, [])) ∷ []
+
 pub record CopyRows : Type 0 where
   -- what each change makes of the files `a` and `d/x`
   pub table : map (λ r. after_change r.0) copies ≡ map (λ r. r.1) copies
@@ -137,10 +162,13 @@ pub record CopyRows : Type 0 where
   pub before : shown moved_below_itself (codes "main~1:a/b") ≡ Ok (object (blob_value version_1))
   -- a rename to the same path changes nothing
   pub renamed_to_itself : shown (history_of_lines (below_a ++ next_commit (codes "R a a" ∷ []))) (codes "main^{tree}") ≡ of_tree ((codes "a" ∷ codes "b" ∷ [], (File, version_1)) ∷ [])
+  -- a path may have 4,095 bytes and no more, as it is read and after a move
+  pub long_path : map path_of (replicate 4095 97 ∷ replicate 4096 97 ∷ []) ≡ Ok (replicate 4095 97 ∷ []) ∷ Err fault.PathTooLong ∷ []
+  pub long_move : map (λ c. renamed long_below_e (codes "e" ∷ []) (c ∷ [])) (codes "d" ∷ codes "dd" ∷ []) ≡ Ok long_below_d ∷ Err fault.PathTooLong ∷ []
 
 pub copy_rows : CopyRows
-unfolding char_at unsigned_in item_after_in rest_line_in block_in cut_at is_ident unquote_within quoted_of mark_of commit_ish_of last_path source_path modify_at two_paths change_at changes_within merges_within blob_at commit_at links_at tag_at reset_at command_at commands_within counted_block lines_before delimited first_line first_of read_upto items_of digits revision_of imported denoted
-copy_rows = record { table = refl; no_root = refl; file_gives_way = refl; moved = refl; before = refl; renamed_to_itself = refl }
+unfolding char_at unsigned_in item_after_in rest_line_in block_in cut_at is_ident unquote_within quoted_of mark_of commit_ish_of last_path source_path modify_at two_paths change_at changes_within merges_within blob_at commit_at links_at tag_at reset_at command_at commands_within counted_block lines_before delimited first_line first_of read_upto items_of digits revision_of imported denoted short_name
+copy_rows = record { table = refl; no_root = refl; file_gives_way = refl; moved = refl; before = refl; renamed_to_itself = refl; long_path = refl; long_move = refl }
 
 -- ---- the end of an import
 
@@ -171,7 +199,7 @@ pub record EndRows : Type 0 where
   pub progress_so_far : imported_lines (codes "progress half" ∷ codes "foo" ∷ []) ≡ refused 2 fault.UnknownCommand (codes "progress half" ++ 10 ∷ [])
 
 pub end_rows : EndRows
-unfolding char_at unsigned_in item_after_in rest_line_in block_in cut_at is_ident unquote_within quoted_of mark_of commit_ish_of last_path source_path modify_at two_paths change_at changes_within merges_within blob_at commit_at links_at tag_at reset_at command_at commands_within counted_block lines_before delimited first_line first_of read_upto items_of digits revision_of imported denoted
+unfolding char_at unsigned_in item_after_in rest_line_in block_in cut_at is_ident unquote_within quoted_of mark_of commit_ish_of last_path source_path modify_at two_paths change_at changes_within merges_within blob_at commit_at links_at tag_at reset_at command_at commands_within counted_block lines_before delimited first_line first_of read_upto items_of digits revision_of imported denoted short_name
 end_rows = record { not_forward = refl; forward = refl; from_itself = refl; merge_of_itself = refl; forced = refl; missing_done = refl; late_option = refl; progress = refl; one_commit = refl; progress_so_far = refl }
 
 -- ---- refusals
@@ -197,5 +225,5 @@ refusals =
     ∷ []
 
 pub refused_so : map (λ r. refusal (imported_lines r.0)) refusals ≡ map (λ r. Some r.1) refusals
-unfolding char_at unsigned_in item_after_in rest_line_in block_in cut_at is_ident unquote_within quoted_of mark_of commit_ish_of last_path source_path modify_at two_paths change_at changes_within merges_within blob_at commit_at links_at tag_at reset_at command_at commands_within counted_block lines_before delimited first_line first_of read_upto items_of digits revision_of imported denoted
+unfolding char_at unsigned_in item_after_in rest_line_in block_in cut_at is_ident unquote_within quoted_of mark_of commit_ish_of last_path source_path modify_at two_paths change_at changes_within merges_within blob_at commit_at links_at tag_at reset_at command_at commands_within counted_block lines_before delimited first_line first_of read_upto items_of digits revision_of imported denoted short_name
 refused_so = refl

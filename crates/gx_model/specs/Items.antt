@@ -24,6 +24,7 @@ pub record Stream : Type 0 where
   pub items : List Item
   pub end : End
 
+-- the byte LF
 abbrev pub is_lf : ℕ → Bool
 is_lf b = b == 10
 
@@ -35,6 +36,7 @@ line_len text = position_or_len is_lf text
 abbrev pub cut_off : Bool → End
 cut_off fails = if fails then Failed ReadFailed else Failed TruncatedData
 
+-- the end of a text that an end follows, or a failure
 abbrev pub end_of : Bool → End
 end_of fails = if fails then Failed ReadFailed else Finished
 
@@ -44,6 +46,7 @@ pub data First : Type 0 where
   drops : Bytes → First
   ends : End → First
 
+-- what is left after an LF that may stand first
 abbrev pub without_lf : Bytes → Bytes
 without_lf [] = []
 without_lf (b ∷ bs) = if is_lf b then bs else b ∷ bs
@@ -57,10 +60,12 @@ unfoldable pub counted_block : ℕ → Bytes → Bool → First
 counted_block n rest fails =
     if nat_lt (length rest) n || (fails && nat_eq (length rest) n) then ends (cut_off fails) else takes (Data (take n rest)) (without_lf (drop n rest))
 
+-- the block of a count, or BadNumber
 abbrev pub counted : Option ℕ → Bytes → Bool → First
 counted None rest fails = ends (Failed BadNumber)
 counted (Some n) rest fails = counted_block n rest fails
 
+-- one line more before the delimiter
 abbrev pub with_line : Bytes → Option (Bytes × Bytes) → Option (Bytes × Bytes)
 with_line l o = option_map (λ p. (l ++ 10 ∷ p.0, p.1)) o
 
@@ -72,10 +77,12 @@ lines_before (suc n) delimiter text fails =
     else (if bytes_eq (take (line_len text) text) delimiter then Some ([], drop (line_len text + 1) text)
     else with_line (take (line_len text) text) (lines_before n delimiter (drop (line_len text + 1) text) fails))
 
+-- the block before a delimiter line, or the end where there is none
 abbrev pub delimited_by : Option (Bytes × Bytes) → Bool → First
 delimited_by None fails = ends (cut_off fails)
 delimited_by (Some p) fails = if fails && nat_eq (length p.1) 0 then ends (cut_off fails) else takes (Data p.0) (without_lf p.1)
 
+-- the block up to a delimiter line
 unfoldable pub delimited : Bytes → Bytes → Bool → First
 delimited delimiter rest fails = delimited_by (lines_before (suc (length rest)) delimiter rest fails) fails
 
@@ -83,15 +90,18 @@ delimited delimiter rest fails = delimited_by (lines_before (suc (length rest)) 
 abbrev pub announced : Bytes → Bytes → Bool → First
 announced x rest fails = if starts_with nat_eq x (codes "<<") then delimited (drop 2 x) rest fails else counted (decimal_of x) rest fails
 
+-- what a line begins: a comment, a block, or a line item
 unfoldable pub first_line : Bytes → Bytes → Bool → First
 first_line l rest fails =
     if starts_with nat_eq l (codes "#") then drops rest
     else (if starts_with nat_eq l (codes "data ") then announced (drop 5 l) rest fails else takes (Line l) rest)
 
+-- what a text begins with
 unfoldable pub first_of : Bytes → Bool → First
 first_of text fails =
     if has_no_line text fails then ends (end_of fails) else first_line (take (line_len text) text) (drop (line_len text + 1) text) fails
 
+-- an item, and then these
 abbrev pub then_comes : Item → Stream → Stream
 then_comes i s = record { items = i ∷ s.items; end = s.end }
 

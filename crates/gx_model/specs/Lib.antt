@@ -26,6 +26,8 @@ pub mod Ranges
 pub mod Replay
 pub mod Export
 pub mod StoreText
+pub mod RecordFaults
+pub mod StoreReading
 pub mod FileMapLaws
 pub mod ObjectLaws
 pub mod HistoryLaws
@@ -38,3 +40,4 @@ pub mod RowTexts
 pub mod ImportRows
 pub mod RevisionRows
 pub mod ExportRows
+pub mod StoreRows

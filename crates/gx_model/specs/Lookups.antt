@@ -1,4 +1,5 @@
 -- What refs, digits and names find among records.
+-- Source: gitrevisions(7), "Specifying Revisions".
 use Rattle.std.specs.Prelude.{List, [], ◌∷◌, Option, None, Some}
 use Rattle.std.specs.List.{filter}
 use Rattle.std.specs.Map.{lookup}
@@ -12,6 +13,7 @@ use Rattle.gx_model.specs.HistoryOf.{tag_parts_in}
 use Rattle.gx_model.specs.Growth.{record_named}
 use Rattle.gx_model.specs.Denotation.{begins_with_digits}
 
+-- the first of two that is there
 abbrev pub or_else : Option Bytes → Option Bytes → Option Bytes
 or_else (Some n) o = Some n
 or_else None o = o
@@ -31,6 +33,7 @@ commit_of_record kind.Commit n body = Some n
 commit_of_record kind.Tag n body = Some (tag_parts_in body).object
 commit_of_record _ n body = None
 
+-- the commit that a commit or a tag of this name gives
 abbrev pub commit_named : List Record → Bytes → Option Bytes
 commit_named rs n = elim (record_named rs n) [ None ↦ None | Some r ↦ commit_of_record r.kind r.name r.body ]
 

@@ -1,5 +1,5 @@
 -- How objects get their names. Source: Pro Git, "Git Objects", and FIPS 180-4.
-use Rattle.std.specs.Prelude.{ℕ, ◌%◌, ◌&&◌, nat_eq, if◌then◌else◌, List, [], ◌∷◌, ◌++◌, length, map, codes, decimal, replicate, Option, Some, None}
+use Rattle.std.specs.Prelude.{ℕ, ◌%◌, ◌&&◌, nat_eq, if◌then◌else◌, [], ◌∷◌, ◌++◌, length, map, codes, decimal, replicate, Option, Some, None}
 use Rattle.std.specs.List.{list_all}
 use Rattle.gx_model.specs.declared.objects.Kind.{Kind}
 use Rattle.gx_model.specs.declared.objects.Kind.TheVariants.{Blob, Tree, Commit, Tag}
@@ -8,6 +8,7 @@ use Rattle.gx_model.specs.Values.{is_name_text}
 use Rattle.gx_model.specs.Objects.{unhex}
 use Rattle.gx_model.specs.Denotation.{is_any_digit, lower}
 
+-- the word of a kind
 abbrev pub kind_word : Kind → Bytes
 kind_word Blob = codes "blob"
 kind_word Tree = codes "tree"
@@ -18,6 +19,7 @@ kind_word Tag = codes "tag"
 unfoldable pub record_text : Kind → Bytes → Bytes
 record_text kind body = kind_word kind ++ 32 ∷ decimal (length body) ++ 0 ∷ body
 
+-- a number for each kind
 abbrev pub kind_number : Kind → ℕ
 kind_number Blob = 0
 kind_number Tree = 1

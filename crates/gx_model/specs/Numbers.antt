@@ -9,5 +9,6 @@ use Rattle.gx_model.specs.Texts.{Bytes}
 abbrev pub is_number : Bytes → Bool
 is_number ds = list_all is_ascii_digit ds && nat_lt 0 (length ds) && nat_lt (digits_value 10 ds) (2 ^ 64)
 
+-- the number that a text writes in decimal, where it is one
 abbrev pub decimal_of : Bytes → Option ℕ
 decimal_of ds = if is_number ds then Some (digits_value 10 ds) else None

@@ -16,9 +16,11 @@ use Rattle.gx_model.specs.Texts.{Bytes, same_bytes}
 abbrev pub Path : Type 0
 Path = List Bytes
 
+-- whether two paths are equal
 abbrev pub same_path : Path → Path → Bool
 same_path = pointwise same_bytes
 
+-- each number of a text is a byte
 abbrev pub AreBytes : Bytes → Type 0
 AreBytes text = AllByRecursion (λ x. x < 256) text
 
@@ -58,6 +60,7 @@ abbrev pub parts_of : Bytes → Path
 parts_of [] = []
 parts_of (b ∷ bs) = slice_split (λ x. x == 47) (b ∷ bs)
 
+-- the path that a text gives: BadPath is told before PathTooLong
 abbrev pub path_of : Bytes → Result (Path) Fault
 path_of bs =
     if list_all is_component (parts_of bs) then (if nat_le (length bs) 4095 then Ok (parts_of bs) else Err faults.PathTooLong)
@@ -71,6 +74,7 @@ pub record IsPathOf (text : Bytes) (p : Path) : Type 0 where
 
 -- ---- quoted texts
 
+-- whether a text begins with a quote
 abbrev pub is_quoted : Bytes → Bool
 is_quoted [] = false
 is_quoted (b ∷ bs) = b == 34
@@ -81,6 +85,7 @@ named c =
     if c == 97 then Some 7 else (if c == 98 then Some 8 else (if c == 102 then Some 12 else (if c == 110 then Some 10 else (if c == 114 then Some 13
     else (if c == 116 then Some 9 else (if c == 118 then Some 11 else (if c == 92 then Some 92 else (if c == 34 then Some 34 else None))))))))
 
+-- an octal digit
 abbrev pub is_octal : ℕ → Bool
 is_octal d = nat_le 48 d && nat_le d 55
 
@@ -103,6 +108,7 @@ char_at (b ∷ bs) =
     else (if b == 92 then option_map (λ x. (Some x.0, x.1)) (escape_at bs)
     else (if b == 10 || b == 0 then None else Some (Some b, bs)))
 
+-- one byte more before what is read, or the closing quote
 abbrev pub with_char : Option ℕ → Bytes → Option (Bytes × Bytes) → Option (Bytes × Bytes)
 with_char None rest more = Some ([], rest)
 with_char (Some b) rest more = option_map (λ p. (b ∷ p.0, p.1)) more
@@ -112,6 +118,7 @@ unfoldable pub unquote_within : ℕ → Bytes → Option (Bytes × Bytes)
 unquote_within zero bs = None
 unquote_within (suc n) bs = option_and_then (λ x. with_char x.0 x.1 (unquote_within n x.1)) (char_at bs)
 
+-- what is read, or BadPath
 abbrev pub or_bad_path : {A : Type 0} → Option A → Result A Fault
 or_bad_path None = Err faults.BadPath
 or_bad_path (Some x) = Ok x
@@ -121,10 +128,12 @@ abbrev pub unquote : Bytes → Option (Bytes × Bytes)
 unquote [] = None
 unquote (b ∷ bs) = if b == 34 then unquote_within (length bs) bs else None
 
+-- a path, with what follows it
 abbrev pub with_rest : Bytes → Result (Path) Fault → Result (Path × Bytes) Fault
 with_rest rest (Ok cs) = Ok (cs, rest)
 with_rest rest (Err e) = Err e
 
+-- the path of the bytes between quotes, with what follows them
 abbrev pub path_at : Option (Bytes × Bytes) → Result (Path × Bytes) Fault
 path_at None = Err faults.BadPath
 path_at (Some p) = with_rest p.1 (path_of p.0)
@@ -162,18 +171,23 @@ letter_of x =
     if x == 7 then Some 97 else (if x == 8 then Some 98 else (if x == 12 then Some 102 else (if x == 10 then Some 110 else (if x == 13 then Some 114
     else (if x == 9 then Some 116 else (if x == 11 then Some 118 else (if x == 92 then Some 92 else (if x == 34 then Some 34 else None))))))))
 
+-- a byte that needs no quotes where it is printed
 abbrev pub is_printed_bare : ℕ → Bool
 is_printed_bare x = nat_le 32 x && nat_lt x 127 && not (x == 34) && not (x == 92)
 
+-- the three octal digits of a byte
 abbrev pub octal_digits : ℕ → Bytes
 octal_digits x = (48 + x / 8 / 8) ∷ (48 + x / 8 % 8) ∷ (48 + x % 8) ∷ []
 
+-- a byte as an escape: by its letter, or in octal
 abbrev pub escaped : ℕ → Option ℕ → Bytes
 escaped x None = 92 ∷ octal_digits x
 escaped x (Some letter) = 92 ∷ letter ∷ []
 
+-- a byte between quotes
 abbrev pub printed_byte : ℕ → Bytes
 printed_byte x = if is_printed_bare x then x ∷ [] else escaped x (letter_of x)
 
+-- the printed form of a path: quoted where a byte needs it
 abbrev pub printed : Bytes → Bytes
 printed text = if list_all is_printed_bare text then text else 34 ∷ flat_map printed_byte text ++ 34 ∷ []

@@ -20,6 +20,7 @@ abbrev mutual
   pub reaches : Commit → Commit → Bool
   reaches (commit f ps t) d = same_commit (commit f ps t) d || some_reaches ps d
 
+  -- whether one of these commits reaches another
   pub some_reaches : Commits → Commit → Bool
   some_reaches none d = false
   some_reaches (more c cs) d = reaches c d || some_reaches cs d
@@ -31,9 +32,11 @@ pub record Span : Type 0 where
   pub included : Commit → Bool
   pub excluded : Commit → Bool
 
+-- no commit
 abbrev pub nothing : Commit → Bool
 nothing c = false
 
+-- a range word, with its commits
 pub data Word : Type 0 where
   -- r, ^r, a..b, a...b
   with_ancestors : Commit → Word
@@ -45,6 +48,7 @@ pub data Word : Type 0 where
   alone : Commit → Word
   without_one : Commit → Commit → Word
 
+-- what a word includes and excludes
 abbrev pub span : Word → Span
 span (with_ancestors r) = record { included = reaches r; excluded = nothing }
 span (without_ancestors r) = record { included = nothing; excluded = reaches r }
@@ -54,6 +58,7 @@ span (all_parents r) = record { included = some_reaches (parents_of r); excluded
 span (alone r) = record { included = reaches r; excluded = some_reaches (parents_of r) }
 span (without_one r p) = record { included = reaches r; excluded = reaches p }
 
+-- the commit of a value that is one
 abbrev pub commit_of : Value → Option Commit
 commit_of (commit_value c) = Some c
 commit_of _ = None
@@ -70,6 +75,7 @@ pub record WordFault : Type 0 where
   pub word : ℕ
   pub fault : Fault
 
+-- a fault, with the number of its word
 abbrev pub at_word : {A : Type 0} → ℕ → Given A → Result A WordFault
 at_word n (Ok x) = Ok x
 at_word n (Err f) = Err (record { word = n; fault = f })
@@ -96,6 +102,7 @@ module _ (name : Kind → Bytes → Bytes) where
   word_denoted h (Alone r) = commit_denoted name h r >>= λ c. Ok (alone c)
   word_denoted h (WithoutOne r n) = commit_denoted name h r >>= λ c. nth_parent n c >>= λ p. Ok (without_one c p)
 
+  -- what range words give, or the first fault with its word's number
   abbrev pub words_denoted : History → List RangeWord → Result (List Word) WordFault
   words_denoted h ws = each_word (word_denoted h) ws
 

@@ -1,4 +1,4 @@
--- The canonical record of a value: its kind and body, and the name of these.
+-- The canonical record of a value: its kind and body, and the name of these. Source: Pro Git, "Git Objects".
 use Rattle.std.specs.Prelude.{ℕ, zero, suc, List, [], ◌∷◌, map, Option, None, Some, codes}
 use Rattle.std.specs.List.{flat_map}
 use Rattle.gx_model.specs.declared.objects.Kind.{Kind}
@@ -18,59 +18,68 @@ module _ (name : Kind → Bytes → Bytes) where
 
   -- names in place of contents
   abbrev pub named_map : FileMap Bytes → FileMap Bytes
-  named_map f = map (λ e. (e.0, (e.1.0, content_name e.1.0 e.1.1))) f
+  named_map files = map (λ entry. (entry.0, (entry.1.0, content_name entry.1.0 entry.1.1))) files
 
   -- what an entry is and names: a file, or else the directory of this name
   abbrev pub node : Option (Leaf Bytes) → Bytes → Leaf Bytes
-  node (Some x) n = x
-  node None n = (Dir, n)
+  node (Some leaf) tree = leaf
+  node None tree = (Dir, tree)
 
+  -- the entry of a component
   abbrev pub entry : Bytes → Leaf Bytes → Entry
-  entry c x = record { mode = x.0; component = c; name = x.1 }
+  entry component leaf = record { mode = leaf.0; component = component; name = leaf.1 }
 
   -- the entries of a map of names are its first components, a directory by this name of its sub-map
   abbrev pub tree_entries : (FileMap Bytes → Bytes) → FileMap Bytes → List Entry
-  tree_entries dir_name f = map (λ c. entry c (node (file_at f (c ∷ [])) (dir_name (sub_map f (c ∷ []))))) (first_components f)
+  tree_entries dir_name files = map (λ component. entry component (node (file_at files (component ∷ [])) (dir_name (sub_map files (component ∷ []))))) (first_components files)
 
   -- the entries of a map of names whose directories are nested at most n deep
   abbrev pub entries_to : ℕ → FileMap Bytes → List Entry
-  entries_to zero f = tree_entries (λ g. name kind.Tree []) f
-  entries_to (suc n) f = tree_entries (λ g. name kind.Tree (tree_text (entries_to n g))) f
+  entries_to zero files = tree_entries (λ below. name kind.Tree []) files
+  entries_to (suc n) files = tree_entries (λ below. name kind.Tree (tree_text (entries_to n below))) files
 
+  -- the entries of a map of names
   abbrev pub entries : FileMap Bytes → List Entry
-  entries f = entries_to (depth f) f
+  entries files = entries_to (depth files) files
 
+  -- the body of a map of names
   abbrev pub tree_body : FileMap Bytes → Bytes
-  tree_body f = tree_text (entries f)
+  tree_body files = tree_text (entries files)
 
+  -- the name of a file map
   abbrev pub tree_name : FileMap Bytes → Bytes
-  tree_name f = name kind.Tree (tree_body (named_map f))
+  tree_name files = name kind.Tree (tree_body (named_map files))
 
   abbrev mutual
     pub commit_body : Commit → Bytes
-    commit_body (commit f ps t) = commit_text (record { tree = tree_name f; parents = names_of ps; text = t })
+    commit_body (commit files parents text) = commit_text (record { tree = tree_name files; parents = names_of parents; text = text })
 
     pub names_of : Commits → List Bytes
     names_of none = []
     names_of (more c cs) = name kind.Commit (commit_body c) ∷ names_of cs
 
+  -- the parent lines of a commit
   abbrev pub parent_lines : Commits → Bytes
-  parent_lines ps = flat_map (λ n. line (codes "parent") (hex n)) (names_of ps)
+  parent_lines parents = flat_map (λ parent. line (codes "parent") (hex parent)) (names_of parents)
 
+  -- the body of a tag
   abbrev pub tag_body : Tag → Bytes
-  tag_body t = tag_text (record { object = name kind.Commit (commit_body t.target); name = t.name; tagger = t.tagger; message = t.message })
+  tag_body tag = tag_text (record { object = name kind.Commit (commit_body tag.target); name = tag.name; tagger = tag.tagger; message = tag.message })
 
+  -- the kind of a value
   abbrev pub kind_of : Value → Kind
-  kind_of (blob_value x) = kind.Blob
-  kind_of (tree_value f) = kind.Tree
-  kind_of (commit_value c) = kind.Commit
-  kind_of (tag_value t) = kind.Tag
+  kind_of (blob_value bytes) = kind.Blob
+  kind_of (tree_value files) = kind.Tree
+  kind_of (commit_value revision) = kind.Commit
+  kind_of (tag_value tag) = kind.Tag
 
+  -- the body of a value
   abbrev pub body_of : Value → Bytes
-  body_of (blob_value x) = x
-  body_of (tree_value f) = tree_body (named_map f)
-  body_of (commit_value c) = commit_body c
-  body_of (tag_value t) = tag_body t
+  body_of (blob_value bytes) = bytes
+  body_of (tree_value files) = tree_body (named_map files)
+  body_of (commit_value revision) = commit_body revision
+  body_of (tag_value tag) = tag_body tag
 
+  -- the name of a value
   abbrev pub name_of : Value → Bytes
-  name_of v = name (kind_of v) (body_of v)
+  name_of value = name (kind_of value) (body_of value)

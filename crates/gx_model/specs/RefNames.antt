@@ -16,6 +16,7 @@ is_ref_component c = not (length c == 0) && not (starts_with nat_eq c (codes "."
 abbrev pub ref_components : Bytes → List Bytes
 ref_components bs = slice_split (λ b. b == 47) bs
 
+-- whether a text is a ref name
 abbrev pub is_ref_name : Bytes → Bool
 is_ref_name n = list_all is_ref_component (ref_components n) && list_all is_ref_byte n
     && not (has_pair 46 46 n) && not (has_pair 64 123 n) && not (ends_with nat_eq n (codes ".")) && not (bytes_eq n (codes "@"))
@@ -24,5 +25,6 @@ is_ref_name n = list_all is_ref_component (ref_components n) && list_all is_ref_
 abbrev pub tag_ref : Bytes → Bytes
 tag_ref n = codes "refs/tags/" ++ n
 
+-- whether a text is a tag name: it makes a ref name
 abbrev pub is_tag_name : Bytes → Bool
 is_tag_name n = is_ref_name (tag_ref n)

@@ -29,12 +29,14 @@ use Rattle.gx_model.specs.Histories.{History, Target, at_commit, at_tag, with_va
 use Rattle.gx_model.specs.Denotation.{base_value, commit_in, lower, ref_at, value_denoted}
 use Rattle.gx_model.specs.Ranges.{reaches}
 
+-- a text, or another where there is none
 abbrev pub or_else : Option Bytes → Bytes → Bytes
 or_else None x = x
 or_else (Some y) x = y
 
 -- ---- the state of a replay
 
+-- what a replay has made so far
 pub record State : Type 0 where
   -- the values so far, with the refs as at the start
   pub history : History
@@ -49,49 +51,60 @@ pub record State : Type 0 where
   -- how many values there were at the start
   pub held : ℕ
 
+-- a replay that begins with this history
 abbrev pub start : History → State
 start h = record { history = h; marks = []; branches = []; tags = []; is_forced = false; progress = []; held = length h.values }
 
+-- the byte order of texts
 abbrev pub byte_cmp : Bytes → Bytes → Ordering
 byte_cmp = slice_cmp nat_cmp
 
+-- a value added to the history
 abbrev pub added : Value → State → State
 added v s = record s { history = record { values = with_value s.history.values v; refs = s.history.refs } }
 
+-- a mark set, where one is asked for
 abbrev pub marked : Option ℕ → Value → State → State
 marked None v s = s
 marked (Some n) v s = record s { marks = (n, v) ∷ s.marks }
 
+-- a branch at a commit, or at none
 abbrev pub on_branch : Bytes → Option Commit → State → State
 on_branch n c s = record s { branches = put byte_cmp n c s.branches }
 
 -- ---- what a commit-ish gives
 
+-- a value, or UnknownMark
 abbrev pub ok_or_mark : Option Value → Result Value Fault
 ok_or_mark None = Err fault.UnknownMark
 ok_or_mark (Some v) = Ok v
 
+-- the value of a mark
 abbrev pub at : State → ℕ → Result Value Fault
 at s n = ok_or_mark (lookup (nat_eq n) s.marks)
 
--- for a tag: no tag of a tag
+-- a commit or a reset peels a tag (`commit_in`); the target of a tag is a commit itself
 abbrev pub commit_alone : Value → Result Commit Fault
 commit_alone (commit_value c) = Ok c
 commit_alone _ = Err fault.WrongKind
 
+-- the commit that a ref holds, or that its tag names
 abbrev pub peeled_at : Target → Commit
 peeled_at (at_commit c) = c
 peeled_at (at_tag t) = t.target
 
 -- ---- the end
 
+-- the new commit of a branch has the old one of its ref as an ancestor, or is that
 abbrev pub is_forward : Option Target → Option Commit → Bool
 is_forward (Some old) (Some new) = reaches new (peeled_at old)
 is_forward _ _ = true
 
+-- each branch is forward, or `force` was asked for
 abbrev pub is_fast_forward : State → Bool
 is_fast_forward s = s.is_forced || list_all (λ b. is_forward (ref_at s.history b.0) b.1) s.branches
 
+-- refs overwritten by a branch with a commit
 abbrev pub with_branch : List (Bytes × Target) → Bytes × Option Commit → List (Bytes × Target)
 with_branch rs b = elim b.1 [ None ↦ rs | Some c ↦ put byte_cmp b.0 (at_commit c) rs ]
 
@@ -99,9 +112,11 @@ with_branch rs b = elim b.1 [ None ↦ rs | Some c ↦ put byte_cmp b.0 (at_comm
 abbrev pub overwritten : State → List (Bytes × Target) → List (Bytes × Target)
 overwritten s refs = fold (λ rs t. put byte_cmp t.0 (at_tag t.1) rs) (fold with_branch refs s.branches) s.tags
 
+-- the refs at the end: the old ones, then the branches, then the tags
 abbrev pub final_refs : State → List (Bytes × Target)
 final_refs s = overwritten s s.history.refs
 
+-- the history at the end
 abbrev pub final : State → History
 final s = record { values = s.history.values; refs = final_refs s }
 
@@ -131,14 +146,17 @@ module _ (name : Kind → Bytes → Bytes) (read : Bytes → Result Revision Fau
   abbrev pub revision_value : State → Bytes → Result Value Fault
   revision_value s x = and_then (read x) (λ r. value_denoted name s.history r)
 
+  -- a branch's commit, or EmptyBranch
   abbrev pub branch_commit : Option Commit → Result Commit Fault
   branch_commit None = Err fault.EmptyBranch
   branch_commit (Some c) = Ok c
 
+  -- a branch of this name, and otherwise what comes next
   abbrev pub or_branch : Option (Option Commit) → Result Commit Fault → Result Commit Fault
   or_branch None r = r
   or_branch (Some c) r = branch_commit c
 
+  -- the commit that is named: a branch, a mark or a revision
   abbrev pub committed : (Value → Result Commit Fault) → State → CommitIsh → Result Commit Fault
   committed kind s (Marked n) = and_then (at s n) kind
   committed kind s (Named x) = or_branch (lookup (same_bytes x) s.branches) (and_then (revision_value s x) kind)
@@ -148,15 +166,18 @@ module _ (name : Kind → Bytes → Bytes) (read : Bytes → Result Revision Fau
   is_itself b (Marked n) = false
   is_itself b (Named x) = same_bytes b x
 
+  -- the same for a command of a branch, which may not name itself
   abbrev pub committed_for : Bytes → State → CommitIsh → Result Commit Fault
   committed_for b s x = if is_itself b x then Err fault.FromItself else committed commit_in s x
 
+  -- the commits that are named, or the first fault
   abbrev pub all_committed : Bytes → State → List CommitIsh → Result (List Commit) Fault
   all_committed b s [] = Ok []
   all_committed b s (x ∷ xs) = and_then (committed_for b s x) (λ c. and_then (all_committed b s xs) (λ cs. Ok (c ∷ cs)))
 
   -- ---- changes: the state, where inline bytes are added, and the files
 
+  -- the bytes of a blob
   abbrev pub blob_bytes : Value → Result Bytes Fault
   blob_bytes (blob_value x) = Ok x
   blob_bytes _ = Err fault.WrongKind
@@ -168,6 +189,7 @@ module _ (name : Kind → Bytes → Bytes) (read : Bytes → Result Revision Fau
   content s m (Object x) = and_then (base_value name s.history x) (λ v. and_then (blob_bytes v) (λ y. Ok (s, y)))
   content s m (Inline x) = Ok (added (blob_value x) s, x)
 
+  -- what one change makes of the files
   abbrev pub changed : State → FileMap Bytes → Change → Result (State × FileMap Bytes) Fault
   changed s f (Modify m d p) = and_then (content s m d) (λ r. and_then (modified f p (m, r.1)) (λ g. Ok (r.0, g)))
   changed s f (Remove p) = Ok (s, removed f p)
@@ -175,6 +197,7 @@ module _ (name : Kind → Bytes → Bytes) (read : Bytes → Result Revision Fau
   changed s f (Rename p q) = and_then (renamed f p q) (λ g. Ok (s, g))
   changed s f Clear = Ok (s, [])
 
+  -- what changes make of the files, in order
   abbrev pub all_changed : State → FileMap Bytes → List Change → Result (State × FileMap Bytes) Fault
   all_changed s f [] = Ok (s, f)
   all_changed s f (c ∷ cs) = and_then (changed s f c) (λ r. all_changed r.0 r.1 cs)
@@ -186,6 +209,7 @@ module _ (name : Kind → Bytes → Bytes) (read : Bytes → Result Revision Fau
   own_commit (Some c) = c
   own_commit None = None
 
+  -- the first parent of a commit
   abbrev pub first_parent : State → CommitParts → Result (Option Commit) Fault
   first_parent s c = elim c.parent [
     | None ↦ Ok (own_commit (lookup (same_bytes c.ref) s.branches))
@@ -196,17 +220,21 @@ module _ (name : Kind → Bytes → Bytes) (read : Bytes → Result Revision Fau
   abbrev pub text_made : CommitParts → CommitText
   text_made c = record { author = or_else c.author c.committer; committer = c.committer; encoding = c.encoding; message = c.message }
 
+  -- the files that a commit starts from
   abbrev pub starting_files : Option Commit → FileMap Bytes
   starting_files None = []
   starting_files (Some c) = files_of c
 
+  -- the first parent, where there is one, and the others
   abbrev pub with_first_parent : Option Commit → List Commit → List Commit
   with_first_parent None cs = cs
   with_first_parent (Some c) cs = c ∷ cs
 
+  -- a commit added, marked and put on its branch
   abbrev pub committed_to : CommitParts → Commit → State → State
   committed_to c v s = on_branch c.ref (Some v) (marked c.mark (commit_value v) (added (commit_value v) s))
 
+  -- what a commit command does
   abbrev pub step_commit : State → CommitParts → Result State Fault
   step_commit s c =
       and_then (first_parent s c) (λ first.
@@ -214,6 +242,7 @@ module _ (name : Kind → Bytes → Bytes) (read : Bytes → Result Revision Fau
       and_then (all_changed s (starting_files first) c.changes) (λ r.
       Ok (committed_to c (commit r.1 (commits_of (with_first_parent first others)) (text_made c)) r.0))))
 
+  -- what a tag command does
   abbrev pub step_tag : State → TagParts → Result State Fault
   step_tag s t =
       and_then (committed commit_alone s t.target) (λ c.
@@ -221,10 +250,12 @@ module _ (name : Kind → Bytes → Bytes) (read : Bytes → Result Revision Fau
       let s' : State = marked t.mark (tag_value v) (added (tag_value v) s) in
       Ok (record s' { tags = put byte_cmp (tag_ref t.name) v s'.tags }))
 
+  -- what a reset command does
   abbrev pub step_reset : State → Bytes → Option CommitIsh → Result State Fault
   step_reset s b None = Ok (on_branch b None s)
   step_reset s b (Some x) = and_then (committed_for b s x) (λ c. Ok (on_branch b (Some c) s))
 
+  -- what one command does
   abbrev pub step : State → Command → Result State Fault
   step s (Blob b) = Ok (marked b.mark (blob_value b.bytes) (added (blob_value b.bytes) s))
   step s (command.Commit c) = step_commit s c
@@ -241,6 +272,7 @@ module _ (name : Kind → Bytes → Bytes) (read : Bytes → Result Revision Fau
 
   -- ---- all commands, of which n were read before
 
+  -- what all commands give
   abbrev pub replayed : ℕ → State → List Command → Option Fault → Outcome
   replayed n s [] end = ended n s end
   replayed n s (c ∷ cs) end = elim (step s c) [ Ok t ↦ replayed (n + 1) t cs end | Err e ↦ refused (n + 1) e s.progress ]
@@ -249,6 +281,7 @@ module _ (name : Kind → Bytes → Bytes) (read : Bytes → Result Revision Fau
   abbrev pub replayed_commands : History → Commands → Outcome
   replayed_commands h cs = replayed 0 (start h) cs.list cs.fault
 
+  -- what the commands of a text give
   abbrev pub replayed_text : History → Bytes → Bool → Outcome
   replayed_text h text fails = replayed_commands h (commands_of (items_of text fails))
 

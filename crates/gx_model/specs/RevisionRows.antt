@@ -1,12 +1,9 @@
 -- Worked rows on revisions and range words: how they are read, and what they give.
-use Rattle.std.specs.Prelude.{◌≡◌, ℕ, ◌^◌, ◌-◌, List, [], ◌∷◌, ◌++◌, map, replicate, codes, Option, Some, None, Result, Ok, Err, refl}
+use Rattle.std.specs.Prelude.{◌≡◌, ◌^◌, ◌-◌, List, [], ◌∷◌, ◌++◌, map, replicate, codes, Option, Some, None, Result, Ok, Err, refl}
 use Rattle.std.specs.Fmt.{digits}
-use Rattle.std.specs.Map.{lookup}
-use Rattle.std.specs.Char.{is_ascii_digit}
-use Rattle.gx_model.specs.declared.objects.Mode.TheVariants.{File, Gitlink}
-use Rattle.gx_model.specs.declared.faults.Fault.{Fault}
+use Rattle.gx_model.specs.declared.objects.Mode.TheVariants.{File}
 use Rattle.gx_model.specs.declared.faults.Fault.TheVariants as fault
-use Rattle.gx_model.specs.Texts.{Bytes, cut_at, same_bytes}
+use Rattle.gx_model.specs.Texts.{Bytes, cut_at}
 use Rattle.gx_model.specs.Idents.{is_ident}
 use Rattle.gx_model.specs.Paths.{char_at, unquote_within, quoted_of}
 use Rattle.gx_model.specs.Items.{counted_block, lines_before, delimited, first_line, first_of, read_upto, items_of}
@@ -14,14 +11,14 @@ use Rattle.gx_model.specs.Grammar.{unsigned_in, item_after_in, rest_line_in, blo
 use Rattle.gx_model.specs.Faults.{Given}
 use Rattle.gx_model.specs.Revisions.{AllParents, Alone, Apart, Between, RangeWord, Revision, Suffix, WithAncestors, WithoutAncestors, WithoutOne, ancestor, as_blob, as_commit, as_tag, as_tree, itself, parent, peeled, range_of, revision_of}
 use Rattle.gx_model.specs.Files.{FileMap}
-use Rattle.gx_model.specs.Values.{Commit, CommitText, Tag, Value, blob_value, commit, commit_value, more, none, tag_value, tree_value}
-use Rattle.gx_model.specs.Objects.{hex}
+use Rattle.gx_model.specs.Values.{Commit, CommitText, Tag, blob_value, commit, commit_value, more, none, tag_value, tree_value}
 use Rattle.gx_model.specs.Records.{name_of}
 use Rattle.gx_model.specs.Histories.{History, at_commit, at_tag}
-use Rattle.gx_model.specs.Denotation.{Shown, denoted, object, submodule}
-use Rattle.gx_model.specs.Ranges.{WordFault, each_word, listed}
+use Rattle.gx_model.specs.Denotation.{Shown, denoted, object}
+use Rattle.gx_model.specs.Ranges.{WordFault, listed}
+use Rattle.gx_model.specs.Naming.{short_name}
 use Rattle.gx_model.specs.Replay.{imported}
-use Rattle.gx_model.specs.RowTexts.{history_of_lines, imported_lines, log, short_name, shown}
+use Rattle.gx_model.specs.RowTexts.{history_of_lines, log, shown}
 
 -- ---- how they are read
 
@@ -81,11 +78,11 @@ range_words =
     ∷ []
 
 pub revisions_read : map (λ r. revision_of r.0) revisions ≡ map (λ r. r.1) revisions
-unfolding cut_at revision_of
+unfolding cut_at revision_of short_name
 revisions_read = refl
 
 pub range_words_read : map (λ r. range_of r.0) range_words ≡ map (λ r. r.1) range_words
-unfolding cut_at revision_of range_of
+unfolding cut_at revision_of range_of short_name
 range_words_read = refl
 
 -- ---- a commit that is made twice
@@ -111,7 +108,7 @@ pub record TwiceRows : Type 0 where
   pub both : log twice (codes "x" ∷ codes "y" ∷ []) ≡ Ok (root ∷ [])
 
 pub twice_rows : TwiceRows
-unfolding char_at unsigned_in item_after_in rest_line_in block_in cut_at is_ident unquote_within quoted_of mark_of commit_ish_of last_path source_path modify_at two_paths change_at changes_within merges_within blob_at commit_at links_at tag_at reset_at command_at commands_within counted_block lines_before delimited first_line first_of read_upto items_of digits revision_of imported denoted range_of listed
+unfolding char_at unsigned_in item_after_in rest_line_in block_in cut_at is_ident unquote_within quoted_of mark_of commit_ish_of last_path source_path modify_at two_paths change_at changes_within merges_within blob_at commit_at links_at tag_at reset_at command_at commands_within counted_block lines_before delimited first_line first_of read_upto items_of digits revision_of imported denoted range_of listed short_name
 twice_rows = record { one = refl; same = refl; between = refl; apart = refl; both = refl }
 
 -- ---- two roots and their merge
@@ -132,6 +129,11 @@ q = commit [] none (says (codes "q"))
 
 abbrev y : Commit
 y = commit [] (more p (more q none)) (says (codes "y"))
+
+-- a commit with a `from` and a `merge`, and one with a `merge` alone on a branch that has a commit
+abbrev both_given : History
+both_given =
+    history_of_lines (commit_on (codes "p") (codes "1") [] ++ commit_on (codes "q") (codes "2") [] ++ commit_on (codes "y") (codes "3") (codes "from :2" ∷ codes "merge :1" ∷ []) ++ commit_on (codes "p") (codes "4") (codes "merge :2" ∷ []))
 
 abbrev of_commit : Commit → Given Shown
 of_commit c = Ok (object (commit_value c))
@@ -175,12 +177,14 @@ pub record MergeRows : Type 0 where
   pub revisions : map (λ r. shown merged r.0) merged_revisions ≡ map (λ r. r.1) merged_revisions
   -- the newest made first; all words are read before one is evaluated
   pub ranges : map (λ r. log merged r.0) logs ≡ map (λ r. r.1) logs
+  -- the first parent is that of `from`, or else the branch's own commit
+  pub from_first : map (shown both_given) (codes "y^1" ∷ codes "y^2" ∷ codes "p^1" ∷ codes "p^2" ∷ []) ≡ of_commit q ∷ of_commit p ∷ of_commit p ∷ of_commit q ∷ []
   -- the names are those of the commits
   pub names : listed short_name merged (WithAncestors (plain (codes "y")) ∷ []) ≡ Ok (map (λ c. name_of short_name (commit_value c)) (y ∷ q ∷ p ∷ []))
 
 pub merge_rows : MergeRows
-unfolding char_at unsigned_in item_after_in rest_line_in block_in cut_at is_ident unquote_within quoted_of mark_of commit_ish_of last_path source_path modify_at two_paths change_at changes_within merges_within blob_at commit_at links_at tag_at reset_at command_at commands_within counted_block lines_before delimited first_line first_of read_upto items_of digits revision_of imported denoted range_of listed
-merge_rows = record { revisions = refl; ranges = refl; names = refl }
+unfolding char_at unsigned_in item_after_in rest_line_in block_in cut_at is_ident unquote_within quoted_of mark_of commit_ish_of last_path source_path modify_at two_paths change_at changes_within merges_within blob_at commit_at links_at tag_at reset_at command_at commands_within counted_block lines_before delimited first_line first_of read_upto items_of digits revision_of imported denoted range_of listed short_name
+merge_rows = record { revisions = refl; ranges = refl; from_first = refl; names = refl }
 
 -- ---- a tag
 
@@ -232,7 +236,7 @@ pub record TagRows : Type 0 where
   pub revisions : map (λ r. shown tagged r.0) tag_revisions ≡ map (λ r. r.1) tag_revisions
 
 pub tag_rows : TagRows
-unfolding char_at unsigned_in item_after_in rest_line_in block_in cut_at is_ident unquote_within quoted_of mark_of commit_ish_of last_path source_path modify_at two_paths change_at changes_within merges_within blob_at commit_at links_at tag_at reset_at command_at commands_within counted_block lines_before delimited first_line first_of read_upto items_of digits revision_of imported denoted range_of listed
+unfolding char_at unsigned_in item_after_in rest_line_in block_in cut_at is_ident unquote_within quoted_of mark_of commit_ish_of last_path source_path modify_at two_paths change_at changes_within merges_within blob_at commit_at links_at tag_at reset_at command_at commands_within counted_block lines_before delimited first_line first_of read_upto items_of digits revision_of imported denoted range_of listed short_name
 tag_rows = record { refs = refl; revisions = refl }
 
 -- ---- names by their digits
@@ -266,5 +270,5 @@ pub record DigitRows : Type 0 where
   pub either_case : map (shown long_blob) lettered ≡ replicate 3 (Ok (object (blob_value (replicate 171 97))))
 
 pub digit_rows : DigitRows
-unfolding char_at unsigned_in item_after_in rest_line_in block_in cut_at is_ident unquote_within quoted_of mark_of commit_ish_of last_path source_path modify_at two_paths change_at changes_within merges_within blob_at commit_at links_at tag_at reset_at command_at commands_within counted_block lines_before delimited first_line first_of read_upto items_of digits revision_of imported denoted range_of listed
+unfolding char_at unsigned_in item_after_in rest_line_in block_in cut_at is_ident unquote_within quoted_of mark_of commit_ish_of last_path source_path modify_at two_paths change_at changes_within merges_within blob_at commit_at links_at tag_at reset_at command_at commands_within counted_block lines_before delimited first_line first_of read_upto items_of digits revision_of imported denoted range_of listed short_name
 digit_rows = record { table = refl; either_case = refl }

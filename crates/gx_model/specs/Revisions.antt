@@ -1,5 +1,5 @@
 -- Revisions and range words as texts. Source: gitrevisions(7).
-use Rattle.std.specs.Prelude.{ℕ, ◌-◌, ◌==◌, ◌&&◌, ◌||◌, codes, nat_eq, List, [], ◌∷◌, length, take, drop, Option, Some, None, Result, Ok, Err, if◌then◌else◌}
+use Rattle.std.specs.Prelude.{ℕ, ◌-◌, ◌==◌, ◌&&◌, ◌||◌, codes, nat_eq, List, [], ◌∷◌, length, take, drop, Option, Some, None, Ok, Err, if◌then◌else◌}
 use Rattle.std.specs.Option.{option_map}
 use Rattle.std.specs.List.{starts_with, ends_with, suffix_len}
 use Rattle.std.specs.Char.{is_ascii_digit}
@@ -13,6 +13,7 @@ use Rattle.gx_model.specs.declared.faults.Fault.TheVariants.{BadRevision}
 
 -- ---- what the texts say
 
+-- a suffix of a revision
 pub data Suffix : Type 0 where
   -- ^n and ~n
   parent : ℕ → Suffix
@@ -25,11 +26,13 @@ pub data Suffix : Type 0 where
   as_tree : Suffix
   as_tag : Suffix
 
+-- a revision: what its base, its suffixes and its path say
 pub record Revision : Type 0 where
   pub base : Bytes
   pub suffixes : List Suffix
   pub path : Option Path
 
+-- a range word, with revisions for its commits
 pub data RangeWord : Type 0 where
   -- r and ^r
   WithAncestors : Revision → RangeWord
@@ -44,6 +47,7 @@ pub data RangeWord : Type 0 where
 
 -- ---- revisions: a base, suffixes that begin with `^` or `~`, and a path behind a `:`
 
+-- the ref HEAD
 abbrev pub head : Bytes
 head = codes "HEAD"
 
@@ -56,6 +60,7 @@ abbrev pub number_or_one : Bytes → Given ℕ
 number_or_one [] = Ok 1
 number_or_one (d ∷ ds) = or_fault (decimal_of (d ∷ ds)) BadRevision
 
+-- the suffixes in braces, by what stands behind the `^`
 abbrev pub braced_suffixes : List (Bytes × Suffix)
 braced_suffixes =
     (codes "{}", peeled) ∷ (codes "{object}", itself) ∷ (codes "{commit}", as_commit) ∷ (codes "{blob}", as_blob) ∷ (codes "{tree}", as_tree)
@@ -66,19 +71,23 @@ abbrev pub braced_or_parent : Option Suffix → Bytes → Given Suffix
 braced_or_parent (Some s) x = Ok s
 braced_or_parent None x = number_or_one x >>= λ n. Ok (parent n)
 
+-- the suffix that a text gives, its `^` or `~` included
 abbrev pub suffix_of : Bytes → Given Suffix
 suffix_of [] = Err BadRevision
 suffix_of (b ∷ x) =
     if b == 94 then braced_or_parent (lookup (same_bytes x) braced_suffixes) x
     else number_or_one x >>= λ n. Ok (ancestor n)
 
+-- the suffixes of some texts, or the first fault
 abbrev pub suffixes_of : List Bytes → Given (List Suffix)
 suffixes_of [] = Ok []
 suffixes_of (x ∷ xs) = suffix_of x >>= λ s. suffixes_of xs >>= λ ss. Ok (s ∷ ss)
 
+-- a byte that begins a suffix, before what was cut
 abbrev pub starts_suffix : ℕ → Bytes × List Bytes → Bytes × List Bytes
 starts_suffix b x = ([], (b ∷ x.0) ∷ x.1)
 
+-- a byte of the base or of a suffix, before what was cut
 abbrev pub goes_on : ℕ → Bytes × List Bytes → Bytes × List Bytes
 goes_on b x = (b ∷ x.0, x.1)
 
@@ -92,10 +101,12 @@ abbrev pub with_path : Bytes → Option (Bytes × Bytes) → Bytes × Option Byt
 with_path x None = (x, None)
 with_path x (Some p) = (p.0, Some p.1)
 
+-- the path behind the `:`, where there is one
 abbrev pub optional_path : Option Bytes → Given (Option Path)
 optional_path None = Ok None
 optional_path (Some x) = path_of x >>= λ p. Ok (Some p)
 
+-- the revision of its parts, read from left to right
 abbrev pub revision_in : Bytes × List Bytes → Option Bytes → Given Revision
 revision_in x path = do
   base ← base_of x.0
@@ -103,9 +114,11 @@ revision_in x path = do
   path ← optional_path path
   Ok (record { base = base; suffixes = suffixes; path = path })
 
+-- the revision of what stands before and behind the `:`
 abbrev pub revision_by : Bytes × Option Bytes → Given Revision
 revision_by x = revision_in (base_and_suffixes x.0) x.1
 
+-- the revision that a text gives
 unfoldable pub revision_of : Bytes → Given Revision
 revision_of x = revision_by (with_path x (cut_at 58 x))
 
@@ -132,6 +145,7 @@ pair_of word left right =
 abbrev pub dotted : Bytes → Bytes → Given RangeWord
 dotted left right = if starts_with nat_eq right (codes ".") then pair_of Apart left (drop 1 right) else pair_of Between left right
 
+-- all but the last n bytes
 abbrev pub without_last : ℕ → Bytes → Bytes
 without_last n x = take (length x - n) x
 
@@ -145,9 +159,11 @@ minus_of x =
     let body : Bytes = without_last (digits_last x) x in
     if ends_with nat_eq body (codes "^-") then Some (without_last 2 body, drop (length body) x) else None
 
+-- the word r^-n, for n from 1
 abbrev pub without_parent : Revision → ℕ → Given RangeWord
 without_parent r n = if n == 0 then Err BadRevision else Ok (WithoutOne r n)
 
+-- the word r^-n where it has that shape, and otherwise a revision
 abbrev pub minus_or_alone : Bytes → Option (Bytes × Bytes) → Given RangeWord
 minus_or_alone x (Some p) = revision_of p.0 >>= λ r. number_or_one p.1 >>= λ n. without_parent r n
 minus_or_alone x None = revision_of x >>= λ r. Ok (WithAncestors r)
@@ -160,9 +176,11 @@ undotted x =
     else (if ends_with nat_eq x (codes "^!") then (revision_of (without_last 2 x) >>= λ r. Ok (Alone r))
     else minus_or_alone x (minus_of x)))
 
+-- a pair where there are two dots, and otherwise one of the other words
 abbrev pub range_by : Bytes → Option (Bytes × Bytes) → Given RangeWord
 range_by x (Some p) = dotted p.0 p.1
 range_by x None = undotted x
 
+-- the range word that a text gives
 unfoldable pub range_of : Bytes → Given RangeWord
 range_of x = range_by x (cut_dots x)

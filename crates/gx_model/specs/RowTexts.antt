@@ -1,35 +1,20 @@
--- What the worked rows share: texts from lines, namers, and what imports, revisions and range words give.
-use Rattle.std.specs.Prelude.{ℕ, ◌%◌, false, List, [], ◌∷◌, ◌++◌, length, replicate, Option, Some, None, Result, Ok, Err}
-use Rattle.std.specs.List.{flat_map, fold}
+-- What the worked rows share: what imports, revisions and range words give.
+use Rattle.std.specs.Prelude.{ℕ, ◌%◌, false, List, [], ◌∷◌, ◌++◌, length, replicate, Option, Some, None, Result, Ok}
+use Rattle.std.specs.List.{fold}
 use Rattle.gx_model.specs.declared.objects.Kind.{Kind}
-use Rattle.gx_model.specs.declared.objects.Kind.TheVariants as kind
 use Rattle.gx_model.specs.declared.faults.Fault.{Fault}
 use Rattle.gx_model.specs.Texts.{Bytes}
 use Rattle.gx_model.specs.Faults.{Given, and_then, ◌>>=◌}
+use Rattle.gx_model.specs.Spelling.{text_of_lines}
 use Rattle.gx_model.specs.Revisions.{revision_of, range_of}
 use Rattle.gx_model.specs.Values.{Commit}
 use Rattle.gx_model.specs.Histories.{History}
 use Rattle.gx_model.specs.Denotation.{Shown, denoted}
+use Rattle.gx_model.specs.Naming.{kind_number, short_name}
 use Rattle.gx_model.specs.Ranges.{WordFault, each_word, listing, words_denoted}
 use Rattle.gx_model.specs.Replay.{Outcome, Report, finished, imported, refused}
 
--- lines, each with its LF
-abbrev pub lines : List Bytes → Bytes
-lines = flat_map (λ l. l ++ 10 ∷ [])
-
--- ---- namers
-
-abbrev pub kind_number : Kind → ℕ
-kind_number kind.Blob = 0
-kind_number kind.Tree = 1
-kind_number kind.Commit = 2
-kind_number kind.Tag = 3
-
--- a name that many objects share: 18 bytes 0x11, the kind's number, and the body's length
-abbrev pub short_name : Kind → Bytes → Bytes
-short_name k body = replicate 18 17 ++ kind_number k ∷ length body % 256 ∷ []
-
--- a name that also tells bodies apart by their last byte
+-- a name as short names are, that also tells bodies apart by their last byte
 abbrev pub last_byte_name : Kind → Bytes → Bytes
 last_byte_name k body = replicate 17 17 ++ kind_number k ∷ length body % 256 ∷ fold (λ x b. b) 0 body ∷ []
 
@@ -40,7 +25,7 @@ nothing = record { values = []; refs = [] }
 
 -- the import of these lines
 abbrev pub imported_to : History → List Bytes → Outcome
-imported_to h ls = imported short_name h (lines ls) false
+imported_to h ls = imported short_name h (text_of_lines ls) false
 
 -- into an empty repository
 abbrev pub imported_lines : List Bytes → Outcome

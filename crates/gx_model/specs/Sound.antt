@@ -1,4 +1,4 @@
--- Sound repositories: what holds of the records and refs, said without a history.
+-- Sound repositories: what holds of the records and refs, said without a history. Source: Pro Git, "Git Objects", and git-check-ref-format(1).
 use Rattle.std.specs.Prelude.{◌≡◌, ◌≢◌, ◌⊎◌, List, [], ◌∷◌, ◌++◌, map, IsTrue, ⊤}
 use Rattle.std.specs.List.{AllByRecursion, list_all}
 use Rattle.std.specs.Ordering.{nat_cmp}
@@ -16,35 +16,38 @@ use Rattle.gx_model.specs.Objects.{CommitParts, Entry, IsCommitText, IsTagText, 
 use Rattle.gx_model.specs.Histories.{AreDistinct, Record, Records}
 
 -- some element passes
-abbrev pub Some_ : {X : Type 0} → (X → Type 0) → List X → Type 0
-Some_ P [] = ⊥
-Some_ P (x ∷ xs) = P x ⊎ Some_ P xs
+abbrev pub AnyByRecursion : {X : Type 0} → (X → Type 0) → List X → Type 0
+AnyByRecursion P [] = ⊥
+AnyByRecursion P (x ∷ xs) = P x ⊎ AnyByRecursion P xs
 
 -- a record of this kind and name
 abbrev pub Holds : List Record → Kind → Bytes → Type 0
-Holds rs k n = Some_ (λ r. (r.kind ≡ k) × (r.name ≡ n)) rs
+Holds records kind name = AnyByRecursion (λ held. (held.kind ≡ kind) × (held.name ≡ name)) records
 
 -- a directory's tree is held and has entries; a gitlink is no link
 abbrev pub IsHeldAs : List Record → Mode → Bytes → Type 0
-IsHeldAs rs Gitlink n = ⊤
-IsHeldAs rs Dir n = Some_ (λ r. (r.kind ≡ kind.Tree) × (r.name ≡ n) × (r.body ≢ [])) rs
-IsHeldAs rs _ n = Holds rs kind.Blob n
+IsHeldAs records Gitlink name = ⊤
+IsHeldAs records Dir name = AnyByRecursion (λ held. (held.kind ≡ kind.Tree) × (held.name ≡ name) × (held.body ≢ [])) records
+IsHeldAs records _ name = Holds records kind.Blob name
 
+-- the body of a tree whose entries are held
 abbrev pub IsTree : List Record → Bytes → Type 0
-IsTree rs body = (es : List Entry) × IsTreeText es body × AllByRecursion (λ e. IsHeldAs rs e.mode e.name) es
+IsTree records body = (entries : List Entry) × IsTreeText entries body × AllByRecursion (λ entry. IsHeldAs records entry.mode entry.name) entries
 
+-- the body of a commit whose tree and parents are held
 abbrev pub IsCommit : List Record → Bytes → Type 0
-IsCommit rs body = (p : CommitParts) × IsCommitText p body × Holds rs kind.Tree p.tree × AllByRecursion (Holds rs kind.Commit) p.parents
+IsCommit records body = (parts : CommitParts) × IsCommitText parts body × Holds records kind.Tree parts.tree × AllByRecursion (Holds records kind.Commit) parts.parents
 
+-- the body of a tag whose commit is held
 abbrev pub IsTag : List Record → Bytes → Type 0
-IsTag rs body = (p : TagParts) × IsTagText p body × Holds rs kind.Commit p.object
+IsTag records body = (parts : TagParts) × IsTagText parts body × Holds records kind.Commit parts.object
 
 -- a canonical body whose links are among these records
 abbrev pub IsLinked : List Record → Kind → Bytes → Type 0
-IsLinked rs kind.Blob body = ⊤
-IsLinked rs kind.Tree body = IsTree rs body
-IsLinked rs kind.Commit body = IsCommit rs body
-IsLinked rs kind.Tag body = IsTag rs body
+IsLinked records kind.Blob body = ⊤
+IsLinked records kind.Tree body = IsTree records body
+IsLinked records kind.Commit body = IsCommit records body
+IsLinked records kind.Tag body = IsTag records body
 
 -- each record's links are earlier records
 abbrev pub IsLinkedAfter : List Record → List Record → Type 0
@@ -52,32 +55,35 @@ IsLinkedAfter before [] = ⊤
 IsLinkedAfter before (r ∷ rs) = IsLinked before r.kind r.body × IsLinkedAfter (before ++ r ∷ []) rs
 
 -- a path of a file below these entries
-pub data HasPath (rs : List Record) : List Entry → Path → Type 0 where
-  here : {es : List Entry} (e : Entry) → Some_ (λ x. x ≡ e) es → e.mode ≢ Dir → HasPath rs es (e.component ∷ [])
-  below : {es : List Entry} {p : Path} (e : Entry) (fs : List Entry) → Some_ (λ x. x ≡ e) es → e.mode ≡ Dir
-      → Some_ (λ r. (r.kind ≡ kind.Tree) × (r.name ≡ e.name) × IsTreeText fs r.body) rs → HasPath rs fs p → HasPath rs es (e.component ∷ p)
+pub data HasPath (records : List Record) : List Entry → Path → Type 0 where
+  here : {es : List Entry} (e : Entry) → AnyByRecursion (λ x. x ≡ e) es → e.mode ≢ Dir → HasPath records es (e.component ∷ [])
+  below : {es : List Entry} {p : Path} (e : Entry) (fs : List Entry) → AnyByRecursion (λ x. x ≡ e) es → e.mode ≡ Dir
+      → AnyByRecursion (λ r. (r.kind ≡ kind.Tree) × (r.name ≡ e.name) × IsTreeText fs r.body) records → HasPath records fs p → HasPath records es (e.component ∷ p)
 
 -- a commit, or a tag whose own name makes this ref
 abbrev pub IsTarget : List Record → Bytes → Bytes → Type 0
-IsTarget rs ref n =
-    Holds rs kind.Commit n ⊎ Some_ (λ r. (r.kind ≡ kind.Tag) × (r.name ≡ n) × ((p : TagParts) × IsTagText p r.body × (ref ≡ tag_ref p.name))) rs
+IsTarget records ref name =
+    Holds records kind.Commit name
+    ⊎ AnyByRecursion (λ held. (held.kind ≡ kind.Tag) × (held.name ≡ name) × ((parts : TagParts) × IsTagText parts held.body × (ref ≡ tag_ref parts.name))) records
 
 -- no path below a tree is too long
 abbrev pub HasShortPaths : List Record → Record → Type 0
-HasShortPaths rs r = (es : List Entry) (p : Path) → r.kind ≡ kind.Tree → IsTreeText es r.body → HasPath rs es p → IsTrue (is_short p)
+HasShortPaths records held = (entries : List Entry) (path : Path) → held.kind ≡ kind.Tree → IsTreeText entries held.body → HasPath records entries path → IsTrue (is_short path)
 
-pub record IsSound (name : Kind → Bytes → Bytes) (r : Records) : Type 0 where
-  pub named : AllByRecursion (λ x. x.name ≡ name x.kind x.body) r.records
-  pub distinct : AreDistinct (map (λ x. x.name) r.records)
-  pub linked : IsLinkedAfter [] r.records
-  pub paths : AllByRecursion (HasShortPaths r.records) r.records
-  pub sorted : IsTrue (is_sorted (slice_cmp nat_cmp) r.refs)
-  pub ref_names : IsTrue (list_all (λ x. is_ref_name x.0) r.refs)
-  pub held : AllByRecursion (λ x. IsTarget r.records x.0 x.1) r.refs
+-- names are the namer's and distinct, bodies are canonical and link to earlier records, no path is too long,
+-- and the refs are in order, have ref names, and hold commits and tags of their own
+pub record IsSound (name : Kind → Bytes → Bytes) (repository : Records) : Type 0 where
+  pub named : AllByRecursion (λ held. held.name ≡ name held.kind held.body) repository.records
+  pub distinct : AreDistinct (map (λ held. held.name) repository.records)
+  pub linked : IsLinkedAfter [] repository.records
+  pub paths : AllByRecursion (HasShortPaths repository.records) repository.records
+  pub sorted : IsTrue (is_sorted (slice_cmp nat_cmp) repository.refs)
+  pub ref_names : IsTrue (list_all (λ ref. is_ref_name ref.0) repository.refs)
+  pub held : AllByRecursion (λ ref. IsTarget repository.records ref.0 ref.1) repository.refs
 
 -- a map of names whose files, where they are no gitlinks, name held blobs
-pub record IsNamedMap (rs : List Record) (g : FileMap Bytes) : Type 0 where
-  pub file_map : IsTrue (is_file_map g)
-  pub files : AllByRecursion (λ e. e.1.0 ≢ Dir) g
-  pub names : IsTrue (list_all (λ e. is_name e.1.1) g)
-  pub held : AllByRecursion (λ e. IsHeldAs rs e.1.0 e.1.1) g
+pub record IsNamedMap (records : List Record) (map_of_names : FileMap Bytes) : Type 0 where
+  pub file_map : IsTrue (is_file_map map_of_names)
+  pub files : AllByRecursion (λ entry. entry.1.0 ≢ Dir) map_of_names
+  pub names : IsTrue (list_all (λ entry. is_name entry.1.1) map_of_names)
+  pub held : AllByRecursion (λ entry. IsHeldAs records entry.1.0 entry.1.1) map_of_names

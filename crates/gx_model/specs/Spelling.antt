@@ -1,4 +1,5 @@
 -- How a text spells its items: a relation on the whole text, without positions or pieces.
+-- Source: git-fast-import(1), "Comments" and "data".
 use Rattle.std.specs.Prelude.{◌≡◌, ℕ, ◌<◌, ◌≤◌, ◌⊎◌, Bool, true, false, List, [], ◌∷◌, ◌++◌, length, codes, Some, None}
 use Rattle.std.specs.List.{flat_map}
 use Rattle.gx_model.specs.Numbers.{decimal_of}
@@ -6,6 +7,7 @@ use Rattle.gx_model.specs.Texts.{Bytes}
 use Rattle.gx_model.specs.declared.faults.Fault.TheVariants as faults
 use Rattle.gx_model.specs.Items.{Item, Line, Data, End, Finished, Failed, is_lf}
 
+-- no LF stands in a text
 abbrev pub HasNoLf : Bytes → Type 0
 HasNoLf [] = Unit {0}
 HasNoLf (b ∷ bs) = (is_lf b ≡ false) × HasNoLf bs
@@ -14,18 +16,23 @@ HasNoLf (b ∷ bs) = (is_lf b ≡ false) × HasNoLf bs
 abbrev pub BeginsLine : Bytes → Bool → Bytes → Bytes → Type 0
 BeginsLine text fails l rest = HasNoLf l × ((text ≡ l ++ 10 ∷ rest) ⊎ ((text ≡ l) × (rest ≡ []) × (0 < length l) × (fails ≡ false)))
 
+-- the line of a comment
 abbrev pub comment_line : Bytes → Bytes
 comment_line x = codes "#" ++ x
 
+-- the line that announces a block
 abbrev pub data_line : Bytes → Bytes
 data_line x = codes "data " ++ x
 
+-- what announces a delimited block, behind `data`
 abbrev pub delimiter_text : Bytes → Bytes
 delimiter_text d = codes "<<" ++ d
 
+-- a line is of no such form
 abbrev pub IsNot : (Bytes → Bytes) → Bytes → Type 0
 IsNot form l = (x : Bytes) → l ≡ form x → ⊥
 
+-- a text begins with no LF
 abbrev pub NoLfFirst : Bytes → Type 0
 NoLfFirst [] = Unit {0}
 NoLfFirst (b ∷ bs) = is_lf b ≡ false
@@ -39,6 +46,7 @@ abbrev pub AreOther : Bytes → List Bytes → Type 0
 AreOther d [] = Unit {0}
 AreOther d (l ∷ ls) = HasNoLf l × (l ≡ d → ⊥) × AreOther d ls
 
+-- lines, each with its LF
 abbrev pub text_of_lines : List Bytes → Bytes
 text_of_lines ls = flat_map (λ l. l ++ 10 ∷ []) ls
 
@@ -46,6 +54,7 @@ text_of_lines ls = flat_map (λ l. l ++ 10 ∷ []) ls
 abbrev pub IsCounted : Bytes → Bytes → Bool → Bytes → Bytes → Type 0
 IsCounted digits bytes fails x rest = IsNot delimiter_text digits × (decimal_of digits ≡ Some (length x)) × (after : Bytes) × (bytes ≡ x ++ after) × EndsBlock after fails rest
 
+-- a block of the lines up to the delimiter
 abbrev pub IsDelimited : Bytes → Bytes → Bool → Bytes → Bytes → Type 0
 IsDelimited d bytes fails x rest =
     (ls : List Bytes) × (more : Bytes) × (after : Bytes) × AreOther d ls × (x ≡ text_of_lines ls) × (bytes ≡ x ++ more) × BeginsLine more fails d after × EndsBlock after fails rest

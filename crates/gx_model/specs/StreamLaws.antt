@@ -1,4 +1,5 @@
 -- What holds of the items of every text.
+-- Source: git-fast-import(1), "Comments" and "data".
 use Rattle.std.specs.Prelude.{◌≡◌, Bool, List}
 use Rattle.gx_model.specs.Texts.{Bytes}
 use Rattle.gx_model.specs.Items.{Item, End, items_of}

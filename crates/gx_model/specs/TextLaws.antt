@@ -1,4 +1,5 @@
 -- What holds of numbers, ref names, identities and paths.
+-- Source: git-fast-import(1), git-check-ref-format(1).
 use Rattle.std.specs.Prelude.{◌≡◌, ◌↔◌, ◌⊎◌, IsTrue, ℕ, ◌^◌, ◌<◌, true, length, Some, Ok, Err}
 use Rattle.std.specs.List.{list_all}
 use Rattle.std.specs.Fmt.{decimal}
@@ -23,9 +24,11 @@ IdentsAreRead = (bs : Bytes) → (is_ident bs ≡ true) ↔ IsIdent bs
 abbrev pub IdentsAreLines : Type 0
 IdentsAreLines = (bs : Bytes) → is_ident bs ≡ true → is_line bs ≡ true
 
+-- a ref name holds no LF
 abbrev pub RefNamesAreLines : Type 0
 RefNamesAreLines = (n : Bytes) → is_ref_name n ≡ true → is_line n ≡ true
 
+-- a tag name holds no LF
 abbrev pub TagNamesAreLines : Type 0
 TagNamesAreLines = (n : Bytes) → is_tag_name n ≡ true → is_line n ≡ true
 
@@ -35,6 +38,7 @@ TagNamesAreLines = (n : Bytes) → is_tag_name n ≡ true → is_line n ≡ true
 abbrev pub PartsAreJoined : Type 0
 PartsAreJoined = (text : Bytes) → path_text (parts_of text) ≡ text
 
+-- a path is read exactly where its text has that form
 abbrev pub PathsAreRead : Type 0
 PathsAreRead = (text : Bytes) (p : Path) → (path_of text ≡ Ok p) ↔ IsPathOf text p
 
@@ -49,12 +53,15 @@ pub record HasLongPath (text : Bytes) : Type 0 where
   pub components : IsTrue (list_all is_component path)
   pub long : 4095 < length text
 
+-- why a text is no path
 abbrev pub IsPathFault : Bytes → Fault → Type 0
 IsPathFault text f = ((f ≡ faults.BadPath) × HasNoPath text) ⊎ ((f ≡ faults.PathTooLong) × HasLongPath text)
 
+-- each fault of a path comes exactly where it is one
 abbrev pub PathsAreRefused : Type 0
 PathsAreRefused = (text : Bytes) (f : Fault) → (path_of text ≡ Err f) ↔ IsPathFault text f
 
+-- the bytes between quotes are those that are written
 abbrev pub QuotedTextsAreRead : Type 0
 QuotedTextsAreRead = (bs text rest : Bytes) → (unquote bs ≡ Some (text, rest)) ↔ IsQuotedText bs text rest
 
@@ -64,6 +71,7 @@ pub record IsQuotedPath (bs : Bytes) (p : Path) (rest : Bytes) : Type 0 where
   pub quoted : IsQuotedText bs text rest
   pub path : IsPathOf text p
 
+-- a quoted path is read exactly where one is written
 abbrev pub QuotedPathsAreRead : Type 0
 QuotedPathsAreRead = (bs : Bytes) (p : Path) (rest : Bytes) → (quoted_of bs ≡ Ok (p, rest)) ↔ IsQuotedPath bs p rest
 
@@ -74,9 +82,11 @@ pub record IsQuotedFault (bs : Bytes) (f : Fault) : Type 0 where
   pub quoted : IsQuotedText bs text rest
   pub refused : path_of text ≡ Err f
 
+-- a text begins with no quoted text
 abbrev pub HasNoQuotedText : Bytes → Type 0
 HasNoQuotedText bs = (text rest : Bytes) → IsQuotedText bs text rest → ⊥
 
+-- each fault of a quoted path comes exactly where it is one
 abbrev pub QuotedPathsAreRefused : Type 0
 QuotedPathsAreRefused = (bs : Bytes) (f : Fault) → (quoted_of bs ≡ Err f) ↔ (((f ≡ faults.BadPath) × HasNoQuotedText bs) ⊎ IsQuotedFault bs f)
 
@@ -84,5 +94,6 @@ QuotedPathsAreRefused = (bs : Bytes) (f : Fault) → (quoted_of bs ≡ Err f) �
 abbrev pub PrintedPathsAreLines : Type 0
 PrintedPathsAreLines = (text : Bytes) → is_line (printed text) ≡ true
 
+-- a printed path is read back
 abbrev pub PrintedPathsAreRead : Type 0
 PrintedPathsAreRead = (p : Path) → path_of (path_text p) ≡ Ok p → AreBytes (path_text p) → last_path (printed (path_text p)) ≡ Ok p

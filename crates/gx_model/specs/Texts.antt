@@ -1,12 +1,15 @@
 -- Texts are byte strings. What stands before and after a byte in them, and which bytes they lack.
+-- Source: this project's own.
 use Rattle.std.specs.Prelude.{ℕ, Bool, false, not, ◌&&◌, ◌||◌, ◌==◌, List, [], ◌∷◌, Option, Some, None, nat_eq, if◌then◌else◌}
 use Rattle.std.specs.Option.{option_map}
 use Rattle.std.specs.List.{list_any, list_all}
 use Rattle.std.specs.Str.{bytes_eq}
 
+-- a text: its bytes, each below 256 where it was read
 abbrev pub Bytes : Type 0
 Bytes = List ℕ
 
+-- whether two texts are equal
 abbrev pub same_bytes : Bytes → Bytes → Bool
 same_bytes = bytes_eq
 

@@ -1,5 +1,9 @@
 //! Laws of the export text.
-ghost use Rattle.gx_model.specs.ExportLaws.{CommandsAreItems, CommandsAreRead, ItemsAreRead};
+ghost use Rattle.std.specs.Prelude.{List, ℕ, Result};
+ghost use Rattle.gx_model.specs.Revisions.{Revision};
+ghost use Rattle.gx_model.specs.ExportLaws.{CommandsAreItems, CommandsAreRead, CommitIsReplayed, CommitKeeps, ExportIsImported, ExportIsReplayed, ExportIsSpelled, FormedIsReadable, ItemsAreRead};
+ghost use Rattle.gx_model.specs.declared.faults.Fault.{Fault};
+ghost use Rattle.gx_model.specs.declared.objects.Kind.{Kind};
 
 /// The text of some items is read as these items, where each is a line that is no comment and announces no block, or a block.
 #[tactic(auto, using(crate::proofs::ItemTexts::items_read))]
@@ -12,4 +16,32 @@ pub fn items_are_read()
 pub fn commands_are_read()
     ensures items { CommandsAreItems }
     ensures commands { CommandsAreRead }
+{}
+
+/// The commands of one commit, whose parents were written, are replayed without a fault, and write it and the blobs that it lacked.
+/// After them a history holds exactly what the commits so far reach.
+#[tactic(auto, using(crate::proofs::CommitSteps::one_commit_replayed))]
+pub fn commits_are_replayed()
+    ensures replayed { (name : Kind → List ℕ → List ℕ) (read : List ℕ → Result Revision Fault) → CommitIsReplayed name read }
+    ensures kept { CommitKeeps }
+{}
+
+/// The commands of a history's export, replayed from nothing, meet no fault: they give the same refs, exactly what these reach,
+/// and the commits in their order.
+#[tactic(auto, using(crate::proofs::ExportSteps::export_replayed))]
+pub fn exports_are_replayed()
+    ensures replayed { ExportIsReplayed }
+{}
+
+/// A history whose paths are bytes and that has no gitlink of forty zeros has an export of commands that can be spelled,
+/// if the text's length is below 2^64.
+#[tactic(auto, using(crate::proofs::ReadableExports::formed_readable, crate::proofs::SpelledExports::export_spelled))]
+pub fn exports_are_readable()
+    ensures readable { FormedIsReadable }
+    ensures spelled { ExportIsSpelled }
+{}
+
+/// The import of such an export's text into nothing gives the same refs, exactly what these reach, and the commits in their order.
+pub fn exports_are_imported()
+    ensures imported { ExportIsImported }
 {}

@@ -10,9 +10,11 @@ pub mod history_laws;
 pub mod object_laws;
 mod objects;
 pub mod repository_laws;
+mod store_faults;
 pub mod stream_laws;
 pub mod text_laws;
 
 pub use faults::Fault;
 pub use features::Feature;
 pub use objects::{Kind, Mode};
+pub use store_faults::FileFault;

@@ -2,9 +2,22 @@
 //! What is encoded is the canonical body of its parts, and only canonical bodies are decoded.
 #![tactic(auto)]
 
+mod commit;
+mod entry;
+mod fault;
+mod line;
 mod name;
 mod namer;
+mod order;
+mod tag;
+mod tree;
 
+pub use commit::{CommitParts, CommitView, decode_commit, encode_commit};
+pub use entry::Entry;
+pub use fault::BadObject;
 pub use gx_model::{Kind, Mode};
 pub use name::Name;
 pub use namer::{Namer, Sha1Namer, ShortNamer};
+pub use order::is_canonical;
+pub use tag::{TagParts, TagView, decode_tag, encode_tag};
+pub use tree::{TreeEntries, decode_tree, encode_tree};

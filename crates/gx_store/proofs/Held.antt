@@ -1,11 +1,11 @@
 -- Records of which no two have one name, with one more.
-use Rattle.std.proofs.Common.{◌≡◌, Bool, true, false, cond, List, [], ◌∷◌, ◌++◌, length, map, Option, Some, None, refl, sym, ap, ◌∙◌}
+use Rattle.std.proofs.Common.{◌≡◌, Bool, true, false, cond, List, [], ◌∷◌, ◌++◌, length, map, Option, Some, None, refl, sym, ap, ◌∙◌, take, zero, suc, ℕ}
 use Rattle.std.specs.Prelude.{nat_lt}
 use Rattle.std.specs.List.{list_all, list_any, AllByRecursion}
 use Rattle.std.specs.Cmp.Lexicographic.{bytes_decides}
-use Rattle.std.proofs.lemmas.List.{map_push}
+use Rattle.std.proofs.lemmas.List.{map_push, take-map}
 use Rattle.std.proofs.lemmas.List.Folds.{list_all-append}
-use Rattle.std.proofs.lemmas.Bool.{false≢true, false_from_ne_true, and_from, or_from, or_parts, eq-eqb}
+use Rattle.std.proofs.lemmas.Bool.{false≢true, false_from_ne_true, and_from, or_from, or_parts, eq-eqb, and_parts}
 use Rattle.gx_model.specs.declared.objects.Kind.{Kind}
 use Rattle.gx_model.specs.Texts.{Bytes, same_bytes}
 use Rattle.gx_model.specs.Objects.{IsNamer, is_name}
@@ -49,3 +49,28 @@ held_more name namer rs r e free h =
       named = named_more name rs r e h.named;
       names = list_all-append (λ (s : Record). is_name s.name) rs (r ∷ []) ∙ and_from _ _ h.names (and_from _ _ (and_from _ _ (eq-eqb (length r.name) 20 long) bytes) refl);
     }
+
+-- ---- the first ones alone
+
+fewer : (n : Bytes) (k : ℕ) (ns : List Bytes) → list_any (same_bytes n) ns ≡ false → list_any (same_bytes n) (take k ns) ≡ false
+fewer n zero ns e = refl
+fewer n (suc k) [] e = refl
+fewer n (suc k) (m ∷ ns) e = let p = or_parts (same_bytes n m) _ e in or_from _ _ p.0 (fewer n k ns p.1)
+
+distinct_first : (k : ℕ) (rs : List Record) → AreDistinct (names rs) → AreDistinct (names (take k rs))
+distinct_first zero rs d = tt
+distinct_first (suc k) [] d = tt
+distinct_first (suc k) (r ∷ rs) d = (ap (list_any (same_bytes r.name)) (sym (take-map (λ (s : Record). s.name) k rs)) ∙ fewer r.name k (names rs) d.0, distinct_first k rs d.1)
+
+named_first : (name : Kind → Bytes → Bytes) (k : ℕ) (rs : List Record) → AllByRecursion (λ s. s.name ≡ name s.kind s.body) rs → AllByRecursion (λ s. s.name ≡ name s.kind s.body) (take k rs)
+named_first name zero rs h = tt
+named_first name (suc k) [] h = tt
+named_first name (suc k) (r ∷ rs) h = (h.0, named_first name k rs h.1)
+
+names_first : (k : ℕ) (rs : List Record) → list_all (λ r. is_name r.name) rs ≡ true → list_all (λ r. is_name r.name) (take k rs) ≡ true
+names_first zero rs h = refl
+names_first (suc k) [] h = refl
+names_first (suc k) (r ∷ rs) h = let p = and_parts (is_name r.name) _ h in and_from _ _ p.0 (names_first k rs p.1)
+
+pub held_first : (name : Kind → Bytes → Bytes) (k : ℕ) (rs : List Record) → AreHeld name rs → AreHeld name (take k rs)
+held_first name k rs h = record { distinct = distinct_first k rs h.distinct; named = named_first name k rs h.named; names = names_first k rs h.names }

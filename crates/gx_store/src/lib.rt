@@ -3,7 +3,9 @@
 #![tactic(auto)]
 
 mod fault;
+mod prefix;
 mod store;
 
 pub use fault::StoreFault;
+pub use prefix::Prefix;
 pub use store::Store;

@@ -1,12 +1,15 @@
 //! The records of a repository, as a list.
 
-ghost use Rattle.std.specs.Prelude.{◌≡◌, ◌↔◌, length, [], map, slice_get, IsTrue};
+ghost use Rattle.std.specs.Prelude.{◌≡◌, ◌↔◌, length, [], map, slice_get, take, IsTrue};
 ghost use Rattle.std.specs.Option.{option_map};
 ghost use Rattle.gx_model.specs.Growth.{record_named};
+ghost use Rattle.gx_model.specs.Lookups.{records_begun_by};
 ghost use Rattle.gx_store.specs.Stores.{AreHeld, Puts, object_of, record_for, seen, seen_at};
+ghost use Rattle.gx_store.specs.Prefixes.{prefix_of};
 ghost use Rattle.gx_store.specs.Objects.{held};
 
-use crate::StoreFault;
+use crate::prefix::begins;
+use crate::{Prefix, StoreFault};
 use gx_object::{Kind, Name, Namer};
 use std::alloc::Allocator;
 use std::marker::Model;
@@ -103,6 +106,23 @@ impl<N: Namer, A: Allocator + Copy> Store<N, A> {
         let object = self.objects.get(place)?;
         Some((object.name, object.kind, object.body.as_slice()))
     }
+
+    /// Keeps the first `len` objects alone, and all where there are no more. Cost: what is dropped. Takes no memory.
+    pub fn truncate(&mut self, len: usize)
+        ensures { self.new ≡ (self.old.0, take len self.old.1) }
+    {
+        self.objects.truncate(len);
+    }
+
+    /// The name that begins with these digits, of either case. An empty prefix begins every name, while more than 40
+    /// digits, or any byte that is no digit, begin none.
+    ///
+    /// Cost: the number of records, times that of the digits. Takes no memory. Source: gitrevisions(7), "sha1".
+    pub fn by_prefix(&self, digits: &[u8]) -> Prefix
+        ensures { result ≡ prefix_of (records_begun_by self.now.1 digits.now) }
+    {
+        prefix_among(self.objects.as_slice(), digits)
+    }
 }
 
 /// The object with this name.
@@ -115,6 +135,25 @@ fn find<'a, A: Allocator + Copy>(objects: &'a [Object<A>], name: &Name) -> Optio
         }
     }
     None
+}
+
+/// The name among these that begins with these digits.
+fn prefix_among<A: Allocator + Copy>(objects: &[Object<A>], digits: &[u8]) -> Prefix
+    ensures { result ≡ prefix_of (records_begun_by (map held objects.now) digits.now) }
+{
+    let mut found = None;
+    for object in objects {
+        if begins(digits, &object.name) {
+            if found.is_some() {
+                return Prefix::Ambiguous;
+            }
+            found = Some(object.name);
+        }
+    }
+    match found {
+        Some(name) => Prefix::Unique(name),
+        None => Prefix::Absent,
+    }
 }
 
 /// Whether an object is of this kind and has this body.

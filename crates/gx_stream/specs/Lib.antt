@@ -2,3 +2,4 @@ pub mod Heard
 pub mod Faults
 pub mod Places
 pub mod Reading
+pub mod Input

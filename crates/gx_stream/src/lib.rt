@@ -3,6 +3,7 @@
 #![tactic(auto)]
 
 mod fault;
+mod input;
 mod item;
 mod places;
 mod reader;

@@ -1,10 +1,10 @@
 //! Where the items of a text stand: every answer is a place in the text, and nothing is copied.
 
-ghost use Rattle.std.specs.Prelude.{◌≡◌, ◌≤◌, ◌+◌, length, drop, nat_eq, nat_lt, ◌||◌, ◌&&◌, codes, false, slice_range};
+ghost use Rattle.std.specs.Prelude.{◌≡◌, ◌≤◌, ◌+◌, ℕ, length, drop, nat_eq, nat_lt, ◌||◌, ◌&&◌, codes, true, false, slice_range};
 ghost use Rattle.std.specs.List.{starts_with};
 ghost use Rattle.gx_model.specs.Items.{line_len, has_no_line, without_lf, counted_block, delimited, announced, first_line, end_of, cut_off};
 ghost use Rattle.gx_stream.specs.Faults.{end_seen};
-ghost use Rattle.gx_stream.specs.Places.{IsLineAt, IsDelimiterAt, Begins, Finds};
+ghost use Rattle.gx_stream.specs.Places.{IsLineAt, AreLinesAt, GoesTo, IsSearched, IsScanned, from_line, without, first_seen, past_first, Begins, Skipped, Finds};
 
 use crate::fault::StreamFault;
 use gx_text::decimal;
@@ -26,45 +26,103 @@ pub(crate) enum Found {
     End(Option<StreamFault>),
 }
 
-/// The first item from a place on, past the comments before it.
-pub(crate) fn find_item(text: &[u8], start: usize, fails: bool) -> Found
-    requires { start ≤ length text.now }
-    ensures { Finds text.now fails start result }
+/// What the looks at an item that isn't whole yet have shown, so that none of it is looked through again: the last line
+/// begins at `line` and has no LF before `seen`. Where it isn't the item's first, those before it don't end the block.
+#[derive(Clone, Copy, Drop)]
+pub(crate) struct Scan {
+    pub(crate) line: usize,
+    pub(crate) seen: usize,
+}
+
+impl Scan {
+    /// Nothing is known but where the line begins.
+    pub(crate) fn from_line(line: usize) -> Scan
+        ensures { result ≡ from_line line }
+    {
+        Scan { line, seen: line }
+    }
+
+    /// The same, where so many bytes before them are gone.
+    pub(crate) fn without(self, count: usize) -> Scan
+        requires { (count ≤ self.line) × (self.line ≤ self.seen) }
+        ensures { result ≡ without count self }
+    {
+        Scan {
+            line: self.line - count,
+            seen: self.seen - count,
+        }
+    }
+
+    /// Before which place the item's first line has no LF.
+    fn first_seen(self, at: usize) -> usize
+        ensures { result ≡ first_seen self at }
+    {
+        if self.line == at { self.seen } else { at }
+    }
+
+    /// The same, where the item's first line came whole.
+    fn past_first(self, at: usize, next: usize) -> Scan
+        ensures { result ≡ past_first self at next }
+    {
+        if self.line == at {
+            Scan::from_line(next)
+        } else {
+            self
+        }
+    }
+}
+
+/// The item that a text goes on with. The place moves past the comments before it.
+pub(crate) fn find_item(text: &[u8], at: &mut usize, scan: &mut Scan, fails: bool) -> Found
+    requires within { at.old ≤ length text.now }
+    requires scan { IsScanned text.now fails at.old scan.old }
+    ensures skipped { Skipped text.now fails at.old at.new }
+    ensures found { Finds text.now fails at.new result }
+    ensures scanned { fails ≡ true → IsScanned text.now true at.new scan.new }
 {
-    let mut at = start;
     loop {
-        let Some(line) = line_at(text, at, fails) else {
+        let Some(line) = find_line(text, *at, scan.first_seen(*at), fails) else {
+            *scan = Scan {
+                line: *at,
+                seen: text.len(),
+            };
             return Found::End(end_of(fails));
         };
+        *scan = scan.past_first(*at, line.next);
         if !text[line.start..line.end].starts_with(b"#") {
-            return find_from(text, line, fails);
+            return find_from(text, line, scan, fails);
         }
-        at = line.next;
+        *at = line.next;
+        *scan = Scan::from_line(line.next);
     }
 }
 
 /// The item that begins with a line which is no comment.
 #[tactic(auto, unfolding(gx_model::specs::Items::first_line))]
-fn find_from(text: &[u8], line: Place, fails: bool) -> Found
+fn find_from(text: &[u8], line: Place, scan: &mut Scan, fails: bool) -> Found
     requires within { (line.start ≤ line.end) × (line.end ≤ line.next) × (line.next ≤ length text.now) }
     requires no_comment { starts_with nat_eq (slice_range text.now line.start line.end) (codes "#") ≡ false }
-    ensures { Begins text.now (first_line (slice_range text.now line.start line.end) (drop line.next text.now) fails) result }
+    requires scan { IsSearched text.now (drop 2 (drop 5 (slice_range text.now line.start line.end))) fails line.next scan.old }
+    ensures begins { Begins text.now (first_line (slice_range text.now line.start line.end) (drop line.next text.now) fails) result }
+    ensures scan { IsSearched text.now (drop 2 (drop 5 (slice_range text.now line.start line.end))) fails line.next scan.new }
 {
     let bytes = &text[line.start..line.end];
     if bytes.starts_with(b"data ") {
-        find_block(text, &bytes[5..], line.next, fails)
+        find_block(text, &bytes[5..], line.next, scan, fails)
     } else {
         Found::Line(line)
     }
 }
 
 /// The block that a line announces, by what follows `data` and a space in it.
-fn find_block(text: &[u8], size: &[u8], start: usize, fails: bool) -> Found
-    requires { start ≤ length text.now }
-    ensures { Begins text.now (announced size.now (drop start text.now) fails) result }
+fn find_block(text: &[u8], size: &[u8], start: usize, scan: &mut Scan, fails: bool) -> Found
+    requires within { start ≤ length text.now }
+    requires scan { IsSearched text.now (drop 2 size.now) fails start scan.old }
+    ensures begins { Begins text.now (announced size.now (drop start text.now) fails) result }
+    ensures scan { IsSearched text.now (drop 2 size.now) fails start scan.new }
 {
     if size.starts_with(b"<<") {
-        return find_delimited(text, &size[2..], start, fails);
+        return find_delimited(text, &size[2..], start, scan, fails);
     }
     match decimal(size) {
         None => Found::End(Some(StreamFault::BadNumber)),
@@ -91,43 +149,62 @@ fn find_counted(text: &[u8], count: u64, start: usize, fails: bool) -> Found
 
 /// The block that begins at a place and ends before its delimiter line.
 #[tactic(auto, unfolding(gx_model::specs::Items::delimited))]
-fn find_delimited(text: &[u8], delimiter: &[u8], start: usize, fails: bool) -> Found
-    requires { start ≤ length text.now }
-    ensures { Begins text.now (delimited delimiter.now (drop start text.now) fails) result }
+fn find_delimited(
+    text: &[u8],
+    delimiter: &[u8],
+    start: usize,
+    scan: &mut Scan,
+    fails: bool,
+) -> Found
+    requires within { start ≤ length text.now }
+    requires scan { IsSearched text.now delimiter.now fails start scan.old }
+    ensures begins { Begins text.now (delimited delimiter.now (drop start text.now) fails) result }
+    ensures scan { IsSearched text.now delimiter.now fails start scan.new }
 {
-    match find_delimiter(text, delimiter, start, fails) {
-        Some(line) if !(fails && line.next == text.len()) => Found::Data(Place {
-            start,
-            end: line.start,
-            next: line.next + lf_at(text, line.next),
+    match find_lines(text, delimiter, start, scan, fails) {
+        Some(lines) if !(fails && lines.next == text.len()) => Found::Data(Place {
+            next: lines.next + lf_at(text, lines.next),
+            ..lines
         }),
         _ => Found::End(Some(cut_off(fails))),
     }
 }
 
-/// The first line from a place on that is the delimiter.
-fn find_delimiter(text: &[u8], delimiter: &[u8], start: usize, fails: bool) -> Option<Place>
-    requires { start ≤ length text.now }
-    ensures { IsDelimiterAt text.now delimiter.now fails start result }
+/// The lines from a place on before the first that is the delimiter, with what follows that one.
+fn find_lines(
+    text: &[u8],
+    delimiter: &[u8],
+    start: usize,
+    scan: &mut Scan,
+    fails: bool,
+) -> Option<Place>
+    requires { IsSearched text.now delimiter.now fails start scan.old }
+    ensures found { AreLinesAt text.now delimiter.now fails start result }
+    ensures scan { IsSearched text.now delimiter.now fails start scan.new }
 {
-    let mut at = start;
     loop {
-        let line = line_at(text, at, fails)?;
+        let Some(line) = find_line(text, scan.line, scan.seen, fails) else {
+            scan.seen = text.len();
+            return None;
+        };
         if &text[line.start..line.end] == delimiter {
-            return Some(line);
+            return Some(Place {
+                start,
+                end: line.start,
+                next: line.next,
+            });
         }
-        at = line.next;
+        *scan = Scan::from_line(line.next);
     }
 }
 
-/// The line at a place. None stands at the end, or where the text fails before an LF.
-fn line_at(text: &[u8], at: usize, fails: bool) -> Option<Place>
-    requires { at ≤ length text.now }
+/// The line at a place, which has no LF before another. None stands at the end, or where the text fails before an LF.
+fn find_line(text: &[u8], at: usize, seen: usize, fails: bool) -> Option<Place>
+    requires { GoesTo text.now at seen }
     ensures { IsLineAt text.now fails at result }
 {
-    let rest = &text[at..];
-    let len = line_len(rest);
-    if has_no_line(rest.len(), len, fails) {
+    let len = seen - at + line_len(&text[seen..]);
+    if has_no_line(text.len() - at, len, fails) {
         return None;
     }
     Some(Place {

@@ -1,9 +1,10 @@
-ghost use Rattle.std.specs.Prelude.{◌<◌};
+ghost use Rattle.std.specs.Prelude.{◌<◌, None};
 
 use super::*;
 use gx_refusing::Refusing;
-use gx_text::{Bytes, Source};
+use gx_text::{Bytes, Failed, Source};
 use std::alloc::{AllocError, Allocator};
+use std::cell::Cell;
 use std::test::Fail;
 
 const MIXED: &[u8] =
@@ -11,7 +12,8 @@ const MIXED: &[u8] =
 
 const MIXED_ITEMS: &[u8] = b"[blob]<#no\n#yes>[]<ENDING\n\n>[progress a]<>.";
 
-fn mark(fault: StreamFault) -> &'static [u8] {
+/// A fault's name.
+fn name_of(fault: StreamFault) -> &'static [u8] {
     match fault {
         StreamFault::OutOfMemory => b"OutOfMemory",
         StreamFault::ReadFailed => b"ReadFailed",
@@ -43,7 +45,7 @@ fn spell<R: Source, A: Allocator + Copy, B: Allocator + Copy>(
                 break;
             }
             Err(fault) => {
-                spelled.extend_from_slice(mark(fault))?;
+                spelled.extend_from_slice(name_of(fault))?;
                 break;
             }
         }
@@ -154,6 +156,41 @@ fn end_and_faults_stay(rt: HostRuntime) -> Result<(), Fail> {
             assert_eq!(rt; spell(rt.alloc(), &mut reader)?.as_slice(), answer);
         }
     }
+    Ok(())
+}
+
+/// A source that counts its pulls.
+#[derive(Drop)]
+struct Counting<'a> {
+    bytes: Bytes<'a>,
+    pulls: &'a Cell<u64>,
+}
+
+impl<'a> Source for Counting<'a> {
+    ghost coming = { λ _. None };
+
+    fn pull(&mut self, buffer: &mut [u8]) -> Result<usize, Failed> {
+        self.pulls.set(self.pulls.get().saturating_add(1));
+        self.bytes.pull(buffer)
+    }
+}
+
+#[test]
+fn more_is_pulled_only_for_the_next_item(rt: HostRuntime) -> Result<(), Fail> {
+    let mut text = Vec::new(rt.alloc());
+    for _ in 0..1000u16 {
+        text.extend_from_slice(b"progress a\n")?;
+    }
+    let pulls = Cell::new(0u64);
+    let mut reader = ItemReader::new(
+        rt.alloc(),
+        Counting {
+            bytes: Bytes::new(&text, 1, false),
+            pulls: &pulls,
+        },
+    );
+    assert!(rt; matches!(reader.next(), Ok(Some(Item::Line(b"progress a")))));
+    assert!(rt; pulls.get() <= 12, "{pulls} pulls", pulls = pulls.get());
     Ok(())
 }
 

@@ -3,7 +3,7 @@ pub mod Numbers
 pub mod Cutting
 pub mod Neighbours
 pub mod PathTexts
-pub mod Quotes
+pub mod Components
 pub mod Unquoting
 pub mod Rests
-pub mod Components
+pub mod Printing

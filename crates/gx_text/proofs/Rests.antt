@@ -1,10 +1,10 @@
 -- What follows a quoted text stands at the end of the bytes that it was read from.
-use Rattle.std.proofs.Common.{◌≡◌, ℕ, zero, suc, ◌-◌, ◌≤◌, Bool, true, false, cond, eqb, leb, ◌&&◌, ◌||◌, [], ◌∷◌, ◌++◌, length, drop, Option, Some, None, Result, Ok, Err, refl, sym, ap, ◌∙◌, arith, append_assoc}
+use Rattle.std.proofs.Common.{◌≡◌, ℕ, zero, suc, ◌-◌, ◌≤◌, Bool, true, false, cond, eqb, leb, ◌&&◌, ◌||◌, [], ◌∷◌, ◌++◌, length, drop, Option, Some, None, Ok, refl, sym, ap, ◌∙◌, arith, append_assoc}
 use Rattle.std.specs.Option.{option_map, option_and_then}
 use Rattle.std.proofs.lemmas.List.{drop_at, length-append}
 use Rattle.gx_model.specs.Texts.{Bytes}
 use Rattle.gx_model.specs.Paths.{Path, path_of, quoted_of, named, octal_of, escape_at, char_at, with_char, unquote_within, unquote, or_bad_path}
-use Rattle.gx_text.proofs.Cutting.{some_is, map_some}
+use Rattle.gx_model.proofs.Cuts.{some_is, map_some}
 
 abbrev pub Follows : Bytes → Bytes → Type 0
 Follows rest bs = (front : Bytes) × (bs ≡ front ++ rest)

@@ -1,9 +1,8 @@
 -- One push after another.
-use Rattle.std.proofs.Common.{◌≡◌, ℕ, zero, suc, ◌+◌, ◌<◌, ◌≤◌, List, [], ◌++◌, length, take, drop, Bool, true, false, Option, Some, None, Result, Ok, Err, refl, sym, ap, ◌∙◌, append_assoc, append-nil, arith, rules}
-use Rattle.std.proofs.Math.Seq.{take-add}
+use Rattle.std.proofs.Common.{◌≡◌, ℕ, zero, suc, ◌<◌, List, [], ◌++◌, length, take, Option, Some, None, Ok, Err, refl, sym, ap, ◌∙◌, append_assoc, append-nil, arith}
 use Rattle.std.proofs.lemmas.Bool.{false≢true}
 use Rattle.std.proofs.lemmas.List.{length-take}
-use Rattle.gx_text.specs.Devices.{Taken, Pushes, PushesTo, Sends, SendsTo}
+use Rattle.gx_text.specs.Devices.{Taken, Pushes, Sends}
 use Rattle.gx_text.specs.declared.device.Failed.{Failed}
 
 pub Sends-none : (a : Option Taken) → Sends a a [] (Ok tt)

@@ -1,5 +1,5 @@
 -- What a source will still give, what a sink has taken, and what one call does to them.
-use Rattle.std.specs.Prelude.{◌≡◌, ℕ, ◌<◌, ◌≤◌, List, [], ◌++◌, length, take, drop, Bool, true, false, Option, Some, None, Result, Ok, Err, ⊤}
+use Rattle.std.specs.Prelude.{◌≡◌, ℕ, ◌<◌, ◌≤◌, [], ◌++◌, length, take, drop, Bool, true, false, Option, Some, None, Result, Ok, Err, ⊤}
 use Rattle.gx_model.specs.Texts.{Bytes}
 use Rattle.gx_text.specs.declared.device.Failed.{Failed}
 

@@ -1,6 +1,6 @@
 //! What gives bytes and what takes them.
 
-ghost use Rattle.std.specs.Prelude.{◌≡◌, ◌<◌, ◌≤◌, length, Option, IfOk};
+ghost use Rattle.std.specs.Prelude.{◌≡◌, ◌<◌, ◌≤◌, length, Option, IfOk, IfErr};
 ghost use Rattle.gx_text.specs.Devices.{Coming, Pulls, Taken, Pushes, Sends};
 
 /// A device didn't do what it was asked.
@@ -38,7 +38,8 @@ pub trait Sink {
 ///
 /// Cost: one push per piece that the sink takes. Takes no memory.
 pub fn send<W: Sink>(sink: &mut W, bytes: &[u8]) -> Result<(), usize>
-    ensures { Sends (W.taken sink.old) (W.taken sink.new) bytes.now result }
+    ensures bytes { Sends (W.taken sink.old) (W.taken sink.new) bytes.now result }
+    ensures bound { IfErr result (λ n. n < length bytes.now) }
 {
     let mut sent = 0;
     while sent < bytes.len() {

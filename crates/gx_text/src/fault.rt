@@ -31,6 +31,6 @@ impl<T: Drop> From<AllocFailed<T>> for TextFault {
     ghost from_gives = { λ _ e. e ≡ OutOfMemory };
 
     fn from(_error: AllocFailed<T>) -> TextFault {
-        TextFault::OutOfMemory
+        AllocError.into()
     }
 }

@@ -1,6 +1,6 @@
 //! Who made a commit or a tag, and when.
 
-ghost use Rattle.std.specs.Prelude.{◌≡◌, IsTrue};
+ghost use Rattle.std.specs.Prelude.{◌≡◌, IfErr, IsTrue};
 ghost use Rattle.gx_model.specs.Idents.{is_plain, is_head, is_signed_offset, is_ident};
 
 use crate::cuts::cut;
@@ -25,7 +25,8 @@ impl<'a> Ident<'a> {
     ///
     /// Cost: the length. Takes no memory.
     pub fn read(bytes: &'a [u8]) -> Result<Ident<'a>, TextFault>
-        ensures { Gives fault_of ident_bytes result (ident_of bytes.now) }
+        ensures ident { Gives fault_of ident_bytes result (ident_of bytes.now) }
+        ensures fault { IfErr result (λ fault. fault ≡ TextFault.BadIdent) }
     {
         if is_ident(bytes) {
             Ok(Ident { bytes })

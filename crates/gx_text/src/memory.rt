@@ -8,7 +8,7 @@ use crate::device::{Failed, Sink, Source};
 use std::alloc::{AllocError, Allocator};
 use std::marker::Model;
 
-/// A source over memory.
+/// A source over memory. It is seen as the bytes that it still gives, with their end, and the most that one pull gives.
 #[derive(Drop)]
 pub struct Bytes<'a> {
     rest: &'a [u8],
@@ -31,7 +31,7 @@ impl<'a> Model for Bytes<'a> {
 }
 
 impl<'a> Bytes<'a> {
-    /// Gives at most `piece` bytes per pull, then an end, or a failure where `fails` is true.
+    /// Gives at most `piece` bytes per pull, then an end, or a failure where `fails` is true. Takes no memory.
     pub fn new(bytes: &'a [u8], piece: usize, fails: bool) -> Bytes<'a>
         requires { 0 < piece }
         ensures coming { result.coming ≡ record { bytes = bytes.now; fails = fails } }
@@ -48,6 +48,7 @@ impl<'a> Bytes<'a> {
 impl<'a> Source for Bytes<'a> {
     ghost coming = { λ s. Some s.coming };
 
+    /// Gives as many bytes as are left, as fit the buffer, and as `piece` allows. Cost: their number.
     fn pull(&mut self, buffer: &mut [u8]) -> Result<usize, Failed>
         requires nonempty { 0 < length buffer.old }
         ensures bound { IfOk result (λ n. n ≤ length buffer.new) }
@@ -66,7 +67,7 @@ impl<'a> Source for Bytes<'a> {
     }
 }
 
-/// A sink over memory that takes so many bytes, and then fails.
+/// A sink over memory that takes so many bytes, and then fails. It is seen as what it took, and the room that is left.
 #[derive(Drop)]
 pub struct Held<A: Allocator> {
     bytes: Vec<u8, A>,
@@ -90,7 +91,7 @@ impl<A: Allocator> Model for Held<A> {
 }
 
 impl<A: Allocator + Copy> Held<A> {
-    /// Takes `room` bytes, and then fails.
+    /// Takes `room` bytes, and then fails. All of its memory is taken here.
     pub fn new(alloc: A, room: usize) -> Result<Held<A>, AllocError>
         ensures { IfOk result (λ h. h ≡ record {
           taken = record { bytes = []; failed = false };
@@ -104,7 +105,7 @@ impl<A: Allocator + Copy> Held<A> {
         })
     }
 
-    /// What it took.
+    /// What it took. Takes no memory.
     pub fn bytes(&self) -> &[u8]
         ensures { result.now ≡ self.now.taken.bytes }
     {
@@ -115,6 +116,7 @@ impl<A: Allocator + Copy> Held<A> {
 impl<A: Allocator + Copy> Sink for Held<A> {
     ghost taken = { λ h. Some h.taken };
 
+    /// Takes as many bytes as there is room for. Cost: their number.
     fn push(&mut self, bytes: &[u8]) -> Result<usize, Failed>
         requires nonempty { 0 < length bytes.now }
         ensures bound { IfOk result (λ n. n ≤ length bytes.now) }

@@ -54,7 +54,7 @@ impl<A: Allocator + Copy> TreePath<A> {
     /// The path that the text writes, byte for byte; the empty text is the root.
     /// `BadPath` where a component is none, and then `PathTooLong` over 4,095 bytes.
     ///
-    /// Cost: the length.
+    /// Cost: the length. Takes memory for the text and for a number per component.
     pub fn read(alloc: A, text: &[u8]) -> Result<TreePath<A>, TextFault>
         ensures { Gives fault_of (λ p. p) result (path_of text.now) }
     {
@@ -66,7 +66,8 @@ impl<A: Allocator + Copy> TreePath<A> {
     /// The path of the quoted text at the front, and the number of bytes that it took, quotes included.
     /// `BadPath` where no quoted text stands there, and otherwise as `read`.
     ///
-    /// Cost: the number of those bytes. Source: git-fast-import(1), "filemodify", on C-style quoting.
+    /// Cost: the number of those bytes. Takes memory for them and for a number per component.
+    /// Source: git-fast-import(1), "filemodify", on C-style quoting.
     #[tactic(auto, unfolding(gx_model::specs::Paths::quoted_of))]
     pub fn read_quoted(alloc: A, bytes: &[u8]) -> Result<(TreePath<A>, usize), TextFault>
         ensures path { Gives fault_of (λ p. (p.0, drop p.1 bytes.now)) result (quoted_of bytes.now) }
@@ -90,7 +91,7 @@ impl<A: Allocator + Copy> TreePath<A> {
     /// Appends the path as it is printed: quoted where a byte is below 0x20, DEL, `"`, `\` or at least 0x80.
     /// Read as the last field of a line it is the path again. The one fault is `OutOfMemory`, which leaves `out` as it was.
     ///
-    /// Cost: the length.
+    /// Cost: the length, at most four bytes for each of the path's and two quotes.
     pub fn write_quoted(&self, out: &mut Vec<u8, A>) -> Result<(), TextFault>
         ensures printed { OnOk result (out.new.items ≡ out.old.items ++ printed (path_text self.now)) }
         ensures again { last_path (printed (path_text self.now)) ≡ Ok self.now }
@@ -123,7 +124,7 @@ impl<A: Allocator + Copy> TreePath<A> {
         self.ends.len()
     }
 
-    /// The component at a place, from 0. Takes no time that grows, and no memory.
+    /// The component at a place, counted from 0. Its cost doesn't grow with the path. Takes no memory.
     pub fn component(&self, place: usize) -> &[u8]
         requires { place < length self.now }
         ensures component { result.now ≡ slice_index_or self.now place [] }

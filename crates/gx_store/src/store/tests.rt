@@ -1,5 +1,6 @@
 use super::*;
 use gx_object::ShortNamer;
+use gx_refusing::Refusing;
 use std::test::Fail;
 
 #[test]
@@ -24,4 +25,81 @@ fn other_bytes_under_a_held_name_are_refused(rt: HostRuntime) -> Result<(), Fail
     assert_eq!(rt; body, b"a".as_slice());
     assert!(rt; store.record(2).is_none());
     Ok(())
+}
+
+#[test]
+fn prefixes_are_of_either_case(rt: HostRuntime) -> Result<(), Fail> {
+    let mut store = Store::new(rt.alloc(), ShortNamer);
+    assert_eq!(rt; store.by_prefix(b""), Prefix::Absent);
+    let a = store.put(Kind::Blob, b"a").map_err(|_| "growth")?;
+    assert_eq!(rt; store.by_prefix(b""), Prefix::Unique(a));
+    let long = [b'x'; 171];
+    let ab = store.put(Kind::Blob, &long).map_err(|_| "growth")?;
+    let rows: [(&[u8], Prefix); 9] = [
+        (b"", Prefix::Ambiguous),
+        (b"1111", Prefix::Ambiguous),
+        (b"11111111111111111111111111111111111100", Prefix::Ambiguous),
+        (
+            b"111111111111111111111111111111111111000",
+            Prefix::Unique(a),
+        ),
+        (
+            b"11111111111111111111111111111111111100aB",
+            Prefix::Unique(ab),
+        ),
+        (b"11111111111111111111111111111111111100ab0", Prefix::Absent),
+        (b"2", Prefix::Absent),
+        (b"1g", Prefix::Absent),
+        (b"1 ", Prefix::Absent),
+    ];
+    for (digits, found) in rows {
+        assert_eq!(rt; store.by_prefix(digits), found);
+    }
+    store.truncate(1);
+    assert_eq!(rt; store.len(), 1);
+    assert_eq!(rt; store.by_prefix(b"1"), Prefix::Unique(a));
+    assert!(rt; store.get(&ab).is_none());
+    store.truncate(2);
+    assert_eq!(rt; store.len(), 1);
+    Ok(())
+}
+
+#[derive(Drop)]
+struct Trial {
+    answer: Result<Name, StoreFault>,
+    len: usize,
+    is_waiting: bool,
+}
+
+/// A second put, at which the growth with this number is refused.
+fn refused_put<B: Allocator>(heap: &Refusing<B>, n: u64) -> Trial {
+    let mut store = Store::new(heap, ShortNamer);
+    let _ = store.put(Kind::Blob, b"a");
+    heap.arm(n);
+    let answer = store.put(Kind::Tree, b"bytes that are copied");
+    let is_waiting = heap.is_waiting();
+    heap.arm(0);
+    Trial {
+        answer,
+        len: store.len(),
+        is_waiting,
+    }
+}
+
+#[test]
+fn refused_growths_put_nothing(rt: HostRuntime) {
+    let mut refused = 0u64;
+    for n in 1..100 {
+        let heap = Refusing::new(rt.alloc(), 0);
+        let trial = refused_put(&heap, n);
+        if trial.is_waiting {
+            assert!(rt; trial.answer.is_ok());
+            assert_eq!(rt; trial.len, 2);
+            break;
+        }
+        assert_eq!(rt; trial.answer, Err(StoreFault::OutOfMemory));
+        assert_eq!(rt; trial.len, 1);
+        refused = n;
+    }
+    assert!(rt; refused > 0 && refused < 99);
 }

@@ -1,15 +1,26 @@
-use Rattle.std.proofs.Common.{◌∙◌, sym}
-use Rattle.gx_stream.proofs.Comments.{Skipped-none, Skipped-more, Finds-none, Finds-item}
+use Rattle.std.proofs.Common.{◌∙◌, sym, subst, slice_range, drop}
+use Rattle.gx_stream.specs.Places.{IsSearched, IsScanned}
+use Rattle.gx_stream.proofs.Comments.{Skipped-more, Finds-none, Finds-item}
+use Rattle.gx_stream.proofs.Scans.{scanned_none, past_first-searched, searched-scanned}
 use Rattle.gx_stream.proofs.places.find_item.Goals as goal
 
-pub loop-line-init : goal.loop-line-init
-loop-line-init c = Skipped-none c.args.text.now c.args.fails c.args.start c.requires
+pub returns-in_default-clause-found : goal.returns-in_default-clause-found
+returns-in_default-clause-found c = Finds-none _ _ _ c.end_of.result c.end_of.ensures c.in_default.ensures
 
-pub returns-in_default : goal.returns-in_default
-returns-in_default c = Finds-none _ _ _ _ c.end_of.result c.end_of.ensures c.in_default.ensures c.loop-line.invariant
+pub find_from-requires-clause-scan : goal.find_from-requires-clause-scan
+find_from-requires-clause-scan c =
+    let line = c.in-Some.line in
+    subst (IsSearched c.args.text.now (drop 2 (drop 5 (slice_range c.args.text.now line.start line.end))) c.args.fails line.next) (sym c.past_first.ensures) (past_first-searched _ _ _ _ _ c.loop-line.invariant.skipped.within c.in-Some.ensures c.loop-line.invariant.scanned)
 
-pub returns-then-not-starts_with : goal.returns-then-not-starts_with
-returns-then-not-starts_with c = Finds-item _ _ _ _ _ _ c.in-Some.ensures c.find_from.ensures c.loop-line.invariant
+pub returns-then-not-starts_with-clause-found : goal.returns-then-not-starts_with-clause-found
+returns-then-not-starts_with-clause-found c = Finds-item _ _ _ _ _ c.loop-line.invariant.skipped.within c.in-Some.ensures c.find_from.ensures.begins
+
+pub returns-then-not-starts_with-clause-scanned : goal.returns-then-not-starts_with-clause-scanned
+returns-then-not-starts_with-clause-scanned c = searched-scanned _ _ _ _ _ c.loop-line.invariant.skipped.within c.in-Some.ensures c.find_from.ensures.scan
 
 pub loop-line-preserved : goal.loop-line-preserved
-loop-line-preserved c = Skipped-more _ _ _ _ _ c.in-Some.ensures (sym c.starts_with.ensures.value ∙ c.if-not-starts_with.false) c.loop-line.invariant
+loop-line-preserved c =
+    record {
+      skipped = Skipped-more _ _ _ _ _ c.in-Some.ensures (sym c.starts_with.ensures.value ∙ c.if-not-starts_with.false) c.loop-line.invariant.skipped;
+      scanned = subst (IsScanned c.args.text.now c.args.fails c.in-Some.line.next) (sym c.from_line.ensures) (scanned_none c.args.text.now c.args.fails c.in-Some.line.next c.in-Some.ensures.within.2);
+    }

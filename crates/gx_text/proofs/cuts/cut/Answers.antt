@@ -1,4 +1,4 @@
-use Rattle.std.proofs.Common.{◌≡◌, ◌+◌, ◌-◌, ◌<◌, ◌≤◌, suc, Some, None, length, take, drop, sym, ◌∙◌, ap, arith, rules, add-one, length-drop}
+use Rattle.std.proofs.Common.{◌≡◌, ◌+◌, ◌-◌, suc, length, take, drop, arith, add-one, length-drop}
 use Rattle.std.proofs.lemmas.List.{take_all}
 use Rattle.gx_text.proofs.Cutting.{cut_none, cut_there}
 use Rattle.gx_text.proofs.cuts.cut.Goals as goal

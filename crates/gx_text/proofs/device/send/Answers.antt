@@ -1,8 +1,8 @@
-use Rattle.std.proofs.Common.{◌≡◌, ◌++◌, ◌-◌, length, take, drop, sym, ap, subst, ◌∙◌, Ok, arith}
+use Rattle.std.proofs.Common.{◌-◌, length, drop, sym, subst, Ok, arith}
 use Rattle.std.proofs.Math.Seq.{take-add}
 use Rattle.std.proofs.lemmas.List.{take_rest, length-take}
 use Rattle.gx_text.specs.Devices.{Sends}
-use Rattle.gx_text.proofs.Sending.{Sends-none, Sends-more, Sends-failed}
+use Rattle.gx_text.proofs.Sending.{Sends-more}
 use Rattle.gx_text.proofs.device.send.Goals as goal
 
 pub loop-sent-preserved : goal.loop-sent-preserved

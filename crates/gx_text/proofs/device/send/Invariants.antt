@@ -1,4 +1,4 @@
-use Rattle.std.proofs.Common.{length, take, ◌-◌, ◌≡◌, ◌<◌, ◌≤◌, Ok}
+use Rattle.std.proofs.Common.{length, take, ◌-◌, ◌≤◌, Ok}
 use Rattle.gx_text.specs.Devices.{Sends}
 use Rattle.gx_text.proofs.device.send.Given as goal
 

@@ -1,4 +1,4 @@
-use Rattle.std.proofs.Common.{rules, tests, eqb, sym, ap, ◌∙◌}
+use Rattle.std.proofs.Common.{sym, ap, ◌∙◌}
 use Rattle.std.specs.List.{list_all}
 use Rattle.gx_model.specs.Paths.{is_component}
 use Rattle.gx_text.proofs.PathTexts.{parts_of-some, no_parts}

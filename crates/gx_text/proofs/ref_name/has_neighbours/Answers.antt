@@ -1,6 +1,5 @@
-use Rattle.std.proofs.Common.{◌≡◌, ◌+◌, ◌-◌, ◌<◌, ◌≤◌, suc, length, drop, sym, ◌∙◌, ap, arith, rules, inl, inr}
-use Rattle.gx_model.specs.Texts.{has_pair}
-use Rattle.gx_text.proofs.Neighbours.{has_pair_more, has_pair_at, has_pair_end}
+use Rattle.std.proofs.Common.{◌≡◌, ◌+◌, ◌-◌, sym, ◌∙◌, arith, inl, inr}
+use Rattle.gx_text.proofs.Neighbours.{has_pair_more, has_pair_end}
 use Rattle.gx_text.proofs.ref_name.has_neighbours.Goals as goal
 use Rattle.gx_text.proofs.ref_name.has_neighbours.Goals.{else-bytes-i-via-then-bytes-i+else-bytes-i-2, else-bytes-i-via-else-bytes-i}
 

@@ -1,4 +1,4 @@
-use Rattle.std.proofs.Common.{◌≡◌, ℕ, ◌+◌, ◌-◌, ◌<◌, ◌≤◌, true, subst, sym, ap, length, List, [], get_or, take, drop, Fits, w64, Ok, refl, ◌∙◌, arith, rules}
+use Rattle.std.proofs.Common.{◌≡◌, ℕ, ◌+◌, ◌-◌, ◌<◌, ◌≤◌, true, subst, ap, length, List, [], get_or, take, drop, Fits, w64, Ok, refl, ◌∙◌, arith, rules}
 use Rattle.std.proofs.lemmas.Grind.{get_or_default_zero}
 use Rattle.gx_model.specs.Texts.{Bytes}
 use Rattle.gx_model.specs.Paths.{parts_of, path_of}
@@ -58,9 +58,8 @@ slice_bounds-result-start g c =
     let lt : c.args.place < length (parts_of text) = rw c.self.view_is c.requires in
     let start : c.if-place-eq0.start ≡ start_in 0 ends c.args.place = elim c.if-place-eq0.branch [ then-place-eq0 w ↦ start_first ends c.args.place _ w.if-place-eq0.true w.start-is | else-place-eq0 w ↦ behind text ends c.args.place _ w.index.result.now c.self.invariant.1 lt w.if-place-eq0.false w.start-is w.index.ensures ] in
     let within = stands_within _ _ _ _ (there text ends c.args.place c.if-place-eq0.start c.index-2.result.now c.self.invariant.1 lt start c.index-2.ensures) in
-    let long : c.index-2.result.now ≤ length c.deref.result.now = rw c.deref.ensures.value within.1 in
     let low : c.if-place-eq0.start ≤ c.index-2.result.now = within.0 in
-    search (rules, low, long)
+    search (rules, low)
 
 pub slice_bounds-result-end : goal.slice_bounds-result-end
 slice_bounds-result-end g c =

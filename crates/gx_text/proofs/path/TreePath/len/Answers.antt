@@ -1,4 +1,4 @@
-use Rattle.std.proofs.Common.{◌≡◌, length, true, subst, ap, ◌∙◌, arith}
+use Rattle.std.proofs.Common.{◌≡◌, length, true, subst, ap, ◌∙◌}
 use Rattle.gx_text.specs.TreePaths.{is_path}
 use Rattle.gx_text.proofs.Components.{length-component_ends, text_is_path}
 use Rattle.gx_text.proofs.path.TreePath.len.Goals as goal

@@ -1,0 +1,3 @@
+pub mod Staged
+pub mod Progress
+pub mod Weaker

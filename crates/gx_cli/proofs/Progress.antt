@@ -1,0 +1,278 @@
+-- Printing the names of blobs, so far.
+use Rattle.std.proofs.Common.{◌≡◌, ◌≢◌, ℕ, ◌+◌, ◌-◌, ◌<◌, ◌≤◌, Bool, true, false, cond, if◌then◌else◌, ◌⊎◌, inl, inr, Option, Some, None, option_map, Result, Ok, Err, List, [], ◌∷◌, ◌++◌, length, take, drop, refl, sym, ap, subst, ◌∙◌, arith, rules, append_assoc, append-nil, ◌&&◌}
+use Rattle.std.specs.List.{flat_map}
+use Rattle.std.specs.Str.{bytes_eq}
+use Rattle.std.proofs.lemmas.Option.{none-some}
+use Rattle.std.proofs.lemmas.List.{length_push}
+use Rattle.std.proofs.lemmas.Grind.{flat_map-append}
+use Rattle.std.specs.Bool.{Decides}
+use Rattle.std.proofs.lemmas.Slice.Eq.{bytes_eq-Decides}
+use Rattle.gx_model.specs.declared.objects.Kind.{Kind}
+use Rattle.gx_model.specs.declared.objects.Kind.TheVariants as kind
+use Rattle.gx_model.specs.Texts.{Bytes, same_bytes}
+use Rattle.gx_model.specs.Items.{Item as ModelItem, Stream, End, Finished, Failed, then_comes}
+use Rattle.gx_model.specs.Histories.{Record}
+use Rattle.gx_model.specs.Growth.{put, put_under, record_named, same_object}
+use Rattle.gx_text.specs.Devices.{Taken, Sends}
+use Rattle.gx_stream.specs.declared.item.Item.{Item}
+use Rattle.gx_stream.specs.declared.fault.StreamFault.{StreamFault}
+use Rattle.gx_stream.specs.declared.fault.StreamFault.TheVariants as stream
+use Rattle.gx_stream.specs.Faults.{fault_of, end_seen, ended as only}
+use Rattle.gx_stream.specs.Reading.{Reads, item_of}
+use Rattle.gx_cli.specs.Blobs.{BlobRun, Stop, refused, blobs_of, behind, first_body, stops}
+use Rattle.gx_cli.specs.Steps.{Step, stop, go, body, run_of, step_of, stepped, stop_at}
+use Rattle.gx_cli.specs.Printing.{blob_line, printed, blob_record, wrote, stop_of, Clashes, Stops, IsHeldForOther, FailsWithin, Prints, PrintsBlobs, PrintsOne, kind_of}
+use Rattle.gx_cli.specs.declared.blob_names.Stage.{Stage}
+use Rattle.gx_cli.specs.declared.blob_names.Stage.TheVariants.{Expected, Started, Marked, Named}
+use Rattle.gx_cli.specs.declared.blob_names.BlobsKind.{BlobsKind}
+use Rattle.gx_cli.specs.declared.blob_names.BlobsKind.TheVariants as kinds
+use Rattle.gx_cli.specs.declared.blob_names.BlobsFault.{BlobsFault}
+use Rattle.gx_cli.proofs.Staged.{blobs_of-run}
+
+-- the blobs of items, from a stage on
+abbrev pub staged : Stage → Stream → BlobRun
+staged stage s = run_of s.items stage s.end
+
+abbrev refused_at : ℕ → BlobsKind → Result ℕ BlobsFault
+refused_at count kind = Err (record { command = count + 1; kind = kind })
+
+as_blobs : (names : Kind → Bytes → Bytes) (s : Stream) (was : Taken) (is : Option Taken) (r : Result ℕ BlobsFault) → Prints names (staged Expected s) was is r → Prints names (blobs_of s) was is r
+as_blobs names s was is r h = subst (λ run. Prints names run was is r) (sym (blobs_of-run s)) h
+
+-- the blobs so far, and then those of what is left
+abbrev pub Goes : Option Stream → Option Stream → Stage → List Bytes → Type 0
+Goes None now stage front = Unit {0}
+Goes (Some r) now stage front = (left : Stream) × (now ≡ Some left) × (staged Expected r ≡ behind front (staged stage left))
+
+-- the sink has their names
+abbrev pub Wrote : Option Taken → Option Taken → Bytes → Type 0
+Wrote None is bytes = Unit {0}
+Wrote (Some was) is bytes = is ≡ Some (wrote was bytes)
+
+abbrev pub IsIn : Bytes → List Bytes → Type 0
+IsIn x [] = ⊥
+IsIn x (y ∷ ys) = (x ≡ y) ⊎ IsIn x ys
+
+-- the store has nothing else
+abbrev pub HeldAmong : (Kind → Bytes → Bytes) → List Bytes → List Record → Type 0
+HeldAmong names front [] = Unit {0}
+HeldAmong names front (h ∷ hs) = ((x : Bytes) × IsIn x front × (h ≡ blob_record names x)) × HeldAmong names front hs
+
+pub record Progress (names : Kind → Bytes → Bytes) (start now : Option Stream) (stage : Stage) (was is : Option Taken) (held : List Record) (count : ℕ) : Type 0 where
+  pub front : List Bytes
+  pub counted : count ≡ length front
+  pub goes : Goes start now stage front
+  pub wrote : Wrote was is (printed names front)
+  pub among : HeldAmong names front held
+
+Goes-none : (start : Option Stream) → Goes start start Expected []
+Goes-none None = tt
+Goes-none (Some r) = (r, refl, refl)
+
+Wrote-none : (was : Option Taken) → Wrote was was []
+Wrote-none None = tt
+Wrote-none (Some was) = ap (λ bs. Some (record was { bytes = bs })) (sym (append-nil was.bytes))
+
+pub Progress-none : (names : Kind → Bytes → Bytes) (start now : Option Stream) (was : Option Taken) (held : List Record) → now ≡ start → held ≡ [] → Progress names start now Expected was was held 0
+Progress-none names start now was held e h =
+    record {
+      front = [];
+      counted = refl;
+      goes = subst (λ v. Goes start v Expected []) (sym e) (Goes-none start);
+      wrote = Wrote-none was;
+      among = subst (HeldAmong names []) (sym h) tt;
+    }
+
+-- an item came
+staged-item : (stage : Stage) (p : ModelItem) (left : Stream) → staged stage (then_comes p left) ≡ stepped (step_of stage p) (λ next. staged next left)
+unfolding run_of
+staged-item stage p left = refl
+
+Goes-go : (start now new : Option Stream) (stage next : Stage) (front : List Bytes) (item : Item) → step_of stage (item_of item) ≡ go next → Goes start now stage front → Reads now new (Ok (Some item)) → Goes start new next front
+Goes-go None now new stage next front item e g r = tt
+Goes-go (Some s) now new stage next front item e g r =
+    let t = rw g.1 at r in
+    (t.0, t.2, g.2 ∙ ap (λ v. behind front (staged stage v)) t.1 ∙ ap (behind front) (staged-item stage (item_of item) t.0 ∙ ap (λ v. stepped v (λ n. staged n t.0)) e))
+
+Goes-body : (start now new : Option Stream) (stage : Stage) (front : List Bytes) (item : Item) (x : Bytes) → step_of stage (item_of item) ≡ body x → Goes start now stage front → Reads now new (Ok (Some item)) → Goes start new Expected (front ++ x ∷ [])
+Goes-body None now new stage front item x e g r = tt
+Goes-body (Some s) now new stage front item x e g r =
+    let t = rw g.1 at r in
+    let here = staged-item stage (item_of item) t.0 ∙ ap (λ v. stepped v (λ n. staged n t.0)) e in
+    let run = staged Expected t.0 in
+    (t.0, t.2, g.2 ∙ ap (λ v. behind front (staged stage v)) t.1 ∙ ap (behind front) here ∙ ap (λ bs. record { bodies = bs; stop = run.stop }) (sym (append_assoc front (x ∷ []) run.bodies)))
+
+pub Progress-go : (names : Kind → Bytes → Bytes) (start now new : Option Stream) (stage next : Stage) (was is : Option Taken) (held : List Record) (count : ℕ) (item : Item) → step_of stage (item_of item) ≡ go next → Progress names start now stage was is held count → Reads now new (Ok (Some item)) → Progress names start new next was is held count
+Progress-go names start now new stage next was is held count item e p r =
+    record {
+      front = p.front;
+      counted = p.counted;
+      goes = Goes-go start now new stage next p.front item e p.goes r;
+      wrote = p.wrote;
+      among = p.among;
+    }
+
+IsIn-push : (x y : Bytes) (front : List Bytes) → IsIn x front → IsIn x (front ++ y ∷ [])
+IsIn-push x y [] h = absurd h
+IsIn-push x y (z ∷ zs) (inl e) = inl e
+IsIn-push x y (z ∷ zs) (inr h) = inr (IsIn-push x y zs h)
+
+IsIn-last : (x : Bytes) (front : List Bytes) → IsIn x (front ++ x ∷ [])
+IsIn-last x [] = inl refl
+IsIn-last x (z ∷ zs) = inr (IsIn-last x zs)
+
+HeldAmong-push : (names : Kind → Bytes → Bytes) (front : List Bytes) (x : Bytes) (held : List Record) → HeldAmong names front held → HeldAmong names (front ++ x ∷ []) held
+HeldAmong-push names front x [] h = tt
+HeldAmong-push names front x (r ∷ rs) h = ((h.0.0, IsIn-push h.0.0 x front h.0.1, h.0.2), HeldAmong-push names front x rs h.1)
+
+HeldAmong-added : (names : Kind → Bytes → Bytes) (front : List Bytes) (x : Bytes) (held : List Record) → HeldAmong names front held → HeldAmong names (front ++ x ∷ []) (held ++ blob_record names x ∷ [])
+HeldAmong-added names front x [] h = ((x, IsIn-last x front, refl), tt)
+HeldAmong-added names front x (r ∷ rs) h = ((h.0.0, IsIn-push h.0.0 x front h.0.1, h.0.2), HeldAmong-added names front x rs h.1)
+
+printed-push : (names : Kind → Bytes → Bytes) (front : List Bytes) (x : Bytes) → printed names (front ++ x ∷ []) ≡ printed names front ++ blob_line names x
+printed-push names front x =
+    flat_map-append (λ y. blob_line names y) front (x ∷ []) ∙ ap (λ bs. printed names front ++ bs) (append-nil (blob_line names x))
+
+Wrote-more : (was is new : Option Taken) (bytes more : Bytes) → Wrote was is bytes → Sends is new more (Ok tt) → Wrote was new (bytes ++ more)
+Wrote-more None is new bytes more w s = tt
+Wrote-more (Some was) is new bytes more w s =
+    let t = rw w at s in
+    t.0 ∙ ap (λ bs. Some (record was { bytes = bs })) (append_assoc was.bytes bytes more)
+
+put-grows : (old new : List Record) (r : Record) → put old r ≡ Some new → (new ≡ old) ⊎ (new ≡ old ++ r ∷ [])
+put-grows old new r e = by (record_named old r.name) e where
+  by : (found : Option Record) → put_under found old r ≡ Some new → (new ≡ old) ⊎ (new ≡ old ++ r ∷ [])
+  by None e = inr cc
+  by (Some s) e = if_same (same_object s r) e where
+    if_same : (b : Bool) → (if b then Some old else None) ≡ Some new → (new ≡ old) ⊎ (new ≡ old ++ r ∷ [])
+    if_same true e = inl cc
+    if_same false e = absurd (none-some new e)
+
+added : (names : Kind → Bytes → Bytes) (front : List Bytes) (x : Bytes) (held now : List Record) → (now ≡ held) ⊎ (now ≡ held ++ blob_record names x ∷ []) → HeldAmong names front held → HeldAmong names (front ++ x ∷ []) now
+added names front x held now (inl e) h = subst (HeldAmong names (front ++ x ∷ [])) (sym e) (HeldAmong-push names front x held h)
+added names front x held now (inr e) h = subst (HeldAmong names (front ++ x ∷ [])) (sym e) (HeldAmong-added names front x held h)
+
+pub Progress-body : (names : Kind → Bytes → Bytes) (start now new : Option Stream) (stage : Stage) (was is out : Option Taken) (held kept : List Record) (count : ℕ) (item : Item) (x : Bytes) (u : Unit {0}) → step_of stage (item_of item) ≡ body x → Progress names start now stage was is held count → Reads now new (Ok (Some item)) → PrintsOne names held kept is out x (Ok u) → Progress names start new Expected was out kept (count + 1)
+Progress-body names start now new stage was is out held kept count item x u e p r o =
+    record {
+      front = p.front ++ x ∷ [];
+      counted = omega (arith, p.counted, length_push p.front x);
+      goes = Goes-body start now new stage p.front item x e p.goes r;
+      wrote = subst (Wrote was out) (sym (printed-push names p.front x)) (Wrote-more was is out (printed names p.front) (blob_line names x) p.wrote o.1);
+      among = added names p.front x held kept (put-grows held kept (blob_record names x) o.0) p.among;
+    }
+
+stop_of-fault : (f : StreamFault) → stop_of (kind_of f) ≡ refused (fault_of f)
+stop_of-fault stream.OutOfMemory = refl
+stop_of-fault stream.ReadFailed = refl
+stop_of-fault stream.TruncatedData = refl
+stop_of-fault stream.BadNumber = refl
+
+-- the end of a stream, or its own fault
+at_end : (r left : Stream) (stage : Stage) (front : List Bytes) (f : End) → left ≡ only f → staged Expected r ≡ behind front (staged stage left) → staged Expected r ≡ record { bodies = front; stop = stop_at stage f }
+unfolding run_of
+at_end r left stage front f e g =
+    g ∙ ap (λ v. behind front (staged stage v)) e ∙ ap (λ bs. record { bodies = bs; stop = stop_at stage f }) (append-nil front)
+
+pub Prints-end : (names : Kind → Bytes → Bytes) (start : Option Stream) (now new : Option Stream) (stage : Stage) (was is : Option Taken) (held : List Record) (count : ℕ) → stop_at stage Finished ≡ None → Progress names start now stage was is held count → Reads now new (Ok None) → PrintsBlobs names start was is (Ok count)
+Prints-end names None now new stage was is held count e p r = tt
+Prints-end names (Some c) now new stage None is held count e p r = tt
+Prints-end names (Some c) now new stage (Some was) is held count e p r =
+    let t = rw p.goes.1 at r in
+    as_blobs names c was is (Ok count) (rw (at_end c p.goes.0 stage p.front Finished t.0 p.goes.2) (e, p.counted, p.wrote))
+
+own_fault : (names : Kind → Bytes → Bytes) (run : BlobRun) (front : List Bytes) (was : Taken) (is : Option Taken) (count : ℕ) (kind : BlobsKind) → run ≡ record { bodies = front; stop = Some (stop_of kind) } → count ≡ length front → is ≡ Some (wrote was (printed names front)) → Prints names run was is (Err (record { command = count + 1; kind = kind }))
+own_fault names run front was is count kind e n w =
+    rw e (front, [], sym (append-nil front), ap (λ k. k + 1) n, inl (refl, refl, w))
+
+pub Prints-cut : (names : Kind → Bytes → Bytes) (start : Option Stream) (now new : Option Stream) (stage : Stage) (was is : Option Taken) (held : List Record) (count : ℕ) (kind : BlobsKind) → stop_at stage Finished ≡ Some (stop_of kind) → Progress names start now stage was is held count → Reads now new (Ok None) → PrintsBlobs names start was is (Err (record { command = count + 1; kind = kind }))
+Prints-cut names None now new stage was is held count kind e p r = tt
+Prints-cut names (Some c) now new stage None is held count kind e p r = tt
+Prints-cut names (Some c) now new stage (Some was) is held count kind e p r =
+    let t = rw p.goes.1 at r in
+    as_blobs names c was is (refused_at count kind) (own_fault names (staged Expected c) p.front was is count kind (at_end c p.goes.0 stage p.front Finished t.0 p.goes.2 ∙ ap (λ k. record { bodies = p.front; stop = k }) e) p.counted p.wrote)
+
+no_memory : (names : Kind → Bytes → Bytes) (run next : BlobRun) (front : List Bytes) (was : Taken) (is : Option Taken) (count : ℕ) → run ≡ behind front next → count ≡ length front → is ≡ Some (wrote was (printed names front)) → Prints names run was is (Err (record { command = count + 1; kind = kinds.OutOfMemory }))
+no_memory names run next front was is count e n w =
+    rw e (front, next.bodies, refl, ap (λ k. k + 1) n, inr (inl (refl, w)))
+
+fault_case : (names : Kind → Bytes → Bytes) (r left : Stream) (stage : Stage) (front : List Bytes) (was : Taken) (is : Option Taken) (count : ℕ) (f : StreamFault) → staged Expected r ≡ behind front (staged stage left) → count ≡ length front → is ≡ Some (wrote was (printed names front)) → (f ≡ stream.OutOfMemory) ⊎ (left ≡ only (Failed (fault_of f))) → Prints names (staged Expected r) was is (Err (record { command = count + 1; kind = kind_of f }))
+fault_case names r left stage front was is count f g n w (inl e) =
+    rw e (no_memory names (staged Expected r) (staged stage left) front was is count g n w)
+fault_case names r left stage front was is count f g n w (inr e) =
+    own_fault names (staged Expected r) front was is count (kind_of f) (at_end r left stage front (Failed (fault_of f)) e g ∙ ap (λ k. record { bodies = front; stop = Some k }) (sym (stop_of-fault f))) n w
+
+pub Prints-fault : (names : Kind → Bytes → Bytes) (start : Option Stream) (now new : Option Stream) (stage : Stage) (was is : Option Taken) (held : List Record) (count : ℕ) (f : StreamFault) → Progress names start now stage was is held count → Reads now new (Err f) → PrintsBlobs names start was is (Err (record { command = count + 1; kind = kind_of f }))
+Prints-fault names None now new stage was is held count f p r = tt
+Prints-fault names (Some c) now new stage None is held count f p r = tt
+Prints-fault names (Some c) now new stage (Some was) is held count f p r =
+    let t = rw p.goes.1 at r in
+    as_blobs names c was is (refused_at count (kind_of f)) (fault_case names c p.goes.0 stage p.front was is count f p.goes.2 p.counted p.wrote t.1)
+
+-- what is left where an item came
+comes : (r : Stream) (now new : Option Stream) (stage : Stage) (front : List Bytes) (item : Item) (s : Step) → step_of stage (item_of item) ≡ s → Goes (Some r) now stage front → Reads now new (Ok (Some item)) → (left : Stream) × (staged Expected r ≡ behind front (stepped s (λ n. staged n left)))
+comes r now new stage front item s e g h =
+    let t = rw g.1 at h in
+    (t.0, g.2 ∙ ap (λ v. behind front (staged stage v)) t.1 ∙ ap (behind front) (staged-item stage (item_of item) t.0 ∙ ap (λ v. stepped v (λ n. staged n t.0)) e))
+
+pub Prints-stop : (names : Kind → Bytes → Bytes) (start : Option Stream) (now new : Option Stream) (stage : Stage) (was is : Option Taken) (held : List Record) (count : ℕ) (item : Item) (kind : BlobsKind) → step_of stage (item_of item) ≡ stop (stop_of kind) → Progress names start now stage was is held count → Reads now new (Ok (Some item)) → PrintsBlobs names start was is (Err (record { command = count + 1; kind = kind }))
+Prints-stop names None now new stage was is held count item kind e p r = tt
+Prints-stop names (Some c) now new stage None is held count item kind e p r = tt
+Prints-stop names (Some c) now new stage (Some was) is held count item kind e p r =
+    let t = comes c now new stage p.front item (stop (stop_of kind)) e p.goes r in
+    as_blobs names c was is (refused_at count kind) (own_fault names (staged Expected c) p.front was is count kind (t.1 ∙ ap (λ bs. record { bodies = bs; stop = Some (stop_of kind) }) (append-nil p.front)) p.counted p.wrote)
+
+-- a held object under the name at hand came from one of the blobs before
+clash : (names : Kind → Bytes → Bytes) (x y : Bytes) (front : List Bytes) → IsIn y front → names kind.Blob y ≡ names kind.Blob x → y ≢ x → Clashes names front x
+clash names x y [] i e d = absurd i
+clash names x y (z ∷ zs) (inl i) e d = inl (rw (sym i) e, rw (sym i) d)
+clash names x y (z ∷ zs) (inr i) e d = inr (clash names x y zs i e d)
+
+-- the record of a name is one of these, and has the name
+found_by : (names : Kind → Bytes → Bytes) (n : Bytes) (front : List Bytes) (r : Record) (v : Option Record) (other : Record) (b : Bool) → Decides b (n ≡ r.name) → (y : Bytes) × IsIn y front × (r ≡ blob_record names y)
+    → (v ≡ Some other → (y : Bytes) × IsIn y front × (other ≡ blob_record names y) × (n ≡ other.name)) → (if b then Some r else v) ≡ Some other → (y : Bytes) × IsIn y front × (other ≡ blob_record names y) × (n ≡ other.name)
+found_by names n front r v other true same of more e = let is : r ≡ other = cc in (of.0, of.1, sym is ∙ of.2, same.0 refl ∙ ap (λ (s : Record). s.name) is)
+found_by names n front r v other false same of more e = more e
+
+found : (names : Kind → Bytes → Bytes) (n : Bytes) (front : List Bytes) (held : List Record) (other : Record) → record_named held n ≡ Some other → HeldAmong names front held → (y : Bytes) × IsIn y front × (other ≡ blob_record names y) × (n ≡ other.name)
+found names n front [] other e h = absurd (none-some other e)
+found names n front (r ∷ rs) other e h = found_by names n front r (record_named rs n) other (same_bytes n r.name) (bytes_eq-Decides n r.name) h.0 (λ d. found names n front rs other d h.1) e
+
+-- a blob's record that is not the same object has other bytes
+other_bytes : (names : Kind → Bytes → Bytes) (x y : Bytes) (other : Record) → other ≡ blob_record names y → (held : List Record) → put_under (Some other) held (blob_record names x) ≡ None → y ≢ x
+other_bytes names x y other is held e same =
+    let h = subst (λ (r : Record). (if same_object r (blob_record names x) then Some held else None) ≡ None) (is ∙ ap (blob_record names) same) e in
+    let t : same_bytes x x ≡ true = (bytes_eq-Decides x x).1 refl in
+    absurd (none-some held (sym (rw t at h)))
+
+pub Clashes-held : (names : Kind → Bytes → Bytes) (x : Bytes) (front : List Bytes) (held : List Record) → put held (blob_record names x) ≡ None → HeldAmong names front held → Clashes names front x
+Clashes-held names x front held e h = by (record_named held (names kind.Blob x)) refl e where
+  by : (o : Option Record) → record_named held (names kind.Blob x) ≡ o → put_under o held (blob_record names x) ≡ None → Clashes names front x
+  by None is e = absurd (none-some _ (sym e))
+  by (Some other) is e =
+      let f = found names (names kind.Blob x) front held other is h in
+      clash names x f.0 front f.1 (ap (λ (s : Record). s.name) (sym f.2) ∙ sym f.3) (other_bytes names x f.0 other f.2 held e)
+
+one_case : (names : Kind → Bytes → Bytes) (run next : BlobRun) (front : List Bytes) (x : Bytes) (was : Taken) (is out : Option Taken) (held kept : List Record) (count : ℕ) (kind : BlobsKind) → run ≡ behind front (first_body x next) → count ≡ length front → is ≡ Some (wrote was (printed names front)) → HeldAmong names front held → PrintsOne names held kept is out x (Err kind) → Prints names run was out (Err (record { command = count + 1; kind = kind }))
+one_case names run next front x was is out held kept count kinds.OutOfMemory e n w h o =
+    rw e (front, x ∷ next.bodies, refl, ap (λ k. k + 1) n, inr (inl (refl, o ∙ w)))
+one_case names run next front x was is out held kept count kinds.NameHeld e n w h o =
+    rw e (front, x ∷ next.bodies, refl, ap (λ k. k + 1) n, inr (inr (inl (refl, Clashes-held names x front held o.0 h, o.1 ∙ w))))
+one_case names run next front x was is out held kept count kinds.WriteFailed e n w h o =
+    let s = rw w at o.1 in
+    rw e (front, x ∷ next.bodies, refl, ap (λ k. k + 1) n, inr (inr (inr (refl, (o.0, s.0, s.1)))))
+one_case names run next front x was is out held kept count kinds.ReadFailed e n w h o = absurd o
+one_case names run next front x was is out held kept count kinds.BadLine e n w h o = absurd o
+one_case names run next front x was is out held kept count kinds.BadNumber e n w h o = absurd o
+one_case names run next front x was is out held kept count kinds.TruncatedData e n w h o = absurd o
+one_case names run next front x was is out held kept count kinds.NotABlob e n w h o = absurd o
+
+pub Prints-one : (names : Kind → Bytes → Bytes) (start : Option Stream) (now new : Option Stream) (stage : Stage) (was is out : Option Taken) (held kept : List Record) (count : ℕ) (item : Item) (x : Bytes) (kind : BlobsKind) → step_of stage (item_of item) ≡ body x → Progress names start now stage was is held count → Reads now new (Ok (Some item)) → PrintsOne names held kept is out x (Err kind) → PrintsBlobs names start was out (Err (record { command = count + 1; kind = kind }))
+Prints-one names None now new stage was is out held kept count item x kind e p r o = tt
+Prints-one names (Some c) now new stage None is out held kept count item x kind e p r o = tt
+Prints-one names (Some c) now new stage (Some was) is out held kept count item x kind e p r o =
+    let t = comes c now new stage p.front item (body x) e p.goes r in
+    as_blobs names c was out (refused_at count kind) (one_case names (staged Expected c) (staged Expected t.0) p.front x was is out held kept count kind t.1 p.counted p.wrote p.among o)
+
+pub PrintsOne-at : {N : Type 0} (f : N → Kind → Bytes → Bytes) (a b : N) (held kept : List Record) (is out : Option Taken) (x : Bytes) (r : Result (Unit {0}) BlobsKind) → a ≡ b → PrintsOne (f a) held kept is out x r → PrintsOne (f b) held kept is out x r
+PrintsOne-at f a b held kept is out x r e h = subst (λ n. PrintsOne (f n) held kept is out x r) e h

@@ -1,0 +1,177 @@
+-- An export's commands can be spelled, and its text is imported.
+use Rattle.std.proofs.Common.{◌≡◌, suc, ◌<◌, ◌≤◌, ◌^◌, Bool, true, false, cond, ◌&&◌, Some, Result, List, [], ◌∷◌, ◌++◌, length, map, refl, sym, ap, subst, ◌∙◌, arith, inl, inr}
+use Rattle.std.specs.Bool.{passes}
+use Rattle.std.specs.List.{list_all, fold, AllByRecursion, cons_option}
+use Rattle.std.specs.Prelude.{T, ◌⊎◌}
+use Rattle.gx_model.specs.Commands.{Command}
+use Rattle.gx_model.specs.Export.{all_written, blob_commands, carrier, commit_command, commit_commands, content_in, contents, dataref_in, export_items, export_text, file_change, first_parent, inner_commands, last_reset, marked_in, number_in, one_commit, other_parents, reached_commits, ref_command, root_reset, with_blobs, with_commit}
+use Rattle.gx_model.specs.ExportLaws.{IsAgain, IsDataRef, IsMark, IsMarked, IsMarkedIf, IsNotNull, IsOne, IsReadable, IsReadableCommit, IsReadableFile, IsReadableTarget, IsSpelled, IsSpelledChange, exported_report, nothing}
+use Rattle.gx_model.specs.Files.{FileMap, are_file_paths}
+use Rattle.gx_model.specs.Grammar.{commands_of}
+use Rattle.gx_model.specs.Histories.{History, IsHistory, IsIn, Target, at_commit, at_tag, is_in, value_at}
+use Rattle.gx_model.specs.Idents.{is_ident}
+use Rattle.gx_model.specs.Paths.{is_file_path}
+use Rattle.gx_model.specs.RefNames.{is_ref_name, is_tag_name}
+use Rattle.gx_model.specs.Replay.{finished, peeled_at, replayed, replayed_text, start}
+use Rattle.gx_model.specs.Revisions.{Revision}
+use Rattle.gx_model.specs.Texts.{Bytes}
+use Rattle.gx_model.specs.Values.{Commit, Value, blob_value, commit_value, files_of, is_content, is_leaf, is_proper, is_proper_text, list_of, parents_of, same_value, text_of}
+use Rattle.gx_model.specs.declared.faults.Fault.{Fault}
+use Rattle.gx_model.specs.declared.objects.Kind.{Kind}
+use Rattle.gx_model.specs.declared.objects.Mode.{Mode}
+use Rattle.gx_model.specs.declared.objects.Mode.TheVariants.{Dir, Exec, File, Gitlink, Link}
+use Rattle.gx_model.proofs.CommandItems.{commands_read}
+use Rattle.gx_model.proofs.CommitSteps.{blobs_have, blobs_keep, front_of, leaves_of, map_of, number_small, rest_of}
+use Rattle.gx_model.proofs.ExportSteps.{all_follow, export_replayed, peeled_ones, proper_refs}
+use Rattle.gx_model.proofs.FileMapEdits.{parts_of}
+use Rattle.gx_model.proofs.ItemTexts.{items_read}
+use Rattle.gx_model.proofs.KeptCommits.{FollowsAll, each_one, one_of_all, snoc_all}
+use Rattle.gx_model.proofs.PathTests.{first, is_true, second}
+use Rattle.gx_model.proofs.SameValues.{value_same}
+use Rattle.gx_model.proofs.SpelledItems.{between_spelled}
+use Rattle.gx_model.specs.Commands as command
+
+-- ---- numbers
+
+number_some : (ws : List Value) (v : Value) → IsIn ws v → 0 < number_in ws v
+number_some [] v h = absurd h
+number_some (w ∷ ws) v h = by (same_value w v) refl h (λ k. number_some ws v k) where
+  by : (t : Bool) → same_value w v ≡ t → (w ≡ v) ⊎ IsIn ws v → (IsIn ws v → 0 < number_in ws v) → 0 < cond t (suc (length ws)) (number_in ws v)
+  by true e k again = omega arith
+  by false e k again = elim k [ inl is ↦ absurd (subst T (ap (same_value w) (sym is) ∙ ap (same_value w) is ∙ e) (subst T (ap (same_value w) is) (value_same w))) | inr i ↦ again i ]
+
+is_mark : (ws : List Value) (v : Value) → IsIn ws v → length ws < 2 ^ 64 → IsMark (number_in ws v)
+is_mark ws v h lt = (number_some ws v h, omega (arith, number_small ws v))
+
+more_blobs : (ws : List Value) (xs : List Bytes) → length ws ≤ length (with_blobs ws xs)
+more_blobs ws [] = omega arith
+more_blobs ws (x ∷ xs) =
+    let held = more_blobs ws xs in
+    let new = more_blobs (blob_value x ∷ ws) xs in
+    elim (is_in ws (blob_value x)) as (λ t. length ws ≤ length (with_blobs (cond t ws (blob_value x ∷ ws)) xs)) [ true ↦ held | false ↦ omega (arith, new) ]
+
+more_commits : (ws : List Value) (cs : List Commit) → length ws ≤ length (fold with_commit ws cs)
+more_commits ws [] = omega arith
+more_commits ws (c ∷ cs) = omega (arith, more_blobs ws (contents (files_of c)), more_commits (with_commit ws c) cs)
+
+abbrev AreSpelled : List Command → Type 0
+AreSpelled cs = AllByRecursion IsSpelled cs
+
+spelled_append : (xs ys : List Command) → AreSpelled xs → AreSpelled ys → AreSpelled (xs ++ ys)
+spelled_append [] ys h g = g
+spelled_append (x ∷ xs) ys h g = (h.0, spelled_append xs ys h.1 g)
+
+-- ---- the commands of one commit
+
+blobs_spelled : (ws : List Value) (xs : List Bytes) → AllByRecursion (λ x. length x < 2 ^ 64) xs → length (with_blobs ws xs) < 2 ^ 64 → AreSpelled (blob_commands ws xs)
+blobs_spelled ws [] h lt = tt
+blobs_spelled ws (x ∷ xs) h lt =
+    elim (is_in ws (blob_value x)) as (λ t. length (with_blobs (cond t ws (blob_value x ∷ ws)) xs) < 2 ^ 64 → AreSpelled (cond t (blob_commands ws xs) (command.Blob (record { mark = Some (suc (length ws)); bytes = x }) ∷ blob_commands (blob_value x ∷ ws) xs))) [
+      | true ↦ λ l. blobs_spelled ws xs h.1 l
+      | false ↦ λ l. (((omega arith, omega (arith, more_blobs (blob_value x ∷ ws) xs)), h.0), blobs_spelled (blob_value x ∷ ws) xs h.1 l)
+    ] lt
+
+dataref_spelled : (ws : List Value) (m : Mode) (x : Bytes) → length ws < 2 ^ 64 → T (is_leaf m x) → IsNotNull m x → AllByRecursion (λ y. IsIn ws (blob_value y)) (cons_option (content_in m x) []) → IsDataRef m (dataref_in ws m x)
+dataref_spelled ws File x lt l n h = is_mark ws (blob_value x) h.0 lt
+dataref_spelled ws Exec x lt l n h = is_mark ws (blob_value x) h.0 lt
+dataref_spelled ws Link x lt l n h = is_mark ws (blob_value x) h.0 lt
+dataref_spelled ws Gitlink x lt l n h = (is_true _ l, n)
+dataref_spelled ws Dir x lt l n h = absurd l
+
+changes_spelled : (ws : List Value) (f : FileMap Bytes) → length ws < 2 ^ 64 → T (are_file_paths f) → T (list_all (λ e. is_leaf e.1.0 e.1.1) f) → AllByRecursion IsReadableFile f → AllByRecursion (λ y. IsIn ws (blob_value y)) (contents f) → AllByRecursion IsSpelledChange (map (file_change ws) f)
+changes_spelled ws [] lt p l r h = tt
+changes_spelled ws (e ∷ f) lt p l r h =
+    let o = content_in e.1.0 e.1.1 in
+    let P = λ (y : Bytes). IsIn ws (blob_value y) in
+    ((dataref_spelled ws e.1.0 e.1.1 lt (first _ _ l) r.0.0.1 (front_of P o (contents f) h), (is_true _ (first _ _ p), r.0.0.0)), changes_spelled ws f lt (second (is_file_path e.0) _ p) (second (is_leaf e.1.0 e.1.1) _ l) r.1 (rest_of P o (contents f) h))
+
+parent_spelled : (ws : List Value) (ps : List Commit) → length ws < 2 ^ 64 → AllByRecursion (λ p. IsIn ws (commit_value p)) ps → IsMarkedIf (first_parent ws ps)
+parent_spelled ws [] lt h = tt
+parent_spelled ws (p ∷ ps) lt h = is_mark ws (commit_value p) h.0 lt
+
+all_marked : (ws : List Value) (ps : List Commit) → length ws < 2 ^ 64 → AllByRecursion (λ p. IsIn ws (commit_value p)) ps → AllByRecursion IsMarked (map (λ q. marked_in ws (commit_value q)) ps)
+all_marked ws [] lt h = tt
+all_marked ws (p ∷ ps) lt h = (is_mark ws (commit_value p) h.0 lt, all_marked ws ps lt h.1)
+
+others_spelled : (ws : List Value) (ps : List Commit) → length ws < 2 ^ 64 → AllByRecursion (λ p. IsIn ws (commit_value p)) ps → AllByRecursion IsMarked (other_parents ws ps)
+others_spelled ws [] lt h = tt
+others_spelled ws (p ∷ ps) lt h = all_marked ws ps lt h.1
+
+carrier_is_ref : is_ref_name carrier ≡ true
+carrier_is_ref = refl
+
+root_spelled : (ps : List Commit) → AreSpelled (root_reset ps)
+root_spelled [] = ((carrier_is_ref, tt), tt)
+root_spelled (p ∷ ps) = tt
+
+commit_spelled : (ws : List Value) (c : Commit) → suc (length ws) < 2 ^ 64 → IsReadableCommit c → T (is_proper (commit_value c)) → AllByRecursion (λ p. IsIn ws (commit_value p)) (list_of (parents_of c)) → AllByRecursion (λ y. IsIn ws (blob_value y)) (contents (files_of c)) → IsSpelled (commit_command ws c)
+commit_spelled ws c lt r p h g =
+    let content = first (is_content (files_of c)) (is_proper_text (text_of c)) p in
+    let text = second (is_content (files_of c)) (is_proper_text (text_of c)) p in
+    let paths = (parts_of (files_of c) (map_of (files_of c) content)).paths in
+    record {
+      ref = carrier_is_ref;
+      mark = (omega arith, lt);
+      author = is_true _ (first _ _ (first _ _ text));
+      has_author = refl;
+      committer = is_true _ (second (is_ident (text_of c).author) _ (first _ _ text));
+      encoding = is_true _ (second (is_ident (text_of c).author && is_ident (text_of c).committer) _ text);
+      message = r.message;
+      parent = parent_spelled ws (list_of (parents_of c)) (omega arith) h;
+      merges = others_spelled ws (list_of (parents_of c)) (omega arith) h;
+      changes = (tt, changes_spelled ws (files_of c) (omega arith) paths (leaves_of (files_of c) content) r.files g);
+    }
+
+contents_fit : (f : FileMap Bytes) → AllByRecursion IsReadableFile f → AllByRecursion (λ x. length x < 2 ^ 64) (contents f)
+contents_fit [] h = tt
+contents_fit ((p, (m, x)) ∷ f) h = by m (contents_fit f h.1) where
+  by : (m : Mode) → AllByRecursion (λ x. length x < 2 ^ 64) (contents f) → AllByRecursion (λ x. length x < 2 ^ 64) (cons_option (content_in m x) (contents f))
+  by Gitlink k = k
+  by File k = (h.0.1, k)
+  by Exec k = (h.0.1, k)
+  by Link k = (h.0.1, k)
+  by Dir k = (h.0.1, k)
+
+commits_spelled : (ws : List Value) (before cs : List Commit) → AllByRecursion (λ c. IsIn ws (commit_value c)) before → FollowsAll before cs → AllByRecursion IsReadableCommit cs → length (fold with_commit ws cs) < 2 ^ 64 → AreSpelled (commit_commands ws cs)
+commits_spelled ws before [] h f r lt = tt
+commits_spelled ws before (c ∷ cs) h f r lt =
+    let xs = contents (files_of c) in
+    let us = with_blobs ws xs in
+    let fits : suc (length us) < 2 ^ 64 = omega (arith, more_commits (with_commit ws c) cs) in
+    let parents = each_one (IsOne before) (λ p. IsIn us (commit_value p)) (λ p i. blobs_keep ws xs (commit_value p) (one_of_all (λ d. IsIn ws (commit_value d)) before p h i)) (list_of (parents_of c)) f.1 in
+    let now = snoc_all (λ d. IsIn (with_commit ws c) (commit_value d)) before c (each_one (λ d. IsIn ws (commit_value d)) (λ d. IsIn (with_commit ws c) (commit_value d)) (λ d i. inr (blobs_keep ws xs (commit_value d) i)) before h) (inl refl) in
+    spelled_append (one_commit ws c) (commit_commands (with_commit ws c) cs)
+    (spelled_append (blob_commands ws xs) _ (blobs_spelled ws xs (contents_fit (files_of c) r.0.files) (omega arith))
+    (spelled_append (root_reset (list_of (parents_of c))) _ (root_spelled (list_of (parents_of c))) (commit_spelled us c fits r.0 (passes _ f.0) parents (blobs_have ws xs), tt)))
+    (commits_spelled (with_commit ws c) (before ++ c ∷ []) cs now f.3 r.1 lt)
+
+last_spelled : (cs : List Commit) → AreSpelled (last_reset cs)
+last_spelled [] = tt
+last_spelled (c ∷ cs) = ((carrier_is_ref, tt), tt)
+
+refs_spelled : (ws : List Value) (rs : List (Bytes × Target)) → length ws < 2 ^ 64 → AllByRecursion (λ r. IsIn ws (commit_value (peeled_at r.1))) rs → T (list_all (λ r. is_ref_name r.0) rs) → AllByRecursion (λ r. T (is_proper (value_at r.1))) rs
+    → AllByRecursion (λ r. IsReadableTarget r.1) rs → AreSpelled (map (ref_command ws) rs)
+refs_spelled ws [] lt h n p r = tt
+refs_spelled ws ((q, at_commit c) ∷ rs) lt h n p r = ((is_true _ (first (is_ref_name q) _ n), is_mark ws (commit_value c) h.0 lt), refs_spelled ws rs lt h.1 (second (is_ref_name q) _ n) p.1 r.1)
+refs_spelled ws ((q, at_tag t) ∷ rs) lt h n p r = (
+  record { name = is_true _ (first (is_tag_name t.name) _ p.0); mark = refl; target = is_mark ws (commit_value t.target) h.0 lt; tagger = is_true _ (second (is_tag_name t.name) _ p.0); message = r.0 },
+  refs_spelled ws rs lt h.1 (second (is_ref_name q) _ n) p.1 r.1,
+)
+
+pub export_spelled : (h : History) → IsHistory h → IsReadable h → AreSpelled (inner_commands (reached_commits h) h.refs)
+export_spelled h x r =
+    let cs = reached_commits h in
+    spelled_append (commit_commands [] cs) _ (commits_spelled [] [] cs tt (all_follow h x) r.commits r.marks)
+    (spelled_append (last_reset cs) _ (last_spelled cs) (refs_spelled (all_written cs) h.refs r.marks (peeled_ones h x) (passes _ x.ref_names) (proper_refs h x) r.refs))
+
+-- ---- the import of an export
+
+pub export_imported : (name : Kind → Bytes → Bytes) (read : Bytes → Result Revision Fault) (h : History) → IsHistory h → IsReadable h
+    → (k : History) × IsAgain h k × (replayed_text name read nothing (export_text h) false ≡ finished k [] (exported_report h k))
+export_imported name read h x r =
+    let inner = inner_commands (reached_commits h) h.refs in
+    let s = export_spelled h x r in
+    let items = items_read (export_items h) (between_spelled inner s) in
+    let commands = ap commands_of items ∙ commands_read inner s in
+    let again = export_replayed name read h x in
+    (again.0, again.1, ap (λ cs. replayed name read 0 (start nothing) cs.list cs.fault) commands ∙ again.2)

@@ -1,0 +1,5 @@
+use Rattle.gx_model.proofs.KeptCommits.{commit_keeps}
+use Rattle.gx_model.proofs.export_laws.commits_are_replayed.Goals as goal
+
+pub returns-clause-kept : goal.returns-clause-kept
+returns-clause-kept c = commit_keeps

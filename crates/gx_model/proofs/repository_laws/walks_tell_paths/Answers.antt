@@ -1,0 +1,5 @@
+use Rattle.gx_model.proofs.TreeWalks.{walk_sound}
+use Rattle.gx_model.proofs.repository_laws.walks_tell_paths.Goals as goal
+
+pub returns : goal.returns
+returns c = walk_sound

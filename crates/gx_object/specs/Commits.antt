@@ -1,0 +1,48 @@
+-- The body of a commit, read from the left.
+use Rattle.std.specs.Prelude.{◌≡◌, ℕ, zero, suc, nat_eq, if◌then◌else◌, List, [], ◌∷◌, length, codes, Option, None, Some, IsTrue}
+use Rattle.std.specs.List.{flat_map, list_all}
+use Rattle.gx_model.specs.Texts.{Bytes}
+use Rattle.gx_model.specs.Objects.{CommitParts, hex, is_name, line}
+use Rattle.gx_object.specs.Lines.{◌>>=◌, field, ident_field, name_field, or_absent, stripped}
+
+-- the lines of the parents
+abbrev pub parent_lines : List Bytes → Bytes
+parent_lines names = flat_map (λ n. line (codes "parent") (hex n)) names
+
+abbrev pub with_first : Bytes → List Bytes × Bytes → List Bytes × Bytes
+with_first name rest = (name ∷ rest.0, rest.1)
+
+-- the names of at most n lines at the front, and what follows them
+unfoldable pub parents_within : ℕ → Bytes → List Bytes × Bytes
+parents_within zero bytes = ([], bytes)
+parents_within (suc n) bytes = elim (name_field (codes "parent") bytes) [
+  | None ↦ ([], bytes)
+  | Some a ↦ with_first a.0 (parents_within n a.1)
+]
+
+-- a line isn't empty, so there are no more lines than bytes
+abbrev pub parents_of : Bytes → List Bytes × Bytes
+parents_of bytes = parents_within (length bytes) bytes
+
+-- lines of parents, and nothing else
+pub record AreParents (bytes : Bytes) : Type 0 where
+  pub lines : bytes ≡ parent_lines (parents_of bytes).0
+  pub names : IsTrue (list_all is_name (parents_of bytes).0)
+
+-- a line with an encoding, which isn't empty
+unfoldable pub encoding_field : Bytes → Option (Bytes × Bytes)
+encoding_field bytes = do
+  a ← field (codes "encoding") bytes
+  if nat_eq (length a.0) 0 then None else Some a
+
+unfoldable pub commit_of : Bytes → Option CommitParts
+commit_of body = do
+  tree ← name_field (codes "tree") body
+  author ← ident_field (codes "author") (parents_of tree.1).1
+  committer ← ident_field (codes "committer") author.1
+  message ← stripped (10 ∷ []) (or_absent (encoding_field committer.1) committer.1).1
+  Some (record {
+    tree = tree.0;
+    parents = (parents_of tree.1).0;
+    text = record { author = author.0; committer = committer.0; encoding = (or_absent (encoding_field committer.1) committer.1).0; message = message };
+  })

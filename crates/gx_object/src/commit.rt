@@ -1,0 +1,226 @@
+//! The bodies of commits. Source: Pro Git, "Git Objects", and gitglossary(7), "commit object".
+
+ghost use Rattle.std.specs.Prelude.{◌≡◌, ◌++◌, ℕ, List, length, map, slice_get, IsTrue, IfOk, IsOkAnd, OnOk};
+ghost use Rattle.std.specs.List.{list_all};
+ghost use Rattle.std.specs.Option.{option_map};
+ghost use Rattle.std.specs.Result.{result_ok};
+ghost use Rattle.gx_model.specs.Values.{is_optional_encoding};
+ghost use Rattle.gx_model.specs.Objects.{CommitParts as Parts, IsCommitText, is_name};
+ghost use Rattle.gx_object.specs.Lines.{or_absent};
+ghost use Rattle.gx_object.specs.Commits.{commit_of, encoding_field, parent_lines, parents_of};
+ghost use Rattle.gx_object.specs.Parts.{commit_parts};
+
+use crate::line::{append_line, append_optional_line, cut_ident, cut_line, cut_name, strip};
+use crate::{BadObject, Name};
+use gx_text::Ident;
+use std::alloc::{AllocError, Allocator};
+use std::marker::Model;
+
+/// The parts of a commit, to be encoded. Where there is an encoding, it is not empty and holds no line feed.
+#[derive(Clone, Copy)]
+pub struct CommitParts<'a> {
+    pub tree: Name,
+    pub parents: &'a [Name],
+    pub author: Ident<'a>,
+    pub committer: Ident<'a>,
+    pub encoding: Option<&'a [u8]>,
+    pub message: &'a [u8],
+}
+
+/// The body of the commit with these parts. Cost: its length.
+pub fn encode_commit<A: Allocator + Copy>(
+    alloc: A,
+    parts: &CommitParts<'_>,
+) -> Result<Vec<u8, A>, AllocError>
+    requires { IsTrue (is_optional_encoding (commit_parts parts.now).text.encoding) }
+    ensures { IfOk result (λ body. IsCommitText (commit_parts parts.now) body.items) }
+{
+    let mut body = Vec::new(alloc);
+    append_line(&mut body, b"tree", &parts.tree.hex())?;
+    append_parents(&mut body, parts.parents)?;
+    append_line(&mut body, b"author", parts.author.bytes())?;
+    append_line(&mut body, b"committer", parts.committer.bytes())?;
+    append_optional_line(&mut body, b"encoding", parts.encoding)?;
+    body.push(b'\n')?;
+    body.extend_from_slice(parts.message)?;
+    Ok(body)
+}
+
+fn append_parents<A: Allocator + Copy>(
+    body: &mut Vec<u8, A>,
+    parents: &[Name],
+) -> Result<(), AllocError>
+    ensures lines { OnOk result (body.new.items ≡ body.old.items ++ parent_lines (map (λ n. n.bytes) parents.now)) }
+    ensures names { OnOk result (IsTrue (list_all is_name (map (λ n. n.bytes) parents.now))) }
+{
+    for parent in parents {
+        append_line(body, b"parent", &parent.hex())?;
+    }
+    Ok(())
+}
+
+/// The length of a parent's line: a word, a space, 40 digits and a line feed.
+const PARENT_LINE: usize = 48;
+
+/// A commit's body, seen as its parts. Its readers take no memory, and each costs the same for every body.
+#[derive(Drop)]
+pub struct CommitView<'a> {
+    tree: Name,
+    parents: &'a [u8],
+    author: &'a [u8],
+    committer: &'a [u8],
+    encoding: Option<&'a [u8]>,
+    message: &'a [u8],
+}
+
+impl<'a> Model for CommitView<'a> {
+    ghost use Rattle.std.specs.Option.{option_map};
+    ghost use Rattle.gx_model.specs.Objects.{CommitParts};
+    ghost use Rattle.gx_object.specs.Commits.{AreParents, parents_of};
+
+    ghost Value = { CommitParts };
+
+    ghost view = { λ v. record {
+      tree = v.tree.bytes;
+      parents = (parents_of v.parents.now).0;
+      text = record {
+        author = v.author.now;
+        committer = v.committer.now;
+        encoding = option_map (λ e. e.now) v.encoding;
+        message = v.message.now;
+      };
+    } };
+
+    ghost invariant = { λ v. AreParents v.parents.now };
+}
+
+impl<'a> CommitView<'a> {
+    /// The name of its tree.
+    pub fn tree(&self) -> Name
+        ensures { result.bytes ≡ self.now.tree }
+    {
+        self.tree
+    }
+
+    /// How many parents it has.
+    pub fn parent_count(&self) -> usize
+        ensures { result ≡ length self.now.parents }
+    {
+        self.parents.len() / PARENT_LINE
+    }
+
+    /// The name of a parent, counted from 0, and none from `parent_count` on.
+    pub fn parent(&self, place: usize) -> Option<Name>
+        ensures { option_map (λ name. name.bytes) result ≡ slice_get self.now.parents place }
+    {
+        parent_at(self.parents, place)
+    }
+
+    /// The author's identity.
+    pub fn author(&self) -> &'a [u8]
+        ensures { result.now ≡ self.now.text.author }
+    {
+        self.author
+    }
+
+    /// The committer's identity.
+    pub fn committer(&self) -> &'a [u8]
+        ensures { result.now ≡ self.now.text.committer }
+    {
+        self.committer
+    }
+
+    /// The encoding of the message, where it is told.
+    pub fn encoding(&self) -> Option<&'a [u8]>
+        ensures { option_map (λ e. e.now) result ≡ self.now.text.encoding }
+    {
+        self.encoding
+    }
+
+    /// The message.
+    pub fn message(&self) -> &'a [u8]
+        ensures { result.now ≡ self.now.text.message }
+    {
+        self.message
+    }
+}
+
+/// The parts of a commit's body, or `BadObject` where it isn't the body of a commit.
+///
+/// Cost: the length of the body. Takes no memory.
+pub fn decode_commit(body: &[u8]) -> Result<CommitView<'_>, BadObject>
+    ensures found { IfOk result (λ parts. IsCommitText parts body.now) }
+    ensures only { (parts : Parts) → IsCommitText parts body.now → IsOkAnd result (λ found. found ≡ parts) }
+{
+    read_commit(body).ok_or(BadObject)
+}
+
+#[tactic(auto, unfolding(crate::specs::Commits::commit_of))]
+fn read_commit(body: &[u8]) -> Option<CommitView<'_>>
+    ensures { result ≡ commit_of body.now }
+{
+    let (tree, rest) = cut_name(body, b"tree")?;
+    let (parents, rest) = split_parents(rest);
+    let (author, rest) = cut_ident(rest, b"author")?;
+    let (committer, rest) = cut_ident(rest, b"committer")?;
+    let (encoding, rest) = split_encoding(rest);
+    let message = strip(rest, b"\n")?;
+    Some(CommitView {
+        tree,
+        parents,
+        author,
+        committer,
+        encoding,
+        message,
+    })
+}
+
+/// The lines of the parents, and what follows them.
+fn split_parents(bytes: &[u8]) -> (&[u8], &[u8])
+    ensures lines { result.0.now ≡ parent_lines (parents_of bytes.now).0 }
+    ensures names { IsTrue (list_all is_name (parents_of bytes.now).0) }
+    ensures rest { result.1.now ≡ (parents_of bytes.now).1 }
+{
+    let mut rest = bytes;
+    while let Some((_name, after)) = cut_name(rest, b"parent") {
+        rest = after;
+    }
+    (&bytes[..bytes.len() - rest.len()], rest)
+}
+
+/// What the line of an encoding has, where there is one, and what follows.
+fn split_encoding(bytes: &[u8]) -> (Option<&[u8]>, &[u8])
+    ensures text { option_map (λ e. e.now) result.0 ≡ (or_absent (encoding_field bytes.now) bytes.now).0 }
+    ensures rest { result.1.now ≡ (or_absent (encoding_field bytes.now) bytes.now).1 }
+{
+    match cut_encoding(bytes) {
+        Some((encoding, rest)) => (Some(encoding), rest),
+        None => (None, bytes),
+    }
+}
+
+#[tactic(auto, unfolding(crate::specs::Commits::encoding_field))]
+fn cut_encoding(bytes: &[u8]) -> Option<(&[u8], &[u8])>
+    ensures { option_map (λ p. (p.0.now, p.1.now)) result ≡ encoding_field bytes.now }
+{
+    let (encoding, rest) = cut_line(bytes, b"encoding")?;
+    if encoding.is_empty() {
+        None
+    } else {
+        Some((encoding, rest))
+    }
+}
+
+/// The name in the line at a place among lines of parents.
+fn parent_at(lines: &[u8], place: usize) -> Option<Name>
+    ensures { (names : List (List ℕ)) → IsTrue (list_all is_name names) → lines.now ≡ parent_lines names → option_map (λ name. name.bytes) result ≡ slice_get names place }
+{
+    if place >= lines.len() / PARENT_LINE {
+        return None;
+    }
+    let line = &lines[place * PARENT_LINE..place * PARENT_LINE + PARENT_LINE];
+    Name::read_lower(&line[7..47])
+}
+
+#[cfg(test)]
+mod tests;

@@ -1,0 +1,98 @@
+//! Which lists of entries are a tree's: the components are proper and differ, and a directory is sorted as if its
+//! component ended in a slash.
+
+ghost use Rattle.std.specs.Prelude.{◌≡◌, map};
+ghost use Rattle.std.specs.Ordering.{nat_cmp};
+ghost use Rattle.std.specs.Cmp.Lexicographic.{slice_cmp};
+ghost use Rattle.gx_model.specs.Paths.{is_component};
+ghost use Rattle.gx_model.specs.Objects.{entry_key, is_canonical};
+ghost use Rattle.gx_object.specs.Order.{are_ordered, comes_before, is_repeated, leads, meets, precedes};
+ghost use Rattle.gx_object.specs.Entries.{mark_of, shown};
+
+use crate::{Entry, Mode};
+use std::cmp::Ordering;
+
+/// Whether the entries are those of a tree, in its order: each component is proper and no two are equal, and the
+/// components, with a slash after that of a directory, stand in byte order. The empty list is canonical.
+///
+/// Cost: the length of the entries and, for each file, of the entries after it whose components begin with its own.
+/// Takes no memory. Source: Pro Git, "Git Objects".
+pub fn is_canonical(entries: &[Entry<'_>]) -> bool
+    ensures { result ≡ is_canonical (map shown entries.now) }
+{
+    for i in 0..entries.len() {
+        if !leads(&entries[i], &entries[i + 1..]) {
+            return false;
+        }
+    }
+    true
+}
+
+/// Whether an entry may stand before these.
+fn leads(first: &Entry<'_>, others: &[Entry<'_>]) -> bool
+    ensures { result ≡ leads (shown first.now) (map shown others.now) }
+{
+    is_component(first.component) && precedes(first, others) && !is_repeated(first, others)
+}
+
+fn precedes(first: &Entry<'_>, others: &[Entry<'_>]) -> bool
+    ensures { result ≡ precedes (shown first.now) (map shown others.now) }
+{
+    match others.first() {
+        Some(next) => comes_before(first, next),
+        None => true,
+    }
+}
+
+/// Whether a later entry has this one's component. The order leaves that to a directory after a file, and lets only
+/// entries stand between them whose components begin with the file's.
+fn is_repeated(first: &Entry<'_>, others: &[Entry<'_>]) -> bool
+    ensures { result ≡ is_repeated (shown first.now) (map shown others.now) }
+{
+    first.mode != Mode::Dir && meets(first.component, others)
+}
+
+fn meets(component: &[u8], others: &[Entry<'_>]) -> bool
+    ensures { result ≡ meets component.now (map shown others.now) }
+{
+    for other in others {
+        if !other.component.starts_with(component) {
+            return false;
+        }
+        if other.component == component {
+            return true;
+        }
+    }
+    false
+}
+
+/// Whether the bytes are a component of a path: not empty, not `.` or `..`, with no slash and no NUL.
+pub(crate) fn is_component(bytes: &[u8]) -> bool
+    ensures { result ≡ is_component bytes.now }
+{
+    !bytes.is_empty()
+        && bytes != b".".as_slice()
+        && bytes != b"..".as_slice()
+        && !bytes.contains(&b'/')
+        && !bytes.contains(&0)
+}
+
+pub(crate) fn comes_before(a: &Entry<'_>, b: &Entry<'_>) -> bool
+    ensures { result ≡ comes_before (shown a.now) (shown b.now) }
+{
+    compare_keys(a, b).is_lt()
+}
+
+fn compare_keys(a: &Entry<'_>, b: &Entry<'_>) -> Ordering
+    ensures { result ≡ slice_cmp nat_cmp (entry_key (shown a.now)) (entry_key (shown b.now)) }
+{
+    let first = a.component.iter().chain(mark(a.mode).iter());
+    first.cmp(b.component.iter().chain(mark(b.mode).iter()))
+}
+
+/// What is added to a component for the order.
+fn mark(mode: Mode) -> &'static [u8]
+    ensures { result.now ≡ mark_of mode }
+{
+    if mode == Mode::Dir { b"/" } else { b"" }
+}

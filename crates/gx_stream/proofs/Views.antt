@@ -1,0 +1,101 @@
+-- What a reader is seen as, before and after an item, the end or a fault.
+use Rattle.std.proofs.Common.{◌≡◌, ℕ, ◌<◌, ◌≤◌, Bool, true, inr, Option, Some, None, Result, Ok, Err, [], ◌++◌, length, drop, refl, sym, ap, subst, ◌∙◌, arith, append-nil}
+use Rattle.std.proofs.lemmas.List.{length-drop}
+use Rattle.gx_model.specs.Texts.{Bytes}
+use Rattle.gx_model.specs.Items.{Item, Line, Data, Stream, then_comes, items_of}
+use Rattle.gx_text.specs.Devices.{Coming}
+use Rattle.gx_stream.specs.Heard.{heard_upto}
+use Rattle.gx_stream.specs.Places.{Skipped, ComesNext, NoneComes, bytes_at}
+use Rattle.gx_stream.specs.Reading.{Seen, AnswersAs, ReadsAs, FallsAs}
+use Rattle.gx_stream.specs.Input.{stream_seen, most_seen, answer_at, Looks, is_whole, Takes, Keeps, KeepsStream}
+use Rattle.gx_stream.proofs.Longer.{nothing_more}
+use Rattle.gx_stream.specs.declared.fault.StreamFault.{StreamFault}
+use Rattle.gx_stream.specs.declared.fault.StreamFault.TheVariants as fault
+use Rattle.gx_stream.specs.declared.places.Place.{Place}
+use Rattle.gx_stream.specs.declared.places.Found.{Found}
+use Rattle.gx_stream.specs.declared.places.Found.TheVariants as found
+use Rattle.gx_stream.specs.declared.input.State.{State}
+use Rattle.gx_stream.specs.declared.input.State.TheVariants.{Open, Ended, Stuck}
+
+-- ---- what was kept before an answer
+
+Reads-kept : (old mid new : Option Stream) (answer : Result (Option Item) StreamFault) → KeepsStream old mid → ReadsAs mid new answer → ReadsAs old new answer
+Reads-kept None None new answer k r = r
+Reads-kept None (Some s) new (Ok None) k r = r.1
+Reads-kept None (Some s) new (Ok (Some i)) k r = tt
+Reads-kept None (Some s) new (Err f) k r = r.0
+Reads-kept (Some s) mid new answer k r = subst (λ o. ReadsAs o new answer) k r
+
+Falls-kept : (old mid new : ℕ) (answer : Result (Option Item) StreamFault) → mid ≤ old → FallsAs mid new answer → FallsAs old new answer
+Falls-kept old mid new (Ok None) k f = omega (arith, k, f)
+Falls-kept old mid new (Ok (Some i)) k f = omega (arith, k, f)
+Falls-kept old mid new (Err e) k f = omega (arith, k, f)
+
+-- ---- one answer
+
+Skipped-alone : (text : Bytes) (fails : Bool) (start at : ℕ) → Skipped text fails start at → items_of (drop start text) fails ≡ items_of (drop at text) fails
+Skipped-alone text fails start at s =
+    ap (λ t. items_of t fails) (sym (append-nil (drop start text))) ∙ s.same [] fails (nothing_more fails) ∙ ap (λ t. items_of t fails) (append-nil (drop at text))
+
+next_alone : (text : Bytes) (fails : Bool) (at : ℕ) (i : Item) (p : Place) → ComesNext text fails at i p → items_of (drop at text) fails ≡ then_comes i (items_of (drop p.next text) fails)
+next_alone text fails at i p n =
+    ap (λ t. items_of t fails) (sym (append-nil (drop at text))) ∙ n.next [] fails (nothing_more fails) ∙ ap (λ t. then_comes i (items_of t fails)) (append-nil (drop p.next text))
+
+shorter : (text : Bytes) (fails : Bool) (start at : ℕ) (i : Item) (p : Place) → Skipped text fails start at → ComesNext text fails at i p → length (drop p.next text) < length (drop start text)
+shorter text fails start at i p s n = omega (arith, s.from, n.further, n.within.2, length-drop p.next text, length-drop start text)
+
+skipped_shorter : (text : Bytes) (fails : Bool) (start at : ℕ) → Skipped text fails start at → length (drop at text) ≤ length (drop start text)
+skipped_shorter text fails start at s = omega (arith, s.from, s.within, length-drop at text, length-drop start text)
+
+-- what is seen of the fields
+abbrev pub seen_at : State → ℕ → Option Coming → Bytes → Seen
+seen_at state room coming rest = record { stream = stream_seen state room coming rest; most = most_seen state room rest }
+
+item_open : (room : ℕ) (coming : Option Coming) (text : Bytes) (start at : ℕ) (i : Item) (p : Place) → Skipped text true start at → ComesNext text true at i p → AnswersAs (seen_at Open room coming (drop start text)) (seen_at Open room coming (drop p.next text)) (Ok (Some i))
+item_open room None text start at i p s n = (tt, omega (arith, shorter text true start at i p s n))
+item_open room (Some c) text start at i p s n =
+    let h = heard_upto room c in
+    ((items_of (drop p.next text ++ h.bytes) h.fails, s.same h.bytes h.fails tt ∙ n.next h.bytes h.fails tt, refl), omega (arith, shorter text true start at i p s n))
+
+item_ended : (room : ℕ) (coming : Option Coming) (text : Bytes) (fails : Bool) (start at : ℕ) (i : Item) (p : Place) → Skipped text fails start at → ComesNext text fails at i p → AnswersAs (seen_at (Ended fails) room coming (drop start text)) (seen_at (Ended fails) room coming (drop p.next text)) (Ok (Some i))
+item_ended room coming text fails start at i p s n =
+    ((items_of (drop p.next text) fails, Skipped-alone text fails start at s ∙ next_alone text fails at i p n, refl), shorter text fails start at i p s n)
+
+end_ended : (room : ℕ) (coming : Option Coming) (text : Bytes) (fails : Bool) (start at : ℕ) → Skipped text fails start at → NoneComes text fails at None → AnswersAs (seen_at (Ended fails) room coming (drop start text)) (seen_at (Ended fails) room coming (drop at text)) (Ok None)
+end_ended room coming text fails start at s n =
+    ((Skipped-alone text fails start at s ∙ n.end, ap Some n.end), skipped_shorter text fails start at s)
+
+fault_ended : (room : ℕ) (coming : Option Coming) (text rest : Bytes) (fails : Bool) (start at : ℕ) (f : StreamFault) → Skipped text fails start at → NoneComes text fails at (Some f) → AnswersAs (seen_at (Ended fails) room coming (drop start text)) (seen_at (Stuck f) room coming rest) (Err f)
+fault_ended room coming text rest fails start at f s n =
+    ((refl, inr (Skipped-alone text fails start at s ∙ n.end)), omega arith)
+
+number_open : (room : ℕ) (coming : Option Coming) (text rest : Bytes) (start at : ℕ) → Skipped text true start at → NoneComes text true at (Some fault.BadNumber) → AnswersAs (seen_at Open room coming (drop start text)) (seen_at (Stuck fault.BadNumber) room coming rest) (Err fault.BadNumber)
+number_open room None text rest start at s n = (refl, omega arith)
+number_open room (Some c) text rest start at s n =
+    let h = heard_upto room c in
+    ((refl, inr (s.same h.bytes h.fails tt ∙ n.stays refl h.bytes h.fails tt)), omega arith)
+
+fault_stuck : (room : ℕ) (coming : Option Coming) (bytes rest : Bytes) (f : StreamFault) → AnswersAs (seen_at (Stuck f) room coming bytes) (seen_at (Stuck f) room coming rest) (Err f)
+fault_stuck room coming bytes rest f = ((refl, inr refl), omega arith)
+
+-- what was found is answered, and the rest is left
+answers : (room : ℕ) (coming : Option Coming) (text : Bytes) (state new : State) (start at now : ℕ) (r : Found) → Looks text state start at r → is_whole state r ≡ true → Takes at state r now new → AnswersAs (seen_at state room coming (drop start text)) (seen_at new room coming (drop now text)) (answer_at text r)
+answers room coming text Open new start at now (found.Line p) l w t = rw (t.0, t.1) (item_open room coming text start at (Line (bytes_at text p)) p l.0 l.1)
+answers room coming text Open new start at now (found.Data p) l w t = rw (t.0, t.1) (item_open room coming text start at (Data (bytes_at text p)) p l.0 l.1)
+answers room coming text Open new start at now (found.End None) l w t = absurd cc
+answers room coming text Open new start at now (found.End (Some fault.OutOfMemory)) l w t = absurd cc
+answers room coming text Open new start at now (found.End (Some fault.ReadFailed)) l w t = absurd cc
+answers room coming text Open new start at now (found.End (Some fault.TruncatedData)) l w t = absurd cc
+answers room coming text Open new start at now (found.End (Some fault.BadNumber)) l w t = rw t.1 (number_open room coming text (drop now text) start at l.0 l.1)
+answers room coming text (Ended fails) new start at now (found.Line p) l w t = rw (t.0, t.1) (item_ended room coming text fails start at (Line (bytes_at text p)) p l.0 l.1)
+answers room coming text (Ended fails) new start at now (found.Data p) l w t = rw (t.0, t.1) (item_ended room coming text fails start at (Data (bytes_at text p)) p l.0 l.1)
+answers room coming text (Ended fails) new start at now (found.End None) l w t = rw (t.0, t.1) (end_ended room coming text fails start at l.0 l.1)
+answers room coming text (Ended fails) new start at now (found.End (Some f)) l w t = rw t.1 (fault_ended room coming text (drop now text) fails start at f l.0 l.1)
+answers room coming text (Stuck f) new start at now r l w t =
+    let taken : Takes at (Stuck f) (found.End (Some f)) now new = subst (λ r. Takes at (Stuck f) r now new) l.1 t in
+    subst (λ r. AnswersAs (seen_at (Stuck f) room coming (drop start text)) (seen_at new room coming (drop now text)) (answer_at text r)) (sym l.1) (rw taken.1 (fault_stuck room coming (drop start text) (drop now text) f))
+
+pub Answers-found : (old : Seen) (room : ℕ) (coming : Option Coming) (text : Bytes) (state new : State) (start at now : ℕ) (r : Found) → Keeps old (seen_at state room coming (drop start text)) → Looks text state start at r → is_whole state r ≡ true → Takes at state r now new → AnswersAs old (seen_at new room coming (drop now text)) (answer_at text r)
+Answers-found old room coming text state new start at now r k l w t =
+    let here = answers room coming text state new start at now r l w t in
+    (Reads-kept old.stream (stream_seen state room coming (drop start text)) (stream_seen new room coming (drop now text)) (answer_at text r) k.0 here.0, Falls-kept old.most (most_seen state room (drop start text)) (most_seen new room (drop now text)) (answer_at text r) k.1 here.1)

@@ -1,0 +1,112 @@
+-- What the fields of a reader stand for, and what each of its steps does to them.
+use Rattle.std.specs.Prelude.{◌≡◌, ℕ, suc, ◌+◌, ◌-◌, ◌≤◌, ◌^◌, Bool, true, false, ◌++◌, length, drop, Option, Some, None, Result, Ok, Err}
+use Rattle.gx_model.specs.Texts.{Bytes}
+use Rattle.gx_model.specs.Items.{Stream, Failed, items_of}
+use Rattle.gx_model.specs.Items as model
+use Rattle.gx_text.specs.Devices.{Coming}
+use Rattle.gx_stream.specs.Heard.{heard_upto}
+use Rattle.gx_stream.specs.Faults.{fault_of, ended}
+use Rattle.gx_stream.specs.Reading.{Seen}
+use Rattle.gx_stream.specs.Places.{bytes_at, IsWithin, IsScanned, Skipped, Finds}
+use Rattle.gx_stream.specs.declared.fault.StreamFault.{StreamFault}
+use Rattle.gx_stream.specs.declared.fault.StreamFault.TheVariants.{OutOfMemory, ReadFailed, TruncatedData, BadNumber}
+use Rattle.gx_stream.specs.declared.places.Scan.{Scan}
+use Rattle.gx_stream.specs.declared.places.Found.{Found}
+use Rattle.gx_stream.specs.declared.places.Found.TheVariants.{Line, Data, End}
+use Rattle.gx_stream.specs.declared.input.Input.{Input}
+use Rattle.gx_stream.specs.declared.input.State.{State}
+use Rattle.gx_stream.specs.declared.input.State.TheVariants.{Open, Ended, Stuck}
+
+-- the items to come, from what the source still gives, and what came and isn't read yet
+abbrev pub stream_seen : State → ℕ → Option Coming → Bytes → Option Stream
+stream_seen Open room None rest = None
+stream_seen Open room (Some c) rest = Some (items_of (rest ++ (heard_upto room c).bytes) (heard_upto room c).fails)
+stream_seen (Ended fails) room coming rest = Some (items_of rest fails)
+stream_seen (Stuck f) room coming rest = Some (ended (Failed (fault_of f)))
+
+-- how many items may come at most
+abbrev pub most_seen : State → ℕ → Bytes → ℕ
+most_seen Open room rest = length rest + room
+most_seen (Ended fails) room rest = length rest
+most_seen (Stuck f) room rest = 0
+
+abbrev pub seen : {R A : Type 0} → Input R A → Option Coming → Seen
+seen i coming = record {
+  stream = stream_seen i.state i.room coming (drop i.at i.text.items);
+  most = most_seen i.state i.room (drop i.at i.text.items);
+}
+
+-- what is known of the item that comes next counts where more of it may come
+abbrev pub FitsState : Bytes → State → ℕ → Scan → Type 0
+FitsState text Open at scan = IsScanned text true at scan
+FitsState text (Ended fails) at scan = Unit {0}
+FitsState text (Stuck f) at scan = Unit {0}
+
+-- what isn't read yet begins within the text, and no more than 2 ^ 63 - 1 bytes are taken in all
+abbrev pub IsSound : {R A : Type 0} → Input R A → Type 0
+IsSound i = (i.at ≤ length i.text.items) × (length i.text.items + i.room ≤ 2 ^ 63 - 1) × FitsState i.text.items i.state i.at i.scan
+
+-- ---- one look
+
+-- what stands at a place, as an answer
+abbrev pub answer_at : Bytes → Found → Result (Option model.Item) StreamFault
+answer_at text (Line p) = Ok (Some (model.Line (bytes_at text p)))
+answer_at text (Data p) = Ok (Some (model.Data (bytes_at text p)))
+answer_at text (End None) = Ok None
+answer_at text (End (Some f)) = Err f
+
+abbrev pub IsFoundWithin : Bytes → Found → Type 0
+IsFoundWithin text (Line p) = IsWithin text p
+IsFoundWithin text (Data p) = IsWithin text p
+IsFoundWithin text (End e) = Unit {0}
+
+-- A text that isn't whole yet is looked at as one that fails.
+abbrev pub Looks : Bytes → State → ℕ → ℕ → Found → Type 0
+Looks text Open old new found = Skipped text true old new × Finds text true new found
+Looks text (Ended fails) old new found = Skipped text fails old new × Finds text fails new found
+Looks text (Stuck f) old new found = (new ≡ old) × (found ≡ End (Some f))
+
+abbrev pub is_bad_number : Option StreamFault → Bool
+is_bad_number None = false
+is_bad_number (Some OutOfMemory) = false
+is_bad_number (Some ReadFailed) = false
+is_bad_number (Some TruncatedData) = false
+is_bad_number (Some BadNumber) = true
+
+abbrev pub is_decided : Found → Bool
+is_decided (Line p) = true
+is_decided (Data p) = true
+is_decided (End e) = is_bad_number e
+
+-- nothing that may still come plays a part in what was found
+abbrev pub is_whole : State → Found → Bool
+is_whole Open found = is_decided found
+is_whole (Ended fails) found = true
+is_whole (Stuck f) found = true
+
+-- an item is passed, a fault stays
+abbrev pub Takes : ℕ → State → Found → ℕ → State → Type 0
+Takes old_at old (Line p) at new = (at ≡ p.next) × (new ≡ old)
+Takes old_at old (Data p) at new = (at ≡ p.next) × (new ≡ old)
+Takes old_at old (End None) at new = (at ≡ old_at) × (new ≡ old)
+Takes old_at old (End (Some f)) at new = (at ≡ old_at) × (new ≡ Stuck f)
+
+-- ---- one pull
+
+-- where the items to come are known, they stay
+abbrev pub KeepsStream : Option Stream → Option Stream → Type 0
+KeepsStream None new = Unit {0}
+KeepsStream (Some s) new = new ≡ Some s
+
+abbrev pub Keeps : Seen → Seen → Type 0
+Keeps old new = KeepsStream old.stream new.stream × (new.most ≤ old.most)
+
+-- a text has more bytes at its end
+abbrev pub IsLonger : Bytes → Bytes → Type 0
+IsLonger old new = (more : Bytes) × (new ≡ old ++ more)
+
+-- how many pulls may follow at most
+abbrev pub pulls_left : State → ℕ → ℕ
+pulls_left Open room = suc room
+pulls_left (Ended fails) room = 0
+pulls_left (Stuck f) room = 0

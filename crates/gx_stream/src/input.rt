@@ -1,0 +1,176 @@
+//! What came from a source, and the items in it.
+
+ghost use Rattle.std.specs.Prelude.{◌≡◌, ◌<◌, ◌≤◌, ◌+◌, length, drop, IfOk, OnOk};
+ghost use Rattle.gx_stream.specs.Reading.{AnswersAs};
+ghost use Rattle.gx_stream.specs.Input.{seen, stream_seen, IsSound, FitsState, IsLonger, IsFoundWithin, answer_at, Looks, is_whole, Takes, Keeps, KeepsStream, pulls_left};
+ghost use Rattle.gx_stream.specs.declared.input.State.TheVariants.{Open};
+
+use crate::fault::StreamFault;
+use crate::places::{Found, Scan, find_item};
+use gx_text::{Failed, Source};
+use std::alloc::{AllocError, Allocator};
+
+/// The most bytes that are taken from a source.
+pub(crate) const LIMIT: usize = 0x7fff_ffff_ffff_ffff;
+
+/// How many bytes a pull asks for.
+const PIECE: usize = 0x1_0000;
+
+/// What is known of the text: more of it may come, or it came whole and may fail at its end, or only a fault is left.
+#[derive(Clone, Copy, Drop)]
+pub(crate) enum State {
+    Open,
+    Ended(bool),
+    Stuck(StreamFault),
+}
+
+/// What came from a source. The text from `at` on isn't read yet, and at most `room` bytes may still come.
+#[derive(Drop)]
+pub(crate) struct Input<R: Source, A: Allocator> {
+    pub(crate) source: R,
+    pub(crate) piece: Vec<u8, A>,
+    pub(crate) text: Vec<u8, A>,
+    pub(crate) at: usize,
+    pub(crate) scan: Scan,
+    pub(crate) room: usize,
+    pub(crate) state: State,
+}
+
+impl<R: Source, A: Allocator + Copy> Input<R, A> {
+    /// Takes the next item and answers where it stands in the text, or takes the end or a fault.
+    /// More bytes are pulled only where no whole item is left.
+    pub(crate) fn take_next(&mut self) -> Found
+        requires { IsSound self.old }
+        ensures sound { IsSound self.new }
+        ensures within { IsFoundWithin self.new.text.items result }
+        ensures answers { AnswersAs (seen self.old (R.coming self.old.source)) (seen self.new (R.coming self.new.source))
+            (answer_at self.new.text.items result) }
+    {
+        loop {
+            let found = look(&self.text, &mut self.at, &mut self.scan, self.state);
+            if is_whole(self.state, found) {
+                take(&mut self.at, &mut self.state, found);
+                self.scan = Scan::from_line(self.at);
+                return found;
+            }
+            if self.pull().is_err() {
+                self.state = State::Stuck(StreamFault::OutOfMemory);
+                return Found::End(Some(StreamFault::OutOfMemory));
+            }
+        }
+    }
+
+    /// Pulls one piece, behind what isn't read yet.
+    fn pull(&mut self) -> Result<(), AllocError>
+        requires sound { IsSound self.old }
+        requires open { self.old.state ≡ Open }
+        ensures sound { IsSound self.new }
+        ensures keeps { OnOk result (Keeps (seen self.old (R.coming self.old.source)) (seen self.new (R.coming self.new.source))) }
+        ensures fewer { OnOk result (pulls_left self.new.state self.new.room < pulls_left self.old.state self.old.room) }
+    {
+        remove_front(&mut self.text, self.at);
+        self.scan = self.scan.without(self.at);
+        self.at = 0;
+        make_buffer(&mut self.piece)?;
+        self.state = append_piece(
+            &mut self.source,
+            &mut self.piece,
+            &mut self.text,
+            &mut self.room,
+        )?;
+        Ok(())
+    }
+}
+
+/// What the text goes on with, as far as it came. The place moves past comments.
+fn look(text: &[u8], at: &mut usize, scan: &mut Scan, state: State) -> Found
+    requires within { at.old ≤ length text.now }
+    requires scan { FitsState text.now state at.old scan.old }
+    ensures looks { Looks text.now state at.old at.new result }
+    ensures scan { FitsState text.now state at.new scan.new }
+{
+    match state {
+        State::Open => find_item(text, at, scan, true),
+        State::Ended(fails) => {
+            *scan = Scan::from_line(*at);
+            find_item(text, at, scan, fails)
+        }
+        State::Stuck(fault) => Found::End(Some(fault)),
+    }
+}
+
+/// Whether nothing that may still come plays a part in it.
+fn is_whole(state: State, found: Found) -> bool
+    ensures { result ≡ is_whole state found }
+{
+    match state {
+        State::Open => match found {
+            Found::Line(_) | Found::Data(_) | Found::End(Some(StreamFault::BadNumber)) => true,
+            Found::End(_) => false,
+        },
+        State::Ended(_) | State::Stuck(_) => true,
+    }
+}
+
+/// Moves past an item, or stays at a fault.
+fn take(at: &mut usize, state: &mut State, found: Found)
+    ensures { Takes at.old state.old found at.new state.new }
+{
+    match found {
+        Found::Line(place) | Found::Data(place) => *at = place.next,
+        Found::End(None) => {}
+        Found::End(Some(fault)) => *state = State::Stuck(fault),
+    }
+}
+
+/// Makes the buffer for a pull, where that wasn't done before.
+fn make_buffer<A: Allocator>(buffer: &mut Vec<u8, A>) -> Result<(), AllocError>
+    ensures { OnOk result (0 < length buffer.new.items) }
+{
+    if buffer.is_empty() {
+        buffer.resize(PIECE, 0)?;
+    }
+    Ok(())
+}
+
+/// Takes so many bytes from the front.
+fn remove_front<A: Allocator>(text: &mut Vec<u8, A>, count: usize)
+    requires { count ≤ length text.old.items }
+    ensures { text.new.items ≡ drop count text.old.items }
+{
+    if count > 0 {
+        let len = text.len();
+        text.copy_within(count.., 0);
+        text.truncate(len - count);
+    }
+}
+
+/// Pulls a piece through a buffer and appends what is taken of it. Answers what is known of the text then.
+fn append_piece<R: Source, A: Allocator>(
+    source: &mut R,
+    buffer: &mut [u8],
+    text: &mut Vec<u8, A>,
+    room: &mut usize,
+) -> Result<State, AllocError>
+    requires { 0 < length buffer.old }
+    ensures longer { IsLonger text.old.items text.new.items }
+    ensures within { length text.new.items + room.new ≤ length text.old.items + room.old }
+    ensures keeps { IfOk result (λ state. KeepsStream (stream_seen Open room.old (R.coming source.old) text.old.items)
+        (stream_seen state room.new (R.coming source.new) text.new.items)) }
+    ensures fewer { IfOk result (λ state. pulls_left state room.new < pulls_left Open room.old) }
+{
+    match source.pull(buffer) {
+        Err(Failed) => Ok(State::Ended(true)),
+        Ok(0) => Ok(State::Ended(false)),
+        Ok(count) => {
+            let taken = count.min(*room);
+            text.extend_from_slice(&buffer[..taken])?;
+            *room -= taken;
+            if taken < count {
+                Ok(State::Ended(true))
+            } else {
+                Ok(State::Open)
+            }
+        }
+    }
+}

@@ -6,3 +6,4 @@ pub mod Leaves
 pub mod Unrolled
 pub mod Steps
 pub mod NextCommands
+pub mod TakenItems

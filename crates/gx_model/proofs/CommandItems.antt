@@ -185,8 +185,8 @@ pub links_read : (parent : Option CommitIsh) (ms : List CommitIsh) (cs : List Ch
 unfolding links_at item_after_in
 links_read parent ms cs rest h k g =
     let last = flat_map change_items cs ++ Line [] ∷ rest in
-    let enough : length ms ≤ length (map merge_item ms ++ last) = omega (arith, length-append (map merge_item ms) last, length-map ms merge_item) in
-    rw (from_read parent (map merge_item ms ++ last) h (no_from ms cs rest g), merges_read (length (map merge_item ms ++ last)) ms last enough k (no_merge cs rest g), changes_read (length last) cs rest (all_changes cs rest g) g) refl
+    let enough : length ms ≤ suc (length (map merge_item ms ++ last)) = omega (arith, length-append (map merge_item ms) last, length-map ms merge_item) in
+    rw (from_read parent (map merge_item ms ++ last) h (no_from ms cs rest g), merges_read (suc (length (map merge_item ms ++ last))) ms last enough k (no_merge cs rest g), changes_read (length last) cs rest (all_changes cs rest g) g) refl
 
 -- ---- commands
 

@@ -123,9 +123,9 @@ of_mark (Some g) = g
 unfoldable pub mark_of : Bytes → Given ℕ
 mark_of bs = of_mark (mark_text bs)
 
--- any text
-abbrev pub any_text : Bytes → Given (Bytes)
-any_text bs = Ok bs
+-- a text that plays no part
+abbrev pub any_text : Bytes → Given (Unit {0})
+any_text bs = Ok tt
 
 -- a text that is not empty
 abbrev pub some_text : Bytes → Given (Bytes)
@@ -293,7 +293,7 @@ merges_within (suc n) s = optional (codes "merge") commit_ish_of s >>= λ x. by 
 
 -- the merge lines that come next
 abbrev pub merges : Stream → Read (List CommitIsh)
-merges s = merges_within (length s.items) s
+merges s = merges_within (suc (length s.items)) s
 
 -- what stands after a commit or a reset: an empty line is taken, and another item stays
 unfoldable pub item_after_in : List Item → Stream → Read (Unit {0})

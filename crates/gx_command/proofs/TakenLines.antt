@@ -1,0 +1,60 @@
+-- The item that comes next as the line that comes next.
+use Rattle.std.proofs.Common.{◌≡◌, ℕ, Bool, true, false, cond, List, [], ◌∷◌, Option, Some, None, Result, Ok, Err, refl, sym, ap, subst, ◌∙◌, ◌⊎◌, inl, inr, arith}
+use Rattle.std.proofs.lemmas.Grind.{common_steps}
+use Rattle.std.specs.Borrow.{Bor}
+use Rattle.gx_model.specs.declared.faults.Fault.TheVariants as model_faults
+use Rattle.gx_model.specs.Texts.{Bytes}
+use Rattle.gx_model.specs.Faults.{IsFaultOf, ◌>>=◌}
+use Rattle.gx_model.specs.Items as model
+use Rattle.gx_model.specs.Items.{Stream, then_comes, Finished, Failed}
+use Rattle.gx_model.specs.Grammar.{rest_line, rest_line_in, words_of, command_at}
+use Rattle.gx_stream.specs.Faults.{ended}
+use Rattle.gx_stream.specs.Reading.{item_of}
+use Rattle.gx_stream.specs.declared.item.Item.{Item}
+use Rattle.gx_stream.specs.declared.item.Item.TheVariants as items
+use Rattle.gx_command.specs.CommandFaults.{fault_of}
+use Rattle.gx_command.specs.Lines.{rest_in}
+use Rattle.gx_command.specs.Ahead.{AnswersRest, Fails, ReadNext, ReadRest, Takes, TakesFrom, TakesLine, TakesLineFrom}
+use Rattle.gx_command.specs.Bodies.{ChangeIn, TakesChange, next_change, next_change_in}
+use Rattle.gx_command.specs.ChangeLines.{completed}
+use Rattle.gx_command.specs.Heads.{BeginsAt, BeginsIn, TakesHead, TakesStart, begun, first, first_in, started, there}
+use Rattle.gx_command.specs.declared.heads.Head.{Head}
+use Rattle.gx_command.specs.declared.heads.Start.{Start}
+use Rattle.gx_command.specs.declared.heads.Start.TheVariants as start
+use Rattle.gx_command.specs.declared.change_lines.ChangeLine.{ChangeLine}
+use Rattle.gx_command.specs.declared.fault.CommandFault.{CommandFault}
+use Rattle.gx_command.specs.declared.fault.CommandFault.TheVariants as faults
+
+line_of_none : (word : Bytes) (i : Item) (s left : Stream) → s ≡ then_comes (item_of i) left → rest_in word (item_of i) ≡ Ok None → rest_line word s ≡ Ok (None, s)
+unfolding rest_line_in
+line_of_none word i s left first none = grind (arith, common_steps)
+
+line_of_some : (word : Bytes) (i : Item) (s left : Stream) (rest : Bytes) → s ≡ then_comes (item_of i) left → rest_in word (item_of i) ≡ Ok (Some rest) → rest_line word s ≡ Ok (Some rest, left)
+unfolding rest_line_in
+line_of_some word i s left rest first some = grind (arith, common_steps)
+
+line_of_fault : (word : Bytes) (i : Item) (s left : Stream) (f : CommandFault) → s ≡ then_comes (item_of i) left → Fails f (rest_in word (item_of i)) → Fails f (rest_line word s)
+unfolding rest_line_in
+line_of_fault word i s left f first fault = grind (arith, common_steps)
+
+no_line : (word : Bytes) (s : Stream) → s ≡ ended Finished → rest_line word s ≡ Ok (None, s)
+unfolding rest_line_in
+no_line word s end = rw end refl
+
+failed_line : (word : Bytes) (s : Stream) (f : CommandFault) → s ≡ ended (Failed (fault_of f)) → Fails f (rest_line word s)
+unfolding rest_line_in
+failed_line word s f end = grind (arith, common_steps)
+
+pub takes_line : {T : Type 0} (post : Item → Result (Option T) CommandFault → Type 0) (answers : Bor Bytes → Result T CommandFault → Type 0) (word : Bytes) (old new : Option Stream) (r : Result (Option T) CommandFault) → ((i : Item) (q : Result (Option T) CommandFault) → post i q → AnswersRest answers word i q) → Takes post old new r → TakesLine word answers old new r
+takes_line post answers word None new r says h = tt
+takes_line post answers word (Some s) new (Ok None) says (same, inl end) = (s, no_line word s end, same)
+takes_line post answers word (Some s) new (Ok None) says (same, inr (left, n)) = (s, line_of_none word n.item s left n.first (says n.item (Ok None) n.read), same)
+takes_line post answers word (Some s) new (Ok (Some x)) says (left, n, same) =
+    let a : AnswersRest answers word n.item (Ok (Some x)) = says n.item (Ok (Some x)) n.read in
+    (left, record { rest = a.rest; line = line_of_some word n.item s left a.rest.now n.first a.line; read = a.read }, same)
+takes_line post answers word (Some s) new (Err f) says (inl out) = inl (inl out)
+takes_line post answers word (Some s) new (Err f) says (inr (inl end)) = inl (failed_line word s f end)
+takes_line post answers word (Some s) new (Err f) says (inr (inr (left, n))) = by (says n.item (Err f) n.read) where
+  by : AnswersRest answers word n.item (Err f) → TakesLineFrom word answers s new (Err f)
+  by (inl fault) = inl (line_of_fault word n.item s left f n.first fault)
+  by (inr a) = inr (left, record { rest = a.rest; line = line_of_some word n.item s left a.rest.now n.first a.line; read = a.read })

@@ -1,0 +1,28 @@
+use Rattle.std.proofs.Common.{◌≤◌, arith}
+use Rattle.std.proofs.lemmas.Result.{err_from_is_err_and}
+use Rattle.gx_model.specs.Grammar.{links_at}
+use Rattle.gx_command.specs.Ahead.{most}
+use Rattle.gx_command.specs.Bodies.{shown_links}
+use Rattle.gx_command.proofs.Sequences.{first_fails, then_reads, all_read, falls_not}
+use Rattle.gx_command.proofs.ahead.Ahead.links.Goals as goal
+
+pub returns-in_err-end-clause-reads : goal.returns-in_err-end-clause-reads
+unfolding links_at
+returns-in_err-end-clause-reads g c =
+    let p = err_from_is_err_and c.from_residual-in_err-end.result c.from_residual-in_err-end.ensures.1 in rw (p.1, p.2)
+    (then_reads _ _ _ _ _ _ _ _ _ c.in_ok-from.ensures.reads
+    (then_reads _ _ _ _ _ _ _ _ _ c.in_ok-merges.ensures.reads
+    (then_reads _ _ _ _ _ _ _ _ _ c.in_ok-changes.ensures.reads
+    (first_fails _ _ _ _ _ _ _ _ c.in_err-end.ensures.reads))))
+
+pub returns-clause-reads : goal.returns-clause-reads
+unfolding links_at
+returns-clause-reads g c =
+    (then_reads _ _ _ _ _ _ _ _ _ c.in_ok-from.ensures.reads
+    (then_reads _ _ _ _ _ _ _ _ _ c.in_ok-merges.ensures.reads
+    (then_reads _ _ _ _ _ _ _ _ _ c.in_ok-changes.ensures.reads
+    (then_reads _ _ _ _ _ _ _ _ _ c.in_ok-end.ensures.reads
+    (all_read shown_links _ _)))))
+
+pub returns-clause-falls : goal.returns-clause-falls
+returns-clause-falls g c = let one : most c.commit_ish.new.self ≤ most c.args.self.now = falls_not _ _ c.in_ok-from.from c.in_ok-from.ensures.falls in omega (arith, one, c.in_ok-merges.ensures.falls, c.in_ok-changes.ensures.falls, c.in_ok-end.ensures.falls)

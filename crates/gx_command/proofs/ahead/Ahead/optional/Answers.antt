@@ -1,0 +1,6 @@
+use Rattle.std.proofs.Common.{rules, arith}
+use Rattle.gx_command.proofs.TakenLines.{takes_line}
+use Rattle.gx_command.proofs.ahead.Ahead.optional.Goals as goal
+
+pub returns-clause-takes : goal.returns-clause-takes
+returns-clause-takes g c = takes_line _ _ _ _ _ _ (λ i q h. search rules) c.take.ensures.takes

@@ -1,0 +1,19 @@
+use Rattle.std.proofs.Common.{ap}
+use Rattle.gx_command.specs.Reading.{Seen}
+use Rattle.gx_command.proofs.NextCommands.{reads_some, reads_none, reads_fault}
+use Rattle.gx_command.proofs.reader.CommandReader.next.Goals as goal
+
+pub returns-in-Ok-Some-clause-reads : goal.returns-in-Ok-Some-clause-reads
+returns-in-Ok-Some-clause-reads g c =
+    let view = rw c.in-Open.is at (ap (λ (v : Seen). v.commands) c.self.view_is) in
+    rw c.after-self-inside.ensures (reads_some c.in-Open.options c.in-Ok-Some.command _ _ _ view (rw c.in-Ok-Some.field-0-is at c.in-Ok-Some.ensures.reads))
+
+pub returns-in-Ok-None-clause-reads : goal.returns-in-Ok-None-clause-reads
+returns-in-Ok-None-clause-reads g c =
+    let view = rw c.in-Open.is at (ap (λ (v : Seen). v.commands) c.self.view_is) in
+    reads_none g.row.A.Denot c.in-Open.options _ _ _ view (rw c.in-Ok-None.field-0-is at c.in-Ok-None.ensures.reads)
+
+pub returns-in-Err-clause-reads : goal.returns-in-Err-clause-reads
+returns-in-Err-clause-reads g c =
+    let view = rw c.in-Open.is at (ap (λ (v : Seen). v.commands) c.self.view_is) in
+    reads_fault g.row.A.Denot c.in-Open.options c.in-Err.fault _ _ _ view c.in-Err.ensures.reads

@@ -1,0 +1,10 @@
+pub mod CommandFaults
+pub mod Lines
+pub mod DataRefs
+pub mod Places
+pub mod Views
+pub mod ChangeLines
+pub mod Ahead
+pub mod Bodies
+pub mod Heads
+pub mod Reading

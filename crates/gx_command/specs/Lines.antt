@@ -1,0 +1,18 @@
+-- Lines and their parts, without where they lie in memory.
+use Rattle.std.specs.Prelude.{ℕ, Bool, true, false, List, Option, Some, None, Result, Ok, Err, if◌then◌else◌}
+use Rattle.std.specs.Option.{option_map}
+use Rattle.gx_model.specs.Texts.{Bytes}
+use Rattle.gx_model.specs.Faults.{Given, ◌>>=◌}
+use Rattle.gx_model.specs.Items as model
+use Rattle.gx_model.specs.Items.{Line, Data}
+use Rattle.gx_model.specs.Grammar as grammar
+use Rattle.gx_model.specs.Grammar.{words_of, is_word, rest_of}
+use Rattle.gx_command.specs.declared.lines.Words.{Words}
+
+abbrev pub shown_words : Words → grammar.Words
+shown_words w = record { word = w.word.now; rest = option_map (λ r. r.now) w.rest }
+
+-- the rest of a line that has this word
+abbrev pub rest_in : Bytes → model.Item → Given (Option Bytes)
+rest_in name (Data b) = Ok None
+rest_in name (Line l) = if is_word (words_of l) name then (rest_of (words_of l) >>= λ r. Ok (Some r)) else Ok None

@@ -1,0 +1,84 @@
+-- What a reader of commands is seen as, and what one call answers and leaves.
+use Rattle.std.specs.Prelude.{◌≡◌, ℕ, ◌<◌, ◌≤◌, ◌⊎◌, IsTrue, Bool, ◌&&◌, ◌||◌, if◌then◌else◌, List, [], ◌∷◌, ◌++◌, length, Option, Some, None, Result, Ok, Err}
+use Rattle.std.specs.Option.{option_map}
+use Rattle.gx_model.specs.declared.features.Feature.TheVariants as features
+use Rattle.gx_model.specs.declared.faults.Fault.TheVariants as faults
+use Rattle.gx_model.specs.Faults.{◌>>=◌}
+use Rattle.gx_model.specs.Items.{Stream}
+use Rattle.gx_model.specs.Commands as model
+use Rattle.gx_model.specs.Commands.{Commands}
+use Rattle.gx_model.specs.Grammar.{Read, commands_of, commands_within, is_done, is_option, asks_done, stops, with_first}
+use Rattle.gx_text.specs.Devices.{Coming}
+use Rattle.gx_stream.specs.Heard.{items_from}
+use Rattle.gx_command.specs.CommandFaults.{fault_of}
+use Rattle.gx_command.specs.Heads.{first}
+use Rattle.gx_command.specs.Views.{shown_command}
+use Rattle.gx_command.specs.declared.commands.Command.{Command}
+use Rattle.gx_command.specs.declared.fault.CommandFault.{CommandFault}
+use Rattle.gx_command.specs.declared.fault.CommandFault.TheVariants.{OutOfMemory}
+use Rattle.gx_command.specs.declared.reader.Options.{Options}
+use Rattle.gx_command.specs.declared.reader.State.{State}
+use Rattle.gx_command.specs.declared.reader.State.TheVariants.{Open, Ended, Failed}
+
+-- What a reader is seen as: the commands still to come with their fault, where the source tells its bytes, and a bound
+-- on how many may come.
+pub record Seen : Type 0 where
+  pub commands : Option Commands
+  pub most : ℕ
+
+-- the commands of all that a source gives
+abbrev pub commands_from : Coming → Commands
+commands_from c = commands_of (items_from c)
+
+-- Where the commands to come are known, the first is answered and the others are left. A fault other than want of memory
+-- is answered only where it is the end that comes next, and it is all that is left then. So is the end.
+abbrev pub Reads : {A : Type 0} → Option Commands → Option Commands → Result (Option (Command A)) CommandFault → Type 0
+Reads None new (Ok None) = new ≡ Some (stops None)
+Reads None new (Ok (Some c)) = Unit {0}
+Reads None new (Err f) = new ≡ Some (stops (Some (fault_of f)))
+Reads (Some old) new (Ok None) = (old ≡ stops None) × (new ≡ Some (stops None))
+Reads (Some old) new (Ok (Some c)) = (left : Commands) × (old ≡ with_first (shown_command c) left) × (new ≡ Some left)
+Reads (Some old) new (Err f) = (new ≡ Some (stops (Some (fault_of f)))) × ((f ≡ OutOfMemory) ⊎ (old ≡ stops (Some (fault_of f))))
+
+-- after `done` nothing comes
+abbrev pub Finishes : {A : Type 0} → Option Commands → Result (Option (Command A)) CommandFault → Type 0
+Finishes new (Ok (Some c)) = IsTrue (is_done (shown_command c)) → new ≡ Some (stops None)
+Finishes new (Ok None) = Unit {0}
+Finishes new (Err f) = Unit {0}
+
+-- each command lowers the bound
+abbrev pub Falls : {A : Type 0} → ℕ → ℕ → Result (Option (Command A)) CommandFault → Type 0
+Falls old new (Ok None) = new ≤ old
+Falls old new (Ok (Some c)) = new < old
+Falls old new (Err f) = new ≤ old
+
+-- ---- what the fields of a reader stand for
+
+-- commands that came before, of which only this is known
+abbrev pub before_of : Options → List model.Command
+before_of o = (if o.needs_done then model.Asks features.Done ∷ [] else []) ++ (if o.are_all then [] else model.Checkpoint ∷ [])
+
+-- the commands of these items, after some that came before
+abbrev pub commands_after : List model.Command → Stream → Commands
+commands_after before s = commands_within (length s.items) before s.items s.end
+
+abbrev pub seen_as : State → Option Stream → Option Commands
+seen_as (Open o) s = option_map (commands_after (before_of o)) s
+seen_as Ended s = Some (stops None)
+seen_as (Failed f) s = Some (stops (Some (fault_of f)))
+
+abbrev pub most_of : State → ℕ → ℕ
+most_of (Open o) most = most
+most_of Ended most = 0
+most_of (Failed f) most = 0
+
+-- the command that comes next, after some options
+abbrev pub or_missing : Options → Option model.Command × Stream → Read (Option model.Command)
+or_missing o (None, t) = if o.needs_done then Err faults.MissingDone else Ok (None, t)
+or_missing o (Some c, t) = Ok (Some c, t)
+
+abbrev pub next_after : Options → Stream → Read (Option model.Command)
+next_after o s = first o.are_all s >>= or_missing o
+
+abbrev pub state_after : Options → model.Command → State
+state_after o c = if is_done c then Ended else Open (record { are_all = o.are_all && is_option c; needs_done = o.needs_done || asks_done c })

@@ -1,0 +1,118 @@
+//! The items of a stream, with the one that was read ahead.
+
+ghost use Rattle.std.specs.Prelude.{◌≡◌, ◌-◌, ◌^◌, IfOk};
+ghost use Rattle.std.specs.Option.{option_map};
+ghost use Rattle.gx_stream.specs.Heard.{items_from};
+ghost use Rattle.gx_stream.specs.Reading.{item_of};
+ghost use Rattle.gx_command.specs.Ahead.{AnswersRest, Takes, TakesLine, Falls, to_come, most, held_item};
+
+use crate::fault::CommandFault;
+use crate::lines::rest_in;
+use gx_stream::{Item, ItemReader};
+use gx_text::Source;
+use std::alloc::{AllocError, Allocator};
+
+/// An item that was read ahead.
+#[derive(Drop)]
+pub(crate) enum Held<A: Allocator> {
+    Line(Vec<u8, A>),
+    Data(Vec<u8, A>),
+}
+
+impl<A: Allocator + Copy> Held<A> {
+    fn copy(alloc: A, item: Item<'_>) -> Result<Held<A>, AllocError>
+        ensures { IfOk result (λ held. held_item held ≡ item_of item.entry) }
+    {
+        Ok(match item {
+            Item::Line(line) => Held::Line(Vec::from_slice(alloc, line)?),
+            Item::Data(bytes) => Held::Data(Vec::from_slice(alloc, bytes)?),
+        })
+    }
+
+    fn lent(&self) -> Item<'_>
+        ensures { item_of result ≡ held_item self.now }
+    {
+        match self {
+            Held::Line(line) => Item::Line(line.as_slice()),
+            Held::Data(bytes) => Item::Data(bytes.as_slice()),
+        }
+    }
+}
+
+/// The items of a stream, with the one that was read ahead.
+#[derive(Drop)]
+pub(crate) struct Ahead<R: Source, A: Allocator> {
+    pub(crate) alloc: A,
+    pub(crate) items: ItemReader<R, A>,
+    pub(crate) held: Option<Held<A>>,
+}
+
+impl<R: Source, A: Allocator + Copy> Ahead<R, A> {
+    /// All the items of a source.
+    #[tactic(auto, unfolding(crate::specs::Ahead::to_come, crate::specs::Ahead::most))]
+    pub(crate) fn new(alloc: A, source: R) -> Ahead<R, A>
+        ensures comes { to_come result ≡ option_map items_from (R.coming source) }
+        ensures most { most result ≡ 2 ^ 63 - 1 }
+    {
+        Ahead {
+            alloc,
+            items: ItemReader::new(alloc, source),
+            held: None,
+        }
+    }
+
+    /// Takes the next item where `read` reads it. Otherwise the item stays.
+    #[tactic(auto, unfolding(crate::specs::Ahead::to_come, crate::specs::Ahead::most))]
+    pub(crate) fn take<T: Drop, F>(&mut self, read: F) -> Result<Option<T>, CommandFault>
+    where
+        F: FnOnce(Item<'_>) -> Result<Option<T>, CommandFault>,
+        requires { F.IsAlwaysCallable read }
+        ensures takes { Takes (F.post read) (to_come self.old) (to_come self.new) result }
+        ensures falls { Falls (most self.old) (most self.new) result }
+    {
+        if let Some(held) = self.held.take() {
+            let taken = read(held.lent())?;
+            if taken.is_none() {
+                self.held = Some(held);
+            }
+            return Ok(taken);
+        }
+        let Some(item) = self.items.next()? else {
+            return Ok(None);
+        };
+        let taken = read(item)?;
+        if taken.is_none() {
+            self.held = Some(Held::copy(self.alloc, item)?);
+        }
+        Ok(taken)
+    }
+
+    /// Takes the next line where it has this word, and reads its rest. Otherwise the item stays.
+    #[tactic(auto, unfolding(gx_model::specs::Grammar::rest_line_in))]
+    pub(crate) fn optional<T: Drop, F>(
+        &mut self,
+        word: &[u8],
+        read: F,
+    ) -> Result<Option<T>, CommandFault>
+    where
+        F: FnOnce(&[u8]) -> Result<T, CommandFault>,
+        requires { F.IsAlwaysCallable read }
+        ensures takes { TakesLine word.now (F.post read) (to_come self.old) (to_come self.new) result }
+        ensures falls { Falls (most self.old) (most self.new) result }
+    {
+        self.take(|item| read_rest(item, word, read))
+    }
+}
+
+/// The rest of a line that has this word, as `read` reads it. Another item gives none.
+fn read_rest<T: Drop, F>(item: Item<'_>, word: &[u8], read: F) -> Result<Option<T>, CommandFault>
+where
+    F: FnOnce(&[u8]) -> Result<T, CommandFault>,
+    requires { F.IsAlwaysCallable read }
+    ensures { AnswersRest (F.post read) word.now item.entry result }
+{
+    match rest_in(item, word)? {
+        Some(rest) => Ok(Some(read(rest)?)),
+        None => Ok(None),
+    }
+}

@@ -1,0 +1,313 @@
+//! The lines and blocks of each command after its first line.
+
+ghost use Rattle.std.specs.Prelude.{◌≡◌, IsTrue, codes, map, IfOk};
+ghost use Rattle.std.specs.Option.{option_map};
+ghost use Rattle.gx_model.specs.Faults.{Gives};
+ghost use Rattle.gx_model.specs.Items.{Stream};
+ghost use Rattle.gx_stream.specs.Reading.{item_of};
+ghost use Rattle.gx_model.specs.Grammar.{optional, needed, block, mark_of, any_text, ident_of, some_text, commit_ish_of, unsigned, item_after, bytes_from, merges, changes, blob_at, links_at, commit_at, tag_at, reset_at};
+ghost use Rattle.gx_command.specs.Ahead.{Reads, Falls, FallsNot, to_come, most};
+ghost use Rattle.gx_command.specs.Bodies.{next_change, shown_links, ChangeIn, TakesChange, signature_in, empty_line};
+ghost use Rattle.gx_command.specs.CommandFaults.{fault_of};
+ghost use Rattle.gx_model.specs.declared.objects.Mode.{Mode};
+ghost use Rattle.gx_command.specs.ChangeLines.{completed_modify, shown_place};
+ghost use Rattle.gx_command.specs.DataRefs.{is_suited};
+ghost use Rattle.gx_command.specs.Places.{is_suited_place};
+ghost use Rattle.gx_command.specs.Views.{shown_commit_ish, shown_data, shown_modify, shown_change, shown_blob, shown_commit, shown_tag, shown_reset};
+
+use crate::ahead::{Ahead, Held};
+use crate::change_lines::{ChangeLine, read_change};
+use crate::commands::{Blob, Change, Commit, CommitIsh, DataRef, Modify, Reset, Tag};
+use crate::fault::CommandFault;
+use crate::lines::Words;
+use crate::marks::{read_commit_ish, read_mark};
+use crate::modify_line::{ModifyLine, Place};
+use crate::texts::{Encoding, Identity, RefName, TagName};
+use gx_stream::Item;
+use gx_text::Source;
+use std::alloc::Allocator;
+
+/// The parents and the changes of a commit.
+#[derive(Drop)]
+struct Links<A: Allocator> {
+    from: Option<CommitIsh<A>>,
+    merges: Vec<CommitIsh<A>, A>,
+    changes: Vec<Change<A>, A>,
+}
+
+impl<R: Source, A: Allocator + Copy> Ahead<R, A> {
+    #[tactic(auto, unfolding(gx_model::specs::Grammar::blob_at))]
+    pub(crate) fn blob(&mut self) -> Result<Blob<A>, CommandFault>
+        ensures reads { Reads shown_blob blob_at (to_come self.old) (to_come self.new) result }
+        ensures falls { FallsNot (most self.old) (most self.new) result }
+    {
+        let mark = self.mark()?;
+        self.skip_oid()?;
+        let bytes = self.block()?;
+        Ok(Blob { mark, bytes })
+    }
+
+    #[tactic(auto, unfolding(gx_model::specs::Grammar::commit_at))]
+    pub(crate) fn commit(&mut self, branch: RefName<A>) -> Result<Commit<A>, CommandFault>
+        ensures reads { Reads shown_commit (commit_at branch.bytes.items) (to_come self.old) (to_come self.new) result }
+        ensures falls { FallsNot (most self.old) (most self.new) result }
+    {
+        let mark = self.mark()?;
+        self.skip_oid()?;
+        let author = self.ident(b"author")?;
+        let committer = self.needed_ident(b"committer")?;
+        self.check_unsigned()?;
+        let encoding = self.encoding()?;
+        let message = self.block()?;
+        let Links {
+            from,
+            merges,
+            changes,
+        } = self.links()?;
+        Ok(Commit {
+            branch,
+            mark,
+            author,
+            committer,
+            encoding,
+            message,
+            from,
+            merges,
+            changes,
+        })
+    }
+
+    #[tactic(auto, unfolding(gx_model::specs::Grammar::links_at))]
+    fn links(&mut self) -> Result<Links<A>, CommandFault>
+        ensures reads { Reads shown_links links_at (to_come self.old) (to_come self.new) result }
+        ensures falls { FallsNot (most self.old) (most self.new) result }
+    {
+        let from = self.commit_ish(b"from")?;
+        let merges = self.merges()?;
+        let changes = self.changes()?;
+        self.end()?;
+        Ok(Links {
+            from,
+            merges,
+            changes,
+        })
+    }
+
+    #[tactic(auto, unfolding(gx_model::specs::Grammar::tag_at))]
+    pub(crate) fn tag(&mut self, name: TagName<A>) -> Result<Tag<A>, CommandFault>
+        ensures reads { Reads shown_tag (tag_at name.bytes.items) (to_come self.old) (to_come self.new) result }
+        ensures falls { FallsNot (most self.old) (most self.new) result }
+    {
+        let mark = self.mark()?;
+        let from = self.needed_commit_ish(b"from")?;
+        self.skip_oid()?;
+        let tagger = self.ident(b"tagger")?;
+        let message = self.block()?;
+        Ok(Tag {
+            name,
+            mark,
+            from,
+            tagger,
+            message,
+        })
+    }
+
+    #[tactic(auto, unfolding(gx_model::specs::Grammar::reset_at))]
+    pub(crate) fn reset(&mut self, branch: RefName<A>) -> Result<Reset<A>, CommandFault>
+        ensures reads { Reads shown_reset (reset_at branch.bytes.items) (to_come self.old) (to_come self.new) result }
+        ensures falls { FallsNot (most self.old) (most self.new) result }
+    {
+        let from = self.commit_ish(b"from")?;
+        self.end()?;
+        Ok(Reset { branch, from })
+    }
+
+    fn mark(&mut self) -> Result<Option<u64>, CommandFault>
+        ensures reads { Reads (λ mark. mark) (optional (codes "mark") mark_of) (to_come self.old) (to_come self.new) result }
+        ensures falls { FallsNot (most self.old) (most self.new) result }
+    {
+        self.optional(b"mark", |text| read_mark(text))
+    }
+
+    fn skip_oid(&mut self) -> Result<Option<()>, CommandFault>
+        ensures reads { Reads (λ oid. oid) (optional (codes "original-oid") any_text) (to_come self.old) (to_come self.new) result }
+        ensures falls { FallsNot (most self.old) (most self.new) result }
+    {
+        self.optional(b"original-oid", |_text| Ok(()))
+    }
+
+    fn ident(&mut self, word: &[u8]) -> Result<Option<Identity<A>>, CommandFault>
+        ensures reads { Reads (option_map (λ i. i.bytes.items)) (optional word.now ident_of) (to_come self.old) (to_come self.new) result }
+        ensures falls { FallsNot (most self.old) (most self.new) result }
+    {
+        let alloc = self.alloc;
+        self.optional(word, |text| Identity::read(alloc, text))
+    }
+
+    fn needed_ident(&mut self, word: &[u8]) -> Result<Identity<A>, CommandFault>
+        ensures reads { Reads (λ i. i.bytes.items) (needed word.now ident_of) (to_come self.old) (to_come self.new) result }
+        ensures falls { FallsNot (most self.old) (most self.new) result }
+    {
+        self.ident(word)?.ok_or(CommandFault::BadLine)
+    }
+
+    fn encoding(&mut self) -> Result<Option<Encoding<A>>, CommandFault>
+        ensures reads { Reads (option_map (λ e. e.name.items)) (optional (codes "encoding") some_text) (to_come self.old) (to_come self.new) result }
+        ensures falls { FallsNot (most self.old) (most self.new) result }
+    {
+        let alloc = self.alloc;
+        self.optional(b"encoding", |text| Encoding::read(alloc, text))
+    }
+
+    fn commit_ish(&mut self, word: &[u8]) -> Result<Option<CommitIsh<A>>, CommandFault>
+        ensures reads { Reads (option_map shown_commit_ish) (optional word.now commit_ish_of) (to_come self.old) (to_come self.new) result }
+        ensures falls { Falls (most self.old) (most self.new) result }
+    {
+        let alloc = self.alloc;
+        self.optional(word, |text| read_commit_ish(alloc, text))
+    }
+
+    fn needed_commit_ish(&mut self, word: &[u8]) -> Result<CommitIsh<A>, CommandFault>
+        ensures reads { Reads shown_commit_ish (needed word.now commit_ish_of) (to_come self.old) (to_come self.new) result }
+        ensures falls { FallsNot (most self.old) (most self.new) result }
+    {
+        self.commit_ish(word)?.ok_or(CommandFault::BadLine)
+    }
+
+    /// The commits that are merged, of all the lines that name one.
+    fn merges(&mut self) -> Result<Vec<CommitIsh<A>, A>, CommandFault>
+        ensures reads { Reads (λ v. map shown_commit_ish v.items) merges (to_come self.old) (to_come self.new) result }
+        ensures falls { FallsNot (most self.old) (most self.new) result }
+    {
+        let mut merges = Vec::new(self.alloc);
+        while let Some(merge) = self.commit_ish(b"merge")? {
+            merges.push(merge)?;
+        }
+        Ok(merges)
+    }
+
+    fn changes(&mut self) -> Result<Vec<Change<A>, A>, CommandFault>
+        ensures reads { Reads (λ v. map shown_change v.items) changes (to_come self.old) (to_come self.new) result }
+        ensures falls { FallsNot (most self.old) (most self.new) result }
+    {
+        let mut changes = Vec::new(self.alloc);
+        while let Some(change) = self.change()? {
+            changes.push(change)?;
+        }
+        Ok(changes)
+    }
+
+    /// The next change, with the block that belongs to it.
+    fn change(&mut self) -> Result<Option<Change<A>>, CommandFault>
+        ensures reads { Reads (option_map shown_change) next_change (to_come self.old) (to_come self.new) result }
+        ensures falls { Falls (most self.old) (most self.new) result }
+    {
+        match self.change_line()? {
+            None => Ok(None),
+            Some(ChangeLine::Whole(change)) => Ok(Some(change)),
+            Some(ChangeLine::Modify(line)) => Ok(Some(Change::Modify(self.modify(line)?))),
+        }
+    }
+
+    /// The modify of a line, with the block that may belong to it.
+    fn modify(&mut self, line: ModifyLine<A>) -> Result<Modify<A>, CommandFault>
+        ensures reads { Reads shown_modify (completed_modify line) (to_come self.old) (to_come self.new) result }
+        ensures falls { FallsNot (most self.old) (most self.new) result }
+    {
+        let ModifyLine { mode, place, path } = line;
+        let data_ref = self.data_ref(place)?;
+        Ok(Modify {
+            mode,
+            data_ref,
+            path,
+        })
+    }
+
+    fn data_ref(&mut self, place: Place) -> Result<DataRef<A>, CommandFault>
+        ensures reads { Reads shown_data (bytes_from (shown_place place)) (to_come self.old) (to_come self.new) result }
+        ensures suits { IfOk result (λ data_ref. (mode : Mode) → IsTrue (is_suited_place mode place) → IsTrue (is_suited mode data_ref)) }
+        ensures falls { FallsNot (most self.old) (most self.new) result }
+    {
+        match place {
+            Place::Mark(mark) => Ok(DataRef::Mark(mark)),
+            Place::Name(digits) => Ok(DataRef::Name(digits)),
+            Place::Block => Ok(DataRef::Inline(self.block()?)),
+        }
+    }
+
+    fn change_line(&mut self) -> Result<Option<ChangeLine<A>>, CommandFault>
+        ensures takes { TakesChange (to_come self.old) (to_come self.new) result }
+        ensures falls { Falls (most self.old) (most self.new) result }
+    {
+        let alloc = self.alloc;
+        self.take(|item| change_in(alloc, item))
+    }
+
+    /// The bytes of the next item, which has to be a block.
+    #[tactic(auto, unfolding(gx_model::specs::Grammar::block_in, crate::specs::Ahead::to_come, crate::specs::Ahead::most))]
+    fn block(&mut self) -> Result<Vec<u8, A>, CommandFault>
+        ensures reads { Reads (λ v. v.items) block (to_come self.old) (to_come self.new) result }
+        ensures falls { FallsNot (most self.old) (most self.new) result }
+    {
+        match self.held.take() {
+            Some(Held::Data(bytes)) => return Ok(bytes),
+            Some(Held::Line(_)) => return Err(CommandFault::BadLine),
+            None => {}
+        }
+        match self.items.next()? {
+            Some(Item::Data(bytes)) => Ok(Vec::from_slice(self.alloc, bytes)?),
+            _ => Err(CommandFault::BadLine),
+        }
+    }
+
+    /// Refuses a signature.
+    #[tactic(auto, unfolding(gx_model::specs::Grammar::unsigned_in))]
+    fn check_unsigned(&mut self) -> Result<(), CommandFault>
+        ensures reads { Reads (λ u. u) unsigned (to_come self.old) (to_come self.new) result }
+        ensures falls { FallsNot (most self.old) (most self.new) result }
+    {
+        let _none = self.take(|item| refuse_signature(item))?;
+        Ok(())
+    }
+
+    /// Looks at the item after a commit or a reset, and takes it where it is an empty line.
+    #[tactic(auto, unfolding(gx_model::specs::Grammar::item_after_in))]
+    fn end(&mut self) -> Result<(), CommandFault>
+        ensures reads { Reads (λ u. u) item_after (to_come self.old) (to_come self.new) result }
+        ensures falls { FallsNot (most self.old) (most self.new) result }
+    {
+        let _line = self.take(|item| Ok(empty_line(item)))?;
+        Ok(())
+    }
+}
+
+/// The change that an item is, or begins.
+fn change_in<A: Allocator + Copy>(
+    alloc: A,
+    item: Item<'_>,
+) -> Result<Option<ChangeLine<A>>, CommandFault>
+    ensures { (s : Stream) → ChangeIn (item_of item.entry) s result }
+{
+    match item {
+        Item::Line(line) => read_change(alloc, line),
+        Item::Data(_) => Ok(None),
+    }
+}
+
+fn refuse_signature(item: Item<'_>) -> Result<Option<()>, CommandFault>
+    ensures { Gives fault_of (λ none. none) result (signature_in (item_of item.entry)) }
+{
+    match item {
+        Item::Line(line) if Words::of(line).is(b"gpgsig") => Err(CommandFault::Unsupported),
+        _ => Ok(None),
+    }
+}
+
+fn empty_line(item: Item<'_>) -> Option<()>
+    ensures { result ≡ empty_line (item_of item.entry) }
+{
+    match item {
+        Item::Line(line) if line.is_empty() => Some(()),
+        _ => None,
+    }
+}

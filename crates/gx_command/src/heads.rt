@@ -1,0 +1,181 @@
+//! The lines that begin commands.
+
+ghost use Rattle.std.specs.Prelude.{◌≡◌, ◌||◌, codes, Ok};
+ghost use Rattle.std.specs.Option.{option_map};
+ghost use Rattle.gx_model.specs.Faults.{Gives, and_then};
+ghost use Rattle.gx_model.specs.Items.{Stream};
+ghost use Rattle.gx_model.specs.Grammar.{command_at, is_word, rest_of, if_early, feature_of};
+ghost use Rattle.gx_stream.specs.Reading.{item_of};
+ghost use Rattle.gx_command.specs.Ahead.{Reads, Falls, FallsNot, to_come, most};
+ghost use Rattle.gx_command.specs.CommandFaults.{fault_of};
+ghost use Rattle.gx_command.specs.Heads.{Begins, BeginsIn, TakesStart, TakesHead, begun, first};
+ghost use Rattle.gx_command.specs.Lines.{shown_words};
+ghost use Rattle.gx_command.specs.Views.{shown_command};
+
+use crate::ahead::Ahead;
+use crate::commands::Command;
+use crate::fault::CommandFault;
+use crate::lines::Words;
+use crate::texts::{RefName, TagName};
+use gx_model::Feature;
+use gx_stream::Item;
+use gx_text::Source;
+use std::alloc::Allocator;
+
+/// What a command's first line says of it.
+#[derive(Drop)]
+pub(crate) enum Head<A: Allocator> {
+    Blob,
+    Commit(RefName<A>),
+    Tag(TagName<A>),
+    Reset(RefName<A>),
+    /// All of the command.
+    Whole(Command<A>),
+}
+
+/// A line where a command may begin.
+#[derive(Drop)]
+pub(crate) enum Start<A: Allocator> {
+    Empty,
+    Head(Head<A>),
+}
+
+impl<R: Source, A: Allocator + Copy> Ahead<R, A> {
+    /// The next command, or `None` at the end of the items. Only options came before it, or `is_early` is false.
+    pub(crate) fn command(&mut self, is_early: bool) -> Result<Option<Command<A>>, CommandFault>
+        ensures reads { Reads (option_map shown_command) (first is_early) (to_come self.old) (to_come self.new) result }
+        ensures falls { Falls (most self.old) (most self.new) result }
+    {
+        match self.head(is_early)? {
+            None => Ok(None),
+            Some(head) => Ok(Some(self.body(head)?)),
+        }
+    }
+
+    /// The rest of the command that begins so.
+    fn body(&mut self, head: Head<A>) -> Result<Command<A>, CommandFault>
+        ensures reads { Reads shown_command (begun head) (to_come self.old) (to_come self.new) result }
+        ensures falls { FallsNot (most self.old) (most self.new) result }
+    {
+        match head {
+            Head::Blob => Ok(Command::Blob(self.blob()?)),
+            Head::Commit(branch) => Ok(Command::Commit(self.commit(branch)?)),
+            Head::Tag(name) => Ok(Command::Tag(self.tag(name)?)),
+            Head::Reset(branch) => Ok(Command::Reset(self.reset(branch)?)),
+            Head::Whole(command) => Ok(command),
+        }
+    }
+
+    /// The head of the next command, past empty lines.
+    fn head(&mut self, is_early: bool) -> Result<Option<Head<A>>, CommandFault>
+        ensures takes { TakesHead is_early (to_come self.old) (to_come self.new) result }
+        ensures falls { Falls (most self.old) (most self.new) result }
+    {
+        loop {
+            match self.start(is_early)? {
+                None => return Ok(None),
+                Some(Start::Empty) => {}
+                Some(Start::Head(head)) => return Ok(Some(head)),
+            }
+        }
+    }
+
+    fn start(&mut self, is_early: bool) -> Result<Option<Start<A>>, CommandFault>
+        ensures takes { TakesStart is_early (to_come self.old) (to_come self.new) result }
+        ensures falls { Falls (most self.old) (most self.new) result }
+    {
+        let alloc = self.alloc;
+        self.take(|item| read_start(alloc, is_early, item))
+    }
+}
+
+/// What an item begins. Each item is taken where a command may begin.
+fn read_start<A: Allocator + Copy>(
+    alloc: A,
+    is_early: bool,
+    item: Item<'_>,
+) -> Result<Option<Start<A>>, CommandFault>
+    ensures { (s : Stream) → BeginsIn is_early (item_of item.entry) s result }
+{
+    match item {
+        Item::Data(_) => Err(CommandFault::UnknownCommand),
+        Item::Line(line) if line.is_empty() => Ok(Some(Start::Empty)),
+        Item::Line(line) => {
+            let head = read_head(alloc, is_early, Words::of(line))?;
+            Ok(Some(Start::Head(head)))
+        }
+    }
+}
+
+/// The command that a line begins with these words.
+#[tactic(auto, unfolding(gx_model::specs::Grammar::command_at))]
+fn read_head<A: Allocator + Copy>(
+    alloc: A,
+    is_early: bool,
+    words: Words<'_>,
+) -> Result<Head<A>, CommandFault>
+    ensures { (s : Stream) → Begins s result (command_at is_early (shown_words words.entry) s) }
+{
+    if words.is(b"blob") {
+        words.check_bare()?;
+        Ok(Head::Blob)
+    } else if words.is(b"commit") {
+        Ok(Head::Commit(RefName::read(alloc, words.rest()?)?))
+    } else if words.is(b"tag") {
+        Ok(Head::Tag(TagName::read(alloc, words.rest()?)?))
+    } else if words.is(b"reset") {
+        Ok(Head::Reset(RefName::read(alloc, words.rest()?)?))
+    } else if words.is(b"checkpoint") {
+        words.check_bare()?;
+        Ok(Head::Whole(Command::Checkpoint))
+    } else if words.is(b"progress") {
+        let text = Vec::from_slice(alloc, words.rest()?)?;
+        Ok(Head::Whole(Command::Progress(text)))
+    } else if words.is(b"feature") {
+        let text = early_rest(is_early, words)?;
+        Ok(Head::Whole(Command::Feature(read_feature(text)?)))
+    } else if words.is(b"option") {
+        let text = Vec::from_slice(alloc, early_rest(is_early, words)?)?;
+        Ok(Head::Whole(Command::OptionLine(text)))
+    } else if words.is(b"done") {
+        words.check_bare()?;
+        Ok(Head::Whole(Command::Done))
+    } else if is_left_out(words) {
+        Err(CommandFault::Unsupported)
+    } else {
+        Err(CommandFault::UnknownCommand)
+    }
+}
+
+/// The rest of an option, which stands before every other command.
+fn early_rest<'a>(is_early: bool, words: Words<'a>) -> Result<&'a [u8], CommandFault>
+    ensures { Gives fault_of (λ rest. rest.now) result (and_then (rest_of (shown_words words.entry)) (λ rest. if_early is_early (Ok rest))) }
+{
+    let rest = words.rest()?;
+    if is_early {
+        Ok(rest)
+    } else {
+        Err(CommandFault::LateOption)
+    }
+}
+
+/// A command of git-fast-import(1) that isn't supported.
+fn is_left_out(words: Words<'_>) -> bool
+    ensures { result ≡ (is_word (shown_words words.entry) (codes "ls") || is_word (shown_words words.entry) (codes "cat-blob") || is_word (shown_words words.entry) (codes "get-mark") || is_word (shown_words words.entry) (codes "alias")) }
+{
+    words.is(b"ls") || words.is(b"cat-blob") || words.is(b"get-mark") || words.is(b"alias")
+}
+
+fn read_feature(text: &[u8]) -> Result<Feature, CommandFault>
+    ensures { Gives fault_of (λ f. f) result (feature_of text.now) }
+{
+    if text == b"done".as_slice() {
+        Ok(Feature::Done)
+    } else if text == b"date-format=raw".as_slice() {
+        Ok(Feature::RawDates)
+    } else if text == b"force".as_slice() {
+        Ok(Feature::Force)
+    } else {
+        Err(CommandFault::Unsupported)
+    }
+}

@@ -1,0 +1,77 @@
+//! Lines: the word and the rest of each.
+
+ghost use Rattle.std.specs.Prelude.{◌≡◌};
+ghost use Rattle.std.specs.Option.{option_map};
+ghost use Rattle.gx_model.specs.Faults.{Gives};
+ghost use Rattle.gx_model.specs.Grammar.{words_of, is_word, rest_of, bare};
+ghost use Rattle.gx_stream.specs.Reading.{item_of};
+ghost use Rattle.gx_command.specs.CommandFaults.{fault_of};
+ghost use Rattle.gx_command.specs.Lines.{shown_words, rest_in};
+
+use crate::fault::CommandFault;
+use gx_stream::Item;
+use gx_text::cut;
+
+/// A line's word, and what follows the space after it.
+#[derive(Clone, Copy)]
+pub(crate) struct Words<'a> {
+    pub(crate) word: &'a [u8],
+    pub(crate) rest: Option<&'a [u8]>,
+}
+
+impl<'a> Words<'a> {
+    pub(crate) fn of(line: &'a [u8]) -> Words<'a>
+        ensures { shown_words result ≡ words_of line.now }
+    {
+        match cut(line, b' ') {
+            Some((word, rest)) => Words {
+                word,
+                rest: Some(rest),
+            },
+            None => Words {
+                word: line,
+                rest: None,
+            },
+        }
+    }
+
+    pub(crate) fn is(self, word: &[u8]) -> bool
+        ensures { result ≡ is_word (shown_words self.entry) word.now }
+    {
+        self.word == word
+    }
+
+    /// The rest of a line that needs one.
+    pub(crate) fn rest(self) -> Result<&'a [u8], CommandFault>
+        ensures { Gives fault_of (λ rest. rest.now) result (rest_of (shown_words self.entry)) }
+    {
+        self.rest.ok_or(CommandFault::BadLine)
+    }
+
+    /// Refuses a line with a rest.
+    pub(crate) fn check_bare(self) -> Result<(), CommandFault>
+        ensures { Gives fault_of (λ u. u) result (bare (shown_words self.entry)) }
+    {
+        match self.rest {
+            Some(_) => Err(CommandFault::BadLine),
+            None => Ok(()),
+        }
+    }
+}
+
+/// The rest of a line that has this word. Another item gives none.
+pub(crate) fn rest_in<'a>(item: Item<'a>, word: &[u8]) -> Result<Option<&'a [u8]>, CommandFault>
+    ensures { Gives fault_of (option_map (λ rest. rest.now)) result (rest_in word.now (item_of item.entry)) }
+{
+    match item {
+        Item::Line(line) => {
+            let words = Words::of(line);
+            if words.is(word) {
+                Ok(Some(words.rest()?))
+            } else {
+                Ok(None)
+            }
+        }
+        Item::Data(_) => Ok(None),
+    }
+}

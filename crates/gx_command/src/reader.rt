@@ -1,0 +1,143 @@
+//! The reader of commands.
+
+ghost use Rattle.std.specs.Prelude.{◌≡◌, ◌-◌, ◌^◌, ◌&&◌, ◌||◌};
+ghost use Rattle.std.specs.Option.{option_map};
+ghost use Rattle.gx_model.specs.Grammar.{is_option, asks_done, is_done};
+ghost use Rattle.gx_command.specs.Ahead.{to_come, most, Reads as ReadsAhead, Falls as FallsAhead};
+ghost use Rattle.gx_command.specs.Reading.{Reads, Finishes, Falls, commands_from, next_after, state_after};
+ghost use Rattle.gx_command.specs.Views.{shown_command};
+
+use crate::ahead::Ahead;
+use crate::commands::Command;
+use crate::fault::CommandFault;
+use gx_model::Feature;
+use gx_text::Source;
+use std::alloc::Allocator;
+use std::marker::Model;
+
+/// What options came so far.
+#[derive(Clone, Copy, Drop)]
+pub(crate) struct Options {
+    /// No other command came.
+    are_all: bool,
+    /// `feature done` is among them.
+    needs_done: bool,
+}
+
+/// How far a reader has come: commands may come, none comes any more, or each call answers a fault.
+#[derive(Clone, Copy, Drop)]
+pub(crate) enum State {
+    Open(Options),
+    Ended,
+    Failed(CommandFault),
+}
+
+/// A reader of the commands of a stream, seen as the commands that are still to come.
+#[derive(Drop)]
+pub struct CommandReader<R: Source, A: Allocator> {
+    ahead: Ahead<R, A>,
+    state: State,
+}
+
+impl<R: Source, A: Allocator> Model for CommandReader<R, A> {
+    ghost use Rattle.gx_command.specs.Ahead.{to_come, most};
+    ghost use Rattle.gx_command.specs.Reading.{Seen, seen_as, most_of};
+
+    ghost Value = { Seen };
+
+    ghost view = { λ r. record {
+      commands = seen_as r.state (to_come r.ahead);
+      most = most_of r.state (most r.ahead);
+    } };
+}
+
+impl<R: Source, A: Allocator + Copy> CommandReader<R, A> {
+    /// A reader of all the commands of a source. Takes no memory, and nothing is pulled yet.
+    pub fn new(alloc: A, source: R) -> CommandReader<R, A>
+        ensures commands { result.commands ≡ option_map commands_from (R.coming source) }
+        ensures most { result.most ≡ 2 ^ 63 - 1 }
+    {
+        CommandReader {
+            ahead: Ahead::new(alloc, source),
+            state: State::Open(Options {
+                are_all: true,
+                needs_done: false,
+            }),
+        }
+    }
+
+    /// The next command, or `None` after `done` and at the end of the stream.
+    pub fn next(&mut self) -> Result<Option<Command<A>>, CommandFault>
+        ensures reads { Reads self.old.commands self.new.commands result }
+        ensures finishes { Finishes self.new.commands result }
+        ensures falls { Falls self.old.most self.new.most result }
+    {
+        let options = match self.state {
+            State::Open(options) => options,
+            State::Ended => return Ok(None),
+            State::Failed(fault) => return Err(fault),
+        };
+        match next_command(&mut self.ahead, options) {
+            Ok(Some(command)) => {
+                self.state = options.after(&command);
+                Ok(Some(command))
+            }
+            Ok(None) => {
+                self.state = State::Ended;
+                Ok(None)
+            }
+            Err(fault) => {
+                self.state = State::Failed(fault);
+                Err(fault)
+            }
+        }
+    }
+}
+
+/// The command that comes next. A stream that asks for `done` doesn't end without it.
+fn next_command<R: Source, A: Allocator + Copy>(
+    ahead: &mut Ahead<R, A>,
+    options: Options,
+) -> Result<Option<Command<A>>, CommandFault>
+    ensures reads { ReadsAhead (option_map shown_command) (next_after options) (to_come ahead.old) (to_come ahead.new) result }
+    ensures falls { FallsAhead (most ahead.old) (most ahead.new) result }
+{
+    match ahead.command(options.are_all)? {
+        Some(command) => Ok(Some(command)),
+        None if options.needs_done => Err(CommandFault::MissingDone),
+        None => Ok(None),
+    }
+}
+
+impl Options {
+    /// The state after a command.
+    fn after<A: Allocator>(self, command: &Command<A>) -> State
+        ensures { result ≡ state_after self (shown_command command.now) }
+    {
+        if is_done(command) {
+            return State::Ended;
+        }
+        State::Open(Options {
+            are_all: self.are_all && is_option(command),
+            needs_done: self.needs_done || asks_done(command),
+        })
+    }
+}
+
+fn is_done<A: Allocator>(command: &Command<A>) -> bool
+    ensures { result ≡ is_done (shown_command command.now) }
+{
+    matches!(command, Command::Done)
+}
+
+fn is_option<A: Allocator>(command: &Command<A>) -> bool
+    ensures { result ≡ is_option (shown_command command.now) }
+{
+    matches!(command, Command::Feature(_) | Command::OptionLine(_))
+}
+
+fn asks_done<A: Allocator>(command: &Command<A>) -> bool
+    ensures { result ≡ asks_done (shown_command command.now) }
+{
+    matches!(command, Command::Feature(Feature::Done))
+}

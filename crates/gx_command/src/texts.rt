@@ -1,0 +1,129 @@
+//! The texts of commands: names of refs and tags, identities, encodings and the digits of object names.
+
+ghost use Rattle.std.specs.Prelude.{◌≡◌, IsTrue, true, false, ◌==◌, ◌&&◌, nat_eq, length};
+ghost use Rattle.std.specs.List.{list_all};
+ghost use Rattle.gx_model.specs.Faults.{Gives};
+ghost use Rattle.gx_model.specs.Idents.{is_ident};
+ghost use Rattle.gx_model.specs.RefNames.{is_ref_name, is_tag_name};
+ghost use Rattle.gx_model.specs.Grammar.{ident_of, ref_of, tag_of, some_text, is_null, is_hex_digit, is_name};
+ghost use Rattle.gx_command.specs.CommandFaults.{fault_of};
+
+use crate::fault::CommandFault;
+use gx_text::Ident;
+use std::alloc::Allocator;
+
+/// A ref name. Source: git-check-ref-format(1).
+#[derive(Drop)]
+pub struct RefName<A: Allocator> {
+    pub bytes: Vec<u8, A>,
+    pub ghost proper: { IsTrue (is_ref_name bytes.items) },
+}
+
+/// The name of a tag: `refs/tags/` followed by it is a ref name.
+#[derive(Drop)]
+pub struct TagName<A: Allocator> {
+    pub bytes: Vec<u8, A>,
+    pub ghost proper: { IsTrue (is_tag_name bytes.items) },
+}
+
+/// Who made a commit or a tag, and when, as written.
+#[derive(Drop)]
+pub struct Identity<A: Allocator> {
+    pub bytes: Vec<u8, A>,
+    pub ghost proper: { IsTrue (is_ident bytes.items) },
+}
+
+/// The name of a text's encoding, which isn't empty.
+#[derive(Drop)]
+pub struct Encoding<A: Allocator> {
+    pub name: Vec<u8, A>,
+    pub ghost some: { nat_eq (length name.items) 0 ≡ false },
+}
+
+/// Forty hexadecimal digits of either case, not all of them zeros.
+#[derive(Clone, Copy)]
+pub struct Digits {
+    pub digits: [u8; 40],
+    pub ghost proper: { IsTrue (is_name digits) },
+    pub ghost some: { is_null digits ≡ false },
+}
+
+impl<A: Allocator + Copy> RefName<A> {
+    pub(crate) fn read(alloc: A, text: &[u8]) -> Result<RefName<A>, CommandFault>
+        ensures { Gives fault_of (λ name. name.bytes.items) result (ref_of text.now) }
+    {
+        if !gx_text::is_ref_name(text) {
+            return Err(CommandFault::BadRefName);
+        }
+        let bytes = Vec::from_slice(alloc, text)?;
+        Ok(RefName { bytes })
+    }
+}
+
+impl<A: Allocator + Copy> TagName<A> {
+    pub(crate) fn read(alloc: A, text: &[u8]) -> Result<TagName<A>, CommandFault>
+        ensures { Gives fault_of (λ name. name.bytes.items) result (tag_of text.now) }
+    {
+        let mut ref_name = Vec::from_slice(alloc, b"refs/tags/")?;
+        ref_name.extend_from_slice(text)?;
+        if !gx_text::is_ref_name(&ref_name) {
+            return Err(CommandFault::BadRefName);
+        }
+        let bytes = Vec::from_slice(alloc, text)?;
+        Ok(TagName { bytes })
+    }
+}
+
+impl<A: Allocator + Copy> Identity<A> {
+    pub(crate) fn read(alloc: A, text: &[u8]) -> Result<Identity<A>, CommandFault>
+        ensures { Gives fault_of (λ identity. identity.bytes.items) result (ident_of text.now) }
+    {
+        let ident = Ident::read(text)?;
+        let bytes = Vec::from_slice(alloc, ident.bytes())?;
+        Ok(Identity { bytes })
+    }
+}
+
+impl<A: Allocator + Copy> Encoding<A> {
+    pub(crate) fn read(alloc: A, text: &[u8]) -> Result<Encoding<A>, CommandFault>
+        ensures { Gives fault_of (λ encoding. encoding.name.items) result (some_text text.now) }
+    {
+        if text.is_empty() {
+            return Err(CommandFault::BadLine);
+        }
+        let name = Vec::from_slice(alloc, text)?;
+        Ok(Encoding { name })
+    }
+}
+
+/// Whether the text is forty zeros, which name no object.
+pub(crate) fn is_null(text: &[u8]) -> bool
+    ensures { result ≡ is_null text.now }
+{
+    are_zeros(text) && text.len() == 40
+}
+
+fn are_zeros(text: &[u8]) -> bool
+    ensures { result ≡ list_all (λ b. b == 48) text.now }
+{
+    text.iter().all(|b| *b == b'0')
+}
+
+/// Whether the text is forty hexadecimal digits of either case.
+pub(crate) fn is_name(text: &[u8]) -> bool
+    ensures { result ≡ is_name text.now }
+{
+    are_hex_digits(text) && text.len() == 40
+}
+
+fn are_hex_digits(text: &[u8]) -> bool
+    ensures { result ≡ list_all is_hex_digit text.now }
+{
+    text.iter().all(|b| is_hex_digit(*b))
+}
+
+fn is_hex_digit(b: u8) -> bool
+    ensures { result ≡ is_hex_digit b }
+{
+    matches!(b, b'0'..=b'9' | b'a'..=b'f' | b'A'..=b'F')
+}

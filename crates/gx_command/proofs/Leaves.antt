@@ -1,10 +1,8 @@
 -- What reading leaves has no more items than there were.
-use Rattle.std.proofs.Common.{◌≡◌, ℕ, zero, suc, ◌+◌, ◌<◌, ◌≤◌, Bool, true, false, cond, List, [], ◌∷◌, length, Option, Some, None, Result, Ok, Err, refl, sym, ap, subst, ◌∙◌, arith}
+use Rattle.std.proofs.Common.{◌≡◌, ℕ, zero, suc, ◌<◌, ◌≤◌, Bool, true, false, cond, List, [], ◌∷◌, length, Option, Some, None, Ok, Err, refl, ap, subst, arith}
 use Rattle.std.specs.Prelude.{codes, ◌||◌}
-use Rattle.std.proofs.lemmas.Grind.{common_steps}
-use Rattle.gx_model.specs.declared.faults.Fault.{Fault}
 use Rattle.gx_model.specs.Texts.{Bytes}
-use Rattle.gx_model.specs.Faults.{Given, or_fault, ◌>>=◌}
+use Rattle.gx_model.specs.Faults.{Given, ◌>>=◌}
 use Rattle.gx_model.specs.Items.{Item, Line, Data, End, Finished, Failed, Stream}
 use Rattle.gx_model.specs.Commands.{Change, Command, CommitIsh}
 use Rattle.gx_model.specs.Grammar.{Read, Words, at_end, after, words_of, is_word, rest_of, bare, rest_line_in, rest_line, read_some, optional, read_needed, needed, block_in, block, mark_of, any_text, some_text, ident_of, ref_of, tag_of, commit_ish_of, feature_of, mode_of, where_of, suits, Where, AtMark, AtName, AtBlock, bytes_from, part_of, last_path, two_paths, modify_at, change_at, changes_within, changes, merges_within, merges, item_after_in, item_after, unsigned_in, unsigned, blob_at, links_at, commit_at, tag_at, reset_at, if_early, command_at}

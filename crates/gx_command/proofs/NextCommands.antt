@@ -1,5 +1,5 @@
 -- What a reader of commands answers and leaves.
-use Rattle.std.proofs.Common.{◌≡◌, ℕ, Bool, true, false, cond, List, [], ◌∷◌, ◌++◌, length, Option, Some, None, Result, Ok, Err, refl, sym, ap, subst, ◌∙◌, ◌⊎◌, inl, inr, arith}
+use Rattle.std.proofs.Common.{◌≡◌, Bool, true, false, cond, [], ◌∷◌, ◌++◌, length, Option, Some, None, Ok, Err, refl, sym, ap, subst, ◌∙◌, ◌⊎◌, inl, inr}
 use Rattle.std.specs.Prelude.{◌&&◌, ◌||◌, if◌then◌else◌}
 use Rattle.std.specs.Option.{option_map}
 use Rattle.std.specs.List.{list_any, list_all}
@@ -20,7 +20,6 @@ use Rattle.gx_command.specs.declared.commands.Command.{Command}
 use Rattle.gx_command.specs.declared.fault.CommandFault.{CommandFault}
 use Rattle.gx_command.specs.declared.fault.CommandFault.TheVariants as own
 use Rattle.gx_command.specs.declared.reader.Options.{Options}
-use Rattle.gx_command.specs.declared.reader.State.{State}
 use Rattle.gx_command.specs.declared.reader.State.TheVariants.{Open, Ended}
 use Rattle.gx_command.proofs.Steps.{commands_unrolled, led, same_before, all_more, any_more}
 

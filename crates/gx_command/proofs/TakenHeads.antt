@@ -1,30 +1,22 @@
 -- The item that comes next as the line that begins a command.
-use Rattle.std.proofs.Common.{◌≡◌, ℕ, Bool, true, false, cond, List, [], ◌∷◌, Option, Some, None, Result, Ok, Err, refl, sym, ap, subst, ◌∙◌, ◌⊎◌, inl, inr, arith}
-use Rattle.std.proofs.lemmas.Grind.{common_steps}
+use Rattle.std.proofs.Common.{◌≡◌, Bool, [], ◌∷◌, Option, Some, None, Result, Ok, Err, refl, ap, subst, ◌∙◌, inl, inr}
 use Rattle.std.specs.Option.{option_map}
-use Rattle.std.specs.Borrow.{Bor}
-use Rattle.gx_model.specs.declared.faults.Fault.TheVariants as model_faults
 use Rattle.gx_model.specs.Texts.{Bytes}
-use Rattle.gx_model.specs.Faults.{IsFaultOf, ◌>>=◌}
 use Rattle.gx_model.specs.Items as model
 use Rattle.gx_model.specs.Items.{Stream, then_comes, Finished, Failed}
-use Rattle.gx_model.specs.Grammar.{rest_line, rest_line_in, words_of, command_at}
+use Rattle.gx_model.specs.Grammar.{words_of, command_at}
 use Rattle.gx_stream.specs.Faults.{ended}
 use Rattle.gx_stream.specs.Reading.{item_of}
 use Rattle.gx_stream.specs.declared.item.Item.{Item}
 use Rattle.gx_stream.specs.declared.item.Item.TheVariants as items
 use Rattle.gx_command.specs.CommandFaults.{fault_of}
-use Rattle.gx_command.specs.Lines.{rest_in}
-use Rattle.gx_command.specs.Ahead.{AnswersRest, Fails, Reads, ReadNext, ReadRest, Takes, TakesFrom, TakesLine, TakesLineFrom}
-use Rattle.gx_command.specs.Bodies.{ChangeIn, TakesChange, next_change, next_change_in}
-use Rattle.gx_command.specs.ChangeLines.{completed}
+use Rattle.gx_command.specs.Ahead.{Fails, Reads, Takes}
 use Rattle.gx_command.specs.Heads.{BeginsAt, BeginsIn, TakesHead, TakesStart, begun, first, first_in, started, there}
 use Rattle.gx_command.specs.Views.{shown_command}
 use Rattle.gx_command.specs.declared.commands.Command.{Command}
 use Rattle.gx_command.specs.declared.heads.Head.{Head}
 use Rattle.gx_command.specs.declared.heads.Start.{Start}
 use Rattle.gx_command.specs.declared.heads.Start.TheVariants as start
-use Rattle.gx_command.specs.declared.change_lines.ChangeLine.{ChangeLine}
 use Rattle.gx_command.specs.declared.fault.CommandFault.{CommandFault}
 use Rattle.gx_command.specs.declared.fault.CommandFault.TheVariants as faults
 

@@ -1,15 +1,12 @@
 -- The parts of a commit that follow its message, one by one.
-use Rattle.std.specs.Prelude.{◌≡◌, ℕ, Option, Some, None, Result, Ok, Err, [], ◌∷◌, List, map, if◌then◌else◌, codes}
+use Rattle.std.specs.Prelude.{◌≡◌, Option, Some, None, Result, Ok, Err, [], ◌∷◌, List, map, if◌then◌else◌, codes}
 use Rattle.std.specs.Option.{option_map}
-use Rattle.gx_model.specs.Faults.{IsFaultOf, Given, ◌>>=◌}
+use Rattle.gx_model.specs.Faults.{Given, ◌>>=◌}
 use Rattle.gx_model.specs.Items as model
 use Rattle.gx_model.specs.Items.{Stream, Line, Data}
 use Rattle.gx_model.specs.Commands as command
 use Rattle.gx_model.specs.declared.faults.Fault.TheVariants as faults
 use Rattle.gx_model.specs.Grammar.{Read, at_end, after, words_of, is_word, change_at}
-use Rattle.gx_stream.specs.Reading.{item_of}
-use Rattle.gx_stream.specs.declared.item.Item.{Item}
-use Rattle.gx_command.specs.CommandFaults.{fault_of}
 use Rattle.gx_command.specs.Ahead.{Fails}
 use Rattle.gx_command.specs.ChangeLines.{BeginsChange, completed}
 use Rattle.gx_command.specs.Views.{shown_commit_ish, shown_change}

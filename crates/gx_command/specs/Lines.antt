@@ -1,5 +1,5 @@
 -- Lines and their parts, without where they lie in memory.
-use Rattle.std.specs.Prelude.{ℕ, Bool, true, false, List, Option, Some, None, Result, Ok, Err, if◌then◌else◌}
+use Rattle.std.specs.Prelude.{Option, Some, None, Ok, if◌then◌else◌}
 use Rattle.std.specs.Option.{option_map}
 use Rattle.gx_model.specs.Texts.{Bytes}
 use Rattle.gx_model.specs.Faults.{Given, ◌>>=◌}

@@ -1,7 +1,6 @@
 -- Commands as the model has them, without where they lie in memory.
-use Rattle.std.specs.Prelude.{Option, map}
+use Rattle.std.specs.Prelude.{map}
 use Rattle.std.specs.Option.{option_map}
-use Rattle.gx_model.specs.Texts.{Bytes}
 use Rattle.gx_model.specs.Commands as model
 use Rattle.gx_command.specs.declared.commands.Blob.{Blob}
 use Rattle.gx_command.specs.declared.commands.Commit.{Commit}
@@ -16,7 +15,6 @@ use Rattle.gx_command.specs.declared.commands.Change.{Change}
 use Rattle.gx_command.specs.declared.commands.Change.TheVariants as change
 use Rattle.gx_command.specs.declared.commands.Command.{Command}
 use Rattle.gx_command.specs.declared.commands.Command.TheVariants as command
-use Rattle.std.specs.declared.vec.Vec.{Vec}
 
 abbrev pub shown_commit_ish : {A : Type 0} → CommitIsh A → model.CommitIsh
 shown_commit_ish (commit_ish.Mark n) = model.Marked n

@@ -19,3 +19,6 @@ pub use fault::CommandFault;
 pub use gx_model::Feature;
 pub use reader::CommandReader;
 pub use texts::{Digits, Encoding, Identity, RefName, TagName};
+
+#[cfg(test)]
+mod tests;

@@ -32,7 +32,8 @@ pub(crate) enum State {
     Failed(CommandFault),
 }
 
-/// A reader of the commands of a stream, seen as the commands that are still to come.
+/// A reader of the commands of a stream, seen as the commands that are still to come, where the source tells its bytes,
+/// and a bound on how many may come. Source: git-fast-import(1), "Commands", in the profile of this project.
 #[derive(Drop)]
 pub struct CommandReader<R: Source, A: Allocator> {
     ahead: Ahead<R, A>,
@@ -52,7 +53,7 @@ impl<R: Source, A: Allocator> Model for CommandReader<R, A> {
 }
 
 impl<R: Source, A: Allocator + Copy> CommandReader<R, A> {
-    /// A reader of all the commands of a source. Takes no memory, and nothing is pulled yet.
+    /// A reader of all the commands of a source. Takes no memory and constant time, and nothing is pulled yet.
     pub fn new(alloc: A, source: R) -> CommandReader<R, A>
         ensures commands { result.commands ≡ option_map commands_from (R.coming source) }
         ensures most { result.most ≡ 2 ^ 63 - 1 }
@@ -66,7 +67,17 @@ impl<R: Source, A: Allocator + Copy> CommandReader<R, A> {
         }
     }
 
-    /// The next command, or `None` after `done` and at the end of the stream.
+    /// The next command, whole, or `None` after `done` and at the end of the stream.
+    ///
+    /// A command that ends with a block is whole with it. A commit or a reset is whole once the item after it was read,
+    /// which is an empty line, or begins the next command; so a fault of that item comes in its place. What follows `done`
+    /// is never read. After a fault each call answers the same fault, and after the end each call answers `None`.
+    ///
+    /// Errors: those of `CommandFault`, each with its causes there; of several in one command, the first from left to right.
+    ///
+    /// Cost: time in the bytes of the command and of the item after it. Memory: the command's own, the item after it, and
+    /// the buffer of the items; a block's bytes are copied once, from that buffer into the command.
+    /// Source: git-fast-import(1), "Commands".
     pub fn next(&mut self) -> Result<Option<Command<A>>, CommandFault>
         ensures reads { Reads self.old.commands self.new.commands result }
         ensures finishes { Finishes self.new.commands result }

@@ -19,28 +19,29 @@ pub struct RefName<A: Allocator> {
     pub ghost proper: { IsTrue (is_ref_name bytes.items) },
 }
 
-/// The name of a tag: `refs/tags/` followed by it is a ref name.
+/// The name of a tag: `refs/tags/` followed by it is a ref name. Source: git-check-ref-format(1).
 #[derive(Drop)]
 pub struct TagName<A: Allocator> {
     pub bytes: Vec<u8, A>,
     pub ghost proper: { IsTrue (is_tag_name bytes.items) },
 }
 
-/// Who made a commit or a tag, and when, as written.
+/// Who made a commit or a tag, and when, as written: name, email, seconds and offset. Source: git-fast-import(1), "author",
+/// "committer", "tagger" and the date format `raw`.
 #[derive(Drop)]
 pub struct Identity<A: Allocator> {
     pub bytes: Vec<u8, A>,
     pub ghost proper: { IsTrue (is_ident bytes.items) },
 }
 
-/// The name of a text's encoding, which isn't empty.
+/// The name of a message's encoding, which isn't empty. Source: git-fast-import(1), "encoding".
 #[derive(Drop)]
 pub struct Encoding<A: Allocator> {
     pub name: Vec<u8, A>,
     pub ghost some: { nat_eq (length name.items) 0 ≡ false },
 }
 
-/// Forty hexadecimal digits of either case, not all of them zeros.
+/// The name of an object, in forty hexadecimal digits of either case, not all of them zeros. Source: git-fast-import(1), "filemodify".
 #[derive(Clone, Copy)]
 pub struct Digits {
     pub digits: [u8; 40],

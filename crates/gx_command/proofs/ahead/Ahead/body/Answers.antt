@@ -1,5 +1,4 @@
 use Rattle.std.proofs.Common.{refl}
-use Rattle.gx_model.specs.Grammar.{commit_at}
 use Rattle.gx_command.specs.Views.{shown_commit, shown_command}
 use Rattle.gx_command.proofs.Sequences.{reads_as}
 use Rattle.gx_command.proofs.ahead.Ahead.body.Goals as goal

@@ -1,11 +1,10 @@
-use Rattle.std.proofs.Common.{◌≡◌, ◌++◌, ◌∷◌, [], map, sym, ap, subst, ◌∙◌, Some, Ok, arith}
+use Rattle.std.proofs.Common.{arith}
 use Rattle.std.proofs.lemmas.List.{map-append}
 use Rattle.std.proofs.lemmas.Result.{err_from_is_err_and}
 use Rattle.std.specs.Prelude.{codes}
 use Rattle.gx_model.specs.Grammar.{optional, commit_ish_of, merges}
-use Rattle.gx_command.specs.Ahead.{Reads, to_come}
 use Rattle.gx_command.specs.Views.{shown_commit_ish}
-use Rattle.gx_command.proofs.Unrolled.{merges_unrolled, Collects, collects_one, collects_all, collects_fails}
+use Rattle.gx_command.proofs.Unrolled.{merges_unrolled, collects_one, collects_all, collects_fails}
 use Rattle.gx_command.proofs.ahead.Ahead.merges.Goals as goal
 
 pub returns-in_err-merge-clause-reads : goal.returns-in_err-merge-clause-reads

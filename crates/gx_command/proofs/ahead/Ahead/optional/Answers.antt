@@ -1,4 +1,4 @@
-use Rattle.std.proofs.Common.{rules, arith}
+use Rattle.std.proofs.Common.{rules}
 use Rattle.gx_command.proofs.TakenLines.{takes_line}
 use Rattle.gx_command.proofs.ahead.Ahead.optional.Goals as goal
 

@@ -1,7 +1,6 @@
 use Rattle.std.proofs.lemmas.Result.{err_from_is_err_and}
 use Rattle.gx_model.specs.Grammar.{tag_at}
-use Rattle.gx_command.specs.Views.{shown_tag}
-use Rattle.gx_command.proofs.Sequences.{first_fails, then_reads, all_read, falls_not}
+use Rattle.gx_command.proofs.Sequences.{first_fails, then_reads}
 use Rattle.gx_command.proofs.ahead.Ahead.tag.Goals as goal
 
 pub returns-in_err-tagger-clause-reads : goal.returns-in_err-tagger-clause-reads

@@ -17,3 +17,4 @@ pub mod Puts
 pub mod WrittenRecords
 pub mod LevelsOf
 pub mod HeldLevels
+pub mod HeldRecords

@@ -162,6 +162,7 @@ impl<A: Allocator + Copy> PathTree<A> {
     pub fn write<N: Namer>(&mut self, store: &mut Store<N, A>) -> Result<Name, TreeFault>
         ensures name { IfOk result (λ name. name.bytes ≡ map_name (N.name_of store.old.0) self.old) }
         ensures records { PutsAll (tree_records (N.name_of store.old.0) self.old) store.old.1 store.new.1 result }
+        ensures held { IfOk result (λ name. IsHeldTree (N.name_of store.old.0) store.new.1 name.bytes self.old) }
         ensures front { take (length store.old.1) store.new.1 ≡ store.old.1 }
         ensures namer { store.new.0 ≡ store.old.0 }
         ensures map { self.new ≡ self.old }

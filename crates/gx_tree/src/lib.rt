@@ -13,3 +13,6 @@ mod writing;
 
 pub use fault::TreeFault;
 pub use path_tree::{Found, PathTree};
+
+#[cfg(test)]
+mod tests;

@@ -30,7 +30,9 @@ use std::marker::Model;
 /// What a path leads to.
 #[derive(Clone, Copy, Debug, PartialEq, Eq)]
 pub enum Found {
+    /// A file: its mode, which is no directory's, and the name of its content, or of a commit for a gitlink.
     File(Mode, Name),
+    /// The root, or a directory with files below it.
     Directory,
 }
 
@@ -65,6 +67,11 @@ impl<A: Allocator + Copy> PathTree<A> {
         }
     }
 
+    /// The files of a tree in the store, which holds the tree and all trees below it, as after `write`. What files and
+    /// gitlinks name needn't be held. The one error is `OutOfMemory`.
+    ///
+    /// Cost: the bytes of the trees, and for each directory a look-up in the store. Takes memory for the tree's entries
+    /// and their components. Source: gitglossary(7), "tree object".
     pub fn load<N: Namer>(
         alloc: A,
         store: &Store<N, A>,
@@ -77,7 +84,7 @@ impl<A: Allocator + Copy> PathTree<A> {
         Ok(PathTree { root, alloc })
     }
 
-    /// Removes each file. Takes no memory.
+    /// Removes each file. Takes no memory. Source: git-fast-import(1), "filedeleteall".
     pub fn clear(&mut self)
         ensures { self.new ≡ [] }
     {
@@ -91,12 +98,20 @@ impl<A: Allocator + Copy> PathTree<A> {
         let _ = &self.root;
     }
 
+    /// What stands at a path, and none where nothing does. The root is a directory even with no files.
+    ///
+    /// Cost: for each component of the path, the entries of one directory. Takes no memory. Source: gitglossary(7),
+    /// "tree".
     pub fn entry(&self, path: &TreePath<A>) -> Option<Found>
         ensures { option_map standing_of result ≡ standing_at self.now path.now }
     {
         self.root.entry(path, 0)
     }
 
+    /// The same files once more: later edits of one change nothing in the other. The one error is `OutOfMemory`.
+    ///
+    /// Cost: the whole tree, in time and in memory. Source: git-fast-import(1), "from", on a branch that begins with
+    /// another's files.
     pub fn duplicate(&self) -> Result<PathTree<A>, TreeFault>
         ensures { Gives fault_of (λ copy. copy) result (Ok self.now) }
     {
@@ -107,6 +122,9 @@ impl<A: Allocator + Copy> PathTree<A> {
         })
     }
 
+    /// The files, in the byte order of their whole paths. The one error is `OutOfMemory`.
+    ///
+    /// Cost: the bytes of all paths, in time and in memory. Source: gitglossary(7), "tree".
     pub fn list(&self) -> Result<Vec<(TreePath<A>, Mode, Name), A>, TreeFault>
         ensures { Gives fault_of (λ files. map listed files.items) result (Ok self.now) }
     {
@@ -116,6 +134,12 @@ impl<A: Allocator + Copy> PathTree<A> {
         Ok(files)
     }
 
+    /// Puts a file at a path, in place of what stands there or below it, and of a file above it.
+    /// `RootNotTree` where the path is the root; then `OutOfMemory`. Both leave the tree as it was.
+    ///
+    /// Cost: the directories on the path are made anew, with copies of what stands beside it: the whole tree, in time and
+    /// in memory.
+    /// Source: git-fast-import(1), "filemodify".
     pub fn modify(&mut self, path: &TreePath<A>, mode: Mode, name: Name) -> Result<(), TreeFault>
         requires { mode ≢ modes.Dir }
         ensures map { Gives fault_of (λ _. self.new) result (modified self.old path.now (mode, name.bytes)) }
@@ -131,6 +155,10 @@ impl<A: Allocator + Copy> PathTree<A> {
         Ok(())
     }
 
+    /// Removes what stands at or below a path, and the directories that are left with no file. The root stands above all
+    /// files, and where nothing stands nothing changes. The one error is `OutOfMemory`, which leaves the tree as it was.
+    ///
+    /// Cost: as for `modify`; at the root it takes no memory. Source: git-fast-import(1), "filedelete".
     pub fn remove(&mut self, path: &TreePath<A>) -> Result<(), TreeFault>
         ensures map { Gives fault_of (λ _. self.new) result (Ok (removed self.old path.now)) }
         ensures unchanged { OnErr result (self.new ≡ self.old) }
@@ -139,6 +167,13 @@ impl<A: Allocator + Copy> PathTree<A> {
         Ok(())
     }
 
+    /// Puts what stands at or below the source at the destination too, in place of what stood there or below it, and of a
+    /// file above it. The source is read before, so one of the two may be above the other: a copy of the root to `d` has
+    /// the files `d/..` of all files.
+    ///
+    /// `NoSuchPath` where no file stands at or below the source; then `RootNotTree` where a file would be the root; then
+    /// `PathTooLong` where a path would have more than 4,095 bytes; then `OutOfMemory`. Each leaves the tree as it was.
+    /// Cost: as for `modify`, and the copy. Source: git-fast-import(1), "filecopy".
     pub fn copy(&mut self, source: &TreePath<A>, destination: &TreePath<A>) -> Result<(), TreeFault>
         ensures map { Gives fault_of (λ _. self.new) result (copied self.old source.now destination.now) }
         ensures unchanged { OnErr result (self.new ≡ self.old) }
@@ -147,6 +182,12 @@ impl<A: Allocator + Copy> PathTree<A> {
         Ok(())
     }
 
+    /// Takes out what stands at or below the source, and puts it at the destination, in place of what then stands there
+    /// or below it, and of a file above it. So a file `a` can become `a/c`, and a rename to the same path changes
+    /// nothing.
+    ///
+    /// The errors are those of `copy`, in their order, and each leaves the tree as it was.
+    /// Cost: as for `modify`, twice. Source: git-fast-import(1), "filerename".
     pub fn rename(
         &mut self,
         source: &TreePath<A>,
@@ -159,6 +200,13 @@ impl<A: Allocator + Copy> PathTree<A> {
         Ok(())
     }
 
+    /// Puts the tree of each directory into the store, those below a directory before its own, and answers the name of
+    /// the root's, which is then held with all trees below it. A tree that is held already isn't put again.
+    ///
+    /// `NameHeld` where a tree has the name of an object of another kind or with other bytes, and `OutOfMemory`: what was
+    /// put by then stays, behind the records that the store had. The files stay as they were in any case.
+    /// Cost: the bytes of the trees, and for each directory a look-up in the store. Takes memory for the new records, and
+    /// for the entries of the directories from the root to one at a time. Source: gitglossary(7), "tree object".
     pub fn write<N: Namer>(&mut self, store: &mut Store<N, A>) -> Result<Name, TreeFault>
         ensures name { IfOk result (λ name. name.bytes ≡ map_name (N.name_of store.old.0) self.old) }
         ensures records { PutsAll (tree_records (N.name_of store.old.0) self.old) store.old.1 store.new.1 result }

@@ -27,24 +27,49 @@ def many_blobs(count, size):
         out.write(b'blob\ndata %d\n%s\n' % (size, body[:size]))
 
 
+def block(data):
+    return b'data %d\n%s\n' % (len(data), data)
+
+
+def commit(branch, mark, number, parents, changes):
+    return b''.join([
+        b'commit %s\nmark :%d\n' % (branch, mark),
+        b'author A U Thor <author@example.com> %d +0100\n' % (1700000000 + number),
+        b'committer C O Mitter <committer@example.com> %d +0100\n' % (1700000000 + number),
+        block(b'Change file %d\n' % (number % 500)),
+        parents,
+        changes,
+    ])
+
+
+def inline_change(number):
+    return b'M 100644 inline dir%d/file%d.txt\n' % (number % 20, number % 500) + block(b'line %d\n' % number * 8)
+
+
 def commits(size):
+    """Each third commit has a second change, by a blob's mark. Each fiftieth merges a commit of another branch."""
     out = sys.stdout.buffer
     written = 0
     number = 0
+    mark = 0
     while written < size:
         number += 1
-        text = b'line %d\n' % number * 8
-        message = b'Change file %d\n' % (number % 500)
-        commit = b''.join([
-            b'commit refs/heads/main\nmark :%d\n' % number,
-            b'author A U Thor <author@example.com> %d +0100\n' % (1700000000 + number),
-            b'committer C O Mitter <committer@example.com> %d +0100\n' % (1700000000 + number),
-            b'data %d\n%s' % (len(message), message),
-            b'M 100644 inline dir%d/file%d.txt\n' % (number % 20, number % 500),
-            b'data %d\n%s\n' % (len(text), text),
-        ])
-        out.write(commit)
-        written += len(commit)
+        text = b''
+        parents = b''
+        changes = inline_change(number)
+        if number % 3 == 0:
+            mark += 1
+            text += b'blob\nmark :%d\n' % mark + block(b'shared %d\n' % number * 4)
+            changes += b'M 100755 :%d tools/run%d\n' % (mark, number % 100)
+        if number % 50 == 0:
+            mark += 1
+            side = b'from :%d\n' % (mark - 2 if number % 3 == 0 else mark - 1)
+            text += commit(b'refs/heads/side', mark, number, side, b'D dir%d/file%d.txt\n' % (number % 20, number % 500))
+            parents = b'merge :%d\n' % mark
+        mark += 1
+        text += commit(b'refs/heads/main', mark, number, parents, changes)
+        out.write(text)
+        written += len(text)
 
 
 kind, *sizes = sys.argv[1:]

@@ -1,0 +1,61 @@
+-- What a put does to a sound repository, and to its history.
+use Rattle.std.proofs.Common.{◌≡◌, List, map, Some, Result, Ok, Err, sym, ap, subst, ◌∙◌}
+use Rattle.std.specs.Prelude.{IfOk}
+use Rattle.gx_model.specs.declared.objects.Kind.{Kind}
+use Rattle.gx_model.specs.Texts.{Bytes}
+use Rattle.gx_model.specs.Files.{FileMap}
+use Rattle.gx_model.specs.Values.{tree_value}
+use Rattle.gx_model.specs.Records.{name_of}
+use Rattle.gx_model.specs.Histories.{Record, Records, with_one, with_tree}
+use Rattle.gx_model.specs.HistoryOf.{contents_of, history_of, named_values, value_in}
+use Rattle.gx_model.specs.Sound.{HasShortPaths, IsLinked, IsNamedMap, IsSound}
+use Rattle.gx_model.specs.Growth.{all_trees, put, put_all, tree_records}
+use Rattle.gx_model.specs.RepositoryLaws.{LinksTell, PutsGrow, TreesGrow, values_of, with_records}
+use Rattle.gx_object.specs.declared.name.Name.{Name}
+use Rattle.gx_store.specs.declared.fault.StoreFault.{StoreFault}
+use Rattle.gx_store.specs.declared.fault.StoreFault.TheVariants.{OutOfMemory, NameHeld}
+use Rattle.gx_store.specs.Stores.{Puts, record_for}
+use Rattle.gx_tree.specs.Writes.{map_name}
+use Rattle.gx_repo.specs.Additions.{Adds, HasValues}
+
+pub adds_by_put : (old new : List Record) (r : Record) (answer : Result Name StoreFault) → Puts old new r answer → Adds old new r answer
+adds_by_put old new r (Ok n) p = p
+adds_by_put old new r (Err OutOfMemory) p = p.1
+adds_by_put old new r (Err NameHeld) p = p
+
+module _ (name : Kind → Bytes → Bytes) (links : LinksTell name) (puts : PutsGrow name) (r : Records) (sound : IsSound name r)
+    (kind : Kind) (body : Bytes) (linked : IsLinked r.records kind body) (short : HasShortPaths r.records (record_for name kind body)) (new : List Record) where
+  grown : put r.records (record_for name kind body) ≡ Some new
+      → IsSound name (with_records r new) × HasValues r (with_records r new) (with_one (values_of r) (value_in (named_values r.records) kind body))
+  grown e =
+      let q = links r sound kind body linked short in
+      puts.one r sound _ q.proper q.known new (ap (put r.records) q.recorded ∙ e)
+
+  pub put_is_sound : (answer : Result Name StoreFault) → Puts r.records new (record_for name kind body) answer → IsSound name (with_records r new)
+  put_is_sound (Ok n) p = (grown p.1).0
+  put_is_sound (Err OutOfMemory) p = subst (λ rs. IsSound name (with_records r rs)) (sym p.1) sound
+  put_is_sound (Err NameHeld) p = subst (λ rs. IsSound name (with_records r rs)) (sym p.1) sound
+
+  pub put_has_values : (answer : Result Name StoreFault) → Puts r.records new (record_for name kind body) answer
+      → IfOk answer (λ _. HasValues r (with_records r new) (with_one (values_of r) (value_in (named_values r.records) kind body)))
+  put_has_values (Ok n) p = (grown p.1).1
+  put_has_values (Err f) p = tt
+
+  pub put_names_value : (answer : Result Name StoreFault) → Puts r.records new (record_for name kind body) answer
+      → IfOk answer (λ n. n.bytes ≡ name_of name (value_in (named_values r.records) kind body))
+  put_names_value (Ok n) p = p.0 ∙ sym (ap (λ z. z.name) (links r sound kind body linked short).recorded)
+  put_names_value (Err f) p = tt
+
+module _ (name : Kind → Bytes → Bytes) (trees : TreesGrow name) (puts : PutsGrow name) (r : Records) (sound : IsSound name r)
+    (names : FileMap Bytes) (named : IsNamedMap r.records names) where
+  -- with the trees of a map of names the repository is sound, and its history has the file map
+  pub trees_grown : (new : List Record) → put_all r.records (tree_records name names) ≡ Some new
+      → IsSound name (with_records r new) × HasValues r (with_records r new) (with_tree (values_of r) (contents_of (named_values r.records) names))
+  trees_grown new e =
+      let t = trees r sound names named in
+      let g = puts.grew r sound (map tree_value (all_trees (contents_of (named_values r.records) names))) t.ready new (ap (put_all r.records) (sym t.records) ∙ e) in
+      (g.sound, g.history ∙ ap (λ vs. record { values = vs; refs = (history_of r).refs }) t.added)
+
+  -- the name of the map's tree is the file map's
+  pub tree_named : map_name name names ≡ name_of name (tree_value (contents_of (named_values r.records) names))
+  tree_named = ap (map_name name) (sym (trees r sound names named).named)

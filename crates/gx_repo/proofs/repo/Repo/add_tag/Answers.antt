@@ -1,0 +1,29 @@
+use Rattle.std.proofs.Common.{◌≡◌, sym, subst}
+use Rattle.std.specs.Prelude.{IfOk}
+use Rattle.gx_model.specs.Histories.{with_one}
+use Rattle.gx_model.specs.HistoryOf.{tag_of_parts, named_values}
+use Rattle.gx_model.specs.Objects.{IsTagText}
+use Rattle.gx_model.specs.Records.{name_of}
+use Rattle.gx_model.specs.RepositoryLaws.{values_of}
+use Rattle.gx_model.specs.Values.{tag_value}
+use Rattle.gx_model.proofs.BodiesReadBack.{tag_read}
+use Rattle.gx_object.specs.Parts.{tag_parts}
+use Rattle.gx_repo.specs.Additions.{HasValues}
+use Rattle.gx_repo.proofs.repo.Repo.add_tag.Goals as goal
+
+pub add-requires-clause-linked : goal.add-requires-clause-linked
+add-requires-clause-linked g c = (tag_parts c.args.parts.now, subst (IsTagText (tag_parts c.args.parts.now)) (sym c.deref.ensures.value) c.in-Ok.ensures, c.requires.object)
+
+pub returns-clause-history : goal.returns-clause-history
+returns-clause-history g c =
+    let rs = c.args.self.now.1.records in
+    let text = subst (IsTagText (tag_parts c.args.parts.now)) (sym c.deref.ensures.value) c.in-Ok.ensures in
+    subst (λ p. IfOk c.add.result (λ _. HasValues c.args.self.now.1 c.add.new.self.1 (with_one (values_of c.args.self.now.1) (tag_value (tag_of_parts (named_values rs) p)))))
+    (tag_read (tag_parts c.args.parts.now) c.deref.result.now text) c.add.ensures.history
+
+pub returns-clause-value : goal.returns-clause-value
+returns-clause-value g c =
+    let rs = c.args.self.now.1.records in
+    let text = subst (IsTagText (tag_parts c.args.parts.now)) (sym c.deref.ensures.value) c.in-Ok.ensures in
+    subst (λ p. IfOk c.add.result (λ name. name.bytes ≡ name_of (g.N.Namer.name_of c.args.self.now.0) (tag_value (tag_of_parts (named_values rs) p))))
+    (tag_read (tag_parts c.args.parts.now) c.deref.result.now text) c.add.ensures.value

@@ -1,0 +1,58 @@
+-- What a repository's additions do, and what they answer.
+use Rattle.std.specs.Prelude.{◌≡◌, List, Some, None, Result, Ok, Err, ⊤}
+use Rattle.gx_model.specs.declared.objects.Kind.{Kind}
+use Rattle.gx_model.specs.declared.objects.Kind.TheVariants as kind
+use Rattle.gx_model.specs.Texts.{Bytes}
+use Rattle.gx_model.specs.Objects.{CommitParts, TagParts, commit_text, tag_text}
+use Rattle.gx_model.specs.Values.{Value, commit_value, tag_value}
+use Rattle.gx_model.specs.Histories.{Record, Records}
+use Rattle.gx_model.specs.HistoryOf.{commit_of_parts, history_of, named_values, tag_of_parts}
+use Rattle.gx_model.specs.Sound.{Holds}
+use Rattle.gx_model.specs.Growth.{put, put_all}
+use Rattle.gx_object.specs.declared.name.Name.{Name}
+use Rattle.gx_store.specs.declared.fault.StoreFault.{StoreFault}
+use Rattle.gx_store.specs.declared.fault.StoreFault.TheVariants.{OutOfMemory, NameHeld}
+use Rattle.gx_store.specs.Stores.{record_for}
+use Rattle.gx_tree.specs.declared.fault.TreeFault.{TreeFault}
+use Rattle.gx_tree.specs.declared.fault.TreeFault.TheVariants as tree
+
+-- the record of a commit with these parts, and of a tag
+abbrev pub commit_record : (Kind → Bytes → Bytes) → CommitParts → Record
+commit_record name parts = record_for name kind.Commit (commit_text parts)
+
+abbrev pub tag_record : (Kind → Bytes → Bytes) → TagParts → Record
+tag_record name parts = record_for name kind.Tag (tag_text parts)
+
+-- the commit of these parts, where its tree and its parents are among the records
+abbrev pub commit_among : List Record → CommitParts → Value
+commit_among records parts = commit_value (commit_of_parts (named_values records) parts)
+
+-- the tag of these parts, where its commit is among the records
+abbrev pub tag_among : List Record → TagParts → Value
+tag_among records parts = tag_value (tag_of_parts (named_values records) parts)
+
+-- the records with this one put, or unchanged, and its name
+abbrev pub Adds : List Record → List Record → Record → Result Name StoreFault → Type 0
+Adds old new added (Ok name) = (name.bytes ≡ added.name) × (put old added ≡ Some new)
+Adds old new added (Err NameHeld) = (put old added ≡ None) × (new ≡ old)
+Adds old new added (Err OutOfMemory) = new ≡ old
+
+-- the records with all of these put, or unchanged, and this name
+abbrev pub AddsAll : List Record → List Record → List Record → Bytes → Result Name StoreFault → Type 0
+AddsAll old new added called (Ok name) = (name.bytes ≡ called) × (put_all old added ≡ Some new)
+AddsAll old new added called (Err NameHeld) = (put_all old added ≡ None) × (new ≡ old)
+AddsAll old new added called (Err OutOfMemory) = new ≡ old
+
+-- what is held stays held
+abbrev pub Keeps : List Record → List Record → Type 0
+Keeps old new = (of_kind : Kind) (called : Bytes) → Holds old of_kind called → Holds new of_kind called
+
+-- the history that the new repository stands for has these values, and the refs of the old one's
+abbrev pub HasValues : Records → Records → List Value → Type 0
+HasValues old new values = history_of new ≡ record { values = values; refs = (history_of old).refs }
+
+-- the fault that a write answers: want of memory, or a name that is held
+abbrev pub IsWriteFault : TreeFault → Type 0
+IsWriteFault tree.OutOfMemory = ⊤
+IsWriteFault tree.NameHeld = ⊤
+IsWriteFault _ = ⊥

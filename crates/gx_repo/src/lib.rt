@@ -1,0 +1,17 @@
+//! A repository: objects under their names, and refs.
+//! Whatever is called, each object's links are held, and a list of refs is published whole or not at all.
+#![tactic(auto)]
+
+mod fault;
+mod publishing;
+mod refs;
+mod repo;
+
+pub use fault::{OutOfMemory, PublishFault};
+pub use gx_store::StoreFault;
+pub use publishing::RefChange;
+pub use refs::Refs;
+pub use repo::Repo;
+
+#[cfg(test)]
+mod tests;

@@ -1,0 +1,148 @@
+//! Refs in the byte order of their names. Source: gitglossary(7), "ref".
+ghost use Rattle.std.specs.Prelude.{◌≡◌, ◌++◌, map, drop, IsTrue, IfOk, OnOk};
+ghost use Rattle.std.specs.FinMap.Entries.{is_sorted, put};
+ghost use Rattle.std.specs.Iterator.{item_count};
+ghost use Rattle.std.specs.Map.{lookup};
+ghost use Rattle.std.specs.Map.Iter.{TakesFirst};
+ghost use Rattle.std.specs.Option.{option_map};
+ghost use Rattle.gx_model.specs.Denotation.{ref_names};
+ghost use Rattle.gx_model.specs.Lookups.{first_named};
+ghost use Rattle.gx_model.specs.Replay.{byte_cmp};
+ghost use Rattle.gx_model.specs.Texts.{same_bytes};
+ghost use Rattle.gx_repo.specs.Refs.{kept, shown};
+
+use gx_object::Name;
+use std::alloc::{AllocError, Allocator};
+use std::cmp::Ordering;
+use std::marker::Model;
+
+/// A ref as it is held.
+#[derive(Drop)]
+pub(crate) struct Ref<A: Allocator> {
+    pub(crate) name: Vec<u8, A>,
+    pub(crate) object: Name,
+}
+
+/// Refs, each by its name and the name of its object, in the byte order of names.
+/// It is seen as the list of the refs left. Takes no memory.
+#[derive(Drop)]
+pub struct Refs<'a, A: Allocator> {
+    pub(crate) rest: &'a [Ref<A>],
+}
+
+impl<'a, A: Allocator> Model for Refs<'a, A> {
+    ghost use Rattle.std.specs.Prelude.{List, ℕ, map};
+    ghost use Rattle.gx_repo.specs.Refs.{kept};
+
+    ghost Value = { List (List ℕ × List ℕ) };
+
+    ghost view = { λ it. map kept it.rest.now };
+}
+
+impl<'a, A: Allocator + Copy> Iterator for Refs<'a, A> {
+    type Item = (&'a [u8], Name);
+
+    ghost next_gives = { TakesFirst shown };
+
+    ghost remaining = { item_count (λ rest. rest) };
+
+    fn next(&mut self) -> Option<(&'a [u8], Name)> {
+        let (first, rest) = self.rest.split_first()?;
+        self.rest = rest;
+        Some((first.name.as_slice(), first.object))
+    }
+}
+
+/// The object of the first ref among the names that a word stands for, in their order.
+pub(crate) fn find_by_names<A: Allocator + Copy>(refs: &[Ref<A>], word: &[u8]) -> Option<Name>
+    requires sorted { IsTrue (is_sorted byte_cmp (map kept refs.now)) }
+    ensures { option_map (λ n. n.bytes) result ≡ first_named (map kept refs.now) (ref_names word.now) }
+{
+    if let Some(found) = find(refs, b"", word, b"") {
+        return Some(found);
+    }
+    if let Some(found) = find(refs, b"refs/", word, b"") {
+        return Some(found);
+    }
+    if let Some(found) = find(refs, b"refs/tags/", word, b"") {
+        return Some(found);
+    }
+    find_branch(refs, word)
+}
+
+/// The object of a branch's ref, or else of one that a remote repository has.
+fn find_branch<A: Allocator + Copy>(refs: &[Ref<A>], word: &[u8]) -> Option<Name>
+    requires sorted { IsTrue (is_sorted byte_cmp (map kept refs.now)) }
+    ensures { option_map (λ n. n.bytes) result ≡ first_named (map kept refs.now) (drop 3 (ref_names word.now)) }
+{
+    if let Some(found) = find(refs, b"refs/heads/", word, b"") {
+        return Some(found);
+    }
+    if let Some(found) = find(refs, b"refs/remotes/", word, b"") {
+        return Some(found);
+    }
+    find(refs, b"refs/remotes/", word, b"/HEAD")
+}
+
+/// The object of the ref whose name is these three together.
+fn find<A: Allocator + Copy>(
+    refs: &[Ref<A>],
+    before: &[u8],
+    word: &[u8],
+    after: &[u8],
+) -> Option<Name>
+    requires sorted { IsTrue (is_sorted byte_cmp (map kept refs.now)) }
+    ensures { option_map (λ n. n.bytes) result ≡ lookup (same_bytes (before.now ++ word.now ++ after.now)) (map kept refs.now) }
+{
+    let found = refs.binary_search_by(|held| compare(held.name.as_slice(), before, word, after));
+    match found {
+        Ok(place) => Some(refs[place].object),
+        Err(_) => None,
+    }
+}
+
+/// How a text stands to three others together, in byte order.
+fn compare(text: &[u8], before: &[u8], word: &[u8], after: &[u8]) -> Ordering
+    ensures { result ≡ byte_cmp text.now (before.now ++ word.now ++ after.now) }
+{
+    let joined = before.iter().chain(word.iter()).chain(after.iter());
+    text.iter().cmp(joined)
+}
+
+/// Copies of refs.
+pub(crate) fn copied<A: Allocator + Copy>(
+    alloc: A,
+    refs: &[Ref<A>],
+) -> Result<Vec<Ref<A>, A>, AllocError>
+    ensures { IfOk result (λ copies. map kept copies.items ≡ map kept refs.now) }
+{
+    let mut copies = Vec::new(alloc);
+    for held in refs {
+        let name = Vec::from_slice(alloc, held.name.as_slice())?;
+        copies.push(Ref {
+            name,
+            object: held.object,
+        })?;
+    }
+    Ok(copies)
+}
+
+/// Sets a ref: the one of this name, or else a new one at its place in the byte order of names.
+pub(crate) fn set<A: Allocator + Copy>(
+    alloc: A,
+    refs: &mut Vec<Ref<A>, A>,
+    name: &[u8],
+    object: Name,
+) -> Result<(), AllocError>
+    requires sorted { IsTrue (is_sorted byte_cmp (map kept refs.now.items)) }
+    ensures { OnOk result (map kept refs.new.items ≡ put byte_cmp name.now object.bytes (map kept refs.old.items)) }
+{
+    match refs.binary_search_by(|held| held.name.as_slice().cmp(name)) {
+        Ok(place) => refs[place].object = object,
+        Err(place) => {
+            let name = Vec::from_slice(alloc, name)?;
+            refs.insert(place, Ref { name, object })?;
+        }
+    }
+    Ok(())
+}

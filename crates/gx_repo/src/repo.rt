@@ -1,0 +1,330 @@
+//! Repositories: a store of objects, and refs that hold some of them.
+ghost use Rattle.std.specs.Prelude.{◌≡◌, [], map, Some, None, IsTrue, IfOk, IfErr, IsOkAnd, OnOk, OnErr};
+ghost use Rattle.std.specs.List.{AllByRecursion};
+ghost use Rattle.std.specs.Option.{option_map};
+ghost use Rattle.gx_model.specs.declared.objects.Kind.TheVariants as kinds;
+ghost use Rattle.gx_model.specs.Denotation.{ref_names};
+ghost use Rattle.gx_model.specs.Faults.{Gives};
+ghost use Rattle.gx_model.specs.Growth.{tree_records};
+ghost use Rattle.gx_model.specs.Objects.{IsTagText, TagParts as Parts};
+ghost use Rattle.gx_model.specs.StoreReading.{is_target_of_kind};
+ghost use Rattle.gx_model.specs.Texts.{same_bytes};
+ghost use Rattle.gx_model.specs.Histories.{with_one, with_tree};
+ghost use Rattle.gx_model.specs.HistoryOf.{contents_of, named_values, value_in};
+ghost use Rattle.gx_model.specs.Lookups.{commit_named, first_named};
+ghost use Rattle.gx_model.specs.Records.{name_of};
+ghost use Rattle.gx_model.specs.RefNames.{is_tag_name, tag_ref};
+ghost use Rattle.gx_model.specs.RepositoryLaws.{values_of};
+ghost use Rattle.gx_model.specs.Sound.{HasShortPaths, Holds, IsLinked, IsNamedMap, IsSound};
+ghost use Rattle.gx_model.specs.Values.{blob_value, is_optional_encoding, tree_value};
+ghost use Rattle.gx_object.specs.Parts.{commit_parts, tag_parts};
+ghost use Rattle.gx_store.specs.Stores.{record_for};
+ghost use Rattle.gx_tree.specs.StoreFaults.{tree_fault};
+ghost use Rattle.gx_tree.specs.Writes.{map_name};
+ghost use Rattle.gx_repo.specs.Additions.{Adds, AddsAll, HasValues, IsWriteFault, Keeps, commit_among, commit_record, tag_among, tag_record};
+ghost use Rattle.gx_repo.specs.Publishing.{change_fault, changes_fault, fault_of, published};
+ghost use Rattle.gx_repo.specs.Refs.{asked, kept};
+
+use crate::fault::{OutOfMemory, PublishFault};
+use crate::publishing::{RefChange, with_changes};
+use crate::refs::{Ref, Refs, find_by_names};
+use gx_model::repository_laws::{
+    links_tell_values, parts_change, puts_add_values, trees_add_file_maps,
+};
+use gx_object::{CommitParts, Kind, Name, Namer, TagParts, decode_tag, encode_commit, encode_tag};
+use gx_store::{Store, StoreFault};
+use gx_text::is_ref_name;
+use gx_tree::{PathTree, TreeFault};
+use std::alloc::Allocator;
+use std::marker::Model;
+
+/// Objects in the order in which they were added, and refs in the byte order of their names.
+///
+/// It is seen as the namer, and its records and refs, which are sound.
+#[derive(Drop)]
+pub struct Repo<N: Namer, A: Allocator> {
+    store: Store<N, A>,
+    refs: Vec<Ref<A>, A>,
+    alloc: A,
+}
+
+impl<N: Namer, A: Allocator> Model for Repo<N, A> {
+    ghost use Rattle.std.specs.Prelude.{map};
+    ghost use Rattle.gx_model.specs.Histories.{Records};
+    ghost use Rattle.gx_model.specs.Sound.{IsSound};
+    ghost use Rattle.gx_repo.specs.Refs.{kept};
+
+    ghost Value = { N × Records };
+
+    ghost view = { λ s. (s.store.0, record { records = s.store.1; refs = map kept s.refs.items }) };
+
+    ghost invariant = { λ s. IsSound (N.name_of s.store.0) (record { records = s.store.1; refs = map kept s.refs.items }) };
+}
+
+impl<N: Namer, A: Allocator + Copy> Repo<N, A> {
+    /// A repository with no objects and no refs. Takes no memory.
+    pub fn new(alloc: A, namer: N) -> Repo<N, A>
+        ensures { result ≡ (namer, record { records = []; refs = [] }) }
+    {
+        Repo {
+            store: Store::new(alloc, namer),
+            refs: Vec::new(alloc),
+            alloc,
+        }
+    }
+
+    /// Each repository is sound. Takes no memory.
+    pub fn sound(&self)
+        ensures { IsSound (N.name_of self.now.0) self.now.1 }
+    {
+        let _ = &self.store;
+    }
+
+    /// Its objects. Takes no memory.
+    pub fn store(&self) -> &Store<N, A>
+        ensures { result.now ≡ (self.now.0, self.now.1.records) }
+    {
+        &self.store
+    }
+
+    /// Its refs, in the byte order of their names. Takes no memory.
+    pub fn refs(&self) -> Refs<'_, A>
+        ensures { result ≡ self.now.1.refs }
+    {
+        Refs {
+            rest: self.refs.as_slice(),
+        }
+    }
+
+    /// The commit that a held commit is, or that a held tag names; none for any other name.
+    ///
+    /// Cost: the number of records, and a tag's body. Takes no memory. Source: gitrevisions(7), on `^{}`.
+    pub fn peel(&self, name: &Name) -> Option<Name>
+        ensures { option_map (λ n. n.bytes) result ≡ commit_named self.now.1.records name.now.bytes }
+    {
+        let (kind, body) = self.store.get(name)?;
+        match kind {
+            Kind::Commit => Some(*name),
+            Kind::Tag => tag_object(body),
+            _ => None,
+        }
+    }
+
+    /// The object of the first ref among the name itself, and the name after `refs/`, `refs/tags/`, `refs/heads/` and
+    /// `refs/remotes/`, and after `refs/remotes/` with `/HEAD` behind it.
+    ///
+    /// Cost: six binary searches among the refs. No growth is needed, so none is refused.
+    /// Source: gitrevisions(7), "refname".
+    pub fn find_ref(&self, name: &[u8]) -> Result<Option<Name>, OutOfMemory>
+        ensures { IsOkAnd result (λ found. option_map (λ n. n.bytes) found ≡ first_named self.now.1.refs (ref_names name.now)) }
+    {
+        Ok(find_by_names(self.refs.as_slice(), name))
+    }
+
+    /// Adds a blob, and answers its name. One that is held already is not added again.
+    ///
+    /// NameHeld comes only where the name is held for another object; after a fault the repository is as it was.
+    /// Cost: the body's length, and the number of records. Source: gitglossary(7), "blob object".
+    pub fn add_blob(&mut self, body: &[u8]) -> Result<Name, StoreFault>
+        ensures namer { self.new.0 ≡ self.old.0 }
+        ensures adds { Adds self.old.1.records self.new.1.records (record_for (N.name_of self.old.0) kinds.Blob body.now) result }
+        ensures refs { self.new.1.refs ≡ self.old.1.refs }
+        ensures history { IfOk result (λ _. HasValues self.old.1 self.new.1 (with_one (values_of self.old.1) (blob_value body.now))) }
+        ensures value { IfOk result (λ name. name.bytes ≡ name_of (N.name_of self.old.0) (blob_value body.now)) }
+        ensures held { IfOk result (λ name. Holds self.new.1.records kinds.Blob name.bytes) }
+        ensures keeps { Keeps self.old.1.records self.new.1.records }
+    {
+        self.add(Kind::Blob, body)
+    }
+
+    /// Adds the canonical trees of a tree's files, those below first, and answers the name of the root's.
+    /// The files that are no gitlinks are held as blobs. What is held already is not added again.
+    ///
+    /// NameHeld comes only where one of these trees has the name of another object; after a fault the repository is as it was.
+    /// Cost: the trees' bodies, and for each tree the number of records. Source: gitglossary(7), "tree object".
+    pub fn add_tree(&mut self, tree: &mut PathTree<A>) -> Result<Name, StoreFault>
+        requires named { IsNamedMap self.now.1.records tree.now }
+        ensures namer { self.new.0 ≡ self.old.0 }
+        ensures adds { AddsAll self.old.1.records self.new.1.records (tree_records (N.name_of self.old.0) tree.old) (map_name (N.name_of self.old.0) tree.old) result }
+        ensures refs { self.new.1.refs ≡ self.old.1.refs }
+        ensures history { IfOk result (λ _. HasValues self.old.1 self.new.1 (with_tree (values_of self.old.1) (contents_of (named_values self.old.1.records) tree.old))) }
+        ensures value { IfOk result (λ name. name.bytes ≡ name_of (N.name_of self.old.0) (tree_value (contents_of (named_values self.old.1.records) tree.old))) }
+        ensures held { IfOk result (λ name. Holds self.new.1.records kinds.Tree name.bytes) }
+        ensures keeps { Keeps self.old.1.records self.new.1.records }
+        ensures map { tree.new ≡ tree.old }
+    {
+        trees_add_file_maps();
+        puts_add_values();
+        let held = self.store.len();
+        match tree.write(&mut self.store) {
+            Ok(name) => Ok(name),
+            Err(fault) => {
+                self.store.truncate(held);
+                Err(store_fault(fault))
+            }
+        }
+    }
+
+    /// Adds a commit whose tree and parents are held, and answers its name. One that is held already is not added again.
+    ///
+    /// NameHeld comes only where the name is held for another object; after a fault the repository is as it was.
+    /// Cost: the body's length, and the number of records. Source: gitglossary(7), "commit object".
+    pub fn add_commit(&mut self, parts: &CommitParts<'_>) -> Result<Name, StoreFault>
+        requires encoding { IsTrue (is_optional_encoding (commit_parts parts.now).text.encoding) }
+        requires tree { Holds self.now.1.records kinds.Tree (commit_parts parts.now).tree }
+        requires parents { AllByRecursion (Holds self.now.1.records kinds.Commit) (commit_parts parts.now).parents }
+        ensures namer { self.new.0 ≡ self.old.0 }
+        ensures adds { Adds self.old.1.records self.new.1.records (commit_record (N.name_of self.old.0) (commit_parts parts.now)) result }
+        ensures refs { self.new.1.refs ≡ self.old.1.refs }
+        ensures history { IfOk result (λ _. HasValues self.old.1 self.new.1 (with_one (values_of self.old.1) (commit_among self.old.1.records (commit_parts parts.now)))) }
+        ensures value { IfOk result (λ name. name.bytes ≡ name_of (N.name_of self.old.0) (commit_among self.old.1.records (commit_parts parts.now))) }
+        ensures held { IfOk result (λ name. Holds self.new.1.records kinds.Commit name.bytes) }
+        ensures keeps { Keeps self.old.1.records self.new.1.records }
+    {
+        let Ok(body) = encode_commit(self.alloc, parts) else {
+            return Err(StoreFault::OutOfMemory);
+        };
+        self.add(Kind::Commit, &body)
+    }
+
+    /// Adds a tag whose commit is held, and answers its name. One that is held already is not added again.
+    ///
+    /// NameHeld comes only where the name is held for another object; after a fault the repository is as it was.
+    /// Cost: the body's length, and the number of records. Source: gitglossary(7), "tag object".
+    pub fn add_tag(&mut self, parts: &TagParts<'_>) -> Result<Name, StoreFault>
+        requires name { IsTrue (is_tag_name (tag_parts parts.now).name) }
+        requires object { Holds self.now.1.records kinds.Commit (tag_parts parts.now).object }
+        ensures namer { self.new.0 ≡ self.old.0 }
+        ensures adds { Adds self.old.1.records self.new.1.records (tag_record (N.name_of self.old.0) (tag_parts parts.now)) result }
+        ensures refs { self.new.1.refs ≡ self.old.1.refs }
+        ensures history { IfOk result (λ _. HasValues self.old.1 self.new.1 (with_one (values_of self.old.1) (tag_among self.old.1.records (tag_parts parts.now)))) }
+        ensures value { IfOk result (λ name. name.bytes ≡ name_of (N.name_of self.old.0) (tag_among self.old.1.records (tag_parts parts.now))) }
+        ensures held { IfOk result (λ name. Holds self.new.1.records kinds.Tag name.bytes) }
+        ensures keeps { Keeps self.old.1.records self.new.1.records }
+    {
+        let Ok(body) = encode_tag(self.alloc, parts) else {
+            return Err(StoreFault::OutOfMemory);
+        };
+        self.add(Kind::Tag, &body)
+    }
+
+    /// Sets all of these refs, or none. A later change of one name wins, and refs that are not named stay.
+    ///
+    /// The first change that is refused is answered: `BadRefName`: the name isn't that of a ref. `UnknownObject`: the
+    /// object isn't held. `WrongKind`: it is neither a commit nor a tag whose own name makes the ref's.
+    /// `OutOfMemory`: a growth was refused. After a fault the repository is as it was.
+    /// Cost: a copy of the refs; and for each change the number of records, a binary search among the refs, and those
+    /// behind a new ref, which are moved.
+    /// Source: git-check-ref-format(1), and gitglossary(7), "ref".
+    pub fn publish(&mut self, changes: &[RefChange<'_>]) -> Result<(), PublishFault>
+        ensures namer { self.new.0 ≡ self.old.0 }
+        ensures records { self.new.1.records ≡ self.old.1.records }
+        ensures refs { Gives fault_of (λ _. self.new.1.refs) result (published self.old.1 (map asked changes.now)) }
+        ensures unchanged { OnErr result (self.new ≡ self.old) }
+    {
+        parts_change();
+        self.refs = self.changed_refs(changes)?;
+        Ok(())
+    }
+
+    /// Puts an object whose links are held.
+    fn add(&mut self, kind: Kind, body: &[u8]) -> Result<Name, StoreFault>
+        requires linked { IsLinked self.now.1.records kind body.now }
+        requires short { HasShortPaths self.now.1.records (record_for (N.name_of self.now.0) kind body.now) }
+        ensures namer { self.new.0 ≡ self.old.0 }
+        ensures adds { Adds self.old.1.records self.new.1.records (record_for (N.name_of self.old.0) kind body.now) result }
+        ensures refs { self.new.1.refs ≡ self.old.1.refs }
+        ensures history { IfOk result (λ _. HasValues self.old.1 self.new.1 (with_one (values_of self.old.1) (value_in (named_values self.old.1.records) kind body.now))) }
+        ensures value { IfOk result (λ name. name.bytes ≡ name_of (N.name_of self.old.0) (value_in (named_values self.old.1.records) kind body.now)) }
+        ensures held { IfOk result (λ name. Holds self.new.1.records kind name.bytes) }
+        ensures keeps { Keeps self.old.1.records self.new.1.records }
+    {
+        links_tell_values();
+        puts_add_values();
+        self.store.put(kind, body)
+    }
+
+    /// The refs that these changes give.
+    #[tactic(auto, unfolding(crate::specs::Publishing::published))]
+    fn changed_refs(&self, changes: &[RefChange<'_>]) -> Result<Vec<Ref<A>, A>, PublishFault>
+        ensures { Gives fault_of (λ refs. map kept refs.items) result (published self.now.1 (map asked changes.now)) }
+    {
+        self.check_all(changes)?;
+        Ok(with_changes(self.alloc, self.refs.as_slice(), changes)?)
+    }
+
+    /// Answers why the first of these changes that is refused is.
+    fn check_all(&self, changes: &[RefChange<'_>]) -> Result<(), PublishFault>
+        ensures ok { OnOk result (changes_fault self.now.1.records (map asked changes.now) ≡ None) }
+        ensures fault { IfErr result (λ fault. changes_fault self.now.1.records (map asked changes.now) ≡ Some (fault_of fault)) }
+    {
+        for change in changes {
+            self.check(change)?;
+        }
+        Ok(())
+    }
+
+    /// Answers why a change is refused.
+    fn check(&self, change: &RefChange<'_>) -> Result<(), PublishFault>
+        ensures ok { OnOk result (change_fault self.now.1.records (asked change.now) ≡ None) }
+        ensures fault { IfErr result (λ fault. change_fault self.now.1.records (asked change.now) ≡ Some (fault_of fault)) }
+    {
+        if !is_ref_name(change.name) {
+            return Err(PublishFault::BadRefName);
+        }
+        let Some((kind, body)) = self.store.get(&change.target) else {
+            return Err(PublishFault::UnknownObject);
+        };
+        if is_target(change.name, kind, body) {
+            Ok(())
+        } else {
+            Err(PublishFault::WrongKind)
+        }
+    }
+}
+
+/// The commit that a tag's body names.
+fn tag_object(body: &[u8]) -> Option<Name>
+    ensures { (parts : Parts) → IsTagText parts body.now → option_map (λ n. n.bytes) result ≡ Some parts.object }
+{
+    match decode_tag(body) {
+        Ok(tag) => Some(tag.object()),
+        Err(_) => None,
+    }
+}
+
+/// Whether a ref may hold an object of this kind and body: a commit, or a tag whose own name makes the ref's.
+fn is_target(name: &[u8], kind: Kind, body: &[u8]) -> bool
+    ensures { (kind ≡ kinds.Tag → (parts : Parts) × IsTagText parts body.now) → result ≡ is_target_of_kind name.now kind body.now }
+{
+    match kind {
+        Kind::Commit => true,
+        Kind::Tag => is_own_ref(name, body),
+        _ => false,
+    }
+}
+
+/// Whether a ref's name is made by the own name of the tag with this body.
+fn is_own_ref(name: &[u8], body: &[u8]) -> bool
+    ensures { (parts : Parts) → IsTagText parts body.now → result ≡ same_bytes name.now (tag_ref parts.name) }
+{
+    let Ok(tag) = decode_tag(body) else {
+        return false;
+    };
+    match name.strip_prefix(b"refs/tags/") {
+        Some(rest) => rest == tag.name(),
+        None => false,
+    }
+}
+
+/// A tree is written with no other fault than those of the store.
+fn store_fault(fault: TreeFault) -> StoreFault
+    requires { IsWriteFault fault }
+    ensures { tree_fault result ≡ fault }
+{
+    match fault {
+        TreeFault::OutOfMemory => StoreFault::OutOfMemory,
+        TreeFault::NameHeld => StoreFault::NameHeld,
+        _ => unreachable!(),
+    }
+}

@@ -1,0 +1,144 @@
+-- Marks joined by place, and the commits that they list.
+use Rattle.std.proofs.Common.{◌≡◌, ℕ, zero, suc, ◌+◌, ◌<◌, ◌≤◌, Bool, true, false, cond, refl, sym, ap, ◌∙◌, arith, List, [], ◌∷◌, ◌++◌, map, reverse, length, take, drop, replicate, None, Some, append-nil}
+use Rattle.std.specs.Prelude.{◌||◌, ◌&&◌, not, slice_index_or}
+use Rattle.std.specs.List.{filter, filter_map, list_any, slice_get}
+use Rattle.std.proofs.lemmas.List.{length-map, map-append}
+use Rattle.std.proofs.lemmas.Grind.{reverse_onto}
+use Rattle.std.proofs.lemmas.List.Elements.{filter-append}
+use Rattle.std.proofs.lemmas.List.Folds.{list_any-append}
+use Rattle.gx_model.specs.declared.objects.Kind.{Kind}
+use Rattle.gx_model.specs.Texts.{Bytes}
+use Rattle.gx_model.specs.Values.{Commit, Commits, Value, blob_value, commit_value, list_of, more, none, tag_value, tree_value}
+use Rattle.gx_model.specs.Records.{name_of}
+use Rattle.gx_model.specs.Ranges.{commit_of, nothing, reaches, some_reaches}
+use Rattle.gx_rev.specs.Marks.{holds, marks_of}
+use Rattle.gx_rev.specs.Walking.{AreBoth, AreEither, AreWithout, names_back}
+use Rattle.gx_rev.proofs.Marking.{mark_tells, marks_are}
+
+pub no_marks : (vs : List Value) → replicate (length vs) false ≡ marks_of nothing vs
+no_marks [] = refl
+no_marks (blob_value x ∷ vs) = ap (λ ms. false ∷ ms) (no_marks vs)
+no_marks (tree_value f ∷ vs) = ap (λ ms. false ∷ ms) (no_marks vs)
+no_marks (commit_value c ∷ vs) = ap (λ ms. false ∷ ms) (no_marks vs)
+no_marks (tag_value t ∷ vs) = ap (λ ms. false ∷ ms) (no_marks vs)
+
+pub same_marks : (vs : List Value) (P Q : Commit → Bool) → ((c : Commit) → P c ≡ Q c) → marks_of P vs ≡ marks_of Q vs
+same_marks [] P Q h = refl
+same_marks (blob_value x ∷ vs) P Q h = ap (λ ms. false ∷ ms) (same_marks vs P Q h)
+same_marks (tree_value f ∷ vs) P Q h = ap (λ ms. false ∷ ms) (same_marks vs P Q h)
+same_marks (commit_value c ∷ vs) P Q h = let rest = same_marks vs P Q h in λ i. h c i ∷ rest i
+same_marks (tag_value t ∷ vs) P Q h = ap (λ ms. false ∷ ms) (same_marks vs P Q h)
+
+holds_either : (P Q : Commit → Bool) (v : Value) → (holds P v || holds Q v) ≡ holds (λ c. P c || Q c) v
+holds_either P Q (blob_value x) = refl
+holds_either P Q (tree_value f) = refl
+holds_either P Q (commit_value c) = refl
+holds_either P Q (tag_value t) = refl
+
+holds_both : (P Q : Commit → Bool) (v : Value) → (holds P v && holds Q v) ≡ holds (λ c. P c && Q c) v
+holds_both P Q (blob_value x) = refl
+holds_both P Q (tree_value f) = refl
+holds_both P Q (commit_value c) = refl
+holds_both P Q (tag_value t) = refl
+
+holds_without : (P Q : Commit → Bool) (v : Value) → (holds P v && not (holds Q v)) ≡ holds (λ c. P c && not (Q c)) v
+holds_without P Q (blob_value x) = refl
+holds_without P Q (tree_value f) = refl
+holds_without P Q (commit_value c) = refl
+holds_without P Q (tag_value t) = refl
+
+pub marks_long : (vs : List Value) (P : Commit → Bool) → length (marks_of P vs) ≡ length vs
+marks_long vs P = length-map vs (holds P)
+
+as_long : (vs : List Value) (P : Commit → Bool) (new marks : List Bool) → marks ≡ marks_of P vs → length new ≡ length marks → length new ≡ length vs
+as_long vs P new marks e l = l ∙ ap length e ∙ marks_long vs P
+
+pub marks_either : (vs : List Value) (P Q : Commit → Bool) (new marks others : List Bool) → marks ≡ marks_of P vs → others ≡ marks_of Q vs → length new ≡ length marks → AreEither new marks others → new ≡ marks_of (λ c. P c || Q c) vs
+marks_either vs P Q new marks others e f l h =
+    marks_are new vs (λ c. P c || Q c) (as_long vs P new marks e l)
+    (λ i v k. h i ∙ (λ j. (ap (λ ms. slice_index_or ms i false) e ∙ mark_tells vs P i v false k) j || (ap (λ ms. slice_index_or ms i false) f ∙ mark_tells vs Q i v false k) j) ∙ holds_either P Q v)
+
+pub marks_both : (vs : List Value) (P Q : Commit → Bool) (new marks others : List Bool) → marks ≡ marks_of P vs → others ≡ marks_of Q vs → length new ≡ length marks → AreBoth new marks others → new ≡ marks_of (λ c. P c && Q c) vs
+marks_both vs P Q new marks others e f l h =
+    marks_are new vs (λ c. P c && Q c) (as_long vs P new marks e l)
+    (λ i v k. h i ∙ (λ j. (ap (λ ms. slice_index_or ms i false) e ∙ mark_tells vs P i v false k) j && (ap (λ ms. slice_index_or ms i false) f ∙ mark_tells vs Q i v false k) j) ∙ holds_both P Q v)
+
+pub marks_without : (vs : List Value) (P Q : Commit → Bool) (new marks others : List Bool) → marks ≡ marks_of P vs → others ≡ marks_of Q vs → length new ≡ length marks → AreWithout new marks others → new ≡ marks_of (λ c. P c && not (Q c)) vs
+marks_without vs P Q new marks others e f l h =
+    marks_are new vs (λ c. P c && not (Q c)) (as_long vs P new marks e l)
+    (λ i v k. h i ∙ (λ j. (ap (λ ms. slice_index_or ms i false) e ∙ mark_tells vs P i v false k) j && not ((ap (λ ms. slice_index_or ms i false) f ∙ mark_tells vs Q i v false k) j)) ∙ holds_without P Q v)
+
+-- ---- parents, one after the other
+
+module _ {X : Type 0} where
+  pub take_next : (xs : List X) (n : ℕ) (x : X) → slice_get xs n ≡ Some x → take (n + 1) xs ≡ take n xs ++ x ∷ []
+  take_next [] n x e = absurd cc
+  take_next (y ∷ ys) zero x e = let same : y ≡ x = cc in ap (λ z. z ∷ []) same
+  take_next (y ∷ ys) (suc n) x e = let s : suc n + 1 ≡ suc (n + 1) = omega arith in rw s (ap (λ zs. y ∷ zs) (take_next ys n x e))
+
+  pub take_past : (xs : List X) (n : ℕ) → slice_get xs n ≡ None → take (n + 1) xs ≡ take n xs
+  take_past [] zero e = refl
+  take_past [] (suc n) e = let s : suc n + 1 ≡ suc (n + 1) = omega arith in rw s refl
+  take_past (y ∷ ys) zero e = absurd cc
+  take_past (y ∷ ys) (suc n) e = let s : suc n + 1 ≡ suc (n + 1) = omega arith in rw s (ap (λ zs. y ∷ zs) (take_past ys n e))
+
+or_false : (b : Bool) → (b || false) ≡ b
+or_false true = refl
+or_false false = refl
+
+pub any_next : {X : Type 0} (q : X → Bool) (xs : List X) (n : ℕ) (x : X) → slice_get xs n ≡ Some x → (list_any q (take n xs) || q x) ≡ list_any q (take (n + 1) xs)
+any_next q xs n x e = sym (ap (list_any q) (take_next xs n x e) ∙ list_any-append q (take n xs) (x ∷ []) ∙ ap (λ b. list_any q (take n xs) || b) (or_false (q x)))
+
+pub some_is_any : (cs : Commits) (d : Commit) (n : ℕ) → length (list_of cs) ≤ n → list_any (λ p. reaches p d) (take n (list_of cs)) ≡ some_reaches cs d
+some_is_any none d zero h = refl
+some_is_any none d (suc n) h = refl
+some_is_any (more c cs) d zero h = absurd (omega arith)
+some_is_any (more c cs) d (suc n) h = ap (λ b. reaches c d || b) (some_is_any cs d n (omega arith))
+
+-- ---- what is listed
+
+pub value_there : (vs : List Value) (i : ℕ) → i < length vs → (v : Value) × (slice_get vs i ≡ Some v)
+value_there [] i h = absurd (omega arith)
+value_there (v ∷ vs) zero h = (v, refl)
+value_there (v ∷ vs) (suc i) h = value_there vs i (omega arith)
+
+module _ (name : Kind → Bytes → Bytes) where
+  -- one place more
+  pub names_step : (vs : List Value) (ms : List Bool) (i : ℕ) (v : Value) (b : Bool) → i < length ms → slice_get vs i ≡ Some v → slice_index_or ms i false ≡ b
+      → names_back name (drop i vs) (drop i ms) ≡ names_back name (drop (i + 1) vs) (drop (i + 1) ms) ++ cond b (name_of name v ∷ []) []
+  names_step [] ms i v b h e f = absurd cc
+  names_step (w ∷ vs) [] i v b h e f = absurd (omega arith)
+  names_step (w ∷ vs) (m ∷ ms) zero v b h e f = let same : w ≡ v = cc in λ j. names_back name vs ms ++ cond (f j) (name_of name (same j) ∷ []) []
+  names_step (w ∷ vs) (m ∷ ms) (suc i) v b h e f = let s : suc i + 1 ≡ suc (i + 1) = omega arith in rw s (names_step vs ms i v b (omega arith) e f)
+
+  pub names_end : (vs : List Value) (ms : List Bool) (i : ℕ) → length ms ≤ i → names_back name (drop i vs) (drop i ms) ≡ []
+  names_end vs ms i h = by (drop i vs) (drop i ms) (path_end ms i h)
+    where
+      path_end : (ms : List Bool) (i : ℕ) → length ms ≤ i → drop i ms ≡ []
+      path_end [] zero h = refl
+      path_end [] (suc i) h = refl
+      path_end (m ∷ ms) zero h = absurd (omega arith)
+      path_end (m ∷ ms) (suc i) h = path_end ms i (omega arith)
+
+      by : (us : List Value) (ns : List Bool) → ns ≡ [] → names_back name us ns ≡ []
+      by [] ns e = refl
+      by (u ∷ us) [] e = refl
+      by (u ∷ us) (n ∷ ns) e = absurd cc
+
+  abbrev called : Commit → Bytes
+  called c = name_of name (commit_value c)
+
+  -- the names of the marked commits are those of the commits that pass, newest first
+  pub names_listed : (vs : List Value) (P : Commit → Bool) → names_back name vs (marks_of P vs) ≡ map called (filter P (reverse (filter_map commit_of vs)))
+  names_listed [] P = refl
+  names_listed (blob_value x ∷ vs) P = append-nil (names_back name vs (marks_of P vs)) ∙ names_listed vs P
+  names_listed (tree_value f ∷ vs) P = append-nil (names_back name vs (marks_of P vs)) ∙ names_listed vs P
+  names_listed (tag_value t ∷ vs) P = append-nil (names_back name vs (marks_of P vs)) ∙ names_listed vs P
+  names_listed (commit_value c ∷ vs) P =
+      let rest = filter_map commit_of vs in
+      let right = ap (λ cs. map called (filter P cs)) (reverse_onto rest c []) ∙ ap (map called) (filter-append P (reverse rest) (c ∷ [])) ∙ map-append called (filter P (reverse rest)) (filter P (c ∷ [])) in
+      ap (λ ns. ns ++ cond (P c) (called c ∷ []) []) (names_listed vs P) ∙ ap (λ ns. map called (filter P (reverse rest)) ++ ns) (one (P c)) ∙ sym right
+    where
+      one : (b : Bool) → cond b (called c ∷ []) [] ≡ map called (cond b (c ∷ []) [])
+      one true = refl
+      one false = refl

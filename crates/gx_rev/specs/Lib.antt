@@ -1,0 +1,8 @@
+pub mod RevFaults
+pub mod Views
+pub mod Ranges
+pub mod Objects
+pub mod Places
+pub mod Answers
+pub mod Marks
+pub mod Walking

@@ -1,0 +1,41 @@
+-- Held objects by their names, and the values of the history that they are.
+use Rattle.std.specs.Prelude.{IsTrue, is_some, Ok, Err, if◌then◌else◌}
+use Rattle.gx_model.specs.declared.objects.Kind.{Kind}
+use Rattle.gx_model.specs.Texts.{Bytes}
+use Rattle.gx_model.specs.Faults.{Given}
+use Rattle.gx_model.specs.declared.faults.Fault.TheVariants.{WrongKind}
+use Rattle.gx_model.specs.Files.{FileMap}
+use Rattle.gx_model.specs.Values.{Commit, Value, files_of, parents_of, text_of}
+use Rattle.gx_model.specs.Objects.{CommitParts}
+use Rattle.gx_model.specs.Records.{kind_of, names_of, tree_name}
+use Rattle.gx_model.specs.Histories.{Records}
+use Rattle.gx_model.specs.HistoryOf.{commit_of_value, files_of_tree, value_of_name}
+use Rattle.gx_model.specs.Growth.{record_named, same_kind}
+use Rattle.gx_model.specs.RecordFaults.{is_held}
+use Rattle.gx_object.specs.declared.name.Name.{Name}
+
+-- an object of this name is held
+abbrev pub IsHeld : Records → Name → Type 0
+IsHeld repository called = IsTrue (is_some (record_named repository.records called.bytes))
+
+-- an object of this kind and name is held
+abbrev pub IsHeldAs : Kind → Records → Name → Type 0
+IsHeldAs kind repository called = IsTrue (is_held repository.records kind called.bytes)
+
+-- the value of this name, its commit, and its file map
+abbrev pub value_at : Records → Name → Value
+value_at repository called = value_of_name repository.records called.bytes
+
+abbrev pub commit_at : Records → Name → Commit
+commit_at repository called = commit_of_value (value_at repository called)
+
+abbrev pub files_at : Records → Name → FileMap Bytes
+files_at repository called = files_of_tree (value_at repository called)
+
+-- the parts of a commit's body
+abbrev pub parts_of_commit : (Kind → Bytes → Bytes) → Commit → CommitParts
+parts_of_commit name made = record { tree = tree_name name (files_of made); parents = names_of name (parents_of made); text = text_of made }
+
+-- a value of this kind, and no other
+abbrev pub only : (Kind → Bytes → Bytes) → Kind → Value → Given Value
+only name kind value = if same_kind (kind_of name value) kind then Ok value else Err WrongKind

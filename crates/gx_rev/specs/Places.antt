@@ -1,0 +1,21 @@
+-- What stands at a path, and the tree that it may name.
+use Rattle.std.specs.Prelude.{◌≡◌}
+use Rattle.gx_model.specs.declared.objects.Kind.TheVariants as kind
+use Rattle.gx_model.specs.declared.objects.Mode.{Mode}
+use Rattle.gx_model.specs.declared.objects.Mode.TheVariants.{Dir}
+use Rattle.gx_model.specs.Objects.{Entry}
+use Rattle.gx_model.specs.Histories.{Records}
+use Rattle.gx_model.specs.Walks.{Place}
+use Rattle.gx_object.specs.declared.name.Name.{Name}
+use Rattle.gx_rev.specs.Objects.{IsHeldAs}
+
+-- a mode and a name
+abbrev pub shown_place : Mode × Name → Place
+shown_place place = (place.0, place.1.bytes)
+
+abbrev pub place_of_entry : Entry → Place
+place_of_entry entry = (entry.mode, entry.name)
+
+-- a directory names a held tree
+abbrev pub IsHeldPlace : Records → Mode × Name → Type 0
+IsHeldPlace repository place = place.0 ≡ Dir → IsHeldAs kind.Tree repository place.1

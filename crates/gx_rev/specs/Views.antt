@@ -1,0 +1,25 @@
+-- Suffixes and range words as the model has them, without where they lie in memory.
+use Rattle.gx_model.specs.Revisions as model
+use Rattle.gx_rev.specs.declared.suffix.Suffix.{Suffix}
+use Rattle.gx_rev.specs.declared.suffix.Suffix.TheVariants.{Parent, Ancestor, Peeled, Itself, Commit, Blob, Tree, Tag}
+use Rattle.gx_rev.specs.declared.range.Range.{Range}
+use Rattle.gx_rev.specs.declared.range.Range.TheVariants as range
+
+abbrev pub shown_suffix : Suffix → model.Suffix
+shown_suffix (Parent n) = model.parent n
+shown_suffix (Ancestor n) = model.ancestor n
+shown_suffix Peeled = model.peeled
+shown_suffix Itself = model.itself
+shown_suffix Commit = model.as_commit
+shown_suffix Blob = model.as_blob
+shown_suffix Tree = model.as_tree
+shown_suffix Tag = model.as_tag
+
+abbrev pub shown_range : {A : Type 0} → Range A → model.RangeWord
+shown_range (range.WithAncestors r) = model.WithAncestors r
+shown_range (range.WithoutAncestors r) = model.WithoutAncestors r
+shown_range (range.Between a b) = model.Between a b
+shown_range (range.Apart a b) = model.Apart a b
+shown_range (range.AllParents r) = model.AllParents r
+shown_range (range.Alone r) = model.Alone r
+shown_range (range.WithoutOne r n) = model.WithoutOne r n

@@ -1,0 +1,59 @@
+-- What range words include and exclude, as marks, and what a walk answers.
+use Rattle.std.specs.Prelude.{◌≡◌, ℕ, Bool, not, ◌||◌, ◌&&◌, if◌then◌else◌, List, [], ◌∷◌, ◌++◌, map, Result, Ok, Err, slice_index_or, false}
+use Rattle.std.specs.declared.vec.Vec.{Vec}
+use Rattle.gx_model.specs.declared.faults.Fault.{Fault}
+use Rattle.gx_model.specs.declared.faults.Fault.TheVariants as model
+use Rattle.gx_model.specs.declared.objects.Kind.{Kind}
+use Rattle.gx_model.specs.Texts.{Bytes}
+use Rattle.gx_model.specs.Faults.{Given, IsFaultOf}
+use Rattle.gx_model.specs.Values.{Value}
+use Rattle.gx_model.specs.Records.{name_of}
+use Rattle.gx_model.specs.Ranges.{Word, WordFault, span}
+use Rattle.gx_object.specs.declared.name.Name.{Name}
+use Rattle.gx_rev.specs.declared.fault.RevFault.{RevFault}
+use Rattle.gx_rev.specs.declared.fault.RevFault.TheVariants.{OutOfMemory}
+use Rattle.gx_rev.specs.declared.fault.WalkFault.{WalkFault}
+use Rattle.gx_rev.specs.declared.walking.Spans.{Spans}
+use Rattle.gx_rev.specs.Marks.{marks_of}
+use Rattle.gx_rev.specs.RevFaults.{fault_of}
+
+-- the marks of what a word includes, and of what it excludes
+pub record AreSpans {A : Type 0} (values : List Value) (spans : Spans A) (word : Word) : Type 0 where
+  pub included : spans.included.items ≡ marks_of (span word).included values
+  pub excluded : spans.excluded.items ≡ marks_of (span word).excluded values
+
+-- the marks of a word, or why it is refused
+abbrev pub GivesSpans : {A : Type 0} → List Value → Result (Spans A) RevFault → Given Word → Type 0
+GivesSpans values (Ok spans) given = (word : Word) × (given ≡ Ok word) × AreSpans values spans word
+GivesSpans values (Err e) given = IsFaultOf (fault_of e) given
+
+-- each place is marked that is in the one list or in the other; or in the one and not in the other
+abbrev pub AreEither : List Bool → List Bool → List Bool → Type 0
+AreEither new marks others = (place : ℕ) → slice_index_or new place false ≡ (slice_index_or marks place false || slice_index_or others place false)
+
+abbrev pub AreBoth : List Bool → List Bool → List Bool → Type 0
+AreBoth new marks others = (place : ℕ) → slice_index_or new place false ≡ (slice_index_or marks place false && slice_index_or others place false)
+
+abbrev pub AreWithout : List Bool → List Bool → List Bool → Type 0
+AreWithout new marks others = (place : ℕ) → slice_index_or new place false ≡ (slice_index_or marks place false && not (slice_index_or others place false))
+
+-- the names of the marked values, the last one first
+abbrev pub names_back : (Kind → Bytes → Bytes) → List Value → List Bool → List Bytes
+names_back name [] marks = []
+names_back name (v ∷ vs) [] = []
+names_back name (v ∷ vs) (m ∷ ms) = names_back name vs ms ++ (if m then name_of name v ∷ [] else [])
+
+-- a word's number and its fault; want of memory is of no word
+abbrev pub IsWordFault : ℕ → Fault → Result (List Bytes) WordFault → Type 0
+IsWordFault word model.OutOfMemory given = word ≡ 0
+IsWordFault word f given = given ≡ Err (record { word = word; fault = f })
+
+-- the names that are listed, or the first word that is refused
+abbrev pub GivesNames : {A : Type 0} → Result (Vec Name A) WalkFault → Result (List Bytes) WordFault → Type 0
+GivesNames (Ok names) given = given ≡ Ok (map (λ called. called.bytes) names.items)
+GivesNames (Err e) given = IsWordFault e.word (fault_of e.kind) given
+
+-- the fault of a word, and want of memory
+abbrev pub refused_at : ℕ → RevFault → WalkFault
+refused_at word OutOfMemory = record { word = 0; kind = OutOfMemory }
+refused_at word kind = record { word = word; kind = kind }

@@ -1,0 +1,99 @@
+//! What the base of a revision gives: an object's name in full, a ref, or the digits that a name begins with.
+
+ghost use Rattle.std.specs.Prelude.{◌≡◌, ◌&&◌, nat_eq, nat_le, nat_lt, true, length, IfOk};
+ghost use Rattle.std.specs.List.{list_all};
+ghost use Rattle.gx_model.specs.Faults.{Gives};
+ghost use Rattle.gx_model.specs.Denotation.{base_value, begun_by, full_name, is_any_digit, the_one};
+ghost use Rattle.gx_model.specs.HistoryOf.{history_of};
+ghost use Rattle.gx_rev.specs.Objects.{IsHeld, value_at};
+ghost use Rattle.gx_rev.specs.RevFaults.{fault_of};
+
+use crate::RevFault;
+use gx_object::{Name, Namer};
+use gx_repo::Repo;
+use gx_store::Prefix;
+use std::alloc::Allocator;
+
+/// What a base gives.
+pub(crate) fn eval_base<N: Namer, A: Allocator + Copy>(
+    repo: &Repo<N, A>,
+    base: &[u8],
+) -> Result<Name, RevFault>
+    ensures value { Gives fault_of (value_at repo.now.1) result (base_value (N.name_of repo.now.0) (history_of repo.now.1) base.now) }
+    ensures held { IfOk result (IsHeld repo.now.1) }
+{
+    repo.sound();
+    if is_whole(base) {
+        return find_name(repo, base);
+    }
+    if let Some(name) = repo.find_ref(base)? {
+        return Ok(name);
+    }
+    if is_abbreviation(base) {
+        find_digits(repo, base)
+    } else {
+        Err(RevFault::UnknownRef)
+    }
+}
+
+/// Whether the text is a name in full: 40 digits.
+fn is_whole(text: &[u8]) -> bool
+    ensures { result ≡ (list_all is_any_digit text.now && nat_eq (length text.now) 40) }
+{
+    are_digits(text) && text.len() == 40
+}
+
+/// Whether the text may abbreviate a name: 4 to 39 digits.
+fn is_abbreviation(text: &[u8]) -> bool
+    ensures { result ≡ (list_all is_any_digit text.now && nat_le 4 (length text.now) && nat_lt (length text.now) 40) }
+{
+    are_digits(text) && 4 <= text.len() && text.len() < 40
+}
+
+/// The object of this name in full.
+fn find_name<N: Namer, A: Allocator + Copy>(
+    repo: &Repo<N, A>,
+    digits: &[u8],
+) -> Result<Name, RevFault>
+    requires { (list_all is_any_digit digits.now && nat_eq (length digits.now) 40) ≡ true }
+    ensures value { Gives fault_of (value_at repo.now.1) result (full_name (N.name_of repo.now.0) (begun_by (N.name_of repo.now.0) (history_of repo.now.1) digits.now)) }
+    ensures held { IfOk result (IsHeld repo.now.1) }
+{
+    repo.sound();
+    let Some(name) = Name::read(digits) else {
+        unreachable!();
+    };
+    match repo.store().get(&name) {
+        Some(_) => Ok(name),
+        None => Err(RevFault::UnknownObject),
+    }
+}
+
+/// The one object whose name begins with these digits.
+fn find_digits<N: Namer, A: Allocator + Copy>(
+    repo: &Repo<N, A>,
+    digits: &[u8],
+) -> Result<Name, RevFault>
+    ensures value { Gives fault_of (value_at repo.now.1) result (the_one (N.name_of repo.now.0) (begun_by (N.name_of repo.now.0) (history_of repo.now.1) digits.now)) }
+    ensures held { IfOk result (IsHeld repo.now.1) }
+{
+    repo.sound();
+    match repo.store().by_prefix(digits) {
+        Prefix::Unique(name) => Ok(name),
+        Prefix::Absent => Err(RevFault::UnknownRef),
+        Prefix::Ambiguous => Err(RevFault::Ambiguous),
+    }
+}
+
+/// Whether each byte is a hexadecimal digit, of either case.
+fn are_digits(text: &[u8]) -> bool
+    ensures { result ≡ list_all is_any_digit text.now }
+{
+    text.iter().all(|b| is_digit(*b))
+}
+
+fn is_digit(byte: u8) -> bool
+    ensures { result ≡ is_any_digit byte }
+{
+    matches!(byte, b'0'..=b'9' | b'a'..=b'f' | b'A'..=b'F')
+}

@@ -1,0 +1,24 @@
+//! Revisions and range words: how they are read, what they give in a repository, and which commits they list.
+//! What is answered is what a definition over the repository's history gives.
+#![tactic(auto)]
+
+mod base;
+mod fault;
+mod objects;
+mod places;
+mod range;
+mod reached;
+mod revision;
+mod shown;
+mod suffix;
+mod walking;
+
+pub use fault::{RevFault, WalkFault};
+pub use range::Range;
+pub use reached::reaches;
+pub use revision::Revision;
+pub use shown::{Shown, answers_tell_values, commit, look};
+pub use walking::walk;
+
+#[cfg(test)]
+mod tests;

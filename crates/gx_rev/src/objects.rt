@@ -1,0 +1,119 @@
+//! Held objects by their names: their kinds, their commits and parents, and their trees.
+
+ghost use Rattle.std.specs.Prelude.{◌≡◌, IfOk};
+ghost use Rattle.gx_model.specs.declared.objects.Kind.TheVariants as kinds;
+ghost use Rattle.gx_model.specs.Faults.{Gives};
+ghost use Rattle.gx_model.specs.Denotation.{commit_in, files_in, nth_ancestor, nth_parent};
+ghost use Rattle.gx_model.specs.Records.{kind_of};
+ghost use Rattle.gx_rev.specs.Objects.{IsHeld, IsHeldAs, commit_at, files_at, parts_of_commit, value_at};
+ghost use Rattle.gx_rev.specs.RevFaults.{fault_of};
+
+use crate::RevFault;
+use gx_object::{CommitView, Kind, Name, Namer, decode_commit};
+use gx_repo::Repo;
+use std::alloc::Allocator;
+
+/// The kind of a held object.
+pub(crate) fn kind_of<N: Namer, A: Allocator + Copy>(repo: &Repo<N, A>, name: &Name) -> Kind
+    requires { IsHeld repo.now.1 name.now }
+    ensures { result ≡ kind_of (N.name_of repo.now.0) (value_at repo.now.1 name.now) }
+{
+    repo.sound();
+    let Some((kind, _)) = repo.store().get(name) else {
+        unreachable!();
+    };
+    kind
+}
+
+/// The commit that a held commit is, or that a held tag names.
+pub(crate) fn commit_of<N: Namer, A: Allocator + Copy>(
+    repo: &Repo<N, A>,
+    name: &Name,
+) -> Result<Name, RevFault>
+    requires { IsHeld repo.now.1 name.now }
+    ensures commit { Gives fault_of (commit_at repo.now.1) result (commit_in (value_at repo.now.1 name.now)) }
+    ensures held { IfOk result (IsHeldAs kinds.Commit repo.now.1) }
+{
+    repo.sound();
+    match repo.peel(name) {
+        Some(commit) => Ok(commit),
+        None => Err(RevFault::WrongKind),
+    }
+}
+
+/// The body of a held commit.
+pub(crate) fn view_of<'a, N: Namer, A: Allocator + Copy>(
+    repo: &'a Repo<N, A>,
+    commit: &Name,
+) -> CommitView<'a>
+    requires { IsHeldAs kinds.Commit repo.now.1 commit.now }
+    ensures { result ≡ parts_of_commit (N.name_of repo.now.0) (commit_at repo.now.1 commit.now) }
+{
+    repo.sound();
+    let Some((_, body)) = repo.store().get(commit) else {
+        unreachable!();
+    };
+    let Ok(view) = decode_commit(body) else {
+        unreachable!();
+    };
+    view
+}
+
+/// The nth parent of a held commit, and the commit where n is 0.
+pub(crate) fn parent_of<N: Namer, A: Allocator + Copy>(
+    repo: &Repo<N, A>,
+    commit: &Name,
+    number: u64,
+) -> Result<Name, RevFault>
+    requires { IsHeldAs kinds.Commit repo.now.1 commit.now }
+    ensures parent { Gives fault_of (commit_at repo.now.1) result (nth_parent number (commit_at repo.now.1 commit.now)) }
+    ensures held { IfOk result (IsHeldAs kinds.Commit repo.now.1) }
+{
+    repo.sound();
+    if number == 0 {
+        return Ok(*commit);
+    }
+    match view_of(repo, commit).parent((number - 1) as usize) {
+        Some(parent) => Ok(parent),
+        None => Err(RevFault::NoParent),
+    }
+}
+
+/// The commit that is n first parents up from a held one.
+pub(crate) fn ancestor_of<N: Namer, A: Allocator + Copy>(
+    repo: &Repo<N, A>,
+    commit: &Name,
+    number: u64,
+) -> Result<Name, RevFault>
+    requires { IsHeldAs kinds.Commit repo.now.1 commit.now }
+    ensures ancestor { Gives fault_of (commit_at repo.now.1) result (nth_ancestor number (commit_at repo.now.1 commit.now)) }
+    ensures held { IfOk result (IsHeldAs kinds.Commit repo.now.1) }
+{
+    let mut ancestor = *commit;
+    let mut left = number;
+    while left > 0 {
+        ancestor = parent_of(repo, &ancestor, 1)?;
+        left -= 1;
+    }
+    Ok(ancestor)
+}
+
+/// The tree that a held object is, or that of its commit.
+pub(crate) fn tree_of<N: Namer, A: Allocator + Copy>(
+    repo: &Repo<N, A>,
+    name: &Name,
+) -> Result<Name, RevFault>
+    requires { IsHeld repo.now.1 name.now }
+    ensures files { Gives fault_of (files_at repo.now.1) result (files_in (value_at repo.now.1 name.now)) }
+    ensures held { IfOk result (IsHeldAs kinds.Tree repo.now.1) }
+{
+    repo.sound();
+    match kind_of(repo, name) {
+        Kind::Blob => Err(RevFault::WrongKind),
+        Kind::Tree => Ok(*name),
+        Kind::Commit | Kind::Tag => {
+            let commit = commit_of(repo, name)?;
+            Ok(view_of(repo, &commit).tree())
+        }
+    }
+}

@@ -1,0 +1,123 @@
+//! What a commit reaches: itself and its ancestors, marked by their places in one pass from the newest on.
+//! A commit's parents stand before it.
+
+ghost use Rattle.std.specs.Prelude.{◌≡◌, ◌<◌, IfOk, Some, false, length, replicate};
+ghost use Rattle.std.specs.List.{slice_get};
+ghost use Rattle.gx_model.specs.declared.objects.Kind.TheVariants as kinds;
+ghost use Rattle.gx_model.specs.HistoryLaws.{IsParent};
+ghost use Rattle.gx_model.specs.Ranges.{reaches};
+ghost use Rattle.gx_model.specs.RepositoryLaws.{values_of};
+ghost use Rattle.gx_model.specs.Sound.{Holds};
+ghost use Rattle.gx_model.specs.Values.{parents_of};
+ghost use Rattle.gx_rev.specs.Marks.{Marks, marks_of};
+ghost use Rattle.gx_rev.specs.Objects.{IsHeld, IsHeldAs, commit_at, value_at};
+
+use crate::objects::view_of;
+use gx_object::{Name, Namer};
+use gx_repo::Repo;
+use std::alloc::{AllocError, Allocator};
+
+/// Whether the second of two held commits is the first or one of its ancestors.
+///
+/// Cost: the number of records, and for each commit that is reached its body and, for each of its parents, the number
+/// of records. Takes a byte for each record. Source: gitglossary(7), "reachable".
+pub fn reaches<N: Namer, A: Allocator + Copy>(
+    alloc: A,
+    repo: &Repo<N, A>,
+    from: &Name,
+    to: &Name,
+) -> Result<bool, AllocError>
+    requires from { Holds repo.now.1.records kinds.Commit from.now.bytes }
+    requires to { Holds repo.now.1.records kinds.Commit to.now.bytes }
+    ensures { IfOk result (λ is_reached. is_reached ≡ reaches (commit_at repo.now.1 from.now) (commit_at repo.now.1 to.now)) }
+{
+    repo.sound();
+    let marks = reached(alloc, repo, from)?;
+    let place = place_of(repo, to);
+    Ok(marks[place])
+}
+
+/// Marks of the commits that a held one reaches, by place.
+pub(crate) fn reached<N: Namer, A: Allocator + Copy>(
+    alloc: A,
+    repo: &Repo<N, A>,
+    from: &Name,
+) -> Result<Vec<bool, A>, AllocError>
+    requires { IsHeldAs kinds.Commit repo.now.1 from.now }
+    ensures { IfOk result (λ marks. marks.items ≡ marks_of (reaches (commit_at repo.now.1 from.now)) (values_of repo.now.1)) }
+{
+    repo.sound();
+    let count = repo.store().len();
+    let mut marks = vec![in alloc; false; count]?;
+    mark_reached(repo, &mut marks, from);
+    Ok(marks)
+}
+
+fn mark_reached<N: Namer, A: Allocator + Copy>(repo: &Repo<N, A>, marks: &mut [bool], from: &Name)
+    requires held { IsHeldAs kinds.Commit repo.now.1 from.now }
+    requires none { marks.old ≡ replicate (length (values_of repo.now.1)) false }
+    ensures { marks.new ≡ marks_of (reaches (commit_at repo.now.1 from.now)) (values_of repo.now.1) }
+{
+    repo.sound();
+    mark(repo, marks, from);
+    let mut left = marks.len();
+    while left > 0 {
+        left -= 1;
+        if marks[left] {
+            mark_parents(repo, marks, &name_at(repo, left));
+        }
+    }
+}
+
+/// Marks the parents of a held commit.
+fn mark_parents<N: Namer, A: Allocator + Copy>(repo: &Repo<N, A>, marks: &mut [bool], commit: &Name)
+    requires held { IsHeldAs kinds.Commit repo.now.1 commit.now }
+    requires long { length marks.old ≡ length (values_of repo.now.1) }
+    ensures { Marks repo.now.1 (λ parent. IsParent parent (parents_of (commit_at repo.now.1 commit.now))) marks.old marks.new }
+{
+    repo.sound();
+    let view = view_of(repo, commit);
+    for number in 0..view.parent_count() {
+        if let Some(parent) = view.parent(number) {
+            mark(repo, marks, &parent);
+        }
+    }
+}
+
+/// Marks a held commit.
+fn mark<N: Namer, A: Allocator + Copy>(repo: &Repo<N, A>, marks: &mut [bool], commit: &Name)
+    requires held { IsHeldAs kinds.Commit repo.now.1 commit.now }
+    requires long { length marks.old ≡ length (values_of repo.now.1) }
+    ensures { Marks repo.now.1 (λ marked. marked ≡ commit_at repo.now.1 commit.now) marks.old marks.new }
+{
+    repo.sound();
+    let place = place_of(repo, commit);
+    marks[place] = true;
+}
+
+/// The place of a held object.
+fn place_of<N: Namer, A: Allocator + Copy>(repo: &Repo<N, A>, name: &Name) -> usize
+    requires { IsHeld repo.now.1 name.now }
+    ensures { slice_get (values_of repo.now.1) result ≡ Some (value_at repo.now.1 name.now) }
+{
+    repo.sound();
+    for place in 0..repo.store().len() {
+        if *name == name_at(repo, place) {
+            return place;
+        }
+    }
+    unreachable!()
+}
+
+/// The name of the object at a place.
+pub(crate) fn name_at<N: Namer, A: Allocator + Copy>(repo: &Repo<N, A>, place: usize) -> Name
+    requires { place < length (values_of repo.now.1) }
+    ensures value { slice_get (values_of repo.now.1) place ≡ Some (value_at repo.now.1 result) }
+    ensures held { IsHeld repo.now.1 result }
+{
+    repo.sound();
+    let Some((name, _, _)) = repo.store().record(place) else {
+        unreachable!();
+    };
+    name
+}

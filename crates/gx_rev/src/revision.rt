@@ -1,0 +1,122 @@
+//! Revisions as texts.
+
+ghost use Rattle.std.specs.Prelude.{◌≡◌, ◌≤◌, length, map, []};
+ghost use Rattle.std.specs.Option.{option_map};
+ghost use Rattle.gx_model.specs.Faults.{Gives};
+ghost use Rattle.gx_model.specs.Texts.{cut_at};
+ghost use Rattle.gx_model.specs.Revisions.{base_and_suffixes, base_of, optional_path, revision_of, suffixes_of, with_path};
+ghost use Rattle.gx_rev.specs.RevFaults.{fault_of};
+ghost use Rattle.gx_rev.specs.Views.{shown_suffix};
+
+use crate::RevFault;
+use crate::suffix::Suffix;
+use gx_text::{TreePath, cut, is_ref_name};
+use memchr::memchr2;
+use std::alloc::Allocator;
+use std::marker::Model;
+
+/// A revision: a base, then suffixes, and where a `:` follows, a path.
+/// Source: gitrevisions(7), "Specifying Revisions".
+#[derive(Drop)]
+pub struct Revision<A: Allocator> {
+    pub(crate) base: Vec<u8, A>,
+    pub(crate) suffixes: Vec<Suffix, A>,
+    pub(crate) path: Option<TreePath<A>>,
+}
+
+impl<A: Allocator> Model for Revision<A> {
+    ghost use Rattle.std.specs.Prelude.{map};
+    ghost use Rattle.gx_model.specs.Revisions.{Revision};
+
+    ghost Value = { Revision };
+
+    ghost use Rattle.gx_rev.specs.Views.{shown_suffix};
+
+    ghost view = { λ r. record { base = r.base.items; suffixes = map shown_suffix r.suffixes.items; path = r.path } };
+}
+
+impl<A: Allocator + Copy> Revision<A> {
+    /// The revision that a text gives. Its base is `@`, which is HEAD, or a ref name.
+    ///
+    /// BadRevision where the base is neither, or a suffix is none; BadPath and PathTooLong where no path follows the
+    /// `:`. The first fault from the left is answered.
+    /// Cost: the length. Takes memory for the base, the suffixes and the path.
+    /// Source: gitrevisions(7), "Specifying Revisions".
+    #[tactic(auto, unfolding(gx_model::specs::Revisions::revision_of))]
+    pub fn read(alloc: A, text: &[u8]) -> Result<Revision<A>, RevFault>
+        ensures { Gives fault_of (λ r. r) result (revision_of text.now) }
+    {
+        let (front, path) = cut_path(text);
+        let (base, suffixes) = cut_base(front);
+        let base = read_base(alloc, base)?;
+        let suffixes = read_suffixes(alloc, suffixes)?;
+        let path = read_path(alloc, path)?;
+        Ok(Revision {
+            base,
+            suffixes,
+            path,
+        })
+    }
+}
+
+/// What stands before the first `:`, and what follows it.
+fn cut_path(text: &[u8]) -> (&[u8], Option<&[u8]>)
+    ensures front { result.0.now ≡ (with_path text.now (cut_at 58 text.now)).0 }
+    ensures path { option_map (λ x. x.now) result.1 ≡ (with_path text.now (cut_at 58 text.now)).1 }
+{
+    match cut(text, b':') {
+        Some((front, path)) => (front, Some(path)),
+        None => (text, None),
+    }
+}
+
+/// What stands before the first `^` or `~`, and what begins there.
+fn cut_base(text: &[u8]) -> (&[u8], &[u8])
+    ensures base { result.0.now ≡ (base_and_suffixes text.now).0 }
+    ensures suffixes { base_and_suffixes result.1.now ≡ ([], (base_and_suffixes text.now).1) }
+    ensures within { length result.1.now ≤ length text.now }
+{
+    match memchr2(b'^', b'~', text) {
+        Some(end) => (&text[..end], &text[end..]),
+        None => (text, &text[text.len()..]),
+    }
+}
+
+fn read_base<A: Allocator + Copy>(alloc: A, text: &[u8]) -> Result<Vec<u8, A>, RevFault>
+    ensures { Gives fault_of (λ base. base.items) result (base_of text.now) }
+{
+    if text == b"@".as_slice() {
+        return Ok(Vec::from_slice(alloc, b"HEAD")?);
+    }
+    if !is_ref_name(text) {
+        return Err(RevFault::BadRevision);
+    }
+    Ok(Vec::from_slice(alloc, text)?)
+}
+
+/// The suffixes of a text that begins with one, or is empty.
+fn read_suffixes<A: Allocator + Copy>(alloc: A, text: &[u8]) -> Result<Vec<Suffix, A>, RevFault>
+    requires { (base_and_suffixes text.now).0 ≡ [] }
+    ensures { Gives fault_of (λ suffixes. map shown_suffix suffixes.items) result (suffixes_of (base_and_suffixes text.now).1) }
+{
+    let mut suffixes = Vec::new(alloc);
+    let mut rest = text;
+    while let Some((mark, after)) = rest.split_first() {
+        let (text, others) = cut_base(after);
+        suffixes.push(Suffix::read(*mark, text)?)?;
+        rest = others;
+    }
+    Ok(suffixes)
+}
+
+fn read_path<A: Allocator + Copy>(
+    alloc: A,
+    text: Option<&[u8]>,
+) -> Result<Option<TreePath<A>>, RevFault>
+    ensures { Gives fault_of (λ path. path) result (optional_path (option_map (λ x. x.now) text.entry)) }
+{
+    match text {
+        None => Ok(None),
+        Some(text) => Ok(Some(TreePath::read(alloc, text)?)),
+    }
+}

@@ -1,0 +1,4 @@
+mod reading;
+mod sample;
+mod showing;
+mod walks;

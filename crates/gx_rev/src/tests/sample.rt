@@ -1,0 +1,206 @@
+ghost use Rattle.std.specs.Prelude.{IsTrue, map};
+ghost use Rattle.std.specs.List.{AllByRecursion};
+ghost use Rattle.gx_model.specs.declared.objects.Kind.TheVariants as kinds;
+ghost use Rattle.gx_model.specs.Sound.{Holds, IsNamedMap};
+
+use gx_object::{CommitParts, Kind, Mode, Name, Namer, TagParts};
+use gx_repo::{RefChange, Repo};
+use gx_text::{Ident, TreePath};
+use gx_tree::PathTree;
+use std::alloc::Allocator;
+use std::test::Fail;
+
+const IDENT: &[u8] = b"A <a@x> 1 +0000";
+
+/// The names that Git gives the objects of the sample.
+pub(super) const FIRST: &[u8] = b"02d6adf1689e06135d2b4b4d471f1ae489887b53";
+
+pub(super) const FIRST_TREE: &[u8] = b"d8329fc1cc938780ffdd9f94e0d364e0ea74f579";
+
+pub(super) const SECOND: &[u8] = b"e722c6d220a7b594608f7ee04541a6d2afca6f16";
+
+pub(super) const SECOND_TREE: &[u8] = b"3c4e9cd789d88d8d89c1073707c3585e41b0e614";
+
+pub(super) const P: &[u8] = b"ed13be4069964e1c48bc5e0ca1946799b606d3af";
+
+pub(super) const Q: &[u8] = b"246e18b156d32c30a57ab68be95cf584e2054b52";
+
+pub(super) const Y: &[u8] = b"214ef2942bfb85ae7d526134066a055e9a80917d";
+
+pub(super) const TAG: &[u8] = b"b2d62e65ea2b7f26e382112d5dc12fbc11fdac10";
+
+pub(super) const LINK: &[u8] = b"b1628e8f0fbaa9b83fc4742616b7c3028c6e8e91";
+
+pub(super) const EMPTY_TREE: &[u8] = b"4b825dc642cb6eb9a060e54bf8d69288fbee4904";
+
+pub(super) const VERSION_1: &[u8] = b"83baae61804e65cc73a7201a7252750c76066a30";
+
+pub(super) const VERSION_2: &[u8] = b"1f7a7a472abf3dd9643fd615f6da379c4acb3e3a";
+
+pub(super) fn name_of(digits: &[u8]) -> Result<Name, Fail> {
+    Ok(Name::read(digits).ok_or("digits")?)
+}
+
+/// Whether an object of this kind is held under this name.
+pub(super) fn is_held<N: Namer, A: Allocator + Copy>(
+    repo: &Repo<N, A>,
+    kind: Kind,
+    name: &Name,
+) -> bool
+    ensures { IsTrue result → Holds repo.now.1.records kind name.now.bytes }
+{
+    let Some((held, _body)) = repo.store().get(name) else {
+        return false;
+    };
+    held == kind
+}
+
+fn are_held<N: Namer, A: Allocator + Copy>(repo: &Repo<N, A>, names: &[Name]) -> bool
+    ensures { IsTrue result → AllByRecursion (Holds repo.now.1.records kinds.Commit) (map (λ n. n.bytes) names.now) }
+{
+    for name in names {
+        if !is_held(repo, Kind::Commit, name) {
+            return false;
+        }
+    }
+    true
+}
+
+/// Adds a blob, and puts it at a path of a tree whose files are held.
+fn add_file<N: Namer, A: Allocator + Copy>(
+    alloc: A,
+    repo: &mut Repo<N, A>,
+    tree: &mut PathTree<A>,
+    path: &[u8],
+    body: &[u8],
+) -> bool
+    requires { IsNamedMap repo.now.1.records tree.now }
+    ensures { IsNamedMap repo.new.1.records tree.new }
+{
+    let Ok(path) = TreePath::read(alloc, path) else {
+        return false;
+    };
+    let Ok(name) = repo.add_blob(body) else {
+        return false;
+    };
+    let answer = tree.modify(&path, Mode::File, name).is_ok();
+    tree.name_map();
+    answer
+}
+
+/// Puts a gitlink at a path of a tree whose files are held.
+fn add_link<N: Namer, A: Allocator + Copy>(
+    alloc: A,
+    repo: &Repo<N, A>,
+    tree: &mut PathTree<A>,
+    path: &[u8],
+    name: Name,
+) -> bool
+    requires { IsNamedMap repo.now.1.records tree.now }
+    ensures { IsNamedMap repo.now.1.records tree.new }
+{
+    let Ok(path) = TreePath::read(alloc, path) else {
+        return false;
+    };
+    let answer = tree.modify(&path, Mode::Gitlink, name).is_ok();
+    tree.name_map();
+    answer
+}
+
+/// Adds the commit of a tree whose files are held.
+fn add_commit<'x, N: Namer, A: Allocator + Copy>(
+    repo: &mut Repo<N, A>,
+    tree: &mut PathTree<A>,
+    parents: &'x [Name],
+    message: &'x [u8],
+) -> Option<Name>
+    requires { IsNamedMap repo.now.1.records tree.now }
+    ensures { IsNamedMap repo.new.1.records tree.new }
+{
+    let author = Ident::read(IDENT).ok()?;
+    let root = repo.add_tree(tree).ok()?;
+    if !are_held(repo, parents) {
+        return None;
+    }
+    let parts = CommitParts {
+        tree: root,
+        parents,
+        author,
+        committer: author,
+        encoding: None,
+        message,
+    };
+    repo.add_commit(&parts).ok()
+}
+
+/// Adds a commit without files.
+pub(super) fn add_empty<N: Namer, A: Allocator + Copy>(
+    alloc: A,
+    repo: &mut Repo<N, A>,
+    parents: &[Name],
+    message: &[u8],
+) -> Option<Name> {
+    let mut tree = PathTree::empty(alloc);
+    add_commit(repo, &mut tree, parents, message)
+}
+
+/// Adds a tag of a commit, `v1`.
+fn add_tag<N: Namer, A: Allocator + Copy>(repo: &mut Repo<N, A>, commit: Name) -> Option<Name> {
+    if !is_held(repo, Kind::Commit, &commit) {
+        return None;
+    }
+    let parts = TagParts {
+        object: commit,
+        name: b"v1",
+        tagger: None,
+        message: b"one",
+    };
+    repo.add_tag(&parts).ok()
+}
+
+/// Adds two commits with files, a tag of the first, and a commit whose tree has a gitlink.
+fn add_files<N: Namer, A: Allocator + Copy>(
+    alloc: A,
+    repo: &mut Repo<N, A>,
+) -> Option<(Name, Name, Name)> {
+    let mut tree = PathTree::empty(alloc);
+    if !add_file(alloc, repo, &mut tree, b"test.txt", b"version 1\n") {
+        return None;
+    }
+    let first = add_commit(repo, &mut tree, &[], b"v1")?;
+    if !add_file(alloc, repo, &mut tree, b"test.txt", b"version 2\n")
+        || !add_file(alloc, repo, &mut tree, b"new.txt", b"new file\n")
+        || !add_file(alloc, repo, &mut tree, b"bak/test.txt", b"version 1\n")
+    {
+        return None;
+    }
+    let second = add_commit(repo, &mut tree, &[first], b"v2")?;
+    let mut links = PathTree::empty(alloc);
+    if !add_link(alloc, repo, &mut links, b"sub", first) {
+        return None;
+    }
+    let link = add_commit(repo, &mut links, &[], b"link")?;
+    Some((first, second, link))
+}
+
+/// Fills an empty repository: `main` with two commits, `v1` at the first, `link` with a gitlink, and `y`, which has `p`
+/// and `q` for parents.
+pub(super) fn fill<N: Namer, A: Allocator + Copy>(alloc: A, repo: &mut Repo<N, A>) -> Option<()> {
+    let (first, second, link) = add_files(alloc, repo)?;
+    let tag = add_tag(repo, first)?;
+    let p = add_empty(alloc, repo, &[], b"p")?;
+    let q = add_empty(alloc, repo, &[], b"q")?;
+    let y = add_empty(alloc, repo, &[p, q], b"y")?;
+    let refs: [(&[u8], Name); 6] = [
+        (b"refs/heads/main", second),
+        (b"refs/tags/v1", tag),
+        (b"refs/heads/link", link),
+        (b"refs/heads/p", p),
+        (b"refs/heads/q", q),
+        (b"refs/heads/y", y),
+    ];
+    for (name, target) in refs {
+        repo.publish(&[RefChange { name, target }]).ok()?;
+    }
+    Some(())
+}

@@ -1,0 +1,227 @@
+use super::sample::{
+    EMPTY_TREE, FIRST, FIRST_TREE, LINK, P, Q, SECOND, SECOND_TREE, TAG, VERSION_1, VERSION_2, Y,
+    add_empty, fill, name_of,
+};
+use crate::{RevFault, Revision, Shown, answers_tell_values, commit, look};
+use gx_object::{Kind, Mode, Name, Namer, Sha1Namer, ShortNamer};
+use gx_refusing::Refusing;
+use gx_repo::{RefChange, Repo};
+use gx_text::TreePath;
+use std::alloc::Allocator;
+use std::test::Fail;
+
+fn shown<N: Namer, A: Allocator + Copy>(
+    alloc: A,
+    repo: &Repo<N, A>,
+    text: &[u8],
+) -> Result<Shown, RevFault> {
+    Revision::read(alloc, text)?.eval(repo)
+}
+
+#[test]
+fn revisions_show_objects(rt: HostRuntime) -> Result<(), Fail> {
+    let mut repo = Repo::new(rt.alloc(), Sha1Namer);
+    fill(rt.alloc(), &mut repo).ok_or("sample")?;
+    let rows: [(&[u8], Kind, &[u8]); 35] = [
+        (b"main", Kind::Commit, SECOND),
+        (b"heads/main", Kind::Commit, SECOND),
+        (b"refs/heads/main", Kind::Commit, SECOND),
+        (b"main^0", Kind::Commit, SECOND),
+        (b"main~0", Kind::Commit, SECOND),
+        (b"main^{commit}", Kind::Commit, SECOND),
+        (b"main^", Kind::Commit, FIRST),
+        (b"main~", Kind::Commit, FIRST),
+        (b"main~1^0", Kind::Commit, FIRST),
+        (b"main^{tree}", Kind::Tree, SECOND_TREE),
+        (b"main:", Kind::Tree, SECOND_TREE),
+        (b"main^{tree}:", Kind::Tree, SECOND_TREE),
+        (b"main^^{tree}", Kind::Tree, FIRST_TREE),
+        (b"main:bak", Kind::Tree, FIRST_TREE),
+        (b"main:test.txt", Kind::Blob, VERSION_2),
+        (b"main:bak/test.txt", Kind::Blob, VERSION_1),
+        (b"main^:test.txt", Kind::Blob, VERSION_1),
+        (b"v1", Kind::Tag, TAG),
+        (b"tags/v1", Kind::Tag, TAG),
+        (b"v1^{object}", Kind::Tag, TAG),
+        (b"v1^{tag}", Kind::Tag, TAG),
+        (b"v1^{}", Kind::Commit, FIRST),
+        (b"v1^0", Kind::Commit, FIRST),
+        (b"v1^{tree}", Kind::Tree, FIRST_TREE),
+        (b"v1:test.txt", Kind::Blob, VERSION_1),
+        (b"y^1", Kind::Commit, P),
+        (b"y^2", Kind::Commit, Q),
+        (b"y^{tree}", Kind::Tree, EMPTY_TREE),
+        (b"83ba", Kind::Blob, VERSION_1),
+        (b"83BAAE61804E", Kind::Blob, VERSION_1),
+        (b"83ba^{blob}", Kind::Blob, VERSION_1),
+        (VERSION_1, Kind::Blob, VERSION_1),
+        (
+            b"E722C6D220A7B594608F7EE04541A6D2AFCA6F16^",
+            Kind::Commit,
+            FIRST,
+        ),
+        (b"3c4e9cd7:bak", Kind::Tree, FIRST_TREE),
+        (b"link", Kind::Commit, LINK),
+    ];
+    for (text, kind, digits) in rows {
+        let expected = Shown::Object(kind, name_of(digits)?);
+        assert_eq!(rt; shown(rt.alloc(), &repo, text), Ok(expected));
+    }
+    let sub = Shown::Submodule(name_of(FIRST)?);
+    assert_eq!(rt; shown(rt.alloc(), &repo, b"link:sub"), Ok(sub));
+    answers_tell_values(&repo);
+    Ok(())
+}
+
+#[test]
+fn refused_revisions_show_nothing(rt: HostRuntime) -> Result<(), Fail> {
+    let mut repo = Repo::new(rt.alloc(), Sha1Namer);
+    fill(rt.alloc(), &mut repo).ok_or("sample")?;
+    let rows: [(&[u8], RevFault); 22] = [
+        (b"@", RevFault::UnknownRef),
+        (b"nosuch", RevFault::UnknownRef),
+        (b"83b", RevFault::UnknownRef),
+        (b"ffff", RevFault::UnknownRef),
+        (
+            b"ffffffffffffffffffffffffffffffffffffffff",
+            RevFault::UnknownObject,
+        ),
+        (
+            b"fffffffffffffffffffffffffffffffffffffffff",
+            RevFault::UnknownRef,
+        ),
+        (b"main~2", RevFault::NoParent),
+        (b"main^2", RevFault::NoParent),
+        (b"main~18446744073709551615", RevFault::NoParent),
+        (b"y^3", RevFault::NoParent),
+        (b"83ba^", RevFault::WrongKind),
+        (b"83ba~0", RevFault::WrongKind),
+        (b"83ba:a", RevFault::WrongKind),
+        (b"v1^{blob}", RevFault::WrongKind),
+        (b"main^{tag}", RevFault::WrongKind),
+        (b"main^{tree}^{commit}", RevFault::WrongKind),
+        (b"main^{tree}^0", RevFault::WrongKind),
+        (b"main:none", RevFault::NoSuchPath),
+        (b"main:test.txt/x", RevFault::NoSuchPath),
+        (b"main:bak/none", RevFault::NoSuchPath),
+        (b"link:sub/x", RevFault::NoSuchPath),
+        (b"y:a", RevFault::NoSuchPath),
+    ];
+    for (text, fault) in rows {
+        assert_eq!(rt; shown(rt.alloc(), &repo, text), Err(fault));
+    }
+    Ok(())
+}
+
+#[test]
+fn abbreviations_are_of_one_object_and_refs_come_first(rt: HostRuntime) -> Result<(), Fail> {
+    let mut repo = Repo::new(rt.alloc(), ShortNamer);
+    let first = add_empty(rt.alloc(), &mut repo, &[], b"").ok_or("commit")?;
+    assert_eq!(rt; shown(rt.alloc(), &repo, b"1111"), Err(RevFault::Ambiguous));
+    let digits = first.hex();
+    let expected = Ok(Shown::Object(Kind::Commit, first));
+    assert_eq!(rt; shown(rt.alloc(), &repo, &digits), expected);
+    let (_last, abbreviation) = digits.split_last().ok_or("digits")?;
+    assert_eq!(rt; shown(rt.alloc(), &repo, abbreviation), expected);
+    for name in [b"1111".as_slice(), b"HEAD"] {
+        let change = RefChange {
+            name,
+            target: first,
+        };
+        assert!(rt; repo.publish(&[change]).is_ok());
+    }
+    assert_eq!(rt; shown(rt.alloc(), &repo, b"1111"), expected);
+    assert_eq!(rt; shown(rt.alloc(), &repo, b"@"), expected);
+    Ok(())
+}
+
+/// The mode and whether the bytes are these, of the file at a path.
+fn looks<N: Namer, A: Allocator + Copy>(
+    alloc: A,
+    repo: &Repo<N, A>,
+    text: &[u8],
+    path: &[u8],
+    bytes: &[u8],
+) -> Result<(Mode, bool), RevFault> {
+    let revision = Revision::read(alloc, text)?;
+    let path = TreePath::read(alloc, path)?;
+    let (mode, body) = look(alloc, repo, &revision, &path)?;
+    Ok((mode, body.as_slice() == bytes))
+}
+
+#[test]
+fn files_are_looked_up(rt: HostRuntime) -> Result<(), Fail> {
+    let mut repo = Repo::new(rt.alloc(), Sha1Namer);
+    fill(rt.alloc(), &mut repo).ok_or("sample")?;
+    let file = Ok((Mode::File, true));
+    let rows: [(&[u8], &[u8], &[u8], Result<(Mode, bool), RevFault>); 13] = [
+        (b"main", b"test.txt", b"version 2\n", file),
+        (b"main", b"bak/test.txt", b"version 1\n", file),
+        (b"main:bak", b"test.txt", b"version 1\n", file),
+        (b"v1", b"test.txt", b"version 1\n", file),
+        (b"link", b"sub", FIRST, Ok((Mode::Gitlink, true))),
+        (b"main", b"", b"", Err(RevFault::WrongKind)),
+        (b"main", b"bak", b"", Err(RevFault::WrongKind)),
+        (b"main", b"none", b"", Err(RevFault::NoSuchPath)),
+        (b"main", b"test.txt/x", b"", Err(RevFault::NoSuchPath)),
+        (b"main:test.txt", b"x", b"", Err(RevFault::WrongKind)),
+        (b"link:sub", b"x", b"", Err(RevFault::WrongKind)),
+        (b"nosuch", b"x", b"", Err(RevFault::UnknownRef)),
+        (b"main:none", b"x", b"", Err(RevFault::NoSuchPath)),
+    ];
+    for (text, path, bytes, answer) in rows {
+        assert_eq!(rt; looks(rt.alloc(), &repo, text, path, bytes), answer);
+    }
+    Ok(())
+}
+
+#[test]
+fn commits_are_shown_after_peeling(rt: HostRuntime) -> Result<(), Fail> {
+    let mut repo = Repo::new(rt.alloc(), Sha1Namer);
+    fill(rt.alloc(), &mut repo).ok_or("sample")?;
+    for text in [b"v1".as_slice(), b"main^", b"v1^{}"] {
+        let revision = Revision::read(rt.alloc(), text)?;
+        let view = commit(&repo, &revision)?;
+        assert_eq!(rt; view.tree(), name_of(FIRST_TREE)?);
+        assert_eq!(rt; view.parent_count(), 0);
+        assert_eq!(rt; view.message(), b"v1".as_slice());
+    }
+    for (text, fault) in [
+        (b"main:test.txt".as_slice(), RevFault::WrongKind),
+        (b"main^{tree}", RevFault::WrongKind),
+        (b"link:sub", RevFault::WrongKind),
+        (b"main~2", RevFault::NoParent),
+    ] {
+        let revision = Revision::read(rt.alloc(), text)?;
+        assert_eq!(rt; commit(&repo, &revision).err(), Some(fault));
+    }
+    Ok(())
+}
+
+/// A look, at which the growth with this number is refused, and whether it has not come.
+fn refused_look<B: Allocator>(
+    heap: &Refusing<B>,
+    path: &[u8],
+    n: u64,
+) -> Option<(Option<RevFault>, bool)> {
+    let mut repo = Repo::new(heap, Sha1Namer);
+    fill(heap, &mut repo)?;
+    let revision = Revision::read(heap, b"main^{tree}:bak").ok()?;
+    let path = TreePath::read(heap, path).ok()?;
+    heap.arm(n);
+    let fault = look(heap, &repo, &revision, &path).err();
+    let is_waiting = heap.is_waiting();
+    heap.arm(0);
+    Some((fault, is_waiting))
+}
+
+#[test]
+fn refused_growths_show_no_file(rt: HostRuntime) -> Result<(), Fail> {
+    let heap = Refusing::new(rt.alloc(), 0);
+    let refused = refused_look(&heap, b"test.txt", 1).ok_or("sample")?;
+    assert_eq!(rt; refused, (Some(RevFault::OutOfMemory), false));
+    let heap = Refusing::new(rt.alloc(), 0);
+    let ample = refused_look(&heap, b"test.txt", 2).ok_or("sample")?;
+    assert_eq!(rt; ample, (None, true));
+    Ok(())
+}

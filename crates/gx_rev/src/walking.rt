@@ -88,13 +88,7 @@ fn spans_of<N: Namer, A: Allocator + Copy>(
             let excluded = reached(alloc, repo, &commit)?;
             Ok(Spans { included, excluded })
         }
-        Range::Between(left, right) => {
-            let left = eval_commit(repo, left)?;
-            let right = eval_commit(repo, right)?;
-            let included = reached(alloc, repo, &right)?;
-            let excluded = reached(alloc, repo, &left)?;
-            Ok(Spans { included, excluded })
-        }
+        Range::Between(left, right) => between(alloc, repo, left, right),
         Range::Apart(left, right) => apart(alloc, repo, left, right),
         Range::AllParents(revision) => {
             let commit = eval_commit(repo, revision)?;
@@ -108,14 +102,40 @@ fn spans_of<N: Namer, A: Allocator + Copy>(
             let excluded = parents_reached(alloc, repo, &commit)?;
             Ok(Spans { included, excluded })
         }
-        Range::WithoutOne(revision, number) => {
-            let commit = eval_commit(repo, revision)?;
-            let parent = parent_of(repo, &commit, *number)?;
-            let included = reached(alloc, repo, &commit)?;
-            let excluded = reached(alloc, repo, &parent)?;
-            Ok(Spans { included, excluded })
-        }
+        Range::WithoutOne(revision, number) => without_one(alloc, repo, revision, *number),
     }
+}
+
+/// The marks of `a..b`.
+fn between<N: Namer, A: Allocator + Copy>(
+    alloc: A,
+    repo: &Repo<N, A>,
+    left: &Revision<A>,
+    right: &Revision<A>,
+) -> Result<Spans<A>, RevFault>
+    ensures { GivesSpans (values_of repo.now.1) result (word_denoted (N.name_of repo.now.0) (history_of repo.now.1) (words.Between left.now right.now)) }
+{
+    let left = eval_commit(repo, left)?;
+    let right = eval_commit(repo, right)?;
+    let included = reached(alloc, repo, &right)?;
+    let excluded = reached(alloc, repo, &left)?;
+    Ok(Spans { included, excluded })
+}
+
+/// The marks of `r^-n`.
+fn without_one<N: Namer, A: Allocator + Copy>(
+    alloc: A,
+    repo: &Repo<N, A>,
+    revision: &Revision<A>,
+    number: u64,
+) -> Result<Spans<A>, RevFault>
+    ensures { GivesSpans (values_of repo.now.1) result (word_denoted (N.name_of repo.now.0) (history_of repo.now.1) (words.WithoutOne revision.now number)) }
+{
+    let commit = eval_commit(repo, revision)?;
+    let parent = parent_of(repo, &commit, number)?;
+    let included = reached(alloc, repo, &commit)?;
+    let excluded = reached(alloc, repo, &parent)?;
+    Ok(Spans { included, excluded })
 }
 
 /// The marks of `a...b`: what either reaches, without what both do.
@@ -184,24 +204,24 @@ fn include(marks: &mut [bool], others: &[bool])
 }
 
 /// Keeps the marks that the others have.
-fn keep(marks: &mut [bool], others: &[bool])
-    requires { length marks.old ≡ length others.now }
-    ensures { AreBoth marks.new marks.old others.now }
+fn keep(marks: &mut [bool], kept: &[bool])
+    requires { length marks.old ≡ length kept.now }
+    ensures { AreBoth marks.new marks.old kept.now }
 {
     for place in 0..marks.len() {
-        if !others[place] {
+        if !kept[place] {
             marks[place] = false;
         }
     }
 }
 
 /// Takes away the marks that the others have.
-fn exclude(marks: &mut [bool], others: &[bool])
-    requires { length marks.old ≡ length others.now }
-    ensures { AreWithout marks.new marks.old others.now }
+fn exclude(marks: &mut [bool], removed: &[bool])
+    requires { length marks.old ≡ length removed.now }
+    ensures { AreWithout marks.new marks.old removed.now }
 {
     for place in 0..marks.len() {
-        if others[place] {
+        if removed[place] {
             marks[place] = false;
         }
     }

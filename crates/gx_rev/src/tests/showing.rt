@@ -135,6 +135,43 @@ fn abbreviations_are_of_one_object_and_refs_come_first(rt: HostRuntime) -> Resul
     Ok(())
 }
 
+#[test]
+fn digits_that_begin_two_blobs_are_ambiguous(rt: HostRuntime) -> Result<(), Fail> {
+    let mut repo = Repo::new(rt.alloc(), ShortNamer);
+    let first = repo.add_blob(b"a").map_err(|_| "blob")?;
+    assert!(rt; repo.add_blob(b"ab").is_ok());
+    let expected = Ok(Shown::Object(Kind::Blob, first));
+    let ambiguous = Err(RevFault::Ambiguous);
+    let rows: [(&[u8], Result<Shown, RevFault>); 3] = [
+        (b"1111", ambiguous),
+        (b"111111111111111111111111111111111111000", ambiguous),
+        (b"1111111111111111111111111111111111110001", expected),
+    ];
+    for (text, answer) in rows {
+        assert_eq!(rt; shown(rt.alloc(), &repo, text), answer);
+    }
+    Ok(())
+}
+
+#[test]
+fn digits_show_the_one_object_that_they_begin(rt: HostRuntime) -> Result<(), Fail> {
+    let mut repo = Repo::new(rt.alloc(), Sha1Namer);
+    let content = repo.add_blob(b"test content\n").map_err(|_| "blob")?;
+    let rows: [(&[u8], Result<Shown, RevFault>); 4] = [
+        (b"d670", Ok(Shown::Object(Kind::Blob, content))),
+        (b"d67", Err(RevFault::UnknownRef)),
+        (b"ffff", Err(RevFault::UnknownRef)),
+        (
+            b"ffffffffffffffffffffffffffffffffffffffff",
+            Err(RevFault::UnknownObject),
+        ),
+    ];
+    for (text, answer) in rows {
+        assert_eq!(rt; shown(rt.alloc(), &repo, text), answer);
+    }
+    Ok(())
+}
+
 /// The mode and whether the bytes are these, of the file at a path.
 fn looks<N: Namer, A: Allocator + Copy>(
     alloc: A,

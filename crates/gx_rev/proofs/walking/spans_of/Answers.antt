@@ -1,5 +1,5 @@
 use Rattle.std.proofs.Common.{refl}
-use Rattle.gx_model.specs.Ranges.{all_parents, alone, between, with_ancestors, without_ancestors, without_one}
+use Rattle.gx_model.specs.Ranges.{all_parents, alone, with_ancestors, without_ancestors}
 use Rattle.gx_rev.specs.Objects.{commit_at}
 use Rattle.gx_rev.proofs.walking.spans_of.Goals as goal
 
@@ -17,13 +17,6 @@ returns-in_ok-excluded-in-WithoutAncestors g c = (
   record { included = c.in_ok-included-in-WithoutAncestors.ensures; excluded = c.in_ok-excluded-in-WithoutAncestors.ensures },
 )
 
-pub returns-in_ok-excluded-in-Between : goal.returns-in_ok-excluded-in-Between
-returns-in_ok-excluded-in-Between g c = (
-  between (commit_at c.args.repo.now.1 c.in_ok-left-in-Between.left) (commit_at c.args.repo.now.1 c.in_ok-right-in-Between.right),
-  rw (c.in-Between.is, c.in_ok-left-in-Between.ensures.commit, c.in_ok-right-in-Between.ensures.commit) refl,
-  record { included = c.in_ok-included-in-Between.ensures; excluded = c.in_ok-excluded-in-Between.ensures },
-)
-
 pub returns-in_ok-excluded-in-AllParents : goal.returns-in_ok-excluded-in-AllParents
 returns-in_ok-excluded-in-AllParents g c = (
   all_parents (commit_at c.args.repo.now.1 c.in_ok-commit-in-AllParents.commit),
@@ -36,11 +29,4 @@ returns-in_ok-excluded-in-Alone g c = (
   alone (commit_at c.args.repo.now.1 c.in_ok-commit-in-Alone.commit),
   rw (c.in-Alone.is, c.in_ok-commit-in-Alone.ensures.commit) refl,
   record { included = c.in_ok-included-in-Alone.ensures; excluded = c.in_ok-excluded-in-Alone.ensures },
-)
-
-pub returns-in_ok-excluded-in-WithoutOne : goal.returns-in_ok-excluded-in-WithoutOne
-returns-in_ok-excluded-in-WithoutOne g c = (
-  without_one (commit_at c.args.repo.now.1 c.in_ok-commit-in-WithoutOne.commit) (commit_at c.args.repo.now.1 c.in_ok-parent-in-WithoutOne.parent),
-  rw (c.in-WithoutOne.is, c.in_ok-commit-in-WithoutOne.ensures.commit, c.in_ok-parent-in-WithoutOne.ensures.parent) refl,
-  record { included = c.in_ok-included-in-WithoutOne.ensures; excluded = c.in_ok-excluded-in-WithoutOne.ensures },
 )

@@ -4,8 +4,10 @@
   streams.py blob BYTES            one blob of so many bytes
   streams.py blobs COUNT BYTES     so many different blobs of so many bytes each
   streams.py commits BYTES         small commits, until about so many bytes are written
+  streams.py history COMMITS       so many commits of source-like files in nested folders, with merges and tags
 """
 import sys
+from random import Random
 
 
 def one_blob(size):
@@ -72,5 +74,57 @@ def commits(size):
         written += len(text)
 
 
+def source_lines(random, count):
+    words = [b'return', b'value', b'index', b'buffer', b'length', b'if', b'for', b'static', b'const', b'result']
+    return b''.join(b'    %s %s = %s(%d);\n' % (*random.choices(words, k=3), random.randrange(1000)) for _ in range(count))
+
+
+def edit_of(letter, path, files):
+    other = path + b'.old'
+    if letter != ord('D'):
+        files[other] = files[path]
+    if letter != ord('C'):
+        del files[path]
+    return b'D %s\n' % path if letter == ord('D') else b'%c %s %s\n' % (letter, path, other)
+
+
+def changes_of(random, files):
+    """One to five changes: a new file, lines behind an old one, and now and then a removal, a copy or a rename."""
+    text = b''
+    for _ in range(random.randint(1, 5)):
+        kind = random.random()
+        if not files or kind < 0.25:
+            path = b'src/module%d/part%d/file%d.c' % (random.randrange(12), random.randrange(6), random.randrange(1000))
+            files[path] = source_lines(random, random.randint(10, 120))
+        elif kind < 0.94:
+            path = random.choice(list(files))
+            files[path] += source_lines(random, random.randint(1, 8))
+        else:
+            text += edit_of(random.choice(b'DCR'), random.choice(list(files)), files)
+            continue
+        text += b'M 100644 inline %s\n' % path + block(files[path])
+    return text
+
+
+def history(count):
+    """Each twentieth commit merges one of a side branch, and each hundredth is tagged."""
+    random = Random(count)
+    out = sys.stdout.buffer
+    files = {}
+    mark = 0
+    for number in range(1, count + 1):
+        parents = b''
+        if number % 20 == 0:
+            mark += 1
+            side = b'from :%d\n' % (mark - 1)
+            note = b'M 100644 inline notes/side%d.txt\n' % number + block(b'side %d\n' % number)
+            out.write(commit(b'refs/heads/side', mark, number, side, note))
+            parents = b'from :%d\nmerge :%d\n' % (mark - 1, mark)
+        mark += 1
+        out.write(commit(b'refs/heads/main', mark, number, parents, changes_of(random, files)))
+        if number % 100 == 0:
+            out.write(b'tag v%d\nfrom :%d\ntagger T <t@example.com> %d +0000\n' % (number, mark, 1700000000 + number) + block(b'Version %d\n' % number))
+
+
 kind, *sizes = sys.argv[1:]
-{'blob': one_blob, 'blobs': many_blobs, 'commits': commits}[kind](*map(int, sizes))
+{'blob': one_blob, 'blobs': many_blobs, 'commits': commits, 'history': history}[kind](*map(int, sizes))

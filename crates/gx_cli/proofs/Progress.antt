@@ -1,7 +1,5 @@
 -- Printing the names of blobs, so far.
-use Rattle.std.proofs.Common.{◌≡◌, ◌≢◌, ℕ, ◌+◌, ◌-◌, ◌<◌, ◌≤◌, Bool, true, false, cond, if◌then◌else◌, ◌⊎◌, inl, inr, Option, Some, None, option_map, Result, Ok, Err, List, [], ◌∷◌, ◌++◌, length, take, drop, refl, sym, ap, subst, ◌∙◌, arith, rules, append_assoc, append-nil, ◌&&◌}
-use Rattle.std.specs.List.{flat_map}
-use Rattle.std.specs.Str.{bytes_eq}
+use Rattle.std.proofs.Common.{◌≡◌, ◌≢◌, ℕ, ◌+◌, Bool, true, false, if◌then◌else◌, ◌⊎◌, inl, inr, Option, Some, None, Result, Ok, Err, List, [], ◌∷◌, ◌++◌, length, refl, sym, ap, subst, ◌∙◌, arith, append_assoc, append-nil}
 use Rattle.std.proofs.lemmas.Option.{none-some}
 use Rattle.std.proofs.lemmas.List.{length_push}
 use Rattle.std.proofs.lemmas.Grind.{flat_map-append}
@@ -17,13 +15,13 @@ use Rattle.gx_text.specs.Devices.{Taken, Sends}
 use Rattle.gx_stream.specs.declared.item.Item.{Item}
 use Rattle.gx_stream.specs.declared.fault.StreamFault.{StreamFault}
 use Rattle.gx_stream.specs.declared.fault.StreamFault.TheVariants as stream
-use Rattle.gx_stream.specs.Faults.{fault_of, end_seen, ended as only}
+use Rattle.gx_stream.specs.Faults.{fault_of, ended as only}
 use Rattle.gx_stream.specs.Reading.{Reads, item_of}
-use Rattle.gx_cli.specs.Blobs.{BlobRun, Stop, refused, blobs_of, behind, first_body, stops}
+use Rattle.gx_cli.specs.Blobs.{BlobRun, refused, blobs_of, behind, first_body}
 use Rattle.gx_cli.specs.Steps.{Step, stop, go, body, run_of, step_of, stepped, stop_at}
-use Rattle.gx_cli.specs.Printing.{blob_line, printed, blob_record, wrote, stop_of, Clashes, Stops, IsHeldForOther, FailsWithin, Prints, PrintsBlobs, PrintsOne, kind_of}
+use Rattle.gx_cli.specs.Printing.{blob_line, printed, blob_record, wrote, stop_of, Clashes, Prints, PrintsBlobs, PrintsOne, kind_of}
 use Rattle.gx_cli.specs.declared.blob_names.Stage.{Stage}
-use Rattle.gx_cli.specs.declared.blob_names.Stage.TheVariants.{Expected, Started, Marked, Named}
+use Rattle.gx_cli.specs.declared.blob_names.Stage.TheVariants.{Expected}
 use Rattle.gx_cli.specs.declared.blob_names.BlobsKind.{BlobsKind}
 use Rattle.gx_cli.specs.declared.blob_names.BlobsKind.TheVariants as kinds
 use Rattle.gx_cli.specs.declared.blob_names.BlobsFault.{BlobsFault}

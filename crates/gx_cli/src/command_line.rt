@@ -1,19 +1,21 @@
 //! The command line of `gx`, read by `clap`.
 
-ghost use Rattle.std.specs.Prelude.{◌≡◌, IfOk, codes, map, false};
-ghost use Rattle.clap.specs.Words.{found_of, rows_of, app_of, new_app};
+ghost use Rattle.std.specs.Prelude.{◌≡◌, IfOk, Some, codes, map, false};
+ghost use Rattle.clap.specs.Words.{app_of, first_of, found_of, new_app, rows_of, rule_of, with_rule};
 ghost use Rattle.clap.specs.declared.builder.command.Command.TheViews.{out-Command as fields_of};
 ghost use Rattle.gx_cli.specs.CommandLine as say;
 
 use clap::error::ErrorKind;
-use clap::{ArgMatches, Command, Error};
+use clap::{Arg, ArgMatches, Command, Error};
 use std::alloc::{AllocError, Global};
 use thiserror::Error as Fault;
 
 /// A command with its options and words.
 #[derive(Clone, Copy, Debug, PartialEq, Eq)]
-pub enum Line {
+pub enum Line<'a> {
     Blobs,
+    /// A stream is tried: the revision is shown once it was imported.
+    Try(&'a str),
 }
 
 /// Why there is no line: no memory, or the status to end with and the text to print, which are clap's.
@@ -35,7 +37,7 @@ impl From<AllocError> for LineFault {
 /// The line that the words after the program's name give.
 ///
 /// Takes memory in proportion to the words.
-pub fn read_line<'a>(alloc: Global, words: &'a [&'a str]) -> Result<Line, LineFault>
+pub fn read_line<'a>(alloc: Global, words: &'a [&'a str]) -> Result<Line<'a>, LineFault>
     ensures { IfOk result (λ line. say.IsReadFrom (map (λ s. s.now) words.entry.now) line) }
 {
     let matches = match command_line(alloc)?.try_get_matches_from(words) {
@@ -57,7 +59,20 @@ fn command_line<'a>(alloc: Global) -> Result<Command<'a>, AllocError>
         "blobs",
         "Prints the name of each blob of the stream on standard input",
     );
-    with_command(top(alloc), blobs)
+    let gx = with_command(top(alloc), blobs)?;
+    with_command(gx, try_command(alloc)?)
+}
+
+fn try_command<'a>(alloc: Global) -> Result<Command<'a>, AllocError>
+    ensures app { IfOk result (λ c. app_of c ≡ say.try_command) }
+    ensures local { IfOk result (λ c. (fields_of c).has_globals ≡ false) }
+{
+    let command = command(
+        alloc,
+        "try",
+        "Imports the stream on standard input into an empty store, and shows a revision",
+    );
+    with_word(command, one_word(alloc, "rev", "The revision to show"))
 }
 
 fn top<'a>(alloc: Global) -> Command<'a>
@@ -81,6 +96,23 @@ fn command<'a>(alloc: Global, name: &'a str, about: &'a str) -> Command<'a>
     Command::new(alloc, name).about(about)
 }
 
+/// A positional argument that isn't left out.
+fn one_word<'a>(alloc: Global, id: &'a str, help: &'a str) -> Arg<'a>
+    ensures rule { rule_of result ≡ say.one_word id.entry.now }
+    ensures local { result.global ≡ false }
+{
+    Arg::new(alloc, id).required(true).help(help)
+}
+
+fn with_word<'a>(command: Command<'a>, word: Arg<'a>) -> Result<Command<'a>, AllocError>
+    requires word { word.global ≡ false }
+    requires local { (fields_of command).has_globals ≡ false }
+    ensures app { IfOk result (λ c. app_of c ≡ with_rule (app_of command.entry) (rule_of word.entry)) }
+    ensures local { IfOk result (λ c. (fields_of c).has_globals ≡ false) }
+{
+    command.arg(word)
+}
+
 fn with_command<'a>(command: Command<'a>, sub: Command<'a>) -> Result<Command<'a>, AllocError>
     requires sub { (fields_of sub).has_globals ≡ false }
     requires local { (fields_of command).has_globals ≡ false }
@@ -91,12 +123,27 @@ fn with_command<'a>(command: Command<'a>, sub: Command<'a>) -> Result<Command<'a
 }
 
 #[tactic(auto, unfolding(crate::specs::CommandLine::Says))]
-fn line_of<'a>(alloc: Global, name: &'a str, matches: &ArgMatches<'a>) -> Result<Line, LineFault>
+fn line_of<'a>(
+    alloc: Global,
+    name: &'a str,
+    matches: &ArgMatches<'a>,
+) -> Result<Line<'a>, LineFault>
     ensures { IfOk result (λ line. say.Says name.now (rows_of (found_of matches.now)) line) }
 {
     match name {
         "blobs" => Ok(Line::Blobs),
+        "try" => Ok(Line::Try(word_of(alloc, matches, "rev")?)),
         _ => Err(unknown(alloc)),
+    }
+}
+
+/// The word of a positional argument, which clap makes sure of.
+fn word_of<'a>(alloc: Global, matches: &ArgMatches<'a>, id: &str) -> Result<&'a str, LineFault>
+    ensures { IfOk result (λ word. first_of id.now (rows_of (found_of matches.now)) ≡ Some word.now) }
+{
+    match matches.get_str(id) {
+        Some(word) => Ok(word),
+        None => Err(unknown(alloc)),
     }
 }
 

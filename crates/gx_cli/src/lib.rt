@@ -4,10 +4,16 @@
 
 mod blob_names;
 mod command_line;
+mod fault;
+mod listing;
 mod serving;
+mod showing;
 #[cfg(test)]
 mod tests;
+mod trying;
 
 pub use blob_names::{BlobsFault, BlobsKind, blobs};
 pub use command_line::{Line, LineFault, read_line};
-pub use serving::{CliFault, Outcome, serve};
+pub use fault::CliFault;
+pub use serving::{Outcome, serve};
+pub use trying::{import_alone, look_imported, try_revision};

@@ -1,24 +1,16 @@
 //! What a command does with the store's bytes, its input and its output.
 
-ghost use Rattle.std.specs.Prelude.{ℕ, Result};
+ghost use Rattle.std.specs.Prelude.{◌≡◌, ℕ, Result};
 ghost use Rattle.std.specs.Option.{option_map};
 ghost use Rattle.gx_stream.specs.Heard.{items_from};
 ghost use Rattle.gx_cli.specs.declared.blob_names.BlobsFault.{BlobsFault};
 ghost use Rattle.gx_cli.specs.Printing.{PrintsBlobs};
-ghost use Rattle.gx_cli.specs.Serving.{IsOutcome};
+ghost use Rattle.gx_cli.specs.Serving.{IsOutcome, Serves, blobs_answer};
 
-use crate::{BlobsFault, Line, blobs};
+use crate::{CliFault, Line, blobs, try_revision};
 use gx_object::Namer;
 use gx_text::{Sink, Source};
 use std::alloc::Allocator;
-use thiserror::Error;
-
-/// A refusal, which prints as its line on standard error.
-#[derive(Clone, Copy, Debug, PartialEq, Eq, Error)]
-pub enum CliFault {
-    #[error("gx: {0}")]
-    Blobs(BlobsFault),
-}
 
 /// How a command ended: the exit status, 0 or 1; why it was refused; and the next text of the store, where there is one.
 #[derive(Drop)]
@@ -30,23 +22,52 @@ pub struct Outcome<A: Allocator> {
 
 /// Runs a command. What it prints goes to the sink.
 ///
-/// `blobs` reads the source as [`blobs`] does, and has no use for the store's bytes.
+/// `blobs` reads the source as [`blobs`] does, and `try` as [`try_revision`] does: the source is read before the revision.
+/// Both have no use for the store's bytes.
 pub fn serve<N: Namer + Drop, R: Source + Drop, W: Sink, A: Allocator + Copy>(
     alloc: A,
     namer: N,
-    line: &Line,
+    line: &Line<'_>,
     store: &[u8],
     source: R,
     sink: &mut W,
 ) -> Outcome<A>
-    ensures blobs { (answer : Result ℕ BlobsFault)
-        × PrintsBlobs (N.name_of namer) (option_map items_from (R.coming source)) (W.taken sink.old) (W.taken sink.new) answer
-        × IsOutcome answer result }
+    ensures { Serves (N.name_of namer) line.now (R.coming source) (W.taken sink.old) (W.taken sink.new) result }
 {
     let _ = store;
-    let answer = match line {
-        Line::Blobs => blobs(alloc, namer, source, sink),
-    };
+    match *line {
+        Line::Blobs => outcome_of(blobs_alone(alloc, namer, source, sink)),
+        Line::Try(revision) => outcome_of(try_revision(
+            alloc,
+            namer,
+            revision.as_bytes(),
+            source,
+            sink,
+        )),
+    }
+}
+
+/// What `blobs` answers, with its fault among those of the commands.
+fn blobs_alone<N: Namer + Drop, R: Source + Drop, W: Sink, A: Allocator + Copy>(
+    alloc: A,
+    namer: N,
+    source: R,
+    sink: &mut W,
+) -> Result<u64, CliFault>
+    ensures { (answer : Result ℕ BlobsFault)
+        × PrintsBlobs (N.name_of namer) (option_map items_from (R.coming source)) (W.taken sink.old) (W.taken sink.new) answer
+        × (result ≡ blobs_answer answer) }
+{
+    match blobs(alloc, namer, source, sink) {
+        Ok(count) => Ok(count),
+        Err(fault) => Err(CliFault::Blobs(fault)),
+    }
+}
+
+/// How a command ends that makes no store text.
+fn outcome_of<T: Drop, A: Allocator>(answer: Result<T, CliFault>) -> Outcome<A>
+    ensures { IsOutcome answer result }
+{
     match answer {
         Ok(_) => Outcome {
             status: 0,
@@ -55,7 +76,7 @@ pub fn serve<N: Namer + Drop, R: Source + Drop, W: Sink, A: Allocator + Copy>(
         },
         Err(fault) => Outcome {
             status: 1,
-            fault: Some(CliFault::Blobs(fault)),
+            fault: Some(fault),
             store: None,
         },
     }

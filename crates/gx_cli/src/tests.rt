@@ -7,6 +7,8 @@ use gx_text::{Bytes, Held};
 use std::alloc::{AllocError, Allocator};
 use std::test::Fail;
 
+mod trying;
+
 const STREAM: &[u8] =
     b"blob\nmark :1\ndata 13\ntest content\n\nblob\ndata 0\nblob\noriginal-oid x\ndata 16\nwhat is up, doc?";
 
@@ -212,8 +214,11 @@ fn each_refused_growth_is_out_of_memory(rt: HostRuntime) -> Result<(), Fail> {
 
 #[test]
 fn words_give_the_line_or_a_status(rt: HostRuntime) -> Result<(), Fail> {
-    let rows: [(&[&str], Option<u8>); 6] = [
+    let rows: [(&[&str], Option<u8>); 9] = [
         (&["blobs"], None),
+        (&["try"], Some(2)),
+        (&["try", "main", "other"], Some(2)),
+        (&["try", "--help"], Some(0)),
         (&["--help"], Some(0)),
         (&["blobs", "--help"], Some(0)),
         (&[], Some(2)),
@@ -223,6 +228,7 @@ fn words_give_the_line_or_a_status(rt: HostRuntime) -> Result<(), Fail> {
     for (words, want) in rows {
         let status = match read_line(rt.alloc(), words) {
             Ok(Line::Blobs) => None,
+            Ok(Line::Try(_)) => Some(3),
             Err(LineFault::Status { status, text }) => {
                 assert!(rt; !text.is_empty());
                 Some(status)
@@ -230,6 +236,16 @@ fn words_give_the_line_or_a_status(rt: HostRuntime) -> Result<(), Fail> {
             Err(LineFault::OutOfMemory) => Some(1),
         };
         assert_eq!(rt; status, want);
+    }
+    Ok(())
+}
+
+#[test]
+fn revision_of_a_trial_is_a_word(rt: HostRuntime) -> Result<(), Fail> {
+    let words = ["try", "main~2:a b"];
+    match read_line(rt.alloc(), words.as_slice()) {
+        Ok(line) => assert_eq!(rt; line, Line::Try("main~2:a b")),
+        Err(_) => assert!(rt; false, "the words are a line"),
     }
     Ok(())
 }

@@ -5,7 +5,7 @@ use Rattle.gx_model.specs.Texts.{Bytes}
 use Rattle.gx_model.specs.Faults.{Given, ◌>>=◌}
 use Rattle.gx_model.specs.Items.{Item, Line, Data, End, Finished, Failed, Stream}
 use Rattle.gx_model.specs.Commands.{Change, Command, CommitIsh}
-use Rattle.gx_model.specs.Grammar.{Read, Words, at_end, after, words_of, is_word, rest_of, bare, rest_line_in, rest_line, read_some, optional, read_needed, needed, block_in, block, mark_of, any_text, some_text, ident_of, ref_of, tag_of, commit_ish_of, feature_of, mode_of, where_of, suits, Where, AtMark, AtName, AtBlock, bytes_from, part_of, last_path, two_paths, modify_at, change_at, changes_within, changes, merges_within, merges, item_after_in, item_after, unsigned_in, unsigned, blob_at, links_at, commit_at, tag_at, reset_at, if_early, command_at}
+use Rattle.gx_model.specs.Grammar.{Read, Words, at_end, after, words_of, is_word, rest_of, bare, rest_line_in, rest_line, read_some, optional, read_needed, needed, block_in, block, mark_of, any_text, encoding_of, ident_of, ref_of, tag_of, commit_ish_of, feature_of, mode_of, where_of, suits, Where, AtMark, AtName, AtBlock, bytes_from, part_of, last_path, two_paths, modify_at, change_at, changes_within, changes, merges_within, merges, item_after_in, item_after, unsigned_in, unsigned, blob_at, links_at, commit_at, tag_at, reset_at, if_early, command_at}
 
 abbrev pub Leaves : {A : Type 0} → Read A → Stream → Type 0
 Leaves (Ok x) s = length x.1.items ≤ length s.items
@@ -209,7 +209,7 @@ commit_leaves ref s =
     then_leaves (optional (codes "author") ident_of oid.1) _ oid.1 (optional_leaves (codes "author") ident_of oid.1) (λ author.
     then_leaves (needed (codes "committer") ident_of author.1) _ author.1 (needed_leaves (codes "committer") ident_of author.1) (λ committer.
     then_leaves (unsigned committer.1) _ committer.1 (unsigned_leaves committer.1) (λ plain.
-    then_leaves (optional (codes "encoding") some_text plain.1) _ plain.1 (optional_leaves (codes "encoding") some_text plain.1) (λ encoding.
+    then_leaves (optional (codes "encoding") encoding_of plain.1) _ plain.1 (optional_leaves (codes "encoding") encoding_of plain.1) (λ encoding.
     then_leaves (block encoding.1) _ encoding.1 (block_leaves encoding.1) (λ message.
     then_leaves (links_at message.1) _ message.1 (links_leave message.1) (λ links. omega arith))))))))
 

@@ -38,8 +38,8 @@ shown_change change.Clear = model.Clear
 abbrev pub shown_blob : {A : Type 0} → Blob A → model.Command
 shown_blob b = model.Blob (record { mark = b.mark; bytes = b.bytes.items })
 
-abbrev pub shown_commit : {A : Type 0} → Commit A → model.Command
-shown_commit c = model.Commit (record {
+abbrev pub commit_parts : {A : Type 0} → Commit A → model.CommitParts
+commit_parts c = record {
   ref = c.branch.bytes.items;
   mark = c.mark;
   author = option_map (λ i. i.bytes.items) c.author;
@@ -49,16 +49,22 @@ shown_commit c = model.Commit (record {
   parent = option_map shown_commit_ish c.from;
   merges = map shown_commit_ish c.merges.items;
   changes = map shown_change c.changes.items;
-})
+}
 
-abbrev pub shown_tag : {A : Type 0} → Tag A → model.Command
-shown_tag t = model.Tag (record {
+abbrev pub shown_commit : {A : Type 0} → Commit A → model.Command
+shown_commit c = model.Commit (commit_parts c)
+
+abbrev pub tag_parts : {A : Type 0} → Tag A → model.TagParts
+tag_parts t = record {
   name = t.name.bytes.items;
   mark = t.mark;
   target = shown_commit_ish t.from;
   tagger = option_map (λ i. i.bytes.items) t.tagger;
   message = t.message.items;
-})
+}
+
+abbrev pub shown_tag : {A : Type 0} → Tag A → model.Command
+shown_tag t = model.Tag (tag_parts t)
 
 abbrev pub shown_reset : {A : Type 0} → Reset A → model.Command
 shown_reset r = model.Reset (record { ref = r.branch.bytes.items; parent = option_map shown_commit_ish r.from })

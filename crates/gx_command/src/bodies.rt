@@ -5,7 +5,7 @@ ghost use Rattle.std.specs.Option.{option_map};
 ghost use Rattle.gx_model.specs.Faults.{Gives};
 ghost use Rattle.gx_model.specs.Items.{Stream};
 ghost use Rattle.gx_stream.specs.Reading.{item_of};
-ghost use Rattle.gx_model.specs.Grammar.{optional, needed, block, mark_of, any_text, ident_of, some_text, commit_ish_of, unsigned, item_after, bytes_from, merges, changes, blob_at, links_at, commit_at, tag_at, reset_at};
+ghost use Rattle.gx_model.specs.Grammar.{optional, needed, block, mark_of, any_text, ident_of, encoding_of, commit_ish_of, unsigned, item_after, bytes_from, merges, changes, blob_at, links_at, commit_at, tag_at, reset_at};
 ghost use Rattle.gx_command.specs.Ahead.{Reads, Falls, FallsNot, to_come, most};
 ghost use Rattle.gx_command.specs.Bodies.{next_change, shown_links, ChangeIn, TakesChange, signature_in, empty_line};
 ghost use Rattle.gx_command.specs.CommandFaults.{fault_of};
@@ -152,7 +152,7 @@ impl<R: Source, A: Allocator + Copy> Ahead<R, A> {
     }
 
     fn encoding(&mut self) -> Result<Option<Encoding<A>>, CommandFault>
-        ensures reads { Reads (option_map (λ e. e.name.items)) (optional (codes "encoding") some_text) (to_come self.old) (to_come self.new) result }
+        ensures reads { Reads (option_map (λ e. e.name.items)) (optional (codes "encoding") encoding_of) (to_come self.old) (to_come self.new) result }
         ensures falls { FallsNot (most self.old) (most self.new) result }
     {
         let alloc = self.alloc;

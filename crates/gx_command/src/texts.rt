@@ -1,11 +1,13 @@
 //! The texts of commands: names of refs and tags, identities, encodings and the digits of object names.
 
-ghost use Rattle.std.specs.Prelude.{◌≡◌, IsTrue, true, false, ◌==◌, ◌&&◌, nat_eq, length};
+ghost use Rattle.std.specs.Prelude.{◌≡◌, IsTrue, Some, false, ◌==◌, not, nat_eq};
 ghost use Rattle.std.specs.List.{list_all};
 ghost use Rattle.gx_model.specs.Faults.{Gives};
 ghost use Rattle.gx_model.specs.Idents.{is_ident};
+ghost use Rattle.gx_model.specs.Texts.{is_line};
+ghost use Rattle.gx_model.specs.Values.{is_optional_encoding};
 ghost use Rattle.gx_model.specs.RefNames.{is_ref_name, is_tag_name};
-ghost use Rattle.gx_model.specs.Grammar.{ident_of, ref_of, tag_of, some_text, is_null, is_hex_digit, is_name};
+ghost use Rattle.gx_model.specs.Grammar.{ident_of, ref_of, tag_of, encoding_of, is_null, is_hex_digit, is_name};
 ghost use Rattle.gx_command.specs.CommandFaults.{fault_of};
 
 use crate::fault::CommandFault;
@@ -34,11 +36,11 @@ pub struct Identity<A: Allocator> {
     pub ghost proper: { IsTrue (is_ident bytes.items) },
 }
 
-/// The name of a message's encoding, which isn't empty. Source: git-fast-import(1), "encoding".
+/// The name of a message's encoding: a line, and not empty. Source: git-fast-import(1), "encoding".
 #[derive(Drop)]
 pub struct Encoding<A: Allocator> {
     pub name: Vec<u8, A>,
-    pub ghost some: { nat_eq (length name.items) 0 ≡ false },
+    pub ghost proper: { IsTrue (is_optional_encoding (Some name.items)) },
 }
 
 /// The name of an object, in forty hexadecimal digits of either case, not all of them zeros. Source: git-fast-import(1), "filemodify".
@@ -87,14 +89,27 @@ impl<A: Allocator + Copy> Identity<A> {
 
 impl<A: Allocator + Copy> Encoding<A> {
     pub(crate) fn read(alloc: A, text: &[u8]) -> Result<Encoding<A>, CommandFault>
-        ensures { Gives fault_of (λ encoding. encoding.name.items) result (some_text text.now) }
+        ensures { Gives fault_of (λ encoding. encoding.name.items) result (encoding_of text.now) }
     {
-        if text.is_empty() {
+        if !is_encoding(text) {
             return Err(CommandFault::BadLine);
         }
         let name = Vec::from_slice(alloc, text)?;
         Ok(Encoding { name })
     }
+}
+
+/// Whether the text is a line, and not empty.
+fn is_encoding(text: &[u8]) -> bool
+    ensures { result ≡ is_optional_encoding (Some text.now) }
+{
+    !text.is_empty() && is_line(text)
+}
+
+fn is_line(text: &[u8]) -> bool
+    ensures { result ≡ is_line text.now }
+{
+    text.iter().all(|b| *b != b'\n')
 }
 
 /// Whether the text is forty zeros, which name no object.

@@ -1,5 +1,5 @@
 -- The items of an export's commands are read as these commands.
-use Rattle.std.proofs.Common.{◌≡◌, ℕ, zero, suc, ◌<◌, ◌≤◌, ◌^◌, Bool, true, false, Option, Some, None, Ok, List, [], ◌∷◌, ◌++◌, length, map, nat_eq, codes, refl, sym, ap, subst, ◌∙◌, arith, append_assoc}
+use Rattle.std.proofs.Common.{◌≡◌, ℕ, zero, suc, ◌<◌, ◌≤◌, ◌^◌, Bool, true, false, Option, Some, None, Ok, List, [], ◌∷◌, ◌++◌, length, map, codes, refl, sym, ap, subst, ◌∙◌, arith, append_assoc}
 use Rattle.std.specs.Prelude.{is_some}
 use Rattle.std.specs.List.{list_all, flat_map, AllByRecursion}
 use Rattle.std.specs.Fmt.{decimal}
@@ -7,8 +7,6 @@ use Rattle.std.specs.Str.{bytes_eq}
 use Rattle.std.proofs.lemmas.List.{length-append, length-map}
 use Rattle.std.proofs.lemmas.List.Concat.{flat_map-cons}
 use Rattle.std.proofs.lemmas.Grind.{flat_map-append}
-use Rattle.std.proofs.lemmas.Bool.{false≢true}
-use Rattle.std.proofs.lemmas.Bool.Decides.{nat_tests}
 use Rattle.std.proofs.lemmas.Slice.Eq.{bytes_eq-Decides}
 use Rattle.gx_model.specs.declared.objects.Mode.{Mode}
 use Rattle.gx_model.specs.declared.objects.Mode.TheVariants.{File, Exec, Link, Gitlink, Dir}
@@ -21,7 +19,7 @@ use Rattle.gx_model.specs.Paths.{Path, path_text, printed}
 use Rattle.gx_model.specs.Items.{Item, Line, Data, Finished, Stream}
 use Rattle.gx_model.specs.Commands.{CommitIsh, Marked, Named, DataRef, Mark, Object, Inline, Change, Modify, Remove, Copy, Rename, Clear, Command}
 use Rattle.gx_model.specs.Commands as command
-use Rattle.gx_model.specs.Grammar.{words_of, words_by, is_word, rest_line_in, optional, block_in, commit_ish_of, modify_at, change_at, changes_within, merges_within, item_after_in, unsigned_in, blob_at, commit_at, links_at, read_some, ident_of, some_text, ref_of, tag_of, item_after, tag_at, reset_at, command_at, commands_within, commands_of, is_option, is_done, with_first}
+use Rattle.gx_model.specs.Grammar.{words_of, words_by, is_word, rest_line_in, optional, block_in, commit_ish_of, modify_at, change_at, changes_within, merges_within, item_after_in, unsigned_in, blob_at, commit_at, links_at, read_some, ident_of, encoding_of, ref_of, tag_of, item_after, tag_at, reset_at, command_at, commands_within, commands_of, is_option, is_done, with_first}
 use Rattle.gx_model.specs.Values.{is_optional_encoding, is_optional_ident}
 use Rattle.gx_model.specs.Replay.{or_else}
 use Rattle.gx_model.specs.Export.{mode_digits, dataref_text, dataref_block, reset_items, commit_ish_text, change_items, command_items, from_line, optional_line}
@@ -193,9 +191,8 @@ links_read parent ms cs rest h k g =
 ident_read : (x : Bytes) → is_ident x ≡ true → ident_of x ≡ Ok x
 ident_read x h = rw h refl
 
-text_read : (x : Bytes) → is_optional_encoding (Some x) ≡ true → some_text x ≡ Ok x
-text_read [] h = absurd (false≢true h)
-text_read (b ∷ x) h = let e : nat_eq (length (b ∷ x)) 0 ≡ false = grind (arith, nat_tests) in rw e refl
+encoding_read : (x : Bytes) → is_optional_encoding (Some x) ≡ true → encoding_of x ≡ Ok x
+encoding_read x h = rw h refl
 
 blob_read : (n : ℕ) (x : Bytes) (rest : List Item) → IsMark n → blob_at (stream (Line (codes "mark" ++ 32 ∷ 58 ∷ decimal n) ∷ Data x ∷ rest)) ≡ Ok (command.Blob (record { mark = Some n; bytes = x }), stream rest)
 unfolding blob_at rest_line_in block_in cut_at
@@ -213,7 +210,7 @@ unfolding commit_at rest_line_in block_in unsigned_in cut_at
 commit_read ref n author committer None message parent ms cs rest a b c d e f g =
     rw (mark_read n a, ident_read author b, ident_read committer c, links_read parent ms cs rest e f g) refl
 commit_read ref n author committer (Some x) message parent ms cs rest a b c d e f g =
-    rw (mark_read n a, ident_read author b, ident_read committer c, text_read x d, links_read parent ms cs rest e f g) refl
+    rw (mark_read n a, ident_read author b, ident_read committer c, encoding_read x d, links_read parent ms cs rest e f g) refl
 
 tag_read : (name : Bytes) (target : CommitIsh) (tagger : Option Bytes) (message : Bytes) (rest : List Item) → IsMarked target → is_optional_ident tagger ≡ true
     → tag_at name (stream (Line (codes "from" ++ 32 ∷ commit_ish_text target) ∷ (optional_line (codes "tagger") tagger ++ Data message ∷ rest)))

@@ -7,6 +7,7 @@ use Rattle.gx_model.specs.Texts.{Bytes, cut_at}
 use Rattle.gx_model.specs.Numbers.{decimal_of}
 use Rattle.gx_model.specs.RefNames.{is_ref_name, is_tag_name}
 use Rattle.gx_model.specs.Idents.{is_ident}
+use Rattle.gx_model.specs.Values.{is_optional_encoding}
 use Rattle.gx_model.specs.Paths.{Path, is_quoted, path_of, quoted_of}
 use Rattle.gx_model.specs.Faults.{Given, ◌>>=◌, or_fault}
 use Rattle.gx_model.specs.Items.{Item, Line, Data, End, Finished, Failed, Stream}
@@ -127,9 +128,9 @@ mark_of bs = of_mark (mark_text bs)
 abbrev pub any_text : Bytes → Given (Unit {0})
 any_text bs = Ok tt
 
--- a text that is not empty
-abbrev pub some_text : Bytes → Given (Bytes)
-some_text bs = if length bs == 0 then Err faults.BadLine else Ok bs
+-- an encoding
+abbrev pub encoding_of : Bytes → Given (Bytes)
+encoding_of bs = if is_optional_encoding (Some bs) then Ok bs else Err faults.BadLine
 
 -- an identity
 abbrev pub ident_of : Bytes → Given (Bytes)
@@ -343,7 +344,7 @@ commit_at ref s = do
   author ← optional (codes "author") ident_of oid.1
   committer ← needed (codes "committer") ident_of author.1
   plain ← unsigned committer.1
-  encoding ← optional (codes "encoding") some_text plain.1
+  encoding ← optional (codes "encoding") encoding_of plain.1
   message ← block encoding.1
   links ← links_at message.1
   Ok (Commit (record { ref = ref; mark = mark.0; author = author.0; committer = committer.0; encoding = encoding.0; message = message.0; parent = links.0.0; merges = links.0.1.0; changes = links.0.1.1 }), links.1)

@@ -1,5 +1,5 @@
 //! Repositories: a store of objects, and refs that hold some of them.
-ghost use Rattle.std.specs.Prelude.{◌≡◌, [], map, Some, None, IsTrue, IfOk, IfErr, IsOkAnd, OnOk, OnErr};
+ghost use Rattle.std.specs.Prelude.{◌≡◌, [], map, take, Some, None, IsTrue, IfOk, IfErr, IsOkAnd, OnOk, OnErr};
 ghost use Rattle.std.specs.List.{AllByRecursion};
 ghost use Rattle.std.specs.Option.{option_map};
 ghost use Rattle.gx_model.specs.declared.objects.Kind.TheVariants as kinds;
@@ -15,7 +15,7 @@ ghost use Rattle.gx_model.specs.Lookups.{commit_named, first_named};
 ghost use Rattle.gx_model.specs.Records.{name_of};
 ghost use Rattle.gx_model.specs.RefNames.{is_tag_name, tag_ref};
 ghost use Rattle.gx_model.specs.RepositoryLaws.{values_of};
-ghost use Rattle.gx_model.specs.Sound.{HasShortPaths, Holds, IsLinked, IsNamedMap, IsSound};
+ghost use Rattle.gx_model.specs.Sound.{HasShortPaths, Holds, IsLinked, IsNamedMap, IsSound, IsTarget};
 ghost use Rattle.gx_model.specs.Values.{blob_value, is_optional_encoding, tree_value};
 ghost use Rattle.gx_object.specs.Parts.{commit_parts, tag_parts};
 ghost use Rattle.gx_store.specs.Stores.{record_for};
@@ -225,6 +225,17 @@ impl<N: Namer, A: Allocator + Copy> Repo<N, A> {
         parts_change();
         self.refs = self.changed_refs(changes)?;
         Ok(())
+    }
+
+    /// Keeps the first `len` objects alone, and all where there are no more. The refs' objects are among these.
+    ///
+    /// Cost: what is dropped. Takes no memory. Source: gitglossary(7), "object database".
+    pub fn truncate(&mut self, len: usize)
+        requires targets { AllByRecursion (λ ref. IsTarget (take len self.now.1.records) ref.0 ref.1) self.now.1.refs }
+        ensures { self.new ≡ (self.old.0, record { records = take len self.old.1.records; refs = self.old.1.refs }) }
+    {
+        parts_change();
+        self.store.truncate(len);
     }
 
     /// Puts an object whose links are held.

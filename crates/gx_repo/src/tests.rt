@@ -406,6 +406,23 @@ fn names_held_for_other_objects_are_refused(rt: HostRuntime) -> Result<(), Fail>
     Ok(())
 }
 
+#[test]
+fn truncated_repositories_keep_their_first_objects(rt: HostRuntime) -> Result<(), Fail> {
+    let mut repo = Repo::new(rt.alloc(), Sha1Namer);
+    let first = repo.add_blob(b"a").map_err(|_| "growth")?;
+    let second = repo.add_blob(b"b").map_err(|_| "growth")?;
+    repo.truncate(5);
+    assert_eq!(rt; repo.store().len(), 2);
+    repo.truncate(1);
+    assert!(rt; is_held(&repo, Kind::Blob, &first));
+    assert!(rt; !is_held(&repo, Kind::Blob, &second));
+    assert_eq!(rt; repo.add_blob(b"b"), Ok(second));
+    assert_eq!(rt; repo.store().len(), 2);
+    repo.truncate(0);
+    assert_eq!(rt; repo.store().len(), 0);
+    Ok(())
+}
+
 /// What a call answered.
 #[derive(Clone, Copy, PartialEq, Eq, Debug)]
 enum Answer {

@@ -37,6 +37,15 @@ pub(super) const VERSION_1: &[u8] = b"83baae61804e65cc73a7201a7252750c76066a30";
 
 pub(super) const VERSION_2: &[u8] = b"1f7a7a472abf3dd9643fd615f6da379c4acb3e3a";
 
+const REFS: [&[u8]; 6] = [
+    b"refs/heads/main",
+    b"refs/tags/v1",
+    b"refs/heads/link",
+    b"refs/heads/p",
+    b"refs/heads/q",
+    b"refs/heads/y",
+];
+
 pub(super) fn name_of(digits: &[u8]) -> Result<Name, Fail> {
     Ok(Name::read(digits).ok_or("digits")?)
 }
@@ -158,49 +167,87 @@ fn add_tag<N: Namer, A: Allocator + Copy>(repo: &mut Repo<N, A>, commit: Name) -
     repo.add_tag(&parts).ok()
 }
 
-/// Adds two commits with files, a tag of the first, and a commit whose tree has a gitlink.
+/// Adds a commit with one file, `test.txt`.
+fn add_first<N: Namer, A: Allocator + Copy>(
+    alloc: A,
+    repo: &mut Repo<N, A>,
+    tree: &mut PathTree<A>,
+) -> Option<Name>
+    requires { IsNamedMap repo.now.1.records tree.now }
+    ensures { IsNamedMap repo.new.1.records tree.new }
+{
+    if !add_file(alloc, repo, tree, b"test.txt", b"version 1\n") {
+        return None;
+    }
+    add_commit(repo, tree, &[], b"v1")
+}
+
+/// Puts the files of the second commit.
+fn add_later_files<N: Namer, A: Allocator + Copy>(
+    alloc: A,
+    repo: &mut Repo<N, A>,
+    tree: &mut PathTree<A>,
+) -> bool
+    requires { IsNamedMap repo.now.1.records tree.now }
+    ensures { IsNamedMap repo.new.1.records tree.new }
+{
+    add_file(alloc, repo, tree, b"test.txt", b"version 2\n")
+        && add_file(alloc, repo, tree, b"new.txt", b"new file\n")
+        && add_file(alloc, repo, tree, b"bak/test.txt", b"version 1\n")
+}
+
+/// Adds two commits with files, the second after the first.
 fn add_files<N: Namer, A: Allocator + Copy>(
     alloc: A,
     repo: &mut Repo<N, A>,
-) -> Option<(Name, Name, Name)> {
+) -> Option<(Name, Name)> {
     let mut tree = PathTree::empty(alloc);
-    if !add_file(alloc, repo, &mut tree, b"test.txt", b"version 1\n") {
-        return None;
-    }
-    let first = add_commit(repo, &mut tree, &[], b"v1")?;
-    if !add_file(alloc, repo, &mut tree, b"test.txt", b"version 2\n")
-        || !add_file(alloc, repo, &mut tree, b"new.txt", b"new file\n")
-        || !add_file(alloc, repo, &mut tree, b"bak/test.txt", b"version 1\n")
-    {
+    let first = add_first(alloc, repo, &mut tree)?;
+    if !add_later_files(alloc, repo, &mut tree) {
         return None;
     }
     let second = add_commit(repo, &mut tree, &[first], b"v2")?;
+    Some((first, second))
+}
+
+/// Adds a commit whose tree has a gitlink.
+fn add_linked<N: Namer, A: Allocator + Copy>(
+    alloc: A,
+    repo: &mut Repo<N, A>,
+    target: Name,
+) -> Option<Name> {
     let mut links = PathTree::empty(alloc);
-    if !add_link(alloc, repo, &mut links, b"sub", first) {
+    if !add_link(alloc, repo, &mut links, b"sub", target) {
         return None;
     }
-    let link = add_commit(repo, &mut links, &[], b"link")?;
-    Some((first, second, link))
+    add_commit(repo, &mut links, &[], b"link")
+}
+
+/// Publishes the sample's refs with these targets.
+fn publish_all<N: Namer, A: Allocator + Copy>(repo: &mut Repo<N, A>, targets: &[Name; 6]) -> bool {
+    for (name, target) in REFS.iter().zip(targets) {
+        let change = RefChange {
+            name,
+            target: *target,
+        };
+        if repo.publish(&[change]).is_err() {
+            return false;
+        }
+    }
+    true
 }
 
 /// Fills an empty repository: `main` with two commits, `v1` at the first, `link` with a gitlink, and `y`, which has `p`
 /// and `q` for parents.
 pub(super) fn fill<N: Namer, A: Allocator + Copy>(alloc: A, repo: &mut Repo<N, A>) -> Option<()> {
-    let (first, second, link) = add_files(alloc, repo)?;
+    let (first, second) = add_files(alloc, repo)?;
+    let link = add_linked(alloc, repo, first)?;
     let tag = add_tag(repo, first)?;
     let p = add_empty(alloc, repo, &[], b"p")?;
     let q = add_empty(alloc, repo, &[], b"q")?;
     let y = add_empty(alloc, repo, &[p, q], b"y")?;
-    let refs: [(&[u8], Name); 6] = [
-        (b"refs/heads/main", second),
-        (b"refs/tags/v1", tag),
-        (b"refs/heads/link", link),
-        (b"refs/heads/p", p),
-        (b"refs/heads/q", q),
-        (b"refs/heads/y", y),
-    ];
-    for (name, target) in refs {
-        repo.publish(&[RefChange { name, target }]).ok()?;
+    if !publish_all(repo, &[second, tag, link, p, q, y]) {
+        return None;
     }
     Some(())
 }

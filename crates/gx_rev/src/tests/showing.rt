@@ -18,53 +18,54 @@ fn shown<N: Namer, A: Allocator + Copy>(
     Revision::read(alloc, text)?.eval(repo)
 }
 
+const OBJECTS: &[(&[u8], Kind, &[u8])] = &[
+    (b"main", Kind::Commit, SECOND),
+    (b"heads/main", Kind::Commit, SECOND),
+    (b"refs/heads/main", Kind::Commit, SECOND),
+    (b"main^0", Kind::Commit, SECOND),
+    (b"main~0", Kind::Commit, SECOND),
+    (b"main^{commit}", Kind::Commit, SECOND),
+    (b"main^", Kind::Commit, FIRST),
+    (b"main~", Kind::Commit, FIRST),
+    (b"main~1^0", Kind::Commit, FIRST),
+    (b"main^{tree}", Kind::Tree, SECOND_TREE),
+    (b"main:", Kind::Tree, SECOND_TREE),
+    (b"main^{tree}:", Kind::Tree, SECOND_TREE),
+    (b"main^^{tree}", Kind::Tree, FIRST_TREE),
+    (b"main:bak", Kind::Tree, FIRST_TREE),
+    (b"main:test.txt", Kind::Blob, VERSION_2),
+    (b"main:bak/test.txt", Kind::Blob, VERSION_1),
+    (b"main^:test.txt", Kind::Blob, VERSION_1),
+    (b"v1", Kind::Tag, TAG),
+    (b"tags/v1", Kind::Tag, TAG),
+    (b"v1^{object}", Kind::Tag, TAG),
+    (b"v1^{tag}", Kind::Tag, TAG),
+    (b"v1^{}", Kind::Commit, FIRST),
+    (b"v1^0", Kind::Commit, FIRST),
+    (b"v1^{tree}", Kind::Tree, FIRST_TREE),
+    (b"v1:test.txt", Kind::Blob, VERSION_1),
+    (b"y^1", Kind::Commit, P),
+    (b"y^2", Kind::Commit, Q),
+    (b"y^{tree}", Kind::Tree, EMPTY_TREE),
+    (b"83ba", Kind::Blob, VERSION_1),
+    (b"83BAAE61804E", Kind::Blob, VERSION_1),
+    (b"83ba^{blob}", Kind::Blob, VERSION_1),
+    (VERSION_1, Kind::Blob, VERSION_1),
+    (
+        b"E722C6D220A7B594608F7EE04541A6D2AFCA6F16^",
+        Kind::Commit,
+        FIRST,
+    ),
+    (b"3c4e9cd7:bak", Kind::Tree, FIRST_TREE),
+    (b"link", Kind::Commit, LINK),
+];
+
 #[test]
 fn revisions_show_objects(rt: HostRuntime) -> Result<(), Fail> {
     let mut repo = Repo::new(rt.alloc(), Sha1Namer);
     fill(rt.alloc(), &mut repo).ok_or("sample")?;
-    let rows: [(&[u8], Kind, &[u8]); 35] = [
-        (b"main", Kind::Commit, SECOND),
-        (b"heads/main", Kind::Commit, SECOND),
-        (b"refs/heads/main", Kind::Commit, SECOND),
-        (b"main^0", Kind::Commit, SECOND),
-        (b"main~0", Kind::Commit, SECOND),
-        (b"main^{commit}", Kind::Commit, SECOND),
-        (b"main^", Kind::Commit, FIRST),
-        (b"main~", Kind::Commit, FIRST),
-        (b"main~1^0", Kind::Commit, FIRST),
-        (b"main^{tree}", Kind::Tree, SECOND_TREE),
-        (b"main:", Kind::Tree, SECOND_TREE),
-        (b"main^{tree}:", Kind::Tree, SECOND_TREE),
-        (b"main^^{tree}", Kind::Tree, FIRST_TREE),
-        (b"main:bak", Kind::Tree, FIRST_TREE),
-        (b"main:test.txt", Kind::Blob, VERSION_2),
-        (b"main:bak/test.txt", Kind::Blob, VERSION_1),
-        (b"main^:test.txt", Kind::Blob, VERSION_1),
-        (b"v1", Kind::Tag, TAG),
-        (b"tags/v1", Kind::Tag, TAG),
-        (b"v1^{object}", Kind::Tag, TAG),
-        (b"v1^{tag}", Kind::Tag, TAG),
-        (b"v1^{}", Kind::Commit, FIRST),
-        (b"v1^0", Kind::Commit, FIRST),
-        (b"v1^{tree}", Kind::Tree, FIRST_TREE),
-        (b"v1:test.txt", Kind::Blob, VERSION_1),
-        (b"y^1", Kind::Commit, P),
-        (b"y^2", Kind::Commit, Q),
-        (b"y^{tree}", Kind::Tree, EMPTY_TREE),
-        (b"83ba", Kind::Blob, VERSION_1),
-        (b"83BAAE61804E", Kind::Blob, VERSION_1),
-        (b"83ba^{blob}", Kind::Blob, VERSION_1),
-        (VERSION_1, Kind::Blob, VERSION_1),
-        (
-            b"E722C6D220A7B594608F7EE04541A6D2AFCA6F16^",
-            Kind::Commit,
-            FIRST,
-        ),
-        (b"3c4e9cd7:bak", Kind::Tree, FIRST_TREE),
-        (b"link", Kind::Commit, LINK),
-    ];
-    for (text, kind, digits) in rows {
-        let expected = Shown::Object(kind, name_of(digits)?);
+    for (text, kind, digits) in OBJECTS {
+        let expected = Shown::Object(*kind, name_of(digits)?);
         assert_eq!(rt; shown(rt.alloc(), &repo, text), Ok(expected));
     }
     let sub = Shown::Submodule(name_of(FIRST)?);
@@ -73,44 +74,58 @@ fn revisions_show_objects(rt: HostRuntime) -> Result<(), Fail> {
     Ok(())
 }
 
+const REFUSED: &[(&[u8], RevFault)] = &[
+    (b"@", RevFault::UnknownRef),
+    (b"nosuch", RevFault::UnknownRef),
+    (b"83b", RevFault::UnknownRef),
+    (b"ffff", RevFault::UnknownRef),
+    (
+        b"ffffffffffffffffffffffffffffffffffffffff",
+        RevFault::UnknownObject,
+    ),
+    (
+        b"fffffffffffffffffffffffffffffffffffffffff",
+        RevFault::UnknownRef,
+    ),
+    (b"main~2", RevFault::NoParent),
+    (b"main^2", RevFault::NoParent),
+    (b"main~18446744073709551615", RevFault::NoParent),
+    (b"y^3", RevFault::NoParent),
+    (b"83ba^", RevFault::WrongKind),
+    (b"83ba~0", RevFault::WrongKind),
+    (b"83ba:a", RevFault::WrongKind),
+    (b"v1^{blob}", RevFault::WrongKind),
+    (b"main^{tag}", RevFault::WrongKind),
+    (b"main^{tree}^{commit}", RevFault::WrongKind),
+    (b"main^{tree}^0", RevFault::WrongKind),
+    (b"main:none", RevFault::NoSuchPath),
+    (b"main:test.txt/x", RevFault::NoSuchPath),
+    (b"main:bak/none", RevFault::NoSuchPath),
+    (b"link:sub/x", RevFault::NoSuchPath),
+    (b"y:a", RevFault::NoSuchPath),
+];
+
 #[test]
 fn refused_revisions_show_nothing(rt: HostRuntime) -> Result<(), Fail> {
     let mut repo = Repo::new(rt.alloc(), Sha1Namer);
     fill(rt.alloc(), &mut repo).ok_or("sample")?;
-    let rows: [(&[u8], RevFault); 22] = [
-        (b"@", RevFault::UnknownRef),
-        (b"nosuch", RevFault::UnknownRef),
-        (b"83b", RevFault::UnknownRef),
-        (b"ffff", RevFault::UnknownRef),
-        (
-            b"ffffffffffffffffffffffffffffffffffffffff",
-            RevFault::UnknownObject,
-        ),
-        (
-            b"fffffffffffffffffffffffffffffffffffffffff",
-            RevFault::UnknownRef,
-        ),
-        (b"main~2", RevFault::NoParent),
-        (b"main^2", RevFault::NoParent),
-        (b"main~18446744073709551615", RevFault::NoParent),
-        (b"y^3", RevFault::NoParent),
-        (b"83ba^", RevFault::WrongKind),
-        (b"83ba~0", RevFault::WrongKind),
-        (b"83ba:a", RevFault::WrongKind),
-        (b"v1^{blob}", RevFault::WrongKind),
-        (b"main^{tag}", RevFault::WrongKind),
-        (b"main^{tree}^{commit}", RevFault::WrongKind),
-        (b"main^{tree}^0", RevFault::WrongKind),
-        (b"main:none", RevFault::NoSuchPath),
-        (b"main:test.txt/x", RevFault::NoSuchPath),
-        (b"main:bak/none", RevFault::NoSuchPath),
-        (b"link:sub/x", RevFault::NoSuchPath),
-        (b"y:a", RevFault::NoSuchPath),
-    ];
-    for (text, fault) in rows {
-        assert_eq!(rt; shown(rt.alloc(), &repo, text), Err(fault));
+    for (text, fault) in REFUSED {
+        assert_eq!(rt; shown(rt.alloc(), &repo, text), Err(*fault));
     }
     Ok(())
+}
+
+/// Publishes two refs, one of them named by digits.
+fn publish_both<N: Namer, A: Allocator + Copy>(repo: &mut Repo<N, A>, target: Name) -> bool {
+    let digits = RefChange {
+        name: b"1111",
+        target,
+    };
+    let head = RefChange {
+        name: b"HEAD",
+        target,
+    };
+    repo.publish(&[digits]).is_ok() && repo.publish(&[head]).is_ok()
 }
 
 #[test]
@@ -120,18 +135,13 @@ fn abbreviations_are_of_one_object_and_refs_come_first(rt: HostRuntime) -> Resul
     assert_eq!(rt; shown(rt.alloc(), &repo, b"1111"), Err(RevFault::Ambiguous));
     let digits = first.hex();
     let expected = Ok(Shown::Object(Kind::Commit, first));
-    assert_eq!(rt; shown(rt.alloc(), &repo, &digits), expected);
-    let (_last, abbreviation) = digits.split_last().ok_or("digits")?;
-    assert_eq!(rt; shown(rt.alloc(), &repo, abbreviation), expected);
-    for name in [b"1111".as_slice(), b"HEAD"] {
-        let change = RefChange {
-            name,
-            target: first,
-        };
-        assert!(rt; repo.publish(&[change]).is_ok());
+    for text in [digits.as_slice(), &digits[..39]] {
+        assert_eq!(rt; shown(rt.alloc(), &repo, text), expected);
     }
-    assert_eq!(rt; shown(rt.alloc(), &repo, b"1111"), expected);
-    assert_eq!(rt; shown(rt.alloc(), &repo, b"@"), expected);
+    assert!(rt; publish_both(&mut repo, first));
+    for text in [b"1111".as_slice(), b"@"] {
+        assert_eq!(rt; shown(rt.alloc(), &repo, text), expected);
+    }
     Ok(())
 }
 
@@ -186,51 +196,67 @@ fn looks<N: Namer, A: Allocator + Copy>(
     Ok((mode, body.as_slice() == bytes))
 }
 
+const FILE: Result<(Mode, bool), RevFault> = Ok((Mode::File, true));
+
+const LOOKS: &[(&[u8], &[u8], &[u8], Result<(Mode, bool), RevFault>)] = &[
+    (b"main", b"test.txt", b"version 2\n", FILE),
+    (b"main", b"bak/test.txt", b"version 1\n", FILE),
+    (b"main:bak", b"test.txt", b"version 1\n", FILE),
+    (b"v1", b"test.txt", b"version 1\n", FILE),
+    (b"link", b"sub", FIRST, Ok((Mode::Gitlink, true))),
+    (b"main", b"", b"", Err(RevFault::WrongKind)),
+    (b"main", b"bak", b"", Err(RevFault::WrongKind)),
+    (b"main", b"none", b"", Err(RevFault::NoSuchPath)),
+    (b"main", b"test.txt/x", b"", Err(RevFault::NoSuchPath)),
+    (b"main:test.txt", b"x", b"", Err(RevFault::WrongKind)),
+    (b"link:sub", b"x", b"", Err(RevFault::WrongKind)),
+    (b"nosuch", b"x", b"", Err(RevFault::UnknownRef)),
+    (b"main:none", b"x", b"", Err(RevFault::NoSuchPath)),
+];
+
 #[test]
 fn files_are_looked_up(rt: HostRuntime) -> Result<(), Fail> {
     let mut repo = Repo::new(rt.alloc(), Sha1Namer);
     fill(rt.alloc(), &mut repo).ok_or("sample")?;
-    let file = Ok((Mode::File, true));
-    let rows: [(&[u8], &[u8], &[u8], Result<(Mode, bool), RevFault>); 13] = [
-        (b"main", b"test.txt", b"version 2\n", file),
-        (b"main", b"bak/test.txt", b"version 1\n", file),
-        (b"main:bak", b"test.txt", b"version 1\n", file),
-        (b"v1", b"test.txt", b"version 1\n", file),
-        (b"link", b"sub", FIRST, Ok((Mode::Gitlink, true))),
-        (b"main", b"", b"", Err(RevFault::WrongKind)),
-        (b"main", b"bak", b"", Err(RevFault::WrongKind)),
-        (b"main", b"none", b"", Err(RevFault::NoSuchPath)),
-        (b"main", b"test.txt/x", b"", Err(RevFault::NoSuchPath)),
-        (b"main:test.txt", b"x", b"", Err(RevFault::WrongKind)),
-        (b"link:sub", b"x", b"", Err(RevFault::WrongKind)),
-        (b"nosuch", b"x", b"", Err(RevFault::UnknownRef)),
-        (b"main:none", b"x", b"", Err(RevFault::NoSuchPath)),
-    ];
-    for (text, path, bytes, answer) in rows {
-        assert_eq!(rt; looks(rt.alloc(), &repo, text, path, bytes), answer);
+    for (text, path, bytes, answer) in LOOKS {
+        assert_eq!(rt; looks(rt.alloc(), &repo, text, path, bytes), *answer);
     }
     Ok(())
 }
+
+/// The tree of a commit, how many parents it has, and whether its message is `v1`.
+fn commit_of<N: Namer, A: Allocator + Copy>(
+    alloc: A,
+    repo: &Repo<N, A>,
+    text: &[u8],
+) -> Result<(Name, usize, bool), RevFault> {
+    let revision = Revision::read(alloc, text)?;
+    let view = commit(repo, &revision)?;
+    Ok((
+        view.tree(),
+        view.parent_count(),
+        view.message() == b"v1".as_slice(),
+    ))
+}
+
+const NO_COMMITS: &[(&[u8], RevFault)] = &[
+    (b"main:test.txt", RevFault::WrongKind),
+    (b"main^{tree}", RevFault::WrongKind),
+    (b"link:sub", RevFault::WrongKind),
+    (b"main~2", RevFault::NoParent),
+];
 
 #[test]
 fn commits_are_shown_after_peeling(rt: HostRuntime) -> Result<(), Fail> {
     let mut repo = Repo::new(rt.alloc(), Sha1Namer);
     fill(rt.alloc(), &mut repo).ok_or("sample")?;
+    let tree = name_of(FIRST_TREE)?;
     for text in [b"v1".as_slice(), b"main^", b"v1^{}"] {
-        let revision = Revision::read(rt.alloc(), text)?;
-        let view = commit(&repo, &revision)?;
-        assert_eq!(rt; view.tree(), name_of(FIRST_TREE)?);
-        assert_eq!(rt; view.parent_count(), 0);
-        assert_eq!(rt; view.message(), b"v1".as_slice());
+        let view = commit_of(rt.alloc(), &repo, text);
+        assert_eq!(rt; view, Ok((tree, 0, true)));
     }
-    for (text, fault) in [
-        (b"main:test.txt".as_slice(), RevFault::WrongKind),
-        (b"main^{tree}", RevFault::WrongKind),
-        (b"link:sub", RevFault::WrongKind),
-        (b"main~2", RevFault::NoParent),
-    ] {
-        let revision = Revision::read(rt.alloc(), text)?;
-        assert_eq!(rt; commit(&repo, &revision).err(), Some(fault));
+    for (text, fault) in NO_COMMITS {
+        assert_eq!(rt; commit_of(rt.alloc(), &repo, text), Err(*fault));
     }
     Ok(())
 }

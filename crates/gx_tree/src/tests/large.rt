@@ -1,3 +1,4 @@
+use super::written::{HELLO, NEW_FILE, VERSION_1, VERSION_2};
 use super::*;
 
 #[derive(Drop)]
@@ -26,6 +27,30 @@ fn rest_below<'a>(path: &'a [u8], front: &[u8]) -> Option<&'a [u8]> {
     rest.strip_prefix(b"/")
 }
 
+/// The two paths with a slash between them, where neither is the root.
+fn joined<A: Allocator + Copy>(
+    alloc: A,
+    front: &[u8],
+    rest: &[u8],
+) -> Result<Vec<u8, A>, AllocError> {
+    let mut path = Vec::from_slice(alloc, front)?;
+    if !front.is_empty() && !rest.is_empty() {
+        path.push(b'/')?;
+    }
+    path.extend_from_slice(rest)?;
+    Ok(path)
+}
+
+/// Whether a listed file is this one.
+fn is_same<A: Allocator + Copy>(
+    file: &PlainFile<A>,
+    path: &TreePath<A>,
+    mode: Mode,
+    name: Name,
+) -> bool {
+    file.path.as_slice() == path.joined() && file.mode == mode && file.name == name
+}
+
 impl<A: Allocator + Copy> Plain<A> {
     fn place_of(&self, path: &[u8]) -> usize {
         for (place, file) in self.files.iter().enumerate() {
@@ -38,15 +63,12 @@ impl<A: Allocator + Copy> Plain<A> {
 
     /// A file at `front`, joined with `rest`.
     fn add(&mut self, front: &[u8], rest: &[u8], mode: Mode, name: Name) -> Result<(), AllocError> {
-        let mut path = Vec::from_slice(self.alloc, front)?;
-        if !front.is_empty() && !rest.is_empty() {
-            path.push(b'/')?;
-        }
-        path.extend_from_slice(rest)?;
+        let path = joined(self.alloc, front, rest)?;
         let place = self.place_of(path.as_slice());
-        if place <= self.files.len() {
-            self.files.insert(place, PlainFile { path, mode, name })?;
+        if place > self.files.len() {
+            return Ok(());
         }
+        self.files.insert(place, PlainFile { path, mode, name })?;
         Ok(())
     }
 
@@ -102,18 +124,20 @@ impl<A: Allocator + Copy> Plain<A> {
     }
 
     /// Whether the tree lists these very files.
-    fn is_list_of(&self, tree: &PathTree<A>) -> Result<bool, TreeFault> {
-        let listed = tree.list()?;
-        if listed.len() != self.files.len() {
-            return Ok(false);
-        }
-        for (file, (path, mode, name)) in self.files.iter().zip(listed.iter()) {
-            let is_same = file.path.as_slice() == path.joined();
-            if !is_same || file.mode != *mode || file.name != *name {
-                return Ok(false);
+    fn is_list_of(&self, tree: &PathTree<A>) -> bool {
+        let Ok(listed) = tree.list() else {
+            return false;
+        };
+        self.are(listed.as_slice())
+    }
+
+    fn are(&self, listed: &[(TreePath<A>, Mode, Name)]) -> bool {
+        for (file, (path, mode, name)) in self.files.iter().zip(listed) {
+            if !is_same(file, path, *mode, *name) {
+                return false;
             }
         }
-        Ok(true)
+        listed.len() == self.files.len()
     }
 }
 
@@ -125,37 +149,139 @@ enum Step {
     Rename,
 }
 
-/// The same step on both.
-fn do_both<A: Allocator + Copy>(
-    tree: &mut PathTree<A>,
+fn step_plainly<A: Allocator + Copy>(
     plain: &mut Plain<A>,
     step: Step,
     first: &[u8],
     second: &[u8],
     name: Name,
-) -> Result<(), Fail> {
-    let path = TreePath::read(plain.alloc, first)?;
-    let destination = TreePath::read(plain.alloc, second)?;
+) -> Result<(), AllocError> {
     match step {
-        Step::Modify(Mode::Dir) => return Err(Fail::from("no file")),
-        Step::Modify(mode) => {
-            tree.modify(&path, mode, name)?;
-            plain.modify(first, mode, name)?;
-        }
+        Step::Modify(mode) => plain.modify(first, mode, name),
         Step::Remove => {
-            tree.remove(&path)?;
             plain.remove(first);
+            Ok(())
         }
-        Step::Copy => {
-            tree.copy(&path, &destination)?;
-            plain.copy(first, second)?;
-        }
-        Step::Rename => {
-            tree.rename(&path, &destination)?;
-            plain.rename(first, second)?;
+        Step::Copy => plain.copy(first, second),
+        Step::Rename => plain.rename(first, second),
+    }
+}
+
+fn step_in_tree<A: Allocator + Copy>(
+    alloc: A,
+    tree: &mut PathTree<A>,
+    step: Step,
+    first: &[u8],
+    second: &[u8],
+    name: Name,
+) -> bool {
+    match step {
+        Step::Modify(mode) => put(alloc, tree, first, mode, name),
+        Step::Remove => removes(alloc, tree, first),
+        Step::Copy => edited(alloc, tree, Edit::Copy, first, second) == Some(Ok(())),
+        Step::Rename => edited(alloc, tree, Edit::Rename, first, second) == Some(Ok(())),
+    }
+}
+
+/// The same files twice.
+#[derive(Drop)]
+struct Both<A: Allocator> {
+    tree: PathTree<A>,
+    plain: Plain<A>,
+    store: Store<Sha1Namer, A>,
+}
+
+impl<A: Allocator + Copy> Both<A> {
+    fn new(alloc: A) -> Both<A> {
+        Both {
+            tree: PathTree::empty(alloc),
+            plain: Plain {
+                files: Vec::new(alloc),
+                alloc,
+            },
+            store: Store::new(alloc, Sha1Namer),
         }
     }
-    Ok(())
+
+    /// The same step on both, and whether it was done.
+    fn step(&mut self, step: Step, first: &[u8], second: &[u8], name: Name) -> bool {
+        let is_plain = step_plainly(&mut self.plain, step, first, second, name).is_ok();
+        is_plain && step_in_tree(self.plain.alloc, &mut self.tree, step, first, second, name)
+    }
+
+    fn are_alike(&self) -> bool {
+        self.plain.is_list_of(&self.tree)
+    }
+
+    /// 40 files in a directory, put in no order.
+    fn fill(&mut self, names: &[Name; 4]) -> bool {
+        for i in 0..40u32 {
+            let k = i * 7 % 40;
+            let modify = Step::Modify(MODES[(k % 3) as usize]);
+            if !self.step(modify, &numbered(0, k), b"", names[(k % 4) as usize]) {
+                return false;
+            }
+        }
+        true
+    }
+
+    /// Copies of the directory, put in no order.
+    fn spread(&mut self, name: Name) -> bool {
+        for i in 1..50u32 {
+            let path = numbered(i * 7 % 50, 0);
+            if !self.step(Step::Copy, b"d00", &path[..3], name) {
+                return false;
+            }
+        }
+        true
+    }
+
+    /// Another file in each directory.
+    fn vary(&mut self, names: &[Name; 4]) -> bool {
+        let modify = Step::Modify(Mode::Exec);
+        for i in 0..50u32 {
+            let path = numbered(i, i * 3 % 40);
+            if !self.step(modify, &path, b"", names[(i % 4) as usize]) {
+                return false;
+            }
+        }
+        true
+    }
+
+    /// 50 directories with 40 files each.
+    fn fill_all(&mut self) -> bool {
+        let Some(names) = names() else {
+            return false;
+        };
+        self.fill(&names) && self.spread(names[0]) && self.vary(&names)
+    }
+
+    /// The first of the steps after which the files are not the same.
+    fn first_unlike(&mut self) -> Option<Step> {
+        let name = Name::read(VERSION_2)?;
+        for (step, source, destination) in STEPS {
+            if !self.step(*step, source, destination, name) || !self.are_alike() {
+                return Some(*step);
+            }
+        }
+        None
+    }
+
+    /// Writes the tree, and answers the digits of its name, and whether the tree that is loaded by it has these files.
+    fn write(&mut self) -> Option<([u8; 40], bool)> {
+        let name = self.tree.write(&mut self.store).ok()?;
+        let loaded = PathTree::load(self.plain.alloc, &self.store, &name).ok()?;
+        Some((name.hex(), self.plain.is_list_of(&loaded)))
+    }
+
+    /// How many files there are, and the same, where both are alike.
+    fn written(&mut self) -> Option<(usize, [u8; 40], bool)> {
+        if !self.are_alike() {
+            return None;
+        }
+        let (digits, is_loaded) = self.write()?;
+        Some((self.plain.files.len(), digits, is_loaded))
+    }
 }
 
 /// The path of a directory, or of a file in it: `d07` or `d07/f13`.
@@ -168,88 +294,51 @@ fn numbered(directory: u32, file: u32) -> [u8; 7] {
     path
 }
 
-const NAMES: [&[u8]; 4] = [HELLO, VERSION_1, VERSION_2, NEW_FILE];
-
 const MODES: [Mode; 3] = [Mode::File, Mode::Exec, Mode::Link];
 
-/// 40 files in a directory, put in no order.
-fn fill<A: Allocator + Copy>(tree: &mut PathTree<A>, plain: &mut Plain<A>) -> Result<(), Fail> {
-    for i in 0..40u32 {
-        let k = i * 7 % 40;
-        let name = Name::read(NAMES[(k % 4) as usize]).ok_or("digits")?;
-        let modify = Step::Modify(MODES[(k % 3) as usize]);
-        do_both(tree, plain, modify, &numbered(0, k), b"", name)?;
-    }
-    Ok(())
+fn names() -> Option<[Name; 4]> {
+    Some([
+        Name::read(HELLO)?,
+        Name::read(VERSION_1)?,
+        Name::read(VERSION_2)?,
+        Name::read(NEW_FILE)?,
+    ])
 }
 
-/// Copies of the directory, put in no order.
-fn spread<A: Allocator + Copy>(tree: &mut PathTree<A>, plain: &mut Plain<A>) -> Result<(), Fail> {
-    let name = Name::read(HELLO).ok_or("digits")?;
-    for i in 1..50u32 {
-        let path = numbered(i * 7 % 50, 0);
-        do_both(tree, plain, Step::Copy, b"d00", &path[..3], name)?;
-    }
-    Ok(())
-}
+const STEPS: &[(Step, &[u8], &[u8])] = &[
+    (Step::Modify(Mode::Gitlink), b"d03", b""),
+    (Step::Modify(Mode::File), b"d07.c", b""),
+    (Step::Modify(Mode::File), b"d07-a", b""),
+    (Step::Modify(Mode::Exec), b"d070", b""),
+    (Step::Remove, b"d05", b""),
+    (Step::Remove, b"d06/f01", b""),
+    (Step::Remove, b"absent/x", b""),
+    (Step::Remove, b"d04/f00/x", b""),
+    (Step::Copy, b"d08", b"d09/sub"),
+    (Step::Copy, b"d10", b"d11"),
+    (Step::Copy, b"d12", b"d12/inner"),
+    (Step::Rename, b"d13", b"d14/deep/er"),
+    (Step::Rename, b"d15/f03", b"d16"),
+    (Step::Rename, b"d17/f01", b"d17"),
+    (Step::Modify(Mode::Link), b"d18/f02/x", b""),
+    (Step::Rename, b"d19", b"d19/again"),
+    (Step::Copy, b"", b"all"),
+    (Step::Rename, b"all/d20", b"all/d21"),
+    (Step::Remove, b"all/d22", b""),
+    (Step::Copy, b"d23/f00", b"d24/f00"),
+    (Step::Rename, b"d25", b"d25"),
+];
 
-/// Another file in each directory.
-fn vary<A: Allocator + Copy>(tree: &mut PathTree<A>, plain: &mut Plain<A>) -> Result<(), Fail> {
-    let modify = Step::Modify(Mode::Exec);
-    for i in 0..50u32 {
-        let name = Name::read(NAMES[(i % 4) as usize]).ok_or("digits")?;
-        do_both(tree, plain, modify, &numbered(i, i * 3 % 40), b"", name)?;
-    }
-    Ok(())
-}
+const FILLED: [u8; 40] = *b"ee8b8301830e939aa592b99825253aef6910c1ac";
+
+const EDITED: [u8; 40] = *b"208624144a2dc19234269d5b31848457af6c4f25";
 
 #[test]
-fn many_files_are_edited_as_a_plain_list_is(rt: HostRuntime) -> Result<(), Fail> {
-    let name = Name::read(VERSION_2).ok_or("digits")?;
-    let mut tree = PathTree::empty(rt.alloc());
-    let mut plain = Plain {
-        files: Vec::new(rt.alloc()),
-        alloc: rt.alloc(),
-    };
-    fill(&mut tree, &mut plain)?;
-    spread(&mut tree, &mut plain)?;
-    vary(&mut tree, &mut plain)?;
-    assert_eq!(rt; plain.files.len(), 2000);
-    assert!(rt; plain.is_list_of(&tree)?);
-    let mut store = Store::new(rt.alloc(), Sha1Namer);
-    let first = tree.write(&mut store)?;
-    assert_eq!(rt; first.hex(), *b"ee8b8301830e939aa592b99825253aef6910c1ac");
-    let rows: [(Step, &[u8], &[u8]); 21] = [
-        (Step::Modify(Mode::Gitlink), b"d03", b""),
-        (Step::Modify(Mode::File), b"d07.c", b""),
-        (Step::Modify(Mode::File), b"d07-a", b""),
-        (Step::Modify(Mode::Exec), b"d070", b""),
-        (Step::Remove, b"d05", b""),
-        (Step::Remove, b"d06/f01", b""),
-        (Step::Remove, b"absent/x", b""),
-        (Step::Remove, b"d04/f00/x", b""),
-        (Step::Copy, b"d08", b"d09/sub"),
-        (Step::Copy, b"d10", b"d11"),
-        (Step::Copy, b"d12", b"d12/inner"),
-        (Step::Rename, b"d13", b"d14/deep/er"),
-        (Step::Rename, b"d15/f03", b"d16"),
-        (Step::Rename, b"d17/f01", b"d17"),
-        (Step::Modify(Mode::Link), b"d18/f02/x", b""),
-        (Step::Rename, b"d19", b"d19/again"),
-        (Step::Copy, b"", b"all"),
-        (Step::Rename, b"all/d20", b"all/d21"),
-        (Step::Remove, b"all/d22", b""),
-        (Step::Copy, b"d23/f00", b"d24/f00"),
-        (Step::Rename, b"d25", b"d25"),
-    ];
-    for (kind, first, second) in rows {
-        do_both(&mut tree, &mut plain, kind, first, second, name)?;
-        assert!(rt; plain.is_list_of(&tree)?, "after {kind:?}");
-    }
-    assert_eq!(rt; plain.files.len(), 3768);
-    let last = tree.write(&mut store)?;
-    assert_eq!(rt; last.hex(), *b"208624144a2dc19234269d5b31848457af6c4f25");
-    let loaded = PathTree::load(rt.alloc(), &store, &last)?;
-    assert!(rt; plain.is_list_of(&loaded)?);
-    Ok(())
+fn many_files_are_edited_as_a_plain_list_is(rt: HostRuntime) {
+    let mut both = Both::new(rt.alloc());
+    assert!(rt; both.fill_all());
+    assert_eq!(rt; both.written(), Some((2000, FILLED, true)));
+    let unlike = both.first_unlike();
+    assert!(rt; unlike.is_none(), "after {unlike:?}");
+    assert_eq!(rt; both.written(), Some((3768, EDITED, true)));
 }

@@ -11,25 +11,27 @@ enum Call {
     Write,
 }
 
+/// What a call answers at which a growth may be refused, and whether that growth has not come.
+type Answer = (Result<(), TreeFault>, bool);
+
+/// The paths of a call.
 #[derive(Drop)]
-struct Trial<A: Allocator> {
-    answer: Result<(), TreeFault>,
-    files: Vec<u8, A>,
-    is_waiting: bool,
+struct Paths<A: Allocator> {
+    source: TreePath<A>,
+    destination: TreePath<A>,
 }
 
 fn answer_of<A: Allocator + Copy>(
     tree: &mut PathTree<A>,
     store: &mut Store<Sha1Namer, A>,
     call: Call,
-    source: &TreePath<A>,
-    destination: &TreePath<A>,
+    paths: &Paths<A>,
 ) -> Result<(), TreeFault> {
     match call {
-        Call::Modify => tree.modify(destination, Mode::Exec, name_of(b'9')),
-        Call::Remove => tree.remove(source),
-        Call::Copy => tree.copy(source, destination),
-        Call::Rename => tree.rename(source, destination),
+        Call::Modify => tree.modify(&paths.destination, Mode::Exec, name_of(b'9')),
+        Call::Remove => tree.remove(&paths.source),
+        Call::Copy => tree.copy(&paths.source, &paths.destination),
+        Call::Rename => tree.rename(&paths.source, &paths.destination),
         Call::Duplicate => {
             let _ = tree.duplicate()?;
             Ok(())
@@ -45,103 +47,158 @@ fn answer_of<A: Allocator + Copy>(
     }
 }
 
-/// A call at which the growth with this number is refused, and the files after it.
+/// What a call is made on.
+#[derive(Drop)]
+struct Trial<A: Allocator> {
+    tree: PathTree<A>,
+    store: Store<Sha1Namer, A>,
+    paths: Paths<A>,
+}
+
+/// The paths `d/e` and `n/o`.
+fn two_paths<A: Allocator + Copy>(alloc: A) -> Option<Paths<A>> {
+    let source = TreePath::read(alloc, b"d/e").ok()?;
+    let destination = TreePath::read(alloc, b"n/o").ok()?;
+    Some(Paths {
+        source,
+        destination,
+    })
+}
+
+fn set_up<A: Allocator + Copy>(alloc: A) -> Option<Trial<A>> {
+    let tree = mixed(alloc)?;
+    let paths = two_paths(alloc)?;
+    Some(Trial {
+        tree,
+        store: Store::new(alloc, Sha1Namer),
+        paths,
+    })
+}
+
+/// The call, at which the growth with this number is refused.
+fn refused_call<'x, B: Allocator>(
+    heap: &'x Refusing<B>,
+    on: &mut Trial<&'x Refusing<B>>,
+    call: Call,
+    nth: u64,
+) -> Answer {
+    heap.arm(nth);
+    let answer = answer_of(&mut on.tree, &mut on.store, call, &on.paths);
+    let is_waiting = heap.is_waiting();
+    heap.arm(0);
+    (answer, is_waiting)
+}
+
+/// A call at which the growth with this number is refused, and whether the files after it are the old ones and whether
+/// they are these.
 fn trial_of<A: Allocator + Copy, B: Allocator>(
     alloc: A,
     heap: &Refusing<B>,
     call: Call,
+    files: &[u8],
     nth: u64,
-) -> Result<Trial<A>, Fail> {
-    let mut tree = mixed(heap)?;
-    let mut store = Store::new(heap, Sha1Namer);
-    let source = TreePath::read(heap, b"d/e")?;
-    let destination = TreePath::read(heap, b"n/o")?;
-    heap.arm(nth);
-    let answer = answer_of(&mut tree, &mut store, call, &source, &destination);
-    let is_waiting = heap.is_waiting();
-    heap.arm(0);
-    let files = spell(alloc, &tree)?;
-    Ok(Trial {
-        answer,
-        files,
-        is_waiting,
-    })
+) -> Option<(Answer, bool, bool)> {
+    let mut on = set_up(heap)?;
+    let answer = refused_call(heap, &mut on, call, nth);
+    let is_old = lists(alloc, &on.tree, MIXED);
+    Some((answer, is_old, lists(alloc, &on.tree, files)))
 }
+
+/// How many growths of the call are refused before none is, where each leaves the old files and the call at last these.
+fn growths_of<A: Allocator + Copy>(alloc: A, call: Call, files: &[u8]) -> Option<u64> {
+    let mut refused = 0u64;
+    for n in 1..200 {
+        let heap = Refusing::new(alloc, 0);
+        let (answer, is_old, is_new) = trial_of(alloc, &heap, call, files, n)?;
+        if answer == (Ok(()), true) && is_new {
+            return Some(refused);
+        }
+        if answer != (Err(TreeFault::OutOfMemory), false) || !is_old {
+            return None;
+        }
+        refused = n;
+    }
+    None
+}
+
+const CALLS: &[(Call, &[u8])] = &[
+    (
+        Call::Modify,
+        b"d/e.x:x2 d/e/f:f1 d/l:l3 m:g4 n/m:g5 n/o:x9 ",
+    ),
+    (Call::Remove, b"d/e.x:x2 d/l:l3 m:g4 n/m:g5 "),
+    (
+        Call::Copy,
+        b"d/e.x:x2 d/e/f:f1 d/l:l3 m:g4 n/m:g5 n/o/f:f1 ",
+    ),
+    (Call::Rename, b"d/e.x:x2 d/l:l3 m:g4 n/m:g5 n/o/f:f1 "),
+    (Call::Duplicate, MIXED),
+    (Call::List, MIXED),
+    (Call::Write, MIXED),
+];
 
 #[test]
-fn a_refused_growth_leaves_the_files(rt: HostRuntime) -> Result<(), Fail> {
-    let rows: [(Call, &[u8]); 7] = [
-        (
-            Call::Modify,
-            b"d/e.x:x2 d/e/f:f1 d/l:l3 m:g4 n/m:g5 n/o:x9 ",
-        ),
-        (Call::Remove, b"d/e.x:x2 d/l:l3 m:g4 n/m:g5 "),
-        (
-            Call::Copy,
-            b"d/e.x:x2 d/e/f:f1 d/l:l3 m:g4 n/m:g5 n/o/f:f1 ",
-        ),
-        (Call::Rename, b"d/e.x:x2 d/l:l3 m:g4 n/m:g5 n/o/f:f1 "),
-        (Call::Duplicate, MIXED),
-        (Call::List, MIXED),
-        (Call::Write, MIXED),
-    ];
-    for (call, files) in rows {
-        let mut refused = 0u64;
-        for n in 1..200 {
-            let heap = Refusing::new(rt.alloc(), 0);
-            let trial = trial_of(rt.alloc(), &heap, call, n)?;
-            if trial.is_waiting {
-                assert_eq!(rt; trial.answer, Ok(()));
-                assert_eq!(rt; trial.files.as_slice(), files, "after {call:?}");
-                break;
-            }
-            assert_eq!(rt; trial.answer, Err(TreeFault::OutOfMemory), "at {call:?}");
-            assert_eq!(rt; trial.files.as_slice(), MIXED, "after {call:?}");
-            refused = n;
-        }
-        assert!(rt; refused > 0 && refused < 199, "at {call:?}");
+fn a_refused_growth_leaves_the_files(rt: HostRuntime) {
+    for (call, files) in CALLS {
+        let refused = growths_of(rt.alloc(), *call, files);
+        assert!(rt; refused.unwrap_or(0) > 0, "at {call:?}");
     }
-    Ok(())
 }
 
-/// A load at which the growth with this number is refused.
+/// What a load answers, and whether it has the files that were written.
+fn seen<A: Allocator + Copy, B: Allocator + Copy>(
+    alloc: A,
+    loaded: Result<PathTree<B>, TreeFault>,
+) -> (Result<(), TreeFault>, bool) {
+    match loaded {
+        Ok(tree) => (Ok(()), lists(alloc, &tree, MIXED)),
+        Err(fault) => (Err(fault), false),
+    }
+}
+
+/// A load after a write, at which the growth with this number is refused.
+fn written_and_loaded<'x, A: Allocator + Copy, B: Allocator>(
+    alloc: A,
+    heap: &'x Refusing<B>,
+    on: &mut Trial<&'x Refusing<B>>,
+    nth: u64,
+) -> Option<(Answer, bool)> {
+    let name = on.tree.write(&mut on.store).ok()?;
+    heap.arm(nth);
+    let loaded = PathTree::load(heap, &on.store, &name);
+    let is_waiting = heap.is_waiting();
+    heap.arm(0);
+    let (answer, is_whole) = seen(alloc, loaded);
+    Some(((answer, is_waiting), is_whole))
+}
+
 fn refused_load<A: Allocator + Copy, B: Allocator>(
     alloc: A,
     heap: &Refusing<B>,
     nth: u64,
-) -> Result<Trial<A>, Fail> {
-    let mut store = Store::new(heap, Sha1Namer);
-    let mut tree = mixed(heap)?;
-    let name = tree.write(&mut store)?;
-    heap.arm(nth);
-    let loaded = PathTree::load(heap, &store, &name);
-    let is_waiting = heap.is_waiting();
-    heap.arm(0);
-    let (answer, files) = match loaded {
-        Ok(tree) => (Ok(()), spell(alloc, &tree)?),
-        Err(fault) => (Err(fault), Vec::new(alloc)),
-    };
-    Ok(Trial {
-        answer,
-        files,
-        is_waiting,
-    })
+) -> Option<(Answer, bool)> {
+    let mut on = set_up(heap)?;
+    written_and_loaded(alloc, heap, &mut on, nth)
+}
+
+/// How many growths of a load are refused before none is.
+fn growths_of_load<A: Allocator + Copy>(alloc: A) -> Option<u64> {
+    let mut refused = 0u64;
+    for n in 1..200 {
+        let heap = Refusing::new(alloc, 0);
+        let (answer, is_whole) = refused_load(alloc, &heap, n)?;
+        if answer == (Ok(()), true) && is_whole {
+            return Some(refused);
+        }
+        if answer != (Err(TreeFault::OutOfMemory), false) {
+            return None;
+        }
+        refused = n;
+    }
+    None
 }
 
 #[test]
-fn a_refused_growth_loads_nothing(rt: HostRuntime) -> Result<(), Fail> {
-    let mut refused = 0u64;
-    for n in 1..200 {
-        let heap = Refusing::new(rt.alloc(), 0);
-        let trial = refused_load(rt.alloc(), &heap, n)?;
-        if trial.is_waiting {
-            assert_eq!(rt; trial.answer, Ok(()));
-            assert_eq!(rt; trial.files.as_slice(), MIXED);
-            break;
-        }
-        assert_eq!(rt; trial.answer, Err(TreeFault::OutOfMemory));
-        refused = n;
-    }
-    assert!(rt; refused > 0 && refused < 199);
-    Ok(())
+fn a_refused_growth_loads_nothing(rt: HostRuntime) {
+    assert!(rt; growths_of_load(rt.alloc()).unwrap_or(0) > 0);
 }

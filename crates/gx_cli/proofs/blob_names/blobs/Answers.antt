@@ -1,9 +1,5 @@
-use Rattle.std.proofs.Common.{◌≡◌, ℕ, Option, Some, None, Result, Ok, Err, sym, ap, subst, ◌∙◌, refl, arith, rules}
-use Rattle.gx_text.specs.Devices.{Taken}
-use Rattle.gx_stream.specs.Reading.{Seen, Answers, Reads, Falls, item_of}
-use Rattle.gx_cli.specs.Steps.{stop, go, body, step_of}
-use Rattle.gx_cli.specs.Printing.{PrintsBlobs, PrintsOne, kind_of}
-use Rattle.gx_cli.proofs.Progress.{Progress, Progress-none, Progress-go, Progress-body, Prints-end, Prints-cut, Prints-fault, Prints-stop, Prints-one, PrintsOne-at}
+use Rattle.std.proofs.Common.{Ok, Err, sym, ap, ◌∙◌, arith}
+use Rattle.gx_cli.proofs.Progress.{Progress-none, Progress-go, Progress-body, Prints-end, Prints-cut, Prints-fault, Prints-stop, Prints-one, PrintsOne-at}
 use Rattle.gx_cli.proofs.blob_names.blobs.Goals.{in-None, in-Some}
 use Rattle.gx_cli.proofs.blob_names.blobs.Goals as goal
 

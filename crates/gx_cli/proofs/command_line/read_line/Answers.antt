@@ -1,4 +1,4 @@
-use Rattle.std.proofs.Common.{rules, ap, ap₂, sym, subst, ◌≡◌, ◌∙◌, map, IfOk, List, Option, Some, option_map}
+use Rattle.std.proofs.Common.{ap, sym, subst, ◌≡◌, ◌∙◌, map, List, Option, Some}
 use Rattle.std.specs.Prelude.{IsSomeAnd}
 use Rattle.std.specs.Box.{box_value}
 use Rattle.std.proofs.lemmas.Result.{IfOk-weaker}

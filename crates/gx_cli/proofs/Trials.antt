@@ -1,0 +1,58 @@
+-- A stream imported into an empty store, and what is shown then.
+use Rattle.std.proofs.Common.{◌≡◌, subst, [], append-nil, Option, None, Some, Result, Ok, Err}
+use Rattle.gx_model.specs.declared.objects.Kind.{Kind}
+use Rattle.gx_model.specs.Texts.{Bytes}
+use Rattle.gx_model.specs.Faults.{Given}
+use Rattle.gx_model.specs.Commands.{Commands}
+use Rattle.gx_model.specs.Histories.{Records}
+use Rattle.gx_model.specs.HistoryOf.{history_of}
+use Rattle.gx_model.specs.Replay.{Outcome}
+use Rattle.gx_text.specs.Devices.{Coming, Taken}
+use Rattle.gx_command.specs.Reading.{commands_from}
+use Rattle.gx_import.specs.Applying.{Took}
+use Rattle.gx_import.specs.Imports.{Imports}
+use Rattle.gx_import.specs.declared.fault.ImportFault.{ImportFault}
+use Rattle.gx_cli.specs.Listings.{text_of_word}
+use Rattle.gx_cli.specs.Trying.{ImportsAlone, Shows, ShowsReplayed, StandsAlone, Tries, nothing}
+use Rattle.gx_cli.specs.declared.fault.CliFault.{CliFault}
+use Rattle.gx_cli.specs.declared.fault.CliFault.TheVariants.{Blobs, Import, OutOfMemory, WriteFailed}
+use Rattle.gx_cli.specs.declared.fault.CliFault.TheVariants as cli
+use Rattle.gx_cli.proofs.SentTexts.{failed_after, took_both}
+
+-- an import into a repository with nothing, where it is refused
+pub refused_alone : {N : Type 0} (name_of : N → Kind → Bytes → Bytes) (namer : N) (old : N × Records) (new : Records) (coming : Option Coming) (was now : Option Taken) (fault : ImportFault) → old ≡ (namer, nothing)
+    → Imports (name_of old.0) old.1 new coming was now (Err fault) → ImportsAlone (name_of namer) {N = N} coming was now (Err fault)
+refused_alone {N} name_of namer old new coming was now fault e h = by coming (subst (λ (o : N × Records). Imports (name_of o.0) o.1 new coming was now (Err fault)) e h)
+  where
+    by : (c : Option Coming) → Imports (name_of namer) nothing new c was now (Err fault) → ImportsAlone (name_of namer) {N = N} c was now (Err fault)
+    by None k = tt
+    by (Some c) k = k
+
+-- nothing more went out
+took_none : (was mid now : Option Taken) (before : Bytes) → Took was mid before → Took mid now [] → Took was now before
+took_none was mid now before h k = subst (Took was now) (append-nil before) (took_both was mid now before [] h k)
+
+-- what is shown goes out behind the progress text
+pub shown_after : (before : Bytes) (given : Given Bytes) (was mid now : Option Taken) (answer : Result (Unit {0}) CliFault) → Took was mid before → Shows [] given mid now answer → Shows before given was now answer
+shown_after before given was mid now (Ok u) h k = (k.0, k.1, took_both was mid now before k.0 h k.2)
+shown_after before given was mid now (Err (cli.Revision number kind)) h k = (k.0, k.1, took_none was mid now before h k.2)
+shown_after before given was mid now (Err WriteFailed) h k = (k.0, k.1, failed_after was mid now before k.0 h k.2)
+shown_after before given was mid now (Err OutOfMemory) h k = took_none was mid now before h k
+shown_after before given was mid now (Err (Blobs fault)) h k = absurd k
+shown_after before given was mid now (Err (Import fault)) h k = absurd k
+
+module _ (name : Kind → Bytes → Bytes) {N : Type 0} (repository : N × Records) (word : Bytes) (was mid now : Option Taken) where
+  replay_shown : (commands : Commands) (outcome : Outcome) (answer : Result (Unit {0}) CliFault) → StandsAlone name {N = N} commands outcome was mid (Ok repository)
+      → Shows [] (text_of_word name (history_of repository.1) word) mid now answer → ShowsReplayed name commands outcome word was now answer
+  replay_shown commands outcome (Err (Import fault)) h k = absurd k
+  replay_shown commands outcome (Ok u) h k = (history_of repository.1, h.0, h.1, shown_after h.0 (text_of_word name (history_of repository.1) word) was mid now (Ok u) h.2 k)
+  replay_shown commands outcome (Err (cli.Revision number kind)) h k = (history_of repository.1, h.0, h.1, shown_after h.0 (text_of_word name (history_of repository.1) word) was mid now (Err (cli.Revision number kind)) h.2 k)
+  replay_shown commands outcome (Err WriteFailed) h k = (history_of repository.1, h.0, h.1, shown_after h.0 (text_of_word name (history_of repository.1) word) was mid now (Err WriteFailed) h.2 k)
+  replay_shown commands outcome (Err OutOfMemory) h k = (history_of repository.1, h.0, h.1, shown_after h.0 (text_of_word name (history_of repository.1) word) was mid now (Err OutOfMemory) h.2 k)
+  replay_shown commands outcome (Err (Blobs fault)) h k = absurd k
+
+  -- the import was accepted, and then the word was shown
+  pub tried : (coming : Option Coming) (answer : Result (Unit {0}) CliFault) → ImportsAlone name {N = N} coming was mid (Ok repository)
+      → Shows [] (text_of_word name (history_of repository.1) word) mid now answer → Tries name coming word was now answer
+  tried None answer h k = tt
+  tried (Some c) answer h k = replay_shown (commands_from c) _ answer h k

@@ -1,0 +1,6 @@
+use Rattle.gx_cli.proofs.Trials.{refused_alone}
+use Rattle.gx_cli.proofs.trying.import_alone.Goals as goal
+
+pub returns-in-Err-clause-replayed : goal.returns-in-Err-clause-replayed
+returns-in-Err-clause-replayed g c =
+    refused_alone g.N.Namer.name_of c.args.namer c.new-repo.result c.import.new.repo.1 (g.R.Source.coming c.args.source) (g.W.Sink.taken c.args.sink.now) (g.W.Sink.taken c.import.new.sink) c.in-Err.fault c.new-repo.ensures c.in-Err.ensures.replayed

@@ -1,0 +1,94 @@
+-- What comes of a stream that is imported into an empty store, and then of a word that is shown as a revision.
+-- Source: git-fast-import(1) and git-cat-file(1).
+use Rattle.std.specs.Prelude.{◌≡◌, ℕ, [], ◌++◌, Option, Some, None, Result, Ok, Err, ⊤}
+use Rattle.std.specs.declared.vec.Vec.{Vec}
+use Rattle.gx_model.specs.declared.objects.Kind.{Kind}
+use Rattle.gx_model.specs.declared.objects.Mode.{Mode}
+use Rattle.gx_model.specs.Texts.{Bytes}
+use Rattle.gx_model.specs.Faults.{Given}
+use Rattle.gx_model.specs.Paths.{Path}
+use Rattle.gx_model.specs.Files.{Leaf}
+use Rattle.gx_model.specs.Commands.{Commands}
+use Rattle.gx_model.specs.Histories.{History, Records}
+use Rattle.gx_model.specs.HistoryOf.{history_of}
+use Rattle.gx_model.specs.Revisions.{Revision}
+use Rattle.gx_model.specs.Denotation.{looked_up}
+use Rattle.gx_model.specs.Replay as model
+use Rattle.gx_model.specs.Replay.{Outcome, finished, imported}
+use Rattle.gx_text.specs.Devices.{Coming, Taken}
+use Rattle.gx_stream.specs.Heard.{heard}
+use Rattle.gx_command.specs.Reading.{commands_from}
+use Rattle.gx_rev.specs.Answers.{seen_file}
+use Rattle.gx_rev.specs.RevFaults.{fault_of}
+use Rattle.gx_import.specs.Applying.{FailedWithin, Took}
+use Rattle.gx_import.specs.Imports.{Replays}
+use Rattle.gx_import.specs.declared.fault.ImportFault.{ImportFault}
+use Rattle.gx_cli.specs.Listings.{text_of_word}
+use Rattle.gx_cli.specs.declared.fault.CliFault.{CliFault}
+use Rattle.gx_cli.specs.declared.fault.CliFault.TheVariants.{Blobs, Import, OutOfMemory, WriteFailed}
+use Rattle.gx_cli.specs.declared.fault.CliFault.TheVariants as cli
+
+-- an empty store, and what it stands for
+abbrev pub nothing : Records
+nothing = record { records = []; refs = [] }
+
+abbrev pub no_history : History
+no_history = record { values = []; refs = [] }
+
+-- Behind some text that went out, the text that is given goes out, or why none is given is answered. Where memory runs out
+-- none of it went out, and where the sink fails a front of it.
+abbrev pub Shows : Bytes → Given Bytes → Option Taken → Option Taken → Result (Unit {0}) CliFault → Type 0
+Shows before given was now (Ok _) = (text : Bytes) × (given ≡ Ok text) × Took was now (before ++ text)
+Shows before given was now (Err (cli.Revision number kind)) = (number ≡ 1) × (given ≡ Err (fault_of kind)) × Took was now before
+Shows before given was now (Err WriteFailed) = (text : Bytes) × (given ≡ Ok text) × FailedWithin was now (before ++ text)
+Shows before given was now (Err OutOfMemory) = Took was now before
+Shows before given was now (Err (Blobs fault)) = ⊥
+Shows before given was now (Err (Import fault)) = ⊥
+
+-- the replay is accepted with this history, and this progress text
+abbrev pub Replayed : Outcome → History → Bytes → Type 0
+Replayed outcome h text = (report : model.Report) × (outcome ≡ finished h text report)
+
+-- what is looked up is given, or why nothing is, unless memory ran out
+abbrev pub LooksAs : {A : Type 0} → Given (Leaf Bytes) → Result (Mode × Vec ℕ A) CliFault → Type 0
+LooksAs given (Ok file) = given ≡ Ok (seen_file file)
+LooksAs given (Err (cli.Revision number kind)) = (number ≡ 1) × (given ≡ Err (fault_of kind))
+LooksAs given (Err OutOfMemory) = ⊤
+LooksAs given (Err WriteFailed) = ⊥
+LooksAs given (Err (Blobs fault)) = ⊥
+LooksAs given (Err (Import fault)) = ⊥
+
+module _ (name : Kind → Bytes → Bytes) where
+  -- a refused import into an empty store, or one that was interrupted
+  abbrev pub Refuses : Commands → Outcome → Option Taken → Option Taken → ImportFault → Type 0
+  Refuses commands outcome was now fault = Replays name nothing nothing commands outcome was now (Err fault)
+
+  -- Once the replay is accepted, its progress text went out, and then the word is shown in its history.
+  abbrev pub ShowsReplayed : Commands → Outcome → Bytes → Option Taken → Option Taken → Result (Unit {0}) CliFault → Type 0
+  ShowsReplayed commands outcome word was now (Err (Import fault)) = Refuses commands outcome was now fault
+  ShowsReplayed commands outcome word was now answer = (h : History) × (text : Bytes) × Replayed outcome h text × Shows text (text_of_word name h word) was now answer
+
+  -- the same, where the source tells its bytes
+  abbrev pub Tries : Option Coming → Bytes → Option Taken → Option Taken → Result (Unit {0}) CliFault → Type 0
+  Tries None word was now answer = ⊤
+  Tries (Some coming) word was now answer = ShowsReplayed (commands_from coming) (imported name no_history (heard coming).bytes (heard coming).fails) word was now answer
+
+  -- an import into an empty store is accepted as the replay is, with its history and its progress text, or refused
+  abbrev pub StandsAlone : {N : Type 0} → Commands → Outcome → Option Taken → Option Taken → Result (N × Records) ImportFault → Type 0
+  StandsAlone commands outcome was now (Ok repository) = (text : Bytes) × Replayed outcome (history_of repository.1) text × Took was now text
+  StandsAlone commands outcome was now (Err fault) = Refuses commands outcome was now fault
+
+  -- the same, where the source tells its bytes
+  abbrev pub ImportsAlone : {N : Type 0} → Option Coming → Option Taken → Option Taken → Result (N × Records) ImportFault → Type 0
+  ImportsAlone None was now answer = ⊤
+  ImportsAlone (Some coming) was now answer = StandsAlone (commands_from coming) (imported name no_history (heard coming).bytes (heard coming).fails) was now answer
+
+  -- what is looked up is what the replay's history has, once the replay is accepted
+  abbrev pub LooksReplayed : {A : Type 0} → Commands → Outcome → Option Taken → Option Taken → Revision → Path → Result (Mode × Vec ℕ A) CliFault → Type 0
+  LooksReplayed commands outcome was now revision path (Err (Import fault)) = Refuses commands outcome was now fault
+  LooksReplayed commands outcome was now revision path answer = (h : History) × (text : Bytes) × Replayed outcome h text × Took was now text × LooksAs (looked_up name h revision path) answer
+
+  -- the same, where the source tells its bytes
+  abbrev pub LooksUp : {A : Type 0} → Option Coming → Option Taken → Option Taken → Revision → Path → Result (Mode × Vec ℕ A) CliFault → Type 0
+  LooksUp None was now revision path answer = ⊤
+  LooksUp (Some coming) was now revision path answer = LooksReplayed (commands_from coming) (imported name no_history (heard coming).bytes (heard coming).fails) was now revision path answer

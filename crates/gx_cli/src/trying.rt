@@ -1,0 +1,90 @@
+//! A stream, imported into an empty store, and what a revision shows there.
+
+ghost use Rattle.std.specs.Prelude.{◌≡◌, IfOk};
+ghost use Rattle.gx_model.specs.Denotation.{looked_up};
+ghost use Rattle.gx_model.specs.HistoryOf.{history_of};
+ghost use Rattle.gx_cli.specs.Trying.{ImportsAlone, LooksAs, LooksUp, Tries};
+
+use crate::CliFault;
+use crate::showing::show;
+use gx_import::{ImportFault, import};
+use gx_object::{Mode, Namer};
+use gx_repo::Repo;
+use gx_rev::{RevFault, Revision, look};
+use gx_text::{Sink, Source, TreePath};
+use std::alloc::Allocator;
+
+/// Imports a stream into an empty store, and then shows a word as a revision. Lines of `progress` go out first.
+///
+/// `Import`: the import is refused, and nothing is shown. `Revision`: the word isn't a revision, or the revision gives
+/// nothing. `WriteFailed`: the sink didn't take all that is shown. `OutOfMemory`: a growth was refused after the import.
+/// Cost: that of the import, that of `Revision::eval`, and what is shown.
+pub fn try_revision<N: Namer + Drop, A: Allocator + Copy, R: Source + Drop, W: Sink>(
+    alloc: A,
+    namer: N,
+    word: &[u8],
+    source: R,
+    sink: &mut W,
+) -> Result<(), CliFault>
+    ensures { Tries (N.name_of namer) (R.coming source) word.now (W.taken sink.old) (W.taken sink.new) result }
+{
+    match import_alone(alloc, namer, source, sink) {
+        Ok(repo) => show(alloc, &repo, word, sink),
+        Err(fault) => Err(CliFault::Import(fault)),
+    }
+}
+
+/// The repository that a stream's import into an empty store leaves. Its history is that of the stream's commands, replayed.
+///
+/// The faults and the cost are those of `import`.
+pub fn import_alone<N: Namer + Drop, A: Allocator + Copy, R: Source + Drop, W: Sink>(
+    alloc: A,
+    namer: N,
+    source: R,
+    sink: &mut W,
+) -> Result<Repo<N, A>, ImportFault>
+    ensures namer { IfOk result (λ repo. repo.0 ≡ namer) }
+    ensures replayed { ImportsAlone (N.name_of namer) (R.coming source) (W.taken sink.old) (W.taken sink.new) result }
+{
+    let mut repo = Repo::new(alloc, namer);
+    match import(alloc, &mut repo, source, sink) {
+        Ok(_) => Ok(repo),
+        Err(fault) => Err(fault),
+    }
+}
+
+/// The mode and the bytes of the file at a path in the tree of a revision, once a stream was imported into an empty store:
+/// those that the history of the stream's commands, replayed, has there.
+///
+/// The faults are those of `import` and of `look`. Cost: that of both.
+pub fn look_imported<N: Namer + Drop, A: Allocator + Copy, R: Source + Drop, W: Sink>(
+    alloc: A,
+    namer: N,
+    source: R,
+    sink: &mut W,
+    revision: &Revision<A>,
+    path: &TreePath<A>,
+) -> Result<(Mode, Vec<u8, A>), CliFault>
+    ensures { LooksUp (N.name_of namer) (R.coming source) (W.taken sink.old) (W.taken sink.new) revision.now path.now result }
+{
+    match import_alone(alloc, namer, source, sink) {
+        Ok(repo) => look_in(alloc, &repo, revision, path),
+        Err(fault) => Err(CliFault::Import(fault)),
+    }
+}
+
+/// What `look` answers, with its fault among those of the commands.
+fn look_in<N: Namer, A: Allocator + Copy>(
+    alloc: A,
+    repo: &Repo<N, A>,
+    revision: &Revision<A>,
+    path: &TreePath<A>,
+) -> Result<(Mode, Vec<u8, A>), CliFault>
+    ensures { LooksAs (looked_up (N.name_of repo.now.0) (history_of repo.now.1) revision.now path.now) result }
+{
+    match look(alloc, repo, revision, path) {
+        Ok(file) => Ok(file),
+        Err(RevFault::OutOfMemory) => Err(CliFault::OutOfMemory),
+        Err(kind) => Err(CliFault::Revision { number: 1, kind }),
+    }
+}

@@ -1,0 +1,131 @@
+-- What each command does is the model's step, or its fault; a command that sends nothing leaves the sink as it was.
+use Rattle.std.proofs.Common.{◌≡◌, List, [], ◌∷◌, ◌++◌, Option, Result, Ok, Err, refl, sym, subst, ◌∙◌, inl, inr, append_assoc, ap}
+use Rattle.std.specs.Prelude.{codes}
+use Rattle.std.proofs.lemmas.List.{append-nil}
+use Rattle.gx_model.specs.declared.objects.Kind.{Kind}
+use Rattle.gx_model.specs.Texts.{Bytes}
+use Rattle.gx_model.specs.Commands.{Command, Progress}
+use Rattle.gx_model.specs.Histories.{Records}
+use Rattle.gx_model.specs.RepositoryLaws.{values_of}
+use Rattle.gx_model.specs.Values.{Value}
+use Rattle.gx_model.specs.Revisions.{revision_of}
+use Rattle.gx_model.specs.Replay.{State, step}
+use Rattle.gx_text.specs.Devices.{Taken}
+use Rattle.gx_import.specs.Additions.{Clash, values_added}
+use Rattle.gx_import.specs.Answers.{AddsAs, GivesAs}
+use Rattle.gx_import.specs.Applying.{Applies, IsProgress}
+use Rattle.gx_import.specs.Replaying.{Writes}
+use Rattle.gx_import.specs.Standing.{Follows, Stands}
+use Rattle.gx_import.specs.declared.fault.ImportKind.{ImportKind}
+use Rattle.gx_import.specs.declared.fault.ImportKind.TheVariants.{OutOfMemory, ReadFailed, WriteFailed, UnknownCommand, BadLine, BadNumber, TruncatedData, BadPath, PathTooLong, BadMode, BadIdent, BadRefName, UnknownMark, WrongKind, UnknownObject, NoSuchPath, RootNotTree, FromItself, EmptyBranch, Unsupported, LateOption, MissingDone, NotFastForward, NameHeld, BadRevision, UnknownRef, Ambiguous, NoParent}
+use Rattle.gx_import.specs.declared.tables.Tables.{Tables}
+use Rattle.gx_import.proofs.ProgressTexts.{took_none}
+
+-- the state after a progress
+abbrev spoken : State → Bytes → State
+spoken s x = record s { progress = s.progress ++ codes "progress " ++ x ++ 10 ∷ [] }
+
+is_spoken : (s : State) (x : Bytes) → IsProgress s (spoken s x) (codes "progress " ++ x ++ 10 ∷ [])
+is_spoken s x = record {
+  progress = ap (λ z. z ++ 10 ∷ []) (append_assoc s.progress (codes "progress ") x) ∙ append_assoc s.progress (codes "progress " ++ x) (10 ∷ []);
+  held = refl;
+}
+
+module _ (name : Kind → Bytes → Bytes) {A : Type 0} where
+  -- a state that follows is one after the empty text
+  pub followed : (old new : Records) (tables : Tables A) (s : State) (c : Command) (was : Option Taken) (t : State) → step name revision_of s c ≡ Ok t → Follows name new tables s t → Applies name old new tables s c was was (Ok tt)
+  followed old new tables s c was t e h = (t, [], e, h.stands, record { progress = h.progress ∙ sym (append-nil s.progress); held = h.held }, took_none was)
+
+  -- a command that may add values
+  pub added_as : (old new : Records) (tables : Tables A) (s : State) (c : Command) (was : Option Taken) (clash : Type 0) → (clash → Clash name s.history.values (values_added name s c)) → (r : Result (Unit {0}) ImportKind)
+      → AddsAs clash (λ t _. Follows name new tables s t) r (step name revision_of s c) → Applies name old new tables s c was was r
+  added_as old new tables s c was clash f (Ok x) h = followed old new tables s c was h.0 h.1 h.2
+  added_as old new tables s c was clash f (Err OutOfMemory) h = refl
+  added_as old new tables s c was clash f (Err ReadFailed) h = (h, refl)
+  added_as old new tables s c was clash f (Err WriteFailed) h = inl (h, refl)
+  added_as old new tables s c was clash f (Err UnknownCommand) h = (h, refl)
+  added_as old new tables s c was clash f (Err BadLine) h = (h, refl)
+  added_as old new tables s c was clash f (Err BadNumber) h = (h, refl)
+  added_as old new tables s c was clash f (Err TruncatedData) h = (h, refl)
+  added_as old new tables s c was clash f (Err BadPath) h = (h, refl)
+  added_as old new tables s c was clash f (Err PathTooLong) h = (h, refl)
+  added_as old new tables s c was clash f (Err BadMode) h = (h, refl)
+  added_as old new tables s c was clash f (Err BadIdent) h = (h, refl)
+  added_as old new tables s c was clash f (Err BadRefName) h = (h, refl)
+  added_as old new tables s c was clash f (Err UnknownMark) h = (h, refl)
+  added_as old new tables s c was clash f (Err WrongKind) h = (h, refl)
+  added_as old new tables s c was clash f (Err UnknownObject) h = (h, refl)
+  added_as old new tables s c was clash f (Err NoSuchPath) h = (h, refl)
+  added_as old new tables s c was clash f (Err RootNotTree) h = (h, refl)
+  added_as old new tables s c was clash f (Err FromItself) h = (h, refl)
+  added_as old new tables s c was clash f (Err EmptyBranch) h = (h, refl)
+  added_as old new tables s c was clash f (Err Unsupported) h = (h, refl)
+  added_as old new tables s c was clash f (Err LateOption) h = (h, refl)
+  added_as old new tables s c was clash f (Err MissingDone) h = (h, refl)
+  added_as old new tables s c was clash f (Err NotFastForward) h = (h, refl)
+  added_as old new tables s c was clash f (Err NameHeld) h = (inr (f h), refl)
+  added_as old new tables s c was clash f (Err BadRevision) h = (h, refl)
+  added_as old new tables s c was clash f (Err UnknownRef) h = (h, refl)
+  added_as old new tables s c was clash f (Err Ambiguous) h = (h, refl)
+  added_as old new tables s c was clash f (Err NoParent) h = (h, refl)
+
+  -- one that adds none
+  pub given_as : (old new : Records) (tables : Tables A) (s : State) (c : Command) (was : Option Taken) (r : Result (Unit {0}) ImportKind)
+      → GivesAs (λ t _. Follows name new tables s t) r (step name revision_of s c) → Applies name old new tables s c was was r
+  given_as old new tables s c was (Ok x) h = followed old new tables s c was h.0 h.1 h.2
+  given_as old new tables s c was (Err OutOfMemory) h = refl
+  given_as old new tables s c was (Err ReadFailed) h = (h, refl)
+  given_as old new tables s c was (Err WriteFailed) h = inl (h, refl)
+  given_as old new tables s c was (Err UnknownCommand) h = (h, refl)
+  given_as old new tables s c was (Err BadLine) h = (h, refl)
+  given_as old new tables s c was (Err BadNumber) h = (h, refl)
+  given_as old new tables s c was (Err TruncatedData) h = (h, refl)
+  given_as old new tables s c was (Err BadPath) h = (h, refl)
+  given_as old new tables s c was (Err PathTooLong) h = (h, refl)
+  given_as old new tables s c was (Err BadMode) h = (h, refl)
+  given_as old new tables s c was (Err BadIdent) h = (h, refl)
+  given_as old new tables s c was (Err BadRefName) h = (h, refl)
+  given_as old new tables s c was (Err UnknownMark) h = (h, refl)
+  given_as old new tables s c was (Err WrongKind) h = (h, refl)
+  given_as old new tables s c was (Err UnknownObject) h = (h, refl)
+  given_as old new tables s c was (Err NoSuchPath) h = (h, refl)
+  given_as old new tables s c was (Err RootNotTree) h = (h, refl)
+  given_as old new tables s c was (Err FromItself) h = (h, refl)
+  given_as old new tables s c was (Err EmptyBranch) h = (h, refl)
+  given_as old new tables s c was (Err Unsupported) h = (h, refl)
+  given_as old new tables s c was (Err LateOption) h = (h, refl)
+  given_as old new tables s c was (Err MissingDone) h = (h, refl)
+  given_as old new tables s c was (Err NotFastForward) h = (h, refl)
+  given_as old new tables s c was (Err NameHeld) h = (inl h, refl)
+  given_as old new tables s c was (Err BadRevision) h = (h, refl)
+  given_as old new tables s c was (Err UnknownRef) h = (h, refl)
+  given_as old new tables s c was (Err Ambiguous) h = (h, refl)
+  given_as old new tables s c was (Err NoParent) h = (h, refl)
+
+  -- the values of the repository are those of the state
+  pub clash_here : (old : Records) (tables : Tables A) (s : State) → Stands name old tables s → (values : List Value) → Clash name (values_of old) values → Clash name s.history.values values
+  clash_here old tables s h values k = subst (λ held. Clash name held values) (ap (λ z. z.values) h.history) k
+
+  still_stands : (old : Records) (tables : Tables A) (s : State) (x : Bytes) → Stands name old tables s → Stands name old tables (spoken s x)
+  still_stands old tables s x h = record {
+    history = h.history;
+    marks = h.marks;
+    branches = h.branches;
+    tags = h.tags;
+    branches_sorted = h.branches_sorted;
+    tags_sorted = h.tags_sorted;
+    ref_names = h.ref_names;
+    own = h.own;
+    forced = h.forced;
+  }
+
+  -- a command that changes nothing
+  pub unchanged : (old : Records) (tables : Tables A) (s : State) (c : Command) (was : Option Taken) → Stands name old tables s → step name revision_of s c ≡ Ok s → Applies name old old tables s c was was (Ok tt)
+  unchanged old tables s c was h e = followed old old tables s c was s e (record { stands = h; progress = refl; held = refl })
+
+  -- a progress, whose line is written
+  pub progress_as : (old : Records) (tables : Tables A) (s : State) (x : Bytes) (was now : Option Taken) (r : Result (Unit {0}) ImportKind) → Stands name old tables s
+      → Writes was now (codes "progress " ++ x ++ 10 ∷ []) r → Applies name old old tables s (Progress x) was now r
+  progress_as old tables s x was now (Ok u) h k = (spoken s x, codes "progress " ++ x ++ 10 ∷ [], refl, still_stands old tables s x h, is_spoken s x, k)
+  progress_as old tables s x was now (Err e) h k =
+      subst (λ f. Applies name old old tables s (Progress x) was now (Err f)) (sym k.0) (inr (spoken s x, codes "progress " ++ x ++ 10 ∷ [], refl, is_spoken s x, k.1))

@@ -1,0 +1,33 @@
+-- A blob that is refused because its name is held has the name of another value.
+use Rattle.std.proofs.Common.{◌≡◌, List, [], ◌∷◌, Option, Some, None, Result, Ok, Err, map, refl, sym, ap, ◌∙◌}
+use Rattle.std.specs.Option.{option_map}
+use Rattle.gx_model.specs.declared.objects.Kind.{Kind}
+use Rattle.gx_model.specs.declared.objects.Kind.TheVariants as kinds
+use Rattle.gx_model.specs.declared.faults.Fault.{Fault}
+use Rattle.gx_model.specs.Texts.{Bytes}
+use Rattle.gx_model.specs.Values.{Value, blob_value}
+use Rattle.gx_model.specs.Histories.{Record, Records, record_of}
+use Rattle.gx_model.specs.Growth.{AreReady, and_some, put, put_all, with_values}
+use Rattle.gx_model.specs.RepositoryLaws.{PutsGrow, values_of}
+use Rattle.gx_model.specs.Sound.{IsSound}
+use Rattle.gx_store.specs.declared.fault.StoreFault.{StoreFault}
+use Rattle.gx_store.specs.declared.fault.StoreFault.TheVariants.{OutOfMemory, NameHeld}
+use Rattle.gx_object.specs.declared.name.Name.{Name}
+use Rattle.gx_store.specs.Stores.{record_for}
+use Rattle.gx_repo.specs.Additions.{Adds}
+use Rattle.gx_import.specs.Answers.{AddsAs}
+use Rattle.gx_import.specs.ImportKinds.{of_store}
+
+nothing_mapped : {X Y : Type 0} (f : X → Y) (o : Option X) → option_map f o ≡ None → o ≡ None
+nothing_mapped f None e = refl
+nothing_mapped f (Some x) e = absurd (cc)
+
+-- a value that can't be put has the name of another one
+pub name_held : (name : Kind → Bytes → Bytes) → PutsGrow name → (r : Records) → IsSound name r → (v : Value) → AreReady (values_of r) (v ∷ []) → put r.records (record_of name v) ≡ None → with_values name (values_of r) (v ∷ []) ≡ None
+name_held name law r sound v ready e =
+    nothing_mapped (map (record_of name)) (with_values name (values_of r) (v ∷ [])) (sym (law.adds r sound (v ∷ []) ready) ∙ ap (λ o. and_some o (λ now. put_all now [])) e)
+
+pub blob_refused : (name : Kind → Bytes → Bytes) → PutsGrow name → (r : Records) → IsSound name r → (new : List Record) (bytes : Bytes) {X Y : Type 0} (Is : Y → X → Type 0) (given : Result Y Fault) (f : StoreFault)
+    → Adds r.records new (record_for name kinds.Blob bytes) (Err f) → AddsAs (with_values name (values_of r) (blob_value bytes ∷ []) ≡ None) Is (Err (of_store f)) given
+blob_refused name law r sound new bytes Is given OutOfMemory h = tt
+blob_refused name law r sound new bytes Is given NameHeld h = name_held name law r sound (blob_value bytes) (refl, tt, tt) h.0

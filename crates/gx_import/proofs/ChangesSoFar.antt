@@ -1,0 +1,91 @@
+-- Changes made one after the other: what is left of them gives what all give.
+use Rattle.std.proofs.Common.{◌≡◌, ℕ, ◌<◌, ◌≤◌, ◌+◌, List, ◌∷◌, ◌++◌, length, get_or, map, drop, Ok, Err, refl, sym, ap, subst, ◌∙◌}
+use Rattle.std.proofs.lemmas.List.{drop_all, drop_more}
+use Rattle.gx_model.specs.declared.objects.Kind.{Kind}
+use Rattle.gx_model.specs.Texts.{Bytes}
+use Rattle.gx_model.specs.Faults.{and_then}
+use Rattle.gx_model.specs.Files.{FileMap}
+use Rattle.gx_model.specs.Histories.{Records}
+use Rattle.gx_model.specs.RepositoryLaws.{values_of}
+use Rattle.gx_model.specs.Commands.{Change}
+use Rattle.gx_model.specs.Revisions.{revision_of}
+use Rattle.gx_model.specs.Replay.{State, all_changed, changed}
+use Rattle.gx_import.specs.declared.fault.ImportKind.{ImportKind}
+use Rattle.gx_import.specs.declared.tables.Tables.{Tables}
+use Rattle.gx_import.specs.Additions.{Clash, blob_added, blobs_added, unless_refused}
+use Rattle.gx_import.specs.Answers.{AddsAs}
+use Rattle.gx_import.specs.Standing.{AreFiles, Follows, Stands}
+use Rattle.gx_import.proofs.AddedAnswers.{adds_then}
+use Rattle.gx_import.proofs.Clashes.{change_later, clash_first}
+
+module _ (name : Kind → Bytes → Bytes) {A : Type 0} where
+  -- Some of these changes were made from this state and these files on, and these are left. The repository and the names
+  -- at hand stand for what came of them, and a clash among what the others add is one among what all add.
+  pub record AreMade (old now : Records) (tables : Tables A) (s : State) (f : FileMap Bytes) (all left : List Change) (names : FileMap Bytes) : Type 0 where
+    pub state : State
+    pub files : FileMap Bytes
+    pub steps : all_changed name revision_of s f all ≡ all_changed name revision_of state files left
+    pub follows : Follows name now tables s state
+    pub are : AreFiles name state.history.values files names
+    pub clash : Clash name (values_of now) (blobs_added name state files left) → Clash name (values_of old) (blobs_added name s f all)
+
+  -- none were made
+  pub none_made : (r : Records) (tables : Tables A) (s : State) → Stands name r tables s → (f names : FileMap Bytes) → AreFiles name s.history.values f names → (all : List Change) → AreMade r r tables s f all all names
+  none_made r tables s h f names are all = record { state = s; files = f; steps = refl; follows = record { stands = h; progress = refl; held = refl }; are = are; clash = λ k. k }
+
+  module _ (old now : Records) (tables : Tables A) (s : State) (f : FileMap Bytes) (all : List Change) (c : Change) (left : List Change) (names : FileMap Bytes) (made : AreMade old now tables s f all (c ∷ left) names) where
+    values_same : values_of now ≡ made.state.history.values
+    values_same = ap (λ h. h.values) made.follows.stands.history
+
+    -- one more
+    one_made : (later : Records) (after : FileMap Bytes) (y : State × FileMap Bytes) → changed name revision_of made.state made.files c ≡ Ok y → Follows name later tables made.state y.0 → AreFiles name y.0.history.values y.1 after
+        → AreMade old later tables s f all left after
+    one_made later after y e follows are = record {
+      state = y.0;
+      files = y.1;
+      steps = made.steps ∙ ap (λ z. and_then z (λ r. all_changed name revision_of r.0 r.1 left)) e;
+      follows = record { stands = follows.stands; progress = follows.progress ∙ made.follows.progress; held = follows.held ∙ made.follows.held };
+      are = are;
+      clash = λ k. made.clash (
+          subst (λ vs. Clash name vs (blobs_added name made.state made.files (c ∷ left))) (sym values_same)
+          (subst (λ z. Clash name made.state.history.values (blob_added c ++ unless_refused (λ r. blobs_added name r.0 r.1 left) z)) (sym e)
+          (change_later name made.state made.files c y e (blobs_added name y.0 y.1 left)
+          (subst (λ vs. Clash name vs (blobs_added name y.0 y.1 left)) (ap (λ h. h.values) follows.stands.history) k)))
+          );
+    }
+
+    -- one that is refused
+    one_refused : {X : Type 0} (Be Is : State × FileMap Bytes → X → Type 0) (e : ImportKind) → AddsAs (Clash name (values_of now) (blob_added c)) Be (Err e) (changed name revision_of made.state made.files c)
+        → AddsAs (Clash name (values_of old) (blobs_added name s f all)) Is (Err e) (all_changed name revision_of s f all)
+    one_refused Be Is e h =
+        subst (AddsAs (Clash name (values_of old) (blobs_added name s f all)) Is (Err e)) (sym made.steps)
+        (adds_then (Clash name (values_of now) (blob_added c)) (Clash name (values_of old) (blobs_added name s f all)) (λ k. made.clash (clash_first name (values_of now) (blob_added c) _ k)) Be Is e
+        (changed name revision_of made.state made.files c) (λ r. all_changed name revision_of r.0 r.1 left) h)
+
+  -- all were made
+  pub all_made : {X : Type 0} (old now : Records) (tables : Tables A) (s : State) (f : FileMap Bytes) (xs : List X) (shown : X → Change) (i : ℕ) (names : FileMap Bytes) → AreMade old now tables s f (map shown xs) (map shown (drop i xs)) names → length xs ≤ i
+      → (x : State × FileMap Bytes) × (all_changed name revision_of s f (map shown xs) ≡ Ok x) × (Follows name now tables s x.0 × AreFiles name x.0.history.values x.1 names)
+  all_made old now tables s f xs shown i names made end =
+      let none = drop_all i xs end in
+      ((made.state, made.files), made.steps ∙ ap (λ z. all_changed name revision_of made.state made.files (map shown z)) none, (made.follows, made.are))
+
+  module _ {X : Type 0} (old now : Records) (tables : Tables A) (s : State) (f : FileMap Bytes) (xs : List X) (shown : X → Change) (i : ℕ) (here : X) (names : FileMap Bytes) (lt : i < length xs) (is : here ≡ get_or xs i here)
+      (made : AreMade old now tables s f (map shown xs) (map shown (drop i xs)) names) where
+    -- the next of them is the one at this place
+    with_next : AreMade old now tables s f (map shown xs) (shown here ∷ map shown (drop (i + 1) xs)) names
+    with_next = subst (λ ys. AreMade old now tables s f (map shown xs) (map shown ys) names) (drop_more xs i here lt ∙ ap (λ x. x ∷ drop (i + 1) xs) (sym is)) made
+
+    -- that one is made
+    pub next_made : (later : Records) (after : FileMap Bytes)
+        → ((t : State) (g : FileMap Bytes) → Stands name now tables t → AreFiles name t.history.values g names → (y : State × FileMap Bytes) × (changed name revision_of t g (shown here) ≡ Ok y) × (Follows name later tables t y.0 × AreFiles name y.0.history.values y.1 after))
+        → AreMade old later tables s f (map shown xs) (map shown (drop (i + 1) xs)) after
+    next_made later after step =
+        let done = step with_next.state with_next.files with_next.follows.stands with_next.are in
+        one_made old now tables s f (map shown xs) (shown here) (map shown (drop (i + 1) xs)) names with_next later after done.0 done.1 done.2.0 done.2.1
+
+    -- or refused
+    pub next_refused : {W : Type 0} (Be : State → State × FileMap Bytes → W → Type 0) (Is : State × FileMap Bytes → W → Type 0) (e : ImportKind)
+        → ((t : State) (g : FileMap Bytes) → Stands name now tables t → AreFiles name t.history.values g names → AddsAs (Clash name (values_of now) (blob_added (shown here))) (Be t) (Err e) (changed name revision_of t g (shown here)))
+        → AddsAs (Clash name (values_of old) (blobs_added name s f (map shown xs))) Is (Err e) (all_changed name revision_of s f (map shown xs))
+    next_refused Be Is e step =
+        one_refused old now tables s f (map shown xs) (shown here) (map shown (drop (i + 1) xs)) names with_next (Be with_next.state) Is e (step with_next.state with_next.files with_next.follows.stands with_next.are)

@@ -1,0 +1,154 @@
+-- The map of names of a commit's files, and its trees among the records.
+use Rattle.std.proofs.Common.{◌≡◌, ◌≢◌, true, ℕ, zero, suc, ◌<◌, ◌+◌, ◌*◌, arith, length, eq-eqb, refl, sym, ap, subst, ◌∙◌, List, [], ◌∷◌, ◌++◌, map, Some, Ok, Err}
+use Rattle.std.specs.Prelude.{T, ◌&&◌, not, nat_lt, IsTrue}
+use Rattle.std.specs.Bool.{passes}
+use Rattle.std.specs.List.{AllByRecursion, flat_map, list_all}
+use Rattle.std.specs.Ordering.{is_lt}
+use Rattle.std.specs.FinMap.Entries.{below_all, is_sorted}
+use Rattle.std.proofs.lemmas.List.{map-append}
+use Rattle.std.proofs.lemmas.Bool.Decides.{nat_tests}
+use Rattle.gx_model.specs.declared.objects.Kind.{Kind}
+use Rattle.gx_model.specs.declared.objects.Kind.TheVariants as kind
+use Rattle.gx_model.specs.declared.objects.Mode.{Mode}
+use Rattle.gx_model.specs.declared.objects.Mode.TheVariants.{File, Exec, Link, Gitlink, Dir}
+use Rattle.gx_model.specs.Texts.{Bytes}
+use Rattle.gx_model.specs.Faults.{IsFaultOf}
+use Rattle.gx_model.specs.Paths.{Path, are_in_line, is_file_path, path_cmp}
+use Rattle.gx_model.specs.Files.{FileMap, are_apart, are_file_paths, is_file_map}
+use Rattle.gx_model.specs.Values.{Commit, Value, blobs_of, commit_value, files_of, is_content, is_hex_digit, is_leaf, is_proper_text, sub_maps, text_of, tree_value}
+use Rattle.gx_model.specs.Objects.{IsNamer, digit_value, is_name, unhex}
+use Rattle.gx_model.specs.Records.{content_name, named_map, tree_name}
+use Rattle.gx_model.specs.Histories.{IsIn, IsWhole, Record, Records, record_of}
+use Rattle.gx_model.specs.HistoryOf.{commit_of_value, history_of, value_of_name}
+use Rattle.gx_model.specs.Growth.{all_trees, all_trees_to, record_named, tree_records}
+use Rattle.gx_model.specs.RecordFaults.{is_held}
+use Rattle.gx_model.specs.Sound.{IsSound}
+use Rattle.gx_model.proofs.PathTests.{both, first, second, is_true}
+use Rattle.gx_model.proofs.OneTree.{all_right, digits_of, forty, unhex_long}
+use Rattle.gx_model.proofs.HexDigits.{value_is}
+use Rattle.gx_model.proofs.TreePaths.{name_is_name}
+use Rattle.gx_model.proofs.AddedValues.{all_join}
+use Rattle.gx_model.proofs.LinkedValues.{parts_in, proper_in}
+use Rattle.gx_model.proofs.GrownTrees.{trees_named}
+use Rattle.gx_model.proofs.HeldNames.{value_found}
+use Rattle.gx_tree.specs.NameMaps.{IsNameMap}
+use Rattle.gx_tree.specs.HeldTrees.{IsHeldTree}
+use Rattle.gx_tree.specs.Faults as tree_faults
+use Rattle.gx_tree.specs.declared.fault.TreeFault.{TreeFault}
+use Rattle.gx_tree.specs.declared.fault.TreeFault.TheVariants as tree
+use Rattle.gx_rev.proofs.HeldValues.{all_whole, commit_stands}
+use Rattle.gx_import.specs.declared.fault.ImportKind.TheVariants.{OutOfMemory}
+use Rattle.gx_import.specs.ImportKinds.{of_tree}
+
+-- ---- names in place of contents keep a file map one
+
+module _ (name : Kind → Bytes → Bytes) where
+  paths_named : (f : FileMap Bytes) → T (are_file_paths f) → T (are_file_paths (named_map name f))
+  paths_named [] h = tt
+  paths_named (e ∷ es) h = both _ _ (first _ _ h) (paths_named es (second (is_file_path e.0) (are_file_paths es) h))
+
+  line_named : (p : Path) (f : FileMap Bytes) → T (list_all (λ e. not (are_in_line p e.0)) f) → T (list_all (λ e. not (are_in_line p e.0)) (named_map name f))
+  line_named p [] h = tt
+  line_named p (e ∷ es) h = both _ _ (first _ _ h) (line_named p es (second (not (are_in_line p e.0)) _ h))
+
+  apart_named : (f : FileMap Bytes) → T (are_apart f) → T (are_apart (named_map name f))
+  apart_named [] h = tt
+  apart_named (e ∷ es) h = both _ _ (line_named e.0 es (first _ _ h)) (apart_named es (second (list_all (λ f. not (are_in_line e.0 f.0)) es) _ h))
+
+  below_named : (p : Path) (f : FileMap Bytes) → T (below_all path_cmp p f) → T (below_all path_cmp p (named_map name f))
+  below_named p [] h = tt
+  below_named p (e ∷ es) h = both _ _ (first _ _ h) (below_named p es (second (is_lt (path_cmp p e.0)) (below_all path_cmp p es) h))
+
+  sorted_named : (f : FileMap Bytes) → T (is_sorted path_cmp f) → T (is_sorted path_cmp (named_map name f))
+  sorted_named [] h = tt
+  sorted_named (e ∷ es) h = both _ _ (below_named e.0 es (first _ _ h)) (sorted_named es (second (below_all path_cmp e.0 es) (is_sorted path_cmp es) h))
+
+  file_map_named : (f : FileMap Bytes) → T (is_file_map f) → T (is_file_map (named_map name f))
+  file_map_named f h =
+      let a = first (are_file_paths f && are_apart f) (is_sorted path_cmp f) h in
+      both _ _ (both _ _ (paths_named f (first (are_file_paths f) (are_apart f) a)) (apart_named f (second (are_file_paths f) (are_apart f) a))) (sorted_named f (second (are_file_paths f && are_apart f) (is_sorted path_cmp f) h))
+
+  no_dir : (m : Mode) (x : Bytes) → T (is_leaf m x) → m ≢ Dir
+  no_dir m x h e = subst (λ z. T (is_leaf z x)) e h
+
+  modes_named : (f : FileMap Bytes) → T (list_all (λ e. is_leaf e.1.0 e.1.1) f) → AllByRecursion (λ e. e.1.0 ≢ Dir) (named_map name f)
+  modes_named [] h = tt
+  modes_named (e ∷ es) h = (no_dir e.1.0 e.1.1 (first _ _ h), modes_named es (second (is_leaf e.1.0 e.1.1) _ h))
+
+unhex_bytes : (x : Bytes) → T (list_all is_hex_digit x) → T (list_all (λ b. nat_lt b 256) (unhex x))
+unhex_bytes [] h = tt
+unhex_bytes (a ∷ []) h = tt
+unhex_bytes (a ∷ b ∷ x) h =
+    let u = value_is a (first (is_hex_digit a) (list_all is_hex_digit (b ∷ x)) h) in
+    let k = second (is_hex_digit a) (list_all is_hex_digit (b ∷ x)) h in
+    let v = value_is b (first (is_hex_digit b) (list_all is_hex_digit x) k) in
+    let l : 16 * digit_value a + digit_value b < 256 = pair (digit_value a) (digit_value b) u.0 v.0 in
+    both _ _ (passes _ (lt_test _ _ l)) (unhex_bytes x (second (is_hex_digit b) (list_all is_hex_digit x) k))
+  where
+    pair : (m n : ℕ) → m < 16 → n < 16 → 16 * m + n < 256
+    pair m n h k = omega arith
+
+    lt_test : (m n : ℕ) → m < n → nat_lt m n ≡ true
+    lt_test m n h = grind (arith, nat_tests)
+
+module _ (name : Kind → Bytes → Bytes) (namer : IsNamer name) where
+  -- the name of a file's content has 20 bytes
+  pub leaf_is_name : (m : Mode) (b : Bytes) → T (is_leaf m b) → T (is_name (content_name name m b))
+  leaf_is_name File b h = name_is_name name namer kind.Blob b
+  leaf_is_name Exec b h = name_is_name name namer kind.Blob b
+  leaf_is_name Link b h = name_is_name name namer kind.Blob b
+  leaf_is_name Gitlink b h = both _ _ (passes _ (eq-eqb (length (unhex b)) 20 (unhex_long b 20 (forty b h)))) (unhex_bytes b (digits_of b h))
+  leaf_is_name Dir b h = absurd h
+
+  names_named : (f : FileMap Bytes) → T (list_all (λ e. is_leaf e.1.0 e.1.1) f) → T (list_all (λ e. is_name e.1.1) (named_map name f))
+  names_named [] h = tt
+  names_named (e ∷ es) h = both _ _ (leaf_is_name e.1.0 e.1.1 (first _ _ h)) (names_named es (second (is_leaf e.1.0 e.1.1) _ h))
+
+  -- a map of names of contents
+  pub name_map : (f : FileMap Bytes) → T (is_content f) → IsNameMap (named_map name f)
+  name_map f h =
+      let leaves = second (is_file_map f) _ h in
+      record { file_map = is_true _ (file_map_named name f (first (is_file_map f) _ h)); files = modes_named name f leaves; names = is_true _ (names_named f leaves) }
+
+-- ---- the trees of a file map stand with it
+
+trees_below : (n : ℕ) (vs : List Value) → ((f : FileMap Bytes) → IsIn vs (tree_value f) → AllByRecursion (IsIn vs) (map tree_value (all_trees_to n f))) → (gs : List (FileMap Bytes)) → AllByRecursion (IsIn vs) (map tree_value gs)
+    → AllByRecursion (IsIn vs) (map tree_value (flat_map (all_trees_to n) gs))
+trees_below n vs one [] h = tt
+trees_below n vs one (g ∷ gs) h =
+    subst (AllByRecursion (IsIn vs)) (sym (map-append tree_value (all_trees_to n g) (flat_map (all_trees_to n) gs)))
+    (all_join (IsIn vs) (map tree_value (all_trees_to n g)) (map tree_value (flat_map (all_trees_to n) gs)) (one g h.0) (trees_below n vs one gs h.1))
+
+trees_stand : (n : ℕ) (vs : List Value) → IsWhole vs → (f : FileMap Bytes) → IsIn vs (tree_value f) → AllByRecursion (IsIn vs) (map tree_value (all_trees_to n f))
+trees_stand zero vs w f i = (i, tt)
+trees_stand (suc n) vs w f i =
+    subst (AllByRecursion (IsIn vs)) (sym (map-append tree_value (flat_map (all_trees_to n) (sub_maps f)) (f ∷ [])))
+    (all_join (IsIn vs) (map tree_value (flat_map (all_trees_to n) (sub_maps f))) (tree_value f ∷ [])
+    (trees_below n vs (trees_stand n vs w) (sub_maps f) (all_right (IsIn vs) (blobs_of f) (map tree_value (sub_maps f)) (parts_in vs (tree_value f) w i))) (i, tt))
+
+module _ (name : Kind → Bytes → Bytes) (namer : IsNamer name) (r : Records) (sound : IsSound name r) where
+  records_held : (us : List Value) → AllByRecursion (IsIn (history_of r).values) us → AllByRecursion (λ (x : Record). record_named r.records x.name ≡ Some x) (map (record_of name) us)
+  records_held [] h = tt
+  records_held (u ∷ us) h = ((value_found name namer r sound u h.0).0, records_held us h.1)
+
+  -- a file map of the history is held as a tree
+  pub tree_is_held : (f : FileMap Bytes) → IsIn (history_of r).values (tree_value f) → IsHeldTree name r.records (tree_name name f) (named_map name f)
+  tree_is_held f i =
+      let w = all_whole name namer r sound in
+      record {
+        map = name_map name namer f (proper_in (history_of r).values (tree_value f) (passes _ w.proper) i);
+        named = refl;
+        held = subst (AllByRecursion (λ (x : Record). record_named r.records x.name ≡ Some x)) (sym (trees_named name f)) (records_held (map tree_value (all_trees f)) (trees_stand _ (history_of r).values w f i));
+      }
+
+  -- and so are the files of a held commit
+  pub files_are_held : (n : Bytes) → IsTrue (is_held r.records kind.Commit n) → IsHeldTree name r.records (tree_name name (files_of (commit_of_value (value_of_name r.records n)))) (named_map name (files_of (commit_of_value (value_of_name r.records n))))
+  files_are_held n h = tree_is_held (files_of (commit_of_value (value_of_name r.records n))) (parts_in (history_of r).values (commit_value (commit_of_value (value_of_name r.records n))) (all_whole name namer r sound) (commit_stands name namer r sound n h).1).0
+
+-- a load is refused for want of memory alone
+pub load_fault : (f : TreeFault) (g : FileMap Bytes) → IsFaultOf (tree_faults.fault_of f) (Ok g) → of_tree f ≡ OutOfMemory
+load_fault tree.OutOfMemory g h = refl
+load_fault tree.NoSuchPath g h = absurd (cc h)
+load_fault tree.RootNotTree g h = absurd (cc h)
+load_fault tree.PathTooLong g h = absurd (cc h)
+load_fault tree.NameHeld g h = absurd (cc h)

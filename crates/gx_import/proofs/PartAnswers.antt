@@ -1,0 +1,125 @@
+-- How the answer of a step goes with what the whole gives: a refusal of a part is one of the whole.
+use Rattle.std.proofs.Common.{◌≡◌, Result, Ok, Err, ap, subst}
+use Rattle.gx_model.specs.declared.faults.Fault.{Fault}
+use Rattle.gx_model.specs.Faults.{IsFaultOf, and_then}
+use Rattle.gx_model.specs.Histories.{Record}
+use Rattle.gx_model.specs.Growth.{put, put_all}
+use Rattle.std.specs.Prelude.{List, None}
+use Rattle.gx_model.specs.Texts.{Bytes}
+use Rattle.gx_store.specs.declared.fault.StoreFault.{StoreFault}
+use Rattle.gx_store.specs.declared.fault.StoreFault.TheVariants as store
+use Rattle.gx_repo.specs.Additions.{Adds, AddsAll}
+use Rattle.gx_import.specs.declared.fault.ImportKind.{ImportKind}
+use Rattle.gx_import.specs.declared.fault.ImportKind.TheVariants.{OutOfMemory, ReadFailed, WriteFailed, UnknownCommand, BadLine, BadNumber, TruncatedData, BadPath, PathTooLong, BadMode, BadIdent, BadRefName, UnknownMark, WrongKind, UnknownObject, NoSuchPath, RootNotTree, FromItself, EmptyBranch, Unsupported, LateOption, MissingDone, NotFastForward, NameHeld, BadRevision, UnknownRef, Ambiguous, NoParent}
+use Rattle.gx_import.specs.Answers.{AddsAs}
+use Rattle.gx_import.specs.ImportKinds.{fault_of, of_store}
+use Rattle.gx_import.proofs.Refusals.{IsAnswer}
+
+-- what is said of a part, where its clash is one of the whole
+pub adds_more : {X Y : Type 0} (clash other : Type 0) (Is Be : Y → X → Type 0) → (clash → other) → ((y : Y) (x : X) → Is y x → Be y x) → (result : Result X ImportKind) (given : Result Y Fault)
+    → AddsAs clash Is result given → AddsAs other Be result given
+adds_more clash other Is Be f k (Ok x) given h = (h.0, h.1, k h.0 x h.2)
+adds_more clash other Is Be f k (Err OutOfMemory) given h = tt
+adds_more clash other Is Be f k (Err ReadFailed) given h = h
+adds_more clash other Is Be f k (Err WriteFailed) given h = h
+adds_more clash other Is Be f k (Err UnknownCommand) given h = h
+adds_more clash other Is Be f k (Err BadLine) given h = h
+adds_more clash other Is Be f k (Err BadNumber) given h = h
+adds_more clash other Is Be f k (Err TruncatedData) given h = h
+adds_more clash other Is Be f k (Err BadPath) given h = h
+adds_more clash other Is Be f k (Err PathTooLong) given h = h
+adds_more clash other Is Be f k (Err BadMode) given h = h
+adds_more clash other Is Be f k (Err BadIdent) given h = h
+adds_more clash other Is Be f k (Err BadRefName) given h = h
+adds_more clash other Is Be f k (Err UnknownMark) given h = h
+adds_more clash other Is Be f k (Err WrongKind) given h = h
+adds_more clash other Is Be f k (Err UnknownObject) given h = h
+adds_more clash other Is Be f k (Err NoSuchPath) given h = h
+adds_more clash other Is Be f k (Err RootNotTree) given h = h
+adds_more clash other Is Be f k (Err FromItself) given h = h
+adds_more clash other Is Be f k (Err EmptyBranch) given h = h
+adds_more clash other Is Be f k (Err Unsupported) given h = h
+adds_more clash other Is Be f k (Err LateOption) given h = h
+adds_more clash other Is Be f k (Err MissingDone) given h = h
+adds_more clash other Is Be f k (Err NotFastForward) given h = h
+adds_more clash other Is Be f k (Err NameHeld) given h = f h
+adds_more clash other Is Be f k (Err BadRevision) given h = h
+adds_more clash other Is Be f k (Err UnknownRef) given h = h
+adds_more clash other Is Be f k (Err Ambiguous) given h = h
+adds_more clash other Is Be f k (Err NoParent) given h = h
+
+-- a part is refused
+pub adds_refused : {X Y Z W : Type 0} (clash other : Type 0) (Is : Y → X → Type 0) (Be : W → Z → Type 0) → (clash → other) → (e : ImportKind) (given : Result Y Fault) (next : Y → Result W Fault)
+    → AddsAs clash Is (Err e) given → AddsAs other Be (Err e) (and_then given next)
+adds_refused clash other Is Be f OutOfMemory given next h = tt
+adds_refused clash other Is Be f ReadFailed given next h = ap (λ r. and_then r next) h
+adds_refused clash other Is Be f WriteFailed given next h = ap (λ r. and_then r next) h
+adds_refused clash other Is Be f UnknownCommand given next h = ap (λ r. and_then r next) h
+adds_refused clash other Is Be f BadLine given next h = ap (λ r. and_then r next) h
+adds_refused clash other Is Be f BadNumber given next h = ap (λ r. and_then r next) h
+adds_refused clash other Is Be f TruncatedData given next h = ap (λ r. and_then r next) h
+adds_refused clash other Is Be f BadPath given next h = ap (λ r. and_then r next) h
+adds_refused clash other Is Be f PathTooLong given next h = ap (λ r. and_then r next) h
+adds_refused clash other Is Be f BadMode given next h = ap (λ r. and_then r next) h
+adds_refused clash other Is Be f BadIdent given next h = ap (λ r. and_then r next) h
+adds_refused clash other Is Be f BadRefName given next h = ap (λ r. and_then r next) h
+adds_refused clash other Is Be f UnknownMark given next h = ap (λ r. and_then r next) h
+adds_refused clash other Is Be f WrongKind given next h = ap (λ r. and_then r next) h
+adds_refused clash other Is Be f UnknownObject given next h = ap (λ r. and_then r next) h
+adds_refused clash other Is Be f NoSuchPath given next h = ap (λ r. and_then r next) h
+adds_refused clash other Is Be f RootNotTree given next h = ap (λ r. and_then r next) h
+adds_refused clash other Is Be f FromItself given next h = ap (λ r. and_then r next) h
+adds_refused clash other Is Be f EmptyBranch given next h = ap (λ r. and_then r next) h
+adds_refused clash other Is Be f Unsupported given next h = ap (λ r. and_then r next) h
+adds_refused clash other Is Be f LateOption given next h = ap (λ r. and_then r next) h
+adds_refused clash other Is Be f MissingDone given next h = ap (λ r. and_then r next) h
+adds_refused clash other Is Be f NotFastForward given next h = ap (λ r. and_then r next) h
+adds_refused clash other Is Be f NameHeld given next h = f h
+adds_refused clash other Is Be f BadRevision given next h = ap (λ r. and_then r next) h
+adds_refused clash other Is Be f UnknownRef given next h = ap (λ r. and_then r next) h
+adds_refused clash other Is Be f Ambiguous given next h = ap (λ r. and_then r next) h
+adds_refused clash other Is Be f NoParent given next h = ap (λ r. and_then r next) h
+
+-- a part that adds nothing is refused
+pub gives_refused : {Y Z W : Type 0} (clash : Type 0) (Be : W → Z → Type 0) (e : ImportKind) (given : Result Y Fault) (next : Y → Result W Fault) → IsAnswer given
+    → IsFaultOf (fault_of e) given → AddsAs clash Be (Err e) (and_then given next)
+gives_refused clash Be OutOfMemory given next a h = tt
+gives_refused clash Be ReadFailed given next a h = ap (λ r. and_then r next) h
+gives_refused clash Be WriteFailed given next a h = ap (λ r. and_then r next) h
+gives_refused clash Be UnknownCommand given next a h = ap (λ r. and_then r next) h
+gives_refused clash Be BadLine given next a h = ap (λ r. and_then r next) h
+gives_refused clash Be BadNumber given next a h = ap (λ r. and_then r next) h
+gives_refused clash Be TruncatedData given next a h = ap (λ r. and_then r next) h
+gives_refused clash Be BadPath given next a h = ap (λ r. and_then r next) h
+gives_refused clash Be PathTooLong given next a h = ap (λ r. and_then r next) h
+gives_refused clash Be BadMode given next a h = ap (λ r. and_then r next) h
+gives_refused clash Be BadIdent given next a h = ap (λ r. and_then r next) h
+gives_refused clash Be BadRefName given next a h = ap (λ r. and_then r next) h
+gives_refused clash Be UnknownMark given next a h = ap (λ r. and_then r next) h
+gives_refused clash Be WrongKind given next a h = ap (λ r. and_then r next) h
+gives_refused clash Be UnknownObject given next a h = ap (λ r. and_then r next) h
+gives_refused clash Be NoSuchPath given next a h = ap (λ r. and_then r next) h
+gives_refused clash Be RootNotTree given next a h = ap (λ r. and_then r next) h
+gives_refused clash Be FromItself given next a h = ap (λ r. and_then r next) h
+gives_refused clash Be EmptyBranch given next a h = ap (λ r. and_then r next) h
+gives_refused clash Be Unsupported given next a h = ap (λ r. and_then r next) h
+gives_refused clash Be LateOption given next a h = ap (λ r. and_then r next) h
+gives_refused clash Be MissingDone given next a h = ap (λ r. and_then r next) h
+gives_refused clash Be NotFastForward given next a h = ap (λ r. and_then r next) h
+gives_refused clash Be NameHeld given next a h = absurd (subst IsAnswer h a)
+gives_refused clash Be BadRevision given next a h = ap (λ r. and_then r next) h
+gives_refused clash Be UnknownRef given next a h = ap (λ r. and_then r next) h
+gives_refused clash Be Ambiguous given next a h = ap (λ r. and_then r next) h
+gives_refused clash Be NoParent given next a h = ap (λ r. and_then r next) h
+
+-- a record that isn't put
+pub put_refused : {X Y : Type 0} (clash : Type 0) (Be : Y → X → Type 0) (given : Result Y Fault) (old new : List Record) (r : Record) (f : StoreFault) → (put old r ≡ None → clash)
+    → Adds old new r (Err f) → AddsAs clash Be (Err (of_store f)) given
+put_refused clash Be given old new r store.OutOfMemory k h = tt
+put_refused clash Be given old new r store.NameHeld k h = k h.0
+
+-- records of which one isn't put
+pub puts_refused : {X Y : Type 0} (clash : Type 0) (Be : Y → X → Type 0) (given : Result Y Fault) (old new rs : List Record) (called : Bytes) (f : StoreFault) → (put_all old rs ≡ None → clash)
+    → AddsAll old new rs called (Err f) → AddsAs clash Be (Err (of_store f)) given
+puts_refused clash Be given old new rs called store.OutOfMemory k h = tt
+puts_refused clash Be given old new rs called store.NameHeld k h = k h.0

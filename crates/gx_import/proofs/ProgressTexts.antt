@@ -1,0 +1,189 @@
+-- The progress text of a replay: each step's begins with the earlier one's, and so does that of the outcome. What a sink takes, one text after the other.
+use Rattle.std.proofs.Common.{◌≡◌, ℕ, ◌+◌, ◌≤◌, ◌<◌, true, false, cond, List, [], ◌∷◌, ◌++◌, length, take, drop, Option, Some, None, Result, Ok, Err, refl, sym, ap, subst, ◌∙◌, arith, append_assoc}
+use Rattle.std.specs.Prelude.{IfOk, codes}
+use Rattle.std.proofs.lemmas.List.{append-nil, length-append, length-drop, take-append-drop}
+use Rattle.gx_model.specs.declared.objects.Kind.{Kind}
+use Rattle.gx_model.specs.declared.objects.Mode.{Mode}
+use Rattle.gx_model.specs.declared.objects.Mode.TheVariants.{Gitlink}
+use Rattle.gx_model.specs.declared.faults.Fault.{Fault}
+use Rattle.gx_model.specs.declared.faults.Fault.TheVariants as fault
+use Rattle.gx_model.specs.declared.features.Feature.TheVariants as features
+use Rattle.gx_model.specs.Faults.{and_then}
+use Rattle.gx_model.specs.Texts.{Bytes}
+use Rattle.gx_model.specs.Files.{FileMap}
+use Rattle.gx_model.specs.Denotation.{base_value}
+use Rattle.gx_model.specs.Edits.{copied, modified, renamed}
+use Rattle.gx_model.specs.Values.{Value, blob_value, commit, commit_value, commits_of, tag_value}
+use Rattle.gx_model.specs.Commands as command
+use Rattle.gx_model.specs.Commands.{Asks, Blob, Change, Checkpoint, Clear, Command, CommitIsh, CommitParts, Copy, DataRef, Done, Inline, Mark, Modify, Object, OptionLine, Progress, Remove, Rename, Reset, TagParts}
+use Rattle.gx_model.specs.Revisions.{revision_of}
+use Rattle.gx_model.specs.Replay.{State, added, all_changed, all_committed, at, blob_bytes, changed, commit_alone, committed, committed_for, content, ended, final, finished, first_parent, is_fast_forward, marked, refused, replayed, report, starting_files, step, step_commit, step_reset, step_tag, text_made, with_first_parent}
+use Rattle.gx_text.specs.Devices.{Sends, Taken}
+use Rattle.gx_import.specs.Additions.{tag_made}
+use Rattle.gx_import.specs.Applying.{FailedWithin, Took}
+use Rattle.gx_import.specs.Imports.{last_number, progress_of}
+use Rattle.gx_import.specs.Replaying.{Writes}
+use Rattle.gx_import.specs.declared.fault.ImportKind.{ImportKind}
+
+-- ---- steps that may be refused
+
+then_has : {X Y : Type 0} (P : X → Type 0) (Q : Y → Type 0) (r : Result X Fault) (f : X → Result Y Fault) → IfOk r P → ((x : X) → P x → IfOk (f x) Q) → IfOk (and_then r f) Q
+then_has P Q (Ok x) f p h = h x p
+then_has P Q (Err e) f p h = tt
+
+next_has : {X Y : Type 0} (Q : Y → Type 0) (r : Result X Fault) (f : X → Result Y Fault) → ((x : X) → IfOk (f x) Q) → IfOk (and_then r f) Q
+next_has Q (Ok x) f h = h x
+next_has Q (Err e) f h = tt
+
+-- ---- a step's progress begins with the earlier one's
+
+-- the same progress, and as many values at the start
+pub record HasSame (s t : State) : Type 0 where
+  pub progress : t.progress ≡ s.progress
+  pub held : t.held ≡ s.held
+
+same : (s : State) → HasSame s s
+same s = record { progress = refl; held = refl }
+
+-- and maybe more progress
+pub record HasMore (s t : State) : Type 0 where
+  pub text : Bytes
+  pub progress : t.progress ≡ s.progress ++ text
+  pub held : t.held ≡ s.held
+
+no_more : (s t : State) → HasSame s t → HasMore s t
+no_more s t h = record { text = []; progress = h.progress ∙ sym (append-nil s.progress); held = h.held }
+
+same_marked : (m : Option ℕ) (v : Value) (s t : State) → HasSame s t → HasSame s (marked m v t)
+same_marked None v s t h = h
+same_marked (Some n) v s t h = record { progress = h.progress; held = h.held }
+
+module _ (name : Kind → Bytes → Bytes) where
+  same_content : (s : State) (m : Mode) (d : DataRef) → IfOk (content name revision_of s m d) (λ r. HasSame s r.0)
+  same_content s Gitlink (Object x) = same s
+  same_content s m (Mark n) = next_has (λ r. HasSame s r.0) (at s n) _ (λ v. next_has (λ r. HasSame s r.0) (blob_bytes name revision_of v) _ (λ x. same s))
+  same_content s m (Object x) = next_has (λ r. HasSame s r.0) (base_value name s.history x) _ (λ v. next_has (λ r. HasSame s r.0) (blob_bytes name revision_of v) _ (λ y. same s))
+  same_content s m (Inline x) = record { progress = refl; held = refl }
+
+  same_changed : (s : State) (f : FileMap Bytes) (c : Change) → IfOk (changed name revision_of s f c) (λ r. HasSame s r.0)
+  same_changed s f (Modify m d p) = then_has (λ r. HasSame s r.0) (λ r. HasSame s r.0) (content name revision_of s m d) _ (same_content s m d) (λ r h. next_has (λ q. HasSame s q.0) (modified f p (m, r.1)) _ (λ g. h))
+  same_changed s f (Remove p) = same s
+  same_changed s f (Copy p q) = next_has (λ r. HasSame s r.0) (copied f p q) _ (λ g. same s)
+  same_changed s f (Rename p q) = next_has (λ r. HasSame s r.0) (renamed f p q) _ (λ g. same s)
+  same_changed s f Clear = same s
+
+  then_same : (s t : State) → HasSame s t → (r : Result (State × FileMap Bytes) Fault) → IfOk r (λ q. HasSame t q.0) → IfOk r (λ q. HasSame s q.0)
+  then_same s t h (Ok q) k = record { progress = k.progress ∙ h.progress; held = k.held ∙ h.held }
+  then_same s t h (Err e) k = tt
+
+  same_all_changed : (s : State) (f : FileMap Bytes) (cs : List Change) → IfOk (all_changed name revision_of s f cs) (λ r. HasSame s r.0)
+  same_all_changed s f [] = same s
+  same_all_changed s f (c ∷ cs) =
+      then_has (λ r. HasSame s r.0) (λ r. HasSame s r.0) (changed name revision_of s f c) (λ r. all_changed name revision_of r.0 r.1 cs) (same_changed s f c)
+      (λ r h. then_same s r.0 h (all_changed name revision_of r.0 r.1 cs) (same_all_changed r.0 r.1 cs))
+
+  same_commit : (s : State) (c : CommitParts) → IfOk (step_commit name revision_of s c) (HasMore s)
+  same_commit s c =
+      next_has (HasMore s) (first_parent name revision_of s c) _ (λ first. next_has (HasMore s) (all_committed name revision_of c.ref s c.merges) _ (λ others.
+      then_has (λ r. HasSame s r.0) (HasMore s) (all_changed name revision_of s (starting_files name revision_of first) c.changes) _ (same_all_changed s (starting_files name revision_of first) c.changes)
+      (λ r h.
+      let made = commit_value (commit r.1 (commits_of (with_first_parent name revision_of first others)) (text_made name revision_of c)) in
+      let m = same_marked c.mark made s (added made r.0) (record { progress = h.progress; held = h.held }) in
+      record { text = []; progress = m.progress ∙ sym (append-nil s.progress); held = m.held })))
+
+  same_tag : (s : State) (t : TagParts) → IfOk (step_tag name revision_of s t) (HasMore s)
+  same_tag s t =
+      next_has (HasMore s) (committed name revision_of commit_alone s t.target) _ (λ c.
+      let made = tag_value (tag_made c t) in
+      let m = same_marked t.mark made s (added made s) (record { progress = refl; held = refl }) in
+      record { text = []; progress = m.progress ∙ sym (append-nil s.progress); held = m.held })
+
+  same_reset : (s : State) (b : Bytes) (x : Option CommitIsh) → IfOk (step_reset name revision_of s b x) (HasMore s)
+  same_reset s b None = record { text = []; progress = sym (append-nil s.progress); held = refl }
+  same_reset s b (Some x) = next_has (HasMore s) (committed_for name revision_of b s x) _ (λ c. record { text = []; progress = sym (append-nil s.progress); held = refl })
+
+  pub more_progress : (s : State) (c : Command) → IfOk (step name revision_of s c) (HasMore s)
+  more_progress s (Blob b) = no_more s _ (same_marked b.mark (blob_value b.bytes) s (added (blob_value b.bytes) s) (record { progress = refl; held = refl }))
+  more_progress s (command.Commit c) = same_commit s c
+  more_progress s (command.Tag t) = same_tag s t
+  more_progress s (Reset r) = same_reset s r.ref r.parent
+  more_progress s (Progress x) = record { text = codes "progress " ++ x ++ 10 ∷ []; progress = ap (λ z. z ++ 10 ∷ []) (append_assoc s.progress (codes "progress ") x) ∙ append_assoc s.progress (codes "progress " ++ x) (10 ∷ []); held = refl }
+  more_progress s (Asks features.Force) = record { text = []; progress = sym (append-nil s.progress); held = refl }
+  more_progress s (Asks features.Done) = no_more s s (same s)
+  more_progress s Checkpoint = no_more s s (same s)
+  more_progress s (Asks features.RawDates) = no_more s s (same s)
+  more_progress s (OptionLine t) = no_more s s (same s)
+  more_progress s Done = no_more s s (same s)
+
+  -- ---- the outcome's
+
+  last_progress : (n : ℕ) (s : State) (end : Option Fault) → progress_of (ended n s end) ≡ s.progress
+  last_progress n s (Some e) = refl
+  last_progress n s None = elim (is_fast_forward s) as (λ b. progress_of (cond b (finished (final s) s.progress (report n s)) (refused (n + 1) fault.NotFastForward s.progress)) ≡ s.progress) [ true ↦ refl | false ↦ refl ]
+
+  -- the outcome's progress begins with that of each state on the way
+  pub begins_outcome : (n : ℕ) (s : State) (cs : List Command) (end : Option Fault) → (rest : Bytes) × (progress_of (replayed name revision_of n s cs end) ≡ s.progress ++ rest)
+  begins_outcome n s [] end = ([], last_progress n s end ∙ sym (append-nil s.progress))
+  begins_outcome n s (c ∷ cs) end =
+      elim (step name revision_of s c) as (λ r. IfOk r (HasMore s) → (rest : Bytes) × (progress_of (elim r [ Ok t ↦ replayed name revision_of (n + 1) t cs end | Err e ↦ refused (n + 1) e s.progress ]) ≡ s.progress ++ rest)) [
+        | Ok t ↦ λ h.
+            let k = begins_outcome (n + 1) t cs end in
+            (h.text ++ k.0, k.1 ∙ ap (λ x. x ++ k.0) h.progress ∙ append_assoc s.progress h.text k.0)
+        | Err e ↦ λ h. ([], sym (append-nil s.progress))
+      ] (more_progress s c)
+
+  last_end : (n : ℕ) (s : State) (end : Option Fault) → n + 1 ≤ last_number (ended n s end)
+  last_end n s (Some e) = omega arith
+  last_end n s None = elim (is_fast_forward s) as (λ b. n + 1 ≤ last_number (cond b (finished (final s) s.progress (report n s)) (refused (n + 1) fault.NotFastForward s.progress))) [ true ↦ omega arith | false ↦ omega arith ]
+
+  -- its number is that of a command that comes, or more
+  pub numbers_outcome : (n : ℕ) (s : State) (cs : List Command) (end : Option Fault) → n + 1 ≤ last_number (replayed name revision_of n s cs end)
+  numbers_outcome n s [] end = last_end n s end
+  numbers_outcome n s (c ∷ cs) end =
+      elim (step name revision_of s c) as (λ r. n + 1 ≤ last_number (elim r [ Ok t ↦ replayed name revision_of (n + 1) t cs end | Err e ↦ refused (n + 1) e s.progress ])) [
+        | Ok t ↦ let k = numbers_outcome (n + 1) t cs end in omega (arith, k)
+        | Err e ↦ omega arith
+      ]
+
+-- ---- what a sink takes
+
+pub took_more : (was mid now : Option Taken) (a b : Bytes) → Took was mid a → Took mid now b → Took was now (a ++ b)
+took_more None mid now a b h k = tt
+took_more (Some was) mid now a b h k =
+    let e = subst (λ m. Took m now b) h k in
+    e ∙ ap (λ x. Some (record { bytes = x; failed = was.failed })) (append_assoc was.bytes a b)
+
+pub failed_later : (was mid now : Option Taken) (a b : Bytes) → Took was mid a → FailedWithin mid now b → FailedWithin was now (a ++ b)
+failed_later None mid now a b h k = tt
+failed_later (Some was) mid now a b h k =
+    let e = subst (λ m. FailedWithin m now b) h k in
+    (a ++ e.0, e.1, ap (λ x. a ++ x) e.2 ∙ sym (append_assoc a e.0 e.1), e.3, e.4 ∙ ap (λ x. Some (record { bytes = x; failed = true })) (append_assoc was.bytes a e.0))
+
+pub failed_sooner : (was now : Option Taken) (a b : Bytes) → FailedWithin was now a → FailedWithin was now (a ++ b)
+failed_sooner None now a b h = tt
+failed_sooner (Some was) now a b h = (h.0, h.1 ++ b, ap (λ x. x ++ b) h.2 ∙ append_assoc h.0 h.1 b, longer h.1 b h.3, h.4)
+  where
+    longer : (x y : Bytes) → 0 < length x → 0 < length (x ++ y)
+    longer x y k = omega (arith, length-append x y)
+
+-- a sink that sends nothing
+pub took_none : (was : Option Taken) → Took was was []
+took_none None = tt
+took_none (Some was) = ap (λ x. Some (record { bytes = x; failed = was.failed })) (sym (append-nil was.bytes))
+
+-- a text that is sent up to a place before its end
+pub sent_within : (was now : Option Taken) (text : Bytes) (n : ℕ) → n < length text → Sends was now text (Err n) → FailedWithin was now text
+sent_within None now text n h k = tt
+sent_within (Some was) now text n h k = (take n text, drop n text, sym (take-append-drop n text), left, k.1)
+  where
+    left : 0 < length (drop n text)
+    left = omega (arith, length-drop n text)
+
+-- a text that is written behind another one
+pub writes_later : (was mid now : Option Taken) (a b : Bytes) (r : Result (Unit {0}) ImportKind) → Took was mid a → Writes mid now b r → Writes was now (a ++ b) r
+writes_later was mid now a b (Ok x) h k = took_more was mid now a b h k
+writes_later was mid now a b (Err e) h k = (k.0, failed_later was mid now a b h k.1)
+
+-- one that isn't written is the front of a longer one
+pub writes_sooner : (was now : Option Taken) (a b : Bytes) (e : ImportKind) → Writes was now a (Err e) → Writes was now (a ++ b) (Err e)
+writes_sooner was now a b e h = (h.0, failed_sooner was now a b h.1)

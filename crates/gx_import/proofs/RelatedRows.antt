@@ -1,0 +1,80 @@
+-- Rows that go together: what is found at a name goes together, and so does what is put there.
+use Rattle.std.proofs.Common.{◌≡◌, ℕ, zero, suc, Bool, true, false, cond, List, [], ◌∷◌, map, get_or, set, Option, Some, None, refl, sym, ap, subst, ◌∙◌}
+use Rattle.std.specs.Prelude.{IfSome, ◌&&◌}
+use Rattle.std.specs.Map.{lookup}
+use Rattle.std.specs.declared.cmp.Ordering.TheVariants.{Less, Equal, Greater}
+use Rattle.std.specs.FinMap.Entries.{below_all, by_order, is_sorted, put}
+use Rattle.std.specs.Ordering.{is_lt}
+use Rattle.gx_model.specs.Texts.{Bytes}
+use Rattle.gx_model.specs.Replay.{byte_cmp}
+use Rattle.gx_import.specs.declared.table.Row.{Row}
+use Rattle.gx_import.specs.Rows.{AreBoth, AreRows, row_of}
+
+-- what follows for something that is there
+pub some_more : {X : Type 0} (P Q : X → Type 0) (o : Option X) → ((x : X) → P x → Q x) → IfSome o P → IfSome o Q
+some_more P Q None f h = tt
+some_more P Q (Some x) f h = f x h
+
+module _ {T A : Type 0} (Is : T → T → Type 0) (same : (t : T) → Is t t) where
+  pub related_itself : (xs : List (Row T A)) → AreRows Is (map row_of xs) (map row_of xs)
+  related_itself [] = tt
+  related_itself (x ∷ xs) = (refl, same x.value, related_itself xs)
+
+  -- one row changes its value
+  pub related_set : (xs : List (Row T A)) (i : ℕ) (d y : Row T A) → y.name.items ≡ (get_or xs i d).name.items → Is (get_or xs i d).value y.value → AreRows Is (map row_of xs) (map row_of (set xs i y))
+  related_set [] i d y n h = tt
+  related_set (x ∷ xs) zero d y n h = (sym n, h, related_itself xs)
+  related_set (x ∷ xs) (suc i) d y n h = (refl, same x.value, related_set xs i d y n h)
+
+module _ {X Y : Type 0} (Is : X → Y → Type 0) where
+  -- what is found at a name
+  pub related_found : (t : Bytes → Bool) (xs : List (Bytes × X)) (ys : List (Bytes × Y)) → AreRows Is xs ys → AreBoth Is (lookup t xs) (lookup t ys)
+  related_found t [] [] h = tt
+  related_found t [] (y ∷ ys) h = absurd h
+  related_found t (x ∷ xs) [] h = absurd h
+  related_found t (x ∷ xs) (y ∷ ys) h =
+      subst (λ n. AreBoth Is (cond (t x.0) (Some x.1) (lookup t xs)) (cond (t n) (Some y.1) (lookup t ys))) h.0
+      (elim (t x.0) as (λ b. AreBoth Is (cond b (Some x.1) (lookup t xs)) (cond b (Some y.1) (lookup t ys))) [ true ↦ h.1 | false ↦ related_found t xs ys h.2 ])
+
+  -- what is put at a name
+  pub related_put : (n : Bytes) (x : X) (y : Y) → Is x y → (xs : List (Bytes × X)) (ys : List (Bytes × Y)) → AreRows Is xs ys → AreRows Is (put byte_cmp n x xs) (put byte_cmp n y ys)
+  related_put n x y k [] [] h = (refl, k, tt)
+  related_put n x y k [] (w ∷ ys) h = absurd h
+  related_put n x y k (v ∷ xs) [] h = absurd h
+  related_put n x y k (v ∷ xs) (w ∷ ys) h =
+      subst (λ m. AreRows Is (by_order (byte_cmp n v.0) ((n, x) ∷ v ∷ xs) ((v.0, x) ∷ xs) (v ∷ put byte_cmp n x xs)) (by_order (byte_cmp n m) ((n, y) ∷ w ∷ ys) ((w.0, y) ∷ ys) (w ∷ put byte_cmp n y ys))) h.0
+      (elim (byte_cmp n v.0) as (λ o. AreRows Is (by_order o ((n, x) ∷ v ∷ xs) ((v.0, x) ∷ xs) (v ∷ put byte_cmp n x xs)) (by_order o ((n, y) ∷ w ∷ ys) ((w.0, y) ∷ ys) (w ∷ put byte_cmp n y ys))) [
+        | Less ↦ (refl, k, h)
+        | Equal ↦ (h.0, k, h.2)
+        | Greater ↦ (h.0, h.1, related_put n x y k xs ys h.2)
+      ])
+
+  -- what goes together in another way, too
+  pub related_more : (Be : X → Y → Type 0) → ((x : X) (y : Y) → Is x y → Be x y) → (xs : List (Bytes × X)) (ys : List (Bytes × Y)) → AreRows Is xs ys → AreRows Be xs ys
+  related_more Be f [] [] h = tt
+  related_more Be f [] (y ∷ ys) h = absurd h
+  related_more Be f (x ∷ xs) [] h = absurd h
+  related_more Be f (x ∷ xs) (y ∷ ys) h = (h.0, f x.1 y.1 h.1, related_more Be f xs ys h.2)
+
+-- what goes together by way of a third
+pub related_through : {X Y Z : Type 0} (Is : X → Y → Type 0) (Be : Y → Z → Type 0) (In : X → Z → Type 0) → ((x : X) (y : Y) (z : Z) → Is x y → Be y z → In x z)
+    → (xs : List (Bytes × X)) (ys : List (Bytes × Y)) (zs : List (Bytes × Z)) → AreRows Is xs ys → AreRows Be ys zs → AreRows In xs zs
+related_through Is Be In f [] [] [] h k = tt
+related_through Is Be In f [] [] (z ∷ zs) h k = absurd k
+related_through Is Be In f [] (y ∷ ys) zs h k = absurd h
+related_through Is Be In f (x ∷ xs) [] zs h k = absurd h
+related_through Is Be In f (x ∷ xs) (y ∷ ys) [] h k = absurd k
+related_through Is Be In f (x ∷ xs) (y ∷ ys) (z ∷ zs) h k = (h.0 ∙ k.0, f x.1 y.1 z.1 h.1 k.1, related_through Is Be In f xs ys zs h.2 k.2)
+
+below_same : {X Y : Type 0} (Is : X → Y → Type 0) (k : Bytes) (xs : List (Bytes × X)) (ys : List (Bytes × Y)) → AreRows Is xs ys → below_all byte_cmp k xs ≡ below_all byte_cmp k ys
+below_same Is k [] [] h = refl
+below_same Is k [] (y ∷ ys) h = absurd h
+below_same Is k (x ∷ xs) [] h = absurd h
+below_same Is k (x ∷ xs) (y ∷ ys) h = λ i. is_lt (byte_cmp k (h.0 i)) && below_same Is k xs ys h.2 i
+
+-- the same names are in the same order
+pub sorted_same : {X Y : Type 0} (Is : X → Y → Type 0) (xs : List (Bytes × X)) (ys : List (Bytes × Y)) → AreRows Is xs ys → is_sorted byte_cmp xs ≡ is_sorted byte_cmp ys
+sorted_same Is [] [] h = refl
+sorted_same Is [] (y ∷ ys) h = absurd h
+sorted_same Is (x ∷ xs) [] h = absurd h
+sorted_same Is (x ∷ xs) (y ∷ ys) h = ap (λ k. below_all byte_cmp k xs && is_sorted byte_cmp xs) h.0 ∙ (λ i. below_same Is y.0 xs ys h.2 i && sorted_same Is xs ys h.2 i)

@@ -1,0 +1,16 @@
+use Rattle.std.proofs.Common.{◌≡◌, map, drop}
+use Rattle.gx_model.specs.Texts.{Bytes}
+use Rattle.gx_model.specs.Files.{FileMap}
+use Rattle.gx_model.specs.Replay.{State}
+use Rattle.gx_command.specs.Views.{shown_change}
+use Rattle.gx_import.specs.Standing.{AreFiles, Extends, Stands}
+use Rattle.gx_import.proofs.ChangesSoFar.{AreMade}
+use Rattle.gx_import.proofs.changes.change_all.Given as goal
+
+abbrev pub invariant-loop-change : goal.invariant-loop-change
+invariant-loop-change g l =
+    (l.repo.0 ≡ l.initial.repo.0)
+    × (l.repo.1.refs ≡ l.initial.repo.1.refs)
+    × Extends l.initial.repo.1.records l.repo.1.records
+    × ((s : State) (f : FileMap Bytes) → Stands (g.N.Namer.name_of l.initial.repo.0) l.initial.repo.1 l.tables s → AreFiles (g.N.Namer.name_of l.initial.repo.0) s.history.values f l.initial.files
+    → AreMade (g.N.Namer.name_of l.initial.repo.0) l.initial.repo.1 l.repo.1 l.tables s f (map shown_change l.changes) (map shown_change (drop l.change-index l.changes)) l.files)

@@ -1,0 +1,14 @@
+use Rattle.std.proofs.Common.{Option, map, drop}
+use Rattle.gx_model.specs.Replay.{State}
+use Rattle.gx_model.specs.Values as values
+use Rattle.gx_command.specs.Views.{shown_commit_ish}
+use Rattle.gx_import.specs.Objects.{IsCommitOf}
+use Rattle.gx_import.specs.Rows.{AreBoth}
+use Rattle.gx_import.specs.Standing.{Stands}
+use Rattle.gx_import.proofs.MergedParents.{ArePartOf}
+use Rattle.gx_import.proofs.commit.parents.Given as goal
+
+abbrev pub invariant-loop-merged : goal.invariant-loop-merged
+invariant-loop-merged g l =
+    (s : State) (made : Option values.Commit) → Stands (g.N.Namer.name_of l.repo.0) l.repo.1 l.tables s → AreBoth (IsCommitOf (g.N.Namer.name_of l.repo.0) s.history.values) made l.fn.first
+    → ArePartOf (g.N.Namer.name_of l.repo.0) l.commit.branch.bytes.items s made (map shown_commit_ish l.commit.merges.items) (map shown_commit_ish (drop l.merged-index l.commit.merges.items)) l.parents.items

@@ -1,0 +1,23 @@
+use Rattle.std.proofs.Common.{◌≡◌, Some, None, sym, subst}
+use Rattle.std.specs.Map.{lookup}
+use Rattle.gx_model.specs.Texts.{same_bytes}
+use Rattle.gx_command.specs.Views.{shown_commit_ish}
+use Rattle.gx_import.specs.Answers.{GivesAs}
+use Rattle.gx_import.specs.Objects.{IsOf}
+use Rattle.gx_import.specs.Rows.{rows_of}
+use Rattle.gx_import.specs.Steps.{value_named}
+use Rattle.gx_import.proofs.NamedCommits.{branch_named, revision_named}
+use Rattle.gx_import.proofs.commit_ish.object_named.Goals as goal
+
+pub returns-in-Some : goal.returns-in-Some
+returns-in-Some g c = λ s h.
+    let name = g.N.Namer.name_of c.args.repo.now.0 in
+    let found = rw c.as_slice.ensures.value at c.in-Some.ensures in
+    rw (c.branch_object.ensures, c.in-Text.is) (branch_named name c.args.repo.now.1 c.args.tables.now s h c.in-Text.text.items c.in-Some.tip.now found)
+
+pub returns-in-None : goal.returns-in-None
+returns-in-None g c = λ s h.
+    let name = g.N.Namer.name_of c.args.repo.now.0 in
+    let found = rw c.as_slice.ensures.value at c.in-None.ensures in
+    let given = rw c.as_slice-in-None.ensures.value at c.revision_object.ensures in
+    rw c.in-Text.is (revision_named name c.args.repo.now.1 c.args.tables.now s h c.in-Text.text.items found c.revision_object.result given)

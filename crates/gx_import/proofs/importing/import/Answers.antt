@@ -1,0 +1,20 @@
+use Rattle.std.proofs.Common.{length, ap, ◌∙◌}
+use Rattle.gx_import.proofs.Publications.{as_before, imports_fault, targets_stay}
+use Rattle.gx_import.proofs.importing.import.Goals as goal
+
+pub truncate-requires : goal.truncate-requires
+truncate-requires g c =
+    let held = c.len-held.ensures.count ∙ ap (λ z. length z.1) c.store.ensures in
+    record { targets = targets_stay c.args.repo.now.1 c.replay_and_publish.new.repo.1 c.len-held.result held c.replay_and_publish.ensures.extends c.in-Err.ensures.unpublished c.sound.ensures.held }
+
+pub returns-in-Err-clause-namer : goal.returns-in-Err-clause-namer
+returns-in-Err-clause-namer g c = ap (λ z. z.0) c.truncate.ensures ∙ c.replay_and_publish.ensures.namer
+
+pub returns-in-Err-clause-replayed : goal.returns-in-Err-clause-replayed
+returns-in-Err-clause-replayed g c =
+    imports_fault (g.N.Namer.name_of c.args.repo.now.0) c.args.repo.now.1 c.replay_and_publish.new.repo.1 c.truncate.new.self.1 (g.R.Source.coming c.args.source) (g.W.Sink.taken c.args.sink.now) (g.W.Sink.taken c.replay_and_publish.new.sink) c.in-Err.fault c.in-Err.ensures.replayed
+
+pub returns-in-Err-clause-unchanged : goal.returns-in-Err-clause-unchanged
+returns-in-Err-clause-unchanged g c =
+    let held = c.len-held.ensures.count ∙ ap (λ z. length z.1) c.store.ensures in
+    as_before c.args.repo.now.0 c.replay_and_publish.new.repo.0 c.args.repo.now.1 c.replay_and_publish.new.repo.1 c.len-held.result c.truncate.new.self c.truncate.ensures held c.replay_and_publish.ensures.extends c.replay_and_publish.ensures.namer c.in-Err.ensures.unpublished

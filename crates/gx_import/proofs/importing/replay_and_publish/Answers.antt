@@ -1,0 +1,35 @@
+use Rattle.std.proofs.Common.{◌≡◌, ◌-◌, length, Ok, sym, ap, subst, ◌∙◌}
+use Rattle.gx_model.specs.Sound.{IsSound}
+use Rattle.gx_import.specs.Imports.{Imports}
+use Rattle.gx_import.specs.Standing.{Stands}
+use Rattle.gx_import.proofs.Publications.{imports_all, imports_none}
+use Rattle.gx_import.proofs.importing.replay_and_publish.Goals as goal
+
+pub publish-requires : goal.publish-requires
+publish-requires g c =
+    let k = c.in_ok-commands.ensures.replayed in
+    record { stands = (k.0, subst (λ n. Stands (g.N.Namer.name_of n) c.replay.new.repo.1 c.replay.new.tables k.0) {y = c.replay.new.repo.0} (sym {a = c.replay.new.repo.0} c.replay.ensures.namer) k.1) }
+
+pub returns-in-Err-clause-replayed : goal.returns-in-Err-clause-replayed
+returns-in-Err-clause-replayed g c =
+    let k = c.in_ok-commands.ensures.replayed in
+    let stands = subst (λ n. Stands (g.N.Namer.name_of n) c.replay.new.repo.1 c.replay.new.tables k.0) {y = c.replay.new.repo.0} (sym {a = c.replay.new.repo.0} c.replay.ensures.namer) k.1 in
+    imports_none (g.N.Namer.name_of c.args.repo.now.0) c.args.repo.now.1 c.publish.new.repo.1 c.replay.new.repo.1 c.publish.new.repo.1 (g.R.Source.coming c.args.source) c.in_ok-commands.commands k.0 (g.W.Sink.taken c.args.sink.now) (g.W.Sink.taken c.replay.new.sink) k.2 c.in-Err.kind (c.in-Err.ensures.published k.0 stands)
+
+pub returns-clause-replayed : goal.returns-clause-replayed
+returns-clause-replayed g c =
+    let k = c.in_ok-commands.ensures.replayed in
+    let name = g.N.Namer.name_of c.args.repo.now.0 in
+    let old = c.args.repo.now.1 in
+    let new = c.publish.new.repo.1 in
+    let coming = g.R.Source.coming c.args.source in
+    let was = g.W.Sink.taken c.args.sink.now in
+    let now = g.W.Sink.taken c.replay.new.sink in
+    let stands = subst (λ n. Stands (g.N.Namer.name_of n) c.replay.new.repo.1 c.replay.new.tables k.0) {y = c.replay.new.repo.0} (sym {a = c.replay.new.repo.0} c.replay.ensures.namer) k.1 in
+    let sounds = subst (λ n. IsSound (g.N.Namer.name_of n) new) {y = c.args.repo.now.0} (c.publish.ensures.namer ∙ c.replay.ensures.namer) c.sound-2.ensures in
+    let law = c.histories_of_records.ensures name (g.met.N.Namer.is_namer c.args.repo.now.0) in
+    let all = imports_all name old new c.replay.new.repo.1 coming c.in_ok-commands.commands k.0 was now k.2 law c.sound.ensures sounds c.in-Ok.refs (c.in-Ok.ensures.published k.0 stands) in
+    let held = c.len-held.ensures.count ∙ ap (λ z. length z.1) c.store.ensures in
+    let len = c.len.ensures.count ∙ ap (λ z. length z.1) c.store-2.ensures in
+    let objects : length new.records - length old.records ≡ c.len.result - c.len-held.result = ap (λ x. x - length old.records) (sym len) ∙ ap (λ x. c.len.result - x) (sym held) in
+    subst (λ x. Imports name old new coming was now (Ok (record { commands = c.in_ok-commands.commands; objects = x; refs = c.in-Ok.refs }))) objects all

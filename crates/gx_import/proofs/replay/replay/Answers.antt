@@ -1,0 +1,123 @@
+use Rattle.std.proofs.Common.{◌+◌, [], Err, refl, sym, subst, ◌∙◌, arith}
+use Rattle.std.proofs.lemmas.List.{append-nil}
+use Rattle.std.proofs.lemmas.Result.{err_from_is_err_and}
+use Rattle.gx_model.specs.HistoryOf.{history_of}
+use Rattle.gx_model.specs.Replay.{State, start}
+use Rattle.gx_import.specs.ImportKinds.{of_command}
+use Rattle.gx_import.specs.Imports.{Imports}
+use Rattle.gx_import.specs.Replaying.{EndsAs}
+use Rattle.gx_import.specs.Standing.{Stands}
+use Rattle.gx_import.proofs.ReachedStates.{IsAt, at_end, at_next, at_refused, at_start, at_stopped, extends_more, stand_empty}
+use Rattle.gx_import.proofs.replay.replay.Goals as goal
+
+pub loop-reader-init : goal.loop-reader-init
+loop-reader-init g c =
+    let name = g.N.Namer.name_of c.args.repo.now.0 in
+    record {
+      namer = refl;
+      refs = refl;
+      extends = ([], sym (append-nil c.args.repo.now.1.records));
+      room = omega (arith, c.new-reader.ensures.most);
+      stands = (
+        start (history_of c.args.repo.now.1),
+        stand_empty name c.args.repo.now.1 c.args.tables.now c.requires.empty,
+        at_start name c.args.repo.now.1 (g.R.Source.coming c.args.source) c.new-reader.result.commands (g.W.Sink.taken c.args.sink.now) c.new-reader.ensures.commands,
+      );
+    }
+
+pub next_command-requires : goal.next_command-requires
+next_command-requires g c = record { room = omega (arith, c.loop-reader.invariant.room) }
+
+pub returns-in_err-command-clause-namer : goal.returns-in_err-command-clause-namer
+returns-in_err-command-clause-namer g c = c.loop-reader.invariant.namer
+
+pub returns-in_err-command-clause-refs : goal.returns-in_err-command-clause-refs
+returns-in_err-command-clause-refs g c = c.loop-reader.invariant.refs
+
+pub returns-in_err-command-clause-extends : goal.returns-in_err-command-clause-extends
+returns-in_err-command-clause-extends g c = c.loop-reader.invariant.extends
+
+pub returns-in_err-command-clause-replayed : goal.returns-in_err-command-clause-replayed
+returns-in_err-command-clause-replayed g c =
+    let p = err_from_is_err_and c.from_residual.result c.from_residual.ensures.1 in
+    let inv = c.loop-reader.invariant in
+    let old = c.args.repo.now.1 in
+    let last = c.loop-reader.repo.1 in
+    let coming = g.R.Source.coming c.args.source in
+    let was = g.W.Sink.taken c.args.sink.now in
+    let now = g.W.Sink.taken c.loop-reader.sink in
+    let q = c.in_err-command.ensures.reads in
+    let h = at_refused (g.N.Namer.name_of c.loop-reader.repo.0) g.row.A.Denot old last coming c.loop-reader.commands inv.stands.0 c.loop-reader.reader.commands c.next_command.new.reader.commands was now inv.stands.2 q.0 q.2 in
+    rw (p.1, p.2) (subst (λ f. Imports (g.N.Namer.name_of c.args.repo.now.0) old last coming was now (Err f)) (sym q.1) (subst (λ n. Imports (g.N.Namer.name_of n) old last coming was now (Err (record { command = c.loop-reader.commands + 1; kind = of_command q.0 }))) inv.namer h))
+
+pub overflow_add-commands : goal.overflow_add-commands
+overflow_add-commands g c = omega (arith, c.loop-reader.invariant.room)
+
+pub apply-requires : goal.apply-requires
+apply-requires g c = record { stands = (c.loop-reader.invariant.stands.0, c.loop-reader.invariant.stands.1) }
+
+pub returns-in-Err-clause-namer : goal.returns-in-Err-clause-namer
+returns-in-Err-clause-namer g c = c.apply.ensures.namer ∙ c.loop-reader.invariant.namer
+
+pub returns-in-Err-clause-refs : goal.returns-in-Err-clause-refs
+returns-in-Err-clause-refs g c = c.apply.ensures.refs ∙ c.loop-reader.invariant.refs
+
+pub returns-in-Err-clause-extends : goal.returns-in-Err-clause-extends
+returns-in-Err-clause-extends g c = extends_more c.args.repo.now.1.records c.loop-reader.repo.1.records c.apply.new.repo.1.records c.loop-reader.invariant.extends c.apply.ensures.extends
+
+pub returns-in-Err-clause-replayed : goal.returns-in-Err-clause-replayed
+returns-in-Err-clause-replayed g c =
+    let inv = c.loop-reader.invariant in
+    let old = c.args.repo.now.1 in
+    let last = c.apply.new.repo.1 in
+    let coming = g.R.Source.coming c.args.source in
+    let was = g.W.Sink.taken c.args.sink.now in
+    let mid = g.W.Sink.taken c.loop-reader.sink in
+    let now = g.W.Sink.taken c.apply.new.sink in
+    let name = g.N.Namer.name_of c.loop-reader.repo.0 in
+    let reads = rw c.in-Some.is at c.in_ok-command.ensures.reads in
+    let h = at_stopped name old last c.loop-reader.repo.1 last c.apply.new.tables coming c.loop-reader.commands inv.stands.0 c.in-Some.command c.loop-reader.reader.commands c.next_command.new.reader.commands was mid now inv.stands.2 reads c.in-Err.kind (c.in-Err.ensures.steps inv.stands.0 inv.stands.1) in
+    subst (λ n. Imports (g.N.Namer.name_of n) old last coming was now (Err (record { command = c.loop-reader.commands + 1; kind = c.in-Err.kind }))) inv.namer h
+
+pub loop-reader-preserved : goal.loop-reader-preserved
+loop-reader-preserved g c =
+    let inv = c.loop-reader.invariant in
+    let old = c.args.repo.now.1 in
+    let coming = g.R.Source.coming c.args.source in
+    let was = g.W.Sink.taken c.args.sink.now in
+    let mid = g.W.Sink.taken c.loop-reader.sink in
+    let now = g.W.Sink.taken c.apply.new.sink in
+    let name = g.N.Namer.name_of c.loop-reader.repo.0 in
+    let reads = rw c.in-Some.is at c.in_ok-command.ensures.reads in
+    let falls = rw c.in-Some.is at c.in_ok-command.ensures.falls in
+    let h = at_next name old c.loop-reader.repo.1 c.apply.new.repo.1 c.apply.new.tables coming c.loop-reader.commands inv.stands.0 c.in-Some.command c.loop-reader.reader.commands c.next_command.new.reader.commands was mid now inv.stands.2 reads (c.in_default-apply.ensures.steps inv.stands.0 inv.stands.1) in
+    record {
+      namer = c.apply.ensures.namer ∙ inv.namer;
+      refs = c.apply.ensures.refs ∙ inv.refs;
+      extends = extends_more old.records c.loop-reader.repo.1.records c.apply.new.repo.1.records inv.extends c.apply.ensures.extends;
+      room = omega (arith, inv.room, falls);
+      stands = subst (λ n. (s : State) × Stands (g.N.Namer.name_of n) c.apply.new.repo.1 c.apply.new.tables s × IsAt (g.N.Namer.name_of n) old coming (c.loop-reader.commands + 1) s c.next_command.new.reader.commands was now) (sym c.apply.ensures.namer) h;
+    }
+
+pub returns-clause-namer : goal.returns-clause-namer
+returns-clause-namer g c = c.loop-reader.invariant.namer
+
+pub returns-clause-refs : goal.returns-clause-refs
+returns-clause-refs g c = c.loop-reader.invariant.refs
+
+pub returns-clause-extends : goal.returns-clause-extends
+returns-clause-extends g c = c.loop-reader.invariant.extends
+
+pub returns-clause-count : goal.returns-clause-count
+returns-clause-count g c = omega (arith, c.loop-reader.invariant.room)
+
+pub returns-clause-replayed : goal.returns-clause-replayed
+returns-clause-replayed g c =
+    let inv = c.loop-reader.invariant in
+    let old = c.args.repo.now.1 in
+    let coming = g.R.Source.coming c.args.source in
+    let was = g.W.Sink.taken c.args.sink.now in
+    let now = g.W.Sink.taken c.loop-reader.sink in
+    let reads = rw c.in_default.is at c.in_ok-command.ensures.reads in
+    let h = at_end (g.N.Namer.name_of c.loop-reader.repo.0) g.row.A.Denot old coming c.loop-reader.commands inv.stands.0 c.loop-reader.reader.commands c.next_command.new.reader.commands was now inv.stands.2 reads in
+    subst (λ n. (s : State) × Stands (g.N.Namer.name_of n) c.loop-reader.repo.1 c.loop-reader.tables s × EndsAs (g.N.Namer.name_of n) old coming c.loop-reader.commands s was now) inv.namer (inv.stands.0, inv.stands.1, h)

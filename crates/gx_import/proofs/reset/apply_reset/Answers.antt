@@ -1,0 +1,31 @@
+use Rattle.std.proofs.Common.{◌≡◌, Ok, refl, sym, ap, subst, ◌∙◌}
+use Rattle.std.proofs.lemmas.Result.{err_from_is_err_and}
+use Rattle.std.specs.Option.{option_map}
+use Rattle.gx_model.specs.Faults.{IsFaultOf, and_then}
+use Rattle.gx_model.specs.Replay.{on_branch}
+use Rattle.gx_command.specs.Views.{shown_commit_ish}
+use Rattle.gx_import.specs.ImportKinds.{fault_of}
+use Rattle.gx_import.proofs.FaultSteps.{fault_then}
+use Rattle.gx_import.proofs.Resets.{reset_by}
+use Rattle.gx_import.proofs.Standings.{moved_branch}
+use Rattle.gx_import.proofs.reset.apply_reset.Goals as goal
+
+pub returns-in_err-commit : goal.returns-in_err-commit
+returns-in_err-commit g c = λ s h.
+    let name = g.N.Namer.name_of c.args.repo.now.0 in
+    let p = err_from_is_err_and c.from_residual.result c.from_residual.ensures.1 in
+    let b = c.args.reset.branch.bytes.items in
+    let x = option_map shown_commit_ish c.args.reset.from in
+    let k = c.in_err-commit.ensures s h in
+    rw (p.1, p.2) (subst (IsFaultOf (fault_of c.in_err-commit.field-0.0)) (sym (reset_by name s b x)) (fault_then (fault_of c.in_err-commit.field-0.0) _ (λ y. Ok (on_branch b y s)) k))
+
+pub returns : goal.returns
+returns g c = λ s h.
+    let name = g.N.Namer.name_of c.args.repo.now.0 in
+    let b = c.args.reset.branch.bytes.items in
+    let x = option_map shown_commit_ish c.args.reset.from in
+    let k = c.in_ok-commit.ensures s h in (
+      on_branch b k.0 s,
+      reset_by name s b x ∙ ap (λ r. and_then r (λ y. Ok (on_branch b y s))) k.1,
+      record { stands = moved_branch name c.args.repo.now.1 c.args.tables.now _ s h b c.args.reset.branch.proper k.0 _ (record { commit = k.2; files = tt }) refl refl refl c.in_ok-set.ensures; progress = refl; held = refl },
+    )

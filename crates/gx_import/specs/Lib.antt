@@ -1,0 +1,13 @@
+pub mod ImportKinds
+pub mod Answers
+pub mod Objects
+pub mod Marks
+pub mod Rows
+pub mod Standing
+pub mod Steps
+pub mod Additions
+pub mod Applying
+pub mod RefChanges
+pub mod Publishing
+pub mod Replaying
+pub mod Imports

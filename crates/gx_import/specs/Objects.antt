@@ -1,0 +1,51 @@
+-- Objects and names, as the values that they stand for.
+use Rattle.std.specs.Prelude.{◌≡◌, if◌then◌else◌, List, Option, None, Some, Result, Ok, Err}
+use Rattle.gx_model.specs.declared.objects.Kind.{Kind}
+use Rattle.gx_model.specs.declared.objects.Kind.TheVariants as kind
+use Rattle.gx_model.specs.Texts.{Bytes}
+use Rattle.gx_model.specs.Files.{FileMap}
+use Rattle.gx_model.specs.Values.{Commit, Tag, Value, blob_value, commit_value, tag_value, tree_value}
+use Rattle.gx_model.specs.Records.{kind_of, name_of}
+use Rattle.gx_model.specs.Histories.{IsIn}
+use Rattle.gx_model.specs.Growth.{same_kind}
+use Rattle.gx_object.specs.declared.name.Name.{Name}
+use Rattle.gx_import.specs.declared.object.Object.{Object}
+use Rattle.gx_import.specs.declared.fault.ImportKind.{ImportKind}
+use Rattle.gx_import.specs.declared.fault.ImportKind.TheVariants.{EmptyBranch, WrongKind}
+
+-- the name of an object of this kind, or WrongKind
+abbrev pub name_of_kind : Object → Kind → Result Name ImportKind
+name_of_kind object kind = if same_kind object.kind kind then Ok object.name else Err WrongKind
+
+-- a branch's commit, or EmptyBranch
+abbrev pub branch_object : Option Name → Result Object ImportKind
+branch_object None = Err EmptyBranch
+branch_object (Some called) = Ok (record { kind = kind.Commit; name = called })
+
+module _ (name : Kind → Bytes → Bytes) where
+  -- an object is a value that stands among these
+  pub record IsOf (values : List Value) (value : Value) (object : Object) : Type 0 where
+    pub stands : IsIn values value
+    pub kind : object.kind ≡ kind_of name value
+    pub named : object.name.bytes ≡ name_of name value
+
+  -- a name is that of a commit that stands among these
+  pub record IsCommitOf (values : List Value) (revision : Commit) (called : Name) : Type 0 where
+    pub stands : IsIn values (commit_value revision)
+    pub named : called.bytes ≡ name_of name (commit_value revision)
+
+  -- and of a file map
+  pub record IsTreeOf (values : List Value) (files : FileMap Bytes) (called : Name) : Type 0 where
+    pub stands : IsIn values (tree_value files)
+    pub named : called.bytes ≡ name_of name (tree_value files)
+
+  -- and of a tag
+  pub record IsTagOf (values : List Value) (tag : Tag) (called : Name) : Type 0 where
+    pub stands : IsIn values (tag_value tag)
+    pub named : called.bytes ≡ name_of name (tag_value tag)
+
+  -- this name is that of these bytes, which stand among these
+  pub record IsBlobOf (values : List Value) (asked : Name) (bytes : Bytes) (called : Name) : Type 0 where
+    pub same : called ≡ asked
+    pub stands : IsIn values (blob_value bytes)
+    pub named : asked.bytes ≡ name_of name (blob_value bytes)

@@ -1,0 +1,35 @@
+-- The rows of a table, as a list of names and values.
+use Rattle.std.specs.Prelude.{◌≡◌, List, [], ◌∷◌, map, Option, Some, None, ⊤}
+use Rattle.gx_model.specs.Texts.{Bytes}
+use Rattle.gx_import.specs.declared.table.Row.{Row}
+use Rattle.gx_import.specs.declared.table.Table.{Table}
+
+-- a row without where its name lies in memory
+abbrev pub row_of : {T A : Type 0} → Row T A → Bytes × T
+row_of row = (row.name.items, row.value)
+
+-- the rows of a table
+abbrev pub rows_of : {T A : Type 0} → Table T A → List (Bytes × T)
+rows_of table = map row_of table.rows.items
+
+module _ {X Y : Type 0} (Is : X → Y → Type 0) where
+  -- the same names, and at each of them what goes together
+  abbrev pub AreRows : List (Bytes × X) → List (Bytes × Y) → Type 0
+  AreRows [] [] = ⊤
+  AreRows [] (y ∷ ys) = ⊥
+  AreRows (x ∷ xs) [] = ⊥
+  AreRows (x ∷ xs) (y ∷ ys) = (x.0 ≡ y.0) × Is x.1 y.1 × AreRows xs ys
+
+  -- each goes with the one at its place
+  abbrev pub AreAll : List X → List Y → Type 0
+  AreAll [] [] = ⊤
+  AreAll [] (y ∷ ys) = ⊥
+  AreAll (x ∷ xs) [] = ⊥
+  AreAll (x ∷ xs) (y ∷ ys) = Is x y × AreAll xs ys
+
+  -- two that go together, or neither
+  abbrev pub AreBoth : Option X → Option Y → Type 0
+  AreBoth None None = ⊤
+  AreBoth None (Some y) = ⊥
+  AreBoth (Some x) None = ⊥
+  AreBoth (Some x) (Some y) = Is x y

@@ -1,0 +1,88 @@
+-- How what an import holds stands to the state of its replay: names in place of values that stand in the history.
+use Rattle.std.specs.Prelude.{◌≡◌, ◌⊎◌, ℕ, nat_eq, false, List, [], ◌++◌, Option, Some, None, IsTrue, IfSome, ⊤}
+use Rattle.std.specs.List.{AllByRecursion, list_all}
+use Rattle.std.specs.Map.{lookup}
+use Rattle.std.specs.FinMap.Entries.{is_sorted}
+use Rattle.gx_model.specs.declared.objects.Kind.{Kind}
+use Rattle.gx_model.specs.declared.objects.Mode.{Mode}
+use Rattle.gx_model.specs.Texts.{Bytes, same_bytes}
+use Rattle.gx_model.specs.RefNames.{is_ref_name, tag_ref}
+use Rattle.gx_model.specs.Files.{FileMap}
+use Rattle.gx_model.specs.Values.{Commit, Value, blob_of, blobs_of, files_of, is_content, is_leaf}
+use Rattle.gx_model.specs.Records.{content_name, named_map}
+use Rattle.gx_model.specs.Histories.{IsIn, Record, Records}
+use Rattle.gx_model.specs.HistoryOf.{history_of}
+use Rattle.gx_model.specs.Replay.{State, byte_cmp}
+use Rattle.gx_object.specs.declared.name.Name.{Name}
+use Rattle.gx_import.specs.Marks.{object_at}
+use Rattle.gx_import.specs.Objects.{IsCommitOf, IsOf, IsTagOf}
+use Rattle.gx_import.specs.Rows.{AreBoth, AreRows, rows_of}
+use Rattle.gx_import.specs.declared.marks.Marks.{Marks}
+use Rattle.gx_import.specs.declared.branches.Tip.{Tip}
+use Rattle.gx_import.specs.declared.tables.Tables.{Tables}
+
+-- these records, and more behind them
+abbrev pub Extends : List Record → List Record → Type 0
+Extends old new = (rest : List Record) × (new ≡ old ++ rest)
+
+module _ (name : Kind → Bytes → Bytes) where
+  -- the objects of marks are their values
+  abbrev pub AreMarks : {A : Type 0} → List Value → List (ℕ × Value) → Marks A → Type 0
+  AreMarks values marked marks = (number : ℕ) → AreBoth (IsOf name values) (lookup (nat_eq number) marked) (object_at marks number)
+
+  -- a map of names is that of these files, whose bytes stand among these values
+  pub record AreFiles (values : List Value) (files : FileMap Bytes) (names : FileMap Bytes) : Type 0 where
+    pub named : names ≡ named_map name files
+    pub content : IsTrue (is_content files)
+    pub known : AllByRecursion (IsIn values) (blobs_of files)
+
+  -- in this state a name is that of a file's content of this mode, whose bytes stand in the history
+  pub record IsContentName (before : State) (given : State × Bytes) (mode : Mode) (called : Name) : Type 0 where
+    pub same : given.0 ≡ before
+    pub leaf : IsTrue (is_leaf mode given.1)
+    pub named : called.bytes ≡ content_name name mode given.1
+    pub known : IfSome (blob_of mode given.1) (IsIn before.history.values)
+
+  -- files at hand are those of the commit
+  abbrev pub AreTipFiles : Option Commit → Option (FileMap Bytes) → Type 0
+  AreTipFiles revision None = ⊤
+  AreTipFiles None (Some names) = ⊥
+  AreTipFiles (Some revision) (Some names) = names ≡ named_map name (files_of revision)
+
+  -- where a branch stands
+  pub record IsTip {A : Type 0} (values : List Value) (revision : Option Commit) (tip : Tip A) : Type 0 where
+    pub commit : AreBoth (IsCommitOf name values) revision tip.commit
+    pub files : AreTipFiles revision tip.files
+
+  -- the repository and the tables of an import stand for the state of a replay
+  pub record Stands {A : Type 0} (repository : Records) (tables : Tables A) (state : State) : Type 0 where
+    pub history : history_of repository ≡ state.history
+    pub marks : AreMarks state.history.values state.marks tables.marks
+    pub branches : AreRows (IsTip state.history.values) state.branches (rows_of tables.branches)
+    pub tags : AreRows (IsTagOf name state.history.values) state.tags (rows_of tables.tags)
+    pub branches_sorted : IsTrue (is_sorted byte_cmp (rows_of tables.branches))
+    pub tags_sorted : IsTrue (is_sorted byte_cmp (rows_of tables.tags))
+    pub ref_names : IsTrue (list_all (λ branch. is_ref_name branch.0) state.branches)
+    pub own : AllByRecursion (λ tag. tag.0 ≡ tag_ref tag.1.name) state.tags
+    pub forced : state.is_forced ≡ tables.is_forced
+
+  -- a state that comes after another stands for the repository and the tables, and no progress came between them
+  pub record Follows {A : Type 0} (repository : Records) (tables : Tables A) (before : State) (state : State) : Type 0 where
+    pub stands : Stands repository tables state
+    pub progress : state.progress ≡ before.progress
+    pub held : state.held ≡ before.held
+
+-- what is left of a branch where its files may have been taken
+abbrev pub IsTaken : {A : Type 0} → Tip A → Tip A → Type 0
+IsTaken old new = (new.commit ≡ old.commit) × ((new.files ≡ old.files) ⊎ (new.files ≡ None))
+
+-- these files were those of this commit, at a branch of this name
+abbrev pub WereFiles : {A : Type 0} → List (Bytes × Tip A) → Bytes → Name → FileMap Bytes → Type 0
+WereFiles {A} branches branch called files = (tip : Tip A) × (lookup (same_bytes branch) branches ≡ Some tip) × (tip.commit ≡ Some called) × (tip.files ≡ Some files)
+
+-- no marks, no branches, no tags, and nothing asked for
+pub record AreEmpty {A : Type 0} (tables : Tables A) : Type 0 where
+  pub marks : (number : ℕ) → object_at tables.marks number ≡ None
+  pub branches : rows_of tables.branches ≡ []
+  pub tags : rows_of tables.tags ≡ []
+  pub forced : tables.is_forced ≡ false

@@ -1,0 +1,38 @@
+//! Blob commands. Source: git-fast-import(1), "blob".
+
+ghost use Rattle.std.specs.Prelude.{◌≡◌, [], ◌∷◌};
+ghost use Rattle.gx_model.specs.Replay.{State, step};
+ghost use Rattle.gx_model.specs.RepositoryLaws.{values_of};
+ghost use Rattle.gx_model.specs.Revisions.{revision_of};
+ghost use Rattle.gx_model.specs.Values.{blob_value};
+ghost use Rattle.gx_command.specs.Views.{shown_blob};
+ghost use Rattle.gx_import.specs.Answers.{AddsAs};
+ghost use Rattle.gx_import.specs.Additions.{Clash};
+ghost use Rattle.gx_import.specs.Standing.{Extends, Follows, Stands};
+
+use crate::ImportKind;
+use crate::object::Object;
+use crate::tables::Tables;
+use gx_command::Blob;
+use gx_model::repository_laws::puts_add_values;
+use gx_object::{Kind, Namer};
+use gx_repo::Repo;
+use std::alloc::Allocator;
+
+/// Puts a blob, and then sets its mark.
+pub(crate) fn apply_blob<N: Namer, A: Allocator + Copy>(
+    repo: &mut Repo<N, A>,
+    tables: &mut Tables<A>,
+    blob: &Blob<A>,
+) -> Result<(), ImportKind>
+    ensures namer { repo.new.0 ≡ repo.old.0 }
+    ensures refs { repo.new.1.refs ≡ repo.old.1.refs }
+    ensures extends { Extends repo.old.1.records repo.new.1.records }
+    ensures steps { (s : State) → Stands (N.name_of repo.old.0) repo.old.1 tables.old s → AddsAs (Clash (N.name_of repo.old.0) (values_of repo.old.1) (blob_value blob.now.bytes.items ∷ [])) (λ t _. Follows (N.name_of repo.old.0) repo.new.1 tables.new s t) result (step (N.name_of repo.old.0) revision_of s (shown_blob blob.now)) }
+{
+    repo.sound();
+    puts_add_values();
+    let name = repo.add_blob(blob.bytes.as_slice())?;
+    let kind = Kind::Blob;
+    Ok(tables.marks.set(blob.mark, Object { kind, name })?)
+}

@@ -1,0 +1,55 @@
+//! The branches of an import: their commits, and the files of these. Source: git-fast-import(1), "commit" and "reset".
+
+ghost use Rattle.std.specs.Prelude.{◌≡◌, None, Some, IsTrue, IfSome};
+ghost use Rattle.std.specs.FinMap.Entries.{is_sorted};
+ghost use Rattle.gx_model.specs.Replay.{byte_cmp};
+ghost use Rattle.gx_import.specs.Rows.{AreRows, rows_of};
+ghost use Rattle.gx_import.specs.Standing.{IsTaken, WereFiles};
+
+use crate::table::Table;
+use gx_object::Name;
+use gx_tree::PathTree;
+use std::alloc::Allocator;
+
+/// Where a branch stands: its commit, or none, and the commit's files where they are at hand.
+#[derive(Drop)]
+pub(crate) struct Tip<A: Allocator> {
+    pub(crate) commit: Option<Name>,
+    pub(crate) files: Option<PathTree<A>>,
+}
+
+impl<A: Allocator + Copy> Tip<A> {
+    /// Takes the files of this commit, where the branch stands there and they are at hand.
+    fn take_files(&mut self, commit: &Name) -> Option<PathTree<A>>
+        ensures taken { IsTaken self.old self.new }
+        ensures files { IfSome result (λ files. (self.old.commit ≡ Some commit.now) × (self.old.files ≡ Some files)) }
+    {
+        if self.commit == Some(*commit) {
+            self.files.take()
+        } else {
+            None
+        }
+    }
+}
+
+/// Takes the files of a commit from the branch of this name. The branch stays at its commit.
+///
+/// Cost: a binary search. Takes no memory.
+pub(crate) fn take_files<A: Allocator + Copy>(
+    branches: &mut Table<Tip<A>, A>,
+    name: &[u8],
+    commit: &Name,
+) -> Option<PathTree<A>>
+    requires sorted { IsTrue (is_sorted byte_cmp (rows_of branches.now)) }
+    ensures taken { AreRows IsTaken (rows_of branches.old) (rows_of branches.new) }
+    ensures sorted { IsTrue (is_sorted byte_cmp (rows_of branches.new)) }
+    ensures files { IfSome result (WereFiles (rows_of branches.old) name.now commit.now) }
+{
+    let found = branches
+        .rows
+        .binary_search_by(|row| row.name.as_slice().cmp(name));
+    match found {
+        Ok(place) => branches.rows[place].value.take_files(commit),
+        Err(_) => None,
+    }
+}

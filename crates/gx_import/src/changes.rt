@@ -1,0 +1,148 @@
+//! The changes of a commit's files. Source: git-fast-import(1), "filemodify" to "filedeleteall".
+
+ghost use Rattle.std.specs.Prelude.{◌≡◌, ◌≢◌, map, IsTrue};
+ghost use Rattle.gx_model.specs.declared.objects.Mode.TheVariants as modes;
+ghost use Rattle.gx_model.specs.HistoryOf.{history_of};
+ghost use Rattle.gx_model.specs.Files.{FileMap};
+ghost use Rattle.gx_model.specs.Texts.{Bytes};
+ghost use Rattle.gx_model.specs.Replay.{State, all_changed, changed, content};
+ghost use Rattle.gx_command.specs.DataRefs.{is_suited};
+ghost use Rattle.gx_command.specs.Views.{shown_change, shown_data, shown_modify};
+ghost use Rattle.gx_import.specs.Additions.{Clash, blob_added, blobs_added, content_added};
+ghost use Rattle.gx_model.specs.Revisions.{revision_of};
+ghost use Rattle.gx_model.specs.Commands as model;
+ghost use Rattle.gx_import.specs.Answers.{AddsAs, GivesAs};
+ghost use Rattle.gx_model.specs.RepositoryLaws.{values_of};
+ghost use Rattle.gx_import.specs.Objects.{IsBlobOf};
+ghost use Rattle.gx_import.specs.Standing.{AreFiles, Extends, Follows, IsContentName, Stands};
+ghost use Rattle.gx_import.specs.Steps.{bytes_held};
+
+use crate::ImportKind;
+use crate::object::{Object, name_of_kind};
+use crate::tables::Tables;
+use gx_command::{Change, DataRef, Digits, Modify};
+use gx_model::repository_laws::puts_add_values;
+use gx_object::{Kind, Mode, Name, Namer};
+use gx_repo::Repo;
+use gx_tree::PathTree;
+use std::alloc::Allocator;
+
+/// Makes these changes, in their order.
+pub(crate) fn change_all<N: Namer, A: Allocator + Copy>(
+    repo: &mut Repo<N, A>,
+    tables: &Tables<A>,
+    files: &mut PathTree<A>,
+    changes: &[Change<A>],
+) -> Result<(), ImportKind>
+    ensures namer { repo.new.0 ≡ repo.old.0 }
+    ensures refs { repo.new.1.refs ≡ repo.old.1.refs }
+    ensures extends { Extends repo.old.1.records repo.new.1.records }
+    ensures steps { (s : State) (f : FileMap Bytes) → Stands (N.name_of repo.old.0) repo.old.1 tables.now s → AreFiles (N.name_of repo.old.0) s.history.values f files.old → AddsAs (Clash (N.name_of repo.old.0) (values_of repo.old.1) (blobs_added (N.name_of repo.old.0) s f (map shown_change changes.now))) (λ r _. Follows (N.name_of repo.old.0) repo.new.1 tables.now s r.0 × AreFiles (N.name_of repo.old.0) r.0.history.values r.1 files.new) result (all_changed (N.name_of repo.old.0) revision_of s f (map shown_change changes.now)) }
+{
+    for change in changes {
+        change_files(repo, tables, files, change)?;
+    }
+    Ok(())
+}
+
+/// Makes one change.
+fn change_files<N: Namer, A: Allocator + Copy>(
+    repo: &mut Repo<N, A>,
+    tables: &Tables<A>,
+    files: &mut PathTree<A>,
+    change: &Change<A>,
+) -> Result<(), ImportKind>
+    ensures namer { repo.new.0 ≡ repo.old.0 }
+    ensures refs { repo.new.1.refs ≡ repo.old.1.refs }
+    ensures extends { Extends repo.old.1.records repo.new.1.records }
+    ensures steps { (s : State) (f : FileMap Bytes) → Stands (N.name_of repo.old.0) repo.old.1 tables.now s → AreFiles (N.name_of repo.old.0) s.history.values f files.old → AddsAs (Clash (N.name_of repo.old.0) (values_of repo.old.1) (blob_added (shown_change change.now))) (λ r _. Follows (N.name_of repo.old.0) repo.new.1 tables.now s r.0 × AreFiles (N.name_of repo.old.0) r.0.history.values r.1 files.new) result (changed (N.name_of repo.old.0) revision_of s f (shown_change change.now)) }
+{
+    match change {
+        Change::Modify(modify) => modify_files(repo, tables, files, modify)?,
+        Change::Remove(path) => files.remove(path)?,
+        Change::Copy {
+            source,
+            destination,
+        } => files.copy(source, destination)?,
+        Change::Rename {
+            source,
+            destination,
+        } => files.rename(source, destination)?,
+        Change::Clear => files.clear(),
+    }
+    files.name_map();
+    Ok(())
+}
+
+/// Sets a file. What it gets is resolved first.
+fn modify_files<N: Namer, A: Allocator + Copy>(
+    repo: &mut Repo<N, A>,
+    tables: &Tables<A>,
+    files: &mut PathTree<A>,
+    modify: &Modify<A>,
+) -> Result<(), ImportKind>
+    ensures namer { repo.new.0 ≡ repo.old.0 }
+    ensures refs { repo.new.1.refs ≡ repo.old.1.refs }
+    ensures extends { Extends repo.old.1.records repo.new.1.records }
+    ensures steps { (s : State) (f : FileMap Bytes) → Stands (N.name_of repo.old.0) repo.old.1 tables.now s → AreFiles (N.name_of repo.old.0) s.history.values f files.old → AddsAs (Clash (N.name_of repo.old.0) (values_of repo.old.1) (blob_added (shown_modify modify.now))) (λ r _. Follows (N.name_of repo.old.0) repo.new.1 tables.now s r.0 × AreFiles (N.name_of repo.old.0) r.0.history.values r.1 files.new) result (changed (N.name_of repo.old.0) revision_of s f (shown_modify modify.now)) }
+{
+    let name = content(repo, tables, modify.mode, &modify.data_ref)?;
+    files.modify(&modify.path, modify.mode, name)?;
+    files.name_map();
+    Ok(())
+}
+
+/// The name of what a file gets. Bytes that came in the stream are put as a blob, and nothing is looked up for a gitlink.
+fn content<N: Namer, A: Allocator + Copy>(
+    repo: &mut Repo<N, A>,
+    tables: &Tables<A>,
+    mode: Mode,
+    data_ref: &DataRef<A>,
+) -> Result<Name, ImportKind>
+    requires suits { IsTrue (is_suited mode data_ref.now) }
+    ensures namer { repo.new.0 ≡ repo.old.0 }
+    ensures refs { repo.new.1.refs ≡ repo.old.1.refs }
+    ensures extends { Extends repo.old.1.records repo.new.1.records }
+    ensures steps { (s : State) → Stands (N.name_of repo.old.0) repo.old.1 tables.now s → AddsAs (Clash (N.name_of repo.old.0) (values_of repo.old.1) (content_added (shown_data data_ref.now))) (λ given called. Follows (N.name_of repo.old.0) repo.new.1 tables.now s given.0 × IsContentName (N.name_of repo.old.0) given.0 given mode called) result (content (N.name_of repo.old.0) revision_of s mode (shown_data data_ref.now)) }
+{
+    repo.sound();
+    puts_add_values();
+    match data_ref {
+        DataRef::Mark(number) => name_of_kind(tables.marks.object(*number)?, Kind::Blob),
+        DataRef::Name(digits) => named_content(repo, mode, digits),
+        DataRef::Inline(bytes) => Ok(repo.add_blob(bytes.as_slice())?),
+    }
+}
+
+/// What digits name: a gitlink's commit, which needn't be held, or a held blob.
+fn named_content<N: Namer, A: Allocator + Copy>(
+    repo: &Repo<N, A>,
+    mode: Mode,
+    digits: &Digits,
+) -> Result<Name, ImportKind>
+    requires { mode ≢ modes.Dir }
+    ensures { (s : State) → history_of repo.now.1 ≡ s.history → GivesAs (λ y called. IsContentName (N.name_of repo.now.0) s y mode called) result (content (N.name_of repo.now.0) revision_of s mode (model.Object digits.now.digits)) }
+{
+    repo.sound();
+    let Some(name) = Name::read(&digits.digits) else {
+        unreachable!();
+    };
+    match mode {
+        Mode::Gitlink => Ok(name),
+        _ => held_blob(repo, name),
+    }
+}
+
+/// The blob of this name.
+fn held_blob<N: Namer, A: Allocator + Copy>(
+    repo: &Repo<N, A>,
+    name: Name,
+) -> Result<Name, ImportKind>
+    ensures { GivesAs (IsBlobOf (N.name_of repo.now.0) (values_of repo.now.1) name) result (bytes_held (N.name_of repo.now.0) repo.now.1 name.bytes) }
+{
+    repo.sound();
+    match repo.store().get(&name) {
+        Some((kind, _)) => name_of_kind(Object { kind, name }, Kind::Blob),
+        None => Err(ImportKind::UnknownObject),
+    }
+}

@@ -1,0 +1,211 @@
+//! Commit commands. Source: git-fast-import(1), "commit".
+
+ghost use Rattle.std.specs.Prelude.{◌≡◌, List, [], ◌∷◌, map, Option, Ok, IsTrue, IfOk};
+ghost use Rattle.std.specs.List.{AllByRecursion, cons_option};
+ghost use Rattle.std.specs.FinMap.Entries.{is_sorted};
+ghost use Rattle.std.specs.Map.{lookup};
+ghost use Rattle.gx_model.specs.declared.objects.Kind.TheVariants as kinds;
+ghost use Rattle.gx_model.specs.Files.{FileMap};
+ghost use Rattle.gx_model.specs.Records.{name_of};
+ghost use Rattle.gx_model.specs.Replay.{State, added, all_committed, byte_cmp, first_parent, own_commit, step_commit, text_made, with_first_parent};
+ghost use Rattle.gx_model.specs.RepositoryLaws.{values_of};
+ghost use Rattle.gx_model.specs.Revisions.{revision_of};
+ghost use Rattle.gx_model.specs.Sound.{Holds, IsNamedMap};
+ghost use Rattle.gx_model.specs.Texts.{Bytes, same_bytes};
+ghost use Rattle.gx_model.specs.Values as values;
+ghost use Rattle.gx_model.specs.Values.{commit_value, commits_of};
+ghost use Rattle.gx_text.specs.Idents.{ident_bytes};
+ghost use Rattle.gx_object.specs.Parts.{commit_parts as shown_parts};
+ghost use Rattle.gx_command.specs.Views.{commit_parts, shown_commit_ish};
+ghost use Rattle.gx_import.specs.Additions.{Clash, added_alone, added_by_commit, commit_added};
+ghost use Rattle.gx_import.specs.Answers.{AddsAs, GivesAs};
+ghost use Rattle.gx_import.specs.Objects.{IsCommitOf, IsTreeOf};
+ghost use Rattle.gx_import.specs.Rows.{AreAll, AreBoth, rows_of};
+ghost use Rattle.gx_import.specs.Standing.{AreFiles, Extends, Follows, Stands};
+
+use crate::ImportKind;
+use crate::branches::Tip;
+use crate::changes::change_all;
+use crate::commit_ish::committed_for;
+use crate::files::starting_files;
+use crate::object::Object;
+use crate::tables::Tables;
+use gx_command::{Commit, Identity};
+use gx_model::repository_laws::{puts_add_values, trees_add_file_maps};
+use gx_object::{CommitParts, Kind, Name, Namer};
+use gx_repo::Repo;
+use gx_text::Ident;
+use gx_tree::PathTree;
+use std::alloc::{AllocError, Allocator};
+
+/// Makes a commit: its parents, its changes in their order, its trees, itself, its mark, its branch.
+pub(crate) fn apply_commit<N: Namer, A: Allocator + Copy>(
+    repo: &mut Repo<N, A>,
+    tables: &mut Tables<A>,
+    commit: Commit<A>,
+) -> Result<(), ImportKind>
+    requires stands { (s : State) × Stands (N.name_of repo.now.0) repo.now.1 tables.now s }
+    ensures namer { repo.new.0 ≡ repo.old.0 }
+    ensures refs { repo.new.1.refs ≡ repo.old.1.refs }
+    ensures extends { Extends repo.old.1.records repo.new.1.records }
+    ensures steps { (s : State) → Stands (N.name_of repo.old.0) repo.old.1 tables.old s → AddsAs (Clash (N.name_of repo.old.0) (values_of repo.old.1) (added_by_commit (N.name_of repo.old.0) s (commit_parts commit))) (λ t _. Follows (N.name_of repo.old.0) repo.new.1 tables.new s t) result (step_commit (N.name_of repo.old.0) revision_of s (commit_parts commit)) }
+{
+    repo.sound();
+    let first = first_parent(repo, tables, &commit)?;
+    let parents = parents(repo, tables, &commit, first)?;
+    let branch = commit.branch.bytes.as_slice();
+    let mut files = starting_files(repo, tables, branch, first)?;
+    change_all(repo, tables, &mut files, commit.changes.as_slice())?;
+    repo.sound();
+    let name = add(repo, &mut files, parents.as_slice(), &commit)?;
+    let kind = Kind::Commit;
+    tables.marks.set(commit.mark, Object { kind, name })?;
+    let tip = Tip {
+        commit: Some(name),
+        files: Some(files),
+    };
+    Ok(tables.branches.set(commit.branch.bytes, tip)?)
+}
+
+/// The first parent: that of `from`, or else the branch's own commit.
+fn first_parent<N: Namer, A: Allocator + Copy>(
+    repo: &Repo<N, A>,
+    tables: &Tables<A>,
+    commit: &Commit<A>,
+) -> Result<Option<Name>, ImportKind>
+    requires sorted { IsTrue (is_sorted byte_cmp (rows_of tables.now.branches)) }
+    ensures { (s : State) → Stands (N.name_of repo.now.0) repo.now.1 tables.now s → GivesAs (AreBoth (IsCommitOf (N.name_of repo.now.0) s.history.values)) result (first_parent (N.name_of repo.now.0) revision_of s (commit_parts commit.now)) }
+{
+    let branch = commit.branch.bytes.as_slice();
+    match &commit.from {
+        Some(from) => Ok(Some(committed_for(repo, tables, branch, from)?)),
+        None => Ok(own_commit(repo, tables, branch)),
+    }
+}
+
+/// The commit of the branch.
+fn own_commit<N: Namer, A: Allocator + Copy>(
+    repo: &Repo<N, A>,
+    tables: &Tables<A>,
+    branch: &[u8],
+) -> Option<Name>
+    requires sorted { IsTrue (is_sorted byte_cmp (rows_of tables.now.branches)) }
+    ensures { (s : State) → Stands (N.name_of repo.now.0) repo.now.1 tables.now s → AreBoth (IsCommitOf (N.name_of repo.now.0) s.history.values) (own_commit (N.name_of repo.now.0) revision_of (lookup (same_bytes branch.now) s.branches)) result }
+{
+    repo.sound();
+    match tables.branches.get(branch) {
+        Some(tip) => tip.commit,
+        None => None,
+    }
+}
+
+/// The first parent, where there is one, and those that are merged.
+fn parents<N: Namer, A: Allocator + Copy>(
+    repo: &Repo<N, A>,
+    tables: &Tables<A>,
+    commit: &Commit<A>,
+    first: Option<Name>,
+) -> Result<Vec<Name, A>, ImportKind>
+    requires sorted { IsTrue (is_sorted byte_cmp (rows_of tables.now.branches)) }
+    ensures { (s : State) (made : Option values.Commit) → Stands (N.name_of repo.now.0) repo.now.1 tables.now s → AreBoth (IsCommitOf (N.name_of repo.now.0) s.history.values) made first → GivesAs (λ others names. AreAll (IsCommitOf (N.name_of repo.now.0) s.history.values) (with_first_parent (N.name_of repo.now.0) revision_of made others) names.items) result (all_committed (N.name_of repo.now.0) revision_of commit.now.branch.bytes.items s (map shown_commit_ish commit.now.merges.items)) }
+{
+    let branch = commit.branch.bytes.as_slice();
+    let mut parents = first_alone(tables.alloc, first)?;
+    for merged in &commit.merges {
+        let name = committed_for(repo, tables, branch, merged)?;
+        parents.push(name)?;
+    }
+    Ok(parents)
+}
+
+/// The first parent alone, or none.
+fn first_alone<A: Allocator + Copy>(
+    alloc: A,
+    first: Option<Name>,
+) -> Result<Vec<Name, A>, AllocError>
+    ensures { IfOk result (λ names. names.items ≡ cons_option first []) }
+{
+    let mut parents = Vec::new(alloc);
+    if let Some(name) = first {
+        parents.push(name)?;
+    }
+    Ok(parents)
+}
+
+/// Adds the trees of these files, and then the commit with them and with these parents.
+fn add<N: Namer, A: Allocator + Copy>(
+    repo: &mut Repo<N, A>,
+    files: &mut PathTree<A>,
+    parents: &[Name],
+    commit: &Commit<A>,
+) -> Result<Name, ImportKind>
+    requires named { IsNamedMap repo.now.1.records files.now }
+    requires parents { AllByRecursion (λ parent. Holds repo.now.1.records kinds.Commit parent.bytes) parents.now }
+    ensures namer { repo.new.0 ≡ repo.old.0 }
+    ensures refs { repo.new.1.refs ≡ repo.old.1.refs }
+    ensures extends { Extends repo.old.1.records repo.new.1.records }
+    ensures files { files.new ≡ files.old }
+    ensures steps { (tables : Tables A) (s : State) (f : FileMap Bytes) (ps : List values.Commit) → Stands (N.name_of repo.old.0) repo.old.1 tables s → AreFiles (N.name_of repo.old.0) s.history.values f files.old → AreAll (IsCommitOf (N.name_of repo.old.0) s.history.values) ps parents.now → AddsAs (Clash (N.name_of repo.old.0) (values_of repo.old.1) (commit_added f (values.commit f (commits_of ps) (text_made (N.name_of repo.old.0) revision_of (commit_parts commit.now))))) (λ t called. Follows (N.name_of repo.old.0) repo.new.1 tables s t × (called.bytes ≡ name_of (N.name_of repo.old.0) (commit_value (values.commit f (commits_of ps) (text_made (N.name_of repo.old.0) revision_of (commit_parts commit.now)))))) result (Ok (added (commit_value (values.commit f (commits_of ps) (text_made (N.name_of repo.old.0) revision_of (commit_parts commit.now)))) s)) }
+{
+    repo.sound();
+    trees_add_file_maps();
+    puts_add_values();
+    let tree = repo.add_tree(files)?;
+    add_alone(repo, tree, parents, commit)
+}
+
+/// Adds the commit with this tree and these parents.
+fn add_alone<N: Namer, A: Allocator + Copy>(
+    repo: &mut Repo<N, A>,
+    tree: Name,
+    parents: &[Name],
+    commit: &Commit<A>,
+) -> Result<Name, ImportKind>
+    requires tree { Holds repo.now.1.records kinds.Tree tree.bytes }
+    requires parents { AllByRecursion (λ parent. Holds repo.now.1.records kinds.Commit parent.bytes) parents.now }
+    ensures namer { repo.new.0 ≡ repo.old.0 }
+    ensures refs { repo.new.1.refs ≡ repo.old.1.refs }
+    ensures extends { Extends repo.old.1.records repo.new.1.records }
+    ensures steps { (tables : Tables A) (s : State) (f : FileMap Bytes) (ps : List values.Commit) → Stands (N.name_of repo.old.0) repo.old.1 tables s → IsTreeOf (N.name_of repo.old.0) s.history.values f tree → AreAll (IsCommitOf (N.name_of repo.old.0) s.history.values) ps parents.now → AddsAs (Clash (N.name_of repo.old.0) (values_of repo.old.1) (commit_value (values.commit f (commits_of ps) (text_made (N.name_of repo.old.0) revision_of (commit_parts commit.now))) ∷ [])) (λ t called. Follows (N.name_of repo.old.0) repo.new.1 tables s t × (called.bytes ≡ name_of (N.name_of repo.old.0) (commit_value (values.commit f (commits_of ps) (text_made (N.name_of repo.old.0) revision_of (commit_parts commit.now)))))) result (Ok (added_alone (commit_value (values.commit f (commits_of ps) (text_made (N.name_of repo.old.0) revision_of (commit_parts commit.now)))) s)) }
+{
+    repo.sound();
+    puts_add_values();
+    Ok(repo.add_commit(&object_parts(tree, parents, commit))?)
+}
+
+/// The parts of a commit object. A missing author is the committer.
+fn object_parts<'a, A: Allocator + Copy>(
+    tree: Name,
+    parents: &'a [Name],
+    commit: &'a Commit<A>,
+) -> CommitParts<'a>
+    ensures { shown_parts result ≡ record { tree = tree.bytes; parents = map (λ n. n.bytes) parents.now; text = text_made (λ kind body. body) revision_of (commit_parts commit.now) } }
+{
+    let committer = ident(&commit.committer);
+    let author = match &commit.author {
+        Some(author) => ident(author),
+        None => committer,
+    };
+    let encoding = match &commit.encoding {
+        Some(encoding) => Some(encoding.name.as_slice()),
+        None => None,
+    };
+    CommitParts {
+        tree,
+        parents,
+        author,
+        committer,
+        encoding,
+        message: commit.message.as_slice(),
+    }
+}
+
+/// An identity as an object's part.
+pub(crate) fn ident<A: Allocator + Copy>(identity: &Identity<A>) -> Ident<'_>
+    ensures { ident_bytes result ≡ identity.now.bytes.items }
+{
+    match Ident::read(identity.bytes.as_slice()) {
+        Ok(ident) => ident,
+        Err(_) => unreachable!(),
+    }
+}

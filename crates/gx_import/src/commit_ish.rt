@@ -1,0 +1,99 @@
+//! What names a commit. Source: git-fast-import(1), "from".
+
+ghost use Rattle.std.specs.Prelude.{◌≡◌, IsTrue};
+ghost use Rattle.std.specs.FinMap.Entries.{is_sorted};
+ghost use Rattle.gx_model.specs.Denotation.{value_denoted};
+ghost use Rattle.gx_model.specs.Faults.{and_then};
+ghost use Rattle.gx_model.specs.HistoryOf.{history_of};
+ghost use Rattle.gx_model.specs.Replay.{State, byte_cmp, committed_for, is_itself};
+ghost use Rattle.gx_model.specs.RepositoryLaws.{values_of};
+ghost use Rattle.gx_model.specs.Revisions.{revision_of};
+ghost use Rattle.gx_command.specs.Views.{shown_commit_ish};
+ghost use Rattle.gx_import.specs.Answers.{GivesAs};
+ghost use Rattle.gx_import.specs.Objects.{IsCommitOf, IsOf, branch_object};
+ghost use Rattle.gx_import.specs.Rows.{rows_of};
+ghost use Rattle.gx_import.specs.Standing.{Stands};
+ghost use Rattle.gx_import.specs.Steps.{value_named};
+
+use crate::ImportKind;
+use crate::object::{Object, commit_in};
+use crate::tables::Tables;
+use gx_command::CommitIsh;
+use gx_object::{Kind, Name, Namer};
+use gx_repo::Repo;
+use gx_rev::{Revision, Shown};
+use std::alloc::Allocator;
+
+/// The object that a commit-ish names: a branch's commit, a mark's object, or what a revision gives over the published refs.
+pub(crate) fn object_named<N: Namer, A: Allocator + Copy>(
+    repo: &Repo<N, A>,
+    tables: &Tables<A>,
+    commit_ish: &CommitIsh<A>,
+) -> Result<Object, ImportKind>
+    requires sorted { IsTrue (is_sorted byte_cmp (rows_of tables.now.branches)) }
+    ensures { (s : State) → Stands (N.name_of repo.now.0) repo.now.1 tables.now s → GivesAs (IsOf (N.name_of repo.now.0) s.history.values) result (value_named (N.name_of repo.now.0) s (shown_commit_ish commit_ish.now)) }
+{
+    match commit_ish {
+        CommitIsh::Mark(number) => tables.marks.object(*number),
+        CommitIsh::Text(text) => match tables.branches.get(text.as_slice()) {
+            Some(tip) => branch_object(tip.commit),
+            None => revision_object(tables.alloc, repo, text.as_slice()),
+        },
+    }
+}
+
+/// A branch's commit.
+fn branch_object(commit: Option<Name>) -> Result<Object, ImportKind>
+    ensures { result ≡ branch_object commit }
+{
+    match commit {
+        Some(name) => Ok(Object {
+            kind: Kind::Commit,
+            name,
+        }),
+        None => Err(ImportKind::EmptyBranch),
+    }
+}
+
+/// What a revision gives.
+fn revision_object<N: Namer, A: Allocator + Copy>(
+    alloc: A,
+    repo: &Repo<N, A>,
+    text: &[u8],
+) -> Result<Object, ImportKind>
+    ensures { GivesAs (IsOf (N.name_of repo.now.0) (values_of repo.now.1)) result (and_then (revision_of text.now) (λ r. value_denoted (N.name_of repo.now.0) (history_of repo.now.1) r)) }
+{
+    repo.sound();
+    let revision = Revision::read(alloc, text)?;
+    match revision.eval(repo)? {
+        Shown::Object(kind, name) => Ok(Object { kind, name }),
+        Shown::Submodule(_) => Err(ImportKind::WrongKind),
+    }
+}
+
+/// The commit that a command of a branch names, which may not be the branch itself. A tag is peeled.
+pub(crate) fn committed_for<N: Namer, A: Allocator + Copy>(
+    repo: &Repo<N, A>,
+    tables: &Tables<A>,
+    branch: &[u8],
+    commit_ish: &CommitIsh<A>,
+) -> Result<Name, ImportKind>
+    requires sorted { IsTrue (is_sorted byte_cmp (rows_of tables.now.branches)) }
+    ensures { (s : State) → Stands (N.name_of repo.now.0) repo.now.1 tables.now s → GivesAs (IsCommitOf (N.name_of repo.now.0) s.history.values) result (committed_for (N.name_of repo.now.0) revision_of branch.now s (shown_commit_ish commit_ish.now)) }
+{
+    if is_itself(branch, commit_ish) {
+        return Err(ImportKind::FromItself);
+    }
+    let object = object_named(repo, tables, commit_ish)?;
+    commit_in(repo, object)
+}
+
+/// Whether a commit-ish is the name of the branch.
+fn is_itself<A: Allocator + Copy>(branch: &[u8], commit_ish: &CommitIsh<A>) -> bool
+    ensures { result ≡ is_itself (λ kind body. body) revision_of branch.now (shown_commit_ish commit_ish.now) }
+{
+    match commit_ish {
+        CommitIsh::Mark(_) => false,
+        CommitIsh::Text(text) => branch == text.as_slice(),
+    }
+}

@@ -1,0 +1,77 @@
+//! The files that a commit starts from.
+
+ghost use Rattle.std.specs.Prelude.{◌≡◌, Option, IsTrue, IfOk, IfErr};
+ghost use Rattle.std.specs.FinMap.Entries.{is_sorted};
+ghost use Rattle.gx_model.specs.declared.objects.Kind.TheVariants as kinds;
+ghost use Rattle.gx_model.specs.Records.{named_map};
+ghost use Rattle.gx_model.specs.Replay.{State, byte_cmp, starting_files};
+ghost use Rattle.gx_model.specs.Revisions.{revision_of};
+ghost use Rattle.gx_model.specs.Values.{Commit, files_of};
+ghost use Rattle.gx_rev.specs.Objects.{IsHeldAs, commit_at, parts_of_commit};
+ghost use Rattle.gx_import.specs.declared.fault.ImportKind.TheVariants.{OutOfMemory};
+ghost use Rattle.gx_import.specs.Objects.{IsCommitOf};
+ghost use Rattle.gx_import.specs.Rows.{AreBoth, rows_of};
+ghost use Rattle.gx_import.specs.Standing.{Stands};
+
+use crate::ImportKind;
+use crate::branches::take_files;
+use crate::tables::Tables;
+use gx_object::{Name, Namer, decode_commit};
+use gx_repo::Repo;
+use gx_tree::PathTree;
+use std::alloc::Allocator;
+
+/// The files of the first parent: those at hand where its branch stands there, and otherwise those of its tree.
+/// There are none without a first parent.
+///
+/// Cost: a binary search, or else the size of the tree.
+pub(crate) fn starting_files<N: Namer, A: Allocator + Copy>(
+    repo: &Repo<N, A>,
+    tables: &mut Tables<A>,
+    branch: &[u8],
+    first: Option<Name>,
+) -> Result<PathTree<A>, ImportKind>
+    requires stands { (s : State) × (made : Option Commit) × Stands (N.name_of repo.now.0) repo.now.1 tables.now s × AreBoth (IsCommitOf (N.name_of repo.now.0) s.history.values) made first }
+    ensures tables { (s : State) → Stands (N.name_of repo.now.0) repo.now.1 tables.old s → Stands (N.name_of repo.now.0) repo.now.1 tables.new s }
+    ensures files { (s : State) (made : Option Commit) → Stands (N.name_of repo.now.0) repo.now.1 tables.old s → AreBoth (IsCommitOf (N.name_of repo.now.0) s.history.values) made first → IfOk result (λ files. files ≡ named_map (N.name_of repo.now.0) (starting_files (N.name_of repo.now.0) revision_of made)) }
+    ensures fault { IfErr result (λ fault. fault ≡ OutOfMemory) }
+{
+    repo.sound();
+    let Some(commit) = first else {
+        return Ok(PathTree::empty(tables.alloc));
+    };
+    match take_files(&mut tables.branches, branch, &commit) {
+        Some(files) => Ok(files),
+        None => loaded_files(tables.alloc, repo, &commit),
+    }
+}
+
+/// The files of a commit, from its tree.
+fn loaded_files<N: Namer, A: Allocator + Copy>(
+    alloc: A,
+    repo: &Repo<N, A>,
+    commit: &Name,
+) -> Result<PathTree<A>, ImportKind>
+    requires { IsHeldAs kinds.Commit repo.now.1 commit.now }
+    ensures files { IfOk result (λ files. files ≡ named_map (N.name_of repo.now.0) (files_of (commit_at repo.now.1 commit.now))) }
+    ensures fault { IfErr result (λ fault. fault ≡ OutOfMemory) }
+{
+    repo.sound();
+    let tree = tree_of(repo, commit);
+    Ok(PathTree::load(alloc, repo.store(), &tree)?)
+}
+
+/// The tree of a held commit.
+fn tree_of<N: Namer, A: Allocator + Copy>(repo: &Repo<N, A>, commit: &Name) -> Name
+    requires { IsHeldAs kinds.Commit repo.now.1 commit.now }
+    ensures { result.bytes ≡ (parts_of_commit (N.name_of repo.now.0) (commit_at repo.now.1 commit.now)).tree }
+{
+    repo.sound();
+    let Some((_, body)) = repo.store().get(commit) else {
+        unreachable!();
+    };
+    let Ok(view) = decode_commit(body) else {
+        unreachable!();
+    };
+    view.tree()
+}

@@ -1,0 +1,84 @@
+//! Imports of whole streams. Source: git-fast-import(1).
+
+ghost use Rattle.std.specs.Prelude.{◌≡◌, OnErr};
+ghost use Rattle.gx_import.specs.Imports.{Imports};
+ghost use Rattle.gx_import.specs.Standing.{Extends};
+
+use crate::publishing::publish;
+use crate::replay::replay;
+use crate::tables::Tables;
+use crate::{ImportFault, Report};
+use gx_model::repository_laws::histories_of_records;
+use gx_object::Namer;
+use gx_repo::Repo;
+use gx_text::{Sink, Source};
+use std::alloc::Allocator;
+
+/// Imports a stream: replays its commands one after the other, and at the end publishes the branches with a commit and
+/// the tags. Lines of `progress` go to the sink as they come.
+///
+/// Each command is read whole before it is applied. Revisions are read over the refs that were published before the
+/// import. A published branch may not lose a commit, unless the stream asks for `force`.
+///
+/// Errors: those of `ImportKind`, each with its causes there, with the number of the command. After a fault the
+/// repository is as it was: its objects and its refs. What went to the sink stays there.
+///
+/// Cost: each command's bytes; for a commit the directories on its changed paths, and once for a branch the size of the
+/// tree that it starts from; and for each object to be put or found the number of records. Memory: the objects, the marks,
+/// the branches with their files, and one command. Source: git-fast-import(1).
+pub fn import<N: Namer, A: Allocator + Copy, R: Source + Drop, W: Sink>(
+    alloc: A,
+    repo: &mut Repo<N, A>,
+    source: R,
+    sink: &mut W,
+) -> Result<Report, ImportFault>
+    ensures namer { repo.new.0 ≡ repo.old.0 }
+    ensures replayed { Imports (N.name_of repo.old.0) repo.old.1 repo.new.1 (R.coming source) (W.taken sink.old) (W.taken sink.new) result }
+    ensures unchanged { OnErr result (repo.new ≡ repo.old) }
+{
+    repo.sound();
+    let held = repo.store().len();
+    match replay_and_publish(alloc, repo, source, sink) {
+        Ok(report) => Ok(report),
+        Err(fault) => {
+            repo.truncate(held);
+            Err(fault)
+        }
+    }
+}
+
+/// Replays a stream's commands, and publishes what they made. A refused import leaves the refs as they were, and the old
+/// objects in front of those that were added.
+fn replay_and_publish<N: Namer, A: Allocator + Copy, R: Source + Drop, W: Sink>(
+    alloc: A,
+    repo: &mut Repo<N, A>,
+    source: R,
+    sink: &mut W,
+) -> Result<Report, ImportFault>
+    ensures namer { repo.new.0 ≡ repo.old.0 }
+    ensures extends { Extends repo.old.1.records repo.new.1.records }
+    ensures replayed { Imports (N.name_of repo.old.0) repo.old.1 repo.new.1 (R.coming source) (W.taken sink.old) (W.taken sink.new) result }
+    ensures unpublished { OnErr result (repo.new.1.refs ≡ repo.old.1.refs) }
+{
+    histories_of_records();
+    repo.sound();
+    let held = repo.store().len();
+    let mut tables = Tables::new(alloc);
+    let commands = replay(repo, &mut tables, source, sink)?;
+    let refs = match publish(repo, &tables) {
+        Ok(refs) => refs,
+        Err(kind) => {
+            return Err(ImportFault {
+                command: commands + 1,
+                kind,
+            });
+        }
+    };
+    repo.sound();
+    let objects = (repo.store().len() - held) as u64;
+    Ok(Report {
+        commands,
+        objects,
+        refs,
+    })
+}

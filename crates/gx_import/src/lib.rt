@@ -1,0 +1,28 @@
+//! The import of streams: the commands of git-fast-import(1), replayed on a repository.
+//! An import that is accepted leaves the replayed history, and one that is refused leaves the repository as it was.
+#![tactic(auto)]
+
+mod blob;
+mod branches;
+mod changes;
+mod commit;
+mod commit_ish;
+mod fault;
+mod files;
+mod importing;
+mod marks;
+mod object;
+mod publishing;
+mod replay;
+mod report;
+mod reset;
+mod table;
+mod tables;
+mod tag;
+
+pub use fault::{ImportFault, ImportKind};
+pub use importing::import;
+pub use report::Report;
+
+#[cfg(test)]
+mod tests;

@@ -1,0 +1,193 @@
+//! What an import publishes. Source: git-fast-import(1), "force", and gitglossary(7), "fast-forward".
+
+ghost use Rattle.std.specs.Prelude.{◌≡◌, [], ◌++◌, map, None, IsTrue, IfOk, IfErr, OnOk, OnErr};
+ghost use Rattle.std.specs.FinMap.Entries.{is_sorted};
+ghost use Rattle.std.specs.Map.{lookup};
+ghost use Rattle.gx_model.specs.HistoryOf.{target_in, value_of_name};
+ghost use Rattle.gx_model.specs.Replay.{State, byte_cmp, is_fast_forward};
+ghost use Rattle.gx_model.specs.Sound.{IsTarget};
+ghost use Rattle.gx_model.specs.Texts.{same_bytes};
+ghost use Rattle.gx_repo.specs.Publishing.{changes_fault, with_changes};
+ghost use Rattle.gx_repo.specs.Refs.{asked};
+ghost use Rattle.gx_import.specs.Publishing.{Publishes};
+ghost use Rattle.gx_import.specs.RefChanges.{branch_changes, branch_then, changes_of, has_commit, hidden_by, is_kept_by, tag_changes};
+ghost use Rattle.gx_import.specs.Rows.{row_of, rows_of};
+ghost use Rattle.gx_import.specs.Standing.{Stands};
+ghost use Rattle.gx_import.specs.declared.fault.ImportKind.TheVariants.{OutOfMemory};
+
+use crate::ImportKind;
+use crate::branches::Tip;
+use crate::table::{Row, Table};
+use crate::tables::Tables;
+use gx_model::repository_laws::histories_of_records;
+use gx_object::{Name, Namer};
+use gx_repo::{PublishFault, RefChange, Repo};
+use gx_rev::reaches;
+use std::alloc::{AllocError, Allocator};
+
+/// Publishes the branches with a commit, and then the tags, and answers how many refs these are, each name once.
+pub(crate) fn publish<N: Namer, A: Allocator + Copy>(
+    repo: &mut Repo<N, A>,
+    tables: &Tables<A>,
+) -> Result<u64, ImportKind>
+    requires stands { (s : State) × Stands (N.name_of repo.now.0) repo.now.1 tables.now s }
+    ensures namer { repo.new.0 ≡ repo.old.0 }
+    ensures records { repo.new.1.records ≡ repo.old.1.records }
+    ensures published { (s : State) → Stands (N.name_of repo.old.0) repo.old.1 tables.now s → Publishes s repo.old.1 repo.new.1 result }
+{
+    histories_of_records();
+    repo.sound();
+    if !is_fast_forward(repo, tables)? {
+        return Err(ImportKind::NotFastForward);
+    }
+    let changes = changes(tables)?;
+    publish_all(repo, changes.as_slice())?;
+    let hidden = hidden_branches(tables);
+    Ok((changes.len() - hidden) as u64)
+}
+
+/// Whether no published branch loses a commit, or `force` was asked for.
+fn is_fast_forward<N: Namer, A: Allocator + Copy>(
+    repo: &Repo<N, A>,
+    tables: &Tables<A>,
+) -> Result<bool, ImportKind>
+    requires stands { (s : State) × Stands (N.name_of repo.now.0) repo.now.1 tables.now s }
+    ensures forward { (s : State) → Stands (N.name_of repo.now.0) repo.now.1 tables.now s → IfOk result (λ is_forward. is_forward ≡ is_fast_forward s) }
+    ensures fault { IfErr result (λ fault. fault ≡ OutOfMemory) }
+{
+    if tables.is_forced {
+        return Ok(true);
+    }
+    repo.sound();
+    for (name, object) in repo.refs() {
+        if !is_forward(repo, tables, name, &object)? {
+            return Ok(false);
+        }
+    }
+    Ok(true)
+}
+
+/// Whether the branch of a published ref has the ref's commit as its own or as an ancestor.
+fn is_forward<N: Namer, A: Allocator + Copy>(
+    repo: &Repo<N, A>,
+    tables: &Tables<A>,
+    name: &[u8],
+    object: &Name,
+) -> Result<bool, ImportKind>
+    requires stands { (s : State) × Stands (N.name_of repo.now.0) repo.now.1 tables.now s }
+    requires target { IsTarget repo.now.1.records name.now object.now.bytes }
+    ensures forward { (s : State) → Stands (N.name_of repo.now.0) repo.now.1 tables.now s → IfOk result (λ is_forward. is_forward ≡ is_kept_by (lookup (same_bytes name.now) s.branches) (target_in (value_of_name repo.now.1.records object.now.bytes))) }
+    ensures fault { IfErr result (λ fault. fault ≡ OutOfMemory) }
+{
+    repo.sound();
+    let Some(tip) = tables.branches.get(name) else {
+        return Ok(true);
+    };
+    let Some(new) = tip.commit else {
+        return Ok(true);
+    };
+    let Some(old) = repo.peel(object) else {
+        unreachable!();
+    };
+    Ok(reaches(tables.alloc, repo, &new, &old)?)
+}
+
+/// The refs to be set: the branches with a commit, and then the tags.
+fn changes<'a, A: Allocator + Copy>(
+    tables: &'a Tables<A>,
+) -> Result<Vec<RefChange<'a>, A>, AllocError>
+    ensures { IfOk result (λ changes. map asked changes.items ≡ changes_of tables.now) }
+{
+    let mut changes = Vec::new(tables.alloc);
+    append_branches(&mut changes, tables.branches.rows.as_slice())?;
+    append_tags(&mut changes, tables.tags.rows.as_slice())?;
+    Ok(changes)
+}
+
+/// Appends the branches with a commit.
+fn append_branches<'a, A: Allocator + Copy>(
+    changes: &mut Vec<RefChange<'a>, A>,
+    rows: &'a [Row<Tip<A>, A>],
+) -> Result<(), AllocError>
+    ensures { OnOk result (map asked changes.new.items ≡ map asked changes.old.items ++ branch_changes (map row_of rows.now)) }
+{
+    for row in rows {
+        append_branch(changes, row)?;
+    }
+    Ok(())
+}
+
+/// Appends a branch, where it has a commit.
+fn append_branch<'a, A: Allocator + Copy>(
+    changes: &mut Vec<RefChange<'a>, A>,
+    row: &'a Row<Tip<A>, A>,
+) -> Result<(), AllocError>
+    ensures { OnOk result (map asked changes.new.items ≡ map asked changes.old.items ++ branch_then row.now.name.items row.now.value.commit []) }
+{
+    if let Some(target) = row.value.commit {
+        let name = row.name.as_slice();
+        changes.push(RefChange { name, target })?;
+    }
+    Ok(())
+}
+
+/// Appends the tags.
+fn append_tags<'a, A: Allocator + Copy>(
+    changes: &mut Vec<RefChange<'a>, A>,
+    rows: &'a [Row<Name, A>],
+) -> Result<(), AllocError>
+    ensures { OnOk result (map asked changes.new.items ≡ map asked changes.old.items ++ tag_changes (map row_of rows.now)) }
+{
+    for row in rows {
+        let name = row.name.as_slice();
+        let target = row.value;
+        changes.push(RefChange { name, target })?;
+    }
+    Ok(())
+}
+
+/// Sets these refs, whose names and objects are good.
+fn publish_all<N: Namer, A: Allocator + Copy>(
+    repo: &mut Repo<N, A>,
+    changes: &[RefChange<'_>],
+) -> Result<(), ImportKind>
+    requires { changes_fault repo.now.1.records (map asked changes.now) ≡ None }
+    ensures namer { repo.new.0 ≡ repo.old.0 }
+    ensures records { repo.new.1.records ≡ repo.old.1.records }
+    ensures refs { OnOk result (repo.new.1.refs ≡ with_changes repo.old.1.refs (map asked changes.now)) }
+    ensures unchanged { OnErr result (repo.new ≡ repo.old) }
+    ensures fault { IfErr result (λ fault. fault ≡ OutOfMemory) }
+{
+    match repo.publish(changes) {
+        Ok(()) => Ok(()),
+        Err(fault) => match fault {
+            PublishFault::OutOfMemory => Err(ImportKind::OutOfMemory),
+            _ => unreachable!(),
+        },
+    }
+}
+
+/// How many tags have the ref of a branch with a commit.
+fn hidden_branches<A: Allocator + Copy>(tables: &Tables<A>) -> usize
+    requires sorted { IsTrue (is_sorted byte_cmp (rows_of tables.now.branches)) }
+    ensures { result ≡ hidden_by (rows_of tables.now.branches) (rows_of tables.now.tags) }
+{
+    let mut hidden = 0;
+    for row in &tables.tags.rows {
+        if has_commit(&tables.branches, row.name.as_slice()) {
+            hidden += 1;
+        }
+    }
+    hidden
+}
+
+/// Whether a branch of this name has a commit.
+fn has_commit<A: Allocator + Copy>(branches: &Table<Tip<A>, A>, name: &[u8]) -> bool
+    requires sorted { IsTrue (is_sorted byte_cmp (rows_of branches.now)) }
+    ensures { result ≡ has_commit (lookup (same_bytes name.now) (rows_of branches.now)) }
+{
+    match branches.get(name) {
+        Some(tip) => tip.commit.is_some(),
+        None => false,
+    }
+}

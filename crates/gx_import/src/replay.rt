@@ -1,0 +1,127 @@
+//! The commands of a stream, applied one after the other. Source: git-fast-import(1), "Commands".
+
+ghost use Rattle.std.specs.Prelude.{◌≡◌, ◌<◌, ◌≤◌, ◌-◌, ◌^◌, ◌++◌, [], ◌∷◌, Ok, codes, IfOk};
+ghost use Rattle.gx_model.specs.declared.objects.Kind.{Kind};
+ghost use Rattle.gx_model.specs.Commands.{Asks};
+ghost use Rattle.gx_model.specs.Histories.{Records};
+ghost use Rattle.gx_model.specs.Texts.{Bytes};
+ghost use Rattle.gx_model.specs.Replay.{State, step};
+ghost use Rattle.gx_model.specs.Revisions.{revision_of};
+ghost use Rattle.gx_command.specs.Views.{shown_command};
+ghost use Rattle.gx_import.specs.Applying.{Applies};
+ghost use Rattle.gx_import.specs.Replaying.{FallsNext, ReadsNext, ReplaysTo, Writes};
+ghost use Rattle.gx_import.specs.Standing.{AreEmpty, Extends, Follows, Stands};
+
+use crate::blob::apply_blob;
+use crate::commit::apply_commit;
+use crate::reset::apply_reset;
+use crate::tables::Tables;
+use crate::tag::apply_tag;
+use crate::{ImportFault, ImportKind};
+use gx_command::{Command, CommandReader, Feature};
+use gx_object::Namer;
+use gx_repo::Repo;
+use gx_text::{Sink, Source, send};
+use std::alloc::Allocator;
+
+/// Applies all commands of a source, and answers their number.
+pub(crate) fn replay<N: Namer, A: Allocator + Copy, R: Source + Drop, W: Sink>(
+    repo: &mut Repo<N, A>,
+    tables: &mut Tables<A>,
+    source: R,
+    sink: &mut W,
+) -> Result<u64, ImportFault>
+    requires empty { AreEmpty tables.now }
+    ensures namer { repo.new.0 ≡ repo.old.0 }
+    ensures refs { repo.new.1.refs ≡ repo.old.1.refs }
+    ensures extends { Extends repo.old.1.records repo.new.1.records }
+    ensures count { IfOk result (λ commands. commands ≤ 2 ^ 63 - 1) }
+    ensures replayed { ReplaysTo (N.name_of repo.old.0) repo.old.1 repo.new.1 tables.new (R.coming source) (W.taken sink.old) (W.taken sink.new) result }
+{
+    let mut reader = CommandReader::new(tables.alloc, source);
+    let mut commands = 0;
+    while let Some(command) = next_command(&mut reader, commands)? {
+        commands += 1;
+        if let Err(kind) = apply(repo, tables, sink, command) {
+            return Err(ImportFault {
+                command: commands,
+                kind,
+            });
+        }
+    }
+    Ok(commands)
+}
+
+/// The next command, after so many.
+fn next_command<R: Source, A: Allocator + Copy>(
+    reader: &mut CommandReader<R, A>,
+    commands: u64,
+) -> Result<Option<Command<A>>, ImportFault>
+    requires room { commands < 2 ^ 64 - 1 }
+    ensures reads { ReadsNext commands reader.old.commands reader.new.commands result }
+    ensures falls { FallsNext reader.old.most reader.new.most result }
+{
+    match reader.next() {
+        Ok(command) => Ok(command),
+        Err(fault) => Err(ImportFault {
+            command: commands + 1,
+            kind: ImportKind::from(fault),
+        }),
+    }
+}
+
+/// Applies one command.
+fn apply<N: Namer, A: Allocator + Copy, W: Sink>(
+    repo: &mut Repo<N, A>,
+    tables: &mut Tables<A>,
+    sink: &mut W,
+    command: Command<A>,
+) -> Result<(), ImportKind>
+    requires stands { (s : State) × Stands (N.name_of repo.now.0) repo.now.1 tables.now s }
+    ensures namer { repo.new.0 ≡ repo.old.0 }
+    ensures refs { repo.new.1.refs ≡ repo.old.1.refs }
+    ensures extends { Extends repo.old.1.records repo.new.1.records }
+    ensures steps { (s : State) → Stands (N.name_of repo.old.0) repo.old.1 tables.old s → Applies (N.name_of repo.old.0) repo.old.1 repo.new.1 tables.new s (shown_command command) (W.taken sink.old) (W.taken sink.new) result }
+{
+    match command {
+        Command::Blob(blob) => apply_blob(repo, tables, &blob),
+        Command::Commit(commit) => apply_commit(repo, tables, commit),
+        Command::Tag(tag) => apply_tag(repo, tables, &tag),
+        Command::Reset(reset) => apply_reset(repo, tables, reset),
+        Command::Progress(text) => apply_progress(sink, text.as_slice()),
+        Command::Feature(feature) => {
+            apply_feature(tables, feature);
+            Ok(())
+        }
+        Command::Checkpoint | Command::OptionLine(_) | Command::Done => Ok(()),
+    }
+}
+
+/// Writes the whole line of a progress, and a line feed.
+fn apply_progress<W: Sink>(sink: &mut W, text: &[u8]) -> Result<(), ImportKind>
+    ensures { Writes (W.taken sink.old) (W.taken sink.new) (codes "progress " ++ text.now ++ 10 ∷ []) result }
+{
+    write(sink, b"progress ")?;
+    write(sink, text)?;
+    write(sink, b"\n")
+}
+
+/// Writes all of these bytes.
+fn write<W: Sink>(sink: &mut W, bytes: &[u8]) -> Result<(), ImportKind>
+    ensures { Writes (W.taken sink.old) (W.taken sink.new) bytes.now result }
+{
+    match send(sink, bytes) {
+        Ok(()) => Ok(()),
+        Err(_) => Err(ImportKind::WriteFailed),
+    }
+}
+
+/// The feature `force` lets branches lose commits.
+fn apply_feature<A: Allocator + Copy>(tables: &mut Tables<A>, feature: Feature)
+    ensures { (name : Kind → Bytes → Bytes) (repository : Records) (s : State) → Stands name repository tables.old s → (t : State) × (step name revision_of s (Asks feature) ≡ Ok t) × Follows name repository tables.new s t }
+{
+    match feature {
+        Feature::Force => tables.is_forced = true,
+        Feature::Done | Feature::RawDates => {}
+    }
+}

@@ -1,0 +1,93 @@
+//! Tag commands. Source: git-fast-import(1), "tag".
+
+ghost use Rattle.std.specs.Prelude.{◌≡◌, [], ◌∷◌, Ok, IfOk};
+ghost use Rattle.std.specs.Option.{option_map};
+ghost use Rattle.gx_model.specs.declared.objects.Kind.TheVariants as kinds;
+ghost use Rattle.gx_model.specs.RefNames.{tag_ref};
+ghost use Rattle.gx_model.specs.Records.{name_of};
+ghost use Rattle.gx_model.specs.Replay.{State, added, step_tag};
+ghost use Rattle.gx_model.specs.RepositoryLaws.{values_of};
+ghost use Rattle.gx_model.specs.Revisions.{revision_of};
+ghost use Rattle.gx_model.specs.Sound.{Holds};
+ghost use Rattle.gx_model.specs.Values.{Commit, tag_value};
+ghost use Rattle.gx_object.specs.Parts.{tag_parts as shown_parts};
+ghost use Rattle.gx_command.specs.Views.{tag_parts};
+ghost use Rattle.gx_import.specs.Additions.{Clash, added_by_tag, tag_made};
+ghost use Rattle.gx_import.specs.Answers.{AddsAs};
+ghost use Rattle.gx_import.specs.Objects.{IsCommitOf};
+ghost use Rattle.gx_import.specs.Standing.{Extends, Follows, Stands};
+
+use crate::ImportKind;
+use crate::commit::ident;
+use crate::commit_ish::object_named;
+use crate::object::{Object, name_of_kind};
+use crate::tables::Tables;
+use gx_command::Tag;
+use gx_model::repository_laws::puts_add_values;
+use gx_object::{Kind, Name, Namer, TagParts};
+use gx_repo::Repo;
+use std::alloc::{AllocError, Allocator};
+
+/// Makes a tag object and its mark. A later tag of one name replaces an earlier one.
+pub(crate) fn apply_tag<N: Namer, A: Allocator + Copy>(
+    repo: &mut Repo<N, A>,
+    tables: &mut Tables<A>,
+    tag: &Tag<A>,
+) -> Result<(), ImportKind>
+    requires stands { (s : State) × Stands (N.name_of repo.now.0) repo.now.1 tables.now s }
+    ensures namer { repo.new.0 ≡ repo.old.0 }
+    ensures refs { repo.new.1.refs ≡ repo.old.1.refs }
+    ensures extends { Extends repo.old.1.records repo.new.1.records }
+    ensures steps { (s : State) → Stands (N.name_of repo.old.0) repo.old.1 tables.old s → AddsAs (Clash (N.name_of repo.old.0) (values_of repo.old.1) (added_by_tag (N.name_of repo.old.0) s (tag_parts tag.now))) (λ t _. Follows (N.name_of repo.old.0) repo.new.1 tables.new s t) result (step_tag (N.name_of repo.old.0) revision_of s (tag_parts tag.now)) }
+{
+    repo.sound();
+    let object = object_named(repo, tables, &tag.from)?;
+    let target = name_of_kind(object, Kind::Commit)?;
+    let name = add(repo, target, tag)?;
+    let kind = Kind::Tag;
+    tables.marks.set(tag.mark, Object { kind, name })?;
+    let tag_ref = tag_ref(tables.alloc, tag.name.bytes.as_slice())?;
+    Ok(tables.tags.set(tag_ref, name)?)
+}
+
+/// Adds the tag of a commit.
+fn add<N: Namer, A: Allocator + Copy>(
+    repo: &mut Repo<N, A>,
+    object: Name,
+    tag: &Tag<A>,
+) -> Result<Name, ImportKind>
+    requires object { Holds repo.now.1.records kinds.Commit object.bytes }
+    ensures namer { repo.new.0 ≡ repo.old.0 }
+    ensures refs { repo.new.1.refs ≡ repo.old.1.refs }
+    ensures extends { Extends repo.old.1.records repo.new.1.records }
+    ensures steps { (tables : Tables A) (s : State) (target : Commit) → Stands (N.name_of repo.old.0) repo.old.1 tables s → IsCommitOf (N.name_of repo.old.0) s.history.values target object → AddsAs (Clash (N.name_of repo.old.0) (values_of repo.old.1) (tag_value (tag_made target (tag_parts tag.now)) ∷ [])) (λ t called. Follows (N.name_of repo.old.0) repo.new.1 tables s t × (called.bytes ≡ name_of (N.name_of repo.old.0) (tag_value (tag_made target (tag_parts tag.now))))) result (Ok (added (tag_value (tag_made target (tag_parts tag.now))) s)) }
+{
+    repo.sound();
+    puts_add_values();
+    Ok(repo.add_tag(&object_parts(object, tag))?)
+}
+
+/// The parts of a tag object.
+fn object_parts<'a, A: Allocator + Copy>(object: Name, tag: &'a Tag<A>) -> TagParts<'a>
+    ensures { shown_parts result ≡ record { object = object.bytes; name = tag.now.name.bytes.items; tagger = option_map (λ i. i.bytes.items) tag.now.tagger; message = tag.now.message.items } }
+{
+    let tagger = match &tag.tagger {
+        Some(tagger) => Some(ident(tagger)),
+        None => None,
+    };
+    TagParts {
+        object,
+        name: tag.name.bytes.as_slice(),
+        tagger,
+        message: tag.message.as_slice(),
+    }
+}
+
+/// The ref of a tag.
+fn tag_ref<A: Allocator + Copy>(alloc: A, name: &[u8]) -> Result<Vec<u8, A>, AllocError>
+    ensures { IfOk result (λ made. made.items ≡ tag_ref name.now) }
+{
+    let mut tag_ref = Vec::from_slice(alloc, b"refs/tags/")?;
+    tag_ref.extend_from_slice(name)?;
+    Ok(tag_ref)
+}

@@ -1,0 +1,21 @@
+use Rattle.std.proofs.Common.{◌≡◌, ℕ, zero, suc, List, [], ◌∷◌, ◌++◌, take, drop, map, refl, sym, ap, subst}
+use Rattle.gx_model.specs.Sound.{IsSound}
+use Rattle.gx_repo.specs.Refs.{kept}
+use Rattle.gx_repo.proofs.repo.Repo.truncate.Goals as goal
+
+-- a front and what follows it
+rejoined : {X : Type 0} (n : ℕ) (xs : List X) → take n xs ++ drop n xs ≡ xs
+rejoined zero xs = refl
+rejoined (suc n) [] = refl
+rejoined (suc n) (x ∷ xs) = ap (λ ys. x ∷ ys) (rejoined n xs)
+
+pub invariant_of-self : goal.invariant_of-self
+invariant_of-self g c =
+    let names = g.N.Namer.name_of c.self.inside.store.0 in
+    let namer = g.met.N.Namer.is_namer c.self.inside.store.0 in
+    let rs = c.self.inside.store.1 in
+    let refs = map kept c.self.inside.refs.items in
+    let whole = subst (λ z. IsSound names (record { records = z; refs = refs })) (sym (rejoined c.args.len rs)) c.self.invariant in
+    let held = rw (sym c.self.view_is) at c.requires.targets in
+    let law = ((c.parts_change.ensures names namer).first (take c.args.len rs) (drop c.args.len rs) refs whole held).0 in
+    subst (λ v. IsSound (g.N.Namer.name_of v.0) (record { records = v.1; refs = refs })) (sym c.truncate.ensures) law

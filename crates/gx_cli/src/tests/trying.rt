@@ -1,6 +1,6 @@
 //! Streams that are tried, with what a revision shows. The names are those that git gives these objects.
 
-use crate::{Line, Outcome, look_imported, serve};
+use crate::{CliFault, Line, Outcome, look_imported, serve};
 use gx_object::{Mode, Sha1Namer, ShortNamer};
 use gx_refusing::Refusing;
 use gx_rev::Revision;
@@ -21,6 +21,52 @@ const LINES: &[u8] =
 const COMMIT: &[u8] =
     b"progress x\ntree d8329fc1cc938780ffdd9f94e0d364e0ea74f579\nauthor A <a@x> 1 +0000\ncommitter A <a@x> 1 +0000\n\nv1";
 
+/// A stream, a word, and what comes out.
+type Row<'a> = (&'a [u8], &'a str, &'a [u8]);
+
+const SHOWN: &[Row<'static>] = &[
+    (STREAM, "main:test.txt", b"progress x\nversion 1\n"),
+    (
+        STREAM,
+        "main^{tree}",
+        b"progress x\n100644 blob 83baae61804e65cc73a7201a7252750c76066a30\ttest.txt\n",
+    ),
+    (STREAM, "main", COMMIT),
+    (STREAM, "v1^{commit}", COMMIT),
+    (WIDE, "main^{tree}", LINES),
+    (WIDE, "main:", LINES),
+    (
+        WIDE,
+        "main:a",
+        b"100644 blob 83baae61804e65cc73a7201a7252750c76066a30\ttest.txt\n",
+    ),
+    (
+        WIDE,
+        "main:sub",
+        b"d670460b4b4aece5915caf5c68d12f560a9fe3e4",
+    ),
+    (WIDE, "main:a0", b"hello\n"),
+];
+
+/// A stream, a word, and the refusal's line.
+type Refusal<'a> = (&'a [u8], &'a str, &'a str);
+
+/// Refused behind the line `progress x`.
+const REFUSED: &[Refusal<'static>] = &[
+    (STREAM, "nope", "gx: revision 1: UnknownRef"),
+    (STREAM, "a..b", "gx: revision 1: BadRevision"),
+    (STREAM, "main:none", "gx: revision 1: NoSuchPath"),
+    (STREAM, "main~1", "gx: revision 1: NoParent"),
+    (STREAM, "main^{blob}", "gx: revision 1: WrongKind"),
+    // the stream is read before the revision
+    (
+        b"progress x\nfoo\n",
+        "a..b",
+        "gx: command 2: UnknownCommand",
+    ),
+    (b"progress x\n", "main", "gx: revision 1: UnknownRef"),
+];
+
 fn outcome_of<A: Allocator + Copy>(
     alloc: A,
     stream: &[u8],
@@ -32,39 +78,65 @@ fn outcome_of<A: Allocator + Copy>(
     serve(alloc, Sha1Namer, &Line::Try(word), b"", source, sink)
 }
 
+/// Whether a fault prints this line, and none prints an empty one.
+fn has_line<A: Allocator + Copy>(
+    alloc: A,
+    fault: Option<CliFault>,
+    line: &str,
+) -> Result<bool, AllocError> {
+    match fault {
+        None => Ok(line.is_empty()),
+        Some(fault) => {
+            let text = format!(in alloc; "{fault}")?;
+            Ok(text.as_str() == line)
+        }
+    }
+}
+
+/// Whether a try ends with the status that goes with this line, without a store text, and with this output.
+fn ends_so<A: Allocator + Copy>(
+    alloc: A,
+    (stream, word, output): Row<'_>,
+    fails: bool,
+    line: &str,
+) -> Result<bool, AllocError> {
+    let mut held = Held::new(alloc, 4096)?;
+    let outcome = outcome_of(alloc, stream, word, fails, &mut held);
+    let status = if line.is_empty() { 0 } else { 1 };
+    let is_told = has_line(alloc, outcome.fault, line)?;
+    Ok(is_told && outcome.status == status && outcome.store.is_none() && held.bytes() == output)
+}
+
 #[test]
 fn revisions_are_shown_behind_the_progress(rt: HostRuntime) -> Result<(), Fail> {
-    let rows: [(&[u8], &str, &[u8]); 9] = [
-        (STREAM, "main:test.txt", b"progress x\nversion 1\n"),
-        (
-            STREAM,
-            "main^{tree}",
-            b"progress x\n100644 blob 83baae61804e65cc73a7201a7252750c76066a30\ttest.txt\n",
-        ),
-        (STREAM, "main", COMMIT),
-        (STREAM, "v1^{commit}", COMMIT),
-        (WIDE, "main^{tree}", LINES),
-        (WIDE, "main:", LINES),
-        (
-            WIDE,
-            "main:a",
-            b"100644 blob 83baae61804e65cc73a7201a7252750c76066a30\ttest.txt\n",
-        ),
-        (
-            WIDE,
-            "main:sub",
-            b"d670460b4b4aece5915caf5c68d12f560a9fe3e4",
-        ),
-        (WIDE, "main:a0", b"hello\n"),
-    ];
-    for (stream, word, want) in rows {
-        let mut held = Held::new(rt.alloc(), 4096)?;
-        let outcome = outcome_of(rt.alloc(), stream, word, false, &mut held);
-        assert_eq!(rt; outcome.status, 0, "for {word}");
-        assert!(rt; outcome.fault.is_none());
-        assert!(rt; outcome.store.is_none());
-        assert_eq!(rt; held.bytes(), want, "for {word}");
+    for row in SHOWN {
+        assert!(rt; ends_so(rt.alloc(), *row, false, "")?);
     }
+    Ok(())
+}
+
+#[test]
+fn refusals_show_the_progress_alone(rt: HostRuntime) -> Result<(), Fail> {
+    for row in REFUSED {
+        let (stream, word, line) = *row;
+        assert!(rt; ends_so(rt.alloc(), (stream, word, b"progress x\n"), false, line)?);
+    }
+    assert!(rt;
+        ends_so(
+            rt.alloc(),
+            (b"foo\n", "a..b", b""),
+            false,
+            "gx: command 1: UnknownCommand"
+        )?
+    );
+    assert!(rt;
+        ends_so(
+            rt.alloc(),
+            (b"progress x\n", "main", b"progress x\n"),
+            true,
+            "gx: command 2: ReadFailed"
+        )?
+    );
     Ok(())
 }
 
@@ -81,111 +153,26 @@ fn tag_is_shown_by_its_body(rt: HostRuntime) -> Result<(), Fail> {
     Ok(())
 }
 
-#[test]
-fn refusals_show_the_progress_alone(rt: HostRuntime) -> Result<(), Fail> {
-    let rows: [(&[u8], bool, &str, &[u8], &str); 9] = [
-        (
-            STREAM,
-            false,
-            "nope",
-            b"progress x\n",
-            "gx: revision 1: UnknownRef",
-        ),
-        (
-            STREAM,
-            false,
-            "a..b",
-            b"progress x\n",
-            "gx: revision 1: BadRevision",
-        ),
-        (
-            STREAM,
-            false,
-            "main:none",
-            b"progress x\n",
-            "gx: revision 1: NoSuchPath",
-        ),
-        (
-            STREAM,
-            false,
-            "main~1",
-            b"progress x\n",
-            "gx: revision 1: NoParent",
-        ),
-        (
-            STREAM,
-            false,
-            "main^{blob}",
-            b"progress x\n",
-            "gx: revision 1: WrongKind",
-        ),
-        // the stream is read before the revision
-        (
-            b"foo\n",
-            false,
-            "a..b",
-            b"",
-            "gx: command 1: UnknownCommand",
-        ),
-        (
-            b"progress half\nfoo\n",
-            false,
-            "a..b",
-            b"progress half\n",
-            "gx: command 2: UnknownCommand",
-        ),
-        (
-            b"progress half\n",
-            false,
-            "main",
-            b"progress half\n",
-            "gx: revision 1: UnknownRef",
-        ),
-        (
-            b"progress half\n",
-            true,
-            "main",
-            b"progress half\n",
-            "gx: command 2: ReadFailed",
-        ),
-    ];
-    for (stream, fails, word, want, line) in rows {
-        let mut held = Held::new(rt.alloc(), 4096)?;
-        let outcome = outcome_of(rt.alloc(), stream, word, fails, &mut held);
-        assert_eq!(rt; outcome.status, 1);
-        assert!(rt; outcome.store.is_none());
-        assert_eq!(rt; held.bytes(), want);
-        match &outcome.fault {
-            None => assert!(rt; false, "a refusal has a fault"),
-            Some(fault) => {
-                let text = format!(in rt.alloc(); "{fault}")?;
-                assert_eq!(rt; text.as_str(), line);
-            }
-        }
-    }
-    Ok(())
+/// Whether a sink with room for so many bytes keeps just these, and the line tells where it failed.
+fn keeps_front<A: Allocator + Copy>(alloc: A, room: usize) -> Result<bool, AllocError> {
+    let mut held = Held::new(alloc, room)?;
+    let outcome = outcome_of(alloc, STREAM, "main", false, &mut held);
+    let line = if room < 11 {
+        "gx: command 1: WriteFailed"
+    } else {
+        "gx: write failed"
+    };
+    let is_told = has_line(alloc, outcome.fault, line)?;
+    Ok(is_told && outcome.status == 1 && held.bytes() == &COMMIT[..room])
 }
 
 #[test]
 fn failed_write_keeps_a_front_of_the_output(rt: HostRuntime) -> Result<(), Fail> {
     for room in 0..COMMIT.len() {
-        let mut held = Held::new(rt.alloc(), room)?;
-        let outcome = outcome_of(rt.alloc(), STREAM, "main", false, &mut held);
-        assert_eq!(rt; outcome.status, 1);
-        assert_eq!(rt; held.bytes().len(), room);
-        assert!(rt; COMMIT.starts_with(held.bytes()));
-        let line = if room < 11 {
-            "gx: command 1: WriteFailed"
-        } else {
-            "gx: write failed"
-        };
-        match &outcome.fault {
-            None => assert!(rt; false, "a refusal has a fault"),
-            Some(fault) => {
-                let text = format!(in rt.alloc(); "{fault}")?;
-                assert_eq!(rt; text.as_str(), line, "with room for {room} bytes");
-            }
-        }
+        assert!(rt;
+            keeps_front(rt.alloc(), room)?,
+            "with room for {room} bytes"
+        );
     }
     Ok(())
 }
@@ -198,6 +185,15 @@ struct Trial {
     is_whole: bool,
 }
 
+/// Whether memory ran out, within the import or after it.
+fn is_memory(fault: Option<CliFault>) -> bool {
+    match fault {
+        Some(CliFault::OutOfMemory) => true,
+        Some(CliFault::Import(fault)) => fault.kind == gx_import::ImportKind::OutOfMemory,
+        _ => false,
+    }
+}
+
 fn tried_with_growth_refused<B: Allocator>(
     heap: &Refusing<B>,
     nth: u64,
@@ -206,54 +202,55 @@ fn tried_with_growth_refused<B: Allocator>(
     heap.arm(nth);
     let outcome = outcome_of(heap, WIDE, "main^{tree}", false, &mut held);
     heap.arm(0);
-    let is_memory = match &outcome.fault {
-        None => false,
-        Some(crate::CliFault::OutOfMemory) => true,
-        Some(crate::CliFault::Import(fault)) => fault.kind == gx_import::ImportKind::OutOfMemory,
-        Some(_) => false,
-    };
     Ok(Trial {
         status: outcome.status,
-        is_memory,
+        is_memory: is_memory(outcome.fault),
         is_front: LINES.starts_with(held.bytes()),
         is_whole: LINES == held.bytes(),
     })
 }
 
+/// How many growths are refused before a try succeeds; none where one is answered otherwise.
+fn refused_growths<B: Allocator + Copy>(alloc: B) -> Result<Option<u64>, AllocError> {
+    for nth in 1..3000u64 {
+        let heap = Refusing::new(alloc, 0);
+        let trial = tried_with_growth_refused(&heap, nth)?;
+        if trial.status == 0 {
+            return Ok(if trial.is_whole { Some(nth - 1) } else { None });
+        }
+        if !trial.is_memory || !trial.is_front {
+            return Ok(None);
+        }
+    }
+    Ok(None)
+}
+
 #[test]
 fn each_refused_growth_of_a_trial_is_out_of_memory(rt: HostRuntime) -> Result<(), Fail> {
-    for nth in 1..3000u64 {
-        let heap = Refusing::new(rt.alloc(), 0);
-        let trial = tried_with_growth_refused(&heap, nth)?;
-        assert!(rt; trial.is_front);
-        if trial.status == 0 {
-            assert!(rt; trial.is_whole);
-            assert!(rt; nth > 20);
-            return Ok(());
-        }
-        assert!(rt; trial.is_memory, "growth {nth}");
-    }
-    assert!(rt; false, "a run succeeds");
+    let refused = refused_growths(rt.alloc())?.ok_or("a wrong answer")?;
+    assert!(rt; refused > 20);
     Ok(())
+}
+
+/// Whether the file at this path of `main` has the mode of a plain file and these bytes.
+fn looks_up<A: Allocator + Copy>(alloc: A, path: &[u8], bytes: &[u8]) -> Result<bool, AllocError> {
+    let Ok(revision) = Revision::read(alloc, b"main") else {
+        return Ok(false);
+    };
+    let Ok(path) = TreePath::read(alloc, path) else {
+        return Ok(false);
+    };
+    let mut held = Held::new(alloc, 64)?;
+    let source = Bytes::new(WIDE, 4096, false);
+    match look_imported(alloc, ShortNamer, source, &mut held, &revision, &path) {
+        Ok((mode, file)) => Ok(mode == Mode::File && file.as_slice() == bytes),
+        Err(_) => Ok(false),
+    }
 }
 
 #[test]
 fn file_of_an_imported_stream_is_looked_up(rt: HostRuntime) -> Result<(), Fail> {
-    let Ok(revision) = Revision::read(rt.alloc(), b"main") else {
-        return Err(Fail::from(AllocError));
-    };
-    let Ok(path) = TreePath::read(rt.alloc(), b"a/test.txt") else {
-        return Err(Fail::from(AllocError));
-    };
-    let mut held = Held::new(rt.alloc(), 64)?;
-    let source = Bytes::new(WIDE, 4096, false);
-    let found = look_imported(rt.alloc(), ShortNamer, source, &mut held, &revision, &path);
-    match found {
-        Ok((mode, bytes)) => {
-            assert_eq!(rt; mode, Mode::File);
-            assert_eq!(rt; bytes.as_slice(), b"version 1\n".as_slice());
-        }
-        Err(_) => assert!(rt; false, "the path is found"),
-    }
+    assert!(rt; looks_up(rt.alloc(), b"a/test.txt", b"version 1\n")?);
+    assert!(rt; !looks_up(rt.alloc(), b"a", b"")?);
     Ok(())
 }

@@ -8,7 +8,7 @@ cd "$(dirname "$0")/.."
 [ $# -gt 0 ] || set -- 500 2000
 folder=$(mktemp -d)
 trap 'rm -rf "$folder"' EXIT
-gx=$PWD/crates/gx/out/gx
+gx=${GX:-$PWD/crates/gx/out/gx}
 [ -x "$gx" ] || (cd crates/gx && rt run blobs < /dev/null)
 
 # the least time of three runs, with that run's memory

@@ -43,7 +43,7 @@ make_git() {
   git checkout -q main
   git mv src/deep/file src/deep/moved
   printf 'second\n' >> README
-  git update-index --add --cacheinfo "160000,$(git rev-parse v1^{}),module"
+  git update-index --add --cacheinfo 160000,d670460b4b4aece5915caf5c68d12f560a9fe3e4,module
   git add README && save commit -q -m 'Move a file, add a module'
   save merge -q --no-ff -m 'Merge topic' topic
   save tag -a v2 -m 'The second version' && git rm -q -r doc && save commit -q -m 'Drop the documents'

@@ -1,5 +1,5 @@
 -- A blob that is refused because its name is held has the name of another value.
-use Rattle.std.proofs.Common.{◌≡◌, List, [], ◌∷◌, Option, Some, None, Result, Ok, Err, map, refl, sym, ap, ◌∙◌}
+use Rattle.std.proofs.Common.{◌≡◌, List, [], ◌∷◌, Option, Some, None, Result, Err, map, refl, sym, ap, ◌∙◌}
 use Rattle.std.specs.Option.{option_map}
 use Rattle.gx_model.specs.declared.objects.Kind.{Kind}
 use Rattle.gx_model.specs.declared.objects.Kind.TheVariants as kinds
@@ -12,7 +12,6 @@ use Rattle.gx_model.specs.RepositoryLaws.{PutsGrow, values_of}
 use Rattle.gx_model.specs.Sound.{IsSound}
 use Rattle.gx_store.specs.declared.fault.StoreFault.{StoreFault}
 use Rattle.gx_store.specs.declared.fault.StoreFault.TheVariants.{OutOfMemory, NameHeld}
-use Rattle.gx_object.specs.declared.name.Name.{Name}
 use Rattle.gx_store.specs.Stores.{record_for}
 use Rattle.gx_repo.specs.Additions.{Adds}
 use Rattle.gx_import.specs.Answers.{AddsAs}

@@ -1,5 +1,5 @@
 -- A fault of the first of two steps is one of both.
-use Rattle.std.proofs.Common.{◌≡◌, Result, Ok, Err, ap}
+use Rattle.std.proofs.Common.{Result, ap}
 use Rattle.gx_model.specs.declared.faults.Fault.{Fault}
 use Rattle.gx_model.specs.declared.faults.Fault.TheVariants as fault
 use Rattle.gx_model.specs.Faults.{IsFaultOf, and_then}

@@ -1,5 +1,5 @@
 -- What digits give as a file's content: a held blob, or for a gitlink the digits.
-use Rattle.std.proofs.Common.{◌≡◌, ℕ, arith, eq-eqb, true, List, [], ◌∷◌, map, length, Option, Some, None, Result, Ok, Err, refl, sym, ap, subst, ◌∙◌}
+use Rattle.std.proofs.Common.{◌≡◌, ℕ, arith, eq-eqb, true, [], ◌∷◌, map, length, Option, Some, None, Result, Ok, Err, refl, sym, ap, subst, ◌∙◌}
 use Rattle.std.specs.Prelude.{T, IsTrue, is_some, nat_eq, ◌&&◌}
 use Rattle.std.specs.Bool.{passes}
 use Rattle.std.proofs.lemmas.Grind.{common_steps}
@@ -7,7 +7,6 @@ use Rattle.std.proofs.lemmas.List.{length-map}
 use Rattle.gx_model.proofs.PathTests.{both, first, is_true, second}
 use Rattle.std.specs.List.{list_all}
 use Rattle.std.specs.Option.{option_map}
-use Rattle.gx_model.specs.declared.faults.Fault.{Fault}
 use Rattle.gx_model.specs.declared.faults.Fault.TheVariants as fault
 use Rattle.gx_model.specs.declared.objects.Kind.{Kind}
 use Rattle.gx_model.specs.declared.objects.Kind.TheVariants as kind
@@ -17,7 +16,7 @@ use Rattle.gx_model.specs.Texts.{Bytes}
 use Rattle.gx_model.specs.Faults.{Given, IsFaultOf, and_then}
 use Rattle.gx_model.specs.Values.{Value, blob_value, commit_value, is_hex_digit, is_name_text, tag_value, tree_value}
 use Rattle.gx_model.specs.Objects.{IsNamer, unhex}
-use Rattle.gx_model.specs.Records.{content_name, kind_of, name_of}
+use Rattle.gx_model.specs.Records.{kind_of, name_of}
 use Rattle.gx_model.specs.Histories.{History, IsIn, Record, Records}
 use Rattle.gx_model.specs.HistoryOf.{history_of, value_of_name}
 use Rattle.gx_model.specs.Growth.{record_named}

@@ -1,5 +1,5 @@
 -- The map of names of a commit's files, and its trees among the records.
-use Rattle.std.proofs.Common.{◌≡◌, ◌≢◌, true, ℕ, zero, suc, ◌<◌, ◌+◌, ◌*◌, arith, length, eq-eqb, refl, sym, ap, subst, ◌∙◌, List, [], ◌∷◌, ◌++◌, map, Some, Ok, Err}
+use Rattle.std.proofs.Common.{◌≡◌, ◌≢◌, true, ℕ, zero, suc, ◌<◌, ◌+◌, ◌*◌, arith, length, eq-eqb, refl, sym, subst, List, [], ◌∷◌, map, Some, Ok}
 use Rattle.std.specs.Prelude.{T, ◌&&◌, not, nat_lt, IsTrue}
 use Rattle.std.specs.Bool.{passes}
 use Rattle.std.specs.List.{AllByRecursion, flat_map, list_all}
@@ -15,12 +15,12 @@ use Rattle.gx_model.specs.Texts.{Bytes}
 use Rattle.gx_model.specs.Faults.{IsFaultOf}
 use Rattle.gx_model.specs.Paths.{Path, are_in_line, is_file_path, path_cmp}
 use Rattle.gx_model.specs.Files.{FileMap, are_apart, are_file_paths, is_file_map}
-use Rattle.gx_model.specs.Values.{Commit, Value, blobs_of, commit_value, files_of, is_content, is_hex_digit, is_leaf, is_proper_text, sub_maps, text_of, tree_value}
+use Rattle.gx_model.specs.Values.{Value, blobs_of, commit_value, files_of, is_content, is_hex_digit, is_leaf, sub_maps, tree_value}
 use Rattle.gx_model.specs.Objects.{IsNamer, digit_value, is_name, unhex}
 use Rattle.gx_model.specs.Records.{content_name, named_map, tree_name}
 use Rattle.gx_model.specs.Histories.{IsIn, IsWhole, Record, Records, record_of}
 use Rattle.gx_model.specs.HistoryOf.{commit_of_value, history_of, value_of_name}
-use Rattle.gx_model.specs.Growth.{all_trees, all_trees_to, record_named, tree_records}
+use Rattle.gx_model.specs.Growth.{all_trees, all_trees_to, record_named}
 use Rattle.gx_model.specs.RecordFaults.{is_held}
 use Rattle.gx_model.specs.Sound.{IsSound}
 use Rattle.gx_model.proofs.PathTests.{both, first, second, is_true}

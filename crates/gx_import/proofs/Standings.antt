@@ -1,8 +1,8 @@
 -- What an import holds stands for the state of its replay when a value is added, a mark is set, or a branch moves.
-use Rattle.std.proofs.Common.{◌≡◌, ℕ, Bool, true, false, cond, List, [], ◌∷◌, ◌++◌, Option, Some, None, refl, sym, ap, subst, ◌∙◌, inl, inr}
+use Rattle.std.proofs.Common.{◌≡◌, ℕ, true, false, cond, List, [], ◌∷◌, ◌++◌, Option, Some, None, refl, sym, ap, subst, ◌∙◌, inl}
 use Rattle.std.specs.Prelude.{T, nat_eq, IsTrue}
 use Rattle.std.specs.Bool.{passes}
-use Rattle.std.specs.List.{AllByRecursion, list_all}
+use Rattle.std.specs.List.{list_all}
 use Rattle.std.specs.Map.{lookup}
 use Rattle.std.specs.declared.cmp.Ordering.TheVariants.{Less, Equal, Greater}
 use Rattle.std.specs.FinMap.Entries.{by_order, is_sorted, is_sorted-put, put}
@@ -11,7 +11,6 @@ use Rattle.gx_model.specs.Texts.{Bytes}
 use Rattle.gx_model.specs.RefNames.{is_ref_name}
 use Rattle.gx_model.specs.Values.{Commit, Tag, Value}
 use Rattle.gx_model.specs.Histories.{IsIn, Records, is_in, with_one, with_value}
-use Rattle.gx_model.specs.HistoryOf.{history_of}
 use Rattle.gx_model.specs.RepositoryLaws.{values_of}
 use Rattle.gx_model.specs.Replay.{State, added, byte_cmp, marked, on_branch}
 use Rattle.gx_model.proofs.PathTests.{first, second, is_true}

@@ -10,7 +10,7 @@ use Rattle.gx_model.specs.Histories.{with_one}
 use Rattle.gx_model.specs.Growth.{all_trees, with_values}
 use Rattle.gx_model.specs.Commands as command
 use Rattle.gx_model.specs.Commands.{Asks, Blob, Change, Checkpoint, Command, CommitParts, DataRef, Done, Inline, Modify, OptionLine, Progress, Reset, TagParts}
-use Rattle.gx_model.specs.Revisions.{Revision, revision_of}
+use Rattle.gx_model.specs.Revisions.{revision_of}
 use Rattle.gx_model.specs.Replay.{State, all_changed, all_committed, changed, commit_alone, committed, first_parent, starting_files, step, text_made, with_first_parent}
 
 -- the blob that a file's content adds

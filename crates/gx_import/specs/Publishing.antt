@@ -1,8 +1,6 @@
 -- What publishing the branches and tags of an import does, or why it is refused.
 -- Source: git-fast-import(1), "force", and gitglossary(7), "fast-forward".
 use Rattle.std.specs.Prelude.{◌≡◌, ℕ, length, true, false, [], Result, Ok, Err}
-use Rattle.gx_model.specs.declared.objects.Kind.{Kind}
-use Rattle.gx_model.specs.Texts.{Bytes}
 use Rattle.gx_model.specs.Histories.{Records}
 use Rattle.gx_model.specs.HistoryOf.{history_of}
 use Rattle.gx_model.specs.Replay.{State, final, is_fast_forward, overwritten}

@@ -2,7 +2,6 @@
 use Rattle.std.specs.Prelude.{Option, Some, None, Ok, Err}
 use Rattle.std.specs.Map.{lookup}
 use Rattle.gx_model.specs.declared.objects.Kind.{Kind}
-use Rattle.gx_model.specs.declared.faults.Fault.{Fault}
 use Rattle.gx_model.specs.declared.faults.Fault.TheVariants.{UnknownObject}
 use Rattle.gx_model.specs.Histories.{Records}
 use Rattle.gx_model.specs.HistoryOf.{value_of_name}
@@ -11,7 +10,7 @@ use Rattle.gx_model.specs.Faults.{Given, and_then}
 use Rattle.gx_model.specs.Texts.{Bytes, same_bytes}
 use Rattle.gx_model.specs.Values.{Commit, Value, commit_value}
 use Rattle.gx_model.specs.Commands.{CommitIsh, Marked, Named}
-use Rattle.gx_model.specs.Revisions.{Revision, revision_of}
+use Rattle.gx_model.specs.Revisions.{revision_of}
 use Rattle.gx_model.specs.Replay.{State, at, blob_bytes, branch_commit, committed_for, revision_value}
 
 module _ (name : Kind → Bytes → Bytes) where

@@ -163,7 +163,8 @@ fn keeps_front<A: Allocator + Copy>(alloc: A, room: usize) -> Result<bool, Alloc
         "gx: write failed"
     };
     let is_told = has_line(alloc, outcome.fault, line)?;
-    Ok(is_told && outcome.status == 1 && held.bytes() == &COMMIT[..room])
+    let is_front = held.bytes().len() == room && COMMIT.starts_with(held.bytes());
+    Ok(is_told && outcome.status == 1 && is_front)
 }
 
 #[test]

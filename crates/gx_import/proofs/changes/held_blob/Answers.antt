@@ -1,4 +1,3 @@
-use Rattle.std.proofs.Common.{◌≡◌}
 use Rattle.gx_import.proofs.HeldBlobs.{blob_found, none_held}
 use Rattle.gx_import.proofs.changes.held_blob.Goals as goal
 

@@ -1,4 +1,4 @@
-use Rattle.std.proofs.Common.{◌≡◌, Some, Ok, refl, ap}
+use Rattle.std.proofs.Common.{Some, Ok, ap}
 use Rattle.gx_model.specs.Faults.{and_then}
 use Rattle.gx_import.proofs.commit.first_parent.Goals as goal
 

@@ -1,9 +1,6 @@
-use Rattle.std.proofs.Common.{◌≡◌, sym, ap, subst}
+use Rattle.std.proofs.Common.{sym, subst}
 use Rattle.std.specs.Map.{lookup}
 use Rattle.gx_model.specs.Texts.{same_bytes}
-use Rattle.gx_model.specs.Revisions.{revision_of}
-use Rattle.gx_model.specs.Replay.{own_commit}
-use Rattle.gx_import.specs.Objects.{IsCommitOf}
 use Rattle.gx_import.specs.Rows.{AreBoth, rows_of}
 use Rattle.gx_import.specs.Standing.{IsTip}
 use Rattle.gx_import.proofs.NamedCommits.{none_found}

@@ -1,11 +1,3 @@
-use Rattle.std.proofs.Common.{◌≡◌, Some, None, sym, subst}
-use Rattle.std.specs.Map.{lookup}
-use Rattle.gx_model.specs.Texts.{same_bytes}
-use Rattle.gx_command.specs.Views.{shown_commit_ish}
-use Rattle.gx_import.specs.Answers.{GivesAs}
-use Rattle.gx_import.specs.Objects.{IsOf}
-use Rattle.gx_import.specs.Rows.{rows_of}
-use Rattle.gx_import.specs.Steps.{value_named}
 use Rattle.gx_import.proofs.NamedCommits.{branch_named, revision_named}
 use Rattle.gx_import.proofs.commit_ish.object_named.Goals as goal
 

@@ -1,4 +1,4 @@
-use Rattle.std.proofs.Common.{◌≡◌, sym, ap, ◌∙◌}
+use Rattle.std.proofs.Common.{ap, ◌∙◌}
 use Rattle.gx_model.specs.Faults.{and_then}
 use Rattle.gx_model.specs.Denotation.{shown_value, value_denoted}
 use Rattle.gx_model.specs.HistoryOf.{history_of}

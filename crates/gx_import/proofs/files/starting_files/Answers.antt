@@ -1,4 +1,4 @@
-use Rattle.std.proofs.Common.{◌≡◌, Some, refl, subst}
+use Rattle.std.proofs.Common.{◌≡◌, refl, subst}
 use Rattle.std.specs.Prelude.{IfOk}
 use Rattle.gx_model.specs.Records.{named_map}
 use Rattle.gx_import.proofs.Parents.{parent_files, parent_held, taken_files, taken_stands}

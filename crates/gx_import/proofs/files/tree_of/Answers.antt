@@ -1,4 +1,4 @@
-use Rattle.std.proofs.Common.{◌≡◌, sym, ap, ◌∙◌}
+use Rattle.std.proofs.Common.{ap}
 use Rattle.gx_model.specs.declared.objects.Kind.TheVariants as kinds
 use Rattle.gx_rev.specs.Objects.{commit_at, parts_of_commit}
 use Rattle.gx_rev.proofs.HeldValues.{commit_text_held, got, kind_held}

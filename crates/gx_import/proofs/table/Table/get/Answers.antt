@@ -1,4 +1,4 @@
-use Rattle.std.proofs.Common.{rules, of_calls, ◌≡◌, Some, ap, ◌∙◌}
+use Rattle.std.proofs.Common.{rules, of_calls, Some, ap, ◌∙◌}
 use Rattle.std.specs.Bool.{passes}
 use Rattle.std.proofs.lemmas.Fn.{always_returns_same}
 use Rattle.gx_model.specs.Replay.{byte_cmp}

@@ -29,7 +29,8 @@ linked_left : (before xs ys : List Record) → IsLinkedAfter before (xs ++ ys) �
 linked_left before [] ys h = tt
 linked_left before (x ∷ xs) ys h = (h.0, linked_left (before ++ x ∷ []) xs ys h.1)
 
-has_path_more : (xs ys : List Record) (es : List Entry) (p : Path) → HasPath xs es p → HasPath (xs ++ ys) es p
+-- a path below entries is one where there are more records
+pub has_path_more : (xs ys : List Record) (es : List Entry) (p : Path) → HasPath xs es p → HasPath (xs ++ ys) es p
 has_path_more xs ys es p (here e s m) = here e s m
 has_path_more xs ys es p (below {p = q} e fs s m r h) = below e fs s m (some_left _ xs ys r) (has_path_more xs ys fs q h)
 

@@ -24,14 +24,16 @@ use Rattle.gx_model.proofs.LinkedValues.{proper_in, parts_in}
 use Rattle.gx_model.proofs.HistoriesExist.{stands}
 use Rattle.gx_model.proofs.HistoriesAreSound.{sound}
 
-kind_is : (k l : Kind) → T (same_kind k l) → k ≡ l
+-- kinds that the test finds equal are one
+pub kind_is : (k l : Kind) → T (same_kind k l) → k ≡ l
 kind_is kind.Blob kind.Blob h = refl
 kind_is kind.Tree kind.Tree h = refl
 kind_is kind.Commit kind.Commit h = refl
 kind_is kind.Tag kind.Tag h = refl
 kind_is _ _ h = absurd h
 
-kind_same : (k : Kind) → T (same_kind k k)
+-- a kind passes the test with itself
+pub kind_same : (k : Kind) → T (same_kind k k)
 kind_same kind.Blob = tt
 kind_same kind.Tree = tt
 kind_same kind.Commit = tt

@@ -40,6 +40,12 @@ pub mod FoundRecords
 pub mod ShownValues
 pub mod TagBodies
 pub mod ShortPaths
+pub mod BodyTests
+pub mod TakenRecords
+pub mod StoreTexts
+pub mod StoredRecords
+pub mod StoredRefs
+pub mod ReadStores
 pub mod ItemTexts
 pub mod CommandFields
 pub mod CommandItems

@@ -125,7 +125,8 @@ content_parts f h = parts_of f (is_true _ (first (is_file_map f) _ h))
 no_dir_leaf : (x : Leaf Bytes) → T (is_leaf x.0 x.1) → x.0 ≡ Dir → ⊥
 no_dir_leaf x h e = subst (λ m. T (is_leaf m x.1)) e h
 
-unhex_bytes : (x : Bytes) → T (list_all is_hex_digit x) → T (list_all (λ b. nat_lt b 256) (unhex x))
+-- the bytes of lower-case digits are below 256
+pub unhex_bytes : (x : Bytes) → T (list_all is_hex_digit x) → T (list_all (λ b. nat_lt b 256) (unhex x))
 unhex_bytes [] h = tt
 unhex_bytes (a ∷ []) h = tt
 unhex_bytes (a ∷ b ∷ x) h =

@@ -90,10 +90,18 @@ is_bad_below rs _ body = false
 
 -- ---- in this order
 
+-- why a body of this kind isn't taken, whatever its name
+unfoldable pub content_fault : List Record → Kind → Bytes → Option FileFault
+content_fault rs k body =
+    if not (is_body k body) then Some fault.BadObject
+    else (if not (are_links_held rs k body) then Some fault.Dangling
+    else (if is_bad_below rs k body then Some fault.BadObject else None))
+
+-- a fault, or else DuplicateObject where the name is held
+abbrev pub or_duplicate : Option FileFault → Bool → Option FileFault
+or_duplicate (Some f) held = Some f
+or_duplicate None held = if held then Some fault.DuplicateObject else None
+
 -- why a record with this name, kind and body isn't added to these
 unfoldable pub record_fault : List Record → Record → Option FileFault
-record_fault rs r =
-    if not (is_body r.kind r.body) then Some fault.BadObject
-    else (if not (are_links_held rs r.kind r.body) then Some fault.Dangling
-    else (if is_bad_below rs r.kind r.body then Some fault.BadObject
-    else (if is_some (record_named rs r.name) then Some fault.DuplicateObject else None)))
+record_fault rs r = or_duplicate (content_fault rs r.kind r.body) (is_some (record_named rs r.name))

@@ -20,7 +20,7 @@ use Rattle.gx_model.specs.Histories.{History, Records, record_of, value_at}
 use Rattle.gx_model.specs.Records.{name_of}
 use Rattle.gx_model.specs.Naming.{short_name}
 use Rattle.gx_model.specs.Replay.{imported}
-use Rattle.gx_model.specs.RecordFaults.{record_fault}
+use Rattle.gx_model.specs.RecordFaults.{content_fault, record_fault}
 use Rattle.gx_model.specs.StoreText.{store_text}
 use Rattle.gx_model.specs.StoreReading.{store_of}
 use Rattle.gx_model.specs.RowTexts.{history_of_lines, last_byte_name, nothing}
@@ -45,7 +45,7 @@ pub record StoreRows : Type 0 where
   pub read_again : store_of name (store_text (records_of branches)) ≡ Ok (records_of branches)
 
 pub store_rows : StoreRows
-unfolding char_at unsigned_in item_after_in rest_line_in block_in cut_at is_ident unquote_within quoted_of mark_of commit_ish_of last_path source_path modify_at two_paths change_at changes_within merges_within blob_at commit_at links_at tag_at reset_at command_at commands_within counted_block lines_before delimited first_line first_of read_upto items_of digits revision_of imported store_text store_of record_fault short_name
+unfolding char_at unsigned_in item_after_in rest_line_in block_in cut_at is_ident unquote_within quoted_of mark_of commit_ish_of last_path source_path modify_at two_paths change_at changes_within merges_within blob_at commit_at links_at tag_at reset_at command_at commands_within counted_block lines_before delimited first_line first_of read_upto items_of digits revision_of imported store_text store_of content_fault record_fault short_name
 store_rows = record { empty = refl; one_blob = refl; read_again = refl }
 
 -- ---- texts that are refused
@@ -162,5 +162,5 @@ pub record StoreRefusals : Type 0 where
   pub own_name : fault_of (text_with (root_commit ++ tag_of root ∷ []) (ref (codes "refs/heads/a") root ∷ ref (codes "refs/tags/v1") (tag_of root) ∷ [])) ≡ None
 
 pub store_refusals : StoreRefusals
-unfolding char_at unsigned_in item_after_in rest_line_in block_in cut_at is_ident unquote_within quoted_of mark_of commit_ish_of last_path source_path modify_at two_paths change_at changes_within merges_within blob_at commit_at links_at tag_at reset_at command_at commands_within counted_block lines_before delimited first_line first_of read_upto items_of digits revision_of imported store_text store_of record_fault short_name
+unfolding char_at unsigned_in item_after_in rest_line_in block_in cut_at is_ident unquote_within quoted_of mark_of commit_ish_of last_path source_path modify_at two_paths change_at changes_within merges_within blob_at commit_at links_at tag_at reset_at command_at commands_within counted_block lines_before delimited first_line first_of read_upto items_of digits revision_of imported store_text store_of content_fault record_fault short_name
 store_refusals = record { lines_refused = refl; records_refused = refl; long_path = refl; too_long = refl; own_name = refl }

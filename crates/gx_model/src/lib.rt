@@ -11,6 +11,7 @@ pub mod object_laws;
 mod objects;
 pub mod repository_laws;
 mod store_faults;
+pub mod store_laws;
 pub mod stream_laws;
 pub mod text_laws;
 

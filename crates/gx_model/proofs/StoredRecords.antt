@@ -1,0 +1,139 @@
+-- The records of a store text: those of a sound repository are read again, and whatever is read is sound and spelled so.
+use Rattle.std.proofs.Common.{◌≡◌, ℕ, zero, suc, ◌<◌, ◌^◌, refl, sym, ap, subst, ◌∙◌, List, [], ◌∷◌, ◌++◌, length, Option, None, Some, Ok, append_assoc, append-nil}
+use Rattle.std.specs.List.{AllByRecursion, flat_map}
+use Rattle.std.specs.Fmt.{decimal}
+use Rattle.gx_model.specs.declared.objects.Kind.{Kind}
+use Rattle.gx_model.specs.declared.store_faults.FileFault.{FileFault}
+use Rattle.gx_model.specs.declared.store_faults.FileFault.TheVariants as fault
+use Rattle.gx_model.specs.Texts.{Bytes}
+use Rattle.gx_model.specs.Faults.{and_then}
+use Rattle.gx_model.specs.Objects.{IsNamer, line}
+use Rattle.gx_model.specs.Histories.{Record}
+use Rattle.gx_model.specs.Naming.{kind_word}
+use Rattle.gx_model.specs.Sound.{IsSound}
+use Rattle.gx_model.specs.RecordFaults.{record_fault}
+use Rattle.gx_model.specs.StoreText.{stored_record}
+use Rattle.gx_model.specs.StoreReading.{Stored, admitted, next_record, next_records, record_line, record_made, stored_body, stored_if, stored_line}
+use Rattle.gx_model.proofs.OneTree.{all_right}
+use Rattle.gx_model.proofs.FirstRecords.{kept}
+use Rattle.gx_model.proofs.TakenRecords.{fine, sound_with}
+use Rattle.gx_model.proofs.StoreTexts.{body_of, body_read, both_steps, decimal_line, if_there, kind_found, line_of, line_text, ok_is, record_line_of, record_line_read, word_line_read}
+
+-- a record's text and what follows it, grouped to the right
+pub record_flat : (r : Record) (rest : Bytes) → stored_record r ++ rest ≡ line (kind_word r.kind) (decimal (length r.body)) ++ (r.body ++ 10 ∷ rest)
+record_flat r rest =
+    let l = line (kind_word r.kind) (decimal (length r.body)) in
+    append_assoc (l ++ r.body) (10 ∷ []) rest ∙ append_assoc l r.body (10 ∷ rest)
+
+-- a record is taken where nothing is against it
+admitted_is : (rs : List Record) (r : Record) (o : Option FileFault) (more : List Record) → admitted rs r o ≡ Ok more → (o ≡ None) × (rs ++ r ∷ [] ≡ more)
+admitted_is rs r None more e = (refl, ok_is (rs ++ r ∷ []) more e)
+admitted_is rs r (Some f) more e = absurd (cc)
+
+module _ (name : Kind → Bytes → Bytes) where
+  -- what is read once the body is
+  abbrev taken_rest : List Record → Kind → Bytes × Bytes → Stored (List Record × Bytes)
+  taken_rest rs k body = and_then (admitted rs (record_made name k body.0) (record_fault rs (record_made name k body.0))) (λ more. Ok (more, body.1))
+
+  -- what is read once the record's line is
+  abbrev body_then : List Record → Bytes → Kind × ℕ → Stored (List Record × Bytes)
+  body_then rs text k = and_then (stored_body k.1 text) (taken_rest rs k.0)
+
+  -- what is read in a record's line and behind it
+  abbrev record_rest : List Record → Bytes × Bytes → Stored (List Record × Bytes)
+  record_rest rs l = and_then (stored_if fault.BadRecord (record_line l.0)) (body_then rs l.1)
+
+  -- ---- what is read is spelled so
+
+  -- one record is read, and nothing is against it
+  pub record IsOneMore (rs : List Record) (text : Bytes) (x : List Record × Bytes) : Type 0 where
+    pub kind : Kind
+    pub body : Bytes
+    pub taken : record_fault rs (record_made name kind body) ≡ None
+    pub last : x.0 ≡ rs ++ record_made name kind body ∷ []
+    pub spelled : text ≡ stored_record (record_made name kind body) ++ x.1
+
+  -- what is read as the next record is its text
+  pub record_of_text : (rs : List Record) (text : Bytes) (x : List Record × Bytes) → next_record name rs text ≡ Ok x → IsOneMore rs text x
+  record_of_text rs text x e =
+      let p = both_steps (stored_line text) (record_rest rs) x e in
+      let k = both_steps (stored_if fault.BadRecord (record_line p.0.0)) (body_then rs p.0.1) x p.2 in
+      let b = both_steps (stored_body k.0.1 p.0.1) (taken_rest rs k.0.0) x k.2 in
+      let r = record_made name k.0.0 b.0.0 in
+      let t = both_steps (admitted rs r (record_fault rs r)) (λ more. Ok (more, b.0.1)) x b.2 in
+      let a = admitted_is rs r (record_fault rs r) t.0 t.1 in
+      let same : ◌≡◌ {A = List Record × Bytes} (t.0, b.0.1) x = ok_is (t.0, b.0.1) x t.2 in
+      let head = record_line_of p.0.0 k.0 (if_there fault.BadRecord (record_line p.0.0) k.0 k.1) in
+      let c = body_of k.0.1 p.0.1 b.0 b.1 in
+      record {
+        kind = k.0.0;
+        body = b.0.0;
+        taken = a.0;
+        last = ap (λ (z : List Record × Bytes). z.0) (sym same) ∙ sym a.1;
+        spelled =
+            line_of text p.0 p.1 ∙ (λ i. head i ++ 10 ∷ c.0 i) ∙ line_text (kind_word k.0.0) (decimal k.0.1) (b.0.0 ++ 10 ∷ b.0.1)
+            ∙ ap (λ n. line (kind_word k.0.0) (decimal n) ++ (b.0.0 ++ 10 ∷ b.0.1)) (sym c.1)
+            ∙ sym (record_flat r b.0.1)
+            ∙ ap (λ (z : List Record × Bytes). stored_record r ++ z.1) same;
+      }
+
+  -- more records are read, and the repository is sound with them
+  pub record AreMore (rs : List Record) (n : ℕ) (text : Bytes) (x : List Record × Bytes) : Type 0 where
+    pub more : List Record
+    pub whole : x.0 ≡ rs ++ more
+    pub count : length more ≡ n
+    pub spelled : text ≡ flat_map stored_record more ++ x.1
+    pub sound : IsSound name (record { records = x.0; refs = [] })
+
+  -- what is read as the next records is their text, and the repository stays sound
+  pub records_of_text : IsNamer name → (n : ℕ) (rs : List Record) (text : Bytes) (x : List Record × Bytes) → IsSound name (record { records = rs; refs = [] }) → next_records name n rs text ≡ Ok x → AreMore rs n text x
+  records_of_text namer zero rs text x i e =
+      let same : ◌≡◌ {A = List Record × Bytes} (rs, text) x = ok_is (rs, text) x e in
+      subst (AreMore rs zero text) same (record { more = []; whole = sym (append-nil rs); count = refl; spelled = refl; sound = i })
+  records_of_text namer (suc n) rs text x i e =
+      let p = both_steps (next_record name rs text) (λ y. next_records name n y.0 y.1) x e in
+      let o = record_of_text rs text p.0 p.1 in
+      let r = record_made name o.kind o.body in
+      let s = sound_with name namer (record { records = rs; refs = [] }) i o.kind o.body o.taken in
+      let q = records_of_text namer n p.0.0 p.0.1 x (subst (λ z. IsSound name (record { records = z; refs = [] })) (sym o.last) s) p.2 in
+      record {
+        more = r ∷ q.more;
+        whole = q.whole ∙ ap (λ z. z ++ q.more) o.last ∙ append_assoc rs (r ∷ []) q.more;
+        count = ap suc q.count;
+        spelled = o.spelled ∙ ap (λ z. stored_record r ++ z) q.spelled ∙ sym (append_assoc (stored_record r) (flat_map stored_record q.more) x.1);
+        sound = q.sound;
+      }
+
+  -- ---- what is spelled is read
+
+  -- a record that nothing is against is read from its text
+  pub record_read : (rs : List Record) (k : Kind) (body rest : Bytes) → length body < 2 ^ 64 → record_fault rs (record_made name k body) ≡ None
+      → next_record name rs (stored_record (record_made name k body) ++ rest) ≡ Ok (rs ++ record_made name k body ∷ [], rest)
+  record_read rs k body rest l f =
+      let r = record_made name k body in
+      let n = length body in
+      let w = kind_found k in
+      ap (next_record name rs) (record_flat r rest)
+      ∙ ap (λ s. and_then s (record_rest rs)) (word_line_read (kind_word k) (decimal n) (body ++ 10 ∷ rest) w.2 (decimal_line n l))
+      ∙ ap (λ o. and_then (stored_if fault.BadRecord o) (body_then rs (body ++ 10 ∷ rest))) (record_line_read k n l)
+      ∙ ap (λ s. and_then s (taken_rest rs k)) (body_read body rest)
+      ∙ ap (λ o. and_then (admitted rs r o) (λ more. Ok (more, rest))) f
+
+  -- the last records of a sound repository are read from their texts
+  pub records_read : IsNamer name → (rs ms : List Record) (rest : Bytes) → IsSound name (record { records = rs ++ ms; refs = [] }) → AllByRecursion (λ r. length r.body < 2 ^ 64) ms
+      → next_records name (length ms) rs (flat_map stored_record ms ++ rest) ≡ Ok (rs ++ ms, rest)
+  records_read namer rs [] rest i l = ap (λ z. Ok (z, rest)) (sym (append-nil rs))
+  records_read namer rs (m ∷ ms) rest i l =
+      let r = record_made name m.kind m.body in
+      let regrouped = sym (append_assoc rs (m ∷ []) ms) in
+      let all : IsSound name (record { records = (rs ++ m ∷ []) ++ ms; refs = [] }) = subst (λ z. IsSound name (record { records = z; refs = [] })) regrouped i in
+      let front = kept name (rs ++ m ∷ []) ms [] all tt in
+      let named : m.name ≡ name m.kind m.body = (all_right (λ z. z.name ≡ name z.kind z.body) rs (m ∷ ms) i.named).0 in
+      let same : m ≡ r = λ j. record { name = named j; kind = m.kind; body = m.body } in
+      let one = record_read rs m.kind m.body (flat_map stored_record ms ++ rest) l.0 (fine name namer rs m.kind m.body (subst (λ z. IsSound name (record { records = rs ++ z ∷ []; refs = [] })) same front)) in
+      ap (next_records name (length (m ∷ ms)) rs) (append_assoc (stored_record m) (flat_map stored_record ms) rest)
+      ∙ ap (λ z. next_records name (length (m ∷ ms)) rs (stored_record z ++ (flat_map stored_record ms ++ rest))) same
+      ∙ ap (λ s. and_then s (λ y. next_records name (length ms) y.0 y.1)) one
+      ∙ ap (λ z. next_records name (length ms) (rs ++ z ∷ []) (flat_map stored_record ms ++ rest)) (sym same)
+      ∙ records_read namer (rs ++ m ∷ []) ms rest all l.1
+      ∙ ap (λ z. Ok (z, rest)) (append_assoc rs (m ∷ []) ms)

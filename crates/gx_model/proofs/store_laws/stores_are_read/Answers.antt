@@ -1,0 +1,5 @@
+use Rattle.gx_model.proofs.ReadStores.{one_store, only_stores, stores_read}
+use Rattle.gx_model.proofs.store_laws.stores_are_read.Goals as goal
+
+pub returns : goal.returns
+returns c = λ name namer. record { read = stores_read name namer; only = only_stores name namer; one = one_store name namer }

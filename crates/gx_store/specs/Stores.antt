@@ -1,9 +1,9 @@
 -- What a store holds, and what a put does to it.
-use Rattle.std.specs.Prelude.{◌≡◌, List, map, Some, None, Result, Ok, Err, IsTrue}
-use Rattle.std.specs.List.{list_all, AllByRecursion}
+use Rattle.std.specs.Prelude.{◌≡◌, ℕ, List, map, Option, Some, None, Result, Ok, Err, IsTrue}
+use Rattle.std.specs.List.{list_all, position, AllByRecursion}
 use Rattle.std.specs.Borrow.{Bor}
 use Rattle.gx_model.specs.declared.objects.Kind.{Kind}
-use Rattle.gx_model.specs.Texts.{Bytes}
+use Rattle.gx_model.specs.Texts.{Bytes, same_bytes}
 use Rattle.gx_model.specs.Objects.{is_name}
 use Rattle.gx_model.specs.Histories.{AreDistinct, Record}
 use Rattle.gx_model.specs.Growth.{put, record_named}
@@ -26,6 +26,10 @@ abbrev pub Puts : List Record → List Record → Record → Result Name StoreFa
 Puts old new r (Ok name) = (name.bytes ≡ r.name) × (put old r ≡ Some new)
 Puts old new r (Err OutOfMemory) = (record_named old r.name ≡ None) × (new ≡ old)
 Puts old new r (Err NameHeld) = (put old r ≡ None) × (new ≡ old)
+
+-- the place of the first record with this name, counted from 0
+abbrev pub place_named : List Record → Bytes → Option ℕ
+place_named records name = position (λ held. same_bytes name held.name) records
 
 -- what a look-up shows, through the reference that it lends
 abbrev pub seen : Kind × Bor Bytes → Kind × Bytes

@@ -4,7 +4,7 @@ ghost use Rattle.std.specs.Prelude.{◌≡◌, ◌↔◌, length, [], map, slice
 ghost use Rattle.std.specs.Option.{option_map};
 ghost use Rattle.gx_model.specs.Growth.{record_named};
 ghost use Rattle.gx_model.specs.Lookups.{records_begun_by};
-ghost use Rattle.gx_store.specs.Stores.{AreHeld, Puts, object_of, record_for, seen, seen_at};
+ghost use Rattle.gx_store.specs.Stores.{AreHeld, Puts, object_of, place_named, record_for, seen, seen_at};
 ghost use Rattle.gx_store.specs.Prefixes.{prefix_of};
 ghost use Rattle.gx_store.specs.Objects.{held};
 
@@ -99,6 +99,13 @@ impl<N: Namer, A: Allocator + Copy> Store<N, A> {
         Some((object.kind, object.body.as_slice()))
     }
 
+    /// The place of the object with this name, as `record` counts it. Cost: the number of records. Takes no memory.
+    pub fn place(&self, name: &Name) -> Option<usize>
+        ensures { result ≡ place_named self.now.1 name.now.bytes }
+    {
+        place_among(self.objects.as_slice(), name)
+    }
+
     /// The object at a place, counted from 0 in the order in which they were put. Takes no memory.
     pub fn record(&self, place: usize) -> Option<(Name, Kind, &[u8])>
         ensures { option_map seen_at result ≡ slice_get self.now.1 place }
@@ -135,6 +142,13 @@ fn find<'a, A: Allocator + Copy>(objects: &'a [Object<A>], name: &Name) -> Optio
         }
     }
     None
+}
+
+/// The place of the object with this name, counted from 0.
+fn place_among<A: Allocator + Copy>(objects: &[Object<A>], name: &Name) -> Option<usize>
+    ensures { result ≡ place_named (map held objects.now) name.now.bytes }
+{
+    objects.iter().position(|object| *name == object.name)
 }
 
 /// The name among these that begins with these digits.

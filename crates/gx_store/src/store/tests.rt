@@ -24,6 +24,10 @@ fn other_bytes_under_a_held_name_are_refused(rt: HostRuntime) -> Result<(), Fail
     assert_eq!(rt; kind, Kind::Tree);
     assert_eq!(rt; body, b"a".as_slice());
     assert!(rt; store.record(2).is_none());
+    assert_eq!(rt; store.place(&name), Some(0));
+    assert_eq!(rt; store.place(&last), Some(1));
+    store.truncate(1);
+    assert_eq!(rt; store.place(&last), None);
     Ok(())
 }
 

@@ -1,6 +1,5 @@
 -- What a put does to a sound repository, and to its history.
 use Rattle.std.proofs.Common.{◌≡◌, List, map, Some, Result, Ok, Err, sym, ap, subst, ◌∙◌}
-use Rattle.std.specs.Prelude.{IfOk}
 use Rattle.gx_model.specs.declared.objects.Kind.{Kind}
 use Rattle.gx_model.specs.Texts.{Bytes}
 use Rattle.gx_model.specs.Files.{FileMap}
@@ -25,26 +24,17 @@ adds_by_put old new r (Err NameHeld) p = p
 
 module _ (name : Kind → Bytes → Bytes) (links : LinksTell name) (puts : PutsGrow name) (r : Records) (sound : IsSound name r)
     (kind : Kind) (body : Bytes) (linked : IsLinked r.records kind body) (short : HasShortPaths r.records (record_for name kind body)) (new : List Record) where
-  grown : put r.records (record_for name kind body) ≡ Some new
+  -- with the put object the repository is sound, and its history has the value
+  pub put_grown : put r.records (record_for name kind body) ≡ Some new
       → IsSound name (with_records r new) × HasValues r (with_records r new) (with_one (values_of r) (value_in (named_values r.records) kind body))
-  grown e =
+  put_grown e =
       let q = links r sound kind body linked short in
       puts.one r sound _ q.proper q.known new (ap (put r.records) q.recorded ∙ e)
 
   pub put_is_sound : (answer : Result Name StoreFault) → Puts r.records new (record_for name kind body) answer → IsSound name (with_records r new)
-  put_is_sound (Ok n) p = (grown p.1).0
+  put_is_sound (Ok n) p = (put_grown p.1).0
   put_is_sound (Err OutOfMemory) p = subst (λ rs. IsSound name (with_records r rs)) (sym p.1) sound
   put_is_sound (Err NameHeld) p = subst (λ rs. IsSound name (with_records r rs)) (sym p.1) sound
-
-  pub put_has_values : (answer : Result Name StoreFault) → Puts r.records new (record_for name kind body) answer
-      → IfOk answer (λ _. HasValues r (with_records r new) (with_one (values_of r) (value_in (named_values r.records) kind body)))
-  put_has_values (Ok n) p = (grown p.1).1
-  put_has_values (Err f) p = tt
-
-  pub put_names_value : (answer : Result Name StoreFault) → Puts r.records new (record_for name kind body) answer
-      → IfOk answer (λ n. n.bytes ≡ name_of name (value_in (named_values r.records) kind body))
-  put_names_value (Ok n) p = p.0 ∙ sym (ap (λ z. z.name) (links r sound kind body linked short).recorded)
-  put_names_value (Err f) p = tt
 
 module _ (name : Kind → Bytes → Bytes) (trees : TreesGrow name) (puts : PutsGrow name) (r : Records) (sound : IsSound name r)
     (names : FileMap Bytes) (named : IsNamedMap r.records names) where

@@ -1,6 +1,5 @@
 -- What is put is held, and what was held stays so.
-use Rattle.std.proofs.Common.{◌≡◌, true, false, cond, List, [], ◌∷◌, ◌++◌, length, map, take, drop, Option, Some, None, Result, Ok, Err, refl, sym, ap, subst, ◌∙◌, inl, inr, zero, suc}
-use Rattle.std.specs.Prelude.{IfOk}
+use Rattle.std.proofs.Common.{◌≡◌, true, false, cond, List, [], ◌∷◌, ◌++◌, length, map, take, drop, Option, Some, None, is_some, ◌⊎◌, refl, sym, ap, subst, ◌∙◌, inl, inr, zero, suc, arith, length-append}
 use Rattle.std.specs.List.{flat_map}
 use Rattle.std.specs.Bool.{passes}
 use Rattle.std.proofs.lemmas.List.{map-append, take-append-drop}
@@ -13,12 +12,8 @@ use Rattle.gx_model.specs.Histories.{Record}
 use Rattle.gx_model.specs.Sound.{AnyByRecursion, Holds}
 use Rattle.gx_model.specs.Growth.{all_trees_to, and_some, put, put_all, put_under, record_named, same_kind, same_object, tree_record, tree_records}
 use Rattle.gx_model.proofs.PathTests.{first, is_true}
-use Rattle.gx_object.specs.declared.name.Name.{Name}
-use Rattle.gx_store.specs.declared.fault.StoreFault.{StoreFault}
-use Rattle.gx_store.specs.declared.fault.StoreFault.TheVariants.{OutOfMemory, NameHeld}
-use Rattle.gx_store.specs.Stores.{Puts}
 use Rattle.gx_tree.specs.Writes.{map_name}
-use Rattle.gx_tree.proofs.Puts.{front_put, put_all-append}
+use Rattle.gx_tree.proofs.Puts.{put_all-append}
 use Rattle.gx_repo.specs.Additions.{Keeps}
 use Rattle.gx_repo.proofs.HeldObjects.{any_named}
 
@@ -39,7 +34,7 @@ keeps_front old new e = λ k n h.
 pub keeps_same : (old new : List Record) → new ≡ old → Keeps old new
 keeps_same old new e = λ k n h. subst (λ rs. Holds rs k n) (sym e) h
 
-kind_is : (k l : Kind) → same_kind k l ≡ true → k ≡ l
+pub kind_is : (k l : Kind) → same_kind k l ≡ true → k ≡ l
 kind_is kinds.Blob kinds.Blob e = refl
 kind_is kinds.Tree kinds.Tree e = refl
 kind_is kinds.Commit kinds.Commit e = refl
@@ -59,14 +54,31 @@ put_holds old new r e = by (record_named old r.name) refl e
     by None f e = let now : old ++ r ∷ [] ≡ new = cc in subst (λ rs. Holds rs r.kind r.name) now (some_last _ old r (refl, refl))
     by (Some s) f e = same s (same_object s r) refl f e
 
-pub puts_hold : (old new : List Record) (r : Record) (answer : Result Name StoreFault) → Puts old new r answer → IfOk answer (λ name. Holds new r.kind name.bytes)
-puts_hold old new r (Ok n) p = subst (Holds new r.kind) (sym p.0) (put_holds old new r p.1)
-puts_hold old new r (Err f) p = tt
+-- what a put leaves: the records where this one is held, and otherwise this one behind them
+pub put_cases : (old new : List Record) (r : Record) → put old r ≡ Some new → ((new ≡ old) × (is_some (record_named old r.name) ≡ true)) ⊎ ((new ≡ old ++ r ∷ []) × (record_named old r.name ≡ None))
+put_cases old new r e = by (record_named old r.name) refl e
+  where
+    same : (s : Record) (b : _) → record_named old r.name ≡ Some s → cond b (Some old) None ≡ Some new → ((new ≡ old) × (is_some (record_named old r.name) ≡ true)) ⊎ ((new ≡ old ++ r ∷ []) × (record_named old r.name ≡ None))
+    same s true f e = let is : old ≡ new = cc in inl (sym is, ap is_some f)
+    same s false f e = absurd (cc)
 
-pub puts_keep : (old new : List Record) (r : Record) (answer : Result Name StoreFault) → Puts old new r answer → Keeps old new
-puts_keep old new r (Ok n) p = keeps_front old new (front_put old new r p.1)
-puts_keep old new r (Err OutOfMemory) p = keeps_same old new p.1
-puts_keep old new r (Err NameHeld) p = keeps_same old new p.1
+    by : (o : Option Record) → record_named old r.name ≡ o → put_under o old r ≡ Some new → ((new ≡ old) × (is_some (record_named old r.name) ≡ true)) ⊎ ((new ≡ old ++ r ∷ []) × (record_named old r.name ≡ None))
+    by None f e = let is : old ++ r ∷ [] ≡ new = cc in inr (sym is, f)
+    by (Some s) f e = same s (same_object s r) f e
+
+-- where there are as many records as before, they are those of before
+pub put_held : (old new : List Record) (r : Record) → put old r ≡ Some new → length new ≡ length old → (new ≡ old) × (is_some (record_named old r.name) ≡ true)
+put_held old new r e l = elim (put_cases old new r e) [
+  | inl h ↦ h
+  | inr h ↦ absurd (omega (arith, l, ap length h.0, length-append old (r ∷ [])))
+]
+
+-- where there are more, this one stands last
+pub put_last : (old new : List Record) (r : Record) → put old r ≡ Some new → (length new ≡ length old → ⊥) → (new ≡ old ++ r ∷ []) × (record_named old r.name ≡ None)
+put_last old new r e l = elim (put_cases old new r e) [
+  | inl h ↦ absurd (l (ap length h.0))
+  | inr h ↦ h
+]
 
 -- ---- trees
 

@@ -4,3 +4,10 @@ pub mod SortedRefs
 pub mod PublishedRefs
 pub mod HeldRecords
 pub mod NamedMaps
+pub mod PathRooms
+pub mod Places
+pub mod RecordRooms
+pub mod EntryRooms
+pub mod CheckedEntries
+pub mod ContentFaults
+pub mod AddedRecords

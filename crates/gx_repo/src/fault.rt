@@ -7,6 +7,24 @@ use thiserror::Error;
 /// A growth was refused.
 pub type OutOfMemory = AllocError;
 
+/// Why a record isn't added: what it has against it first, in this order.
+#[derive(Clone, Copy, Debug, Error, PartialEq, Eq)]
+pub enum AddFault {
+    /// A growth was refused.
+    #[error("OutOfMemory")]
+    OutOfMemory,
+    /// The body isn't a canonical one of its kind. Or an entry names a tree without entries, or a path below the tree has
+    /// more than 4,095 bytes.
+    #[error("BadObject")]
+    BadObject,
+    /// A link isn't held, or is held as another kind.
+    #[error("Dangling")]
+    Dangling,
+    /// The name is held, whatever its bytes.
+    #[error("DuplicateObject")]
+    DuplicateObject,
+}
+
 /// Why changes of refs are refused: what the first change that is refused has against it.
 #[derive(Clone, Copy, Debug, Error, PartialEq, Eq)]
 pub enum PublishFault {

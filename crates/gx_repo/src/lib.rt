@@ -2,12 +2,14 @@
 //! Whatever is called, each object's links are held, and a list of refs is published whole or not at all.
 #![tactic(auto)]
 
+mod checking;
 mod fault;
 mod publishing;
 mod refs;
 mod repo;
+mod rooms;
 
-pub use fault::{OutOfMemory, PublishFault};
+pub use fault::{AddFault, OutOfMemory, PublishFault};
 pub use gx_store::StoreFault;
 pub use publishing::RefChange;
 pub use refs::Refs;

@@ -13,6 +13,7 @@ ghost use Rattle.gx_model.specs.Histories.{with_one, with_tree};
 ghost use Rattle.gx_model.specs.HistoryOf.{contents_of, named_values, value_in};
 ghost use Rattle.gx_model.specs.Lookups.{commit_named, first_named};
 ghost use Rattle.gx_model.specs.Records.{name_of};
+ghost use Rattle.gx_model.specs.RecordFaults.{content_fault};
 ghost use Rattle.gx_model.specs.RefNames.{is_tag_name, tag_ref};
 ghost use Rattle.gx_model.specs.RepositoryLaws.{values_of};
 ghost use Rattle.gx_model.specs.Sound.{HasShortPaths, Holds, IsLinked, IsNamedMap, IsSound, IsTarget};
@@ -23,14 +24,19 @@ ghost use Rattle.gx_tree.specs.StoreFaults.{tree_fault};
 ghost use Rattle.gx_tree.specs.Writes.{map_name};
 ghost use Rattle.gx_repo.specs.Additions.{Adds, AddsAll, HasValues, IsWriteFault, Keeps, commit_among, commit_record, tag_among, tag_record};
 ghost use Rattle.gx_repo.specs.Publishing.{change_fault, changes_fault, fault_of, published};
+ghost use Rattle.gx_repo.specs.Records.{AddsRecord, add_fault};
 ghost use Rattle.gx_repo.specs.Refs.{asked, kept};
+ghost use Rattle.gx_repo.specs.Rooms.{room_of};
 
-use crate::fault::{OutOfMemory, PublishFault};
+use crate::checking::checked_room;
+use crate::fault::{AddFault, OutOfMemory, PublishFault};
 use crate::publishing::{RefChange, with_changes};
 use crate::refs::{Ref, Refs, find_by_names};
+use crate::rooms::enter_rooms;
 use gx_model::repository_laws::{
     links_tell_values, parts_change, puts_add_values, trees_add_file_maps,
 };
+use gx_model::store_laws::records_are_taken;
 use gx_object::{CommitParts, Kind, Name, Namer, TagParts, decode_tag, encode_commit, encode_tag};
 use gx_store::{Store, StoreFault};
 use gx_text::is_ref_name;
@@ -44,21 +50,24 @@ use std::marker::Model;
 #[derive(Drop)]
 pub struct Repo<N: Namer, A: Allocator> {
     store: Store<N, A>,
+    /// Of each record, by its place.
+    rooms: Vec<usize, A>,
     refs: Vec<Ref<A>, A>,
     alloc: A,
 }
 
 impl<N: Namer, A: Allocator> Model for Repo<N, A> {
-    ghost use Rattle.std.specs.Prelude.{map};
+    ghost use Rattle.std.specs.Prelude.{◌≡◌, map};
     ghost use Rattle.gx_model.specs.Histories.{Records};
     ghost use Rattle.gx_model.specs.Sound.{IsSound};
     ghost use Rattle.gx_repo.specs.Refs.{kept};
+    ghost use Rattle.gx_repo.specs.Rooms.{rooms_of};
 
     ghost Value = { N × Records };
 
     ghost view = { λ s. (s.store.0, record { records = s.store.1; refs = map kept s.refs.items }) };
 
-    ghost invariant = { λ s. IsSound (N.name_of s.store.0) (record { records = s.store.1; refs = map kept s.refs.items }) };
+    ghost invariant = { λ s. IsSound (N.name_of s.store.0) (record { records = s.store.1; refs = map kept s.refs.items }) × (s.rooms.items ≡ rooms_of s.store.1) };
 }
 
 impl<N: Namer, A: Allocator + Copy> Repo<N, A> {
@@ -68,6 +77,7 @@ impl<N: Namer, A: Allocator + Copy> Repo<N, A> {
     {
         Repo {
             store: Store::new(alloc, namer),
+            rooms: Vec::new(alloc),
             refs: Vec::new(alloc),
             alloc,
         }
@@ -134,7 +144,7 @@ impl<N: Namer, A: Allocator + Copy> Repo<N, A> {
         ensures held { IfOk result (λ name. Holds self.new.1.records kinds.Blob name.bytes) }
         ensures keeps { Keeps self.old.1.records self.new.1.records }
     {
-        self.add(Kind::Blob, body)
+        self.add(Kind::Blob, body, 0)
     }
 
     /// Adds the canonical trees of a tree's files, those below first, and answers the name of the root's.
@@ -156,13 +166,19 @@ impl<N: Namer, A: Allocator + Copy> Repo<N, A> {
         trees_add_file_maps();
         puts_add_values();
         let held = self.store.len();
-        match tree.write(&mut self.store) {
-            Ok(name) => Ok(name),
+        let name = match tree.write(&mut self.store) {
+            Ok(name) => name,
             Err(fault) => {
                 self.store.truncate(held);
-                Err(store_fault(fault))
+                return Err(store_fault(fault));
             }
-        }
+        };
+        let Ok(()) = enter_rooms(&self.store, &mut self.rooms) else {
+            self.store.truncate(held);
+            self.rooms.truncate(held);
+            return Err(StoreFault::OutOfMemory);
+        };
+        Ok(name)
     }
 
     /// Adds a commit whose tree and parents are held, and answers its name. One that is held already is not added again.
@@ -184,7 +200,7 @@ impl<N: Namer, A: Allocator + Copy> Repo<N, A> {
         let Ok(body) = encode_commit(self.alloc, parts) else {
             return Err(StoreFault::OutOfMemory);
         };
-        self.add(Kind::Commit, &body)
+        self.add(Kind::Commit, &body, 0)
     }
 
     /// Adds a tag whose commit is held, and answers its name. One that is held already is not added again.
@@ -205,7 +221,35 @@ impl<N: Namer, A: Allocator + Copy> Repo<N, A> {
         let Ok(body) = encode_tag(self.alloc, parts) else {
             return Err(StoreFault::OutOfMemory);
         };
-        self.add(Kind::Tag, &body)
+        self.add(Kind::Tag, &body, 0)
+    }
+
+    /// Adds a record of which nothing is known, and answers its name.
+    ///
+    /// What it has against it is answered in this order. `BadObject`: the body isn't a canonical one of its kind.
+    /// `Dangling`: a link isn't held, or is held as another kind. `BadObject`: an entry names a tree without entries, or a
+    /// path below the tree has more than 4,095 bytes. `DuplicateObject`: the name is held, whatever its bytes.
+    /// `OutOfMemory`: a growth was refused. After a fault the repository is as it was.
+    /// Cost: the body's length, and for each link the number of records; each entry is looked at once.
+    /// Source: Pro Git, "Git Objects".
+    pub fn add_record(&mut self, kind: Kind, body: &[u8]) -> Result<Name, AddFault>
+        ensures namer { self.new.0 ≡ self.old.0 }
+        ensures adds { AddsRecord self.old.1.records self.new.1.records (record_for (N.name_of self.old.0) kind body.now) result }
+        ensures refs { self.new.1.refs ≡ self.old.1.refs }
+        ensures history { IfOk result (λ _. HasValues self.old.1 self.new.1 (with_one (values_of self.old.1) (value_in (named_values self.old.1.records) kind body.now))) }
+    {
+        records_are_taken();
+        let room = self.room_of(kind, body)?;
+        let held = self.store.len();
+        let name = match self.add(kind, body, room) {
+            Ok(name) => name,
+            Err(StoreFault::NameHeld) => return Err(AddFault::DuplicateObject),
+            Err(StoreFault::OutOfMemory) => return Err(AddFault::OutOfMemory),
+        };
+        if self.store.len() == held {
+            return Err(AddFault::DuplicateObject);
+        }
+        Ok(name)
     }
 
     /// Sets all of these refs, or none. A later change of one name wins, and refs that are not named stay.
@@ -236,12 +280,24 @@ impl<N: Namer, A: Allocator + Copy> Repo<N, A> {
     {
         parts_change();
         self.store.truncate(len);
+        self.rooms.truncate(len);
     }
 
-    /// Puts an object whose links are held.
-    fn add(&mut self, kind: Kind, body: &[u8]) -> Result<Name, StoreFault>
+    /// The room of what is below an object, or what its body has against it.
+    fn room_of(&self, kind: Kind, body: &[u8]) -> Result<usize, AddFault>
+        ensures ok { IfOk result (λ _. content_fault self.now.1.records kind body.now ≡ None) }
+        ensures room { IfOk result (λ room. room ≡ room_of (value_in (named_values self.now.1.records) kind body.now)) }
+        ensures fault { IfErr result (λ fault. content_fault self.now.1.records kind body.now ≡ Some (add_fault fault)) }
+    {
+        parts_change();
+        checked_room(&self.store, self.rooms.as_slice(), kind, body)
+    }
+
+    /// Puts an object whose links are held, with the room of what is below it.
+    fn add(&mut self, kind: Kind, body: &[u8], room: usize) -> Result<Name, StoreFault>
         requires linked { IsLinked self.now.1.records kind body.now }
         requires short { HasShortPaths self.now.1.records (record_for (N.name_of self.now.0) kind body.now) }
+        requires room { room ≡ room_of (value_in (named_values self.now.1.records) kind body.now) }
         ensures namer { self.new.0 ≡ self.old.0 }
         ensures adds { Adds self.old.1.records self.new.1.records (record_for (N.name_of self.old.0) kind body.now) result }
         ensures refs { self.new.1.refs ≡ self.old.1.refs }
@@ -252,7 +308,16 @@ impl<N: Namer, A: Allocator + Copy> Repo<N, A> {
     {
         links_tell_values();
         puts_add_values();
-        self.store.put(kind, body)
+        let held = self.store.len();
+        let name = self.store.put(kind, body)?;
+        if self.store.len() == held {
+            return Ok(name);
+        }
+        let Ok(()) = self.rooms.push(room) else {
+            self.store.truncate(held);
+            return Err(StoreFault::OutOfMemory);
+        };
+        Ok(name)
     }
 
     /// The refs that these changes give.

@@ -11,6 +11,8 @@ use gx_tree::PathTree;
 use std::alloc::Allocator;
 use std::test::Fail;
 
+mod records;
+
 const IDENT: &[u8] = b"A <a@x> 1 +0000";
 
 /// Whether an object of this kind is held under this name.

@@ -1,25 +1,101 @@
-use Rattle.std.proofs.Common.{◌≡◌, map, sym, subst}
-use Rattle.std.specs.Prelude.{IfOk}
-use Rattle.gx_model.specs.Histories.{Records, with_one}
+use Rattle.std.proofs.Common.{◌++◌, ◌∷◌, [], map, take, sym, subst, ap, ◌∙◌}
+use Rattle.gx_model.specs.Histories.{Record, Records, with_one}
 use Rattle.gx_model.specs.HistoryOf.{named_values, value_in}
-use Rattle.gx_model.specs.Records.{name_of}
 use Rattle.gx_model.specs.RepositoryLaws.{values_of}
-use Rattle.gx_model.specs.Sound.{IsSound}
+use Rattle.gx_model.specs.Sound.{Holds, IsSound}
+use Rattle.gx_store.specs.Stores.{record_for}
+use Rattle.gx_tree.proofs.Puts.{front_put}
 use Rattle.gx_repo.specs.Additions.{HasValues, Keeps}
 use Rattle.gx_repo.specs.Refs.{kept}
-use Rattle.gx_repo.proofs.Additions.{put_has_values, put_is_sound, put_names_value}
-use Rattle.gx_repo.proofs.HeldRecords.{puts_hold, puts_keep}
+use Rattle.gx_repo.specs.Rooms.{rooms_of}
+use Rattle.gx_repo.proofs.Additions.{put_grown, put_is_sound}
+use Rattle.gx_repo.proofs.HeldRecords.{keeps_front, keeps_same, put_held, put_holds, put_last}
+use Rattle.gx_repo.proofs.RecordRooms.{rooms_more}
 use Rattle.gx_repo.proofs.repo.Repo.add.Goals as goal
 
-pub invariant_of-self : goal.invariant_of-self
-invariant_of-self g c =
+pub returns-then-len-held-clause-held : goal.returns-then-len-held-clause-held
+returns-then-len-held-clause-held g c =
+    let r = record_for (g.N.Namer.name_of c.self.inside.store.0) c.args.kind c.args.body.now in
+    subst (Holds c.put.new.self.1 c.args.kind) (sym c.in_ok-name.ensures.puts.0) (put_holds c.self.inside.store.1 c.put.new.self.1 r c.in_ok-name.ensures.puts.1)
+
+pub returns-then-len-held-clause-keeps : goal.returns-then-len-held-clause-keeps
+returns-then-len-held-clause-keeps g c =
+    let r = record_for (g.N.Namer.name_of c.self.inside.store.0) c.args.kind c.args.body.now in
+    subst (λ v. Keeps v.1.records c.put.new.self.1) c.self.view_is (keeps_front c.self.inside.store.1 c.put.new.self.1 (front_put c.self.inside.store.1 c.put.new.self.1 r c.in_ok-name.ensures.puts.1))
+
+pub invariant_of-self-in-Ok : goal.invariant_of-self-in-Ok
+invariant_of-self-in-Ok g c =
+    let names = g.N.Namer.name_of c.self.inside.store.0 in
+    let namer = g.met.N.Namer.is_namer c.self.inside.store.0 in
+    let rs = c.self.inside.store.1 in
+    let r : Records = record { records = rs; refs = map kept c.self.inside.refs.items } in
+    let new : Record = record_for names c.args.kind c.args.body.now in
+    let l = rw (sym c.self.view_is) at c.requires.linked in
+    let s = rw (sym c.self.view_is) at c.requires.short in
+    let room = rw (sym c.self.view_is) at c.requires.room in
+    let last = put_last rs c.put.new.self.1 new c.in_ok-name.ensures.puts.1 (λ e. c.if-len-held.false (c.len.ensures.count ∙ e ∙ sym c.len-held.ensures.count)) in (
+      subst (λ n. IsSound (g.N.Namer.name_of n) (record { records = c.put.new.self.1; refs = map kept c.self.inside.refs.items })) (sym c.put.ensures.namer)
+          (put_is_sound names (c.links_tell_values.ensures names namer) (c.puts_add_values.ensures names namer) r c.self.invariant.0 c.args.kind c.args.body.now l s c.put.new.self.1 c.put.result c.put.ensures.puts),
+      c.in-Ok.ensures.items ∙ (λ i. c.self.invariant.1 i ++ room i ∷ []) ∙ sym (rooms_more rs new) ∙ ap rooms_of (sym last.0),
+    )
+
+pub invariant_of-self-in_default : goal.invariant_of-self-in_default
+invariant_of-self-in_default g c =
+    let rs = c.self.inside.store.1 in
+    let new : Record = record_for (g.N.Namer.name_of c.self.inside.store.0) c.args.kind c.args.body.now in
+    let old = ap (λ v. v.1) c.truncate.ensures ∙ ap (λ k. take k c.put.new.self.1) c.len-held.ensures.count ∙ front_put rs c.put.new.self.1 new c.in_ok-name.ensures.puts.1 in
+    let namer = ap (λ v. v.0) c.truncate.ensures ∙ c.put.ensures.namer in (
+      subst (λ n. IsSound (g.N.Namer.name_of n) (record { records = c.truncate.new.self.1; refs = map kept c.self.inside.refs.items })) (sym namer)
+          (subst (λ z. IsSound (g.N.Namer.name_of c.self.inside.store.0) (record { records = z; refs = map kept c.self.inside.refs.items })) (sym old) c.self.invariant.0),
+      c.in_default.ensures.items ∙ c.self.invariant.1 ∙ ap rooms_of (sym old),
+    )
+
+pub returns-in_default-clause-adds : goal.returns-in_default-clause-adds
+returns-in_default-clause-adds g c =
+    let rs = c.self.inside.store.1 in
+    let new : Record = record_for (g.N.Namer.name_of c.self.inside.store.0) c.args.kind c.args.body.now in
+    ap (λ v. v.1) c.truncate.ensures ∙ ap (λ k. take k c.put.new.self.1) c.len-held.ensures.count ∙ front_put rs c.put.new.self.1 new c.in_ok-name.ensures.puts.1 ∙ ap (λ v. v.1.records) c.self.view_is
+
+pub returns-in_default-clause-keeps : goal.returns-in_default-clause-keeps
+returns-in_default-clause-keeps g c =
+    let rs = c.self.inside.store.1 in
+    let new : Record = record_for (g.N.Namer.name_of c.self.inside.store.0) c.args.kind c.args.body.now in
+    let old = ap (λ v. v.1) c.truncate.ensures ∙ ap (λ k. take k c.put.new.self.1) c.len-held.ensures.count ∙ front_put rs c.put.new.self.1 new c.in_ok-name.ensures.puts.1 in
+    subst (λ v. Keeps v.1.records c.truncate.new.self.1) c.self.view_is (keeps_same rs c.truncate.new.self.1 old)
+
+pub returns-clause-held : goal.returns-clause-held
+returns-clause-held g c =
+    let r = record_for (g.N.Namer.name_of c.self.inside.store.0) c.args.kind c.args.body.now in
+    subst (Holds c.put.new.self.1 c.args.kind) (sym c.in_ok-name.ensures.puts.0) (put_holds c.self.inside.store.1 c.put.new.self.1 r c.in_ok-name.ensures.puts.1)
+
+pub returns-clause-keeps : goal.returns-clause-keeps
+returns-clause-keeps g c =
+    let r = record_for (g.N.Namer.name_of c.self.inside.store.0) c.args.kind c.args.body.now in
+    subst (λ v. Keeps v.1.records c.put.new.self.1) c.self.view_is (keeps_front c.self.inside.store.1 c.put.new.self.1 (front_put c.self.inside.store.1 c.put.new.self.1 r c.in_ok-name.ensures.puts.1))
+
+pub invariant_of-self-then-len-held : goal.invariant_of-self-then-len-held
+invariant_of-self-then-len-held g c =
+    let names = g.N.Namer.name_of c.self.inside.store.0 in
+    let namer = g.met.N.Namer.is_namer c.self.inside.store.0 in
+    let rs = c.self.inside.store.1 in
+    let r : Records = record { records = rs; refs = map kept c.self.inside.refs.items } in
+    let l = rw (sym c.self.view_is) at c.requires.linked in
+    let s = rw (sym c.self.view_is) at c.requires.short in
+    let same = put_held rs c.put.new.self.1 (record_for names c.args.kind c.args.body.now) c.in_ok-name.ensures.puts.1 (sym c.len.ensures.count ∙ c.if-len-held.true ∙ c.len-held.ensures.count) in (
+      subst (λ n. IsSound (g.N.Namer.name_of n) (record { records = c.put.new.self.1; refs = map kept c.self.inside.refs.items })) (sym c.put.ensures.namer)
+          (put_is_sound names (c.links_tell_values.ensures names namer) (c.puts_add_values.ensures names namer) r c.self.invariant.0 c.args.kind c.args.body.now l s c.put.new.self.1 c.put.result c.put.ensures.puts),
+      c.self.invariant.1 ∙ ap rooms_of (sym same.0),
+    )
+
+pub returns-then-len-held-clause-history : goal.returns-then-len-held-clause-history
+returns-then-len-held-clause-history g c =
     let names = g.N.Namer.name_of c.self.inside.store.0 in
     let namer = g.met.N.Namer.is_namer c.self.inside.store.0 in
     let r : Records = record { records = c.self.inside.store.1; refs = map kept c.self.inside.refs.items } in
     let l = rw (sym c.self.view_is) at c.requires.linked in
     let s = rw (sym c.self.view_is) at c.requires.short in
-    subst (λ n. IsSound (g.N.Namer.name_of n) (record { records = c.put.new.self.1; refs = map kept c.self.inside.refs.items })) (sym c.put.ensures.namer)
-    (put_is_sound names (c.links_tell_values.ensures names namer) (c.puts_add_values.ensures names namer) r c.self.invariant c.args.kind c.args.body.now l s c.put.new.self.1 c.put.result c.put.ensures.puts)
+    subst (λ v. HasValues v.1 (record { records = c.put.new.self.1; refs = map kept c.self.inside.refs.items }) (with_one (values_of v.1) (value_in (named_values v.1.records) c.args.kind c.args.body.now))) c.self.view_is
+    (put_grown names (c.links_tell_values.ensures names namer) (c.puts_add_values.ensures names namer) r c.self.invariant.0 c.args.kind c.args.body.now l s c.put.new.self.1 c.in_ok-name.ensures.puts.1).1
 
 pub returns-clause-history : goal.returns-clause-history
 returns-clause-history g c =
@@ -28,21 +104,5 @@ returns-clause-history g c =
     let r : Records = record { records = c.self.inside.store.1; refs = map kept c.self.inside.refs.items } in
     let l = rw (sym c.self.view_is) at c.requires.linked in
     let s = rw (sym c.self.view_is) at c.requires.short in
-    subst (λ v. IfOk c.put.result (λ _. HasValues v.1 (record { records = c.put.new.self.1; refs = map kept c.self.inside.refs.items }) (with_one (values_of v.1) (value_in (named_values v.1.records) c.args.kind c.args.body.now)))) c.self.view_is
-    (put_has_values names (c.links_tell_values.ensures names namer) (c.puts_add_values.ensures names namer) r c.self.invariant c.args.kind c.args.body.now l s c.put.new.self.1 c.put.result c.put.ensures.puts)
-
-pub returns-clause-value : goal.returns-clause-value
-returns-clause-value g c =
-    let names = g.N.Namer.name_of c.self.inside.store.0 in
-    let namer = g.met.N.Namer.is_namer c.self.inside.store.0 in
-    let r : Records = record { records = c.self.inside.store.1; refs = map kept c.self.inside.refs.items } in
-    let l = rw (sym c.self.view_is) at c.requires.linked in
-    let s = rw (sym c.self.view_is) at c.requires.short in
-    subst (λ v. IfOk c.put.result (λ n. n.bytes ≡ name_of (g.N.Namer.name_of v.0) (value_in (named_values v.1.records) c.args.kind c.args.body.now))) c.self.view_is
-    (put_names_value names (c.links_tell_values.ensures names namer) (c.puts_add_values.ensures names namer) r c.self.invariant c.args.kind c.args.body.now l s c.put.new.self.1 c.put.result c.put.ensures.puts)
-
-pub returns-clause-held : goal.returns-clause-held
-returns-clause-held g c = puts_hold c.self.inside.store.1 c.put.new.self.1 _ c.put.result c.put.ensures.puts
-
-pub returns-clause-keeps : goal.returns-clause-keeps
-returns-clause-keeps g c = subst (λ v. Keeps v.1.records c.put.new.self.1) c.self.view_is (puts_keep c.self.inside.store.1 c.put.new.self.1 _ c.put.result c.put.ensures.puts)
+    subst (λ v. HasValues v.1 (record { records = c.put.new.self.1; refs = map kept c.self.inside.refs.items }) (with_one (values_of v.1) (value_in (named_values v.1.records) c.args.kind c.args.body.now))) c.self.view_is
+    (put_grown names (c.links_tell_values.ensures names namer) (c.puts_add_values.ensures names namer) r c.self.invariant.0 c.args.kind c.args.body.now l s c.put.new.self.1 c.in_ok-name.ensures.puts.1).1

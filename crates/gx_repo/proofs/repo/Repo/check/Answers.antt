@@ -15,7 +15,7 @@ returns-then-is_target-clause-ok g c =
     let r : Records = record { records = rs; refs = map kept c.self.inside.refs.items } in
     let body = c.in-Some.body.now in
     let shown = is_shown rs change.1 c.in-Some.kind body c.in-Some.ensures in
-    let may = c.is_target.ensures (λ k. tag_shown (g.N.Namer.name_of c.self.inside.store.0) (g.met.N.Namer.is_namer c.self.inside.store.0) r c.self.invariant change.1 body (subst (λ k. IsShown rs change.1 k body) k shown)) in
+    let may = c.is_target.ensures (λ k. tag_shown (g.N.Namer.name_of c.self.inside.store.0) (g.met.N.Namer.is_namer c.self.inside.store.0) r c.self.invariant.0 change.1 body (subst (λ k. IsShown rs change.1 k body) k shown)) in
     subst (λ v. change_fault v.1.records change ≡ None) c.self.view_is
     (fault_shown rs change c.in-Some.kind body (sym c.is_ref_name.ensures ∙ c.if-not-is_ref_name.false) shown ∙ ap (λ b. if not b then Some WrongKind else None) (sym may ∙ c.if-is_target.true))
 
@@ -26,6 +26,6 @@ returns-else-is_target-clause-fault g c =
     let r : Records = record { records = rs; refs = map kept c.self.inside.refs.items } in
     let body = c.in-Some.body.now in
     let shown = is_shown rs change.1 c.in-Some.kind body c.in-Some.ensures in
-    let may = c.is_target.ensures (λ k. tag_shown (g.N.Namer.name_of c.self.inside.store.0) (g.met.N.Namer.is_namer c.self.inside.store.0) r c.self.invariant change.1 body (subst (λ k. IsShown rs change.1 k body) k shown)) in
+    let may = c.is_target.ensures (λ k. tag_shown (g.N.Namer.name_of c.self.inside.store.0) (g.met.N.Namer.is_namer c.self.inside.store.0) r c.self.invariant.0 change.1 body (subst (λ k. IsShown rs change.1 k body) k shown)) in
     subst (λ v. change_fault v.1.records change ≡ Some WrongKind) c.self.view_is
     (fault_shown rs change c.in-Some.kind body (sym c.is_ref_name.ensures ∙ c.if-not-is_ref_name.false) shown ∙ ap (λ b. if not b then Some WrongKind else None) (sym may ∙ c.if-is_target.false))

@@ -19,6 +19,6 @@ returns-in-Tag g c =
     let r : Records = record { records = rs; refs = map kept c.self.inside.refs.items } in
     let shown = is_shown rs c.args.name.now.bytes c.in_ok-kind.kind c.in_ok-kind.body.now c.in_ok-kind.ensures in
     subst (λ v. option_map (λ n. n.bytes) c.tag_object.result ≡ commit_named v.1.records c.args.name.now.bytes) c.self.view_is
-    (tag_peeled (g.N.Namer.name_of c.self.inside.store.0) (g.met.N.Namer.is_namer c.self.inside.store.0) r c.self.invariant c.args.name.now.bytes c.in_ok-kind.body.now
+    (tag_peeled (g.N.Namer.name_of c.self.inside.store.0) (g.met.N.Namer.is_namer c.self.inside.store.0) r c.self.invariant.0 c.args.name.now.bytes c.in_ok-kind.body.now
     (subst (λ k. IsShown rs c.args.name.now.bytes k c.in_ok-kind.body.now) c.in-Tag.is shown)
     (option_map (λ n. n.bytes) c.tag_object.result) c.tag_object.ensures)

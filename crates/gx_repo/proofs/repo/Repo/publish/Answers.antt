@@ -10,4 +10,4 @@ invariant_of-self g c =
     let namer = g.met.N.Namer.is_namer c.self.inside.store.0 in
     let r : Records = record { records = c.self.inside.store.1; refs = map kept c.self.inside.refs.items } in
     let set = rw (sym c.self.view_is) at c.in_ok-self-inside.ensures in
-    (published_is_sound names namer (c.parts_change.ensures names namer) r c.self.invariant (map asked c.args.changes.now) (map kept c.in_ok-self-inside.field-0.items) set).0
+    ((published_is_sound names namer (c.parts_change.ensures names namer) r c.self.invariant.0 (map asked c.args.changes.now) (map kept c.in_ok-self-inside.field-0.items) set).0, c.self.invariant.1)

@@ -1,6 +1,8 @@
-use Rattle.std.proofs.Common.{◌≡◌, ℕ, zero, suc, List, [], ◌∷◌, ◌++◌, take, drop, map, refl, sym, ap, subst}
+use Rattle.std.proofs.Common.{◌≡◌, ℕ, zero, suc, List, [], ◌∷◌, ◌++◌, take, drop, map, refl, sym, ap, subst, ◌∙◌}
 use Rattle.gx_model.specs.Sound.{IsSound}
 use Rattle.gx_repo.specs.Refs.{kept}
+use Rattle.gx_repo.specs.Rooms.{rooms_of}
+use Rattle.gx_repo.proofs.RecordRooms.{rooms_taken}
 use Rattle.gx_repo.proofs.repo.Repo.truncate.Goals as goal
 
 -- a front and what follows it
@@ -15,7 +17,9 @@ invariant_of-self g c =
     let namer = g.met.N.Namer.is_namer c.self.inside.store.0 in
     let rs = c.self.inside.store.1 in
     let refs = map kept c.self.inside.refs.items in
-    let whole = subst (λ z. IsSound names (record { records = z; refs = refs })) (sym (rejoined c.args.len rs)) c.self.invariant in
+    let whole = subst (λ z. IsSound names (record { records = z; refs = refs })) (sym (rejoined c.args.len rs)) c.self.invariant.0 in
     let held = rw (sym c.self.view_is) at c.requires.targets in
-    let law = ((c.parts_change.ensures names namer).first (take c.args.len rs) (drop c.args.len rs) refs whole held).0 in
-    subst (λ v. IsSound (g.N.Namer.name_of v.0) (record { records = v.1; refs = refs })) (sym c.truncate.ensures) law
+    let law = ((c.parts_change.ensures names namer).first (take c.args.len rs) (drop c.args.len rs) refs whole held).0 in (
+      subst (λ v. IsSound (g.N.Namer.name_of v.0) (record { records = v.1; refs = refs })) (sym c.truncate.ensures) law,
+      c.truncate-2.ensures.items ∙ ap (take c.args.len) c.self.invariant.1 ∙ sym (rooms_taken c.args.len rs) ∙ ap (λ v. rooms_of v.1) (sym c.truncate.ensures),
+    )

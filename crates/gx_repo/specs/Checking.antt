@@ -1,0 +1,25 @@
+-- How much room the entries of a tree of which nothing is known take. Source: this project's own limit of 4,095 bytes for a path.
+use Rattle.std.specs.Prelude.{ℕ, max, ◌&&◌, if◌then◌else◌, List, [], ◌∷◌, Option, Some, None}
+use Rattle.gx_model.specs.Objects.{Entry, is_dir}
+use Rattle.gx_model.specs.Histories.{Record}
+use Rattle.gx_model.specs.HistoryOf.{files_at, named_values, placed}
+use Rattle.gx_model.specs.Growth.{record_named}
+use Rattle.gx_model.specs.RecordFaults.{is_without_entries}
+use Rattle.gx_repo.specs.Rooms.{room}
+
+-- the greater of two rooms; none where one is missing
+abbrev pub wider : Option ℕ → Option ℕ → Option ℕ
+wider None other = None
+wider (Some here) None = None
+wider (Some here) (Some there) = Some (max here there)
+
+-- the room of what is at or below an entry; none where it names a tree without entries
+abbrev pub entry_room : List Record → Entry → Option ℕ
+entry_room records e =
+    if is_dir e.mode && is_without_entries (record_named records e.name) then None
+    else Some (room (placed e.component (files_at (named_values records) e.mode e.name)))
+
+-- the greatest room of these entries; none where one of them names a tree without entries
+abbrev pub widest : List Record → List Entry → Option ℕ
+widest records [] = Some 0
+widest records (e ∷ es) = wider (entry_room records e) (widest records es)

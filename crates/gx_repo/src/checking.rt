@@ -1,0 +1,183 @@
+//! What a record of which nothing is known has against it. Source: Pro Git, "Git Objects".
+ghost use Rattle.std.specs.Prelude.{◌≡◌, [], length, max, slice_get, true, false, Some, None, IfOk, IfErr, OnOk, OnErr};
+ghost use Rattle.gx_model.specs.declared.objects.Kind.TheVariants as kinds;
+ghost use Rattle.gx_model.specs.HistoryOf.{named_values, value_in};
+ghost use Rattle.gx_model.specs.RecordFaults.{content_fault, is_entry_held, is_held, is_of_kind};
+ghost use Rattle.gx_model.specs.Sound.{IsSound};
+ghost use Rattle.gx_object.specs.Entries.{shown};
+ghost use Rattle.gx_store.specs.Stores.{place_named};
+ghost use Rattle.gx_repo.specs.declared.fault.AddFault.TheVariants.{Dangling};
+ghost use Rattle.gx_repo.specs.Checking.{entry_room, wider};
+ghost use Rattle.gx_repo.specs.Records.{add_fault};
+ghost use Rattle.gx_repo.specs.Rooms.{room_of, rooms_of};
+
+use crate::fault::AddFault;
+use gx_model::store_laws::bodies_are_read;
+use gx_object::{Entry, Kind, Mode, Name, Namer, decode_commit, decode_tag, decode_tree};
+use gx_store::Store;
+use std::alloc::Allocator;
+
+/// The room of the longest path, of 4,095 bytes.
+const MOST_ROOM: usize = 4096;
+
+/// The room of what is below an object, or what its body has against it.
+///
+/// Cost: the body's length, and for each link the number of records; each entry is looked at once. Takes no memory.
+pub(crate) fn checked_room<N: Namer, A: Allocator + Copy>(
+    store: &Store<N, A>,
+    rooms: &[usize],
+    kind: Kind,
+    body: &[u8],
+) -> Result<usize, AddFault>
+    requires sound { IsSound (N.name_of store.now.0) (record { records = store.now.1; refs = [] }) }
+    requires rooms { rooms.now ≡ rooms_of store.now.1 }
+    ensures ok { IfOk result (λ _. content_fault store.now.1 kind body.now ≡ None) }
+    ensures room { IfOk result (λ room. room ≡ room_of (value_in (named_values store.now.1) kind body.now)) }
+    ensures fault { IfErr result (λ fault. content_fault store.now.1 kind body.now ≡ Some (add_fault fault)) }
+{
+    match kind {
+        Kind::Blob => Ok(0),
+        Kind::Tree => tree_room(store, rooms, body),
+        Kind::Commit => check_commit(store, body),
+        Kind::Tag => check_tag(store, body),
+    }
+}
+
+/// The room of what is below a tree. A link that isn't held is answered before what is below the tree.
+fn tree_room<N: Namer, A: Allocator + Copy>(
+    store: &Store<N, A>,
+    rooms: &[usize],
+    body: &[u8],
+) -> Result<usize, AddFault>
+    requires sound { IsSound (N.name_of store.now.0) (record { records = store.now.1; refs = [] }) }
+    requires rooms { rooms.now ≡ rooms_of store.now.1 }
+    ensures ok { IfOk result (λ _. content_fault store.now.1 kinds.Tree body.now ≡ None) }
+    ensures room { IfOk result (λ room. room ≡ room_of (value_in (named_values store.now.1) kinds.Tree body.now)) }
+    ensures fault { IfErr result (λ fault. content_fault store.now.1 kinds.Tree body.now ≡ Some (add_fault fault)) }
+{
+    bodies_are_read();
+    let Ok(entries) = decode_tree(body) else {
+        return Err(AddFault::BadObject);
+    };
+    let mut widest = Some(0);
+    for entry in entries {
+        widest = wider(widest, entry_room(store, rooms, &entry)?);
+    }
+    let Some(room) = widest else {
+        return Err(AddFault::BadObject);
+    };
+    if room > MOST_ROOM {
+        return Err(AddFault::BadObject);
+    }
+    Ok(room)
+}
+
+/// The greater of two rooms; none where one is missing.
+fn wider(room: Option<usize>, other: Option<usize>) -> Option<usize>
+    ensures { result ≡ wider room other }
+{
+    Some(usize::max(room?, other?))
+}
+
+/// The room of what is at or below an entry, or none where it names a tree without entries.
+fn entry_room<N: Namer, A: Allocator + Copy>(
+    store: &Store<N, A>,
+    rooms: &[usize],
+    entry: &Entry<'_>,
+) -> Result<Option<usize>, AddFault>
+    requires sound { IsSound (N.name_of store.now.0) (record { records = store.now.1; refs = [] }) }
+    requires rooms { rooms.now ≡ rooms_of store.now.1 }
+    ensures room { IfOk result (λ room. room ≡ entry_room store.now.1 (shown entry.now)) }
+    ensures held { OnOk result (is_entry_held store.now.1 entry.now.mode entry.now.name.bytes ≡ true) }
+    ensures fault { IfErr result (λ fault. fault ≡ Dangling) }
+    ensures dangling { OnErr result (is_entry_held store.now.1 entry.now.mode entry.now.name.bytes ≡ false) }
+{
+    let own = 1 + entry.component.len();
+    match entry.mode {
+        Mode::Gitlink => Ok(Some(own)),
+        Mode::Dir => {
+            let place = place_of(store, Kind::Tree, &entry.name)?;
+            let below = rooms[place];
+            if below == 0 {
+                Ok(None)
+            } else {
+                Ok(Some(own + below))
+            }
+        }
+        Mode::File | Mode::Exec | Mode::Link => {
+            place_of(store, Kind::Blob, &entry.name)?;
+            Ok(Some(own))
+        }
+    }
+}
+
+/// The place of the held object of this kind and name.
+fn place_of<N: Namer, A: Allocator + Copy>(
+    store: &Store<N, A>,
+    kind: Kind,
+    name: &Name,
+) -> Result<usize, AddFault>
+    ensures place { IfOk result (λ place. Some place ≡ place_named store.now.1 name.now.bytes) }
+    ensures held { OnOk result (is_held store.now.1 kind name.now.bytes ≡ true) }
+    ensures fault { IfErr result (λ fault. fault ≡ Dangling) }
+    ensures dangling { OnErr result (is_held store.now.1 kind name.now.bytes ≡ false) }
+{
+    let Some(place) = store.place(name) else {
+        return Err(AddFault::Dangling);
+    };
+    if is_of_kind(store, place, kind) {
+        Ok(place)
+    } else {
+        Err(AddFault::Dangling)
+    }
+}
+
+/// Whether the object at a place is of this kind.
+fn is_of_kind<N: Namer, A: Allocator + Copy>(store: &Store<N, A>, place: usize, kind: Kind) -> bool
+    ensures { result ≡ is_of_kind kind (slice_get store.now.1 place) }
+{
+    match store.record(place) {
+        Some((_, held, _)) => held == kind,
+        None => false,
+    }
+}
+
+/// A commit has no room; its tree and its parents are held.
+fn check_commit<N: Namer, A: Allocator + Copy>(
+    store: &Store<N, A>,
+    body: &[u8],
+) -> Result<usize, AddFault>
+    ensures ok { IfOk result (λ _. content_fault store.now.1 kinds.Commit body.now ≡ None) }
+    ensures room { IfOk result (λ room. room ≡ 0) }
+    ensures fault { IfErr result (λ fault. content_fault store.now.1 kinds.Commit body.now ≡ Some (add_fault fault)) }
+{
+    bodies_are_read();
+    let Ok(commit) = decode_commit(body) else {
+        return Err(AddFault::BadObject);
+    };
+    place_of(store, Kind::Tree, &commit.tree())?;
+    for place in 0..commit.parent_count() {
+        let Some(parent) = commit.parent(place) else {
+            unreachable!();
+        };
+        place_of(store, Kind::Commit, &parent)?;
+    }
+    Ok(0)
+}
+
+/// A tag has no room; its commit is held.
+fn check_tag<N: Namer, A: Allocator + Copy>(
+    store: &Store<N, A>,
+    body: &[u8],
+) -> Result<usize, AddFault>
+    ensures ok { IfOk result (λ _. content_fault store.now.1 kinds.Tag body.now ≡ None) }
+    ensures room { IfOk result (λ room. room ≡ 0) }
+    ensures fault { IfErr result (λ fault. content_fault store.now.1 kinds.Tag body.now ≡ Some (add_fault fault)) }
+{
+    bodies_are_read();
+    let Ok(tag) = decode_tag(body) else {
+        return Err(AddFault::BadObject);
+    };
+    place_of(store, Kind::Commit, &tag.object())?;
+    Ok(0)
+}

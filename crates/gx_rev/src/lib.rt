@@ -14,10 +14,11 @@ mod suffix;
 mod walking;
 
 pub use fault::{RevFault, WalkFault};
+pub use objects::view_of;
 pub use range::Range;
 pub use reached::reaches;
 pub use revision::Revision;
-pub use shown::{Shown, answers_tell_values, commit, look};
+pub use shown::{Shown, answers_tell_values, commit, look, tree};
 pub use walking::walk;
 
 #[cfg(test)]

@@ -4,7 +4,7 @@ ghost use Rattle.std.specs.Prelude.{◌≡◌, IfOk, Ok, Some};
 ghost use Rattle.std.specs.Option.{option_map};
 ghost use Rattle.gx_model.specs.declared.objects.Kind.TheVariants as kinds;
 ghost use Rattle.gx_model.specs.declared.objects.Mode.TheVariants as modes;
-ghost use Rattle.gx_model.specs.Denotation.{commit_denoted, denoted, file_shown, looked_up, shown_at, value_denoted};
+ghost use Rattle.gx_model.specs.Denotation.{commit_denoted, denoted, file_shown, files_in, looked_up, shown_at, value_denoted};
 ghost use Rattle.gx_model.specs.Faults.{Gives, and_then};
 ghost use Rattle.gx_model.specs.HistoryOf.{bytes_of_blob, history_of};
 ghost use Rattle.gx_rev.specs.Answers.{AnswersTell, IsNamed, file_of, revision_with, seen_file, shown_as, shown_by};
@@ -118,6 +118,21 @@ pub fn commit<'a, N: Namer, A: Allocator + Copy>(
     Ok(view_of(repo, &commit))
 }
 
+/// The name of the tree that a revision gives as `^{tree}` does: a tree itself, or that of the commit that it peels to.
+/// What gives none is WrongKind.
+///
+/// The faults and the cost are those of `Revision::eval`. Source: gitrevisions(7), on tree-ish.
+pub fn tree<N: Namer, A: Allocator + Copy>(
+    repo: &Repo<N, A>,
+    revision: &Revision<A>,
+) -> Result<Name, RevFault>
+    ensures files { Gives fault_of (files_at repo.now.1) result (and_then (value_denoted (N.name_of repo.now.0) (history_of repo.now.1) revision.now) files_in) }
+    ensures held { IfOk result (IsHeldAs kinds.Tree repo.now.1) }
+{
+    let object = eval_object(repo, revision)?;
+    tree_of(repo, &object)
+}
+
 /// The name of the commit that a revision gives after peeling.
 pub(crate) fn eval_commit<N: Namer, A: Allocator + Copy>(
     repo: &Repo<N, A>,
@@ -165,8 +180,7 @@ pub fn look<N: Namer, A: Allocator + Copy>(
 ) -> Result<(Mode, Vec<u8, A>), RevFault>
     ensures { Gives fault_of seen_file result (looked_up (N.name_of repo.now.0) (history_of repo.now.1) revision.now path.now) }
 {
-    let object = eval_object(repo, revision)?;
-    let tree = tree_of(repo, &object)?;
+    let tree = tree(repo, revision)?;
     look_in(alloc, repo, &tree, path)
 }
 

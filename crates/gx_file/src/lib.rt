@@ -1,0 +1,18 @@
+//! The text of a store file: a whole repository as bytes, written so that it can be read again with every claim checked.
+//! What is read is a sound repository, and its text is the one that was read.
+#![tactic(auto)]
+
+mod fault;
+mod lines;
+mod reading;
+mod records;
+mod refs;
+mod writing;
+
+pub use fault::FileFault;
+pub use gx_repo::OutOfMemory;
+pub use reading::read;
+pub use writing::write;
+
+#[cfg(test)]
+mod tests;

@@ -1,0 +1,81 @@
+//! The lines of a store text. Source: this project's own format.
+ghost use Rattle.std.specs.Prelude.{◌≡◌, codes};
+ghost use Rattle.std.specs.Option.{option_and_then, option_map};
+ghost use Rattle.gx_model.specs.StoreReading.{after_magic, after_word, stored_count, stored_end, stored_line, stored_number};
+ghost use Rattle.gx_file.specs.Faults.{Reads};
+ghost use Rattle.gx_file.specs.Texts.{shown_count, shown_pair};
+
+use crate::FileFault;
+use gx_text::{cut, decimal};
+
+/// The first line without its LF, and what follows it.
+pub(crate) fn read_line(text: &[u8]) -> Result<(&[u8], &[u8]), FileFault>
+    ensures { Reads shown_pair result (stored_line text.now) }
+{
+    cut(text, b'\n').ok_or(FileFault::Truncated)
+}
+
+/// What follows a word and a space.
+fn after_word<'a>(word: &[u8], line: &'a [u8]) -> Option<&'a [u8]>
+    ensures { option_map (λ rest. rest.now) result ≡ after_word word.now line.now }
+{
+    line.strip_prefix(word)?.strip_prefix(b" ")
+}
+
+/// A number in decimal, without leading zeros.
+pub(crate) fn read_number(text: &[u8]) -> Option<u64>
+    ensures { result ≡ stored_number text.now }
+{
+    if text.len() > 1 && text.starts_with(b"0") {
+        return None;
+    }
+    decimal(text)
+}
+
+/// What follows the first line, which tells what the text is and its version.
+pub(crate) fn read_magic(text: &[u8]) -> Result<&[u8], FileFault>
+    ensures { Reads (λ rest. rest.now) result (after_magic text.now) }
+{
+    let (line, rest) = read_line(text)?;
+    let Some(version) = after_word(b"gxstore", line) else {
+        return Err(FileFault::BadMagic);
+    };
+    if version == b"1".as_slice() {
+        Ok(rest)
+    } else {
+        Err(FileFault::BadVersion)
+    }
+}
+
+/// The number in a line that begins with this word, and what follows the line.
+pub(crate) fn read_count<'a>(word: &[u8], text: &'a [u8]) -> Result<(u64, &'a [u8]), FileFault>
+    ensures { Reads shown_count result (stored_count word.now text.now) }
+{
+    let (line, rest) = read_line(text)?;
+    let Some(count) = number_after(word, line) else {
+        return Err(FileFault::BadRecord);
+    };
+    Ok((count, rest))
+}
+
+/// The number behind a word and a space.
+fn number_after(word: &[u8], line: &[u8]) -> Option<u64>
+    ensures { result ≡ option_and_then stored_number (after_word word.now line.now) }
+{
+    read_number(after_word(word, line)?)
+}
+
+/// The last line, and nothing behind it.
+pub(crate) fn read_end(text: &[u8]) -> Result<(), FileFault>
+    ensures { Reads (λ done. done) result (stored_end text.now) }
+{
+    let (line, rest) = read_line(text)?;
+    if line != b"end".as_slice() {
+        return Err(FileFault::BadRecord);
+    }
+    if rest.is_empty() {
+        Ok(())
+    } else {
+        Err(FileFault::TrailingBytes)
+    }
+}

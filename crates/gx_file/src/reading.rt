@@ -1,0 +1,56 @@
+//! Reading a whole store text. Source: this project's own format.
+ghost use Rattle.std.specs.Prelude.{◌≡◌, ◌≢◌, IfOk, IfErr};
+ghost use Rattle.gx_model.specs.StoreReading.{store_of};
+ghost use Rattle.gx_model.specs.StoreText.{store_text};
+ghost use Rattle.gx_file.specs.declared.fault.FileFault.TheVariants as fault;
+ghost use Rattle.gx_file.specs.Faults.{IsNoStoreText, Reads};
+
+use crate::FileFault;
+use crate::lines::{read_count, read_end, read_magic};
+use crate::records::read_records;
+use crate::refs::read_refs;
+use gx_model::store_laws::stores_are_read;
+use gx_object::Namer;
+use gx_repo::Repo;
+use std::alloc::Allocator;
+
+/// The repository of a store text, every claim of which is checked: the form of its lines, each body, link and name, and
+/// each ref. The text of the repository is the one that was read.
+///
+/// The first fault from the front is answered, with the causes that [`FileFault`] gives. A text that is refused, but for
+/// want of memory, is that of no sound repository.
+/// Cost: one pass over the text, each body hashed once; for each link, the number of records. Memory: the bodies and the
+/// refs that were read, whatever numbers the text states.
+pub fn read<N: Namer + Drop, A: Allocator + Copy>(
+    alloc: A,
+    namer: N,
+    text: &[u8],
+) -> Result<Repo<N, A>, FileFault>
+    ensures namer { IfOk result (λ repo. repo.0 ≡ namer) }
+    ensures store { Reads (λ repo. repo.1) result (store_of (N.name_of namer) text.now) }
+    ensures text { IfOk result (λ repo. text.now ≡ store_text repo.1) }
+    ensures refused { IfErr result (λ why. why ≢ fault.OutOfMemory → IsNoStoreText (N.name_of namer) text.now) }
+{
+    stores_are_read();
+    read_store(alloc, namer, text)
+}
+
+/// The repository of a store text, line by line.
+#[tactic(auto, unfolding(gx_model::specs::StoreReading::store_of))]
+fn read_store<N: Namer + Drop, A: Allocator + Copy>(
+    alloc: A,
+    namer: N,
+    text: &[u8],
+) -> Result<Repo<N, A>, FileFault>
+    ensures namer { IfOk result (λ repo. repo.0 ≡ namer) }
+    ensures store { Reads (λ repo. repo.1) result (store_of (N.name_of namer) text.now) }
+{
+    let rest = read_magic(text)?;
+    let (objects, rest) = read_count(b"objects", rest)?;
+    let mut repo = Repo::new(alloc, namer);
+    let rest = read_records(&mut repo, objects, rest)?;
+    let (refs, rest) = read_count(b"refs", rest)?;
+    let rest = read_refs(alloc, &mut repo, refs, rest)?;
+    read_end(rest)?;
+    Ok(repo)
+}

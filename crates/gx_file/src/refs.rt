@@ -1,0 +1,94 @@
+//! The refs of a store text. Source: this project's own format, and git-check-ref-format(1).
+ghost use Rattle.std.specs.Prelude.{◌≡◌, [], None, map};
+ghost use Rattle.std.specs.Option.{option_map};
+ghost use Rattle.gx_model.specs.StoreReading.{is_after, next_refs, ref_line};
+ghost use Rattle.gx_repo.specs.Refs.{asked};
+ghost use Rattle.gx_file.specs.Faults.{Reads};
+ghost use Rattle.gx_file.specs.Gathering.{Gathers, first_ref, gathered, shown_change};
+
+use crate::FileFault;
+use crate::lines::read_line;
+use gx_object::{Name, Namer};
+use gx_repo::{RefChange, Repo};
+use gx_text::{cut, is_ref_name};
+use std::alloc::Allocator;
+
+/// Sets the refs that come next in a repository that has none, so many of them, and answers what follows them.
+///
+/// Cost: the refs are looked at once, and each object that one holds is looked up once.
+pub(crate) fn read_refs<'a, N: Namer, A: Allocator + Copy>(
+    alloc: A,
+    repo: &mut Repo<N, A>,
+    count: u64,
+    text: &'a [u8],
+) -> Result<&'a [u8], FileFault>
+    requires none { repo.now.1.refs ≡ [] }
+    ensures namer { repo.new.0 ≡ repo.old.0 }
+    ensures records { repo.new.1.records ≡ repo.old.1.records }
+    ensures refs { Reads (λ rest. (repo.new.1.refs, rest.now)) result (next_refs count repo.old.1.records None text.now) }
+{
+    let mut changes = Vec::new(alloc);
+    let gathered = gather(&mut changes, count, text);
+    repo.publish(changes.as_slice())?;
+    gathered
+}
+
+/// Gathers the changes that set the refs up to the first whose line or order is bad, that one with them where its line is
+/// good. What they hold isn't looked up.
+fn gather<'a, A: Allocator + Copy>(
+    changes: &mut Vec<RefChange<'a>, A>,
+    count: u64,
+    text: &'a [u8],
+) -> Result<&'a [u8], FileFault>
+    requires { changes.now.items ≡ [] }
+    ensures { Gathers (gathered count None text.now) (map asked changes.new.items) result }
+{
+    let mut rest = text;
+    let mut last: Option<&[u8]> = None;
+    for _ in 0..count {
+        let (change, after) = read_ref(rest)?;
+        changes.push(change)?;
+        if !is_after(last, change.name) {
+            return Err(FileFault::RefOrder);
+        }
+        last = Some(change.name);
+        rest = after;
+    }
+    Ok(rest)
+}
+
+/// The change that sets the ref in the first line, and what follows the line.
+#[tactic(auto, unfolding(crate::specs::Gathering::first_ref))]
+fn read_ref(text: &[u8]) -> Result<(RefChange<'_>, &[u8]), FileFault>
+    ensures { Reads shown_change result (first_ref text.now) }
+{
+    let (line, rest) = read_line(text)?;
+    let Some((name, target)) = ref_line(line) else {
+        return Err(FileFault::BadRef);
+    };
+    Ok((RefChange { name, target }, rest))
+}
+
+/// Whether a name is greater than the one before, where there is one.
+fn is_after(last: Option<&[u8]>, name: &[u8]) -> bool
+    ensures { result ≡ is_after (option_map (λ last. last.now) last.entry) name.now }
+{
+    match last {
+        Some(last) => last < name,
+        None => true,
+    }
+}
+
+/// The name of a ref and its object.
+#[tactic(auto, unfolding(gx_model::specs::Naming::lower_name_in))]
+fn ref_line(line: &[u8]) -> Option<(&[u8], Name)>
+    ensures { option_map (λ ref. (ref.0.now, ref.1.bytes)) result ≡ ref_line line.now }
+{
+    let (digits, name) = cut(line, b' ')?;
+    let target = Name::read_lower(digits)?;
+    if is_ref_name(name) {
+        Some((name, target))
+    } else {
+        None
+    }
+}

@@ -1,0 +1,119 @@
+//! Writing a store text. Source: this project's own format.
+ghost use Rattle.std.specs.Prelude.{◌≡◌, [], ◌∷◌, ◌++◌, codes, length, IfOk, OnOk};
+ghost use Rattle.std.specs.List.{flat_map};
+ghost use Rattle.std.specs.Fmt.{decimal};
+ghost use Rattle.gx_model.specs.Naming.{kind_word};
+ghost use Rattle.gx_model.specs.Objects.{line};
+ghost use Rattle.gx_model.specs.StoreText.{store_text, stored_record, stored_ref};
+
+use gx_object::{Kind, Name, Namer};
+use gx_repo::Repo;
+use std::alloc::{AllocError, Allocator};
+
+/// The text of a repository: its records in their order, and its refs in the byte order of their names.
+///
+/// Cost: the text's length. Memory: the text.
+#[tactic(auto, unfolding(gx_model::specs::StoreText::store_text))]
+pub fn write<N: Namer, A: Allocator + Copy>(
+    alloc: A,
+    repo: &Repo<N, A>,
+) -> Result<Vec<u8, A>, AllocError>
+    ensures { IfOk result (λ text. text.items ≡ store_text repo.now.1) }
+{
+    let mut text = Vec::new(alloc);
+    text.extend_from_slice(b"gxstore 1\n")?;
+    put_records(&mut text, repo)?;
+    put_refs(&mut text, repo)?;
+    text.extend_from_slice(b"end\n")?;
+    Ok(text)
+}
+
+/// Appends the number of the records and the records.
+fn put_records<N: Namer, A: Allocator + Copy>(
+    text: &mut Vec<u8, A>,
+    repo: &Repo<N, A>,
+) -> Result<(), AllocError>
+    ensures { OnOk result (text.new.items ≡ text.old.items ++ line (codes "objects") (decimal (length repo.now.1.records)) ++ flat_map stored_record repo.now.1.records) }
+{
+    let store = repo.store();
+    let count = store.len();
+    put_count(text, b"objects", count)?;
+    for place in 0..count {
+        let Some((_, kind, body)) = store.record(place) else {
+            unreachable!();
+        };
+        put_record(text, kind, body)?;
+    }
+    Ok(())
+}
+
+/// Appends a record.
+fn put_record<A: Allocator + Copy>(
+    text: &mut Vec<u8, A>,
+    kind: Kind,
+    body: &[u8],
+) -> Result<(), AllocError>
+    ensures { OnOk result (text.new.items ≡ text.old.items ++ (line (kind_word kind) (decimal (length body.now)) ++ body.now ++ 10 ∷ [])) }
+{
+    put_count(text, kind_word(kind), body.len())?;
+    text.extend_from_slice(body)?;
+    text.push(b'\n')?;
+    Ok(())
+}
+
+/// Appends the number of the refs and the refs.
+fn put_refs<N: Namer, A: Allocator + Copy>(
+    text: &mut Vec<u8, A>,
+    repo: &Repo<N, A>,
+) -> Result<(), AllocError>
+    ensures { OnOk result (text.new.items ≡ text.old.items ++ line (codes "refs") (decimal (length repo.now.1.refs)) ++ flat_map stored_ref repo.now.1.refs) }
+{
+    put_count(text, b"refs", repo.refs().count())?;
+    for (name, object) in repo.refs() {
+        put_ref(text, name, &object)?;
+    }
+    Ok(())
+}
+
+/// Appends a ref's line.
+fn put_ref<A: Allocator + Copy>(
+    text: &mut Vec<u8, A>,
+    name: &[u8],
+    object: &Name,
+) -> Result<(), AllocError>
+    ensures { OnOk result (text.new.items ≡ text.old.items ++ stored_ref (name.now, object.now.bytes)) }
+{
+    text.extend_from_slice(object.hex().as_slice())?;
+    text.push(b' ')?;
+    text.extend_from_slice(name)?;
+    text.push(b'\n')?;
+    Ok(())
+}
+
+/// Appends a line with a word and a number.
+fn put_count<A: Allocator + Copy>(
+    text: &mut Vec<u8, A>,
+    word: &[u8],
+    count: usize,
+) -> Result<(), AllocError>
+    ensures { OnOk result (text.new.items ≡ text.old.items ++ line word.now (decimal count)) }
+{
+    let mut digits = itoa::Buffer::new();
+    text.extend_from_slice(word)?;
+    text.push(b' ')?;
+    text.extend_from_slice(digits.format(count).as_bytes())?;
+    text.push(b'\n')?;
+    Ok(())
+}
+
+/// The word of a kind.
+fn kind_word(kind: Kind) -> &'static [u8]
+    ensures { result.now ≡ kind_word kind }
+{
+    match kind {
+        Kind::Blob => b"blob",
+        Kind::Tree => b"tree",
+        Kind::Commit => b"commit",
+        Kind::Tag => b"tag",
+    }
+}

@@ -1,34 +1,135 @@
-//! The program `gx`: its words, standard streams and exit status around `gx_cli`.
+//! The program `gx`: its words, files, standard streams and exit status around `gx_cli`.
 #![tactic(auto)]
 
-use gx_cli::{LineFault, read_line, serve};
+mod files;
+
+use files::{has_store, read_store, replace_store};
+use gx_cli::{CliFault, Line, LineFault, Outcome, read_line, serve};
 use gx_object::Sha1Namer;
 use gx_text::{FromRead, IntoWrite};
+use std::alloc::Global;
+use std::io::{BufWriter, ErrorKind, Write};
 use std::process::ExitCode;
 use std::{env, io};
 
 fn main(rt: HostRuntime) -> io::Result<ExitCode> {
     let alloc = rt.alloc();
-    let args: Vec<String> = env::args(&rt)?.collect(alloc)?;
+    let args = match env::args(&rt) {
+        Ok(args) => args,
+        Err(error) => return refuse_arguments(&rt, error),
+    };
+    let args: Vec<String> = args.collect(alloc)?;
     let mut words = Vec::new(alloc);
     for arg in args.iter().skip(1) {
         words.push(arg.as_str())?;
     }
     let line = match read_line(alloc, words.as_slice()) {
         Ok(line) => line,
-        Err(fault) => return refuse(&rt, &fault),
+        Err(fault) => return refuse_line(&rt, &fault),
     };
+    match run(&rt, &line) {
+        Ok(()) => Ok(ExitCode::SUCCESS),
+        Err(fault) => {
+            eprintln!(rt; "{fault}")?;
+            Ok(ExitCode::from(1))
+        }
+    }
+}
+
+/// Runs a command on its file and on the standard streams.
+fn run(rt: &HostRuntime, line: &Line<'_>) -> Result<(), CliFault> {
+    match line {
+        Line::Blobs | Line::Try(_) => {
+            stream(rt, line, b"")?;
+            Ok(())
+        }
+        Line::Init { file } => init(rt, line, file),
+        Line::Import { file } => import(rt, line, file),
+        Line::Show { file, revision: _ }
+        | Line::Ls {
+            recursive: _,
+            file,
+            revision: _,
+        }
+        | Line::Refs { file }
+        | Line::Log {
+            options: _,
+            file,
+            ranges: _,
+        }
+        | Line::RevParse { file, revisions: _ } => print(rt, line, file),
+    }
+}
+
+/// Makes a store file where there is none.
+fn init(rt: &HostRuntime, line: &Line<'_>, file: &str) -> Result<(), CliFault> {
+    if has_store(rt, file)? {
+        return Err(CliFault::StoreExists);
+    }
+    match stream(rt, line, b"")? {
+        Some(text) => replace_store(rt, file, &text),
+        None => Ok(()),
+    }
+}
+
+/// Imports standard input into a store file, which a refused import leaves as it was.
+fn import(rt: &HostRuntime, line: &Line<'_>, file: &str) -> Result<(), CliFault> {
+    let store = read_store(rt, file)?;
+    let text = stream(rt, line, &store)?;
+    drop(store);
+    match text {
+        Some(text) => replace_store(rt, file, &text),
+        None => Ok(()),
+    }
+}
+
+/// Serves a command that reads standard input, and answers the next text of its store. What it prints goes out as it comes.
+fn stream(rt: &HostRuntime, line: &Line<'_>, store: &[u8]) -> Result<Option<Vec<u8>>, CliFault> {
     let source = FromRead::new(rt.stdin());
     let mut sink = IntoWrite::new(rt.stdout());
-    let outcome = serve(alloc, Sha1Namer, &line, b"", source, &mut sink);
-    if let Some(fault) = &outcome.fault {
-        eprintln!(rt; "{fault}")?;
+    let outcome = serve(rt.alloc(), Sha1Namer, line, store, source, &mut sink);
+    let Outcome {
+        status: _,
+        fault,
+        store: text,
+    } = outcome;
+    match fault {
+        Some(fault) => Err(fault),
+        None => Ok(text),
     }
-    Ok(ExitCode::from(outcome.status))
+}
+
+/// Serves a command that prints of a store, through a buffer.
+fn print(rt: &HostRuntime, line: &Line<'_>, file: &str) -> Result<(), CliFault> {
+    let store = read_store(rt, file)?;
+    let Ok(mut out) = BufWriter::new(rt.alloc(), rt.stdout()) else {
+        return Err(CliFault::OutOfMemory);
+    };
+    let outcome = {
+        let source = FromRead::new(rt.stdin());
+        let mut sink = IntoWrite::new(&mut out);
+        serve(rt.alloc(), Sha1Namer, line, &store, source, &mut sink)
+    };
+    let flushed = out.flush();
+    let outcome: Outcome<Global> = outcome;
+    match outcome.fault {
+        Some(fault) => Err(fault),
+        None => flushed.map_err(|_| CliFault::WriteFailed),
+    }
+}
+
+/// An argument that isn't text is a command line that isn't accepted.
+fn refuse_arguments(rt: &HostRuntime, error: io::Error) -> io::Result<ExitCode> {
+    if error.kind() == ErrorKind::InvalidData {
+        eprintln!(rt; "error: an argument isn't UTF-8")?;
+        return Ok(ExitCode::from(2));
+    }
+    eprintln!(rt; "{}", CliFault::OutOfMemory)?;
+    Ok(ExitCode::from(1))
 }
 
 /// Help goes to standard output, and why a command line isn't accepted to standard error.
-fn refuse(rt: &HostRuntime, fault: &LineFault) -> io::Result<ExitCode> {
+fn refuse_line(rt: &HostRuntime, fault: &LineFault) -> io::Result<ExitCode> {
     match fault {
         LineFault::OutOfMemory => {
             eprintln!(rt; "{fault}")?;

@@ -1,6 +1,14 @@
+pub mod ListedEntries
+pub mod SentTexts
+pub mod SentLines
+pub mod ReadWords
+pub mod RefusedWords
+pub mod ListedCommits
+pub mod ListedFiles
 pub mod Staged
 pub mod Progress
 pub mod Weaker
-pub mod ListedEntries
-pub mod SentTexts
 pub mod Trials
+pub mod Pieces
+pub mod StoredAnswers
+pub mod WordsRead

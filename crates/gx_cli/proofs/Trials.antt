@@ -15,7 +15,7 @@ use Rattle.gx_import.specs.declared.fault.ImportFault.{ImportFault}
 use Rattle.gx_cli.specs.Listings.{text_of_word}
 use Rattle.gx_cli.specs.Trying.{ImportsAlone, Shows, ShowsReplayed, StandsAlone, Tries, nothing}
 use Rattle.gx_cli.specs.declared.fault.CliFault.{CliFault}
-use Rattle.gx_cli.specs.declared.fault.CliFault.TheVariants.{Blobs, Import, OutOfMemory, WriteFailed}
+use Rattle.gx_cli.specs.declared.fault.CliFault.TheVariants.{Import, OutOfMemory, WriteFailed}
 use Rattle.gx_cli.specs.declared.fault.CliFault.TheVariants as cli
 use Rattle.gx_cli.proofs.SentTexts.{failed_after, took_both}
 
@@ -38,8 +38,7 @@ shown_after before given was mid now (Ok u) h k = (k.0, k.1, took_both was mid n
 shown_after before given was mid now (Err (cli.Revision number kind)) h k = (k.0, k.1, took_none was mid now before h k.2)
 shown_after before given was mid now (Err WriteFailed) h k = (k.0, k.1, failed_after was mid now before k.0 h k.2)
 shown_after before given was mid now (Err OutOfMemory) h k = took_none was mid now before h k
-shown_after before given was mid now (Err (Blobs fault)) h k = absurd k
-shown_after before given was mid now (Err (Import fault)) h k = absurd k
+shown_after before given was mid now (Err fault) h k = absurd k
 
 module _ (name : Kind → Bytes → Bytes) {N : Type 0} (repository : N × Records) (word : Bytes) (was mid now : Option Taken) where
   replay_shown : (commands : Commands) (outcome : Outcome) (answer : Result (Unit {0}) CliFault) → StandsAlone name {N = N} commands outcome was mid (Ok repository)
@@ -49,7 +48,7 @@ module _ (name : Kind → Bytes → Bytes) {N : Type 0} (repository : N × Recor
   replay_shown commands outcome (Err (cli.Revision number kind)) h k = (history_of repository.1, h.0, h.1, shown_after h.0 (text_of_word name (history_of repository.1) word) was mid now (Err (cli.Revision number kind)) h.2 k)
   replay_shown commands outcome (Err WriteFailed) h k = (history_of repository.1, h.0, h.1, shown_after h.0 (text_of_word name (history_of repository.1) word) was mid now (Err WriteFailed) h.2 k)
   replay_shown commands outcome (Err OutOfMemory) h k = (history_of repository.1, h.0, h.1, shown_after h.0 (text_of_word name (history_of repository.1) word) was mid now (Err OutOfMemory) h.2 k)
-  replay_shown commands outcome (Err (Blobs fault)) h k = absurd k
+  replay_shown commands outcome (Err fault) h k = absurd k
 
   -- the import was accepted, and then the word was shown
   pub tried : (coming : Option Coming) (answer : Result (Unit {0}) CliFault) → ImportsAlone name {N = N} coming was mid (Ok repository)

@@ -3,5 +3,10 @@ pub mod Steps
 pub mod Printing
 pub mod Listings
 pub mod Trying
+pub mod Stored
+pub mod FileLines
+pub mod Words
+pub mod Sending
+pub mod Answers
 pub mod Serving
 pub mod CommandLine

@@ -1,18 +1,32 @@
 -- How the commands end.
-use Rattle.std.specs.Prelude.{◌≡◌, ℕ, Option, Some, None, Result, Ok, Err}
+use Rattle.std.specs.Prelude.{◌≡◌, ◌⊎◌, ℕ, [], Option, Some, None, Result, Ok, Err}
 use Rattle.std.specs.Option.{option_map}
+use Rattle.std.specs.declared.vec.Vec.{Vec}
 use Rattle.gx_model.specs.declared.objects.Kind.{Kind}
 use Rattle.gx_model.specs.Texts.{Bytes}
+use Rattle.gx_model.specs.Histories.{Records}
+use Rattle.gx_model.specs.HistoryOf.{history_of}
+use Rattle.gx_model.specs.Sound.{IsSound}
+use Rattle.gx_model.specs.StoreText.{store_text}
+use Rattle.gx_model.specs.StoreReading.{Stored, store_of}
 use Rattle.gx_text.specs.Devices.{Coming, Taken}
 use Rattle.gx_stream.specs.Heard.{items_from}
+use Rattle.gx_import.specs.Imports.{Imports}
+use Rattle.gx_import.specs.declared.fault.ImportFault.{ImportFault}
+use Rattle.gx_import.specs.declared.report.Report.{Report}
+use Rattle.gx_file.specs.declared.fault.FileFault.{FileFault}
+use Rattle.gx_file.specs.declared.fault.FileFault.TheVariants as file
+use Rattle.gx_file.specs.Faults.{fault_of}
 use Rattle.gx_cli.specs.declared.blob_names.BlobsFault.{BlobsFault}
 use Rattle.gx_cli.specs.declared.command_line.Line.{Line}
 use Rattle.gx_cli.specs.declared.command_line.Line.TheVariants as line
 use Rattle.gx_cli.specs.declared.fault.CliFault.{CliFault}
-use Rattle.gx_cli.specs.declared.fault.CliFault.TheVariants.{Blobs}
+use Rattle.gx_cli.specs.declared.fault.CliFault.TheVariants.{Blobs, Import, OutOfMemory, Store}
 use Rattle.gx_cli.specs.declared.serving.Outcome.{Outcome}
+use Rattle.gx_cli.specs.Answers.{Prints}
 use Rattle.gx_cli.specs.Printing.{PrintsBlobs}
-use Rattle.gx_cli.specs.Trying.{Tries}
+use Rattle.gx_cli.specs.Stored.{Printed, list_text, log_text, names_text, of_stored, refs_text, show_text, texts_of}
+use Rattle.gx_cli.specs.Trying.{Tries, nothing}
 
 -- what `blobs` answers, with its fault among those of the commands
 abbrev pub blobs_answer : Result ℕ BlobsFault → Result ℕ CliFault
@@ -24,8 +38,46 @@ abbrev pub IsOutcome : {X A : Type 0} → Result X CliFault → Outcome A → Ty
 IsOutcome (Ok x) o = (o.status ≡ 0) × (o.fault ≡ None) × (o.store ≡ None)
 IsOutcome (Err f) o = (o.status ≡ 1) × (o.fault ≡ Some f) × (o.store ≡ None)
 
+-- a refusal
+abbrev pub IsRefused : {A : Type 0} → CliFault → Outcome A → Type 0
+IsRefused fault o = (o.status ≡ 1) × (o.fault ≡ Some fault) × (o.store ≡ None)
+
+-- the next store text is that of this repository, unless memory ran out
+abbrev pub IsWritten : {A : Type 0} → Records → Outcome A → Type 0
+IsWritten {A} repository o =
+    ((o.status ≡ 0) × (o.fault ≡ None) × ((text : Vec ℕ A) × (o.store ≡ Some text) × (text.items ≡ store_text repository)))
+    ⊎ IsRefused OutOfMemory o
+
+-- what a command prints of a store: nothing where it has no use for one, or makes one
+abbrev pub printed_by : (Kind → Bytes → Bytes) → Line → Records → Printed
+printed_by name (line.Show file word) r = show_text name (history_of r) word.now
+printed_by name (line.Ls recursive file word) r = list_text name recursive (history_of r) word.now
+printed_by name (line.Refs file) r = Ok (refs_text r)
+printed_by name (line.Log options file words) r = log_text name options (history_of r) (texts_of words.items)
+printed_by name (line.RevParse file words) r = names_text name (history_of r) (texts_of words.items)
+printed_by name _ r = Ok []
+
 module _ (name : Kind → Bytes → Bytes) {A : Type 0} where
+  -- after an import the next store text is that of the new repository, which is sound; a refused one gives none
+  abbrev pub IsImported : Records → Result Report ImportFault → Outcome A → Type 0
+  IsImported new (Ok report) o = IsSound name new × IsWritten new o
+  IsImported new (Err fault) o = IsRefused (Import fault) o
+
+  -- the import of a stream into the store of a text, which is read first
+  abbrev pub ImportsInto : Stored Records → Option Coming → Option Taken → Option Taken → Outcome A → Type 0
+  ImportsInto (Ok old) coming was now o =
+      (IsRefused (Store file.OutOfMemory) o × (now ≡ was))
+      ⊎ ((new : Records) × (answer : Result Report ImportFault) × Imports name old new coming was now answer × IsImported new answer o)
+  ImportsInto (Err f) coming was now o = (why : FileFault) × ((why ≡ file.OutOfMemory) ⊎ (f ≡ fault_of why)) × IsRefused (Store why) o × (now ≡ was)
+
+  -- what is printed of a store, and how the command ends
+  abbrev pub PrintsStored : Stored Records → (Records → Printed) → Option Taken → Option Taken → Outcome A → Type 0
+  PrintsStored stored given was now o = (answer : Result (Unit {0}) CliFault) × Prints (of_stored stored given) was now answer × IsOutcome answer o
+
   -- what a command does to the sink, and how it ends
-  abbrev pub Serves : Line → Option Coming → Option Taken → Option Taken → Outcome A → Type 0
-  Serves line.Blobs coming was now outcome = (answer : Result ℕ BlobsFault) × PrintsBlobs name (option_map items_from coming) was now answer × IsOutcome (blobs_answer answer) outcome
-  Serves (line.Try word) coming was now outcome = (answer : Result (Unit {0}) CliFault) × Tries name coming word.now was now answer × IsOutcome answer outcome
+  abbrev pub Serves : Line → Bytes → Option Coming → Option Taken → Option Taken → Outcome A → Type 0
+  Serves line.Blobs store coming was now o = (answer : Result ℕ BlobsFault) × PrintsBlobs name (option_map items_from coming) was now answer × IsOutcome (blobs_answer answer) o
+  Serves (line.Try word) store coming was now o = (answer : Result (Unit {0}) CliFault) × Tries name coming word.now was now answer × IsOutcome answer o
+  Serves (line.Init file) store coming was now o = IsWritten nothing o × (now ≡ was)
+  Serves (line.Import file) store coming was now o = ImportsInto (store_of name store) coming was now o
+  Serves printing store coming was now o = PrintsStored (store_of name store) (printed_by name printing) was now o

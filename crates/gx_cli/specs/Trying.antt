@@ -42,8 +42,7 @@ Shows before given was now (Ok _) = (text : Bytes) × (given ≡ Ok text) × Too
 Shows before given was now (Err (cli.Revision number kind)) = (number ≡ 1) × (given ≡ Err (fault_of kind)) × Took was now before
 Shows before given was now (Err WriteFailed) = (text : Bytes) × (given ≡ Ok text) × FailedWithin was now (before ++ text)
 Shows before given was now (Err OutOfMemory) = Took was now before
-Shows before given was now (Err (Blobs fault)) = ⊥
-Shows before given was now (Err (Import fault)) = ⊥
+Shows before given was now (Err fault) = ⊥
 
 -- the replay is accepted with this history, and this progress text
 abbrev pub Replayed : Outcome → History → Bytes → Type 0
@@ -54,9 +53,7 @@ abbrev pub LooksAs : {A : Type 0} → Given (Leaf Bytes) → Result (Mode × Vec
 LooksAs given (Ok file) = given ≡ Ok (seen_file file)
 LooksAs given (Err (cli.Revision number kind)) = (number ≡ 1) × (given ≡ Err (fault_of kind))
 LooksAs given (Err OutOfMemory) = ⊤
-LooksAs given (Err WriteFailed) = ⊥
-LooksAs given (Err (Blobs fault)) = ⊥
-LooksAs given (Err (Import fault)) = ⊥
+LooksAs given (Err fault) = ⊥
 
 module _ (name : Kind → Bytes → Bytes) where
   -- a refused import into an empty store, or one that was interrupted

@@ -235,7 +235,7 @@ fn print_one<N: Namer, W: Sink, A: Allocator + Copy>(
 }
 
 /// A name's digits, and a line feed.
-fn name_line(name: &Name) -> [u8; 41]
+pub(crate) fn name_line(name: &Name) -> [u8; 41]
     ensures { result ≡ name_line name.now.bytes }
 {
     let mut line = [b'\n'; 41];

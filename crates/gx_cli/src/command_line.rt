@@ -1,21 +1,70 @@
 //! The command line of `gx`, read by `clap`.
 
-ghost use Rattle.std.specs.Prelude.{◌≡◌, IfOk, Some, codes, map, false};
-ghost use Rattle.clap.specs.Words.{app_of, first_of, found_of, new_app, rows_of, rule_of, with_rule};
-ghost use Rattle.clap.specs.declared.builder.command.Command.TheViews.{out-Command as fields_of};
+ghost use Rattle.std.specs.Prelude.{◌≡◌, IfOk, Some, map};
+ghost use Rattle.clap.specs.Words.{all_of, first_of, found_of, kind_of, rows_of};
 ghost use Rattle.gx_cli.specs.CommandLine as say;
 
+mod arguments;
+mod commands;
+mod manual;
+
 use clap::error::ErrorKind;
-use clap::{Arg, ArgMatches, Command, Error};
+use clap::{ArgMatches, Error};
+use commands::command_line;
 use std::alloc::{AllocError, Global};
 use thiserror::Error as Fault;
 
-/// A command with its options and words.
+/// The options of `log`.
 #[derive(Clone, Copy, Debug, PartialEq, Eq)]
+pub struct LogOptions {
+    /// The last commit of the list comes first.
+    pub reverse: bool,
+    /// So many commits at most, counted before the list is reversed.
+    pub max_count: Option<u64>,
+    /// The names of a commit's parents stand behind its own.
+    pub parents: bool,
+}
+
+/// A command with its options and words.
+#[derive(Debug, Drop, PartialEq, Eq)]
 pub enum Line<'a> {
     Blobs,
     /// A stream is tried: the revision is shown once it was imported.
     Try(&'a str),
+    /// A new store is made.
+    Init {
+        file: &'a str,
+    },
+    /// A stream is imported into a store.
+    Import {
+        file: &'a str,
+    },
+    /// What a revision gives is shown.
+    Show {
+        file: &'a str,
+        revision: &'a str,
+    },
+    /// The entries of a revision's tree are listed, or all of its files.
+    Ls {
+        recursive: bool,
+        file: &'a str,
+        revision: &'a str,
+    },
+    /// The refs are listed.
+    Refs {
+        file: &'a str,
+    },
+    /// The commits of range words are listed.
+    Log {
+        options: LogOptions,
+        file: &'a str,
+        ranges: Vec<&'a str>,
+    },
+    /// The names of what revisions give are printed.
+    RevParse {
+        file: &'a str,
+        revisions: Vec<&'a str>,
+    },
 }
 
 /// Why there is no line: no memory, or the status to end with and the text to print, which are clap's.
@@ -50,78 +99,7 @@ pub fn read_line<'a>(alloc: Global, words: &'a [&'a str]) -> Result<Line<'a>, Li
     }
 }
 
-/// The command line of `gx`, as clap is told of it.
-fn command_line<'a>(alloc: Global) -> Result<Command<'a>, AllocError>
-    ensures app { IfOk result (λ c. app_of c ≡ say.gx) }
-{
-    let blobs = command(
-        alloc,
-        "blobs",
-        "Prints the name of each blob of the stream on standard input",
-    );
-    let gx = with_command(top(alloc), blobs)?;
-    with_command(gx, try_command(alloc)?)
-}
-
-fn try_command<'a>(alloc: Global) -> Result<Command<'a>, AllocError>
-    ensures app { IfOk result (λ c. app_of c ≡ say.try_command) }
-    ensures local { IfOk result (λ c. (fields_of c).has_globals ≡ false) }
-{
-    let command = command(
-        alloc,
-        "try",
-        "Imports the stream on standard input into an empty store, and shows a revision",
-    );
-    with_word(command, one_word(alloc, "rev", "The revision to show"))
-}
-
-fn top<'a>(alloc: Global) -> Command<'a>
-    ensures app { app_of result ≡ say.top }
-    ensures local { (fields_of result).has_globals ≡ false }
-{
-    command(
-        alloc,
-        "gx",
-        "The core of a Git repository, fed by git fast-import streams",
-    )
-    .no_binary_name(true)
-    .subcommand_required(true)
-}
-
-/// A command with what its help says at the top.
-fn command<'a>(alloc: Global, name: &'a str, about: &'a str) -> Command<'a>
-    ensures app { app_of result ≡ new_app name.entry.now }
-    ensures local { (fields_of result).has_globals ≡ false }
-{
-    Command::new(alloc, name).about(about)
-}
-
-/// A positional argument that isn't left out.
-fn one_word<'a>(alloc: Global, id: &'a str, help: &'a str) -> Arg<'a>
-    ensures rule { rule_of result ≡ say.one_word id.entry.now }
-    ensures local { result.global ≡ false }
-{
-    Arg::new(alloc, id).required(true).help(help)
-}
-
-fn with_word<'a>(command: Command<'a>, word: Arg<'a>) -> Result<Command<'a>, AllocError>
-    requires word { word.global ≡ false }
-    requires local { (fields_of command).has_globals ≡ false }
-    ensures app { IfOk result (λ c. app_of c ≡ with_rule (app_of command.entry) (rule_of word.entry)) }
-    ensures local { IfOk result (λ c. (fields_of c).has_globals ≡ false) }
-{
-    command.arg(word)
-}
-
-fn with_command<'a>(command: Command<'a>, sub: Command<'a>) -> Result<Command<'a>, AllocError>
-    requires sub { (fields_of sub).has_globals ≡ false }
-    requires local { (fields_of command).has_globals ≡ false }
-    ensures app { IfOk result (λ c. app_of c ≡ say.under (app_of command.entry) (app_of sub.entry)) }
-    ensures local { IfOk result (λ c. (fields_of c).has_globals ≡ false) }
-{
-    command.subcommand(sub)
-}
-
+/// The line that a command and what clap found for it give.
 #[tactic(auto, unfolding(crate::specs::CommandLine::Says))]
 fn line_of<'a>(
     alloc: Global,
@@ -133,7 +111,45 @@ fn line_of<'a>(
     match name {
         "blobs" => Ok(Line::Blobs),
         "try" => Ok(Line::Try(word_of(alloc, matches, "rev")?)),
+        "init" => Ok(Line::Init {
+            file: word_of(alloc, matches, "file")?,
+        }),
+        "import" => Ok(Line::Import {
+            file: word_of(alloc, matches, "file")?,
+        }),
+        "show" => Ok(Line::Show {
+            file: word_of(alloc, matches, "file")?,
+            revision: word_of(alloc, matches, "rev")?,
+        }),
+        "ls" => Ok(Line::Ls {
+            recursive: is_set(matches, "recursive"),
+            file: word_of(alloc, matches, "file")?,
+            revision: word_of(alloc, matches, "rev")?,
+        }),
+        "refs" => Ok(Line::Refs {
+            file: word_of(alloc, matches, "file")?,
+        }),
+        "log" => Ok(Line::Log {
+            options: log_options(matches),
+            file: word_of(alloc, matches, "file")?,
+            ranges: words_of(alloc, matches, "range")?,
+        }),
+        "rev-parse" => Ok(Line::RevParse {
+            file: word_of(alloc, matches, "file")?,
+            revisions: words_of(alloc, matches, "rev")?,
+        }),
         _ => Err(unknown(alloc)),
+    }
+}
+
+/// The options that clap found for `log`.
+fn log_options(matches: &ArgMatches<'_>) -> LogOptions
+    ensures { say.AreLogOptions (rows_of (found_of matches.now)) result }
+{
+    LogOptions {
+        reverse: is_set(matches, "reverse"),
+        max_count: number_of(matches, "max-count"),
+        parents: is_set(matches, "parents"),
     }
 }
 
@@ -147,6 +163,34 @@ fn word_of<'a>(alloc: Global, matches: &ArgMatches<'a>, id: &str) -> Result<&'a 
     }
 }
 
+/// The words of a positional argument that takes several, which clap makes sure of.
+fn words_of<'a>(
+    alloc: Global,
+    matches: &ArgMatches<'a>,
+    id: &str,
+) -> Result<Vec<&'a str>, LineFault>
+    ensures { IfOk result (λ words. all_of id.now (rows_of (found_of matches.now)) ≡ Some (map (λ s. s.now) words.items)) }
+{
+    match matches.get_strs(id) {
+        Some(words) => Ok(Vec::from_slice(alloc, words)?),
+        None => Err(unknown(alloc)),
+    }
+}
+
+/// Whether a flag is given.
+fn is_set(matches: &ArgMatches<'_>, id: &str) -> bool
+    ensures { say.IsFlag id.now (rows_of (found_of matches.now)) result }
+{
+    matches.get_flag(id)
+}
+
+/// The number of an option, which clap has checked.
+fn number_of(matches: &ArgMatches<'_>, id: &str) -> Option<u64>
+    ensures { say.IsNumber id.now (rows_of (found_of matches.now)) result }
+{
+    matches.get_one(id)
+}
+
 /// Clap took the words for a command that it wasn't told of, which it never does.
 fn unknown(alloc: Global) -> LineFault {
     LineFault::Status {
@@ -156,7 +200,9 @@ fn unknown(alloc: Global) -> LineFault {
 }
 
 /// What clap answered, as a fault.
-fn fault_of(alloc: Global, error: &Error) -> LineFault {
+fn fault_of(alloc: Global, error: &Error) -> LineFault
+    ensures { say.IsAnswer (kind_of error.now) result }
+{
     if matches!(error.kind(), ErrorKind::OutOfMemory) {
         return LineFault::OutOfMemory;
     }

@@ -1,8 +1,13 @@
 //! Why a command is refused.
 
+ghost use Rattle.std.specs.Prelude.{◌≡◌};
+ghost use Rattle.gx_cli.specs.declared.fault.CliFault.TheVariants.{OutOfMemory};
+
 use crate::BlobsFault;
+use gx_file::FileFault;
 use gx_import::ImportFault;
 use gx_rev::RevFault;
+use std::alloc::AllocFailed;
 use thiserror::Error;
 
 /// A refusal, which prints as its line on standard error.
@@ -15,10 +20,27 @@ pub enum CliFault {
     /// The number of the revision among the words, from 1, and why it is refused.
     #[error("gx: revision {number}: {kind}")]
     Revision { number: u64, kind: RevFault },
+    /// Why the store's text isn't read.
+    #[error("gx: store: {0}")]
+    Store(FileFault),
+    /// There is a store where a new one is to be made. The program answers it, which looks at files.
+    #[error("gx: store exists")]
+    StoreExists,
+    /// The store's file can't be read. The program answers it, too.
+    #[error("gx: read failed")]
+    ReadFailed,
     /// The sink didn't take all of the output.
     #[error("gx: write failed")]
     WriteFailed,
     /// A growth was refused.
     #[error("gx: out of memory")]
     OutOfMemory,
+}
+
+impl<T: Drop> From<AllocFailed<T>> for CliFault {
+    ghost from_gives = { λ _ fault. fault ≡ OutOfMemory };
+
+    fn from(_error: AllocFailed<T>) -> CliFault {
+        CliFault::OutOfMemory
+    }
 }

@@ -5,15 +5,22 @@
 mod blob_names;
 mod command_line;
 mod fault;
+mod importing;
 mod listing;
+mod log;
+mod ls;
+mod names;
+mod refs;
+mod sending;
 mod serving;
 mod showing;
 #[cfg(test)]
 mod tests;
 mod trying;
+mod words;
 
 pub use blob_names::{BlobsFault, BlobsKind, blobs};
-pub use command_line::{Line, LineFault, read_line};
+pub use command_line::{Line, LineFault, LogOptions, read_line};
 pub use fault::CliFault;
 pub use serving::{Outcome, serve};
 pub use trying::{import_alone, look_imported, try_revision};

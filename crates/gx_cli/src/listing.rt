@@ -4,9 +4,10 @@ ghost use Rattle.std.specs.Prelude.{◌≡◌, [], ◌∷◌, ◌++◌, Ok, IfOk
 ghost use Rattle.std.specs.List.{AllByRecursion, flat_map};
 ghost use Rattle.gx_model.specs.Paths.{path_of, printed};
 ghost use Rattle.gx_object.specs.Entries.{shown};
+ghost use Rattle.gx_cli.specs.FileLines.{line_head, named_line};
 ghost use Rattle.gx_cli.specs.Listings.{IsListed, entry_line, kind_word, mode_digits};
 
-use gx_object::{Entry, Mode, TreeEntries};
+use gx_object::{Entry, Mode, Name, TreeEntries};
 use gx_text::{TextFault, TreePath};
 use std::alloc::{AllocError, Allocator};
 
@@ -28,7 +29,7 @@ pub(crate) fn listing<A: Allocator + Copy>(
 }
 
 /// Appends an entry's line.
-fn put_line<A: Allocator + Copy>(
+pub(crate) fn put_line<A: Allocator + Copy>(
     alloc: A,
     out: &mut Vec<u8, A>,
     entry: &Entry<'_>,
@@ -36,14 +37,43 @@ fn put_line<A: Allocator + Copy>(
     requires { IsListed (shown entry.now) }
     ensures { OnOk result (out.new.items ≡ out.old.items ++ entry_line (shown entry.now)) }
 {
-    out.extend_from_slice(mode_digits(entry.mode))?;
-    out.push(b' ')?;
-    out.extend_from_slice(kind_word(entry.mode))?;
-    out.push(b' ')?;
-    out.extend_from_slice(entry.name.hex().as_slice())?;
-    out.push(b'\t')?;
+    put_head(out, entry.mode, &entry.name)?;
     put_component(alloc, out, entry.component)?;
     out.push(b'\n')?;
+    Ok(())
+}
+
+/// Appends a file's line, with its whole path.
+pub(crate) fn put_file<A: Allocator + Copy>(
+    out: &mut Vec<u8, A>,
+    path: &TreePath<A>,
+    mode: Mode,
+    name: &Name,
+) -> Result<(), AllocError>
+    ensures { OnOk result (out.new.items ≡ out.old.items ++ named_line (path.now, (mode, name.now.bytes))) }
+{
+    put_head(out, mode, name)?;
+    if path.write_quoted(out).is_err() {
+        return Err(AllocError);
+    }
+    out.push(b'\n')?;
+    Ok(())
+}
+
+/// Appends what stands before the path in a line: the mode, the kind, and the name's digits.
+fn put_head<A: Allocator + Copy>(
+    out: &mut Vec<u8, A>,
+    mode: Mode,
+    name: &Name,
+) -> Result<(), AllocError>
+    ensures { OnOk result (out.new.items ≡ out.old.items ++ line_head mode name.now.bytes) }
+{
+    out.extend_from_slice(mode_digits(mode))?;
+    out.push(b' ')?;
+    out.extend_from_slice(kind_word(mode))?;
+    out.push(b' ')?;
+    out.extend_from_slice(name.hex().as_slice())?;
+    out.push(b'\t')?;
     Ok(())
 }
 

@@ -5,8 +5,17 @@ ghost use Rattle.std.specs.Option.{option_map};
 ghost use Rattle.gx_stream.specs.Heard.{items_from};
 ghost use Rattle.gx_cli.specs.declared.blob_names.BlobsFault.{BlobsFault};
 ghost use Rattle.gx_cli.specs.Printing.{PrintsBlobs};
-ghost use Rattle.gx_cli.specs.Serving.{IsOutcome, Serves, blobs_answer};
+ghost use Rattle.gx_model.specs.StoreReading.{store_of};
+ghost use Rattle.gx_cli.specs.Answers.{Prints};
+ghost use Rattle.gx_cli.specs.Serving.{IsOutcome, IsRefused, Serves, blobs_answer, printed_by};
+ghost use Rattle.gx_cli.specs.Stored.{of_stored};
 
+use crate::importing::{import_into, init};
+use crate::log::log;
+use crate::ls::list;
+use crate::names::print_names;
+use crate::refs::print_refs;
+use crate::showing::show_stored;
 use crate::{CliFault, Line, blobs, try_revision};
 use gx_object::Namer;
 use gx_text::{Sink, Source};
@@ -23,7 +32,10 @@ pub struct Outcome<A: Allocator> {
 /// Runs a command. What it prints goes to the sink.
 ///
 /// `blobs` reads the source as [`blobs`] does, and `try` as [`try_revision`] does: the source is read before the revision.
-/// Both have no use for the store's bytes.
+/// Both, and `init`, have no use for the store's bytes. The other commands read the store's text first, then all words, and
+/// then evaluate each in its order. Only `init` and `import` answer a next store text, and only where they are accepted.
+///
+/// Cost: that of reading the store's text, where one is read; for `import` also that of the import and the next text.
 pub fn serve<N: Namer + Drop, R: Source + Drop, W: Sink, A: Allocator + Copy>(
     alloc: A,
     namer: N,
@@ -32,10 +44,9 @@ pub fn serve<N: Namer + Drop, R: Source + Drop, W: Sink, A: Allocator + Copy>(
     source: R,
     sink: &mut W,
 ) -> Outcome<A>
-    ensures { Serves (N.name_of namer) line.now (R.coming source) (W.taken sink.old) (W.taken sink.new) result }
+    ensures { Serves (N.name_of namer) line.now store.now (R.coming source) (W.taken sink.old) (W.taken sink.new) result }
 {
-    let _ = store;
-    match *line {
+    match line {
         Line::Blobs => outcome_of(blobs_alone(alloc, namer, source, sink)),
         Line::Try(revision) => outcome_of(try_revision(
             alloc,
@@ -44,6 +55,43 @@ pub fn serve<N: Namer + Drop, R: Source + Drop, W: Sink, A: Allocator + Copy>(
             source,
             sink,
         )),
+        Line::Init { file: _ } => init(alloc, namer),
+        Line::Import { file: _ } => import_into(alloc, namer, store, source, sink),
+        _ => outcome_of(print_stored(alloc, namer, line, store, sink)),
+    }
+}
+
+/// Prints what a command has to print of a store, which is nothing for those that have no use for one or make one.
+fn print_stored<N: Namer + Drop, W: Sink, A: Allocator + Copy>(
+    alloc: A,
+    namer: N,
+    line: &Line<'_>,
+    store: &[u8],
+    sink: &mut W,
+) -> Result<(), CliFault>
+    ensures { Prints (of_stored (store_of (N.name_of namer) store.now) (printed_by (N.name_of namer) line.now)) (W.taken sink.old) (W.taken sink.new) result }
+{
+    let repo = match gx_file::read(alloc, namer, store) {
+        Ok(repo) => repo,
+        Err(fault) => return Err(CliFault::Store(fault)),
+    };
+    match line {
+        Line::Show { file: _, revision } => show_stored(alloc, &repo, revision.as_bytes(), sink),
+        Line::Ls {
+            recursive,
+            file: _,
+            revision,
+        } => list(alloc, &repo, *recursive, revision.as_bytes(), sink),
+        Line::Refs { file: _ } => print_refs(&repo, sink),
+        Line::Log {
+            options,
+            file: _,
+            ranges,
+        } => log(alloc, &repo, *options, ranges.as_slice(), sink),
+        Line::RevParse { file: _, revisions } => {
+            print_names(alloc, &repo, revisions.as_slice(), sink)
+        }
+        Line::Blobs | Line::Try(_) | Line::Init { file: _ } | Line::Import { file: _ } => Ok(()),
     }
 }
 
@@ -74,10 +122,17 @@ fn outcome_of<T: Drop, A: Allocator>(answer: Result<T, CliFault>) -> Outcome<A>
             fault: None,
             store: None,
         },
-        Err(fault) => Outcome {
-            status: 1,
-            fault: Some(fault),
-            store: None,
-        },
+        Err(fault) => refused(fault),
+    }
+}
+
+/// How a refused command ends.
+pub(crate) fn refused<A: Allocator>(fault: CliFault) -> Outcome<A>
+    ensures { IsRefused fault result }
+{
+    Outcome {
+        status: 1,
+        fault: Some(fault),
+        store: None,
     }
 }

@@ -12,6 +12,8 @@ ghost use Rattle.gx_rev.specs.declared.shown.Shown.TheVariants.{Object};
 ghost use Rattle.gx_rev.specs.Objects.{IsHeld, IsHeldAs, files_at, value_at};
 ghost use Rattle.gx_rev.specs.RevFaults.{fault_of};
 ghost use Rattle.gx_cli.specs.Listings.{shown_text, text_of_word, tree_lines, value_text};
+ghost use Rattle.gx_cli.specs.Answers.{Prints};
+ghost use Rattle.gx_cli.specs.Stored.{show_text};
 ghost use Rattle.gx_cli.specs.Trying.{Shows};
 
 use crate::CliFault;
@@ -21,6 +23,18 @@ use gx_repo::Repo;
 use gx_rev::{RevFault, Revision, Shown};
 use gx_text::{Sink, send};
 use std::alloc::{AllocError, Allocator};
+
+/// Shows a word as a revision of a store.
+pub(crate) fn show_stored<N: Namer, A: Allocator + Copy, W: Sink>(
+    alloc: A,
+    repo: &Repo<N, A>,
+    word: &[u8],
+    sink: &mut W,
+) -> Result<(), CliFault>
+    ensures { Prints (show_text (N.name_of repo.now.0) (history_of repo.now.1) word.now) (W.taken sink.old) (W.taken sink.new) result }
+{
+    show(alloc, repo, word, sink)
+}
 
 /// Shows a word as a revision: a blob's bytes, a submodule's digits, the body of a commit or a tag, a tree's entries.
 ///
@@ -91,7 +105,8 @@ fn print_object<N: Namer, A: Allocator + Copy, W: Sink>(
     }
 }
 
-fn print<W: Sink>(sink: &mut W, text: &[u8]) -> Result<(), CliFault>
+/// Prints a text.
+pub(crate) fn print<W: Sink>(sink: &mut W, text: &[u8]) -> Result<(), CliFault>
     ensures { Shows [] (Ok text.now) (W.taken sink.old) (W.taken sink.new) result }
 {
     match send(sink, text) {

@@ -7,6 +7,8 @@ use gx_text::{Bytes, Held};
 use std::alloc::{AllocError, Allocator};
 use std::test::Fail;
 
+mod lines;
+mod stored;
 mod trying;
 
 const STREAM: &[u8] =
@@ -209,44 +211,6 @@ fn each_refused_growth_is_out_of_memory(rt: HostRuntime) -> Result<(), Fail> {
         refused = refused.saturating_add(1);
     }
     assert!(rt; false, "a run succeeds");
-    Ok(())
-}
-
-#[test]
-fn words_give_the_line_or_a_status(rt: HostRuntime) -> Result<(), Fail> {
-    let rows: [(&[&str], Option<u8>); 9] = [
-        (&["blobs"], None),
-        (&["try"], Some(2)),
-        (&["try", "main", "other"], Some(2)),
-        (&["try", "--help"], Some(0)),
-        (&["--help"], Some(0)),
-        (&["blobs", "--help"], Some(0)),
-        (&[], Some(2)),
-        (&["blob"], Some(2)),
-        (&["blobs", "x"], Some(2)),
-    ];
-    for (words, want) in rows {
-        let status = match read_line(rt.alloc(), words) {
-            Ok(Line::Blobs) => None,
-            Ok(Line::Try(_)) => Some(3),
-            Err(LineFault::Status { status, text }) => {
-                assert!(rt; !text.is_empty());
-                Some(status)
-            }
-            Err(LineFault::OutOfMemory) => Some(1),
-        };
-        assert_eq!(rt; status, want);
-    }
-    Ok(())
-}
-
-#[test]
-fn revision_of_a_trial_is_a_word(rt: HostRuntime) -> Result<(), Fail> {
-    let words = ["try", "main~2:a b"];
-    match read_line(rt.alloc(), words.as_slice()) {
-        Ok(line) => assert_eq!(rt; line, Line::Try("main~2:a b")),
-        Err(_) => assert!(rt; false, "the words are a line"),
-    }
     Ok(())
 }
 

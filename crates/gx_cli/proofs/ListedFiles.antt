@@ -1,0 +1,33 @@
+-- The files of a held tree: their names among the records, and their lines.
+use Rattle.std.proofs.Common.{◌≡◌, refl, sym, ap, subst, ◌∙◌, [], ◌∷◌, ◌++◌}
+use Rattle.std.specs.Prelude.{IsTrue}
+use Rattle.std.specs.List.{flat_map}
+use Rattle.gx_model.specs.declared.objects.Kind.{Kind}
+use Rattle.gx_model.specs.declared.objects.Kind.TheVariants as kind
+use Rattle.gx_model.specs.Texts.{Bytes}
+use Rattle.gx_model.specs.Files.{FileMap}
+use Rattle.gx_model.specs.Objects.{IsNamer}
+use Rattle.gx_model.specs.Records.{name_of, named_map}
+use Rattle.gx_model.specs.Histories.{Records}
+use Rattle.gx_model.specs.HistoryOf.{files_of_tree, value_of_name}
+use Rattle.gx_model.specs.RecordFaults.{is_held}
+use Rattle.gx_model.specs.Sound.{IsSound}
+use Rattle.gx_tree.specs.HeldTrees.{IsHeldTree}
+use Rattle.gx_rev.proofs.HeldValues.{held_is, kind_held, tree_stands}
+use Rattle.gx_import.proofs.NamedMaps.{tree_is_held}
+use Rattle.gx_cli.specs.FileLines.{named_line}
+use Rattle.gx_cli.specs.Stored.{file_line}
+
+-- a held tree is that of its file map's names
+pub held_tree : (name : Kind → Bytes → Bytes) (namer : IsNamer name) (r : Records) (sound : IsSound name r) (n : Bytes) → IsTrue (is_held r.records kind.Tree n)
+    → IsHeldTree name r.records n (named_map name (files_of_tree (value_of_name r.records n)))
+held_tree name namer r sound n h =
+    let f = files_of_tree (value_of_name r.records n) in
+    let t = tree_stands name namer r sound n h in
+    let called = sym (ap (name_of name) t.0) ∙ (held_is name namer r sound n (kind_held name namer r sound kind.Tree n h).0).named in
+    subst (λ m. IsHeldTree name r.records m (named_map name f)) called (tree_is_held name namer r sound f t.1)
+
+-- the lines of a map of names are those of its files
+pub named_lines : (name : Kind → Bytes → Bytes) (f : FileMap Bytes) → flat_map named_line (named_map name f) ≡ flat_map (file_line name) f
+named_lines name [] = refl
+named_lines name (e ∷ es) = ap (λ x. file_line name e ++ x) (named_lines name es)

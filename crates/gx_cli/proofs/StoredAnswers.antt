@@ -1,0 +1,76 @@
+-- What commands answer once a store's text was read, or wasn't.
+use Rattle.std.proofs.Common.{◌≡◌, refl, sym, ap, subst, ◌⊎◌, inl, inr, Bor, [], Option, Result, Ok, Err}
+use Rattle.gx_model.specs.declared.objects.Kind.{Kind}
+use Rattle.gx_model.specs.Texts.{Bytes}
+use Rattle.gx_model.specs.Faults.{Given}
+use Rattle.gx_model.specs.Histories.{Records}
+use Rattle.gx_model.specs.StoreReading.{Stored, store_of}
+use Rattle.gx_text.specs.Devices.{Taken}
+use Rattle.gx_file.specs.Faults.{IsFaultOf, fault_of}
+use Rattle.gx_file.specs.declared.fault.FileFault.{FileFault}
+use Rattle.gx_file.specs.declared.fault.FileFault.TheVariants as file
+use Rattle.gx_rev.specs.RevFaults as rev
+use Rattle.gx_cli.specs.Answers.{IsFrontOf, Prints}
+use Rattle.gx_cli.specs.Serving.{IsWritten, printed_by}
+use Rattle.gx_cli.specs.Stored.{Printed, of_store, of_stored, of_word, only_word}
+use Rattle.gx_cli.specs.Trying.{Shows, nothing}
+use Rattle.gx_cli.specs.declared.command_line.Line.{Line}
+use Rattle.gx_cli.specs.declared.command_line.Line.TheVariants as line
+use Rattle.gx_cli.specs.declared.fault.CliFault.{CliFault}
+use Rattle.gx_cli.specs.declared.fault.CliFault.TheVariants.{OutOfMemory, Revision, Store, WriteFailed}
+use Rattle.gx_cli.specs.declared.serving.Outcome.{Outcome}
+use Rattle.gx_cli.proofs.SentTexts.{took_nothing}
+
+-- nothing is a front of whatever is printed
+pub no_front : (given : Printed) → IsFrontOf given []
+no_front (Ok text) = (text, refl)
+no_front (Err refusal) = refl
+
+-- what the only word shows is what is printed
+pub shows_printed : (given : Given Bytes) (was now : Option Taken) (answer : Result (Unit {0}) CliFault) → Shows [] given was now answer → Prints (only_word given) was now answer
+shows_printed given was now (Ok u) h = (h.0, ap only_word h.1, h.2)
+shows_printed given was now (Err (Revision number kind)) h = (of_word 1 (rev.fault_of kind), ap only_word h.1, (h.0, refl), h.2)
+shows_printed given was now (Err WriteFailed) h = (h.0, ap only_word h.1, h.2)
+shows_printed given was now (Err OutOfMemory) h = ([], no_front (only_word given), h)
+shows_printed given was now (Err fault) h = absurd h
+
+-- nothing is printed of a store whose text isn't read
+pub unread_printed : (stored : Stored Records) (given : Records → Printed) (was : Option Taken) (why : FileFault) → IsFaultOf (fault_of why) stored → Prints (of_stored stored given) was was (Err (Store why))
+unread_printed stored given was file.OutOfMemory h = took_nothing was
+unread_printed stored given was why h = (of_store (fault_of why), ap (λ s. of_stored s given) h, refl, took_nothing was)
+
+-- what is printed of a repository is printed of the store that it was read from
+read_printed : {N : Type 0} (name_of : N → Kind → Bytes → Bytes) (namer : N) (repository : N × Records) (stored : (Kind → Bytes → Bytes) → Stored Records) (given : (Kind → Bytes → Bytes) → Records → Printed) (was now : Option Taken) (answer : Result (Unit {0}) CliFault)
+    → repository.0 ≡ namer → stored (name_of namer) ≡ Ok repository.1 → Prints (given (name_of repository.0) repository.1) was now answer → Prints (of_stored (stored (name_of namer)) (given (name_of namer))) was now answer
+read_printed name_of namer repository stored given was now answer same read h =
+    subst (λ s. Prints (of_stored s (given (name_of namer))) was now answer) (sym read) (subst (λ n. Prints (given (name_of n) repository.1) was now answer) same h)
+
+-- what a line prints of the store that was read
+pub line_printed : {N : Type 0} (name_of : N → Kind → Bytes → Bytes) (namer : N) (repository : N × Records) (store : Bytes) (given shown : Line) (was now : Option Taken) (answer : Result (Unit {0}) CliFault)
+    → repository.0 ≡ namer → store_of (name_of namer) store ≡ Ok repository.1 → given ≡ shown → Prints (printed_by (name_of repository.0) shown repository.1) was now answer → Prints (of_stored (store_of (name_of namer) store) (printed_by (name_of namer) given)) was now answer
+line_printed name_of namer repository store given shown was now answer same read is h =
+    read_printed name_of namer repository (λ name. store_of name store) (λ name. printed_by name given) was now answer same read (subst (λ l. Prints (printed_by (name_of repository.0) l repository.1) was now answer) (sym is) h)
+
+-- a line that has no use for a store, or makes one
+abbrev pub IsSilent : Line → Type 0
+IsSilent given =
+    (given ≡ line.Blobs)
+    ⊎ (((word : Bor Bytes) × (given ≡ line.Try word)) ⊎ (((file : Bor Bytes) × (given ≡ line.Init file)) ⊎ ((file : Bor Bytes) × (given ≡ line.Import file))))
+
+-- it prints nothing of any repository
+silent : (name : Kind → Bytes → Bytes) (given : Line) (repository : Records) → IsSilent given → Ok [] ≡ printed_by name given repository
+silent name given repository (inl e) = ap (λ l. printed_by name l repository) (sym e)
+silent name given repository (inr (inl h)) = ap (λ l. printed_by name l repository) (sym h.1)
+silent name given repository (inr (inr (inl h))) = ap (λ l. printed_by name l repository) (sym h.1)
+silent name given repository (inr (inr (inr h))) = ap (λ l. printed_by name l repository) (sym h.1)
+
+-- nothing is printed then
+pub line_silent : {N : Type 0} (name_of : N → Kind → Bytes → Bytes) (namer : N) (repository : N × Records) (store : Bytes) (given : Line) (was : Option Taken)
+    → repository.0 ≡ namer → store_of (name_of namer) store ≡ Ok repository.1 → IsSilent given → Prints (of_stored (store_of (name_of namer) store) (printed_by (name_of namer) given)) was was (Ok tt)
+line_silent name_of namer repository store given was same read is =
+    let printed : Prints (Ok []) was was (Ok tt) = ([], refl, took_nothing was) in
+    line_printed name_of namer repository store given given was was (Ok tt) same read refl (subst (λ text. Prints text was was (Ok tt)) (silent (name_of repository.0) given repository.1 is) printed)
+
+-- what is written of a new repository
+pub written_new : {N A : Type 0} (repository : N × Records) (namer : N) (outcome : Outcome A) → repository ≡ (namer, nothing) → IsWritten repository.1 outcome → IsWritten nothing outcome
+written_new {N} repository namer outcome same h = subst (λ (r : N × Records). IsWritten r.1 outcome) same h

@@ -1,0 +1,32 @@
+use Rattle.std.proofs.Common.{[], ◌+◌, drop, map, subst}
+use Rattle.std.specs.List.{flat_map}
+use Rattle.std.proofs.lemmas.Result.{err_from_is_err_and}
+use Rattle.gx_rev.specs.Objects.{commit_at}
+use Rattle.gx_cli.specs.Stored.{log_line}
+use Rattle.gx_cli.proofs.SentLines.{IsSent, cut_short, lines_at, more_sent}
+use Rattle.gx_cli.proofs.log.print_commits.Goals as goal
+
+pub returns-in_err-print_commit : goal.returns-in_err-print_commit
+returns-in_err-print_commit g c =
+    let p = err_from_is_err_and c.from_residual.result c.from_residual.ensures.1 in
+    let at = commit_at c.args.repo.now.1 in
+    let line = log_line (g.N.Namer.name_of c.args.repo.now.0) c.args.parents in
+    let names = c.args.names.now in
+    let i = c.loop-name.name-index in
+    let was = g.W.Sink.taken c.args.sink.now in
+    let mid = g.W.Sink.taken c.loop-name.sink in
+    let whole = flat_map line (map at names) in
+    let sent = subst (IsSent was mid whole) (lines_at at line names i (record { bytes = [] }) c.loop-name-test.true) c.loop-name.invariant in
+    rw (p.1, p.2) (cut_short was mid (g.W.Sink.taken c.print_commit.new.sink) whole _ (flat_map line (map at (drop (i + 1) names))) c.in_err-print_commit.field-0.0 sent c.in_err-print_commit.ensures)
+
+pub loop-name-preserved : goal.loop-name-preserved
+loop-name-preserved g c =
+    let at = commit_at c.args.repo.now.1 in
+    let line = log_line (g.N.Namer.name_of c.args.repo.now.0) c.args.parents in
+    let names = c.args.names.now in
+    let i = c.loop-name.name-index in
+    let was = g.W.Sink.taken c.args.sink.now in
+    let mid = g.W.Sink.taken c.loop-name.sink in
+    let whole = flat_map line (map at names) in
+    let sent = subst (IsSent was mid whole) (lines_at at line names i (record { bytes = [] }) c.loop-name-test.true) c.loop-name.invariant in
+    more_sent was mid (g.W.Sink.taken c.print_commit.new.sink) whole _ (flat_map line (map at (drop (i + 1) names))) sent c.in_ok-print_commit.ensures

@@ -1,0 +1,61 @@
+-- How a command's answer goes with what it has to print.
+use Rattle.std.specs.Prelude.{◌≡◌, ℕ, ◌++◌, [], Option, Result, Ok, Err, ⊤}
+use Rattle.gx_model.specs.Texts.{Bytes}
+use Rattle.gx_model.specs.Ranges.{WordFault}
+use Rattle.gx_text.specs.Devices.{Taken}
+use Rattle.gx_file.specs.Faults as file
+use Rattle.gx_file.specs.declared.fault.FileFault.TheVariants as file_kind
+use Rattle.gx_rev.specs.RevFaults as rev
+use Rattle.gx_rev.specs.declared.fault.RevFault.{RevFault}
+use Rattle.gx_rev.specs.declared.fault.RevFault.TheVariants as rev_kind
+use Rattle.gx_rev.specs.declared.shown.Shown.{Shown}
+use Rattle.gx_rev.specs.declared.shown.Shown.TheVariants.{Object, Submodule}
+use Rattle.gx_import.specs.Applying.{FailedWithin, Took}
+use Rattle.gx_cli.specs.Printing.{name_line}
+use Rattle.gx_cli.specs.Stored.{Printed, Refusal, of_store, of_word}
+use Rattle.gx_cli.specs.declared.fault.CliFault.{CliFault}
+use Rattle.gx_cli.specs.declared.fault.CliFault.TheVariants.{OutOfMemory, Revision, Store, WriteFailed}
+
+-- a front of the text, or nothing
+abbrev pub IsFrontOf : Printed → Bytes → Type 0
+IsFrontOf (Ok text) front = (rest : Bytes) × (text ≡ front ++ rest)
+IsFrontOf (Err refusal) front = front ≡ []
+
+-- a refusal as it is answered
+abbrev pub IsRefusal : Refusal → CliFault → Type 0
+IsRefusal (of_store f) (Store why) = f ≡ file.fault_of why
+IsRefusal (of_word n f) (Revision number why) = (number ≡ n) × (f ≡ rev.fault_of why)
+IsRefusal refusal fault = ⊥
+
+-- The text went out, or the refusal is answered and nothing went out. Where the sink failed or memory ran out, a front of the
+-- text went out.
+abbrev pub Prints : Printed → Option Taken → Option Taken → Result (Unit {0}) CliFault → Type 0
+Prints given was now (Ok done) = (text : Bytes) × (given ≡ Ok text) × Took was now text
+Prints given was now (Err WriteFailed) = (text : Bytes) × (given ≡ Ok text) × FailedWithin was now text
+Prints given was now (Err OutOfMemory) = (front : Bytes) × IsFrontOf given front × Took was now front
+Prints given was now (Err (Store file_kind.OutOfMemory)) = Took was now []
+Prints given was now (Err fault) = (refusal : Refusal) × (given ≡ Err refusal) × IsRefusal refusal fault × Took was now []
+
+-- A text went out. Where the sink failed or memory ran out, a front of it did.
+abbrev pub Puts : Bytes → Option Taken → Option Taken → Result (Unit {0}) CliFault → Type 0
+Puts text was now (Ok done) = Took was now text
+Puts text was now (Err WriteFailed) = FailedWithin was now text
+Puts text was now (Err OutOfMemory) = (front : Bytes) × IsFrontOf (Ok text) front × Took was now front
+Puts text was now (Err fault) = ⊥
+
+-- the fault of a word; want of memory is of none
+abbrev pub word_fault : ℕ → RevFault → CliFault
+word_fault number rev_kind.OutOfMemory = OutOfMemory
+word_fault number kind = Revision number kind
+
+-- what several words give, seen so, or the first that is refused, unless memory ran out
+abbrev pub GivesWords : {X Y : Type 0} → (X → Y) → Result X CliFault → Result Y WordFault → Type 0
+GivesWords view (Ok x) given = given ≡ Ok (view x)
+GivesWords view (Err (Revision number kind)) given = given ≡ Err (record { word = number; fault = rev.fault_of kind })
+GivesWords view (Err OutOfMemory) given = ⊤
+GivesWords view (Err fault) given = ⊥
+
+-- the line of an object's name, or of a submodule's digits
+abbrev pub shown_line : Shown → Bytes
+shown_line (Object kind called) = name_line called.bytes
+shown_line (Submodule called) = name_line called.bytes

@@ -1,0 +1,16 @@
+-- The lines of files by the names of their contents. Source: git-ls-tree(1), "OUTPUT FORMAT".
+use Rattle.std.specs.Prelude.{[], ◌∷◌, ◌++◌}
+use Rattle.gx_model.specs.declared.objects.Mode.{Mode}
+use Rattle.gx_model.specs.Texts.{Bytes}
+use Rattle.gx_model.specs.Paths.{Path, path_text}
+use Rattle.gx_model.specs.Files.{Leaf}
+use Rattle.gx_model.specs.Objects.{hex}
+use Rattle.gx_cli.specs.Listings.{entry_line, kind_word, mode_digits}
+
+-- what stands before the path in a line
+abbrev pub line_head : Mode → Bytes → Bytes
+line_head mode name = mode_digits mode ++ 32 ∷ kind_word mode ++ 32 ∷ hex name ++ 9 ∷ []
+
+-- the line of a file of a map of names
+abbrev pub named_line : Path × Leaf Bytes → Bytes
+named_line file = entry_line (record { mode = file.1.0; component = path_text file.0; name = file.1.1 })

@@ -1,0 +1,120 @@
+-- What a command prints of a store, or why it is refused.
+-- Source: git-cat-file(1), git-ls-tree(1), git-show-ref(1), git-rev-list(1) and git-rev-parse(1).
+use Rattle.std.specs.Prelude.{ℕ, Bool, if◌then◌else◌, List, [], ◌∷◌, ◌++◌, map, take, reverse, Option, Some, None, Result, Ok, Err}
+use Rattle.std.specs.List.{flat_map}
+use Rattle.std.specs.Borrow.{Bor}
+use Rattle.gx_model.specs.declared.objects.Kind.{Kind}
+use Rattle.gx_model.specs.declared.faults.Fault.{Fault}
+use Rattle.gx_model.specs.declared.store_faults.FileFault.{FileFault}
+use Rattle.gx_model.specs.Texts.{Bytes}
+use Rattle.gx_model.specs.Faults.{Given, and_then}
+use Rattle.gx_model.specs.Paths.{Path, path_text}
+use Rattle.gx_model.specs.Files.{FileMap, Leaf}
+use Rattle.gx_model.specs.Values.{Commit, commit_value, parents_of}
+use Rattle.gx_model.specs.Objects.{hex}
+use Rattle.gx_model.specs.Records.{content_name, name_of, names_of}
+use Rattle.gx_model.specs.Histories.{History, Records}
+use Rattle.gx_model.specs.Revisions.{RangeWord, range_of, revision_of}
+use Rattle.gx_model.specs.Denotation.{Shown, denoted, files_in, object, submodule, value_denoted}
+use Rattle.gx_model.specs.Ranges.{WordFault, each_word, listing, words_denoted}
+use Rattle.gx_model.specs.StoreText.{stored_ref}
+use Rattle.gx_model.specs.StoreReading.{Stored}
+use Rattle.gx_cli.specs.Listings.{entry_line, text_of_word, tree_lines}
+use Rattle.gx_cli.specs.declared.command_line.LogOptions.{LogOptions}
+
+-- ---- refusals
+
+-- the store's text isn't read, or the word with this number, from 1, isn't one or gives nothing
+pub data Refusal : Type 0 where
+  of_store : FileFault → Refusal
+  of_word : ℕ → Fault → Refusal
+
+-- a text to print, or a refusal
+abbrev pub Printed : Type 0
+Printed = Result Bytes Refusal
+
+-- what the only word gives
+abbrev pub only_word : {A : Type 0} → Given A → Result A Refusal
+only_word (Ok x) = Ok x
+only_word (Err f) = Err (of_word 1 f)
+
+-- what several words give
+abbrev pub all_words : {A : Type 0} → Result A WordFault → Result A Refusal
+all_words (Ok x) = Ok x
+all_words (Err f) = Err (of_word f.word f.fault)
+
+-- what is printed of a store, whose text is read first
+abbrev pub of_stored : Stored Records → (Records → Printed) → Printed
+of_stored (Ok repository) given = given repository
+of_stored (Err f) given = Err (of_store f)
+
+-- words without where they lie in memory
+abbrev pub texts_of : List (Bor Bytes) → List Bytes
+texts_of = map (λ word. word.now)
+
+-- ---- refs
+
+-- each ref's object and name
+abbrev pub refs_text : Records → Bytes
+refs_text repository = flat_map stored_ref repository.refs
+
+module _ (name : Kind → Bytes → Bytes) where
+  -- ---- one revision
+
+  -- what a revision shows
+  abbrev pub show_text : History → Bytes → Printed
+  show_text h word = only_word (text_of_word name h word)
+
+  -- the files of a revision's tree
+  abbrev pub files_of_word : History → Bytes → Given (FileMap Bytes)
+  files_of_word h word = and_then (revision_of word) (λ r. and_then (value_denoted name h r) files_in)
+
+  -- a file's line: its mode, its kind, the digits of its content's name, and behind a TAB its whole path as it is printed
+  abbrev pub file_line : Path × Leaf Bytes → Bytes
+  file_line file = entry_line (record { mode = file.1.0; component = path_text file.0; name = content_name name file.1.0 file.1.1 })
+
+  -- the lines of a file map: its first components, or all of its files
+  abbrev pub list_lines : Bool → FileMap Bytes → Bytes
+  list_lines recursive files = if recursive then flat_map file_line files else tree_lines name files
+
+  -- the lines of a revision's tree
+  abbrev pub list_text : Bool → History → Bytes → Printed
+  list_text recursive h word = only_word (and_then (files_of_word h word) (λ files. Ok (list_lines recursive files)))
+
+  -- ---- several revisions
+
+  -- an object's name, or a submodule's digits, in a line
+  abbrev pub name_line : Shown → Bytes
+  name_line (object value) = hex (name_of name value) ++ 10 ∷ []
+  name_line (submodule digits) = digits ++ 10 ∷ []
+
+  -- a line for each revision: all are read, and then all are evaluated
+  abbrev pub names_text : History → List Bytes → Printed
+  names_text h words = all_words (and_then (each_word revision_of words) (λ rs. and_then (each_word (denoted name h) rs) (λ shown. Ok (flat_map name_line shown))))
+
+  -- ---- ranges
+
+  -- the commits that range words list
+  abbrev pub commits_listed : History → List RangeWord → Result (List Commit) WordFault
+  commits_listed h ws = and_then (words_denoted name h ws) (λ xs. Ok (listing h xs))
+
+  -- so many of these at most
+  abbrev pub limited : {A : Type 0} → Option ℕ → List A → List A
+  limited None xs = xs
+  limited (Some n) xs = take n xs
+
+  -- these, or the last one first
+  abbrev pub turned : {A : Type 0} → Bool → List A → List A
+  turned backwards xs = if backwards then reverse xs else xs
+
+  -- a commit's line: its name, and where they are asked for its parents' names, each behind a space
+  abbrev pub log_line : Bool → Commit → Bytes
+  log_line parents made = hex (name_of name (commit_value made)) ++ (if parents then flat_map (λ called. 32 ∷ hex called) (names_of name (parents_of made)) else []) ++ 10 ∷ []
+
+  -- the lines of the commits that are listed; the count limits before the reversal
+  abbrev pub log_lines : LogOptions → List Commit → Bytes
+  log_lines options commits = flat_map (log_line options.parents) (turned options.reverse (limited options.max_count commits))
+
+  -- the lines of what range words list: all are read, and then all are evaluated
+  abbrev pub log_text : LogOptions → History → List Bytes → Printed
+  log_text options h words = all_words (and_then (each_word range_of words) (λ ws. and_then (commits_listed h ws) (λ commits. Ok (log_lines options commits))))

@@ -1,0 +1,243 @@
+//! The manual of `gx`: what the help of each command says. Each page fits a terminal of 80 columns.
+
+/// The page of a command.
+#[derive(Clone, Copy)]
+pub(super) struct Page {
+    /// One line, as the list of commands has it.
+    pub(super) about: &'static str,
+    /// What the command does.
+    pub(super) description: &'static str,
+    /// What it prints, and what it refuses.
+    pub(super) details: &'static str,
+}
+
+/// The page of `gx` itself, with what its commands have in common.
+pub(super) const GX: Page = Page {
+    about: "The core of a Git repository, fed by git fast-import streams",
+    description: "\
+The core of a Git repository, fed by git fast-import streams.
+
+A repository is kept in one file, its store: blobs, trees, commits and
+annotated tags, as Git's own object bytes and uncompressed, and the refs.
+Streams have the form of git-fast-import(1).",
+    details: "\
+Operands:
+  FILE   the store.
+  REV    a revision, as in gitrevisions(7): a ref name, @ for HEAD, or an
+         object's name, of which the first 4 digits are enough where no other
+         object's begins so. Behind it, in any number:
+           ^, ^N               the first parent, the Nth; ^0 is the commit
+           ~, ~N               the first parent, N first parents up
+           ^{}                 what a tag stands for
+           ^{commit}, ^{blob}  the same, of this kind
+           ^{tree}             the tree, or the commit's
+           ^{object}, ^{tag}   the object itself, or a tag itself
+         and last :PATH, what the tree has at this path.
+  RANGE  commits, in all of the words together:
+           REV      the commit and its ancestors
+           ^REV     leaves these out
+           A..B     those of B without those of A
+           A...B    those of A and of B without those of both
+           REV^@    those of its parents
+           REV^!    the commit without those of its parents
+           REV^-N   those of REV without those of its Nth parent; ^- is ^-1
+         A side of .. or ... that's left out is HEAD.
+
+  Each word behind -- is an operand, also where it begins with a hyphen.
+
+Exit status:
+  0  the command was done, or help was asked for
+  1  it was refused, for what standard error says in one line
+  2  the command line isn't accepted
+
+Refusals:
+  gx: command N: KIND   the Nth command of the stream, from 1
+  gx: revision N: KIND  the Nth REV or RANGE, from 1. KIND is BadRevision,
+                        BadPath, PathTooLong, UnknownRef, UnknownObject,
+                        Ambiguous, NoParent, WrongKind or NoSuchPath
+  gx: store: KIND       the text of FILE. KIND is OutOfMemory, BadMagic,
+                        BadVersion, Truncated, BadRecord, DuplicateObject,
+                        Dangling, BadObject, BadRef, RefOrder or TrailingBytes
+  gx: store exists      FILE is there, where a store is to be made
+  gx: read failed       FILE can't be read
+  gx: write failed      FILE or standard output can't be written
+  gx: out of memory",
+};
+
+/// The page of `blobs`.
+pub(super) const BLOBS: Page = Page {
+    about: "Prints the name of each blob of the stream on standard input",
+    description: "\
+Prints the name of each blob of the stream on standard input.
+
+The stream has blob commands alone, and nothing of it is kept.",
+    details: "\
+Output:
+  A blob's name, which is 40 hexadecimal digits, and a line feed, as soon as
+  the blob was read. What was printed stays where a later command is refused.
+
+Refusals:
+  gx: command N: KIND   the Nth command. KIND is NotABlob, BadLine, BadNumber,
+                        TruncatedData, NameHeld, ReadFailed, WriteFailed or
+                        OutOfMemory",
+};
+
+/// The page of `try`.
+pub(super) const TRY: Page = Page {
+    about: "Imports standard input into an empty store, and shows a revision",
+    description: "\
+Imports the stream on standard input into an empty store, and shows a revision.
+
+The revision is read once the import was accepted, and nothing is kept.",
+    details: "\
+Output:
+  The lines of the stream's progress commands, as they come, and then what
+  gx show prints of the revision.
+
+Refusals:
+  gx: command N: KIND   as gx import --help has it
+  gx: revision 1: KIND  as gx --help has it
+  gx: write failed
+  gx: out of memory",
+};
+
+/// The page of `init`.
+pub(super) const INIT: Page = Page {
+    about: "Makes an empty store",
+    description: "Makes an empty store, which has no objects and no refs.",
+    details: "\
+Output:
+  None.
+
+Refusals:
+  gx: store exists      FILE is there, and stays as it is
+  gx: read failed       whether FILE is there can't be told
+  gx: write failed
+  gx: out of memory",
+};
+
+/// The page of `import`.
+pub(super) const IMPORT: Page = Page {
+    about: "Imports the stream on standard input into a store",
+    description: "\
+Imports the stream on standard input into a store.
+
+All of the stream is imported, or nothing. A branch that the store has already
+only moves forward: its new commit has to be the old one or a descendant of it,
+unless the stream has the line 'feature force'. The next store is written to
+FILE.new, which then takes the place of FILE.",
+    details: "\
+Output:
+  The lines of the stream's progress commands, as they come. What was printed
+  stays where a later command is refused.
+
+Refusals, each of which leaves FILE as it was:
+  gx: read failed
+  gx: store: KIND       as gx --help has it
+  gx: command N: KIND   the Nth command, or the one that would follow the last.
+                        KIND is OutOfMemory, ReadFailed, WriteFailed,
+                        UnknownCommand, BadLine, BadNumber, TruncatedData,
+                        BadPath, PathTooLong, BadMode, BadIdent, BadRefName,
+                        UnknownMark, WrongKind, UnknownObject, NoSuchPath,
+                        RootNotTree, FromItself, EmptyBranch, Unsupported,
+                        LateOption, MissingDone, NotFastForward, NameHeld,
+                        BadRevision, UnknownRef, Ambiguous or NoParent
+  gx: write failed
+  gx: out of memory",
+};
+
+/// The page of `show`.
+pub(super) const SHOW: Page = Page {
+    about: "Shows what a revision gives",
+    description: "Shows what a revision gives: a file, a tree, a commit or a tag.",
+    details: "\
+Output:
+  of a blob             its bytes
+  of a commit or a tag  its body
+  of a tree             a line for each entry, as gx ls prints it
+  of a submodule        the 40 digits of its commit
+
+Refusals:
+  gx: read failed
+  gx: store: KIND       as gx --help has it
+  gx: revision 1: KIND  as gx --help has it
+  gx: write failed
+  gx: out of memory",
+};
+
+/// The page of `ls`.
+pub(super) const LS: Page = Page {
+    about: "Lists the entries of a revision's tree",
+    description: "\
+Lists the entries of the tree that a revision gives: the tree itself, that of a
+commit, or that of a tag's commit.",
+    details: "\
+Output:
+  A line for each entry, in the order of the tree: six digits of mode, a space,
+  the kind (blob, tree, or commit for a submodule), a space, 40 digits of name,
+  a tab and the path. A path with a control character, a double quote, a
+  backslash or a byte outside of ASCII stands in double quotes, with the
+  escapes of C.
+
+Refusals:
+  gx: read failed
+  gx: store: KIND       as gx --help has it
+  gx: revision 1: KIND  as gx --help has it
+  gx: write failed
+  gx: out of memory",
+};
+
+/// The page of `refs`.
+pub(super) const REFS: Page = Page {
+    about: "Lists the refs",
+    description: "Lists the refs, in the order of their names' bytes.",
+    details: "\
+Output:
+  A line for each ref: 40 digits of the name of its commit or tag, a space and
+  the name of the ref.
+
+Refusals:
+  gx: read failed
+  gx: store: KIND       as gx --help has it
+  gx: write failed
+  gx: out of memory",
+};
+
+/// The page of `log`.
+pub(super) const LOG: Page = Page {
+    about: "Lists the commits of ranges",
+    description: "\
+Lists the commits of ranges, the newest first: the one that was made last.
+
+A commit is listed where one of the words includes it and none excludes it.",
+    details: "\
+Output:
+  A line for each commit: 40 digits of its name, and with --parents a space and
+  40 digits for each parent, the first parent first.
+
+Refusals:
+  gx: read failed
+  gx: store: KIND       as gx --help has it
+  gx: revision N: KIND  the Nth RANGE, as gx --help has it
+  gx: write failed
+  gx: out of memory",
+};
+
+/// The page of `rev-parse`.
+pub(super) const REV_PARSE: Page = Page {
+    about: "Prints the names of what revisions give",
+    description: "\
+Prints the names of what revisions give.
+
+All of them are looked up before the first name is printed.",
+    details: "\
+Output:
+  A line for each revision: 40 digits of the name of what it gives.
+
+Refusals:
+  gx: read failed
+  gx: store: KIND       as gx --help has it
+  gx: revision N: KIND  the Nth REV, as gx --help has it
+  gx: write failed
+  gx: out of memory",
+};

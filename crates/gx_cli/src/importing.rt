@@ -1,0 +1,60 @@
+//! The commands that make a store's next text. Source: git-init(1) and git-fast-import(1).
+
+ghost use Rattle.gx_model.specs.StoreReading.{store_of};
+ghost use Rattle.gx_cli.specs.Serving.{ImportsInto, IsWritten};
+ghost use Rattle.gx_cli.specs.Trying.{nothing};
+
+use crate::CliFault;
+use crate::serving::{Outcome, refused};
+use gx_import::import;
+use gx_object::Namer;
+use gx_repo::Repo;
+use gx_text::{Sink, Source};
+use std::alloc::Allocator;
+
+/// Makes the text of an empty store.
+pub(crate) fn init<N: Namer + Drop, A: Allocator + Copy>(alloc: A, namer: N) -> Outcome<A>
+    ensures { IsWritten nothing result }
+{
+    let repo = Repo::new(alloc, namer);
+    written(alloc, &repo)
+}
+
+/// Imports a stream into the store of a text. Lines of `progress` go out as they come.
+///
+/// The store's text is read first. A refused import makes no text.
+pub(crate) fn import_into<N: Namer + Drop, R: Source + Drop, W: Sink, A: Allocator + Copy>(
+    alloc: A,
+    namer: N,
+    store: &[u8],
+    source: R,
+    sink: &mut W,
+) -> Outcome<A>
+    ensures { ImportsInto (N.name_of namer) (store_of (N.name_of namer) store.now) (R.coming source) (W.taken sink.old) (W.taken sink.new) result }
+{
+    let mut repo = match gx_file::read(alloc, namer, store) {
+        Ok(repo) => repo,
+        Err(fault) => return refused(CliFault::Store(fault)),
+    };
+    match import(alloc, &mut repo, source, sink) {
+        Ok(_) => {
+            repo.sound();
+            written(alloc, &repo)
+        }
+        Err(fault) => refused(CliFault::Import(fault)),
+    }
+}
+
+/// The text of a repository as the store's next one.
+fn written<N: Namer, A: Allocator + Copy>(alloc: A, repo: &Repo<N, A>) -> Outcome<A>
+    ensures { IsWritten repo.now.1 result }
+{
+    match gx_file::write(alloc, repo) {
+        Ok(text) => Outcome {
+            status: 0,
+            fault: None,
+            store: Some(text),
+        },
+        Err(_) => refused(CliFault::OutOfMemory),
+    }
+}

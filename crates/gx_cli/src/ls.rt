@@ -1,0 +1,199 @@
+//! The entries of a revision's tree, or all of its files. Source: git-ls-tree(1).
+
+ghost use Rattle.std.specs.Prelude.{◌≡◌, IfOk, map};
+ghost use Rattle.std.specs.List.{AllByRecursion, flat_map};
+ghost use Rattle.gx_model.specs.declared.objects.Kind.TheVariants as kinds;
+ghost use Rattle.gx_model.specs.Faults.{Gives};
+ghost use Rattle.gx_model.specs.HistoryOf.{history_of};
+ghost use Rattle.gx_model.specs.Records.{named_map};
+ghost use Rattle.gx_object.specs.Entries.{shown};
+ghost use Rattle.gx_tree.specs.Lists.{listed};
+ghost use Rattle.gx_rev.specs.Objects.{IsHeldAs, files_at};
+ghost use Rattle.gx_rev.specs.RevFaults.{fault_of};
+ghost use Rattle.gx_cli.specs.Answers.{Prints};
+ghost use Rattle.gx_cli.specs.FileLines.{named_line};
+ghost use Rattle.gx_cli.specs.Listings.{IsListed, entry_line, tree_lines};
+ghost use Rattle.gx_cli.specs.Sending.{PrintsText};
+ghost use Rattle.gx_cli.specs.Stored.{file_line, files_of_word, list_lines, list_text};
+
+use crate::CliFault;
+use crate::listing::{put_file, put_line};
+use crate::sending::put_text;
+use crate::words::refused;
+use gx_object::{Entry, Mode, Name, Namer, TreeEntries, decode_tree};
+use gx_repo::Repo;
+use gx_rev::{RevFault, Revision, tree};
+use gx_text::{Sink, TreePath};
+use gx_tree::PathTree;
+use std::alloc::{AllocError, Allocator};
+
+/// Lists the tree that a word gives as a revision: its entries, or with `recursive` all files by their whole paths. The
+/// lines go out one after the other.
+///
+/// `Revision`: the word isn't a revision, or it gives no tree. Cost: that of `Revision::eval`, and of the trees that are
+/// listed. Memory: with `recursive` the list of the files, otherwise a line.
+pub(crate) fn list<N: Namer, A: Allocator + Copy, W: Sink>(
+    alloc: A,
+    repo: &Repo<N, A>,
+    recursive: bool,
+    word: &[u8],
+    sink: &mut W,
+) -> Result<(), CliFault>
+    ensures { Prints (list_text (N.name_of repo.now.0) recursive (history_of repo.now.1) word.now) (W.taken sink.old) (W.taken sink.new) result }
+{
+    match tree_of_word(alloc, repo, word) {
+        Ok(tree) => print_tree(alloc, repo, recursive, &tree, sink),
+        Err(kind) => Err(refused(1, kind)),
+    }
+}
+
+/// The tree that a word gives as a revision.
+fn tree_of_word<N: Namer, A: Allocator + Copy>(
+    alloc: A,
+    repo: &Repo<N, A>,
+    word: &[u8],
+) -> Result<Name, RevFault>
+    ensures files { Gives fault_of (files_at repo.now.1) result (files_of_word (N.name_of repo.now.0) (history_of repo.now.1) word.now) }
+    ensures held { IfOk result (IsHeldAs kinds.Tree repo.now.1) }
+{
+    let revision = Revision::read(alloc, word)?;
+    tree(repo, &revision)
+}
+
+/// Prints the lines of a held tree.
+fn print_tree<N: Namer, A: Allocator + Copy, W: Sink>(
+    alloc: A,
+    repo: &Repo<N, A>,
+    recursive: bool,
+    tree: &Name,
+    sink: &mut W,
+) -> Result<(), CliFault>
+    requires { IsHeldAs kinds.Tree repo.now.1 tree.now }
+    ensures { PrintsText (list_lines (N.name_of repo.now.0) recursive (files_at repo.now.1 tree.now)) (W.taken sink.old) (W.taken sink.new) result }
+{
+    if recursive {
+        print_files(alloc, repo, tree, sink)
+    } else {
+        print_components(alloc, repo, tree, sink)
+    }
+}
+
+/// Prints the lines of a held tree's entries.
+fn print_components<N: Namer, A: Allocator + Copy, W: Sink>(
+    alloc: A,
+    repo: &Repo<N, A>,
+    tree: &Name,
+    sink: &mut W,
+) -> Result<(), CliFault>
+    requires { IsHeldAs kinds.Tree repo.now.1 tree.now }
+    ensures { PrintsText (tree_lines (N.name_of repo.now.0) (files_at repo.now.1 tree.now)) (W.taken sink.old) (W.taken sink.new) result }
+{
+    repo.sound();
+    let Some((_, body)) = repo.store().get(tree) else {
+        unreachable!();
+    };
+    let Ok(entries) = decode_tree(body) else {
+        unreachable!();
+    };
+    print_entries(alloc, entries, sink)
+}
+
+/// Prints the lines of entries.
+fn print_entries<A: Allocator + Copy, W: Sink>(
+    alloc: A,
+    entries: TreeEntries<'_>,
+    sink: &mut W,
+) -> Result<(), CliFault>
+    requires components { AllByRecursion IsListed entries }
+    ensures { PrintsText (flat_map entry_line entries.entry) (W.taken sink.old) (W.taken sink.new) result }
+{
+    let mut line = Vec::new(alloc);
+    for entry in entries {
+        print_entry(alloc, &mut line, &entry, sink)?;
+    }
+    Ok(())
+}
+
+/// Prints an entry's line, which is made in a buffer.
+fn print_entry<A: Allocator + Copy, W: Sink>(
+    alloc: A,
+    line: &mut Vec<u8, A>,
+    entry: &Entry<'_>,
+    sink: &mut W,
+) -> Result<(), CliFault>
+    requires { IsListed (shown entry.now) }
+    ensures { PrintsText (entry_line (shown entry.now)) (W.taken sink.old) (W.taken sink.new) result }
+{
+    line.clear();
+    match put_line(alloc, line, entry) {
+        Ok(()) => put_text(sink, line.as_slice()),
+        Err(_) => Err(CliFault::OutOfMemory),
+    }
+}
+
+/// Prints the lines of all files of a held tree.
+fn print_files<N: Namer, A: Allocator + Copy, W: Sink>(
+    alloc: A,
+    repo: &Repo<N, A>,
+    tree: &Name,
+    sink: &mut W,
+) -> Result<(), CliFault>
+    requires { IsHeldAs kinds.Tree repo.now.1 tree.now }
+    ensures { PrintsText (flat_map (file_line (N.name_of repo.now.0)) (files_at repo.now.1 tree.now)) (W.taken sink.old) (W.taken sink.new) result }
+{
+    match files_of(alloc, repo, tree) {
+        Ok(files) => print_listed(alloc, files.as_slice(), sink),
+        Err(_) => Err(CliFault::OutOfMemory),
+    }
+}
+
+/// All files of a held tree, in the byte order of their whole paths.
+fn files_of<N: Namer, A: Allocator + Copy>(
+    alloc: A,
+    repo: &Repo<N, A>,
+    tree: &Name,
+) -> Result<Vec<(TreePath<A>, Mode, Name), A>, AllocError>
+    requires { IsHeldAs kinds.Tree repo.now.1 tree.now }
+    ensures { IfOk result (λ files. map listed files.items ≡ named_map (N.name_of repo.now.0) (files_at repo.now.1 tree.now)) }
+{
+    repo.sound();
+    let Ok(files) = PathTree::load(alloc, repo.store(), tree) else {
+        return Err(AllocError);
+    };
+    match files.list() {
+        Ok(files) => Ok(files),
+        Err(_) => Err(AllocError),
+    }
+}
+
+/// Prints the lines of files.
+fn print_listed<A: Allocator + Copy, W: Sink>(
+    alloc: A,
+    files: &[(TreePath<A>, Mode, Name)],
+    sink: &mut W,
+) -> Result<(), CliFault>
+    ensures { PrintsText (flat_map named_line (map listed files.now)) (W.taken sink.old) (W.taken sink.new) result }
+{
+    let mut line = Vec::new(alloc);
+    for (path, mode, name) in files {
+        print_file(&mut line, path, *mode, name, sink)?;
+    }
+    Ok(())
+}
+
+/// Prints a file's line, which is made in a buffer.
+fn print_file<A: Allocator + Copy, W: Sink>(
+    line: &mut Vec<u8, A>,
+    path: &TreePath<A>,
+    mode: Mode,
+    name: &Name,
+    sink: &mut W,
+) -> Result<(), CliFault>
+    ensures { PrintsText (named_line (path.now, (mode, name.now.bytes))) (W.taken sink.old) (W.taken sink.new) result }
+{
+    line.clear();
+    match put_file(line, path, mode, name) {
+        Ok(()) => put_text(sink, line.as_slice()),
+        Err(_) => Err(CliFault::OutOfMemory),
+    }
+}

@@ -1,0 +1,103 @@
+//! The names of what revisions give, one a line. Source: git-rev-parse(1).
+
+ghost use Rattle.std.specs.Prelude.{◌≡◌, IfOk, Ok, map};
+ghost use Rattle.std.specs.List.{AllByRecursion, flat_map};
+ghost use Rattle.gx_model.specs.Denotation.{denoted};
+ghost use Rattle.gx_model.specs.HistoryOf.{history_of};
+ghost use Rattle.gx_model.specs.Ranges.{each_word};
+ghost use Rattle.gx_model.specs.Revisions.{revision_of};
+ghost use Rattle.gx_rev.specs.Answers.{IsNamed, shown_by};
+ghost use Rattle.gx_cli.specs.Answers.{GivesWords, Prints, shown_line, word_fault};
+ghost use Rattle.gx_cli.specs.Stored.{names_text, texts_of};
+
+use crate::CliFault;
+use crate::blob_names::name_line;
+use crate::showing::print;
+use gx_object::Namer;
+use gx_repo::Repo;
+use gx_rev::{RevFault, Revision, Shown};
+use gx_text::Sink;
+use std::alloc::Allocator;
+
+/// Prints the name of what each word gives as a revision; a submodule's digits. All words are read, then all are evaluated,
+/// and only then is anything printed.
+///
+/// `Revision`: the first word that isn't one, or else the first that gives nothing, by its number from 1.
+/// Cost: that of `Revision::eval` for each word. Memory: the revisions and what they give.
+pub(crate) fn print_names<N: Namer, A: Allocator + Copy, W: Sink>(
+    alloc: A,
+    repo: &Repo<N, A>,
+    words: &[&str],
+    sink: &mut W,
+) -> Result<(), CliFault>
+    ensures { Prints (names_text (N.name_of repo.now.0) (history_of repo.now.1) (texts_of words.now)) (W.taken sink.old) (W.taken sink.new) result }
+{
+    let revisions = read_all(alloc, words)?;
+    let shown = eval_all(alloc, repo, revisions.as_slice())?;
+    print_lines(shown.as_slice(), sink)
+}
+
+/// Each word as a revision, or the first that isn't one.
+fn read_all<A: Allocator + Copy>(alloc: A, words: &[&str]) -> Result<Vec<Revision<A>, A>, CliFault>
+    ensures { GivesWords (λ revisions. revisions.items) result (each_word revision_of (texts_of words.now)) }
+{
+    let mut revisions = Vec::new(alloc);
+    for (place, word) in words.iter().enumerate() {
+        match Revision::read(alloc, word.as_bytes()) {
+            Ok(revision) => revisions.push(revision)?,
+            Err(kind) => return Err(refused_word(place + 1, kind)),
+        }
+    }
+    Ok(revisions)
+}
+
+/// What each revision shows, or the first that shows nothing.
+fn eval_all<N: Namer, A: Allocator + Copy>(
+    alloc: A,
+    repo: &Repo<N, A>,
+    revisions: &[Revision<A>],
+) -> Result<Vec<Shown, A>, CliFault>
+    ensures shown { GivesWords (λ shown. map (shown_by repo.now.1) shown.items) result (each_word (denoted (N.name_of repo.now.0) (history_of repo.now.1)) revisions.now) }
+    ensures named { IfOk result (λ shown. AllByRecursion (IsNamed (N.name_of repo.now.0) repo.now.1) shown.items) }
+{
+    let mut shown = Vec::new(alloc);
+    for (place, revision) in revisions.iter().enumerate() {
+        match revision.eval(repo) {
+            Ok(object) => shown.push(object)?,
+            Err(kind) => return Err(refused_word(place + 1, kind)),
+        }
+    }
+    Ok(shown)
+}
+
+/// The fault of a word. Want of memory is of none.
+fn refused_word(number: usize, kind: RevFault) -> CliFault
+    ensures { result ≡ word_fault number kind }
+{
+    match kind {
+        RevFault::OutOfMemory => CliFault::OutOfMemory,
+        _ => CliFault::Revision {
+            number: number as u64,
+            kind,
+        },
+    }
+}
+
+/// Prints a line for each.
+fn print_lines<W: Sink>(all: &[Shown], sink: &mut W) -> Result<(), CliFault>
+    ensures { Prints (Ok (flat_map shown_line all.now)) (W.taken sink.old) (W.taken sink.new) result }
+{
+    for shown in all {
+        print(sink, shown_line(*shown).as_slice())?;
+    }
+    Ok(())
+}
+
+/// The line of an object's name, or of a submodule's digits.
+fn shown_line(shown: Shown) -> [u8; 41]
+    ensures { result ≡ shown_line shown }
+{
+    match shown {
+        Shown::Object(_, name) | Shown::Submodule(name) => name_line(&name),
+    }
+}

@@ -1,0 +1,38 @@
+//! The refs of a store, one a line. Source: git-show-ref(1).
+
+ghost use Rattle.std.specs.Prelude.{◌≡◌, Ok};
+ghost use Rattle.gx_model.specs.StoreText.{stored_ref};
+ghost use Rattle.gx_cli.specs.Answers.{Prints, Puts};
+ghost use Rattle.gx_cli.specs.Stored.{refs_text};
+
+use crate::CliFault;
+use crate::showing::print;
+use gx_object::{Name, Namer};
+use gx_repo::Repo;
+use gx_text::Sink;
+use std::alloc::Allocator;
+
+/// Prints each ref: the digits of its object's name, a space, and its own name, in the byte order of names.
+///
+/// Cost: what is printed. Takes no memory.
+pub(crate) fn print_refs<N: Namer, A: Allocator + Copy, W: Sink>(
+    repo: &Repo<N, A>,
+    sink: &mut W,
+) -> Result<(), CliFault>
+    ensures { Prints (Ok (refs_text repo.now.1)) (W.taken sink.old) (W.taken sink.new) result }
+{
+    for (name, object) in repo.refs() {
+        print_ref(sink, name, &object)?;
+    }
+    Ok(())
+}
+
+/// Prints a ref's line.
+fn print_ref<W: Sink>(sink: &mut W, name: &[u8], object: &Name) -> Result<(), CliFault>
+    ensures { Puts (stored_ref (name.now, object.now.bytes)) (W.taken sink.old) (W.taken sink.new) result }
+{
+    print(sink, object.hex().as_slice())?;
+    print(sink, b" ")?;
+    print(sink, name)?;
+    print(sink, b"\n")
+}

@@ -1,0 +1,126 @@
+# Completion of gx's command lines for bash 4.3 and later. Source this file, or put it where bash-completion looks, as `gx`.
+# shellcheck shell=bash
+
+# Sets `words` to the words of the line up to the cursor. bash cuts words also at : and the like, which a revision may hold.
+__gx_words() {
+  local rest=$COMP_LINE blanks word
+  words=()
+  for word in "${COMP_WORDS[@]:0:COMP_CWORD+1}"; do
+    blanks=${rest%%[![:blank:]]*}
+    rest=${rest#"$blanks"}
+    if [[ -n $blanks || ${#words[@]} -eq 0 ]]; then
+      words+=("$word")
+    else
+      words[-1]+=$word
+    fi
+    rest=${rest#"$word"}
+  done
+}
+
+# Sets `operands` to the words before the last that are no options, and no option's value.
+__gx_operands() {
+  local i
+  operands=()
+  for ((i = 2; i < ${#words[@]} - 1; i++)); do
+    case ${words[i]} in
+      --max-count) i=$((i + 1)) ;;
+      -?*) ;;
+      *) operands+=("${words[i]}") ;;
+    esac
+  done
+}
+
+# Answers the given words that begin as the last one does, each behind a front that is kept. They are quoted, since a ref's name
+# may hold what a shell takes for a command.
+__gx_answer() {
+  local front=$1 last=$2 word quoted
+  shift 2
+  for word in "$@"; do
+    if [[ $word == "$last"* ]]; then
+      printf -v quoted %q "$word"
+      COMPREPLY+=("$front$quoted")
+    fi
+  done
+}
+
+# Sets `file` to a word as the shell would give it, without its quotes.
+__gx_unquote() {
+  file=${1//[\\\"\']/}
+  # shellcheck disable=SC2088  # a tilde that was typed
+  [[ $file != '~/'* ]] || file=$HOME/${file#'~/'}
+}
+
+__gx_files() {
+  local file
+  __gx_unquote "$1"
+  mapfile -t COMPREPLY < <(compgen -f -- "$file")
+  compopt -o filenames 2> /dev/null
+}
+
+# Answers the refs of the store, by their whole names and by the shorter ones that find them. After ^ or .. a new revision begins.
+__gx_revisions() {
+  local file last=$1 front='' name
+  local -a names=()
+  __gx_unquote "${operands[0]}"
+  [[ -f $file ]] || return 0
+  if [[ ${words[1]} == log && $last =~ ^(\^|.*\.\.\.?)(.*)$ ]]; then
+    front=${BASH_REMATCH[1]}
+    last=${BASH_REMATCH[2]}
+  fi
+  while read -r _ name; do
+    names+=("$name")
+    case $name in
+      refs/heads/* | refs/tags/* | refs/remotes/*) names+=("${name#refs/*/}") ;;
+    esac
+  done < <("${words[0]}" refs "$file" 2> /dev/null < /dev/null)
+  __gx_answer "$front" "$last" "${names[@]}"
+}
+
+# What bash puts a word in place of may be less than the word: its part behind a : and the like.
+__gx_cut() {
+  local last=$1 part=${COMP_WORDS[COMP_CWORD]} i
+  [[ $part != [:=@]* ]] || part=''
+  [[ $part != "$last" ]] || return 0
+  for i in "${!COMPREPLY[@]}"; do
+    COMPREPLY[i]=${COMPREPLY[i]#"${last%"$part"}"}
+  done
+}
+
+__gx_options() {
+  case ${words[1]} in
+    ls) __gx_answer '' "$1" -r --recursive --help ;;
+    log) __gx_answer '' "$1" --reverse --max-count --parents --help ;;
+    *) __gx_answer '' "$1" --help ;;
+  esac
+}
+
+__gx_words_of_command() {
+  local last=$1
+  local -a operands
+  __gx_operands
+  case ${words[1]}:${#operands[@]} in
+    init:0 | import:0 | show:0 | ls:0 | refs:0 | log:0 | rev-parse:0) __gx_files "$last" ;;
+    show:1 | ls:1 | log:[1-9]* | rev-parse:[1-9]*) __gx_revisions "$last" ;;
+  esac
+}
+
+_gx() {
+  local -a words commands=(blobs try init import show ls refs log rev-parse)
+  COMPREPLY=()
+  __gx_words
+  local last=${words[-1]}
+  if [[ ${#words[@]} -eq 2 ]]; then
+    __gx_answer '' "$last" "${commands[@]}" help --help
+  elif [[ ${words[1]} == help ]]; then
+    __gx_answer '' "$last" "${commands[@]}"
+  elif [[ ${words[-2]} == --max-count ]]; then
+    return
+  elif [[ $last == -* ]]; then
+    __gx_options "$last"
+  else
+    __gx_words_of_command "$last"
+  fi
+  __gx_cut "$last"
+}
+
+complete -F _gx gx

@@ -1,0 +1,411 @@
+#!/bin/sh
+# Runs the program gx against real files: files that are missing, unreadable, in the way or on a full disk, and runs that are
+# killed. Whatever happens, FILE holds its old text or the whole new one. Says `N passed, M failed`, with status 1 where M isn't 0.
+#   scripts/files.sh GX      GX: the built program
+# It needs mkfifo and a sleep that takes parts of a second. Root runs what a file's mode should refuse as another user, by
+# setpriv or su. The full disk needs unshare and mount, and is skipped where they aren't allowed.
+set -u
+if [ $# -ne 1 ] || [ ! -x "$1" ]; then
+  echo "usage: $0 GX" >&2
+  exit 2
+fi
+
+folder=$(mktemp -d)
+running=''
+clean() {
+  [ -z "$running" ] || kill_import
+  chmod -R u+rwx "$folder"
+  rm -rf "$folder"
+}
+trap clean EXIT
+trap 'exit 1' HUP INT TERM
+
+# Another user has to reach the program, too.
+chmod 755 "$folder"
+cp "$1" "$folder/gx"
+chmod 755 "$folder/gx"
+gx=$folder/gx
+
+passed=0
+failed=0
+status=0
+
+# ---- what is run, and what is looked at
+
+# a store in a folder of its own
+fresh() {
+  mkdir "$folder/$1"
+  file=$folder/$1/store
+  cp "$folder/old" "$file"
+}
+
+# gx with its standard input from a file: run INPUT WORD..
+run() {
+  input=$1
+  shift
+  "$gx" "$@" < "$input" > "$folder/out" 2> "$folder/err"
+  status=$?
+}
+
+# the same as a user whom a file's mode can refuse
+run_as_other() {
+  input=$1
+  shift
+  as_other "$gx" "$@" < "$input" > "$folder/out" 2> "$folder/err"
+  status=$?
+}
+
+as_other() {
+  if [ "$(id -u)" != 0 ]; then
+    "$@"
+  elif command -v setpriv > "$folder/found"; then
+    setpriv --reuid=65534 --regid=65534 --clear-groups "$@"
+  else
+    su -s /bin/sh nobody -c 'exec "$@"' -- sh "$@"
+  fi
+}
+
+# one check: what it shows, and a command that is true where it holds
+check() {
+  shown=$1
+  shift
+  if "$@"; then
+    passed=$((passed + 1))
+  else
+    failed=$((failed + 1))
+    echo "FAIL $shown: status $status, standard error: $(head -c 300 "$folder/err")"
+  fi
+}
+
+is_done() { [ "$status" = 0 ] && [ ! -s "$folder/err" ]; }
+
+is_refused() { [ "$status" = 1 ] && printf 'gx: %s\n' "$1" | cmp -s - "$folder/err"; }
+
+is_refused_in_silence() { is_refused "$1" && [ ! -s "$folder/out" ]; }
+
+is_no_command_line() { [ "$status" = 2 ] && [ ! -s "$folder/out" ]; }
+
+is_absent() { [ ! -e "$1" ] && [ ! -e "$1.new" ]; }
+
+holds() { cmp -s "$folder/$1" "$file"; }
+
+holds_alone() { holds "$1" && [ ! -e "$file.new" ]; }
+
+holds_old_or_new() { holds "$1" || holds "$2"; }
+
+makes() { is_done && holds_alone "$1"; }
+
+refuses_and_keeps() { is_refused_in_silence "$1" && holds_alone old; }
+
+# ---- texts and streams, as the formats say
+
+blob_stream() { printf 'blob\ndata %d\n%s\n' "${#1}" "$1"; }
+
+blob_record() { printf 'blob %d\n%s\n' "${#1}" "$1"; }
+
+# the records and the ref of one commit with one file
+commit_records() {
+  printf 'blob 10\nversion 1\n\n'
+  printf 'tree 36\n100644 test.txt\000\203\272\256\141\200\116\145\314\163\247\040\032\162\122\165\014\166\006\152\060\n'
+  printf 'commit 98\ntree d8329fc1cc938780ffdd9f94e0d364e0ea74f579\nauthor A <a@x> 1 +0000\ncommitter A <a@x> 1 +0000\n\nv1\n'
+}
+
+ending() { printf 'refs 1\n02d6adf1689e06135d2b4b4d471f1ae489887b53 refs/heads/main\nend\n'; }
+
+# twenty-four blobs of a megabyte, which take a while to be written: large FORMAT
+large() {
+  number=0
+  while [ "$number" -lt 24 ]; do
+    # shellcheck disable=SC2059  # the line before a body
+    printf "$1"
+    printf '%06d' "$number"
+    cat "$folder/body"
+    printf '\n'
+    number=$((number + 1))
+  done
+}
+
+make_texts() {
+  printf 'gxstore 1\nobjects 0\nrefs 0\nend\n' > "$folder/empty"
+  { printf 'gxstore 1\nobjects 3\n' && commit_records && ending; } > "$folder/old"
+  blob_stream 'test content' > "$folder/stream"
+  { printf 'gxstore 1\nobjects 4\n' && commit_records && blob_record 'test content' && ending; } > "$folder/new"
+  head -c 1048570 /dev/zero | tr '\0' x > "$folder/body"
+  large 'blob\ndata 1048576\n' > "$folder/large"
+  { printf 'gxstore 1\nobjects 27\n' && commit_records && large 'blob 1048576\n' && ending; } > "$folder/wide"
+}
+
+# ---- init
+
+check_init() {
+  mkdir "$folder/init"
+  file=$folder/init/store
+  run /dev/null init "$file"
+  check 'init makes the empty store' makes empty
+  check 'the empty store has 31 bytes' [ "$(wc -c < "$file")" -eq 31 ]
+  cp "$folder/old" "$file"
+  run /dev/null init "$file"
+  check 'init refuses a store that is there' refuses_and_keeps 'store exists'
+  : > "$file"
+  run /dev/null init "$file"
+  check 'init refuses an empty file that is there' is_refused_in_silence 'store exists'
+  check 'which stays empty' [ ! -s "$file" ]
+  run /dev/null init "$folder/init"
+  check 'init refuses a folder that is there' is_refused_in_silence 'store exists'
+  run /dev/null init "$folder/nowhere/store"
+  check 'init in a folder that is missing is a failed write' is_refused_in_silence 'write failed'
+}
+
+# ---- files that can't be read
+
+check_reading() {
+  for command in import show; do
+    word=''
+    [ "$command" = import ] || word=main
+    # shellcheck disable=SC2086  # no word for import
+    run "$folder/stream" "$command" "$folder/missing" $word
+    check "$command: a missing file isn't read" is_refused_in_silence 'read failed'
+    check "$command: and isn't made" is_absent "$folder/missing"
+    mkdir "$folder/$command.folder"
+    # shellcheck disable=SC2086
+    run "$folder/stream" "$command" "$folder/$command.folder" $word
+    check "$command: a folder isn't read" is_refused_in_silence 'read failed'
+    check "$command: and stays" rmdir "$folder/$command.folder"
+    fresh "$command.unreadable"
+    chmod 777 "$folder/$command.unreadable"
+    chmod 000 "$file"
+    # shellcheck disable=SC2086
+    run_as_other "$folder/stream" "$command" "$file" $word
+    chmod 600 "$file"
+    check "$command: an unreadable file isn't read" refuses_and_keeps 'read failed'
+  done
+  fresh input
+  run / import "$file"
+  check 'an input that is a folder is refused at the first command' refuses_and_keeps 'command 1: ReadFailed'
+}
+
+# ---- files that can't be written
+
+check_writing() {
+  fresh readonly
+  chmod 444 "$file"
+  chmod 555 "$folder/readonly"
+  run_as_other "$folder/stream" import "$file"
+  check 'import in a read-only folder is a failed write' refuses_and_keeps 'write failed'
+  run_as_other /dev/null init "$folder/readonly/other"
+  check 'so is init' is_refused_in_silence 'write failed'
+  check 'which makes nothing' is_absent "$folder/readonly/other"
+  fresh blocked
+  mkdir "$file.new"
+  : > "$file.new/inside"
+  run "$folder/stream" import "$file"
+  check 'a folder in the place of the new text is a failed write' is_refused_in_silence 'write failed'
+  check 'and leaves the store' holds old
+  check 'and the folder' [ -f "$file.new/inside" ]
+  rm "$file"
+  run /dev/null init "$file"
+  check 'also for init' is_refused_in_silence 'write failed'
+  check 'which makes no store' [ ! -e "$file" ]
+}
+
+check_left_over() {
+  fresh left
+  cp "$folder/large" "$file.new"
+  run "$folder/stream" import "$file"
+  check 'what a killed import left is replaced' makes new
+  cp "$folder/large" "$file.new"
+  rm "$file"
+  run /dev/null init "$file"
+  check 'also by init' makes empty
+}
+
+check_refusals() {
+  fresh refused
+  printf 'foo\n' > "$folder/foo"
+  run "$folder/foo" import "$file"
+  check 'a refused import leaves the store' refuses_and_keeps 'command 1: UnknownCommand'
+  { cat "$folder/stream" && printf 'foo\n'; } > "$folder/late"
+  run "$folder/late" import "$file"
+  check 'also after a good command' refuses_and_keeps 'command 2: UnknownCommand'
+  run /dev/null show "$file" nope
+  check 'a refused revision leaves it' refuses_and_keeps 'revision 1: UnknownRef'
+  printf 'gitstore 1\n' > "$file"
+  run "$folder/stream" import "$file"
+  check 'a file that is no store is refused' is_refused_in_silence 'store: BadMagic'
+  check 'and stays' [ "$(cat "$file")" = 'gitstore 1' ]
+  fresh odd
+  run /dev/null show "$file" "$(printf 'main\377')"
+  check 'a word that is no UTF-8 is no command line' is_no_command_line
+  check 'and leaves the store' holds_alone old
+  run "$folder/stream" import "$(printf '%s\377' "$folder/odd/other")"
+  check 'also where it names the file' is_no_command_line
+}
+
+# ---- a full disk
+
+# runs gx on a disk of sixteen pages, which only this run sees, and keeps what it left
+on_small_disk() {
+  # shellcheck disable=SC2016  # the inner shell's own words
+  unshare "$1" sh -c '
+    mount -t tmpfs -o size=64k tmpfs "$2" || exit 1
+    cp "$1/old" "$2/store" || exit 1
+    "$1/gx" import "$2/store" < "$1/large" > "$1/out" 2> "$1/err"
+    echo $? > "$1/status"
+    cp "$2/store" "$1/disk.store"
+    ls -A "$2" > "$1/disk.names"
+    cat "$1/body" > "$2/filler"
+    "$1/gx" init "$2/other" > "$1/init.out" 2> "$1/init.err"
+    echo $? > "$1/init.status"
+    ls -A "$2" > "$1/init.names"
+  ' sh "$folder" "$folder/disk" 2> "$folder/disk.err"
+}
+
+check_full_disk() {
+  mkdir "$folder/disk"
+  if ! on_small_disk -m && ! on_small_disk -rm; then
+    echo "skipped: a full disk, since no small disk can be mounted here"
+    return
+  fi
+  status=$(cat "$folder/status")
+  file=$folder/disk.store
+  check 'import on a full disk is a failed write' refuses_and_keeps 'write failed'
+  check 'and leaves no part of the new text' [ "$(cat "$folder/disk.names")" = store ]
+  cp "$folder/init.out" "$folder/out"
+  cp "$folder/init.err" "$folder/err"
+  status=$(cat "$folder/init.status")
+  check 'so is init' is_refused_in_silence 'write failed'
+  check 'which leaves nothing' [ "$(sort "$folder/init.names" | tr '\n' ' ')" = 'filler store ' ]
+}
+
+# ---- output that isn't taken
+
+check_output() {
+  fresh output
+  for command in refs 'show main' 'show main:test.txt' 'rev-parse main' 'log main' 'ls main'; do
+    # shellcheck disable=SC2086  # the command and its word
+    set -- $command
+    name=$1
+    shift
+    "$gx" "$name" "$file" "$@" < /dev/null > /dev/full 2> "$folder/err"
+    status=$?
+    check "$command: output that isn't taken is a failed write" is_refused 'write failed'
+  done
+  { printf 'progress x\n' && cat "$folder/stream"; } > "$folder/told"
+  "$gx" import "$file" < "$folder/told" > /dev/full 2> "$folder/err"
+  status=$?
+  check "progress that isn't taken refuses the import" is_refused 'command 1: WriteFailed'
+  check 'and leaves the store' holds_alone old
+  "$gx" import "$file" < "$folder/told" > "$folder/out" 2> "$folder/err" >&-
+  status=$?
+  check 'no line of progress comes into a store while standard output is closed' holds_old_or_new old new
+}
+
+# ---- killed runs
+
+# imports behind the script: `pid` is there once the program runs, and `ended` once it has ended
+import_behind() {
+  rm -f "$folder/pid" "$folder/ended"
+  {
+    "$gx" import "$file" < "$1" > "$folder/out" 2> "$folder/err" &
+    echo $! > "$folder/pid"
+    wait $! 2> /dev/null
+    : > "$folder/ended"
+  } &
+  until [ -s "$folder/pid" ]; do :; done
+  running=$(cat "$folder/pid")
+}
+
+kill_import() {
+  [ -e "$folder/ended" ] || kill -9 "$running" 2> /dev/null
+  wait
+  running=''
+}
+
+# waits up to ten seconds until a file has bytes
+wait_for() {
+  tries=0
+  until [ -s "$1" ] || [ "$tries" -ge 100 ]; do
+    sleep 0.1
+    tries=$((tries + 1))
+  done
+}
+
+check_killed_reading() {
+  fresh slow
+  mkfifo "$folder/pipe"
+  import_behind "$folder/pipe"
+  exec 9> "$folder/pipe"
+  { cat "$folder/stream" && printf 'progress half\n'; } >&9
+  wait_for "$folder/out"
+  check 'progress goes out while the stream is open' [ "$(cat "$folder/out")" = 'progress half' ]
+  check 'nothing is written while the stream is open' holds_alone old
+  kill_import
+  exec 9>&-
+  check 'import killed while it reads leaves the store' holds_alone old
+}
+
+# what a killed import left: the old or the new text, and perhaps a part of it beside
+count_killed() {
+  check "import killed $1 leaves the old or the new text" holds_old_or_new old wide
+  kills=$((kills + 1))
+  ! holds wide || finished=$((finished + 1))
+  [ ! -e "$file.new" ] || parts=$((parts + 1))
+  cp "$folder/old" "$file"
+}
+
+# kills at delays that grow by a fifth, until the program is done before
+kill_at_growing_delays() {
+  delay=0.005
+  turns=0
+  while [ "$turns" -lt 45 ]; do
+    import_behind "$folder/large"
+    sleep "$delay"
+    ended=no
+    [ ! -e "$folder/ended" ] || ended=yes
+    kill_import
+    count_killed "after $delay s"
+    [ "$ended" = no ] || return
+    delay=$(echo "$delay" | awk '{ printf "%.3f", $1 * 1.2 }')
+    turns=$((turns + 1))
+  done
+}
+
+# kills as soon as the new text's file is seen, and a little later
+kill_while_it_writes() {
+  for delay in 0 0 0 0.001 0.002 0.003 0.004 0.005 0.006 0.008 0.010 0.012 0.015 0.020; do
+    rm -f "$file.new"
+    import_behind "$folder/large"
+    until [ -e "$file.new" ] || [ -e "$folder/ended" ]; do :; done
+    [ "$delay" = 0 ] || sleep "$delay"
+    kill_import
+    count_killed "$delay s after it began to write"
+  done
+}
+
+check_killed_writing() {
+  kills=0
+  finished=0
+  parts=0
+  fresh killed
+  kill_at_growing_delays
+  kill_while_it_writes
+  echo "$kills imports killed: $finished had finished, $parts left a part of the new text beside the store"
+  run "$folder/large" import "$file"
+  check 'the import after a killed one is whole' makes wide
+}
+
+make_texts
+fresh good
+run "$folder/stream" import "$file"
+check 'import makes the new text' makes new
+check_init
+check_reading
+check_writing
+check_left_over
+check_refusals
+check_full_disk
+check_output
+check_killed_reading
+check_killed_writing
+echo "$passed passed, $failed failed"
+[ "$failed" -eq 0 ]

@@ -1,6 +1,6 @@
 //! The lists of a store: trees, files and commits. The names are those that git gives these objects.
 
-use super::rows::MERGED;
+use super::rows::{MERGED, TWINS};
 use super::*;
 
 /// Files in the order in which their whole paths stand.
@@ -118,54 +118,74 @@ const WITH_PARENTS: LogOptions = LogOptions {
     parents: true,
 };
 
-/// Options, range words, and what is printed of the merge's store.
-type Log<'a> = (LogOptions, &'a [&'a str], &'a [u8]);
+/// A stream, options, range words, and what is printed.
+type Log<'a> = (&'a [u8], LogOptions, &'a [&'a str], &'a [u8]);
 
 const LOGS: &[Log<'static>] = &[
     (
+        MERGED,
         ALL,
         &["y"],
         b"2bf456c0b8a687de83f109a0e5d2b7e91ce52424\n246e18b156d32c30a57ab68be95cf584e2054b52\ned13be4069964e1c48bc5e0ca1946799b606d3af\n",
     ),
-    (ALL, &["y^@"], QP),
-    (ALL, &["y^!"], b"2bf456c0b8a687de83f109a0e5d2b7e91ce52424\n"),
+    (MERGED, ALL, &["y^@"], QP),
     (
+        MERGED,
+        ALL,
+        &["y^!"],
+        b"2bf456c0b8a687de83f109a0e5d2b7e91ce52424\n",
+    ),
+    (
+        MERGED,
         ALL,
         &["y^-"],
         b"2bf456c0b8a687de83f109a0e5d2b7e91ce52424\n246e18b156d32c30a57ab68be95cf584e2054b52\n",
     ),
     (
+        MERGED,
         ALL,
         &["y^-2"],
         b"2bf456c0b8a687de83f109a0e5d2b7e91ce52424\ned13be4069964e1c48bc5e0ca1946799b606d3af\n",
     ),
-    (ALL, &["p...q"], QP),
-    (ALL, &["p..q"], Q),
+    (MERGED, ALL, &["p...q"], QP),
+    (MERGED, ALL, &["p..q"], Q),
     (
+        MERGED,
         ALL,
         &["y", "^q"],
         b"2bf456c0b8a687de83f109a0e5d2b7e91ce52424\ned13be4069964e1c48bc5e0ca1946799b606d3af\n",
     ),
-    (ALL, &["^q", "p", "p"], P),
-    (NONE, &["y"], b""),
+    (MERGED, ALL, &["^q", "p", "p"], P),
+    (MERGED, NONE, &["y"], b""),
     (
+        MERGED,
         LAST_TWO_TURNED,
         &["y"],
         b"246e18b156d32c30a57ab68be95cf584e2054b52\n2bf456c0b8a687de83f109a0e5d2b7e91ce52424\n",
     ),
     (
+        MERGED,
         WITH_PARENTS,
         &["y"],
         b"2bf456c0b8a687de83f109a0e5d2b7e91ce52424 ed13be4069964e1c48bc5e0ca1946799b606d3af 246e18b156d32c30a57ab68be95cf584e2054b52\n",
+    ),
+    // a commit that two branches hold is one commit
+    (TWINS, ALL, &["x..y"], b""),
+    (TWINS, ALL, &["x...y"], b""),
+    (
+        TWINS,
+        ALL,
+        &["x", "y"],
+        b"02d6adf1689e06135d2b4b4d471f1ae489887b53\n",
     ),
 ];
 
 fn logs(
     alloc: Global,
-    (options, words, printed): Log<'_>,
+    (stream, options, words, printed): Log<'_>,
     fault: &str,
 ) -> Result<bool, AllocError> {
-    let store = stored(alloc, MERGED)?;
+    let store = stored(alloc, stream)?;
     let ranges = words.to_vec(alloc)?;
     let line = Line::Log {
         options,
@@ -195,7 +215,10 @@ const REFUSED_RANGES: &[(&[&str], &str)] = &[
 #[test]
 fn refused_range_has_its_number_and_nothing_is_printed(rt: HostRuntime) -> Result<(), Fail> {
     for (words, fault) in REFUSED_RANGES {
-        assert!(rt; logs(rt.alloc(), (ALL, words, b""), fault)?, "{fault}");
+        assert!(rt;
+            logs(rt.alloc(), (MERGED, ALL, words, b""), fault)?,
+            "{fault}"
+        );
     }
     Ok(())
 }

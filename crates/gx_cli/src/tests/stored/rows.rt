@@ -20,7 +20,7 @@ const BRANCHED: &[u8] =
     b"commit refs/heads/main\nmark :1\ncommitter A <a@x> 1 +0000\ndata 2\nv1\nM 100644 inline test.txt\ndata 10\nversion 1\n\ncommit refs/heads/b\ncommitter A <a@x> 2 +0000\ndata 3\nfoofrom :1\n";
 
 /// One commit on two branches.
-const TWINS: &[u8] =
+pub(super) const TWINS: &[u8] =
     b"commit refs/heads/x\ncommitter A <a@x> 1 +0000\ndata 2\nv1\nM 100644 inline test.txt\ndata 10\nversion 1\n\ncommit refs/heads/y\ncommitter A <a@x> 1 +0000\ndata 2\nv1\nM 100644 inline test.txt\ndata 10\nversion 1\n";
 
 pub(super) const MERGED: &[u8] =
@@ -125,6 +125,7 @@ pub(super) const REFUSED_WORDS: &[Refused<'static>] = &[
     // all are read before any is evaluated
     (ROOT, &["none", "a..b"], "gx: revision 2: BadRevision"),
     (ROOT, &["none", "main~9"], "gx: revision 1: UnknownRef"),
+    (ROOT, &["main", "nope"], "gx: revision 2: UnknownRef"),
     (TAGGED, &["v1^{blob}"], "gx: revision 1: WrongKind"),
     (TAGGED, &["main^{tag}"], "gx: revision 1: WrongKind"),
     (MOVED, &["main:a/b"], "gx: revision 1: NoSuchPath"),
@@ -176,6 +177,10 @@ type Listed<'a> = (&'a [u8], &'a [u8]);
 pub(super) const LISTED: &[Listed<'static>] = &[
     (b"", b""),
     (ROOT, ONE_REF),
+    (
+        TWINS,
+        b"02d6adf1689e06135d2b4b4d471f1ae489887b53 refs/heads/x\n02d6adf1689e06135d2b4b4d471f1ae489887b53 refs/heads/y\n",
+    ),
     (
         BRANCHED,
         b"48791a7a6e480957af829060ad4d84eb769b82a1 refs/heads/b\n02d6adf1689e06135d2b4b4d471f1ae489887b53 refs/heads/main\n",

@@ -1,0 +1,164 @@
+-- The items of a commit in their parts, and what is shown of a held commit.
+use Rattle.std.proofs.Common.{◌≡◌, ℕ, zero, suc, ◌+◌, ◌<◌, List, [], ◌∷◌, ◌++◌, map, length, set, Option, Some, Ok, refl, sym, ap, subst, ◌∙◌, arith, append_assoc, codes}
+use Rattle.std.specs.Bool.{passes}
+use Rattle.std.specs.List.{AllByRecursion, fold, slice_get}
+use Rattle.std.proofs.lemmas.Grind.{flat_map-append}
+use Rattle.std.proofs.lemmas.List.{append-nil}
+use Rattle.gx_model.specs.declared.objects.Kind.{Kind}
+use Rattle.gx_model.specs.declared.objects.Kind.TheVariants as kind
+use Rattle.gx_model.specs.Texts.{Bytes}
+use Rattle.gx_model.specs.Export.{all_written, blob_commands, command_items, commit_command, commit_ish_text, contents, first_parent, from_line, last_reset, one_commit, optional_line, other_parents, root_reset, to_nothing, carrier, with_blobs, with_commit, word_line}
+use Rattle.gx_model.specs.Files.{FileMap}
+use Rattle.gx_model.specs.Histories.{IsIn, Records}
+use Rattle.gx_model.specs.HistoryOf.{commit_of_value, contents_of, history_of, named_values, value_of_name}
+use Rattle.gx_model.specs.Items.{Data, Item}
+use Rattle.gx_model.specs.Objects.{CommitParts, IsNamer}
+use Rattle.gx_model.specs.Records.{name_of, named_map, names_of}
+use Rattle.gx_model.specs.RepositoryLaws.{values_of}
+use Rattle.gx_model.specs.Sound.{Holds, IsNamedMap, IsSound}
+use Rattle.gx_model.specs.Values.{Commit, Commits, CommitText, Value, blobs_of, commit_value, files_of, list_of, more, none, parents_of, sub_maps, text_of, tree_value}
+use Rattle.gx_model.proofs.LinkedValues.{parts_in, proper_in}
+use Rattle.gx_model.proofs.OneTree.{all_left}
+use Rattle.gx_model.proofs.PathTests.{is_true}
+use Rattle.gx_text.specs.Devices.{Taken}
+use Rattle.gx_rev.specs.Objects.{parts_of_commit}
+use Rattle.gx_rev.proofs.HeldValues.{all_whole, names_long, value_held}
+use Rattle.gx_rev.proofs.Standing.{at_in}
+use Rattle.gx_import.specs.Standing.{AreFiles}
+use Rattle.gx_import.proofs.FilesByName.{contents_told, files_named}
+use Rattle.gx_import.proofs.HeldParts.{value_holds}
+use Rattle.gx_export.specs.Marks.{Adds, HasWritten}
+use Rattle.gx_export.specs.Texts.{author_items, change_lines, commit_lines, items_of, items_text, last_items, parent_items, root_items}
+use Rattle.gx_export.specs.declared.written.Written.{Written}
+use Rattle.gx_export.proofs.Numbering.{next_marked, only_place, place_marked}
+
+-- ---- resets
+
+-- the reset before a commit
+pub root_is : (ps : List Commit) → root_items (length ps) ≡ items_of (root_reset ps)
+root_is [] = refl
+root_is (p ∷ ps) = refl
+
+-- a commit with parents has none
+pub no_root : (n : ℕ) → (n ≡ 0 → ⊥) → [] ≡ root_items n
+no_root zero h = absurd (h refl)
+no_root (suc n) h = refl
+
+last_some : (n : ℕ) → 0 < n → last_items n ≡ command_items (to_nothing carrier)
+last_some zero h = absurd (omega arith)
+last_some (suc n) h = refl
+
+longer : {X : Type 0} (x : X) (xs : List X) → 0 < length (x ∷ xs)
+longer x xs = omega arith
+
+some_written : (ws : List Value) (cs : List Commit) → 0 < length ws → 0 < length (fold with_commit ws cs)
+some_written ws [] h = h
+some_written ws (c ∷ cs) h = some_written (with_commit ws c) cs (longer (commit_value c) (with_blobs ws (contents (files_of c))))
+
+-- the reset behind all commits
+pub last_is : (cs : List Commit) → last_items (length (all_written cs)) ≡ items_of (last_reset cs)
+last_is [] = refl
+last_is (c ∷ cs) = last_some (length (all_written (c ∷ cs))) (some_written (with_commit [] c) cs (longer (commit_value c) (with_blobs [] (contents (files_of c)))))
+
+-- ---- a commit's items
+
+-- a commit's command is its lines
+commit_parts : (ws : List Value) (c : Commit) → command_items (commit_command ws c) ≡ commit_lines ws (text_of c) (list_of (parents_of c)) (files_of c)
+commit_parts ws c =
+    let text = text_of c in
+    let ps = list_of (parents_of c) in
+    let front = from_line (first_parent ws ps) in
+    let others = map (λ p. word_line (codes "merge") (commit_ish_text p)) (other_parents ws ps) in
+    let changes = change_lines ws (files_of c) in
+    let line = optional_line (codes "encoding") text.encoding in
+    ap (λ (is : List Item). author_items (suc (length ws)) text ++ is)
+    (ap (λ (is : List Item). line ++ (Data text.message ∷ is)) (sym (append_assoc front others changes)) ∙ sym (append_assoc line (Data text.message ∷ []) (parent_items ws ps ++ changes)))
+
+-- the blobs of a commit, the reset before it, and its lines
+pub one_commit_parts : (ws : List Value) (c : Commit)
+    → items_of (one_commit ws c) ≡ items_of (blob_commands ws (contents (files_of c))) ++ (root_items (length (list_of (parents_of c))) ++ commit_lines (with_blobs ws (contents (files_of c))) (text_of c) (list_of (parents_of c)) (files_of c))
+one_commit_parts ws c =
+    let us = with_blobs ws (contents (files_of c)) in
+    let ps = list_of (parents_of c) in
+    let blobs = blob_commands ws (contents (files_of c)) in
+    let root = sym (root_is ps) in
+    let lines = append-nil (command_items (commit_command us c)) ∙ commit_parts us c in
+    flat_map-append command_items blobs (root_reset ps ++ (commit_command us c ∷ []))
+    ∙ ap (λ (is : List Item). items_of blobs ++ is) (flat_map-append command_items (root_reset ps) (commit_command us c ∷ [])
+    ∙ ap (λ (is : List Item). is ++ items_of (commit_command us c ∷ [])) root ∙ ap (λ (is : List Item). root_items (length ps) ++ is) lines)
+
+-- a commit's lines are no empty text
+lines_some : (ws : List Value) (text : CommitText) (ps : List Commit) (f : FileMap Bytes) → 0 < length (items_text (commit_lines ws text ps f))
+lines_some ws text ps f = omega arith
+
+-- ---- a held commit
+
+module _ (name : Kind → Bytes → Bytes) (namer : IsNamer name) (r : Records) (sound : IsSound name r) where
+  -- what is shown of a commit is its texts, the names of its parents, and the names of its files
+  pub record IsShownAs (c : Commit) (view : CommitParts) (names : FileMap Bytes) : Type 0 where
+    pub text : view.text ≡ text_of c
+    pub count : length view.parents ≡ length (list_of (parents_of c))
+    pub parents : map (λ n. commit_of_value (value_of_name r.records n)) view.parents ≡ list_of (parents_of c)
+    pub holds : AllByRecursion (Holds r.records kind.Commit) view.parents
+    pub files : contents_of (named_values r.records) names ≡ files_of c
+    pub named : IsNamedMap r.records names
+
+  -- its lines
+  pub lines_told : (c : Commit) (view : CommitParts) (names : FileMap Bytes) → IsShownAs c view names → (us : List Value)
+      → commit_lines us view.text (map (λ n. commit_of_value (value_of_name r.records n)) view.parents) (contents_of (named_values r.records) names) ≡ commit_lines us (text_of c) (list_of (parents_of c)) (files_of c)
+  lines_told c view names s us =
+      let text = s.text in
+      let parents = s.parents in
+      let files = s.files in
+      λ i. commit_lines us (text i) (parents i) (files i)
+
+  parents_told : (ps : Commits) → AllByRecursion (IsIn (history_of r).values) (map commit_value (list_of ps)) → map (λ n. commit_of_value (value_of_name r.records n)) (names_of name ps) ≡ list_of ps
+  parents_told none h = refl
+  parents_told (more p ps) h =
+      let one = (value_held name namer r sound kind.Commit (commit_value p) (name_of name (commit_value p)) h.0 refl refl).1 in
+      let rest = parents_told ps h.1 in
+      λ i. commit_of_value (one i) ∷ rest i
+
+  parents_hold : (ps : Commits) → AllByRecursion (IsIn (history_of r).values) (map commit_value (list_of ps)) → AllByRecursion (Holds r.records kind.Commit) (names_of name ps)
+  parents_hold none h = tt
+  parents_hold (more p ps) h = (value_holds name namer r sound (commit_value p) h.0, parents_hold ps h.1)
+
+  commit_files : (c : Commit) → IsIn (history_of r).values (commit_value c) → AreFiles name (history_of r).values (files_of c) (named_map name (files_of c))
+  commit_files c i =
+      let vs = (history_of r).values in
+      let w = all_whole name namer r sound in
+      let tree = (parts_in vs (commit_value c) w i).0 in
+      record {
+        named = refl;
+        content = is_true _ (proper_in vs (tree_value (files_of c)) (passes _ w.proper) tree);
+        known = all_left (IsIn vs) (blobs_of (files_of c)) (map tree_value (sub_maps (files_of c))) (parts_in vs (tree_value (files_of c)) w tree);
+      }
+
+  -- the commit at a place, by its name
+  pub shown_as : (place : ℕ) (c : Commit) (n : Bytes) (view : CommitParts) (names : FileMap Bytes) → slice_get (values_of r) place ≡ Some (commit_value c) → slice_get (values_of r) place ≡ Some (value_of_name r.records n)
+      → view ≡ parts_of_commit name (commit_of_value (value_of_name r.records n)) → names ≡ named_map name (files_of (commit_of_value (value_of_name r.records n))) → IsShownAs c view names
+  shown_as place c n view names e f v k =
+      let value : value_of_name r.records n ≡ commit_value c = (let o : Some (value_of_name r.records n) ≡ Some (commit_value c) = sym f ∙ e in cc o) in
+      let same = ap commit_of_value value in
+      let i = at_in (values_of r) place (commit_value c) e in
+      let view_is = v ∙ ap (parts_of_commit name) same in
+      let names_is = k ∙ ap (λ d. named_map name (files_of d)) same in
+      let ps = (parts_in (history_of r).values (commit_value c) (all_whole name namer r sound) i).1 in
+      let files = commit_files c i in
+      record {
+        text = ap (λ p. p.text) view_is;
+        count = ap (λ p. length p.parents) view_is ∙ names_long name (parents_of c);
+        parents = ap (λ p. map (λ m. commit_of_value (value_of_name r.records m)) p.parents) view_is ∙ parents_told (parents_of c) ps;
+        holds = subst (λ p. AllByRecursion (Holds r.records kind.Commit) p.parents) (sym view_is) (parents_hold (parents_of c) ps);
+        files = ap (contents_of (named_values r.records)) names_is ∙ contents_told name namer r sound (files_of c) (named_map name (files_of c)) files;
+        named = subst (IsNamedMap r.records) (sym names_is) (files_named name namer r sound (files_of c) (named_map name (files_of c)) files);
+      }
+
+  -- a commit whose lines went out has its mark
+  pub commit_marked : {A : Type 0} (us : List Value) (c : Commit) (place : ℕ) (old mid new : Written A) (was now : Option Taken) → slice_get (values_of r) place ≡ Some (commit_value c) → HasWritten r us old
+      → Adds r us (commit_lines us (text_of c) (list_of (parents_of c)) (files_of c)) old mid was now (Ok tt) → new.bytes ≡ mid.bytes → new.count ≡ mid.count + 1 → new.marks.items ≡ set mid.marks.items place (mid.count + 1)
+      → HasWritten r (commit_value c ∷ us) new
+  commit_marked us c place old mid new was now e h k bytes count marks =
+      let l = lines_some us (text_of c) (list_of (parents_of c)) (files_of c) in
+      let m : mid.count < mid.bytes = (let a = h.count in let b = h.each in let d = k.0.count in let f = k.1.0 in omega (arith, l)) in
+      next_marked r us (commit_value c) place mid new (only_place name namer r sound (commit_value c) place e) (place_marked name namer r sound us mid.marks.items (commit_value c) place k.0.marks e) k.0 m bytes count marks

@@ -1,0 +1,50 @@
+-- The items of an export in their parts.
+use Rattle.std.proofs.Common.{◌≡◌, List, [], ◌∷◌, ◌++◌, map, length, Option, Result, Ok, Err, sym, ap, subst, ◌∙◌, append_assoc, codes}
+use Rattle.std.proofs.lemmas.Grind.{flat_map-append}
+use Rattle.gx_model.specs.Commands as command
+use Rattle.gx_model.specs.Export.{all_written, command_items, commit_commands, export_items, last_reset, reached_commits, ref_command}
+use Rattle.gx_model.specs.Histories.{History, Records}
+use Rattle.gx_model.specs.HistoryOf.{history_of}
+use Rattle.gx_model.specs.Items.{Item, Line}
+use Rattle.gx_model.specs.Values.{Value}
+use Rattle.gx_text.specs.Devices.{Taken}
+use Rattle.gx_import.specs.Applying.{Took}
+use Rattle.gx_export.specs.Exports.{Exports}
+use Rattle.gx_export.specs.Marks.{Adds}
+use Rattle.gx_export.specs.Outputs.{Stops}
+use Rattle.gx_export.specs.Texts.{items_of, items_text, last_items}
+use Rattle.gx_export.specs.declared.fault.ExportFault.{ExportFault}
+use Rattle.gx_export.specs.declared.written.Written.{Written}
+use Rattle.gx_export.proofs.CommitLists.{commits_items}
+use Rattle.gx_export.proofs.CommitTexts.{last_is}
+
+-- before the commits
+abbrev pub first_items : List Item
+first_items = Line (codes "feature done") ∷ []
+
+-- behind the commits
+abbrev pub refs_items : History → List Item
+refs_items h = items_of (map (ref_command (all_written (reached_commits h))) h.refs)
+
+abbrev pub end_items : List Item
+end_items = Line (codes "done") ∷ []
+
+-- all parts
+abbrev pub all_items : History → List Item
+all_items h = first_items ++ (commits_items [] (reached_commits h) ++ (last_items (length (all_written (reached_commits h))) ++ (refs_items h ++ end_items)))
+
+parts_of : (h : History) → export_items h ≡ all_items h
+parts_of h =
+    let cs = reached_commits h in
+    let refs = map (ref_command (all_written cs)) h.refs in
+    let inner = flat_map-append command_items (commit_commands [] cs) (last_reset cs ++ refs) ∙ ap (λ (is : List Item). commits_items [] cs ++ is) (flat_map-append command_items (last_reset cs) refs) in
+    let parted = append_assoc (commits_items [] cs) (items_of (last_reset cs) ++ items_of refs) end_items ∙ ap (λ (is : List Item). commits_items [] cs ++ is) (append_assoc (items_of (last_reset cs)) (items_of refs) end_items) in
+    ap (λ (is : List Item). first_items ++ is)
+    (flat_map-append command_items (commit_commands [] cs ++ (last_reset cs ++ refs)) (command.Done ∷ [])
+    ∙ ap (λ (is : List Item). is ++ end_items) inner ∙ parted ∙ ap (λ (is : List Item). commits_items [] cs ++ (is ++ (items_of refs ++ end_items))) (sym (last_is cs)))
+
+-- what goes out from the start is an export
+pub exports : {A : Type 0} (r : Records) (ws : List Value) (old new : Written A) (was now : Option Taken) (result : Result (Unit {0}) ExportFault) → old.bytes ≡ 0 → Adds r ws (all_items (history_of r)) old new was now result → Exports r was now result
+exports r ws old new was now (Ok x) z k = subst (λ is. Took was now (items_text is)) (sym (parts_of (history_of r))) k.1.2
+exports r ws old new was now (Err e) z k =
+    subst (λ is. Stops 0 was now (items_text is) e) (sym (parts_of (history_of r))) (subst (λ n. Stops n was now (items_text (all_items (history_of r))) e) z k)

@@ -1,0 +1,11 @@
+pub mod Ancestry
+pub mod BlobLists
+pub mod CommitLines
+pub mod CommitLists
+pub mod CommitTexts
+pub mod ExportTexts
+pub mod FileLines
+pub mod Numbering
+pub mod Placing
+pub mod RefLines
+pub mod Writing

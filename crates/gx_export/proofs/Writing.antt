@@ -1,0 +1,131 @@
+-- Texts that are written one after the other.
+use Rattle.std.proofs.Common.{◌≡◌, ℕ, suc, ◌+◌, ◌<◌, ◌≤◌, List, [], ◌∷◌, ◌++◌, length, take, drop, get_or, true, Option, Some, None, Result, Ok, Err, inl, inr, refl, sym, ap, subst, ◌∙◌, arith, append_assoc}
+use Rattle.std.specs.List.{flat_map}
+use Rattle.std.proofs.lemmas.Grind.{flat_map-append}
+use Rattle.std.proofs.lemmas.List.{append-nil, length-append, length-drop, length-take, take-append-drop}
+use Rattle.std.proofs.Math.Seq.{take-suc, drop-cons}
+use Rattle.gx_model.specs.Texts.{Bytes}
+use Rattle.gx_text.specs.Devices.{Sends, Taken}
+use Rattle.gx_import.specs.Applying.{Took}
+use Rattle.gx_import.proofs.ProgressTexts.{took_more, took_none}
+use Rattle.gx_model.specs.Items.{Item}
+use Rattle.gx_model.specs.Export.{item_text}
+use Rattle.gx_export.specs.Texts.{items_text}
+use Rattle.gx_export.specs.Outputs.{Stops, StopsAt, Writes, most}
+use Rattle.gx_export.specs.declared.fault.ExportFault.{ExportFault}
+use Rattle.gx_export.specs.declared.fault.ExportFault.TheVariants.{OutOfMemory, WriteFailed}
+
+-- ---- stops
+
+longer : (x y : Bytes) → 0 < length x → 0 < length (x ++ y)
+longer x y k = omega (arith, length-append x y)
+
+-- what stops within a text stops within a longer one
+pub stopped_sooner : (before count : ℕ) (was now : Option Taken) (a b : Bytes) → StopsAt before count was now a → StopsAt before count was now (a ++ b)
+stopped_sooner before count None now a b h = tt
+stopped_sooner before count (Some was) now a b h = (h.0, h.1 ++ b, ap (λ x. x ++ b) h.2 ∙ append_assoc h.0 h.1 b, longer h.1 b h.3, h.4, h.5)
+
+pub stops_sooner : (before : ℕ) (was now : Option Taken) (a b : Bytes) (e : ExportFault) → Stops before was now a e → Stops before was now (a ++ b) e
+stops_sooner before was now a b OutOfMemory h = (h.0, h.1 ++ b, ap (λ x. x ++ b) h.2 ∙ append_assoc h.0 h.1 b, h.3)
+stops_sooner before was now a b (WriteFailed count) h = stopped_sooner before count was now a b h
+
+-- what stops behind a text that was taken stops within both
+pub stopped_later : (before mid count : ℕ) (was between now : Option Taken) (a b : Bytes) → mid ≡ before + length a → Took was between a → StopsAt mid count between now b → StopsAt before count was now (a ++ b)
+stopped_later before mid count None between now a b m h k = tt
+stopped_later before mid count (Some was) between now a b m h k =
+    let e = subst (λ t. StopsAt mid count t now b) h k in (
+      a ++ e.0,
+      e.1,
+      ap (λ x. a ++ x) e.2 ∙ sym (append_assoc a e.0 e.1),
+      e.3,
+      (let l = e.4 in omega (arith, length-append a e.0)),
+      elim e.5 [
+        | inl t ↦ inl (t ∙ ap (λ x. Some (record { bytes = x; failed = true })) (append_assoc was.bytes a e.0))
+        | inr t ↦ inr (t.0, t.1 ∙ ap (λ x. Some (record { bytes = x; failed = was.failed })) (append_assoc was.bytes a e.0))
+      ],
+    )
+
+pub stops_later : (before mid : ℕ) (was between now : Option Taken) (a b : Bytes) (e : ExportFault) → mid ≡ before + length a → Took was between a → Stops mid between now b e → Stops before was now (a ++ b) e
+stops_later before mid was between now a b OutOfMemory m h k = (a ++ k.0, k.1, ap (λ x. a ++ x) k.2 ∙ sym (append_assoc a k.0 k.1), took_more was between now a k.0 h k.3)
+stops_later before mid was between now a b (WriteFailed count) m h k = stopped_later before mid count was between now a b m h k
+
+-- memory runs out before a text
+pub stops_first : (before : ℕ) (was : Option Taken) (text : Bytes) → Stops before was was text OutOfMemory
+stops_first before was text = ([], text, refl, took_none was)
+
+-- ---- writes
+
+-- a text that is written behind another one
+pub writes_later : (before mid after : ℕ) (was between now : Option Taken) (a b : Bytes) (r : Result (Unit {0}) ExportFault) → Writes before mid was between a (Ok tt) → Writes mid after between now b r → Writes before after was now (a ++ b) r
+writes_later before mid after was between now a b (Ok x) h k = ((let m = h.0 in let n = k.0 in omega (arith, length-append a b)), k.1, took_more was between now a b h.2 k.2)
+writes_later before mid after was between now a b (Err e) h k = stops_later before mid was between now a b e h.0 h.2 k
+
+-- nothing is written
+pub writes_none : (before : ℕ) (was : Option Taken) → before ≤ most → Writes before before was was [] (Ok tt)
+writes_none before was h = (omega arith, h, took_none was)
+
+-- ---- items
+
+-- the text of items behind others
+pub items_append : (xs ys : List Item) → items_text (xs ++ ys) ≡ items_text xs ++ items_text ys
+items_append xs ys = flat_map-append item_text xs ys
+
+-- items are written behind others, or the export stops within them
+pub items_later : (before mid after : ℕ) (was between now : Option Taken) (xs ys : List Item) (r : Result (Unit {0}) ExportFault) → Writes before mid was between (items_text xs) (Ok tt) → Writes mid after between now (items_text ys) r → Writes before after was now (items_text (xs ++ ys)) r
+items_later before mid after was between now xs ys r h k = subst (λ t. Writes before after was now t r) (sym (items_append xs ys)) (writes_later before mid after was between now (items_text xs) (items_text ys) r h k)
+
+-- what stops within items stops within these and others
+pub items_sooner : (before : ℕ) (was now : Option Taken) (xs ys : List Item) (e : ExportFault) → Stops before was now (items_text xs) e → Stops before was now (items_text (xs ++ ys)) e
+items_sooner before was now xs ys e h = subst (λ t. Stops before was now t e) (sym (items_append xs ys)) (stops_sooner before was now (items_text xs) (items_text ys) e h)
+
+-- ---- one text
+
+sent_up_to : (before n : ℕ) (was now : Option Taken) (text : Bytes) → n < length text → Sends was now text (Err n) → StopsAt before (before + n) was now text
+sent_up_to before n None now text h k = tt
+sent_up_to before n (Some was) now text h k = (take n text, drop n text, sym (take-append-drop n text), left, ap (λ m. before + m) (sym front), inl k.1)
+  where
+    left : 0 < length (drop n text)
+    left = omega (arith, length-drop n text)
+
+    front : length (take n text) ≡ n
+    front = omega (arith, length-take n text)
+
+-- a front of a text is sent in part
+pub front_sent_up_to : (before n count : ℕ) (was now : Option Taken) (text : Bytes) → n < length (take count text) → Sends was now (take count text) (Err n) → StopsAt before (before + n) was now text
+front_sent_up_to before n count was now text h k =
+    subst (StopsAt before (before + n) was now) (take-append-drop count text) (stopped_sooner before (before + n) was now (take count text) (drop count text) (sent_up_to before n was now (take count text) h k))
+
+-- a front of a text is sent, up to the most bytes
+pub front_sent : (before count : ℕ) (was now : Option Taken) (text : Bytes) → count < length text → before + count ≡ most → Sends was now (take count text) (Ok tt) → StopsAt before (before + count) was now text
+front_sent before count None now text h m k = tt
+front_sent before count (Some was) now text h m k = (take count text, drop count text, sym (take-append-drop count text), left, ap (λ n. before + n) (sym front), inr (m, k.0))
+  where
+    left : 0 < length (drop count text)
+    left = omega (arith, length-drop count text)
+
+    front : length (take count text) ≡ count
+    front = omega (arith, length-take count text)
+
+-- ---- the texts of a list
+
+module _ {X : Type 0} (f : X → Bytes) (xs : List X) (i : ℕ) (d : X) (h : i < length xs) where
+  -- one more
+  pub text_next : flat_map f (take (i + 1) xs) ≡ flat_map f (take i xs) ++ f (get_or xs i d)
+  text_next =
+      let step : i + 1 ≡ suc i = omega arith in
+      ap (λ n. flat_map f (take n xs)) step ∙ ap (flat_map f) (take-suc xs i d h) ∙ flat_map-append f (take i xs) (get_or xs i d ∷ []) ∙ ap (λ t. flat_map f (take i xs) ++ t) (append-nil (f (get_or xs i d)))
+
+  -- those before, this one, and those behind it
+  pub text_parts : flat_map f xs ≡ flat_map f (take i xs) ++ (f (get_or xs i d) ++ flat_map f (drop (suc i) xs))
+  text_parts =
+      ap (flat_map f) (sym (take-append-drop i xs)) ∙ flat_map-append f (take i xs) (drop i xs) ∙ ap (λ t. flat_map f (take i xs) ++ flat_map f t) (drop-cons xs i d h)
+
+  -- what stops within one text stops within all
+  pub stops_within : (before mid : ℕ) (was between now : Option Taken) (e : ExportFault) → Writes before mid was between (flat_map f (take i xs)) (Ok tt) → Stops mid between now (f (get_or xs i d)) e → Stops before was now (flat_map f xs) e
+  stops_within before mid was between now e k s =
+      subst (λ t. Stops before was now t e) (sym text_parts)
+      (stops_later before mid was between now (flat_map f (take i xs)) (f (get_or xs i d) ++ flat_map f (drop (suc i) xs)) e k.0 k.2 (stops_sooner mid between now (f (get_or xs i d)) (flat_map f (drop (suc i) xs)) e s))
+
+  -- one text more is written
+  pub writes_next : (before mid after : ℕ) (was between now : Option Taken) → Writes before mid was between (flat_map f (take i xs)) (Ok tt) → Writes mid after between now (f (get_or xs i d)) (Ok tt) → Writes before after was now (flat_map f (take (i + 1) xs)) (Ok tt)
+  writes_next before mid after was between now k s = subst (λ t. Writes before after was now t (Ok tt)) (sym text_next) (writes_later before mid after was between now (flat_map f (take i xs)) (f (get_or xs i d)) (Ok tt) k s)

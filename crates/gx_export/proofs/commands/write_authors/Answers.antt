@@ -1,0 +1,26 @@
+use Rattle.std.proofs.Common.{◌≡◌, ℕ, [], ◌∷◌, ◌++◌, codes, ap, sym, subst, ◌∙◌, append_assoc}
+use Rattle.std.proofs.lemmas.List.{append-nil}
+use Rattle.std.specs.Fmt.{decimal}
+use Rattle.gx_model.specs.Texts.{Bytes}
+use Rattle.gx_model.specs.Values.{CommitText}
+use Rattle.gx_export.specs.Outputs.{Writes}
+use Rattle.gx_export.specs.Texts.{author_items, items_text}
+use Rattle.gx_export.proofs.commands.write_authors.Goals as goal
+
+-- a line's end goes to what follows
+ended : (line rest : Bytes) → (line ++ 10 ∷ []) ++ rest ≡ line ++ (10 ∷ rest)
+ended line rest = append_assoc line (10 ∷ []) rest
+
+-- the lines in their pieces
+author_text : (mark : ℕ) (text : CommitText) → codes "commit refs/gx/export" ++ (10 ∷ (codes "mark :" ++ (decimal mark ++ (10 ∷ (codes "author " ++ (text.author ++ (10 ∷ (codes "committer " ++ (text.committer ++ 10 ∷ []))))))))) ≡ items_text (author_items mark text)
+author_text mark text =
+    let last = append-nil (text.committer ++ 10 ∷ []) in
+    let committer = ended text.author (codes "committer " ++ ((text.committer ++ 10 ∷ []) ++ [])) ∙ ap (λ (x : Bytes). text.author ++ (10 ∷ (codes "committer " ++ x))) last in
+    let author = ended (decimal mark) (codes "author " ++ ((text.author ++ 10 ∷ []) ++ (codes "committer " ++ ((text.committer ++ 10 ∷ []) ++ [])))) ∙ ap (λ (x : Bytes). decimal mark ++ (10 ∷ (codes "author " ++ x))) committer in
+    ap (λ (x : Bytes). codes "commit refs/gx/export" ++ (10 ∷ (codes "mark :" ++ x))) (sym author)
+
+pub returns : goal.returns
+returns g c =
+    let taken = g.W.Sink.taken in
+    let done = rw (c.as_slice.ensures, c.as_bytes.ensures.value, c.format.ensures.text, c.author.ensures, c.committer.ensures) at c.write_all.ensures in
+    subst (λ t. Writes c.args.written.now c.write_all.new.written (taken c.args.sink.now) (taken c.write_all.new.sink) t c.write_all.result) (author_text c.args.mark c.args.commit.now.text) done

@@ -1,0 +1,16 @@
+use Rattle.std.proofs.Common.{◌≡◌, ◌<◌, arith, length}
+use Rattle.gx_model.specs.RepositoryLaws.{values_of}
+use Rattle.gx_rev.specs.Objects.{commit_at, value_at}
+use Rattle.gx_rev.proofs.Marking.{mark_there}
+use Rattle.gx_rev.proofs.Standing.{at_within, commit_at_place}
+use Rattle.gx_export.proofs.reached.mark.Goals as goal
+
+pub returns : goal.returns
+returns g c =
+    let name = g.N.Namer.name_of c.args.repo.now.0 in
+    let namer = g.met.N.Namer.is_namer c.args.repo.now.0 in
+    let r = c.args.repo.now.1 in
+    let within = at_within (values_of r) c.place_of-place.result (value_at r c.args.commit.now) c.place_of-place.ensures in
+    let long : length c.args.marks.now ≡ length (values_of r) = c.requires.long in
+    let in_marks : c.place_of-place.result < length c.args.marks.now = omega (arith, within, long) in
+    mark_there name namer r c.sound.ensures c.args.marks.now c.place_of-place.result (commit_at r c.args.commit.now) in_marks (commit_at_place name namer r c.sound.ensures c.args.commit.now.bytes c.place_of-place.result c.requires.held c.place_of-place.ensures)

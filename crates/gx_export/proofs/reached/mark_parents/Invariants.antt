@@ -1,0 +1,13 @@
+use Rattle.std.proofs.Common.{◌≡◌, length}
+use Rattle.gx_model.specs.RepositoryLaws.{values_of}
+use Rattle.gx_model.specs.Values.{list_of, parents_of}
+use Rattle.gx_rev.specs.Marks.{Marks}
+use Rattle.gx_rev.specs.Objects.{commit_at}
+use Rattle.gx_rev.proofs.Marking.{IsBefore}
+use Rattle.gx_export.proofs.reached.mark_parents.Given as goal
+
+abbrev pub invariant-loop-number : goal.invariant-loop-number
+invariant-loop-number g l = record {
+  long : length l.marks ≡ length (values_of l.repo.1);
+  marked : Marks l.repo.1 (IsBefore (list_of (parents_of (commit_at l.repo.1 l.commit))) l.number) l.fn.marks l.marks;
+}

@@ -1,0 +1,58 @@
+use Rattle.std.proofs.Common.{[], ◌++◌, ◌∙◌, sym, subst, map, ap}
+use Rattle.std.proofs.lemmas.List.{append-nil}
+use Rattle.std.specs.List.{AllByRecursion}
+use Rattle.gx_model.specs.Sound.{IsTarget}
+use Rattle.gx_import.proofs.KeptRefs.{not_unpeeled, told}
+use Rattle.gx_rev.specs.Marks.{Marks}
+use Rattle.gx_rev.specs.Objects.{commit_at}
+use Rattle.gx_rev.proofs.HeldValues.{peeled_to}
+use Rattle.gx_import.proofs.KeptRefs.{target_peels}
+use Rattle.gx_export.specs.Reaching.{IsTip}
+use Rattle.gx_export.proofs.Ancestry.{next_ref, no_tips, tip_is}
+use Rattle.gx_export.proofs.reached.mark_refs.Goals as goal
+
+pub loop-object-init : goal.loop-object-init
+loop-object-init g c =
+    let all = c.into_iter-object-iterator.ensures.into_iter_gives ∙ c.refs-object-items.ensures in (
+      tt,
+      c.requires,
+      ([], sym all, no_tips c.args.repo.now.1 c.args.marks.now),
+      subst (AllByRecursion (λ ref. IsTarget c.args.repo.now.1.records ref.0 ref.1)) (sym all) c.sound.ensures.held,
+    )
+
+pub mark-requires-clause-held : goal.mark-requires-clause-held
+mark-requires-clause-held g c =
+    let name = g.N.Namer.name_of c.args.repo.now.0 in
+    let namer = g.met.N.Namer.is_namer c.args.repo.now.0 in
+    let r = c.args.repo.now.1 in
+    let target = (subst (AllByRecursion (λ ref. IsTarget r.records ref.0 ref.1)) c.in-Some.ensures.steps c.loop-object.invariant.3).0 in
+    (peeled_to name namer r c.sound.ensures c.in-Some.object.bytes c.in-Some-peel.commit.bytes (target_peels name namer r c.sound.ensures c.in-Some.field-0-0.now c.in-Some.object.bytes target).held c.in-Some-peel.ensures).1
+
+pub loop-object-preserved-in-Some-peel : goal.loop-object-preserved-in-Some-peel
+loop-object-preserved-in-Some-peel g c =
+    let name = g.N.Namer.name_of c.args.repo.now.0 in
+    let namer = g.met.N.Namer.is_namer c.args.repo.now.0 in
+    let r = c.args.repo.now.1 in
+    let rest = subst (AllByRecursion (λ ref. IsTarget r.records ref.0 ref.1)) c.in-Some.ensures.steps c.loop-object.invariant.3 in
+    let i = c.loop-object.invariant.2 in (
+      tt,
+      c.mark.auto.marks ∙ c.loop-object.invariant.1,
+      next_ref name namer r c.sound.ensures i.0 c.loop-object.object-iterator c.next.new.self (c.in-Some.field-0-0.now, c.in-Some.object.bytes) c.args.marks.now c.loop-object.marks c.mark.new.marks (commit_at r c.in-Some-peel.commit) i.1 c.in-Some.ensures.steps
+          (tip_is name namer r c.sound.ensures c.in-Some.field-0-0.now c.in-Some.object.bytes c.in-Some-peel.commit.bytes rest.0 c.in-Some-peel.ensures) i.2 c.mark.ensures,
+      rest.1,
+    )
+
+pub loop-object-preserved : goal.loop-object-preserved
+loop-object-preserved g c =
+    let name = g.N.Namer.name_of c.args.repo.now.0 in
+    let namer = g.met.N.Namer.is_namer c.args.repo.now.0 in
+    let r = c.args.repo.now.1 in
+    let rest = subst (AllByRecursion (λ ref. IsTarget r.records ref.0 ref.1)) c.in-Some.ensures.steps c.loop-object.invariant.3 in
+    absurd (not_unpeeled name namer r c.sound.ensures c.in-Some.field-0-0.now c.in-Some.object.bytes rest.0 c.in_default.ensures)
+
+pub returns : goal.returns
+returns g c =
+    let r = c.args.repo.now.1 in
+    let i = c.loop-object.invariant.2 in
+    let all = i.1 ∙ ap (λ x. i.0 ++ x) c.in-None.ensures.steps.0 ∙ append-nil i.0 in
+    subst (λ refs. Marks r (IsTip (map (told r) refs)) c.args.marks.now c.loop-object.marks) (sym all) i.2

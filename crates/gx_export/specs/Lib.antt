@@ -1,0 +1,5 @@
+pub mod Exports
+pub mod Marks
+pub mod Outputs
+pub mod Reaching
+pub mod Texts

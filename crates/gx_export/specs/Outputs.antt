@@ -1,0 +1,35 @@
+-- What a sink makes of a text that is written to it.
+use Rattle.std.specs.Prelude.{◌≡◌, ◌⊎◌, ℕ, ◌+◌, ◌-◌, ◌^◌, ◌<◌, ◌≤◌, ◌++◌, length, true, Option, Some, None, Result, Ok, Err, ⊤}
+use Rattle.gx_model.specs.Texts.{Bytes}
+use Rattle.gx_text.specs.Devices.{Taken}
+use Rattle.gx_import.specs.Applying.{Took}
+use Rattle.gx_import.specs.Imports.{TookFront}
+use Rattle.gx_export.specs.declared.fault.ExportFault.{ExportFault}
+use Rattle.gx_export.specs.declared.fault.ExportFault.TheVariants.{OutOfMemory, WriteFailed}
+
+-- the most bytes that a text has
+abbrev pub most : ℕ
+most = 2 ^ 63 - 1
+
+-- the sink failed after this front, or its bytes are the most
+abbrev pub StopsAfter : ℕ → Taken → Option Taken → Bytes → Type 0
+StopsAfter count was now front =
+    (now ≡ Some (record { bytes = was.bytes ++ front; failed = true }))
+    ⊎ ((count ≡ most) × (now ≡ Some (record { bytes = was.bytes ++ front; failed = was.failed })))
+
+-- Of this text, with so many bytes before it, the sink took those up to this count, which aren't all, and failed or has the
+-- most bytes; of a sink that tells nothing, nothing is claimed.
+abbrev pub StopsAt : ℕ → ℕ → Option Taken → Option Taken → Bytes → Type 0
+StopsAt before count None now text = ⊤
+StopsAt before count (Some was) now text =
+    (front : Bytes) × (rest : Bytes) × (text ≡ front ++ rest) × (0 < length rest) × (count ≡ before + length front) × StopsAfter count was now front
+
+-- what an export that stops within this text leaves
+abbrev pub Stops : ℕ → Option Taken → Option Taken → Bytes → ExportFault → Type 0
+Stops before was now text OutOfMemory = TookFront was now text
+Stops before was now text (WriteFailed count) = StopsAt before count was now text
+
+-- A text goes out behind so many bytes, and these are then counted; or the export stops within it.
+abbrev pub Writes : ℕ → ℕ → Option Taken → Option Taken → Bytes → Result (Unit {0}) ExportFault → Type 0
+Writes before after was now text (Ok _) = (after ≡ before + length text) × (after ≤ most) × Took was now text
+Writes before after was now text (Err fault) = Stops before was now text fault

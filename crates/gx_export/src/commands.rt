@@ -1,0 +1,278 @@
+//! The texts of commands. Source: git-fast-import(1), "Input Format".
+
+ghost use Rattle.std.specs.Prelude.{◌≡◌, ◌≤◌, [], ◌∷◌, Some};
+ghost use Rattle.std.specs.Option.{option_map};
+ghost use Rattle.gx_model.specs.declared.objects.Mode.TheVariants.{Gitlink};
+ghost use Rattle.gx_model.specs.Commands.{Blob, Marked, Reset};
+ghost use Rattle.gx_model.specs.Export.{mark_text, mode_digits, optional_line, to_nothing, word_line};
+ghost use Rattle.gx_model.specs.Items.{Data};
+ghost use Rattle.gx_model.specs.Objects.{hex};
+ghost use Rattle.gx_export.specs.Outputs.{Writes, most};
+ghost use Rattle.gx_export.specs.Texts.{author_items, command_text, file_line, head_items, items_text, tag_command, target_items};
+
+use crate::ExportFault;
+use crate::output::write_all;
+use gx_object::{CommitView, Mode, Name, TagView};
+use gx_text::Sink;
+use itoa::Buffer;
+
+/// Writes a blob under a mark.
+pub(crate) fn write_blob<W: Sink>(
+    sink: &mut W,
+    written: &mut u64,
+    mark: u64,
+    bytes: &[u8],
+) -> Result<(), ExportFault>
+    requires { written.old ≤ most }
+    ensures { Writes written.old written.new (W.taken sink.old) (W.taken sink.new) (command_text (Blob (record { mark = Some mark; bytes = bytes.now }))) result }
+{
+    let mut number = Buffer::new();
+    let mut length = Buffer::new();
+    write_all(
+        sink,
+        written,
+        &[
+            b"blob\nmark :".as_slice(),
+            number.format(mark).as_bytes(),
+            b"\ndata ",
+            length.format(bytes.len()).as_bytes(),
+            b"\n",
+            bytes,
+            b"\n",
+        ],
+    )
+}
+
+/// Writes a block.
+fn write_block<W: Sink>(sink: &mut W, written: &mut u64, bytes: &[u8]) -> Result<(), ExportFault>
+    requires { written.old ≤ most }
+    ensures { Writes written.old written.new (W.taken sink.old) (W.taken sink.new) (items_text (Data bytes.now ∷ [])) result }
+{
+    let mut length = Buffer::new();
+    write_all(
+        sink,
+        written,
+        &[
+            b"data ".as_slice(),
+            length.format(bytes.len()).as_bytes(),
+            b"\n",
+            bytes,
+            b"\n",
+        ],
+    )
+}
+
+/// Writes a line with a word and a text, where there is a text.
+fn write_optional<W: Sink>(
+    sink: &mut W,
+    written: &mut u64,
+    word: &[u8],
+    text: Option<&[u8]>,
+) -> Result<(), ExportFault>
+    requires { written.old ≤ most }
+    ensures { Writes written.old written.new (W.taken sink.old) (W.taken sink.new) (items_text (optional_line word.now (option_map (λ text. text.now) text.entry))) result }
+{
+    match text {
+        Some(text) => write_all(sink, written, &[word, b" ", text, b"\n"]),
+        None => Ok(()),
+    }
+}
+
+/// Writes a commit's lines up to its message, under a mark.
+pub(crate) fn write_commit_head<W: Sink>(
+    sink: &mut W,
+    written: &mut u64,
+    mark: u64,
+    commit: &CommitView<'_>,
+) -> Result<(), ExportFault>
+    requires { written.old ≤ most }
+    ensures { Writes written.old written.new (W.taken sink.old) (W.taken sink.new) (items_text (head_items mark commit.now.text)) result }
+{
+    write_authors(sink, written, mark, commit)?;
+    write_optional(sink, written, b"encoding", commit.encoding())?;
+    write_block(sink, written, commit.message())
+}
+
+/// Writes a commit's lines up to its committer.
+fn write_authors<W: Sink>(
+    sink: &mut W,
+    written: &mut u64,
+    mark: u64,
+    commit: &CommitView<'_>,
+) -> Result<(), ExportFault>
+    requires { written.old ≤ most }
+    ensures { Writes written.old written.new (W.taken sink.old) (W.taken sink.new) (items_text (author_items mark commit.now.text)) result }
+{
+    let mut number = Buffer::new();
+    write_all(
+        sink,
+        written,
+        &[
+            b"commit refs/gx/export\nmark :".as_slice(),
+            number.format(mark).as_bytes(),
+            b"\nauthor ",
+            commit.author(),
+            b"\ncommitter ",
+            commit.committer(),
+            b"\n",
+        ],
+    )
+}
+
+/// Writes the line of a parent, `from` or `merge`.
+pub(crate) fn write_parent<W: Sink>(
+    sink: &mut W,
+    written: &mut u64,
+    word: &[u8],
+    mark: u64,
+) -> Result<(), ExportFault>
+    requires { written.old ≤ most }
+    ensures { Writes written.old written.new (W.taken sink.old) (W.taken sink.new) (items_text (word_line word.now (mark_text mark) ∷ [])) result }
+{
+    let mut number = Buffer::new();
+    write_all(
+        sink,
+        written,
+        &[word, b" :", number.format(mark).as_bytes(), b"\n"],
+    )
+}
+
+/// Writes the line of a file whose bytes have a mark. The path is printed.
+pub(crate) fn write_file<W: Sink>(
+    sink: &mut W,
+    written: &mut u64,
+    mode: Mode,
+    mark: u64,
+    path: &[u8],
+) -> Result<(), ExportFault>
+    requires { written.old ≤ most }
+    ensures { Writes written.old written.new (W.taken sink.old) (W.taken sink.new) (items_text (file_line mode (mark_text mark) path.now ∷ [])) result }
+{
+    let digits = mode_digits(mode);
+    let mut number = Buffer::new();
+    write_all(
+        sink,
+        written,
+        &[
+            b"M ".as_slice(),
+            digits.as_slice(),
+            b" :",
+            number.format(mark).as_bytes(),
+            b" ",
+            path,
+            b"\n",
+        ],
+    )
+}
+
+/// Writes the line of a gitlink. The path is printed.
+pub(crate) fn write_gitlink<W: Sink>(
+    sink: &mut W,
+    written: &mut u64,
+    name: &Name,
+    path: &[u8],
+) -> Result<(), ExportFault>
+    requires { written.old ≤ most }
+    ensures { Writes written.old written.new (W.taken sink.old) (W.taken sink.new) (items_text (file_line Gitlink (hex name.now.bytes) path.now ∷ [])) result }
+{
+    let digits = name.hex();
+    write_all(
+        sink,
+        written,
+        &[
+            b"M 160000 ".as_slice(),
+            digits.as_slice(),
+            b" ",
+            path,
+            b"\n",
+        ],
+    )
+}
+
+/// Writes a reset to no commit.
+pub(crate) fn write_reset<W: Sink>(
+    sink: &mut W,
+    written: &mut u64,
+    name: &[u8],
+) -> Result<(), ExportFault>
+    requires { written.old ≤ most }
+    ensures { Writes written.old written.new (W.taken sink.old) (W.taken sink.new) (command_text (to_nothing name.now)) result }
+{
+    write_all(sink, written, &[b"reset ".as_slice(), name, b"\n"])
+}
+
+/// Writes a reset to a commit that has a mark.
+pub(crate) fn write_reset_to<W: Sink>(
+    sink: &mut W,
+    written: &mut u64,
+    name: &[u8],
+    mark: u64,
+) -> Result<(), ExportFault>
+    requires { written.old ≤ most }
+    ensures { Writes written.old written.new (W.taken sink.old) (W.taken sink.new) (command_text (Reset (record { ref = name.now; parent = Some (Marked mark) }))) result }
+{
+    let mut number = Buffer::new();
+    write_all(
+        sink,
+        written,
+        &[
+            b"reset ".as_slice(),
+            name,
+            b"\nfrom :",
+            number.format(mark).as_bytes(),
+            b"\n\n",
+        ],
+    )
+}
+
+/// Writes a tag of a commit that has a mark.
+pub(crate) fn write_tag<W: Sink>(
+    sink: &mut W,
+    written: &mut u64,
+    tag: &TagView<'_>,
+    mark: u64,
+) -> Result<(), ExportFault>
+    requires { written.old ≤ most }
+    ensures { Writes written.old written.new (W.taken sink.old) (W.taken sink.new) (command_text (tag_command mark tag.now)) result }
+{
+    write_target(sink, written, tag, mark)?;
+    write_optional(sink, written, b"tagger", tag.tagger())?;
+    write_block(sink, written, tag.message())
+}
+
+/// Writes a tag's lines up to its commit.
+fn write_target<W: Sink>(
+    sink: &mut W,
+    written: &mut u64,
+    tag: &TagView<'_>,
+    mark: u64,
+) -> Result<(), ExportFault>
+    requires { written.old ≤ most }
+    ensures { Writes written.old written.new (W.taken sink.old) (W.taken sink.new) (items_text (target_items mark tag.now.name)) result }
+{
+    let mut number = Buffer::new();
+    write_all(
+        sink,
+        written,
+        &[
+            b"tag ".as_slice(),
+            tag.name(),
+            b"\nfrom :",
+            number.format(mark).as_bytes(),
+            b"\n",
+        ],
+    )
+}
+
+/// The six digits of a mode.
+fn mode_digits(mode: Mode) -> [u8; 6]
+    ensures { result ≡ mode_digits mode }
+{
+    match mode {
+        Mode::File => *b"100644",
+        Mode::Exec => *b"100755",
+        Mode::Link => *b"120000",
+        Mode::Gitlink => *b"160000",
+        Mode::Dir => *b"040000",
+    }
+}

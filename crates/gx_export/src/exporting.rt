@@ -1,0 +1,81 @@
+//! Exports of whole repositories. Source: git-fast-export(1).
+
+ghost use Rattle.std.specs.Prelude.{◌≡◌, ◌≤◌, []};
+ghost use Rattle.gx_model.specs.Export.{all_written, commit_commands, reached_commits};
+ghost use Rattle.gx_model.specs.HistoryOf.{history_of};
+ghost use Rattle.gx_model.specs.RepositoryLaws.{values_of};
+ghost use Rattle.gx_rev.specs.Marks.{marks_of};
+ghost use Rattle.gx_export.specs.Exports.{Exports};
+ghost use Rattle.gx_export.specs.Marks.{Adds, HasWritten};
+ghost use Rattle.gx_export.specs.Outputs.{Writes, most};
+ghost use Rattle.gx_export.specs.Reaching.{is_wanted};
+ghost use Rattle.gx_export.specs.Texts.{items_of, items_text, last_items};
+
+use crate::ExportFault;
+use crate::commands::write_reset;
+use crate::commit::write_commit;
+use crate::output::write;
+use crate::reached::reached;
+use crate::refs::write_refs;
+use crate::written::Written;
+use gx_object::Namer;
+use gx_repo::Repo;
+use gx_text::Sink;
+use std::alloc::Allocator;
+
+/// Writes a repository as a stream, as it is made: the commits that refs reach in the order of their records, each with
+/// all of its files and after those of their bytes that weren't written yet, and then the refs.
+///
+/// WriteFailed where the sink fails, or has taken 2^63 - 1 bytes of a longer text. What went to the sink stays there, and
+/// is a front of the text.
+///
+/// Cost: the text's length, for each commit that is written its trees, and for each file, parent and ref the number of
+/// records. Memory: nine bytes for each record, and one commit's files and their paths. Source: git-fast-export(1),
+/// `--full-tree`.
+pub fn export<N: Namer, A: Allocator + Copy, W: Sink>(
+    alloc: A,
+    repo: &Repo<N, A>,
+    sink: &mut W,
+) -> Result<(), ExportFault>
+    ensures { Exports repo.now.1 (W.taken sink.old) (W.taken sink.new) result }
+{
+    repo.sound();
+    let reached = reached(alloc, repo)?;
+    let mut written = Written::new(alloc, repo.store().len())?;
+    write(sink, &mut written.bytes, b"feature done\n")?;
+    write_commits(alloc, repo, sink, &mut written, &reached)?;
+    write_last(sink, &mut written.bytes, written.count)?;
+    write_refs(repo, sink, &mut written)?;
+    write(sink, &mut written.bytes, b"done\n")
+}
+
+/// Writes the commits that are reached.
+fn write_commits<N: Namer, A: Allocator + Copy, W: Sink>(
+    alloc: A,
+    repo: &Repo<N, A>,
+    sink: &mut W,
+    written: &mut Written<A>,
+    reached: &[bool],
+) -> Result<(), ExportFault>
+    requires reached { reached.now ≡ marks_of (is_wanted repo.now.1) (values_of repo.now.1) }
+    requires written { HasWritten repo.now.1 [] written.old }
+    ensures { Adds repo.now.1 (all_written (reached_commits (history_of repo.now.1))) (items_of (commit_commands [] (reached_commits (history_of repo.now.1)))) written.old written.new (W.taken sink.old) (W.taken sink.new) result }
+{
+    for place in 0..reached.len() {
+        if reached[place] {
+            write_commit(alloc, repo, sink, written, place)?;
+        }
+    }
+    Ok(())
+}
+
+/// Writes the reset behind the commits, where so many marks were given.
+fn write_last<W: Sink>(sink: &mut W, written: &mut u64, marks: u64) -> Result<(), ExportFault>
+    requires { written.old ≤ most }
+    ensures { Writes written.old written.new (W.taken sink.old) (W.taken sink.new) (items_text (last_items marks)) result }
+{
+    if marks > 0 {
+        return write_reset(sink, written, b"refs/gx/export");
+    }
+    Ok(())
+}

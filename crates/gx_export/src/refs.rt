@@ -1,0 +1,60 @@
+//! The refs at the end of an export: resets to commits, and tags.
+
+ghost use Rattle.std.specs.Prelude.{List, map};
+ghost use Rattle.gx_model.specs.Export.{command_items, ref_command};
+ghost use Rattle.gx_model.specs.HistoryOf.{history_of, target_in, value_of_name};
+ghost use Rattle.gx_model.specs.Sound.{IsTarget};
+ghost use Rattle.gx_model.specs.Values.{Value};
+ghost use Rattle.gx_export.specs.Marks.{Adds, HasWritten};
+ghost use Rattle.gx_export.specs.Texts.{items_of};
+
+use crate::ExportFault;
+use crate::commands::{write_reset_to, write_tag};
+use crate::written::{Written, mark_of};
+use gx_object::{Kind, Name, Namer, decode_tag};
+use gx_repo::Repo;
+use gx_text::Sink;
+use std::alloc::Allocator;
+
+/// Writes all refs.
+pub(crate) fn write_refs<N: Namer, A: Allocator + Copy, W: Sink>(
+    repo: &Repo<N, A>,
+    sink: &mut W,
+    written: &mut Written<A>,
+) -> Result<(), ExportFault>
+    requires written { (ws : List Value) × HasWritten repo.now.1 ws written.old }
+    ensures { (ws : List Value) → HasWritten repo.now.1 ws written.old → Adds repo.now.1 ws (items_of (map (ref_command ws) (history_of repo.now.1).refs)) written.old written.new (W.taken sink.old) (W.taken sink.new) result }
+{
+    repo.sound();
+    for (name, object) in repo.refs() {
+        write_ref(repo, sink, written, name, &object)?;
+    }
+    Ok(())
+}
+
+/// Writes a ref: a reset where it holds a commit, and a tag where it holds a tag.
+fn write_ref<N: Namer, A: Allocator + Copy, W: Sink>(
+    repo: &Repo<N, A>,
+    sink: &mut W,
+    written: &mut Written<A>,
+    name: &[u8],
+    object: &Name,
+) -> Result<(), ExportFault>
+    requires target { IsTarget repo.now.1.records name.now object.now.bytes }
+    requires written { (ws : List Value) × HasWritten repo.now.1 ws written.old }
+    ensures { (ws : List Value) → HasWritten repo.now.1 ws written.old → Adds repo.now.1 ws (command_items (ref_command ws (name.now, target_in (value_of_name repo.now.1.records object.now.bytes)))) written.old written.new (W.taken sink.old) (W.taken sink.new) result }
+{
+    repo.sound();
+    let Some((kind, body)) = repo.store().get(object) else {
+        unreachable!();
+    };
+    if kind != Kind::Tag {
+        let mark = mark_of(repo, written, object);
+        return write_reset_to(sink, &mut written.bytes, name, mark);
+    }
+    let Ok(tag) = decode_tag(body) else {
+        unreachable!();
+    };
+    let mark = mark_of(repo, written, &tag.object());
+    write_tag(sink, &mut written.bytes, &tag, mark)
+}

@@ -6,6 +6,7 @@ pub mod CommitTexts
 pub mod ExportTexts
 pub mod FileLines
 pub mod Numbering
+pub mod PathBytes
 pub mod Placing
 pub mod RefLines
 pub mod Writing

@@ -38,3 +38,5 @@ pub mod TagTargets
 pub mod MergedParents
 pub mod MadeCommits
 pub mod CommitRuns
+pub mod NoClashes
+pub mod ExportedAgain

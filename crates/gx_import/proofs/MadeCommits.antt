@@ -74,7 +74,8 @@ module _ (name : Kind → Bytes → Bytes) (s : State) (c : CommitParts) where
         pub step_made : step_commit name revision_of s c ≡ Ok (committed_to name revision_of c made r.0)
         step_made = stepped ∙ ap (λ o. and_then o (after_changes first others)) m
 
-        adding_made : added_by_commit name s c ≡ blobs ++ commit_added r.1 made
+        -- what the whole adds
+        pub adding_made : added_by_commit name s c ≡ blobs ++ commit_added r.1 made
         adding_made = adding ∙ ap (λ o. blobs ++ unless_refused (λ r. commit_added r.1 (commit_made name c first others r.1)) o) m
 
         abbrev then_set : State → Result State Fault

@@ -11,3 +11,4 @@ pub mod RefChanges
 pub mod Publishing
 pub mod Replaying
 pub mod Imports
+pub mod Exported

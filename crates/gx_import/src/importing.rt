@@ -1,6 +1,7 @@
 //! Imports of whole streams. Source: git-fast-import(1).
 
 ghost use Rattle.std.specs.Prelude.{◌≡◌, OnErr};
+ghost use Rattle.gx_import.specs.Exported.{ImportsExport};
 ghost use Rattle.gx_import.specs.Imports.{Imports};
 ghost use Rattle.gx_import.specs.Standing.{Extends};
 
@@ -8,7 +9,8 @@ use crate::publishing::publish;
 use crate::replay::replay;
 use crate::tables::Tables;
 use crate::{ImportFault, Report};
-use gx_model::repository_laws::histories_of_records;
+use gx_model::export_laws::{exports_are_imported, exports_are_readable};
+use gx_model::repository_laws::{histories_of_records, names_tell_values};
 use gx_object::Namer;
 use gx_repo::Repo;
 use gx_text::{Sink, Source};
@@ -35,11 +37,19 @@ pub fn import<N: Namer, A: Allocator + Copy, R: Source + Drop, W: Sink>(
     ensures namer { repo.new.0 ≡ repo.old.0 }
     ensures replayed { Imports (N.name_of repo.old.0) repo.old.1 repo.new.1 (R.coming source) (W.taken sink.old) (W.taken sink.new) result }
     ensures unchanged { OnErr result (repo.new ≡ repo.old) }
+    ensures exported { ImportsExport (N.name_of repo.old.0) repo.old.1 repo.new.1 (R.coming source) result }
 {
+    histories_of_records();
+    names_tell_values();
+    exports_are_readable();
+    exports_are_imported();
     repo.sound();
     let held = repo.store().len();
     match replay_and_publish(alloc, repo, source, sink) {
-        Ok(report) => Ok(report),
+        Ok(report) => {
+            repo.sound();
+            Ok(report)
+        }
         Err(fault) => {
             repo.truncate(held);
             Err(fault)

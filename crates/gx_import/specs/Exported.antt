@@ -1,0 +1,54 @@
+-- What the import of an export's text makes of an empty repository.
+-- Source: git-fast-export(1) and git-fast-import(1).
+use Rattle.std.specs.Prelude.{◌≡◌, ◌⊎◌, [], Option, Some, None, Result, Ok, Err, false, ⊤}
+use Rattle.std.specs.List.{AllByRecursion}
+use Rattle.gx_model.specs.declared.objects.Kind.{Kind}
+use Rattle.gx_model.specs.Texts.{Bytes}
+use Rattle.gx_model.specs.Paths.{AreBytes, path_text}
+use Rattle.gx_model.specs.Values.{files_of}
+use Rattle.gx_model.specs.Histories.{History, Records}
+use Rattle.gx_model.specs.HistoryOf.{history_of}
+use Rattle.gx_model.specs.Sound.{AnyByRecursion, IsSound}
+use Rattle.gx_model.specs.Export.{export_text, reached_commits}
+use Rattle.gx_model.specs.ExportLaws.{IsAgain, IsNotNull}
+use Rattle.gx_text.specs.Devices.{Coming}
+use Rattle.gx_stream.specs.Heard.{heard}
+use Rattle.gx_import.specs.declared.fault.ImportFault.{ImportFault}
+use Rattle.gx_import.specs.declared.fault.ImportKind.TheVariants.{OutOfMemory, WriteFailed}
+use Rattle.gx_import.specs.declared.report.Report.{Report}
+
+-- a repository without objects and refs
+abbrev pub nothing : Records
+nothing = record { records = []; refs = [] }
+
+-- the paths of the files that refs reach are of bytes
+abbrev pub HasPathsOfBytes : History → Type 0
+HasPathsOfBytes h = AllByRecursion (λ made. AllByRecursion (λ file. AreBytes (path_text file.0)) (files_of made)) (reached_commits h)
+
+-- no file map that refs reach has a gitlink of forty zeros
+abbrev pub HasNoNullGitlink : History → Type 0
+HasNoNullGitlink h = AllByRecursion (λ made. AllByRecursion (λ file. IsNotNull file.1.0 file.1.1) (files_of made)) (reached_commits h)
+
+-- a source that gives the export text of this repository, and then ends
+abbrev pub GivesExport : Records → Coming → Type 0
+GivesExport exported coming = heard coming ≡ record { bytes = export_text (history_of exported); fails = false }
+
+-- The new repository has the refs of the exported one, under the same object names; of its history it has exactly what these
+-- refs reach, with the commits in their order; its records are records of the exported one; and its export is the same text.
+pub record IsExported (exported new : Records) : Type 0 where
+  pub refs : new.refs ≡ exported.refs
+  pub history : IsAgain (history_of exported) (history_of new)
+  pub records : AllByRecursion (λ held. AnyByRecursion (λ other. other ≡ held) exported.records) new.records
+  pub text : export_text (history_of new) ≡ export_text (history_of exported)
+
+-- the export is imported, or memory ran out, or the sink of progress texts failed
+abbrev pub ExportedOr : Records → Records → Result Report ImportFault → Type 0
+ExportedOr exported new (Ok report) = IsExported exported new
+ExportedOr exported new (Err fault) = (fault.kind ≡ OutOfMemory) ⊎ (fault.kind ≡ WriteFailed)
+
+-- The export of a sound repository under this namer is imported into an empty one, unless memory runs out or
+-- the sink fails. A gitlink of forty zeros is left out, which no import takes.
+abbrev pub ImportsExport : (Kind → Bytes → Bytes) → Records → Records → Option Coming → Result Report ImportFault → Type 0
+ImportsExport name old new None result = ⊤
+ImportsExport name old new (Some coming) result =
+    (exported : Records) → IsSound name exported → HasPathsOfBytes (history_of exported) → HasNoNullGitlink (history_of exported) → GivesExport exported coming → old ≡ nothing → ExportedOr exported new result

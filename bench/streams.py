@@ -5,6 +5,8 @@
   streams.py blobs COUNT BYTES     so many different blobs of so many bytes each
   streams.py commits BYTES         small commits, until about so many bytes are written
   streams.py history COMMITS       so many commits of source-like files in nested folders, with merges and tags
+  streams.py mixed COMMITS         so many small commits on branches that merge, with all modes, quoted paths, submodules,
+                                   empty trees and encodings, and tags and branches on old and on shared commits
 """
 import sys
 from random import Random
@@ -126,5 +128,59 @@ def history(count):
             out.write(b'tag v%d\nfrom :%d\ntagger T <t@example.com> %d +0000\n' % (number, mark, 1700000000 + number) + block(b'Version %d\n' % number))
 
 
+PATHS = [b'a', b'a.b', b'a/b', b'a/c', b'a0', b'lib/a b', b'lib/sub/x', b'"t\\tab"', b'"q\\"uote"', b'"\\303\\244/\\346\\227\\245"', b'z']
+
+
+def mixed_change(random):
+    kind = random.random()
+    path = random.choice(PATHS)
+    if kind < 0.04:
+        return b'deleteall\n'
+    if kind < 0.15:
+        return b'D %s\n' % path
+    if kind < 0.25:
+        return b'M 160000 %040x modules/m%d\n' % (random.randrange(1, 2**160), random.randrange(3))
+    mode = random.choice([b'100644', b'100755', b'120000'])
+    return b'M %s inline %s\n' % (mode, path) + block(b'%d' % random.randrange(50))
+
+
+def mixed_commit(random, branch, mark):
+    """A commit with its mark. A merge is of one of the last commits, or of an old one."""
+    encoding = random.choice([b'', b'', b'encoding ISO-8859-1\n'])
+    merges = b'merge :%d\n' % random.randrange(1, mark) if mark > 8 and random.random() < 0.2 else b''
+    return b''.join([
+        b'commit %s\nmark :%d\n' % (branch, mark),
+        b'author A U Thor <author@example.com> %d -0330\n' % (1700000000 + mark) if mark % 3 else b'',
+        b'committer <c@example.com> %d +1400\n' % (1700000000 + mark),
+        encoding,
+        block(b'Change %d\n' % mark if mark % 4 else b'no line feed'),
+        merges,
+        *(mixed_change(random) for _ in range(random.randrange(4))),
+    ])
+
+
+def mixed_refs(random, mark):
+    old = random.randrange(1, mark + 1)
+    kind = random.random()
+    if kind < 0.05:
+        return b'tag t%d\nfrom :%d\ntagger T <t@example.com> 1700000000 +0000\n' % (mark, old) + block(b'Tag %d\n' % mark)
+    if kind < 0.08:
+        return b'reset refs/tags/light%d\nfrom :%d\n' % (mark, old)
+    if kind < 0.12:
+        return b'reset refs/heads/at%d\nfrom :%d\n' % (mark, mark)
+    return b''
+
+
+def mixed(count):
+    """Five branches, of which the last loses its commits at the end."""
+    random = Random(count)
+    out = sys.stdout.buffer
+    out.write(b'blob\n' + block(b'reached by no ref'))
+    for mark in range(1, count + 1):
+        out.write(mixed_commit(random, b'refs/heads/b%d' % random.randrange(5), mark))
+        out.write(mixed_refs(random, mark))
+    out.write(b'reset refs/heads/b4\n')
+
+
 kind, *sizes = sys.argv[1:]
-{'blob': one_blob, 'blobs': many_blobs, 'commits': commits, 'history': history}[kind](*map(int, sizes))
+{'blob': one_blob, 'blobs': many_blobs, 'commits': commits, 'history': history, 'mixed': mixed}[kind](*map(int, sizes))

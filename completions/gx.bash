@@ -99,13 +99,13 @@ __gx_words_of_command() {
   local -a operands
   __gx_operands
   case ${words[1]}:${#operands[@]} in
-    init:0 | import:0 | show:0 | ls:0 | refs:0 | log:0 | rev-parse:0) __gx_files "$last" ;;
+    init:0 | import:0 | export:0 | show:0 | ls:0 | refs:0 | log:0 | rev-parse:0) __gx_files "$last" ;;
     show:1 | ls:1 | log:[1-9]* | rev-parse:[1-9]*) __gx_revisions "$last" ;;
   esac
 }
 
 _gx() {
-  local -a words commands=(blobs try init import show ls refs log rev-parse)
+  local -a words commands=(blobs try init import export show ls refs log rev-parse)
   COMPREPLY=()
   __gx_words
   local last=${words[-1]}

@@ -56,7 +56,7 @@ line() {
   fi
 }
 
-line 'gx ' blobs try init import show ls refs log rev-parse help --help
+line 'gx ' blobs try init import export show ls refs log rev-parse help --help
 line 'gx r' refs rev-parse
 line 'gx x'
 line 'gx help l' ls log
@@ -71,6 +71,9 @@ line 'gx log --max-count '
 line 'gx log --max-count 3 --reverse st' store
 line 'gx log --max-count=3 st' store
 line 'gx init su' sub
+line 'gx ex' export
+line 'gx export su' sub
+line 'gx export store '
 line 'gx init store '
 line 'gx show store m' main
 line 'gx show store refs/h' refs/heads/main refs/heads/topic

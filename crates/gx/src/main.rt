@@ -45,7 +45,8 @@ fn run(rt: &HostRuntime, line: &Line<'_>) -> Result<(), CliFault> {
         }
         Line::Init { file } => init(rt, line, file),
         Line::Import { file } => import(rt, line, file),
-        Line::Show { file, revision: _ }
+        Line::Export { file }
+        | Line::Show { file, revision: _ }
         | Line::Ls {
             recursive: _,
             file,

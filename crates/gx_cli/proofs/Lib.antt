@@ -12,3 +12,4 @@ pub mod Trials
 pub mod Pieces
 pub mod StoredAnswers
 pub mod WordsRead
+pub mod ExportedStores

@@ -13,7 +13,8 @@ use Rattle.gx_rev.specs.RevFaults as rev
 use Rattle.gx_cli.specs.Answers.{IsFrontOf, Prints}
 use Rattle.gx_cli.specs.Serving.{IsWritten, printed_by}
 use Rattle.gx_cli.specs.Stored.{Printed, of_store, of_stored, of_word, only_word}
-use Rattle.gx_cli.specs.Trying.{Shows, nothing}
+use Rattle.gx_import.specs.Exported.{nothing}
+use Rattle.gx_cli.specs.Trying.{Shows}
 use Rattle.gx_cli.specs.declared.command_line.Line.{Line}
 use Rattle.gx_cli.specs.declared.command_line.Line.TheVariants as line
 use Rattle.gx_cli.specs.declared.fault.CliFault.{CliFault}
@@ -55,14 +56,18 @@ line_printed name_of namer repository store given shown was now answer same read
 abbrev pub IsSilent : Line → Type 0
 IsSilent given =
     (given ≡ line.Blobs)
-    ⊎ (((word : Bor Bytes) × (given ≡ line.Try word)) ⊎ (((file : Bor Bytes) × (given ≡ line.Init file)) ⊎ ((file : Bor Bytes) × (given ≡ line.Import file))))
+    ⊎ (((word : Bor Bytes) × (given ≡ line.Try word))
+    ⊎ (((file : Bor Bytes) × (given ≡ line.Init file))
+    ⊎ (((file : Bor Bytes) × (given ≡ line.Import file))
+    ⊎ ((file : Bor Bytes) × (given ≡ line.Export file)))))
 
 -- it prints nothing of any repository
 silent : (name : Kind → Bytes → Bytes) (given : Line) (repository : Records) → IsSilent given → Ok [] ≡ printed_by name given repository
 silent name given repository (inl e) = ap (λ l. printed_by name l repository) (sym e)
 silent name given repository (inr (inl h)) = ap (λ l. printed_by name l repository) (sym h.1)
 silent name given repository (inr (inr (inl h))) = ap (λ l. printed_by name l repository) (sym h.1)
-silent name given repository (inr (inr (inr h))) = ap (λ l. printed_by name l repository) (sym h.1)
+silent name given repository (inr (inr (inr (inl h)))) = ap (λ l. printed_by name l repository) (sym h.1)
+silent name given repository (inr (inr (inr (inr h)))) = ap (λ l. printed_by name l repository) (sym h.1)
 
 -- nothing is printed then
 pub line_silent : {N : Type 0} (name_of : N → Kind → Bytes → Bytes) (namer : N) (repository : N × Records) (store : Bytes) (given : Line) (was : Option Taken)

@@ -13,7 +13,8 @@ use Rattle.gx_import.specs.Applying.{Took}
 use Rattle.gx_import.specs.Imports.{Imports}
 use Rattle.gx_import.specs.declared.fault.ImportFault.{ImportFault}
 use Rattle.gx_cli.specs.Listings.{text_of_word}
-use Rattle.gx_cli.specs.Trying.{ImportsAlone, Shows, ShowsReplayed, StandsAlone, Tries, nothing}
+use Rattle.gx_import.specs.Exported.{nothing}
+use Rattle.gx_cli.specs.Trying.{ImportsAlone, Shows, ShowsReplayed, StandsAlone, Tries}
 use Rattle.gx_cli.specs.declared.fault.CliFault.{CliFault}
 use Rattle.gx_cli.specs.declared.fault.CliFault.TheVariants.{Import, OutOfMemory, WriteFailed}
 use Rattle.gx_cli.specs.declared.fault.CliFault.TheVariants as cli

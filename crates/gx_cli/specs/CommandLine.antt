@@ -10,7 +10,7 @@ use Rattle.clap.specs.declared.builder.value_parser.ValueParser.TheVariants as p
 use Rattle.clap.specs.declared.error.kind.ErrorKind.{ErrorKind}
 use Rattle.clap.specs.declared.error.kind.ErrorKind.TheVariants.{DisplayHelp, DisplayVersion}
 use Rattle.gx_cli.specs.declared.command_line.Line.{Line}
-use Rattle.gx_cli.specs.declared.command_line.Line.TheVariants.{Blobs, Try, Init, Import, Show, Ls, Refs, Log, RevParse}
+use Rattle.gx_cli.specs.declared.command_line.Line.TheVariants.{Blobs, Try, Init, Import, Export, Show, Ls, Refs, Log, RevParse}
 use Rattle.gx_cli.specs.declared.command_line.LineFault.{LineFault}
 use Rattle.gx_cli.specs.declared.command_line.LineFault.TheVariants.{OutOfMemory, Status}
 use Rattle.gx_cli.specs.declared.command_line.LogOptions.{LogOptions}
@@ -86,7 +86,8 @@ with_stream_commands a = under (under a (new_app (codes "blobs"))) try_command
 
 -- the commands on a store as a whole
 abbrev pub with_store_commands : App → App
-with_store_commands a = under (under (under a (file_command (codes "init"))) (file_command (codes "import"))) (file_command (codes "refs"))
+with_store_commands a =
+    under (under (under (under a (file_command (codes "init"))) (file_command (codes "import"))) (file_command (codes "export"))) (file_command (codes "refs"))
 
 -- the commands that show objects
 abbrev pub with_tree_commands : App → App
@@ -128,6 +129,7 @@ Says name rows Blobs = name ≡ codes "blobs"
 Says name rows (Try revision) = (name ≡ codes "try") × IsWord (codes "rev") rows revision
 Says name rows (Init file) = (name ≡ codes "init") × IsWord (codes "file") rows file
 Says name rows (Import file) = (name ≡ codes "import") × IsWord (codes "file") rows file
+Says name rows (Export file) = (name ≡ codes "export") × IsWord (codes "file") rows file
 Says name rows (Show file revision) = (name ≡ codes "show")
     × (IsWord (codes "file") rows file × IsWord (codes "rev") rows revision)
 Says name rows (Ls recursive file revision) = (name ≡ codes "ls") × (IsFlag (codes "recursive") rows recursive

@@ -9,4 +9,5 @@ pub mod Words
 pub mod Sending
 pub mod Answers
 pub mod Serving
+pub mod Again
 pub mod CommandLine

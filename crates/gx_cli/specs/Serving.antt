@@ -1,5 +1,5 @@
 -- How the commands end.
-use Rattle.std.specs.Prelude.{◌≡◌, ◌⊎◌, ℕ, [], Option, Some, None, Result, Ok, Err}
+use Rattle.std.specs.Prelude.{◌≡◌, ◌⊎◌, ℕ, [], Option, Some, None, Result, Ok, Err, IfOk}
 use Rattle.std.specs.Option.{option_map}
 use Rattle.std.specs.declared.vec.Vec.{Vec}
 use Rattle.gx_model.specs.declared.objects.Kind.{Kind}
@@ -11,9 +11,12 @@ use Rattle.gx_model.specs.StoreText.{store_text}
 use Rattle.gx_model.specs.StoreReading.{Stored, store_of}
 use Rattle.gx_text.specs.Devices.{Coming, Taken}
 use Rattle.gx_stream.specs.Heard.{items_from}
+use Rattle.gx_import.specs.Exported.{HasPathsOfBytes, nothing}
 use Rattle.gx_import.specs.Imports.{Imports}
 use Rattle.gx_import.specs.declared.fault.ImportFault.{ImportFault}
 use Rattle.gx_import.specs.declared.report.Report.{Report}
+use Rattle.gx_export.specs.Exports.{Exports}
+use Rattle.gx_export.specs.declared.fault.ExportFault.{ExportFault}
 use Rattle.gx_file.specs.declared.fault.FileFault.{FileFault}
 use Rattle.gx_file.specs.declared.fault.FileFault.TheVariants as file
 use Rattle.gx_file.specs.Faults.{fault_of}
@@ -21,17 +24,22 @@ use Rattle.gx_cli.specs.declared.blob_names.BlobsFault.{BlobsFault}
 use Rattle.gx_cli.specs.declared.command_line.Line.{Line}
 use Rattle.gx_cli.specs.declared.command_line.Line.TheVariants as line
 use Rattle.gx_cli.specs.declared.fault.CliFault.{CliFault}
-use Rattle.gx_cli.specs.declared.fault.CliFault.TheVariants.{Blobs, Import, OutOfMemory, Store}
+use Rattle.gx_cli.specs.declared.fault.CliFault.TheVariants.{Blobs, Export, Import, OutOfMemory, Store}
 use Rattle.gx_cli.specs.declared.serving.Outcome.{Outcome}
 use Rattle.gx_cli.specs.Answers.{Prints}
 use Rattle.gx_cli.specs.Printing.{PrintsBlobs}
 use Rattle.gx_cli.specs.Stored.{Printed, list_text, log_text, names_text, of_stored, refs_text, show_text, texts_of}
-use Rattle.gx_cli.specs.Trying.{Tries, nothing}
+use Rattle.gx_cli.specs.Trying.{Tries}
 
 -- what `blobs` answers, with its fault among those of the commands
 abbrev pub blobs_answer : Result ℕ BlobsFault → Result ℕ CliFault
 blobs_answer (Ok n) = Ok n
 blobs_answer (Err f) = Err (Blobs f)
+
+-- what `export` answers, with its fault among those of the commands
+abbrev pub export_answer : Result (Unit {0}) ExportFault → Result (Unit {0}) CliFault
+export_answer (Ok done) = Ok done
+export_answer (Err f) = Err (Export f)
 
 -- The status, the fault and the next store text that go with what a command answers that makes no store text.
 abbrev pub IsOutcome : {X A : Type 0} → Result X CliFault → Outcome A → Type 0
@@ -47,6 +55,13 @@ abbrev pub IsWritten : {A : Type 0} → Records → Outcome A → Type 0
 IsWritten {A} repository o =
     ((o.status ≡ 0) × (o.fault ≡ None) × ((text : Vec ℕ A) × (o.store ≡ Some text) × (text.items ≡ store_text repository)))
     ⊎ IsRefused OutOfMemory o
+
+-- the export of the store of a text, which is read first
+abbrev pub ExportsStored : {A : Type 0} → Stored Records → Option Taken → Option Taken → Outcome A → Type 0
+ExportsStored (Ok repository) was now o =
+    (IsRefused (Store file.OutOfMemory) o × (now ≡ was))
+    ⊎ ((answer : Result (Unit {0}) ExportFault) × Exports repository was now answer × IfOk answer (λ done. HasPathsOfBytes (history_of repository)) × IsOutcome (export_answer answer) o)
+ExportsStored (Err f) was now o = (why : FileFault) × ((why ≡ file.OutOfMemory) ⊎ (f ≡ fault_of why)) × IsRefused (Store why) o × (now ≡ was)
 
 -- what a command prints of a store: nothing where it has no use for one, or makes one
 abbrev pub printed_by : (Kind → Bytes → Bytes) → Line → Records → Printed
@@ -80,4 +95,5 @@ module _ (name : Kind → Bytes → Bytes) {A : Type 0} where
   Serves (line.Try word) store coming was now o = (answer : Result (Unit {0}) CliFault) × Tries name coming word.now was now answer × IsOutcome answer o
   Serves (line.Init file) store coming was now o = IsWritten nothing o × (now ≡ was)
   Serves (line.Import file) store coming was now o = ImportsInto (store_of name store) coming was now o
+  Serves (line.Export file) store coming was now o = ExportsStored (store_of name store) was now o
   Serves printing store coming was now o = PrintsStored (store_of name store) (printed_by name printing) was now o

@@ -21,6 +21,7 @@ use Rattle.gx_command.specs.Reading.{commands_from}
 use Rattle.gx_rev.specs.Answers.{seen_file}
 use Rattle.gx_rev.specs.RevFaults.{fault_of}
 use Rattle.gx_import.specs.Applying.{FailedWithin, Took}
+use Rattle.gx_import.specs.Exported.{nothing}
 use Rattle.gx_import.specs.Imports.{Replays}
 use Rattle.gx_import.specs.declared.fault.ImportFault.{ImportFault}
 use Rattle.gx_cli.specs.Listings.{text_of_word}
@@ -28,10 +29,7 @@ use Rattle.gx_cli.specs.declared.fault.CliFault.{CliFault}
 use Rattle.gx_cli.specs.declared.fault.CliFault.TheVariants.{Blobs, Import, OutOfMemory, WriteFailed}
 use Rattle.gx_cli.specs.declared.fault.CliFault.TheVariants as cli
 
--- an empty store, and what it stands for
-abbrev pub nothing : Records
-nothing = record { records = []; refs = [] }
-
+-- what an empty store stands for
 abbrev pub no_history : History
 no_history = record { values = []; refs = [] }
 

@@ -39,6 +39,10 @@ pub enum Line<'a> {
     Import {
         file: &'a str,
     },
+    /// A store is exported as a stream.
+    Export {
+        file: &'a str,
+    },
     /// What a revision gives is shown.
     Show {
         file: &'a str,
@@ -115,6 +119,9 @@ fn line_of<'a>(
             file: word_of(alloc, matches, "file")?,
         }),
         "import" => Ok(Line::Import {
+            file: word_of(alloc, matches, "file")?,
+        }),
+        "export" => Ok(Line::Export {
             file: word_of(alloc, matches, "file")?,
         }),
         "show" => Ok(Line::Show {

@@ -4,6 +4,7 @@ ghost use Rattle.std.specs.Prelude.{◌≡◌};
 ghost use Rattle.gx_cli.specs.declared.fault.CliFault.TheVariants.{OutOfMemory};
 
 use crate::BlobsFault;
+use gx_export::ExportFault;
 use gx_file::FileFault;
 use gx_import::ImportFault;
 use gx_rev::RevFault;
@@ -23,6 +24,9 @@ pub enum CliFault {
     /// Why the store's text isn't read.
     #[error("gx: store: {0}")]
     Store(FileFault),
+    /// Why the store isn't exported as a whole.
+    #[error("gx: export: {0}")]
+    Export(ExportFault),
     /// There is a store where a new one is to be made. The program answers it, which looks at files.
     #[error("gx: store exists")]
     StoreExists,

@@ -1,8 +1,9 @@
 //! The commands that make a store's next text. Source: git-init(1) and git-fast-import(1).
 
 ghost use Rattle.gx_model.specs.StoreReading.{store_of};
+ghost use Rattle.gx_import.specs.Exported.{nothing};
+ghost use Rattle.gx_cli.specs.Again.{ImportsAgain};
 ghost use Rattle.gx_cli.specs.Serving.{ImportsInto, IsWritten};
-ghost use Rattle.gx_cli.specs.Trying.{nothing};
 
 use crate::CliFault;
 use crate::serving::{Outcome, refused};
@@ -30,7 +31,8 @@ pub(crate) fn import_into<N: Namer + Drop, R: Source + Drop, W: Sink, A: Allocat
     source: R,
     sink: &mut W,
 ) -> Outcome<A>
-    ensures { ImportsInto (N.name_of namer) (store_of (N.name_of namer) store.now) (R.coming source) (W.taken sink.old) (W.taken sink.new) result }
+    ensures imported { ImportsInto (N.name_of namer) (store_of (N.name_of namer) store.now) (R.coming source) (W.taken sink.old) (W.taken sink.new) result }
+    ensures again { ImportsAgain (N.name_of namer) (store_of (N.name_of namer) store.now) (R.coming source) result }
 {
     let mut repo = match gx_file::read(alloc, namer, store) {
         Ok(repo) => repo,

@@ -4,6 +4,7 @@
 
 mod blob_names;
 mod command_line;
+mod exporting;
 mod fault;
 mod importing;
 mod listing;

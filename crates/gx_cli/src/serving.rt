@@ -6,10 +6,12 @@ ghost use Rattle.gx_stream.specs.Heard.{items_from};
 ghost use Rattle.gx_cli.specs.declared.blob_names.BlobsFault.{BlobsFault};
 ghost use Rattle.gx_cli.specs.Printing.{PrintsBlobs};
 ghost use Rattle.gx_model.specs.StoreReading.{store_of};
+ghost use Rattle.gx_cli.specs.Again.{ServesExported};
 ghost use Rattle.gx_cli.specs.Answers.{Prints};
 ghost use Rattle.gx_cli.specs.Serving.{IsOutcome, IsRefused, Serves, blobs_answer, printed_by};
 ghost use Rattle.gx_cli.specs.Stored.{of_stored};
 
+use crate::exporting::export_stored;
 use crate::importing::{import_into, init};
 use crate::log::log;
 use crate::ls::list;
@@ -33,9 +35,13 @@ pub struct Outcome<A: Allocator> {
 ///
 /// `blobs` reads the source as [`blobs`] does, and `try` as [`try_revision`] does: the source is read before the revision.
 /// Both, and `init`, have no use for the store's bytes. The other commands read the store's text first, then all words, and
-/// then evaluate each in its order. Only `init` and `import` answer a next store text, and only where they are accepted.
+/// then evaluate each in its order; `import` reads its source then. Only `init` and `import` answer a next store text, and
+/// only where they are accepted.
 ///
-/// Cost: that of reading the store's text, where one is read; for `import` also that of the import and the next text.
+/// Importing what was exported makes the repository again, as far as its refs reach: the same refs and object names.
+///
+/// Cost: that of reading the store's text, where one is read; for `import` also that of the import and the next text, and for
+/// `export` that of the export.
 pub fn serve<N: Namer + Drop, R: Source + Drop, W: Sink, A: Allocator + Copy>(
     alloc: A,
     namer: N,
@@ -44,7 +50,8 @@ pub fn serve<N: Namer + Drop, R: Source + Drop, W: Sink, A: Allocator + Copy>(
     source: R,
     sink: &mut W,
 ) -> Outcome<A>
-    ensures { Serves (N.name_of namer) line.now store.now (R.coming source) (W.taken sink.old) (W.taken sink.new) result }
+    ensures served { Serves (N.name_of namer) line.now store.now (R.coming source) (W.taken sink.old) (W.taken sink.new) result }
+    ensures again { ServesExported (N.name_of namer) line.now store.now (R.coming source) result }
 {
     match line {
         Line::Blobs => outcome_of(blobs_alone(alloc, namer, source, sink)),
@@ -57,6 +64,7 @@ pub fn serve<N: Namer + Drop, R: Source + Drop, W: Sink, A: Allocator + Copy>(
         )),
         Line::Init { file: _ } => init(alloc, namer),
         Line::Import { file: _ } => import_into(alloc, namer, store, source, sink),
+        Line::Export { file: _ } => export_stored(alloc, namer, store, sink),
         _ => outcome_of(print_stored(alloc, namer, line, store, sink)),
     }
 }
@@ -91,7 +99,11 @@ fn print_stored<N: Namer + Drop, W: Sink, A: Allocator + Copy>(
         Line::RevParse { file: _, revisions } => {
             print_names(alloc, &repo, revisions.as_slice(), sink)
         }
-        Line::Blobs | Line::Try(_) | Line::Init { file: _ } | Line::Import { file: _ } => Ok(()),
+        Line::Blobs
+        | Line::Try(_)
+        | Line::Init { file: _ }
+        | Line::Import { file: _ }
+        | Line::Export { file: _ } => Ok(()),
     }
 }
 
@@ -113,7 +125,7 @@ fn blobs_alone<N: Namer + Drop, R: Source + Drop, W: Sink, A: Allocator + Copy>(
 }
 
 /// How a command ends that makes no store text.
-fn outcome_of<T: Drop, A: Allocator>(answer: Result<T, CliFault>) -> Outcome<A>
+pub(crate) fn outcome_of<T: Drop, A: Allocator>(answer: Result<T, CliFault>) -> Outcome<A>
     ensures { IsOutcome answer result }
 {
     match answer {

@@ -7,10 +7,6 @@ use gx_text::{Bytes, Held};
 use std::alloc::{AllocError, Allocator};
 use std::test::Fail;
 
-mod lines;
-mod stored;
-mod trying;
-
 const STREAM: &[u8] =
     b"blob\nmark :1\ndata 13\ntest content\n\nblob\ndata 0\nblob\noriginal-oid x\ndata 16\nwhat is up, doc?";
 

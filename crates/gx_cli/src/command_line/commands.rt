@@ -56,9 +56,11 @@ fn with_store_commands<'a>(alloc: Global, gx: Command<'a>) -> Result<Command<'a>
 {
     let init = file_command(alloc, "init", manual::INIT)?;
     let import = file_command(alloc, "import", manual::IMPORT)?;
+    let export = file_command(alloc, "export", manual::EXPORT)?;
     let refs = file_command(alloc, "refs", manual::REFS)?;
     let gx = with_command(gx, init)?;
     let gx = with_command(gx, import)?;
+    let gx = with_command(gx, export)?;
     with_command(gx, refs)
 }
 

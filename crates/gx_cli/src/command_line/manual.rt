@@ -58,6 +58,7 @@ Refusals:
   gx: store: KIND       the text of FILE. KIND is OutOfMemory, BadMagic,
                         BadVersion, Truncated, BadRecord, DuplicateObject,
                         Dangling, BadObject, BadRef, RefOrder or TrailingBytes
+  gx: export: KIND      OutOfMemory or WriteFailed
   gx: store exists      FILE is there, where a store is to be made
   gx: read failed       FILE can't be read
   gx: write failed      FILE or standard output can't be written
@@ -144,6 +145,30 @@ Refusals, each of which leaves FILE as it was:
                         BadRevision, UnknownRef, Ambiguous or NoParent
   gx: write failed
   gx: out of memory",
+};
+
+/// The page of `export`.
+pub(super) const EXPORT: Page = Page {
+    about: "Writes a store as a stream",
+    description: "\
+Writes a store as a stream that gx import and git fast-import take.
+
+It has the commits that refs reach, each with all of its files, and the refs.
+Importing it into an empty store gives the same refs and object names. A store
+that holds a submodule of forty zeros is written, too, but no import takes it.",
+    details: "\
+Output:
+  The stream, in the manner of git fast-export --full-tree: first
+  feature done, then the commits in the order in which they were first made,
+  each behind the blobs of its files that weren't written yet, then the refs
+  in the order of their names' bytes, and done.
+
+Refusals:
+  gx: read failed
+  gx: store: KIND       as gx --help has it
+  gx: export: KIND      KIND is OutOfMemory or WriteFailed. What was written
+                        is a front of the stream
+  gx: write failed",
 };
 
 /// The page of `show`.

@@ -8,4 +8,5 @@ pub returns-clause-app : goal.returns-clause-app
 returns-clause-app c =
     let first = c.in_ok-gx.ensures.app ∙ ap (under (app_of c.args.gx)) c.in_ok-init.ensures.app in
     let second = c.in_ok-gx-2.ensures.app ∙ ap₂ under first c.in_ok-import.ensures.app in
-    IfOk-weaker c.with_command-3.result _ _ (λ m h. h ∙ ap₂ under second c.in_ok-refs.ensures.app) c.with_command-3.ensures.app
+    let third = c.in_ok-gx-3.ensures.app ∙ ap₂ under second c.in_ok-export.ensures.app in
+    IfOk-weaker c.with_command-4.result _ _ (λ m h. h ∙ ap₂ under third c.in_ok-refs.ensures.app) c.with_command-4.ensures.app

@@ -1,6 +1,6 @@
 //! Words, and the lines that they give.
 
-use crate::{Line, LineFault, LogOptions, read_line};
+use gx_cli::{Line, LineFault, LogOptions, read_line};
 use std::alloc::{AllocError, Global};
 use std::test::Fail;
 

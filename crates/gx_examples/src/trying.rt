@@ -1,6 +1,6 @@
 //! Streams that are tried, with what a revision shows. The names are those that git gives these objects.
 
-use crate::{CliFault, Line, Outcome, look_imported, serve};
+use gx_cli::{CliFault, Line, Outcome, look_imported, serve};
 use gx_object::{Mode, Sha1Namer, ShortNamer};
 use gx_refusing::Refusing;
 use gx_rev::Revision;

@@ -38,7 +38,7 @@ const KEPT: &[u8] =
 pub(super) const TAGGED: &[u8] =
     b"commit refs/heads/main\nmark :1\ncommitter A <a@x> 1 +0000\ndata 2\nv1\nM 100644 inline test.txt\ndata 10\nversion 1\n\ntag v1\nfrom :1\ndata 3\none\nreset refs/tags/v1\nfrom :1\n";
 
-pub(super) const ONE_BLOB: &[u8] = b"blob\nmark :1\ndata 13\ntest content\n";
+pub(crate) const ONE_BLOB: &[u8] = b"blob\nmark :1\ndata 13\ntest content\n";
 
 /// A file whose data ends at a line of its own.
 const DELIMITED: &[u8] =

@@ -2,6 +2,7 @@
 
 use super::rows::{MERGED, TWINS};
 use super::*;
+use gx_cli::LogOptions;
 
 /// Files in the order in which their whole paths stand.
 const ORDERED: &[u8] =

@@ -1,18 +1,22 @@
 //! Commands on the text of a store. The names are those that git gives these objects.
 
-use super::*;
-use std::alloc::Global;
-
 mod listed;
 mod rows;
 
+use gx_cli::{CliFault, Line, Outcome, serve};
+use gx_object::Sha1Namer;
+use gx_refusing::Refusing;
+use gx_text::{Bytes, Held};
+pub(crate) use rows::ONE_BLOB;
 use rows::{
-    ACCEPTED, LISTED, NAMED, ONE_BLOB, ONE_REF, REFUSED_IMPORTS, REFUSED_STORES, REFUSED_WORDS,
-    ROOT, SECOND, SHOWN, TAGGED,
+    ACCEPTED, LISTED, NAMED, ONE_REF, REFUSED_IMPORTS, REFUSED_STORES, REFUSED_WORDS, ROOT, SECOND,
+    SHOWN, TAGGED,
 };
+use std::alloc::{AllocError, Allocator, Global};
+use std::test::Fail;
 
 /// The text of an empty store.
-const EMPTY: &[u8] = b"gxstore 1\nobjects 0\nrefs 0\nend\n";
+pub(crate) const EMPTY: &[u8] = b"gxstore 1\nobjects 0\nrefs 0\nend\n";
 
 /// The text of a store with one blob.
 const WITH_BLOB: &[u8] = b"gxstore 1\nobjects 1\nblob 13\ntest content\n\nrefs 0\nend\n";
@@ -26,7 +30,7 @@ const BOTH: &[u8] =
     b"441295fefae10cab31864817c739e85b88922103\n02d6adf1689e06135d2b4b4d471f1ae489887b53\n";
 
 /// What a command does with a store's text and a stream.
-fn ran<A: Allocator + Copy>(
+pub(crate) fn ran<A: Allocator + Copy>(
     alloc: A,
     line: &Line<'_>,
     store: &[u8],
@@ -38,7 +42,7 @@ fn ran<A: Allocator + Copy>(
 }
 
 /// How an import into a store ends.
-fn imported<A: Allocator + Copy>(
+pub(crate) fn imported<A: Allocator + Copy>(
     alloc: A,
     store: &[u8],
     stream: &[u8],
@@ -49,7 +53,10 @@ fn imported<A: Allocator + Copy>(
 }
 
 /// The text of a new store with this stream imported; an empty one where the import is refused.
-fn stored<A: Allocator + Copy>(alloc: A, stream: &[u8]) -> Result<Vec<u8, A>, AllocError> {
+pub(crate) fn stored<A: Allocator + Copy>(
+    alloc: A,
+    stream: &[u8],
+) -> Result<Vec<u8, A>, AllocError> {
     match imported(alloc, EMPTY, stream)?.store {
         Some(text) => Ok(text),
         None => Ok(Vec::new(alloc)),
@@ -57,7 +64,7 @@ fn stored<A: Allocator + Copy>(alloc: A, stream: &[u8]) -> Result<Vec<u8, A>, Al
 }
 
 /// Whether a fault prints this line, and none prints an empty one.
-fn has_line<A: Allocator + Copy>(
+pub(crate) fn has_line<A: Allocator + Copy>(
     alloc: A,
     fault: Option<CliFault>,
     line: &str,
@@ -72,7 +79,7 @@ fn has_line<A: Allocator + Copy>(
 }
 
 /// Whether a command on a store prints this, makes no store text, and ends with this line and its status.
-fn prints<A: Allocator + Copy>(
+pub(crate) fn prints<A: Allocator + Copy>(
     alloc: A,
     line: &Line<'_>,
     store: &[u8],
@@ -158,7 +165,7 @@ fn refs_are_listed_by_name(rt: HostRuntime) -> Result<(), Fail> {
 }
 
 /// Whether a stream, imported behind another one, is refused so, or accepted, and gives a store text just then.
-fn is_imported<A: Allocator + Copy>(
+pub(crate) fn is_imported<A: Allocator + Copy>(
     alloc: A,
     (first, second, fault): (&[u8], &[u8], &str),
 ) -> Result<bool, AllocError> {

@@ -1,0 +1,45 @@
+#!/usr/bin/env bash
+# Measures exports against `git fast-export --full-tree --all` of the same generated histories: wall time in seconds and peak
+# memory in MB, the best of three runs. `gx refs` is measured beside them, since an export reads the whole store first. Then
+# git imports gx's export, and the refs and names have to be the same.
+#   bench/export.sh [COMMITS..]      500 and 2000 if left out
+# It builds crates/gx, and needs rt, git, python3 and GNU time.
+set -euo pipefail
+cd "$(dirname "$0")/.."
+[ $# -gt 0 ] || set -- 500 2000
+folder=$(mktemp -d)
+trap 'rm -rf "$folder"' EXIT
+gx=${GX:-$PWD/crates/gx/out/gx}
+[ -x "$gx" ] || (cd crates/gx && rt run blobs < /dev/null)
+
+# the least time of three runs, with that run's memory
+best() {
+  for _ in 1 2 3; do
+    /usr/bin/time -f '%e %M' -o "$folder/time" "$@" > "$folder/out"
+    cat "$folder/time"
+  done | sort -g | head -n 1 | awk '{ printf "%s s, %.1f MB", $1, $2 / 1024 }'
+}
+
+# a new repository of git's from a stream
+by_git() {
+  rm -rf "$1" && git init -q --bare "$1"
+  git -C "$1" fast-import --quiet < "$2"
+}
+
+echo "load average before: $(cut -d ' ' -f 1 /proc/loadavg)"
+for commits in "$@"; do
+  python3 bench/streams.py history "$commits" > "$folder/stream"
+  by_git "$folder/repo" "$folder/stream"
+  rm -f "$folder/store"
+  "$gx" init "$folder/store"
+  "$gx" import "$folder/store" < "$folder/stream"
+  echo "$commits commits, $(stat -c %s "$folder/store") bytes of store, $(sed -n '2{s/objects //p;q}' "$folder/store") records"
+  echo "  gx export: $(best "$gx" export "$folder/store")"
+  cp "$folder/out" "$folder/export"
+  echo "  gx refs: $(best "$gx" refs "$folder/store")"
+  echo "  git fast-export --full-tree --all: $(best git -C "$folder/repo" fast-export --full-tree --all)"
+  echo "  exported: $(stat -c %s "$folder/export") bytes by gx, $(stat -c %s "$folder/out") by git"
+  by_git "$folder/again" "$folder/export"
+  git -C "$folder/again" show-ref > "$folder/names"
+  "$gx" refs "$folder/store" | cmp - "$folder/names" && echo '  git imports the export with the same refs and names'
+done

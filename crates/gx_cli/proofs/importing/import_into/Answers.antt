@@ -1,0 +1,15 @@
+use Rattle.std.proofs.Common.{subst, Err}
+use Rattle.gx_model.specs.StoreReading.{store_of}
+use Rattle.gx_import.specs.Exported.{ImportsExport}
+use Rattle.gx_cli.proofs.ExportedStores.{refused_again}
+use Rattle.gx_cli.proofs.importing.import_into.Goals as goal
+
+pub returns-clause-again : goal.returns-clause-again
+returns-clause-again g c =
+    let name = g.N.Namer.name_of c.args.namer in
+    let old = c.in-Ok.repo in
+    let new = c.import.new.repo.1 in
+    let coming = g.R.Source.coming c.args.source in
+    let fault = c.in-Err-import.fault in
+    let imported = subst (λ namer. ImportsExport (g.N.Namer.name_of namer) old.1 new coming (Err fault)) c.in-Ok.ensures.namer c.in-Err-import.ensures.exported in
+    refused_again name (store_of name c.args.store.now) old.1 new coming fault c.refused-in-Err-import.result c.in-Ok.ensures.store imported c.refused-in-Err-import.ensures

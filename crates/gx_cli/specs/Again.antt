@@ -1,0 +1,43 @@
+-- What the import of an export's text makes of an empty store.
+-- Source: git-fast-export(1) and git-fast-import(1).
+use Rattle.std.specs.Prelude.{◌≡◌, ◌⊎◌, Option, Some, None, Ok, ⊤}
+use Rattle.gx_model.specs.declared.objects.Kind.{Kind}
+use Rattle.gx_model.specs.Texts.{Bytes}
+use Rattle.gx_model.specs.Histories.{Records}
+use Rattle.gx_model.specs.HistoryOf.{history_of}
+use Rattle.gx_model.specs.Sound.{IsSound}
+use Rattle.gx_model.specs.StoreReading.{Stored, store_of}
+use Rattle.gx_text.specs.Devices.{Coming}
+use Rattle.gx_import.specs.Exported.{GivesExport, HasNoNullGitlink, HasPathsOfBytes, IsExported, nothing}
+use Rattle.gx_import.specs.declared.fault.ImportFault.{ImportFault}
+use Rattle.gx_import.specs.declared.fault.ImportKind.TheVariants as kind
+use Rattle.gx_file.specs.declared.fault.FileFault.TheVariants as file
+use Rattle.gx_cli.specs.declared.command_line.Line.{Line}
+use Rattle.gx_cli.specs.declared.command_line.Line.TheVariants as line
+use Rattle.gx_cli.specs.declared.fault.CliFault.TheVariants.{Import, Store}
+use Rattle.gx_cli.specs.declared.serving.Outcome.{Outcome}
+use Rattle.gx_cli.specs.Serving.{IsRefused, IsWritten}
+
+-- memory ran out, while the store was read or while the stream was imported, or the sink of progress texts failed
+abbrev pub IsInterrupted : {A : Type 0} → Outcome A → Type 0
+IsInterrupted o =
+    IsRefused (Store file.OutOfMemory) o
+    ⊎ ((fault : ImportFault) × ((fault.kind ≡ kind.OutOfMemory) ⊎ (fault.kind ≡ kind.WriteFailed)) × IsRefused (Import fault) o)
+
+module _ (name : Kind → Bytes → Bytes) {A : Type 0} where
+  -- the next store text is that of a repository that is exported as this one is, unless memory ran out or the sink failed
+  abbrev pub IsAgainOr : Records → Outcome A → Type 0
+  IsAgainOr exported o = IsInterrupted o ⊎ ((new : Records) × IsExported exported new × IsSound name new × IsWritten new o)
+
+  -- The import of a sound repository's export into an empty store makes that repository again, as far as its refs reach. A
+  -- gitlink of forty zeros is left out, which no import takes.
+  abbrev pub ImportsAgain : Stored Records → Option Coming → Outcome A → Type 0
+  ImportsAgain stored None o = ⊤
+  ImportsAgain stored (Some coming) o =
+      (exported : Records) → IsSound name exported → HasPathsOfBytes (history_of exported) → HasNoNullGitlink (history_of exported)
+      → GivesExport exported coming → stored ≡ Ok nothing → IsAgainOr exported o
+
+  -- the same of the command
+  abbrev pub ServesExported : Line → Bytes → Option Coming → Outcome A → Type 0
+  ServesExported (line.Import file) store coming o = ImportsAgain (store_of name store) coming o
+  ServesExported line store coming o = ⊤

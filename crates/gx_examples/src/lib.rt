@@ -1,0 +1,11 @@
+//! The commands of `gx` on worked examples: streams, store texts and words, with what comes out. There are tests alone here.
+#![tactic(auto)]
+
+#[cfg(test)]
+mod exported;
+#[cfg(test)]
+mod lines;
+#[cfg(test)]
+mod stored;
+#[cfg(test)]
+mod trying;

@@ -151,7 +151,7 @@ def mixed_commit(random, branch, mark):
     return b''.join([
         b'commit %s\nmark :%d\n' % (branch, mark),
         b'author A U Thor <author@example.com> %d -0330\n' % (1700000000 + mark) if mark % 3 else b'',
-        b'committer <c@example.com> %d +1400\n' % (1700000000 + mark),
+        b'committer  <c@example.com> %d +1400\n' % (1700000000 + mark),
         encoding,
         block(b'Change %d\n' % mark if mark % 4 else b'no line feed'),
         merges,

@@ -15,8 +15,6 @@ mod refs;
 mod sending;
 mod serving;
 mod showing;
-#[cfg(test)]
-mod tests;
 mod trying;
 mod words;
 

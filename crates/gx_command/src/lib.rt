@@ -19,6 +19,3 @@ pub use fault::CommandFault;
 pub use gx_model::Feature;
 pub use reader::CommandReader;
 pub use texts::{Digits, Encoding, Identity, RefName, TagName};
-
-#[cfg(test)]
-mod tests;

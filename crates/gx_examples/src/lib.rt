@@ -2,6 +2,8 @@
 #![tactic(auto)]
 
 #[cfg(test)]
+mod blob_names;
+#[cfg(test)]
 mod exported;
 #[cfg(test)]
 mod lines;

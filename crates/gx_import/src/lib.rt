@@ -23,6 +23,3 @@ mod tag;
 pub use fault::{ImportFault, ImportKind};
 pub use importing::import;
 pub use report::Report;
-
-#[cfg(test)]
-mod tests;

@@ -1,7 +1,7 @@
 //! What revisions and ranges show after an import.
 
 use super::{FIRST, SECOND, done, imported, name_at, refusal};
-use crate::{ImportFault, ImportKind, Report};
+use gx_import::{ImportFault, ImportKind, Report};
 use gx_model::Mode;
 use gx_object::{Name, Namer, Sha1Namer};
 use gx_repo::Repo;

@@ -1,6 +1,8 @@
+//! Streams, whole and in pieces, with the commands that are read from them.
+
 ghost use Rattle.std.specs.Prelude.{◌<◌};
 
-use super::*;
+use gx_command::{CommandFault, CommandReader};
 use gx_text::{Bytes, Source};
 use std::alloc::{AllocError, Allocator};
 use std::test::Fail;

@@ -1,7 +1,7 @@
 //! Streams, each with the number of its commands and the end or fault after them.
 
 use super::Row;
-use crate::CommandFault;
+use gx_command::CommandFault;
 
 /// Streams of single lines, and of what stands where a command is expected.
 pub(super) const FIRST_LINES: [Row; 35] = [

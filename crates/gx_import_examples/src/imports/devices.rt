@@ -1,7 +1,7 @@
 //! Imports with growths that are refused, sources that fail and sinks that fail.
 
 use super::{FIRST, done, imported, refusal};
-use crate::{ImportFault, ImportKind, Report, import};
+use gx_import::{ImportFault, ImportKind, Report, import};
 use gx_object::Sha1Namer;
 use gx_refusing::Refusing;
 use gx_repo::Repo;

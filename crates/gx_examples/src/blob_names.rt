@@ -1,6 +1,8 @@
+//! Streams of blobs, and the names that are printed. The names are those that git gives these blobs.
+
 ghost use Rattle.std.specs.Prelude.{◌<◌, ◌≤◌};
 
-use super::*;
+use gx_cli::{BlobsFault, BlobsKind, Line, blobs, serve};
 use gx_object::{Sha1Namer, ShortNamer};
 use gx_refusing::Refusing;
 use gx_text::{Bytes, Held};

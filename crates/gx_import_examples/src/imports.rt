@@ -1,4 +1,6 @@
-use super::*;
+//! Streams, imported one after the other into a repository. The names are those that git gives these objects.
+
+use gx_import::{ImportFault, ImportKind, Report, import};
 use gx_object::{Namer, Sha1Namer, ShortNamer};
 use gx_repo::Repo;
 use gx_rev::{RevFault, Revision, Shown};

@@ -1,6 +1,6 @@
 //! Streams that are accepted, and streams that are refused.
 
-use crate::ImportKind;
+use gx_import::ImportKind;
 
 /// A stream of one import into an empty repository, and its answer: a report's numbers.
 pub(crate) type Accepted<'a> = (&'a [u8], (u64, u64, u64));

@@ -2,7 +2,7 @@
 
 ghost use Rattle.std.specs.Prelude.{◌<◌};
 
-use crate::{
+use gx_command::{
     Blob, Change, Command, CommandFault, CommandReader, Commit, CommitIsh, DataRef, Feature,
     Modify, Tag,
 };

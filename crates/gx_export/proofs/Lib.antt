@@ -5,6 +5,7 @@ pub mod CommitLists
 pub mod CommitTexts
 pub mod ExportTexts
 pub mod FileLines
+pub mod FilePlaces
 pub mod Numbering
 pub mod PathBytes
 pub mod Placing

@@ -13,7 +13,7 @@ use Rattle.gx_model.specs.Growth.{record_named}
 use Rattle.gx_model.specs.RepositoryLaws.{values_of}
 use Rattle.gx_model.specs.Sound.{IsSound}
 use Rattle.gx_model.proofs.PathTests.{same_is}
-use Rattle.gx_rev.proofs.Standing.{name_there}
+use Rattle.gx_rev.proofs.Standing.{name_there, same_place}
 use Rattle.gx_store.specs.Stores.{place_named}
 
 -- none of the first n passes
@@ -75,3 +75,15 @@ module _ (name : Kind → Bytes → Bytes) (namer : IsNamer name) (r : Records) 
           let f = is_first r.records n s e in
           let same : n ≡ s.name = same_is n s.name (passes _ f.same) in
           (f.place, first_place (λ q. same_bytes n q.name) r.records f.place s f.none f.stands f.same, (name_there name namer r sound f.place s (sym f.stands)).0 ∙ ap (λ m. Some (value_of_name r.records m)) (sym same))
+
+  -- the record of a held name stands at the place of its value
+  pub record_here : (n : Bytes) → IsTrue (is_some (record_named r.records n)) → (i : ℕ) → slice_get (values_of r) i ≡ Some (value_of_name r.records n) → slice_get r.records i ≡ record_named r.records n
+  record_here n h i at = by (record_named r.records n) refl h
+    where
+      by : (o : Option Record) → record_named r.records n ≡ o → IsTrue (is_some o) → slice_get r.records i ≡ o
+      by None e k = absurd cc
+      by (Some s) e k =
+          let f = is_first r.records n s e in
+          let same : n ≡ s.name = same_is n s.name (passes _ f.same) in
+          let there = (name_there name namer r sound f.place s (sym f.stands)).0 ∙ ap (λ m. Some (value_of_name r.records m)) (sym same) in
+          ap (slice_get r.records) (same_place name namer r sound (value_of_name r.records n) i f.place at there) ∙ f.stands

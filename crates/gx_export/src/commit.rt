@@ -16,7 +16,7 @@ ghost use Rattle.gx_model.specs.Values.{Commit, Value, commit_value, files_of};
 ghost use Rattle.gx_rev.specs.Objects.{IsHeldAs, commit_at, value_at};
 ghost use Rattle.gx_tree.specs.Lists.{listed};
 ghost use Rattle.gx_export.specs.declared.fault.ExportFault.TheVariants.{OutOfMemory};
-ghost use Rattle.gx_export.specs.Marks.{Adds, HasWritten};
+ghost use Rattle.gx_export.specs.Marks.{Adds, ArePlaces, HasWritten};
 ghost use Rattle.gx_export.specs.Outputs.{Writes, most};
 ghost use Rattle.gx_export.specs.Paths.{HavePathsOfBytes};
 ghost use Rattle.gx_export.specs.Texts.{change_lines, commit_lines, file_line, items_of, items_text, parent_items, root_items};
@@ -52,9 +52,10 @@ pub(crate) fn write_commit<N: Namer, A: Allocator + Copy, W: Sink>(
     let commit = name_at(repo, place);
     let view = view_of(repo, &commit);
     let files = files_of(alloc, repo, &commit)?;
-    write_blobs(repo, sink, written, &files)?;
+    let places = places_of(alloc, repo, &files)?;
+    write_blobs(repo, sink, written, &files, &places)?;
     write_root(sink, &mut written.bytes, &view)?;
-    write_lines(alloc, repo, sink, written, &view, &files)?;
+    write_lines(alloc, repo, sink, written, &view, &files, &places)?;
     written.mark(place);
     Ok(())
 }
@@ -80,43 +81,78 @@ fn files_of<N: Namer, A: Allocator + Copy>(
     }
 }
 
+/// The place of each file's blob, and 0 for a gitlink.
+fn places_of<N: Namer, A: Allocator + Copy>(
+    alloc: A,
+    repo: &Repo<N, A>,
+    files: &[(TreePath<A>, Mode, Name)],
+) -> Result<Vec<usize, A>, ExportFault>
+    requires { IsNamedMap repo.now.1.records (map listed files.now) }
+    ensures places { IfOk result (λ places. ArePlaces repo.now.1 (map listed files.now) places.items) }
+    ensures fault { IfErr result (λ fault. fault ≡ OutOfMemory) }
+{
+    let mut places = Vec::new(alloc);
+    for (_, mode, name) in files {
+        let Ok(()) = places.push(place_in(repo, *mode, name)) else {
+            return Err(ExportFault::OutOfMemory);
+        };
+    }
+    Ok(places)
+}
+
+/// The place of a file's blob, or 0 for a gitlink.
+fn place_in<N: Namer, A: Allocator + Copy>(repo: &Repo<N, A>, mode: Mode, name: &Name) -> usize
+    requires file { mode ≢ modes.Dir }
+    requires held { sound.IsHeldAs repo.now.1.records mode name.now.bytes }
+    ensures { mode ≢ modes.Gitlink → slice_get (values_of repo.now.1) result ≡ Some (value_at repo.now.1 name.now) }
+{
+    repo.sound();
+    if mode == Mode::Gitlink {
+        return 0;
+    }
+    place_of(repo, name)
+}
+
 /// Writes the bytes of each file that is no gitlink, where they weren't written yet.
 fn write_blobs<N: Namer, A: Allocator + Copy, W: Sink>(
     repo: &Repo<N, A>,
     sink: &mut W,
     written: &mut Written<A>,
     files: &[(TreePath<A>, Mode, Name)],
+    places: &[usize],
 ) -> Result<(), ExportFault>
     requires named { IsNamedMap repo.now.1.records (map listed files.now) }
+    requires places { ArePlaces repo.now.1 (map listed files.now) places.now }
     requires written { (ws : List Value) × HasWritten repo.now.1 ws written.old }
     ensures { (ws : List Value) → HasWritten repo.now.1 ws written.old → Adds repo.now.1 (with_blobs ws (contents (contents_of (named_values repo.now.1.records) (map listed files.now)))) (items_of (blob_commands ws (contents (contents_of (named_values repo.now.1.records) (map listed files.now))))) written.old written.new (W.taken sink.old) (W.taken sink.new) result }
 {
     repo.sound();
-    for (_, mode, name) in files {
+    for (number, (_, mode, name)) in files.iter().enumerate() {
         if *mode != Mode::Gitlink {
-            write_blob_once(repo, sink, written, name)?;
+            write_blob_once(repo, sink, written, name, places[number])?;
         }
     }
     Ok(())
 }
 
-/// Writes a held blob, where it wasn't written yet.
+/// Writes a held blob, which stands at this place, where it wasn't written yet.
 fn write_blob_once<N: Namer, A: Allocator + Copy, W: Sink>(
     repo: &Repo<N, A>,
     sink: &mut W,
     written: &mut Written<A>,
     name: &Name,
+    place: usize,
 ) -> Result<(), ExportFault>
     requires held { IsHeldAs kinds.Blob repo.now.1 name.now }
+    requires place { slice_get (values_of repo.now.1) place ≡ Some (value_at repo.now.1 name.now) }
     requires written { (ws : List Value) × HasWritten repo.now.1 ws written.old }
     ensures { (ws : List Value) → HasWritten repo.now.1 ws written.old → Adds repo.now.1 (with_blobs ws (bytes_of_blob (value_at repo.now.1 name.now) ∷ [])) (items_of (blob_commands ws (bytes_of_blob (value_at repo.now.1 name.now) ∷ []))) written.old written.new (W.taken sink.old) (W.taken sink.new) result }
 {
     repo.sound();
-    let place = place_of(repo, name);
     if written.marks[place] > 0 {
         return Ok(());
     }
-    let Some((_, body)) = repo.store().get(name) else {
+    let Some((_, _, body)) = repo.store().record(place) else {
         unreachable!();
     };
     write_blob(sink, &mut written.bytes, written.count + 1, body)?;
@@ -147,8 +183,10 @@ fn write_lines<N: Namer, A: Allocator + Copy, W: Sink>(
     written: &mut Written<A>,
     commit: &CommitView<'_>,
     files: &[(TreePath<A>, Mode, Name)],
+    places: &[usize],
 ) -> Result<(), ExportFault>
     requires named { IsNamedMap repo.now.1.records (map listed files.now) }
+    requires places { ArePlaces repo.now.1 (map listed files.now) places.now }
     requires parents { AllByRecursion (Holds repo.now.1.records kinds.Commit) commit.now.parents }
     requires written { (ws : List Value) × HasWritten repo.now.1 ws written.old }
     ensures adds { (ws : List Value) → HasWritten repo.now.1 ws written.old → Adds repo.now.1 ws (commit_lines ws commit.now.text (map (λ name. commit_of_value (value_of_name repo.now.1.records name)) commit.now.parents) (contents_of (named_values repo.now.1.records) (map listed files.now))) written.old written.new (W.taken sink.old) (W.taken sink.new) result }
@@ -156,7 +194,7 @@ fn write_lines<N: Namer, A: Allocator + Copy, W: Sink>(
 {
     write_commit_head(sink, &mut written.bytes, written.count + 1, commit)?;
     write_parents(repo, sink, written, commit)?;
-    write_files(alloc, repo, sink, written, files)
+    write_files(alloc, repo, sink, written, files, places)
 }
 
 /// Writes the lines of a commit's parents.
@@ -195,20 +233,22 @@ fn write_files<N: Namer, A: Allocator + Copy, W: Sink>(
     sink: &mut W,
     written: &mut Written<A>,
     files: &[(TreePath<A>, Mode, Name)],
+    places: &[usize],
 ) -> Result<(), ExportFault>
     requires named { IsNamedMap repo.now.1.records (map listed files.now) }
+    requires places { ArePlaces repo.now.1 (map listed files.now) places.now }
     requires written { (ws : List Value) × HasWritten repo.now.1 ws written.old }
     ensures adds { (ws : List Value) → HasWritten repo.now.1 ws written.old → Adds repo.now.1 ws (change_lines ws (contents_of (named_values repo.now.1.records) (map listed files.now))) written.old written.new (W.taken sink.old) (W.taken sink.new) result }
     ensures paths { IfOk result (λ _. HavePathsOfBytes (map listed files.now)) }
 {
     write(sink, &mut written.bytes, b"deleteall\n")?;
-    for (path, mode, name) in files {
+    for (number, (path, mode, name)) in files.iter().enumerate() {
         has_bytes(path.joined());
         let mut printed = Vec::new(alloc);
         let Ok(()) = path.write_quoted(&mut printed) else {
             return Err(ExportFault::OutOfMemory);
         };
-        write_change(repo, sink, written, *mode, name, &printed)?;
+        write_change(repo, sink, written, *mode, name, places[number], &printed)?;
     }
     write(sink, &mut written.bytes, b"\n")
 }
@@ -218,17 +258,19 @@ fn has_bytes(text: &[u8])
     ensures { AreBytes text.now }
 {}
 
-/// Writes the line of a file.
+/// Writes the line of a file, whose blob stands at this place.
 fn write_change<N: Namer, A: Allocator + Copy, W: Sink>(
     repo: &Repo<N, A>,
     sink: &mut W,
     written: &mut Written<A>,
     mode: Mode,
     name: &Name,
+    place: usize,
     path: &[u8],
 ) -> Result<(), ExportFault>
     requires file { mode ≢ modes.Dir }
     requires held { sound.IsHeldAs repo.now.1.records mode name.now.bytes }
+    requires place { mode ≢ modes.Gitlink → slice_get (values_of repo.now.1) place ≡ Some (value_at repo.now.1 name.now) }
     requires written { (ws : List Value) × HasWritten repo.now.1 ws written.old }
     ensures { (ws : List Value) → HasWritten repo.now.1 ws written.old → Adds repo.now.1 ws (file_line mode (dataref_text (dataref_in ws mode (content_of (named_values repo.now.1.records) mode name.now.bytes))) path.now ∷ []) written.old written.new (W.taken sink.old) (W.taken sink.new) result }
 {
@@ -236,6 +278,5 @@ fn write_change<N: Namer, A: Allocator + Copy, W: Sink>(
     if mode == Mode::Gitlink {
         return write_gitlink(sink, &mut written.bytes, name, path);
     }
-    let mark = mark_of(repo, written, name);
-    write_file(sink, &mut written.bytes, mode, mark, path)
+    write_file(sink, &mut written.bytes, mode, written.marks[place], path)
 }

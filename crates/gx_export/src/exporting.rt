@@ -31,8 +31,8 @@ use std::alloc::Allocator;
 /// is a front of the text.
 ///
 /// Cost: the text's length, for each commit that is written its trees, and for each file, parent and ref the number of
-/// records. Memory: nine bytes for each record, and one commit's files and their paths. Source: git-fast-export(1),
-/// `--full-tree`.
+/// records. Memory: nine bytes for each record, and one commit's files with their paths and places.
+/// Source: git-fast-export(1), `--full-tree`.
 pub fn export<N: Namer, A: Allocator + Copy, W: Sink>(
     alloc: A,
     repo: &Repo<N, A>,

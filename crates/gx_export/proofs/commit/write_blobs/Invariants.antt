@@ -7,6 +7,6 @@ use Rattle.gx_export.specs.Marks.{Adds, HasWritten}
 use Rattle.gx_export.specs.Texts.{items_of}
 use Rattle.gx_export.proofs.commit.write_blobs.Given as goal
 
-abbrev pub invariant-loop-mode : goal.invariant-loop-mode
-invariant-loop-mode g l = (ws : List Value) → HasWritten l.repo.1 ws l.fn.written
-    → Adds l.repo.1 (with_blobs ws (contents (contents_of (named_values l.repo.1.records) (map listed (take l.mode-index l.files))))) (items_of (blob_commands ws (contents (contents_of (named_values l.repo.1.records) (map listed (take l.mode-index l.files)))))) l.fn.written l.written (g.W.Sink.taken l.fn.sink) (g.W.Sink.taken l.sink) (Ok tt)
+abbrev pub invariant-loop-number : goal.invariant-loop-number
+invariant-loop-number g l = (ws : List Value) → HasWritten l.repo.1 ws l.fn.written
+    → Adds l.repo.1 (with_blobs ws (contents (contents_of (named_values l.repo.1.records) (map listed (take l.number l.files))))) (items_of (blob_commands ws (contents (contents_of (named_values l.repo.1.records) (map listed (take l.number l.files)))))) l.fn.written l.written (g.W.Sink.taken l.fn.sink) (g.W.Sink.taken l.sink) (Ok tt)

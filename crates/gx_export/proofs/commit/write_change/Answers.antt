@@ -1,28 +1,30 @@
 use Rattle.std.proofs.Common.{◌≡◌, ◌≢◌, ◌∙◌, ap, sym, subst, [], ◌∷◌, true, false}
 use denote.Enum.Bare.{same_true, sameb}
-use Rattle.std.proofs.Common.{rules}
+use Rattle.std.proofs.Common.{arith, rules}
 use Rattle.gx_model.specs.contracts.objects.Mode.{the_type}
 use Rattle.gx_model.specs.declared.objects.Kind.TheVariants as kind
 use Rattle.gx_model.specs.declared.objects.Mode.TheVariants.{Gitlink}
 use Rattle.gx_model.specs.Export.{dataref_in, dataref_text, mark_text, number_in}
 use Rattle.gx_model.specs.HistoryOf.{content_of, named_values}
 use Rattle.gx_model.specs.Objects.{hex}
-use Rattle.gx_rev.proofs.HeldValues.{holds_held, kind_held}
+use Rattle.gx_rev.specs.Objects.{value_at}
+use Rattle.gx_rev.proofs.HeldValues.{holds_held}
 use Rattle.gx_export.specs.Marks.{Adds}
 use Rattle.gx_export.specs.Outputs.{Writes}
 use Rattle.gx_export.specs.Texts.{file_line, items_text}
 use Rattle.gx_export.proofs.CommitLines.{file_dataref, file_held}
-use Rattle.gx_export.proofs.Numbering.{adds_bytes, blob_here}
+use Rattle.gx_export.proofs.Numbering.{adds_bytes, blob_here, mark_here, place_marked}
 use Rattle.gx_export.proofs.commit.write_change.Goals as goal
 
-pub mark_of-mark-requires-clause-held : goal.mark_of-mark-requires-clause-held
-mark_of-mark-requires-clause-held g c =
+pub index-requires : goal.index-requires
+index-requires g c =
     let name = g.N.Namer.name_of c.args.repo.now.0 in
     let namer = g.met.N.Namer.is_namer c.args.repo.now.0 in
     let r = c.args.repo.now.1 in
-    let n = c.args.name.now.bytes in
     let other : c.args.mode ≢ Gitlink = λ e. (let f : false ≡ true = c.if-eq.ensures ∙ ap (λ m. sameb the_type m Gitlink) e in cc f) in
-    (kind_held name namer r c.sound.ensures kind.Blob n (holds_held name namer r c.sound.ensures kind.Blob n (file_held r.records c.args.mode n other c.requires.file c.requires.held))).0
+    let k = place_marked name namer r c.sound.ensures c.requires.written.0 c.args.written.now.marks.items (value_at r c.args.name.now) c.args.place c.requires.written.1.marks (c.requires.place other) in
+    let long = c.args.written.now.marks.ok in
+    omega (arith, k, long)
 
 pub returns-then-eq : goal.returns-then-eq
 returns-then-eq g c = λ ws h.
@@ -43,6 +45,6 @@ returns g c = λ ws h.
     let n = c.args.name.now.bytes in
     let other : c.args.mode ≢ Gitlink = λ e. (let f : false ≡ true = c.if-eq.ensures ∙ ap (λ m. sameb the_type m Gitlink) e in cc f) in
     let held = holds_held name namer r c.sound.ensures kind.Blob n (file_held r.records c.args.mode n other c.requires.file c.requires.held) in
-    let text = ap mark_text (c.mark_of-mark.ensures ws h.marks ∙ ap (number_in ws) (blob_here name namer r c.sound.ensures n held)) ∙ sym (file_dataref (named_values r.records) ws c.args.mode n other c.requires.file) in
+    let text = ap mark_text (c.index.ensures ∙ mark_here name namer r c.sound.ensures ws c.args.written.now.marks.items (value_at r c.args.name.now) c.args.place c.index.result.now h.marks (c.requires.place other) ∙ ap (number_in ws) (blob_here name namer r c.sound.ensures n held)) ∙ sym (file_dataref (named_values r.records) ws c.args.mode n other c.requires.file) in
     adds_bytes r ws (file_line c.args.mode (dataref_text (dataref_in ws c.args.mode (content_of (named_values r.records) c.args.mode n))) c.args.path.now ∷ []) c.args.written.now _ (taken c.args.sink.now) (taken c.write_file.new.sink) c.write_file.result h (λ _. c.args.written.now.count) (λ _. c.args.written.now.marks.items)
     (subst (λ t. Writes c.args.written.now.bytes c.write_file.new.written (taken c.args.sink.now) (taken c.write_file.new.sink) (items_text (file_line c.args.mode t c.args.path.now ∷ [])) c.write_file.result) text c.write_file.ensures)

@@ -6,7 +6,7 @@ use Rattle.gx_model.specs.RepositoryLaws.{values_of}
 use Rattle.gx_model.specs.Values.{commit_value, files_of, list_of, parents_of, text_of}
 use Rattle.gx_tree.specs.Lists.{listed}
 use Rattle.gx_rev.proofs.Standing.{at_within, commit_name_there}
-use Rattle.gx_export.specs.Marks.{Adds}
+use Rattle.gx_export.specs.Marks.{Adds, ArePlaces}
 use Rattle.gx_export.specs.Outputs.{Stops, Writes}
 use Rattle.gx_export.specs.Paths.{HavePathsOfBytes}
 use Rattle.gx_export.specs.Texts.{commit_lines, items_of, items_text, root_items}
@@ -39,6 +39,27 @@ returns-in_err-files-clause-adds g c = λ made ws e h.
     let p = err_from_is_err_and c.from_residual.result c.from_residual.ensures.1 in
     rw (p.1, p.2, c.in_err-files.ensures.fault) (stops_first c.args.written.now.bytes (taken c.args.sink.now) (items_text (items_of (one_commit ws made))))
 
+pub places_of-requires : goal.places_of-requires
+places_of-requires g c =
+    let name = g.N.Namer.name_of c.args.repo.now.0 in
+    let namer = g.met.N.Namer.is_namer c.args.repo.now.0 in
+    let r = c.args.repo.now.1 in
+    let files_are = ap (map listed) c.deref.ensures.value ∙ c.in_ok-files.ensures.files in
+    let s = shown_as name namer r c.sound.ensures c.args.place c.requires.commit.0 c.name_at-commit.result.bytes c.view_of-view.result (map listed c.deref.result.now) c.requires.commit.1 c.name_at-commit.ensures.value c.view_of-view.ensures files_are in
+    s.named
+
+pub returns-in_err-places-clause-adds : goal.returns-in_err-places-clause-adds
+returns-in_err-places-clause-adds g c = λ made ws e h.
+    let taken = g.W.Sink.taken in
+    let p = err_from_is_err_and c.from_residual-in_err-places.result c.from_residual-in_err-places.ensures.1 in
+    rw (p.1, p.2, c.in_err-places.ensures.fault) (stops_first c.args.written.now.bytes (taken c.args.sink.now) (items_text (items_of (one_commit ws made))))
+
+pub write_blobs-requires-clause-places : goal.write_blobs-requires-clause-places
+write_blobs-requires-clause-places g c = subst (ArePlaces c.args.repo.now.1 (map listed c.deref-2.result.now)) (sym c.deref-3.ensures.value) (subst (λ files. ArePlaces c.args.repo.now.1 (map listed files) c.in_ok-places.places.items) (c.deref.ensures.value ∙ sym c.deref-2.ensures.value) c.in_ok-places.ensures.places)
+
+pub write_lines-requires-clause-places : goal.write_lines-requires-clause-places
+write_lines-requires-clause-places g c = subst (ArePlaces c.args.repo.now.1 (map listed c.deref-4.result.now)) (sym c.deref-5.ensures.value) (subst (λ files. ArePlaces c.args.repo.now.1 (map listed files) c.in_ok-places.places.items) (c.deref.ensures.value ∙ sym c.deref-4.ensures.value) c.in_ok-places.ensures.places)
+
 pub write_blobs-requires-clause-named : goal.write_blobs-requires-clause-named
 write_blobs-requires-clause-named g c =
     let name = g.N.Namer.name_of c.args.repo.now.0 in
@@ -48,8 +69,8 @@ write_blobs-requires-clause-named g c =
     let e = c.requires.commit.1 in
     let ws = c.requires.written.0 in
     let h = c.requires.written.1 in
-    let files_are = ap (map listed) c.deref.ensures.value ∙ c.in_ok-files.ensures.files in
-    let s = shown_as name namer r c.sound.ensures c.args.place made c.name_at-commit.result.bytes c.view_of-view.result (map listed c.deref.result.now) e c.name_at-commit.ensures.value c.view_of-view.ensures files_are in
+    let files_are = ap (map listed) c.deref-2.ensures.value ∙ c.in_ok-files.ensures.files in
+    let s = shown_as name namer r c.sound.ensures c.args.place made c.name_at-commit.result.bytes c.view_of-view.result (map listed c.deref-2.result.now) e c.name_at-commit.ensures.value c.view_of-view.ensures files_are in
     s.named
 
 pub returns-in_err-write_blobs-clause-adds : goal.returns-in_err-write_blobs-clause-adds
@@ -58,8 +79,8 @@ returns-in_err-write_blobs-clause-adds g c = λ made ws e h.
     let namer = g.met.N.Namer.is_namer c.args.repo.now.0 in
     let r = c.args.repo.now.1 in
     let taken = g.W.Sink.taken in
-    let files_are = ap (map listed) c.deref.ensures.value ∙ c.in_ok-files.ensures.files in
-    let s = shown_as name namer r c.sound.ensures c.args.place made c.name_at-commit.result.bytes c.view_of-view.result (map listed c.deref.result.now) e c.name_at-commit.ensures.value c.view_of-view.ensures files_are in
+    let files_are = ap (map listed) c.deref-2.ensures.value ∙ c.in_ok-files.ensures.files in
+    let s = shown_as name namer r c.sound.ensures c.args.place made c.name_at-commit.result.bytes c.view_of-view.result (map listed c.deref-2.result.now) e c.name_at-commit.ensures.value c.view_of-view.ensures files_are in
     let ps = list_of (parents_of made) in
     let before = items_of (blob_commands ws (contents (files_of made))) in
     let lines = commit_lines (with_blobs ws (contents (files_of made))) (text_of made) ps (files_of made) in
@@ -79,8 +100,8 @@ returns-in_err-write_root-clause-adds g c = λ made ws e h.
     let namer = g.met.N.Namer.is_namer c.args.repo.now.0 in
     let r = c.args.repo.now.1 in
     let taken = g.W.Sink.taken in
-    let files_are = ap (map listed) c.deref.ensures.value ∙ c.in_ok-files.ensures.files in
-    let s = shown_as name namer r c.sound.ensures c.args.place made c.name_at-commit.result.bytes c.view_of-view.result (map listed c.deref.result.now) e c.name_at-commit.ensures.value c.view_of-view.ensures files_are in
+    let files_are = ap (map listed) c.deref-2.ensures.value ∙ c.in_ok-files.ensures.files in
+    let s = shown_as name namer r c.sound.ensures c.args.place made c.name_at-commit.result.bytes c.view_of-view.result (map listed c.deref-2.result.now) e c.name_at-commit.ensures.value c.view_of-view.ensures files_are in
     let ps = list_of (parents_of made) in
     let before = items_of (blob_commands ws (contents (files_of made))) in
     let lines = commit_lines (with_blobs ws (contents (files_of made))) (text_of made) ps (files_of made) in
@@ -103,8 +124,8 @@ write_lines-requires-clause-named g c =
     let e = c.requires.commit.1 in
     let ws = c.requires.written.0 in
     let h = c.requires.written.1 in
-    let files_are = ap (map listed) c.deref-2.ensures.value ∙ c.in_ok-files.ensures.files in
-    let s = shown_as name namer r c.sound.ensures c.args.place made c.name_at-commit.result.bytes c.view_of-view.result (map listed c.deref-2.result.now) e c.name_at-commit.ensures.value c.view_of-view.ensures files_are in
+    let files_are = ap (map listed) c.deref-4.ensures.value ∙ c.in_ok-files.ensures.files in
+    let s = shown_as name namer r c.sound.ensures c.args.place made c.name_at-commit.result.bytes c.view_of-view.result (map listed c.deref-4.result.now) e c.name_at-commit.ensures.value c.view_of-view.ensures files_are in
     s.named
 
 pub write_lines-requires-clause-parents : goal.write_lines-requires-clause-parents
@@ -116,8 +137,8 @@ write_lines-requires-clause-parents g c =
     let e = c.requires.commit.1 in
     let ws = c.requires.written.0 in
     let h = c.requires.written.1 in
-    let files_are = ap (map listed) c.deref.ensures.value ∙ c.in_ok-files.ensures.files in
-    let s = shown_as name namer r c.sound.ensures c.args.place made c.name_at-commit.result.bytes c.view_of-view.result (map listed c.deref.result.now) e c.name_at-commit.ensures.value c.view_of-view.ensures files_are in
+    let files_are = ap (map listed) c.deref-2.ensures.value ∙ c.in_ok-files.ensures.files in
+    let s = shown_as name namer r c.sound.ensures c.args.place made c.name_at-commit.result.bytes c.view_of-view.result (map listed c.deref-2.result.now) e c.name_at-commit.ensures.value c.view_of-view.ensures files_are in
     s.holds
 
 pub write_lines-requires-clause-written : goal.write_lines-requires-clause-written
@@ -130,8 +151,8 @@ write_lines-requires-clause-written g c =
     let ws = c.requires.written.0 in
     let h = c.requires.written.1 in
     let taken = g.W.Sink.taken in
-    let files_are = ap (map listed) c.deref.ensures.value ∙ c.in_ok-files.ensures.files in
-    let s = shown_as name namer r c.sound.ensures c.args.place made c.name_at-commit.result.bytes c.view_of-view.result (map listed c.deref.result.now) e c.name_at-commit.ensures.value c.view_of-view.ensures files_are in
+    let files_are = ap (map listed) c.deref-2.ensures.value ∙ c.in_ok-files.ensures.files in
+    let s = shown_as name namer r c.sound.ensures c.args.place made c.name_at-commit.result.bytes c.view_of-view.result (map listed c.deref-2.result.now) e c.name_at-commit.ensures.value c.view_of-view.ensures files_are in
     let us = with_blobs ws (contents (files_of made)) in
     let blobs = subst (λ f. Adds r (with_blobs ws (contents f)) (items_of (blob_commands ws (contents f))) c.args.written.now c.write_blobs.new.written (taken c.args.sink.now) (taken c.write_blobs.new.sink) (Ok tt)) s.files (c.in_ok-write_blobs.ensures ws h) in
     let mid = record c.write_blobs.new.written { bytes = c.write_root.new.written } in
@@ -145,8 +166,8 @@ returns-in_err-write_lines-clause-adds g c = λ made ws e h.
     let namer = g.met.N.Namer.is_namer c.args.repo.now.0 in
     let r = c.args.repo.now.1 in
     let taken = g.W.Sink.taken in
-    let files_are = ap (map listed) c.deref.ensures.value ∙ c.in_ok-files.ensures.files in
-    let s = shown_as name namer r c.sound.ensures c.args.place made c.name_at-commit.result.bytes c.view_of-view.result (map listed c.deref.result.now) e c.name_at-commit.ensures.value c.view_of-view.ensures files_are in
+    let files_are = ap (map listed) c.deref-2.ensures.value ∙ c.in_ok-files.ensures.files in
+    let s = shown_as name namer r c.sound.ensures c.args.place made c.name_at-commit.result.bytes c.view_of-view.result (map listed c.deref-2.result.now) e c.name_at-commit.ensures.value c.view_of-view.ensures files_are in
     let ps = list_of (parents_of made) in
     let before = items_of (blob_commands ws (contents (files_of made))) in
     let lines = commit_lines (with_blobs ws (contents (files_of made))) (text_of made) ps (files_of made) in
@@ -158,9 +179,9 @@ returns-in_err-write_lines-clause-adds g c = λ made ws e h.
     let root = adds_bytes r us (root_items (length (list_of (parents_of made)))) c.write_blobs.new.written mid (taken c.write_blobs.new.sink) (taken c.write_root.new.sink) (Ok tt) blobs.0 (λ _. c.write_blobs.new.written.count) (λ _. c.write_blobs.new.written.marks.items) reset in
     let p = err_from_is_err_and c.from_residual-in_err-write_lines.result c.from_residual-in_err-write_lines.ensures.1 in
     let fault = c.in_err-write_lines.field-0.0 in
-    let listed_so = ap (map listed) c.deref-2.ensures.value ∙ c.in_ok-files.ensures.files in
-    let shown = shown_as name namer r c.sound.ensures c.args.place made c.name_at-commit.result.bytes c.view_of-view.result (map listed c.deref-2.result.now) e c.name_at-commit.ensures.value c.view_of-view.ensures listed_so in
-    let lines_are = lines_told name namer r c.sound.ensures made c.view_of-view.result (map listed c.deref-2.result.now) shown us in
+    let listed_so = ap (map listed) c.deref-4.ensures.value ∙ c.in_ok-files.ensures.files in
+    let shown = shown_as name namer r c.sound.ensures c.args.place made c.name_at-commit.result.bytes c.view_of-view.result (map listed c.deref-4.result.now) e c.name_at-commit.ensures.value c.view_of-view.ensures listed_so in
+    let lines_are = lines_told name namer r c.sound.ensures made c.view_of-view.result (map listed c.deref-4.result.now) shown us in
     let stop = subst (λ is. Stops c.write_root.new.written (taken c.write_root.new.sink) (taken c.write_lines.new.sink) (items_text is) fault) lines_are (c.in_err-write_lines.ensures.adds us root.0) in
     let later = adds_later r us us before (root_items (length ps) ++ lines) c.args.written.now c.write_blobs.new.written mid (taken c.args.sink.now) (taken c.write_blobs.new.sink) (taken c.write_lines.new.sink) (Err fault) blobs
     (adds_later r us us (root_items (length ps)) lines c.write_blobs.new.written mid mid (taken c.write_blobs.new.sink) (taken c.write_root.new.sink) (taken c.write_lines.new.sink) (Err fault) root stop) in
@@ -176,8 +197,8 @@ mark-requires-clause-place g c =
     let ws = c.requires.written.0 in
     let h = c.requires.written.1 in
     let taken = g.W.Sink.taken in
-    let files_are = ap (map listed) c.deref.ensures.value ∙ c.in_ok-files.ensures.files in
-    let s = shown_as name namer r c.sound.ensures c.args.place made c.name_at-commit.result.bytes c.view_of-view.result (map listed c.deref.result.now) e c.name_at-commit.ensures.value c.view_of-view.ensures files_are in
+    let files_are = ap (map listed) c.deref-2.ensures.value ∙ c.in_ok-files.ensures.files in
+    let s = shown_as name namer r c.sound.ensures c.args.place made c.name_at-commit.result.bytes c.view_of-view.result (map listed c.deref-2.result.now) e c.name_at-commit.ensures.value c.view_of-view.ensures files_are in
     let us = with_blobs ws (contents (files_of made)) in
     let blobs = subst (λ f. Adds r (with_blobs ws (contents f)) (items_of (blob_commands ws (contents f))) c.args.written.now c.write_blobs.new.written (taken c.args.sink.now) (taken c.write_blobs.new.sink) (Ok tt)) s.files (c.in_ok-write_blobs.ensures ws h) in
     let mid = record c.write_blobs.new.written { bytes = c.write_root.new.written } in
@@ -196,8 +217,8 @@ mark-requires-clause-room g c =
     let ws = c.requires.written.0 in
     let h = c.requires.written.1 in
     let taken = g.W.Sink.taken in
-    let files_are = ap (map listed) c.deref.ensures.value ∙ c.in_ok-files.ensures.files in
-    let s = shown_as name namer r c.sound.ensures c.args.place made c.name_at-commit.result.bytes c.view_of-view.result (map listed c.deref.result.now) e c.name_at-commit.ensures.value c.view_of-view.ensures files_are in
+    let files_are = ap (map listed) c.deref-2.ensures.value ∙ c.in_ok-files.ensures.files in
+    let s = shown_as name namer r c.sound.ensures c.args.place made c.name_at-commit.result.bytes c.view_of-view.result (map listed c.deref-2.result.now) e c.name_at-commit.ensures.value c.view_of-view.ensures files_are in
     let us = with_blobs ws (contents (files_of made)) in
     let blobs = subst (λ f. Adds r (with_blobs ws (contents f)) (items_of (blob_commands ws (contents f))) c.args.written.now c.write_blobs.new.written (taken c.args.sink.now) (taken c.write_blobs.new.sink) (Ok tt)) s.files (c.in_ok-write_blobs.ensures ws h) in
     let mid = record c.write_blobs.new.written { bytes = c.write_root.new.written } in
@@ -214,8 +235,8 @@ returns-clause-adds g c = λ made ws e h.
     let namer = g.met.N.Namer.is_namer c.args.repo.now.0 in
     let r = c.args.repo.now.1 in
     let taken = g.W.Sink.taken in
-    let files_are = ap (map listed) c.deref.ensures.value ∙ c.in_ok-files.ensures.files in
-    let s = shown_as name namer r c.sound.ensures c.args.place made c.name_at-commit.result.bytes c.view_of-view.result (map listed c.deref.result.now) e c.name_at-commit.ensures.value c.view_of-view.ensures files_are in
+    let files_are = ap (map listed) c.deref-2.ensures.value ∙ c.in_ok-files.ensures.files in
+    let s = shown_as name namer r c.sound.ensures c.args.place made c.name_at-commit.result.bytes c.view_of-view.result (map listed c.deref-2.result.now) e c.name_at-commit.ensures.value c.view_of-view.ensures files_are in
     let ps = list_of (parents_of made) in
     let before = items_of (blob_commands ws (contents (files_of made))) in
     let lines = commit_lines (with_blobs ws (contents (files_of made))) (text_of made) ps (files_of made) in
@@ -225,9 +246,9 @@ returns-clause-adds g c = λ made ws e h.
     let mid = record c.write_blobs.new.written { bytes = c.write_root.new.written } in
     let reset = subst (λ n. Writes c.write_blobs.new.written.bytes c.write_root.new.written (taken c.write_blobs.new.sink) (taken c.write_root.new.sink) (items_text (root_items n)) (Ok tt)) s.count c.in_ok-write_root.ensures in
     let root = adds_bytes r us (root_items (length (list_of (parents_of made)))) c.write_blobs.new.written mid (taken c.write_blobs.new.sink) (taken c.write_root.new.sink) (Ok tt) blobs.0 (λ _. c.write_blobs.new.written.count) (λ _. c.write_blobs.new.written.marks.items) reset in
-    let listed_so = ap (map listed) c.deref-2.ensures.value ∙ c.in_ok-files.ensures.files in
-    let shown = shown_as name namer r c.sound.ensures c.args.place made c.name_at-commit.result.bytes c.view_of-view.result (map listed c.deref-2.result.now) e c.name_at-commit.ensures.value c.view_of-view.ensures listed_so in
-    let lines_are = lines_told name namer r c.sound.ensures made c.view_of-view.result (map listed c.deref-2.result.now) shown us in
+    let listed_so = ap (map listed) c.deref-4.ensures.value ∙ c.in_ok-files.ensures.files in
+    let shown = shown_as name namer r c.sound.ensures c.args.place made c.name_at-commit.result.bytes c.view_of-view.result (map listed c.deref-4.result.now) e c.name_at-commit.ensures.value c.view_of-view.ensures listed_so in
+    let lines_are = lines_told name namer r c.sound.ensures made c.view_of-view.result (map listed c.deref-4.result.now) shown us in
     let made_lines = subst (λ is. Adds r us is mid c.write_lines.new.written (taken c.write_root.new.sink) (taken c.write_lines.new.sink) (Ok tt)) lines_are (c.in_ok-write_lines.ensures.adds us root.0) in
     let later = adds_later r us us before (root_items (length ps) ++ lines) c.args.written.now c.write_blobs.new.written c.write_lines.new.written (taken c.args.sink.now) (taken c.write_blobs.new.sink) (taken c.write_lines.new.sink) (Ok tt) blobs
     (adds_later r us us (root_items (length ps)) lines c.write_blobs.new.written mid c.write_lines.new.written (taken c.write_blobs.new.sink) (taken c.write_root.new.sink) (taken c.write_lines.new.sink) (Ok tt) root made_lines) in
@@ -241,6 +262,6 @@ returns-clause-paths g c = λ made e.
     let name = g.N.Namer.name_of c.args.repo.now.0 in
     let namer = g.met.N.Namer.is_namer c.args.repo.now.0 in
     let r = c.args.repo.now.1 in
-    let files_are = ap (map listed) c.deref-2.ensures.value ∙ c.in_ok-files.ensures.files in
-    let s = shown_as name namer r c.sound.ensures c.args.place made c.name_at-commit.result.bytes c.view_of-view.result (map listed c.deref-2.result.now) e c.name_at-commit.ensures.value c.view_of-view.ensures files_are in
-    subst HavePathsOfBytes s.files (contents_paths (named_values r.records) (map listed c.deref-2.result.now) c.in_ok-write_lines.ensures.paths)
+    let files_are = ap (map listed) c.deref-4.ensures.value ∙ c.in_ok-files.ensures.files in
+    let s = shown_as name namer r c.sound.ensures c.args.place made c.name_at-commit.result.bytes c.view_of-view.result (map listed c.deref-4.result.now) e c.name_at-commit.ensures.value c.view_of-view.ensures files_are in
+    subst HavePathsOfBytes s.files (contents_paths (named_values r.records) (map listed c.deref-4.result.now) c.in_ok-write_lines.ensures.paths)

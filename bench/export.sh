@@ -12,13 +12,8 @@ trap 'rm -rf "$folder"' EXIT
 gx=${GX:-$PWD/crates/gx/out/gx}
 [ -x "$gx" ] || (cd crates/gx && rt run blobs < /dev/null)
 
-# the least time of three runs, with that run's memory
-best() {
-  for _ in 1 2 3; do
-    /usr/bin/time -f '%e %M' -o "$folder/time" "$@" > "$folder/out"
-    cat "$folder/time"
-  done | sort -g | head -n 1 | awk '{ printf "%s s, %.1f MB", $1, $2 / 1024 }'
-}
+# shellcheck source=bench/best.bash
+. bench/best.bash
 
 # a new repository of git's from a stream
 by_git() {

@@ -11,14 +11,12 @@ trap 'rm -rf "$folder"' EXIT
 gx=${GX:-$PWD/crates/gx/out/gx}
 [ -x "$gx" ] || (cd crates/gx && rt run blobs < /dev/null)
 
-# the least time of three runs, with that run's memory
-best() {
-  for _ in 1 2 3; do
-    rm -rf "$folder/repo" && git init -q --bare "$folder/repo"
-    /usr/bin/time -f '%e %M' -o "$folder/time" "$@" < "$folder/stream" > "$folder/out"
-    cat "$folder/time"
-  done | sort -g | head -n 1 | awk '{ printf "%s s, %.1f MB", $1, $2 / 1024 }'
-}
+# shellcheck source=bench/best.bash
+. bench/best.bash
+input=$folder/stream
+
+# git imports into a new repository each time
+prepare() { rm -rf "$folder/repo" && git init -q --bare "$folder/repo"; }
 
 echo "load average before: $(cut -d ' ' -f 1 /proc/loadavg)"
 for commits in "$@"; do

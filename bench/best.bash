@@ -1,0 +1,13 @@
+# Sourced by the benchmarks. They set `folder`, where files may be written, and may set `input`, a file for standard input, and
+# define `prepare`, which is called before each run.
+
+prepare() { :; }
+
+# the least wall time of three runs in seconds, with that run's peak memory in MB; the output of the last is in $folder/out
+best() {
+  for _ in 1 2 3; do
+    prepare
+    /usr/bin/time -f '%e %M' -o "$folder/time" "$@" < "${input:-/dev/null}" > "$folder/out"
+    cat "$folder/time"
+  done | sort -g | head -n 1 | awk '{ printf "%s s, %.1f MB", $1, $2 / 1024 }'
+}

@@ -22,7 +22,7 @@ use Rattle.gx_rev.specs.declared.fault.RevFault.TheVariants.{OutOfMemory}
 use Rattle.gx_rev.specs.Objects.{IsHeldAs, commit_at}
 use Rattle.gx_rev.specs.RevFaults.{fault_of}
 use Rattle.gx_rev.specs.Walking.{IsWordFault}
-use Rattle.gx_rev.proofs.HeldValues.{commit_stands, held_is, kind_held, value_held}
+use Rattle.gx_model.proofs.HeldValues.{commit_stands, held_is, kind_held, value_held}
 use Rattle.gx_cli.specs.Stored.{all_words, commits_listed, limited, turned}
 use Rattle.gx_cli.specs.Words.{RefusesWord, refused_at}
 

@@ -21,7 +21,7 @@ use Rattle.gx_model.proofs.OneTree.{node_entry, spelling}
 use Rattle.gx_model.proofs.PathTests.{first, is_true, second}
 use Rattle.gx_model.proofs.PathTexts.{path_again}
 use Rattle.gx_model.proofs.TreePaths.{content_in, content_parts}
-use Rattle.gx_rev.proofs.HeldValues.{all_whole, tree_stands}
+use Rattle.gx_model.proofs.HeldValues.{all_whole, tree_stands}
 use Rattle.gx_cli.specs.Listings.{IsListed, entry_line, tree_lines}
 
 -- a component alone is a path

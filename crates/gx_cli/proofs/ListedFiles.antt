@@ -12,9 +12,9 @@ use Rattle.gx_model.specs.Histories.{Records}
 use Rattle.gx_model.specs.HistoryOf.{files_of_tree, value_of_name}
 use Rattle.gx_model.specs.RecordFaults.{is_held}
 use Rattle.gx_model.specs.Sound.{IsSound}
-use Rattle.gx_tree.specs.HeldTrees.{IsHeldTree}
-use Rattle.gx_rev.proofs.HeldValues.{held_is, kind_held, tree_stands}
-use Rattle.gx_import.proofs.NamedMaps.{tree_is_held}
+use Rattle.gx_model.specs.NameMaps.{IsHeldTree}
+use Rattle.gx_model.proofs.HeldValues.{held_is, kind_held, tree_stands}
+use Rattle.gx_model.proofs.HeldTrees.{tree_is_held}
 use Rattle.gx_cli.specs.FileLines.{named_line}
 use Rattle.gx_cli.specs.Stored.{file_line}
 

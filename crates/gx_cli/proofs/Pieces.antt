@@ -3,8 +3,7 @@ use Rattle.std.proofs.Common.{◌≡◌, ℕ, zero, suc, ◌+◌, ◌<◌, refl,
 use Rattle.std.specs.List.{flat_map}
 use Rattle.gx_model.specs.Texts.{Bytes}
 use Rattle.gx_model.specs.Objects.{line}
-use Rattle.gx_text.specs.Devices.{Taken}
-use Rattle.gx_import.specs.Applying.{FailedWithin, Took}
+use Rattle.gx_text.specs.Devices.{FailedWithin, Taken, Took}
 use Rattle.gx_cli.specs.Answers.{Prints, Puts}
 use Rattle.gx_cli.specs.Trying.{Shows}
 use Rattle.gx_cli.specs.declared.fault.CliFault.{CliFault}

@@ -2,8 +2,7 @@
 use Rattle.std.proofs.Common.{◌≡◌, ℕ, true, sym, ap, ◌∙◌, arith, [], ◌++◌, take, drop, append_assoc, append-nil, Option, None, Some, Err}
 use Rattle.std.proofs.lemmas.List.{take-append-drop, length-drop}
 use Rattle.gx_model.specs.Texts.{Bytes}
-use Rattle.gx_text.specs.Devices.{Sends, Taken}
-use Rattle.gx_import.specs.Applying.{FailedWithin, Took}
+use Rattle.gx_text.specs.Devices.{FailedWithin, Sends, Taken, Took}
 
 -- a text that wasn't sent whole failed within
 pub failed_within : (was now : Option Taken) (text : Bytes) (n : ℕ) → Sends was now text (Err n) → FailedWithin was now text

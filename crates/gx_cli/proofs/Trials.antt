@@ -7,9 +7,8 @@ use Rattle.gx_model.specs.Commands.{Commands}
 use Rattle.gx_model.specs.Histories.{Records}
 use Rattle.gx_model.specs.HistoryOf.{history_of}
 use Rattle.gx_model.specs.Replay.{Outcome}
-use Rattle.gx_text.specs.Devices.{Coming, Taken}
+use Rattle.gx_text.specs.Devices.{Coming, Taken, Took}
 use Rattle.gx_command.specs.Reading.{commands_from}
-use Rattle.gx_import.specs.Applying.{Took}
 use Rattle.gx_import.specs.Imports.{Imports}
 use Rattle.gx_import.specs.declared.fault.ImportFault.{ImportFault}
 use Rattle.gx_cli.specs.Listings.{text_of_word}

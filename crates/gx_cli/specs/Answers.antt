@@ -2,7 +2,7 @@
 use Rattle.std.specs.Prelude.{◌≡◌, ℕ, ◌++◌, [], Option, Result, Ok, Err, ⊤}
 use Rattle.gx_model.specs.Texts.{Bytes}
 use Rattle.gx_model.specs.Ranges.{WordFault}
-use Rattle.gx_text.specs.Devices.{Taken}
+use Rattle.gx_text.specs.Devices.{FailedWithin, Taken, Took}
 use Rattle.gx_file.specs.Faults as file
 use Rattle.gx_file.specs.declared.fault.FileFault.TheVariants as file_kind
 use Rattle.gx_rev.specs.RevFaults as rev
@@ -10,7 +10,6 @@ use Rattle.gx_rev.specs.declared.fault.RevFault.{RevFault}
 use Rattle.gx_rev.specs.declared.fault.RevFault.TheVariants as rev_kind
 use Rattle.gx_rev.specs.declared.shown.Shown.{Shown}
 use Rattle.gx_rev.specs.declared.shown.Shown.TheVariants.{Object, Submodule}
-use Rattle.gx_import.specs.Applying.{FailedWithin, Took}
 use Rattle.gx_cli.specs.Printing.{name_line}
 use Rattle.gx_cli.specs.Stored.{Printed, Refusal, of_store, of_word}
 use Rattle.gx_cli.specs.declared.fault.CliFault.{CliFault}

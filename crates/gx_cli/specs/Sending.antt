@@ -1,8 +1,7 @@
 -- Texts that go out.
 use Rattle.std.specs.Prelude.{◌≡◌, ◌++◌, Option, Result, Ok, Err}
 use Rattle.gx_model.specs.Texts.{Bytes}
-use Rattle.gx_text.specs.Devices.{Taken}
-use Rattle.gx_import.specs.Applying.{FailedWithin, Took}
+use Rattle.gx_text.specs.Devices.{FailedWithin, Taken, Took}
 use Rattle.gx_cli.specs.declared.fault.CliFault.{CliFault}
 use Rattle.gx_cli.specs.declared.fault.CliFault.TheVariants.{OutOfMemory, WriteFailed}
 

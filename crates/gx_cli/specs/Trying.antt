@@ -15,18 +15,17 @@ use Rattle.gx_model.specs.Revisions.{Revision}
 use Rattle.gx_model.specs.Denotation.{looked_up}
 use Rattle.gx_model.specs.Replay as model
 use Rattle.gx_model.specs.Replay.{Outcome, finished, imported}
-use Rattle.gx_text.specs.Devices.{Coming, Taken}
+use Rattle.gx_text.specs.Devices.{Coming, FailedWithin, Taken, Took}
 use Rattle.gx_stream.specs.Heard.{heard}
 use Rattle.gx_command.specs.Reading.{commands_from}
 use Rattle.gx_rev.specs.Answers.{seen_file}
 use Rattle.gx_rev.specs.RevFaults.{fault_of}
-use Rattle.gx_import.specs.Applying.{FailedWithin, Took}
 use Rattle.gx_import.specs.Exported.{nothing}
 use Rattle.gx_import.specs.Imports.{Replays}
 use Rattle.gx_import.specs.declared.fault.ImportFault.{ImportFault}
 use Rattle.gx_cli.specs.Listings.{text_of_word}
 use Rattle.gx_cli.specs.declared.fault.CliFault.{CliFault}
-use Rattle.gx_cli.specs.declared.fault.CliFault.TheVariants.{Blobs, Import, OutOfMemory, WriteFailed}
+use Rattle.gx_cli.specs.declared.fault.CliFault.TheVariants.{Import, OutOfMemory, WriteFailed}
 use Rattle.gx_cli.specs.declared.fault.CliFault.TheVariants as cli
 
 -- what an empty store stands for

@@ -23,11 +23,11 @@ use Rattle.gx_model.proofs.PathTests.{is_true, left_or, one_of, right_or}
 use Rattle.gx_model.proofs.ReachedCommits.{closed, itself}
 use Rattle.gx_model.proofs.HistoriesExist.{stands}
 use Rattle.gx_model.proofs.LinkedValues.{parts_in}
-use Rattle.gx_rev.specs.Marks.{IsAt, IsMarked, Marks, holds, marks_of}
-use Rattle.gx_rev.proofs.HeldValues.{all_whole, peeled_to}
-use Rattle.gx_rev.proofs.Marking.{least, marks_are}
-use Rattle.gx_rev.proofs.Standing.{in_at, parent_before, same_place}
-use Rattle.gx_import.proofs.KeptRefs.{target_peels, told}
+use Rattle.gx_model.specs.Marks.{IsAt, IsMarked, Marks, holds, marks_of}
+use Rattle.gx_model.proofs.HeldValues.{all_whole, peeled_to}
+use Rattle.gx_model.proofs.Marking.{least, marks_are}
+use Rattle.gx_model.proofs.Standing.{in_at, parent_before, same_place}
+use Rattle.gx_model.proofs.PeeledRefs.{target_peels, told}
 use Rattle.gx_export.specs.Reaching.{IsTip, is_wanted}
 
 -- ---- what refs reach

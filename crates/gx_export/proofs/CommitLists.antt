@@ -8,7 +8,7 @@ use Rattle.gx_model.specs.Export.{all_written, command_items, commit_commands, o
 use Rattle.gx_model.specs.Items.{Item}
 use Rattle.gx_model.specs.Ranges.{commit_of}
 use Rattle.gx_model.specs.Values.{Commit, Value, blob_value, commit_value, tag_value, tree_value}
-use Rattle.gx_rev.specs.Marks.{holds, marks_of}
+use Rattle.gx_model.specs.Marks.{holds, marks_of}
 use Rattle.gx_export.specs.Texts.{items_of}
 
 -- the commits among these values that pass

@@ -13,7 +13,7 @@ use Rattle.gx_model.specs.Histories.{IsIn, Records}
 use Rattle.gx_model.specs.HistoryOf.{commit_of_value, contents_of, history_of, named_values, value_of_name}
 use Rattle.gx_model.specs.Items.{Data, Item}
 use Rattle.gx_model.specs.Objects.{CommitParts, IsNamer}
-use Rattle.gx_model.specs.Records.{name_of, named_map, names_of}
+use Rattle.gx_model.specs.Records.{name_of, named_map, names_of, parts_of_commit}
 use Rattle.gx_model.specs.RepositoryLaws.{values_of}
 use Rattle.gx_model.specs.Sound.{Holds, IsNamedMap, IsSound}
 use Rattle.gx_model.specs.Values.{Commit, Commits, CommitText, Value, blobs_of, commit_value, files_of, list_of, more, none, parents_of, sub_maps, text_of, tree_value}
@@ -21,12 +21,10 @@ use Rattle.gx_model.proofs.LinkedValues.{parts_in, proper_in}
 use Rattle.gx_model.proofs.OneTree.{all_left}
 use Rattle.gx_model.proofs.PathTests.{is_true}
 use Rattle.gx_text.specs.Devices.{Taken}
-use Rattle.gx_rev.specs.Objects.{parts_of_commit}
-use Rattle.gx_rev.proofs.HeldValues.{all_whole, names_long, value_held}
-use Rattle.gx_rev.proofs.Standing.{at_in}
-use Rattle.gx_import.specs.Standing.{AreFiles}
-use Rattle.gx_import.proofs.FilesByName.{contents_told, files_named}
-use Rattle.gx_import.proofs.HeldParts.{value_holds}
+use Rattle.gx_model.proofs.HeldValues.{all_whole, names_long, value_held, value_holds}
+use Rattle.gx_model.proofs.Standing.{at_in}
+use Rattle.gx_model.specs.NameMaps.{AreFiles}
+use Rattle.gx_model.proofs.FilesByName.{contents_told, files_named}
 use Rattle.gx_export.specs.Marks.{Adds, HasWritten}
 use Rattle.gx_export.specs.Texts.{author_items, change_lines, commit_lines, items_of, items_text, last_items, parent_items, root_items}
 use Rattle.gx_export.specs.declared.written.Written.{Written}

@@ -7,8 +7,7 @@ use Rattle.gx_model.specs.Histories.{History, Records}
 use Rattle.gx_model.specs.HistoryOf.{history_of}
 use Rattle.gx_model.specs.Items.{Item, Line}
 use Rattle.gx_model.specs.Values.{Value}
-use Rattle.gx_text.specs.Devices.{Taken}
-use Rattle.gx_import.specs.Applying.{Took}
+use Rattle.gx_text.specs.Devices.{Taken, Took}
 use Rattle.gx_export.specs.Exports.{Exports}
 use Rattle.gx_export.specs.Marks.{Adds}
 use Rattle.gx_export.specs.Outputs.{Stops}

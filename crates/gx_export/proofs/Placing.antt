@@ -13,7 +13,7 @@ use Rattle.gx_model.specs.Growth.{record_named}
 use Rattle.gx_model.specs.RepositoryLaws.{values_of}
 use Rattle.gx_model.specs.Sound.{IsSound}
 use Rattle.gx_model.proofs.PathTests.{same_is}
-use Rattle.gx_rev.proofs.Standing.{name_there, same_place}
+use Rattle.gx_model.proofs.Standing.{name_there, same_place}
 use Rattle.gx_store.specs.Stores.{place_named}
 
 -- none of the first n passes

@@ -13,7 +13,7 @@ use Rattle.gx_model.specs.Commands.{Marked, Reset}
 use Rattle.gx_model.specs.Denotation.{commit_in}
 use Rattle.gx_model.specs.Export.{command_items, number_in, ref_command}
 use Rattle.gx_model.specs.Growth.{record_named}
-use Rattle.gx_model.specs.Histories.{IsIn, Record, Records}
+use Rattle.gx_model.specs.Histories.{IsIn, Record, Records, object_of}
 use Rattle.gx_model.specs.HistoryOf.{history_of, target_in, value_of_name}
 use Rattle.gx_model.specs.Items.{Item}
 use Rattle.gx_model.specs.Objects.{IsNamer, IsTagText, TagParts}
@@ -24,9 +24,8 @@ use Rattle.gx_model.specs.Values.{Tag, Value, blob_value, commit_value, is_optio
 use Rattle.gx_model.proofs.LinkedValues.{parts_in, proper_in}
 use Rattle.gx_model.proofs.PathTests.{first, is_true, second}
 use Rattle.gx_model.proofs.TreePaths.{name_is_name}
-use Rattle.gx_store.specs.Stores.{object_of}
-use Rattle.gx_rev.proofs.HeldValues.{all_whole, got, held_is, kind_held, value_held}
-use Rattle.gx_import.proofs.KeptRefs.{told}
+use Rattle.gx_model.proofs.HeldValues.{all_whole, got, held_is, kind_held, value_held}
+use Rattle.gx_model.proofs.PeeledRefs.{told}
 use Rattle.gx_export.specs.Texts.{items_of}
 
 -- the items of refs, by the names of their objects

@@ -5,15 +5,24 @@ use Rattle.std.proofs.lemmas.Grind.{flat_map-append}
 use Rattle.std.proofs.lemmas.List.{append-nil, length-append, length-drop, length-take, take-append-drop}
 use Rattle.std.proofs.Math.Seq.{take-suc, drop-cons}
 use Rattle.gx_model.specs.Texts.{Bytes}
-use Rattle.gx_text.specs.Devices.{Sends, Taken}
-use Rattle.gx_import.specs.Applying.{Took}
-use Rattle.gx_import.proofs.ProgressTexts.{took_more, took_none}
+use Rattle.gx_text.specs.Devices.{Sends, Taken, Took}
 use Rattle.gx_model.specs.Items.{Item}
 use Rattle.gx_model.specs.Export.{item_text}
 use Rattle.gx_export.specs.Texts.{items_text}
 use Rattle.gx_export.specs.Outputs.{Stops, StopsAt, Writes, most}
 use Rattle.gx_export.specs.declared.fault.ExportFault.{ExportFault}
 use Rattle.gx_export.specs.declared.fault.ExportFault.TheVariants.{OutOfMemory, WriteFailed}
+
+-- ---- what a sink took
+
+took_more : (was mid now : Option Taken) (a b : Bytes) → Took was mid a → Took mid now b → Took was now (a ++ b)
+took_more None mid now a b h k = tt
+took_more (Some was) mid now a b h k =
+    subst (λ m. Took m now b) h k ∙ ap (λ x. Some (record { bytes = x; failed = was.failed })) (append_assoc was.bytes a b)
+
+took_none : (was : Option Taken) → Took was was []
+took_none None = tt
+took_none (Some was) = ap (λ x. Some (record { bytes = x; failed = was.failed })) (sym (append-nil was.bytes))
 
 -- ---- stops
 

@@ -4,8 +4,7 @@ use Rattle.std.specs.Prelude.{Option, Result, Ok, Err}
 use Rattle.gx_model.specs.Export.{export_text}
 use Rattle.gx_model.specs.Histories.{Records}
 use Rattle.gx_model.specs.HistoryOf.{history_of}
-use Rattle.gx_text.specs.Devices.{Taken}
-use Rattle.gx_import.specs.Applying.{Took}
+use Rattle.gx_text.specs.Devices.{Taken, Took}
 use Rattle.gx_export.specs.Outputs.{Stops}
 use Rattle.gx_export.specs.declared.fault.ExportFault.{ExportFault}
 

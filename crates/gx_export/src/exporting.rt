@@ -4,7 +4,7 @@ ghost use Rattle.std.specs.Prelude.{◌≡◌, ◌≤◌, [], IfOk};
 ghost use Rattle.gx_model.specs.Export.{all_written, commit_commands, reached_commits};
 ghost use Rattle.gx_model.specs.HistoryOf.{history_of};
 ghost use Rattle.gx_model.specs.RepositoryLaws.{values_of};
-ghost use Rattle.gx_rev.specs.Marks.{marks_of};
+ghost use Rattle.gx_model.specs.Marks.{marks_of};
 ghost use Rattle.gx_import.specs.Exported.{HasPathsOfBytes};
 ghost use Rattle.gx_export.specs.Exports.{Exports};
 ghost use Rattle.gx_export.specs.Marks.{Adds, HasWritten};

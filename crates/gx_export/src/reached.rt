@@ -7,7 +7,7 @@ ghost use Rattle.gx_model.specs.HistoryLaws.{IsParent};
 ghost use Rattle.gx_model.specs.HistoryOf.{history_of};
 ghost use Rattle.gx_model.specs.RepositoryLaws.{values_of};
 ghost use Rattle.gx_model.specs.Values.{parents_of};
-ghost use Rattle.gx_rev.specs.Marks.{Marks, marks_of};
+ghost use Rattle.gx_model.specs.Marks.{Marks, marks_of};
 ghost use Rattle.gx_rev.specs.Objects.{IsHeldAs, commit_at};
 ghost use Rattle.gx_export.specs.Reaching.{IsTip, is_wanted};
 

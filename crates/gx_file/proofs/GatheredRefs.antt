@@ -4,7 +4,7 @@ use Rattle.std.specs.Borrow.{Bor}
 use Rattle.gx_model.specs.declared.store_faults.FileFault.TheVariants as model
 use Rattle.gx_model.specs.Texts.{Bytes}
 use Rattle.gx_model.specs.StoreReading.{Stored, is_after}
-use Rattle.gx_repo.specs.Publishing.{Ref}
+use Rattle.gx_model.specs.Publishing.{Ref}
 use Rattle.gx_file.specs.declared.fault.FileFault.{FileFault}
 use Rattle.gx_file.specs.declared.fault.FileFault.TheVariants.{OutOfMemory, RefOrder}
 use Rattle.gx_file.specs.Faults.{IsFaultOf, fault_of}

@@ -27,9 +27,9 @@ use Rattle.gx_model.specs.Replay.{byte_cmp}
 use Rattle.gx_model.specs.StoreReading.{Stored, if_ref, is_after, is_less, is_target, next_ref, next_refs, ref_line, stored_if, stored_line, unless}
 use Rattle.gx_repo.specs.declared.fault.PublishFault.{PublishFault}
 use Rattle.gx_repo.specs.declared.fault.PublishFault.TheVariants as publish
-use Rattle.gx_repo.specs.Publishing.{Ref, change_fault, changes_fault, first_fault, published, with_changes}
-use Rattle.gx_repo.specs.Publishing.{fault_of as published_fault, unless as unless_fault}
-use Rattle.gx_repo.proofs.SortedRefs.{order}
+use Rattle.gx_model.specs.Publishing.{Ref, change_fault, changes_fault, first_fault, published, unless as unless_fault, with_changes}
+use Rattle.gx_repo.specs.Publishing.{fault_of as published_fault}
+use Rattle.gx_model.proofs.SortedRefs.{order}
 use Rattle.gx_file.specs.declared.fault.FileFault.{FileFault}
 use Rattle.gx_file.specs.declared.fault.FileFault.TheVariants.{OutOfMemory}
 use Rattle.gx_file.specs.Faults.{IsFaultOf, Reads, fault_of, of_publish}

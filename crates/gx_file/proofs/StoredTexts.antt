@@ -10,7 +10,7 @@ use Rattle.std.specs.Fmt.{decimal}
 use Rattle.gx_model.specs.Objects.{line}
 use Rattle.gx_model.specs.Histories.{Record}
 use Rattle.gx_model.specs.StoreText.{stored_record, stored_ref}
-use Rattle.gx_repo.specs.Publishing.{Ref}
+use Rattle.gx_model.specs.Publishing.{Ref}
 
 -- With one more record the text is that of one more.
 pub record_put : (rs : List Record) (i : ℕ) (r : Record) (start now : Bytes) → Some r ≡ slice_get rs i → now ≡ start ++ flat_map stored_record (take i rs)

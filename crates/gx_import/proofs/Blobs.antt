@@ -6,13 +6,12 @@ use Rattle.gx_model.specs.declared.objects.Kind.TheVariants as kinds
 use Rattle.gx_model.specs.declared.faults.Fault.{Fault}
 use Rattle.gx_model.specs.Texts.{Bytes}
 use Rattle.gx_model.specs.Values.{Value, blob_value}
-use Rattle.gx_model.specs.Histories.{Record, Records, record_of}
+use Rattle.gx_model.specs.Histories.{Record, Records, record_for, record_of}
 use Rattle.gx_model.specs.Growth.{AreReady, and_some, put, put_all, with_values}
 use Rattle.gx_model.specs.RepositoryLaws.{PutsGrow, values_of}
 use Rattle.gx_model.specs.Sound.{IsSound}
 use Rattle.gx_store.specs.declared.fault.StoreFault.{StoreFault}
 use Rattle.gx_store.specs.declared.fault.StoreFault.TheVariants.{OutOfMemory, NameHeld}
-use Rattle.gx_store.specs.Stores.{record_for}
 use Rattle.gx_repo.specs.Additions.{Adds}
 use Rattle.gx_import.specs.Answers.{AddsAs}
 use Rattle.gx_import.specs.ImportKinds.{of_store}

@@ -14,7 +14,8 @@ use Rattle.gx_import.specs.declared.fault.ImportKind.{ImportKind}
 use Rattle.gx_import.specs.declared.tables.Tables.{Tables}
 use Rattle.gx_import.specs.Additions.{Clash, blob_added, blobs_added, unless_refused}
 use Rattle.gx_import.specs.Answers.{AddsAs}
-use Rattle.gx_import.specs.Standing.{AreFiles, Follows, Stands}
+use Rattle.gx_import.specs.Standing.{Follows, Stands}
+use Rattle.gx_model.specs.NameMaps.{AreFiles}
 use Rattle.gx_import.proofs.AddedAnswers.{adds_then}
 use Rattle.gx_import.proofs.Clashes.{change_later, clash_first}
 

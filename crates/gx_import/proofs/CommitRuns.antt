@@ -28,8 +28,10 @@ use Rattle.gx_import.specs.Answers.{AddsAs}
 use Rattle.gx_import.specs.Marks.{marked_object, object_at}
 use Rattle.gx_import.specs.Objects.{IsCommitOf}
 use Rattle.gx_import.specs.Rows.{AreAll, AreBoth, rows_of}
-use Rattle.gx_import.specs.Standing.{AreFiles, Follows, Stands}
-use Rattle.gx_import.proofs.FilesByName.{files_named, first_files}
+use Rattle.gx_import.specs.Standing.{Follows, Stands}
+use Rattle.gx_model.specs.NameMaps.{AreFiles}
+use Rattle.gx_import.proofs.FilesByName.{first_files}
+use Rattle.gx_model.proofs.FilesByName.{files_named}
 use Rattle.gx_import.proofs.HeldParts.{commits_hold}
 use Rattle.gx_import.proofs.MadeCommits.{changes_refused, made_refused, parents_after, step_made}
 use Rattle.gx_import.proofs.MarkedStates.{commit_set}

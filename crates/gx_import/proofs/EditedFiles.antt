@@ -17,13 +17,13 @@ use Rattle.gx_model.specs.Revisions.{revision_of}
 use Rattle.gx_model.specs.Replay.{State, changed, content}
 use Rattle.gx_object.specs.declared.name.Name.{Name}
 use Rattle.gx_tree.specs.Faults as tree_faults
-use Rattle.gx_tree.specs.NameMaps.{IsNameMap}
+use Rattle.gx_model.specs.NameMaps.{AreFiles, IsNameMap}
 use Rattle.gx_tree.specs.declared.fault.TreeFault.{TreeFault}
 use Rattle.gx_tree.specs.declared.fault.TreeFault.TheVariants as tree
 use Rattle.gx_import.specs.declared.tables.Tables.{Tables}
 use Rattle.gx_import.specs.Answers.{AddsAs}
 use Rattle.gx_import.specs.ImportKinds.{of_tree}
-use Rattle.gx_import.specs.Standing.{AreFiles, Follows, IsContentName, Stands}
+use Rattle.gx_import.specs.Standing.{Follows, IsContentName, Stands}
 use Rattle.gx_import.proofs.Clashes.{content_keeps, content_state, with_content}
 use Rattle.gx_import.proofs.KeptFiles.{AllLeaves, IsKnownLeaf, files_leaves, files_named, leaves_later, modified_leaves, removed_leaves}
 use Rattle.gx_import.proofs.NamedEdits.{copied_leafed, modified_leafed, removed_leafed, renamed_leafed}

@@ -17,7 +17,7 @@ use Rattle.gx_model.specs.Faults.{Given, IsFaultOf, and_then}
 use Rattle.gx_model.specs.Values.{Value, blob_value, commit_value, is_hex_digit, is_name_text, tag_value, tree_value}
 use Rattle.gx_model.specs.Objects.{IsNamer, unhex}
 use Rattle.gx_model.specs.Records.{kind_of, name_of}
-use Rattle.gx_model.specs.Histories.{History, IsIn, Record, Records}
+use Rattle.gx_model.specs.Histories.{History, IsIn, Record, Records, object_of}
 use Rattle.gx_model.specs.HistoryOf.{history_of, value_of_name}
 use Rattle.gx_model.specs.Growth.{record_named}
 use Rattle.gx_model.specs.Sound.{IsSound}
@@ -26,9 +26,8 @@ use Rattle.gx_model.specs.Revisions.{revision_of}
 use Rattle.gx_model.specs.Commands.{Object}
 use Rattle.gx_model.specs.Replay.{State, blob_bytes, content}
 use Rattle.gx_object.specs.declared.name.Name.{Name}
-use Rattle.gx_store.specs.Stores.{object_of}
-use Rattle.gx_rev.proofs.Bases.{full_found, full_none, none_got, some_got, whole_digits}
-use Rattle.gx_rev.proofs.HeldValues.{got, held_is}
+use Rattle.gx_model.proofs.Bases.{full_found, full_none, none_got, some_got, whole_digits}
+use Rattle.gx_model.proofs.HeldValues.{got, held_is}
 use Rattle.gx_import.specs.declared.fault.ImportKind.{ImportKind}
 use Rattle.gx_import.specs.Answers.{GivesAs}
 use Rattle.gx_import.specs.ImportKinds.{fault_of}

@@ -19,19 +19,18 @@ use Rattle.gx_model.specs.Files.{FileMap}
 use Rattle.gx_model.specs.RefNames.{is_tag_name}
 use Rattle.gx_model.specs.Values.{Commit, CommitText, Tag, Value, commit, commit_value, commits_of, is_content, is_optional_encoding, is_optional_ident, is_proper_text, list_of, tag_value, tree_value}
 use Rattle.gx_model.specs.Objects.{CommitParts, IsNamer, TagParts, commit_text, tag_text}
-use Rattle.gx_model.specs.Records.{kind_of, name_of, names_of}
-use Rattle.gx_model.specs.Histories.{IsIn, Record, Records, record_of}
+use Rattle.gx_model.specs.Records.{names_of}
+use Rattle.gx_model.specs.Histories.{IsIn, Record, Records, record_for, record_of}
 use Rattle.gx_model.specs.HistoryOf.{commit_of_value, files_of_tree, history_of, value_of_name}
 use Rattle.gx_model.specs.Growth.{AreReady, put, with_values}
 use Rattle.gx_model.specs.RepositoryLaws.{PutsGrow, values_of}
-use Rattle.gx_model.specs.Sound.{Holds, IsSound}
+use Rattle.gx_model.specs.Sound.{Holds, IsSound, Keeps}
 use Rattle.gx_model.proofs.PathTests.{both, is_true}
 use Rattle.gx_model.proofs.HistoriesExist.{stands}
-use Rattle.gx_model.proofs.LinkedValues.{holds, proper_in}
+use Rattle.gx_model.proofs.LinkedValues.{proper_in}
 use Rattle.gx_object.specs.declared.name.Name.{Name}
-use Rattle.gx_store.specs.Stores.{record_for}
-use Rattle.gx_repo.specs.Additions.{Keeps, commit_among, commit_record, tag_among, tag_record}
-use Rattle.gx_rev.proofs.HeldValues.{all_whole, value_held}
+use Rattle.gx_repo.specs.Additions.{commit_among, commit_record, tag_among, tag_record}
+use Rattle.gx_model.proofs.HeldValues.{all_whole, value_held, value_holds}
 use Rattle.gx_import.specs.Objects.{IsCommitOf, IsTreeOf}
 use Rattle.gx_import.specs.Rows.{AreAll}
 use Rattle.gx_import.proofs.Blobs.{name_held}
@@ -50,14 +49,8 @@ holds_kept rs now k [] h = tt
 holds_kept rs now k (n ∷ ns) h = (k kinds.Commit n.bytes h.0, holds_kept rs now k ns h.1)
 
 module _ (name : Kind → Bytes → Bytes) (namer : IsNamer name) (r : Records) (sound : IsSound name r) where
-  -- a value of the history is held by its name
-  pub value_holds : (v : Value) → IsIn (history_of r).values v → Holds r.records (kind_of name v) (name_of name v)
-  value_holds v i =
-      subst (λ rs. Holds rs (kind_of name v) (name_of name v)) (sym (stands name namer r sound).records)
-      (holds name (λ held. (held.kind ≡ kind_of name v) × (held.name ≡ name_of name v)) (history_of r).values v i (refl, refl))
-
   pub commit_holds : (c : Commit) (n : Name) → IsCommitOf name (history_of r).values c n → Holds r.records kinds.Commit n.bytes
-  commit_holds c n h = subst (Holds r.records kinds.Commit) (sym h.named) (value_holds (commit_value c) h.stands)
+  commit_holds c n h = subst (Holds r.records kinds.Commit) (sym h.named) (value_holds name namer r sound (commit_value c) h.stands)
 
   pub commits_hold : (cs : List Commit) (ns : List Name) → AreAll (IsCommitOf name (history_of r).values) cs ns → AllByRecursion (λ n. Holds r.records kinds.Commit n.bytes) ns
   commits_hold [] [] h = tt

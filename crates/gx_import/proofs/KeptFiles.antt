@@ -16,8 +16,7 @@ use Rattle.gx_model.specs.Values.{Value, blob_of, blobs_of, is_leaf}
 use Rattle.gx_model.specs.Records.{content_name, named_map}
 use Rattle.gx_model.specs.Histories.{IsIn}
 use Rattle.gx_model.proofs.PathTests.{both, first, second, is_true}
-use Rattle.gx_tree.specs.NameMaps.{IsNameMap}
-use Rattle.gx_import.specs.Standing.{AreFiles}
+use Rattle.gx_model.specs.NameMaps.{AreFiles, IsNameMap}
 use Rattle.gx_import.proofs.NamedEdits.{leafed}
 
 -- ---- each leaf of an edited map is one of the old map's, or the new one

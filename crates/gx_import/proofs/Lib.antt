@@ -7,7 +7,6 @@ pub mod FaultSteps
 pub mod Resets
 pub mod Blobs
 pub mod Parents
-pub mod NamedMaps
 pub mod NamedEdits
 pub mod HeldBlobs
 pub mod KeptRefs
@@ -40,3 +39,4 @@ pub mod MadeCommits
 pub mod CommitRuns
 pub mod NoClashes
 pub mod ExportedAgain
+pub mod LoadFaults

@@ -3,7 +3,7 @@ use Rattle.std.proofs.Common.{◌≡◌, ℕ, ◌+◌, ◌<◌, List, [], ◌++�
 use Rattle.std.proofs.lemmas.List.{drop_more}
 use Rattle.gx_model.specs.Texts.{Bytes}
 use Rattle.gx_object.specs.declared.name.Name.{Name}
-use Rattle.gx_repo.specs.Publishing.{Change}
+use Rattle.gx_model.specs.Publishing.{Change}
 use Rattle.gx_import.specs.declared.branches.Tip.{Tip}
 use Rattle.gx_import.specs.declared.table.Row.{Row}
 use Rattle.gx_import.specs.RefChanges.{branch_changes, branch_then}

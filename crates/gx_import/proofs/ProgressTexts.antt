@@ -18,9 +18,8 @@ use Rattle.gx_model.specs.Commands as command
 use Rattle.gx_model.specs.Commands.{Asks, Blob, Change, Checkpoint, Clear, Command, CommitIsh, CommitParts, Copy, DataRef, Done, Inline, Mark, Modify, Object, OptionLine, Progress, Remove, Rename, Reset, TagParts}
 use Rattle.gx_model.specs.Revisions.{revision_of}
 use Rattle.gx_model.specs.Replay.{State, added, all_changed, all_committed, at, blob_bytes, changed, commit_alone, committed, committed_for, content, ended, final, finished, first_parent, is_fast_forward, marked, refused, replayed, report, starting_files, step, step_commit, step_reset, step_tag, text_made, with_first_parent}
-use Rattle.gx_text.specs.Devices.{Sends, Taken}
+use Rattle.gx_text.specs.Devices.{FailedWithin, Sends, Taken, Took}
 use Rattle.gx_import.specs.Additions.{tag_made}
-use Rattle.gx_import.specs.Applying.{FailedWithin, Took}
 use Rattle.gx_import.specs.Imports.{last_number, progress_of}
 use Rattle.gx_import.specs.Replaying.{Writes}
 use Rattle.gx_import.specs.declared.fault.ImportKind.{ImportKind}

@@ -12,7 +12,7 @@ use Rattle.gx_model.specs.HistoryOf.{history_of}
 use Rattle.gx_model.specs.Commands.{Command, Commands}
 use Rattle.gx_model.specs.Revisions.{revision_of}
 use Rattle.gx_model.specs.Replay.{Outcome, State, byte_cmp, imported, refused, replayed, replayed_commands, start, step}
-use Rattle.gx_text.specs.Devices.{Coming, Taken}
+use Rattle.gx_text.specs.Devices.{Coming, FailedWithin, Taken, Took, TookFront}
 use Rattle.gx_stream.specs.Heard.{heard}
 use Rattle.gx_command.specs.CommandFaults as command
 use Rattle.gx_command.specs.Reading.{Reads, commands_from}
@@ -21,9 +21,9 @@ use Rattle.gx_command.specs.declared.commands.Command as read
 use Rattle.gx_command.specs.declared.fault.CommandFault.{CommandFault}
 use Rattle.gx_command.specs.declared.fault.CommandFault.TheVariants as command_fault
 use Rattle.gx_import.specs.Additions.{ClashesAt}
-use Rattle.gx_import.specs.Applying.{Applies, FailedWithin, Took}
+use Rattle.gx_import.specs.Applying.{Applies}
 use Rattle.gx_import.specs.ImportKinds.{fault_of, of_command}
-use Rattle.gx_import.specs.Imports.{Imports, Replays, TookFront, last_number, progress_of}
+use Rattle.gx_import.specs.Imports.{Imports, Replays, last_number, progress_of}
 use Rattle.gx_import.specs.Replaying.{EndsAs}
 use Rattle.gx_import.specs.Objects.{IsOf, IsTagOf}
 use Rattle.gx_import.specs.Rows.{AreBoth, AreRows}

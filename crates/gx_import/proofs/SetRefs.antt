@@ -29,10 +29,11 @@ use Rattle.gx_model.proofs.HistoriesExist.{stands, tag_text_is}
 use Rattle.gx_model.proofs.LinkedValues.{proper_in}
 use Rattle.gx_model.proofs.PathTests.{both, first, is_same, is_true, second}
 use Rattle.gx_object.specs.declared.name.Name.{Name}
-use Rattle.gx_repo.specs.Publishing.{Change, change_fault, changes_fault, fault_of, first_fault, published, unless, with_changes}
+use Rattle.gx_repo.specs.Publishing.{fault_of}
+use Rattle.gx_model.specs.Publishing.{Change, change_fault, changes_fault, first_fault, published, unless, with_changes}
 use Rattle.gx_repo.specs.declared.fault.PublishFault.{PublishFault}
 use Rattle.gx_repo.specs.declared.fault.PublishFault.TheVariants as faults
-use Rattle.gx_repo.proofs.PublishedRefs.{fault_shown}
+use Rattle.gx_model.proofs.ChangedRefs.{fault_shown}
 use Rattle.gx_import.specs.declared.branches.Tip.{Tip}
 use Rattle.gx_import.specs.declared.tables.Tables.{Tables}
 use Rattle.gx_import.specs.Objects.{IsCommitOf, IsTagOf}

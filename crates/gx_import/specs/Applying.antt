@@ -1,29 +1,19 @@
 -- What one command does to the repository, the tables and the sink.
 -- Source: git-fast-import(1), "Commands" and "progress".
-use Rattle.std.specs.Prelude.{◌≡◌, ◌⊎◌, ◌<◌, ◌++◌, length, true, Option, Some, None, Result, Ok, Err, ⊤}
+use Rattle.std.specs.Prelude.{◌≡◌, ◌⊎◌, ◌++◌, Option, Result, Ok, Err}
 use Rattle.gx_model.specs.declared.objects.Kind.{Kind}
 use Rattle.gx_model.specs.Texts.{Bytes}
 use Rattle.gx_model.specs.Histories.{Records}
 use Rattle.gx_model.specs.Commands.{Command}
 use Rattle.gx_model.specs.Revisions.{revision_of}
 use Rattle.gx_model.specs.Replay.{State, step}
-use Rattle.gx_text.specs.Devices.{Taken}
+use Rattle.gx_text.specs.Devices.{FailedWithin, Taken, Took}
 use Rattle.gx_import.specs.Additions.{Clash, values_added}
 use Rattle.gx_import.specs.ImportKinds.{fault_of}
 use Rattle.gx_import.specs.Standing.{Stands}
 use Rattle.gx_import.specs.declared.fault.ImportKind.{ImportKind}
 use Rattle.gx_import.specs.declared.fault.ImportKind.TheVariants.{NameHeld, OutOfMemory, WriteFailed}
 use Rattle.gx_import.specs.declared.tables.Tables.{Tables}
-
--- a sink took this text; of one that tells nothing, nothing is claimed
-abbrev pub Took : Option Taken → Option Taken → Bytes → Type 0
-Took None now text = ⊤
-Took (Some was) now text = now ≡ Some (record { bytes = was.bytes ++ text; failed = was.failed })
-
--- a sink failed within this text, of which it took the front
-abbrev pub FailedWithin : Option Taken → Option Taken → Bytes → Type 0
-FailedWithin None now text = ⊤
-FailedWithin (Some was) now text = (front : Bytes) × (rest : Bytes) × (text ≡ front ++ rest) × (0 < length rest) × (now ≡ Some (record { bytes = was.bytes ++ front; failed = true }))
 
 -- the progress text that comes between two states
 pub record IsProgress (before after : State) (text : Bytes) : Type 0 where

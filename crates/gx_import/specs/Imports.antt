@@ -1,18 +1,17 @@
 -- What an import answers, and what it makes of the repository and the sink.
 -- Source: git-fast-import(1).
-use Rattle.std.specs.Prelude.{◌≡◌, ◌⊎◌, ℕ, ◌+◌, ◌≤◌, ◌++◌, Option, Some, None, Result, Ok, Err, ⊤}
+use Rattle.std.specs.Prelude.{◌≡◌, ◌⊎◌, ℕ, ◌+◌, ◌≤◌, Option, Some, None, Result, Ok, Err, ⊤}
 use Rattle.gx_model.specs.declared.objects.Kind.{Kind}
 use Rattle.gx_model.specs.Texts.{Bytes}
 use Rattle.gx_model.specs.Histories.{Records}
 use Rattle.gx_model.specs.HistoryOf.{history_of}
 use Rattle.gx_model.specs.Commands.{Commands}
 use Rattle.gx_model.specs.Replay as model
-use Rattle.gx_model.specs.Replay.{Outcome, finished, refused, imported, replayed_commands, start}
-use Rattle.gx_text.specs.Devices.{Coming, Taken}
+use Rattle.gx_model.specs.Replay.{Outcome, finished, refused, imported, start}
+use Rattle.gx_text.specs.Devices.{Coming, FailedWithin, Taken, Took, TookFront}
 use Rattle.gx_stream.specs.Heard.{heard}
 use Rattle.gx_command.specs.Reading.{commands_from}
 use Rattle.gx_import.specs.Additions.{ClashesAt}
-use Rattle.gx_import.specs.Applying.{FailedWithin, Took}
 use Rattle.gx_import.specs.ImportKinds.{fault_of}
 use Rattle.gx_import.specs.declared.fault.ImportFault.{ImportFault}
 use Rattle.gx_import.specs.declared.fault.ImportKind.TheVariants.{NameHeld, OutOfMemory, WriteFailed}
@@ -31,10 +30,6 @@ last_number (refused number fault text) = number
 -- a report as the model has it
 abbrev pub report_of : Report → model.Report
 report_of report = record { commands = report.commands; objects = report.objects; refs = report.refs }
-
--- a sink took a front of this text
-abbrev pub TookFront : Option Taken → Option Taken → Bytes → Type 0
-TookFront was now text = (front : Bytes) × (rest : Bytes) × (text ≡ front ++ rest) × Took was now front
 
 module _ (name : Kind → Bytes → Bytes) where
   -- In the place of what the replay gives, at that command or before it, memory ran out, the sink failed, or a value had the

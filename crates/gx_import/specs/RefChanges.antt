@@ -8,7 +8,7 @@ use Rattle.gx_model.specs.Values.{Commit}
 use Rattle.gx_model.specs.Histories.{Target}
 use Rattle.gx_model.specs.Replay.{is_forward}
 use Rattle.gx_object.specs.declared.name.Name.{Name}
-use Rattle.gx_repo.specs.Publishing.{Change}
+use Rattle.gx_model.specs.Publishing.{Change}
 use Rattle.gx_import.specs.Rows.{rows_of}
 use Rattle.gx_import.specs.declared.branches.Tip.{Tip}
 use Rattle.gx_import.specs.declared.tables.Tables.{Tables}

@@ -8,11 +8,10 @@ use Rattle.gx_model.specs.HistoryOf.{history_of}
 use Rattle.gx_model.specs.Commands.{Commands}
 use Rattle.gx_model.specs.Revisions.{revision_of}
 use Rattle.gx_model.specs.Replay.{State, ended, replayed_commands}
-use Rattle.gx_text.specs.Devices.{Coming, Taken}
+use Rattle.gx_text.specs.Devices.{Coming, FailedWithin, Taken, Took}
 use Rattle.gx_command.specs.Reading.{Falls, Reads, commands_from}
 use Rattle.gx_command.specs.declared.commands.Command.{Command}
 use Rattle.gx_command.specs.declared.fault.CommandFault.{CommandFault}
-use Rattle.gx_import.specs.Applying.{FailedWithin, Took}
 use Rattle.gx_import.specs.ImportKinds.{of_command}
 use Rattle.gx_import.specs.Imports.{Imports}
 use Rattle.gx_import.specs.Standing.{Stands}

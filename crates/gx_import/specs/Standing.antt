@@ -8,7 +8,7 @@ use Rattle.gx_model.specs.declared.objects.Mode.{Mode}
 use Rattle.gx_model.specs.Texts.{Bytes, same_bytes}
 use Rattle.gx_model.specs.RefNames.{is_ref_name, tag_ref}
 use Rattle.gx_model.specs.Files.{FileMap}
-use Rattle.gx_model.specs.Values.{Commit, Value, blob_of, blobs_of, files_of, is_content, is_leaf}
+use Rattle.gx_model.specs.Values.{Commit, Value, blob_of, files_of, is_leaf}
 use Rattle.gx_model.specs.Records.{content_name, named_map}
 use Rattle.gx_model.specs.Histories.{IsIn, Record, Records}
 use Rattle.gx_model.specs.HistoryOf.{history_of}
@@ -29,12 +29,6 @@ module _ (name : Kind → Bytes → Bytes) where
   -- the objects of marks are their values
   abbrev pub AreMarks : {A : Type 0} → List Value → List (ℕ × Value) → Marks A → Type 0
   AreMarks values marked marks = (number : ℕ) → AreBoth (IsOf name values) (lookup (nat_eq number) marked) (object_at marks number)
-
-  -- a map of names is that of these files, whose bytes stand among these values
-  pub record AreFiles (values : List Value) (files : FileMap Bytes) (names : FileMap Bytes) : Type 0 where
-    pub named : names ≡ named_map name files
-    pub content : IsTrue (is_content files)
-    pub known : AllByRecursion (IsIn values) (blobs_of files)
 
   -- in this state a name is that of a file's content of this mode, whose bytes stand in the history
   pub record IsContentName (before : State) (given : State × Bytes) (mode : Mode) (called : Name) : Type 0 where

@@ -14,7 +14,8 @@ ghost use Rattle.gx_model.specs.Commands as model;
 ghost use Rattle.gx_import.specs.Answers.{AddsAs, GivesAs};
 ghost use Rattle.gx_model.specs.RepositoryLaws.{values_of};
 ghost use Rattle.gx_import.specs.Objects.{IsBlobOf};
-ghost use Rattle.gx_import.specs.Standing.{AreFiles, Extends, Follows, IsContentName, Stands};
+ghost use Rattle.gx_import.specs.Standing.{Extends, Follows, IsContentName, Stands};
+ghost use Rattle.gx_model.specs.NameMaps.{AreFiles};
 ghost use Rattle.gx_import.specs.Steps.{bytes_held};
 
 use crate::ImportKind;

@@ -21,7 +21,8 @@ ghost use Rattle.gx_import.specs.Additions.{Clash, added_alone, added_by_commit,
 ghost use Rattle.gx_import.specs.Answers.{AddsAs, GivesAs};
 ghost use Rattle.gx_import.specs.Objects.{IsCommitOf, IsTreeOf};
 ghost use Rattle.gx_import.specs.Rows.{AreAll, AreBoth, rows_of};
-ghost use Rattle.gx_import.specs.Standing.{AreFiles, Extends, Follows, Stands};
+ghost use Rattle.gx_import.specs.Standing.{Extends, Follows, Stands};
+ghost use Rattle.gx_model.specs.NameMaps.{AreFiles};
 
 use crate::ImportKind;
 use crate::branches::Tip;

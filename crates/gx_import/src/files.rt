@@ -3,11 +3,11 @@
 ghost use Rattle.std.specs.Prelude.{◌≡◌, Option, IsTrue, IfOk, IfErr};
 ghost use Rattle.std.specs.FinMap.Entries.{is_sorted};
 ghost use Rattle.gx_model.specs.declared.objects.Kind.TheVariants as kinds;
-ghost use Rattle.gx_model.specs.Records.{named_map};
+ghost use Rattle.gx_model.specs.Records.{named_map, parts_of_commit};
 ghost use Rattle.gx_model.specs.Replay.{State, byte_cmp, starting_files};
 ghost use Rattle.gx_model.specs.Revisions.{revision_of};
 ghost use Rattle.gx_model.specs.Values.{Commit, files_of};
-ghost use Rattle.gx_rev.specs.Objects.{IsHeldAs, commit_at, parts_of_commit};
+ghost use Rattle.gx_rev.specs.Objects.{IsHeldAs, commit_at};
 ghost use Rattle.gx_import.specs.declared.fault.ImportKind.TheVariants.{OutOfMemory};
 ghost use Rattle.gx_import.specs.Objects.{IsCommitOf};
 ghost use Rattle.gx_import.specs.Rows.{AreBoth, rows_of};

@@ -7,7 +7,7 @@ ghost use Rattle.gx_model.specs.HistoryOf.{target_in, value_of_name};
 ghost use Rattle.gx_model.specs.Replay.{State, byte_cmp, is_fast_forward};
 ghost use Rattle.gx_model.specs.Sound.{IsTarget};
 ghost use Rattle.gx_model.specs.Texts.{same_bytes};
-ghost use Rattle.gx_repo.specs.Publishing.{changes_fault, with_changes};
+ghost use Rattle.gx_model.specs.Publishing.{changes_fault, with_changes};
 ghost use Rattle.gx_repo.specs.Refs.{asked};
 ghost use Rattle.gx_import.specs.Publishing.{Publishes};
 ghost use Rattle.gx_import.specs.RefChanges.{branch_changes, branch_then, changes_of, has_commit, hidden_by, is_kept_by, tag_changes};

@@ -58,3 +58,16 @@ pub mod ReachedValues
 pub mod ExportSteps
 pub mod SpelledExports
 pub mod ReadableExports
+pub mod Puts
+pub mod SortedRefs
+pub mod HeldObjects
+pub mod NamedMaps
+pub mod HeldValues
+pub mod Standing
+pub mod Marking
+pub mod NameDigits
+pub mod HeldTrees
+pub mod Bases
+pub mod PeeledRefs
+pub mod FilesByName
+pub mod ChangedRefs

@@ -8,12 +8,12 @@ use Rattle.gx_model.specs.declared.store_faults.FileFault.TheVariants as fault
 use Rattle.gx_model.specs.Texts.{Bytes}
 use Rattle.gx_model.specs.Faults.{and_then}
 use Rattle.gx_model.specs.Objects.{IsNamer, line}
-use Rattle.gx_model.specs.Histories.{Record}
+use Rattle.gx_model.specs.Histories.{Record, record_for}
 use Rattle.gx_model.specs.Naming.{kind_word}
 use Rattle.gx_model.specs.Sound.{IsSound}
 use Rattle.gx_model.specs.RecordFaults.{record_fault}
 use Rattle.gx_model.specs.StoreText.{stored_record}
-use Rattle.gx_model.specs.StoreReading.{Stored, admitted, next_record, next_records, record_line, record_made, stored_body, stored_if, stored_line}
+use Rattle.gx_model.specs.StoreReading.{Stored, admitted, next_record, next_records, record_line, stored_body, stored_if, stored_line}
 use Rattle.gx_model.proofs.OneTree.{all_right}
 use Rattle.gx_model.proofs.FirstRecords.{kept}
 use Rattle.gx_model.proofs.TakenRecords.{fine, sound_with}
@@ -33,7 +33,7 @@ admitted_is rs r (Some f) more e = absurd (cc)
 module _ (name : Kind → Bytes → Bytes) where
   -- what is read once the body is
   abbrev taken_rest : List Record → Kind → Bytes × Bytes → Stored (List Record × Bytes)
-  taken_rest rs k body = and_then (admitted rs (record_made name k body.0) (record_fault rs (record_made name k body.0))) (λ more. Ok (more, body.1))
+  taken_rest rs k body = and_then (admitted rs (record_for name k body.0) (record_fault rs (record_for name k body.0))) (λ more. Ok (more, body.1))
 
   -- what is read once the record's line is
   abbrev body_then : List Record → Bytes → Kind × ℕ → Stored (List Record × Bytes)
@@ -49,9 +49,9 @@ module _ (name : Kind → Bytes → Bytes) where
   pub record IsOneMore (rs : List Record) (text : Bytes) (x : List Record × Bytes) : Type 0 where
     pub kind : Kind
     pub body : Bytes
-    pub taken : record_fault rs (record_made name kind body) ≡ None
-    pub last : x.0 ≡ rs ++ record_made name kind body ∷ []
-    pub spelled : text ≡ stored_record (record_made name kind body) ++ x.1
+    pub taken : record_fault rs (record_for name kind body) ≡ None
+    pub last : x.0 ≡ rs ++ record_for name kind body ∷ []
+    pub spelled : text ≡ stored_record (record_for name kind body) ++ x.1
 
   -- what is read as the next record is its text
   pub record_of_text : (rs : List Record) (text : Bytes) (x : List Record × Bytes) → next_record name rs text ≡ Ok x → IsOneMore rs text x
@@ -59,7 +59,7 @@ module _ (name : Kind → Bytes → Bytes) where
       let p = both_steps (stored_line text) (record_rest rs) x e in
       let k = both_steps (stored_if fault.BadRecord (record_line p.0.0)) (body_then rs p.0.1) x p.2 in
       let b = both_steps (stored_body k.0.1 p.0.1) (taken_rest rs k.0.0) x k.2 in
-      let r = record_made name k.0.0 b.0.0 in
+      let r = record_for name k.0.0 b.0.0 in
       let t = both_steps (admitted rs r (record_fault rs r)) (λ more. Ok (more, b.0.1)) x b.2 in
       let a = admitted_is rs r (record_fault rs r) t.0 t.1 in
       let same : ◌≡◌ {A = List Record × Bytes} (t.0, b.0.1) x = ok_is (t.0, b.0.1) x t.2 in
@@ -93,7 +93,7 @@ module _ (name : Kind → Bytes → Bytes) where
   records_of_text namer (suc n) rs text x i e =
       let p = both_steps (next_record name rs text) (λ y. next_records name n y.0 y.1) x e in
       let o = record_of_text rs text p.0 p.1 in
-      let r = record_made name o.kind o.body in
+      let r = record_for name o.kind o.body in
       let s = sound_with name namer (record { records = rs; refs = [] }) i o.kind o.body o.taken in
       let q = records_of_text namer n p.0.0 p.0.1 x (subst (λ z. IsSound name (record { records = z; refs = [] })) (sym o.last) s) p.2 in
       record {
@@ -107,10 +107,10 @@ module _ (name : Kind → Bytes → Bytes) where
   -- ---- what is spelled is read
 
   -- a record that nothing is against is read from its text
-  pub record_read : (rs : List Record) (k : Kind) (body rest : Bytes) → length body < 2 ^ 64 → record_fault rs (record_made name k body) ≡ None
-      → next_record name rs (stored_record (record_made name k body) ++ rest) ≡ Ok (rs ++ record_made name k body ∷ [], rest)
+  pub record_read : (rs : List Record) (k : Kind) (body rest : Bytes) → length body < 2 ^ 64 → record_fault rs (record_for name k body) ≡ None
+      → next_record name rs (stored_record (record_for name k body) ++ rest) ≡ Ok (rs ++ record_for name k body ∷ [], rest)
   record_read rs k body rest l f =
-      let r = record_made name k body in
+      let r = record_for name k body in
       let n = length body in
       let w = kind_found k in
       ap (next_record name rs) (record_flat r rest)
@@ -124,7 +124,7 @@ module _ (name : Kind → Bytes → Bytes) where
       → next_records name (length ms) rs (flat_map stored_record ms ++ rest) ≡ Ok (rs ++ ms, rest)
   records_read namer rs [] rest i l = ap (λ z. Ok (z, rest)) (sym (append-nil rs))
   records_read namer rs (m ∷ ms) rest i l =
-      let r = record_made name m.kind m.body in
+      let r = record_for name m.kind m.body in
       let regrouped = sym (append_assoc rs (m ∷ []) ms) in
       let all : IsSound name (record { records = (rs ++ m ∷ []) ++ ms; refs = [] }) = subst (λ z. IsSound name (record { records = z; refs = [] })) regrouped i in
       let front = kept name (rs ++ m ∷ []) ms [] all tt in

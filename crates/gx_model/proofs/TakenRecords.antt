@@ -15,13 +15,12 @@ use Rattle.gx_model.specs.declared.store_faults.FileFault.TheVariants as fault
 use Rattle.gx_model.specs.Texts.{Bytes, same_bytes}
 use Rattle.gx_model.specs.Paths.{is_short}
 use Rattle.gx_model.specs.Objects.{Entry, IsNamer, is_dir}
-use Rattle.gx_model.specs.Histories.{AreDistinct, Record, Records}
+use Rattle.gx_model.specs.Histories.{AreDistinct, Record, Records, record_for}
 use Rattle.gx_model.specs.HistoryOf.{commit_parts_in, entries_in, files_of_entries, named_values, tag_parts_in, value_in}
 use Rattle.gx_model.specs.Sound.{AnyByRecursion, HasShortPaths, Holds, IsCommit, IsHeldAs, IsLinked, IsLinkedAfter, IsSound, IsTag, IsTree}
 use Rattle.gx_model.specs.Growth.{put, put_under, record_named, same_kind}
 use Rattle.gx_model.specs.RepositoryLaws.{with_records}
 use Rattle.gx_model.specs.RecordFaults.{are_links_held, content_fault, has_empty_directory, has_long_path, is_bad_below, is_body, is_entry_held, is_held, is_of_kind, is_without_entries, or_duplicate, record_fault}
-use Rattle.gx_model.specs.StoreReading.{record_made}
 use Rattle.gx_model.proofs.PathTests.{both, first, is_same, is_true, same_is, second}
 use Rattle.gx_model.proofs.OneTree.{all_right}
 use Rattle.gx_model.proofs.BodiesReadBack.{commit_read, entries_read, tag_read}
@@ -206,7 +205,7 @@ not_false false e = absurd (cc)
 module _ (name : Kind → Bytes → Bytes) (namer : IsNamer name) where
   -- where nothing is against a tree's body, its entries are held, and no path below it is too long
   tree_linked : (r : Records) → IsSound name r → (body : Bytes) → is_body kind.Tree body ≡ true → are_links_held r.records kind.Tree body ≡ true → is_bad_below r.records kind.Tree body ≡ false
-      → IsTree r.records body × HasShortPaths r.records (record_made name kind.Tree body)
+      → IsTree r.records body × HasShortPaths r.records (record_for name kind.Tree body)
   tree_linked r sound body a b c =
       let p = or_parts (has_empty_directory r.records body) (has_long_path r.records body) c in
       let t = tree_text_in body (passes _ a) in
@@ -214,7 +213,7 @@ module _ (name : Kind → Bytes → Bytes) (namer : IsNamer name) where
       ((entries_in body, t, h), (short_paths name namer r sound (entries_in body) body t h).0 (not_false _ p.1))
 
   -- where nothing is against a body, its links are held, and no path below it is too long
-  pub linked : (r : Records) → IsSound name r → (k : Kind) (body : Bytes) → content_fault r.records k body ≡ None → IsLinked r.records k body × HasShortPaths r.records (record_made name k body)
+  pub linked : (r : Records) → IsSound name r → (k : Kind) (body : Bytes) → content_fault r.records k body ≡ None → IsLinked r.records k body × HasShortPaths r.records (record_for name k body)
   linked r sound kind.Blob body e = (tt, λ es p i t h. absurd (cc))
   linked r sound kind.Tree body e = let n = nothing_against r.records kind.Tree body e in tree_linked r sound body n.0 n.1 n.2
   linked r sound kind.Commit body e =
@@ -227,14 +226,14 @@ module _ (name : Kind → Bytes → Bytes) (namer : IsNamer name) where
       ((tag_parts_in body, tag_text_in body (passes _ n.0), holds_by r.records kind.Commit (tag_parts_in body).object (passes _ n.1)), λ es p i t h. absurd (cc))
 
   -- a repository stays sound with a record that nothing is against
-  pub sound_with : (r : Records) → IsSound name r → (k : Kind) (body : Bytes) → record_fault r.records (record_made name k body) ≡ None → IsSound name (with_records r (r.records ++ record_made name k body ∷ []))
+  pub sound_with : (r : Records) → IsSound name r → (k : Kind) (body : Bytes) → record_fault r.records (record_for name k body) ≡ None → IsSound name (with_records r (r.records ++ record_for name k body ∷ []))
   sound_with r sound k body e =
-      let f = no_fault r.records (record_made name k body) e in
+      let f = no_fault r.records (record_for name k body) e in
       let l = linked r sound k body f.0 in
       let v = linked_value name namer r sound k body l.0 l.1 in
-      let rs = r.records ++ record_made name k body ∷ [] in
+      let rs = r.records ++ record_for name k body ∷ [] in
       (put_grows name namer r sound (value_in (named_values r.records) k body) v.proper v.known rs
-      (ap (put r.records) v.recorded ∙ ap (λ o. put_under o r.records (record_made name k body)) f.1)).0
+      (ap (put r.records) v.recorded ∙ ap (λ o. put_under o r.records (record_for name k body)) f.1)).0
 
 -- ---- a record that is taken
 
@@ -258,7 +257,7 @@ new_name (x ∷ xs) n d =
 
 module _ (name : Kind → Bytes → Bytes) (namer : IsNamer name) where
   -- nothing is against the body of entries that are held, where no path below is too long
-  tree_fine : (rs : List Record) → IsSound name (record { records = rs; refs = [] }) → (body : Bytes) → IsTree rs body → HasShortPaths rs (record_made name kind.Tree body) → content_fault rs kind.Tree body ≡ None
+  tree_fine : (rs : List Record) → IsSound name (record { records = rs; refs = [] }) → (body : Bytes) → IsTree rs body → HasShortPaths rs (record_for name kind.Tree body) → content_fault rs kind.Tree body ≡ None
   tree_fine rs sound body (es, t, h) s =
       let e = sym (entries_read es body t) in
       let p = entries_pass rs sound.distinct es h in
@@ -281,16 +280,16 @@ module _ (name : Kind → Bytes → Bytes) (namer : IsNamer name) where
       fine_body rs kind.Tag body (is_true _ (tag_test p body t)) (is_true _ (subst (λ q. T (is_held rs kind.Commit q.object)) (sym (tag_read p body t)) (held_test rs d kind.Commit p.object h))) refl
 
   -- nothing is against a body whose links are held and below which no path is too long
-  linked_fine : (rs : List Record) → IsSound name (record { records = rs; refs = [] }) → (k : Kind) (body : Bytes) → IsLinked rs k body → HasShortPaths rs (record_made name k body) → content_fault rs k body ≡ None
+  linked_fine : (rs : List Record) → IsSound name (record { records = rs; refs = [] }) → (k : Kind) (body : Bytes) → IsLinked rs k body → HasShortPaths rs (record_for name k body) → content_fault rs k body ≡ None
   linked_fine rs sound kind.Blob body h s = fine_body rs kind.Blob body refl refl refl
   linked_fine rs sound kind.Tree body h s = tree_fine rs sound body h s
   linked_fine rs sound kind.Commit body h s = commit_fine rs sound.distinct body h
   linked_fine rs sound kind.Tag body h s = tag_fine rs sound.distinct body h
 
   -- nothing is against the last record of a sound repository
-  pub fine : (rs : List Record) (k : Kind) (body : Bytes) → IsSound name (record { records = rs ++ record_made name k body ∷ []; refs = [] }) → record_fault rs (record_made name k body) ≡ None
+  pub fine : (rs : List Record) (k : Kind) (body : Bytes) → IsSound name (record { records = rs ++ record_for name k body ∷ []; refs = [] }) → record_fault rs (record_for name k body) ≡ None
   fine rs k body sound =
-      let r = record_made name k body in
+      let r = record_for name k body in
       let front = kept name rs (r ∷ []) [] sound tt in
       let short = (all_right (HasShortPaths (rs ++ r ∷ [])) rs (r ∷ []) sound.paths).0 in
       fine_record rs r

@@ -99,6 +99,10 @@ pub record Record : Type 0 where
   pub kind : Kind
   pub body : Bytes
 
+-- its kind and body
+abbrev pub object_of : Record → Kind × Bytes
+object_of held = (held.kind, held.body)
+
 -- a repository: its objects in the order in which they were put, and its refs by their names
 pub record Records : Type 0 where
   pub records : List Record
@@ -110,6 +114,10 @@ AreDistinct [] = ⊤
 AreDistinct (n ∷ ns) = (list_any (same_bytes n) ns ≡ false) × AreDistinct ns
 
 module _ (name : Kind → Bytes → Bytes) where
+  -- a kind and a body, under their name
+  abbrev pub record_for : Kind → Bytes → Record
+  record_for of_kind body = record { name = name of_kind body; kind = of_kind; body = body }
+
   -- the canonical record of a value
   abbrev pub record_of : Value → Record
   record_of value = record { name = name_of name value; kind = kind_of name value; body = body_of name value }

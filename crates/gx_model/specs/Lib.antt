@@ -36,6 +36,9 @@ pub mod ExportLaws
 pub mod StoreLaws
 pub mod StreamLaws
 pub mod TextLaws
+pub mod Marks
+pub mod NameMaps
+pub mod Publishing
 pub mod StreamRows
 pub mod RowTexts
 pub mod ImportRows

@@ -7,8 +7,8 @@ use Rattle.gx_model.specs.declared.objects.Mode.{Mode}
 use Rattle.gx_model.specs.declared.objects.Mode.TheVariants.{Gitlink, Dir}
 use Rattle.gx_model.specs.Texts.{Bytes}
 use Rattle.gx_model.specs.Files.{FileMap, Leaf, depth, file_at, first_components, sub_map}
-use Rattle.gx_model.specs.Values.{Commit, Commits, Tag, Value, blob_value, commit, commit_value, more, none, tag_value, tree_value}
-use Rattle.gx_model.specs.Objects.{Entry, commit_text, hex, line, tag_text, tree_text, unhex}
+use Rattle.gx_model.specs.Values.{Commit, Commits, Tag, Value, blob_value, commit, commit_value, files_of, more, none, parents_of, tag_value, text_of, tree_value}
+use Rattle.gx_model.specs.Objects.{CommitParts, Entry, commit_text, hex, line, tag_text, tree_text, unhex}
 
 module _ (name : Kind → Bytes → Bytes) where
   -- the name of a file's content: a gitlink's digits are its name
@@ -57,6 +57,10 @@ module _ (name : Kind → Bytes → Bytes) where
     pub names_of : Commits → List Bytes
     names_of none = []
     names_of (more c cs) = name kind.Commit (commit_body c) ∷ names_of cs
+
+  -- the parts of a commit's body
+  abbrev pub parts_of_commit : Commit → CommitParts
+  parts_of_commit revision = record { tree = tree_name (files_of revision); parents = names_of (parents_of revision); text = text_of revision }
 
   -- the parent lines of a commit
   abbrev pub parent_lines : Commits → Bytes

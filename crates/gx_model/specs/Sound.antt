@@ -24,6 +24,10 @@ AnyByRecursion P (x ∷ xs) = P x ⊎ AnyByRecursion P xs
 abbrev pub Holds : List Record → Kind → Bytes → Type 0
 Holds records kind name = AnyByRecursion (λ held. (held.kind ≡ kind) × (held.name ≡ name)) records
 
+-- what is held stays held
+abbrev pub Keeps : List Record → List Record → Type 0
+Keeps old new = (of_kind : Kind) (called : Bytes) → Holds old of_kind called → Holds new of_kind called
+
 -- a directory's tree is held and has entries; a gitlink is no link
 abbrev pub IsHeldAs : List Record → Mode → Bytes → Type 0
 IsHeldAs records Gitlink name = ⊤

@@ -5,13 +5,13 @@ use Rattle.gx_model.specs.declared.objects.Kind.{Kind}
 use Rattle.gx_model.specs.declared.objects.Kind.TheVariants as kind
 use Rattle.gx_model.specs.Texts.{Bytes}
 use Rattle.gx_model.specs.Objects.{CommitParts, Entry, IsCommitText, IsTagText, IsTreeText, TagParts}
-use Rattle.gx_model.specs.Histories.{Record, Records}
+use Rattle.gx_model.specs.Histories.{Record, Records, record_for}
 use Rattle.gx_model.specs.HistoryOf.{commit_parts_in, entries_in, tag_parts_in}
 use Rattle.gx_model.specs.Sound.{HasShortPaths, IsLinked, IsSound}
 use Rattle.gx_model.specs.RepositoryLaws.{with_records}
 use Rattle.gx_model.specs.RecordFaults.{content_fault, is_body, record_fault}
 use Rattle.gx_model.specs.StoreText.{store_text}
-use Rattle.gx_model.specs.StoreReading.{record_made, store_of}
+use Rattle.gx_model.specs.StoreReading.{store_of}
 
 -- ---- bodies
 
@@ -35,11 +35,11 @@ pub record BodiesAreRead : Type 0 where
 -- record exactly where the repository is sound with it
 pub record RecordsAreTaken (name : Kind → Bytes → Bytes) : Type 0 where
   pub linked : (repository : Records) → IsSound name repository → (of_kind : Kind) (body : Bytes) → content_fault repository.records of_kind body ≡ None
-      → IsLinked repository.records of_kind body × HasShortPaths repository.records (record_made name of_kind body)
-  pub sound : (repository : Records) → IsSound name repository → (of_kind : Kind) (body : Bytes) → record_fault repository.records (record_made name of_kind body) ≡ None
-      → IsSound name (with_records repository (repository.records ++ record_made name of_kind body ∷ []))
-  pub fine : (records : List Record) (of_kind : Kind) (body : Bytes) → IsSound name (record { records = records ++ record_made name of_kind body ∷ []; refs = [] })
-      → record_fault records (record_made name of_kind body) ≡ None
+      → IsLinked repository.records of_kind body × HasShortPaths repository.records (record_for name of_kind body)
+  pub sound : (repository : Records) → IsSound name repository → (of_kind : Kind) (body : Bytes) → record_fault repository.records (record_for name of_kind body) ≡ None
+      → IsSound name (with_records repository (repository.records ++ record_for name of_kind body ∷ []))
+  pub fine : (records : List Record) (of_kind : Kind) (body : Bytes) → IsSound name (record { records = records ++ record_for name of_kind body ∷ []; refs = [] })
+      → record_fault records (record_for name of_kind body) ≡ None
 
 -- ---- texts
 

@@ -19,7 +19,7 @@ use Rattle.gx_model.specs.RefNames.{is_ref_name, tag_ref}
 use Rattle.gx_model.specs.Faults.{and_then}
 use Rattle.gx_model.specs.Values.{is_name_text}
 use Rattle.gx_model.specs.Objects.{unhex}
-use Rattle.gx_model.specs.Histories.{Record, Records}
+use Rattle.gx_model.specs.Histories.{Record, Records, record_for}
 use Rattle.gx_model.specs.HistoryOf.{tag_parts_in}
 use Rattle.gx_model.specs.Growth.{record_named}
 use Rattle.gx_model.specs.RecordFaults.{record_fault}
@@ -102,17 +102,13 @@ admitted rs r None = Ok (rs ++ r ∷ [])
 admitted rs r (Some f) = Err f
 
 module _ (name : Kind → Bytes → Bytes) where
-  -- a record with its name
-  abbrev pub record_made : Kind → Bytes → Record
-  record_made k body = record { name = name k body; kind = k; body = body }
-
   -- the records with one more, and what follows it
   abbrev pub next_record : List Record → Bytes → Stored (List Record × Bytes)
   next_record rs text = do
     l ← stored_line text
     k ← stored_if fault.BadRecord (record_line l.0)
     body ← stored_body k.1 l.1
-    more ← admitted rs (record_made k.0 body.0) (record_fault rs (record_made k.0 body.0))
+    more ← admitted rs (record_for name k.0 body.0) (record_fault rs (record_for name k.0 body.0))
     Ok (more, body.1)
 
   -- the records that come next

@@ -5,7 +5,7 @@ use Rattle.gx_model.specs.Texts.{Bytes}
 use Rattle.gx_model.specs.Files.{FileMap}
 use Rattle.gx_model.specs.Values.{tree_value}
 use Rattle.gx_model.specs.Records.{name_of}
-use Rattle.gx_model.specs.Histories.{Record, Records, with_one, with_tree}
+use Rattle.gx_model.specs.Histories.{Record, Records, record_for, with_one, with_tree}
 use Rattle.gx_model.specs.HistoryOf.{contents_of, history_of, named_values, value_in}
 use Rattle.gx_model.specs.Sound.{HasShortPaths, IsLinked, IsNamedMap, IsSound}
 use Rattle.gx_model.specs.Growth.{all_trees, put, put_all, tree_records}
@@ -13,7 +13,7 @@ use Rattle.gx_model.specs.RepositoryLaws.{LinksTell, PutsGrow, TreesGrow, values
 use Rattle.gx_object.specs.declared.name.Name.{Name}
 use Rattle.gx_store.specs.declared.fault.StoreFault.{StoreFault}
 use Rattle.gx_store.specs.declared.fault.StoreFault.TheVariants.{OutOfMemory, NameHeld}
-use Rattle.gx_store.specs.Stores.{Puts, record_for}
+use Rattle.gx_store.specs.Stores.{Puts}
 use Rattle.gx_tree.specs.Writes.{map_name}
 use Rattle.gx_repo.specs.Additions.{Adds, HasValues}
 

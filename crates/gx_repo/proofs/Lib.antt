@@ -1,9 +1,6 @@
 pub mod Additions
-pub mod HeldObjects
-pub mod SortedRefs
 pub mod PublishedRefs
 pub mod HeldRecords
-pub mod NamedMaps
 pub mod PathRooms
 pub mod Places
 pub mod RecordRooms

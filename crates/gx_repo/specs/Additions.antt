@@ -5,14 +5,12 @@ use Rattle.gx_model.specs.declared.objects.Kind.TheVariants as kind
 use Rattle.gx_model.specs.Texts.{Bytes}
 use Rattle.gx_model.specs.Objects.{CommitParts, TagParts, commit_text, tag_text}
 use Rattle.gx_model.specs.Values.{Value, commit_value, tag_value}
-use Rattle.gx_model.specs.Histories.{Record, Records}
+use Rattle.gx_model.specs.Histories.{Record, Records, record_for}
 use Rattle.gx_model.specs.HistoryOf.{commit_of_parts, history_of, named_values, tag_of_parts}
-use Rattle.gx_model.specs.Sound.{Holds}
 use Rattle.gx_model.specs.Growth.{put, put_all}
 use Rattle.gx_object.specs.declared.name.Name.{Name}
 use Rattle.gx_store.specs.declared.fault.StoreFault.{StoreFault}
 use Rattle.gx_store.specs.declared.fault.StoreFault.TheVariants.{OutOfMemory, NameHeld}
-use Rattle.gx_store.specs.Stores.{record_for}
 use Rattle.gx_tree.specs.declared.fault.TreeFault.{TreeFault}
 use Rattle.gx_tree.specs.declared.fault.TreeFault.TheVariants as tree
 
@@ -42,10 +40,6 @@ abbrev pub AddsAll : List Record → List Record → List Record → Bytes → R
 AddsAll old new added called (Ok name) = (name.bytes ≡ called) × (put_all old added ≡ Some new)
 AddsAll old new added called (Err NameHeld) = (put_all old added ≡ None) × (new ≡ old)
 AddsAll old new added called (Err OutOfMemory) = new ≡ old
-
--- what is held stays held
-abbrev pub Keeps : List Record → List Record → Type 0
-Keeps old new = (of_kind : Kind) (called : Bytes) → Holds old of_kind called → Holds new of_kind called
 
 -- the history that the new repository stands for has these values, and the refs of the old one's
 abbrev pub HasValues : Records → Records → List Value → Type 0

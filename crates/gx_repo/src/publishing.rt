@@ -2,7 +2,7 @@
 ghost use Rattle.std.specs.Prelude.{◌≡◌, map, IsTrue, IfOk};
 ghost use Rattle.std.specs.FinMap.Entries.{is_sorted};
 ghost use Rattle.gx_model.specs.Replay.{byte_cmp};
-ghost use Rattle.gx_repo.specs.Publishing.{with_changes};
+ghost use Rattle.gx_model.specs.Publishing.{with_changes};
 ghost use Rattle.gx_repo.specs.Refs.{asked, kept};
 
 use crate::refs::{Ref, copied, set};

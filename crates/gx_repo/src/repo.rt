@@ -9,21 +9,21 @@ ghost use Rattle.gx_model.specs.Growth.{tree_records};
 ghost use Rattle.gx_model.specs.Objects.{IsTagText, TagParts as Parts};
 ghost use Rattle.gx_model.specs.StoreReading.{is_target_of_kind};
 ghost use Rattle.gx_model.specs.Texts.{same_bytes};
-ghost use Rattle.gx_model.specs.Histories.{with_one, with_tree};
+ghost use Rattle.gx_model.specs.Histories.{record_for, with_one, with_tree};
 ghost use Rattle.gx_model.specs.HistoryOf.{contents_of, named_values, value_in};
 ghost use Rattle.gx_model.specs.Lookups.{commit_named, first_named};
 ghost use Rattle.gx_model.specs.Records.{name_of};
 ghost use Rattle.gx_model.specs.RecordFaults.{content_fault};
 ghost use Rattle.gx_model.specs.RefNames.{is_tag_name, tag_ref};
 ghost use Rattle.gx_model.specs.RepositoryLaws.{values_of};
-ghost use Rattle.gx_model.specs.Sound.{HasShortPaths, Holds, IsLinked, IsNamedMap, IsSound, IsTarget};
+ghost use Rattle.gx_model.specs.Sound.{HasShortPaths, Holds, IsLinked, IsNamedMap, IsSound, IsTarget, Keeps};
 ghost use Rattle.gx_model.specs.Values.{blob_value, is_optional_encoding, tree_value};
 ghost use Rattle.gx_object.specs.Parts.{commit_parts, tag_parts};
-ghost use Rattle.gx_store.specs.Stores.{record_for};
 ghost use Rattle.gx_tree.specs.StoreFaults.{tree_fault};
 ghost use Rattle.gx_tree.specs.Writes.{map_name};
-ghost use Rattle.gx_repo.specs.Additions.{Adds, AddsAll, HasValues, IsWriteFault, Keeps, commit_among, commit_record, tag_among, tag_record};
-ghost use Rattle.gx_repo.specs.Publishing.{change_fault, changes_fault, fault_of, published};
+ghost use Rattle.gx_repo.specs.Additions.{Adds, AddsAll, HasValues, IsWriteFault, commit_among, commit_record, tag_among, tag_record};
+ghost use Rattle.gx_repo.specs.Publishing.{fault_of};
+ghost use Rattle.gx_model.specs.Publishing.{change_fault, changes_fault, published};
 ghost use Rattle.gx_repo.specs.Records.{AddsRecord, add_fault};
 ghost use Rattle.gx_repo.specs.Refs.{asked, kept};
 ghost use Rattle.gx_repo.specs.Rooms.{room_of};
@@ -321,7 +321,7 @@ impl<N: Namer, A: Allocator + Copy> Repo<N, A> {
     }
 
     /// The refs that these changes give.
-    #[tactic(auto, unfolding(crate::specs::Publishing::published))]
+    #[tactic(auto, unfolding(gx_model::specs::Publishing::published))]
     fn changed_refs(&self, changes: &[RefChange<'_>]) -> Result<Vec<Ref<A>, A>, PublishFault>
         ensures { Gives fault_of (λ refs. map kept refs.items) result (published self.now.1 (map asked changes.now)) }
     {

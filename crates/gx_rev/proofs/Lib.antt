@@ -1,12 +1,10 @@
 pub mod Dots
 pub mod Suffixes
 pub mod Answers
-pub mod HeldValues
-pub mod Bases
 pub mod PathSteps
 pub mod ShownPaths
-pub mod Standing
-pub mod Marking
 pub mod WordMarks
 pub mod Listings
 pub mod OneAnswer
+pub mod OneKind
+pub mod Prefixes

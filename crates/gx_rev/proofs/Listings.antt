@@ -14,7 +14,7 @@ use Rattle.gx_model.specs.Histories.{History}
 use Rattle.gx_model.specs.Ranges.{Word, WordFault, at_word, each_from, listed, listing, nothing, span, word_denoted}
 use Rattle.gx_rev.specs.declared.fault.RevFault.{RevFault}
 use Rattle.gx_rev.specs.declared.fault.RevFault.TheVariants.{OutOfMemory}
-use Rattle.gx_rev.specs.Marks.{marks_of}
+use Rattle.gx_model.specs.Marks.{marks_of}
 use Rattle.gx_rev.specs.RevFaults.{fault_of}
 use Rattle.gx_rev.specs.Walking.{IsWordFault, names_back, refused_at}
 use Rattle.gx_rev.proofs.WordMarks.{names_listed, same_marks}

@@ -9,10 +9,10 @@ use Rattle.gx_model.specs.declared.objects.Mode.TheVariants.{File, Exec, Link, G
 use Rattle.gx_model.specs.Texts.{Bytes}
 use Rattle.gx_model.specs.Paths.{Path}
 use Rattle.gx_model.specs.Files.{FileMap, Leaf, file_at, sub_map}
-use Rattle.gx_model.specs.Values.{is_content, is_leaf, tree_value}
+use Rattle.gx_model.specs.Values.{is_leaf, tree_value}
 use Rattle.gx_model.specs.Objects.{Entry, IsNamer, IsTreeText, is_dir}
-use Rattle.gx_model.specs.Records.{body_of, content_name, named_map, tree_body, tree_name}
-use Rattle.gx_model.specs.Histories.{IsIn, Record, Records}
+use Rattle.gx_model.specs.Records.{content_name, tree_name}
+use Rattle.gx_model.specs.Histories.{IsIn, Record, Records, object_of}
 use Rattle.gx_model.specs.HistoryOf.{entries_in, files_of_tree, history_of, value_of_name}
 use Rattle.gx_model.specs.Growth.{record_named}
 use Rattle.gx_model.specs.RecordFaults.{is_held}
@@ -22,12 +22,12 @@ use Rattle.gx_model.proofs.BodiesReadBack.{entries_read}
 use Rattle.gx_model.proofs.GrownRecords.{distinct_of}
 use Rattle.gx_model.proofs.HistoriesExist.{stands}
 use Rattle.gx_model.proofs.RebuiltValues.{has_some}
-use Rattle.gx_model.proofs.TreePaths.{content_in, entries_of, leaf_at, sub_in, text_of_tree}
+use Rattle.gx_model.proofs.TreePaths.{entries_of, leaf_at, sub_in}
 use Rattle.gx_model.proofs.TreeWalks.{entry_of, some_sub}
 use Rattle.gx_object.specs.declared.name.Name.{Name}
-use Rattle.gx_store.specs.Stores.{object_of}
 use Rattle.gx_rev.specs.Places.{IsHeldPlace, place_of_entry, shown_place}
-use Rattle.gx_rev.proofs.HeldValues.{all_whole, tree_stands, value_held}
+use Rattle.gx_model.proofs.HeldValues.{all_whole, tree_stands, value_held}
+use Rattle.gx_model.proofs.HeldTrees.{content}
 
 -- from a place on: down a tree, or the end of the path
 abbrev pub walked_on : List Record → Place → Path → Option Place
@@ -102,20 +102,10 @@ module _ (name : Kind → Bytes → Bytes) (namer : IsNamer name) (r : Records) 
   abbrev Files : Bytes → FileMap Bytes
   Files n = files_of_tree (value_of_name r.records n)
 
-  content : (f : FileMap Bytes) → IsIn (history_of r).values (tree_value f) → T (is_content f)
-  content f i = content_in name namer (history_of r).values (all_whole name namer r sound) (distinct_of name namer r (history_of r) (stands name namer r sound)) f i
-
-  -- a held tree's body is the text of its entries
-  pub tree_text_held : (n body : Bytes) → IsTrue (is_held r.records kind.Tree n) → body ≡ body_of name (value_of_name r.records n) → IsTreeText (entries_of name namer (Files n)) body
-  tree_text_held n body h e =
-      let s = tree_stands name namer r sound n h in
-      let same : body ≡ tree_body name (named_map name (Files n)) = e ∙ ap (body_of name) s.0 in
-      subst (IsTreeText (entries_of name namer (Files n))) (sym same) (text_of_tree name namer (Files n) (content (Files n) s.1))
-
   dir_by : (f : FileMap Bytes) (c : Bytes) (e : Entry) (o : Option (Leaf Bytes)) (g : FileMap Bytes) → IsIn (history_of r).values (tree_value f) → file_at f (c ∷ []) ≡ o → sub_map f (c ∷ []) ≡ g → Some e ≡ entry_for name c (place_of name o g) → e.mode ≡ Dir → IsTrue (is_held r.records kind.Tree e.name)
   dir_by f c e (Some x) g i k l m d =
       let a : e.mode ≡ x.0 = (let s : e ≡ record { mode = x.0; component = c; name = content_name name x.0 x.1 } = cc m in ap (λ z. z.mode) s) in
-      absurd (no_dir x.0 x.1 (leaf_at name namer f (c ∷ []) x (content f i) k) (sym a ∙ d))
+      absurd (no_dir x.0 x.1 (leaf_at name namer f (c ∷ []) x (content name namer r sound f i) k) (sym a ∙ d))
     where
       no_dir : (m : Mode) (x : Bytes) → T (is_leaf m x) → m ≡ Dir → ⊥
       no_dir m x h s = let z : T (is_leaf Dir x) = subst (λ q. T (is_leaf q x)) s h in z
@@ -130,7 +120,7 @@ module _ (name : Kind → Bytes → Bytes) (namer : IsNamer name) (r : Records) 
   pub dir_held : (n c : Bytes) (e : Entry) → IsTrue (is_held r.records kind.Tree n) → entry_at (entries_of name namer (Files n)) c ≡ Some e → e.mode ≡ Dir → IsTrue (is_held r.records kind.Tree e.name)
   dir_held n c e h k d =
       let s = tree_stands name namer r sound n h in
-      dir_by (Files n) c e (file_at (Files n) (c ∷ [])) (sub_map (Files n) (c ∷ [])) s.1 refl refl (sym k ∙ entry_of name namer (Files n) c (content (Files n) s.1)) d
+      dir_by (Files n) c e (file_at (Files n) (c ∷ [])) (sub_map (Files n) (c ∷ [])) s.1 refl refl (sym k ∙ entry_of name namer (Files n) c (content name namer r sound (Files n) s.1)) d
 
   pub place_held : (n c : Bytes) (es : List Entry) (result : Option (Mode × Name)) → IsTrue (is_held r.records kind.Tree n) → es ≡ entries_of name namer (Files n) → option_map shown_place result ≡ option_map place_of_entry (entry_at es c) → IfSome result (IsHeldPlace r)
   place_held n c es None h s e = tt

@@ -29,9 +29,9 @@ use Rattle.gx_model.proofs.PathTests.{is_true}
 use Rattle.gx_model.proofs.RebuiltValues.{has_some}
 use Rattle.gx_model.proofs.TreePaths.{content_in, content_parts, file_sub, leaf_at, sub_in}
 use Rattle.gx_model.proofs.TreeWalks.{some_sub, sub_sub, walk_sound}
-use Rattle.gx_object.proofs.Digits.{hex_unhex, name_found}
+use Rattle.gx_model.proofs.NameDigits.{hex_unhex, name_found}
 use Rattle.gx_rev.specs.Answers.{IsNamed, file_of, shown_as, shown_by}
-use Rattle.gx_rev.proofs.HeldValues.{all_whole, held_is, kind_held, tree_stands, value_held}
+use Rattle.gx_model.proofs.HeldValues.{all_whole, held_is, kind_held, tree_stands, value_held}
 
 -- a gitlink's digits are those of its name
 hex_again : (x : Bytes) → T (is_name_text x) → hex (unhex x) ≡ x

@@ -11,9 +11,9 @@ use Rattle.gx_model.specs.Texts.{Bytes}
 use Rattle.gx_model.specs.Values.{Commit, Commits, Value, blob_value, commit_value, list_of, more, none, tag_value, tree_value}
 use Rattle.gx_model.specs.Records.{name_of}
 use Rattle.gx_model.specs.Ranges.{commit_of, nothing, reaches, some_reaches}
-use Rattle.gx_rev.specs.Marks.{holds, marks_of}
+use Rattle.gx_model.specs.Marks.{holds, marks_of}
 use Rattle.gx_rev.specs.Walking.{AreBoth, AreEither, AreWithout, names_back}
-use Rattle.gx_rev.proofs.Marking.{mark_tells, marks_are}
+use Rattle.gx_model.proofs.Marking.{mark_tells, marks_are}
 
 pub no_marks : (vs : List Value) → replicate (length vs) false ≡ marks_of nothing vs
 no_marks [] = refl

@@ -4,5 +4,4 @@ pub mod Ranges
 pub mod Objects
 pub mod Places
 pub mod Answers
-pub mod Marks
 pub mod Walking

@@ -5,9 +5,8 @@ use Rattle.gx_model.specs.Texts.{Bytes}
 use Rattle.gx_model.specs.Faults.{Given}
 use Rattle.gx_model.specs.declared.faults.Fault.TheVariants.{WrongKind}
 use Rattle.gx_model.specs.Files.{FileMap}
-use Rattle.gx_model.specs.Values.{Commit, Value, files_of, parents_of, text_of}
-use Rattle.gx_model.specs.Objects.{CommitParts}
-use Rattle.gx_model.specs.Records.{kind_of, names_of, tree_name}
+use Rattle.gx_model.specs.Values.{Commit, Value}
+use Rattle.gx_model.specs.Records.{kind_of}
 use Rattle.gx_model.specs.Histories.{Records}
 use Rattle.gx_model.specs.HistoryOf.{commit_of_value, files_of_tree, value_of_name}
 use Rattle.gx_model.specs.Growth.{record_named, same_kind}
@@ -31,10 +30,6 @@ commit_at repository called = commit_of_value (value_at repository called)
 
 abbrev pub files_at : Records → Name → FileMap Bytes
 files_at repository called = files_of_tree (value_at repository called)
-
--- the parts of a commit's body
-abbrev pub parts_of_commit : (Kind → Bytes → Bytes) → Commit → CommitParts
-parts_of_commit name made = record { tree = tree_name name (files_of made); parents = names_of name (parents_of made); text = text_of made }
 
 -- a value of this kind, and no other
 abbrev pub only : (Kind → Bytes → Bytes) → Kind → Value → Given Value

@@ -14,7 +14,7 @@ use Rattle.gx_rev.specs.declared.fault.RevFault.{RevFault}
 use Rattle.gx_rev.specs.declared.fault.RevFault.TheVariants.{OutOfMemory}
 use Rattle.gx_rev.specs.declared.fault.WalkFault.{WalkFault}
 use Rattle.gx_rev.specs.declared.walking.Spans.{Spans}
-use Rattle.gx_rev.specs.Marks.{marks_of}
+use Rattle.gx_model.specs.Marks.{marks_of}
 use Rattle.gx_rev.specs.RevFaults.{fault_of}
 
 -- the marks of what a word includes, and of what it excludes

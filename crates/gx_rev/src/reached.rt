@@ -9,7 +9,7 @@ ghost use Rattle.gx_model.specs.Ranges.{reaches};
 ghost use Rattle.gx_model.specs.RepositoryLaws.{values_of};
 ghost use Rattle.gx_model.specs.Sound.{Holds};
 ghost use Rattle.gx_model.specs.Values.{parents_of};
-ghost use Rattle.gx_rev.specs.Marks.{Marks, marks_of};
+ghost use Rattle.gx_model.specs.Marks.{Marks, marks_of};
 ghost use Rattle.gx_rev.specs.Objects.{IsHeld, IsHeldAs, commit_at, value_at};
 
 use crate::objects::view_of;

@@ -8,7 +8,8 @@ ghost use Rattle.gx_model.specs.Denotation.{commit_denoted, denoted, file_shown,
 ghost use Rattle.gx_model.specs.Faults.{Gives, and_then};
 ghost use Rattle.gx_model.specs.HistoryOf.{bytes_of_blob, history_of};
 ghost use Rattle.gx_rev.specs.Answers.{AnswersTell, IsNamed, file_of, revision_with, seen_file, shown_as, shown_by};
-ghost use Rattle.gx_rev.specs.Objects.{IsHeld, IsHeldAs, commit_at, files_at, parts_of_commit, value_at};
+ghost use Rattle.gx_rev.specs.Objects.{IsHeld, IsHeldAs, commit_at, files_at, value_at};
+ghost use Rattle.gx_model.specs.Records.{parts_of_commit};
 ghost use Rattle.gx_rev.specs.RevFaults.{fault_of};
 
 use crate::base::eval_base;

@@ -7,7 +7,7 @@ ghost use Rattle.gx_model.specs.Revisions as words;
 ghost use Rattle.gx_model.specs.Ranges.{listed, nothing, some_reaches, word_denoted};
 ghost use Rattle.gx_model.specs.RepositoryLaws.{values_of};
 ghost use Rattle.gx_model.specs.Values.{parents_of};
-ghost use Rattle.gx_rev.specs.Marks.{marks_of};
+ghost use Rattle.gx_model.specs.Marks.{marks_of};
 ghost use Rattle.gx_rev.specs.Objects.{IsHeldAs, commit_at};
 ghost use Rattle.gx_rev.specs.Views.{shown_range};
 ghost use Rattle.gx_rev.specs.Walking.{AreBoth, AreEither, AreWithout, GivesNames, GivesSpans, names_back, refused_at};

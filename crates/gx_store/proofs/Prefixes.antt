@@ -16,7 +16,7 @@ use Rattle.gx_model.specs.Denotation.{begins_with_digits, lower}
 use Rattle.gx_model.specs.Histories.{Record}
 use Rattle.gx_model.specs.Lookups.{records_begun_by}
 use Rattle.gx_object.specs.declared.name.Name.{Name}
-use Rattle.gx_object.proofs.Digits.{hex_lower}
+use Rattle.gx_model.proofs.NameDigits.{hex_lower}
 use Rattle.gx_store.specs.Objects.{held}
 use Rattle.gx_store.specs.declared.store.Object.{Object}
 use Rattle.gx_store.specs.Prefixes.{prefix_of}

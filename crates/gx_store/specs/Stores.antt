@@ -11,10 +11,6 @@ use Rattle.gx_object.specs.declared.name.Name.{Name}
 use Rattle.gx_store.specs.declared.fault.StoreFault.{StoreFault}
 use Rattle.gx_store.specs.declared.fault.StoreFault.TheVariants.{OutOfMemory, NameHeld}
 
--- a kind and a body, under their name
-abbrev pub record_for : (Kind → Bytes → Bytes) → Kind → Bytes → Record
-record_for name kind body = record { name = name kind body; kind = kind; body = body }
-
 -- names differ, and each is the namer's
 pub record AreHeld (name : Kind → Bytes → Bytes) (rs : List Record) : Type 0 where
   pub distinct : AreDistinct (map (λ r. r.name) rs)
@@ -34,9 +30,6 @@ place_named records name = position (λ held. same_bytes name held.name) records
 -- what a look-up shows, through the reference that it lends
 abbrev pub seen : Kind × Bor Bytes → Kind × Bytes
 seen o = (o.0, o.1.now)
-
-abbrev pub object_of : Record → Kind × Bytes
-object_of r = (r.kind, r.body)
 
 abbrev pub seen_at : Name × Kind × Bor Bytes → Record
 seen_at o = record { name = o.0.bytes; kind = o.1; body = o.2.now }

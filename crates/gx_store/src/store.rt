@@ -4,7 +4,8 @@ ghost use Rattle.std.specs.Prelude.{◌≡◌, ◌↔◌, length, [], map, slice
 ghost use Rattle.std.specs.Option.{option_map};
 ghost use Rattle.gx_model.specs.Growth.{record_named};
 ghost use Rattle.gx_model.specs.Lookups.{records_begun_by};
-ghost use Rattle.gx_store.specs.Stores.{AreHeld, Puts, object_of, place_named, record_for, seen, seen_at};
+ghost use Rattle.gx_store.specs.Stores.{AreHeld, Puts, place_named, seen, seen_at};
+ghost use Rattle.gx_model.specs.Histories.{object_of, record_for};
 ghost use Rattle.gx_store.specs.Prefixes.{prefix_of};
 ghost use Rattle.gx_store.specs.Objects.{held};
 

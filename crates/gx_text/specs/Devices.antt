@@ -55,6 +55,20 @@ abbrev pub Sends : Option Taken → Option Taken → Bytes → Result (Unit {0})
 Sends None new bytes answer = ⊤
 Sends (Some old) new bytes answer = SendsTo old new bytes answer
 
+-- a sink took this text; of one that tells nothing, nothing is claimed
+abbrev pub Took : Option Taken → Option Taken → Bytes → Type 0
+Took None now text = ⊤
+Took (Some was) now text = now ≡ Some (record { bytes = was.bytes ++ text; failed = was.failed })
+
+-- a sink failed within this text, of which it took the front
+abbrev pub FailedWithin : Option Taken → Option Taken → Bytes → Type 0
+FailedWithin None now text = ⊤
+FailedWithin (Some was) now text = (front : Bytes) × (rest : Bytes) × (text ≡ front ++ rest) × (0 < length rest) × (now ≡ Some (record { bytes = was.bytes ++ front; failed = true }))
+
+-- a sink took a front of this text
+abbrev pub TookFront : Option Taken → Option Taken → Bytes → Type 0
+TookFront was now text = (front : Bytes) × (rest : Bytes) × (text ≡ front ++ rest) × Took was now front
+
 -- a sink over memory: what it took, and how many bytes it still takes
 pub record Holding : Type 0 where
   pub taken : Taken

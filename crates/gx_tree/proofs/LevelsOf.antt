@@ -16,7 +16,7 @@ use Rattle.gx_model.proofs.FileMapEdits.{Parts, parts_of}
 use Rattle.gx_model.proofs.OneTree.{firsts_proper, only_file, rebuilt}
 use Rattle.gx_model.proofs.SortedKeys.{key_at, key_of, keys, sorted_keys}
 use Rattle.gx_model.proofs.SubMaps.{sub_parts}
-use Rattle.gx_tree.specs.NameMaps.{IsNameMap}
+use Rattle.gx_model.specs.NameMaps.{IsNameMap}
 use Rattle.gx_tree.specs.Nodes.{Kept, Level, IsAfter, IsInner, IsKept, IsLevel, comes_before, file, files, folder, is_inner_path, key, kept_map}
 use Rattle.gx_tree.proofs.Texts.{cases_bytes, holds, same_itself}
 use Rattle.gx_tree.proofs.Lookups.{AreInner}

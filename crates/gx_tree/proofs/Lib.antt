@@ -13,7 +13,6 @@ pub mod Measures
 pub mod CopyLaws
 pub mod Rooms
 pub mod TreeRecords
-pub mod Puts
 pub mod WrittenRecords
 pub mod LevelsOf
 pub mod HeldLevels

@@ -11,9 +11,9 @@ use Rattle.gx_model.specs.Texts.{Bytes}
 use Rattle.gx_model.specs.Files.{FileMap}
 use Rattle.gx_model.specs.Objects.{Entry as TreeEntry, IsTreeText, tree_text}
 use Rattle.gx_model.specs.Records.{tree_body}
-use Rattle.gx_model.specs.Histories.{Record}
+use Rattle.gx_model.specs.Histories.{Record, record_for}
 use Rattle.gx_model.specs.Growth.{put, put_all, tree_record, tree_records}
-use Rattle.gx_store.specs.Stores.{Puts, record_for}
+use Rattle.gx_store.specs.Stores.{Puts}
 use Rattle.gx_store.specs.declared.fault.StoreFault.{StoreFault}
 use Rattle.gx_store.specs.declared.fault.StoreFault.TheVariants as store
 use Rattle.gx_tree.specs.Nodes.{IsLevel, files}
@@ -25,7 +25,7 @@ use Rattle.gx_tree.specs.declared.fault.TreeFault.{TreeFault}
 use Rattle.gx_tree.specs.declared.fault.TreeFault.TheVariants.{OutOfMemory, NoSuchPath, RootNotTree, PathTooLong, NameHeld}
 use Rattle.gx_tree.proofs.Copies.{seen_more}
 use Rattle.gx_tree.proofs.Levels.{IsInner-files}
-use Rattle.gx_tree.proofs.Puts.{front_trans, put_all_more, put_all_stops, put_none, put_one}
+use Rattle.gx_model.proofs.Puts.{front_trans, put_all_more, put_all_stops, put_none, put_one}
 use Rattle.gx_tree.proofs.TreeRecords.{entries-files, kept_entry, tree_records-files}
 
 module _ (name : Kind → Bytes → Bytes) where

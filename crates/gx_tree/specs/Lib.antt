@@ -6,7 +6,6 @@ pub mod Standings
 pub mod Lists
 pub mod Copies
 pub mod Faults
-pub mod NameMaps
 pub mod Writes
 pub mod HeldTrees
 pub mod StoreFaults

@@ -9,9 +9,8 @@ ghost use Rattle.gx_model.specs.Growth.{tree_records};
 ghost use Rattle.gx_model.specs.Objects.{is_name};
 ghost use Rattle.gx_tree.specs.Copies.{graft_fault, kept_held, option_held};
 ghost use Rattle.gx_tree.specs.Faults.{fault_of};
-ghost use Rattle.gx_tree.specs.HeldTrees.{IsHeldTree};
+ghost use Rattle.gx_model.specs.NameMaps.{IsHeldTree, IsNameMap};
 ghost use Rattle.gx_tree.specs.Lists.{listed};
-ghost use Rattle.gx_tree.specs.NameMaps.{IsNameMap};
 ghost use Rattle.gx_tree.specs.Nodes.{IsKept, IsKeptAt, kept_map, map_if};
 ghost use Rattle.gx_tree.specs.Steps.{grafted};
 ghost use Rattle.gx_tree.specs.Writes.{PutsAll, map_name};
@@ -49,7 +48,7 @@ impl<A: Allocator> Model for PathTree<A> {
 
     ghost Value = { List (List (List ℕ) × (Mode × List ℕ)) };
 
-    ghost use Rattle.gx_tree.specs.NameMaps.{IsNameMap};
+    ghost use Rattle.gx_model.specs.NameMaps.{IsNameMap};
 
     ghost view = { λ a. a.root };
 

@@ -7,7 +7,7 @@ use Rattle.gx_model.specs.Values.{commit_value, parents_of}
 use Rattle.gx_model.specs.Records.{name_of, names_of}
 use Rattle.gx_rev.specs.Objects.{commit_at}
 use Rattle.gx_cli.specs.Stored.{log_line}
-use Rattle.gx_import.specs.Applying.{Took}
+use Rattle.gx_text.specs.Devices.{Took}
 use Rattle.gx_cli.specs.Sending.{PrintsText}
 use Rattle.gx_cli.proofs.ListedCommits.{commit_called}
 use Rattle.gx_cli.proofs.SentLines.{IsSent, cut_short, last_sent, more_sent, none_sent}

@@ -3,7 +3,7 @@ use Rattle.std.specs.List.{flat_map}
 use Rattle.std.proofs.lemmas.Result.{err_from_is_err_and}
 use Rattle.gx_model.specs.Objects.{hex}
 use Rattle.gx_model.specs.Texts.{Bytes}
-use Rattle.gx_import.specs.Applying.{Took}
+use Rattle.gx_text.specs.Devices.{Took}
 use Rattle.gx_cli.specs.Sending.{PrintsText}
 use Rattle.gx_cli.proofs.SentLines.{IsSent, cut_short, from_place, more_sent, past_place}
 use Rattle.gx_cli.proofs.log.print_parents.Goals.{in-Some+in_ok-put_text, in_default}

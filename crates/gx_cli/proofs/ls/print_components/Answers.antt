@@ -3,8 +3,8 @@ use Rattle.std.specs.List.{AllByRecursion, flat_map}
 use Rattle.gx_model.specs.declared.objects.Kind.TheVariants as kinds
 use Rattle.gx_model.specs.HistoryOf.{files_of_tree, value_of_name}
 use Rattle.gx_model.proofs.TreePaths.{entries_of}
-use Rattle.gx_rev.proofs.HeldValues.{got, kind_held}
-use Rattle.gx_rev.proofs.PathSteps.{tree_text_held}
+use Rattle.gx_model.proofs.HeldValues.{got, kind_held}
+use Rattle.gx_model.proofs.HeldTrees.{tree_text_held}
 use Rattle.gx_cli.specs.Listings.{IsListed, entry_line}
 use Rattle.gx_cli.specs.Sending.{PrintsText}
 use Rattle.gx_cli.proofs.ListedEntries.{all_lines, all_listed, content_held}

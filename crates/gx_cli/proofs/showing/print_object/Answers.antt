@@ -1,6 +1,6 @@
 use Rattle.std.proofs.Common.{sym, ◌∙◌}
 use Rattle.gx_model.specs.declared.objects.Kind.TheVariants as kinds
-use Rattle.gx_rev.proofs.HeldValues.{held_kind}
+use Rattle.gx_model.proofs.HeldValues.{held_kind}
 use Rattle.gx_cli.proofs.showing.print_object.Goals as goal
 
 pub tree_listing-requires : goal.tree_listing-requires

@@ -1,9 +1,9 @@
 use Rattle.std.proofs.Common.{◌∙◌, ap}
 use Rattle.gx_model.specs.Records.{named_map}
 use Rattle.gx_model.specs.Values.{files_of}
-use Rattle.gx_tree.specs.HeldTrees.{IsHeldTree}
+use Rattle.gx_model.specs.NameMaps.{IsHeldTree}
 use Rattle.gx_rev.specs.Objects.{commit_at}
-use Rattle.gx_import.proofs.NamedMaps.{files_are_held}
+use Rattle.gx_model.proofs.HeldTrees.{files_are_held}
 use Rattle.gx_export.proofs.commit.files_of.Goals as goal
 
 pub load-requires : goal.load-requires

@@ -3,7 +3,7 @@ use denote.Enum.Bare.{same_true, sameb}
 use Rattle.gx_model.specs.contracts.objects.Mode.{the_type}
 use Rattle.gx_model.specs.declared.objects.Kind.TheVariants as kind
 use Rattle.gx_model.specs.declared.objects.Mode.TheVariants.{Gitlink}
-use Rattle.gx_rev.proofs.HeldValues.{holds_held, kind_held}
+use Rattle.gx_model.proofs.HeldValues.{holds_held, kind_held}
 use Rattle.gx_export.proofs.CommitLines.{file_held}
 use Rattle.gx_export.proofs.commit.place_in.Goals as goal
 

@@ -7,9 +7,9 @@ use Rattle.gx_model.specs.Values.{blob_value}
 use Rattle.std.specs.Option.{option_map}
 use Rattle.gx_model.specs.declared.objects.Kind.TheVariants as kind
 use Rattle.gx_model.specs.RepositoryLaws.{values_of}
-use Rattle.gx_store.specs.Stores.{object_of}
-use Rattle.gx_rev.proofs.HeldValues.{kind_held}
-use Rattle.gx_rev.proofs.Standing.{at_within, some_there}
+use Rattle.gx_model.specs.Histories.{object_of}
+use Rattle.gx_model.proofs.HeldValues.{kind_held}
+use Rattle.gx_model.proofs.Standing.{at_within, some_there}
 use Rattle.gx_rev.specs.Objects.{value_at}
 use Rattle.gx_export.proofs.Placing.{record_here}
 use Rattle.gx_export.specs.Outputs.{Stops, Writes}

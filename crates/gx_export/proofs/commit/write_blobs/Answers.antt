@@ -14,7 +14,7 @@ use Rattle.gx_model.specs.declared.objects.Kind.TheVariants as kind
 use Rattle.gx_model.specs.declared.objects.Mode.TheVariants.{Dir, Gitlink}
 use Rattle.gx_model.specs.Sound as sound
 use Rattle.gx_tree.specs.Lists.{listed}
-use Rattle.gx_rev.proofs.HeldValues.{holds_held}
+use Rattle.gx_model.proofs.HeldValues.{holds_held}
 use Rattle.gx_export.proofs.BlobLists.{blobs_sooner, bytes_append, bytes_named, denied, next_blobs, no_bytes, one_bytes, passes_between, view_next, view_parts}
 use Rattle.gx_export.proofs.CommitLines.{file_held}
 use Rattle.gx_export.proofs.FilePlaces.{as_many_places, place_at}

@@ -8,7 +8,7 @@ use Rattle.gx_model.specs.Export.{dataref_in, dataref_text, mark_text, number_in
 use Rattle.gx_model.specs.HistoryOf.{content_of, named_values}
 use Rattle.gx_model.specs.Objects.{hex}
 use Rattle.gx_rev.specs.Objects.{value_at}
-use Rattle.gx_rev.proofs.HeldValues.{holds_held}
+use Rattle.gx_model.proofs.HeldValues.{holds_held}
 use Rattle.gx_export.specs.Marks.{Adds}
 use Rattle.gx_export.specs.Outputs.{Writes}
 use Rattle.gx_export.specs.Texts.{file_line, items_text}

@@ -5,7 +5,7 @@ use Rattle.gx_model.specs.HistoryOf.{named_values}
 use Rattle.gx_model.specs.RepositoryLaws.{values_of}
 use Rattle.gx_model.specs.Values.{commit_value, files_of, list_of, parents_of, text_of}
 use Rattle.gx_tree.specs.Lists.{listed}
-use Rattle.gx_rev.proofs.Standing.{at_within, commit_name_there}
+use Rattle.gx_model.proofs.Standing.{at_within, commit_name_there}
 use Rattle.gx_export.specs.Marks.{Adds, ArePlaces}
 use Rattle.gx_export.specs.Outputs.{Stops, Writes}
 use Rattle.gx_export.specs.Paths.{HavePathsOfBytes}

@@ -2,7 +2,7 @@ use Rattle.std.proofs.Common.{[], ◌++◌, ◌∙◌, ap, subst, length, Ok, Er
 use Rattle.std.proofs.lemmas.Result.{err_from_is_err_and}
 use Rattle.gx_model.specs.Export.{all_written, export_text, reached_commits}
 use Rattle.gx_model.specs.HistoryOf.{history_of}
-use Rattle.gx_rev.proofs.Standing.{as_many}
+use Rattle.gx_model.proofs.Standing.{as_many}
 use Rattle.gx_export.specs.Outputs.{Stops, Writes}
 use Rattle.gx_export.specs.Texts.{items_text, last_items}
 use Rattle.gx_export.proofs.CommitLists.{commits_items}

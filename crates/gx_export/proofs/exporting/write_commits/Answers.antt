@@ -6,7 +6,7 @@ use Rattle.std.proofs.lemmas.List.{length-map, take_all}
 use Rattle.gx_model.specs.Export.{all_written, one_commit, with_commit}
 use Rattle.gx_model.specs.RepositoryLaws.{values_of}
 use Rattle.gx_model.specs.Values.{Commit, files_of}
-use Rattle.gx_rev.specs.Marks.{holds}
+use Rattle.gx_model.specs.Marks.{holds}
 use Rattle.gx_export.specs.Marks.{Adds}
 use Rattle.gx_export.specs.Outputs.{Stops}
 use Rattle.gx_export.specs.Paths.{HavePathsOfBytes}

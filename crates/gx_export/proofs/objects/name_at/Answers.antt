@@ -1,4 +1,4 @@
-use Rattle.gx_rev.proofs.Standing.{name_there, some_there}
+use Rattle.gx_model.proofs.Standing.{name_there, some_there}
 use Rattle.gx_store.specs.Stores.{seen_at}
 use Rattle.gx_export.proofs.objects.name_at.Goals as goal
 

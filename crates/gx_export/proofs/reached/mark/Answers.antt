@@ -1,8 +1,8 @@
 use Rattle.std.proofs.Common.{◌≡◌, ◌<◌, arith, length}
 use Rattle.gx_model.specs.RepositoryLaws.{values_of}
 use Rattle.gx_rev.specs.Objects.{commit_at, value_at}
-use Rattle.gx_rev.proofs.Marking.{mark_there}
-use Rattle.gx_rev.proofs.Standing.{at_within, commit_at_place}
+use Rattle.gx_model.proofs.Marking.{mark_there}
+use Rattle.gx_model.proofs.Standing.{at_within, commit_at_place}
 use Rattle.gx_export.proofs.reached.mark.Goals as goal
 
 pub returns : goal.returns

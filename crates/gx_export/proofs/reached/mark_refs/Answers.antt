@@ -2,11 +2,10 @@ use Rattle.std.proofs.Common.{[], ◌++◌, ◌∙◌, sym, subst, map, ap}
 use Rattle.std.proofs.lemmas.List.{append-nil}
 use Rattle.std.specs.List.{AllByRecursion}
 use Rattle.gx_model.specs.Sound.{IsTarget}
-use Rattle.gx_import.proofs.KeptRefs.{not_unpeeled, told}
-use Rattle.gx_rev.specs.Marks.{Marks}
+use Rattle.gx_model.proofs.PeeledRefs.{not_unpeeled, target_peels, told}
+use Rattle.gx_model.specs.Marks.{Marks}
 use Rattle.gx_rev.specs.Objects.{commit_at}
-use Rattle.gx_rev.proofs.HeldValues.{peeled_to}
-use Rattle.gx_import.proofs.KeptRefs.{target_peels}
+use Rattle.gx_model.proofs.HeldValues.{peeled_to}
 use Rattle.gx_export.specs.Reaching.{IsTip}
 use Rattle.gx_export.proofs.Ancestry.{next_ref, no_tips, tip_is}
 use Rattle.gx_export.proofs.reached.mark_refs.Goals as goal

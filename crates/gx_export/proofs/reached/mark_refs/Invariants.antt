@@ -3,8 +3,8 @@ use Rattle.std.specs.List.{AllByRecursion}
 use Rattle.gx_model.specs.RepositoryLaws.{values_of}
 use Rattle.gx_model.specs.Sound.{IsTarget}
 use Rattle.gx_model.specs.Texts.{Bytes}
-use Rattle.gx_import.proofs.KeptRefs.{told}
-use Rattle.gx_rev.specs.Marks.{Marks}
+use Rattle.gx_model.proofs.PeeledRefs.{told}
+use Rattle.gx_model.specs.Marks.{Marks}
 use Rattle.gx_export.specs.Reaching.{IsTip}
 use Rattle.gx_export.proofs.reached.mark_refs.Given as goal
 

@@ -1,5 +1,5 @@
 use Rattle.std.proofs.Common.{◌≡◌, ◌∙◌, ap, length, replicate, false}
-use Rattle.gx_rev.proofs.Standing.{as_many}
+use Rattle.gx_model.proofs.Standing.{as_many}
 use Rattle.gx_export.proofs.reached.reached.Goals as goal
 
 pub mark_reached-requires : goal.mark_reached-requires

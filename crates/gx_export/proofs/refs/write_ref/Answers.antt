@@ -10,9 +10,9 @@ use Rattle.gx_model.specs.Growth.{record_named}
 use Rattle.gx_model.specs.HistoryOf.{target_in, value_of_name}
 use Rattle.gx_model.specs.Records.{kind_of}
 use Rattle.gx_model.specs.Values.{commit_value}
-use Rattle.gx_store.specs.Stores.{object_of}
-use Rattle.gx_rev.proofs.HeldValues.{got}
-use Rattle.gx_import.proofs.KeptRefs.{target_peels}
+use Rattle.gx_model.specs.Histories.{object_of}
+use Rattle.gx_model.proofs.HeldValues.{got}
+use Rattle.gx_model.proofs.PeeledRefs.{target_peels}
 use Rattle.gx_export.specs.Outputs.{Writes}
 use Rattle.gx_export.specs.Texts.{command_text, tag_command}
 use Rattle.gx_export.proofs.BlobLists.{denied}

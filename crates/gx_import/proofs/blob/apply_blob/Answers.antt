@@ -1,6 +1,6 @@
 use Rattle.std.proofs.Common.{Ok, Err, refl, subst}
 use Rattle.gx_model.specs.declared.objects.Kind.TheVariants as kinds
-use Rattle.gx_store.specs.Stores.{record_for}
+use Rattle.gx_model.specs.Histories.{record_for}
 use Rattle.gx_repo.specs.Additions.{Adds}
 use Rattle.std.proofs.lemmas.Result.{err_from_is_err_and}
 use Rattle.gx_model.specs.Values.{blob_value}

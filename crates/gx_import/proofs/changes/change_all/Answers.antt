@@ -6,7 +6,8 @@ use Rattle.gx_model.specs.Replay.{State, changed}
 use Rattle.gx_model.specs.Revisions.{revision_of}
 use Rattle.gx_model.specs.RepositoryLaws.{values_of}
 use Rattle.gx_command.specs.Views.{shown_change}
-use Rattle.gx_import.specs.Standing.{AreFiles, Follows, Stands}
+use Rattle.gx_import.specs.Standing.{Follows, Stands}
+use Rattle.gx_model.specs.NameMaps.{AreFiles}
 use Rattle.gx_import.specs.Answers.{AddsAs}
 use Rattle.gx_import.specs.Additions.{Clash, blob_added}
 use Rattle.gx_import.proofs.Extensions.{extends_more, extends_none}

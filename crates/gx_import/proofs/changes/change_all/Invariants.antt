@@ -3,7 +3,8 @@ use Rattle.gx_model.specs.Texts.{Bytes}
 use Rattle.gx_model.specs.Files.{FileMap}
 use Rattle.gx_model.specs.Replay.{State}
 use Rattle.gx_command.specs.Views.{shown_change}
-use Rattle.gx_import.specs.Standing.{AreFiles, Extends, Stands}
+use Rattle.gx_import.specs.Standing.{Extends, Stands}
+use Rattle.gx_model.specs.NameMaps.{AreFiles}
 use Rattle.gx_import.proofs.ChangesSoFar.{AreMade}
 use Rattle.gx_import.proofs.changes.change_all.Given as goal
 

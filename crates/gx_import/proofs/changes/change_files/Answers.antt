@@ -9,11 +9,11 @@ use Rattle.gx_model.specs.Revisions.{revision_of}
 use Rattle.gx_model.specs.Replay.{State, changed}
 use Rattle.gx_command.specs.Views.{shown_change}
 use Rattle.gx_tree.specs.Faults.{fault_of}
-use Rattle.gx_tree.specs.NameMaps.{IsNameMap}
+use Rattle.gx_model.specs.NameMaps.{AreFiles, IsNameMap}
 use Rattle.gx_import.specs.Additions.{Clash, blob_added}
 use Rattle.gx_import.specs.Answers.{AddsAs}
 use Rattle.gx_import.specs.ImportKinds.{of_tree}
-use Rattle.gx_import.specs.Standing.{AreFiles, Follows}
+use Rattle.gx_import.specs.Standing.{Follows}
 use Rattle.gx_import.proofs.EditedFiles.{cleared_kept, copied_free, copied_names, edit_done, edit_refused, removed_kept, removed_names, renamed_free, renamed_names}
 use Rattle.gx_import.proofs.KeptFiles.{IsKnownLeaf, copied_leaves, renamed_leaves}
 use Rattle.gx_import.proofs.changes.change_files.Goals as goal

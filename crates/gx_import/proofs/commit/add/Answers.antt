@@ -12,9 +12,10 @@ use Rattle.gx_command.specs.Views.{commit_parts}
 use Rattle.gx_object.specs.declared.name.Name.{Name}
 use Rattle.gx_repo.specs.Additions.{HasValues}
 use Rattle.gx_import.specs.Objects.{IsTreeOf}
-use Rattle.gx_import.specs.Standing.{AreFiles, Follows}
+use Rattle.gx_import.specs.Standing.{Follows}
+use Rattle.gx_model.specs.NameMaps.{AreFiles}
 use Rattle.gx_import.proofs.Extended.{extended_all, extended_more}
-use Rattle.gx_import.proofs.FilesByName.{contents_told}
+use Rattle.gx_model.proofs.FilesByName.{contents_told}
 use Rattle.gx_import.proofs.GrownStates.{clash_after, clash_first, commits_keep, tree_has, tree_keeps, tree_stands, trees_clash, with_files}
 use Rattle.gx_import.proofs.HeldParts.{holds_kept}
 use Rattle.gx_import.proofs.PartAnswers.{adds_more, puts_refused}

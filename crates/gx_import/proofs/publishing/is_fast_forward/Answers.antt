@@ -1,7 +1,8 @@
 use Rattle.std.proofs.Common.{map, sym, ap, subst, ◌∙◌}
 use Rattle.std.specs.List.{AllByRecursion}
 use Rattle.gx_model.specs.Sound.{IsTarget}
-use Rattle.gx_import.proofs.KeptRefs.{are_kept, fast_forward_is, told}
+use Rattle.gx_import.proofs.KeptRefs.{are_kept, fast_forward_is}
+use Rattle.gx_model.proofs.PeeledRefs.{told}
 use Rattle.gx_import.proofs.publishing.is_fast_forward.Goals as goal
 
 pub loop-name-init : goal.loop-name-init

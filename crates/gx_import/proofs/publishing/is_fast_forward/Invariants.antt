@@ -3,7 +3,8 @@ use Rattle.std.specs.List.{AllByRecursion}
 use Rattle.gx_model.specs.Replay.{State, is_fast_forward}
 use Rattle.gx_model.specs.Sound.{IsTarget}
 use Rattle.gx_import.specs.Standing.{Stands}
-use Rattle.gx_import.proofs.KeptRefs.{are_kept, told}
+use Rattle.gx_import.proofs.KeptRefs.{are_kept}
+use Rattle.gx_model.proofs.PeeledRefs.{told}
 use Rattle.gx_import.proofs.publishing.is_fast_forward.Given as goal
 
 abbrev pub invariant-loop-name : goal.invariant-loop-name

@@ -1,6 +1,7 @@
 use Rattle.std.proofs.Common.{◌∙◌}
 use Rattle.gx_model.specs.HistoryOf.{target_in, value_of_name}
-use Rattle.gx_import.proofs.KeptRefs.{kept_alone, kept_by_new, kept_empty, new_holds, not_unpeeled, old_holds}
+use Rattle.gx_import.proofs.KeptRefs.{kept_alone, kept_by_new, kept_empty, new_holds}
+use Rattle.gx_model.proofs.PeeledRefs.{not_unpeeled, old_holds}
 use Rattle.gx_import.proofs.publishing.is_forward.Goals as goal
 
 pub returns-in_default-clause-forward : goal.returns-in_default-clause-forward

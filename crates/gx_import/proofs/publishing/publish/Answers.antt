@@ -1,7 +1,7 @@
 use Rattle.std.proofs.Common.{◌≡◌, ◌+◌, [], length, map, sym, ap, ◌∙◌, arith}
 use Rattle.std.proofs.lemmas.List.{length-map}
 use Rattle.gx_model.specs.Replay.{overwritten}
-use Rattle.gx_repo.specs.Publishing.{changes_fault, with_changes}
+use Rattle.gx_model.specs.Publishing.{changes_fault, with_changes}
 use Rattle.gx_repo.specs.Refs.{asked}
 use Rattle.gx_import.proofs.SetRefs.{changes_free, final_set}
 use Rattle.gx_import.proofs.CountedRefs.{changes_counted}

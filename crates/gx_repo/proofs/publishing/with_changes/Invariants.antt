@@ -1,7 +1,7 @@
 use Rattle.std.proofs.Common.{◌≡◌, map, drop, IsTrue}
 use Rattle.std.specs.FinMap.Entries.{is_sorted}
 use Rattle.gx_model.specs.Replay.{byte_cmp}
-use Rattle.gx_repo.specs.Publishing.{with_changes}
+use Rattle.gx_model.specs.Publishing.{with_changes}
 use Rattle.gx_repo.specs.Refs.{asked, kept}
 use Rattle.gx_repo.proofs.publishing.with_changes.Given as goal
 

@@ -1,5 +1,5 @@
 use Rattle.gx_store.specs.declared.prefix.Prefix.TheVariants as prefix
-use Rattle.gx_rev.proofs.Bases.{prefix_tells}
+use Rattle.gx_rev.proofs.Prefixes.{prefix_tells}
 use Rattle.gx_rev.proofs.base.find_digits.Goals as goal
 
 pub returns-in-Unique-clause-value : goal.returns-in-Unique-clause-value

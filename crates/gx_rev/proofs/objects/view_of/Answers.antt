@@ -1,7 +1,8 @@
 use Rattle.std.proofs.Common.{ap}
-use Rattle.gx_rev.proofs.HeldValues.{commit_text_held, got, kind_held}
+use Rattle.gx_model.proofs.HeldValues.{commit_text_held, got, kind_held}
 use Rattle.gx_model.specs.declared.objects.Kind.TheVariants as kinds
-use Rattle.gx_rev.specs.Objects.{commit_at, parts_of_commit}
+use Rattle.gx_rev.specs.Objects.{commit_at}
+use Rattle.gx_model.specs.Records.{parts_of_commit}
 use Rattle.gx_rev.proofs.objects.view_of.Goals as goal
 
 pub unreachable-requires-in_default-decode_commit : goal.unreachable-requires-in_default-decode_commit

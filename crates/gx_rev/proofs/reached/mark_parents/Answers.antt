@@ -1,8 +1,8 @@
 use Rattle.std.proofs.Common.{◌≡◌, ◌≤◌, ◌∙◌, ap, arith, length, rules}
 use Rattle.gx_model.specs.Values.{list_of, parents_of}
 use Rattle.gx_rev.specs.Objects.{commit_at}
-use Rattle.gx_rev.proofs.HeldValues.{names_long, no_parent_there, parent_there}
-use Rattle.gx_rev.proofs.Marking.{all_parents, next_marked, no_next}
+use Rattle.gx_model.proofs.HeldValues.{names_long, no_parent_there, parent_there}
+use Rattle.gx_model.proofs.Marking.{all_parents, next_marked, no_next}
 use Rattle.gx_rev.proofs.reached.mark_parents.Goals as goal
 use Rattle.gx_rev.proofs.reached.mark_parents.Goals.{in-Some, in_default}
 

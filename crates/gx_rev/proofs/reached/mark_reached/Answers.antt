@@ -2,9 +2,9 @@ use Rattle.std.proofs.Common.{◌≡◌, ◌+◌, ◌-◌, false, ◌∙◌, ap,
 use Rattle.std.proofs.lemmas.List.{length-replicate}
 use Rattle.gx_model.specs.RepositoryLaws.{values_of}
 use Rattle.gx_rev.specs.Objects.{commit_at}
-use Rattle.gx_rev.proofs.HeldValues.{commit_held}
-use Rattle.gx_rev.proofs.Marking.{AreMarked, all_reached, first_marked, marked_parents, passed}
-use Rattle.gx_rev.proofs.Standing.{commit_at_place, commit_name_there, stands_at}
+use Rattle.gx_model.proofs.HeldValues.{commit_held}
+use Rattle.gx_model.proofs.Marking.{AreMarked, all_reached, first_marked, marked_parents, passed}
+use Rattle.gx_model.proofs.Standing.{commit_at_place, commit_name_there, stands_at}
 use Rattle.gx_rev.proofs.reached.mark_reached.Goals as goal
 
 pub loop-left-init : goal.loop-left-init

@@ -1,7 +1,7 @@
 use Rattle.std.proofs.Common.{◌≡◌, length, ◌≤◌}
 use Rattle.gx_model.specs.RepositoryLaws.{values_of}
 use Rattle.gx_rev.specs.Objects.{commit_at}
-use Rattle.gx_rev.proofs.Marking.{AreMarked}
+use Rattle.gx_model.proofs.Marking.{AreMarked}
 use Rattle.gx_rev.proofs.reached.mark_reached.Given as goal
 
 abbrev pub invariant-loop-left : goal.invariant-loop-left

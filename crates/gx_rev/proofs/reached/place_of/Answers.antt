@@ -2,7 +2,7 @@ use Rattle.std.proofs.Common.{◌≡◌, ◌<◌, arith, length, Some, ◌∙◌
 use Rattle.gx_model.proofs.PathTests.{is_same, is_true}
 use Rattle.gx_model.specs.RepositoryLaws.{values_of}
 use Rattle.gx_rev.specs.Objects.{value_at}
-use Rattle.gx_rev.proofs.Standing.{as_many, at_within, same_name, stands_at}
+use Rattle.gx_model.proofs.Standing.{as_many, at_within, same_name, stands_at}
 use Rattle.gx_rev.proofs.reached.place_of.Goals as goal
 
 pub name_at-requires : goal.name_at-requires

@@ -1,6 +1,6 @@
 use Rattle.std.proofs.Common.{ap, ◌∙◌}
 use Rattle.gx_rev.specs.Objects.{value_at}
-use Rattle.gx_rev.proofs.HeldValues.{blob_body, got}
+use Rattle.gx_model.proofs.HeldValues.{blob_body, got}
 use Rattle.gx_rev.proofs.shown.blob_of.Goals as goal
 
 pub returns : goal.returns

@@ -3,7 +3,7 @@ use Rattle.std.proofs.lemmas.List.{map-append}
 use Rattle.gx_model.specs.RepositoryLaws.{values_of}
 use Rattle.gx_rev.specs.Objects.{value_at}
 use Rattle.gx_rev.specs.Walking.{names_back}
-use Rattle.gx_rev.proofs.HeldValues.{held_is}
+use Rattle.gx_model.proofs.HeldValues.{held_is}
 use Rattle.gx_rev.proofs.WordMarks.{names_step, value_there}
 use Rattle.gx_rev.proofs.walking.names_marked.Goals as goal
 

@@ -6,7 +6,7 @@ use Rattle.gx_model.specs.Ranges.{reaches}
 use Rattle.gx_model.specs.RepositoryLaws.{values_of}
 use Rattle.gx_model.specs.Values.{list_of, parents_of}
 use Rattle.gx_rev.specs.Objects.{commit_at}
-use Rattle.gx_rev.proofs.HeldValues.{names_long, no_parent_there, parent_there}
+use Rattle.gx_model.proofs.HeldValues.{names_long, no_parent_there, parent_there}
 use Rattle.gx_rev.proofs.WordMarks.{any_next, marks_either, same_marks, some_is_any, take_past}
 use Rattle.gx_rev.proofs.walking.parents_reached.Goals as goal
 use Rattle.gx_rev.proofs.walking.parents_reached.Goals.{in-Some+in_ok-others, in_default}

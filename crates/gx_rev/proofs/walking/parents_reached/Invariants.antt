@@ -3,7 +3,7 @@ use Rattle.std.specs.List.{list_any}
 use Rattle.gx_model.specs.Ranges.{reaches}
 use Rattle.gx_model.specs.RepositoryLaws.{values_of}
 use Rattle.gx_model.specs.Values.{list_of, parents_of}
-use Rattle.gx_rev.specs.Marks.{marks_of}
+use Rattle.gx_model.specs.Marks.{marks_of}
 use Rattle.gx_rev.specs.Objects.{commit_at}
 use Rattle.gx_rev.proofs.walking.parents_reached.Given as goal
 

@@ -1,6 +1,6 @@
 use Rattle.std.proofs.Common.{◌≡◌, ◌∙◌, ap, length, replicate, false}
 use Rattle.gx_model.specs.RepositoryLaws.{values_of}
-use Rattle.gx_rev.proofs.Standing.{as_many}
+use Rattle.gx_model.proofs.Standing.{as_many}
 use Rattle.gx_rev.proofs.WordMarks.{no_marks}
 use Rattle.gx_rev.proofs.walking.unmarked.Goals as goal
 

@@ -5,7 +5,8 @@ use Rattle.gx_model.specs.Growth.{put, put_all, tree_records}
 use Rattle.gx_model.specs.Objects.{IsTreeText, is_canonical}
 use Rattle.gx_object.specs.Entries.{shown}
 use Rattle.gx_object.specs.declared.name.Name.{Name}
-use Rattle.gx_store.specs.Stores.{Puts, record_for}
+use Rattle.gx_store.specs.Stores.{Puts}
+use Rattle.gx_model.specs.Histories.{record_for}
 use Rattle.gx_model.specs.declared.objects.Mode.{Mode}
 use Rattle.gx_tree.specs.StoreFaults.{tree_fault}
 use Rattle.gx_tree.specs.Views.{kept, seen_all}

@@ -1,11 +1,10 @@
 use Rattle.std.proofs.Common.{◌++◌, ◌∷◌, [], map, take, sym, subst, ap, ◌∙◌}
-use Rattle.gx_model.specs.Histories.{Record, Records, with_one}
+use Rattle.gx_model.specs.Histories.{Record, Records, record_for, with_one}
 use Rattle.gx_model.specs.HistoryOf.{named_values, value_in}
 use Rattle.gx_model.specs.RepositoryLaws.{values_of}
-use Rattle.gx_model.specs.Sound.{Holds, IsSound}
-use Rattle.gx_store.specs.Stores.{record_for}
-use Rattle.gx_tree.proofs.Puts.{front_put}
-use Rattle.gx_repo.specs.Additions.{HasValues, Keeps}
+use Rattle.gx_model.specs.Sound.{Holds, IsSound, Keeps}
+use Rattle.gx_model.proofs.Puts.{front_put}
+use Rattle.gx_repo.specs.Additions.{HasValues}
 use Rattle.gx_repo.specs.Refs.{kept}
 use Rattle.gx_repo.specs.Rooms.{rooms_of}
 use Rattle.gx_repo.proofs.Additions.{put_grown, put_is_sound}

@@ -1,5 +1,5 @@
 use Rattle.std.proofs.Common.{length, sym, ap, ◌∙◌}
-use Rattle.gx_store.specs.Stores.{record_for}
+use Rattle.gx_model.specs.Histories.{record_for}
 use Rattle.gx_repo.proofs.AddedRecords.{acceptable, duplicate, put_refused, refused}
 use Rattle.gx_repo.proofs.HeldRecords.{put_held, put_last}
 use Rattle.gx_repo.proofs.repo.Repo.add_record.Goals as goal

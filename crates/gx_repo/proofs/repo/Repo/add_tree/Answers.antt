@@ -3,8 +3,8 @@ use Rattle.gx_model.specs.Histories.{Records, with_tree}
 use Rattle.gx_model.specs.HistoryOf.{contents_of, named_values}
 use Rattle.gx_model.specs.RepositoryLaws.{values_of}
 use Rattle.gx_model.specs.declared.objects.Kind.TheVariants as kinds
-use Rattle.gx_model.specs.Sound.{Holds, IsSound}
-use Rattle.gx_repo.specs.Additions.{HasValues, Keeps}
+use Rattle.gx_model.specs.Sound.{Holds, IsSound, Keeps}
+use Rattle.gx_repo.specs.Additions.{HasValues}
 use Rattle.gx_repo.specs.Refs.{kept}
 use Rattle.gx_repo.specs.Rooms.{rooms_of}
 use Rattle.gx_repo.proofs.Additions.{trees_grown}

@@ -1,7 +1,7 @@
 use Rattle.std.proofs.Common.{map, sym}
 use Rattle.gx_model.specs.Histories.{Records}
 use Rattle.gx_repo.specs.Refs.{asked, kept}
-use Rattle.gx_repo.proofs.PublishedRefs.{published_is_sound}
+use Rattle.gx_model.proofs.ChangedRefs.{published_is_sound}
 use Rattle.gx_repo.proofs.repo.Repo.publish.Goals as goal
 
 pub invariant_of-self : goal.invariant_of-self

@@ -1,6 +1,6 @@
 use Rattle.std.proofs.Common.{sym, subst}
 use Rattle.gx_model.specs.Sound.{IsNamedMap}
-use Rattle.gx_repo.proofs.NamedMaps.{named_kept}
+use Rattle.gx_model.proofs.NamedMaps.{named_kept}
 use Rattle.gx_rev.proofs.tests.sample.add_commit.Goals as goal
 
 pub returns-then-not-are_held : goal.returns-then-not-are_held

@@ -1,5 +1,6 @@
 use Rattle.gx_model.specs.declared.objects.Mode.TheVariants.{File}
-use Rattle.gx_repo.proofs.NamedMaps.{named_after, named_kept}
+use Rattle.gx_tree.specs.Faults.{fault_of}
+use Rattle.gx_model.proofs.NamedMaps.{named_after, named_kept}
 use Rattle.gx_rev.proofs.tests.sample.add_file.Goals as goal
 
 pub returns : goal.returns
@@ -7,4 +8,4 @@ returns g c =
     let old = c.args.repo.now.1.records in
     let new = c.add_blob.new.self.1.records in
     let files = c.args.tree.now in
-    named_after new c.in-Ok.path (File, c.in-Ok-add_blob.name.bytes) files c.modify.new.self c.modify.result c.modify.ensures.map c.modify.ensures.unchanged c.in-Ok-add_blob.ensures.held (named_kept old new c.add_blob.ensures.keeps files c.requires) c.name_map.ensures
+    named_after fault_of new c.in-Ok.path (File, c.in-Ok-add_blob.name.bytes) files c.modify.new.self c.modify.result c.modify.ensures.map c.modify.ensures.unchanged c.in-Ok-add_blob.ensures.held (named_kept old new c.add_blob.ensures.keeps files c.requires) c.name_map.ensures

@@ -1,6 +1,6 @@
 use Rattle.std.proofs.Common.{rules, ◌≡◌, subst}
 use Rattle.gx_model.specs.Sound.{Holds}
-use Rattle.gx_repo.proofs.HeldObjects.{held_shown, is_shown}
+use Rattle.gx_model.proofs.HeldObjects.{held_shown, is_shown}
 use Rattle.gx_rev.proofs.tests.sample.is_held.Goals as goal
 
 pub returns : goal.returns

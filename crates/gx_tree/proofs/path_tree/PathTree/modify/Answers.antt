@@ -1,6 +1,6 @@
 use Rattle.std.proofs.Common.{◌<◌, ◌∷◌, [], length, Ok, sym, ap, ◌∙◌, arith, subst}
 use Rattle.gx_model.specs.Objects.{is_name}
-use Rattle.gx_tree.specs.NameMaps.{IsNameMap}
+use Rattle.gx_model.specs.NameMaps.{IsNameMap}
 use Rattle.gx_tree.specs.Steps.{grafted}
 use Rattle.gx_tree.proofs.NamedFiles.{modified_is, names-modified}
 use Rattle.gx_tree.proofs.path_tree.PathTree.modify.Goals as goal

@@ -1,6 +1,6 @@
 use Rattle.std.proofs.Common.{sym, ap, ◌∙◌, subst}
 use Rattle.gx_model.specs.Edits.{removed}
-use Rattle.gx_tree.specs.NameMaps.{IsNameMap}
+use Rattle.gx_model.specs.NameMaps.{IsNameMap}
 use Rattle.gx_tree.proofs.NamedFiles.{names-removed}
 use Rattle.gx_tree.proofs.path_tree.PathTree.remove.Goals as goal
 

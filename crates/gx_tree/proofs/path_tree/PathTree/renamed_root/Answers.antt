@@ -3,7 +3,7 @@ use Rattle.gx_model.specs.Edits.{renamed, removed, unless}
 use Rattle.gx_model.specs.Faults.{IsFaultOf}
 use Rattle.gx_tree.specs.Copies.{kept_held}
 use Rattle.gx_tree.specs.Faults.{fault_of}
-use Rattle.gx_tree.specs.NameMaps.{IsNameMap}
+use Rattle.gx_model.specs.NameMaps.{IsNameMap}
 use Rattle.gx_tree.specs.Nodes.{kept_map}
 use Rattle.gx_tree.specs.Steps.{grafted}
 use Rattle.gx_tree.proofs.CopyLaws.{renamed_is, renamed_none, refused_by}

@@ -1,6 +1,6 @@
 use Rattle.std.proofs.Common.{subst}
 use Rattle.std.specs.Prelude.{IfOk}
-use Rattle.gx_tree.specs.HeldTrees.{IsHeldTree}
+use Rattle.gx_model.specs.NameMaps.{IsHeldTree}
 use Rattle.gx_tree.proofs.HeldRecords.{held_if_written}
 use Rattle.gx_tree.proofs.path_tree.PathTree.write.Goals as goal
 

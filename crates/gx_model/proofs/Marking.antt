@@ -16,8 +16,8 @@ use Rattle.gx_model.specs.Sound.{IsSound}
 use Rattle.gx_model.proofs.PathTests.{is_true, one_of}
 use Rattle.gx_model.proofs.ReachedCommits.{closed, itself}
 use Rattle.gx_model.proofs.SameValues.{commit_is}
-use Rattle.gx_rev.specs.Marks.{IsAt, IsMarked, Marks, holds, marks_of}
-use Rattle.gx_rev.proofs.Standing.{parent_before, same_place}
+use Rattle.gx_model.specs.Marks.{IsAt, IsMarked, Marks, holds, marks_of}
+use Rattle.gx_model.proofs.Standing.{parent_before, same_place}
 
 -- one of the first n
 abbrev pub IsBefore : List Commit → ℕ → Commit → Type 0

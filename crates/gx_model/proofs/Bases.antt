@@ -15,22 +15,18 @@ use Rattle.gx_model.specs.Values.{Value, is_hex_digit}
 use Rattle.gx_model.specs.Objects.{IsNamer, hex, unhex}
 use Rattle.gx_model.specs.Naming.{name_in}
 use Rattle.gx_model.proofs.BodiesReadBack.{unhex_hex}
-use Rattle.gx_object.proofs.Digits.{hex_long, hex_unhex}
+use Rattle.gx_model.proofs.NameDigits.{hex_long, hex_unhex}
 use Rattle.gx_model.specs.Records.{body_of, kind_of, name_of}
-use Rattle.gx_model.specs.Histories.{IsIn, Record, Records, Target, record_of, value_at}
+use Rattle.gx_model.specs.Histories.{IsIn, Record, Records, Target, object_of, value_at}
 use Rattle.gx_model.specs.HistoryOf.{history_of, target_in, value_of_name}
 use Rattle.gx_model.specs.Growth.{record_named}
 use Rattle.gx_model.specs.Sound.{IsSound}
-use Rattle.gx_model.specs.Lookups.{first_named, or_else, records_begun_by}
+use Rattle.gx_model.specs.Lookups.{first_named, or_else}
 use Rattle.gx_model.specs.Denotation.{base_value, begins_with_digits, begun_by, find_ref, first_ref, full_name, is_any_digit, lower, or_ref, ref_at, ref_names, the_one}
 use Rattle.gx_model.proofs.PathTests.{is_same, is_true, same_is}
 use Rattle.gx_model.proofs.HistoriesExist.{stands}
-use Rattle.gx_model.proofs.FoundRecords.{digits_find, first_found}
-use Rattle.gx_store.specs.declared.prefix.Prefix.TheVariants as prefix
-use Rattle.gx_store.specs.declared.prefix.Prefix.{Prefix}
-use Rattle.gx_store.specs.Prefixes.{prefix_of}
-use Rattle.gx_store.specs.Stores.{object_of}
-use Rattle.gx_rev.proofs.HeldValues.{held_is, kind_held, value_held}
+use Rattle.gx_model.proofs.FoundRecords.{first_found}
+use Rattle.gx_model.proofs.HeldValues.{held_is, kind_held, value_held}
 
 -- what a filter leaves
 in_filtered : (t : Value → Bool) (vs : List Value) (v : Value) → IsIn (filter t vs) v → IsIn vs v × (t v ≡ true)
@@ -88,7 +84,7 @@ module _ (name : Kind → Bytes → Bytes) (namer : IsNamer name) (r : Records) 
   abbrev Stands : Value → Type 0
   Stands = IsIn (history_of r).values
 
-  value_is_held : (v : Value) (n : Bytes) → Stands v → n ≡ name_of name v → IsTrue (is_some (record_named r.records n)) × (Named n ≡ v)
+  pub value_is_held : (v : Value) (n : Bytes) → Stands v → n ≡ name_of name v → IsTrue (is_some (record_named r.records n)) × (Named n ≡ v)
   value_is_held v n i s =
       let h = value_held name namer r sound (kind_of name v) v n i refl s in
       ((kind_held name namer r sound (kind_of name v) n h.0).0, h.1)
@@ -104,23 +100,8 @@ module _ (name : Kind → Bytes → Bytes) (namer : IsNamer name) (r : Records) 
   abbrev pub begun : Bytes → List Value
   begun digits = begun_by name (history_of r) digits
 
-  begun_stands : (digits : Bytes) (v : Value) → IsIn (begun digits) v → Stands v
+  pub begun_stands : (digits : Bytes) (v : Value) → IsIn (begun digits) v → Stands v
   begun_stands digits v i = (in_filtered (λ u. begins_with_digits digits (name_of name u)) (history_of r).values v i).0
-
-  -- what a prefix says of the values that it begins
-  abbrev pub PrefixTells : Prefix → List Value → Type 0
-  PrefixTells (prefix.Unique n) vs = (the_one name vs ≡ Ok (Named n.bytes)) × IsTrue (is_some (record_named r.records n.bytes))
-  PrefixTells prefix.Absent vs = the_one name vs ≡ Err fault.UnknownRef
-  PrefixTells prefix.Ambiguous vs = the_one name vs ≡ Err fault.Ambiguous
-
-  tells : (vs : List Value) → ((v : Value) → IsIn vs v → Stands v) → PrefixTells (prefix_of (map (record_of name) vs)) vs
-  tells [] k = refl
-  tells (v ∷ []) k = let h = value_is_held v (name_of name v) (k v (inl refl)) refl in (ap Ok (sym h.1), h.0)
-  tells (v ∷ w ∷ vs) k = refl
-
-  pub prefix_tells : (digits : Bytes) (p : Prefix) → p ≡ prefix_of (records_begun_by r.records digits) → PrefixTells p (begun digits)
-  prefix_tells digits p e =
-      subst (λ q. PrefixTells q (begun digits)) (sym (e ∙ ap prefix_of (sym (digits_find name namer r sound digits)))) (tells (begun digits) (begun_stands digits))
 
   -- ---- refs
 

@@ -1,5 +1,5 @@
 -- What the names of held objects give: values of the history, their commits, parents and file maps.
-use Rattle.std.proofs.Common.{◌≡◌, ℕ, zero, suc, ◌-◌, ◌<◌, Bool, true, false, cond, refl, sym, ap, subst, ◌∙◌, arith, List, [], ◌∷◌, map, length, Option, None, Some, Ok, Err}
+use Rattle.std.proofs.Common.{◌≡◌, ℕ, zero, suc, ◌-◌, ◌<◌, Bool, true, false, refl, sym, ap, subst, ◌∙◌, arith, List, [], ◌∷◌, map, length, Option, None, Some, Ok, Err}
 use Rattle.std.specs.Prelude.{T, is_some, IsTrue}
 use Rattle.std.specs.Bool.{passes}
 use Rattle.std.specs.List.{AllByRecursion, list_all, slice_get}
@@ -7,27 +7,26 @@ use Rattle.std.specs.Option.{option_map}
 use Rattle.gx_model.specs.declared.faults.Fault.TheVariants as fault
 use Rattle.gx_model.specs.declared.objects.Kind.{Kind}
 use Rattle.gx_model.specs.declared.objects.Kind.TheVariants as kind
-use Rattle.gx_model.specs.Texts.{Bytes, same_bytes}
+use Rattle.gx_model.specs.Texts.{Bytes}
 use Rattle.gx_model.specs.Faults.{and_then}
 use Rattle.gx_model.specs.Values.{Commit, Commits, Value, blob_value, commit, commit_value, files_of, is_content, is_proper_text, list_of, more, none, parents_of, tag_value, text_of, tree_value}
 use Rattle.gx_model.specs.Objects.{IsCommitText, IsNamer, is_name}
-use Rattle.gx_model.specs.Records.{body_of, commit_body, kind_of, name_of, names_of, tree_body, named_map}
-use Rattle.gx_model.specs.Histories.{IsIn, IsWhole, Record, Records, record_of}
+use Rattle.gx_model.specs.Records.{body_of, commit_body, kind_of, name_of, named_map, names_of, parts_of_commit, tree_body}
+use Rattle.gx_model.specs.Histories.{IsIn, IsWhole, Record, Records, object_of, record_of}
 use Rattle.gx_model.specs.HistoryOf.{bytes_of_blob, commit_of_value, files_of_tree, history_of, value_named, value_of_name}
 use Rattle.gx_model.specs.Growth.{record_named, same_kind}
 use Rattle.gx_model.specs.RecordFaults.{is_held, is_of_kind}
 use Rattle.gx_model.specs.Sound.{AnyByRecursion, Holds, IsSound}
 use Rattle.gx_model.specs.Lookups.{commit_name_of, commit_named}
-use Rattle.gx_model.specs.Denotation.{commit_in, files_in, nth_ancestor, nth_parent, only_blob, only_commit, only_tag, or_no_parent, peel}
-use Rattle.gx_model.proofs.PathTests.{both, is_true, same_is, second}
-use Rattle.gx_model.proofs.LinkedValues.{found, is_commit, is_tree, named, parts_in, proper_in}
+use Rattle.gx_model.specs.Denotation.{commit_in, files_in, nth_ancestor, nth_parent, or_no_parent, peel}
+use Rattle.gx_model.proofs.PathTests.{both, is_true, second}
+use Rattle.gx_model.proofs.LinkedValues.{found, holds, is_commit, is_tree, named, parts_in, proper_in}
 use Rattle.gx_model.proofs.TreePaths.{name_is_name}
 use Rattle.gx_model.proofs.GrownRecords.{distinct_of, whole_of}
 use Rattle.gx_model.proofs.HistoriesExist.{stands}
 use Rattle.gx_model.proofs.HeldNames.{finds, value_found}
+use Rattle.gx_model.proofs.HeldObjects.{named_so}
 use Rattle.gx_model.proofs.FoundRecords.{commits_found}
-use Rattle.gx_store.specs.Stores.{object_of}
-use Rattle.gx_rev.specs.Objects.{only, parts_of_commit}
 
 kind_same : (k l : Kind) → T (same_kind k l) → k ≡ l
 kind_same kind.Blob kind.Blob h = refl
@@ -52,14 +51,6 @@ same_as kind.Blob = tt
 same_as kind.Tree = tt
 same_as kind.Commit = tt
 same_as kind.Tag = tt
-
-name_found : (rs : List Record) (n : Bytes) (s : Record) → record_named rs n ≡ Some s → s.name ≡ n
-name_found [] n s e = absurd cc
-name_found (r ∷ rs) n s e =
-    elim (same_bytes n r.name) as (λ b. same_bytes n r.name ≡ b → cond b (Some r) (record_named rs n) ≡ Some s → s.name ≡ n) [
-      | true ↦ λ k l. let same : r ≡ s = cc l in ap (λ z. z.name) (sym same) ∙ sym (same_is n r.name (passes _ k))
-      | false ↦ λ k l. name_found rs n s l
-    ] refl e
 
 -- the file map of a commit or a tag is its commit's
 files_by_commit : (v : Value) (c : Commit) → commit_in v ≡ Ok c → files_in v ≡ Ok (files_of c)
@@ -114,7 +105,7 @@ module _ (name : Kind → Bytes → Bytes) (namer : IsNamer name) (r : Records) 
       by None e k = absurd cc
       by (Some s) e k =
           let f = finds name namer r sound n s e in
-          record { stands = f.0; named = ap (λ z. z.name) f.1 ∙ name_found r.records n s e; found = e ∙ ap Some (sym f.1) }
+          record { stands = f.0; named = ap (λ z. z.name) f.1 ∙ named_so r.records n s e; found = e ∙ ap Some (sym f.1) }
 
   -- what is held as of a kind is held, and its value is of that kind
   pub kind_held : (k : Kind) (n : Bytes) → IsTrue (is_held r.records k n) → IsTrue (is_some (record_named r.records n)) × (kind_of name (Named n) ≡ k)
@@ -133,6 +124,12 @@ module _ (name : Kind → Bytes → Bytes) (namer : IsNamer name) (r : Records) 
       let f = value_found name namer r sound v i in
       let g : record_named r.records n ≡ Some (record_of name v) = ap (record_named r.records) s ∙ f.0 in
       (subst (λ o. IsTrue (is_of_kind k o)) (sym g) (subst (λ l. IsTrue (same_kind l k)) (sym e) (is_true _ (same_as k))), ap Named s ∙ f.1)
+
+  -- it is among the records
+  pub value_holds : (v : Value) → Stands v → Holds r.records (kind_of name v) (name_of name v)
+  value_holds v i =
+      subst (λ rs. Holds rs (kind_of name v) (name_of name v)) (sym (stands name namer r sound).records)
+      (holds name (λ held. (held.kind ≡ kind_of name v) × (held.name ≡ name_of name v)) (history_of r).values v i (refl, refl))
 
   -- what is held by its kind and name
   pub holds_held : (k : Kind) (n : Bytes) → Holds r.records k n → IsTrue (is_held r.records k n)
@@ -304,27 +301,6 @@ module _ (name : Kind → Bytes → Bytes) (namer : IsNamer name) (r : Records) 
 
   pub unpeeled_value : (n : Bytes) → IsTrue (is_some (record_named r.records n)) → None ≡ commit_named r.records n → Named n ≡ peel (Named n)
   unpeeled_value n h e = no_peel (Named n) (e ∙ commit_name n h)
-
--- ---- objects of one kind
-
-module _ (name : Kind → Bytes → Bytes) where
-  pub commit_only : (v : Value) → only name kind.Commit v ≡ only_commit v
-  commit_only (blob_value x) = refl
-  commit_only (tree_value f) = refl
-  commit_only (commit_value d) = refl
-  commit_only (tag_value t) = refl
-
-  pub blob_only : (v : Value) → only name kind.Blob v ≡ only_blob v
-  blob_only (blob_value x) = refl
-  blob_only (tree_value f) = refl
-  blob_only (commit_value d) = refl
-  blob_only (tag_value t) = refl
-
-  pub tag_only : (v : Value) → only name kind.Tag v ≡ only_tag v
-  tag_only (blob_value x) = refl
-  tag_only (tree_value f) = refl
-  tag_only (commit_value d) = refl
-  tag_only (tag_value t) = refl
 
 -- two kinds are equal or not
 pub kinds_same : (k l : Kind) → k ≡ l → same_kind k l ≡ true

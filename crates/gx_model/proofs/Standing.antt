@@ -19,8 +19,8 @@ use Rattle.gx_model.specs.Sound.{IsSound}
 use Rattle.gx_model.proofs.OneHistory.{no_other}
 use Rattle.gx_model.proofs.GrownRecords.{distinct_of}
 use Rattle.gx_model.proofs.HistoriesExist.{stands}
-use Rattle.gx_rev.specs.Marks.{IsAt}
-use Rattle.gx_rev.proofs.HeldValues.{all_whole, commit_stands, held_is, held_kind, kind_held, value_held}
+use Rattle.gx_model.specs.Marks.{IsAt}
+use Rattle.gx_model.proofs.HeldValues.{all_whole, commit_stands, held_is, held_kind, kind_held, value_held}
 
 -- ---- places in a list
 

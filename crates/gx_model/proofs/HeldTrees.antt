@@ -1,5 +1,5 @@
--- The map of names of a commit's files, and its trees among the records.
-use Rattle.std.proofs.Common.{◌≡◌, ◌≢◌, true, ℕ, zero, suc, ◌<◌, ◌+◌, ◌*◌, arith, length, eq-eqb, refl, sym, subst, List, [], ◌∷◌, map, Some, Ok}
+-- The map of names of a file map's contents, its trees among the records, and their texts.
+use Rattle.std.proofs.Common.{◌≡◌, ◌≢◌, true, ℕ, zero, suc, ◌<◌, ◌+◌, ◌*◌, arith, length, eq-eqb, refl, sym, ap, subst, ◌∙◌, List, [], ◌∷◌, map, Some}
 use Rattle.std.specs.Prelude.{T, ◌&&◌, not, nat_lt, IsTrue}
 use Rattle.std.specs.Bool.{passes}
 use Rattle.std.specs.List.{AllByRecursion, flat_map, list_all}
@@ -12,33 +12,28 @@ use Rattle.gx_model.specs.declared.objects.Kind.TheVariants as kind
 use Rattle.gx_model.specs.declared.objects.Mode.{Mode}
 use Rattle.gx_model.specs.declared.objects.Mode.TheVariants.{File, Exec, Link, Gitlink, Dir}
 use Rattle.gx_model.specs.Texts.{Bytes}
-use Rattle.gx_model.specs.Faults.{IsFaultOf}
 use Rattle.gx_model.specs.Paths.{Path, are_in_line, is_file_path, path_cmp}
 use Rattle.gx_model.specs.Files.{FileMap, are_apart, are_file_paths, is_file_map}
 use Rattle.gx_model.specs.Values.{Value, blobs_of, commit_value, files_of, is_content, is_hex_digit, is_leaf, sub_maps, tree_value}
-use Rattle.gx_model.specs.Objects.{IsNamer, digit_value, is_name, unhex}
-use Rattle.gx_model.specs.Records.{content_name, named_map, tree_name}
+use Rattle.gx_model.specs.Objects.{IsNamer, IsTreeText, digit_value, is_name, unhex}
+use Rattle.gx_model.specs.Records.{body_of, content_name, named_map, tree_body, tree_name}
 use Rattle.gx_model.specs.Histories.{IsIn, IsWhole, Record, Records, record_of}
-use Rattle.gx_model.specs.HistoryOf.{commit_of_value, history_of, value_of_name}
+use Rattle.gx_model.specs.HistoryOf.{commit_of_value, files_of_tree, history_of, value_of_name}
 use Rattle.gx_model.specs.Growth.{all_trees, all_trees_to, record_named}
 use Rattle.gx_model.specs.RecordFaults.{is_held}
 use Rattle.gx_model.specs.Sound.{IsSound}
 use Rattle.gx_model.proofs.PathTests.{both, first, second, is_true}
 use Rattle.gx_model.proofs.OneTree.{all_right, digits_of, forty, unhex_long}
 use Rattle.gx_model.proofs.HexDigits.{value_is}
-use Rattle.gx_model.proofs.TreePaths.{name_is_name}
+use Rattle.gx_model.proofs.TreePaths.{content_in, entries_of, name_is_name, text_of_tree}
 use Rattle.gx_model.proofs.AddedValues.{all_join}
 use Rattle.gx_model.proofs.LinkedValues.{parts_in, proper_in}
 use Rattle.gx_model.proofs.GrownTrees.{trees_named}
 use Rattle.gx_model.proofs.HeldNames.{value_found}
-use Rattle.gx_tree.specs.NameMaps.{IsNameMap}
-use Rattle.gx_tree.specs.HeldTrees.{IsHeldTree}
-use Rattle.gx_tree.specs.Faults as tree_faults
-use Rattle.gx_tree.specs.declared.fault.TreeFault.{TreeFault}
-use Rattle.gx_tree.specs.declared.fault.TreeFault.TheVariants as tree
-use Rattle.gx_rev.proofs.HeldValues.{all_whole, commit_stands}
-use Rattle.gx_import.specs.declared.fault.ImportKind.TheVariants.{OutOfMemory}
-use Rattle.gx_import.specs.ImportKinds.{of_tree}
+use Rattle.gx_model.specs.NameMaps.{IsHeldTree, IsNameMap}
+use Rattle.gx_model.proofs.GrownRecords.{distinct_of}
+use Rattle.gx_model.proofs.HistoriesExist.{stands}
+use Rattle.gx_model.proofs.HeldValues.{all_whole, commit_stands, tree_stands}
 
 -- ---- names in place of contents keep a file map one
 
@@ -145,10 +140,16 @@ module _ (name : Kind → Bytes → Bytes) (namer : IsNamer name) (r : Records) 
   pub files_are_held : (n : Bytes) → IsTrue (is_held r.records kind.Commit n) → IsHeldTree name r.records (tree_name name (files_of (commit_of_value (value_of_name r.records n)))) (named_map name (files_of (commit_of_value (value_of_name r.records n))))
   files_are_held n h = tree_is_held (files_of (commit_of_value (value_of_name r.records n))) (parts_in (history_of r).values (commit_value (commit_of_value (value_of_name r.records n))) (all_whole name namer r sound) (commit_stands name namer r sound n h).1).0
 
--- a load is refused for want of memory alone
-pub load_fault : (f : TreeFault) (g : FileMap Bytes) → IsFaultOf (tree_faults.fault_of f) (Ok g) → of_tree f ≡ OutOfMemory
-load_fault tree.OutOfMemory g h = refl
-load_fault tree.NoSuchPath g h = absurd (cc h)
-load_fault tree.RootNotTree g h = absurd (cc h)
-load_fault tree.PathTooLong g h = absurd (cc h)
-load_fault tree.NameHeld g h = absurd (cc h)
+module _ (name : Kind → Bytes → Bytes) (namer : IsNamer name) (r : Records) (sound : IsSound name r) where
+  abbrev Files : Bytes → FileMap Bytes
+  Files n = files_of_tree (value_of_name r.records n)
+
+  pub content : (f : FileMap Bytes) → IsIn (history_of r).values (tree_value f) → T (is_content f)
+  content f i = content_in name namer (history_of r).values (all_whole name namer r sound) (distinct_of name namer r (history_of r) (stands name namer r sound)) f i
+
+  -- a held tree's body is the text of its entries
+  pub tree_text_held : (n body : Bytes) → IsTrue (is_held r.records kind.Tree n) → body ≡ body_of name (value_of_name r.records n) → IsTreeText (entries_of name namer (Files n)) body
+  tree_text_held n body h e =
+      let s = tree_stands name namer r sound n h in
+      let same : body ≡ tree_body name (named_map name (Files n)) = e ∙ ap (body_of name) s.0 in
+      subst (IsTreeText (entries_of name namer (Files n))) (sym same) (text_of_tree name namer (Files n) (content (Files n) s.1))

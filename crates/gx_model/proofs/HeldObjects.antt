@@ -8,7 +8,7 @@ use Rattle.gx_model.specs.declared.objects.Kind.TheVariants as kinds
 use Rattle.gx_model.specs.Texts.{Bytes, same_bytes}
 use Rattle.gx_model.specs.RefNames.{tag_ref}
 use Rattle.gx_model.specs.Objects.{IsNamer, IsTagText, TagParts}
-use Rattle.gx_model.specs.Histories.{Record, Records}
+use Rattle.gx_model.specs.Histories.{Record, Records, object_of}
 use Rattle.gx_model.specs.HistoryOf.{tag_parts_in}
 use Rattle.gx_model.specs.Sound.{AnyByRecursion, Holds, IsSound, IsTarget}
 use Rattle.gx_model.specs.Growth.{record_named}
@@ -17,7 +17,6 @@ use Rattle.gx_model.specs.StoreReading.{is_target, is_target_of_kind}
 use Rattle.gx_model.proofs.BodiesReadBack.{tag_read}
 use Rattle.gx_model.proofs.HeldNames.{held_tag}
 use Rattle.gx_model.proofs.PathTests.{same_is}
-use Rattle.gx_store.specs.Stores.{object_of}
 
 -- the record of a name is among the records, under that name
 pub any_named : (P : Record → Type 0) (rs : List Record) (n : Bytes) (s : Record) → record_named rs n ≡ Some s → (s.name ≡ n → P s) → AnyByRecursion P rs
@@ -28,7 +27,7 @@ any_named P (r ∷ rs) n s e p =
       | false ↦ λ k i. inr (any_named P rs n s i p)
     ] refl e
 
-named_so : (rs : List Record) (n : Bytes) (s : Record) → record_named rs n ≡ Some s → s.name ≡ n
+pub named_so : (rs : List Record) (n : Bytes) (s : Record) → record_named rs n ≡ Some s → s.name ≡ n
 named_so [] n s e = absurd (cc)
 named_so (r ∷ rs) n s e =
     elim (same_bytes n r.name) as (λ b. same_bytes n r.name ≡ b → cond b (Some r) (record_named rs n) ≡ Some s → s.name ≡ n) [

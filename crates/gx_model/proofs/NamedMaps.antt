@@ -12,12 +12,10 @@ use Rattle.gx_model.specs.Edits.{modified, without_line}
 use Rattle.gx_model.specs.Files.{FileMap, Leaf}
 use Rattle.gx_model.specs.Paths.{Path, are_in_line, path_cmp}
 use Rattle.gx_model.specs.Histories.{Record}
-use Rattle.gx_model.specs.Sound.{IsHeldAs, IsNamedMap}
+use Rattle.gx_model.specs.Sound.{IsHeldAs, IsNamedMap, Keeps}
 use Rattle.gx_model.specs.Faults.{Gives}
-use Rattle.gx_tree.specs.declared.fault.TreeFault.{TreeFault}
-use Rattle.gx_tree.specs.Faults.{fault_of}
-use Rattle.gx_tree.specs.NameMaps.{IsNameMap}
-use Rattle.gx_repo.specs.Additions.{Keeps}
+use Rattle.gx_model.specs.declared.faults.Fault.{Fault}
+use Rattle.gx_model.specs.NameMaps.{IsNameMap}
 
 leaf_kept : (old new : List Record) → Keeps old new → (mode : Mode) (n : Bytes) → mode ≢ Dir → IsHeldAs old mode n → IsHeldAs new mode n
 leaf_kept old new k File n m h = k kinds.Blob n h
@@ -57,7 +55,7 @@ named_with rs (c ∷ p) leaf f g e is h m =
     record { file_map = m.file_map; files = m.files; names = m.names; held = subst (AllByRecursion (λ e. IsHeldAs rs e.1.0 e.1.1)) same (held_with rs (c ∷ p) leaf (without_line (c ∷ p) f) is (held_beside rs (c ∷ p) f h.held)) }
 
 -- a file put at a path, or refused
-pub named_after : (rs : List Record) (p : Path) (leaf : Leaf Bytes) (f g : FileMap Bytes) (answer : Result (Unit {0}) TreeFault) → Gives fault_of (λ _. g) answer (modified f p leaf) → OnErr answer (g ≡ f)
+pub named_after : {F : Type 0} (fault_of : F → Fault) (rs : List Record) (p : Path) (leaf : Leaf Bytes) (f g : FileMap Bytes) (answer : Result (Unit {0}) F) → Gives fault_of (λ _. g) answer (modified f p leaf) → OnErr answer (g ≡ f)
     → IsHeldAs rs leaf.0 leaf.1 → IsNamedMap rs f → IsNameMap g → IsNamedMap rs g
-named_after rs p leaf f g (Ok x) gives same is h m = named_with rs p leaf f g gives is h m
-named_after rs p leaf f g (Err e) gives same is h m = subst (IsNamedMap rs) (sym same) h
+named_after fault_of rs p leaf f g (Ok x) gives same is h m = named_with rs p leaf f g gives is h m
+named_after fault_of rs p leaf f g (Err e) gives same is h m = subst (IsNamedMap rs) (sym same) h

@@ -1,0 +1,18 @@
+-- Why a commit's files aren't loaded.
+use Rattle.std.proofs.Common.{◌≡◌, refl, Ok}
+use Rattle.gx_model.specs.Texts.{Bytes}
+use Rattle.gx_model.specs.Faults.{IsFaultOf}
+use Rattle.gx_model.specs.Files.{FileMap}
+use Rattle.gx_tree.specs.Faults as tree_faults
+use Rattle.gx_tree.specs.declared.fault.TreeFault.{TreeFault}
+use Rattle.gx_tree.specs.declared.fault.TreeFault.TheVariants as tree
+use Rattle.gx_import.specs.declared.fault.ImportKind.TheVariants.{OutOfMemory}
+use Rattle.gx_import.specs.ImportKinds.{of_tree}
+
+-- a load is refused for want of memory alone
+pub load_fault : (f : TreeFault) (g : FileMap Bytes) → IsFaultOf (tree_faults.fault_of f) (Ok g) → of_tree f ≡ OutOfMemory
+load_fault tree.OutOfMemory g h = refl
+load_fault tree.NoSuchPath g h = absurd (cc h)
+load_fault tree.RootNotTree g h = absurd (cc h)
+load_fault tree.PathTooLong g h = absurd (cc h)
+load_fault tree.NameHeld g h = absurd (cc h)

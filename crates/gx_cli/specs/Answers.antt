@@ -1,13 +1,11 @@
 -- How a command's answer goes with what it has to print.
-use Rattle.std.specs.Prelude.{◌≡◌, ℕ, ◌++◌, [], Option, Result, Ok, Err, ⊤}
+use Rattle.std.specs.Prelude.{◌≡◌, ◌++◌, [], Option, Result, Ok, Err, ⊤}
 use Rattle.gx_model.specs.Texts.{Bytes}
 use Rattle.gx_model.specs.Ranges.{WordFault}
 use Rattle.gx_text.specs.Devices.{FailedWithin, Taken, Took}
 use Rattle.gx_file.specs.Faults as file
 use Rattle.gx_file.specs.declared.fault.FileFault.TheVariants as file_kind
 use Rattle.gx_rev.specs.RevFaults as rev
-use Rattle.gx_rev.specs.declared.fault.RevFault.{RevFault}
-use Rattle.gx_rev.specs.declared.fault.RevFault.TheVariants as rev_kind
 use Rattle.gx_rev.specs.declared.shown.Shown.{Shown}
 use Rattle.gx_rev.specs.declared.shown.Shown.TheVariants.{Object, Submodule}
 use Rattle.gx_cli.specs.Printing.{name_line}
@@ -41,11 +39,6 @@ Puts text was now (Ok done) = Took was now text
 Puts text was now (Err WriteFailed) = FailedWithin was now text
 Puts text was now (Err OutOfMemory) = (front : Bytes) × IsFrontOf (Ok text) front × Took was now front
 Puts text was now (Err fault) = ⊥
-
--- the fault of a word; want of memory is of none
-abbrev pub word_fault : ℕ → RevFault → CliFault
-word_fault number rev_kind.OutOfMemory = OutOfMemory
-word_fault number kind = Revision number kind
 
 -- what several words give, seen so, or the first that is refused, unless memory ran out
 abbrev pub GivesWords : {X Y : Type 0} → (X → Y) → Result X CliFault → Result Y WordFault → Type 0

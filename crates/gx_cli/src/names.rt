@@ -7,15 +7,16 @@ ghost use Rattle.gx_model.specs.HistoryOf.{history_of};
 ghost use Rattle.gx_model.specs.Ranges.{each_word};
 ghost use Rattle.gx_model.specs.Revisions.{revision_of};
 ghost use Rattle.gx_rev.specs.Answers.{IsNamed, shown_by};
-ghost use Rattle.gx_cli.specs.Answers.{GivesWords, Prints, shown_line, word_fault};
+ghost use Rattle.gx_cli.specs.Answers.{GivesWords, Prints, shown_line};
 ghost use Rattle.gx_cli.specs.Stored.{names_text, texts_of};
 
 use crate::CliFault;
 use crate::blob_names::name_line;
 use crate::showing::print;
+use crate::words::refused;
 use gx_object::Namer;
 use gx_repo::Repo;
-use gx_rev::{RevFault, Revision, Shown};
+use gx_rev::{Revision, Shown};
 use gx_text::Sink;
 use std::alloc::Allocator;
 
@@ -45,7 +46,7 @@ fn read_all<A: Allocator + Copy>(alloc: A, words: &[&str]) -> Result<Vec<Revisio
     for (place, word) in words.iter().enumerate() {
         match Revision::read(alloc, word.as_bytes()) {
             Ok(revision) => revisions.push(revision)?,
-            Err(kind) => return Err(refused_word(place + 1, kind)),
+            Err(kind) => return Err(refused(place as u64 + 1, kind)),
         }
     }
     Ok(revisions)
@@ -64,23 +65,10 @@ fn eval_all<N: Namer, A: Allocator + Copy>(
     for (place, revision) in revisions.iter().enumerate() {
         match revision.eval(repo) {
             Ok(object) => shown.push(object)?,
-            Err(kind) => return Err(refused_word(place + 1, kind)),
+            Err(kind) => return Err(refused(place as u64 + 1, kind)),
         }
     }
     Ok(shown)
-}
-
-/// The fault of a word. Want of memory is of none.
-fn refused_word(number: usize, kind: RevFault) -> CliFault
-    ensures { result ≡ word_fault number kind }
-{
-    match kind {
-        RevFault::OutOfMemory => CliFault::OutOfMemory,
-        _ => CliFault::Revision {
-            number: number as u64,
-            kind,
-        },
-    }
 }
 
 /// Prints a line for each.

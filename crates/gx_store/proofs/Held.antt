@@ -1,9 +1,9 @@
 -- Records of which no two have one name, with one more.
-use Rattle.std.proofs.Common.{◌≡◌, Bool, true, false, cond, List, [], ◌∷◌, ◌++◌, length, map, Option, Some, None, refl, sym, ap, ◌∙◌, take, zero, suc, ℕ, ◌+◌}
-use Rattle.std.specs.Prelude.{nat_lt, not}
-use Rattle.std.specs.List.{list_all, list_any, position, position_or_len, AllByRecursion}
+use Rattle.std.proofs.Common.{◌≡◌, ◌≤◌, Bool, true, false, cond, List, [], ◌∷◌, ◌++◌, length, map, Option, Some, None, refl, sym, ap, ◌∙◌, take, zero, suc, ℕ, subst, arith}
+use Rattle.std.specs.Prelude.{nat_lt}
+use Rattle.std.specs.List.{list_all, list_any, AllByRecursion}
 use Rattle.std.specs.Cmp.Lexicographic.{bytes_decides}
-use Rattle.std.proofs.lemmas.List.{length-map, map_push, take-map}
+use Rattle.std.proofs.lemmas.List.{map_push, take-map, take-append-le, take_all}
 use Rattle.std.proofs.lemmas.List.Folds.{list_all-append}
 use Rattle.std.proofs.lemmas.Bool.{false≢true, false_from_ne_true, and_from, or_from, or_parts, eq-eqb, and_parts}
 use Rattle.gx_model.specs.declared.objects.Kind.{Kind}
@@ -11,9 +11,7 @@ use Rattle.gx_model.specs.Texts.{Bytes, same_bytes}
 use Rattle.gx_model.specs.Objects.{IsNamer, is_name}
 use Rattle.gx_model.specs.Histories.{AreDistinct, Record}
 use Rattle.gx_model.specs.Growth.{record_named}
-use Rattle.gx_store.specs.Objects.{held}
-use Rattle.gx_store.specs.Stores.{AreHeld, place_named}
-use Rattle.gx_store.specs.declared.store.Object.{Object}
+use Rattle.gx_store.specs.Stores.{AreHeld}
 
 abbrev names : List Record → List Bytes
 names rs = map (λ r. r.name) rs
@@ -77,15 +75,23 @@ names_first (suc k) (r ∷ rs) h = let p = and_parts (is_name r.name) _ h in and
 pub held_first : (name : Kind → Bytes → Bytes) (k : ℕ) (rs : List Record) → AreHeld name rs → AreHeld name (take k rs)
 held_first name k rs h = record { distinct = distinct_first k rs h.distinct; named = named_first name k rs h.named; names = names_first k rs h.names }
 
--- ---- the place of a name
+-- ---- without the last one
 
--- a test of what is seen finds the same place among what is held
-position_map : {X Y : Type 0} (view : X → Y) (test : Y → Bool) (xs : List X) → position_or_len test (map view xs) ≡ position_or_len (λ x. test (view x)) xs
-position_map view test [] = refl
-position_map view test (x ∷ xs) = ap (λ n. cond (not (test (view x))) (1 + n) 0) (position_map view test xs)
+front : (rs : List Record) (r : Record) → take (length rs) (rs ++ r ∷ []) ≡ rs
+front rs r = take-append-le (length rs) rs (r ∷ []) (omega arith) ∙ take_all (length rs) rs (omega arith)
 
-pub place_of_view : {A : Type 0} (objects : List (Object A)) (name : Bytes) → place_named (map held objects) name ≡ position (λ object. same_bytes name object.name.bytes) objects
-place_of_view objects name =
-    let test : Record → Bool = λ r. same_bytes name r.name in
-    let e : position_or_len test (map held objects) ≡ position_or_len (λ object. same_bytes name object.name.bytes) objects = position_map held test objects in
-    λ i. cond (nat_lt (e i) (length-map objects held i)) (Some (e i)) None
+pub held_less : (name : Kind → Bytes → Bytes) (rs : List Record) (r : Record) → AreHeld name (rs ++ r ∷ []) → AreHeld name rs
+held_less name rs r h = subst (AreHeld name) (front rs r) (held_first name (length rs) (rs ++ r ∷ []) h)
+
+none_before : (n : Bytes) (rs : List Record) (r : Record) → list_any (same_bytes n) (names (rs ++ r ∷ [])) ≡ false → same_bytes n r.name ≡ false
+none_before n [] r h = (or_parts (same_bytes n r.name) _ h).0
+none_before n (s ∷ rs) r h = none_before n rs r (or_parts (same_bytes n s.name) _ h).1
+
+-- the last one's name is no other's
+pub last_is_free : (rs : List Record) (r : Record) → AreDistinct (names (rs ++ r ∷ [])) → record_named rs r.name ≡ None
+last_is_free [] r d = refl
+last_is_free (s ∷ rs) r d =
+    ap (λ b. cond b (Some s) (record_named rs r.name)) (apart s.name r.name (none_before s.name rs r d.0)) ∙ last_is_free rs r d.1
+
+pub first_less : (n : ℕ) (rs : List Record) (r : Record) → n ≤ length rs → take n (rs ++ r ∷ []) ≡ take n rs
+first_less n rs r h = take-append-le n rs (r ∷ []) h

@@ -1,2 +1,6 @@
 pub mod Held
-pub mod Prefixes
+pub mod Keys
+pub mod NameOrder
+pub mod FilledNames
+pub mod Picked
+pub mod Putting

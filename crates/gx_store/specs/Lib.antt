@@ -1,3 +1,4 @@
 pub mod Stores
 pub mod Prefixes
 pub mod Objects
+pub mod NameOrder

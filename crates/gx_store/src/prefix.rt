@@ -1,7 +1,8 @@
 //! What digits begin.
 
-ghost use Rattle.std.specs.Prelude.{◌≡◌};
-ghost use Rattle.gx_model.specs.Denotation.{begins_with_digits};
+ghost use Rattle.std.specs.Prelude.{◌≡◌, ◌≤◌, ◌++◌, drop, length, IfNone, IfSome};
+ghost use Rattle.std.specs.Option.{option_map};
+ghost use Rattle.gx_store.specs.Prefixes.{AreEnds, BeginNone, filled};
 
 use gx_object::Name;
 
@@ -16,10 +17,34 @@ pub enum Prefix {
     Ambiguous,
 }
 
-/// Whether a name begins with these digits, of either case.
-pub(crate) fn begins(digits: &[u8], name: &Name) -> bool
-    ensures { result ≡ begins_with_digits digits.now name.now.bytes }
+/// The least and the greatest of the names that begin with these digits, of either case; none where no name does.
+///
+/// Takes no memory. Source: gitrevisions(7), "sha1".
+pub(crate) fn names_begun_by(digits: &[u8]) -> Option<(Name, Name)>
+    ensures within { IfSome result (λ ends. AreEnds digits.now ends.0 ends.1) }
+    ensures none { IfNone result (BeginNone digits.now) }
 {
-    let hex = name.hex();
-    digits.len() <= hex.len() && hex[..digits.len()].eq_ignore_ascii_case(digits)
+    let least = filled(digits, b'0')?;
+    let greatest = filled(digits, b'f')?;
+    Some((least, greatest))
+}
+
+/// The name whose 40 digits are these and then others that are all alike.
+fn filled(digits: &[u8], digit: u8) -> Option<Name>
+    ensures { option_map (λ name. name.bytes) result ≡ filled digits.now digit }
+{
+    if digits.len() > 40 {
+        return None;
+    }
+    let mut text = [digit; 40];
+    overwrite(&mut text, digits);
+    Name::read(text.as_slice())
+}
+
+/// Puts bytes in place of the first ones.
+fn overwrite(text: &mut [u8], bytes: &[u8])
+    requires { length bytes.now ≤ length text.old }
+    ensures { text.new ≡ bytes.now ++ drop (length bytes.now) text.old }
+{
+    text[..bytes.len()].copy_from_slice(bytes);
 }

@@ -1,4 +1,4 @@
-//! The records of a repository, as a list.
+//! The records of a repository, by their names and by their places.
 
 ghost use Rattle.std.specs.Prelude.{◌≡◌, ◌↔◌, length, [], map, slice_get, take, IsTrue};
 ghost use Rattle.std.specs.Option.{option_map};
@@ -9,16 +9,18 @@ ghost use Rattle.gx_model.specs.Histories.{object_of, record_for};
 ghost use Rattle.gx_store.specs.Prefixes.{prefix_of};
 ghost use Rattle.gx_store.specs.Objects.{held};
 
-use crate::prefix::begins;
+use crate::prefix::names_begun_by;
 use crate::{Prefix, StoreFault};
 use gx_object::{Kind, Name, Namer};
+use indexmap::IndexMap;
 use std::alloc::Allocator;
+use std::collections::BTreeSet;
+use std::hash::RandomState;
 use std::marker::Model;
 
-/// An object as it is held.
+/// An object as it is held under its name.
 #[derive(Drop)]
 pub(crate) struct Object<A: Allocator> {
-    name: Name,
     kind: Kind,
     body: Vec<u8, A>,
 }
@@ -29,7 +31,8 @@ pub(crate) struct Object<A: Allocator> {
 #[derive(Drop)]
 pub struct Store<N: Namer, A: Allocator> {
     namer: N,
-    objects: Vec<Object<A>, A>,
+    objects: IndexMap<Name, Object<A>, RandomState, A>,
+    names: BTreeSet<Name, A>,
     alloc: A,
 }
 
@@ -40,21 +43,22 @@ impl<N: Namer, A: Allocator> Model for Store<N, A> {
 
     ghost Value = { N × List Record };
 
-    ghost use Rattle.gx_store.specs.Objects.{held};
+    ghost use Rattle.gx_store.specs.Objects.{held, AreNames};
 
-    ghost view = { λ s. (s.namer, map held s.objects.items) };
+    ghost view = { λ s. (s.namer, map held s.objects.entries) };
 
-    ghost invariant = { λ s. AreHeld (N.name_of s.namer) (map held s.objects.items) };
+    ghost invariant = { λ s. AreHeld (N.name_of s.namer) (map held s.objects.entries) × AreNames s.names.keys (map held s.objects.entries) };
 }
 
 impl<N: Namer, A: Allocator + Copy> Store<N, A> {
-    /// An empty store. Takes no memory.
-    pub fn new(alloc: A, namer: N) -> Store<N, A>
+    /// An empty store, whose hashes are keyed by this state. Takes no memory.
+    pub fn new(alloc: A, namer: N, state: RandomState) -> Store<N, A>
         ensures { result ≡ (namer, []) }
     {
         Store {
             namer,
-            objects: Vec::new(alloc),
+            objects: IndexMap::with_hasher(alloc, state),
+            names: BTreeSet::new(alloc),
             alloc,
         }
     }
@@ -71,13 +75,13 @@ impl<N: Namer, A: Allocator + Copy> Store<N, A> {
     ///
     /// OutOfMemory comes only for an object that isn't held, NameHeld only and always where its name is held for
     /// another kind or other bytes; both leave the store as it was.
-    /// Cost: the body's length, and the number of records.
+    /// Cost: the body's length, and the logarithm of the number of records.
     pub fn put(&mut self, kind: Kind, body: &[u8]) -> Result<Name, StoreFault>
         ensures namer { self.new.0 ≡ self.old.0 }
         ensures puts { Puts self.old.1 self.new.1 (record_for (N.name_of self.old.0) kind body.now) result }
     {
         let name = self.namer.name(kind, body);
-        if let Some(found) = find(self.objects.as_slice(), &name) {
+        if let Some(found) = self.objects.get(&name) {
             if is_object(found, kind, body) {
                 return Ok(name);
             }
@@ -86,88 +90,74 @@ impl<N: Namer, A: Allocator + Copy> Store<N, A> {
         let Ok(body) = Vec::from_slice(self.alloc, body) else {
             return Err(StoreFault::OutOfMemory);
         };
-        let Ok(()) = self.objects.push(Object { name, kind, body }) else {
+        let Ok(_) = self.names.insert(name) else {
             return Err(StoreFault::OutOfMemory);
         };
-        Ok(name)
+        match self.objects.insert(name, Object { kind, body }) {
+            Ok(_) => Ok(name),
+            Err(_) => {
+                self.names.remove(&name);
+                Err(StoreFault::OutOfMemory)
+            }
+        }
     }
 
-    /// The kind and the body of the object with this name. Cost: the number of records. Takes no memory.
+    /// The kind and the body of the object with this name. Cost: constant, as expected of hashes. Takes no memory.
     pub fn get(&self, name: &Name) -> Option<(Kind, &[u8])>
         ensures { option_map seen result ≡ option_map object_of (record_named self.now.1 name.now.bytes) }
     {
-        let object = find(self.objects.as_slice(), name)?;
+        let object = self.objects.get(name)?;
         Some((object.kind, object.body.as_slice()))
     }
 
-    /// The place of the object with this name, as `record` counts it. Cost: the number of records. Takes no memory.
+    /// The place of the object with this name, as `record` counts it. Cost: constant, as expected of hashes. Takes no
+    /// memory.
     pub fn place(&self, name: &Name) -> Option<usize>
         ensures { result ≡ place_named self.now.1 name.now.bytes }
     {
-        place_among(self.objects.as_slice(), name)
+        self.objects.get_index_of(name)
     }
 
-    /// The object at a place, counted from 0 in the order in which they were put. Takes no memory.
+    /// The object at a place, counted from 0 in the order in which they were put. Cost: constant. Takes no memory.
     pub fn record(&self, place: usize) -> Option<(Name, Kind, &[u8])>
         ensures { option_map seen_at result ≡ slice_get self.now.1 place }
     {
-        let object = self.objects.get(place)?;
-        Some((object.name, object.kind, object.body.as_slice()))
+        let (name, object) = self.objects.get_index(place)?;
+        Some((*name, object.kind, object.body.as_slice()))
     }
 
-    /// Keeps the first `len` objects alone, and all where there are no more. Cost: what is dropped. Takes no memory.
+    /// Keeps the first `len` objects alone, and all where there are no more.
+    ///
+    /// Cost: for each object that is dropped, the logarithm of the number of records. Takes no memory.
     pub fn truncate(&mut self, len: usize)
         ensures { self.new ≡ (self.old.0, take len self.old.1) }
     {
-        self.objects.truncate(len);
+        while self.objects.len() > len {
+            if let Some((name, _)) = self.objects.pop() {
+                self.names.remove(&name);
+            }
+        }
     }
 
     /// The name that begins with these digits, of either case. An empty prefix begins every name, while more than 40
     /// digits, or any byte that is no digit, begin none.
     ///
-    /// Cost: the number of records, times that of the digits. Takes no memory. Source: gitrevisions(7), "sha1".
+    /// Cost: the logarithm of the number of records. Takes no memory. Source: gitrevisions(7), "sha1".
     pub fn by_prefix(&self, digits: &[u8]) -> Prefix
         ensures { result ≡ prefix_of (records_begun_by self.now.1 digits.now) }
     {
-        prefix_among(self.objects.as_slice(), digits)
-    }
-}
-
-/// The object with this name.
-fn find<'a, A: Allocator + Copy>(objects: &'a [Object<A>], name: &Name) -> Option<&'a Object<A>>
-    ensures { option_map (λ object. held object.now) result ≡ record_named (map held objects.now) name.now.bytes }
-{
-    for object in objects {
-        if *name == object.name {
-            return Some(object);
-        }
-    }
-    None
-}
-
-/// The place of the object with this name, counted from 0.
-fn place_among<A: Allocator + Copy>(objects: &[Object<A>], name: &Name) -> Option<usize>
-    ensures { result ≡ place_named (map held objects.now) name.now.bytes }
-{
-    objects.iter().position(|object| *name == object.name)
-}
-
-/// The name among these that begins with these digits.
-fn prefix_among<A: Allocator + Copy>(objects: &[Object<A>], digits: &[u8]) -> Prefix
-    ensures { result ≡ prefix_of (records_begun_by (map held objects.now) digits.now) }
-{
-    let mut found = None;
-    for object in objects {
-        if begins(digits, &object.name) {
-            if found.is_some() {
-                return Prefix::Ambiguous;
-            }
-            found = Some(object.name);
-        }
-    }
-    match found {
-        Some(name) => Prefix::Unique(name),
-        None => Prefix::Absent,
+        let names = &self.names;
+        let Some((least, greatest)) = names_begun_by(digits) else {
+            return Prefix::Absent;
+        };
+        let mut begun = names.range(least..=greatest);
+        let Some(name) = begun.next() else {
+            return Prefix::Absent;
+        };
+        let None = begun.next() else {
+            return Prefix::Ambiguous;
+        };
+        Prefix::Unique(*name)
     }
 }
 

@@ -5,7 +5,7 @@ use std::test::Fail;
 
 #[test]
 fn other_bytes_under_a_held_name_are_refused(rt: HostRuntime) -> Result<(), Fail> {
-    let mut store = Store::new(rt.alloc(), ShortNamer);
+    let mut store = Store::new(rt.alloc(), ShortNamer, RandomState::new(&rt)?);
     assert_eq!(rt; store.len(), 0);
     let a = store.put(Kind::Blob, b"a");
     let name = Name::read(b"1111111111111111111111111111111111110001").ok_or("digits")?;
@@ -33,7 +33,7 @@ fn other_bytes_under_a_held_name_are_refused(rt: HostRuntime) -> Result<(), Fail
 
 #[test]
 fn prefixes_are_of_either_case(rt: HostRuntime) -> Result<(), Fail> {
-    let mut store = Store::new(rt.alloc(), ShortNamer);
+    let mut store = Store::new(rt.alloc(), ShortNamer, RandomState::new(&rt)?);
     assert_eq!(rt; store.by_prefix(b""), Prefix::Absent);
     let a = store.put(Kind::Blob, b"a").map_err(|_| "growth")?;
     assert_eq!(rt; store.by_prefix(b""), Prefix::Unique(a));
@@ -72,13 +72,22 @@ fn prefixes_are_of_either_case(rt: HostRuntime) -> Result<(), Fail> {
 struct Trial {
     answer: Result<Name, StoreFault>,
     len: usize,
+    found: Prefix,
     is_waiting: bool,
 }
 
-/// A second put, at which the growth with this number is refused.
-fn refused_put<B: Allocator>(heap: &Refusing<B>, n: u64) -> Trial {
-    let mut store = Store::new(heap, ShortNamer);
-    let _ = store.put(Kind::Blob, b"a");
+/// A put behind some others, at which the growth with this number is refused.
+fn refused_put<B: Allocator>(
+    heap: &Refusing<B>,
+    state: RandomState,
+    others: usize,
+    n: u64,
+) -> Trial {
+    let mut store = Store::new(heap, ShortNamer, state);
+    let bytes = [b'x'; 99];
+    for len in 0..others {
+        let _ = store.put(Kind::Blob, &bytes[..usize::min(len, 99)]);
+    }
     heap.arm(n);
     let answer = store.put(Kind::Tree, b"bytes that are copied");
     let is_waiting = heap.is_waiting();
@@ -86,24 +95,40 @@ fn refused_put<B: Allocator>(heap: &Refusing<B>, n: u64) -> Trial {
     Trial {
         answer,
         len: store.len(),
+        found: store.by_prefix(b"111111111111111111111111111111111111011"),
         is_waiting,
     }
 }
 
-#[test]
-fn refused_growths_put_nothing(rt: HostRuntime) {
-    let mut refused = 0u64;
-    for n in 1..100 {
-        let heap = Refusing::new(rt.alloc(), 0);
-        let trial = refused_put(&heap, n);
-        if trial.is_waiting {
-            assert!(rt; trial.answer.is_ok());
-            assert_eq!(rt; trial.len, 2);
-            break;
+/// Whether a refused put left everything as it was, and one that wasn't refused put its object.
+fn is_exact(trial: &Trial, others: usize) -> bool {
+    match trial.answer {
+        Ok(name) => {
+            trial.is_waiting
+                && trial.len == others.saturating_add(1)
+                && trial.found == Prefix::Unique(name)
         }
-        assert_eq!(rt; trial.answer, Err(StoreFault::OutOfMemory));
-        assert_eq!(rt; trial.len, 1);
-        refused = n;
+        Err(fault) => {
+            fault == StoreFault::OutOfMemory && trial.len == others && trial.found == Prefix::Absent
+        }
     }
-    assert!(rt; refused > 0 && refused < 99);
+}
+
+#[test]
+fn refused_growths_put_nothing(rt: HostRuntime) -> Result<(), Fail> {
+    let mut refused = 0u64;
+    for others in 0..60 {
+        for n in 1..100 {
+            let heap = Refusing::new(rt.alloc(), 0);
+            let trial = refused_put(&heap, RandomState::new(&rt)?, others, n);
+            assert!(rt; is_exact(&trial, others));
+            if trial.is_waiting {
+                break;
+            }
+            refused = refused.saturating_add(1);
+        }
+    }
+    // each body grows; the table, the list and the set of names grow at some puts alone
+    assert!(rt; refused > 60 && refused < 300);
+    Ok(())
 }

@@ -1,17 +1,37 @@
-use Rattle.std.proofs.Common.{map, take, sym, ap, subst, ◌∙◌}
-use Rattle.std.proofs.lemmas.List.{take-map}
+use Rattle.std.proofs.Common.{◌≡◌, ◌≤◌, ◌∷◌, [], length, take, map, refl, sym, ap, subst, ◌∙◌, arith}
+use Rattle.std.proofs.lemmas.List.{map_push, length-append, length-map, take_all}
 use Rattle.gx_store.specs.Stores.{AreHeld}
-use Rattle.gx_store.specs.Objects.{held}
-use Rattle.gx_store.proofs.Held.{held_first}
+use Rattle.gx_store.specs.Objects.{held, AreNames}
+use Rattle.gx_store.proofs.Held.{first_less, held_less, last_is_free}
+use Rattle.gx_store.proofs.Keys.{names_less, under}
 use Rattle.gx_store.proofs.store.Store.truncate.Goals as goal
 
+pub loop-self-init : goal.loop-self-init
+loop-self-init g c = (refl, c.self.invariant.0, c.self.invariant.1, refl)
+
 pub invariant_of-self : goal.invariant_of-self
-invariant_of-self g c =
-    let names = g.N.Namer.name_of c.self.inside.namer in
-    let fewer = ap (map held) c.truncate.ensures.items ∙ sym (take-map held c.args.len c.self.inside.objects.items) in
-    subst (AreHeld names) (sym fewer) (held_first names c.args.len _ c.self.invariant)
+invariant_of-self g c = (c.loop-self.invariant.1, c.loop-self.invariant.2)
+
+pub loop-self-preserved-in-Some : goal.loop-self-preserved-in-Some
+loop-self-preserved-in-Some g c =
+    let n = c.in-Some.name in
+    let object = c.in-Some.field-0-1 in
+    let es = c.pop.new.self.entries in
+    let rs = map held es in
+    let popped = ap (map held) c.in-Some.ensures.entries ∙ map_push held es (n, object) in
+    let kept = c.loop-self.invariant in
+    let names = g.N.Namer.name_of c.loop-self.self-inside.namer in
+    let all = subst (AreHeld names) popped kept.1 in
+    let within : c.args.len ≤ length rs = omega (arith, c.loop-self-test.true, c.len.ensures.len, c.pop.ensures.len, length-map es held, ap length c.in-Some.ensures.entries, length-append es ((n, object) ∷ [])) in (
+      kept.0,
+      held_less names rs (under n object) all,
+      names_less c.loop-self.self-inside.names.keys c.remove.new.self.keys rs n object (subst (AreNames c.loop-self.self-inside.names.keys) popped kept.2) (last_is_free rs (under n object) all.distinct) c.remove.ensures.updates.0,
+      sym (first_less c.args.len rs (under n object) within) ∙ ap (take c.args.len) (sym popped) ∙ kept.3,
+    )
 
 pub returns : goal.returns
 returns g c =
-    let fewer = ap (map held) c.truncate.ensures.items ∙ sym (take-map held c.args.len c.self.inside.objects.items) in
-    ap (λ rs. (c.self.inside.namer, rs)) fewer ∙ ap (λ v. (v.0, take c.args.len v.1)) c.self.view_is
+    let es = c.loop-self.self-inside.objects.entries in
+    let kept = c.loop-self.invariant in
+    let short : length (map held es) ≤ c.args.len = omega (arith, c.loop-self-test.false, c.len.ensures.len, length-map es held) in
+    subst (λ v. (c.loop-self.self-inside.namer, map held es) ≡ (v.0, take c.args.len v.1)) c.self.view_is (λ i. (kept.0 i, (sym (take_all c.args.len (map held es) short) ∙ kept.3) i))

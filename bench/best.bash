@@ -1,13 +1,16 @@
 # Sourced by the benchmarks. They set `folder`, where files may be written, and may set `input`, a file for standard input, and
-# define `prepare`, which is called before each run.
+# define `prepare`, which is called before each run. RUNS: how many runs, 3 if it isn't set.
 
 prepare() { :; }
 
-# the least wall time of three runs in seconds, with that run's peak memory in MB; the output of the last is in $folder/out
+# the least wall time of these runs in seconds, with that run's peak memory in MB; the output of the last is in $folder/out
 best() {
-  for _ in 1 2 3; do
+  for _ in $(seq "${RUNS:-3}"); do
     prepare
     /usr/bin/time -f '%e %M' -o "$folder/time" "$@" < "${input:-/dev/null}" > "$folder/out"
     cat "$folder/time"
   done | sort -g | head -n 1 | awk '{ printf "%s s, %.1f MB", $1, $2 / 1024 }'
 }
+
+# microseconds for each of COUNT: each TIME COUNT, where TIME is what `best` answered
+each() { echo "$1" "$2" | awk '{ printf "%.2f", $1 * 1000000 / $NF }'; }

@@ -2,11 +2,11 @@
 # Measures exports against `git fast-export --full-tree --all` of the same generated histories: wall time in seconds and peak
 # memory in MB, the best of three runs. `gx refs` is measured beside them, since an export reads the whole store first. Then
 # git imports gx's export, and the refs and names have to be the same.
-#   bench/export.sh [COMMITS..]      500 and 2000 if left out
+#   bench/export.sh [COMMITS..]      500, 2000 and 8000 if left out
 # It builds crates/gx, and needs rt, git, python3 and GNU time.
 set -euo pipefail
 cd "$(dirname "$0")/.."
-[ $# -gt 0 ] || set -- 500 2000
+[ $# -gt 0 ] || set -- 500 2000 8000
 folder=$(mktemp -d)
 trap 'rm -rf "$folder"' EXIT
 gx=${GX:-$PWD/crates/gx/out/gx}
@@ -29,8 +29,10 @@ for commits in "$@"; do
   "$gx" init "$folder/store"
   "$gx" import "$folder/store" < "$folder/stream"
   echo "$commits commits, $(stat -c %s "$folder/store") bytes of store, $(sed -n '2{s/objects //p;q}' "$folder/store") records"
-  echo "  gx export: $(best "$gx" export "$folder/store")"
-  cp "$folder/out" "$folder/export"
+  time=$(best "$gx" export "$folder/store")
+  mv "$folder/out" "$folder/export"
+  lines=$(grep -ac '^M ' "$folder/export")
+  echo "  gx export: $time, $lines file lines, $(each "$time" "$lines") microseconds a line"
   echo "  gx refs: $(best "$gx" refs "$folder/store")"
   echo "  git fast-export --full-tree --all: $(best git -C "$folder/repo" fast-export --full-tree --all)"
   echo "  exported: $(stat -c %s "$folder/export") bytes by gx, $(stat -c %s "$folder/out") by git"

@@ -1,11 +1,11 @@
 #!/usr/bin/env bash
 # Measures imports against `git fast-import` on generated histories: `gx try`, which imports and shows one commit, and git at
 # compression 0 and as it comes. For each, wall time in seconds and peak memory in MB; the best of three runs.
-#   bench/import.sh [COMMITS..]      500 and 2000 if left out
+#   bench/import.sh [COMMITS..]      500, 2000 and 8000 if left out
 # It builds crates/gx, and needs rt, git, python3 and GNU time.
 set -euo pipefail
 cd "$(dirname "$0")/.."
-[ $# -gt 0 ] || set -- 500 2000
+[ $# -gt 0 ] || set -- 500 2000 8000
 folder=$(mktemp -d)
 trap 'rm -rf "$folder"' EXIT
 gx=${GX:-$PWD/crates/gx/out/gx}
@@ -22,7 +22,8 @@ echo "load average before: $(cut -d ' ' -f 1 /proc/loadavg)"
 for commits in "$@"; do
   python3 bench/streams.py history "$commits" > "$folder/stream"
   echo "$commits commits, $(stat -c %s "$folder/stream") bytes"
-  echo "  gx try: $(best "$gx" try refs/heads/main)"
+  time=$(best "$gx" try refs/heads/main)
+  echo "  gx try: $time, $(each "$time" "$commits") microseconds a commit"
   cp "$folder/out" "$folder/shown"
   echo "  git fast-import, compression 0: $(best git -C "$folder/repo" -c core.compression=0 -c pack.compression=0 fast-import --quiet)"
   echo "  git fast-import: $(best git -C "$folder/repo" fast-import --quiet)"

@@ -2,7 +2,7 @@
 # Measures how long a store file takes to be opened: `gx refs FILE`, which reads and checks all of it and prints one line, against
 # `sha1sum FILE`. For each, wall time in seconds and peak memory in MB; the best of three runs, none longer than the limit.
 #   bench/open.sh [GX [LIMIT]]      GX: the built program, crates/gx/out/gx if left out; LIMIT: seconds for a run, 300 if left out
-# The megabytes of the stores stand in SIZES, `25 250` if it isn't set. It needs python3 and GNU time.
+# The megabytes of the stores stand in SIZES, `25 100 400` if it isn't set. It needs python3 and GNU time.
 set -euo pipefail
 shopt -s inherit_errexit
 gx=${1:-$(dirname "$0")/../crates/gx/out/gx}
@@ -40,6 +40,12 @@ shown() {
   echo "$1" | awk '{ printf "%s s, %.1f MB", $1, $2 / 1024 }'
 }
 
+# microseconds for each record: each TIME RECORDS
+each() {
+  [ "$1" != over ] || { echo ''; return; }
+  echo "$1" "$2" | awk '{ printf "%.1f", $1 * 1000000 / $NF }'
+}
+
 ratio() {
   [ "$1" != over ] || { echo ''; return; }
   echo "$1 $2" | awk '{ if ($3 > 0) printf "%.1f", $1 / $3 }'
@@ -54,14 +60,14 @@ measure() {
   opened=$(best "$gx" refs "$folder/store")
   [ "$opened" = over ] || cmp "$folder/refs" "$folder/out"
   summed=$(best sha1sum "$folder/store")
-  echo "| $1 MB, $2, $records records | $(shown "$opened") | $(shown "$summed") | $(ratio "$opened" "$summed") |"
+  echo "| $1 MB, $2, $records records | $(shown "$opened") | $(each "$opened" "$records") | $(shown "$summed") | $(ratio "$opened" "$summed") |"
 }
 
 echo "load average before: $(cut -d ' ' -f 1 /proc/loadavg)"
 # shellcheck disable=SC2016  # a table's head
-echo '| Store | `gx refs` | `sha1sum` | Ratio |'
-echo '|---|---|---|---|'
-for size in ${SIZES:-25 250}; do
+echo '| Store | `gx refs` | Microseconds a record | `sha1sum` | Ratio |'
+echo '|---|---|---|---|---|'
+for size in ${SIZES:-25 100 400}; do
   measure "$size" source
   measure "$size" large
 done

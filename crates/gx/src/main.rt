@@ -8,6 +8,7 @@ use gx_cli::{CliFault, Line, LineFault, Outcome, read_line, serve};
 use gx_object::Sha1Namer;
 use gx_text::{FromRead, IntoWrite};
 use std::alloc::Global;
+use std::hash::RandomState;
 use std::io::{BufWriter, ErrorKind, Write};
 use std::process::ExitCode;
 use std::{env, io};
@@ -27,7 +28,7 @@ fn main(rt: HostRuntime) -> io::Result<ExitCode> {
         Ok(line) => line,
         Err(fault) => return refuse_line(&rt, &fault),
     };
-    match run(&rt, &line) {
+    match run(&rt, &line, RandomState::new(&rt)?) {
         Ok(()) => Ok(ExitCode::SUCCESS),
         Err(fault) => {
             eprintln!(rt; "{fault}")?;
@@ -37,14 +38,14 @@ fn main(rt: HostRuntime) -> io::Result<ExitCode> {
 }
 
 /// Runs a command on its file and on the standard streams.
-fn run(rt: &HostRuntime, line: &Line<'_>) -> Result<(), CliFault> {
+fn run(rt: &HostRuntime, line: &Line<'_>, state: RandomState) -> Result<(), CliFault> {
     match line {
         Line::Blobs | Line::Try(_) => {
-            stream(rt, line, b"")?;
+            stream(rt, line, b"", state)?;
             Ok(())
         }
-        Line::Init { file } => init(rt, line, file),
-        Line::Import { file } => import(rt, line, file),
+        Line::Init { file } => init(rt, line, file, state),
+        Line::Import { file } => import(rt, line, file, state),
         Line::Export { file }
         | Line::Show { file, revision: _ }
         | Line::Ls {
@@ -58,25 +59,30 @@ fn run(rt: &HostRuntime, line: &Line<'_>) -> Result<(), CliFault> {
             file,
             ranges: _,
         }
-        | Line::RevParse { file, revisions: _ } => print(rt, line, file),
+        | Line::RevParse { file, revisions: _ } => print(rt, line, file, state),
     }
 }
 
 /// Makes a store file where there is none.
-fn init(rt: &HostRuntime, line: &Line<'_>, file: &str) -> Result<(), CliFault> {
+fn init(rt: &HostRuntime, line: &Line<'_>, file: &str, state: RandomState) -> Result<(), CliFault> {
     if has_store(rt, file)? {
         return Err(CliFault::StoreExists);
     }
-    match stream(rt, line, b"")? {
+    match stream(rt, line, b"", state)? {
         Some(text) => replace_store(rt, file, &text),
         None => Ok(()),
     }
 }
 
 /// Imports standard input into a store file, which a refused import leaves as it was.
-fn import(rt: &HostRuntime, line: &Line<'_>, file: &str) -> Result<(), CliFault> {
+fn import(
+    rt: &HostRuntime,
+    line: &Line<'_>,
+    file: &str,
+    state: RandomState,
+) -> Result<(), CliFault> {
     let store = read_store(rt, file)?;
-    let text = stream(rt, line, &store)?;
+    let text = stream(rt, line, &store, state)?;
     drop(store);
     match text {
         Some(text) => replace_store(rt, file, &text),
@@ -85,10 +91,15 @@ fn import(rt: &HostRuntime, line: &Line<'_>, file: &str) -> Result<(), CliFault>
 }
 
 /// Serves a command that reads standard input, and answers the next text of its store. What it prints goes out as it comes.
-fn stream(rt: &HostRuntime, line: &Line<'_>, store: &[u8]) -> Result<Option<Vec<u8>>, CliFault> {
+fn stream(
+    rt: &HostRuntime,
+    line: &Line<'_>,
+    store: &[u8],
+    state: RandomState,
+) -> Result<Option<Vec<u8>>, CliFault> {
     let source = FromRead::new(rt.stdin());
     let mut sink = IntoWrite::new(rt.stdout());
-    let outcome = serve(rt.alloc(), Sha1Namer, line, store, source, &mut sink);
+    let outcome = serve(rt.alloc(), Sha1Namer, line, store, source, &mut sink, state);
     let Outcome {
         status: _,
         fault,
@@ -101,7 +112,12 @@ fn stream(rt: &HostRuntime, line: &Line<'_>, store: &[u8]) -> Result<Option<Vec<
 }
 
 /// Serves a command that prints of a store, through a buffer.
-fn print(rt: &HostRuntime, line: &Line<'_>, file: &str) -> Result<(), CliFault> {
+fn print(
+    rt: &HostRuntime,
+    line: &Line<'_>,
+    file: &str,
+    state: RandomState,
+) -> Result<(), CliFault> {
     let store = read_store(rt, file)?;
     let Ok(mut out) = BufWriter::new(rt.alloc(), rt.stdout()) else {
         return Err(CliFault::OutOfMemory);
@@ -109,7 +125,15 @@ fn print(rt: &HostRuntime, line: &Line<'_>, file: &str) -> Result<(), CliFault> 
     let outcome = {
         let source = FromRead::new(rt.stdin());
         let mut sink = IntoWrite::new(&mut out);
-        serve(rt.alloc(), Sha1Namer, line, &store, source, &mut sink)
+        serve(
+            rt.alloc(),
+            Sha1Namer,
+            line,
+            &store,
+            source,
+            &mut sink,
+            state,
+        )
     };
     let flushed = out.flush();
     let outcome: Outcome<Global> = outcome;

@@ -14,6 +14,7 @@ use gx_store::{Store, StoreFault};
 use gx_stream::{Item, ItemReader, StreamFault};
 use gx_text::{Sink, Source, cut, decimal, send};
 use std::alloc::Allocator;
+use std::hash::RandomState;
 use thiserror::Error;
 
 /// Why the names of a stream's blobs end before the stream does.
@@ -49,18 +50,19 @@ pub struct BlobsFault {
 ///
 /// The stream holds `blob` commands and empty lines alone: anything else where a command is expected is NotABlob.
 /// NameHeld comes only where an earlier blob has the name of the one at hand and other bytes. Names that were printed
-/// stay. Cost: the bytes of the stream, and the number of blobs squared while the store is a list.
+/// stay. Cost: the bytes of the stream, and for each blob the logarithm of their number.
 /// Source: git-fast-import(1), "blob".
 pub fn blobs<N: Namer + Drop, R: Source + Drop, W: Sink, A: Allocator + Copy>(
     alloc: A,
     namer: N,
     source: R,
     sink: &mut W,
+    state: RandomState,
 ) -> Result<u64, BlobsFault>
     ensures { PrintsBlobs (N.name_of namer) (option_map items_from (R.coming source)) (W.taken sink.old) (W.taken sink.new) result }
 {
     let mut reader = ItemReader::new(alloc, source);
-    let mut store = Store::new(alloc, namer);
+    let mut store = Store::new(alloc, namer, state);
     let mut stage = Stage::Expected;
     let mut count = 0u64;
     loop {

@@ -10,6 +10,7 @@ use gx_export::export;
 use gx_object::Namer;
 use gx_text::Sink;
 use std::alloc::Allocator;
+use std::hash::RandomState;
 
 /// Exports the store of a text, which is read first. The stream goes out as it is made.
 ///
@@ -19,10 +20,11 @@ pub(crate) fn export_stored<N: Namer + Drop, W: Sink, A: Allocator + Copy>(
     namer: N,
     store: &[u8],
     sink: &mut W,
+    state: RandomState,
 ) -> Outcome<A>
     ensures { ExportsStored (store_of (N.name_of namer) store.now) (W.taken sink.old) (W.taken sink.new) result }
 {
-    let repo = match gx_file::read(alloc, namer, store) {
+    let repo = match gx_file::read(alloc, namer, store, state) {
         Ok(repo) => repo,
         Err(fault) => return refused(CliFault::Store(fault)),
     };

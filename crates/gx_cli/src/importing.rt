@@ -12,12 +12,17 @@ use gx_object::Namer;
 use gx_repo::Repo;
 use gx_text::{Sink, Source};
 use std::alloc::Allocator;
+use std::hash::RandomState;
 
 /// Makes the text of an empty store.
-pub(crate) fn init<N: Namer + Drop, A: Allocator + Copy>(alloc: A, namer: N) -> Outcome<A>
+pub(crate) fn init<N: Namer + Drop, A: Allocator + Copy>(
+    alloc: A,
+    namer: N,
+    state: RandomState,
+) -> Outcome<A>
     ensures { IsWritten nothing result }
 {
-    let repo = Repo::new(alloc, namer);
+    let repo = Repo::new(alloc, namer, state);
     written(alloc, &repo)
 }
 
@@ -30,11 +35,12 @@ pub(crate) fn import_into<N: Namer + Drop, R: Source + Drop, W: Sink, A: Allocat
     store: &[u8],
     source: R,
     sink: &mut W,
+    state: RandomState,
 ) -> Outcome<A>
     ensures imported { ImportsInto (N.name_of namer) (store_of (N.name_of namer) store.now) (R.coming source) (W.taken sink.old) (W.taken sink.new) result }
     ensures again { ImportsAgain (N.name_of namer) (store_of (N.name_of namer) store.now) (R.coming source) result }
 {
-    let mut repo = match gx_file::read(alloc, namer, store) {
+    let mut repo = match gx_file::read(alloc, namer, store, state) {
         Ok(repo) => repo,
         Err(fault) => return refused(CliFault::Store(fault)),
     };

@@ -22,6 +22,7 @@ use crate::{CliFault, Line, blobs, try_revision};
 use gx_object::Namer;
 use gx_text::{Sink, Source};
 use std::alloc::Allocator;
+use std::hash::RandomState;
 
 /// How a command ended: the exit status, 0 or 1; why it was refused; and the next text of the store, where there is one.
 #[derive(Drop)]
@@ -49,23 +50,25 @@ pub fn serve<N: Namer + Drop, R: Source + Drop, W: Sink, A: Allocator + Copy>(
     store: &[u8],
     source: R,
     sink: &mut W,
+    state: RandomState,
 ) -> Outcome<A>
     ensures served { Serves (N.name_of namer) line.now store.now (R.coming source) (W.taken sink.old) (W.taken sink.new) result }
     ensures again { ServesExported (N.name_of namer) line.now store.now (R.coming source) result }
 {
     match line {
-        Line::Blobs => outcome_of(blobs_alone(alloc, namer, source, sink)),
+        Line::Blobs => outcome_of(blobs_alone(alloc, namer, source, sink, state)),
         Line::Try(revision) => outcome_of(try_revision(
             alloc,
             namer,
             revision.as_bytes(),
             source,
             sink,
+            state,
         )),
-        Line::Init { file: _ } => init(alloc, namer),
-        Line::Import { file: _ } => import_into(alloc, namer, store, source, sink),
-        Line::Export { file: _ } => export_stored(alloc, namer, store, sink),
-        _ => outcome_of(print_stored(alloc, namer, line, store, sink)),
+        Line::Init { file: _ } => init(alloc, namer, state),
+        Line::Import { file: _ } => import_into(alloc, namer, store, source, sink, state),
+        Line::Export { file: _ } => export_stored(alloc, namer, store, sink, state),
+        _ => outcome_of(print_stored(alloc, namer, line, store, sink, state)),
     }
 }
 
@@ -76,10 +79,11 @@ fn print_stored<N: Namer + Drop, W: Sink, A: Allocator + Copy>(
     line: &Line<'_>,
     store: &[u8],
     sink: &mut W,
+    state: RandomState,
 ) -> Result<(), CliFault>
     ensures { Prints (of_stored (store_of (N.name_of namer) store.now) (printed_by (N.name_of namer) line.now)) (W.taken sink.old) (W.taken sink.new) result }
 {
-    let repo = match gx_file::read(alloc, namer, store) {
+    let repo = match gx_file::read(alloc, namer, store, state) {
         Ok(repo) => repo,
         Err(fault) => return Err(CliFault::Store(fault)),
     };
@@ -113,12 +117,13 @@ fn blobs_alone<N: Namer + Drop, R: Source + Drop, W: Sink, A: Allocator + Copy>(
     namer: N,
     source: R,
     sink: &mut W,
+    state: RandomState,
 ) -> Result<u64, CliFault>
     ensures { (answer : Result ℕ BlobsFault)
         × PrintsBlobs (N.name_of namer) (option_map items_from (R.coming source)) (W.taken sink.old) (W.taken sink.new) answer
         × (result ≡ blobs_answer answer) }
 {
-    match blobs(alloc, namer, source, sink) {
+    match blobs(alloc, namer, source, sink, state) {
         Ok(count) => Ok(count),
         Err(fault) => Err(CliFault::Blobs(fault)),
     }

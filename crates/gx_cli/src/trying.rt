@@ -13,6 +13,7 @@ use gx_repo::Repo;
 use gx_rev::{RevFault, Revision, look};
 use gx_text::{Sink, Source, TreePath};
 use std::alloc::Allocator;
+use std::hash::RandomState;
 
 /// Imports a stream into an empty store, and then shows a word as a revision. Lines of `progress` go out first.
 ///
@@ -25,10 +26,11 @@ pub fn try_revision<N: Namer + Drop, A: Allocator + Copy, R: Source + Drop, W: S
     word: &[u8],
     source: R,
     sink: &mut W,
+    state: RandomState,
 ) -> Result<(), CliFault>
     ensures { Tries (N.name_of namer) (R.coming source) word.now (W.taken sink.old) (W.taken sink.new) result }
 {
-    match import_alone(alloc, namer, source, sink) {
+    match import_alone(alloc, namer, source, sink, state) {
         Ok(repo) => show(alloc, &repo, word, sink),
         Err(fault) => Err(CliFault::Import(fault)),
     }
@@ -42,11 +44,12 @@ pub fn import_alone<N: Namer + Drop, A: Allocator + Copy, R: Source + Drop, W: S
     namer: N,
     source: R,
     sink: &mut W,
+    state: RandomState,
 ) -> Result<Repo<N, A>, ImportFault>
     ensures namer { IfOk result (λ repo. repo.0 ≡ namer) }
     ensures replayed { ImportsAlone (N.name_of namer) (R.coming source) (W.taken sink.old) (W.taken sink.new) result }
 {
-    let mut repo = Repo::new(alloc, namer);
+    let mut repo = Repo::new(alloc, namer, state);
     match import(alloc, &mut repo, source, sink) {
         Ok(_) => Ok(repo),
         Err(fault) => Err(fault),
@@ -64,10 +67,11 @@ pub fn look_imported<N: Namer + Drop, A: Allocator + Copy, R: Source + Drop, W: 
     sink: &mut W,
     revision: &Revision<A>,
     path: &TreePath<A>,
+    state: RandomState,
 ) -> Result<(Mode, Vec<u8, A>), CliFault>
     ensures { LooksUp (N.name_of namer) (R.coming source) (W.taken sink.old) (W.taken sink.new) revision.now path.now result }
 {
-    match import_alone(alloc, namer, source, sink) {
+    match import_alone(alloc, namer, source, sink, state) {
         Ok(repo) => look_in(alloc, &repo, revision, path),
         Err(fault) => Err(CliFault::Import(fault)),
     }

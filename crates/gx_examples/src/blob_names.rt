@@ -7,6 +7,7 @@ use gx_object::{Sha1Namer, ShortNamer};
 use gx_refusing::Refusing;
 use gx_text::{Bytes, Held};
 use std::alloc::{AllocError, Allocator};
+use std::hash::RandomState;
 use std::test::Fail;
 
 const STREAM: &[u8] =
@@ -22,6 +23,7 @@ fn fault(command: u64, kind: BlobsKind) -> Result<u64, BlobsFault> {
 
 #[test]
 fn names_are_those_of_git_in_pieces_of_any_size(rt: HostRuntime) -> Result<(), Fail> {
+    let state = RandomState::new(&rt)?;
     for piece in 1..65usize {
         let mut held = Held::new(rt.alloc(), 123)?;
         let answer = blobs(
@@ -29,6 +31,7 @@ fn names_are_those_of_git_in_pieces_of_any_size(rt: HostRuntime) -> Result<(), F
             Sha1Namer,
             Bytes::new(STREAM, piece, false),
             &mut held,
+            state,
         );
         assert_eq!(rt; answer, Ok(3));
         assert_eq!(rt; held.bytes(), NAMES);
@@ -38,6 +41,7 @@ fn names_are_those_of_git_in_pieces_of_any_size(rt: HostRuntime) -> Result<(), F
 
 #[test]
 fn failed_read_is_no_end(rt: HostRuntime) -> Result<(), Fail> {
+    let state = RandomState::new(&rt)?;
     for len in 0..STREAM.len() {
         let mut held = Held::new(rt.alloc(), 123)?;
         let answer = blobs(
@@ -45,6 +49,7 @@ fn failed_read_is_no_end(rt: HostRuntime) -> Result<(), Fail> {
             Sha1Namer,
             Bytes::new(&STREAM[..len], 7, true),
             &mut held,
+            state,
         );
         let kind = answer.err().map(|f| f.kind);
         assert_eq!(rt; kind, Some(BlobsKind::ReadFailed), "after {len} bytes");
@@ -55,6 +60,7 @@ fn failed_read_is_no_end(rt: HostRuntime) -> Result<(), Fail> {
 
 #[test]
 fn refusals_have_their_command_and_cause(rt: HostRuntime) -> Result<(), Fail> {
+    let state = RandomState::new(&rt)?;
     let rows: [(&[u8], Result<u64, BlobsFault>, usize); 14] = [
         (b"", Ok(0), 0),
         (b"\n\nblob\ndata 0\n\n\n\nblob\ndata 0\n", Ok(2), 82),
@@ -102,6 +108,7 @@ fn refusals_have_their_command_and_cause(rt: HostRuntime) -> Result<(), Fail> {
             Sha1Namer,
             Bytes::new(stream, 4096, false),
             &mut held,
+            state,
         );
         assert_eq!(rt; answer, want);
         assert_eq!(rt; held.bytes().len(), printed);
@@ -111,6 +118,7 @@ fn refusals_have_their_command_and_cause(rt: HostRuntime) -> Result<(), Fail> {
 
 #[test]
 fn comments_and_delimited_data_are_read(rt: HostRuntime) -> Result<(), Fail> {
+    let state = RandomState::new(&rt)?;
     let stream =
         b"# a comment\nblob\n# another\ndata <<\n\nblob\ndata <<END\ntest content\nEND\n".as_slice();
     let names =
@@ -121,6 +129,7 @@ fn comments_and_delimited_data_are_read(rt: HostRuntime) -> Result<(), Fail> {
         Sha1Namer,
         Bytes::new(stream, 4096, false),
         &mut held,
+        state,
     );
     assert_eq!(rt; answer, Ok(2));
     assert_eq!(rt; held.bytes(), names);
@@ -129,6 +138,7 @@ fn comments_and_delimited_data_are_read(rt: HostRuntime) -> Result<(), Fail> {
 
 #[test]
 fn name_of_other_bytes_is_refused(rt: HostRuntime) -> Result<(), Fail> {
+    let state = RandomState::new(&rt)?;
     let stream = b"blob\ndata 1\na\nblob\ndata 1\na\nblob\ndata 1\nb\n".as_slice();
     let name = b"1111111111111111111111111111111111110001\n".as_slice();
     let mut held = Held::new(rt.alloc(), 123)?;
@@ -137,6 +147,7 @@ fn name_of_other_bytes_is_refused(rt: HostRuntime) -> Result<(), Fail> {
         ShortNamer,
         Bytes::new(stream, 4096, false),
         &mut held,
+        state,
     );
     assert_eq!(rt; answer, fault(3, BlobsKind::NameHeld));
     assert_eq!(rt; held.bytes().len(), 82);
@@ -146,6 +157,7 @@ fn name_of_other_bytes_is_refused(rt: HostRuntime) -> Result<(), Fail> {
 
 #[test]
 fn failed_write_stops_after_the_bytes_taken(rt: HostRuntime) -> Result<(), Fail> {
+    let state = RandomState::new(&rt)?;
     for room in 0..123usize {
         let mut held = Held::new(rt.alloc(), room)?;
         let answer = blobs(
@@ -153,6 +165,7 @@ fn failed_write_stops_after_the_bytes_taken(rt: HostRuntime) -> Result<(), Fail>
             Sha1Namer,
             Bytes::new(STREAM, 4096, false),
             &mut held,
+            state,
         );
         let kind = answer.err().map(|f| f.kind);
         assert_eq!(rt;
@@ -176,10 +189,17 @@ struct Trial {
 fn blobs_with_growth_refused<B: Allocator>(
     heap: &Refusing<B>,
     nth: u64,
+    state: RandomState,
 ) -> Result<Trial, AllocError> {
     let mut held = Held::new(heap, 123)?;
     heap.arm(nth);
-    let answer = blobs(heap, Sha1Namer, Bytes::new(STREAM, 5, false), &mut held);
+    let answer = blobs(
+        heap,
+        Sha1Namer,
+        Bytes::new(STREAM, 5, false),
+        &mut held,
+        state,
+    );
     let is_waiting = heap.is_waiting();
     heap.arm(0);
     let is_front = NAMES.starts_with(held.bytes());
@@ -192,10 +212,11 @@ fn blobs_with_growth_refused<B: Allocator>(
 
 #[test]
 fn each_refused_growth_is_out_of_memory(rt: HostRuntime) -> Result<(), Fail> {
+    let state = RandomState::new(&rt)?;
     let mut refused = 0u64;
     for nth in 1..1000u64 {
         let heap = Refusing::new(rt.alloc(), 0);
-        let trial = blobs_with_growth_refused(&heap, nth)?;
+        let trial = blobs_with_growth_refused(&heap, nth, state)?;
         assert!(rt; trial.is_front);
         match trial.answer {
             Ok(count) => {
@@ -214,6 +235,7 @@ fn each_refused_growth_is_out_of_memory(rt: HostRuntime) -> Result<(), Fail> {
 
 #[test]
 fn serve_answers_with_status_and_fault_line(rt: HostRuntime) -> Result<(), Fail> {
+    let state = RandomState::new(&rt)?;
     let rows: [(&[u8], u8, &str); 2] = [
         (STREAM, 0, ""),
         (b"blob\ndata 5\nabc", 1, "gx: command 1: TruncatedData"),
@@ -227,6 +249,7 @@ fn serve_answers_with_status_and_fault_line(rt: HostRuntime) -> Result<(), Fail>
             b"",
             Bytes::new(stream, 4096, false),
             &mut held,
+            state,
         );
         assert_eq!(rt; outcome.status, status);
         assert!(rt; outcome.store.is_none());

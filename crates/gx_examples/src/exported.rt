@@ -10,6 +10,7 @@ use gx_file::FileFault;
 use gx_refusing::Refusing;
 use gx_text::Held;
 use std::alloc::{AllocError, Allocator, Global};
+use std::hash::RandomState;
 use std::test::Fail;
 
 /// Two branches, one with a submodule, which are merged, and a tag.
@@ -37,9 +38,10 @@ fn printed<A: Allocator + Copy>(
     alloc: A,
     line: &Line<'_>,
     store: &[u8],
+    state: RandomState,
 ) -> Result<Vec<u8, A>, AllocError> {
     let mut held = Held::new(alloc, 100_000)?;
-    if ran(alloc, line, store, b"", &mut held).status == 0 {
+    if ran(alloc, line, store, b"", &mut held, state).status == 0 {
         Vec::from_slice(alloc, held.bytes())
     } else {
         Ok(Vec::new(alloc))
@@ -48,6 +50,7 @@ fn printed<A: Allocator + Copy>(
 
 #[test]
 fn stores_are_exported_as_streams(rt: HostRuntime) -> Result<(), Fail> {
+    let state = RandomState::new(&rt)?;
     let merged = with_done(rt.alloc(), MERGED_LINES)?;
     let rows: [(&[u8], &[u8]); 3] = [
         (b"", NOTHING),
@@ -55,17 +58,22 @@ fn stores_are_exported_as_streams(rt: HostRuntime) -> Result<(), Fail> {
         (MERGED, merged.as_slice()),
     ];
     for (stream, text) in rows {
-        let store = stored(rt.alloc(), stream)?;
-        assert!(rt; prints(rt.alloc(), &EXPORT, store.as_slice(), text, "")?);
+        let store = stored(rt.alloc(), stream, state)?;
+        assert!(rt; prints(rt.alloc(), &EXPORT, store.as_slice(), text, "", state)?);
     }
     Ok(())
 }
 
 /// Whether the export of a store, imported into an empty one, has the same refs, the same commits with their parents, and
 /// the same export.
-fn is_the_same_again(alloc: Global, store: &[u8], ranges: &[&str]) -> Result<bool, AllocError> {
-    let text = printed(alloc, &EXPORT, store)?;
-    let again = stored(alloc, text.as_slice())?;
+fn is_the_same_again(
+    alloc: Global,
+    store: &[u8],
+    ranges: &[&str],
+    state: RandomState,
+) -> Result<bool, AllocError> {
+    let text = printed(alloc, &EXPORT, store, state)?;
+    let again = stored(alloc, text.as_slice(), state)?;
     let file = "store";
     let refs = Line::Refs { file };
     let options = LogOptions {
@@ -79,28 +87,38 @@ fn is_the_same_again(alloc: Global, store: &[u8], ranges: &[&str]) -> Result<boo
         file,
         ranges,
     };
-    let has_refs = printed(alloc, &refs, again.as_slice())? == printed(alloc, &refs, store)?;
-    let commits = printed(alloc, &log, store)?;
-    let has_commits = printed(alloc, &log, again.as_slice())? == commits;
-    let has_text = printed(alloc, &EXPORT, again.as_slice())? == text;
+    let has_refs = printed(alloc, &refs, again.as_slice(), state)?
+        == printed(alloc, &refs, store, state)?;
+    let commits = printed(alloc, &log, store, state)?;
+    let has_commits = printed(alloc, &log, again.as_slice(), state)? == commits;
+    let has_text = printed(alloc, &EXPORT, again.as_slice(), state)? == text;
     Ok(has_refs && has_commits && has_text && !text.is_empty() && !commits.is_empty())
 }
 
 #[test]
 fn imported_export_has_the_same_refs_commits_and_export(rt: HostRuntime) -> Result<(), Fail> {
-    let merged = stored(rt.alloc(), MERGED)?;
-    assert!(rt; is_the_same_again(rt.alloc(), merged.as_slice(), ["a", "b", "t"].as_slice())?);
-    let many = stored(rt.alloc(), history(rt.alloc())?.as_slice())?;
+    let state = RandomState::new(&rt)?;
+    let merged = stored(rt.alloc(), MERGED, state)?;
+    assert!(rt;
+        is_the_same_again(
+            rt.alloc(),
+            merged.as_slice(),
+            ["a", "b", "t"].as_slice(),
+            state
+        )?
+    );
+    let many = stored(rt.alloc(), history(rt.alloc())?.as_slice(), state)?;
     let ranges = ["zero", "one", "two", "shared", "old", "refs/gx/export"];
-    assert!(rt; is_the_same_again(rt.alloc(), many.as_slice(), ranges.as_slice())?);
+    assert!(rt; is_the_same_again(rt.alloc(), many.as_slice(), ranges.as_slice(), state)?);
     Ok(())
 }
 
 #[test]
 fn export_that_is_cut_before_its_end_is_refused(rt: HostRuntime) -> Result<(), Fail> {
+    let state = RandomState::new(&rt)?;
     let row = (EMPTY, MERGED_LINES, "gx: command 12: MissingDone");
-    assert!(rt; imported(rt.alloc(), row.0, row.1)?.store.is_none());
-    assert!(rt; is_imported(rt.alloc(), (b"", row.1, row.2))?);
+    assert!(rt; imported(rt.alloc(), row.0, row.1, state)?.store.is_none());
+    assert!(rt; is_imported(rt.alloc(), (b"", row.1, row.2), state)?);
     Ok(())
 }
 
@@ -114,8 +132,15 @@ const ZEROS_TEXT: &[u8] =
 
 #[test]
 fn submodule_of_zeros_is_exported_and_not_imported(rt: HostRuntime) -> Result<(), Fail> {
-    assert!(rt; prints(rt.alloc(), &EXPORT, ZEROS, ZEROS_TEXT, "")?);
-    assert!(rt; is_imported(rt.alloc(), (b"", ZEROS_TEXT, "gx: command 3: Unsupported"))?);
+    let state = RandomState::new(&rt)?;
+    assert!(rt; prints(rt.alloc(), &EXPORT, ZEROS, ZEROS_TEXT, "", state)?);
+    assert!(rt;
+        is_imported(
+            rt.alloc(),
+            (b"", ZEROS_TEXT, "gx: command 3: Unsupported"),
+            state
+        )?
+    );
     Ok(())
 }
 
@@ -125,9 +150,10 @@ fn keeps_front<A: Allocator + Copy>(
     store: &[u8],
     whole: &[u8],
     room: usize,
+    state: RandomState,
 ) -> Result<bool, AllocError> {
     let mut held = Held::new(alloc, room)?;
-    let outcome = ran(alloc, &EXPORT, store, b"", &mut held);
+    let outcome = ran(alloc, &EXPORT, store, b"", &mut held, state);
     let has_counted = match outcome.fault {
         Some(CliFault::Export(ExportFault::WriteFailed { written })) => written == room as u64,
         _ => false,
@@ -139,10 +165,11 @@ fn keeps_front<A: Allocator + Copy>(
 
 #[test]
 fn failed_write_keeps_a_front_of_the_export(rt: HostRuntime) -> Result<(), Fail> {
-    let store = stored(rt.alloc(), MERGED)?;
+    let state = RandomState::new(&rt)?;
+    let store = stored(rt.alloc(), MERGED, state)?;
     let text = with_done(rt.alloc(), MERGED_LINES)?;
     for room in 0..text.len() {
-        assert!(rt; keeps_front(rt.alloc(), store.as_slice(), text.as_slice(), room)?);
+        assert!(rt; keeps_front(rt.alloc(), store.as_slice(), text.as_slice(), room, state)?);
     }
     Ok(())
 }
@@ -153,10 +180,11 @@ fn ends_well<B: Allocator>(
     store: &[u8],
     whole: &[u8],
     nth: u64,
+    state: RandomState,
 ) -> Result<Option<bool>, AllocError> {
     let mut held = Held::new(heap, 4096)?;
     heap.arm(nth);
-    let outcome = ran(heap, &EXPORT, store, b"", &mut held);
+    let outcome = ran(heap, &EXPORT, store, b"", &mut held, state);
     let is_waiting = heap.is_waiting();
     heap.arm(0);
     if is_waiting {
@@ -179,10 +207,11 @@ fn refused_growths<B: Allocator + Copy>(
     alloc: B,
     store: &[u8],
     whole: &[u8],
+    state: RandomState,
 ) -> Result<Option<u64>, AllocError> {
     for nth in 1..3000u64 {
         let heap = Refusing::new(alloc, 0);
-        match ends_well(&heap, store, whole, nth)? {
+        match ends_well(&heap, store, whole, nth, state)? {
             None => {}
             Some(true) => return Ok(Some(nth - 1)),
             Some(false) => return Ok(None),
@@ -193,9 +222,10 @@ fn refused_growths<B: Allocator + Copy>(
 
 #[test]
 fn each_refused_growth_of_an_export_is_out_of_memory(rt: HostRuntime) -> Result<(), Fail> {
-    let store = stored(rt.alloc(), MERGED)?;
+    let state = RandomState::new(&rt)?;
+    let store = stored(rt.alloc(), MERGED, state)?;
     let text = with_done(rt.alloc(), MERGED_LINES)?;
-    let refused = refused_growths(rt.alloc(), store.as_slice(), text.as_slice())?;
+    let refused = refused_growths(rt.alloc(), store.as_slice(), text.as_slice(), state)?;
     assert!(rt; refused.ok_or("a wrong answer")? > 20);
     Ok(())
 }

@@ -13,6 +13,7 @@ use rows::{
     SHOWN, TAGGED,
 };
 use std::alloc::{AllocError, Allocator, Global};
+use std::hash::RandomState;
 use std::test::Fail;
 
 /// The text of an empty store.
@@ -36,9 +37,10 @@ pub(crate) fn ran<A: Allocator + Copy>(
     store: &[u8],
     stream: &[u8],
     sink: &mut Held<A>,
+    state: RandomState,
 ) -> Outcome<A> {
     let source = Bytes::new(stream, 4096, false);
-    serve(alloc, Sha1Namer, line, store, source, sink)
+    serve(alloc, Sha1Namer, line, store, source, sink, state)
 }
 
 /// How an import into a store ends.
@@ -46,18 +48,20 @@ pub(crate) fn imported<A: Allocator + Copy>(
     alloc: A,
     store: &[u8],
     stream: &[u8],
+    state: RandomState,
 ) -> Result<Outcome<A>, AllocError> {
     let mut held = Held::new(alloc, 64)?;
     let line = Line::Import { file: "store" };
-    Ok(ran(alloc, &line, store, stream, &mut held))
+    Ok(ran(alloc, &line, store, stream, &mut held, state))
 }
 
 /// The text of a new store with this stream imported; an empty one where the import is refused.
 pub(crate) fn stored<A: Allocator + Copy>(
     alloc: A,
     stream: &[u8],
+    state: RandomState,
 ) -> Result<Vec<u8, A>, AllocError> {
-    match imported(alloc, EMPTY, stream)?.store {
+    match imported(alloc, EMPTY, stream, state)?.store {
         Some(text) => Ok(text),
         None => Ok(Vec::new(alloc)),
     }
@@ -85,9 +89,10 @@ pub(crate) fn prints<A: Allocator + Copy>(
     store: &[u8],
     printed: &[u8],
     fault: &str,
+    state: RandomState,
 ) -> Result<bool, AllocError> {
     let mut held = Held::new(alloc, 4096)?;
-    let outcome = ran(alloc, line, store, b"", &mut held);
+    let outcome = ran(alloc, line, store, b"", &mut held, state);
     let status = if fault.is_empty() { 0 } else { 1 };
     let is_told = has_line(alloc, outcome.fault, fault)?;
     Ok(is_told && outcome.status == status && outcome.store.is_none() && held.bytes() == printed)
@@ -103,26 +108,29 @@ fn names_of<'a>(alloc: Global, words: &[&'a str]) -> Result<Line<'a>, AllocError
 fn names_are(
     alloc: Global,
     (stream, words, printed, fault): (&[u8], &[&str], &[u8], &str),
+    state: RandomState,
 ) -> Result<bool, AllocError> {
-    let store = stored(alloc, stream)?;
+    let store = stored(alloc, stream, state)?;
     let line = names_of(alloc, words)?;
-    prints(alloc, &line, store.as_slice(), printed, fault)
+    prints(alloc, &line, store.as_slice(), printed, fault, state)
 }
 
 #[test]
 fn names_are_those_of_git(rt: HostRuntime) -> Result<(), Fail> {
+    let state = RandomState::new(&rt)?;
     for row in NAMED {
         let (stream, words, printed) = *row;
-        assert!(rt; names_are(rt.alloc(), (stream, words, printed, ""))?);
+        assert!(rt; names_are(rt.alloc(), (stream, words, printed, ""), state)?);
     }
     Ok(())
 }
 
 #[test]
 fn refused_word_has_its_number_and_nothing_is_printed(rt: HostRuntime) -> Result<(), Fail> {
+    let state = RandomState::new(&rt)?;
     for row in REFUSED_WORDS {
         let (stream, words, fault) = *row;
-        assert!(rt; names_are(rt.alloc(), (stream, words, b"", fault))?);
+        assert!(rt; names_are(rt.alloc(), (stream, words, b"", fault), state)?);
     }
     Ok(())
 }
@@ -131,17 +139,19 @@ fn refused_word_has_its_number_and_nothing_is_printed(rt: HostRuntime) -> Result
 fn shows<A: Allocator + Copy>(
     alloc: A,
     (stream, revision, printed): (&[u8], &str, &[u8]),
+    state: RandomState,
 ) -> Result<bool, AllocError> {
-    let store = stored(alloc, stream)?;
+    let store = stored(alloc, stream, state)?;
     let file = "store";
     let line = Line::Show { file, revision };
-    prints(alloc, &line, store.as_slice(), printed, "")
+    prints(alloc, &line, store.as_slice(), printed, "", state)
 }
 
 #[test]
 fn revisions_of_a_store_are_shown(rt: HostRuntime) -> Result<(), Fail> {
+    let state = RandomState::new(&rt)?;
     for row in SHOWN {
-        assert!(rt; shows(rt.alloc(), *row)?);
+        assert!(rt; shows(rt.alloc(), *row, state)?);
     }
     Ok(())
 }
@@ -150,16 +160,18 @@ fn revisions_of_a_store_are_shown(rt: HostRuntime) -> Result<(), Fail> {
 fn refs_are<A: Allocator + Copy>(
     alloc: A,
     (stream, printed): (&[u8], &[u8]),
+    state: RandomState,
 ) -> Result<bool, AllocError> {
-    let store = stored(alloc, stream)?;
+    let store = stored(alloc, stream, state)?;
     let line = Line::Refs { file: "store" };
-    prints(alloc, &line, store.as_slice(), printed, "")
+    prints(alloc, &line, store.as_slice(), printed, "", state)
 }
 
 #[test]
 fn refs_are_listed_by_name(rt: HostRuntime) -> Result<(), Fail> {
+    let state = RandomState::new(&rt)?;
     for row in LISTED {
-        assert!(rt; refs_are(rt.alloc(), *row)?);
+        assert!(rt; refs_are(rt.alloc(), *row, state)?);
     }
     Ok(())
 }
@@ -168,9 +180,10 @@ fn refs_are_listed_by_name(rt: HostRuntime) -> Result<(), Fail> {
 pub(crate) fn is_imported<A: Allocator + Copy>(
     alloc: A,
     (first, second, fault): (&[u8], &[u8], &str),
+    state: RandomState,
 ) -> Result<bool, AllocError> {
-    let store = stored(alloc, first)?;
-    let outcome = imported(alloc, store.as_slice(), second)?;
+    let store = stored(alloc, first, state)?;
+    let outcome = imported(alloc, store.as_slice(), second, state)?;
     let is_told = has_line(alloc, outcome.fault, fault)?;
     let status = if fault.is_empty() { 0 } else { 1 };
     let has_text = outcome.store.is_some();
@@ -179,17 +192,19 @@ pub(crate) fn is_imported<A: Allocator + Copy>(
 
 #[test]
 fn refused_imports_give_no_store_text(rt: HostRuntime) -> Result<(), Fail> {
+    let state = RandomState::new(&rt)?;
     for row in REFUSED_IMPORTS {
-        assert!(rt; is_imported(rt.alloc(), *row)?);
+        assert!(rt; is_imported(rt.alloc(), *row, state)?);
     }
     Ok(())
 }
 
 #[test]
 fn accepted_imports_give_a_store_text(rt: HostRuntime) -> Result<(), Fail> {
+    let state = RandomState::new(&rt)?;
     for row in ACCEPTED {
         let (first, second) = *row;
-        assert!(rt; is_imported(rt.alloc(), (first, second, ""))?);
+        assert!(rt; is_imported(rt.alloc(), (first, second, ""), state)?);
     }
     Ok(())
 }
@@ -198,19 +213,21 @@ fn accepted_imports_give_a_store_text(rt: HostRuntime) -> Result<(), Fail> {
 fn names_are_after(
     alloc: Global,
     (first, second, words, printed): (&[u8], &[u8], &[&str], &[u8]),
+    state: RandomState,
 ) -> Result<bool, AllocError> {
-    let store = stored(alloc, first)?;
+    let store = stored(alloc, first, state)?;
     let line = names_of(alloc, words)?;
-    match imported(alloc, store.as_slice(), second)?.store {
-        Some(text) => prints(alloc, &line, text.as_slice(), printed, ""),
+    match imported(alloc, store.as_slice(), second, state)?.store {
+        Some(text) => prints(alloc, &line, text.as_slice(), printed, "", state),
         None => Ok(false),
     }
 }
 
 #[test]
 fn second_import_goes_on_from_the_first(rt: HostRuntime) -> Result<(), Fail> {
+    let state = RandomState::new(&rt)?;
     let row = (ROOT, SECOND, ["main", "main~1"].as_slice(), BOTH);
-    assert!(rt; names_are_after(rt.alloc(), row)?);
+    assert!(rt; names_are_after(rt.alloc(), row, state)?);
     Ok(())
 }
 
@@ -221,9 +238,10 @@ fn writes<A: Allocator + Copy>(
     store: &[u8],
     stream: &[u8],
     text: &[u8],
+    state: RandomState,
 ) -> Result<bool, AllocError> {
     let mut held = Held::new(alloc, 64)?;
-    let outcome = ran(alloc, line, store, stream, &mut held);
+    let outcome = ran(alloc, line, store, stream, &mut held, state);
     let is_accepted = outcome.status == 0 && outcome.fault.is_none();
     match outcome.store {
         Some(next) => Ok(is_accepted && next.as_slice() == text && held.bytes().is_empty()),
@@ -233,38 +251,52 @@ fn writes<A: Allocator + Copy>(
 
 #[test]
 fn store_texts_have_their_form(rt: HostRuntime) -> Result<(), Fail> {
+    let state = RandomState::new(&rt)?;
     let init = Line::Init { file: "store" };
-    assert!(rt; writes(rt.alloc(), &init, b"not read", b"", EMPTY)?);
+    assert!(rt; writes(rt.alloc(), &init, b"not read", b"", EMPTY, state)?);
     let import = Line::Import { file: "store" };
-    assert!(rt; writes(rt.alloc(), &import, EMPTY, ONE_BLOB, WITH_BLOB)?);
-    assert!(rt; writes(rt.alloc(), &import, WITH_BLOB, b"", WITH_BLOB)?);
+    assert!(rt; writes(rt.alloc(), &import, EMPTY, ONE_BLOB, WITH_BLOB, state)?);
+    assert!(rt; writes(rt.alloc(), &import, WITH_BLOB, b"", WITH_BLOB, state)?);
     Ok(())
 }
 
 /// Whether each command that reads a store refuses this text so, whatever its words are.
-fn is_refused(alloc: Global, (text, fault): (&[u8], &str)) -> Result<bool, AllocError> {
+fn is_refused(
+    alloc: Global,
+    (text, fault): (&[u8], &str),
+    state: RandomState,
+) -> Result<bool, AllocError> {
     let import = Line::Import { file: "store" };
     let refs = Line::Refs { file: "store" };
     let names = names_of(alloc, ["a..b"].as_slice())?;
-    let is_not_imported = prints(alloc, &import, text, b"", fault)?;
-    let is_not_listed = prints(alloc, &refs, text, b"", fault)?;
-    let is_not_parsed = prints(alloc, &names, text, b"", fault)?;
+    let is_not_imported = prints(alloc, &import, text, b"", fault, state)?;
+    let is_not_listed = prints(alloc, &refs, text, b"", fault, state)?;
+    let is_not_parsed = prints(alloc, &names, text, b"", fault, state)?;
     Ok(is_not_imported && is_not_listed && is_not_parsed)
 }
 
 #[test]
 fn store_text_is_read_before_all_else(rt: HostRuntime) -> Result<(), Fail> {
+    let state = RandomState::new(&rt)?;
     for row in REFUSED_STORES {
-        assert!(rt; is_refused(rt.alloc(), *row)?);
+        assert!(rt; is_refused(rt.alloc(), *row, state)?);
     }
     Ok(())
 }
 
 #[test]
 fn progress_goes_out_where_an_import_is_accepted(rt: HostRuntime) -> Result<(), Fail> {
+    let state = RandomState::new(&rt)?;
     let mut held = Held::new(rt.alloc(), 64)?;
     let line = Line::Import { file: "store" };
-    let outcome = ran(rt.alloc(), &line, EMPTY, b"progress half\n", &mut held);
+    let outcome = ran(
+        rt.alloc(),
+        &line,
+        EMPTY,
+        b"progress half\n",
+        &mut held,
+        state,
+    );
     assert_eq!(rt; outcome.status, 0);
     assert_eq!(rt; held.bytes(), b"progress half\n".as_slice());
     Ok(())
@@ -297,18 +329,20 @@ fn path_ends<A: Allocator + Copy>(
     count: u64,
     behind: &[u8],
     fault: &str,
+    state: RandomState,
 ) -> Result<bool, AllocError> {
     let stream = with_path(alloc, front, count, behind)?;
-    is_imported(alloc, (b"", stream.as_slice(), fault))
+    is_imported(alloc, (b"", stream.as_slice(), fault), state)
 }
 
 #[test]
 fn paths_have_4095_bytes_at_most(rt: HostRuntime) -> Result<(), Fail> {
+    let state = RandomState::new(&rt)?;
     let too_long = "gx: command 1: PathTooLong";
-    assert!(rt; path_ends(rt.alloc(), b"", 4095, b"", "")?);
-    assert!(rt; path_ends(rt.alloc(), b"", 4096, b"", too_long)?);
-    assert!(rt; path_ends(rt.alloc(), b"e/", 4093, b"R e d\n", "")?);
-    assert!(rt; path_ends(rt.alloc(), b"e/", 4093, b"R e dd\n", too_long)?);
+    assert!(rt; path_ends(rt.alloc(), b"", 4095, b"", "", state)?);
+    assert!(rt; path_ends(rt.alloc(), b"", 4096, b"", too_long, state)?);
+    assert!(rt; path_ends(rt.alloc(), b"e/", 4093, b"R e d\n", "", state)?);
+    assert!(rt; path_ends(rt.alloc(), b"e/", 4093, b"R e dd\n", too_long, state)?);
     Ok(())
 }
 
@@ -319,9 +353,10 @@ fn keeps_front<A: Allocator + Copy>(
     store: &[u8],
     whole: &[u8],
     room: usize,
+    state: RandomState,
 ) -> Result<bool, AllocError> {
     let mut held = Held::new(alloc, room)?;
-    let outcome = ran(alloc, line, store, b"", &mut held);
+    let outcome = ran(alloc, line, store, b"", &mut held, state);
     let is_told = has_line(alloc, outcome.fault, "gx: write failed")?;
     let is_front = held.bytes().len() == room && whole.starts_with(held.bytes());
     Ok(is_told && outcome.status == 1 && is_front)
@@ -329,14 +364,15 @@ fn keeps_front<A: Allocator + Copy>(
 
 #[test]
 fn failed_write_keeps_a_front_of_the_lines(rt: HostRuntime) -> Result<(), Fail> {
-    let store = stored(rt.alloc(), ROOT)?;
+    let state = RandomState::new(&rt)?;
+    let store = stored(rt.alloc(), ROOT, state)?;
     let names = names_of(rt.alloc(), ["main", "main"].as_slice())?;
     let refs = Line::Refs { file: "store" };
     for room in 0..TWICE.len() {
-        assert!(rt; keeps_front(rt.alloc(), &names, store.as_slice(), TWICE, room)?);
+        assert!(rt; keeps_front(rt.alloc(), &names, store.as_slice(), TWICE, room, state)?);
     }
     for room in 0..ONE_REF.len() {
-        assert!(rt; keeps_front(rt.alloc(), &refs, store.as_slice(), ONE_REF, room)?);
+        assert!(rt; keeps_front(rt.alloc(), &refs, store.as_slice(), ONE_REF, room, state)?);
     }
     Ok(())
 }
@@ -347,10 +383,11 @@ fn ends_well<B: Allocator>(
     line: &Line<'_>,
     (store, stream, printed): (&[u8], &[u8], &[u8]),
     nth: u64,
+    state: RandomState,
 ) -> Result<Option<bool>, AllocError> {
     let mut held = Held::new(heap, 4096)?;
     heap.arm(nth);
-    let outcome = ran(heap, line, store, stream, &mut held);
+    let outcome = ran(heap, line, store, stream, &mut held, state);
     let is_waiting = heap.is_waiting();
     heap.arm(0);
     if is_waiting {
@@ -374,10 +411,11 @@ fn refused_growths<B: Allocator + Copy>(
     alloc: B,
     line: &Line<'_>,
     given: (&[u8], &[u8], &[u8]),
+    state: RandomState,
 ) -> Result<Option<u64>, AllocError> {
     for nth in 1..3000u64 {
         let heap = Refusing::new(alloc, 0);
-        match ends_well(&heap, line, given, nth)? {
+        match ends_well(&heap, line, given, nth, state)? {
             None => {}
             Some(true) => return Ok(Some(nth - 1)),
             Some(false) => return Ok(None),
@@ -388,18 +426,19 @@ fn refused_growths<B: Allocator + Copy>(
 
 #[test]
 fn each_refused_growth_of_a_command_is_out_of_memory(rt: HostRuntime) -> Result<(), Fail> {
-    let store = stored(rt.alloc(), ROOT)?;
+    let state = RandomState::new(&rt)?;
+    let store = stored(rt.alloc(), ROOT, state)?;
     let names = names_of(rt.alloc(), ["main", "main"].as_slice())?;
     let given = (store.as_slice(), b"".as_slice(), TWICE);
-    assert!(rt; refused_growths(rt.alloc(), &names, given)?.ok_or("a wrong answer")? > 5);
+    assert!(rt; refused_growths(rt.alloc(), &names, given, state)?.ok_or("a wrong answer")? > 5);
     let refs = Line::Refs { file: "store" };
     let given = (store.as_slice(), b"".as_slice(), ONE_REF);
-    assert!(rt; refused_growths(rt.alloc(), &refs, given)?.ok_or("a wrong answer")? > 3);
+    assert!(rt; refused_growths(rt.alloc(), &refs, given, state)?.ok_or("a wrong answer")? > 3);
     let import = Line::Import { file: "store" };
     let given = (store.as_slice(), TAGGED, b"".as_slice());
-    assert!(rt; refused_growths(rt.alloc(), &import, given)?.ok_or("a wrong answer")? > 20);
+    assert!(rt; refused_growths(rt.alloc(), &import, given, state)?.ok_or("a wrong answer")? > 20);
     let init = Line::Init { file: "store" };
     let given = (b"".as_slice(), b"".as_slice(), b"".as_slice());
-    assert!(rt; refused_growths(rt.alloc(), &init, given)?.ok_or("a wrong answer")? > 0);
+    assert!(rt; refused_growths(rt.alloc(), &init, given, state)?.ok_or("a wrong answer")? > 0);
     Ok(())
 }

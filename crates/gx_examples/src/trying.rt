@@ -6,6 +6,7 @@ use gx_refusing::Refusing;
 use gx_rev::Revision;
 use gx_text::{Bytes, Held, TreePath};
 use std::alloc::{AllocError, Allocator};
+use std::hash::RandomState;
 use std::test::Fail;
 
 const STREAM: &[u8] =
@@ -73,9 +74,10 @@ fn outcome_of<A: Allocator + Copy>(
     word: &str,
     fails: bool,
     sink: &mut Held<A>,
+    state: RandomState,
 ) -> Outcome<A> {
     let source = Bytes::new(stream, 7, fails);
-    serve(alloc, Sha1Namer, &Line::Try(word), b"", source, sink)
+    serve(alloc, Sha1Namer, &Line::Try(word), b"", source, sink, state)
 }
 
 /// Whether a fault prints this line, and none prints an empty one.
@@ -99,9 +101,10 @@ fn ends_so<A: Allocator + Copy>(
     (stream, word, output): Row<'_>,
     fails: bool,
     line: &str,
+    state: RandomState,
 ) -> Result<bool, AllocError> {
     let mut held = Held::new(alloc, 4096)?;
-    let outcome = outcome_of(alloc, stream, word, fails, &mut held);
+    let outcome = outcome_of(alloc, stream, word, fails, &mut held, state);
     let status = if line.is_empty() { 0 } else { 1 };
     let is_told = has_line(alloc, outcome.fault, line)?;
     Ok(is_told && outcome.status == status && outcome.store.is_none() && held.bytes() == output)
@@ -109,24 +112,35 @@ fn ends_so<A: Allocator + Copy>(
 
 #[test]
 fn revisions_are_shown_behind_the_progress(rt: HostRuntime) -> Result<(), Fail> {
+    let state = RandomState::new(&rt)?;
     for row in SHOWN {
-        assert!(rt; ends_so(rt.alloc(), *row, false, "")?);
+        assert!(rt; ends_so(rt.alloc(), *row, false, "", state)?);
     }
     Ok(())
 }
 
 #[test]
 fn refusals_show_the_progress_alone(rt: HostRuntime) -> Result<(), Fail> {
+    let state = RandomState::new(&rt)?;
     for row in REFUSED {
         let (stream, word, line) = *row;
-        assert!(rt; ends_so(rt.alloc(), (stream, word, b"progress x\n"), false, line)?);
+        assert!(rt;
+            ends_so(
+                rt.alloc(),
+                (stream, word, b"progress x\n"),
+                false,
+                line,
+                state
+            )?
+        );
     }
     assert!(rt;
         ends_so(
             rt.alloc(),
             (b"foo\n", "a..b", b""),
             false,
-            "gx: command 1: UnknownCommand"
+            "gx: command 1: UnknownCommand",
+            state
         )?
     );
     assert!(rt;
@@ -134,7 +148,8 @@ fn refusals_show_the_progress_alone(rt: HostRuntime) -> Result<(), Fail> {
             rt.alloc(),
             (b"progress x\n", "main", b"progress x\n"),
             true,
-            "gx: command 2: ReadFailed"
+            "gx: command 2: ReadFailed",
+            state
         )?
     );
     Ok(())
@@ -142,8 +157,9 @@ fn refusals_show_the_progress_alone(rt: HostRuntime) -> Result<(), Fail> {
 
 #[test]
 fn tag_is_shown_by_its_body(rt: HostRuntime) -> Result<(), Fail> {
+    let state = RandomState::new(&rt)?;
     let mut held = Held::new(rt.alloc(), 4096)?;
-    let outcome = outcome_of(rt.alloc(), STREAM, "v1", false, &mut held);
+    let outcome = outcome_of(rt.alloc(), STREAM, "v1", false, &mut held, state);
     assert_eq!(rt; outcome.status, 0);
     assert!(rt; held.bytes().starts_with(b"progress x\nobject "));
     assert!(rt;
@@ -154,9 +170,13 @@ fn tag_is_shown_by_its_body(rt: HostRuntime) -> Result<(), Fail> {
 }
 
 /// Whether a sink with room for so many bytes keeps just these, and the line tells where it failed.
-fn keeps_front<A: Allocator + Copy>(alloc: A, room: usize) -> Result<bool, AllocError> {
+fn keeps_front<A: Allocator + Copy>(
+    alloc: A,
+    room: usize,
+    state: RandomState,
+) -> Result<bool, AllocError> {
     let mut held = Held::new(alloc, room)?;
-    let outcome = outcome_of(alloc, STREAM, "main", false, &mut held);
+    let outcome = outcome_of(alloc, STREAM, "main", false, &mut held, state);
     let line = if room < 11 {
         "gx: command 1: WriteFailed"
     } else {
@@ -169,9 +189,10 @@ fn keeps_front<A: Allocator + Copy>(alloc: A, room: usize) -> Result<bool, Alloc
 
 #[test]
 fn failed_write_keeps_a_front_of_the_output(rt: HostRuntime) -> Result<(), Fail> {
+    let state = RandomState::new(&rt)?;
     for room in 0..COMMIT.len() {
         assert!(rt;
-            keeps_front(rt.alloc(), room)?,
+            keeps_front(rt.alloc(), room, state)?,
             "with room for {room} bytes"
         );
     }
@@ -198,10 +219,11 @@ fn is_memory(fault: Option<CliFault>) -> bool {
 fn tried_with_growth_refused<B: Allocator>(
     heap: &Refusing<B>,
     nth: u64,
+    state: RandomState,
 ) -> Result<Trial, AllocError> {
     let mut held = Held::new(heap, 4096)?;
     heap.arm(nth);
-    let outcome = outcome_of(heap, WIDE, "main^{tree}", false, &mut held);
+    let outcome = outcome_of(heap, WIDE, "main^{tree}", false, &mut held, state);
     heap.arm(0);
     Ok(Trial {
         status: outcome.status,
@@ -212,10 +234,13 @@ fn tried_with_growth_refused<B: Allocator>(
 }
 
 /// How many growths are refused before a try succeeds; none where one is answered otherwise.
-fn refused_growths<B: Allocator + Copy>(alloc: B) -> Result<Option<u64>, AllocError> {
+fn refused_growths<B: Allocator + Copy>(
+    alloc: B,
+    state: RandomState,
+) -> Result<Option<u64>, AllocError> {
     for nth in 1..3000u64 {
         let heap = Refusing::new(alloc, 0);
-        let trial = tried_with_growth_refused(&heap, nth)?;
+        let trial = tried_with_growth_refused(&heap, nth, state)?;
         if trial.status == 0 {
             return Ok(if trial.is_whole { Some(nth - 1) } else { None });
         }
@@ -228,13 +253,19 @@ fn refused_growths<B: Allocator + Copy>(alloc: B) -> Result<Option<u64>, AllocEr
 
 #[test]
 fn each_refused_growth_of_a_trial_is_out_of_memory(rt: HostRuntime) -> Result<(), Fail> {
-    let refused = refused_growths(rt.alloc())?.ok_or("a wrong answer")?;
+    let state = RandomState::new(&rt)?;
+    let refused = refused_growths(rt.alloc(), state)?.ok_or("a wrong answer")?;
     assert!(rt; refused > 20);
     Ok(())
 }
 
 /// Whether the file at this path of `main` has the mode of a plain file and these bytes.
-fn looks_up<A: Allocator + Copy>(alloc: A, path: &[u8], bytes: &[u8]) -> Result<bool, AllocError> {
+fn looks_up<A: Allocator + Copy>(
+    alloc: A,
+    path: &[u8],
+    bytes: &[u8],
+    state: RandomState,
+) -> Result<bool, AllocError> {
     let Ok(revision) = Revision::read(alloc, b"main") else {
         return Ok(false);
     };
@@ -243,7 +274,9 @@ fn looks_up<A: Allocator + Copy>(alloc: A, path: &[u8], bytes: &[u8]) -> Result<
     };
     let mut held = Held::new(alloc, 64)?;
     let source = Bytes::new(WIDE, 4096, false);
-    match look_imported(alloc, ShortNamer, source, &mut held, &revision, &path) {
+    match look_imported(
+        alloc, ShortNamer, source, &mut held, &revision, &path, state,
+    ) {
         Ok((mode, file)) => Ok(mode == Mode::File && file.as_slice() == bytes),
         Err(_) => Ok(false),
     }
@@ -251,7 +284,8 @@ fn looks_up<A: Allocator + Copy>(alloc: A, path: &[u8], bytes: &[u8]) -> Result<
 
 #[test]
 fn file_of_an_imported_stream_is_looked_up(rt: HostRuntime) -> Result<(), Fail> {
-    assert!(rt; looks_up(rt.alloc(), b"a/test.txt", b"version 1\n")?);
-    assert!(rt; !looks_up(rt.alloc(), b"a", b"")?);
+    let state = RandomState::new(&rt)?;
+    assert!(rt; looks_up(rt.alloc(), b"a/test.txt", b"version 1\n", state)?);
+    assert!(rt; !looks_up(rt.alloc(), b"a", b"", state)?);
     Ok(())
 }

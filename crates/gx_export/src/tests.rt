@@ -5,6 +5,7 @@ use gx_refusing::Refusing;
 use gx_repo::Repo;
 use gx_text::{Bytes, Held};
 use std::alloc::{AllocError, Allocator};
+use std::hash::RandomState;
 use std::test::Fail;
 
 /// Two branches, one with a submodule, which are merged, and a tag.
@@ -38,8 +39,9 @@ fn exports_as<A: Allocator + Copy>(
     alloc: A,
     stream: &[u8],
     text: &[u8],
+    state: RandomState,
 ) -> Result<bool, AllocError> {
-    let mut repo = Repo::new(alloc, Sha1Namer);
+    let mut repo = Repo::new(alloc, Sha1Namer, state);
     let is_accepted = accepts(alloc, &mut repo, stream)?;
     let mut sink = Held::new(alloc, text.len())?;
     let answer = export(alloc, &repo, &mut sink);
@@ -48,6 +50,7 @@ fn exports_as<A: Allocator + Copy>(
 
 #[test]
 fn export_has_its_text(rt: HostRuntime) -> Result<(), Fail> {
+    let state = RandomState::new(&rt)?;
     let rows: [(&[u8], &[u8]); 4] = [
         (b"", b"feature done\ndone\n"),
         (b"blob\ndata 4\nlost\n", b"feature done\ndone\n"),
@@ -55,7 +58,7 @@ fn export_has_its_text(rt: HostRuntime) -> Result<(), Fail> {
         (MODES, MODES_TEXT),
     ];
     for (stream, text) in rows {
-        assert!(rt; exports_as(rt.alloc(), stream, text)?);
+        assert!(rt; exports_as(rt.alloc(), stream, text, state)?);
     }
     Ok(())
 }
@@ -63,8 +66,9 @@ fn export_has_its_text(rt: HostRuntime) -> Result<(), Fail> {
 /// A stream that was exported is exported as it is.
 #[test]
 fn export_of_an_export_is_the_same(rt: HostRuntime) -> Result<(), Fail> {
-    assert!(rt; exports_as(rt.alloc(), MERGED_TEXT, MERGED_TEXT)?);
-    assert!(rt; exports_as(rt.alloc(), MODES_TEXT, MODES_TEXT)?);
+    let state = RandomState::new(&rt)?;
+    assert!(rt; exports_as(rt.alloc(), MERGED_TEXT, MERGED_TEXT, state)?);
+    assert!(rt; exports_as(rt.alloc(), MODES_TEXT, MODES_TEXT, state)?);
     Ok(())
 }
 
@@ -85,8 +89,9 @@ fn stops_at<N: Namer, A: Allocator + Copy>(
 
 #[test]
 fn failed_write_stops_the_export(rt: HostRuntime) -> Result<(), Fail> {
+    let state = RandomState::new(&rt)?;
     let alloc = rt.alloc();
-    let mut repo = Repo::new(alloc, Sha1Namer);
+    let mut repo = Repo::new(alloc, Sha1Namer, state);
     assert!(rt; accepts(alloc, &mut repo, MERGED)?);
     for room in 0..MERGED_TEXT.len() {
         assert!(rt; stops_at(alloc, &repo, MERGED_TEXT, room)?, "at {room}");
@@ -101,8 +106,9 @@ fn refused_at<B: Allocator>(
     stream: &[u8],
     text: &[u8],
     nth: u64,
+    state: RandomState,
 ) -> Result<Option<bool>, AllocError> {
-    let mut repo = Repo::new(heap, Sha1Namer);
+    let mut repo = Repo::new(heap, Sha1Namer, state);
     let is_accepted = accepts(heap, &mut repo, stream)?;
     let mut sink = Held::new(heap, text.len())?;
     heap.arm(nth);
@@ -121,10 +127,11 @@ fn refused_growths<B: Allocator + Copy>(
     alloc: B,
     stream: &[u8],
     text: &[u8],
+    state: RandomState,
 ) -> Result<Option<u64>, AllocError> {
     for nth in 1..1000u64 {
         let heap = Refusing::new(alloc, 0);
-        match refused_at(&heap, stream, text, nth)? {
+        match refused_at(&heap, stream, text, nth, state)? {
             None => return Ok(Some(nth - 1)),
             Some(true) => {}
             Some(false) => return Ok(None),
@@ -135,9 +142,10 @@ fn refused_growths<B: Allocator + Copy>(
 
 #[test]
 fn refused_growths_stop_the_export(rt: HostRuntime) -> Result<(), Fail> {
-    let refused = refused_growths(rt.alloc(), MERGED, MERGED_TEXT)?.ok_or("a wrong answer")?;
+    let state = RandomState::new(&rt)?;
+    let refused = refused_growths(rt.alloc(), MERGED, MERGED_TEXT, state)?.ok_or("a wrong answer")?;
     assert!(rt; refused > 10);
-    let refused = refused_growths(rt.alloc(), MODES, MODES_TEXT)?.ok_or("a wrong answer")?;
+    let refused = refused_growths(rt.alloc(), MODES, MODES_TEXT, state)?.ok_or("a wrong answer")?;
     assert!(rt; refused > 10);
     Ok(())
 }

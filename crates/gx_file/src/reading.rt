@@ -13,6 +13,7 @@ use gx_model::store_laws::stores_are_read;
 use gx_object::Namer;
 use gx_repo::Repo;
 use std::alloc::Allocator;
+use std::hash::RandomState;
 
 /// The repository of a store text, every claim of which is checked: the form of its lines, each body, link and name, and
 /// each ref. The text of the repository is the one that was read.
@@ -25,6 +26,7 @@ pub fn read<N: Namer + Drop, A: Allocator + Copy>(
     alloc: A,
     namer: N,
     text: &[u8],
+    state: RandomState,
 ) -> Result<Repo<N, A>, FileFault>
     ensures namer { IfOk result (λ repo. repo.0 ≡ namer) }
     ensures store { Reads (λ repo. repo.1) result (store_of (N.name_of namer) text.now) }
@@ -32,7 +34,7 @@ pub fn read<N: Namer + Drop, A: Allocator + Copy>(
     ensures refused { IfErr result (λ why. why ≢ fault.OutOfMemory → IsNoStoreText (N.name_of namer) text.now) }
 {
     stores_are_read();
-    read_store(alloc, namer, text)
+    read_store(alloc, namer, text, state)
 }
 
 /// The repository of a store text, line by line.
@@ -41,13 +43,14 @@ fn read_store<N: Namer + Drop, A: Allocator + Copy>(
     alloc: A,
     namer: N,
     text: &[u8],
+    state: RandomState,
 ) -> Result<Repo<N, A>, FileFault>
     ensures namer { IfOk result (λ repo. repo.0 ≡ namer) }
     ensures store { Reads (λ repo. repo.1) result (store_of (N.name_of namer) text.now) }
 {
     let rest = read_magic(text)?;
     let (objects, rest) = read_count(b"objects", rest)?;
-    let mut repo = Repo::new(alloc, namer);
+    let mut repo = Repo::new(alloc, namer, state);
     let rest = read_records(&mut repo, objects, rest)?;
     let (refs, rest) = read_count(b"refs", rest)?;
     let rest = read_refs(alloc, &mut repo, refs, rest)?;

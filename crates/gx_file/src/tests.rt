@@ -4,6 +4,7 @@ use super::*;
 use gx_object::Sha1Namer;
 use gx_refusing::Refusing;
 use std::alloc::{AllocError, Allocator};
+use std::hash::RandomState;
 use std::test::Fail;
 
 mod limits;
@@ -45,13 +46,13 @@ fn joined<A: Allocator + Copy>(alloc: A, parts: &[&[u8]]) -> Result<Vec<u8, A>, 
 }
 
 /// Why a text is refused; none where it is read.
-fn fault_in<A: Allocator + Copy>(alloc: A, text: &[u8]) -> Option<FileFault> {
-    read(alloc, Sha1Namer, text).err()
+fn fault_in<A: Allocator + Copy>(alloc: A, text: &[u8], state: RandomState) -> Option<FileFault> {
+    read(alloc, Sha1Namer, text, state).err()
 }
 
 /// Whether a text is read, and what was read is written as that text.
-fn is_written_again<A: Allocator + Copy>(alloc: A, text: &[u8]) -> bool {
-    let Ok(repo) = read(alloc, Sha1Namer, text) else {
+fn is_written_again<A: Allocator + Copy>(alloc: A, text: &[u8], state: RandomState) -> bool {
+    let Ok(repo) = read(alloc, Sha1Namer, text, state) else {
         return false;
     };
     match write(alloc, &repo) {
@@ -62,19 +63,25 @@ fn is_written_again<A: Allocator + Copy>(alloc: A, text: &[u8]) -> bool {
 
 #[test]
 fn texts_are_written_again(rt: HostRuntime) -> Result<(), Fail> {
+    let state = RandomState::new(&rt)?;
     let empty: &[u8] = b"gxstore 1\nobjects 0\nrefs 0\nend\n";
     assert_eq!(rt; empty.len(), 31);
-    assert!(rt; is_written_again(rt.alloc(), empty));
+    assert!(rt; is_written_again(rt.alloc(), empty, state));
     let one_blob: &[u8] = b"gxstore 1\nobjects 1\nblob 13\ntest content\n\nrefs 0\nend\n";
-    assert!(rt; is_written_again(rt.alloc(), one_blob));
+    assert!(rt; is_written_again(rt.alloc(), one_blob, state));
     let whole = joined(rt.alloc(), WHOLE)?;
-    assert!(rt; is_written_again(rt.alloc(), whole.as_slice()));
+    assert!(rt; is_written_again(rt.alloc(), whole.as_slice(), state));
     Ok(())
 }
 
 /// Whether the objects of a text that is read have these names, in this order.
-fn has_names<A: Allocator + Copy>(alloc: A, text: &[u8], names: &[&[u8]]) -> bool {
-    let Ok(repo) = read(alloc, Sha1Namer, text) else {
+fn has_names<A: Allocator + Copy>(
+    alloc: A,
+    text: &[u8],
+    names: &[&[u8]],
+    state: RandomState,
+) -> bool {
+    let Ok(repo) = read(alloc, Sha1Namer, text, state) else {
         return false;
     };
     for (place, digits) in names.iter().enumerate() {
@@ -88,26 +95,32 @@ fn has_names<A: Allocator + Copy>(alloc: A, text: &[u8], names: &[&[u8]]) -> boo
 
 #[test]
 fn objects_have_gits_names(rt: HostRuntime) -> Result<(), Fail> {
+    let state = RandomState::new(&rt)?;
     let whole = joined(rt.alloc(), WHOLE)?;
-    assert!(rt; has_names(rt.alloc(), whole.as_slice(), NAMES));
+    assert!(rt; has_names(rt.alloc(), whole.as_slice(), NAMES, state));
     Ok(())
 }
 
 /// Whether a text is refused for its own sake, or else is the text of what is read.
-fn is_told<A: Allocator + Copy>(alloc: A, text: &[u8]) -> bool {
-    match fault_in(alloc, text) {
-        None => is_written_again(alloc, text),
+fn is_told<A: Allocator + Copy>(alloc: A, text: &[u8], state: RandomState) -> bool {
+    match fault_in(alloc, text, state) {
+        None => is_written_again(alloc, text, state),
         Some(fault) => fault != FileFault::OutOfMemory,
     }
 }
 
 /// Whether a text is told with each bit of the byte at a place flipped in turn.
-fn are_flips_told<A: Allocator + Copy>(alloc: A, text: &mut [u8], place: usize) -> bool
+fn are_flips_told<A: Allocator + Copy>(
+    alloc: A,
+    text: &mut [u8],
+    place: usize,
+    state: RandomState,
+) -> bool
     requires { place < length text.now }
 {
     for bit in [1, 2, 4, 8, 16, 32, 64, 128] {
         text[place] ^= bit;
-        if !is_told(alloc, text) {
+        if !is_told(alloc, text, state) {
             return false;
         }
         text[place] ^= bit;
@@ -116,9 +129,9 @@ fn are_flips_told<A: Allocator + Copy>(alloc: A, text: &mut [u8], place: usize) 
 }
 
 /// Whether a text is told with each bit flipped in turn.
-fn are_changes_told<A: Allocator + Copy>(alloc: A, text: &mut [u8]) -> bool {
+fn are_changes_told<A: Allocator + Copy>(alloc: A, text: &mut [u8], state: RandomState) -> bool {
     for place in 0..text.len() {
-        if !are_flips_told(alloc, text, place) {
+        if !are_flips_told(alloc, text, place, state) {
             return false;
         }
     }
@@ -127,17 +140,22 @@ fn are_changes_told<A: Allocator + Copy>(alloc: A, text: &mut [u8]) -> bool {
 
 #[test]
 fn changed_bits_are_told(rt: HostRuntime) -> Result<(), Fail> {
+    let state = RandomState::new(&rt)?;
     let mut whole = joined(rt.alloc(), WHOLE)?;
-    assert!(rt; are_changes_told(rt.alloc(), whole.as_mut_slice()));
+    assert!(rt; are_changes_told(rt.alloc(), whole.as_mut_slice(), state));
     Ok(())
 }
 
 /// Refuses each growth of a reading in turn, until the text is read; answers how many were refused, or none where another
 /// answer came.
-fn refused_readings<B: Allocator>(heap: &Refusing<B>, text: &[u8]) -> Option<u64> {
+fn refused_readings<B: Allocator>(
+    heap: &Refusing<B>,
+    text: &[u8],
+    state: RandomState,
+) -> Option<u64> {
     for growth in 1..1000 {
         heap.arm(growth);
-        let fault = fault_in(heap, text);
+        let fault = fault_in(heap, text, state);
         if heap.is_waiting() {
             heap.arm(0);
             return if fault.is_none() {
@@ -154,8 +172,12 @@ fn refused_readings<B: Allocator>(heap: &Refusing<B>, text: &[u8]) -> Option<u64
 }
 
 /// The same of a writing of what is read.
-fn refused_writings<B: Allocator>(heap: &Refusing<B>, text: &[u8]) -> Option<u64> {
-    let repo = read(heap, Sha1Namer, text).ok()?;
+fn refused_writings<B: Allocator>(
+    heap: &Refusing<B>,
+    text: &[u8],
+    state: RandomState,
+) -> Option<u64> {
+    let repo = read(heap, Sha1Namer, text, state).ok()?;
     for growth in 1..1000 {
         heap.arm(growth);
         let is_done = write(heap, &repo).is_ok();
@@ -172,11 +194,12 @@ fn refused_writings<B: Allocator>(heap: &Refusing<B>, text: &[u8]) -> Option<u64
 
 #[test]
 fn refused_growth_is_out_of_memory(rt: HostRuntime) -> Result<(), Fail> {
+    let state = RandomState::new(&rt)?;
     let whole = joined(rt.alloc(), WHOLE)?;
     let heap = Refusing::new(rt.alloc(), 0);
-    let readings = refused_readings(&heap, whole.as_slice()).unwrap_or(0);
+    let readings = refused_readings(&heap, whole.as_slice(), state).unwrap_or(0);
     assert!(rt; readings >= 8);
-    let writings = refused_writings(&heap, whole.as_slice()).unwrap_or(0);
+    let writings = refused_writings(&heap, whole.as_slice(), state).unwrap_or(0);
     assert!(rt; writings >= 4);
     Ok(())
 }

@@ -6,6 +6,7 @@ use gx_repo::Repo;
 use gx_rev::{RevFault, Revision, Shown};
 use gx_text::{Bytes, Held};
 use std::alloc::Allocator;
+use std::hash::RandomState;
 use std::test::Fail;
 
 mod devices;
@@ -76,9 +77,10 @@ fn refusal(command: u64, kind: ImportKind) -> Result<Report, ImportFault> {
 
 /// The names are Git's own.
 #[test]
-fn commits_have_their_names(rt: HostRuntime) {
+fn commits_have_their_names(rt: HostRuntime) -> Result<(), Fail> {
+    let state = RandomState::new(&rt)?;
     let alloc = rt.alloc();
-    let mut repo = Repo::new(alloc, Sha1Namer);
+    let mut repo = Repo::new(alloc, Sha1Namer, state);
     assert_eq!(rt; imported(alloc, &mut repo, &[FIRST, SECOND]), done(2, 7, 1));
     let rows: [(&[u8], &[u8; 40]); 6] = [
         (
@@ -100,30 +102,34 @@ fn commits_have_their_names(rt: HostRuntime) {
     for (text, name) in rows {
         assert_eq!(rt; name_at(alloc, &repo, text), Ok(*name));
     }
+    Ok(())
 }
 
 #[test]
-fn reports_count_what_was_done(rt: HostRuntime) {
+fn reports_count_what_was_done(rt: HostRuntime) -> Result<(), Fail> {
+    let state = RandomState::new(&rt)?;
     for (text, (commands, objects, refs)) in ACCEPTED {
-        let mut repo = Repo::new(rt.alloc(), Sha1Namer);
+        let mut repo = Repo::new(rt.alloc(), Sha1Namer, state);
         let answer = imported(rt.alloc(), &mut repo, &[text]);
         assert_eq!(rt; answer, done(commands, objects, refs));
         assert_eq!(rt; repo.store().len() as u64, objects);
         assert_eq!(rt; repo.refs().count() as u64, refs);
     }
+    Ok(())
 }
 
 #[test]
-fn refused_imports_leave_nothing(rt: HostRuntime) {
+fn refused_imports_leave_nothing(rt: HostRuntime) -> Result<(), Fail> {
+    let state = RandomState::new(&rt)?;
     for (text, command, kind) in REFUSED {
-        let mut repo = Repo::new(rt.alloc(), Sha1Namer);
+        let mut repo = Repo::new(rt.alloc(), Sha1Namer, state);
         let answer = imported(rt.alloc(), &mut repo, &[text]);
         assert_eq!(rt; answer, refusal(command, kind));
         assert_eq!(rt; repo.store().len(), 0);
         assert_eq!(rt; repo.refs().count(), 0);
     }
     for (lines, kind) in REFUSED_CHANGES {
-        let mut repo = Repo::new(rt.alloc(), Sha1Namer);
+        let mut repo = Repo::new(rt.alloc(), Sha1Namer, state);
         let answer = imported(
             rt.alloc(),
             &mut repo,
@@ -132,13 +138,15 @@ fn refused_imports_leave_nothing(rt: HostRuntime) {
         assert_eq!(rt; answer, refusal(3, kind));
         assert_eq!(rt; repo.store().len(), 0);
     }
+    Ok(())
 }
 
 /// A published branch may not lose a commit, unless `force` is asked for.
 #[test]
-fn second_import_is_fast_forward(rt: HostRuntime) {
+fn second_import_is_fast_forward(rt: HostRuntime) -> Result<(), Fail> {
+    let state = RandomState::new(&rt)?;
     let alloc = rt.alloc();
-    let mut repo = Repo::new(alloc, Sha1Namer);
+    let mut repo = Repo::new(alloc, Sha1Namer, state);
     assert_eq!(rt; imported(alloc, &mut repo, &[FIRST]), done(1, 3, 1));
     let first = name_at(alloc, &repo, b"main");
     let next: &[u8] = b"commit refs/heads/main\ncommitter A <a@x> 2 +0000\ndata 2\nv2\n";
@@ -171,13 +179,15 @@ fn second_import_is_fast_forward(rt: HostRuntime) {
         name_at(alloc, &repo, b"b~1"),
         name_at(alloc, &repo, b"main")
     );
+    Ok(())
 }
 
 /// A commit's first parent is that of `from`, before those that are merged, in their order.
 #[test]
-fn parents_keep_their_order(rt: HostRuntime) {
+fn parents_keep_their_order(rt: HostRuntime) -> Result<(), Fail> {
+    let state = RandomState::new(&rt)?;
     let alloc = rt.alloc();
-    let mut repo = Repo::new(alloc, Sha1Namer);
+    let mut repo = Repo::new(alloc, Sha1Namer, state);
     let text: &[u8] =
         b"commit p\nmark :1\ncommitter A <a@x> 1 +0000\ndata 1\np\ncommit q\nmark :2\ncommitter A <a@x> 1 +0000\ndata 1\nq\ncommit x\ncommitter A <a@x> 1 +0000\ndata 0\nmerge :2\nmerge :1\ncommit y\ncommitter A <a@x> 1 +0000\ndata 0\nfrom :2\nmerge :1\ncommit y\ncommitter A <a@x> 1 +0000\ndata 0\nmerge :1\n";
     assert_eq!(rt; imported(alloc, &mut repo, &[text]), done(5, 5, 4));
@@ -190,13 +200,15 @@ fn parents_keep_their_order(rt: HostRuntime) {
     assert_eq!(rt; name_at(alloc, &repo, b"y~1^1"), q);
     assert_eq!(rt; name_at(alloc, &repo, b"y~1^2"), p);
     assert_eq!(rt; name_at(alloc, &repo, b"y^2"), p);
+    Ok(())
 }
 
 /// Each branch has files of its own, also where two began with the same ones.
 #[test]
-fn branches_have_their_own_files(rt: HostRuntime) {
+fn branches_have_their_own_files(rt: HostRuntime) -> Result<(), Fail> {
+    let state = RandomState::new(&rt)?;
     let alloc = rt.alloc();
-    let mut repo = Repo::new(alloc, Sha1Namer);
+    let mut repo = Repo::new(alloc, Sha1Namer, state);
     let text: &[u8] =
         b"reset refs/heads/b\nfrom :1\ncommit refs/heads/b\ncommitter A <a@x> 2 +0000\ndata 0\nD test.txt\nM 644 inline f\ndata 0\ncommit refs/heads/main\ncommitter A <a@x> 3 +0000\ndata 0\nM 644 inline g\ndata 0\n";
     assert_eq!(rt; imported(alloc, &mut repo, &[FIRST, text]), done(4, 8, 2));
@@ -217,13 +229,15 @@ fn branches_have_their_own_files(rt: HostRuntime) {
         name_at(alloc, &repo, b"b~1"),
         name_at(alloc, &repo, b"main~1")
     );
+    Ok(())
 }
 
 /// Bytes of one length have one name here.
 #[test]
-fn other_object_of_a_held_name_is_refused(rt: HostRuntime) {
+fn other_object_of_a_held_name_is_refused(rt: HostRuntime) -> Result<(), Fail> {
+    let state = RandomState::new(&rt)?;
     let alloc = rt.alloc();
-    let mut repo = Repo::new(alloc, ShortNamer);
+    let mut repo = Repo::new(alloc, ShortNamer, state);
     assert_eq!(rt;
         imported(alloc, &mut repo, &[b"blob\ndata 1\na"]),
         done(1, 1, 0)
@@ -242,6 +256,7 @@ fn other_object_of_a_held_name_is_refused(rt: HostRuntime) {
         imported(alloc, &mut repo, &[b"blob\ndata 1\na"]),
         done(1, 0, 0)
     );
+    Ok(())
 }
 
 #[test]

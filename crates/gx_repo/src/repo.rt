@@ -42,6 +42,7 @@ use gx_store::{Store, StoreFault};
 use gx_text::is_ref_name;
 use gx_tree::{PathTree, TreeFault};
 use std::alloc::Allocator;
+use std::hash::RandomState;
 use std::marker::Model;
 
 /// Objects in the order in which they were added, and refs in the byte order of their names.
@@ -71,12 +72,12 @@ impl<N: Namer, A: Allocator> Model for Repo<N, A> {
 }
 
 impl<N: Namer, A: Allocator + Copy> Repo<N, A> {
-    /// A repository with no objects and no refs. Takes no memory.
-    pub fn new(alloc: A, namer: N) -> Repo<N, A>
+    /// A repository with no objects and no refs, whose hashes are keyed by this state. Takes no memory.
+    pub fn new(alloc: A, namer: N, state: RandomState) -> Repo<N, A>
         ensures { result ≡ (namer, record { records = []; refs = [] }) }
     {
         Repo {
-            store: Store::new(alloc, namer),
+            store: Store::new(alloc, namer, state),
             rooms: Vec::new(alloc),
             refs: Vec::new(alloc),
             alloc,

@@ -9,6 +9,7 @@ use gx_refusing::Refusing;
 use gx_text::{Ident, TreePath};
 use gx_tree::PathTree;
 use std::alloc::Allocator;
+use std::hash::RandomState;
 use std::test::Fail;
 
 mod records;
@@ -117,7 +118,8 @@ fn has_refs<N: Namer, A: Allocator + Copy>(repo: &Repo<N, A>, expected: &[(&[u8]
 
 #[test]
 fn trees_have_gits_names(rt: HostRuntime) -> Result<(), Fail> {
-    let mut repo = Repo::new(rt.alloc(), Sha1Namer);
+    let state = RandomState::new(&rt)?;
+    let mut repo = Repo::new(rt.alloc(), Sha1Namer, state);
     let mut tree = PathTree::empty(rt.alloc());
     let rows: [(&[u8], &[u8], &[u8]); 4] = [
         (
@@ -152,7 +154,8 @@ fn trees_have_gits_names(rt: HostRuntime) -> Result<(), Fail> {
 
 #[test]
 fn commits_have_gits_names(rt: HostRuntime) -> Result<(), Fail> {
-    let mut repo = Repo::new(rt.alloc(), Sha1Namer);
+    let state = RandomState::new(&rt)?;
+    let mut repo = Repo::new(rt.alloc(), Sha1Namer, state);
     let mut tree = PathTree::empty(rt.alloc());
     assert!(rt;
         add_file(
@@ -192,7 +195,8 @@ fn commits_have_gits_names(rt: HostRuntime) -> Result<(), Fail> {
 
 #[test]
 fn tags_have_gits_names(rt: HostRuntime) -> Result<(), Fail> {
-    let mut repo = Repo::new(rt.alloc(), Sha1Namer);
+    let state = RandomState::new(&rt)?;
+    let mut repo = Repo::new(rt.alloc(), Sha1Namer, state);
     let mut tree = PathTree::empty(rt.alloc());
     assert!(rt;
         add_file(
@@ -220,7 +224,8 @@ fn tags_have_gits_names(rt: HostRuntime) -> Result<(), Fail> {
 
 #[test]
 fn commits_and_tags_are_peeled(rt: HostRuntime) -> Result<(), Fail> {
-    let mut repo = Repo::new(rt.alloc(), Sha1Namer);
+    let state = RandomState::new(&rt)?;
+    let mut repo = Repo::new(rt.alloc(), Sha1Namer, state);
     let mut tree = PathTree::empty(rt.alloc());
     let (root, commit) = add_revision(&mut repo, &mut tree, &[], IDENT, b"m").ok_or("commit")?;
     let tag = repo
@@ -242,7 +247,8 @@ fn commits_and_tags_are_peeled(rt: HostRuntime) -> Result<(), Fail> {
 
 #[test]
 fn refused_change_publishes_none(rt: HostRuntime) -> Result<(), Fail> {
-    let mut repo = Repo::new(rt.alloc(), Sha1Namer);
+    let state = RandomState::new(&rt)?;
+    let mut repo = Repo::new(rt.alloc(), Sha1Namer, state);
     let commit = add_root(rt.alloc(), &mut repo, b"m").ok_or("commit")?;
     let blob = repo.add_blob(b"blob").map_err(|_| "blob")?;
     let absent = Name { bytes: [0; 20] };
@@ -273,7 +279,8 @@ fn refused_change_publishes_none(rt: HostRuntime) -> Result<(), Fail> {
 
 #[test]
 fn tags_are_published_under_their_own_names(rt: HostRuntime) -> Result<(), Fail> {
-    let mut repo = Repo::new(rt.alloc(), Sha1Namer);
+    let state = RandomState::new(&rt)?;
+    let mut repo = Repo::new(rt.alloc(), Sha1Namer, state);
     let commit = add_root(rt.alloc(), &mut repo, b"m").ok_or("commit")?;
     let tag = repo
         .add_tag(&TagParts {
@@ -303,7 +310,8 @@ fn tags_are_published_under_their_own_names(rt: HostRuntime) -> Result<(), Fail>
 
 #[test]
 fn later_change_wins_and_other_refs_stay(rt: HostRuntime) -> Result<(), Fail> {
-    let mut repo = Repo::new(rt.alloc(), Sha1Namer);
+    let state = RandomState::new(&rt)?;
+    let mut repo = Repo::new(rt.alloc(), Sha1Namer, state);
     let first = add_root(rt.alloc(), &mut repo, b"first").ok_or("commit")?;
     let second = add_root(rt.alloc(), &mut repo, b"second").ok_or("commit")?;
     let third = add_root(rt.alloc(), &mut repo, b"third").ok_or("commit")?;
@@ -365,7 +373,8 @@ fn later_change_wins_and_other_refs_stay(rt: HostRuntime) -> Result<(), Fail> {
 
 #[test]
 fn refs_are_found_by_six_names_in_order(rt: HostRuntime) -> Result<(), Fail> {
-    let mut repo = Repo::new(rt.alloc(), Sha1Namer);
+    let state = RandomState::new(&rt)?;
+    let mut repo = Repo::new(rt.alloc(), Sha1Namer, state);
     let names: [&[u8]; 6] = [
         b"refs/remotes/m/HEAD",
         b"refs/remotes/m",
@@ -388,7 +397,8 @@ fn refs_are_found_by_six_names_in_order(rt: HostRuntime) -> Result<(), Fail> {
 
 #[test]
 fn names_held_for_other_objects_are_refused(rt: HostRuntime) -> Result<(), Fail> {
-    let mut repo = Repo::new(rt.alloc(), ShortNamer);
+    let state = RandomState::new(&rt)?;
+    let mut repo = Repo::new(rt.alloc(), ShortNamer, state);
     let mut tree = PathTree::empty(rt.alloc());
     assert!(rt; add_file(rt.alloc(), &mut repo, &mut tree, b"d/f", b"1"));
     assert_eq!(rt; repo.add_blob(b"2"), Err(StoreFault::NameHeld));
@@ -410,7 +420,8 @@ fn names_held_for_other_objects_are_refused(rt: HostRuntime) -> Result<(), Fail>
 
 #[test]
 fn truncated_repositories_keep_their_first_objects(rt: HostRuntime) -> Result<(), Fail> {
-    let mut repo = Repo::new(rt.alloc(), Sha1Namer);
+    let state = RandomState::new(&rt)?;
+    let mut repo = Repo::new(rt.alloc(), Sha1Namer, state);
     let first = repo.add_blob(b"a").map_err(|_| "growth")?;
     let second = repo.add_blob(b"b").map_err(|_| "growth")?;
     repo.truncate(5);
@@ -508,8 +519,8 @@ struct Trial {
 }
 
 /// One of the calls that want memory, at which the growth with this number is refused.
-fn tried<B: Allocator>(heap: &Refusing<B>, call: u64, n: u64) -> Option<Trial> {
-    let mut repo = Repo::new(heap, Sha1Namer);
+fn tried<B: Allocator>(heap: &Refusing<B>, call: u64, n: u64, state: RandomState) -> Option<Trial> {
+    let mut repo = Repo::new(heap, Sha1Namer, state);
     let mut tree = PathTree::empty(heap);
     let (root, old) = add_revision(&mut repo, &mut tree, &[], IDENT, b"old")?;
     let main = RefChange {
@@ -541,11 +552,12 @@ fn tried<B: Allocator>(heap: &Refusing<B>, call: u64, n: u64) -> Option<Trial> {
 
 #[test]
 fn refused_growths_change_nothing(rt: HostRuntime) -> Result<(), Fail> {
+    let state = RandomState::new(&rt)?;
     for call in 0..5u64 {
         let mut refused = 0u64;
         for n in 1..100 {
             let heap = Refusing::new(rt.alloc(), 0);
-            let trial = tried(&heap, call, n).ok_or("set-up")?;
+            let trial = tried(&heap, call, n, state).ok_or("set-up")?;
             if trial.is_waiting {
                 assert_eq!(rt; trial.answer, Answer::Done);
                 assert!(rt; !trial.is_same);
@@ -562,8 +574,9 @@ fn refused_growths_change_nothing(rt: HostRuntime) -> Result<(), Fail> {
 
 #[test]
 fn searches_take_no_memory(rt: HostRuntime) -> Result<(), Fail> {
+    let state = RandomState::new(&rt)?;
     let heap = Refusing::new(rt.alloc(), 0);
-    let mut repo = Repo::new(&heap, Sha1Namer);
+    let mut repo = Repo::new(&heap, Sha1Namer, state);
     let target = add_root(&heap, &mut repo, b"m").ok_or("commit")?;
     let name: &[u8] = b"refs/heads/main";
     assert_eq!(rt; repo.publish(&[RefChange { name, target }]), Ok(()));

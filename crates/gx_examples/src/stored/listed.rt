@@ -3,6 +3,7 @@
 use super::rows::{MERGED, TWINS};
 use super::*;
 use gx_cli::LogOptions;
+use std::hash::RandomState;
 
 /// Files in the order in which their whole paths stand.
 const ORDERED: &[u8] =
@@ -47,20 +48,22 @@ fn lists<A: Allocator + Copy>(
     alloc: A,
     (stream, recursive, revision, printed): Tree<'_>,
     fault: &str,
+    state: RandomState,
 ) -> Result<bool, AllocError> {
-    let store = stored(alloc, stream)?;
+    let store = stored(alloc, stream, state)?;
     let line = Line::Ls {
         recursive,
         file: "store",
         revision,
     };
-    prints(alloc, &line, store.as_slice(), printed, fault)
+    prints(alloc, &line, store.as_slice(), printed, fault, state)
 }
 
 #[test]
 fn trees_are_listed_by_entries_or_by_files(rt: HostRuntime) -> Result<(), Fail> {
+    let state = RandomState::new(&rt)?;
     for row in TREES {
-        assert!(rt; lists(rt.alloc(), *row, "")?);
+        assert!(rt; lists(rt.alloc(), *row, "", state)?);
     }
     Ok(())
 }
@@ -79,9 +82,15 @@ const NO_TREES: &[NoTree<'static>] = &[
 
 #[test]
 fn what_is_no_tree_is_not_listed(rt: HostRuntime) -> Result<(), Fail> {
+    let state = RandomState::new(&rt)?;
     for (stream, recursive, revision, fault) in NO_TREES {
         assert!(rt;
-            lists(rt.alloc(), (stream, *recursive, revision, b""), fault)?,
+            lists(
+                rt.alloc(),
+                (stream, *recursive, revision, b""),
+                fault,
+                state
+            )?,
             "{revision}"
         );
     }
@@ -185,21 +194,23 @@ fn logs(
     alloc: Global,
     (stream, options, words, printed): Log<'_>,
     fault: &str,
+    state: RandomState,
 ) -> Result<bool, AllocError> {
-    let store = stored(alloc, stream)?;
+    let store = stored(alloc, stream, state)?;
     let ranges = words.to_vec(alloc)?;
     let line = Line::Log {
         options,
         file: "store",
         ranges,
     };
-    prints(alloc, &line, store.as_slice(), printed, fault)
+    prints(alloc, &line, store.as_slice(), printed, fault, state)
 }
 
 #[test]
 fn commits_are_listed_by_options_and_ranges(rt: HostRuntime) -> Result<(), Fail> {
+    let state = RandomState::new(&rt)?;
     for row in LOGS {
-        assert!(rt; logs(rt.alloc(), *row, "")?);
+        assert!(rt; logs(rt.alloc(), *row, "", state)?);
     }
     Ok(())
 }
@@ -215,9 +226,10 @@ const REFUSED_RANGES: &[(&[&str], &str)] = &[
 
 #[test]
 fn refused_range_has_its_number_and_nothing_is_printed(rt: HostRuntime) -> Result<(), Fail> {
+    let state = RandomState::new(&rt)?;
     for (words, fault) in REFUSED_RANGES {
         assert!(rt;
-            logs(rt.alloc(), (MERGED, ALL, words, b""), fault)?,
+            logs(rt.alloc(), (MERGED, ALL, words, b""), fault, state)?,
             "{fault}"
         );
     }

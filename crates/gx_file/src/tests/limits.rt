@@ -1,4 +1,5 @@
 use super::*;
+use std::hash::RandomState;
 
 /// The bytes of Git's name of a tree with a file of 4,090 times `a`.
 const LONG_TREE: &[u8] =
@@ -36,11 +37,12 @@ fn text_with<A: Allocator + Copy>(
 
 #[test]
 fn paths_have_4095_bytes_at_most(rt: HostRuntime) -> Result<(), Fail> {
+    let state = RandomState::new(&rt)?;
     let longest = text_with(rt.alloc(), b"31", b"bbbb")?;
-    assert!(rt; is_written_again(rt.alloc(), longest.as_slice()));
+    assert!(rt; is_written_again(rt.alloc(), longest.as_slice(), state));
     let too_long = text_with(rt.alloc(), b"32", b"bbbbb")?;
     assert_eq!(rt;
-        fault_in(rt.alloc(), too_long.as_slice()),
+        fault_in(rt.alloc(), too_long.as_slice(), state),
         Some(FileFault::BadObject)
     );
     Ok(())

@@ -1,4 +1,5 @@
 use super::*;
+use std::hash::RandomState;
 
 /// The bytes of Git's name of the blob `version 1` LF.
 const VERSION: &[u8] =
@@ -307,38 +308,42 @@ const REFS: &[(&[&[u8]], FileFault)] = &[
 
 #[test]
 fn lines_are_refused_for_the_first_fault(rt: HostRuntime) -> Result<(), Fail> {
+    let state = RandomState::new(&rt)?;
     for (text, fault) in LINES {
-        assert_eq!(rt; fault_in(rt.alloc(), text), Some(*fault));
+        assert_eq!(rt; fault_in(rt.alloc(), text, state), Some(*fault));
     }
     Ok(())
 }
 
 #[test]
 fn objects_are_refused_for_the_first_fault(rt: HostRuntime) -> Result<(), Fail> {
+    let state = RandomState::new(&rt)?;
     for (parts, fault) in OBJECTS {
         let text = text_behind(rt.alloc(), &[b"gxstore 1\n"], parts)?;
-        assert_eq!(rt; fault_in(rt.alloc(), text.as_slice()), Some(*fault));
+        assert_eq!(rt; fault_in(rt.alloc(), text.as_slice(), state), Some(*fault));
     }
     Ok(())
 }
 
 #[test]
 fn refs_are_refused_for_the_first_fault(rt: HostRuntime) -> Result<(), Fail> {
+    let state = RandomState::new(&rt)?;
     for (parts, fault) in REFS {
         let text = text_behind(rt.alloc(), HELD, parts)?;
-        assert_eq!(rt; fault_in(rt.alloc(), text.as_slice()), Some(*fault));
+        assert_eq!(rt; fault_in(rt.alloc(), text.as_slice(), state), Some(*fault));
     }
     Ok(())
 }
 
 #[test]
 fn tags_are_held_by_their_own_refs(rt: HostRuntime) -> Result<(), Fail> {
+    let state = RandomState::new(&rt)?;
     let parts: &[&[u8]] = &[
         b"refs 2\n72c94d6f8d05bab7da1bd2949ffdf5bcaf794e9d refs/heads/a\n",
         b"dfc608817b87e1c5bea098817cd39f70fddca4c7 refs/tags/v1\nend\n",
     ];
     let text = text_behind(rt.alloc(), HELD, parts)?;
-    assert!(rt; is_written_again(rt.alloc(), text.as_slice()));
+    assert!(rt; is_written_again(rt.alloc(), text.as_slice(), state));
     Ok(())
 }
 

@@ -7,6 +7,7 @@ use gx_refusing::Refusing;
 use gx_repo::Repo;
 use gx_text::{Bytes, Held};
 use std::alloc::{AllocError, Allocator};
+use std::hash::RandomState;
 use std::test::Fail;
 
 /// Two branches, one with a submodule, which are merged, and a tag.
@@ -44,6 +45,7 @@ const ALL: &[u8] =
 /// Progress lines go out as they come, and stay out.
 #[test]
 fn progress_goes_out(rt: HostRuntime) -> Result<(), Fail> {
+    let state = RandomState::new(&rt)?;
     let alloc = rt.alloc();
     let rows: [(usize, Result<Report, ImportFault>, &[u8]); 5] = [
         (
@@ -65,7 +67,7 @@ fn progress_goes_out(rt: HostRuntime) -> Result<(), Fail> {
         (0, refusal(1, ImportKind::WriteFailed), b""),
     ];
     for (room, answer, out) in rows {
-        let mut repo = Repo::new(alloc, Sha1Namer);
+        let mut repo = Repo::new(alloc, Sha1Namer, state);
         let mut sink = Held::new(alloc, room)?;
         let source = Bytes::new(b"progress a b\nprogress \nfoo\n", 4, false);
         assert_eq!(rt; import(alloc, &mut repo, source, &mut sink), answer);
@@ -82,9 +84,10 @@ fn is_as_before<A: Allocator + Copy>(repo: &Repo<Sha1Namer, A>) -> bool {
 /// A source that fails ends no stream, at whichever read of one byte.
 #[test]
 fn failed_read_refuses_the_import(rt: HostRuntime) -> Result<(), Fail> {
+    let state = RandomState::new(&rt)?;
     let alloc = rt.alloc();
     for count in 0..MERGED.len() {
-        let mut repo = Repo::new(alloc, Sha1Namer);
+        let mut repo = Repo::new(alloc, Sha1Namer, state);
         assert_eq!(rt; imported(alloc, &mut repo, &[FIRST]), done(1, 3, 1));
         let mut sink = Held::new(alloc, 0)?;
         let source = Bytes::new(&MERGED[..count], 1, true);
@@ -98,11 +101,12 @@ fn failed_read_refuses_the_import(rt: HostRuntime) -> Result<(), Fail> {
 /// A sink that takes nothing refuses the import at its first progress, also where that is its last command.
 #[test]
 fn failed_write_refuses_the_import(rt: HostRuntime) -> Result<(), Fail> {
+    let state = RandomState::new(&rt)?;
     let alloc = rt.alloc();
     let line: &[u8] = b"progress x\n";
     let rows: [([&[u8]; 2], u64); 2] = [([line, MERGED], 1), ([MERGED, line], 5)];
     for (parts, command) in rows {
-        let mut repo = Repo::new(alloc, Sha1Namer);
+        let mut repo = Repo::new(alloc, Sha1Namer, state);
         assert_eq!(rt; imported(alloc, &mut repo, &[FIRST]), done(1, 3, 1));
         let mut text = Vec::new(alloc);
         for part in parts {
@@ -126,8 +130,13 @@ struct Trial {
 }
 
 /// An import at which the growth with this number is refused, after one that isn't.
-fn trial_at<B: Allocator>(heap: &Refusing<B>, text: &[u8], nth: u64) -> Result<Trial, AllocError> {
-    let mut repo = Repo::new(heap, Sha1Namer);
+fn trial_at<B: Allocator>(
+    heap: &Refusing<B>,
+    text: &[u8],
+    nth: u64,
+    state: RandomState,
+) -> Result<Trial, AllocError> {
+    let mut repo = Repo::new(heap, Sha1Namer, state);
     let mut sink = Held::new(heap, 100)?;
     let _ = imported(heap, &mut repo, &[FIRST]);
     heap.arm(nth);
@@ -147,10 +156,11 @@ fn refused_growths<B: Allocator + Copy>(
     alloc: B,
     text: &[u8],
     refs: usize,
+    state: RandomState,
 ) -> Result<Option<u64>, AllocError> {
     for nth in 1..1000u64 {
         let heap = Refusing::new(alloc, 0);
-        let trial = trial_at(&heap, text, nth)?;
+        let trial = trial_at(&heap, text, nth, state)?;
         if trial.is_waiting {
             let is_done = trial.answer.is_ok() && trial.refs == refs;
             return Ok(if is_done { Some(nth - 1) } else { None });
@@ -165,9 +175,10 @@ fn refused_growths<B: Allocator + Copy>(
 
 #[test]
 fn refused_growths_refuse_the_import(rt: HostRuntime) -> Result<(), Fail> {
-    let refused = refused_growths(rt.alloc(), ALL, 4)?.ok_or("a wrong answer")?;
+    let state = RandomState::new(&rt)?;
+    let refused = refused_growths(rt.alloc(), ALL, 4, state)?.ok_or("a wrong answer")?;
     assert!(rt; refused > 40);
-    let refused = refused_growths(rt.alloc(), MERGED, 4)?.ok_or("a wrong answer")?;
+    let refused = refused_growths(rt.alloc(), MERGED, 4, state)?.ok_or("a wrong answer")?;
     assert!(rt; refused > 20);
     Ok(())
 }

@@ -8,6 +8,7 @@ use gx_repo::Repo;
 use gx_rev::{Range, RevFault, Revision, commit, look, walk};
 use gx_text::TreePath;
 use std::alloc::{AllocError, Allocator};
+use std::hash::RandomState;
 use std::test::Fail;
 
 /// The name of the tree of no files.
@@ -74,9 +75,10 @@ fn are_named<N: Namer, A: Allocator + Copy>(
 }
 
 #[test]
-fn files_have_the_bytes_of_the_stream(rt: HostRuntime) {
+fn files_have_the_bytes_of_the_stream(rt: HostRuntime) -> Result<(), Fail> {
+    let state = RandomState::new(&rt)?;
     let alloc = rt.alloc();
-    let mut repo = Repo::new(alloc, Sha1Namer);
+    let mut repo = Repo::new(alloc, Sha1Namer, state);
     let third: &[u8] = b"commit refs/heads/main\ncommitter A <a@x> 3 +0000\ndata 0\nD bak\n";
     assert_eq!(rt;
         imported(alloc, &mut repo, &[FIRST, SECOND, third]),
@@ -97,12 +99,14 @@ fn files_have_the_bytes_of_the_stream(rt: HostRuntime) {
         name_at(alloc, &repo, b"main^{tree}"),
         Ok(*b"0155eb4229851634a0f03eb265b69f5a2d56f341")
     );
+    Ok(())
 }
 
 #[test]
 fn commits_have_their_parts(rt: HostRuntime) -> Result<(), Fail> {
+    let state = RandomState::new(&rt)?;
     let alloc = rt.alloc();
-    let mut repo = Repo::new(alloc, Sha1Namer);
+    let mut repo = Repo::new(alloc, Sha1Namer, state);
     assert_eq!(rt; imported(alloc, &mut repo, &[FIRST]), done(1, 3, 1));
     let revision = Revision::read(alloc, b"main").map_err(|_| "revision")?;
     let view = commit(&repo, &revision).map_err(|_| "commit")?;
@@ -115,9 +119,10 @@ fn commits_have_their_parts(rt: HostRuntime) -> Result<(), Fail> {
 
 /// A file gives way to one below it, and is renamed into itself.
 #[test]
-fn renamed_file_leaves_the_parent_as_it_was(rt: HostRuntime) {
+fn renamed_file_leaves_the_parent_as_it_was(rt: HostRuntime) -> Result<(), Fail> {
+    let state = RandomState::new(&rt)?;
     let alloc = rt.alloc();
-    let mut repo = Repo::new(alloc, Sha1Namer);
+    let mut repo = Repo::new(alloc, Sha1Namer, state);
     let text: &[u8] =
         b"commit refs/heads/main\ncommitter A <a@x> 1 +0000\ndata 0\nM 644 inline a\ndata 6\nhello\nM 644 inline a/b\ndata 10\nversion 1\ncommit refs/heads/main\ncommitter A <a@x> 2 +0000\ndata 0\nR a a/c\n";
     assert_eq!(rt; imported(alloc, &mut repo, &[text]), done(2, 8, 1));
@@ -127,12 +132,14 @@ fn renamed_file_leaves_the_parent_as_it_was(rt: HostRuntime) {
         name_at(alloc, &repo, b"main:a/b"),
         Err(RevFault::NoSuchPath)
     );
+    Ok(())
 }
 
 #[test]
-fn commit_made_twice_is_listed_once(rt: HostRuntime) {
+fn commit_made_twice_is_listed_once(rt: HostRuntime) -> Result<(), Fail> {
+    let state = RandomState::new(&rt)?;
     let alloc = rt.alloc();
-    let mut repo = Repo::new(alloc, Sha1Namer);
+    let mut repo = Repo::new(alloc, Sha1Namer, state);
     let text: &[u8] =
         b"commit refs/heads/x\ncommitter A <a@x> 1 +0000\ndata 0\ncommit refs/heads/y\ncommitter A <a@x> 1 +0000\ndata 0\n";
     assert_eq!(rt; imported(alloc, &mut repo, &[text]), done(2, 2, 2));
@@ -140,12 +147,14 @@ fn commit_made_twice_is_listed_once(rt: HostRuntime) {
     assert!(rt; lists(alloc, &repo, &[b"x..y"], &[]));
     assert!(rt; lists(alloc, &repo, &[b"x...y"], &[]));
     assert!(rt; lists(alloc, &repo, &[b"x", b"y"], &[b"x"]));
+    Ok(())
 }
 
 #[test]
-fn merges_list_what_their_words_include(rt: HostRuntime) {
+fn merges_list_what_their_words_include(rt: HostRuntime) -> Result<(), Fail> {
+    let state = RandomState::new(&rt)?;
     let alloc = rt.alloc();
-    let mut repo = Repo::new(alloc, Sha1Namer);
+    let mut repo = Repo::new(alloc, Sha1Namer, state);
     let text: &[u8] =
         b"commit refs/heads/p\nmark :1\ncommitter A <a@x> 1 +0000\ndata 1\np\ncommit refs/heads/q\nmark :2\ncommitter A <a@x> 1 +0000\ndata 1\nq\ncommit refs/heads/y\ncommitter A <a@x> 1 +0000\ndata 1\ny\nmerge :1\nmerge :2\n";
     assert_eq!(rt; imported(alloc, &mut repo, &[text]), done(3, 4, 3));
@@ -164,13 +173,15 @@ fn merges_list_what_their_words_include(rt: HostRuntime) {
     for (word, revisions) in rows {
         assert!(rt; lists(alloc, &repo, &[word], revisions));
     }
+    Ok(())
 }
 
 /// A tag's ref holds the tag, also where a branch of that name is reset.
 #[test]
-fn tags_are_published_over_branches(rt: HostRuntime) {
+fn tags_are_published_over_branches(rt: HostRuntime) -> Result<(), Fail> {
+    let state = RandomState::new(&rt)?;
     let alloc = rt.alloc();
-    let mut repo = Repo::new(alloc, Sha1Namer);
+    let mut repo = Repo::new(alloc, Sha1Namer, state);
     let tag: &[u8] = b"tag v1\nfrom :1\ndata 3\nonereset refs/tags/v1\nfrom :1\n";
     assert_eq!(rt; imported(alloc, &mut repo, &[FIRST, tag]), done(3, 4, 2));
     assert_eq!(rt;
@@ -195,6 +206,7 @@ fn tags_are_published_over_branches(rt: HostRuntime) {
         name_at(alloc, &repo, b"main^{tag}"),
         Err(RevFault::WrongKind)
     );
+    Ok(())
 }
 
 /// So many times the byte `a`.
@@ -220,10 +232,11 @@ fn imported_file<N: Namer, A: Allocator + Copy>(
 /// A path may have 4,095 bytes, also after a rename.
 #[test]
 fn longest_paths_are_kept(rt: HostRuntime) -> Result<(), Fail> {
+    let state = RandomState::new(&rt)?;
     let alloc = rt.alloc();
     let long = repeated(alloc, 4093)?;
     let longer = repeated(alloc, 4094)?;
-    let mut repo = Repo::new(alloc, Sha1Namer);
+    let mut repo = Repo::new(alloc, Sha1Namer, state);
     let refused = refusal(1, ImportKind::PathTooLong);
     assert_eq!(rt; imported_file(alloc, &mut repo, &longer, b""), refused);
     assert_eq!(rt;

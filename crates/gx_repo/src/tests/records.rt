@@ -1,5 +1,6 @@
 use super::*;
 use std::alloc::AllocError;
+use std::hash::RandomState;
 
 /// Records with the names that Git gives them, each behind those that it links to.
 const RECORDS: &[(Kind, &[u8], &[u8])] = &[
@@ -154,8 +155,8 @@ const COMMIT: Name = Name {
 };
 
 /// A repository with the records above, and a ref.
-fn filled<A: Allocator + Copy>(alloc: A) -> Option<Repo<Sha1Namer, A>> {
-    let mut repo = Repo::new(alloc, Sha1Namer);
+fn filled<A: Allocator + Copy>(alloc: A, state: RandomState) -> Option<Repo<Sha1Namer, A>> {
+    let mut repo = Repo::new(alloc, Sha1Namer, state);
     for (kind, body, _) in RECORDS {
         repo.add_record(*kind, body).ok()?;
     }
@@ -202,7 +203,8 @@ fn add_one<N: Namer, A: Allocator + Copy>(
 
 #[test]
 fn records_have_gits_names(rt: HostRuntime) -> Result<(), Fail> {
-    let mut repo = Repo::new(rt.alloc(), Sha1Namer);
+    let state = RandomState::new(&rt)?;
+    let mut repo = Repo::new(rt.alloc(), Sha1Namer, state);
     for (kind, body, digits) in RECORDS {
         let name = repo.add_record(*kind, body)?;
         assert_eq!(rt; name.hex().as_slice(), *digits);
@@ -214,7 +216,8 @@ fn records_have_gits_names(rt: HostRuntime) -> Result<(), Fail> {
 
 #[test]
 fn refused_record_changes_nothing(rt: HostRuntime) -> Result<(), Fail> {
-    let mut repo = filled(rt.alloc()).ok_or("records")?;
+    let state = RandomState::new(&rt)?;
+    let mut repo = filled(rt.alloc(), state).ok_or("records")?;
     for (kind, body, fault) in REFUSED {
         assert_eq!(rt; repo.add_record(*kind, body), Err(*fault));
         assert!(rt; is_filled(&repo));
@@ -224,7 +227,8 @@ fn refused_record_changes_nothing(rt: HostRuntime) -> Result<(), Fail> {
 
 #[test]
 fn held_name_is_refused_whatever_its_bytes(rt: HostRuntime) -> Result<(), Fail> {
-    let mut repo = Repo::new(rt.alloc(), ShortNamer);
+    let state = RandomState::new(&rt)?;
+    let mut repo = Repo::new(rt.alloc(), ShortNamer, state);
     repo.add_record(Kind::Blob, b"1")?;
     assert_eq!(rt;
         repo.add_record(Kind::Blob, b"1"),
@@ -240,7 +244,8 @@ fn held_name_is_refused_whatever_its_bytes(rt: HostRuntime) -> Result<(), Fail> 
 
 #[test]
 fn longest_path_has_4095_bytes(rt: HostRuntime) -> Result<(), Fail> {
-    let mut repo = Repo::new(rt.alloc(), Sha1Namer);
+    let state = RandomState::new(&rt)?;
+    let mut repo = Repo::new(rt.alloc(), Sha1Namer, state);
     let blob = repo.add_record(Kind::Blob, b"")?;
     let long = vec![in rt.alloc(); b'a'; 4096]?;
     let file = add_one(rt.alloc(), &mut repo, b"100644 ", &long[..4090], blob)?;
@@ -269,8 +274,9 @@ fn tried_record<B: Allocator>(
     kind: Kind,
     body: &[u8],
     n: u64,
+    state: RandomState,
 ) -> Option<Trial> {
-    let mut repo = filled(heap)?;
+    let mut repo = filled(heap, state)?;
     heap.arm(n);
     let answer = match repo.add_record(kind, body) {
         Ok(_) => Answer::Done,
@@ -288,11 +294,12 @@ fn tried_record<B: Allocator>(
 
 #[test]
 fn refused_growth_adds_no_record(rt: HostRuntime) -> Result<(), Fail> {
+    let state = RandomState::new(&rt)?;
     for (kind, body) in NEW {
         let mut refused = 0u64;
         for n in 1..100 {
             let heap = Refusing::new(rt.alloc(), 0);
-            let trial = tried_record(&heap, *kind, body, n).ok_or("set-up")?;
+            let trial = tried_record(&heap, *kind, body, n, state).ok_or("set-up")?;
             if trial.is_waiting {
                 assert_eq!(rt; trial.answer, Answer::Done);
                 assert!(rt; !trial.is_same);

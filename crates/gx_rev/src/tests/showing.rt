@@ -8,6 +8,7 @@ use gx_refusing::Refusing;
 use gx_repo::{RefChange, Repo};
 use gx_text::TreePath;
 use std::alloc::Allocator;
+use std::hash::RandomState;
 use std::test::Fail;
 
 fn shown<N: Namer, A: Allocator + Copy>(
@@ -62,7 +63,8 @@ const OBJECTS: &[(&[u8], Kind, &[u8])] = &[
 
 #[test]
 fn revisions_show_objects(rt: HostRuntime) -> Result<(), Fail> {
-    let mut repo = Repo::new(rt.alloc(), Sha1Namer);
+    let state = RandomState::new(&rt)?;
+    let mut repo = Repo::new(rt.alloc(), Sha1Namer, state);
     fill(rt.alloc(), &mut repo).ok_or("sample")?;
     for (text, kind, digits) in OBJECTS {
         let expected = Shown::Object(*kind, name_of(digits)?);
@@ -107,7 +109,8 @@ const REFUSED: &[(&[u8], RevFault)] = &[
 
 #[test]
 fn refused_revisions_show_nothing(rt: HostRuntime) -> Result<(), Fail> {
-    let mut repo = Repo::new(rt.alloc(), Sha1Namer);
+    let state = RandomState::new(&rt)?;
+    let mut repo = Repo::new(rt.alloc(), Sha1Namer, state);
     fill(rt.alloc(), &mut repo).ok_or("sample")?;
     for (text, fault) in REFUSED {
         assert_eq!(rt; shown(rt.alloc(), &repo, text), Err(*fault));
@@ -130,7 +133,8 @@ fn publish_both<N: Namer, A: Allocator + Copy>(repo: &mut Repo<N, A>, target: Na
 
 #[test]
 fn abbreviations_are_of_one_object_and_refs_come_first(rt: HostRuntime) -> Result<(), Fail> {
-    let mut repo = Repo::new(rt.alloc(), ShortNamer);
+    let state = RandomState::new(&rt)?;
+    let mut repo = Repo::new(rt.alloc(), ShortNamer, state);
     let first = add_empty(rt.alloc(), &mut repo, &[], b"").ok_or("commit")?;
     assert_eq!(rt; shown(rt.alloc(), &repo, b"1111"), Err(RevFault::Ambiguous));
     let digits = first.hex();
@@ -147,7 +151,8 @@ fn abbreviations_are_of_one_object_and_refs_come_first(rt: HostRuntime) -> Resul
 
 #[test]
 fn digits_that_begin_two_blobs_are_ambiguous(rt: HostRuntime) -> Result<(), Fail> {
-    let mut repo = Repo::new(rt.alloc(), ShortNamer);
+    let state = RandomState::new(&rt)?;
+    let mut repo = Repo::new(rt.alloc(), ShortNamer, state);
     let first = repo.add_blob(b"a").map_err(|_| "blob")?;
     assert!(rt; repo.add_blob(b"ab").is_ok());
     let expected = Ok(Shown::Object(Kind::Blob, first));
@@ -165,7 +170,8 @@ fn digits_that_begin_two_blobs_are_ambiguous(rt: HostRuntime) -> Result<(), Fail
 
 #[test]
 fn digits_show_the_one_object_that_they_begin(rt: HostRuntime) -> Result<(), Fail> {
-    let mut repo = Repo::new(rt.alloc(), Sha1Namer);
+    let state = RandomState::new(&rt)?;
+    let mut repo = Repo::new(rt.alloc(), Sha1Namer, state);
     let content = repo.add_blob(b"test content\n").map_err(|_| "blob")?;
     let rows: [(&[u8], Result<Shown, RevFault>); 4] = [
         (b"d670", Ok(Shown::Object(Kind::Blob, content))),
@@ -216,7 +222,8 @@ const LOOKS: &[(&[u8], &[u8], &[u8], Result<(Mode, bool), RevFault>)] = &[
 
 #[test]
 fn files_are_looked_up(rt: HostRuntime) -> Result<(), Fail> {
-    let mut repo = Repo::new(rt.alloc(), Sha1Namer);
+    let state = RandomState::new(&rt)?;
+    let mut repo = Repo::new(rt.alloc(), Sha1Namer, state);
     fill(rt.alloc(), &mut repo).ok_or("sample")?;
     for (text, path, bytes, answer) in LOOKS {
         assert_eq!(rt; looks(rt.alloc(), &repo, text, path, bytes), *answer);
@@ -248,7 +255,8 @@ const NO_COMMITS: &[(&[u8], RevFault)] = &[
 
 #[test]
 fn commits_are_shown_after_peeling(rt: HostRuntime) -> Result<(), Fail> {
-    let mut repo = Repo::new(rt.alloc(), Sha1Namer);
+    let state = RandomState::new(&rt)?;
+    let mut repo = Repo::new(rt.alloc(), Sha1Namer, state);
     fill(rt.alloc(), &mut repo).ok_or("sample")?;
     let tree = name_of(FIRST_TREE)?;
     for text in [b"v1".as_slice(), b"main^", b"v1^{}"] {
@@ -266,8 +274,9 @@ fn refused_look<B: Allocator>(
     heap: &Refusing<B>,
     path: &[u8],
     n: u64,
+    state: RandomState,
 ) -> Option<(Option<RevFault>, bool)> {
-    let mut repo = Repo::new(heap, Sha1Namer);
+    let mut repo = Repo::new(heap, Sha1Namer, state);
     fill(heap, &mut repo)?;
     let revision = Revision::read(heap, b"main^{tree}:bak").ok()?;
     let path = TreePath::read(heap, path).ok()?;
@@ -280,11 +289,12 @@ fn refused_look<B: Allocator>(
 
 #[test]
 fn refused_growths_show_no_file(rt: HostRuntime) -> Result<(), Fail> {
+    let state = RandomState::new(&rt)?;
     let heap = Refusing::new(rt.alloc(), 0);
-    let refused = refused_look(&heap, b"test.txt", 1).ok_or("sample")?;
+    let refused = refused_look(&heap, b"test.txt", 1, state).ok_or("sample")?;
     assert_eq!(rt; refused, (Some(RevFault::OutOfMemory), false));
     let heap = Refusing::new(rt.alloc(), 0);
-    let ample = refused_look(&heap, b"test.txt", 2).ok_or("sample")?;
+    let ample = refused_look(&heap, b"test.txt", 2, state).ok_or("sample")?;
     assert_eq!(rt; ample, (None, true));
     Ok(())
 }

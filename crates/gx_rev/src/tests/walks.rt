@@ -4,6 +4,7 @@ use gx_object::{Kind, Name, Namer, Sha1Namer};
 use gx_refusing::Refusing;
 use gx_repo::{RefChange, Repo};
 use std::alloc::{AllocError, Allocator};
+use std::hash::RandomState;
 use std::test::Fail;
 
 /// The words as ranges. A word that can't be read has the number 999.
@@ -91,7 +92,8 @@ const LISTED: &[(&[&[u8]], &[&[u8]])] = &[
 
 #[test]
 fn words_list_what_they_reach(rt: HostRuntime) -> Result<(), Fail> {
-    let mut repo = Repo::new(rt.alloc(), Sha1Namer);
+    let state = RandomState::new(&rt)?;
+    let mut repo = Repo::new(rt.alloc(), Sha1Namer, state);
     fill(rt.alloc(), &mut repo).ok_or("sample")?;
     for (words, expected) in LISTED {
         assert!(rt; lists(rt.alloc(), &repo, words, expected));
@@ -114,14 +116,16 @@ const LISTED_ONCE: &[(&[&[u8]], &[&[u8]])] = &[
 ];
 
 #[test]
-fn commit_made_twice_is_listed_once(rt: HostRuntime) {
-    let mut repo = Repo::new(rt.alloc(), Sha1Namer);
+fn commit_made_twice_is_listed_once(rt: HostRuntime) -> Result<(), Fail> {
+    let state = RandomState::new(&rt)?;
+    let mut repo = Repo::new(rt.alloc(), Sha1Namer, state);
     for name in [b"refs/heads/x".as_slice(), b"refs/heads/y"] {
         assert!(rt; add_p(rt.alloc(), &mut repo, name));
     }
     for (words, expected) in LISTED_ONCE {
         assert!(rt; lists(rt.alloc(), &repo, words, expected));
     }
+    Ok(())
 }
 
 const REFUSED: &[(&[&[u8]], usize, RevFault)] = &[
@@ -135,7 +139,8 @@ const REFUSED: &[(&[&[u8]], usize, RevFault)] = &[
 
 #[test]
 fn first_refused_word_is_answered(rt: HostRuntime) -> Result<(), Fail> {
-    let mut repo = Repo::new(rt.alloc(), Sha1Namer);
+    let state = RandomState::new(&rt)?;
+    let mut repo = Repo::new(rt.alloc(), Sha1Namer, state);
     fill(rt.alloc(), &mut repo).ok_or("sample")?;
     for (words, word, kind) in REFUSED {
         let fault = walked(rt.alloc(), &repo, words).err();
@@ -178,7 +183,8 @@ const REACHED: &[(&[u8], &[u8], bool)] = &[
 
 #[test]
 fn commits_reach_themselves_and_their_ancestors(rt: HostRuntime) -> Result<(), Fail> {
-    let mut repo = Repo::new(rt.alloc(), Sha1Namer);
+    let state = RandomState::new(&rt)?;
+    let mut repo = Repo::new(rt.alloc(), Sha1Namer, state);
     fill(rt.alloc(), &mut repo).ok_or("sample")?;
     for (from, to, expected) in REACHED {
         let answer = reached(rt.alloc(), &repo, from, to);
@@ -220,8 +226,9 @@ fn refused<B: Allocator>(
     heap: &Refusing<B>,
     word: &[u8],
     n: u64,
+    state: RandomState,
 ) -> Option<(Option<WalkFault>, bool)> {
-    let mut repo = Repo::new(heap, Sha1Namer);
+    let mut repo = Repo::new(heap, Sha1Namer, state);
     fill(heap, &mut repo)?;
     let ranges = word_ranges(heap, word)?;
     heap.arm(n);
@@ -237,11 +244,11 @@ const MEMORY: Option<WalkFault> = Some(WalkFault {
 });
 
 /// How many growths are refused before none is, where each is answered as one of no word.
-fn growths_of<A: Allocator + Copy>(alloc: A, word: &[u8]) -> Option<u64> {
+fn growths_of<A: Allocator + Copy>(alloc: A, word: &[u8], state: RandomState) -> Option<u64> {
     let mut refused_growths = 0u64;
     for n in 1..100u64 {
         let heap = Refusing::new(alloc, 0);
-        let (fault, is_waiting) = refused(&heap, word, n)?;
+        let (fault, is_waiting) = refused(&heap, word, n, state)?;
         if is_waiting && fault.is_none() {
             return Some(refused_growths);
         }
@@ -256,8 +263,10 @@ fn growths_of<A: Allocator + Copy>(alloc: A, word: &[u8]) -> Option<u64> {
 const GROWING: &[&[u8]] = &[b"", b"y", b"^y", b"p..y", b"p...y", b"y^@", b"y^!", b"y^-2"];
 
 #[test]
-fn refused_growths_are_of_no_word(rt: HostRuntime) {
+fn refused_growths_are_of_no_word(rt: HostRuntime) -> Result<(), Fail> {
+    let state = RandomState::new(&rt)?;
     for word in GROWING {
-        assert!(rt; growths_of(rt.alloc(), word).unwrap_or(0) > 0);
+        assert!(rt; growths_of(rt.alloc(), word, state).unwrap_or(0) > 0);
     }
+    Ok(())
 }

@@ -1,5 +1,7 @@
 use super::written::{HELLO, NEW_FILE, VERSION_1, VERSION_2};
 use super::*;
+use std::hash::RandomState;
+use std::test::Fail;
 
 #[derive(Drop)]
 struct PlainFile<A: Allocator> {
@@ -192,14 +194,14 @@ struct Both<A: Allocator> {
 }
 
 impl<A: Allocator + Copy> Both<A> {
-    fn new(alloc: A) -> Both<A> {
+    fn new(alloc: A, state: RandomState) -> Both<A> {
         Both {
             tree: PathTree::empty(alloc),
             plain: Plain {
                 files: Vec::new(alloc),
                 alloc,
             },
-            store: Store::new(alloc, Sha1Namer),
+            store: Store::new(alloc, Sha1Namer, state),
         }
     }
 
@@ -334,11 +336,12 @@ const FILLED: [u8; 40] = *b"ee8b8301830e939aa592b99825253aef6910c1ac";
 const EDITED: [u8; 40] = *b"208624144a2dc19234269d5b31848457af6c4f25";
 
 #[test]
-fn many_files_are_edited_as_a_plain_list_is(rt: HostRuntime) {
-    let mut both = Both::new(rt.alloc());
+fn many_files_are_edited_as_a_plain_list_is(rt: HostRuntime) -> Result<(), Fail> {
+    let mut both = Both::new(rt.alloc(), RandomState::new(&rt)?);
     assert!(rt; both.fill_all());
     assert_eq!(rt; both.written(), Some((2000, FILLED, true)));
     let unlike = both.first_unlike();
     assert!(rt; unlike.is_none(), "after {unlike:?}");
     assert_eq!(rt; both.written(), Some((3768, EDITED, true)));
+    Ok(())
 }

@@ -1,4 +1,5 @@
 use super::*;
+use std::hash::RandomState;
 
 #[derive(Clone, Copy, Debug)]
 enum Call {
@@ -65,12 +66,12 @@ fn two_paths<A: Allocator + Copy>(alloc: A) -> Option<Paths<A>> {
     })
 }
 
-fn set_up<A: Allocator + Copy>(alloc: A) -> Option<Trial<A>> {
+fn set_up<A: Allocator + Copy>(alloc: A, state: RandomState) -> Option<Trial<A>> {
     let tree = mixed(alloc)?;
     let paths = two_paths(alloc)?;
     Some(Trial {
         tree,
-        store: Store::new(alloc, Sha1Namer),
+        store: Store::new(alloc, Sha1Namer, state),
         paths,
     })
 }
@@ -97,19 +98,25 @@ fn trial_of<A: Allocator + Copy, B: Allocator>(
     call: Call,
     files: &[u8],
     nth: u64,
+    state: RandomState,
 ) -> Option<(Answer, bool, bool)> {
-    let mut on = set_up(heap)?;
+    let mut on = set_up(heap, state)?;
     let answer = refused_call(heap, &mut on, call, nth);
     let is_old = lists(alloc, &on.tree, MIXED);
     Some((answer, is_old, lists(alloc, &on.tree, files)))
 }
 
 /// How many growths of the call are refused before none is, where each leaves the old files and the call at last these.
-fn growths_of<A: Allocator + Copy>(alloc: A, call: Call, files: &[u8]) -> Option<u64> {
+fn growths_of<A: Allocator + Copy>(
+    alloc: A,
+    call: Call,
+    files: &[u8],
+    state: RandomState,
+) -> Option<u64> {
     let mut refused = 0u64;
     for n in 1..200 {
         let heap = Refusing::new(alloc, 0);
-        let (answer, is_old, is_new) = trial_of(alloc, &heap, call, files, n)?;
+        let (answer, is_old, is_new) = trial_of(alloc, &heap, call, files, n, state)?;
         if answer == (Ok(()), true) && is_new {
             return Some(refused);
         }
@@ -138,11 +145,13 @@ const CALLS: &[(Call, &[u8])] = &[
 ];
 
 #[test]
-fn a_refused_growth_leaves_the_files(rt: HostRuntime) {
+fn a_refused_growth_leaves_the_files(rt: HostRuntime) -> Result<(), Fail> {
+    let state = RandomState::new(&rt)?;
     for (call, files) in CALLS {
-        let refused = growths_of(rt.alloc(), *call, files);
+        let refused = growths_of(rt.alloc(), *call, files, state);
         assert!(rt; refused.unwrap_or(0) > 0, "at {call:?}");
     }
+    Ok(())
 }
 
 /// What a load answers, and whether it has the files that were written.
@@ -176,17 +185,18 @@ fn refused_load<A: Allocator + Copy, B: Allocator>(
     alloc: A,
     heap: &Refusing<B>,
     nth: u64,
+    state: RandomState,
 ) -> Option<(Answer, bool)> {
-    let mut on = set_up(heap)?;
+    let mut on = set_up(heap, state)?;
     written_and_loaded(alloc, heap, &mut on, nth)
 }
 
 /// How many growths of a load are refused before none is.
-fn growths_of_load<A: Allocator + Copy>(alloc: A) -> Option<u64> {
+fn growths_of_load<A: Allocator + Copy>(alloc: A, state: RandomState) -> Option<u64> {
     let mut refused = 0u64;
     for n in 1..200 {
         let heap = Refusing::new(alloc, 0);
-        let (answer, is_whole) = refused_load(alloc, &heap, n)?;
+        let (answer, is_whole) = refused_load(alloc, &heap, n, state)?;
         if answer == (Ok(()), true) && is_whole {
             return Some(refused);
         }
@@ -199,6 +209,8 @@ fn growths_of_load<A: Allocator + Copy>(alloc: A) -> Option<u64> {
 }
 
 #[test]
-fn a_refused_growth_loads_nothing(rt: HostRuntime) {
-    assert!(rt; growths_of_load(rt.alloc()).unwrap_or(0) > 0);
+fn a_refused_growth_loads_nothing(rt: HostRuntime) -> Result<(), Fail> {
+    let state = RandomState::new(&rt)?;
+    assert!(rt; growths_of_load(rt.alloc(), state).unwrap_or(0) > 0);
+    Ok(())
 }

@@ -1,4 +1,5 @@
 use super::*;
+use std::hash::RandomState;
 
 pub(super) const HELLO: &[u8] = b"ce013625030ba8dba906f756967f9e9ca394464a";
 
@@ -23,16 +24,24 @@ fn tree_of<A: Allocator + Copy>(alloc: A, files: &[(&[u8], &[u8])]) -> Option<Pa
 }
 
 /// The digits of the name that a tree is written with into an empty store, and how many records are in it then.
-fn digits_of<A: Allocator + Copy>(alloc: A, tree: &mut PathTree<A>) -> Option<([u8; 40], usize)> {
-    let mut store = Store::new(alloc, Sha1Namer);
+fn digits_of<A: Allocator + Copy>(
+    alloc: A,
+    tree: &mut PathTree<A>,
+    state: RandomState,
+) -> Option<([u8; 40], usize)> {
+    let mut store = Store::new(alloc, Sha1Namer, state);
     let name = tree.write(&mut store).ok()?;
     Some((name.hex(), store.len()))
 }
 
 /// The digits of the name of the tree of these files.
-fn named<A: Allocator + Copy>(alloc: A, files: &[(&[u8], &[u8])]) -> Option<[u8; 40]> {
+fn named<A: Allocator + Copy>(
+    alloc: A,
+    files: &[(&[u8], &[u8])],
+    state: RandomState,
+) -> Option<[u8; 40]> {
     let mut tree = tree_of(alloc, files)?;
-    Some(digits_of(alloc, &mut tree)?.0)
+    Some(digits_of(alloc, &mut tree, state)?.0)
 }
 
 /// Whether the tree of these files lists them so.
@@ -77,24 +86,28 @@ const TREES: &[(&[(&[u8], &[u8])], &[u8; 40])] = &[
 ];
 
 #[test]
-fn trees_have_gits_names(rt: HostRuntime) {
+fn trees_have_gits_names(rt: HostRuntime) -> Result<(), Fail> {
+    let state = RandomState::new(&rt)?;
     for (files, digits) in TREES {
-        assert_eq!(rt; named(rt.alloc(), files), Some(**digits));
+        assert_eq!(rt; named(rt.alloc(), files, state), Some(**digits));
     }
+    Ok(())
 }
 
 /// What a tree is written as after its one file is removed.
-fn emptied<A: Allocator + Copy>(alloc: A) -> Option<([u8; 40], usize)> {
+fn emptied<A: Allocator + Copy>(alloc: A, state: RandomState) -> Option<([u8; 40], usize)> {
     let mut tree = filled(alloc, &[(b"d/e/f", Mode::File, b'1')])?;
     if !removes(alloc, &mut tree, b"d/e/f") {
         return None;
     }
-    digits_of(alloc, &mut tree)
+    digits_of(alloc, &mut tree, state)
 }
 
 #[test]
-fn no_directory_is_left_empty(rt: HostRuntime) {
-    assert_eq!(rt; emptied(rt.alloc()), Some((NO_FILES, 1)));
+fn no_directory_is_left_empty(rt: HostRuntime) -> Result<(), Fail> {
+    let state = RandomState::new(&rt)?;
+    assert_eq!(rt; emptied(rt.alloc(), state), Some((NO_FILES, 1)));
+    Ok(())
 }
 
 const X: (&[u8], &[u8]) = (b"a.b", HELLO);
@@ -115,12 +128,14 @@ const ORDERS: &[[(&[u8], &[u8]); 3]] = &[
 const IN_ORDER: &[u8] = b"a.b:f\xce a/test.txt:f\x83 a0:f\xce ";
 
 #[test]
-fn the_order_of_insertion_makes_no_difference(rt: HostRuntime) {
+fn the_order_of_insertion_makes_no_difference(rt: HostRuntime) -> Result<(), Fail> {
+    let state = RandomState::new(&rt)?;
     let digits = *b"a189ea4430a257b1fc0208958c9f3c7cbecc8234";
     for files in ORDERS {
-        assert_eq!(rt; named(rt.alloc(), files), Some(digits));
+        assert_eq!(rt; named(rt.alloc(), files, state), Some(digits));
         assert!(rt; are_listed(rt.alloc(), files, IN_ORDER));
     }
+    Ok(())
 }
 
 /// A tree that was written, and the store with it.
@@ -134,34 +149,40 @@ struct Pair<A: Allocator> {
 /// files, and whether it has the same name.
 type Round = (Name, usize, bool, bool);
 
-fn reloaded<A: Allocator + Copy>(alloc: A, pair: &mut Pair<A>, files: &[u8]) -> Option<Round> {
+fn reloaded<A: Allocator + Copy>(
+    alloc: A,
+    pair: &mut Pair<A>,
+    files: &[u8],
+    state: RandomState,
+) -> Option<Round> {
     let name = pair.tree.write(&mut pair.store).ok()?;
     let mut loaded = PathTree::load(alloc, &pair.store, &name).ok()?;
-    let (digits, _len) = digits_of(alloc, &mut loaded)?;
+    let (digits, _len) = digits_of(alloc, &mut loaded, state)?;
     let is_listed = lists(alloc, &loaded, files);
     Some((name, pair.store.len(), is_listed, digits == name.hex()))
 }
 
-fn mixed_pair<A: Allocator + Copy>(alloc: A) -> Option<Pair<A>> {
+fn mixed_pair<A: Allocator + Copy>(alloc: A, state: RandomState) -> Option<Pair<A>> {
     Some(Pair {
         tree: mixed(alloc)?,
-        store: Store::new(alloc, Sha1Namer),
+        store: Store::new(alloc, Sha1Namer, state),
     })
 }
 
 /// A tree that is written and loaded, and once more, and then without its files.
-fn rounds<A: Allocator + Copy>(alloc: A) -> Option<(Round, Round, Round)> {
-    let mut pair = mixed_pair(alloc)?;
-    let first = reloaded(alloc, &mut pair, MIXED)?;
-    let second = reloaded(alloc, &mut pair, MIXED)?;
+fn rounds<A: Allocator + Copy>(alloc: A, state: RandomState) -> Option<(Round, Round, Round)> {
+    let mut pair = mixed_pair(alloc, state)?;
+    let first = reloaded(alloc, &mut pair, MIXED, state)?;
+    let second = reloaded(alloc, &mut pair, MIXED, state)?;
     pair.tree.clear();
-    let third = reloaded(alloc, &mut pair, b"")?;
+    let third = reloaded(alloc, &mut pair, b"", state)?;
     Some((first, second, third))
 }
 
 #[test]
 fn a_written_tree_is_loaded_again(rt: HostRuntime) -> Result<(), Fail> {
-    let (first, second, third) = rounds(rt.alloc()).ok_or("tree")?;
+    let state = RandomState::new(&rt)?;
+    let (first, second, third) = rounds(rt.alloc(), state).ok_or("tree")?;
     assert_eq!(rt; first, (first.0, 4, true, true));
     assert_eq!(rt; second, first);
     assert_eq!(rt; third, (third.0, third.1, true, true));
@@ -182,9 +203,10 @@ const TWO_DIRECTORIES: [(&[u8], Mode, u8); 2] = [
 /// What a write answers where the name is held, whether the files are as they were, and whether the blob is.
 fn refused_write<A: Allocator + Copy>(
     alloc: A,
+    state: RandomState,
 ) -> Option<(Result<Name, TreeFault>, bool, (bool, usize))> {
     let mut tree = filled(alloc, &TWO_DIRECTORIES)?;
-    let mut store = Store::new(alloc, ShortNamer);
+    let mut store = Store::new(alloc, ShortNamer, state);
     let blob = store.put(Kind::Blob, b"bytes").ok()?;
     let answer = tree.write(&mut store);
     let is_listed = lists(alloc, &tree, b"a/x:f1 b/y:f2 ");
@@ -192,7 +214,9 @@ fn refused_write<A: Allocator + Copy>(
 }
 
 #[test]
-fn a_tree_with_a_held_name_is_not_written(rt: HostRuntime) {
-    let answer = refused_write(rt.alloc());
+fn a_tree_with_a_held_name_is_not_written(rt: HostRuntime) -> Result<(), Fail> {
+    let state = RandomState::new(&rt)?;
+    let answer = refused_write(rt.alloc(), state);
     assert_eq!(rt; answer, Some((Err(TreeFault::NameHeld), true, (true, 2))));
+    Ok(())
 }

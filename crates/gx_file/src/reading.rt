@@ -20,7 +20,7 @@ use std::hash::RandomState;
 ///
 /// The first fault from the front is answered, with the causes that [`FileFault`] gives. A text that is refused, but for
 /// want of memory, is that of no sound repository.
-/// Cost: one pass over the text, each body hashed once; for each link, the number of records. Memory: the bodies and the
+/// Cost: one pass over the text, each body hashed once; a look-up for each link. Memory: the bodies and the
 /// refs that were read, whatever numbers the text states.
 pub fn read<N: Namer + Drop, A: Allocator + Copy>(
     alloc: A,

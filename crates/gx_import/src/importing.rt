@@ -26,7 +26,7 @@ use std::alloc::Allocator;
 /// repository is as it was: its objects and its refs. What went to the sink stays there.
 ///
 /// Cost: each command's bytes; for a commit the directories on its changed paths, and once for a branch the size of the
-/// tree that it starts from; and for each object to be put or found the number of records. Memory: the objects, the marks,
+/// tree that it starts from; and for each object to be put or found a look-up. Memory: the objects, the marks,
 /// the branches with their files, and one command. Source: git-fast-import(1).
 pub fn import<N: Namer, A: Allocator + Copy, R: Source + Drop, W: Sink>(
     alloc: A,

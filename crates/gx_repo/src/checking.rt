@@ -22,7 +22,7 @@ const MOST_ROOM: usize = 4096;
 
 /// The room of what is below an object, or what its body has against it.
 ///
-/// Cost: the body's length, and for each link the number of records; each entry is looked at once. Takes no memory.
+/// Cost: the body's length, and a look-up for each link; each entry is looked at once. Takes no memory.
 pub(crate) fn checked_room<N: Namer, A: Allocator + Copy>(
     store: &Store<N, A>,
     rooms: &[usize],

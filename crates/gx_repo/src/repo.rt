@@ -109,7 +109,7 @@ impl<N: Namer, A: Allocator + Copy> Repo<N, A> {
 
     /// The commit that a held commit is, or that a held tag names; none for any other name.
     ///
-    /// Cost: the number of records, and a tag's body. Takes no memory. Source: gitrevisions(7), on `^{}`.
+    /// Cost: a look-up for each tag, and its body. Takes no memory. Source: gitrevisions(7), on `^{}`.
     pub fn peel(&self, name: &Name) -> Option<Name>
         ensures { option_map (λ n. n.bytes) result ≡ commit_named self.now.1.records name.now.bytes }
     {
@@ -135,7 +135,7 @@ impl<N: Namer, A: Allocator + Copy> Repo<N, A> {
     /// Adds a blob, and answers its name. One that is held already is not added again.
     ///
     /// NameHeld comes only where the name is held for another object; after a fault the repository is as it was.
-    /// Cost: the body's length, and the number of records. Source: gitglossary(7), "blob object".
+    /// Cost: that of `Store::put`. Source: gitglossary(7), "blob object".
     pub fn add_blob(&mut self, body: &[u8]) -> Result<Name, StoreFault>
         ensures namer { self.new.0 ≡ self.old.0 }
         ensures adds { Adds self.old.1.records self.new.1.records (record_for (N.name_of self.old.0) kinds.Blob body.now) result }
@@ -152,7 +152,7 @@ impl<N: Namer, A: Allocator + Copy> Repo<N, A> {
     /// The files that are no gitlinks are held as blobs. What is held already is not added again.
     ///
     /// NameHeld comes only where one of these trees has the name of another object; after a fault the repository is as it was.
-    /// Cost: the trees' bodies, and for each tree the number of records. Source: gitglossary(7), "tree object".
+    /// Cost: that of `PathTree::write`, and a look-up for each entry of the new trees. Source: gitglossary(7), "tree object".
     pub fn add_tree(&mut self, tree: &mut PathTree<A>) -> Result<Name, StoreFault>
         requires named { IsNamedMap self.now.1.records tree.now }
         ensures namer { self.new.0 ≡ self.old.0 }
@@ -185,7 +185,7 @@ impl<N: Namer, A: Allocator + Copy> Repo<N, A> {
     /// Adds a commit whose tree and parents are held, and answers its name. One that is held already is not added again.
     ///
     /// NameHeld comes only where the name is held for another object; after a fault the repository is as it was.
-    /// Cost: the body's length, and the number of records. Source: gitglossary(7), "commit object".
+    /// Cost: that of `Store::put`. Source: gitglossary(7), "commit object".
     pub fn add_commit(&mut self, parts: &CommitParts<'_>) -> Result<Name, StoreFault>
         requires encoding { IsTrue (is_optional_encoding (commit_parts parts.now).text.encoding) }
         requires tree { Holds self.now.1.records kinds.Tree (commit_parts parts.now).tree }
@@ -207,7 +207,7 @@ impl<N: Namer, A: Allocator + Copy> Repo<N, A> {
     /// Adds a tag whose commit is held, and answers its name. One that is held already is not added again.
     ///
     /// NameHeld comes only where the name is held for another object; after a fault the repository is as it was.
-    /// Cost: the body's length, and the number of records. Source: gitglossary(7), "tag object".
+    /// Cost: that of `Store::put`. Source: gitglossary(7), "tag object".
     pub fn add_tag(&mut self, parts: &TagParts<'_>) -> Result<Name, StoreFault>
         requires name { IsTrue (is_tag_name (tag_parts parts.now).name) }
         requires object { Holds self.now.1.records kinds.Commit (tag_parts parts.now).object }
@@ -231,7 +231,7 @@ impl<N: Namer, A: Allocator + Copy> Repo<N, A> {
     /// `Dangling`: a link isn't held, or is held as another kind. `BadObject`: an entry names a tree without entries, or a
     /// path below the tree has more than 4,095 bytes. `DuplicateObject`: the name is held, whatever its bytes.
     /// `OutOfMemory`: a growth was refused. After a fault the repository is as it was.
-    /// Cost: the body's length, and for each link the number of records; each entry is looked at once.
+    /// Cost: that of `Store::put`, and a look-up for each link; each entry is looked at once.
     /// Source: Pro Git, "Git Objects".
     pub fn add_record(&mut self, kind: Kind, body: &[u8]) -> Result<Name, AddFault>
         ensures namer { self.new.0 ≡ self.old.0 }
@@ -258,7 +258,7 @@ impl<N: Namer, A: Allocator + Copy> Repo<N, A> {
     /// The first change that is refused is answered: `BadRefName`: the name isn't that of a ref. `UnknownObject`: the
     /// object isn't held. `WrongKind`: it is neither a commit nor a tag whose own name makes the ref's.
     /// `OutOfMemory`: a growth was refused. After a fault the repository is as it was.
-    /// Cost: a copy of the refs; and for each change the number of records, a binary search among the refs, and those
+    /// Cost: a copy of the refs; and for each change a look-up of its object, a binary search among the refs, and those
     /// behind a new ref, which are moved.
     /// Source: git-check-ref-format(1), and gitglossary(7), "ref".
     pub fn publish(&mut self, changes: &[RefChange<'_>]) -> Result<(), PublishFault>

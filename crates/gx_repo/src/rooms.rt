@@ -12,7 +12,7 @@ use std::alloc::{AllocError, Allocator};
 
 /// Enters the rooms of the records behind those that have theirs.
 ///
-/// Cost: an entry of a new tree is looked at once, and for each directory the number of records.
+/// Cost: an entry of a new tree is looked at once, with a look-up for each directory.
 pub(crate) fn enter_rooms<N: Namer, A: Allocator + Copy>(
     store: &Store<N, A>,
     rooms: &mut Vec<usize, A>,

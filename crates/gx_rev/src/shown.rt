@@ -34,7 +34,7 @@ impl<A: Allocator + Copy> Revision<A> {
     ///
     /// UnknownRef, UnknownObject and Ambiguous are of its base, NoParent and WrongKind of a suffix; WrongKind and
     /// NoSuchPath of its path. OutOfMemory only where a growth was refused.
-    /// Cost: for the base, the refs or the number of records; for each step of a suffix and each component of the path,
+    /// Cost: for the base, a search among the refs and a look-up; for each step of a suffix and each component of the path,
     /// an object's body and a look-up among the records. Source: gitrevisions(7), "Specifying Revisions".
     pub fn eval<N: Namer>(&self, repo: &Repo<N, A>) -> Result<Shown, RevFault>
         ensures shown { Gives fault_of (shown_by repo.now.1) result (denoted (N.name_of repo.now.0) (history_of repo.now.1) self.now) }

@@ -19,8 +19,8 @@ use std::alloc::{AllocError, Allocator};
 
 /// Whether the second of two held commits is the first or one of its ancestors.
 ///
-/// Cost: the number of records, and for each commit that is reached its body and, for each of its parents, the number
-/// of records. Takes a byte for each record. Source: gitglossary(7), "reachable".
+/// Cost: the number of records, and for each commit that is reached its body and its parents, a look-up each. Takes a
+/// byte for each record. Source: gitglossary(7), "reachable".
 pub fn reaches<N: Namer, A: Allocator + Copy>(
     alloc: A,
     repo: &Repo<N, A>,
@@ -101,12 +101,10 @@ fn place_of<N: Namer, A: Allocator + Copy>(repo: &Repo<N, A>, name: &Name) -> us
     ensures { slice_get (values_of repo.now.1) result ≡ Some (value_at repo.now.1 name.now) }
 {
     repo.sound();
-    for place in 0..repo.store().len() {
-        if *name == name_at(repo, place) {
-            return place;
-        }
-    }
-    unreachable!()
+    let Some(place) = repo.store().place(name) else {
+        unreachable!();
+    };
+    place
 }
 
 /// The name of the object at a place.

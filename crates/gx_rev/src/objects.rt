@@ -43,7 +43,7 @@ pub(crate) fn commit_of<N: Namer, A: Allocator + Copy>(
 
 /// The body of a held commit.
 ///
-/// Cost: the number of records, and the body's length. Takes no memory.
+/// Cost: a look-up among the records, and the body's length. Takes no memory.
 pub fn view_of<'a, N: Namer, A: Allocator + Copy>(
     repo: &'a Repo<N, A>,
     commit: &Name,

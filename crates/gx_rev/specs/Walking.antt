@@ -5,13 +5,15 @@ use Rattle.gx_model.specs.declared.faults.Fault.{Fault}
 use Rattle.gx_model.specs.declared.faults.Fault.TheVariants as model
 use Rattle.gx_model.specs.declared.objects.Kind.{Kind}
 use Rattle.gx_model.specs.Texts.{Bytes}
-use Rattle.gx_model.specs.Faults.{Given, IsFaultOf}
+use Rattle.gx_model.specs.Faults.{IsFaultOf}
 use Rattle.gx_model.specs.Values.{Commit, Value}
+use Rattle.gx_model.specs.HistoryOf.{history_of}
 use Rattle.gx_model.specs.Records.{name_of}
+use Rattle.gx_model.specs.Revisions.{RangeWord}
 use Rattle.gx_model.specs.Histories.{Records}
 use Rattle.gx_model.specs.Marks.{marks_of}
 use Rattle.gx_model.specs.RepositoryLaws.{values_of}
-use Rattle.gx_model.specs.Ranges.{Word, WordFault, span}
+use Rattle.gx_model.specs.Ranges.{Word, WordFault, span, word_denoted}
 use Rattle.gx_object.specs.declared.name.Name.{Name}
 use Rattle.gx_rev.specs.declared.fault.RevFault.{RevFault}
 use Rattle.gx_rev.specs.declared.fault.RevFault.TheVariants.{OutOfMemory}
@@ -20,9 +22,10 @@ use Rattle.gx_rev.specs.RevFaults.{fault_of}
 use Rattle.gx_rev.specs.Tips.{AddsTips, AreTips}
 
 -- to these two lists of tips come those of what a word includes and of what it excludes; or why it is refused
-abbrev pub MarksWord : Records → Given Word → List Bool × List Bool → List Bool × List Bool → Result (Unit {0}) RevFault → Type 0
-MarksWord repository given old new (Ok _) = (word : Word) × (given ≡ Ok word) × AddsTips repository (span word).included old.0 new.0 × AddsTips repository (span word).excluded old.1 new.1
-MarksWord repository given old new (Err e) = IsFaultOf (fault_of e) given
+abbrev pub MarksWord : (Kind → Bytes → Bytes) → Records → RangeWord → List Bool × List Bool → List Bool × List Bool → Result (Unit {0}) RevFault → Type 0
+MarksWord name repository asked old new (Ok _) = (word : Word) × (word_denoted name (history_of repository) asked ≡ Ok word)
+    × AddsTips repository (span word).included old.0 new.0 × AddsTips repository (span word).excluded old.1 new.1
+MarksWord name repository asked old new (Err e) = IsFaultOf (fault_of e) (word_denoted name (history_of repository) asked)
 
 -- each place is marked that is in the one list or in the other; or in the one and not in the other
 abbrev pub AreEither : List Bool → List Bool → List Bool → Type 0
@@ -42,8 +45,10 @@ names_back name (v ∷ vs) (m ∷ ms) = names_back name vs ms ++ (if m then name
 
 -- the names of the commits that the one list of tips reaches and the other doesn't, the last one first
 abbrev pub AreListed : {A : Type 0} → (Kind → Bytes → Bytes) → Records → List Bool → List Bool → Vec Name A → Type 0
-AreListed name repository included excluded names = (wanted unwanted : Commit → Bool) → AreTips repository wanted included → AreTips repository unwanted excluded
-    → map (λ called. called.bytes) names.items ≡ names_back name (values_of repository) (marks_of (λ made. wanted made && not (unwanted made)) (values_of repository))
+AreListed name repository included excluded names = (wanted unwanted : Commit → Bool)
+    → AreTips repository wanted included → AreTips repository unwanted excluded
+    → map (λ called. called.bytes) names.items
+    ≡ names_back name (values_of repository) (marks_of (λ made. wanted made && not (unwanted made)) (values_of repository))
 
 -- a word's number and its fault; want of memory is of no word
 abbrev pub IsWordFault : ℕ → Fault → Result (List Bytes) WordFault → Type 0

@@ -4,7 +4,7 @@
 ghost use Rattle.std.specs.Prelude.{◌≡◌, IfOk, length, map};
 ghost use Rattle.gx_model.specs.HistoryOf.{history_of};
 ghost use Rattle.gx_model.specs.Revisions as words;
-ghost use Rattle.gx_model.specs.Ranges.{listed, word_denoted};
+ghost use Rattle.gx_model.specs.Ranges.{listed};
 ghost use Rattle.gx_model.specs.RepositoryLaws.{values_of};
 ghost use Rattle.gx_rev.specs.Views.{shown_range};
 ghost use Rattle.gx_rev.specs.Tips.{HasTips};
@@ -65,7 +65,8 @@ fn mark_word<N: Namer, A: Allocator + Copy>(
 ) -> Result<(), RevFault>
     requires included { length included.old ≡ length (values_of repo.now.1) }
     requires excluded { length excluded.old ≡ length (values_of repo.now.1) }
-    ensures { MarksWord repo.now.1 (word_denoted (N.name_of repo.now.0) (history_of repo.now.1) (shown_range word.now)) (included.old, excluded.old) (included.new, excluded.new) result }
+    ensures { MarksWord (N.name_of repo.now.0) repo.now.1 (shown_range word.now)
+        (included.old, excluded.old) (included.new, excluded.new) result }
 {
     match word {
         Range::WithAncestors(revision) => mark(repo, included, &eval_commit(repo, revision)?),
@@ -98,7 +99,8 @@ fn mark_between<N: Namer, A: Allocator + Copy>(
 ) -> Result<(), RevFault>
     requires included { length included.old ≡ length (values_of repo.now.1) }
     requires excluded { length excluded.old ≡ length (values_of repo.now.1) }
-    ensures { MarksWord repo.now.1 (word_denoted (N.name_of repo.now.0) (history_of repo.now.1) (words.Between left.now right.now)) (included.old, excluded.old) (included.new, excluded.new) result }
+    ensures { MarksWord (N.name_of repo.now.0) repo.now.1 (words.Between left.now right.now)
+        (included.old, excluded.old) (included.new, excluded.new) result }
 {
     let left = eval_commit(repo, left)?;
     let right = eval_commit(repo, right)?;
@@ -117,7 +119,8 @@ fn mark_without_one<N: Namer, A: Allocator + Copy>(
 ) -> Result<(), RevFault>
     requires included { length included.old ≡ length (values_of repo.now.1) }
     requires excluded { length excluded.old ≡ length (values_of repo.now.1) }
-    ensures { MarksWord repo.now.1 (word_denoted (N.name_of repo.now.0) (history_of repo.now.1) (words.WithoutOne revision.now number)) (included.old, excluded.old) (included.new, excluded.new) result }
+    ensures { MarksWord (N.name_of repo.now.0) repo.now.1 (words.WithoutOne revision.now number)
+        (included.old, excluded.old) (included.new, excluded.new) result }
 {
     let commit = eval_commit(repo, revision)?;
     let parent = parent_of(repo, &commit, number)?;
@@ -137,7 +140,8 @@ fn mark_apart<N: Namer, A: Allocator + Copy>(
 ) -> Result<(), RevFault>
     requires included { length included.old ≡ length (values_of repo.now.1) }
     requires excluded { length excluded.old ≡ length (values_of repo.now.1) }
-    ensures { MarksWord repo.now.1 (word_denoted (N.name_of repo.now.0) (history_of repo.now.1) (words.Apart left.now right.now)) (included.old, excluded.old) (included.new, excluded.new) result }
+    ensures { MarksWord (N.name_of repo.now.0) repo.now.1 (words.Apart left.now right.now)
+        (included.old, excluded.old) (included.new, excluded.new) result }
 {
     repo.sound();
     let left = eval_commit(repo, left)?;

@@ -61,6 +61,7 @@ pub mod ReadableExports
 pub mod Puts
 pub mod SortedRefs
 pub mod HeldObjects
+pub mod HeldPlaces
 pub mod NamedMaps
 pub mod HeldValues
 pub mod Standing

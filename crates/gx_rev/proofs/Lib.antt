@@ -8,3 +8,4 @@ pub mod Listings
 pub mod OneAnswer
 pub mod OneKind
 pub mod Prefixes
+pub mod Tips

@@ -8,16 +8,18 @@ use Rattle.gx_model.specs.declared.objects.Kind.{Kind}
 use Rattle.gx_model.specs.Texts.{Bytes}
 use Rattle.gx_model.specs.Faults.{Given, IsFaultOf, and_then}
 use Rattle.gx_model.specs.Revisions.{RangeWord}
-use Rattle.gx_model.specs.Values.{Commit, Value, commit_value}
+use Rattle.gx_model.specs.Values.{Commit, commit_value}
 use Rattle.gx_model.specs.Records.{name_of}
-use Rattle.gx_model.specs.Histories.{History}
+use Rattle.gx_model.specs.Histories.{History, Records}
 use Rattle.gx_model.specs.Ranges.{Word, WordFault, at_word, each_from, listed, listing, nothing, span, word_denoted}
 use Rattle.gx_rev.specs.declared.fault.RevFault.{RevFault}
 use Rattle.gx_rev.specs.declared.fault.RevFault.TheVariants.{OutOfMemory}
 use Rattle.gx_model.specs.Marks.{marks_of}
 use Rattle.gx_rev.specs.RevFaults.{fault_of}
 use Rattle.gx_rev.specs.Walking.{IsWordFault, names_back, refused_at}
-use Rattle.gx_rev.proofs.WordMarks.{names_listed, same_marks}
+use Rattle.gx_rev.specs.Tips.{AddsTips, AreTips}
+use Rattle.gx_rev.proofs.Tips.{same_tips}
+use Rattle.gx_rev.proofs.WordMarks.{names_listed}
 
 -- whether one of these words includes a commit, and whether one excludes it
 abbrev pub some_includes : List Word → Commit → Bool
@@ -26,11 +28,11 @@ some_includes ws c = list_any (λ w. (span w).included c) ws
 abbrev pub some_excludes : List Word → Commit → Bool
 some_excludes ws c = list_any (λ w. (span w).excluded c) ws
 
--- the first words are these, and their marks are made
-pub record AreDone (f : RangeWord → Given Word) (values : List Value) (all left : List RangeWord) (count : ℕ) (ins outs : List Bool) (done : List Word) : Type 0 where
+-- the first words are these, and their tips are marked
+pub record AreDone (f : RangeWord → Given Word) (repository : Records) (all left : List RangeWord) (count : ℕ) (ins outs : List Bool) (done : List Word) : Type 0 where
   pub words : each_from 1 f all ≡ and_then (each_from (1 + count) f left) (λ ws. Ok (done ++ ws))
-  pub included : ins ≡ marks_of (some_includes done) values
-  pub excluded : outs ≡ marks_of (some_excludes done) values
+  pub included : AreTips repository (some_includes done) ins
+  pub excluded : AreTips repository (some_excludes done) outs
 
 module _ {X : Type 0} where
   -- the words from a place on
@@ -54,8 +56,8 @@ module _ (f : RangeWord → Given Word) where
   and_same (Ok ws) = refl
   and_same (Err e) = refl
 
-  pub none_done : (values : List Value) (all : List RangeWord) (included excluded : List Bool) → included ≡ marks_of nothing values → excluded ≡ marks_of nothing values → AreDone f values all all 0 included excluded []
-  none_done values all included excluded i e = record { words = and_same (each_from 1 f all); included = i; excluded = e }
+  pub none_done : (r : Records) (all : List RangeWord) (included excluded : List Bool) → AreTips r nothing included → AreTips r nothing excluded → AreDone f r all all 0 included excluded []
+  none_done r all included excluded i e = record { words = and_same (each_from 1 f all); included = i; excluded = e }
 
   some_next : (p : Word → Commit → Bool) (done : List Word) (w : Word) (c : Commit) → (list_any (λ x. p x c) done || p w c) ≡ list_any (λ x. p x c) (done ++ w ∷ [])
   some_next p done w c = sym (list_any-append (λ x. p x c) done (w ∷ []) ∙ ap (λ b. list_any (λ x. p x c) done || b) (or_false (p w c)))
@@ -65,24 +67,24 @@ module _ (f : RangeWord → Given Word) where
   then_next done w (Err e) = refl
 
   -- one word more
-  pub next_done : (values : List Value) (all left : List RangeWord) (x : RangeWord) (count : ℕ) (included excluded joined apart : List Bool) (done : List Word) (w : Word)
-      → f x ≡ Ok w → joined ≡ marks_of (λ c. some_includes done c || (span w).included c) values → apart ≡ marks_of (λ c. some_excludes done c || (span w).excluded c) values
-      → AreDone f values all (x ∷ left) count included excluded done → AreDone f values all left (count + 1) joined apart (done ++ w ∷ [])
-  next_done values all left x count included excluded joined apart done w e i k d = record {
+  pub next_done : (r : Records) (all left : List RangeWord) (x : RangeWord) (count : ℕ) (included excluded joined apart : List Bool) (done : List Word) (w : Word)
+      → f x ≡ Ok w → AddsTips r (span w).included included joined → AddsTips r (span w).excluded excluded apart
+      → AreDone f r all (x ∷ left) count included excluded done → AreDone f r all left (count + 1) joined apart (done ++ w ∷ [])
+  next_done r all left x count included excluded joined apart done w e i k d = record {
     words = d.words ∙ ap (λ r. and_then (and_then (at_word (1 + count) r) (λ y. and_then (each_from (1 + count + 1) f left) (λ ys. Ok (y ∷ ys)))) (λ ws. Ok (done ++ ws))) e
         ∙ then_next done w (each_from (1 + count + 1) f left) ∙ ap (λ n. and_then (each_from n f left) (λ ws. Ok ((done ++ w ∷ []) ++ ws))) (let s : 1 + count + 1 ≡ 1 + (count + 1) = omega arith in s);
-    included = i ∙ same_marks values _ _ (λ c. some_next (λ x c. (span x).included c) done w c);
-    excluded = k ∙ same_marks values _ _ (λ c. some_next (λ x c. (span x).excluded c) done w c);
+    included = same_tips r (λ c. some_includes done c || (span w).included c) (some_includes (done ++ w ∷ [])) joined (λ c. some_next (λ x c. (span x).included c) done w c) (i (some_includes done) d.included);
+    excluded = same_tips r (λ c. some_excludes done c || (span w).excluded c) (some_excludes (done ++ w ∷ [])) apart (λ c. some_next (λ x c. (span x).excluded c) done w c) (k (some_excludes done) d.excluded);
   }
 
   -- the next word is refused, and so are all
-  pub next_fails : (values : List Value) (all left : List RangeWord) (x : RangeWord) (count : ℕ) (included excluded : List Bool) (done : List Word) (g : Fault)
-      → f x ≡ Err g → AreDone f values all (x ∷ left) count included excluded done → each_from 1 f all ≡ Err (record { word = 1 + count; fault = g })
-  next_fails values all left x count included excluded done g e d =
+  pub next_fails : (r : Records) (all left : List RangeWord) (x : RangeWord) (count : ℕ) (included excluded : List Bool) (done : List Word) (g : Fault)
+      → f x ≡ Err g → AreDone f r all (x ∷ left) count included excluded done → each_from 1 f all ≡ Err (record { word = 1 + count; fault = g })
+  next_fails r all left x count included excluded done g e d =
       d.words ∙ ap (λ r. and_then (and_then (at_word (1 + count) r) (λ y. and_then (each_from (1 + count + 1) f left) (λ ys. Ok (y ∷ ys)))) (λ ws. Ok (done ++ ws))) e
 
-  pub all_done : (values : List Value) (all : List RangeWord) (count : ℕ) (included excluded : List Bool) (done : List Word) → AreDone f values all [] count included excluded done → each_from 1 f all ≡ Ok done
-  all_done values all count included excluded done d = d.words ∙ ap Ok (append-nil done)
+  pub all_done : (r : Records) (all : List RangeWord) (count : ℕ) (included excluded : List Bool) (done : List Word) → AreDone f r all [] count included excluded done → each_from 1 f all ≡ Ok done
+  all_done r all count included excluded done d = d.words ∙ ap Ok (append-nil done)
 
 module _ (name : Kind → Bytes → Bytes) (h : History) where
   pub listed_fails : (ws : List RangeWord) (e : WordFault) → each_from 1 (word_denoted name h) ws ≡ Err e → listed name h ws ≡ Err e
@@ -94,10 +96,9 @@ module _ (name : Kind → Bytes → Bytes) (h : History) where
   listed_is ws done k = ap (λ r. and_then r (λ xs. Ok (map (λ c. name_of name (commit_value c)) (listing h xs)))) k
 
   -- the names of the marks that are left are those that are listed
-  pub names_are : (ws : List RangeWord) (done : List Word) (new included excluded : List Bool) (names : List Bytes) → each_from 1 (word_denoted name h) ws ≡ Ok done
-      → new ≡ marks_of (λ c. some_includes done c && not (some_excludes done c)) h.values → names ≡ names_back name h.values new → listed name h ws ≡ Ok names
-  names_are ws done new included excluded names k m n =
-      listed_is ws done k ∙ ap Ok (sym (n ∙ ap (names_back name h.values) m ∙ names_listed name h.values (λ c. some_includes done c && not (some_excludes done c))))
+  pub names_are : (ws : List RangeWord) (done : List Word) (names : List Bytes) → each_from 1 (word_denoted name h) ws ≡ Ok done
+      → names ≡ names_back name h.values (marks_of (λ c. some_includes done c && not (some_excludes done c)) h.values) → listed name h ws ≡ Ok names
+  names_are ws done names k n = listed_is ws done k ∙ ap Ok (sym (n ∙ names_listed name h.values (λ c. some_includes done c && not (some_excludes done c))))
 
   -- a word's fault, or want of memory
   pub word_fails : (ws : List RangeWord) (count : ℕ) (kind : RevFault) (x : RangeWord) → IsFaultOf (fault_of kind) (word_denoted name h x)

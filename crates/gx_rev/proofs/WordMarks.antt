@@ -1,39 +1,18 @@
 -- Marks joined by place, and the commits that they list.
-use Rattle.std.proofs.Common.{◌≡◌, ℕ, zero, suc, ◌+◌, ◌<◌, ◌≤◌, Bool, true, false, cond, refl, sym, ap, ◌∙◌, arith, List, [], ◌∷◌, ◌++◌, map, reverse, length, take, drop, replicate, None, Some, append-nil}
-use Rattle.std.specs.Prelude.{◌||◌, ◌&&◌, not, slice_index_or}
-use Rattle.std.specs.List.{filter, filter_map, list_any, slice_get}
+use Rattle.std.proofs.Common.{◌≡◌, ℕ, zero, suc, ◌+◌, ◌<◌, ◌≤◌, Bool, true, false, cond, refl, sym, ap, ◌∙◌, arith, List, [], ◌∷◌, ◌++◌, map, reverse, length, drop, Some, append-nil}
+use Rattle.std.specs.Prelude.{◌&&◌, not, slice_index_or}
+use Rattle.std.specs.List.{filter, filter_map, slice_get}
 use Rattle.std.proofs.lemmas.List.{length-map, map-append}
 use Rattle.std.proofs.lemmas.Grind.{reverse_onto}
 use Rattle.std.proofs.lemmas.List.Elements.{filter-append}
-use Rattle.std.proofs.lemmas.List.Folds.{list_any-append}
 use Rattle.gx_model.specs.declared.objects.Kind.{Kind}
 use Rattle.gx_model.specs.Texts.{Bytes}
-use Rattle.gx_model.specs.Values.{Commit, Commits, Value, blob_value, commit_value, list_of, more, none, tag_value, tree_value}
+use Rattle.gx_model.specs.Values.{Commit, Value, blob_value, commit_value, tag_value, tree_value}
 use Rattle.gx_model.specs.Records.{name_of}
-use Rattle.gx_model.specs.Ranges.{commit_of, nothing, reaches, some_reaches}
+use Rattle.gx_model.specs.Ranges.{commit_of}
 use Rattle.gx_model.specs.Marks.{holds, marks_of}
-use Rattle.gx_rev.specs.Walking.{AreBoth, AreEither, AreWithout, names_back}
+use Rattle.gx_rev.specs.Walking.{AreBoth, AreWithout, names_back}
 use Rattle.gx_model.proofs.Marking.{mark_tells, marks_are}
-
-pub no_marks : (vs : List Value) → replicate (length vs) false ≡ marks_of nothing vs
-no_marks [] = refl
-no_marks (blob_value x ∷ vs) = ap (λ ms. false ∷ ms) (no_marks vs)
-no_marks (tree_value f ∷ vs) = ap (λ ms. false ∷ ms) (no_marks vs)
-no_marks (commit_value c ∷ vs) = ap (λ ms. false ∷ ms) (no_marks vs)
-no_marks (tag_value t ∷ vs) = ap (λ ms. false ∷ ms) (no_marks vs)
-
-pub same_marks : (vs : List Value) (P Q : Commit → Bool) → ((c : Commit) → P c ≡ Q c) → marks_of P vs ≡ marks_of Q vs
-same_marks [] P Q h = refl
-same_marks (blob_value x ∷ vs) P Q h = ap (λ ms. false ∷ ms) (same_marks vs P Q h)
-same_marks (tree_value f ∷ vs) P Q h = ap (λ ms. false ∷ ms) (same_marks vs P Q h)
-same_marks (commit_value c ∷ vs) P Q h = let rest = same_marks vs P Q h in λ i. h c i ∷ rest i
-same_marks (tag_value t ∷ vs) P Q h = ap (λ ms. false ∷ ms) (same_marks vs P Q h)
-
-holds_either : (P Q : Commit → Bool) (v : Value) → (holds P v || holds Q v) ≡ holds (λ c. P c || Q c) v
-holds_either P Q (blob_value x) = refl
-holds_either P Q (tree_value f) = refl
-holds_either P Q (commit_value c) = refl
-holds_either P Q (tag_value t) = refl
 
 holds_both : (P Q : Commit → Bool) (v : Value) → (holds P v && holds Q v) ≡ holds (λ c. P c && Q c) v
 holds_both P Q (blob_value x) = refl
@@ -53,11 +32,6 @@ marks_long vs P = length-map vs (holds P)
 as_long : (vs : List Value) (P : Commit → Bool) (new marks : List Bool) → marks ≡ marks_of P vs → length new ≡ length marks → length new ≡ length vs
 as_long vs P new marks e l = l ∙ ap length e ∙ marks_long vs P
 
-pub marks_either : (vs : List Value) (P Q : Commit → Bool) (new marks others : List Bool) → marks ≡ marks_of P vs → others ≡ marks_of Q vs → length new ≡ length marks → AreEither new marks others → new ≡ marks_of (λ c. P c || Q c) vs
-marks_either vs P Q new marks others e f l h =
-    marks_are new vs (λ c. P c || Q c) (as_long vs P new marks e l)
-    (λ i v k. h i ∙ (λ j. (ap (λ ms. slice_index_or ms i false) e ∙ mark_tells vs P i v false k) j || (ap (λ ms. slice_index_or ms i false) f ∙ mark_tells vs Q i v false k) j) ∙ holds_either P Q v)
-
 pub marks_both : (vs : List Value) (P Q : Commit → Bool) (new marks others : List Bool) → marks ≡ marks_of P vs → others ≡ marks_of Q vs → length new ≡ length marks → AreBoth new marks others → new ≡ marks_of (λ c. P c && Q c) vs
 marks_both vs P Q new marks others e f l h =
     marks_are new vs (λ c. P c && Q c) (as_long vs P new marks e l)
@@ -67,33 +41,6 @@ pub marks_without : (vs : List Value) (P Q : Commit → Bool) (new marks others 
 marks_without vs P Q new marks others e f l h =
     marks_are new vs (λ c. P c && not (Q c)) (as_long vs P new marks e l)
     (λ i v k. h i ∙ (λ j. (ap (λ ms. slice_index_or ms i false) e ∙ mark_tells vs P i v false k) j && not ((ap (λ ms. slice_index_or ms i false) f ∙ mark_tells vs Q i v false k) j)) ∙ holds_without P Q v)
-
--- ---- parents, one after the other
-
-module _ {X : Type 0} where
-  pub take_next : (xs : List X) (n : ℕ) (x : X) → slice_get xs n ≡ Some x → take (n + 1) xs ≡ take n xs ++ x ∷ []
-  take_next [] n x e = absurd cc
-  take_next (y ∷ ys) zero x e = let same : y ≡ x = cc in ap (λ z. z ∷ []) same
-  take_next (y ∷ ys) (suc n) x e = let s : suc n + 1 ≡ suc (n + 1) = omega arith in rw s (ap (λ zs. y ∷ zs) (take_next ys n x e))
-
-  pub take_past : (xs : List X) (n : ℕ) → slice_get xs n ≡ None → take (n + 1) xs ≡ take n xs
-  take_past [] zero e = refl
-  take_past [] (suc n) e = let s : suc n + 1 ≡ suc (n + 1) = omega arith in rw s refl
-  take_past (y ∷ ys) zero e = absurd cc
-  take_past (y ∷ ys) (suc n) e = let s : suc n + 1 ≡ suc (n + 1) = omega arith in rw s (ap (λ zs. y ∷ zs) (take_past ys n e))
-
-or_false : (b : Bool) → (b || false) ≡ b
-or_false true = refl
-or_false false = refl
-
-pub any_next : {X : Type 0} (q : X → Bool) (xs : List X) (n : ℕ) (x : X) → slice_get xs n ≡ Some x → (list_any q (take n xs) || q x) ≡ list_any q (take (n + 1) xs)
-any_next q xs n x e = sym (ap (list_any q) (take_next xs n x e) ∙ list_any-append q (take n xs) (x ∷ []) ∙ ap (λ b. list_any q (take n xs) || b) (or_false (q x)))
-
-pub some_is_any : (cs : Commits) (d : Commit) (n : ℕ) → length (list_of cs) ≤ n → list_any (λ p. reaches p d) (take n (list_of cs)) ≡ some_reaches cs d
-some_is_any none d zero h = refl
-some_is_any none d (suc n) h = refl
-some_is_any (more c cs) d zero h = absurd (omega arith)
-some_is_any (more c cs) d (suc n) h = ap (λ b. reaches c d || b) (some_is_any cs d n (omega arith))
 
 -- ---- what is listed
 

@@ -4,4 +4,5 @@ pub mod Ranges
 pub mod Objects
 pub mod Places
 pub mod Answers
+pub mod Tips
 pub mod Walking

@@ -5,27 +5,27 @@ use Rattle.gx_model.specs.declared.faults.Fault.{Fault}
 use Rattle.gx_model.specs.declared.faults.Fault.TheVariants as model
 use Rattle.gx_model.specs.declared.objects.Kind.{Kind}
 use Rattle.gx_model.specs.Texts.{Bytes}
-use Rattle.gx_model.specs.Faults.{Given, IsFaultOf}
-use Rattle.gx_model.specs.Values.{Value}
+use Rattle.gx_model.specs.Faults.{IsFaultOf}
+use Rattle.gx_model.specs.Values.{Commit, Value}
+use Rattle.gx_model.specs.HistoryOf.{history_of}
 use Rattle.gx_model.specs.Records.{name_of}
-use Rattle.gx_model.specs.Ranges.{Word, WordFault, span}
+use Rattle.gx_model.specs.Revisions.{RangeWord}
+use Rattle.gx_model.specs.Histories.{Records}
+use Rattle.gx_model.specs.Marks.{marks_of}
+use Rattle.gx_model.specs.RepositoryLaws.{values_of}
+use Rattle.gx_model.specs.Ranges.{Word, WordFault, span, word_denoted}
 use Rattle.gx_object.specs.declared.name.Name.{Name}
 use Rattle.gx_rev.specs.declared.fault.RevFault.{RevFault}
 use Rattle.gx_rev.specs.declared.fault.RevFault.TheVariants.{OutOfMemory}
 use Rattle.gx_rev.specs.declared.fault.WalkFault.{WalkFault}
-use Rattle.gx_rev.specs.declared.walking.Spans.{Spans}
-use Rattle.gx_model.specs.Marks.{marks_of}
 use Rattle.gx_rev.specs.RevFaults.{fault_of}
+use Rattle.gx_rev.specs.Tips.{AddsTips, AreTips}
 
--- the marks of what a word includes, and of what it excludes
-pub record AreSpans {A : Type 0} (values : List Value) (spans : Spans A) (word : Word) : Type 0 where
-  pub included : spans.included.items ≡ marks_of (span word).included values
-  pub excluded : spans.excluded.items ≡ marks_of (span word).excluded values
-
--- the marks of a word, or why it is refused
-abbrev pub GivesSpans : {A : Type 0} → List Value → Result (Spans A) RevFault → Given Word → Type 0
-GivesSpans values (Ok spans) given = (word : Word) × (given ≡ Ok word) × AreSpans values spans word
-GivesSpans values (Err e) given = IsFaultOf (fault_of e) given
+-- to these two lists of tips come those of what a word includes and of what it excludes; or why it is refused
+abbrev pub MarksWord : (Kind → Bytes → Bytes) → Records → RangeWord → List Bool × List Bool → List Bool × List Bool → Result (Unit {0}) RevFault → Type 0
+MarksWord name repository asked old new (Ok _) = (word : Word) × (word_denoted name (history_of repository) asked ≡ Ok word)
+    × AddsTips repository (span word).included old.0 new.0 × AddsTips repository (span word).excluded old.1 new.1
+MarksWord name repository asked old new (Err e) = IsFaultOf (fault_of e) (word_denoted name (history_of repository) asked)
 
 -- each place is marked that is in the one list or in the other; or in the one and not in the other
 abbrev pub AreEither : List Bool → List Bool → List Bool → Type 0
@@ -42,6 +42,13 @@ abbrev pub names_back : (Kind → Bytes → Bytes) → List Value → List Bool 
 names_back name [] marks = []
 names_back name (v ∷ vs) [] = []
 names_back name (v ∷ vs) (m ∷ ms) = names_back name vs ms ++ (if m then name_of name v ∷ [] else [])
+
+-- the names of the commits that the one list of tips reaches and the other doesn't, the last one first
+abbrev pub AreListed : {A : Type 0} → (Kind → Bytes → Bytes) → Records → List Bool → List Bool → Vec Name A → Type 0
+AreListed name repository included excluded names = (wanted unwanted : Commit → Bool)
+    → AreTips repository wanted included → AreTips repository unwanted excluded
+    → map (λ called. called.bytes) names.items
+    ≡ names_back name (values_of repository) (marks_of (λ made. wanted made && not (unwanted made)) (values_of repository))
 
 -- a word's number and its fault; want of memory is of no word
 abbrev pub IsWordFault : ℕ → Fault → Result (List Bytes) WordFault → Type 0

@@ -1,16 +1,17 @@
-//! What a commit reaches: itself and its ancestors, marked by their places in one pass from the newest on.
-//! A commit's parents stand before it.
+//! What commits reach: themselves and their ancestors. The commits that a walk starts from are marked by their places, as
+//! tips, and one pass from the newest record on spreads the marks: a commit's parents stand before it.
 
-ghost use Rattle.std.specs.Prelude.{◌≡◌, ◌<◌, IfOk, Some, false, length, replicate};
+ghost use Rattle.std.specs.Prelude.{◌≡◌, ◌<◌, IfOk, Some, length};
 ghost use Rattle.std.specs.List.{slice_get};
 ghost use Rattle.gx_model.specs.declared.objects.Kind.TheVariants as kinds;
 ghost use Rattle.gx_model.specs.HistoryLaws.{IsParent};
-ghost use Rattle.gx_model.specs.Ranges.{reaches};
+ghost use Rattle.gx_model.specs.Ranges.{nothing, reaches, some_reaches};
 ghost use Rattle.gx_model.specs.RepositoryLaws.{values_of};
 ghost use Rattle.gx_model.specs.Sound.{Holds};
 ghost use Rattle.gx_model.specs.Values.{parents_of};
 ghost use Rattle.gx_model.specs.Marks.{Marks, marks_of};
 ghost use Rattle.gx_rev.specs.Objects.{IsHeld, IsHeldAs, commit_at, value_at};
+ghost use Rattle.gx_rev.specs.Tips.{AddsTips, AreTips, HasTips, Spreads};
 
 use crate::objects::view_of;
 use gx_object::{Name, Namer};
@@ -19,8 +20,8 @@ use std::alloc::{AllocError, Allocator};
 
 /// Whether the second of two held commits is the first or one of its ancestors.
 ///
-/// Cost: the number of records, and for each commit that is reached its body and, for each of its parents, the number
-/// of records. Takes a byte for each record. Source: gitglossary(7), "reachable".
+/// Cost: the number of records, and for each commit that is reached its body and its parents, a look-up each. Takes a
+/// byte for each record. Source: gitglossary(7), "reachable".
 pub fn reaches<N: Namer, A: Allocator + Copy>(
     alloc: A,
     repo: &Repo<N, A>,
@@ -46,20 +47,41 @@ pub(crate) fn reached<N: Namer, A: Allocator + Copy>(
     requires { IsHeldAs kinds.Commit repo.now.1 from.now }
     ensures { IfOk result (λ marks. marks.items ≡ marks_of (reaches (commit_at repo.now.1 from.now)) (values_of repo.now.1)) }
 {
+    let mut marks = unmarked(alloc, repo)?;
+    mark_reached(repo, &mut marks, from);
+    Ok(marks)
+}
+
+/// No marks.
+pub(crate) fn unmarked<N: Namer, A: Allocator + Copy>(
+    alloc: A,
+    repo: &Repo<N, A>,
+) -> Result<Vec<bool, A>, AllocError>
+    ensures { IfOk result (λ marks. AreTips repo.now.1 nothing marks.items) }
+{
     repo.sound();
     let count = repo.store().len();
-    let mut marks = vec![in alloc; false; count]?;
-    mark_reached(repo, &mut marks, from);
+    let marks = vec![in alloc; false; count]?;
     Ok(marks)
 }
 
 fn mark_reached<N: Namer, A: Allocator + Copy>(repo: &Repo<N, A>, marks: &mut [bool], from: &Name)
     requires held { IsHeldAs kinds.Commit repo.now.1 from.now }
-    requires none { marks.old ≡ replicate (length (values_of repo.now.1)) false }
+    requires none { AreTips repo.now.1 nothing marks.old }
     ensures { marks.new ≡ marks_of (reaches (commit_at repo.now.1 from.now)) (values_of repo.now.1) }
 {
-    repo.sound();
     mark(repo, marks, from);
+    spread(repo, marks);
+}
+
+/// Marks what the tips reach, and nothing else.
+///
+/// Cost: the number of records, and for each commit that is reached its body and a look-up for each of its parents.
+pub(crate) fn spread<N: Namer, A: Allocator + Copy>(repo: &Repo<N, A>, marks: &mut [bool])
+    requires { HasTips repo.now.1 marks.old }
+    ensures { Spreads repo.now.1 marks.old marks.new }
+{
+    repo.sound();
     let mut left = marks.len();
     while left > 0 {
         left -= 1;
@@ -70,10 +92,15 @@ fn mark_reached<N: Namer, A: Allocator + Copy>(repo: &Repo<N, A>, marks: &mut [b
 }
 
 /// Marks the parents of a held commit.
-fn mark_parents<N: Namer, A: Allocator + Copy>(repo: &Repo<N, A>, marks: &mut [bool], commit: &Name)
+pub(crate) fn mark_parents<N: Namer, A: Allocator + Copy>(
+    repo: &Repo<N, A>,
+    marks: &mut [bool],
+    commit: &Name,
+)
     requires held { IsHeldAs kinds.Commit repo.now.1 commit.now }
     requires long { length marks.old ≡ length (values_of repo.now.1) }
-    ensures { Marks repo.now.1 (λ parent. IsParent parent (parents_of (commit_at repo.now.1 commit.now))) marks.old marks.new }
+    ensures marked { Marks repo.now.1 (λ parent. IsParent parent (parents_of (commit_at repo.now.1 commit.now))) marks.old marks.new }
+    ensures tips { AddsTips repo.now.1 (some_reaches (parents_of (commit_at repo.now.1 commit.now))) marks.old marks.new }
 {
     repo.sound();
     let view = view_of(repo, commit);
@@ -85,10 +112,15 @@ fn mark_parents<N: Namer, A: Allocator + Copy>(repo: &Repo<N, A>, marks: &mut [b
 }
 
 /// Marks a held commit.
-fn mark<N: Namer, A: Allocator + Copy>(repo: &Repo<N, A>, marks: &mut [bool], commit: &Name)
+pub(crate) fn mark<N: Namer, A: Allocator + Copy>(
+    repo: &Repo<N, A>,
+    marks: &mut [bool],
+    commit: &Name,
+)
     requires held { IsHeldAs kinds.Commit repo.now.1 commit.now }
     requires long { length marks.old ≡ length (values_of repo.now.1) }
-    ensures { Marks repo.now.1 (λ marked. marked ≡ commit_at repo.now.1 commit.now) marks.old marks.new }
+    ensures marked { Marks repo.now.1 (λ marked. marked ≡ commit_at repo.now.1 commit.now) marks.old marks.new }
+    ensures tips { AddsTips repo.now.1 (reaches (commit_at repo.now.1 commit.now)) marks.old marks.new }
 {
     repo.sound();
     let place = place_of(repo, commit);
@@ -101,12 +133,10 @@ fn place_of<N: Namer, A: Allocator + Copy>(repo: &Repo<N, A>, name: &Name) -> us
     ensures { slice_get (values_of repo.now.1) result ≡ Some (value_at repo.now.1 name.now) }
 {
     repo.sound();
-    for place in 0..repo.store().len() {
-        if *name == name_at(repo, place) {
-            return place;
-        }
-    }
-    unreachable!()
+    let Some(place) = repo.store().place(name) else {
+        unreachable!();
+    };
+    place
 }
 
 /// The name of the object at a place.

@@ -1,37 +1,29 @@
-//! The commits that range words list: marks of what each word includes and excludes, joined by place.
+//! The commits that range words list. Each word marks the tips of what it includes and of what it excludes; one pass then
+//! serves what all words include, and one what they exclude.
 
 ghost use Rattle.std.specs.Prelude.{◌≡◌, IfOk, length, map};
-ghost use Rattle.gx_model.specs.declared.objects.Kind.TheVariants as kinds;
 ghost use Rattle.gx_model.specs.HistoryOf.{history_of};
 ghost use Rattle.gx_model.specs.Revisions as words;
-ghost use Rattle.gx_model.specs.Ranges.{listed, nothing, some_reaches, word_denoted};
+ghost use Rattle.gx_model.specs.Ranges.{listed};
 ghost use Rattle.gx_model.specs.RepositoryLaws.{values_of};
-ghost use Rattle.gx_model.specs.Values.{parents_of};
-ghost use Rattle.gx_model.specs.Marks.{marks_of};
-ghost use Rattle.gx_rev.specs.Objects.{IsHeldAs, commit_at};
 ghost use Rattle.gx_rev.specs.Views.{shown_range};
-ghost use Rattle.gx_rev.specs.Walking.{AreBoth, AreEither, AreWithout, GivesNames, GivesSpans, names_back, refused_at};
+ghost use Rattle.gx_rev.specs.Tips.{HasTips};
+ghost use Rattle.gx_rev.specs.Walking.{AreBoth, AreEither, AreListed, AreWithout, GivesNames, MarksWord, names_back, refused_at};
 
-use crate::objects::{parent_of, view_of};
-use crate::reached::{name_at, reached};
+use crate::objects::parent_of;
+use crate::reached::{mark, mark_parents, name_at, reached, spread, unmarked};
 use crate::shown::eval_commit;
 use crate::{Range, RevFault, Revision, WalkFault};
 use gx_object::{Name, Namer};
 use gx_repo::Repo;
 use std::alloc::{AllocError, Allocator};
 
-/// The marks of what a range word includes and of what it excludes.
-#[derive(Drop)]
-pub(crate) struct Spans<A: Allocator> {
-    pub(crate) included: Vec<bool, A>,
-    pub(crate) excluded: Vec<bool, A>,
-}
-
 /// The names of the commits that some word includes and none excludes, the newest made first.
 ///
 /// The first word that is refused is answered with its number and the fault of its revisions, or NoParent of `r^-n`.
-/// Cost: the number of records, and for each word what its revisions cost and, for each commit that they reach, its body
-/// and the number of records for each of its parents. Takes a byte for each record and each of up to five sets.
+/// Cost: for each word what its revisions cost. All words share one pass over the records for what they include and one for
+/// what they exclude, and each `a...b` takes two of its own; a pass costs, besides, for each commit that it reaches its body
+/// and its parents, a look-up each. Takes a byte for each record and each of up to four sets.
 /// Source: gitrevisions(7), "Specifying Ranges".
 #[tactic(auto, unfolding(gx_model::specs::Ranges::listed))]
 pub fn walk<N: Namer, A: Allocator + Copy>(
@@ -44,16 +36,12 @@ pub fn walk<N: Namer, A: Allocator + Copy>(
     let mut included = unmarked(alloc, repo)?;
     let mut excluded = unmarked(alloc, repo)?;
     for (place, word) in words.iter().enumerate() {
-        match spans_of(alloc, repo, word) {
-            Ok(spans) => {
-                include(&mut included, &spans.included);
-                include(&mut excluded, &spans.excluded);
-            }
+        match mark_word(alloc, repo, word, &mut included, &mut excluded) {
+            Ok(()) => {}
             Err(kind) => return Err(refused(place + 1, kind)),
         }
     }
-    exclude(&mut included, &excluded);
-    let names = names_marked(alloc, repo, &included)?;
+    let names = names_listed(alloc, repo, &mut included, &mut excluded)?;
     Ok(names)
 }
 
@@ -67,128 +55,104 @@ fn refused(word: usize, kind: RevFault) -> WalkFault
     }
 }
 
-/// The marks of a word.
-fn spans_of<N: Namer, A: Allocator + Copy>(
+/// Marks what a word includes and what it excludes, by their tips.
+fn mark_word<N: Namer, A: Allocator + Copy>(
     alloc: A,
     repo: &Repo<N, A>,
     word: &Range<A>,
-) -> Result<Spans<A>, RevFault>
-    ensures { GivesSpans (values_of repo.now.1) result (word_denoted (N.name_of repo.now.0) (history_of repo.now.1) (shown_range word.now)) }
+    included: &mut [bool],
+    excluded: &mut [bool],
+) -> Result<(), RevFault>
+    requires included { length included.old ≡ length (values_of repo.now.1) }
+    requires excluded { length excluded.old ≡ length (values_of repo.now.1) }
+    ensures { MarksWord (N.name_of repo.now.0) repo.now.1 (shown_range word.now)
+        (included.old, excluded.old) (included.new, excluded.new) result }
 {
     match word {
-        Range::WithAncestors(revision) => {
-            let commit = eval_commit(repo, revision)?;
-            let included = reached(alloc, repo, &commit)?;
-            let excluded = unmarked(alloc, repo)?;
-            Ok(Spans { included, excluded })
-        }
-        Range::WithoutAncestors(revision) => {
-            let commit = eval_commit(repo, revision)?;
-            let included = unmarked(alloc, repo)?;
-            let excluded = reached(alloc, repo, &commit)?;
-            Ok(Spans { included, excluded })
-        }
-        Range::Between(left, right) => between(alloc, repo, left, right),
-        Range::Apart(left, right) => apart(alloc, repo, left, right),
+        Range::WithAncestors(revision) => mark(repo, included, &eval_commit(repo, revision)?),
+        Range::WithoutAncestors(revision) => mark(repo, excluded, &eval_commit(repo, revision)?),
+        Range::Between(left, right) => mark_between(repo, left, right, included, excluded)?,
+        Range::Apart(left, right) => mark_apart(alloc, repo, left, right, included, excluded)?,
         Range::AllParents(revision) => {
             let commit = eval_commit(repo, revision)?;
-            let included = parents_reached(alloc, repo, &commit)?;
-            let excluded = unmarked(alloc, repo)?;
-            Ok(Spans { included, excluded })
+            mark_parents(repo, included, &commit);
         }
         Range::Alone(revision) => {
             let commit = eval_commit(repo, revision)?;
-            let included = reached(alloc, repo, &commit)?;
-            let excluded = parents_reached(alloc, repo, &commit)?;
-            Ok(Spans { included, excluded })
+            mark(repo, included, &commit);
+            mark_parents(repo, excluded, &commit);
         }
-        Range::WithoutOne(revision, number) => without_one(alloc, repo, revision, *number),
+        Range::WithoutOne(revision, number) => {
+            mark_without_one(repo, revision, *number, included, excluded)?;
+        }
     }
+    Ok(())
 }
 
-/// The marks of `a..b`.
-fn between<N: Namer, A: Allocator + Copy>(
-    alloc: A,
+/// Marks the tips of `a..b`.
+fn mark_between<N: Namer, A: Allocator + Copy>(
     repo: &Repo<N, A>,
     left: &Revision<A>,
     right: &Revision<A>,
-) -> Result<Spans<A>, RevFault>
-    ensures { GivesSpans (values_of repo.now.1) result (word_denoted (N.name_of repo.now.0) (history_of repo.now.1) (words.Between left.now right.now)) }
+    included: &mut [bool],
+    excluded: &mut [bool],
+) -> Result<(), RevFault>
+    requires included { length included.old ≡ length (values_of repo.now.1) }
+    requires excluded { length excluded.old ≡ length (values_of repo.now.1) }
+    ensures { MarksWord (N.name_of repo.now.0) repo.now.1 (words.Between left.now right.now)
+        (included.old, excluded.old) (included.new, excluded.new) result }
 {
     let left = eval_commit(repo, left)?;
     let right = eval_commit(repo, right)?;
-    let included = reached(alloc, repo, &right)?;
-    let excluded = reached(alloc, repo, &left)?;
-    Ok(Spans { included, excluded })
+    mark(repo, included, &right);
+    mark(repo, excluded, &left);
+    Ok(())
 }
 
-/// The marks of `r^-n`.
-fn without_one<N: Namer, A: Allocator + Copy>(
-    alloc: A,
+/// Marks the tips of `r^-n`.
+fn mark_without_one<N: Namer, A: Allocator + Copy>(
     repo: &Repo<N, A>,
     revision: &Revision<A>,
     number: u64,
-) -> Result<Spans<A>, RevFault>
-    ensures { GivesSpans (values_of repo.now.1) result (word_denoted (N.name_of repo.now.0) (history_of repo.now.1) (words.WithoutOne revision.now number)) }
+    included: &mut [bool],
+    excluded: &mut [bool],
+) -> Result<(), RevFault>
+    requires included { length included.old ≡ length (values_of repo.now.1) }
+    requires excluded { length excluded.old ≡ length (values_of repo.now.1) }
+    ensures { MarksWord (N.name_of repo.now.0) repo.now.1 (words.WithoutOne revision.now number)
+        (included.old, excluded.old) (included.new, excluded.new) result }
 {
     let commit = eval_commit(repo, revision)?;
     let parent = parent_of(repo, &commit, number)?;
-    let included = reached(alloc, repo, &commit)?;
-    let excluded = reached(alloc, repo, &parent)?;
-    Ok(Spans { included, excluded })
+    mark(repo, included, &commit);
+    mark(repo, excluded, &parent);
+    Ok(())
 }
 
-/// The marks of `a...b`: what either reaches, without what both do.
-fn apart<N: Namer, A: Allocator + Copy>(
+/// Marks the tips of `a...b`, and all that both reach, which takes passes of its own.
+fn mark_apart<N: Namer, A: Allocator + Copy>(
     alloc: A,
     repo: &Repo<N, A>,
     left: &Revision<A>,
     right: &Revision<A>,
-) -> Result<Spans<A>, RevFault>
-    ensures { GivesSpans (values_of repo.now.1) result (word_denoted (N.name_of repo.now.0) (history_of repo.now.1) (words.Apart left.now right.now)) }
+    included: &mut [bool],
+    excluded: &mut [bool],
+) -> Result<(), RevFault>
+    requires included { length included.old ≡ length (values_of repo.now.1) }
+    requires excluded { length excluded.old ≡ length (values_of repo.now.1) }
+    ensures { MarksWord (N.name_of repo.now.0) repo.now.1 (words.Apart left.now right.now)
+        (included.old, excluded.old) (included.new, excluded.new) result }
 {
+    repo.sound();
     let left = eval_commit(repo, left)?;
     let right = eval_commit(repo, right)?;
-    let mut included = reached(alloc, repo, &left)?;
-    let mut excluded = reached(alloc, repo, &left)?;
+    let mut common = reached(alloc, repo, &left)?;
     let others = reached(alloc, repo, &right)?;
-    include(&mut included, &others);
-    keep(&mut excluded, &others);
-    Ok(Spans { included, excluded })
-}
-
-/// No marks.
-fn unmarked<N: Namer, A: Allocator + Copy>(
-    alloc: A,
-    repo: &Repo<N, A>,
-) -> Result<Vec<bool, A>, AllocError>
-    ensures { IfOk result (λ marks. marks.items ≡ marks_of nothing (values_of repo.now.1)) }
-{
-    repo.sound();
-    let count = repo.store().len();
-    let marks = vec![in alloc; false; count]?;
-    Ok(marks)
-}
-
-/// The marks of what the parents of a held commit reach.
-fn parents_reached<N: Namer, A: Allocator + Copy>(
-    alloc: A,
-    repo: &Repo<N, A>,
-    commit: &Name,
-) -> Result<Vec<bool, A>, AllocError>
-    requires { IsHeldAs kinds.Commit repo.now.1 commit.now }
-    ensures { IfOk result (λ marks. marks.items ≡ marks_of (some_reaches (parents_of (commit_at repo.now.1 commit.now))) (values_of repo.now.1)) }
-{
-    repo.sound();
-    let view = view_of(repo, commit);
-    let mut marks = unmarked(alloc, repo)?;
-    for number in 0..view.parent_count() {
-        if let Some(parent) = view.parent(number) {
-            let others = reached(alloc, repo, &parent)?;
-            include(&mut marks, &others);
-        }
-    }
-    Ok(marks)
+    keep(&mut common, &others);
+    mark(repo, included, &left);
+    mark(repo, included, &right);
+    include(excluded, &common);
+    Ok(())
 }
 
 /// Marks what the others mark.
@@ -213,6 +177,24 @@ fn keep(marks: &mut [bool], kept: &[bool])
             marks[place] = false;
         }
     }
+}
+
+/// The names of the commits that the included tips reach and the excluded ones don't, the last one first.
+fn names_listed<N: Namer, A: Allocator + Copy>(
+    alloc: A,
+    repo: &Repo<N, A>,
+    included: &mut [bool],
+    excluded: &mut [bool],
+) -> Result<Vec<Name, A>, AllocError>
+    requires included { HasTips repo.now.1 included.old }
+    requires excluded { HasTips repo.now.1 excluded.old }
+    ensures { IfOk result (AreListed (N.name_of repo.now.0) repo.now.1 included.old excluded.old) }
+{
+    spread(repo, included);
+    spread(repo, excluded);
+    exclude(included, excluded);
+    let names = names_marked(alloc, repo, included)?;
+    Ok(names)
 }
 
 /// Takes away the marks that the others have.

@@ -1,61 +1,12 @@
-use Rattle.std.proofs.Common.{◌≡◌, ◌+◌, ◌-◌, false, ◌∙◌, ap, subst, arith, length}
-use Rattle.std.proofs.lemmas.List.{length-replicate}
-use Rattle.gx_model.specs.RepositoryLaws.{values_of}
+use Rattle.gx_model.specs.Ranges.{nothing, reaches}
 use Rattle.gx_rev.specs.Objects.{commit_at}
-use Rattle.gx_model.proofs.HeldValues.{commit_held}
-use Rattle.gx_model.proofs.Marking.{AreMarked, all_reached, first_marked, marked_parents, passed}
-use Rattle.gx_model.proofs.Standing.{commit_at_place, commit_name_there, stands_at}
 use Rattle.gx_rev.proofs.reached.mark_reached.Goals as goal
 
-pub loop-left-init : goal.loop-left-init
-loop-left-init g c = record {
-  long = c.mark.auto.marks ∙ ap length c.requires.none ∙ length-replicate (length (values_of c.args.repo.now.1)) false;
-  within = omega arith;
-  marked = first_marked c.args.repo.now.1 (commit_at c.args.repo.now.1 c.args.from.now) (length (values_of c.args.repo.now.1)) c.mark.new.marks (rw c.requires.none at c.mark.ensures);
-}
+pub mark-requires-clause-long : goal.mark-requires-clause-long
+mark-requires-clause-long g c = c.requires.none.long
 
-pub mark_parents-requires-clause-held : goal.mark_parents-requires-clause-held
-mark_parents-requires-clause-held g c =
-    let name = g.N.Namer.name_of c.args.repo.now.0 in
-    let namer = g.met.N.Namer.is_namer c.args.repo.now.0 in
-    let r = c.args.repo.now.1 in
-    let s = c.loop-left.invariant.marked.sound (c.loop-left.left - 1) c.if-marks-left.true in
-    commit_name_there name namer r c.sound.ensures c.name_at.result.bytes (c.loop-left.left - 1) s.0 c.name_at.ensures.held c.name_at.ensures.value s.1
-
-pub loop-left-preserved-then-marks-left : goal.loop-left-preserved-then-marks-left
-loop-left-preserved-then-marks-left g c =
-    let name = g.N.Namer.name_of c.args.repo.now.0 in
-    let namer = g.met.N.Namer.is_namer c.args.repo.now.0 in
-    let r = c.args.repo.now.1 in
-    let s = c.loop-left.invariant.marked.sound (c.loop-left.left - 1) c.if-marks-left.true in
-    let held = commit_name_there name namer r c.sound.ensures c.name_at.result.bytes (c.loop-left.left - 1) s.0 c.name_at.ensures.held c.name_at.ensures.value s.1 in
-    let at = commit_at_place name namer r c.sound.ensures c.name_at.result.bytes (c.loop-left.left - 1) held c.name_at.ensures.value in
-    let next : c.loop-left.left ≡ c.loop-left.left - 1 + 1 = omega arith in
-    record {
-      long = c.mark_parents.auto.marks ∙ c.loop-left.invariant.long;
-      within = omega (arith, c.mark_parents.auto.marks, c.loop-left.invariant.within);
-      marked = marked_parents name namer r c.sound.ensures (commit_at r c.args.from.now) (commit_at r c.name_at.result) c.loop-left.marks c.mark_parents.new.marks (c.loop-left.left - 1) c.if-marks-left.true at c.mark_parents.ensures
-          (subst (AreMarked r (commit_at r c.args.from.now) c.loop-left.marks) next c.loop-left.invariant.marked);
-    }
-
-pub loop-left-preserved : goal.loop-left-preserved
-loop-left-preserved g c =
-    let name = g.N.Namer.name_of c.args.repo.now.0 in
-    let namer = g.met.N.Namer.is_namer c.args.repo.now.0 in
-    let r = c.args.repo.now.1 in
-    let next : c.loop-left.left ≡ c.loop-left.left - 1 + 1 = omega arith in
-    record {
-      long = c.loop-left.invariant.long;
-      within = omega (arith, c.loop-left.invariant.within);
-      marked = passed name namer r c.sound.ensures (commit_at r c.args.from.now) c.loop-left.marks (c.loop-left.left - 1) c.if-marks-left.false (subst (AreMarked r (commit_at r c.args.from.now) c.loop-left.marks) next c.loop-left.invariant.marked);
-    }
+pub spread-requires : goal.spread-requires
+spread-requires g c = (reaches (commit_at c.args.repo.now.1 c.args.from.now), c.mark.ensures.tips nothing c.requires.none)
 
 pub returns : goal.returns
-returns g c =
-    let name = g.N.Namer.name_of c.args.repo.now.0 in
-    let namer = g.met.N.Namer.is_namer c.args.repo.now.0 in
-    let r = c.args.repo.now.1 in
-    let none : c.loop-left.left ≡ 0 = omega arith in
-    let at = stands_at name namer r c.sound.ensures c.args.from.now.bytes (commit_held name namer r c.sound.ensures c.args.from.now.bytes c.requires.held) in
-    all_reached name namer r c.sound.ensures (commit_at r c.args.from.now) c.loop-left.marks at.0 (commit_at_place name namer r c.sound.ensures c.args.from.now.bytes at.0 c.requires.held at.1) c.loop-left.invariant.long
-    (subst (AreMarked r (commit_at r c.args.from.now) c.loop-left.marks) none c.loop-left.invariant.marked)
+returns g c = c.spread.ensures (reaches (commit_at c.args.repo.now.1 c.args.from.now)) (c.mark.ensures.tips nothing c.requires.none)

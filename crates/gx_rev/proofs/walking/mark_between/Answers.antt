@@ -1,11 +1,12 @@
 use Rattle.std.proofs.Common.{refl}
 use Rattle.gx_model.specs.Ranges.{between}
 use Rattle.gx_rev.specs.Objects.{commit_at}
-use Rattle.gx_rev.proofs.walking.between.Goals as goal
+use Rattle.gx_rev.proofs.walking.mark_between.Goals as goal
 
 pub returns : goal.returns
 returns g c = (
   between (commit_at c.args.repo.now.1 c.in_ok-left.left) (commit_at c.args.repo.now.1 c.in_ok-right.right),
   rw (c.in_ok-left.ensures.commit, c.in_ok-right.ensures.commit) refl,
-  record { included = c.in_ok-included.ensures; excluded = c.in_ok-excluded.ensures },
+  c.mark.ensures.tips,
+  c.mark-2.ensures.tips,
 )

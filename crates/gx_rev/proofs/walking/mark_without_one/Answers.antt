@@ -1,11 +1,12 @@
 use Rattle.std.proofs.Common.{refl}
 use Rattle.gx_model.specs.Ranges.{without_one}
 use Rattle.gx_rev.specs.Objects.{commit_at}
-use Rattle.gx_rev.proofs.walking.without_one.Goals as goal
+use Rattle.gx_rev.proofs.walking.mark_without_one.Goals as goal
 
 pub returns : goal.returns
 returns g c = (
   without_one (commit_at c.args.repo.now.1 c.in_ok-commit.commit) (commit_at c.args.repo.now.1 c.in_ok-parent.parent),
   rw (c.in_ok-commit.ensures.commit, c.in_ok-parent.ensures.parent) refl,
-  record { included = c.in_ok-included.ensures; excluded = c.in_ok-excluded.ensures },
+  c.mark.ensures.tips,
+  c.mark-2.ensures.tips,
 )

@@ -4,11 +4,12 @@ use Rattle.std.specs.Prelude.{◌≡◌, ◌⊎◌, Option, Some, None, Ok, ⊤}
 use Rattle.gx_model.specs.declared.objects.Kind.{Kind}
 use Rattle.gx_model.specs.Texts.{Bytes}
 use Rattle.gx_model.specs.Histories.{Records}
+use Rattle.gx_model.specs.Gitlinks.{HasNoNullGitlink}
 use Rattle.gx_model.specs.HistoryOf.{history_of}
 use Rattle.gx_model.specs.Sound.{IsSound}
 use Rattle.gx_model.specs.StoreReading.{Stored, store_of}
 use Rattle.gx_text.specs.Devices.{Coming}
-use Rattle.gx_import.specs.Exported.{GivesExport, HasNoNullGitlink, HasPathsOfBytes, IsExported, nothing}
+use Rattle.gx_import.specs.Exported.{GivesExport, HasPathsOfBytes, IsExported, nothing}
 use Rattle.gx_import.specs.declared.fault.ImportFault.{ImportFault}
 use Rattle.gx_import.specs.declared.fault.ImportKind.TheVariants as kind
 use Rattle.gx_file.specs.declared.fault.FileFault.TheVariants as file
@@ -30,7 +31,7 @@ module _ (name : Kind → Bytes → Bytes) {A : Type 0} where
   IsAgainOr exported o = IsInterrupted o ⊎ ((new : Records) × IsExported exported new × IsSound name new × IsWritten new o)
 
   -- The import of a sound repository's export into an empty store makes that repository again, as far as its refs reach. A
-  -- gitlink of forty zeros is left out, which no import takes.
+  -- gitlink of forty zeros is left out, which no import takes and none brings.
   abbrev pub ImportsAgain : Stored Records → Option Coming → Outcome A → Type 0
   ImportsAgain stored None o = ⊤
   ImportsAgain stored (Some coming) o =

@@ -11,7 +11,7 @@ use Rattle.gx_model.specs.StoreText.{store_text}
 use Rattle.gx_model.specs.StoreReading.{Stored, store_of}
 use Rattle.gx_text.specs.Devices.{Coming, Taken}
 use Rattle.gx_stream.specs.Heard.{items_from}
-use Rattle.gx_import.specs.Exported.{HasPathsOfBytes, nothing}
+use Rattle.gx_import.specs.Exported.{HasPathsOfBytes, KeepsNoNullGitlink, nothing}
 use Rattle.gx_import.specs.Imports.{Imports}
 use Rattle.gx_import.specs.declared.fault.ImportFault.{ImportFault}
 use Rattle.gx_import.specs.declared.report.Report.{Report}
@@ -78,11 +78,11 @@ module _ (name : Kind → Bytes → Bytes) {A : Type 0} where
   IsImported new (Ok report) o = IsSound name new × IsWritten new o
   IsImported new (Err fault) o = IsRefused (Import fault) o
 
-  -- the import of a stream into the store of a text, which is read first
+  -- The import of a stream into the store of a text, which is read first. It brings no gitlink of forty zeros.
   abbrev pub ImportsInto : Stored Records → Option Coming → Option Taken → Option Taken → Outcome A → Type 0
   ImportsInto (Ok old) coming was now o =
       (IsRefused (Store file.OutOfMemory) o × (now ≡ was))
-      ⊎ ((new : Records) × (answer : Result Report ImportFault) × Imports name old new coming was now answer × IsImported new answer o)
+      ⊎ ((new : Records) × (answer : Result Report ImportFault) × Imports name old new coming was now answer × KeepsNoNullGitlink old new × IsImported new answer o)
   ImportsInto (Err f) coming was now o = (why : FileFault) × ((why ≡ file.OutOfMemory) ⊎ (f ≡ fault_of why)) × IsRefused (Store why) o × (now ≡ was)
 
   -- what is printed of a store, and how the command ends

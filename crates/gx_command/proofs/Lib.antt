@@ -7,3 +7,4 @@ pub mod Unrolled
 pub mod Steps
 pub mod NextCommands
 pub mod TakenItems
+pub mod BroughtGitlinks

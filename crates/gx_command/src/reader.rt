@@ -1,7 +1,8 @@
 //! The reader of commands.
 
-ghost use Rattle.std.specs.Prelude.{◌≡◌, ◌-◌, ◌^◌, ◌&&◌, ◌||◌};
+ghost use Rattle.std.specs.Prelude.{◌≡◌, ◌-◌, ◌^◌, ◌&&◌, ◌||◌, IfOk, IfSome};
 ghost use Rattle.std.specs.Option.{option_map};
+ghost use Rattle.gx_model.specs.Gitlinks.{BringsNoNullGitlink};
 ghost use Rattle.gx_model.specs.Grammar.{is_option, asks_done, is_done};
 ghost use Rattle.gx_command.specs.Ahead.{to_come, most, Reads as ReadsAhead, Falls as FallsAhead};
 ghost use Rattle.gx_command.specs.Reading.{Reads, Finishes, Falls, commands_from, next_after, state_after};
@@ -82,6 +83,7 @@ impl<R: Source, A: Allocator + Copy> CommandReader<R, A> {
         ensures reads { Reads self.old.commands self.new.commands result }
         ensures finishes { Finishes self.new.commands result }
         ensures falls { Falls self.old.most self.new.most result }
+        ensures gitlinks { IfOk result (λ next. IfSome next (λ command. BringsNoNullGitlink (shown_command command))) }
     {
         let options = match self.state {
             State::Open(options) => options,

@@ -1,5 +1,5 @@
 -- The items of an export in their parts.
-use Rattle.std.proofs.Common.{◌≡◌, List, [], ◌∷◌, ◌++◌, map, length, Option, Result, Ok, Err, sym, ap, subst, ◌∙◌, append_assoc, codes}
+use Rattle.std.proofs.Common.{◌≡◌, ◌≤◌, List, [], ◌∷◌, ◌++◌, map, length, Option, Result, Ok, Err, sym, ap, subst, ◌∙◌, append_assoc, arith, codes}
 use Rattle.std.proofs.lemmas.Grind.{flat_map-append}
 use Rattle.gx_model.specs.Commands as command
 use Rattle.gx_model.specs.Export.{all_written, command_items, commit_commands, export_items, last_reset, reached_commits, ref_command}
@@ -10,7 +10,7 @@ use Rattle.gx_model.specs.Values.{Value}
 use Rattle.gx_text.specs.Devices.{Taken, Took}
 use Rattle.gx_export.specs.Exports.{Exports}
 use Rattle.gx_export.specs.Marks.{Adds}
-use Rattle.gx_export.specs.Outputs.{Stops}
+use Rattle.gx_export.specs.Outputs.{Stops, most}
 use Rattle.gx_export.specs.Texts.{items_of, items_text, last_items}
 use Rattle.gx_export.specs.declared.fault.ExportFault.{ExportFault}
 use Rattle.gx_export.specs.declared.written.Written.{Written}
@@ -44,6 +44,9 @@ parts_of h =
 
 -- what goes out from the start is an export
 pub exports : {A : Type 0} (r : Records) (ws : List Value) (old new : Written A) (was now : Option Taken) (result : Result (Unit {0}) ExportFault) → old.bytes ≡ 0 → Adds r ws (all_items (history_of r)) old new was now result → Exports r was now result
-exports r ws old new was now (Ok x) z k = subst (λ is. Took was now (items_text is)) (sym (parts_of (history_of r))) k.1.2
+exports r ws old new was now (Ok x) z k =
+    let text = items_text (all_items (history_of r)) in
+    let long : length text ≤ most = omega (arith, z, k.1.0, k.1.1) in
+    subst (λ is. Took was now (items_text is) × (length (items_text is) ≤ most)) (sym (parts_of (history_of r))) (k.1.2, long)
 exports r ws old new was now (Err e) z k =
     subst (λ is. Stops 0 was now (items_text is) e) (sym (parts_of (history_of r))) (subst (λ n. Stops n was now (items_text (all_items (history_of r))) e) z k)

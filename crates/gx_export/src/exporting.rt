@@ -28,7 +28,7 @@ use std::alloc::Allocator;
 /// all of its files and after those of their bytes that weren't written yet, and then the refs.
 ///
 /// WriteFailed where the sink fails, or has taken 2^63 - 1 bytes of a longer text. What went to the sink stays there, and
-/// is a front of the text.
+/// is a front of the text. So a text that went out whole is no longer than what an import reads.
 ///
 /// Cost: the text's length, for each commit that is written its trees, and for each file, parent and ref the number of
 /// records. Memory: nine bytes for each record, and one commit's files with their paths and places.

@@ -1,11 +1,13 @@
 //! Writing a store text. Source: this project's own format.
-ghost use Rattle.std.specs.Prelude.{◌≡◌, [], ◌∷◌, ◌++◌, codes, length, IfOk, OnOk};
+ghost use Rattle.std.specs.Prelude.{◌≡◌, [], ◌∷◌, ◌++◌, Ok, codes, length, IfOk, OnOk};
 ghost use Rattle.std.specs.List.{flat_map};
 ghost use Rattle.std.specs.Fmt.{decimal};
 ghost use Rattle.gx_model.specs.Naming.{kind_word};
 ghost use Rattle.gx_model.specs.Objects.{line};
+ghost use Rattle.gx_model.specs.StoreReading.{store_of};
 ghost use Rattle.gx_model.specs.StoreText.{store_text, stored_record, stored_ref};
 
+use gx_model::store_laws::stores_are_read;
 use gx_object::{Kind, Name, Namer};
 use gx_repo::Repo;
 use std::alloc::{AllocError, Allocator};
@@ -18,8 +20,11 @@ pub fn write<N: Namer, A: Allocator + Copy>(
     alloc: A,
     repo: &Repo<N, A>,
 ) -> Result<Vec<u8, A>, AllocError>
-    ensures { IfOk result (λ text. text.items ≡ store_text repo.now.1) }
+    ensures text { IfOk result (λ text. text.items ≡ store_text repo.now.1) }
+    ensures read { IfOk result (λ text. store_of (N.name_of repo.now.0) text.items ≡ Ok repo.now.1) }
 {
+    stores_are_read();
+    repo.sound();
     let mut text = Vec::new(alloc);
     text.extend_from_slice(b"gxstore 1\n")?;
     put_records(&mut text, repo)?;

@@ -18,11 +18,12 @@ use Rattle.gx_model.specs.Revisions.{revision_of}
 use Rattle.gx_model.specs.Replay.{finished, refused, replayed_commands, replayed_text, start}
 use Rattle.gx_model.specs.Export.{command_items, export_text, inner_commands, is_reached, item_text, reached_commits}
 use Rattle.gx_model.specs.ExportLaws.{ExportIsImported, FormedIsReadable, IsAgain, IsFormedFile, IsNotNull, between, exported_report}
+use Rattle.gx_model.specs.Gitlinks.{HasNoNullGitlink}
 use Rattle.gx_model.specs.RepositoryLaws.{HistoriesOf, NamesTell}
 use Rattle.gx_text.specs.Devices.{Coming, Taken}
 use Rattle.gx_stream.specs.Heard.{heard_upto}
 use Rattle.gx_command.specs.Reading.{commands_from}
-use Rattle.gx_import.specs.Exported.{ExportedOr, GivesExport, HasNoNullGitlink, HasPathsOfBytes, ImportsExport, IsExported, nothing}
+use Rattle.gx_import.specs.Exported.{ExportedOr, GivesExport, HasPathsOfBytes, ImportsExport, IsExported, nothing}
 use Rattle.gx_import.specs.ImportKinds.{fault_of}
 use Rattle.gx_import.specs.Imports.{Imports, report_of}
 use Rattle.gx_import.specs.declared.fault.ImportFault.{ImportFault}

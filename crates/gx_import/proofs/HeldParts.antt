@@ -26,7 +26,6 @@ use Rattle.gx_model.specs.Growth.{AreReady, put, with_values}
 use Rattle.gx_model.specs.RepositoryLaws.{PutsGrow, values_of}
 use Rattle.gx_model.specs.Sound.{Holds, IsSound, Keeps}
 use Rattle.gx_model.proofs.PathTests.{both, is_true}
-use Rattle.gx_model.proofs.HistoriesExist.{stands}
 use Rattle.gx_model.proofs.LinkedValues.{proper_in}
 use Rattle.gx_object.specs.declared.name.Name.{Name}
 use Rattle.gx_repo.specs.Additions.{commit_among, commit_record, tag_among, tag_record}

@@ -1,17 +1,19 @@
 -- How far a replay has come: what was replayed of the commands, and what follows from the next answer of the reader or of a command.
 use Rattle.std.proofs.Common.{◌≡◌, ℕ, ◌+◌, ◌≤◌, List, [], ◌++◌, length, Option, Some, None, Ok, Err, refl, sym, ap, subst, ◌∙◌, inl, inr, append_assoc}
-use Rattle.std.specs.Prelude.{IsTrue}
+use Rattle.std.specs.Prelude.{IfOk, IsTrue}
 use Rattle.std.specs.FinMap.Entries.{is_sorted}
 use Rattle.std.specs.Option.{option_map}
 use Rattle.gx_model.specs.declared.objects.Kind.{Kind}
 use Rattle.gx_model.specs.declared.faults.Fault.{Fault}
 use Rattle.gx_model.specs.Texts.{Bytes}
 use Rattle.gx_model.specs.Grammar.{with_first}
+use Rattle.gx_model.specs.Gitlinks.{BringsNoNullGitlink, HoldsNoNullGitlink}
 use Rattle.gx_model.specs.Histories.{History, Record, Records}
 use Rattle.gx_model.specs.HistoryOf.{history_of}
 use Rattle.gx_model.specs.Commands.{Command, Commands}
 use Rattle.gx_model.specs.Revisions.{revision_of}
 use Rattle.gx_model.specs.Replay.{Outcome, State, byte_cmp, imported, refused, replayed, replayed_commands, start, step}
+use Rattle.gx_model.proofs.GitlinkSteps.{IsFreeState, step_free}
 use Rattle.gx_text.specs.Devices.{Coming, FailedWithin, Taken, Took, TookFront}
 use Rattle.gx_stream.specs.Heard.{heard}
 use Rattle.gx_command.specs.CommandFaults as command
@@ -159,12 +161,12 @@ module _ (name : Kind → Bytes → Bytes) where
 
   pub at_next : {A : Type 0} (old r new : Records) (tables : Tables A) (coming : Option Coming) (n : ℕ) (s : State) (c : read.Command A) (ahead later : Option Commands) (was mid now : Option Taken)
       → IsAt old coming n s ahead was mid → Reads ahead later (Ok (Some c)) → Applies name r new tables s (shown_command c) mid now (Ok tt)
-      → (t : State) × Stands name new tables t × IsAt old coming (n + 1) t later was now
-  at_next old r new tables None n s c ahead later was mid now k reads h = (h.0, h.3, tt)
+      → (t : State) × (step name revision_of s (shown_command c) ≡ Ok t) × Stands name new tables t × IsAt old coming (n + 1) t later was now
+  at_next old r new tables None n s c ahead later was mid now k reads h = (h.0, h.2, h.3, tt)
   at_next {A} old r new tables (Some coming) n s c ahead later was mid now k reads h =
       let q = subst (λ o. Reads {A = A} o later (Ok (Some c))) k.1 reads in
       let here = subst (λ l. HasReached name (history_of old) (commands_from coming) n s l was mid) q.1 k.2 in
-      (h.0, h.3, (q.0, q.2, reached_next name (history_of old) (commands_from coming) n s (shown_command c) q.0 was mid now here h.0 h.1 h.2 h.4.progress h.4.held h.5))
+      (h.0, h.2, h.3, (q.0, q.2, reached_next name (history_of old) (commands_from coming) n s (shown_command c) q.0 was mid now here h.0 h.1 h.2 h.4.progress h.4.held h.5))
 
   pub at_stopped : {A : Type 0} (old last r new : Records) (tables : Tables A) (coming : Option Coming) (n : ℕ) (s : State) (c : read.Command A) (ahead later : Option Commands) (was mid now : Option Taken)
       → IsAt old coming n s ahead was mid → Reads ahead later (Ok (Some c)) → (e : ImportKind) → Applies name r new tables s (shown_command c) mid now (Err e)
@@ -212,6 +214,14 @@ stand_empty name {A} r tables h = record {
   own = tt;
   forced = sym h.forced;
 }
+
+-- a step keeps a state without gitlinks of forty zeros
+pub step_keeps : (name : Kind → Bytes → Bytes) (s t : State) (c : Command) → step name revision_of s c ≡ Ok t → IsFreeState s → BringsNoNullGitlink c → IsFreeState t
+step_keeps name s t c e free brings = subst (λ r. IfOk r IsFreeState) e (step_free name revision_of s c free brings)
+
+-- which values a history has hangs on the records alone
+pub same_records_keep : (r s : Records) → s.records ≡ r.records → HoldsNoNullGitlink (history_of r) → HoldsNoNullGitlink (history_of s)
+same_records_keep r s e none = subst (λ rs. HoldsNoNullGitlink (history_of (record { records = rs; refs = [] }))) (sym e) none
 
 -- records behind others, and more behind these
 pub extends_more : (old mid new : List Record) → Extends old mid → Extends mid new → Extends old new

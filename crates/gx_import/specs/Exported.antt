@@ -10,7 +10,8 @@ use Rattle.gx_model.specs.Histories.{History, Records}
 use Rattle.gx_model.specs.HistoryOf.{history_of}
 use Rattle.gx_model.specs.Sound.{AnyByRecursion, IsSound}
 use Rattle.gx_model.specs.Export.{export_text, reached_commits}
-use Rattle.gx_model.specs.ExportLaws.{IsAgain, IsNotNull}
+use Rattle.gx_model.specs.ExportLaws.{IsAgain}
+use Rattle.gx_model.specs.Gitlinks.{HasNoNullGitlink, HoldsNoNullGitlink}
 use Rattle.gx_text.specs.Devices.{Coming}
 use Rattle.gx_stream.specs.Heard.{heard}
 use Rattle.gx_import.specs.declared.fault.ImportFault.{ImportFault}
@@ -25,9 +26,9 @@ nothing = record { records = []; refs = [] }
 abbrev pub HasPathsOfBytes : History → Type 0
 HasPathsOfBytes h = AllByRecursion (λ made. AllByRecursion (λ file. AreBytes (path_text file.0)) (files_of made)) (reached_commits h)
 
--- no file map that refs reach has a gitlink of forty zeros
-abbrev pub HasNoNullGitlink : History → Type 0
-HasNoNullGitlink h = AllByRecursion (λ made. AllByRecursion (λ file. IsNotNull file.1.0 file.1.1) (files_of made)) (reached_commits h)
+-- where no commit had a gitlink of forty zeros, none has one
+abbrev pub KeepsNoNullGitlink : Records → Records → Type 0
+KeepsNoNullGitlink old new = HoldsNoNullGitlink (history_of old) → HoldsNoNullGitlink (history_of new)
 
 -- a source that gives the export text of this repository, and then ends
 abbrev pub GivesExport : Records → Coming → Type 0
@@ -47,7 +48,7 @@ ExportedOr exported new (Ok report) = IsExported exported new
 ExportedOr exported new (Err fault) = (fault.kind ≡ OutOfMemory) ⊎ (fault.kind ≡ WriteFailed)
 
 -- The export of a sound repository under this namer is imported into an empty one, unless memory runs out or
--- the sink fails. A gitlink of forty zeros is left out, which no import takes.
+-- the sink fails. A gitlink of forty zeros is left out, which no import takes and none brings.
 abbrev pub ImportsExport : (Kind → Bytes → Bytes) → Records → Records → Option Coming → Result Report ImportFault → Type 0
 ImportsExport name old new None result = ⊤
 ImportsExport name old new (Some coming) result =

@@ -1,7 +1,7 @@
 //! Imports of whole streams. Source: git-fast-import(1).
 
-ghost use Rattle.std.specs.Prelude.{◌≡◌, OnErr};
-ghost use Rattle.gx_import.specs.Exported.{ImportsExport};
+ghost use Rattle.std.specs.Prelude.{◌≡◌, OnErr, OnOk};
+ghost use Rattle.gx_import.specs.Exported.{ImportsExport, KeepsNoNullGitlink};
 ghost use Rattle.gx_import.specs.Imports.{Imports};
 ghost use Rattle.gx_import.specs.Standing.{Extends};
 
@@ -25,6 +25,8 @@ use std::alloc::Allocator;
 /// Errors: those of `ImportKind`, each with its causes there, with the number of the command. After a fault the
 /// repository is as it was: its objects and its refs. What went to the sink stays there.
 ///
+/// No commit that it makes has a submodule of forty zeros, which an export couldn't bring back.
+///
 /// Cost: each command's bytes; for a commit the directories on its changed paths, and once for a branch the size of the
 /// tree that it starts from; and for each object to be put or found a look-up. Memory: the objects, the marks,
 /// the branches with their files, and one command. Source: git-fast-import(1).
@@ -38,6 +40,7 @@ pub fn import<N: Namer, A: Allocator + Copy, R: Source + Drop, W: Sink>(
     ensures replayed { Imports (N.name_of repo.old.0) repo.old.1 repo.new.1 (R.coming source) (W.taken sink.old) (W.taken sink.new) result }
     ensures unchanged { OnErr result (repo.new ≡ repo.old) }
     ensures exported { ImportsExport (N.name_of repo.old.0) repo.old.1 repo.new.1 (R.coming source) result }
+    ensures gitlinks { KeepsNoNullGitlink repo.old.1 repo.new.1 }
 {
     histories_of_records();
     names_tell_values();
@@ -69,6 +72,7 @@ fn replay_and_publish<N: Namer, A: Allocator + Copy, R: Source + Drop, W: Sink>(
     ensures extends { Extends repo.old.1.records repo.new.1.records }
     ensures replayed { Imports (N.name_of repo.old.0) repo.old.1 repo.new.1 (R.coming source) (W.taken sink.old) (W.taken sink.new) result }
     ensures unpublished { OnErr result (repo.new.1.refs ≡ repo.old.1.refs) }
+    ensures gitlinks { OnOk result (KeepsNoNullGitlink repo.old.1 repo.new.1) }
 {
     histories_of_records();
     repo.sound();

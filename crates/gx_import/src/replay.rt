@@ -1,14 +1,17 @@
 //! The commands of a stream, applied one after the other. Source: git-fast-import(1), "Commands".
 
-ghost use Rattle.std.specs.Prelude.{◌≡◌, ◌<◌, ◌≤◌, ◌-◌, ◌^◌, ◌++◌, [], ◌∷◌, Ok, codes, IfOk};
+ghost use Rattle.std.specs.Prelude.{◌≡◌, ◌<◌, ◌≤◌, ◌-◌, ◌^◌, ◌++◌, [], ◌∷◌, Ok, codes, IfOk, IfSome, OnOk};
 ghost use Rattle.gx_model.specs.declared.objects.Kind.{Kind};
 ghost use Rattle.gx_model.specs.Commands.{Asks};
-ghost use Rattle.gx_model.specs.Histories.{Records};
+ghost use Rattle.gx_model.specs.Gitlinks.{BringsNoNullGitlink};
+ghost use Rattle.gx_model.specs.Histories.{IsHistory, Records};
+ghost use Rattle.gx_model.specs.HistoryOf.{history_of};
 ghost use Rattle.gx_model.specs.Texts.{Bytes};
 ghost use Rattle.gx_model.specs.Replay.{State, step};
 ghost use Rattle.gx_model.specs.Revisions.{revision_of};
 ghost use Rattle.gx_command.specs.Views.{shown_command};
 ghost use Rattle.gx_import.specs.Applying.{Applies};
+ghost use Rattle.gx_import.specs.Exported.{KeepsNoNullGitlink};
 ghost use Rattle.gx_import.specs.Replaying.{FallsNext, ReadsNext, ReplaysTo, Writes};
 ghost use Rattle.gx_import.specs.Standing.{AreEmpty, Extends, Follows, Stands};
 
@@ -37,6 +40,7 @@ pub(crate) fn replay<N: Namer, A: Allocator + Copy, R: Source + Drop, W: Sink>(
     ensures extends { Extends repo.old.1.records repo.new.1.records }
     ensures count { IfOk result (λ commands. commands ≤ 2 ^ 63 - 1) }
     ensures replayed { ReplaysTo (N.name_of repo.old.0) repo.old.1 repo.new.1 tables.new (R.coming source) (W.taken sink.old) (W.taken sink.new) result }
+    ensures gitlinks { OnOk result (IsHistory (history_of repo.old.1) → KeepsNoNullGitlink repo.old.1 repo.new.1) }
 {
     let mut reader = CommandReader::new(tables.alloc, source);
     let mut commands = 0;
@@ -60,6 +64,7 @@ fn next_command<R: Source, A: Allocator + Copy>(
     requires room { commands < 2 ^ 64 - 1 }
     ensures reads { ReadsNext commands reader.old.commands reader.new.commands result }
     ensures falls { FallsNext reader.old.most reader.new.most result }
+    ensures gitlinks { IfOk result (λ next. IfSome next (λ command. BringsNoNullGitlink (shown_command command))) }
 {
     match reader.next() {
         Ok(command) => Ok(command),

@@ -72,3 +72,6 @@ pub mod Bases
 pub mod PeeledRefs
 pub mod FilesByName
 pub mod ChangedRefs
+pub mod NullGitlinks
+pub mod ReadGitlinks
+pub mod GitlinkSteps

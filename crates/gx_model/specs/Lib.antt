@@ -33,6 +33,7 @@ pub mod ObjectLaws
 pub mod HistoryLaws
 pub mod RepositoryLaws
 pub mod ExportLaws
+pub mod Gitlinks
 pub mod StoreLaws
 pub mod StreamLaws
 pub mod TextLaws

@@ -6,6 +6,7 @@ pub mod export_laws;
 mod faults;
 mod features;
 pub mod file_map_laws;
+pub mod gitlink_laws;
 pub mod history_laws;
 pub mod object_laws;
 mod objects;

@@ -1,4 +1,7 @@
-use Rattle.std.proofs.Common.{length, ap, subst, ◌∙◌}
+use Rattle.std.proofs.Common.{length, sym, ap, subst, ◌∙◌}
+use Rattle.gx_model.specs.Gitlinks.{HoldsNoNullGitlink}
+use Rattle.gx_model.specs.Histories.{Records}
+use Rattle.gx_model.specs.HistoryOf.{history_of}
 use Rattle.gx_model.specs.Sound.{IsSound}
 use Rattle.gx_import.proofs.ExportedAgain.{accepted, stopped}
 use Rattle.gx_import.proofs.Publications.{as_before, imports_fault, targets_stay}
@@ -37,3 +40,9 @@ returns-in-Err-clause-exported g c =
     stopped name (c.histories_of_records.ensures name namer) (c.names_tell_values.ensures name namer) c.exports_are_readable.ensures.readable c.exports_are_imported.ensures.imported
     c.args.repo.now.1 c.replay_and_publish.new.repo.1 c.truncate.new.self.1 (g.R.Source.coming c.args.source) (g.W.Sink.taken c.args.sink.now) (g.W.Sink.taken c.replay_and_publish.new.sink) c.in-Err.fault
     c.in-Err.ensures.replayed
+
+pub returns-in-Err-clause-gitlinks : goal.returns-in-Err-clause-gitlinks
+returns-in-Err-clause-gitlinks g c = λ none.
+    let held = c.len-held.ensures.count ∙ ap (λ z. length z.1) c.store.ensures in
+    let same = as_before c.args.repo.now.0 c.replay_and_publish.new.repo.0 c.args.repo.now.1 c.replay_and_publish.new.repo.1 c.len-held.result c.truncate.new.self c.truncate.ensures held c.replay_and_publish.ensures.extends c.replay_and_publish.ensures.namer c.in-Err.ensures.unpublished in
+    subst (λ (r : g.row.N.Denot × Records). HoldsNoNullGitlink (history_of r.1)) (sym same) none

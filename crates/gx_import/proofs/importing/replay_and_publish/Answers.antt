@@ -3,6 +3,7 @@ use Rattle.gx_model.specs.Sound.{IsSound}
 use Rattle.gx_import.specs.Imports.{Imports}
 use Rattle.gx_import.specs.Standing.{Stands}
 use Rattle.gx_import.proofs.Publications.{imports_all, imports_none}
+use Rattle.gx_import.proofs.ReachedStates.{same_records_keep}
 use Rattle.gx_import.proofs.importing.replay_and_publish.Goals as goal
 
 pub publish-requires : goal.publish-requires
@@ -33,3 +34,9 @@ returns-clause-replayed g c =
     let len = c.len.ensures.count ∙ ap (λ z. length z.1) c.store-2.ensures in
     let objects : length new.records - length old.records ≡ c.len.result - c.len-held.result = ap (λ x. x - length old.records) (sym len) ∙ ap (λ x. c.len.result - x) (sym held) in
     subst (λ x. Imports name old new coming was now (Ok (record { commands = c.in_ok-commands.commands; objects = x; refs = c.in-Ok.refs }))) objects all
+
+pub returns-clause-gitlinks : goal.returns-clause-gitlinks
+returns-clause-gitlinks g c = λ none.
+    let name = g.N.Namer.name_of c.args.repo.now.0 in
+    let law = c.histories_of_records.ensures name (g.met.N.Namer.is_namer c.args.repo.now.0) in
+    same_records_keep c.replay.new.repo.1 c.publish.new.repo.1 c.publish.ensures.records (c.in_ok-commands.ensures.gitlinks (law.stands c.args.repo.now.1 c.sound.ensures).history none)

@@ -1,13 +1,16 @@
 use Rattle.std.proofs.Common.{◌+◌, [], Err, refl, sym, subst, ◌∙◌, arith}
 use Rattle.std.proofs.lemmas.List.{append-nil}
 use Rattle.std.proofs.lemmas.Result.{err_from_is_err_and}
+use Rattle.gx_model.specs.Gitlinks.{HoldsNoNullGitlink}
 use Rattle.gx_model.specs.HistoryOf.{history_of}
 use Rattle.gx_model.specs.Replay.{State, start}
+use Rattle.gx_model.proofs.GitlinkSteps.{none_held, start_free}
+use Rattle.gx_command.specs.Views.{shown_command}
 use Rattle.gx_import.specs.ImportKinds.{of_command}
 use Rattle.gx_import.specs.Imports.{Imports}
 use Rattle.gx_import.specs.Replaying.{EndsAs}
 use Rattle.gx_import.specs.Standing.{Stands}
-use Rattle.gx_import.proofs.ReachedStates.{IsAt, at_end, at_next, at_refused, at_start, at_stopped, extends_more, stand_empty}
+use Rattle.gx_import.proofs.ReachedStates.{IsAt, at_end, at_next, at_refused, at_start, at_stopped, extends_more, stand_empty, step_keeps}
 use Rattle.gx_import.proofs.replay.replay.Goals as goal
 
 pub loop-reader-init : goal.loop-reader-init
@@ -22,6 +25,7 @@ loop-reader-init g c =
         start (history_of c.args.repo.now.1),
         stand_empty name c.args.repo.now.1 c.args.tables.now c.requires.empty,
         at_start name c.args.repo.now.1 (g.R.Source.coming c.args.source) c.new-reader.result.commands (g.W.Sink.taken c.args.sink.now) c.new-reader.ensures.commands,
+        λ is none. start_free (history_of c.args.repo.now.1) is none,
       );
     }
 
@@ -90,13 +94,19 @@ loop-reader-preserved g c =
     let name = g.N.Namer.name_of c.loop-reader.repo.0 in
     let reads = rw c.in-Some.is at c.in_ok-command.ensures.reads in
     let falls = rw c.in-Some.is at c.in_ok-command.ensures.falls in
+    let brings = rw c.in-Some.is at c.in_ok-command.ensures.gitlinks in
     let h = at_next name old c.loop-reader.repo.1 c.apply.new.repo.1 c.apply.new.tables coming c.loop-reader.commands inv.stands.0 c.in-Some.command c.loop-reader.reader.commands c.next_command.new.reader.commands was mid now inv.stands.2 reads (c.in_default-apply.ensures.steps inv.stands.0 inv.stands.1) in
     record {
       namer = c.apply.ensures.namer ∙ inv.namer;
       refs = c.apply.ensures.refs ∙ inv.refs;
       extends = extends_more old.records c.loop-reader.repo.1.records c.apply.new.repo.1.records inv.extends c.apply.ensures.extends;
       room = omega (arith, inv.room, falls);
-      stands = subst (λ n. (s : State) × Stands (g.N.Namer.name_of n) c.apply.new.repo.1 c.apply.new.tables s × IsAt (g.N.Namer.name_of n) old coming (c.loop-reader.commands + 1) s c.next_command.new.reader.commands was now) (sym c.apply.ensures.namer) h;
+      stands = (
+        h.0,
+        subst (λ n. Stands (g.N.Namer.name_of n) c.apply.new.repo.1 c.apply.new.tables h.0) (sym c.apply.ensures.namer) h.2,
+        subst (λ n. IsAt (g.N.Namer.name_of n) old coming (c.loop-reader.commands + 1) h.0 c.next_command.new.reader.commands was now) (sym c.apply.ensures.namer) h.3,
+        λ is none. step_keeps name inv.stands.0 h.0 (shown_command c.in-Some.command) h.1 (inv.stands.3 is none) brings,
+      );
     }
 
 pub returns-clause-namer : goal.returns-clause-namer
@@ -121,3 +131,8 @@ returns-clause-replayed g c =
     let reads = rw c.in_default.is at c.in_ok-command.ensures.reads in
     let h = at_end (g.N.Namer.name_of c.loop-reader.repo.0) g.row.A.Denot old coming c.loop-reader.commands inv.stands.0 c.loop-reader.reader.commands c.next_command.new.reader.commands was now inv.stands.2 reads in
     subst (λ n. (s : State) × Stands (g.N.Namer.name_of n) c.loop-reader.repo.1 c.loop-reader.tables s × EndsAs (g.N.Namer.name_of n) old coming c.loop-reader.commands s was now) inv.namer (inv.stands.0, inv.stands.1, h)
+
+pub returns-clause-gitlinks : goal.returns-clause-gitlinks
+returns-clause-gitlinks g c = λ is none.
+    let stands = c.loop-reader.invariant.stands in
+    subst HoldsNoNullGitlink (sym stands.1.history) (none_held stands.0 (stands.3 is none))

@@ -1,5 +1,6 @@
 use Rattle.std.proofs.Common.{ap}
 use Rattle.gx_command.specs.Reading.{Seen}
+use Rattle.gx_command.proofs.BroughtGitlinks.{none_brought}
 use Rattle.gx_command.proofs.NextCommands.{reads_some, reads_none, reads_fault}
 use Rattle.gx_command.proofs.reader.CommandReader.next.Goals as goal
 
@@ -17,3 +18,6 @@ pub returns-in-Err-clause-reads : goal.returns-in-Err-clause-reads
 returns-in-Err-clause-reads g c =
     let view = rw c.in-Open.is at (ap (λ (v : Seen). v.commands) c.self.view_is) in
     reads_fault g.row.A.Denot c.in-Open.options c.in-Err.fault _ _ _ view c.in-Err.ensures.reads
+
+pub returns-in-Ok-Some-clause-gitlinks : goal.returns-in-Ok-Some-clause-gitlinks
+returns-in-Ok-Some-clause-gitlinks g c = none_brought c.in-Ok-Some.command

@@ -1,0 +1,70 @@
+-- Gitlinks of forty zeros: no command of a stream gives one, so that an import makes no commit with one.
+-- Source: git-fast-import(1), "filemodify".
+use Rattle.std.specs.Prelude.{◌≡◌, ℕ, Bool, false, List, Option, Result, ⊤}
+use Rattle.std.specs.List.{AllByRecursion, filter_map}
+use Rattle.gx_model.specs.declared.faults.Fault.{Fault}
+use Rattle.gx_model.specs.declared.objects.Kind.{Kind}
+use Rattle.gx_model.specs.declared.objects.Mode.TheVariants.{Gitlink}
+use Rattle.gx_model.specs.Texts.{Bytes}
+use Rattle.gx_model.specs.Items.{Stream}
+use Rattle.gx_model.specs.Commands as command
+use Rattle.gx_model.specs.Commands.{Change, Command, Inline, Mark, Modify, Object}
+use Rattle.gx_model.specs.Grammar.{commands_of, is_null}
+use Rattle.gx_model.specs.Values.{Commit, files_of}
+use Rattle.gx_model.specs.Histories.{History, IsHistory}
+use Rattle.gx_model.specs.Revisions.{Revision}
+use Rattle.gx_model.specs.Ranges.{commit_of}
+use Rattle.gx_model.specs.Replay.{Report, finished, replayed, replayed_text, start}
+use Rattle.gx_model.specs.Export.{reached_commits}
+use Rattle.gx_model.specs.ExportLaws.{IsNotNull}
+
+-- ---- commands
+
+-- a gitlink is given by digits, and these aren't forty zeros
+abbrev pub GivesNoNullGitlink : Change → Type 0
+GivesNoNullGitlink (Modify Gitlink (Object digits) path) = is_null digits ≡ false
+GivesNoNullGitlink (Modify Gitlink (Mark n) path) = ⊥
+GivesNoNullGitlink (Modify Gitlink (Inline bytes) path) = ⊥
+GivesNoNullGitlink _ = ⊤
+
+-- no change of the command gives a gitlink of forty zeros
+abbrev pub BringsNoNullGitlink : Command → Type 0
+BringsNoNullGitlink (command.Commit c) = AllByRecursion GivesNoNullGitlink c.changes
+BringsNoNullGitlink _ = ⊤
+
+-- ---- histories
+
+-- no file map of these commits has a gitlink of forty zeros
+abbrev pub HaveNoNullGitlink : List Commit → Type 0
+HaveNoNullGitlink commits = AllByRecursion (λ made. AllByRecursion (λ file. IsNotNull file.1.0 file.1.1) (files_of made)) commits
+
+-- no file map that refs reach has one
+abbrev pub HasNoNullGitlink : History → Type 0
+HasNoNullGitlink h = HaveNoNullGitlink (reached_commits h)
+
+-- no commit has one, whether refs reach it or not
+abbrev pub HoldsNoNullGitlink : History → Type 0
+HoldsNoNullGitlink h = HaveNoNullGitlink (filter_map commit_of h.values)
+
+-- ---- laws
+
+-- where no commit has one, none that refs reach has
+abbrev pub HoldsTellsHas : Type 0
+HoldsTellsHas = (h : History) → HoldsNoNullGitlink h → HasNoNullGitlink h
+
+-- no stream has a command that brings one
+abbrev pub StreamsBringNone : Type 0
+StreamsBringNone = (s : Stream) → AllByRecursion BringsNoNullGitlink (commands_of s).list
+
+-- and commands that bring none leave none where there was none
+abbrev pub ReplaysKeepNone : Type 0
+ReplaysKeepNone =
+    (name : Kind → Bytes → Bytes) (read : Bytes → Result Revision Fault) (h k : History) (commands : List Command) (end : Option Fault) (n : ℕ) (text : Bytes) (report : Report)
+    → IsHistory h → HoldsNoNullGitlink h → AllByRecursion BringsNoNullGitlink commands
+    → replayed name read n (start h) commands end ≡ finished k text report → HoldsNoNullGitlink k
+
+-- so no text brings one
+abbrev pub TextsBringNone : Type 0
+TextsBringNone =
+    (name : Kind → Bytes → Bytes) (read : Bytes → Result Revision Fault) (h k : History) (given : Bytes) (fails : Bool) (text : Bytes) (report : Report)
+    → IsHistory h → HoldsNoNullGitlink h → replayed_text name read h given fails ≡ finished k text report → HoldsNoNullGitlink k

@@ -1,0 +1,19 @@
+//! Laws of gitlinks of forty zeros: no stream brings one.
+ghost use Rattle.gx_model.specs.ExportLaws.{nothing};
+ghost use Rattle.gx_model.specs.Gitlinks.{HoldsNoNullGitlink, HoldsTellsHas, ReplaysKeepNone, StreamsBringNone, TextsBringNone};
+
+/// No command that a stream has gives a gitlink of forty zeros.
+#[tactic(auto, using(crate::proofs::ReadGitlinks::none_brought))]
+pub fn streams_bring_none()
+    ensures { StreamsBringNone }
+{}
+
+/// The empty history holds no gitlink of forty zeros. Where a history holds none, none is left after commands that bring
+/// none, and so after any text that is replayed; nor do its refs reach one.
+#[tactic(auto, using(crate::proofs::GitlinkSteps::none_kept, crate::proofs::GitlinkSteps::none_from_text, crate::proofs::GitlinkSteps::none_reached))]
+pub fn replays_keep_none()
+    ensures empty { HoldsNoNullGitlink nothing }
+    ensures kept { ReplaysKeepNone }
+    ensures texts { TextsBringNone }
+    ensures reached { HoldsTellsHas }
+{}

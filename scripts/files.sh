@@ -1,9 +1,11 @@
 #!/bin/sh
 # Runs the program gx against real files: files that are missing, unreadable, in the way or on a full disk, and runs that are
-# killed. Whatever happens, FILE holds its old text or the whole new one. Says `N passed, M failed`, with status 1 where M isn't 0.
+# killed, or many at once. Whatever happens, FILE holds its old text or the whole new one, and no finished run's work is lost.
+# Says `N passed, M failed`, with status 1 where M isn't 0.
 #   scripts/files.sh GX      GX: the built program
 # It needs mkfifo and a sleep that takes parts of a second. Root runs what a file's mode should refuse as another user, by
-# setpriv or su. The full disk needs unshare and mount, and is skipped where they aren't allowed.
+# setpriv or su. The full disk needs unshare and mount, and system calls that fail or kill need strace: each is skipped where it
+# isn't allowed.
 set -u
 if [ $# -ne 1 ] || [ ! -x "$1" ]; then
   echo "usage: $0 GX" >&2
@@ -91,6 +93,12 @@ holds() { cmp -s "$folder/$1" "$file"; }
 
 holds_alone() { holds "$1" && [ ! -e "$file.new" ]; }
 
+# no byte of a next text is there
+holds_unwritten() { holds "$1" && [ ! -s "$file.new" ]; }
+
+# a folder has these names alone: has_names FOLDER 'NAME NAME '
+has_names() { [ "$(find "$1" -mindepth 1 -maxdepth 1 -exec basename {} \; | sort | tr '\n' ' ')" = "$2" ]; }
+
 holds_old_or_new() { holds "$1" || holds "$2"; }
 
 makes() { is_done && holds_alone "$1"; }
@@ -112,6 +120,12 @@ commit_records() {
 
 ending() { printf 'refs 1\n02d6adf1689e06135d2b4b4d471f1ae489887b53 refs/heads/main\nend\n'; }
 
+# one commit on a branch of its own: branch_stream NUMBER
+branch_stream() {
+  printf 'commit refs/heads/branch%s\ncommitter A <a@x> %s +0000\ndata 0\n' "$1" "$1"
+  printf 'M 100644 inline test.txt\ndata <<END\n%s\nEND\n' "$1"
+}
+
 # twenty-four blobs of a megabyte, which take a while to be written: large FORMAT
 large() {
   number=0
@@ -130,6 +144,11 @@ make_texts() {
   { printf 'gxstore 1\nobjects 3\n' && commit_records && ending; } > "$folder/old"
   blob_stream 'test content' > "$folder/stream"
   { printf 'gxstore 1\nobjects 4\n' && commit_records && blob_record 'test content' && ending; } > "$folder/new"
+  number=1
+  while [ "$number" -le 21 ]; do
+    branch_stream "$number" > "$folder/branch.$number"
+    number=$((number + 1))
+  done
   head -c 1048570 /dev/zero | tr '\0' x > "$folder/body"
   large 'blob\ndata 1048576\n' > "$folder/large"
   { printf 'gxstore 1\nobjects 27\n' && commit_records && large 'blob 1048576\n' && ending; } > "$folder/wide"
@@ -217,6 +236,65 @@ check_left_over() {
   rm "$file"
   run /dev/null init "$file"
   check 'also by init' makes empty
+}
+
+# What stands at the next text's place and is no file of its own is left alone, or only loses this name.
+check_planted() {
+  fresh planted
+  printf 'mine\n' > "$folder/planted/mine"
+  ln -s mine "$file.new"
+  run "$folder/stream" import "$file"
+  check 'a symbolic link in the place of the new text is a failed write' is_refused_in_silence 'write failed'
+  check 'and what it names stays' [ "$(cat "$folder/planted/mine")" = mine ]
+  check 'and the store' holds old
+  rm "$file.new"
+  ln -s nothing "$file.new"
+  run "$folder/stream" import "$file"
+  check 'also a link that names nothing' is_refused_in_silence 'write failed'
+  check 'which makes nothing' [ ! -e "$folder/planted/nothing" ]
+  rm "$file.new"
+  mkfifo "$file.new"
+  run "$folder/stream" import "$file"
+  check 'also a pipe' is_refused_in_silence 'write failed'
+  rm "$file.new"
+  ln "$file" "$file.new"
+  run "$folder/foo" import "$file"
+  check 'the store under the name of the new text loses that name alone' refuses_and_keeps 'command 1: UnknownCommand'
+  cp "$folder/large" "$file.new"
+  run "$folder/foo" import "$file"
+  check 'a refused import removes what a killed one left' refuses_and_keeps 'command 1: UnknownCommand'
+  cp "$folder/large" "$file.new"
+  chmod 444 "$file.new"
+  chmod 777 "$folder/planted"
+  run_as_other "$folder/stream" import "$file"
+  check "what another user's killed import left is replaced" makes new
+}
+
+check_links() {
+  mkdir "$folder/links"
+  fresh target
+  ln -s ../target/store "$folder/links/one"
+  ln -s one "$folder/links/two"
+  run "$folder/stream" import "$folder/links/two"
+  check 'import through symbolic links replaces the file that they name' makes new
+  check 'and keeps the first' [ "$(readlink "$folder/links/two")" = one ]
+  check 'and the second' [ "$(readlink "$folder/links/one")" = ../target/store ]
+  check 'and leaves nothing beside them' has_names "$folder/links" 'one two '
+  run /dev/null init "$folder/links/two"
+  check 'init refuses a link to a store' is_refused_in_silence 'store exists'
+  check 'which stays as it was' holds_alone new
+  rm "$file"
+  run "$folder/stream" import "$folder/links/two"
+  check 'a link that names nothing is a missing file for import' is_refused_in_silence 'read failed'
+  run /dev/null init "$folder/links/two"
+  check 'init makes the file that a link names' makes empty
+  check 'and keeps the link' [ "$(readlink "$folder/links/two")" = one ]
+  ln -s loop "$folder/links/loop"
+  run "$folder/stream" import "$folder/links/loop"
+  check 'a link to itself is a failed read' is_refused_in_silence 'read failed'
+  run /dev/null init "$folder/links/loop"
+  check 'also for init' is_refused_in_silence 'read failed'
+  check 'nothing is left beside the links' has_names "$folder/links" 'loop one two '
 }
 
 check_refusals() {
@@ -338,10 +416,12 @@ check_killed_reading() {
   { cat "$folder/stream" && printf 'progress half\n'; } >&9
   wait_for "$folder/out"
   check 'progress goes out while the stream is open' [ "$(cat "$folder/out")" = 'progress half' ]
-  check 'nothing is written while the stream is open' holds_alone old
+  check 'nothing is written while the stream is open' holds_unwritten old
   kill_import
   exec 9>&-
-  check 'import killed while it reads leaves the store' holds_alone old
+  check 'import killed while it reads leaves the store' holds_unwritten old
+  run "$folder/stream" import "$file"
+  check 'the next import takes its lock away' makes new
 }
 
 # what a killed import left: the old or the new text, and perhaps a part of it beside
@@ -349,7 +429,7 @@ count_killed() {
   check "import killed $1 leaves the old or the new text" holds_old_or_new old wide
   kills=$((kills + 1))
   ! holds wide || finished=$((finished + 1))
-  [ ! -e "$file.new" ] || parts=$((parts + 1))
+  [ ! -s "$file.new" ] || parts=$((parts + 1))
   cp "$folder/old" "$file"
 }
 
@@ -370,12 +450,12 @@ kill_at_growing_delays() {
   done
 }
 
-# kills as soon as the new text's file is seen, and a little later
+# kills as soon as a byte of the new text is seen, and a little later
 kill_while_it_writes() {
   for delay in 0 0 0 0.001 0.002 0.003 0.004 0.005 0.006 0.008 0.010 0.012 0.015 0.020; do
     rm -f "$file.new"
     import_behind "$folder/large"
-    until [ -e "$file.new" ] || [ -e "$folder/ended" ]; do :; done
+    until [ -s "$file.new" ] || [ -e "$folder/ended" ]; do :; done
     [ "$delay" = 0 ] || sleep "$delay"
     kill_import
     count_killed "$delay s after it began to write"
@@ -394,6 +474,202 @@ check_killed_writing() {
   check 'the import after a killed one is whole' makes wide
 }
 
+# ---- system calls that fail or kill
+
+# imports with one of its system calls changed: run_injected CALL:CHANGE
+run_injected() {
+  strace -qq -o "$folder/trace" -e "trace=${1%%:*}" -e "inject=$1" "$gx" import "$file" \
+    < "$folder/stream" > "$folder/out" 2> "$folder/err"
+  status=$?
+}
+
+check_injected() {
+  fresh injected
+  if ! strace -qq -o "$folder/trace" -e inject=flock:error=EINTR:when=1 true 2> "$folder/err"; then
+    echo 'skipped: system calls that fail or kill, since strace cannot change them here'
+    return
+  fi
+  run_injected flock:error=ENOLCK
+  check 'a file system without locks is refused' refuses_and_keeps 'lock failed'
+  run_injected rename:error=EACCES
+  check 'a new text that is not put into its place is a failed write' refuses_and_keeps 'write failed'
+  for call in flock fchmod write fsync:when=1 rename fsync:when=2; do
+    cp "$folder/old" "$file"
+    run_injected "$call:signal=KILL" 2> "$folder/shell"
+    check "import is killed at $call" [ "$status" = 137 ]
+    check 'which leaves the old or the new text' holds_old_or_new old new
+    run "$folder/branch.1" import "$file"
+    check 'the next one is done' is_done
+    check 'and leaves the store alone in its folder' has_names "$folder/injected" 'store '
+  done
+}
+
+# ---- runs at once
+
+# runs gx behind the script, with what it answers in files: behind NUMBER WORD.., its input on descriptor 8
+behind() {
+  number=$1
+  shift
+  {
+    "$gx" "$@" <&8 > "$folder/runs/out.$number" 2> "$folder/runs/err.$number" &
+    echo $! > "$folder/runs/pid.$number"
+    wait $! 2> /dev/null
+    echo $? > "$folder/runs/status.$number"
+  } 2> /dev/null &
+  behind="$behind $!"
+}
+
+import_branch() { behind "$1" import "$file" 8< "$folder/branch.$1"; }
+
+begin_runs() {
+  rm -rf "$folder/runs"
+  mkdir "$folder/runs"
+  behind=''
+}
+
+end_runs() {
+  # shellcheck disable=SC2086  # a word for each process
+  wait $behind
+}
+
+# a branch has its commit, with the branch's number in its file
+has_branch() { [ "$("$gx" show "$file" "branch$1:test.txt" 2> "$folder/err")" = "$1" ]; }
+
+check_waiting() {
+  fresh waiting
+  begin_runs
+  mkfifo "$folder/slow.pipe"
+  behind 1 import "$file" 8<> "$folder/slow.pipe"
+  exec 9> "$folder/slow.pipe"
+  { cat "$folder/branch.1" && printf 'progress half\n'; } >&9
+  wait_for "$folder/runs/out.1"
+  import_branch 2
+  sleep 0.5
+  check 'a second import waits for the first' [ ! -e "$folder/runs/status.2" ]
+  check 'the store is the old one meanwhile' holds old
+  run /dev/null refs "$file"
+  check 'which refs answers at once' is_done
+  run /dev/null init "$file"
+  check 'and init refuses at once' is_refused_in_silence 'store exists'
+  printf 'done\n' >&9
+  exec 9>&-
+  end_runs
+  check 'the first is done' [ "$(cat "$folder/runs/status.1")" = 0 ]
+  check 'so is the second' [ "$(cat "$folder/runs/status.2")" = 0 ]
+  check 'the store has the work of the first' has_branch 1
+  check 'and of the second' has_branch 2
+  check 'and stands alone' has_names "$folder/waiting" 'store '
+}
+
+# A run that can't lock the store must not wait for an input that never comes.
+check_refused_at_once() {
+  fresh closed
+  chmod 444 "$file"
+  chmod 555 "$folder/closed"
+  mkfifo "$folder/silent.pipe"
+  exec 8<> "$folder/silent.pipe"
+  rm -f "$folder/ended"
+  {
+    as_other "$gx" import "$file" <&8 > "$folder/out" 2> "$folder/err"
+    echo $? > "$folder/ended"
+  } &
+  wait_for "$folder/ended"
+  # ends a run that reads all the same
+  printf 'foo\n' >&8
+  wait
+  exec 8>&-
+  status=$(cat "$folder/ended")
+  check 'import in a read-only folder is refused before it reads its input' refuses_and_keeps 'write failed'
+}
+
+# kills five of the runs, each at a time of its own, while they run: kill_some SEED
+kill_some() {
+  for number in 2 6 10 14 18; do
+    delay=$(awk -v seed="$1$number" 'BEGIN { srand(seed); printf "%.3f", rand() / 25 }')
+    {
+      sleep "$delay"
+      kill -9 "$(cat "$folder/runs/pid.$number")"
+    } 2> /dev/null &
+    behind="$behind $!"
+  done
+}
+
+# reads the store again and again, until the runs are over
+read_meanwhile() {
+  until [ -e "$folder/runs/over" ]; do
+    "$gx" refs "$file" > "$folder/runs/refs" 2>> "$folder/runs/faults" || echo "status $?" >> "$folder/runs/faults"
+  done
+}
+
+# every run that ended with 0 has its branch, and every other one was killed
+has_finished_work() {
+  number=1
+  while [ "$number" -le 20 ]; do
+    case $(cat "$folder/runs/status.$number") in
+      0) has_branch "$number" || return 1 ;;
+      137) killed=$((killed + 1)) ;;
+      *) return 1 ;;
+    esac
+    number=$((number + 1))
+  done
+}
+
+import_at_once() {
+  begin_runs
+  read_meanwhile &
+  reader=$!
+  number=1
+  while [ "$number" -le 20 ]; do
+    import_branch "$number"
+    number=$((number + 1))
+  done
+  kill_some "$1"
+  end_runs
+  : > "$folder/runs/over"
+  wait "$reader"
+}
+
+check_imports_at_once() {
+  killed=0
+  round=1
+  while [ "$round" -le 20 ]; do
+    fresh "imports.$round"
+    import_at_once "$round"
+    check "imports at once, round $round: all finished work is there" has_finished_work
+    check 'the store was read without a fault all the time' [ ! -s "$folder/runs/faults" ]
+    run "$folder/branch.21" import "$file"
+    check 'one more import is done' is_done
+    check 'and has its branch' has_branch 21
+    check 'and leaves the store alone in its folder' has_names "$folder/imports.$round" 'store '
+    round=$((round + 1))
+  done
+  echo "400 imports at once, twenty by twenty: $killed were killed before they had ended"
+}
+
+# one run was done, and the others found its store
+has_one_maker() {
+  [ "$(cat "$folder"/runs/status.* | grep -c '^0$')" = 1 ] && [ "$(cat "$folder"/runs/status.* | grep -c '^1$')" = 19 ] \
+    && [ "$(cat "$folder"/runs/err.* | grep -c '^gx: store exists$')" = 19 ]
+}
+
+check_inits_at_once() {
+  round=1
+  while [ "$round" -le 20 ]; do
+    mkdir "$folder/inits.$round"
+    file=$folder/inits.$round/store
+    begin_runs
+    number=1
+    while [ "$number" -le 20 ]; do
+      behind "$number" init "$file" 8< /dev/null
+      number=$((number + 1))
+    done
+    end_runs
+    check "inits at once, round $round: one makes the store and the others are refused" has_one_maker
+    check 'and the store is the empty one' holds_alone empty
+    round=$((round + 1))
+  done
+}
+
 make_texts
 fresh good
 run "$folder/stream" import "$file"
@@ -403,9 +679,16 @@ check_reading
 check_writing
 check_left_over
 check_refusals
+check_planted
+check_links
 check_full_disk
 check_output
 check_killed_reading
 check_killed_writing
+check_injected
+check_waiting
+check_refused_at_once
+check_imports_at_once
+check_inits_at_once
 echo "$passed passed, $failed failed"
 [ "$failed" -eq 0 ]

@@ -1,25 +1,35 @@
-//! Store files: read as a whole, and replaced as a whole or not at all.
+//! Store files: found through symbolic links, and read as a whole.
 
+use crate::fault::RunFault;
 use gx_cli::CliFault;
 use std::fs::{self, File};
-use std::io::{self, ErrorKind, Read, Write};
-use std::path::Path;
+use std::io::{self, ErrorKind, Read};
+use std::path::{Path, PathBuf};
 
-/// Whether there is something at a store file's place.
-pub(crate) fn has_store(rt: &HostRuntime, file: &str) -> Result<bool, CliFault> {
+/// As many symbolic links as Linux follows in a path.
+const MOST_LINKS: u32 = 40;
+
+/// Refuses a place where there is something.
+pub(crate) fn want_no_store(rt: &HostRuntime, file: &str) -> Result<(), CliFault> {
     match Path::new(file).try_exists(rt) {
-        Ok(exists) => Ok(exists),
+        Ok(false) => Ok(()),
+        Ok(true) => Err(CliFault::StoreExists),
         Err(_) => Err(CliFault::ReadFailed),
     }
 }
 
+/// Refuses what is no file that can be read. Nothing is read yet.
+pub(crate) fn want_store(rt: &HostRuntime, file: &str) -> Result<(), CliFault> {
+    // a look first, since to open a pipe would wait
+    if !Path::new(file).is_file(rt) || File::open(rt, file).is_err() {
+        return Err(CliFault::ReadFailed);
+    }
+    Ok(())
+}
+
 /// The bytes of a store file.
 pub(crate) fn read_store(rt: &HostRuntime, file: &str) -> Result<Vec<u8>, CliFault> {
-    match read_whole(rt, file) {
-        Ok(bytes) => Ok(bytes),
-        Err(error) if error.kind() == ErrorKind::OutOfMemory => Err(CliFault::OutOfMemory),
-        Err(_) => Err(CliFault::ReadFailed),
-    }
+    read_whole(rt, file).map_err(read_fault)
 }
 
 /// The room for all bytes is taken at once, so that it needn't grow.
@@ -31,33 +41,31 @@ fn read_whole(rt: &HostRuntime, file: &str) -> io::Result<Vec<u8>> {
     Ok(bytes)
 }
 
-/// Writes a text beside a store file, makes it durable, and puts it into the file's place. After a failure the file is as
-/// it was, and what was written is gone.
-pub(crate) fn replace_store(rt: &HostRuntime, file: &str, text: &[u8]) -> Result<(), CliFault> {
-    let Ok(next) = format!(in rt.alloc(); "{file}.new") else {
-        return Err(CliFault::OutOfMemory);
-    };
-    let Ok(mut written) = File::create(rt, next.as_str()) else {
-        return Err(CliFault::WriteFailed);
-    };
-    let answer = write_whole(rt, &mut written, file, text).and_then(|()| fs::rename(
-        rt,
-        next.as_str(),
-        file,
-    ));
-    if answer.is_err() {
-        // the first failure is what is answered
-        let _ = fs::remove_file(rt, next.as_str());
-        return Err(CliFault::WriteFailed);
+fn read_fault(error: io::Error) -> CliFault {
+    if error.kind() == ErrorKind::OutOfMemory {
+        CliFault::OutOfMemory
+    } else {
+        CliFault::ReadFailed
     }
-    Ok(())
 }
 
-/// Writes a whole text, with the permissions of the file that it is to replace, where there is one.
-fn write_whole(rt: &HostRuntime, written: &mut File, file: &str, text: &[u8]) -> io::Result<()> {
-    if let Ok(replaced) = fs::metadata(rt, file) {
-        written.set_permissions(replaced.permissions())?;
+/// The path behind the symbolic links at the end of a path. Nothing needs to be there.
+pub(crate) fn follow_links(rt: &HostRuntime, file: &str) -> Result<String, RunFault> {
+    let mut path = PathBuf::from_str(rt.alloc(), file)?;
+    for _ in 0..MOST_LINKS {
+        match fs::read_link(rt, &path) {
+            Ok(target) => {
+                path.pop();
+                path.push(target)?;
+            }
+            Err(error) if is_no_link(&error) => return Ok(path.into_string()),
+            Err(error) => return Err(read_fault(error).into()),
+        }
     }
-    written.write_all(text)?;
-    written.sync_all()
+    Err(CliFault::ReadFailed.into())
+}
+
+/// Whether a path can't be read as a link since it is none, or nothing.
+fn is_no_link(error: &io::Error) -> bool {
+    matches!(error.kind(), ErrorKind::InvalidInput | ErrorKind::NotFound)
 }

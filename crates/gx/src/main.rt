@@ -1,12 +1,16 @@
 //! The program `gx`: its words, files, standard streams and exit status around `gx_cli`.
 #![tactic(auto)]
 
+mod fault;
 mod files;
+mod next_text;
 
-use files::{has_store, read_store, replace_store};
+use fault::RunFault;
+use files::{read_store, want_no_store, want_store};
 use gx_cli::{CliFault, Line, LineFault, Outcome, read_line, serve};
 use gx_object::Sha1Namer;
 use gx_text::{FromRead, IntoWrite};
+use next_text::NextText;
 use std::alloc::Global;
 use std::hash::RandomState;
 use std::io::{BufWriter, ErrorKind, Write};
@@ -38,7 +42,7 @@ fn main(rt: HostRuntime) -> io::Result<ExitCode> {
 }
 
 /// Runs a command on its file and on the standard streams.
-fn run(rt: &HostRuntime, line: &Line<'_>, state: RandomState) -> Result<(), CliFault> {
+fn run(rt: &HostRuntime, line: &Line<'_>, state: RandomState) -> Result<(), RunFault> {
     match line {
         Line::Blobs | Line::Try(_) => {
             stream(rt, line, b"", state)?;
@@ -59,19 +63,34 @@ fn run(rt: &HostRuntime, line: &Line<'_>, state: RandomState) -> Result<(), CliF
             file,
             ranges: _,
         }
-        | Line::RevParse { file, revisions: _ } => print(rt, line, file, state),
+        | Line::RevParse { file, revisions: _ } => {
+            print(rt, line, file, state)?;
+            Ok(())
+        }
     }
 }
 
 /// Makes a store file where there is none.
-fn init(rt: &HostRuntime, line: &Line<'_>, file: &str, state: RandomState) -> Result<(), CliFault> {
-    if has_store(rt, file)? {
-        return Err(CliFault::StoreExists);
+fn init(rt: &HostRuntime, line: &Line<'_>, file: &str, state: RandomState) -> Result<(), RunFault> {
+    want_no_store(rt, file)?;
+    let mut next = NextText::claim(rt, file)?;
+    let answer = init_locked(rt, line, &mut next, state);
+    next.release(rt);
+    answer
+}
+
+/// Another run may have made the store while this one waited.
+fn init_locked(
+    rt: &HostRuntime,
+    line: &Line<'_>,
+    next: &mut NextText,
+    state: RandomState,
+) -> Result<(), RunFault> {
+    want_no_store(rt, next.store())?;
+    if let Some(text) = stream(rt, line, b"", state)? {
+        next.publish(rt, &text)?;
     }
-    match stream(rt, line, b"", state)? {
-        Some(text) => replace_store(rt, file, &text),
-        None => Ok(()),
-    }
+    Ok(())
 }
 
 /// Imports standard input into a store file, which a refused import leaves as it was.
@@ -80,14 +99,28 @@ fn import(
     line: &Line<'_>,
     file: &str,
     state: RandomState,
-) -> Result<(), CliFault> {
-    let store = read_store(rt, file)?;
+) -> Result<(), RunFault> {
+    want_store(rt, file)?;
+    let mut next = NextText::claim(rt, file)?;
+    let answer = import_locked(rt, line, &mut next, state);
+    next.release(rt);
+    answer
+}
+
+/// What another run left while this one waited is what is imported into.
+fn import_locked(
+    rt: &HostRuntime,
+    line: &Line<'_>,
+    next: &mut NextText,
+    state: RandomState,
+) -> Result<(), RunFault> {
+    let store = read_store(rt, next.store())?;
     let text = stream(rt, line, &store, state)?;
     drop(store);
-    match text {
-        Some(text) => replace_store(rt, file, &text),
-        None => Ok(()),
+    if let Some(text) = text {
+        next.publish(rt, &text)?;
     }
+    Ok(())
 }
 
 /// Serves a command that reads standard input, and answers the next text of its store. What it prints goes out as it comes.

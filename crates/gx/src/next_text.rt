@@ -1,0 +1,159 @@
+//! `FILE.new`, where the next text of a store file is written. It is the lock on the store file, too.
+//!
+//! A run makes the file and locks it before it reads FILE, and keeps it until it has renamed it over FILE. The name goes
+//! away from a file by a run alone that holds the file's lock and saw that the name is this file's: so of all runs one at a
+//! time stands between its lock and its rename. A killed run's lock ends with it.
+
+use crate::fault::RunFault;
+use crate::files::follow_links;
+use gx_cli::CliFault;
+use std::fs::{self, File};
+use std::io::{self, ErrorKind, Write};
+use std::os::unix::fs::MetadataExt;
+use std::path::Path;
+
+/// The locked file of a next text, which this run has made.
+#[derive(Drop)]
+pub(crate) struct NextText {
+    store: String,
+    path: String,
+    folder: File,
+    held: File,
+}
+
+impl NextText {
+    /// Makes the file for a store file and locks it. Another run that holds it is waited for, and what a killed one left is
+    /// removed. Before this returns, nothing of the store file should be read for good.
+    pub(crate) fn claim(rt: &HostRuntime, file: &str) -> Result<NextText, RunFault> {
+        let store = follow_links(rt, file)?;
+        let folder = open_folder(rt, &store)?;
+        let path = format!(in rt.alloc(); "{store}.new")?;
+        for _ in 0..u64::MAX {
+            if let Some(held) = try_claim(rt, &path)? {
+                return Ok(NextText {
+                    store,
+                    path,
+                    folder,
+                    held,
+                });
+            }
+        }
+        Err(RunFault::LockFailed)
+    }
+
+    /// The path of the store file behind its symbolic links.
+    pub(crate) fn store(&self) -> &str {
+        self.store.as_str()
+    }
+
+    /// Writes the next text, makes it durable, and puts it into the store file's place. Where this fails before the file is
+    /// renamed, the store file is as it was.
+    pub(crate) fn publish(&mut self, rt: &HostRuntime, text: &[u8]) -> Result<(), CliFault> {
+        match self.write_and_rename(rt, text) {
+            Ok(()) => Ok(()),
+            Err(_) => Err(CliFault::WriteFailed),
+        }
+    }
+
+    /// The text has the permissions of the file that it replaces before it has a byte.
+    fn write_and_rename(&mut self, rt: &HostRuntime, text: &[u8]) -> io::Result<()> {
+        if let Ok(replaced) = fs::metadata(rt, &self.store) {
+            self.held.set_permissions(replaced.permissions())?;
+        }
+        self.held.write_all(text)?;
+        self.held.sync_all()?;
+        if !names(rt, &self.path, &self.held) {
+            // somebody took the file away by hand
+            return Err(io::Error::from(ErrorKind::NotFound));
+        }
+        fs::rename(rt, &self.path, &self.store)?;
+        sync_folder(&self.folder)
+    }
+
+    /// Removes the file, unless it was renamed, and lets its lock go.
+    pub(crate) fn release(self, rt: &HostRuntime) {
+        if names(rt, &self.path, &self.held) {
+            // there is nothing that could be done further
+            let _ = fs::remove_file(rt, &self.path);
+        }
+    }
+}
+
+/// One turn: makes and locks the file where there is none, or waits for whoever holds it. `None` asks for another turn.
+fn try_claim(rt: &HostRuntime, path: &str) -> Result<Option<File>, RunFault> {
+    match fs::symlink_metadata(rt, path) {
+        Ok(found) if found.is_file() => {
+            remove_left_over(rt, path)?;
+            Ok(None)
+        }
+        Err(error) if error.kind() == ErrorKind::NotFound => make_locked(rt, path),
+        _ => Err(CliFault::WriteFailed.into()),
+    }
+}
+
+/// Another run may find the new file before it is locked, and remove it as a left-over.
+fn make_locked(rt: &HostRuntime, path: &str) -> Result<Option<File>, RunFault> {
+    let made = match File::create_new(rt, path) {
+        Ok(made) => made,
+        Err(error) if error.kind() == ErrorKind::AlreadyExists => return Ok(None),
+        Err(_) => return Err(CliFault::WriteFailed.into()),
+    };
+    let locked = made.lock();
+    if !names(rt, path, &made) {
+        return Ok(None);
+    }
+    if locked.is_err() {
+        let _ = fs::remove_file(rt, path);
+        return Err(RunFault::LockFailed);
+    }
+    Ok(Some(made))
+}
+
+/// Waits for the lock. A file that has its name still was left by a run that is gone.
+fn remove_left_over(rt: &HostRuntime, path: &str) -> Result<(), RunFault> {
+    let found = match open_found(rt, path) {
+        Ok(found) => found,
+        Err(error) if error.kind() == ErrorKind::NotFound => return Ok(()),
+        Err(_) => return Err(RunFault::LockFailed),
+    };
+    if found.lock().is_err() {
+        return Err(RunFault::LockFailed);
+    }
+    if names(rt, path, &found) && fs::remove_file(rt, path).is_err() {
+        return Err(CliFault::WriteFailed.into());
+    }
+    Ok(())
+}
+
+/// Some file systems lock only what may be written, and a left-over may be one that may only be read.
+fn open_found(rt: &HostRuntime, path: &str) -> io::Result<File> {
+    match File::options().read(true).write(true).open(rt, path) {
+        Ok(found) => Ok(found),
+        Err(_) => File::open(rt, path),
+    }
+}
+
+/// Whether a path, with no link followed, names an open file.
+fn names(rt: &HostRuntime, path: &str, opened: &File) -> bool {
+    match (fs::symlink_metadata(rt, path), opened.metadata()) {
+        (Ok(named), Ok(opened)) => named.dev() == opened.dev() && named.ino() == opened.ino(),
+        _ => false,
+    }
+}
+
+/// The folder is opened before anything is made, so that it can be synced once it matters.
+fn open_folder(rt: &HostRuntime, store: &str) -> Result<File, CliFault> {
+    let folder = match Path::new(store).parent() {
+        Some(folder) if !folder.as_str().is_empty() => folder.as_str(),
+        _ => ".",
+    };
+    File::open(rt, folder).map_err(|_| CliFault::WriteFailed)
+}
+
+/// A file system that has no sync of folders says that this is no valid request.
+fn sync_folder(folder: &File) -> io::Result<()> {
+    match folder.sync_all() {
+        Err(error) if error.kind() == ErrorKind::InvalidInput => Ok(()),
+        answer => answer,
+    }
+}

@@ -1,8 +1,8 @@
 //! `FILE.new`, where the next text of a store file is written. It is the lock on the store file, too.
 //!
-//! A run makes the file and locks it before it reads FILE, and keeps it until it has renamed it over FILE. The name goes
-//! away from a file by a run alone that holds the file's lock and saw that the name is this file's: so of all runs one at a
-//! time stands between its lock and its rename. A killed run's lock ends with it.
+//! A run makes the file and locks it before it reads FILE, and keeps it until it has renamed it over FILE. Only a run that has
+//! a file's lock, and sees that `FILE.new` names this file still, takes the name away from it, by renaming or removing it. So one
+//! run at a time stands between its lock and its rename. A killed run's lock ends with it.
 
 use crate::fault::RunFault;
 use crate::files::follow_links;
@@ -23,7 +23,7 @@ pub(crate) struct NextText {
 
 impl NextText {
     /// Makes the file for a store file and locks it. Another run that holds it is waited for, and what a killed one left is
-    /// removed. Before this returns, nothing of the store file should be read for good.
+    /// removed. What was read of the store file before isn't to be relied on.
     pub(crate) fn claim(rt: &HostRuntime, file: &str) -> Result<NextText, RunFault> {
         let store = follow_links(rt, file)?;
         let folder = open_folder(rt, &store)?;
@@ -46,8 +46,8 @@ impl NextText {
         self.store.as_str()
     }
 
-    /// Writes the next text, makes it durable, and puts it into the store file's place. Where this fails before the file is
-    /// renamed, the store file is as it was.
+    /// Writes the next text, makes it durable, and puts it into the store file's place. After a failure the store file is as it
+    /// was, unless it was the folder's sync that failed.
     pub(crate) fn publish(&mut self, rt: &HostRuntime, text: &[u8]) -> Result<(), CliFault> {
         match self.write_and_rename(rt, text) {
             Ok(()) => Ok(()),
@@ -91,7 +91,7 @@ fn try_claim(rt: &HostRuntime, path: &str) -> Result<Option<File>, RunFault> {
     }
 }
 
-/// Another run may find the new file before it is locked, and remove it as a left-over.
+/// Another run may get the new file's lock first, and remove it as a left-over: then this one asks for another turn.
 fn make_locked(rt: &HostRuntime, path: &str) -> Result<Option<File>, RunFault> {
     let made = match File::create_new(rt, path) {
         Ok(made) => made,

@@ -116,7 +116,7 @@ marks_either r Q old others new e h = record {
   all = λ c q i k. h i ∙ or_true (slice_index_or old i false) (slice_index_or others i false) (ap (λ ms. slice_index_or ms i false) e ∙ mark_tells (values_of r) Q i (commit_value c) false k ∙ is_true _ q);
 }
 
--- the marks and the tips spread: those from a place on have their parents'
+-- what is marked is what the tips reach, so far: marked commits from a place on have their parents marked
 pub record AreSpread (r : Records) (tips marks : List Bool) (left : ℕ) : Type 0 where
   pub kept : (test : Commit → Bool) → AreTips r test tips → AreTips r test marks
   pub parents : (i : ℕ) (c p : Commit) → left ≤ i → IsMarked marks i → IsAt r i c → IsParent p (parents_of c) → (j : ℕ) → IsAt r j p → IsMarked marks j

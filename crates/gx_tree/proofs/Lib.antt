@@ -3,6 +3,7 @@ pub mod Order
 pub mod Lookups
 pub mod Levels
 pub mod Below
+pub mod Searches
 pub mod Copies
 pub mod EditLaws
 pub mod Grafts

@@ -106,12 +106,12 @@ list_file front path t c m n out out' ep et eo = rw (eo, map-append listed out (
 pub list_folder : (front path : Path) (t c : Bytes) (f g : FileMap Bytes) (out out' : List (Path × Mode × Name)) → path ≡ front ++ t ∷ [] → t ≡ c → g ≡ f → map listed out' ≡ map listed out ++ below path g → map listed out' ≡ map listed out ++ below front (placed c (kept_map (folder f)))
 list_folder front path t c f g out out' ep et eg eo = rw (eo, eg, ep, et, below-placed front c f) refl
 
-pub list_more : {A : Type 0} (front : Path) (es : List (Entry A)) (i : ℕ) (r : Entry A) (k : Kept) (total : FileMap Bytes) (out out' : List (Path × Mode × Name)) → i < length es → r ≡ get_or es i r → kept r.item ≡ k → map listed out' ≡ map listed out ++ below front (placed r.component.items (kept_map k)) → map listed out ++ below front (files (seen_all (drop i es))) ≡ total → map listed out' ++ below front (files (seen_all (drop (i + 1) es))) ≡ total
+pub list_more : {A : Type 0} (front : Path) (es : List (Entry A)) (i : ℕ) (r : Entry A) (k : Kept) (total : FileMap Bytes) (out out' : List (Path × Mode × Name)) → i < length es → r ≡ get_or es i r → kept r.item ≡ k → map listed out' ≡ map listed out ++ below front (placed r.component.value.items (kept_map k)) → map listed out ++ below front (files (seen_all (drop i es))) ≡ total → map listed out' ++ below front (files (seen_all (drop (i + 1) es))) ≡ total
 list_more front es i r k total out out' l ir ek eo h =
-    let step : seen_all (drop i es) ≡ (r.component.items, k) ∷ seen_all (drop (i + 1) es) = rw (seen_more es i r l ir, ek) refl in
-    let whole : map listed out ++ (below front (placed r.component.items (kept_map k)) ++ below front (files (seen_all (drop (i + 1) es)))) ≡ total =
-    rw (step, below-append front (placed r.component.items (kept_map k)) (files (seen_all (drop (i + 1) es)))) at h in
-    rw (eo, append_assoc (map listed out) (below front (placed r.component.items (kept_map k))) (below front (files (seen_all (drop (i + 1) es))))) whole
+    let step : seen_all (drop i es) ≡ (r.component.value.items, k) ∷ seen_all (drop (i + 1) es) = rw (seen_more es i r l ir, ek) refl in
+    let whole : map listed out ++ (below front (placed r.component.value.items (kept_map k)) ++ below front (files (seen_all (drop (i + 1) es)))) ≡ total =
+    rw (step, below-append front (placed r.component.value.items (kept_map k)) (files (seen_all (drop (i + 1) es)))) at h in
+    rw (eo, append_assoc (map listed out) (below front (placed r.component.value.items (kept_map k))) (below front (files (seen_all (drop (i + 1) es))))) whole
 
 -- ---- the whole tree
 
@@ -123,8 +123,8 @@ pub all_short : (f : FileMap Bytes) → are_file_paths f ≡ true → AreShort f
 all_short [] h = refl
 all_short (e ∷ f) h = and_from _ _ (file_path_short e.0 (and_parts _ _ h).0) (all_short f (and_parts _ _ h).1)
 
-pub map_short : (f : FileMap Bytes) → is_file_map f ≡ true → AreShort (below [] f)
-map_short f h = ap (list_all (λ e. is_short e.0)) (below_root f) ∙ all_short f (and_parts _ _ (and_parts _ _ h).0).0
+pub map_short : (f : FileMap Bytes) → is_file_map f ≡ true → AreShort f
+map_short f h = all_short f (and_parts _ _ (and_parts _ _ h).0).0
 
 -- a path that is read is refused for want of memory alone
 pub not_refused : (p : Path) (given : Result Path Fault) (f : TextFault) → given ≡ Ok p → (f ≢ OutOfMemory) → IsFaultOf (fault_of f) given → ⊥

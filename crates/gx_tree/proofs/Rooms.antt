@@ -70,11 +70,11 @@ kept_entry es xs i r l ir ex h =
     let a : AllByRecursion (λ e. IsKept e.1) (seen_all xs) = subst (λ z. AllByRecursion (λ e. IsKept e.1) (seen_all z)) (sym ex) (each_kept (seen_all es) h) in
     subst (λ z. IsKept (kept z.item)) (sym ir) (subst (λ z. IsKept z.1) (get_or-map seen xs i r (seen r) l) (all_at (λ e. IsKept e.1) (seen_all xs) i (seen r) (omega (arith, length-map xs seen)) a))
 
-pub rest_within : {A : Type 0} (es xs : List (Entry A)) (i : ℕ) (r : Entry A) (room : ℕ) → i < length xs → r ≡ get_or xs i r → xs ≡ es → IsLevel (seen_all es) → list_all (is_within room) (files (seen_all (drop i xs))) ≡ (kept_within room (length r.component.items) (kept r.item) && list_all (is_within room) (files (seen_all (drop (i + 1) xs))))
+pub rest_within : {A : Type 0} (es xs : List (Entry A)) (i : ℕ) (r : Entry A) (room : ℕ) → i < length xs → r ≡ get_or xs i r → xs ≡ es → IsLevel (seen_all es) → list_all (is_within room) (files (seen_all (drop i xs))) ≡ (kept_within room (length r.component.value.items) (kept r.item) && list_all (is_within room) (files (seen_all (drop (i + 1) xs))))
 rest_within es xs i r room l ir ex h =
     rw (seen_more xs i r l ir)
-    (list_all-append (is_within room) (placed r.component.items (kept_map (kept r.item))) (files (seen_all (drop (i + 1) xs)))
-    ∙ ap (λ b. b && list_all (is_within room) (files (seen_all (drop (i + 1) xs)))) (kept_within-is r.component.items (kept r.item) room (kept_entry es xs i r l ir ex h)))
+    (list_all-append (is_within room) (placed r.component.value.items (kept_map (kept r.item))) (files (seen_all (drop (i + 1) xs)))
+    ∙ ap (λ b. b && list_all (is_within room) (files (seen_all (drop (i + 1) xs)))) (kept_within-is r.component.value.items (kept r.item) room (kept_entry es xs i r l ir ex h)))
 
 -- ---- below a path
 

@@ -31,4 +31,4 @@ item_falls G c (Folder d) h = omega (arith, components-placed c d.value, some_le
 
 pub falls : {A : Type 0} (G : Ghosts A) (es : List (Entry A)) → IsLevel (seen_all es) → max (most (λ x. deep-Entry A G x) es) 0 ≤ components (files (seen_all es))
 falls G [] h = omega arith
-falls G (e ∷ es) h = omega (arith, item_falls G e.component.items e.item h.1, falls G es h.3, components-append (placed e.component.items (kept_map (kept e.item))) (files (seen_all es)))
+falls G (e ∷ es) h = omega (arith, item_falls G e.component.value.items e.item h.1, falls G es h.3, components-append (placed e.component.value.items (kept_map (kept e.item))) (files (seen_all es)))

@@ -9,3 +9,4 @@ pub mod Faults
 pub mod Writes
 pub mod HeldTrees
 pub mod StoreFaults
+pub mod Searches

@@ -46,9 +46,13 @@ mark (folder f) = 47 ∷ []
 abbrev pub key : Bytes → Kept → Bytes
 key c k = c ++ mark k
 
+-- whether an entry comes after a text
+abbrev pub precedes : Bytes → Bytes × Kept → Bool
+precedes text e = is_lt (slice_cmp nat_cmp text (key e.0 e.1))
+
 -- whether c with k comes first
 abbrev pub comes_before : Bytes → Kept → Bytes × Kept → Bool
-comes_before c k e = is_lt (slice_cmp nat_cmp (key c k) (key e.0 e.1))
+comes_before c k = precedes (key c k)
 
 -- another component, and later
 abbrev pub IsAfter : Bytes × Kept → Bytes × Kept → Type 0

@@ -15,6 +15,7 @@ use crate::fault::TreeFault;
 use gx_object::{Mode, Name};
 use gx_text::TreePath;
 use std::alloc::{AllocError, Allocator};
+use std::rc::Rc;
 
 /// The bytes of the longest path.
 pub(crate) const MOST_BYTES: usize = 4095;
@@ -23,7 +24,7 @@ pub(crate) const MOST_BYTES: usize = 4095;
 #[derive(Drop)]
 pub(crate) enum Held<'a, A: Allocator> {
     File(Mode, Name),
-    Folder(&'a Directory<A>),
+    Folder(&'a Rc<Directory<A>, A>),
 }
 
 impl<'a, A: Allocator + Copy> Held<'a, A> {
@@ -41,16 +42,13 @@ impl<'a, A: Allocator + Copy> Held<'a, A> {
         }
     }
 
-    /// A copy of it, as an item.
-    pub(crate) fn item(&self, alloc: A) -> Result<Item<A>, AllocError>
+    /// It as an item, where a directory is shared.
+    pub(crate) fn item(&self) -> Result<Item<A>, AllocError>
         ensures { IfOk result (λ i. kept i ≡ kept_held self.now) }
     {
         match self {
             Held::File(mode, name) => Ok(Item::File(*mode, *name)),
-            Held::Folder(below) => {
-                let copy = below.copied(alloc)?;
-                Ok(Item::Folder(Box::new(alloc, copy)?))
-            }
+            Held::Folder(below) => Ok(Item::Folder(Rc::clone(below)?)),
         }
     }
 }
@@ -87,7 +85,7 @@ impl<A: Allocator + Copy> Entry<A> {
     fn fits(&self, room: usize) -> bool
         ensures { result ≡ kept_within room (length (seen self.now).0) (seen self.now).1 }
     {
-        let used = self.component.len();
+        let used = self.component().len();
         match &self.item {
             Item::File(_, _) => used <= room,
             Item::Folder(below) => used < room && below.fits(room - used - 1),

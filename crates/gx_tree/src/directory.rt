@@ -1,20 +1,19 @@
-//! Directories: their entries in the order of Git's trees, each a file or a directory below.
+//! Directories: their entries in the order of Git's trees, each a file or a directory below. A directory never changes
+//! once it is made, so trees share it, and the directories made in its place share its entries' components.
 ghost use Rattle.std.specs.Prelude.{◌≡◌, ◌≤◌, ◌<◌, ◌+◌, ◌++◌, ◌∷◌, [], IsTrue, ◌↔◌, IfOk, drop, length, take};
-ghost use Rattle.std.specs.Cmp.Lexicographic.{slice_cmp};
 ghost use Rattle.std.specs.Option.{option_map};
-ghost use Rattle.std.specs.Ordering.{nat_cmp};
-ghost use Rattle.gx_model.specs.Texts.{same_bytes};
-ghost use Rattle.gx_tree.specs.Nodes.{IsInner, kept_at, key, mark, comes_before, inserted, others, with_kept};
+ghost use Rattle.gx_tree.specs.Nodes.{IsInner, IsLevel, mark, others, with_kept};
 ghost use Rattle.gx_tree.specs.Views.{kept, kept_if, option_kept, option_files, seen, seen_all};
 ghost use Rattle.gx_tree.specs.Standings.{standing_of, standing_at};
 ghost use Rattle.gx_tree.specs.Steps.{files_of, replaced};
 
 use crate::path_tree::Found;
+use crate::search::{find, place_of};
 use gx_object::{Mode, Name};
 use gx_text::TreePath;
 use std::alloc::{AllocError, Allocator};
-use std::cmp::Ordering;
 use std::marker::Model;
+use std::rc::Rc;
 
 /// The files below a directory, by its entries.
 #[cycle(tree)]
@@ -27,7 +26,7 @@ pub(crate) struct Directory<A: Allocator> {
 #[cycle(tree)]
 #[derive(Drop)]
 pub(crate) struct Entry<A: Allocator> {
-    pub(crate) component: Vec<u8, A>,
+    pub(crate) component: Rc<Vec<u8, A>, A>,
     pub(crate) item: Item<A>,
 }
 
@@ -35,7 +34,7 @@ pub(crate) struct Entry<A: Allocator> {
 #[derive(Drop)]
 pub(crate) enum Item<A: Allocator> {
     File(Mode, Name),
-    Folder(Box<Directory<A>, A>),
+    Folder(Rc<Directory<A>, A>),
 }
 
 impl<A: Allocator> Model for Directory<A> {
@@ -100,47 +99,46 @@ impl<A: Allocator + Copy> Directory<A> {
             Some(Item::Folder(below)) => below.entry(path, depth + 1),
         }
     }
-
-    /// A copy of the whole directory.
-    #[cycle(copy)]
-    pub(crate) fn copied(&self, alloc: A) -> Result<Directory<A>, AllocError>
-        ensures { IfOk result (λ d. d ≡ self.now) }
-    {
-        let mut entries = Vec::new(alloc);
-        for entry in &self.entries {
-            entries.push(entry.copied(alloc)?)?;
-        }
-        Ok(Directory { entries })
-    }
 }
 
 impl<A: Allocator + Copy> Item<A> {
-    #[cycle(copy)]
-    pub(crate) fn copied(&self, alloc: A) -> Result<Item<A>, AllocError>
+    /// The same once more: a directory is shared.
+    pub(crate) fn shared(&self) -> Result<Item<A>, AllocError>
         ensures { IfOk result (λ i. kept i ≡ kept self.now) }
     {
         match self {
             Item::File(mode, name) => Ok(Item::File(*mode, *name)),
-            Item::Folder(below) => {
-                let copy = below.copied(alloc)?;
-                Ok(Item::Folder(Box::new(alloc, copy)?))
-            }
+            Item::Folder(below) => Ok(Item::Folder(below.clone()?)),
         }
     }
 }
 
 impl<A: Allocator + Copy> Entry<A> {
-    #[cycle(copy)]
-    fn copied(&self, alloc: A) -> Result<Entry<A>, AllocError>
-        ensures { IfOk result (λ e. seen e ≡ seen self.now) }
+    /// An entry of a component's bytes.
+    pub(crate) fn new(alloc: A, component: &[u8], item: Item<A>) -> Result<Entry<A>, AllocError>
+        ensures { IfOk result (λ e. seen e ≡ (component.now, kept item)) }
     {
-        let component = Vec::from_slice(alloc, &self.component)?;
-        let item = self.item.copied(alloc)?;
+        let bytes = Vec::from_slice(alloc, component)?;
+        let component = Rc::new(alloc, bytes)?;
         Ok(Entry { component, item })
     }
 
-    // What follows the component in the text by which entries are ordered.
-    fn mark(&self) -> &'static [u8]
+    fn shared(&self) -> Result<Entry<A>, AllocError>
+        ensures { IfOk result (λ e. seen e ≡ seen self.now) }
+    {
+        let component = self.component.clone()?;
+        let item = self.item.shared()?;
+        Ok(Entry { component, item })
+    }
+
+    pub(crate) fn component(&self) -> &[u8]
+        ensures { result.now ≡ (seen self.now).0 }
+    {
+        self.component.as_slice()
+    }
+
+    /// What follows the component in the text by which entries are ordered.
+    pub(crate) fn mark(&self) -> &'static [u8]
         ensures { result.now ≡ mark (kept self.now.item) }
     {
         match self.item {
@@ -148,34 +146,6 @@ impl<A: Allocator + Copy> Entry<A> {
             Item::Folder(_) => b"/",
         }
     }
-
-    fn compare_keys(&self, other: &Entry<A>) -> Ordering
-        ensures { result ≡ slice_cmp nat_cmp (key (seen self.now).0 (seen self.now).1) (key (seen other.now).0 (seen other.now).1) }
-    {
-        let first = self.component.as_slice().iter().chain(self.mark().iter());
-        first.cmp(other.component.as_slice().iter().chain(other.mark().iter()))
-    }
-
-    fn comes_before(&self, other: &Entry<A>) -> bool
-        ensures { result ≡ comes_before (seen self.now).0 (seen self.now).1 (seen other.now) }
-    {
-        self.compare_keys(other).is_lt()
-    }
-}
-
-/// What stands at a component.
-pub(crate) fn find<'a, A: Allocator + Copy>(
-    entries: &'a [Entry<A>],
-    component: &[u8],
-) -> Option<&'a Item<A>>
-    ensures { kept_at component.now (seen_all entries.now) ≡ option_kept result }
-{
-    for entry in entries {
-        if component == entry.component.as_slice() {
-            return Some(&entry.item);
-        }
-    }
-    None
 }
 
 /// The directory that an item is, if it is one.
@@ -190,64 +160,53 @@ pub(crate) fn folder_in<'a, A: Allocator + Copy>(
     }
 }
 
-// How many entries stand before the place of `new`.
-fn place_of<A: Allocator + Copy>(entries: &[Entry<A>], new: &Entry<A>) -> usize
-    ensures within { result ≤ length entries.now }
-    ensures place { inserted (seen new.now).0 (seen new.now).1 (seen_all entries.now) ≡ seen_all (take result entries.now) ++ seen new.now ∷ seen_all (drop result entries.now) }
-{
-    for (i, entry) in entries.iter().enumerate() {
-        if new.comes_before(entry) {
-            return i;
-        }
-    }
-    entries.len()
-}
-
-// Copies of the entries but for that of a component.
-fn copied_others<A: Allocator + Copy>(
+// The entries but for that of a component.
+fn shared_others<A: Allocator + Copy>(
     alloc: A,
     entries: &[Entry<A>],
     component: &[u8],
 ) -> Result<Vec<Entry<A>, A>, AllocError>
     ensures { IfOk result (λ v. seen_all v.items ≡ others component.now (seen_all entries.now)) }
 {
-    let mut copies = Vec::new(alloc);
+    let mut others = Vec::with_capacity(alloc, entries.len() + 1)?;
     for entry in entries {
-        if component != entry.component.as_slice() {
-            copies.push(entry.copied(alloc)?)?;
+        if component != entry.component() {
+            others.push(entry.shared()?)?;
         }
     }
-    Ok(copies)
+    Ok(others)
 }
 
-/// Copies of the entries, with `new` in place of what stood at its component.
+/// The entries, with `new` in place of what stood at its component.
 pub(crate) fn with_entry<A: Allocator + Copy>(
     alloc: A,
     entries: &[Entry<A>],
     new: Entry<A>,
 ) -> Result<Vec<Entry<A>, A>, AllocError>
+    requires { IsLevel (seen_all entries.now) }
     ensures { IfOk result (λ v. seen_all v.items ≡ with_kept (seen new).0 (seen new).1 (seen_all entries.now)) }
 {
-    let mut copies = copied_others(alloc, entries, new.component.as_slice())?;
-    let at = place_of(&copies, &new);
-    copies.insert(at, new)?;
-    Ok(copies)
+    let mut all = shared_others(alloc, entries, new.component())?;
+    let place = place_of(&all, new.component(), new.mark());
+    all.insert(place, new)?;
+    Ok(all)
 }
 
-/// Copies of the entries, with `item` at the component, or nothing there.
+/// The entries, with `item` at the component, or nothing there.
 pub(crate) fn with_item<A: Allocator + Copy>(
     alloc: A,
     entries: &[Entry<A>],
     component: &[u8],
     item: Option<Item<A>>,
 ) -> Result<Vec<Entry<A>, A>, AllocError>
+    requires { IsLevel (seen_all entries.now) }
     ensures { IfOk result (λ v. seen_all v.items ≡ replaced component.now (kept_if item) (seen_all entries.now)) }
 {
     match item {
-        None => copied_others(alloc, entries, component),
+        None => shared_others(alloc, entries, component),
         Some(item) => {
-            let component = Vec::from_slice(alloc, component)?;
-            with_entry(alloc, entries, Entry { component, item })
+            let new = Entry::new(alloc, component, item)?;
+            with_entry(alloc, entries, new)
         }
     }
 }

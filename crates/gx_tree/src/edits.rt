@@ -6,9 +6,11 @@ ghost use Rattle.gx_tree.specs.Nodes.{IsKept, kept_map, map_if, IsKeptAt};
 ghost use Rattle.gx_tree.specs.Steps.{grafted, kept_grafted, kept_removed};
 ghost use Rattle.gx_tree.specs.Views.{kept, kept_if, option_kept};
 
-use crate::directory::{Directory, Entry, Item, find, folder_in, with_entry, with_item};
+use crate::directory::{Directory, Entry, Item, folder_in, with_entry, with_item};
+use crate::search::find;
 use gx_text::TreePath;
 use std::alloc::{AllocError, Allocator};
+use std::rc::Rc;
 
 impl<A: Allocator + Copy> Directory<A> {
     /// What stands at the rest of the path, which is not the root.
@@ -44,8 +46,8 @@ impl<A: Allocator + Copy> Directory<A> {
         let component = path.component(depth);
         let old = find(&self.entries, component);
         let item = item_grafted(alloc, old, path, depth, item)?;
-        let component = Vec::from_slice(alloc, component)?;
-        let entries = with_entry(alloc, &self.entries, Entry { component, item })?;
+        let new = Entry::new(alloc, component, item)?;
+        let entries = with_entry(alloc, &self.entries, new)?;
         Ok(Directory { entries })
     }
 
@@ -89,7 +91,7 @@ fn item_grafted<A: Allocator + Copy>(
         Some(below) => below.grafted(alloc, path, depth + 1, item)?,
         None => Directory::new(alloc).grafted(alloc, path, depth + 1, item)?,
     };
-    Ok(Item::Folder(Box::new(alloc, below)?))
+    Ok(Item::Folder(Rc::new(alloc, below)?))
 }
 
 // What is left of an item where what stands below it at the path is removed.
@@ -117,7 +119,7 @@ fn item_removed<A: Allocator + Copy>(
             if below.is_empty() {
                 return Ok(None);
             }
-            Ok(Some(Item::Folder(Box::new(alloc, below)?)))
+            Ok(Some(Item::Folder(Rc::new(alloc, below)?)))
         }
     }
 }

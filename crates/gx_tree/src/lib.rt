@@ -9,6 +9,8 @@ mod fault;
 mod listing;
 mod loading;
 mod path_tree;
+mod root;
+mod search;
 mod writing;
 
 pub use fault::TreeFault;

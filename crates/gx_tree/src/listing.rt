@@ -21,7 +21,7 @@ impl<A: Allocator + Copy> Directory<A> {
         ensures { OnOk result (map listed out.new.items ≡ map listed out.old.items ++ below front.now self.now) }
     {
         for entry in &self.entries {
-            let path = child(alloc, front, entry.component.as_slice())?;
+            let path = child(alloc, front, entry.component())?;
             match &entry.item {
                 Item::File(mode, name) => out.push((path, *mode, *name))?,
                 Item::Folder(below) => below.list_into(alloc, &path, out)?,

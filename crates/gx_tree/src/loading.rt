@@ -12,6 +12,7 @@ use crate::directory::{Directory, Entry, Item};
 use gx_object::{Mode, Name, Namer, decode_tree};
 use gx_store::Store;
 use std::alloc::{AllocError, Allocator};
+use std::rc::Rc;
 
 impl<A: Allocator + Copy> Directory<A> {
     /// The directory of a held tree, whose paths have at most `room` bytes.
@@ -34,8 +35,7 @@ impl<A: Allocator + Copy> Directory<A> {
         let mut entries = Vec::new(alloc);
         for entry in held {
             let item = Item::load(alloc, store, &entry, room)?;
-            let component = Vec::from_slice(alloc, entry.component)?;
-            entries.push(Entry { component, item })?;
+            entries.push(Entry::new(alloc, entry.component, item)?)?;
         }
         Ok(Directory { entries })
     }
@@ -61,6 +61,6 @@ impl<A: Allocator + Copy> Item<A> {
             unreachable!();
         }
         let below = Directory::load(alloc, store, &entry.name, room - used - 1)?;
-        Ok(Item::Folder(Box::new(alloc, below)?))
+        Ok(Item::Folder(Rc::new(alloc, below)?))
     }
 }

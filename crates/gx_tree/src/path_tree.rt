@@ -20,6 +20,7 @@ ghost use Rattle.gx_model.specs.declared.objects.Mode.TheVariants as modes;
 use crate::copying::{Held, MOST_BYTES};
 use crate::directory::{Directory, Item};
 use crate::fault::TreeFault;
+use crate::root::Root;
 use gx_object::{Mode, Name, Namer};
 use gx_store::Store;
 use gx_text::TreePath;
@@ -38,7 +39,7 @@ pub enum Found {
 /// Files by their paths, each with its mode and the name of its content.
 #[derive(Drop)]
 pub struct PathTree<A: Allocator> {
-    root: Directory<A>,
+    root: Root<A>,
     alloc: A,
 }
 
@@ -61,7 +62,7 @@ impl<A: Allocator + Copy> PathTree<A> {
         ensures { result ≡ [] }
     {
         PathTree {
-            root: Directory::new(alloc),
+            root: Root::none(),
             alloc,
         }
     }
@@ -79,7 +80,8 @@ impl<A: Allocator + Copy> PathTree<A> {
         requires { (g : FileMap Bytes) × IsHeldTree (N.name_of store.now.0) store.now.1 name.now.bytes g }
         ensures files { (g : FileMap Bytes) → IsHeldTree (N.name_of store.now.0) store.now.1 name.now.bytes g → Gives fault_of (λ tree. tree) result (Ok g) }
     {
-        let root = Directory::load(alloc, store, name, MOST_BYTES)?;
+        let directory = Directory::load(alloc, store, name, MOST_BYTES)?;
+        let root = Root::of(alloc, directory)?;
         Ok(PathTree { root, alloc })
     }
 
@@ -87,7 +89,7 @@ impl<A: Allocator + Copy> PathTree<A> {
     pub fn clear(&mut self)
         ensures { self.new ≡ [] }
     {
-        self.root = Directory::new(self.alloc);
+        self.root = Root::none();
     }
 
     /// Each tree is a file map of files' modes and names. Takes no memory.
@@ -99,24 +101,24 @@ impl<A: Allocator + Copy> PathTree<A> {
 
     /// What stands at a path, and none where nothing does. The root is a directory even with no files.
     ///
-    /// Cost: for each component of the path, the entries of one directory. Takes no memory. Source: gitglossary(7),
-    /// "tree".
+    /// Cost: for each component of the path, two searches by halves in one directory. Takes no memory. Source:
+    /// gitglossary(7), "tree".
     pub fn entry(&self, path: &TreePath<A>) -> Option<Found>
         ensures { option_map standing_of result ≡ standing_at self.now path.now }
     {
-        self.root.entry(path, 0)
+        self.root.entry(path)
     }
 
-    /// The same files once more: later edits of one change nothing in the other. The one error is `OutOfMemory`.
+    /// The same files once more: later edits of one change nothing in the other. The one error is `OutOfMemory`, where
+    /// more trees would share a directory than can be counted.
     ///
-    /// Cost: the whole tree, in time and in memory. Source: git-fast-import(1), "from", on a branch that begins with
-    /// another's files.
+    /// Cost: one step, since both share their directories. Takes no memory. Source: git-fast-import(1), "from", on a
+    /// branch that begins with another's files.
     pub fn duplicate(&self) -> Result<PathTree<A>, TreeFault>
         ensures { Gives fault_of (λ copy. copy) result (Ok self.now) }
     {
-        let root = self.root.copied(self.alloc)?;
         Ok(PathTree {
-            root,
+            root: self.root.shared()?,
             alloc: self.alloc,
         })
     }
@@ -128,17 +130,15 @@ impl<A: Allocator + Copy> PathTree<A> {
         ensures { Gives fault_of (λ files. map listed files.items) result (Ok self.now) }
     {
         let mut files = Vec::new(self.alloc);
-        self.root
-            .list_into(self.alloc, &TreePath::root(self.alloc), &mut files)?;
+        self.root.list_into(self.alloc, &mut files)?;
         Ok(files)
     }
 
     /// Puts a file at a path, in place of what stands there or below it, and of a file above it.
     /// `RootNotTree` where the path is the root; then `OutOfMemory`. Both leave the tree as it was.
     ///
-    /// Cost: the directories on the path are made anew, with copies of what stands beside it: the whole tree, in time and
-    /// in memory.
-    /// Source: git-fast-import(1), "filemodify".
+    /// Cost: the directories on the path are made anew, with their entries; those beside it are shared, and components'
+    /// bytes too. Source: git-fast-import(1), "filemodify".
     pub fn modify(&mut self, path: &TreePath<A>, mode: Mode, name: Name) -> Result<(), TreeFault>
         requires { mode ≢ modes.Dir }
         ensures map { Gives fault_of (λ _. self.new) result (modified self.old path.now (mode, name.bytes)) }
@@ -148,9 +148,7 @@ impl<A: Allocator + Copy> PathTree<A> {
             return Err(TreeFault::RootNotTree);
         }
         is_name(name.bytes.as_slice());
-        self.root = self
-            .root
-            .grafted(self.alloc, path, 0, Item::File(mode, name))?;
+        self.root = self.root.grafted(self.alloc, path, Item::File(mode, name))?;
         Ok(())
     }
 
@@ -162,7 +160,7 @@ impl<A: Allocator + Copy> PathTree<A> {
         ensures map { Gives fault_of (λ _. self.new) result (Ok (removed self.old path.now)) }
         ensures unchanged { OnErr result (self.new ≡ self.old) }
     {
-        self.root = self.root_without(path)?;
+        self.root = self.root.removed(self.alloc, path)?;
         Ok(())
     }
 
@@ -172,7 +170,7 @@ impl<A: Allocator + Copy> PathTree<A> {
     ///
     /// `NoSuchPath` where no file stands at or below the source; then `RootNotTree` where a file would be the root; then
     /// `PathTooLong` where a path would have more than 4,095 bytes; then `OutOfMemory`. Each leaves the tree as it was.
-    /// Cost: as for `modify`, and the copy. Source: git-fast-import(1), "filecopy".
+    /// Cost: as for `modify`; what is copied is shared, and its paths are looked at. Source: git-fast-import(1), "filecopy".
     pub fn copy(&mut self, source: &TreePath<A>, destination: &TreePath<A>) -> Result<(), TreeFault>
         ensures map { Gives fault_of (λ _. self.new) result (copied self.old source.now destination.now) }
         ensures unchanged { OnErr result (self.new ≡ self.old) }
@@ -221,11 +219,11 @@ impl<A: Allocator + Copy> PathTree<A> {
         &self,
         source: &TreePath<A>,
         destination: &TreePath<A>,
-    ) -> Result<Directory<A>, TreeFault>
+    ) -> Result<Root<A>, TreeFault>
         ensures files { Gives fault_of (λ root. root) result (copied self.now source.now destination.now) }
         ensures names { IfOk result IsNameMap }
     {
-        let Some(held) = self.held_at(source) else {
+        let Some(held) = self.root.held_at(source) else {
             return Err(TreeFault::NoSuchPath);
         };
         if let Some(fault) = held.refusal(destination) {
@@ -238,66 +236,37 @@ impl<A: Allocator + Copy> PathTree<A> {
         &self,
         source: &TreePath<A>,
         destination: &TreePath<A>,
-    ) -> Result<Directory<A>, TreeFault>
+    ) -> Result<Root<A>, TreeFault>
         ensures files { Gives fault_of (λ root. root) result (renamed self.now source.now destination.now) }
         ensures names { IfOk result IsNameMap }
     {
-        let Some(held) = self.held_at(source) else {
+        let Some(held) = self.root.held_at(source) else {
             return Err(TreeFault::NoSuchPath);
         };
         if let Some(fault) = held.refusal(destination) {
             return Err(fault);
         }
-        let rest = self.root_without(source)?;
+        let rest = self.root.removed(self.alloc, source)?;
         Ok(placed(self.alloc, &rest, &held, destination)?)
-    }
-
-    // What stands at a path.
-    fn held_at(&self, path: &TreePath<A>) -> Option<Held<'_, A>>
-        ensures held { sub_map self.now path.now ≡ map_if (option_held result) }
-        ensures kept { IsKeptAt (option_held result) }
-    {
-        if path.len() == 0 {
-            self.root.order();
-            if self.root.is_empty() {
-                return None;
-            }
-            return Some(Held::Folder(&self.root));
-        }
-        match self.root.item_at(path, 0)? {
-            Item::File(mode, name) => Some(Held::File(*mode, *name)),
-            Item::Folder(below) => Some(Held::Folder(below)),
-        }
-    }
-
-    // The root without what stands at or below a path.
-    fn root_without(&self, path: &TreePath<A>) -> Result<Directory<A>, AllocError>
-        ensures { IfOk result (λ d. d ≡ removed self.now path.now) }
-    {
-        if path.len() == 0 {
-            return Ok(Directory::new(self.alloc));
-        }
-        self.root.removed(self.alloc, path, 0)
     }
 }
 
-// The directory with what is held at a path, in place of what stands there, above it or below it.
+// The root with what is held at a path, in place of what stands there, above it or below it.
 fn placed<A: Allocator + Copy>(
     alloc: A,
-    rest: &Directory<A>,
+    rest: &Root<A>,
     held: &Held<'_, A>,
     path: &TreePath<A>,
-) -> Result<Directory<A>, AllocError>
+) -> Result<Root<A>, AllocError>
     requires kept { IsKept (kept_held held.now) }
     requires checked { graft_fault (kept_held held.now) path.now ≡ None }
     ensures { IfOk result (λ d. d ≡ grafted path.now (kept_map (kept_held held.now)) rest.now) }
 {
     if path.len() > 0 {
-        let item = held.item(alloc)?;
-        return rest.grafted(alloc, path, 0, item);
+        return rest.grafted(alloc, path, held.item()?);
     }
     match held {
-        Held::Folder(below) => below.copied(alloc),
+        Held::Folder(below) => Root::of_shared(below),
         Held::File(_, _) => unreachable!(),
     }
 }

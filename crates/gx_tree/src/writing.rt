@@ -26,7 +26,7 @@ impl<A: Allocator + Copy> Directory<A> {
         let mut entries = Vec::new(alloc);
         for entry in &self.entries {
             let (mode, name) = entry.item.write_into(alloc, store)?;
-            let component = entry.component.as_slice();
+            let component = entry.component();
             let Ok(()) = entries.push(Entry {
                 mode,
                 component,

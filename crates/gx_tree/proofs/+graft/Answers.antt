@@ -1,6 +1,6 @@
-use Rattle.std.proofs.Common.{◌≡◌, ◌+◌, drop, sym, ap, ◌∙◌, arith}
+use Rattle.std.proofs.Common.{◌≡◌, ◌+◌, drop, refl, sym, ap, ◌∙◌, arith}
 use Rattle.std.proofs.lemmas.Bool.{and_parts}
-use Rattle.gx_tree.specs.Nodes.{kept_map}
+use Rattle.gx_tree.specs.Nodes.{kept_map, with_kept}
 use Rattle.gx_tree.specs.Steps.{files_of, grafted}
 use Rattle.gx_tree.specs.Views.{kept, option_kept, seen_all}
 use Rattle.gx_tree.proofs.Below.{no_root_before}
@@ -10,11 +10,11 @@ use Rattle.gx_tree.proofs.+graft.Goals.{edits::item_grafted-in-Some+in_ok-below-
 
 pub directory::Directory::grafted-returns : goal.directory::Directory::grafted-returns
 directory::Directory::grafted-returns g t c =
-    (grafted_step c.args.path.now c.args.depth (seen_all c.self.inside.entries.items) (seen_all c.in_ok-entries.entries.items) (kept c.args.item) (option_kept c.find-old.result) c.requires.within c.requires.kept (and_parts _ _ c.component-component.ensures.path).0 c.self.view_is c.self.invariant c.component-component.ensures.component c.in_ok-component.ensures.items (ap seen_all c.deref.ensures.value) (ap seen_all c.deref-2.ensures.value) c.find-old.ensures c.in_ok-item.ensures c.in_ok-entries.ensures).is
+    (grafted_step c.args.path.now c.args.depth (seen_all c.self.inside.entries.items) (seen_all c.in_ok-entries.entries.items) (kept c.args.item) (option_kept c.find-old.result) c.requires.within c.requires.kept (and_parts _ _ c.component-component.ensures.path).0 c.self.view_is c.self.invariant c.component-component.ensures.component refl (ap seen_all c.deref.ensures.value) (ap seen_all c.deref-2.ensures.value) c.find-old.ensures c.in_ok-item.ensures (c.in_ok-entries.ensures ∙ ap (λ e. with_kept e.0 e.1 (seen_all c.deref-2.result.now)) c.in_ok-new.ensures)).is
 
 pub directory::Directory::grafted-invariant_of-result : goal.directory::Directory::grafted-invariant_of-result
 directory::Directory::grafted-invariant_of-result g t c =
-    (grafted_step c.args.path.now c.args.depth (seen_all c.self.inside.entries.items) (seen_all c.in_ok-entries.entries.items) (kept c.args.item) (option_kept c.find-old.result) c.requires.within c.requires.kept (and_parts _ _ c.component-component.ensures.path).0 c.self.view_is c.self.invariant c.component-component.ensures.component c.in_ok-component.ensures.items (ap seen_all c.deref.ensures.value) (ap seen_all c.deref-2.ensures.value) c.find-old.ensures c.in_ok-item.ensures c.in_ok-entries.ensures).level
+    (grafted_step c.args.path.now c.args.depth (seen_all c.self.inside.entries.items) (seen_all c.in_ok-entries.entries.items) (kept c.args.item) (option_kept c.find-old.result) c.requires.within c.requires.kept (and_parts _ _ c.component-component.ensures.path).0 c.self.view_is c.self.invariant c.component-component.ensures.component refl (ap seen_all c.deref.ensures.value) (ap seen_all c.deref-2.ensures.value) c.find-old.ensures c.in_ok-item.ensures (c.in_ok-entries.ensures ∙ ap (λ e. with_kept e.0 e.1 (seen_all c.deref-2.result.now)) c.in_ok-new.ensures)).level
 
 pub edits::item_grafted-returns : goal.edits::item_grafted-returns
 edits::item_grafted-returns g t c =

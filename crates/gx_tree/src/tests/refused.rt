@@ -139,7 +139,6 @@ const CALLS: &[(Call, &[u8])] = &[
         b"d/e.x:x2 d/e/f:f1 d/l:l3 m:g4 n/m:g5 n/o/f:f1 ",
     ),
     (Call::Rename, b"d/e.x:x2 d/l:l3 m:g4 n/m:g5 n/o/f:f1 "),
-    (Call::Duplicate, MIXED),
     (Call::List, MIXED),
     (Call::Write, MIXED),
 ];
@@ -152,6 +151,11 @@ fn a_refused_growth_leaves_the_files(rt: HostRuntime) -> Result<(), Fail> {
         assert!(rt; refused.unwrap_or(0) > 0, "at {call:?}");
     }
     Ok(())
+}
+
+#[test]
+fn a_duplicate_takes_no_memory(rt: HostRuntime) {
+    assert!(rt; growths_of(rt.alloc(), Call::Duplicate, MIXED) == Some(0));
 }
 
 /// What a load answers, and whether it has the files that were written.

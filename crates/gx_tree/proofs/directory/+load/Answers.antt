@@ -41,7 +41,7 @@ Directory::load-loop-entry-preserved g t c f h =
     let held = entries_held name c.args.store.now.1 c.args.name.now.bytes f c.args.room h in
     let next = loading_more name (IsHeldEntry name c.args.store.now.1 c.args.room) (level_of f) (shown c.in-Some-entry.entry) c.loop-entry.entry-iterator c.next.new.self (seen_all c.loop-entry.entries.items) held c.in-Some-entry.ensures.steps (c.loop-entry.invariant f h) in
     let item = c.in_ok-item.ensures next.kept next.fits next.leaf in
-    rw (c.in_ok-push.ensures.items, map-append views.seen c.loop-entry.entries.items) (next.more _ (λ i. (c.in_ok-component.ensures.items i, item i)))
+    rw (c.in_ok-push.ensures.items, map-append views.seen c.loop-entry.entries.items) (next.more _ (c.in_ok-new.ensures ∙ ap (λ k. (c.in-Some-entry.entry.component.now, k)) item))
 
 pub Directory::load-invariant_of-result : goal.Directory::load-invariant_of-result
 Directory::load-invariant_of-result g t c =

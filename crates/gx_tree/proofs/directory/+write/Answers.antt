@@ -28,8 +28,8 @@ Directory::write_into-loop-entry-preserved g t c =
     let k = kept c.entry-item.result.item in
     let leaf : (c.in_ok-mode.mode, c.in_ok-mode.name.bytes) ≡ kept_leaf name k = c.in_ok-mode.ensures.leaf ∙ ap (λ n. kept_leaf (g.N.Namer.name_of n) k) c.loop-entry.invariant.0 in (
       c.write_into.ensures.namer ∙ c.loop-entry.invariant.0,
-      writing_more name c.deref-entry-items.result.now c.loop-entry.entry-index c.entry-item.result (record { mode = c.in_ok-mode.mode; component = c.as_slice-component.result.now; name = c.in_ok-mode.name.bytes }) (map shown c.loop-entry.entries.items) (map shown c.push.new.self.items) c.args.store.now.1 c.loop-entry.store.1 c.write_into.new.store.1 c.loop-entry-test.true c.entry-item.is
-          (λ i. record { mode = (leaf i).0; component = c.as_slice-component.ensures.value i; name = (leaf i).1 })
+      writing_more name c.deref-entry-items.result.now c.loop-entry.entry-index c.entry-item.result (record { mode = c.in_ok-mode.mode; component = c.component-component.result.now; name = c.in_ok-mode.name.bytes }) (map shown c.loop-entry.entries.items) (map shown c.push.new.self.items) c.args.store.now.1 c.loop-entry.store.1 c.write_into.new.store.1 c.loop-entry-test.true c.entry-item.is
+          (λ i. record { mode = (leaf i).0; component = c.component-component.ensures i; name = (leaf i).1 })
           (ap (map shown) c.in-Ok.ensures.items ∙ map-append shown c.loop-entry.entries.items _)
           (subst (λ n. put_all c.loop-entry.store.1 (kept_records (g.N.Namer.name_of n) k) ≡ Some c.write_into.new.store.1) c.loop-entry.invariant.0 c.in_ok-mode.ensures.puts) c.write_into.ensures.front c.loop-entry.invariant.1,
     )

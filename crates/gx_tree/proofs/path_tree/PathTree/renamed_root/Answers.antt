@@ -1,6 +1,7 @@
 use Rattle.std.proofs.Common.{◌≡◌, Ok, sym, ap, ◌∙◌, subst}
 use Rattle.gx_model.specs.Edits.{renamed, removed, unless}
 use Rattle.gx_model.specs.Faults.{IsFaultOf}
+use Rattle.gx_model.specs.Files.{sub_map}
 use Rattle.gx_tree.specs.Copies.{kept_held}
 use Rattle.gx_tree.specs.Faults.{fault_of}
 use Rattle.gx_model.specs.NameMaps.{IsNameMap}
@@ -11,29 +12,32 @@ use Rattle.gx_tree.proofs.NamedFiles.{names-renamed}
 use Rattle.gx_tree.proofs.path_tree.PathTree.renamed_root.Goals as goal
 
 pub returns-in_default-clause-files : goal.returns-in_default-clause-files
-returns-in_default-clause-files g c = renamed_none c.args.self.now c.args.source.now c.args.destination.now c.in_default.ensures.held
+returns-in_default-clause-files g c = renamed_none c.args.self.now c.args.source.now c.args.destination.now (ap (λ f. sub_map f c.args.source.now) (sym c.self.view_is) ∙ c.in_default.ensures.held)
 
 pub returns-in-Some-refusal-clause-files : goal.returns-in-Some-refusal-clause-files
 returns-in-Some-refusal-clause-files g c =
     let k = kept_held c.in-Some.held in
-    subst (IsFaultOf (fault_of c.in-Some-refusal.fault)) (sym (renamed_is c.args.self.now c.args.source.now c.args.destination.now k c.in-Some.ensures.held c.in-Some.ensures.kept))
+    let held : sub_map c.args.self.now c.args.source.now ≡ kept_map k = ap (λ f. sub_map f c.args.source.now) (sym c.self.view_is) ∙ c.in-Some.ensures.held in
+    subst (IsFaultOf (fault_of c.in-Some-refusal.fault)) (sym (renamed_is c.args.self.now c.args.source.now c.args.destination.now k held c.in-Some.ensures.kept))
     (refused_by _ c.in-Some-refusal.fault (grafted c.args.destination.now (kept_map k) (removed c.args.self.now c.args.source.now)) c.in-Some-refusal.ensures.fault)
 
 pub returns-clause-files : goal.returns-clause-files
 returns-clause-files g c =
     let k = kept_held c.in-Some.held in
-    let is : c.in_ok-placed.field-0 ≡ grafted c.args.destination.now (kept_map k) (removed c.args.self.now c.args.source.now) = c.in_ok-placed.ensures ∙ ap (grafted c.args.destination.now (kept_map (kept_held c.in-Some.held))) c.in_ok-rest.ensures in
-    renamed_is c.args.self.now c.args.source.now c.args.destination.now k c.in-Some.ensures.held c.in-Some.ensures.kept
+    let held : sub_map c.args.self.now c.args.source.now ≡ kept_map k = ap (λ f. sub_map f c.args.source.now) (sym c.self.view_is) ∙ c.in-Some.ensures.held in
+    let is : c.in_ok-placed.field-0 ≡ grafted c.args.destination.now (kept_map k) (removed c.args.self.now c.args.source.now) = c.in_ok-placed.ensures ∙ ap (grafted c.args.destination.now (kept_map k)) (c.in_ok-rest.ensures ∙ ap (λ f. removed f c.args.source.now) c.self.view_is) in
+    renamed_is c.args.self.now c.args.source.now c.args.destination.now k held c.in-Some.ensures.kept
     ∙ ap (λ o. unless o (grafted c.args.destination.now (kept_map k) (removed c.args.self.now c.args.source.now))) (sym c.in_default-refusal.ensures.fault) ∙ ap Ok (sym is)
 
 pub returns-clause-names : goal.returns-clause-names
 returns-clause-names g c =
     let k = kept_held c.in-Some.held in
-    let is : c.in_ok-placed.field-0 ≡ grafted c.args.destination.now (kept_map k) (removed c.args.self.now c.args.source.now) = c.in_ok-placed.ensures ∙ ap (grafted c.args.destination.now (kept_map (kept_held c.in-Some.held))) c.in_ok-rest.ensures in
+    let held : sub_map c.args.self.now c.args.source.now ≡ kept_map k = ap (λ f. sub_map f c.args.source.now) (sym c.self.view_is) ∙ c.in-Some.ensures.held in
+    let is : c.in_ok-placed.field-0 ≡ grafted c.args.destination.now (kept_map k) (removed c.args.self.now c.args.source.now) = c.in_ok-placed.ensures ∙ ap (grafted c.args.destination.now (kept_map k)) (c.in_ok-rest.ensures ∙ ap (λ f. removed f c.args.source.now) c.self.view_is) in
     let whole : renamed c.args.self.now c.args.source.now c.args.destination.now ≡ Ok c.in_ok-placed.field-0 =
-    renamed_is c.args.self.now c.args.source.now c.args.destination.now k c.in-Some.ensures.held c.in-Some.ensures.kept
+    renamed_is c.args.self.now c.args.source.now c.args.destination.now k held c.in-Some.ensures.kept
     ∙ ap (λ o. unless o (grafted c.args.destination.now (kept_map k) (removed c.args.self.now c.args.source.now))) (sym c.in_default-refusal.ensures.fault) ∙ ap Ok (sym is) in
-    names-renamed c.args.self.now (kept_map k) c.in_ok-placed.field-0 c.args.source.now c.args.destination.now c.refusal.ensures.path c.in-Some.ensures.held is whole (subst IsNameMap c.self.view_is c.self.invariant)
+    names-renamed c.args.self.now (kept_map k) c.in_ok-placed.field-0 c.args.source.now c.args.destination.now c.refusal.ensures.path held is whole (subst IsNameMap c.self.view_is c.self.invariant)
 
 pub placed-requires-clause-kept : goal.placed-requires-clause-kept
 placed-requires-clause-kept g c = c.in-Some.ensures.kept

@@ -1,6 +1,0 @@
-use Rattle.std.proofs.Common.{sym, ◌∙◌, arith}
-use Rattle.gx_tree.proofs.EditSteps.{removed_root}
-use Rattle.gx_tree.proofs.path_tree.PathTree.root_without.Goals as goal
-
-pub returns-then-len-eq0 : goal.returns-then-len-eq0
-returns-then-len-eq0 g c = c.new.ensures ∙ sym (removed_root c.args.path.now c.args.self.now (omega arith))

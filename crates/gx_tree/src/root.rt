@@ -1,0 +1,180 @@
+//! The root of a tree: a shared directory, and none where there are no files.
+ghost use Rattle.std.specs.Prelude.{◌≡◌, ◌≢◌, ◌<◌, ◌++◌, [], IfOk, IsTrue, OnOk, length, map, take};
+ghost use Rattle.std.specs.List.{list_all};
+ghost use Rattle.std.specs.Option.{option_map};
+ghost use Rattle.gx_model.specs.Edits.{removed};
+ghost use Rattle.gx_model.specs.Files.{sub_map};
+ghost use Rattle.gx_model.specs.Growth.{tree_records};
+ghost use Rattle.gx_model.specs.Paths.{is_short};
+ghost use Rattle.gx_tree.specs.Copies.{option_held};
+ghost use Rattle.gx_tree.specs.Lists.{listed};
+ghost use Rattle.gx_tree.specs.Nodes.{IsKept, IsKeptAt, kept_map, map_if};
+ghost use Rattle.gx_tree.specs.Standings.{standing_of, standing_at};
+ghost use Rattle.gx_tree.specs.Steps.{grafted};
+ghost use Rattle.gx_tree.specs.Views.{kept};
+ghost use Rattle.gx_tree.specs.Writes.{PutsAll, map_name};
+
+use crate::copying::Held;
+use crate::directory::{Directory, Item};
+use crate::fault::TreeFault;
+use crate::path_tree::Found;
+use gx_object::{Mode, Name, Namer};
+use gx_store::Store;
+use gx_text::TreePath;
+use std::alloc::{AllocError, Allocator};
+use std::marker::Model;
+use std::rc::Rc;
+
+/// The files of a tree, by a directory that other trees may have too.
+#[derive(Drop)]
+pub(crate) struct Root<A: Allocator> {
+    node: Option<Rc<Directory<A>, A>>,
+}
+
+impl<A: Allocator> Model for Root<A> {
+    ghost use Rattle.std.specs.Prelude.{List, ℕ};
+    ghost use Rattle.gx_model.specs.declared.objects.Mode.{Mode};
+
+    ghost Value = { List (List (List ℕ) × (Mode × List ℕ)) };
+
+    ghost use Rattle.gx_tree.specs.Views.{root_files, IsRoot};
+
+    ghost view = { λ a. root_files a.node };
+
+    ghost invariant = { λ a. IsRoot a.node };
+}
+
+impl<A: Allocator + Copy> Root<A> {
+    /// That of no files.
+    pub(crate) fn none() -> Root<A>
+        ensures { result ≡ [] }
+    {
+        Root { node: None }
+    }
+
+    /// That of a directory's files.
+    pub(crate) fn of(alloc: A, directory: Directory<A>) -> Result<Root<A>, AllocError>
+        ensures { IfOk result (λ root. root ≡ directory) }
+    {
+        if directory.is_empty() {
+            return Ok(Root::none());
+        }
+        Ok(Root {
+            node: Some(Rc::new(alloc, directory)?),
+        })
+    }
+
+    /// That of a shared directory's files.
+    pub(crate) fn of_shared(node: &Rc<Directory<A>, A>) -> Result<Root<A>, AllocError>
+        requires { node.now.value ≢ [] }
+        ensures { IfOk result (λ root. root ≡ node.now.value) }
+    {
+        Ok(Root {
+            node: Some(node.clone()?),
+        })
+    }
+
+    /// The same once more.
+    pub(crate) fn shared(&self) -> Result<Root<A>, AllocError>
+        ensures { IfOk result (λ root. root ≡ self.now) }
+    {
+        match &self.node {
+            Some(node) => Ok(Root {
+                node: Some(node.clone()?),
+            }),
+            None => Ok(Root::none()),
+        }
+    }
+
+    /// What stands at a path.
+    pub(crate) fn entry(&self, path: &TreePath<A>) -> Option<Found>
+        ensures { option_map standing_of result ≡ standing_at self.now path.now }
+    {
+        match &self.node {
+            Some(node) => node.entry(path, 0),
+            None if path.len() == 0 => Some(Found::Directory),
+            None => None,
+        }
+    }
+
+    /// What stands at a path, to be put at another.
+    pub(crate) fn held_at(&self, path: &TreePath<A>) -> Option<Held<'_, A>>
+        ensures held { sub_map self.now path.now ≡ map_if (option_held result) }
+        ensures kept { IsKeptAt (option_held result) }
+    {
+        let Some(node) = &self.node else {
+            return None;
+        };
+        if path.len() == 0 {
+            node.order();
+            return Some(Held::Folder(node));
+        }
+        match node.item_at(path, 0)? {
+            Item::File(mode, name) => Some(Held::File(*mode, *name)),
+            Item::Folder(below) => Some(Held::Folder(below)),
+        }
+    }
+
+    /// That with an item at a path, in place of what stands there, above it or below it.
+    pub(crate) fn grafted(
+        &self,
+        alloc: A,
+        path: &TreePath<A>,
+        item: Item<A>,
+    ) -> Result<Root<A>, AllocError>
+        requires within { 0 < length path.now }
+        requires kept { IsKept (kept item) }
+        ensures { IfOk result (λ root. root ≡ grafted path.now (kept_map (kept item)) self.now) }
+    {
+        let directory = match &self.node {
+            Some(node) => node.grafted(alloc, path, 0, item)?,
+            None => Directory::new(alloc).grafted(alloc, path, 0, item)?,
+        };
+        Root::of(alloc, directory)
+    }
+
+    /// That without what stands at or below a path.
+    pub(crate) fn removed(&self, alloc: A, path: &TreePath<A>) -> Result<Root<A>, AllocError>
+        ensures { IfOk result (λ root. root ≡ removed self.now path.now) }
+    {
+        let Some(node) = &self.node else {
+            return Ok(Root::none());
+        };
+        if path.len() == 0 {
+            return Ok(Root::none());
+        }
+        Root::of(alloc, node.removed(alloc, path, 0)?)
+    }
+
+    /// Appends the files, each by its path.
+    pub(crate) fn list_into(
+        &self,
+        alloc: A,
+        out: &mut Vec<(TreePath<A>, Mode, Name), A>,
+    ) -> Result<(), AllocError>
+        requires { IsTrue (list_all (λ e. is_short e.0) self.now) }
+        ensures { OnOk result (map listed out.new.items ≡ map listed out.old.items ++ self.now) }
+    {
+        match &self.node {
+            Some(node) => node.list_into(alloc, &TreePath::root(alloc), out),
+            None => Ok(()),
+        }
+    }
+
+    /// Puts the trees of the directories, and answers the name of the whole.
+    pub(crate) fn write_into<N: Namer>(
+        &self,
+        alloc: A,
+        store: &mut Store<N, A>,
+    ) -> Result<Name, TreeFault>
+        ensures namer { store.new.0 ≡ store.old.0 }
+        ensures name { IfOk result (λ name. name.bytes ≡ map_name (N.name_of store.old.0) self.now) }
+        ensures puts { PutsAll (tree_records (N.name_of store.old.0) self.now) store.old.1 store.new.1 result }
+        ensures front { take (length store.old.1) store.new.1 ≡ store.old.1 }
+    {
+        match &self.node {
+            Some(node) => node.write_into(alloc, store),
+            None => Directory::new(alloc).write_into(alloc, store),
+        }
+    }
+}

@@ -1,0 +1,76 @@
+//! Finding a component among a directory's entries, by halves.
+ghost use Rattle.std.specs.Prelude.{◌≡◌, ◌≤◌, ◌++◌, true, false, length};
+ghost use Rattle.std.specs.Cmp.Lexicographic.{slice_cmp};
+ghost use Rattle.std.specs.List.Sorted.{IsPartitionPoint};
+ghost use Rattle.std.specs.Ordering.{nat_cmp};
+ghost use Rattle.gx_tree.specs.Nodes.{IsLevel, kept_at, key, precedes};
+ghost use Rattle.gx_tree.specs.Searches.{Finds};
+ghost use Rattle.gx_tree.specs.Views.{option_kept, seen, seen_all};
+
+use crate::directory::{Entry, Item};
+use std::alloc::Allocator;
+use std::cmp::Ordering;
+
+/// What stands at a component.
+pub(crate) fn find<'a, A: Allocator + Copy>(
+    entries: &'a [Entry<A>],
+    component: &[u8],
+) -> Option<&'a Item<A>>
+    requires { IsLevel (seen_all entries.now) }
+    ensures { kept_at component.now (seen_all entries.now) ≡ option_kept result }
+{
+    match find_marked(entries, component, b"") {
+        Some(file) => Some(file),
+        None => find_marked(entries, component, b"/"),
+    }
+}
+
+// What stands at a component, if this follows it in the order.
+fn find_marked<'a, A: Allocator + Copy>(
+    entries: &'a [Entry<A>],
+    component: &[u8],
+    mark: &[u8],
+) -> Option<&'a Item<A>>
+    requires { IsLevel (seen_all entries.now) }
+    ensures { Finds component.now mark.now (seen_all entries.now) (option_kept result) }
+{
+    let place = place_of(entries, component, mark);
+    if place == 0 {
+        return None;
+    }
+    let last = &entries[place - 1];
+    if last.component() == component {
+        return Some(&last.item);
+    }
+    None
+}
+
+/// How many entries don't come after a component with what follows it in the order.
+pub(crate) fn place_of<A: Allocator + Copy>(
+    entries: &[Entry<A>],
+    component: &[u8],
+    mark: &[u8],
+) -> usize
+    requires { IsLevel (seen_all entries.now) }
+    ensures within { result ≤ length entries.now }
+    ensures place { IsPartitionPoint (λ e. precedes (component.now ++ mark.now) (seen e) ≡ false) (λ e. precedes (component.now ++ mark.now) (seen e) ≡ true) entries.now result }
+{
+    entries.partition_point(|entry| !entry.is_after(component, mark))
+}
+
+impl<A: Allocator + Copy> Entry<A> {
+    // Whether it comes after a component with what follows it in the order.
+    fn is_after(&self, component: &[u8], mark: &[u8]) -> bool
+        ensures { result ≡ precedes (component.now ++ mark.now) (seen self.now) }
+    {
+        compare_texts(component, mark, self.component(), self.mark()).is_lt()
+    }
+}
+
+// The order of two components with what follows them.
+fn compare_texts(first: &[u8], first_mark: &[u8], second: &[u8], second_mark: &[u8]) -> Ordering
+    ensures { result ≡ slice_cmp nat_cmp (first.now ++ first_mark.now) (second.now ++ second_mark.now) }
+{
+    let text = first.iter().chain(first_mark.iter());
+    text.cmp(second.iter().chain(second_mark.iter()))
+}

@@ -1,14 +1,17 @@
 -- The import of an export into an empty store.
-use Rattle.std.proofs.Common.{◌≡◌, ◌∙◌, sym, inl, inr, Option, Some, None, Ok, Err}
+use Rattle.std.proofs.Common.{◌≡◌, ◌∙◌, sym, subst, inl, inr, Option, Some, None, Ok, Err}
 use Rattle.gx_model.specs.declared.objects.Kind.{Kind}
 use Rattle.gx_model.specs.Texts.{Bytes}
 use Rattle.gx_model.specs.Histories.{Records}
-use Rattle.gx_model.specs.StoreReading.{Stored}
-use Rattle.gx_text.specs.Devices.{Coming}
-use Rattle.gx_import.specs.Exported.{ImportsExport}
+use Rattle.gx_model.specs.Sound.{IsSound}
+use Rattle.gx_model.specs.StoreReading.{Stored, store_of}
+use Rattle.gx_text.specs.Devices.{Coming, Taken}
+use Rattle.gx_import.specs.Exported.{ImportsExport, KeepsNoNullGitlink}
+use Rattle.gx_import.specs.Imports.{Imports}
+use Rattle.gx_import.specs.declared.report.Report.{Report}
 use Rattle.gx_import.specs.declared.fault.ImportFault.{ImportFault}
 use Rattle.gx_cli.specs.Again.{ImportsAgain}
-use Rattle.gx_cli.specs.Serving.{IsRefused}
+use Rattle.gx_cli.specs.Serving.{ImportsInto, IsRefused, IsWritten}
 use Rattle.gx_cli.specs.declared.fault.CliFault.TheVariants.{Import}
 use Rattle.gx_cli.specs.declared.serving.Outcome.{Outcome}
 
@@ -18,3 +21,22 @@ pub refused_again : (name : Kind → Bytes → Bytes) {A : Type 0} (stored : Sto
 refused_again name stored old new None fault outcome read h k = tt
 refused_again name stored old new (Some coming) fault outcome read h k =
     λ exported is paths links gives empty. inl (inr (fault, h exported is paths links gives (cc (sym read ∙ empty)), k))
+
+-- an accepted import into the store that was read: the new repository was written
+module _ {N A : Type 0} (name_of : N → Kind → Bytes → Bytes) (namer : N) (old new : N × Records) (store : Bytes) (report : Report) (outcome : Outcome A) (same : old.0 ≡ namer) (kept : new.0 ≡ old.0)
+    (read : store_of (name_of namer) store ≡ Ok old.1) (sound : IsSound (name_of new.0) new.1) (written : IsWritten (name_of new.0) new.1 outcome) where
+  sound_still : IsSound (name_of namer) new.1
+  sound_still = subst (λ n. IsSound (name_of n) new.1) (kept ∙ same) sound
+
+  written_still : IsWritten (name_of namer) new.1 outcome
+  written_still = subst (λ n. IsWritten (name_of n) new.1 outcome) (kept ∙ same) written
+
+  pub imported_into : (coming : Option Coming) (was now : Option Taken) → Imports (name_of old.0) old.1 new.1 coming was now (Ok report) → KeepsNoNullGitlink old.1 new.1 → ImportsInto (name_of namer) (store_of (name_of namer) store) coming was now outcome
+  imported_into coming was now replayed keeps =
+      subst (λ stored. ImportsInto (name_of namer) stored coming was now outcome) (sym read)
+      (inr (new.1, Ok report, subst (λ n. Imports (name_of n) old.1 new.1 coming was now (Ok report)) same replayed, keeps, (sound_still, written_still)))
+
+  pub accepted_again : (coming : Option Coming) → ImportsExport (name_of old.0) old.1 new.1 coming (Ok report) → ImportsAgain (name_of namer) (store_of (name_of namer) store) coming outcome
+  accepted_again None h = tt
+  accepted_again (Some coming) h = λ exported is paths links gives empty.
+      inr (new.1, subst (λ n. ImportsExport (name_of n) old.1 new.1 (Some coming) (Ok report)) same h exported is paths links gives (cc (sym read ∙ empty)), sound_still, written_still)

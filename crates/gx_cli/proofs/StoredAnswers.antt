@@ -77,5 +77,5 @@ line_silent name_of namer repository store given was same read is =
     line_printed name_of namer repository store given given was was (Ok tt) same read refl (subst (λ text. Prints text was was (Ok tt)) (silent (name_of repository.0) given repository.1 is) printed)
 
 -- what is written of a new repository
-pub written_new : {N A : Type 0} (repository : N × Records) (namer : N) (outcome : Outcome A) → repository ≡ (namer, nothing) → IsWritten repository.1 outcome → IsWritten nothing outcome
-written_new {N} repository namer outcome same h = subst (λ (r : N × Records). IsWritten r.1 outcome) same h
+pub written_new : {N A : Type 0} (name_of : N → Kind → Bytes → Bytes) (repository : N × Records) (namer : N) (outcome : Outcome A) → repository ≡ (namer, nothing) → IsWritten (name_of repository.0) repository.1 outcome → IsWritten (name_of namer) nothing outcome
+written_new {N} name_of repository namer outcome same h = subst (λ (r : N × Records). IsWritten (name_of r.0) r.1 outcome) same h

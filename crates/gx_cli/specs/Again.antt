@@ -28,7 +28,7 @@ IsInterrupted o =
 module _ (name : Kind → Bytes → Bytes) {A : Type 0} where
   -- the next store text is that of a repository that is exported as this one is, unless memory ran out or the sink failed
   abbrev pub IsAgainOr : Records → Outcome A → Type 0
-  IsAgainOr exported o = IsInterrupted o ⊎ ((new : Records) × IsExported exported new × IsSound name new × IsWritten new o)
+  IsAgainOr exported o = IsInterrupted o ⊎ ((new : Records) × IsExported exported new × IsSound name new × IsWritten name new o)
 
   -- The import of a sound repository's export into an empty store makes that repository again, as far as its refs reach. A
   -- gitlink of forty zeros is left out, which no import takes and none brings.

@@ -50,10 +50,10 @@ IsOutcome (Err f) o = (o.status ≡ 1) × (o.fault ≡ Some f) × (o.store ≡ N
 abbrev pub IsRefused : {A : Type 0} → CliFault → Outcome A → Type 0
 IsRefused fault o = (o.status ≡ 1) × (o.fault ≡ Some fault) × (o.store ≡ None)
 
--- the next store text is that of this repository, unless memory ran out
-abbrev pub IsWritten : {A : Type 0} → Records → Outcome A → Type 0
-IsWritten {A} repository o =
-    ((o.status ≡ 0) × (o.fault ≡ None) × ((text : Vec ℕ A) × (o.store ≡ Some text) × (text.items ≡ store_text repository)))
+-- the next store text is that of this repository, and is read as this repository, unless memory ran out
+abbrev pub IsWritten : {A : Type 0} → (Kind → Bytes → Bytes) → Records → Outcome A → Type 0
+IsWritten {A} name repository o =
+    ((o.status ≡ 0) × (o.fault ≡ None) × ((text : Vec ℕ A) × (o.store ≡ Some text) × (text.items ≡ store_text repository) × (store_of name text.items ≡ Ok repository)))
     ⊎ IsRefused OutOfMemory o
 
 -- the export of the store of a text, which is read first
@@ -75,7 +75,7 @@ printed_by name _ r = Ok []
 module _ (name : Kind → Bytes → Bytes) {A : Type 0} where
   -- after an import the next store text is that of the new repository, which is sound; a refused one gives none
   abbrev pub IsImported : Records → Result Report ImportFault → Outcome A → Type 0
-  IsImported new (Ok report) o = IsSound name new × IsWritten new o
+  IsImported new (Ok report) o = IsSound name new × IsWritten name new o
   IsImported new (Err fault) o = IsRefused (Import fault) o
 
   -- The import of a stream into the store of a text, which is read first. It brings no gitlink of forty zeros.
@@ -93,7 +93,7 @@ module _ (name : Kind → Bytes → Bytes) {A : Type 0} where
   abbrev pub Serves : Line → Bytes → Option Coming → Option Taken → Option Taken → Outcome A → Type 0
   Serves line.Blobs store coming was now o = (answer : Result ℕ BlobsFault) × PrintsBlobs name (option_map items_from coming) was now answer × IsOutcome (blobs_answer answer) o
   Serves (line.Try word) store coming was now o = (answer : Result (Unit {0}) CliFault) × Tries name coming word.now was now answer × IsOutcome answer o
-  Serves (line.Init file) store coming was now o = IsWritten nothing o × (now ≡ was)
+  Serves (line.Init file) store coming was now o = IsWritten name nothing o × (now ≡ was)
   Serves (line.Import file) store coming was now o = ImportsInto (store_of name store) coming was now o
   Serves (line.Export file) store coming was now o = ExportsStored (store_of name store) was now o
   Serves printing store coming was now o = PrintsStored (store_of name store) (printed_by name printing) was now o

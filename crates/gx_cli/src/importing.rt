@@ -20,7 +20,7 @@ pub(crate) fn init<N: Namer + Drop, A: Allocator + Copy>(
     namer: N,
     state: RandomState,
 ) -> Outcome<A>
-    ensures { IsWritten nothing result }
+    ensures { IsWritten (N.name_of namer) nothing result }
 {
     let repo = Repo::new(alloc, namer, state);
     written(alloc, &repo)
@@ -55,7 +55,7 @@ pub(crate) fn import_into<N: Namer + Drop, R: Source + Drop, W: Sink, A: Allocat
 
 /// The text of a repository as the store's next one.
 fn written<N: Namer, A: Allocator + Copy>(alloc: A, repo: &Repo<N, A>) -> Outcome<A>
-    ensures { IsWritten repo.now.1 result }
+    ensures { IsWritten (N.name_of repo.now.0) repo.now.1 result }
 {
     match gx_file::write(alloc, repo) {
         Ok(text) => Outcome {

@@ -1,7 +1,7 @@
 use Rattle.std.proofs.Common.{subst, Err}
 use Rattle.gx_model.specs.StoreReading.{store_of}
 use Rattle.gx_import.specs.Exported.{ImportsExport}
-use Rattle.gx_cli.proofs.ExportedStores.{refused_again}
+use Rattle.gx_cli.proofs.ExportedStores.{accepted_again, imported_into, refused_again}
 use Rattle.gx_cli.proofs.importing.import_into.Goals as goal
 
 pub returns-clause-again : goal.returns-clause-again
@@ -13,3 +13,13 @@ returns-clause-again g c =
     let fault = c.in-Err-import.fault in
     let imported = subst (λ namer. ImportsExport (g.N.Namer.name_of namer) old.1 new coming (Err fault)) c.in-Ok.ensures.namer c.in-Err-import.ensures.exported in
     refused_again name (store_of name c.args.store.now) old.1 new coming fault c.refused-in-Err-import.result c.in-Ok.ensures.store imported c.refused-in-Err-import.ensures
+
+pub returns-in-Ok-import-clause-imported : goal.returns-in-Ok-import-clause-imported
+returns-in-Ok-import-clause-imported g c =
+    imported_into g.N.Namer.name_of c.args.namer c.in-Ok.repo c.import.new.repo c.args.store.now c.in-Ok-import.field-0 c.written.result c.in-Ok.ensures.namer c.import.ensures.namer c.in-Ok.ensures.store c.sound.ensures c.written.ensures
+    (g.R.Source.coming c.args.source) (g.W.Sink.taken c.args.sink.now) (g.W.Sink.taken c.import.new.sink) c.in-Ok-import.ensures.replayed c.import.ensures.gitlinks
+
+pub returns-in-Ok-import-clause-again : goal.returns-in-Ok-import-clause-again
+returns-in-Ok-import-clause-again g c =
+    accepted_again g.N.Namer.name_of c.args.namer c.in-Ok.repo c.import.new.repo c.args.store.now c.in-Ok-import.field-0 c.written.result c.in-Ok.ensures.namer c.import.ensures.namer c.in-Ok.ensures.store c.sound.ensures c.written.ensures
+    (g.R.Source.coming c.args.source) c.in-Ok-import.ensures.exported

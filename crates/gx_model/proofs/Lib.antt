@@ -71,3 +71,9 @@ pub mod Bases
 pub mod PeeledRefs
 pub mod FilesByName
 pub mod ChangedRefs
+pub mod WordShapes
+pub mod TextShapes
+pub mod PathShapes
+pub mod PartShapes
+pub mod ChangeShapes
+pub mod CommandReadings

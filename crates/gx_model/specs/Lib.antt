@@ -45,3 +45,6 @@ pub mod ImportRows
 pub mod RevisionRows
 pub mod ExportRows
 pub mod StoreRows
+pub mod LineShapes
+pub mod CommandShapes
+pub mod CommandLaws

@@ -8,9 +8,9 @@ use Rattle.gx_model.specs.Faults.{Given, ◌>>=◌}
 use Rattle.gx_model.specs.Paths.{Path}
 use Rattle.gx_model.specs.Items.{Item, Line, Data, End, Finished, Failed}
 use Rattle.gx_model.specs.Commands.{CommitIsh, DataRef, Mark, Object, Inline, Change, Modify, Remove, Copy, Rename, Clear}
-use Rattle.gx_model.specs.Grammar.{Read, Where, AtMark, AtName, AtBlock, words_of, suits, bytes_from, modify_at, change_at, changes_within, changes, merges_within, merges, optional, commit_ish_of}
+use Rattle.gx_model.specs.Grammar.{Read, Where, AtMark, AtName, AtBlock, words_of, mode_of, where_of, suits, bytes_from, modify_at, change_at, changes_within, changes, merges_within, merges, optional, commit_ish_of}
 use Rattle.gx_model.specs.LineShapes.{line_of, IsOf, BeginsPart, IsCommitIshText, IsModeText, IsDataRefText, IsLastPath, AreTwoPaths}
-use Rattle.gx_model.specs.CommandShapes.{Taken, Optional, Block, Repeated, no_more, one_more, next_fault, later_fault, Content, content_of_mark, content_of_name, content_of_block, no_content, Unfit, mark_of_gitlink, block_of_gitlink, IsModify, modify, bad_mode, no_dataref, bad_dataref, unfit_dataref, no_path, bad_path, no_block, IsChange, modified, modify_fault, removed, remove_fault, copied, copy_fault, renamed, rename_fault, cleared, clear_of_text, change_without_text, note, no_change_at_line, no_change_at_block, no_change_at_end, change_failure}
+use Rattle.gx_model.specs.CommandShapes.{Taken, Optional, Block, Repeated, no_more, one_more, next_fault, later_fault, Content, content_of_mark, content_of_name, content_of_block, no_content, Unfit, mark_of_gitlink, block_of_gitlink, BeginsModify, IsModify, modify, bad_mode, no_dataref, bad_dataref, unfit_dataref, no_path, bad_path, no_block, made, refused, of_text, text_fault, IsChange, modified, removed, copied, renamed, cleared, clear_of_text, change_without_text, note, no_change_at_line, no_change_at_block, no_change_at_end, change_failure}
 use Rattle.gx_model.proofs.WordShapes.{part_read, part_there, other_word, is_of}
 use Rattle.gx_model.proofs.TextShapes.{mode_shape, mode_there, dataref_shape, dataref_there, commit_ish_shape}
 use Rattle.gx_model.proofs.PathShapes.{last_shape, last_there, two_shape, two_there}
@@ -59,49 +59,66 @@ fit m at n = by (fits m at) where
 
 -- ---- a modify
 
-modify_shape : (end : End) (text : Bytes) (is : List Item) (out : Taken Change) → IsModify end text is out → modify_at text (stream end is) ≡ as_read end out
+-- what a mode and a dataref at the front are read as
+record FrontRead (text : Bytes) (m : Mode) (at : Where) (path : Option Bytes) (h : BeginsModify text m at path) : Type 0 where
+  pub mode_first : words_of text ≡ record { word = h.mode; rest = Some h.more }
+  pub mode : mode_of h.mode ≡ Ok m
+  pub dataref_next : words_of h.more ≡ record { word = h.dataref; rest = path }
+  pub dataref : where_of h.dataref ≡ Ok at
+
+front_read : (text : Bytes) (m : Mode) (at : Where) (path : Option Bytes) (h : BeginsModify text m at path) → FrontRead text m at path h
+front_read text m at path h = record {
+  mode_first = part_read text h.mode (Some h.more) h.mode_first;
+  mode = mode_shape h.mode (Ok m) h.mode_is;
+  dataref_next = part_read h.more h.dataref path h.dataref_next;
+  dataref = dataref_shape h.dataref (Ok at) h.dataref_is;
+}
+
+modify_shape : (end : End) (text : Bytes) (is : List Item) (out : Taken Change) → IsModify text end is out → modify_at text (stream end is) ≡ as_read end out
 unfolding modify_at
-modify_shape end text is out (modify {mode = mode} {more = more} {dataref = dataref} {path = path} {m = m} {at = at} {p = p} {content = content} {rest = rest} a b c d e f g) =
-    rw (part_read text mode (Some more) a, mode_shape mode (Ok m) b, part_read more dataref (Some path) c, dataref_shape dataref (Ok at) d, fit m at e, last_shape path (Ok p) f, content_shape end at is (Ok (content, rest)) g) refl
+modify_shape end text is out (modify {path = path} {m = m} {at = at} {p = p} {content = content} {rest = rest} a e f g) =
+    let r = front_read text m at (Some path) a in
+    rw (r.mode_first, r.mode, r.dataref_next, r.dataref, fit m at e, last_shape path (Ok p) f, content_shape end at is (Ok (content, rest)) g) refl
 modify_shape end text is out (bad_mode {mode = mode} {f = f} after a b) = rw (part_read text mode after a, mode_shape mode (Err f) b) refl
 modify_shape end text is out (no_dataref {m = m} a b) = rw (part_read text text None a, mode_shape text (Ok m) b) refl
 modify_shape end text is out (bad_dataref {mode = mode} {dataref = dataref} {m = m} {f = f} more after a b c d) =
     rw (part_read text mode (Some more) a, mode_shape mode (Ok m) b, part_read more dataref after c, dataref_shape dataref (Err f) d) refl
-modify_shape end text is out (unfit_dataref {mode = mode} {dataref = dataref} {m = m} {at = at} more after a b c d e) =
-    rw (part_read text mode (Some more) a, mode_shape mode (Ok m) b, part_read more dataref after c, dataref_shape dataref (Ok at) d, unfit m at e) refl
-modify_shape end text is out (no_path {mode = mode} {dataref = dataref} {m = m} {at = at} a b c d e) =
-    rw (part_read text mode (Some dataref) a, mode_shape mode (Ok m) b, part_read dataref dataref None c, dataref_shape dataref (Ok at) d, fit m at e) refl
-modify_shape end text is out (bad_path {mode = mode} {dataref = dataref} {path = path} {m = m} {at = at} {f = f} more a b c d e g) =
-    rw (part_read text mode (Some more) a, mode_shape mode (Ok m) b, part_read more dataref (Some path) c, dataref_shape dataref (Ok at) d, fit m at e, last_shape path (Err f) g) refl
-modify_shape end text is out (no_block {mode = mode} {dataref = dataref} {path = path} {m = m} {at = at} {p = p} {f = f} more a b c d e g h) =
-    rw (part_read text mode (Some more) a, mode_shape mode (Ok m) b, part_read more dataref (Some path) c, dataref_shape dataref (Ok at) d, fit m at e, last_shape path (Ok p) g, content_shape end at is (Err f) h) refl
+modify_shape end text is out (unfit_dataref {m = m} {at = at} {after = after} a e) =
+    let r = front_read text m at after a in
+    rw (r.mode_first, r.mode, r.dataref_next, r.dataref, unfit m at e) refl
+modify_shape end text is out (no_path {m = m} {at = at} a e) =
+    let r = front_read text m at None a in
+    rw (r.mode_first, r.mode, r.dataref_next, r.dataref, fit m at e) refl
+modify_shape end text is out (bad_path {path = path} {m = m} {at = at} {f = f} a e g) =
+    let r = front_read text m at (Some path) a in
+    rw (r.mode_first, r.mode, r.dataref_next, r.dataref, fit m at e, last_shape path (Err f) g) refl
+modify_shape end text is out (no_block {path = path} {m = m} {at = at} {p = p} {f = f} a e g h) =
+    let r = front_read text m at (Some path) a in
+    rw (r.mode_first, r.mode, r.dataref_next, r.dataref, fit m at e, last_shape path (Ok p) g, content_shape end at is (Err f) h) refl
 
 abbrev SomeModify : End → Bytes → List Item → Type 0
-SomeModify end text is = (out : Taken Change) × IsModify end text is out
+SomeModify end text is = (out : Taken Change) × IsModify text end is out
 
-modify_there : (end : End) (text : Bytes) (is : List Item) → (out : Taken Change) × IsModify end text is out
+modify_there : (end : End) (text : Bytes) (is : List Item) → SomeModify end text is
 modify_there end text is = let a = part_there text in let b = mode_there a.0 in of_mode a.0 a.1 a.2 b.0 b.1 where
-  of_content : (mode more dataref path : Bytes) (m : Mode) (at : Where) (p : Path) → BeginsPart text mode (Some more) → IsModeText mode (Ok m) → BeginsPart more dataref (Some path) → IsDataRefText dataref (Ok at) → (Unfit m at → ⊥) → IsLastPath path (Ok p)
+  of_content : (path : Bytes) (m : Mode) (at : Where) (p : Path) → BeginsModify text m at (Some path) → (Unfit m at → ⊥) → IsLastPath path (Ok p)
       → (o : Taken DataRef) → Content end at is o → SomeModify end text is
-  of_content mode more dataref path m at p a b c d e f (Ok (x, rest)) g = (Ok (Modify m x p, rest), modify a b c d e f g)
-  of_content mode more dataref path m at p a b c d e f (Err z) g = (Err z, no_block more a b c d e f g)
+  of_content path m at p a e f (Ok (x, rest)) g = (Ok (Modify m x p, rest), modify a e f g)
+  of_content path m at p a e f (Err z) g = (Err z, no_block a e f g)
 
-  of_path : (mode more dataref path : Bytes) (m : Mode) (at : Where) → BeginsPart text mode (Some more) → IsModeText mode (Ok m) → BeginsPart more dataref (Some path) → IsDataRefText dataref (Ok at) → (Unfit m at → ⊥)
-      → (g : Given Path) → IsLastPath path g → SomeModify end text is
-  of_path mode more dataref path m at a b c d e (Ok p) f = let o = content_there end at is in of_content mode more dataref path m at p a b c d e f o.0 o.1
-  of_path mode more dataref path m at a b c d e (Err z) f = (Err z, bad_path more a b c d e f)
+  of_path : (path : Bytes) (m : Mode) (at : Where) → BeginsModify text m at (Some path) → (Unfit m at → ⊥) → (g : Given Path) → IsLastPath path g → SomeModify end text is
+  of_path path m at a e (Ok p) f = let o = content_there end at is in of_content path m at p a e f o.0 o.1
+  of_path path m at a e (Err z) f = (Err z, bad_path a e f)
 
-  of_end : (mode more dataref : Bytes) (m : Mode) (at : Where) → BeginsPart text mode (Some more) → IsModeText mode (Ok m) → IsDataRefText dataref (Ok at) → (Unfit m at → ⊥) → (after : Option Bytes) → BeginsPart more dataref after → SomeModify end text is
-  of_end mode more dataref m at a b d e None c = (Err faults.BadLine, no_path (rw c.1 at a) b (c.0, refl) d e)
-  of_end mode more dataref m at a b d e (Some path) c = let o = last_there path in of_path mode more dataref path m at a b c d e o.0 o.1
+  of_fit : (path : Option Bytes) (m : Mode) (at : Where) → BeginsModify text m at path → ((Unfit m at → ⊥) × (suits m at ≡ Ok tt)) ⊎ Unfit m at → SomeModify end text is
+  of_fit path m at a (inr e) = (Err faults.Unsupported, unfit_dataref a e)
+  of_fit None m at a (inl e) = (Err faults.BadLine, no_path a e.0)
+  of_fit (Some path) m at a (inl e) = let o = last_there path in of_path path m at a e.0 o.0 o.1
 
-  of_fit : (mode more dataref : Bytes) (after : Option Bytes) (m : Mode) (at : Where) → BeginsPart text mode (Some more) → IsModeText mode (Ok m) → BeginsPart more dataref after → IsDataRefText dataref (Ok at)
-      → ((Unfit m at → ⊥) × (suits m at ≡ Ok tt)) ⊎ Unfit m at → SomeModify end text is
-  of_fit mode more dataref after m at a b c d (inl e) = of_end mode more dataref m at a b d e.0 after c
-  of_fit mode more dataref after m at a b c d (inr e) = (Err faults.Unsupported, unfit_dataref more after a b c d e)
-
-  of_dataref : (mode more dataref : Bytes) (after : Option Bytes) (m : Mode) → BeginsPart text mode (Some more) → IsModeText mode (Ok m) → BeginsPart more dataref after → (g : Given Where) → IsDataRefText dataref g → SomeModify end text is
-  of_dataref mode more dataref after m a b c (Ok at) d = of_fit mode more dataref after m at a b c d (fits m at)
+  of_dataref : (mode more dataref : Bytes) (after : Option Bytes) (m : Mode) → BeginsPart text mode (Some more) → IsModeText mode (Ok m) → BeginsPart more dataref after
+      → (g : Given Where) → IsDataRefText dataref g → SomeModify end text is
+  of_dataref mode more dataref after m a b c (Ok at) d =
+      of_fit after m at (record { mode = mode; dataref = dataref; more = more; mode_first = a; mode_is = b; dataref_next = c; dataref_is = d }) (fits m at)
   of_dataref mode more dataref after m a b c (Err z) d = (Err z, bad_dataref more after a b c d)
 
   of_more : (mode : Bytes) (m : Mode) → IsModeText mode (Ok m) → (after : Option Bytes) → BeginsPart text mode after → SomeModify end text is
@@ -112,8 +129,8 @@ modify_there end text is = let a = part_there text in let b = mode_there a.0 in 
   of_mode mode after a (Ok m) b = of_more mode m b after a
   of_mode mode after a (Err z) b = (Err z, bad_mode after a b)
 
-modify_no_longer : (end : End) (text : Bytes) (is : List Item) (x : Change) (rest : List Item) → IsModify end text is (Ok (x, rest)) → length rest ≤ length is
-modify_no_longer end text is x rest (modify {at = at} {content = content} a b c d e f g) = content_no_longer end at is content rest g
+modify_no_longer : (end : End) (text : Bytes) (is : List Item) (x : Change) (rest : List Item) → IsModify text end is (Ok (x, rest)) → length rest ≤ length is
+modify_no_longer end text is x rest (modify {at = at} {content = content} a e f g) = content_no_longer end at is content rest g
 
 -- ---- a change
 
@@ -125,14 +142,14 @@ as_change end (Err f) = Some (Err f)
 
 change_at_line : (end : End) (line : Bytes) (more : List Item) (out : Taken (Option Change)) → IsChange end (Line line ∷ more) out → change_at (words_of line) (stream end more) ≡ as_change end out
 unfolding change_at cut_at as_change
-change_at_line end line more out (modified {text = text} {rest = rest} {c = c} h) = rw (modify_shape end text more (Ok (c, rest)) h) refl
-change_at_line end line more out (modify_fault {text = text} {f = f} h) = rw (modify_shape end text more (Err f) h) refl
-change_at_line end line more out (removed {text = text} {p = p} h) = rw (last_shape text (Ok p) h) refl
-change_at_line end line more out (remove_fault {text = text} {f = f} h) = rw (last_shape text (Err f) h) refl
-change_at_line end line more out (copied {text = text} {p = p} {q = q} h) = rw (two_shape text (Ok (p, q)) h) refl
-change_at_line end line more out (copy_fault {text = text} {f = f} h) = rw (two_shape text (Err f) h) refl
-change_at_line end line more out (renamed {text = text} {p = p} {q = q} h) = rw (two_shape text (Ok (p, q)) h) refl
-change_at_line end line more out (rename_fault {text = text} {f = f} h) = rw (two_shape text (Err f) h) refl
+change_at_line end line more out (modified {text = text} (made {rest = rest} {x = c} h)) = rw (modify_shape end text more (Ok (c, rest)) h) refl
+change_at_line end line more out (modified {text = text} (refused {f = f} h)) = rw (modify_shape end text more (Err f) h) refl
+change_at_line end line more out (removed {text = text} (of_text {x = p} h)) = rw (last_shape text (Ok p) h) refl
+change_at_line end line more out (removed {text = text} (text_fault {f = f} h)) = rw (last_shape text (Err f) h) refl
+change_at_line end line more out (copied {text = text} (of_text {x = p} h)) = rw (two_shape text (Ok p) h) refl
+change_at_line end line more out (copied {text = text} (text_fault {f = f} h)) = rw (two_shape text (Err f) h) refl
+change_at_line end line more out (renamed {text = text} (of_text {x = p} h)) = rw (two_shape text (Ok p) h) refl
+change_at_line end line more out (renamed {text = text} (text_fault {f = f} h)) = rw (two_shape text (Err f) h) refl
 change_at_line end line more out cleared = refl
 change_at_line end line more out clear_of_text = refl
 change_at_line end line more out (change_without_text (inl e)) = rw e refl
@@ -158,21 +175,21 @@ change_there (Failed f) [] = (Err f, change_failure refl)
 change_there end (Line line ∷ rest) =
     by (is_of (codes "M") line refl) (is_of (codes "D") line refl) (is_of (codes "C") line refl) (is_of (codes "R") line refl) (is_of (codes "deleteall") line refl) (is_of (codes "N") line refl)
   where
-    modifies : (text : Bytes) (o : Taken Change) → IsModify end text rest o → SomeChange end rest (line_of (codes "M") text)
-    modifies text (Ok (c, more)) h = (Ok (Some c, more), modified h)
-    modifies text (Err f) h = (Err f, modify_fault h)
+    modifies : (text : Bytes) (o : Taken Change) → IsModify text end rest o → SomeChange end rest (line_of (codes "M") text)
+    modifies text (Ok (c, more)) h = (Ok (Some c, more), modified (made h))
+    modifies text (Err f) h = (Err f, modified (refused h))
 
     removes : (text : Bytes) (g : Given Path) → IsLastPath text g → SomeChange end rest (line_of (codes "D") text)
-    removes text (Ok p) h = (Ok (Some (Remove p), rest), removed h)
-    removes text (Err f) h = (Err f, remove_fault h)
+    removes text (Ok p) h = (Ok (Some (Remove p), rest), removed (of_text h))
+    removes text (Err f) h = (Err f, removed (text_fault h))
 
     copies : (text : Bytes) (g : Given (Path × Path)) → AreTwoPaths text g → SomeChange end rest (line_of (codes "C") text)
-    copies text (Ok (p, q)) h = (Ok (Some (Copy p q), rest), copied h)
-    copies text (Err f) h = (Err f, copy_fault h)
+    copies text (Ok p) h = (Ok (Some (Copy p.0 p.1), rest), copied (of_text h))
+    copies text (Err f) h = (Err f, copied (text_fault h))
 
     renames : (text : Bytes) (g : Given (Path × Path)) → AreTwoPaths text g → SomeChange end rest (line_of (codes "R") text)
-    renames text (Ok (p, q)) h = (Ok (Some (Rename p q), rest), renamed h)
-    renames text (Err f) h = (Err f, rename_fault h)
+    renames text (Ok p) h = (Ok (Some (Rename p.0 p.1), rest), renamed (of_text h))
+    renames text (Err f) h = (Err f, renamed (text_fault h))
 
     by : IsOfOrNot (codes "M") line → IsOfOrNot (codes "D") line → IsOfOrNot (codes "C") line → IsOfOrNot (codes "R") line → IsOfOrNot (codes "deleteall") line → IsOfOrNot (codes "N") line → SomeChange end rest line
     by (inl (inl e)) b c d k n = (Err faults.BadLine, change_without_text (inl e))
@@ -189,13 +206,17 @@ change_there end (Line line ∷ rest) =
     by (inr a) (inr b) (inr c) (inr d) (inr k) (inr n) = (Ok (None, Line line ∷ rest), no_change_at_line (a, (b, (c, (d, (k, (n, tt)))))))
 
 pub change_shorter : IsShorter IsChange
-change_shorter end is x rest (modified {text = text} {is = more} h) = let l = modify_no_longer end text more x rest h in omega (arith, l)
-change_shorter end is x rest (removed h) = omega arith
-change_shorter end is x rest (copied h) = omega arith
-change_shorter end is x rest (renamed h) = omega arith
+change_shorter end is x rest (modified {text = text} {is = more} (made h)) = let l = modify_no_longer end text more x rest h in omega (arith, l)
+change_shorter end is x rest (removed (of_text h)) = omega arith
+change_shorter end is x rest (copied (of_text h)) = omega arith
+change_shorter end is x rest (renamed (of_text h)) = omega arith
 change_shorter end is x rest cleared = omega arith
 
 unchanged : (end : End) (is rest : List Item) → IsChange end is (Ok (None, rest)) → rest ≡ is
+unchanged end is rest (modified h) = elim h [ ]
+unchanged end is rest (removed h) = elim h [ ]
+unchanged end is rest (copied h) = elim h [ ]
+unchanged end is rest (renamed h) = elim h [ ]
 unchanged end is rest (no_change_at_line n) = refl
 unchanged end is rest no_change_at_block = refl
 unchanged end is rest (no_change_at_end e) = refl

@@ -11,7 +11,7 @@ use Rattle.gx_model.specs.Commands as command
 use Rattle.gx_model.specs.Commands.{CommitIsh, Change, Command, Commands}
 use Rattle.gx_model.specs.Grammar.{words_of, mark_of, any_text, ident_of, encoding_of, commit_ish_of, optional, needed, blob_at, links_at, commit_at, tag_at, reset_at, command_at, commands_within, commands_of, is_option, asks_done, is_done, stops, with_first}
 use Rattle.gx_model.specs.LineShapes.{line_of, IsRefText, IsTagText, IsFeatureText, IsIdentText, IsEncodingText, IsAnyText, IsMarkText, IsCommitIshText}
-use Rattle.gx_model.specs.CommandShapes.{Taken, Optional, Needed, both, first_fault, second_fault, IsChange, mark_line, oid_line, blob_lines, commit_links, commit_lines, tag_lines, reset_lines, AreOptions, IsCommand, blob, blob_fault, commit, commit_fault, commit_of_bad_ref, tag, tag_fault, tag_of_bad_name, reset, reset_fault, reset_of_bad_ref, checkpoint, progress, feature, feature_fault, late_feature, option, late_option, done, command_without_text, command_of_text, unsupported, unknown_line, unknown_block, AskDone, AreCommands, skipped, taken, at_done, at_fault, at_end, at_missing_done, at_failure}
+use Rattle.gx_model.specs.CommandShapes.{Taken, Optional, Needed, both, first_fault, second_fault, IsChange, mark_line, oid_line, blob_lines, commit_links, commit_lines, tag_lines, reset_lines, AreOptions, IsCommand, BlobLines, CommitLinks, CommitLines, TagLines, ResetLines, blob_command, commit_command, tag_command, reset_command, made, refused, of_text, text_fault, blob, commit, commit_of_bad_ref, tag, tag_of_bad_name, reset, reset_of_bad_ref, checkpoint, progress, feature, late_feature, option, late_option, done, command_without_text, command_of_text, unsupported, unknown_line, unknown_block, AskDone, AreCommands, skipped, taken, at_done, at_fault, at_end, at_missing_done, at_failure}
 use Rattle.gx_model.proofs.Readings.{refuted}
 use Rattle.gx_model.proofs.WordShapes.{other_word, is_of, tested}
 use Rattle.gx_model.proofs.TextShapes.{ident_shape, ident_there, ref_shape, ref_there, tag_shape, tag_there, encoding_shape, encoding_there, any_shape, any_there, mark_shape, mark_there, commit_ish_shape, commit_ish_there, feature_shape, feature_there}
@@ -49,14 +49,14 @@ giving : {A B : Type 0} → (A → B) → Taken A → Taken B
 giving make (Ok p) = Ok (make p.0, p.1)
 giving make (Err f) = Err f
 
-blob_shape : (end : End) (is : List Item) (out : Taken _) → blob_lines end is out → blob_at (stream end is) ≡ as_read end (giving (λ x. command.Blob (record { mark = x.0; bytes = x.1.1 })) out)
+blob_shape : (end : End) (is : List Item) (out : Taken BlobLines) → blob_lines end is out → blob_at (stream end is) ≡ as_read end (giving blob_command out)
 unfolding blob_at giving
 blob_shape end is out (both a (both b c)) = rw (mark_part _ _ _ a, oid_part _ _ _ b, block_shape _ _ _ c) refl
 blob_shape end is out (first_fault a) = rw (mark_part _ _ _ a) refl
 blob_shape end is out (second_fault a (first_fault b)) = rw (mark_part _ _ _ a, oid_part _ _ _ b) refl
 blob_shape end is out (second_fault a (second_fault b c)) = rw (mark_part _ _ _ a, oid_part _ _ _ b, block_shape _ _ _ c) refl
 
-links_shape : (end : End) (is : List Item) (out : Taken _) → commit_links end is out → links_at (stream end is) ≡ as_read end (giving (λ x. (x.0, (x.1.0, x.1.1.0))) out)
+links_shape : (end : End) (is : List Item) (out : Taken CommitLinks) → commit_links end is out → links_at (stream end is) ≡ as_read end (giving (λ x. (x.0, (x.1.0, x.1.1.0))) out)
 unfolding links_at giving
 links_shape end is out (both a (both b (both c d))) = rw (from_part _ _ _ a, merges_shape _ _ _ b, changes_shape _ _ _ c, ending_shape _ _ _ d) refl
 links_shape end is out (first_fault a) = rw (from_part _ _ _ a) refl
@@ -64,17 +64,7 @@ links_shape end is out (second_fault a (first_fault b)) = rw (from_part _ _ _ a,
 links_shape end is out (second_fault a (second_fault b (first_fault c))) = rw (from_part _ _ _ a, merges_shape _ _ _ b, changes_shape _ _ _ c) refl
 links_shape end is out (second_fault a (second_fault b (second_fault c d))) = rw (from_part _ _ _ a, merges_shape _ _ _ b, changes_shape _ _ _ c, ending_shape _ _ _ d) refl
 
-commit_shape : (ref : Bytes) (end : End) (is : List Item) (out : Taken _) → commit_lines end is out → commit_at ref (stream end is) ≡ as_read end (giving (λ x. command.Commit (record {
-  ref = ref;
-  mark = x.0;
-  author = x.1.1.0;
-  committer = x.1.1.1.0;
-  encoding = x.1.1.1.1.1.0;
-  message = x.1.1.1.1.1.1.0;
-  parent = x.1.1.1.1.1.1.1.0;
-  merges = x.1.1.1.1.1.1.1.1.0;
-  changes = x.1.1.1.1.1.1.1.1.1.0;
-})) out)
+commit_shape : (ref : Bytes) (end : End) (is : List Item) (out : Taken CommitLines) → commit_lines end is out → commit_at ref (stream end is) ≡ as_read end (giving (commit_command ref) out)
 unfolding commit_at giving
 commit_shape ref end is out (both a (both b (both c (both d (both e (both f (both g h))))))) = rw (mark_part _ _ _ a, oid_part _ _ _ b, author_part _ _ _ c, committer_part _ _ _ d, unsigned_shape _ _ _ e, encoding_part _ _ _ f, block_shape _ _ _ g, links_shape _ _ _ h) refl
 commit_shape ref end is out (first_fault a) = rw (mark_part _ _ _ a) refl
@@ -86,8 +76,8 @@ commit_shape ref end is out (second_fault a (second_fault b (second_fault c (sec
 commit_shape ref end is out (second_fault a (second_fault b (second_fault c (second_fault d (second_fault e (second_fault f (first_fault g))))))) = rw (mark_part _ _ _ a, oid_part _ _ _ b, author_part _ _ _ c, committer_part _ _ _ d, unsigned_shape _ _ _ e, encoding_part _ _ _ f, block_shape _ _ _ g) refl
 commit_shape ref end is out (second_fault a (second_fault b (second_fault c (second_fault d (second_fault e (second_fault f (second_fault g h))))))) = rw (mark_part _ _ _ a, oid_part _ _ _ b, author_part _ _ _ c, committer_part _ _ _ d, unsigned_shape _ _ _ e, encoding_part _ _ _ f, block_shape _ _ _ g, links_shape _ _ _ h) refl
 
-tag_lines_shape : (name : Bytes) (end : End) (is : List Item) (out : Taken _) → tag_lines end is out
-    → tag_at name (stream end is) ≡ as_read end (giving (λ x. command.Tag (record { name = name; mark = x.0; target = x.1.0; tagger = x.1.1.1.0; message = x.1.1.1.1 })) out)
+tag_lines_shape : (name : Bytes) (end : End) (is : List Item) (out : Taken TagLines) → tag_lines end is out
+    → tag_at name (stream end is) ≡ as_read end (giving (tag_command name) out)
 unfolding tag_at giving
 tag_lines_shape name end is out (both a (both b (both c (both d e)))) = rw (mark_part _ _ _ a, target_part _ _ _ b, oid_part _ _ _ c, tagger_part _ _ _ d, block_shape _ _ _ e) refl
 tag_lines_shape name end is out (first_fault a) = rw (mark_part _ _ _ a) refl
@@ -96,7 +86,7 @@ tag_lines_shape name end is out (second_fault a (second_fault b (first_fault c))
 tag_lines_shape name end is out (second_fault a (second_fault b (second_fault c (first_fault d)))) = rw (mark_part _ _ _ a, target_part _ _ _ b, oid_part _ _ _ c, tagger_part _ _ _ d) refl
 tag_lines_shape name end is out (second_fault a (second_fault b (second_fault c (second_fault d e)))) = rw (mark_part _ _ _ a, target_part _ _ _ b, oid_part _ _ _ c, tagger_part _ _ _ d, block_shape _ _ _ e) refl
 
-reset_shape : (ref : Bytes) (end : End) (is : List Item) (out : Taken _) → reset_lines end is out → reset_at ref (stream end is) ≡ as_read end (giving (λ x. command.Reset (record { ref = ref; parent = x.0 })) out)
+reset_shape : (ref : Bytes) (end : End) (is : List Item) (out : Taken ResetLines) → reset_lines end is out → reset_at ref (stream end is) ≡ as_read end (giving (reset_command ref) out)
 unfolding reset_at giving
 reset_shape ref end is out (both a b) = rw (from_part _ _ _ a, ending_shape _ _ _ b) refl
 reset_shape ref end is out (first_fault a) = rw (from_part _ _ _ a) refl
@@ -171,21 +161,21 @@ reset_no_longer = then_no_longer _ _ from_no_longer ending_no_longer
 command_shape : (before : List Command) (end : End) (line : Bytes) (more : List Item) (out : Taken Command) → IsCommand before end (Line line ∷ more) out
     → command_at (list_all is_option before) (words_of line) (stream end more) ≡ as_read end out
 unfolding command_at cut_at giving
-command_shape before end line more out (blob h) = rw (blob_shape _ _ _ h) refl
-command_shape before end line more out (blob_fault h) = rw (blob_shape _ _ _ h) refl
-command_shape before end line more out (commit {text = text} {ref = ref} r h) = rw (ref_shape text (Ok ref) r, commit_shape ref _ _ _ h) refl
-command_shape before end line more out (commit_fault {text = text} {ref = ref} r h) = rw (ref_shape text (Ok ref) r, commit_shape ref _ _ _ h) refl
+command_shape before end line more out (blob (made h)) = rw (blob_shape _ _ _ h) refl
+command_shape before end line more out (blob (refused h)) = rw (blob_shape _ _ _ h) refl
+command_shape before end line more out (commit {text = text} {ref = ref} r (made h)) = rw (ref_shape text (Ok ref) r, commit_shape ref _ _ _ h) refl
+command_shape before end line more out (commit {text = text} {ref = ref} r (refused h)) = rw (ref_shape text (Ok ref) r, commit_shape ref _ _ _ h) refl
 command_shape before end line more out (commit_of_bad_ref {text = text} {f = f} r) = rw (ref_shape text (Err f) r) refl
-command_shape before end line more out (tag {text = text} {name = name} r h) = rw (tag_shape text (Ok name) r, tag_lines_shape name _ _ _ h) refl
-command_shape before end line more out (tag_fault {text = text} {name = name} r h) = rw (tag_shape text (Ok name) r, tag_lines_shape name _ _ _ h) refl
+command_shape before end line more out (tag {text = text} {name = name} r (made h)) = rw (tag_shape text (Ok name) r, tag_lines_shape name _ _ _ h) refl
+command_shape before end line more out (tag {text = text} {name = name} r (refused h)) = rw (tag_shape text (Ok name) r, tag_lines_shape name _ _ _ h) refl
 command_shape before end line more out (tag_of_bad_name {text = text} {f = f} r) = rw (tag_shape text (Err f) r) refl
-command_shape before end line more out (reset {text = text} {ref = ref} r h) = rw (ref_shape text (Ok ref) r, reset_shape ref _ _ _ h) refl
-command_shape before end line more out (reset_fault {text = text} {ref = ref} r h) = rw (ref_shape text (Ok ref) r, reset_shape ref _ _ _ h) refl
+command_shape before end line more out (reset {text = text} {ref = ref} r (made h)) = rw (ref_shape text (Ok ref) r, reset_shape ref _ _ _ h) refl
+command_shape before end line more out (reset {text = text} {ref = ref} r (refused h)) = rw (ref_shape text (Ok ref) r, reset_shape ref _ _ _ h) refl
 command_shape before end line more out (reset_of_bad_ref {text = text} {f = f} r) = rw (ref_shape text (Err f) r) refl
 command_shape before end line more out checkpoint = refl
 command_shape before end line more out progress = refl
-command_shape before end line more out (feature {text = text} {asked = asked} o h) = rw (o, feature_shape text (Ok asked) h) refl
-command_shape before end line more out (feature_fault {text = text} {f = f} o h) = rw (o, feature_shape text (Err f) h) refl
+command_shape before end line more out (feature {text = text} o (of_text {x = asked} h)) = rw (o, feature_shape text (Ok asked) h) refl
+command_shape before end line more out (feature {text = text} o (text_fault {f = f} h)) = rw (o, feature_shape text (Err f) h) refl
 command_shape before end line more out (late_feature n) = rw (refuted (list_all is_option before) n) refl
 command_shape before end line more out (option o) = rw o refl
 command_shape before end line more out (late_option n) = rw (refuted (list_all is_option before) n) refl
@@ -220,45 +210,29 @@ command_there before end more b bs =
     let line = b ∷ bs in
     by (is_of (codes "commit") line refl) (is_of (codes "tag") line refl) (is_of (codes "reset") line refl) (is_of (codes "progress") line refl) (is_of (codes "feature") line refl) (is_of (codes "option") line refl) (is_of (codes "blob") line refl) (is_of (codes "checkpoint") line refl) (is_of (codes "done") line refl) (is_of (codes "ls") line refl) (is_of (codes "cat-blob") line refl) (is_of (codes "get-mark") line refl) (is_of (codes "alias") line refl)
   where
-    is_blob : (o : Taken _) → blob_lines end more o → SomeCommand before end more (codes "blob")
-    is_blob (Ok (x, rest)) h = (Ok (command.Blob (record { mark = x.0; bytes = x.1.1 }), rest), blob h)
-    is_blob (Err f) h = (Err f, blob_fault h)
+    is_blob : (o : Taken BlobLines) → blob_lines end more o → SomeCommand before end more (codes "blob")
+    is_blob (Ok (x, rest)) h = (Ok (blob_command x, rest), blob (made h))
+    is_blob (Err f) h = (Err f, blob (refused h))
 
-    is_commit : (text : Bytes) (g : Given Bytes) → IsRefText text g → (o : Taken _) → commit_lines end more o → SomeCommand before end more (line_of (codes "commit") text)
+    is_commit : (text : Bytes) (g : Given Bytes) → IsRefText text g → (o : Taken CommitLines) → commit_lines end more o → SomeCommand before end more (line_of (codes "commit") text)
     is_commit text (Err f) r o h = (Err f, commit_of_bad_ref r)
-    is_commit text (Ok ref) r (Err f) h = (Err f, commit_fault r h)
-    is_commit text (Ok ref) r (Ok (x, rest)) h = (
-      Ok (
-        command.Commit (record {
-          ref = ref;
-          mark = x.0;
-          author = x.1.1.0;
-          committer = x.1.1.1.0;
-          encoding = x.1.1.1.1.1.0;
-          message = x.1.1.1.1.1.1.0;
-          parent = x.1.1.1.1.1.1.1.0;
-          merges = x.1.1.1.1.1.1.1.1.0;
-          changes = x.1.1.1.1.1.1.1.1.1.0;
-        }),
-        rest,
-      ),
-      commit r h,
-    )
+    is_commit text (Ok ref) r (Err f) h = (Err f, commit r (refused h))
+    is_commit text (Ok ref) r (Ok (x, rest)) h = (Ok (commit_command ref x, rest), commit r (made h))
 
-    is_tag : (text : Bytes) (g : Given Bytes) → IsTagText text g → (o : Taken _) → tag_lines end more o → SomeCommand before end more (line_of (codes "tag") text)
+    is_tag : (text : Bytes) (g : Given Bytes) → IsTagText text g → (o : Taken TagLines) → tag_lines end more o → SomeCommand before end more (line_of (codes "tag") text)
     is_tag text (Err f) r o h = (Err f, tag_of_bad_name r)
-    is_tag text (Ok name) r (Err f) h = (Err f, tag_fault r h)
-    is_tag text (Ok name) r (Ok (x, rest)) h = (Ok (command.Tag (record { name = name; mark = x.0; target = x.1.0; tagger = x.1.1.1.0; message = x.1.1.1.1 }), rest), tag r h)
+    is_tag text (Ok name) r (Err f) h = (Err f, tag r (refused h))
+    is_tag text (Ok name) r (Ok (x, rest)) h = (Ok (tag_command name x, rest), tag r (made h))
 
-    is_reset : (text : Bytes) (g : Given Bytes) → IsRefText text g → (o : Taken _) → reset_lines end more o → SomeCommand before end more (line_of (codes "reset") text)
+    is_reset : (text : Bytes) (g : Given Bytes) → IsRefText text g → (o : Taken ResetLines) → reset_lines end more o → SomeCommand before end more (line_of (codes "reset") text)
     is_reset text (Err f) r o h = (Err f, reset_of_bad_ref r)
-    is_reset text (Ok ref) r (Err f) h = (Err f, reset_fault r h)
-    is_reset text (Ok ref) r (Ok (x, rest)) h = (Ok (command.Reset (record { ref = ref; parent = x.0 }), rest), reset r h)
+    is_reset text (Ok ref) r (Err f) h = (Err f, reset r (refused h))
+    is_reset text (Ok ref) r (Ok (x, rest)) h = (Ok (reset_command ref x, rest), reset r (made h))
 
     is_feature : (text : Bytes) → AreOptions before ⊎ (AreOptions before → ⊥) → (g : Given Feature) → IsFeatureText text g → SomeCommand before end more (line_of (codes "feature") text)
     is_feature text (inr n) g h = (Err faults.LateOption, late_feature n)
-    is_feature text (inl o) (Ok x) h = (Ok (command.Asks x, more), feature o h)
-    is_feature text (inl o) (Err f) h = (Err f, feature_fault o h)
+    is_feature text (inl o) (Ok x) h = (Ok (command.Asks x, more), feature o (of_text h))
+    is_feature text (inl o) (Err f) h = (Err f, feature o (text_fault h))
 
     is_option_line : (text : Bytes) → AreOptions before ⊎ (AreOptions before → ⊥) → SomeCommand before end more (line_of (codes "option") text)
     is_option_line text (inr n) = (Err faults.LateOption, late_option n)
@@ -290,13 +264,13 @@ command_there before end more b bs =
     by (inr a) (inr c) (inr d) (inr e) (inr f) (inr g) (inr h) (inr i) (inr j) (inr k) (inr l) (inr m) (inr n) = (Err faults.UnknownCommand, unknown_line (a, (c, (d, (e, (f, (g, (h, (i, (j, (k, (l, (m, (n, tt))))))))))))))
 
 command_shorter : (before : List Command) (end : End) (is : List Item) (c : Command) (rest : List Item) → IsCommand before end is (Ok (c, rest)) → length rest < length is
-command_shorter before end is c rest (blob h) = let l = blob_no_longer _ _ _ _ h in omega (arith, l)
-command_shorter before end is c rest (commit r h) = let l = commit_no_longer _ _ _ _ h in omega (arith, l)
-command_shorter before end is c rest (tag r h) = let l = tag_no_longer _ _ _ _ h in omega (arith, l)
-command_shorter before end is c rest (reset r h) = let l = reset_no_longer _ _ _ _ h in omega (arith, l)
+command_shorter before end is c rest (blob (made h)) = let l = blob_no_longer _ _ _ _ h in omega (arith, l)
+command_shorter before end is c rest (commit r (made h)) = let l = commit_no_longer _ _ _ _ h in omega (arith, l)
+command_shorter before end is c rest (tag r (made h)) = let l = tag_no_longer _ _ _ _ h in omega (arith, l)
+command_shorter before end is c rest (reset r (made h)) = let l = reset_no_longer _ _ _ _ h in omega (arith, l)
 command_shorter before end is c rest checkpoint = omega arith
 command_shorter before end is c rest progress = omega arith
-command_shorter before end is c rest (feature o h) = omega arith
+command_shorter before end is c rest (feature o (of_text h)) = omega arith
 command_shorter before end is c rest (option o) = omega arith
 command_shorter before end is c rest done = omega arith
 

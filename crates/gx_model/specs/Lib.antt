@@ -48,3 +48,4 @@ pub mod StoreRows
 pub mod LineShapes
 pub mod CommandShapes
 pub mod CommandLaws
+pub mod CommandShapeRows

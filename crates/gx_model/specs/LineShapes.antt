@@ -88,8 +88,10 @@ mark_text digits = 58 ∷ digits
 -- a mark: `:` and a number from 1
 pub data IsMarkText : Bytes → Given ℕ → Type 0 where
   is_mark : {text digits : Bytes} {n : ℕ} → text ≡ mark_text digits → decimal_of digits ≡ Some n → 0 < n → IsMarkText text (Ok n)
-  mark_is_zero : {text digits : Bytes} → text ≡ mark_text digits → decimal_of digits ≡ Some 0 → IsMarkText text (Err faults.BadNumber)
-  mark_is_no_number : {text digits : Bytes} → text ≡ mark_text digits → decimal_of digits ≡ None → IsMarkText text (Err faults.BadNumber)
+  mark_is_zero : {text digits : Bytes}
+      → text ≡ mark_text digits → decimal_of digits ≡ Some 0 → IsMarkText text (Err faults.BadNumber)
+  mark_is_no_number : {text digits : Bytes}
+      → text ≡ mark_text digits → decimal_of digits ≡ None → IsMarkText text (Err faults.BadNumber)
   is_no_mark : {text : Bytes} → IsNot mark_text text → IsMarkText text (Err faults.BadLine)
 
 -- the name that stands for nothing
@@ -99,7 +101,8 @@ forty_zeros = replicate 40 48
 -- what names a commit: a mark, or any other text but forty zeros
 pub data IsCommitIshText : Bytes → Given CommitIsh → Type 0 where
   names_mark : {text : Bytes} {n : ℕ} → IsMarkText text (Ok n) → IsCommitIshText text (Ok (Marked n))
-  names_bad_mark : {text digits : Bytes} {f : Fault} → text ≡ mark_text digits → IsMarkText text (Err f) → IsCommitIshText text (Err f)
+  names_bad_mark : {text digits : Bytes} {f : Fault}
+      → text ≡ mark_text digits → IsMarkText text (Err f) → IsCommitIshText text (Err f)
   names_zeros : {text : Bytes} → text ≡ forty_zeros → IsCommitIshText text (Err faults.Unsupported)
   names_commit : {text : Bytes} → IsNot mark_text text → (text ≡ forty_zeros → ⊥) → IsCommitIshText text (Ok (Named text))
 
@@ -138,7 +141,8 @@ pub data IsDataRefText : Bytes → Given Where → Type 0 where
   at_block : {text : Bytes} → text ≡ codes "inline" → IsDataRefText text (Ok AtBlock)
   at_zeros : {text : Bytes} → text ≡ forty_zeros → IsDataRefText text (Err faults.Unsupported)
   at_name : {text : Bytes} → IsTrue (is_name text) → (text ≡ forty_zeros → ⊥) → IsDataRefText text (Ok (AtName text))
-  at_nothing : {text : Bytes} → IsNot mark_text text → (text ≡ codes "inline" → ⊥) → (IsTrue (is_name text) → ⊥) → IsDataRefText text (Err faults.BadLine)
+  at_nothing : {text : Bytes}
+      → IsNot mark_text text → (text ≡ codes "inline" → ⊥) → (IsTrue (is_name text) → ⊥) → IsDataRefText text (Err faults.BadLine)
 
 -- ---- paths in lines
 
@@ -155,7 +159,8 @@ pub data IsLastPath : Bytes → Given Path → Type 0 where
   bare_last : {text : Bytes} {p : Path} → IsNot quote_text text → IsPathOf text p → IsLastPath text (Ok p)
   bare_last_fault : {text : Bytes} {f : Fault} → IsNot quote_text text → IsPathFault text f → IsLastPath text (Err f)
   quoted_last : {text : Bytes} {p : Path} → IsQuotedPath text p [] → IsLastPath text (Ok p)
-  quoted_last_goes_on : {text : Bytes} {p : Path} {b : ℕ} {rest : Bytes} → IsQuotedPath text p (b ∷ rest) → IsLastPath text (Err faults.BadLine)
+  quoted_last_goes_on : {text : Bytes} {p : Path} {b : ℕ} {rest : Bytes}
+      → IsQuotedPath text p (b ∷ rest) → IsLastPath text (Err faults.BadLine)
   quoted_last_fault : {text x : Bytes} {f : Fault} → text ≡ quote_text x → IsQuoteFault text f → IsLastPath text (Err f)
 
 -- what a space begins
@@ -164,15 +169,20 @@ space_text text = 32 ∷ text
 
 -- a source and what follows the space after it: quoted, or up to the first space
 pub data IsSource : Bytes → Given (Path × Bytes) → Type 0 where
-  bare_source : {text part rest : Bytes} {p : Path} → IsNot quote_text text → BeginsPart text part (Some rest) → IsPathOf part p → IsSource text (Ok (p, rest))
-  bare_source_fault : {text part : Bytes} {f : Fault} (rest : Bytes) → IsNot quote_text text → BeginsPart text part (Some rest) → IsPathFault part f → IsSource text (Err f)
+  bare_source : {text part rest : Bytes} {p : Path}
+      → IsNot quote_text text → BeginsPart text part (Some rest) → IsPathOf part p → IsSource text (Ok (p, rest))
+  bare_source_fault : {text part : Bytes} {f : Fault} (rest : Bytes)
+      → IsNot quote_text text → BeginsPart text part (Some rest) → IsPathFault part f → IsSource text (Err f)
   bare_source_is_last : {text : Bytes} → IsNot quote_text text → BeginsPart text text None → IsSource text (Err faults.BadLine)
   quoted_source : {text rest : Bytes} {p : Path} → IsQuotedPath text p (space_text rest) → IsSource text (Ok (p, rest))
-  quoted_source_goes_on : {text rest : Bytes} {p : Path} → IsQuotedPath text p rest → IsNot space_text rest → IsSource text (Err faults.BadLine)
+  quoted_source_goes_on : {text rest : Bytes} {p : Path}
+      → IsQuotedPath text p rest → IsNot space_text rest → IsSource text (Err faults.BadLine)
   quoted_source_fault : {text x : Bytes} {f : Fault} → text ≡ quote_text x → IsQuoteFault text f → IsSource text (Err f)
 
 -- a source and a destination
 pub data AreTwoPaths : Bytes → Given (Path × Path) → Type 0 where
-  source_and_destination : {text rest : Bytes} {source destination : Path} → IsSource text (Ok (source, rest)) → IsLastPath rest (Ok destination) → AreTwoPaths text (Ok (source, destination))
+  source_and_destination : {text rest : Bytes} {source destination : Path}
+      → IsSource text (Ok (source, rest)) → IsLastPath rest (Ok destination) → AreTwoPaths text (Ok (source, destination))
   source_fault : {text : Bytes} {f : Fault} → IsSource text (Err f) → AreTwoPaths text (Err f)
-  destination_fault : {text rest : Bytes} {source : Path} {f : Fault} → IsSource text (Ok (source, rest)) → IsLastPath rest (Err f) → AreTwoPaths text (Err f)
+  destination_fault : {text rest : Bytes} {source : Path} {f : Fault}
+      → IsSource text (Ok (source, rest)) → IsLastPath rest (Err f) → AreTwoPaths text (Err f)

@@ -14,7 +14,7 @@ pub cut_past : (c b : ℕ) (bs : Bytes) → eqb b c ≡ false → cut_at c (b �
 unfolding cut_at
 cut_past c b bs e = rw e refl
 
-lacks-cons : (c x : ℕ) (xs : Bytes) → lacks c (x ∷ xs) ≡ true → (eqb x c ≡ false) × (lacks c xs ≡ true)
+pub lacks-cons : (c x : ℕ) (xs : Bytes) → lacks c (x ∷ xs) ≡ true → (eqb x c ≡ false) × (lacks c xs ≡ true)
 lacks-cons c x xs h = let p = or_parts (eqb x c) (list_any (λ b. eqb b c) xs) (not-true _ h) in (p.0, not_from_false _ p.1)
 
 -- no c stands in the front

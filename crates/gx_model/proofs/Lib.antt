@@ -75,3 +75,9 @@ pub mod ChangedRefs
 pub mod NullGitlinks
 pub mod ReadGitlinks
 pub mod GitlinkSteps
+pub mod WordShapes
+pub mod TextShapes
+pub mod PathShapes
+pub mod PartShapes
+pub mod ChangeShapes
+pub mod CommandReadings

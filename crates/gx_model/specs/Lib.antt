@@ -46,3 +46,7 @@ pub mod ImportRows
 pub mod RevisionRows
 pub mod ExportRows
 pub mod StoreRows
+pub mod LineShapes
+pub mod CommandShapes
+pub mod CommandLaws
+pub mod CommandShapeRows

@@ -154,8 +154,10 @@ fn a_refused_growth_leaves_the_files(rt: HostRuntime) -> Result<(), Fail> {
 }
 
 #[test]
-fn a_duplicate_takes_no_memory(rt: HostRuntime) {
-    assert!(rt; growths_of(rt.alloc(), Call::Duplicate, MIXED) == Some(0));
+fn a_duplicate_takes_no_memory(rt: HostRuntime) -> Result<(), Fail> {
+    let state = RandomState::new(&rt)?;
+    assert!(rt; growths_of(rt.alloc(), Call::Duplicate, MIXED, state) == Some(0));
+    Ok(())
 }
 
 /// What a load answers, and whether it has the files that were written.

@@ -29,22 +29,30 @@ marked_blob = taken {rest = []} {c = Blob (record { mark = Some 1; bytes = codes
 
 -- the block of a blob is missing
 blob_without_block : AreCommands Finished [] (Line (codes "blob") ∷ []) (stops (Some faults.BadLine))
-blob_without_block = at_fault (shape.blob (refused (second_fault (before_end refl) (second_fault (before_end refl) (shape.end_for_block refl)))))
+blob_without_block =
+    at_fault (shape.blob (refused (second_fault (before_end refl) (second_fault (before_end refl) (shape.end_for_block refl)))))
 
 -- a reset needs the item after it, so a failure there is its own
 failed_reset : AreCommands (Failed faults.BadNumber) [] (Line (codes "reset refs/heads/a") ∷ []) (stops (Some faults.BadNumber))
 failed_reset = at_fault (shape.reset (text.has_form refl) (refused (first_fault (before_failure refl))))
 
 -- `done` is asked for, and doesn't come
-missing_done : AreCommands Finished [] (Line (codes "feature done") ∷ []) (record { list = Asks features.Done ∷ []; fault = Some faults.MissingDone })
-missing_done = taken {rest = []} {c = Asks features.Done} {cs = stops (Some faults.MissingDone)} (shape.feature refl (shape.of_text (text.asks_done refl))) (λ e. absurd cc) (at_missing_done refl refl)
+missing_done : AreCommands Finished [] (Line (codes "feature done") ∷ [])
+    (record { list = Asks features.Done ∷ []; fault = Some faults.MissingDone })
+missing_done =
+    taken {rest = []} {c = Asks features.Done} {cs = stops (Some faults.MissingDone)}
+    (shape.feature refl (shape.of_text (text.asks_done refl))) (λ e. absurd cc) (at_missing_done refl refl)
 
 -- an option stands behind another command
-late_option : AreCommands Finished [] (Line (codes "checkpoint") ∷ Line (codes "option git quiet") ∷ []) (record { list = Checkpoint ∷ []; fault = Some faults.LateOption })
-late_option = taken {rest = Line (codes "option git quiet") ∷ []} {c = Checkpoint} {cs = stops (Some faults.LateOption)} shape.checkpoint (λ e. absurd cc) (at_fault (shape.late_option (λ e. absurd cc)))
+late_option : AreCommands Finished [] (Line (codes "checkpoint") ∷ Line (codes "option git quiet") ∷ [])
+    (record { list = Checkpoint ∷ []; fault = Some faults.LateOption })
+late_option =
+    taken {rest = Line (codes "option git quiet") ∷ []} {c = Checkpoint} {cs = stops (Some faults.LateOption)}
+    shape.checkpoint (λ e. absurd cc) (at_fault (shape.late_option (λ e. absurd cc)))
 
 -- a commit has no committer: the block stands where one is needed
-commit_without_committer : AreCommands Finished [] (Line (codes "commit refs/heads/a") ∷ Data (codes "m") ∷ []) (stops (Some faults.BadLine))
+commit_without_committer : AreCommands Finished [] (Line (codes "commit refs/heads/a") ∷ Data (codes "m") ∷ [])
+    (stops (Some faults.BadLine))
 commit_without_committer =
     at_fault (shape.commit (text.has_form refl) (refused (second_fault before_block (second_fault before_block (second_fault before_block (first_fault (shape.is_missing before_block)))))))
 

@@ -9,9 +9,9 @@ use Rattle.gx_model.specs.Paths.{Path}
 use Rattle.gx_model.specs.Items.{Item, Line, Data, End, Finished, Failed}
 use Rattle.gx_model.specs.Commands.{CommitIsh, DataRef, Mark, Object, Inline, Change, Modify, Remove, Copy, Rename, Clear}
 use Rattle.gx_model.specs.Grammar.{Read, Where, AtMark, AtName, AtBlock, words_of, mode_of, where_of, suits, bytes_from, modify_at, change_at, changes_within, changes, merges_within, merges, optional, commit_ish_of}
-use Rattle.gx_model.specs.LineShapes.{line_of, IsOf, BeginsPart, IsCommitIshText, IsModeText, IsDataRefText, IsLastPath, AreTwoPaths}
-use Rattle.gx_model.specs.CommandShapes.{Taken, Optional, Block, Repeated, no_more, one_more, next_fault, later_fault, Content, content_of_mark, content_of_name, content_of_block, no_content, Unfit, mark_of_gitlink, block_of_gitlink, BeginsModify, IsModify, modify, bad_mode, no_dataref, bad_dataref, unfit_dataref, no_path, bad_path, no_block, made, refused, of_text, text_fault, IsChange, modified, removed, copied, renamed, cleared, clear_of_text, change_without_text, note, no_change_at_line, no_change_at_block, no_change_at_end, change_failure}
-use Rattle.gx_model.proofs.WordShapes.{part_read, part_there, other_word, is_of}
+use Rattle.gx_model.specs.LineShapes.{line_of, IsOfNone, IsOfOne, BeginsPart, IsCommitIshText, IsModeText, IsDataRefText, IsLastPath, AreTwoPaths}
+use Rattle.gx_model.specs.CommandShapes.{all_change_words, Taken, Optional, Block, Repeated, no_more, one_more, next_fault, later_fault, Content, content_of_mark, content_of_name, content_of_block, no_content, Unfit, mark_of_gitlink, block_of_gitlink, BeginsModify, IsModify, modify, bad_mode, no_dataref, bad_dataref, unfit_dataref, no_path, bad_path, no_block, made, refused, of_text, text_fault, IsChange, modified, removed, copied, renamed, cleared, clear_of_text, change_without_text, note, no_change_at_line, no_change_at_block, no_change_at_end, change_failure}
+use Rattle.gx_model.proofs.WordShapes.{part_read, part_there, other_word, which_word}
 use Rattle.gx_model.proofs.TextShapes.{mode_shape, mode_there, dataref_shape, dataref_there, commit_ish_shape}
 use Rattle.gx_model.proofs.PathShapes.{last_shape, last_there, two_shape, two_there}
 use Rattle.gx_model.proofs.PartShapes.{stream, as_read, IsPartOf, IsWhole, IsNoLonger, IsShorter, optional_shape, optional_shorter, block_shape, block_there, block_no_longer}
@@ -165,45 +165,41 @@ change_at_line end line more out (no_change_at_line h) =
 abbrev SomeChange : End → List Item → Bytes → Type 0
 SomeChange end rest line = (out : Taken (Option Change)) × IsChange end (Line line ∷ rest) out
 
-abbrev pub IsOfOrNot : Bytes → Bytes → Type 0
-IsOfOrNot word line = IsOf word line ⊎ (IsOf word line → ⊥)
-
 pub change_there : IsWhole IsChange
 change_there end (Data b ∷ rest) = (Ok (None, Data b ∷ rest), no_change_at_block)
 change_there Finished [] = (Ok (None, []), no_change_at_end refl)
 change_there (Failed f) [] = (Err f, change_failure refl)
-change_there end (Line line ∷ rest) =
-    by (is_of (codes "M") line refl) (is_of (codes "D") line refl) (is_of (codes "C") line refl) (is_of (codes "R") line refl) (is_of (codes "deleteall") line refl) (is_of (codes "N") line refl)
-  where
-    modifies : (text : Bytes) (o : Taken Change) → IsModify text end rest o → SomeChange end rest (line_of (codes "M") text)
-    modifies text (Ok (c, more)) h = (Ok (Some c, more), modified (made h))
-    modifies text (Err f) h = (Err f, modified (refused h))
+change_there end (Line line ∷ rest) = by (which_word all_change_words line refl) where
+  modifies : (text : Bytes) (o : Taken Change) → IsModify text end rest o → SomeChange end rest (line_of (codes "M") text)
+  modifies text (Ok (c, more)) h = (Ok (Some c, more), modified (made h))
+  modifies text (Err f) h = (Err f, modified (refused h))
 
-    removes : (text : Bytes) (g : Given Path) → IsLastPath text g → SomeChange end rest (line_of (codes "D") text)
-    removes text (Ok p) h = (Ok (Some (Remove p), rest), removed (of_text h))
-    removes text (Err f) h = (Err f, removed (text_fault h))
+  removes : (text : Bytes) (g : Given Path) → IsLastPath text g → SomeChange end rest (line_of (codes "D") text)
+  removes text (Ok p) h = (Ok (Some (Remove p), rest), removed (of_text h))
+  removes text (Err f) h = (Err f, removed (text_fault h))
 
-    copies : (text : Bytes) (g : Given (Path × Path)) → AreTwoPaths text g → SomeChange end rest (line_of (codes "C") text)
-    copies text (Ok p) h = (Ok (Some (Copy p.0 p.1), rest), copied (of_text h))
-    copies text (Err f) h = (Err f, copied (text_fault h))
+  copies : (text : Bytes) (g : Given (Path × Path)) → AreTwoPaths text g → SomeChange end rest (line_of (codes "C") text)
+  copies text (Ok p) h = (Ok (Some (Copy p.0 p.1), rest), copied (of_text h))
+  copies text (Err f) h = (Err f, copied (text_fault h))
 
-    renames : (text : Bytes) (g : Given (Path × Path)) → AreTwoPaths text g → SomeChange end rest (line_of (codes "R") text)
-    renames text (Ok p) h = (Ok (Some (Rename p.0 p.1), rest), renamed (of_text h))
-    renames text (Err f) h = (Err f, renamed (text_fault h))
+  renames : (text : Bytes) (g : Given (Path × Path)) → AreTwoPaths text g → SomeChange end rest (line_of (codes "R") text)
+  renames text (Ok p) h = (Ok (Some (Rename p.0 p.1), rest), renamed (of_text h))
+  renames text (Err f) h = (Err f, renamed (text_fault h))
 
-    by : IsOfOrNot (codes "M") line → IsOfOrNot (codes "D") line → IsOfOrNot (codes "C") line → IsOfOrNot (codes "R") line → IsOfOrNot (codes "deleteall") line → IsOfOrNot (codes "N") line → SomeChange end rest line
-    by (inl (inl e)) b c d k n = (Err faults.BadLine, change_without_text (inl e))
-    by (inl (inr (text, e))) b c d k n = let o = modify_there end text rest in subst (SomeChange end rest) (sym e) (modifies text o.0 o.1)
-    by (inr a) (inl (inl e)) c d k n = (Err faults.BadLine, change_without_text (inr (inl e)))
-    by (inr a) (inl (inr (text, e))) c d k n = let o = last_there text in subst (SomeChange end rest) (sym e) (removes text o.0 o.1)
-    by (inr a) (inr b) (inl (inl e)) d k n = (Err faults.BadLine, change_without_text (inr (inr (inl e))))
-    by (inr a) (inr b) (inl (inr (text, e))) d k n = let o = two_there text in subst (SomeChange end rest) (sym e) (copies text o.0 o.1)
-    by (inr a) (inr b) (inr c) (inl (inl e)) k n = (Err faults.BadLine, change_without_text (inr (inr (inr (inl e)))))
-    by (inr a) (inr b) (inr c) (inl (inr (text, e))) k n = let o = two_there text in subst (SomeChange end rest) (sym e) (renames text o.0 o.1)
-    by (inr a) (inr b) (inr c) (inr d) (inl (inl e)) n = subst (SomeChange end rest) (sym e) (Ok (Some Clear, rest), cleared)
-    by (inr a) (inr b) (inr c) (inr d) (inl (inr (text, e))) n = subst (SomeChange end rest) (sym e) (Err faults.BadLine, clear_of_text)
-    by (inr a) (inr b) (inr c) (inr d) (inr k) (inl h) = (Err faults.Unsupported, note h)
-    by (inr a) (inr b) (inr c) (inr d) (inr k) (inr n) = (Ok (None, Line line ∷ rest), no_change_at_line (a, (b, (c, (d, (k, (n, tt)))))))
+  by : IsOfOne all_change_words line ⊎ IsOfNone all_change_words line → SomeChange end rest line
+  by (inl (inl (inl q))) = (Err faults.BadLine, change_without_text (inl q))
+  by (inl (inl (inr (text, q)))) = let o = modify_there end text rest in subst (SomeChange end rest) (sym q) (modifies text o.0 o.1)
+  by (inl (inr (inl (inl q)))) = (Err faults.BadLine, change_without_text (inr (inl q)))
+  by (inl (inr (inl (inr (text, q))))) = let o = last_there text in subst (SomeChange end rest) (sym q) (removes text o.0 o.1)
+  by (inl (inr (inr (inl (inl q))))) = (Err faults.BadLine, change_without_text (inr (inr (inl q))))
+  by (inl (inr (inr (inl (inr (text, q)))))) = let o = two_there text in subst (SomeChange end rest) (sym q) (copies text o.0 o.1)
+  by (inl (inr (inr (inr (inl (inl q)))))) = (Err faults.BadLine, change_without_text (inr (inr (inr (inl q)))))
+  by (inl (inr (inr (inr (inl (inr (text, q))))))) = let o = two_there text in subst (SomeChange end rest) (sym q) (renames text o.0 o.1)
+  by (inl (inr (inr (inr (inr (inl (inl q))))))) = subst (SomeChange end rest) (sym q) (Ok (Some Clear, rest), cleared)
+  by (inl (inr (inr (inr (inr (inl (inr (text, q)))))))) = subst (SomeChange end rest) (sym q) (Err faults.BadLine, clear_of_text)
+  by (inl (inr (inr (inr (inr (inr (inl h))))))) = (Err faults.Unsupported, note h)
+  by (inl (inr (inr (inr (inr (inr (inr h))))))) = absurd h
+  by (inr h) = (Ok (None, Line line ∷ rest), no_change_at_line h)
 
 pub change_shorter : IsShorter IsChange
 change_shorter end is x rest (modified {text = text} {is = more} (made h)) = let l = modify_no_longer end text more x rest h in omega (arith, l)

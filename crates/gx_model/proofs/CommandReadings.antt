@@ -1,5 +1,5 @@
 -- Items have one shape as a command and as commands, and it is what the functions give.
-use Rattle.std.proofs.Common.{◌≡◌, ◌⊎◌, inl, inr, ℕ, suc, zero, ◌<◌, ◌≤◌, true, false, Some, None, Ok, Err, List, [], ◌∷◌, ◌++◌, length, codes, refl, sym, ap, subst, ◌∙◌, arith}
+use Rattle.std.proofs.Common.{◌≡◌, ◌⊎◌, inl, inr, ℕ, suc, zero, ◌<◌, ◌≤◌, true, false, Some, None, Ok, Err, List, [], ◌∷◌, ◌++◌, length, codes, refl, sym, ap, subst, arith}
 use Rattle.std.specs.List.{list_all, list_any}
 use Rattle.gx_model.specs.declared.faults.Fault.{Fault}
 use Rattle.gx_model.specs.declared.faults.Fault.TheVariants as faults
@@ -10,13 +10,13 @@ use Rattle.gx_model.specs.Items.{Item, Line, Data, End, Finished, Failed, Stream
 use Rattle.gx_model.specs.Commands as command
 use Rattle.gx_model.specs.Commands.{CommitIsh, Change, Command, Commands}
 use Rattle.gx_model.specs.Grammar.{words_of, mark_of, any_text, ident_of, encoding_of, commit_ish_of, optional, needed, blob_at, links_at, commit_at, tag_at, reset_at, command_at, commands_within, commands_of, is_option, asks_done, is_done, stops, with_first}
-use Rattle.gx_model.specs.LineShapes.{line_of, IsRefText, IsTagText, IsFeatureText, IsIdentText, IsEncodingText, IsAnyText, IsMarkText, IsCommitIshText}
-use Rattle.gx_model.specs.CommandShapes.{Taken, Optional, Needed, both, first_fault, second_fault, IsChange, mark_line, oid_line, blob_lines, commit_links, commit_lines, tag_lines, reset_lines, AreOptions, IsCommand, BlobLines, CommitLinks, CommitLines, TagLines, ResetLines, blob_command, commit_command, tag_command, reset_command, made, refused, of_text, text_fault, blob, commit, commit_of_bad_ref, tag, tag_of_bad_name, reset, reset_of_bad_ref, checkpoint, progress, feature, late_feature, option, late_option, done, command_without_text, command_of_text, unsupported, unknown_line, unknown_block, AskDone, AreCommands, skipped, taken, at_done, at_fault, at_end, at_missing_done, at_failure}
+use Rattle.gx_model.specs.LineShapes.{line_of, IsOfNone, IsOfOne, IsRefText, IsTagText, IsFeatureText, IsIdentText, IsEncodingText, IsAnyText, IsMarkText, IsCommitIshText}
+use Rattle.gx_model.specs.CommandShapes.{words_of_text, words_alone, unsupported_words, Taken, Optional, Needed, both, first_fault, second_fault, IsChange, mark_line, oid_line, blob_lines, commit_links, commit_lines, tag_lines, reset_lines, AreOptions, IsCommand, BlobLines, CommitLinks, CommitLines, TagLines, ResetLines, blob_command, commit_command, tag_command, reset_command, made, refused, of_text, text_fault, blob, commit, commit_of_bad_ref, tag, tag_of_bad_name, reset, reset_of_bad_ref, checkpoint, progress, feature, late_feature, option, late_option, done, command_without_text, command_of_text, unsupported, unknown_line, unknown_block, AskDone, AreCommands, skipped, taken, at_done, at_fault, at_end, at_missing_done, at_failure}
 use Rattle.gx_model.proofs.Readings.{refuted}
-use Rattle.gx_model.proofs.WordShapes.{other_word, is_of, tested}
+use Rattle.gx_model.proofs.WordShapes.{other_word, tested, which_word, blank_is_none, blank_is_of_none, blank_has_no_text}
 use Rattle.gx_model.proofs.TextShapes.{ident_shape, ident_there, ref_shape, ref_there, tag_shape, tag_there, encoding_shape, encoding_there, any_shape, any_there, mark_shape, mark_there, commit_ish_shape, commit_ish_there, feature_shape, feature_there}
 use Rattle.gx_model.proofs.PartShapes.{stream, as_read, IsPartOf, IsWhole, IsNoLonger, optional_shape, optional_there, optional_no_longer, optional_shorter, needed_shape, needed_there, needed_no_longer, block_shape, block_there, block_no_longer, unsigned_shape, unsigned_there, unsigned_no_longer, ending_shape, ending_there, ending_no_longer, then_there, then_no_longer, repeated_there, repeated_no_longer}
-use Rattle.gx_model.proofs.ChangeShapes.{IsOfOrNot, changes_shape, merges_shape, change_there, change_shorter, change_no_longer}
+use Rattle.gx_model.proofs.ChangeShapes.{changes_shape, merges_shape, change_there, change_shorter, change_no_longer}
 
 -- ---- the lines of commands
 
@@ -94,8 +94,8 @@ reset_shape ref end is out (second_fault a b) = rw (from_part _ _ _ a, ending_sh
 
 -- ---- all lines have a shape, and leave no more than stood there
 
-mark_there' : IsWhole mark_line
-mark_there' = optional_there (codes "mark") IsMarkText refl mark_there
+mark_line_there : IsWhole mark_line
+mark_line_there = optional_there (codes "mark") IsMarkText refl mark_there
 
 oid_there : IsWhole oid_line
 oid_there = optional_there (codes "original-oid") IsAnyText refl any_there
@@ -104,7 +104,7 @@ from_there : IsWhole (Optional (codes "from") IsCommitIshText)
 from_there = optional_there (codes "from") IsCommitIshText refl commit_ish_there
 
 blob_there : IsWhole blob_lines
-blob_there = then_there _ _ mark_there' (then_there _ _ oid_there block_there)
+blob_there = then_there _ _ mark_line_there (then_there _ _ oid_there block_there)
 
 links_there : IsWhole commit_links
 links_there =
@@ -113,13 +113,13 @@ links_there =
 
 commit_there : IsWhole commit_lines
 commit_there =
-    then_there _ _ mark_there' (then_there _ _ oid_there (then_there _ _ (optional_there (codes "author") IsIdentText refl ident_there)
+    then_there _ _ mark_line_there (then_there _ _ oid_there (then_there _ _ (optional_there (codes "author") IsIdentText refl ident_there)
     (then_there _ _ (needed_there (codes "committer") IsIdentText refl ident_there) (then_there _ _ unsigned_there
     (then_there _ _ (optional_there (codes "encoding") IsEncodingText refl encoding_there) (then_there _ _ block_there links_there))))))
 
 tag_lines_there : IsWhole tag_lines
 tag_lines_there =
-    then_there _ _ mark_there' (then_there _ _ (needed_there (codes "from") IsCommitIshText refl commit_ish_there)
+    then_there _ _ mark_line_there (then_there _ _ (needed_there (codes "from") IsCommitIshText refl commit_ish_there)
     (then_there _ _ oid_there (then_there _ _ (optional_there (codes "tagger") IsIdentText refl ident_there) block_there)))
 
 reset_there : IsWhole reset_lines
@@ -200,68 +200,81 @@ command_shape before end line more out (unsupported (inr (inr (inl (inr h))))) =
 command_shape before end line more out (unsupported (inr (inr (inr (inl (inl e)))))) = rw e refl
 command_shape before end line more out (unsupported (inr (inr (inr (inl (inr h)))))) = rw h.1 refl
 command_shape before end line more out (unsupported (inr (inr (inr (inr e))))) = absurd e
-command_shape before end line more out (unknown_line h) = rw (other_word (codes "commit") line h.0, other_word (codes "tag") line h.1.0, other_word (codes "reset") line h.1.1.0, other_word (codes "progress") line h.1.1.1.0, other_word (codes "feature") line h.1.1.1.1.0, other_word (codes "option") line h.1.1.1.1.1.0, other_word (codes "blob") line h.1.1.1.1.1.1.0, other_word (codes "checkpoint") line h.1.1.1.1.1.1.1.0, other_word (codes "done") line h.1.1.1.1.1.1.1.1.0, other_word (codes "ls") line h.1.1.1.1.1.1.1.1.1.0, other_word (codes "cat-blob") line h.1.1.1.1.1.1.1.1.1.1.0, other_word (codes "get-mark") line h.1.1.1.1.1.1.1.1.1.1.1.0, other_word (codes "alias") line h.1.1.1.1.1.1.1.1.1.1.1.1.0) refl
+command_shape before end line more out (unknown_line h) =
+    rw (
+      other_word (codes "commit") line h.0,
+      other_word (codes "tag") line h.1.0,
+      other_word (codes "reset") line h.1.1.0,
+      other_word (codes "progress") line h.1.1.1.0,
+      other_word (codes "feature") line h.1.1.1.1.0,
+      other_word (codes "option") line h.1.1.1.1.1.0,
+      other_word (codes "blob") line h.1.1.1.1.1.1.0,
+      other_word (codes "checkpoint") line h.1.1.1.1.1.1.1.0,
+      other_word (codes "done") line h.1.1.1.1.1.1.1.1.0,
+      other_word (codes "ls") line h.1.1.1.1.1.1.1.1.1.0,
+      other_word (codes "cat-blob") line h.1.1.1.1.1.1.1.1.1.1.0,
+      other_word (codes "get-mark") line h.1.1.1.1.1.1.1.1.1.1.1.0,
+      other_word (codes "alias") line h.1.1.1.1.1.1.1.1.1.1.1.1.0,
+    ) refl
+
+-- the words of all commands
+abbrev all_words : List Bytes
+all_words = words_of_text ++ words_alone ++ unsupported_words
 
 abbrev SomeCommand : List Command → End → List Item → Bytes → Type 0
 SomeCommand before end more line = (out : Taken Command) × IsCommand before end (Line line ∷ more) out
 
 pub command_there : (before : List Command) (end : End) (more : List Item) (b : ℕ) (bs : Bytes) → SomeCommand before end more (b ∷ bs)
-command_there before end more b bs =
-    let line = b ∷ bs in
-    by (is_of (codes "commit") line refl) (is_of (codes "tag") line refl) (is_of (codes "reset") line refl) (is_of (codes "progress") line refl) (is_of (codes "feature") line refl) (is_of (codes "option") line refl) (is_of (codes "blob") line refl) (is_of (codes "checkpoint") line refl) (is_of (codes "done") line refl) (is_of (codes "ls") line refl) (is_of (codes "cat-blob") line refl) (is_of (codes "get-mark") line refl) (is_of (codes "alias") line refl)
-  where
-    is_blob : (o : Taken BlobLines) → blob_lines end more o → SomeCommand before end more (codes "blob")
-    is_blob (Ok (x, rest)) h = (Ok (blob_command x, rest), blob (made h))
-    is_blob (Err f) h = (Err f, blob (refused h))
+command_there before end more b bs = by (which_word all_words (b ∷ bs) refl) where
+  is_blob : (o : Taken BlobLines) → blob_lines end more o → SomeCommand before end more (codes "blob")
+  is_blob (Ok (x, rest)) h = (Ok (blob_command x, rest), blob (made h))
+  is_blob (Err f) h = (Err f, blob (refused h))
 
-    is_commit : (text : Bytes) (g : Given Bytes) → IsRefText text g → (o : Taken CommitLines) → commit_lines end more o → SomeCommand before end more (line_of (codes "commit") text)
-    is_commit text (Err f) r o h = (Err f, commit_of_bad_ref r)
-    is_commit text (Ok ref) r (Err f) h = (Err f, commit r (refused h))
-    is_commit text (Ok ref) r (Ok (x, rest)) h = (Ok (commit_command ref x, rest), commit r (made h))
+  is_commit : (text : Bytes) (g : Given Bytes) → IsRefText text g → (o : Taken CommitLines) → commit_lines end more o → SomeCommand before end more (line_of (codes "commit") text)
+  is_commit text (Err f) r o h = (Err f, commit_of_bad_ref r)
+  is_commit text (Ok ref) r (Err f) h = (Err f, commit r (refused h))
+  is_commit text (Ok ref) r (Ok (x, rest)) h = (Ok (commit_command ref x, rest), commit r (made h))
 
-    is_tag : (text : Bytes) (g : Given Bytes) → IsTagText text g → (o : Taken TagLines) → tag_lines end more o → SomeCommand before end more (line_of (codes "tag") text)
-    is_tag text (Err f) r o h = (Err f, tag_of_bad_name r)
-    is_tag text (Ok name) r (Err f) h = (Err f, tag r (refused h))
-    is_tag text (Ok name) r (Ok (x, rest)) h = (Ok (tag_command name x, rest), tag r (made h))
+  is_tag : (text : Bytes) (g : Given Bytes) → IsTagText text g → (o : Taken TagLines) → tag_lines end more o → SomeCommand before end more (line_of (codes "tag") text)
+  is_tag text (Err f) r o h = (Err f, tag_of_bad_name r)
+  is_tag text (Ok name) r (Err f) h = (Err f, tag r (refused h))
+  is_tag text (Ok name) r (Ok (x, rest)) h = (Ok (tag_command name x, rest), tag r (made h))
 
-    is_reset : (text : Bytes) (g : Given Bytes) → IsRefText text g → (o : Taken ResetLines) → reset_lines end more o → SomeCommand before end more (line_of (codes "reset") text)
-    is_reset text (Err f) r o h = (Err f, reset_of_bad_ref r)
-    is_reset text (Ok ref) r (Err f) h = (Err f, reset r (refused h))
-    is_reset text (Ok ref) r (Ok (x, rest)) h = (Ok (reset_command ref x, rest), reset r (made h))
+  is_reset : (text : Bytes) (g : Given Bytes) → IsRefText text g → (o : Taken ResetLines) → reset_lines end more o → SomeCommand before end more (line_of (codes "reset") text)
+  is_reset text (Err f) r o h = (Err f, reset_of_bad_ref r)
+  is_reset text (Ok ref) r (Err f) h = (Err f, reset r (refused h))
+  is_reset text (Ok ref) r (Ok (x, rest)) h = (Ok (reset_command ref x, rest), reset r (made h))
 
-    is_feature : (text : Bytes) → AreOptions before ⊎ (AreOptions before → ⊥) → (g : Given Feature) → IsFeatureText text g → SomeCommand before end more (line_of (codes "feature") text)
-    is_feature text (inr n) g h = (Err faults.LateOption, late_feature n)
-    is_feature text (inl o) (Ok x) h = (Ok (command.Asks x, more), feature o (of_text h))
-    is_feature text (inl o) (Err f) h = (Err f, feature o (text_fault h))
+  is_feature : (text : Bytes) → AreOptions before ⊎ (AreOptions before → ⊥) → (g : Given Feature) → IsFeatureText text g → SomeCommand before end more (line_of (codes "feature") text)
+  is_feature text (inr n) g h = (Err faults.LateOption, late_feature n)
+  is_feature text (inl o) (Ok x) h = (Ok (command.Asks x, more), feature o (of_text h))
+  is_feature text (inl o) (Err f) h = (Err f, feature o (text_fault h))
 
-    is_option_line : (text : Bytes) → AreOptions before ⊎ (AreOptions before → ⊥) → SomeCommand before end more (line_of (codes "option") text)
-    is_option_line text (inr n) = (Err faults.LateOption, late_option n)
-    is_option_line text (inl o) = (Ok (command.OptionLine text, more), option o)
+  is_option_line : (text : Bytes) → AreOptions before ⊎ (AreOptions before → ⊥) → SomeCommand before end more (line_of (codes "option") text)
+  is_option_line text (inr n) = (Err faults.LateOption, late_option n)
+  is_option_line text (inl o) = (Ok (command.OptionLine text, more), option o)
 
-    by : IsOfOrNot (codes "commit") (b ∷ bs) → IsOfOrNot (codes "tag") (b ∷ bs) → IsOfOrNot (codes "reset") (b ∷ bs) → IsOfOrNot (codes "progress") (b ∷ bs) → IsOfOrNot (codes "feature") (b ∷ bs) → IsOfOrNot (codes "option") (b ∷ bs) → IsOfOrNot (codes "blob") (b ∷ bs) → IsOfOrNot (codes "checkpoint") (b ∷ bs) → IsOfOrNot (codes "done") (b ∷ bs) → IsOfOrNot (codes "ls") (b ∷ bs) → IsOfOrNot (codes "cat-blob") (b ∷ bs) → IsOfOrNot (codes "get-mark") (b ∷ bs) → IsOfOrNot (codes "alias") (b ∷ bs) → SomeCommand before end more (b ∷ bs)
-    by (inl (inl q)) c d e f g h i j k l m n = (Err faults.BadLine, command_without_text (inl q))
-    by (inl (inr (t, q))) c d e f g h i j k l m n = let r = ref_there t in let o = commit_there end more in subst (SomeCommand before end more) (sym q) (is_commit t r.0 r.1 o.0 o.1)
-    by (inr a) (inl (inl q)) d e f g h i j k l m n = (Err faults.BadLine, command_without_text (inr (inl q)))
-    by (inr a) (inl (inr (t, q))) d e f g h i j k l m n = let r = tag_there t in let o = tag_lines_there end more in subst (SomeCommand before end more) (sym q) (is_tag t r.0 r.1 o.0 o.1)
-    by (inr a) (inr c) (inl (inl q)) e f g h i j k l m n = (Err faults.BadLine, command_without_text (inr (inr (inl q))))
-    by (inr a) (inr c) (inl (inr (t, q))) e f g h i j k l m n = let r = ref_there t in let o = reset_there end more in subst (SomeCommand before end more) (sym q) (is_reset t r.0 r.1 o.0 o.1)
-    by (inr a) (inr c) (inr d) (inl (inl q)) f g h i j k l m n = (Err faults.BadLine, command_without_text (inr (inr (inr (inl q)))))
-    by (inr a) (inr c) (inr d) (inl (inr (t, q))) f g h i j k l m n = subst (SomeCommand before end more) (sym q) (Ok (command.Progress t, more), progress)
-    by (inr a) (inr c) (inr d) (inr e) (inl (inl q)) g h i j k l m n = (Err faults.BadLine, command_without_text (inr (inr (inr (inr (inl q))))))
-    by (inr a) (inr c) (inr d) (inr e) (inl (inr (t, q))) g h i j k l m n = let r = feature_there t in subst (SomeCommand before end more) (sym q) (is_feature t (tested (list_all is_option before)) r.0 r.1)
-    by (inr a) (inr c) (inr d) (inr e) (inr f) (inl (inl q)) h i j k l m n = (Err faults.BadLine, command_without_text (inr (inr (inr (inr (inr (inl q)))))))
-    by (inr a) (inr c) (inr d) (inr e) (inr f) (inl (inr (t, q))) h i j k l m n = subst (SomeCommand before end more) (sym q) (is_option_line t (tested (list_all is_option before)))
-    by (inr a) (inr c) (inr d) (inr e) (inr f) (inr g) (inl (inl q)) i j k l m n = let o = blob_there end more in subst (SomeCommand before end more) (sym q) (is_blob o.0 o.1)
-    by (inr a) (inr c) (inr d) (inr e) (inr f) (inr g) (inl (inr (t, q))) i j k l m n = (Err faults.BadLine, command_of_text t (inl refl) q)
-    by (inr a) (inr c) (inr d) (inr e) (inr f) (inr g) (inr h) (inl (inl q)) j k l m n = subst (SomeCommand before end more) (sym q) (Ok (command.Checkpoint, more), checkpoint)
-    by (inr a) (inr c) (inr d) (inr e) (inr f) (inr g) (inr h) (inl (inr (t, q))) j k l m n = (Err faults.BadLine, command_of_text t (inr (inl refl)) q)
-    by (inr a) (inr c) (inr d) (inr e) (inr f) (inr g) (inr h) (inr i) (inl (inl q)) k l m n = subst (SomeCommand before end more) (sym q) (Ok (command.Done, more), done)
-    by (inr a) (inr c) (inr d) (inr e) (inr f) (inr g) (inr h) (inr i) (inl (inr (t, q))) k l m n = (Err faults.BadLine, command_of_text t (inr (inr (inl refl))) q)
-    by (inr a) (inr c) (inr d) (inr e) (inr f) (inr g) (inr h) (inr i) (inr j) (inl q) l m n = (Err faults.Unsupported, unsupported (inl q))
-    by (inr a) (inr c) (inr d) (inr e) (inr f) (inr g) (inr h) (inr i) (inr j) (inr k) (inl q) m n = (Err faults.Unsupported, unsupported (inr (inl q)))
-    by (inr a) (inr c) (inr d) (inr e) (inr f) (inr g) (inr h) (inr i) (inr j) (inr k) (inr l) (inl q) n = (Err faults.Unsupported, unsupported (inr (inr (inl q))))
-    by (inr a) (inr c) (inr d) (inr e) (inr f) (inr g) (inr h) (inr i) (inr j) (inr k) (inr l) (inr m) (inl q) = (Err faults.Unsupported, unsupported (inr (inr (inr (inl q)))))
-    by (inr a) (inr c) (inr d) (inr e) (inr f) (inr g) (inr h) (inr i) (inr j) (inr k) (inr l) (inr m) (inr n) = (Err faults.UnknownCommand, unknown_line (a, (c, (d, (e, (f, (g, (h, (i, (j, (k, (l, (m, (n, tt))))))))))))))
+  by : IsOfOne all_words (b ∷ bs) ⊎ IsOfNone all_words (b ∷ bs) → SomeCommand before end more (b ∷ bs)
+  by (inl (inl (inl q))) = (Err faults.BadLine, command_without_text (inl q))
+  by (inl (inl (inr (t, q)))) = let r = ref_there t in let o = commit_there end more in subst (SomeCommand before end more) (sym q) (is_commit t r.0 r.1 o.0 o.1)
+  by (inl (inr (inl (inl q)))) = (Err faults.BadLine, command_without_text (inr (inl q)))
+  by (inl (inr (inl (inr (t, q))))) = let r = tag_there t in let o = tag_lines_there end more in subst (SomeCommand before end more) (sym q) (is_tag t r.0 r.1 o.0 o.1)
+  by (inl (inr (inr (inl (inl q))))) = (Err faults.BadLine, command_without_text (inr (inr (inl q))))
+  by (inl (inr (inr (inl (inr (t, q)))))) = let r = ref_there t in let o = reset_there end more in subst (SomeCommand before end more) (sym q) (is_reset t r.0 r.1 o.0 o.1)
+  by (inl (inr (inr (inr (inl (inl q)))))) = (Err faults.BadLine, command_without_text (inr (inr (inr (inl q)))))
+  by (inl (inr (inr (inr (inl (inr (t, q))))))) = subst (SomeCommand before end more) (sym q) (Ok (command.Progress t, more), progress)
+  by (inl (inr (inr (inr (inr (inl (inl q))))))) = (Err faults.BadLine, command_without_text (inr (inr (inr (inr (inl q))))))
+  by (inl (inr (inr (inr (inr (inl (inr (t, q)))))))) = let r = feature_there t in subst (SomeCommand before end more) (sym q) (is_feature t (tested (list_all is_option before)) r.0 r.1)
+  by (inl (inr (inr (inr (inr (inr (inl (inl q)))))))) = (Err faults.BadLine, command_without_text (inr (inr (inr (inr (inr (inl q)))))))
+  by (inl (inr (inr (inr (inr (inr (inl (inr (t, q))))))))) = subst (SomeCommand before end more) (sym q) (is_option_line t (tested (list_all is_option before)))
+  by (inl (inr (inr (inr (inr (inr (inr (inl (inl q))))))))) = let o = blob_there end more in subst (SomeCommand before end more) (sym q) (is_blob o.0 o.1)
+  by (inl (inr (inr (inr (inr (inr (inr (inl (inr (t, q)))))))))) = (Err faults.BadLine, command_of_text t (inl refl) q)
+  by (inl (inr (inr (inr (inr (inr (inr (inr (inl (inl q)))))))))) = subst (SomeCommand before end more) (sym q) (Ok (command.Checkpoint, more), checkpoint)
+  by (inl (inr (inr (inr (inr (inr (inr (inr (inl (inr (t, q))))))))))) = (Err faults.BadLine, command_of_text t (inr (inl refl)) q)
+  by (inl (inr (inr (inr (inr (inr (inr (inr (inr (inl (inl q))))))))))) = subst (SomeCommand before end more) (sym q) (Ok (command.Done, more), done)
+  by (inl (inr (inr (inr (inr (inr (inr (inr (inr (inl (inr (t, q)))))))))))) = (Err faults.BadLine, command_of_text t (inr (inr (inl refl))) q)
+  by (inl (inr (inr (inr (inr (inr (inr (inr (inr (inr h)))))))))) = (Err faults.Unsupported, unsupported h)
+  by (inr h) = (Err faults.UnknownCommand, unknown_line h)
 
 command_shorter : (before : List Command) (end : End) (is : List Item) (c : Command) (rest : List Item) → IsCommand before end is (Ok (c, rest)) → length rest < length is
 command_shorter before end is c rest (blob (made h)) = let l = blob_no_longer _ _ _ _ h in omega (arith, l)
@@ -289,26 +302,9 @@ not_done (command.OptionLine x) h = refl
 
 -- an empty line begins no command
 not_blank : (before : List Command) (end : End) (more : List Item) (out : Taken Command) → IsCommand before end (Line [] ∷ more) out → ⊥
-not_blank before end more out (command_without_text (inl e)) = absurd cc
-not_blank before end more out (command_without_text (inr (inl e))) = absurd cc
-not_blank before end more out (command_without_text (inr (inr (inl e)))) = absurd cc
-not_blank before end more out (command_without_text (inr (inr (inr (inl e))))) = absurd cc
-not_blank before end more out (command_without_text (inr (inr (inr (inr (inl e)))))) = absurd cc
-not_blank before end more out (command_without_text (inr (inr (inr (inr (inr (inl e))))))) = absurd cc
-not_blank before end more out (command_without_text (inr (inr (inr (inr (inr (inr e))))))) = e
-not_blank before end more out (command_of_text text (inl e) q) = let d = q ∙ ap (λ w. line_of w text) e in absurd cc
-not_blank before end more out (command_of_text text (inr (inl e)) q) = let d = q ∙ ap (λ w. line_of w text) e in absurd cc
-not_blank before end more out (command_of_text text (inr (inr (inl e))) q) = let d = q ∙ ap (λ w. line_of w text) e in absurd cc
-not_blank before end more out (command_of_text text (inr (inr (inr e))) q) = e
-not_blank before end more out (unsupported (inl (inl e))) = absurd cc
-not_blank before end more out (unsupported (inl (inr h))) = let d = h.1 in absurd cc
-not_blank before end more out (unsupported (inr (inl (inl e)))) = absurd cc
-not_blank before end more out (unsupported (inr (inl (inr h)))) = let d = h.1 in absurd cc
-not_blank before end more out (unsupported (inr (inr (inl (inl e))))) = absurd cc
-not_blank before end more out (unsupported (inr (inr (inl (inr h))))) = let d = h.1 in absurd cc
-not_blank before end more out (unsupported (inr (inr (inr (inl (inl e)))))) = absurd cc
-not_blank before end more out (unsupported (inr (inr (inr (inl (inr h)))))) = let d = h.1 in absurd cc
-not_blank before end more out (unsupported (inr (inr (inr (inr e))))) = e
+not_blank before end more out (command_without_text h) = blank_is_none words_of_text refl h
+not_blank before end more out (command_of_text {word = word} text h q) = blank_has_no_text word text q
+not_blank before end more out (unsupported h) = blank_is_of_none unsupported_words refl h
 
 at_no_item : (n : ℕ) (end : End) (before : List Command) (cs : Commands) → AreCommands end before [] cs → commands_within n before [] end ≡ cs
 unfolding commands_within

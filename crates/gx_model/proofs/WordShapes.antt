@@ -1,12 +1,14 @@
 -- The word of a line, and its parts up to a space, are those that a cut gives.
-use Rattle.std.proofs.Common.{◌≡◌, ◌⊎◌, inl, inr, ℕ, Bool, true, false, cond, eqb, Option, Some, None, [], ◌∷◌, ◌++◌, refl, sym, ap, ◌∙◌}
+use Rattle.std.proofs.Common.{◌≡◌, ◌⊎◌, inl, inr, ℕ, Bool, true, false, cond, eqb, Option, Some, None, List, [], ◌∷◌, ◌++◌, refl, sym, ap, ◌∙◌}
 use Rattle.std.specs.Option.{option_map}
+use Rattle.std.specs.List.{list_all}
 use Rattle.std.specs.Str.{bytes_eq}
 use Rattle.std.proofs.lemmas.Bool.{false≢true, eqb-true}
 use Rattle.std.proofs.lemmas.Slice.Eq.{bytes_eq-Decides}
 use Rattle.gx_model.specs.Texts.{Bytes, cut_at, lacks}
 use Rattle.gx_model.specs.Grammar.{words_of, words_by, is_word}
-use Rattle.gx_model.specs.LineShapes.{line_of, IsOf, BeginsPart}
+use Rattle.gx_model.specs.LineShapes.{line_of, IsOf, IsOfNone, IsOfOne, IsOneOf, BeginsPart}
+use Rattle.gx_model.proofs.Idents.{and_one, and_two}
 use Rattle.gx_model.proofs.Cuts.{lacks-cons}
 use Rattle.gx_model.proofs.CommandItems.{words_at}
 use Rattle.gx_model.proofs.Readings.{refuted}
@@ -91,3 +93,35 @@ is_of word line l = by (cut_at 32 line) (cut_is 32 line) refl where
     with_text : (p.0 ≡ word) ⊎ (p.0 ≡ word → ⊥) → IsOf word line ⊎ (IsOf word line → ⊥)
     with_text (inl s) = inl (inr (p.1, c.1 ∙ ap (λ w. w ++ 32 ∷ p.1) s))
     with_text (inr n) = none (ap (λ o. is_word (words_by line o) word) e ∙ differs p.0 word n)
+
+-- a line of one of these words, or of none
+pub which_word : (words : List Bytes) (line : Bytes) → list_all (lacks 32) words ≡ true → IsOfOne words line ⊎ IsOfNone words line
+which_word [] line l = inr tt
+which_word (word ∷ words) line l = by (is_of word line (and_one (lacks 32 word) _ l)) (which_word words line (and_two (lacks 32 word) _ l)) where
+  by : IsOf word line ⊎ (IsOf word line → ⊥) → IsOfOne words line ⊎ IsOfNone words line → IsOfOne (word ∷ words) line ⊎ IsOfNone (word ∷ words) line
+  by (inl h) o = inl (inl h)
+  by (inr n) (inl h) = inl (inr h)
+  by (inr n) (inr m) = inr (n, m)
+
+-- ---- the empty line
+
+abbrev pub is_some : Bytes → Bool
+is_some [] = false
+is_some (b ∷ bs) = true
+
+pub blank_is_none : (words : List Bytes) → list_all is_some words ≡ true → IsOneOf words [] → ⊥
+blank_is_none [] l h = h
+blank_is_none ([] ∷ words) l h = false≢true l
+blank_is_none ((b ∷ bs) ∷ words) l (inl e) = absurd cc
+blank_is_none ((b ∷ bs) ∷ words) l (inr h) = blank_is_none words l h
+
+pub blank_is_of_none : (words : List Bytes) → list_all is_some words ≡ true → IsOfOne words [] → ⊥
+blank_is_of_none [] l h = h
+blank_is_of_none ([] ∷ words) l h = false≢true l
+blank_is_of_none ((b ∷ bs) ∷ words) l (inl (inl e)) = absurd cc
+blank_is_of_none ((b ∷ bs) ∷ words) l (inl (inr (text, e))) = absurd cc
+blank_is_of_none ((b ∷ bs) ∷ words) l (inr h) = blank_is_of_none words l h
+
+pub blank_has_no_text : (word text : Bytes) → [] ≡ line_of word text → ⊥
+blank_has_no_text [] text e = absurd cc
+blank_has_no_text (b ∷ bs) text e = absurd cc

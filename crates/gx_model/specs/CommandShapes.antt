@@ -1,5 +1,6 @@
--- The shapes of commands over a list of items with its end, without a state of reading: which lines and blocks stand one after
--- another, and which line or missing item is at fault. The tables are those of git-fast-import(1), line by line.
+-- The shapes of commands over a list of items with its end: which lines and blocks stand one after another, and which line or missing
+-- item is at fault. There is no state of reading, and no text is cut. The rows of lines are those of git-fast-import(1), in its order;
+-- `⨾` stands where the manual page ends a line.
 -- Source: git-fast-import(1), "Commands".
 use Rattle.std.specs.Prelude.{◌≡◌, IsTrue, ℕ, List, [], ◌∷◌, ◌++◌, codes, Option, Some, None, Result, Ok, Err}
 use Rattle.std.specs.List.{list_any, list_all}
@@ -184,18 +185,19 @@ pub data IsChange (end : End) : List Item → Taken (Option Change) → Type 0 w
 
 -- ---- the lines of commands, behind the first
 
--- mark?
+-- `mark?`
 abbrev pub mark_line : Part (Option ℕ)
 mark_line = Optional (codes "mark") IsMarkText
 
--- original-oid?, whose text plays no part
+-- `original-oid?`, whose text plays no part
 abbrev pub oid_line : Part (Option (Unit {0}))
 oid_line = Optional (codes "original-oid") IsAnyText
 
--- `blob`, mark?, original-oid?, data
+-- what the lines of a blob give
 abbrev pub BlobLines : Type 0
 BlobLines = Option ℕ × (Option (Unit {0}) × Bytes)
 
+-- `blob`, `mark?`, `original-oid?`, `data`
 abbrev pub blob_lines : Part BlobLines
 blob_lines = mark_line ⨾ oid_line ⨾ Block
 
@@ -203,10 +205,11 @@ blob_lines = mark_line ⨾ oid_line ⨾ Block
 abbrev pub blob_command : BlobLines → Command
 blob_command (mark, (oid, bytes)) = Blob (record { mark = mark; bytes = bytes })
 
--- from?, merge*, change*, LF?
+-- what the lines of a commit give behind its message
 abbrev pub CommitLinks : Type 0
 CommitLinks = Option CommitIsh × (List CommitIsh × (List Change × Unit {0}))
 
+-- `from?`, `merge*`, a change `*`, `LF?`
 abbrev pub commit_links : Part CommitLinks
 commit_links =
     Optional (codes "from") IsCommitIshText
@@ -214,10 +217,11 @@ commit_links =
     ⨾ Repeated IsChange
     ⨾ Ending
 
--- `commit`, mark?, original-oid?, author?, committer, encoding?, data, and what links the commit
+-- what the lines of a commit give
 abbrev pub CommitLines : Type 0
 CommitLines = Option ℕ × (Option (Unit {0}) × (Option Bytes × (Bytes × (Unit {0} × (Option Bytes × (Bytes × CommitLinks))))))
 
+-- `commit`, `mark?`, `original-oid?`, `author?`, `committer` and no `gpgsig`, `encoding?`, `data`, and the lines behind the message
 abbrev pub commit_lines : Part CommitLines
 commit_lines =
     mark_line
@@ -243,10 +247,11 @@ commit_command ref (mark, (oid, (author, (committer, (unsigned, (encoding, (mess
   changes = changes;
 })
 
--- `tag`, mark?, from, original-oid?, tagger?, data
+-- what the lines of a tag give
 abbrev pub TagLines : Type 0
 TagLines = Option ℕ × (CommitIsh × (Option (Unit {0}) × (Option Bytes × Bytes)))
 
+-- `tag`, `mark?`, `from`, `original-oid?`, `tagger?`, `data`
 abbrev pub tag_lines : Part TagLines
 tag_lines =
     mark_line
@@ -260,10 +265,11 @@ abbrev pub tag_command : Bytes → TagLines → Command
 tag_command name (mark, (target, (oid, (tagger, message)))) =
     Tag (record { name = name; mark = mark; target = target; tagger = tagger; message = message })
 
--- `reset`, from?, LF?
+-- what the lines of a reset give
 abbrev pub ResetLines : Type 0
 ResetLines = Option CommitIsh × Unit {0}
 
+-- `reset`, `from?`, `LF?`
 abbrev pub reset_lines : Part ResetLines
 reset_lines = Optional (codes "from") IsCommitIshText ⨾ Ending
 

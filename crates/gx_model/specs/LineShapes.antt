@@ -1,4 +1,4 @@
--- The shapes of a line's parts: what a text gives, or its fault, said of whole texts. Nothing here reads from the left.
+-- The shapes of a line and its parts: what a whole text gives, or its fault.
 -- Source: git-fast-import(1), "mark", "commit", "tag", "reset", "filemodify", "filedelete", "filecopy", "filerename" and "feature".
 use Rattle.std.specs.Prelude.{◌≡◌, ◌⊎◌, IsTrue, ℕ, ◌<◌, List, [], ◌∷◌, ◌++◌, length, replicate, codes, Option, Some, None, Ok, Err}
 use Rattle.gx_model.specs.Texts.{Bytes, lacks, is_line}
@@ -71,7 +71,7 @@ IsRefText = IsForm (λ text. IsTrue (is_ref_name text)) faults.BadRefName
 abbrev pub IsTagText : TextShape Bytes
 IsTagText = IsForm (λ text. IsTrue (is_tag_name text)) faults.BadRefName
 
--- an encoding: not empty
+-- an encoding: a line, and not empty
 abbrev pub IsEncodingText : TextShape Bytes
 IsEncodingText = IsForm (λ text. (0 < length text) × IsTrue (is_line text)) faults.BadLine
 

@@ -38,7 +38,7 @@ pub(crate) fn change_all<N: Namer, A: Allocator + Copy>(
     ensures namer { repo.new.0 ≡ repo.old.0 }
     ensures refs { repo.new.1.refs ≡ repo.old.1.refs }
     ensures extends { Extends repo.old.1.records repo.new.1.records }
-    ensures steps { (s : State) (f : FileMap Bytes) → Stands (N.name_of repo.old.0) repo.old.1 tables.now s → AreFiles (N.name_of repo.old.0) s.history.values f files.old → AddsAs (Clash (N.name_of repo.old.0) (values_of repo.old.1) (blobs_added (N.name_of repo.old.0) s f (map shown_change changes.now))) (λ r _. Follows (N.name_of repo.old.0) repo.new.1 tables.now s r.0 × AreFiles (N.name_of repo.old.0) r.0.history.values r.1 files.new) result (all_changed (N.name_of repo.old.0) revision_of s f (map shown_change changes.now)) }
+    ensures steps { (s : State) (f : FileMap Bytes) → Stands (N.name_of repo.old.0) repo.old.1 tables.now s → AreFiles (N.name_of repo.old.0) s.history.values f files.old.files → AddsAs (Clash (N.name_of repo.old.0) (values_of repo.old.1) (blobs_added (N.name_of repo.old.0) s f (map shown_change changes.now))) (λ r _. Follows (N.name_of repo.old.0) repo.new.1 tables.now s r.0 × AreFiles (N.name_of repo.old.0) r.0.history.values r.1 files.new.files) result (all_changed (N.name_of repo.old.0) revision_of s f (map shown_change changes.now)) }
 {
     for change in changes {
         change_files(repo, tables, files, change)?;
@@ -56,7 +56,7 @@ fn change_files<N: Namer, A: Allocator + Copy>(
     ensures namer { repo.new.0 ≡ repo.old.0 }
     ensures refs { repo.new.1.refs ≡ repo.old.1.refs }
     ensures extends { Extends repo.old.1.records repo.new.1.records }
-    ensures steps { (s : State) (f : FileMap Bytes) → Stands (N.name_of repo.old.0) repo.old.1 tables.now s → AreFiles (N.name_of repo.old.0) s.history.values f files.old → AddsAs (Clash (N.name_of repo.old.0) (values_of repo.old.1) (blob_added (shown_change change.now))) (λ r _. Follows (N.name_of repo.old.0) repo.new.1 tables.now s r.0 × AreFiles (N.name_of repo.old.0) r.0.history.values r.1 files.new) result (changed (N.name_of repo.old.0) revision_of s f (shown_change change.now)) }
+    ensures steps { (s : State) (f : FileMap Bytes) → Stands (N.name_of repo.old.0) repo.old.1 tables.now s → AreFiles (N.name_of repo.old.0) s.history.values f files.old.files → AddsAs (Clash (N.name_of repo.old.0) (values_of repo.old.1) (blob_added (shown_change change.now))) (λ r _. Follows (N.name_of repo.old.0) repo.new.1 tables.now s r.0 × AreFiles (N.name_of repo.old.0) r.0.history.values r.1 files.new.files) result (changed (N.name_of repo.old.0) revision_of s f (shown_change change.now)) }
 {
     match change {
         Change::Modify(modify) => modify_files(repo, tables, files, modify)?,
@@ -85,7 +85,7 @@ fn modify_files<N: Namer, A: Allocator + Copy>(
     ensures namer { repo.new.0 ≡ repo.old.0 }
     ensures refs { repo.new.1.refs ≡ repo.old.1.refs }
     ensures extends { Extends repo.old.1.records repo.new.1.records }
-    ensures steps { (s : State) (f : FileMap Bytes) → Stands (N.name_of repo.old.0) repo.old.1 tables.now s → AreFiles (N.name_of repo.old.0) s.history.values f files.old → AddsAs (Clash (N.name_of repo.old.0) (values_of repo.old.1) (blob_added (shown_modify modify.now))) (λ r _. Follows (N.name_of repo.old.0) repo.new.1 tables.now s r.0 × AreFiles (N.name_of repo.old.0) r.0.history.values r.1 files.new) result (changed (N.name_of repo.old.0) revision_of s f (shown_modify modify.now)) }
+    ensures steps { (s : State) (f : FileMap Bytes) → Stands (N.name_of repo.old.0) repo.old.1 tables.now s → AreFiles (N.name_of repo.old.0) s.history.values f files.old.files → AddsAs (Clash (N.name_of repo.old.0) (values_of repo.old.1) (blob_added (shown_modify modify.now))) (λ r _. Follows (N.name_of repo.old.0) repo.new.1 tables.now s r.0 × AreFiles (N.name_of repo.old.0) r.0.history.values r.1 files.new.files) result (changed (N.name_of repo.old.0) revision_of s f (shown_modify modify.now)) }
 {
     let name = content(repo, tables, modify.mode, &modify.data_ref)?;
     files.modify(&modify.path, modify.mode, name)?;

@@ -140,13 +140,13 @@ fn add<N: Namer, A: Allocator + Copy>(
     parents: &[Name],
     commit: &Commit<A>,
 ) -> Result<Name, ImportKind>
-    requires named { IsNamedMap repo.now.1.records files.now }
+    requires named { IsNamedMap repo.now.1.records files.now.files }
     requires parents { AllByRecursion (λ parent. Holds repo.now.1.records kinds.Commit parent.bytes) parents.now }
     ensures namer { repo.new.0 ≡ repo.old.0 }
     ensures refs { repo.new.1.refs ≡ repo.old.1.refs }
     ensures extends { Extends repo.old.1.records repo.new.1.records }
-    ensures files { files.new ≡ files.old }
-    ensures steps { (tables : Tables A) (s : State) (f : FileMap Bytes) (ps : List values.Commit) → Stands (N.name_of repo.old.0) repo.old.1 tables s → AreFiles (N.name_of repo.old.0) s.history.values f files.old → AreAll (IsCommitOf (N.name_of repo.old.0) s.history.values) ps parents.now → AddsAs (Clash (N.name_of repo.old.0) (values_of repo.old.1) (commit_added f (values.commit f (commits_of ps) (text_made (N.name_of repo.old.0) revision_of (commit_parts commit.now))))) (λ t called. Follows (N.name_of repo.old.0) repo.new.1 tables s t × (called.bytes ≡ name_of (N.name_of repo.old.0) (commit_value (values.commit f (commits_of ps) (text_made (N.name_of repo.old.0) revision_of (commit_parts commit.now)))))) result (Ok (added (commit_value (values.commit f (commits_of ps) (text_made (N.name_of repo.old.0) revision_of (commit_parts commit.now)))) s)) }
+    ensures files { files.new.files ≡ files.old.files }
+    ensures steps { (tables : Tables A) (s : State) (f : FileMap Bytes) (ps : List values.Commit) → Stands (N.name_of repo.old.0) repo.old.1 tables s → AreFiles (N.name_of repo.old.0) s.history.values f files.old.files → AreAll (IsCommitOf (N.name_of repo.old.0) s.history.values) ps parents.now → AddsAs (Clash (N.name_of repo.old.0) (values_of repo.old.1) (commit_added f (values.commit f (commits_of ps) (text_made (N.name_of repo.old.0) revision_of (commit_parts commit.now))))) (λ t called. Follows (N.name_of repo.old.0) repo.new.1 tables s t × (called.bytes ≡ name_of (N.name_of repo.old.0) (commit_value (values.commit f (commits_of ps) (text_made (N.name_of repo.old.0) revision_of (commit_parts commit.now)))))) result (Ok (added (commit_value (values.commit f (commits_of ps) (text_made (N.name_of repo.old.0) revision_of (commit_parts commit.now)))) s)) }
 {
     repo.sound();
     trees_add_file_maps();

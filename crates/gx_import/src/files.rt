@@ -33,7 +33,7 @@ pub(crate) fn starting_files<N: Namer, A: Allocator + Copy>(
 ) -> Result<PathTree<A>, ImportKind>
     requires stands { (s : State) × (made : Option Commit) × Stands (N.name_of repo.now.0) repo.now.1 tables.now s × AreBoth (IsCommitOf (N.name_of repo.now.0) s.history.values) made first }
     ensures tables { (s : State) → Stands (N.name_of repo.now.0) repo.now.1 tables.old s → Stands (N.name_of repo.now.0) repo.now.1 tables.new s }
-    ensures files { (s : State) (made : Option Commit) → Stands (N.name_of repo.now.0) repo.now.1 tables.old s → AreBoth (IsCommitOf (N.name_of repo.now.0) s.history.values) made first → IfOk result (λ files. files ≡ named_map (N.name_of repo.now.0) (starting_files (N.name_of repo.now.0) revision_of made)) }
+    ensures files { (s : State) (made : Option Commit) → Stands (N.name_of repo.now.0) repo.now.1 tables.old s → AreBoth (IsCommitOf (N.name_of repo.now.0) s.history.values) made first → IfOk result (λ files. files.files ≡ named_map (N.name_of repo.now.0) (starting_files (N.name_of repo.now.0) revision_of made)) }
     ensures fault { IfErr result (λ fault. fault ≡ OutOfMemory) }
 {
     repo.sound();
@@ -53,7 +53,7 @@ fn loaded_files<N: Namer, A: Allocator + Copy>(
     commit: &Name,
 ) -> Result<PathTree<A>, ImportKind>
     requires { IsHeldAs kinds.Commit repo.now.1 commit.now }
-    ensures files { IfOk result (λ files. files ≡ named_map (N.name_of repo.now.0) (files_of (commit_at repo.now.1 commit.now))) }
+    ensures files { IfOk result (λ files. files.files ≡ named_map (N.name_of repo.now.0) (files_of (commit_at repo.now.1 commit.now))) }
     ensures fault { IfErr result (λ fault. fault ≡ OutOfMemory) }
 {
     repo.sound();

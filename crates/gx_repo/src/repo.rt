@@ -19,6 +19,7 @@ ghost use Rattle.gx_model.specs.RepositoryLaws.{values_of};
 ghost use Rattle.gx_model.specs.Sound.{HasShortPaths, Holds, IsLinked, IsNamedMap, IsSound, IsTarget, Keeps};
 ghost use Rattle.gx_model.specs.Values.{blob_value, is_optional_encoding, tree_value};
 ghost use Rattle.gx_object.specs.Parts.{commit_parts, tag_parts};
+ghost use Rattle.gx_tree.specs.Named.{IsAtHome};
 ghost use Rattle.gx_tree.specs.StoreFaults.{tree_fault};
 ghost use Rattle.gx_tree.specs.Writes.{map_name};
 ghost use Rattle.gx_repo.specs.Additions.{Adds, AddsAll, HasValues, IsWriteFault, commit_among, commit_record, tag_among, tag_record};
@@ -153,20 +154,59 @@ impl<N: Namer, A: Allocator + Copy> Repo<N, A> {
     /// NameHeld comes only where one of these trees has the name of another object; after a fault the repository is as it was.
     /// Cost: the trees' bodies, and for each tree the number of records. Source: gitglossary(7), "tree object".
     pub fn add_tree(&mut self, tree: &mut PathTree<A>) -> Result<Name, StoreFault>
-        requires named { IsNamedMap self.now.1.records tree.now }
+        requires named { IsNamedMap self.now.1.records tree.now.files }
         ensures namer { self.new.0 ≡ self.old.0 }
-        ensures adds { AddsAll self.old.1.records self.new.1.records (tree_records (N.name_of self.old.0) tree.old) (map_name (N.name_of self.old.0) tree.old) result }
+        ensures adds { AddsAll self.old.1.records self.new.1.records (tree_records (N.name_of self.old.0) tree.old.files) (map_name (N.name_of self.old.0) tree.old.files) result }
         ensures refs { self.new.1.refs ≡ self.old.1.refs }
-        ensures history { IfOk result (λ _. HasValues self.old.1 self.new.1 (with_tree (values_of self.old.1) (contents_of (named_values self.old.1.records) tree.old))) }
-        ensures value { IfOk result (λ name. name.bytes ≡ name_of (N.name_of self.old.0) (tree_value (contents_of (named_values self.old.1.records) tree.old))) }
+        ensures history { IfOk result (λ _. HasValues self.old.1 self.new.1 (with_tree (values_of self.old.1) (contents_of (named_values self.old.1.records) tree.old.files))) }
+        ensures value { IfOk result (λ name. name.bytes ≡ name_of (N.name_of self.old.0) (tree_value (contents_of (named_values self.old.1.records) tree.old.files))) }
         ensures held { IfOk result (λ name. Holds self.new.1.records kinds.Tree name.bytes) }
         ensures keeps { Keeps self.old.1.records self.new.1.records }
-        ensures map { tree.new ≡ tree.old }
+        ensures map { tree.new.files ≡ tree.old.files }
+        ensures home { IfOk result (λ _. IsAtHome (N.name_of self.old.0) self.new.1.records tree.new) }
     {
         trees_add_file_maps();
         puts_add_values();
         let held = self.store.len();
         let name = match tree.write(&mut self.store) {
+            Ok(name) => name,
+            Err(fault) => {
+                self.store.truncate(held);
+                return Err(store_fault(fault));
+            }
+        };
+        let Ok(()) = enter_rooms(&self.store, &mut self.rooms) else {
+            self.store.truncate(held);
+            self.rooms.truncate(held);
+            return Err(StoreFault::OutOfMemory);
+        };
+        Ok(name)
+    }
+
+    /// Does what `add_tree` does, for a tree that is at home here: each name that it remembers is that of a tree which is
+    /// held with all trees below it. So it doesn't look below a remembered name.
+    ///
+    /// The errors are those of `add_tree`; after a fault the repository and the tree's files are as they were, and what the
+    /// tree remembers may be held no longer: it is added by `add_tree` then, or dropped.
+    /// Cost: the bodies of the trees without a remembered name, and for each of them the number of records. Source:
+    /// gitglossary(7), "tree object".
+    pub fn add_tree_shared(&mut self, tree: &mut PathTree<A>) -> Result<Name, StoreFault>
+        requires named { IsNamedMap self.now.1.records tree.now.files }
+        requires home { IsAtHome (N.name_of self.now.0) self.now.1.records tree.now }
+        ensures namer { self.new.0 ≡ self.old.0 }
+        ensures adds { AddsAll self.old.1.records self.new.1.records (tree_records (N.name_of self.old.0) tree.old.files) (map_name (N.name_of self.old.0) tree.old.files) result }
+        ensures refs { self.new.1.refs ≡ self.old.1.refs }
+        ensures history { IfOk result (λ _. HasValues self.old.1 self.new.1 (with_tree (values_of self.old.1) (contents_of (named_values self.old.1.records) tree.old.files))) }
+        ensures value { IfOk result (λ name. name.bytes ≡ name_of (N.name_of self.old.0) (tree_value (contents_of (named_values self.old.1.records) tree.old.files))) }
+        ensures held { IfOk result (λ name. Holds self.new.1.records kinds.Tree name.bytes) }
+        ensures keeps { Keeps self.old.1.records self.new.1.records }
+        ensures map { tree.new.files ≡ tree.old.files }
+        ensures home { IfOk result (λ _. IsAtHome (N.name_of self.old.0) self.new.1.records tree.new) }
+    {
+        trees_add_file_maps();
+        puts_add_values();
+        let held = self.store.len();
+        let name = match tree.write_shared(&mut self.store) {
             Ok(name) => name,
             Err(fault) => {
                 self.store.truncate(held);

@@ -13,5 +13,5 @@ invariant-loop-change g l =
     (l.repo.0 ≡ l.initial.repo.0)
     × (l.repo.1.refs ≡ l.initial.repo.1.refs)
     × Extends l.initial.repo.1.records l.repo.1.records
-    × ((s : State) (f : FileMap Bytes) → Stands (g.N.Namer.name_of l.initial.repo.0) l.initial.repo.1 l.tables s → AreFiles (g.N.Namer.name_of l.initial.repo.0) s.history.values f l.initial.files
-    → AreMade (g.N.Namer.name_of l.initial.repo.0) l.initial.repo.1 l.repo.1 l.tables s f (map shown_change l.changes) (map shown_change (drop l.change-index l.changes)) l.files)
+    × ((s : State) (f : FileMap Bytes) → Stands (g.N.Namer.name_of l.initial.repo.0) l.initial.repo.1 l.tables s → AreFiles (g.N.Namer.name_of l.initial.repo.0) s.history.values f l.initial.files.files
+    → AreMade (g.N.Namer.name_of l.initial.repo.0) l.initial.repo.1 l.repo.1 l.tables s f (map shown_change l.changes) (map shown_change (drop l.change-index l.changes)) l.files.files)

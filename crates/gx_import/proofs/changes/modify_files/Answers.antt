@@ -7,4 +7,4 @@ returns-clause-steps g c = λ s f h are.
     let name = g.N.Namer.name_of c.args.repo.now.0 in
     let m = c.args.modify.now in
     let k = c.in_ok-name.ensures.steps s h in
-    modify_done name c.content.new.repo.1 c.args.tables.now s f c.args.files.now are m.mode (shown_data m.data_ref) m.path c.in_ok-name.name k.0 k.1 k.2.0 k.2.1 c.modify.new.self c.in_ok-modify.ensures.map c.name_map.ensures
+    modify_done name c.content.new.repo.1 c.args.tables.now s f c.args.files.now.files are m.mode (shown_data m.data_ref) m.path c.in_ok-name.name k.0 k.1 k.2.0 k.2.1 c.modify.new.self.files c.in_ok-modify.ensures.map c.name_map.ensures

@@ -28,11 +28,11 @@ returns-in_err-tree-clause-steps g c = λ tables s f ps h files parents.
     let r = c.args.repo.now.1 in
     let p = err_from_is_err_and c.from_residual.result c.from_residual.ensures.1 in
     let v = commit_value (commit f (commits_of ps) (text_made name revision_of (commit_parts c.args.commit.now))) in
-    let of_files = subst (λ z. AreFiles name z.values f c.args.files.now) (sym h.history) files in
-    let same = contents_told name namer r c.sound.ensures f c.args.files.now of_files in
+    let of_files = subst (λ z. AreFiles name z.values f c.args.files.now.files) (sym h.history) files in
+    let same = contents_told name namer r c.sound.ensures f c.args.files.now.files of_files in
     rw (p.1, p.2) (puts_refused {X = Name} {Y = State} _ (λ u called. Follows name c.add_tree.new.self.1 tables s u × (called.bytes ≡ name_of name v)) (Ok (added v s)) _ _ _ [] c.in_err-tree.field-0.0
     (λ e. clash_first name (map tree_value (all_trees f)) (v ∷ []) (values_of r)
-    (trees_clash name r c.sound.ensures (c.puts_add_values.ensures name namer) (c.trees_add_file_maps.ensures name namer) c.args.files.now f c.requires.named same e))
+    (trees_clash name r c.sound.ensures (c.puts_add_values.ensures name namer) (c.trees_add_file_maps.ensures name namer) c.args.files.now.files f c.requires.named same e))
     c.in_err-tree.ensures.adds)
 
 pub add_alone-requires-clause-parents : goal.add_alone-requires-clause-parents
@@ -49,8 +49,8 @@ returns-clause-steps g c = λ tables s f ps h files parents.
     let r = c.args.repo.now.1 in
     let now = c.add_tree.new.self.1 in
     let v = commit_value (commit f (commits_of ps) (text_made name revision_of (commit_parts c.args.commit.now))) in
-    let of_files = subst (λ z. AreFiles name z.values f c.args.files.now) (sym h.history) files in
-    let same = contents_told name namer r c.sound.ensures f c.args.files.now of_files in
+    let of_files = subst (λ z. AreFiles name z.values f c.args.files.now.files) (sym h.history) files in
+    let same = contents_told name namer r c.sound.ensures f c.args.files.now.files of_files in
     let has = subst (λ z. HasValues r now (with_tree (values_of r) z)) same c.in_ok-tree.ensures.history in
     let stand = tree_stands name r now tables s h f has in
     let tree : IsTreeOf name (with_files f s).history.values f c.in_ok-tree.tree = record { stands = tree_has s.history.values f; named = c.in_ok-tree.ensures.value ∙ ap (λ z. name_of name (tree_value z)) same } in

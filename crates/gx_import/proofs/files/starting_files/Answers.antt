@@ -30,5 +30,5 @@ pub returns-in-None-clause-files : goal.returns-in-None-clause-files
 returns-in-None-clause-files g c = λ s made h first.
     let name = g.N.Namer.name_of c.args.repo.now.0 in
     let parent = rw c.in-Some.is at first in
-    subst (λ f. IfOk c.loaded_files.result (λ files. files ≡ named_map name f))
+    subst (λ f. IfOk c.loaded_files.result (λ files. files.files ≡ named_map name f))
     (parent_files name (g.met.N.Namer.is_namer c.args.repo.now.0) c.args.repo.now.1 c.sound.ensures s h.history made c.in-Some.commit parent) c.loaded_files.ensures.files

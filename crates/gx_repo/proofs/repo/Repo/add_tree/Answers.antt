@@ -18,7 +18,7 @@ enter_rooms-requires-clause-sound g c =
     let namer = g.met.N.Namer.is_namer c.self.inside.store.0 in
     let r : Records = record { records = c.self.inside.store.1; refs = map kept c.self.inside.refs.items } in
     let named = rw (sym c.self.view_is) at c.requires.named in
-    let grown = (trees_grown names (c.trees_add_file_maps.ensures names namer) (c.puts_add_values.ensures names namer) r c.self.invariant.0 c.args.tree.now named c.write.new.store.1 c.in-Ok.ensures.records).0 in
+    let grown = (trees_grown names (c.trees_add_file_maps.ensures names namer) (c.puts_add_values.ensures names namer) r c.self.invariant.0 c.args.tree.now.files named c.write.new.store.1 c.in-Ok.ensures.records).0 in
     subst (λ n. IsSound (g.N.Namer.name_of n) (record { records = c.write.new.store.1; refs = [] })) (sym c.write.ensures.namer)
     (sound_alone names (record { records = c.write.new.store.1; refs = map kept c.self.inside.refs.items }) grown)
 
@@ -32,7 +32,7 @@ invariant_of-self-in-Ok-enter_rooms g c =
     let r : Records = record { records = c.self.inside.store.1; refs = map kept c.self.inside.refs.items } in
     let named = rw (sym c.self.view_is) at c.requires.named in (
       subst (λ n. IsSound (g.N.Namer.name_of n) (record { records = c.write.new.store.1; refs = map kept c.self.inside.refs.items })) (sym c.write.ensures.namer)
-          (trees_grown names (c.trees_add_file_maps.ensures names namer) (c.puts_add_values.ensures names namer) r c.self.invariant.0 c.args.tree.now named c.write.new.store.1 c.in-Ok.ensures.records).0,
+          (trees_grown names (c.trees_add_file_maps.ensures names namer) (c.puts_add_values.ensures names namer) r c.self.invariant.0 c.args.tree.now.files named c.write.new.store.1 c.in-Ok.ensures.records).0,
       c.in-Ok-enter_rooms.ensures.ok,
     )
 
@@ -42,13 +42,13 @@ returns-clause-history g c =
     let namer = g.met.N.Namer.is_namer c.self.inside.store.0 in
     let r : Records = record { records = c.self.inside.store.1; refs = map kept c.self.inside.refs.items } in
     let named = rw (sym c.self.view_is) at c.requires.named in
-    subst (λ v. HasValues v.1 (record { records = c.write.new.store.1; refs = map kept c.self.inside.refs.items }) (with_tree (values_of v.1) (contents_of (named_values v.1.records) c.args.tree.now))) c.self.view_is
-    (trees_grown names (c.trees_add_file_maps.ensures names namer) (c.puts_add_values.ensures names namer) r c.self.invariant.0 c.args.tree.now named c.write.new.store.1 c.in-Ok.ensures.records).1
+    subst (λ v. HasValues v.1 (record { records = c.write.new.store.1; refs = map kept c.self.inside.refs.items }) (with_tree (values_of v.1) (contents_of (named_values v.1.records) c.args.tree.now.files))) c.self.view_is
+    (trees_grown names (c.trees_add_file_maps.ensures names namer) (c.puts_add_values.ensures names namer) r c.self.invariant.0 c.args.tree.now.files named c.write.new.store.1 c.in-Ok.ensures.records).1
 
 pub returns-clause-held : goal.returns-clause-held
 returns-clause-held g c =
     subst (Holds c.write.new.store.1 kinds.Tree) (sym c.in-Ok.ensures.name)
-    (tree_holds (g.N.Namer.name_of c.self.inside.store.0) c.args.tree.now c.self.inside.store.1 c.write.new.store.1 c.in-Ok.ensures.records)
+    (tree_holds (g.N.Namer.name_of c.self.inside.store.0) c.args.tree.now.files c.self.inside.store.1 c.write.new.store.1 c.in-Ok.ensures.records)
 
 pub returns-clause-keeps : goal.returns-clause-keeps
 returns-clause-keeps g c = subst (λ v. Keeps v.1.records c.write.new.store.1) c.self.view_is (keeps_front c.self.inside.store.1 c.write.new.store.1 c.write.ensures.front)

@@ -14,7 +14,8 @@ use Rattle.gx_model.specs.Histories.{IsIn, Record, Records}
 use Rattle.gx_model.specs.HistoryOf.{history_of}
 use Rattle.gx_model.specs.Replay.{State, byte_cmp}
 use Rattle.gx_object.specs.declared.name.Name.{Name}
-use Rattle.gx_tree.specs.Named.{NamedTree}
+use Rattle.gx_tree.specs.Homes.{IfThere}
+use Rattle.gx_tree.specs.Named.{NamedTree, IsAtHome}
 use Rattle.gx_import.specs.Marks.{object_at}
 use Rattle.gx_import.specs.Objects.{IsCommitOf, IsOf, IsTagOf}
 use Rattle.gx_import.specs.Rows.{AreBoth, AreRows, rows_of}
@@ -74,6 +75,10 @@ IsTaken old new = (new.commit ≡ old.commit) × ((new.files ≡ old.files) ⊎ 
 -- these files were those of this commit, at a branch of this name
 abbrev pub WereFiles : {A : Type 0} → List (Bytes × Tip A) → Bytes → Name → NamedTree → Type 0
 WereFiles {A} branches branch called files = (tip : Tip A) × (lookup (same_bytes branch) branches ≡ Some tip) × (tip.commit ≡ Some called) × (tip.files ≡ Some files)
+
+-- the files at hand at each branch are at home among these records
+abbrev pub AreTipsAtHome : {A : Type 0} → (Kind → Bytes → Bytes) → List Record → Tables A → Type 0
+AreTipsAtHome name rs tables = AllByRecursion (λ row. IfThere IsAtHome name rs row.1.files) (rows_of tables.branches)
 
 -- no marks, no branches, no tags, and nothing asked for
 pub record AreEmpty {A : Type 0} (tables : Tables A) : Type 0 where

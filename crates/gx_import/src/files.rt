@@ -7,11 +7,12 @@ ghost use Rattle.gx_model.specs.Records.{named_map, parts_of_commit};
 ghost use Rattle.gx_model.specs.Replay.{State, byte_cmp, starting_files};
 ghost use Rattle.gx_model.specs.Revisions.{revision_of};
 ghost use Rattle.gx_model.specs.Values.{Commit, files_of};
+ghost use Rattle.gx_tree.specs.Named.{IsAtHome};
 ghost use Rattle.gx_rev.specs.Objects.{IsHeldAs, commit_at};
 ghost use Rattle.gx_import.specs.declared.fault.ImportKind.TheVariants.{OutOfMemory};
 ghost use Rattle.gx_import.specs.Objects.{IsCommitOf};
 ghost use Rattle.gx_import.specs.Rows.{AreBoth, rows_of};
-ghost use Rattle.gx_import.specs.Standing.{Stands};
+ghost use Rattle.gx_import.specs.Standing.{AreTipsAtHome, Stands};
 
 use crate::ImportKind;
 use crate::branches::take_files;
@@ -34,6 +35,8 @@ pub(crate) fn starting_files<N: Namer, A: Allocator + Copy>(
     requires stands { (s : State) × (made : Option Commit) × Stands (N.name_of repo.now.0) repo.now.1 tables.now s × AreBoth (IsCommitOf (N.name_of repo.now.0) s.history.values) made first }
     ensures tables { (s : State) → Stands (N.name_of repo.now.0) repo.now.1 tables.old s → Stands (N.name_of repo.now.0) repo.now.1 tables.new s }
     ensures files { (s : State) (made : Option Commit) → Stands (N.name_of repo.now.0) repo.now.1 tables.old s → AreBoth (IsCommitOf (N.name_of repo.now.0) s.history.values) made first → IfOk result (λ files. files.files ≡ named_map (N.name_of repo.now.0) (starting_files (N.name_of repo.now.0) revision_of made)) }
+    ensures homes { AreTipsAtHome (N.name_of repo.now.0) repo.now.1.records tables.old → AreTipsAtHome (N.name_of repo.now.0) repo.now.1.records tables.new }
+    ensures home { AreTipsAtHome (N.name_of repo.now.0) repo.now.1.records tables.old → IfOk result (IsAtHome (N.name_of repo.now.0) repo.now.1.records) }
     ensures fault { IfErr result (λ fault. fault ≡ OutOfMemory) }
 {
     repo.sound();
@@ -54,6 +57,7 @@ fn loaded_files<N: Namer, A: Allocator + Copy>(
 ) -> Result<PathTree<A>, ImportKind>
     requires { IsHeldAs kinds.Commit repo.now.1 commit.now }
     ensures files { IfOk result (λ files. files.files ≡ named_map (N.name_of repo.now.0) (files_of (commit_at repo.now.1 commit.now))) }
+    ensures home { IfOk result (IsAtHome (N.name_of repo.now.0) repo.now.1.records) }
     ensures fault { IfErr result (λ fault. fault ≡ OutOfMemory) }
 {
     repo.sound();

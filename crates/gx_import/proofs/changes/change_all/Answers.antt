@@ -15,7 +15,7 @@ use Rattle.gx_import.proofs.ChangesSoFar.{all_made, next_made, next_refused, non
 use Rattle.gx_import.proofs.changes.change_all.Goals as goal
 
 pub loop-change-init : goal.loop-change-init
-loop-change-init g c = (refl, refl, extends_none c.args.repo.now.1.records, λ s f h are. none_made (g.N.Namer.name_of c.args.repo.now.0) c.args.repo.now.1 c.args.tables.now s h f c.args.files.now.files are (map shown_change c.args.changes.now))
+loop-change-init g c = (refl, refl, extends_none c.args.repo.now.1.records, λ s f h are. none_made (g.N.Namer.name_of c.args.repo.now.0) c.args.repo.now.1 c.args.tables.now s h f c.args.files.now.files are (map shown_change c.args.changes.now), λ h. h)
 
 pub loop-change-preserved : goal.loop-change-preserved
 loop-change-preserved g c =
@@ -28,6 +28,7 @@ loop-change-preserved g c =
       λ s f h are.
           let step = rw l.invariant.0 at v.steps in
           next_made name c.args.repo.now.1 l.repo.1 c.args.tables.now s f c.args.changes.now shown_change l.change-index c.change-item.result l.files.files c.loop-change-test.true c.change-item.is (l.invariant.3 s f h are) c.change_files.new.repo.1 c.change_files.new.files.files step,
+      λ h. (rw l.invariant.0 at v.home) (l.invariant.4 h),
     )
 
 pub returns-in_err-change_files-clause-steps : goal.returns-in_err-change_files-clause-steps
@@ -50,3 +51,6 @@ returns-clause-steps g c = λ s f h are.
     let name = g.N.Namer.name_of c.args.repo.now.0 in
     let l = c.loop-change in
     all_made name c.args.repo.now.1 l.repo.1 c.args.tables.now s f c.args.changes.now shown_change l.change-index l.files.files (l.invariant.3 s f h are) (omega (arith, c.loop-change-test.false))
+
+pub returns-clause-home : goal.returns-clause-home
+returns-clause-home g c = c.loop-change.invariant.4

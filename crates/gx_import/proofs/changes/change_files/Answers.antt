@@ -9,7 +9,7 @@ use Rattle.gx_model.specs.Revisions.{revision_of}
 use Rattle.gx_model.specs.Replay.{State, changed}
 use Rattle.gx_command.specs.Views.{shown_change}
 use Rattle.gx_tree.specs.Faults.{fault_of}
-use Rattle.gx_tree.specs.Named.{NamedTree}
+use Rattle.gx_tree.specs.Named.{NamedTree, IsAtHome}
 use Rattle.gx_model.specs.NameMaps.{AreFiles, IsNameMap}
 use Rattle.gx_import.specs.Additions.{Clash, blob_added}
 use Rattle.gx_import.specs.Answers.{AddsAs}
@@ -68,4 +68,16 @@ returns-clause-steps g c = λ s f h are.
           (edit_done name r tables s h f names are (renamed f w.in-Rename.source w.in-Rename.destination) (renamed_leaves (IsKnownLeaf s.history.values) f w.in-Rename.source w.in-Rename.destination) w.rename.new.self.files
           (sym (renamed_names name f names w.in-Rename.source w.in-Rename.destination are.named) ∙ w.in_ok-rename-in-Rename.ensures.map) (subst (λ t. IsNameMap t.files) w.files-is c.name_map.ensures))
       | in-Clear w ↦ rw (w.in-Clear.is, w.repo-is, w.files-is) (edit_done name r tables s h f names are (Ok []) (cleared_kept (IsKnownLeaf s.history.values) f) w.clear.new.self.files (ap (λ (t : NamedTree). Ok t.files) (sym w.clear.ensures)) (subst (λ t. IsNameMap t.files) w.files-is c.name_map.ensures))
+    ]
+
+pub returns-clause-home : goal.returns-clause-home
+returns-clause-home g c = λ h.
+    let name = g.N.Namer.name_of c.args.repo.now.0 in
+    let rs = c.args.repo.now.1.records in
+    elim c.match-change.branch [
+      | in-Modify+in_ok-modify_files-in-Modify w ↦ rw (w.repo-is, w.files-is) (w.in_ok-modify_files-in-Modify.ensures.home h)
+      | in-Remove+in_ok-remove-in-Remove w ↦ rw (w.repo-is, w.files-is) (w.remove.ensures.home name rs h)
+      | in-Copy+in_ok-copy-in-Copy w ↦ rw (w.repo-is, w.files-is) (w.copy.ensures.home name rs h)
+      | in-Rename+in_ok-rename-in-Rename w ↦ rw (w.repo-is, w.files-is) (w.rename.ensures.home name rs h)
+      | in-Clear w ↦ rw (w.repo-is, w.files-is) (subst (IsAtHome name rs) (sym w.clear.ensures) tt)
     ]

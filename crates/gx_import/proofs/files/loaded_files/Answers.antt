@@ -30,3 +30,6 @@ returns-clause-files g c =
     let e = c.in_ok-load.ensures.files (named_map name f) held in
     let same : named_map name f ≡ c.in_ok-load.field-0.files = cc e in
     sym same
+
+pub returns-clause-home : goal.returns-clause-home
+returns-clause-home g c = rw c.store.ensures at c.in_ok-load.ensures.home

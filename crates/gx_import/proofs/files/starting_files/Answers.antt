@@ -1,6 +1,8 @@
 use Rattle.std.proofs.Common.{◌≡◌, refl, subst}
 use Rattle.std.specs.Prelude.{IfOk}
 use Rattle.gx_model.specs.Records.{named_map}
+use Rattle.gx_import.specs.Rows.{rows_of}
+use Rattle.gx_import.proofs.TipHomes.{homes_taken, taken_home}
 use Rattle.gx_import.proofs.Parents.{parent_files, parent_held, taken_files, taken_stands}
 use Rattle.gx_import.proofs.files.starting_files.Goals as goal
 
@@ -32,3 +34,12 @@ returns-in-None-clause-files g c = λ s made h first.
     let parent = rw c.in-Some.is at first in
     subst (λ f. IfOk c.loaded_files.result (λ files. files.files ≡ named_map name f))
     (parent_files name (g.met.N.Namer.is_namer c.args.repo.now.0) c.args.repo.now.1 c.sound.ensures s h.history made c.in-Some.commit parent) c.loaded_files.ensures.files
+
+pub returns-in-Some-take_files-clause-homes : goal.returns-in-Some-take_files-clause-homes
+returns-in-Some-take_files-clause-homes g c = λ h. homes_taken (g.N.Namer.name_of c.args.repo.now.0) c.args.repo.now.1.records (rows_of c.args.tables.now.branches) _ c.take_files.ensures.taken h
+
+pub returns-in-Some-take_files-clause-home : goal.returns-in-Some-take_files-clause-home
+returns-in-Some-take_files-clause-home g c = λ h. taken_home (g.N.Namer.name_of c.args.repo.now.0) c.args.repo.now.1.records c.args.branch.now (rows_of c.args.tables.now.branches) c.in-Some.commit c.in-Some-take_files.files c.in-Some-take_files.ensures.files h
+
+pub returns-in-None-clause-homes : goal.returns-in-None-clause-homes
+returns-in-None-clause-homes g c = λ h. homes_taken (g.N.Namer.name_of c.args.repo.now.0) c.args.repo.now.1.records (rows_of c.args.tables.now.branches) _ c.take_files.ensures.taken h

@@ -1,5 +1,5 @@
 //! Repositories: a store of objects, and refs that hold some of them.
-ghost use Rattle.std.specs.Prelude.{◌≡◌, [], map, take, Some, None, IsTrue, IfOk, IfErr, IsOkAnd, OnOk, OnErr};
+ghost use Rattle.std.specs.Prelude.{◌⊎◌, ◌≡◌, [], map, take, Some, None, IsTrue, IfOk, IfErr, IsOkAnd, OnOk, OnErr};
 ghost use Rattle.std.specs.List.{AllByRecursion};
 ghost use Rattle.std.specs.Option.{option_map};
 ghost use Rattle.gx_model.specs.declared.objects.Kind.TheVariants as kinds;
@@ -20,6 +20,7 @@ ghost use Rattle.gx_model.specs.Sound.{HasShortPaths, Holds, IsLinked, IsNamedMa
 ghost use Rattle.gx_model.specs.Values.{blob_value, is_optional_encoding, tree_value};
 ghost use Rattle.gx_object.specs.Parts.{commit_parts, tag_parts};
 ghost use Rattle.gx_tree.specs.Named.{IsAtHome};
+ghost use Rattle.gx_repo.specs.declared.fault.AddFault.TheVariants as faults;
 ghost use Rattle.gx_tree.specs.StoreFaults.{tree_fault};
 ghost use Rattle.gx_tree.specs.Writes.{map_name};
 ghost use Rattle.gx_repo.specs.Additions.{Adds, AddsAll, HasValues, IsWriteFault, commit_among, commit_record, tag_among, tag_record};
@@ -62,13 +63,13 @@ impl<N: Namer, A: Allocator> Model for Repo<N, A> {
     ghost use Rattle.gx_model.specs.Histories.{Records};
     ghost use Rattle.gx_model.specs.Sound.{IsSound};
     ghost use Rattle.gx_repo.specs.Refs.{kept};
-    ghost use Rattle.gx_repo.specs.Rooms.{rooms_of};
+    ghost use Rattle.gx_repo.specs.Rooms.{IsFront};
 
     ghost Value = { N × Records };
 
     ghost view = { λ s. (s.store.0, record { records = s.store.1; refs = map kept s.refs.items }) };
 
-    ghost invariant = { λ s. IsSound (N.name_of s.store.0) (record { records = s.store.1; refs = map kept s.refs.items }) × (s.rooms.items ≡ rooms_of s.store.1) };
+    ghost invariant = { λ s. IsSound (N.name_of s.store.0) (record { records = s.store.1; refs = map kept s.refs.items }) × IsFront s.rooms.items s.store.1 };
 }
 
 impl<N: Namer, A: Allocator + Copy> Repo<N, A> {
@@ -175,11 +176,6 @@ impl<N: Namer, A: Allocator + Copy> Repo<N, A> {
                 return Err(store_fault(fault));
             }
         };
-        let Ok(()) = enter_rooms(&self.store, &mut self.rooms) else {
-            self.store.truncate(held);
-            self.rooms.truncate(held);
-            return Err(StoreFault::OutOfMemory);
-        };
         Ok(name)
     }
 
@@ -212,11 +208,6 @@ impl<N: Namer, A: Allocator + Copy> Repo<N, A> {
                 self.store.truncate(held);
                 return Err(store_fault(fault));
             }
-        };
-        let Ok(()) = enter_rooms(&self.store, &mut self.rooms) else {
-            self.store.truncate(held);
-            self.rooms.truncate(held);
-            return Err(StoreFault::OutOfMemory);
         };
         Ok(name)
     }
@@ -270,8 +261,8 @@ impl<N: Namer, A: Allocator + Copy> Repo<N, A> {
     /// `Dangling`: a link isn't held, or is held as another kind. `BadObject`: an entry names a tree without entries, or a
     /// path below the tree has more than 4,095 bytes. `DuplicateObject`: the name is held, whatever its bytes.
     /// `OutOfMemory`: a growth was refused. After a fault the repository is as it was.
-    /// Cost: the body's length, and for each link the number of records; each entry is looked at once.
-    /// Source: Pro Git, "Git Objects".
+    /// Cost: the body's length, and for each link the number of records; each entry is looked at once, and so are those of
+    /// the trees that were added since the last such call. Source: Pro Git, "Git Objects".
     pub fn add_record(&mut self, kind: Kind, body: &[u8]) -> Result<Name, AddFault>
         ensures namer { self.new.0 ≡ self.old.0 }
         ensures adds { AddsRecord self.old.1.records self.new.1.records (record_for (N.name_of self.old.0) kind body.now) result }
@@ -323,17 +314,23 @@ impl<N: Namer, A: Allocator + Copy> Repo<N, A> {
         self.rooms.truncate(len);
     }
 
-    /// The room of what is below an object, or what its body has against it.
-    fn room_of(&self, kind: Kind, body: &[u8]) -> Result<usize, AddFault>
-        ensures ok { IfOk result (λ _. content_fault self.now.1.records kind body.now ≡ None) }
-        ensures room { IfOk result (λ room. room ≡ room_of (value_in (named_values self.now.1.records) kind body.now)) }
-        ensures fault { IfErr result (λ fault. content_fault self.now.1.records kind body.now ≡ Some (add_fault fault)) }
+    /// The room of what is below an object, or what its body has against it. The rooms of all records are entered before.
+    fn room_of(&mut self, kind: Kind, body: &[u8]) -> Result<usize, AddFault>
+        ensures same { self.new ≡ self.old }
+        ensures ok { IfOk result (λ _. content_fault self.old.1.records kind body.now ≡ None) }
+        ensures room { IfOk result (λ room. room ≡ room_of (value_in (named_values self.old.1.records) kind body.now)) }
+        ensures fault { IfErr result (λ fault. (fault ≡ faults.OutOfMemory) ⊎ (content_fault self.old.1.records kind body.now ≡ Some (add_fault fault))) }
     {
         parts_change();
+        let entered = self.rooms.len();
+        let Ok(()) = enter_rooms(&self.store, &mut self.rooms) else {
+            self.rooms.truncate(entered);
+            return Err(AddFault::OutOfMemory);
+        };
         checked_room(&self.store, self.rooms.as_slice(), kind, body)
     }
 
-    /// Puts an object whose links are held, with the room of what is below it.
+    /// Puts an object whose links are held, with the room of what is below it where all before it have theirs.
     fn add(&mut self, kind: Kind, body: &[u8], room: usize) -> Result<Name, StoreFault>
         requires linked { IsLinked self.now.1.records kind body.now }
         requires short { HasShortPaths self.now.1.records (record_for (N.name_of self.now.0) kind body.now) }
@@ -351,6 +348,9 @@ impl<N: Namer, A: Allocator + Copy> Repo<N, A> {
         let held = self.store.len();
         let name = self.store.put(kind, body)?;
         if self.store.len() == held {
+            return Ok(name);
+        }
+        if self.rooms.len() < held {
             return Ok(name);
         }
         let Ok(()) = self.rooms.push(room) else {

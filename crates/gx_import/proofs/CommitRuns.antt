@@ -18,6 +18,7 @@ use Rattle.gx_model.specs.Commands.{Change, CommitParts}
 use Rattle.gx_model.specs.Revisions.{revision_of}
 use Rattle.gx_model.specs.Replay.{State, added, all_changed, all_committed, byte_cmp, committed_to, first_parent, starting_files, step_commit, text_made, with_first_parent}
 use Rattle.gx_object.specs.declared.name.Name.{Name}
+use Rattle.gx_tree.specs.Named.{NamedTree}
 use Rattle.gx_import.specs.declared.object.Object.{Object}
 use Rattle.gx_import.specs.declared.marks.Marks.{Marks}
 use Rattle.gx_import.specs.declared.branches.Tip.{Tip}
@@ -98,7 +99,7 @@ module _ (name : Kind → Bytes → Bytes) {A : Type 0} where
           (λ (u : State) (called : Name). Follows name new tables m.0.0 u × (called.bytes ≡ name_of name (commit_value v))) Be e
           (adds tables m.0.0 m.0.1 ps m.2.0.stands m.2.1 stay)
 
-      pub commit_done : (new : Records) (called : Name) → AddGives name A mid new stop parents t (Ok called) → (after : FileMap Bytes) → after ≡ stop
+      pub commit_done : (new : Records) (called : Name) → AddGives name A mid new stop parents t (Ok called) → (after : NamedTree) → after.files ≡ stop
           → (marks : Marks A) (object : Object) → object.kind ≡ kinds.Commit → object.name ≡ called → ((n : ℕ) → object_at marks n ≡ marked_object t.mark object n (object_at tables.marks n)) → IsTrue (is_ref_name t.ref)
           → (tip : Tip A) → tip.commit ≡ Some called → tip.files ≡ Some after → (now : Tables A) → now.marks ≡ marks → now.tags ≡ tables.tags → now.is_forced ≡ tables.is_forced → rows_of now.branches ≡ put byte_cmp t.ref tip (rows_of tables.branches)
           → (u : State) × (step_commit name revision_of s t ≡ Ok u) × Follows name new now s u

@@ -40,3 +40,4 @@ pub mod CommitRuns
 pub mod NoClashes
 pub mod ExportedAgain
 pub mod LoadFaults
+pub mod TipHomes

@@ -9,8 +9,8 @@ use Rattle.gx_tree.specs.declared.fault.TreeFault.TheVariants as tree
 use Rattle.gx_import.specs.declared.fault.ImportKind.TheVariants.{OutOfMemory}
 use Rattle.gx_import.specs.ImportKinds.{of_tree}
 
--- a load is refused for want of memory alone
-pub load_fault : (f : TreeFault) (g : FileMap Bytes) → IsFaultOf (tree_faults.fault_of f) (Ok g) → of_tree f ≡ OutOfMemory
+-- a load or a duplicate is refused for want of memory alone
+pub load_fault : {X : Type 0} (f : TreeFault) (g : X) → IsFaultOf (tree_faults.fault_of f) (Ok g) → of_tree f ≡ OutOfMemory
 load_fault tree.OutOfMemory g h = refl
 load_fault tree.NoSuchPath g h = absurd (cc h)
 load_fault tree.RootNotTree g h = absurd (cc h)

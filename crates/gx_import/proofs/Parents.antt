@@ -22,6 +22,7 @@ use Rattle.gx_import.specs.declared.branches.Tip.{Tip}
 use Rattle.gx_import.specs.declared.tables.Tables.{Tables}
 use Rattle.gx_import.specs.Objects.{IsCommitOf, IsTagOf}
 use Rattle.gx_import.specs.Rows.{AreBoth, AreRows, rows_of}
+use Rattle.gx_tree.specs.Named.{NamedTree}
 use Rattle.gx_import.specs.Standing.{AreMarks, AreTipFiles, IsTaken, IsTip, Stands, WereFiles}
 use Rattle.gx_import.proofs.RelatedRows.{related_found, related_through}
 
@@ -79,18 +80,18 @@ module _ (name : Kind → Bytes → Bytes) {A : Type 0} where
         forced = h.forced ∙ sym forced;
       }
 
-  at_tip : (values : List Value) (o : Option (Option Commit)) (tip : Tip A) → AreBoth (IsTip name values) o (Some tip) → (n : Name) (files : FileMap Bytes) → tip.commit ≡ Some n → tip.files ≡ Some files
-      → (c : Commit) × IsCommitOf name values c n × (files ≡ named_map name (files_of c))
+  at_tip : (values : List Value) (o : Option (Option Commit)) (tip : Tip A) → AreBoth (IsTip name values) o (Some tip) → (n : Name) (files : NamedTree) → tip.commit ≡ Some n → tip.files ≡ Some files
+      → (c : Commit) × IsCommitOf name values c n × (files.files ≡ named_map name (files_of c))
   at_tip values None tip h n files e f = absurd h
   at_tip values (Some made) tip h n files e f = of made (subst (AreBoth (IsCommitOf name values) made) e h.commit) (subst (AreTipFiles name made) f h.files)
     where
-      of : (m : Option Commit) → AreBoth (IsCommitOf name values) m (Some n) → AreTipFiles name m (Some files) → (c : Commit) × IsCommitOf name values c n × (files ≡ named_map name (files_of c))
+      of : (m : Option Commit) → AreBoth (IsCommitOf name values) m (Some n) → AreTipFiles name m (Some files) → (c : Commit) × IsCommitOf name values c n × (files.files ≡ named_map name (files_of c))
       of None i j = absurd i
       of (Some c) i j = (c, i, j)
 
   -- files that were at hand are those of the first parent
-  pub taken_files : IsNamer name → (r : Records) → IsSound name r → (tables : Tables A) (s : State) → Stands name r tables s → (branch : Bytes) (n : Name) (files : FileMap Bytes) → WereFiles (rows_of tables.branches) branch n files
-      → (made : Option Commit) → AreBoth (IsCommitOf name s.history.values) made (Some n) → files ≡ named_map name (starting_files name revision_of made)
+  pub taken_files : IsNamer name → (r : Records) → IsSound name r → (tables : Tables A) (s : State) → Stands name r tables s → (branch : Bytes) (n : Name) (files : NamedTree) → WereFiles (rows_of tables.branches) branch n files
+      → (made : Option Commit) → AreBoth (IsCommitOf name s.history.values) made (Some n) → files.files ≡ named_map name (starting_files name revision_of made)
   taken_files namer r sound tables s h branch n files (tip, found, at, of) made first =
       let both = subst (AreBoth (IsTip name s.history.values) (lookup (same_bytes branch) s.branches)) found (related_found (IsTip name s.history.values) (same_bytes branch) s.branches (rows_of tables.branches) h.branches) in
       let t = at_tip s.history.values (lookup (same_bytes branch) s.branches) tip both n files at of in

@@ -14,6 +14,8 @@ use Rattle.gx_model.specs.Histories.{IsIn, Record, Records}
 use Rattle.gx_model.specs.HistoryOf.{history_of}
 use Rattle.gx_model.specs.Replay.{State, byte_cmp}
 use Rattle.gx_object.specs.declared.name.Name.{Name}
+use Rattle.gx_tree.specs.Homes.{IfThere}
+use Rattle.gx_tree.specs.Named.{NamedTree, IsAtHome}
 use Rattle.gx_import.specs.Marks.{object_at}
 use Rattle.gx_import.specs.Objects.{IsCommitOf, IsOf, IsTagOf}
 use Rattle.gx_import.specs.Rows.{AreBoth, AreRows, rows_of}
@@ -38,10 +40,10 @@ module _ (name : Kind → Bytes → Bytes) where
     pub known : IfSome (blob_of mode given.1) (IsIn before.history.values)
 
   -- files at hand are those of the commit
-  abbrev pub AreTipFiles : Option Commit → Option (FileMap Bytes) → Type 0
+  abbrev pub AreTipFiles : Option Commit → Option NamedTree → Type 0
   AreTipFiles revision None = ⊤
-  AreTipFiles None (Some names) = ⊥
-  AreTipFiles (Some revision) (Some names) = names ≡ named_map name (files_of revision)
+  AreTipFiles None (Some tree) = ⊥
+  AreTipFiles (Some revision) (Some tree) = tree.files ≡ named_map name (files_of revision)
 
   -- where a branch stands
   pub record IsTip {A : Type 0} (values : List Value) (revision : Option Commit) (tip : Tip A) : Type 0 where
@@ -71,8 +73,12 @@ abbrev pub IsTaken : {A : Type 0} → Tip A → Tip A → Type 0
 IsTaken old new = (new.commit ≡ old.commit) × ((new.files ≡ old.files) ⊎ (new.files ≡ None))
 
 -- these files were those of this commit, at a branch of this name
-abbrev pub WereFiles : {A : Type 0} → List (Bytes × Tip A) → Bytes → Name → FileMap Bytes → Type 0
+abbrev pub WereFiles : {A : Type 0} → List (Bytes × Tip A) → Bytes → Name → NamedTree → Type 0
 WereFiles {A} branches branch called files = (tip : Tip A) × (lookup (same_bytes branch) branches ≡ Some tip) × (tip.commit ≡ Some called) × (tip.files ≡ Some files)
+
+-- the files at hand at each branch are at home among these records
+abbrev pub AreTipsAtHome : {A : Type 0} → (Kind → Bytes → Bytes) → List Record → Tables A → Type 0
+AreTipsAtHome name rs tables = AllByRecursion (λ row. IfThere IsAtHome name rs row.1.files) (rows_of tables.branches)
 
 -- no marks, no branches, no tags, and nothing asked for
 pub record AreEmpty {A : Type 0} (tables : Tables A) : Type 0 where

@@ -3,6 +3,7 @@
 ghost use Rattle.std.specs.Prelude.{◌≡◌, None, Some, IsTrue, IfSome};
 ghost use Rattle.std.specs.FinMap.Entries.{is_sorted};
 ghost use Rattle.gx_model.specs.Replay.{byte_cmp};
+ghost use Rattle.gx_model.specs.Texts.{Bytes};
 ghost use Rattle.gx_import.specs.Rows.{AreRows, rows_of};
 ghost use Rattle.gx_import.specs.Standing.{IsTaken, WereFiles};
 
@@ -30,6 +31,16 @@ impl<A: Allocator + Copy> Tip<A> {
             None
         }
     }
+
+    /// The files of this commit, where the branch stands there and they are at hand.
+    fn files_at(&self, commit: &Name) -> Option<&PathTree<A>>
+        ensures { IfSome result (λ files. (self.now.commit ≡ Some commit.now) × (self.now.files ≡ Some files.now)) }
+    {
+        match &self.files {
+            Some(files) if self.commit == Some(*commit) => Some(files),
+            _ => None,
+        }
+    }
 }
 
 /// Takes the files of a commit from the branch of this name. The branch stays at its commit.
@@ -52,4 +63,22 @@ pub(crate) fn take_files<A: Allocator + Copy>(
         Ok(place) => branches.rows[place].value.take_files(commit),
         Err(_) => None,
     }
+}
+
+/// The files of a commit, from any branch that stands there and has them at hand.
+///
+/// Cost: the number of branches. Takes no memory.
+pub(crate) fn files_at<'a, A: Allocator + Copy>(
+    branches: &'a Table<Tip<A>, A>,
+    commit: &Name,
+) -> Option<&'a PathTree<A>>
+    requires sorted { IsTrue (is_sorted byte_cmp (rows_of branches.now)) }
+    ensures { IfSome result (λ files. (branch : Bytes) × WereFiles (rows_of branches.now) branch commit.now files.now) }
+{
+    for row in &branches.rows {
+        if let Some(files) = row.value.files_at(commit) {
+            return Some(files);
+        }
+    }
+    None
 }

@@ -1,6 +1,6 @@
 //! The changes of a commit's files. Source: git-fast-import(1), "filemodify" to "filedeleteall".
 
-ghost use Rattle.std.specs.Prelude.{◌≡◌, ◌≢◌, map, IsTrue};
+ghost use Rattle.std.specs.Prelude.{◌≡◌, ◌≢◌, map, IfOk, IsTrue};
 ghost use Rattle.gx_model.specs.declared.objects.Mode.TheVariants as modes;
 ghost use Rattle.gx_model.specs.HistoryOf.{history_of};
 ghost use Rattle.gx_model.specs.Files.{FileMap};
@@ -16,6 +16,7 @@ ghost use Rattle.gx_model.specs.RepositoryLaws.{values_of};
 ghost use Rattle.gx_import.specs.Objects.{IsBlobOf};
 ghost use Rattle.gx_import.specs.Standing.{Extends, Follows, IsContentName, Stands};
 ghost use Rattle.gx_model.specs.NameMaps.{AreFiles};
+ghost use Rattle.gx_tree.specs.Named.{IsAtHome};
 ghost use Rattle.gx_import.specs.Steps.{bytes_held};
 
 use crate::ImportKind;
@@ -25,7 +26,7 @@ use gx_command::{Change, DataRef, Digits, Modify};
 use gx_model::repository_laws::puts_add_values;
 use gx_object::{Kind, Mode, Name, Namer};
 use gx_repo::Repo;
-use gx_tree::PathTree;
+use gx_tree::{PathTree, records_keep_home};
 use std::alloc::Allocator;
 
 /// Makes these changes, in their order.
@@ -38,7 +39,8 @@ pub(crate) fn change_all<N: Namer, A: Allocator + Copy>(
     ensures namer { repo.new.0 ≡ repo.old.0 }
     ensures refs { repo.new.1.refs ≡ repo.old.1.refs }
     ensures extends { Extends repo.old.1.records repo.new.1.records }
-    ensures steps { (s : State) (f : FileMap Bytes) → Stands (N.name_of repo.old.0) repo.old.1 tables.now s → AreFiles (N.name_of repo.old.0) s.history.values f files.old → AddsAs (Clash (N.name_of repo.old.0) (values_of repo.old.1) (blobs_added (N.name_of repo.old.0) s f (map shown_change changes.now))) (λ r _. Follows (N.name_of repo.old.0) repo.new.1 tables.now s r.0 × AreFiles (N.name_of repo.old.0) r.0.history.values r.1 files.new) result (all_changed (N.name_of repo.old.0) revision_of s f (map shown_change changes.now)) }
+    ensures home { IfOk result (λ _. IsAtHome (N.name_of repo.old.0) repo.old.1.records files.old → IsAtHome (N.name_of repo.old.0) repo.new.1.records files.new) }
+    ensures steps { (s : State) (f : FileMap Bytes) → Stands (N.name_of repo.old.0) repo.old.1 tables.now s → AreFiles (N.name_of repo.old.0) s.history.values f files.old.files → AddsAs (Clash (N.name_of repo.old.0) (values_of repo.old.1) (blobs_added (N.name_of repo.old.0) s f (map shown_change changes.now))) (λ r _. Follows (N.name_of repo.old.0) repo.new.1 tables.now s r.0 × AreFiles (N.name_of repo.old.0) r.0.history.values r.1 files.new.files) result (all_changed (N.name_of repo.old.0) revision_of s f (map shown_change changes.now)) }
 {
     for change in changes {
         change_files(repo, tables, files, change)?;
@@ -56,7 +58,8 @@ fn change_files<N: Namer, A: Allocator + Copy>(
     ensures namer { repo.new.0 ≡ repo.old.0 }
     ensures refs { repo.new.1.refs ≡ repo.old.1.refs }
     ensures extends { Extends repo.old.1.records repo.new.1.records }
-    ensures steps { (s : State) (f : FileMap Bytes) → Stands (N.name_of repo.old.0) repo.old.1 tables.now s → AreFiles (N.name_of repo.old.0) s.history.values f files.old → AddsAs (Clash (N.name_of repo.old.0) (values_of repo.old.1) (blob_added (shown_change change.now))) (λ r _. Follows (N.name_of repo.old.0) repo.new.1 tables.now s r.0 × AreFiles (N.name_of repo.old.0) r.0.history.values r.1 files.new) result (changed (N.name_of repo.old.0) revision_of s f (shown_change change.now)) }
+    ensures home { IfOk result (λ _. IsAtHome (N.name_of repo.old.0) repo.old.1.records files.old → IsAtHome (N.name_of repo.old.0) repo.new.1.records files.new) }
+    ensures steps { (s : State) (f : FileMap Bytes) → Stands (N.name_of repo.old.0) repo.old.1 tables.now s → AreFiles (N.name_of repo.old.0) s.history.values f files.old.files → AddsAs (Clash (N.name_of repo.old.0) (values_of repo.old.1) (blob_added (shown_change change.now))) (λ r _. Follows (N.name_of repo.old.0) repo.new.1 tables.now s r.0 × AreFiles (N.name_of repo.old.0) r.0.history.values r.1 files.new.files) result (changed (N.name_of repo.old.0) revision_of s f (shown_change change.now)) }
 {
     match change {
         Change::Modify(modify) => modify_files(repo, tables, files, modify)?,
@@ -85,8 +88,10 @@ fn modify_files<N: Namer, A: Allocator + Copy>(
     ensures namer { repo.new.0 ≡ repo.old.0 }
     ensures refs { repo.new.1.refs ≡ repo.old.1.refs }
     ensures extends { Extends repo.old.1.records repo.new.1.records }
-    ensures steps { (s : State) (f : FileMap Bytes) → Stands (N.name_of repo.old.0) repo.old.1 tables.now s → AreFiles (N.name_of repo.old.0) s.history.values f files.old → AddsAs (Clash (N.name_of repo.old.0) (values_of repo.old.1) (blob_added (shown_modify modify.now))) (λ r _. Follows (N.name_of repo.old.0) repo.new.1 tables.now s r.0 × AreFiles (N.name_of repo.old.0) r.0.history.values r.1 files.new) result (changed (N.name_of repo.old.0) revision_of s f (shown_modify modify.now)) }
+    ensures home { IfOk result (λ _. IsAtHome (N.name_of repo.old.0) repo.old.1.records files.old → IsAtHome (N.name_of repo.old.0) repo.new.1.records files.new) }
+    ensures steps { (s : State) (f : FileMap Bytes) → Stands (N.name_of repo.old.0) repo.old.1 tables.now s → AreFiles (N.name_of repo.old.0) s.history.values f files.old.files → AddsAs (Clash (N.name_of repo.old.0) (values_of repo.old.1) (blob_added (shown_modify modify.now))) (λ r _. Follows (N.name_of repo.old.0) repo.new.1 tables.now s r.0 × AreFiles (N.name_of repo.old.0) r.0.history.values r.1 files.new.files) result (changed (N.name_of repo.old.0) revision_of s f (shown_modify modify.now)) }
 {
+    records_keep_home();
     let name = content(repo, tables, modify.mode, &modify.data_ref)?;
     files.modify(&modify.path, modify.mode, name)?;
     files.name_map();

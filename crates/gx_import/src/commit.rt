@@ -21,7 +21,8 @@ ghost use Rattle.gx_import.specs.Additions.{Clash, added_alone, added_by_commit,
 ghost use Rattle.gx_import.specs.Answers.{AddsAs, GivesAs};
 ghost use Rattle.gx_import.specs.Objects.{IsCommitOf, IsTreeOf};
 ghost use Rattle.gx_import.specs.Rows.{AreAll, AreBoth, rows_of};
-ghost use Rattle.gx_import.specs.Standing.{Extends, Follows, Stands};
+ghost use Rattle.gx_import.specs.Standing.{AreTipsAtHome, Extends, Follows, Stands};
+ghost use Rattle.gx_tree.specs.Named.{IsAtHome};
 ghost use Rattle.gx_model.specs.NameMaps.{AreFiles};
 
 use crate::ImportKind;
@@ -36,7 +37,7 @@ use gx_model::repository_laws::{puts_add_values, trees_add_file_maps};
 use gx_object::{CommitParts, Kind, Name, Namer};
 use gx_repo::Repo;
 use gx_text::Ident;
-use gx_tree::PathTree;
+use gx_tree::{PathTree, records_keep_home};
 use std::alloc::{AllocError, Allocator};
 
 /// Makes a commit: its parents, its changes in their order, its trees, itself, its mark, its branch.
@@ -46,12 +47,15 @@ pub(crate) fn apply_commit<N: Namer, A: Allocator + Copy>(
     commit: Commit<A>,
 ) -> Result<(), ImportKind>
     requires stands { (s : State) × Stands (N.name_of repo.now.0) repo.now.1 tables.now s }
+    requires homes { AreTipsAtHome (N.name_of repo.now.0) repo.now.1.records tables.now }
+    ensures homes { IfOk result (λ _. AreTipsAtHome (N.name_of repo.old.0) repo.new.1.records tables.new) }
     ensures namer { repo.new.0 ≡ repo.old.0 }
     ensures refs { repo.new.1.refs ≡ repo.old.1.refs }
     ensures extends { Extends repo.old.1.records repo.new.1.records }
     ensures steps { (s : State) → Stands (N.name_of repo.old.0) repo.old.1 tables.old s → AddsAs (Clash (N.name_of repo.old.0) (values_of repo.old.1) (added_by_commit (N.name_of repo.old.0) s (commit_parts commit))) (λ t _. Follows (N.name_of repo.old.0) repo.new.1 tables.new s t) result (step_commit (N.name_of repo.old.0) revision_of s (commit_parts commit)) }
 {
     repo.sound();
+    records_keep_home();
     let first = first_parent(repo, tables, &commit)?;
     let parents = parents(repo, tables, &commit, first)?;
     let branch = commit.branch.bytes.as_slice();
@@ -140,18 +144,21 @@ fn add<N: Namer, A: Allocator + Copy>(
     parents: &[Name],
     commit: &Commit<A>,
 ) -> Result<Name, ImportKind>
-    requires named { IsNamedMap repo.now.1.records files.now }
+    requires named { IsNamedMap repo.now.1.records files.now.files }
     requires parents { AllByRecursion (λ parent. Holds repo.now.1.records kinds.Commit parent.bytes) parents.now }
+    requires home { IsAtHome (N.name_of repo.now.0) repo.now.1.records files.now }
+    ensures home { IfOk result (λ _. IsAtHome (N.name_of repo.old.0) repo.new.1.records files.new) }
     ensures namer { repo.new.0 ≡ repo.old.0 }
     ensures refs { repo.new.1.refs ≡ repo.old.1.refs }
     ensures extends { Extends repo.old.1.records repo.new.1.records }
-    ensures files { files.new ≡ files.old }
-    ensures steps { (tables : Tables A) (s : State) (f : FileMap Bytes) (ps : List values.Commit) → Stands (N.name_of repo.old.0) repo.old.1 tables s → AreFiles (N.name_of repo.old.0) s.history.values f files.old → AreAll (IsCommitOf (N.name_of repo.old.0) s.history.values) ps parents.now → AddsAs (Clash (N.name_of repo.old.0) (values_of repo.old.1) (commit_added f (values.commit f (commits_of ps) (text_made (N.name_of repo.old.0) revision_of (commit_parts commit.now))))) (λ t called. Follows (N.name_of repo.old.0) repo.new.1 tables s t × (called.bytes ≡ name_of (N.name_of repo.old.0) (commit_value (values.commit f (commits_of ps) (text_made (N.name_of repo.old.0) revision_of (commit_parts commit.now)))))) result (Ok (added (commit_value (values.commit f (commits_of ps) (text_made (N.name_of repo.old.0) revision_of (commit_parts commit.now)))) s)) }
+    ensures files { files.new.files ≡ files.old.files }
+    ensures steps { (tables : Tables A) (s : State) (f : FileMap Bytes) (ps : List values.Commit) → Stands (N.name_of repo.old.0) repo.old.1 tables s → AreFiles (N.name_of repo.old.0) s.history.values f files.old.files → AreAll (IsCommitOf (N.name_of repo.old.0) s.history.values) ps parents.now → AddsAs (Clash (N.name_of repo.old.0) (values_of repo.old.1) (commit_added f (values.commit f (commits_of ps) (text_made (N.name_of repo.old.0) revision_of (commit_parts commit.now))))) (λ t called. Follows (N.name_of repo.old.0) repo.new.1 tables s t × (called.bytes ≡ name_of (N.name_of repo.old.0) (commit_value (values.commit f (commits_of ps) (text_made (N.name_of repo.old.0) revision_of (commit_parts commit.now)))))) result (Ok (added (commit_value (values.commit f (commits_of ps) (text_made (N.name_of repo.old.0) revision_of (commit_parts commit.now)))) s)) }
 {
     repo.sound();
     trees_add_file_maps();
     puts_add_values();
-    let tree = repo.add_tree(files)?;
+    records_keep_home();
+    let tree = repo.add_tree_shared(files)?;
     add_alone(repo, tree, parents, commit)
 }
 

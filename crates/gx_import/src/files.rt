@@ -1,30 +1,31 @@
 //! The files that a commit starts from.
 
-ghost use Rattle.std.specs.Prelude.{◌≡◌, Option, IsTrue, IfOk, IfErr};
+ghost use Rattle.std.specs.Prelude.{◌≡◌, Option, Some, IsTrue, IfOk, IfErr};
 ghost use Rattle.std.specs.FinMap.Entries.{is_sorted};
 ghost use Rattle.gx_model.specs.declared.objects.Kind.TheVariants as kinds;
 ghost use Rattle.gx_model.specs.Records.{named_map, parts_of_commit};
 ghost use Rattle.gx_model.specs.Replay.{State, byte_cmp, starting_files};
 ghost use Rattle.gx_model.specs.Revisions.{revision_of};
 ghost use Rattle.gx_model.specs.Values.{Commit, files_of};
+ghost use Rattle.gx_tree.specs.Named.{IsAtHome};
 ghost use Rattle.gx_rev.specs.Objects.{IsHeldAs, commit_at};
 ghost use Rattle.gx_import.specs.declared.fault.ImportKind.TheVariants.{OutOfMemory};
 ghost use Rattle.gx_import.specs.Objects.{IsCommitOf};
 ghost use Rattle.gx_import.specs.Rows.{AreBoth, rows_of};
-ghost use Rattle.gx_import.specs.Standing.{Stands};
+ghost use Rattle.gx_import.specs.Standing.{AreTipsAtHome, Stands};
 
 use crate::ImportKind;
-use crate::branches::take_files;
+use crate::branches::{files_at, take_files};
 use crate::tables::Tables;
 use gx_object::{Name, Namer, decode_commit};
 use gx_repo::Repo;
 use gx_tree::PathTree;
 use std::alloc::Allocator;
 
-/// The files of the first parent: those at hand where its branch stands there, and otherwise those of its tree.
-/// There are none without a first parent.
+/// The files of the first parent: those at hand where its branch or another stands there, and otherwise those of its
+/// tree. There are none without a first parent.
 ///
-/// Cost: a binary search, or else the size of the tree.
+/// Cost: a binary search; or else the number of branches; or else the size of the tree.
 pub(crate) fn starting_files<N: Namer, A: Allocator + Copy>(
     repo: &Repo<N, A>,
     tables: &mut Tables<A>,
@@ -33,7 +34,9 @@ pub(crate) fn starting_files<N: Namer, A: Allocator + Copy>(
 ) -> Result<PathTree<A>, ImportKind>
     requires stands { (s : State) × (made : Option Commit) × Stands (N.name_of repo.now.0) repo.now.1 tables.now s × AreBoth (IsCommitOf (N.name_of repo.now.0) s.history.values) made first }
     ensures tables { (s : State) → Stands (N.name_of repo.now.0) repo.now.1 tables.old s → Stands (N.name_of repo.now.0) repo.now.1 tables.new s }
-    ensures files { (s : State) (made : Option Commit) → Stands (N.name_of repo.now.0) repo.now.1 tables.old s → AreBoth (IsCommitOf (N.name_of repo.now.0) s.history.values) made first → IfOk result (λ files. files ≡ named_map (N.name_of repo.now.0) (starting_files (N.name_of repo.now.0) revision_of made)) }
+    ensures files { (s : State) (made : Option Commit) → Stands (N.name_of repo.now.0) repo.now.1 tables.old s → AreBoth (IsCommitOf (N.name_of repo.now.0) s.history.values) made first → IfOk result (λ files. files.files ≡ named_map (N.name_of repo.now.0) (starting_files (N.name_of repo.now.0) revision_of made)) }
+    ensures homes { AreTipsAtHome (N.name_of repo.now.0) repo.now.1.records tables.old → AreTipsAtHome (N.name_of repo.now.0) repo.now.1.records tables.new }
+    ensures home { AreTipsAtHome (N.name_of repo.now.0) repo.now.1.records tables.old → IfOk result (IsAtHome (N.name_of repo.now.0) repo.now.1.records) }
     ensures fault { IfErr result (λ fault. fault ≡ OutOfMemory) }
 {
     repo.sound();
@@ -42,7 +45,25 @@ pub(crate) fn starting_files<N: Namer, A: Allocator + Copy>(
     };
     match take_files(&mut tables.branches, branch, &commit) {
         Some(files) => Ok(files),
-        None => loaded_files(tables.alloc, repo, &commit),
+        None => other_files(repo, tables, &commit),
+    }
+}
+
+/// The files of a commit: those at hand where any branch stands there, which are shared, and otherwise those of its tree.
+fn other_files<N: Namer, A: Allocator + Copy>(
+    repo: &Repo<N, A>,
+    tables: &Tables<A>,
+    commit: &Name,
+) -> Result<PathTree<A>, ImportKind>
+    requires stands { (s : State) × (made : Option Commit) × Stands (N.name_of repo.now.0) repo.now.1 tables.now s × AreBoth (IsCommitOf (N.name_of repo.now.0) s.history.values) made (Some commit.now) }
+    ensures files { (s : State) (made : Option Commit) → Stands (N.name_of repo.now.0) repo.now.1 tables.now s → AreBoth (IsCommitOf (N.name_of repo.now.0) s.history.values) made (Some commit.now) → IfOk result (λ files. files.files ≡ named_map (N.name_of repo.now.0) (starting_files (N.name_of repo.now.0) revision_of made)) }
+    ensures home { AreTipsAtHome (N.name_of repo.now.0) repo.now.1.records tables.now → IfOk result (IsAtHome (N.name_of repo.now.0) repo.now.1.records) }
+    ensures fault { IfErr result (λ fault. fault ≡ OutOfMemory) }
+{
+    repo.sound();
+    match files_at(&tables.branches, commit) {
+        Some(files) => Ok(files.duplicate()?),
+        None => loaded_files(tables.alloc, repo, commit),
     }
 }
 
@@ -53,7 +74,8 @@ fn loaded_files<N: Namer, A: Allocator + Copy>(
     commit: &Name,
 ) -> Result<PathTree<A>, ImportKind>
     requires { IsHeldAs kinds.Commit repo.now.1 commit.now }
-    ensures files { IfOk result (λ files. files ≡ named_map (N.name_of repo.now.0) (files_of (commit_at repo.now.1 commit.now))) }
+    ensures files { IfOk result (λ files. files.files ≡ named_map (N.name_of repo.now.0) (files_of (commit_at repo.now.1 commit.now))) }
+    ensures home { IfOk result (IsAtHome (N.name_of repo.now.0) repo.now.1.records) }
     ensures fault { IfErr result (λ fault. fault ≡ OutOfMemory) }
 {
     repo.sound();

@@ -13,7 +13,7 @@ ghost use Rattle.gx_command.specs.Views.{shown_command};
 ghost use Rattle.gx_import.specs.Applying.{Applies};
 ghost use Rattle.gx_import.specs.Exported.{KeepsNoNullGitlink};
 ghost use Rattle.gx_import.specs.Replaying.{FallsNext, ReadsNext, ReplaysTo, Writes};
-ghost use Rattle.gx_import.specs.Standing.{AreEmpty, Extends, Follows, Stands};
+ghost use Rattle.gx_import.specs.Standing.{AreEmpty, AreTipsAtHome, Extends, Follows, Stands};
 
 use crate::blob::apply_blob;
 use crate::commit::apply_commit;
@@ -25,6 +25,7 @@ use gx_command::{Command, CommandReader, Feature};
 use gx_object::Namer;
 use gx_repo::Repo;
 use gx_text::{Sink, Source, send};
+use gx_tree::records_keep_home;
 use std::alloc::Allocator;
 
 /// Applies all commands of a source, and answers their number.
@@ -83,11 +84,14 @@ fn apply<N: Namer, A: Allocator + Copy, W: Sink>(
     command: Command<A>,
 ) -> Result<(), ImportKind>
     requires stands { (s : State) × Stands (N.name_of repo.now.0) repo.now.1 tables.now s }
+    requires homes { AreTipsAtHome (N.name_of repo.now.0) repo.now.1.records tables.now }
+    ensures homes { IfOk result (λ _. AreTipsAtHome (N.name_of repo.old.0) repo.new.1.records tables.new) }
     ensures namer { repo.new.0 ≡ repo.old.0 }
     ensures refs { repo.new.1.refs ≡ repo.old.1.refs }
     ensures extends { Extends repo.old.1.records repo.new.1.records }
     ensures steps { (s : State) → Stands (N.name_of repo.old.0) repo.old.1 tables.old s → Applies (N.name_of repo.old.0) repo.old.1 repo.new.1 tables.new s (shown_command command) (W.taken sink.old) (W.taken sink.new) result }
 {
+    records_keep_home();
     match command {
         Command::Blob(blob) => apply_blob(repo, tables, &blob),
         Command::Commit(commit) => apply_commit(repo, tables, commit),
@@ -123,7 +127,8 @@ fn write<W: Sink>(sink: &mut W, bytes: &[u8]) -> Result<(), ImportKind>
 
 /// The feature `force` lets branches lose commits.
 fn apply_feature<A: Allocator + Copy>(tables: &mut Tables<A>, feature: Feature)
-    ensures { (name : Kind → Bytes → Bytes) (repository : Records) (s : State) → Stands name repository tables.old s → (t : State) × (step name revision_of s (Asks feature) ≡ Ok t) × Follows name repository tables.new s t }
+    ensures branches { tables.new.branches ≡ tables.old.branches }
+    ensures steps { (name : Kind → Bytes → Bytes) (repository : Records) (s : State) → Stands name repository tables.old s → (t : State) × (step name revision_of s (Asks feature) ≡ Ok t) × Follows name repository tables.new s t }
 {
     match feature {
         Feature::Force => tables.is_forced = true,

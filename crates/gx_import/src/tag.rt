@@ -35,6 +35,7 @@ pub(crate) fn apply_tag<N: Namer, A: Allocator + Copy>(
     tag: &Tag<A>,
 ) -> Result<(), ImportKind>
     requires stands { (s : State) × Stands (N.name_of repo.now.0) repo.now.1 tables.now s }
+    ensures branches { tables.new.branches ≡ tables.old.branches }
     ensures namer { repo.new.0 ≡ repo.old.0 }
     ensures refs { repo.new.1.refs ≡ repo.old.1.refs }
     ensures extends { Extends repo.old.1.records repo.new.1.records }

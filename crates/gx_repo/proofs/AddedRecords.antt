@@ -1,5 +1,5 @@
 -- What comes of a record of which nothing is known.
-use Rattle.std.proofs.Common.{◌≡◌, true, List, Option, None, Some, is_some, Result, Ok, Err, IsErrAnd, refl, sym, ap, ◌∙◌}
+use Rattle.std.proofs.Common.{◌≡◌, ◌⊎◌, inl, inr, true, List, Option, None, Some, is_some, Result, Ok, Err, IsErrAnd, refl, sym, ap, ◌∙◌}
 use Rattle.gx_model.specs.declared.store_faults.FileFault.{FileFault}
 use Rattle.gx_model.specs.declared.store_faults.FileFault.TheVariants as model
 use Rattle.gx_model.specs.Histories.{Record}
@@ -32,6 +32,15 @@ refused old r (Err OutOfMemory) f e h = refl
 refused old r (Err BadObject) f e h = (against_record old r (add_fault f) h ∙ ap (λ z. Some (add_fault z)) (sym e), refl)
 refused old r (Err Dangling) f e h = (against_record old r (add_fault f) h ∙ ap (λ z. Some (add_fault z)) (sym e), refl)
 refused old r (Err DuplicateObject) f e h = (against_record old r (add_fault f) h ∙ ap (λ z. Some (add_fault z)) (sym e), refl)
+
+-- and one for want of memory
+pub room_refused : (old : List Record) (r : Record) (answer : Result Name AddFault) (f : AddFault) → IsErrAnd answer (λ y. y ≡ f) → (f ≡ OutOfMemory) ⊎ (content_fault old r.kind r.body ≡ Some (add_fault f)) → AddsRecord old old r answer
+room_refused old r answer f e (inr h) = refused old r answer f e h
+room_refused old r (Ok n) f e (inl o) = absurd e
+room_refused old r (Err OutOfMemory) f e (inl o) = refl
+room_refused old r (Err BadObject) f e (inl o) = let k : BadObject ≡ OutOfMemory = e ∙ o in absurd (cc)
+room_refused old r (Err Dangling) f e (inl o) = let k : Dangling ≡ OutOfMemory = e ∙ o in absurd (cc)
+room_refused old r (Err DuplicateObject) f e (inl o) = let k : DuplicateObject ≡ OutOfMemory = e ∙ o in absurd (cc)
 
 -- a put that is refused finds the name held
 pub put_refused : (old : List Record) (r : Record) → put old r ≡ None → is_some (record_named old r.name) ≡ true

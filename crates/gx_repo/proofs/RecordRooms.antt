@@ -24,7 +24,7 @@ use Rattle.gx_model.proofs.LinkedValues.{found, named, proper_in}
 use Rattle.gx_model.proofs.PathTests.{first, second}
 use Rattle.gx_model.proofs.TreePaths.{content_parts}
 use Rattle.gx_repo.specs.Places.{IsPlace}
-use Rattle.gx_repo.specs.Rooms.{room_of, rooms_of}
+use Rattle.gx_repo.specs.Rooms.{IsFront, room_of, rooms_of}
 use Rattle.gx_repo.proofs.PathRooms.{room_within}
 use Rattle.gx_repo.proofs.Places.{no_record}
 
@@ -96,12 +96,6 @@ rooms_taken k rs = elim (cases_lt k (length rs)) [
 -- where records still begin as they did, so do their rooms
 pub rooms_front : (old new : List Record) → take (length old) new ≡ old → rooms_of old ≡ take (length old) (rooms_of new)
 rooms_front old new e = ap rooms_of (sym e) ∙ rooms_taken (length old) new
-
--- the rooms of records are the first ones of more
-pub rooms_kept : (old new : List Record) (xs : List ℕ) → xs ≡ rooms_of old → take (length old) new ≡ old → xs ≡ take (length xs) (rooms_of new)
-rooms_kept old new xs its front =
-    let many : length old ≡ length xs = omega (arith, ap length its, rooms_count old) in
-    its ∙ rooms_front old new front ∙ ap (λ k. take k (rooms_of new)) many
 
 -- ---- the record at a place
 
@@ -183,10 +177,6 @@ room_at_place rs n i p =
 pub sound_first : (name : Kind → Bytes → Bytes) (k : ℕ) (rs : List Record) → IsSound name (record { records = rs; refs = [] }) → IsSound name (record { records = take k rs; refs = [] })
 sound_first name k rs i = kept name (take k rs) (drop k rs) [] (subst (λ z. IsSound name (record { records = z; refs = [] })) (sym (take-append-drop k rs)) i) tt
 
--- without its refs a repository is as sound
-pub sound_alone : (name : Kind → Bytes → Bytes) (r : Records) → IsSound name r → IsSound name (record { records = r.records; refs = [] })
-sound_alone name r i = record { named = i.named; distinct = i.distinct; linked = i.linked; paths = i.paths; sorted = refl; ref_names = refl; held = tt }
-
 -- a tree with files, at the paths of files
 pub record IsFull (v : Value) : Type 0 where
   pub tree : v ≡ tree_value (files_of_tree v)
@@ -233,3 +223,36 @@ module _ (name : Kind → Bytes → Bytes) (namer : IsNamer name) where
         (subst (AnyByRecursion (λ z. (z.kind ≡ kinds.Tree) × (z.name ≡ n) × (z.body ≢ []))) t.records h) in
         subst (λ ks. IsFull (value_named ks n)) (sym (named_is name namer alone sound))
         (full_value name (value_named (named name vs) n) (proper_in vs (value_named (named name vs) n) (passes _ t.history.proper) f.0) f.1.0 f.1.2)
+
+-- ---- the rooms that are entered
+
+take_within : {X : Type 0} (n m : ℕ) (xs : List X) → n ≤ m → take n (take m xs) ≡ take n xs
+take_within zero m xs l = refl
+take_within (suc n) zero xs l = absurd (omega arith)
+take_within (suc n) (suc m) [] l = refl
+take_within (suc n) (suc m) (x ∷ xs) l = ap (λ ys. x ∷ ys) (take_within n m xs (omega arith))
+
+-- they are those of the first of more records too
+pub front_kept : (old new : List Record) (xs : List ℕ) → IsFront xs old → take (length old) new ≡ old → IsFront xs new
+front_kept old new xs its front =
+    let few : length xs ≤ length old = omega (arith, ap length its, length-take (length xs) (rooms_of old), rooms_count old) in
+    its ∙ ap (take (length xs)) (rooms_front old new front) ∙ take_within (length xs) (length old) (rooms_of new) few
+
+-- all rooms are the first ones
+pub front_whole : (rs : List Record) (xs : List ℕ) → xs ≡ rooms_of rs → IsFront xs rs
+front_whole rs xs e = sym (take_all (length xs) xs (omega arith)) ∙ ap (take (length xs)) e
+
+-- as many as there are records are all
+pub front_all : (rs : List Record) (xs : List ℕ) → IsFront xs rs → length rs ≤ length xs → xs ≡ rooms_of rs
+front_all rs xs its l = its ∙ take_all (length xs) (rooms_of rs) (omega (arith, rooms_count rs, l))
+
+taken_front : {X : Type 0} (k : ℕ) (xs rest : List X) → take k xs ≡ take (length (take k xs)) (take k (xs ++ rest))
+taken_front zero xs rest = refl
+taken_front (suc k) [] rest = refl
+taken_front (suc k) (x ∷ xs) rest = ap (λ ys. x ∷ ys) (taken_front k xs rest)
+
+-- fewer records, and fewer rooms
+pub front_taken : (k : ℕ) (rs : List Record) (xs : List ℕ) → IsFront xs rs → IsFront (take k xs) (take k rs)
+front_taken k rs xs its =
+    let all : xs ++ drop (length xs) (rooms_of rs) ≡ rooms_of rs = ap (λ z. z ++ drop (length xs) (rooms_of rs)) its ∙ take-append-drop (length xs) (rooms_of rs) in
+    taken_front k xs (drop (length xs) (rooms_of rs)) ∙ ap (λ z. take (length (take k xs)) (take k z)) all ∙ ap (take (length (take k xs))) (sym (rooms_taken k rs))

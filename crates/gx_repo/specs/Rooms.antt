@@ -1,5 +1,5 @@
 -- How much room the paths below trees take. Source: this project's own limit of 4,095 bytes for a path.
-use Rattle.std.specs.Prelude.{ℕ, ◌+◌, List, [], ◌∷◌, length, map, max}
+use Rattle.std.specs.Prelude.{◌≡◌, ℕ, ◌+◌, take, List, [], ◌∷◌, length, map, max}
 use Rattle.gx_model.specs.Texts.{Bytes}
 use Rattle.gx_model.specs.Paths.{path_text}
 use Rattle.gx_model.specs.Files.{FileMap}
@@ -20,3 +20,7 @@ room_of _ = 0
 -- the rooms of records, each by its place
 abbrev pub rooms_of : List Record → List ℕ
 rooms_of records = map (λ named. room_of named.1) (named_values records)
+
+-- the rooms of the first of these records
+abbrev pub IsFront : List ℕ → List Record → Type 0
+IsFront rooms records = rooms ≡ take (length rooms) (rooms_of records)

@@ -1,5 +1,5 @@
 //! Repositories: a store of objects, and refs that hold some of them.
-ghost use Rattle.std.specs.Prelude.{◌≡◌, [], map, take, Some, None, IsTrue, IfOk, IfErr, IsOkAnd, OnOk, OnErr};
+ghost use Rattle.std.specs.Prelude.{◌⊎◌, ◌≡◌, [], map, take, Some, None, IsTrue, IfOk, IfErr, IsOkAnd, OnOk, OnErr};
 ghost use Rattle.std.specs.List.{AllByRecursion};
 ghost use Rattle.std.specs.Option.{option_map};
 ghost use Rattle.gx_model.specs.declared.objects.Kind.TheVariants as kinds;
@@ -19,6 +19,8 @@ ghost use Rattle.gx_model.specs.RepositoryLaws.{values_of};
 ghost use Rattle.gx_model.specs.Sound.{HasShortPaths, Holds, IsLinked, IsNamedMap, IsSound, IsTarget, Keeps};
 ghost use Rattle.gx_model.specs.Values.{blob_value, is_optional_encoding, tree_value};
 ghost use Rattle.gx_object.specs.Parts.{commit_parts, tag_parts};
+ghost use Rattle.gx_tree.specs.Named.{IsAtHome};
+ghost use Rattle.gx_repo.specs.declared.fault.AddFault.TheVariants as faults;
 ghost use Rattle.gx_tree.specs.StoreFaults.{tree_fault};
 ghost use Rattle.gx_tree.specs.Writes.{map_name};
 ghost use Rattle.gx_repo.specs.Additions.{Adds, AddsAll, HasValues, IsWriteFault, commit_among, commit_record, tag_among, tag_record};
@@ -62,13 +64,13 @@ impl<N: Namer, A: Allocator> Model for Repo<N, A> {
     ghost use Rattle.gx_model.specs.Histories.{Records};
     ghost use Rattle.gx_model.specs.Sound.{IsSound};
     ghost use Rattle.gx_repo.specs.Refs.{kept};
-    ghost use Rattle.gx_repo.specs.Rooms.{rooms_of};
+    ghost use Rattle.gx_repo.specs.Rooms.{IsFront};
 
     ghost Value = { N × Records };
 
     ghost view = { λ s. (s.store.0, record { records = s.store.1; refs = map kept s.refs.items }) };
 
-    ghost invariant = { λ s. IsSound (N.name_of s.store.0) (record { records = s.store.1; refs = map kept s.refs.items }) × (s.rooms.items ≡ rooms_of s.store.1) };
+    ghost invariant = { λ s. IsSound (N.name_of s.store.0) (record { records = s.store.1; refs = map kept s.refs.items }) × IsFront s.rooms.items s.store.1 };
 }
 
 impl<N: Namer, A: Allocator + Copy> Repo<N, A> {
@@ -154,15 +156,16 @@ impl<N: Namer, A: Allocator + Copy> Repo<N, A> {
     /// NameHeld comes only where one of these trees has the name of another object; after a fault the repository is as it was.
     /// Cost: that of `PathTree::write`, and a look-up for each entry of the new trees. Source: gitglossary(7), "tree object".
     pub fn add_tree(&mut self, tree: &mut PathTree<A>) -> Result<Name, StoreFault>
-        requires named { IsNamedMap self.now.1.records tree.now }
+        requires named { IsNamedMap self.now.1.records tree.now.files }
         ensures namer { self.new.0 ≡ self.old.0 }
-        ensures adds { AddsAll self.old.1.records self.new.1.records (tree_records (N.name_of self.old.0) tree.old) (map_name (N.name_of self.old.0) tree.old) result }
+        ensures adds { AddsAll self.old.1.records self.new.1.records (tree_records (N.name_of self.old.0) tree.old.files) (map_name (N.name_of self.old.0) tree.old.files) result }
         ensures refs { self.new.1.refs ≡ self.old.1.refs }
-        ensures history { IfOk result (λ _. HasValues self.old.1 self.new.1 (with_tree (values_of self.old.1) (contents_of (named_values self.old.1.records) tree.old))) }
-        ensures value { IfOk result (λ name. name.bytes ≡ name_of (N.name_of self.old.0) (tree_value (contents_of (named_values self.old.1.records) tree.old))) }
+        ensures history { IfOk result (λ _. HasValues self.old.1 self.new.1 (with_tree (values_of self.old.1) (contents_of (named_values self.old.1.records) tree.old.files))) }
+        ensures value { IfOk result (λ name. name.bytes ≡ name_of (N.name_of self.old.0) (tree_value (contents_of (named_values self.old.1.records) tree.old.files))) }
         ensures held { IfOk result (λ name. Holds self.new.1.records kinds.Tree name.bytes) }
         ensures keeps { Keeps self.old.1.records self.new.1.records }
-        ensures map { tree.new ≡ tree.old }
+        ensures map { tree.new.files ≡ tree.old.files }
+        ensures home { IfOk result (λ _. IsAtHome (N.name_of self.old.0) self.new.1.records tree.new) }
     {
         trees_add_file_maps();
         puts_add_values();
@@ -174,10 +177,38 @@ impl<N: Namer, A: Allocator + Copy> Repo<N, A> {
                 return Err(store_fault(fault));
             }
         };
-        let Ok(()) = enter_rooms(&self.store, &mut self.rooms) else {
-            self.store.truncate(held);
-            self.rooms.truncate(held);
-            return Err(StoreFault::OutOfMemory);
+        Ok(name)
+    }
+
+    /// Does what `add_tree` does, for a tree that is at home here: each name that it remembers is that of a tree which is
+    /// held with all trees below it. So it doesn't look below a remembered name.
+    ///
+    /// The errors are those of `add_tree`; after a fault the repository and the tree's files are as they were, and what the
+    /// tree remembers may be held no longer: it is added by `add_tree` then, or dropped.
+    /// Cost: the bodies of the trees without a remembered name, and for each of them the number of records. Source:
+    /// gitglossary(7), "tree object".
+    pub fn add_tree_shared(&mut self, tree: &mut PathTree<A>) -> Result<Name, StoreFault>
+        requires named { IsNamedMap self.now.1.records tree.now.files }
+        requires home { IsAtHome (N.name_of self.now.0) self.now.1.records tree.now }
+        ensures namer { self.new.0 ≡ self.old.0 }
+        ensures adds { AddsAll self.old.1.records self.new.1.records (tree_records (N.name_of self.old.0) tree.old.files) (map_name (N.name_of self.old.0) tree.old.files) result }
+        ensures refs { self.new.1.refs ≡ self.old.1.refs }
+        ensures history { IfOk result (λ _. HasValues self.old.1 self.new.1 (with_tree (values_of self.old.1) (contents_of (named_values self.old.1.records) tree.old.files))) }
+        ensures value { IfOk result (λ name. name.bytes ≡ name_of (N.name_of self.old.0) (tree_value (contents_of (named_values self.old.1.records) tree.old.files))) }
+        ensures held { IfOk result (λ name. Holds self.new.1.records kinds.Tree name.bytes) }
+        ensures keeps { Keeps self.old.1.records self.new.1.records }
+        ensures map { tree.new.files ≡ tree.old.files }
+        ensures home { IfOk result (λ _. IsAtHome (N.name_of self.old.0) self.new.1.records tree.new) }
+    {
+        trees_add_file_maps();
+        puts_add_values();
+        let held = self.store.len();
+        let name = match tree.write_shared(&mut self.store) {
+            Ok(name) => name,
+            Err(fault) => {
+                self.store.truncate(held);
+                return Err(store_fault(fault));
+            }
         };
         Ok(name)
     }
@@ -231,8 +262,8 @@ impl<N: Namer, A: Allocator + Copy> Repo<N, A> {
     /// `Dangling`: a link isn't held, or is held as another kind. `BadObject`: an entry names a tree without entries, or a
     /// path below the tree has more than 4,095 bytes. `DuplicateObject`: the name is held, whatever its bytes.
     /// `OutOfMemory`: a growth was refused. After a fault the repository is as it was.
-    /// Cost: that of `Store::put`, and a look-up for each link; each entry is looked at once.
-    /// Source: Pro Git, "Git Objects".
+    /// Cost: that of `Store::put`, and a look-up for each link; each entry is looked at once, and so are those of the trees
+    /// that were added since the last such call. Source: Pro Git, "Git Objects".
     pub fn add_record(&mut self, kind: Kind, body: &[u8]) -> Result<Name, AddFault>
         ensures namer { self.new.0 ≡ self.old.0 }
         ensures adds { AddsRecord self.old.1.records self.new.1.records (record_for (N.name_of self.old.0) kind body.now) result }
@@ -284,17 +315,23 @@ impl<N: Namer, A: Allocator + Copy> Repo<N, A> {
         self.rooms.truncate(len);
     }
 
-    /// The room of what is below an object, or what its body has against it.
-    fn room_of(&self, kind: Kind, body: &[u8]) -> Result<usize, AddFault>
-        ensures ok { IfOk result (λ _. content_fault self.now.1.records kind body.now ≡ None) }
-        ensures room { IfOk result (λ room. room ≡ room_of (value_in (named_values self.now.1.records) kind body.now)) }
-        ensures fault { IfErr result (λ fault. content_fault self.now.1.records kind body.now ≡ Some (add_fault fault)) }
+    /// The room of what is below an object, or what its body has against it. The rooms of all records are entered before.
+    fn room_of(&mut self, kind: Kind, body: &[u8]) -> Result<usize, AddFault>
+        ensures same { self.new ≡ self.old }
+        ensures ok { IfOk result (λ _. content_fault self.old.1.records kind body.now ≡ None) }
+        ensures room { IfOk result (λ room. room ≡ room_of (value_in (named_values self.old.1.records) kind body.now)) }
+        ensures fault { IfErr result (λ fault. (fault ≡ faults.OutOfMemory) ⊎ (content_fault self.old.1.records kind body.now ≡ Some (add_fault fault))) }
     {
         parts_change();
+        let entered = self.rooms.len();
+        let Ok(()) = enter_rooms(&self.store, &mut self.rooms) else {
+            self.rooms.truncate(entered);
+            return Err(AddFault::OutOfMemory);
+        };
         checked_room(&self.store, self.rooms.as_slice(), kind, body)
     }
 
-    /// Puts an object whose links are held, with the room of what is below it.
+    /// Puts an object whose links are held, with the room of what is below it where all before it have theirs.
     fn add(&mut self, kind: Kind, body: &[u8], room: usize) -> Result<Name, StoreFault>
         requires linked { IsLinked self.now.1.records kind body.now }
         requires short { HasShortPaths self.now.1.records (record_for (N.name_of self.now.0) kind body.now) }
@@ -312,6 +349,9 @@ impl<N: Namer, A: Allocator + Copy> Repo<N, A> {
         let held = self.store.len();
         let name = self.store.put(kind, body)?;
         if self.store.len() == held {
+            return Ok(name);
+        }
+        if self.rooms.len() < held {
             return Ok(name);
         }
         let Ok(()) = self.rooms.push(room) else {

@@ -46,8 +46,8 @@ fn add_file<N: Namer, A: Allocator + Copy>(
     path: &[u8],
     body: &[u8],
 ) -> bool
-    requires named { IsNamedMap repo.now.1.records tree.now }
-    ensures named { IsNamedMap repo.new.1.records tree.new }
+    requires named { IsNamedMap repo.now.1.records tree.now.files }
+    ensures named { IsNamedMap repo.new.1.records tree.new.files }
 {
     let Ok(path) = TreePath::read(alloc, path) else {
         return false;
@@ -68,8 +68,8 @@ fn add_revision<'x, N: Namer, A: Allocator + Copy>(
     ident: &'x [u8],
     message: &'x [u8],
 ) -> Option<(Name, Name)>
-    requires named { IsNamedMap repo.now.1.records tree.now }
-    ensures named { IsNamedMap repo.new.1.records tree.new }
+    requires named { IsNamedMap repo.now.1.records tree.now.files }
+    ensures named { IsNamedMap repo.new.1.records tree.new.files }
     ensures held { IfSome result (λ names. Holds repo.new.1.records kinds.Commit names.1.bytes) }
 {
     let author = Ident::read(ident).ok()?;

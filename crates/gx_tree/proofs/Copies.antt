@@ -1,6 +1,6 @@
 -- Going over a directory's entries: a step of each loop.
 use Rattle.std.proofs.Common.{◌≡◌, ℕ, ◌+◌, ◌<◌, ◌≤◌, Bool, true, false, not, List, [], ◌∷◌, ◌++◌, length, get_or, drop, take, refl, sym, ap, ◌∙◌, append_assoc}
-use Rattle.std.proofs.lemmas.List.{drop_more, map-append}
+use Rattle.std.proofs.lemmas.List.{append-nil, drop_all, drop_more, map-append}
 use Rattle.std.proofs.lemmas.Bool.{not-true, not-false}
 use Rattle.std.specs.List.{insert}
 use Rattle.gx_model.specs.Texts.{Bytes, same_bytes}
@@ -11,6 +11,15 @@ use Rattle.gx_tree.proofs.Searches.{IsPlace, inserted_at}
 
 pub seen_more : {A : Type 0} (es : List (Entry A)) (i : ℕ) (r : Entry A) → i < length es → r ≡ get_or es i r → seen_all (drop i es) ≡ seen r ∷ seen_all (drop (i + 1) es)
 seen_more es i r l ir = rw (drop_more es i r l, ← ir) refl
+
+-- one more that is seen alike
+pub alike_more : {A : Type 0} (es : List (Entry A)) (i : ℕ) (r e : Entry A) (out out' : List (Entry A)) → i < length es → r ≡ get_or es i r → seen e ≡ seen r → out' ≡ out ++ e ∷ [] → seen_all out ++ seen_all (drop i es) ≡ seen_all es → seen_all out' ++ seen_all (drop (i + 1) es) ≡ seen_all es
+alike_more es i r e out out' l ir se so h =
+    rw (so, map-append seen out (e ∷ []), append_assoc (seen_all out) (seen e ∷ []) (seen_all (drop (i + 1) es)), se) (rw (seen_more es i r l ir) at h)
+
+-- all of them
+pub alike_all : {A : Type 0} (es xs : List (Entry A)) (i : ℕ) (out : List (Entry A)) → length xs ≤ i → xs ≡ es → seen_all out ++ seen_all (drop i xs) ≡ seen_all xs → seen_all out ≡ seen_all es
+alike_all es xs i out l ex h = sym (append-nil (seen_all out)) ∙ ap (λ r. seen_all out ++ seen_all r) (sym (drop_all i xs l)) ∙ h ∙ ap seen_all ex
 
 -- one more of the others
 pub others_kept : {A : Type 0} (c t : Bytes) (es : List (Entry A)) (i : ℕ) (r e : Entry A) (out out' : List (Entry A)) (b : Bool) → i < length es → r ≡ get_or es i r → t ≡ r.component.value.items → b ≡ not (same_bytes c t) → b ≡ true → seen e ≡ seen r → out' ≡ out ++ e ∷ [] → seen_all out ++ others c (seen_all (drop i es)) ≡ others c (seen_all es) → seen_all out' ++ others c (seen_all (drop (i + 1) es)) ≡ others c (seen_all es)

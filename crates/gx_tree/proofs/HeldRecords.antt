@@ -16,7 +16,7 @@ use Rattle.gx_tree.specs.Writes.{PutsAll, map_name}
 use Rattle.gx_tree.proofs.Texts.{bytes_are, same_itself}
 
 -- the record that a name finds is found before more records
-found_before : (rs more : List Record) (n : Bytes) (s : Record) → record_named rs n ≡ Some s → record_named (rs ++ more) n ≡ Some s
+pub found_before : (rs more : List Record) (n : Bytes) (s : Record) → record_named rs n ≡ Some s → record_named (rs ++ more) n ≡ Some s
 found_before [] more n s e = absurd (cc)
 found_before (r ∷ rs) more n s e =
     elim (same_bytes n r.name) as (λ b. cond b (Some r) (record_named rs n) ≡ Some s → cond b (Some r) (record_named (rs ++ more) n) ≡ Some s) [
@@ -58,11 +58,11 @@ one_record s r n e =
     λ i. record { name = n i; kind = k i; body = b i }
 
 -- what a put holds: its record, and what was held
-record Holds (old new : List Record) (r : Record) : Type 0 where
+pub record Holds (old new : List Record) (r : Record) : Type 0 where
   pub its : record_named new r.name ≡ Some r
   pub older : (n : Bytes) (s : Record) → record_named old n ≡ Some s → record_named new n ≡ Some s
 
-put_holds : (old new : List Record) (r : Record) → put old r ≡ Some new → Holds old new r
+pub put_holds : (old new : List Record) (r : Record) → put old r ≡ Some new → Holds old new r
 put_holds old new r e = by (record_named old r.name) refl e
   where
     by : (o : Option Record) → record_named old r.name ≡ o → put_under o old r ≡ Some new → Holds old new r
@@ -84,11 +84,11 @@ after_first r rs old new P then e =
       | Some mid ↦ λ k j. then mid k j
     ] refl e
 
-still_held : (rs old new : List Record) (n : Bytes) (s : Record) → put_all old rs ≡ Some new → record_named old n ≡ Some s → record_named new n ≡ Some s
+pub still_held : (rs old new : List Record) (n : Bytes) (s : Record) → put_all old rs ≡ Some new → record_named old n ≡ Some s → record_named new n ≡ Some s
 still_held [] old new n s e h = let is : old ≡ new = cc in subst (λ z. record_named z n ≡ Some s) is h
 still_held (r ∷ rs) old new n s e h = after_first r rs old new (record_named new n ≡ Some s) (λ mid k j. still_held rs mid new n s j ((put_holds old mid r k).older n s h)) e
 
-all_held : (rs old new : List Record) → put_all old rs ≡ Some new → AllByRecursion (λ r. record_named new r.name ≡ Some r) rs
+pub all_held : (rs old new : List Record) → put_all old rs ≡ Some new → AllByRecursion (λ r. record_named new r.name ≡ Some r) rs
 all_held [] old new e = tt
 all_held (r ∷ rs) old new e =
     after_first r rs old new (AllByRecursion (λ s. record_named new s.name ≡ Some s) (r ∷ rs)) (λ mid k j. (still_held rs mid new r.name r j (put_holds old mid r k).its, all_held rs mid new j)) e

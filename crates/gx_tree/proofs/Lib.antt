@@ -11,6 +11,7 @@ pub mod EditSteps
 pub mod Listed
 pub mod NamedFiles
 pub mod Measures
+pub mod Homes
 pub mod CopyLaws
 pub mod Rooms
 pub mod TreeRecords
@@ -18,3 +19,4 @@ pub mod WrittenRecords
 pub mod LevelsOf
 pub mod HeldLevels
 pub mod HeldRecords
+pub mod WrittenHomes

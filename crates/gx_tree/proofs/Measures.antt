@@ -1,5 +1,5 @@
 -- A directory below another has fewer components.
-use Rattle.std.proofs.Common.{◌≡◌, ℕ, ◌<◌, zero, suc, List, [], ◌∷◌, length, get_or, sym, ap, ◌∙◌, arith, subst}
+use Rattle.std.proofs.Common.{◌≡◌, ℕ, ◌<◌, ◌+◌, ◌*◌, zero, suc, List, [], ◌∷◌, length, get_or, refl, sym, ap, ◌∙◌, arith, subst}
 use Rattle.gx_model.specs.Files.{FileMap}
 use Rattle.gx_model.specs.Texts.{Bytes}
 use Rattle.gx_model.specs.HistoryOf.{placed}
@@ -7,6 +7,8 @@ use Rattle.gx_tree.specs.Nodes.{IsKept, IsLevel, components, files, folder, kept
 use Rattle.gx_tree.specs.Falls.{components-append, components-placed, some_length}
 use Rattle.gx_tree.specs.Views.{kept, seen_all}
 use Rattle.gx_tree.specs.declared.directory.Entry.{Entry}
+use Rattle.gx_tree.specs.declared.directory.Item.{Item}
+use Rattle.gx_tree.specs.declared.directory.Item.TheVariants.{File, Folder}
 
 folder_at : {A : Type 0} (es : List (Entry A)) (i : ℕ) (d : Entry A) (f : FileMap Bytes) → IsLevel (seen_all es) → i < length es → kept (get_or es i d).item ≡ folder f → components f < components (files (seen_all es))
 folder_at [] i d f h l e = absurd (omega arith)
@@ -22,3 +24,15 @@ folder_less es xs i r g b l ir ex view h ek eb =
     let k : kept (get_or xs i r).item ≡ folder g = ap (λ z. kept z.item) (sym ir) ∙ ek in
     let a = folder_at xs i r g (subst (λ z. IsLevel (seen_all z)) (sym ex) h) l k in
     omega (arith, a, ap components eb, ap (λ z. components (files (seen_all z))) ex, ap components view)
+
+-- how far down an item may still be written
+abbrev pub item_measure : {A : Type 0} → Item A → ℕ
+item_measure (File m n) = 0
+item_measure (Folder d) = 3 * components d.value.files + 4
+
+item_less_by : {A : Type 0} {f : FileMap Bytes} (es xs : List (Entry A)) (i : ℕ) (r : Entry A) (item : Item A) → r.item ≡ item → i < length xs → r ≡ get_or xs i r → xs ≡ es → files (seen_all es) ≡ f → IsLevel (seen_all es) → item_measure item < 3 * components f + 2
+item_less_by es xs i r (File m n) e l ir ex view h = omega arith
+item_less_by es xs i r (Folder d) e l ir ex view h = omega (arith, folder_less es xs i r d.value.files d.value.files l ir ex view h (ap kept e) refl)
+
+pub item_less : {A : Type 0} {f : FileMap Bytes} (es xs : List (Entry A)) (i : ℕ) (r : Entry A) → i < length xs → r ≡ get_or xs i r → xs ≡ es → files (seen_all es) ≡ f → IsLevel (seen_all es) → item_measure r.item < 3 * components f + 2
+item_less es xs i r l ir ex view h = item_less_by es xs i r r.item refl l ir ex view h

@@ -1,5 +1,5 @@
 -- Searches among a directory's entries, by halves.
-use Rattle.std.proofs.Common.{◌≡◌, ◌≢◌, ℕ, ◌-◌, ◌<◌, ◌≤◌, zero, suc, true, false, not, List, [], ◌∷◌, ◌++◌, length, get_or, drop, take, Option, Some, None, inl, inr, refl, sym, ap, ◌∙◌, arith, subst}
+use Rattle.std.proofs.Common.{◌≡◌, ◌≢◌, ℕ, ◌+◌, ◌-◌, ◌<◌, ◌≤◌, zero, suc, Bool, true, false, not, List, [], ◌∷◌, ◌++◌, length, get_or, drop, take, Option, Some, None, inl, inr, refl, sym, ap, ◌∙◌, arith, subst}
 use Rattle.std.specs.List.{AllByRecursion}
 use Rattle.std.specs.List.Sorted.{IsPartitionedBy, IsPartitionPoint}
 use Rattle.std.specs.Cmp.{tied_itself}
@@ -7,7 +7,7 @@ use Rattle.std.specs.Cmp.Lexicographic.{nat_list_cmp_total}
 use Rattle.std.specs.Ordering.{is_lt}
 use Rattle.std.proofs.lemmas.Bool.{cases_Bool, false≢true, not-true, not-false, true≢false}
 use Rattle.gx_model.specs.Texts.{Bytes, same_bytes}
-use Rattle.gx_tree.specs.Nodes.{Kept, Level, IsAfter, IsLevel, file, folder, inserted, kept_at, key, mark, precedes}
+use Rattle.gx_tree.specs.Nodes.{Kept, Level, IsAfter, IsLevel, comes_before, file, folder, inserted, kept_at, key, mark, precedes}
 use Rattle.gx_tree.specs.Searches.{Finds}
 use Rattle.gx_tree.specs.Views.{kept, seen, seen_all}
 use Rattle.gx_tree.specs.declared.directory.Entry.{Entry}

@@ -10,3 +10,5 @@ pub mod Writes
 pub mod HeldTrees
 pub mod StoreFaults
 pub mod Searches
+pub mod Named
+pub mod Homes

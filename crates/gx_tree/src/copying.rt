@@ -6,6 +6,7 @@ ghost use Rattle.gx_model.specs.Paths.{is_short};
 ghost use Rattle.gx_text.specs.TreePaths.{is_path};
 ghost use Rattle.gx_tree.specs.Copies.{graft_fault, is_within, kept_held, kept_within};
 ghost use Rattle.gx_tree.specs.Faults.{fault_of};
+ghost use Rattle.gx_tree.specs.Homes.{Keeps, Both, IfThere, Borrowed, AreAtHome, IsHeldAtHome, IsItemAtHome};
 ghost use Rattle.gx_tree.specs.Lists.{below};
 ghost use Rattle.gx_tree.specs.Nodes.{IsKept, folder};
 ghost use Rattle.gx_tree.specs.Views.{kept, seen};
@@ -44,7 +45,8 @@ impl<'a, A: Allocator + Copy> Held<'a, A> {
 
     /// It as an item, where a directory is shared.
     pub(crate) fn item(&self) -> Result<Item<A>, AllocError>
-        ensures { IfOk result (λ i. kept i ≡ kept_held self.now) }
+        ensures kept { IfOk result (λ i. kept i ≡ kept_held self.now) }
+        ensures home { IfOk result (Keeps IsHeldAtHome IsItemAtHome self.now) }
     {
         match self {
             Held::File(mode, name) => Ok(Item::File(*mode, *name)),
@@ -56,8 +58,8 @@ impl<'a, A: Allocator + Copy> Held<'a, A> {
 impl<A: Allocator + Copy> Directory<A> {
     // Whether the paths of the files are short below a path.
     fn fits_below(&self, path: &TreePath<A>) -> bool
-        requires { IsKept (folder self.now) }
-        ensures { result ≡ list_all (λ e. is_short e.0) (below path.now self.now) }
+        requires { IsKept (folder self.now.files) }
+        ensures { result ≡ list_all (λ e. is_short e.0) (below path.now self.now.files) }
     {
         if path.len() == 0 {
             return self.fits(MOST_BYTES);
@@ -69,7 +71,7 @@ impl<A: Allocator + Copy> Directory<A> {
     // Whether the paths of the files have at most `room` bytes.
     #[cycle(fits)]
     fn fits(&self, room: usize) -> bool
-        ensures { result ≡ list_all (is_within room) self.now }
+        ensures { result ≡ list_all (is_within room) self.now.files }
     {
         for entry in &self.entries {
             if !entry.fits(room) {

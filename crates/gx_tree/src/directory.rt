@@ -2,6 +2,8 @@
 //! once it is made, so trees share it, and the directories made in its place share its entries' components.
 ghost use Rattle.std.specs.Prelude.{◌≡◌, ◌≤◌, ◌<◌, ◌+◌, ◌++◌, ◌∷◌, [], IsTrue, ◌↔◌, IfOk, drop, length, take};
 ghost use Rattle.std.specs.Option.{option_map};
+ghost use Rattle.gx_tree.specs.Homes.{Keeps, Both, IfThere, Borrowed, AreAtHome, IsHeldAtHome, IsItemAtHome};
+ghost use Rattle.gx_tree.specs.Named.{IsAtHome, nothing};
 ghost use Rattle.gx_tree.specs.Nodes.{IsInner, IsLevel, mark, others, with_kept};
 ghost use Rattle.gx_tree.specs.Views.{kept, kept_if, option_kept, option_files, seen, seen_all};
 ghost use Rattle.gx_tree.specs.Standings.{standing_of, standing_at};
@@ -15,11 +17,12 @@ use std::alloc::{AllocError, Allocator};
 use std::marker::Model;
 use std::rc::Rc;
 
-/// The files below a directory, by its entries.
+/// The files below a directory, by its entries, and its tree's name, where that is remembered.
 #[cycle(tree)]
 #[derive(Drop)]
 pub(crate) struct Directory<A: Allocator> {
     pub(crate) entries: Vec<Entry<A>, A>,
+    pub(crate) remembered: Option<Name>,
 }
 
 /// What stands at one component.
@@ -38,43 +41,43 @@ pub(crate) enum Item<A: Allocator> {
 }
 
 impl<A: Allocator> Model for Directory<A> {
-    ghost use Rattle.std.specs.Prelude.{List, ℕ};
-    ghost use Rattle.gx_model.specs.declared.objects.Mode.{Mode};
+    ghost use Rattle.gx_tree.specs.Named.{NamedTree};
 
-    ghost Value = { List (List (List ℕ) × (Mode × List ℕ)) };
+    ghost Value = { NamedTree };
 
     ghost use Rattle.gx_tree.specs.Nodes.{components, files, IsLevel};
-    ghost use Rattle.gx_tree.specs.Views.{seen_all};
+    ghost use Rattle.gx_tree.specs.Views.{names_of, seen_all, RemembersBelow};
 
-    ghost view = { λ a. files (seen_all a.entries.items) };
+    ghost view = { λ a. record { files = files (seen_all a.entries.items); names = names_of a.remembered a.entries.items } };
 
-    ghost invariant = { λ a. IsLevel (seen_all a.entries.items) };
+    ghost invariant = { λ a. IsLevel (seen_all a.entries.items) × RemembersBelow a.remembered a.entries.items };
 
-    ghost size = { components };
+    ghost size = { λ tree. components tree.files };
 
     ghost use Rattle.gx_tree.specs.Falls.{falls};
 
-    ghost size_decreases = { λ a h. falls A.Allocator a.entries.items h };
+    ghost size_decreases = { λ a h. falls A.Allocator a.entries.items h.0 };
 }
 
 impl<A: Allocator + Copy> Directory<A> {
     pub(crate) fn new(alloc: A) -> Directory<A>
-        ensures { result ≡ [] }
+        ensures { result ≡ nothing }
     {
         Directory {
             entries: Vec::new(alloc),
+            remembered: None,
         }
     }
 
     pub(crate) fn is_empty(&self) -> bool
-        ensures { IsTrue result ↔ (self.now ≡ []) }
+        ensures { IsTrue result ↔ (self.now.files ≡ []) }
     {
         self.entries.is_empty()
     }
 
     /// The files stand in order.
     pub(crate) fn order(&self)
-        ensures { IsInner self.now }
+        ensures { IsInner self.now.files }
     {
         let _ = &self.entries;
     }
@@ -82,7 +85,7 @@ impl<A: Allocator + Copy> Directory<A> {
     /// What stands at the rest of the path, from the component at `depth` on.
     pub(crate) fn entry(&self, path: &TreePath<A>, depth: usize) -> Option<Found>
         requires { depth ≤ length path.now }
-        ensures { option_map standing_of result ≡ standing_at self.now (drop depth path.now) }
+        ensures { option_map standing_of result ≡ standing_at self.now.files (drop depth path.now) }
     {
         if depth == path.len() {
             return Some(Found::Directory);
@@ -104,7 +107,8 @@ impl<A: Allocator + Copy> Directory<A> {
 impl<A: Allocator + Copy> Item<A> {
     /// The same once more: a directory is shared.
     pub(crate) fn shared(&self) -> Result<Item<A>, AllocError>
-        ensures { IfOk result (λ i. kept i ≡ kept self.now) }
+        ensures kept { IfOk result (λ i. kept i ≡ kept self.now) }
+        ensures home { IfOk result (Keeps IsItemAtHome IsItemAtHome self.now) }
     {
         match self {
             Item::File(mode, name) => Ok(Item::File(*mode, *name)),
@@ -116,7 +120,8 @@ impl<A: Allocator + Copy> Item<A> {
 impl<A: Allocator + Copy> Entry<A> {
     /// An entry of a component's bytes.
     pub(crate) fn new(alloc: A, component: &[u8], item: Item<A>) -> Result<Entry<A>, AllocError>
-        ensures { IfOk result (λ e. seen e ≡ (component.now, kept item)) }
+        ensures seen { IfOk result (λ e. seen e ≡ (component.now, kept item)) }
+        ensures item { IfOk result (λ e. e.item ≡ item) }
     {
         let bytes = Vec::from_slice(alloc, component)?;
         let component = Rc::new(alloc, bytes)?;
@@ -124,7 +129,8 @@ impl<A: Allocator + Copy> Entry<A> {
     }
 
     fn shared(&self) -> Result<Entry<A>, AllocError>
-        ensures { IfOk result (λ e. seen e ≡ seen self.now) }
+        ensures seen { IfOk result (λ e. seen e ≡ seen self.now) }
+        ensures home { IfOk result (λ e. Keeps IsItemAtHome IsItemAtHome self.now.item e.item) }
     {
         let component = self.component.clone()?;
         let item = self.item.shared()?;
@@ -152,7 +158,8 @@ impl<A: Allocator + Copy> Entry<A> {
 pub(crate) fn folder_in<'a, A: Allocator + Copy>(
     item: Option<&'a Item<A>>,
 ) -> Option<&'a Directory<A>>
-    ensures { files_of (option_kept item.entry) ≡ option_files result }
+    ensures files { files_of (option_kept item.entry) ≡ option_files result }
+    ensures home { Keeps (IfThere (Borrowed IsItemAtHome)) (IfThere (Borrowed IsAtHome)) item.entry result }
 {
     match item {
         Some(Item::Folder(below)) => Some(below),
@@ -166,7 +173,8 @@ fn shared_others<A: Allocator + Copy>(
     entries: &[Entry<A>],
     component: &[u8],
 ) -> Result<Vec<Entry<A>, A>, AllocError>
-    ensures { IfOk result (λ v. seen_all v.items ≡ others component.now (seen_all entries.now)) }
+    ensures others { IfOk result (λ v. seen_all v.items ≡ others component.now (seen_all entries.now)) }
+    ensures home { IfOk result (λ v. Keeps AreAtHome AreAtHome entries.now v.items) }
 {
     let mut others = Vec::with_capacity(alloc, entries.len() + 1)?;
     for entry in entries {
@@ -184,7 +192,8 @@ pub(crate) fn with_entry<A: Allocator + Copy>(
     new: Entry<A>,
 ) -> Result<Vec<Entry<A>, A>, AllocError>
     requires { IsLevel (seen_all entries.now) }
-    ensures { IfOk result (λ v. seen_all v.items ≡ with_kept (seen new).0 (seen new).1 (seen_all entries.now)) }
+    ensures entries { IfOk result (λ v. seen_all v.items ≡ with_kept (seen new).0 (seen new).1 (seen_all entries.now)) }
+    ensures home { IfOk result (λ v. Keeps (Both IsItemAtHome AreAtHome) AreAtHome (new.item, entries.now) v.items) }
 {
     let mut all = shared_others(alloc, entries, new.component())?;
     let place = place_of(&all, new.component(), new.mark());
@@ -200,7 +209,8 @@ pub(crate) fn with_item<A: Allocator + Copy>(
     item: Option<Item<A>>,
 ) -> Result<Vec<Entry<A>, A>, AllocError>
     requires { IsLevel (seen_all entries.now) }
-    ensures { IfOk result (λ v. seen_all v.items ≡ replaced component.now (kept_if item) (seen_all entries.now)) }
+    ensures entries { IfOk result (λ v. seen_all v.items ≡ replaced component.now (kept_if item) (seen_all entries.now)) }
+    ensures home { IfOk result (λ v. Keeps (Both (IfThere IsItemAtHome) AreAtHome) AreAtHome (item, entries.now) v.items) }
 {
     match item {
         None => shared_others(alloc, entries, component),

@@ -2,6 +2,8 @@
 ghost use Rattle.std.specs.Prelude.{◌≡◌, ◌<◌, ◌+◌, IfOk, drop, length};
 ghost use Rattle.gx_model.specs.Edits.{removed};
 ghost use Rattle.gx_model.specs.Files.{sub_map};
+ghost use Rattle.gx_tree.specs.Homes.{Keeps, Both, IfThere, Borrowed, AreAtHome, IsHeldAtHome, IsItemAtHome};
+ghost use Rattle.gx_tree.specs.Named.{IsAtHome};
 ghost use Rattle.gx_tree.specs.Nodes.{IsKept, kept_map, map_if, IsKeptAt};
 ghost use Rattle.gx_tree.specs.Steps.{grafted, kept_grafted, kept_removed};
 ghost use Rattle.gx_tree.specs.Views.{kept, kept_if, option_kept};
@@ -16,8 +18,9 @@ impl<A: Allocator + Copy> Directory<A> {
     /// What stands at the rest of the path, which is not the root.
     pub(crate) fn item_at<'a>(&'a self, path: &TreePath<A>, depth: usize) -> Option<&'a Item<A>>
         requires { depth < length path.now }
-        ensures files { sub_map self.entry.now (drop depth path.now) ≡ map_if (option_kept result) }
+        ensures files { sub_map self.entry.now.files (drop depth path.now) ≡ map_if (option_kept result) }
         ensures kept { IsKeptAt (option_kept result) }
+        ensures home { Keeps IsAtHome (IfThere (Borrowed IsItemAtHome)) self.entry.now result }
     {
         let length = path.len();
         let item = find(&self.entries, path.component(depth));
@@ -41,14 +44,18 @@ impl<A: Allocator + Copy> Directory<A> {
     ) -> Result<Directory<A>, AllocError>
         requires within { depth < length path.now }
         requires kept { IsKept (kept item) }
-        ensures { IfOk result (λ d. d ≡ grafted (drop depth path.now) (kept_map (kept item)) self.now) }
+        ensures files { IfOk result (λ d. d.files ≡ grafted (drop depth path.now) (kept_map (kept item)) self.now.files) }
+        ensures home { IfOk result (Keeps (Both IsItemAtHome IsAtHome) IsAtHome (item, self.now)) }
     {
         let component = path.component(depth);
         let old = find(&self.entries, component);
         let item = item_grafted(alloc, old, path, depth, item)?;
         let new = Entry::new(alloc, component, item)?;
         let entries = with_entry(alloc, &self.entries, new)?;
-        Ok(Directory { entries })
+        Ok(Directory {
+            entries,
+            remembered: None,
+        })
     }
 
     /// The directory without what stands at or below the rest of the path.
@@ -60,13 +67,17 @@ impl<A: Allocator + Copy> Directory<A> {
         depth: usize,
     ) -> Result<Directory<A>, AllocError>
         requires { depth < length path.now }
-        ensures { IfOk result (λ d. d ≡ removed self.now (drop depth path.now)) }
+        ensures files { IfOk result (λ d. d.files ≡ removed self.now.files (drop depth path.now)) }
+        ensures home { IfOk result (Keeps IsAtHome IsAtHome self.now) }
     {
         let component = path.component(depth);
         let old = find(&self.entries, component);
         let left = item_removed(alloc, old, path, depth)?;
         let entries = with_item(alloc, &self.entries, component, left)?;
-        Ok(Directory { entries })
+        Ok(Directory {
+            entries,
+            remembered: None,
+        })
     }
 }
 
@@ -81,7 +92,8 @@ fn item_grafted<A: Allocator + Copy>(
 ) -> Result<Item<A>, AllocError>
     requires within { depth < length path.now }
     requires kept { IsKept (kept item) }
-    ensures { IfOk result (λ i. kept i ≡ kept_grafted (drop (depth + 1) path.now) (kept item) (option_kept old.entry)) }
+    ensures kept { IfOk result (λ i. kept i ≡ kept_grafted (drop (depth + 1) path.now) (kept item) (option_kept old.entry)) }
+    ensures home { IfOk result (Keeps (Both IsItemAtHome (IfThere (Borrowed IsItemAtHome))) IsItemAtHome (item, old.entry)) }
 {
     let length = path.len();
     if depth + 1 == length {
@@ -103,7 +115,8 @@ fn item_removed<A: Allocator + Copy>(
     depth: usize,
 ) -> Result<Option<Item<A>>, AllocError>
     requires { depth < length path.now }
-    ensures { IfOk result (λ o. kept_if o ≡ kept_removed (drop (depth + 1) path.now) (option_kept old.entry)) }
+    ensures kept { IfOk result (λ o. kept_if o ≡ kept_removed (drop (depth + 1) path.now) (option_kept old.entry)) }
+    ensures home { IfOk result (Keeps (IfThere (Borrowed IsItemAtHome)) (IfThere IsItemAtHome) old.entry) }
 {
     let length = path.len();
     let Some(old) = old else {

@@ -6,6 +6,7 @@ mod copying;
 mod directory;
 mod edits;
 mod fault;
+mod laws;
 mod listing;
 mod loading;
 mod path_tree;
@@ -14,6 +15,7 @@ mod search;
 mod writing;
 
 pub use fault::TreeFault;
+pub use laws::records_keep_home;
 pub use path_tree::{Found, PathTree};
 
 #[cfg(test)]

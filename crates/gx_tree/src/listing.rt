@@ -17,8 +17,8 @@ impl<A: Allocator + Copy> Directory<A> {
         front: &TreePath<A>,
         out: &mut Vec<(TreePath<A>, Mode, Name), A>,
     ) -> Result<(), AllocError>
-        requires { IsTrue (list_all (λ e. is_short e.0) (below front.now self.now)) }
-        ensures { OnOk result (map listed out.new.items ≡ map listed out.old.items ++ below front.now self.now) }
+        requires { IsTrue (list_all (λ e. is_short e.0) (below front.now self.now.files)) }
+        ensures { OnOk result (map listed out.new.items ≡ map listed out.old.items ++ below front.now self.now.files) }
     {
         for entry in &self.entries {
             let path = child(alloc, front, entry.component())?;

@@ -1,11 +1,13 @@
 //! Making a directory from the records of its trees.
-ghost use Rattle.std.specs.Prelude.{◌≡◌, ◌≢◌, IfOk, List, ℕ};
+ghost use Rattle.std.specs.Prelude.{◌≡◌, ◌≢◌, IfOk, IsTrue, List, ℕ};
 ghost use Rattle.gx_model.specs.Files.{FileMap};
 ghost use Rattle.gx_model.specs.Texts.{Bytes};
 ghost use Rattle.gx_object.specs.Entries.{shown};
+ghost use Rattle.gx_tree.specs.Homes.{IsItemAtHome};
+ghost use Rattle.gx_tree.specs.Named.{IsAtHome, is_named};
 ghost use Rattle.gx_tree.specs.HeldTrees.{IsHeldEntry, IsHeldWithin};
 ghost use Rattle.gx_tree.specs.Nodes.{Kept, IsKept};
-ghost use Rattle.gx_tree.specs.Views.{kept};
+ghost use Rattle.gx_tree.specs.Views.{kept, Remembers};
 ghost use Rattle.gx_tree.specs.Writes.{kept_leaf};
 
 use crate::directory::{Directory, Entry, Item};
@@ -24,7 +26,9 @@ impl<A: Allocator + Copy> Directory<A> {
         room: usize,
     ) -> Result<Directory<A>, AllocError>
         requires { (g : FileMap Bytes) × IsHeldWithin (N.name_of store.now.0) store.now.1 room name.now.bytes g }
-        ensures { IfOk result (λ d. (g : FileMap Bytes) → IsHeldWithin (N.name_of store.now.0) store.now.1 room name.now.bytes g → d ≡ g) }
+        ensures files { IfOk result (λ d. (g : FileMap Bytes) → IsHeldWithin (N.name_of store.now.0) store.now.1 room name.now.bytes g → d.files ≡ g) }
+        ensures home { IfOk result (IsAtHome (N.name_of store.now.0) store.now.1) }
+        ensures remembers { IfOk result (λ d. IsTrue (is_named d.names)) }
     {
         let Some((_, body)) = store.get(name) else {
             unreachable!();
@@ -37,7 +41,10 @@ impl<A: Allocator + Copy> Directory<A> {
             let item = Item::load(alloc, store, &entry, room)?;
             entries.push(Entry::new(alloc, entry.component, item)?)?;
         }
-        Ok(Directory { entries })
+        Ok(Directory {
+            entries,
+            remembered: Some(*name),
+        })
     }
 }
 
@@ -51,7 +58,9 @@ impl<A: Allocator + Copy> Item<A> {
         room: usize,
     ) -> Result<Item<A>, AllocError>
         requires { (k : Kept) × IsHeldEntry (N.name_of store.now.0) store.now.1 room (entry.now.component.now, k) × (kept_leaf (N.name_of store.now.0) k ≡ (entry.now.mode, entry.now.name.bytes)) }
-        ensures { IfOk result (λ i. (k : Kept) → IsHeldEntry (N.name_of store.now.0) store.now.1 room (entry.now.component.now, k) → kept_leaf (N.name_of store.now.0) k ≡ (entry.now.mode, entry.now.name.bytes) → kept i ≡ k) }
+        ensures home { IfOk result (IsItemAtHome (N.name_of store.now.0) store.now.1) }
+        ensures remembers { IfOk result Remembers }
+        ensures kept { IfOk result (λ i. (k : Kept) → IsHeldEntry (N.name_of store.now.0) store.now.1 room (entry.now.component.now, k) → kept_leaf (N.name_of store.now.0) k ≡ (entry.now.mode, entry.now.name.bytes) → kept i ≡ k) }
     {
         if entry.mode != Mode::Dir {
             return Ok(Item::File(entry.mode, entry.name));

@@ -10,7 +10,9 @@ ghost use Rattle.gx_model.specs.Objects.{is_name};
 ghost use Rattle.gx_tree.specs.Copies.{graft_fault, kept_held, option_held};
 ghost use Rattle.gx_tree.specs.Faults.{fault_of};
 ghost use Rattle.gx_model.specs.NameMaps.{IsHeldTree, IsNameMap};
+ghost use Rattle.gx_tree.specs.Homes.{Keeps, Both, IfThere, Borrowed, AreAtHome, IsHeldAtHome, IsItemAtHome};
 ghost use Rattle.gx_tree.specs.Lists.{listed};
+ghost use Rattle.gx_tree.specs.Named.{IsAtHome, KeepsHome, nothing};
 ghost use Rattle.gx_tree.specs.Nodes.{IsKept, IsKeptAt, kept_map, map_if};
 ghost use Rattle.gx_tree.specs.Steps.{grafted};
 ghost use Rattle.gx_tree.specs.Writes.{PutsAll, map_name};
@@ -44,22 +46,21 @@ pub struct PathTree<A: Allocator> {
 }
 
 impl<A: Allocator> Model for PathTree<A> {
-    ghost use Rattle.std.specs.Prelude.{List, ℕ};
-    ghost use Rattle.gx_model.specs.declared.objects.Mode.{Mode};
+    ghost use Rattle.gx_tree.specs.Named.{NamedTree};
 
-    ghost Value = { List (List (List ℕ) × (Mode × List ℕ)) };
+    ghost Value = { NamedTree };
 
     ghost use Rattle.gx_model.specs.NameMaps.{IsNameMap};
 
     ghost view = { λ a. a.root };
 
-    ghost invariant = { λ a. IsNameMap a.root };
+    ghost invariant = { λ a. IsNameMap a.root.files };
 }
 
 impl<A: Allocator + Copy> PathTree<A> {
     /// A tree with no files. Takes no memory.
     pub fn empty(alloc: A) -> PathTree<A>
-        ensures { result ≡ [] }
+        ensures { result ≡ nothing }
     {
         PathTree {
             root: Root::none(),
@@ -78,7 +79,8 @@ impl<A: Allocator + Copy> PathTree<A> {
         name: &Name,
     ) -> Result<PathTree<A>, TreeFault>
         requires { (g : FileMap Bytes) × IsHeldTree (N.name_of store.now.0) store.now.1 name.now.bytes g }
-        ensures files { (g : FileMap Bytes) → IsHeldTree (N.name_of store.now.0) store.now.1 name.now.bytes g → Gives fault_of (λ tree. tree) result (Ok g) }
+        ensures files { (g : FileMap Bytes) → IsHeldTree (N.name_of store.now.0) store.now.1 name.now.bytes g → Gives fault_of (λ tree. tree.files) result (Ok g) }
+        ensures home { IfOk result (IsAtHome (N.name_of store.now.0) store.now.1) }
     {
         let directory = Directory::load(alloc, store, name, MOST_BYTES)?;
         let root = Root::of(alloc, directory)?;
@@ -87,14 +89,14 @@ impl<A: Allocator + Copy> PathTree<A> {
 
     /// Removes each file. Takes no memory. Source: git-fast-import(1), "filedeleteall".
     pub fn clear(&mut self)
-        ensures { self.new ≡ [] }
+        ensures { self.new ≡ nothing }
     {
         self.root = Root::none();
     }
 
     /// Each tree is a file map of files' modes and names. Takes no memory.
     pub fn name_map(&self)
-        ensures { IsNameMap self.now }
+        ensures { IsNameMap self.now.files }
     {
         let _ = &self.root;
     }
@@ -104,7 +106,7 @@ impl<A: Allocator + Copy> PathTree<A> {
     /// Cost: for each component of the path, two searches by halves in one directory. Takes no memory. Source:
     /// gitglossary(7), "tree".
     pub fn entry(&self, path: &TreePath<A>) -> Option<Found>
-        ensures { option_map standing_of result ≡ standing_at self.now path.now }
+        ensures { option_map standing_of result ≡ standing_at self.now.files path.now }
     {
         self.root.entry(path)
     }
@@ -127,7 +129,7 @@ impl<A: Allocator + Copy> PathTree<A> {
     ///
     /// Cost: the bytes of all paths, in time and in memory. Source: gitglossary(7), "tree".
     pub fn list(&self) -> Result<Vec<(TreePath<A>, Mode, Name), A>, TreeFault>
-        ensures { Gives fault_of (λ files. map listed files.items) result (Ok self.now) }
+        ensures { Gives fault_of (λ files. map listed files.items) result (Ok self.now.files) }
     {
         let mut files = Vec::new(self.alloc);
         self.root.list_into(self.alloc, &mut files)?;
@@ -141,8 +143,9 @@ impl<A: Allocator + Copy> PathTree<A> {
     /// bytes too. Source: git-fast-import(1), "filemodify".
     pub fn modify(&mut self, path: &TreePath<A>, mode: Mode, name: Name) -> Result<(), TreeFault>
         requires { mode ≢ modes.Dir }
-        ensures map { Gives fault_of (λ _. self.new) result (modified self.old path.now (mode, name.bytes)) }
+        ensures map { Gives fault_of (λ _. self.new.files) result (modified self.old.files path.now (mode, name.bytes)) }
         ensures unchanged { OnErr result (self.new ≡ self.old) }
+        ensures home { KeepsHome self.old self.new }
     {
         if path.len() == 0 {
             return Err(TreeFault::RootNotTree);
@@ -157,8 +160,9 @@ impl<A: Allocator + Copy> PathTree<A> {
     ///
     /// Cost: as for `modify`; at the root it takes no memory. Source: git-fast-import(1), "filedelete".
     pub fn remove(&mut self, path: &TreePath<A>) -> Result<(), TreeFault>
-        ensures map { Gives fault_of (λ _. self.new) result (Ok (removed self.old path.now)) }
+        ensures map { Gives fault_of (λ _. self.new.files) result (Ok (removed self.old.files path.now)) }
         ensures unchanged { OnErr result (self.new ≡ self.old) }
+        ensures home { KeepsHome self.old self.new }
     {
         self.root = self.root.removed(self.alloc, path)?;
         Ok(())
@@ -172,8 +176,9 @@ impl<A: Allocator + Copy> PathTree<A> {
     /// `PathTooLong` where a path would have more than 4,095 bytes; then `OutOfMemory`. Each leaves the tree as it was.
     /// Cost: as for `modify`; what is copied is shared, and its paths are looked at. Source: git-fast-import(1), "filecopy".
     pub fn copy(&mut self, source: &TreePath<A>, destination: &TreePath<A>) -> Result<(), TreeFault>
-        ensures map { Gives fault_of (λ _. self.new) result (copied self.old source.now destination.now) }
+        ensures map { Gives fault_of (λ _. self.new.files) result (copied self.old.files source.now destination.now) }
         ensures unchanged { OnErr result (self.new ≡ self.old) }
+        ensures home { KeepsHome self.old self.new }
     {
         self.root = self.copied_root(source, destination)?;
         Ok(())
@@ -190,29 +195,56 @@ impl<A: Allocator + Copy> PathTree<A> {
         source: &TreePath<A>,
         destination: &TreePath<A>,
     ) -> Result<(), TreeFault>
-        ensures map { Gives fault_of (λ _. self.new) result (renamed self.old source.now destination.now) }
+        ensures map { Gives fault_of (λ _. self.new.files) result (renamed self.old.files source.now destination.now) }
         ensures unchanged { OnErr result (self.new ≡ self.old) }
+        ensures home { KeepsHome self.old self.new }
     {
         self.root = self.renamed_root(source, destination)?;
         Ok(())
     }
 
     /// Puts the tree of each directory into the store, those below a directory before its own, and answers the name of
-    /// the root's, which is then held with all trees below it. A tree that is held already isn't put again.
+    /// the root's, which is then held with all trees below it. A tree that is held already isn't put again, and no name
+    /// that the tree remembers is trusted: so it is right for any store. From then on the tree remembers these names.
     ///
     /// `NameHeld` where a tree has the name of an object of another kind or with other bytes, and `OutOfMemory`: what was
     /// put by then stays, behind the records that the store had. The files stay as they were in any case.
     /// Cost: the bytes of the trees, and for each directory a look-up in the store. Takes memory for the new records, and
-    /// for the entries of the directories from the root to one at a time. Source: gitglossary(7), "tree object".
+    /// for directories that remember their names. Source: gitglossary(7), "tree object".
     pub fn write<N: Namer>(&mut self, store: &mut Store<N, A>) -> Result<Name, TreeFault>
-        ensures name { IfOk result (λ name. name.bytes ≡ map_name (N.name_of store.old.0) self.old) }
-        ensures records { PutsAll (tree_records (N.name_of store.old.0) self.old) store.old.1 store.new.1 result }
-        ensures held { IfOk result (λ name. IsHeldTree (N.name_of store.old.0) store.new.1 name.bytes self.old) }
+        ensures name { IfOk result (λ name. name.bytes ≡ map_name (N.name_of store.old.0) self.old.files) }
+        ensures records { PutsAll (tree_records (N.name_of store.old.0) self.old.files) store.old.1 store.new.1 result }
+        ensures held { IfOk result (λ name. IsHeldTree (N.name_of store.old.0) store.new.1 name.bytes self.old.files) }
         ensures front { take (length store.old.1) store.new.1 ≡ store.old.1 }
         ensures namer { store.new.0 ≡ store.old.0 }
-        ensures map { self.new ≡ self.old }
+        ensures map { self.new.files ≡ self.old.files }
+        ensures unchanged { OnErr result (self.new ≡ self.old) }
+        ensures home { IfOk result (λ _. IsAtHome (N.name_of store.old.0) store.new.1 self.new) }
     {
-        self.root.write_into(self.alloc, store)
+        let (root, name) = self.root.written(self.alloc, store, false)?;
+        self.root = root;
+        Ok(name)
+    }
+
+    /// Does what `write` does, for a tree that is at home in the store: each name that it remembers is that of a tree
+    /// which the store holds with all trees below it. So it doesn't look below a remembered name.
+    ///
+    /// The errors are those of `write`. Cost: the bytes of the trees without a remembered name, and for each of them a
+    /// look-up in the store. Takes memory as `write` does, for these alone. Source: gitglossary(7), "tree object".
+    pub fn write_shared<N: Namer>(&mut self, store: &mut Store<N, A>) -> Result<Name, TreeFault>
+        requires home { IsAtHome (N.name_of store.now.0) store.now.1 self.now }
+        ensures name { IfOk result (λ name. name.bytes ≡ map_name (N.name_of store.old.0) self.old.files) }
+        ensures records { PutsAll (tree_records (N.name_of store.old.0) self.old.files) store.old.1 store.new.1 result }
+        ensures held { IfOk result (λ name. IsHeldTree (N.name_of store.old.0) store.new.1 name.bytes self.old.files) }
+        ensures front { take (length store.old.1) store.new.1 ≡ store.old.1 }
+        ensures namer { store.new.0 ≡ store.old.0 }
+        ensures map { self.new.files ≡ self.old.files }
+        ensures unchanged { OnErr result (self.new ≡ self.old) }
+        ensures home { IfOk result (λ _. IsAtHome (N.name_of store.old.0) store.new.1 self.new) }
+    {
+        let (root, name) = self.root.written(self.alloc, store, true)?;
+        self.root = root;
+        Ok(name)
     }
 
     fn copied_root(
@@ -220,8 +252,9 @@ impl<A: Allocator + Copy> PathTree<A> {
         source: &TreePath<A>,
         destination: &TreePath<A>,
     ) -> Result<Root<A>, TreeFault>
-        ensures files { Gives fault_of (λ root. root) result (copied self.now source.now destination.now) }
-        ensures names { IfOk result IsNameMap }
+        ensures files { Gives fault_of (λ root. root.files) result (copied self.now.files source.now destination.now) }
+        ensures names { IfOk result (λ root. IsNameMap root.files) }
+        ensures home { IfOk result (KeepsHome self.now) }
     {
         let Some(held) = self.root.held_at(source) else {
             return Err(TreeFault::NoSuchPath);
@@ -237,8 +270,9 @@ impl<A: Allocator + Copy> PathTree<A> {
         source: &TreePath<A>,
         destination: &TreePath<A>,
     ) -> Result<Root<A>, TreeFault>
-        ensures files { Gives fault_of (λ root. root) result (renamed self.now source.now destination.now) }
-        ensures names { IfOk result IsNameMap }
+        ensures files { Gives fault_of (λ root. root.files) result (renamed self.now.files source.now destination.now) }
+        ensures names { IfOk result (λ root. IsNameMap root.files) }
+        ensures home { IfOk result (KeepsHome self.now) }
     {
         let Some(held) = self.root.held_at(source) else {
             return Err(TreeFault::NoSuchPath);
@@ -260,7 +294,8 @@ fn placed<A: Allocator + Copy>(
 ) -> Result<Root<A>, AllocError>
     requires kept { IsKept (kept_held held.now) }
     requires checked { graft_fault (kept_held held.now) path.now ≡ None }
-    ensures { IfOk result (λ d. d ≡ grafted path.now (kept_map (kept_held held.now)) rest.now) }
+    ensures files { IfOk result (λ root. root.files ≡ grafted path.now (kept_map (kept_held held.now)) rest.now.files) }
+    ensures home { IfOk result (Keeps (Both IsHeldAtHome IsAtHome) IsAtHome (held.now, rest.now)) }
 {
     if path.len() > 0 {
         return rest.grafted(alloc, path, held.item()?);

@@ -7,7 +7,9 @@ ghost use Rattle.gx_model.specs.Files.{sub_map};
 ghost use Rattle.gx_model.specs.Growth.{tree_records};
 ghost use Rattle.gx_model.specs.Paths.{is_short};
 ghost use Rattle.gx_tree.specs.Copies.{option_held};
+ghost use Rattle.gx_tree.specs.Homes.{Keeps, Both, IfThere, Borrowed, AreAtHome, IsHeldAtHome, IsItemAtHome};
 ghost use Rattle.gx_tree.specs.Lists.{listed};
+ghost use Rattle.gx_tree.specs.Named.{IsAtHome, nothing};
 ghost use Rattle.gx_tree.specs.Nodes.{IsKept, IsKeptAt, kept_map, map_if};
 ghost use Rattle.gx_tree.specs.Standings.{standing_of, standing_at};
 ghost use Rattle.gx_tree.specs.Steps.{grafted};
@@ -18,6 +20,7 @@ use crate::copying::Held;
 use crate::directory::{Directory, Item};
 use crate::fault::TreeFault;
 use crate::path_tree::Found;
+use crate::writing::{shared, written_node};
 use gx_object::{Mode, Name, Namer};
 use gx_store::Store;
 use gx_text::TreePath;
@@ -32,14 +35,13 @@ pub(crate) struct Root<A: Allocator> {
 }
 
 impl<A: Allocator> Model for Root<A> {
-    ghost use Rattle.std.specs.Prelude.{List, ℕ};
-    ghost use Rattle.gx_model.specs.declared.objects.Mode.{Mode};
+    ghost use Rattle.gx_tree.specs.Named.{NamedTree};
 
-    ghost Value = { List (List (List ℕ) × (Mode × List ℕ)) };
+    ghost Value = { NamedTree };
 
-    ghost use Rattle.gx_tree.specs.Views.{root_files, IsRoot};
+    ghost use Rattle.gx_tree.specs.Views.{root_tree, IsRoot};
 
-    ghost view = { λ a. root_files a.node };
+    ghost view = { λ a. root_tree a.node };
 
     ghost invariant = { λ a. IsRoot a.node };
 }
@@ -47,26 +49,27 @@ impl<A: Allocator> Model for Root<A> {
 impl<A: Allocator + Copy> Root<A> {
     /// That of no files.
     pub(crate) fn none() -> Root<A>
-        ensures { result ≡ [] }
+        ensures { result ≡ nothing }
     {
         Root { node: None }
     }
 
     /// That of a directory's files.
     pub(crate) fn of(alloc: A, directory: Directory<A>) -> Result<Root<A>, AllocError>
-        ensures { IfOk result (λ root. root ≡ directory) }
+        ensures files { IfOk result (λ root. root.files ≡ directory.files) }
+        ensures home { IfOk result (Keeps IsAtHome IsAtHome directory) }
     {
         if directory.is_empty() {
             return Ok(Root::none());
         }
         Ok(Root {
-            node: Some(Rc::new(alloc, directory)?),
+            node: Some(shared(alloc, directory)?),
         })
     }
 
     /// That of a shared directory's files.
     pub(crate) fn of_shared(node: &Rc<Directory<A>, A>) -> Result<Root<A>, AllocError>
-        requires { node.now.value ≢ [] }
+        requires { node.now.value.files ≢ [] }
         ensures { IfOk result (λ root. root ≡ node.now.value) }
     {
         Ok(Root {
@@ -88,7 +91,7 @@ impl<A: Allocator + Copy> Root<A> {
 
     /// What stands at a path.
     pub(crate) fn entry(&self, path: &TreePath<A>) -> Option<Found>
-        ensures { option_map standing_of result ≡ standing_at self.now path.now }
+        ensures { option_map standing_of result ≡ standing_at self.now.files path.now }
     {
         match &self.node {
             Some(node) => node.entry(path, 0),
@@ -99,8 +102,9 @@ impl<A: Allocator + Copy> Root<A> {
 
     /// What stands at a path, to be put at another.
     pub(crate) fn held_at(&self, path: &TreePath<A>) -> Option<Held<'_, A>>
-        ensures held { sub_map self.now path.now ≡ map_if (option_held result) }
+        ensures held { sub_map self.now.files path.now ≡ map_if (option_held result) }
         ensures kept { IsKeptAt (option_held result) }
+        ensures home { Keeps IsAtHome (IfThere IsHeldAtHome) self.now result }
     {
         let Some(node) = &self.node else {
             return None;
@@ -124,18 +128,19 @@ impl<A: Allocator + Copy> Root<A> {
     ) -> Result<Root<A>, AllocError>
         requires within { 0 < length path.now }
         requires kept { IsKept (kept item) }
-        ensures { IfOk result (λ root. root ≡ grafted path.now (kept_map (kept item)) self.now) }
+        ensures files { IfOk result (λ root. root.files ≡ grafted path.now (kept_map (kept item)) self.now.files) }
+        ensures home { IfOk result (Keeps (Both IsItemAtHome IsAtHome) IsAtHome (item, self.now)) }
     {
-        let directory = match &self.node {
-            Some(node) => node.grafted(alloc, path, 0, item)?,
-            None => Directory::new(alloc).grafted(alloc, path, 0, item)?,
-        };
-        Root::of(alloc, directory)
+        match &self.node {
+            Some(node) => Root::of(alloc, node.grafted(alloc, path, 0, item)?),
+            None => Root::of(alloc, Directory::new(alloc).grafted(alloc, path, 0, item)?),
+        }
     }
 
     /// That without what stands at or below a path.
     pub(crate) fn removed(&self, alloc: A, path: &TreePath<A>) -> Result<Root<A>, AllocError>
-        ensures { IfOk result (λ root. root ≡ removed self.now path.now) }
+        ensures files { IfOk result (λ root. root.files ≡ removed self.now.files path.now) }
+        ensures home { IfOk result (Keeps IsAtHome IsAtHome self.now) }
     {
         let Some(node) = &self.node else {
             return Ok(Root::none());
@@ -152,8 +157,8 @@ impl<A: Allocator + Copy> Root<A> {
         alloc: A,
         out: &mut Vec<(TreePath<A>, Mode, Name), A>,
     ) -> Result<(), AllocError>
-        requires { IsTrue (list_all (λ e. is_short e.0) self.now) }
-        ensures { OnOk result (map listed out.new.items ≡ map listed out.old.items ++ self.now) }
+        requires { IsTrue (list_all (λ e. is_short e.0) self.now.files) }
+        ensures { OnOk result (map listed out.new.items ≡ map listed out.old.items ++ self.now.files) }
     {
         match &self.node {
             Some(node) => node.list_into(alloc, &TreePath::root(alloc), out),
@@ -161,20 +166,30 @@ impl<A: Allocator + Copy> Root<A> {
         }
     }
 
-    /// Puts the trees of the directories, and answers the name of the whole.
-    pub(crate) fn write_into<N: Namer>(
+    /// Puts the trees of the directories, and answers the root with their names, and the name of the whole.
+    pub(crate) fn written<N: Namer>(
         &self,
         alloc: A,
         store: &mut Store<N, A>,
-    ) -> Result<Name, TreeFault>
+        trusts: bool,
+    ) -> Result<(Root<A>, Name), TreeFault>
+        requires home { IsTrue trusts → IsAtHome (N.name_of store.now.0) store.now.1 self.now }
         ensures namer { store.new.0 ≡ store.old.0 }
-        ensures name { IfOk result (λ name. name.bytes ≡ map_name (N.name_of store.old.0) self.now) }
-        ensures puts { PutsAll (tree_records (N.name_of store.old.0) self.now) store.old.1 store.new.1 result }
+        ensures name { IfOk result (λ made. made.1.bytes ≡ map_name (N.name_of store.old.0) self.now.files) }
+        ensures puts { PutsAll (tree_records (N.name_of store.old.0) self.now.files) store.old.1 store.new.1 result }
         ensures front { take (length store.old.1) store.new.1 ≡ store.old.1 }
+        ensures files { IfOk result (λ made. made.0.files ≡ self.now.files) }
+        ensures home { IfOk result (λ made. IsAtHome (N.name_of store.old.0) store.new.1 made.0) }
     {
         match &self.node {
-            Some(node) => node.write_into(alloc, store),
-            None => Directory::new(alloc).write_into(alloc, store),
+            Some(node) => {
+                let (node, name) = written_node(alloc, node, store, trusts)?;
+                Ok((Root { node: Some(node) }, name))
+            }
+            None => {
+                let (_, name) = Directory::new(alloc).written(alloc, store, trusts)?;
+                Ok((Root::none(), name))
+            }
         }
     }
 }

@@ -3,6 +3,7 @@ ghost use Rattle.std.specs.Prelude.{◌≡◌, ◌≤◌, ◌++◌, true, false,
 ghost use Rattle.std.specs.Cmp.Lexicographic.{slice_cmp};
 ghost use Rattle.std.specs.List.Sorted.{IsPartitionPoint};
 ghost use Rattle.std.specs.Ordering.{nat_cmp};
+ghost use Rattle.gx_tree.specs.Homes.{Keeps, Both, IfThere, Borrowed, AreAtHome, IsHeldAtHome, IsItemAtHome};
 ghost use Rattle.gx_tree.specs.Nodes.{IsLevel, kept_at, key, precedes};
 ghost use Rattle.gx_tree.specs.Searches.{Finds};
 ghost use Rattle.gx_tree.specs.Views.{option_kept, seen, seen_all};
@@ -17,7 +18,8 @@ pub(crate) fn find<'a, A: Allocator + Copy>(
     component: &[u8],
 ) -> Option<&'a Item<A>>
     requires { IsLevel (seen_all entries.now) }
-    ensures { kept_at component.now (seen_all entries.now) ≡ option_kept result }
+    ensures kept { kept_at component.now (seen_all entries.now) ≡ option_kept result }
+    ensures home { Keeps AreAtHome (IfThere (Borrowed IsItemAtHome)) entries.now result }
 {
     match find_marked(entries, component, b"") {
         Some(file) => Some(file),
@@ -32,7 +34,8 @@ fn find_marked<'a, A: Allocator + Copy>(
     mark: &[u8],
 ) -> Option<&'a Item<A>>
     requires { IsLevel (seen_all entries.now) }
-    ensures { Finds component.now mark.now (seen_all entries.now) (option_kept result) }
+    ensures kept { Finds component.now mark.now (seen_all entries.now) (option_kept result) }
+    ensures home { Keeps AreAtHome (IfThere (Borrowed IsItemAtHome)) entries.now result }
 {
     let place = place_of(entries, component, mark);
     if place == 0 {

@@ -8,6 +8,7 @@ use std::test::Fail;
 
 mod large;
 mod refused;
+mod shared;
 mod written;
 
 /// A name whose bytes are alike.

@@ -1,64 +1,142 @@
-//! Writing a directory's trees: those below it first, in the order of its entries, and then its own.
-ghost use Rattle.std.specs.Prelude.{◌≡◌, IfOk, length, take};
+//! Writing a directory's trees: those below it first, in the order of its entries, and then its own. What is written
+//! comes back with the names remembered.
+ghost use Rattle.std.specs.Prelude.{◌≡◌, IfOk, IfSome, IsTrue, Some, length, take};
 ghost use Rattle.gx_model.specs.Growth.{tree_records};
-ghost use Rattle.gx_tree.specs.Views.{kept};
+ghost use Rattle.gx_tree.specs.Homes.{IsItemAtHome};
+ghost use Rattle.gx_tree.specs.Named.{IsAtHome, is_named, own_name};
+ghost use Rattle.gx_tree.specs.Views.{kept, seen, Remembers};
 ghost use Rattle.gx_tree.specs.Writes.{PutsAll, kept_leaf, kept_records, map_name};
 
-use crate::directory::{Directory, Item};
+use crate::directory::{Directory, Entry, Item};
 use crate::fault::TreeFault;
-use gx_object::{Entry, Kind, Mode, Name, Namer, encode_tree};
+use gx_object::{Kind, Mode, Name, Namer, encode_tree};
 use gx_store::Store;
-use std::alloc::Allocator;
+use std::alloc::{AllocError, Allocator};
+use std::rc::Rc;
 
 impl<A: Allocator + Copy> Directory<A> {
-    /// Puts the trees at and below the directory, and answers the name of its own.
+    /// Puts the trees at and below the directory, and answers it with their names, and the name of its own.
     #[cycle(write)]
-    pub(crate) fn write_into<N: Namer>(
+    pub(crate) fn written<N: Namer>(
         &self,
         alloc: A,
         store: &mut Store<N, A>,
-    ) -> Result<Name, TreeFault>
+        trusts: bool,
+    ) -> Result<(Directory<A>, Name), TreeFault>
+        requires home { IsTrue trusts → IsAtHome (N.name_of store.now.0) store.now.1 self.now }
         ensures namer { store.new.0 ≡ store.old.0 }
-        ensures name { IfOk result (λ name. name.bytes ≡ map_name (N.name_of store.old.0) self.now) }
-        ensures puts { PutsAll (tree_records (N.name_of store.old.0) self.now) store.old.1 store.new.1 result }
+        ensures name { IfOk result (λ made. made.1.bytes ≡ map_name (N.name_of store.old.0) self.now.files) }
+        ensures puts { PutsAll (tree_records (N.name_of store.old.0) self.now.files) store.old.1 store.new.1 result }
         ensures front { take (length store.old.1) store.new.1 ≡ store.old.1 }
+        ensures files { IfOk result (λ made. made.0.files ≡ self.now.files) }
+        ensures home { IfOk result (λ made. IsAtHome (N.name_of store.old.0) store.new.1 made.0) }
+        ensures remembers { IfOk result (λ made. IsTrue (is_named made.0.names)) }
     {
-        let mut entries = Vec::new(alloc);
+        let mut named = Vec::with_capacity(alloc, self.entries.len())?;
+        let mut entries = Vec::with_capacity(alloc, self.entries.len())?;
         for entry in &self.entries {
-            let (mode, name) = entry.item.write_into(alloc, store)?;
+            let (item, mode, name) = entry.item.written(alloc, store, trusts)?;
             let component = entry.component();
-            let Ok(()) = entries.push(Entry {
+            let Ok(()) = entries.push(gx_object::Entry {
                 mode,
                 component,
                 name,
             }) else {
                 return Err(TreeFault::OutOfMemory);
             };
+            let Ok(()) = named.push(entry.with(item)?) else {
+                return Err(TreeFault::OutOfMemory);
+            };
         }
         let body = encode_tree(alloc, &entries)?;
-        Ok(store.put(Kind::Tree, &body)?)
+        let name = store.put(Kind::Tree, &body)?;
+        let directory = Directory {
+            entries: named,
+            remembered: Some(name),
+        };
+        Ok((directory, name))
+    }
+
+    // The name of its tree, where that is remembered.
+    fn remembered_name(&self) -> Option<Name>
+        ensures { IfSome result (λ name. own_name self.now.names ≡ Some name.bytes) }
+    {
+        self.remembered
+    }
+}
+
+impl<A: Allocator + Copy> Entry<A> {
+    // The entry with this in place of its item.
+    fn with(&self, item: Item<A>) -> Result<Entry<A>, AllocError>
+        ensures seen { IfOk result (λ entry. seen entry ≡ ((seen self.now).0, kept item)) }
+        ensures item { IfOk result (λ entry. entry.item ≡ item) }
+    {
+        let component = self.component.clone()?;
+        Ok(Entry { component, item })
     }
 }
 
 impl<A: Allocator + Copy> Item<A> {
-    // Puts the trees of a directory, and answers what an entry is and names.
+    // Puts the trees of a directory, and answers it with their names, and what an entry is and names.
     #[cycle(write)]
-    fn write_into<N: Namer>(
+    fn written<N: Namer>(
         &self,
         alloc: A,
         store: &mut Store<N, A>,
-    ) -> Result<(Mode, Name), TreeFault>
+        trusts: bool,
+    ) -> Result<(Item<A>, Mode, Name), TreeFault>
+        requires home { IsTrue trusts → IsItemAtHome (N.name_of store.now.0) store.now.1 self.now }
         ensures namer { store.new.0 ≡ store.old.0 }
-        ensures leaf { IfOk result (λ leaf. (leaf.0, leaf.1.bytes) ≡ kept_leaf (N.name_of store.old.0) (kept self.now)) }
+        ensures leaf { IfOk result (λ made. (made.1, made.2.bytes) ≡ kept_leaf (N.name_of store.old.0) (kept self.now)) }
         ensures puts { PutsAll (kept_records (N.name_of store.old.0) (kept self.now)) store.old.1 store.new.1 result }
         ensures front { take (length store.old.1) store.new.1 ≡ store.old.1 }
+        ensures kept { IfOk result (λ made. kept made.0 ≡ kept self.now) }
+        ensures home { IfOk result (λ made. IsItemAtHome (N.name_of store.old.0) store.new.1 made.0) }
+        ensures remembers { IfOk result (λ made. Remembers made.0) }
     {
         match self {
-            Item::File(mode, name) => Ok((*mode, *name)),
+            Item::File(mode, name) => Ok((Item::File(*mode, *name), *mode, *name)),
             Item::Folder(below) => {
-                let name = below.write_into(alloc, store)?;
-                Ok((Mode::Dir, name))
+                let (node, name) = written_node(alloc, below, store, trusts)?;
+                Ok((Item::Folder(node), Mode::Dir, name))
             }
         }
     }
+}
+
+/// Puts the trees at and below a shared directory, and answers it with their names, and the name of its own. Below a name
+/// that is remembered and trusted nothing is put, since that is held.
+#[cycle(write)]
+pub(crate) fn written_node<A: Allocator + Copy, N: Namer>(
+    alloc: A,
+    node: &Rc<Directory<A>, A>,
+    store: &mut Store<N, A>,
+    trusts: bool,
+) -> Result<(Rc<Directory<A>, A>, Name), TreeFault>
+    requires home { IsTrue trusts → IsAtHome (N.name_of store.now.0) store.now.1 node.now.value }
+    ensures namer { store.new.0 ≡ store.old.0 }
+    ensures name { IfOk result (λ made. made.1.bytes ≡ map_name (N.name_of store.old.0) node.now.value.files) }
+    ensures puts { PutsAll (tree_records (N.name_of store.old.0) node.now.value.files) store.old.1 store.new.1 result }
+    ensures front { take (length store.old.1) store.new.1 ≡ store.old.1 }
+    ensures files { IfOk result (λ made. made.0.value.files ≡ node.now.value.files) }
+    ensures home { IfOk result (λ made. IsAtHome (N.name_of store.old.0) store.new.1 made.0.value) }
+    ensures remembers { IfOk result (λ made. IsTrue (is_named made.0.value.names)) }
+{
+    if trusts {
+        if let Some(name) = node.remembered_name() {
+            return Ok((Rc::clone(node)?, name));
+        }
+    }
+    let (directory, name) = node.written(alloc, store, trusts)?;
+    Ok((shared(alloc, directory)?, name))
+}
+
+/// A directory, to be shared.
+pub(crate) fn shared<A: Allocator + Copy>(
+    alloc: A,
+    directory: Directory<A>,
+) -> Result<Rc<Directory<A>, A>, AllocError>
+    ensures { IfOk result (λ node. node.value ≡ directory) }
+{
+    Ok(Rc::new(alloc, directory)?)
 }

@@ -83,8 +83,8 @@ fn add_file<N: Namer, A: Allocator + Copy>(
     path: &[u8],
     body: &[u8],
 ) -> bool
-    requires { IsNamedMap repo.now.1.records tree.now }
-    ensures { IsNamedMap repo.new.1.records tree.new }
+    requires { IsNamedMap repo.now.1.records tree.now.files }
+    ensures { IsNamedMap repo.new.1.records tree.new.files }
 {
     let Ok(path) = TreePath::read(alloc, path) else {
         return false;
@@ -105,8 +105,8 @@ fn add_link<N: Namer, A: Allocator + Copy>(
     path: &[u8],
     name: Name,
 ) -> bool
-    requires { IsNamedMap repo.now.1.records tree.now }
-    ensures { IsNamedMap repo.now.1.records tree.new }
+    requires { IsNamedMap repo.now.1.records tree.now.files }
+    ensures { IsNamedMap repo.now.1.records tree.new.files }
 {
     let Ok(path) = TreePath::read(alloc, path) else {
         return false;
@@ -123,8 +123,8 @@ fn add_commit<'x, N: Namer, A: Allocator + Copy>(
     parents: &'x [Name],
     message: &'x [u8],
 ) -> Option<Name>
-    requires { IsNamedMap repo.now.1.records tree.now }
-    ensures { IsNamedMap repo.new.1.records tree.new }
+    requires { IsNamedMap repo.now.1.records tree.now.files }
+    ensures { IsNamedMap repo.new.1.records tree.new.files }
 {
     let author = Ident::read(IDENT).ok()?;
     let root = repo.add_tree(tree).ok()?;
@@ -173,8 +173,8 @@ fn add_first<N: Namer, A: Allocator + Copy>(
     repo: &mut Repo<N, A>,
     tree: &mut PathTree<A>,
 ) -> Option<Name>
-    requires { IsNamedMap repo.now.1.records tree.now }
-    ensures { IsNamedMap repo.new.1.records tree.new }
+    requires { IsNamedMap repo.now.1.records tree.now.files }
+    ensures { IsNamedMap repo.new.1.records tree.new.files }
 {
     if !add_file(alloc, repo, tree, b"test.txt", b"version 1\n") {
         return None;
@@ -188,8 +188,8 @@ fn add_later_files<N: Namer, A: Allocator + Copy>(
     repo: &mut Repo<N, A>,
     tree: &mut PathTree<A>,
 ) -> bool
-    requires { IsNamedMap repo.now.1.records tree.now }
-    ensures { IsNamedMap repo.new.1.records tree.new }
+    requires { IsNamedMap repo.now.1.records tree.now.files }
+    ensures { IsNamedMap repo.new.1.records tree.new.files }
 {
     add_file(alloc, repo, tree, b"test.txt", b"version 2\n")
         && add_file(alloc, repo, tree, b"new.txt", b"new file\n")

@@ -21,6 +21,6 @@ returns-in-Ok-list g c =
     let names = named_map name (files_of_tree (value_of_name r.records n)) in
     let held : IsHeldTree (g.N.Namer.name_of c.store.result.now.0) c.store.result.now.1 n names = rw c.store.ensures (held_tree name (g.met.N.Namer.is_namer c.args.repo.now.0) r c.sound.ensures n c.requires) in
     let loaded = c.in-Ok.ensures.files names held in
-    let same : names ≡ c.in-Ok.files = cc loaded in
-    let given : c.in-Ok.files ≡ map listed c.in-Ok-list.files.items = cc c.in-Ok-list.ensures in
+    let same : names ≡ c.in-Ok.files.files = cc loaded in
+    let given : c.in-Ok.files.files ≡ map listed c.in-Ok-list.files.items = cc c.in-Ok-list.ensures in
     sym given ∙ sym same

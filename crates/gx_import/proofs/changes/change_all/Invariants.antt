@@ -5,6 +5,7 @@ use Rattle.gx_model.specs.Replay.{State}
 use Rattle.gx_command.specs.Views.{shown_change}
 use Rattle.gx_import.specs.Standing.{Extends, Stands}
 use Rattle.gx_model.specs.NameMaps.{AreFiles}
+use Rattle.gx_tree.specs.Named.{IsAtHome}
 use Rattle.gx_import.proofs.ChangesSoFar.{AreMade}
 use Rattle.gx_import.proofs.changes.change_all.Given as goal
 
@@ -13,5 +14,6 @@ invariant-loop-change g l =
     (l.repo.0 ≡ l.initial.repo.0)
     × (l.repo.1.refs ≡ l.initial.repo.1.refs)
     × Extends l.initial.repo.1.records l.repo.1.records
-    × ((s : State) (f : FileMap Bytes) → Stands (g.N.Namer.name_of l.initial.repo.0) l.initial.repo.1 l.tables s → AreFiles (g.N.Namer.name_of l.initial.repo.0) s.history.values f l.initial.files
-    → AreMade (g.N.Namer.name_of l.initial.repo.0) l.initial.repo.1 l.repo.1 l.tables s f (map shown_change l.changes) (map shown_change (drop l.change-index l.changes)) l.files)
+    × ((s : State) (f : FileMap Bytes) → Stands (g.N.Namer.name_of l.initial.repo.0) l.initial.repo.1 l.tables s → AreFiles (g.N.Namer.name_of l.initial.repo.0) s.history.values f l.initial.files.files
+    → AreMade (g.N.Namer.name_of l.initial.repo.0) l.initial.repo.1 l.repo.1 l.tables s f (map shown_change l.changes) (map shown_change (drop l.change-index l.changes)) l.files.files)
+    × (IsAtHome (g.N.Namer.name_of l.initial.repo.0) l.initial.repo.1.records l.initial.files → IsAtHome (g.N.Namer.name_of l.initial.repo.0) l.repo.1.records l.files)

@@ -7,6 +7,9 @@ use Rattle.gx_command.specs.Views.{commit_parts, shown_change}
 use Rattle.gx_import.proofs.CommitRuns.{AddGives, ChangesGive, add_fails, changes_fail, commit_done, named_after, parents_held}
 use Rattle.gx_import.proofs.Extended.{extended_more}
 use Rattle.gx_import.proofs.MadeCommits.{first_refused, others_refused}
+use Rattle.gx_tree.specs.Named.{IsAtHome}
+use Rattle.gx_import.specs.Rows.{rows_of}
+use Rattle.gx_import.proofs.TipHomes.{AreHome, homes_longer, homes_put}
 use Rattle.gx_import.proofs.commit.apply_commit.Goals as goal
 
 pub returns-in_err-first-clause-steps : goal.returns-in_err-first-clause-steps
@@ -41,8 +44,8 @@ returns-in_err-change_all-clause-steps g c = λ s h.
     let mid = c.change_all.new.repo.1 in
     let before = c.args.tables.now in
     let tables = c.starting_files.new.tables in
-    let start = c.in_ok-files.files in
-    let stop = c.change_all.new.files in
+    let start = c.in_ok-files.files.files in
+    let stop = c.change_all.new.files.files in
     let first = c.in_ok-first.first in
     let parents = c.in_ok-parents.parents.items in
     let stand = c.starting_files.ensures.tables s h in
@@ -65,8 +68,8 @@ add-requires-clause-named g c =
     let mid = c.change_all.new.repo.1 in
     let before = c.args.tables.now in
     let tables = c.starting_files.new.tables in
-    let start = c.in_ok-files.files in
-    let stop = c.change_all.new.files in
+    let start = c.in_ok-files.files.files in
+    let stop = c.change_all.new.files.files in
     let first = c.in_ok-first.first in
     let parents = c.in_ok-parents.parents.items in
     let stand = c.starting_files.ensures.tables s h in
@@ -88,8 +91,8 @@ add-requires-clause-parents g c =
     let mid = c.change_all.new.repo.1 in
     let before = c.args.tables.now in
     let tables = c.starting_files.new.tables in
-    let start = c.in_ok-files.files in
-    let stop = c.change_all.new.files in
+    let start = c.in_ok-files.files.files in
+    let stop = c.change_all.new.files.files in
     let first = c.in_ok-first.first in
     let parents = c.in_ok-parents.parents.items in
     let stand = c.starting_files.ensures.tables s h in
@@ -113,8 +116,8 @@ returns-in_err-name-clause-steps g c = λ s h.
     let mid = c.change_all.new.repo.1 in
     let before = c.args.tables.now in
     let tables = c.starting_files.new.tables in
-    let start = c.in_ok-files.files in
-    let stop = c.change_all.new.files in
+    let start = c.in_ok-files.files.files in
+    let stop = c.change_all.new.files.files in
     let first = c.in_ok-first.first in
     let parents = c.in_ok-parents.parents.items in
     let stand = c.starting_files.ensures.tables s h in
@@ -166,8 +169,8 @@ returns-clause-steps g c = λ s h.
     let mid = c.change_all.new.repo.1 in
     let before = c.args.tables.now in
     let tables = c.starting_files.new.tables in
-    let start = c.in_ok-files.files in
-    let stop = c.change_all.new.files in
+    let start = c.in_ok-files.files.files in
+    let stop = c.change_all.new.files.files in
     let first = c.in_ok-first.first in
     let parents = c.in_ok-parents.parents.items in
     let stand = c.starting_files.ensures.tables s h in
@@ -181,3 +184,16 @@ returns-clause-steps g c = λ s h.
     let adds = subst (λ ns. AddGives name g.row.A.Denot mid new stop ns t (Ok c.in_ok-name.name)) c.as_slice-2.ensures.value named in
     commit_done name namer r mid c.sound.ensures before tables start stop t first parents s h stand k l files gives new c.in_ok-name.name adds c.add.new.files c.add.ensures.files c.set.new.self _ refl refl c.in_ok-set.ensures c.args.commit.branch.proper
     (record { commit = Some c.in_ok-name.name; files = Some c.add.new.files }) refl refl _ refl refl refl c.in_ok-set-2.ensures
+
+pub add-requires-clause-home : goal.add-requires-clause-home
+add-requires-clause-home g c =
+    let home = c.in_ok-change_all.ensures.home (c.in_ok-files.ensures.home c.requires.homes) in
+    subst (λ n. IsAtHome (g.N.Namer.name_of n) c.change_all.new.repo.1.records c.change_all.new.files) (sym c.change_all.ensures.namer) home
+
+pub returns-clause-homes : goal.returns-clause-homes
+returns-clause-homes g c =
+    let name = g.N.Namer.name_of c.args.repo.now.0 in
+    let new = c.add.new.repo.1.records in
+    let before = homes_longer name c.records_keep_home.ensures c.args.repo.now.1.records new (rows_of c.starting_files.new.tables.branches) (extended_more _ _ _ c.change_all.ensures.extends c.add.ensures.extends) (c.starting_files.ensures.homes c.requires.homes) in
+    let home = subst (λ n. IsAtHome (g.N.Namer.name_of n) new c.add.new.files) c.change_all.ensures.namer c.in_ok-name.ensures.home in
+    subst (AreHome name new) (sym c.in_ok-set-2.ensures) (homes_put name new _ (record { commit = Some c.in_ok-name.name; files = Some c.add.new.files }) _ home before)

@@ -28,5 +28,8 @@ returns-clause-files g c =
     let f = files_of (commit_at c.args.repo.now.1 c.args.commit.now) in
     let held : IsHeldTree (g.N.Namer.name_of c.store.result.now.0) c.store.result.now.1 c.tree_of-tree.result.bytes (named_map name f) = rw (c.store.ensures, c.tree_of-tree.ensures) (files_are_held name (g.met.N.Namer.is_namer c.args.repo.now.0) c.args.repo.now.1 c.sound.ensures c.args.commit.now.bytes c.requires) in
     let e = c.in_ok-load.ensures.files (named_map name f) held in
-    let same : named_map name f ≡ c.in_ok-load.field-0 = cc e in
+    let same : named_map name f ≡ c.in_ok-load.field-0.files = cc e in
     sym same
+
+pub returns-clause-home : goal.returns-clause-home
+returns-clause-home g c = rw c.store.ensures at c.in_ok-load.ensures.home

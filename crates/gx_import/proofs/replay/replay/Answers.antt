@@ -9,8 +9,9 @@ use Rattle.gx_command.specs.Views.{shown_command}
 use Rattle.gx_import.specs.ImportKinds.{of_command}
 use Rattle.gx_import.specs.Imports.{Imports}
 use Rattle.gx_import.specs.Replaying.{EndsAs}
-use Rattle.gx_import.specs.Standing.{Stands}
+use Rattle.gx_import.specs.Standing.{AreTipsAtHome, Stands}
 use Rattle.gx_import.proofs.ReachedStates.{IsAt, at_end, at_next, at_refused, at_start, at_stopped, extends_more, stand_empty, step_keeps}
+use Rattle.gx_import.proofs.TipHomes.{AreHome}
 use Rattle.gx_import.proofs.replay.replay.Goals as goal
 
 pub loop-reader-init : goal.loop-reader-init
@@ -20,6 +21,7 @@ loop-reader-init g c =
       namer = refl;
       refs = refl;
       extends = ([], sym (append-nil c.args.repo.now.1.records));
+      homes = subst (AreHome name c.args.repo.now.1.records) (sym c.requires.empty.branches) tt;
       room = omega (arith, c.new-reader.ensures.most);
       stands = (
         start (history_of c.args.repo.now.1),
@@ -58,7 +60,7 @@ pub overflow_add-commands : goal.overflow_add-commands
 overflow_add-commands g c = omega (arith, c.loop-reader.invariant.room)
 
 pub apply-requires : goal.apply-requires
-apply-requires g c = record { stands = (c.loop-reader.invariant.stands.0, c.loop-reader.invariant.stands.1) }
+apply-requires g c = record { stands = (c.loop-reader.invariant.stands.0, c.loop-reader.invariant.stands.1); homes = c.loop-reader.invariant.homes }
 
 pub returns-in-Err-clause-namer : goal.returns-in-Err-clause-namer
 returns-in-Err-clause-namer g c = c.apply.ensures.namer ∙ c.loop-reader.invariant.namer
@@ -100,6 +102,7 @@ loop-reader-preserved g c =
       namer = c.apply.ensures.namer ∙ inv.namer;
       refs = c.apply.ensures.refs ∙ inv.refs;
       extends = extends_more old.records c.loop-reader.repo.1.records c.apply.new.repo.1.records inv.extends c.apply.ensures.extends;
+      homes = subst (λ n. AreTipsAtHome (g.N.Namer.name_of n) c.apply.new.repo.1.records c.apply.new.tables) (sym c.apply.ensures.namer) c.in_default-apply.ensures.homes;
       room = omega (arith, inv.room, falls);
       stands = (
         h.0,

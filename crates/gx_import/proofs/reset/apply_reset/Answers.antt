@@ -8,10 +8,11 @@ use Rattle.gx_import.specs.ImportKinds.{fault_of}
 use Rattle.gx_import.proofs.FaultSteps.{fault_then}
 use Rattle.gx_import.proofs.Resets.{reset_by}
 use Rattle.gx_import.proofs.Standings.{moved_branch}
+use Rattle.gx_import.proofs.TipHomes.{AreHome, homes_put}
 use Rattle.gx_import.proofs.reset.apply_reset.Goals as goal
 
-pub returns-in_err-commit : goal.returns-in_err-commit
-returns-in_err-commit g c = λ s h.
+pub returns-in_err-commit-clause-steps : goal.returns-in_err-commit-clause-steps
+returns-in_err-commit-clause-steps g c = λ s h.
     let name = g.N.Namer.name_of c.args.repo.now.0 in
     let p = err_from_is_err_and c.from_residual.result c.from_residual.ensures.1 in
     let b = c.args.reset.branch.bytes.items in
@@ -19,8 +20,8 @@ returns-in_err-commit g c = λ s h.
     let k = c.in_err-commit.ensures s h in
     rw (p.1, p.2) (subst (IsFaultOf (fault_of c.in_err-commit.field-0.0)) (sym (reset_by name s b x)) (fault_then (fault_of c.in_err-commit.field-0.0) _ (λ y. Ok (on_branch b y s)) k))
 
-pub returns : goal.returns
-returns g c = λ s h.
+pub returns-clause-steps : goal.returns-clause-steps
+returns-clause-steps g c = λ s h.
     let name = g.N.Namer.name_of c.args.repo.now.0 in
     let b = c.args.reset.branch.bytes.items in
     let x = option_map shown_commit_ish c.args.reset.from in
@@ -29,3 +30,6 @@ returns g c = λ s h.
       reset_by name s b x ∙ ap (λ r. and_then r (λ y. Ok (on_branch b y s))) k.1,
       record { stands = moved_branch name c.args.repo.now.1 c.args.tables.now _ s h b c.args.reset.branch.proper k.0 _ (record { commit = k.2; files = tt }) refl refl refl c.in_ok-set.ensures; progress = refl; held = refl },
     )
+
+pub returns-clause-homes : goal.returns-clause-homes
+returns-clause-homes g c = λ name records h. subst (AreHome name records) (sym c.in_ok-set.ensures) (homes_put name records _ _ _ tt h)

@@ -1,4 +1,4 @@
-use Rattle.std.proofs.Common.{◌++◌, ◌∷◌, [], map, take, sym, subst, ap, ◌∙◌}
+use Rattle.std.proofs.Common.{arith, ◌++◌, ◌∷◌, [], map, take, sym, subst, ap, ◌∙◌}
 use Rattle.gx_model.specs.Histories.{Record, Records, record_for, with_one}
 use Rattle.gx_model.specs.HistoryOf.{named_values, value_in}
 use Rattle.gx_model.specs.RepositoryLaws.{values_of}
@@ -6,10 +6,10 @@ use Rattle.gx_model.specs.Sound.{Holds, IsSound, Keeps}
 use Rattle.gx_model.proofs.Puts.{front_put}
 use Rattle.gx_repo.specs.Additions.{HasValues}
 use Rattle.gx_repo.specs.Refs.{kept}
-use Rattle.gx_repo.specs.Rooms.{rooms_of}
+use Rattle.gx_repo.specs.Rooms.{IsFront, rooms_of}
 use Rattle.gx_repo.proofs.Additions.{put_grown, put_is_sound}
 use Rattle.gx_repo.proofs.HeldRecords.{keeps_front, keeps_same, put_held, put_holds, put_last}
-use Rattle.gx_repo.proofs.RecordRooms.{rooms_more}
+use Rattle.gx_repo.proofs.RecordRooms.{front_all, front_kept, front_whole, rooms_more}
 use Rattle.gx_repo.proofs.repo.Repo.add.Goals as goal
 
 pub returns-then-len-held-clause-held : goal.returns-then-len-held-clause-held
@@ -32,10 +32,11 @@ invariant_of-self-in-Ok g c =
     let l = rw (sym c.self.view_is) at c.requires.linked in
     let s = rw (sym c.self.view_is) at c.requires.short in
     let room = rw (sym c.self.view_is) at c.requires.room in
-    let last = put_last rs c.put.new.self.1 new c.in_ok-name.ensures.puts.1 (λ e. c.if-len-held.false (c.len.ensures.count ∙ e ∙ sym c.len-held.ensures.count)) in (
+    let last = put_last rs c.put.new.self.1 new c.in_ok-name.ensures.puts.1 (λ e. c.if-len-held.false (c.len.ensures.count ∙ e ∙ sym c.len-held.ensures.count)) in
+    let all = front_all rs c.self.inside.rooms.items c.self.invariant.1 (omega (arith, c.if-len-held-2.false, c.len-2.ensures, c.len-held.ensures.count)) in (
       subst (λ n. IsSound (g.N.Namer.name_of n) (record { records = c.put.new.self.1; refs = map kept c.self.inside.refs.items })) (sym c.put.ensures.namer)
           (put_is_sound names (c.links_tell_values.ensures names namer) (c.puts_add_values.ensures names namer) r c.self.invariant.0 c.args.kind c.args.body.now l s c.put.new.self.1 c.put.result c.put.ensures.puts),
-      c.in-Ok.ensures.items ∙ (λ i. c.self.invariant.1 i ++ room i ∷ []) ∙ sym (rooms_more rs new) ∙ ap rooms_of (sym last.0),
+      front_whole c.put.new.self.1 c.push.new.self.items (c.in-Ok.ensures.items ∙ (λ i. all i ++ room i ∷ []) ∙ sym (rooms_more rs new) ∙ ap rooms_of (sym last.0)),
     )
 
 pub invariant_of-self-in_default : goal.invariant_of-self-in_default
@@ -46,7 +47,7 @@ invariant_of-self-in_default g c =
     let namer = ap (λ v. v.0) c.truncate.ensures ∙ c.put.ensures.namer in (
       subst (λ n. IsSound (g.N.Namer.name_of n) (record { records = c.truncate.new.self.1; refs = map kept c.self.inside.refs.items })) (sym namer)
           (subst (λ z. IsSound (g.N.Namer.name_of c.self.inside.store.0) (record { records = z; refs = map kept c.self.inside.refs.items })) (sym old) c.self.invariant.0),
-      c.in_default.ensures.items ∙ c.self.invariant.1 ∙ ap rooms_of (sym old),
+      subst (λ xs. IsFront xs c.truncate.new.self.1) (sym c.in_default.ensures.items) (subst (IsFront c.self.inside.rooms.items) (sym old) c.self.invariant.1),
     )
 
 pub returns-in_default-clause-adds : goal.returns-in_default-clause-adds
@@ -83,7 +84,7 @@ invariant_of-self-then-len-held g c =
     let same = put_held rs c.put.new.self.1 (record_for names c.args.kind c.args.body.now) c.in_ok-name.ensures.puts.1 (sym c.len.ensures.count ∙ c.if-len-held.true ∙ c.len-held.ensures.count) in (
       subst (λ n. IsSound (g.N.Namer.name_of n) (record { records = c.put.new.self.1; refs = map kept c.self.inside.refs.items })) (sym c.put.ensures.namer)
           (put_is_sound names (c.links_tell_values.ensures names namer) (c.puts_add_values.ensures names namer) r c.self.invariant.0 c.args.kind c.args.body.now l s c.put.new.self.1 c.put.result c.put.ensures.puts),
-      c.self.invariant.1 ∙ ap rooms_of (sym same.0),
+      subst (IsFront c.self.inside.rooms.items) (sym same.0) c.self.invariant.1,
     )
 
 pub returns-then-len-held-clause-history : goal.returns-then-len-held-clause-history
@@ -105,3 +106,37 @@ returns-clause-history g c =
     let s = rw (sym c.self.view_is) at c.requires.short in
     subst (λ v. HasValues v.1 (record { records = c.put.new.self.1; refs = map kept c.self.inside.refs.items }) (with_one (values_of v.1) (value_in (named_values v.1.records) c.args.kind c.args.body.now))) c.self.view_is
     (put_grown names (c.links_tell_values.ensures names namer) (c.puts_add_values.ensures names namer) r c.self.invariant.0 c.args.kind c.args.body.now l s c.put.new.self.1 c.in_ok-name.ensures.puts.1).1
+
+pub returns-then-len-held-2-clause-held : goal.returns-then-len-held-2-clause-held
+returns-then-len-held-2-clause-held g c =
+    let r = record_for (g.N.Namer.name_of c.self.inside.store.0) c.args.kind c.args.body.now in
+    subst (Holds c.put.new.self.1 c.args.kind) (sym c.in_ok-name.ensures.puts.0) (put_holds c.self.inside.store.1 c.put.new.self.1 r c.in_ok-name.ensures.puts.1)
+
+pub returns-then-len-held-2-clause-keeps : goal.returns-then-len-held-2-clause-keeps
+returns-then-len-held-2-clause-keeps g c =
+    let r = record_for (g.N.Namer.name_of c.self.inside.store.0) c.args.kind c.args.body.now in
+    subst (λ v. Keeps v.1.records c.put.new.self.1) c.self.view_is (keeps_front c.self.inside.store.1 c.put.new.self.1 (front_put c.self.inside.store.1 c.put.new.self.1 r c.in_ok-name.ensures.puts.1))
+
+pub returns-then-len-held-2-clause-history : goal.returns-then-len-held-2-clause-history
+returns-then-len-held-2-clause-history g c =
+    let names = g.N.Namer.name_of c.self.inside.store.0 in
+    let namer = g.met.N.Namer.is_namer c.self.inside.store.0 in
+    let r : Records = record { records = c.self.inside.store.1; refs = map kept c.self.inside.refs.items } in
+    let l = rw (sym c.self.view_is) at c.requires.linked in
+    let s = rw (sym c.self.view_is) at c.requires.short in
+    subst (λ v. HasValues v.1 (record { records = c.put.new.self.1; refs = map kept c.self.inside.refs.items }) (with_one (values_of v.1) (value_in (named_values v.1.records) c.args.kind c.args.body.now))) c.self.view_is
+    (put_grown names (c.links_tell_values.ensures names namer) (c.puts_add_values.ensures names namer) r c.self.invariant.0 c.args.kind c.args.body.now l s c.put.new.self.1 c.in_ok-name.ensures.puts.1).1
+
+pub invariant_of-self-then-len-held-2 : goal.invariant_of-self-then-len-held-2
+invariant_of-self-then-len-held-2 g c =
+    let names = g.N.Namer.name_of c.self.inside.store.0 in
+    let namer = g.met.N.Namer.is_namer c.self.inside.store.0 in
+    let rs = c.self.inside.store.1 in
+    let r : Records = record { records = rs; refs = map kept c.self.inside.refs.items } in
+    let l = rw (sym c.self.view_is) at c.requires.linked in
+    let s = rw (sym c.self.view_is) at c.requires.short in
+    let front = front_put rs c.put.new.self.1 (record_for names c.args.kind c.args.body.now) c.in_ok-name.ensures.puts.1 in (
+      subst (λ n. IsSound (g.N.Namer.name_of n) (record { records = c.put.new.self.1; refs = map kept c.self.inside.refs.items })) (sym c.put.ensures.namer)
+          (put_is_sound names (c.links_tell_values.ensures names namer) (c.puts_add_values.ensures names namer) r c.self.invariant.0 c.args.kind c.args.body.now l s c.put.new.self.1 c.put.result c.put.ensures.puts),
+      front_kept rs c.put.new.self.1 c.self.inside.rooms.items c.self.invariant.1 front,
+    )

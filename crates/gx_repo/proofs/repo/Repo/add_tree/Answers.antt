@@ -9,31 +9,18 @@ use Rattle.gx_repo.specs.Refs.{kept}
 use Rattle.gx_repo.specs.Rooms.{rooms_of}
 use Rattle.gx_repo.proofs.Additions.{trees_grown}
 use Rattle.gx_repo.proofs.HeldRecords.{keeps_front, tree_holds}
-use Rattle.gx_repo.proofs.RecordRooms.{rooms_count, rooms_kept, sound_alone}
+use Rattle.gx_repo.proofs.RecordRooms.{front_kept}
 use Rattle.gx_repo.proofs.repo.Repo.add_tree.Goals as goal
 
-pub enter_rooms-requires-clause-sound : goal.enter_rooms-requires-clause-sound
-enter_rooms-requires-clause-sound g c =
-    let names = g.N.Namer.name_of c.self.inside.store.0 in
-    let namer = g.met.N.Namer.is_namer c.self.inside.store.0 in
-    let r : Records = record { records = c.self.inside.store.1; refs = map kept c.self.inside.refs.items } in
-    let named = rw (sym c.self.view_is) at c.requires.named in
-    let grown = (trees_grown names (c.trees_add_file_maps.ensures names namer) (c.puts_add_values.ensures names namer) r c.self.invariant.0 c.args.tree.now named c.write.new.store.1 c.in-Ok.ensures.records).0 in
-    subst (λ n. IsSound (g.N.Namer.name_of n) (record { records = c.write.new.store.1; refs = [] })) (sym c.write.ensures.namer)
-    (sound_alone names (record { records = c.write.new.store.1; refs = map kept c.self.inside.refs.items }) grown)
-
-pub enter_rooms-requires-clause-front : goal.enter_rooms-requires-clause-front
-enter_rooms-requires-clause-front g c = rooms_kept c.self.inside.store.1 c.write.new.store.1 c.self.inside.rooms.items c.self.invariant.1 c.write.ensures.front
-
-pub invariant_of-self-in-Ok-enter_rooms : goal.invariant_of-self-in-Ok-enter_rooms
-invariant_of-self-in-Ok-enter_rooms g c =
+pub invariant_of-self : goal.invariant_of-self
+invariant_of-self g c =
     let names = g.N.Namer.name_of c.self.inside.store.0 in
     let namer = g.met.N.Namer.is_namer c.self.inside.store.0 in
     let r : Records = record { records = c.self.inside.store.1; refs = map kept c.self.inside.refs.items } in
     let named = rw (sym c.self.view_is) at c.requires.named in (
       subst (λ n. IsSound (g.N.Namer.name_of n) (record { records = c.write.new.store.1; refs = map kept c.self.inside.refs.items })) (sym c.write.ensures.namer)
-          (trees_grown names (c.trees_add_file_maps.ensures names namer) (c.puts_add_values.ensures names namer) r c.self.invariant.0 c.args.tree.now named c.write.new.store.1 c.in-Ok.ensures.records).0,
-      c.in-Ok-enter_rooms.ensures.ok,
+          (trees_grown names (c.trees_add_file_maps.ensures names namer) (c.puts_add_values.ensures names namer) r c.self.invariant.0 c.args.tree.now.files named c.write.new.store.1 c.in-Ok.ensures.records).0,
+      front_kept c.self.inside.store.1 c.write.new.store.1 c.self.inside.rooms.items c.self.invariant.1 c.write.ensures.front,
     )
 
 pub returns-clause-history : goal.returns-clause-history
@@ -42,24 +29,13 @@ returns-clause-history g c =
     let namer = g.met.N.Namer.is_namer c.self.inside.store.0 in
     let r : Records = record { records = c.self.inside.store.1; refs = map kept c.self.inside.refs.items } in
     let named = rw (sym c.self.view_is) at c.requires.named in
-    subst (λ v. HasValues v.1 (record { records = c.write.new.store.1; refs = map kept c.self.inside.refs.items }) (with_tree (values_of v.1) (contents_of (named_values v.1.records) c.args.tree.now))) c.self.view_is
-    (trees_grown names (c.trees_add_file_maps.ensures names namer) (c.puts_add_values.ensures names namer) r c.self.invariant.0 c.args.tree.now named c.write.new.store.1 c.in-Ok.ensures.records).1
+    subst (λ v. HasValues v.1 (record { records = c.write.new.store.1; refs = map kept c.self.inside.refs.items }) (with_tree (values_of v.1) (contents_of (named_values v.1.records) c.args.tree.now.files))) c.self.view_is
+    (trees_grown names (c.trees_add_file_maps.ensures names namer) (c.puts_add_values.ensures names namer) r c.self.invariant.0 c.args.tree.now.files named c.write.new.store.1 c.in-Ok.ensures.records).1
 
 pub returns-clause-held : goal.returns-clause-held
 returns-clause-held g c =
     subst (Holds c.write.new.store.1 kinds.Tree) (sym c.in-Ok.ensures.name)
-    (tree_holds (g.N.Namer.name_of c.self.inside.store.0) c.args.tree.now c.self.inside.store.1 c.write.new.store.1 c.in-Ok.ensures.records)
+    (tree_holds (g.N.Namer.name_of c.self.inside.store.0) c.args.tree.now.files c.self.inside.store.1 c.write.new.store.1 c.in-Ok.ensures.records)
 
 pub returns-clause-keeps : goal.returns-clause-keeps
 returns-clause-keeps g c = subst (λ v. Keeps v.1.records c.write.new.store.1) c.self.view_is (keeps_front c.self.inside.store.1 c.write.new.store.1 c.write.ensures.front)
-
-pub invariant_of-self-in_default : goal.invariant_of-self-in_default
-invariant_of-self-in_default g c =
-    let rs = c.self.inside.store.1 in
-    let old = ap (λ v. v.1) c.truncate-in_default.ensures ∙ ap (λ k. take k c.write.new.store.1) c.len-held.ensures.count ∙ c.write.ensures.front in
-    let namer = ap (λ v. v.0) c.truncate-in_default.ensures ∙ c.write.ensures.namer in
-    let many : c.len-held.result ≡ length c.self.inside.rooms.items = c.len-held.ensures.count ∙ sym (ap length c.self.invariant.1 ∙ rooms_count rs) in (
-      subst (λ n. IsSound (g.N.Namer.name_of n) (record { records = c.truncate-in_default.new.self.1; refs = map kept c.self.inside.refs.items })) (sym namer)
-          (subst (λ z. IsSound (g.N.Namer.name_of c.self.inside.store.0) (record { records = z; refs = map kept c.self.inside.refs.items })) (sym old) c.self.invariant.0),
-      c.truncate-in_default-2.ensures.items ∙ ap (λ k. take k c.enter_rooms.new.rooms.items) many ∙ c.in_default.ensures.err ∙ c.self.invariant.1 ∙ ap rooms_of (sym old),
-    )

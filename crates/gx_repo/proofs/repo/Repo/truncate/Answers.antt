@@ -1,8 +1,8 @@
 use Rattle.std.proofs.Common.{◌≡◌, ℕ, zero, suc, List, [], ◌∷◌, ◌++◌, take, drop, map, refl, sym, ap, subst, ◌∙◌}
 use Rattle.gx_model.specs.Sound.{IsSound}
 use Rattle.gx_repo.specs.Refs.{kept}
-use Rattle.gx_repo.specs.Rooms.{rooms_of}
-use Rattle.gx_repo.proofs.RecordRooms.{rooms_taken}
+use Rattle.gx_repo.specs.Rooms.{IsFront}
+use Rattle.gx_repo.proofs.RecordRooms.{front_taken}
 use Rattle.gx_repo.proofs.repo.Repo.truncate.Goals as goal
 
 -- a front and what follows it
@@ -21,5 +21,5 @@ invariant_of-self g c =
     let held = rw (sym c.self.view_is) at c.requires.targets in
     let law = ((c.parts_change.ensures names namer).first (take c.args.len rs) (drop c.args.len rs) refs whole held).0 in (
       subst (λ v. IsSound (g.N.Namer.name_of v.0) (record { records = v.1; refs = refs })) (sym c.truncate.ensures) law,
-      c.truncate-2.ensures.items ∙ ap (take c.args.len) c.self.invariant.1 ∙ sym (rooms_taken c.args.len rs) ∙ ap (λ v. rooms_of v.1) (sym c.truncate.ensures),
+      subst (λ xs. IsFront xs c.truncate.new.self.1) (sym c.truncate-2.ensures.items) (subst (λ v. IsFront (take c.args.len c.self.inside.rooms.items) v.1) (sym c.truncate.ensures) (front_taken c.args.len rs c.self.inside.rooms.items c.self.invariant.1)),
     )

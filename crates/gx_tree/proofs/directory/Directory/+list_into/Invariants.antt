@@ -8,4 +8,4 @@ abbrev pub invariant-loop-entry : goal.invariant-loop-entry
 invariant-loop-entry g l = map listed l.out.items ++ below l.front (files (seen_all (drop l.entry-index l.entry-items))) ≡ map listed l.initial.out.items ++ below l.front (files (seen_all l.entry-items))
 
 abbrev pub decreases-list_into : goal.decreases-list_into
-decreases-list_into g l = components l.self.now
+decreases-list_into g l = components l.self.now.files

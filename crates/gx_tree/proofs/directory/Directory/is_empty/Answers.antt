@@ -1,3 +1,4 @@
+use Rattle.gx_tree.proofs.Homes.{files_same}
 use Rattle.std.proofs.Common.{sym, ◌∙◌}
 use Rattle.std.proofs.lemmas.Bool.{eqb-true, eq-eqb}
 use Rattle.std.proofs.lemmas.List.{length-map}
@@ -10,6 +11,6 @@ returns g c =
     let es = c.self.inside.entries.items in
     let ok = c.self.inside.entries.ok in
     let e = c.is_empty.ensures in (
-      (λ t. sym c.self.view_is ∙ no_entries (seen_all es) (length-map es seen ∙ sym ok.0 ∙ eqb-true _ _ (sym e ∙ t))),
-      (λ z. e ∙ eq-eqb _ _ (ok.0 ∙ sym (length-map es seen) ∙ no_files (seen_all es) c.self.invariant (c.self.view_is ∙ z))),
+      (λ t. sym (files_same c.self.view_is) ∙ no_entries (seen_all es) (length-map es seen ∙ sym ok.0 ∙ eqb-true _ _ (sym e ∙ t))),
+      (λ z. e ∙ eq-eqb _ _ (ok.0 ∙ sym (length-map es seen) ∙ no_files (seen_all es) c.self.invariant.0 ((files_same c.self.view_is) ∙ z))),
     )

@@ -1,3 +1,4 @@
+use Rattle.gx_tree.proofs.Homes.{files_same}
 use Rattle.std.proofs.Common.{subst}
 use Rattle.gx_tree.specs.Nodes.{IsInner}
 use Rattle.gx_tree.specs.Views.{seen_all}
@@ -5,4 +6,4 @@ use Rattle.gx_tree.proofs.Levels.{IsInner-files}
 use Rattle.gx_tree.proofs.directory.Directory.order.Goals as goal
 
 pub returns : goal.returns
-returns g c = subst IsInner c.self.view_is (IsInner-files (seen_all c.self.inside.entries.items) c.self.invariant)
+returns g c = subst IsInner (files_same c.self.view_is) (IsInner-files (seen_all c.self.inside.entries.items) c.self.invariant.0)

@@ -1,7 +1,12 @@
 use Rattle.std.proofs.Common.{sym, subst}
+use Rattle.gx_model.specs.Edits.{removed}
+use Rattle.gx_tree.specs.Named.{IsAtHome}
 use Rattle.gx_model.specs.NameMaps.{IsNameMap}
 use Rattle.gx_tree.proofs.NamedFiles.{names-removed}
 use Rattle.gx_tree.proofs.path_tree.PathTree.remove.Goals as goal
 
 pub invariant_of-self : goal.invariant_of-self
-invariant_of-self g c = subst IsNameMap (sym c.in_ok-self-inside.ensures) (names-removed c.self.inside.root c.args.path.now c.self.invariant)
+invariant_of-self g c = subst IsNameMap (sym c.in_ok-self-inside.ensures.files) (names-removed c.self.inside.root.files c.args.path.now c.self.invariant)
+
+pub returns-clause-home : goal.returns-clause-home
+returns-clause-home g c name rs h = c.in_ok-self-inside.ensures.home name rs (subst (IsAtHome name rs) (sym c.self.view_is) h)

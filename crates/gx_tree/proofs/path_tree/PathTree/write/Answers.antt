@@ -1,11 +1,11 @@
 use Rattle.std.proofs.Common.{subst}
-use Rattle.std.specs.Prelude.{IfOk}
-use Rattle.gx_model.specs.NameMaps.{IsHeldTree}
-use Rattle.gx_tree.proofs.HeldRecords.{held_if_written}
+use Rattle.std.specs.Prelude.{Ok}
+use Rattle.gx_model.specs.NameMaps.{IsNameMap, IsHeldTree}
+use Rattle.gx_tree.proofs.HeldRecords.{all_held}
 use Rattle.gx_tree.proofs.path_tree.PathTree.write.Goals as goal
 
 pub returns-clause-held : goal.returns-clause-held
 returns-clause-held g c =
     let name = g.N.Namer.name_of c.args.store.now.0 in
-    subst (λ f. IfOk c.write_into.result (λ n. IsHeldTree name c.write_into.new.store.1 n.bytes f)) c.self.view_is
-    (held_if_written name c.args.store.now.1 c.write_into.new.store.1 c.write_into.result c.self.inside.root c.self.invariant c.write_into.ensures.name c.write_into.ensures.puts)
+    subst (λ t. IsHeldTree name c.written.new.store.1 c.in_ok-root.name.bytes t.files) c.self.view_is
+    (record { map = c.self.invariant; named = c.in_ok-root.ensures.name; held = all_held _ c.args.store.now.1 c.written.new.store.1 c.in_ok-root.ensures.puts })

@@ -1,0 +1,11 @@
+use Rattle.std.proofs.Common.{subst}
+use Rattle.std.specs.Prelude.{Ok}
+use Rattle.gx_model.specs.NameMaps.{IsNameMap, IsHeldTree}
+use Rattle.gx_tree.proofs.HeldRecords.{all_held}
+use Rattle.gx_tree.proofs.path_tree.PathTree.write_shared.Goals as goal
+
+pub returns-clause-held : goal.returns-clause-held
+returns-clause-held g c =
+    let name = g.N.Namer.name_of c.args.store.now.0 in
+    subst (λ t. IsHeldTree name c.written.new.store.1 c.in_ok-root.name.bytes t.files) c.self.view_is
+    (record { map = c.self.invariant; named = c.in_ok-root.ensures.name; held = all_held _ c.args.store.now.1 c.written.new.store.1 c.in_ok-root.ensures.puts })

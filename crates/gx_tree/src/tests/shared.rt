@@ -1,0 +1,61 @@
+use super::*;
+
+/// The name that a tree is written with by the names that it remembers from before a file was put at this path, the one
+/// that it gets in an empty store, and how many records are in that store then.
+fn written_again<A: Allocator + Copy>(
+    alloc: A,
+    tree: &mut PathTree<A>,
+    path: &TreePath<A>,
+) -> Option<(Name, Name, usize)> {
+    let mut store = Store::new(alloc, Sha1Namer);
+    let Ok(_) = tree.write(&mut store) else {
+        return None;
+    };
+    let Ok(()) = tree.modify(path, Mode::File, name_of(b'6')) else {
+        return None;
+    };
+    let Ok(shared) = tree.write_shared(&mut store) else {
+        return None;
+    };
+    let mut empty = Store::new(alloc, Sha1Namer);
+    let Ok(alone) = tree.write(&mut empty) else {
+        return None;
+    };
+    Some((shared, alone, empty.len()))
+}
+
+fn mixed_again<A: Allocator + Copy>(alloc: A) -> Option<(Name, Name, usize)> {
+    let mut tree = mixed(alloc)?;
+    let path = TreePath::read(alloc, b"n/o/p").ok()?;
+    written_again(alloc, &mut tree, &path)
+}
+
+#[test]
+fn remembered_names_give_the_name_of_the_tree(rt: HostRuntime) {
+    let Some((shared, alone, trees)) = mixed_again(rt.alloc()) else {
+        return assert!(rt; false);
+    };
+    assert_eq!(rt; (shared, trees), (alone, 5));
+}
+
+/// What a tree is written as, and then by the names that it remembers while each growth is refused.
+fn written_twice<B: Allocator>(heap: &Refusing<B>) -> Option<(Name, Result<Name, TreeFault>)> {
+    let mut tree = mixed(heap)?;
+    let mut store = Store::new(heap, Sha1Namer);
+    let Ok(first) = tree.write(&mut store) else {
+        return None;
+    };
+    heap.arm(1);
+    let second = tree.write_shared(&mut store);
+    heap.arm(0);
+    Some((first, second))
+}
+
+#[test]
+fn remembered_names_are_written_without_memory(rt: HostRuntime) {
+    let heap = Refusing::new(rt.alloc(), 0);
+    let Some((first, second)) = written_twice(&heap) else {
+        return assert!(rt; false);
+    };
+    assert_eq!(rt; second, Ok(first));
+}

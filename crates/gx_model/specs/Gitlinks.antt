@@ -10,13 +10,11 @@ use Rattle.gx_model.specs.Items.{Stream}
 use Rattle.gx_model.specs.Commands as command
 use Rattle.gx_model.specs.Commands.{Change, Command, Inline, Mark, Modify, Object}
 use Rattle.gx_model.specs.Grammar.{commands_of, is_null}
-use Rattle.gx_model.specs.Values.{Commit, files_of}
 use Rattle.gx_model.specs.Histories.{History, IsHistory}
 use Rattle.gx_model.specs.Revisions.{Revision}
 use Rattle.gx_model.specs.Ranges.{commit_of}
 use Rattle.gx_model.specs.Replay.{Report, finished, replayed, replayed_text, start}
-use Rattle.gx_model.specs.Export.{reached_commits}
-use Rattle.gx_model.specs.ExportLaws.{IsNotNull}
+use Rattle.gx_model.specs.ExportLaws.{HasNoNullGitlink, HaveNoNullGitlink}
 
 -- ---- commands
 
@@ -34,15 +32,7 @@ BringsNoNullGitlink _ = ⊤
 
 -- ---- histories
 
--- no file map of these commits has a gitlink of forty zeros
-abbrev pub HaveNoNullGitlink : List Commit → Type 0
-HaveNoNullGitlink commits = AllByRecursion (λ made. AllByRecursion (λ file. IsNotNull file.1.0 file.1.1) (files_of made)) commits
-
--- no file map that refs reach has one
-abbrev pub HasNoNullGitlink : History → Type 0
-HasNoNullGitlink h = HaveNoNullGitlink (reached_commits h)
-
--- no commit has one, whether refs reach it or not
+-- no commit has a gitlink of forty zeros, whether refs reach it or not
 abbrev pub HoldsNoNullGitlink : History → Type 0
 HoldsNoNullGitlink h = HaveNoNullGitlink (filter_map commit_of h.values)
 

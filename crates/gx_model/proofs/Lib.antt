@@ -74,3 +74,4 @@ pub mod ChangedRefs
 pub mod NullGitlinks
 pub mod ReadGitlinks
 pub mod GitlinkSteps
+pub mod ComingBack

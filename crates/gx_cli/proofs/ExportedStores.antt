@@ -20,7 +20,7 @@ pub refused_again : (name : Kind → Bytes → Bytes) {A : Type 0} (stored : Sto
     → stored ≡ Ok old → ImportsExport name old new coming (Err fault) → IsRefused (Import fault) outcome → ImportsAgain name stored coming outcome
 refused_again name stored old new None fault outcome read h k = tt
 refused_again name stored old new (Some coming) fault outcome read h k =
-    λ exported is paths links gives empty. inl (inr (fault, h exported is paths links gives (cc (sym read ∙ empty)), k))
+    λ exported is links gives empty. inl (inr (fault, h exported is links gives (cc (sym read ∙ empty)), k))
 
 -- an accepted import into the store that was read: the new repository was written
 module _ {N A : Type 0} (name_of : N → Kind → Bytes → Bytes) (namer : N) (old new : N × Records) (store : Bytes) (report : Report) (outcome : Outcome A) (same : old.0 ≡ namer) (kept : new.0 ≡ old.0)
@@ -38,5 +38,5 @@ module _ {N A : Type 0} (name_of : N → Kind → Bytes → Bytes) (namer : N) (
 
   pub accepted_again : (coming : Option Coming) → ImportsExport (name_of old.0) old.1 new.1 coming (Ok report) → ImportsAgain (name_of namer) (store_of (name_of namer) store) coming outcome
   accepted_again None h = tt
-  accepted_again (Some coming) h = λ exported is paths links gives empty.
-      inr (new.1, subst (λ n. ImportsExport (name_of n) old.1 new.1 (Some coming) (Ok report)) same h exported is paths links gives (cc (sym read ∙ empty)), sound_still, written_still)
+  accepted_again (Some coming) h = λ exported is links gives empty.
+      inr (new.1, subst (λ n. ImportsExport (name_of n) old.1 new.1 (Some coming) (Ok report)) same h exported is links gives (cc (sym read ∙ empty)), sound_still, written_still)

@@ -4,12 +4,12 @@ use Rattle.std.specs.Prelude.{◌≡◌, ◌⊎◌, Option, Some, None, Ok, ⊤}
 use Rattle.gx_model.specs.declared.objects.Kind.{Kind}
 use Rattle.gx_model.specs.Texts.{Bytes}
 use Rattle.gx_model.specs.Histories.{Records}
-use Rattle.gx_model.specs.Gitlinks.{HasNoNullGitlink}
+use Rattle.gx_model.specs.ExportLaws.{HasNoNullGitlink}
 use Rattle.gx_model.specs.HistoryOf.{history_of}
 use Rattle.gx_model.specs.Sound.{IsSound}
 use Rattle.gx_model.specs.StoreReading.{Stored, store_of}
 use Rattle.gx_text.specs.Devices.{Coming}
-use Rattle.gx_import.specs.Exported.{GivesExport, HasPathsOfBytes, IsExported, nothing}
+use Rattle.gx_import.specs.Exported.{GivesExport, IsExported, nothing}
 use Rattle.gx_import.specs.declared.fault.ImportFault.{ImportFault}
 use Rattle.gx_import.specs.declared.fault.ImportKind.TheVariants as kind
 use Rattle.gx_file.specs.declared.fault.FileFault.TheVariants as file
@@ -35,7 +35,7 @@ module _ (name : Kind → Bytes → Bytes) {A : Type 0} where
   abbrev pub ImportsAgain : Stored Records → Option Coming → Outcome A → Type 0
   ImportsAgain stored None o = ⊤
   ImportsAgain stored (Some coming) o =
-      (exported : Records) → IsSound name exported → HasPathsOfBytes (history_of exported) → HasNoNullGitlink (history_of exported)
+      (exported : Records) → IsSound name exported → HasNoNullGitlink (history_of exported)
       → GivesExport exported coming → stored ≡ Ok nothing → IsAgainOr exported o
 
   -- the same of the command

@@ -1,5 +1,5 @@
 -- How the commands end.
-use Rattle.std.specs.Prelude.{◌≡◌, ◌⊎◌, ℕ, [], Option, Some, None, Result, Ok, Err, IfOk}
+use Rattle.std.specs.Prelude.{◌≡◌, ◌⊎◌, ℕ, [], Option, Some, None, Result, Ok, Err}
 use Rattle.std.specs.Option.{option_map}
 use Rattle.std.specs.declared.vec.Vec.{Vec}
 use Rattle.gx_model.specs.declared.objects.Kind.{Kind}
@@ -11,7 +11,7 @@ use Rattle.gx_model.specs.StoreText.{store_text}
 use Rattle.gx_model.specs.StoreReading.{Stored, store_of}
 use Rattle.gx_text.specs.Devices.{Coming, Taken}
 use Rattle.gx_stream.specs.Heard.{items_from}
-use Rattle.gx_import.specs.Exported.{HasPathsOfBytes, KeepsNoNullGitlink, nothing}
+use Rattle.gx_import.specs.Exported.{KeepsNoNullGitlink, nothing}
 use Rattle.gx_import.specs.Imports.{Imports}
 use Rattle.gx_import.specs.declared.fault.ImportFault.{ImportFault}
 use Rattle.gx_import.specs.declared.report.Report.{Report}
@@ -60,7 +60,7 @@ IsWritten {A} name repository o =
 abbrev pub ExportsStored : {A : Type 0} → Stored Records → Option Taken → Option Taken → Outcome A → Type 0
 ExportsStored (Ok repository) was now o =
     (IsRefused (Store file.OutOfMemory) o × (now ≡ was))
-    ⊎ ((answer : Result (Unit {0}) ExportFault) × Exports repository was now answer × IfOk answer (λ done. HasPathsOfBytes (history_of repository)) × IsOutcome (export_answer answer) o)
+    ⊎ ((answer : Result (Unit {0}) ExportFault) × Exports repository was now answer × IsOutcome (export_answer answer) o)
 ExportsStored (Err f) was now o = (why : FileFault) × ((why ≡ file.OutOfMemory) ⊎ (f ≡ fault_of why)) × IsRefused (Store why) o × (now ≡ was)
 
 -- what a command prints of a store: nothing where it has no use for one, or makes one

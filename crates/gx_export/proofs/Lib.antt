@@ -7,7 +7,6 @@ pub mod ExportTexts
 pub mod FileLines
 pub mod FilePlaces
 pub mod Numbering
-pub mod PathBytes
 pub mod Placing
 pub mod RefLines
 pub mod Writing

@@ -6,7 +6,6 @@ ghost use Rattle.gx_model.specs.declared.objects.Kind.TheVariants as kinds;
 ghost use Rattle.gx_model.specs.declared.objects.Mode.TheVariants as modes;
 ghost use Rattle.gx_model.specs.RepositoryLaws.{values_of};
 ghost use Rattle.gx_model.specs.Export.{blob_commands, contents, dataref_in, dataref_text, one_commit, with_blobs, with_commit};
-ghost use Rattle.gx_model.specs.Paths.{AreBytes};
 ghost use Rattle.gx_model.specs.HistoryOf.{bytes_of_blob, commit_of_value, content_of, contents_of, named_values, value_of_name};
 ghost use Rattle.gx_model.specs.Records.{named_map};
 ghost use Rattle.gx_model.specs.Sound.{Holds, IsNamedMap};
@@ -18,7 +17,6 @@ ghost use Rattle.gx_tree.specs.Lists.{listed};
 ghost use Rattle.gx_export.specs.declared.fault.ExportFault.TheVariants.{OutOfMemory};
 ghost use Rattle.gx_export.specs.Marks.{Adds, ArePlaces, HasWritten};
 ghost use Rattle.gx_export.specs.Outputs.{Writes, most};
-ghost use Rattle.gx_export.specs.Paths.{HavePathsOfBytes};
 ghost use Rattle.gx_export.specs.Texts.{change_lines, commit_lines, file_line, items_of, items_text, parent_items, root_items};
 
 use crate::ExportFault;
@@ -45,8 +43,7 @@ pub(crate) fn write_commit<N: Namer, A: Allocator + Copy, W: Sink>(
 ) -> Result<(), ExportFault>
     requires commit { (made : Commit) × (slice_get (values_of repo.now.1) place ≡ Some (commit_value made)) }
     requires written { (ws : List Value) × HasWritten repo.now.1 ws written.old }
-    ensures adds { (made : Commit) (ws : List Value) → slice_get (values_of repo.now.1) place ≡ Some (commit_value made) → HasWritten repo.now.1 ws written.old → Adds repo.now.1 (with_commit ws made) (items_of (one_commit ws made)) written.old written.new (W.taken sink.old) (W.taken sink.new) result }
-    ensures paths { IfOk result (λ _. (made : Commit) → slice_get (values_of repo.now.1) place ≡ Some (commit_value made) → HavePathsOfBytes (files_of made)) }
+    ensures { (made : Commit) (ws : List Value) → slice_get (values_of repo.now.1) place ≡ Some (commit_value made) → HasWritten repo.now.1 ws written.old → Adds repo.now.1 (with_commit ws made) (items_of (one_commit ws made)) written.old written.new (W.taken sink.old) (W.taken sink.new) result }
 {
     repo.sound();
     let commit = name_at(repo, place);
@@ -189,8 +186,7 @@ fn write_lines<N: Namer, A: Allocator + Copy, W: Sink>(
     requires places { ArePlaces repo.now.1 (map listed files.now) places.now }
     requires parents { AllByRecursion (Holds repo.now.1.records kinds.Commit) commit.now.parents }
     requires written { (ws : List Value) × HasWritten repo.now.1 ws written.old }
-    ensures adds { (ws : List Value) → HasWritten repo.now.1 ws written.old → Adds repo.now.1 ws (commit_lines ws commit.now.text (map (λ name. commit_of_value (value_of_name repo.now.1.records name)) commit.now.parents) (contents_of (named_values repo.now.1.records) (map listed files.now))) written.old written.new (W.taken sink.old) (W.taken sink.new) result }
-    ensures paths { IfOk result (λ _. HavePathsOfBytes (map listed files.now)) }
+    ensures { (ws : List Value) → HasWritten repo.now.1 ws written.old → Adds repo.now.1 ws (commit_lines ws commit.now.text (map (λ name. commit_of_value (value_of_name repo.now.1.records name)) commit.now.parents) (contents_of (named_values repo.now.1.records) (map listed files.now))) written.old written.new (W.taken sink.old) (W.taken sink.new) result }
 {
     write_commit_head(sink, &mut written.bytes, written.count + 1, commit)?;
     write_parents(repo, sink, written, commit)?;
@@ -238,12 +234,10 @@ fn write_files<N: Namer, A: Allocator + Copy, W: Sink>(
     requires named { IsNamedMap repo.now.1.records (map listed files.now) }
     requires places { ArePlaces repo.now.1 (map listed files.now) places.now }
     requires written { (ws : List Value) × HasWritten repo.now.1 ws written.old }
-    ensures adds { (ws : List Value) → HasWritten repo.now.1 ws written.old → Adds repo.now.1 ws (change_lines ws (contents_of (named_values repo.now.1.records) (map listed files.now))) written.old written.new (W.taken sink.old) (W.taken sink.new) result }
-    ensures paths { IfOk result (λ _. HavePathsOfBytes (map listed files.now)) }
+    ensures { (ws : List Value) → HasWritten repo.now.1 ws written.old → Adds repo.now.1 ws (change_lines ws (contents_of (named_values repo.now.1.records) (map listed files.now))) written.old written.new (W.taken sink.old) (W.taken sink.new) result }
 {
     write(sink, &mut written.bytes, b"deleteall\n")?;
     for (number, (path, mode, name)) in files.iter().enumerate() {
-        has_bytes(path.joined());
         let mut printed = Vec::new(alloc);
         let Ok(()) = path.write_quoted(&mut printed) else {
             return Err(ExportFault::OutOfMemory);
@@ -252,11 +246,6 @@ fn write_files<N: Namer, A: Allocator + Copy, W: Sink>(
     }
     write(sink, &mut written.bytes, b"\n")
 }
-
-/// Each number of a text is a byte.
-fn has_bytes(text: &[u8])
-    ensures { AreBytes text.now }
-{}
 
 /// Writes the line of a file, whose blob stands at this place.
 fn write_change<N: Namer, A: Allocator + Copy, W: Sink>(

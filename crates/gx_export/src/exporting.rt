@@ -1,11 +1,10 @@
 //! Exports of whole repositories. Source: git-fast-export(1).
 
-ghost use Rattle.std.specs.Prelude.{◌≡◌, ◌≤◌, [], IfOk};
+ghost use Rattle.std.specs.Prelude.{◌≡◌, ◌≤◌, []};
 ghost use Rattle.gx_model.specs.Export.{all_written, commit_commands, reached_commits};
 ghost use Rattle.gx_model.specs.HistoryOf.{history_of};
 ghost use Rattle.gx_model.specs.RepositoryLaws.{values_of};
 ghost use Rattle.gx_model.specs.Marks.{marks_of};
-ghost use Rattle.gx_import.specs.Exported.{HasPathsOfBytes};
 ghost use Rattle.gx_export.specs.Exports.{Exports};
 ghost use Rattle.gx_export.specs.Marks.{Adds, HasWritten};
 ghost use Rattle.gx_export.specs.Outputs.{Writes, most};
@@ -38,8 +37,7 @@ pub fn export<N: Namer, A: Allocator + Copy, W: Sink>(
     repo: &Repo<N, A>,
     sink: &mut W,
 ) -> Result<(), ExportFault>
-    ensures exported { Exports repo.now.1 (W.taken sink.old) (W.taken sink.new) result }
-    ensures paths { IfOk result (λ _. HasPathsOfBytes (history_of repo.now.1)) }
+    ensures { Exports repo.now.1 (W.taken sink.old) (W.taken sink.new) result }
 {
     repo.sound();
     let reached = reached(alloc, repo)?;
@@ -61,8 +59,7 @@ fn write_commits<N: Namer, A: Allocator + Copy, W: Sink>(
 ) -> Result<(), ExportFault>
     requires reached { reached.now ≡ marks_of (is_wanted repo.now.1) (values_of repo.now.1) }
     requires written { HasWritten repo.now.1 [] written.old }
-    ensures adds { Adds repo.now.1 (all_written (reached_commits (history_of repo.now.1))) (items_of (commit_commands [] (reached_commits (history_of repo.now.1)))) written.old written.new (W.taken sink.old) (W.taken sink.new) result }
-    ensures paths { IfOk result (λ _. HasPathsOfBytes (history_of repo.now.1)) }
+    ensures { Adds repo.now.1 (all_written (reached_commits (history_of repo.now.1))) (items_of (commit_commands [] (reached_commits (history_of repo.now.1)))) written.old written.new (W.taken sink.old) (W.taken sink.new) result }
 {
     for place in 0..reached.len() {
         if reached[place] {

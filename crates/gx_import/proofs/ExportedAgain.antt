@@ -6,9 +6,7 @@ use Rattle.std.proofs.lemmas.Bool.{false≢true}
 use Rattle.std.proofs.lemmas.Bool.Decides.{nat_tests}
 use Rattle.gx_model.specs.declared.objects.Kind.{Kind}
 use Rattle.gx_model.specs.Texts.{Bytes}
-use Rattle.gx_model.specs.Paths.{AreBytes, path_text}
-use Rattle.gx_model.specs.Files.{FileMap}
-use Rattle.gx_model.specs.Values.{Commit, Value, files_of}
+use Rattle.gx_model.specs.Values.{Commit, Value}
 use Rattle.gx_model.specs.Records.{name_of}
 use Rattle.gx_model.specs.Histories.{History, IsIn, Records, StandsFor, Target, record_of, value_at}
 use Rattle.gx_model.specs.HistoryOf.{history_of}
@@ -17,13 +15,12 @@ use Rattle.gx_model.specs.Ranges.{commit_of}
 use Rattle.gx_model.specs.Revisions.{revision_of}
 use Rattle.gx_model.specs.Replay.{finished, refused, replayed_commands, replayed_text, start}
 use Rattle.gx_model.specs.Export.{command_items, export_text, inner_commands, is_reached, item_text, reached_commits}
-use Rattle.gx_model.specs.ExportLaws.{ExportIsImported, FormedIsReadable, IsAgain, IsFormedFile, IsNotNull, between, exported_report}
-use Rattle.gx_model.specs.Gitlinks.{HasNoNullGitlink}
+use Rattle.gx_model.specs.ExportLaws.{ExportIsImported, FormedIsReadable, HasNoNullGitlink, IsAgain, between, exported_report}
 use Rattle.gx_model.specs.RepositoryLaws.{HistoriesOf, NamesTell}
 use Rattle.gx_text.specs.Devices.{Coming, Taken}
 use Rattle.gx_stream.specs.Heard.{heard_upto}
 use Rattle.gx_command.specs.Reading.{commands_from}
-use Rattle.gx_import.specs.Exported.{ExportedOr, GivesExport, HasPathsOfBytes, ImportsExport, IsExported, nothing}
+use Rattle.gx_import.specs.Exported.{ExportedOr, GivesExport, ImportsExport, IsExported, nothing}
 use Rattle.gx_import.specs.ImportKinds.{fault_of}
 use Rattle.gx_import.specs.Imports.{Imports, report_of}
 use Rattle.gx_import.specs.declared.fault.ImportFault.{ImportFault}
@@ -45,17 +42,6 @@ heard_short room c bytes e =
       | true ↦ λ k h. let short : length c.bytes ≤ room = grind (arith, nat_tests) in subst (λ z. length z.bytes ≤ room) h short
       | false ↦ λ k h. absurd (false≢true (ap (λ z. z.fails) (sym h)))
     ] refl e
-
--- files with paths of bytes, of which none is a gitlink of zeros, are formed
-formed_files : (fs : FileMap Bytes) → AllByRecursion (λ file. AreBytes (path_text file.0)) fs → AllByRecursion (λ file. IsNotNull file.1.0 file.1.1) fs → AllByRecursion IsFormedFile fs
-formed_files [] h k = tt
-formed_files (f ∷ fs) h k = ((h.0, k.0), formed_files fs h.1 k.1)
-
--- and so are commits with such files
-formed : (cs : List Commit) → AllByRecursion (λ c. AllByRecursion (λ file. AreBytes (path_text file.0)) (files_of c)) cs
-    → AllByRecursion (λ c. AllByRecursion (λ file. IsNotNull file.1.0 file.1.1) (files_of c)) cs → AllByRecursion (λ c. AllByRecursion IsFormedFile (files_of c)) cs
-formed [] h k = tt
-formed (c ∷ cs) h k = (formed_files (files_of c) h.0 k.0, formed cs h.1 k.1)
 
 -- ---- what is exported again
 
@@ -110,12 +96,12 @@ module _ (name : Kind → Bytes → Bytes) where
     Replayed exported coming =
         (k : History) × IsAgain (history_of exported) k × (replayed_commands name revision_of (history_of nothing) (commands_from coming) ≡ finished k [] (exported_report (history_of exported) k))
 
-    export_replayed : (exported : Records) → IsSound name exported → HasPathsOfBytes (history_of exported) → HasNoNullGitlink (history_of exported) → (coming : Coming) → GivesExport exported coming → Replayed exported coming
-    export_replayed exported sound paths links coming gives =
+    export_replayed : (exported : Records) → IsSound name exported → HasNoNullGitlink (history_of exported) → (coming : Coming) → GivesExport exported coming → Replayed exported coming
+    export_replayed exported sound links coming gives =
         let h = history_of exported in
         let is = (histories.stands exported sound).history in
         let room = heard_short (2 ^ 63 - 1) coming (export_text h) gives in
-        let q = imports name revision_of h is (readable h is (formed (reached_commits h) paths links) (omega (arith, room))) in
+        let q = imports name revision_of h is (readable h is links (omega (arith, room))) in
         (q.0, q.1, (λ i. replayed_text name revision_of (history_of nothing) (gives i).bytes (gives i).fails) ∙ q.2)
 
     -- the values of what an export gives have names of their own
@@ -125,8 +111,8 @@ module _ (name : Kind → Bytes → Bytes) where
     -- an import that is accepted
     pub accepted : (old new : Records) (coming : Option Coming) (was now : Option Taken) (report : Report) → IsSound name new → Imports name old new coming was now (Ok report) → ImportsExport name old new coming (Ok report)
     accepted old new None was now report stands h = tt
-    accepted old new (Some coming) was now report stands h = λ exported sound paths links gives empty.
-        let q = export_replayed exported sound paths links coming gives in
+    accepted old new (Some coming) was now report stands h = λ exported sound links gives empty.
+        let q = export_replayed exported sound links coming gives in
         let ends : finished (history_of new) h.0 (report_of report) ≡ finished q.0 [] (exported_report (history_of exported) q.0) =
         sym h.1 ∙ imported_is name (history_of old) coming ∙ ap (λ r. replayed_commands name revision_of (history_of r) (commands_from coming)) empty ∙ q.2 in
         let same : history_of new ≡ q.0 = cc ends in
@@ -135,8 +121,8 @@ module _ (name : Kind → Bytes → Bytes) where
     -- one that is refused, for want of memory or at the sink
     pub stopped : (old new last : Records) (coming : Option Coming) (was now : Option Taken) (fault : ImportFault) → Imports name old new coming was now (Err fault) → ImportsExport name old last coming (Err fault)
     stopped old new last None was now fault h = tt
-    stopped old new last (Some coming) was now fault h = λ exported sound paths links gives empty.
-        let q = export_replayed exported sound paths links coming gives in
+    stopped old new last (Some coming) was now fault h = λ exported sound links gives empty.
+        let q = export_replayed exported sound links coming gives in
         let ends = imported_is name (history_of old) coming ∙ ap (λ r. replayed_commands name revision_of (history_of r) (commands_from coming)) empty ∙ q.2 in
         elim h as (λ _. ExportedOr exported last (Err fault)) [
           | inl r ↦

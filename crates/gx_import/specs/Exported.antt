@@ -4,14 +4,12 @@ use Rattle.std.specs.Prelude.{◌≡◌, ◌⊎◌, [], Option, Some, None, Resu
 use Rattle.std.specs.List.{AllByRecursion}
 use Rattle.gx_model.specs.declared.objects.Kind.{Kind}
 use Rattle.gx_model.specs.Texts.{Bytes}
-use Rattle.gx_model.specs.Paths.{AreBytes, path_text}
-use Rattle.gx_model.specs.Values.{files_of}
-use Rattle.gx_model.specs.Histories.{History, Records}
+use Rattle.gx_model.specs.Histories.{Records}
 use Rattle.gx_model.specs.HistoryOf.{history_of}
 use Rattle.gx_model.specs.Sound.{AnyByRecursion, IsSound}
-use Rattle.gx_model.specs.Export.{export_text, reached_commits}
-use Rattle.gx_model.specs.ExportLaws.{IsAgain}
-use Rattle.gx_model.specs.Gitlinks.{HasNoNullGitlink, HoldsNoNullGitlink}
+use Rattle.gx_model.specs.Export.{export_text}
+use Rattle.gx_model.specs.ExportLaws.{HasNoNullGitlink, IsAgain}
+use Rattle.gx_model.specs.Gitlinks.{HoldsNoNullGitlink}
 use Rattle.gx_text.specs.Devices.{Coming}
 use Rattle.gx_stream.specs.Heard.{heard}
 use Rattle.gx_import.specs.declared.fault.ImportFault.{ImportFault}
@@ -21,10 +19,6 @@ use Rattle.gx_import.specs.declared.report.Report.{Report}
 -- a repository without objects and refs
 abbrev pub nothing : Records
 nothing = record { records = []; refs = [] }
-
--- the paths of the files that refs reach are of bytes
-abbrev pub HasPathsOfBytes : History → Type 0
-HasPathsOfBytes h = AllByRecursion (λ made. AllByRecursion (λ file. AreBytes (path_text file.0)) (files_of made)) (reached_commits h)
 
 -- where no commit had a gitlink of forty zeros, none has one
 abbrev pub KeepsNoNullGitlink : Records → Records → Type 0
@@ -52,4 +46,4 @@ ExportedOr exported new (Err fault) = (fault.kind ≡ OutOfMemory) ⊎ (fault.ki
 abbrev pub ImportsExport : (Kind → Bytes → Bytes) → Records → Records → Option Coming → Result Report ImportFault → Type 0
 ImportsExport name old new None result = ⊤
 ImportsExport name old new (Some coming) result =
-    (exported : Records) → IsSound name exported → HasPathsOfBytes (history_of exported) → HasNoNullGitlink (history_of exported) → GivesExport exported coming → old ≡ nothing → ExportedOr exported new result
+    (exported : Records) → IsSound name exported → HasNoNullGitlink (history_of exported) → GivesExport exported coming → old ≡ nothing → ExportedOr exported new result

@@ -86,6 +86,6 @@ where_link (b ∷ bs) h =
 -- ---- paths
 
 pub path_read : (p : Path) → IsPath p → last_path (printed (path_text p)) ≡ Ok p
-path_read [] h = absurd (false≢true h.0)
+path_read [] h = absurd (false≢true h)
 path_read (c ∷ p) h =
-    path_printed (c ∷ p) (path_again (c ∷ p) (and_one _ _ h.0) (leb-true (length (path_text (c ∷ p))) 4095 (and_two (list_all is_component (c ∷ p)) _ h.0))) h.1
+    path_printed (c ∷ p) (path_again (c ∷ p) (and_one _ _ h) (leb-true (length (path_text (c ∷ p))) 4095 (and_two (list_all is_component (c ∷ p)) _ h)))

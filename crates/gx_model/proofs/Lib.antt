@@ -81,3 +81,4 @@ pub mod PathShapes
 pub mod PartShapes
 pub mod ChangeShapes
 pub mod CommandReadings
+pub mod ComingBack

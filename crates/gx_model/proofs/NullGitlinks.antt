@@ -14,9 +14,8 @@ use Rattle.gx_model.specs.Edits.{copied, copy_fault, modified, moved, renamed, u
 use Rattle.gx_model.specs.Values.{Commit, Commits, Value, blob_value, commit, commit_value, commits_of, files_of, list_of, more, none, parents_of, tag_value, tree_value}
 use Rattle.gx_model.specs.Histories.{IsClosedAfter, IsIn, is_in, with_one, with_tree}
 use Rattle.gx_model.specs.Growth.{all_trees}
-use Rattle.gx_model.specs.ExportLaws.{IsNotNull}
+use Rattle.gx_model.specs.ExportLaws.{HaveNoNullGitlink, IsNotNull}
 use Rattle.gx_model.specs.Ranges.{commit_of}
-use Rattle.gx_model.specs.Gitlinks.{HaveNoNullGitlink}
 use Rattle.gx_model.proofs.GrownTrees.{trees_fold}
 use Rattle.gx_model.proofs.KeptCommits.{all_in}
 

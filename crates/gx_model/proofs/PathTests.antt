@@ -1,6 +1,6 @@
 -- Tests that hold, and paths that begin one another.
 use Rattle.std.proofs.Common.{◌≡◌, ℕ, zero, suc, Bool, true, false, cond, refl, sym, ◌∙◌, List, [], ◌∷◌, ◌++◌, length, drop, map}
-use Rattle.std.specs.Prelude.{T, not, ◌&&◌, ◌||◌, ◌==◌, nat_eq, codes}
+use Rattle.std.specs.Prelude.{nat_lt, T, not, ◌&&◌, ◌||◌, ◌==◌, nat_eq, codes}
 use Rattle.std.specs.List.{list_all, list_any, filter}
 use Rattle.std.specs.Str.{bytes_eq}
 use Rattle.std.specs.Cmp.Lexicographic.{bytes_decides}
@@ -107,7 +107,7 @@ none_passes t (x ∷ xs) h = elim (t x) as (λ b. T (not (b || list_any t xs)) �
 -- a component holds no slash and no NUL
 pub component_free : (c : Bytes) → T (is_component c) → T (list_all (λ b. not (nat_eq b 47)) c) × T (list_all (λ b. not (nat_eq b 0)) c)
 component_free c h =
-    let slash = second (not (length c == 0) && not (bytes_eq c (codes ".")) && not (bytes_eq c (codes ".."))) (not (list_any (λ b. b == 47) c)) (first _ (not (list_any (λ b. b == 0) c)) h) in
+    let slash = second (list_all (λ b. nat_lt b 256) c && not (length c == 0) && not (bytes_eq c (codes ".")) && not (bytes_eq c (codes ".."))) (not (list_any (λ b. b == 47) c)) (first _ (not (list_any (λ b. b == 0) c)) h) in
     (none_passes (λ b. nat_eq b 47) c slash, none_passes (λ b. nat_eq b 0) c (second _ (not (list_any (λ b. b == 0) c)) h))
 
 -- texts that the test finds equal are one

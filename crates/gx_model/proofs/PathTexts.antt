@@ -1,5 +1,6 @@
 -- The components of a text.
-use Rattle.std.proofs.Common.{◌≡◌, ◌↔◌, ◌<◌, ◌≤◌, Bool, true, false, cond, not, eqb, leb, [], ◌∷◌, length, Result, Ok, Err, refl, sym, ap, ◌∙◌, arith, inl, inr}
+use Rattle.std.specs.Prelude.{nat_lt}
+use Rattle.std.proofs.Common.{◌≡◌, ◌↔◌, ℕ, ◌++◌, ◌<◌, ◌≤◌, Bool, true, false, cond, not, eqb, leb, [], ◌∷◌, length, Result, Ok, Err, refl, sym, ap, ◌∙◌, arith, inl, inr}
 use Rattle.std.specs.List.{list_all, list_any, slice_split, All, AllByRecursion}
 use Rattle.std.proofs.lemmas.Bool.{false≢true, or_parts, not-true, leb-true, leb-false}
 use Rattle.std.proofs.lemmas.Bool.Decides.{nat_tests}
@@ -8,7 +9,7 @@ use Rattle.std.proofs.lemmas.List.Splits.{join_with_byte-slice_split, slice_spli
 use Rattle.gx_model.specs.declared.faults.Fault.{Fault}
 use Rattle.gx_model.specs.declared.faults.Fault.TheVariants as faults
 use Rattle.gx_model.specs.Texts.{Bytes}
-use Rattle.gx_model.specs.Paths.{Path, is_component, parts_of, path_of, path_text, IsPathOf}
+use Rattle.gx_model.specs.Paths.{AreBytes, Path, is_component, parts_of, path_of, path_text, IsPathOf}
 use Rattle.gx_model.specs.TextLaws.{HasNoPath, HasLongPath, IsPathFault}
 use Rattle.gx_model.proofs.Idents.{and_one, and_two}
 
@@ -16,6 +17,27 @@ use Rattle.gx_model.proofs.Idents.{and_one, and_two}
 pub text_of_parts : (text : Bytes) → path_text (parts_of text) ≡ text
 text_of_parts [] = refl
 text_of_parts (b ∷ bs) = join_with_byte-slice_split 47 (b ∷ bs)
+
+-- ---- the components, and so the text, are bytes
+
+all_bytes : (c : Bytes) → list_all (λ b. nat_lt b 256) c ≡ true → AreBytes c
+all_bytes [] e = tt
+all_bytes (b ∷ c) e = (below b (and_one (nat_lt b 256) _ e), all_bytes c (and_two (nat_lt b 256) _ e))
+  where
+    below : (b : ℕ) → nat_lt b 256 ≡ true → b < 256
+    below b e = grind (arith, nat_tests)
+
+component_bytes : (c : Bytes) → is_component c ≡ true → AreBytes c
+component_bytes c e = all_bytes c (and_one _ _ (and_one _ _ (and_one _ _ (and_one _ _ (and_one _ _ e)))))
+
+join_bytes : (c d : Bytes) → AreBytes c → AreBytes d → AreBytes (c ++ d)
+join_bytes [] d h k = k
+join_bytes (b ∷ c) d h k = (h.0, join_bytes c d h.1 k)
+
+pub path_bytes : (p : Path) → list_all is_component p ≡ true → AreBytes (path_text p)
+path_bytes [] e = tt
+path_bytes (c ∷ []) e = component_bytes c (and_one (is_component c) _ e)
+path_bytes (c ∷ d ∷ p) e = join_bytes c (47 ∷ path_text (d ∷ p)) (component_bytes c (and_one (is_component c) _ e)) (omega arith, path_bytes (d ∷ p) (and_two (is_component c) _ e))
 
 -- ---- the components of a path's text are the path
 

@@ -16,7 +16,7 @@ use Rattle.gx_model.specs.Grammar.{last_path}
 use Rattle.gx_model.specs.TextLaws.{IsQuotedPath, IsQuotedFault, HasNoQuotedText}
 use Rattle.gx_model.proofs.Cuts.{some_is, map_some}
 use Rattle.gx_model.proofs.Idents.{and_one}
-use Rattle.gx_model.proofs.PathTexts.{path_tells}
+use Rattle.gx_model.proofs.PathTexts.{path_bytes, path_tells}
 
 -- ---- what is read was written
 
@@ -259,5 +259,5 @@ field_printed text h = by (list_all is_printed_bare text) refl where
   by true e = rw (bare_unquoted text e) refl
   by false e = rw (printed_quoted text h) (ended (path_of text))
 
-pub path_printed : (p : Path) → path_of (path_text p) ≡ Ok p → AreBytes (path_text p) → last_path (printed (path_text p)) ≡ Ok p
-path_printed p e h = field_printed (path_text p) h ∙ e
+pub path_printed : (p : Path) → path_of (path_text p) ≡ Ok p → last_path (printed (path_text p)) ≡ Ok p
+path_printed p e = field_printed (path_text p) (path_bytes p ((path_tells (path_text p) p).0 e).components) ∙ e

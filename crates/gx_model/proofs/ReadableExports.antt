@@ -10,7 +10,7 @@ use Rattle.std.specs.List.{flat_map, fold, AllByRecursion, cons_option}
 use Rattle.std.specs.Prelude.{T}
 use Rattle.gx_model.specs.Commands.{Command}
 use Rattle.gx_model.specs.Export.{all_written, blob_commands, command_items, commit_command, commit_commands, content_in, contents, export_items, export_text, inner_commands, item_text, last_reset, one_commit, optional_line, reached_commits, ref_command, root_reset, with_blobs, with_commit}
-use Rattle.gx_model.specs.ExportLaws.{IsFormed, IsFormedFile, IsReadable, IsReadableCommit, IsReadableFile, IsReadableTarget}
+use Rattle.gx_model.specs.ExportLaws.{HasNoNullGitlink, HaveNoNullGitlink, IsNotNull, IsReadable, IsReadableCommit, IsReadableFile, IsReadableTarget}
 use Rattle.gx_model.specs.Files.{FileMap}
 use Rattle.gx_model.specs.Histories.{History, IsHistory, IsIn, Target, at_commit, at_tag, is_in}
 use Rattle.gx_model.specs.Items.{Data, Item, Line}
@@ -101,21 +101,21 @@ message_fits ws c h = (fit_right (optional_line (codes "encoding") (text_of c).e
 link_fits : (x : Bytes) → T (is_leaf Gitlink x) → length x < 2 ^ 64
 link_fits x h = let k = (Decides-eqb (length x) 40).0 (is_true _ (first (nat_eq (length x) 40) _ h)) in omega (arith, k)
 
-file_fits : (p : Path) (m : Mode) (x : Bytes) (xs : List Bytes) → T (is_leaf m x) → IsFormedFile (p, (m, x)) → AllByRecursion (λ y. length y < 2 ^ 64) (cons_option (content_in m x) xs) → IsReadableFile (p, (m, x)) × AllByRecursion (λ y. length y < 2 ^ 64) xs
+file_fits : (p : Path) (m : Mode) (x : Bytes) (xs : List Bytes) → T (is_leaf m x) → IsNotNull m x → AllByRecursion (λ y. length y < 2 ^ 64) (cons_option (content_in m x) xs) → IsReadableFile (p, (m, x)) × AllByRecursion (λ y. length y < 2 ^ 64) xs
 file_fits p File x xs l h k = ((h, k.0), k.1)
 file_fits p Exec x xs l h k = ((h, k.0), k.1)
 file_fits p Link x xs l h k = ((h, k.0), k.1)
 file_fits p Dir x xs l h k = absurd l
 file_fits p Gitlink x xs l h k = ((h, link_fits x l), k)
 
-files_fit : (f : FileMap Bytes) → T (are_leaves f) → AllByRecursion IsFormedFile f → AllByRecursion (λ x. length x < 2 ^ 64) (contents f) → AllByRecursion IsReadableFile f
+files_fit : (f : FileMap Bytes) → T (are_leaves f) → AllByRecursion (λ file. IsNotNull file.1.0 file.1.1) f → AllByRecursion (λ x. length x < 2 ^ 64) (contents f) → AllByRecursion IsReadableFile f
 files_fit [] l h k = tt
 files_fit ((p, (m, x)) ∷ f) l h k = let r = file_fits p m x (contents f) (first (is_leaf m x) _ l) h.0 k in (r.0, files_fit f (second (is_leaf m x) _ l) h.1 r.1)
 
 later_commit : (ws : List Value) (c : Commit) → BlobsFit ws → BlobsFit (commit_value c ∷ ws)
 later_commit ws c h y i = elim i [ inl e ↦ absurd cc | inr k ↦ h y k ]
 
-commits_fit : (ws : List Value) (before cs : List Commit) → BlobsFit ws → FollowsAll before cs → AllByRecursion (λ c. AllByRecursion IsFormedFile (files_of c)) cs → CommandsFit (commit_commands ws cs) → AllByRecursion IsReadableCommit cs
+commits_fit : (ws : List Value) (before cs : List Commit) → BlobsFit ws → FollowsAll before cs → HaveNoNullGitlink cs → CommandsFit (commit_commands ws cs) → AllByRecursion IsReadableCommit cs
 commits_fit ws before [] h f r g = tt
 commits_fit ws before (c ∷ cs) h f r g =
     let xs = contents (files_of c) in
@@ -164,7 +164,7 @@ commits_count ws (c ∷ cs) =
     let one : 1 ≤ length (flat_map command_items (commit_command us c ∷ [])) = omega arith in
     omega (arith, a, b, d, one, blobs_count ws xs, commits_count (with_commit ws c) cs)
 
-pub formed_readable : (h : History) → IsHistory h → IsFormed h → length (export_text h) < 2 ^ 64 → IsReadable h
+pub formed_readable : (h : History) → IsHistory h → HasNoNullGitlink h → length (export_text h) < 2 ^ 64 → IsReadable h
 formed_readable h x r lt =
     let cs = reached_commits h in
     let inner = inner_commands cs h.refs in

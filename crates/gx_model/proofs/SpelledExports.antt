@@ -83,7 +83,7 @@ changes_spelled ws [] lt p l r h = tt
 changes_spelled ws (e ∷ f) lt p l r h =
     let o = content_in e.1.0 e.1.1 in
     let P = λ (y : Bytes). IsIn ws (blob_value y) in
-    ((dataref_spelled ws e.1.0 e.1.1 lt (first _ _ l) r.0.0.1 (front_of P o (contents f) h), (is_true _ (first _ _ p), r.0.0.0)), changes_spelled ws f lt (second (is_file_path e.0) _ p) (second (is_leaf e.1.0 e.1.1) _ l) r.1 (rest_of P o (contents f) h))
+    ((dataref_spelled ws e.1.0 e.1.1 lt (first _ _ l) r.0.0 (front_of P o (contents f) h), is_true _ (first _ _ p)), changes_spelled ws f lt (second (is_file_path e.0) _ p) (second (is_leaf e.1.0 e.1.1) _ l) r.1 (rest_of P o (contents f) h))
 
 parent_spelled : (ws : List Value) (ps : List Commit) → length ws < 2 ^ 64 → AllByRecursion (λ p. IsIn ws (commit_value p)) ps → IsMarkedIf (first_parent ws ps)
 parent_spelled ws [] lt h = tt

@@ -12,7 +12,7 @@ use Rattle.gx_model.specs.Texts.{Bytes, is_line}
 use Rattle.gx_model.specs.RefNames.{is_ref_name, is_tag_name}
 use Rattle.gx_model.specs.Idents.{is_ident}
 use Rattle.gx_model.specs.Faults.{and_then}
-use Rattle.gx_model.specs.Paths.{AreBytes, Path, is_file_path, path_text}
+use Rattle.gx_model.specs.Paths.{Path, is_file_path}
 use Rattle.gx_model.specs.Items.{Data, Finished, Item, Line, items_of}
 use Rattle.gx_model.specs.Commands.{Change, Clear, Command, CommitIsh, CommitParts, Copy, DataRef, Mark, Marked, Modify, Named, Object, Remove, Rename, TagParts}
 use Rattle.gx_model.specs.Grammar.{commands_of, is_null}
@@ -67,9 +67,9 @@ IsDataRef Exec (Mark n) = IsMark n
 IsDataRef Link (Mark n) = IsMark n
 IsDataRef m s = ⊥
 
--- a file's path, in bytes
+-- a file's path
 abbrev pub IsPath : Path → Type 0
-IsPath p = IsTrue (is_file_path p) × AreBytes (path_text p)
+IsPath p = IsTrue (is_file_path p)
 
 -- a change that an export has
 abbrev pub IsSpelledChange : Change → Type 0
@@ -234,17 +234,17 @@ abbrev pub IsNotNull : Mode → Bytes → Type 0
 IsNotNull Gitlink x = is_null x ≡ false
 IsNotNull _ x = Unit {0}
 
--- a file whose path is of bytes, and that is no gitlink of zeros
-abbrev pub IsFormedFile : Path × Leaf Bytes → Type 0
-IsFormedFile e = AreBytes (path_text e.0) × IsNotNull e.1.0 e.1.1
+-- no file map of these commits has a gitlink of forty zeros
+abbrev pub HaveNoNullGitlink : List Commit → Type 0
+HaveNoNullGitlink commits = AllByRecursion (λ made. AllByRecursion (λ file. IsNotNull file.1.0 file.1.1) (files_of made)) commits
 
--- The paths that a history's commits hold are bytes, and no file map has a gitlink of forty zeros.
-abbrev pub IsFormed : History → Type 0
-IsFormed h = AllByRecursion (λ c. AllByRecursion IsFormedFile (files_of c)) (reached_commits h)
+-- no file map that refs reach has one
+abbrev pub HasNoNullGitlink : History → Type 0
+HasNoNullGitlink h = HaveNoNullGitlink (reached_commits h)
 
--- the same, with a length below 2 ^ 64
+-- a file that is no such gitlink, with a length below 2 ^ 64
 abbrev pub IsReadableFile : Path × Leaf Bytes → Type 0
-IsReadableFile e = IsFormedFile e × (length e.1.1 < 2 ^ 64)
+IsReadableFile e = IsNotNull e.1.0 e.1.1 × (length e.1.1 < 2 ^ 64)
 
 -- a commit that can be read again
 pub record IsReadableCommit (c : Commit) : Type 0 where
@@ -256,7 +256,7 @@ abbrev pub IsReadableTarget : Target → Type 0
 IsReadableTarget (at_commit c) = Unit {0}
 IsReadableTarget (at_tag t) = length t.message < 2 ^ 64
 
--- It is formed, and lengths and marks are below 2 ^ 64.
+-- It has no gitlink of forty zeros, and lengths and marks are below 2 ^ 64.
 pub record IsReadable (h : History) : Type 0 where
   pub commits : AllByRecursion IsReadableCommit (reached_commits h)
   pub refs : AllByRecursion (λ r. IsReadableTarget r.1) h.refs
@@ -274,4 +274,4 @@ ExportIsImported =
 
 -- lengths and marks fit where the text does
 abbrev pub FormedIsReadable : Type 0
-FormedIsReadable = (h : History) → IsHistory h → IsFormed h → length (export_text h) < 2 ^ 64 → IsReadable h
+FormedIsReadable = (h : History) → IsHistory h → HasNoNullGitlink h → length (export_text h) < 2 ^ 64 → IsReadable h

@@ -1,6 +1,7 @@
--- Gitlinks of forty zeros: no command of a stream gives one, so that an import makes no commit with one.
+-- Gitlinks of forty zeros: no command of a stream gives one, so that an import makes no commit with one, and its export can be
+-- imported.
 -- Source: git-fast-import(1), "filemodify".
-use Rattle.std.specs.Prelude.{◌≡◌, ℕ, Bool, false, List, Option, Result, ⊤}
+use Rattle.std.specs.Prelude.{◌≡◌, ℕ, ◌<◌, ◌^◌, Bool, false, List, [], length, Option, Result, ⊤}
 use Rattle.std.specs.List.{AllByRecursion, filter_map}
 use Rattle.gx_model.specs.declared.faults.Fault.{Fault}
 use Rattle.gx_model.specs.declared.objects.Kind.{Kind}
@@ -10,13 +11,12 @@ use Rattle.gx_model.specs.Items.{Stream}
 use Rattle.gx_model.specs.Commands as command
 use Rattle.gx_model.specs.Commands.{Change, Command, Inline, Mark, Modify, Object}
 use Rattle.gx_model.specs.Grammar.{commands_of, is_null}
-use Rattle.gx_model.specs.Values.{Commit, files_of}
 use Rattle.gx_model.specs.Histories.{History, IsHistory}
 use Rattle.gx_model.specs.Revisions.{Revision}
 use Rattle.gx_model.specs.Ranges.{commit_of}
+use Rattle.gx_model.specs.Export.{export_text}
 use Rattle.gx_model.specs.Replay.{Report, finished, replayed, replayed_text, start}
-use Rattle.gx_model.specs.Export.{reached_commits}
-use Rattle.gx_model.specs.ExportLaws.{IsNotNull}
+use Rattle.gx_model.specs.ExportLaws.{HasNoNullGitlink, HaveNoNullGitlink, IsAgain, exported_report, nothing}
 
 -- ---- commands
 
@@ -34,15 +34,7 @@ BringsNoNullGitlink _ = ⊤
 
 -- ---- histories
 
--- no file map of these commits has a gitlink of forty zeros
-abbrev pub HaveNoNullGitlink : List Commit → Type 0
-HaveNoNullGitlink commits = AllByRecursion (λ made. AllByRecursion (λ file. IsNotNull file.1.0 file.1.1) (files_of made)) commits
-
--- no file map that refs reach has one
-abbrev pub HasNoNullGitlink : History → Type 0
-HasNoNullGitlink h = HaveNoNullGitlink (reached_commits h)
-
--- no commit has one, whether refs reach it or not
+-- no commit has a gitlink of forty zeros, whether refs reach it or not
 abbrev pub HoldsNoNullGitlink : History → Type 0
 HoldsNoNullGitlink h = HaveNoNullGitlink (filter_map commit_of h.values)
 
@@ -59,7 +51,8 @@ StreamsBringNone = (s : Stream) → AllByRecursion BringsNoNullGitlink (commands
 -- and commands that bring none leave none where there was none
 abbrev pub ReplaysKeepNone : Type 0
 ReplaysKeepNone =
-    (name : Kind → Bytes → Bytes) (read : Bytes → Result Revision Fault) (h k : History) (commands : List Command) (end : Option Fault) (n : ℕ) (text : Bytes) (report : Report)
+    (name : Kind → Bytes → Bytes) (read : Bytes → Result Revision Fault) (h k : History) (commands : List Command)
+    (end : Option Fault) (n : ℕ) (text : Bytes) (report : Report)
     → IsHistory h → HoldsNoNullGitlink h → AllByRecursion BringsNoNullGitlink commands
     → replayed name read n (start h) commands end ≡ finished k text report → HoldsNoNullGitlink k
 
@@ -68,3 +61,11 @@ abbrev pub TextsBringNone : Type 0
 TextsBringNone =
     (name : Kind → Bytes → Bytes) (read : Bytes → Result Revision Fault) (h k : History) (given : Bytes) (fails : Bool) (text : Bytes) (report : Report)
     → IsHistory h → HoldsNoNullGitlink h → replayed_text name read h given fails ≡ finished k text report → HoldsNoNullGitlink k
+
+-- Whatever text gives a history from nothing: that history's export, read and replayed from nothing, gives the same refs, exactly
+-- what these reach, and the commits in their order.
+abbrev pub TextsComeBack : Type 0
+TextsComeBack =
+    (name : Kind → Bytes → Bytes) (read : Bytes → Result Revision Fault) (h : History) (given : Bytes) (fails : Bool) (text : Bytes) (report : Report)
+    → replayed_text name read nothing given fails ≡ finished h text report → IsHistory h → length (export_text h) < 2 ^ 64
+    → (k : History) × IsAgain h k × (replayed_text name read nothing (export_text h) false ≡ finished k [] (exported_report h k))

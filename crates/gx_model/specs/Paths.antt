@@ -24,9 +24,9 @@ same_path = pointwise same_bytes
 abbrev pub AreBytes : Bytes → Type 0
 AreBytes text = AllByRecursion (λ x. x < 256) text
 
--- not empty, not `.` or `..`, with no `/` and no NUL
+-- bytes: not empty, not `.` or `..`, with no `/` and no NUL
 abbrev pub is_component : Bytes → Bool
-is_component c = not (length c == 0) && not (bytes_eq c (codes ".")) && not (bytes_eq c (codes "..")) && not (list_any (λ b. b == 47) c) && not (list_any (λ b. b == 0) c)
+is_component c = list_all (λ b. nat_lt b 256) c && not (length c == 0) && not (bytes_eq c (codes ".")) && not (bytes_eq c (codes "..")) && not (list_any (λ b. b == 47) c) && not (list_any (λ b. b == 0) c)
 
 -- the text of a path
 abbrev pub path_text : Path → Bytes

@@ -9,7 +9,7 @@ use Rattle.gx_model.specs.Texts.{Bytes, is_line}
 use Rattle.gx_model.specs.Numbers.{decimal_of}
 use Rattle.gx_model.specs.RefNames.{is_ref_name, is_tag_name}
 use Rattle.gx_model.specs.Idents.{is_ident, IsIdent}
-use Rattle.gx_model.specs.Paths.{Path, AreBytes, is_component, path_text, parts_of, path_of, IsPathOf, unquote, quoted_of, IsQuotedText, printed}
+use Rattle.gx_model.specs.Paths.{AreBytes, Path, is_component, path_text, parts_of, path_of, IsPathOf, unquote, quoted_of, IsQuotedText, printed}
 use Rattle.gx_model.specs.Grammar.{last_path}
 
 -- a number's decimal text is read as the number
@@ -61,6 +61,10 @@ IsPathFault text f = ((f ≡ faults.BadPath) × HasNoPath text) ⊎ ((f ≡ faul
 abbrev pub PathsAreRefused : Type 0
 PathsAreRefused = (text : Bytes) (f : Fault) → (path_of text ≡ Err f) ↔ IsPathFault text f
 
+-- the text of components is bytes
+abbrev pub PathsAreBytes : Type 0
+PathsAreBytes = (p : Path) → list_all is_component p ≡ true → AreBytes (path_text p)
+
 -- the bytes between quotes are those that are written
 abbrev pub QuotedTextsAreRead : Type 0
 QuotedTextsAreRead = (bs text rest : Bytes) → (unquote bs ≡ Some (text, rest)) ↔ IsQuotedText bs text rest
@@ -96,4 +100,4 @@ PrintedPathsAreLines = (text : Bytes) → is_line (printed text) ≡ true
 
 -- a printed path is read back
 abbrev pub PrintedPathsAreRead : Type 0
-PrintedPathsAreRead = (p : Path) → path_of (path_text p) ≡ Ok p → AreBytes (path_text p) → last_path (printed (path_text p)) ≡ Ok p
+PrintedPathsAreRead = (p : Path) → path_of (path_text p) ≡ Ok p → last_path (printed (path_text p)) ≡ Ok p

@@ -33,8 +33,8 @@ pub fn exports_are_replayed()
     ensures replayed { ExportIsReplayed }
 {}
 
-/// A history whose paths are bytes and that has no gitlink of forty zeros has an export of commands that can be spelled,
-/// if the text's length is below 2^64.
+/// A history that has no gitlink of forty zeros has an export of commands that can be spelled, if the text's length is below
+/// 2^64.
 #[tactic(auto, using(crate::proofs::ReadableExports::formed_readable, crate::proofs::SpelledExports::export_spelled))]
 pub fn exports_are_readable()
     ensures readable { FormedIsReadable }

@@ -1,6 +1,6 @@
 //! Laws of gitlinks of forty zeros: no stream brings one.
 ghost use Rattle.gx_model.specs.ExportLaws.{nothing};
-ghost use Rattle.gx_model.specs.Gitlinks.{HoldsNoNullGitlink, HoldsTellsHas, ReplaysKeepNone, StreamsBringNone, TextsBringNone};
+ghost use Rattle.gx_model.specs.Gitlinks.{HoldsNoNullGitlink, HoldsTellsHas, ReplaysKeepNone, StreamsBringNone, TextsBringNone, TextsComeBack};
 
 /// No command that a stream has gives a gitlink of forty zeros.
 #[tactic(auto, using(crate::proofs::ReadGitlinks::none_brought))]
@@ -16,4 +16,11 @@ pub fn replays_keep_none()
     ensures kept { ReplaysKeepNone }
     ensures texts { TextsBringNone }
     ensures reached { HoldsTellsHas }
+{}
+
+/// What any text gives from nothing comes back from its export, if the export's length is below 2^64: the same refs, exactly
+/// what these reach, and the commits in their order.
+#[tactic(auto, using(crate::proofs::ComingBack::texts_back))]
+pub fn texts_come_back()
+    ensures { TextsComeBack }
 {}

@@ -1,5 +1,5 @@
 //! Laws of the texts in a stream: numbers, ref names, identities and paths.
-ghost use Rattle.gx_model.specs.TextLaws.{DecimalsAreRead, IdentsAreLines, IdentsAreRead, PartsAreJoined, PathsAreRead, PathsAreRefused, PrintedPathsAreLines, PrintedPathsAreRead, QuotedPathsAreRead, QuotedPathsAreRefused, QuotedTextsAreRead, RefNamesAreLines, TagNamesAreLines};
+ghost use Rattle.gx_model.specs.TextLaws.{DecimalsAreRead, IdentsAreLines, IdentsAreRead, PartsAreJoined, PathsAreBytes, PathsAreRead, PathsAreRefused, PrintedPathsAreLines, PrintedPathsAreRead, QuotedPathsAreRead, QuotedPathsAreRefused, QuotedTextsAreRead, RefNamesAreLines, TagNamesAreLines};
 
 /// The decimal text of a number below 2^64 is read as this number.
 #[tactic(auto, using(crate::proofs::Decimals::decimal_read))]
@@ -22,12 +22,14 @@ pub fn names_are_lines()
 {}
 
 /// A text is read as the path whose components, joined by slashes, are the text. It is refused as BadPath exactly where no
-/// proper components make it, and as PathTooLong where they do but the text has more than 4,095 bytes.
-#[tactic(auto, using(crate::proofs::PathTexts::text_of_parts, crate::proofs::PathTexts::path_tells))]
+/// proper components make it, and as PathTooLong where they do but the text has more than 4,095 bytes. Proper components, and
+/// so the text of a path, are bytes.
+#[tactic(auto, using(crate::proofs::PathTexts::text_of_parts, crate::proofs::PathTexts::path_tells, crate::proofs::PathTexts::path_bytes))]
 pub fn paths_are_read()
     ensures joined { PartsAreJoined }
     ensures path { PathsAreRead }
     ensures fault { PathsAreRefused }
+    ensures bytes { PathsAreBytes }
 {}
 
 /// A quoted path is a text between quotes, written byte by byte, that is the text of a path. It is refused as BadPath where no

@@ -1,7 +1,8 @@
 //! Which lists of entries are a tree's: the components are proper and differ, and a directory is sorted as if its
 //! component ended in a slash.
 
-ghost use Rattle.std.specs.Prelude.{◌≡◌, map};
+ghost use Rattle.std.specs.Prelude.{◌≡◌, true, map, nat_lt};
+ghost use Rattle.std.specs.List.{list_all};
 ghost use Rattle.std.specs.Ordering.{nat_cmp};
 ghost use Rattle.std.specs.Cmp.Lexicographic.{slice_cmp};
 ghost use Rattle.gx_model.specs.Paths.{is_component};
@@ -70,12 +71,18 @@ fn meets(component: &[u8], others: &[Entry<'_>]) -> bool
 pub(crate) fn is_component(bytes: &[u8]) -> bool
     ensures { result ≡ is_component bytes.now }
 {
+    has_bytes(bytes);
     !bytes.is_empty()
         && bytes != b".".as_slice()
         && bytes != b"..".as_slice()
         && !bytes.contains(&b'/')
         && !bytes.contains(&0)
 }
+
+/// Each number of a text is a byte.
+fn has_bytes(text: &[u8])
+    ensures { list_all (λ b. nat_lt b 256) text.now ≡ true }
+{}
 
 pub(crate) fn comes_before(a: &Entry<'_>, b: &Entry<'_>) -> bool
     ensures { result ≡ comes_before (shown a.now) (shown b.now) }

@@ -1,6 +1,6 @@
 //! Paths in a tree.
 
-ghost use Rattle.std.specs.Prelude.{ℕ, ◌≡◌, ◌<◌, ◌≤◌, ◌++◌, [], Ok, IsTrue, ◌==◌, length, drop, slice_index_or, IfOk, OnOk, OnErr, IfErr};
+ghost use Rattle.std.specs.Prelude.{ℕ, ◌≡◌, true, nat_lt, ◌<◌, ◌≤◌, ◌++◌, [], Ok, IsTrue, ◌==◌, length, drop, slice_index_or, IfOk, OnOk, OnErr, IfErr};
 ghost use Rattle.std.specs.List.{list_all, slice_split};
 ghost use Rattle.gx_model.specs.Faults.{Gives};
 ghost use Rattle.gx_model.specs.Grammar.{last_path};
@@ -166,12 +166,18 @@ fn are_components(text: &[u8]) -> bool
 fn is_component(component: &[u8]) -> bool
     ensures { result ≡ is_component component.now }
 {
+    has_bytes(component);
     !component.is_empty()
         && component != b".".as_slice()
         && component != b"..".as_slice()
         && !component.contains(&b'/')
         && !component.contains(&0)
 }
+
+/// Each number of a text is a byte.
+fn has_bytes(text: &[u8])
+    ensures { list_all (λ b. nat_lt b 256) text.now ≡ true }
+{}
 
 // Where each component of the text ends.
 fn ends_of<A: Allocator + Copy>(alloc: A, text: &[u8]) -> Result<Vec<usize, A>, AllocError>

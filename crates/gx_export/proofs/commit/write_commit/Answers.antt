@@ -1,18 +1,15 @@
 use Rattle.std.proofs.Common.{◌++◌, ◌∙◌, map, length, ap, sym, subst, arith, Ok, Err}
 use Rattle.std.proofs.lemmas.Result.{err_from_is_err_and}
 use Rattle.gx_model.specs.Export.{blob_commands, contents, one_commit, with_blobs}
-use Rattle.gx_model.specs.HistoryOf.{named_values}
 use Rattle.gx_model.specs.RepositoryLaws.{values_of}
 use Rattle.gx_model.specs.Values.{commit_value, files_of, list_of, parents_of, text_of}
 use Rattle.gx_tree.specs.Lists.{listed}
 use Rattle.gx_model.proofs.Standing.{at_within, commit_name_there}
 use Rattle.gx_export.specs.Marks.{Adds, ArePlaces}
 use Rattle.gx_export.specs.Outputs.{Stops, Writes}
-use Rattle.gx_export.specs.Paths.{HavePathsOfBytes}
 use Rattle.gx_export.specs.Texts.{commit_lines, items_of, items_text, root_items}
 use Rattle.gx_export.proofs.CommitTexts.{commit_marked, lines_told, one_commit_parts, shown_as}
 use Rattle.gx_export.proofs.Numbering.{adds_bytes, adds_later, place_marked}
-use Rattle.gx_export.proofs.PathBytes.{contents_paths}
 use Rattle.gx_export.proofs.Writing.{items_sooner, stops_first}
 use Rattle.gx_export.proofs.commit.write_commit.Goals as goal
 
@@ -33,8 +30,8 @@ files_of-requires g c =
     let r = c.args.repo.now.1 in
     commit_name_there name namer r c.sound.ensures c.name_at-commit.result.bytes c.args.place c.requires.commit.0 c.name_at-commit.ensures.held c.name_at-commit.ensures.value c.requires.commit.1
 
-pub returns-in_err-files-clause-adds : goal.returns-in_err-files-clause-adds
-returns-in_err-files-clause-adds g c = λ made ws e h.
+pub returns-in_err-files : goal.returns-in_err-files
+returns-in_err-files g c = λ made ws e h.
     let taken = g.W.Sink.taken in
     let p = err_from_is_err_and c.from_residual.result c.from_residual.ensures.1 in
     rw (p.1, p.2, c.in_err-files.ensures.fault) (stops_first c.args.written.now.bytes (taken c.args.sink.now) (items_text (items_of (one_commit ws made))))
@@ -48,8 +45,8 @@ places_of-requires g c =
     let s = shown_as name namer r c.sound.ensures c.args.place c.requires.commit.0 c.name_at-commit.result.bytes c.view_of-view.result (map listed c.deref.result.now) c.requires.commit.1 c.name_at-commit.ensures.value c.view_of-view.ensures files_are in
     s.named
 
-pub returns-in_err-places-clause-adds : goal.returns-in_err-places-clause-adds
-returns-in_err-places-clause-adds g c = λ made ws e h.
+pub returns-in_err-places : goal.returns-in_err-places
+returns-in_err-places g c = λ made ws e h.
     let taken = g.W.Sink.taken in
     let p = err_from_is_err_and c.from_residual-in_err-places.result c.from_residual-in_err-places.ensures.1 in
     rw (p.1, p.2, c.in_err-places.ensures.fault) (stops_first c.args.written.now.bytes (taken c.args.sink.now) (items_text (items_of (one_commit ws made))))
@@ -73,8 +70,8 @@ write_blobs-requires-clause-named g c =
     let s = shown_as name namer r c.sound.ensures c.args.place made c.name_at-commit.result.bytes c.view_of-view.result (map listed c.deref-2.result.now) e c.name_at-commit.ensures.value c.view_of-view.ensures files_are in
     s.named
 
-pub returns-in_err-write_blobs-clause-adds : goal.returns-in_err-write_blobs-clause-adds
-returns-in_err-write_blobs-clause-adds g c = λ made ws e h.
+pub returns-in_err-write_blobs : goal.returns-in_err-write_blobs
+returns-in_err-write_blobs g c = λ made ws e h.
     let name = g.N.Namer.name_of c.args.repo.now.0 in
     let namer = g.met.N.Namer.is_namer c.args.repo.now.0 in
     let r = c.args.repo.now.1 in
@@ -94,8 +91,8 @@ returns-in_err-write_blobs-clause-adds g c = λ made ws e h.
 pub write_root-requires : goal.write_root-requires
 write_root-requires g c = let h = c.requires.written.1 in (c.in_ok-write_blobs.ensures c.requires.written.0 h).0.most
 
-pub returns-in_err-write_root-clause-adds : goal.returns-in_err-write_root-clause-adds
-returns-in_err-write_root-clause-adds g c = λ made ws e h.
+pub returns-in_err-write_root : goal.returns-in_err-write_root
+returns-in_err-write_root g c = λ made ws e h.
     let name = g.N.Namer.name_of c.args.repo.now.0 in
     let namer = g.met.N.Namer.is_namer c.args.repo.now.0 in
     let r = c.args.repo.now.1 in
@@ -160,8 +157,8 @@ write_lines-requires-clause-written g c =
     let root = adds_bytes r us (root_items (length (list_of (parents_of made)))) c.write_blobs.new.written mid (taken c.write_blobs.new.sink) (taken c.write_root.new.sink) (Ok tt) blobs.0 (λ _. c.write_blobs.new.written.count) (λ _. c.write_blobs.new.written.marks.items) reset in
     (us, root.0)
 
-pub returns-in_err-write_lines-clause-adds : goal.returns-in_err-write_lines-clause-adds
-returns-in_err-write_lines-clause-adds g c = λ made ws e h.
+pub returns-in_err-write_lines : goal.returns-in_err-write_lines
+returns-in_err-write_lines g c = λ made ws e h.
     let name = g.N.Namer.name_of c.args.repo.now.0 in
     let namer = g.met.N.Namer.is_namer c.args.repo.now.0 in
     let r = c.args.repo.now.1 in
@@ -182,7 +179,7 @@ returns-in_err-write_lines-clause-adds g c = λ made ws e h.
     let listed_so = ap (map listed) c.deref-4.ensures.value ∙ c.in_ok-files.ensures.files in
     let shown = shown_as name namer r c.sound.ensures c.args.place made c.name_at-commit.result.bytes c.view_of-view.result (map listed c.deref-4.result.now) e c.name_at-commit.ensures.value c.view_of-view.ensures listed_so in
     let lines_are = lines_told name namer r c.sound.ensures made c.view_of-view.result (map listed c.deref-4.result.now) shown us in
-    let stop = subst (λ is. Stops c.write_root.new.written (taken c.write_root.new.sink) (taken c.write_lines.new.sink) (items_text is) fault) lines_are (c.in_err-write_lines.ensures.adds us root.0) in
+    let stop = subst (λ is. Stops c.write_root.new.written (taken c.write_root.new.sink) (taken c.write_lines.new.sink) (items_text is) fault) lines_are (c.in_err-write_lines.ensures us root.0) in
     let later = adds_later r us us before (root_items (length ps) ++ lines) c.args.written.now c.write_blobs.new.written mid (taken c.args.sink.now) (taken c.write_blobs.new.sink) (taken c.write_lines.new.sink) (Err fault) blobs
     (adds_later r us us (root_items (length ps)) lines c.write_blobs.new.written mid mid (taken c.write_blobs.new.sink) (taken c.write_root.new.sink) (taken c.write_lines.new.sink) (Err fault) root stop) in
     rw (p.1, p.2) (subst (λ is. Stops c.args.written.now.bytes (taken c.args.sink.now) (taken c.write_lines.new.sink) (items_text is) fault) all later)
@@ -204,7 +201,7 @@ mark-requires-clause-place g c =
     let mid = record c.write_blobs.new.written { bytes = c.write_root.new.written } in
     let reset = subst (λ n. Writes c.write_blobs.new.written.bytes c.write_root.new.written (taken c.write_blobs.new.sink) (taken c.write_root.new.sink) (items_text (root_items n)) (Ok tt)) s.count c.in_ok-write_root.ensures in
     let root = adds_bytes r us (root_items (length (list_of (parents_of made)))) c.write_blobs.new.written mid (taken c.write_blobs.new.sink) (taken c.write_root.new.sink) (Ok tt) blobs.0 (λ _. c.write_blobs.new.written.count) (λ _. c.write_blobs.new.written.marks.items) reset in
-    let k = (c.in_ok-write_lines.ensures.adds us root.0).0 in
+    let k = (c.in_ok-write_lines.ensures us root.0).0 in
     place_marked name namer r c.sound.ensures us c.write_lines.new.written.marks.items (commit_value made) c.args.place k.marks e
 
 pub mark-requires-clause-room : goal.mark-requires-clause-room
@@ -224,13 +221,13 @@ mark-requires-clause-room g c =
     let mid = record c.write_blobs.new.written { bytes = c.write_root.new.written } in
     let reset = subst (λ n. Writes c.write_blobs.new.written.bytes c.write_root.new.written (taken c.write_blobs.new.sink) (taken c.write_root.new.sink) (items_text (root_items n)) (Ok tt)) s.count c.in_ok-write_root.ensures in
     let root = adds_bytes r us (root_items (length (list_of (parents_of made)))) c.write_blobs.new.written mid (taken c.write_blobs.new.sink) (taken c.write_root.new.sink) (Ok tt) blobs.0 (λ _. c.write_blobs.new.written.count) (λ _. c.write_blobs.new.written.marks.items) reset in
-    let k = (c.in_ok-write_lines.ensures.adds us root.0).0 in
+    let k = (c.in_ok-write_lines.ensures us root.0).0 in
     let a = k.each in
     let b = k.most in
     omega arith
 
-pub returns-clause-adds : goal.returns-clause-adds
-returns-clause-adds g c = λ made ws e h.
+pub returns : goal.returns
+returns g c = λ made ws e h.
     let name = g.N.Namer.name_of c.args.repo.now.0 in
     let namer = g.met.N.Namer.is_namer c.args.repo.now.0 in
     let r = c.args.repo.now.1 in
@@ -249,19 +246,10 @@ returns-clause-adds g c = λ made ws e h.
     let listed_so = ap (map listed) c.deref-4.ensures.value ∙ c.in_ok-files.ensures.files in
     let shown = shown_as name namer r c.sound.ensures c.args.place made c.name_at-commit.result.bytes c.view_of-view.result (map listed c.deref-4.result.now) e c.name_at-commit.ensures.value c.view_of-view.ensures listed_so in
     let lines_are = lines_told name namer r c.sound.ensures made c.view_of-view.result (map listed c.deref-4.result.now) shown us in
-    let made_lines = subst (λ is. Adds r us is mid c.write_lines.new.written (taken c.write_root.new.sink) (taken c.write_lines.new.sink) (Ok tt)) lines_are (c.in_ok-write_lines.ensures.adds us root.0) in
+    let made_lines = subst (λ is. Adds r us is mid c.write_lines.new.written (taken c.write_root.new.sink) (taken c.write_lines.new.sink) (Ok tt)) lines_are (c.in_ok-write_lines.ensures us root.0) in
     let later = adds_later r us us before (root_items (length ps) ++ lines) c.args.written.now c.write_blobs.new.written c.write_lines.new.written (taken c.args.sink.now) (taken c.write_blobs.new.sink) (taken c.write_lines.new.sink) (Ok tt) blobs
     (adds_later r us us (root_items (length ps)) lines c.write_blobs.new.written mid c.write_lines.new.written (taken c.write_blobs.new.sink) (taken c.write_root.new.sink) (taken c.write_lines.new.sink) (Ok tt) root made_lines) in
     let whole = subst (λ is. Writes c.args.written.now.bytes c.write_lines.new.written.bytes (taken c.args.sink.now) (taken c.write_lines.new.sink) (items_text is) (Ok tt)) all later.1 in (
       commit_marked name namer r c.sound.ensures us made c.args.place mid c.write_lines.new.written c.mark.new.self (taken c.write_root.new.sink) (taken c.write_lines.new.sink) e root.0 made_lines c.mark.ensures.bytes c.mark.ensures.count c.mark.ensures.marks,
       subst (λ n. Writes c.args.written.now.bytes n (taken c.args.sink.now) (taken c.write_lines.new.sink) (items_text (items_of (one_commit ws made))) (Ok tt)) (sym c.mark.ensures.bytes) whole,
     )
-
-pub returns-clause-paths : goal.returns-clause-paths
-returns-clause-paths g c = λ made e.
-    let name = g.N.Namer.name_of c.args.repo.now.0 in
-    let namer = g.met.N.Namer.is_namer c.args.repo.now.0 in
-    let r = c.args.repo.now.1 in
-    let files_are = ap (map listed) c.deref-4.ensures.value ∙ c.in_ok-files.ensures.files in
-    let s = shown_as name namer r c.sound.ensures c.args.place made c.name_at-commit.result.bytes c.view_of-view.result (map listed c.deref-4.result.now) e c.name_at-commit.ensures.value c.view_of-view.ensures files_are in
-    subst HavePathsOfBytes s.files (contents_paths (named_values r.records) (map listed c.deref-4.result.now) c.in_ok-write_lines.ensures.paths)

@@ -2,10 +2,9 @@ use Rattle.std.proofs.Common.{◌≢◌, [], ◌∷◌, ◌++◌, map, take, dro
 use Rattle.std.proofs.lemmas.List.{length-map, take_all}
 use Rattle.gx_model.specs.Export.{dataref_in, dataref_text}
 use Rattle.gx_model.specs.HistoryOf.{content_of}
-use Rattle.gx_model.specs.Paths.{AreBytes, path_text, printed}
+use Rattle.gx_model.specs.Paths.{path_text, printed}
 use Rattle.gx_export.specs.Marks.{Adds}
 use Rattle.gx_export.specs.Outputs.{Stops}
-use Rattle.gx_export.specs.Paths.{HavePathsOfBytes}
 use Rattle.gx_export.specs.Texts.{change_lines, file_line, items_text}
 use Rattle.gx_export.specs.declared.fault.ExportFault.TheVariants.{OutOfMemory}
 use Rattle.gx_export.proofs.Numbering.{adds_bytes, adds_later}
@@ -20,12 +19,11 @@ use Rattle.gx_export.specs.Texts.{file_items}
 use Rattle.gx_export.proofs.BlobLists.{passes_between, view_next, view_parts}
 use Rattle.gx_export.proofs.FilePlaces.{as_many_places, place_at}
 use Rattle.gx_export.proofs.FileLines.{lines_append, lines_named, one_line}
-use Rattle.gx_export.proofs.PathBytes.{all_and, where_ok}
 use Rattle.gx_export.proofs.Writing.{items_sooner, stops_first}
 use Rattle.gx_export.proofs.commit.write_files.Goals as goal
 
-pub returns-in_err-write-clause-adds : goal.returns-in_err-write-clause-adds
-returns-in_err-write-clause-adds g c = λ ws h.
+pub returns-in_err-write : goal.returns-in_err-write
+returns-in_err-write g c = λ ws h.
     let taken = g.W.Sink.taken in
     let p = err_from_is_err_and c.from_residual.result c.from_residual.ensures.1 in
     let rest = file_items ws (contents_of (named_values c.args.repo.now.1.records) (map listed c.args.files.now)) ++ Line [] ∷ [] in
@@ -61,8 +59,8 @@ write_change-requires-clause-place g c =
 pub write_change-requires-clause-written : goal.write_change-requires-clause-written
 write_change-requires-clause-written g c = (c.requires.written.0, (c.loop-number.invariant.adds c.requires.written.0 c.requires.written.1).0)
 
-pub returns-in_default-clause-adds : goal.returns-in_default-clause-adds
-returns-in_default-clause-adds g c = λ ws h.
+pub returns-in_default : goal.returns-in_default
+returns-in_default g c = λ ws h.
     let r = c.args.repo.now.1 in
     let named = named_values r.records in
     let taken = g.W.Sink.taken in
@@ -80,8 +78,8 @@ returns-in_default-clause-adds g c = λ ws h.
     (stops_first c.loop-number.written.bytes (taken c.loop-number.sink) (items_text (line ∷ (lines_named named ws rest ++ Line [] ∷ [])))) in
     subst (λ is. Stops c.args.written.now.bytes (taken c.args.sink.now) (taken c.loop-number.sink) (items_text is) OutOfMemory) (sym whole) later
 
-pub returns-in_err-write_change-clause-adds : goal.returns-in_err-write_change-clause-adds
-returns-in_err-write_change-clause-adds g c = λ ws h.
+pub returns-in_err-write_change : goal.returns-in_err-write_change
+returns-in_err-write_change g c = λ ws h.
     let r = c.args.repo.now.1 in
     let named = named_values r.records in
     let taken = g.W.Sink.taken in
@@ -107,7 +105,6 @@ pub loop-number-preserved : goal.loop-number-preserved
 loop-number-preserved g c =
     let item = c.index-files-number.result in
     let next_path = view_next listed c.args.files.now c.loop-number.number item c.loop-number-test.true c.index-files-number.is in
-    let this = subst AreBytes c.joined.ensures.text c.has_bytes.ensures in
     record {
       adds = λ ws h.
           let r = c.args.repo.now.1 in
@@ -125,11 +122,10 @@ loop-number-preserved g c =
           let done = subst (λ x. Adds r ws (file_line item.1 (dataref_text (dataref_in ws item.1 (content_of named item.1 item.2.bytes))) x ∷ []) c.loop-number.written c.write_change.new.written (taken c.loop-number.sink) (taken c.write_change.new.sink) (Ok tt)) path (c.in_ok-write_change.ensures ws i.0) in
           subst (λ is. Adds r ws (Line (codes "deleteall") ∷ is) c.args.written.now c.write_change.new.written (taken c.args.sink.now) (taken c.write_change.new.sink) (Ok tt)) (sym next)
           (adds_later r ws ws (Line (codes "deleteall") ∷ lines_named named ws before) (line ∷ []) c.args.written.now c.loop-number.written c.write_change.new.written (taken c.args.sink.now) (taken c.loop-number.sink) (taken c.write_change.new.sink) (Ok tt) i done);
-      paths = subst HavePathsOfBytes (sym next_path) (all_and (λ file. AreBytes (path_text file.0)) (map listed (take c.loop-number.number c.args.files.now)) (listed item) c.loop-number.invariant.paths this);
     }
 
-pub returns-clause-adds : goal.returns-clause-adds
-returns-clause-adds g c = λ ws h.
+pub returns : goal.returns
+returns g c = λ ws h.
     let r = c.args.repo.now.1 in
     let named = named_values r.records in
     let taken = g.W.Sink.taken in
@@ -139,8 +135,3 @@ returns-clause-adds g c = λ ws h.
     subst (λ files. Adds r ws (change_lines ws (contents_of named (map listed files))) c.args.written.now now (taken c.args.sink.now) (taken c.write-2.new.sink) c.write-2.result) (take_all c.loop-number.number c.args.files.now all)
     (adds_later r ws ws (Line (codes "deleteall") ∷ lines_named named ws (map listed (take c.loop-number.number c.args.files.now))) (Line [] ∷ []) c.args.written.now c.loop-number.written now (taken c.args.sink.now) (taken c.loop-number.sink) (taken c.write-2.new.sink) c.write-2.result i
     (adds_bytes r ws (Line [] ∷ []) c.loop-number.written now (taken c.loop-number.sink) (taken c.write-2.new.sink) c.write-2.result i.0 (λ _. c.loop-number.written.count) (λ _. c.loop-number.written.marks.items) c.write-2.ensures))
-
-pub returns-clause-paths : goal.returns-clause-paths
-returns-clause-paths g c =
-    let all : length c.args.files.now ≤ c.loop-number.number = omega (arith, c.loop-number-test.false) in
-    where_ok c.write-2.result (subst (λ files. HavePathsOfBytes (map listed files)) (take_all c.loop-number.number c.args.files.now all) c.loop-number.invariant.paths)

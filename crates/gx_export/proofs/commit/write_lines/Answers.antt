@@ -8,8 +8,8 @@ use Rattle.gx_export.proofs.Numbering.{adds_bytes, adds_later}
 use Rattle.gx_export.proofs.Writing.{items_sooner}
 use Rattle.gx_export.proofs.commit.write_lines.Goals as goal
 
-pub returns-in_err-write_commit_head-clause-adds : goal.returns-in_err-write_commit_head-clause-adds
-returns-in_err-write_commit_head-clause-adds g c = λ ws h.
+pub returns-in_err-write_commit_head : goal.returns-in_err-write_commit_head
+returns-in_err-write_commit_head g c = λ ws h.
     let r = c.args.repo.now.1 in
     let taken = g.W.Sink.taken in
     let text = c.args.commit.now.text in
@@ -32,8 +32,8 @@ write_parents-requires-clause-written g c =
     let head = adds_bytes r ws (head_items (suc (length ws)) text) c.args.written.now (record c.args.written.now { bytes = c.write_commit_head.new.written }) (taken c.args.sink.now) (taken c.write_commit_head.new.sink) (Ok tt) h (λ _. c.args.written.now.count) (λ _. c.args.written.now.marks.items) done in
     (ws, head.0)
 
-pub returns-in_err-write_parents-clause-adds : goal.returns-in_err-write_parents-clause-adds
-returns-in_err-write_parents-clause-adds g c = λ ws h.
+pub returns-in_err-write_parents : goal.returns-in_err-write_parents
+returns-in_err-write_parents g c = λ ws h.
     let r = c.args.repo.now.1 in
     let taken = g.W.Sink.taken in
     let text = c.args.commit.now.text in
@@ -60,8 +60,8 @@ write_files-requires-clause-written g c =
     let head = adds_bytes r ws (head_items (suc (length ws)) text) c.args.written.now (record c.args.written.now { bytes = c.write_commit_head.new.written }) (taken c.args.sink.now) (taken c.write_commit_head.new.sink) (Ok tt) h (λ _. c.args.written.now.count) (λ _. c.args.written.now.marks.items) done in
     (ws, (c.in_ok-write_parents.ensures ws head.0).0)
 
-pub returns-clause-adds : goal.returns-clause-adds
-returns-clause-adds g c = λ ws h.
+pub returns : goal.returns
+returns g c = λ ws h.
     let r = c.args.repo.now.1 in
     let taken = g.W.Sink.taken in
     let text = c.args.commit.now.text in
@@ -73,7 +73,4 @@ returns-clause-adds g c = λ ws h.
     let head = adds_bytes r ws (head_items (suc (length ws)) text) c.args.written.now mid (taken c.args.sink.now) (taken c.write_commit_head.new.sink) (Ok tt) h (λ _. c.args.written.now.count) (λ _. c.args.written.now.marks.items) done in
     let elders = c.in_ok-write_parents.ensures ws head.0 in
     adds_later r ws ws (head_items (suc (length ws)) text) (parents ++ changes) c.args.written.now mid c.write_files.new.written (taken c.args.sink.now) (taken c.write_commit_head.new.sink) (taken c.write_files.new.sink) c.write_files.result head
-    (adds_later r ws ws parents changes mid c.write_parents.new.written c.write_files.new.written (taken c.write_commit_head.new.sink) (taken c.write_parents.new.sink) (taken c.write_files.new.sink) c.write_files.result elders (c.write_files.ensures.adds ws elders.0))
-
-pub returns-clause-paths : goal.returns-clause-paths
-returns-clause-paths g c = c.write_files.ensures.paths
+    (adds_later r ws ws parents changes mid c.write_parents.new.written c.write_files.new.written (taken c.write_commit_head.new.sink) (taken c.write_parents.new.sink) (taken c.write_files.new.sink) c.write_files.result elders (c.write_files.ensures ws elders.0))

@@ -8,22 +8,21 @@ use Rattle.gx_export.specs.Texts.{items_text, last_items}
 use Rattle.gx_export.proofs.CommitLists.{commits_items}
 use Rattle.gx_export.proofs.ExportTexts.{end_items, exports, first_items, refs_items}
 use Rattle.gx_export.proofs.Numbering.{adds_bytes, adds_later, none_written}
-use Rattle.gx_export.proofs.PathBytes.{where_ok}
 use Rattle.gx_export.proofs.Writing.{items_sooner, stops_first}
 use Rattle.gx_export.proofs.exporting.export.Goals as goal
 
-pub returns-in_err-reached-clause-exported : goal.returns-in_err-reached-clause-exported
-returns-in_err-reached-clause-exported g c =
+pub returns-in_err-reached : goal.returns-in_err-reached
+returns-in_err-reached g c =
     let p = err_from_is_err_and c.from_residual.result c.from_residual.ensures.1 in
     rw (p.1, p.2) (stops_first 0 (g.W.Sink.taken c.args.sink.now) (export_text (history_of c.args.repo.now.1)))
 
-pub returns-in_err-written-clause-exported : goal.returns-in_err-written-clause-exported
-returns-in_err-written-clause-exported g c =
+pub returns-in_err-written : goal.returns-in_err-written
+returns-in_err-written g c =
     let p = err_from_is_err_and c.from_residual-in_err-written.result c.from_residual-in_err-written.ensures.1 in
     rw (p.1, p.2) (stops_first 0 (g.W.Sink.taken c.args.sink.now) (export_text (history_of c.args.repo.now.1)))
 
-pub returns-in_err-write-clause-exported : goal.returns-in_err-write-clause-exported
-returns-in_err-write-clause-exported g c =
+pub returns-in_err-write : goal.returns-in_err-write
+returns-in_err-write g c =
     let name = g.N.Namer.name_of c.args.repo.now.0 in
     let r = c.args.repo.now.1 in
     let taken = g.W.Sink.taken in
@@ -57,8 +56,8 @@ write_commits-requires-clause-written g c =
     let first = adds_bytes r [] first_items old begun (taken c.args.sink.now) (taken c.write.new.sink) (Ok tt) none (λ _. old.count) (λ _. old.marks.items) c.in_ok-write.ensures in
     first.0
 
-pub returns-in_err-write_commits-clause-exported : goal.returns-in_err-write_commits-clause-exported
-returns-in_err-write_commits-clause-exported g c =
+pub returns-in_err-write_commits : goal.returns-in_err-write_commits
+returns-in_err-write_commits g c =
     let name = g.N.Namer.name_of c.args.repo.now.0 in
     let r = c.args.repo.now.1 in
     let taken = g.W.Sink.taken in
@@ -76,14 +75,14 @@ returns-in_err-write_commits-clause-exported g c =
     let fault = c.in_err-write_commits.field-0.0 in
     let rest = reset ++ (refs ++ end_items) in
     let later = adds_later r [] us first_items (commits ++ rest) old begun begun (taken c.args.sink.now) (taken c.write.new.sink) (taken c.write_commits.new.sink) (Err fault) first
-    (items_sooner c.write.new.written (taken c.write.new.sink) (taken c.write_commits.new.sink) commits rest fault c.in_err-write_commits.ensures.adds) in
+    (items_sooner c.write.new.written (taken c.write.new.sink) (taken c.write_commits.new.sink) commits rest fault c.in_err-write_commits.ensures) in
     rw (p.1, p.2) (exports r us old begun (taken c.args.sink.now) (taken c.write_commits.new.sink) (Err fault) c.in_ok-written.ensures.bytes later)
 
 pub write_last-requires : goal.write_last-requires
-write_last-requires g c = c.in_ok-write_commits.ensures.adds.0.most
+write_last-requires g c = c.in_ok-write_commits.ensures.0.most
 
-pub returns-in_err-write_last-clause-exported : goal.returns-in_err-write_last-clause-exported
-returns-in_err-write_last-clause-exported g c =
+pub returns-in_err-write_last : goal.returns-in_err-write_last
+returns-in_err-write_last g c =
     let name = g.N.Namer.name_of c.args.repo.now.0 in
     let r = c.args.repo.now.1 in
     let taken = g.W.Sink.taken in
@@ -99,7 +98,7 @@ returns-in_err-write_last-clause-exported g c =
     let first = adds_bytes r [] first_items old begun (taken c.args.sink.now) (taken c.write.new.sink) (Ok tt) none (λ _. old.count) (λ _. old.marks.items) c.in_ok-write.ensures in
     let p = err_from_is_err_and c.from_residual-in_err-write_last.result c.from_residual-in_err-write_last.ensures.1 in
     let fault = c.in_err-write_last.field-0.0 in
-    let made = c.in_ok-write_commits.ensures.adds in
+    let made = c.in_ok-write_commits.ensures in
     let with_commits = c.write_commits.new.written in
     let line = subst (λ n. Stops with_commits.bytes (taken c.write_commits.new.sink) (taken c.write_last.new.sink) (items_text (last_items n)) fault) made.0.count c.in_err-write_last.ensures in
     let rest = refs ++ end_items in
@@ -118,15 +117,15 @@ write_refs-requires g c =
     let old = c.in_ok-written.written in
     let long = c.len.ensures.count ∙ ap (λ s. length s.1) c.store.ensures ∙ as_many name (g.met.N.Namer.is_namer c.args.repo.now.0) r c.sound.ensures in
     let none = none_written r c.len.result old long c.in_ok-written.ensures.bytes c.in_ok-written.ensures.count c.in_ok-written.ensures.marks in
-    let made = c.in_ok-write_commits.ensures.adds in
+    let made = c.in_ok-write_commits.ensures in
     let with_commits = c.write_commits.new.written in
     let ended = record with_commits { bytes = c.write_last.new.written } in
     let line = subst (λ n. Writes with_commits.bytes c.write_last.new.written (taken c.write_commits.new.sink) (taken c.write_last.new.sink) (items_text (last_items n)) (Ok tt)) made.0.count c.in_ok-write_last.ensures in
     let last = adds_bytes r us (last_items (length us)) with_commits ended (taken c.write_commits.new.sink) (taken c.write_last.new.sink) (Ok tt) made.0 (λ _. with_commits.count) (λ _. with_commits.marks.items) line in
     record { written = (us, last.0) }
 
-pub returns-in_err-write_refs-clause-exported : goal.returns-in_err-write_refs-clause-exported
-returns-in_err-write_refs-clause-exported g c =
+pub returns-in_err-write_refs : goal.returns-in_err-write_refs
+returns-in_err-write_refs g c =
     let name = g.N.Namer.name_of c.args.repo.now.0 in
     let r = c.args.repo.now.1 in
     let taken = g.W.Sink.taken in
@@ -140,7 +139,7 @@ returns-in_err-write_refs-clause-exported g c =
     let refs = refs_items h in
     let begun = record old { bytes = c.write.new.written } in
     let first = adds_bytes r [] first_items old begun (taken c.args.sink.now) (taken c.write.new.sink) (Ok tt) none (λ _. old.count) (λ _. old.marks.items) c.in_ok-write.ensures in
-    let made = c.in_ok-write_commits.ensures.adds in
+    let made = c.in_ok-write_commits.ensures in
     let with_commits = c.write_commits.new.written in
     let ended = record with_commits { bytes = c.write_last.new.written } in
     let line = subst (λ n. Writes with_commits.bytes c.write_last.new.written (taken c.write_commits.new.sink) (taken c.write_last.new.sink) (items_text (last_items n)) (Ok tt)) made.0.count c.in_ok-write_last.ensures in
@@ -164,15 +163,15 @@ write-requires-2 g c =
     let old = c.in_ok-written.written in
     let long = c.len.ensures.count ∙ ap (λ s. length s.1) c.store.ensures ∙ as_many name (g.met.N.Namer.is_namer c.args.repo.now.0) r c.sound.ensures in
     let none = none_written r c.len.result old long c.in_ok-written.ensures.bytes c.in_ok-written.ensures.count c.in_ok-written.ensures.marks in
-    let made = c.in_ok-write_commits.ensures.adds in
+    let made = c.in_ok-write_commits.ensures in
     let with_commits = c.write_commits.new.written in
     let ended = record with_commits { bytes = c.write_last.new.written } in
     let line = subst (λ n. Writes with_commits.bytes c.write_last.new.written (taken c.write_commits.new.sink) (taken c.write_last.new.sink) (items_text (last_items n)) (Ok tt)) made.0.count c.in_ok-write_last.ensures in
     let last = adds_bytes r us (last_items (length us)) with_commits ended (taken c.write_commits.new.sink) (taken c.write_last.new.sink) (Ok tt) made.0 (λ _. with_commits.count) (λ _. with_commits.marks.items) line in
     (c.in_ok-write_refs.ensures us last.0).0.most
 
-pub returns-clause-exported : goal.returns-clause-exported
-returns-clause-exported g c =
+pub returns : goal.returns
+returns g c =
     let name = g.N.Namer.name_of c.args.repo.now.0 in
     let r = c.args.repo.now.1 in
     let taken = g.W.Sink.taken in
@@ -186,7 +185,7 @@ returns-clause-exported g c =
     let refs = refs_items h in
     let begun = record old { bytes = c.write.new.written } in
     let first = adds_bytes r [] first_items old begun (taken c.args.sink.now) (taken c.write.new.sink) (Ok tt) none (λ _. old.count) (λ _. old.marks.items) c.in_ok-write.ensures in
-    let made = c.in_ok-write_commits.ensures.adds in
+    let made = c.in_ok-write_commits.ensures in
     let with_commits = c.write_commits.new.written in
     let ended = record with_commits { bytes = c.write_last.new.written } in
     let line = subst (λ n. Writes with_commits.bytes c.write_last.new.written (taken c.write_commits.new.sink) (taken c.write_last.new.sink) (items_text (last_items n)) (Ok tt)) made.0.count c.in_ok-write_last.ensures in
@@ -200,6 +199,3 @@ returns-clause-exported g c =
     (adds_later r us us reset (refs ++ end_items) with_commits ended new (taken c.write_commits.new.sink) (taken c.write_last.new.sink) (taken c.write-2.new.sink) c.write-2.result last
     (adds_later r us us refs end_items ended with_refs new (taken c.write_last.new.sink) (taken c.write_refs.new.sink) (taken c.write-2.new.sink) c.write-2.result told end))) in
     exports r us old new (taken c.args.sink.now) (taken c.write-2.new.sink) c.write-2.result c.in_ok-written.ensures.bytes later
-
-pub returns-clause-paths : goal.returns-clause-paths
-returns-clause-paths g c = where_ok c.write-2.result c.in_ok-write_commits.ensures.paths

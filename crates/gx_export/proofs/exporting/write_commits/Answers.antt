@@ -1,26 +1,19 @@
 use Rattle.std.proofs.Common.{◌≡◌, ◌≤◌, ◌∙◌, ap, sym, subst, [], ◌∷◌, ◌++◌, arith, length, take, false, Ok, Err}
 use Rattle.std.specs.Prelude.{slice_index_or}
-use Rattle.std.specs.List.{AllByRecursion}
 use Rattle.std.proofs.lemmas.Result.{err_from_is_err_and}
 use Rattle.std.proofs.lemmas.List.{length-map, take_all}
 use Rattle.gx_model.specs.Export.{all_written, one_commit, with_commit}
 use Rattle.gx_model.specs.RepositoryLaws.{values_of}
-use Rattle.gx_model.specs.Values.{Commit, files_of}
 use Rattle.gx_model.specs.Marks.{holds}
 use Rattle.gx_export.specs.Marks.{Adds}
 use Rattle.gx_export.specs.Outputs.{Stops}
-use Rattle.gx_export.specs.Paths.{HavePathsOfBytes}
 use Rattle.gx_export.specs.Reaching.{is_wanted}
 use Rattle.gx_export.specs.Texts.{items_of, items_text}
 use Rattle.gx_export.proofs.CommitLists.{commits_items, items_first, items_last, items_parted, marked_commit, picked, picked_next, picked_parts, picked_passed, written_append}
 use Rattle.gx_export.proofs.Numbering.{adds_later}
-use Rattle.gx_export.proofs.PathBytes.{all_and}
 use Rattle.gx_export.proofs.Writing.{items_sooner}
 use Rattle.gx_export.proofs.exporting.write_commits.Goals as goal
 use Rattle.gx_export.proofs.exporting.write_commits.Goals.{then-reached-place+in_ok-write_commit, else-reached-place}
-
-abbrev Passes : Commit → Type 0
-Passes made = HavePathsOfBytes (files_of made)
 
 pub write_commit-requires-clause-commit : goal.write_commit-requires-clause-commit
 write_commit-requires-clause-commit g c =
@@ -35,8 +28,8 @@ write_commit-requires-clause-commit g c =
 pub write_commit-requires-clause-written : goal.write_commit-requires-clause-written
 write_commit-requires-clause-written g c = (all_written (picked (is_wanted c.args.repo.now.1) (take c.loop-place.place (values_of c.args.repo.now.1))), c.loop-place.invariant.adds.0)
 
-pub returns-in_err-write_commit-clause-adds : goal.returns-in_err-write_commit-clause-adds
-returns-in_err-write_commit-clause-adds g c =
+pub returns-in_err-write_commit : goal.returns-in_err-write_commit
+returns-in_err-write_commit g c =
     let name = g.N.Namer.name_of c.args.repo.now.0 in
     let r = c.args.repo.now.1 in
     let vs = values_of r in
@@ -46,7 +39,7 @@ returns-in_err-write_commit-clause-adds g c =
     let m = marked_commit test vs c.loop-place.place (sym (ap (λ ms. slice_index_or ms c.loop-place.place false) c.requires.reached) ∙ c.if-reached-place.true) in
     let cs = picked test (take c.loop-place.place vs) in
     let i = c.loop-place.invariant.adds in
-    let stop = c.in_err-write_commit.ensures.adds m.0 (all_written cs) m.1 i.0 in
+    let stop = c.in_err-write_commit.ensures m.0 (all_written cs) m.1 i.0 in
     let parts = picked_parts test vs c.loop-place.place m.0 m.1 m.2 in
     let rest = commits_items (with_commit (all_written cs) m.0) parts.0 in
     let all = ap (commits_items []) parts.1 ∙ items_parted [] cs (m.0 ∷ parts.0) ∙ ap (λ is. commits_items [] cs ++ is) (items_first (all_written cs) m.0 parts.0) in
@@ -66,12 +59,10 @@ loop-place-preserved g c =
     elim c.if-reached-place.branch [
       | then-reached-place+in_ok-write_commit w ↦
           let m = marked_commit test vs c.loop-place.place (sym (ap (λ ms. slice_index_or ms c.loop-place.place false) c.requires.reached) ∙ w.if-reached-place.true) in
-          let done = w.in_ok-write_commit.ensures.adds m.0 (all_written cs) m.1 i.0 in
+          let done = w.in_ok-write_commit.ensures m.0 (all_written cs) m.1 i.0 in
           let later = adds_later r (all_written cs) (with_commit (all_written cs) m.0) (commits_items [] cs) (items_of (one_commit (all_written cs) m.0)) c.args.written.now c.loop-place.written w.write_commit.new.written (taken c.args.sink.now) (taken c.loop-place.sink) (taken w.write_commit.new.sink) (Ok tt) i done in
           let next = picked_next test vs c.loop-place.place m.0 m.1 m.2 in
-          let paths = subst (AllByRecursion Passes) (sym next) (all_and Passes cs m.0 c.loop-place.invariant.paths (w.in_ok-write_commit.ensures.paths m.0 m.1)) in
           rw (w.written-is, w.sink-is) (record {
-            paths = paths;
             adds = subst (λ ds. Adds r (all_written ds) (commits_items [] ds) c.args.written.now w.write_commit.new.written (taken c.args.sink.now) (taken w.write_commit.new.sink) (Ok tt)) (sym next)
                 (subst (λ ws. Adds r ws (commits_items [] (cs ++ m.0 ∷ [])) c.args.written.now w.write_commit.new.written (taken c.args.sink.now) (taken w.write_commit.new.sink) (Ok tt)) (sym (written_append [] cs (m.0 ∷ [])))
                 (subst (λ is. Adds r (with_commit (all_written cs) m.0) is c.args.written.now w.write_commit.new.written (taken c.args.sink.now) (taken w.write_commit.new.sink) (Ok tt)) (sym (items_last cs m.0)) later));
@@ -80,12 +71,11 @@ loop-place-preserved g c =
           let next = picked_passed test vs c.loop-place.place (sym (ap (λ ms. slice_index_or ms c.loop-place.place false) c.requires.reached) ∙ w.if-reached-place.false) in
           rw (w.written-is, w.sink-is) (record {
             adds = subst (λ ds. Adds r (all_written ds) (commits_items [] ds) c.args.written.now c.loop-place.written (taken c.args.sink.now) (taken c.loop-place.sink) (Ok tt)) (sym next) i;
-            paths = subst (AllByRecursion Passes) (sym next) c.loop-place.invariant.paths;
           })
     ]
 
-pub returns-clause-adds : goal.returns-clause-adds
-returns-clause-adds g c =
+pub returns : goal.returns
+returns g c =
     let name = g.N.Namer.name_of c.args.repo.now.0 in
     let r = c.args.repo.now.1 in
     let vs = values_of r in
@@ -94,12 +84,3 @@ returns-clause-adds g c =
     let long : length c.args.reached.now ≡ length vs = ap length c.requires.reached ∙ length-map vs (holds test) in
     let all : length vs ≤ c.loop-place.place = omega (arith, long, c.loop-place-test.false) in
     subst (λ us. Adds r (all_written (picked test us)) (commits_items [] (picked test us)) c.args.written.now c.loop-place.written (taken c.args.sink.now) (taken c.loop-place.sink) (Ok tt)) (take_all c.loop-place.place vs all) c.loop-place.invariant.adds
-
-pub returns-clause-paths : goal.returns-clause-paths
-returns-clause-paths g c =
-    let r = c.args.repo.now.1 in
-    let vs = values_of r in
-    let test = is_wanted r in
-    let long : length c.args.reached.now ≡ length vs = ap length c.requires.reached ∙ length-map vs (holds test) in
-    let all : length vs ≤ c.loop-place.place = omega (arith, long, c.loop-place-test.false) in
-    subst (λ us. AllByRecursion Passes (picked test us)) (take_all c.loop-place.place vs all) c.loop-place.invariant.paths

@@ -1,0 +1,6 @@
+use Rattle.std.proofs.Common.{arith}
+use Rattle.gx_model.proofs.NameDigits.{all_bytes}
+use Rattle.gx_text.proofs.path.has_bytes.Goals as goal
+
+pub returns : goal.returns
+returns c = all_bytes c.args.text.now (λ i. let fits = c.type_inv.text i in omega arith)

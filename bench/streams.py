@@ -4,7 +4,10 @@
   streams.py blob BYTES            one blob of so many bytes
   streams.py blobs COUNT BYTES     so many different blobs of so many bytes each
   streams.py commits BYTES         small commits, until about so many bytes are written
-  streams.py history COMMITS       so many commits of source-like files in nested folders, with merges and tags
+  streams.py history COMMITS       so many commits of source-like files in nested folders, with merges and tags; the number of
+                                   files grows with that of commits
+  streams.py steady COMMITS        the same of about 1,000 files, whose lengths stay about alike
+  streams.py flat FILES COMMITS    so many files in one directory, and then so many commits that change one each
   streams.py mixed COMMITS         so many small commits on branches that merge, with all modes, quoted paths, submodules,
                                    empty trees and encodings, and tags and branches on old and on shared commits
 """
@@ -90,17 +93,23 @@ def edit_of(letter, path, files):
     return b'D %s\n' % path if letter == ord('D') else b'%c %s %s\n' % (letter, path, other)
 
 
-def changes_of(random, files):
+def grown(random, data, most_bytes):
+    """Lines behind a file's own, of which the first half goes where there would be too many bytes."""
+    data += source_lines(random, random.randint(1, 8))
+    return data[data.index(b'\n', len(data) // 2) + 1:] if most_bytes and len(data) > most_bytes else data
+
+
+def changes_of(random, files, most_files, most_bytes):
     """One to five changes: a new file, lines behind an old one, and now and then a removal, a copy or a rename."""
     text = b''
     for _ in range(random.randint(1, 5)):
         kind = random.random()
-        if not files or kind < 0.25:
+        if not files or kind < 0.25 and len(files) < most_files:
             path = b'src/module%d/part%d/file%d.c' % (random.randrange(12), random.randrange(6), random.randrange(1000))
             files[path] = source_lines(random, random.randint(10, 120))
         elif kind < 0.94:
             path = random.choice(list(files))
-            files[path] += source_lines(random, random.randint(1, 8))
+            files[path] = grown(random, files[path], most_bytes)
         else:
             text += edit_of(random.choice(b'DCR'), random.choice(list(files)), files)
             continue
@@ -108,7 +117,7 @@ def changes_of(random, files):
     return text
 
 
-def history(count):
+def history(count, most_files=72000, most_bytes=0):
     """Each twentieth commit merges one of a side branch, and each hundredth is tagged."""
     random = Random(count)
     out = sys.stdout.buffer
@@ -123,9 +132,22 @@ def history(count):
             out.write(commit(b'refs/heads/side', mark, number, side, note))
             parents = b'from :%d\nmerge :%d\n' % (mark - 1, mark)
         mark += 1
-        out.write(commit(b'refs/heads/main', mark, number, parents, changes_of(random, files)))
+        out.write(commit(b'refs/heads/main', mark, number, parents, changes_of(random, files, most_files, most_bytes)))
         if number % 100 == 0:
             out.write(b'tag v%d\nfrom :%d\ntagger T <t@example.com> %d +0000\n' % (number, mark, 1700000000 + number) + block(b'Version %d\n' % number))
+
+
+def steady(count):
+    history(count, 1000, 3000)
+
+
+def flat(files, count):
+    random = Random(files)
+    out = sys.stdout.buffer
+    for number in range(count + 1):
+        changed = range(files) if number == 0 else [random.randrange(files)]
+        changes = b''.join(b'M 100644 inline file%05d.c\n' % i + block(b'%d\n' % number + source_lines(random, 10)) for i in changed)
+        out.write(commit(b'refs/heads/main', number + 1, number, b'', changes))
 
 
 PATHS = [b'a', b'a.b', b'a/b', b'a/c', b'a0', b'lib/a b', b'lib/sub/x', b'"t\\tab"', b'"q\\"uote"', b'"\\303\\244/\\346\\227\\245"', b'z']
@@ -183,4 +205,4 @@ def mixed(count):
 
 
 kind, *sizes = sys.argv[1:]
-{'blob': one_blob, 'blobs': many_blobs, 'commits': commits, 'history': history, 'mixed': mixed}[kind](*map(int, sizes))
+{'blob': one_blob, 'blobs': many_blobs, 'commits': commits, 'history': history, 'steady': steady, 'flat': flat, 'mixed': mixed}[kind](*map(int, sizes))

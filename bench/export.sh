@@ -2,11 +2,11 @@
 # Measures exports against `git fast-export --full-tree --all` of the same generated histories: wall time in seconds and peak
 # memory in MB, the best of three runs. `gx refs` is measured beside them, since an export reads the whole store first. Then
 # git imports gx's export, and the refs and names have to be the same.
-#   bench/export.sh [COMMITS..]      500, 2000 and 8000 if left out
+#   bench/export.sh [COMMITS..]      500, 2000 and 10000 if left out
 # It builds crates/gx, and needs rt, git, python3 and GNU time.
 set -euo pipefail
 cd "$(dirname "$0")/.."
-[ $# -gt 0 ] || set -- 500 2000 8000
+[ $# -gt 0 ] || set -- 500 2000 10000
 folder=$(mktemp -d)
 trap 'rm -rf "$folder"' EXIT
 gx=${GX:-$PWD/crates/gx/out/gx}

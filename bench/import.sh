@@ -11,7 +11,7 @@ cd "$(dirname "$0")/.."
 folder=$(mktemp -d)
 trap 'rm -rf "$folder"' EXIT
 gx=${GX:-$PWD/crates/gx/out/gx}
-[ -x "$gx" ] || (cd crates/gx && rt run blobs < /dev/null)
+[ -x "$gx" ] || (cd crates/gx && rt run -- blobs < /dev/null)
 
 # shellcheck source=bench/best.bash
 . bench/best.bash

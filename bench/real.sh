@@ -16,7 +16,7 @@ else
 fi
 folder=$(cd "$folder" && pwd)
 gx=${GX:-$root/crates/gx/out/gx}
-[ -x "$gx" ] || (cd crates/gx && rt run blobs < /dev/null)
+[ -x "$gx" ] || (cd crates/gx && rt run -- blobs < /dev/null)
 
 export GIT_AUTHOR_NAME=A GIT_AUTHOR_EMAIL=a@example.com GIT_COMMITTER_NAME=C GIT_COMMITTER_EMAIL=c@example.com
 export HGUSER='H <h@example.com>' LOGNAME=c TZ=UTC

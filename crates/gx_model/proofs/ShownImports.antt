@@ -29,7 +29,7 @@ use Rattle.gx_model.specs.Lookups.{first_named, or_else}
 use Rattle.gx_model.specs.Revisions.{Revision, revision_of}
 use Rattle.gx_model.specs.Denotation.{Shown, denoted, file_shown, files_in, first_ref, looked_up, object, of_file, or_ref, ref_names, shown_value, submodule}
 use Rattle.gx_model.specs.Replay.{imported}
-use Rattle.gx_model.specs.ExportLaws.{AnyReaches, IsAgain, nothing}
+use Rattle.gx_model.specs.ExportLaws.{AnyReaches, IsAgain}
 use Rattle.gx_model.specs.Headline.{ComesBack, Headline, Shows, body_named, file_held, leaf_held, object_denoted, tree_in, tree_named}
 use Rattle.gx_model.proofs.PathTests.{same_is}
 use Rattle.gx_model.proofs.AddedValues.{in_left, in_right}

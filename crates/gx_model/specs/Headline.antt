@@ -42,7 +42,8 @@ tree_in records kind.Tag called body = Ok (commit_parts_in (body_named records (
 
 -- the tree that the object of this name names
 abbrev pub tree_named : List Record → Bytes → Given Bytes
-tree_named records called = elim (record_named records called) [ None ↦ Err UnknownObject | Some held ↦ tree_in records held.kind called held.body ]
+tree_named records called =
+    elim (record_named records called) [ None ↦ Err UnknownObject | Some held ↦ tree_in records held.kind called held.body ]
 
 -- the mode and bytes of the file where a walk ended
 abbrev pub leaf_held : List Record → Option Place → Given (Leaf Bytes)
@@ -60,16 +61,18 @@ module _ (name : Kind → Bytes → Bytes) where
   abbrev pub object_denoted : History → Revision → Given Bytes
   object_denoted h revision = value_denoted name h revision >>= λ value. Ok (name_of name value)
 
-  -- Refs hold the objects of the history's. Tree by tree, each revision and path shows the mode and bytes that the plain map of
-  -- whole paths has there, or is refused alike. A commit's body tells its parents and its texts.
+  -- A word finds among the refs the object that it finds in the history. Each revision and path shows, tree by tree, the mode and
+  -- bytes that the plain map of whole paths has there, or is refused alike. A commit's body tells its parents and its texts.
   pub record Shows (repository : Records) (h : History) : Type 0 where
-    pub refs : (word : Bytes) → first_named repository.refs (ref_names word) ≡ option_map (λ target. name_of name (value_at target)) (find_ref h word)
-    pub files : (revision : Revision) (path : Path) → (object_denoted h revision >>= λ called. file_held repository.records called path) ≡ looked_up name h revision path
+    pub refs : (word : Bytes)
+        → first_named repository.refs (ref_names word) ≡ option_map (λ target. name_of name (value_at target)) (find_ref h word)
+    pub files : (revision : Revision) (path : Path)
+        → (object_denoted h revision >>= λ called. file_held repository.records called path) ≡ looked_up name h revision path
     pub commits : (made : Commit) → IsIn h.values (commit_value made)
         → commit_parts_in (body_named repository.records (name_of name (commit_value made))) ≡ parts_of_commit name made
 
-  -- The new repository stands for the new history. It has the same refs under the same object names, its objects are some of
-  -- the old one's: exactly what refs reach, with the commits in their order.
+  -- The new repository stands for the new history. It has the same refs under the same object names, and its objects are objects
+  -- of the old one: exactly what refs reach, with the commits in their order.
   pub record ComesBack (repository : Records) (h : History) (new : Records) (k : History) : Type 0 where
     pub stands : StandsFor name new k
     pub refs : new.refs ≡ repository.refs
@@ -84,4 +87,5 @@ module _ (name : Kind → Bytes → Bytes) where
       → imported name nothing given fails ≡ finished h progress report → StandsFor name repository h
       → Shows repository h
       × (length (export_text h) < 2 ^ 64
-      → (k : History) × (new : Records) × (imported name nothing (export_text h) false ≡ finished k [] (exported_report h k)) × ComesBack repository h new k)
+      → (k : History) × (new : Records)
+      × (imported name nothing (export_text h) false ≡ finished k [] (exported_report h k)) × ComesBack repository h new k)

@@ -1,12 +1,11 @@
 -- The map of names of a file map's contents, its trees among the records, and their texts.
-use Rattle.std.proofs.Common.{◌≡◌, ◌≢◌, true, ℕ, zero, suc, ◌<◌, ◌+◌, ◌*◌, arith, length, eq-eqb, refl, sym, ap, subst, ◌∙◌, List, [], ◌∷◌, map, Some}
-use Rattle.std.specs.Prelude.{T, ◌&&◌, not, nat_lt, IsTrue}
+use Rattle.std.proofs.Common.{◌≡◌, ◌≢◌, ℕ, zero, suc, length, eq-eqb, refl, sym, ap, subst, ◌∙◌, List, [], ◌∷◌, map, Some}
+use Rattle.std.specs.Prelude.{T, ◌&&◌, not, IsTrue}
 use Rattle.std.specs.Bool.{passes}
 use Rattle.std.specs.List.{AllByRecursion, flat_map, list_all}
 use Rattle.std.specs.Ordering.{is_lt}
 use Rattle.std.specs.FinMap.Entries.{below_all, is_sorted}
 use Rattle.std.proofs.lemmas.List.{map-append}
-use Rattle.std.proofs.lemmas.Bool.Decides.{nat_tests}
 use Rattle.gx_model.specs.declared.objects.Kind.{Kind}
 use Rattle.gx_model.specs.declared.objects.Kind.TheVariants as kind
 use Rattle.gx_model.specs.declared.objects.Mode.{Mode}
@@ -14,8 +13,8 @@ use Rattle.gx_model.specs.declared.objects.Mode.TheVariants.{File, Exec, Link, G
 use Rattle.gx_model.specs.Texts.{Bytes}
 use Rattle.gx_model.specs.Paths.{Path, are_in_line, is_file_path, path_cmp}
 use Rattle.gx_model.specs.Files.{FileMap, are_apart, are_file_paths, is_file_map}
-use Rattle.gx_model.specs.Values.{Value, blobs_of, commit_value, files_of, is_content, is_hex_digit, is_leaf, sub_maps, tree_value}
-use Rattle.gx_model.specs.Objects.{IsNamer, IsTreeText, digit_value, is_name, unhex}
+use Rattle.gx_model.specs.Values.{Value, blobs_of, commit_value, files_of, is_content, is_leaf, sub_maps, tree_value}
+use Rattle.gx_model.specs.Objects.{IsNamer, IsTreeText, is_name, unhex}
 use Rattle.gx_model.specs.Records.{body_of, content_name, named_map, tree_body, tree_name}
 use Rattle.gx_model.specs.Histories.{IsIn, IsWhole, Record, Records, record_of}
 use Rattle.gx_model.specs.HistoryOf.{commit_of_value, files_of_tree, history_of, value_of_name}
@@ -24,8 +23,7 @@ use Rattle.gx_model.specs.RecordFaults.{is_held}
 use Rattle.gx_model.specs.Sound.{IsSound}
 use Rattle.gx_model.proofs.PathTests.{both, first, second, is_true}
 use Rattle.gx_model.proofs.OneTree.{all_right, digits_of, forty, unhex_long}
-use Rattle.gx_model.proofs.HexDigits.{value_is}
-use Rattle.gx_model.proofs.TreePaths.{content_in, entries_of, name_is_name, text_of_tree}
+use Rattle.gx_model.proofs.TreePaths.{content_in, entries_of, name_is_name, text_of_tree, unhex_bytes}
 use Rattle.gx_model.proofs.AddedValues.{all_join}
 use Rattle.gx_model.proofs.LinkedValues.{parts_in, proper_in}
 use Rattle.gx_model.proofs.GrownTrees.{trees_named}
@@ -69,22 +67,6 @@ module _ (name : Kind → Bytes → Bytes) where
   modes_named : (f : FileMap Bytes) → T (list_all (λ e. is_leaf e.1.0 e.1.1) f) → AllByRecursion (λ e. e.1.0 ≢ Dir) (named_map name f)
   modes_named [] h = tt
   modes_named (e ∷ es) h = (no_dir e.1.0 e.1.1 (first _ _ h), modes_named es (second (is_leaf e.1.0 e.1.1) _ h))
-
-unhex_bytes : (x : Bytes) → T (list_all is_hex_digit x) → T (list_all (λ b. nat_lt b 256) (unhex x))
-unhex_bytes [] h = tt
-unhex_bytes (a ∷ []) h = tt
-unhex_bytes (a ∷ b ∷ x) h =
-    let u = value_is a (first (is_hex_digit a) (list_all is_hex_digit (b ∷ x)) h) in
-    let k = second (is_hex_digit a) (list_all is_hex_digit (b ∷ x)) h in
-    let v = value_is b (first (is_hex_digit b) (list_all is_hex_digit x) k) in
-    let l : 16 * digit_value a + digit_value b < 256 = pair (digit_value a) (digit_value b) u.0 v.0 in
-    both _ _ (passes _ (lt_test _ _ l)) (unhex_bytes x (second (is_hex_digit b) (list_all is_hex_digit x) k))
-  where
-    pair : (m n : ℕ) → m < 16 → n < 16 → 16 * m + n < 256
-    pair m n h k = omega arith
-
-    lt_test : (m n : ℕ) → m < n → nat_lt m n ≡ true
-    lt_test m n h = grind (arith, nat_tests)
 
 module _ (name : Kind → Bytes → Bytes) (namer : IsNamer name) where
   -- the name of a file's content has 20 bytes

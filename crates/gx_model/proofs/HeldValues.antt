@@ -69,7 +69,7 @@ module _ (name : Kind → Bytes → Bytes) (namer : IsNamer name) where
   names_proper none = tt
   names_proper (more c cs) = both _ _ (name_is_name name namer kind.Commit (commit_body name c)) (names_proper cs)
 
-  text_is : (c : Commit) → T (is_proper_text (text_of c)) → IsCommitText (parts_of_commit name c) (commit_body name c)
+  pub text_is : (c : Commit) → T (is_proper_text (text_of c)) → IsCommitText (parts_of_commit name c) (commit_body name c)
   text_is (commit f ps t) h = (refl, is_true _ (name_is_name name namer kind.Tree (tree_body name (named_map name f))), is_true _ (names_proper ps), is_true _ h)
 
   names_at : (cs : Commits) (n : ℕ) → slice_get (names_of name cs) n ≡ option_map (λ d. name_of name (commit_value d)) (slice_get (list_of cs) n)
@@ -179,7 +179,7 @@ module _ (name : Kind → Bytes → Bytes) (namer : IsNamer name) (r : Records) 
   pub peeled_none : (n : Bytes) → IsTrue (is_some (record_named r.records n)) → None ≡ commit_named r.records n → commit_in (Named n) ≡ Err fault.WrongKind
   peeled_none n h e = no_commit (Named n) (e ∙ commit_name n h)
 
-  proper_text : (c : Commit) → Stands (commit_value c) → T (is_proper_text (text_of c))
+  pub proper_text : (c : Commit) → Stands (commit_value c) → T (is_proper_text (text_of c))
   proper_text c i = second (is_content (files_of c)) (is_proper_text (text_of c)) (proper_in (history_of r).values (commit_value c) (passes _ all_whole.proper) i)
 
   -- a held commit's body is the text of its parts

@@ -82,3 +82,4 @@ pub mod PartShapes
 pub mod ChangeShapes
 pub mod CommandReadings
 pub mod ComingBack
+pub mod ShownImports

@@ -58,7 +58,7 @@ module _ (name : Kind → Bytes → Bytes) (namer : IsNamer name) (h : History) 
 
   -- ---- what a path gives
 
-  file_stands : (f : FileMap Bytes) (p : Path) (m : Mode) (x : Bytes) (v : Value) → Stands (tree_value f) → file_at f p ≡ Some (m, x) → of_leaf m x ≡ object v → Stands v
+  pub file_stands : (f : FileMap Bytes) (p : Path) (m : Mode) (x : Bytes) (v : Value) → Stands (tree_value f) → file_at f p ≡ Some (m, x) → of_leaf m x ≡ object v → Stands v
   file_stands f p m x v i e =
       let known = found_known name namer Stands (told_by_name name namer h.values distinct) f p (all_left Stands (blobs_of f) (map tree_value (sub_maps f)) (parts_in h.values (tree_value f) whole i)) in
       by m (subst (λ (o : Option (Leaf Bytes)). IfSome o (λ y. IfSome (blob_of y.0 y.1) Stands)) e known) (leaf_at name namer f p (m, x) (content_in name namer h.values whole distinct f i) e)
@@ -163,7 +163,7 @@ module _ (name : Kind → Bytes → Bytes) (namer : IsNamer name) (h : History) 
   commit_stands (commit_value d) c i e = subst Stands (ap commit_value (ok_is d c e)) i
   commit_stands (tag_value t) c i e = subst Stands (ap commit_value (ok_is t.target c e)) (parts_stand (tag_value t) i).0
 
-  files_stand : (v : Value) (f : FileMap Bytes) → Stands v → files_in v ≡ Ok f → Stands (tree_value f)
+  pub files_stand : (v : Value) (f : FileMap Bytes) → Stands v → files_in v ≡ Ok f → Stands (tree_value f)
   files_stand (blob_value x) f i e = absurd cc
   files_stand (tree_value g) f i e = subst Stands (ap tree_value (ok_is g f e)) i
   files_stand (commit_value c) f i e = subst Stands (ap tree_value (ok_is (files_of c) f e)) (parts_stand (commit_value c) i).0

@@ -5,7 +5,7 @@ use Rattle.std.specs.List.{list_all, fold, AllByRecursion, cons_option}
 use Rattle.std.specs.Prelude.{T, ◌⊎◌}
 use Rattle.gx_model.specs.Commands.{Command}
 use Rattle.gx_model.specs.Export.{all_written, blob_commands, carrier, commit_command, commit_commands, content_in, contents, dataref_in, export_items, export_text, file_change, first_parent, inner_commands, last_reset, marked_in, number_in, one_commit, other_parents, reached_commits, ref_command, root_reset, with_blobs, with_commit}
-use Rattle.gx_model.specs.ExportLaws.{IsAgain, IsDataRef, IsMark, IsMarked, IsMarkedIf, IsNotNull, IsOne, IsReadable, IsReadableCommit, IsReadableFile, IsReadableTarget, IsSpelled, IsSpelledChange, exported_report, nothing}
+use Rattle.gx_model.specs.ExportLaws.{IsAgain, IsDataRef, IsMark, IsNamedByMark, IsNamedByMarkIf, IsNotNull, IsOne, IsReadable, IsReadableCommit, IsReadableFile, IsReadableTarget, IsSpelled, IsSpelledChange, exported_report, nothing}
 use Rattle.gx_model.specs.Files.{FileMap, are_file_paths}
 use Rattle.gx_model.specs.Grammar.{commands_of}
 use Rattle.gx_model.specs.Histories.{History, IsHistory, IsIn, Target, at_commit, at_tag, is_in, value_at}
@@ -85,15 +85,15 @@ changes_spelled ws (e ∷ f) lt p l r h =
     let P = λ (y : Bytes). IsIn ws (blob_value y) in
     ((dataref_spelled ws e.1.0 e.1.1 lt (first _ _ l) r.0.0 (front_of P o (contents f) h), is_true _ (first _ _ p)), changes_spelled ws f lt (second (is_file_path e.0) _ p) (second (is_leaf e.1.0 e.1.1) _ l) r.1 (rest_of P o (contents f) h))
 
-parent_spelled : (ws : List Value) (ps : List Commit) → length ws < 2 ^ 64 → AllByRecursion (λ p. IsIn ws (commit_value p)) ps → IsMarkedIf (first_parent ws ps)
+parent_spelled : (ws : List Value) (ps : List Commit) → length ws < 2 ^ 64 → AllByRecursion (λ p. IsIn ws (commit_value p)) ps → IsNamedByMarkIf (first_parent ws ps)
 parent_spelled ws [] lt h = tt
 parent_spelled ws (p ∷ ps) lt h = is_mark ws (commit_value p) h.0 lt
 
-all_marked : (ws : List Value) (ps : List Commit) → length ws < 2 ^ 64 → AllByRecursion (λ p. IsIn ws (commit_value p)) ps → AllByRecursion IsMarked (map (λ q. marked_in ws (commit_value q)) ps)
+all_marked : (ws : List Value) (ps : List Commit) → length ws < 2 ^ 64 → AllByRecursion (λ p. IsIn ws (commit_value p)) ps → AllByRecursion IsNamedByMark (map (λ q. marked_in ws (commit_value q)) ps)
 all_marked ws [] lt h = tt
 all_marked ws (p ∷ ps) lt h = (is_mark ws (commit_value p) h.0 lt, all_marked ws ps lt h.1)
 
-others_spelled : (ws : List Value) (ps : List Commit) → length ws < 2 ^ 64 → AllByRecursion (λ p. IsIn ws (commit_value p)) ps → AllByRecursion IsMarked (other_parents ws ps)
+others_spelled : (ws : List Value) (ps : List Commit) → length ws < 2 ^ 64 → AllByRecursion (λ p. IsIn ws (commit_value p)) ps → AllByRecursion IsNamedByMark (other_parents ws ps)
 others_spelled ws [] lt h = tt
 others_spelled ws (p ∷ ps) lt h = all_marked ws ps lt h.1
 

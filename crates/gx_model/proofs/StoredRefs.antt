@@ -42,7 +42,7 @@ use Rattle.gx_model.proofs.StoreTexts.{both_some, both_steps, if_there, line_of,
 -- ---- digits
 
 -- a name's digits are those of the bytes that they write
-hex_unhex : (x : Bytes) → T (is_name_text x) → hex (unhex x) ≡ x
+pub hex_unhex : (x : Bytes) → T (is_name_text x) → hex (unhex x) ≡ x
 hex_unhex x h =
     let d = digits_of x h in
     let long : length (unhex x) ≡ 20 = unhex_long x 20 (forty x h) in

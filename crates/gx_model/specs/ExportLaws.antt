@@ -46,14 +46,14 @@ abbrev pub IsMark : ℕ → Type 0
 IsMark n = (0 < n) × (n < 2 ^ 64)
 
 -- a commit that is named by its mark
-abbrev pub IsMarked : CommitIsh → Type 0
-IsMarked (Marked n) = IsMark n
-IsMarked (Named x) = ⊥
+abbrev pub IsNamedByMark : CommitIsh → Type 0
+IsNamedByMark (Marked n) = IsMark n
+IsNamedByMark (Named x) = ⊥
 
 -- the same, or none
-abbrev pub IsMarkedIf : Option CommitIsh → Type 0
-IsMarkedIf None = Unit {0}
-IsMarkedIf (Some c) = IsMarked c
+abbrev pub IsNamedByMarkIf : Option CommitIsh → Type 0
+IsNamedByMarkIf None = Unit {0}
+IsNamedByMarkIf (Some c) = IsNamedByMark c
 
 -- a gitlink's digits, which aren't forty zeros
 abbrev pub IsLink : Bytes → Type 0
@@ -93,15 +93,15 @@ pub record IsSpelledCommit (c : CommitParts) : Type 0 where
   pub committer : is_ident c.committer ≡ true
   pub encoding : is_optional_encoding c.encoding ≡ true
   pub message : length c.message < 2 ^ 64
-  pub parent : IsMarkedIf c.parent
-  pub merges : AllByRecursion IsMarked c.merges
+  pub parent : IsNamedByMarkIf c.parent
+  pub merges : AllByRecursion IsNamedByMark c.merges
   pub changes : AllByRecursion IsSpelledChange c.changes
 
 -- a tag command whose parts have their forms
 pub record IsSpelledTag (t : TagParts) : Type 0 where
   pub name : is_tag_name t.name ≡ true
   pub mark : t.mark ≡ None
-  pub target : IsMarked t.target
+  pub target : IsNamedByMark t.target
   pub tagger : is_optional_ident t.tagger ≡ true
   pub message : length t.message < 2 ^ 64
 
@@ -110,7 +110,7 @@ abbrev pub IsSpelled : Command → Type 0
 IsSpelled (command.Blob b) = HasMark b.mark × (length b.bytes < 2 ^ 64)
 IsSpelled (command.Commit c) = IsSpelledCommit c
 IsSpelled (command.Tag t) = IsSpelledTag t
-IsSpelled (command.Reset r) = (is_ref_name r.ref ≡ true) × IsMarkedIf r.parent
+IsSpelled (command.Reset r) = (is_ref_name r.ref ≡ true) × IsNamedByMarkIf r.parent
 IsSpelled _ = ⊥
 
 -- commands between `feature done` and `done`

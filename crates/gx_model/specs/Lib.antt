@@ -35,6 +35,7 @@ pub mod RepositoryLaws
 pub mod ExportLaws
 pub mod Gitlinks
 pub mod StoreLaws
+pub mod Headline
 pub mod StreamLaws
 pub mod TextLaws
 pub mod Marks

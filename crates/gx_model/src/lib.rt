@@ -7,6 +7,7 @@ mod faults;
 mod features;
 pub mod file_map_laws;
 pub mod gitlink_laws;
+pub mod headline;
 pub mod history_laws;
 pub mod object_laws;
 mod objects;

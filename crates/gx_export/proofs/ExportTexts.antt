@@ -1,5 +1,5 @@
 -- The items of an export in their parts.
-use Rattle.std.proofs.Common.{◌≡◌, ◌≤◌, List, [], ◌∷◌, ◌++◌, map, length, Option, Result, Ok, Err, sym, ap, subst, ◌∙◌, append_assoc, arith, codes}
+use Rattle.std.proofs.Common.{◌≡◌, ◌≢◌, ◌≤◌, ℕ, List, [], ◌∷◌, ◌++◌, map, length, Option, Result, Ok, Err, refl, sym, ap, subst, ◌∙◌, append_assoc, arith, codes}
 use Rattle.std.proofs.lemmas.Grind.{flat_map-append}
 use Rattle.gx_model.specs.Commands as command
 use Rattle.gx_model.specs.Export.{all_written, command_items, commit_commands, export_items, last_reset, reached_commits, ref_command}
@@ -9,13 +9,16 @@ use Rattle.gx_model.specs.Items.{Item, Line}
 use Rattle.gx_model.specs.Values.{Value}
 use Rattle.gx_text.specs.Devices.{Taken, Took}
 use Rattle.gx_export.specs.Exports.{Exports}
+use Rattle.gx_export.specs.Faults.{NeedsNoMemory}
 use Rattle.gx_export.specs.Marks.{Adds}
-use Rattle.gx_export.specs.Outputs.{Stops, most}
+use Rattle.gx_export.specs.Outputs.{Stops, StopsAt, most}
 use Rattle.gx_export.specs.Texts.{items_of, items_text, last_items}
 use Rattle.gx_export.specs.declared.fault.ExportFault.{ExportFault}
+use Rattle.gx_export.specs.declared.fault.ExportFault.TheVariants.{OutOfMemory, WriteFailed}
 use Rattle.gx_export.specs.declared.written.Written.{Written}
 use Rattle.gx_export.proofs.CommitLists.{commits_items}
 use Rattle.gx_export.proofs.CommitTexts.{last_is}
+use Rattle.gx_export.proofs.Writing.{items_sooner}
 
 -- before the commits
 abbrev pub first_items : List Item
@@ -42,11 +45,24 @@ parts_of h =
     (flat_map-append command_items (commit_commands [] cs ++ (last_reset cs ++ refs)) (command.Done ∷ [])
     ∙ ap (λ (is : List Item). is ++ end_items) inner ∙ parted ∙ ap (λ (is : List Item). commits_items [] cs ++ (is ++ (items_of refs ++ end_items))) (sym (last_is cs)))
 
+-- an export that stops, and not for want of memory
+stopped : (r : Records) (was now : Option Taken) (e : ExportFault) → e ≢ OutOfMemory → Stops 0 was now (items_text (all_items (history_of r))) e → Exports r was now (Err e)
+stopped r was now OutOfMemory memory h = absurd (memory refl)
+stopped r was now (WriteFailed count) memory h = subst (λ is. StopsAt 0 count was now (items_text is)) (sym (parts_of (history_of r))) h
+
+-- an export that stops among the commits
+pub stopped_at_commits : (r : Records) (n : ℕ) (was now : Option Taken) (e : ExportFault) → n ≡ 0 → Stops n was now (items_text (first_items ++ commits_items [] (reached_commits (history_of r)))) e → Exports r was now (Err e)
+stopped_at_commits r n was now OutOfMemory z h = h
+stopped_at_commits r n was now (WriteFailed count) z h =
+    let cs = reached_commits (history_of r) in
+    let rest = last_items (length (all_written cs)) ++ (refs_items (history_of r) ++ end_items) in
+    let start = subst (λ m. StopsAt m count was now (items_text (first_items ++ commits_items [] cs))) z h in
+    stopped r was now (WriteFailed count) (λ e. absurd cc) (items_sooner 0 was now (first_items ++ commits_items [] cs) rest (WriteFailed count) start)
+
 -- what goes out from the start is an export
-pub exports : {A : Type 0} (r : Records) (ws : List Value) (old new : Written A) (was now : Option Taken) (result : Result (Unit {0}) ExportFault) → old.bytes ≡ 0 → Adds r ws (all_items (history_of r)) old new was now result → Exports r was now result
-exports r ws old new was now (Ok x) z k =
+pub exports : {A : Type 0} (r : Records) (ws : List Value) (old new : Written A) (was now : Option Taken) (result : Result (Unit {0}) ExportFault) → old.bytes ≡ 0 → NeedsNoMemory result → Adds r ws (all_items (history_of r)) old new was now result → Exports r was now result
+exports r ws old new was now (Ok x) z memory k =
     let text = items_text (all_items (history_of r)) in
     let long : length text ≤ most = omega (arith, z, k.1.0, k.1.1) in
     subst (λ is. Took was now (items_text is) × (length (items_text is) ≤ most)) (sym (parts_of (history_of r))) (k.1.2, long)
-exports r ws old new was now (Err e) z k =
-    subst (λ is. Stops 0 was now (items_text is) e) (sym (parts_of (history_of r))) (subst (λ n. Stops n was now (items_text (all_items (history_of r))) e) z k)
+exports r ws old new was now (Err e) z memory k = stopped r was now e memory (subst (λ n. Stops n was now (items_text (all_items (history_of r))) e) z k)

@@ -9,7 +9,7 @@ use Rattle.gx_text.specs.Devices.{Sends, Taken, Took}
 use Rattle.gx_model.specs.Items.{Item}
 use Rattle.gx_model.specs.Export.{item_text}
 use Rattle.gx_export.specs.Texts.{items_text}
-use Rattle.gx_export.specs.Outputs.{Stops, StopsAt, Writes, most}
+use Rattle.gx_export.specs.Outputs.{Stops, StopsAfter, StopsAt, Writes, most}
 use Rattle.gx_export.specs.declared.fault.ExportFault.{ExportFault}
 use Rattle.gx_export.specs.declared.fault.ExportFault.TheVariants.{OutOfMemory, WriteFailed}
 
@@ -31,28 +31,24 @@ longer x y k = omega (arith, length-append x y)
 
 -- what stops within a text stops within a longer one
 pub stopped_sooner : (before count : ℕ) (was now : Option Taken) (a b : Bytes) → StopsAt before count was now a → StopsAt before count was now (a ++ b)
-stopped_sooner before count None now a b h = tt
-stopped_sooner before count (Some was) now a b h = (h.0, h.1 ++ b, ap (λ x. x ++ b) h.2 ∙ append_assoc h.0 h.1 b, longer h.1 b h.3, h.4, h.5)
+stopped_sooner before count was now a b h = (h.0, h.1 ++ b, ap (λ x. x ++ b) h.2 ∙ append_assoc h.0 h.1 b, longer h.1 b h.3, h.4, h.5)
 
 pub stops_sooner : (before : ℕ) (was now : Option Taken) (a b : Bytes) (e : ExportFault) → Stops before was now a e → Stops before was now (a ++ b) e
 stops_sooner before was now a b OutOfMemory h = (h.0, h.1 ++ b, ap (λ x. x ++ b) h.2 ∙ append_assoc h.0 h.1 b, h.3)
 stops_sooner before was now a b (WriteFailed count) h = stopped_sooner before count was now a b h
 
+-- a sink that failed behind what it took before failed behind both
+fails_later : (count : ℕ) (was between now : Option Taken) (a front : Bytes) → Took was between a → StopsAfter count between now front → StopsAfter count was now (a ++ front)
+fails_later count None between now a front h k = tt
+fails_later count (Some was) between now a front h k = elim (subst (λ t. StopsAfter count t now front) h k) [
+  | inl t ↦ inl (t ∙ ap (λ x. Some (record { bytes = x; failed = true })) (append_assoc was.bytes a front))
+  | inr t ↦ inr (t.0, t.1 ∙ ap (λ x. Some (record { bytes = x; failed = was.failed })) (append_assoc was.bytes a front))
+]
+
 -- what stops behind a text that was taken stops within both
 pub stopped_later : (before mid count : ℕ) (was between now : Option Taken) (a b : Bytes) → mid ≡ before + length a → Took was between a → StopsAt mid count between now b → StopsAt before count was now (a ++ b)
-stopped_later before mid count None between now a b m h k = tt
-stopped_later before mid count (Some was) between now a b m h k =
-    let e = subst (λ t. StopsAt mid count t now b) h k in (
-      a ++ e.0,
-      e.1,
-      ap (λ x. a ++ x) e.2 ∙ sym (append_assoc a e.0 e.1),
-      e.3,
-      (let l = e.4 in omega (arith, length-append a e.0)),
-      elim e.5 [
-        | inl t ↦ inl (t ∙ ap (λ x. Some (record { bytes = x; failed = true })) (append_assoc was.bytes a e.0))
-        | inr t ↦ inr (t.0, t.1 ∙ ap (λ x. Some (record { bytes = x; failed = was.failed })) (append_assoc was.bytes a e.0))
-      ],
-    )
+stopped_later before mid count was between now a b m h k =
+    (a ++ k.0, k.1, ap (λ x. a ++ x) k.2 ∙ sym (append_assoc a k.0 k.1), k.3, (let l = k.4 in omega (arith, length-append a k.0)), fails_later count was between now a k.0 h k.5)
 
 pub stops_later : (before mid : ℕ) (was between now : Option Taken) (a b : Bytes) (e : ExportFault) → mid ≡ before + length a → Took was between a → Stops mid between now b e → Stops before was now (a ++ b) e
 stops_later before mid was between now a b OutOfMemory m h k = (a ++ k.0, k.1, ap (λ x. a ++ x) k.2 ∙ sym (append_assoc a k.0 k.1), took_more was between now a k.0 h k.3)
@@ -90,9 +86,12 @@ items_sooner before was now xs ys e h = subst (λ t. Stops before was now t e) (
 -- ---- one text
 
 sent_up_to : (before n : ℕ) (was now : Option Taken) (text : Bytes) → n < length text → Sends was now text (Err n) → StopsAt before (before + n) was now text
-sent_up_to before n None now text h k = tt
-sent_up_to before n (Some was) now text h k = (take n text, drop n text, sym (take-append-drop n text), left, ap (λ m. before + m) (sym front), inl k.1)
+sent_up_to before n was now text h k = (take n text, drop n text, sym (take-append-drop n text), left, ap (λ m. before + m) (sym front), after was k)
   where
+    after : (was : Option Taken) → Sends was now text (Err n) → StopsAfter (before + n) was now (take n text)
+    after None k = tt
+    after (Some was) k = inl k.1
+
     left : 0 < length (drop n text)
     left = omega (arith, length-drop n text)
 
@@ -106,9 +105,12 @@ front_sent_up_to before n count was now text h k =
 
 -- a front of a text is sent, up to the most bytes
 pub front_sent : (before count : ℕ) (was now : Option Taken) (text : Bytes) → count < length text → before + count ≡ most → Sends was now (take count text) (Ok tt) → StopsAt before (before + count) was now text
-front_sent before count None now text h m k = tt
-front_sent before count (Some was) now text h m k = (take count text, drop count text, sym (take-append-drop count text), left, ap (λ n. before + n) (sym front), inr (m, k.0))
+front_sent before count was now text h m k = (take count text, drop count text, sym (take-append-drop count text), left, ap (λ n. before + n) (sym front), after was k)
   where
+    after : (was : Option Taken) → Sends was now (take count text) (Ok tt) → StopsAfter (before + count) was now (take count text)
+    after None k = tt
+    after (Some was) k = inr (m, k.0)
+
     left : 0 < length (drop count text)
     left = omega (arith, length-drop count text)
 

@@ -1,14 +1,25 @@
 -- What an export answers, and what it makes of the sink.
 -- Source: git-fast-export(1).
-use Rattle.std.specs.Prelude.{◌≤◌, length, Option, Result, Ok, Err}
-use Rattle.gx_model.specs.Export.{export_text}
-use Rattle.gx_model.specs.Histories.{Records}
+use Rattle.std.specs.Prelude.{◌∷◌, ◌≤◌, [], length, Option, Result, Ok, Err}
+use Rattle.gx_model.specs.declared.features.Feature.TheVariants as features
+use Rattle.gx_model.specs.Commands.{Asks}
+use Rattle.gx_model.specs.Export.{commit_commands, export_text, reached_commits}
+use Rattle.gx_model.specs.Histories.{History, Records}
 use Rattle.gx_model.specs.HistoryOf.{history_of}
-use Rattle.gx_text.specs.Devices.{Taken, Took}
-use Rattle.gx_export.specs.Outputs.{Stops, most}
+use Rattle.gx_model.specs.Texts.{Bytes}
+use Rattle.gx_text.specs.Devices.{Taken, Took, TookFront}
+use Rattle.gx_export.specs.Outputs.{StopsAt, most}
+use Rattle.gx_export.specs.Texts.{items_of, items_text}
 use Rattle.gx_export.specs.declared.fault.ExportFault.{ExportFault}
+use Rattle.gx_export.specs.declared.fault.ExportFault.TheVariants.{OutOfMemory, WriteFailed}
 
--- The sink took the text of the repository's history, and its length is at most 2^63 - 1; or the export stopped within it.
+-- an export's text up to its last commit: behind it no memory is taken
+abbrev pub commits_text : History → Bytes
+commits_text h = items_text (items_of (Asks features.Done ∷ commit_commands [] (reached_commits h)))
+
+-- The sink took the text of the repository's history, and its length is at most 2^63 - 1; or memory ran out among the
+-- commits; or the sink didn't take all of the text.
 abbrev pub Exports : Records → Option Taken → Option Taken → Result (Unit {0}) ExportFault → Type 0
 Exports repository was now (Ok _) = Took was now (export_text (history_of repository)) × (length (export_text (history_of repository)) ≤ most)
-Exports repository was now (Err fault) = Stops 0 was now (export_text (history_of repository)) fault
+Exports repository was now (Err OutOfMemory) = TookFront was now (commits_text (history_of repository))
+Exports repository was now (Err (WriteFailed count)) = StopsAt 0 count was now (export_text (history_of repository))

@@ -1,4 +1,5 @@
 pub mod Exports
+pub mod Faults
 pub mod Marks
 pub mod Outputs
 pub mod Reaching

@@ -9,17 +9,17 @@ use Rattle.gx_export.specs.declared.fault.ExportFault.TheVariants.{OutOfMemory, 
 abbrev pub most : ℕ
 most = 2 ^ 63 - 1
 
--- the sink failed after this front, or its bytes are the most
-abbrev pub StopsAfter : ℕ → Taken → Option Taken → Bytes → Type 0
-StopsAfter count was now front =
+-- the sink failed after this front, or its bytes are the most; of a sink that tells nothing, nothing is claimed
+abbrev pub StopsAfter : ℕ → Option Taken → Option Taken → Bytes → Type 0
+StopsAfter count None now front = ⊤
+StopsAfter count (Some was) now front =
     (now ≡ Some (record { bytes = was.bytes ++ front; failed = true }))
     ⊎ ((count ≡ most) × (now ≡ Some (record { bytes = was.bytes ++ front; failed = was.failed })))
 
 -- Of this text, with so many bytes before it, the sink took those up to this count, which aren't all, and failed or has the
--- most bytes; of a sink that tells nothing, nothing is claimed.
+-- most bytes. Also of a sink that tells nothing, not all bytes are counted.
 abbrev pub StopsAt : ℕ → ℕ → Option Taken → Option Taken → Bytes → Type 0
-StopsAt before count None now text = ⊤
-StopsAt before count (Some was) now text =
+StopsAt before count was now text =
     (front : Bytes) × (rest : Bytes) × (text ≡ front ++ rest) × (0 < length rest) × (count ≡ before + length front) × StopsAfter count was now front
 
 -- what an export that stops within this text leaves

@@ -7,6 +7,7 @@ ghost use Rattle.gx_model.specs.Commands.{Blob, Marked, Reset};
 ghost use Rattle.gx_model.specs.Export.{mark_text, mode_digits, optional_line, to_nothing, word_line};
 ghost use Rattle.gx_model.specs.Items.{Data};
 ghost use Rattle.gx_model.specs.Objects.{hex};
+ghost use Rattle.gx_export.specs.Faults.{NeedsNoMemory};
 ghost use Rattle.gx_export.specs.Outputs.{Writes, most};
 ghost use Rattle.gx_export.specs.Texts.{author_items, command_text, file_line, head_items, items_text, tag_command, target_items};
 
@@ -24,7 +25,8 @@ pub(crate) fn write_blob<W: Sink>(
     bytes: &[u8],
 ) -> Result<(), ExportFault>
     requires { written.old ≤ most }
-    ensures { Writes written.old written.new (W.taken sink.old) (W.taken sink.new) (command_text (Blob (record { mark = Some mark; bytes = bytes.now }))) result }
+    ensures text { Writes written.old written.new (W.taken sink.old) (W.taken sink.new) (command_text (Blob (record { mark = Some mark; bytes = bytes.now }))) result }
+    ensures memory { NeedsNoMemory result }
 {
     let mut number = Buffer::new();
     let mut length = Buffer::new();
@@ -46,7 +48,8 @@ pub(crate) fn write_blob<W: Sink>(
 /// Writes a block.
 fn write_block<W: Sink>(sink: &mut W, written: &mut u64, bytes: &[u8]) -> Result<(), ExportFault>
     requires { written.old ≤ most }
-    ensures { Writes written.old written.new (W.taken sink.old) (W.taken sink.new) (items_text (Data bytes.now ∷ [])) result }
+    ensures text { Writes written.old written.new (W.taken sink.old) (W.taken sink.new) (items_text (Data bytes.now ∷ [])) result }
+    ensures memory { NeedsNoMemory result }
 {
     let mut length = Buffer::new();
     write_all(
@@ -70,7 +73,8 @@ fn write_optional<W: Sink>(
     text: Option<&[u8]>,
 ) -> Result<(), ExportFault>
     requires { written.old ≤ most }
-    ensures { Writes written.old written.new (W.taken sink.old) (W.taken sink.new) (items_text (optional_line word.now (option_map (λ text. text.now) text.entry))) result }
+    ensures text { Writes written.old written.new (W.taken sink.old) (W.taken sink.new) (items_text (optional_line word.now (option_map (λ text. text.now) text.entry))) result }
+    ensures memory { NeedsNoMemory result }
 {
     match text {
         Some(text) => write_all(sink, written, &[word, b" ", text, b"\n"]),
@@ -86,7 +90,8 @@ pub(crate) fn write_commit_head<W: Sink>(
     commit: &CommitView<'_>,
 ) -> Result<(), ExportFault>
     requires { written.old ≤ most }
-    ensures { Writes written.old written.new (W.taken sink.old) (W.taken sink.new) (items_text (head_items mark commit.now.text)) result }
+    ensures text { Writes written.old written.new (W.taken sink.old) (W.taken sink.new) (items_text (head_items mark commit.now.text)) result }
+    ensures memory { NeedsNoMemory result }
 {
     write_authors(sink, written, mark, commit)?;
     write_optional(sink, written, b"encoding", commit.encoding())?;
@@ -101,7 +106,8 @@ fn write_authors<W: Sink>(
     commit: &CommitView<'_>,
 ) -> Result<(), ExportFault>
     requires { written.old ≤ most }
-    ensures { Writes written.old written.new (W.taken sink.old) (W.taken sink.new) (items_text (author_items mark commit.now.text)) result }
+    ensures text { Writes written.old written.new (W.taken sink.old) (W.taken sink.new) (items_text (author_items mark commit.now.text)) result }
+    ensures memory { NeedsNoMemory result }
 {
     let mut number = Buffer::new();
     write_all(
@@ -127,7 +133,8 @@ pub(crate) fn write_parent<W: Sink>(
     mark: u64,
 ) -> Result<(), ExportFault>
     requires { written.old ≤ most }
-    ensures { Writes written.old written.new (W.taken sink.old) (W.taken sink.new) (items_text (word_line word.now (mark_text mark) ∷ [])) result }
+    ensures text { Writes written.old written.new (W.taken sink.old) (W.taken sink.new) (items_text (word_line word.now (mark_text mark) ∷ [])) result }
+    ensures memory { NeedsNoMemory result }
 {
     let mut number = Buffer::new();
     write_all(
@@ -146,7 +153,8 @@ pub(crate) fn write_file<W: Sink>(
     path: &[u8],
 ) -> Result<(), ExportFault>
     requires { written.old ≤ most }
-    ensures { Writes written.old written.new (W.taken sink.old) (W.taken sink.new) (items_text (file_line mode (mark_text mark) path.now ∷ [])) result }
+    ensures text { Writes written.old written.new (W.taken sink.old) (W.taken sink.new) (items_text (file_line mode (mark_text mark) path.now ∷ [])) result }
+    ensures memory { NeedsNoMemory result }
 {
     let digits = mode_digits(mode);
     let mut number = Buffer::new();
@@ -173,7 +181,8 @@ pub(crate) fn write_gitlink<W: Sink>(
     path: &[u8],
 ) -> Result<(), ExportFault>
     requires { written.old ≤ most }
-    ensures { Writes written.old written.new (W.taken sink.old) (W.taken sink.new) (items_text (file_line Gitlink (hex name.now.bytes) path.now ∷ [])) result }
+    ensures text { Writes written.old written.new (W.taken sink.old) (W.taken sink.new) (items_text (file_line Gitlink (hex name.now.bytes) path.now ∷ [])) result }
+    ensures memory { NeedsNoMemory result }
 {
     let digits = name.hex();
     write_all(
@@ -196,7 +205,8 @@ pub(crate) fn write_reset<W: Sink>(
     name: &[u8],
 ) -> Result<(), ExportFault>
     requires { written.old ≤ most }
-    ensures { Writes written.old written.new (W.taken sink.old) (W.taken sink.new) (command_text (to_nothing name.now)) result }
+    ensures text { Writes written.old written.new (W.taken sink.old) (W.taken sink.new) (command_text (to_nothing name.now)) result }
+    ensures memory { NeedsNoMemory result }
 {
     write_all(sink, written, &[b"reset ".as_slice(), name, b"\n"])
 }
@@ -209,7 +219,8 @@ pub(crate) fn write_reset_to<W: Sink>(
     mark: u64,
 ) -> Result<(), ExportFault>
     requires { written.old ≤ most }
-    ensures { Writes written.old written.new (W.taken sink.old) (W.taken sink.new) (command_text (Reset (record { ref = name.now; parent = Some (Marked mark) }))) result }
+    ensures text { Writes written.old written.new (W.taken sink.old) (W.taken sink.new) (command_text (Reset (record { ref = name.now; parent = Some (Marked mark) }))) result }
+    ensures memory { NeedsNoMemory result }
 {
     let mut number = Buffer::new();
     write_all(
@@ -233,7 +244,8 @@ pub(crate) fn write_tag<W: Sink>(
     mark: u64,
 ) -> Result<(), ExportFault>
     requires { written.old ≤ most }
-    ensures { Writes written.old written.new (W.taken sink.old) (W.taken sink.new) (command_text (tag_command mark tag.now)) result }
+    ensures text { Writes written.old written.new (W.taken sink.old) (W.taken sink.new) (command_text (tag_command mark tag.now)) result }
+    ensures memory { NeedsNoMemory result }
 {
     write_target(sink, written, tag, mark)?;
     write_optional(sink, written, b"tagger", tag.tagger())?;
@@ -248,7 +260,8 @@ fn write_target<W: Sink>(
     mark: u64,
 ) -> Result<(), ExportFault>
     requires { written.old ≤ most }
-    ensures { Writes written.old written.new (W.taken sink.old) (W.taken sink.new) (items_text (target_items mark tag.now.name)) result }
+    ensures text { Writes written.old written.new (W.taken sink.old) (W.taken sink.new) (items_text (target_items mark tag.now.name)) result }
+    ensures memory { NeedsNoMemory result }
 {
     let mut number = Buffer::new();
     write_all(

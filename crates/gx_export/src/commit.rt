@@ -15,6 +15,7 @@ ghost use Rattle.gx_model.specs.Values.{Commit, Value, commit_value, files_of};
 ghost use Rattle.gx_rev.specs.Objects.{IsHeldAs, commit_at, value_at};
 ghost use Rattle.gx_tree.specs.Lists.{listed};
 ghost use Rattle.gx_export.specs.declared.fault.ExportFault.TheVariants.{OutOfMemory};
+ghost use Rattle.gx_export.specs.Faults.{NeedsNoMemory};
 ghost use Rattle.gx_export.specs.Marks.{Adds, ArePlaces, HasWritten};
 ghost use Rattle.gx_export.specs.Outputs.{Writes, most};
 ghost use Rattle.gx_export.specs.Texts.{change_lines, commit_lines, file_line, items_of, items_text, parent_items, root_items};
@@ -121,7 +122,8 @@ fn write_blobs<N: Namer, A: Allocator + Copy, W: Sink>(
     requires named { IsNamedMap repo.now.1.records (map listed files.now) }
     requires places { ArePlaces repo.now.1 (map listed files.now) places.now }
     requires written { (ws : List Value) × HasWritten repo.now.1 ws written.old }
-    ensures { (ws : List Value) → HasWritten repo.now.1 ws written.old → Adds repo.now.1 (with_blobs ws (contents (contents_of (named_values repo.now.1.records) (map listed files.now)))) (items_of (blob_commands ws (contents (contents_of (named_values repo.now.1.records) (map listed files.now))))) written.old written.new (W.taken sink.old) (W.taken sink.new) result }
+    ensures adds { (ws : List Value) → HasWritten repo.now.1 ws written.old → Adds repo.now.1 (with_blobs ws (contents (contents_of (named_values repo.now.1.records) (map listed files.now)))) (items_of (blob_commands ws (contents (contents_of (named_values repo.now.1.records) (map listed files.now))))) written.old written.new (W.taken sink.old) (W.taken sink.new) result }
+    ensures memory { NeedsNoMemory result }
 {
     repo.sound();
     for (number, (_, mode, name)) in files.iter().enumerate() {
@@ -143,7 +145,8 @@ fn write_blob_once<N: Namer, A: Allocator + Copy, W: Sink>(
     requires held { IsHeldAs kinds.Blob repo.now.1 name.now }
     requires place { slice_get (values_of repo.now.1) place ≡ Some (value_at repo.now.1 name.now) }
     requires written { (ws : List Value) × HasWritten repo.now.1 ws written.old }
-    ensures { (ws : List Value) → HasWritten repo.now.1 ws written.old → Adds repo.now.1 (with_blobs ws (bytes_of_blob (value_at repo.now.1 name.now) ∷ [])) (items_of (blob_commands ws (bytes_of_blob (value_at repo.now.1 name.now) ∷ []))) written.old written.new (W.taken sink.old) (W.taken sink.new) result }
+    ensures adds { (ws : List Value) → HasWritten repo.now.1 ws written.old → Adds repo.now.1 (with_blobs ws (bytes_of_blob (value_at repo.now.1 name.now) ∷ [])) (items_of (blob_commands ws (bytes_of_blob (value_at repo.now.1 name.now) ∷ []))) written.old written.new (W.taken sink.old) (W.taken sink.new) result }
+    ensures memory { NeedsNoMemory result }
 {
     repo.sound();
     if written.marks[place] > 0 {
@@ -164,7 +167,8 @@ fn write_root<W: Sink>(
     commit: &CommitView<'_>,
 ) -> Result<(), ExportFault>
     requires { written.old ≤ most }
-    ensures { Writes written.old written.new (W.taken sink.old) (W.taken sink.new) (items_text (root_items (length commit.now.parents))) result }
+    ensures text { Writes written.old written.new (W.taken sink.old) (W.taken sink.new) (items_text (root_items (length commit.now.parents))) result }
+    ensures memory { NeedsNoMemory result }
 {
     if commit.parent_count() == 0 {
         return write_reset(sink, written, b"refs/gx/export");
@@ -202,7 +206,8 @@ fn write_parents<N: Namer, A: Allocator + Copy, W: Sink>(
 ) -> Result<(), ExportFault>
     requires parents { AllByRecursion (Holds repo.now.1.records kinds.Commit) commit.now.parents }
     requires written { (ws : List Value) × HasWritten repo.now.1 ws written.old }
-    ensures { (ws : List Value) → HasWritten repo.now.1 ws written.old → Adds repo.now.1 ws (parent_items ws (map (λ name. commit_of_value (value_of_name repo.now.1.records name)) commit.now.parents)) written.old written.new (W.taken sink.old) (W.taken sink.new) result }
+    ensures adds { (ws : List Value) → HasWritten repo.now.1 ws written.old → Adds repo.now.1 ws (parent_items ws (map (λ name. commit_of_value (value_of_name repo.now.1.records name)) commit.now.parents)) written.old written.new (W.taken sink.old) (W.taken sink.new) result }
+    ensures memory { NeedsNoMemory result }
 {
     repo.sound();
     for number in 0..commit.parent_count() {
@@ -261,7 +266,8 @@ fn write_change<N: Namer, A: Allocator + Copy, W: Sink>(
     requires held { sound.IsHeldAs repo.now.1.records mode name.now.bytes }
     requires place { mode ≢ modes.Gitlink → slice_get (values_of repo.now.1) place ≡ Some (value_at repo.now.1 name.now) }
     requires written { (ws : List Value) × HasWritten repo.now.1 ws written.old }
-    ensures { (ws : List Value) → HasWritten repo.now.1 ws written.old → Adds repo.now.1 ws (file_line mode (dataref_text (dataref_in ws mode (content_of (named_values repo.now.1.records) mode name.now.bytes))) path.now ∷ []) written.old written.new (W.taken sink.old) (W.taken sink.new) result }
+    ensures adds { (ws : List Value) → HasWritten repo.now.1 ws written.old → Adds repo.now.1 ws (file_line mode (dataref_text (dataref_in ws mode (content_of (named_values repo.now.1.records) mode name.now.bytes))) path.now ∷ []) written.old written.new (W.taken sink.old) (W.taken sink.new) result }
+    ensures memory { NeedsNoMemory result }
 {
     repo.sound();
     if mode == Mode::Gitlink {

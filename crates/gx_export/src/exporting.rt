@@ -6,6 +6,7 @@ ghost use Rattle.gx_model.specs.HistoryOf.{history_of};
 ghost use Rattle.gx_model.specs.RepositoryLaws.{values_of};
 ghost use Rattle.gx_model.specs.Marks.{marks_of};
 ghost use Rattle.gx_export.specs.Exports.{Exports};
+ghost use Rattle.gx_export.specs.Faults.{NeedsNoMemory};
 ghost use Rattle.gx_export.specs.Marks.{Adds, HasWritten};
 ghost use Rattle.gx_export.specs.Outputs.{Writes, most};
 ghost use Rattle.gx_export.specs.Reaching.{is_wanted};
@@ -72,7 +73,8 @@ fn write_commits<N: Namer, A: Allocator + Copy, W: Sink>(
 /// Writes the reset behind the commits, where so many marks were given.
 fn write_last<W: Sink>(sink: &mut W, written: &mut u64, marks: u64) -> Result<(), ExportFault>
     requires { written.old ≤ most }
-    ensures { Writes written.old written.new (W.taken sink.old) (W.taken sink.new) (items_text (last_items marks)) result }
+    ensures text { Writes written.old written.new (W.taken sink.old) (W.taken sink.new) (items_text (last_items marks)) result }
+    ensures memory { NeedsNoMemory result }
 {
     if marks > 0 {
         return write_reset(sink, written, b"refs/gx/export");

@@ -4,18 +4,44 @@ ghost use Rattle.std.specs.Prelude.{◌≡◌};
 ghost use Rattle.gx_export.specs.declared.fault.ExportFault.TheVariants.{OutOfMemory};
 
 use std::alloc::AllocError;
-use thiserror::Error;
+use std::error::Error;
+use std::fmt;
 
-/// Why an export stops. Each prints its name.
-#[derive(Clone, Copy, Debug, PartialEq, Eq, Error)]
+/// Why an export stops. Each prints its word.
+#[derive(Clone, Copy, Debug, PartialEq, Eq)]
 pub enum ExportFault {
     /// A growth was refused.
-    #[error("OutOfMemory")]
     OutOfMemory,
     /// The sink took so many bytes and failed, or the text has more than 2^63 - 1, which were written.
-    #[error("WriteFailed")]
     WriteFailed { written: u64 },
 }
+
+impl ExportFault {
+    ghost use Rattle.gx_export.specs.Faults.{word};
+
+    /// The word that a fault prints, which is its name. Takes no memory.
+    pub fn word(self) -> &'static str
+        ensures { result.now ≡ word self }
+    {
+        match self {
+            ExportFault::OutOfMemory => "OutOfMemory",
+            ExportFault::WriteFailed { .. } => "WriteFailed",
+        }
+    }
+}
+
+impl fmt::Display for ExportFault {
+    ghost use Rattle.std.specs.Prelude.{Some};
+    ghost use Rattle.gx_export.specs.Faults.{word};
+
+    ghost output = { λ fault. Some (word fault) };
+
+    fn fmt<W: fmt::Write>(&self, f: &mut fmt::Formatter<W>) -> fmt::Result {
+        f.write_str(self.word())
+    }
+}
+
+impl Error for ExportFault {}
 
 impl From<AllocError> for ExportFault {
     ghost from_gives = { λ _ fault. fault ≡ OutOfMemory };

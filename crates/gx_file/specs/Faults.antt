@@ -1,6 +1,6 @@
--- The faults of store texts among those of the model, and how answers go with what the definitions give.
+-- The faults of store texts among those of the model, what they print, and how answers go with what the definitions give.
 -- Source: this project's own format.
-use Rattle.std.specs.Prelude.{◌≡◌, ◌≢◌, Result, Ok, Err, ⊤}
+use Rattle.std.specs.Prelude.{◌≡◌, ◌≢◌, codes, IfErr, Result, Ok, Err, ⊤}
 use Rattle.gx_model.specs.declared.objects.Kind.{Kind}
 use Rattle.gx_model.specs.declared.store_faults.FileFault.{FileFault as ModelFault}
 use Rattle.gx_model.specs.declared.store_faults.FileFault.TheVariants as model
@@ -30,6 +30,20 @@ fault_of BadRef = model.BadRef
 fault_of RefOrder = model.RefOrder
 fault_of TrailingBytes = model.TrailingBytes
 
+-- the word that a fault prints
+abbrev pub word : FileFault → Bytes
+word OutOfMemory = codes "OutOfMemory"
+word BadMagic = codes "BadMagic"
+word BadVersion = codes "BadVersion"
+word Truncated = codes "Truncated"
+word BadRecord = codes "BadRecord"
+word DuplicateObject = codes "DuplicateObject"
+word Dangling = codes "Dangling"
+word BadObject = codes "BadObject"
+word BadRef = codes "BadRef"
+word RefOrder = codes "RefOrder"
+word TrailingBytes = codes "TrailingBytes"
+
 -- a refusal to add a record, as one of its text
 abbrev pub of_add : AddFault → FileFault
 of_add add.OutOfMemory = OutOfMemory
@@ -53,6 +67,10 @@ IsFaultOf f given = given ≡ Err f
 abbrev pub Reads : {X Y : Type 0} → (X → Y) → Result X FileFault → Stored Y → Type 0
 Reads view (Ok x) given = given ≡ Ok (view x)
 Reads view (Err e) given = IsFaultOf (fault_of e) given
+
+-- an answer for which no memory is taken: want of it is none of its faults
+abbrev pub NeedsNoMemory : {X : Type 0} → Result X FileFault → Type 0
+NeedsNoMemory answer = IfErr answer (λ fault. fault ≢ OutOfMemory)
 
 -- no sound repository has this text
 abbrev pub IsNoStoreText : (Kind → Bytes → Bytes) → Bytes → Type 0

@@ -2,45 +2,72 @@
 
 use gx_repo::{AddFault, PublishFault};
 use std::alloc::AllocFailed;
-use thiserror::Error;
+use std::error::Error;
+use std::fmt;
 
-/// Why a store text is refused: the first fault from the front.
-#[derive(Clone, Copy, Debug, Error, PartialEq, Eq)]
+/// Why a store text is refused: the first fault from the front. Each prints its word.
+#[derive(Clone, Copy, Debug, PartialEq, Eq)]
 pub enum FileFault {
     /// A growth was refused.
-    #[error("OutOfMemory")]
     OutOfMemory,
     /// The first line doesn't begin with `gxstore` and a space.
-    #[error("BadMagic")]
     BadMagic,
     /// The version isn't 1.
-    #[error("BadVersion")]
     BadVersion,
     /// The text ends inside a line, or inside a body with its LF.
-    #[error("Truncated")]
     Truncated,
     /// A line `objects`, `refs` or `end`, or that of a record, isn't as written, or a body has no LF behind it.
-    #[error("BadRecord")]
     BadRecord,
     /// A record's name is that of an earlier one.
-    #[error("DuplicateObject")]
     DuplicateObject,
     /// A record links to one that doesn't stand before it, or that is of another kind.
-    #[error("Dangling")]
     Dangling,
     /// A record's body isn't a canonical one of its kind, or what is below a tree isn't allowed.
-    #[error("BadObject")]
     BadObject,
     /// A ref's line isn't as written, or the ref may not hold its object.
-    #[error("BadRef")]
     BadRef,
     /// A ref's name isn't greater than the one before.
-    #[error("RefOrder")]
     RefOrder,
     /// Bytes follow the last line.
-    #[error("TrailingBytes")]
     TrailingBytes,
 }
+
+impl FileFault {
+    ghost use Rattle.std.specs.Prelude.{◌≡◌};
+    ghost use Rattle.gx_file.specs.Faults.{word};
+
+    /// The word that a fault prints, which is its name. Takes no memory.
+    pub fn word(self) -> &'static str
+        ensures { result.now ≡ word self }
+    {
+        match self {
+            FileFault::OutOfMemory => "OutOfMemory",
+            FileFault::BadMagic => "BadMagic",
+            FileFault::BadVersion => "BadVersion",
+            FileFault::Truncated => "Truncated",
+            FileFault::BadRecord => "BadRecord",
+            FileFault::DuplicateObject => "DuplicateObject",
+            FileFault::Dangling => "Dangling",
+            FileFault::BadObject => "BadObject",
+            FileFault::BadRef => "BadRef",
+            FileFault::RefOrder => "RefOrder",
+            FileFault::TrailingBytes => "TrailingBytes",
+        }
+    }
+}
+
+impl fmt::Display for FileFault {
+    ghost use Rattle.std.specs.Prelude.{Some};
+    ghost use Rattle.gx_file.specs.Faults.{word};
+
+    ghost output = { λ fault. Some (word fault) };
+
+    fn fmt<W: fmt::Write>(&self, f: &mut fmt::Formatter<W>) -> fmt::Result {
+        f.write_str(self.word())
+    }
+}
+
+impl Error for FileFault {}
 
 impl From<AddFault> for FileFault {
     ghost use Rattle.std.specs.Prelude.{◌≡◌};

@@ -2,7 +2,7 @@
 ghost use Rattle.std.specs.Prelude.{◌≡◌, codes};
 ghost use Rattle.std.specs.Option.{option_and_then, option_map};
 ghost use Rattle.gx_model.specs.StoreReading.{after_magic, after_word, stored_count, stored_end, stored_line, stored_number};
-ghost use Rattle.gx_file.specs.Faults.{Reads};
+ghost use Rattle.gx_file.specs.Faults.{NeedsNoMemory, Reads};
 ghost use Rattle.gx_file.specs.Texts.{shown_count, shown_pair};
 
 use crate::FileFault;
@@ -10,7 +10,8 @@ use gx_text::{cut, decimal};
 
 /// The first line without its LF, and what follows it.
 pub(crate) fn read_line(text: &[u8]) -> Result<(&[u8], &[u8]), FileFault>
-    ensures { Reads shown_pair result (stored_line text.now) }
+    ensures line { Reads shown_pair result (stored_line text.now) }
+    ensures memory { NeedsNoMemory result }
 {
     cut(text, b'\n').ok_or(FileFault::Truncated)
 }
@@ -34,7 +35,8 @@ pub(crate) fn read_number(text: &[u8]) -> Option<u64>
 
 /// What follows the first line, which tells what the text is and its version.
 pub(crate) fn read_magic(text: &[u8]) -> Result<&[u8], FileFault>
-    ensures { Reads (λ rest. rest.now) result (after_magic text.now) }
+    ensures rest { Reads (λ rest. rest.now) result (after_magic text.now) }
+    ensures memory { NeedsNoMemory result }
 {
     let (line, rest) = read_line(text)?;
     let Some(version) = after_word(b"gxstore", line) else {
@@ -49,7 +51,8 @@ pub(crate) fn read_magic(text: &[u8]) -> Result<&[u8], FileFault>
 
 /// The number in a line that begins with this word, and what follows the line.
 pub(crate) fn read_count<'a>(word: &[u8], text: &'a [u8]) -> Result<(u64, &'a [u8]), FileFault>
-    ensures { Reads shown_count result (stored_count word.now text.now) }
+    ensures count { Reads shown_count result (stored_count word.now text.now) }
+    ensures memory { NeedsNoMemory result }
 {
     let (line, rest) = read_line(text)?;
     let Some(count) = number_after(word, line) else {
@@ -67,7 +70,8 @@ fn number_after(word: &[u8], line: &[u8]) -> Option<u64>
 
 /// The last line, and nothing behind it.
 pub(crate) fn read_end(text: &[u8]) -> Result<(), FileFault>
-    ensures { Reads (λ done. done) result (stored_end text.now) }
+    ensures end { Reads (λ done. done) result (stored_end text.now) }
+    ensures memory { NeedsNoMemory result }
 {
     let (line, rest) = read_line(text)?;
     if line != b"end".as_slice() {

@@ -3,7 +3,7 @@ ghost use Rattle.std.specs.Prelude.{◌≡◌};
 ghost use Rattle.std.specs.Map.{lookup};
 ghost use Rattle.gx_model.specs.Texts.{same_bytes};
 ghost use Rattle.gx_model.specs.StoreReading.{kind_words, next_record, next_records, record_line, stored_body};
-ghost use Rattle.gx_file.specs.Faults.{Reads};
+ghost use Rattle.gx_file.specs.Faults.{NeedsNoMemory, Reads};
 ghost use Rattle.gx_file.specs.Texts.{shown_pair};
 
 use crate::FileFault;
@@ -76,7 +76,8 @@ fn kind_named(word: &[u8]) -> Option<Kind>
 
 /// So many bytes, and what follows the LF behind them.
 fn read_body(length: u64, text: &[u8]) -> Result<(&[u8], &[u8]), FileFault>
-    ensures { Reads shown_pair result (stored_body length text.now) }
+    ensures body { Reads shown_pair result (stored_body length text.now) }
+    ensures memory { NeedsNoMemory result }
 {
     if length >= text.len() as u64 {
         return Err(FileFault::Truncated);

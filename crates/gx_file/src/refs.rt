@@ -3,7 +3,7 @@ ghost use Rattle.std.specs.Prelude.{◌≡◌, [], None, map};
 ghost use Rattle.std.specs.Option.{option_map};
 ghost use Rattle.gx_model.specs.StoreReading.{is_after, next_refs, ref_line};
 ghost use Rattle.gx_repo.specs.Refs.{asked};
-ghost use Rattle.gx_file.specs.Faults.{Reads};
+ghost use Rattle.gx_file.specs.Faults.{NeedsNoMemory, Reads};
 ghost use Rattle.gx_file.specs.Gathering.{Gathers, first_ref, gathered, shown_change};
 
 use crate::FileFault;
@@ -60,7 +60,8 @@ fn gather<'a, A: Allocator + Copy>(
 /// The change that sets the ref in the first line, and what follows the line.
 #[tactic(auto, unfolding(crate::specs::Gathering::first_ref))]
 fn read_ref(text: &[u8]) -> Result<(RefChange<'_>, &[u8]), FileFault>
-    ensures { Reads shown_change result (first_ref text.now) }
+    ensures change { Reads shown_change result (first_ref text.now) }
+    ensures memory { NeedsNoMemory result }
 {
     let (line, rest) = read_line(text)?;
     let Some((name, target)) = ref_line(line) else {

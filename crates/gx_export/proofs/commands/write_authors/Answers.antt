@@ -19,8 +19,8 @@ author_text mark text =
     let author = ended (decimal mark) (codes "author " ++ ((text.author ++ 10 ∷ []) ++ (codes "committer " ++ ((text.committer ++ 10 ∷ []) ++ [])))) ∙ ap (λ (x : Bytes). decimal mark ++ (10 ∷ (codes "author " ++ x))) committer in
     ap (λ (x : Bytes). codes "commit refs/gx/export" ++ (10 ∷ (codes "mark :" ++ x))) (sym author)
 
-pub returns : goal.returns
-returns g c =
+pub returns-clause-text : goal.returns-clause-text
+returns-clause-text g c =
     let taken = g.W.Sink.taken in
-    let done = rw (c.as_slice.ensures, c.as_bytes.ensures.value, c.format.ensures.text, c.author.ensures, c.committer.ensures) at c.write_all.ensures in
+    let done = rw (c.as_slice.ensures, c.as_bytes.ensures.value, c.format.ensures.text, c.author.ensures, c.committer.ensures) at c.write_all.ensures.text in
     subst (λ t. Writes c.args.written.now c.write_all.new.written (taken c.args.sink.now) (taken c.write_all.new.sink) t c.write_all.result) (author_text c.args.mark c.args.commit.now.text) done

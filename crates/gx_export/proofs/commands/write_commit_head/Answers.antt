@@ -6,26 +6,26 @@ use Rattle.gx_export.specs.Texts.{author_items}
 use Rattle.gx_export.proofs.Writing.{items_later, items_sooner}
 use Rattle.gx_export.proofs.commands.write_commit_head.Goals as goal
 
-pub returns-in_err-write_authors : goal.returns-in_err-write_authors
-returns-in_err-write_authors g c =
+pub returns-in_err-write_authors-clause-text : goal.returns-in_err-write_authors-clause-text
+returns-in_err-write_authors-clause-text g c =
     let p = err_from_is_err_and c.from_residual.result c.from_residual.ensures.1 in
     let taken = g.W.Sink.taken in
-    rw (p.1, p.2) (items_sooner c.args.written.now (taken c.args.sink.now) (taken c.write_authors.new.sink) (author_items c.args.mark c.args.commit.now.text) (optional_line (codes "encoding") c.args.commit.now.text.encoding ++ Data c.args.commit.now.text.message ∷ []) c.in_err-write_authors.field-0.0 c.in_err-write_authors.ensures)
+    rw (p.1, p.2) (items_sooner c.args.written.now (taken c.args.sink.now) (taken c.write_authors.new.sink) (author_items c.args.mark c.args.commit.now.text) (optional_line (codes "encoding") c.args.commit.now.text.encoding ++ Data c.args.commit.now.text.message ∷ []) c.in_err-write_authors.field-0.0 c.in_err-write_authors.ensures.text)
 
-pub returns-in_err-write_optional : goal.returns-in_err-write_optional
-returns-in_err-write_optional g c =
+pub returns-in_err-write_optional-clause-text : goal.returns-in_err-write_optional-clause-text
+returns-in_err-write_optional-clause-text g c =
     let p = err_from_is_err_and c.from_residual-in_err-write_optional.result c.from_residual-in_err-write_optional.ensures.1 in
     let taken = g.W.Sink.taken in
     let line = optional_line (codes "encoding") c.args.commit.now.text.encoding in
-    let stop = rw c.encoding.ensures at c.in_err-write_optional.ensures in
-    rw (p.1, p.2) (items_later c.args.written.now c.write_authors.new.written c.write_optional.new.written (taken c.args.sink.now) (taken c.write_authors.new.sink) (taken c.write_optional.new.sink) (author_items c.args.mark c.args.commit.now.text) (line ++ Data c.args.commit.now.text.message ∷ []) (Err c.in_err-write_optional.field-0.0) c.in_ok-write_authors.ensures
+    let stop = rw c.encoding.ensures at c.in_err-write_optional.ensures.text in
+    rw (p.1, p.2) (items_later c.args.written.now c.write_authors.new.written c.write_optional.new.written (taken c.args.sink.now) (taken c.write_authors.new.sink) (taken c.write_optional.new.sink) (author_items c.args.mark c.args.commit.now.text) (line ++ Data c.args.commit.now.text.message ∷ []) (Err c.in_err-write_optional.field-0.0) c.in_ok-write_authors.ensures.text
     (items_sooner c.write_authors.new.written (taken c.write_authors.new.sink) (taken c.write_optional.new.sink) line (Data c.args.commit.now.text.message ∷ []) c.in_err-write_optional.field-0.0 stop))
 
-pub returns : goal.returns
-returns g c =
+pub returns-clause-text : goal.returns-clause-text
+returns-clause-text g c =
     let taken = g.W.Sink.taken in
     let line = optional_line (codes "encoding") c.args.commit.now.text.encoding in
-    let done = rw c.encoding.ensures at c.in_ok-write_optional.ensures in
-    let last = rw c.message.ensures at c.write_block.ensures in
-    items_later c.args.written.now c.write_authors.new.written c.write_block.new.written (taken c.args.sink.now) (taken c.write_authors.new.sink) (taken c.write_block.new.sink) (author_items c.args.mark c.args.commit.now.text) (line ++ Data c.args.commit.now.text.message ∷ []) c.write_block.result c.in_ok-write_authors.ensures
+    let done = rw c.encoding.ensures at c.in_ok-write_optional.ensures.text in
+    let last = rw c.message.ensures at c.write_block.ensures.text in
+    items_later c.args.written.now c.write_authors.new.written c.write_block.new.written (taken c.args.sink.now) (taken c.write_authors.new.sink) (taken c.write_block.new.sink) (author_items c.args.mark c.args.commit.now.text) (line ++ Data c.args.commit.now.text.message ∷ []) c.write_block.result c.in_ok-write_authors.ensures.text
     (items_later c.write_authors.new.written c.write_optional.new.written c.write_block.new.written (taken c.write_authors.new.sink) (taken c.write_optional.new.sink) (taken c.write_block.new.sink) line (Data c.args.commit.now.text.message ∷ []) c.write_block.result done last)

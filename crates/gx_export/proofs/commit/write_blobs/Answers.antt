@@ -50,8 +50,8 @@ write_blob_once-requires-clause-place g c =
 pub write_blob_once-requires-clause-written : goal.write_blob_once-requires-clause-written
 write_blob_once-requires-clause-written g c = (_, (c.loop-number.invariant c.requires.written.0 c.requires.written.1).0)
 
-pub returns-in_err-write_blob_once : goal.returns-in_err-write_blob_once
-returns-in_err-write_blob_once g c = λ ws h.
+pub returns-in_err-write_blob_once-clause-adds : goal.returns-in_err-write_blob_once-clause-adds
+returns-in_err-write_blob_once-clause-adds g c = λ ws h.
     let r = c.args.repo.now.1 in
     let named = named_values r.records in
     let taken = g.W.Sink.taken in
@@ -66,7 +66,7 @@ returns-in_err-write_blob_once g c = λ ws h.
     let one = one_bytes named item.0 item.1 item.2.bytes other in
     let all = ap (bytes_named named) parts ∙ bytes_append named before (listed item ∷ rest) ∙ ap (λ b. bytes ++ b) (bytes_append named (listed item ∷ []) rest ∙ ap (λ b. b ++ bytes_named named rest) one) ∙ sym (append_assoc bytes (x ∷ []) (bytes_named named rest)) in
     let i = c.loop-number.invariant ws h in
-    let stop = next_blobs r ws bytes (x ∷ []) c.args.written.now c.loop-number.written c.loop-number.written (taken c.args.sink.now) (taken c.loop-number.sink) (taken c.write_blob_once.new.sink) (Err c.in_err-write_blob_once.field-0.0) i (c.in_err-write_blob_once.ensures (with_blobs ws bytes) i.0) in
+    let stop = next_blobs r ws bytes (x ∷ []) c.args.written.now c.loop-number.written c.loop-number.written (taken c.args.sink.now) (taken c.loop-number.sink) (taken c.write_blob_once.new.sink) (Err c.in_err-write_blob_once.field-0.0) i (c.in_err-write_blob_once.ensures.adds (with_blobs ws bytes) i.0) in
     rw (p.1, p.2) (subst (λ b. Stops c.args.written.now.bytes (taken c.args.sink.now) (taken c.write_blob_once.new.sink) (items_text (items_of (blob_commands ws b))) c.in_err-write_blob_once.field-0.0) (sym all)
     (blobs_sooner c.args.written.now.bytes (taken c.args.sink.now) (taken c.write_blob_once.new.sink) ws (bytes ++ x ∷ []) (bytes_named named rest) c.in_err-write_blob_once.field-0.0 stop))
 
@@ -86,15 +86,15 @@ loop-number-preserved g c =
           let all = next ∙ ap (λ b. bytes ++ b) (one_bytes named item.0 item.1 item.2.bytes other) in
           let i = c.loop-number.invariant ws h in
           rw (w.written-is, w.sink-is) (subst (λ b. Adds r (with_blobs ws b) (items_of (blob_commands ws b)) c.args.written.now w.write_blob_once.new.written (taken c.args.sink.now) (taken w.write_blob_once.new.sink) (Ok tt)) (sym all)
-          (next_blobs r ws bytes (x ∷ []) c.args.written.now c.loop-number.written w.write_blob_once.new.written (taken c.args.sink.now) (taken c.loop-number.sink) (taken w.write_blob_once.new.sink) (Ok tt) i (w.in_ok-write_blob_once.ensures (with_blobs ws bytes) i.0)))
+          (next_blobs r ws bytes (x ∷ []) c.args.written.now c.loop-number.written w.write_blob_once.new.written (taken c.args.sink.now) (taken c.loop-number.sink) (taken w.write_blob_once.new.sink) (Ok tt) i (w.in_ok-write_blob_once.ensures.adds (with_blobs ws bytes) i.0)))
       | else-ne w ↦ λ ws h.
           let link : item.1 ≡ Gitlink = same_true the_type (search rules) _ _ (denied _ w.if-ne.ensures) in
           let all = next ∙ ap (λ b. bytes ++ b) (no_bytes named item.0 item.1 item.2.bytes link) ∙ append-nil bytes in
           rw (w.written-is, w.sink-is) (subst (λ b. Adds r (with_blobs ws b) (items_of (blob_commands ws b)) c.args.written.now c.loop-number.written (taken c.args.sink.now) (taken c.loop-number.sink) (Ok tt)) (sym all) (c.loop-number.invariant ws h))
     ]
 
-pub returns : goal.returns
-returns g c = λ ws h.
+pub returns-clause-adds : goal.returns-clause-adds
+returns-clause-adds g c = λ ws h.
     let r = c.args.repo.now.1 in
     let named = named_values r.records in
     let taken = g.W.Sink.taken in

@@ -84,12 +84,12 @@ returns-in_err-write_blobs g c = λ made ws e h.
     let all = sym (one_commit_parts ws made) in
     let p = err_from_is_err_and c.from_residual-in_err-write_blobs.result c.from_residual-in_err-write_blobs.ensures.1 in
     let fault = c.in_err-write_blobs.field-0.0 in
-    let stop = subst (λ f. Stops c.args.written.now.bytes (taken c.args.sink.now) (taken c.write_blobs.new.sink) (items_text (items_of (blob_commands ws (contents f)))) fault) s.files (c.in_err-write_blobs.ensures ws h) in
+    let stop = subst (λ f. Stops c.args.written.now.bytes (taken c.args.sink.now) (taken c.write_blobs.new.sink) (items_text (items_of (blob_commands ws (contents f)))) fault) s.files (c.in_err-write_blobs.ensures.adds ws h) in
     rw (p.1, p.2) (subst (λ is. Stops c.args.written.now.bytes (taken c.args.sink.now) (taken c.write_blobs.new.sink) (items_text is) fault) all
     (items_sooner c.args.written.now.bytes (taken c.args.sink.now) (taken c.write_blobs.new.sink) before (root_items (length ps) ++ lines) fault stop))
 
 pub write_root-requires : goal.write_root-requires
-write_root-requires g c = let h = c.requires.written.1 in (c.in_ok-write_blobs.ensures c.requires.written.0 h).0.most
+write_root-requires g c = let h = c.requires.written.1 in (c.in_ok-write_blobs.ensures.adds c.requires.written.0 h).0.most
 
 pub returns-in_err-write_root : goal.returns-in_err-write_root
 returns-in_err-write_root g c = λ made ws e h.
@@ -104,10 +104,10 @@ returns-in_err-write_root g c = λ made ws e h.
     let lines = commit_lines (with_blobs ws (contents (files_of made))) (text_of made) ps (files_of made) in
     let all = sym (one_commit_parts ws made) in
     let us = with_blobs ws (contents (files_of made)) in
-    let blobs = subst (λ f. Adds r (with_blobs ws (contents f)) (items_of (blob_commands ws (contents f))) c.args.written.now c.write_blobs.new.written (taken c.args.sink.now) (taken c.write_blobs.new.sink) (Ok tt)) s.files (c.in_ok-write_blobs.ensures ws h) in
+    let blobs = subst (λ f. Adds r (with_blobs ws (contents f)) (items_of (blob_commands ws (contents f))) c.args.written.now c.write_blobs.new.written (taken c.args.sink.now) (taken c.write_blobs.new.sink) (Ok tt)) s.files (c.in_ok-write_blobs.ensures.adds ws h) in
     let p = err_from_is_err_and c.from_residual-in_err-write_root.result c.from_residual-in_err-write_root.ensures.1 in
     let fault = c.in_err-write_root.field-0.0 in
-    let stop = subst (λ n. Stops c.write_blobs.new.written.bytes (taken c.write_blobs.new.sink) (taken c.write_root.new.sink) (items_text (root_items n)) fault) s.count c.in_err-write_root.ensures in
+    let stop = subst (λ n. Stops c.write_blobs.new.written.bytes (taken c.write_blobs.new.sink) (taken c.write_root.new.sink) (items_text (root_items n)) fault) s.count c.in_err-write_root.ensures.text in
     let later = adds_later r us us before (root_items (length ps) ++ lines) c.args.written.now c.write_blobs.new.written c.write_blobs.new.written (taken c.args.sink.now) (taken c.write_blobs.new.sink) (taken c.write_root.new.sink) (Err fault) blobs
     (items_sooner c.write_blobs.new.written.bytes (taken c.write_blobs.new.sink) (taken c.write_root.new.sink) (root_items (length ps)) lines fault stop) in
     rw (p.1, p.2) (subst (λ is. Stops c.args.written.now.bytes (taken c.args.sink.now) (taken c.write_root.new.sink) (items_text is) fault) all later)
@@ -151,9 +151,9 @@ write_lines-requires-clause-written g c =
     let files_are = ap (map listed) c.deref-2.ensures.value ∙ c.in_ok-files.ensures.files in
     let s = shown_as name namer r c.sound.ensures c.args.place made c.name_at-commit.result.bytes c.view_of-view.result (map listed c.deref-2.result.now) e c.name_at-commit.ensures.value c.view_of-view.ensures files_are in
     let us = with_blobs ws (contents (files_of made)) in
-    let blobs = subst (λ f. Adds r (with_blobs ws (contents f)) (items_of (blob_commands ws (contents f))) c.args.written.now c.write_blobs.new.written (taken c.args.sink.now) (taken c.write_blobs.new.sink) (Ok tt)) s.files (c.in_ok-write_blobs.ensures ws h) in
+    let blobs = subst (λ f. Adds r (with_blobs ws (contents f)) (items_of (blob_commands ws (contents f))) c.args.written.now c.write_blobs.new.written (taken c.args.sink.now) (taken c.write_blobs.new.sink) (Ok tt)) s.files (c.in_ok-write_blobs.ensures.adds ws h) in
     let mid = record c.write_blobs.new.written { bytes = c.write_root.new.written } in
-    let reset = subst (λ n. Writes c.write_blobs.new.written.bytes c.write_root.new.written (taken c.write_blobs.new.sink) (taken c.write_root.new.sink) (items_text (root_items n)) (Ok tt)) s.count c.in_ok-write_root.ensures in
+    let reset = subst (λ n. Writes c.write_blobs.new.written.bytes c.write_root.new.written (taken c.write_blobs.new.sink) (taken c.write_root.new.sink) (items_text (root_items n)) (Ok tt)) s.count c.in_ok-write_root.ensures.text in
     let root = adds_bytes r us (root_items (length (list_of (parents_of made)))) c.write_blobs.new.written mid (taken c.write_blobs.new.sink) (taken c.write_root.new.sink) (Ok tt) blobs.0 (λ _. c.write_blobs.new.written.count) (λ _. c.write_blobs.new.written.marks.items) reset in
     (us, root.0)
 
@@ -170,9 +170,9 @@ returns-in_err-write_lines g c = λ made ws e h.
     let lines = commit_lines (with_blobs ws (contents (files_of made))) (text_of made) ps (files_of made) in
     let all = sym (one_commit_parts ws made) in
     let us = with_blobs ws (contents (files_of made)) in
-    let blobs = subst (λ f. Adds r (with_blobs ws (contents f)) (items_of (blob_commands ws (contents f))) c.args.written.now c.write_blobs.new.written (taken c.args.sink.now) (taken c.write_blobs.new.sink) (Ok tt)) s.files (c.in_ok-write_blobs.ensures ws h) in
+    let blobs = subst (λ f. Adds r (with_blobs ws (contents f)) (items_of (blob_commands ws (contents f))) c.args.written.now c.write_blobs.new.written (taken c.args.sink.now) (taken c.write_blobs.new.sink) (Ok tt)) s.files (c.in_ok-write_blobs.ensures.adds ws h) in
     let mid = record c.write_blobs.new.written { bytes = c.write_root.new.written } in
-    let reset = subst (λ n. Writes c.write_blobs.new.written.bytes c.write_root.new.written (taken c.write_blobs.new.sink) (taken c.write_root.new.sink) (items_text (root_items n)) (Ok tt)) s.count c.in_ok-write_root.ensures in
+    let reset = subst (λ n. Writes c.write_blobs.new.written.bytes c.write_root.new.written (taken c.write_blobs.new.sink) (taken c.write_root.new.sink) (items_text (root_items n)) (Ok tt)) s.count c.in_ok-write_root.ensures.text in
     let root = adds_bytes r us (root_items (length (list_of (parents_of made)))) c.write_blobs.new.written mid (taken c.write_blobs.new.sink) (taken c.write_root.new.sink) (Ok tt) blobs.0 (λ _. c.write_blobs.new.written.count) (λ _. c.write_blobs.new.written.marks.items) reset in
     let p = err_from_is_err_and c.from_residual-in_err-write_lines.result c.from_residual-in_err-write_lines.ensures.1 in
     let fault = c.in_err-write_lines.field-0.0 in
@@ -197,9 +197,9 @@ mark-requires-clause-place g c =
     let files_are = ap (map listed) c.deref-2.ensures.value ∙ c.in_ok-files.ensures.files in
     let s = shown_as name namer r c.sound.ensures c.args.place made c.name_at-commit.result.bytes c.view_of-view.result (map listed c.deref-2.result.now) e c.name_at-commit.ensures.value c.view_of-view.ensures files_are in
     let us = with_blobs ws (contents (files_of made)) in
-    let blobs = subst (λ f. Adds r (with_blobs ws (contents f)) (items_of (blob_commands ws (contents f))) c.args.written.now c.write_blobs.new.written (taken c.args.sink.now) (taken c.write_blobs.new.sink) (Ok tt)) s.files (c.in_ok-write_blobs.ensures ws h) in
+    let blobs = subst (λ f. Adds r (with_blobs ws (contents f)) (items_of (blob_commands ws (contents f))) c.args.written.now c.write_blobs.new.written (taken c.args.sink.now) (taken c.write_blobs.new.sink) (Ok tt)) s.files (c.in_ok-write_blobs.ensures.adds ws h) in
     let mid = record c.write_blobs.new.written { bytes = c.write_root.new.written } in
-    let reset = subst (λ n. Writes c.write_blobs.new.written.bytes c.write_root.new.written (taken c.write_blobs.new.sink) (taken c.write_root.new.sink) (items_text (root_items n)) (Ok tt)) s.count c.in_ok-write_root.ensures in
+    let reset = subst (λ n. Writes c.write_blobs.new.written.bytes c.write_root.new.written (taken c.write_blobs.new.sink) (taken c.write_root.new.sink) (items_text (root_items n)) (Ok tt)) s.count c.in_ok-write_root.ensures.text in
     let root = adds_bytes r us (root_items (length (list_of (parents_of made)))) c.write_blobs.new.written mid (taken c.write_blobs.new.sink) (taken c.write_root.new.sink) (Ok tt) blobs.0 (λ _. c.write_blobs.new.written.count) (λ _. c.write_blobs.new.written.marks.items) reset in
     let k = (c.in_ok-write_lines.ensures us root.0).0 in
     place_marked name namer r c.sound.ensures us c.write_lines.new.written.marks.items (commit_value made) c.args.place k.marks e
@@ -217,9 +217,9 @@ mark-requires-clause-room g c =
     let files_are = ap (map listed) c.deref-2.ensures.value ∙ c.in_ok-files.ensures.files in
     let s = shown_as name namer r c.sound.ensures c.args.place made c.name_at-commit.result.bytes c.view_of-view.result (map listed c.deref-2.result.now) e c.name_at-commit.ensures.value c.view_of-view.ensures files_are in
     let us = with_blobs ws (contents (files_of made)) in
-    let blobs = subst (λ f. Adds r (with_blobs ws (contents f)) (items_of (blob_commands ws (contents f))) c.args.written.now c.write_blobs.new.written (taken c.args.sink.now) (taken c.write_blobs.new.sink) (Ok tt)) s.files (c.in_ok-write_blobs.ensures ws h) in
+    let blobs = subst (λ f. Adds r (with_blobs ws (contents f)) (items_of (blob_commands ws (contents f))) c.args.written.now c.write_blobs.new.written (taken c.args.sink.now) (taken c.write_blobs.new.sink) (Ok tt)) s.files (c.in_ok-write_blobs.ensures.adds ws h) in
     let mid = record c.write_blobs.new.written { bytes = c.write_root.new.written } in
-    let reset = subst (λ n. Writes c.write_blobs.new.written.bytes c.write_root.new.written (taken c.write_blobs.new.sink) (taken c.write_root.new.sink) (items_text (root_items n)) (Ok tt)) s.count c.in_ok-write_root.ensures in
+    let reset = subst (λ n. Writes c.write_blobs.new.written.bytes c.write_root.new.written (taken c.write_blobs.new.sink) (taken c.write_root.new.sink) (items_text (root_items n)) (Ok tt)) s.count c.in_ok-write_root.ensures.text in
     let root = adds_bytes r us (root_items (length (list_of (parents_of made)))) c.write_blobs.new.written mid (taken c.write_blobs.new.sink) (taken c.write_root.new.sink) (Ok tt) blobs.0 (λ _. c.write_blobs.new.written.count) (λ _. c.write_blobs.new.written.marks.items) reset in
     let k = (c.in_ok-write_lines.ensures us root.0).0 in
     let a = k.each in
@@ -239,9 +239,9 @@ returns g c = λ made ws e h.
     let lines = commit_lines (with_blobs ws (contents (files_of made))) (text_of made) ps (files_of made) in
     let all = sym (one_commit_parts ws made) in
     let us = with_blobs ws (contents (files_of made)) in
-    let blobs = subst (λ f. Adds r (with_blobs ws (contents f)) (items_of (blob_commands ws (contents f))) c.args.written.now c.write_blobs.new.written (taken c.args.sink.now) (taken c.write_blobs.new.sink) (Ok tt)) s.files (c.in_ok-write_blobs.ensures ws h) in
+    let blobs = subst (λ f. Adds r (with_blobs ws (contents f)) (items_of (blob_commands ws (contents f))) c.args.written.now c.write_blobs.new.written (taken c.args.sink.now) (taken c.write_blobs.new.sink) (Ok tt)) s.files (c.in_ok-write_blobs.ensures.adds ws h) in
     let mid = record c.write_blobs.new.written { bytes = c.write_root.new.written } in
-    let reset = subst (λ n. Writes c.write_blobs.new.written.bytes c.write_root.new.written (taken c.write_blobs.new.sink) (taken c.write_root.new.sink) (items_text (root_items n)) (Ok tt)) s.count c.in_ok-write_root.ensures in
+    let reset = subst (λ n. Writes c.write_blobs.new.written.bytes c.write_root.new.written (taken c.write_blobs.new.sink) (taken c.write_root.new.sink) (items_text (root_items n)) (Ok tt)) s.count c.in_ok-write_root.ensures.text in
     let root = adds_bytes r us (root_items (length (list_of (parents_of made)))) c.write_blobs.new.written mid (taken c.write_blobs.new.sink) (taken c.write_root.new.sink) (Ok tt) blobs.0 (λ _. c.write_blobs.new.written.count) (λ _. c.write_blobs.new.written.marks.items) reset in
     let listed_so = ap (map listed) c.deref-4.ensures.value ∙ c.in_ok-files.ensures.files in
     let shown = shown_as name namer r c.sound.ensures c.args.place made c.name_at-commit.result.bytes c.view_of-view.result (map listed c.deref-4.result.now) e c.name_at-commit.ensures.value c.view_of-view.ensures listed_so in

@@ -27,7 +27,7 @@ returns-in_err-write g c = λ ws h.
     let taken = g.W.Sink.taken in
     let p = err_from_is_err_and c.from_residual.result c.from_residual.ensures.1 in
     let rest = file_items ws (contents_of (named_values c.args.repo.now.1.records) (map listed c.args.files.now)) ++ Line [] ∷ [] in
-    rw (p.1, p.2) (items_sooner c.args.written.now.bytes (taken c.args.sink.now) (taken c.write.new.sink) (Line (codes "deleteall") ∷ []) rest c.in_err-write.field-0.0 c.in_err-write.ensures)
+    rw (p.1, p.2) (items_sooner c.args.written.now.bytes (taken c.args.sink.now) (taken c.write.new.sink) (Line (codes "deleteall") ∷ []) rest c.in_err-write.field-0.0 c.in_err-write.ensures.text)
 
 pub write_change-requires-clause-file : goal.write_change-requires-clause-file
 write_change-requires-clause-file g c =
@@ -96,7 +96,7 @@ returns-in_err-write_change g c = λ ws h.
     let path = c.deref.ensures.value ∙ c.in-Ok.ensures.printed ∙ ap (λ x. x ++ printed (path_text item.0)) c.new-printed.ensures.items in
     let p = err_from_is_err_and c.from_residual-in_err-write_change.result c.from_residual-in_err-write_change.ensures.1 in
     let e = c.in_err-write_change.field-0.0 in
-    let stop = subst (λ x. Stops c.loop-number.written.bytes (taken c.loop-number.sink) (taken c.write_change.new.sink) (items_text (file_line item.1 (dataref_text (dataref_in ws item.1 (content_of named item.1 item.2.bytes))) x ∷ [])) e) path (c.in_err-write_change.ensures ws i.0) in
+    let stop = subst (λ x. Stops c.loop-number.written.bytes (taken c.loop-number.sink) (taken c.write_change.new.sink) (items_text (file_line item.1 (dataref_text (dataref_in ws item.1 (content_of named item.1 item.2.bytes))) x ∷ [])) e) path (c.in_err-write_change.ensures.adds ws i.0) in
     let later = adds_later r ws ws (Line (codes "deleteall") ∷ lines_named named ws before) (line ∷ (lines_named named ws rest ++ Line [] ∷ [])) c.args.written.now c.loop-number.written c.loop-number.written (taken c.args.sink.now) (taken c.loop-number.sink) (taken c.write_change.new.sink) (Err e) i
     (items_sooner c.loop-number.written.bytes (taken c.loop-number.sink) (taken c.write_change.new.sink) (line ∷ []) (lines_named named ws rest ++ Line [] ∷ []) e stop) in
     rw (p.1, p.2) (subst (λ is. Stops c.args.written.now.bytes (taken c.args.sink.now) (taken c.write_change.new.sink) (items_text is) e) (sym whole) later)
@@ -119,7 +119,7 @@ loop-number-preserved g c =
           let i = c.loop-number.invariant.adds ws h in
           let path = c.deref.ensures.value ∙ c.in-Ok.ensures.printed ∙ ap (λ x. x ++ printed (path_text item.0)) c.new-printed.ensures.items in
           let next = ap (lines_named named ws) next_path ∙ lines_append named ws before (listed item ∷ []) ∙ ap (λ is. lines_named named ws before ++ is) one in
-          let done = subst (λ x. Adds r ws (file_line item.1 (dataref_text (dataref_in ws item.1 (content_of named item.1 item.2.bytes))) x ∷ []) c.loop-number.written c.write_change.new.written (taken c.loop-number.sink) (taken c.write_change.new.sink) (Ok tt)) path (c.in_ok-write_change.ensures ws i.0) in
+          let done = subst (λ x. Adds r ws (file_line item.1 (dataref_text (dataref_in ws item.1 (content_of named item.1 item.2.bytes))) x ∷ []) c.loop-number.written c.write_change.new.written (taken c.loop-number.sink) (taken c.write_change.new.sink) (Ok tt)) path (c.in_ok-write_change.ensures.adds ws i.0) in
           subst (λ is. Adds r ws (Line (codes "deleteall") ∷ is) c.args.written.now c.write_change.new.written (taken c.args.sink.now) (taken c.write_change.new.sink) (Ok tt)) (sym next)
           (adds_later r ws ws (Line (codes "deleteall") ∷ lines_named named ws before) (line ∷ []) c.args.written.now c.loop-number.written c.write_change.new.written (taken c.args.sink.now) (taken c.loop-number.sink) (taken c.write_change.new.sink) (Ok tt) i done);
     }
@@ -134,4 +134,4 @@ returns g c = λ ws h.
     let now = record c.loop-number.written { bytes = c.write-2.new.written } in
     subst (λ files. Adds r ws (change_lines ws (contents_of named (map listed files))) c.args.written.now now (taken c.args.sink.now) (taken c.write-2.new.sink) c.write-2.result) (take_all c.loop-number.number c.args.files.now all)
     (adds_later r ws ws (Line (codes "deleteall") ∷ lines_named named ws (map listed (take c.loop-number.number c.args.files.now))) (Line [] ∷ []) c.args.written.now c.loop-number.written now (taken c.args.sink.now) (taken c.loop-number.sink) (taken c.write-2.new.sink) c.write-2.result i
-    (adds_bytes r ws (Line [] ∷ []) c.loop-number.written now (taken c.loop-number.sink) (taken c.write-2.new.sink) c.write-2.result i.0 (λ _. c.loop-number.written.count) (λ _. c.loop-number.written.marks.items) c.write-2.ensures))
+    (adds_bytes r ws (Line [] ∷ []) c.loop-number.written now (taken c.loop-number.sink) (taken c.write-2.new.sink) c.write-2.result i.0 (λ _. c.loop-number.written.count) (λ _. c.loop-number.written.marks.items) c.write-2.ensures.text))

@@ -17,7 +17,7 @@ returns-in_err-write_commit_head g c = λ ws h.
     let parents = parent_items ws (map (λ m. commit_of_value (value_of_name r.records m)) c.args.commit.now.parents) in
     let changes = change_lines ws (contents_of (named_values r.records) (map listed c.args.files.now)) in
     let mark : c.args.written.now.count + 1 ≡ suc (length ws) = (let k = h.count in omega arith) in
-    let stop = subst (λ n. Stops c.args.written.now.bytes (taken c.args.sink.now) (taken c.write_commit_head.new.sink) (items_text (head_items n text)) c.in_err-write_commit_head.field-0.0) mark c.in_err-write_commit_head.ensures in
+    let stop = subst (λ n. Stops c.args.written.now.bytes (taken c.args.sink.now) (taken c.write_commit_head.new.sink) (items_text (head_items n text)) c.in_err-write_commit_head.field-0.0) mark c.in_err-write_commit_head.ensures.text in
     rw (p.1, p.2) (items_sooner c.args.written.now.bytes (taken c.args.sink.now) (taken c.write_commit_head.new.sink) (head_items (suc (length ws)) text) (parents ++ changes) c.in_err-write_commit_head.field-0.0 stop)
 
 pub write_parents-requires-clause-written : goal.write_parents-requires-clause-written
@@ -28,7 +28,7 @@ write_parents-requires-clause-written g c =
     let ws = c.requires.written.0 in
     let h = c.requires.written.1 in
     let mark : c.args.written.now.count + 1 ≡ suc (length ws) = (let k = h.count in omega arith) in
-    let done = subst (λ n. Writes c.args.written.now.bytes c.write_commit_head.new.written (taken c.args.sink.now) (taken c.write_commit_head.new.sink) (items_text (head_items n text)) (Ok tt)) mark c.in_ok-write_commit_head.ensures in
+    let done = subst (λ n. Writes c.args.written.now.bytes c.write_commit_head.new.written (taken c.args.sink.now) (taken c.write_commit_head.new.sink) (items_text (head_items n text)) (Ok tt)) mark c.in_ok-write_commit_head.ensures.text in
     let head = adds_bytes r ws (head_items (suc (length ws)) text) c.args.written.now (record c.args.written.now { bytes = c.write_commit_head.new.written }) (taken c.args.sink.now) (taken c.write_commit_head.new.sink) (Ok tt) h (λ _. c.args.written.now.count) (λ _. c.args.written.now.marks.items) done in
     (ws, head.0)
 
@@ -41,10 +41,10 @@ returns-in_err-write_parents g c = λ ws h.
     let parents = parent_items ws (map (λ m. commit_of_value (value_of_name r.records m)) c.args.commit.now.parents) in
     let changes = change_lines ws (contents_of (named_values r.records) (map listed c.args.files.now)) in
     let mark : c.args.written.now.count + 1 ≡ suc (length ws) = (let k = h.count in omega arith) in
-    let done = subst (λ n. Writes c.args.written.now.bytes c.write_commit_head.new.written (taken c.args.sink.now) (taken c.write_commit_head.new.sink) (items_text (head_items n text)) (Ok tt)) mark c.in_ok-write_commit_head.ensures in
+    let done = subst (λ n. Writes c.args.written.now.bytes c.write_commit_head.new.written (taken c.args.sink.now) (taken c.write_commit_head.new.sink) (items_text (head_items n text)) (Ok tt)) mark c.in_ok-write_commit_head.ensures.text in
     let mid = record c.args.written.now { bytes = c.write_commit_head.new.written } in
     let head = adds_bytes r ws (head_items (suc (length ws)) text) c.args.written.now mid (taken c.args.sink.now) (taken c.write_commit_head.new.sink) (Ok tt) h (λ _. c.args.written.now.count) (λ _. c.args.written.now.marks.items) done in
-    let stop = c.in_err-write_parents.ensures ws head.0 in
+    let stop = c.in_err-write_parents.ensures.adds ws head.0 in
     rw (p.1, p.2) (adds_later r ws ws (head_items (suc (length ws)) text) (parents ++ changes) c.args.written.now mid mid (taken c.args.sink.now) (taken c.write_commit_head.new.sink) (taken c.write_parents.new.sink) (Err c.in_err-write_parents.field-0.0) head
     (items_sooner c.write_commit_head.new.written (taken c.write_commit_head.new.sink) (taken c.write_parents.new.sink) parents changes c.in_err-write_parents.field-0.0 stop))
 
@@ -56,9 +56,9 @@ write_files-requires-clause-written g c =
     let ws = c.requires.written.0 in
     let h = c.requires.written.1 in
     let mark : c.args.written.now.count + 1 ≡ suc (length ws) = (let k = h.count in omega arith) in
-    let done = subst (λ n. Writes c.args.written.now.bytes c.write_commit_head.new.written (taken c.args.sink.now) (taken c.write_commit_head.new.sink) (items_text (head_items n text)) (Ok tt)) mark c.in_ok-write_commit_head.ensures in
+    let done = subst (λ n. Writes c.args.written.now.bytes c.write_commit_head.new.written (taken c.args.sink.now) (taken c.write_commit_head.new.sink) (items_text (head_items n text)) (Ok tt)) mark c.in_ok-write_commit_head.ensures.text in
     let head = adds_bytes r ws (head_items (suc (length ws)) text) c.args.written.now (record c.args.written.now { bytes = c.write_commit_head.new.written }) (taken c.args.sink.now) (taken c.write_commit_head.new.sink) (Ok tt) h (λ _. c.args.written.now.count) (λ _. c.args.written.now.marks.items) done in
-    (ws, (c.in_ok-write_parents.ensures ws head.0).0)
+    (ws, (c.in_ok-write_parents.ensures.adds ws head.0).0)
 
 pub returns : goal.returns
 returns g c = λ ws h.
@@ -68,9 +68,9 @@ returns g c = λ ws h.
     let parents = parent_items ws (map (λ m. commit_of_value (value_of_name r.records m)) c.args.commit.now.parents) in
     let changes = change_lines ws (contents_of (named_values r.records) (map listed c.args.files.now)) in
     let mark : c.args.written.now.count + 1 ≡ suc (length ws) = (let k = h.count in omega arith) in
-    let done = subst (λ n. Writes c.args.written.now.bytes c.write_commit_head.new.written (taken c.args.sink.now) (taken c.write_commit_head.new.sink) (items_text (head_items n text)) (Ok tt)) mark c.in_ok-write_commit_head.ensures in
+    let done = subst (λ n. Writes c.args.written.now.bytes c.write_commit_head.new.written (taken c.args.sink.now) (taken c.write_commit_head.new.sink) (items_text (head_items n text)) (Ok tt)) mark c.in_ok-write_commit_head.ensures.text in
     let mid = record c.args.written.now { bytes = c.write_commit_head.new.written } in
     let head = adds_bytes r ws (head_items (suc (length ws)) text) c.args.written.now mid (taken c.args.sink.now) (taken c.write_commit_head.new.sink) (Ok tt) h (λ _. c.args.written.now.count) (λ _. c.args.written.now.marks.items) done in
-    let elders = c.in_ok-write_parents.ensures ws head.0 in
+    let elders = c.in_ok-write_parents.ensures.adds ws head.0 in
     adds_later r ws ws (head_items (suc (length ws)) text) (parents ++ changes) c.args.written.now mid c.write_files.new.written (taken c.args.sink.now) (taken c.write_commit_head.new.sink) (taken c.write_files.new.sink) c.write_files.result head
     (adds_later r ws ws parents changes mid c.write_parents.new.written c.write_files.new.written (taken c.write_commit_head.new.sink) (taken c.write_parents.new.sink) (taken c.write_files.new.sink) c.write_files.result elders (c.write_files.ensures ws elders.0))

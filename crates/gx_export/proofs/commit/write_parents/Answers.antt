@@ -23,8 +23,8 @@ mark_of-mark-requires-clause-held g c =
     let n = c.in-Some.parent.bytes in
     (kind_held name namer r c.sound.ensures kind.Commit n (holds_held name namer r c.sound.ensures kind.Commit n (passes_at (Holds r.records kind.Commit) c.args.commit.now.parents c.loop-number.number n c.requires.parents c.in-Some.ensures))).0
 
-pub returns-in_err-write_parent : goal.returns-in_err-write_parent
-returns-in_err-write_parent g c = λ ws h.
+pub returns-in_err-write_parent-clause-adds : goal.returns-in_err-write_parent-clause-adds
+returns-in_err-write_parent-clause-adds g c = λ ws h.
     let name = g.N.Namer.name_of c.args.repo.now.0 in
     let namer = g.met.N.Namer.is_namer c.args.repo.now.0 in
     let r = c.args.repo.now.1 in
@@ -37,7 +37,7 @@ returns-in_err-write_parent g c = λ ws h.
     let mark = c.mark_of-mark.ensures ws i.0.marks ∙ ap (number_in ws) (commit_stands name namer r c.sound.ensures n held).0 in
     let line = line_is ws c.loop-number.number (commit_at r c.in-Some.parent) c.parent_word.result.now c.mark_of-mark.result c.parent_word.ensures.first c.parent_word.ensures.other mark in
     let parts = parents_parts ws parents c.loop-number.number (commit_at r c.in-Some.parent) (image_at (λ m. commit_of_value (value_of_name r.records m)) c.args.commit.now.parents c.loop-number.number n c.in-Some.ensures) in
-    let stop = subst (λ l. Stops c.loop-number.written.bytes (taken c.loop-number.sink) (taken c.write_parent.new.sink) (items_text (l ∷ [])) c.in_err-write_parent.field-0.0) line c.in_err-write_parent.ensures in
+    let stop = subst (λ l. Stops c.loop-number.written.bytes (taken c.loop-number.sink) (taken c.write_parent.new.sink) (items_text (l ∷ [])) c.in_err-write_parent.field-0.0) line c.in_err-write_parent.ensures.text in
     let later = adds_later r ws ws (parent_items ws (take c.loop-number.number parents)) (parent_line ws c.loop-number.number (commit_at r c.in-Some.parent) ∷ parts.0) c.args.written.now c.loop-number.written c.loop-number.written (taken c.args.sink.now) (taken c.loop-number.sink) (taken c.write_parent.new.sink) (Err c.in_err-write_parent.field-0.0) i
     (items_sooner c.loop-number.written.bytes (taken c.loop-number.sink) (taken c.write_parent.new.sink) (parent_line ws c.loop-number.number (commit_at r c.in-Some.parent) ∷ []) parts.0 c.in_err-write_parent.field-0.0 stop) in
     rw (p.1, p.2) (subst (λ is. Stops c.args.written.now.bytes (taken c.args.sink.now) (taken c.write_parent.new.sink) (items_text is) c.in_err-write_parent.field-0.0) (sym parts.1) later)
@@ -58,7 +58,7 @@ loop-number-preserved g c =
           let made = commit_at r w.in-Some.parent in
           let line = line_is ws c.loop-number.number made w.parent_word.result.now w.mark_of-mark.result w.parent_word.ensures.first w.parent_word.ensures.other mark in
           let now = record c.loop-number.written { bytes = w.write_parent.new.written } in
-          let done = subst (λ l. Writes c.loop-number.written.bytes w.write_parent.new.written (taken c.loop-number.sink) (taken w.write_parent.new.sink) (items_text (l ∷ [])) (Ok tt)) line w.in_ok-write_parent.ensures in
+          let done = subst (λ l. Writes c.loop-number.written.bytes w.write_parent.new.written (taken c.loop-number.sink) (taken w.write_parent.new.sink) (items_text (l ∷ [])) (Ok tt)) line w.in_ok-write_parent.ensures.text in
           let next = parents_next ws parents c.loop-number.number made (image_at (λ m. commit_of_value (value_of_name r.records m)) c.args.commit.now.parents c.loop-number.number n w.in-Some.ensures) in
           rw (w.written-is, w.sink-is) (subst (λ is. Adds r ws is c.args.written.now now (taken c.args.sink.now) (taken w.write_parent.new.sink) (Ok tt)) (sym next)
           (adds_later r ws ws (parent_items ws (take c.loop-number.number parents)) (parent_line ws c.loop-number.number made ∷ []) c.args.written.now c.loop-number.written now (taken c.args.sink.now) (taken c.loop-number.sink) (taken w.write_parent.new.sink) (Ok tt) i

@@ -1,7 +1,7 @@
 use Rattle.std.proofs.Common.{◌≡◌, ◌∙◌, ap, Some, None}
 use Rattle.std.specs.List.{slice_get}
 use Rattle.gx_model.specs.RepositoryLaws.{values_of}
-use Rattle.gx_export.proofs.Placing.{held_place}
+use Rattle.gx_model.proofs.HeldPlaces.{held_place}
 use Rattle.gx_export.proofs.objects.place_of.Goals as goal
 
 pub unreachable-requires : goal.unreachable-requires

@@ -27,8 +27,8 @@ unreachable-requires g c =
     let peels = target_peels name (g.met.N.Namer.is_namer c.args.repo.now.0) r c.sound.ensures c.args.name.now c.args.object.now.bytes c.requires.target in
     not_none r.records c.args.object.now.bytes peels.held (rw c.store.ensures at c.in_default.ensures)
 
-pub returns-then-ne : goal.returns-then-ne
-returns-then-ne g c = λ ws h.
+pub returns-then-ne-clause-adds : goal.returns-then-ne-clause-adds
+returns-then-ne-clause-adds g c = λ ws h.
     let name = g.N.Namer.name_of c.args.repo.now.0 in
     let namer = g.met.N.Namer.is_namer c.args.repo.now.0 in
     let r = c.args.repo.now.1 in
@@ -41,7 +41,7 @@ returns-then-ne g c = λ ws h.
     let other : kind_of name v ≢ kind.Tag = λ e. (let f : true ≡ false = c.if-ne.ensures ∙ ap (λ k. not (sameb the_type k kind.Tag)) (ap (λ p. p.0) o ∙ e) in cc f) in
     let text = ap (λ m. command_text (Reset (record { ref = ref; parent = Some (Marked m) }))) (c.mark_of-mark.ensures ws h.marks) ∙ ap command_text (sym (reset_is name ws ref v other peels.to)) in
     adds_bytes r ws (command_items (ref_command ws (ref, target_in v))) c.args.written.now _ (taken c.args.sink.now) (taken c.write_reset_to.new.sink) c.write_reset_to.result h (λ _. c.args.written.now.count) (λ _. c.args.written.now.marks.items)
-    (subst (λ t. Writes c.args.written.now.bytes c.write_reset_to.new.written (taken c.args.sink.now) (taken c.write_reset_to.new.sink) t c.write_reset_to.result) text c.write_reset_to.ensures)
+    (subst (λ t. Writes c.args.written.now.bytes c.write_reset_to.new.written (taken c.args.sink.now) (taken c.write_reset_to.new.sink) t c.write_reset_to.result) text c.write_reset_to.ensures.text)
 
 pub unreachable-requires-in_default-decode_tag : goal.unreachable-requires-in_default-decode_tag
 unreachable-requires-in_default-decode_tag g c =
@@ -66,8 +66,8 @@ mark_of-mark-requires-2-clause-held g c =
     let same = c.in-Ok.ensures.only (parts_of_tag name t.0) t.1.text in
     subst (λ m. IsTrue (is_some (record_named r.records m))) (sym (c.object.ensures ∙ ap (λ p. p.object) same)) t.1.held
 
-pub returns : goal.returns
-returns g c = λ ws h.
+pub returns-clause-adds : goal.returns-clause-adds
+returns-clause-adds g c = λ ws h.
     let name = g.N.Namer.name_of c.args.repo.now.0 in
     let namer = g.met.N.Namer.is_namer c.args.repo.now.0 in
     let r = c.args.repo.now.1 in
@@ -82,4 +82,4 @@ returns g c = λ ws h.
     let mark = c.mark_of-mark-2.ensures ws h.marks ∙ ap (λ m. number_in ws (value_of_name r.records m)) (c.object.ensures ∙ ap (λ p. p.object) same) ∙ ap (number_in ws) t.1.target in
     let text = ap (λ m. command_text (tag_command m c.in-Ok.tag)) mark ∙ ap (λ p. command_text (tag_command (number_in ws (commit_value t.0.target)) p)) same ∙ ap (λ u. command_text (ref_command ws (ref, target_in u))) (sym t.1.value) in
     adds_bytes r ws (command_items (ref_command ws (ref, target_in v))) c.args.written.now _ (taken c.args.sink.now) (taken c.write_tag.new.sink) c.write_tag.result h (λ _. c.args.written.now.count) (λ _. c.args.written.now.marks.items)
-    (subst (λ t. Writes c.args.written.now.bytes c.write_tag.new.written (taken c.args.sink.now) (taken c.write_tag.new.sink) t c.write_tag.result) text c.write_tag.ensures)
+    (subst (λ t. Writes c.args.written.now.bytes c.write_tag.new.written (taken c.args.sink.now) (taken c.write_tag.new.sink) t c.write_tag.result) text c.write_tag.ensures.text)

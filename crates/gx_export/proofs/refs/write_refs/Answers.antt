@@ -28,15 +28,15 @@ write_ref-requires-clause-target g c = (subst (AllByRecursion (λ ref. IsTarget 
 pub write_ref-requires-clause-written : goal.write_ref-requires-clause-written
 write_ref-requires-clause-written g c = (c.requires.written.0, (c.loop-name.invariant.1.2 c.requires.written.0 c.requires.written.1).0)
 
-pub returns-in_err-write_ref : goal.returns-in_err-write_ref
-returns-in_err-write_ref g c = λ ws h.
+pub returns-in_err-write_ref-clause-adds : goal.returns-in_err-write_ref-clause-adds
+returns-in_err-write_ref-clause-adds g c = λ ws h.
     let r = c.args.repo.now.1 in
     let taken = g.W.Sink.taken in
     let i = c.loop-name.invariant.1 in
     let ref : Bytes × Bytes = (c.in-Some.name.now, c.in-Some.object.bytes) in
     let p = err_from_is_err_and c.from_residual.result c.from_residual.ensures.1 in
     let done = i.2 ws h in
-    let stop = c.in_err-write_ref.ensures ws done.0 in
+    let stop = c.in_err-write_ref.ensures.adds ws done.0 in
     let items = command_items (ref_command ws (told r ref)) in
     let all = ap (ref_items r ws) (i.1 ∙ ap (λ x. i.0 ++ x) c.in-Some.ensures.steps) ∙ refs_append r ws i.0 (ref ∷ c.next.new.self) in
     let later = adds_later r ws ws (ref_items r ws i.0) (items ++ ref_items r ws c.next.new.self) c.args.written.now c.loop-name.written c.loop-name.written (taken c.args.sink.now) (taken c.loop-name.sink) (taken c.write_ref.new.sink) (Err c.in_err-write_ref.field-0.0) done
@@ -57,13 +57,13 @@ loop-name-preserved g c =
         λ ws h.
             let done = i.2 ws h in
             subst (λ is. Adds r ws is c.args.written.now c.write_ref.new.written (taken c.args.sink.now) (taken c.write_ref.new.sink) (Ok tt)) (sym (refs_next r ws i.0 ref))
-            (adds_later r ws ws (ref_items r ws i.0) (command_items (ref_command ws (told r ref))) c.args.written.now c.loop-name.written c.write_ref.new.written (taken c.args.sink.now) (taken c.loop-name.sink) (taken c.write_ref.new.sink) (Ok tt) done (c.in_ok-write_ref.ensures ws done.0)),
+            (adds_later r ws ws (ref_items r ws i.0) (command_items (ref_command ws (told r ref))) c.args.written.now c.loop-name.written c.write_ref.new.written (taken c.args.sink.now) (taken c.loop-name.sink) (taken c.write_ref.new.sink) (Ok tt) done (c.in_ok-write_ref.ensures.adds ws done.0)),
       ),
       rest.1,
     )
 
-pub returns : goal.returns
-returns g c = λ ws h.
+pub returns-clause-adds : goal.returns-clause-adds
+returns-clause-adds g c = λ ws h.
     let r = c.args.repo.now.1 in
     let taken = g.W.Sink.taken in
     let i = c.loop-name.invariant.1 in

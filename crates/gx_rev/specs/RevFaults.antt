@@ -1,10 +1,16 @@
--- The faults of revisions among those of the model, and those that paths bring.
+-- The faults of revisions among those of the model, and those that paths bring; what they print, and when want of memory
+-- is none of them.
+use Rattle.std.specs.Prelude.{◌≡◌, ◌≢◌, ◌++◌, codes, IfErr, IsOk, Result}
+use Rattle.std.specs.Fmt.{decimal}
 use Rattle.gx_model.specs.declared.faults.Fault.{Fault}
 use Rattle.gx_model.specs.declared.faults.Fault.TheVariants as model
+use Rattle.gx_model.specs.Faults.{Given}
+use Rattle.gx_model.specs.Texts.{Bytes}
 use Rattle.gx_text.specs.declared.fault.TextFault.{TextFault}
 use Rattle.gx_text.specs.declared.fault.TextFault.TheVariants as text
 use Rattle.gx_rev.specs.declared.fault.RevFault.{RevFault}
 use Rattle.gx_rev.specs.declared.fault.RevFault.TheVariants.{OutOfMemory, BadRevision, BadPath, PathTooLong, UnknownRef, UnknownObject, Ambiguous, NoParent, WrongKind, NoSuchPath}
+use Rattle.gx_rev.specs.declared.fault.WalkFault.{WalkFault}
 
 abbrev pub fault_of : RevFault → Fault
 fault_of OutOfMemory = model.OutOfMemory
@@ -23,3 +29,28 @@ of_text text.OutOfMemory = OutOfMemory
 of_text text.BadPath = BadPath
 of_text text.PathTooLong = PathTooLong
 of_text text.BadIdent = BadRevision
+
+-- an answer that takes no memory: no want of it is a refusal
+abbrev pub NeedsNoMemory : {A : Type 0} → Result A RevFault → Type 0
+NeedsNoMemory result = IfErr result (λ fault. fault ≢ OutOfMemory)
+
+-- memory may want only where something is given: a fault is answered whatever memory there is
+abbrev pub FaultsComeFirst : {A B : Type 0} → Result A RevFault → Given B → Type 0
+FaultsComeFirst result given = IfErr result (λ fault. fault ≡ OutOfMemory → IsOk given)
+
+-- the word that a fault prints
+abbrev pub word : RevFault → Bytes
+word OutOfMemory = codes "OutOfMemory"
+word BadRevision = codes "BadRevision"
+word BadPath = codes "BadPath"
+word PathTooLong = codes "PathTooLong"
+word UnknownRef = codes "UnknownRef"
+word UnknownObject = codes "UnknownObject"
+word Ambiguous = codes "Ambiguous"
+word NoParent = codes "NoParent"
+word WrongKind = codes "WrongKind"
+word NoSuchPath = codes "NoSuchPath"
+
+-- what a refused walk prints: the word's number, and the fault's word
+abbrev pub refusal : WalkFault → Bytes
+refusal fault = codes "revision " ++ decimal fault.word ++ codes ": " ++ word fault.kind

@@ -6,7 +6,7 @@ ghost use Rattle.gx_model.specs.Faults.{Gives};
 ghost use Rattle.gx_model.specs.Denotation.{base_value, begun_by, full_name, is_any_digit, the_one};
 ghost use Rattle.gx_model.specs.HistoryOf.{history_of};
 ghost use Rattle.gx_rev.specs.Objects.{IsHeld, value_at};
-ghost use Rattle.gx_rev.specs.RevFaults.{fault_of};
+ghost use Rattle.gx_rev.specs.RevFaults.{NeedsNoMemory, fault_of};
 
 use crate::RevFault;
 use gx_object::{Name, Namer};
@@ -21,6 +21,7 @@ pub(crate) fn eval_base<N: Namer, A: Allocator + Copy>(
 ) -> Result<Name, RevFault>
     ensures value { Gives fault_of (value_at repo.now.1) result (base_value (N.name_of repo.now.0) (history_of repo.now.1) base.now) }
     ensures held { IfOk result (IsHeld repo.now.1) }
+    ensures memory { NeedsNoMemory result }
 {
     repo.sound();
     if is_whole(base) {
@@ -58,6 +59,7 @@ fn find_name<N: Namer, A: Allocator + Copy>(
     requires { (list_all is_any_digit digits.now && nat_eq (length digits.now) 40) ≡ true }
     ensures value { Gives fault_of (value_at repo.now.1) result (full_name (N.name_of repo.now.0) (begun_by (N.name_of repo.now.0) (history_of repo.now.1) digits.now)) }
     ensures held { IfOk result (IsHeld repo.now.1) }
+    ensures memory { NeedsNoMemory result }
 {
     repo.sound();
     let Some(name) = Name::read(digits) else {
@@ -76,6 +78,7 @@ fn find_digits<N: Namer, A: Allocator + Copy>(
 ) -> Result<Name, RevFault>
     ensures value { Gives fault_of (value_at repo.now.1) result (the_one (N.name_of repo.now.0) (begun_by (N.name_of repo.now.0) (history_of repo.now.1) digits.now)) }
     ensures held { IfOk result (IsHeld repo.now.1) }
+    ensures memory { NeedsNoMemory result }
 {
     repo.sound();
     match repo.store().by_prefix(digits) {

@@ -1,46 +1,65 @@
 //! Why a revision or a range word is refused.
 
-ghost use Rattle.std.specs.Prelude.{◌≡◌};
+ghost use Rattle.std.specs.Prelude.{◌≡◌, Some};
 ghost use Rattle.gx_rev.specs.declared.fault.RevFault.TheVariants.{OutOfMemory};
-ghost use Rattle.gx_rev.specs.RevFaults.{of_text};
+ghost use Rattle.gx_rev.specs.RevFaults.{of_text, refusal, word};
 
 use gx_text::TextFault;
 use std::alloc::{AllocError, AllocFailed};
+use std::fmt;
 use thiserror::Error;
 
 /// Why a revision or a range word is refused.
 #[derive(Clone, Copy, Debug, PartialEq, Eq, Drop, Error)]
 pub enum RevFault {
     /// A growth was refused.
-    #[error("OutOfMemory")]
     OutOfMemory,
     /// The text isn't a revision, or isn't a range word.
-    #[error("BadRevision")]
     BadRevision,
     /// What follows the `:` isn't a path.
-    #[error("BadPath")]
     BadPath,
     /// What follows the `:` has more than 4,095 bytes.
-    #[error("PathTooLong")]
     PathTooLong,
     /// The base names no ref, and is no abbreviation of an object's name.
-    #[error("UnknownRef")]
     UnknownRef,
     /// The base is the name of an object that isn't held.
-    #[error("UnknownObject")]
     UnknownObject,
     /// The base begins the names of several objects.
-    #[error("Ambiguous")]
     Ambiguous,
     /// A commit has fewer parents.
-    #[error("NoParent")]
     NoParent,
     /// The object is of another kind.
-    #[error("WrongKind")]
     WrongKind,
     /// Nothing stands at the path.
-    #[error("NoSuchPath")]
     NoSuchPath,
+}
+
+impl RevFault {
+    /// The word that it prints: the variant's name. Takes no memory.
+    pub fn word(self) -> &'static str
+        ensures { result.now ≡ word self }
+    {
+        match self {
+            RevFault::OutOfMemory => "OutOfMemory",
+            RevFault::BadRevision => "BadRevision",
+            RevFault::BadPath => "BadPath",
+            RevFault::PathTooLong => "PathTooLong",
+            RevFault::UnknownRef => "UnknownRef",
+            RevFault::UnknownObject => "UnknownObject",
+            RevFault::Ambiguous => "Ambiguous",
+            RevFault::NoParent => "NoParent",
+            RevFault::WrongKind => "WrongKind",
+            RevFault::NoSuchPath => "NoSuchPath",
+        }
+    }
+}
+
+impl fmt::Display for RevFault {
+    ghost output = { λ fault. Some (word fault) };
+
+    fn fmt<W: fmt::Write>(&self, f: &mut fmt::Formatter<W>) -> fmt::Result {
+        f.write_str(self.word())
+    }
 }
 
 impl From<AllocError> for RevFault {
@@ -76,10 +95,17 @@ impl From<TextFault> for RevFault {
 /// Why a walk is refused: the number of the first range word that is refused, from 1, and its fault.
 /// OutOfMemory has the number 0.
 #[derive(Clone, Copy, Debug, PartialEq, Eq, Drop, Error)]
-#[error("revision {word}: {kind}")]
 pub struct WalkFault {
     pub word: usize,
     pub kind: RevFault,
+}
+
+impl fmt::Display for WalkFault {
+    ghost output = { λ fault. Some (refusal fault) };
+
+    fn fmt<W: fmt::Write>(&self, f: &mut fmt::Formatter<W>) -> fmt::Result {
+        write!(f, "revision {}: {}", self.word, self.kind)
+    }
 }
 
 impl From<AllocError> for WalkFault {

@@ -6,7 +6,7 @@ ghost use Rattle.gx_model.specs.Faults.{Gives};
 ghost use Rattle.gx_model.specs.Denotation.{commit_in, files_in, nth_ancestor, nth_parent};
 ghost use Rattle.gx_model.specs.Records.{kind_of, parts_of_commit};
 ghost use Rattle.gx_rev.specs.Objects.{IsHeld, IsHeldAs, commit_at, files_at, value_at};
-ghost use Rattle.gx_rev.specs.RevFaults.{fault_of};
+ghost use Rattle.gx_rev.specs.RevFaults.{NeedsNoMemory, fault_of};
 
 use crate::RevFault;
 use gx_object::{CommitView, Kind, Name, Namer, decode_commit};
@@ -33,6 +33,7 @@ pub(crate) fn commit_of<N: Namer, A: Allocator + Copy>(
     requires { IsHeld repo.now.1 name.now }
     ensures commit { Gives fault_of (commit_at repo.now.1) result (commit_in (value_at repo.now.1 name.now)) }
     ensures held { IfOk result (IsHeldAs kinds.Commit repo.now.1) }
+    ensures memory { NeedsNoMemory result }
 {
     repo.sound();
     match repo.peel(name) {
@@ -70,6 +71,7 @@ pub(crate) fn parent_of<N: Namer, A: Allocator + Copy>(
     requires { IsHeldAs kinds.Commit repo.now.1 commit.now }
     ensures parent { Gives fault_of (commit_at repo.now.1) result (nth_parent number (commit_at repo.now.1 commit.now)) }
     ensures held { IfOk result (IsHeldAs kinds.Commit repo.now.1) }
+    ensures memory { NeedsNoMemory result }
 {
     repo.sound();
     if number == 0 {
@@ -90,6 +92,7 @@ pub(crate) fn ancestor_of<N: Namer, A: Allocator + Copy>(
     requires { IsHeldAs kinds.Commit repo.now.1 commit.now }
     ensures ancestor { Gives fault_of (commit_at repo.now.1) result (nth_ancestor number (commit_at repo.now.1 commit.now)) }
     ensures held { IfOk result (IsHeldAs kinds.Commit repo.now.1) }
+    ensures memory { NeedsNoMemory result }
 {
     let mut ancestor = *commit;
     let mut left = number;
@@ -108,6 +111,7 @@ pub(crate) fn tree_of<N: Namer, A: Allocator + Copy>(
     requires { IsHeld repo.now.1 name.now }
     ensures files { Gives fault_of (files_at repo.now.1) result (files_in (value_at repo.now.1 name.now)) }
     ensures held { IfOk result (IsHeldAs kinds.Tree repo.now.1) }
+    ensures memory { NeedsNoMemory result }
 {
     repo.sound();
     match kind_of(repo, name) {

@@ -10,7 +10,7 @@ ghost use Rattle.gx_model.specs.HistoryOf.{bytes_of_blob, history_of};
 ghost use Rattle.gx_rev.specs.Answers.{AnswersTell, IsNamed, file_of, revision_with, seen_file, shown_as, shown_by};
 ghost use Rattle.gx_rev.specs.Objects.{IsHeld, IsHeldAs, commit_at, files_at, value_at};
 ghost use Rattle.gx_model.specs.Records.{parts_of_commit};
-ghost use Rattle.gx_rev.specs.RevFaults.{fault_of};
+ghost use Rattle.gx_rev.specs.RevFaults.{FaultsComeFirst, NeedsNoMemory, fault_of};
 
 use crate::base::eval_base;
 use crate::objects::{commit_of, kind_of, tree_of, view_of};
@@ -33,12 +33,13 @@ impl<A: Allocator + Copy> Revision<A> {
     /// What the revision shows in a repository.
     ///
     /// UnknownRef, UnknownObject and Ambiguous are of its base, NoParent and WrongKind of a suffix; WrongKind and
-    /// NoSuchPath of its path. OutOfMemory only where a growth was refused.
+    /// NoSuchPath of its path. Takes no memory.
     /// Cost: for the base, a search among the refs and a look-up; for each step of a suffix and each component of the path,
     /// an object's body and a look-up among the records. Source: gitrevisions(7), "Specifying Revisions".
     pub fn eval<N: Namer>(&self, repo: &Repo<N, A>) -> Result<Shown, RevFault>
         ensures shown { Gives fault_of (shown_by repo.now.1) result (denoted (N.name_of repo.now.0) (history_of repo.now.1) self.now) }
         ensures named { IfOk result (IsNamed (N.name_of repo.now.0) repo.now.1) }
+        ensures memory { NeedsNoMemory result }
     {
         eval_parts(repo, &self.base, &self.suffixes, self.path.as_ref())
     }
@@ -54,6 +55,7 @@ fn eval_parts<N: Namer, A: Allocator + Copy>(
 ) -> Result<Shown, RevFault>
     ensures shown { Gives fault_of (shown_by repo.now.1) result (denoted (N.name_of repo.now.0) (history_of repo.now.1) (revision_with base.now suffixes.now (option_map (λ p. p.now) path.entry))) }
     ensures named { IfOk result (IsNamed (N.name_of repo.now.0) repo.now.1) }
+    ensures memory { NeedsNoMemory result }
 {
     let base = eval_base(repo, base)?;
     let object = eval_all(repo, &base, suffixes)?;
@@ -69,6 +71,7 @@ fn show<N: Namer, A: Allocator + Copy>(
     requires { IsHeld repo.now.1 object.now }
     ensures shown { Gives fault_of (shown_by repo.now.1) result (shown_at (value_at repo.now.1 object.now) (option_map (λ p. p.now) path.entry)) }
     ensures named { IfOk result (IsNamed (N.name_of repo.now.0) repo.now.1) }
+    ensures memory { NeedsNoMemory result }
 {
     repo.sound();
     match path {
@@ -86,6 +89,7 @@ fn show_path<N: Namer, A: Allocator + Copy>(
     requires { IsHeld repo.now.1 object.now }
     ensures shown { Gives fault_of (shown_by repo.now.1) result (shown_at (value_at repo.now.1 object.now) (Some path.now)) }
     ensures named { IfOk result (IsNamed (N.name_of repo.now.0) repo.now.1) }
+    ensures memory { NeedsNoMemory result }
 {
     repo.sound();
     let tree = tree_of(repo, object)?;
@@ -108,12 +112,13 @@ fn shown_as(mode: Mode, name: Name) -> Shown
 
 /// The commit that a revision gives after peeling, by its body. What gives none is WrongKind.
 ///
-/// The faults and the cost are those of `Revision::eval`. Source: gitrevisions(7), on commit-ish.
+/// The faults and the cost are those of `Revision::eval`. Takes no memory. Source: gitrevisions(7), on commit-ish.
 pub fn commit<'a, N: Namer, A: Allocator + Copy>(
     repo: &'a Repo<N, A>,
     revision: &Revision<A>,
 ) -> Result<CommitView<'a>, RevFault>
-    ensures { Gives fault_of (λ view. view) result (and_then (commit_denoted (N.name_of repo.now.0) (history_of repo.now.1) revision.now) (λ c. Ok (parts_of_commit (N.name_of repo.now.0) c))) }
+    ensures view { Gives fault_of (λ view. view) result (and_then (commit_denoted (N.name_of repo.now.0) (history_of repo.now.1) revision.now) (λ c. Ok (parts_of_commit (N.name_of repo.now.0) c))) }
+    ensures memory { NeedsNoMemory result }
 {
     let commit = eval_commit(repo, revision)?;
     Ok(view_of(repo, &commit))
@@ -122,13 +127,14 @@ pub fn commit<'a, N: Namer, A: Allocator + Copy>(
 /// The name of the tree that a revision gives as `^{tree}` does: a tree itself, or that of the commit that it peels to.
 /// What gives none is WrongKind.
 ///
-/// The faults and the cost are those of `Revision::eval`. Source: gitrevisions(7), on tree-ish.
+/// The faults and the cost are those of `Revision::eval`. Takes no memory. Source: gitrevisions(7), on tree-ish.
 pub fn tree<N: Namer, A: Allocator + Copy>(
     repo: &Repo<N, A>,
     revision: &Revision<A>,
 ) -> Result<Name, RevFault>
     ensures files { Gives fault_of (files_at repo.now.1) result (and_then (value_denoted (N.name_of repo.now.0) (history_of repo.now.1) revision.now) files_in) }
     ensures held { IfOk result (IsHeldAs kinds.Tree repo.now.1) }
+    ensures memory { NeedsNoMemory result }
 {
     let object = eval_object(repo, revision)?;
     tree_of(repo, &object)
@@ -141,6 +147,7 @@ pub(crate) fn eval_commit<N: Namer, A: Allocator + Copy>(
 ) -> Result<Name, RevFault>
     ensures commit { Gives fault_of (commit_at repo.now.1) result (commit_denoted (N.name_of repo.now.0) (history_of repo.now.1) revision.now) }
     ensures held { IfOk result (IsHeldAs kinds.Commit repo.now.1) }
+    ensures memory { NeedsNoMemory result }
 {
     let object = eval_object(repo, revision)?;
     commit_of(repo, &object)
@@ -153,6 +160,7 @@ fn eval_object<N: Namer, A: Allocator + Copy>(
 ) -> Result<Name, RevFault>
     ensures value { Gives fault_of (value_at repo.now.1) result (value_denoted (N.name_of repo.now.0) (history_of repo.now.1) revision.now) }
     ensures held { IfOk result (IsHeld repo.now.1) }
+    ensures memory { NeedsNoMemory result }
 {
     match revision.eval(repo)? {
         Shown::Object(_, name) => Ok(name),
@@ -170,7 +178,8 @@ pub fn answers_tell_values<N: Namer, A: Allocator + Copy>(repo: &Repo<N, A>)
 
 /// The mode and the bytes of the file at a path in the tree of a revision; a gitlink's bytes are its 40 digits.
 ///
-/// Besides the faults of `Revision::eval`: WrongKind for the root and for a directory, and NoSuchPath.
+/// Besides the faults of `Revision::eval`: WrongKind for the root and for a directory, and NoSuchPath; then OutOfMemory:
+/// only the copy of a file that is there takes memory.
 /// Cost: that of `Revision::eval`, and a copy of the file. Source: gitrevisions(7), "<rev>:<path>".
 #[tactic(auto, unfolding(gx_model::specs::Denotation::looked_up))]
 pub fn look<N: Namer, A: Allocator + Copy>(
@@ -179,7 +188,8 @@ pub fn look<N: Namer, A: Allocator + Copy>(
     revision: &Revision<A>,
     path: &TreePath<A>,
 ) -> Result<(Mode, Vec<u8, A>), RevFault>
-    ensures { Gives fault_of seen_file result (looked_up (N.name_of repo.now.0) (history_of repo.now.1) revision.now path.now) }
+    ensures file { Gives fault_of seen_file result (looked_up (N.name_of repo.now.0) (history_of repo.now.1) revision.now path.now) }
+    ensures first { FaultsComeFirst result (looked_up (N.name_of repo.now.0) (history_of repo.now.1) revision.now path.now) }
 {
     let tree = tree(repo, revision)?;
     look_in(alloc, repo, &tree, path)
@@ -193,7 +203,8 @@ fn look_in<N: Namer, A: Allocator + Copy>(
     path: &TreePath<A>,
 ) -> Result<(Mode, Vec<u8, A>), RevFault>
     requires { IsHeldAs kinds.Tree repo.now.1 tree.now }
-    ensures { Gives fault_of seen_file result (file_shown (files_at repo.now.1 tree.now) path.now) }
+    ensures file { Gives fault_of seen_file result (file_shown (files_at repo.now.1 tree.now) path.now) }
+    ensures first { FaultsComeFirst result (file_shown (files_at repo.now.1 tree.now) path.now) }
 {
     repo.sound();
     match walk_down(repo, tree, path) {
@@ -210,7 +221,8 @@ fn read_file<N: Namer, A: Allocator + Copy>(
     name: &Name,
 ) -> Result<(Mode, Vec<u8, A>), RevFault>
     requires { IsNamed (N.name_of repo.now.0) repo.now.1 (shown_as mode name.now) }
-    ensures { Gives fault_of seen_file result (file_of repo.now.1 mode name.now) }
+    ensures file { Gives fault_of seen_file result (file_of repo.now.1 mode name.now) }
+    ensures first { FaultsComeFirst result (file_of repo.now.1 mode name.now) }
 {
     match mode {
         Mode::Dir => Err(RevFault::WrongKind),

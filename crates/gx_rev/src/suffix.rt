@@ -10,7 +10,7 @@ ghost use Rattle.gx_model.specs.Denotation.{all_suffixed, commit_in, files_in, n
 ghost use Rattle.gx_model.specs.Faults.{and_then};
 ghost use Rattle.gx_model.specs.Values.{commit_value, tree_value};
 ghost use Rattle.gx_rev.specs.Objects.{IsHeld, only, value_at};
-ghost use Rattle.gx_rev.specs.RevFaults.{fault_of};
+ghost use Rattle.gx_rev.specs.RevFaults.{NeedsNoMemory, fault_of};
 ghost use Rattle.gx_rev.specs.Views.{shown_suffix};
 
 use crate::RevFault;
@@ -44,7 +44,8 @@ pub(crate) enum Suffix {
 impl Suffix {
     /// The suffix that its first byte, a `^` or a `~`, and the text behind it give.
     pub(crate) fn read(mark: u8, text: &[u8]) -> Result<Suffix, RevFault>
-        ensures { Gives fault_of shown_suffix result (suffix_of (mark ∷ text.now)) }
+        ensures suffix { Gives fault_of shown_suffix result (suffix_of (mark ∷ text.now)) }
+        ensures memory { NeedsNoMemory result }
     {
         if mark != b'^' {
             return Ok(Suffix::Ancestor(number_or_one(text)?));
@@ -64,6 +65,7 @@ impl Suffix {
         requires { IsHeld repo.now.1 name.now }
         ensures value { Gives fault_of (value_at repo.now.1) result (suffixed (value_at repo.now.1 name.now) (shown_suffix self)) }
         ensures held { IfOk result (IsHeld repo.now.1) }
+        ensures memory { NeedsNoMemory result }
     {
         match self {
             Suffix::Parent(number) => parent(repo, name, number),
@@ -87,6 +89,7 @@ pub(crate) fn eval_all<N: Namer, A: Allocator + Copy>(
     requires { IsHeld repo.now.1 name.now }
     ensures value { Gives fault_of (value_at repo.now.1) result (all_suffixed (value_at repo.now.1 name.now) (map shown_suffix suffixes.now)) }
     ensures held { IfOk result (IsHeld repo.now.1) }
+    ensures memory { NeedsNoMemory result }
 {
     let mut object = *name;
     for suffix in suffixes {
@@ -103,6 +106,7 @@ fn parent<N: Namer, A: Allocator + Copy>(
     requires { IsHeld repo.now.1 name.now }
     ensures value { Gives fault_of (value_at repo.now.1) result (and_then (commit_in (value_at repo.now.1 name.now)) (λ c. and_then (nth_parent number c) (λ d. Ok (commit_value d)))) }
     ensures held { IfOk result (IsHeld repo.now.1) }
+    ensures memory { NeedsNoMemory result }
 {
     repo.sound();
     let commit = commit_of(repo, name)?;
@@ -118,6 +122,7 @@ fn ancestor<N: Namer, A: Allocator + Copy>(
     requires { IsHeld repo.now.1 name.now }
     ensures value { Gives fault_of (value_at repo.now.1) result (and_then (commit_in (value_at repo.now.1 name.now)) (λ c. and_then (nth_ancestor number c) (λ d. Ok (commit_value d)))) }
     ensures held { IfOk result (IsHeld repo.now.1) }
+    ensures memory { NeedsNoMemory result }
 {
     repo.sound();
     let commit = commit_of(repo, name)?;
@@ -129,6 +134,7 @@ fn tree<N: Namer, A: Allocator + Copy>(repo: &Repo<N, A>, name: &Name) -> Result
     requires { IsHeld repo.now.1 name.now }
     ensures value { Gives fault_of (value_at repo.now.1) result (and_then (files_in (value_at repo.now.1 name.now)) (λ f. Ok (tree_value f))) }
     ensures held { IfOk result (IsHeld repo.now.1) }
+    ensures memory { NeedsNoMemory result }
 {
     repo.sound();
     let tree = tree_of(repo, name)?;
@@ -157,6 +163,7 @@ fn of_kind<N: Namer, A: Allocator + Copy>(
     requires { IsHeld repo.now.1 name.now }
     ensures value { Gives fault_of (value_at repo.now.1) result (only (N.name_of repo.now.0) kind (value_at repo.now.1 name.now)) }
     ensures held { IfOk result (IsHeld repo.now.1) }
+    ensures memory { NeedsNoMemory result }
 {
     if kind_of(repo, name) == kind {
         Ok(*name)
@@ -188,7 +195,8 @@ fn braced(text: &[u8]) -> Option<Suffix>
 
 /// A number in decimal, and 1 where it is left out.
 pub(crate) fn number_or_one(text: &[u8]) -> Result<u64, RevFault>
-    ensures { Gives fault_of (λ n. n) result (number_or_one text.now) }
+    ensures number { Gives fault_of (λ n. n) result (number_or_one text.now) }
+    ensures memory { NeedsNoMemory result }
 {
     if text.is_empty() {
         return Ok(1);

@@ -6,6 +6,7 @@ ghost use Rattle.gx_model.specs.HistoryOf.{history_of};
 ghost use Rattle.gx_model.specs.Revisions as words;
 ghost use Rattle.gx_model.specs.Ranges.{listed};
 ghost use Rattle.gx_model.specs.RepositoryLaws.{values_of};
+ghost use Rattle.gx_rev.specs.RevFaults.{NeedsNoMemory};
 ghost use Rattle.gx_rev.specs.Views.{shown_range};
 ghost use Rattle.gx_rev.specs.Tips.{HasTips};
 ghost use Rattle.gx_rev.specs.Walking.{AreBoth, AreEither, AreListed, AreWithout, GivesNames, MarksWord, names_back, refused_at};
@@ -99,8 +100,9 @@ fn mark_between<N: Namer, A: Allocator + Copy>(
 ) -> Result<(), RevFault>
     requires included { length included.old ≡ length (values_of repo.now.1) }
     requires excluded { length excluded.old ≡ length (values_of repo.now.1) }
-    ensures { MarksWord (N.name_of repo.now.0) repo.now.1 (words.Between left.now right.now)
+    ensures marks { MarksWord (N.name_of repo.now.0) repo.now.1 (words.Between left.now right.now)
         (included.old, excluded.old) (included.new, excluded.new) result }
+    ensures memory { NeedsNoMemory result }
 {
     let left = eval_commit(repo, left)?;
     let right = eval_commit(repo, right)?;
@@ -119,8 +121,9 @@ fn mark_without_one<N: Namer, A: Allocator + Copy>(
 ) -> Result<(), RevFault>
     requires included { length included.old ≡ length (values_of repo.now.1) }
     requires excluded { length excluded.old ≡ length (values_of repo.now.1) }
-    ensures { MarksWord (N.name_of repo.now.0) repo.now.1 (words.WithoutOne revision.now number)
+    ensures marks { MarksWord (N.name_of repo.now.0) repo.now.1 (words.WithoutOne revision.now number)
         (included.old, excluded.old) (included.new, excluded.new) result }
+    ensures memory { NeedsNoMemory result }
 {
     let commit = eval_commit(repo, revision)?;
     let parent = parent_of(repo, &commit, number)?;

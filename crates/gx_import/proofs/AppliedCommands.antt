@@ -128,4 +128,4 @@ module _ (name : Kind → Bytes → Bytes) {A : Type 0} where
       → Writes was now (codes "progress " ++ x ++ 10 ∷ []) r → Applies name old old tables s (Progress x) was now r
   progress_as old tables s x was now (Ok u) h k = (spoken s x, codes "progress " ++ x ++ 10 ∷ [], refl, still_stands old tables s x h, is_spoken s x, k)
   progress_as old tables s x was now (Err e) h k =
-      subst (λ f. Applies name old old tables s (Progress x) was now (Err f)) (sym k.0) (inr (spoken s x, codes "progress " ++ x ++ 10 ∷ [], refl, is_spoken s x, k.1))
+      subst (λ f. Applies name old old tables s (Progress x) was now (Err f)) (sym k.0) (inr (spoken s x, x, refl, refl, is_spoken s x, k.1))

@@ -128,7 +128,7 @@ module _ (name : Kind → Bytes → Bytes) where
           | inl r ↦
               let other : refused fault.command (fault_of fault.kind) r.0 ≡ finished q.0 [] (exported_report (history_of exported) q.0) = sym r.1 ∙ ends in
               absurd (cc other)
-          | inr k ↦ elim k.1 as (λ _. ExportedOr exported last (Err fault)) [
+          | inr k ↦ elim k.2 as (λ _. ExportedOr exported last (Err fault)) [
             | inl m ↦ inl m.0
             | inr l ↦ elim l as (λ _. ExportedOr exported last (Err fault)) [
               | inl m ↦

@@ -116,7 +116,8 @@ module _ (name : Kind → Bytes → Bytes) where
 
   -- ---- the outcome's
 
-  last_progress : (n : ℕ) (s : State) (end : Option Fault) → progress_of (ended n s end) ≡ s.progress
+  -- the text of an end is that of its state
+  pub last_progress : (n : ℕ) (s : State) (end : Option Fault) → progress_of (ended n s end) ≡ s.progress
   last_progress n s (Some e) = refl
   last_progress n s None = elim (is_fast_forward s) as (λ b. progress_of (cond b (finished (final s) s.progress (report n s)) (refused (n + 1) fault.NotFastForward s.progress)) ≡ s.progress) [ true ↦ refl | false ↦ refl ]
 

@@ -11,19 +11,22 @@ use Rattle.gx_model.specs.HistoryOf.{history_of}
 use Rattle.gx_model.specs.Commands.{Commands}
 use Rattle.gx_model.specs.RepositoryLaws.{HistoriesOf}
 use Rattle.gx_model.specs.Revisions.{revision_of}
-use Rattle.gx_model.specs.Replay.{State, final, finished, is_fast_forward, overwritten, refused, replayed_commands, report}
+use Rattle.gx_model.specs.Replay as model
+use Rattle.gx_model.specs.Replay.{Outcome, State, final, finished, imported, is_fast_forward, overwritten, refused, replayed_commands, report}
 use Rattle.gx_model.specs.Sound.{IsSound, IsTarget}
 use Rattle.gx_text.specs.Devices.{Coming, Taken}
+use Rattle.gx_stream.specs.Heard.{heard}
 use Rattle.gx_command.specs.Reading.{commands_from}
-use Rattle.gx_import.specs.Imports.{Imports, Replays, last_number, progress_of}
+use Rattle.gx_import.specs.Imports.{Imports, Replays, StandsForIts, StandsReplayed, last_number, only, progress_of, replayed_on, report_of}
 use Rattle.gx_import.specs.Publishing.{Publishes}
 use Rattle.gx_import.specs.Replaying.{EndsAs, IsLast}
 use Rattle.gx_import.specs.Standing.{Extends}
 use Rattle.gx_import.specs.declared.fault.ImportFault.{ImportFault}
+use Rattle.gx_import.specs.declared.report.Report.{Report}
 use Rattle.gx_import.specs.declared.fault.ImportKind.{ImportKind}
 use Rattle.gx_import.specs.declared.fault.ImportKind.TheVariants.{OutOfMemory, ReadFailed, WriteFailed, UnknownCommand, BadLine, BadNumber, TruncatedData, BadPath, PathTooLong, BadMode, BadIdent, BadRefName, UnknownMark, WrongKind, UnknownObject, NoSuchPath, RootNotTree, FromItself, EmptyBranch, Unsupported, LateOption, MissingDone, NotFastForward, NameHeld, BadRevision, UnknownRef, Ambiguous, NoParent}
 use Rattle.gx_import.proofs.ProgressTexts.{begins_outcome, numbers_outcome}
-use Rattle.gx_import.proofs.ReachedStates.{imported_is}
+use Rattle.gx_import.proofs.ReachedStates.{from_one, imported_is}
 
 -- what isn't published stays as it was
 pub unpublished : (s : State) (old new : Records) (e : ImportKind) → Publishes s old new (Err e) → new ≡ old
@@ -83,7 +86,7 @@ module _ (name : Kind → Bytes → Bytes) where
       → Replays name old new commands (replayed_commands name revision_of (history_of old) commands) was now (Err (record { command = n + 1; kind = OutOfMemory }))
   no_memory old new commands n s was now k =
       let b = begins_outcome name n s [] None in
-      inr (subst (λ o. n + 1 ≤ last_number o) (sym k.outcome) (numbers_outcome name n s [] None), inl (refl, (s.progress, b.0, ap progress_of k.outcome ∙ b.1, k.progress)))
+      inr (from_one n, subst (λ o. n + 1 ≤ last_number o) (sym k.outcome) (numbers_outcome name n s [] None), inl (refl, (s.progress, b.0, ap progress_of k.outcome ∙ b.1, k.progress)))
 
   not_published : (old new mid last : Records) (commands : Commands) (n : ℕ) (s : State) (was now : Option Taken) → IsLast name old commands n s was now → (e : ImportKind) → Publishes s mid last (Err e)
       → Replays name old new commands (replayed_commands name revision_of (history_of old) commands) was now (Err (record { command = n + 1; kind = e }))
@@ -119,27 +122,42 @@ module _ (name : Kind → Bytes → Bytes) where
   -- an import that is accepted
   pub imports_all : (old new mid : Records) (coming : Option Coming) (n : ℕ) (s : State) (was now : Option Taken) → EndsAs name old coming n s was now → HistoriesOf name → IsSound name old → IsSound name new
       → (count : ℕ) → Publishes s mid new (Ok count) → Imports name old new coming was now (Ok (record { commands = n; objects = length new.records - length old.records; refs = count }))
-  imports_all old new mid None n s was now k law sound sounds count h = tt
-  imports_all old new mid (Some coming) n s was now k law sound sounds count h =
-      let objects = length new.records - length old.records in
-      let now_held = counted name law new sounds ∙ ap (λ x. length x.values) h.1 in
-      let was_held = counted name law old sound ∙ sym k.held in
-      let adds : objects ≡ length s.history.values - s.held = ap (λ x. x - length old.records) now_held ∙ ap (λ x. length s.history.values - x) was_held in
-      subst (λ o. Replays name old new (commands_from coming) o was now (Ok (record { commands = n; objects = objects; refs = count }))) (sym (imported_is name (history_of old) coming))
-      (forward old new (commands_from coming) n s was now k objects count h.0 h.1 h.2 adds)
+  imports_all old new mid coming n s was now k law sound sounds count h = by coming k
+    where
+      adds : (commands : Commands) → IsLast name old commands n s was now → length new.records - length old.records ≡ length s.history.values - s.held
+      adds commands last =
+          let now_held = counted name law new sounds ∙ ap (λ x. length x.values) h.1 in
+          let was_held = counted name law old sound ∙ sym last.held in
+          ap (λ x. x - length old.records) now_held ∙ ap (λ x. length s.history.values - x) was_held
+
+      replays : (commands : Commands) → IsLast name old commands n s was now → Replays name old new commands (replayed_on name old commands) was now (Ok (record { commands = n; objects = length new.records - length old.records; refs = count }))
+      replays commands last = forward old new commands n s was now last (length new.records - length old.records) count h.0 h.1 h.2 (adds commands last)
+
+      by : (c : Option Coming) → EndsAs name old c n s was now → Imports name old new c was now (Ok (record { commands = n; objects = length new.records - length old.records; refs = count }))
+      by None last = (only last.0, tt, replays (only last.0) last.1)
+      by (Some c) last = subst (λ o. Replays name old new (commands_from c) o was now (Ok (record { commands = n; objects = length new.records - length old.records; refs = count }))) (sym (imported_is name (history_of old) c)) (replays (commands_from c) last)
 
   -- one that isn't published
   pub imports_none : (old new mid last : Records) (coming : Option Coming) (n : ℕ) (s : State) (was now : Option Taken) → EndsAs name old coming n s was now → (e : ImportKind) → Publishes s mid last (Err e)
       → Imports name old new coming was now (Err (record { command = n + 1; kind = e }))
-  imports_none old new mid last None n s was now k e h = tt
+  imports_none old new mid last None n s was now k e h = (only k.0, tt, not_published old new mid last (only k.0) n s was now k.1 e h)
   imports_none old new mid last (Some coming) n s was now k e h =
       subst (λ o. Replays name old new (commands_from coming) o was now (Err (record { command = n + 1; kind = e }))) (sym (imported_is name (history_of old) coming))
       (not_published old new mid last (commands_from coming) n s was now k e h)
 
   -- a fault is one whatever the repository is then
   pub imports_fault : (old new last : Records) (coming : Option Coming) (was now : Option Taken) (fault : ImportFault) → Imports name old new coming was now (Err fault) → Imports name old last coming was now (Err fault)
-  imports_fault old new last None was now fault h = tt
+  imports_fault old new last None was now fault h = h
   imports_fault old new last (Some coming) was now fault h = h
+
+  -- the new repository stands for the history of the replay
+  stands_for : (new : Records) (outcome : Outcome) (text : Bytes) (report : model.Report) → HistoriesOf name → IsSound name new → outcome ≡ finished (history_of new) text report → StandsForIts name outcome new
+  stands_for new outcome text report law sound e = subst (λ o. StandsForIts name o new) (sym e) (sound, law.stands new sound)
+
+  pub stands_replayed : (old new : Records) (coming : Option Coming) (was now : Option Taken) (report : Report) → HistoriesOf name → IsSound name new → Imports name old new coming was now (Ok report)
+      → StandsReplayed name old new coming
+  stands_replayed old new None was now report law sound h = (h.0, h.1, stands_for new (replayed_on name old h.0) h.2.0 (report_of report) law sound h.2.1)
+  stands_replayed old new (Some coming) was now report law sound h = stands_for new (imported name (history_of old) (heard coming).bytes (heard coming).fails) h.0 (report_of report) law sound h.1
 
 -- ---- the records that stay
 

@@ -1,16 +1,17 @@
 -- How far a replay has come: what was replayed of the commands, and what follows from the next answer of the reader or of a command.
-use Rattle.std.proofs.Common.{◌≡◌, ℕ, ◌+◌, ◌≤◌, List, [], ◌++◌, length, Option, Some, None, Ok, Err, refl, sym, ap, subst, ◌∙◌, inl, inr, append_assoc}
+use Rattle.std.proofs.Common.{◌≡◌, ℕ, ◌+◌, ◌≤◌, List, [], ◌∷◌, ◌++◌, length, Option, Some, None, Ok, Err, refl, sym, ap, subst, ◌∙◌, inl, inr, append_assoc, arith}
 use Rattle.std.specs.Prelude.{IfOk, IsTrue}
+use Rattle.std.proofs.lemmas.List.{append-nil, length-append}
 use Rattle.std.specs.FinMap.Entries.{is_sorted}
 use Rattle.std.specs.Option.{option_map}
 use Rattle.gx_model.specs.declared.objects.Kind.{Kind}
 use Rattle.gx_model.specs.declared.faults.Fault.{Fault}
 use Rattle.gx_model.specs.Texts.{Bytes}
-use Rattle.gx_model.specs.Grammar.{with_first}
+use Rattle.gx_model.specs.Grammar.{stops, with_first}
 use Rattle.gx_model.specs.Gitlinks.{BringsNoNullGitlink, HoldsNoNullGitlink}
 use Rattle.gx_model.specs.Histories.{History, Record, Records}
 use Rattle.gx_model.specs.HistoryOf.{history_of}
-use Rattle.gx_model.specs.Commands.{Command, Commands}
+use Rattle.gx_model.specs.Commands.{Command, Commands, Progress}
 use Rattle.gx_model.specs.Revisions.{revision_of}
 use Rattle.gx_model.specs.Replay.{Outcome, State, byte_cmp, imported, refused, replayed, replayed_commands, start, step}
 use Rattle.gx_model.proofs.GitlinkSteps.{IsFreeState, step_free}
@@ -25,15 +26,16 @@ use Rattle.gx_command.specs.declared.fault.CommandFault.TheVariants as command_f
 use Rattle.gx_import.specs.Additions.{ClashesAt}
 use Rattle.gx_import.specs.Applying.{Applies}
 use Rattle.gx_import.specs.ImportKinds.{fault_of, of_command}
-use Rattle.gx_import.specs.Imports.{Imports, Replays, last_number, progress_of}
-use Rattle.gx_import.specs.Replaying.{EndsAs}
+use Rattle.gx_import.specs.Imports.{Imports, IsCutAt, Replays, last_number, line_of, only, progress_of, replayed_on}
+use Rattle.gx_import.specs.Replaying.{EndsAs, IsLast}
 use Rattle.gx_import.specs.Objects.{IsOf, IsTagOf}
 use Rattle.gx_import.specs.Rows.{AreBoth, AreRows}
 use Rattle.gx_import.specs.Standing.{AreEmpty, Extends, IsTip, Stands}
+use Rattle.gx_import.specs.declared.fault.ImportFault.{ImportFault}
 use Rattle.gx_import.specs.declared.fault.ImportKind.{ImportKind}
 use Rattle.gx_import.specs.declared.fault.ImportKind.TheVariants.{OutOfMemory, ReadFailed, WriteFailed, UnknownCommand, BadLine, BadNumber, TruncatedData, BadPath, PathTooLong, BadMode, BadIdent, BadRefName, UnknownMark, WrongKind, UnknownObject, NoSuchPath, RootNotTree, FromItself, EmptyBranch, Unsupported, LateOption, MissingDone, NotFastForward, NameHeld, BadRevision, UnknownRef, Ambiguous, NoParent}
 use Rattle.gx_import.specs.declared.tables.Tables.{Tables}
-use Rattle.gx_import.proofs.ProgressTexts.{begins_outcome, failed_later, failed_sooner, numbers_outcome, took_more, took_none}
+use Rattle.gx_import.proofs.ProgressTexts.{begins_outcome, failed_later, failed_sooner, last_progress, numbers_outcome, took_more, took_none}
 
 -- a fault of the reader is one of the import
 same_fault : (f : CommandFault) → fault_of (of_command f) ≡ command.fault_of f
@@ -52,154 +54,206 @@ same_fault command_fault.Unsupported = refl
 same_fault command_fault.LateOption = refl
 same_fault command_fault.MissingDone = refl
 
+-- numbers of commands are from 1
+pub from_one : (n : ℕ) → 1 ≤ n + 1
+from_one n = omega arith
+
+-- commands, and what is left behind them
+abbrev behind : List Command → Commands → Commands
+behind before left = record { list = before ++ left.list; fault = left.fault }
+
+-- a command more before what is left
+behind_next : (before : List Command) (c : Command) (left : Commands) → behind (before ++ c ∷ []) left ≡ behind before (with_first c left)
+behind_next before c left = ap (λ l. record { list = l; fault = left.fault }) (append_assoc before (c ∷ []) left.list)
+
 module _ (name : Kind → Bytes → Bytes) where
   -- the outcome of an import is that of its commands
   pub imported_is : (h : History) (c : Coming) → imported name h (heard c).bytes (heard c).fails ≡ replayed_commands name revision_of h (commands_from c)
   unfolding imported
   imported_is h c = refl
 
-  -- n commands were replayed, to this state; these are left, and the sink has the progress text
-  pub record HasReached (h : History) (commands : Commands) (n : ℕ) (s : State) (left : Commands) (was now : Option Taken) : Type 0 where
-    pub outcome : replayed_commands name revision_of h commands ≡ replayed name revision_of n s left.list left.fault
-    pub clashes : (number : ℕ) → ClashesAt name n s left.list number → ClashesAt name 0 (start h) commands.list number
+  -- these commands, n in number, were replayed to this state, and the sink has the progress text
+  pub record HasReached (h : History) (before : List Command) (n : ℕ) (s : State) (was now : Option Taken) : Type 0 where
+    pub outcome : (left : Commands) → replayed_commands name revision_of h (behind before left) ≡ replayed name revision_of n s left.list left.fault
+    pub clashes : (left : List Command) (number : ℕ) → ClashesAt name n s left number → ClashesAt name 0 (start h) (before ++ left) number
+    pub count : length before ≡ n
     pub progress : Took was now s.progress
     pub held : s.held ≡ length h.values
 
-  reached_start : (h : History) (commands : Commands) (was : Option Taken) → HasReached h commands 0 (start h) commands was was
-  reached_start h commands was = record { outcome = refl; clashes = λ n k. k; progress = took_none was; held = refl }
+  reached_start : (h : History) (was : Option Taken) → HasReached h [] 0 (start h) was was
+  reached_start h was = record { outcome = λ left. refl; clashes = λ left number k. k; count = refl; progress = took_none was; held = refl }
 
   -- the state after one command more
-  reached_next : (h : History) (commands : Commands) (n : ℕ) (s : State) (c : Command) (left : Commands) (was mid now : Option Taken) → HasReached h commands n s (with_first c left) was mid
-      → (t : State) (text : Bytes) → step name revision_of s c ≡ Ok t → t.progress ≡ s.progress ++ text → t.held ≡ s.held → Took mid now text → HasReached h commands (n + 1) t left was now
-  reached_next h commands n s c left was mid now k t text e p held took = record {
-    outcome = k.outcome ∙ ap (λ r. elim r as (λ _. Outcome) [ Ok u ↦ replayed name revision_of (n + 1) u left.list left.fault | Err f ↦ refused (n + 1) f s.progress ]) e;
-    clashes = λ number i. k.clashes number (inr (subst (λ r. elim r as (λ _. Type 0) [ Ok u ↦ ClashesAt name (n + 1) u left.list number | Err f ↦ ⊥ ]) (sym e) i));
+  reached_next : (h : History) (before : List Command) (n : ℕ) (s : State) (c : Command) (was mid now : Option Taken) → HasReached h before n s was mid
+      → (t : State) (text : Bytes) → step name revision_of s c ≡ Ok t → t.progress ≡ s.progress ++ text → t.held ≡ s.held → Took mid now text → HasReached h (before ++ c ∷ []) (n + 1) t was now
+  reached_next h before n s c was mid now k t text e p held took = record {
+    outcome = λ left. ap (replayed_commands name revision_of h) (behind_next before c left) ∙ k.outcome (with_first c left)
+        ∙ ap (λ r. elim r as (λ _. Outcome) [ Ok u ↦ replayed name revision_of (n + 1) u left.list left.fault | Err f ↦ refused (n + 1) f s.progress ]) e;
+    clashes = λ left number i.
+        let next = subst (λ r. elim r as (λ _. Type 0) [ Ok u ↦ ClashesAt name (n + 1) u left number | Err f ↦ ⊥ ]) (sym e) i in
+        subst (λ l. ClashesAt name 0 (start h) l number) (sym (append_assoc before (c ∷ []) left)) (k.clashes (c ∷ left) number (inr next));
+    count = length-append before (c ∷ []) ∙ ap (λ m. m + 1) k.count;
     progress = subst (Took was now) (sym p) (took_more was mid now s.progress text k.progress took);
     held = held ∙ k.held;
   }
 
-  -- the step that is refused ends the outcome
-  refused_here : (h : History) (commands : Commands) (n : ℕ) (s : State) (c : Command) (left : Commands) (was now : Option Taken) → HasReached h commands n s (with_first c left) was now
-      → (f : Fault) → step name revision_of s c ≡ Err f → replayed_commands name revision_of h commands ≡ refused (n + 1) f s.progress
-  refused_here h commands n s c left was now k f e = k.outcome ∙ ap (λ r. elim r as (λ _. Outcome) [ Ok u ↦ replayed name revision_of (n + 1) u left.list left.fault | Err f ↦ refused (n + 1) f s.progress ]) e
+  -- these commands alone end with the state
+  reached_last : (old : Records) (before : List Command) (n : ℕ) (s : State) (was now : Option Taken) → HasReached (history_of old) before n s was now → IsLast name old (only before) n s was now
+  reached_last old before n s was now k = record {
+    outcome = ap (λ l. replayed_on name old (only l)) (sym (append-nil before)) ∙ k.outcome (only []);
+    progress = k.progress;
+    held = k.held;
+  }
 
-  -- what the sink has is a front of the outcome's text
-  took_front : (h : History) (commands : Commands) (n : ℕ) (s : State) (left : Commands) (was now : Option Taken) → HasReached h commands n s left was now
-      → TookFront was now (progress_of (replayed_commands name revision_of h commands))
-  took_front h commands n s left was now k =
-      let b = begins_outcome name n s left.list left.fault in
-      (s.progress, b.0, ap progress_of k.outcome ∙ b.1, k.progress)
+  module _ (old new : Records) (before : List Command) (n : ℕ) (s : State) (was mid : Option Taken) (k : HasReached (history_of old) before n s was mid) where
+    -- what the sink has is a front of the outcome's text
+    took_front : (left : Commands) → TookFront was mid (progress_of (replayed_on name old (behind before left)))
+    took_front left =
+        let b = begins_outcome name n s left.list left.fault in
+        (s.progress, b.0, ap progress_of (k.outcome left) ∙ b.1, k.progress)
 
-  number_within : (h : History) (commands : Commands) (n : ℕ) (s : State) (left : Commands) (was now : Option Taken) → HasReached h commands n s left was now
-      → n + 1 ≤ last_number (replayed_commands name revision_of h commands)
-  number_within h commands n s left was now k = subst (λ o. n + 1 ≤ last_number o) (sym k.outcome) (numbers_outcome name n s left.list left.fault)
+    number_within : (left : Commands) → n + 1 ≤ last_number (replayed_on name old (behind before left))
+    number_within left = subst (λ o. n + 1 ≤ last_number o) (sym (k.outcome left)) (numbers_outcome name n s left.list left.fault)
 
-  -- memory ran out
-  out_of_memory : (old new : Records) (commands : Commands) (n : ℕ) (s : State) (left : Commands) (was now : Option Taken) → HasReached (history_of old) commands n s left was now
-      → Replays name old new commands (replayed_commands name revision_of (history_of old) commands) was now (Err (record { command = n + 1; kind = OutOfMemory }))
-  out_of_memory old new commands n s left was now k = inr (number_within (history_of old) commands n s left was now k, inl (refl, took_front (history_of old) commands n s left was now k))
+    -- what the import answers at the next command, where this is left
+    abbrev Stops : Commands → Option Taken → ImportKind → Type 0
+    Stops left now kind = Replays name old new (behind before left) (replayed_on name old (behind before left)) was now (Err (record { command = n + 1; kind = kind }))
 
-  -- the sink failed within the text of a step
-  failed_here : (h : History) (commands : Commands) (n : ℕ) (s : State) (c : Command) (left : Commands) (was mid now : Option Taken) → HasReached h commands n s (with_first c left) was mid
-      → (t : State) (text : Bytes) → step name revision_of s c ≡ Ok t → t.progress ≡ s.progress ++ text → FailedWithin mid now text → FailedWithin was now (progress_of (replayed_commands name revision_of h commands))
-  failed_here h commands n s c left was mid now k t text e p failed =
-      let b = begins_outcome name (n + 1) t left.list left.fault in
-      let o = k.outcome ∙ ap (λ r. elim r as (λ _. Outcome) [ Ok u ↦ replayed name revision_of (n + 1) u left.list left.fault | Err f ↦ refused (n + 1) f s.progress ]) e in
-      let whole = ap progress_of o ∙ b.1 ∙ ap (λ x. x ++ b.0) p in
-      subst (FailedWithin was now) (sym whole) (failed_sooner was now (s.progress ++ text) b.0 (failed_later was mid now s.progress text k.progress failed))
+    -- memory ran out
+    out_of_memory : (left : Commands) → Stops left mid OutOfMemory
+    out_of_memory left = inr (from_one n, number_within left, inl (refl, took_front left))
 
-  -- a command that isn't applied
-  stopped : {A : Type 0} (old new r now_r : Records) (tables : Tables A) (commands : Commands) (n : ℕ) (s : State) (c : Command) (left : Commands) (was mid now : Option Taken)
-      → HasReached (history_of old) commands n s (with_first c left) was mid → (e : ImportKind) → Applies name r now_r tables s c mid now (Err e)
-      → Replays name old new commands (replayed_commands name revision_of (history_of old) commands) was now (Err (record { command = n + 1; kind = e }))
-  stopped old new r now_r tables commands n s c left was mid now k OutOfMemory h = subst (λ m. Replays name old new commands (replayed_commands name revision_of (history_of old) commands) was m (Err (record { command = n + 1; kind = OutOfMemory }))) (sym h) (out_of_memory old new commands n s (with_first c left) was mid k)
-  stopped old new r now_r tables commands n s c left was mid now k ReadFailed h = inl (s.progress, refused_here (history_of old) commands n s c left was mid k (fault_of ReadFailed) h.0, subst (λ m. Took was m s.progress) (sym h.1) k.progress)
-  stopped old new r now_r tables commands n s c left was mid now k WriteFailed h =
-      elim h as (λ _. Replays name old new commands (replayed_commands name revision_of (history_of old) commands) was now (Err (record { command = n + 1; kind = WriteFailed }))) [
-        | inl e ↦ inl (s.progress, refused_here (history_of old) commands n s c left was mid k (fault_of WriteFailed) e.0, subst (λ m. Took was m s.progress) (sym e.1) k.progress)
-        | inr e ↦ inr (number_within (history_of old) commands n s (with_first c left) was mid k, inr (inr (refl, failed_here (history_of old) commands n s c left was mid now k e.0 e.1 e.2 e.3.progress e.4)))
-      ]
-  stopped old new r now_r tables commands n s c left was mid now k UnknownCommand h = inl (s.progress, refused_here (history_of old) commands n s c left was mid k (fault_of UnknownCommand) h.0, subst (λ m. Took was m s.progress) (sym h.1) k.progress)
-  stopped old new r now_r tables commands n s c left was mid now k BadLine h = inl (s.progress, refused_here (history_of old) commands n s c left was mid k (fault_of BadLine) h.0, subst (λ m. Took was m s.progress) (sym h.1) k.progress)
-  stopped old new r now_r tables commands n s c left was mid now k BadNumber h = inl (s.progress, refused_here (history_of old) commands n s c left was mid k (fault_of BadNumber) h.0, subst (λ m. Took was m s.progress) (sym h.1) k.progress)
-  stopped old new r now_r tables commands n s c left was mid now k TruncatedData h = inl (s.progress, refused_here (history_of old) commands n s c left was mid k (fault_of TruncatedData) h.0, subst (λ m. Took was m s.progress) (sym h.1) k.progress)
-  stopped old new r now_r tables commands n s c left was mid now k BadPath h = inl (s.progress, refused_here (history_of old) commands n s c left was mid k (fault_of BadPath) h.0, subst (λ m. Took was m s.progress) (sym h.1) k.progress)
-  stopped old new r now_r tables commands n s c left was mid now k PathTooLong h = inl (s.progress, refused_here (history_of old) commands n s c left was mid k (fault_of PathTooLong) h.0, subst (λ m. Took was m s.progress) (sym h.1) k.progress)
-  stopped old new r now_r tables commands n s c left was mid now k BadMode h = inl (s.progress, refused_here (history_of old) commands n s c left was mid k (fault_of BadMode) h.0, subst (λ m. Took was m s.progress) (sym h.1) k.progress)
-  stopped old new r now_r tables commands n s c left was mid now k BadIdent h = inl (s.progress, refused_here (history_of old) commands n s c left was mid k (fault_of BadIdent) h.0, subst (λ m. Took was m s.progress) (sym h.1) k.progress)
-  stopped old new r now_r tables commands n s c left was mid now k BadRefName h = inl (s.progress, refused_here (history_of old) commands n s c left was mid k (fault_of BadRefName) h.0, subst (λ m. Took was m s.progress) (sym h.1) k.progress)
-  stopped old new r now_r tables commands n s c left was mid now k UnknownMark h = inl (s.progress, refused_here (history_of old) commands n s c left was mid k (fault_of UnknownMark) h.0, subst (λ m. Took was m s.progress) (sym h.1) k.progress)
-  stopped old new r now_r tables commands n s c left was mid now k WrongKind h = inl (s.progress, refused_here (history_of old) commands n s c left was mid k (fault_of WrongKind) h.0, subst (λ m. Took was m s.progress) (sym h.1) k.progress)
-  stopped old new r now_r tables commands n s c left was mid now k UnknownObject h = inl (s.progress, refused_here (history_of old) commands n s c left was mid k (fault_of UnknownObject) h.0, subst (λ m. Took was m s.progress) (sym h.1) k.progress)
-  stopped old new r now_r tables commands n s c left was mid now k NoSuchPath h = inl (s.progress, refused_here (history_of old) commands n s c left was mid k (fault_of NoSuchPath) h.0, subst (λ m. Took was m s.progress) (sym h.1) k.progress)
-  stopped old new r now_r tables commands n s c left was mid now k RootNotTree h = inl (s.progress, refused_here (history_of old) commands n s c left was mid k (fault_of RootNotTree) h.0, subst (λ m. Took was m s.progress) (sym h.1) k.progress)
-  stopped old new r now_r tables commands n s c left was mid now k FromItself h = inl (s.progress, refused_here (history_of old) commands n s c left was mid k (fault_of FromItself) h.0, subst (λ m. Took was m s.progress) (sym h.1) k.progress)
-  stopped old new r now_r tables commands n s c left was mid now k EmptyBranch h = inl (s.progress, refused_here (history_of old) commands n s c left was mid k (fault_of EmptyBranch) h.0, subst (λ m. Took was m s.progress) (sym h.1) k.progress)
-  stopped old new r now_r tables commands n s c left was mid now k Unsupported h = inl (s.progress, refused_here (history_of old) commands n s c left was mid k (fault_of Unsupported) h.0, subst (λ m. Took was m s.progress) (sym h.1) k.progress)
-  stopped old new r now_r tables commands n s c left was mid now k LateOption h = inl (s.progress, refused_here (history_of old) commands n s c left was mid k (fault_of LateOption) h.0, subst (λ m. Took was m s.progress) (sym h.1) k.progress)
-  stopped old new r now_r tables commands n s c left was mid now k MissingDone h = inl (s.progress, refused_here (history_of old) commands n s c left was mid k (fault_of MissingDone) h.0, subst (λ m. Took was m s.progress) (sym h.1) k.progress)
-  stopped old new r now_r tables commands n s c left was mid now k NotFastForward h = inl (s.progress, refused_here (history_of old) commands n s c left was mid k (fault_of NotFastForward) h.0, subst (λ m. Took was m s.progress) (sym h.1) k.progress)
-  stopped old new r now_r tables commands n s c left was mid now k NameHeld h =
-      elim h.0 as (λ _. Replays name old new commands (replayed_commands name revision_of (history_of old) commands) was now (Err (record { command = n + 1; kind = NameHeld }))) [
-        | inl e ↦ inl (s.progress, refused_here (history_of old) commands n s c left was mid k (fault_of NameHeld) e, subst (λ m. Took was m s.progress) (sym h.1) k.progress)
-        | inr e ↦ inr (number_within (history_of old) commands n s (with_first c left) was mid k, inr (inl (refl, k.clashes (n + 1) (inl (refl, e)), subst (λ m. TookFront was m (progress_of (replayed_commands name revision_of (history_of old) commands))) (sym h.1) (took_front (history_of old) commands n s (with_first c left) was mid k))))
-      ]
-  stopped old new r now_r tables commands n s c left was mid now k BadRevision h = inl (s.progress, refused_here (history_of old) commands n s c left was mid k (fault_of BadRevision) h.0, subst (λ m. Took was m s.progress) (sym h.1) k.progress)
-  stopped old new r now_r tables commands n s c left was mid now k UnknownRef h = inl (s.progress, refused_here (history_of old) commands n s c left was mid k (fault_of UnknownRef) h.0, subst (λ m. Took was m s.progress) (sym h.1) k.progress)
-  stopped old new r now_r tables commands n s c left was mid now k Ambiguous h = inl (s.progress, refused_here (history_of old) commands n s c left was mid k (fault_of Ambiguous) h.0, subst (λ m. Took was m s.progress) (sym h.1) k.progress)
-  stopped old new r now_r tables commands n s c left was mid now k NoParent h = inl (s.progress, refused_here (history_of old) commands n s c left was mid k (fault_of NoParent) h.0, subst (λ m. Took was m s.progress) (sym h.1) k.progress)
+    -- what is left is the reader's fault
+    fault_read : (left : Commands) (f : CommandFault) → left ≡ stops (Some (command.fault_of f)) → Stops left mid (of_command f)
+    fault_read left f e =
+        inl (s.progress, k.outcome left ∙ ap (λ l. replayed name revision_of n s l.list l.fault) e ∙ ap (λ g. refused (n + 1) g s.progress) (sym (same_fault f)), k.progress)
 
--- where a replay is in the commands that a source gives, if it tells its bytes
+    module _ (c : Command) (left : Commands) (now : Option Taken) where
+      -- the step that is refused ends the outcome
+      refused_here : (f : Fault) → step name revision_of s c ≡ Err f → replayed_on name old (behind before (with_first c left)) ≡ refused (n + 1) f s.progress
+      refused_here f e = k.outcome (with_first c left) ∙ ap (λ r. elim r as (λ _. Outcome) [ Ok u ↦ replayed name revision_of (n + 1) u left.list left.fault | Err g ↦ refused (n + 1) g s.progress ]) e
+
+      -- and the sink is as it was
+      refused_as : (e : ImportKind) → (step name revision_of s c ≡ Err (fault_of e)) × (now ≡ mid) → Stops (with_first c left) now e
+      refused_as e h = inl (s.progress, refused_here (fault_of e) h.0, subst (λ m. Took was m s.progress) (sym h.1) k.progress)
+
+      -- the sink failed within the text of a step
+      failed_here : (t : State) (text : Bytes) → step name revision_of s c ≡ Ok t → t.progress ≡ s.progress ++ text → FailedWithin mid now text
+          → FailedWithin was now (progress_of (replayed_on name old (behind before (with_first c left))))
+      failed_here t text e p failed =
+          let b = begins_outcome name (n + 1) t left.list left.fault in
+          let o = k.outcome (with_first c left) ∙ ap (λ r. elim r as (λ _. Outcome) [ Ok u ↦ replayed name revision_of (n + 1) u left.list left.fault | Err f ↦ refused (n + 1) f s.progress ]) e in
+          let whole = ap progress_of o ∙ b.1 ∙ ap (λ x. x ++ b.0) p in
+          subst (FailedWithin was now) (sym whole) (failed_sooner was now (s.progress ++ text) b.0 (failed_later was mid now s.progress text k.progress failed))
+
+      -- the line of a progress is cut, behind those of the commands before
+      cut_here : (text : Bytes) → c ≡ Progress text → FailedWithin mid now (line_of text) → IsCutAt name old (before ++ c ∷ left.list) (n + 1) was now
+      cut_here text e failed =
+          let last = reached_last old before n s was mid k in
+          let said = ap progress_of last.outcome ∙ last_progress name n s None in
+          (before, text, left.list, ap (λ x. before ++ x ∷ left.list) e, sym (ap (λ m. m + 1) k.count), (mid, subst (Took was mid) (sym said) k.progress, failed))
+
+      -- a command that isn't applied
+      stopped : {A : Type 0} (r now_r : Records) (tables : Tables A) (e : ImportKind) → Applies name r now_r tables s c mid now (Err e) → Stops (with_first c left) now e
+      stopped r now_r tables OutOfMemory h = subst (λ m. Stops (with_first c left) m OutOfMemory) (sym h) (out_of_memory (with_first c left))
+      stopped r now_r tables WriteFailed h =
+          elim h as (λ _. Stops (with_first c left) now WriteFailed) [
+            | inl e ↦ refused_as WriteFailed e
+            | inr e ↦ inr (from_one n, number_within (with_first c left), inr (inr (refl, cut_here e.1 e.2 e.5, failed_here e.0 (line_of e.1) e.3 e.4.progress e.5)))
+          ]
+      stopped r now_r tables NameHeld h =
+          elim h.0 as (λ _. Stops (with_first c left) now NameHeld) [
+            | inl e ↦ refused_as NameHeld (e, h.1)
+            | inr e ↦
+                let front = subst (λ m. TookFront was m (progress_of (replayed_on name old (behind before (with_first c left))))) (sym h.1) (took_front (with_first c left)) in
+                inr (from_one n, number_within (with_first c left), inr (inl (refl, k.clashes (c ∷ left.list) (n + 1) (inl (refl, e)), front)))
+          ]
+      stopped r now_r tables ReadFailed h = refused_as ReadFailed h
+      stopped r now_r tables UnknownCommand h = refused_as UnknownCommand h
+      stopped r now_r tables BadLine h = refused_as BadLine h
+      stopped r now_r tables BadNumber h = refused_as BadNumber h
+      stopped r now_r tables TruncatedData h = refused_as TruncatedData h
+      stopped r now_r tables BadPath h = refused_as BadPath h
+      stopped r now_r tables PathTooLong h = refused_as PathTooLong h
+      stopped r now_r tables BadMode h = refused_as BadMode h
+      stopped r now_r tables BadIdent h = refused_as BadIdent h
+      stopped r now_r tables BadRefName h = refused_as BadRefName h
+      stopped r now_r tables UnknownMark h = refused_as UnknownMark h
+      stopped r now_r tables WrongKind h = refused_as WrongKind h
+      stopped r now_r tables UnknownObject h = refused_as UnknownObject h
+      stopped r now_r tables NoSuchPath h = refused_as NoSuchPath h
+      stopped r now_r tables RootNotTree h = refused_as RootNotTree h
+      stopped r now_r tables FromItself h = refused_as FromItself h
+      stopped r now_r tables EmptyBranch h = refused_as EmptyBranch h
+      stopped r now_r tables Unsupported h = refused_as Unsupported h
+      stopped r now_r tables LateOption h = refused_as LateOption h
+      stopped r now_r tables MissingDone h = refused_as MissingDone h
+      stopped r now_r tables NotFastForward h = refused_as NotFastForward h
+      stopped r now_r tables BadRevision h = refused_as BadRevision h
+      stopped r now_r tables UnknownRef h = refused_as UnknownRef h
+      stopped r now_r tables Ambiguous h = refused_as Ambiguous h
+      stopped r now_r tables NoParent h = refused_as NoParent h
+
+-- where a replay is in the commands that a source gives, or, where it tells nothing, in those that were answered so far
 module _ (name : Kind → Bytes → Bytes) where
   abbrev pub IsAt : Records → Option Coming → ℕ → State → Option Commands → Option Taken → Option Taken → Type 0
-  IsAt old None n s ahead was now = Unit {0}
-  IsAt old (Some coming) n s ahead was now = (left : Commands) × (ahead ≡ Some left) × HasReached name (history_of old) (commands_from coming) n s left was now
+  IsAt old None n s ahead was now = (before : List Command) × HasReached name (history_of old) before n s was now
+  IsAt old (Some coming) n s ahead was now =
+      (before : List Command) × (left : Commands) × (ahead ≡ Some left) × (commands_from coming ≡ behind before left) × HasReached name (history_of old) before n s was now
 
   pub at_start : (old : Records) (coming : Option Coming) (ahead : Option Commands) (was : Option Taken) → ahead ≡ option_map commands_from coming → IsAt old coming 0 (start (history_of old)) ahead was was
-  at_start old None ahead was e = tt
-  at_start old (Some coming) ahead was e = (commands_from coming, e, reached_start name (history_of old) (commands_from coming) was)
+  at_start old None ahead was e = ([], reached_start name (history_of old) was)
+  at_start old (Some coming) ahead was e = ([], commands_from coming, e, refl, reached_start name (history_of old) was)
 
   pub at_next : {A : Type 0} (old r new : Records) (tables : Tables A) (coming : Option Coming) (n : ℕ) (s : State) (c : read.Command A) (ahead later : Option Commands) (was mid now : Option Taken)
       → IsAt old coming n s ahead was mid → Reads ahead later (Ok (Some c)) → Applies name r new tables s (shown_command c) mid now (Ok tt)
       → (t : State) × (step name revision_of s (shown_command c) ≡ Ok t) × Stands name new tables t × IsAt old coming (n + 1) t later was now
-  at_next old r new tables None n s c ahead later was mid now k reads h = (h.0, h.2, h.3, tt)
+  at_next old r new tables None n s c ahead later was mid now k reads h =
+      (h.0, h.2, h.3, (k.0 ++ shown_command c ∷ [], reached_next name (history_of old) k.0 n s (shown_command c) was mid now k.1 h.0 h.1 h.2 h.4.progress h.4.held h.5))
   at_next {A} old r new tables (Some coming) n s c ahead later was mid now k reads h =
-      let q = subst (λ o. Reads {A = A} o later (Ok (Some c))) k.1 reads in
-      let here = subst (λ l. HasReached name (history_of old) (commands_from coming) n s l was mid) q.1 k.2 in
-      (h.0, h.2, h.3, (q.0, q.2, reached_next name (history_of old) (commands_from coming) n s (shown_command c) q.0 was mid now here h.0 h.1 h.2 h.4.progress h.4.held h.5))
+      let q = subst (λ o. Reads {A = A} o later (Ok (Some c))) k.2 reads in
+      let whole = k.3 ∙ ap (behind k.0) q.1 ∙ sym (behind_next k.0 (shown_command c) q.0) in
+      (h.0, h.2, h.3, (k.0 ++ shown_command c ∷ [], q.0, q.2, whole, reached_next name (history_of old) k.0 n s (shown_command c) was mid now k.4 h.0 h.1 h.2 h.4.progress h.4.held h.5))
+
+  -- what is answered over these commands is answered over those that the source gives
+  told : (old last : Records) (coming : Coming) (commands : Commands) (was now : Option Taken) (fault : ImportFault) → commands_from coming ≡ commands
+      → Replays name old last commands (replayed_on name old commands) was now (Err fault) → Imports name old last (Some coming) was now (Err fault)
+  told old last coming commands was now fault e h =
+      subst (λ o. Replays name old last (commands_from coming) o was now (Err fault)) (sym (imported_is name (history_of old) coming))
+      (subst (λ cs. Replays name old last cs (replayed_on name old cs) was now (Err fault)) (sym e) h)
 
   pub at_stopped : {A : Type 0} (old last r new : Records) (tables : Tables A) (coming : Option Coming) (n : ℕ) (s : State) (c : read.Command A) (ahead later : Option Commands) (was mid now : Option Taken)
       → IsAt old coming n s ahead was mid → Reads ahead later (Ok (Some c)) → (e : ImportKind) → Applies name r new tables s (shown_command c) mid now (Err e)
       → Imports name old last coming was now (Err (record { command = n + 1; kind = e }))
-  at_stopped old last r new tables None n s c ahead later was mid now k reads e h = tt
+  at_stopped old last r new tables None n s c ahead later was mid now k reads e h =
+      let left = stops None in
+      (behind k.0 (with_first (shown_command c) left), tt, stopped name old last k.0 n s was mid k.1 (shown_command c) left now r new tables e h)
   at_stopped {A} old last r new tables (Some coming) n s c ahead later was mid now k reads e h =
-      let q = subst (λ o. Reads {A = A} o later (Ok (Some c))) k.1 reads in
-      let here = subst (λ l. HasReached name (history_of old) (commands_from coming) n s l was mid) q.1 k.2 in
-      subst (λ o. Replays name old last (commands_from coming) o was now (Err (record { command = n + 1; kind = e }))) (sym (imported_is name (history_of old) coming))
-      (stopped name old last r new tables (commands_from coming) n s (shown_command c) q.0 was mid now here e h)
+      let q = subst (λ o. Reads {A = A} o later (Ok (Some c))) k.2 reads in
+      told old last coming (behind k.0 (with_first (shown_command c) q.0)) was now (record { command = n + 1; kind = e }) (k.3 ∙ ap (behind k.0) q.1)
+      (stopped name old last k.0 n s was mid k.4 (shown_command c) q.0 now r new tables e h)
 
   pub at_refused : (A : Type 0) (old last : Records) (coming : Option Coming) (n : ℕ) (s : State) (ahead later : Option Commands) (was now : Option Taken) → IsAt old coming n s ahead was now
       → (f : CommandFault) → Reads {A = A} ahead later (Err f) → Imports name old last coming was now (Err (record { command = n + 1; kind = of_command f }))
-  at_refused A old last None n s ahead later was now k f reads = tt
+  at_refused A old last None n s ahead later was now k f reads =
+      let left = stops (Some (command.fault_of f)) in
+      (behind k.0 left, (f, refl), fault_read name old last k.0 n s was now k.1 left f refl)
   at_refused A old last (Some coming) n s ahead later was now k f reads =
-      let q = subst (λ o. Reads {A = A} o later (Err f)) k.1 reads in
-      let commands = commands_from coming in
-      let goal : ImportKind → Type 0 = λ kind. Replays name old last commands (replayed_commands name revision_of (history_of old) commands) was now (Err (record { command = n + 1; kind = kind })) in
-      subst (λ o. Replays name old last commands o was now (Err (record { command = n + 1; kind = of_command f }))) (sym (imported_is name (history_of old) coming))
-      (elim q.1 as (λ _. goal (of_command f)) [
-        | inl e ↦ subst (λ g. goal (of_command g)) (sym e) (out_of_memory name old last commands n s k.0 was now k.2)
-        | inr e ↦
-            let here = subst (λ l. HasReached name (history_of old) commands n s l was now) e k.2 in
-            inl (s.progress, here.outcome ∙ ap (λ g. refused (n + 1) g s.progress) (sym (same_fault f)), here.progress)
-      ])
+      let q = subst (λ o. Reads {A = A} o later (Err f)) k.2 reads in
+      let goal : ImportKind → Type 0 = λ kind. Imports name old last (Some coming) was now (Err (record { command = n + 1; kind = kind })) in
+      elim q.1 as (λ _. goal (of_command f)) [
+        | inl e ↦
+            let answer = told old last coming (behind k.0 k.1) was now (record { command = n + 1; kind = OutOfMemory }) k.3 (out_of_memory name old last k.0 n s was now k.4 k.1) in
+            subst (λ g. goal (of_command g)) (sym e) answer
+        | inr e ↦ told old last coming (behind k.0 k.1) was now (record { command = n + 1; kind = of_command f }) k.3 (fault_read name old last k.0 n s was now k.4 k.1 f e)
+      ]
 
   pub at_end : (A : Type 0) (old : Records) (coming : Option Coming) (n : ℕ) (s : State) (ahead later : Option Commands) (was now : Option Taken) → IsAt old coming n s ahead was now
       → Reads {A = A} ahead later (Ok None) → EndsAs name old coming n s was now
-  at_end A old None n s ahead later was now k reads = tt
+  at_end A old None n s ahead later was now k reads = (k.0, reached_last name old k.0 n s was now k.1)
   at_end A old (Some coming) n s ahead later was now k reads =
-      let q = subst (λ o. Reads {A = A} o later (Ok None)) k.1 reads in
-      let here = subst (λ l. HasReached name (history_of old) (commands_from coming) n s l was now) q.0 k.2 in
-      record { outcome = here.outcome; progress = here.progress; held = here.held }
+      let q = subst (λ o. Reads {A = A} o later (Ok None)) k.2 reads in
+      record { outcome = ap (replayed_on name old) (k.3 ∙ ap (behind k.0) q.0) ∙ k.4.outcome (stops None); progress = k.4.progress; held = k.4.held }
 
 -- where nothing was replayed, tables that are empty stand
 pub stand_empty : (name : Kind → Bytes → Bytes) {A : Type 0} (r : Records) (tables : Tables A) → AreEmpty tables → Stands name r tables (start (history_of r))

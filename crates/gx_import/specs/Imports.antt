@@ -1,16 +1,20 @@
 -- What an import answers, and what it makes of the repository and the sink.
 -- Source: git-fast-import(1).
-use Rattle.std.specs.Prelude.{◌≡◌, ◌⊎◌, ℕ, ◌+◌, ◌≤◌, Option, Some, None, Result, Ok, Err, ⊤}
+use Rattle.std.specs.Prelude.{◌≡◌, ◌⊎◌, ℕ, ◌+◌, ◌≤◌, List, [], ◌∷◌, ◌++◌, length, codes, Option, Some, None, Result, Ok, Err, IfSome}
 use Rattle.gx_model.specs.declared.objects.Kind.{Kind}
 use Rattle.gx_model.specs.Texts.{Bytes}
-use Rattle.gx_model.specs.Histories.{Records}
+use Rattle.gx_model.specs.Histories.{Records, StandsFor}
 use Rattle.gx_model.specs.HistoryOf.{history_of}
-use Rattle.gx_model.specs.Commands.{Commands}
+use Rattle.gx_model.specs.Sound.{IsSound}
+use Rattle.gx_model.specs.Commands.{Command, Commands, Progress}
+use Rattle.gx_model.specs.Revisions.{revision_of}
 use Rattle.gx_model.specs.Replay as model
-use Rattle.gx_model.specs.Replay.{Outcome, finished, refused, imported, start}
+use Rattle.gx_model.specs.Replay.{Outcome, finished, refused, imported, replayed_commands, start}
 use Rattle.gx_text.specs.Devices.{Coming, FailedWithin, Taken, Took, TookFront}
 use Rattle.gx_stream.specs.Heard.{heard}
+use Rattle.gx_command.specs.CommandFaults as reader
 use Rattle.gx_command.specs.Reading.{commands_from}
+use Rattle.gx_command.specs.declared.fault.CommandFault.{CommandFault}
 use Rattle.gx_import.specs.Additions.{ClashesAt}
 use Rattle.gx_import.specs.ImportKinds.{fault_of}
 use Rattle.gx_import.specs.declared.fault.ImportFault.{ImportFault}
@@ -31,15 +35,41 @@ last_number (refused number fault text) = number
 abbrev pub report_of : Report → model.Report
 report_of report = record { commands = report.commands; objects = report.objects; refs = report.refs }
 
+-- commands that a reader gives: where a fault ends them, it is one of a reader's
+abbrev pub AreRead : Commands → Type 0
+AreRead commands = IfSome commands.fault (λ fault. (why : CommandFault) × (fault ≡ reader.fault_of why))
+
+-- these commands alone, with no fault behind them
+abbrev pub only : List Command → Commands
+only commands = record { list = commands; fault = None }
+
+-- the line of a progress, with its line feed
+abbrev pub line_of : Bytes → Bytes
+line_of text = codes "progress " ++ text ++ 10 ∷ []
+
+-- a sink took the first text, and failed within the one behind it
+abbrev pub FailedBehind : Option Taken → Option Taken → Bytes → Bytes → Type 0
+FailedBehind was now before text = (mid : Option Taken) × Took was mid before × FailedWithin mid now text
+
 module _ (name : Kind → Bytes → Bytes) where
+  -- what the replay of commands gives, from the history of a repository on
+  abbrev pub replayed_on : Records → Commands → Outcome
+  replayed_on old commands = replayed_commands name revision_of (history_of old) commands
+
+  -- the command with this number is a progress, and within its line the sink failed, behind the lines of those before it
+  abbrev pub IsCutAt : Records → List Command → ℕ → Option Taken → Option Taken → Type 0
+  IsCutAt old commands number was now =
+      (before : List Command) × (text : Bytes) × (after : List Command) × (commands ≡ before ++ Progress text ∷ after)
+      × (number ≡ length before + 1) × FailedBehind was now (progress_of (replayed_on old (only before))) (line_of text)
+
   -- In the place of what the replay gives, at that command or before it, memory ran out, the sink failed, or a value had the
   -- name of another one.
   abbrev pub Interrupts : Records → Commands → Outcome → Option Taken → Option Taken → ImportFault → Type 0
   Interrupts old commands outcome was now fault =
-      (fault.command ≤ last_number outcome)
+      (1 ≤ fault.command) × (fault.command ≤ last_number outcome)
       × (((fault.kind ≡ OutOfMemory) × TookFront was now (progress_of outcome))
       ⊎ (((fault.kind ≡ NameHeld) × ClashesAt name 0 (start (history_of old)) commands.list fault.command × TookFront was now (progress_of outcome))
-      ⊎ ((fault.kind ≡ WriteFailed) × FailedWithin was now (progress_of outcome))))
+      ⊎ ((fault.kind ≡ WriteFailed) × IsCutAt old commands.list fault.command was now × FailedWithin was now (progress_of outcome))))
 
   -- an import is accepted as the replay is, refused as it is, or interrupted
   abbrev pub Replays : Records → Records → Commands → Outcome → Option Taken → Option Taken → Result Report ImportFault → Type 0
@@ -48,8 +78,19 @@ module _ (name : Kind → Bytes → Bytes) where
       ((text : Bytes) × (outcome ≡ refused fault.command (fault_of fault.kind) text) × Took was now text)
       ⊎ Interrupts old commands outcome was now fault
 
-  -- what an import does, where the source tells its bytes
+  -- What an import does where the source tells its bytes is what the replay of their commands gives. Where it tells nothing,
+  -- there are commands that a reader gives, and what the import does is what their replay gives.
   abbrev pub Imports : Records → Records → Option Coming → Option Taken → Option Taken → Result Report ImportFault → Type 0
-  Imports old new None was now result = ⊤
+  Imports old new None was now result = (commands : Commands) × AreRead commands × Replays old new commands (replayed_on old commands) was now result
   Imports old new (Some coming) was now result =
       Replays old new (commands_from coming) (imported name (history_of old) (heard coming).bytes (heard coming).fails) was now result
+
+  -- the replay is accepted, and a sound repository stands for its history
+  abbrev pub StandsForIts : Outcome → Records → Type 0
+  StandsForIts (finished h text report) new = IsSound name new × StandsFor name new h
+  StandsForIts (refused number fault text) new = ⊥
+
+  -- the new repository stands for the history that the replay of what the source gives makes of the old one's
+  abbrev pub StandsReplayed : Records → Records → Option Coming → Type 0
+  StandsReplayed old new None = (commands : Commands) × AreRead commands × StandsForIts (replayed_on old commands) new
+  StandsReplayed old new (Some coming) = StandsForIts (imported name (history_of old) (heard coming).bytes (heard coming).fails) new

@@ -5,6 +5,7 @@ pub mod Marks
 pub mod Rows
 pub mod Standing
 pub mod Steps
+pub mod Words
 pub mod Additions
 pub mod Applying
 pub mod RefChanges

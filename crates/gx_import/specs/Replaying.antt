@@ -1,10 +1,11 @@
 -- What reading, applying and writing do on the way through a stream, and where the replay of all commands ends.
 -- Source: git-fast-import(1), "Commands".
-use Rattle.std.specs.Prelude.{◌≡◌, ℕ, ◌+◌, length, Option, Some, None, Result, Ok, Err, ⊤}
+use Rattle.std.specs.Prelude.{◌≡◌, ℕ, ◌+◌, List, length, Option, Some, None, Result, Ok, Err, ⊤}
 use Rattle.gx_model.specs.declared.objects.Kind.{Kind}
 use Rattle.gx_model.specs.Texts.{Bytes}
 use Rattle.gx_model.specs.Histories.{Records}
 use Rattle.gx_model.specs.HistoryOf.{history_of}
+use Rattle.gx_model.specs.Commands as model
 use Rattle.gx_model.specs.Commands.{Commands}
 use Rattle.gx_model.specs.Revisions.{revision_of}
 use Rattle.gx_model.specs.Replay.{State, ended, replayed_commands}
@@ -13,7 +14,7 @@ use Rattle.gx_command.specs.Reading.{Falls, Reads, commands_from}
 use Rattle.gx_command.specs.declared.commands.Command.{Command}
 use Rattle.gx_command.specs.declared.fault.CommandFault.{CommandFault}
 use Rattle.gx_import.specs.ImportKinds.{of_command}
-use Rattle.gx_import.specs.Imports.{Imports}
+use Rattle.gx_import.specs.Imports.{Imports, only}
 use Rattle.gx_import.specs.Standing.{Stands}
 use Rattle.gx_import.specs.declared.fault.ImportFault.{ImportFault}
 use Rattle.gx_import.specs.declared.fault.ImportKind.{ImportKind}
@@ -42,9 +43,9 @@ module _ (name : Kind → Bytes → Bytes) where
     pub progress : Took was now s.progress
     pub held : s.held ≡ length (history_of old).values
 
-  -- the same, where the source tells its bytes
+  -- the same of the commands that the source gives, or of some commands where it tells nothing
   abbrev pub EndsAs : Records → Option Coming → ℕ → State → Option Taken → Option Taken → Type 0
-  EndsAs old None n s was now = ⊤
+  EndsAs old None n s was now = (commands : List model.Command) × IsLast old (only commands) n s was now
   EndsAs old (Some coming) n s was now = IsLast old (commands_from coming) n s was now
 
   -- all commands are replayed, and the repository and the tables stand for the last state; or the import is refused, or interrupted

@@ -2,7 +2,7 @@
 
 ghost use Rattle.std.specs.Prelude.{◌≡◌, OnErr, OnOk};
 ghost use Rattle.gx_import.specs.Exported.{ImportsExport, KeepsNoNullGitlink};
-ghost use Rattle.gx_import.specs.Imports.{Imports};
+ghost use Rattle.gx_import.specs.Imports.{Imports, StandsReplayed};
 ghost use Rattle.gx_import.specs.Standing.{Extends};
 
 use crate::publishing::publish;
@@ -38,6 +38,7 @@ pub fn import<N: Namer, A: Allocator + Copy, R: Source + Drop, W: Sink>(
 ) -> Result<Report, ImportFault>
     ensures namer { repo.new.0 ≡ repo.old.0 }
     ensures replayed { Imports (N.name_of repo.old.0) repo.old.1 repo.new.1 (R.coming source) (W.taken sink.old) (W.taken sink.new) result }
+    ensures stands { OnOk result (StandsReplayed (N.name_of repo.old.0) repo.old.1 repo.new.1 (R.coming source)) }
     ensures unchanged { OnErr result (repo.new ≡ repo.old) }
     ensures exported { ImportsExport (N.name_of repo.old.0) repo.old.1 repo.new.1 (R.coming source) result }
     ensures gitlinks { KeepsNoNullGitlink repo.old.1 repo.new.1 }

@@ -4,7 +4,7 @@ use Rattle.gx_model.specs.Histories.{Records}
 use Rattle.gx_model.specs.HistoryOf.{history_of}
 use Rattle.gx_model.specs.Sound.{IsSound}
 use Rattle.gx_import.proofs.ExportedAgain.{accepted, stopped}
-use Rattle.gx_import.proofs.Publications.{as_before, imports_fault, targets_stay}
+use Rattle.gx_import.proofs.Publications.{as_before, imports_fault, stands_replayed, targets_stay}
 use Rattle.gx_import.proofs.importing.import.Goals as goal
 
 pub truncate-requires : goal.truncate-requires
@@ -32,6 +32,14 @@ returns-in-Ok-clause-exported g c =
     let sound = subst (λ n. IsSound (g.N.Namer.name_of n) new) {y = c.args.repo.now.0} c.replay_and_publish.ensures.namer c.sound-in-Ok.ensures in
     accepted name (c.histories_of_records.ensures name namer) (c.names_tell_values.ensures name namer) c.exports_are_readable.ensures.readable c.exports_are_imported.ensures.imported
     c.args.repo.now.1 new (g.R.Source.coming c.args.source) (g.W.Sink.taken c.args.sink.now) (g.W.Sink.taken c.replay_and_publish.new.sink) c.in-Ok.report sound c.in-Ok.ensures.replayed
+
+pub returns-in-Ok-clause-stands : goal.returns-in-Ok-clause-stands
+returns-in-Ok-clause-stands g c =
+    let name = g.N.Namer.name_of c.args.repo.now.0 in
+    let new = c.replay_and_publish.new.repo.1 in
+    let sound = subst (λ n. IsSound (g.N.Namer.name_of n) new) {y = c.args.repo.now.0} c.replay_and_publish.ensures.namer c.sound-in-Ok.ensures in
+    stands_replayed name c.args.repo.now.1 new (g.R.Source.coming c.args.source) (g.W.Sink.taken c.args.sink.now) (g.W.Sink.taken c.replay_and_publish.new.sink) c.in-Ok.report
+    (c.histories_of_records.ensures name (g.met.N.Namer.is_namer c.args.repo.now.0)) sound c.in-Ok.ensures.replayed
 
 pub returns-in-Err-clause-exported : goal.returns-in-Err-clause-exported
 returns-in-Err-clause-exported g c =

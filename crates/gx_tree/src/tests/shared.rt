@@ -1,4 +1,5 @@
 use super::*;
+use std::hash::RandomState;
 
 /// The name that a tree is written with by the names that it remembers from before a file was put at this path, the one
 /// that it gets in an empty store, and how many records are in that store then.
@@ -6,8 +7,9 @@ fn written_again<A: Allocator + Copy>(
     alloc: A,
     tree: &mut PathTree<A>,
     path: &TreePath<A>,
+    state: RandomState,
 ) -> Option<(Name, Name, usize)> {
-    let mut store = Store::new(alloc, Sha1Namer);
+    let mut store = Store::new(alloc, Sha1Namer, state);
     let Ok(_) = tree.write(&mut store) else {
         return None;
     };
@@ -17,31 +19,34 @@ fn written_again<A: Allocator + Copy>(
     let Ok(shared) = tree.write_shared(&mut store) else {
         return None;
     };
-    let mut empty = Store::new(alloc, Sha1Namer);
+    let mut empty = Store::new(alloc, Sha1Namer, state);
     let Ok(alone) = tree.write(&mut empty) else {
         return None;
     };
     Some((shared, alone, empty.len()))
 }
 
-fn mixed_again<A: Allocator + Copy>(alloc: A) -> Option<(Name, Name, usize)> {
+fn mixed_again<A: Allocator + Copy>(alloc: A, state: RandomState) -> Option<(Name, Name, usize)> {
     let mut tree = mixed(alloc)?;
     let path = TreePath::read(alloc, b"n/o/p").ok()?;
-    written_again(alloc, &mut tree, &path)
+    written_again(alloc, &mut tree, &path, state)
 }
 
 #[test]
-fn remembered_names_give_the_name_of_the_tree(rt: HostRuntime) {
-    let Some((shared, alone, trees)) = mixed_again(rt.alloc()) else {
-        return assert!(rt; false);
-    };
+fn remembered_names_give_the_name_of_the_tree(rt: HostRuntime) -> Result<(), Fail> {
+    let state = RandomState::new(&rt)?;
+    let (shared, alone, trees) = mixed_again(rt.alloc(), state).ok_or("tree")?;
     assert_eq!(rt; (shared, trees), (alone, 5));
+    Ok(())
 }
 
 /// What a tree is written as, and then by the names that it remembers while each growth is refused.
-fn written_twice<B: Allocator>(heap: &Refusing<B>) -> Option<(Name, Result<Name, TreeFault>)> {
+fn written_twice<B: Allocator>(
+    heap: &Refusing<B>,
+    state: RandomState,
+) -> Option<(Name, Result<Name, TreeFault>)> {
     let mut tree = mixed(heap)?;
-    let mut store = Store::new(heap, Sha1Namer);
+    let mut store = Store::new(heap, Sha1Namer, state);
     let Ok(first) = tree.write(&mut store) else {
         return None;
     };
@@ -52,10 +57,9 @@ fn written_twice<B: Allocator>(heap: &Refusing<B>) -> Option<(Name, Result<Name,
 }
 
 #[test]
-fn remembered_names_are_written_without_memory(rt: HostRuntime) {
+fn remembered_names_are_written_without_memory(rt: HostRuntime) -> Result<(), Fail> {
     let heap = Refusing::new(rt.alloc(), 0);
-    let Some((first, second)) = written_twice(&heap) else {
-        return assert!(rt; false);
-    };
+    let (first, second) = written_twice(&heap, RandomState::new(&rt)?).ok_or("tree")?;
     assert_eq!(rt; second, Ok(first));
+    Ok(())
 }

@@ -1,5 +1,5 @@
 -- Names as keys: a map finds one by `==`, a set by its order, and both are the equality of the bytes.
-use Rattle.std.proofs.Common.{◌≡◌, Bool, true, false, cond, ◌||◌, List, [], ◌∷◌, ◌++◌, map, Some, None, is_some, refl, sym, ap, ◌∙◌, option_map}
+use Rattle.std.proofs.Common.{◌≡◌, Bool, true, false, cond, ◌||◌, List, [], ◌∷◌, ◌++◌, map, Option, Some, None, is_some, refl, sym, ap, ◌∙◌, option_map}
 use Rattle.std.specs.Prelude.{nat_lt, not, ◌+◌}
 use Rattle.std.specs.List.{position, position_or_len}
 use Rattle.std.specs.Map.{keys_of}
@@ -38,6 +38,14 @@ found {A} n (e ∷ es) = by (same_bytes n.bytes e.0.bytes) refl (found n es)
     by : (b : Bool) → same_bytes n.bytes e.0.bytes ≡ b → record_named (map held es) n.bytes ≡ option_map (under n) (lookup ((equality.eq-value).it n) es) → cond b (Some (held e)) (record_named (map held es) n.bytes) ≡ option_map (under n) (cond b (Some e.1) (lookup ((equality.eq-value).it n) es))
     by true h rest = ap (λ (m : Name). Some (under m e.1)) (sym (same_name n e.0 h))
     by false h rest = rest
+
+-- where no record has a name, a look-up in the map finds nothing
+pub lookup_free : {A : Type 0} (n : Name) (es : List (Name × Object A)) → record_named (map held es) n.bytes ≡ None → lookup ((equality.eq-value).it n) es ≡ None
+lookup_free {A} n es free = none (lookup ((equality.eq-value).it n) es) (sym (found n es) ∙ free)
+  where
+    none : (o : Option (Object A)) → option_map (under n) o ≡ None → o ≡ None
+    none None h = refl
+    none (Some o) h = absurd (cc)
 
 -- the set's test of a name
 at_name : (n q : Name) → is_at ((order.cmp-value).it n) q ≡ same_bytes n.bytes q.bytes

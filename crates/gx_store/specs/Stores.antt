@@ -1,5 +1,5 @@
 -- What a store holds, and what a put does to it.
-use Rattle.std.specs.Prelude.{◌≡◌, ℕ, List, map, Option, Some, None, Result, Ok, Err, IsTrue}
+use Rattle.std.specs.Prelude.{◌≡◌, ℕ, Bool, true, false, List, map, Option, Some, None, Result, Ok, Err, IsTrue}
 use Rattle.std.specs.List.{list_all, position, AllByRecursion}
 use Rattle.std.specs.Borrow.{Bor}
 use Rattle.gx_model.specs.declared.objects.Kind.{Kind}
@@ -22,6 +22,13 @@ abbrev pub Puts : List Record → List Record → Record → Result Name StoreFa
 Puts old new r (Ok name) = (name.bytes ≡ r.name) × (put old r ≡ Some new)
 Puts old new r (Err OutOfMemory) = (record_named old r.name ≡ None) × (new ≡ old)
 Puts old new r (Err NameHeld) = (put old r ≡ None) × (new ≡ old)
+
+-- whether this record is held, and no other has its name
+abbrev pub IsFound : List Record → Record → Result Bool StoreFault → Type 0
+IsFound rs r (Ok true) = put rs r ≡ Some rs
+IsFound rs r (Ok false) = record_named rs r.name ≡ None
+IsFound rs r (Err NameHeld) = put rs r ≡ None
+IsFound rs r (Err OutOfMemory) = ⊥
 
 -- the place of the first record with this name, counted from 0
 abbrev pub place_named : List Record → Bytes → Option ℕ

@@ -1,10 +1,10 @@
 //! The records of a repository, by their names and by their places.
 
-ghost use Rattle.std.specs.Prelude.{◌≡◌, ◌↔◌, length, [], map, slice_get, take, IsTrue};
+ghost use Rattle.std.specs.Prelude.{◌≡◌, ◌↔◌, length, [], map, slice_get, take, None, IsTrue};
 ghost use Rattle.std.specs.Option.{option_map};
 ghost use Rattle.gx_model.specs.Growth.{record_named};
 ghost use Rattle.gx_model.specs.Lookups.{records_begun_by};
-ghost use Rattle.gx_store.specs.Stores.{AreHeld, Puts, place_named, seen, seen_at};
+ghost use Rattle.gx_store.specs.Stores.{AreHeld, IsFound, Puts, place_named, seen, seen_at};
 ghost use Rattle.gx_model.specs.Histories.{object_of, record_for};
 ghost use Rattle.gx_store.specs.Prefixes.{prefix_of};
 ghost use Rattle.gx_store.specs.Objects.{held};
@@ -81,25 +81,28 @@ impl<N: Namer, A: Allocator + Copy> Store<N, A> {
         ensures puts { Puts self.old.1 self.new.1 (record_for (N.name_of self.old.0) kind body.now) result }
     {
         let name = self.namer.name(kind, body);
-        if let Some(found) = self.objects.get(&name) {
-            if is_object(found, kind, body) {
-                return Ok(name);
-            }
-            return Err(StoreFault::NameHeld);
+        if self.is_held(&name, kind, body)? {
+            return Ok(name);
         }
-        let Ok(body) = Vec::from_slice(self.alloc, body) else {
+        let Ok(copy) = Vec::from_slice(self.alloc, body) else {
             return Err(StoreFault::OutOfMemory);
         };
-        let Ok(_) = self.names.insert(name) else {
-            return Err(StoreFault::OutOfMemory);
-        };
-        match self.objects.insert(name, Object { kind, body }) {
-            Ok(_) => Ok(name),
-            Err(_) => {
-                self.names.remove(&name);
-                Err(StoreFault::OutOfMemory)
-            }
+        self.insert(name, Object { kind, body: copy })
+    }
+
+    /// Does what `put` does, but takes no copy of the bytes: it keeps these, or drops them where the object is held
+    /// already or isn't put.
+    ///
+    /// The errors are those of `put`. Cost: naming the body, and the logarithm of the number of records.
+    pub fn put_owned(&mut self, kind: Kind, body: Vec<u8, A>) -> Result<Name, StoreFault>
+        ensures namer { self.new.0 ≡ self.old.0 }
+        ensures puts { Puts self.old.1 self.new.1 (record_for (N.name_of self.old.0) kind body.items) result }
+    {
+        let name = self.namer.name(kind, body.as_slice());
+        if self.is_held(&name, kind, body.as_slice())? {
+            return Ok(name);
         }
+        self.insert(name, Object { kind, body })
     }
 
     /// The kind and the body of the object with this name. Cost: constant, as expected of hashes. Takes no memory.
@@ -158,6 +161,39 @@ impl<N: Namer, A: Allocator + Copy> Store<N, A> {
             return Prefix::Ambiguous;
         };
         Prefix::Unique(*name)
+    }
+
+    /// Whether an object is held under its name. `NameHeld`: the name is held for another kind or other bytes.
+    fn is_held(&self, name: &Name, kind: Kind, body: &[u8]) -> Result<bool, StoreFault>
+        ensures { IsFound self.now.1 (record { name = name.now.bytes; kind = kind; body = body.now }) result }
+    {
+        let Some(found) = self.objects.get(name) else {
+            return Ok(false);
+        };
+        if is_object(found, kind, body) {
+            Ok(true)
+        } else {
+            Err(StoreFault::NameHeld)
+        }
+    }
+
+    /// Puts an object last whose name isn't held.
+    fn insert(&mut self, name: Name, object: Object<A>) -> Result<Name, StoreFault>
+        requires named { name.bytes ≡ N.name_of self.now.0 object.kind object.body.items }
+        requires free { record_named self.now.1 name.bytes ≡ None }
+        ensures namer { self.new.0 ≡ self.old.0 }
+        ensures puts { Puts self.old.1 self.new.1 (held (name, object)) result }
+    {
+        let Ok(_) = self.names.insert(name) else {
+            return Err(StoreFault::OutOfMemory);
+        };
+        match self.objects.insert(name, object) {
+            Ok(_) => Ok(name),
+            Err(_) => {
+                self.names.remove(&name);
+                Err(StoreFault::OutOfMemory)
+            }
+        }
     }
 }
 

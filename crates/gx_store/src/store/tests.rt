@@ -1,6 +1,7 @@
 use super::*;
 use gx_object::ShortNamer;
 use gx_refusing::Refusing;
+use std::alloc::AllocError;
 use std::test::Fail;
 
 #[test]
@@ -76,28 +77,34 @@ struct Trial {
     is_waiting: bool,
 }
 
-/// A put behind some others, at which the growth with this number is refused.
+/// A put behind some others, of bytes that are copied or given, at which the growth with this number is refused.
 fn refused_put<B: Allocator>(
     heap: &Refusing<B>,
     state: RandomState,
     others: usize,
+    is_given: bool,
     n: u64,
-) -> Trial {
+) -> Result<Trial, AllocError> {
     let mut store = Store::new(heap, ShortNamer, state);
     let bytes = [b'x'; 99];
     for len in 0..others {
         let _ = store.put(Kind::Blob, &bytes[..usize::min(len, 99)]);
     }
+    let body = Vec::from_slice(heap, b"bytes of one tree")?;
     heap.arm(n);
-    let answer = store.put(Kind::Tree, b"bytes that are copied");
+    let answer = if is_given {
+        store.put_owned(Kind::Tree, body)
+    } else {
+        store.put(Kind::Tree, &body)
+    };
     let is_waiting = heap.is_waiting();
     heap.arm(0);
-    Trial {
+    Ok(Trial {
         answer,
         len: store.len(),
         found: store.by_prefix(b"111111111111111111111111111111111111011"),
         is_waiting,
-    }
+    })
 }
 
 /// Whether a refused put left everything as it was, and one that wasn't refused put its object.
@@ -114,21 +121,57 @@ fn is_exact(trial: &Trial, others: usize) -> bool {
     }
 }
 
-#[test]
-fn refused_growths_put_nothing(rt: HostRuntime) -> Result<(), Fail> {
+/// How many growths are refused, one after the other, in puts behind fewer than 60 others; none where one changed anything.
+fn refused_growths<B: Allocator + Copy>(
+    alloc: B,
+    state: RandomState,
+    is_given: bool,
+) -> Result<Option<u64>, AllocError> {
     let mut refused = 0u64;
     for others in 0..60 {
         for n in 1..100 {
-            let heap = Refusing::new(rt.alloc(), 0);
-            let trial = refused_put(&heap, RandomState::new(&rt)?, others, n);
-            assert!(rt; is_exact(&trial, others));
+            let heap = Refusing::new(alloc, 0);
+            let trial = refused_put(&heap, state, others, is_given, n)?;
+            if !is_exact(&trial, others) {
+                return Ok(None);
+            }
             if trial.is_waiting {
                 break;
             }
             refused = refused.saturating_add(1);
         }
     }
-    // each body grows; the table, the list and the set of names grow at some puts alone
-    assert!(rt; refused > 60 && refused < 300);
+    Ok(Some(refused))
+}
+
+/// The table, the list and the set of names grow at some puts alone, and each body that is copied once more.
+#[test]
+fn refused_growths_put_nothing(rt: HostRuntime) -> Result<(), Fail> {
+    let state = RandomState::new(&rt)?;
+    let given = refused_growths(rt.alloc(), state, true)?.ok_or("a wrong answer")?;
+    assert!(rt; given > 3 && given < 240);
+    let copied = refused_growths(rt.alloc(), state, false)?;
+    assert_eq!(rt; copied, Some(given.saturating_add(60)));
+    Ok(())
+}
+
+#[test]
+fn given_bytes_are_put_as_copied_ones_are(rt: HostRuntime) -> Result<(), Fail> {
+    let alloc = rt.alloc();
+    let mut store = Store::new(alloc, ShortNamer, RandomState::new(&rt)?);
+    let name = store.put_owned(Kind::Blob, Vec::from_slice(alloc, b"a")?);
+    assert_eq!(rt; store.put(Kind::Blob, b"a"), name);
+    let again = Vec::from_slice(alloc, b"a")?;
+    assert_eq!(rt; store.put_owned(Kind::Blob, again), name);
+    let other = Vec::from_slice(alloc, b"b")?;
+    assert_eq!(rt;
+        store.put_owned(Kind::Blob, other),
+        Err(StoreFault::NameHeld)
+    );
+    assert_eq!(rt; store.len(), 1);
+    let (held, kind, body) = store.record(0).ok_or("one record")?;
+    assert_eq!(rt; Ok(held), name);
+    assert_eq!(rt; kind, Kind::Blob);
+    assert_eq!(rt; body, b"a".as_slice());
     Ok(())
 }

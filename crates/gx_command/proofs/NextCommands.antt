@@ -1,5 +1,5 @@
 -- What a reader of commands answers and leaves.
-use Rattle.std.proofs.Common.{◌≡◌, Bool, true, false, cond, [], ◌∷◌, ◌++◌, length, Option, Some, None, Ok, Err, refl, sym, ap, subst, ◌∙◌, ◌⊎◌, inl, inr}
+use Rattle.std.proofs.Common.{◌≡◌, Bool, true, false, cond, [], ◌∷◌, ◌++◌, length, Option, Some, None, Result, Ok, Err, refl, sym, ap, subst, ◌∙◌, ◌⊎◌, inl, inr}
 use Rattle.std.specs.Prelude.{◌&&◌, ◌||◌, if◌then◌else◌}
 use Rattle.std.specs.Option.{option_map}
 use Rattle.std.specs.List.{list_any, list_all}
@@ -14,7 +14,7 @@ use Rattle.gx_command.specs.Ahead.{Fails}
 use Rattle.gx_command.specs.Ahead as ahead
 use Rattle.gx_command.specs.CommandFaults.{fault_of}
 use Rattle.gx_command.specs.Heads.{first}
-use Rattle.gx_command.specs.Reading.{Reads, before_of, commands_after, next_after, or_missing, seen_as, state_after}
+use Rattle.gx_command.specs.Reading.{Seen, Reads, Repeats, before_of, commands_after, next_after, or_missing, over_after, over_of, seen_as, state_after}
 use Rattle.gx_command.specs.Views.{shown_command}
 use Rattle.gx_command.specs.declared.commands.Command.{Command}
 use Rattle.gx_command.specs.declared.fault.CommandFault.{CommandFault}
@@ -115,3 +115,15 @@ reads_fault A o f old (Some s) now view h = subst (λ v. Reads {A = A} v (Some (
   by : Fails f (next_after o s) → (f ≡ own.OutOfMemory) ⊎ (commands_after (before_of o) s ≡ stops (Some (fault_of f)))
   by (inl out) = inl out
   by (inr e) = inr (led_is o s _ refl ∙ after_fault o (first o.are_all s) (fault_of f) e)
+
+-- ---- whether a reader is over
+
+pub over_some : {A : Type 0} (o : Options) (c : Command A) → over_of (state_after o (shown_command c)) ≡ over_after (Ok (Some c))
+over_some o c = by (is_done (shown_command c)) where
+  by : (d : Bool) → over_of (if d then Ended else Open (options_after o (shown_command c))) ≡ (if d then Some None else None)
+  by true = refl
+  by false = refl
+
+pub repeats_none : {A : Type 0} (over : Option (Option CommandFault)) (old new : Seen) (answer : Result (Option (Command A)) CommandFault) → None ≡ over → Repeats over old new answer
+repeats_none None old new answer e = tt
+repeats_none (Some last) old new answer e = absurd cc

@@ -20,11 +20,12 @@ use Rattle.gx_command.specs.declared.reader.Options.{Options}
 use Rattle.gx_command.specs.declared.reader.State.{State}
 use Rattle.gx_command.specs.declared.reader.State.TheVariants.{Open, Ended, Failed}
 
--- What a reader is seen as: the commands still to come with their fault, where the source tells its bytes, and a bound
--- on how many may come.
+-- What a reader is seen as: the commands still to come with their fault, where the source tells its bytes, a bound on
+-- how many may come, and where it is over, how: at the end, or at a fault.
 pub record Seen : Type 0 where
   pub commands : Option Commands
   pub most : ℕ
+  pub over : Option (Option CommandFault)
 
 -- the commands of all that a source gives
 abbrev pub commands_from : Coming → Commands
@@ -52,6 +53,22 @@ Falls old new (Ok None) = new ≤ old
 Falls old new (Ok (Some c)) = new < old
 Falls old new (Err f) = new ≤ old
 
+-- A reader is over after `done`, the end or a fault, and not after another command.
+abbrev pub over_after : {A : Type 0} → Result (Option (Command A)) CommandFault → Option (Option CommandFault)
+over_after (Ok None) = Some None
+over_after (Ok (Some c)) = if is_done (shown_command c) then Some None else None
+over_after (Err f) = Some (Some f)
+
+-- what a reader answers that is over
+abbrev pub last_answer : {A : Type 0} → Option CommandFault → Result (Option (Command A)) CommandFault
+last_answer None = Ok None
+last_answer (Some f) = Err f
+
+-- A reader that is over gives the same answer again, and nothing changes.
+abbrev pub Repeats : {A : Type 0} → Option (Option CommandFault) → Seen → Seen → Result (Option (Command A)) CommandFault → Type 0
+Repeats None old new answer = Unit {0}
+Repeats (Some last) old new answer = (answer ≡ last_answer last) × (new ≡ old)
+
 -- ---- what the fields of a reader stand for
 
 -- commands that came before, of which only this is known
@@ -71,6 +88,11 @@ abbrev pub most_of : State → ℕ → ℕ
 most_of (Open o) most = most
 most_of Ended most = 0
 most_of (Failed f) most = 0
+
+abbrev pub over_of : State → Option (Option CommandFault)
+over_of (Open o) = None
+over_of Ended = Some None
+over_of (Failed f) = Some (Some f)
 
 -- the command that comes next, after some options
 abbrev pub or_missing : Options → Option model.Command × Stream → Read (Option model.Command)

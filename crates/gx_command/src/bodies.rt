@@ -1,6 +1,6 @@
 //! The lines and blocks of each command after its first line.
 
-ghost use Rattle.std.specs.Prelude.{◌≡◌, IsTrue, codes, map, IfOk};
+ghost use Rattle.std.specs.Prelude.{◌≡◌, ◌≢◌, IsTrue, codes, map, IfOk, IfErr};
 ghost use Rattle.std.specs.Option.{option_map};
 ghost use Rattle.gx_model.specs.Faults.{Gives};
 ghost use Rattle.gx_model.specs.Items.{Stream};
@@ -14,6 +14,7 @@ ghost use Rattle.gx_command.specs.ChangeLines.{completed_modify, shown_place};
 ghost use Rattle.gx_command.specs.DataRefs.{is_suited};
 ghost use Rattle.gx_command.specs.Places.{is_suited_place};
 ghost use Rattle.gx_command.specs.Views.{shown_commit_ish, shown_data, shown_modify, shown_change, shown_blob, shown_commit, shown_tag, shown_reset};
+ghost use Rattle.gx_command.specs.declared.fault.CommandFault.TheVariants.{OutOfMemory};
 
 use crate::ahead::{Ahead, Held};
 use crate::change_lines::{ChangeLine, read_change};
@@ -295,7 +296,8 @@ fn change_in<A: Allocator + Copy>(
 }
 
 fn refuse_signature(item: Item<'_>) -> Result<Option<()>, CommandFault>
-    ensures { Gives fault_of (λ none. none) result (signature_in (item_of item.entry)) }
+    ensures signature { Gives fault_of (λ none. none) result (signature_in (item_of item.entry)) }
+    ensures memory { IfErr result (λ fault. fault ≢ OutOfMemory) }
 {
     match item {
         Item::Line(line) if Words::of(line).is(b"gpgsig") => Err(CommandFault::Unsupported),

@@ -1,6 +1,6 @@
 //! The lines that begin commands.
 
-ghost use Rattle.std.specs.Prelude.{◌≡◌, ◌||◌, codes, Ok};
+ghost use Rattle.std.specs.Prelude.{◌≡◌, ◌≢◌, ◌||◌, codes, Ok, IfErr};
 ghost use Rattle.std.specs.Option.{option_map};
 ghost use Rattle.gx_model.specs.Faults.{Gives, and_then};
 ghost use Rattle.gx_model.specs.Items.{Stream};
@@ -11,6 +11,7 @@ ghost use Rattle.gx_command.specs.CommandFaults.{fault_of};
 ghost use Rattle.gx_command.specs.Heads.{Begins, BeginsIn, TakesStart, TakesHead, begun, first};
 ghost use Rattle.gx_command.specs.Lines.{shown_words};
 ghost use Rattle.gx_command.specs.Views.{shown_command};
+ghost use Rattle.gx_command.specs.declared.fault.CommandFault.TheVariants.{OutOfMemory};
 
 use crate::ahead::Ahead;
 use crate::commands::Command;
@@ -149,7 +150,8 @@ fn read_head<A: Allocator + Copy>(
 
 /// The rest of an option, which stands before every other command.
 fn early_rest<'a>(is_early: bool, words: Words<'a>) -> Result<&'a [u8], CommandFault>
-    ensures { Gives fault_of (λ rest. rest.now) result (and_then (rest_of (shown_words words.entry)) (λ rest. if_early is_early (Ok rest))) }
+    ensures rest { Gives fault_of (λ rest. rest.now) result (and_then (rest_of (shown_words words.entry)) (λ rest. if_early is_early (Ok rest))) }
+    ensures memory { IfErr result (λ fault. fault ≢ OutOfMemory) }
 {
     let rest = words.rest()?;
     if is_early {
@@ -167,7 +169,8 @@ fn is_left_out(words: Words<'_>) -> bool
 }
 
 fn read_feature(text: &[u8]) -> Result<Feature, CommandFault>
-    ensures { Gives fault_of (λ f. f) result (feature_of text.now) }
+    ensures feature { Gives fault_of (λ f. f) result (feature_of text.now) }
+    ensures memory { IfErr result (λ fault. fault ≢ OutOfMemory) }
 {
     if text == b"done".as_slice() {
         Ok(Feature::Done)

@@ -1,12 +1,13 @@
 //! Lines: the word and the rest of each.
 
-ghost use Rattle.std.specs.Prelude.{◌≡◌};
+ghost use Rattle.std.specs.Prelude.{◌≡◌, ◌≢◌, IfErr};
 ghost use Rattle.std.specs.Option.{option_map};
 ghost use Rattle.gx_model.specs.Faults.{Gives};
 ghost use Rattle.gx_model.specs.Grammar.{words_of, is_word, rest_of, bare};
 ghost use Rattle.gx_stream.specs.Reading.{item_of};
 ghost use Rattle.gx_command.specs.CommandFaults.{fault_of};
 ghost use Rattle.gx_command.specs.Lines.{shown_words, rest_in};
+ghost use Rattle.gx_command.specs.declared.fault.CommandFault.TheVariants.{OutOfMemory};
 
 use crate::fault::CommandFault;
 use gx_stream::Item;
@@ -43,14 +44,16 @@ impl<'a> Words<'a> {
 
     /// The rest of a line that needs one.
     pub(crate) fn rest(self) -> Result<&'a [u8], CommandFault>
-        ensures { Gives fault_of (λ rest. rest.now) result (rest_of (shown_words self.entry)) }
+        ensures rest { Gives fault_of (λ rest. rest.now) result (rest_of (shown_words self.entry)) }
+        ensures memory { IfErr result (λ fault. fault ≢ OutOfMemory) }
     {
         self.rest.ok_or(CommandFault::BadLine)
     }
 
     /// Refuses a line with a rest.
     pub(crate) fn check_bare(self) -> Result<(), CommandFault>
-        ensures { Gives fault_of (λ u. u) result (bare (shown_words self.entry)) }
+        ensures bare { Gives fault_of (λ u. u) result (bare (shown_words self.entry)) }
+        ensures memory { IfErr result (λ fault. fault ≢ OutOfMemory) }
     {
         match self.rest {
             Some(_) => Err(CommandFault::BadLine),
@@ -61,7 +64,8 @@ impl<'a> Words<'a> {
 
 /// The rest of a line that has this word. Another item gives none.
 pub(crate) fn rest_in<'a>(item: Item<'a>, word: &[u8]) -> Result<Option<&'a [u8]>, CommandFault>
-    ensures { Gives fault_of (option_map (λ rest. rest.now)) result (rest_in word.now (item_of item.entry)) }
+    ensures rest { Gives fault_of (option_map (λ rest. rest.now)) result (rest_in word.now (item_of item.entry)) }
+    ensures memory { IfErr result (λ fault. fault ≢ OutOfMemory) }
 {
     match item {
         Item::Line(line) => {

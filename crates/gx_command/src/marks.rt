@@ -1,9 +1,11 @@
 //! Marks, and what else names a commit.
 
+ghost use Rattle.std.specs.Prelude.{◌≢◌, IfErr, IsOk, IsErrOf};
 ghost use Rattle.gx_model.specs.Faults.{Gives};
 ghost use Rattle.gx_model.specs.Grammar.{mark_number, mark_of, commit_ish_of};
 ghost use Rattle.gx_command.specs.CommandFaults.{fault_of};
 ghost use Rattle.gx_command.specs.Views.{shown_commit_ish};
+ghost use Rattle.gx_command.specs.declared.fault.CommandFault.TheVariants.{OutOfMemory};
 
 use crate::commands::CommitIsh;
 use crate::fault::CommandFault;
@@ -13,7 +15,8 @@ use std::alloc::Allocator;
 
 /// The digits of a mark, which is a number from 1.
 pub(crate) fn read_mark_number(digits: &[u8]) -> Result<u64, CommandFault>
-    ensures { Gives fault_of (λ n. n) result (mark_number digits.now) }
+    ensures mark { Gives fault_of (λ n. n) result (mark_number digits.now) }
+    ensures memory { IfErr result (λ fault. fault ≢ OutOfMemory) }
 {
     match decimal(digits) {
         None | Some(0) => Err(CommandFault::BadNumber),
@@ -24,7 +27,8 @@ pub(crate) fn read_mark_number(digits: &[u8]) -> Result<u64, CommandFault>
 /// A colon and a mark's number.
 #[tactic(auto, unfolding(gx_model::specs::Grammar::mark_of))]
 pub(crate) fn read_mark(text: &[u8]) -> Result<u64, CommandFault>
-    ensures { Gives fault_of (λ n. n) result (mark_of text.now) }
+    ensures mark { Gives fault_of (λ n. n) result (mark_of text.now) }
+    ensures memory { IfErr result (λ fault. fault ≢ OutOfMemory) }
 {
     match text.split_first() {
         Some((b':', digits)) => read_mark_number(digits),
@@ -38,7 +42,8 @@ pub(crate) fn read_commit_ish<A: Allocator + Copy>(
     alloc: A,
     text: &[u8],
 ) -> Result<CommitIsh<A>, CommandFault>
-    ensures { Gives fault_of shown_commit_ish result (commit_ish_of text.now) }
+    ensures commit_ish { Gives fault_of shown_commit_ish result (commit_ish_of text.now) }
+    ensures memory { IsErrOf result OutOfMemory → IsOk (commit_ish_of text.now) }
 {
     if let Some((b':', digits)) = text.split_first() {
         return Ok(CommitIsh::Mark(read_mark_number(digits)?));

@@ -1,11 +1,11 @@
 //! The reader of commands.
 
-ghost use Rattle.std.specs.Prelude.{◌≡◌, ◌-◌, ◌^◌, ◌&&◌, ◌||◌, IfOk, IfSome};
+ghost use Rattle.std.specs.Prelude.{◌≡◌, ◌-◌, ◌^◌, ◌&&◌, ◌||◌, None, IfOk, IfSome};
 ghost use Rattle.std.specs.Option.{option_map};
 ghost use Rattle.gx_model.specs.Gitlinks.{BringsNoNullGitlink};
 ghost use Rattle.gx_model.specs.Grammar.{is_option, asks_done, is_done};
 ghost use Rattle.gx_command.specs.Ahead.{to_come, most, Reads as ReadsAhead, Falls as FallsAhead};
-ghost use Rattle.gx_command.specs.Reading.{Reads, Finishes, Falls, commands_from, next_after, state_after};
+ghost use Rattle.gx_command.specs.Reading.{Reads, Finishes, Falls, Repeats, commands_from, next_after, over_after, state_after};
 ghost use Rattle.gx_command.specs.Views.{shown_command};
 
 use crate::ahead::Ahead;
@@ -34,7 +34,7 @@ pub(crate) enum State {
 }
 
 /// A reader of the commands of a stream, seen as the commands that are still to come, where the source tells its bytes,
-/// and a bound on how many may come. Source: git-fast-import(1), "Commands", in the profile of this project.
+/// a bound on how many may come, and how it is over. Source: git-fast-import(1), "Commands", in the profile of this project.
 #[derive(Drop)]
 pub struct CommandReader<R: Source, A: Allocator> {
     ahead: Ahead<R, A>,
@@ -43,13 +43,14 @@ pub struct CommandReader<R: Source, A: Allocator> {
 
 impl<R: Source, A: Allocator> Model for CommandReader<R, A> {
     ghost use Rattle.gx_command.specs.Ahead.{to_come, most};
-    ghost use Rattle.gx_command.specs.Reading.{Seen, seen_as, most_of};
+    ghost use Rattle.gx_command.specs.Reading.{Seen, seen_as, most_of, over_of};
 
     ghost Value = { Seen };
 
     ghost view = { λ r. record {
       commands = seen_as r.state (to_come r.ahead);
       most = most_of r.state (most r.ahead);
+      over = over_of r.state;
     } };
 }
 
@@ -58,6 +59,7 @@ impl<R: Source, A: Allocator + Copy> CommandReader<R, A> {
     pub fn new(alloc: A, source: R) -> CommandReader<R, A>
         ensures commands { result.commands ≡ option_map commands_from (R.coming source) }
         ensures most { result.most ≡ 2 ^ 63 - 1 }
+        ensures over { result.over ≡ None }
     {
         CommandReader {
             ahead: Ahead::new(alloc, source),
@@ -83,6 +85,8 @@ impl<R: Source, A: Allocator + Copy> CommandReader<R, A> {
         ensures reads { Reads self.old.commands self.new.commands result }
         ensures finishes { Finishes self.new.commands result }
         ensures falls { Falls self.old.most self.new.most result }
+        ensures over { self.new.over ≡ over_after result }
+        ensures repeats { Repeats self.old.over self.old self.new result }
         ensures gitlinks { IfOk result (λ next. IfSome next (λ command. BringsNoNullGitlink (shown_command command))) }
     {
         let options = match self.state {

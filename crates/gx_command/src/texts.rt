@@ -1,6 +1,6 @@
 //! The texts of commands: names of refs and tags, identities, encodings and the digits of object names.
 
-ghost use Rattle.std.specs.Prelude.{◌≡◌, IsTrue, Some, false, ◌==◌, not, nat_eq};
+ghost use Rattle.std.specs.Prelude.{◌≡◌, IsTrue, Some, false, ◌==◌, not, nat_eq, IsOk, IsErrOf};
 ghost use Rattle.std.specs.List.{list_all};
 ghost use Rattle.gx_model.specs.Faults.{Gives};
 ghost use Rattle.gx_model.specs.Idents.{is_ident};
@@ -9,6 +9,7 @@ ghost use Rattle.gx_model.specs.Values.{is_optional_encoding};
 ghost use Rattle.gx_model.specs.RefNames.{is_ref_name, is_tag_name};
 ghost use Rattle.gx_model.specs.Grammar.{ident_of, ref_of, tag_of, encoding_of, is_null, is_hex_digit, is_name};
 ghost use Rattle.gx_command.specs.CommandFaults.{fault_of};
+ghost use Rattle.gx_command.specs.declared.fault.CommandFault.TheVariants.{OutOfMemory};
 
 use crate::fault::CommandFault;
 use gx_text::Ident;
@@ -53,7 +54,8 @@ pub struct Digits {
 
 impl<A: Allocator + Copy> RefName<A> {
     pub(crate) fn read(alloc: A, text: &[u8]) -> Result<RefName<A>, CommandFault>
-        ensures { Gives fault_of (λ name. name.bytes.items) result (ref_of text.now) }
+        ensures name { Gives fault_of (λ name. name.bytes.items) result (ref_of text.now) }
+        ensures memory { IsErrOf result OutOfMemory → IsOk (ref_of text.now) }
     {
         if !gx_text::is_ref_name(text) {
             return Err(CommandFault::BadRefName);
@@ -79,7 +81,8 @@ impl<A: Allocator + Copy> TagName<A> {
 
 impl<A: Allocator + Copy> Identity<A> {
     pub(crate) fn read(alloc: A, text: &[u8]) -> Result<Identity<A>, CommandFault>
-        ensures { Gives fault_of (λ identity. identity.bytes.items) result (ident_of text.now) }
+        ensures ident { Gives fault_of (λ identity. identity.bytes.items) result (ident_of text.now) }
+        ensures memory { IsErrOf result OutOfMemory → IsOk (ident_of text.now) }
     {
         let ident = Ident::read(text)?;
         let bytes = Vec::from_slice(alloc, ident.bytes())?;
@@ -89,7 +92,8 @@ impl<A: Allocator + Copy> Identity<A> {
 
 impl<A: Allocator + Copy> Encoding<A> {
     pub(crate) fn read(alloc: A, text: &[u8]) -> Result<Encoding<A>, CommandFault>
-        ensures { Gives fault_of (λ encoding. encoding.name.items) result (encoding_of text.now) }
+        ensures encoding { Gives fault_of (λ encoding. encoding.name.items) result (encoding_of text.now) }
+        ensures memory { IsErrOf result OutOfMemory → IsOk (encoding_of text.now) }
     {
         if !is_encoding(text) {
             return Err(CommandFault::BadLine);

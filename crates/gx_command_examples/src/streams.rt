@@ -7,6 +7,7 @@ use gx_text::{Bytes, Source};
 use std::alloc::{AllocError, Allocator};
 use std::test::Fail;
 
+mod parents;
 mod parts;
 mod rows;
 

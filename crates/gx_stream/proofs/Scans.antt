@@ -9,7 +9,7 @@ use Rattle.gx_model.specs.Items.{is_lf, line_len, has_no_line}
 use Rattle.gx_stream.specs.Places.{IsLine, GoesTo, Searched, IsSearched, IsPast, IsScanned, before, behind, bytes_at, from_line, without, first_seen, past_first}
 use Rattle.gx_stream.specs.Input.{FitsState, IsLonger}
 use Rattle.gx_stream.specs.declared.input.State.{State}
-use Rattle.gx_stream.specs.declared.input.State.TheVariants.{Open, Ended, Stuck}
+use Rattle.gx_stream.specs.declared.input.State.TheVariants.{Open, Ended, Over}
 use Rattle.gx_stream.specs.declared.places.Place.{Place}
 use Rattle.gx_stream.specs.declared.places.Scan.{Scan}
 use Rattle.gx_stream.proofs.Lines.{GoesTo-start, GoesTo-longer, GoesTo-shorter}
@@ -144,11 +144,11 @@ IsScanned-shorter text at scan (g, inr (f, past)) =
 pub fits_none : (text : Bytes) (state : State) (at : ℕ) → at ≤ length text → FitsState text state at (from_line at)
 fits_none text Open at l = scanned_none text true at l
 fits_none text (Ended fails) at l = tt
-fits_none text (Stuck f) at l = tt
+fits_none text (Over last) at l = tt
 
 -- after a pull
 pub fits_after : (old new : Bytes) (state : State) (at : ℕ) (scan : Scan) → IsScanned old true at scan → IsLonger (drop at old) new → FitsState new state 0 (without at scan)
 fits_after old new Open at scan s (more, e) =
     subst (λ t. IsScanned t true 0 (without at scan)) (sym e) (IsScanned-longer (drop at old) more 0 (without at scan) (omega arith) (IsScanned-shorter old at scan s))
 fits_after old new (Ended fails) at scan s l = tt
-fits_after old new (Stuck f) at scan s l = tt
+fits_after old new (Over last) at scan s l = tt

@@ -1,13 +1,14 @@
 -- What a reader is seen as, before and after an item, the end or a fault.
-use Rattle.std.proofs.Common.{◌≡◌, ℕ, ◌<◌, ◌≤◌, Bool, true, inr, Option, Some, None, Result, Ok, Err, [], ◌++◌, length, drop, refl, sym, ap, subst, ◌∙◌, arith, append-nil}
+use Rattle.std.proofs.Common.{◌≡◌, ℕ, ◌<◌, ◌≤◌, Bool, true, false, inl, inr, Option, Some, None, Result, Ok, Err, [], ◌++◌, length, drop, refl, sym, ap, subst, ◌∙◌, arith, append-nil}
 use Rattle.std.proofs.lemmas.List.{length-drop}
 use Rattle.gx_model.specs.Texts.{Bytes}
 use Rattle.gx_model.specs.Items.{Item, Line, Data, Stream, then_comes, items_of}
 use Rattle.gx_text.specs.Devices.{Coming}
 use Rattle.gx_stream.specs.Heard.{heard_upto}
 use Rattle.gx_stream.specs.Places.{Skipped, ComesNext, NoneComes, bytes_at}
-use Rattle.gx_stream.specs.Reading.{Seen, AnswersAs, ReadsAs, FallsAs}
-use Rattle.gx_stream.specs.Input.{stream_seen, most_seen, answer_at, Looks, is_whole, Takes, Keeps, KeepsStream}
+use Rattle.gx_stream.specs.Reading.{Seen, AnswersAs, ReadsAs, FallsAs, RepeatsAs}
+use Rattle.gx_stream.specs.Faults.{end_seen, ended}
+use Rattle.gx_stream.specs.Input.{stream_seen, most_seen, over_seen, answer_at, Looks, is_whole, Takes, Keeps, KeepsStream, KeepsOver}
 use Rattle.gx_stream.proofs.Longer.{nothing_more}
 use Rattle.gx_stream.specs.declared.fault.StreamFault.{StreamFault}
 use Rattle.gx_stream.specs.declared.fault.StreamFault.TheVariants as fault
@@ -15,7 +16,7 @@ use Rattle.gx_stream.specs.declared.places.Place.{Place}
 use Rattle.gx_stream.specs.declared.places.Found.{Found}
 use Rattle.gx_stream.specs.declared.places.Found.TheVariants as found
 use Rattle.gx_stream.specs.declared.input.State.{State}
-use Rattle.gx_stream.specs.declared.input.State.TheVariants.{Open, Ended, Stuck}
+use Rattle.gx_stream.specs.declared.input.State.TheVariants.{Open, Ended, Over}
 
 -- ---- what was kept before an answer
 
@@ -31,6 +32,12 @@ Falls-kept old mid new (Ok None) k f = omega (arith, k, f)
 Falls-kept old mid new (Ok (Some i)) k f = omega (arith, k, f)
 Falls-kept old mid new (Err e) k f = omega (arith, k, f)
 
+Repeats-kept : (old mid new : Seen) (answer : Result (Option Item) StreamFault) → KeepsOver old.over old mid → RepeatsAs mid.over mid new answer → RepeatsAs old.over old new answer
+Repeats-kept old mid new answer k r = by old.over refl k where
+  by : (o : Option (Option StreamFault)) → o ≡ old.over → KeepsOver o old mid → RepeatsAs o old new answer
+  by None e k = tt
+  by (Some last) e k = subst (λ o. RepeatsAs o old new answer) (sym e) (subst (λ (s : Seen). RepeatsAs s.over s new answer) k r)
+
 -- ---- one answer
 
 Skipped-alone : (text : Bytes) (fails : Bool) (start at : ℕ) → Skipped text fails start at → items_of (drop start text) fails ≡ items_of (drop at text) fails
@@ -44,39 +51,37 @@ next_alone text fails at i p n =
 shorter : (text : Bytes) (fails : Bool) (start at : ℕ) (i : Item) (p : Place) → Skipped text fails start at → ComesNext text fails at i p → length (drop p.next text) < length (drop start text)
 shorter text fails start at i p s n = omega (arith, s.from, n.further, n.within.2, length-drop p.next text, length-drop start text)
 
-skipped_shorter : (text : Bytes) (fails : Bool) (start at : ℕ) → Skipped text fails start at → length (drop at text) ≤ length (drop start text)
-skipped_shorter text fails start at s = omega (arith, s.from, s.within, length-drop at text, length-drop start text)
-
 -- what is seen of the fields
 abbrev pub seen_at : State → ℕ → Option Coming → Bytes → Seen
-seen_at state room coming rest = record { stream = stream_seen state room coming rest; most = most_seen state room rest }
+seen_at state room coming rest = record { stream = stream_seen state room coming rest; most = most_seen state room rest; over = over_seen state }
 
 item_open : (room : ℕ) (coming : Option Coming) (text : Bytes) (start at : ℕ) (i : Item) (p : Place) → Skipped text true start at → ComesNext text true at i p → AnswersAs (seen_at Open room coming (drop start text)) (seen_at Open room coming (drop p.next text)) (Ok (Some i))
-item_open room None text start at i p s n = (tt, omega (arith, shorter text true start at i p s n))
+item_open room None text start at i p s n = (tt, omega (arith, shorter text true start at i p s n), refl, tt)
 item_open room (Some c) text start at i p s n =
     let h = heard_upto room c in
-    ((items_of (drop p.next text ++ h.bytes) h.fails, s.same h.bytes h.fails tt ∙ n.next h.bytes h.fails tt, refl), omega (arith, shorter text true start at i p s n))
+    ((items_of (drop p.next text ++ h.bytes) h.fails, s.same h.bytes h.fails tt ∙ n.next h.bytes h.fails tt, refl), omega (arith, shorter text true start at i p s n), refl, tt)
 
 item_ended : (room : ℕ) (coming : Option Coming) (text : Bytes) (fails : Bool) (start at : ℕ) (i : Item) (p : Place) → Skipped text fails start at → ComesNext text fails at i p → AnswersAs (seen_at (Ended fails) room coming (drop start text)) (seen_at (Ended fails) room coming (drop p.next text)) (Ok (Some i))
 item_ended room coming text fails start at i p s n =
-    ((items_of (drop p.next text) fails, Skipped-alone text fails start at s ∙ next_alone text fails at i p n, refl), shorter text fails start at i p s n)
+    ((items_of (drop p.next text) fails, Skipped-alone text fails start at s ∙ next_alone text fails at i p n, refl), shorter text fails start at i p s n, refl, tt)
 
-end_ended : (room : ℕ) (coming : Option Coming) (text : Bytes) (fails : Bool) (start at : ℕ) → Skipped text fails start at → NoneComes text fails at None → AnswersAs (seen_at (Ended fails) room coming (drop start text)) (seen_at (Ended fails) room coming (drop at text)) (Ok None)
-end_ended room coming text fails start at s n =
-    ((Skipped-alone text fails start at s ∙ n.end, ap Some n.end), skipped_shorter text fails start at s)
+end_ended : (room : ℕ) (coming : Option Coming) (text rest : Bytes) (fails : Bool) (start at : ℕ) → Skipped text fails start at → NoneComes text fails at None → AnswersAs (seen_at (Ended fails) room coming (drop start text)) (seen_at (Over None) room coming rest) (Ok None)
+end_ended room coming text rest fails start at s n =
+    ((Skipped-alone text fails start at s ∙ n.end, refl), omega arith, refl, tt)
 
-fault_ended : (room : ℕ) (coming : Option Coming) (text rest : Bytes) (fails : Bool) (start at : ℕ) (f : StreamFault) → Skipped text fails start at → NoneComes text fails at (Some f) → AnswersAs (seen_at (Ended fails) room coming (drop start text)) (seen_at (Stuck f) room coming rest) (Err f)
+fault_ended : (room : ℕ) (coming : Option Coming) (text rest : Bytes) (fails : Bool) (start at : ℕ) (f : StreamFault) → Skipped text fails start at → NoneComes text fails at (Some f) → AnswersAs (seen_at (Ended fails) room coming (drop start text)) (seen_at (Over (Some f)) room coming rest) (Err f)
 fault_ended room coming text rest fails start at f s n =
-    ((refl, inr (Skipped-alone text fails start at s ∙ n.end)), omega arith)
+    ((refl, inr (Skipped-alone text fails start at s ∙ n.end)), omega arith, refl, tt)
 
-number_open : (room : ℕ) (coming : Option Coming) (text rest : Bytes) (start at : ℕ) → Skipped text true start at → NoneComes text true at (Some fault.BadNumber) → AnswersAs (seen_at Open room coming (drop start text)) (seen_at (Stuck fault.BadNumber) room coming rest) (Err fault.BadNumber)
-number_open room None text rest start at s n = (refl, omega arith)
+number_open : (room : ℕ) (coming : Option Coming) (text rest : Bytes) (start at : ℕ) → Skipped text true start at → NoneComes text true at (Some fault.BadNumber) → AnswersAs (seen_at Open room coming (drop start text)) (seen_at (Over (Some fault.BadNumber)) room coming rest) (Err fault.BadNumber)
+number_open room None text rest start at s n = (refl, omega arith, refl, tt)
 number_open room (Some c) text rest start at s n =
     let h = heard_upto room c in
-    ((refl, inr (s.same h.bytes h.fails tt ∙ n.stays refl h.bytes h.fails tt)), omega arith)
+    ((refl, inr (s.same h.bytes h.fails tt ∙ n.stays refl h.bytes h.fails tt)), omega arith, refl, tt)
 
-fault_stuck : (room : ℕ) (coming : Option Coming) (bytes rest : Bytes) (f : StreamFault) → AnswersAs (seen_at (Stuck f) room coming bytes) (seen_at (Stuck f) room coming rest) (Err f)
-fault_stuck room coming bytes rest f = ((refl, inr refl), omega arith)
+last_again : (room : ℕ) (coming : Option Coming) (bytes rest text : Bytes) (last : Option StreamFault) → AnswersAs (seen_at (Over last) room coming bytes) (seen_at (Over last) room coming rest) (answer_at text (found.End last))
+last_again room coming bytes rest text None = ((refl, refl), omega arith, refl, (refl, refl))
+last_again room coming bytes rest text (Some f) = ((refl, inr refl), omega arith, refl, (refl, refl))
 
 -- what was found is answered, and the rest is left
 answers : (room : ℕ) (coming : Option Coming) (text : Bytes) (state new : State) (start at now : ℕ) (r : Found) → Looks text state start at r → is_whole state r ≡ true → Takes at state r now new → AnswersAs (seen_at state room coming (drop start text)) (seen_at new room coming (drop now text)) (answer_at text r)
@@ -89,13 +94,35 @@ answers room coming text Open new start at now (found.End (Some fault.TruncatedD
 answers room coming text Open new start at now (found.End (Some fault.BadNumber)) l w t = rw t.1 (number_open room coming text (drop now text) start at l.0 l.1)
 answers room coming text (Ended fails) new start at now (found.Line p) l w t = rw (t.0, t.1) (item_ended room coming text fails start at (Line (bytes_at text p)) p l.0 l.1)
 answers room coming text (Ended fails) new start at now (found.Data p) l w t = rw (t.0, t.1) (item_ended room coming text fails start at (Data (bytes_at text p)) p l.0 l.1)
-answers room coming text (Ended fails) new start at now (found.End None) l w t = rw (t.0, t.1) (end_ended room coming text fails start at l.0 l.1)
+answers room coming text (Ended fails) new start at now (found.End None) l w t = rw t.1 (end_ended room coming text (drop now text) fails start at l.0 l.1)
 answers room coming text (Ended fails) new start at now (found.End (Some f)) l w t = rw t.1 (fault_ended room coming text (drop now text) fails start at f l.0 l.1)
-answers room coming text (Stuck f) new start at now r l w t =
-    let taken : Takes at (Stuck f) (found.End (Some f)) now new = subst (λ r. Takes at (Stuck f) r now new) l.1 t in
-    subst (λ r. AnswersAs (seen_at (Stuck f) room coming (drop start text)) (seen_at new room coming (drop now text)) (answer_at text r)) (sym l.1) (rw taken.1 (fault_stuck room coming (drop start text) (drop now text) f))
+answers room coming text (Over last) new start at now r l w t =
+    let taken : Takes at (Over last) (found.End last) now new = subst (λ r. Takes at (Over last) r now new) l.1 t in
+    subst (λ r. AnswersAs (seen_at (Over last) room coming (drop start text)) (seen_at new room coming (drop now text)) (answer_at text r)) (sym l.1) (rw taken.1 (last_again room coming (drop start text) (drop now text) text last))
 
 pub Answers-found : (old : Seen) (room : ℕ) (coming : Option Coming) (text : Bytes) (state new : State) (start at now : ℕ) (r : Found) → Keeps old (seen_at state room coming (drop start text)) → Looks text state start at r → is_whole state r ≡ true → Takes at state r now new → AnswersAs old (seen_at new room coming (drop now text)) (answer_at text r)
 Answers-found old room coming text state new start at now r k l w t =
-    let here = answers room coming text state new start at now r l w t in
-    (Reads-kept old.stream (stream_seen state room coming (drop start text)) (stream_seen new room coming (drop now text)) (answer_at text r) k.0 here.0, Falls-kept old.most (most_seen state room (drop start text)) (most_seen new room (drop now text)) (answer_at text r) k.1 here.1)
+    let mid = seen_at state room coming (drop start text) in
+    let last = seen_at new room coming (drop now text) in
+    let here = answers room coming text state new start at now r l w t in (
+      Reads-kept old.stream mid.stream last.stream (answer_at text r) k.0 here.0,
+      Falls-kept old.most mid.most last.most (answer_at text r) k.1 here.1,
+      here.2,
+      Repeats-kept old mid last (answer_at text r) k.2 here.3,
+    )
+
+-- where there is no memory for more
+pub Answers-refused : (old : Seen) (room : ℕ) (coming : Option Coming) (text : Bytes) (state : State) (r : Found) → is_whole state r ≡ false → Keeps old (seen_at state room coming text) → AnswersAs old (seen_at (Over (Some fault.OutOfMemory)) room coming text) (Err fault.OutOfMemory)
+Answers-refused old room coming text Open r w k =
+    let mid = seen_at Open room coming text in
+    let last = seen_at (Over (Some fault.OutOfMemory)) room coming text in (
+      Reads-kept old.stream mid.stream last.stream (Err fault.OutOfMemory) k.0 (reads coming),
+      omega arith,
+      refl,
+      Repeats-kept old mid last (Err fault.OutOfMemory) k.2 tt,
+    ) where
+      reads : (o : Option Coming) → ReadsAs (stream_seen Open room o text) (Some (ended (end_seen (Some fault.OutOfMemory)))) (Err fault.OutOfMemory)
+      reads None = refl
+      reads (Some c) = (refl, inl refl)
+Answers-refused old room coming text (Ended fails) r w k = absurd cc
+Answers-refused old room coming text (Over last) r w k = absurd cc

@@ -1,11 +1,11 @@
 -- What the fields of a reader stand for, and what each of its steps does to them.
 use Rattle.std.specs.Prelude.{◌≡◌, ℕ, suc, ◌+◌, ◌-◌, ◌≤◌, ◌^◌, Bool, true, false, ◌++◌, length, drop, Option, Some, None, Result, Ok, Err}
 use Rattle.gx_model.specs.Texts.{Bytes}
-use Rattle.gx_model.specs.Items.{Stream, Failed, items_of}
+use Rattle.gx_model.specs.Items.{Stream, items_of}
 use Rattle.gx_model.specs.Items as model
 use Rattle.gx_text.specs.Devices.{Coming}
 use Rattle.gx_stream.specs.Heard.{heard_upto}
-use Rattle.gx_stream.specs.Faults.{fault_of, ended}
+use Rattle.gx_stream.specs.Faults.{end_seen, ended}
 use Rattle.gx_stream.specs.Reading.{Seen}
 use Rattle.gx_stream.specs.Places.{bytes_at, IsWithin, IsScanned, Skipped, Finds}
 use Rattle.gx_stream.specs.declared.fault.StreamFault.{StreamFault}
@@ -15,32 +15,39 @@ use Rattle.gx_stream.specs.declared.places.Found.{Found}
 use Rattle.gx_stream.specs.declared.places.Found.TheVariants.{Line, Data, End}
 use Rattle.gx_stream.specs.declared.input.Input.{Input}
 use Rattle.gx_stream.specs.declared.input.State.{State}
-use Rattle.gx_stream.specs.declared.input.State.TheVariants.{Open, Ended, Stuck}
+use Rattle.gx_stream.specs.declared.input.State.TheVariants.{Open, Ended, Over}
 
 -- the items to come, from what the source still gives, and what came and isn't read yet
 abbrev pub stream_seen : State → ℕ → Option Coming → Bytes → Option Stream
 stream_seen Open room None rest = None
 stream_seen Open room (Some c) rest = Some (items_of (rest ++ (heard_upto room c).bytes) (heard_upto room c).fails)
 stream_seen (Ended fails) room coming rest = Some (items_of rest fails)
-stream_seen (Stuck f) room coming rest = Some (ended (Failed (fault_of f)))
+stream_seen (Over last) room coming rest = Some (ended (end_seen last))
 
 -- how many items may come at most
 abbrev pub most_seen : State → ℕ → Bytes → ℕ
 most_seen Open room rest = length rest + room
 most_seen (Ended fails) room rest = length rest
-most_seen (Stuck f) room rest = 0
+most_seen (Over last) room rest = 0
+
+-- whether the last answer was given, and which
+abbrev pub over_seen : State → Option (Option StreamFault)
+over_seen Open = None
+over_seen (Ended fails) = None
+over_seen (Over last) = Some last
 
 abbrev pub seen : {R A : Type 0} → Input R A → Option Coming → Seen
 seen i coming = record {
   stream = stream_seen i.state i.room coming (drop i.at i.text.items);
   most = most_seen i.state i.room (drop i.at i.text.items);
+  over = over_seen i.state;
 }
 
 -- what is known of the item that comes next counts where more of it may come
 abbrev pub FitsState : Bytes → State → ℕ → Scan → Type 0
 FitsState text Open at scan = IsScanned text true at scan
 FitsState text (Ended fails) at scan = Unit {0}
-FitsState text (Stuck f) at scan = Unit {0}
+FitsState text (Over last) at scan = Unit {0}
 
 -- what isn't read yet begins within the text, and no more than 2 ^ 63 - 1 bytes are taken in all
 abbrev pub IsSound : {R A : Type 0} → Input R A → Type 0
@@ -64,7 +71,7 @@ IsFoundWithin text (End e) = Unit {0}
 abbrev pub Looks : Bytes → State → ℕ → ℕ → Found → Type 0
 Looks text Open old new found = Skipped text true old new × Finds text true new found
 Looks text (Ended fails) old new found = Skipped text fails old new × Finds text fails new found
-Looks text (Stuck f) old new found = (new ≡ old) × (found ≡ End (Some f))
+Looks text (Over last) old new found = (new ≡ old) × (found ≡ End last)
 
 abbrev pub is_bad_number : Option StreamFault → Bool
 is_bad_number None = false
@@ -82,14 +89,13 @@ is_decided (End e) = is_bad_number e
 abbrev pub is_whole : State → Found → Bool
 is_whole Open found = is_decided found
 is_whole (Ended fails) found = true
-is_whole (Stuck f) found = true
+is_whole (Over last) found = true
 
--- an item is passed, a fault stays
+-- an item is passed, the end or a fault stays
 abbrev pub Takes : ℕ → State → Found → ℕ → State → Type 0
 Takes old_at old (Line p) at new = (at ≡ p.next) × (new ≡ old)
 Takes old_at old (Data p) at new = (at ≡ p.next) × (new ≡ old)
-Takes old_at old (End None) at new = (at ≡ old_at) × (new ≡ old)
-Takes old_at old (End (Some f)) at new = (at ≡ old_at) × (new ≡ Stuck f)
+Takes old_at old (End last) at new = (at ≡ old_at) × (new ≡ Over last)
 
 -- ---- one pull
 
@@ -98,8 +104,13 @@ abbrev pub KeepsStream : Option Stream → Option Stream → Type 0
 KeepsStream None new = Unit {0}
 KeepsStream (Some s) new = new ≡ Some s
 
+-- what is over stays as it is
+abbrev pub KeepsOver : Option (Option StreamFault) → Seen → Seen → Type 0
+KeepsOver None old new = Unit {0}
+KeepsOver (Some last) old new = new ≡ old
+
 abbrev pub Keeps : Seen → Seen → Type 0
-Keeps old new = KeepsStream old.stream new.stream × (new.most ≤ old.most)
+Keeps old new = KeepsStream old.stream new.stream × (new.most ≤ old.most) × KeepsOver old.over old new
 
 -- a text has more bytes at its end
 abbrev pub IsLonger : Bytes → Bytes → Type 0
@@ -109,4 +120,4 @@ IsLonger old new = (more : Bytes) × (new ≡ old ++ more)
 abbrev pub pulls_left : State → ℕ → ℕ
 pulls_left Open room = suc room
 pulls_left (Ended fails) room = 0
-pulls_left (Stuck f) room = 0
+pulls_left (Over last) room = 0

@@ -8,11 +8,12 @@ use Rattle.gx_stream.specs.declared.fault.StreamFault.TheVariants.{OutOfMemory}
 use Rattle.gx_stream.specs.declared.item.Item.{Item}
 use Rattle.gx_stream.specs.declared.item.Item.TheVariants.{Line, Data}
 
--- What a reader is seen as: the items still to come with their end, where the source tells its bytes, and a bound on
--- how many may come.
+-- What a reader is seen as: the items still to come with their end, where the source tells its bytes, a bound on how
+-- many may come, and where it is over, how: at the end, or at a fault.
 pub record Seen : Type 0 where
   pub stream : Option Stream
   pub most : ℕ
+  pub over : Option (Option StreamFault)
 
 -- an item as one of the model
 abbrev pub item_of : Item → model.Item
@@ -47,9 +48,26 @@ FallsAs old new (Err f) = new ≤ old
 abbrev pub Falls : ℕ → ℕ → Result (Option Item) StreamFault → Type 0
 Falls old new answer = FallsAs old new (answer_of answer)
 
+-- A reader is over after the end or a fault, and not after an item.
+abbrev pub over_after : Result (Option model.Item) StreamFault → Option (Option StreamFault)
+over_after (Ok None) = Some None
+over_after (Ok (Some item)) = None
+over_after (Err f) = Some (Some f)
+
+-- what a reader answers that is over
+abbrev pub last_answer : Option StreamFault → Result (Option model.Item) StreamFault
+last_answer None = Ok None
+last_answer (Some f) = Err f
+
+-- A reader that is over gives the same answer again, and nothing changes.
+abbrev pub RepeatsAs : Option (Option StreamFault) → Seen → Seen → Result (Option model.Item) StreamFault → Type 0
+RepeatsAs None old new answer = Unit {0}
+RepeatsAs (Some last) old new answer = (answer ≡ last_answer last) × (new ≡ old)
+
 -- what one call answers and leaves
 abbrev pub AnswersAs : Seen → Seen → Result (Option model.Item) StreamFault → Type 0
 AnswersAs old new answer = ReadsAs old.stream new.stream answer × FallsAs old.most new.most answer
+    × (new.over ≡ over_after answer) × RepeatsAs old.over old new answer
 
 abbrev pub Answers : Seen → Seen → Result (Option Item) StreamFault → Type 0
 Answers old new answer = AnswersAs old new (answer_of answer)

@@ -1,8 +1,8 @@
 //! What came from a source, and the items in it.
 
-ghost use Rattle.std.specs.Prelude.{◌≡◌, ◌<◌, ◌≤◌, ◌+◌, length, drop, IfOk, OnOk};
+ghost use Rattle.std.specs.Prelude.{◌≡◌, ◌<◌, ◌≤◌, ◌+◌, length, drop, None, IfOk, OnOk};
 ghost use Rattle.gx_stream.specs.Reading.{AnswersAs};
-ghost use Rattle.gx_stream.specs.Input.{seen, stream_seen, IsSound, FitsState, IsLonger, IsFoundWithin, answer_at, Looks, is_whole, Takes, Keeps, KeepsStream, pulls_left};
+ghost use Rattle.gx_stream.specs.Input.{seen, stream_seen, IsSound, FitsState, IsLonger, IsFoundWithin, answer_at, Looks, is_whole, Takes, Keeps, KeepsStream, over_seen, pulls_left};
 ghost use Rattle.gx_stream.specs.declared.input.State.TheVariants.{Open};
 
 use crate::fault::StreamFault;
@@ -16,12 +16,13 @@ pub(crate) const LIMIT: usize = 0x7fff_ffff_ffff_ffff;
 /// How many bytes a pull asks for.
 const PIECE: usize = 0x1_0000;
 
-/// What is known of the text: more of it may come, or it came whole and may fail at its end, or only a fault is left.
+/// What is known of the text: more of it may come, or it came whole and may fail at its end, or the last answer was given:
+/// the end, or a fault.
 #[derive(Clone, Copy, Drop)]
 pub(crate) enum State {
     Open,
     Ended(bool),
-    Stuck(StreamFault),
+    Over(Option<StreamFault>),
 }
 
 /// What came from a source. The text from `at` on isn't read yet, and at most `room` bytes may still come.
@@ -54,7 +55,7 @@ impl<R: Source, A: Allocator + Copy> Input<R, A> {
                 return found;
             }
             if self.pull().is_err() {
-                self.state = State::Stuck(StreamFault::OutOfMemory);
+                self.state = State::Over(Some(StreamFault::OutOfMemory));
                 return Found::End(Some(StreamFault::OutOfMemory));
             }
         }
@@ -95,7 +96,7 @@ fn look(text: &[u8], at: &mut usize, scan: &mut Scan, state: State) -> Found
             *scan = Scan::from_line(*at);
             find_item(text, at, scan, fails)
         }
-        State::Stuck(fault) => Found::End(Some(fault)),
+        State::Over(last) => Found::End(last),
     }
 }
 
@@ -108,18 +109,17 @@ fn is_whole(state: State, found: Found) -> bool
             Found::Line(_) | Found::Data(_) | Found::End(Some(StreamFault::BadNumber)) => true,
             Found::End(_) => false,
         },
-        State::Ended(_) | State::Stuck(_) => true,
+        State::Ended(_) | State::Over(_) => true,
     }
 }
 
-/// Moves past an item, or stays at a fault.
+/// Moves past an item, or stays at the end or a fault.
 fn take(at: &mut usize, state: &mut State, found: Found)
     ensures { Takes at.old state.old found at.new state.new }
 {
     match found {
         Found::Line(place) | Found::Data(place) => *at = place.next,
-        Found::End(None) => {}
-        Found::End(Some(fault)) => *state = State::Stuck(fault),
+        Found::End(last) => *state = State::Over(last),
     }
 }
 
@@ -157,6 +157,7 @@ fn append_piece<R: Source, A: Allocator>(
     ensures within { length text.new.items + room.new ≤ length text.old.items + room.old }
     ensures keeps { IfOk result (λ state. KeepsStream (stream_seen Open room.old (R.coming source.old) text.old.items)
         (stream_seen state room.new (R.coming source.new) text.new.items)) }
+    ensures goes_on { IfOk result (λ state. over_seen state ≡ None) }
     ensures fewer { IfOk result (λ state. pulls_left state room.new < pulls_left Open room.old) }
 {
     match source.pull(buffer) {

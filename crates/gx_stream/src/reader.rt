@@ -1,6 +1,6 @@
 //! The reader of items.
 
-ghost use Rattle.std.specs.Prelude.{◌≡◌, ◌-◌, ◌^◌};
+ghost use Rattle.std.specs.Prelude.{◌≡◌, ◌-◌, ◌^◌, None};
 ghost use Rattle.std.specs.Option.{option_map};
 ghost use Rattle.std.specs.Borrow.{sem};
 ghost use Rattle.std.specs.Io.BufRead.{Rests};
@@ -16,7 +16,7 @@ use gx_text::Source;
 use std::alloc::Allocator;
 use std::marker::Model;
 
-/// A reader of the items of a stream, seen as the items that are still to come.
+/// A reader of the items of a stream, seen as the items that are still to come, and how it is over.
 #[derive(Drop)]
 pub struct ItemReader<R: Source, A: Allocator> {
     input: Input<R, A>,
@@ -38,6 +38,7 @@ impl<R: Source, A: Allocator + Copy> ItemReader<R, A> {
     pub fn new(alloc: A, source: R) -> ItemReader<R, A>
         ensures stream { result.stream ≡ option_map items_from (R.coming source) }
         ensures most { result.most ≡ 2 ^ 63 - 1 }
+        ensures over { result.over ≡ None }
     {
         ItemReader {
             input: Input {

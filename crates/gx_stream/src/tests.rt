@@ -194,6 +194,83 @@ fn more_is_pulled_only_for_the_next_item(rt: HostRuntime) -> Result<(), Fail> {
     Ok(())
 }
 
+#[test]
+fn one_pull_serves_all_items_in_it(rt: HostRuntime) -> Result<(), Fail> {
+    let mut text = Vec::new(rt.alloc());
+    for _ in 0..1000u16 {
+        text.extend_from_slice(b"blob\ndata 3\na\nb\n")?;
+    }
+    let pulls = Cell::new(0u64);
+    let mut reader = ItemReader::new(
+        rt.alloc(),
+        Counting {
+            bytes: Bytes::new(&text, 0x1_0000, false),
+            pulls: &pulls,
+        },
+    );
+    for _ in 0..1000u16 {
+        assert!(rt; matches!(reader.next(), Ok(Some(Item::Line(b"blob")))));
+        assert!(rt; matches!(reader.next(), Ok(Some(Item::Data(b"a\nb")))));
+    }
+    assert_eq!(rt; pulls.get(), 1);
+    assert!(rt; matches!(reader.next(), Ok(None)));
+    assert_eq!(rt; pulls.get(), 2);
+    Ok(())
+}
+
+/// A source that tells nothing and fails once, behind so many bytes. Whoever asks again gets the bytes behind the failure.
+#[derive(Drop)]
+struct Faltering<'a> {
+    before: Bytes<'a>,
+    after: Bytes<'a>,
+    has_failed: bool,
+}
+
+impl<'a> Source for Faltering<'a> {
+    ghost coming = { λ _. None };
+
+    fn pull(&mut self, buffer: &mut [u8]) -> Result<usize, Failed> {
+        if self.has_failed {
+            return self.after.pull(buffer);
+        }
+        match self.before.pull(buffer) {
+            Err(Failed) => {
+                self.has_failed = true;
+                Err(Failed)
+            }
+            given => given,
+        }
+    }
+}
+
+#[test]
+fn failure_within_a_stream_stays(rt: HostRuntime) -> Result<(), Fail> {
+    let rows: [(&[u8], &[u8], &[u8]); 4] = [
+        (b"blob\ndata 3\na\nb\n", b"", b"[blob]<a\nb>ReadFailed"),
+        (b"blob\ndata 3\na", b"bcblob\n", b"[blob]ReadFailed"),
+        (b"progress a\nprog", b"ress b\n", b"[progress a]ReadFailed"),
+        (b"", b"progress a\n", b"ReadFailed"),
+    ];
+    for (before, after, items) in rows {
+        let mut reader = ItemReader::new(
+            rt.alloc(),
+            Faltering {
+                before: Bytes::new(before, 7, true),
+                after: Bytes::new(after, 7, false),
+                has_failed: false,
+            },
+        );
+        assert_eq!(rt; spell(rt.alloc(), &mut reader)?.as_slice(), items);
+        for _ in 0..3u8 {
+            assert_eq!(rt;
+                spell(rt.alloc(), &mut reader)?.as_slice(),
+                b"ReadFailed".as_slice()
+            );
+        }
+    }
+    Ok(())
+}
+
 #[derive(Drop)]
 struct Trial<A: Allocator> {
     items: Vec<u8, A>,

@@ -1,6 +1,6 @@
 //! Paths in a tree.
 
-ghost use Rattle.std.specs.Prelude.{ℕ, ◌≡◌, true, nat_lt, ◌<◌, ◌≤◌, ◌++◌, [], Ok, IsTrue, ◌==◌, length, drop, slice_index_or, IfOk, OnOk, OnErr, IfErr};
+ghost use Rattle.std.specs.Prelude.{ℕ, ◌≡◌, ◌≢◌, true, nat_lt, ◌<◌, ◌≤◌, ◌++◌, [], Ok, IsTrue, ◌==◌, length, drop, slice_index_or, IfOk, IsOk, OnOk, OnErr, IfErr, IsErrOf};
 ghost use Rattle.std.specs.List.{list_all, slice_split};
 ghost use Rattle.gx_model.specs.Faults.{Gives};
 ghost use Rattle.gx_model.specs.Grammar.{last_path};
@@ -52,11 +52,12 @@ impl<A: Allocator + Copy> TreePath<A> {
     }
 
     /// The path that the text writes, byte for byte; the empty text is the root.
-    /// `BadPath` where a component is none, and then `PathTooLong` over 4,095 bytes.
+    /// `BadPath` where a component is none, and then `PathTooLong` over 4,095 bytes. `OutOfMemory` comes after both.
     ///
     /// Cost: the length. Takes memory for the text and for a number per component.
     pub fn read(alloc: A, text: &[u8]) -> Result<TreePath<A>, TextFault>
-        ensures { Gives fault_of (λ p. p) result (path_of text.now) }
+        ensures path { Gives fault_of (λ p. p) result (path_of text.now) }
+        ensures memory { IsErrOf result OutOfMemory → IsOk (path_of text.now) }
     {
         check(text)?;
         let text = Vec::from_slice(alloc, text)?;
@@ -140,7 +141,8 @@ impl<A: Allocator + Copy> TreePath<A> {
 }
 
 fn check(text: &[u8]) -> Result<(), TextFault>
-    ensures { Gives fault_of (λ _. parts_of text.now) result (path_of text.now) }
+    ensures path { Gives fault_of (λ _. parts_of text.now) result (path_of text.now) }
+    ensures memory { IfErr result (λ fault. fault ≢ OutOfMemory) }
 {
     if !has_components(text) {
         return Err(TextFault::BadPath);

@@ -3,7 +3,7 @@ ghost use Rattle.std.specs.Prelude.{◌<◌, IfOk, length};
 use super::*;
 use gx_refusing::Refusing;
 use std::alloc::{AllocError, Allocator};
-use std::io::{Error, ErrorKind, Read, Result as IoResult};
+use std::io::{Error, ErrorKind, Read, Result as IoResult, Write};
 use std::test::Fail;
 
 const CUTE: &[u8] = b"\"a b\\\"\\303\\251\" copy";
@@ -63,6 +63,120 @@ fn interrupted_reads_are_tried_again(rt: HostRuntime) -> Result<(), Fail> {
     let mut buffer = [0u8; 2];
     for want in [2, 1, 0] {
         assert_eq!(rt; source.pull(&mut buffer), Ok(want));
+    }
+    Ok(())
+}
+
+// A reader that so many signals interrupt, and that has no bytes.
+#[derive(Drop)]
+struct Signals {
+    left: u32,
+}
+
+impl Read for Signals {
+    fn read(&mut self, _buf: &mut [u8]) -> IoResult<usize> {
+        if self.left == 0 {
+            return Ok(0);
+        }
+        self.left -= 1;
+        Err(Error::from(ErrorKind::Interrupted))
+    }
+}
+
+#[test]
+fn the_thousandth_interruption_is_a_failure(rt: HostRuntime) -> Result<(), Fail> {
+    let mut buffer = [0u8; 2];
+    for (left, answer) in [(999, Ok(0)), (1000, Err(Failed))] {
+        let mut source = FromRead::new(Signals { left });
+        assert_eq!(rt; source.pull(&mut buffer), answer);
+    }
+    Ok(())
+}
+
+// A reader that gives two bytes at a time, and fails behind the last.
+#[derive(Drop)]
+struct Broken<'a> {
+    bytes: &'a [u8],
+}
+
+impl<'a> Read for Broken<'a> {
+    fn read(&mut self, buf: &mut [u8]) -> IoResult<usize> {
+        let count = self.bytes.len().min(2).min(buf.len());
+        if count == 0 {
+            return Err(Error::from(ErrorKind::BrokenPipe));
+        }
+        let (front, rest) = self.bytes.split_at(count);
+        buf[..count].copy_from_slice(front);
+        self.bytes = rest;
+        Ok(count)
+    }
+}
+
+#[test]
+fn failing_read_is_no_end(rt: HostRuntime) -> Result<(), Fail> {
+    let mut source = FromRead::new(Broken { bytes: b"abcde" });
+    let mut buffer = [0u8; 8];
+    for piece in [b"ab".as_slice(), b"cd", b"e"] {
+        assert_eq!(rt; source.pull(&mut buffer), Ok(piece.len()));
+        assert!(rt; buffer.starts_with(piece));
+    }
+    for _again in 0..3 {
+        assert_eq!(rt; source.pull(&mut buffer), Err(Failed));
+    }
+    Ok(())
+}
+
+// A writer that takes a few bytes at a time, is interrupted before each write, and fails after so many.
+#[derive(Drop)]
+struct Short<A: Allocator> {
+    bytes: Vec<u8, A>,
+    most: usize,
+    writes: u32,
+    is_due: bool,
+}
+
+impl<A: Allocator> Write for Short<A> {
+    fn write(&mut self, buf: &[u8]) -> IoResult<usize> {
+        self.is_due = !self.is_due;
+        if self.is_due {
+            return Err(Error::from(ErrorKind::Interrupted));
+        }
+        if self.writes == 0 {
+            return Err(Error::from(ErrorKind::BrokenPipe));
+        }
+        self.writes -= 1;
+        let count = buf.len().min(self.most);
+        match self.bytes.extend_from_slice(&buf[..count]) {
+            Ok(()) => Ok(count),
+            Err(_) => Err(Error::from(ErrorKind::OutOfMemory)),
+        }
+    }
+
+    fn flush(&mut self) -> IoResult<()> {
+        Ok(())
+    }
+}
+
+#[test]
+fn short_writes_go_on_behind_what_was_taken(rt: HostRuntime) -> Result<(), Fail> {
+    for (most, writes, answer, taken) in [
+        (3usize, 4u32, Ok(()), b"abcdefghij".as_slice()),
+        (1, 10, Ok(()), b"abcdefghij"),
+        (3, 2, Err(6), b"abcdef"),
+        (3, 0, Err(0), b""),
+        (0, 4, Err(0), b""),
+    ] {
+        let mut short = Short {
+            bytes: Vec::new(rt.alloc()),
+            most,
+            writes,
+            is_due: false,
+        };
+        {
+            let mut sink = IntoWrite::new(&mut short);
+            assert_eq!(rt; send(&mut sink, b"abcdefghij"), answer);
+        }
+        assert_eq!(rt; short.bytes.as_slice(), taken);
     }
     Ok(())
 }

@@ -13,7 +13,7 @@ returns-in-Ok g c =
       | else-len-gt0 w ↦ rw w.text-is (ap (λ t. t ++ component) front ∙ sym (child_of_root p component (omega (arith, w.if-len-gt0.false, c.len.ensures.length))))
     ] in
     let read : path_of c.deref.result.now ≡ Ok (p ++ component ∷ []) = child_read p component c.deref.result.now c.len.ensures.path c.requires.component c.requires.short (c.deref.ensures.value ∙ text) in
-    let both : Ok c.in-Ok.path ≡ Ok (p ++ component ∷ []) = sym c.in-Ok.ensures ∙ read in
+    let both : Ok c.in-Ok.path ≡ Ok (p ++ component ∷ []) = sym c.in-Ok.ensures.path ∙ read in
     cc
 
 pub unreachable-requires : goal.unreachable-requires
@@ -25,4 +25,4 @@ unreachable-requires g c =
       | else-len-gt0 w ↦ rw w.text-is (ap (λ t. t ++ component) front ∙ sym (child_of_root p component (omega (arith, w.if-len-gt0.false, c.len.ensures.length))))
     ] in
     let read : path_of c.deref.result.now ≡ Ok (p ++ component ∷ []) = child_read p component c.deref.result.now c.len.ensures.path c.requires.component c.requires.short (c.deref.ensures.value ∙ text) in
-    not_refused (p ++ component ∷ []) (path_of c.deref.result.now) c.in-Err.fault read c.in_default.not-OutOfMemory c.in-Err.ensures
+    not_refused (p ++ component ∷ []) (path_of c.deref.result.now) c.in-Err.fault read c.in_default.not-OutOfMemory c.in-Err.ensures.path

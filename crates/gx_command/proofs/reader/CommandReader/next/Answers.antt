@@ -1,7 +1,7 @@
 use Rattle.std.proofs.Common.{ap}
 use Rattle.gx_command.specs.Reading.{Seen}
 use Rattle.gx_command.proofs.BroughtGitlinks.{none_brought}
-use Rattle.gx_command.proofs.NextCommands.{reads_some, reads_none, reads_fault}
+use Rattle.gx_command.proofs.NextCommands.{reads_some, reads_none, reads_fault, over_some, repeats_none}
 use Rattle.gx_command.proofs.reader.CommandReader.next.Goals as goal
 
 pub returns-in-Ok-Some-clause-reads : goal.returns-in-Ok-Some-clause-reads
@@ -21,3 +21,15 @@ returns-in-Err-clause-reads g c =
 
 pub returns-in-Ok-Some-clause-gitlinks : goal.returns-in-Ok-Some-clause-gitlinks
 returns-in-Ok-Some-clause-gitlinks g c = none_brought c.in-Ok-Some.command
+
+pub returns-in-Ok-Some-clause-over : goal.returns-in-Ok-Some-clause-over
+returns-in-Ok-Some-clause-over g c = rw c.after-self-inside.ensures (over_some c.in-Open.options c.in-Ok-Some.command)
+
+pub returns-in-Ok-Some-clause-repeats : goal.returns-in-Ok-Some-clause-repeats
+returns-in-Ok-Some-clause-repeats g c = repeats_none _ _ _ _ (rw c.in-Open.is at (ap (λ (v : Seen). v.over) c.self.view_is))
+
+pub returns-in-Ok-None-clause-repeats : goal.returns-in-Ok-None-clause-repeats
+returns-in-Ok-None-clause-repeats g c = repeats_none _ _ _ _ (rw c.in-Open.is at (ap (λ (v : Seen). v.over) c.self.view_is))
+
+pub returns-in-Err-clause-repeats : goal.returns-in-Err-clause-repeats
+returns-in-Err-clause-repeats g c = repeats_none _ _ _ _ (rw c.in-Open.is at (ap (λ (v : Seen). v.over) c.self.view_is))

@@ -13,3 +13,4 @@ pub mod Pieces
 pub mod StoredAnswers
 pub mod WordsRead
 pub mod ExportedStores
+pub mod RoundTrips

@@ -11,7 +11,7 @@ use Rattle.gx_model.specs.Texts.{Bytes, same_bytes}
 use Rattle.gx_model.specs.Items.{Item as ModelItem, Stream, End, Finished, Failed, then_comes}
 use Rattle.gx_model.specs.Histories.{Record}
 use Rattle.gx_model.specs.Growth.{put, put_under, record_named, same_object}
-use Rattle.gx_text.specs.Devices.{Taken, Sends}
+use Rattle.gx_text.specs.Devices.{Sends, Taken, Took}
 use Rattle.gx_stream.specs.declared.item.Item.{Item}
 use Rattle.gx_stream.specs.declared.fault.StreamFault.{StreamFault}
 use Rattle.gx_stream.specs.declared.fault.StreamFault.TheVariants as stream
@@ -19,12 +19,13 @@ use Rattle.gx_stream.specs.Faults.{fault_of, ended as only}
 use Rattle.gx_stream.specs.Reading.{Reads, item_of}
 use Rattle.gx_cli.specs.Blobs.{BlobRun, refused, blobs_of, behind, first_body}
 use Rattle.gx_cli.specs.Steps.{Step, stop, go, body, run_of, step_of, stepped, stop_at}
-use Rattle.gx_cli.specs.Printing.{blob_line, printed, blob_record, wrote, stop_of, Clashes, Prints, PrintsBlobs, PrintsOne, kind_of}
+use Rattle.gx_cli.specs.Printing.{blob_line, printed, blob_record, stop_of, Clashes, FailsWithin, Prints, PrintsBlobs, PrintsOne, kind_of}
 use Rattle.gx_cli.specs.declared.blob_names.Stage.{Stage}
 use Rattle.gx_cli.specs.declared.blob_names.Stage.TheVariants.{Expected}
 use Rattle.gx_cli.specs.declared.blob_names.BlobsKind.{BlobsKind}
 use Rattle.gx_cli.specs.declared.blob_names.BlobsKind.TheVariants as kinds
 use Rattle.gx_cli.specs.declared.blob_names.BlobsFault.{BlobsFault}
+use Rattle.gx_cli.proofs.SentTexts.{took_nothing}
 use Rattle.gx_cli.proofs.Staged.{blobs_of-run}
 
 -- the blobs of items, from a stage on
@@ -34,18 +35,21 @@ staged stage s = run_of s.items stage s.end
 abbrev refused_at : ℕ → BlobsKind → Result ℕ BlobsFault
 refused_at count kind = Err (record { command = count + 1; kind = kind })
 
-as_blobs : (names : Kind → Bytes → Bytes) (s : Stream) (was : Taken) (is : Option Taken) (r : Result ℕ BlobsFault) → Prints names (staged Expected s) was is r → Prints names (blobs_of s) was is r
+as_blobs : (names : Kind → Bytes → Bytes) (s : Stream) (was : Option Taken) (is : Option Taken) (r : Result ℕ BlobsFault) → Prints names (staged Expected s) was is r → Prints names (blobs_of s) was is r
 as_blobs names s was is r h = subst (λ run. Prints names run was is r) (sym (blobs_of-run s)) h
 
--- the blobs so far, and then those of what is left
-abbrev pub Goes : Option Stream → Option Stream → Stage → List Bytes → Type 0
-Goes None now stage front = Unit {0}
-Goes (Some r) now stage front = (left : Stream) × (now ≡ Some left) × (staged Expected r ≡ behind front (staged stage left))
+-- items that came, and what comes after them
+abbrev pub after : List ModelItem → Stream → Stream
+after came left = record { items = came ++ left.items; end = left.end }
 
--- the sink has their names
-abbrev pub Wrote : Option Taken → Option Taken → Bytes → Type 0
-Wrote None is bytes = Unit {0}
-Wrote (Some was) is bytes = is ≡ Some (wrote was bytes)
+-- these blobs came with these items, whatever comes after them
+abbrev pub GoesOn : List ModelItem → Stage → List Bytes → Type 0
+GoesOn came stage front = (left : Stream) → staged Expected (after came left) ≡ behind front (staged stage left)
+
+-- the blobs so far, and then those of what is left; where a source tells nothing, of the items that came
+abbrev pub Goes : Option Stream → Option Stream → Stage → List Bytes → Type 0
+Goes None now stage front = (came : List ModelItem) × GoesOn came stage front
+Goes (Some r) now stage front = (left : Stream) × (now ≡ Some left) × (staged Expected r ≡ behind front (staged stage left))
 
 abbrev pub IsIn : Bytes → List Bytes → Type 0
 IsIn x [] = ⊥
@@ -60,16 +64,12 @@ pub record Progress (names : Kind → Bytes → Bytes) (start now : Option Strea
   pub front : List Bytes
   pub counted : count ≡ length front
   pub goes : Goes start now stage front
-  pub wrote : Wrote was is (printed names front)
+  pub wrote : Took was is (printed names front)
   pub among : HeldAmong names front held
 
 Goes-none : (start : Option Stream) → Goes start start Expected []
-Goes-none None = tt
+Goes-none None = ([], λ left. refl)
 Goes-none (Some r) = (r, refl, refl)
-
-Wrote-none : (was : Option Taken) → Wrote was was []
-Wrote-none None = tt
-Wrote-none (Some was) = ap (λ bs. Some (record was { bytes = bs })) (sym (append-nil was.bytes))
 
 pub Progress-none : (names : Kind → Bytes → Bytes) (start now : Option Stream) (was : Option Taken) (held : List Record) → now ≡ start → held ≡ [] → Progress names start now Expected was was held 0
 Progress-none names start now was held e h =
@@ -77,7 +77,7 @@ Progress-none names start now was held e h =
       front = [];
       counted = refl;
       goes = subst (λ v. Goes start v Expected []) (sym e) (Goes-none start);
-      wrote = Wrote-none was;
+      wrote = took_nothing was;
       among = subst (HeldAmong names []) (sym h) tt;
     }
 
@@ -86,19 +86,34 @@ staged-item : (stage : Stage) (p : ModelItem) (left : Stream) → staged stage (
 unfolding run_of
 staged-item stage p left = refl
 
+-- the same behind the items that came
+comes_on : (came : List ModelItem) (stage : Stage) (front : List Bytes) (p : ModelItem) (s : Step) → step_of stage p ≡ s → GoesOn came stage front → (left : Stream) → staged Expected (after came (then_comes p left)) ≡ behind front (stepped s (λ n. staged n left))
+comes_on came stage front p s e g left = g (then_comes p left) ∙ ap (behind front) (staged-item stage p left ∙ ap (λ v. stepped v (λ n. staged n left)) e)
+
+-- an item more came
+one_more : (came : List ModelItem) (p : ModelItem) (left : Stream) → staged Expected (after (came ++ p ∷ []) left) ≡ staged Expected (after came (then_comes p left))
+one_more came p left = ap (λ is. run_of is Expected left.end) (append_assoc came (p ∷ []) left.items)
+
+-- a blob more
+body_behind : (front : List Bytes) (x : Bytes) (run : BlobRun) → behind front (first_body x run) ≡ behind (front ++ x ∷ []) run
+body_behind front x run = ap (λ bs. record { bodies = bs; stop = run.stop }) (sym (append_assoc front (x ∷ []) run.bodies))
+
 Goes-go : (start now new : Option Stream) (stage next : Stage) (front : List Bytes) (item : Item) → step_of stage (item_of item) ≡ go next → Goes start now stage front → Reads now new (Ok (Some item)) → Goes start new next front
-Goes-go None now new stage next front item e g r = tt
+Goes-go None now new stage next front item e g r =
+    let p = item_of item in
+    (g.0 ++ p ∷ [], λ left. one_more g.0 p left ∙ comes_on g.0 stage front p (go next) e g.1 left)
 Goes-go (Some s) now new stage next front item e g r =
     let t = rw g.1 at r in
     (t.0, t.2, g.2 ∙ ap (λ v. behind front (staged stage v)) t.1 ∙ ap (behind front) (staged-item stage (item_of item) t.0 ∙ ap (λ v. stepped v (λ n. staged n t.0)) e))
 
 Goes-body : (start now new : Option Stream) (stage : Stage) (front : List Bytes) (item : Item) (x : Bytes) → step_of stage (item_of item) ≡ body x → Goes start now stage front → Reads now new (Ok (Some item)) → Goes start new Expected (front ++ x ∷ [])
-Goes-body None now new stage front item x e g r = tt
+Goes-body None now new stage front item x e g r =
+    let p = item_of item in
+    (g.0 ++ p ∷ [], λ left. one_more g.0 p left ∙ comes_on g.0 stage front p (body x) e g.1 left ∙ body_behind front x (staged Expected left))
 Goes-body (Some s) now new stage front item x e g r =
     let t = rw g.1 at r in
     let here = staged-item stage (item_of item) t.0 ∙ ap (λ v. stepped v (λ n. staged n t.0)) e in
-    let run = staged Expected t.0 in
-    (t.0, t.2, g.2 ∙ ap (λ v. behind front (staged stage v)) t.1 ∙ ap (behind front) here ∙ ap (λ bs. record { bodies = bs; stop = run.stop }) (sym (append_assoc front (x ∷ []) run.bodies)))
+    (t.0, t.2, g.2 ∙ ap (λ v. behind front (staged stage v)) t.1 ∙ ap (behind front) here ∙ body_behind front x (staged Expected t.0))
 
 pub Progress-go : (names : Kind → Bytes → Bytes) (start now new : Option Stream) (stage next : Stage) (was is : Option Taken) (held : List Record) (count : ℕ) (item : Item) → step_of stage (item_of item) ≡ go next → Progress names start now stage was is held count → Reads now new (Ok (Some item)) → Progress names start new next was is held count
 Progress-go names start now new stage next was is held count item e p r =
@@ -131,7 +146,7 @@ printed-push : (names : Kind → Bytes → Bytes) (front : List Bytes) (x : Byte
 printed-push names front x =
     flat_map-append (λ y. blob_line names y) front (x ∷ []) ∙ ap (λ bs. printed names front ++ bs) (append-nil (blob_line names x))
 
-Wrote-more : (was is new : Option Taken) (bytes more : Bytes) → Wrote was is bytes → Sends is new more (Ok tt) → Wrote was new (bytes ++ more)
+Wrote-more : (was is new : Option Taken) (bytes more : Bytes) → Took was is bytes → Sends is new more (Ok tt) → Took was new (bytes ++ more)
 Wrote-more None is new bytes more w s = tt
 Wrote-more (Some was) is new bytes more w s =
     let t = rw w at s in
@@ -156,7 +171,7 @@ Progress-body names start now new stage was is out held kept count item x u e p 
       front = p.front ++ x ∷ [];
       counted = omega (arith, p.counted, length_push p.front x);
       goes = Goes-body start now new stage p.front item x e p.goes r;
-      wrote = subst (Wrote was out) (sym (printed-push names p.front x)) (Wrote-more was is out (printed names p.front) (blob_line names x) p.wrote o.1);
+      wrote = subst (Took was out) (sym (printed-push names p.front x)) (Wrote-more was is out (printed names p.front) (blob_line names x) p.wrote o.1);
       among = added names p.front x held kept (put-grows held kept (blob_record names x) o.0) p.among;
     }
 
@@ -172,38 +187,53 @@ unfolding run_of
 at_end r left stage front f e g =
     g ∙ ap (λ v. behind front (staged stage v)) e ∙ ap (λ bs. record { bodies = bs; stop = stop_at stage f }) (append-nil front)
 
-pub Prints-end : (names : Kind → Bytes → Bytes) (start : Option Stream) (now new : Option Stream) (stage : Stage) (was is : Option Taken) (held : List Record) (count : ℕ) → stop_at stage Finished ≡ None → Progress names start now stage was is held count → Reads now new (Ok None) → PrintsBlobs names start was is (Ok count)
-Prints-end names None now new stage was is held count e p r = tt
-Prints-end names (Some c) now new stage None is held count e p r = tt
-Prints-end names (Some c) now new stage (Some was) is held count e p r =
-    let t = rw p.goes.1 at r in
-    as_blobs names c was is (Ok count) (rw (at_end c p.goes.0 stage p.front Finished t.0 p.goes.2) (e, p.counted, p.wrote))
+all_printed : (names : Kind → Bytes → Bytes) (run : BlobRun) (front : List Bytes) (was is : Option Taken) (count : ℕ) → run ≡ record { bodies = front; stop = None } → count ≡ length front → Took was is (printed names front) → Prints names run was is (Ok count)
+all_printed names run front was is count e n w = rw e (refl, n, w)
 
-own_fault : (names : Kind → Bytes → Bytes) (run : BlobRun) (front : List Bytes) (was : Taken) (is : Option Taken) (count : ℕ) (kind : BlobsKind) → run ≡ record { bodies = front; stop = Some (stop_of kind) } → count ≡ length front → is ≡ Some (wrote was (printed names front)) → Prints names run was is (Err (record { command = count + 1; kind = kind }))
+-- the items that came, and then an end
+ends_on : (came : List ModelItem) (stage : Stage) (front : List Bytes) (end : End) → GoesOn came stage front → staged Expected (after came (only end)) ≡ record { bodies = front; stop = stop_at stage end }
+ends_on came stage front end g = at_end (after came (only end)) (only end) stage front end refl (g (only end))
+
+pub Prints-end : (names : Kind → Bytes → Bytes) (start : Option Stream) (now new : Option Stream) (stage : Stage) (was is : Option Taken) (held : List Record) (count : ℕ) → stop_at stage Finished ≡ None → Progress names start now stage was is held count → Reads now new (Ok None) → PrintsBlobs names start was is (Ok count)
+Prints-end names None now new stage was is held count e p r =
+    let s = after p.goes.0 (only Finished) in
+    let run = ends_on p.goes.0 stage p.front Finished p.goes.1 ∙ ap (λ k. record { bodies = p.front; stop = k }) e in
+    (s, tt, as_blobs names s was is (Ok count) (all_printed names (staged Expected s) p.front was is count run p.counted p.wrote))
+Prints-end names (Some c) now new stage was is held count e p r =
+    let t = rw p.goes.1 at r in
+    let run = at_end c p.goes.0 stage p.front Finished t.0 p.goes.2 ∙ ap (λ k. record { bodies = p.front; stop = k }) e in
+    as_blobs names c was is (Ok count) (all_printed names (staged Expected c) p.front was is count run p.counted p.wrote)
+
+own_fault : (names : Kind → Bytes → Bytes) (run : BlobRun) (front : List Bytes) (was is : Option Taken) (count : ℕ) (kind : BlobsKind) → run ≡ record { bodies = front; stop = Some (stop_of kind) } → count ≡ length front → Took was is (printed names front) → Prints names run was is (Err (record { command = count + 1; kind = kind }))
 own_fault names run front was is count kind e n w =
     rw e (front, [], sym (append-nil front), ap (λ k. k + 1) n, inl (refl, refl, w))
 
 pub Prints-cut : (names : Kind → Bytes → Bytes) (start : Option Stream) (now new : Option Stream) (stage : Stage) (was is : Option Taken) (held : List Record) (count : ℕ) (kind : BlobsKind) → stop_at stage Finished ≡ Some (stop_of kind) → Progress names start now stage was is held count → Reads now new (Ok None) → PrintsBlobs names start was is (Err (record { command = count + 1; kind = kind }))
-Prints-cut names None now new stage was is held count kind e p r = tt
-Prints-cut names (Some c) now new stage None is held count kind e p r = tt
-Prints-cut names (Some c) now new stage (Some was) is held count kind e p r =
+Prints-cut names None now new stage was is held count kind e p r =
+    let s = after p.goes.0 (only Finished) in
+    let run = ends_on p.goes.0 stage p.front Finished p.goes.1 ∙ ap (λ k. record { bodies = p.front; stop = k }) e in
+    (s, tt, as_blobs names s was is (refused_at count kind) (own_fault names (staged Expected s) p.front was is count kind run p.counted p.wrote))
+Prints-cut names (Some c) now new stage was is held count kind e p r =
     let t = rw p.goes.1 at r in
     as_blobs names c was is (refused_at count kind) (own_fault names (staged Expected c) p.front was is count kind (at_end c p.goes.0 stage p.front Finished t.0 p.goes.2 ∙ ap (λ k. record { bodies = p.front; stop = k }) e) p.counted p.wrote)
 
-no_memory : (names : Kind → Bytes → Bytes) (run next : BlobRun) (front : List Bytes) (was : Taken) (is : Option Taken) (count : ℕ) → run ≡ behind front next → count ≡ length front → is ≡ Some (wrote was (printed names front)) → Prints names run was is (Err (record { command = count + 1; kind = kinds.OutOfMemory }))
+no_memory : (names : Kind → Bytes → Bytes) (run next : BlobRun) (front : List Bytes) (was is : Option Taken) (count : ℕ) → run ≡ behind front next → count ≡ length front → Took was is (printed names front) → Prints names run was is (Err (record { command = count + 1; kind = kinds.OutOfMemory }))
 no_memory names run next front was is count e n w =
     rw e (front, next.bodies, refl, ap (λ k. k + 1) n, inr (inl (refl, w)))
 
-fault_case : (names : Kind → Bytes → Bytes) (r left : Stream) (stage : Stage) (front : List Bytes) (was : Taken) (is : Option Taken) (count : ℕ) (f : StreamFault) → staged Expected r ≡ behind front (staged stage left) → count ≡ length front → is ≡ Some (wrote was (printed names front)) → (f ≡ stream.OutOfMemory) ⊎ (left ≡ only (Failed (fault_of f))) → Prints names (staged Expected r) was is (Err (record { command = count + 1; kind = kind_of f }))
+fault_case : (names : Kind → Bytes → Bytes) (r left : Stream) (stage : Stage) (front : List Bytes) (was is : Option Taken) (count : ℕ) (f : StreamFault) → staged Expected r ≡ behind front (staged stage left) → count ≡ length front → Took was is (printed names front) → (f ≡ stream.OutOfMemory) ⊎ (left ≡ only (Failed (fault_of f))) → Prints names (staged Expected r) was is (Err (record { command = count + 1; kind = kind_of f }))
 fault_case names r left stage front was is count f g n w (inl e) =
     rw e (no_memory names (staged Expected r) (staged stage left) front was is count g n w)
 fault_case names r left stage front was is count f g n w (inr e) =
     own_fault names (staged Expected r) front was is count (kind_of f) (at_end r left stage front (Failed (fault_of f)) e g ∙ ap (λ k. record { bodies = front; stop = Some k }) (sym (stop_of-fault f))) n w
 
 pub Prints-fault : (names : Kind → Bytes → Bytes) (start : Option Stream) (now new : Option Stream) (stage : Stage) (was is : Option Taken) (held : List Record) (count : ℕ) (f : StreamFault) → Progress names start now stage was is held count → Reads now new (Err f) → PrintsBlobs names start was is (Err (record { command = count + 1; kind = kind_of f }))
-Prints-fault names None now new stage was is held count f p r = tt
-Prints-fault names (Some c) now new stage None is held count f p r = tt
-Prints-fault names (Some c) now new stage (Some was) is held count f p r =
+Prints-fault names None now new stage was is held count f p r =
+    let end = Failed (fault_of f) in
+    let s = after p.goes.0 (only end) in
+    let run = ends_on p.goes.0 stage p.front end p.goes.1 ∙ ap (λ k. record { bodies = p.front; stop = Some k }) (sym (stop_of-fault f)) in
+    (s, (f, refl), as_blobs names s was is (refused_at count (kind_of f)) (own_fault names (staged Expected s) p.front was is count (kind_of f) run p.counted p.wrote))
+Prints-fault names (Some c) now new stage was is held count f p r =
     let t = rw p.goes.1 at r in
     as_blobs names c was is (refused_at count (kind_of f)) (fault_case names c p.goes.0 stage p.front was is count f p.goes.2 p.counted p.wrote t.1)
 
@@ -214,9 +244,12 @@ comes r now new stage front item s e g h =
     (t.0, g.2 ∙ ap (λ v. behind front (staged stage v)) t.1 ∙ ap (behind front) (staged-item stage (item_of item) t.0 ∙ ap (λ v. stepped v (λ n. staged n t.0)) e))
 
 pub Prints-stop : (names : Kind → Bytes → Bytes) (start : Option Stream) (now new : Option Stream) (stage : Stage) (was is : Option Taken) (held : List Record) (count : ℕ) (item : Item) (kind : BlobsKind) → step_of stage (item_of item) ≡ stop (stop_of kind) → Progress names start now stage was is held count → Reads now new (Ok (Some item)) → PrintsBlobs names start was is (Err (record { command = count + 1; kind = kind }))
-Prints-stop names None now new stage was is held count item kind e p r = tt
-Prints-stop names (Some c) now new stage None is held count item kind e p r = tt
-Prints-stop names (Some c) now new stage (Some was) is held count item kind e p r =
+Prints-stop names None now new stage was is held count item kind e p r =
+    let s = after p.goes.0 (then_comes (item_of item) (only Finished)) in
+    let run = comes_on p.goes.0 stage p.front (item_of item) (stop (stop_of kind)) e p.goes.1 (only Finished) in
+    let stopped = run ∙ ap (λ bs. record { bodies = bs; stop = Some (stop_of kind) }) (append-nil p.front) in
+    (s, tt, as_blobs names s was is (refused_at count kind) (own_fault names (staged Expected s) p.front was is count kind stopped p.counted p.wrote))
+Prints-stop names (Some c) now new stage was is held count item kind e p r =
     let t = comes c now new stage p.front item (stop (stop_of kind)) e p.goes r in
     as_blobs names c was is (refused_at count kind) (own_fault names (staged Expected c) p.front was is count kind (t.1 ∙ ap (λ bs. record { bodies = bs; stop = Some (stop_of kind) }) (append-nil p.front)) p.counted p.wrote)
 
@@ -251,14 +284,18 @@ Clashes-held names x front held e h = by (record_named held (names kind.Blob x))
       let f = found names (names kind.Blob x) front held other is h in
       clash names x f.0 front f.1 (ap (λ (s : Record). s.name) (sym f.2) ∙ sym f.3) (other_bytes names x f.0 other f.2 held e)
 
-one_case : (names : Kind → Bytes → Bytes) (run next : BlobRun) (front : List Bytes) (x : Bytes) (was : Taken) (is out : Option Taken) (held kept : List Record) (count : ℕ) (kind : BlobsKind) → run ≡ behind front (first_body x next) → count ≡ length front → is ≡ Some (wrote was (printed names front)) → HeldAmong names front held → PrintsOne names held kept is out x (Err kind) → Prints names run was out (Err (record { command = count + 1; kind = kind }))
+-- the sink failed in the line of the blob at hand
+fails_within : (names : Kind → Bytes → Bytes) (front rest : List Bytes) (x : Bytes) (was is out : Option Taken) (n : ℕ) → Took was is (printed names front) → Sends is out (blob_line names x) (Err n) → FailsWithin names front (x ∷ rest) was out
+fails_within names front rest x None is out n w s = tt
+fails_within names front rest x (Some t) is out n w s = let k = rw w at s in (n, k.0, k.1)
+
+one_case : (names : Kind → Bytes → Bytes) (run next : BlobRun) (front : List Bytes) (x : Bytes) (was is out : Option Taken) (held kept : List Record) (count : ℕ) (kind : BlobsKind) → run ≡ behind front (first_body x next) → count ≡ length front → Took was is (printed names front) → HeldAmong names front held → PrintsOne names held kept is out x (Err kind) → Prints names run was out (Err (record { command = count + 1; kind = kind }))
 one_case names run next front x was is out held kept count kinds.OutOfMemory e n w h o =
-    rw e (front, x ∷ next.bodies, refl, ap (λ k. k + 1) n, inr (inl (refl, o ∙ w)))
+    rw e (front, x ∷ next.bodies, refl, ap (λ k. k + 1) n, inr (inl (refl, subst (λ z. Took was z (printed names front)) (sym o) w)))
 one_case names run next front x was is out held kept count kinds.NameHeld e n w h o =
-    rw e (front, x ∷ next.bodies, refl, ap (λ k. k + 1) n, inr (inr (inl (refl, Clashes-held names x front held o.0 h, o.1 ∙ w))))
+    rw e (front, x ∷ next.bodies, refl, ap (λ k. k + 1) n, inr (inr (inl (refl, Clashes-held names x front held o.0 h, subst (λ z. Took was z (printed names front)) (sym o.1) w))))
 one_case names run next front x was is out held kept count kinds.WriteFailed e n w h o =
-    let s = rw w at o.1 in
-    rw e (front, x ∷ next.bodies, refl, ap (λ k. k + 1) n, inr (inr (inr (refl, (o.0, s.0, s.1)))))
+    rw e (front, x ∷ next.bodies, refl, ap (λ k. k + 1) n, inr (inr (inr (refl, fails_within names front next.bodies x was is out o.0 w o.1))))
 one_case names run next front x was is out held kept count kinds.ReadFailed e n w h o = absurd o
 one_case names run next front x was is out held kept count kinds.BadLine e n w h o = absurd o
 one_case names run next front x was is out held kept count kinds.BadNumber e n w h o = absurd o
@@ -266,9 +303,11 @@ one_case names run next front x was is out held kept count kinds.TruncatedData e
 one_case names run next front x was is out held kept count kinds.NotABlob e n w h o = absurd o
 
 pub Prints-one : (names : Kind → Bytes → Bytes) (start : Option Stream) (now new : Option Stream) (stage : Stage) (was is out : Option Taken) (held kept : List Record) (count : ℕ) (item : Item) (x : Bytes) (kind : BlobsKind) → step_of stage (item_of item) ≡ body x → Progress names start now stage was is held count → Reads now new (Ok (Some item)) → PrintsOne names held kept is out x (Err kind) → PrintsBlobs names start was out (Err (record { command = count + 1; kind = kind }))
-Prints-one names None now new stage was is out held kept count item x kind e p r o = tt
-Prints-one names (Some c) now new stage None is out held kept count item x kind e p r o = tt
-Prints-one names (Some c) now new stage (Some was) is out held kept count item x kind e p r o =
+Prints-one names None now new stage was is out held kept count item x kind e p r o =
+    let s = after p.goes.0 (then_comes (item_of item) (only Finished)) in
+    let run = comes_on p.goes.0 stage p.front (item_of item) (body x) e p.goes.1 (only Finished) in
+    (s, tt, as_blobs names s was out (refused_at count kind) (one_case names (staged Expected s) (staged Expected (only Finished)) p.front x was is out held kept count kind run p.counted p.wrote p.among o))
+Prints-one names (Some c) now new stage was is out held kept count item x kind e p r o =
     let t = comes c now new stage p.front item (body x) e p.goes r in
     as_blobs names c was out (refused_at count kind) (one_case names (staged Expected c) (staged Expected t.0) p.front x was is out held kept count kind t.1 p.counted p.wrote p.among o)
 

@@ -3,6 +3,7 @@ pub mod Steps
 pub mod Printing
 pub mod Listings
 pub mod Trying
+pub mod Headline
 pub mod Stored
 pub mod FileLines
 pub mod Words

@@ -1,15 +1,16 @@
 -- What printing the names of a stream's blobs gives.
-use Rattle.std.specs.Prelude.{◌≡◌, ◌≢◌, ℕ, ◌+◌, ◌<◌, true, List, [], ◌∷◌, ◌++◌, length, take, Option, Some, None, Result, Ok, Err, ◌⊎◌}
+use Rattle.std.specs.Prelude.{◌≡◌, ◌≢◌, ℕ, ◌+◌, ◌<◌, true, List, [], ◌∷◌, ◌++◌, length, take, Option, Some, None, Result, Ok, Err, ◌⊎◌, ⊤}
 use Rattle.std.specs.List.{flat_map}
 use Rattle.gx_model.specs.declared.objects.Kind.{Kind}
 use Rattle.gx_model.specs.declared.objects.Kind.TheVariants as kind
 use Rattle.gx_model.specs.declared.faults.Fault.TheVariants as fault
 use Rattle.gx_model.specs.Texts.{Bytes}
 use Rattle.gx_model.specs.Objects.{hex}
-use Rattle.gx_model.specs.Items.{Stream}
+use Rattle.gx_model.specs.Items.{End, Failed, Finished, Stream}
 use Rattle.gx_model.specs.Histories.{Record}
 use Rattle.gx_model.specs.Growth.{put}
-use Rattle.gx_text.specs.Devices.{Taken, Sends}
+use Rattle.gx_text.specs.Devices.{Sends, Taken, Took}
+use Rattle.gx_stream.specs.Faults.{fault_of}
 use Rattle.gx_stream.specs.declared.fault.StreamFault.{StreamFault}
 use Rattle.gx_stream.specs.declared.fault.StreamFault.TheVariants as stream
 use Rattle.gx_cli.specs.Blobs.{Stop, refused, not_a_blob, BlobRun, blobs_of}
@@ -48,9 +49,10 @@ kind_of stream.ReadFailed = kinds.ReadFailed
 kind_of stream.TruncatedData = kinds.TruncatedData
 kind_of stream.BadNumber = kinds.BadNumber
 
--- the sink took these bytes
-abbrev pub wrote : Taken → Bytes → Taken
-wrote was bytes = record { bytes = was.bytes ++ bytes; failed = was.failed }
+-- an end as a reader of items tells it: none, or one of its faults
+abbrev pub IsEnd : End → Type 0
+IsEnd Finished = ⊤
+IsEnd (Failed f) = (why : StreamFault) × (f ≡ fault_of why)
 
 module _ (name : Kind → Bytes → Bytes) where
   -- a blob's name and LF
@@ -88,17 +90,18 @@ module _ (name : Kind → Bytes → Bytes) where
   IsHeldForOther front (x ∷ rest) = Clashes front x
 
   -- the sink failed in the line of the first blob that is left
-  abbrev pub FailsWithin : List Bytes → List Bytes → Taken → Option Taken → Type 0
+  abbrev pub FailsWithin : List Bytes → List Bytes → Option Taken → Option Taken → Type 0
   FailsWithin front [] was is = ⊥
-  FailsWithin front (x ∷ rest) was is = (n : ℕ) × (n < length (blob_line x)) × (is ≡ Some (record { bytes = (was.bytes ++ printed front) ++ take n (blob_line x); failed = true }))
+  FailsWithin front (x ∷ rest) None is = ⊤
+  FailsWithin front (x ∷ rest) (Some was) is = (n : ℕ) × (n < length (blob_line x)) × (is ≡ Some (record { bytes = (was.bytes ++ printed front) ++ take n (blob_line x); failed = true }))
 
   -- the sink took these names
-  abbrev pub HasNames : List Bytes → Taken → Option Taken → Type 0
-  HasNames front was is = is ≡ Some (wrote was (printed front))
+  abbrev pub HasNames : List Bytes → Option Taken → Option Taken → Type 0
+  HasNames front was is = Took was is (printed front)
 
   -- Why printing stops behind the first blobs: for the stream's own stop, for want of memory, for a name that is held
   -- for other bytes, or for a sink that fails in the middle of a line.
-  abbrev pub Stops : List Bytes → List Bytes → Option Stop → Taken → Option Taken → BlobsKind → Type 0
+  abbrev pub Stops : List Bytes → List Bytes → Option Stop → Option Taken → Option Taken → BlobsKind → Type 0
   Stops front rest stop was is k =
       ((rest ≡ []) × (stop ≡ Some (stop_of k)) × HasNames front was is)
       ⊎ (((k ≡ kinds.OutOfMemory) × HasNames front was is)
@@ -106,12 +109,11 @@ module _ (name : Kind → Bytes → Bytes) where
       ⊎ ((k ≡ kinds.WriteFailed) × FailsWithin front rest was is)))
 
   -- the names of all the blobs are printed, or of those before the one that is refused
-  abbrev pub Prints : BlobRun → Taken → Option Taken → Result ℕ BlobsFault → Type 0
+  abbrev pub Prints : BlobRun → Option Taken → Option Taken → Result ℕ BlobsFault → Type 0
   Prints run was is (Ok n) = (run.stop ≡ None) × (n ≡ length run.bodies) × HasNames run.bodies was is
   Prints run was is (Err f) = (front : List Bytes) × (rest : List Bytes) × (run.bodies ≡ front ++ rest) × (f.command ≡ length front + 1) × Stops front rest run.stop was is f.kind
 
-  -- where the source and the sink tell their bytes
+  -- the same of a stream's items; where its source tells nothing, of some items with their end
   abbrev pub PrintsBlobs : Option Stream → Option Taken → Option Taken → Result ℕ BlobsFault → Type 0
-  PrintsBlobs None was is r = Unit {0}
-  PrintsBlobs (Some s) None is r = Unit {0}
-  PrintsBlobs (Some s) (Some was) is r = Prints (blobs_of s) was is r
+  PrintsBlobs None was is r = (s : Stream) × IsEnd s.end × Prints (blobs_of s) was is r
+  PrintsBlobs (Some s) was is r = Prints (blobs_of s) was is r

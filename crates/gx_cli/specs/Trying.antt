@@ -53,6 +53,10 @@ LooksAs given (Err OutOfMemory) = ⊤
 LooksAs given (Err fault) = ⊥
 
 module _ (name : Kind → Bytes → Bytes) where
+  -- what is looked up in a repository is what its history has there
+  abbrev pub LooksIn : {A : Type 0} → Records → Revision → Path → Result (Mode × Vec ℕ A) CliFault → Type 0
+  LooksIn repository revision path answer = LooksAs (looked_up name (history_of repository) revision path) answer
+
   -- a refused import into an empty store, or one that was interrupted
   abbrev pub Refuses : Commands → Outcome → Option Taken → Option Taken → ImportFault → Type 0
   Refuses commands outcome was now fault = Replays name nothing nothing commands outcome was now (Err fault)

@@ -1,9 +1,7 @@
 //! A stream, imported into an empty store, and what a revision shows there.
 
 ghost use Rattle.std.specs.Prelude.{◌≡◌, IfOk};
-ghost use Rattle.gx_model.specs.Denotation.{looked_up};
-ghost use Rattle.gx_model.specs.HistoryOf.{history_of};
-ghost use Rattle.gx_cli.specs.Trying.{ImportsAlone, LooksAs, LooksUp, Tries};
+ghost use Rattle.gx_cli.specs.Trying.{ImportsAlone, LooksIn, LooksUp, Tries};
 
 use crate::CliFault;
 use crate::showing::show;
@@ -77,14 +75,17 @@ pub fn look_imported<N: Namer + Drop, A: Allocator + Copy, R: Source + Drop, W: 
     }
 }
 
-/// What `look` answers, with its fault among those of the commands.
-fn look_in<N: Namer, A: Allocator + Copy>(
+/// The mode and the bytes of the file at a path in the tree of a revision: those that the repository's history has there.
+///
+/// `Revision`: the revision gives no tree, or no file stands at the path. `OutOfMemory`: a growth was refused.
+/// Cost: that of `look`.
+pub fn look_in<N: Namer, A: Allocator + Copy>(
     alloc: A,
     repo: &Repo<N, A>,
     revision: &Revision<A>,
     path: &TreePath<A>,
 ) -> Result<(Mode, Vec<u8, A>), CliFault>
-    ensures { LooksAs (looked_up (N.name_of repo.now.0) (history_of repo.now.1) revision.now path.now) result }
+    ensures { LooksIn (N.name_of repo.now.0) repo.now.1 revision.now path.now result }
 {
     match look(alloc, repo, revision, path) {
         Ok(file) => Ok(file),

@@ -1,0 +1,11 @@
+use Rattle.gx_cli.proofs.RoundTrips.{exported_too_long, exported_whole}
+use Rattle.gx_cli.proofs.trips.exported.Goals as goal
+
+pub returns-in-Ok : goal.returns-in-Ok
+returns-in-Ok g c =
+    exported_whole c.args.repo.now.1 c.new-sink.result c.export.new.sink c.into_bytes.result.items c.in-Ok.field-0 c.new-sink.ensures c.into_bytes.ensures c.in-Ok.ensures
+
+pub returns-in-Err-WriteFailed : goal.returns-in-Err-WriteFailed
+returns-in-Err-WriteFailed g c =
+    exported_too_long c.args.repo.now.1 c.new-sink.result c.export.new.sink c.has_failed.result c.export.result c.in-Err-WriteFailed.field-0 _ c.new-sink.ensures c.has_failed.ensures c.if-has_failed.false
+    c.in-Err-WriteFailed.is c.in-Err-WriteFailed.field-0-is c.export.ensures

@@ -1,0 +1,73 @@
+-- The headline: what comes of a stream that is imported into an empty store, exported, and imported into another one.
+-- Source: git-fast-import(1) and git-fast-export(1).
+use Rattle.std.specs.Prelude.{◌≡◌, ◌⊎◌, ℕ, ◌<◌, ◌≤◌, length, Option, Some, None, Result, Ok, Err, IfOk, ⊤}
+use Rattle.std.specs.declared.vec.Vec.{Vec}
+use Rattle.gx_model.specs.declared.objects.Kind.{Kind}
+use Rattle.gx_model.specs.declared.objects.Mode.{Mode}
+use Rattle.gx_model.specs.Texts.{Bytes}
+use Rattle.gx_model.specs.Paths.{Path}
+use Rattle.gx_model.specs.Commands.{Commands}
+use Rattle.gx_model.specs.Histories.{History, Records}
+use Rattle.gx_model.specs.HistoryOf.{history_of}
+use Rattle.gx_model.specs.Revisions.{Revision}
+use Rattle.gx_model.specs.Denotation.{looked_up}
+use Rattle.gx_model.specs.Replay as model
+use Rattle.gx_model.specs.Replay.{Outcome, finished, imported}
+use Rattle.gx_model.specs.Export.{export_text}
+use Rattle.gx_text.specs.Devices.{Coming, Taken, Took}
+use Rattle.gx_stream.specs.Heard.{heard}
+use Rattle.gx_command.specs.Reading.{commands_from}
+use Rattle.gx_import.specs.Exported.{IsExported}
+use Rattle.gx_import.specs.Imports.{report_of}
+use Rattle.gx_import.specs.declared.fault.ImportFault.{ImportFault}
+use Rattle.gx_import.specs.declared.fault.ImportKind.TheVariants as kind
+use Rattle.gx_export.specs.Outputs.{most}
+use Rattle.gx_cli.specs.Trying.{LooksAs, LooksIn, Refuses, no_history}
+use Rattle.gx_cli.specs.declared.fault.CliFault.{CliFault}
+use Rattle.gx_cli.specs.declared.fault.CliFault.TheVariants.{Export, Import, OutOfMemory}
+use Rattle.gx_cli.specs.declared.trips.RoundTrip.{RoundTrip}
+
+-- the replay of a stream's commands is accepted with this history and this report, and its progress text went out
+abbrev pub Accepts : Outcome → Option Taken → Option Taken → History → model.Report → Type 0
+Accepts replay was now h report = (text : Bytes) × (replay ≡ finished h text report) × Took was now text
+
+-- the text of a history's export is given, unless memory ran out or it has more than 2^63 - 1 bytes
+abbrev pub ExportsText : {A : Type 0} → History → Result (Vec ℕ A) CliFault → Type 0
+ExportsText h (Ok text) = (text.items ≡ export_text h) × (length text.items ≤ most)
+ExportsText h (Err OutOfMemory) = ⊤
+ExportsText h (Err (Export fault)) = most < length (export_text h)
+ExportsText h (Err fault) = ⊥
+
+-- the import of an export into an empty store makes that repository again, unless memory ran out or the sink failed
+abbrev pub ImportsAgainOr : {N : Type 0} → Records → Result (N × Records) ImportFault → Type 0
+ImportsAgainOr exported (Ok again) = IsExported exported again.1
+ImportsAgainOr exported (Err fault) = (fault.kind ≡ kind.OutOfMemory) ⊎ (fault.kind ≡ kind.WriteFailed)
+
+module _ (name : Kind → Bytes → Bytes) {N A : Type 0} where
+  pub record ComesBack (h : History) (trip : RoundTrip N A) : Type 0 where
+    -- The first repository stands for this history: its commits with their files, parents and messages, its tags and its refs.
+    pub history : history_of trip.first.1 ≡ h
+    -- For every revision and path, the file that is looked up there has the mode and the bytes that the map of whole paths has
+    -- in this history.
+    pub files : (revision : Revision) (path : Path) (answer : Result (Mode × Vec ℕ A) CliFault)
+        → LooksIn name trip.first.1 revision path answer → LooksAs (looked_up name h revision path) answer
+    -- The text is this history's export.
+    pub text : trip.text.items ≡ export_text h
+    -- The second repository has the same refs under the same object names, exactly what they reach, and the same export.
+    pub again : IsExported trip.first.1 trip.again.1
+
+  -- What the commands give when they are replayed comes back; or the import is refused; or memory ran out after it, or the
+  -- export has more than 2^63 - 1 bytes.
+  abbrev pub ComesBackFrom : Commands → Outcome → Option Taken → Option Taken → Result (RoundTrip N A) CliFault → Type 0
+  ComesBackFrom commands replay was now (Ok trip) = (h : History) × Accepts replay was now h (report_of trip.report) × ComesBack h trip
+  ComesBackFrom commands replay was now (Err (Import fault)) = Refuses name commands replay was now fault
+  ComesBackFrom commands replay was now (Err OutOfMemory) = (h : History) × (report : model.Report) × Accepts replay was now h report
+  ComesBackFrom commands replay was now (Err (Export fault)) =
+      (h : History) × (report : model.Report) × Accepts replay was now h report × (most < length (export_text h))
+  ComesBackFrom commands replay was now (Err fault) = ⊥
+
+  -- the same of a stream, where the source tells its bytes; of any stream, what the first repository stands for comes back
+  abbrev pub RoundTrips : Option Coming → Option Taken → Option Taken → Result (RoundTrip N A) CliFault → Type 0
+  RoundTrips None was now answer = IfOk answer (λ trip. ComesBack (history_of trip.first.1) trip)
+  RoundTrips (Some coming) was now answer =
+      ComesBackFrom (commands_from coming) (imported name no_history (heard coming).bytes (heard coming).fails) was now answer

@@ -1,0 +1,116 @@
+//! A stream that is imported, exported, and imported again.
+
+ghost use Rattle.std.specs.Prelude.{◌≡◌, ◌≤◌, length, IfOk};
+ghost use Rattle.gx_model.specs.Export.{export_text};
+ghost use Rattle.gx_model.specs.Gitlinks.{HoldsNoNullGitlink};
+ghost use Rattle.gx_model.specs.HistoryOf.{history_of};
+ghost use Rattle.gx_export.specs.Outputs.{most};
+ghost use Rattle.gx_cli.specs.Headline.{ExportsText, ImportsAgainOr, RoundTrips};
+
+use crate::CliFault;
+use crate::growing::Growing;
+use gx_export::{ExportFault, export};
+use gx_import::{ImportFault, Report, import};
+use gx_model::gitlink_laws::replays_keep_none;
+use gx_object::Namer;
+use gx_repo::Repo;
+use gx_text::{Bytes, Sink, Source};
+use std::alloc::Allocator;
+use std::hash::RandomState;
+
+/// What a stream makes of an empty store, the stream that this is exported as, and what that one makes of an empty store.
+#[derive(Drop)]
+pub struct RoundTrip<N: Namer, A: Allocator> {
+    pub report: Report,
+    pub first: Repo<N, A>,
+    pub text: Vec<u8, A>,
+    pub again: Repo<N, A>,
+}
+
+/// Imports a stream into an empty store, exports that, and imports the export into another empty store. Lines of `progress`
+/// go out as they come.
+///
+/// `Import`: the stream's import is refused. `Export`: the export has more than 2^63 - 1 bytes, which no import reads.
+/// `OutOfMemory`: a growth was refused after the import. That of the export is refused for no other cause.
+/// Cost: that of the import, of `gx_export::export`, and of the import of what it wrote. Memory: that of both imports, and
+/// the export's text.
+pub fn round_trip<N: Namer + Copy + Drop, A: Allocator + Copy, R: Source + Drop, W: Sink>(
+    alloc: A,
+    namer: N,
+    source: R,
+    sink: &mut W,
+    state: RandomState,
+) -> Result<RoundTrip<N, A>, CliFault>
+    ensures namer { IfOk result (λ trip. (trip.first.0 ≡ namer) × (trip.again.0 ≡ namer)) }
+    ensures back { RoundTrips (N.name_of namer) (R.coming source) (W.taken sink.old) (W.taken sink.new) result }
+{
+    replays_keep_none();
+    let mut first = Repo::new(alloc, namer, state);
+    let report = match import(alloc, &mut first, source, sink) {
+        Ok(report) => report,
+        Err(fault) => return Err(CliFault::Import(fault)),
+    };
+    let text = match exported(alloc, &first) {
+        Ok(text) => text,
+        Err(fault) => return Err(fault),
+    };
+    match import_again(alloc, &first, namer, text.as_slice(), state) {
+        Ok(again) => Ok(RoundTrip {
+            report,
+            first,
+            text,
+            again,
+        }),
+        Err(_) => Err(CliFault::OutOfMemory),
+    }
+}
+
+/// The text that a repository is exported as.
+fn exported<N: Namer, A: Allocator + Copy>(
+    alloc: A,
+    repo: &Repo<N, A>,
+) -> Result<Vec<u8, A>, CliFault>
+    ensures { ExportsText (history_of repo.now.1) result }
+{
+    let mut sink = Growing::new(alloc);
+    match export(alloc, repo, &mut sink) {
+        Ok(()) => Ok(sink.into_bytes()),
+        Err(ExportFault::WriteFailed { written }) => {
+            if sink.has_failed() {
+                return Err(CliFault::OutOfMemory);
+            }
+            Err(CliFault::Export(ExportFault::WriteFailed { written }))
+        }
+        Err(ExportFault::OutOfMemory) => Err(CliFault::OutOfMemory),
+    }
+}
+
+/// The repository that the import of an export's text into an empty store makes. Only memory may be wanting.
+fn import_again<N: Namer + Drop, A: Allocator + Copy>(
+    alloc: A,
+    exported: &Repo<N, A>,
+    namer: N,
+    text: &[u8],
+    state: RandomState,
+) -> Result<Repo<N, A>, ImportFault>
+    requires namer { exported.now.0 ≡ namer }
+    requires text { text.now ≡ export_text (history_of exported.now.1) }
+    requires short { length text.now ≤ most }
+    requires gitlinks { HoldsNoNullGitlink (history_of exported.now.1) }
+    ensures namer { IfOk result (λ again. again.0 ≡ namer) }
+    ensures again { ImportsAgainOr exported.now.1 result }
+{
+    replays_keep_none();
+    exported.sound();
+    let mut again = Repo::new(alloc, namer, state);
+    let mut progress = Growing::new(alloc);
+    match import(
+        alloc,
+        &mut again,
+        Bytes::new(text, 65_536, false),
+        &mut progress,
+    ) {
+        Ok(_) => Ok(again),
+        Err(fault) => Err(fault),
+    }
+}

@@ -10,9 +10,9 @@ returns-then-not-are_held-clause-named g c =
 pub returns-in_err-name-clause-named : goal.returns-in_err-name-clause-named
 returns-in_err-name-clause-named g c =
     subst (IsNamedMap c.add_commit.new.self.1.records) (sym c.add_tree.ensures.map)
-    (named_kept _ _ c.add_commit.ensures.keeps c.args.tree.now (named_kept _ _ c.add_tree.ensures.keeps c.args.tree.now.files c.requires.named))
+    (named_kept _ _ c.add_commit.ensures.keeps c.args.tree.now.files (named_kept _ _ c.add_tree.ensures.keeps c.args.tree.now.files c.requires.named))
 
 pub returns-clause-named : goal.returns-clause-named
 returns-clause-named g c =
     subst (IsNamedMap c.add_commit.new.self.1.records) (sym c.add_tree.ensures.map)
-    (named_kept _ _ c.add_commit.ensures.keeps c.args.tree.now (named_kept _ _ c.add_tree.ensures.keeps c.args.tree.now.files c.requires.named))
+    (named_kept _ _ c.add_commit.ensures.keeps c.args.tree.now.files (named_kept _ _ c.add_tree.ensures.keeps c.args.tree.now.files c.requires.named))

@@ -6,13 +6,9 @@ mod blob_names;
 #[cfg(test)]
 mod exported;
 #[cfg(test)]
-mod fault_lines;
-#[cfg(test)]
 mod hashed;
 #[cfg(test)]
 mod lines;
-#[cfg(test)]
-mod round_trips;
 #[cfg(test)]
 mod stored;
 #[cfg(test)]

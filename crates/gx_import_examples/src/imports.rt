@@ -9,7 +9,6 @@ use std::alloc::Allocator;
 use std::hash::RandomState;
 use std::test::Fail;
 
-mod counting;
 mod devices;
 mod rows;
 mod shown;

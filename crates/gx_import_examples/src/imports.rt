@@ -9,6 +9,7 @@ use std::alloc::Allocator;
 use std::hash::RandomState;
 use std::test::Fail;
 
+mod counting;
 mod devices;
 mod rows;
 mod shown;

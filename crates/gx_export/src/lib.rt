@@ -14,6 +14,3 @@ mod written;
 
 pub use exporting::export;
 pub use fault::ExportFault;
-
-#[cfg(test)]
-mod tests;

@@ -13,6 +13,3 @@ pub use fault::FileFault;
 pub use gx_repo::OutOfMemory;
 pub use reading::read;
 pub use writing::write;
-
-#[cfg(test)]
-mod tests;

@@ -1,6 +1,6 @@
 ghost use Rattle.std.specs.Prelude.{◌<◌, length};
 
-use super::*;
+use gx_file::{FileFault, OutOfMemory, read, write};
 use gx_object::Sha1Namer;
 use gx_refusing::Refusing;
 use std::alloc::{AllocError, Allocator};

@@ -1,4 +1,4 @@
-use super::*;
+use gx_export::{ExportFault, export};
 use gx_import::import;
 use gx_object::{Namer, Sha1Namer};
 use gx_refusing::Refusing;

@@ -3,8 +3,8 @@
 # and as it comes, into a new repository each time. For each, wall time in seconds and peak memory in MB; the best of RUNS runs
 # of gx (3 if it isn't set), and of GIT_RUNS of git (1).
 #   bench/import.sh KIND NUMBER..    one stream of bench/streams.py, as `history 2000` or `flat 10000 2000`
-#   bench/import.sh                  history of 500, 2,000, 10,000 and 40,000 commits, steady of 2,000, 10,000 and 40,000, and
-#                                    2,000 commits in a directory of 10,000 files
+#   bench/import.sh                  history of 500, 2,000, 10,000 and 40,000 commits, steady of 0, 2,000, 10,000 and 40,000 behind
+#                                    the first, and 2,000 commits in a directory of 10,000 files
 # It builds crates/gx, and needs rt, git, python3 and GNU time.
 set -euo pipefail
 cd "$(dirname "$0")/.."
@@ -36,7 +36,7 @@ measure() {
   local time
   time=$(best "$gx" import "$folder/store")
   cp "$folder/store" "$folder/kept"
-  echo "  gx import: $time, $(each "$time" "$commits") microseconds a commit; the store has $(stat -c %s "$folder/kept") bytes"
+  echo "  gx import: $time, $(each "$time" "$((commits > 0 ? commits : 1))") microseconds a commit; the store has $(stat -c %s "$folder/kept") bytes"
   echo "  git fast-import: $(RUNS=${GIT_RUNS:-1} best git -C "$folder/repo" fast-import --quiet)"
   echo "  git fast-import, compression 0: $(RUNS=${GIT_RUNS:-1} best git -C "$folder/repo" -c core.compression=0 -c pack.compression=0 fast-import --quiet)"
   same_refs kept
@@ -47,6 +47,6 @@ if [ $# -gt 0 ]; then
   measure "$@"
 else
   for commits in 500 2000 10000 40000; do measure history "$commits"; done
-  for commits in 2000 10000 40000; do measure steady "$commits"; done
+  for commits in 0 2000 10000 40000; do measure steady "$commits"; done
   measure flat 10000 2000
 fi

@@ -6,7 +6,7 @@
   streams.py commits BYTES         small commits, until about so many bytes are written
   streams.py history COMMITS       so many commits of source-like files in nested folders, with merges and tags; the number of
                                    files grows with that of commits
-  streams.py steady COMMITS        the same of about 1,000 files, whose lengths stay about alike
+  streams.py steady COMMITS        a commit with 1,000 files, and behind it the same of about 1,000 files whose lengths stay about alike
   streams.py flat FILES COMMITS    so many files in one directory, and then so many commits that change one each
   streams.py mixed COMMITS         so many small commits on branches that merge, with all modes, quoted paths, submodules,
                                    empty trees and encodings, and tags and branches on old and on shared commits
@@ -105,7 +105,7 @@ def changes_of(random, files, most_files, most_bytes):
     for _ in range(random.randint(1, 5)):
         kind = random.random()
         if not files or kind < 0.25 and len(files) < most_files:
-            path = b'src/module%d/part%d/file%d.c' % (random.randrange(12), random.randrange(6), random.randrange(1000))
+            path = some_path(random)
             files[path] = source_lines(random, random.randint(10, 120))
         elif kind < 0.94:
             path = random.choice(list(files))
@@ -117,12 +117,21 @@ def changes_of(random, files, most_files, most_bytes):
     return text
 
 
-def history(count, most_files=72000, most_bytes=0):
+def some_path(random):
+    return b'src/module%d/part%d/file%d.c' % (random.randrange(12), random.randrange(6), random.randrange(1000))
+
+
+def history(count, most_files=72000, most_bytes=0, first_files=0):
     """Each twentieth commit merges one of a side branch, and each hundredth is tagged."""
     random = Random(count)
     out = sys.stdout.buffer
     files = {}
     mark = 0
+    if first_files:
+        while len(files) < first_files:
+            files[some_path(random)] = source_lines(random, random.randint(most_bytes // 60, most_bytes // 30))
+        mark += 1
+        out.write(commit(b'refs/heads/main', mark, 0, b'', b''.join(b'M 100644 inline %s\n' % path + block(files[path]) for path in files)))
     for number in range(1, count + 1):
         parents = b''
         if number % 20 == 0:
@@ -138,7 +147,7 @@ def history(count, most_files=72000, most_bytes=0):
 
 
 def steady(count):
-    history(count, 1000, 3000)
+    history(count, 1000, 3000, 1000)
 
 
 def flat(files, count):

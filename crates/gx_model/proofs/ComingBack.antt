@@ -1,16 +1,13 @@
 -- What a text gives from nothing comes back from its export.
-use Rattle.std.proofs.Common.{refl}
-use Rattle.gx_model.specs.Histories.{IsHistory}
 use Rattle.gx_model.specs.ExportLaws.{nothing}
 use Rattle.gx_model.specs.Gitlinks.{TextsComeBack}
 use Rattle.gx_model.proofs.GitlinkSteps.{none_from_text, none_reached}
+use Rattle.gx_model.proofs.HistorySteps.{nothing_is, texts_give}
 use Rattle.gx_model.proofs.ReadableExports.{formed_readable}
 use Rattle.gx_model.proofs.SpelledExports.{export_imported}
 
-nothing_is : IsHistory nothing
-nothing_is = record { proper = refl; closed = tt; sorted = refl; ref_names = refl; held = tt; own = tt }
-
 pub texts_back : TextsComeBack
-texts_back name read h given fails text report e is short =
+texts_back name read h given fails text report e short =
+    let is = texts_give name read nothing h given fails text report nothing_is e in
     let none = none_reached h (none_from_text name read nothing h given fails text report nothing_is tt e) in
     export_imported name read h is (formed_readable h is none short)

@@ -81,5 +81,8 @@ pub mod PathShapes
 pub mod PartShapes
 pub mod ChangeShapes
 pub mod CommandReadings
+pub mod GivenCommits
+pub mod ReadCommands
+pub mod HistorySteps
 pub mod ComingBack
 pub mod ShownImports

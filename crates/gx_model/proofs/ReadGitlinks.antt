@@ -20,10 +20,10 @@ any_ok (Ok x) = tt
 any_ok (Err e) = tt
 
 -- what holds after a step of which nothing is asked
-then_any : {A B : Type 0} (Q : B → Type 0) (r : Given A) (f : A → Given B) → ((x : A) → IfOk (f x) Q) → IfOk (r >>= f) Q
+pub then_any : {A B : Type 0} (Q : B → Type 0) (r : Given A) (f : A → Given B) → ((x : A) → IfOk (f x) Q) → IfOk (r >>= f) Q
 then_any Q r f k = then_if (λ x. ⊤) Q r f (any_ok r) (λ x h. k x)
 
-if_either : {A : Type 0} (Q : A → Type 0) (b : Bool) (r s : Given A) → IfOk r Q → IfOk s Q → IfOk (cond b r s) Q
+pub if_either : {A : Type 0} (Q : A → Type 0) (b : Bool) (r s : Given A) → IfOk r Q → IfOk s Q → IfOk (cond b r s) Q
 if_either Q true r s h k = h
 if_either Q false r s h k = k
 
@@ -95,7 +95,7 @@ AllGive x = AllByRecursion GivesNoNullGitlink x.0
 more_given : (r : Read Change) (again : Stream → Read (List Change)) → IfOk r Gives → ((t : Stream) → IfOk (again t) AllGive) → IfOk (r >>= λ x. again x.1 >>= λ xs. Ok (x.0 ∷ xs.0, xs.1)) AllGive
 more_given r again h k = then_if Gives AllGive r _ h (λ x g. then_if AllGive AllGive (again x.1) _ (k x.1) (λ xs l. (g, l)))
 
-end_given : {A : Type 0} (Q : A → Type 0) (end : End) (r : Given A) → IfOk r Q → IfOk (at_end end r) Q
+pub end_given : {A : Type 0} (Q : A → Type 0) (end : End) (r : Given A) → IfOk r Q → IfOk (at_end end r) Q
 end_given Q Finished r h = h
 end_given Q (Failed f) r h = tt
 

@@ -1,4 +1,4 @@
--- What a text gives from nothing is shown by the repositories that stand for it, and comes back from its export.
+-- What a text gives from nothing is shown by the repositories that have its records, and comes back from its export.
 use Rattle.std.proofs.Common.{◌≡◌, Bool, true, false, cond, refl, sym, ap, subst, ◌∙◌, List, [], ◌∷◌, ◌++◌, map, Option, None, Some, Ok, Err, inl, inr}
 use Rattle.std.specs.Prelude.{◌||◌, IsTrue}
 use Rattle.std.specs.Bool.{passes}
@@ -29,7 +29,7 @@ use Rattle.gx_model.specs.Lookups.{first_named, or_else}
 use Rattle.gx_model.specs.Revisions.{Revision, revision_of}
 use Rattle.gx_model.specs.Denotation.{Shown, denoted, file_shown, files_in, first_ref, looked_up, object, of_file, or_ref, ref_names, shown_value, submodule}
 use Rattle.gx_model.specs.Replay.{imported}
-use Rattle.gx_model.specs.ExportLaws.{AnyReaches, IsAgain}
+use Rattle.gx_model.specs.ExportLaws.{AnyReaches, IsAgain, nothing}
 use Rattle.gx_model.specs.Headline.{ComesBack, Headline, Shows, body_named, file_held, leaf_held, object_denoted, tree_in, tree_named}
 use Rattle.gx_model.proofs.PathTests.{same_is}
 use Rattle.gx_model.proofs.AddedValues.{in_left, in_right}
@@ -45,6 +45,7 @@ use Rattle.gx_model.proofs.HeldNames.{value_found}
 use Rattle.gx_model.proofs.HeldValues.{proper_text, text_is}
 use Rattle.gx_model.proofs.ShownValues.{file_stands, files_stand, held_value}
 use Rattle.gx_model.proofs.StoredRefs.{hex_unhex}
+use Rattle.gx_model.proofs.HistorySteps.{nothing_is, texts_give}
 use Rattle.gx_model.proofs.ComingBack.{texts_back}
 
 -- ---- refs
@@ -226,7 +227,10 @@ module _ (name : Kind → Bytes → Bytes) (namer : IsNamer name) where
 
   pub headline : Headline name
   unfolding imported
-  headline given fails h progress report r e s = (
-    shown name namer r h s,
-    λ short. let q = texts_back name revision_of h given fails progress report e s.history short in (q.0, of_history q.0, q.2, comes_back r h q.0 s q.1),
-  )
+  headline given fails h progress report r e has =
+      let is = texts_give name revision_of nothing h given fails progress report nothing_is e in
+      let s : StandsFor name r h = record { history = is; records = has.records; distinct = has.distinct; refs = has.refs } in (
+        s,
+        shown name namer r h s,
+        λ short. let q = texts_back name revision_of h given fails progress report e short in (q.0, of_history q.0, q.2, comes_back r h q.0 s q.1),
+      )

@@ -67,5 +67,5 @@ TextsBringNone =
 abbrev pub TextsComeBack : Type 0
 TextsComeBack =
     (name : Kind → Bytes → Bytes) (read : Bytes → Result Revision Fault) (h : History) (given : Bytes) (fails : Bool) (text : Bytes) (report : Report)
-    → replayed_text name read nothing given fails ≡ finished h text report → IsHistory h → length (export_text h) < 2 ^ 64
+    → replayed_text name read nothing given fails ≡ finished h text report → length (export_text h) < 2 ^ 64
     → (k : History) × IsAgain h k × (replayed_text name read nothing (export_text h) false ≡ finished k [] (exported_report h k))

@@ -1,7 +1,7 @@
--- The headline as one law: what a text gives from nothing is shown as it was replayed by every repository that stands for it, and
+-- The headline as one law: what a text gives from nothing is shown as it was replayed by every repository that has its records, and
 -- comes back from its export. What a refused import leaves is a matter of calls, and no law of definitions.
 -- Source: git-fast-import(1), gitrevisions(7) and Pro Git, "Git Objects".
-use Rattle.std.specs.Prelude.{◌≡◌, ◌<◌, ◌^◌, Bool, false, List, [], length, Option, None, Some, Ok, Err}
+use Rattle.std.specs.Prelude.{◌≡◌, ◌<◌, ◌^◌, Bool, false, List, [], length, map, Option, None, Some, Ok, Err}
 use Rattle.std.specs.List.{AllByRecursion}
 use Rattle.std.specs.Option.{option_map}
 use Rattle.gx_model.specs.declared.objects.Kind.{Kind}
@@ -15,7 +15,7 @@ use Rattle.gx_model.specs.Files.{Leaf}
 use Rattle.gx_model.specs.Values.{Commit, commit_value}
 use Rattle.gx_model.specs.Objects.{hex}
 use Rattle.gx_model.specs.Records.{name_of, parts_of_commit}
-use Rattle.gx_model.specs.Histories.{History, IsIn, Record, Records, StandsFor, value_at}
+use Rattle.gx_model.specs.Histories.{AreDistinct, History, IsIn, Record, Records, StandsFor, record_of, value_at}
 use Rattle.gx_model.specs.HistoryOf.{commit_parts_in, tag_parts_in}
 use Rattle.gx_model.specs.Sound.{AnyByRecursion}
 use Rattle.gx_model.specs.Growth.{record_named}
@@ -79,13 +79,19 @@ module _ (name : Kind → Bytes → Bytes) where
     pub objects : AllByRecursion (λ held. AnyByRecursion (λ other. other ≡ held) repository.records) new.records
     pub reached : IsAgain h k
 
-  -- For every text whose import into nothing is accepted, each repository that stands for what it gave shows this; and its
-  -- export, below 2^64 bytes, is imported into nothing, and comes back.
+  -- The repository has the records of the history's values in their order, no two under one name, and its refs.
+  pub record HasRecordsOf (repository : Records) (h : History) : Type 0 where
+    pub records : repository.records ≡ map (record_of name) h.values
+    pub distinct : AreDistinct (map (λ held. held.name) repository.records)
+    pub refs : repository.refs ≡ map (λ ref. (ref.0, name_of name (value_at ref.1))) h.refs
+
+  -- For every text whose import into nothing is accepted, each repository that has the records of what it gave stands for it, and
+  -- shows this; and its export, below 2^64 bytes, is imported into nothing, and comes back.
   abbrev pub Headline : Type 0
   Headline =
       (given : Bytes) (fails : Bool) (h : History) (progress : Bytes) (report : Report) (repository : Records)
-      → imported name nothing given fails ≡ finished h progress report → StandsFor name repository h
-      → Shows repository h
+      → imported name nothing given fails ≡ finished h progress report → HasRecordsOf repository h
+      → StandsFor name repository h × Shows repository h
       × (length (export_text h) < 2 ^ 64
       → (k : History) × (new : Records)
       × (imported name nothing (export_text h) false ≡ finished k [] (exported_report h k)) × ComesBack repository h new k)

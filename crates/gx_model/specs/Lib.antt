@@ -34,6 +34,7 @@ pub mod HistoryLaws
 pub mod RepositoryLaws
 pub mod ExportLaws
 pub mod Gitlinks
+pub mod ProperReplays
 pub mod StoreLaws
 pub mod Headline
 pub mod StreamLaws

@@ -20,7 +20,6 @@ pub fn replays_keep_none()
 
 /// What any text gives from nothing comes back from its export, if the export's length is below 2^64: the same refs, exactly
 /// what these reach, and the commits in their order.
-#[tactic(auto, using(crate::proofs::ComingBack::texts_back))]
 pub fn texts_come_back()
     ensures { TextsComeBack }
 {}

@@ -11,6 +11,7 @@ pub mod headline;
 pub mod history_laws;
 pub mod object_laws;
 mod objects;
+pub mod replay_laws;
 pub mod repository_laws;
 mod store_faults;
 pub mod store_laws;

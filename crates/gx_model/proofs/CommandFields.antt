@@ -53,7 +53,7 @@ mark_no_space n h = lacks-by is_ascii_digit digit_no_space (decimal n) (decimal_
 hex_no_space : (b : ℕ) → is_hex_digit b ≡ true → (b == 32) ≡ false
 hex_no_space b e = grind (arith, nat_tests)
 
-all_hex : (x : Bytes) → is_name_text x ≡ true → list_all is_hex_digit x ≡ true
+pub all_hex : (x : Bytes) → is_name_text x ≡ true → list_all is_hex_digit x ≡ true
 all_hex x h = and_two (nat_eq (length x) 40) _ h
 
 pub link_no_space : (x : Bytes) → is_name_text x ≡ true → lacks 32 x ≡ true
@@ -68,10 +68,10 @@ hex_each : (x : Bytes) → list_all is_hex_digit x ≡ true → list_all read.is
 hex_each [] e = refl
 hex_each (b ∷ bs) e = rw (hex_any b (and_one (is_hex_digit b) _ e)) (hex_each bs (and_two (is_hex_digit b) _ e))
 
-hex_no_colon : (b : ℕ) → is_hex_digit b ≡ true → (b == 58) ≡ false
+pub hex_no_colon : (b : ℕ) → is_hex_digit b ≡ true → (b == 58) ≡ false
 hex_no_colon b e = grind (arith, nat_tests)
 
-not_inline : (x : Bytes) → is_name_text x ≡ true → bytes_eq x (codes "inline") ≡ false
+pub not_inline : (x : Bytes) → is_name_text x ≡ true → bytes_eq x (codes "inline") ≡ false
 not_inline x h = false_from_ne_true _ (λ t. false≢true (ap is_name_text (sym ((bytes_eq-Decides x (codes "inline")).0 t)) ∙ h))
 
 is_name_is : (x : Bytes) → is_name_text x ≡ true → is_name x ≡ true

@@ -33,7 +33,7 @@ next_is name [] = false
 next_is name (Data b ∷ more) = false
 next_is name (Line l ∷ more) = is_word (words_of l) name
 
-abbrev stream : List Item → Stream
+abbrev pub stream : List Item → Stream
 stream is = record { items = is; end = Finished }
 
 pub words_at : (word rest : Bytes) → lacks 32 word ≡ true → words_of (word ++ 32 ∷ rest) ≡ record { word = word; rest = Some rest }
@@ -42,7 +42,7 @@ words_at word rest h = ap (words_by (word ++ 32 ∷ rest)) (cut_after 32 word re
 -- ---- changes
 
 -- a mode, and what follows it
-mode_words : (m : Mode) (r : Bytes) → words_of (mode_digits m ++ 32 ∷ r) ≡ record { word = mode_digits m; rest = Some r }
+pub mode_words : (m : Mode) (r : Bytes) → words_of (mode_digits m ++ 32 ∷ r) ≡ record { word = mode_digits m; rest = Some r }
 unfolding cut_at
 mode_words File r = refl
 mode_words Exec r = refl
@@ -56,7 +56,7 @@ mark_words n r h = words_at (58 ∷ decimal n) r (mark_no_space n h.1)
 link_words : (x r : Bytes) → IsLink x → words_of (x ++ 32 ∷ r) ≡ record { word = x; rest = Some r }
 link_words x r h = words_at x r (link_no_space x h.0)
 
-modify_read : (m : Mode) (s : DataRef) (p : Path) (t : Stream) → IsDataRef m s → IsPath p → modify_at (mode_digits m ++ 32 ∷ dataref_text s ++ 32 ∷ printed (path_text p)) t ≡ Ok (Modify m s p, t)
+pub modify_read : (m : Mode) (s : DataRef) (p : Path) (t : Stream) → IsDataRef m s → IsPath p → modify_at (mode_digits m ++ 32 ∷ dataref_text s ++ 32 ∷ printed (path_text p)) t ≡ Ok (Modify m s p, t)
 unfolding modify_at
 modify_read File (Mark n) p t h k = rw (mode_words File, mark_words n _ h, where_mark n h, path_read p k) refl
 modify_read Exec (Mark n) p t h k = rw (mode_words Exec, mark_words n _ h, where_mark n h, path_read p k) refl
@@ -74,11 +74,11 @@ modify_read Dir (Mark n) p t h k = absurd h
 modify_read Dir (Object x) p t h k = absurd h
 modify_read Dir (Inline x) p t h k = absurd h
 
-modify_line : (r : Bytes) (t : Stream) → change_at (words_of (codes "M" ++ 32 ∷ r)) t ≡ Some (modify_at r t)
+pub modify_line : (r : Bytes) (t : Stream) → change_at (words_of (codes "M" ++ 32 ∷ r)) t ≡ Some (modify_at r t)
 unfolding change_at cut_at
 modify_line r t = refl
 
-clear_line : (t : Stream) → change_at (words_of (codes "deleteall")) t ≡ Some (Ok (Clear, t))
+pub clear_line : (t : Stream) → change_at (words_of (codes "deleteall")) t ≡ Some (Ok (Clear, t))
 unfolding change_at cut_at
 clear_line t = refl
 
@@ -138,7 +138,7 @@ marked_read : (c : CommitIsh) → IsNamedByMark c → commit_ish_of (commit_ish_
 marked_read (Marked n) h = commit_ish_read n h
 marked_read (Named x) h = absurd h
 
-merges_read : (n : ℕ) (ms : List CommitIsh) (more : List Item) → length ms ≤ n → AllByRecursion IsNamedByMark ms → next_is (codes "merge") more ≡ false → merges_within n (stream (map merge_item ms ++ more)) ≡ Ok (ms, stream more)
+pub merges_read : (n : ℕ) (ms : List CommitIsh) (more : List Item) → length ms ≤ n → AllByRecursion IsNamedByMark ms → next_is (codes "merge") more ≡ false → merges_within n (stream (map merge_item ms ++ more)) ≡ Ok (ms, stream more)
 unfolding merges_within
 merges_read zero [] more lt h e = refl
 merges_read (suc n) [] more lt h e = rw (optional_absent (codes "merge") commit_ish_of more e) refl
@@ -174,7 +174,7 @@ all_changes (Remove p ∷ cs) rest h = absurd h.0
 all_changes (Copy p q ∷ cs) rest h = absurd h.0
 all_changes (Rename p q ∷ cs) rest h = absurd h.0
 
-from_read : (parent : Option CommitIsh) (more : List Item) → IsNamedByMarkIf parent → next_is (codes "from") more ≡ false → optional (codes "from") commit_ish_of (stream (from_line parent ++ more)) ≡ Ok (parent, stream more)
+pub from_read : (parent : Option CommitIsh) (more : List Item) → IsNamedByMarkIf parent → next_is (codes "from") more ≡ false → optional (codes "from") commit_ish_of (stream (from_line parent ++ more)) ≡ Ok (parent, stream more)
 from_read None more h e = optional_absent (codes "from") commit_ish_of more e
 from_read (Some c) more h e = optional_there (codes "from") (commit_ish_text c) commit_ish_of c more refl (marked_read c h)
 
@@ -188,10 +188,10 @@ links_read parent ms cs rest h k g =
 
 -- ---- commands
 
-ident_read : (x : Bytes) → is_ident x ≡ true → ident_of x ≡ Ok x
+pub ident_read : (x : Bytes) → is_ident x ≡ true → ident_of x ≡ Ok x
 ident_read x h = rw h refl
 
-encoding_read : (x : Bytes) → is_optional_encoding (Some x) ≡ true → encoding_of x ≡ Ok x
+pub encoding_read : (x : Bytes) → is_optional_encoding (Some x) ≡ true → encoding_of x ≡ Ok x
 encoding_read x h = rw h refl
 
 blob_read : (n : ℕ) (x : Bytes) (rest : List Item) → IsMark n → blob_at (stream (Line (codes "mark" ++ 32 ∷ 58 ∷ decimal n) ∷ Data x ∷ rest)) ≡ Ok (command.Blob (record { mark = Some n; bytes = x }), stream rest)
@@ -252,7 +252,7 @@ blob_first : (early : Bool) (s : Stream) → command_at early (words_of (codes "
 unfolding command_at cut_at
 blob_first early s = refl
 
-commit_first : (early : Bool) (ref : Bytes) (s : Stream) → is_ref_name ref ≡ true → command_at early (words_of (codes "commit" ++ 32 ∷ ref)) s ≡ commit_at ref s
+pub commit_first : (early : Bool) (ref : Bytes) (s : Stream) → is_ref_name ref ≡ true → command_at early (words_of (codes "commit" ++ 32 ∷ ref)) s ≡ commit_at ref s
 unfolding command_at cut_at
 commit_first early ref s e = rw (ref_line ref e) refl
 
@@ -268,7 +268,7 @@ links_regroup : (parent : Option CommitIsh) (ms : List CommitIsh) (cs : List Cha
     → (from_line parent ++ (map merge_item ms ++ (flat_map change_items cs ++ Line [] ∷ []))) ++ rest ≡ from_line parent ++ (map merge_item ms ++ (flat_map change_items cs ++ Line [] ∷ rest))
 links_regroup parent ms cs rest = simp append_assoc
 
-commit_regroup : (encoding : Option Bytes) (message : Bytes) (parent : Option CommitIsh) (ms : List CommitIsh) (cs : List Change) (rest : List Item)
+pub commit_regroup : (encoding : Option Bytes) (message : Bytes) (parent : Option CommitIsh) (ms : List CommitIsh) (cs : List Change) (rest : List Item)
     → (optional_line (codes "encoding") encoding ++ (Data message ∷ (from_line parent ++ (map merge_item ms ++ (flat_map change_items cs ++ Line [] ∷ []))))) ++ rest
     ≡ optional_line (codes "encoding") encoding ++ commit_end message parent ms cs rest
 commit_regroup encoding message parent ms cs rest =
@@ -326,11 +326,11 @@ read_first (command.OptionLine x) rest h k = absurd h
 
 -- ---- all of them
 
-step : (n : ℕ) (before : List Command) (c : Command) (rest : List Item) → IsReadFirst c rest → commands_within (suc n) before (command_items c ++ rest) Finished ≡ with_first c (commands_within n (before ++ c ∷ []) rest Finished)
+pub step : (n : ℕ) (before : List Command) (c : Command) (rest : List Item) → IsReadFirst c rest → commands_within (suc n) before (command_items c ++ rest) Finished ≡ with_first c (commands_within n (before ++ c ∷ []) rest Finished)
 unfolding commands_within
 step n before c rest r = rw (r.items, r.read (list_all is_option before), r.goes_on) refl
 
-starts_command : (c : Command) (rest : List Item) → IsSpelled c → Starts (command_items c ++ rest)
+pub starts_command : (c : Command) (rest : List Item) → IsSpelled c → Starts (command_items c ++ rest)
 unfolding item_after_in cut_at
 starts_command (command.Blob b) rest h = record { no_from = refl; stays = refl }
 starts_command (command.Commit c) rest h = record { no_from = refl; stays = refl }
@@ -374,11 +374,11 @@ some_items command.Checkpoint h = absurd h
 some_items (command.Progress x) h = absurd h
 some_items (command.OptionLine x) h = absurd h
 
-all_items : (cs : List Command) → AllByRecursion IsSpelled cs → length cs ≤ length (flat_map command_items cs)
+pub all_items : (cs : List Command) → AllByRecursion IsSpelled cs → length cs ≤ length (flat_map command_items cs)
 all_items [] h = omega arith
 all_items (c ∷ cs) h = rw flat_map-cons (omega (arith, some_items c h.0, all_items cs h.1, length-append (command_items c) (flat_map command_items cs)))
 
-asks_first : (n : ℕ) (rest : List Item) → commands_within (suc n) [] (Line (codes "feature done") ∷ rest) Finished ≡ with_first (command.Asks features.Done) (commands_within n (command.Asks features.Done ∷ []) rest Finished)
+pub asks_first : (n : ℕ) (rest : List Item) → commands_within (suc n) [] (Line (codes "feature done") ∷ rest) Finished ≡ with_first (command.Asks features.Done) (commands_within n (command.Asks features.Done ∷ []) rest Finished)
 unfolding commands_within command_at cut_at
 asks_first n rest = refl
 

@@ -93,7 +93,7 @@ commits_again none = refl
 commits_again (more p ps) = ap (more p) (commits_again ps)
 
 module _ {X : Type 0} where
-  all_at : (t : Path × X → Bool) (before : List (Path × X)) (e : Path × X) (es : List (Path × X)) → T (list_all t (before ++ e ∷ es)) → T (t e)
+  pub all_at : (t : Path × X → Bool) (before : List (Path × X)) (e : Path × X) (es : List (Path × X)) → T (list_all t (before ++ e ∷ es)) → T (t e)
   all_at t [] e es h = first (t e) _ h
   all_at t (f ∷ before) e es h = all_at t before e es (second (t f) _ h)
 
@@ -136,7 +136,7 @@ module _ (name : Kind → Bytes → Bytes) (read : Bytes → Result Revision Fau
     by again (Ok t) = again t
     by again (Err e) = refl
 
-  blobs_replayed : (ws vs : List Value) (b : Option (Option Commit)) (xs : List Bytes) → steps name read (state_at ws vs b) (blob_commands ws xs) ≡ Ok (state_at (with_blobs ws xs) (values_with_blobs ws vs xs) b)
+  pub blobs_replayed : (ws vs : List Value) (b : Option (Option Commit)) (xs : List Bytes) → steps name read (state_at ws vs b) (blob_commands ws xs) ≡ Ok (state_at (with_blobs ws xs) (values_with_blobs ws vs xs) b)
   blobs_replayed ws vs b [] = refl
   blobs_replayed ws vs b (x ∷ xs) =
       let held = blobs_replayed ws vs b xs in

@@ -29,15 +29,15 @@ use Rattle.gx_model.specs.declared.faults.Fault.TheVariants as faults
 
 -- ---- the commits
 
-abbrev values_after : List Value → List Value → List Commit → List Value
+abbrev pub values_after : List Value → List Value → List Commit → List Value
 values_after ws vs [] = vs
 values_after ws vs (c ∷ cs) = values_after (with_commit ws c) (values_with_commit ws vs c) cs
 
-abbrev last_carried : Option (Option Commit) → List Commit → Option (Option Commit)
+abbrev pub last_carried : Option (Option Commit) → List Commit → Option (Option Commit)
 last_carried b [] = b
 last_carried b (c ∷ cs) = last_carried (Some (Some c)) cs
 
-commits_keep : (ws vs : List Value) (before cs : List Commit) → HoldsWhat ws vs before → FollowsAll before cs → HoldsWhat (fold with_commit ws cs) (values_after ws vs cs) (before ++ cs)
+pub commits_keep : (ws vs : List Value) (before cs : List Commit) → HoldsWhat ws vs before → FollowsAll before cs → HoldsWhat (fold with_commit ws cs) (values_after ws vs cs) (before ++ cs)
 commits_keep ws vs before [] h f = subst (HoldsWhat ws vs) (sym (append-nil before)) h
 commits_keep ws vs before (c ∷ cs) h f =
     let k = commit_keeps ws vs before c h f.0 f.1 f.2 in
@@ -50,7 +50,7 @@ same_ok : (s t : State) → okay s ≡ okay t → s ≡ t
 same_ok s t e = cc
 
 module _ (name : Kind → Bytes → Bytes) (read : Bytes → Result Revision Fault) where
-  commits_replayed : (ws vs : List Value) (b : Option (Option Commit)) (before cs : List Commit) → HoldsWhat ws vs before → FollowsAll before cs
+  pub commits_replayed : (ws vs : List Value) (b : Option (Option Commit)) (before cs : List Commit) → HoldsWhat ws vs before → FollowsAll before cs
       → steps name read (state_at ws vs b) (commit_commands ws cs) ≡ Ok (state_at (fold with_commit ws cs) (values_after ws vs cs) (last_carried b cs))
   commits_replayed ws vs b before [] h f = refl
   commits_replayed ws vs b before (c ∷ cs) h f =
@@ -90,7 +90,7 @@ all_forward : (us : List Value) (bs : Branches) → list_all (λ b. is_forward (
 all_forward us [] = refl
 all_forward us (b ∷ bs) = all_forward us bs
 
-abbrev none_held : HoldsWhat [] [] []
+abbrev pub none_held : HoldsWhat [] [] []
 none_held = record { whole = record { closed = tt; proper = refl }; written = λ v j. j; order = refl; commits = tt; only = λ u j. absurd j }
 
 pub all_follow : (h : History) → IsHistory h → FollowsAll [] (reached_commits h)

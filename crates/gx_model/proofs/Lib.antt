@@ -84,5 +84,6 @@ pub mod CommandReadings
 pub mod GivenCommits
 pub mod ReadCommands
 pub mod HistorySteps
+pub mod RefusedExports
 pub mod ComingBack
 pub mod ShownImports

@@ -33,7 +33,7 @@ Fits (Data x) = length x < 2 ^ 64
 abbrev AllFit : List Item → Type 0
 AllFit is = AllByRecursion Fits is
 
-fit_left : (is js : List Item) → AllFit (is ++ js) → AllFit is
+pub fit_left : (is js : List Item) → AllFit (is ++ js) → AllFit is
 fit_left [] js h = tt
 fit_left (i ∷ is) js h = (h.0, fit_left is js h.1)
 
@@ -51,7 +51,7 @@ some_text : (i : Item) → 1 ≤ length (item_text i)
 some_text (Line l) = omega (arith, length-append l (10 ∷ []))
 some_text (Data x) = omega arith
 
-all_text : (is : List Item) → length is ≤ length (flat_map item_text is)
+pub all_text : (is : List Item) → length is ≤ length (flat_map item_text is)
 all_text [] = omega arith
 all_text (i ∷ is) = rw flat_map-cons (omega (arith, some_text i, all_text is, length-append (item_text i) (flat_map item_text is)))
 
@@ -59,22 +59,22 @@ item_fits : (i : Item) (n : ℕ) → length (item_text i) ≤ n → n < 2 ^ 64 �
 item_fits (Line l) n h lt = tt
 item_fits (Data x) n h lt = omega (arith, h, lt, data_in_text x)
 
-all_fit : (is : List Item) → length (flat_map item_text is) < 2 ^ 64 → AllFit is
+pub all_fit : (is : List Item) → length (flat_map item_text is) < 2 ^ 64 → AllFit is
 all_fit [] lt = tt
 all_fit (i ∷ is) lt =
     let long = ap length (flat_map-cons item_text i is) ∙ length-append (item_text i) (flat_map item_text is) in
     (item_fits i (length (item_text i) + length (flat_map item_text is)) (omega arith) (omega (arith, long, lt)), all_fit is (omega (arith, long, lt)))
 
-abbrev CommandsFit : List Command → Type 0
+abbrev pub CommandsFit : List Command → Type 0
 CommandsFit cs = AllFit (flat_map command_items cs)
 
-commands_left : (xs ys : List Command) → CommandsFit (xs ++ ys) → CommandsFit xs
+pub commands_left : (xs ys : List Command) → CommandsFit (xs ++ ys) → CommandsFit xs
 commands_left xs ys h = fit_left (flat_map command_items xs) (flat_map command_items ys) (subst AllFit (flat_map-append command_items xs ys) h)
 
-commands_right : (xs ys : List Command) → CommandsFit (xs ++ ys) → CommandsFit ys
+pub commands_right : (xs ys : List Command) → CommandsFit (xs ++ ys) → CommandsFit ys
 commands_right xs ys h = fit_right (flat_map command_items xs) (flat_map command_items ys) (subst AllFit (flat_map-append command_items xs ys) h)
 
-abbrev BlobsFit : List Value → Type 0
+abbrev pub BlobsFit : List Value → Type 0
 BlobsFit ws = (y : Bytes) → IsIn ws (blob_value y) → length y < 2 ^ 64
 
 same_blob : (x y : Bytes) → blob_value x ≡ blob_value y → x ≡ y
@@ -83,11 +83,11 @@ same_blob x y e = cc
 with_blob : (ws : List Value) (x : Bytes) → length x < 2 ^ 64 → BlobsFit ws → BlobsFit (blob_value x ∷ ws)
 with_blob ws x lt h y i = elim i [ inl e ↦ subst (λ z. length z < 2 ^ 64) (same_blob x y e) lt | inr k ↦ h y k ]
 
-record BlobsRead (ws : List Value) (xs : List Bytes) : Type 0 where
+pub record BlobsRead (ws : List Value) (xs : List Bytes) : Type 0 where
   pub now : AllByRecursion (λ x. length x < 2 ^ 64) xs
   pub later : BlobsFit ws
 
-blobs_fit : (ws : List Value) (xs : List Bytes) → BlobsFit ws → CommandsFit (blob_commands ws xs) → BlobsRead (with_blobs ws xs) xs
+pub blobs_fit : (ws : List Value) (xs : List Bytes) → BlobsFit ws → CommandsFit (blob_commands ws xs) → BlobsRead (with_blobs ws xs) xs
 blobs_fit ws [] h f = record { now = tt; later = h }
 blobs_fit ws (x ∷ xs) h f =
     elim (is_in ws (blob_value x)) as (λ t. is_in ws (blob_value x) ≡ t → CommandsFit (cond t (blob_commands ws xs) (command.Blob (record { mark = Some (suc (length ws)); bytes = x }) ∷ blob_commands (blob_value x ∷ ws) xs)) → BlobsRead (with_blobs (cond t ws (blob_value x ∷ ws)) xs) (x ∷ xs)) [
@@ -95,7 +95,7 @@ blobs_fit ws (x ∷ xs) h f =
       | false ↦ λ e g. let r = blobs_fit (blob_value x ∷ ws) xs (with_blob ws x g.1.1.0 h) g.1.1.1 in record { now = (g.1.1.0, r.now); later = r.later }
     ] refl f
 
-message_fits : (ws : List Value) (c : Commit) → AllFit (command_items (commit_command ws c)) → length (text_of c).message < 2 ^ 64
+pub message_fits : (ws : List Value) (c : Commit) → AllFit (command_items (commit_command ws c)) → length (text_of c).message < 2 ^ 64
 message_fits ws c h = (fit_right (optional_line (codes "encoding") (text_of c).encoding) _ h.1.1.1.1).0
 
 link_fits : (x : Bytes) → T (is_leaf Gitlink x) → length x < 2 ^ 64
@@ -112,10 +112,10 @@ files_fit : (f : FileMap Bytes) → T (are_leaves f) → AllByRecursion (λ file
 files_fit [] l h k = tt
 files_fit ((p, (m, x)) ∷ f) l h k = let r = file_fits p m x (contents f) (first (is_leaf m x) _ l) h.0 k in (r.0, files_fit f (second (is_leaf m x) _ l) h.1 r.1)
 
-later_commit : (ws : List Value) (c : Commit) → BlobsFit ws → BlobsFit (commit_value c ∷ ws)
+pub later_commit : (ws : List Value) (c : Commit) → BlobsFit ws → BlobsFit (commit_value c ∷ ws)
 later_commit ws c h y i = elim i [ inl e ↦ absurd cc | inr k ↦ h y k ]
 
-commits_fit : (ws : List Value) (before cs : List Commit) → BlobsFit ws → FollowsAll before cs → HaveNoNullGitlink cs → CommandsFit (commit_commands ws cs) → AllByRecursion IsReadableCommit cs
+pub commits_fit : (ws : List Value) (before cs : List Commit) → BlobsFit ws → FollowsAll before cs → HaveNoNullGitlink cs → CommandsFit (commit_commands ws cs) → AllByRecursion IsReadableCommit cs
 commits_fit ws before [] h f r g = tt
 commits_fit ws before (c ∷ cs) h f r g =
     let xs = contents (files_of c) in
@@ -130,7 +130,7 @@ commits_fit ws before (c ∷ cs) h f r g =
       commits_fit (with_commit ws c) (before ++ c ∷ []) cs (later_commit us c b.later) f.3 r.1 (commands_right (one_commit ws c) (commit_commands (with_commit ws c) cs) g),
     )
 
-refs_fit : (ws : List Value) (rs : List (Bytes × Target)) → CommandsFit (map (ref_command ws) rs) → AllByRecursion (λ r. IsReadableTarget r.1) rs
+pub refs_fit : (ws : List Value) (rs : List (Bytes × Target)) → CommandsFit (map (ref_command ws) rs) → AllByRecursion (λ r. IsReadableTarget r.1) rs
 refs_fit ws [] g = tt
 refs_fit ws ((n, at_commit c) ∷ rs) g = (tt, refs_fit ws rs (commands_right (ref_command ws (n, at_commit c) ∷ []) (map (ref_command ws) rs) g))
 refs_fit ws ((n, at_tag t) ∷ rs) g =
@@ -149,10 +149,10 @@ blobs_count ws (x ∷ xs) =
       | false ↦ omega (arith, new)
     ]
 
-count_append : (xs ys : List Command) → length (flat_map command_items (xs ++ ys)) ≡ length (flat_map command_items xs) + length (flat_map command_items ys)
+pub count_append : (xs ys : List Command) → length (flat_map command_items (xs ++ ys)) ≡ length (flat_map command_items xs) + length (flat_map command_items ys)
 count_append xs ys = ap length (flat_map-append command_items xs ys) ∙ length-append (flat_map command_items xs) (flat_map command_items ys)
 
-commits_count : (ws : List Value) (cs : List Commit) → length (fold with_commit ws cs) ≤ length ws + length (flat_map command_items (commit_commands ws cs))
+pub commits_count : (ws : List Value) (cs : List Commit) → length (fold with_commit ws cs) ≤ length ws + length (flat_map command_items (commit_commands ws cs))
 commits_count ws [] = omega arith
 commits_count ws (c ∷ cs) =
     let xs = contents (files_of c) in

@@ -43,27 +43,27 @@ number_some (w ∷ ws) v h = by (same_value w v) refl h (λ k. number_some ws v 
 is_mark : (ws : List Value) (v : Value) → IsIn ws v → length ws < 2 ^ 64 → IsMark (number_in ws v)
 is_mark ws v h lt = (number_some ws v h, omega (arith, number_small ws v))
 
-more_blobs : (ws : List Value) (xs : List Bytes) → length ws ≤ length (with_blobs ws xs)
+pub more_blobs : (ws : List Value) (xs : List Bytes) → length ws ≤ length (with_blobs ws xs)
 more_blobs ws [] = omega arith
 more_blobs ws (x ∷ xs) =
     let held = more_blobs ws xs in
     let new = more_blobs (blob_value x ∷ ws) xs in
     elim (is_in ws (blob_value x)) as (λ t. length ws ≤ length (with_blobs (cond t ws (blob_value x ∷ ws)) xs)) [ true ↦ held | false ↦ omega (arith, new) ]
 
-more_commits : (ws : List Value) (cs : List Commit) → length ws ≤ length (fold with_commit ws cs)
+pub more_commits : (ws : List Value) (cs : List Commit) → length ws ≤ length (fold with_commit ws cs)
 more_commits ws [] = omega arith
 more_commits ws (c ∷ cs) = omega (arith, more_blobs ws (contents (files_of c)), more_commits (with_commit ws c) cs)
 
-abbrev AreSpelled : List Command → Type 0
+abbrev pub AreSpelled : List Command → Type 0
 AreSpelled cs = AllByRecursion IsSpelled cs
 
-spelled_append : (xs ys : List Command) → AreSpelled xs → AreSpelled ys → AreSpelled (xs ++ ys)
+pub spelled_append : (xs ys : List Command) → AreSpelled xs → AreSpelled ys → AreSpelled (xs ++ ys)
 spelled_append [] ys h g = g
 spelled_append (x ∷ xs) ys h g = (h.0, spelled_append xs ys h.1 g)
 
 -- ---- the commands of one commit
 
-blobs_spelled : (ws : List Value) (xs : List Bytes) → AllByRecursion (λ x. length x < 2 ^ 64) xs → length (with_blobs ws xs) < 2 ^ 64 → AreSpelled (blob_commands ws xs)
+pub blobs_spelled : (ws : List Value) (xs : List Bytes) → AllByRecursion (λ x. length x < 2 ^ 64) xs → length (with_blobs ws xs) < 2 ^ 64 → AreSpelled (blob_commands ws xs)
 blobs_spelled ws [] h lt = tt
 blobs_spelled ws (x ∷ xs) h lt =
     elim (is_in ws (blob_value x)) as (λ t. length (with_blobs (cond t ws (blob_value x ∷ ws)) xs) < 2 ^ 64 → AreSpelled (cond t (blob_commands ws xs) (command.Blob (record { mark = Some (suc (length ws)); bytes = x }) ∷ blob_commands (blob_value x ∷ ws) xs))) [
@@ -71,7 +71,7 @@ blobs_spelled ws (x ∷ xs) h lt =
       | false ↦ λ l. (((omega arith, omega (arith, more_blobs (blob_value x ∷ ws) xs)), h.0), blobs_spelled (blob_value x ∷ ws) xs h.1 l)
     ] lt
 
-dataref_spelled : (ws : List Value) (m : Mode) (x : Bytes) → length ws < 2 ^ 64 → T (is_leaf m x) → IsNotNull m x → AllByRecursion (λ y. IsIn ws (blob_value y)) (cons_option (content_in m x) []) → IsDataRef m (dataref_in ws m x)
+pub dataref_spelled : (ws : List Value) (m : Mode) (x : Bytes) → length ws < 2 ^ 64 → T (is_leaf m x) → IsNotNull m x → AllByRecursion (λ y. IsIn ws (blob_value y)) (cons_option (content_in m x) []) → IsDataRef m (dataref_in ws m x)
 dataref_spelled ws File x lt l n h = is_mark ws (blob_value x) h.0 lt
 dataref_spelled ws Exec x lt l n h = is_mark ws (blob_value x) h.0 lt
 dataref_spelled ws Link x lt l n h = is_mark ws (blob_value x) h.0 lt
@@ -85,7 +85,7 @@ changes_spelled ws (e ∷ f) lt p l r h =
     let P = λ (y : Bytes). IsIn ws (blob_value y) in
     ((dataref_spelled ws e.1.0 e.1.1 lt (first _ _ l) r.0.0 (front_of P o (contents f) h), is_true _ (first _ _ p)), changes_spelled ws f lt (second (is_file_path e.0) _ p) (second (is_leaf e.1.0 e.1.1) _ l) r.1 (rest_of P o (contents f) h))
 
-parent_spelled : (ws : List Value) (ps : List Commit) → length ws < 2 ^ 64 → AllByRecursion (λ p. IsIn ws (commit_value p)) ps → IsNamedByMarkIf (first_parent ws ps)
+pub parent_spelled : (ws : List Value) (ps : List Commit) → length ws < 2 ^ 64 → AllByRecursion (λ p. IsIn ws (commit_value p)) ps → IsNamedByMarkIf (first_parent ws ps)
 parent_spelled ws [] lt h = tt
 parent_spelled ws (p ∷ ps) lt h = is_mark ws (commit_value p) h.0 lt
 
@@ -93,14 +93,14 @@ all_marked : (ws : List Value) (ps : List Commit) → length ws < 2 ^ 64 → All
 all_marked ws [] lt h = tt
 all_marked ws (p ∷ ps) lt h = (is_mark ws (commit_value p) h.0 lt, all_marked ws ps lt h.1)
 
-others_spelled : (ws : List Value) (ps : List Commit) → length ws < 2 ^ 64 → AllByRecursion (λ p. IsIn ws (commit_value p)) ps → AllByRecursion IsNamedByMark (other_parents ws ps)
+pub others_spelled : (ws : List Value) (ps : List Commit) → length ws < 2 ^ 64 → AllByRecursion (λ p. IsIn ws (commit_value p)) ps → AllByRecursion IsNamedByMark (other_parents ws ps)
 others_spelled ws [] lt h = tt
 others_spelled ws (p ∷ ps) lt h = all_marked ws ps lt h.1
 
-carrier_is_ref : is_ref_name carrier ≡ true
+pub carrier_is_ref : is_ref_name carrier ≡ true
 carrier_is_ref = refl
 
-root_spelled : (ps : List Commit) → AreSpelled (root_reset ps)
+pub root_spelled : (ps : List Commit) → AreSpelled (root_reset ps)
 root_spelled [] = ((carrier_is_ref, tt), tt)
 root_spelled (p ∷ ps) = tt
 
@@ -132,7 +132,7 @@ contents_fit ((p, (m, x)) ∷ f) h = by m (contents_fit f h.1) where
   by Link k = (h.0.1, k)
   by Dir k = (h.0.1, k)
 
-commits_spelled : (ws : List Value) (before cs : List Commit) → AllByRecursion (λ c. IsIn ws (commit_value c)) before → FollowsAll before cs → AllByRecursion IsReadableCommit cs → length (fold with_commit ws cs) < 2 ^ 64 → AreSpelled (commit_commands ws cs)
+pub commits_spelled : (ws : List Value) (before cs : List Commit) → AllByRecursion (λ c. IsIn ws (commit_value c)) before → FollowsAll before cs → AllByRecursion IsReadableCommit cs → length (fold with_commit ws cs) < 2 ^ 64 → AreSpelled (commit_commands ws cs)
 commits_spelled ws before [] h f r lt = tt
 commits_spelled ws before (c ∷ cs) h f r lt =
     let xs = contents (files_of c) in
@@ -145,11 +145,11 @@ commits_spelled ws before (c ∷ cs) h f r lt =
     (spelled_append (root_reset (list_of (parents_of c))) _ (root_spelled (list_of (parents_of c))) (commit_spelled us c fits r.0 (passes _ f.0) parents (blobs_have ws xs), tt)))
     (commits_spelled (with_commit ws c) (before ++ c ∷ []) cs now f.3 r.1 lt)
 
-last_spelled : (cs : List Commit) → AreSpelled (last_reset cs)
+pub last_spelled : (cs : List Commit) → AreSpelled (last_reset cs)
 last_spelled [] = tt
 last_spelled (c ∷ cs) = ((carrier_is_ref, tt), tt)
 
-refs_spelled : (ws : List Value) (rs : List (Bytes × Target)) → length ws < 2 ^ 64 → AllByRecursion (λ r. IsIn ws (commit_value (peeled_at r.1))) rs → T (list_all (λ r. is_ref_name r.0) rs) → AllByRecursion (λ r. T (is_proper (value_at r.1))) rs
+pub refs_spelled : (ws : List Value) (rs : List (Bytes × Target)) → length ws < 2 ^ 64 → AllByRecursion (λ r. IsIn ws (commit_value (peeled_at r.1))) rs → T (list_all (λ r. is_ref_name r.0) rs) → AllByRecursion (λ r. T (is_proper (value_at r.1))) rs
     → AllByRecursion (λ r. IsReadableTarget r.1) rs → AreSpelled (map (ref_command ws) rs)
 refs_spelled ws [] lt h n p r = tt
 refs_spelled ws ((q, at_commit c) ∷ rs) lt h n p r = ((is_true _ (first (is_ref_name q) _ n), is_mark ws (commit_value c) h.0 lt), refs_spelled ws rs lt h.1 (second (is_ref_name q) _ n) p.1 r.1)

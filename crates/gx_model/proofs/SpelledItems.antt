@@ -62,11 +62,11 @@ modify_is_line m s p h = line_append (mode_digits m ++ 32 ∷ dataref_text s) (3
 abbrev pub AreItems : List Item → Type 0
 AreItems is = AllByRecursion IsItem is
 
-items_append : (is js : List Item) → AreItems is → AreItems js → AreItems (is ++ js)
+pub items_append : (is js : List Item) → AreItems is → AreItems js → AreItems (is ++ js)
 items_append [] js h g = g
 items_append (i ∷ is) js h g = (h.0, items_append is js h.1 g)
 
-change_spelled : (c : Change) → IsSpelledChange c → AreItems (change_items c)
+pub change_spelled : (c : Change) → IsSpelledChange c → AreItems (change_items c)
 change_spelled (Modify m s p) h = rw (no_block m s h.0) (record { line = modify_is_line m s p h.0; no_comment = refl; no_data = refl }, tt)
 change_spelled Clear h = (record { line = refl; no_comment = refl; no_data = refl }, tt)
 change_spelled (Remove p) h = absurd h
@@ -77,15 +77,15 @@ changes_spelled : (cs : List Change) → AllByRecursion IsSpelledChange cs → A
 changes_spelled [] h = tt
 changes_spelled (c ∷ cs) h = items_append (change_items c) (flat_map change_items cs) (change_spelled c h.0) (changes_spelled cs h.1)
 
-merges_spelled : (ms : List CommitIsh) → AllByRecursion IsNamedByMark ms → AreItems (map merge_item ms)
+pub merges_spelled : (ms : List CommitIsh) → AllByRecursion IsNamedByMark ms → AreItems (map merge_item ms)
 merges_spelled [] h = tt
 merges_spelled (c ∷ ms) h = (record { line = commit_ish_is_line c h.0; no_comment = refl; no_data = refl }, merges_spelled ms h.1)
 
-mark_spelled : (m : Option ℕ) → HasMark m → AreItems (mark_line m)
+pub mark_spelled : (m : Option ℕ) → HasMark m → AreItems (mark_line m)
 mark_spelled None h = absurd h
 mark_spelled (Some n) h = (record { line = mark_is_line n h; no_comment = refl; no_data = refl }, tt)
 
-author_spelled : (a : Option Bytes) → is_some a ≡ true → is_ident (or_else a []) ≡ true → AreItems (optional_line (codes "author") a)
+pub author_spelled : (a : Option Bytes) → is_some a ≡ true → is_ident (or_else a []) ≡ true → AreItems (optional_line (codes "author") a)
 author_spelled None e h = absurd (false≢true e)
 author_spelled (Some x) e h = (record { line = ident_is_line x h; no_comment = refl; no_data = refl }, tt)
 
@@ -93,16 +93,16 @@ tagger_spelled : (a : Option Bytes) → is_optional_ident a ≡ true → AreItem
 tagger_spelled None h = tt
 tagger_spelled (Some x) h = (record { line = ident_is_line x h; no_comment = refl; no_data = refl }, tt)
 
-encoding_spelled : (a : Option Bytes) → is_optional_encoding a ≡ true → AreItems (optional_line (codes "encoding") a)
+pub encoding_spelled : (a : Option Bytes) → is_optional_encoding a ≡ true → AreItems (optional_line (codes "encoding") a)
 encoding_spelled None h = tt
 encoding_spelled (Some []) h = absurd (false≢true h)
 encoding_spelled (Some (b ∷ x)) h = (record { line = h; no_comment = refl; no_data = refl }, tt)
 
-from_spelled : (c : Option CommitIsh) → IsNamedByMarkIf c → AreItems (from_line c)
+pub from_spelled : (c : Option CommitIsh) → IsNamedByMarkIf c → AreItems (from_line c)
 from_spelled None h = tt
 from_spelled (Some c) h = (record { line = commit_ish_is_line c h; no_comment = refl; no_data = refl }, tt)
 
-plain_line : IsItemLine []
+pub plain_line : IsItemLine []
 plain_line = record { line = refl; no_comment = refl; no_data = refl }
 
 reset_spelled : (c : Option CommitIsh) → IsNamedByMarkIf c → AreItems (reset_items c)
@@ -141,7 +141,7 @@ command_spelled command.Checkpoint h = absurd h
 command_spelled (command.Progress x) h = absurd h
 command_spelled (command.OptionLine x) h = absurd h
 
-all_spelled : (cs : List Command) → AllByRecursion IsSpelled cs → AreItems (flat_map command_items cs)
+pub all_spelled : (cs : List Command) → AllByRecursion IsSpelled cs → AreItems (flat_map command_items cs)
 all_spelled [] h = tt
 all_spelled (c ∷ cs) h = items_append (command_items c) (flat_map command_items cs) (command_spelled c h.0) (all_spelled cs h.1)
 

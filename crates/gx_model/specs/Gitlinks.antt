@@ -4,6 +4,7 @@
 use Rattle.std.specs.Prelude.{◌≡◌, ℕ, ◌<◌, ◌^◌, Bool, false, List, [], length, Option, Result, ⊤}
 use Rattle.std.specs.List.{AllByRecursion, filter_map}
 use Rattle.gx_model.specs.declared.faults.Fault.{Fault}
+use Rattle.gx_model.specs.declared.faults.Fault.TheVariants.{Unsupported}
 use Rattle.gx_model.specs.declared.objects.Kind.{Kind}
 use Rattle.gx_model.specs.declared.objects.Mode.TheVariants.{Gitlink}
 use Rattle.gx_model.specs.Texts.{Bytes}
@@ -15,7 +16,7 @@ use Rattle.gx_model.specs.Histories.{History, IsHistory}
 use Rattle.gx_model.specs.Revisions.{Revision}
 use Rattle.gx_model.specs.Ranges.{commit_of}
 use Rattle.gx_model.specs.Export.{export_text}
-use Rattle.gx_model.specs.Replay.{Report, finished, replayed, replayed_text, start}
+use Rattle.gx_model.specs.Replay.{Report, finished, refused, replayed, replayed_text, start}
 use Rattle.gx_model.specs.ExportLaws.{HasNoNullGitlink, HaveNoNullGitlink, IsAgain, exported_report, nothing}
 
 -- ---- commands
@@ -69,3 +70,10 @@ TextsComeBack =
     (name : Kind → Bytes → Bytes) (read : Bytes → Result Revision Fault) (h : History) (given : Bytes) (fails : Bool) (text : Bytes) (report : Report)
     → replayed_text name read nothing given fails ≡ finished h text report → length (export_text h) < 2 ^ 64
     → (k : History) × IsAgain h k × (replayed_text name read nothing (export_text h) false ≡ finished k [] (exported_report h k))
+
+-- Where refs reach one, which no text brings but a store may hold, the history's export is refused: what it writes can't be read.
+abbrev pub NullGitlinksAreRefused : Type 0
+NullGitlinksAreRefused =
+    (name : Kind → Bytes → Bytes) (read : Bytes → Result Revision Fault) (h : History)
+    → IsHistory h → (HasNoNullGitlink h → ⊥) → length (export_text h) < 2 ^ 64
+    → (n : ℕ) × (replayed_text name read nothing (export_text h) false ≡ refused n Unsupported [])

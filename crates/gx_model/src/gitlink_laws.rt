@@ -1,6 +1,6 @@
 //! Laws of gitlinks of forty zeros: no stream brings one.
 ghost use Rattle.gx_model.specs.ExportLaws.{nothing};
-ghost use Rattle.gx_model.specs.Gitlinks.{HoldsNoNullGitlink, HoldsTellsHas, ReplaysKeepNone, StreamsBringNone, TextsBringNone, TextsComeBack};
+ghost use Rattle.gx_model.specs.Gitlinks.{HoldsNoNullGitlink, HoldsTellsHas, NullGitlinksAreRefused, ReplaysKeepNone, StreamsBringNone, TextsBringNone, TextsComeBack};
 
 /// No command that a stream has gives a gitlink of forty zeros.
 #[tactic(auto, using(crate::proofs::ReadGitlinks::none_brought))]
@@ -22,4 +22,10 @@ pub fn replays_keep_none()
 /// what these reach, and the commits in their order.
 pub fn texts_come_back()
     ensures { TextsComeBack }
+{}
+
+/// Where refs reach a gitlink of forty zeros, as they may in a store that was opened, the import of the export's text into
+/// nothing is refused as Unsupported, if the text's length is below 2^64. Source: git-fast-import(1), "filemodify".
+pub fn nulls_are_refused()
+    ensures { NullGitlinksAreRefused }
 {}

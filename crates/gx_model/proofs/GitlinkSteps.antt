@@ -1,10 +1,9 @@
 -- What each step of a replay makes of a state without gitlinks of forty zeros.
-use Rattle.std.proofs.Common.{◌≡◌, ℕ, zero, suc, ◌+◌, Bool, true, false, cond, List, [], ◌∷◌, map, Option, None, Some, Result, Ok, Err, refl, ap, subst, ◌∙◌, arith}
-use Rattle.std.specs.Prelude.{IfOk, IfSome, ◌&&◌, ◌==◌, nat_eq, nat_le, nat_lt, length, ⊤}
+use Rattle.std.proofs.Common.{◌≡◌, ℕ, suc, ◌+◌, Bool, true, false, cond, List, [], ◌∷◌, map, Option, None, Some, Result, Ok, Err, refl, ap, subst, ◌∙◌, arith}
+use Rattle.std.specs.Prelude.{IfOk, IfSome, ◌&&◌, ◌==◌, length}
 use Rattle.std.proofs.lemmas.Grind.{common_steps}
 use Rattle.std.proofs.lemmas.Bool.Decides.{nat_tests}
-use Rattle.std.specs.List.{AllByRecursion, filter_map, list_all, slice_get}
-use Rattle.std.specs.Map.{lookup}
+use Rattle.std.specs.List.{AllByRecursion, filter_map, list_all}
 use Rattle.std.specs.FinMap.Entries.{by_order, put}
 use Rattle.std.specs.declared.cmp.Ordering.TheVariants.{Less, Equal, Greater}
 use Rattle.gx_model.specs.declared.faults.Fault.{Fault}
@@ -13,15 +12,15 @@ use Rattle.gx_model.specs.declared.features.Feature.TheVariants as features
 use Rattle.gx_model.specs.declared.objects.Kind.{Kind}
 use Rattle.gx_model.specs.declared.objects.Mode.{Mode}
 use Rattle.gx_model.specs.declared.objects.Mode.TheVariants.{File, Exec, Link, Gitlink, Dir}
-use Rattle.gx_model.specs.Texts.{Bytes, same_bytes}
+use Rattle.gx_model.specs.Texts.{Bytes}
 use Rattle.gx_model.specs.Faults.{and_then}
 use Rattle.gx_model.specs.Paths.{Path}
-use Rattle.gx_model.specs.Files.{FileMap, Leaf, file_at, sub_map}
+use Rattle.gx_model.specs.Files.{FileMap}
 use Rattle.gx_model.specs.Edits.{copied, modified, renamed}
 use Rattle.gx_model.specs.Values.{Commit, Tag, Value, blob_value, commit, commit_value, commits_of, files_of, list_of, parents_of, tag_value, tree_value}
 use Rattle.gx_model.specs.Histories.{History, IsHistory, IsIn, Target, value_at, with_tree, with_value}
-use Rattle.gx_model.specs.Revisions.{Revision, Suffix, ancestor, as_blob, as_commit, as_tag, as_tree, itself, parent, peeled}
-use Rattle.gx_model.specs.Denotation.{Shown, all_suffixed, are_digits, at_path, base_value, begun_by, commit_in, denoted, files_in, find_ref, first_ref, full_name, lower, nth_ancestor, nth_parent, of_leaf, of_sub_map, or_no_parent, or_ref, ref_at, ref_names, shown_at, shown_value, suffixed, the_one, value_denoted}
+use Rattle.gx_model.specs.Revisions.{Revision}
+use Rattle.gx_model.specs.Denotation.{base_value, lower}
 use Rattle.gx_model.specs.Items.{items_of}
 use Rattle.gx_model.specs.Ranges.{commit_of}
 use Rattle.gx_model.specs.Commands as command
@@ -29,145 +28,11 @@ use Rattle.gx_model.specs.Commands.{Asks, Blob, Change, Checkpoint, Clear, Comma
 use Rattle.gx_model.specs.Grammar.{commands_of, is_null}
 use Rattle.gx_model.specs.ExportLaws.{IsNotNull}
 use Rattle.gx_model.specs.Gitlinks.{BringsNoNullGitlink, GivesNoNullGitlink, HoldsNoNullGitlink, HoldsTellsHas, ReplaysKeepNone, TextsBringNone}
-use Rattle.gx_model.specs.Replay.{Outcome, Report, State, added, all_changed, all_committed, at, blob_bytes, byte_cmp, changed, commit_alone, committed, committed_for, content, ended, final, finished, first_parent, is_fast_forward, is_itself, marked, ok_or_mark, on_branch, or_branch, own_commit, refused, replayed, report, revision_value, start, starting_files, step, step_commit, step_reset, step_tag, text_made, with_first_parent}
+use Rattle.gx_model.specs.Replay.{Outcome, Report, State, added, all_changed, all_committed, at, blob_bytes, byte_cmp, changed, commit_alone, committed, committed_for, content, ended, final, finished, first_parent, is_fast_forward, marked, on_branch, refused, replayed, report, start, starting_files, step, step_commit, step_reset, step_tag, text_made, with_first_parent}
+use Rattle.gx_model.proofs.GivenCommits.{IsStateOf, MayBeOf, OfCommit, all_committed_kept, all_each, alone_kept, committed_kept, first_kept, for_branch, with_first_kept}
 use Rattle.gx_model.proofs.KeptCommits.{all_in}
 use Rattle.gx_model.proofs.ReadGitlinks.{none_brought}
-use Rattle.gx_model.proofs.NullGitlinks.{AreNotNull, IsFree, IsFreeValue, all_free, all_pass, copied_leaves, found, free_commits, free_files, free_list, free_parents, modified_leaves, none_null, renamed_leaves, then_if, with_one_free, with_tree_free}
-
--- ---- what a revision gives
-
-full_free : (name : Kind → Bytes → Bytes) (vs : List Value) → AllByRecursion IsFreeValue vs → IfOk (full_name name vs) IsFreeValue
-full_free name [] h = tt
-full_free name (v ∷ vs) h = h.0
-
-one_free : (name : Kind → Bytes → Bytes) (vs : List Value) → AllByRecursion IsFreeValue vs → IfOk (the_one name vs) IsFreeValue
-one_free name [] h = tt
-one_free name (v ∷ []) h = h.0
-one_free name (v ∷ w ∷ vs) h = tt
-
-nth_free : (cs : List Commit) (n : ℕ) → AllByRecursion IsFree cs → IfOk (or_no_parent (slice_get cs n)) IsFree
-nth_free [] n h = tt
-nth_free (c ∷ cs) zero h = h.0
-nth_free (c ∷ cs) (suc n) h = nth_free cs n h.1
-
-parent_free : (n : ℕ) (c : Commit) → IsFree c → IfOk (nth_parent n c) IsFree
-parent_free zero c h = h
-parent_free (suc n) c h = nth_free (list_of (parents_of c)) n (free_list (parents_of c) (free_parents c h))
-
-ancestor_free : (n : ℕ) (c : Commit) → IsFree c → IfOk (nth_ancestor n c) IsFree
-ancestor_free zero c h = h
-ancestor_free (suc n) c h = then_if IsFree IsFree (nth_parent 1 c) (nth_ancestor n) (parent_free 1 c h) (λ d k. ancestor_free n d k)
-
-commit_free : (v : Value) → IsFreeValue v → IfOk (commit_in v) IsFree
-commit_free (blob_value x) h = tt
-commit_free (tree_value f) h = tt
-commit_free (commit_value c) h = h
-commit_free (tag_value t) h = h
-
-alone_free : (v : Value) → IsFreeValue v → IfOk (commit_alone v) IsFree
-alone_free (blob_value x) h = tt
-alone_free (tree_value f) h = tt
-alone_free (commit_value c) h = h
-alone_free (tag_value t) h = tt
-
-suffixed_free : (v : Value) (s : Suffix) → IsFreeValue v → IfOk (suffixed v s) IsFreeValue
-suffixed_free v (parent n) h =
-    then_if IsFree IsFreeValue (commit_in v) (λ c. and_then (nth_parent n c) (λ d. Ok (commit_value d))) (commit_free v h)
-    (λ c k. then_if IsFree IsFreeValue (nth_parent n c) (λ d. Ok (commit_value d)) (parent_free n c k) (λ d l. l))
-suffixed_free v (ancestor n) h =
-    then_if IsFree IsFreeValue (commit_in v) (λ c. and_then (nth_ancestor n c) (λ d. Ok (commit_value d))) (commit_free v h)
-    (λ c k. then_if IsFree IsFreeValue (nth_ancestor n c) (λ d. Ok (commit_value d)) (ancestor_free n c k) (λ d l. l))
-suffixed_free (blob_value x) peeled h = tt
-suffixed_free (tree_value f) peeled h = tt
-suffixed_free (commit_value c) peeled h = h
-suffixed_free (tag_value t) peeled h = h
-suffixed_free v itself h = h
-suffixed_free (blob_value x) as_commit h = tt
-suffixed_free (tree_value f) as_commit h = tt
-suffixed_free (commit_value c) as_commit h = h
-suffixed_free (tag_value t) as_commit h = h
-suffixed_free (blob_value x) as_blob h = tt
-suffixed_free (tree_value f) as_blob h = tt
-suffixed_free (commit_value c) as_blob h = tt
-suffixed_free (tag_value t) as_blob h = tt
-suffixed_free (blob_value x) as_tree h = tt
-suffixed_free (tree_value f) as_tree h = tt
-suffixed_free (commit_value c) as_tree h = tt
-suffixed_free (tag_value t) as_tree h = tt
-suffixed_free (blob_value x) as_tag h = tt
-suffixed_free (tree_value f) as_tag h = tt
-suffixed_free (commit_value c) as_tag h = tt
-suffixed_free (tag_value t) as_tag h = h
-
-all_suffixed_free : (v : Value) (ss : List Suffix) → IsFreeValue v → IfOk (all_suffixed v ss) IsFreeValue
-all_suffixed_free v [] h = h
-all_suffixed_free v (s ∷ ss) h = then_if IsFreeValue IsFreeValue (suffixed v s) (λ w. all_suffixed w ss) (suffixed_free v s h) (λ w k. all_suffixed_free w ss k)
-
--- a path gives no commit and no tag
-leaf_free : (m : Mode) (x : Bytes) → IfOk (shown_value (of_leaf m x)) IsFreeValue
-leaf_free File x = tt
-leaf_free Exec x = tt
-leaf_free Link x = tt
-leaf_free Gitlink x = tt
-leaf_free Dir x = tt
-
-abbrev ShowsFree : Shown → Type 0
-ShowsFree s = IfOk (shown_value s) IsFreeValue
-
-below_free : (f : FileMap Bytes) → IfOk (of_sub_map f) ShowsFree
-below_free [] = tt
-below_free (e ∷ es) = tt
-
-path_free : (f : FileMap Bytes) (p : Path) → IfOk (at_path f p) ShowsFree
-path_free f [] = tt
-path_free f (c ∷ p) = by (file_at f (c ∷ p))
-  where
-    by : (o : Option (Leaf Bytes)) → IfOk (elim o as (λ _. Result Shown Fault) [ Some x ↦ Ok (of_leaf x.0 x.1) | None ↦ of_sub_map (sub_map f (c ∷ p)) ]) ShowsFree
-    by (Some x) = leaf_free x.0 x.1
-    by None = below_free (sub_map f (c ∷ p))
-
-shown_free : (v : Value) (p : Option Path) → IsFreeValue v → IfOk (shown_at v p) ShowsFree
-shown_free v None h = h
-shown_free v (Some p) h = then_if (λ f. ⊤) ShowsFree (files_in v) (λ f. at_path f p) (any (files_in v)) (λ f k. path_free f p)
-  where
-    any : (r : Result (FileMap Bytes) Fault) → IfOk r (λ f. ⊤)
-    any (Ok f) = tt
-    any (Err e) = tt
-
-module _ (name : Kind → Bytes → Bytes) (h : History) (values : AllByRecursion IsFreeValue h.values) (refs : AllByRecursion (λ ref. IsFreeValue (value_at ref.1)) h.refs) where
-  ref_free : (ns : List Bytes) → IfSome (first_ref h ns) (λ t. IsFreeValue (value_at t))
-  ref_free [] = tt
-  ref_free (n ∷ ns) = by (ref_at h n) (found (λ t. IsFreeValue (value_at t)) (same_bytes n) h.refs refs) (ref_free ns)
-    where
-      by : (o : Option Target) → IfSome o (λ t. IsFreeValue (value_at t)) → IfSome (first_ref h ns) (λ t. IsFreeValue (value_at t)) → IfSome (or_ref o (first_ref h ns)) (λ t. IsFreeValue (value_at t))
-      by (Some t) k l = k
-      by None k l = l
-
-  begun_free : (x : Bytes) → AllByRecursion IsFreeValue (begun_by name h x)
-  begun_free x = all_pass IsFreeValue _ h.values values
-
-  base_free : (x : Bytes) → IfOk (base_value name h x) IsFreeValue
-  base_free x = whole_digits (are_digits name x && nat_eq (length x) 40)
-    where
-      some_digits : (b : Bool) → IfOk (cond b (the_one name (begun_by name h x)) (Err fault.UnknownRef)) IsFreeValue
-      some_digits true = one_free name (begun_by name h x) (begun_free x)
-      some_digits false = tt
-
-      no_digits : (o : Option Target) → IfSome o (λ t. IsFreeValue (value_at t)) → IfOk (elim o as (λ _. Result Value Fault) [ Some t ↦ Ok (value_at t) | None ↦ cond (are_digits name x && nat_le 4 (length x) && nat_lt (length x) 40) (the_one name (begun_by name h x)) (Err fault.UnknownRef) ]) IsFreeValue
-      no_digits (Some t) k = k
-      no_digits None k = some_digits (are_digits name x && nat_le 4 (length x) && nat_lt (length x) 40)
-
-      whole_digits : (b : Bool) → IfOk (cond b (full_name name (begun_by name h x)) (elim (find_ref h x) as (λ _. Result Value Fault) [ Some t ↦ Ok (value_at t) | None ↦ cond (are_digits name x && nat_le 4 (length x) && nat_lt (length x) 40) (the_one name (begun_by name h x)) (Err fault.UnknownRef) ])) IsFreeValue
-      whole_digits true = full_free name (begun_by name h x) (begun_free x)
-      whole_digits false = no_digits (find_ref h x) (ref_free (ref_names x))
-
-  denoted_free : (r : Revision) → IfOk (value_denoted name h r) IsFreeValue
-  unfolding denoted
-  denoted_free r =
-      then_if ShowsFree IsFreeValue (denoted name h r) shown_value
-      (then_if IsFreeValue ShowsFree (base_value name h r.base) (λ v. and_then (all_suffixed v r.suffixes) (λ w. shown_at w r.path)) (base_free r.base)
-      (λ v k. then_if IsFreeValue ShowsFree (all_suffixed v r.suffixes) (λ w. shown_at w r.path) (all_suffixed_free v r.suffixes k) (λ w l. shown_free w r.path l)))
-      (λ s k. k)
+use Rattle.gx_model.proofs.NullGitlinks.{AreNotNull, IsFree, IsFreeValue, all_free, all_pass, copied_leaves, free_commits, free_files, free_list, free_parents, modified_leaves, none_null, renamed_leaves, then_if, with_one_free, with_tree_free}
 
 -- ---- states
 
@@ -177,6 +42,24 @@ pub record IsFreeState (s : State) : Type 0 where
   pub refs : AllByRecursion (λ ref. IsFreeValue (value_at ref.1)) s.history.refs
   pub marks : AllByRecursion (λ mark. IsFreeValue mark.1) s.marks
   pub branches : AllByRecursion (λ branch. IfSome branch.1 IsFree) s.branches
+
+free_value : (v : Value) → IsFreeValue v → OfCommit IsFree v
+free_value (blob_value x) h = tt
+free_value (tree_value f) h = tt
+free_value (commit_value c) h = h
+free_value (tag_value t) h = h
+
+free_elders : (c : Commit) → IsFree c → AllByRecursion IsFree (list_of (parents_of c))
+free_elders c h = free_list (parents_of c) (free_parents c h)
+
+-- so no commit that names give has one
+free_commits_of : (s : State) → IsFreeState s → IsStateOf IsFree s
+free_commits_of s h = record {
+  values = all_each IsFreeValue (OfCommit IsFree) free_value s.history.values h.values;
+  refs = all_each (λ ref. IsFreeValue (value_at ref.1)) (λ ref. OfCommit IsFree (value_at ref.1)) (λ ref. free_value (value_at ref.1)) s.history.refs h.refs;
+  marks = all_each (λ mark. IsFreeValue mark.1) (λ mark. OfCommit IsFree mark.1) (λ mark. free_value mark.1) s.marks h.marks;
+  branches = h.branches;
+}
 
 -- a replay that begins with a history of which no commit has one
 pub start_free : (h : History) → IsHistory h → HoldsNoNullGitlink h → IsFreeState (start h)
@@ -288,83 +171,27 @@ module _ (name : Kind → Bytes → Bytes) (read : Bytes → Result Revision Fau
   all_changed_free s f (c ∷ cs) h k l =
       then_if FilesFree FilesFree (changed name read s f c) (λ r. all_changed name read r.0 r.1 cs) (changed_free s f c h k l.0) (λ r both. all_changed_free r.0 r.1 cs both.0 both.1 l.1)
 
-  -- ---- a commit's parents
+  -- ---- commands
 
-  at_free : (s : State) (n : ℕ) → IsFreeState s → IfOk (at s n) IsFreeValue
-  at_free s n h = by (lookup (nat_eq n) s.marks) (found IsFreeValue (nat_eq n) s.marks h.marks)
-    where
-      by : (o : Option Value) → IfSome o IsFreeValue → IfOk (ok_or_mark o) IsFreeValue
-      by None k = tt
-      by (Some v) k = k
-
-  revision_free : (s : State) (x : Bytes) → IsFreeState s → IfOk (revision_value name read s x) IsFreeValue
-  revision_free s x h = by (read x)
-    where
-      by : (r : Result Revision Fault) → IfOk (and_then r (λ a. value_denoted name s.history a)) IsFreeValue
-      by (Ok a) = denoted_free name s.history h.values h.refs a
-      by (Err e) = tt
-
-  committed_free : (kind : Value → Result Commit Fault) → ((v : Value) → IsFreeValue v → IfOk (kind v) IsFree) → (s : State) (x : CommitIsh) → IsFreeState s → IfOk (committed name read kind s x) IsFree
-  committed_free kind keeps s (Marked n) h = then_if IsFreeValue IsFree (at s n) kind (at_free s n h) keeps
-  committed_free kind keeps s (Named x) h = by (lookup (same_bytes x) s.branches) (found (λ o. IfSome o IsFree) (same_bytes x) s.branches h.branches)
-    where
-      by : (o : Option (Option Commit)) → IfSome o (λ c. IfSome c IsFree) → IfOk (or_branch name read o (and_then (revision_value name read s x) kind)) IsFree
-      by None k = then_if IsFreeValue IsFree (revision_value name read s x) kind (revision_free s x h) keeps
-      by (Some None) k = tt
-      by (Some (Some c)) k = k
-
-  for_branch : (b : Bytes) (s : State) (x : CommitIsh) → IsFreeState s → IfOk (committed_for name read b s x) IsFree
-  for_branch b s x h =
-      elim (is_itself name read b x) as (λ t. IfOk (cond t (Err fault.FromItself) (committed name read commit_in s x)) IsFree) [
-        | true ↦ tt
-        | false ↦ committed_free commit_in commit_free s x h
-      ]
-
-  all_committed_free : (b : Bytes) (s : State) (xs : List CommitIsh) → IsFreeState s → IfOk (all_committed name read b s xs) (AllByRecursion IsFree)
-  all_committed_free b s [] h = tt
-  all_committed_free b s (x ∷ xs) h =
-      then_if IsFree (AllByRecursion IsFree) (committed_for name read b s x) (λ c. and_then (all_committed name read b s xs) (λ cs. Ok (c ∷ cs))) (for_branch b s x h)
-      (λ c k. then_if (AllByRecursion IsFree) (AllByRecursion IsFree) (all_committed name read b s xs) (λ cs. Ok (c ∷ cs)) (all_committed_free b s xs h) (λ cs l. (k, l)))
-
-  abbrev MayBeFree : Option Commit → Type 0
-  MayBeFree o = IfSome o IsFree
-
-  first_free : (s : State) (c : CommitParts) → IsFreeState s → IfOk (first_parent name read s c) MayBeFree
-  first_free s c h = by c.parent
-    where
-      own : (o : Option (Option Commit)) → IfSome o MayBeFree → IfSome (own_commit name read o) IsFree
-      own None k = tt
-      own (Some None) k = tt
-      own (Some (Some d)) k = k
-
-      by : (o : Option CommitIsh) → IfOk (elim o as (λ _. Result (Option Commit) Fault) [ None ↦ Ok (own_commit name read (lookup (same_bytes c.ref) s.branches)) | Some x ↦ and_then (committed_for name read c.ref s x) (λ p. Ok (Some p)) ]) MayBeFree
-      by None = own (lookup (same_bytes c.ref) s.branches) (found MayBeFree (same_bytes c.ref) s.branches h.branches)
-      by (Some x) = then_if IsFree MayBeFree (committed_for name read c.ref s x) (λ p. Ok (Some p)) (for_branch c.ref s x h) (λ p k. k)
-
-  starting_free : (o : Option Commit) → MayBeFree o → AreNotNull (starting_files name read o)
+  starting_free : (o : Option Commit) → MayBeOf IsFree o → AreNotNull (starting_files name read o)
   starting_free None h = tt
   starting_free (Some c) h = free_files c h
 
-  parents_free : (o : Option Commit) (cs : List Commit) → MayBeFree o → AllByRecursion IsFree cs → AllByRecursion IsFree (with_first_parent name read o cs)
-  parents_free None cs h k = k
-  parents_free (Some c) cs h k = (h, k)
-
-  -- ---- commands
-
   commit_step : (s : State) (c : CommitParts) → IsFreeState s → AllByRecursion GivesNoNullGitlink c.changes → IfOk (step_commit name read s c) IsFreeState
   commit_step s c h k =
-      then_if MayBeFree IsFreeState (first_parent name read s c) _ (first_free s c h)
-      (λ o first. then_if (AllByRecursion IsFree) IsFreeState (all_committed name read c.ref s c.merges) _ (all_committed_free c.ref s c.merges h)
+      let kept = free_commits_of s h in
+      then_if (MayBeOf IsFree) IsFreeState (first_parent name read s c) _ (first_kept IsFree free_elders name read s c kept)
+      (λ o first. then_if (AllByRecursion IsFree) IsFreeState (all_committed name read c.ref s c.merges) _ (all_committed_kept IsFree free_elders name read c.ref s c.merges kept)
       (λ cs others. then_if FilesFree IsFreeState (all_changed name read s (starting_files name read o) c.changes) _ (all_changed_free s (starting_files name read o) c.changes h (starting_free o first) k)
       (λ r both.
       let made = commit r.1 (commits_of (with_first_parent name read o cs)) (text_made name read c) in
-      let free : IsFree made = (both.1, free_commits (with_first_parent name read o cs) (parents_free o cs first others)) in
+      let free : IsFree made = (both.1, free_commits (with_first_parent name read o cs) (with_first_kept IsFree free_elders name read o cs first others)) in
       on_branch_free c.ref (Some made) (marked c.mark (commit_value made) (added (commit_value made) r.0))
       (marked_free c.mark (commit_value made) (added (commit_value made) r.0) (added_free (commit_value made) r.0 both.0 free) free) free)))
 
   tag_step : (s : State) (t : TagParts) → IsFreeState s → IfOk (step_tag name read s t) IsFreeState
   tag_step s t h =
-      then_if IsFree IsFreeState (committed name read commit_alone s t.target) _ (committed_free commit_alone alone_free s t.target h)
+      then_if IsFree IsFreeState (committed name read commit_alone s t.target) _ (committed_kept IsFree free_elders name read commit_alone (alone_kept IsFree) s t.target (free_commits_of s h))
       (λ c k.
       let made : Tag = record { target = c; name = t.name; tagger = t.tagger; message = t.message } in
       let free = marked_free t.mark (tag_value made) (added (tag_value made) s) (added_free (tag_value made) s h k) k in
@@ -372,7 +199,8 @@ module _ (name : Kind → Bytes → Bytes) (read : Bytes → Result Revision Fau
 
   reset_step : (s : State) (b : Bytes) (o : Option CommitIsh) → IsFreeState s → IfOk (step_reset name read s b o) IsFreeState
   reset_step s b None h = on_branch_free b None s h tt
-  reset_step s b (Some x) h = then_if IsFree IsFreeState (committed_for name read b s x) _ (for_branch b s x h) (λ c k. on_branch_free b (Some c) s h k)
+  reset_step s b (Some x) h =
+      then_if IsFree IsFreeState (committed_for name read b s x) _ (for_branch IsFree free_elders name read b s x (free_commits_of s h)) (λ c k. on_branch_free b (Some c) s h k)
 
   pub step_free : (s : State) (c : Command) → IsFreeState s → BringsNoNullGitlink c → IfOk (step name read s c) IsFreeState
   step_free s (Blob b) h k = marked_free b.mark (blob_value b.bytes) (added (blob_value b.bytes) s) (added_free (blob_value b.bytes) s h tt) tt

@@ -20,6 +20,13 @@ use Rattle.gx_model.specs.Commands.{CommitIsh, CommitParts, Marked, Named}
 use Rattle.gx_model.specs.Replay.{State, all_committed, at, commit_alone, committed, committed_for, first_parent, is_itself, ok_or_mark, or_branch, own_commit, revision_value, with_first_parent}
 use Rattle.gx_model.proofs.NullGitlinks.{all_pass, found, then_if}
 
+-- ---- lists
+
+module _ {X : Type 0} (P Q : X → Type 0) (f : (x : X) → P x → Q x) where
+  pub all_each : (xs : List X) → AllByRecursion P xs → AllByRecursion Q xs
+  all_each [] h = tt
+  all_each (x ∷ xs) h = (f x h.0, all_each xs h.1)
+
 -- ---- what names, refs and digits give
 
 module _ (Q : Value → Type 0) where

@@ -42,15 +42,10 @@ use Rattle.gx_model.proofs.LinkedValues.{parts_in, proper_in}
 use Rattle.gx_model.proofs.KeptCommits.{each_in}
 use Rattle.gx_model.proofs.SortedRefs.{order, same_text}
 use Rattle.gx_model.proofs.NullGitlinks.{all_pass, copied_leaves, found, modified_leaves, renamed_leaves, then_if}
-use Rattle.gx_model.proofs.GivenCommits.{IsStateOf, MayBeOf, OfCommit, all_committed_kept, alone_kept, base_kept, committed_kept, first_kept, for_branch, with_first_kept}
+use Rattle.gx_model.proofs.GivenCommits.{IsStateOf, MayBeOf, OfCommit, all_committed_kept, all_each, alone_kept, base_kept, committed_kept, first_kept, for_branch, with_first_kept}
 use Rattle.gx_model.proofs.ReadCommands.{all_proper}
 
 -- ---- lists
-
-module _ {X : Type 0} (P Q : X → Type 0) (f : (x : X) → P x → Q x) where
-  all_each : (xs : List X) → AllByRecursion P xs → AllByRecursion Q xs
-  all_each [] h = tt
-  all_each (x ∷ xs) h = (f x h.0, all_each xs h.1)
 
 -- an entry put among others under its name
 put_each : {X : Type 0} (P : Bytes × X → Type 0) (n : Bytes) (x : X) (es : List (Bytes × X)) → P (n, x) → AllByRecursion P es → AllByRecursion P (put byte_cmp n x es)

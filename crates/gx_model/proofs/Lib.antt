@@ -74,6 +74,7 @@ pub mod FilesByName
 pub mod ChangedRefs
 pub mod NullGitlinks
 pub mod ReadGitlinks
+pub mod GivenCommits
 pub mod GitlinkSteps
 pub mod WordShapes
 pub mod TextShapes
@@ -81,7 +82,6 @@ pub mod PathShapes
 pub mod PartShapes
 pub mod ChangeShapes
 pub mod CommandReadings
-pub mod GivenCommits
 pub mod ReadCommands
 pub mod HistorySteps
 pub mod RefusedExports

@@ -4,7 +4,7 @@ ghost use Rattle.gx_model.specs.Histories.{IsHistory};
 ghost use Rattle.gx_model.specs.ProperReplays.{ReplaysGiveHistories, StreamsAreProper, TextsGiveHistories};
 
 /// The commands that a stream has are proper: their ref names, tag names, identities, encodings, new paths and gitlink digits
-/// have their forms.
+/// have their forms. Source: git-fast-import(1), "Commands".
 #[tactic(auto, using(crate::proofs::ReadCommands::all_proper))]
 pub fn streams_are_proper()
     ensures { StreamsAreProper }

@@ -35,7 +35,7 @@ abbrev ending : Bytes → Coming
 ending bytes = record { bytes = bytes; fails = false }
 
 -- a source that is heard to its end gave no more than is heard
-heard_short : (room : ℕ) (c : Coming) (bytes : Bytes) → heard_upto room c ≡ ending bytes → length bytes ≤ room
+pub heard_short : (room : ℕ) (c : Coming) (bytes : Bytes) → heard_upto room c ≡ ending bytes → length bytes ≤ room
 unfolding heard_upto
 heard_short room c bytes e =
     elim (nat_le (length c.bytes) room) as (λ b. nat_le (length c.bytes) room ≡ b → cond b c (record { bytes = take room c.bytes; fails = true }) ≡ ending bytes → length bytes ≤ room) [

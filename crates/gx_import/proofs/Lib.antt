@@ -39,5 +39,6 @@ pub mod MadeCommits
 pub mod CommitRuns
 pub mod NoClashes
 pub mod ExportedAgain
+pub mod RefusedExports
 pub mod LoadFaults
 pub mod TipHomes

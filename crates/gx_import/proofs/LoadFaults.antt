@@ -1,8 +1,6 @@
 -- Why a commit's files aren't loaded.
 use Rattle.std.proofs.Common.{◌≡◌, refl, Ok}
-use Rattle.gx_model.specs.Texts.{Bytes}
 use Rattle.gx_model.specs.Faults.{IsFaultOf}
-use Rattle.gx_model.specs.Files.{FileMap}
 use Rattle.gx_tree.specs.Faults as tree_faults
 use Rattle.gx_tree.specs.declared.fault.TreeFault.{TreeFault}
 use Rattle.gx_tree.specs.declared.fault.TreeFault.TheVariants as tree

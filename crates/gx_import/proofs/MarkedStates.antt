@@ -9,7 +9,6 @@ use Rattle.gx_model.specs.declared.objects.Kind.{Kind}
 use Rattle.gx_model.specs.declared.objects.Kind.TheVariants as kinds
 use Rattle.gx_model.specs.Texts.{Bytes}
 use Rattle.gx_model.specs.RefNames.{is_ref_name, tag_ref}
-use Rattle.gx_model.specs.Files.{FileMap}
 use Rattle.gx_model.specs.Values.{Commit, Tag, Value, commit_value, files_of, tag_value}
 use Rattle.gx_model.specs.Records.{name_of, named_map}
 use Rattle.gx_model.specs.Histories.{IsIn, Records}

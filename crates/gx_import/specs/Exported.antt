@@ -13,7 +13,7 @@ use Rattle.gx_model.specs.Gitlinks.{HoldsNoNullGitlink}
 use Rattle.gx_text.specs.Devices.{Coming}
 use Rattle.gx_stream.specs.Heard.{heard}
 use Rattle.gx_import.specs.declared.fault.ImportFault.{ImportFault}
-use Rattle.gx_import.specs.declared.fault.ImportKind.TheVariants.{OutOfMemory, WriteFailed}
+use Rattle.gx_import.specs.declared.fault.ImportKind.TheVariants.{NameHeld, OutOfMemory, Unsupported, WriteFailed}
 use Rattle.gx_import.specs.declared.report.Report.{Report}
 
 -- a repository without objects and refs
@@ -47,3 +47,14 @@ abbrev pub ImportsExport : (Kind → Bytes → Bytes) → Records → Records �
 ImportsExport name old new None result = ⊤
 ImportsExport name old new (Some coming) result =
     (exported : Records) → IsSound name exported → HasNoNullGitlink (history_of exported) → GivesExport exported coming → old ≡ nothing → ExportedOr exported new result
+
+-- refused as not supported, or memory ran out, the sink of progress texts failed, or a value had the name of another one
+abbrev pub UnsupportedOr : Result Report ImportFault → Type 0
+UnsupportedOr (Ok report) = ⊥
+UnsupportedOr (Err fault) = (fault.kind ≡ Unsupported) ⊎ ((fault.kind ≡ OutOfMemory) ⊎ ((fault.kind ≡ WriteFailed) ⊎ (fault.kind ≡ NameHeld)))
+
+-- Where refs of a sound repository under this namer reach a gitlink of forty zeros, an empty one refuses its export.
+abbrev pub RefusesNullGitlink : (Kind → Bytes → Bytes) → Records → Option Coming → Result Report ImportFault → Type 0
+RefusesNullGitlink name old None result = ⊤
+RefusesNullGitlink name old (Some coming) result =
+    (exported : Records) → IsSound name exported → (HasNoNullGitlink (history_of exported) → ⊥) → GivesExport exported coming → old ≡ nothing → UnsupportedOr result

@@ -7,7 +7,6 @@ use Rattle.gx_model.specs.declared.objects.Kind.{Kind}
 use Rattle.gx_model.specs.declared.objects.Mode.{Mode}
 use Rattle.gx_model.specs.Texts.{Bytes, same_bytes}
 use Rattle.gx_model.specs.RefNames.{is_ref_name, tag_ref}
-use Rattle.gx_model.specs.Files.{FileMap}
 use Rattle.gx_model.specs.Values.{Commit, Value, blob_of, files_of, is_leaf}
 use Rattle.gx_model.specs.Records.{content_name, named_map}
 use Rattle.gx_model.specs.Histories.{IsIn, Record, Records}

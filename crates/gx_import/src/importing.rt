@@ -1,7 +1,7 @@
 //! Imports of whole streams. Source: git-fast-import(1).
 
 ghost use Rattle.std.specs.Prelude.{◌≡◌, OnErr, OnOk};
-ghost use Rattle.gx_import.specs.Exported.{ImportsExport, KeepsNoNullGitlink};
+ghost use Rattle.gx_import.specs.Exported.{ImportsExport, KeepsNoNullGitlink, RefusesNullGitlink};
 ghost use Rattle.gx_import.specs.Imports.{Imports, StandsReplayed};
 ghost use Rattle.gx_import.specs.Standing.{Extends};
 
@@ -10,6 +10,7 @@ use crate::replay::replay;
 use crate::tables::Tables;
 use crate::{ImportFault, Report};
 use gx_model::export_laws::{exports_are_imported, exports_are_readable};
+use gx_model::gitlink_laws::nulls_are_refused;
 use gx_model::repository_laws::{histories_of_records, names_tell_values};
 use gx_object::Namer;
 use gx_repo::Repo;
@@ -25,7 +26,8 @@ use std::alloc::Allocator;
 /// Errors: those of `ImportKind`, each with its causes there, with the number of the command. After a fault the
 /// repository is as it was: its objects and its refs. What went to the sink stays there.
 ///
-/// No commit that it makes has a submodule of forty zeros, which an export couldn't bring back.
+/// No commit that it makes has a submodule of forty zeros, which an export couldn't bring back: a stream that names one is
+/// refused, and so is the export of a store that holds one below a ref.
 ///
 /// Cost: each command's bytes; for a commit the directories on its changed paths, and once for a branch the size of the
 /// tree that it starts from; and for each object to be put or found a look-up. Memory: the objects, the marks,
@@ -42,9 +44,11 @@ pub fn import<N: Namer, A: Allocator + Copy, R: Source + Drop, W: Sink>(
     ensures unchanged { OnErr result (repo.new ≡ repo.old) }
     ensures exported { ImportsExport (N.name_of repo.old.0) repo.old.1 repo.new.1 (R.coming source) result }
     ensures gitlinks { KeepsNoNullGitlink repo.old.1 repo.new.1 }
+    ensures nulls { RefusesNullGitlink (N.name_of repo.old.0) repo.old.1 (R.coming source) result }
 {
     histories_of_records();
     names_tell_values();
+    nulls_are_refused();
     exports_are_readable();
     exports_are_imported();
     repo.sound();

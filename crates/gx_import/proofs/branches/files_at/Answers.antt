@@ -1,9 +1,7 @@
-use Rattle.std.proofs.Common.{◌≡◌, ◌<◌, Some, get_or, length, map, sym, ap, ◌∙◌}
+use Rattle.std.proofs.Common.{◌≡◌, ◌<◌, Some, get_or, length, sym, ap, ◌∙◌}
 use Rattle.std.specs.Bool.{passes}
 use Rattle.std.specs.Cmp.{tied_itself}
 use Rattle.std.specs.Cmp.Lexicographic.{nat_list_cmp_total}
-use Rattle.std.specs.Map.{lookup}
-use Rattle.gx_model.specs.Texts.{same_bytes}
 use Rattle.gx_model.specs.Replay.{byte_cmp}
 use Rattle.gx_import.specs.Rows.{row_of}
 use Rattle.gx_import.proofs.SortedRows.{found_at}

@@ -1,6 +1,4 @@
-use Rattle.std.proofs.Common.{◌≡◌, refl, subst}
-use Rattle.std.specs.Prelude.{IfOk}
-use Rattle.gx_model.specs.Records.{named_map}
+use Rattle.std.proofs.Common.{refl}
 use Rattle.gx_import.specs.Rows.{rows_of}
 use Rattle.gx_import.proofs.TipHomes.{homes_taken, taken_home}
 use Rattle.gx_import.proofs.Parents.{taken_files, taken_stands}

@@ -1,9 +1,10 @@
-use Rattle.std.proofs.Common.{length, sym, ap, subst, ◌∙◌}
+use Rattle.std.proofs.Common.{Ok, Err, length, sym, ap, subst, ◌∙◌}
 use Rattle.gx_model.specs.Gitlinks.{HoldsNoNullGitlink}
 use Rattle.gx_model.specs.Histories.{Records}
 use Rattle.gx_model.specs.HistoryOf.{history_of}
 use Rattle.gx_model.specs.Sound.{IsSound}
 use Rattle.gx_import.proofs.ExportedAgain.{accepted, stopped}
+use Rattle.gx_import.proofs.RefusedExports.{null_refused}
 use Rattle.gx_import.proofs.Publications.{as_before, imports_fault, stands_replayed, targets_stay}
 use Rattle.gx_import.proofs.importing.import.Goals as goal
 
@@ -54,3 +55,15 @@ returns-in-Err-clause-gitlinks g c = λ none.
     let held = c.len-held.ensures.count ∙ ap (λ z. length z.1) c.store.ensures in
     let same = as_before c.args.repo.now.0 c.replay_and_publish.new.repo.0 c.args.repo.now.1 c.replay_and_publish.new.repo.1 c.len-held.result c.truncate.new.self c.truncate.ensures held c.replay_and_publish.ensures.extends c.replay_and_publish.ensures.namer c.in-Err.ensures.unpublished in
     subst (λ (r : g.row.N.Denot × Records). HoldsNoNullGitlink (history_of r.1)) (sym same) none
+
+pub returns-in-Ok-clause-nulls : goal.returns-in-Ok-clause-nulls
+returns-in-Ok-clause-nulls g c =
+    let name = g.N.Namer.name_of c.args.repo.now.0 in
+    null_refused name (c.histories_of_records.ensures name (g.met.N.Namer.is_namer c.args.repo.now.0)) c.nulls_are_refused.ensures c.args.repo.now.1 c.replay_and_publish.new.repo.1
+    (g.R.Source.coming c.args.source) (g.W.Sink.taken c.args.sink.now) (g.W.Sink.taken c.replay_and_publish.new.sink) (Ok c.in-Ok.report) c.in-Ok.ensures.replayed
+
+pub returns-in-Err-clause-nulls : goal.returns-in-Err-clause-nulls
+returns-in-Err-clause-nulls g c =
+    let name = g.N.Namer.name_of c.args.repo.now.0 in
+    null_refused name (c.histories_of_records.ensures name (g.met.N.Namer.is_namer c.args.repo.now.0)) c.nulls_are_refused.ensures c.args.repo.now.1 c.replay_and_publish.new.repo.1
+    (g.R.Source.coming c.args.source) (g.W.Sink.taken c.args.sink.now) (g.W.Sink.taken c.replay_and_publish.new.sink) (Err c.in-Err.fault) c.in-Err.ensures.replayed

@@ -1,0 +1,85 @@
+-- The text of an export that names a gitlink of forty zeros, imported into nothing: refused.
+use Rattle.std.proofs.Common.{◌≡◌, ℕ, ◌-◌, ◌^◌, Option, Some, None, Result, Ok, Err, [], refl, sym, ap, ◌∙◌, inl, inr, arith}
+use Rattle.gx_model.specs.declared.faults.Fault.TheVariants as model
+use Rattle.gx_model.specs.declared.objects.Kind.{Kind}
+use Rattle.gx_model.specs.Texts.{Bytes}
+use Rattle.gx_model.specs.Histories.{Records}
+use Rattle.gx_model.specs.HistoryOf.{history_of}
+use Rattle.gx_model.specs.Revisions.{revision_of}
+use Rattle.gx_model.specs.Replay.{refused, imported, replayed_commands, replayed_text}
+use Rattle.gx_model.specs.Export.{export_text}
+use Rattle.gx_model.specs.Gitlinks.{NullGitlinksAreRefused}
+use Rattle.gx_model.specs.RepositoryLaws.{HistoriesOf}
+use Rattle.gx_text.specs.Devices.{Coming, Taken}
+use Rattle.gx_stream.specs.Heard.{heard}
+use Rattle.gx_command.specs.Reading.{commands_from}
+use Rattle.gx_import.specs.Exported.{RefusesNullGitlink, UnsupportedOr, nothing}
+use Rattle.gx_import.specs.ImportKinds.{fault_of}
+use Rattle.gx_import.specs.Imports.{Imports}
+use Rattle.gx_import.specs.declared.fault.ImportFault.{ImportFault}
+use Rattle.gx_import.specs.declared.fault.ImportKind.{ImportKind}
+use Rattle.gx_import.specs.declared.fault.ImportKind.TheVariants.{OutOfMemory, ReadFailed, WriteFailed, UnknownCommand, BadLine, BadNumber, TruncatedData, BadPath, PathTooLong, BadMode, BadIdent, BadRefName, UnknownMark, WrongKind, UnknownObject, NoSuchPath, RootNotTree, FromItself, EmptyBranch, Unsupported, LateOption, MissingDone, NotFastForward, NameHeld, BadRevision, UnknownRef, Ambiguous, NoParent}
+use Rattle.gx_import.specs.declared.report.Report.{Report}
+use Rattle.gx_import.proofs.ExportedAgain.{heard_short}
+use Rattle.gx_import.proofs.ReachedStates.{imported_is}
+
+-- one kind alone is the model's
+is_unsupported : (kind : ImportKind) → fault_of kind ≡ model.Unsupported → kind ≡ Unsupported
+is_unsupported OutOfMemory e = absurd (cc e)
+is_unsupported ReadFailed e = absurd (cc e)
+is_unsupported WriteFailed e = absurd (cc e)
+is_unsupported UnknownCommand e = absurd (cc e)
+is_unsupported BadLine e = absurd (cc e)
+is_unsupported BadNumber e = absurd (cc e)
+is_unsupported TruncatedData e = absurd (cc e)
+is_unsupported BadPath e = absurd (cc e)
+is_unsupported PathTooLong e = absurd (cc e)
+is_unsupported BadMode e = absurd (cc e)
+is_unsupported BadIdent e = absurd (cc e)
+is_unsupported BadRefName e = absurd (cc e)
+is_unsupported UnknownMark e = absurd (cc e)
+is_unsupported WrongKind e = absurd (cc e)
+is_unsupported UnknownObject e = absurd (cc e)
+is_unsupported NoSuchPath e = absurd (cc e)
+is_unsupported RootNotTree e = absurd (cc e)
+is_unsupported FromItself e = absurd (cc e)
+is_unsupported EmptyBranch e = absurd (cc e)
+is_unsupported Unsupported e = refl
+is_unsupported LateOption e = absurd (cc e)
+is_unsupported MissingDone e = absurd (cc e)
+is_unsupported NotFastForward e = absurd (cc e)
+is_unsupported NameHeld e = absurd (cc e)
+is_unsupported BadRevision e = absurd (cc e)
+is_unsupported UnknownRef e = absurd (cc e)
+is_unsupported Ambiguous e = absurd (cc e)
+is_unsupported NoParent e = absurd (cc e)
+
+module _ (name : Kind → Bytes → Bytes) where
+  -- an outcome that is a refusal
+  answered : (old new : Records) (coming : Coming) (was now : Option Taken) (number : ℕ) (result : Result Report ImportFault)
+      → imported name (history_of old) (heard coming).bytes (heard coming).fails ≡ refused number model.Unsupported []
+      → Imports name old new (Some coming) was now result → UnsupportedOr result
+  answered old new coming was now number (Ok report) e h = absurd (cc (sym h.1 ∙ e))
+  answered old new coming was now number (Err fault) e (inl r) =
+      let same : refused fault.command (fault_of fault.kind) r.0 ≡ refused number model.Unsupported [] = sym r.1 ∙ e in
+      inl (is_unsupported fault.kind (cc same))
+  answered old new coming was now number (Err fault) e (inr k) = elim k.2 as (λ _. UnsupportedOr (Err fault)) [
+    | inl m ↦ inr (inl m.0)
+    | inr l ↦ elim l as (λ _. UnsupportedOr (Err fault)) [
+      | inl m ↦ inr (inr (inr m.0))
+      | inr m ↦ inr (inr (inl m.0))
+    ]
+  ]
+
+  pub null_refused : HistoriesOf name → NullGitlinksAreRefused → (old new : Records) (coming : Option Coming) (was now : Option Taken) (result : Result Report ImportFault)
+      → Imports name old new coming was now result → RefusesNullGitlink name old coming result
+  null_refused histories nulls old new None was now result h = tt
+  null_refused histories nulls old new (Some coming) was now result h = λ exported sound links gives empty.
+      let text = export_text (history_of exported) in
+      let room = heard_short (2 ^ 63 - 1) coming text gives in
+      let q = nulls name revision_of (history_of exported) (histories.stands exported sound).history links (omega (arith, room)) in
+      let same : imported name (history_of old) (heard coming).bytes (heard coming).fails ≡ replayed_commands name revision_of (history_of nothing) (commands_from coming) =
+      imported_is name (history_of old) coming ∙ ap (λ r. replayed_commands name revision_of (history_of r) (commands_from coming)) empty in
+      let known : replayed_commands name revision_of (history_of nothing) (commands_from coming) ≡ refused q.0 model.Unsupported [] =
+      (λ i. replayed_text name revision_of (history_of nothing) (gives i).bytes (gives i).fails) ∙ q.1 in
+      answered old new coming was now q.0 result (same ∙ known) h

@@ -1,5 +1,5 @@
 -- An export in memory, and its import into an empty store.
-use Rattle.std.proofs.Common.{◌≡◌, ◌≤◌, ◌<◌, ℕ, Bool, true, false, refl, sym, ap, subst, ◌∙◌, arith, inl, inr, List, [], ◌++◌, length, length-append, Option, None, Some, Result, Ok, Err}
+use Rattle.std.proofs.Common.{◌≡◌, ◌≤◌, ◌<◌, ℕ, Bool, true, false, refl, sym, ap, subst, ◌∙◌, arith, inl, inr, [], length, length-append, Option, None, Some, Result, Ok, Err}
 use Rattle.std.proofs.lemmas.Bool.{false≢true}
 use Rattle.std.proofs.lemmas.Bool.Decides.{nat_tests}
 use Rattle.gx_model.specs.declared.objects.Kind.{Kind}
@@ -11,7 +11,7 @@ use Rattle.gx_model.specs.Export.{export_text}
 use Rattle.gx_model.specs.Gitlinks.{HoldsNoNullGitlink, HoldsTellsHas}
 use Rattle.gx_text.specs.Devices.{Coming, Taken}
 use Rattle.gx_stream.specs.Heard.{heard_upto}
-use Rattle.gx_import.specs.Exported.{ExportedOr, GivesExport, ImportsExport, IsExported, KeepsNoNullGitlink, nothing}
+use Rattle.gx_import.specs.Exported.{ExportedOr, ImportsExport, IsExported, KeepsNoNullGitlink, nothing}
 use Rattle.gx_import.specs.Imports.{Imports, report_of}
 use Rattle.gx_import.specs.declared.report.Report.{Report}
 use Rattle.gx_import.specs.declared.fault.ImportFault.{ImportFault}
@@ -84,7 +84,7 @@ module _ {N : Type 0} (name_of : N → Kind → Bytes → Bytes) (namer : N) (ol
   trip_refused A coming new fault h = by coming (from_nothing name_of namer old new coming was now (Err fault) empty h)
     where
       by : (c : Option Coming) → Imports (name_of namer) nothing new c was now (Err fault) → RoundTrips (name_of namer) {N = N} {A = A} c was now (Err (Import fault))
-      by None k = tt
+      by None k = k
       by (Some c) k = k
 
   -- there was no memory for the export, or it is too long
@@ -92,7 +92,9 @@ module _ {N : Type 0} (name_of : N → Kind → Bytes → Bytes) (namer : N) (ol
   trip_stopped A coming new report fault h stops = by coming fault (from_nothing name_of namer old new coming was now (Ok report) empty h) stops
     where
       by : (c : Option Coming) (f : CliFault) → Imports (name_of namer) nothing new c was now (Ok report) → ExportsText {A = A} (history_of new) (Err f) → RoundTrips (name_of namer) {N = N} {A = A} c was now (Err f)
-      by None f k s = tt
+      by None OutOfMemory k s = (k.0, k.1, (history_of new, report_of report, k.2))
+      by None (Export f) k s = (k.0, k.1, (history_of new, report_of report, k.2, s))
+      by None f k s = absurd s
       by (Some c) OutOfMemory k s = (history_of new, report_of report, k)
       by (Some c) (Export f) k s = (history_of new, report_of report, k, s)
       by (Some c) f k s = absurd s
@@ -111,5 +113,5 @@ module _ {N : Type 0} (name_of : N → Kind → Bytes → Bytes) (namer : N) (ol
       }
 
       by : (c : Option Coming) → Imports (name_of namer) nothing trip.first.1 c was now (Ok trip.report) → RoundTrips (name_of namer) {N = N} {A = A} c was now (Ok trip)
-      by None k = back
+      by None k = (k.0, k.1, (history_of trip.first.1, k.2, back))
       by (Some c) k = (history_of trip.first.1, k, back)

@@ -9,7 +9,8 @@ use Rattle.gx_model.specs.HistoryOf.{history_of}
 use Rattle.gx_model.specs.Replay.{Outcome}
 use Rattle.gx_text.specs.Devices.{Coming, Taken, Took}
 use Rattle.gx_command.specs.Reading.{commands_from}
-use Rattle.gx_import.specs.Imports.{Imports}
+use Rattle.gx_import.specs.Imports.{Imports, report_of}
+use Rattle.gx_import.specs.declared.report.Report.{Report}
 use Rattle.gx_import.specs.declared.fault.ImportFault.{ImportFault}
 use Rattle.gx_cli.specs.Listings.{text_of_word}
 use Rattle.gx_import.specs.Exported.{nothing}
@@ -25,8 +26,17 @@ pub refused_alone : {N : Type 0} (name_of : N → Kind → Bytes → Bytes) (nam
 refused_alone {N} name_of namer old new coming was now fault e h = by coming (subst (λ (o : N × Records). Imports (name_of o.0) o.1 new coming was now (Err fault)) e h)
   where
     by : (c : Option Coming) → Imports (name_of namer) nothing new c was now (Err fault) → ImportsAlone (name_of namer) {N = N} c was now (Err fault)
-    by None k = tt
+    by None k = k
     by (Some c) k = k
+
+-- an import into a repository with nothing, where it is accepted
+pub accepted_alone : {N : Type 0} (name_of : N → Kind → Bytes → Bytes) (namer : N) (old new : N × Records) (coming : Option Coming) (was now : Option Taken) (report : Report) → old ≡ (namer, nothing)
+    → Imports (name_of old.0) old.1 new.1 coming was now (Ok report) → ImportsAlone (name_of namer) {N = N} coming was now (Ok new)
+accepted_alone {N} name_of namer old new coming was now report e h = by coming (subst (λ (o : N × Records). Imports (name_of o.0) o.1 new.1 coming was now (Ok report)) e h)
+  where
+    by : (c : Option Coming) → Imports (name_of namer) nothing new.1 c was now (Ok report) → ImportsAlone (name_of namer) {N = N} c was now (Ok new)
+    by None k = (k.0, k.1, (k.2.0, (report_of report, k.2.1), k.2.2))
+    by (Some c) k = (k.0, (report_of report, k.1), k.2)
 
 -- nothing more went out
 took_none : (was mid now : Option Taken) (before : Bytes) → Took was mid before → Took mid now [] → Took was now before
@@ -53,5 +63,5 @@ module _ (name : Kind → Bytes → Bytes) {N : Type 0} (repository : N × Recor
   -- the import was accepted, and then the word was shown
   pub tried : (coming : Option Coming) (answer : Result (Unit {0}) CliFault) → ImportsAlone name {N = N} coming was mid (Ok repository)
       → Shows [] (text_of_word name (history_of repository.1) word) mid now answer → Tries name coming word was now answer
-  tried None answer h k = tt
+  tried None answer h k = (h.0, h.1, replay_shown h.0 _ answer h.2 k)
   tried (Some c) answer h k = replay_shown (commands_from c) _ answer h k

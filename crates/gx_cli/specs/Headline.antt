@@ -1,6 +1,6 @@
 -- The headline: what comes of a stream that is imported into an empty store, exported, and imported into another one.
 -- Source: git-fast-import(1) and git-fast-export(1).
-use Rattle.std.specs.Prelude.{◌≡◌, ◌⊎◌, ℕ, ◌<◌, ◌≤◌, length, Option, Some, None, Result, Ok, Err, IfOk, ⊤}
+use Rattle.std.specs.Prelude.{◌≡◌, ◌⊎◌, ℕ, ◌<◌, ◌≤◌, length, Option, Some, None, Result, Ok, Err, ⊤}
 use Rattle.std.specs.declared.vec.Vec.{Vec}
 use Rattle.gx_model.specs.declared.objects.Kind.{Kind}
 use Rattle.gx_model.specs.declared.objects.Mode.{Mode}
@@ -17,8 +17,8 @@ use Rattle.gx_model.specs.Export.{export_text}
 use Rattle.gx_text.specs.Devices.{Coming, Taken, Took}
 use Rattle.gx_stream.specs.Heard.{heard}
 use Rattle.gx_command.specs.Reading.{commands_from}
-use Rattle.gx_import.specs.Exported.{IsExported}
-use Rattle.gx_import.specs.Imports.{report_of}
+use Rattle.gx_import.specs.Exported.{IsExported, nothing}
+use Rattle.gx_import.specs.Imports.{AreRead, replayed_on, report_of}
 use Rattle.gx_import.specs.declared.fault.ImportFault.{ImportFault}
 use Rattle.gx_import.specs.declared.fault.ImportKind.TheVariants as kind
 use Rattle.gx_export.specs.Outputs.{most}
@@ -66,8 +66,8 @@ module _ (name : Kind → Bytes → Bytes) {N A : Type 0} where
       (h : History) × (report : model.Report) × Accepts replay was now h report × (most < length (export_text h))
   ComesBackFrom commands replay was now (Err fault) = ⊥
 
-  -- the same of a stream, where the source tells its bytes; of any stream, what the first repository stands for comes back
+  -- The same of the commands of a source. Where it tells nothing, there are commands that a reader gives.
   abbrev pub RoundTrips : Option Coming → Option Taken → Option Taken → Result (RoundTrip N A) CliFault → Type 0
-  RoundTrips None was now answer = IfOk answer (λ trip. ComesBack (history_of trip.first.1) trip)
+  RoundTrips None was now answer = (commands : Commands) × AreRead commands × ComesBackFrom commands (replayed_on name nothing commands) was now answer
   RoundTrips (Some coming) was now answer =
       ComesBackFrom (commands_from coming) (imported name no_history (heard coming).bytes (heard coming).fails) was now answer

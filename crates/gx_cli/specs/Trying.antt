@@ -21,7 +21,7 @@ use Rattle.gx_command.specs.Reading.{commands_from}
 use Rattle.gx_rev.specs.Answers.{seen_file}
 use Rattle.gx_rev.specs.RevFaults.{fault_of}
 use Rattle.gx_import.specs.Exported.{nothing}
-use Rattle.gx_import.specs.Imports.{Replays}
+use Rattle.gx_import.specs.Imports.{AreRead, Replays, replayed_on}
 use Rattle.gx_import.specs.declared.fault.ImportFault.{ImportFault}
 use Rattle.gx_cli.specs.Listings.{text_of_word}
 use Rattle.gx_cli.specs.declared.fault.CliFault.{CliFault}
@@ -66,9 +66,9 @@ module _ (name : Kind → Bytes → Bytes) where
   ShowsReplayed commands outcome word was now (Err (Import fault)) = Refuses commands outcome was now fault
   ShowsReplayed commands outcome word was now answer = (h : History) × (text : Bytes) × Replayed outcome h text × Shows text (text_of_word name h word) was now answer
 
-  -- the same, where the source tells its bytes
+  -- The same of the commands of a source. Where it tells nothing, there are commands that a reader gives.
   abbrev pub Tries : Option Coming → Bytes → Option Taken → Option Taken → Result (Unit {0}) CliFault → Type 0
-  Tries None word was now answer = ⊤
+  Tries None word was now answer = (commands : Commands) × AreRead commands × ShowsReplayed commands (replayed_on name nothing commands) word was now answer
   Tries (Some coming) word was now answer = ShowsReplayed (commands_from coming) (imported name no_history (heard coming).bytes (heard coming).fails) word was now answer
 
   -- an import into an empty store is accepted as the replay is, with its history and its progress text, or refused
@@ -76,9 +76,9 @@ module _ (name : Kind → Bytes → Bytes) where
   StandsAlone commands outcome was now (Ok repository) = (text : Bytes) × Replayed outcome (history_of repository.1) text × Took was now text
   StandsAlone commands outcome was now (Err fault) = Refuses commands outcome was now fault
 
-  -- the same, where the source tells its bytes
+  -- The same of the commands of a source. Where it tells nothing, there are commands that a reader gives.
   abbrev pub ImportsAlone : {N : Type 0} → Option Coming → Option Taken → Option Taken → Result (N × Records) ImportFault → Type 0
-  ImportsAlone None was now answer = ⊤
+  ImportsAlone None was now answer = (commands : Commands) × AreRead commands × StandsAlone commands (replayed_on name nothing commands) was now answer
   ImportsAlone (Some coming) was now answer = StandsAlone (commands_from coming) (imported name no_history (heard coming).bytes (heard coming).fails) was now answer
 
   -- what is looked up is what the replay's history has, once the replay is accepted
@@ -86,7 +86,7 @@ module _ (name : Kind → Bytes → Bytes) where
   LooksReplayed commands outcome was now revision path (Err (Import fault)) = Refuses commands outcome was now fault
   LooksReplayed commands outcome was now revision path answer = (h : History) × (text : Bytes) × Replayed outcome h text × Took was now text × LooksAs (looked_up name h revision path) answer
 
-  -- the same, where the source tells its bytes
+  -- The same of the commands of a source. Where it tells nothing, there are commands that a reader gives.
   abbrev pub LooksUp : {A : Type 0} → Option Coming → Option Taken → Option Taken → Revision → Path → Result (Mode × Vec ℕ A) CliFault → Type 0
-  LooksUp None was now revision path answer = ⊤
+  LooksUp None was now revision path answer = (commands : Commands) × AreRead commands × LooksReplayed commands (replayed_on name nothing commands) was now revision path answer
   LooksUp (Some coming) was now revision path answer = LooksReplayed (commands_from coming) (imported name no_history (heard coming).bytes (heard coming).fails) was now revision path answer

@@ -6,6 +6,8 @@ mod blob_names;
 #[cfg(test)]
 mod exported;
 #[cfg(test)]
+mod fault_lines;
+#[cfg(test)]
 mod hashed;
 #[cfg(test)]
 mod lines;

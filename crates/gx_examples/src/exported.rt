@@ -1,6 +1,6 @@
 //! Stores that are exported, and exports that are imported again.
 
-mod generated;
+pub(crate) mod generated;
 
 use crate::stored::{EMPTY, ONE_BLOB, has_line, imported, is_imported, prints, ran, stored};
 use generated::history;
@@ -14,7 +14,7 @@ use std::hash::RandomState;
 use std::test::Fail;
 
 /// Two branches, one with a submodule, which are merged, and a tag.
-const MERGED: &[u8] =
+pub(crate) const MERGED: &[u8] =
     b"commit refs/heads/a\nmark :1\ncommitter A <a@x> 1 +0000\ndata 1\np\nM 100644 inline f\ndata 6\nhello\n\ncommit refs/heads/b\nmark :2\ncommitter A <a@x> 2 +0000\ndata 1\nq\nM 160000 d670460b4b4aece5915caf5c68d12f560a9fe3e4 sub\ncommit refs/heads/a\nmark :3\ncommitter A <a@x> 3 +0000\ndata 1\nm\nmerge :2\ntag t\nfrom :3\ntagger A <a@x> 4 +0000\ndata 1\nt\n";
 
 /// The export of that, without its last line.

@@ -12,6 +12,8 @@ mod hashed;
 #[cfg(test)]
 mod lines;
 #[cfg(test)]
+mod round_trips;
+#[cfg(test)]
 mod stored;
 #[cfg(test)]
 mod trying;

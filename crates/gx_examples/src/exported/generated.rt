@@ -7,7 +7,7 @@ use std::alloc::{AllocError, Allocator};
 /// The branches `zero`, `one` and `two` have them in turn, and each seventh is a merge. There are tags on tips and on old
 /// commits, branches on commits that others hold, a branch under the name that carries an export's commits, and a blob and a
 /// commit that no ref reaches.
-pub(super) fn history<A: Allocator + Copy>(alloc: A) -> Result<Vec<u8, A>, AllocError> {
+pub(crate) fn history<A: Allocator + Copy>(alloc: A) -> Result<Vec<u8, A>, AllocError> {
     let mut stream = Vec::from_slice(alloc, b"blob\ndata 4\nlost\n")?;
     for number in 1..61u64 {
         put_commit(alloc, &mut stream, number % 64)?;

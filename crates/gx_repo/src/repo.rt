@@ -150,6 +150,25 @@ impl<N: Namer, A: Allocator + Copy> Repo<N, A> {
         self.add(Kind::Blob, body, 0)
     }
 
+    /// Does what `add_blob` does, but takes no copy of the bytes: the repository keeps these, or drops them where the blob
+    /// is held already or isn't added.
+    ///
+    /// The errors are those of `add_blob`. Cost: that of `Store::put_owned`. Source: gitglossary(7), "blob object".
+    pub fn add_blob_owned(&mut self, body: Vec<u8, A>) -> Result<Name, StoreFault>
+        ensures namer { self.new.0 ≡ self.old.0 }
+        ensures adds { Adds self.old.1.records self.new.1.records (record_for (N.name_of self.old.0) kinds.Blob body.items) result }
+        ensures refs { self.new.1.refs ≡ self.old.1.refs }
+        ensures history { IfOk result (λ _. HasValues self.old.1 self.new.1 (with_one (values_of self.old.1) (blob_value body.items))) }
+        ensures value { IfOk result (λ name. name.bytes ≡ name_of (N.name_of self.old.0) (blob_value body.items)) }
+        ensures held { IfOk result (λ name. Holds self.new.1.records kinds.Blob name.bytes) }
+        ensures keeps { Keeps self.old.1.records self.new.1.records }
+    {
+        links_tell_values();
+        puts_add_values();
+        let name = self.store.put_owned(Kind::Blob, body)?;
+        Ok(name)
+    }
+
     /// Adds the canonical trees of a tree's files, those below first, and answers the name of the root's.
     /// The files that are no gitlinks are held as blobs. What is held already is not added again.
     ///

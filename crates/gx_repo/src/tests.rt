@@ -2,17 +2,19 @@ ghost use Rattle.std.specs.Prelude.{IfSome, IsTrue, map};
 ghost use Rattle.std.specs.List.{AllByRecursion};
 ghost use Rattle.gx_model.specs.declared.objects.Kind.TheVariants as kinds;
 ghost use Rattle.gx_model.specs.Sound.{Holds, IsNamedMap};
+ghost use Rattle.gx_tree.specs.Named.{IsAtHome};
 
 use super::*;
 use gx_object::{CommitParts, Kind, Mode, Name, Namer, Sha1Namer, ShortNamer, TagParts};
 use gx_refusing::Refusing;
 use gx_text::{Ident, TreePath};
-use gx_tree::PathTree;
+use gx_tree::{PathTree, records_keep_home};
 use std::alloc::Allocator;
 use std::hash::RandomState;
 use std::test::Fail;
 
 mod records;
+mod trees;
 
 const IDENT: &[u8] = b"A <a@x> 1 +0000";
 
@@ -48,7 +50,9 @@ fn add_file<N: Namer, A: Allocator + Copy>(
 ) -> bool
     requires named { IsNamedMap repo.now.1.records tree.now.files }
     ensures named { IsNamedMap repo.new.1.records tree.new.files }
+    ensures home { IsAtHome (N.name_of repo.old.0) repo.old.1.records tree.old → IsAtHome (N.name_of repo.old.0) repo.new.1.records tree.new }
 {
+    records_keep_home();
     let Ok(path) = TreePath::read(alloc, path) else {
         return false;
     };
@@ -418,6 +422,23 @@ fn names_held_for_other_objects_are_refused(rt: HostRuntime) -> Result<(), Fail>
     Ok(())
 }
 
+/// The tree that names the blob is added as a record, which asks for the rooms of all before it.
+#[test]
+fn given_bytes_are_added_as_a_blob(rt: HostRuntime) -> Result<(), Fail> {
+    let state = RandomState::new(&rt)?;
+    let mut repo = Repo::new(rt.alloc(), Sha1Namer, state);
+    let body = Vec::from_slice(rt.alloc(), b"version 1\n")?;
+    let blob = repo.add_blob_owned(body);
+    let name = Name::read(b"83baae61804e65cc73a7201a7252750c76066a30").ok_or("digits")?;
+    assert_eq!(rt; blob, Ok(name));
+    assert_eq!(rt; repo.add_blob(b"version 1\n"), blob);
+    assert_eq!(rt; repo.store().len(), 1);
+    let body = b"100644 test.txt\0\x83\xba\xaea\x80Ne\xccs\xa7 \x1arRu\x0cv\x06j0";
+    let tree = repo.add_record(Kind::Tree, body)?;
+    assert_eq!(rt; tree.hex(), *b"d8329fc1cc938780ffdd9f94e0d364e0ea74f579");
+    Ok(())
+}
+
 #[test]
 fn truncated_repositories_keep_their_first_objects(rt: HostRuntime) -> Result<(), Fail> {
     let state = RandomState::new(&rt)?;
@@ -550,14 +571,33 @@ fn tried<B: Allocator>(heap: &Refusing<B>, call: u64, n: u64, state: RandomState
     })
 }
 
+/// Bytes are given to an empty repository, at which the growth with this number is refused.
+fn tried_bytes<B: Allocator>(heap: &Refusing<B>, n: u64, state: RandomState) -> Option<Trial> {
+    let mut repo = Repo::new(heap, Sha1Namer, state);
+    let body = Vec::from_slice(heap, b"blob").ok()?;
+    heap.arm(n);
+    let answer = answer_of(repo.add_blob_owned(body));
+    let is_waiting = heap.is_waiting();
+    heap.arm(0);
+    Some(Trial {
+        answer,
+        is_same: repo.store().len() == 0,
+        is_waiting,
+    })
+}
+
 #[test]
 fn refused_growths_change_nothing(rt: HostRuntime) -> Result<(), Fail> {
     let state = RandomState::new(&rt)?;
-    for call in 0..5u64 {
+    for call in 0..6u64 {
         let mut refused = 0u64;
         for n in 1..100 {
             let heap = Refusing::new(rt.alloc(), 0);
-            let trial = tried(&heap, call, n, state).ok_or("set-up")?;
+            let trial = match call {
+                5 => tried_bytes(&heap, n, state),
+                _ => tried(&heap, call, n, state),
+            };
+            let trial = trial.ok_or("set-up")?;
             if trial.is_waiting {
                 assert_eq!(rt; trial.answer, Answer::Done);
                 assert!(rt; !trial.is_same);

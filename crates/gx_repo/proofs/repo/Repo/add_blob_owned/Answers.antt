@@ -1,0 +1,45 @@
+use Rattle.std.proofs.Common.{map, sym, subst}
+use Rattle.gx_model.specs.declared.objects.Kind.TheVariants as kinds
+use Rattle.gx_model.specs.Histories.{Records, record_for, with_one}
+use Rattle.gx_model.specs.Values.{blob_value}
+use Rattle.gx_model.specs.RepositoryLaws.{values_of}
+use Rattle.gx_model.specs.Sound.{HasShortPaths, Holds, IsSound, Keeps}
+use Rattle.gx_model.proofs.Puts.{front_put}
+use Rattle.gx_repo.specs.Additions.{HasValues}
+use Rattle.gx_repo.specs.Refs.{kept}
+use Rattle.gx_repo.proofs.Additions.{put_grown, put_is_sound}
+use Rattle.gx_repo.proofs.HeldRecords.{keeps_front, put_holds}
+use Rattle.gx_repo.proofs.RecordRooms.{front_kept}
+use Rattle.gx_repo.proofs.repo.Repo.add_blob_owned.Goals as goal
+
+pub invariant_of-self-2 : goal.invariant_of-self-2
+invariant_of-self-2 g c =
+    let names = g.N.Namer.name_of c.self.inside.store.0 in
+    let namer = g.met.N.Namer.is_namer c.self.inside.store.0 in
+    let rs = c.self.inside.store.1 in
+    let r : Records = record { records = rs; refs = map kept c.self.inside.refs.items } in
+    let no_paths : HasShortPaths rs (record_for names kinds.Blob c.args.body.items) = λ es p e t h. absurd (cc e) in
+    let front = front_put rs c.put_owned.new.self.1 (record_for names kinds.Blob c.args.body.items) c.in_ok-name.ensures.puts.1 in (
+      subst (λ n. IsSound (g.N.Namer.name_of n) (record { records = c.put_owned.new.self.1; refs = map kept c.self.inside.refs.items })) (sym c.put_owned.ensures.namer)
+          (put_is_sound names (c.links_tell_values.ensures names namer) (c.puts_add_values.ensures names namer) r c.self.invariant.0 kinds.Blob c.args.body.items tt no_paths c.put_owned.new.self.1 c.put_owned.result c.put_owned.ensures.puts),
+      front_kept rs c.put_owned.new.self.1 c.self.inside.rooms.items c.self.invariant.1 front,
+    )
+
+pub returns-clause-held : goal.returns-clause-held
+returns-clause-held g c =
+    let r = record_for (g.N.Namer.name_of c.self.inside.store.0) kinds.Blob c.args.body.items in
+    subst (Holds c.put_owned.new.self.1 kinds.Blob) (sym c.in_ok-name.ensures.puts.0) (put_holds c.self.inside.store.1 c.put_owned.new.self.1 r c.in_ok-name.ensures.puts.1)
+
+pub returns-clause-keeps : goal.returns-clause-keeps
+returns-clause-keeps g c =
+    let r = record_for (g.N.Namer.name_of c.self.inside.store.0) kinds.Blob c.args.body.items in
+    subst (λ v. Keeps v.1.records c.put_owned.new.self.1) c.self.view_is (keeps_front c.self.inside.store.1 c.put_owned.new.self.1 (front_put c.self.inside.store.1 c.put_owned.new.self.1 r c.in_ok-name.ensures.puts.1))
+
+pub returns-clause-history : goal.returns-clause-history
+returns-clause-history g c =
+    let names = g.N.Namer.name_of c.self.inside.store.0 in
+    let namer = g.met.N.Namer.is_namer c.self.inside.store.0 in
+    let r : Records = record { records = c.self.inside.store.1; refs = map kept c.self.inside.refs.items } in
+    let no_paths : HasShortPaths r.records (record_for names kinds.Blob c.args.body.items) = λ es p e t h. absurd (cc e) in
+    subst (λ v. HasValues v.1 (record { records = c.put_owned.new.self.1; refs = map kept c.self.inside.refs.items }) (with_one (values_of v.1) (blob_value c.args.body.items))) c.self.view_is
+    (put_grown names (c.links_tell_values.ensures names namer) (c.puts_add_values.ensures names namer) r c.self.invariant.0 kinds.Blob c.args.body.items tt no_paths c.put_owned.new.self.1 c.in_ok-name.ensures.puts.1).1

@@ -1,5 +1,6 @@
 pub mod RevFaults
 pub mod Views
+pub mod Bases
 pub mod Ranges
 pub mod Objects
 pub mod Places

@@ -5,7 +5,8 @@ ghost use Rattle.std.specs.Option.{option_map};
 ghost use Rattle.gx_model.specs.Faults.{Gives};
 ghost use Rattle.gx_model.specs.Texts.{cut_at};
 ghost use Rattle.gx_model.specs.Revisions.{base_and_suffixes, base_of, optional_path, revision_of, suffixes_of, with_path};
-ghost use Rattle.gx_rev.specs.RevFaults.{fault_of};
+ghost use Rattle.gx_rev.specs.Bases.{base_text};
+ghost use Rattle.gx_rev.specs.RevFaults.{FaultsComeFirst, fault_of};
 ghost use Rattle.gx_rev.specs.Views.{shown_suffix};
 
 use crate::RevFault;
@@ -39,12 +40,14 @@ impl<A: Allocator + Copy> Revision<A> {
     /// The revision that a text gives. Its base is `@`, which is HEAD, or a ref name.
     ///
     /// BadRevision where the base is neither, or a suffix is none; BadPath and PathTooLong where no path follows the
-    /// `:`. The first fault from the left is answered.
+    /// `:`. The first fault from the left is answered, or OutOfMemory where a growth is refused before it; no growth comes
+    /// before the base's fault.
     /// Cost: the length. Takes memory for the base, the suffixes and the path.
     /// Source: gitrevisions(7), "Specifying Revisions".
     #[tactic(auto, unfolding(gx_model::specs::Revisions::revision_of))]
     pub fn read(alloc: A, text: &[u8]) -> Result<Revision<A>, RevFault>
-        ensures { Gives fault_of (λ r. r) result (revision_of text.now) }
+        ensures revision { Gives fault_of (λ r. r) result (revision_of text.now) }
+        ensures base { FaultsComeFirst result (base_of (base_text text.now)) }
     {
         let (front, path) = cut_path(text);
         let (base, suffixes) = cut_base(front);
@@ -83,7 +86,8 @@ fn cut_base(text: &[u8]) -> (&[u8], &[u8])
 }
 
 fn read_base<A: Allocator + Copy>(alloc: A, text: &[u8]) -> Result<Vec<u8, A>, RevFault>
-    ensures { Gives fault_of (λ base. base.items) result (base_of text.now) }
+    ensures base { Gives fault_of (λ base. base.items) result (base_of text.now) }
+    ensures first { FaultsComeFirst result (base_of text.now) }
 {
     if text == b"@".as_slice() {
         return Ok(Vec::from_slice(alloc, b"HEAD")?);

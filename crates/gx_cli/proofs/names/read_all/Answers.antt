@@ -14,4 +14,4 @@ loop-place-preserved g c =
     let left = texts_of (drop (place + 1) words) in
     let from : texts_of (drop place words) ≡ text ∷ left = ap texts_of (rest_from words place _ _ c.loop-place-test.true refl) ∙ ap (λ x. x ∷ left) (sym c.as_bytes.ensures.value) in
     let so_far = subst (λ ws. AreDone revision_of (texts_of words) ws place done) from c.loop-place.invariant in
-    rw c.in_ok-push-in-Ok.ensures.items (next_done revision_of (texts_of words) left text place done c.in-Ok.revision c.in-Ok.ensures so_far)
+    rw c.in_ok-push-in-Ok.ensures.items (next_done revision_of (texts_of words) left text place done c.in-Ok.revision c.in-Ok.ensures.revision so_far)

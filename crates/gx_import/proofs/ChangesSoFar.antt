@@ -1,6 +1,5 @@
 -- Changes made one after the other: what is left of them gives what all give.
-use Rattle.std.proofs.Common.{◌≡◌, ℕ, ◌<◌, ◌≤◌, ◌+◌, List, ◌∷◌, ◌++◌, length, get_or, map, drop, Ok, Err, refl, sym, ap, subst, ◌∙◌}
-use Rattle.std.proofs.lemmas.List.{drop_all, drop_more}
+use Rattle.std.proofs.Common.{◌≡◌, List, [], ◌∷◌, ◌++◌, map, Ok, Err, refl, sym, ap, subst, ◌∙◌}
 use Rattle.gx_model.specs.declared.objects.Kind.{Kind}
 use Rattle.gx_model.specs.Texts.{Bytes}
 use Rattle.gx_model.specs.Faults.{and_then}
@@ -64,29 +63,26 @@ module _ (name : Kind → Bytes → Bytes) {A : Type 0} where
         (changed name revision_of made.state made.files c) (λ r. all_changed name revision_of r.0 r.1 left) h)
 
   -- all were made
-  pub all_made : {X : Type 0} (old now : Records) (tables : Tables A) (s : State) (f : FileMap Bytes) (xs : List X) (shown : X → Change) (i : ℕ) (names : FileMap Bytes) → AreMade old now tables s f (map shown xs) (map shown (drop i xs)) names → length xs ≤ i
+  pub all_made : {X : Type 0} (old now : Records) (tables : Tables A) (s : State) (f : FileMap Bytes) (xs left : List X) (shown : X → Change) (names : FileMap Bytes) → AreMade old now tables s f (map shown xs) (map shown left) names → left ≡ []
       → (x : State × FileMap Bytes) × (all_changed name revision_of s f (map shown xs) ≡ Ok x) × (Follows name now tables s x.0 × AreFiles name x.0.history.values x.1 names)
-  all_made old now tables s f xs shown i names made end =
-      let none = drop_all i xs end in
+  all_made old now tables s f xs left shown names made none =
       ((made.state, made.files), made.steps ∙ ap (λ z. all_changed name revision_of made.state made.files (map shown z)) none, (made.follows, made.are))
 
-  module _ {X : Type 0} (old now : Records) (tables : Tables A) (s : State) (f : FileMap Bytes) (xs : List X) (shown : X → Change) (i : ℕ) (here : X) (names : FileMap Bytes) (lt : i < length xs) (is : here ≡ get_or xs i here)
-      (made : AreMade old now tables s f (map shown xs) (map shown (drop i xs)) names) where
-    -- the next of them is the one at this place
-    with_next : AreMade old now tables s f (map shown xs) (shown here ∷ map shown (drop (i + 1) xs)) names
-    with_next = subst (λ ys. AreMade old now tables s f (map shown xs) (map shown ys) names) (drop_more xs i here lt ∙ ap (λ x. x ∷ drop (i + 1) xs) (sym is)) made
+  module _ {X : Type 0} (old now : Records) (tables : Tables A) (s : State) (f : FileMap Bytes) (xs left right : List X) (shown : X → Change) (here : X) (names : FileMap Bytes) (is : left ≡ here ∷ right) (made : AreMade old now tables s f (map shown xs) (map shown left) names) where
+    with_next : AreMade old now tables s f (map shown xs) (shown here ∷ map shown right) names
+    with_next = subst (λ ys. AreMade old now tables s f (map shown xs) (map shown ys) names) is made
 
-    -- that one is made
+    -- the next of them is made
     pub next_made : (later : Records) (after : FileMap Bytes)
         → ((t : State) (g : FileMap Bytes) → Stands name now tables t → AreFiles name t.history.values g names → (y : State × FileMap Bytes) × (changed name revision_of t g (shown here) ≡ Ok y) × (Follows name later tables t y.0 × AreFiles name y.0.history.values y.1 after))
-        → AreMade old later tables s f (map shown xs) (map shown (drop (i + 1) xs)) after
+        → AreMade old later tables s f (map shown xs) (map shown right) after
     next_made later after step =
         let done = step with_next.state with_next.files with_next.follows.stands with_next.are in
-        one_made old now tables s f (map shown xs) (shown here) (map shown (drop (i + 1) xs)) names with_next later after done.0 done.1 done.2.0 done.2.1
+        one_made old now tables s f (map shown xs) (shown here) (map shown right) names with_next later after done.0 done.1 done.2.0 done.2.1
 
     -- or refused
     pub next_refused : {W : Type 0} (Be : State → State × FileMap Bytes → W → Type 0) (Is : State × FileMap Bytes → W → Type 0) (e : ImportKind)
         → ((t : State) (g : FileMap Bytes) → Stands name now tables t → AreFiles name t.history.values g names → AddsAs (Clash name (values_of now) (blob_added (shown here))) (Be t) (Err e) (changed name revision_of t g (shown here)))
         → AddsAs (Clash name (values_of old) (blobs_added name s f (map shown xs))) Is (Err e) (all_changed name revision_of s f (map shown xs))
     next_refused Be Is e step =
-        one_refused old now tables s f (map shown xs) (shown here) (map shown (drop (i + 1) xs)) names with_next (Be with_next.state) Is e (step with_next.state with_next.files with_next.follows.stands with_next.are)
+        one_refused old now tables s f (map shown xs) (shown here) (map shown right) names with_next (Be with_next.state) Is e (step with_next.state with_next.files with_next.follows.stands with_next.are)

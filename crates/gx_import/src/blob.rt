@@ -19,21 +19,21 @@ use gx_object::{Kind, Namer};
 use gx_repo::Repo;
 use std::alloc::Allocator;
 
-/// Puts a blob, and then sets its mark.
+/// Puts a blob, and then sets its mark. The store keeps the blob's own bytes.
 pub(crate) fn apply_blob<N: Namer, A: Allocator + Copy>(
     repo: &mut Repo<N, A>,
     tables: &mut Tables<A>,
-    blob: &Blob<A>,
+    blob: Blob<A>,
 ) -> Result<(), ImportKind>
     ensures branches { tables.new.branches ≡ tables.old.branches }
     ensures namer { repo.new.0 ≡ repo.old.0 }
     ensures refs { repo.new.1.refs ≡ repo.old.1.refs }
     ensures extends { Extends repo.old.1.records repo.new.1.records }
-    ensures steps { (s : State) → Stands (N.name_of repo.old.0) repo.old.1 tables.old s → AddsAs (Clash (N.name_of repo.old.0) (values_of repo.old.1) (blob_value blob.now.bytes.items ∷ [])) (λ t _. Follows (N.name_of repo.old.0) repo.new.1 tables.new s t) result (step (N.name_of repo.old.0) revision_of s (shown_blob blob.now)) }
+    ensures steps { (s : State) → Stands (N.name_of repo.old.0) repo.old.1 tables.old s → AddsAs (Clash (N.name_of repo.old.0) (values_of repo.old.1) (blob_value blob.bytes.items ∷ [])) (λ t _. Follows (N.name_of repo.old.0) repo.new.1 tables.new s t) result (step (N.name_of repo.old.0) revision_of s (shown_blob blob)) }
 {
     repo.sound();
     puts_add_values();
-    let name = repo.add_blob(blob.bytes.as_slice())?;
+    let name = repo.add_blob_owned(blob.bytes)?;
     let kind = Kind::Blob;
     Ok(tables.marks.set(blob.mark, Object { kind, name })?)
 }

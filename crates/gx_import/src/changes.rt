@@ -34,13 +34,13 @@ pub(crate) fn change_all<N: Namer, A: Allocator + Copy>(
     repo: &mut Repo<N, A>,
     tables: &Tables<A>,
     files: &mut PathTree<A>,
-    changes: &[Change<A>],
+    changes: Vec<Change<A>, A>,
 ) -> Result<(), ImportKind>
     ensures namer { repo.new.0 ≡ repo.old.0 }
     ensures refs { repo.new.1.refs ≡ repo.old.1.refs }
     ensures extends { Extends repo.old.1.records repo.new.1.records }
     ensures home { IfOk result (λ _. IsAtHome (N.name_of repo.old.0) repo.old.1.records files.old → IsAtHome (N.name_of repo.old.0) repo.new.1.records files.new) }
-    ensures steps { (s : State) (f : FileMap Bytes) → Stands (N.name_of repo.old.0) repo.old.1 tables.now s → AreFiles (N.name_of repo.old.0) s.history.values f files.old.files → AddsAs (Clash (N.name_of repo.old.0) (values_of repo.old.1) (blobs_added (N.name_of repo.old.0) s f (map shown_change changes.now))) (λ r _. Follows (N.name_of repo.old.0) repo.new.1 tables.now s r.0 × AreFiles (N.name_of repo.old.0) r.0.history.values r.1 files.new.files) result (all_changed (N.name_of repo.old.0) revision_of s f (map shown_change changes.now)) }
+    ensures steps { (s : State) (f : FileMap Bytes) → Stands (N.name_of repo.old.0) repo.old.1 tables.now s → AreFiles (N.name_of repo.old.0) s.history.values f files.old.files → AddsAs (Clash (N.name_of repo.old.0) (values_of repo.old.1) (blobs_added (N.name_of repo.old.0) s f (map shown_change changes.items))) (λ r _. Follows (N.name_of repo.old.0) repo.new.1 tables.now s r.0 × AreFiles (N.name_of repo.old.0) r.0.history.values r.1 files.new.files) result (all_changed (N.name_of repo.old.0) revision_of s f (map shown_change changes.items)) }
 {
     for change in changes {
         change_files(repo, tables, files, change)?;
@@ -53,25 +53,25 @@ fn change_files<N: Namer, A: Allocator + Copy>(
     repo: &mut Repo<N, A>,
     tables: &Tables<A>,
     files: &mut PathTree<A>,
-    change: &Change<A>,
+    change: Change<A>,
 ) -> Result<(), ImportKind>
     ensures namer { repo.new.0 ≡ repo.old.0 }
     ensures refs { repo.new.1.refs ≡ repo.old.1.refs }
     ensures extends { Extends repo.old.1.records repo.new.1.records }
     ensures home { IfOk result (λ _. IsAtHome (N.name_of repo.old.0) repo.old.1.records files.old → IsAtHome (N.name_of repo.old.0) repo.new.1.records files.new) }
-    ensures steps { (s : State) (f : FileMap Bytes) → Stands (N.name_of repo.old.0) repo.old.1 tables.now s → AreFiles (N.name_of repo.old.0) s.history.values f files.old.files → AddsAs (Clash (N.name_of repo.old.0) (values_of repo.old.1) (blob_added (shown_change change.now))) (λ r _. Follows (N.name_of repo.old.0) repo.new.1 tables.now s r.0 × AreFiles (N.name_of repo.old.0) r.0.history.values r.1 files.new.files) result (changed (N.name_of repo.old.0) revision_of s f (shown_change change.now)) }
+    ensures steps { (s : State) (f : FileMap Bytes) → Stands (N.name_of repo.old.0) repo.old.1 tables.now s → AreFiles (N.name_of repo.old.0) s.history.values f files.old.files → AddsAs (Clash (N.name_of repo.old.0) (values_of repo.old.1) (blob_added (shown_change change))) (λ r _. Follows (N.name_of repo.old.0) repo.new.1 tables.now s r.0 × AreFiles (N.name_of repo.old.0) r.0.history.values r.1 files.new.files) result (changed (N.name_of repo.old.0) revision_of s f (shown_change change)) }
 {
     match change {
         Change::Modify(modify) => modify_files(repo, tables, files, modify)?,
-        Change::Remove(path) => files.remove(path)?,
+        Change::Remove(path) => files.remove(&path)?,
         Change::Copy {
             source,
             destination,
-        } => files.copy(source, destination)?,
+        } => files.copy(&source, &destination)?,
         Change::Rename {
             source,
             destination,
-        } => files.rename(source, destination)?,
+        } => files.rename(&source, &destination)?,
         Change::Clear => files.clear(),
     }
     files.name_map();
@@ -83,40 +83,41 @@ fn modify_files<N: Namer, A: Allocator + Copy>(
     repo: &mut Repo<N, A>,
     tables: &Tables<A>,
     files: &mut PathTree<A>,
-    modify: &Modify<A>,
+    modify: Modify<A>,
 ) -> Result<(), ImportKind>
     ensures namer { repo.new.0 ≡ repo.old.0 }
     ensures refs { repo.new.1.refs ≡ repo.old.1.refs }
     ensures extends { Extends repo.old.1.records repo.new.1.records }
     ensures home { IfOk result (λ _. IsAtHome (N.name_of repo.old.0) repo.old.1.records files.old → IsAtHome (N.name_of repo.old.0) repo.new.1.records files.new) }
-    ensures steps { (s : State) (f : FileMap Bytes) → Stands (N.name_of repo.old.0) repo.old.1 tables.now s → AreFiles (N.name_of repo.old.0) s.history.values f files.old.files → AddsAs (Clash (N.name_of repo.old.0) (values_of repo.old.1) (blob_added (shown_modify modify.now))) (λ r _. Follows (N.name_of repo.old.0) repo.new.1 tables.now s r.0 × AreFiles (N.name_of repo.old.0) r.0.history.values r.1 files.new.files) result (changed (N.name_of repo.old.0) revision_of s f (shown_modify modify.now)) }
+    ensures steps { (s : State) (f : FileMap Bytes) → Stands (N.name_of repo.old.0) repo.old.1 tables.now s → AreFiles (N.name_of repo.old.0) s.history.values f files.old.files → AddsAs (Clash (N.name_of repo.old.0) (values_of repo.old.1) (blob_added (shown_modify modify))) (λ r _. Follows (N.name_of repo.old.0) repo.new.1 tables.now s r.0 × AreFiles (N.name_of repo.old.0) r.0.history.values r.1 files.new.files) result (changed (N.name_of repo.old.0) revision_of s f (shown_modify modify)) }
 {
     records_keep_home();
-    let name = content(repo, tables, modify.mode, &modify.data_ref)?;
+    let name = content(repo, tables, modify.mode, modify.data_ref)?;
     files.modify(&modify.path, modify.mode, name)?;
     files.name_map();
     Ok(())
 }
 
-/// The name of what a file gets. Bytes that came in the stream are put as a blob, and nothing is looked up for a gitlink.
+/// The name of what a file gets. Bytes that came in the stream are put as a blob, by no copy, and nothing is looked up
+/// for a gitlink.
 fn content<N: Namer, A: Allocator + Copy>(
     repo: &mut Repo<N, A>,
     tables: &Tables<A>,
     mode: Mode,
-    data_ref: &DataRef<A>,
+    data_ref: DataRef<A>,
 ) -> Result<Name, ImportKind>
-    requires suits { IsTrue (is_suited mode data_ref.now) }
+    requires suits { IsTrue (is_suited mode data_ref) }
     ensures namer { repo.new.0 ≡ repo.old.0 }
     ensures refs { repo.new.1.refs ≡ repo.old.1.refs }
     ensures extends { Extends repo.old.1.records repo.new.1.records }
-    ensures steps { (s : State) → Stands (N.name_of repo.old.0) repo.old.1 tables.now s → AddsAs (Clash (N.name_of repo.old.0) (values_of repo.old.1) (content_added (shown_data data_ref.now))) (λ given called. Follows (N.name_of repo.old.0) repo.new.1 tables.now s given.0 × IsContentName (N.name_of repo.old.0) given.0 given mode called) result (content (N.name_of repo.old.0) revision_of s mode (shown_data data_ref.now)) }
+    ensures steps { (s : State) → Stands (N.name_of repo.old.0) repo.old.1 tables.now s → AddsAs (Clash (N.name_of repo.old.0) (values_of repo.old.1) (content_added (shown_data data_ref))) (λ given called. Follows (N.name_of repo.old.0) repo.new.1 tables.now s given.0 × IsContentName (N.name_of repo.old.0) given.0 given mode called) result (content (N.name_of repo.old.0) revision_of s mode (shown_data data_ref)) }
 {
     repo.sound();
     puts_add_values();
     match data_ref {
-        DataRef::Mark(number) => name_of_kind(tables.marks.object(*number)?, Kind::Blob),
-        DataRef::Name(digits) => named_content(repo, mode, digits),
-        DataRef::Inline(bytes) => Ok(repo.add_blob(bytes.as_slice())?),
+        DataRef::Mark(number) => name_of_kind(tables.marks.object(number)?, Kind::Blob),
+        DataRef::Name(digits) => named_content(repo, mode, &digits),
+        DataRef::Inline(bytes) => Ok(repo.add_blob_owned(bytes)?),
     }
 }
 

@@ -39,12 +39,13 @@ use gx_repo::Repo;
 use gx_text::Ident;
 use gx_tree::{PathTree, records_keep_home};
 use std::alloc::{AllocError, Allocator};
+use std::mem;
 
 /// Makes a commit: its parents, its changes in their order, its trees, itself, its mark, its branch.
 pub(crate) fn apply_commit<N: Namer, A: Allocator + Copy>(
     repo: &mut Repo<N, A>,
     tables: &mut Tables<A>,
-    commit: Commit<A>,
+    mut commit: Commit<A>,
 ) -> Result<(), ImportKind>
     requires stands { (s : State) × Stands (N.name_of repo.now.0) repo.now.1 tables.now s }
     requires homes { AreTipsAtHome (N.name_of repo.now.0) repo.now.1.records tables.now }
@@ -60,7 +61,8 @@ pub(crate) fn apply_commit<N: Namer, A: Allocator + Copy>(
     let parents = parents(repo, tables, &commit, first)?;
     let branch = commit.branch.bytes.as_slice();
     let mut files = starting_files(repo, tables, branch, first)?;
-    change_all(repo, tables, &mut files, commit.changes.as_slice())?;
+    let changes = mem::replace(&mut commit.changes, Vec::new(tables.alloc));
+    change_all(repo, tables, &mut files, changes)?;
     repo.sound();
     let name = add(repo, &mut files, parents.as_slice(), &commit)?;
     let kind = Kind::Commit;

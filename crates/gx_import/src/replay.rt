@@ -93,7 +93,7 @@ fn apply<N: Namer, A: Allocator + Copy, W: Sink>(
 {
     records_keep_home();
     match command {
-        Command::Blob(blob) => apply_blob(repo, tables, &blob),
+        Command::Blob(blob) => apply_blob(repo, tables, blob),
         Command::Commit(commit) => apply_commit(repo, tables, commit),
         Command::Tag(tag) => apply_tag(repo, tables, &tag),
         Command::Reset(reset) => apply_reset(repo, tables, reset),

@@ -1,7 +1,4 @@
-use Rattle.std.proofs.Common.{Ok, Err, refl, subst}
-use Rattle.gx_model.specs.declared.objects.Kind.TheVariants as kinds
-use Rattle.gx_model.specs.Histories.{record_for}
-use Rattle.gx_repo.specs.Additions.{Adds}
+use Rattle.std.proofs.Common.{Ok, refl}
 use Rattle.std.proofs.lemmas.Result.{err_from_is_err_and}
 use Rattle.gx_model.specs.Values.{blob_value}
 use Rattle.gx_model.specs.Replay.{State, added, marked}
@@ -16,19 +13,16 @@ returns-in_err-name-clause-steps g c = λ s h.
     let name = g.N.Namer.name_of c.args.repo.now.0 in
     let p = err_from_is_err_and c.from_residual.result c.from_residual.ensures.1 in
     let rs = c.args.repo.now.1.records in
-    let v = blob_value c.args.blob.now.bytes.items in
-    let adds = subst (λ x. Adds rs c.add_blob.new.self.1.records (record_for name kinds.Blob x) (Err c.in_err-name.field-0.0)) c.as_slice.ensures.value c.in_err-name.ensures.adds in
-    rw (p.1, p.2) (blob_refused name (c.puts_add_values.ensures name (g.met.N.Namer.is_namer c.args.repo.now.0)) c.args.repo.now.1 c.sound.ensures c.add_blob.new.self.1.records c.args.blob.now.bytes.items {X = Unit {0}} {Y = State} (λ t x. Follows name c.add_blob.new.self.1 c.args.tables.now s t) (Ok (marked c.args.blob.now.mark v (added v s))) c.in_err-name.field-0.0 adds)
+    let v = blob_value c.args.blob.bytes.items in
+    rw (p.1, p.2) (blob_refused name (c.puts_add_values.ensures name (g.met.N.Namer.is_namer c.args.repo.now.0)) c.args.repo.now.1 c.sound.ensures c.add_blob_owned.new.self.1.records c.args.blob.bytes.items {X = Unit {0}} {Y = State} (λ t x. Follows name c.add_blob_owned.new.self.1 c.args.tables.now s t) (Ok (marked c.args.blob.mark v (added v s))) c.in_err-name.field-0.0 c.in_err-name.ensures.adds)
 
 pub returns-clause-steps : goal.returns-clause-steps
 returns-clause-steps g c = λ s h.
     let name = g.N.Namer.name_of c.args.repo.now.0 in
-    let v = blob_value c.args.blob.now.bytes.items in
-    let has = rw c.as_slice.ensures.value at c.in_ok-name.ensures.history in
-    let named = rw c.as_slice.ensures.value at c.in_ok-name.ensures.value in (
+    let v = blob_value c.args.blob.bytes.items in (
       _,
       refl,
-      marked_follows name c.add_blob.new.self.1 _ s c.args.blob.now.mark v
-          (marked_one name c.add_blob.new.self.1 c.args.tables.now c.set.new.self (added v s) (added_one name c.args.repo.now.1 c.add_blob.new.self.1 c.args.tables.now s h v refl has) v _
-          (record { stands = one_has s.history.values v; kind = refl; named = named }) c.args.blob.now.mark c.in_ok-set.ensures),
+      marked_follows name c.add_blob_owned.new.self.1 _ s c.args.blob.mark v
+          (marked_one name c.add_blob_owned.new.self.1 c.args.tables.now c.set.new.self (added v s) (added_one name c.args.repo.now.1 c.add_blob_owned.new.self.1 c.args.tables.now s h v refl c.in_ok-name.ensures.history) v _
+          (record { stands = one_has s.history.values v; kind = refl; named = c.in_ok-name.ensures.value }) c.args.blob.mark c.in_ok-set.ensures),
     )

@@ -1,5 +1,7 @@
-use Rattle.std.proofs.Common.{arith, Err, map, refl, subst, ◌∙◌}
+use Rattle.std.proofs.Common.{arith, length, Err, map, refl, sym, ap, subst, ◌∙◌}
 use Rattle.std.proofs.lemmas.Result.{err_from_is_err_and}
+use Rattle.std.proofs.lemmas.List.{nil_from_length}
+use Rattle.std.specs.Vec.Iter.{into_iter_items}
 use Rattle.gx_model.specs.Texts.{Bytes}
 use Rattle.gx_model.specs.Files.{FileMap}
 use Rattle.gx_model.specs.Replay.{State, changed}
@@ -11,11 +13,23 @@ use Rattle.gx_model.specs.NameMaps.{AreFiles}
 use Rattle.gx_import.specs.Answers.{AddsAs}
 use Rattle.gx_import.specs.Additions.{Clash, blob_added}
 use Rattle.gx_import.proofs.Extensions.{extends_more, extends_none}
-use Rattle.gx_import.proofs.ChangesSoFar.{all_made, next_made, next_refused, none_made}
+use Rattle.gx_import.proofs.ChangesSoFar.{AreMade, all_made, next_made, next_refused, none_made}
 use Rattle.gx_import.proofs.changes.change_all.Goals as goal
 
 pub loop-change-init : goal.loop-change-init
-loop-change-init g c = (refl, refl, extends_none c.args.repo.now.1.records, λ s f h are. none_made (g.N.Namer.name_of c.args.repo.now.0) c.args.repo.now.1 c.args.tables.now s h f c.args.files.now.files are (map shown_change c.args.changes.now), λ h. h)
+loop-change-init g c =
+    let all = c.into_iter-change-iterator.ensures.into_iter_gives in (
+      refl,
+      refl,
+      extends_none c.args.repo.now.1.records,
+      λ s f h are.
+          let name = g.N.Namer.name_of c.args.repo.now.0 in
+          let given = map shown_change c.args.changes.items in
+          subst (λ xs. AreMade name c.args.repo.now.1 c.args.repo.now.1 c.args.tables.now s f given (map shown_change xs) c.args.files.now.files) (sym all.0)
+          (none_made name c.args.repo.now.1 c.args.tables.now s h f c.args.files.now.files are given),
+      λ h. h,
+      omega (arith, all.1, ap length all.0),
+    )
 
 pub loop-change-preserved : goal.loop-change-preserved
 loop-change-preserved g c =
@@ -27,8 +41,9 @@ loop-change-preserved g c =
       extends_more c.args.repo.now.1.records l.repo.1.records c.change_files.new.repo.1.records l.invariant.2 v.extends,
       λ s f h are.
           let step = rw l.invariant.0 at v.steps in
-          next_made name c.args.repo.now.1 l.repo.1 c.args.tables.now s f c.args.changes.now shown_change l.change-index c.change-item.result l.files.files c.loop-change-test.true c.change-item.is (l.invariant.3 s f h are) c.change_files.new.repo.1 c.change_files.new.files.files step,
+          next_made name c.args.repo.now.1 l.repo.1 c.args.tables.now s f c.args.changes.items (into_iter_items l.change-iterator) (into_iter_items c.next.new.self) shown_change c.in-Some.change l.files.files c.in-Some.ensures.steps.0 (l.invariant.3 s f h are) c.change_files.new.repo.1 c.change_files.new.files.files step,
       λ h. (rw l.invariant.0 at v.home) (l.invariant.4 h),
+      omega (arith, c.in-Some.ensures.steps.1, l.invariant.5, ap length c.in-Some.ensures.steps.0),
     )
 
 pub returns-in_err-change_files-clause-steps : goal.returns-in_err-change_files-clause-steps
@@ -37,20 +52,24 @@ returns-in_err-change_files-clause-steps g c = λ s f h are.
     let l = c.loop-change in
     let p = err_from_is_err_and c.from_residual.result c.from_residual.ensures.1 in
     let v = c.in_err-change_files.ensures in
-    let change = shown_change c.change-item.result in
+    let change = shown_change c.in-Some.change in
     let step = subst (λ n. (t : State) (h : FileMap Bytes) → Stands (g.N.Namer.name_of n) l.repo.1 c.args.tables.now t → AreFiles (g.N.Namer.name_of n) t.history.values h l.files.files
     → AddsAs {X = Unit {0}} {Y = State × FileMap Bytes} (Clash (g.N.Namer.name_of n) (values_of l.repo.1) (blob_added change))
     (λ r x. Follows (g.N.Namer.name_of n) c.change_files.new.repo.1 c.args.tables.now t r.0 × AreFiles (g.N.Namer.name_of n) r.0.history.values r.1 c.change_files.new.files.files)
     (Err c.in_err-change_files.field-0.0) (changed (g.N.Namer.name_of n) revision_of t h change)) l.invariant.0 v.steps in
     let Be : State → State × FileMap Bytes → Unit {0} → Type 0 = λ t r x. Follows name c.change_files.new.repo.1 c.args.tables.now t r.0 × AreFiles name r.0.history.values r.1 c.change_files.new.files.files in
     rw (p.1, p.2)
-    (next_refused name c.args.repo.now.1 l.repo.1 c.args.tables.now s f c.args.changes.now shown_change l.change-index c.change-item.result l.files.files c.loop-change-test.true c.change-item.is (l.invariant.3 s f h are) Be (Be s) c.in_err-change_files.field-0.0 step)
+    (next_refused name c.args.repo.now.1 l.repo.1 c.args.tables.now s f c.args.changes.items (into_iter_items l.change-iterator) (into_iter_items c.next.new.self) shown_change c.in-Some.change l.files.files c.in-Some.ensures.steps.0 (l.invariant.3 s f h are) Be (Be s) c.in_err-change_files.field-0.0 step)
 
 pub returns-clause-steps : goal.returns-clause-steps
 returns-clause-steps g c = λ s f h are.
     let name = g.N.Namer.name_of c.args.repo.now.0 in
     let l = c.loop-change in
-    all_made name c.args.repo.now.1 l.repo.1 c.args.tables.now s f c.args.changes.now shown_change l.change-index l.files.files (l.invariant.3 s f h are) (omega (arith, c.loop-change-test.false))
+    all_made name c.args.repo.now.1 l.repo.1 c.args.tables.now s f c.args.changes.items (into_iter_items l.change-iterator) shown_change l.files.files (l.invariant.3 s f h are) (nil_from_length (into_iter_items l.change-iterator) (omega (arith, c.in-None.ensures.steps.0, l.invariant.5)))
 
 pub returns-clause-home : goal.returns-clause-home
 returns-clause-home g c = c.loop-change.invariant.4
+
+pub returns-in_err-change_files-clause-extends : goal.returns-in_err-change_files-clause-extends
+returns-in_err-change_files-clause-extends g c =
+    extends_more c.args.repo.now.1.records c.loop-change.repo.1.records c.change_files.new.repo.1.records c.loop-change.invariant.2 c.in_err-change_files.ensures.extends

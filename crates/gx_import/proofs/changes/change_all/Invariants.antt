@@ -1,4 +1,5 @@
-use Rattle.std.proofs.Common.{◌≡◌, map, drop}
+use Rattle.std.proofs.Common.{◌≡◌, length, map}
+use Rattle.std.specs.Vec.Iter.{into_iter_items, into_iter_len}
 use Rattle.gx_model.specs.Texts.{Bytes}
 use Rattle.gx_model.specs.Files.{FileMap}
 use Rattle.gx_model.specs.Replay.{State}
@@ -15,5 +16,6 @@ invariant-loop-change g l =
     × (l.repo.1.refs ≡ l.initial.repo.1.refs)
     × Extends l.initial.repo.1.records l.repo.1.records
     × ((s : State) (f : FileMap Bytes) → Stands (g.N.Namer.name_of l.initial.repo.0) l.initial.repo.1 l.tables s → AreFiles (g.N.Namer.name_of l.initial.repo.0) s.history.values f l.initial.files.files
-    → AreMade (g.N.Namer.name_of l.initial.repo.0) l.initial.repo.1 l.repo.1 l.tables s f (map shown_change l.changes) (map shown_change (drop l.change-index l.changes)) l.files.files)
+    → AreMade (g.N.Namer.name_of l.initial.repo.0) l.initial.repo.1 l.repo.1 l.tables s f (map shown_change l.fn.changes.items) (map shown_change (into_iter_items l.change-iterator)) l.files.files)
     × (IsAtHome (g.N.Namer.name_of l.initial.repo.0) l.initial.repo.1.records l.initial.files → IsAtHome (g.N.Namer.name_of l.initial.repo.0) l.repo.1.records l.files)
+    × (into_iter_len l.change-iterator ≡ length (into_iter_items l.change-iterator))

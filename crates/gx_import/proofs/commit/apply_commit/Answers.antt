@@ -1,4 +1,4 @@
-use Rattle.std.proofs.Common.{Some, Ok, Err, map, refl, sym, subst}
+use Rattle.std.proofs.Common.{Some, Ok, Err, map, refl, sym, ap, subst}
 use Rattle.std.specs.List.{AllByRecursion}
 use Rattle.std.proofs.lemmas.Result.{err_from_is_err_and}
 use Rattle.gx_model.specs.declared.objects.Kind.TheVariants as kinds
@@ -55,7 +55,7 @@ returns-in_err-change_all-clause-steps g c = λ s h.
     let l = c.in_ok-parents.ensures s k.0 h k.2 in
     let files = c.in_ok-files.ensures.files s k.0 h k.2 in
     let e = c.in_err-change_all.field-0.0 in
-    let gives = subst (λ xs. ChangesGive name r mid tables start stop (map shown_change xs) (Err e)) c.as_slice.ensures.value c.in_err-change_all.ensures.steps in
+    let gives = subst (λ xs. ChangesGive name r mid tables start stop (map shown_change xs) (Err e)) (ap (λ cs. cs.items) c.replace-changes.ensures.value) c.in_err-change_all.ensures.steps in
     rw (p.1, p.2) (changes_fail name namer r mid c.sound.ensures before tables start stop t first parents s h stand k l files e gives {Z = Unit {0}} (λ u x. Unit {0}))
 
 pub add-requires-clause-named : goal.add-requires-clause-named
@@ -77,7 +77,7 @@ add-requires-clause-named g c =
     let k = c.in_ok-first.ensures s h in
     let l = c.in_ok-parents.ensures s k.0 h k.2 in
     let files = c.in_ok-files.ensures.files s k.0 h k.2 in
-    let gives = subst (λ xs. ChangesGive name r mid tables start stop (map shown_change xs) (Ok c.in_ok-change_all.field-0)) c.as_slice.ensures.value c.in_ok-change_all.ensures.steps in
+    let gives = subst (λ xs. ChangesGive name r mid tables start stop (map shown_change xs) (Ok c.in_ok-change_all.field-0)) (ap (λ cs. cs.items) c.replace-changes.ensures.value) c.in_ok-change_all.ensures.steps in
     let sound = subst (λ n. IsSound (g.N.Namer.name_of n) mid) c.change_all.ensures.namer c.sound-2.ensures in
     named_after name namer r mid c.sound.ensures before tables start stop t first parents s h stand k l files gives sound
 
@@ -100,9 +100,9 @@ add-requires-clause-parents g c =
     let k = c.in_ok-first.ensures s h in
     let l = c.in_ok-parents.ensures s k.0 h k.2 in
     let files = c.in_ok-files.ensures.files s k.0 h k.2 in
-    let gives = subst (λ xs. ChangesGive name r mid tables start stop (map shown_change xs) (Ok c.in_ok-change_all.field-0)) c.as_slice.ensures.value c.in_ok-change_all.ensures.steps in
+    let gives = subst (λ xs. ChangesGive name r mid tables start stop (map shown_change xs) (Ok c.in_ok-change_all.field-0)) (ap (λ cs. cs.items) c.replace-changes.ensures.value) c.in_ok-change_all.ensures.steps in
     let sound = subst (λ n. IsSound (g.N.Namer.name_of n) mid) c.change_all.ensures.namer c.sound-2.ensures in
-    subst (AllByRecursion (λ n. Holds mid.records kinds.Commit n.bytes)) (sym c.as_slice-2.ensures.value) (parents_held name namer r mid c.sound.ensures before tables start stop t first parents s h stand k l files gives sound)
+    subst (AllByRecursion (λ n. Holds mid.records kinds.Commit n.bytes)) (sym c.as_slice.ensures.value) (parents_held name namer r mid c.sound.ensures before tables start stop t first parents s h stand k l files gives sound)
 
 pub returns-in_err-name-clause-extends : goal.returns-in_err-name-clause-extends
 returns-in_err-name-clause-extends g c =
@@ -126,11 +126,11 @@ returns-in_err-name-clause-steps g c = λ s h.
     let k = c.in_ok-first.ensures s h in
     let l = c.in_ok-parents.ensures s k.0 h k.2 in
     let files = c.in_ok-files.ensures.files s k.0 h k.2 in
-    let gives = subst (λ xs. ChangesGive name r mid tables start stop (map shown_change xs) (Ok c.in_ok-change_all.field-0)) c.as_slice.ensures.value c.in_ok-change_all.ensures.steps in
+    let gives = subst (λ xs. ChangesGive name r mid tables start stop (map shown_change xs) (Ok c.in_ok-change_all.field-0)) (ap (λ cs. cs.items) c.replace-changes.ensures.value) c.in_ok-change_all.ensures.steps in
     let e = c.in_err-name.field-0.0 in
     let new = c.add.new.repo.1 in
-    let named = subst (λ n. AddGives (g.N.Namer.name_of n) g.row.A.Denot mid new stop c.as_slice-2.result.now t (Err e)) c.change_all.ensures.namer c.in_err-name.ensures.steps in
-    let adds = subst (λ ns. AddGives name g.row.A.Denot mid new stop ns t (Err e)) c.as_slice-2.ensures.value named in
+    let named = subst (λ n. AddGives (g.N.Namer.name_of n) g.row.A.Denot mid new stop c.as_slice.result.now t (Err e)) c.change_all.ensures.namer c.in_err-name.ensures.steps in
+    let adds = subst (λ ns. AddGives name g.row.A.Denot mid new stop ns t (Err e)) c.as_slice.ensures.value named in
     rw (p.1, p.2) (add_fails name namer r mid c.sound.ensures before tables start stop t first parents s h stand k l files gives new e adds {Z = Unit {0}} (λ u x. Unit {0}))
 
 pub returns-in_err-set-clause-extends : goal.returns-in_err-set-clause-extends
@@ -178,10 +178,10 @@ returns-clause-steps g c = λ s h.
     let k = c.in_ok-first.ensures s h in
     let l = c.in_ok-parents.ensures s k.0 h k.2 in
     let files = c.in_ok-files.ensures.files s k.0 h k.2 in
-    let gives = subst (λ xs. ChangesGive name r mid tables start stop (map shown_change xs) (Ok c.in_ok-change_all.field-0)) c.as_slice.ensures.value c.in_ok-change_all.ensures.steps in
+    let gives = subst (λ xs. ChangesGive name r mid tables start stop (map shown_change xs) (Ok c.in_ok-change_all.field-0)) (ap (λ cs. cs.items) c.replace-changes.ensures.value) c.in_ok-change_all.ensures.steps in
     let new = c.add.new.repo.1 in
-    let named = subst (λ n. AddGives (g.N.Namer.name_of n) g.row.A.Denot mid new stop c.as_slice-2.result.now t (Ok c.in_ok-name.name)) c.change_all.ensures.namer c.in_ok-name.ensures.steps in
-    let adds = subst (λ ns. AddGives name g.row.A.Denot mid new stop ns t (Ok c.in_ok-name.name)) c.as_slice-2.ensures.value named in
+    let named = subst (λ n. AddGives (g.N.Namer.name_of n) g.row.A.Denot mid new stop c.as_slice.result.now t (Ok c.in_ok-name.name)) c.change_all.ensures.namer c.in_ok-name.ensures.steps in
+    let adds = subst (λ ns. AddGives name g.row.A.Denot mid new stop ns t (Ok c.in_ok-name.name)) c.as_slice.ensures.value named in
     commit_done name namer r mid c.sound.ensures before tables start stop t first parents s h stand k l files gives new c.in_ok-name.name adds c.add.new.files c.add.ensures.files c.set.new.self _ refl refl c.in_ok-set.ensures c.args.commit.branch.proper
     (record { commit = Some c.in_ok-name.name; files = Some c.add.new.files }) refl refl _ refl refl refl c.in_ok-set-2.ensures
 

@@ -12,4 +12,4 @@ returns-in-Object g c =
     let shown = rw c.in-Object.is at c.in_ok-kind.ensures.shown in
     let named = rw c.in-Object.is at c.in_ok-kind.ensures.named in
     let held = held_is name (g.met.N.Namer.is_namer c.args.repo.now.0) r c.sound.ensures c.in-Object.name.bytes named.2 in
-    (_, ap (λ x. and_then x (λ v. value_denoted name (history_of r) v)) c.in_ok-revision.ensures ∙ ap (λ d. and_then d shown_value) shown, record { stands = held.stands; kind = named.0; named = named.1 })
+    (_, ap (λ x. and_then x (λ v. value_denoted name (history_of r) v)) c.in_ok-revision.ensures.revision ∙ ap (λ d. and_then d shown_value) shown, record { stands = held.stands; kind = named.0; named = named.1 })

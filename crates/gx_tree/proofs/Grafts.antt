@@ -66,7 +66,7 @@ IsInner-grafted p g f h k = record {
   sorted = sorted-with_all (below p g) (without_line p f) (sorted-filter (is_beside p) f k.sorted);
 }
 
-grafted_some : (p : Path) (g f : FileMap Bytes) → (g ≢ []) → grafted p g f ≢ []
+pub grafted_some : (p : Path) (g f : FileMap Bytes) → (g ≢ []) → grafted p g f ≢ []
 grafted_some p [] f n = absurd (n refl)
 grafted_some p (e ∷ g) f n = put_some (p ++ e.0) e.1 (with_all (below p g) (without_line p f))
 

@@ -1,15 +1,14 @@
 -- Remembered names by a directory's entries, and where they are held.
-use Rattle.std.proofs.Common.{◌≡◌, ℕ, ◌+◌, ◌<◌, zero, suc, List, [], ◌∷◌, ◌++◌, map, length, get_or, take, drop, Option, Some, None, refl, sym, ap, ◌∙◌, subst, arith}
-use Rattle.std.specs.List.{AllByRecursion, insert}
+use Rattle.std.proofs.Common.{Vec, ◌≡◌, ℕ, ◌<◌, zero, suc, List, [], ◌∷◌, ◌++◌, map, length, get_or, take, drop, Option, Some, None, refl, sym, ap, ◌∙◌, subst, arith}
+use Rattle.std.specs.List.{AllByRecursion}
 use Rattle.gx_model.specs.declared.objects.Kind.{Kind}
-use Rattle.gx_model.specs.Texts.{Bytes, same_bytes}
+use Rattle.gx_model.specs.Texts.{Bytes}
 use Rattle.gx_model.specs.Paths.{Path}
 use Rattle.gx_model.specs.Files.{FileMap, sub_map}
 use Rattle.gx_model.specs.Histories.{Record}
-use Rattle.gx_model.specs.Growth.{record_named}
 use Rattle.gx_object.specs.declared.name.Name.{Name}
 use Rattle.gx_tree.specs.Homes.{AreAtHome, IsItemAtHome}
-use Rattle.gx_tree.specs.Named.{NamedTree, IsAtHome, IsHome, own_name}
+use Rattle.gx_tree.specs.Named.{NamedTree, IsAtHome, IsHome}
 use Rattle.gx_tree.specs.Nodes.{Level, IsAfter, IsLevel, files, kept_at, map_if}
 use Rattle.gx_tree.specs.Views.{item_names, kept, names_below, names_of, seen, seen_all}
 use Rattle.gx_tree.specs.declared.directory.Item.{Item}
@@ -20,6 +19,10 @@ use Rattle.gx_tree.proofs.Texts.{same_bytes_flip, same_itself}
 
 pub files_same : {s t : NamedTree} → s ≡ t → s.files ≡ t.files
 files_same e = ap (λ (t : NamedTree). t.files) e
+
+-- the elements of a vector that is another
+pub items_are_those : {X A : Type 0} {v w : Vec X A} {xs : List X} → xs ≡ v.items → v ≡ w → xs ≡ w.items
+items_are_those e v = e ∙ ap (λ z. z.items) v
 
 module _ {X : Type 0} (P : X → Type 0) where
   pub all_joined : (xs ys : List X) → AllByRecursion P xs → AllByRecursion P ys → AllByRecursion P (xs ++ ys)
@@ -54,7 +57,7 @@ module _ (P : Bytes → FileMap Bytes → Type 0) where
 
   abbrev IsItem : {A : Type 0} → Item A → Type 0
   IsItem (File m n) = Unit {0}
-  IsItem (Folder d) = AreNames d.value.files d.value.names
+  IsItem (Folder d) = AreNames d.files d.names
 
   names_under : (c : Bytes) (f g : FileMap Bytes) (names : List (Path × Bytes)) → ((p : Path) → sub_map g (c ∷ p) ≡ sub_map f p) → AreNames f names → AreNames g (map (λ e. (c ∷ e.0, e.1)) names)
   names_under c f g [] s h = tt
@@ -66,11 +69,11 @@ module _ (P : Bytes → FileMap Bytes → Type 0) where
 
   below_item : {A : Type 0} (c : Bytes) (i : Item A) (all : Level) → IsLevel all → kept_at c all ≡ Some (kept i) → IsItem i → AreNames (files all) (item_names c i)
   below_item c (File m n) all l k h = tt
-  below_item c (Folder d) all l k h = names_under c d.value.files (files all) d.value.names (λ p. sub_map-files c p all l ∙ ap (λ o. sub_map (map_if o) p) k) h
+  below_item c (Folder d) all l k h = names_under c d.files (files all) d.names (λ p. sub_map-files c p all l ∙ ap (λ o. sub_map (map_if o) p) k) h
 
   from_item : {A : Type 0} (c : Bytes) (i : Item A) (all : Level) → IsLevel all → kept_at c all ≡ Some (kept i) → AreNames (files all) (item_names c i) → IsItem i
   from_item c (File m n) all l k h = tt
-  from_item c (Folder d) all l k h = names_from c d.value.files (files all) d.value.names (λ p. sub_map-files c p all l ∙ ap (λ o. sub_map (map_if o) p) k) h
+  from_item c (Folder d) all l k h = names_from c d.files (files all) d.names (λ p. sub_map-files c p all l ∙ ap (λ o. sub_map (map_if o) p) k) h
 
   abbrev AreKept : {A : Type 0} → Level → List (Entry A) → Type 0
   AreKept all es = AllByRecursion (λ e. kept_at e.component.value.items all ≡ Some (kept e.item)) es

@@ -20,3 +20,4 @@ pub mod LevelsOf
 pub mod HeldLevels
 pub mod HeldRecords
 pub mod WrittenHomes
+pub mod InPlace

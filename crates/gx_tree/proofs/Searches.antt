@@ -1,5 +1,5 @@
 -- Searches among a directory's entries, by halves.
-use Rattle.std.proofs.Common.{◌≡◌, ◌≢◌, ℕ, ◌+◌, ◌-◌, ◌<◌, ◌≤◌, zero, suc, Bool, true, false, not, List, [], ◌∷◌, ◌++◌, length, get_or, drop, take, Option, Some, None, inl, inr, refl, sym, ap, ◌∙◌, arith, subst}
+use Rattle.std.proofs.Common.{◌≡◌, ◌≢◌, ℕ, ◌-◌, ◌<◌, ◌≤◌, zero, suc, true, false, not, List, [], ◌∷◌, ◌++◌, length, get_or, drop, take, Option, Some, None, inl, inr, refl, sym, ap, ◌∙◌, arith, subst}
 use Rattle.std.specs.List.{AllByRecursion}
 use Rattle.std.specs.List.Sorted.{IsPartitionedBy, IsPartitionPoint}
 use Rattle.std.specs.Cmp.{tied_itself}
@@ -7,7 +7,7 @@ use Rattle.std.specs.Cmp.Lexicographic.{nat_list_cmp_total}
 use Rattle.std.specs.Ordering.{is_lt}
 use Rattle.std.proofs.lemmas.Bool.{cases_Bool, false≢true, not-true, not-false, true≢false}
 use Rattle.gx_model.specs.Texts.{Bytes, same_bytes}
-use Rattle.gx_tree.specs.Nodes.{Kept, Level, IsAfter, IsLevel, comes_before, file, folder, inserted, kept_at, key, mark, precedes}
+use Rattle.gx_tree.specs.Nodes.{Kept, Level, IsAfter, IsLevel, file, folder, inserted, kept_at, key, mark, precedes}
 use Rattle.gx_tree.specs.Searches.{Finds}
 use Rattle.gx_tree.specs.Views.{kept, seen, seen_all}
 use Rattle.gx_tree.specs.declared.directory.Entry.{Entry}
@@ -15,10 +15,10 @@ use Rattle.gx_tree.proofs.Levels.{key_trans}
 use Rattle.gx_tree.proofs.Order.{byte_cmp}
 use Rattle.gx_tree.proofs.Texts.{bytes_same, cases_bytes, same_bytes_flip}
 
-not_before_itself : (a : Bytes) → is_lt (byte_cmp a a) ≡ true → ⊥
+pub not_before_itself : (a : Bytes) → is_lt (byte_cmp a a) ≡ true → ⊥
 not_before_itself a h = true≢false (sym h ∙ ap is_lt (tied_itself nat_list_cmp_total a))
 
-after_at : {A : Type 0} (a : Bytes × Kept) (es : List (Entry A)) (j : ℕ) (d : Entry A) → AllByRecursion (IsAfter a) (seen_all es) → j < length es → IsAfter a (seen (get_or es j d))
+pub after_at : {A : Type 0} (a : Bytes × Kept) (es : List (Entry A)) (j : ℕ) (d : Entry A) → AllByRecursion (IsAfter a) (seen_all es) → j < length es → IsAfter a (seen (get_or es j d))
 after_at a [] j d h l = absurd (omega arith)
 after_at a (e ∷ es) zero d h l = h.0
 after_at a (e ∷ es) (suc j) d h l = after_at a es j d h.1 (omega arith)

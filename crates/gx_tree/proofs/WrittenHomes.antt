@@ -1,9 +1,11 @@
 -- Directories that are at home while trees are written.
-use Rattle.std.proofs.Common.{◌≡◌, true, false, cond, List, [], ◌∷◌, ◌++◌, map, take, length, Option, Some, None, refl, sym, ap, ◌∙◌, subst}
+use Rattle.std.proofs.Common.{Vec, ◌≡◌, ℕ, ◌+◌, ◌<◌, zero, suc, Bool, true, false, cond, inl, inr, arith, get_or, List, [], ◌∷◌, take, length, Some, None, refl, sym, ap, ◌∙◌, subst}
+use Rattle.std.specs.Prelude.{IsTrue, if◌then◌else◌}
 use Rattle.std.specs.List.{AllByRecursion}
+use Rattle.std.proofs.lemmas.Bool.{cases_Bool}
 use Rattle.gx_model.specs.declared.objects.Kind.{Kind}
 use Rattle.gx_model.specs.declared.objects.Kind.TheVariants.{Blob, Tree, Commit, Tag}
-use Rattle.gx_model.specs.Texts.{Bytes, same_bytes}
+use Rattle.gx_model.specs.Texts.{Bytes}
 use Rattle.gx_model.specs.Paths.{Path}
 use Rattle.gx_model.specs.Edits.{is_root}
 use Rattle.gx_model.specs.Files.{FileMap, sub_map}
@@ -11,10 +13,11 @@ use Rattle.gx_model.specs.Histories.{Record}
 use Rattle.gx_model.specs.Growth.{and_some, put, put_all, put_under, record_named, same_kind, same_object, tree_records}
 use Rattle.gx_tree.specs.Homes.{AreAtHome, IsItemAtHome}
 use Rattle.gx_tree.specs.Named.{NamedTree, IsAtHome, IsHome, own_name}
+use Rattle.gx_tree.specs.Views.{IsNamed, Remembers}
 use Rattle.gx_tree.specs.declared.directory.Item.{Item}
 use Rattle.gx_tree.specs.declared.directory.Item.TheVariants.{File, Folder}
 use Rattle.gx_tree.specs.declared.directory.Entry.{Entry}
-use Rattle.gx_tree.proofs.Below.{sub_map-none, sub_map-whole}
+use Rattle.gx_tree.proofs.Below.{sub_map-whole}
 use Rattle.gx_tree.proofs.Texts.{same_itself}
 
 -- ---- more records
@@ -34,7 +37,7 @@ module _ (name : Kind → Bytes → Bytes) (old new : List Record) (k : IsKeptHe
 
   pub item_longer : {A : Type 0} (i : Item A) → IsItemAtHome name old i → IsItemAtHome name new i
   item_longer (File m n) h = tt
-  item_longer (Folder d) h = home_longer d.value.files d.value.names h
+  item_longer (Folder d) h = home_longer d.files d.names h
 
   pub entries_longer : {A : Type 0} (es : List (Entry A)) → AreAtHome name old es → AreAtHome name new es
   entries_longer [] h = tt
@@ -76,3 +79,35 @@ put_all_again rs (n ∷ ns) h = ap (λ o. and_some o (λ now. put_all now ns)) (
 pub take_whole : {X : Type 0} (xs : List X) → take (length xs) xs ≡ xs
 take_whole [] = refl
 take_whole (x ∷ xs) = ap (λ r. x ∷ r) (take_whole xs)
+
+-- ---- entries that are shared
+
+pub all_more : {X : Type 0} (P : X → Type 0) (xs : List X) (i : ℕ) (r : X) → i < length xs → r ≡ get_or xs i r → AllByRecursion P (take i xs) → P r → AllByRecursion P (take (i + 1) xs)
+all_more P [] i r l ir h p = absurd (omega arith)
+all_more P (x ∷ xs) zero r l ir h p = (subst P ir p, tt)
+all_more P (x ∷ xs) (suc i) r l ir h p =
+    let e : suc (i + 1) ≡ suc i + 1 = omega arith in
+    subst (λ n. AllByRecursion P (take n (x ∷ xs))) e (h.0, all_more P xs i r (omega arith) ir h.1 p)
+
+remembers : {A : Type 0} (trusts : Bool) (i : Item A) → IsNamed trusts i → Remembers i
+remembers trusts (File m n) h = tt
+remembers trusts (Folder d) h = h.1
+
+pub named_remember : {A : Type 0} (trusts : Bool) (es : List (Entry A)) → AllByRecursion (λ e. IsNamed trusts e.item) es → AllByRecursion (λ e. Remembers e.item) es
+named_remember trusts [] h = tt
+named_remember trusts (e ∷ es) h = (remembers trusts e.item h.0, named_remember trusts es h.1)
+
+module _ (name : Kind → Bytes → Bytes) (rs : List Record) where
+  named_item : {A : Type 0} (trusts : Bool) (i : Item A) → IsNamed trusts i → (IsTrue trusts → IsItemAtHome name rs i) → IsItemAtHome name rs i
+  named_item trusts (File m n) h k = tt
+  named_item trusts (Folder d) h k = k h.0
+
+  pub named_home : {A : Type 0} (trusts : Bool) (es : List (Entry A)) → AllByRecursion (λ e. IsNamed trusts e.item) es → (IsTrue trusts → AreAtHome name rs es) → AreAtHome name rs es
+  named_home trusts [] h k = tt
+  named_home trusts (e ∷ es) h k = (named_item trusts e.item h.0 (λ t. (k t).0), named_home trusts es h.1 (λ t. (k t).1))
+
+pub of_chosen : {X A : Type 0} (P : List X → Type 0) (shares : Bool) (old new out : Vec X A) → out ≡ (if shares then old else new) → (shares ≡ true → P old.items) → (shares ≡ false → P new.items) → P out.items
+of_chosen P shares old new out e p q = elim (cases_Bool shares) [
+  | inl t ↦ let is : out ≡ old = rw t at e in subst (λ v. P v.items) (sym is) (p t)
+  | inr f ↦ let is : out ≡ new = rw f at e in subst (λ v. P v.items) (sym is) (q f)
+]

@@ -14,7 +14,7 @@ use Rattle.gx_tree.specs.declared.copying.Held.TheVariants.{File, Folder}
 
 abbrev pub kept_held : {A : Type 0} → Held A → Kept
 kept_held (File m n) = file (m, n.bytes)
-kept_held (Folder d) = folder d.now.value.files
+kept_held (Folder d) = folder d.now.files
 
 abbrev pub is_file : Kept → Bool
 is_file (file x) = true

@@ -27,7 +27,7 @@ some_length (e ∷ f) n = omega arith
 
 item_falls : {A : Type 0} (G : Ghosts A) (c : Bytes) (i : Item A) → IsKept (kept i) → deep-Item A G i ≤ components (placed c (kept_map (kept i)))
 item_falls G c (File m n) h = omega arith
-item_falls G c (Folder d) h = omega (arith, components-placed c d.value.files, some_length d.value.files h.0)
+item_falls G c (Folder d) h = omega (arith, components-placed c d.files, some_length d.files h.0)
 
 pub falls : {A : Type 0} (G : Ghosts A) (es : List (Entry A)) → IsLevel (seen_all es) → max (most (λ x. deep-Entry A G x) es) 0 ≤ components (files (seen_all es))
 falls G [] h = omega arith

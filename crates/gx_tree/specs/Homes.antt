@@ -5,7 +5,7 @@ use Rattle.std.specs.List.{AllByRecursion}
 use Rattle.gx_model.specs.declared.objects.Kind.{Kind}
 use Rattle.gx_model.specs.Texts.{Bytes}
 use Rattle.gx_model.specs.Histories.{Record}
-use Rattle.gx_tree.specs.Named.{NamedTree, IsAtHome}
+use Rattle.gx_tree.specs.Named.{IsAtHome}
 use Rattle.gx_tree.specs.declared.copying.Held.{Held}
 use Rattle.gx_tree.specs.declared.copying.Held.TheVariants as held
 use Rattle.gx_tree.specs.declared.directory.Item.{Item}
@@ -35,11 +35,11 @@ Borrowed P name rs x = P name rs x.now
 
 abbrev pub IsItemAtHome : {A : Type 0} → InStore (Item A)
 IsItemAtHome name rs (File m n) = ⊤
-IsItemAtHome name rs (Folder d) = IsAtHome name rs d.value
+IsItemAtHome name rs (Folder d) = IsAtHome name rs d
 
 abbrev pub AreAtHome : {A : Type 0} → InStore (List (Entry A))
 AreAtHome name rs es = AllByRecursion (λ e. IsItemAtHome name rs e.item) es
 
 abbrev pub IsHeldAtHome : {A : Type 0} → InStore (Held A)
 IsHeldAtHome name rs (held.File m n) = ⊤
-IsHeldAtHome name rs (held.Folder d) = IsAtHome name rs d.now.value
+IsHeldAtHome name rs (held.Folder d) = IsAtHome name rs d.now

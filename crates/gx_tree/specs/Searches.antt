@@ -1,9 +1,14 @@
 -- What a search among a directory's entries answers.
-use Rattle.std.specs.Prelude.{◌≡◌, ◌≢◌, Option, None, Some}
+use Rattle.std.specs.Prelude.{◌≡◌, ◌≢◌, ◌<◌, ℕ, List, get_or, length, Option, None, Some}
 use Rattle.gx_model.specs.Texts.{Bytes}
 use Rattle.gx_tree.specs.Nodes.{Kept, Level, kept_at, mark}
+use Rattle.gx_tree.specs.declared.directory.Entry.{Entry}
 
 -- what is kept at c, if it has this mark
 abbrev pub Finds : Bytes → Bytes → Level → Option Kept → Type 0
 Finds c m es (Some k) = kept_at c es ≡ Some k
 Finds c m es None = (k : Kept) → kept_at c es ≡ Some k → mark k ≢ m
+
+-- the entry at i is that of c
+abbrev pub IsEntryAt : {A : Type 0} → Bytes → List (Entry A) → ℕ → Type 0
+IsEntryAt {A} c es i = (i < length es) × ((d : Entry A) → (get_or es i d).component.value.items ≡ c)

@@ -1,21 +1,20 @@
 -- What the fields of a directory are seen as.
-use Rattle.std.specs.Prelude.{◌≢◌, List, [], ◌∷◌, map, Option, Some, None, IsTrue, ⊤}
+use Rattle.std.specs.Prelude.{◌≢◌, Bool, List, [], ◌∷◌, map, Option, Some, None, IsTrue, ⊤}
 use Rattle.std.specs.List.{flat_map, AllByRecursion}
 use Rattle.std.specs.Borrow.{Bor}
-use Rattle.std.specs.declared.rc.Rc.{Rc}
 use Rattle.gx_model.specs.Texts.{Bytes}
 use Rattle.gx_model.specs.Files.{FileMap}
 use Rattle.gx_model.specs.Paths.{Path}
 use Rattle.gx_object.specs.declared.name.Name.{Name}
 use Rattle.gx_tree.specs.Named.{NamedTree, is_named, nothing}
-use Rattle.gx_tree.specs.Nodes.{Kept, Level, file, folder}
+use Rattle.gx_tree.specs.Nodes.{Kept, Level, file, files, folder}
 use Rattle.gx_tree.specs.declared.directory.Item.{Item}
 use Rattle.gx_tree.specs.declared.directory.Item.TheVariants.{File, Folder}
 use Rattle.gx_tree.specs.declared.directory.Entry.{Entry}
 
 abbrev pub kept : {A : Type 0} → Item A → Kept
 kept (File m n) = file (m, n.bytes)
-kept (Folder d) = folder d.value.files
+kept (Folder d) = folder d.files
 
 abbrev pub seen : {A : Type 0} → Entry A → Bytes × Kept
 seen e = (e.component.value.items, kept e.item)
@@ -37,19 +36,19 @@ kept_if None = None
 kept_if (Some i) = Some (kept i)
 
 -- the files of a root, with the names that are remembered
-abbrev pub root_tree : {A : Type 0} → Option (Rc NamedTree A) → NamedTree
+abbrev pub root_tree : Option NamedTree → NamedTree
 root_tree None = nothing
-root_tree (Some d) = d.value
+root_tree (Some d) = d
 
 -- a root without files is no directory
-abbrev pub IsRoot : {A : Type 0} → Option (Rc NamedTree A) → Type 0
+abbrev pub IsRoot : Option NamedTree → Type 0
 IsRoot None = ⊤
-IsRoot (Some d) = d.value.files ≢ []
+IsRoot (Some d) = d.files ≢ []
 
 -- the names that are remembered at and below an entry
 abbrev pub item_names : {A : Type 0} → Bytes → Item A → List (Path × Bytes)
 item_names c (File m n) = []
-item_names c (Folder d) = map (λ e. (c ∷ e.0, e.1)) d.value.names
+item_names c (Folder d) = map (λ e. (c ∷ e.0, e.1)) d.names
 
 abbrev pub names_below : {A : Type 0} → List (Entry A) → List (Path × Bytes)
 names_below = flat_map (λ e. item_names e.component.value.items e.item)
@@ -59,12 +58,21 @@ abbrev pub names_of : {A : Type 0} → Option Name → List (Entry A) → List (
 names_of None es = names_below es
 names_of (Some n) es = ([], n.bytes) ∷ names_below es
 
+-- the tree of a directory's entries, with its name, where that is remembered
+abbrev pub tree_of : {A : Type 0} → Option Name → List (Entry A) → NamedTree
+tree_of r es = record { files = files (seen_all es); names = names_of r es }
+
 -- a directory remembers the name of its tree
 abbrev pub Remembers : {A : Type 0} → Item A → Type 0
 Remembers (File m n) = ⊤
-Remembers (Folder d) = IsTrue (is_named d.value.names)
+Remembers (Folder d) = IsTrue (is_named d.names)
 
 -- where a name is remembered, all directories below remember theirs
 abbrev pub RemembersBelow : {A : Type 0} → Option Name → List (Entry A) → Type 0
 RemembersBelow None es = ⊤
 RemembersBelow (Some n) es = AllByRecursion (λ e. Remembers e.item) es
+
+-- a file, or a directory with a remembered name, where such names are trusted
+abbrev pub IsNamed : {A : Type 0} → Bool → Item A → Type 0
+IsNamed trusts (File m n) = ⊤
+IsNamed trusts (Folder d) = IsTrue trusts × IsTrue (is_named d.names)

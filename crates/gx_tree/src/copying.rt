@@ -16,7 +16,6 @@ use crate::fault::TreeFault;
 use gx_object::{Mode, Name};
 use gx_text::TreePath;
 use std::alloc::{AllocError, Allocator};
-use std::rc::Rc;
 
 /// The bytes of the longest path.
 pub(crate) const MOST_BYTES: usize = 4095;
@@ -25,7 +24,7 @@ pub(crate) const MOST_BYTES: usize = 4095;
 #[derive(Drop)]
 pub(crate) enum Held<'a, A: Allocator> {
     File(Mode, Name),
-    Folder(&'a Rc<Directory<A>, A>),
+    Folder(&'a Directory<A>),
 }
 
 impl<'a, A: Allocator + Copy> Held<'a, A> {
@@ -50,7 +49,7 @@ impl<'a, A: Allocator + Copy> Held<'a, A> {
     {
         match self {
             Held::File(mode, name) => Ok(Item::File(*mode, *name)),
-            Held::Folder(below) => Ok(Item::Folder(Rc::clone(below)?)),
+            Held::Folder(below) => Ok(Item::Folder(below.shared()?)),
         }
     }
 }
@@ -73,7 +72,7 @@ impl<A: Allocator + Copy> Directory<A> {
     fn fits(&self, room: usize) -> bool
         ensures { result ≡ list_all (is_within room) self.now.files }
     {
-        for entry in &self.entries {
+        for entry in self.entries.as_slice() {
             if !entry.fits(room) {
                 return false;
             }

@@ -1,11 +1,11 @@
-//! Directories: their entries in the order of Git's trees, each a file or a directory below. A directory never changes
-//! once it is made, so trees share it, and the directories made in its place share its entries' components.
+//! Directories: their entries in the order of Git's trees, each a file or a directory below. Entries never change while
+//! more than one directory has them, so trees share them, and the entries made in their place share their components.
 ghost use Rattle.std.specs.Prelude.{◌≡◌, ◌≤◌, ◌<◌, ◌+◌, ◌++◌, ◌∷◌, [], IsTrue, ◌↔◌, IfOk, drop, length, take};
 ghost use Rattle.std.specs.Option.{option_map};
 ghost use Rattle.gx_tree.specs.Homes.{Keeps, Both, IfThere, Borrowed, AreAtHome, IsHeldAtHome, IsItemAtHome};
 ghost use Rattle.gx_tree.specs.Named.{IsAtHome, nothing};
 ghost use Rattle.gx_tree.specs.Nodes.{IsInner, IsLevel, mark, others, with_kept};
-ghost use Rattle.gx_tree.specs.Views.{kept, kept_if, option_kept, option_files, seen, seen_all};
+ghost use Rattle.gx_tree.specs.Views.{RemembersBelow, kept, kept_if, option_kept, option_files, seen, seen_all, tree_of};
 ghost use Rattle.gx_tree.specs.Standings.{standing_of, standing_at};
 ghost use Rattle.gx_tree.specs.Steps.{files_of, replaced};
 
@@ -21,7 +21,7 @@ use std::rc::Rc;
 #[cycle(tree)]
 #[derive(Drop)]
 pub(crate) struct Directory<A: Allocator> {
-    pub(crate) entries: Vec<Entry<A>, A>,
+    pub(crate) entries: Rc<Vec<Entry<A>, A>, A>,
     pub(crate) remembered: Option<Name>,
 }
 
@@ -37,7 +37,7 @@ pub(crate) struct Entry<A: Allocator> {
 #[derive(Drop)]
 pub(crate) enum Item<A: Allocator> {
     File(Mode, Name),
-    Folder(Rc<Directory<A>, A>),
+    Folder(Directory<A>),
 }
 
 impl<A: Allocator> Model for Directory<A> {
@@ -45,28 +45,52 @@ impl<A: Allocator> Model for Directory<A> {
 
     ghost Value = { NamedTree };
 
-    ghost use Rattle.gx_tree.specs.Nodes.{components, files, IsLevel};
-    ghost use Rattle.gx_tree.specs.Views.{names_of, seen_all, RemembersBelow};
+    ghost use Rattle.gx_tree.specs.Nodes.{components, IsLevel};
+    ghost use Rattle.gx_tree.specs.Views.{tree_of, seen_all, RemembersBelow};
 
-    ghost view = { λ a. record { files = files (seen_all a.entries.items); names = names_of a.remembered a.entries.items } };
+    ghost view = { λ a. tree_of a.remembered a.entries.value.items };
 
-    ghost invariant = { λ a. IsLevel (seen_all a.entries.items) × RemembersBelow a.remembered a.entries.items };
+    ghost invariant = { λ a. IsLevel (seen_all a.entries.value.items) × RemembersBelow a.remembered a.entries.value.items };
 
     ghost size = { λ tree. components tree.files };
 
     ghost use Rattle.gx_tree.specs.Falls.{falls};
 
-    ghost size_decreases = { λ a h. falls A.Allocator a.entries.items h.0 };
+    ghost size_decreases = { λ a h. falls A.Allocator a.entries.value.items h.0 };
 }
 
 impl<A: Allocator + Copy> Directory<A> {
-    pub(crate) fn new(alloc: A) -> Directory<A>
-        ensures { result ≡ nothing }
+    pub(crate) fn new(alloc: A) -> Result<Directory<A>, AllocError>
+        ensures { IfOk result (λ directory. directory ≡ nothing) }
     {
-        Directory {
-            entries: Vec::new(alloc),
-            remembered: None,
-        }
+        Directory::of(alloc, Vec::new(alloc), None)
+    }
+
+    /// That of these entries, with the name of its tree, where that is known.
+    pub(crate) fn of(
+        alloc: A,
+        entries: Vec<Entry<A>, A>,
+        remembered: Option<Name>,
+    ) -> Result<Directory<A>, AllocError>
+        requires level { IsLevel (seen_all entries.items) }
+        requires remembers { RemembersBelow remembered entries.items }
+        ensures { IfOk result (λ directory. directory ≡ tree_of remembered entries.items) }
+    {
+        let entries = Rc::new(alloc, entries)?;
+        Ok(Directory {
+            entries,
+            remembered,
+        })
+    }
+
+    /// The same once more: both have the entries.
+    pub(crate) fn shared(&self) -> Result<Directory<A>, AllocError>
+        ensures { IfOk result (λ directory. directory ≡ self.now) }
+    {
+        Ok(Directory {
+            entries: self.entries.clone()?,
+            remembered: self.remembered,
+        })
     }
 
     pub(crate) fn is_empty(&self) -> bool
@@ -90,7 +114,7 @@ impl<A: Allocator + Copy> Directory<A> {
         if depth == path.len() {
             return Some(Found::Directory);
         }
-        match find(&self.entries, path.component(depth)) {
+        match find(self.entries.as_slice(), path.component(depth)) {
             None => None,
             Some(Item::File(mode, name)) => {
                 if depth + 1 == path.len() {
@@ -112,7 +136,7 @@ impl<A: Allocator + Copy> Item<A> {
     {
         match self {
             Item::File(mode, name) => Ok(Item::File(*mode, *name)),
-            Item::Folder(below) => Ok(Item::Folder(below.clone()?)),
+            Item::Folder(below) => Ok(Item::Folder(below.shared()?)),
         }
     }
 }

@@ -1,15 +1,18 @@
-//! What an edit makes of a directory: the directories on its path are made anew, and no other changes.
-ghost use Rattle.std.specs.Prelude.{◌≡◌, ◌<◌, ◌+◌, IfOk, drop, length};
+//! What an edit makes of a directory: the directories on its path are made anew, and no other changes. Where a file takes
+//! the place of another and no other tree has the directories on its path, it is put in them as they are.
+ghost use Rattle.std.specs.Prelude.{◌≡◌, ◌≢◌, ◌<◌, ◌+◌, [], IfOk, IsFalse, IsTrue, Some, drop, length};
 ghost use Rattle.gx_model.specs.Edits.{removed};
 ghost use Rattle.gx_model.specs.Files.{sub_map};
 ghost use Rattle.gx_tree.specs.Homes.{Keeps, Both, IfThere, Borrowed, AreAtHome, IsHeldAtHome, IsItemAtHome};
-ghost use Rattle.gx_tree.specs.Named.{IsAtHome};
-ghost use Rattle.gx_tree.specs.Nodes.{IsKept, kept_map, map_if, IsKeptAt};
+ghost use Rattle.gx_tree.specs.Named.{IsAtHome, KeepsHome};
+ghost use Rattle.gx_tree.specs.Nodes.{IsKept, IsLevel, file, files, kept_map, map_if, mark, IsKeptAt};
 ghost use Rattle.gx_tree.specs.Steps.{grafted, kept_grafted, kept_removed};
-ghost use Rattle.gx_tree.specs.Views.{kept, kept_if, option_kept};
+ghost use Rattle.gx_tree.specs.Views.{kept, kept_if, option_kept, seen_all};
+ghost use Rattle.gx_model.specs.declared.objects.Mode.TheVariants as modes;
 
 use crate::directory::{Directory, Entry, Item, folder_in, with_entry, with_item};
-use crate::search::find;
+use crate::search::{find, place_marked};
+use gx_object::{Mode, Name};
 use gx_text::TreePath;
 use std::alloc::{AllocError, Allocator};
 use std::rc::Rc;
@@ -23,7 +26,7 @@ impl<A: Allocator + Copy> Directory<A> {
         ensures home { Keeps IsAtHome (IfThere (Borrowed IsItemAtHome)) self.entry.now result }
     {
         let length = path.len();
-        let item = find(&self.entries, path.component(depth));
+        let item = find(self.entries.as_slice(), path.component(depth));
         if depth + 1 == length {
             return item;
         }
@@ -48,14 +51,11 @@ impl<A: Allocator + Copy> Directory<A> {
         ensures home { IfOk result (Keeps (Both IsItemAtHome IsAtHome) IsAtHome (item, self.now)) }
     {
         let component = path.component(depth);
-        let old = find(&self.entries, component);
+        let old = find(self.entries.as_slice(), component);
         let item = item_grafted(alloc, old, path, depth, item)?;
         let new = Entry::new(alloc, component, item)?;
-        let entries = with_entry(alloc, &self.entries, new)?;
-        Ok(Directory {
-            entries,
-            remembered: None,
-        })
+        let entries = with_entry(alloc, self.entries.as_slice(), new)?;
+        Directory::of(alloc, entries, None)
     }
 
     /// The directory without what stands at or below the rest of the path.
@@ -71,13 +71,84 @@ impl<A: Allocator + Copy> Directory<A> {
         ensures home { IfOk result (Keeps IsAtHome IsAtHome self.now) }
     {
         let component = path.component(depth);
-        let old = find(&self.entries, component);
+        let old = find(self.entries.as_slice(), component);
         let left = item_removed(alloc, old, path, depth)?;
-        let entries = with_item(alloc, &self.entries, component, left)?;
-        Ok(Directory {
-            entries,
-            remembered: None,
-        })
+        let entries = with_item(alloc, self.entries.as_slice(), component, left)?;
+        Directory::of(alloc, entries, None)
+    }
+}
+
+impl<A: Allocator + Copy> Directory<A> {
+    /// Puts a file in place of the one at the rest of the path, where no other tree has the directories on it, and answers
+    /// whether it did.
+    #[cycle(put)]
+    pub(crate) fn put(&mut self, path: &TreePath<A>, depth: usize, mode: Mode, name: Name) -> bool
+        requires within { depth < length path.now }
+        requires mode { mode ≢ modes.Dir }
+        ensures files { IsTrue result → self.new.files ≡ grafted (drop depth path.now) (kept_map (file (mode, name.bytes))) self.old.files }
+        ensures filled { IsTrue result → self.new.files ≢ [] }
+        ensures unchanged { IsFalse result → self.new ≡ self.old }
+        ensures home { KeepsHome self.old self.new }
+    {
+        let is_put = put_in(&mut self.entries, path, depth, mode, name);
+        if is_put {
+            self.remembered = None;
+        }
+        is_put
+    }
+}
+
+// Puts a file among the entries, or below one of them.
+#[cycle(put)]
+fn put_in<A: Allocator + Copy>(
+    entries: &mut Rc<Vec<Entry<A>, A>, A>,
+    path: &TreePath<A>,
+    depth: usize,
+    mode: Mode,
+    name: Name,
+) -> bool
+    requires within { depth < length path.now }
+    requires mode { mode ≢ modes.Dir }
+    requires level { IsLevel (seen_all entries.now.value.items) }
+    ensures level { IsTrue result → IsLevel (seen_all entries.new.value.items) }
+    ensures files { IsTrue result → files (seen_all entries.new.value.items) ≡ grafted (drop depth path.now) (kept_map (file (mode, name.bytes))) (files (seen_all entries.old.value.items)) }
+    ensures unchanged { IsFalse result → entries.new.value.items ≡ entries.old.value.items }
+    ensures home { Keeps AreAtHome AreAtHome entries.old.value.items entries.new.value.items }
+{
+    let length = path.len();
+    let mark: &[u8] = if depth + 1 == length { b"" } else { b"/" };
+    let Some(place) = place_marked(entries.as_slice(), path.component(depth), mark) else {
+        return false;
+    };
+    match Rc::get_mut(entries) {
+        Some(owned) => owned[place].item.put(path, depth, mode, name),
+        None => false,
+    }
+}
+
+impl<A: Allocator + Copy> Item<A> {
+    // Puts a file in place of this one, or below this directory.
+    #[cycle(put)]
+    fn put(&mut self, path: &TreePath<A>, depth: usize, mode: Mode, name: Name) -> bool
+        requires within { depth < length path.now }
+        requires mode { mode ≢ modes.Dir }
+        ensures kept { IsTrue result → kept self.new ≡ kept_grafted (drop (depth + 1) path.now) (file (mode, name.bytes)) (Some (kept self.old)) }
+        ensures mark { IsTrue result → mark (kept self.new) ≡ mark (kept self.old) }
+        ensures unchanged { IsFalse result → self.new ≡ self.old }
+        ensures home { Keeps IsItemAtHome IsItemAtHome self.old self.new }
+    {
+        let length = path.len();
+        let is_last = depth + 1 == length;
+        match self {
+            Item::File(old_mode, old_name) => {
+                if is_last {
+                    *old_mode = mode;
+                    *old_name = name;
+                }
+                is_last
+            }
+            Item::Folder(below) => !is_last && below.put(path, depth + 1, mode, name),
+        }
     }
 }
 
@@ -101,9 +172,9 @@ fn item_grafted<A: Allocator + Copy>(
     }
     let below = match folder_in(old) {
         Some(below) => below.grafted(alloc, path, depth + 1, item)?,
-        None => Directory::new(alloc).grafted(alloc, path, depth + 1, item)?,
+        None => Directory::new(alloc)?.grafted(alloc, path, depth + 1, item)?,
     };
-    Ok(Item::Folder(Rc::new(alloc, below)?))
+    Ok(Item::Folder(below))
 }
 
 // What is left of an item where what stands below it at the path is removed.
@@ -132,7 +203,7 @@ fn item_removed<A: Allocator + Copy>(
             if below.is_empty() {
                 return Ok(None);
             }
-            Ok(Some(Item::Folder(Rc::new(alloc, below)?)))
+            Ok(Some(Item::Folder(below)))
         }
     }
 }

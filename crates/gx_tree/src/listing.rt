@@ -20,7 +20,7 @@ impl<A: Allocator + Copy> Directory<A> {
         requires { IsTrue (list_all (λ e. is_short e.0) (below front.now self.now.files)) }
         ensures { OnOk result (map listed out.new.items ≡ map listed out.old.items ++ below front.now self.now.files) }
     {
-        for entry in &self.entries {
+        for entry in self.entries.as_slice() {
             let path = child(alloc, front, entry.component())?;
             match &entry.item {
                 Item::File(mode, name) => out.push((path, *mode, *name))?,

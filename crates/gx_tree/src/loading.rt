@@ -14,7 +14,6 @@ use crate::directory::{Directory, Entry, Item};
 use gx_object::{Mode, Name, Namer, decode_tree};
 use gx_store::Store;
 use std::alloc::{AllocError, Allocator};
-use std::rc::Rc;
 
 impl<A: Allocator + Copy> Directory<A> {
     /// The directory of a held tree, whose paths have at most `room` bytes.
@@ -41,10 +40,7 @@ impl<A: Allocator + Copy> Directory<A> {
             let item = Item::load(alloc, store, &entry, room)?;
             entries.push(Entry::new(alloc, entry.component, item)?)?;
         }
-        Ok(Directory {
-            entries,
-            remembered: Some(*name),
-        })
+        Directory::of(alloc, entries, Some(*name))
     }
 }
 
@@ -70,6 +66,6 @@ impl<A: Allocator + Copy> Item<A> {
             unreachable!();
         }
         let below = Directory::load(alloc, store, &entry.name, room - used - 1)?;
-        Ok(Item::Folder(Rc::new(alloc, below)?))
+        Ok(Item::Folder(below))
     }
 }

@@ -83,7 +83,7 @@ impl<A: Allocator + Copy> PathTree<A> {
         ensures home { IfOk result (IsAtHome (N.name_of store.now.0) store.now.1) }
     {
         let directory = Directory::load(alloc, store, name, MOST_BYTES)?;
-        let root = Root::of(alloc, directory)?;
+        let root = Root::of(directory);
         Ok(PathTree { root, alloc })
     }
 
@@ -139,8 +139,9 @@ impl<A: Allocator + Copy> PathTree<A> {
     /// Puts a file at a path, in place of what stands there or below it, and of a file above it.
     /// `RootNotTree` where the path is the root; then `OutOfMemory`. Both leave the tree as it was.
     ///
-    /// Cost: the directories on the path are made anew, with their entries; those beside it are shared, and components'
-    /// bytes too. Source: git-fast-import(1), "filemodify".
+    /// Cost: for each directory on the path a search by halves, where a file stands at the path and no other tree shares
+    /// these directories: they change in place, which takes no memory. Otherwise they are made anew, with their entries;
+    /// those beside the path are shared, and components' bytes too. Source: git-fast-import(1), "filemodify".
     pub fn modify(&mut self, path: &TreePath<A>, mode: Mode, name: Name) -> Result<(), TreeFault>
         requires { mode ≢ modes.Dir }
         ensures map { Gives fault_of (λ _. self.new.files) result (modified self.old.files path.now (mode, name.bytes)) }
@@ -151,6 +152,9 @@ impl<A: Allocator + Copy> PathTree<A> {
             return Err(TreeFault::RootNotTree);
         }
         is_name(name.bytes.as_slice());
+        if self.root.put(path, mode, name) {
+            return Ok(());
+        }
         self.root = self.root.grafted(self.alloc, path, Item::File(mode, name))?;
         Ok(())
     }
@@ -158,7 +162,8 @@ impl<A: Allocator + Copy> PathTree<A> {
     /// Removes what stands at or below a path, and the directories that are left with no file. The root stands above all
     /// files, and where nothing stands nothing changes. The one error is `OutOfMemory`, which leaves the tree as it was.
     ///
-    /// Cost: as for `modify`; at the root it takes no memory. Source: git-fast-import(1), "filedelete".
+    /// Cost: the directories on the path are made anew, as by `modify`; at the root it takes no memory. Source:
+    /// git-fast-import(1), "filedelete".
     pub fn remove(&mut self, path: &TreePath<A>) -> Result<(), TreeFault>
         ensures map { Gives fault_of (λ _. self.new.files) result (Ok (removed self.old.files path.now)) }
         ensures unchanged { OnErr result (self.new ≡ self.old) }
@@ -174,7 +179,7 @@ impl<A: Allocator + Copy> PathTree<A> {
     ///
     /// `NoSuchPath` where no file stands at or below the source; then `RootNotTree` where a file would be the root; then
     /// `PathTooLong` where a path would have more than 4,095 bytes; then `OutOfMemory`. Each leaves the tree as it was.
-    /// Cost: as for `modify`; what is copied is shared, and its paths are looked at. Source: git-fast-import(1), "filecopy".
+    /// Cost: as for `remove`; what is copied is shared, and its paths are looked at. Source: git-fast-import(1), "filecopy".
     pub fn copy(&mut self, source: &TreePath<A>, destination: &TreePath<A>) -> Result<(), TreeFault>
         ensures map { Gives fault_of (λ _. self.new.files) result (copied self.old.files source.now destination.now) }
         ensures unchanged { OnErr result (self.new ≡ self.old) }
@@ -189,7 +194,7 @@ impl<A: Allocator + Copy> PathTree<A> {
     /// nothing.
     ///
     /// The errors are those of `copy`, in their order, and each leaves the tree as it was.
-    /// Cost: as for `modify`, twice. Source: git-fast-import(1), "filerename".
+    /// Cost: as for `remove`, twice. Source: git-fast-import(1), "filerename".
     pub fn rename(
         &mut self,
         source: &TreePath<A>,

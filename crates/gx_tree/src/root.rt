@@ -1,5 +1,5 @@
-//! The root of a tree: a shared directory, and none where there are no files.
-ghost use Rattle.std.specs.Prelude.{◌≡◌, ◌≢◌, ◌<◌, ◌++◌, [], IfOk, IsTrue, OnOk, length, map, take};
+//! The root of a tree: a directory, and none where there are no files.
+ghost use Rattle.std.specs.Prelude.{◌≡◌, ◌≢◌, ◌<◌, ◌++◌, [], IfOk, IsFalse, IsTrue, OnOk, length, map, take};
 ghost use Rattle.std.specs.List.{list_all};
 ghost use Rattle.std.specs.Option.{option_map};
 ghost use Rattle.gx_model.specs.Edits.{removed};
@@ -9,8 +9,9 @@ ghost use Rattle.gx_model.specs.Paths.{is_short};
 ghost use Rattle.gx_tree.specs.Copies.{option_held};
 ghost use Rattle.gx_tree.specs.Homes.{Keeps, Both, IfThere, Borrowed, AreAtHome, IsHeldAtHome, IsItemAtHome};
 ghost use Rattle.gx_tree.specs.Lists.{listed};
-ghost use Rattle.gx_tree.specs.Named.{IsAtHome, nothing};
-ghost use Rattle.gx_tree.specs.Nodes.{IsKept, IsKeptAt, kept_map, map_if};
+ghost use Rattle.gx_tree.specs.Named.{IsAtHome, KeepsHome, nothing};
+ghost use Rattle.gx_tree.specs.Nodes.{IsKept, IsKeptAt, file, kept_map, map_if};
+ghost use Rattle.gx_model.specs.declared.objects.Mode.TheVariants as modes;
 ghost use Rattle.gx_tree.specs.Standings.{standing_of, standing_at};
 ghost use Rattle.gx_tree.specs.Steps.{grafted};
 ghost use Rattle.gx_tree.specs.Views.{kept};
@@ -20,18 +21,17 @@ use crate::copying::Held;
 use crate::directory::{Directory, Item};
 use crate::fault::TreeFault;
 use crate::path_tree::Found;
-use crate::writing::{shared, written_node};
+use crate::writing::written_node;
 use gx_object::{Mode, Name, Namer};
 use gx_store::Store;
 use gx_text::TreePath;
 use std::alloc::{AllocError, Allocator};
 use std::marker::Model;
-use std::rc::Rc;
 
-/// The files of a tree, by a directory that other trees may have too.
+/// The files of a tree, by a directory whose entries other trees may have too.
 #[derive(Drop)]
 pub(crate) struct Root<A: Allocator> {
-    node: Option<Rc<Directory<A>, A>>,
+    node: Option<Directory<A>>,
 }
 
 impl<A: Allocator> Model for Root<A> {
@@ -55,25 +55,25 @@ impl<A: Allocator + Copy> Root<A> {
     }
 
     /// That of a directory's files.
-    pub(crate) fn of(alloc: A, directory: Directory<A>) -> Result<Root<A>, AllocError>
-        ensures files { IfOk result (λ root. root.files ≡ directory.files) }
-        ensures home { IfOk result (Keeps IsAtHome IsAtHome directory) }
+    pub(crate) fn of(directory: Directory<A>) -> Root<A>
+        ensures files { result.files ≡ directory.files }
+        ensures home { KeepsHome directory result }
     {
         if directory.is_empty() {
-            return Ok(Root::none());
+            return Root::none();
         }
-        Ok(Root {
-            node: Some(shared(alloc, directory)?),
-        })
+        Root {
+            node: Some(directory),
+        }
     }
 
     /// That of a shared directory's files.
-    pub(crate) fn of_shared(node: &Rc<Directory<A>, A>) -> Result<Root<A>, AllocError>
-        requires { node.now.value.files ≢ [] }
-        ensures { IfOk result (λ root. root ≡ node.now.value) }
+    pub(crate) fn of_shared(node: &Directory<A>) -> Result<Root<A>, AllocError>
+        requires { node.now.files ≢ [] }
+        ensures { IfOk result (λ root. root ≡ node.now) }
     {
         Ok(Root {
-            node: Some(node.clone()?),
+            node: Some(node.shared()?),
         })
     }
 
@@ -83,7 +83,7 @@ impl<A: Allocator + Copy> Root<A> {
     {
         match &self.node {
             Some(node) => Ok(Root {
-                node: Some(node.clone()?),
+                node: Some(node.shared()?),
             }),
             None => Ok(Root::none()),
         }
@@ -132,8 +132,23 @@ impl<A: Allocator + Copy> Root<A> {
         ensures home { IfOk result (Keeps (Both IsItemAtHome IsAtHome) IsAtHome (item, self.now)) }
     {
         match &self.node {
-            Some(node) => Root::of(alloc, node.grafted(alloc, path, 0, item)?),
-            None => Root::of(alloc, Directory::new(alloc).grafted(alloc, path, 0, item)?),
+            Some(node) => Ok(Root::of(node.grafted(alloc, path, 0, item)?)),
+            None => Ok(Root::of(Directory::new(alloc)?.grafted(alloc, path, 0, item)?)),
+        }
+    }
+
+    /// Puts a file in place of the one at a path, where no other tree has the directories on the path, and answers whether
+    /// it did. Takes no memory.
+    pub(crate) fn put(&mut self, path: &TreePath<A>, mode: Mode, name: Name) -> bool
+        requires within { 0 < length path.now }
+        requires mode { mode ≢ modes.Dir }
+        ensures files { IsTrue result → self.new.files ≡ grafted path.now (kept_map (file (mode, name.bytes))) self.old.files }
+        ensures unchanged { IsFalse result → self.new ≡ self.old }
+        ensures home { KeepsHome self.old self.new }
+    {
+        match &mut self.node {
+            Some(node) => node.put(path, 0, mode, name),
+            None => false,
         }
     }
 
@@ -148,7 +163,7 @@ impl<A: Allocator + Copy> Root<A> {
         if path.len() == 0 {
             return Ok(Root::none());
         }
-        Root::of(alloc, node.removed(alloc, path, 0)?)
+        Ok(Root::of(node.removed(alloc, path, 0)?))
     }
 
     /// Appends the files, each by its path.
@@ -187,7 +202,7 @@ impl<A: Allocator + Copy> Root<A> {
                 Ok((Root { node: Some(node) }, name))
             }
             None => {
-                let (_, name) = Directory::new(alloc).written(alloc, store, trusts)?;
+                let (_, name) = Directory::new(alloc)?.written(alloc, store, trusts)?;
                 Ok((Root::none(), name))
             }
         }

@@ -1,11 +1,11 @@
 //! Finding a component among a directory's entries, by halves.
-ghost use Rattle.std.specs.Prelude.{◌≡◌, ◌≤◌, ◌++◌, true, false, length};
+ghost use Rattle.std.specs.Prelude.{◌≡◌, ◌≤◌, ◌++◌, true, false, length, IfSome};
 ghost use Rattle.std.specs.Cmp.Lexicographic.{slice_cmp};
 ghost use Rattle.std.specs.List.Sorted.{IsPartitionPoint};
 ghost use Rattle.std.specs.Ordering.{nat_cmp};
 ghost use Rattle.gx_tree.specs.Homes.{Keeps, Both, IfThere, Borrowed, AreAtHome, IsHeldAtHome, IsItemAtHome};
 ghost use Rattle.gx_tree.specs.Nodes.{IsLevel, kept_at, key, precedes};
-ghost use Rattle.gx_tree.specs.Searches.{Finds};
+ghost use Rattle.gx_tree.specs.Searches.{Finds, IsEntryAt};
 ghost use Rattle.gx_tree.specs.Views.{option_kept, seen, seen_all};
 
 use crate::directory::{Entry, Item};
@@ -44,6 +44,25 @@ fn find_marked<'a, A: Allocator + Copy>(
     let last = &entries[place - 1];
     if last.component() == component {
         return Some(&last.item);
+    }
+    None
+}
+
+/// The place of an entry of a component, if it is there, where this follows it in the order.
+pub(crate) fn place_marked<A: Allocator + Copy>(
+    entries: &[Entry<A>],
+    component: &[u8],
+    mark: &[u8],
+) -> Option<usize>
+    requires { IsLevel (seen_all entries.now) }
+    ensures { IfSome result (λ place. IsEntryAt component.now entries.now place) }
+{
+    let place = place_of(entries, component, mark);
+    if place == 0 {
+        return None;
+    }
+    if entries[place - 1].component() == component {
+        return Some(place - 1);
     }
     None
 }

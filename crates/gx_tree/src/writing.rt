@@ -1,10 +1,11 @@
 //! Writing a directory's trees: those below it first, in the order of its entries, and then its own. What is written
-//! comes back with the names remembered.
-ghost use Rattle.std.specs.Prelude.{◌≡◌, IfOk, IfSome, IsTrue, Some, length, take};
+//! comes back with the names remembered, and has the old entries where no directory among them gets a name.
+ghost use Rattle.std.specs.Prelude.{◌≡◌, IfOk, IfSome, IsTrue, Some, if◌then◌else◌, length, take};
 ghost use Rattle.gx_model.specs.Growth.{tree_records};
 ghost use Rattle.gx_tree.specs.Homes.{IsItemAtHome};
 ghost use Rattle.gx_tree.specs.Named.{IsAtHome, is_named, own_name};
-ghost use Rattle.gx_tree.specs.Views.{kept, seen, Remembers};
+ghost use Rattle.gx_tree.specs.Views.{IsNamed, kept, seen, Remembers};
+ghost use Rattle.std.specs.List.{AllByRecursion};
 ghost use Rattle.gx_tree.specs.Writes.{PutsAll, kept_leaf, kept_records, map_name};
 
 use crate::directory::{Directory, Entry, Item};
@@ -32,9 +33,10 @@ impl<A: Allocator + Copy> Directory<A> {
         ensures home { IfOk result (λ made. IsAtHome (N.name_of store.old.0) store.new.1 made.0) }
         ensures remembers { IfOk result (λ made. IsTrue (is_named made.0.names)) }
     {
-        let mut named = Vec::with_capacity(alloc, self.entries.len())?;
+        let shares = are_named(self.entries.as_slice(), trusts);
+        let mut named = Vec::new(alloc);
         let mut entries = Vec::with_capacity(alloc, self.entries.len())?;
-        for entry in &self.entries {
+        for entry in self.entries.as_slice() {
             let (item, mode, name) = entry.item.written(alloc, store, trusts)?;
             let component = entry.component();
             let Ok(()) = entries.push(gx_object::Entry {
@@ -44,14 +46,17 @@ impl<A: Allocator + Copy> Directory<A> {
             }) else {
                 return Err(TreeFault::OutOfMemory);
             };
-            let Ok(()) = named.push(entry.with(item)?) else {
-                return Err(TreeFault::OutOfMemory);
-            };
+            if !shares {
+                let Ok(()) = named.push(entry.with(item)?) else {
+                    return Err(TreeFault::OutOfMemory);
+                };
+            }
         }
         let body = encode_tree(alloc, &entries)?;
+        let below = chosen(alloc, shares, &self.entries, named)?;
         let name = store.put(Kind::Tree, &body)?;
         let directory = Directory {
-            entries: named,
+            entries: below,
             remembered: Some(name),
         };
         Ok((directory, name))
@@ -62,6 +67,34 @@ impl<A: Allocator + Copy> Directory<A> {
         ensures { IfSome result (λ name. own_name self.now.names ≡ Some name.bytes) }
     {
         self.remembered
+    }
+}
+
+// Whether each directory among the entries remembers a name, which is trusted.
+fn are_named<A: Allocator + Copy>(entries: &[Entry<A>], trusts: bool) -> bool
+    ensures { IsTrue result → AllByRecursion (λ e. IsNamed trusts e.item) entries.now }
+{
+    for entry in entries {
+        if !entry.item.is_named(trusts) {
+            return false;
+        }
+    }
+    true
+}
+
+// The old entries, or the new ones.
+fn chosen<A: Allocator + Copy>(
+    alloc: A,
+    shares: bool,
+    old: &Rc<Vec<Entry<A>, A>, A>,
+    new: Vec<Entry<A>, A>,
+) -> Result<Rc<Vec<Entry<A>, A>, A>, AllocError>
+    ensures { IfOk result (λ es. es.value ≡ (if shares then old.now.value else new)) }
+{
+    if shares {
+        Ok(old.clone()?)
+    } else {
+        Ok(Rc::new(alloc, new)?)
     }
 }
 
@@ -77,6 +110,16 @@ impl<A: Allocator + Copy> Entry<A> {
 }
 
 impl<A: Allocator + Copy> Item<A> {
+    // Whether it is a file, or a directory that remembers a name, which is trusted.
+    fn is_named(&self, trusts: bool) -> bool
+        ensures { IsTrue result → IsNamed trusts self.now }
+    {
+        match self {
+            Item::File(_, _) => true,
+            Item::Folder(below) => trusts && below.remembered_name().is_some(),
+        }
+    }
+
     // Puts the trees of a directory, and answers it with their names, and what an entry is and names.
     #[cycle(write)]
     fn written<N: Namer>(
@@ -104,39 +147,28 @@ impl<A: Allocator + Copy> Item<A> {
     }
 }
 
-/// Puts the trees at and below a shared directory, and answers it with their names, and the name of its own. Below a name
-/// that is remembered and trusted nothing is put, since that is held.
+/// Puts the trees at and below a directory, and answers it with their names, and the name of its own. Below a name that is
+/// remembered and trusted nothing is put, since that is held.
 #[cycle(write)]
 pub(crate) fn written_node<A: Allocator + Copy, N: Namer>(
     alloc: A,
-    node: &Rc<Directory<A>, A>,
+    node: &Directory<A>,
     store: &mut Store<N, A>,
     trusts: bool,
-) -> Result<(Rc<Directory<A>, A>, Name), TreeFault>
-    requires home { IsTrue trusts → IsAtHome (N.name_of store.now.0) store.now.1 node.now.value }
+) -> Result<(Directory<A>, Name), TreeFault>
+    requires home { IsTrue trusts → IsAtHome (N.name_of store.now.0) store.now.1 node.now }
     ensures namer { store.new.0 ≡ store.old.0 }
-    ensures name { IfOk result (λ made. made.1.bytes ≡ map_name (N.name_of store.old.0) node.now.value.files) }
-    ensures puts { PutsAll (tree_records (N.name_of store.old.0) node.now.value.files) store.old.1 store.new.1 result }
+    ensures name { IfOk result (λ made. made.1.bytes ≡ map_name (N.name_of store.old.0) node.now.files) }
+    ensures puts { PutsAll (tree_records (N.name_of store.old.0) node.now.files) store.old.1 store.new.1 result }
     ensures front { take (length store.old.1) store.new.1 ≡ store.old.1 }
-    ensures files { IfOk result (λ made. made.0.value.files ≡ node.now.value.files) }
-    ensures home { IfOk result (λ made. IsAtHome (N.name_of store.old.0) store.new.1 made.0.value) }
-    ensures remembers { IfOk result (λ made. IsTrue (is_named made.0.value.names)) }
+    ensures files { IfOk result (λ made. made.0.files ≡ node.now.files) }
+    ensures home { IfOk result (λ made. IsAtHome (N.name_of store.old.0) store.new.1 made.0) }
+    ensures remembers { IfOk result (λ made. IsTrue (is_named made.0.names)) }
 {
     if trusts {
         if let Some(name) = node.remembered_name() {
-            return Ok((Rc::clone(node)?, name));
+            return Ok((node.shared()?, name));
         }
     }
-    let (directory, name) = node.written(alloc, store, trusts)?;
-    Ok((shared(alloc, directory)?, name))
-}
-
-/// A directory, to be shared.
-pub(crate) fn shared<A: Allocator + Copy>(
-    alloc: A,
-    directory: Directory<A>,
-) -> Result<Rc<Directory<A>, A>, AllocError>
-    ensures { IfOk result (λ node. node.value ≡ directory) }
-{
-    Ok(Rc::new(alloc, directory)?)
+    node.written(alloc, store, trusts)
 }

@@ -1,4 +1,4 @@
-use Rattle.gx_tree.proofs.Homes.{files_same}
+use Rattle.gx_tree.proofs.Homes.{items_are_those, files_same}
 use Rattle.std.proofs.Common.{◌&&◌, sym, ap, ◌∙◌}
 use Rattle.std.specs.List.{list_all}
 use Rattle.gx_tree.specs.Copies.{is_within}
@@ -10,13 +10,13 @@ use Rattle.gx_tree.proofs.directory.+fits.Goals as goal
 
 pub Directory::fits-returns-then-not-fits : goal.Directory::fits-returns-then-not-fits
 Directory::fits-returns-then-not-fits g t c = sym (
-    ap (list_all (is_within c.args.room)) (sym (files_same c.self.view_is) ∙ ap (λ z. files (seen_all z)) (sym c.deref-entry-items.ensures.value))
+    ap (list_all (is_within c.args.room)) (sym (files_same c.self.view_is) ∙ ap (λ z. files (seen_all z)) (sym (items_are_those c.as_slice-entry-items.ensures.value c.deref.ensures)))
     ∙ c.loop-entry.invariant
-    ∙ rest_within c.self.inside.entries.items c.deref-entry-items.result.now c.loop-entry.entry-index c.entry-item.result c.args.room c.loop-entry-test.true c.entry-item.is c.deref-entry-items.ensures.value c.self.invariant.0
-    ∙ ap (λ b. b && list_all (is_within c.args.room) (files (seen_all (drop (c.loop-entry.entry-index + 1) c.deref-entry-items.result.now)))) (sym c.fits.ensures ∙ c.if-not-fits.true))
+    ∙ rest_within c.self.inside.entries.value.items c.as_slice-entry-items.result.now c.loop-entry.entry-index c.entry-item.result c.args.room c.loop-entry-test.true c.entry-item.is (items_are_those c.as_slice-entry-items.ensures.value c.deref.ensures) c.self.invariant.0
+    ∙ ap (λ b. b && list_all (is_within c.args.room) (files (seen_all (drop (c.loop-entry.entry-index + 1) c.as_slice-entry-items.result.now)))) (sym c.fits.ensures ∙ c.if-not-fits.true))
 
 pub Directory::fits-loop-entry-preserved : goal.Directory::fits-loop-entry-preserved
 Directory::fits-loop-entry-preserved g t c =
     c.loop-entry.invariant
-    ∙ rest_within c.self.inside.entries.items c.deref-entry-items.result.now c.loop-entry.entry-index c.entry-item.result c.args.room c.loop-entry-test.true c.entry-item.is c.deref-entry-items.ensures.value c.self.invariant.0
-    ∙ ap (λ b. b && list_all (is_within c.args.room) (files (seen_all (drop (c.loop-entry.entry-index + 1) c.deref-entry-items.result.now)))) (sym c.fits.ensures ∙ c.if-not-fits.false)
+    ∙ rest_within c.self.inside.entries.value.items c.as_slice-entry-items.result.now c.loop-entry.entry-index c.entry-item.result c.args.room c.loop-entry-test.true c.entry-item.is (items_are_those c.as_slice-entry-items.ensures.value c.deref.ensures) c.self.invariant.0
+    ∙ ap (λ b. b && list_all (is_within c.args.room) (files (seen_all (drop (c.loop-entry.entry-index + 1) c.as_slice-entry-items.result.now)))) (sym c.fits.ensures ∙ c.if-not-fits.false)

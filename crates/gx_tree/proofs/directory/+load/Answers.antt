@@ -1,8 +1,9 @@
 use Rattle.std.specs.List.{AllByRecursion}
 use Rattle.gx_tree.specs.Homes.{AreAtHome, IsItemAtHome}
-use Rattle.gx_tree.specs.Named.{IsHome}
-use Rattle.gx_tree.proofs.Homes.{all_joined, named_at_home}
-use Rattle.std.proofs.Common.{◌≡◌, ◌*◌, ◌<◌, map, refl, sym, ap, ◌∙◌, subst, arith}
+use Rattle.gx_tree.specs.Named.{IsAtHome, IsHome, NamedTree, is_named}
+use Rattle.std.proofs.lemmas.Result.{IfOk-weaker}
+use Rattle.gx_tree.proofs.Homes.{all_joined, files_same, named_at_home}
+use Rattle.std.proofs.Common.{◌≡◌, ◌*◌, ◌<◌, map, sym, ap, ◌∙◌, subst, arith}
 use Rattle.std.proofs.lemmas.List.{map-append}
 use Rattle.gx_model.proofs.FileMapEdits.{parts_of}
 use Rattle.gx_object.specs.Entries.{shown}
@@ -58,12 +59,12 @@ Directory::load-loop-entry-preserved g t c = (
   subst (AllByRecursion (λ e. Remembers e.item)) (sym c.in_ok-push.ensures.items) (all_joined (λ e. Remembers e.item) c.loop-entry.entries.items _ c.loop-entry.invariant.2 (subst Remembers (sym c.in_ok-new.ensures.item) c.in_ok-item.ensures.remembers, tt)),
 )
 
-pub Directory::load-invariant_of-result : goal.Directory::load-invariant_of-result
-Directory::load-invariant_of-result g t c =
+pub Directory::load-of-requires : goal.Directory::load-of-requires
+Directory::load-of-requires g t c =
     let name = g.N.Namer.name_of c.args.store.now.0 in
     let f = c.requires.0 in
     let all = loading_all name (level_of f) c.loop-entry.entry-iterator (seen_all c.loop-entry.entries.items) c.in-None.ensures.steps.0 (c.loop-entry.invariant.0 f c.requires.1) in
-    (subst IsLevel (sym all) (IsLevel-level_of f c.requires.1.0.map), c.loop-entry.invariant.2)
+    record { level = subst IsLevel (sym all) (IsLevel-level_of f c.requires.1.0.map); remembers = c.loop-entry.invariant.2 }
 
 pub Directory::load-returns : goal.Directory::load-returns
 Directory::load-returns g t c =
@@ -73,8 +74,9 @@ Directory::load-returns g t c =
     let whole : (f : FileMap Bytes) → IsHeldWithin name c.args.store.now.1 c.args.room c.args.name.now.bytes f → files (seen_all es) ≡ f = λ f h. ap files (all f h) ∙ files-level_of f (parts_of f h.0.map.file_map) in
     let f = c.requires.0 in
     let held = c.requires.1 in
+    let home = named_at_home name c.args.store.now.1 c.args.name.now es (subst IsLevel (sym (all f held)) (IsLevel-level_of f held.0.map)) (subst (IsHome name c.args.store.now.1 c.args.name.now.bytes) (sym (whole f held)) (record { named = held.0.named; held = held.0.held })) c.loop-entry.invariant.1 in
     record {
-      files = whole;
-      home = named_at_home name c.args.store.now.1 c.args.name.now es (subst IsLevel (sym (all f held)) (IsLevel-level_of f held.0.map)) (subst (IsHome name c.args.store.now.1 c.args.name.now.bytes) (sym (whole f held)) (record { named = held.0.named; held = held.0.held })) c.loop-entry.invariant.1;
-      remembers = refl;
+      files = IfOk-weaker c.of.result _ _ (λ d e f h. files_same e ∙ whole f h) c.of.ensures;
+      home = IfOk-weaker c.of.result _ _ (λ d e. subst (IsAtHome name c.args.store.now.1) (sym e) home) c.of.ensures;
+      remembers = IfOk-weaker c.of.result _ _ (λ d e. ap (λ (t : NamedTree). is_named t.names) e) c.of.ensures;
     }

@@ -1,4 +1,4 @@
-use Rattle.std.proofs.Common.{◌≡◌, List, sym, subst}
+use Rattle.std.proofs.Common.{sym, subst}
 use Rattle.gx_tree.specs.Homes.{AreAtHome, IsItemAtHome}
 use Rattle.gx_tree.proofs.Copies.{others_kept, others_left}
 use Rattle.gx_tree.proofs.Homes.{all_at, all_joined}

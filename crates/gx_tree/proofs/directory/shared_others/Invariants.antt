@@ -1,4 +1,4 @@
-use Rattle.std.proofs.Common.{◌≡◌, ◌++◌, drop, List}
+use Rattle.std.proofs.Common.{◌≡◌, ◌++◌, drop}
 use Rattle.gx_tree.specs.Homes.{AreAtHome, Keeps}
 use Rattle.gx_tree.specs.Nodes.{others}
 use Rattle.gx_tree.specs.Views.{seen_all}

@@ -1,4 +1,3 @@
-use Rattle.gx_tree.proofs.Homes.{files_same}
 use Rattle.std.proofs.Common.{◌<◌, length, sym, ap, ◌∙◌, arith}
 use Rattle.std.proofs.lemmas.Bool.{le-ltb}
 use Rattle.gx_tree.proofs.Rooms.{below_beyond, below_within, root_within}

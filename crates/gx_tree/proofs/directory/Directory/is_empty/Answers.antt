@@ -8,9 +8,9 @@ use Rattle.gx_tree.proofs.directory.Directory.is_empty.Goals as goal
 
 pub returns : goal.returns
 returns g c =
-    let es = c.self.inside.entries.items in
-    let ok = c.self.inside.entries.ok in
-    let e = c.is_empty.ensures in (
+    let es = c.self.inside.entries.value.items in
+    let ok = c.self.inside.entries.value.ok in
+    let e = rw c.deref.ensures at c.is_empty.ensures in (
       (λ t. sym (files_same c.self.view_is) ∙ no_entries (seen_all es) (length-map es seen ∙ sym ok.0 ∙ eqb-true _ _ (sym e ∙ t))),
       (λ z. e ∙ eq-eqb _ _ (ok.0 ∙ sym (length-map es seen) ∙ no_files (seen_all es) c.self.invariant.0 ((files_same c.self.view_is) ∙ z))),
     )

@@ -6,4 +6,4 @@ use Rattle.gx_tree.proofs.Levels.{IsInner-files}
 use Rattle.gx_tree.proofs.directory.Directory.order.Goals as goal
 
 pub returns : goal.returns
-returns g c = subst IsInner (files_same c.self.view_is) (IsInner-files (seen_all c.self.inside.entries.items) c.self.invariant.0)
+returns g c = subst IsInner (files_same c.self.view_is) (IsInner-files (seen_all c.self.inside.entries.value.items) c.self.invariant.0)

@@ -1,5 +1,4 @@
 use Rattle.std.proofs.Common.{sym, subst}
-use Rattle.gx_model.specs.Edits.{removed}
 use Rattle.gx_tree.specs.Named.{IsAtHome}
 use Rattle.gx_model.specs.NameMaps.{IsNameMap}
 use Rattle.gx_tree.proofs.NamedFiles.{names-removed}

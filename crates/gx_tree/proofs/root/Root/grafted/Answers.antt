@@ -1,5 +1,4 @@
 use Rattle.std.proofs.Common.{sym, ap, ◌∙◌, subst}
-use Rattle.std.proofs.lemmas.Result.{IfOk-weaker}
 use Rattle.gx_tree.specs.Named.{IsAtHome}
 use Rattle.gx_tree.specs.Views.{root_tree}
 use Rattle.gx_tree.proofs.root.Root.grafted.Goals as goal
@@ -12,9 +11,9 @@ grafted-requires-in-None-clause-kept g c = c.requires.kept
 
 pub returns-in_ok-grafted-in-Some-clause-home : goal.returns-in_ok-grafted-in-Some-clause-home
 returns-in_ok-grafted-in-Some-clause-home g c =
-    let same = sym c.self.view_is ∙ ap root_tree c.in-Some.is ∙ sym c.deref.ensures in
-    IfOk-weaker c.of.result _ _ (λ root k name rs h. k name rs (c.in_ok-grafted-in-Some.ensures.home name rs (h.0, subst (IsAtHome name rs) same h.1))) c.of.ensures.home
+    let same = sym c.self.view_is ∙ ap root_tree c.in-Some.is in
+    λ name rs h. c.of.ensures.home name rs (c.in_ok-grafted-in-Some.ensures.home name rs (h.0, subst (IsAtHome name rs) same h.1))
 
 pub returns-in_ok-grafted-in-None-clause-home : goal.returns-in_ok-grafted-in-None-clause-home
 returns-in_ok-grafted-in-None-clause-home g c =
-    IfOk-weaker c.of-in-None.result _ _ (λ root k name rs h. k name rs (c.in_ok-grafted-in-None.ensures.home name rs (h.0, subst (IsAtHome name rs) (sym c.new.ensures) tt))) c.of-in-None.ensures.home
+    λ name rs h. c.of-in-None.ensures.home name rs (c.in_ok-grafted-in-None.ensures.home name rs (h.0, subst (IsAtHome name rs) (sym c.in_ok-new-in-None.ensures) tt))

@@ -11,5 +11,5 @@ returns-then-len-eq0-clause-held g c = sub_map-none c.args.path.now c.args.self.
 
 pub returns-in-Folder-clause-home : goal.returns-in-Folder-clause-home
 returns-in-Folder-clause-home g c name rs h =
-    let same = sym c.self.view_is ∙ ap root_tree c.in-Some.is ∙ sym c.deref-2.ensures in
+    let same = sym c.self.view_is ∙ ap root_tree c.in-Some.is in
     subst (IsItemAtHome name rs) c.in-Folder.is (c.in_ok-mode.ensures.home name rs (subst (IsAtHome name rs) same h))

@@ -1,10 +1,9 @@
-use Rattle.std.proofs.Common.{refl, sym, ap, ◌∙◌}
+use Rattle.std.proofs.Common.{refl, sym, ◌∙◌}
 use Rattle.std.proofs.lemmas.Bool.{true≢false}
-use Rattle.gx_tree.proofs.Homes.{files_same}
 use Rattle.gx_tree.proofs.root.Root.of.Goals as goal
 
 pub same-directory : goal.same-directory
 same-directory g c = refl
 
 pub invariant_of-result : goal.invariant_of-result
-invariant_of-result g c none = true≢false (sym (c.is_empty.ensures.1 (sym (files_same c.in_ok-shared.ensures) ∙ none)) ∙ c.if-is_empty.false)
+invariant_of-result g c none = true≢false (sym (c.is_empty.ensures.1 (none)) ∙ c.if-is_empty.false)

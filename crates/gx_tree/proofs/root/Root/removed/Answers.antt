@@ -1,5 +1,4 @@
 use Rattle.std.proofs.Common.{sym, ap, ◌∙◌, arith, subst}
-use Rattle.std.proofs.lemmas.Result.{IfOk-weaker}
 use Rattle.gx_tree.specs.Named.{IsAtHome}
 use Rattle.gx_tree.specs.Views.{root_tree}
 use Rattle.gx_tree.proofs.EditSteps.{removed_root}
@@ -11,5 +10,5 @@ returns-then-len-eq0-clause-files g c = files_same c.none-then-len-eq0.ensures �
 
 pub returns-clause-home : goal.returns-clause-home
 returns-clause-home g c =
-    let same = sym c.self.view_is ∙ ap root_tree c.in-Some.is ∙ sym c.deref.ensures in
-    IfOk-weaker c.of.result _ _ (λ root k name rs h. k name rs (c.in_ok-removed.ensures.home name rs (subst (IsAtHome name rs) same h))) c.of.ensures.home
+    let same = sym c.self.view_is ∙ ap root_tree c.in-Some.is in
+    λ name rs h. c.of.ensures.home name rs (c.in_ok-removed.ensures.home name rs (subst (IsAtHome name rs) same h))

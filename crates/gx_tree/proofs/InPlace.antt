@@ -1,0 +1,61 @@
+-- A directory's entries where one takes the place of another.
+use Rattle.std.proofs.Common.{◌≡◌, ℕ, ◌+◌, ◌<◌, zero, suc, true, false, List, [], ◌∷◌, ◌++◌, length, get_or, drop, slice_set, Some, inl, inr, refl, sym, ap, ◌∙◌, arith, subst}
+use Rattle.std.specs.List.{list_all, AllByRecursion}
+use Rattle.std.proofs.lemmas.Bool.{cases_Bool}
+use Rattle.gx_model.specs.Texts.{Bytes, same_bytes}
+use Rattle.gx_model.specs.Paths.{Path, is_component}
+use Rattle.gx_tree.specs.Nodes.{Kept, Level, IsAfter, IsKept, IsLevel, comes_before, files, inserted, kept_at, kept_map, key, mark, others, precedes, with_kept}
+use Rattle.gx_tree.specs.Searches.{IsEntryAt}
+use Rattle.gx_tree.specs.Steps.{grafted, kept_grafted}
+use Rattle.gx_tree.specs.Views.{kept, seen, seen_all}
+use Rattle.gx_tree.specs.declared.directory.Entry.{Entry}
+use Rattle.gx_tree.proofs.EditSteps.{Leaves, grafted_step}
+use Rattle.gx_tree.proofs.Levels.{key_trans}
+use Rattle.gx_tree.proofs.Searches.{after_at, kept_at_place, not_before_itself}
+use Rattle.gx_tree.proofs.Texts.{bytes_same, same_bytes_flip, same_itself}
+
+others_after : (a : Bytes × Kept) (es : Level) → AllByRecursion (IsAfter a) es → others a.0 es ≡ es
+others_after a [] h = refl
+others_after a (e ∷ es) h = rw h.0.0 (ap (λ r. e ∷ r) (others_after a es h.1))
+
+first_again : (c : Bytes) (j k : Kept) (es : Level) → AllByRecursion (IsAfter (c, j)) es → mark k ≡ mark j → inserted c k es ≡ (c, k) ∷ es
+first_again c j k [] h m = refl
+first_again c j k (e ∷ es) h m = let a : comes_before c k e ≡ true = ap (λ z. precedes (c ++ z) e) m ∙ h.0.1 in rw a refl
+
+-- the entry at i, read as r, gives way to one of the same component and mark
+in_place : {A : Type 0} (es : List (Entry A)) (i : ℕ) (r e : Entry A) → IsLevel (seen_all es) → i < length es → r ≡ get_or es i r → (seen e).0 ≡ (seen r).0 → mark (kept e.item) ≡ mark (kept r.item) → seen_all (slice_set es i e) ≡ with_kept (seen r).0 (kept e.item) (seen_all es)
+in_place [] i r e h l ir c m = absurd (omega arith)
+in_place (x ∷ es) zero r e h l ir c m =
+    let t : (seen r).0 ≡ (seen x).0 = ap (λ z. (seen z).0) ir in
+    let same : (seen e).0 ≡ (seen x).0 = c ∙ t in
+    let mx : mark (kept e.item) ≡ mark (kept x.item) = m ∙ ap (λ z. mark (kept z.item)) ir in
+    ap (λ z. (z, kept e.item) ∷ seen_all es) same
+    ∙ sym (ap (λ z. with_kept z (kept e.item) (seen_all (x ∷ es))) t ∙ rw (same_itself (seen x).0) (ap (inserted (seen x).0 (kept e.item)) (others_after (seen x) (seen_all es) h.2) ∙ first_again (seen x).0 (kept x.item) (kept e.item) (seen_all es) h.2 mx))
+in_place (x ∷ es) (suc i) r e h l ir c m =
+    let a : IsAfter (seen x) (seen r) = subst (λ z. IsAfter (seen x) (seen z)) (sym ir) (after_at (seen x) es i r h.2 (omega arith)) in
+    let n : same_bytes (seen r).0 (seen x).0 ≡ false = same_bytes_flip (seen r).0 (seen x).0 ∙ a.0 in
+    let b : comes_before (seen r).0 (kept e.item) (seen x) ≡ false = elim (cases_Bool (comes_before (seen r).0 (kept e.item) (seen x))) [
+      | inl y ↦ absurd (not_before_itself (key (seen x).0 (seen x).1) (key_trans (key (seen x).0 (seen x).1) (key (seen r).0 (seen r).1) (key (seen x).0 (seen x).1) a.1 (ap (λ z. precedes ((seen r).0 ++ z) (seen x)) (sym m) ∙ y)))
+      | inr y ↦ y
+    ] in
+    rw (n, b) (ap (λ q. seen x ∷ q) (in_place es i r e h.3 (omega arith) ir c m))
+
+-- so an edit below it is an edit of the whole
+pub put_at : {A : Type 0} {t : Bytes} (p : Path) (i n : ℕ) (f : Kept) (es xs ys : List (Entry A)) (r e : Entry A) → i < length p → IsKept f → list_all is_component p ≡ true → IsLevel (seen_all es) → xs ≡ es → ys ≡ es → IsEntryAt t xs n → t ≡ get_or p i [] → r ≡ get_or ys n r → (seen e).0 ≡ (seen r).0 → kept e.item ≡ kept_grafted (drop (i + 1) p) f (Some (kept r.item)) → mark (kept e.item) ≡ mark (kept r.item) → Leaves (grafted (drop i p) (kept_map f) (files (seen_all es))) (seen_all (slice_set ys n e))
+put_at p i n f es xs ys r e l hf hp level ex ey at et er ec ek em =
+    let within : n < length es = subst (λ z. n < length z) ex at.0 in
+    let ir : r ≡ get_or es n r = er ∙ ap (λ z. get_or z n r) ey in
+    let c : (seen r).0 ≡ get_or p i [] = ap (λ z. (seen z).0) ir ∙ ap (λ z. (seen (get_or z n r)).0) (sym ex) ∙ at.1 r ∙ et in
+    let o : kept_at (get_or p i []) (seen_all es) ≡ Some (kept r.item) = kept_at_place (get_or p i []) (seen r).0 es n r level within ir refl (bytes_same _ _ c) in
+    let out : seen_all (slice_set ys n e) ≡ with_kept (seen r).0 (kept e.item) (seen_all es) = ap (λ z. seen_all (slice_set z n e)) ey ∙ in_place es n r e level within ir ec em in
+    grafted_step p i (seen_all es) (seen_all (slice_set ys n e)) f (Some (kept r.item)) l hf hp refl level refl c refl refl o ek out
+
+pub set_again : {X : Type 0} (xs : List X) (i : ℕ) (r : X) → r ≡ get_or xs i r → slice_set xs i r ≡ xs
+set_again [] i r e = refl
+set_again (x ∷ xs) zero r e = ap (λ z. z ∷ xs) e
+set_again (x ∷ xs) (suc i) r e = ap (λ z. x ∷ z) (set_again xs i r e)
+
+pub all_set : {X : Type 0} (P : X → Type 0) (xs : List X) (i : ℕ) (x : X) → AllByRecursion P xs → P x → AllByRecursion P (slice_set xs i x)
+all_set P [] i x h p = tt
+all_set P (y ∷ xs) zero x h p = (p, h.1)
+all_set P (y ∷ xs) (suc i) x h p = (h.0, all_set P xs i x h.1 p)

@@ -1,0 +1,12 @@
+use Rattle.std.proofs.Common.{subst}
+use Rattle.std.proofs.lemmas.List.{take_all}
+use Rattle.std.specs.List.{AllByRecursion}
+use Rattle.gx_tree.specs.Views.{IsNamed}
+use Rattle.gx_tree.proofs.WrittenHomes.{all_more}
+use Rattle.gx_tree.proofs.writing.are_named.Goals as goal
+
+pub loop-entry-preserved : goal.loop-entry-preserved
+loop-entry-preserved g c = all_more (λ e. IsNamed c.args.trusts e.item) c.args.entries.now c.loop-entry.entry-index c.entry-item.result c.loop-entry-test.true c.entry-item.is c.loop-entry.invariant (c.is_named.ensures c.if-not-is_named.false)
+
+pub returns : goal.returns
+returns g c = λ is. subst (AllByRecursion (λ e. IsNamed c.args.trusts e.item)) (take_all c.loop-entry.entry-index c.args.entries.now c.loop-entry-test.false) c.loop-entry.invariant

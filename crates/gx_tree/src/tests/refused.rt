@@ -77,9 +77,9 @@ fn set_up<A: Allocator + Copy>(alloc: A, state: RandomState) -> Option<Trial<A>>
 }
 
 /// The call, at which the growth with this number is refused.
-fn refused_call<'x, B: Allocator>(
-    heap: &'x Refusing<B>,
-    on: &mut Trial<&'x Refusing<B>>,
+fn refused_call<B: Allocator, C: Allocator + Copy>(
+    heap: &Refusing<B>,
+    on: &mut Trial<C>,
     call: Call,
     nth: u64,
 ) -> Answer {
@@ -91,16 +91,17 @@ fn refused_call<'x, B: Allocator>(
 }
 
 /// A call at which the growth with this number is refused, and whether the files after it are the old ones and whether
-/// they are these.
-fn trial_of<A: Allocator + Copy, B: Allocator>(
+/// they are these. The heap is given once more as the allocator.
+fn trial_of<A: Allocator + Copy, B: Allocator, C: Allocator + Copy>(
     alloc: A,
     heap: &Refusing<B>,
+    own: C,
     call: Call,
     files: &[u8],
     nth: u64,
     state: RandomState,
 ) -> Option<(Answer, bool, bool)> {
-    let mut on = set_up(heap, state)?;
+    let mut on = set_up(own, state)?;
     let answer = refused_call(heap, &mut on, call, nth);
     let is_old = lists(alloc, &on.tree, MIXED);
     Some((answer, is_old, lists(alloc, &on.tree, files)))
@@ -116,7 +117,7 @@ fn growths_of<A: Allocator + Copy>(
     let mut refused = 0u64;
     for n in 1..200 {
         let heap = Refusing::new(alloc, 0);
-        let (answer, is_old, is_new) = trial_of(alloc, &heap, call, files, n, state)?;
+        let (answer, is_old, is_new) = trial_of(alloc, &heap, &heap, call, files, n, state)?;
         if answer == (Ok(()), true) && is_new {
             return Some(refused);
         }
@@ -172,29 +173,31 @@ fn seen<A: Allocator + Copy, B: Allocator + Copy>(
 }
 
 /// A load after a write, at which the growth with this number is refused.
-fn written_and_loaded<'x, A: Allocator + Copy, B: Allocator>(
+fn written_and_loaded<A: Allocator + Copy, B: Allocator, C: Allocator + Copy>(
     alloc: A,
-    heap: &'x Refusing<B>,
-    on: &mut Trial<&'x Refusing<B>>,
+    heap: &Refusing<B>,
+    own: C,
+    on: &mut Trial<C>,
     nth: u64,
 ) -> Option<(Answer, bool)> {
     let name = on.tree.write(&mut on.store).ok()?;
     heap.arm(nth);
-    let loaded = PathTree::load(heap, &on.store, &name);
+    let loaded = PathTree::load(own, &on.store, &name);
     let is_waiting = heap.is_waiting();
     heap.arm(0);
     let (answer, is_whole) = seen(alloc, loaded);
     Some(((answer, is_waiting), is_whole))
 }
 
-fn refused_load<A: Allocator + Copy, B: Allocator>(
+fn refused_load<A: Allocator + Copy, B: Allocator, C: Allocator + Copy>(
     alloc: A,
     heap: &Refusing<B>,
+    own: C,
     nth: u64,
     state: RandomState,
 ) -> Option<(Answer, bool)> {
-    let mut on = set_up(heap, state)?;
-    written_and_loaded(alloc, heap, &mut on, nth)
+    let mut on = set_up(own, state)?;
+    written_and_loaded(alloc, heap, own, &mut on, nth)
 }
 
 /// How many growths of a load are refused before none is.
@@ -202,7 +205,7 @@ fn growths_of_load<A: Allocator + Copy>(alloc: A, state: RandomState) -> Option<
     let mut refused = 0u64;
     for n in 1..200 {
         let heap = Refusing::new(alloc, 0);
-        let (answer, is_whole) = refused_load(alloc, &heap, n, state)?;
+        let (answer, is_whole) = refused_load(alloc, &heap, &heap, n, state)?;
         if answer == (Ok(()), true) && is_whole {
             return Some(refused);
         }

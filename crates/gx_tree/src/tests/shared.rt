@@ -26,27 +26,37 @@ fn written_again<A: Allocator + Copy>(
     Some((shared, alone, empty.len()))
 }
 
-fn mixed_again<A: Allocator + Copy>(alloc: A, state: RandomState) -> Option<(Name, Name, usize)> {
+fn mixed_again<A: Allocator + Copy>(
+    alloc: A,
+    path: &[u8],
+    state: RandomState,
+) -> Option<(Name, Name, usize)> {
     let mut tree = mixed(alloc)?;
-    let path = TreePath::read(alloc, b"n/o/p").ok()?;
+    let path = TreePath::read(alloc, path).ok()?;
     written_again(alloc, &mut tree, &path, state)
 }
+
+const AGAIN: &[(&[u8], usize)] = &[(b"n/o/p", 5), (b"d/e/f", 4), (b"m", 4)];
 
 #[test]
 fn remembered_names_give_the_name_of_the_tree(rt: HostRuntime) -> Result<(), Fail> {
     let state = RandomState::new(&rt)?;
-    let (shared, alone, trees) = mixed_again(rt.alloc(), state).ok_or("tree")?;
-    assert_eq!(rt; (shared, trees), (alone, 5));
+    for (path, len) in AGAIN {
+        let (shared, alone, trees) = mixed_again(rt.alloc(), path, state).ok_or("tree")?;
+        assert_eq!(rt; (shared, trees), (alone, *len));
+    }
     Ok(())
 }
 
-/// What a tree is written as, and then by the names that it remembers while each growth is refused.
-fn written_twice<B: Allocator>(
+/// What a tree is written as, and then by the names that it remembers while each growth is refused. The heap is given
+/// once more as the allocator.
+fn written_twice<B: Allocator, C: Allocator + Copy>(
     heap: &Refusing<B>,
+    own: C,
     state: RandomState,
 ) -> Option<(Name, Result<Name, TreeFault>)> {
-    let mut tree = mixed(heap)?;
-    let mut store = Store::new(heap, Sha1Namer, state);
+    let mut tree = mixed(own)?;
+    let mut store = Store::new(own, Sha1Namer, state);
     let Ok(first) = tree.write(&mut store) else {
         return None;
     };
@@ -59,7 +69,7 @@ fn written_twice<B: Allocator>(
 #[test]
 fn remembered_names_are_written_without_memory(rt: HostRuntime) -> Result<(), Fail> {
     let heap = Refusing::new(rt.alloc(), 0);
-    let (first, second) = written_twice(&heap, RandomState::new(&rt)?).ok_or("tree")?;
+    let (first, second) = written_twice(&heap, &heap, RandomState::new(&rt)?).ok_or("tree")?;
     assert_eq!(rt; second, Ok(first));
     Ok(())
 }

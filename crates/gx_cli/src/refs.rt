@@ -14,7 +14,7 @@ use std::alloc::Allocator;
 
 /// Prints each ref: the digits of its object's name, a space, and its own name, in the byte order of names.
 ///
-/// Cost: what is printed. Takes no memory.
+/// Cost: what is printed.
 pub(crate) fn print_refs<N: Namer, A: Allocator + Copy, W: Sink>(
     repo: &Repo<N, A>,
     sink: &mut W,

@@ -5,7 +5,7 @@ ghost use Rattle.gx_cli.specs.Sending.{PrintsText};
 use crate::CliFault;
 use gx_text::{Sink, send};
 
-/// Sends a text. Takes no memory.
+/// Sends a text.
 pub(crate) fn put_text<W: Sink>(sink: &mut W, text: &[u8]) -> Result<(), CliFault>
     ensures { PrintsText text.now (W.taken sink.old) (W.taken sink.new) result }
 {

@@ -78,10 +78,12 @@ tree_takes body es bytes e =
     let names = are_names read.0 taken.0 (ap small (sym taken.1) ∙ all_bytes body bytes) in
     subst (λ (xs : List Entry). IsTreeText xs body) g.1 (taken.1, g.0, names)
 
+-- what the body of a tree gives is its entries
+pub tree_read : (body : Bytes) (es : List Entry) → IsTreeText es body → entries_of body ≡ Some es
+tree_read body es h = ap entries_of h.0 ∙ entries_again es (have_names es h.2) (lack_nul es (canonical_parts es h.1).components)
+
 tree_again : (body : Bytes) (es : List Entry) → IsTreeText es body → tree_of body ≡ Some es
-tree_again body es h =
-    let again = ap entries_of h.0 ∙ entries_again es (have_names es h.2) (lack_nul es (canonical_parts es h.1).components) in
-    rw (again, h.1) refl
+tree_again body es h = rw (tree_read body es h, h.1) refl
 
 pub tree_found : {E : Type 0} (body : Bytes) (r : Result (List Entry) E) → AreBytes body → result_ok r ≡ tree_of body → IfOk r (λ es. IsTreeText es body)
 tree_found body (Ok es) bytes e = tree_takes body es bytes (sym e)

@@ -20,4 +20,4 @@ pub use name::Name;
 pub use namer::{Namer, Sha1Namer, ShortNamer};
 pub use order::is_canonical;
 pub use tag::{TagParts, TagView, decode_tag, encode_tag};
-pub use tree::{TreeEntries, decode_tree, encode_tree};
+pub use tree::{TreeEntries, decode_tree, encode_tree, encode_tree_into, held_tree};

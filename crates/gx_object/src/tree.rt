@@ -1,6 +1,6 @@
 //! The bodies of trees. Source: Pro Git, "Git Objects".
 
-ghost use Rattle.std.specs.Prelude.{◌≡◌, ◌++◌, List, map, IsTrue, IfOk, IsOkAnd};
+ghost use Rattle.std.specs.Prelude.{◌≡◌, ◌++◌, List, map, IsTrue, IfOk, IsOkAnd, OnOk};
 ghost use Rattle.std.specs.Option.{is_some};
 ghost use Rattle.std.specs.Result.{result_ok};
 ghost use Rattle.std.specs.Iterator.{item_count};
@@ -25,10 +25,26 @@ pub fn encode_tree<A: Allocator + Copy>(
     ensures { IfOk result (λ body. IsTreeText (map shown entries.now) body.items) }
 {
     let mut body = Vec::new(alloc);
-    for entry in entries {
-        append_entry(&mut body, entry)?;
-    }
+    encode_tree_into(&mut body, entries)?;
     Ok(body)
+}
+
+/// Makes a buffer the body of the tree with these entries, in place of what it held. Where a growth is refused, it holds a
+/// front of the body.
+///
+/// Cost: the body's length. Takes memory only where the buffer has no room for the body, so one buffer serves many trees.
+pub fn encode_tree_into<A: Allocator + Copy>(
+    body: &mut Vec<u8, A>,
+    entries: &[Entry<'_>],
+) -> Result<(), AllocError>
+    requires { IsTrue (is_canonical (map shown entries.now)) }
+    ensures { OnOk result (IsTreeText (map shown entries.now) body.new.items) }
+{
+    body.clear();
+    for entry in entries {
+        append_entry(body, entry)?;
+    }
+    Ok(())
 }
 
 /// The entries of a tree's body, in its order. It is seen as the list of the entries left.
@@ -82,6 +98,16 @@ pub fn decode_tree(body: &[u8]) -> Result<TreeEntries<'_>, BadObject>
     ensures only { (entries : List TreeEntry) → IsTreeText entries body.now → IsOkAnd result (λ found. found ≡ entries) }
 {
     read_tree(body)
+}
+
+/// The entries of a body that is known to be that of a canonical list of entries, as one that a store holds is.
+///
+/// Cost: one step, since each entry is read where it is asked for. Takes no memory.
+pub fn held_tree(body: &[u8]) -> TreeEntries<'_>
+    requires { (entries : List TreeEntry) × IsTreeText entries body.now }
+    ensures { (entries : List TreeEntry) → IsTreeText entries body.now → result ≡ entries }
+{
+    TreeEntries { rest: body }
 }
 
 fn read_tree(body: &[u8]) -> Result<TreeEntries<'_>, BadObject>

@@ -1,5 +1,5 @@
 -- Copies and renames, by what stands at their source.
-use Rattle.std.proofs.Common.{◌≡◌, ◌≢◌, ◌≤◌, true, false, cond, not, ◌&&◌, [], ◌∷◌, ◌++◌, map, length, drop, Option, Some, inl, inr, refl, sym, ap, ◌∙◌, subst, arith, append-nil}
+use Rattle.std.proofs.Common.{◌≡◌, ◌≢◌, ◌≤◌, true, false, cond, not, ◌&&◌, [], ◌∷◌, ◌++◌, map, length, drop, Option, Some, None, Result, inl, inr, refl, sym, ap, ◌∙◌, subst, arith, append-nil}
 use Rattle.std.specs.Prelude.{is_some, Err}
 use Rattle.std.specs.List.{list_all}
 use Rattle.std.proofs.lemmas.Bool.{and_parts, cases_Bool, false≢true}
@@ -14,7 +14,7 @@ use Rattle.gx_tree.specs.Copies.{graft_fault, is_file}
 use Rattle.gx_tree.specs.Lists.{below}
 use Rattle.gx_tree.specs.Nodes.{Kept, IsInner, IsKept, file, folder, kept_map}
 use Rattle.gx_tree.specs.Steps.{grafted}
-use Rattle.gx_tree.specs.Faults.{fault_of}
+use Rattle.gx_tree.specs.Faults.{fault_of, Refuses}
 use Rattle.gx_tree.specs.declared.fault.TreeFault.{TreeFault}
 use Rattle.gx_model.specs.Faults.{IsFaultOf}
 use Rattle.std.specs.FinMap.Entries.{below_all, is_sorted, put}
@@ -83,6 +83,14 @@ refused_by o x g e = subst (λ r. IsFaultOf (fault_of x) (unless r g)) e (itself
     itself model.RootNotTree g = refl
     itself model.PathTooLong g = refl
     itself _ g = refl
+
+-- a refusal is told whatever memory there is
+pub refuses_by : (Y : Type 0) (o : Option Fault) (x : TreeFault) (g : FileMap Bytes) → Some (fault_of x) ≡ o → Refuses {Y = Y} (unless o g) (Err x)
+refuses_by Y o x g e = subst (λ r. Refuses {Y = Y} (unless r g) (Err x)) e refl
+
+-- and where there is none, nothing is said
+pub refuses_none : (Y : Type 0) (o : Option Fault) (g : FileMap Bytes) (answer : Result Y TreeFault) → None ≡ o → Refuses {Y = Y} (unless o g) answer
+refuses_none Y o g answer e = subst (λ r. Refuses {Y = Y} (unless r g) answer) e tt
 
 -- nothing is at the source
 pub copied_none : (f : FileMap Bytes) (s d : Path) → sub_map f s ≡ [] → copied f s d ≡ Err model.NoSuchPath

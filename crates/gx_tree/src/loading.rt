@@ -11,7 +11,7 @@ ghost use Rattle.gx_tree.specs.Views.{kept, Remembers};
 ghost use Rattle.gx_tree.specs.Writes.{kept_leaf};
 
 use crate::directory::{Directory, Entry, Item};
-use gx_object::{Mode, Name, Namer, decode_tree};
+use gx_object::{Mode, Name, Namer, held_tree};
 use gx_store::Store;
 use std::alloc::{AllocError, Allocator};
 
@@ -32,11 +32,8 @@ impl<A: Allocator + Copy> Directory<A> {
         let Some((_, body)) = store.get(name) else {
             unreachable!();
         };
-        let Ok(held) = decode_tree(body) else {
-            unreachable!();
-        };
         let mut entries = Vec::new(alloc);
-        for entry in held {
+        for entry in held_tree(body) {
             let item = Item::load(alloc, store, &entry, room)?;
             entries.push(Entry::new(alloc, entry.component, item)?)?;
         }

@@ -1,5 +1,5 @@
 //! Trees of files by their paths.
-ghost use Rattle.std.specs.Prelude.{◌≡◌, ◌≢◌, [], length, map, take, None, Ok, IfOk, OnErr, IsTrue};
+ghost use Rattle.std.specs.Prelude.{◌≡◌, ◌≢◌, [], length, map, take, None, Ok, Err, IfOk, IsOk, OnErr, IsTrue};
 ghost use Rattle.std.specs.Option.{option_map};
 ghost use Rattle.gx_model.specs.Edits.{copied, modified, removed, renamed};
 ghost use Rattle.gx_model.specs.Faults.{Gives};
@@ -8,7 +8,7 @@ ghost use Rattle.gx_model.specs.Texts.{Bytes};
 ghost use Rattle.gx_model.specs.Growth.{tree_records};
 ghost use Rattle.gx_model.specs.Objects.{is_name};
 ghost use Rattle.gx_tree.specs.Copies.{graft_fault, kept_held, option_held};
-ghost use Rattle.gx_tree.specs.Faults.{fault_of};
+ghost use Rattle.gx_tree.specs.Faults.{fault_of, Refuses};
 ghost use Rattle.gx_model.specs.NameMaps.{IsHeldTree, IsNameMap};
 ghost use Rattle.gx_tree.specs.Homes.{Keeps, Both, IfThere, Borrowed, AreAtHome, IsHeldAtHome, IsItemAtHome};
 ghost use Rattle.gx_tree.specs.Lists.{listed};
@@ -18,6 +18,7 @@ ghost use Rattle.gx_tree.specs.Steps.{grafted};
 ghost use Rattle.gx_tree.specs.Writes.{PutsAll, map_name};
 ghost use Rattle.gx_tree.specs.Standings.{standing_of, standing_at};
 ghost use Rattle.gx_model.specs.declared.objects.Mode.TheVariants as modes;
+ghost use Rattle.gx_tree.specs.declared.fault.TreeFault.TheVariants as faults;
 
 use crate::copying::{Held, MOST_BYTES};
 use crate::directory::{Directory, Item};
@@ -71,8 +72,8 @@ impl<A: Allocator + Copy> PathTree<A> {
     /// The files of a tree in the store, which holds the tree and all trees below it, as after `write`. What files and
     /// gitlinks name needn't be held. The one error is `OutOfMemory`.
     ///
-    /// Cost: the bytes of the trees, and for each directory a look-up in the store. Takes memory for the tree's entries
-    /// and their components. Source: gitglossary(7), "tree object".
+    /// Cost: the bytes of the trees, each read once, since what a store holds is canonical, and for each directory a
+    /// look-up in the store. Takes memory for the tree's entries and their components. Source: gitglossary(7), "tree object".
     pub fn load<N: Namer>(
         alloc: A,
         store: &Store<N, A>,
@@ -145,6 +146,7 @@ impl<A: Allocator + Copy> PathTree<A> {
     pub fn modify(&mut self, path: &TreePath<A>, mode: Mode, name: Name) -> Result<(), TreeFault>
         requires { mode ≢ modes.Dir }
         ensures map { Gives fault_of (λ _. self.new.files) result (modified self.old.files path.now (mode, name.bytes)) }
+        ensures root { path.now ≡ [] → result ≡ Err faults.RootNotTree }
         ensures unchanged { OnErr result (self.new ≡ self.old) }
         ensures home { KeepsHome self.old self.new }
     {
@@ -166,6 +168,7 @@ impl<A: Allocator + Copy> PathTree<A> {
     /// git-fast-import(1), "filedelete".
     pub fn remove(&mut self, path: &TreePath<A>) -> Result<(), TreeFault>
         ensures map { Gives fault_of (λ _. self.new.files) result (Ok (removed self.old.files path.now)) }
+        ensures root { path.now ≡ [] → IsOk result }
         ensures unchanged { OnErr result (self.new ≡ self.old) }
         ensures home { KeepsHome self.old self.new }
     {
@@ -182,6 +185,7 @@ impl<A: Allocator + Copy> PathTree<A> {
     /// Cost: as for `remove`; what is copied is shared, and its paths are looked at. Source: git-fast-import(1), "filecopy".
     pub fn copy(&mut self, source: &TreePath<A>, destination: &TreePath<A>) -> Result<(), TreeFault>
         ensures map { Gives fault_of (λ _. self.new.files) result (copied self.old.files source.now destination.now) }
+        ensures refused { Refuses (copied self.old.files source.now destination.now) result }
         ensures unchanged { OnErr result (self.new ≡ self.old) }
         ensures home { KeepsHome self.old self.new }
     {
@@ -201,6 +205,7 @@ impl<A: Allocator + Copy> PathTree<A> {
         destination: &TreePath<A>,
     ) -> Result<(), TreeFault>
         ensures map { Gives fault_of (λ _. self.new.files) result (renamed self.old.files source.now destination.now) }
+        ensures refused { Refuses (renamed self.old.files source.now destination.now) result }
         ensures unchanged { OnErr result (self.new ≡ self.old) }
         ensures home { KeepsHome self.old self.new }
     {
@@ -214,8 +219,8 @@ impl<A: Allocator + Copy> PathTree<A> {
     ///
     /// `NameHeld` where a tree has the name of an object of another kind or with other bytes, and `OutOfMemory`: what was
     /// put by then stays, behind the records that the store had. The files stay as they were in any case.
-    /// Cost: the bytes of the trees, and for each directory a look-up in the store. Takes memory for the new records, and
-    /// for directories that remember their names. Source: gitglossary(7), "tree object".
+    /// Cost: the bytes of the trees, and for each directory a look-up in the store. Takes memory for the new records,
+    /// for directories that remember their names, and for one body at a time. Source: gitglossary(7), "tree object".
     pub fn write<N: Namer>(&mut self, store: &mut Store<N, A>) -> Result<Name, TreeFault>
         ensures name { IfOk result (λ name. name.bytes ≡ map_name (N.name_of store.old.0) self.old.files) }
         ensures records { PutsAll (tree_records (N.name_of store.old.0) self.old.files) store.old.1 store.new.1 result }
@@ -258,6 +263,7 @@ impl<A: Allocator + Copy> PathTree<A> {
         destination: &TreePath<A>,
     ) -> Result<Root<A>, TreeFault>
         ensures files { Gives fault_of (λ root. root.files) result (copied self.now.files source.now destination.now) }
+        ensures refused { Refuses (copied self.now.files source.now destination.now) result }
         ensures names { IfOk result (λ root. IsNameMap root.files) }
         ensures home { IfOk result (KeepsHome self.now) }
     {
@@ -276,6 +282,7 @@ impl<A: Allocator + Copy> PathTree<A> {
         destination: &TreePath<A>,
     ) -> Result<Root<A>, TreeFault>
         ensures files { Gives fault_of (λ root. root.files) result (renamed self.now.files source.now destination.now) }
+        ensures refused { Refuses (renamed self.now.files source.now destination.now) result }
         ensures names { IfOk result (λ root. IsNameMap root.files) }
         ensures home { IfOk result (KeepsHome self.now) }
     {

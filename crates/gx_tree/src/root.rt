@@ -1,5 +1,5 @@
 //! The root of a tree: a directory, and none where there are no files.
-ghost use Rattle.std.specs.Prelude.{◌≡◌, ◌≢◌, ◌<◌, ◌++◌, [], IfOk, IsFalse, IsTrue, OnOk, length, map, take};
+ghost use Rattle.std.specs.Prelude.{◌≡◌, ◌≢◌, ◌<◌, ◌++◌, [], IfOk, IsFalse, IsOk, IsTrue, OnOk, length, map, take};
 ghost use Rattle.std.specs.List.{list_all};
 ghost use Rattle.std.specs.Option.{option_map};
 ghost use Rattle.gx_model.specs.Edits.{removed};
@@ -155,6 +155,7 @@ impl<A: Allocator + Copy> Root<A> {
     /// That without what stands at or below a path.
     pub(crate) fn removed(&self, alloc: A, path: &TreePath<A>) -> Result<Root<A>, AllocError>
         ensures files { IfOk result (λ root. root.files ≡ removed self.now.files path.now) }
+        ensures root { path.now ≡ [] → IsOk result }
         ensures home { IfOk result (Keeps IsAtHome IsAtHome self.now) }
     {
         let Some(node) = &self.node else {
@@ -196,13 +197,14 @@ impl<A: Allocator + Copy> Root<A> {
         ensures files { IfOk result (λ made. made.0.files ≡ self.now.files) }
         ensures home { IfOk result (λ made. IsAtHome (N.name_of store.old.0) store.new.1 made.0) }
     {
+        let mut body = Vec::new(alloc);
         match &self.node {
             Some(node) => {
-                let (node, name) = written_node(alloc, node, store, trusts)?;
+                let (node, name) = written_node(alloc, node, store, &mut body, trusts)?;
                 Ok((Root { node: Some(node) }, name))
             }
             None => {
-                let (_, name) = Directory::new(alloc)?.written(alloc, store, trusts)?;
+                let (_, name) = Directory::new(alloc)?.written(alloc, store, &mut body, trusts)?;
                 Ok((Root::none(), name))
             }
         }

@@ -10,18 +10,20 @@ ghost use Rattle.gx_tree.specs.Writes.{PutsAll, kept_leaf, kept_records, map_nam
 
 use crate::directory::{Directory, Entry, Item};
 use crate::fault::TreeFault;
-use gx_object::{Kind, Mode, Name, Namer, encode_tree};
+use gx_object::{Kind, Mode, Name, Namer, encode_tree_into};
 use gx_store::Store;
 use std::alloc::{AllocError, Allocator};
 use std::rc::Rc;
 
 impl<A: Allocator + Copy> Directory<A> {
-    /// Puts the trees at and below the directory, and answers it with their names, and the name of its own.
+    /// Puts the trees at and below the directory, and answers it with their names, and the name of its own. Each body is
+    /// made in the one buffer, once those below are put.
     #[cycle(write)]
     pub(crate) fn written<N: Namer>(
         &self,
         alloc: A,
         store: &mut Store<N, A>,
+        body: &mut Vec<u8, A>,
         trusts: bool,
     ) -> Result<(Directory<A>, Name), TreeFault>
         requires home { IsTrue trusts → IsAtHome (N.name_of store.now.0) store.now.1 self.now }
@@ -37,7 +39,7 @@ impl<A: Allocator + Copy> Directory<A> {
         let mut named = Vec::new(alloc);
         let mut entries = Vec::with_capacity(alloc, self.entries.len())?;
         for entry in self.entries.as_slice() {
-            let (item, mode, name) = entry.item.written(alloc, store, trusts)?;
+            let (item, mode, name) = entry.item.written(alloc, store, body, trusts)?;
             let component = entry.component();
             let Ok(()) = entries.push(gx_object::Entry {
                 mode,
@@ -52,9 +54,9 @@ impl<A: Allocator + Copy> Directory<A> {
                 };
             }
         }
-        let body = encode_tree(alloc, &entries)?;
+        encode_tree_into(body, &entries)?;
         let below = chosen(alloc, shares, &self.entries, named)?;
-        let name = store.put(Kind::Tree, &body)?;
+        let name = store.put(Kind::Tree, body.as_slice())?;
         let directory = Directory {
             entries: below,
             remembered: Some(name),
@@ -126,6 +128,7 @@ impl<A: Allocator + Copy> Item<A> {
         &self,
         alloc: A,
         store: &mut Store<N, A>,
+        body: &mut Vec<u8, A>,
         trusts: bool,
     ) -> Result<(Item<A>, Mode, Name), TreeFault>
         requires home { IsTrue trusts → IsItemAtHome (N.name_of store.now.0) store.now.1 self.now }
@@ -140,7 +143,7 @@ impl<A: Allocator + Copy> Item<A> {
         match self {
             Item::File(mode, name) => Ok((Item::File(*mode, *name), *mode, *name)),
             Item::Folder(below) => {
-                let (node, name) = written_node(alloc, below, store, trusts)?;
+                let (node, name) = written_node(alloc, below, store, body, trusts)?;
                 Ok((Item::Folder(node), Mode::Dir, name))
             }
         }
@@ -154,6 +157,7 @@ pub(crate) fn written_node<A: Allocator + Copy, N: Namer>(
     alloc: A,
     node: &Directory<A>,
     store: &mut Store<N, A>,
+    body: &mut Vec<u8, A>,
     trusts: bool,
 ) -> Result<(Directory<A>, Name), TreeFault>
     requires home { IsTrue trusts → IsAtHome (N.name_of store.now.0) store.now.1 node.now }
@@ -170,5 +174,5 @@ pub(crate) fn written_node<A: Allocator + Copy, N: Namer>(
             return Ok((node.shared()?, name));
         }
     }
-    node.written(alloc, store, trusts)
+    node.written(alloc, store, body, trusts)
 }

@@ -74,6 +74,36 @@ fn trees_have_gits_names_and_are_read_back(rt: HostRuntime) -> Result<(), Fail> 
     Ok(())
 }
 
+/// The body of the tree of the second entries, which is made where that of the first ones stood.
+fn made_after<A: Allocator + Copy>(
+    alloc: A,
+    first: &[Entry<'_>],
+    second: &[Entry<'_>],
+) -> Option<Vec<u8, A>> {
+    if !is_canonical(first) {
+        return None;
+    }
+    if !is_canonical(second) {
+        return None;
+    }
+    let mut body = Vec::new(alloc);
+    encode_tree_into(&mut body, first).ok()?;
+    encode_tree_into(&mut body, second).ok()?;
+    Some(body)
+}
+
+#[test]
+fn a_buffer_holds_the_last_tree_alone(rt: HostRuntime) -> Result<(), Fail> {
+    let old = entry(Mode::File, b"test.txt", VERSION_1).ok_or("digits")?;
+    let new = entry(Mode::File, b"new.txt", NEW_FILE).ok_or("digits")?;
+    let test = entry(Mode::File, b"test.txt", VERSION_2).ok_or("digits")?;
+    let body = made_after(rt.alloc(), &[new, test], &[old]).ok_or("canonical")?;
+    assert_eq!(rt; body.len(), 36);
+    let name = Sha1Namer.name(Kind::Tree, body.as_slice());
+    assert_eq!(rt; name.hex().as_slice(), BAK);
+    Ok(())
+}
+
 #[test]
 fn other_orders_are_not_canonical(rt: HostRuntime) -> Result<(), Fail> {
     let a = entry(Mode::File, b"a", VERSION_1).ok_or("digits")?;

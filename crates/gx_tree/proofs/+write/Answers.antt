@@ -84,8 +84,8 @@ directory::Directory::written-loop-entry-preserved g t c =
       ],
     )
 
-pub directory::Directory::written-encode_tree-requires : goal.directory::Directory::written-encode_tree-requires
-directory::Directory::written-encode_tree-requires g t c =
+pub directory::Directory::written-encode_tree_into-requires : goal.directory::Directory::written-encode_tree_into-requires
+directory::Directory::written-encode_tree_into-requires g t c =
     let name = g.N.Namer.name_of c.args.store.now.0 in
     let e = written_entries name c.as_slice-entry-items.result.now c.loop-entry.entry-index (map shown c.loop-entry.entries.items) c.args.store.now.1 c.loop-entry.store.1 c.loop-entry-test.false c.loop-entry.invariant.1 in
     ap is_canonical (ap (map shown) c.deref-4.ensures.value ∙ e ∙ ap (λ z. map (kept_entry name) (seen_all z)) (items_are_those c.as_slice-entry-items.ensures.value c.deref-3.ensures)) ∙ canonical name (seen_all c.self.inside.entries.value.items) c.self.invariant.0
@@ -93,8 +93,8 @@ directory::Directory::written-encode_tree-requires g t c =
 pub directory::Directory::written-returns-in_err-name-clause-puts : goal.directory::Directory::written-returns-in_err-name-clause-puts
 directory::Directory::written-returns-in_err-name-clause-puts g t c =
     let name = g.N.Namer.name_of c.args.store.now.0 in
-    let body = c.deref-5.result.now in
-    let text : IsTreeText (map shown c.deref-4.result.now) body = subst (IsTreeText (map shown c.deref-4.result.now)) (sym c.deref-5.ensures.value) c.in_ok-body.ensures in
+    let body = c.as_slice-2.result.now in
+    let text : IsTreeText (map shown c.deref-4.result.now) body = subst (IsTreeText (map shown c.deref-4.result.now)) (sym c.as_slice-2.ensures.value) c.in_ok-encode_tree_into.ensures in
     let w = written name c.self.inside.entries.value.items c.as_slice-entry-items.result.now c.loop-entry.entry-index (map shown c.loop-entry.entries.items) (map shown c.deref-4.result.now) body c.args.store.now.1 c.loop-entry.store.1 c.loop-entry-test.false (items_are_those c.as_slice-entry-items.ensures.value c.deref-3.ensures) (files_same c.self.view_is) c.self.invariant.0 (ap (map shown) c.deref-4.ensures.value) text c.loop-entry.invariant.1 in
     let fault = c.in_err-name.field-0.0 in
     let p = subst (λ n. Puts c.loop-entry.store.1 c.put.new.self.1 (record_for (g.N.Namer.name_of n) kind.Tree body) (Err fault)) c.loop-entry.invariant.0 c.in_err-name.ensures.puts in
@@ -104,16 +104,16 @@ directory::Directory::written-returns-in_err-name-clause-puts g t c =
 pub directory::Directory::written-returns-clause-name : goal.directory::Directory::written-returns-clause-name
 directory::Directory::written-returns-clause-name g t c =
     let name = g.N.Namer.name_of c.args.store.now.0 in
-    let body = c.deref-5.result.now in
-    let text : IsTreeText (map shown c.deref-4.result.now) body = subst (IsTreeText (map shown c.deref-4.result.now)) (sym c.deref-5.ensures.value) c.in_ok-body.ensures in
+    let body = c.as_slice-2.result.now in
+    let text : IsTreeText (map shown c.deref-4.result.now) body = subst (IsTreeText (map shown c.deref-4.result.now)) (sym c.as_slice-2.ensures.value) c.in_ok-encode_tree_into.ensures in
     let w = written name c.self.inside.entries.value.items c.as_slice-entry-items.result.now c.loop-entry.entry-index (map shown c.loop-entry.entries.items) (map shown c.deref-4.result.now) body c.args.store.now.1 c.loop-entry.store.1 c.loop-entry-test.false (items_are_those c.as_slice-entry-items.ensures.value c.deref-3.ensures) (files_same c.self.view_is) c.self.invariant.0 (ap (map shown) c.deref-4.ensures.value) text c.loop-entry.invariant.1 in
     c.in_ok-name.ensures.puts.0 ∙ ap (λ n. g.N.Namer.name_of n kind.Tree body) c.loop-entry.invariant.0 ∙ ap (name kind.Tree) w.text
 
 pub directory::Directory::written-returns-clause-puts : goal.directory::Directory::written-returns-clause-puts
 directory::Directory::written-returns-clause-puts g t c =
     let name = g.N.Namer.name_of c.args.store.now.0 in
-    let body = c.deref-5.result.now in
-    let text : IsTreeText (map shown c.deref-4.result.now) body = subst (IsTreeText (map shown c.deref-4.result.now)) (sym c.deref-5.ensures.value) c.in_ok-body.ensures in
+    let body = c.as_slice-2.result.now in
+    let text : IsTreeText (map shown c.deref-4.result.now) body = subst (IsTreeText (map shown c.deref-4.result.now)) (sym c.as_slice-2.ensures.value) c.in_ok-encode_tree_into.ensures in
     let w = written name c.self.inside.entries.value.items c.as_slice-entry-items.result.now c.loop-entry.entry-index (map shown c.loop-entry.entries.items) (map shown c.deref-4.result.now) body c.args.store.now.1 c.loop-entry.store.1 c.loop-entry-test.false (items_are_those c.as_slice-entry-items.ensures.value c.deref-3.ensures) (files_same c.self.view_is) c.self.invariant.0 (ap (map shown) c.deref-4.ensures.value) text c.loop-entry.invariant.1 in
     let p = subst (λ n. put c.loop-entry.store.1 (record_for (g.N.Namer.name_of n) kind.Tree body) ≡ Some c.put.new.self.1) c.loop-entry.invariant.0 c.in_ok-name.ensures.puts.1 in
     written_ok name c.self.inside.entries.value.items c.args.self.now.files (map shown c.loop-entry.entries.items) body c.args.store.now.1 c.loop-entry.store.1 c.put.new.self.1 w p

@@ -189,6 +189,24 @@ fn a_written_tree_is_loaded_again(rt: HostRuntime) -> Result<(), Fail> {
     Ok(())
 }
 
+/// A tree that is written and loaded, and once more by an empty store.
+fn elsewhere<A: Allocator + Copy>(alloc: A, state: RandomState) -> Option<(Round, Round)> {
+    let mut pair = mixed_pair(alloc, state)?;
+    let first = reloaded(alloc, &mut pair, MIXED, state)?;
+    pair.store = Store::new(alloc, Sha1Namer, state);
+    let second = reloaded(alloc, &mut pair, MIXED, state)?;
+    Some((first, second))
+}
+
+#[test]
+fn a_tree_that_was_written_is_whole_in_an_empty_store(rt: HostRuntime) -> Result<(), Fail> {
+    let state = RandomState::new(&rt)?;
+    let (first, second) = elsewhere(rt.alloc(), state).ok_or("tree")?;
+    assert_eq!(rt; first, (first.0, 4, true, true));
+    assert_eq!(rt; second, first);
+    Ok(())
+}
+
 /// Whether the first record is of the blob `bytes`, and how many there are.
 fn blob_first<A: Allocator + Copy>(store: &Store<ShortNamer, A>, blob: Name) -> (bool, usize) {
     let expected = Some((blob, Kind::Blob, b"bytes".as_slice()));

@@ -22,18 +22,18 @@ pub Directory::load-unreachable-requires : goal.Directory::load-unreachable-requ
 Directory::load-unreachable-requires g t c =
     is_there (g.N.Namer.name_of c.args.store.now.0) c.args.store.now.1 c.args.name.now.bytes c.requires.0 c.get.result c.requires.1.0 c.in_default.is c.get.ensures
 
-pub Directory::load-unreachable-requires-in_default-decode_tree : goal.Directory::load-unreachable-requires-in_default-decode_tree
-Directory::load-unreachable-requires-in_default-decode_tree g t c =
+pub Directory::load-held_tree-entry-items-requires : goal.Directory::load-held_tree-entry-items-requires
+Directory::load-held_tree-entry-items-requires g t c =
     let name = g.N.Namer.name_of c.args.store.now.0 in
     let text = held_text name c.args.store.now.1 (g.met.N.Namer.is_namer c.args.store.now.0) c.args.name.now.bytes c.requires.0 c.get.result c.in-Some.field-0-0 c.in-Some.body c.requires.1.0 c.in-Some.is c.get.ensures in
-    c.in_default-decode_tree.ensures.only (map (kept_entry name) (level_of c.requires.0)) text
+    (map (kept_entry name) (level_of c.requires.0), text)
 
 pub Directory::load-loop-entry-init : goal.Directory::load-loop-entry-init
 Directory::load-loop-entry-init g t c = (
   λ f h.
       let name = g.N.Namer.name_of c.args.store.now.0 in
       let text = held_text name c.args.store.now.1 (g.met.N.Namer.is_namer c.args.store.now.0) c.args.name.now.bytes f c.get.result c.in-Some.field-0-0 c.in-Some.body h.0 c.in-Some.is c.get.ensures in
-      rw c.new-entries.ensures.items (loading_none name (level_of f) c.in-Ok.held c.into_iter-entry-iterator.result c.into_iter-entry-iterator.ensures.into_iter_gives (c.in-Ok.ensures.only (map (kept_entry name) (level_of f)) text)),
+      rw c.new-entries.ensures.items (loading_none name (level_of f) c.held_tree-entry-items.result c.into_iter-entry-iterator.result c.into_iter-entry-iterator.ensures.into_iter_gives (c.held_tree-entry-items.ensures (map (kept_entry name) (level_of f)) text)),
   rw c.new-entries.ensures.items tt,
   rw c.new-entries.ensures.items tt,
 )

@@ -1,14 +1,15 @@
-use Rattle.std.proofs.Common.{◌≡◌, Ok, sym, ap, ◌∙◌, subst}
+use Rattle.std.proofs.Common.{◌≡◌, Ok, Err, refl, sym, ap, ◌∙◌, subst}
 use Rattle.gx_model.specs.Edits.{copied, unless}
 use Rattle.gx_model.specs.Faults.{IsFaultOf}
 use Rattle.gx_model.specs.Files.{sub_map}
+use Rattle.gx_tree.specs.declared.fault.TreeFault.TheVariants.{NoSuchPath}
 use Rattle.gx_tree.specs.Copies.{kept_held}
-use Rattle.gx_tree.specs.Faults.{fault_of}
+use Rattle.gx_tree.specs.Faults.{fault_of, Refuses}
 use Rattle.gx_model.specs.NameMaps.{IsNameMap}
-use Rattle.gx_tree.specs.Named.{IsAtHome}
+use Rattle.gx_tree.specs.Named.{IsAtHome, NamedTree}
 use Rattle.gx_tree.specs.Nodes.{kept_map}
 use Rattle.gx_tree.specs.Steps.{grafted}
-use Rattle.gx_tree.proofs.CopyLaws.{copied_is, copied_none, refused_by}
+use Rattle.gx_tree.proofs.CopyLaws.{copied_is, copied_none, refused_by, refuses_by, refuses_none}
 use Rattle.gx_tree.proofs.Homes.{files_same}
 use Rattle.gx_tree.proofs.NamedFiles.{names-copied}
 use Rattle.gx_tree.proofs.path_tree.PathTree.copied_root.Goals as goal
@@ -45,3 +46,27 @@ pub returns-clause-home : goal.returns-clause-home
 returns-clause-home g c name rs h =
     let root = subst (IsAtHome name rs) (sym c.self.view_is) h in
     c.in_ok-placed.ensures.home name rs (c.in-Some.ensures.home name rs root, root)
+
+pub returns-in_default-clause-refused : goal.returns-in_default-clause-refused
+returns-in_default-clause-refused g c = subst (λ d. Refuses {Y = NamedTree} d (Err NoSuchPath)) (sym (copied_none c.args.self.now.files c.args.source.now c.args.destination.now (ap (λ t. sub_map t.files c.args.source.now) (sym c.self.view_is) ∙ c.in_default.ensures.held))) refl
+
+pub returns-in-Some-refusal-clause-refused : goal.returns-in-Some-refusal-clause-refused
+returns-in-Some-refusal-clause-refused g c =
+    let k = kept_held c.in-Some.held in
+    let held : sub_map c.args.self.now.files c.args.source.now ≡ kept_map k = ap (λ t. sub_map t.files c.args.source.now) (sym c.self.view_is) ∙ c.in-Some.ensures.held in
+    subst (λ d. Refuses {Y = NamedTree} d (Err c.in-Some-refusal.fault)) (sym (copied_is c.args.self.now.files c.args.source.now c.args.destination.now k held c.in-Some.ensures.kept))
+    (refuses_by NamedTree _ c.in-Some-refusal.fault (grafted c.args.destination.now (kept_map k) c.args.self.now.files) c.in-Some-refusal.ensures.fault)
+
+pub returns-clause-refused : goal.returns-clause-refused
+returns-clause-refused g c =
+    let k = kept_held c.in-Some.held in
+    let held : sub_map c.args.self.now.files c.args.source.now ≡ kept_map k = ap (λ t. sub_map t.files c.args.source.now) (sym c.self.view_is) ∙ c.in-Some.ensures.held in
+    subst (λ d. Refuses {Y = NamedTree} d (Ok c.in_ok-placed.field-0)) (sym (copied_is c.args.self.now.files c.args.source.now c.args.destination.now k held c.in-Some.ensures.kept))
+    (refuses_none NamedTree _ (grafted c.args.destination.now (kept_map k) c.args.self.now.files) (Ok c.in_ok-placed.field-0) c.in_default-refusal.ensures.fault)
+
+pub returns-in_err-placed-clause-refused : goal.returns-in_err-placed-clause-refused
+returns-in_err-placed-clause-refused g c =
+    let k = kept_held c.in-Some.held in
+    let held : sub_map c.args.self.now.files c.args.source.now ≡ kept_map k = ap (λ t. sub_map t.files c.args.source.now) (sym c.self.view_is) ∙ c.in-Some.ensures.held in
+    subst (λ d. Refuses {Y = NamedTree} d c.from_residual.result) (sym (copied_is c.args.self.now.files c.args.source.now c.args.destination.now k held c.in-Some.ensures.kept))
+    (refuses_none NamedTree _ (grafted c.args.destination.now (kept_map k) c.args.self.now.files) c.from_residual.result c.in_default-refusal.ensures.fault)

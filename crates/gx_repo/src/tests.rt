@@ -539,17 +539,24 @@ struct Trial {
     is_waiting: bool,
 }
 
-/// One of the calls that want memory, at which the growth with this number is refused.
-fn tried<B: Allocator>(heap: &Refusing<B>, call: u64, n: u64, state: RandomState) -> Option<Trial> {
-    let mut repo = Repo::new(heap, Sha1Namer, state);
-    let mut tree = PathTree::empty(heap);
+/// One of the calls that want memory, at which the growth with this number is refused. The heap is given once more as
+/// the allocator.
+fn tried<B: Allocator, C: Allocator + Copy>(
+    heap: &Refusing<B>,
+    own: C,
+    call: u64,
+    n: u64,
+    state: RandomState,
+) -> Option<Trial> {
+    let mut repo = Repo::new(own, Sha1Namer, state);
+    let mut tree = PathTree::empty(own);
     let (root, old) = add_revision(&mut repo, &mut tree, &[], IDENT, b"old")?;
     let main = RefChange {
         name: b"refs/heads/main",
         target: old,
     };
     repo.publish(&[main]).ok()?;
-    if !add_file(heap, &mut repo, &mut tree, b"d/f", b"file") {
+    if !add_file(own, &mut repo, &mut tree, b"d/f", b"file") {
         return None;
     }
     let objects = repo.store().len();
@@ -595,7 +602,7 @@ fn refused_growths_change_nothing(rt: HostRuntime) -> Result<(), Fail> {
             let heap = Refusing::new(rt.alloc(), 0);
             let trial = match call {
                 5 => tried_bytes(&heap, n, state),
-                _ => tried(&heap, call, n, state),
+                _ => tried(&heap, &heap, call, n, state),
             };
             let trial = trial.ok_or("set-up")?;
             if trial.is_waiting {

@@ -71,16 +71,18 @@ fn tree_of_another_repository_is_added_whole(rt: HostRuntime) -> Result<(), Fail
 }
 
 /// A tree that remembers the names of its directories is changed and added, where the growth with this number is
-/// refused. Then it is added once more, with no growth refused and no name trusted.
-fn tried_tree<B: Allocator>(
+/// refused. Then it is added once more, with no growth refused and no name trusted. The heap is given once more as the
+/// allocator.
+fn tried_tree<B: Allocator, C: Allocator + Copy>(
     heap: &Refusing<B>,
+    own: C,
     n: u64,
     state: RandomState,
 ) -> Option<(Trial, Name)> {
-    let mut repo = Repo::new(heap, Sha1Namer, state);
-    let mut tree = PathTree::empty(heap);
+    let mut repo = Repo::new(own, Sha1Namer, state);
+    let mut tree = PathTree::empty(own);
     if !add_file(
-        heap,
+        own,
         &mut repo,
         &mut tree,
         b"bak/old/test.txt",
@@ -88,12 +90,14 @@ fn tried_tree<B: Allocator>(
     ) {
         return None;
     }
-    if !add_file(heap, &mut repo, &mut tree, b"src/test.txt", b"version 1\n") {
+    if !add_file(own, &mut repo, &mut tree, b"src/test.txt", b"version 1\n") {
         return None;
     }
-    repo.add_tree(&mut tree).ok()?;
+    let Ok(_) = repo.add_tree(&mut tree) else {
+        return None;
+    };
     if !add_file(
-        heap,
+        own,
         &mut repo,
         &mut tree,
         b"bak/old/test.txt",
@@ -136,7 +140,7 @@ fn refused_growth_adds_no_shared_tree(rt: HostRuntime) -> Result<(), Fail> {
     let mut refused = 0u64;
     for n in 1..100 {
         let heap = Refusing::new(alloc, 0);
-        let (trial, root) = tried_tree(&heap, n, state).ok_or("set-up")?;
+        let (trial, root) = tried_tree(&heap, &heap, n, state).ok_or("set-up")?;
         assert_eq!(rt; root, whole);
         if trial.is_waiting {
             assert_eq!(rt; trial.answer, Answer::Done);

@@ -3,7 +3,8 @@ use Rattle.std.proofs.Common.{◌≡◌, ℕ, ◌+◌, refl, sym, ap, subst, ◌
 use Rattle.std.specs.List.{AllByRecursion, flat_map}
 use Rattle.gx_model.specs.declared.objects.Kind.{Kind}
 use Rattle.gx_model.specs.Texts.{Bytes}
-use Rattle.gx_model.specs.Faults.{Given, and_then}
+use Rattle.gx_model.specs.declared.faults.Fault.{Fault}
+use Rattle.gx_model.specs.Faults.{Given, IsFaultOf, and_then}
 use Rattle.gx_model.specs.Histories.{History, Records}
 use Rattle.gx_model.specs.Objects.{hex}
 use Rattle.gx_model.specs.Revisions.{Revision, revision_of}
@@ -12,9 +13,12 @@ use Rattle.gx_model.specs.Ranges.{WordFault, at_word, each_from, each_word}
 use Rattle.gx_text.specs.Devices.{Taken}
 use Rattle.gx_rev.specs.Answers.{IsNamed, shown_by}
 use Rattle.gx_rev.specs.RevFaults.{fault_of}
+use Rattle.gx_rev.specs.declared.fault.RevFault.{RevFault}
+use Rattle.gx_rev.specs.declared.fault.RevFault.TheVariants.{OutOfMemory}
 use Rattle.gx_rev.specs.declared.shown.Shown.{Shown as Answer}
 use Rattle.gx_rev.specs.declared.shown.Shown.TheVariants.{Object, Submodule}
 use Rattle.gx_cli.specs.Answers.{GivesWords, Prints, shown_line}
+use Rattle.gx_cli.specs.Words.{refused_at}
 use Rattle.gx_cli.specs.Stored.{all_words, name_line, names_text, of_word}
 use Rattle.gx_cli.specs.declared.fault.CliFault.{CliFault}
 use Rattle.gx_cli.specs.declared.fault.CliFault.TheVariants as cli
@@ -38,6 +42,18 @@ module _ {X Y : Type 0} (f : X → Given Y) where
         words = d.words ∙ ap (λ r. and_then (and_then (at_word (1 + count) r) (λ z. and_then (each_from (1 + count + 1) f left) (λ ys. Ok (z ∷ ys)))) (λ ys. Ok (done ++ ys))) e
             ∙ then_next done y (each_from (1 + count + 1) f left) ∙ ap (λ n. and_then (each_from n f left) (λ ys. Ok ((done ++ y ∷ []) ++ ys))) next;
       }
+
+  -- the next word is refused, and so are all
+  done_fails : (all left : List X) (x : X) (count : ℕ) (done : List Y) (e : Fault) → f x ≡ Err e → AreDone f all (x ∷ left) count done → each_word f all ≡ Err (record { word = 1 + count; fault = e })
+  done_fails all left x count done e i d = d.words ∙ ap (λ r. and_then (and_then (at_word (1 + count) r) (λ z. and_then (each_from (1 + count + 1) f left) (λ ys. Ok (z ∷ ys)))) (λ ys. Ok (done ++ ys))) i
+
+  -- and it is answered by its number, unless memory ran out
+  pub next_refused : (all left : List X) (x : X) (count : ℕ) (done : List Y) (kind : RevFault) → IsFaultOf (fault_of kind) (f x) → AreDone f all (x ∷ left) count done
+      → (n : ℕ) → n ≡ count + 1 → GivesWords {X = List Y} (λ ys. ys) (Err (refused_at n kind)) (each_word f all)
+  next_refused all left x count done OutOfMemory i d n s = tt
+  next_refused all left x count done kind i d n s =
+      let m : 1 + count ≡ n = omega arith in
+      done_fails all left x count done (fault_of kind) i d ∙ ap (λ k. Err (record { word = k; fault = fault_of kind })) m
 
 -- nothing is printed where this is why a word is refused
 refused_printed : {X Y : Type 0} (view : X → Y) (given : Result Y WordFault) (next : Y → Result Bytes WordFault) (was : Option Taken) (fault : CliFault) → GivesWords view (Err fault) given → Prints (all_words (and_then given next)) was was (Err fault)

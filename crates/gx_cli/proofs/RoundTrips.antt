@@ -6,6 +6,8 @@ use Rattle.gx_model.specs.declared.objects.Kind.{Kind}
 use Rattle.gx_model.specs.Texts.{Bytes}
 use Rattle.gx_model.specs.Histories.{Records}
 use Rattle.gx_model.specs.HistoryOf.{history_of}
+use Rattle.gx_model.specs.Paths.{Path}
+use Rattle.gx_model.specs.Revisions.{Revision}
 use Rattle.gx_model.specs.Sound.{IsSound}
 use Rattle.gx_model.specs.Export.{export_text}
 use Rattle.gx_model.specs.Gitlinks.{HoldsNoNullGitlink, HoldsTellsHas}
@@ -20,6 +22,7 @@ use Rattle.gx_export.specs.Outputs.{StopsAt, most}
 use Rattle.gx_export.specs.declared.fault.ExportFault.{ExportFault}
 use Rattle.gx_export.specs.declared.fault.ExportFault.TheVariants.{WriteFailed}
 use Rattle.gx_cli.specs.Headline.{ComesBack, ExportsText, RoundTrips}
+use Rattle.gx_cli.specs.Trying.{LooksIn}
 use Rattle.gx_cli.specs.declared.fault.CliFault.{CliFault}
 use Rattle.gx_cli.specs.declared.fault.CliFault.TheVariants.{Export, Import, OutOfMemory}
 use Rattle.gx_cli.specs.declared.trips.RoundTrip.{RoundTrip}
@@ -78,20 +81,20 @@ from_nothing : {N : Type 0} (name_of : N → Kind → Bytes → Bytes) (namer : 
 from_nothing {N} name_of namer old new coming was now answer empty h = subst (λ (o : N × Records). Imports (name_of o.0) o.1 new coming was now answer) empty h
 
 -- an import into an empty store, and what came after it
-module _ {N : Type 0} (name_of : N → Kind → Bytes → Bytes) (namer : N) (old : N × Records) (empty : old ≡ (namer, nothing)) (was now : Option Taken) where
+module _ {N : Type 0} (name_of : N → Kind → Bytes → Bytes) (namer : N) (revision : Revision) (path : Path) (old : N × Records) (empty : old ≡ (namer, nothing)) (was now : Option Taken) where
   -- it was refused
-  pub trip_refused : (A : Type 0) (coming : Option Coming) (new : Records) (fault : ImportFault) → Imports (name_of old.0) old.1 new coming was now (Err fault) → RoundTrips (name_of namer) {N = N} {A = A} coming was now (Err (Import fault))
+  pub trip_refused : (A : Type 0) (coming : Option Coming) (new : Records) (fault : ImportFault) → Imports (name_of old.0) old.1 new coming was now (Err fault) → RoundTrips (name_of namer) revision path {N = N} {A = A} coming was now (Err (Import fault))
   trip_refused A coming new fault h = by coming (from_nothing name_of namer old new coming was now (Err fault) empty h)
     where
-      by : (c : Option Coming) → Imports (name_of namer) nothing new c was now (Err fault) → RoundTrips (name_of namer) {N = N} {A = A} c was now (Err (Import fault))
+      by : (c : Option Coming) → Imports (name_of namer) nothing new c was now (Err fault) → RoundTrips (name_of namer) revision path {N = N} {A = A} c was now (Err (Import fault))
       by None k = k
       by (Some c) k = k
 
   -- there was no memory for the export, or it is too long
-  pub trip_stopped : (A : Type 0) (coming : Option Coming) (new : Records) (report : Report) (fault : CliFault) → Imports (name_of old.0) old.1 new coming was now (Ok report) → ExportsText {A = A} (history_of new) (Err fault) → RoundTrips (name_of namer) {N = N} {A = A} coming was now (Err fault)
+  pub trip_stopped : (A : Type 0) (coming : Option Coming) (new : Records) (report : Report) (fault : CliFault) → Imports (name_of old.0) old.1 new coming was now (Ok report) → ExportsText {A = A} (history_of new) (Err fault) → RoundTrips (name_of namer) revision path {N = N} {A = A} coming was now (Err fault)
   trip_stopped A coming new report fault h stops = by coming fault (from_nothing name_of namer old new coming was now (Ok report) empty h) stops
     where
-      by : (c : Option Coming) (f : CliFault) → Imports (name_of namer) nothing new c was now (Ok report) → ExportsText {A = A} (history_of new) (Err f) → RoundTrips (name_of namer) {N = N} {A = A} c was now (Err f)
+      by : (c : Option Coming) (f : CliFault) → Imports (name_of namer) nothing new c was now (Ok report) → ExportsText {A = A} (history_of new) (Err f) → RoundTrips (name_of namer) revision path {N = N} {A = A} c was now (Err f)
       by None OutOfMemory k s = (k.0, k.1, (history_of new, report_of report, k.2))
       by None (Export f) k s = (k.0, k.1, (history_of new, report_of report, k.2, s))
       by None f k s = absurd s
@@ -101,17 +104,18 @@ module _ {N : Type 0} (name_of : N → Kind → Bytes → Bytes) (namer : N) (ol
 
   -- what was imported came back
   pub trip_ended : {A : Type 0} (coming : Option Coming) (trip : RoundTrip N A) → Imports (name_of old.0) old.1 trip.first.1 coming was now (Ok trip.report)
-      → trip.text.items ≡ export_text (history_of trip.first.1) → IsExported trip.first.1 trip.again.1 → RoundTrips (name_of namer) {N = N} {A = A} coming was now (Ok trip)
-  trip_ended {A} coming trip h text again = by coming (from_nothing name_of namer old trip.first.1 coming was now (Ok trip.report) empty h)
+      → trip.first.0 ≡ namer → LooksIn (name_of trip.first.0) trip.first.1 revision path trip.file
+      → trip.text.items ≡ export_text (history_of trip.first.1) → IsExported trip.first.1 trip.again.1 → RoundTrips (name_of namer) revision path {N = N} {A = A} coming was now (Ok trip)
+  trip_ended {A} coming trip h same looks text again = by coming (from_nothing name_of namer old trip.first.1 coming was now (Ok trip.report) empty h)
     where
-      back : ComesBack (name_of namer) {N = N} {A = A} (history_of trip.first.1) trip
+      back : ComesBack (name_of namer) revision path {N = N} {A = A} (history_of trip.first.1) trip
       back = record {
         history = refl;
-        files = λ revision path answer looks. looks;
+        file = subst (λ n. LooksIn (name_of n) trip.first.1 revision path trip.file) same looks;
         text = text;
         again = again;
       }
 
-      by : (c : Option Coming) → Imports (name_of namer) nothing trip.first.1 c was now (Ok trip.report) → RoundTrips (name_of namer) {N = N} {A = A} c was now (Ok trip)
+      by : (c : Option Coming) → Imports (name_of namer) nothing trip.first.1 c was now (Ok trip.report) → RoundTrips (name_of namer) revision path {N = N} {A = A} c was now (Ok trip)
       by None k = (k.0, k.1, (history_of trip.first.1, k.2, back))
       by (Some c) k = (history_of trip.first.1, k, back)

@@ -1,9 +1,9 @@
--- The headline: what comes of a stream that is imported into an empty store, exported, and imported into another one.
+-- The headline: what comes of a stream that is imported into an empty store, of a revision and a path that are looked up there,
+-- and of that store when it is exported and imported into another one.
 -- Source: git-fast-import(1) and git-fast-export(1).
 use Rattle.std.specs.Prelude.{◌≡◌, ◌⊎◌, ℕ, ◌<◌, ◌≤◌, length, Option, Some, None, Result, Ok, Err, ⊤}
 use Rattle.std.specs.declared.vec.Vec.{Vec}
 use Rattle.gx_model.specs.declared.objects.Kind.{Kind}
-use Rattle.gx_model.specs.declared.objects.Mode.{Mode}
 use Rattle.gx_model.specs.Texts.{Bytes}
 use Rattle.gx_model.specs.Paths.{Path}
 use Rattle.gx_model.specs.Commands.{Commands}
@@ -22,7 +22,7 @@ use Rattle.gx_import.specs.Imports.{AreRead, replayed_on, report_of}
 use Rattle.gx_import.specs.declared.fault.ImportFault.{ImportFault}
 use Rattle.gx_import.specs.declared.fault.ImportKind.TheVariants as kind
 use Rattle.gx_export.specs.Outputs.{most}
-use Rattle.gx_cli.specs.Trying.{LooksAs, LooksIn, Refuses, no_history}
+use Rattle.gx_cli.specs.Trying.{LooksAs, Refuses, no_history}
 use Rattle.gx_cli.specs.declared.fault.CliFault.{CliFault}
 use Rattle.gx_cli.specs.declared.fault.CliFault.TheVariants.{Export, Import, OutOfMemory}
 use Rattle.gx_cli.specs.declared.trips.RoundTrip.{RoundTrip}
@@ -43,14 +43,12 @@ abbrev pub ImportsAgainOr : {N : Type 0} → Records → Result (N × Records) I
 ImportsAgainOr exported (Ok again) = IsExported exported again.1
 ImportsAgainOr exported (Err fault) = (fault.kind ≡ kind.OutOfMemory) ⊎ (fault.kind ≡ kind.WriteFailed)
 
-module _ (name : Kind → Bytes → Bytes) {N A : Type 0} where
+module _ (name : Kind → Bytes → Bytes) (revision : Revision) (path : Path) {N A : Type 0} where
   pub record ComesBack (h : History) (trip : RoundTrip N A) : Type 0 where
     -- The first repository stands for this history: its commits with their files, parents and messages, its tags and its refs.
     pub history : history_of trip.first.1 ≡ h
-    -- For every revision and path, the file that is looked up there has the mode and the bytes that the map of whole paths has
-    -- in this history.
-    pub files : (revision : Revision) (path : Path) (answer : Result (Mode × Vec ℕ A) CliFault)
-        → LooksIn name trip.first.1 revision path answer → LooksAs (looked_up name h revision path) answer
+    -- The file at this path of this revision has the mode and the bytes that the map of whole paths has in this history.
+    pub file : LooksAs (looked_up name h revision path) trip.file
     -- The text is this history's export.
     pub text : trip.text.items ≡ export_text h
     -- The second repository has the same refs under the same object names, exactly what they reach, and the same export.

@@ -80,13 +80,3 @@ module _ (name : Kind → Bytes → Bytes) where
   abbrev pub ImportsAlone : {N : Type 0} → Option Coming → Option Taken → Option Taken → Result (N × Records) ImportFault → Type 0
   ImportsAlone None was now answer = (commands : Commands) × AreRead commands × StandsAlone commands (replayed_on name nothing commands) was now answer
   ImportsAlone (Some coming) was now answer = StandsAlone (commands_from coming) (imported name no_history (heard coming).bytes (heard coming).fails) was now answer
-
-  -- what is looked up is what the replay's history has, once the replay is accepted
-  abbrev pub LooksReplayed : {A : Type 0} → Commands → Outcome → Option Taken → Option Taken → Revision → Path → Result (Mode × Vec ℕ A) CliFault → Type 0
-  LooksReplayed commands outcome was now revision path (Err (Import fault)) = Refuses commands outcome was now fault
-  LooksReplayed commands outcome was now revision path answer = (h : History) × (text : Bytes) × Replayed outcome h text × Took was now text × LooksAs (looked_up name h revision path) answer
-
-  -- The same of the commands of a source. Where it tells nothing, there are commands that a reader gives.
-  abbrev pub LooksUp : {A : Type 0} → Option Coming → Option Taken → Option Taken → Revision → Path → Result (Mode × Vec ℕ A) CliFault → Type 0
-  LooksUp None was now revision path answer = (commands : Commands) × AreRead commands × LooksReplayed commands (replayed_on name nothing commands) was now revision path answer
-  LooksUp (Some coming) was now revision path answer = LooksReplayed (commands_from coming) (imported name no_history (heard coming).bytes (heard coming).fails) was now revision path answer

@@ -25,4 +25,4 @@ pub use command_line::{Line, LineFault, LogOptions, read_line};
 pub use fault::CliFault;
 pub use serving::{Outcome, serve};
 pub use trips::{RoundTrip, round_trip};
-pub use trying::{import_alone, look_imported, look_in, try_revision};
+pub use trying::{import_alone, look_in, try_revision};

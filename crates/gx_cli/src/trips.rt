@@ -9,40 +9,47 @@ ghost use Rattle.gx_cli.specs.Headline.{ExportsText, ImportsAgainOr, RoundTrips}
 
 use crate::CliFault;
 use crate::growing::Growing;
+use crate::trying::look_in;
 use gx_export::{ExportFault, export};
 use gx_import::{ImportFault, Report, import};
 use gx_model::gitlink_laws::replays_keep_none;
-use gx_object::Namer;
+use gx_object::{Mode, Namer};
 use gx_repo::Repo;
-use gx_text::{Bytes, Sink, Source};
+use gx_rev::Revision;
+use gx_text::{Bytes, Sink, Source, TreePath};
 use std::alloc::Allocator;
 use std::hash::RandomState;
 
-/// What a stream makes of an empty store, the stream that this is exported as, and what that one makes of an empty store.
+/// What a stream makes of an empty store, the file that a revision and a path give there, the stream that this is exported
+/// as, and what that one makes of an empty store.
 #[derive(Drop)]
 pub struct RoundTrip<N: Namer, A: Allocator> {
     pub report: Report,
     pub first: Repo<N, A>,
+    /// The mode and the bytes of the file, or why there is none, as `look_in` answers.
+    pub file: Result<(Mode, Vec<u8, A>), CliFault>,
     pub text: Vec<u8, A>,
     pub again: Repo<N, A>,
 }
 
-/// Imports a stream into an empty store, exports that, and imports the export into another empty store. Lines of `progress`
-/// go out as they come.
+/// Imports a stream into an empty store, looks up the file at a path of a revision there, exports that store, and imports the
+/// export into another empty one. Lines of `progress` go out as they come. A file that isn't there stops nothing.
 ///
 /// `Import`: the stream's import is refused. `Export`: the export has more than 2^63 - 1 bytes, which no import reads.
 /// `OutOfMemory`: a growth was refused after the import. That of the export is refused for no other cause.
-/// Cost: that of the import, of `gx_export::export`, and of the import of what it wrote. Memory: that of both imports, and
-/// the export's text.
+/// Cost: that of the import, of `look_in`, of `gx_export::export`, and of the import of what it wrote. Memory: that of both
+/// imports, the file, and the export's text.
 pub fn round_trip<N: Namer + Copy + Drop, A: Allocator + Copy, R: Source + Drop, W: Sink>(
     alloc: A,
     namer: N,
     source: R,
     sink: &mut W,
+    revision: &Revision<A>,
+    path: &TreePath<A>,
     state: RandomState,
 ) -> Result<RoundTrip<N, A>, CliFault>
     ensures namer { IfOk result (λ trip. (trip.first.0 ≡ namer) × (trip.again.0 ≡ namer)) }
-    ensures back { RoundTrips (N.name_of namer) (R.coming source) (W.taken sink.old) (W.taken sink.new) result }
+    ensures back { RoundTrips (N.name_of namer) revision.now path.now (R.coming source) (W.taken sink.old) (W.taken sink.new) result }
 {
     replays_keep_none();
     let mut first = Repo::new(alloc, namer, state);
@@ -50,6 +57,7 @@ pub fn round_trip<N: Namer + Copy + Drop, A: Allocator + Copy, R: Source + Drop,
         Ok(report) => report,
         Err(fault) => return Err(CliFault::Import(fault)),
     };
+    let file = look_in(alloc, &first, revision, path);
     let text = match exported(alloc, &first) {
         Ok(text) => text,
         Err(fault) => return Err(fault),
@@ -58,6 +66,7 @@ pub fn round_trip<N: Namer + Copy + Drop, A: Allocator + Copy, R: Source + Drop,
         Ok(again) => Ok(RoundTrip {
             report,
             first,
+            file,
             text,
             again,
         }),

@@ -1,7 +1,7 @@
 //! A stream, imported into an empty store, and what a revision shows there.
 
 ghost use Rattle.std.specs.Prelude.{◌≡◌, IfOk};
-ghost use Rattle.gx_cli.specs.Trying.{ImportsAlone, LooksIn, LooksUp, Tries};
+ghost use Rattle.gx_cli.specs.Trying.{ImportsAlone, LooksIn, Tries};
 
 use crate::CliFault;
 use crate::showing::show;
@@ -51,27 +51,6 @@ pub fn import_alone<N: Namer + Drop, A: Allocator + Copy, R: Source + Drop, W: S
     match import(alloc, &mut repo, source, sink) {
         Ok(_) => Ok(repo),
         Err(fault) => Err(fault),
-    }
-}
-
-/// The mode and the bytes of the file at a path in the tree of a revision, once a stream was imported into an empty store:
-/// those that the history of the stream's commands, replayed, has there.
-///
-/// The faults are those of `import` and of `look`. Cost: that of both.
-pub fn look_imported<N: Namer + Drop, A: Allocator + Copy, R: Source + Drop, W: Sink>(
-    alloc: A,
-    namer: N,
-    source: R,
-    sink: &mut W,
-    revision: &Revision<A>,
-    path: &TreePath<A>,
-    state: RandomState,
-) -> Result<(Mode, Vec<u8, A>), CliFault>
-    ensures { LooksUp (N.name_of namer) (R.coming source) (W.taken sink.old) (W.taken sink.new) revision.now path.now result }
-{
-    match import_alone(alloc, namer, source, sink, state) {
-        Ok(repo) => look_in(alloc, &repo, revision, path),
-        Err(fault) => Err(CliFault::Import(fault)),
     }
 }
 

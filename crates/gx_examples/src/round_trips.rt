@@ -7,7 +7,7 @@ use gx_import::{ImportFault, ImportKind};
 use gx_object::{Mode, Sha1Namer};
 use gx_refusing::Refusing;
 use gx_repo::Repo;
-use gx_rev::Revision;
+use gx_rev::{RevFault, Revision};
 use gx_text::{Bytes, Held, TreePath};
 use std::alloc::{AllocError, Allocator, Global};
 use std::hash::RandomState;
@@ -56,6 +56,25 @@ const ODD_FILES: &[(&str, &str, Mode, &str)] = &[
     ("old/v0", "dir/link", Mode::Link, "run"),
 ];
 
+/// A stream that is imported into an empty store, exported, and imported again, and a file that is looked up between.
+fn tripped_with_file<A: Allocator + Copy>(
+    alloc: A,
+    stream: &[u8],
+    revision: &str,
+    path: &str,
+    sink: &mut Held<A>,
+    state: RandomState,
+) -> Result<RoundTrip<Sha1Namer, A>, CliFault> {
+    let Ok(revision) = Revision::read(alloc, revision.as_bytes()) else {
+        return Err(CliFault::OutOfMemory);
+    };
+    let Ok(path) = TreePath::read(alloc, path.as_bytes()) else {
+        return Err(CliFault::OutOfMemory);
+    };
+    let source = Bytes::new(stream, 4096, false);
+    round_trip(alloc, Sha1Namer, source, sink, &revision, &path, state)
+}
+
 /// A stream that is imported into an empty store, exported, and imported again.
 fn tripped<A: Allocator + Copy>(
     alloc: A,
@@ -63,8 +82,7 @@ fn tripped<A: Allocator + Copy>(
     sink: &mut Held<A>,
     state: RandomState,
 ) -> Result<RoundTrip<Sha1Namer, A>, CliFault> {
-    let source = Bytes::new(stream, 4096, false);
-    round_trip(alloc, Sha1Namer, source, sink, state)
+    tripped_with_file(alloc, stream, "main", "dir.t", sink, state)
 }
 
 /// Whether two repositories have the same refs under the same names.
@@ -184,6 +202,48 @@ fn files_of_both_are_looked_up(rt: HostRuntime) -> Result<(), Fail> {
     Ok(())
 }
 
+/// Whether a trip of the odd stream looks this file up.
+fn is_looked_up<A: Allocator + Copy>(
+    alloc: A,
+    (revision, path, mode, bytes): (&str, &str, Mode, &str),
+    state: RandomState,
+) -> Result<bool, AllocError> {
+    let mut held = Held::new(alloc, 64)?;
+    let Ok(trip) = tripped_with_file(alloc, ODD, revision, path, &mut held, state) else {
+        return Ok(false);
+    };
+    match trip.file {
+        Ok((has, file)) => Ok(has == mode && file.as_slice() == bytes.as_bytes()),
+        Err(_) => Ok(false),
+    }
+}
+
+#[test]
+fn trips_look_their_file_up(rt: HostRuntime) -> Result<(), Fail> {
+    let state = RandomState::new(&rt)?;
+    for row in ODD_FILES {
+        assert!(rt; is_looked_up(rt.alloc(), *row, state)?, "{}", row.1);
+    }
+    Ok(())
+}
+
+#[test]
+fn file_that_is_not_there_stops_no_trip(rt: HostRuntime) -> Result<(), Fail> {
+    let state = RandomState::new(&rt)?;
+    let mut held = Held::new(rt.alloc(), 64)?;
+    let Ok(trip) = tripped_with_file(rt.alloc(), ODD, "side", "mod", &mut held, state) else {
+        assert!(rt; false, "the stream comes back");
+        return Ok(());
+    };
+    let missing = CliFault::Revision {
+        number: 1,
+        kind: RevFault::NoSuchPath,
+    };
+    assert_eq!(rt; trip.file.err(), Some(missing));
+    assert!(rt; have_same_refs(&trip.first, &trip.again));
+    Ok(())
+}
+
 #[test]
 fn refused_import_has_its_fault(rt: HostRuntime) -> Result<(), Fail> {
     let state = RandomState::new(&rt)?;
@@ -206,11 +266,17 @@ fn ends_well<B: Allocator>(
 ) -> Result<Option<bool>, AllocError> {
     let mut held = Held::new(heap, 64)?;
     heap.arm(nth);
-    let trip = tripped(heap, MERGED, &mut held, state);
+    let trip = tripped_with_file(heap, MERGED, "a", "f", &mut held, state);
     let is_waiting = heap.is_waiting();
     heap.arm(0);
     match trip {
-        Ok(trip) => Ok(Some(is_waiting && have_same_refs(&trip.first, &trip.again))),
+        Ok(trip) if is_waiting => Ok(Some(
+            trip.file.is_ok() && have_same_refs(&trip.first, &trip.again),
+        )),
+        Ok(trip) => match trip.file {
+            Err(CliFault::OutOfMemory) => Ok(None),
+            _ => Ok(Some(false)),
+        },
         Err(CliFault::OutOfMemory) => Ok(None),
         Err(CliFault::Import(fault)) if fault.kind == ImportKind::OutOfMemory => Ok(None),
         Err(_) => Ok(Some(false)),

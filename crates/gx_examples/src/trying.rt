@@ -1,10 +1,9 @@
 //! Streams that are tried, with what a revision shows. The names are those that git gives these objects.
 
-use gx_cli::{CliFault, Line, Outcome, look_imported, serve};
-use gx_object::{Mode, Sha1Namer, ShortNamer};
+use gx_cli::{CliFault, Line, Outcome, serve};
+use gx_object::Sha1Namer;
 use gx_refusing::Refusing;
-use gx_rev::Revision;
-use gx_text::{Bytes, Held, TreePath};
+use gx_text::{Bytes, Held};
 use std::alloc::{AllocError, Allocator};
 use std::hash::RandomState;
 use std::test::Fail;
@@ -256,36 +255,5 @@ fn each_refused_growth_of_a_trial_is_out_of_memory(rt: HostRuntime) -> Result<()
     let state = RandomState::new(&rt)?;
     let refused = refused_growths(rt.alloc(), state)?.ok_or("a wrong answer")?;
     assert!(rt; refused > 20);
-    Ok(())
-}
-
-/// Whether the file at this path of `main` has the mode of a plain file and these bytes.
-fn looks_up<A: Allocator + Copy>(
-    alloc: A,
-    path: &[u8],
-    bytes: &[u8],
-    state: RandomState,
-) -> Result<bool, AllocError> {
-    let Ok(revision) = Revision::read(alloc, b"main") else {
-        return Ok(false);
-    };
-    let Ok(path) = TreePath::read(alloc, path) else {
-        return Ok(false);
-    };
-    let mut held = Held::new(alloc, 64)?;
-    let source = Bytes::new(WIDE, 4096, false);
-    match look_imported(
-        alloc, ShortNamer, source, &mut held, &revision, &path, state,
-    ) {
-        Ok((mode, file)) => Ok(mode == Mode::File && file.as_slice() == bytes),
-        Err(_) => Ok(false),
-    }
-}
-
-#[test]
-fn file_of_an_imported_stream_is_looked_up(rt: HostRuntime) -> Result<(), Fail> {
-    let state = RandomState::new(&rt)?;
-    assert!(rt; looks_up(rt.alloc(), b"a/test.txt", b"version 1\n", state)?);
-    assert!(rt; !looks_up(rt.alloc(), b"a", b"", state)?);
     Ok(())
 }

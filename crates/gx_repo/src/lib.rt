@@ -14,6 +14,3 @@ pub use gx_store::StoreFault;
 pub use publishing::RefChange;
 pub use refs::Refs;
 pub use repo::Repo;
-
-#[cfg(test)]
-mod tests;

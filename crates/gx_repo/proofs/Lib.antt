@@ -1,5 +1,6 @@
 pub mod Additions
 pub mod PublishedRefs
+pub mod RefMaps
 pub mod HeldRecords
 pub mod PathRooms
 pub mod Places

@@ -3,11 +3,12 @@ ghost use Rattle.std.specs.Prelude.{◌≡◌, map, IsTrue, IfOk};
 ghost use Rattle.std.specs.FinMap.Entries.{is_sorted};
 ghost use Rattle.gx_model.specs.Replay.{byte_cmp};
 ghost use Rattle.gx_model.specs.Publishing.{with_changes};
-ghost use Rattle.gx_repo.specs.Refs.{asked, kept};
+ghost use Rattle.gx_repo.specs.Refs.{asked, kept, ref_of};
 
-use crate::refs::{Ref, copied, set};
+use crate::refs::Ref;
 use gx_object::Name;
 use std::alloc::{AllocError, Allocator};
+use std::collections::BTreeMap;
 
 /// A ref to be set: its name, and the object that it is to hold.
 #[derive(Clone, Copy, Debug)]
@@ -25,9 +26,40 @@ pub(crate) fn with_changes<A: Allocator + Copy>(
     requires sorted { IsTrue (is_sorted byte_cmp (map kept refs.now)) }
     ensures { IfOk result (λ now. map kept now.items ≡ with_changes (map kept refs.now) (map asked changes.now)) }
 {
-    let mut now = copied(alloc, refs)?;
+    let mut objects = by_name(alloc, refs)?;
     for change in changes {
-        set(alloc, &mut now, change.name, change.target)?;
+        let name = Vec::from_slice(alloc, change.name)?;
+        objects.insert(name, change.target)?;
     }
-    Ok(now)
+    in_order(alloc, objects)
+}
+
+/// The objects of refs, each by a copy of its ref's name.
+fn by_name<A: Allocator + Copy>(
+    alloc: A,
+    refs: &[Ref<A>],
+) -> Result<BTreeMap<Vec<u8, A>, Name, A>, AllocError>
+    requires sorted { IsTrue (is_sorted byte_cmp (map kept refs.now)) }
+    ensures { IfOk result (λ objects. map ref_of objects.entries ≡ map kept refs.now) }
+{
+    let mut objects = BTreeMap::new(alloc);
+    for held in refs {
+        let name = Vec::from_slice(alloc, held.name.as_slice())?;
+        objects.insert(name, held.object)?;
+    }
+    Ok(objects)
+}
+
+/// The refs of objects by their names, in the byte order of names.
+fn in_order<A: Allocator + Copy>(
+    alloc: A,
+    objects: BTreeMap<Vec<u8, A>, Name, A>,
+) -> Result<Vec<Ref<A>, A>, AllocError>
+    ensures { IfOk result (λ refs. map kept refs.items ≡ map ref_of objects.entries) }
+{
+    let mut refs = Vec::new(alloc);
+    for (name, object) in objects {
+        refs.push(Ref { name, object })?;
+    }
+    Ok(refs)
 }

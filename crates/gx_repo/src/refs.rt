@@ -1,6 +1,6 @@
 //! Refs in the byte order of their names. Source: gitglossary(7), "ref".
-ghost use Rattle.std.specs.Prelude.{◌≡◌, ◌++◌, map, drop, IsTrue, IfOk, OnOk};
-ghost use Rattle.std.specs.FinMap.Entries.{is_sorted, put};
+ghost use Rattle.std.specs.Prelude.{◌≡◌, ◌++◌, map, drop, IsTrue};
+ghost use Rattle.std.specs.FinMap.Entries.{is_sorted};
 ghost use Rattle.std.specs.Iterator.{item_count};
 ghost use Rattle.std.specs.Map.{lookup};
 ghost use Rattle.std.specs.Map.Iter.{TakesFirst};
@@ -12,7 +12,7 @@ ghost use Rattle.gx_model.specs.Texts.{same_bytes};
 ghost use Rattle.gx_repo.specs.Refs.{kept, shown};
 
 use gx_object::Name;
-use std::alloc::{AllocError, Allocator};
+use std::alloc::Allocator;
 use std::cmp::Ordering;
 use std::marker::Model;
 
@@ -107,42 +107,4 @@ fn compare(text: &[u8], before: &[u8], word: &[u8], after: &[u8]) -> Ordering
 {
     let joined = before.iter().chain(word.iter()).chain(after.iter());
     text.iter().cmp(joined)
-}
-
-/// Copies of refs.
-pub(crate) fn copied<A: Allocator + Copy>(
-    alloc: A,
-    refs: &[Ref<A>],
-) -> Result<Vec<Ref<A>, A>, AllocError>
-    ensures { IfOk result (λ copies. map kept copies.items ≡ map kept refs.now) }
-{
-    let mut copies = Vec::new(alloc);
-    for held in refs {
-        let name = Vec::from_slice(alloc, held.name.as_slice())?;
-        copies.push(Ref {
-            name,
-            object: held.object,
-        })?;
-    }
-    Ok(copies)
-}
-
-/// Sets a ref: the one of this name, or else a new one at its place in the byte order of names.
-pub(crate) fn set<A: Allocator + Copy>(
-    alloc: A,
-    refs: &mut Vec<Ref<A>, A>,
-    name: &[u8],
-    object: Name,
-) -> Result<(), AllocError>
-    requires sorted { IsTrue (is_sorted byte_cmp (map kept refs.now.items)) }
-    ensures { OnOk result (map kept refs.new.items ≡ put byte_cmp name.now object.bytes (map kept refs.old.items)) }
-{
-    match refs.binary_search_by(|held| held.name.as_slice().cmp(name)) {
-        Ok(place) => refs[place].object = object,
-        Err(place) => {
-            let name = Vec::from_slice(alloc, name)?;
-            refs.insert(place, Ref { name, object })?;
-        }
-    }
-    Ok(())
 }

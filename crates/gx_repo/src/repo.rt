@@ -308,8 +308,8 @@ impl<N: Namer, A: Allocator + Copy> Repo<N, A> {
     /// The first change that is refused is answered: `BadRefName`: the name isn't that of a ref. `UnknownObject`: the
     /// object isn't held. `WrongKind`: it is neither a commit nor a tag whose own name makes the ref's.
     /// `OutOfMemory`: a growth was refused. After a fault the repository is as it was.
-    /// Cost: a copy of the refs; and for each change a look-up of its object, a binary search among the refs, and those
-    /// behind a new ref, which are moved.
+    /// Cost: in proportion to the refs and changes, times the logarithm of their number; and for each change a look-up of
+    /// its object.
     /// Source: git-check-ref-format(1), and gitglossary(7), "ref".
     pub fn publish(&mut self, changes: &[RefChange<'_>]) -> Result<(), PublishFault>
         ensures namer { self.new.0 ≡ self.old.0 }

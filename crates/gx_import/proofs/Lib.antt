@@ -10,7 +10,6 @@ pub mod Parents
 pub mod NamedEdits
 pub mod HeldBlobs
 pub mod KeptRefs
-pub mod ListedChanges
 pub mod SetRefs
 pub mod CountedRefs
 pub mod AddedAnswers

@@ -1,13 +1,14 @@
 -- Rows that go together: what is found at a name goes together, and so does what is put there.
-use Rattle.std.proofs.Common.{◌≡◌, ℕ, zero, suc, Bool, true, false, cond, List, [], ◌∷◌, map, get_or, set, Option, Some, None, refl, sym, ap, subst, ◌∙◌}
+use Rattle.std.proofs.Common.{◌≡◌, ℕ, Bool, true, false, cond, List, [], ◌∷◌, map, Option, Some, None, inl, inr, refl, sym, ap, subst, ◌∙◌}
 use Rattle.std.specs.Prelude.{IfSome, ◌&&◌}
-use Rattle.std.specs.Map.{lookup}
+use Rattle.std.specs.Map.{lookup, set_value}
+use Rattle.std.specs.declared.vec.Vec.{Vec}
 use Rattle.std.specs.declared.cmp.Ordering.TheVariants.{Less, Equal, Greater}
 use Rattle.std.specs.FinMap.Entries.{below_all, by_order, is_sorted, put}
 use Rattle.std.specs.Ordering.{is_lt}
+use Rattle.std.proofs.lemmas.Bool.{cases_Bool}
 use Rattle.gx_model.specs.Texts.{Bytes}
 use Rattle.gx_model.specs.Replay.{byte_cmp}
-use Rattle.gx_import.specs.declared.table.Row.{Row}
 use Rattle.gx_import.specs.Rows.{AreBoth, AreRows, row_of}
 
 -- what follows for something that is there
@@ -15,16 +16,19 @@ pub some_more : {X : Type 0} (P Q : X → Type 0) (o : Option X) → ((x : X) �
 some_more P Q None f h = tt
 some_more P Q (Some x) f h = f x h
 
-module _ {T A : Type 0} (Is : T → T → Type 0) (same : (t : T) → Is t t) where
-  pub related_itself : (xs : List (Row T A)) → AreRows Is (map row_of xs) (map row_of xs)
+module _ {T : Type 0} (Is : T → T → Type 0) (same : (t : T) → Is t t) where
+  pub related_itself : (rows : List (Bytes × T)) → AreRows Is rows rows
   related_itself [] = tt
-  related_itself (x ∷ xs) = (refl, same x.value, related_itself xs)
+  related_itself (row ∷ rows) = (refl, same row.1, related_itself rows)
 
-  -- one row changes its value
-  pub related_set : (xs : List (Row T A)) (i : ℕ) (d y : Row T A) → y.name.items ≡ (get_or xs i d).name.items → Is (get_or xs i d).value y.value → AreRows Is (map row_of xs) (map row_of (set xs i y))
-  related_set [] i d y n h = tt
-  related_set (x ∷ xs) zero d y n h = (sym n, h, related_itself xs)
-  related_set (x ∷ xs) (suc i) d y n h = (refl, same x.value, related_set xs i d y n h)
+  -- the value that a test finds is written
+  pub related_written : {A : Type 0} (test : Vec ℕ A → Bool) (es : List (Vec ℕ A × T)) (old new : T) → lookup test es ≡ Some old → Is old new → AreRows Is (map row_of es) (map row_of (set_value test es new))
+  related_written test [] old new e h = tt
+  related_written test (x ∷ xs) old new e h =
+      elim (cases_Bool (test x.0)) [
+        | inl b ↦ let at : Some x.1 ≡ Some old = rw b at e in let is : x.1 ≡ old = cc in rw b (refl, subst (λ t. Is t new) (sym is) h, related_itself (map row_of xs))
+        | inr b ↦ let at : lookup test xs ≡ Some old = rw b at e in rw b (refl, same x.1, related_written test xs old new at h)
+      ]
 
 module _ {X Y : Type 0} (Is : X → Y → Type 0) where
   -- what is found at a name

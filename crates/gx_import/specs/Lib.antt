@@ -3,6 +3,7 @@ pub mod Answers
 pub mod Objects
 pub mod Marks
 pub mod Rows
+pub mod AtHand
 pub mod Standing
 pub mod Steps
 pub mod Words

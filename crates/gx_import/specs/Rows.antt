@@ -1,16 +1,16 @@
 -- The rows of a table, as a list of names and values.
-use Rattle.std.specs.Prelude.{◌≡◌, List, [], ◌∷◌, map, Option, Some, None, ⊤}
+use Rattle.std.specs.Prelude.{◌≡◌, ℕ, List, [], ◌∷◌, map, Option, Some, None, ⊤}
+use Rattle.std.specs.declared.vec.Vec.{Vec}
 use Rattle.gx_model.specs.Texts.{Bytes}
-use Rattle.gx_import.specs.declared.table.Row.{Row}
 use Rattle.gx_import.specs.declared.table.Table.{Table}
 
 -- a row without where its name lies in memory
-abbrev pub row_of : {T A : Type 0} → Row T A → Bytes × T
-row_of row = (row.name.items, row.value)
+abbrev pub row_of : {T A : Type 0} → Vec ℕ A × T → Bytes × T
+row_of row = (row.0.items, row.1)
 
 -- the rows of a table
 abbrev pub rows_of : {T A : Type 0} → Table T A → List (Bytes × T)
-rows_of table = map row_of table.rows.items
+rows_of table = map row_of table.rows.entries
 
 module _ {X Y : Type 0} (Is : X → Y → Type 0) where
   -- the same names, and at each of them what goes together

@@ -7,6 +7,7 @@ ghost use Rattle.gx_model.specs.Texts.{Bytes};
 ghost use Rattle.gx_import.specs.Rows.{AreRows, rows_of};
 ghost use Rattle.gx_import.specs.Standing.{IsTaken, WereFiles};
 
+use crate::at_hand::AtHand;
 use crate::table::Table;
 use gx_object::Name;
 use gx_tree::PathTree;
@@ -45,7 +46,7 @@ impl<A: Allocator + Copy> Tip<A> {
 
 /// Takes the files of a commit from the branch of this name. The branch stays at its commit.
 ///
-/// Cost: a binary search. Takes no memory.
+/// Cost: the logarithm of the number of branches. Takes no memory.
 pub(crate) fn take_files<A: Allocator + Copy>(
     branches: &mut Table<Tip<A>, A>,
     name: &[u8],
@@ -56,29 +57,24 @@ pub(crate) fn take_files<A: Allocator + Copy>(
     ensures sorted { IsTrue (is_sorted byte_cmp (rows_of branches.new)) }
     ensures files { IfSome result (WereFiles (rows_of branches.old) name.now commit.now) }
 {
-    let found = branches
-        .rows
-        .binary_search_by(|row| row.name.as_slice().cmp(name));
-    match found {
-        Ok(place) => branches.rows[place].value.take_files(commit),
-        Err(_) => None,
+    match branches.rows.get_mut(name) {
+        Some(tip) => tip.take_files(commit),
+        None => None,
     }
 }
 
-/// The files of a commit, from any branch that stands there and has them at hand.
+/// The files of a commit, from the branch that is said to have them at hand, where it stands there and has them.
 ///
-/// Cost: the number of branches. Takes no memory.
+/// Cost: the logarithm of the number of branches. Takes no memory.
 pub(crate) fn files_at<'a, A: Allocator + Copy>(
     branches: &'a Table<Tip<A>, A>,
+    at_hand: &AtHand<A>,
     commit: &Name,
 ) -> Option<&'a PathTree<A>>
     requires sorted { IsTrue (is_sorted byte_cmp (rows_of branches.now)) }
     ensures { IfSome result (λ files. (branch : Bytes) × WereFiles (rows_of branches.now) branch commit.now files.now) }
 {
-    for row in &branches.rows {
-        if let Some(files) = row.value.files_at(commit) {
-            return Some(files);
-        }
-    }
-    None
+    let branch = at_hand.branch(commit)?;
+    let tip = branches.get(branch)?;
+    tip.files_at(commit)
 }

@@ -71,7 +71,7 @@ pub(crate) fn apply_commit<N: Namer, A: Allocator + Copy>(
         commit: Some(name),
         files: Some(files),
     };
-    Ok(tables.branches.set(commit.branch.bytes, tip)?)
+    Ok(tables.set_tip(commit.branch.bytes, tip)?)
 }
 
 /// The first parent: that of `from`, or else the branch's own commit.

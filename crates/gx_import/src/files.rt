@@ -25,7 +25,7 @@ use std::alloc::Allocator;
 /// The files of the first parent: those at hand where its branch or another stands there, and otherwise those of its
 /// tree. There are none without a first parent.
 ///
-/// Cost: a binary search; or else the number of branches; or else the size of the tree.
+/// Cost: the logarithm of the number of branches; or else the size of the tree.
 pub(crate) fn starting_files<N: Namer, A: Allocator + Copy>(
     repo: &Repo<N, A>,
     tables: &mut Tables<A>,
@@ -49,7 +49,7 @@ pub(crate) fn starting_files<N: Namer, A: Allocator + Copy>(
     }
 }
 
-/// The files of a commit: those at hand where any branch stands there, which are shared, and otherwise those of its tree.
+/// The files of a commit: those at hand where another branch has them, which are shared, and otherwise those of its tree.
 fn other_files<N: Namer, A: Allocator + Copy>(
     repo: &Repo<N, A>,
     tables: &Tables<A>,
@@ -61,7 +61,7 @@ fn other_files<N: Namer, A: Allocator + Copy>(
     ensures fault { IfErr result (λ fault. fault ≡ OutOfMemory) }
 {
     repo.sound();
-    match files_at(&tables.branches, commit) {
+    match files_at(&tables.branches, &tables.at_hand, commit) {
         Some(files) => Ok(files.duplicate()?),
         None => loaded_files(tables.alloc, repo, commit),
     }

@@ -2,6 +2,7 @@
 //! An import that is accepted leaves the replayed history, and one that is refused leaves the repository as it was.
 #![tactic(auto)]
 
+mod at_hand;
 mod blob;
 mod branches;
 mod changes;

@@ -11,13 +11,13 @@ ghost use Rattle.gx_model.specs.Publishing.{changes_fault, with_changes};
 ghost use Rattle.gx_repo.specs.Refs.{asked};
 ghost use Rattle.gx_import.specs.Publishing.{Publishes};
 ghost use Rattle.gx_import.specs.RefChanges.{branch_changes, branch_then, changes_of, has_commit, hidden_by, is_kept_by, tag_changes};
-ghost use Rattle.gx_import.specs.Rows.{row_of, rows_of};
+ghost use Rattle.gx_import.specs.Rows.{rows_of};
 ghost use Rattle.gx_import.specs.Standing.{Stands};
 ghost use Rattle.gx_import.specs.declared.fault.ImportKind.TheVariants.{OutOfMemory};
 
 use crate::ImportKind;
 use crate::branches::Tip;
-use crate::table::{Row, Table};
+use crate::table::Table;
 use crate::tables::Tables;
 use gx_model::repository_laws::histories_of_records;
 use gx_object::{Name, Namer};
@@ -99,20 +99,20 @@ fn changes<'a, A: Allocator + Copy>(
     ensures { IfOk result (λ changes. map asked changes.items ≡ changes_of tables.now) }
 {
     let mut changes = Vec::new(tables.alloc);
-    append_branches(&mut changes, tables.branches.rows.as_slice())?;
-    append_tags(&mut changes, tables.tags.rows.as_slice())?;
+    append_branches(&mut changes, &tables.branches)?;
+    append_tags(&mut changes, &tables.tags)?;
     Ok(changes)
 }
 
 /// Appends the branches with a commit.
 fn append_branches<'a, A: Allocator + Copy>(
     changes: &mut Vec<RefChange<'a>, A>,
-    rows: &'a [Row<Tip<A>, A>],
+    branches: &'a Table<Tip<A>, A>,
 ) -> Result<(), AllocError>
-    ensures { OnOk result (map asked changes.new.items ≡ map asked changes.old.items ++ branch_changes (map row_of rows.now)) }
+    ensures { OnOk result (map asked changes.new.items ≡ map asked changes.old.items ++ branch_changes (rows_of branches.now)) }
 {
-    for row in rows {
-        append_branch(changes, row)?;
+    for (name, tip) in &branches.rows {
+        append_branch(changes, name.as_slice(), tip.commit)?;
     }
     Ok(())
 }
@@ -120,12 +120,12 @@ fn append_branches<'a, A: Allocator + Copy>(
 /// Appends a branch, where it has a commit.
 fn append_branch<'a, A: Allocator + Copy>(
     changes: &mut Vec<RefChange<'a>, A>,
-    row: &'a Row<Tip<A>, A>,
+    name: &'a [u8],
+    commit: Option<Name>,
 ) -> Result<(), AllocError>
-    ensures { OnOk result (map asked changes.new.items ≡ map asked changes.old.items ++ branch_then row.now.name.items row.now.value.commit []) }
+    ensures { OnOk result (map asked changes.new.items ≡ map asked changes.old.items ++ branch_then name.now commit []) }
 {
-    if let Some(target) = row.value.commit {
-        let name = row.name.as_slice();
+    if let Some(target) = commit {
         changes.push(RefChange { name, target })?;
     }
     Ok(())
@@ -134,13 +134,13 @@ fn append_branch<'a, A: Allocator + Copy>(
 /// Appends the tags.
 fn append_tags<'a, A: Allocator + Copy>(
     changes: &mut Vec<RefChange<'a>, A>,
-    rows: &'a [Row<Name, A>],
+    tags: &'a Table<Name, A>,
 ) -> Result<(), AllocError>
-    ensures { OnOk result (map asked changes.new.items ≡ map asked changes.old.items ++ tag_changes (map row_of rows.now)) }
+    ensures { OnOk result (map asked changes.new.items ≡ map asked changes.old.items ++ tag_changes (rows_of tags.now)) }
 {
-    for row in rows {
-        let name = row.name.as_slice();
-        let target = row.value;
+    for (name, object) in &tags.rows {
+        let name = name.as_slice();
+        let target = *object;
         changes.push(RefChange { name, target })?;
     }
     Ok(())
@@ -173,8 +173,8 @@ fn hidden_branches<A: Allocator + Copy>(tables: &Tables<A>) -> usize
     ensures { result ≡ hidden_by (rows_of tables.now.branches) (rows_of tables.now.tags) }
 {
     let mut hidden = 0;
-    for row in &tables.tags.rows {
-        if has_commit(&tables.branches, row.name.as_slice()) {
+    for (name, _) in &tables.tags.rows {
+        if has_commit(&tables.branches, name.as_slice()) {
             hidden += 1;
         }
     }

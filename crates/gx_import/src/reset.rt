@@ -39,7 +39,7 @@ pub(crate) fn apply_reset<N: Namer, A: Allocator + Copy>(
         commit,
         files: None,
     };
-    Ok(tables.branches.set(reset.branch.bytes, tip)?)
+    Ok(tables.set_tip(reset.branch.bytes, tip)?)
 }
 
 /// The commit of its `from`.

@@ -9,18 +9,12 @@ ghost use Rattle.gx_model.specs.Texts.{same_bytes};
 ghost use Rattle.gx_import.specs.Rows.{rows_of};
 
 use std::alloc::{AllocError, Allocator};
-
-/// What stands at a ref's name.
-#[derive(Drop)]
-pub(crate) struct Row<T, A: Allocator> {
-    pub(crate) name: Vec<u8, A>,
-    pub(crate) value: T,
-}
+use std::collections::BTreeMap;
 
 /// Values by ref names, in their byte order.
 #[derive(Drop)]
 pub(crate) struct Table<T, A: Allocator> {
-    pub(crate) rows: Vec<Row<T, A>, A>,
+    pub(crate) rows: BTreeMap<Vec<u8, A>, T, A>,
 }
 
 impl<T: Drop, A: Allocator + Copy> Table<T, A> {
@@ -29,36 +23,24 @@ impl<T: Drop, A: Allocator + Copy> Table<T, A> {
         ensures { rows_of result ≡ [] }
     {
         Table {
-            rows: Vec::new(alloc),
+            rows: BTreeMap::new(alloc),
         }
     }
 
-    /// What stands at a name. Cost: a binary search. Takes no memory.
+    /// What stands at a name. Cost: the logarithm of the number of rows. Takes no memory.
     pub(crate) fn get(&self, name: &[u8]) -> Option<&T>
         requires sorted { IsTrue (is_sorted byte_cmp (rows_of self.now)) }
         ensures { option_map (λ value. value.now) result ≡ lookup (same_bytes name.now) (rows_of self.now) }
     {
-        let found = self
-            .rows
-            .binary_search_by(|row| row.name.as_slice().cmp(name));
-        match found {
-            Ok(place) => Some(&self.rows[place].value),
-            Err(_) => None,
-        }
+        self.rows.get(name)
     }
 
-    /// Sets what stands at a name. Cost: a binary search, and for a new name the rows behind it, which are moved.
+    /// Sets what stands at a name. Cost: the logarithm of the number of rows.
     pub(crate) fn set(&mut self, name: Vec<u8, A>, value: T) -> Result<(), AllocError>
         requires sorted { IsTrue (is_sorted byte_cmp (rows_of self.now)) }
         ensures { OnOk result (rows_of self.new ≡ put byte_cmp name.items value (rows_of self.old)) }
     {
-        let found = self
-            .rows
-            .binary_search_by(|row| row.name.as_slice().cmp(name.as_slice()));
-        match found {
-            Ok(place) => self.rows[place].value = value,
-            Err(place) => self.rows.insert(place, Row { name, value })?,
-        }
+        self.rows.insert(name, value)?;
         Ok(())
     }
 }

@@ -1,12 +1,18 @@
 //! What an import has made so far, besides the objects.
 
+ghost use Rattle.std.specs.Prelude.{◌≡◌, IsTrue, OnOk};
+ghost use Rattle.std.specs.FinMap.Entries.{is_sorted, put};
+ghost use Rattle.gx_model.specs.Replay.{byte_cmp};
+ghost use Rattle.gx_import.specs.AtHand.{IsEntered};
+ghost use Rattle.gx_import.specs.Rows.{rows_of};
 ghost use Rattle.gx_import.specs.Standing.{AreEmpty};
 
+use crate::at_hand::AtHand;
 use crate::branches::Tip;
 use crate::marks::Marks;
 use crate::table::Table;
 use gx_object::Name;
-use std::alloc::Allocator;
+use std::alloc::{AllocError, Allocator};
 
 /// The marks, branches and tags of an import, and whether a branch may lose commits.
 #[derive(Drop)]
@@ -14,6 +20,8 @@ pub(crate) struct Tables<A: Allocator> {
     pub(crate) alloc: A,
     pub(crate) marks: Marks<A>,
     pub(crate) branches: Table<Tip<A>, A>,
+    /// The commits whose files are at hand, with their branches.
+    pub(crate) at_hand: AtHand<A>,
     /// The tags by their refs.
     pub(crate) tags: Table<Name, A>,
     pub(crate) is_forced: bool,
@@ -28,8 +36,54 @@ impl<A: Allocator + Copy> Tables<A> {
             alloc,
             marks: Marks::new(alloc),
             branches: Table::new(alloc),
+            at_hand: AtHand::new(alloc),
             tags: Table::new(alloc),
             is_forced: false,
+        }
+    }
+
+    /// Sets where a branch stands. The files that it has at hand are found by its commit, and those that it had no more.
+    ///
+    /// Cost: the name, and the logarithm of the number of branches.
+    pub(crate) fn set_tip(&mut self, branch: Vec<u8, A>, tip: Tip<A>) -> Result<(), AllocError>
+        requires sorted { IsTrue (is_sorted byte_cmp (rows_of self.now.branches)) }
+        ensures marks { self.new.marks ≡ self.old.marks }
+        ensures branches { OnOk result (rows_of self.new.branches ≡ put byte_cmp branch.items tip (rows_of self.old.branches)) }
+        ensures entered { OnOk result (IsEntered self.new.at_hand branch.items tip) }
+        ensures tags { self.new.tags ≡ self.old.tags }
+        ensures forced { self.new.is_forced ≡ self.old.is_forced }
+    {
+        self.forget_tip(branch.as_slice());
+        self.enter_tip(branch.as_slice(), &tip)?;
+        self.branches.set(branch, tip)
+    }
+
+    /// Forgets the commit at which a branch has files at hand.
+    fn forget_tip(&mut self, branch: &[u8])
+        requires sorted { IsTrue (is_sorted byte_cmp (rows_of self.now.branches)) }
+        ensures marks { self.new.marks ≡ self.old.marks }
+        ensures branches { self.new.branches ≡ self.old.branches }
+        ensures tags { self.new.tags ≡ self.old.tags }
+        ensures forced { self.new.is_forced ≡ self.old.is_forced }
+    {
+        if let Some(tip) = self.branches.get(branch) {
+            if let Some(commit) = tip.commit {
+                self.at_hand.forget(&commit, branch);
+            }
+        }
+    }
+
+    /// Enters the commit of a branch, where its files are at hand.
+    fn enter_tip(&mut self, branch: &[u8], tip: &Tip<A>) -> Result<(), AllocError>
+        ensures marks { self.new.marks ≡ self.old.marks }
+        ensures branches { self.new.branches ≡ self.old.branches }
+        ensures entered { OnOk result (IsEntered self.new.at_hand branch.now tip.now) }
+        ensures tags { self.new.tags ≡ self.old.tags }
+        ensures forced { self.new.is_forced ≡ self.old.is_forced }
+    {
+        match tip.commit {
+            Some(commit) if tip.files.is_some() => self.at_hand.enter(self.alloc, commit, branch),
+            _ => Ok(()),
         }
     }
 }

@@ -142,19 +142,19 @@ returns-in_err-set-clause-steps g c = λ s h.
     let p = err_from_is_err_and c.from_residual-in_err-set.result c.from_residual-in_err-set.ensures.1 in
     rw (p.1, p.2) tt
 
-pub set-requires-2 : goal.set-requires-2
-set-requires-2 g c =
+pub set_tip-requires : goal.set_tip-requires
+set_tip-requires g c =
     let s = c.requires.stands.0 in
     let h = c.requires.stands.1 in
     record { sorted = (c.starting_files.ensures.tables s h).branches_sorted }
 
-pub returns-in_err-set-2-clause-extends : goal.returns-in_err-set-2-clause-extends
-returns-in_err-set-2-clause-extends g c =
+pub returns-in_err-set_tip-clause-extends : goal.returns-in_err-set_tip-clause-extends
+returns-in_err-set_tip-clause-extends g c =
     extended_more _ _ _ c.change_all.ensures.extends c.add.ensures.extends
 
-pub returns-in_err-set-2-clause-steps : goal.returns-in_err-set-2-clause-steps
-returns-in_err-set-2-clause-steps g c = λ s h.
-    let p = err_from_is_err_and c.from_residual-in_err-set-2.result c.from_residual-in_err-set-2.ensures.1 in
+pub returns-in_err-set_tip-clause-steps : goal.returns-in_err-set_tip-clause-steps
+returns-in_err-set_tip-clause-steps g c = λ s h.
+    let p = err_from_is_err_and c.from_residual-in_err-set_tip.result c.from_residual-in_err-set_tip.ensures.1 in
     rw (p.1, p.2) tt
 
 pub returns-clause-extends : goal.returns-clause-extends
@@ -183,7 +183,7 @@ returns-clause-steps g c = λ s h.
     let named = subst (λ n. AddGives (g.N.Namer.name_of n) g.row.A.Denot mid new stop c.as_slice.result.now t (Ok c.in_ok-name.name)) c.change_all.ensures.namer c.in_ok-name.ensures.steps in
     let adds = subst (λ ns. AddGives name g.row.A.Denot mid new stop ns t (Ok c.in_ok-name.name)) c.as_slice.ensures.value named in
     commit_done name namer r mid c.sound.ensures before tables start stop t first parents s h stand k l files gives new c.in_ok-name.name adds c.add.new.files c.add.ensures.files c.set.new.self _ refl refl c.in_ok-set.ensures c.args.commit.branch.proper
-    (record { commit = Some c.in_ok-name.name; files = Some c.add.new.files }) refl refl _ refl refl refl c.in_ok-set-2.ensures
+    (record { commit = Some c.in_ok-name.name; files = Some c.add.new.files }) refl refl _ c.set_tip.ensures.marks c.set_tip.ensures.tags c.set_tip.ensures.forced c.in_ok-set_tip.ensures.branches
 
 pub add-requires-clause-home : goal.add-requires-clause-home
 add-requires-clause-home g c =
@@ -196,4 +196,4 @@ returns-clause-homes g c =
     let new = c.add.new.repo.1.records in
     let before = homes_longer name c.records_keep_home.ensures c.args.repo.now.1.records new (rows_of c.starting_files.new.tables.branches) (extended_more _ _ _ c.change_all.ensures.extends c.add.ensures.extends) (c.starting_files.ensures.homes c.requires.homes) in
     let home = subst (λ n. IsAtHome (g.N.Namer.name_of n) new c.add.new.files) c.change_all.ensures.namer c.in_ok-name.ensures.home in
-    subst (AreHome name new) (sym c.in_ok-set-2.ensures) (homes_put name new _ (record { commit = Some c.in_ok-name.name; files = Some c.add.new.files }) _ home before)
+    subst (AreHome name new) (sym c.in_ok-set_tip.ensures.branches) (homes_put name new _ (record { commit = Some c.in_ok-name.name; files = Some c.add.new.files }) _ home before)

@@ -28,8 +28,8 @@ returns-clause-steps g c = λ s h.
     let k = c.in_ok-commit.ensures s h in (
       on_branch b k.0 s,
       reset_by name s b x ∙ ap (λ r. and_then r (λ y. Ok (on_branch b y s))) k.1,
-      record { stands = moved_branch name c.args.repo.now.1 c.args.tables.now _ s h b c.args.reset.branch.proper k.0 _ (record { commit = k.2; files = tt }) refl refl refl c.in_ok-set.ensures; progress = refl; held = refl },
+      record { stands = moved_branch name c.args.repo.now.1 c.args.tables.now _ s h b c.args.reset.branch.proper k.0 _ (record { commit = k.2; files = tt }) c.set_tip.ensures.marks c.set_tip.ensures.tags c.set_tip.ensures.forced c.in_ok-set_tip.ensures.branches; progress = refl; held = refl },
     )
 
 pub returns-clause-homes : goal.returns-clause-homes
-returns-clause-homes g c = λ name records h. subst (AreHome name records) (sym c.in_ok-set.ensures) (homes_put name records _ _ _ tt h)
+returns-clause-homes g c = λ name records h. subst (AreHome name records) (sym c.in_ok-set_tip.ensures.branches) (homes_put name records _ _ _ tt h)

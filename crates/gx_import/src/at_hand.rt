@@ -1,0 +1,57 @@
+//! Where the files of a commit may be at hand.
+
+ghost use Rattle.std.specs.Prelude.{◌≡◌, None, Some, OnOk, ◌≢◌};
+ghost use Rattle.std.specs.Option.{option_map};
+ghost use Rattle.gx_object.specs.declared.name.Name.{Name};
+ghost use Rattle.gx_import.specs.AtHand.{branch_of};
+
+use gx_object::Name;
+use std::alloc::{AllocError, Allocator};
+use std::collections::BTreeMap;
+
+/// Commits whose files are at hand, each with the branch that has them. There are no more of them than branches.
+///
+/// This is a hint: whoever takes it looks whether the branch stands at the commit and has the files.
+#[derive(Drop)]
+pub(crate) struct AtHand<A: Allocator> {
+    branches: BTreeMap<Name, Vec<u8, A>, A>,
+}
+
+impl<A: Allocator + Copy> AtHand<A> {
+    /// No commits. Takes no memory.
+    pub(crate) fn new(alloc: A) -> AtHand<A>
+        ensures { (commit : Name) → branch_of result commit ≡ None }
+    {
+        AtHand {
+            branches: BTreeMap::new(alloc),
+        }
+    }
+
+    /// The branch of a commit. Cost: the logarithm of the number of branches. Takes no memory.
+    pub(crate) fn branch(&self, commit: &Name) -> Option<&[u8]>
+        ensures { option_map (λ branch. branch.now) result ≡ branch_of self.now commit.now }
+    {
+        match self.branches.get(commit) {
+            Some(branch) => Some(branch.as_slice()),
+            None => None,
+        }
+    }
+
+    /// Enters the branch of a commit. Cost: the name, and the logarithm of the number of branches.
+    pub(crate) fn enter(&mut self, alloc: A, commit: Name, branch: &[u8]) -> Result<(), AllocError>
+        ensures { OnOk result (branch_of self.new commit ≡ Some branch.now) }
+    {
+        let branch = Vec::from_slice(alloc, branch)?;
+        self.branches.insert(commit, branch)?;
+        Ok(())
+    }
+
+    /// Forgets that a branch has the files of a commit. Cost: the logarithm of the number of branches.
+    pub(crate) fn forget(&mut self, commit: &Name, branch: &[u8])
+        ensures { branch_of self.new commit.now ≢ Some branch.now }
+    {
+        if self.branch(commit) == Some(branch) {
+            self.branches.remove(commit);
+        }
+    }
+}

@@ -1,18 +1,22 @@
 -- A directory's entries where one takes the place of another.
-use Rattle.std.proofs.Common.{◌≡◌, ℕ, ◌+◌, ◌<◌, zero, suc, true, false, List, [], ◌∷◌, ◌++◌, length, get_or, drop, slice_set, Some, inl, inr, refl, sym, ap, ◌∙◌, arith, subst}
-use Rattle.std.specs.List.{list_all, AllByRecursion}
-use Rattle.std.proofs.lemmas.Bool.{cases_Bool}
+use Rattle.std.proofs.Common.{◌≡◌, ℕ, ◌+◌, ◌<◌, zero, suc, Bool, true, false, List, [], ◌∷◌, ◌++◌, length, get_or, drop, take, slice_set, Option, Some, None, Result, Ok, Err, inl, inr, refl, sym, ap, ◌∙◌, arith, subst}
+use Rattle.std.specs.List.{insert, list_all, AllByRecursion}
+use Rattle.std.specs.Prelude.{IfErr, is_ok}
+use Rattle.std.proofs.lemmas.Bool.{cases_Bool, true≢false}
+use Rattle.std.proofs.lemmas.List.{map-append}
 use Rattle.gx_model.specs.Texts.{Bytes, same_bytes}
 use Rattle.gx_model.specs.Paths.{Path, is_component}
-use Rattle.gx_tree.specs.Nodes.{Kept, Level, IsAfter, IsKept, IsLevel, comes_before, files, inserted, kept_at, kept_map, key, mark, others, precedes, with_kept}
-use Rattle.gx_tree.specs.Searches.{IsEntryAt}
+use Rattle.gx_model.specs.Files.{Leaf}
+use Rattle.gx_tree.specs.Nodes.{Kept, Level, IsAfter, IsKept, IsLevel, comes_before, file, files, inserted, kept_at, kept_map, key, mark, others, precedes, with_kept}
+use Rattle.gx_tree.specs.Searches.{Finds, IsEntryAt, IsMissingAt}
 use Rattle.gx_tree.specs.Steps.{grafted, kept_grafted}
 use Rattle.gx_tree.specs.Views.{kept, seen, seen_all}
 use Rattle.gx_tree.specs.declared.directory.Entry.{Entry}
-use Rattle.gx_tree.proofs.EditSteps.{Leaves, grafted_step}
+use Rattle.gx_tree.proofs.Below.{root_at_end}
+use Rattle.gx_tree.proofs.EditSteps.{Leaves, grafted_step, kept_grafted_here}
 use Rattle.gx_tree.proofs.Levels.{key_trans}
-use Rattle.gx_tree.proofs.Searches.{after_at, kept_at_place, not_before_itself}
-use Rattle.gx_tree.proofs.Texts.{bytes_same, same_bytes_flip, same_itself}
+use Rattle.gx_tree.proofs.Searches.{after_at, found_either, inserted_at, kept_at_place, not_before_itself}
+use Rattle.gx_tree.proofs.Texts.{bytes_same, cases_bytes, same_bytes_flip, same_itself}
 
 others_after : (a : Bytes × Kept) (es : Level) → AllByRecursion (IsAfter a) es → others a.0 es ≡ es
 others_after a [] h = refl
@@ -50,12 +54,35 @@ put_at p i n f es xs ys r e l hf hp level ex ey at et er ec ek em =
     let out : seen_all (slice_set ys n e) ≡ with_kept (seen r).0 (kept e.item) (seen_all es) = ap (λ z. seen_all (slice_set z n e)) ey ∙ in_place es n r e level within ir ec em in
     grafted_step p i (seen_all es) (seen_all (slice_set ys n e)) f (Some (kept r.item)) l hf hp refl level refl c refl refl o ek out
 
-pub set_again : {X : Type 0} (xs : List X) (i : ℕ) (r : X) → r ≡ get_or xs i r → slice_set xs i r ≡ xs
-set_again [] i r e = refl
-set_again (x ∷ xs) zero r e = ap (λ z. z ∷ xs) e
-set_again (x ∷ xs) (suc i) r e = ap (λ z. x ∷ z) (set_again xs i r e)
-
 pub all_set : {X : Type 0} (P : X → Type 0) (xs : List X) (i : ℕ) (x : X) → AllByRecursion P xs → P x → AllByRecursion P (slice_set xs i x)
 all_set P [] i x h p = tt
 all_set P (y ∷ xs) zero x h p = (p, h.1)
 all_set P (y ∷ xs) (suc i) x h p = (h.0, all_set P xs i x h.1 p)
+
+-- ---- a new entry
+
+others_same : (c : Bytes) (es : Level) → kept_at c es ≡ None → others c es ≡ es
+others_same c [] h = refl
+others_same c (e ∷ es) h = elim (cases_bytes c e.0) [
+  | inl s ↦ let clash : Some e.1 ≡ None = rw (bytes_same c e.0 s) at h in cc
+  | inr n ↦ rw n (ap (λ r. e ∷ r) (others_same c es (rw n at h)))
+]
+
+-- what a search answers that finds no place
+pub not_found : {A : Type 0} (c m : Bytes) (xs es : List (Entry A)) (r : Result ℕ ℕ) (b : Bool) → xs ≡ es → b ≡ is_ok r → b ≡ false → IfErr r (λ i. IsMissingAt c m xs i) → Finds c m (seen_all es) None
+not_found c m xs es (Ok i) b ex eb n h = absurd (true≢false (sym eb ∙ n))
+not_found c m xs es (Err i) b ex eb n h = subst (λ z. Finds c m (seen_all z) None) ex h.nothing
+
+-- a new file at its place, where nothing stands at its component
+pub inserted_new : {A : Type 0} (c : Bytes) (x : Leaf Bytes) (i : ℕ) (new : Entry A) (es ys out : List (Entry A)) → seen new ≡ (c, file x) → ys ≡ es → out ≡ insert ys i new → IsMissingAt c [] es i → Finds c (47 ∷ []) (seen_all es) None → seen_all out ≡ with_kept c (file x) (seen_all es)
+inserted_new c x i new es ys out en ey eo m n =
+    let none = found_either c (seen_all es) None m.nothing n in
+    let at : seen_all out ≡ seen_all (take i es) ++ seen new ∷ seen_all (drop i es) = rw (eo, ey) (map-append seen (take i es) (new ∷ drop i es)) in
+    at ∙ ap (λ z. seen_all (take i es) ++ z ∷ seen_all (drop i es)) en
+    ∙ sym (inserted_at c (file x) es i m.within m.place) ∙ ap (inserted c (file x)) (sym (others_same c (seen_all es) none))
+
+-- so a file at the path's last component is an edit of the whole
+pub put_last : {A : Type 0} {c : Bytes} (p : Path) (i : ℕ) (x : Leaf Bytes) (es out : List (Entry A)) → i < length p → i + 1 ≡ length p → IsKept (file x) → list_all is_component p ≡ true → IsLevel (seen_all es) → c ≡ get_or p i [] → seen_all out ≡ with_kept c (file x) (seen_all es) → Leaves (grafted (drop i p) (kept_map (file x)) (files (seen_all es))) (seen_all out)
+put_last {A} {c} p i x es out l last hx hp level ec eo =
+    let o = kept_at c (seen_all es) in
+    grafted_step p i (seen_all es) (seen_all out) (file x) o l hx hp refl level ec refl refl refl refl (kept_grafted_here (drop (i + 1) p) (file x) o (root_at_end p i last)) eo

@@ -1,12 +1,13 @@
 //! What an edit makes of a directory: the directories on its path are made anew, and no other changes. Where a file takes
-//! the place of another and no other tree has the directories on its path, it is put in them as they are.
+//! the place of another or of nothing, and no other tree has the directories on its path, it is put in them as they are.
 ghost use Rattle.std.specs.Prelude.{◌≡◌, ◌≢◌, ◌<◌, ◌+◌, [], IfOk, IsFalse, IsTrue, Some, drop, length};
 ghost use Rattle.gx_model.specs.Edits.{removed};
 ghost use Rattle.gx_model.specs.Files.{sub_map};
 ghost use Rattle.gx_tree.specs.Homes.{Keeps, Both, IfThere, Borrowed, AreAtHome, IsHeldAtHome, IsItemAtHome};
 ghost use Rattle.gx_tree.specs.Named.{IsAtHome, KeepsHome};
-ghost use Rattle.gx_tree.specs.Nodes.{IsKept, IsLevel, file, files, kept_map, map_if, mark, IsKeptAt};
-ghost use Rattle.gx_tree.specs.Steps.{grafted, kept_grafted, kept_removed};
+ghost use Rattle.gx_tree.specs.Nodes.{IsKept, IsLevel, file, files, kept_map, map_if, mark, with_kept, IsKeptAt};
+ghost use Rattle.gx_tree.specs.Searches.{IsMissingAt};
+ghost use Rattle.gx_tree.specs.Steps.{grafted, is_made, kept_grafted, kept_removed};
 ghost use Rattle.gx_tree.specs.Views.{kept, kept_if, option_kept, seen_all};
 ghost use Rattle.gx_model.specs.declared.objects.Mode.TheVariants as modes;
 
@@ -79,22 +80,29 @@ impl<A: Allocator + Copy> Directory<A> {
 }
 
 impl<A: Allocator + Copy> Directory<A> {
-    /// Puts a file in place of the one at the rest of the path, where no other tree has the directories on it, and answers
-    /// whether it did.
+    /// Puts a file in place of the one at the rest of the path, or where nothing stands in the last directory on it, and
+    /// answers whether it did: only where no other tree has the directories on the path.
     #[cycle(put)]
-    pub(crate) fn put(&mut self, path: &TreePath<A>, depth: usize, mode: Mode, name: Name) -> bool
+    pub(crate) fn put(
+        &mut self,
+        alloc: A,
+        path: &TreePath<A>,
+        depth: usize,
+        mode: Mode,
+        name: Name,
+    ) -> Result<bool, AllocError>
         requires within { depth < length path.now }
         requires mode { mode ≢ modes.Dir }
-        ensures files { IsTrue result → self.new.files ≡ grafted (drop depth path.now) (kept_map (file (mode, name.bytes))) self.old.files }
-        ensures filled { IsTrue result → self.new.files ≢ [] }
-        ensures unchanged { IsFalse result → self.new ≡ self.old }
+        ensures files { IsTrue (is_made result) → self.new.files ≡ grafted (drop depth path.now) (kept_map (file (mode, name.bytes))) self.old.files }
+        ensures filled { IsTrue (is_made result) → self.new.files ≢ [] }
+        ensures unchanged { IsFalse (is_made result) → self.new ≡ self.old }
         ensures home { KeepsHome self.old self.new }
     {
-        let is_put = put_in(&mut self.entries, path, depth, mode, name);
+        let is_put = put_in(&mut self.entries, alloc, path, depth, mode, name)?;
         if is_put {
             self.remembered = None;
         }
-        is_put
+        Ok(is_put)
     }
 }
 
@@ -102,39 +110,77 @@ impl<A: Allocator + Copy> Directory<A> {
 #[cycle(put)]
 fn put_in<A: Allocator + Copy>(
     entries: &mut Rc<Vec<Entry<A>, A>, A>,
+    alloc: A,
     path: &TreePath<A>,
     depth: usize,
     mode: Mode,
     name: Name,
-) -> bool
+) -> Result<bool, AllocError>
     requires within { depth < length path.now }
     requires mode { mode ≢ modes.Dir }
     requires level { IsLevel (seen_all entries.now.value.items) }
-    ensures level { IsTrue result → IsLevel (seen_all entries.new.value.items) }
-    ensures files { IsTrue result → files (seen_all entries.new.value.items) ≡ grafted (drop depth path.now) (kept_map (file (mode, name.bytes))) (files (seen_all entries.old.value.items)) }
-    ensures unchanged { IsFalse result → entries.new.value.items ≡ entries.old.value.items }
+    ensures level { IsTrue (is_made result) → IsLevel (seen_all entries.new.value.items) }
+    ensures files { IsTrue (is_made result) → files (seen_all entries.new.value.items) ≡ grafted (drop depth path.now) (kept_map (file (mode, name.bytes))) (files (seen_all entries.old.value.items)) }
+    ensures unchanged { IsFalse (is_made result) → entries.new.value.items ≡ entries.old.value.items }
     ensures home { Keeps AreAtHome AreAtHome entries.old.value.items entries.new.value.items }
 {
     let length = path.len();
+    let component = path.component(depth);
     let mark: &[u8] = if depth + 1 == length { b"" } else { b"/" };
-    let Some(place) = place_marked(entries.as_slice(), path.component(depth), mark) else {
-        return false;
-    };
-    match Rc::get_mut(entries) {
-        Some(owned) => owned[place].item.put(path, depth, mode, name),
-        None => false,
+    match place_marked(entries.as_slice(), component, mark) {
+        Ok(place) => match Rc::get_mut(entries) {
+            Some(owned) => owned[place].item.put(alloc, path, depth, mode, name),
+            None => Ok(false),
+        },
+        Err(place) if depth + 1 == length => {
+            insert_in(entries, alloc, component, place, mode, name)
+        }
+        Err(_) => Ok(false),
     }
+}
+
+// Puts a new file among the entries at its place, unless a directory stands at its component.
+fn insert_in<A: Allocator + Copy>(
+    entries: &mut Rc<Vec<Entry<A>, A>, A>,
+    alloc: A,
+    component: &[u8],
+    place: usize,
+    mode: Mode,
+    name: Name,
+) -> Result<bool, AllocError>
+    requires level { IsLevel (seen_all entries.now.value.items) }
+    requires missing { IsMissingAt component.now [] entries.now.value.items place }
+    ensures entries { IsTrue (is_made result) → seen_all entries.new.value.items ≡ with_kept component.now (file (mode, name.bytes)) (seen_all entries.old.value.items) }
+    ensures unchanged { IsFalse (is_made result) → entries.new.value.items ≡ entries.old.value.items }
+    ensures home { Keeps AreAtHome AreAtHome entries.old.value.items entries.new.value.items }
+{
+    if place_marked(entries.as_slice(), component, b"/").is_ok() {
+        return Ok(false);
+    }
+    let Some(owned) = Rc::get_mut(entries) else {
+        return Ok(false);
+    };
+    let new = Entry::new(alloc, component, Item::File(mode, name))?;
+    owned.insert(place, new)?;
+    Ok(true)
 }
 
 impl<A: Allocator + Copy> Item<A> {
     // Puts a file in place of this one, or below this directory.
     #[cycle(put)]
-    fn put(&mut self, path: &TreePath<A>, depth: usize, mode: Mode, name: Name) -> bool
+    fn put(
+        &mut self,
+        alloc: A,
+        path: &TreePath<A>,
+        depth: usize,
+        mode: Mode,
+        name: Name,
+    ) -> Result<bool, AllocError>
         requires within { depth < length path.now }
         requires mode { mode ≢ modes.Dir }
-        ensures kept { IsTrue result → kept self.new ≡ kept_grafted (drop (depth + 1) path.now) (file (mode, name.bytes)) (Some (kept self.old)) }
-        ensures mark { IsTrue result → mark (kept self.new) ≡ mark (kept self.old) }
-        ensures unchanged { IsFalse result → self.new ≡ self.old }
+        ensures kept { IsTrue (is_made result) → kept self.new ≡ kept_grafted (drop (depth + 1) path.now) (file (mode, name.bytes)) (Some (kept self.old)) }
+        ensures mark { IsTrue (is_made result) → mark (kept self.new) ≡ mark (kept self.old) }
+        ensures unchanged { IsFalse (is_made result) → self.new ≡ self.old }
         ensures home { Keeps IsItemAtHome IsItemAtHome self.old self.new }
     {
         let length = path.len();
@@ -145,9 +191,10 @@ impl<A: Allocator + Copy> Item<A> {
                     *old_mode = mode;
                     *old_name = name;
                 }
-                is_last
+                Ok(is_last)
             }
-            Item::Folder(below) => !is_last && below.put(path, depth + 1, mode, name),
+            Item::Folder(_) if is_last => Ok(false),
+            Item::Folder(below) => below.put(alloc, path, depth + 1, mode, name),
         }
     }
 }

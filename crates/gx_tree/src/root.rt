@@ -13,7 +13,7 @@ ghost use Rattle.gx_tree.specs.Named.{IsAtHome, KeepsHome, nothing};
 ghost use Rattle.gx_tree.specs.Nodes.{IsKept, IsKeptAt, file, kept_map, map_if};
 ghost use Rattle.gx_model.specs.declared.objects.Mode.TheVariants as modes;
 ghost use Rattle.gx_tree.specs.Standings.{standing_of, standing_at};
-ghost use Rattle.gx_tree.specs.Steps.{grafted};
+ghost use Rattle.gx_tree.specs.Steps.{grafted, is_made};
 ghost use Rattle.gx_tree.specs.Views.{kept};
 ghost use Rattle.gx_tree.specs.Writes.{PutsAll, map_name};
 
@@ -137,18 +137,24 @@ impl<A: Allocator + Copy> Root<A> {
         }
     }
 
-    /// Puts a file in place of the one at a path, where no other tree has the directories on the path, and answers whether
-    /// it did. Takes no memory.
-    pub(crate) fn put(&mut self, path: &TreePath<A>, mode: Mode, name: Name) -> bool
+    /// Puts a file in place of the one at a path, or where nothing stands in its directory, and answers whether it did: only
+    /// where no other tree has the directories on the path. Takes memory for a new file alone.
+    pub(crate) fn put(
+        &mut self,
+        alloc: A,
+        path: &TreePath<A>,
+        mode: Mode,
+        name: Name,
+    ) -> Result<bool, AllocError>
         requires within { 0 < length path.now }
         requires mode { mode ≢ modes.Dir }
-        ensures files { IsTrue result → self.new.files ≡ grafted path.now (kept_map (file (mode, name.bytes))) self.old.files }
-        ensures unchanged { IsFalse result → self.new ≡ self.old }
+        ensures files { IsTrue (is_made result) → self.new.files ≡ grafted path.now (kept_map (file (mode, name.bytes))) self.old.files }
+        ensures unchanged { IsFalse (is_made result) → self.new ≡ self.old }
         ensures home { KeepsHome self.old self.new }
     {
         match &mut self.node {
-            Some(node) => node.put(path, 0, mode, name),
-            None => false,
+            Some(node) => node.put(alloc, path, 0, mode, name),
+            None => Ok(false),
         }
     }
 

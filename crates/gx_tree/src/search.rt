@@ -1,11 +1,11 @@
 //! Finding a component among a directory's entries, by halves.
-ghost use Rattle.std.specs.Prelude.{◌≡◌, ◌≤◌, ◌++◌, true, false, length, IfSome};
+ghost use Rattle.std.specs.Prelude.{◌≡◌, ◌≤◌, ◌++◌, true, false, length, IfErr, IfOk};
 ghost use Rattle.std.specs.Cmp.Lexicographic.{slice_cmp};
 ghost use Rattle.std.specs.List.Sorted.{IsPartitionPoint};
 ghost use Rattle.std.specs.Ordering.{nat_cmp};
 ghost use Rattle.gx_tree.specs.Homes.{Keeps, Both, IfThere, Borrowed, AreAtHome, IsHeldAtHome, IsItemAtHome};
 ghost use Rattle.gx_tree.specs.Nodes.{IsLevel, kept_at, key, precedes};
-ghost use Rattle.gx_tree.specs.Searches.{Finds, IsEntryAt};
+ghost use Rattle.gx_tree.specs.Searches.{Finds, IsEntryAt, IsMissingAt};
 ghost use Rattle.gx_tree.specs.Views.{option_kept, seen, seen_all};
 
 use crate::directory::{Entry, Item};
@@ -48,23 +48,25 @@ fn find_marked<'a, A: Allocator + Copy>(
     None
 }
 
-/// The place of an entry of a component, if it is there, where this follows it in the order.
+/// The place of an entry of a component, if it is there, where this follows it in the order, and as an error the place
+/// that it would have.
 pub(crate) fn place_marked<A: Allocator + Copy>(
     entries: &[Entry<A>],
     component: &[u8],
     mark: &[u8],
-) -> Option<usize>
+) -> Result<usize, usize>
     requires { IsLevel (seen_all entries.now) }
-    ensures { IfSome result (λ place. IsEntryAt component.now entries.now place) }
+    ensures found { IfOk result (λ place. IsEntryAt component.now entries.now place) }
+    ensures missing { IfErr result (λ place. IsMissingAt component.now mark.now entries.now place) }
 {
     let place = place_of(entries, component, mark);
     if place == 0 {
-        return None;
+        return Err(0);
     }
     if entries[place - 1].component() == component {
-        return Some(place - 1);
+        return Ok(place - 1);
     }
-    None
+    Err(place)
 }
 
 /// How many entries don't come after a component with what follows it in the order.

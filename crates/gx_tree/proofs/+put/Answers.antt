@@ -8,52 +8,48 @@ use Rattle.gx_tree.proofs.Below.{no_root_before}
 use Rattle.gx_tree.proofs.EditSteps.{kept_grafted_folder}
 use Rattle.gx_tree.proofs.Grafts.{grafted_some, kept_some}
 use Rattle.gx_tree.proofs.Homes.{all_at, entries_at_home, files_same, items_are_those, made_at_home}
-use Rattle.gx_tree.proofs.InPlace.{all_set, put_at, set_again}
+use Rattle.gx_tree.proofs.InPlace.{all_set, put_at, put_last}
 use Rattle.gx_tree.proofs.+put.Goals as goal
-
-pub directory::Directory::put-invariant_of-self : goal.directory::Directory::put-invariant_of-self
-directory::Directory::put-invariant_of-self g t c = (c.put_in-is_put.ensures.level c.if-is_put.true, tt)
-
-pub directory::Directory::put-returns-then-is_put-clause-files : goal.directory::Directory::put-returns-then-is_put-clause-files
-directory::Directory::put-returns-then-is_put-clause-files g t c = λ is. c.put_in-is_put.ensures.files is ∙ ap (grafted (drop c.args.depth c.args.path.now) (kept_map (file (c.args.mode, c.args.name.bytes)))) (files_same c.self.view_is)
 
 pub directory::Directory::put-returns-then-is_put-clause-filled : goal.directory::Directory::put-returns-then-is_put-clause-filled
 directory::Directory::put-returns-then-is_put-clause-filled g t c = λ is none.
     let f = file (c.args.mode, c.args.name.bytes) in
-    grafted_some (drop c.args.depth c.args.path.now) (kept_map f) _ (kept_some f c.requires.mode) (sym (c.put_in-is_put.ensures.files is) ∙ none)
+    grafted_some (drop c.args.depth c.args.path.now) (kept_map f) _ (kept_some f c.requires.mode) (sym (c.in_ok-is_put.ensures.files is) ∙ none)
 
 pub directory::Directory::put-returns-then-is_put-clause-home : goal.directory::Directory::put-returns-then-is_put-clause-home
 directory::Directory::put-returns-then-is_put-clause-home g t c = λ name rs h.
-    made_at_home name rs c.put_in-is_put.new.entries.value.items (c.put_in-is_put.ensures.level c.if-is_put.true) (c.put_in-is_put.ensures.home name rs (entries_at_home name rs c.self.inside.remembered c.self.inside.entries.value.items c.args.self.now c.self.view_is c.self.invariant.0 h))
+    made_at_home name rs c.put_in.new.entries.value.items (c.in_ok-is_put.ensures.level c.if-is_put.true) (c.in_ok-is_put.ensures.home name rs (entries_at_home name rs c.self.inside.remembered c.self.inside.entries.value.items c.args.self.now c.self.view_is c.self.invariant.0 h))
 
-pub directory::Item::put-returns-then-not-is_last-clause-kept : goal.directory::Item::put-returns-then-not-is_last-clause-kept
-directory::Item::put-returns-then-not-is_last-clause-kept g t c = λ is.
+pub directory::Item::put-returns-in-Folder-2-clause-kept : goal.directory::Item::put-returns-in-Folder-2-clause-kept
+directory::Item::put-returns-in-Folder-2-clause-kept g t c = λ is.
     let q = drop (c.args.depth + 1) c.args.path.now in
     let f = file (c.args.mode, c.args.name.bytes) in
     let n = no_root_before c.args.path.now (c.args.depth + 1) (omega (arith, c.requires.within)) in
-    ap folder (c.put.ensures.files is) ∙ kept_grafted_folder q f (Some (folder c.in-Folder.below.files)) n ∙ ap (λ i. kept_grafted q f (Some (kept i))) (sym c.in-Folder.is)
+    ap folder (c.put.ensures.files is) ∙ kept_grafted_folder q f (Some (folder c.in-Folder.field-0.files)) n ∙ ap (λ i. kept_grafted q f (Some (kept i))) (sym c.in-Folder.is)
 
-pub directory::Item::put-returns-then-not-is_last-clause-home : goal.directory::Item::put-returns-then-not-is_last-clause-home
-directory::Item::put-returns-then-not-is_last-clause-home g t c = λ name rs h. c.put.ensures.home name rs (subst (IsItemAtHome name rs) c.in-Folder.is h)
+pub directory::Item::put-returns-in-Folder-2-clause-home : goal.directory::Item::put-returns-in-Folder-2-clause-home
+directory::Item::put-returns-in-Folder-2-clause-home g t c = λ name rs h. c.put.ensures.home name rs (subst (IsItemAtHome name rs) c.in-Folder.is h)
 
-pub edits::put_in-returns-in-Some-get_mut-clause-level : goal.edits::put_in-returns-in-Some-get_mut-clause-level
-edits::put_in-returns-in-Some-get_mut-clause-level g t c = λ is.
-    (put_at c.args.path.now c.args.depth c.in-Some.place (file (c.args.mode, c.args.name.bytes)) c.args.entries.now.value.items c.as_slice.result.now c.in-Some-get_mut.owned.now.items c.index_mut.result.now _ c.requires.within c.requires.mode (and_parts _ _ c.component.ensures.path).0 c.requires.level (items_are_those c.as_slice.ensures.value c.deref.ensures) (ap (λ v. v.items) c.in-Some-get_mut.ensures.value) c.in-Some.ensures c.component.ensures.component c.index_mut.ensures.value refl (c.put.ensures.kept is) (c.put.ensures.mark is)).level
+pub edits::put_in-returns-in-Some-clause-level : goal.edits::put_in-returns-in-Some-clause-level
+edits::put_in-returns-in-Some-clause-level g t c = λ is.
+    (put_at c.args.path.now c.args.depth c.in-Ok.place (file (c.args.mode, c.args.name.bytes)) c.args.entries.now.value.items c.as_slice.result.now c.in-Some.owned.now.items c.index_mut.result.now _ c.requires.within c.requires.mode (and_parts _ _ c.component-component.ensures.path).0 c.requires.level (items_are_those c.as_slice.ensures.value c.deref.ensures) (ap (λ v. v.items) c.in-Some.ensures.value) c.in-Ok.ensures.found c.component-component.ensures.component c.index_mut.ensures.value refl (c.put.ensures.kept is) (c.put.ensures.mark is)).level
 
-pub edits::put_in-returns-in-Some-get_mut-clause-files : goal.edits::put_in-returns-in-Some-get_mut-clause-files
-edits::put_in-returns-in-Some-get_mut-clause-files g t c = λ is.
-    (put_at c.args.path.now c.args.depth c.in-Some.place (file (c.args.mode, c.args.name.bytes)) c.args.entries.now.value.items c.as_slice.result.now c.in-Some-get_mut.owned.now.items c.index_mut.result.now _ c.requires.within c.requires.mode (and_parts _ _ c.component.ensures.path).0 c.requires.level (items_are_those c.as_slice.ensures.value c.deref.ensures) (ap (λ v. v.items) c.in-Some-get_mut.ensures.value) c.in-Some.ensures c.component.ensures.component c.index_mut.ensures.value refl (c.put.ensures.kept is) (c.put.ensures.mark is)).is
+pub edits::put_in-returns-in-Some-clause-files : goal.edits::put_in-returns-in-Some-clause-files
+edits::put_in-returns-in-Some-clause-files g t c = λ is.
+    (put_at c.args.path.now c.args.depth c.in-Ok.place (file (c.args.mode, c.args.name.bytes)) c.args.entries.now.value.items c.as_slice.result.now c.in-Some.owned.now.items c.index_mut.result.now _ c.requires.within c.requires.mode (and_parts _ _ c.component-component.ensures.path).0 c.requires.level (items_are_those c.as_slice.ensures.value c.deref.ensures) (ap (λ v. v.items) c.in-Some.ensures.value) c.in-Ok.ensures.found c.component-component.ensures.component c.index_mut.ensures.value refl (c.put.ensures.kept is) (c.put.ensures.mark is)).is
 
-pub edits::put_in-returns-in-Some-get_mut-clause-unchanged : goal.edits::put_in-returns-in-Some-get_mut-clause-unchanged
-edits::put_in-returns-in-Some-get_mut-clause-unchanged g t c = λ is.
+pub edits::put_in-returns-in-Some-clause-home : goal.edits::put_in-returns-in-Some-clause-home
+edits::put_in-returns-in-Some-clause-home g t c = λ name rs h.
+    let es = c.in-Some.owned.now.items in
     let r = c.index_mut.result.now in
-    ap (λ i. slice_set c.in-Some-get_mut.owned.now.items c.in-Some.place (record { component = r.component; item = i })) (c.put.ensures.unchanged is)
-    ∙ set_again c.in-Some-get_mut.owned.now.items c.in-Some.place r c.index_mut.ensures.value ∙ ap (λ v. v.items) c.in-Some-get_mut.ensures.value
+    let all : AreAtHome name rs es = subst (λ v. AreAtHome name rs v.items) (sym c.in-Some.ensures.value) h in
+    let within = subst (λ z. c.in-Ok.place < length z) (items_are_those c.as_slice.ensures.value c.deref.ensures ∙ ap (λ v. v.items) (sym c.in-Some.ensures.value)) c.in-Ok.ensures.found.0 in
+    all_set (λ e. IsItemAtHome name rs e.item) es c.in-Ok.place _ all (c.put.ensures.home name rs (all_at (λ e. IsItemAtHome name rs e.item) es c.in-Ok.place r within c.index_mut.ensures.value all))
 
-pub edits::put_in-returns-in-Some-get_mut-clause-home : goal.edits::put_in-returns-in-Some-get_mut-clause-home
-edits::put_in-returns-in-Some-get_mut-clause-home g t c = λ name rs h.
-    let es = c.in-Some-get_mut.owned.now.items in
-    let r = c.index_mut.result.now in
-    let all : AreAtHome name rs es = subst (λ v. AreAtHome name rs v.items) (sym c.in-Some-get_mut.ensures.value) h in
-    let within = subst (λ z. c.in-Some.place < length z) (items_are_those c.as_slice.ensures.value c.deref.ensures ∙ ap (λ v. v.items) (sym c.in-Some-get_mut.ensures.value)) c.in-Some.ensures.0 in
-    all_set (λ e. IsItemAtHome name rs e.item) es c.in-Some.place _ all (c.put.ensures.home name rs (all_at (λ e. IsItemAtHome name rs e.item) es c.in-Some.place r within c.index_mut.ensures.value all))
+pub edits::put_in-returns-in-Err-clause-level : goal.edits::put_in-returns-in-Err-clause-level
+edits::put_in-returns-in-Err-clause-level g t c = λ is.
+    (put_last c.args.path.now c.args.depth (c.args.mode, c.args.name.bytes) c.args.entries.now.value.items c.insert_in.new.entries.value.items c.requires.within (c.if-depth-length-2.true ∙ c.len-length.ensures.length) c.requires.mode (and_parts _ _ c.component-component.ensures.path).0 c.requires.level c.component-component.ensures.component (c.insert_in.ensures.entries is)).level
+
+pub edits::put_in-returns-in-Err-clause-files : goal.edits::put_in-returns-in-Err-clause-files
+edits::put_in-returns-in-Err-clause-files g t c = λ is.
+    (put_last c.args.path.now c.args.depth (c.args.mode, c.args.name.bytes) c.args.entries.now.value.items c.insert_in.new.entries.value.items c.requires.within (c.if-depth-length-2.true ∙ c.len-length.ensures.length) c.requires.mode (and_parts _ _ c.component-component.ensures.path).0 c.requires.level c.component-component.ensures.component (c.insert_in.ensures.entries is)).is

@@ -1,0 +1,103 @@
+//! Streams that the tests share, and what comes of a stream.
+
+use gx_export::export;
+use gx_file::{read, write};
+use gx_import::{ImportFault, ImportKind, import};
+use gx_object::{Namer, Sha1Namer};
+use gx_repo::Repo;
+use gx_text::{Bytes, Held};
+use std::alloc::Allocator;
+use std::hash::RandomState;
+
+/// A commit on main, marked, with one file.
+pub(crate) const FIRST: &[u8] =
+    b"commit refs/heads/main\nmark :1\ncommitter A <a@x> 1 +0000\ndata 2\nv1\nM 100644 inline test.txt\ndata 10\nversion 1\n";
+
+/// Two branches, one with a submodule, which are merged, and a tag.
+pub(crate) const MERGED: &[u8] =
+    b"commit refs/heads/a\nmark :1\ncommitter A <a@x> 1 +0000\ndata 1\np\nM 100644 inline f\ndata 6\nhello\n\ncommit refs/heads/b\nmark :2\ncommitter A <a@x> 2 +0000\ndata 1\nq\nM 160000 d670460b4b4aece5915caf5c68d12f560a9fe3e4 sub\ncommit refs/heads/a\nmark :3\ncommitter A <a@x> 3 +0000\ndata 1\nm\nmerge :2\ntag t\nfrom :3\ntagger A <a@x> 4 +0000\ndata 1\nt\n";
+
+/// The export of that.
+pub(crate) const MERGED_TEXT: &[u8] =
+    b"feature done\nblob\nmark :1\ndata 6\nhello\n\nreset refs/gx/export\ncommit refs/gx/export\nmark :2\nauthor A <a@x> 1 +0000\ncommitter A <a@x> 1 +0000\ndata 1\np\ndeleteall\nM 100644 :1 f\n\nreset refs/gx/export\ncommit refs/gx/export\nmark :3\nauthor A <a@x> 2 +0000\ncommitter A <a@x> 2 +0000\ndata 1\nq\ndeleteall\nM 160000 d670460b4b4aece5915caf5c68d12f560a9fe3e4 sub\n\ncommit refs/gx/export\nmark :4\nauthor A <a@x> 3 +0000\ncommitter A <a@x> 3 +0000\ndata 1\nm\nfrom :2\nmerge :3\ndeleteall\nM 100644 :1 f\n\nreset refs/gx/export\nreset refs/heads/a\nfrom :4\n\nreset refs/heads/b\nfrom :3\n\ntag t\nfrom :4\ntagger A <a@x> 4 +0000\ndata 1\nt\ndone\n";
+
+/// The text of an empty store.
+pub(crate) const EMPTY: &[u8] = b"gxstore 1\nobjects 0\nrefs 0\nend\n";
+
+/// Why a stream is refused; none where it is imported.
+pub(crate) fn refusal<N: Namer, A: Allocator + Copy>(
+    alloc: A,
+    repo: &mut Repo<N, A>,
+    source: Bytes<'_>,
+) -> Option<ImportFault> {
+    match Held::new(alloc, 64) {
+        Ok(mut sink) => import(alloc, repo, source, &mut sink).err(),
+        Err(_) => Some(fault(0, ImportKind::OutOfMemory)),
+    }
+}
+
+/// Why a stream that comes in large pieces is refused; none where it is imported.
+pub(crate) fn refusal_of<N: Namer, A: Allocator + Copy>(
+    alloc: A,
+    repo: &mut Repo<N, A>,
+    stream: &[u8],
+) -> Option<ImportFault> {
+    refusal(alloc, repo, Bytes::new(stream, 4096, false))
+}
+
+pub(crate) fn fault(command: u64, kind: ImportKind) -> ImportFault {
+    ImportFault { command, kind }
+}
+
+/// The store text of a repository; an empty one where there is no memory.
+pub(crate) fn text_of<N: Namer, A: Allocator + Copy>(alloc: A, repo: &Repo<N, A>) -> Vec<u8, A> {
+    match write(alloc, repo) {
+        Ok(text) => text,
+        Err(_) => Vec::new(alloc),
+    }
+}
+
+/// The text of a new store with a stream imported; an empty one where that is refused.
+pub(crate) fn stored<N: Namer + Drop, A: Allocator + Copy>(
+    alloc: A,
+    namer: N,
+    stream: &[u8],
+    state: RandomState,
+) -> Vec<u8, A> {
+    let mut repo = Repo::new(alloc, namer, state);
+    match refusal_of(alloc, &mut repo, stream) {
+        None => text_of(alloc, &repo),
+        Some(_) => Vec::new(alloc),
+    }
+}
+
+/// The export of a repository; an empty one where it is refused.
+pub(crate) fn exported<N: Namer, A: Allocator + Copy>(
+    alloc: A,
+    repo: &Repo<N, A>,
+    room: usize,
+) -> Vec<u8, A> {
+    let Ok(mut sink) = Held::new(alloc, room) else {
+        return Vec::new(alloc);
+    };
+    match export(alloc, repo, &mut sink) {
+        Ok(()) => copied(alloc, sink.bytes()),
+        Err(_) => Vec::new(alloc),
+    }
+}
+
+fn copied<A: Allocator + Copy>(alloc: A, bytes: &[u8]) -> Vec<u8, A> {
+    match Vec::from_slice(alloc, bytes) {
+        Ok(copy) => copy,
+        Err(_) => Vec::new(alloc),
+    }
+}
+
+/// The repository of a store text, by Git's names; none where the text is refused.
+pub(crate) fn opened<A: Allocator + Copy>(
+    alloc: A,
+    text: &[u8],
+    state: RandomState,
+) -> Option<Repo<Sha1Namer, A>> {
+    read(alloc, Sha1Namer, text, state).ok()
+}

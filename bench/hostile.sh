@@ -1,0 +1,230 @@
+#!/usr/bin/env bash
+# Measures inputs whose size is meant to hurt (bench/hostile.py), each at a size and at its double. Beside each stand the blobs of
+# 1 KB that have as many bytes together, and `git fast-import` of the doubled stream. Then the deepest inputs are run on small
+# stacks. A row of a Markdown table goes out for each; the exit status is 1 where one misses its bound.
+#   bench/hostile.sh [KIND..]      all kinds, and then `stack`, if none is named
+# The bounds: twice the size takes at most MOST times the time and the memory (2.4), where what is below FLOOR seconds (0.1) or
+# 32 MB counts as that; or, of `directory`, no more time than git takes. Each run takes at most LIMIT seconds (300) and prints
+# what it should. Every deep input is read on a stack of 8,192 KB, and on one of 1,024 KB it ends in an answer, or the row says
+# which stack it needs.
+# GX: the built program, crates/gx/out/gx if it isn't set. RUNS, GIT_RUNS: of how many runs the best is taken, 3 and 1; with
+# GIT_RUNS=0 git isn't run. DIVIDE: divides all sizes, for a quick look. It builds crates/gx, and needs rt, git, python3 and GNU time.
+set -euo pipefail
+shopt -s inherit_errexit
+cd "$(dirname "$0")/.."
+folder=$(mktemp -d)
+trap 'rm -rf "$folder"' EXIT
+gx=${GX:-$PWD/crates/gx/out/gx}
+[ -x "$gx" ] || (cd crates/gx && rt run -- blobs < /dev/null)
+limit=${LIMIT:-300} most=${MOST:-2.4} floor=${FLOOR:-0.1} divide=${DIVIDE:-1}
+memory_floor=32
+input=/dev/null
+missed=0
+
+declare -A sizes=(
+  [line]=100000000 [progress]=10000000 [marks]=1000000 [changes]=1000000 [directory]=100000 [deep]=1000 [swap]=10000
+  [resets]=100000 [parents]=10000 [tags]=100000 [rename]=1000 [walk]=10000 [claimed]=1000000
+)
+all=(line progress marks changes directory deep swap resets parents tags rename walk claimed stack)
+
+# before each run: an empty store, and a new repository of git's
+# shellcheck disable=SC2317  # called by their names
+prepare_import() { rm -rf "$folder/store" && "$gx" init "$folder/store"; }
+# shellcheck disable=SC2317
+prepare_git() { rm -rf "$folder/repo" && git init -q --bare "$folder/repo"; }
+
+# one run within the limit that ends with this status: seconds and MB on a line, or `over`: run_once STATUS COMMAND..
+run_once() {
+  local wanted=$1 status=0 from to
+  shift
+  from=$EPOCHREALTIME
+  /usr/bin/time -q -f '%M' -o "$folder/time" timeout "$limit" "$@" < "$input" > "$folder/out" 2> "$folder/fault" || status=$?
+  to=$EPOCHREALTIME
+  case $status in
+    "$wanted") echo "$from $to $(cat "$folder/time")" | awk '{ printf "%.3f %.1f\n", $2 - $1, $3 / 1024 }' ;;
+    124) echo over ;;
+    *) echo "$* ended with status $status: $(head -c 200 "$folder/fault")" >&2; return 1 ;;
+  esac
+}
+
+# the least time of so many runs, with that run's memory: best RUNS PREPARE STATUS COMMAND..
+best() {
+  local runs=$1 prepare=$2 run least=''
+  shift 2
+  for _ in $(seq "$runs"); do
+    "$prepare"
+    run=$(run_once "$@")
+    [ "$run" != over ] || { echo over; return; }
+    least=$(printf '%s\n%s\n' "$least" "$run" | grep . | sort -g | head -n 1)
+  done
+  echo "$least"
+}
+
+shown() {
+  case $1 in
+    over) echo "over $limit s" ;;
+    '') ;;
+    *) echo "$1" | awk '{ printf "%.2f s, %.1f MB", $1, $2 }' ;;
+  esac
+}
+
+bytes_of() { stat -c %s "$1" | awk '{ if ($1 < 1000000) printf "%.1f KB", $1 / 1000; else printf "%.1f MB", $1 / 1000000 }'; }
+
+# how many times the first number the second is, and that of the two at least taken for the floor: ratio FIRST SECOND FLOOR
+ratio() { echo "$1 $2 $3" | awk '{ if ($1 < $3) $1 = $3; if ($2 < $3) $2 = $3; printf "%.1f", $2 / $1 }'; }
+at_most() { awk -v a="$1" -v b="$2" 'BEGIN { exit !(a <= b) }'; }
+
+# the word for a bound, after the times of both sizes and git's: verdict KIND ONCE TWICE GIT
+verdict() {
+  local once=$2 twice=$3 git=$4
+  if [ "$once" = over ] || [ "$twice" = over ]; then
+    echo missed
+  elif ! at_most "$(ratio "${once#* }" "${twice#* }" "$memory_floor")" "$most"; then
+    echo missed
+  elif at_most "$(ratio "${once% *}" "${twice% *}" "$floor")" "$most"; then
+    echo kept
+  elif [ "$1" = directory ] && [ -n "$git" ] && { [ "$git" = over ] || at_most "${twice% *}" "${git% *}"; }; then
+    echo "kept, by git's time"
+  else
+    echo missed
+  fi
+}
+
+ratios() {
+  if [ "$1" = over ] || [ "$2" = over ]; then echo '|'; return; fi
+  echo "$(ratio "${1% *}" "${2% *}" "$floor") | $(ratio "${1#* }" "${2#* }" "$memory_floor")"
+}
+
+# blobs of 1 KB that have as many bytes as a file: plain FILE
+plain() {
+  python3 bench/streams.py blobs "$(($(stat -c %s "$1") / 1024 + 1))" 1000 > "$folder/plain"
+  input=$folder/plain
+  best "${RUNS:-3}" prepare_import 0 "$gx" import "$folder/store"
+  input=/dev/null
+}
+
+# row KIND SIZE BYTES ONCE TWICE PLAIN GIT
+row() {
+  local word
+  word=$(verdict "$1" "$4" "$5" "$7")
+  [ "$word" != missed ] || missed=1
+  echo "| $1 $2, $3 | $(shown "$4") | $(shown "$5") | $(ratios "$4" "$5") | $(shown "$6") | $(shown "$7") | $word |"
+}
+
+# both programs have the same refs, where git came to its end: same_refs GIT
+same_refs() {
+  [ -n "$1" ] && [ "$1" != over ] || return 0
+  "$gx" refs "$folder/store" | cmp - <(git -C "$folder/repo" show-ref) || missed=1
+}
+
+measure_stream() {
+  local kind=$1 size=$((${sizes[$1]} / divide)) once twice='' beside git=''
+  python3 bench/hostile.py "$kind" "$size" > "$folder/stream"
+  python3 bench/hostile.py "$kind" "$((2 * size))" > "$folder/stream2"
+  beside=$(plain "$folder/stream")
+  input=$folder/stream
+  once=$(best "${RUNS:-3}" prepare_import 0 "$gx" import "$folder/store")
+  input=$folder/stream2
+  twice=$(best "${RUNS:-3}" prepare_import 0 "$gx" import "$folder/store")
+  if [ "${GIT_RUNS:-1}" -gt 0 ] && [ "$twice" != over ]; then
+    git=$(best "${GIT_RUNS:-1}" prepare_git 0 git -C "$folder/repo" fast-import --quiet)
+    same_refs "$git"
+  fi
+  row "$kind" "$size" "$(bytes_of "$folder/stream")" "$once" "$twice" "$beside" "$git"
+  input=/dev/null
+}
+
+# a store of so many commits, and a tenth as many words, every second of which excludes: words SIZE STORE
+words() {
+  rm -f "$2"
+  "$gx" init "$2"
+  python3 bench/hostile.py chain "$1" | "$gx" import "$2"
+  "$gx" log --reverse "$2" main | awk 'NR % 10 == 0 { print (NR % 20 ? "" : "^") $1 }' > "$2.words"
+}
+
+measure_walk() {
+  local size=$((sizes[walk] / divide)) at times=()
+  for at in "$size" "$((2 * size))"; do
+    words "$at" "$folder/walked"
+    mapfile -t range < "$folder/walked.words"
+    times+=("$(best "${RUNS:-3}" : 0 "$gx" log "$folder/walked" -- "${range[@]}")")
+  done
+  row walk "$size" "$(bytes_of "$folder/walked")" "${times[@]}" "$(best "${RUNS:-3}" : 0 "$gx" refs "$folder/walked")" ''
+}
+
+measure_claimed() {
+  local size=$((sizes[claimed] / divide)) at times=()
+  for at in "$size" "$((2 * size))"; do
+    python3 bench/hostile.py claimed "$at" > "$folder/claiming"
+    times+=("$(best "${RUNS:-3}" : 1 "$gx" refs "$folder/claiming")")
+    [ "$(cat "$folder/fault")" = 'gx: store: Truncated' ] || { cat "$folder/fault" >&2; missed=1; }
+  done
+  row claimed "$size" "$(bytes_of "$folder/claiming")" "${times[@]}" '' ''
+}
+
+# the status of a run on a stack of so many KB: on_stack KB COMMAND..
+on_stack() {
+  local status=0
+  (ulimit -s "$1" && shift && exec timeout "$limit" "$@") < "$input" > "$folder/out" 2> "$folder/fault" || status=$?
+  echo "$status"
+}
+
+# the least of these stacks on which a run ends in an answer: stack_row NAME PREPARE COMMAND..
+stack_row() {
+  local name=$1 prepare=$2 size status small=''
+  shift 2
+  for size in 1024 2048 4096 8192; do
+    "$prepare"
+    status=$(on_stack "$size" "$@")
+    [ "$size" != 1024 ] || small=$status
+    [ "$status" -ge 124 ] || break
+  done
+  if [ "$size" -lt 8192 ] && [ "$status" -lt 124 ]; then
+    "$prepare"
+    local enough
+    enough=$(on_stack 8192 "$@")
+    [ "$enough" = 0 ] || status=$enough
+  fi
+  local word="answers on $size KB" ends="status $small"
+  [ "$small" -lt 124 ] || ends="signal or limit ($small)"
+  if [ "$status" -ge 124 ] || { [ "$size" = 8192 ] && [ "$status" != 0 ]; }; then
+    word=missed
+    missed=1
+  fi
+  echo "| $name | $ends | $word |"
+}
+
+measure_stack() {
+  local deep=$folder/deepest
+  echo
+  echo '| On a small stack | With 1,024 KB | Bound |'
+  echo '|---|---|---|'
+  python3 bench/hostile.py deep 3 > "$folder/stream"
+  input=$folder/stream
+  stack_row 'import, 2,048 components' prepare_import "$gx" import "$folder/store"
+  cp "$folder/store" "$deep"
+  python3 bench/hostile.py rename 2000 > "$folder/stream2"
+  input=$folder/stream2
+  stack_row 'import, 2,000 renames' prepare_import "$gx" import "$folder/store"
+  input=/dev/null
+  stack_row 'ls -r, 2,048 components' : "$gx" ls -r "$deep" main
+  stack_row 'export, 2,048 components' : "$gx" export "$deep"
+  words "$((10000 / divide))" "$folder/walked"
+  stack_row 'log, 10,000 commits' : "$gx" log "$folder/walked" main
+}
+
+[ $# -gt 0 ] || set -- "${all[@]}"
+echo "load average before: $(cut -d ' ' -f 1 /proc/loadavg)"
+# shellcheck disable=SC2016  # a table's head
+echo '| Input | `gx` | Twice the size | Times the time | Times the memory | Blobs, as many bytes | Twice the size, `git fast-import` | Bound |'
+echo '|---|---|---|---|---|---|---|---|'
+for kind in "$@"; do
+  case $kind in
+    walk) measure_walk ;;
+    claimed) measure_claimed ;;
+    stack) measure_stack ;;
+    *) [ -n "${sizes[$kind]:-}" ] || { echo "there is no kind $kind: ${all[*]}" >&2; exit 2; }
+      measure_stream "$kind" ;;
+  esac
+done
+exit "$missed"

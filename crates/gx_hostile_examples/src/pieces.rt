@@ -3,7 +3,6 @@
 ghost use Rattle.std.specs.Prelude.{◌<◌, None};
 
 use crate::given::{MERGED, fault, refusal, stored, text_of};
-use gx_command::{Command, CommandReader};
 use gx_import::{ImportKind, import};
 use gx_object::Sha1Namer;
 use gx_repo::Repo;
@@ -137,19 +136,30 @@ fn thousand_lines<A: Allocator + Copy>(alloc: A) -> Result<Vec<u8, A>, AllocErro
     Ok(text)
 }
 
-/// A command is known to be over at the line behind it, and nothing is read past that line.
-#[test]
-fn nothing_is_read_past_the_line_behind_a_command(rt: HostRuntime) -> Result<(), Fail> {
-    let text = thousand_lines(rt.alloc())?;
+/// How many bytes of a thousand lines are read before the first line finds a sink that takes nothing; none where that is not
+/// what refuses the import.
+fn pulls_before_the_sink_fails<A: Allocator + Copy>(
+    alloc: A,
+    state: RandomState,
+) -> Result<Option<u64>, AllocError> {
+    let text = thousand_lines(alloc)?;
     let pulls = Cell::new(0u64);
-    let mut reader = CommandReader::new(
-        rt.alloc(),
-        Counting {
-            bytes: Bytes::new(&text, 1, false),
-            pulls: &pulls,
-        },
-    );
-    assert!(rt; matches!(reader.next(), Ok(Some(Command::Progress(_)))));
-    assert!(rt; pulls.get() <= 24);
+    let source = Counting {
+        bytes: Bytes::new(&text, 1, false),
+        pulls: &pulls,
+    };
+    let mut repo = Repo::new(alloc, Sha1Namer, state);
+    let mut sink = Held::new(alloc, 0)?;
+    let refused = import(alloc, &mut repo, source, &mut sink).err();
+    let is_first = refused == Some(fault(1, ImportKind::WriteFailed));
+    Ok(if is_first { Some(pulls.get()) } else { None })
+}
+
+/// A command is known to be over at the line behind it, and nothing is read past that line before the command is applied.
+#[test]
+fn command_is_applied_before_more_is_read(rt: HostRuntime) -> Result<(), Fail> {
+    let state = RandomState::new(&rt)?;
+    let pulls = pulls_before_the_sink_fails(rt.alloc(), state)?.ok_or("no failed write")?;
+    assert!(rt; pulls <= 24);
     Ok(())
 }

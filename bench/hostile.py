@@ -15,6 +15,7 @@ Streams:
   parents COUNT        so many commits, and one that has all of them as parents
   tags COUNT           so many tags of one commit
   rename LEVELS        20 commits, each of which renames the root's only directory into itself so often
+  copies COMMITS       so many commits, each of which puts two copies of a directory in its place, and so doubles its paths
   chain COMMITS        so many commits, one after the other
 
 Texts of stores:
@@ -126,13 +127,19 @@ def rename(size):
             yield b'R d d/d\n'
 
 
+def copies(size):
+    yield commit(1) + b'M 100644 inline a\n' + block(b'file')
+    for number in numbers(size):
+        yield commit(1 + number) + b'C a b/x\nC a b/y\nR b a\n'
+
+
 def claimed(size):
     yield b'gxstore 1\nobjects %d\n' % size
     for number in range(10):
         yield b'blob 1\n%d\n' % number
 
 
-KINDS = [line, progress, marks, changes, directory, deep, swap, resets, parents, tags, rename, chain, claimed]
+KINDS = [line, progress, marks, changes, directory, deep, swap, resets, parents, tags, rename, copies, chain, claimed]
 
 kind, size = sys.argv[1:]
 write_all({made.__name__: made for made in KINDS}[kind](int(size)))

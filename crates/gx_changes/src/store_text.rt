@@ -1,0 +1,51 @@
+//! What comes of a store text.
+
+use crate::breach::Breach;
+use crate::stream::exported;
+use gx_file::{FileFault, read, write};
+use gx_object::Sha1Namer;
+use gx_repo::Repo;
+use std::alloc::Allocator;
+use std::hash::RandomState;
+
+/// A text that is read is written again as it was, and what was read can be exported.
+pub(crate) fn look_at_text<A: Allocator + Copy>(
+    alloc: A,
+    text: &[u8],
+    state: RandomState,
+) -> Result<(), Breach> {
+    match read(alloc, Sha1Namer, text, state) {
+        Ok(repo) => {
+            exported(alloc, &repo)?;
+            is_written_as(alloc, &repo, text)
+        }
+        Err(FileFault::OutOfMemory) => Err(Breach::OutOfMemory),
+        Err(_) => Ok(()),
+    }
+}
+
+/// A repository is written, read again, and written as the same text.
+pub(crate) fn look_at_written<A: Allocator + Copy>(
+    alloc: A,
+    repo: &Repo<Sha1Namer, A>,
+    state: RandomState,
+) -> Result<(), Breach> {
+    let text = write(alloc, repo)?;
+    match read(alloc, Sha1Namer, text.as_slice(), state) {
+        Ok(again) => is_written_as(alloc, &again, text.as_slice()),
+        Err(FileFault::OutOfMemory) => Err(Breach::OutOfMemory),
+        Err(_) => Err(Breach::NoReading),
+    }
+}
+
+fn is_written_as<A: Allocator + Copy>(
+    alloc: A,
+    repo: &Repo<Sha1Namer, A>,
+    text: &[u8],
+) -> Result<(), Breach> {
+    if write(alloc, repo)?.as_slice() == text {
+        Ok(())
+    } else {
+        Err(Breach::OtherText)
+    }
+}

@@ -1,0 +1,152 @@
+//! What comes of a stream.
+
+use crate::breach::Breach;
+use crate::store_text::look_at_written;
+use gx_export::{ExportFault, export};
+use gx_file::write;
+use gx_import::{ImportKind, import};
+use gx_object::{Name, Sha1Namer};
+use gx_repo::Repo;
+use gx_rev::{Range, RevFault, walk};
+use gx_text::{Bytes, Held};
+use std::alloc::Allocator;
+use std::hash::RandomState;
+
+/// More than an export of these texts takes.
+const ROOM: usize = 4096;
+
+/// Imports a stream into an empty repository and looks at what it leaves.
+pub(crate) fn look_at_stream<A: Allocator + Copy>(
+    alloc: A,
+    text: &[u8],
+    state: RandomState,
+) -> Result<(), Breach> {
+    let mut repo = Repo::new(alloc, Sha1Namer, state);
+    match imports(alloc, &mut repo, text)? {
+        None => look_at_imported(alloc, &repo, state),
+        Some(kind) => look_at_refused(&repo, kind),
+    }
+}
+
+/// The store text of what a stream makes.
+pub(crate) fn store_text_of<A: Allocator + Copy>(
+    alloc: A,
+    text: &[u8],
+    state: RandomState,
+) -> Result<Vec<u8, A>, Breach> {
+    let mut repo = Repo::new(alloc, Sha1Namer, state);
+    match imports(alloc, &mut repo, text)? {
+        None => Ok(write(alloc, &repo)?),
+        Some(_) => Err(Breach::Refused),
+    }
+}
+
+/// The export of a repository.
+pub(crate) fn exported<A: Allocator + Copy>(
+    alloc: A,
+    repo: &Repo<Sha1Namer, A>,
+) -> Result<Held<A>, Breach> {
+    let mut sink = Held::new(alloc, ROOM)?;
+    match export(alloc, repo, &mut sink) {
+        Ok(()) => Ok(sink),
+        Err(ExportFault::OutOfMemory) => Err(Breach::OutOfMemory),
+        Err(_) => Err(Breach::NoExport),
+    }
+}
+
+/// Why an import is refused; none where it isn't.
+fn imports<A: Allocator + Copy>(
+    alloc: A,
+    repo: &mut Repo<Sha1Namer, A>,
+    text: &[u8],
+) -> Result<Option<ImportKind>, Breach> {
+    let mut sink = Held::new(alloc, ROOM)?;
+    let answer = import(alloc, repo, Bytes::new(text, 64, false), &mut sink);
+    Ok(answer.err().map(|fault| fault.kind))
+}
+
+/// A refused import has a fault that the stream brings, and leaves nothing.
+fn look_at_refused<A: Allocator + Copy>(
+    repo: &Repo<Sha1Namer, A>,
+    kind: ImportKind,
+) -> Result<(), Breach> {
+    match kind {
+        ImportKind::OutOfMemory => return Err(Breach::OutOfMemory),
+        ImportKind::ReadFailed | ImportKind::WriteFailed | ImportKind::NameHeld => {
+            return Err(Breach::ForeignFault);
+        }
+        _ => {}
+    }
+    if repo.store().len() == 0 && repo.refs().next().is_none() {
+        Ok(())
+    } else {
+        Err(Breach::Leaves)
+    }
+}
+
+/// What an accepted import leaves is written and read again, walked, and exported, and its export comes back.
+fn look_at_imported<A: Allocator + Copy>(
+    alloc: A,
+    repo: &Repo<Sha1Namer, A>,
+    state: RandomState,
+) -> Result<(), Breach> {
+    look_at_written(alloc, repo, state)?;
+    look_at_walks(alloc, repo)?;
+    let text = exported(alloc, repo)?;
+    let mut again = Repo::new(alloc, Sha1Namer, state);
+    match imports(alloc, &mut again, text.bytes())? {
+        None => look_at_export(alloc, repo, &again, text.bytes()),
+        Some(_) => Err(Breach::NoImport),
+    }
+}
+
+/// What came of the export has the refs of what was exported, and the same export.
+fn look_at_export<A: Allocator + Copy>(
+    alloc: A,
+    repo: &Repo<Sha1Namer, A>,
+    again: &Repo<Sha1Namer, A>,
+    text: &[u8],
+) -> Result<(), Breach> {
+    if !repo.refs().eq(again.refs()) {
+        return Err(Breach::OtherRefs);
+    }
+    if exported(alloc, again)?.bytes() == text {
+        Ok(())
+    } else {
+        Err(Breach::OtherExport)
+    }
+}
+
+/// The history of each ref that holds a commit can be listed.
+fn look_at_walks<A: Allocator + Copy>(alloc: A, repo: &Repo<Sha1Namer, A>) -> Result<(), Breach> {
+    for (_, name) in repo.refs() {
+        if repo.peel(&name) == Some(name) {
+            look_at_walk(alloc, repo, &name)?;
+        }
+    }
+    Ok(())
+}
+
+fn look_at_walk<A: Allocator + Copy>(
+    alloc: A,
+    repo: &Repo<Sha1Namer, A>,
+    name: &Name,
+) -> Result<(), Breach> {
+    let mut words = Vec::new(alloc);
+    let word = Range::read(alloc, &name.hex()).map_err(of_walk)?;
+    if words.push(word).is_err() {
+        return Err(Breach::OutOfMemory);
+    }
+    match walk(alloc, repo, words.as_slice()) {
+        Ok(names) if names.first() == Some(name) => Ok(()),
+        Ok(_) => Err(Breach::NoWalk),
+        Err(fault) => Err(of_walk(fault.kind)),
+    }
+}
+
+fn of_walk(fault: RevFault) -> Breach {
+    match fault {
+        RevFault::OutOfMemory => Breach::OutOfMemory,
+        _ => Breach::NoWalk,
+    }
+}

@@ -5,7 +5,7 @@ use gx_file::{read, write};
 use gx_import::{ImportFault, ImportKind, import};
 use gx_object::{Namer, Sha1Namer};
 use gx_repo::Repo;
-use gx_text::{Bytes, Held};
+use gx_text::{Bytes, Held, Sink, Source};
 use std::alloc::Allocator;
 use std::hash::RandomState;
 
@@ -24,6 +24,17 @@ pub(crate) const MERGED_TEXT: &[u8] =
 /// The text of an empty store.
 pub(crate) const EMPTY: &[u8] = b"gxstore 1\nobjects 0\nrefs 0\nend\n";
 
+/// Why what a source gives is refused; none where it is imported. What the devices tell is left open here, so no caller has
+/// more to prove than that the call is safe.
+pub(crate) fn refusal_into<N: Namer, A: Allocator + Copy, R: Source + Drop, W: Sink>(
+    alloc: A,
+    repo: &mut Repo<N, A>,
+    source: R,
+    sink: &mut W,
+) -> Option<ImportFault> {
+    import(alloc, repo, source, sink).err()
+}
+
 /// Why a stream is refused; none where it is imported.
 pub(crate) fn refusal<N: Namer, A: Allocator + Copy>(
     alloc: A,
@@ -31,7 +42,7 @@ pub(crate) fn refusal<N: Namer, A: Allocator + Copy>(
     source: Bytes<'_>,
 ) -> Option<ImportFault> {
     match Held::new(alloc, 64) {
-        Ok(mut sink) => import(alloc, repo, source, &mut sink).err(),
+        Ok(mut sink) => refusal_into(alloc, repo, source, &mut sink),
         Err(_) => Some(fault(0, ImportKind::OutOfMemory)),
     }
 }

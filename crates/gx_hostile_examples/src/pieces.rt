@@ -2,8 +2,8 @@
 
 ghost use Rattle.std.specs.Prelude.{◌<◌, None};
 
-use crate::given::{MERGED, fault, refusal, stored, text_of};
-use gx_import::{ImportKind, import};
+use crate::given::{MERGED, fault, refusal, refusal_into, stored, text_of};
+use gx_import::ImportKind;
 use gx_object::Sha1Namer;
 use gx_repo::Repo;
 use gx_text::{Bytes, Failed, Held, Source};
@@ -53,8 +53,8 @@ fn go_out_before_the_failure<A: Allocator + Copy>(
 {
     let mut repo = Repo::new(alloc, Sha1Namer, state);
     let mut sink = Held::new(alloc, 64)?;
-    let answer = import(alloc, &mut repo, Bytes::new(LINES, piece, true), &mut sink);
-    let is_third = answer.err() == Some(fault(3, ImportKind::ReadFailed));
+    let refused = refusal_into(alloc, &mut repo, Bytes::new(LINES, piece, true), &mut sink);
+    let is_third = refused == Some(fault(3, ImportKind::ReadFailed));
     Ok(is_third && sink.bytes() == LINES)
 }
 
@@ -150,7 +150,7 @@ fn pulls_before_the_sink_fails<A: Allocator + Copy>(
     };
     let mut repo = Repo::new(alloc, Sha1Namer, state);
     let mut sink = Held::new(alloc, 0)?;
-    let refused = import(alloc, &mut repo, source, &mut sink).err();
+    let refused = refusal_into(alloc, &mut repo, source, &mut sink);
     let is_first = refused == Some(fault(1, ImportKind::WriteFailed));
     Ok(if is_first { Some(pulls.get()) } else { None })
 }

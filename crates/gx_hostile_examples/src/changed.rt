@@ -19,7 +19,11 @@ fn is_walked<N: Namer, A: Allocator + Copy>(alloc: A, repo: &Repo<N, A>, commit:
     let Ok(range) = Range::read(alloc, digits.as_slice()) else {
         return false;
     };
-    match walk(alloc, repo, &[range]) {
+    let mut words = Vec::new(alloc);
+    if words.push(range).is_err() {
+        return false;
+    }
+    match walk(alloc, repo, words.as_slice()) {
         Ok(names) => names.first() == Some(commit),
         Err(_) => false,
     }

@@ -97,12 +97,20 @@ fn shows<N: Namer, A: Allocator + Copy>(
     }
 }
 
-/// How many entries the tree of main has.
-fn entries_of_main<N: Namer, A: Allocator + Copy>(alloc: A, repo: &Repo<N, A>) -> Option<usize> {
+/// The modes of the first and the second entry of main's tree, where it has no third.
+fn modes_of_main<N: Namer, A: Allocator + Copy>(
+    alloc: A,
+    repo: &Repo<N, A>,
+) -> Option<(Mode, Mode)> {
     let main = Revision::read(alloc, b"main").ok()?;
     let name = tree(repo, &main).ok()?;
     let (_, body) = repo.store().get(&name)?;
-    Some(decode_tree(body).ok()?.count())
+    let mut entries = decode_tree(body).ok()?;
+    let modes = (entries.next()?.mode, entries.next()?.mode);
+    if entries.next().is_some() {
+        return None;
+    }
+    Some(modes)
 }
 
 #[test]
@@ -111,7 +119,10 @@ fn trees_with_very_many_paths_are_opened(rt: HostRuntime) -> Result<(), Fail> {
     let text = doubled_text(rt.alloc(), state).ok_or("no text")?;
     assert!(rt; text.starts_with(b"gxstore 1\nobjects 43\n"));
     let repo = opened(rt.alloc(), &text, state).ok_or("a refusal")?;
-    assert_eq!(rt; entries_of_main(rt.alloc(), &repo), Some(2));
+    assert_eq!(rt;
+        modes_of_main(rt.alloc(), &repo),
+        Some((Mode::Dir, Mode::Dir))
+    );
     let path = path_of(rt.alloc(), 40, b'f')?;
     assert!(rt; shows(rt.alloc(), &repo, &path, b"hello\n"));
     assert!(rt; text_of(rt.alloc(), &repo) == text);
@@ -172,8 +183,9 @@ fn commits_of_main<N: Namer, A: Allocator + Copy>(
     alloc: A,
     repo: &Repo<N, A>,
 ) -> Option<Vec<Name, A>> {
-    let range = Range::read(alloc, b"main").ok()?;
-    walk(alloc, repo, &[range]).ok()
+    let mut words = Vec::new(alloc);
+    words.push(Range::read(alloc, b"main").ok()?).ok()?;
+    walk(alloc, repo, words.as_slice()).ok()
 }
 
 #[test]

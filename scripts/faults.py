@@ -1,0 +1,92 @@
+#!/usr/bin/env python3
+"""Compares the faults that docs/FAULTS.md has headings for with the enums of the sources.
+
+    scripts/faults.py           prints how many faults each part of the page has
+    scripts/faults.py --check   ends with 1 where a fault stands on one side alone: on the page, in its contents, in the sources
+"""
+
+import re
+import sys
+from pathlib import Path
+
+TOP = Path(__file__).resolve().parent.parent
+PAGE = TOP / "docs" / "FAULTS.md"
+
+# the enums whose words each part explains
+ENUMS = {
+    "Names of blobs": ["gx_cli/src/blob_names.rt BlobsKind"],
+    "Imports": [
+        "gx_import/src/fault.rt ImportKind",
+        "gx_command/src/fault.rt CommandFault",
+        "gx_stream/src/fault.rt StreamFault",
+        "gx_text/src/fault.rt TextFault",
+        "gx_tree/src/fault.rt TreeFault",
+        "gx_store/src/fault.rt StoreFault",
+    ],
+    "Revisions": ["gx_rev/src/fault.rt RevFault"],
+    "Stores": ["gx_file/src/fault.rt FileFault", "gx_repo/src/fault.rt AddFault"],
+    "Exports": ["gx_export/src/fault.rt ExportFault"],
+    "Files and memory": [
+        "gx_cli/src/fault.rt CliFault",
+        "gx_cli/src/command_line.rt LineFault",
+        "gx/src/fault.rt RunFault",
+    ],
+}
+
+
+def words_of(place):
+    """The words that an enum's variants print: each its own text, or its name. Variants that print another fault have none."""
+    file, name = place.split()
+    text = (TOP / "crates" / file).read_text()
+    body = re.search(rf"^pub(?:\(crate\))? enum {name} \{{\n(.*?)^\}}", text, re.M | re.S).group(1)
+    variants = re.findall(r'^ {4}(?:#\[error\("(.*)"\)\]\n {4})?(\w+)\b', body, re.M)
+    return {(own or variant).removeprefix("gx: ") for own, variant in variants if "{" not in own}
+
+
+def standing():
+    """The faults of the sources, as pairs of a part and a word."""
+    return {(part, word) for part, places in ENUMS.items() for place in places for word in words_of(place)}
+
+
+def headings(text):
+    """The parts of the page, each with its words."""
+    for part in text.split("\n## ")[1:]:
+        yield part.split("\n", 1)[0], re.findall(r"^### (.*)$", part, re.M)
+
+
+def anchors(text):
+    """Where the words of each part stand on the page, as a link names the place: the second of one name has a number."""
+    found, seen = set(), {}
+    for mark, heading in re.findall(r"^(##+) (.*)$", text, re.M):
+        anchor = heading.lower().replace(" ", "-")
+        count = seen.get(anchor, 0)
+        seen[anchor] = count + 1
+        if mark == "###":
+            found.add((heading, f"{anchor}-{count}" if count else anchor))
+    return found
+
+
+def listed(text):
+    """The words of the contents, with the places that they lead to."""
+    contents = text.split("\n## Contents\n", 1)[1].split("\n## ", 1)[0]
+    return {(word, anchor) for word, anchor in re.findall(r"\[([^]]*)\]\(#([^)]*)\)", contents) if word not in dict(headings(text))}
+
+
+def main():
+    text = PAGE.read_text()
+    page, tree = {(part, word) for part, words in headings(text) for word in words}, standing()
+    if "--check" not in sys.argv[1:]:
+        for part in ENUMS:
+            print(part, sum(1 for other, _ in tree if other == part))
+        return
+    for part, word in sorted(page - tree):
+        print(f"a heading in docs/FAULTS.md, and no fault of the sources: {part}: {word}", file=sys.stderr)
+    for part, word in sorted(tree - page):
+        print(f"a fault of the sources, and no heading in docs/FAULTS.md: {part}: {word}", file=sys.stderr)
+    for word, anchor in sorted(listed(text) ^ anchors(text)):
+        print(f"in the contents of docs/FAULTS.md alone, or only below them: {word} (#{anchor})", file=sys.stderr)
+    sys.exit(0 if page == tree and listed(text) == anchors(text) else 1)
+
+
+if __name__ == "__main__":
+    main()

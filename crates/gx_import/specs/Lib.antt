@@ -9,6 +9,7 @@ pub mod Steps
 pub mod Words
 pub mod Additions
 pub mod Applying
+pub mod Calls
 pub mod RefChanges
 pub mod Publishing
 pub mod Replaying

@@ -1,14 +1,10 @@
 //! Blob commands. Source: git-fast-import(1), "blob".
 
-ghost use Rattle.std.specs.Prelude.{◌≡◌, [], ◌∷◌};
-ghost use Rattle.gx_model.specs.Replay.{State, step};
-ghost use Rattle.gx_model.specs.RepositoryLaws.{values_of};
-ghost use Rattle.gx_model.specs.Revisions.{revision_of};
+ghost use Rattle.std.specs.Prelude.{◌≡◌};
 ghost use Rattle.gx_model.specs.Values.{blob_value};
 ghost use Rattle.gx_command.specs.Views.{shown_blob};
-ghost use Rattle.gx_import.specs.Answers.{AddsAs};
-ghost use Rattle.gx_import.specs.Additions.{Clash};
-ghost use Rattle.gx_import.specs.Standing.{Extends, Follows, Stands};
+ghost use Rattle.gx_import.specs.Standing.{Extends};
+ghost use Rattle.gx_import.specs.Calls.{MakesBlob};
 
 use crate::ImportKind;
 use crate::object::Object;
@@ -29,7 +25,7 @@ pub(crate) fn apply_blob<N: Namer, A: Allocator + Copy>(
     ensures namer { repo.new.0 ≡ repo.old.0 }
     ensures refs { repo.new.1.refs ≡ repo.old.1.refs }
     ensures extends { Extends repo.old.1.records repo.new.1.records }
-    ensures steps { (s : State) → Stands (N.name_of repo.old.0) repo.old.1 tables.old s → AddsAs (Clash (N.name_of repo.old.0) (values_of repo.old.1) (blob_value blob.bytes.items ∷ [])) (λ t _. Follows (N.name_of repo.old.0) repo.new.1 tables.new s t) result (step (N.name_of repo.old.0) revision_of s (shown_blob blob)) }
+    ensures steps { MakesBlob (N.name_of repo.old.0) repo.old.1 repo.new.1 tables.old tables.new (blob_value blob.bytes.items) (shown_blob blob) result }
 {
     repo.sound();
     puts_add_values();

@@ -2,22 +2,16 @@
 
 ghost use Rattle.std.specs.Prelude.{◌≡◌, ◌≢◌, map, IfOk, IsTrue};
 ghost use Rattle.gx_model.specs.declared.objects.Mode.TheVariants as modes;
-ghost use Rattle.gx_model.specs.HistoryOf.{history_of};
-ghost use Rattle.gx_model.specs.Files.{FileMap};
-ghost use Rattle.gx_model.specs.Texts.{Bytes};
-ghost use Rattle.gx_model.specs.Replay.{State, all_changed, changed, content};
 ghost use Rattle.gx_command.specs.DataRefs.{is_suited};
 ghost use Rattle.gx_command.specs.Views.{shown_change, shown_data, shown_modify};
-ghost use Rattle.gx_import.specs.Additions.{Clash, blob_added, blobs_added, content_added};
-ghost use Rattle.gx_model.specs.Revisions.{revision_of};
 ghost use Rattle.gx_model.specs.Commands as model;
-ghost use Rattle.gx_import.specs.Answers.{AddsAs, GivesAs};
+ghost use Rattle.gx_import.specs.Answers.{GivesAs};
 ghost use Rattle.gx_model.specs.RepositoryLaws.{values_of};
 ghost use Rattle.gx_import.specs.Objects.{IsBlobOf};
-ghost use Rattle.gx_import.specs.Standing.{Extends, Follows, IsContentName, Stands};
-ghost use Rattle.gx_model.specs.NameMaps.{AreFiles};
+ghost use Rattle.gx_import.specs.Standing.{Extends};
 ghost use Rattle.gx_tree.specs.Named.{IsAtHome};
 ghost use Rattle.gx_import.specs.Steps.{bytes_held};
+ghost use Rattle.gx_import.specs.Calls.{AddsContent, MakesChange, MakesChanges, NamesContent};
 
 use crate::ImportKind;
 use crate::object::{Object, name_of_kind};
@@ -40,7 +34,7 @@ pub(crate) fn change_all<N: Namer, A: Allocator + Copy>(
     ensures refs { repo.new.1.refs ≡ repo.old.1.refs }
     ensures extends { Extends repo.old.1.records repo.new.1.records }
     ensures home { IfOk result (λ _. IsAtHome (N.name_of repo.old.0) repo.old.1.records files.old → IsAtHome (N.name_of repo.old.0) repo.new.1.records files.new) }
-    ensures steps { (s : State) (f : FileMap Bytes) → Stands (N.name_of repo.old.0) repo.old.1 tables.now s → AreFiles (N.name_of repo.old.0) s.history.values f files.old.files → AddsAs (Clash (N.name_of repo.old.0) (values_of repo.old.1) (blobs_added (N.name_of repo.old.0) s f (map shown_change changes.items))) (λ r _. Follows (N.name_of repo.old.0) repo.new.1 tables.now s r.0 × AreFiles (N.name_of repo.old.0) r.0.history.values r.1 files.new.files) result (all_changed (N.name_of repo.old.0) revision_of s f (map shown_change changes.items)) }
+    ensures steps { MakesChanges (N.name_of repo.old.0) repo.old.1 repo.new.1 tables.now files.old.files files.new.files (map shown_change changes.items) result }
 {
     for change in changes {
         change_files(repo, tables, files, change)?;
@@ -59,7 +53,7 @@ fn change_files<N: Namer, A: Allocator + Copy>(
     ensures refs { repo.new.1.refs ≡ repo.old.1.refs }
     ensures extends { Extends repo.old.1.records repo.new.1.records }
     ensures home { IfOk result (λ _. IsAtHome (N.name_of repo.old.0) repo.old.1.records files.old → IsAtHome (N.name_of repo.old.0) repo.new.1.records files.new) }
-    ensures steps { (s : State) (f : FileMap Bytes) → Stands (N.name_of repo.old.0) repo.old.1 tables.now s → AreFiles (N.name_of repo.old.0) s.history.values f files.old.files → AddsAs (Clash (N.name_of repo.old.0) (values_of repo.old.1) (blob_added (shown_change change))) (λ r _. Follows (N.name_of repo.old.0) repo.new.1 tables.now s r.0 × AreFiles (N.name_of repo.old.0) r.0.history.values r.1 files.new.files) result (changed (N.name_of repo.old.0) revision_of s f (shown_change change)) }
+    ensures steps { MakesChange (N.name_of repo.old.0) repo.old.1 repo.new.1 tables.now files.old.files files.new.files (shown_change change) result }
 {
     match change {
         Change::Modify(modify) => modify_files(repo, tables, files, modify)?,
@@ -89,7 +83,7 @@ fn modify_files<N: Namer, A: Allocator + Copy>(
     ensures refs { repo.new.1.refs ≡ repo.old.1.refs }
     ensures extends { Extends repo.old.1.records repo.new.1.records }
     ensures home { IfOk result (λ _. IsAtHome (N.name_of repo.old.0) repo.old.1.records files.old → IsAtHome (N.name_of repo.old.0) repo.new.1.records files.new) }
-    ensures steps { (s : State) (f : FileMap Bytes) → Stands (N.name_of repo.old.0) repo.old.1 tables.now s → AreFiles (N.name_of repo.old.0) s.history.values f files.old.files → AddsAs (Clash (N.name_of repo.old.0) (values_of repo.old.1) (blob_added (shown_modify modify))) (λ r _. Follows (N.name_of repo.old.0) repo.new.1 tables.now s r.0 × AreFiles (N.name_of repo.old.0) r.0.history.values r.1 files.new.files) result (changed (N.name_of repo.old.0) revision_of s f (shown_modify modify)) }
+    ensures steps { MakesChange (N.name_of repo.old.0) repo.old.1 repo.new.1 tables.now files.old.files files.new.files (shown_modify modify) result }
 {
     records_keep_home();
     let name = content(repo, tables, modify.mode, modify.data_ref)?;
@@ -110,7 +104,7 @@ fn content<N: Namer, A: Allocator + Copy>(
     ensures namer { repo.new.0 ≡ repo.old.0 }
     ensures refs { repo.new.1.refs ≡ repo.old.1.refs }
     ensures extends { Extends repo.old.1.records repo.new.1.records }
-    ensures steps { (s : State) → Stands (N.name_of repo.old.0) repo.old.1 tables.now s → AddsAs (Clash (N.name_of repo.old.0) (values_of repo.old.1) (content_added (shown_data data_ref))) (λ given called. Follows (N.name_of repo.old.0) repo.new.1 tables.now s given.0 × IsContentName (N.name_of repo.old.0) given.0 given mode called) result (content (N.name_of repo.old.0) revision_of s mode (shown_data data_ref)) }
+    ensures steps { AddsContent (N.name_of repo.old.0) repo.old.1 repo.new.1 tables.now mode (shown_data data_ref) result }
 {
     repo.sound();
     puts_add_values();
@@ -128,7 +122,7 @@ fn named_content<N: Namer, A: Allocator + Copy>(
     digits: &Digits,
 ) -> Result<Name, ImportKind>
     requires { mode ≢ modes.Dir }
-    ensures { (s : State) → history_of repo.now.1 ≡ s.history → GivesAs (λ y called. IsContentName (N.name_of repo.now.0) s y mode called) result (content (N.name_of repo.now.0) revision_of s mode (model.Object digits.now.digits)) }
+    ensures { NamesContent (N.name_of repo.now.0) repo.now.1 mode (model.Object digits.now.digits) result }
 {
     repo.sound();
     let Some(name) = Name::read(&digits.digits) else {

@@ -1,29 +1,20 @@
 //! Commit commands. Source: git-fast-import(1), "commit".
 
-ghost use Rattle.std.specs.Prelude.{◌≡◌, List, [], ◌∷◌, map, Option, Ok, IsTrue, IfOk};
+ghost use Rattle.std.specs.Prelude.{◌≡◌, [], map, IsTrue, IfOk};
 ghost use Rattle.std.specs.List.{AllByRecursion, cons_option};
 ghost use Rattle.std.specs.FinMap.Entries.{is_sorted};
-ghost use Rattle.std.specs.Map.{lookup};
 ghost use Rattle.gx_model.specs.declared.objects.Kind.TheVariants as kinds;
-ghost use Rattle.gx_model.specs.Files.{FileMap};
 ghost use Rattle.gx_model.specs.Records.{name_of};
-ghost use Rattle.gx_model.specs.Replay.{State, added, all_committed, byte_cmp, first_parent, own_commit, step_commit, text_made, with_first_parent};
-ghost use Rattle.gx_model.specs.RepositoryLaws.{values_of};
+ghost use Rattle.gx_model.specs.Replay.{State, byte_cmp, text_made};
 ghost use Rattle.gx_model.specs.Revisions.{revision_of};
 ghost use Rattle.gx_model.specs.Sound.{Holds, IsNamedMap};
-ghost use Rattle.gx_model.specs.Texts.{Bytes, same_bytes};
-ghost use Rattle.gx_model.specs.Values as values;
-ghost use Rattle.gx_model.specs.Values.{commit_value, commits_of};
 ghost use Rattle.gx_text.specs.Idents.{ident_bytes};
 ghost use Rattle.gx_object.specs.Parts.{commit_parts as shown_parts};
 ghost use Rattle.gx_command.specs.Views.{commit_parts, shown_commit_ish};
-ghost use Rattle.gx_import.specs.Additions.{Clash, added_alone, added_by_commit, commit_added};
-ghost use Rattle.gx_import.specs.Answers.{AddsAs, GivesAs};
-ghost use Rattle.gx_import.specs.Objects.{IsCommitOf, IsTreeOf};
-ghost use Rattle.gx_import.specs.Rows.{AreAll, AreBoth, rows_of};
-ghost use Rattle.gx_import.specs.Standing.{AreTipsAtHome, Extends, Follows, Stands};
+ghost use Rattle.gx_import.specs.Rows.{rows_of};
+ghost use Rattle.gx_import.specs.Standing.{AreTipsAtHome, Extends, Stands};
 ghost use Rattle.gx_tree.specs.Named.{IsAtHome};
-ghost use Rattle.gx_model.specs.NameMaps.{AreFiles};
+ghost use Rattle.gx_import.specs.Calls.{AddsCommit, AddsCommitAlone, IsOwnCommit, MakesCommit, NamesFirstParent, NamesParents};
 
 use crate::ImportKind;
 use crate::branches::Tip;
@@ -53,7 +44,7 @@ pub(crate) fn apply_commit<N: Namer, A: Allocator + Copy>(
     ensures namer { repo.new.0 ≡ repo.old.0 }
     ensures refs { repo.new.1.refs ≡ repo.old.1.refs }
     ensures extends { Extends repo.old.1.records repo.new.1.records }
-    ensures steps { (s : State) → Stands (N.name_of repo.old.0) repo.old.1 tables.old s → AddsAs (Clash (N.name_of repo.old.0) (values_of repo.old.1) (added_by_commit (N.name_of repo.old.0) s (commit_parts commit))) (λ t _. Follows (N.name_of repo.old.0) repo.new.1 tables.new s t) result (step_commit (N.name_of repo.old.0) revision_of s (commit_parts commit)) }
+    ensures steps { MakesCommit (N.name_of repo.old.0) repo.old.1 repo.new.1 tables.old tables.new (commit_parts commit) result }
 {
     repo.sound();
     records_keep_home();
@@ -81,7 +72,7 @@ fn first_parent<N: Namer, A: Allocator + Copy>(
     commit: &Commit<A>,
 ) -> Result<Option<Name>, ImportKind>
     requires sorted { IsTrue (is_sorted byte_cmp (rows_of tables.now.branches)) }
-    ensures { (s : State) → Stands (N.name_of repo.now.0) repo.now.1 tables.now s → GivesAs (AreBoth (IsCommitOf (N.name_of repo.now.0) s.history.values)) result (first_parent (N.name_of repo.now.0) revision_of s (commit_parts commit.now)) }
+    ensures { NamesFirstParent (N.name_of repo.now.0) repo.now.1 tables.now (commit_parts commit.now) result }
 {
     let branch = commit.branch.bytes.as_slice();
     match &commit.from {
@@ -97,7 +88,7 @@ fn own_commit<N: Namer, A: Allocator + Copy>(
     branch: &[u8],
 ) -> Option<Name>
     requires sorted { IsTrue (is_sorted byte_cmp (rows_of tables.now.branches)) }
-    ensures { (s : State) → Stands (N.name_of repo.now.0) repo.now.1 tables.now s → AreBoth (IsCommitOf (N.name_of repo.now.0) s.history.values) (own_commit (N.name_of repo.now.0) revision_of (lookup (same_bytes branch.now) s.branches)) result }
+    ensures { IsOwnCommit (N.name_of repo.now.0) repo.now.1 tables.now branch.now result }
 {
     repo.sound();
     match tables.branches.get(branch) {
@@ -114,7 +105,7 @@ fn parents<N: Namer, A: Allocator + Copy>(
     first: Option<Name>,
 ) -> Result<Vec<Name, A>, ImportKind>
     requires sorted { IsTrue (is_sorted byte_cmp (rows_of tables.now.branches)) }
-    ensures { (s : State) (made : Option values.Commit) → Stands (N.name_of repo.now.0) repo.now.1 tables.now s → AreBoth (IsCommitOf (N.name_of repo.now.0) s.history.values) made first → GivesAs (λ others names. AreAll (IsCommitOf (N.name_of repo.now.0) s.history.values) (with_first_parent (N.name_of repo.now.0) revision_of made others) names.items) result (all_committed (N.name_of repo.now.0) revision_of commit.now.branch.bytes.items s (map shown_commit_ish commit.now.merges.items)) }
+    ensures { NamesParents (N.name_of repo.now.0) repo.now.1 tables.now commit.now.branch.bytes.items first (map shown_commit_ish commit.now.merges.items) result }
 {
     let branch = commit.branch.bytes.as_slice();
     let mut parents = first_alone(tables.alloc, first)?;
@@ -154,7 +145,7 @@ fn add<N: Namer, A: Allocator + Copy>(
     ensures refs { repo.new.1.refs ≡ repo.old.1.refs }
     ensures extends { Extends repo.old.1.records repo.new.1.records }
     ensures files { files.new.files ≡ files.old.files }
-    ensures steps { (tables : Tables A) (s : State) (f : FileMap Bytes) (ps : List values.Commit) → Stands (N.name_of repo.old.0) repo.old.1 tables s → AreFiles (N.name_of repo.old.0) s.history.values f files.old.files → AreAll (IsCommitOf (N.name_of repo.old.0) s.history.values) ps parents.now → AddsAs (Clash (N.name_of repo.old.0) (values_of repo.old.1) (commit_added f (values.commit f (commits_of ps) (text_made (N.name_of repo.old.0) revision_of (commit_parts commit.now))))) (λ t called. Follows (N.name_of repo.old.0) repo.new.1 tables s t × (called.bytes ≡ name_of (N.name_of repo.old.0) (commit_value (values.commit f (commits_of ps) (text_made (N.name_of repo.old.0) revision_of (commit_parts commit.now)))))) result (Ok (added (commit_value (values.commit f (commits_of ps) (text_made (N.name_of repo.old.0) revision_of (commit_parts commit.now)))) s)) }
+    ensures steps { AddsCommit (N.name_of repo.old.0) repo.old.1 repo.new.1 files.old.files parents.now (commit_parts commit.now) result }
 {
     repo.sound();
     trees_add_file_maps();
@@ -176,7 +167,7 @@ fn add_alone<N: Namer, A: Allocator + Copy>(
     ensures namer { repo.new.0 ≡ repo.old.0 }
     ensures refs { repo.new.1.refs ≡ repo.old.1.refs }
     ensures extends { Extends repo.old.1.records repo.new.1.records }
-    ensures steps { (tables : Tables A) (s : State) (f : FileMap Bytes) (ps : List values.Commit) → Stands (N.name_of repo.old.0) repo.old.1 tables s → IsTreeOf (N.name_of repo.old.0) s.history.values f tree → AreAll (IsCommitOf (N.name_of repo.old.0) s.history.values) ps parents.now → AddsAs (Clash (N.name_of repo.old.0) (values_of repo.old.1) (commit_value (values.commit f (commits_of ps) (text_made (N.name_of repo.old.0) revision_of (commit_parts commit.now))) ∷ [])) (λ t called. Follows (N.name_of repo.old.0) repo.new.1 tables s t × (called.bytes ≡ name_of (N.name_of repo.old.0) (commit_value (values.commit f (commits_of ps) (text_made (N.name_of repo.old.0) revision_of (commit_parts commit.now)))))) result (Ok (added_alone (commit_value (values.commit f (commits_of ps) (text_made (N.name_of repo.old.0) revision_of (commit_parts commit.now)))) s)) }
+    ensures steps { AddsCommitAlone (N.name_of repo.old.0) repo.old.1 repo.new.1 tree parents.now (commit_parts commit.now) result }
 {
     repo.sound();
     puts_add_values();

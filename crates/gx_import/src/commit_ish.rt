@@ -2,18 +2,12 @@
 
 ghost use Rattle.std.specs.Prelude.{◌≡◌, IsTrue};
 ghost use Rattle.std.specs.FinMap.Entries.{is_sorted};
-ghost use Rattle.gx_model.specs.Denotation.{value_denoted};
-ghost use Rattle.gx_model.specs.Faults.{and_then};
-ghost use Rattle.gx_model.specs.HistoryOf.{history_of};
-ghost use Rattle.gx_model.specs.Replay.{State, byte_cmp, committed_for, is_itself};
-ghost use Rattle.gx_model.specs.RepositoryLaws.{values_of};
+ghost use Rattle.gx_model.specs.Replay.{byte_cmp, is_itself};
 ghost use Rattle.gx_model.specs.Revisions.{revision_of};
 ghost use Rattle.gx_command.specs.Views.{shown_commit_ish};
-ghost use Rattle.gx_import.specs.Answers.{GivesAs};
-ghost use Rattle.gx_import.specs.Objects.{IsCommitOf, IsOf, branch_object};
+ghost use Rattle.gx_import.specs.Objects.{branch_object};
 ghost use Rattle.gx_import.specs.Rows.{rows_of};
-ghost use Rattle.gx_import.specs.Standing.{Stands};
-ghost use Rattle.gx_import.specs.Steps.{value_named};
+ghost use Rattle.gx_import.specs.Calls.{NamesCommit, NamesObject, ShowsRevision};
 
 use crate::ImportKind;
 use crate::object::{Object, commit_in};
@@ -31,7 +25,7 @@ pub(crate) fn object_named<N: Namer, A: Allocator + Copy>(
     commit_ish: &CommitIsh<A>,
 ) -> Result<Object, ImportKind>
     requires sorted { IsTrue (is_sorted byte_cmp (rows_of tables.now.branches)) }
-    ensures { (s : State) → Stands (N.name_of repo.now.0) repo.now.1 tables.now s → GivesAs (IsOf (N.name_of repo.now.0) s.history.values) result (value_named (N.name_of repo.now.0) s (shown_commit_ish commit_ish.now)) }
+    ensures { NamesObject (N.name_of repo.now.0) repo.now.1 tables.now (shown_commit_ish commit_ish.now) result }
 {
     match commit_ish {
         CommitIsh::Mark(number) => tables.marks.object(*number),
@@ -61,7 +55,7 @@ fn revision_object<N: Namer, A: Allocator + Copy>(
     repo: &Repo<N, A>,
     text: &[u8],
 ) -> Result<Object, ImportKind>
-    ensures { GivesAs (IsOf (N.name_of repo.now.0) (values_of repo.now.1)) result (and_then (revision_of text.now) (λ r. value_denoted (N.name_of repo.now.0) (history_of repo.now.1) r)) }
+    ensures { ShowsRevision (N.name_of repo.now.0) repo.now.1 text.now result }
 {
     repo.sound();
     let revision = Revision::read(alloc, text)?;
@@ -79,7 +73,7 @@ pub(crate) fn committed_for<N: Namer, A: Allocator + Copy>(
     commit_ish: &CommitIsh<A>,
 ) -> Result<Name, ImportKind>
     requires sorted { IsTrue (is_sorted byte_cmp (rows_of tables.now.branches)) }
-    ensures { (s : State) → Stands (N.name_of repo.now.0) repo.now.1 tables.now s → GivesAs (IsCommitOf (N.name_of repo.now.0) s.history.values) result (committed_for (N.name_of repo.now.0) revision_of branch.now s (shown_commit_ish commit_ish.now)) }
+    ensures { NamesCommit (N.name_of repo.now.0) repo.now.1 tables.now branch.now (shown_commit_ish commit_ish.now) result }
 {
     if is_itself(branch, commit_ish) {
         return Err(ImportKind::FromItself);

@@ -1,18 +1,15 @@
 //! The files that a commit starts from.
 
-ghost use Rattle.std.specs.Prelude.{◌≡◌, Option, Some, IsTrue, IfOk, IfErr};
-ghost use Rattle.std.specs.FinMap.Entries.{is_sorted};
+ghost use Rattle.std.specs.Prelude.{◌≡◌, Some, IfOk, IfErr};
 ghost use Rattle.gx_model.specs.declared.objects.Kind.TheVariants as kinds;
 ghost use Rattle.gx_model.specs.Records.{named_map, parts_of_commit};
-ghost use Rattle.gx_model.specs.Replay.{State, byte_cmp, starting_files};
-ghost use Rattle.gx_model.specs.Revisions.{revision_of};
+ghost use Rattle.gx_model.specs.Replay.{State};
 ghost use Rattle.gx_model.specs.Values.{Commit, files_of};
 ghost use Rattle.gx_tree.specs.Named.{IsAtHome};
 ghost use Rattle.gx_rev.specs.Objects.{IsHeldAs, commit_at};
 ghost use Rattle.gx_import.specs.declared.fault.ImportKind.TheVariants.{OutOfMemory};
-ghost use Rattle.gx_import.specs.Objects.{IsCommitOf};
-ghost use Rattle.gx_import.specs.Rows.{AreBoth, rows_of};
 ghost use Rattle.gx_import.specs.Standing.{AreTipsAtHome, Stands};
+ghost use Rattle.gx_import.specs.Calls.{GivesStartingFiles, IsSomeCommit};
 
 use crate::ImportKind;
 use crate::branches::{files_at, take_files};
@@ -32,9 +29,9 @@ pub(crate) fn starting_files<N: Namer, A: Allocator + Copy>(
     branch: &[u8],
     first: Option<Name>,
 ) -> Result<PathTree<A>, ImportKind>
-    requires stands { (s : State) × (made : Option Commit) × Stands (N.name_of repo.now.0) repo.now.1 tables.now s × AreBoth (IsCommitOf (N.name_of repo.now.0) s.history.values) made first }
+    requires stands { IsSomeCommit (N.name_of repo.now.0) repo.now.1 tables.now first }
     ensures tables { (s : State) → Stands (N.name_of repo.now.0) repo.now.1 tables.old s → Stands (N.name_of repo.now.0) repo.now.1 tables.new s }
-    ensures files { (s : State) (made : Option Commit) → Stands (N.name_of repo.now.0) repo.now.1 tables.old s → AreBoth (IsCommitOf (N.name_of repo.now.0) s.history.values) made first → IfOk result (λ files. files.files ≡ named_map (N.name_of repo.now.0) (starting_files (N.name_of repo.now.0) revision_of made)) }
+    ensures files { GivesStartingFiles (N.name_of repo.now.0) repo.now.1 tables.old first result }
     ensures homes { AreTipsAtHome (N.name_of repo.now.0) repo.now.1.records tables.old → AreTipsAtHome (N.name_of repo.now.0) repo.now.1.records tables.new }
     ensures home { AreTipsAtHome (N.name_of repo.now.0) repo.now.1.records tables.old → IfOk result (IsAtHome (N.name_of repo.now.0) repo.now.1.records) }
     ensures fault { IfErr result (λ fault. fault ≡ OutOfMemory) }
@@ -55,8 +52,8 @@ fn other_files<N: Namer, A: Allocator + Copy>(
     tables: &Tables<A>,
     commit: &Name,
 ) -> Result<PathTree<A>, ImportKind>
-    requires stands { (s : State) × (made : Option Commit) × Stands (N.name_of repo.now.0) repo.now.1 tables.now s × AreBoth (IsCommitOf (N.name_of repo.now.0) s.history.values) made (Some commit.now) }
-    ensures files { (s : State) (made : Option Commit) → Stands (N.name_of repo.now.0) repo.now.1 tables.now s → AreBoth (IsCommitOf (N.name_of repo.now.0) s.history.values) made (Some commit.now) → IfOk result (λ files. files.files ≡ named_map (N.name_of repo.now.0) (starting_files (N.name_of repo.now.0) revision_of made)) }
+    requires stands { IsSomeCommit (N.name_of repo.now.0) repo.now.1 tables.now (Some commit.now) }
+    ensures files { GivesStartingFiles (N.name_of repo.now.0) repo.now.1 tables.now (Some commit.now) result }
     ensures home { AreTipsAtHome (N.name_of repo.now.0) repo.now.1.records tables.now → IfOk result (IsAtHome (N.name_of repo.now.0) repo.now.1.records) }
     ensures fault { IfErr result (λ fault. fault ≡ OutOfMemory) }
 {

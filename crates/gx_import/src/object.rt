@@ -1,11 +1,8 @@
 //! Objects that are held, by kind and name.
 
 ghost use Rattle.std.specs.Prelude.{◌≡◌};
-ghost use Rattle.gx_model.specs.Denotation.{commit_in};
-ghost use Rattle.gx_model.specs.RepositoryLaws.{values_of};
-ghost use Rattle.gx_model.specs.Values.{Value};
-ghost use Rattle.gx_import.specs.Answers.{GivesAs};
-ghost use Rattle.gx_import.specs.Objects.{IsCommitOf, IsOf, name_of_kind};
+ghost use Rattle.gx_import.specs.Objects.{name_of_kind};
+ghost use Rattle.gx_import.specs.Calls.{ShowsCommit};
 
 use crate::ImportKind;
 use gx_object::{Kind, Name, Namer};
@@ -24,7 +21,7 @@ pub(crate) fn commit_in<N: Namer, A: Allocator + Copy>(
     repo: &Repo<N, A>,
     object: Object,
 ) -> Result<Name, ImportKind>
-    ensures { (value : Value) → IsOf (N.name_of repo.now.0) (values_of repo.now.1) value object → GivesAs (IsCommitOf (N.name_of repo.now.0) (values_of repo.now.1)) result (commit_in value) }
+    ensures { ShowsCommit (N.name_of repo.now.0) repo.now.1 object result }
 {
     repo.sound();
     match repo.peel(&object.name) {

@@ -2,18 +2,18 @@
 
 ghost use Rattle.std.specs.Prelude.{◌≡◌, [], ◌++◌, map, None, IsTrue, IfOk, IfErr, OnOk, OnErr};
 ghost use Rattle.std.specs.FinMap.Entries.{is_sorted};
-ghost use Rattle.std.specs.Map.{lookup};
-ghost use Rattle.gx_model.specs.HistoryOf.{target_in, value_of_name};
 ghost use Rattle.gx_model.specs.Replay.{State, byte_cmp, is_fast_forward};
 ghost use Rattle.gx_model.specs.Sound.{IsTarget};
+ghost use Rattle.std.specs.Map.{lookup};
 ghost use Rattle.gx_model.specs.Texts.{same_bytes};
 ghost use Rattle.gx_model.specs.Publishing.{changes_fault, with_changes};
 ghost use Rattle.gx_repo.specs.Refs.{asked};
 ghost use Rattle.gx_import.specs.Publishing.{Publishes};
-ghost use Rattle.gx_import.specs.RefChanges.{branch_changes, branch_then, changes_of, has_commit, hidden_by, is_kept_by, tag_changes};
+ghost use Rattle.gx_import.specs.RefChanges.{branch_changes, branch_then, changes_of, has_commit, hidden_by, tag_changes};
 ghost use Rattle.gx_import.specs.Rows.{rows_of};
 ghost use Rattle.gx_import.specs.Standing.{Stands};
 ghost use Rattle.gx_import.specs.declared.fault.ImportKind.TheVariants.{OutOfMemory};
+ghost use Rattle.gx_import.specs.Calls.{TellsForward};
 
 use crate::ImportKind;
 use crate::branches::Tip;
@@ -76,7 +76,7 @@ fn is_forward<N: Namer, A: Allocator + Copy>(
 ) -> Result<bool, ImportKind>
     requires stands { (s : State) × Stands (N.name_of repo.now.0) repo.now.1 tables.now s }
     requires target { IsTarget repo.now.1.records name.now object.now.bytes }
-    ensures forward { (s : State) → Stands (N.name_of repo.now.0) repo.now.1 tables.now s → IfOk result (λ is_forward. is_forward ≡ is_kept_by (lookup (same_bytes name.now) s.branches) (target_in (value_of_name repo.now.1.records object.now.bytes))) }
+    ensures forward { TellsForward (N.name_of repo.now.0) repo.now.1 tables.now name.now object.now.bytes result }
     ensures fault { IfErr result (λ fault. fault ≡ OutOfMemory) }
 {
     repo.sound();

@@ -1,19 +1,15 @@
 //! The commands of a stream, applied one after the other. Source: git-fast-import(1), "Commands".
 
-ghost use Rattle.std.specs.Prelude.{◌≡◌, ◌<◌, ◌≤◌, ◌-◌, ◌^◌, ◌++◌, [], ◌∷◌, Ok, codes, IfOk, IfSome, OnOk};
-ghost use Rattle.gx_model.specs.declared.objects.Kind.{Kind};
-ghost use Rattle.gx_model.specs.Commands.{Asks};
+ghost use Rattle.std.specs.Prelude.{◌≡◌, ◌<◌, ◌≤◌, ◌-◌, ◌^◌, ◌++◌, [], ◌∷◌, codes, IfOk, IfSome, OnOk};
 ghost use Rattle.gx_model.specs.Gitlinks.{BringsNoNullGitlink};
-ghost use Rattle.gx_model.specs.Histories.{IsHistory, Records};
+ghost use Rattle.gx_model.specs.Histories.{IsHistory};
 ghost use Rattle.gx_model.specs.HistoryOf.{history_of};
-ghost use Rattle.gx_model.specs.Texts.{Bytes};
-ghost use Rattle.gx_model.specs.Replay.{State, step};
-ghost use Rattle.gx_model.specs.Revisions.{revision_of};
+ghost use Rattle.gx_model.specs.Replay.{State};
 ghost use Rattle.gx_command.specs.Views.{shown_command};
-ghost use Rattle.gx_import.specs.Applying.{Applies};
 ghost use Rattle.gx_import.specs.Exported.{KeepsNoNullGitlink};
 ghost use Rattle.gx_import.specs.Replaying.{FallsNext, ReadsNext, ReplaysTo, Writes};
-ghost use Rattle.gx_import.specs.Standing.{AreEmpty, AreTipsAtHome, Extends, Follows, Stands};
+ghost use Rattle.gx_import.specs.Standing.{AreEmpty, AreTipsAtHome, Extends, Stands};
+ghost use Rattle.gx_import.specs.Calls.{AppliesInEach, AsksFor};
 
 use crate::blob::apply_blob;
 use crate::commit::apply_commit;
@@ -89,7 +85,7 @@ fn apply<N: Namer, A: Allocator + Copy, W: Sink>(
     ensures namer { repo.new.0 ≡ repo.old.0 }
     ensures refs { repo.new.1.refs ≡ repo.old.1.refs }
     ensures extends { Extends repo.old.1.records repo.new.1.records }
-    ensures steps { (s : State) → Stands (N.name_of repo.old.0) repo.old.1 tables.old s → Applies (N.name_of repo.old.0) repo.old.1 repo.new.1 tables.new s (shown_command command) (W.taken sink.old) (W.taken sink.new) result }
+    ensures steps { AppliesInEach (N.name_of repo.old.0) repo.old.1 repo.new.1 tables.old tables.new (shown_command command) (W.taken sink.old) (W.taken sink.new) result }
 {
     records_keep_home();
     match command {
@@ -128,7 +124,7 @@ fn write<W: Sink>(sink: &mut W, bytes: &[u8]) -> Result<(), ImportKind>
 /// The feature `force` lets branches lose commits.
 fn apply_feature<A: Allocator + Copy>(tables: &mut Tables<A>, feature: Feature)
     ensures branches { tables.new.branches ≡ tables.old.branches }
-    ensures steps { (name : Kind → Bytes → Bytes) (repository : Records) (s : State) → Stands name repository tables.old s → (t : State) × (step name revision_of s (Asks feature) ≡ Ok t) × Follows name repository tables.new s t }
+    ensures steps { AsksFor tables.old tables.new feature }
 {
     match feature {
         Feature::Force => tables.is_forced = true,

@@ -1,19 +1,12 @@
 //! Reset commands. Source: git-fast-import(1), "reset".
 
-ghost use Rattle.std.specs.Prelude.{List, IfOk, IsTrue};
+ghost use Rattle.std.specs.Prelude.{IsTrue};
 ghost use Rattle.std.specs.FinMap.Entries.{is_sorted};
 ghost use Rattle.std.specs.Option.{option_map};
-ghost use Rattle.gx_model.specs.declared.objects.Kind.{Kind};
-ghost use Rattle.gx_model.specs.Histories.{Record};
-ghost use Rattle.gx_model.specs.Texts.{Bytes};
-ghost use Rattle.gx_model.specs.Replay.{State, byte_cmp, step_reset};
-ghost use Rattle.gx_model.specs.Revisions.{revision_of};
+ghost use Rattle.gx_model.specs.Replay.{byte_cmp};
 ghost use Rattle.gx_command.specs.Views.{shown_commit_ish};
-ghost use Rattle.gx_import.specs.Answers.{GivesAs};
-ghost use Rattle.gx_import.specs.Objects.{IsCommitOf};
-ghost use Rattle.gx_import.specs.Rows.{AreBoth, rows_of};
-ghost use Rattle.gx_import.specs.Standing.{AreTipsAtHome, Follows, Stands};
-ghost use Rattle.gx_import.specs.Steps.{optional_commit};
+ghost use Rattle.gx_import.specs.Rows.{rows_of};
+ghost use Rattle.gx_import.specs.Calls.{KeepsTipsAtHome, NamesOptionalCommit, Resets};
 
 use crate::ImportKind;
 use crate::branches::Tip;
@@ -31,8 +24,8 @@ pub(crate) fn apply_reset<N: Namer, A: Allocator + Copy>(
     reset: Reset<A>,
 ) -> Result<(), ImportKind>
     requires sorted { IsTrue (is_sorted byte_cmp (rows_of tables.now.branches)) }
-    ensures homes { (name : Kind → Bytes → Bytes) (records : List Record) → AreTipsAtHome name records tables.old → IfOk result (λ _. AreTipsAtHome name records tables.new) }
-    ensures steps { (s : State) → Stands (N.name_of repo.now.0) repo.now.1 tables.old s → GivesAs (λ t _. Follows (N.name_of repo.now.0) repo.now.1 tables.new s t) result (step_reset (N.name_of repo.now.0) revision_of s reset.branch.bytes.items (option_map shown_commit_ish reset.from)) }
+    ensures homes { KeepsTipsAtHome tables.old tables.new result }
+    ensures steps { Resets (N.name_of repo.now.0) repo.now.1 tables.old tables.new reset.branch.bytes.items (option_map shown_commit_ish reset.from) result }
 {
     let commit = target(repo, tables, &reset)?;
     let tip = Tip {
@@ -49,7 +42,7 @@ fn target<N: Namer, A: Allocator + Copy>(
     reset: &Reset<A>,
 ) -> Result<Option<Name>, ImportKind>
     requires sorted { IsTrue (is_sorted byte_cmp (rows_of tables.now.branches)) }
-    ensures { (s : State) → Stands (N.name_of repo.now.0) repo.now.1 tables.now s → GivesAs (AreBoth (IsCommitOf (N.name_of repo.now.0) s.history.values)) result (optional_commit (N.name_of repo.now.0) s reset.now.branch.bytes.items (option_map shown_commit_ish reset.now.from)) }
+    ensures { NamesOptionalCommit (N.name_of repo.now.0) repo.now.1 tables.now reset.now.branch.bytes.items (option_map shown_commit_ish reset.now.from) result }
 {
     match &reset.from {
         Some(from) => {

@@ -1,21 +1,17 @@
 //! Tag commands. Source: git-fast-import(1), "tag".
 
-ghost use Rattle.std.specs.Prelude.{◌≡◌, [], ◌∷◌, Ok, IfOk};
+ghost use Rattle.std.specs.Prelude.{◌≡◌, IfOk};
 ghost use Rattle.std.specs.Option.{option_map};
 ghost use Rattle.gx_model.specs.declared.objects.Kind.TheVariants as kinds;
 ghost use Rattle.gx_model.specs.RefNames.{tag_ref};
 ghost use Rattle.gx_model.specs.Records.{name_of};
-ghost use Rattle.gx_model.specs.Replay.{State, added, step_tag};
-ghost use Rattle.gx_model.specs.RepositoryLaws.{values_of};
-ghost use Rattle.gx_model.specs.Revisions.{revision_of};
+ghost use Rattle.gx_model.specs.Replay.{State};
 ghost use Rattle.gx_model.specs.Sound.{Holds};
-ghost use Rattle.gx_model.specs.Values.{Commit, tag_value};
+ghost use Rattle.gx_model.specs.Values.{Commit};
 ghost use Rattle.gx_object.specs.Parts.{tag_parts as shown_parts};
 ghost use Rattle.gx_command.specs.Views.{tag_parts};
-ghost use Rattle.gx_import.specs.Additions.{Clash, added_by_tag, tag_made};
-ghost use Rattle.gx_import.specs.Answers.{AddsAs};
-ghost use Rattle.gx_import.specs.Objects.{IsCommitOf};
-ghost use Rattle.gx_import.specs.Standing.{Extends, Follows, Stands};
+ghost use Rattle.gx_import.specs.Standing.{Extends, Stands};
+ghost use Rattle.gx_import.specs.Calls.{AddsTag, MakesTag};
 
 use crate::ImportKind;
 use crate::commit::ident;
@@ -39,7 +35,7 @@ pub(crate) fn apply_tag<N: Namer, A: Allocator + Copy>(
     ensures namer { repo.new.0 ≡ repo.old.0 }
     ensures refs { repo.new.1.refs ≡ repo.old.1.refs }
     ensures extends { Extends repo.old.1.records repo.new.1.records }
-    ensures steps { (s : State) → Stands (N.name_of repo.old.0) repo.old.1 tables.old s → AddsAs (Clash (N.name_of repo.old.0) (values_of repo.old.1) (added_by_tag (N.name_of repo.old.0) s (tag_parts tag.now))) (λ t _. Follows (N.name_of repo.old.0) repo.new.1 tables.new s t) result (step_tag (N.name_of repo.old.0) revision_of s (tag_parts tag.now)) }
+    ensures steps { MakesTag (N.name_of repo.old.0) repo.old.1 repo.new.1 tables.old tables.new (tag_parts tag.now) result }
 {
     repo.sound();
     let object = object_named(repo, tables, &tag.from)?;
@@ -61,7 +57,7 @@ fn add<N: Namer, A: Allocator + Copy>(
     ensures namer { repo.new.0 ≡ repo.old.0 }
     ensures refs { repo.new.1.refs ≡ repo.old.1.refs }
     ensures extends { Extends repo.old.1.records repo.new.1.records }
-    ensures steps { (tables : Tables A) (s : State) (target : Commit) → Stands (N.name_of repo.old.0) repo.old.1 tables s → IsCommitOf (N.name_of repo.old.0) s.history.values target object → AddsAs (Clash (N.name_of repo.old.0) (values_of repo.old.1) (tag_value (tag_made target (tag_parts tag.now)) ∷ [])) (λ t called. Follows (N.name_of repo.old.0) repo.new.1 tables s t × (called.bytes ≡ name_of (N.name_of repo.old.0) (tag_value (tag_made target (tag_parts tag.now))))) result (Ok (added (tag_value (tag_made target (tag_parts tag.now))) s)) }
+    ensures steps { AddsTag (N.name_of repo.old.0) repo.old.1 repo.new.1 object (tag_parts tag.now) result }
 {
     repo.sound();
     puts_add_values();

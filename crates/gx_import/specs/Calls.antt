@@ -1,11 +1,10 @@
 -- What the calls of an import do, from each state of the replay that the repository and the tables stand for.
 -- Source: git-fast-import(1), "Commands".
-use Rattle.std.specs.Prelude.{◌≡◌, List, [], ◌∷◌, Bool, Option, Some, Result, Ok, IfOk}
+use Rattle.std.specs.Prelude.{◌≡◌, List, [], ◌∷◌, Bool, Option, Result, Ok, IfOk}
 use Rattle.std.specs.Map.{lookup}
 use Rattle.std.specs.declared.vec.Vec.{Vec}
 use Rattle.gx_model.specs.declared.objects.Kind.{Kind}
 use Rattle.gx_model.specs.declared.objects.Mode.{Mode}
-use Rattle.gx_model.specs.declared.faults.Fault.{Fault}
 use Rattle.gx_model.specs.Texts.{Bytes, same_bytes}
 use Rattle.gx_model.specs.Faults.{Given, and_then}
 use Rattle.gx_model.specs.Files.{FileMap}
@@ -46,6 +45,48 @@ abbrev pub KeepsTipsAtHome : {A X : Type 0} → Tables A → Tables A → Result
 KeepsTipsAtHome was now answer =
     (name : Kind → Bytes → Bytes) (records : List Record) → AreTipsAtHome name records was → IfOk answer (λ _. AreTipsAtHome name records now)
 
+module _ (name : Kind → Bytes → Bytes) where
+  -- the object that a text shows as a revision
+  abbrev pub ShowsRevision : Records → Bytes → Result Object ImportKind → Type 0
+  ShowsRevision repository text answer =
+      GivesAs (IsOf name (values_of repository)) answer (and_then (revision_of text) (λ r. value_denoted name (history_of repository) r))
+
+  -- the commit of an object, or why it is none
+  abbrev pub ShowsCommit : Records → Object → Result Name ImportKind → Type 0
+  ShowsCommit repository object answer =
+      (value : Value) → IsOf name (values_of repository) value object → GivesAs (IsCommitOf name (values_of repository)) answer (denoted.commit_in value)
+
+  -- the content of a file that is held, by its name
+  abbrev pub NamesContent : Records → Mode → DataRef → Result Name ImportKind → Type 0
+  NamesContent repository mode given answer =
+      (s : State) → history_of repository ≡ s.history → GivesAs (λ made called. IsContentName name s made mode called) answer (content name revision_of s mode given)
+
+  -- a commit with these files and parents, and its trees
+  abbrev pub AddsCommit : (A : Type 0) → Records → Records → FileMap Bytes → List Name → CommitParts → Result Name ImportKind → Type 0
+  AddsCommit A old new names parents parts answer =
+      (tables : Tables A) (s : State) (files : FileMap Bytes) (made : List Commit) → Stands name old tables s
+      → AreFiles name s.history.values files names → AreAll (IsCommitOf name s.history.values) made parents
+      → AddsAs (Clash name (values_of old) (commit_added files (commit_of name parts files made)))
+      (λ t called. Follows name new tables s t × (called.bytes ≡ name_of name (commit_value (commit_of name parts files made))))
+      answer (Ok (added (commit_value (commit_of name parts files made)) s))
+
+  -- a commit of this tree and these parents, without its trees
+  abbrev pub AddsCommitAlone : (A : Type 0) → Records → Records → Name → List Name → CommitParts → Result Name ImportKind → Type 0
+  AddsCommitAlone A old new tree parents parts answer =
+      (tables : Tables A) (s : State) (files : FileMap Bytes) (made : List Commit) → Stands name old tables s
+      → IsTreeOf name s.history.values files tree → AreAll (IsCommitOf name s.history.values) made parents
+      → AddsAs (Clash name (values_of old) (commit_value (commit_of name parts files made) ∷ []))
+      (λ t called. Follows name new tables s t × (called.bytes ≡ name_of name (commit_value (commit_of name parts files made))))
+      answer (Ok (added_alone (commit_value (commit_of name parts files made)) s))
+
+  -- a tag of this commit
+  abbrev pub AddsTag : (A : Type 0) → Records → Records → Name → TagParts → Result Name ImportKind → Type 0
+  AddsTag A old new object parts answer =
+      (tables : Tables A) (s : State) (target : Commit) → Stands name old tables s → IsCommitOf name s.history.values target object
+      → AddsAs (Clash name (values_of old) (tag_value (tag_made target parts) ∷ []))
+      (λ t called. Follows name new tables s t × (called.bytes ≡ name_of name (tag_value (tag_made target parts))))
+      answer (Ok (added (tag_value (tag_made target parts)) s))
+
 module _ (name : Kind → Bytes → Bytes) {A : Type 0} where
   -- in each state that the repository and the tables stand for
   abbrev pub InEach : Records → Tables A → (State → Type 0) → Type 0
@@ -67,16 +108,6 @@ module _ (name : Kind → Bytes → Bytes) {A : Type 0} where
   abbrev pub NamesOptionalCommit : Records → Tables A → Bytes → Option CommitIsh → Result (Option Name) ImportKind → Type 0
   NamesOptionalCommit repository tables branch named answer =
       InEach repository tables (λ s. GivesAs (AreBoth (IsCommitOf name s.history.values)) answer (optional_commit name s branch named))
-
-  -- the object that a text shows as a revision
-  abbrev pub ShowsRevision : Records → Bytes → Result Object ImportKind → Type 0
-  ShowsRevision repository text answer =
-      GivesAs (IsOf name (values_of repository)) answer (and_then (revision_of text) (λ r. value_denoted name (history_of repository) r))
-
-  -- the commit of an object, or why it is none
-  abbrev pub ShowsCommit : Records → Object → Result Name ImportKind → Type 0
-  ShowsCommit repository object answer =
-      (value : Value) → IsOf name (values_of repository) value object → GivesAs (IsCommitOf name (values_of repository)) answer (denoted.commit_in value)
 
   -- a branch's own commit
   abbrev pub IsOwnCommit : Records → Tables A → Bytes → Option Name → Type 0
@@ -115,15 +146,10 @@ module _ (name : Kind → Bytes → Bytes) {A : Type 0} where
 
   -- the content of a file
   abbrev pub AddsContent : Records → Records → Tables A → Mode → DataRef → Result Name ImportKind → Type 0
-  AddsContent old new tables mode data answer =
+  AddsContent old new tables mode given answer =
       InEach old tables (λ s.
-      AddsAs (Clash name (values_of old) (content_added data)) (λ given called. Follows name new tables s given.0 × IsContentName name given.0 given mode called)
-      answer (content name revision_of s mode data))
-
-  -- the content of a file that is held
-  abbrev pub NamesContent : Records → Mode → DataRef → Result Name ImportKind → Type 0
-  NamesContent repository mode data answer =
-      (s : State) → history_of repository ≡ s.history → GivesAs (λ given called. IsContentName name s given mode called) answer (content name revision_of s mode data)
+      AddsAs (Clash name (values_of old) (content_added given)) (λ made called. Follows name new tables s made.0 × IsContentName name made.0 made mode called)
+      answer (content name revision_of s mode given))
 
   -- the blob of one change, whose files come from those that were
   abbrev pub MakesChange : {X : Type 0} → Records → Records → Tables A → FileMap Bytes → FileMap Bytes → Change → Result X ImportKind → Type 0
@@ -138,32 +164,6 @@ module _ (name : Kind → Bytes → Bytes) {A : Type 0} where
       (s : State) (files : FileMap Bytes) → Stands name old tables s → AreFiles name s.history.values files was
       → AddsAs (Clash name (values_of old) (blobs_added name s files changes)) (λ r _. Follows name new tables s r.0 × AreFiles name r.0.history.values r.1 now)
       answer (all_changed name revision_of s files changes)
-
-  -- a commit with these files and parents, and its trees
-  abbrev pub AddsCommit : Records → Records → FileMap Bytes → List Name → CommitParts → Result Name ImportKind → Type 0
-  AddsCommit old new names parents parts answer =
-      (tables : Tables A) (s : State) (files : FileMap Bytes) (made : List Commit) → Stands name old tables s
-      → AreFiles name s.history.values files names → AreAll (IsCommitOf name s.history.values) made parents
-      → AddsAs (Clash name (values_of old) (commit_added files (commit_of name parts files made)))
-      (λ t called. Follows name new tables s t × (called.bytes ≡ name_of name (commit_value (commit_of name parts files made))))
-      answer (Ok (added (commit_value (commit_of name parts files made)) s))
-
-  -- a commit of this tree and these parents, without its trees
-  abbrev pub AddsCommitAlone : Records → Records → Name → List Name → CommitParts → Result Name ImportKind → Type 0
-  AddsCommitAlone old new tree parents parts answer =
-      (tables : Tables A) (s : State) (files : FileMap Bytes) (made : List Commit) → Stands name old tables s
-      → IsTreeOf name s.history.values files tree → AreAll (IsCommitOf name s.history.values) made parents
-      → AddsAs (Clash name (values_of old) (commit_value (commit_of name parts files made) ∷ []))
-      (λ t called. Follows name new tables s t × (called.bytes ≡ name_of name (commit_value (commit_of name parts files made))))
-      answer (Ok (added_alone (commit_value (commit_of name parts files made)) s))
-
-  -- a tag of this commit
-  abbrev pub AddsTag : Records → Records → Name → TagParts → Result Name ImportKind → Type 0
-  AddsTag old new object parts answer =
-      (tables : Tables A) (s : State) (target : Commit) → Stands name old tables s → IsCommitOf name s.history.values target object
-      → AddsAs (Clash name (values_of old) (tag_value (tag_made target parts) ∷ []))
-      (λ t called. Follows name new tables s t × (called.bytes ≡ name_of name (tag_value (tag_made target parts))))
-      answer (Ok (added (tag_value (tag_made target parts)) s))
 
   -- ---- what a command does
 

@@ -145,7 +145,7 @@ fn add<N: Namer, A: Allocator + Copy>(
     ensures refs { repo.new.1.refs ≡ repo.old.1.refs }
     ensures extends { Extends repo.old.1.records repo.new.1.records }
     ensures files { files.new.files ≡ files.old.files }
-    ensures steps { AddsCommit (N.name_of repo.old.0) repo.old.1 repo.new.1 files.old.files parents.now (commit_parts commit.now) result }
+    ensures steps { AddsCommit (N.name_of repo.old.0) A repo.old.1 repo.new.1 files.old.files parents.now (commit_parts commit.now) result }
 {
     repo.sound();
     trees_add_file_maps();
@@ -167,7 +167,7 @@ fn add_alone<N: Namer, A: Allocator + Copy>(
     ensures namer { repo.new.0 ≡ repo.old.0 }
     ensures refs { repo.new.1.refs ≡ repo.old.1.refs }
     ensures extends { Extends repo.old.1.records repo.new.1.records }
-    ensures steps { AddsCommitAlone (N.name_of repo.old.0) repo.old.1 repo.new.1 tree parents.now (commit_parts commit.now) result }
+    ensures steps { AddsCommitAlone (N.name_of repo.old.0) A repo.old.1 repo.new.1 tree parents.now (commit_parts commit.now) result }
 {
     repo.sound();
     puts_add_values();

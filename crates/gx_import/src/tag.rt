@@ -57,7 +57,7 @@ fn add<N: Namer, A: Allocator + Copy>(
     ensures namer { repo.new.0 ≡ repo.old.0 }
     ensures refs { repo.new.1.refs ≡ repo.old.1.refs }
     ensures extends { Extends repo.old.1.records repo.new.1.records }
-    ensures steps { AddsTag (N.name_of repo.old.0) repo.old.1 repo.new.1 object (tag_parts tag.now) result }
+    ensures steps { AddsTag (N.name_of repo.old.0) A repo.old.1 repo.new.1 object (tag_parts tag.now) result }
 {
     repo.sound();
     puts_add_values();

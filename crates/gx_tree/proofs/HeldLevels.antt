@@ -19,7 +19,7 @@ use Rattle.gx_model.proofs.OneTree.{all_left, all_right}
 use Rattle.gx_model.proofs.SubMaps.{sub_parts}
 use Rattle.gx_model.proofs.TreePaths.{name_is_name}
 use Rattle.gx_store.specs.Stores.{seen}
-use Rattle.gx_tree.specs.Copies.{is_within}
+use Rattle.gx_tree.specs.Rooms.{is_within}
 use Rattle.gx_tree.specs.HeldTrees.{IsHeldEntry, IsHeldWithin}
 use Rattle.gx_model.specs.NameMaps.{IsHeldTree, IsNameMap}
 use Rattle.gx_tree.specs.Nodes.{Kept, Level, IsKept, IsLevel, is_inner_path}

@@ -1,12 +1,10 @@
 -- What a copy takes, and whether it may stand at a path.
-use Rattle.std.specs.Prelude.{ℕ, ◌-◌, Bool, ◌&&◌, true, false, nat_le, nat_lt, if◌then◌else◌, length, Option, Some, None}
+use Rattle.std.specs.Prelude.{Bool, ◌&&◌, true, false, if◌then◌else◌, Option, Some, None}
 use Rattle.std.specs.List.{list_all}
 use Rattle.gx_model.specs.declared.faults.Fault.{Fault}
 use Rattle.gx_model.specs.declared.faults.Fault.TheVariants as model
 use Rattle.gx_model.specs.Edits.{is_root}
-use Rattle.gx_model.specs.Files.{Leaf}
-use Rattle.gx_model.specs.Paths.{Path, is_short, path_text}
-use Rattle.gx_model.specs.Texts.{Bytes}
+use Rattle.gx_model.specs.Paths.{Path, is_short}
 use Rattle.gx_tree.specs.Lists.{below}
 use Rattle.gx_tree.specs.Nodes.{Kept, file, folder, kept_map}
 use Rattle.gx_tree.specs.declared.copying.Held.{Held}
@@ -30,11 +28,3 @@ graft_fault k p =
     if is_file k && is_root p then Some model.RootNotTree
     else if list_all (λ e. is_short e.0) (below p (kept_map k)) then None
     else Some model.PathTooLong
-
-abbrev pub is_within : ℕ → Path × Leaf Bytes → Bool
-is_within room e = nat_le (length (path_text e.0)) room
-
--- whether the files of k have at most as many bytes, at a component of n bytes
-abbrev pub kept_within : ℕ → ℕ → Kept → Bool
-kept_within room n (file x) = nat_le n room
-kept_within room n (folder f) = nat_lt n room && list_all (is_within (room - n - 1)) f

@@ -6,9 +6,9 @@ use Rattle.gx_model.specs.declared.objects.Mode.TheVariants.{Dir}
 use Rattle.gx_model.specs.Texts.{Bytes}
 use Rattle.gx_model.specs.Files.{FileMap}
 use Rattle.gx_model.specs.Histories.{Record}
-use Rattle.gx_tree.specs.Copies.{is_within}
 use Rattle.gx_model.specs.NameMaps.{IsHeldTree}
 use Rattle.gx_tree.specs.Nodes.{Kept, file, folder}
+use Rattle.gx_tree.specs.Rooms.{is_within}
 use Rattle.gx_tree.specs.Writes.{map_name}
 
 -- a held tree whose paths have at most so many bytes

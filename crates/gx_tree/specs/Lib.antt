@@ -4,6 +4,7 @@ pub mod Falls
 pub mod Steps
 pub mod Standings
 pub mod Lists
+pub mod Rooms
 pub mod Copies
 pub mod Faults
 pub mod Writes

@@ -4,11 +4,12 @@ ghost use Rattle.std.specs.List.{list_all};
 ghost use Rattle.std.specs.Option.{option_map};
 ghost use Rattle.gx_model.specs.Paths.{is_short};
 ghost use Rattle.gx_text.specs.TreePaths.{is_path};
-ghost use Rattle.gx_tree.specs.Copies.{graft_fault, is_within, kept_held, kept_within};
+ghost use Rattle.gx_tree.specs.Copies.{graft_fault, kept_held};
 ghost use Rattle.gx_tree.specs.Faults.{fault_of};
 ghost use Rattle.gx_tree.specs.Homes.{Keeps, Both, IfThere, Borrowed, AreAtHome, IsHeldAtHome, IsItemAtHome};
 ghost use Rattle.gx_tree.specs.Lists.{below};
 ghost use Rattle.gx_tree.specs.Nodes.{IsKept, folder};
+ghost use Rattle.gx_tree.specs.Rooms.{is_within, kept_within};
 ghost use Rattle.gx_tree.specs.Views.{kept, seen};
 
 use crate::directory::{Directory, Entry, Item};
@@ -67,11 +68,15 @@ impl<A: Allocator + Copy> Directory<A> {
         used < MOST_BYTES && self.fits(MOST_BYTES - used - 1)
     }
 
-    // Whether the paths of the files have at most `room` bytes.
+    // Whether the paths of the files have at most `room` bytes. Only a directory that reaches further is gone through, on the
+    // way to a path that doesn't fit.
     #[cycle(fits)]
     fn fits(&self, room: usize) -> bool
         ensures { result ≡ list_all (is_within room) self.now.files }
     {
+        if self.reaches_within(room) {
+            return true;
+        }
         for entry in self.entries.as_slice() {
             if !entry.fits(room) {
                 return false;

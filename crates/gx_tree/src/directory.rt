@@ -10,6 +10,7 @@ ghost use Rattle.gx_tree.specs.Standings.{standing_of, standing_at};
 ghost use Rattle.gx_tree.specs.Steps.{files_of, replaced};
 
 use crate::path_tree::Found;
+use crate::reach::reach_of;
 use crate::search::{find, place_of};
 use gx_object::{Mode, Name};
 use gx_text::TreePath;
@@ -17,12 +18,14 @@ use std::alloc::{AllocError, Allocator};
 use std::marker::Model;
 use std::rc::Rc;
 
-/// The files below a directory, by its entries, and its tree's name, where that is remembered.
+/// The files below a directory, by its entries, and its tree's name, where that is remembered. No path has more bytes than
+/// its reach, if that is known; it is made as the least such number.
 #[cycle(tree)]
 #[derive(Drop)]
 pub(crate) struct Directory<A: Allocator> {
     pub(crate) entries: Rc<Vec<Entry<A>, A>, A>,
     pub(crate) remembered: Option<Name>,
+    pub(crate) reach: Option<usize>,
 }
 
 /// What stands at one component.
@@ -45,12 +48,13 @@ impl<A: Allocator> Model for Directory<A> {
 
     ghost Value = { NamedTree };
 
-    ghost use Rattle.gx_tree.specs.Nodes.{components, IsLevel};
+    ghost use Rattle.gx_tree.specs.Nodes.{components, files, IsLevel};
+    ghost use Rattle.gx_tree.specs.Rooms.{IsReach};
     ghost use Rattle.gx_tree.specs.Views.{tree_of, seen_all, RemembersBelow};
 
     ghost view = { λ a. tree_of a.remembered a.entries.value.items };
 
-    ghost invariant = { λ a. IsLevel (seen_all a.entries.value.items) × RemembersBelow a.remembered a.entries.value.items };
+    ghost invariant = { λ a. IsLevel (seen_all a.entries.value.items) × RemembersBelow a.remembered a.entries.value.items × IsReach a.reach (files (seen_all a.entries.value.items)) };
 
     ghost size = { λ tree. components tree.files };
 
@@ -76,10 +80,12 @@ impl<A: Allocator + Copy> Directory<A> {
         requires remembers { RemembersBelow remembered entries.items }
         ensures { IfOk result (λ directory. directory ≡ tree_of remembered entries.items) }
     {
+        let reach = reach_of(entries.as_slice());
         let entries = Rc::new(alloc, entries)?;
         Ok(Directory {
             entries,
             remembered,
+            reach,
         })
     }
 
@@ -90,6 +96,7 @@ impl<A: Allocator + Copy> Directory<A> {
         Ok(Directory {
             entries: self.entries.clone()?,
             remembered: self.remembered,
+            reach: self.reach,
         })
     }
 

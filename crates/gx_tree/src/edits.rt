@@ -3,6 +3,7 @@
 ghost use Rattle.std.specs.Prelude.{◌≡◌, ◌≢◌, ◌<◌, ◌+◌, [], IfOk, IsFalse, IsTrue, Some, drop, length};
 ghost use Rattle.gx_model.specs.Edits.{removed};
 ghost use Rattle.gx_model.specs.Files.{sub_map};
+ghost use Rattle.gx_model.specs.Paths.{path_text};
 ghost use Rattle.gx_tree.specs.Homes.{Keeps, Both, IfThere, Borrowed, AreAtHome, IsHeldAtHome, IsItemAtHome};
 ghost use Rattle.gx_tree.specs.Named.{IsAtHome, KeepsHome};
 ghost use Rattle.gx_tree.specs.Nodes.{IsKept, IsLevel, file, files, kept_map, map_if, mark, with_kept, IsKeptAt};
@@ -12,6 +13,7 @@ ghost use Rattle.gx_tree.specs.Views.{kept, kept_if, option_kept, seen_all};
 ghost use Rattle.gx_model.specs.declared.objects.Mode.TheVariants as modes;
 
 use crate::directory::{Directory, Entry, Item, folder_in, with_entry, with_item};
+use crate::reach::longer;
 use crate::search::{find, place_marked};
 use gx_object::{Mode, Name};
 use gx_text::TreePath;
@@ -80,27 +82,30 @@ impl<A: Allocator + Copy> Directory<A> {
 }
 
 impl<A: Allocator + Copy> Directory<A> {
-    /// Puts a file in place of the one at the rest of the path, or where nothing stands in the last directory on it, and
-    /// answers whether it did: only where no other tree has the directories on the path.
+    /// Puts a file in place of the one at the rest of the path, which has so many bytes, or where nothing stands in the last
+    /// directory on it, and answers whether it did: only where no other tree has the directories on the path.
     #[cycle(put)]
     pub(crate) fn put(
         &mut self,
         alloc: A,
         path: &TreePath<A>,
         depth: usize,
+        bytes: usize,
         mode: Mode,
         name: Name,
     ) -> Result<bool, AllocError>
         requires within { depth < length path.now }
+        requires bytes { bytes ≡ length (path_text (drop depth path.now)) }
         requires mode { mode ≢ modes.Dir }
         ensures files { IsTrue (is_made result) → self.new.files ≡ grafted (drop depth path.now) (kept_map (file (mode, name.bytes))) self.old.files }
         ensures filled { IsTrue (is_made result) → self.new.files ≢ [] }
         ensures unchanged { IsFalse (is_made result) → self.new ≡ self.old }
         ensures home { KeepsHome self.old self.new }
     {
-        let is_put = put_in(&mut self.entries, alloc, path, depth, mode, name)?;
+        let is_put = put_in(&mut self.entries, alloc, path, depth, bytes, mode, name)?;
         if is_put {
             self.remembered = None;
+            self.reach = longer(self.reach, bytes);
         }
         Ok(is_put)
     }
@@ -113,10 +118,12 @@ fn put_in<A: Allocator + Copy>(
     alloc: A,
     path: &TreePath<A>,
     depth: usize,
+    bytes: usize,
     mode: Mode,
     name: Name,
 ) -> Result<bool, AllocError>
     requires within { depth < length path.now }
+    requires bytes { bytes ≡ length (path_text (drop depth path.now)) }
     requires mode { mode ≢ modes.Dir }
     requires level { IsLevel (seen_all entries.now.value.items) }
     ensures level { IsTrue (is_made result) → IsLevel (seen_all entries.new.value.items) }
@@ -129,7 +136,7 @@ fn put_in<A: Allocator + Copy>(
     let mark: &[u8] = if depth + 1 == length { b"" } else { b"/" };
     match place_marked(entries.as_slice(), component, mark) {
         Ok(place) => match Rc::get_mut(entries) {
-            Some(owned) => owned[place].item.put(alloc, path, depth, mode, name),
+            Some(owned) => owned[place].item.put(alloc, path, depth, bytes, mode, name),
             None => Ok(false),
         },
         Err(place) if depth + 1 == length => {
@@ -173,10 +180,12 @@ impl<A: Allocator + Copy> Item<A> {
         alloc: A,
         path: &TreePath<A>,
         depth: usize,
+        bytes: usize,
         mode: Mode,
         name: Name,
     ) -> Result<bool, AllocError>
         requires within { depth < length path.now }
+        requires bytes { bytes ≡ length (path_text (drop depth path.now)) }
         requires mode { mode ≢ modes.Dir }
         ensures kept { IsTrue (is_made result) → kept self.new ≡ kept_grafted (drop (depth + 1) path.now) (file (mode, name.bytes)) (Some (kept self.old)) }
         ensures mark { IsTrue (is_made result) → mark (kept self.new) ≡ mark (kept self.old) }
@@ -194,9 +203,21 @@ impl<A: Allocator + Copy> Item<A> {
                 Ok(is_last)
             }
             Item::Folder(_) if is_last => Ok(false),
-            Item::Folder(below) => below.put(alloc, path, depth + 1, mode, name),
+            Item::Folder(below) => {
+                let behind = bytes_behind(path, depth, bytes);
+                below.put(alloc, path, depth + 1, behind, mode, name)
+            }
         }
     }
+}
+
+// The bytes of the path behind the component at `depth`, where the path from it on has `bytes`.
+fn bytes_behind<A: Allocator + Copy>(path: &TreePath<A>, depth: usize, bytes: usize) -> usize
+    requires within { depth + 1 < length path.now }
+    requires bytes { bytes ≡ length (path_text (drop depth path.now)) }
+    ensures { result ≡ length (path_text (drop (depth + 1) path.now)) }
+{
+    bytes - path.component(depth).len() - 1
 }
 
 // What stands at the component at `depth` after an item was put at the path.

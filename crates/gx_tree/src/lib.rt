@@ -10,6 +10,7 @@ mod laws;
 mod listing;
 mod loading;
 mod path_tree;
+mod reach;
 mod root;
 mod search;
 mod writing;

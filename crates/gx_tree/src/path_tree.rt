@@ -184,7 +184,8 @@ impl<A: Allocator + Copy> PathTree<A> {
     ///
     /// `NoSuchPath` where no file stands at or below the source; then `RootNotTree` where a file would be the root; then
     /// `PathTooLong` where a path would have more than 4,095 bytes; then `OutOfMemory`. Each leaves the tree as it was.
-    /// Cost: as for `remove`; what is copied is shared, and its paths are looked at. Source: git-fast-import(1), "filecopy".
+    /// Cost: as for `remove`. What is copied is shared, and none of its paths is looked at, since each directory knows the
+    /// bytes of the longest below it. Source: git-fast-import(1), "filecopy".
     pub fn copy(&mut self, source: &TreePath<A>, destination: &TreePath<A>) -> Result<(), TreeFault>
         ensures map { Gives fault_of (λ _. self.new.files) result (copied self.old.files source.now destination.now) }
         ensures refused { Refuses (copied self.old.files source.now destination.now) result }
@@ -200,7 +201,8 @@ impl<A: Allocator + Copy> PathTree<A> {
     /// nothing.
     ///
     /// The errors are those of `copy`, in their order, and each leaves the tree as it was.
-    /// Cost: as for `remove`, twice. Source: git-fast-import(1), "filerename".
+    /// Cost: as for `remove`, twice. As for `copy`, no path below the source is looked at. Source: git-fast-import(1),
+    /// "filerename".
     pub fn rename(
         &mut self,
         source: &TreePath<A>,

@@ -153,7 +153,7 @@ impl<A: Allocator + Copy> Root<A> {
         ensures home { KeepsHome self.old self.new }
     {
         match &mut self.node {
-            Some(node) => node.put(alloc, path, 0, mode, name),
+            Some(node) => node.put(alloc, path, 0, path.joined().len(), mode, name),
             None => Ok(false),
         }
     }

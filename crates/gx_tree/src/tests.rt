@@ -6,6 +6,7 @@ use gx_text::TreePath;
 use std::alloc::{AllocError, Allocator};
 use std::test::Fail;
 
+mod doubled;
 mod in_place;
 mod large;
 mod refused;

@@ -60,6 +60,7 @@ impl<A: Allocator + Copy> Directory<A> {
         let directory = Directory {
             entries: below,
             remembered: Some(name),
+            reach: self.reach,
         };
         Ok((directory, name))
     }

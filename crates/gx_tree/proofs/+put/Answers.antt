@@ -1,15 +1,23 @@
 use Rattle.std.proofs.Common.{◌+◌, ◌<◌, drop, length, slice_set, Some, refl, sym, ap, ◌∙◌, arith, subst}
 use Rattle.std.proofs.lemmas.Bool.{and_parts}
 use Rattle.gx_tree.specs.Homes.{AreAtHome, IsItemAtHome}
-use Rattle.gx_tree.specs.Nodes.{file, folder, kept_map}
+use Rattle.gx_tree.specs.Nodes.{file, files, folder, kept_map}
 use Rattle.gx_tree.specs.Steps.{grafted, kept_grafted}
-use Rattle.gx_tree.specs.Views.{kept}
+use Rattle.gx_tree.specs.Views.{kept, seen_all}
 use Rattle.gx_tree.proofs.Below.{no_root_before}
 use Rattle.gx_tree.proofs.EditSteps.{kept_grafted_folder}
 use Rattle.gx_tree.proofs.Grafts.{grafted_some, kept_some}
 use Rattle.gx_tree.proofs.Homes.{all_at, entries_at_home, files_same, items_are_those, made_at_home}
 use Rattle.gx_tree.proofs.InPlace.{all_set, put_at, put_last}
+use Rattle.gx_tree.proofs.Rooms.{put_reach}
 use Rattle.gx_tree.proofs.+put.Goals as goal
+
+pub directory::Directory::put-invariant_of-self-then-is_put : goal.directory::Directory::put-invariant_of-self-then-is_put
+directory::Directory::put-invariant_of-self-then-is_put g t c = (
+  c.in_ok-is_put.ensures.level c.if-is_put.true,
+  tt,
+  put_reach c.self.inside.reach c.longer-self-inside.result c.args.bytes (drop c.args.depth c.args.path.now) (c.args.mode, c.args.name.bytes) (files (seen_all c.self.inside.entries.value.items)) (files (seen_all c.put_in.new.entries.value.items)) c.longer-self-inside.ensures (c.in_ok-is_put.ensures.files c.if-is_put.true) c.requires.bytes c.self.invariant.2,
+)
 
 pub directory::Directory::put-returns-then-is_put-clause-filled : goal.directory::Directory::put-returns-then-is_put-clause-filled
 directory::Directory::put-returns-then-is_put-clause-filled g t c = λ is none.

@@ -15,6 +15,7 @@ use Rattle.gx_store.specs.Stores.{Puts}
 use Rattle.gx_tree.specs.Homes.{AreAtHome, IsItemAtHome}
 use Rattle.gx_tree.specs.Named.{NamedTree, IsHome, own_name}
 use Rattle.gx_tree.specs.Nodes.{IsLevel, files}
+use Rattle.gx_tree.specs.Rooms.{IsReach}
 use Rattle.gx_tree.specs.StoreFaults.{tree_fault}
 use Rattle.gx_tree.specs.Views.{IsNamed, kept, seen, seen_all, Remembers}
 use Rattle.gx_tree.specs.Writes.{PutsAll, kept_leaf, kept_records}
@@ -127,7 +128,7 @@ directory::Directory::written-invariant_of-directory g t c =
     let es = c.self.inside.entries.value.items in
     let alike : seen_all c.in_ok-below.below.value.items ≡ seen_all es = of_chosen (λ xs. seen_all xs ≡ seen_all es) c.are_named-shares.result c.self.inside.entries.value c.loop-entry.named c.in_ok-below.below.value c.in_ok-below.ensures (λ t. refl) (λ f. alike_all es c.as_slice-entry-items.result.now c.loop-entry.entry-index c.loop-entry.named.items c.loop-entry-test.false (items_are_those c.as_slice-entry-items.ensures.value c.deref-3.ensures) (c.loop-entry.invariant.2 f).0) in
     let all_named : IsTrue c.are_named-shares.result → AllByRecursion (λ e. IsNamed c.args.trusts e.item) es = λ t. subst (AllByRecursion (λ e. IsNamed c.args.trusts e.item)) (items_are_those c.as_slice.ensures.value c.deref.ensures) (c.are_named-shares.ensures t) in
-    (subst IsLevel (sym alike) c.self.invariant.0, of_chosen (AllByRecursion (λ e. Remembers e.item)) c.are_named-shares.result c.self.inside.entries.value c.loop-entry.named c.in_ok-below.below.value c.in_ok-below.ensures (λ t. named_remember c.args.trusts es (all_named t)) (λ f. (c.loop-entry.invariant.2 f).2))
+    (subst IsLevel (sym alike) c.self.invariant.0, of_chosen (AllByRecursion (λ e. Remembers e.item)) c.are_named-shares.result c.self.inside.entries.value c.loop-entry.named c.in_ok-below.below.value c.in_ok-below.ensures (λ t. named_remember c.args.trusts es (all_named t)) (λ f. (c.loop-entry.invariant.2 f).2), subst (λ z. IsReach c.self.inside.reach (files z)) (sym alike) c.self.invariant.2)
 
 pub directory::Directory::written-returns-clause-files : goal.directory::Directory::written-returns-clause-files
 directory::Directory::written-returns-clause-files g t c =

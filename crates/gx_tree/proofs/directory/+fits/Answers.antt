@@ -1,12 +1,15 @@
 use Rattle.gx_tree.proofs.Homes.{items_are_those, files_same}
 use Rattle.std.proofs.Common.{◌&&◌, sym, ap, ◌∙◌}
 use Rattle.std.specs.List.{list_all}
-use Rattle.gx_tree.specs.Copies.{is_within}
+use Rattle.gx_tree.specs.Rooms.{is_within}
 use Rattle.gx_tree.specs.Nodes.{files}
 use Rattle.gx_tree.specs.Views.{seen_all}
 use Rattle.std.proofs.Common.{drop, ◌+◌}
 use Rattle.gx_tree.proofs.Rooms.{rest_within}
 use Rattle.gx_tree.proofs.directory.+fits.Goals as goal
+
+pub Directory::fits-returns-then-reaches_within : goal.Directory::fits-returns-then-reaches_within
+Directory::fits-returns-then-reaches_within g t c = sym (c.reaches_within.ensures c.if-reaches_within.true)
 
 pub Directory::fits-returns-then-not-fits : goal.Directory::fits-returns-then-not-fits
 Directory::fits-returns-then-not-fits g t c = sym (

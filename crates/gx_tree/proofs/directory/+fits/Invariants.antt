@@ -1,6 +1,6 @@
 use Rattle.std.proofs.Common.{◌≡◌, drop}
 use Rattle.std.specs.List.{list_all}
-use Rattle.gx_tree.specs.Copies.{is_within}
+use Rattle.gx_tree.specs.Rooms.{is_within}
 use Rattle.gx_tree.specs.Nodes.{files}
 use Rattle.gx_tree.specs.Views.{seen_all}
 use Rattle.gx_tree.proofs.directory.+fits.Given as goal

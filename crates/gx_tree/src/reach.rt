@@ -1,0 +1,61 @@
+//! How far the files of a directory reach: the bytes of the longest of their paths. Each directory keeps that number, so that
+//! whether a directory fits somewhere is asked of it, and not of each path below.
+ghost use Rattle.std.specs.Prelude.{◌≡◌, IfSome, IsTrue, length, max};
+ghost use Rattle.std.specs.List.{list_all};
+ghost use Rattle.std.specs.Option.{option_map};
+ghost use Rattle.gx_tree.specs.Nodes.{IsLevel, files};
+ghost use Rattle.gx_tree.specs.Rooms.{IsReach, is_within, kept_within};
+ghost use Rattle.gx_tree.specs.Views.{seen, seen_all};
+
+use crate::directory::{Directory, Entry, Item};
+use std::alloc::Allocator;
+
+impl<A: Allocator + Copy> Directory<A> {
+    /// Whether its reach tells that the paths of the files have at most `room` bytes.
+    pub(crate) fn reaches_within(&self, room: usize) -> bool
+        ensures { IsTrue result → IsTrue (list_all (is_within room) self.now.files) }
+    {
+        match self.reach() {
+            Some(reach) => reach <= room,
+            None => false,
+        }
+    }
+
+    fn reach(&self) -> Option<usize>
+        ensures { IsReach result self.now.files }
+    {
+        self.reach
+    }
+}
+
+/// The reach of the files below these entries, and none where it can't be counted.
+pub(crate) fn reach_of<A: Allocator + Copy>(entries: &[Entry<A>]) -> Option<usize>
+    requires { IsLevel (seen_all entries.now) }
+    ensures { IsReach result (files (seen_all entries.now)) }
+{
+    let mut longest: usize = 0;
+    for entry in entries {
+        longest = longest.max(entry.reach()?);
+    }
+    Some(longest)
+}
+
+impl<A: Allocator + Copy> Entry<A> {
+    // The reach of its file, or of the files below it.
+    fn reach(&self) -> Option<usize>
+        ensures { IfSome result (λ n. IsTrue (kept_within n (length (seen self.now).0) (seen self.now).1)) }
+    {
+        let used = self.component().len();
+        match &self.item {
+            Item::File(_, _) => Some(used),
+            Item::Folder(below) => below.reach()?.checked_add(used + 1),
+        }
+    }
+}
+
+/// A reach, once there is a path of so many bytes too.
+pub(crate) fn longer(reach: Option<usize>, bytes: usize) -> Option<usize>
+    ensures { result ≡ option_map (λ n. max n bytes) reach }
+{
+    Some(reach?.max(bytes))
+}

@@ -212,8 +212,8 @@ fn is_looked_up<A: Allocator + Copy>(
     let Ok(trip) = tripped_with_file(alloc, ODD, revision, path, &mut held, state) else {
         return Ok(false);
     };
-    match trip.file {
-        Ok((has, file)) => Ok(has == mode && file.as_slice() == bytes.as_bytes()),
+    match &trip.file {
+        Ok((has, file)) => Ok(*has == mode && file.as_slice() == bytes.as_bytes()),
         Err(_) => Ok(false),
     }
 }

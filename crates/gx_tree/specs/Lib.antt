@@ -13,3 +13,4 @@ pub mod StoreFaults
 pub mod Searches
 pub mod Named
 pub mod Homes
+pub mod Loaded

@@ -8,6 +8,7 @@ mod edits;
 mod fault;
 mod laws;
 mod listing;
+mod loaded;
 mod loading;
 mod path_tree;
 mod reach;

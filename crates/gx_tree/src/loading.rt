@@ -1,43 +1,51 @@
 //! Making a directory from the records of its trees.
-ghost use Rattle.std.specs.Prelude.{◌≡◌, ◌≢◌, IfOk, IsTrue, List, ℕ};
+ghost use Rattle.std.specs.Prelude.{◌≡◌, IfOk, OnOk, ℕ};
 ghost use Rattle.gx_model.specs.Files.{FileMap};
 ghost use Rattle.gx_model.specs.Texts.{Bytes};
 ghost use Rattle.gx_object.specs.Entries.{shown};
 ghost use Rattle.gx_tree.specs.Homes.{IsItemAtHome};
-ghost use Rattle.gx_tree.specs.Named.{IsAtHome, is_named};
 ghost use Rattle.gx_tree.specs.HeldTrees.{IsHeldEntry, IsHeldWithin};
-ghost use Rattle.gx_tree.specs.Nodes.{Kept, IsKept};
+ghost use Rattle.gx_tree.specs.Loaded.{AreLoaded, IsLoaded};
+ghost use Rattle.gx_tree.specs.Nodes.{Kept};
 ghost use Rattle.gx_tree.specs.Views.{kept, Remembers};
 ghost use Rattle.gx_tree.specs.Writes.{kept_leaf};
 
 use crate::directory::{Directory, Entry, Item};
+use crate::loaded::Loaded;
 use gx_object::{Mode, Name, Namer, held_tree};
 use gx_store::Store;
 use std::alloc::{AllocError, Allocator};
 
 impl<A: Allocator + Copy> Directory<A> {
-    /// The directory of a held tree, whose paths have at most `room` bytes.
+    /// The directory of a held tree, whose paths have at most `room` bytes. It is entered among those that are loaded, and
+    /// is the one that stands there already if its tree was met before.
     #[cycle(load)]
     pub(crate) fn load<N: Namer>(
         alloc: A,
         store: &Store<N, A>,
         name: &Name,
         room: usize,
+        loaded: &mut Loaded<A>,
     ) -> Result<Directory<A>, AllocError>
-        requires { (g : FileMap Bytes) × IsHeldWithin (N.name_of store.now.0) store.now.1 room name.now.bytes g }
-        ensures files { IfOk result (λ d. (g : FileMap Bytes) → IsHeldWithin (N.name_of store.now.0) store.now.1 room name.now.bytes g → d.files ≡ g) }
-        ensures home { IfOk result (IsAtHome (N.name_of store.now.0) store.now.1) }
-        ensures remembers { IfOk result (λ d. IsTrue (is_named d.names)) }
+        requires held { (g : FileMap Bytes) × IsHeldWithin (N.name_of store.now.0) store.now.1 room name.now.bytes g }
+        requires loaded { AreLoaded (N.name_of store.now.0) store.now.1 loaded.old }
+        ensures directory { IfOk result (IsLoaded (N.name_of store.now.0) store.now.1 name.now.bytes) }
+        ensures loaded { OnOk result (AreLoaded (N.name_of store.now.0) store.now.1 loaded.new) }
     {
+        if let Some(known) = loaded.of_tree(name)? {
+            return Ok(known);
+        }
         let Some((_, body)) = store.get(name) else {
             unreachable!();
         };
         let mut entries = Vec::new(alloc);
         for entry in held_tree(body) {
-            let item = Item::load(alloc, store, &entry, room)?;
+            let item = Item::load(alloc, store, &entry, room, loaded)?;
             entries.push(Entry::new(alloc, entry.component, item)?)?;
         }
-        Directory::of(alloc, entries, Some(*name))
+        let directory = Directory::of(alloc, entries, Some(*name))?;
+        loaded.enter(name, &directory)?;
+        Ok(directory)
     }
 }
 
@@ -49,11 +57,14 @@ impl<A: Allocator + Copy> Item<A> {
         store: &Store<N, A>,
         entry: &gx_object::Entry<'_>,
         room: usize,
+        loaded: &mut Loaded<A>,
     ) -> Result<Item<A>, AllocError>
-        requires { (k : Kept) × IsHeldEntry (N.name_of store.now.0) store.now.1 room (entry.now.component.now, k) × (kept_leaf (N.name_of store.now.0) k ≡ (entry.now.mode, entry.now.name.bytes)) }
+        requires held { (k : Kept) × IsHeldEntry (N.name_of store.now.0) store.now.1 room (entry.now.component.now, k) × (kept_leaf (N.name_of store.now.0) k ≡ (entry.now.mode, entry.now.name.bytes)) }
+        requires loaded { AreLoaded (N.name_of store.now.0) store.now.1 loaded.old }
         ensures home { IfOk result (IsItemAtHome (N.name_of store.now.0) store.now.1) }
         ensures remembers { IfOk result Remembers }
-        ensures kept { IfOk result (λ i. (k : Kept) → IsHeldEntry (N.name_of store.now.0) store.now.1 room (entry.now.component.now, k) → kept_leaf (N.name_of store.now.0) k ≡ (entry.now.mode, entry.now.name.bytes) → kept i ≡ k) }
+        ensures kept { IfOk result (λ i. (k : Kept) (most : ℕ) → IsHeldEntry (N.name_of store.now.0) store.now.1 most (entry.now.component.now, k) → kept_leaf (N.name_of store.now.0) k ≡ (entry.now.mode, entry.now.name.bytes) → kept i ≡ k) }
+        ensures loaded { OnOk result (AreLoaded (N.name_of store.now.0) store.now.1 loaded.new) }
     {
         if entry.mode != Mode::Dir {
             return Ok(Item::File(entry.mode, entry.name));
@@ -62,7 +73,7 @@ impl<A: Allocator + Copy> Item<A> {
         if used >= room {
             unreachable!();
         }
-        let below = Directory::load(alloc, store, &entry.name, room - used - 1)?;
+        let below = Directory::load(alloc, store, &entry.name, room - used - 1, loaded)?;
         Ok(Item::Folder(below))
     }
 }

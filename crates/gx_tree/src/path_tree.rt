@@ -23,6 +23,7 @@ ghost use Rattle.gx_tree.specs.declared.fault.TreeFault.TheVariants as faults;
 use crate::copying::{Held, MOST_BYTES};
 use crate::directory::{Directory, Item};
 use crate::fault::TreeFault;
+use crate::loaded::Loaded;
 use crate::root::Root;
 use gx_object::{Mode, Name, Namer};
 use gx_store::Store;
@@ -72,8 +73,9 @@ impl<A: Allocator + Copy> PathTree<A> {
     /// The files of a tree in the store, which holds the tree and all trees below it, as after `write`. What files and
     /// gitlinks name needn't be held. The one error is `OutOfMemory`.
     ///
-    /// Cost: the bytes of the trees, each read once, since what a store holds is canonical, and for each directory a
-    /// look-up in the store. Takes memory for the tree's entries and their components. Source: gitglossary(7), "tree object".
+    /// Cost: the bytes of the trees, each read once at however many paths it stands, since what a store holds is canonical;
+    /// for each directory a look-up in the store and the logarithm of the number of trees. Takes memory for the trees'
+    /// entries and their components. Source: gitglossary(7), "tree object".
     pub fn load<N: Namer>(
         alloc: A,
         store: &Store<N, A>,
@@ -83,7 +85,8 @@ impl<A: Allocator + Copy> PathTree<A> {
         ensures files { (g : FileMap Bytes) → IsHeldTree (N.name_of store.now.0) store.now.1 name.now.bytes g → Gives fault_of (λ tree. tree.files) result (Ok g) }
         ensures home { IfOk result (IsAtHome (N.name_of store.now.0) store.now.1) }
     {
-        let directory = Directory::load(alloc, store, name, MOST_BYTES)?;
+        let mut loaded = Loaded::new(alloc);
+        let directory = Directory::load(alloc, store, name, MOST_BYTES, &mut loaded)?;
         let root = Root::of(directory);
         Ok(PathTree { root, alloc })
     }

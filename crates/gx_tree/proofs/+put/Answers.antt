@@ -1,13 +1,13 @@
-use Rattle.std.proofs.Common.{◌+◌, ◌<◌, drop, length, slice_set, Some, refl, sym, ap, ◌∙◌, arith, subst}
+use Rattle.std.proofs.Common.{◌+◌, ◌<◌, drop, length, Some, refl, sym, ap, ◌∙◌, arith, subst}
 use Rattle.std.proofs.lemmas.Bool.{and_parts}
 use Rattle.gx_tree.specs.Homes.{AreAtHome, IsItemAtHome}
 use Rattle.gx_tree.specs.Nodes.{file, files, folder, kept_map}
-use Rattle.gx_tree.specs.Steps.{grafted, kept_grafted}
+use Rattle.gx_tree.specs.Steps.{kept_grafted}
 use Rattle.gx_tree.specs.Views.{kept, seen_all}
 use Rattle.gx_tree.proofs.Below.{no_root_before}
 use Rattle.gx_tree.proofs.EditSteps.{kept_grafted_folder}
 use Rattle.gx_tree.proofs.Grafts.{grafted_some, kept_some}
-use Rattle.gx_tree.proofs.Homes.{all_at, entries_at_home, files_same, items_are_those, made_at_home}
+use Rattle.gx_tree.proofs.Homes.{all_at, entries_at_home, items_are_those, made_at_home}
 use Rattle.gx_tree.proofs.InPlace.{all_set, put_at, put_last}
 use Rattle.gx_tree.proofs.Rooms.{put_reach}
 use Rattle.gx_tree.proofs.+put.Goals as goal

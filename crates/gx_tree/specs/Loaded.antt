@@ -1,0 +1,26 @@
+-- Directories that are made of held trees.
+use Rattle.std.specs.Prelude.{◌≡◌, List, Option, IfSome, IsTrue}
+use Rattle.std.specs.BTreeMap.{get}
+use Rattle.gx_model.specs.declared.objects.Kind.{Kind}
+use Rattle.gx_model.specs.Texts.{Bytes}
+use Rattle.gx_model.specs.Files.{FileMap}
+use Rattle.gx_model.specs.Histories.{Record}
+use Rattle.gx_model.specs.NameMaps.{IsHeldTree}
+use Rattle.gx_model.specs.Replay.{byte_cmp}
+use Rattle.gx_object.specs.declared.name.Name.{Name}
+use Rattle.gx_tree.specs.Named.{IsAtHome, NamedTree, is_named}
+use Rattle.gx_tree.specs.declared.loaded.Loaded.{Loaded}
+
+-- the directory that is entered for a tree's name
+abbrev pub directory_at : {A : Type 0} → Loaded A → Name → Option NamedTree
+directory_at loaded n = get (λ x y. byte_cmp x.bytes y.bytes) loaded.directories n
+
+-- d has the files of the held tree that n names, and remembers that name
+pub record IsLoaded (name : Kind → Bytes → Bytes) (rs : List Record) (n : Bytes) (d : NamedTree) : Type 0 where
+  pub files : (g : FileMap Bytes) → IsHeldTree name rs n g → d.files ≡ g
+  pub home : IsAtHome name rs d
+  pub remembers : IsTrue (is_named d.names)
+
+-- each directory is loaded from the tree whose name it is entered for
+abbrev pub AreLoaded : {A : Type 0} → (Kind → Bytes → Bytes) → List Record → Loaded A → Type 0
+AreLoaded name rs loaded = (n : Name) → IfSome (directory_at loaded n) (IsLoaded name rs n.bytes)

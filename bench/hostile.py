@@ -16,6 +16,7 @@ Streams:
   tags COUNT           so many tags of one commit
   rename LEVELS        20 commits, each of which renames the root's only directory into itself so often
   copies COMMITS       so many commits, each of which puts two copies of a directory in its place, and so doubles its paths
+  reload COMMITS       the same, and a branch from the commit before the last, at which no branch stands
   chain COMMITS        so many commits, one after the other
 
 Texts of stores:
@@ -133,13 +134,19 @@ def copies(size):
         yield commit(1 + number) + b'C a b/x\nC a b/y\nR b a\n'
 
 
+def reload(size):
+    yield from copies(size)
+    yield commit(2 + size) + b'M 100644 inline c\n' + block(b'last')
+    yield commit(3 + size, b'refs/heads/again') + b'from :%d\nM 100644 inline d\n' % (1 + size) + block(b'again')
+
+
 def claimed(size):
     yield b'gxstore 1\nobjects %d\n' % size
     for number in range(10):
         yield b'blob 1\n%d\n' % number
 
 
-KINDS = [line, progress, marks, changes, directory, deep, swap, resets, parents, tags, rename, copies, chain, claimed]
+KINDS = [line, progress, marks, changes, directory, deep, swap, resets, parents, tags, rename, copies, reload, chain, claimed]
 
 kind, size = sys.argv[1:]
 write_all({made.__name__: made for made in KINDS}[kind](int(size)))

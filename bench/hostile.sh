@@ -23,9 +23,9 @@ missed=0
 
 declare -A sizes=(
   [line]=100000000 [progress]=10000000 [marks]=1000000 [changes]=1000000 [directory]=100000 [deep]=1000 [swap]=10000
-  [resets]=100000 [parents]=10000 [tags]=100000 [rename]=1000 [walk]=10000 [claimed]=1000000
+  [resets]=100000 [parents]=10000 [tags]=100000 [rename]=1000 [copies]=20 [reload]=20 [walk]=10000 [claimed]=1000000
 )
-all=(line progress marks changes directory deep swap resets parents tags rename walk claimed stack)
+all=(line progress marks changes directory deep swap resets parents tags rename copies reload walk claimed stack)
 
 # before each run: an empty store, and a new repository of git's
 # shellcheck disable=SC2317  # called by their names

@@ -19,6 +19,3 @@ mod writing;
 pub use fault::TreeFault;
 pub use laws::records_keep_home;
 pub use path_tree::{Found, PathTree};
-
-#[cfg(test)]
-mod tests;

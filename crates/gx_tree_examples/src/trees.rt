@@ -1,8 +1,8 @@
-use super::*;
 use gx_object::{Kind, Mode, Name, Namer, Sha1Namer, ShortNamer};
 use gx_refusing::Refusing;
 use gx_store::Store;
 use gx_text::TreePath;
+use gx_tree::{Found, PathTree, TreeFault};
 use std::alloc::{AllocError, Allocator};
 use std::test::Fail;
 

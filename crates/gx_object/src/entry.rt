@@ -1,10 +1,10 @@
 //! The entries of trees, one by one.
 
-ghost use Rattle.std.specs.Prelude.{◌≡◌, ◌++◌, length, IsTrue, OnOk};
+ghost use Rattle.std.specs.Prelude.{◌≡◌, ◌+◌, ◌≤◌, ◌++◌, ◌∷◌, [], length, vec_capacity, vec_len, IsTrue, OnErr, OnOk};
 ghost use Rattle.std.specs.Option.{option_map};
 ghost use Rattle.gx_model.specs.Objects.{entry_text, is_name, mode_text};
 ghost use Rattle.gx_object.specs.Trees.{entry_at, mode_of};
-ghost use Rattle.gx_object.specs.Entries.{shown};
+ghost use Rattle.gx_object.specs.Entries.{entry_of, shown};
 
 use crate::{Mode, Name};
 use gx_text::cut;
@@ -38,40 +38,65 @@ pub(crate) fn first_entry(bytes: &[u8]) -> Option<(Entry<'_>, &[u8])>
     ))
 }
 
-/// Appends the text of an entry.
-pub(crate) fn append_entry<A: Allocator + Copy>(
+/// Appends the text of an entry, or nothing where the growth is refused.
+///
+/// Cost: the text's length. Takes memory only where the buffer has no room for the text.
+pub fn append_entry<A: Allocator + Copy>(
     body: &mut Vec<u8, A>,
-    entry: &Entry<'_>,
+    mode: Mode,
+    component: &[u8],
+    name: &Name,
 ) -> Result<(), AllocError>
-    ensures text { OnOk result (body.new.items ≡ body.old.items ++ entry_text (shown entry.now)) }
-    ensures name { OnOk result (IsTrue (is_name entry.now.name.bytes)) }
+    ensures text { OnOk result (body.new.items ≡ body.old.items ++ entry_text (entry_of mode component.now name.now)) }
+    ensures unchanged { OnErr result (body.new.items ≡ body.old.items) }
+    ensures name { OnOk result (IsTrue (is_name name.now.bytes)) }
 {
-    body.extend_from_slice(mode_digits(entry.mode))?;
-    body.push(b' ')?;
-    body.extend_from_slice(entry.component)?;
-    body.push(0)?;
-    append_name(body, entry.name.bytes.as_slice())
+    body.reserve(component.len() + MOST_AROUND)?;
+    append_mode(body, mode);
+    append_within(body, component);
+    body.push_reserved(0);
+    append_name(body, name.bytes.as_slice());
+    Ok(())
 }
 
-fn append_name<A: Allocator + Copy>(body: &mut Vec<u8, A>, name: &[u8]) -> Result<(), AllocError>
-    requires { length name.now ≡ 20 }
-    ensures text { OnOk result (body.new.items ≡ body.old.items ++ name.now) }
-    ensures name { IsTrue (is_name name.now) }
-{
-    body.extend_from_slice(name)
-}
+// The bytes of an entry beside its component, at most: the mode and its space, the NUL and the name.
+const MOST_AROUND: usize = 28;
 
-/// The mode in octal, without leading zeros.
-fn mode_digits(mode: Mode) -> &'static [u8]
-    ensures { result.now ≡ mode_text mode }
+/// Appends the mode in octal, without leading zeros, and a space.
+fn append_mode<A: Allocator + Copy>(body: &mut Vec<u8, A>, mode: Mode)
+    requires room { vec_len body.old + 7 ≤ vec_capacity body.old }
+    ensures text { body.new.items ≡ body.old.items ++ (mode_text mode ++ (32 ∷ [])) }
+    ensures len { vec_len body.new ≤ vec_len body.old + 7 }
+    ensures capacity { vec_capacity body.old ≤ vec_capacity body.new }
 {
     match mode {
-        Mode::File => b"100644",
-        Mode::Exec => b"100755",
-        Mode::Link => b"120000",
-        Mode::Gitlink => b"160000",
-        Mode::Dir => b"40000",
+        Mode::File => append_within(body, b"100644 "),
+        Mode::Exec => append_within(body, b"100755 "),
+        Mode::Link => append_within(body, b"120000 "),
+        Mode::Gitlink => append_within(body, b"160000 "),
+        Mode::Dir => append_within(body, b"40000 "),
     }
+}
+
+fn append_name<A: Allocator + Copy>(body: &mut Vec<u8, A>, name: &[u8])
+    requires length { length name.now ≡ 20 }
+    requires room { vec_len body.old + 20 ≤ vec_capacity body.old }
+    ensures text { body.new.items ≡ body.old.items ++ name.now }
+    ensures name { IsTrue (is_name name.now) }
+{
+    append_within(body, name);
+}
+
+/// Appends bytes for which there is room.
+fn append_within<A: Allocator + Copy>(body: &mut Vec<u8, A>, bytes: &[u8])
+    requires room { vec_len body.old + length bytes.now ≤ vec_capacity body.old }
+    ensures text { body.new.items ≡ body.old.items ++ bytes.now }
+    ensures len { vec_len body.new ≡ vec_len body.old + length bytes.now }
+    ensures capacity { vec_capacity body.old ≤ vec_capacity body.new }
+{
+    let Ok(()) = body.extend_from_slice(bytes) else {
+        unreachable!();
+    };
 }
 
 fn read_mode(digits: &[u8]) -> Option<Mode>

@@ -13,7 +13,7 @@ mod tag;
 mod tree;
 
 pub use commit::{CommitParts, CommitView, decode_commit, encode_commit};
-pub use entry::Entry;
+pub use entry::{Entry, append_entry};
 pub use fault::BadObject;
 pub use gx_model::{Kind, Mode};
 pub use name::Name;

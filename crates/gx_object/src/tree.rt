@@ -42,7 +42,7 @@ pub fn encode_tree_into<A: Allocator + Copy>(
 {
     body.clear();
     for entry in entries {
-        append_entry(body, entry)?;
+        append_entry(body, entry.mode, entry.component, &entry.name)?;
     }
     Ok(())
 }

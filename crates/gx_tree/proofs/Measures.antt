@@ -28,11 +28,11 @@ folder_less es xs i r g b l ir ex view h ek eb =
 -- how far down an item may still be written
 abbrev pub item_measure : {A : Type 0} → Item A → ℕ
 item_measure (File m n) = 0
-item_measure (Folder d) = 3 * components d.files + 4
+item_measure (Folder d) = 4 * components d.files + 4
 
-item_less_by : {A : Type 0} {f : FileMap Bytes} (es xs : List (Entry A)) (i : ℕ) (r : Entry A) (item : Item A) → r.item ≡ item → i < length xs → r ≡ get_or xs i r → xs ≡ es → files (seen_all es) ≡ f → IsLevel (seen_all es) → item_measure item < 3 * components f + 2
+item_less_by : {A : Type 0} {f : FileMap Bytes} (es xs : List (Entry A)) (i : ℕ) (r : Entry A) (item : Item A) → r.item ≡ item → i < length xs → r ≡ get_or xs i r → xs ≡ es → files (seen_all es) ≡ f → IsLevel (seen_all es) → item_measure item < 4 * components f + 1
 item_less_by es xs i r (File m n) e l ir ex view h = omega arith
 item_less_by es xs i r (Folder d) e l ir ex view h = omega (arith, folder_less es xs i r d.files d.files l ir ex view h (ap kept e) refl)
 
-pub item_less : {A : Type 0} {f : FileMap Bytes} (es xs : List (Entry A)) (i : ℕ) (r : Entry A) → i < length xs → r ≡ get_or xs i r → xs ≡ es → files (seen_all es) ≡ f → IsLevel (seen_all es) → item_measure r.item < 3 * components f + 2
+pub item_less : {A : Type 0} {f : FileMap Bytes} (es xs : List (Entry A)) (i : ℕ) (r : Entry A) → i < length xs → r ≡ get_or xs i r → xs ≡ es → files (seen_all es) ≡ f → IsLevel (seen_all es) → item_measure r.item < 4 * components f + 1
 item_less es xs i r l ir ex view h = item_less_by es xs i r r.item refl l ir ex view h

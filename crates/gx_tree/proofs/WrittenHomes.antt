@@ -1,10 +1,12 @@
 -- Directories that are at home while trees are written.
-use Rattle.std.proofs.Common.{Vec, ◌≡◌, ℕ, ◌+◌, ◌<◌, zero, suc, Bool, true, false, cond, inl, inr, arith, get_or, List, [], ◌∷◌, take, length, Some, None, refl, sym, ap, ◌∙◌, subst}
-use Rattle.std.specs.Prelude.{IsTrue, if◌then◌else◌}
+use Rattle.std.proofs.Common.{◌≡◌, ℕ, ◌+◌, ◌<◌, zero, suc, Bool, true, cond, arith, get_or, List, [], ◌∷◌, ◌++◌, map, take, length, Option, Some, None, refl, ap, ◌∙◌, subst}
+use Rattle.std.specs.Prelude.{IsTrue}
+use Rattle.std.specs.Option.{is_some, unwrap_or}
 use Rattle.std.specs.List.{AllByRecursion}
-use Rattle.std.proofs.lemmas.Bool.{cases_Bool}
+use Rattle.std.proofs.lemmas.Bool.{false≢true}
 use Rattle.gx_model.specs.declared.objects.Kind.{Kind}
 use Rattle.gx_model.specs.declared.objects.Kind.TheVariants.{Blob, Tree, Commit, Tag}
+use Rattle.gx_model.specs.declared.objects.Mode.TheVariants.{Dir}
 use Rattle.gx_model.specs.Texts.{Bytes}
 use Rattle.gx_model.specs.Paths.{Path}
 use Rattle.gx_model.specs.Edits.{is_root}
@@ -13,11 +15,14 @@ use Rattle.gx_model.specs.Histories.{Record}
 use Rattle.gx_model.specs.Growth.{and_some, put, put_all, put_under, record_named, same_kind, same_object, tree_records}
 use Rattle.gx_tree.specs.Homes.{AreAtHome, IsItemAtHome}
 use Rattle.gx_tree.specs.Named.{NamedTree, IsAtHome, IsHome, own_name}
-use Rattle.gx_tree.specs.Views.{IsNamed, Remembers}
+use Rattle.gx_tree.specs.Writes.{kept_leaf, kept_records, level_records}
+use Rattle.gx_tree.specs.Views.{IsNamed, RememberAll, Remembers, item_names, kept, names_below, own_entry, own_leaf, seen_all}
 use Rattle.gx_tree.specs.declared.directory.Item.{Item}
 use Rattle.gx_tree.specs.declared.directory.Item.TheVariants.{File, Folder}
 use Rattle.gx_tree.specs.declared.directory.Entry.{Entry}
 use Rattle.gx_tree.proofs.Below.{sub_map-whole}
+use Rattle.gx_tree.proofs.Homes.{all_joined}
+use Rattle.gx_tree.proofs.TreeRecords.{kept_entry}
 use Rattle.gx_tree.proofs.Texts.{same_itself}
 
 -- ---- more records
@@ -106,8 +111,43 @@ module _ (name : Kind → Bytes → Bytes) (rs : List Record) where
   named_home trusts [] h k = tt
   named_home trusts (e ∷ es) h k = (named_item trusts e.item h.0 (λ t. (k t).0), named_home trusts es h.1 (λ t. (k t).1))
 
-pub of_chosen : {X A : Type 0} (P : List X → Type 0) (shares : Bool) (old new out : Vec X A) → out ≡ (if shares then old else new) → (shares ≡ true → P old.items) → (shares ≡ false → P new.items) → P out.items
-of_chosen P shares old new out e p q = elim (cases_Bool shares) [
-  | inl t ↦ let is : out ≡ old = rw t at e in subst (λ v. P v.items) (sym is) (p t)
-  | inr f ↦ let is : out ≡ new = rw f at e in subst (λ v. P v.items) (sym is) (q f)
-]
+-- ---- entries that remember their names
+
+own_none : (c : Bytes) (names more : List (Path × Bytes)) → own_name more ≡ None → own_name (map (λ e. (c ∷ e.0, e.1)) names ++ more) ≡ None
+own_none c [] more h = h
+own_none c (e ∷ names) more h = refl
+
+own_none-item : {A : Type 0} (c : Bytes) (i : Item A) (more : List (Path × Bytes)) → own_name more ≡ None → own_name (item_names c i ++ more) ≡ None
+own_none-item c (File m n) more h = h
+own_none-item c (Folder d) more h = own_none c d.names more h
+
+-- what stands below entries is no name of the whole
+pub own_none-below : {A : Type 0} (es : List (Entry A)) → own_name (names_below es) ≡ None
+own_none-below [] = refl
+own_none-below (e ∷ es) = own_none-item e.component.value.items e.item (names_below es) (own_none-below es)
+
+module _ (name : Kind → Bytes → Bytes) (rs : List Record) where
+  named_by : (d : NamedTree) (o : Option Bytes) → own_name d.names ≡ o → IsTrue (is_some o) → IsAtHome name rs d → IsHome name rs (unwrap_or o []) d.files
+  named_by d None e k h = absurd (false≢true k)
+  named_by d (Some n) e k h = own_home name rs d n e h
+
+  own_leaf-is : {A : Type 0} (i : Item A) → IsItemAtHome name rs i → Remembers i → own_leaf i ≡ kept_leaf name (kept i)
+  own_leaf-is (File m n) h k = refl
+  own_leaf-is (Folder d) h k = ap (λ n. (Dir, n)) (named_by d (own_name d.names) refl k h).named
+
+  -- they are the entries of the tree
+  pub own_entries : {A : Type 0} (es : List (Entry A)) → AreAtHome name rs es → RememberAll es → map own_entry es ≡ map (kept_entry name) (seen_all es)
+  own_entries [] h k = refl
+  own_entries (e ∷ es) h k =
+      let leaf = own_leaf-is e.item h.0 k.0 in
+      let rest = own_entries es h.1 k.1 in
+      λ i. record { mode = (leaf i).0; component = e.component.value.items; name = (leaf i).1 } ∷ rest i
+
+  records_held : {A : Type 0} (i : Item A) → IsItemAtHome name rs i → Remembers i → AllByRecursion (λ r. record_named rs r.name ≡ Some r) (kept_records name (kept i))
+  records_held (File m n) h k = tt
+  records_held (Folder d) h k = (named_by d (own_name d.names) refl k h).held
+
+  -- the trees below them are held
+  pub below_held : {A : Type 0} (es : List (Entry A)) → AreAtHome name rs es → RememberAll es → AllByRecursion (λ r. record_named rs r.name ≡ Some r) (level_records name (seen_all es))
+  below_held [] h k = tt
+  below_held (e ∷ es) h k = all_joined (λ r. record_named rs r.name ≡ Some r) (kept_records name (kept e.item)) (level_records name (seen_all es)) (records_held e.item h.0 k.0) (below_held es h.1 k.1)

@@ -1,12 +1,15 @@
 -- What the fields of a directory are seen as.
 use Rattle.std.specs.Prelude.{◌≢◌, Bool, List, [], ◌∷◌, map, Option, Some, None, IsTrue, ⊤}
 use Rattle.std.specs.List.{flat_map, AllByRecursion}
+use Rattle.std.specs.Option.{unwrap_or}
 use Rattle.std.specs.Borrow.{Bor}
 use Rattle.gx_model.specs.Texts.{Bytes}
-use Rattle.gx_model.specs.Files.{FileMap}
+use Rattle.gx_model.specs.declared.objects.Mode.TheVariants.{Dir}
+use Rattle.gx_model.specs.Files.{FileMap, Leaf}
+use Rattle.gx_model.specs.Objects.{Entry as TreeEntry}
 use Rattle.gx_model.specs.Paths.{Path}
 use Rattle.gx_object.specs.declared.name.Name.{Name}
-use Rattle.gx_tree.specs.Named.{NamedTree, is_named, nothing}
+use Rattle.gx_tree.specs.Named.{NamedTree, is_named, nothing, own_name}
 use Rattle.gx_tree.specs.Nodes.{Kept, Level, file, files, folder}
 use Rattle.gx_tree.specs.declared.directory.Item.{Item}
 use Rattle.gx_tree.specs.declared.directory.Item.TheVariants.{File, Folder}
@@ -67,10 +70,22 @@ abbrev pub Remembers : {A : Type 0} → Item A → Type 0
 Remembers (File m n) = ⊤
 Remembers (Folder d) = IsTrue (is_named d.names)
 
+-- all directories among the entries remember theirs
+abbrev pub RememberAll : {A : Type 0} → List (Entry A) → Type 0
+RememberAll es = AllByRecursion (λ e. Remembers e.item) es
+
+-- an entry of a tree, by the name that it remembers
+abbrev pub own_leaf : {A : Type 0} → Item A → Leaf Bytes
+own_leaf (File m n) = (m, n.bytes)
+own_leaf (Folder d) = (Dir, unwrap_or (own_name d.names) [])
+
+abbrev pub own_entry : {A : Type 0} → Entry A → TreeEntry
+own_entry e = record { mode = (own_leaf e.item).0; component = e.component.value.items; name = (own_leaf e.item).1 }
+
 -- where a name is remembered, all directories below remember theirs
 abbrev pub RemembersBelow : {A : Type 0} → Option Name → List (Entry A) → Type 0
 RemembersBelow None es = ⊤
-RemembersBelow (Some n) es = AllByRecursion (λ e. Remembers e.item) es
+RemembersBelow (Some n) es = RememberAll es
 
 -- a file, or a directory with a remembered name, where such names are trusted
 abbrev pub IsNamed : {A : Type 0} → Bool → Item A → Type 0

@@ -1,5 +1,6 @@
 -- What writing a tree puts into a store.
 use Rattle.std.specs.Prelude.{◌≡◌, List, [], Some, None, Result, Ok, Err, ⊤}
+use Rattle.std.specs.List.{flat_map}
 use Rattle.gx_model.specs.declared.objects.Kind.{Kind}
 use Rattle.gx_model.specs.declared.objects.Kind.TheVariants as kind
 use Rattle.gx_model.specs.declared.objects.Mode.TheVariants.{Dir}
@@ -8,7 +9,7 @@ use Rattle.gx_model.specs.Files.{FileMap, Leaf}
 use Rattle.gx_model.specs.Records.{tree_body}
 use Rattle.gx_model.specs.Histories.{Record}
 use Rattle.gx_model.specs.Growth.{put_all, tree_records}
-use Rattle.gx_tree.specs.Nodes.{Kept, file, folder}
+use Rattle.gx_tree.specs.Nodes.{Kept, Level, file, folder}
 use Rattle.gx_tree.specs.declared.fault.TreeFault.{TreeFault}
 use Rattle.gx_tree.specs.declared.fault.TreeFault.TheVariants.{OutOfMemory, NameHeld}
 
@@ -26,6 +27,10 @@ module _ (name : Kind → Bytes → Bytes) where
   abbrev pub kept_records : Kept → List Record
   kept_records (file x) = []
   kept_records (folder g) = tree_records name g
+
+  -- the records of the trees below a directory's entries
+  abbrev pub level_records : Level → List Record
+  level_records = flat_map (λ e. kept_records e.1)
 
 -- these records are put, or one of them has the name of another
 abbrev pub PutsAll : {Y : Type 0} → List Record → List Record → List Record → Result Y TreeFault → Type 0

@@ -1,23 +1,25 @@
 //! Writing a directory's trees: those below it first, in the order of its entries, and then its own. What is written
 //! comes back with the names remembered, and has the old entries where no directory among them gets a name.
-ghost use Rattle.std.specs.Prelude.{◌≡◌, IfOk, IfSome, IsTrue, Some, if◌then◌else◌, length, take};
+ghost use Rattle.std.specs.Prelude.{◌≡◌, ◌++◌, IfOk, IfSome, IsTrue, OnOk, Some, length, map, take};
 ghost use Rattle.gx_model.specs.Growth.{tree_records};
-ghost use Rattle.gx_tree.specs.Homes.{IsItemAtHome};
+ghost use Rattle.gx_model.specs.Objects.{entry_text, tree_text};
+ghost use Rattle.gx_tree.specs.Homes.{AreAtHome, IsItemAtHome};
 ghost use Rattle.gx_tree.specs.Named.{IsAtHome, is_named, own_name};
-ghost use Rattle.gx_tree.specs.Views.{IsNamed, kept, seen, Remembers};
+ghost use Rattle.gx_tree.specs.Nodes.{IsLevel};
+ghost use Rattle.gx_tree.specs.Views.{IsNamed, kept, own_entry, seen, seen_all, RememberAll, Remembers};
 ghost use Rattle.std.specs.List.{AllByRecursion};
-ghost use Rattle.gx_tree.specs.Writes.{PutsAll, kept_leaf, kept_records, map_name};
+ghost use Rattle.gx_tree.specs.Writes.{PutsAll, kept_records, level_records, map_name};
 
 use crate::directory::{Directory, Entry, Item};
 use crate::fault::TreeFault;
-use gx_object::{Kind, Mode, Name, Namer, encode_tree_into};
+use gx_object::{Kind, Mode, Name, Namer, append_entry};
 use gx_store::Store;
 use std::alloc::{AllocError, Allocator};
 use std::rc::Rc;
 
 impl<A: Allocator + Copy> Directory<A> {
     /// Puts the trees at and below the directory, and answers it with their names, and the name of its own. Each body is
-    /// made in the one buffer, once those below are put.
+    /// made in the one buffer straight from the entries, once those below are put.
     #[cycle(write)]
     pub(crate) fn written<N: Namer>(
         &self,
@@ -35,27 +37,8 @@ impl<A: Allocator + Copy> Directory<A> {
         ensures home { IfOk result (λ made. IsAtHome (N.name_of store.old.0) store.new.1 made.0) }
         ensures remembers { IfOk result (λ made. IsTrue (is_named made.0.names)) }
     {
-        let shares = are_named(self.entries.as_slice(), trusts);
-        let mut named = Vec::new(alloc);
-        let mut entries = Vec::with_capacity(alloc, self.entries.len())?;
-        for entry in self.entries.as_slice() {
-            let (item, mode, name) = entry.item.written(alloc, store, body, trusts)?;
-            let component = entry.component();
-            let Ok(()) = entries.push(gx_object::Entry {
-                mode,
-                component,
-                name,
-            }) else {
-                return Err(TreeFault::OutOfMemory);
-            };
-            if !shares {
-                let Ok(()) = named.push(entry.with(item)?) else {
-                    return Err(TreeFault::OutOfMemory);
-                };
-            }
-        }
-        encode_tree_into(body, &entries)?;
-        let below = chosen(alloc, shares, &self.entries, named)?;
+        let below = written_entries(alloc, &self.entries, store, body, trusts)?;
+        encode_entries(body, below.as_slice())?;
         let name = store.put(Kind::Tree, body.as_slice())?;
         let directory = Directory {
             entries: below,
@@ -63,6 +46,17 @@ impl<A: Allocator + Copy> Directory<A> {
             reach: self.reach,
         };
         Ok((directory, name))
+    }
+
+    // The name of its tree, which it remembers.
+    fn tree_name(&self) -> &Name
+        requires { IsTrue (is_named self.now.names) }
+        ensures { own_name self.now.names ≡ Some result.now.bytes }
+    {
+        match &self.remembered {
+            Some(name) => name,
+            None => unreachable!(),
+        }
     }
 
     // The name of its tree, where that is remembered.
@@ -85,20 +79,54 @@ fn are_named<A: Allocator + Copy>(entries: &[Entry<A>], trusts: bool) -> bool
     true
 }
 
-// The old entries, or the new ones.
-fn chosen<A: Allocator + Copy>(
+// Puts the trees below these entries, and answers the entries with the names: the old ones, where none gets a name.
+#[cycle(write)]
+fn written_entries<A: Allocator + Copy, N: Namer>(
     alloc: A,
-    shares: bool,
-    old: &Rc<Vec<Entry<A>, A>, A>,
-    new: Vec<Entry<A>, A>,
-) -> Result<Rc<Vec<Entry<A>, A>, A>, AllocError>
-    ensures { IfOk result (λ es. es.value ≡ (if shares then old.now.value else new)) }
+    entries: &Rc<Vec<Entry<A>, A>, A>,
+    store: &mut Store<N, A>,
+    body: &mut Vec<u8, A>,
+    trusts: bool,
+) -> Result<Rc<Vec<Entry<A>, A>, A>, TreeFault>
+    requires level { IsLevel (seen_all entries.now.value.items) }
+    requires home { IsTrue trusts → AreAtHome (N.name_of store.now.0) store.now.1 entries.now.value.items }
+    ensures namer { store.new.0 ≡ store.old.0 }
+    ensures puts { PutsAll (level_records (N.name_of store.old.0) (seen_all entries.now.value.items)) store.old.1 store.new.1 result }
+    ensures front { take (length store.old.1) store.new.1 ≡ store.old.1 }
+    ensures seen { IfOk result (λ es. seen_all es.value.items ≡ seen_all entries.now.value.items) }
+    ensures home { IfOk result (λ es. AreAtHome (N.name_of store.old.0) store.new.1 es.value.items) }
+    ensures remember { IfOk result (λ es. RememberAll es.value.items) }
 {
+    let shares = are_named(entries.as_slice(), trusts);
     if shares {
-        Ok(old.clone()?)
-    } else {
-        Ok(Rc::new(alloc, new)?)
+        return Ok(entries.clone()?);
     }
+    let mut named = Vec::with_capacity(alloc, entries.len())?;
+    for entry in entries.as_slice() {
+        let item = entry.item.written(alloc, store, body, trusts)?;
+        let Ok(()) = named.push(entry.with(item)?) else {
+            return Err(TreeFault::OutOfMemory);
+        };
+    }
+    let Ok(named) = Rc::new(alloc, named) else {
+        return Err(TreeFault::OutOfMemory);
+    };
+    Ok(named)
+}
+
+// Makes the buffer the body of the tree of entries that remember their names.
+fn encode_entries<A: Allocator + Copy>(
+    body: &mut Vec<u8, A>,
+    entries: &[Entry<A>],
+) -> Result<(), AllocError>
+    requires { RememberAll entries.now }
+    ensures { OnOk result (body.new.items ≡ tree_text (map own_entry entries.now)) }
+{
+    body.clear();
+    for entry in entries {
+        entry.append_to(body)?;
+    }
+    Ok(())
 }
 
 impl<A: Allocator + Copy> Entry<A> {
@@ -109,6 +137,19 @@ impl<A: Allocator + Copy> Entry<A> {
     {
         let component = self.component.clone()?;
         Ok(Entry { component, item })
+    }
+
+    // Appends its text, by the name that it remembers.
+    fn append_to(&self, body: &mut Vec<u8, A>) -> Result<(), AllocError>
+        requires { Remembers self.now.item }
+        ensures { OnOk result (body.new.items ≡ body.old.items ++ entry_text (own_entry self.now)) }
+    {
+        match &self.item {
+            Item::File(mode, name) => append_entry(body, *mode, self.component(), name),
+            Item::Folder(below) => {
+                append_entry(body, Mode::Dir, self.component(), below.tree_name())
+            }
+        }
     }
 }
 
@@ -123,7 +164,7 @@ impl<A: Allocator + Copy> Item<A> {
         }
     }
 
-    // Puts the trees of a directory, and answers it with their names, and what an entry is and names.
+    // Puts the trees of a directory, and answers it with their names.
     #[cycle(write)]
     fn written<N: Namer>(
         &self,
@@ -131,21 +172,20 @@ impl<A: Allocator + Copy> Item<A> {
         store: &mut Store<N, A>,
         body: &mut Vec<u8, A>,
         trusts: bool,
-    ) -> Result<(Item<A>, Mode, Name), TreeFault>
+    ) -> Result<Item<A>, TreeFault>
         requires home { IsTrue trusts → IsItemAtHome (N.name_of store.now.0) store.now.1 self.now }
         ensures namer { store.new.0 ≡ store.old.0 }
-        ensures leaf { IfOk result (λ made. (made.1, made.2.bytes) ≡ kept_leaf (N.name_of store.old.0) (kept self.now)) }
         ensures puts { PutsAll (kept_records (N.name_of store.old.0) (kept self.now)) store.old.1 store.new.1 result }
         ensures front { take (length store.old.1) store.new.1 ≡ store.old.1 }
-        ensures kept { IfOk result (λ made. kept made.0 ≡ kept self.now) }
-        ensures home { IfOk result (λ made. IsItemAtHome (N.name_of store.old.0) store.new.1 made.0) }
-        ensures remembers { IfOk result (λ made. Remembers made.0) }
+        ensures kept { IfOk result (λ made. kept made ≡ kept self.now) }
+        ensures home { IfOk result (λ made. IsItemAtHome (N.name_of store.old.0) store.new.1 made) }
+        ensures remembers { IfOk result Remembers }
     {
         match self {
-            Item::File(mode, name) => Ok((Item::File(*mode, *name), *mode, *name)),
+            Item::File(mode, name) => Ok(Item::File(*mode, *name)),
             Item::Folder(below) => {
-                let (node, name) = written_node(alloc, below, store, body, trusts)?;
-                Ok((Item::Folder(node), Mode::Dir, name))
+                let (node, _name) = written_node(alloc, below, store, body, trusts)?;
+                Ok(Item::Folder(node))
             }
         }
     }

@@ -1,24 +1,27 @@
-use Rattle.std.proofs.Common.{◌≡◌, false, ◌+◌, ◌*◌, ◌++◌, drop, map}
-use Rattle.std.specs.List.{AllByRecursion}
-use Rattle.gx_object.specs.Entries.{shown}
+use Rattle.std.proofs.Common.{◌≡◌, ◌+◌, ◌*◌, ◌++◌, drop}
 use Rattle.gx_tree.specs.Homes.{AreAtHome}
-use Rattle.gx_tree.specs.Nodes.{components}
-use Rattle.gx_tree.specs.Views.{seen_all, Remembers}
+use Rattle.gx_tree.specs.Nodes.{components, files}
+use Rattle.gx_tree.specs.Views.{seen_all, RememberAll}
 use Rattle.gx_tree.proofs.Measures.{item_measure}
 use Rattle.gx_tree.proofs.WrittenRecords.{IsWriting}
 use Rattle.gx_tree.proofs.+write.Given as goal
 
-abbrev pub invariant-directory::Directory::written-loop-entry : goal.invariant-directory::Directory::written-loop-entry
-invariant-directory::Directory::written-loop-entry g l =
+abbrev pub invariant-writing::written_entries-loop-entry : goal.invariant-writing::written_entries-loop-entry
+invariant-writing::written_entries-loop-entry g l =
     (l.store.0 ≡ l.initial.store.0)
-    × IsWriting (g.N.Namer.name_of l.initial.store.0) l.entry-items l.entry-index (map shown l.entries.items) l.initial.store.1 l.store.1
-    × (l.shares ≡ false → (seen_all l.named.items ++ seen_all (drop l.entry-index l.entry-items) ≡ seen_all l.entry-items) × AreAtHome (g.N.Namer.name_of l.initial.store.0) l.store.1 l.named.items × AllByRecursion (λ e. Remembers e.item) l.named.items)
+    × IsWriting (g.N.Namer.name_of l.initial.store.0) l.entry-items l.entry-index l.initial.store.1 l.store.1
+    × (seen_all l.named.items ++ seen_all (drop l.entry-index l.entry-items) ≡ seen_all l.entry-items)
+    × AreAtHome (g.N.Namer.name_of l.initial.store.0) l.store.1 l.named.items
+    × RememberAll l.named.items
 
 abbrev pub decreases-directory::Directory::written : goal.decreases-directory::Directory::written
-decreases-directory::Directory::written g l = 3 * components l.self.now.files + 2
+decreases-directory::Directory::written g l = 4 * components l.self.now.files + 2
 
 abbrev pub decreases-directory::Item::written : goal.decreases-directory::Item::written
 decreases-directory::Item::written g l = item_measure l.self.now
 
+abbrev pub decreases-writing::written_entries : goal.decreases-writing::written_entries
+decreases-writing::written_entries g l = 4 * components (files (seen_all l.entries.now.value.items)) + 1
+
 abbrev pub decreases-writing::written_node : goal.decreases-writing::written_node
-decreases-writing::written_node g l = 3 * components l.node.now.files + 3
+decreases-writing::written_node g l = 4 * components l.node.now.files + 3

@@ -81,17 +81,18 @@ fn path_of<A: Allocator + Copy>(
     Ok(path)
 }
 
-/// Whether the file at a path of main has these bytes.
+/// Whether the file at a path of a revision has these bytes.
 fn shows<N: Namer, A: Allocator + Copy>(
     alloc: A,
     repo: &Repo<N, A>,
+    revision: &[u8],
     path: &[u8],
     bytes: &[u8],
 ) -> bool {
-    let (Ok(main), Ok(path)) = (Revision::read(alloc, b"main"), TreePath::read(alloc, path)) else {
+    let (Ok(of), Ok(path)) = (Revision::read(alloc, revision), TreePath::read(alloc, path)) else {
         return false;
     };
-    match look(alloc, repo, &main, &path) {
+    match look(alloc, repo, &of, &path) {
         Ok((mode, file)) => mode == Mode::File && file.as_slice() == bytes,
         Err(_) => false,
     }
@@ -124,8 +125,24 @@ fn trees_with_very_many_paths_are_opened(rt: HostRuntime) -> Result<(), Fail> {
         Some((Mode::Dir, Mode::Dir))
     );
     let path = path_of(rt.alloc(), 40, b'f')?;
-    assert!(rt; shows(rt.alloc(), &repo, &path, b"hello\n"));
+    assert!(rt; shows(rt.alloc(), &repo, b"main", &path, b"hello\n"));
     assert!(rt; text_of(rt.alloc(), &repo) == text);
+    Ok(())
+}
+
+/// A commit that adds a file to those of main, at which no branch of the stream stands.
+const AGAIN: &[u8] =
+    b"commit refs/heads/again\ncommitter A <a@x> 2 +0000\ndata 0\nfrom main\nM 100644 inline g\ndata 5\nagain\n";
+
+#[test]
+fn trees_with_very_many_paths_are_loaded(rt: HostRuntime) -> Result<(), Fail> {
+    let state = RandomState::new(&rt)?;
+    let text = doubled_text(rt.alloc(), state).ok_or("no text")?;
+    let mut repo = opened(rt.alloc(), &text, state).ok_or("a refusal")?;
+    assert_eq!(rt; refusal_of(rt.alloc(), &mut repo, AGAIN), None);
+    let path = path_of(rt.alloc(), 40, b'f')?;
+    assert!(rt; shows(rt.alloc(), &repo, b"again", &path, b"hello\n"));
+    assert!(rt; shows(rt.alloc(), &repo, b"again", b"g", b"again"));
     Ok(())
 }
 
@@ -147,7 +164,7 @@ fn path_of_2048_components_comes_back(rt: HostRuntime) -> Result<(), Fail> {
     let stream = stream_with(rt.alloc(), &path)?;
     let text = stored(rt.alloc(), Sha1Namer, &stream, state);
     let repo = opened(rt.alloc(), &text, state).ok_or("a refusal")?;
-    assert!(rt; shows(rt.alloc(), &repo, &path, b"hello\n"));
+    assert!(rt; shows(rt.alloc(), &repo, b"main", &path, b"hello\n"));
     let again = exported(rt.alloc(), &repo, 5000);
     assert!(rt; stored(rt.alloc(), Sha1Namer, &again, state) == text);
     Ok(())

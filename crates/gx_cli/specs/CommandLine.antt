@@ -73,9 +73,12 @@ show_command = with_rule (file_command (codes "show")) revision
 abbrev pub ls_command : App
 ls_command = with_rule (with_rule (file_command (codes "ls")) revision) (letter_flag (codes "recursive") 114)
 
+abbrev pub ranges_command : App
+ranges_command = with_rule (file_command (codes "log")) (words (codes "range"))
+
 abbrev pub log_command : App
-log_command = with_rule (with_rule (with_rule (with_rule (file_command (codes "log"))
-    (words (codes "range"))) (flag (codes "reverse"))) (number (codes "max-count"))) (flag (codes "parents"))
+log_command = with_rule (with_rule (with_rule ranges_command (flag (codes "reverse")))
+    (number (codes "max-count"))) (flag (codes "parents"))
 
 abbrev pub rev_parse_command : App
 rev_parse_command = with_rule (file_command (codes "rev-parse")) (words (codes "rev"))

@@ -54,14 +54,10 @@ fn with_store_commands<'a>(alloc: Global, gx: Command<'a>) -> Result<Command<'a>
     ensures app { IfOk result (λ c. app_of c ≡ say.with_store_commands (app_of gx.entry)) }
     ensures local { IfOk result (λ c. (fields_of c).has_globals ≡ false) }
 {
-    let init = file_command(alloc, "init", manual::INIT)?;
-    let import = file_command(alloc, "import", manual::IMPORT)?;
-    let export = file_command(alloc, "export", manual::EXPORT)?;
-    let refs = file_command(alloc, "refs", manual::REFS)?;
-    let gx = with_command(gx, init)?;
-    let gx = with_command(gx, import)?;
-    let gx = with_command(gx, export)?;
-    with_command(gx, refs)
+    let gx = with_file_command(alloc, gx, "init", manual::INIT)?;
+    let gx = with_file_command(alloc, gx, "import", manual::IMPORT)?;
+    let gx = with_file_command(alloc, gx, "export", manual::EXPORT)?;
+    with_file_command(alloc, gx, "refs", manual::REFS)
 }
 
 /// The commands that show objects.
@@ -126,12 +122,18 @@ fn log_command<'a>(alloc: Global) -> Result<Command<'a>, AllocError>
         "parents",
         "Prints the names of its parents behind each commit",
     );
-    let ranges = words(alloc, "range", "RANGE", "Commits, as gx --help has it");
-    let log = file_command(alloc, "log", manual::LOG)?;
-    let log = with_argument(log, ranges)?;
-    let log = with_argument(log, reverse)?;
+    let log = with_argument(ranges_command(alloc)?, reverse)?;
     let log = with_argument(log, max_count)?;
     with_argument(log, parents)
+}
+
+/// The command `log` with its ranges, and with none of its options.
+fn ranges_command<'a>(alloc: Global) -> Result<Command<'a>, AllocError>
+    ensures app { IfOk result (λ c. app_of c ≡ say.ranges_command) }
+    ensures local { IfOk result (λ c. (fields_of c).has_globals ≡ false) }
+{
+    let ranges = words(alloc, "range", "RANGE", "Commits, as gx --help has it");
+    with_argument(file_command(alloc, "log", manual::LOG)?, ranges)
 }
 
 fn rev_parse_command<'a>(alloc: Global) -> Result<Command<'a>, AllocError>
@@ -149,6 +151,20 @@ fn file_command<'a>(alloc: Global, name: &'a str, page: Page) -> Result<Command<
     ensures local { IfOk result (λ c. (fields_of c).has_globals ≡ false) }
 {
     with_argument(command(alloc, name, page), file(alloc))
+}
+
+/// A command with one more command under it, whose only word is the store file.
+fn with_file_command<'a>(
+    alloc: Global,
+    gx: Command<'a>,
+    name: &'a str,
+    page: Page,
+) -> Result<Command<'a>, AllocError>
+    requires local { (fields_of gx).has_globals ≡ false }
+    ensures app { IfOk result (λ c. app_of c ≡ say.under (app_of gx.entry) (say.file_command name.entry.now)) }
+    ensures local { IfOk result (λ c. (fields_of c).has_globals ≡ false) }
+{
+    with_command(gx, file_command(alloc, name, page)?)
 }
 
 /// A command with its page of the manual.

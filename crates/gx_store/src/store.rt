@@ -203,6 +203,3 @@ fn is_object<A: Allocator + Copy>(object: &Object<A>, kind: Kind, body: &[u8]) -
 {
     object.kind == kind && object.body.as_slice() == body
 }
-
-#[cfg(test)]
-mod tests;

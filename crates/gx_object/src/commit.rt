@@ -221,6 +221,3 @@ fn parent_at(lines: &[u8], place: usize) -> Option<Name>
     let line = &lines[place * PARENT_LINE..place * PARENT_LINE + PARENT_LINE];
     Name::read_lower(&line[7..47])
 }
-
-#[cfg(test)]
-mod tests;

@@ -57,6 +57,3 @@ fn digits(bytes: &[u8]) -> [u8; 40]
         Err(_) => unreachable!(),
     }
 }
-
-#[cfg(test)]
-mod tests;

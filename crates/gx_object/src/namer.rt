@@ -90,6 +90,3 @@ fn number(kind: Kind) -> u8
         Kind::Tag => 3,
     }
 }
-
-#[cfg(test)]
-mod tests;

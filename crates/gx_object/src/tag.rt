@@ -148,6 +148,3 @@ fn split_tagger(bytes: &[u8]) -> (Option<&[u8]>, &[u8])
         None => (None, bytes),
     }
 }
-
-#[cfg(test)]
-mod tests;

@@ -186,6 +186,3 @@ fn meets(component: &[u8], others: TreeEntries<'_>) -> bool
     }
     false
 }
-
-#[cfg(test)]
-mod tests;

@@ -11,6 +11,3 @@ mod reader;
 pub use fault::StreamFault;
 pub use item::Item;
 pub use reader::ItemReader;
-
-#[cfg(test)]
-mod tests;

@@ -23,6 +23,3 @@ pub use number::decimal;
 pub use outside::{FromRead, IntoWrite};
 pub use path::TreePath;
 pub use ref_name::is_ref_name;
-
-#[cfg(test)]
-mod tests;

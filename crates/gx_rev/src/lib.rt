@@ -20,6 +20,3 @@ pub use reached::reaches;
 pub use revision::Revision;
 pub use shown::{Shown, answers_tell_values, commit, look, tree};
 pub use walking::walk;
-
-#[cfg(test)]
-mod tests;

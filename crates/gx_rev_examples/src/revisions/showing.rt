@@ -2,16 +2,17 @@ use super::sample::{
     EMPTY_TREE, FIRST, FIRST_TREE, LINK, P, Q, SECOND, SECOND_TREE, TAG, VERSION_1, VERSION_2, Y,
     add_empty, fill, name_of,
 };
-use crate::{RevFault, Revision, Shown, answers_tell_values, commit, look};
 use gx_object::{Kind, Mode, Name, Namer, Sha1Namer, ShortNamer};
 use gx_refusing::Refusing;
 use gx_repo::{RefChange, Repo};
+use gx_rev::{RevFault, Revision, Shown, answers_tell_values, commit, look};
 use gx_text::TreePath;
 use std::alloc::Allocator;
 use std::hash::RandomState;
 use std::test::Fail;
 
-fn shown<N: Namer, A: Allocator + Copy>(
+/// What the revision of a text shows.
+pub(super) fn shown<N: Namer, A: Allocator + Copy>(
     alloc: A,
     repo: &Repo<N, A>,
     text: &[u8],

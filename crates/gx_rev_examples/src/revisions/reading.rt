@@ -1,82 +1,106 @@
-use crate::suffix::Suffix;
-use crate::{Range, RevFault, Revision};
+use super::sample::{VERSION_1, VERSION_2, fill_row};
+use super::showing::shown;
+use gx_object::{Kind, Name, Namer, Sha1Namer};
 use gx_refusing::Refusing;
+use gx_repo::Repo;
+use gx_rev::{Range, RevFault, Revision, Shown};
 use std::alloc::Allocator;
-
-/// Whether a text reads as a revision with this base, these suffixes and this path.
-fn reads<A: Allocator + Copy>(
-    alloc: A,
-    text: &[u8],
-    base: &[u8],
-    suffixes: &[Suffix],
-    path: Option<&[u8]>,
-) -> bool {
-    let Ok(revision) = Revision::read(alloc, text) else {
-        return false;
-    };
-    let shown = revision.path.as_ref().map(|path| path.joined());
-    revision.base.as_slice() == base && revision.suffixes.as_slice() == suffixes && shown == path
-}
+use std::hash::RandomState;
+use std::test::Fail;
 
 /// The fault with which a text is refused as a revision.
 fn fault_of<A: Allocator + Copy>(alloc: A, text: &[u8]) -> Option<RevFault> {
     Revision::read(alloc, text).err()
 }
 
-const SUFFIXES: [(&[u8], &[Suffix]); 16] = [
-    (b"main", &[]),
-    (b"main^", &[Suffix::Parent(1)]),
-    (b"main^0", &[Suffix::Parent(0)]),
-    (b"main^0002", &[Suffix::Parent(2)]),
-    (
-        b"main^18446744073709551615",
-        &[Suffix::Parent(18446744073709551615)],
-    ),
-    (b"main~", &[Suffix::Ancestor(1)]),
-    (b"main~0", &[Suffix::Ancestor(0)]),
-    (b"main~12", &[Suffix::Ancestor(12)]),
-    (b"main^{}", &[Suffix::Peeled]),
-    (b"main^{object}", &[Suffix::Itself]),
-    (b"main^{commit}", &[Suffix::Commit]),
-    (b"main^{blob}", &[Suffix::Blob]),
-    (b"main^{tree}", &[Suffix::Tree]),
-    (b"main^{tag}", &[Suffix::Tag]),
-    (
-        b"main^^~~2",
-        &[
-            Suffix::Parent(1),
-            Suffix::Parent(1),
-            Suffix::Ancestor(1),
-            Suffix::Ancestor(2),
-        ],
-    ),
-    (
-        b"main~3^2^{tree}",
-        &[Suffix::Ancestor(3), Suffix::Parent(2), Suffix::Tree],
-    ),
-];
+/// Which of the sample's objects is shown: its commits by their place in the row, then the one at their side.
+const SIDE: Answer = Ok(6);
 
-#[test]
-fn suffixes_are_read_in_their_order(rt: HostRuntime) {
-    for (text, suffixes) in SUFFIXES {
-        assert!(rt; reads(rt.alloc(), text, b"main", suffixes, None));
-    }
+const TAG: Answer = Ok(7);
+
+const TREE: Answer = Ok(8);
+
+type Answer = Result<usize, RevFault>;
+
+/// What is shown of the object at this place.
+fn object_at(names: &[Name; 9], answer: Answer) -> Result<Shown, RevFault> {
+    let place = answer?;
+    let name = names.get(place).ok_or(RevFault::UnknownObject)?;
+    let kind = match place {
+        7 => Kind::Tag,
+        8 => Kind::Tree,
+        _ => Kind::Commit,
+    };
+    Ok(Shown::Object(kind, *name))
 }
 
-const BASES: [(&[u8], &[u8], &[Suffix], Option<&[u8]>); 6] = [
-    (b"@", b"HEAD", &[], None),
-    (b"@^2", b"HEAD", &[Suffix::Parent(2)], None),
-    (b"refs/heads/a-b", b"refs/heads/a-b", &[], None),
-    (b"x:", b"x", &[], Some(b"")),
-    (b"x:a/b^c~1:d", b"x", &[], Some(b"a/b^c~1:d")),
-    (b"x^:a", b"x", &[Suffix::Parent(1)], Some(b"a")),
+const SUFFIXES: &[(&[u8], Answer)] = &[
+    (b"main", Ok(5)),
+    (b"main^", Ok(4)),
+    (b"main^0", Ok(5)),
+    (b"main^1", Ok(4)),
+    (b"main^0002", Err(RevFault::NoParent)),
+    (b"main~3^0002", SIDE),
+    (b"main^18446744073709551615", Err(RevFault::NoParent)),
+    (b"main~", Ok(4)),
+    (b"main~0", Ok(5)),
+    (b"main~5", Ok(0)),
+    (b"main~12", Err(RevFault::NoParent)),
+    (b"main^{}", Ok(5)),
+    (b"v1^{}", Ok(5)),
+    (b"main^{object}", Ok(5)),
+    (b"v1^{object}", TAG),
+    (b"main^{commit}", Ok(5)),
+    (b"v1^{commit}", Ok(5)),
+    (b"main^{blob}", Err(RevFault::WrongKind)),
+    (b"v1^{blob}", Err(RevFault::WrongKind)),
+    (b"main^{tree}", TREE),
+    (b"main^{tag}", Err(RevFault::WrongKind)),
+    (b"v1^{tag}", TAG),
+    (b"main^^~~2", Ok(0)),
+    (b"main^^~~", Ok(1)),
+    (b"main~3", Ok(2)),
+    (b"main~3^2", SIDE),
+    (b"main^2~3", Err(RevFault::NoParent)),
+    (b"main~3^2^{tree}", TREE),
+    (b"main~3^{tree}^2", Err(RevFault::WrongKind)),
+    (b"@", Ok(2)),
+    (b"@^2", SIDE),
+    (b"refs/heads/a-b", Ok(3)),
 ];
 
 #[test]
-fn bases_and_paths_are_read(rt: HostRuntime) {
-    for (text, base, suffixes, path) in BASES {
-        assert!(rt; reads(rt.alloc(), text, base, suffixes, path));
+fn suffixes_are_read_in_their_order(rt: HostRuntime) -> Result<(), Fail> {
+    let state = RandomState::new(&rt)?;
+    let mut repo = Repo::new(rt.alloc(), Sha1Namer, state);
+    let names = fill_row(rt.alloc(), &mut repo).ok_or("sample")?;
+    for (text, answer) in SUFFIXES {
+        assert_eq!(rt; shown(rt.alloc(), &repo, text), object_at(&names, *answer));
     }
+    Ok(())
+}
+
+/// Two texts that show the same, the second a commit, a tree or a blob by its digits.
+const BASES: &[(&[u8], &[u8])] = &[
+    (b"@", b"HEAD"),
+    (b"@^2", b"HEAD^2"),
+    (b"refs/heads/a-b", b"a-1"),
+    (b"x:", b"x^{tree}"),
+    (b"x:a/b^c~1:d", VERSION_2),
+    (b"x^:a", VERSION_1),
+];
+
+#[test]
+fn bases_and_paths_are_read(rt: HostRuntime) -> Result<(), Fail> {
+    let state = RandomState::new(&rt)?;
+    let mut repo = Repo::new(rt.alloc(), Sha1Namer, state);
+    fill_row(rt.alloc(), &mut repo).ok_or("sample")?;
+    for (text, same) in BASES {
+        let answer = shown(rt.alloc(), &repo, text);
+        assert!(rt; answer.is_ok());
+        assert_eq!(rt; answer, shown(rt.alloc(), &repo, same));
+    }
+    Ok(())
 }
 
 const NO_REVISIONS: [&[u8]; 16] = [
@@ -162,32 +186,49 @@ fn word_shape<A: Allocator>(range: &Range<A>) -> Shape {
     }
 }
 
-fn has_base<A: Allocator>(revision: &Revision<A>, base: &[u8]) -> bool {
-    revision.base.as_slice() == base
-}
-
-/// Whether the revisions are one revision each with these bases.
-fn has_bases<A: Allocator>(range: &Range<A>, first: &[u8], second: &[u8]) -> bool {
-    match range {
-        Range::WithAncestors(r) => has_base(r, first),
-        Range::WithoutAncestors(r) => has_base(r, first),
-        Range::Between(a, b) => has_base(a, first) && has_base(b, second),
-        Range::Apart(a, b) => has_base(a, first) && has_base(b, second),
-        Range::AllParents(r) => has_base(r, first),
-        Range::Alone(r) => has_base(r, first),
-        Range::WithoutOne(r, _) => has_base(r, first),
-    }
-}
-
-/// A range word's shape, and whether its revisions are one revision each with these bases.
-fn shape_of<A: Allocator + Copy>(
+/// Whether a revision shows an object, and the same as this ref.
+fn has_base<N: Namer, A: Allocator + Copy>(
     alloc: A,
+    repo: &Repo<N, A>,
+    revision: &Revision<A>,
+    base: &[u8],
+) -> bool {
+    let answer = revision.eval(repo);
+    answer.is_ok() && answer == shown(alloc, repo, base)
+}
+
+/// Whether the revisions show what these refs do.
+fn has_bases<N: Namer, A: Allocator + Copy>(
+    alloc: A,
+    repo: &Repo<N, A>,
+    range: &Range<A>,
+    bases: (&[u8], &[u8]),
+) -> bool {
+    let (revision, second) = match range {
+        Range::WithAncestors(r) => (r, None),
+        Range::WithoutAncestors(r) => (r, None),
+        Range::Between(a, b) => (a, Some(b)),
+        Range::Apart(a, b) => (a, Some(b)),
+        Range::AllParents(r) => (r, None),
+        Range::Alone(r) => (r, None),
+        Range::WithoutOne(r, _) => (r, None),
+    };
+    let is_second = match second {
+        Some(second) => has_base(alloc, repo, second, bases.1),
+        None => true,
+    };
+    is_second && has_base(alloc, repo, revision, bases.0)
+}
+
+/// A range word's shape, and whether its revisions show what these refs do.
+fn shape_of<N: Namer, A: Allocator + Copy>(
+    alloc: A,
+    repo: &Repo<N, A>,
     text: &[u8],
-    first: &[u8],
-    second: &[u8],
+    bases: (&[u8], &[u8]),
 ) -> (Shape, bool) {
     match Range::read(alloc, text) {
-        Ok(range) => (word_shape(&range), has_bases(&range, first, second)),
+        Ok(range) => (word_shape(&range), has_bases(alloc, repo, &range, bases)),
         Err(fault) => (Shape::Refused(fault), true),
     }
 }
@@ -223,20 +264,24 @@ const WORDS: &[(&[u8], Shape, &[u8], &[u8])] = &[
 ];
 
 #[test]
-fn range_words_have_the_first_shape_that_fits(rt: HostRuntime) {
+fn range_words_have_the_first_shape_that_fits(rt: HostRuntime) -> Result<(), Fail> {
+    let state = RandomState::new(&rt)?;
+    let mut repo = Repo::new(rt.alloc(), Sha1Namer, state);
+    fill_row(rt.alloc(), &mut repo).ok_or("sample")?;
     for (text, shape, first, second) in WORDS {
-        let answer = shape_of(rt.alloc(), text, first, second);
+        let answer = shape_of(rt.alloc(), &repo, text, (first, second));
         assert_eq!(rt; answer, (*shape, true));
     }
+    Ok(())
 }
 
 /// What is answered for a word where the growth with this number is refused, and whether it has not come.
-fn refused<B: Allocator>(heap: &Refusing<B>, text: &[u8], n: u64) -> (Shape, bool) {
+fn refused<B: Allocator>(heap: &Refusing<B>, text: &[u8], n: u64) -> (Option<RevFault>, bool) {
     heap.arm(n);
-    let answer = shape_of(heap, text, b"main", b"other");
+    let fault = Range::read(heap, text).err();
     let is_waiting = heap.is_waiting();
     heap.arm(0);
-    (answer.0, is_waiting)
+    (fault, is_waiting)
 }
 
 /// How many growths of a word are refused before none is, where each answer to a refused growth says so.
@@ -244,8 +289,8 @@ fn growths_of<A: Allocator + Copy>(alloc: A, text: &[u8]) -> Option<u64> {
     let mut refused_growths = 0u64;
     for n in 1..100u64 {
         let heap = Refusing::new(alloc, 0);
-        let (shape, is_waiting) = refused(&heap, text, n);
-        let is_refused = shape == Shape::Refused(RevFault::OutOfMemory);
+        let (fault, is_waiting) = refused(&heap, text, n);
+        let is_refused = fault == Some(RevFault::OutOfMemory);
         if is_refused == is_waiting {
             return None;
         }

@@ -251,3 +251,69 @@ pub(super) fn fill<N: Namer, A: Allocator + Copy>(alloc: A, repo: &mut Repo<N, A
     }
     Some(())
 }
+
+fn publish<N: Namer, A: Allocator + Copy>(
+    repo: &mut Repo<N, A>,
+    name: &[u8],
+    target: Name,
+) -> bool {
+    repo.publish(&[RefChange { name, target }]).is_ok()
+}
+
+/// Adds a commit with the file `a/b^c~1:d` to one with the file `a`.
+fn add_x<N: Namer, A: Allocator + Copy>(alloc: A, repo: &mut Repo<N, A>) -> Option<Name> {
+    let mut tree = PathTree::empty(alloc);
+    if !add_file(alloc, repo, &mut tree, b"a", b"version 1\n") {
+        return None;
+    }
+    let first = add_commit(repo, &mut tree, &[], b"x1")?;
+    if !add_file(alloc, repo, &mut tree, b"a/b^c~1:d", b"version 2\n") {
+        return None;
+    }
+    add_commit(repo, &mut tree, &[first], b"x2")
+}
+
+/// Adds six commits in a row, the third with a second parent, which stands behind them.
+fn add_row<N: Namer, A: Allocator + Copy>(alloc: A, repo: &mut Repo<N, A>) -> Option<[Name; 7]> {
+    let side = add_empty(alloc, repo, &[], b"side")?;
+    let mut last = add_empty(alloc, repo, &[], b"row")?;
+    let mut names = [side; 7];
+    names[0] = last;
+    for i in 1..6usize {
+        let parents = [last, side];
+        let count = if i == 2 { 2 } else { 1 };
+        last = add_empty(alloc, repo, &parents[..count], b"row")?;
+        names[i] = last;
+    }
+    Some(names)
+}
+
+/// Fills an empty repository: `main` at the last of six commits in a row, `v1` for its tag, `x` with files, other refs
+/// at the first four commits. Answers the commits, the one at their side, the tag, and the tree of no files.
+pub(super) fn fill_row<N: Namer, A: Allocator + Copy>(
+    alloc: A,
+    repo: &mut Repo<N, A>,
+) -> Option<[Name; 9]> {
+    let x = add_x(alloc, repo)?;
+    let [a, b, head, other, c, main, side] = add_row(alloc, repo)?;
+    let tag = add_tag(repo, main)?;
+    let targets = [main, tag, x, a, b, head, other, other];
+    for (name, target) in ROW_REFS.iter().zip(&targets) {
+        if !publish(repo, name, *target) {
+            return None;
+        }
+    }
+    let empty = Name::read(EMPTY_TREE)?;
+    Some([a, b, head, other, c, main, side, tag, empty])
+}
+
+const ROW_REFS: [&[u8]; 8] = [
+    b"refs/heads/main",
+    b"refs/tags/v1",
+    b"refs/heads/x",
+    b"refs/heads/a",
+    b"refs/heads/b",
+    b"HEAD",
+    b"refs/heads/a-1",
+    b"refs/heads/a-b",
+];

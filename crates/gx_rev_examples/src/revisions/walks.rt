@@ -1,8 +1,8 @@
 use super::sample::{FIRST, P, Q, SECOND, Y, add_empty, fill, is_held};
-use crate::{Range, RevFault, WalkFault, reaches, walk};
 use gx_object::{Kind, Name, Namer, Sha1Namer};
 use gx_refusing::Refusing;
 use gx_repo::{RefChange, Repo};
+use gx_rev::{Range, RevFault, WalkFault, reaches, walk};
 use std::alloc::{AllocError, Allocator};
 use std::hash::RandomState;
 use std::test::Fail;

@@ -175,30 +175,28 @@ fn first_wrong<A: Allocator + Copy>(
     None
 }
 
+/// A failure that names the first step of which something else came.
+fn all_done(wrong: Option<usize>) -> Result<(), Fail> {
+    match wrong {
+        None => Ok(()),
+        Some(place) => Err(Fail::new(format_args!("step {place}"))),
+    }
+}
+
 #[test]
 fn other_bytes_under_a_held_name_are_refused(rt: HostRuntime) -> Result<(), Fail> {
     let state = RandomState::new(&rt)?;
-    assert_eq!(rt; first_wrong(rt.alloc(), state, OTHER_BYTES), None);
-    Ok(())
+    all_done(first_wrong(rt.alloc(), state, OTHER_BYTES))
 }
 
 #[test]
 fn given_bytes_are_put_as_copied_ones_are(rt: HostRuntime) -> Result<(), Fail> {
     let state = RandomState::new(&rt)?;
-    assert!(rt; first_wrong(rt.alloc(), state, GIVEN_BYTES).is_none());
-    Ok(())
+    all_done(first_wrong(rt.alloc(), state, GIVEN_BYTES))
 }
 
 #[test]
 fn prefixes_are_of_either_case(rt: HostRuntime) -> Result<(), Fail> {
     let state = RandomState::new(&rt)?;
-    all_right(first_wrong(rt.alloc(), state, PREFIXES))
-}
-
-/// A failure at the first step of which something else came.
-fn all_right(wrong: Option<usize>) -> Result<(), Fail> {
-    match wrong {
-        None => Ok(()),
-        Some(place) => Err(Fail::new(format_args!("step {place}"))),
-    }
+    all_done(first_wrong(rt.alloc(), state, PREFIXES))
 }

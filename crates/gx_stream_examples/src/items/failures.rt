@@ -97,8 +97,21 @@ fn failure_within_a_stream_stays(rt: HostRuntime) {
     }
 }
 
+/// Whether these are a front of the mixed items and a refusal behind it, which stays, or else all of the items.
+fn is_told<R: Source, A: Allocator + Copy, B: Allocator + Copy>(
+    alloc: B,
+    reader: &mut ItemReader<R, A>,
+    spelled: &[u8],
+    is_refused: bool,
+) -> bool {
+    if !is_refused {
+        return spelled == MIXED_ITEMS;
+    }
+    is_cut_by(spelled, b"OutOfMemory") && stays(alloc, reader, b"OutOfMemory")
+}
+
 /// Whether the growth with this number comes and is refused, in a reading of the mixed stream; none where the answer is
-/// another than the items, or a front of them and the refusal.
+/// a wrong one.
 fn is_refused<B: Allocator + Copy, C: Allocator>(
     alloc: B,
     heap: &Refusing<C>,
@@ -109,12 +122,11 @@ fn is_refused<B: Allocator + Copy, C: Allocator>(
     let spelled = spell(alloc, &mut reader).ok()?;
     let is_refused = !heap.is_waiting();
     heap.arm(0);
-    let is_told = if is_refused {
-        is_cut_by(&spelled, b"OutOfMemory") && stays(alloc, &mut reader, b"OutOfMemory")
+    if is_told(alloc, &mut reader, &spelled, is_refused) {
+        Some(is_refused)
     } else {
-        spelled.as_slice() == MIXED_ITEMS
-    };
-    if is_told { Some(is_refused) } else { None }
+        None
+    }
 }
 
 /// How many growths are refused, one after the other; none where another answer came.

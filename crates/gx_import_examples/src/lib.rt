@@ -6,3 +6,5 @@
 mod exports;
 #[cfg(test)]
 mod imports;
+#[cfg(test)]
+mod sessions;

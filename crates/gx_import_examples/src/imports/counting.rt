@@ -1,6 +1,6 @@
 //! How often an import names an object: a commit names the directories that it changed and itself, and no other.
 
-use super::{imported, name_at};
+use crate::sessions::{imported, name_at};
 use gx_object::{Kind, Name, Namer, Sha1Namer};
 use gx_repo::Repo;
 use std::alloc::Allocator;
@@ -69,7 +69,7 @@ fn counted<A: Allocator + Copy>(
     state: RandomState,
     parts: &[&[u8]],
     revision: &[u8],
-) -> Option<(u64, [u8; 40])> {
+) -> Option<(u64, Name)> {
     let named = Cell::new(0);
     let namer = Counting {
         namer: Sha1Namer,
@@ -85,31 +85,46 @@ fn counted<A: Allocator + Copy>(
 /// Streams that come to one tree: what is imported before a commit, then the commit, and the revision of its tree.
 type Changed<'a> = (&'a [&'a [u8]], &'a [&'a [u8]], &'a [u8]);
 
+const CHANGED: &[Changed] = &[
+    // behind the last commit of its branch
+    (&[FILES], &[FILES, NEXT, CHANGE], b"main^{tree}"),
+    // on a new branch, behind the last commit of another
+    (&[FILES], &[FILES, FORK, CHANGE], b"fork^{tree}"),
+    // on a new branch, behind a commit where no branch stands any more
+    (
+        &[FILES, NEXT, OTHER],
+        &[FILES, NEXT, OTHER, FORK, CHANGE],
+        b"fork^{tree}",
+    ),
+];
+
+/// Whether a commit names no more than six objects, and has this tree.
+fn is_counted<A: Allocator + Copy>(
+    alloc: A,
+    state: RandomState,
+    changed: &Changed<'_>,
+    tree: Name,
+) -> bool {
+    let (before, whole, revision) = changed;
+    let Some((first, _)) = counted(alloc, state, before, b"main^{tree}") else {
+        return false;
+    };
+    let Some((both, changed)) = counted(alloc, state, whole, revision) else {
+        return false;
+    };
+    first < both && both - first <= 6 && changed == tree
+}
+
 #[test]
 fn commit_names_what_it_changed(rt: HostRuntime) -> Result<(), Fail> {
     let state = RandomState::new(&rt)?;
     let alloc = rt.alloc();
     // the trees of nine directories, the root among them, the blobs, and the commit
     let (all, _) = counted(alloc, state, &[FILES], b"main^{tree}").ok_or("an import")?;
-    assert_eq!(rt; all, 12);
+    assert!(rt; all == 12);
     let (_, tree) = counted(alloc, state, &[FILES, CHANGE], b"main^{tree}").ok_or("an import")?;
-    let rows: [Changed; 3] = [
-        // behind the last commit of its branch
-        (&[FILES], &[FILES, NEXT, CHANGE], b"main^{tree}"),
-        // on a new branch, behind the last commit of another
-        (&[FILES], &[FILES, FORK, CHANGE], b"fork^{tree}"),
-        // on a new branch, behind a commit where no branch stands any more
-        (
-            &[FILES, NEXT, OTHER],
-            &[FILES, NEXT, OTHER, FORK, CHANGE],
-            b"fork^{tree}",
-        ),
-    ];
-    for (before, whole, revision) in rows {
-        let (first, _) = counted(alloc, state, before, b"main^{tree}").ok_or("an import")?;
-        let (both, changed) = counted(alloc, state, whole, revision).ok_or("an import")?;
-        assert!(rt; first < both && both - first <= 6);
-        assert_eq!(rt; changed, tree);
+    for changed in CHANGED {
+        assert!(rt; is_counted(alloc, state, changed, tree));
     }
     Ok(())
 }

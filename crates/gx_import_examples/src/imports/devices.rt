@@ -1,17 +1,18 @@
 //! Imports with growths that are refused, sources that fail and sinks that fail.
 
-use super::{FIRST, done, imported, refusal};
-use gx_import::{ImportFault, ImportKind, Report, import};
+use super::FIRST;
+use crate::sessions::{Outcome, holds, import_from, imports, joined, refusal};
+use gx_import::{ImportFault, ImportKind, Report};
 use gx_object::Sha1Namer;
 use gx_refusing::Refusing;
 use gx_repo::Repo;
 use gx_text::{Bytes, Held};
-use std::alloc::{AllocError, Allocator};
+use std::alloc::Allocator;
 use std::hash::RandomState;
 use std::test::Fail;
 
 /// Two branches, one with a submodule, which are merged, and a tag.
-const MERGED: &[u8] = b"\
+pub(crate) const MERGED: &[u8] = b"\
 commit refs/heads/a\n\
 mark :1\n\
 committer A <a@x> 1 +0000\n\
@@ -42,143 +43,183 @@ t\n";
 const ALL: &[u8] =
     b"feature done\nblob\nmark :1\ndata 3\nabc\ncommit refs/heads/main\nmark :2\nauthor A <a@x> 1 +0000\ncommitter B <b@x> 2 +0000\nencoding x\ndata 3\nfoofrom main^0\nM 644 :1 d/e\nM 755 inline f\ndata 3\nxyz\nC d g\nR f h\nD d/e\nreset refs/heads/b\nfrom :2\ncommit refs/heads/b\ncommitter B <b@x> 3 +0000\ndata 0\nmerge main^0\nM 644 :1 k\ntag v\nmark :3\nfrom :2\ntagger A <a@x> 1 +0000\ndata 0\nreset refs/heads/c\nfrom :3\nprogress x\ndone\n";
 
+/// The room of a sink, the command at which progress lines are refused, the reason, and what the sink took.
+type Progress<'a> = (usize, u64, ImportKind, &'a [u8]);
+
+const PROGRESS: &[Progress] = &[
+    (
+        100,
+        3,
+        ImportKind::UnknownCommand,
+        b"progress a b\nprogress \n",
+    ),
+    (
+        23,
+        3,
+        ImportKind::UnknownCommand,
+        b"progress a b\nprogress \n",
+    ),
+    (22, 2, ImportKind::WriteFailed, b"progress a b\nprogress "),
+    (3, 1, ImportKind::WriteFailed, b"pro"),
+    (0, 1, ImportKind::WriteFailed, b""),
+];
+
+/// Whether an import of progress lines has this outcome.
+fn goes_out<A: Allocator + Copy>(alloc: A, state: RandomState, progress: &Progress<'_>) -> bool {
+    let (room, command, kind, out) = progress;
+    let Ok(mut sink) = Held::new(alloc, *room) else {
+        return false;
+    };
+    let mut repo = Repo::new(alloc, Sha1Namer, state);
+    let source = Bytes::new(b"progress a b\nprogress \nfoo\n", 4, false);
+    let answer = import_from(alloc, &mut repo, source, &mut sink);
+    answer == refusal(*command, *kind) && sink.bytes() == *out
+}
+
 /// Progress lines go out as they come, and stay out.
 #[test]
 fn progress_goes_out(rt: HostRuntime) -> Result<(), Fail> {
     let state = RandomState::new(&rt)?;
-    let alloc = rt.alloc();
-    let rows: [(usize, Result<Report, ImportFault>, &[u8]); 5] = [
-        (
-            100,
-            refusal(3, ImportKind::UnknownCommand),
-            b"progress a b\nprogress \n",
-        ),
-        (
-            23,
-            refusal(3, ImportKind::UnknownCommand),
-            b"progress a b\nprogress \n",
-        ),
-        (
-            22,
-            refusal(2, ImportKind::WriteFailed),
-            b"progress a b\nprogress ",
-        ),
-        (3, refusal(1, ImportKind::WriteFailed), b"pro"),
-        (0, refusal(1, ImportKind::WriteFailed), b""),
-    ];
-    for (room, answer, out) in rows {
-        let mut repo = Repo::new(alloc, Sha1Namer, state);
-        let mut sink = Held::new(alloc, room)?;
-        let source = Bytes::new(b"progress a b\nprogress \nfoo\n", 4, false);
-        assert_eq!(rt; import(alloc, &mut repo, source, &mut sink), answer);
-        assert_eq!(rt; sink.bytes(), out);
+    for progress in PROGRESS {
+        assert!(rt; goes_out(rt.alloc(), state, progress));
     }
     Ok(())
 }
 
-/// Whether a repository has the objects and the ref of the first stream alone.
-fn is_as_before<A: Allocator + Copy>(repo: &Repo<Sha1Namer, A>) -> bool {
-    repo.store().len() == 3 && repo.refs().count() == 1
+/// A repository with the objects and the ref of the first stream.
+fn begun<A: Allocator + Copy>(alloc: A, state: RandomState) -> Option<Repo<Sha1Namer, A>> {
+    let mut repo = Repo::new(alloc, Sha1Namer, state);
+    if imports(alloc, &mut repo, &[FIRST], (1, 3, 1)) {
+        Some(repo)
+    } else {
+        None
+    }
+}
+
+/// The fault of an import behind the first one, to a sink that takes nothing. None where the import is accepted, or where
+/// it changes anything.
+fn fault_of<A: Allocator + Copy>(
+    alloc: A,
+    state: RandomState,
+    source: Bytes<'_>,
+) -> Option<ImportFault> {
+    let mut repo = begun(alloc, state)?;
+    let mut sink = Held::new(alloc, 0).ok()?;
+    let fault = import_from(alloc, &mut repo, source, &mut sink).err()?;
+    if holds(&repo, 3, 1) {
+        Some(fault)
+    } else {
+        None
+    }
+}
+
+/// Whether a source that ends or fails after these bytes refuses the import for this reason.
+fn is_refused<A: Allocator + Copy>(
+    alloc: A,
+    state: RandomState,
+    source: Bytes<'_>,
+    kind: ImportKind,
+) -> bool {
+    match fault_of(alloc, state, source) {
+        Some(fault) => fault.kind == kind,
+        None => false,
+    }
 }
 
 /// A source that fails ends no stream, at whichever read of one byte.
 #[test]
 fn failed_read_refuses_the_import(rt: HostRuntime) -> Result<(), Fail> {
     let state = RandomState::new(&rt)?;
-    let alloc = rt.alloc();
     for count in 0..MERGED.len() {
-        let mut repo = Repo::new(alloc, Sha1Namer, state);
-        assert_eq!(rt; imported(alloc, &mut repo, &[FIRST]), done(1, 3, 1));
-        let mut sink = Held::new(alloc, 0)?;
         let source = Bytes::new(&MERGED[..count], 1, true);
-        let answer = import(alloc, &mut repo, source, &mut sink);
-        assert_eq!(rt; answer.err().map(|f| f.kind), Some(ImportKind::ReadFailed));
-        assert!(rt; is_as_before(&repo));
+        assert!(rt; is_refused(rt.alloc(), state, source, ImportKind::ReadFailed));
     }
     Ok(())
 }
+
+const LINE: &[u8] = b"progress x\n";
+
+/// Streams, and the command of each at which a sink that takes nothing refuses it.
+const UNWRITTEN: &[(&[&[u8]], u64)] = &[(&[LINE, MERGED], 1), (&[MERGED, LINE], 5)];
 
 /// A sink that takes nothing refuses the import at its first progress, also where that is its last command.
 #[test]
 fn failed_write_refuses_the_import(rt: HostRuntime) -> Result<(), Fail> {
     let state = RandomState::new(&rt)?;
-    let alloc = rt.alloc();
-    let line: &[u8] = b"progress x\n";
-    let rows: [([&[u8]; 2], u64); 2] = [([line, MERGED], 1), ([MERGED, line], 5)];
-    for (parts, command) in rows {
-        let mut repo = Repo::new(alloc, Sha1Namer, state);
-        assert_eq!(rt; imported(alloc, &mut repo, &[FIRST]), done(1, 3, 1));
-        let mut text = Vec::new(alloc);
-        for part in parts {
-            text.extend_from_slice(part)?;
-        }
-        let mut sink = Held::new(alloc, 0)?;
+    for (parts, command) in UNWRITTEN {
+        let text = joined(rt.alloc(), parts)?;
         let source = Bytes::new(text.as_slice(), 64, false);
-        let answer = import(alloc, &mut repo, source, &mut sink);
-        assert_eq!(rt; answer, refusal(command, ImportKind::WriteFailed));
-        assert!(rt; is_as_before(&repo));
+        let fault = ImportFault {
+            command: *command,
+            kind: ImportKind::WriteFailed,
+        };
+        assert!(rt; fault_of(rt.alloc(), state, source) == Some(fault));
     }
     Ok(())
 }
 
-#[derive(Drop)]
-struct Trial {
+/// What came of an import at which a growth was to be refused: a refused one is to leave the objects and the ref of the
+/// first stream, and one that isn't is to publish so many refs.
+fn judged<A: Allocator + Copy>(
+    repo: &Repo<Sha1Namer, A>,
     answer: Result<Report, ImportFault>,
-    objects: usize,
     refs: usize,
-    is_waiting: bool,
+    is_refused: bool,
+) -> Outcome {
+    match answer {
+        Ok(_) if !is_refused && repo.refs().count() == refs => Outcome::Done,
+        Err(fault) if is_refused && fault.kind == ImportKind::OutOfMemory && holds(repo, 3, 1) => {
+            Outcome::Refused
+        }
+        _ => Outcome::Wrong,
+    }
 }
 
-/// An import at which the growth with this number is refused, after one that isn't.
-fn trial_at<B: Allocator>(
+/// What comes of an import behind the first one, at which the growth with this number is refused.
+fn refused_at<B: Allocator>(
     heap: &Refusing<B>,
     text: &[u8],
-    nth: u64,
+    refs: usize,
+    growth: u64,
     state: RandomState,
-) -> Result<Trial, AllocError> {
-    let mut repo = Repo::new(heap, Sha1Namer, state);
-    let mut sink = Held::new(heap, 100)?;
-    let _ = imported(heap, &mut repo, &[FIRST]);
-    heap.arm(nth);
-    let answer = import(heap, &mut repo, Bytes::new(text, 11, false), &mut sink);
-    let is_waiting = heap.is_waiting();
+) -> Outcome {
+    let Ok(mut sink) = Held::new(heap, 100) else {
+        return Outcome::Wrong;
+    };
+    let Some(mut repo) = begun(heap, state) else {
+        return Outcome::Wrong;
+    };
+    heap.arm(growth);
+    let answer = import_from(heap, &mut repo, Bytes::new(text, 11, false), &mut sink);
+    let is_refused = !heap.is_waiting();
     heap.arm(0);
-    Ok(Trial {
-        answer,
-        objects: repo.store().len(),
-        refs: repo.refs().count(),
-        is_waiting,
-    })
+    judged(&repo, answer, refs, is_refused)
 }
 
-/// Refuses each growth in turn, until an import is done; answers how many were refused, or none where an answer was wrong.
+/// How many growths are refused, one after the other, until an import is done; none where one changed anything.
 fn refused_growths<B: Allocator + Copy>(
     alloc: B,
     text: &[u8],
     refs: usize,
     state: RandomState,
-) -> Result<Option<u64>, AllocError> {
-    for nth in 1..1000u64 {
+) -> Option<u64> {
+    for growth in 1..1000u64 {
         let heap = Refusing::new(alloc, 0);
-        let trial = trial_at(&heap, text, nth, state)?;
-        if trial.is_waiting {
-            let is_done = trial.answer.is_ok() && trial.refs == refs;
-            return Ok(if is_done { Some(nth - 1) } else { None });
-        }
-        let kind = trial.answer.err().map(|f| f.kind);
-        if kind != Some(ImportKind::OutOfMemory) || trial.objects != 3 || trial.refs != 1 {
-            return Ok(None);
+        match refused_at(&heap, text, refs, growth, state) {
+            Outcome::Done => return Some(growth - 1),
+            Outcome::Refused => {}
+            Outcome::Wrong => return None,
         }
     }
-    Ok(None)
+    None
 }
 
 #[test]
 fn refused_growths_refuse_the_import(rt: HostRuntime) -> Result<(), Fail> {
     let state = RandomState::new(&rt)?;
-    let refused = refused_growths(rt.alloc(), ALL, 4, state)?.ok_or("a wrong answer")?;
+    let refused = refused_growths(rt.alloc(), ALL, 4, state).ok_or("a wrong answer")?;
     assert!(rt; refused > 40);
-    let refused = refused_growths(rt.alloc(), MERGED, 4, state)?.ok_or("a wrong answer")?;
+    let refused = refused_growths(rt.alloc(), MERGED, 4, state).ok_or("a wrong answer")?;
     assert!(rt; refused > 20);
     Ok(())
 }

@@ -5,7 +5,7 @@ use gx_import::ImportKind;
 /// A stream of one import into an empty repository, and its answer: a report's numbers.
 pub(crate) type Accepted<'a> = (&'a [u8], (u64, u64, u64));
 
-pub(crate) const ACCEPTED: [Accepted; 19] = [
+pub(crate) const ACCEPTED: &[Accepted] = &[
     (b"", (0, 0, 0)),
     (b"progress half\n", (1, 0, 0)),
     (b"checkpoint\n", (1, 0, 0)),
@@ -88,7 +88,7 @@ pub(crate) const HEAD: &[u8] = b"commit refs/heads/main\ncommitter A <a@x> 1 +00
 /// A stream that is refused, the number of its command, and what is wrong with it.
 pub(crate) type Refused<'a> = (&'a [u8], u64, ImportKind);
 
-pub(crate) const REFUSED: [Refused; 30] = [
+pub(crate) const REFUSED: &[Refused] = &[
     (b"foo\n", 1, ImportKind::UnknownCommand),
     (b"blob x\n", 1, ImportKind::BadLine),
     (b"blob\nmark :0\n", 1, ImportKind::BadNumber),
@@ -191,7 +191,7 @@ pub(crate) const REFUSED: [Refused; 30] = [
 ];
 
 /// Lines behind a commit's first ones, and what is wrong with them.
-pub(crate) const REFUSED_CHANGES: [(&[u8], ImportKind); 10] = [
+pub(crate) const REFUSED_CHANGES: &[(&[u8], ImportKind)] = &[
     (b"M 100644 :9 f\n", ImportKind::UnknownMark),
     (b"M 100644 inline \ndata 0\n", ImportKind::RootNotTree),
     (b"M 777 inline f\n", ImportKind::BadMode),

@@ -1,6 +1,6 @@
 //! Streams, imported one after the other into a repository. The names are those that git gives these objects.
 
-use crate::sessions::{Step, follow, holds, imports, refuses, session};
+use crate::sessions::{Session, Step, follow, follow_all, holds, imports, refuses};
 use gx_import::{ImportFault, ImportKind};
 use gx_object::{Sha1Namer, ShortNamer};
 use gx_repo::Repo;
@@ -124,34 +124,27 @@ const HELD_NAMES: &[Step] = &[
     Step::Import(&[b"blob\ndata 1\na"], (1, 0, 0)),
 ];
 
-#[test]
-fn commits_have_their_names(rt: HostRuntime) -> Result<(), Fail> {
-    let state = RandomState::new(&rt)?;
-    session(rt.alloc(), state, NAMES)
-}
+const SESSIONS: &[Session] = &[
+    ("commits have their names", NAMES),
+    ("a second import is fast-forward", FAST_FORWARD),
+    ("parents keep their order", PARENT_ORDER),
+    ("branches have their own files", OWN_FILES),
+];
 
 #[test]
-fn second_import_is_fast_forward(rt: HostRuntime) -> Result<(), Fail> {
+fn streams_follow_one_another(rt: HostRuntime) -> Result<(), Fail> {
     let state = RandomState::new(&rt)?;
-    session(rt.alloc(), state, FAST_FORWARD)
-}
-
-#[test]
-fn parents_keep_their_order(rt: HostRuntime) -> Result<(), Fail> {
-    let state = RandomState::new(&rt)?;
-    session(rt.alloc(), state, PARENT_ORDER)
-}
-
-#[test]
-fn branches_have_their_own_files(rt: HostRuntime) -> Result<(), Fail> {
-    let state = RandomState::new(&rt)?;
-    session(rt.alloc(), state, OWN_FILES)
+    follow_all(rt.alloc(), state, SESSIONS)
 }
 
 #[test]
 fn other_object_of_a_held_name_is_refused(rt: HostRuntime) -> Result<(), Fail> {
     let mut repo = Repo::new(rt.alloc(), ShortNamer, RandomState::new(&rt)?);
-    follow(rt.alloc(), &mut repo, HELD_NAMES)
+    follow(
+        rt.alloc(),
+        &mut repo,
+        &("another object of a held name", HELD_NAMES),
+    )
 }
 
 /// Whether an empty repository takes a stream, and then has what its report counts.

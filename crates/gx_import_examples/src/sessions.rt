@@ -36,6 +36,9 @@ pub(crate) enum Step<'a> {
     Root(&'a [u8], &'a [u8], &'a [u8]),
 }
 
+/// What a session shows, and its steps.
+pub(crate) type Session<'a> = (&'a str, &'a [Step<'a>]);
+
 /// What came of a call at which a growth was to be refused.
 pub(crate) enum Outcome {
     Done,
@@ -281,26 +284,30 @@ fn is_done<N: Namer, A: Allocator + Copy>(
     }
 }
 
-/// Does the steps in their order. Fails at the first one of which something else comes.
+/// Does the steps of a session in their order. Fails at the first one of which something else comes.
 pub(crate) fn follow<N: Namer, A: Allocator + Copy>(
     alloc: A,
     repo: &mut Repo<N, A>,
-    steps: &[Step<'_>],
+    session: &Session<'_>,
 ) -> Result<(), Fail> {
+    let (name, steps) = session;
     for (place, step) in steps.iter().enumerate() {
         if !is_done(alloc, repo, step) {
-            return Err(Fail::new(format_args!("step {place}")));
+            return Err(Fail::new(format_args!("{name}: step {place}")));
         }
     }
     Ok(())
 }
 
-/// Follows the steps of a session that begins with an empty repository.
-pub(crate) fn session<A: Allocator + Copy>(
+/// Follows sessions, each of which begins with an empty repository.
+pub(crate) fn follow_all<A: Allocator + Copy>(
     alloc: A,
     state: RandomState,
-    steps: &[Step<'_>],
+    sessions: &[Session<'_>],
 ) -> Result<(), Fail> {
-    let mut repo = Repo::new(alloc, Sha1Namer, state);
-    follow(alloc, &mut repo, steps)
+    for session in sessions {
+        let mut repo = Repo::new(alloc, Sha1Namer, state);
+        follow(alloc, &mut repo, session)?;
+    }
+    Ok(())
 }

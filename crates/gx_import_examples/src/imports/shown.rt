@@ -1,7 +1,7 @@
 //! What revisions and ranges show after an import.
 
 use super::{FIRST, SECOND};
-use crate::sessions::{Step, session};
+use crate::sessions::{Session, Step, follow_all};
 use gx_import::ImportKind;
 use gx_rev::RevFault;
 use std::hash::RandomState;
@@ -102,44 +102,18 @@ const LONGEST: &[Step] = &[
     Step::Import(&[EDGE, &[b'a'; 4093], b"\ndata 0\nR e d\n"], (1, 4, 1)),
 ];
 
-#[test]
-fn files_have_the_bytes_of_the_stream(rt: HostRuntime) -> Result<(), Fail> {
-    let state = RandomState::new(&rt)?;
-    session(rt.alloc(), state, FILES)
-}
+const SESSIONS: &[Session] = &[
+    ("files have the bytes of the stream", FILES),
+    ("commits have their parts", PARTS),
+    ("a renamed file leaves the parent as it was", RENAMES),
+    ("a commit made twice is listed once", ONCE),
+    ("merges list what their words include", MERGES),
+    ("tags are published over branches", TAGS),
+    ("the longest paths are kept", LONGEST),
+];
 
 #[test]
-fn commits_have_their_parts(rt: HostRuntime) -> Result<(), Fail> {
+fn revisions_show_what_was_imported(rt: HostRuntime) -> Result<(), Fail> {
     let state = RandomState::new(&rt)?;
-    session(rt.alloc(), state, PARTS)
-}
-
-#[test]
-fn renamed_file_leaves_the_parent_as_it_was(rt: HostRuntime) -> Result<(), Fail> {
-    let state = RandomState::new(&rt)?;
-    session(rt.alloc(), state, RENAMES)
-}
-
-#[test]
-fn commit_made_twice_is_listed_once(rt: HostRuntime) -> Result<(), Fail> {
-    let state = RandomState::new(&rt)?;
-    session(rt.alloc(), state, ONCE)
-}
-
-#[test]
-fn merges_list_what_their_words_include(rt: HostRuntime) -> Result<(), Fail> {
-    let state = RandomState::new(&rt)?;
-    session(rt.alloc(), state, MERGES)
-}
-
-#[test]
-fn tags_are_published_over_branches(rt: HostRuntime) -> Result<(), Fail> {
-    let state = RandomState::new(&rt)?;
-    session(rt.alloc(), state, TAGS)
-}
-
-#[test]
-fn longest_paths_are_kept(rt: HostRuntime) -> Result<(), Fail> {
-    let state = RandomState::new(&rt)?;
-    session(rt.alloc(), state, LONGEST)
+    follow_all(rt.alloc(), state, SESSIONS)
 }

@@ -2,8 +2,8 @@
 
 ghost use Rattle.std.specs.Prelude.{◌<◌};
 
-use gx_command::{CommandFault, CommandReader};
-use gx_text::{Bytes, Source};
+use gx_command::{Command, CommandFault, CommandReader};
+use gx_text::Bytes;
 use std::alloc::{AllocError, Allocator};
 use std::test::Fail;
 
@@ -11,144 +11,196 @@ mod parents;
 mod parts;
 mod rows;
 
-use rows::{BLOBS, CHANGES, COMMITS, FIRST_LINES, LINKS, OPTIONS, TAGS_AND_RESETS};
+use rows::{BLOBS, CHANGES, COMMITS, FAILED, FIRST_LINES, LINKS, OPTIONS, TAGS_AND_RESETS};
 
 /// A commit without changes, which ends with its message.
 const HEAD: &[u8] = b"commit refs/heads/main\ncommitter A <a@x> 1 +0000\ndata 0\n";
 
-/// How many commands come, and the end or fault after them.
-type Answer = (u16, Option<CommandFault>);
+/// A stream's end, or the fault before it.
+type End = Option<CommandFault>;
 
-/// A stream, and how many commands come, and the end or fault after them.
-type Row<'a> = (&'a [u8], u16, Option<CommandFault>);
+/// How many commands come, and what is after them.
+type Answer = (u16, End);
 
-/// How many commands come, and the end or fault after them.
-fn answer<R: Source, A: Allocator + Copy>(reader: &mut CommandReader<R, A>) -> Answer {
+/// A stream, how many commands come, and what is after them.
+type Row<'a> = (&'a [u8], u16, End);
+
+/// These parts, one after the other.
+fn joined<A: Allocator + Copy>(alloc: A, parts: &[&[u8]]) -> Result<Vec<u8, A>, AllocError> {
+    let mut text = Vec::new(alloc);
+    for part in parts {
+        text.extend_from_slice(part)?;
+    }
+    Ok(text)
+}
+
+/// A reader of a text in pieces of this size, behind which the source fails or ends.
+fn reader_of<'a, A: Allocator + Copy>(
+    alloc: A,
+    text: &'a [u8],
+    piece: usize,
+    fails: bool,
+) -> CommandReader<Bytes<'a>, A>
+    requires { 0 < piece }
+{
+    CommandReader::new(alloc, Bytes::new(text, piece, fails))
+}
+
+/// The next command.
+fn next<A: Allocator + Copy>(
+    reader: &mut CommandReader<Bytes<'_>, A>,
+) -> Result<Option<Command<A>>, CommandFault> {
+    reader.next()
+}
+
+/// What is there in place of a next command.
+fn end_in<A: Allocator>(next: &Result<Option<Command<A>>, CommandFault>) -> Option<End> {
+    match next {
+        Ok(Some(_)) => None,
+        Ok(None) => Some(None),
+        Err(fault) => Some(Some(*fault)),
+    }
+}
+
+/// Passes a command. Answers what is there in its place.
+fn pass<A: Allocator + Copy>(reader: &mut CommandReader<Bytes<'_>, A>) -> Option<End> {
+    let next = next(reader);
+    let end = end_in(&next);
+    drop(next);
+    end
+}
+
+/// How many commands come, and what is after them.
+fn answer<A: Allocator + Copy>(reader: &mut CommandReader<Bytes<'_>, A>) -> Answer {
     for count in 0..1000u16 {
-        match reader.next() {
-            Ok(Some(_)) => {}
-            Ok(None) => return (count, None),
-            Err(fault) => return (count, Some(fault)),
+        if let Some(end) = pass(reader) {
+            return (count, end);
         }
     }
     (1000, None)
 }
 
-/// What comes of a stream in pieces of this size, and then twice more.
-fn answers_by<A: Allocator + Copy>(alloc: A, text: &[u8], piece: usize, fails: bool) -> [Answer; 3]
-    requires { 0 < piece }
-{
-    let mut reader = CommandReader::new(alloc, Bytes::new(text, piece, fails));
-    let first = answer(&mut reader);
-    let second = answer(&mut reader);
-    let third = answer(&mut reader);
-    [first, second, third]
+/// Whether no command comes but this end, twice.
+fn is_kept<A: Allocator + Copy>(reader: &mut CommandReader<Bytes<'_>, A>, end: End) -> bool {
+    answer(reader) == (0, end) && answer(reader) == (0, end)
 }
 
-/// The row that isn't answered so, whole and in small pieces, or whose end isn't repeated.
-fn first_wrong<A: Allocator + Copy>(
+/// Whether this comes of a text in pieces of this size, and then its end twice more.
+fn is_answered<A: Allocator + Copy>(
+    alloc: A,
+    text: &[u8],
+    piece: usize,
+    fails: bool,
+    wanted: Answer,
+) -> bool
+    requires { 0 < piece }
+{
+    let mut reader = reader_of(alloc, text, piece, fails);
+    let is_right = answer(&mut reader) == wanted && is_kept(&mut reader, wanted.1);
+    drop(reader);
+    is_right
+}
+
+/// Whether this comes of a text, whole and in small pieces, and its end is repeated.
+fn is_answered_in_pieces<A: Allocator + Copy>(
+    alloc: A,
+    text: &[u8],
+    fails: bool,
+    wanted: Answer,
+) -> bool {
+    for piece in 1..6usize {
+        if !is_answered(alloc, text, piece, fails, wanted) {
+            return false;
+        }
+    }
+    is_answered(alloc, text, 4096, fails, wanted)
+}
+
+/// Whether a row's answer comes of its stream behind this front.
+fn is_right<A: Allocator + Copy>(alloc: A, front: &[u8], row: Row, fails: bool) -> bool {
+    let (tail, count, end) = row;
+    match joined(alloc, &[front, tail]) {
+        Ok(text) => is_answered_in_pieces(alloc, &text, fails, (count, end)),
+        Err(_) => false,
+    }
+}
+
+/// A failure at the first row of which, behind this front, something else comes.
+fn check_rows<A: Allocator + Copy>(
     alloc: A,
     front: &[u8],
     rows: &[Row],
-) -> Result<Option<usize>, AllocError> {
-    for (place, (tail, count, end)) in rows.iter().enumerate() {
-        let mut text = Vec::from_slice(alloc, front)?;
-        text.extend_from_slice(tail)?;
-        let wanted = [(*count, *end), (0, *end), (0, *end)];
-        let whole = answers_by(alloc, &text, 4096, false) == wanted;
-        let bytes = answers_by(alloc, &text, 1, false) == wanted;
-        let pieces = answers_by(alloc, &text, 3, false) == wanted;
-        if !(whole && bytes && pieces) {
-            return Ok(Some(place));
+    fails: bool,
+) -> Result<(), Fail> {
+    for (place, row) in rows.iter().enumerate() {
+        if !is_right(alloc, front, *row, fails) {
+            return Err(Fail::new(format_args!("row {place}")));
         }
     }
-    Ok(None)
+    Ok(())
 }
 
 #[test]
 fn single_lines(rt: HostRuntime) -> Result<(), Fail> {
-    assert_eq!(rt; first_wrong(rt.alloc(), b"", &FIRST_LINES)?, None);
-    Ok(())
+    check_rows(rt.alloc(), b"", FIRST_LINES, false)
 }
 
 #[test]
 fn options_stand_first_and_done_may_be_asked_for(rt: HostRuntime) -> Result<(), Fail> {
-    assert_eq!(rt; first_wrong(rt.alloc(), b"", &OPTIONS)?, None);
-    let mut text = Vec::from_slice(rt.alloc(), b"feature done\n")?;
-    text.extend_from_slice(HEAD)?;
-    text.extend_from_slice(HEAD)?;
-    let missing = Some(CommandFault::MissingDone);
-    assert_eq!(rt;
-        answers_by(rt.alloc(), &text, 5, false),
-        [(3, missing), (0, missing), (0, missing)]
-    );
-    Ok(())
+    check_rows(rt.alloc(), b"", OPTIONS, false)
 }
 
 #[test]
 fn blobs(rt: HostRuntime) -> Result<(), Fail> {
-    assert_eq!(rt; first_wrong(rt.alloc(), b"", &BLOBS)?, None);
-    Ok(())
+    check_rows(rt.alloc(), b"", BLOBS, false)
 }
 
 #[test]
 fn commits(rt: HostRuntime) -> Result<(), Fail> {
-    assert_eq!(rt; first_wrong(rt.alloc(), b"", &COMMITS)?, None);
-    assert_eq!(rt; first_wrong(rt.alloc(), HEAD, &LINKS)?, None);
-    assert_eq!(rt; first_wrong(rt.alloc(), HEAD, &CHANGES)?, None);
-    Ok(())
+    check_rows(rt.alloc(), b"", COMMITS, false)
+}
+
+#[test]
+fn links(rt: HostRuntime) -> Result<(), Fail> {
+    check_rows(rt.alloc(), HEAD, LINKS, false)
+}
+
+#[test]
+fn changes(rt: HostRuntime) -> Result<(), Fail> {
+    check_rows(rt.alloc(), HEAD, CHANGES, false)
 }
 
 #[test]
 fn tags_and_resets(rt: HostRuntime) -> Result<(), Fail> {
-    assert_eq!(rt; first_wrong(rt.alloc(), b"", &TAGS_AND_RESETS)?, None);
-    Ok(())
-}
-
-#[test]
-fn paths_have_at_most_4095_bytes(rt: HostRuntime) -> Result<(), Fail> {
-    for (len, answer) in [
-        (4095usize, (1, None)),
-        (4096, (0, Some(CommandFault::PathTooLong))),
-    ] {
-        let mut text = Vec::from_slice(rt.alloc(), HEAD)?;
-        text.extend_from_slice(b"M 100644 :1 ")?;
-        for _ in 0..len {
-            text.push(b'a')?;
-        }
-        assert_eq!(rt; answers_by(rt.alloc(), &text, 4096, false)[0], answer);
-    }
-    Ok(())
+    check_rows(rt.alloc(), b"", TAGS_AND_RESETS, false)
 }
 
 /// What comes before a failed read is given where it is whole.
 #[test]
 fn failed_read_is_no_end(rt: HostRuntime) -> Result<(), Fail> {
-    let rows: [(&[u8], u16); 13] = [
-        (b"", 0),
-        (b"progress a", 0),
-        (b"progress a\n", 1),
-        (b"blob\ndata 1\na", 0),
-        (b"blob\ndata 1\na\n", 1),
-        (b"reset a\n", 0),
-        (b"reset a\n\n", 1),
-        (b"reset a\nfrom :1\n", 0),
-        (b"reset a\nreset b\n", 1),
-        (b"reset a\ndata 0\n", 0),
-        (b"feature done\nfeature force\n", 2),
-        (b"commit a\ncommitter A <a@x> 1 +0\ndata 0\nD a\n", 0),
-        (b"commit a\ncommitter A <a@x> 1 +0\ndata 0\nD a\n\n", 1),
-    ];
-    let failed = Some(CommandFault::ReadFailed);
-    for (text, count) in rows {
-        assert_eq!(rt;
-            answers_by(rt.alloc(), text, 2, true),
-            [(count, failed), (0, failed), (0, failed)]
-        );
+    check_rows(rt.alloc(), b"", FAILED, true)
+}
+
+/// A commit that modifies a path of this length.
+fn with_path<A: Allocator + Copy>(alloc: A, len: usize) -> Result<Vec<u8, A>, AllocError> {
+    let mut text = joined(alloc, &[HEAD, b"M 100644 :1 "])?;
+    for _ in 0..len {
+        text.push(b'a')?;
     }
-    assert_eq!(rt;
-        answers_by(rt.alloc(), b"done\nblob\n", 2, true),
-        [(1, None), (0, None), (0, None)]
-    );
-    Ok(())
+    Ok(text)
+}
+
+/// Whether this comes of a commit that modifies a path of this length.
+fn is_path_answered<A: Allocator + Copy>(alloc: A, len: usize, wanted: Answer) -> bool {
+    match with_path(alloc, len) {
+        Ok(text) => is_answered(alloc, &text, 4096, false, wanted),
+        Err(_) => false,
+    }
+}
+
+#[test]
+fn paths_have_at_most_4095_bytes(rt: HostRuntime) {
+    let too_long = Some(CommandFault::PathTooLong);
+    assert!(rt; is_path_answered(rt.alloc(), 4095, (1, None)));
+    assert!(rt; is_path_answered(rt.alloc(), 4096, (0, too_long)));
 }

@@ -1,49 +1,94 @@
 //! Commits with many parents.
 
-use super::HEAD;
-use gx_command::{Command, CommandReader, Commit, CommitIsh};
+use super::{HEAD, answer, joined, next, reader_of};
+use gx_command::{Command, CommandFault, CommandReader, Commit, CommitIsh};
 use gx_text::Bytes;
 use std::alloc::{AllocError, Allocator};
-use std::test::Fail;
 
-/// A commit from mark 1 that merges as many marks as asked for, from 2 on, and removes a file.
-fn merging<A: Allocator + Copy>(alloc: A, merges: u64) -> Result<Vec<u8, A>, AllocError> {
-    let mut text = Vec::from_slice(alloc, HEAD)?;
-    text.extend_from_slice(b"from :1\n")?;
-    for merge in 0..merges {
-        let line = format!(in alloc; "merge :{mark}\n", mark = merge.saturating_add(2))?;
+/// How many other commits the commits merge.
+const MERGES: &[usize] = &[17, 100, 10_000];
+
+/// Appends the merges of as many marks, from 2 on.
+fn append_merges<A: Allocator + Copy>(
+    alloc: A,
+    text: &mut Vec<u8, A>,
+    merges: usize,
+) -> Result<(), AllocError> {
+    for mark in 2..merges.saturating_add(2) {
+        let line = format!(in alloc; "merge :{mark}\n")?;
         text.extend_from_slice(line.as_bytes())?;
     }
+    Ok(())
+}
+
+/// A commit from mark 1 that merges as many marks as asked for, from 2 on, and removes a file.
+fn merging<A: Allocator + Copy>(alloc: A, merges: usize) -> Result<Vec<u8, A>, AllocError> {
+    let mut text = joined(alloc, &[HEAD, b"from :1\n"])?;
+    append_merges(alloc, &mut text, merges)?;
     text.extend_from_slice(b"D a\n")?;
     Ok(text)
 }
 
-/// Whether it is a commit from mark 1 that merges the marks from 2 on, as many as asked for, and has one change.
-fn is_merging<A: Allocator>(commit: &Commit<A>, merges: usize) -> bool {
+/// Whether these are the marks from 2 on, as many as asked for.
+fn are_marks<A: Allocator>(merges: &[CommitIsh<A>], len: usize) -> bool {
     let mut wanted = 1u64;
-    for merge in commit.merges.iter() {
+    for merge in merges {
         wanted = wanted.saturating_add(1);
         if !matches!(merge, CommitIsh::Mark(mark) if *mark == wanted) {
             return false;
         }
     }
+    merges.len() == len
+}
+
+/// Whether it is a commit from mark 1 that merges the marks from 2 on, as many as asked for, and has one change.
+fn is_merging<A: Allocator>(commit: &Commit<A>, merges: usize) -> bool {
     matches!(commit.from, Some(CommitIsh::Mark(1)))
-        && commit.merges.len() == merges
+        && are_marks(&commit.merges, merges)
         && commit.changes.len() == 1
 }
 
-#[test]
-fn commits_have_any_number_of_parents(rt: HostRuntime) -> Result<(), Fail> {
-    for merges in [17usize, 100, 10_000] {
-        let text = merging(rt.alloc(), merges as u64)?;
-        let mut reader = CommandReader::new(rt.alloc(), Bytes::new(&text, 4096, false));
-        match reader.next() {
-            Ok(Some(Command::Commit(commit))) => {
-                assert!(rt; is_merging(&commit, merges), "of {merges}");
-            }
-            _ => return Err(Fail::from("no commit")),
-        }
-        assert!(rt; matches!(reader.next(), Ok(None)));
+/// Whether there is such a commit.
+fn is_merging_in<A: Allocator>(
+    next: &Result<Option<Command<A>>, CommandFault>,
+    merges: usize,
+) -> bool {
+    match next {
+        Ok(Some(Command::Commit(commit))) => is_merging(commit, merges),
+        _ => false,
     }
-    Ok(())
+}
+
+/// Whether the next command is such a commit.
+fn is_next_merging<A: Allocator + Copy>(
+    reader: &mut CommandReader<Bytes<'_>, A>,
+    merges: usize,
+) -> bool {
+    let next = next(reader);
+    let is_right = is_merging_in(&next, merges);
+    drop(next);
+    is_right
+}
+
+/// Whether such a commit is read of a text, and nothing else.
+fn is_read<A: Allocator + Copy>(alloc: A, text: &[u8], merges: usize) -> bool {
+    let mut reader = reader_of(alloc, text, 4096, false);
+    let is_right = is_next_merging(&mut reader, merges) && answer(&mut reader) == (0, None);
+    drop(reader);
+    is_right
+}
+
+/// Whether such a commit is read, and nothing else, where it is written.
+fn is_read_back<A: Allocator + Copy>(alloc: A, merges: usize) -> bool {
+    match merging(alloc, merges) {
+        Ok(text) => is_read(alloc, &text, merges),
+        Err(_) => false,
+    }
+}
+
+#[test]
+fn commits_have_any_number_of_parents(rt: HostRuntime) {
+    for merges in MERGES {
+        assert!(rt; is_read_back(rt.alloc(), *merges), "of {merges}");
+    }
 }

@@ -2,15 +2,15 @@
 
 ghost use Rattle.std.specs.Prelude.{◌<◌};
 
+use super::{End, answer, end_in, next, reader_of};
 use gx_command::{
     Blob, Change, Command, CommandFault, CommandReader, Commit, CommitIsh, DataRef, Feature,
-    Modify, Tag,
+    Modify, Reset, Tag,
 };
 use gx_model::Mode;
 use gx_refusing::Refusing;
-use gx_text::{Bytes, Source, TreePath};
-use std::alloc::{AllocError, Allocator};
-use std::test::Fail;
+use gx_text::{Bytes, TreePath};
+use std::alloc::Allocator;
 
 const STREAM: &[u8] = b"\
 feature done\n\
@@ -71,6 +71,7 @@ data 1\n\
 mdone\n\
 foo\n";
 
+/// The commands of that stream, each with a semicolon, and a dot at the end.
 const COMMANDS: &[u8] =
     b"feature done;option git quiet;blob :1 <a\nb>;blob <c\n>;checkpoint;progress half way;\
 commit refs/heads/a :2 author(A <a@x> 1 +0000) committer(B <b@x> 2 -0130) encoding(latin 1) <foo> from :3 merge :4 merge main~2 \
@@ -79,269 +80,317 @@ M 160000 D670460B4B4AECE5915CAF5C68D12F560A9FE3E4 [sub] D [d/e] C [f g] [h i] R 
 reset refs/heads/b from refs/heads/a^0;reset refs/heads/c;tag v1 :5 from :2 tagger(<c@x> 3 +0) <one>;tag v2 from x <>;\
 commit c committer(B <b@x> 4 +0000) <m>;done;.";
 
-/// Commands as text, with all their parts.
-#[derive(Drop)]
-struct Spelling<B: Allocator + Copy> {
-    alloc: B,
-    text: Vec<u8, B>,
+/// How much of that text commands spell, and whether they spell nothing else.
+#[derive(Clone, Copy)]
+struct Spelling {
+    len: usize,
+    is_right: bool,
 }
 
-impl<B: Allocator + Copy> Spelling<B> {
-    fn put(&mut self, text: &[u8]) -> Result<(), AllocError> {
-        self.text.extend_from_slice(text)?;
-        Ok(())
+impl Spelling {
+    fn put(&mut self, text: &[u8]) {
+        let is_next = match COMMANDS.get(self.len..) {
+            Some(rest) => rest.starts_with(text),
+            None => false,
+        };
+        self.is_right = self.is_right && is_next;
+        self.len = self.len.saturating_add(text.len());
     }
 
-    fn put_between(&mut self, open: &[u8], text: &[u8], close: &[u8]) -> Result<(), AllocError> {
-        self.put(open)?;
-        self.put(text)?;
-        self.put(close)
+    fn put_between(&mut self, open: &[u8], text: &[u8], close: &[u8]) {
+        self.put(open);
+        self.put(text);
+        self.put(close);
     }
 
-    fn put_mark(&mut self, mark: u64) -> Result<(), AllocError> {
-        let digits = format!(in self.alloc; "{mark}")?;
-        self.put_between(b" :", digits.as_bytes(), b"")
+    fn put_mark(&mut self, mark: u64) {
+        self.put(match mark {
+            1 => b" :1".as_slice(),
+            2 => b" :2".as_slice(),
+            3 => b" :3".as_slice(),
+            4 => b" :4".as_slice(),
+            5 => b" :5".as_slice(),
+            _ => b" :?".as_slice(),
+        });
     }
 
-    fn put_path<A: Allocator + Copy>(&mut self, path: &TreePath<A>) -> Result<(), AllocError> {
-        self.put_between(b" [", path.joined(), b"]")
+    fn put_any_mark(&mut self, mark: Option<u64>) {
+        if let Some(mark) = mark {
+            self.put_mark(mark);
+        }
     }
 
-    fn put_commit_ish<A: Allocator>(
-        &mut self,
-        word: &[u8],
-        commit: &CommitIsh<A>,
-    ) -> Result<(), AllocError> {
-        self.put(word)?;
+    fn put_path<A: Allocator + Copy>(&mut self, path: &TreePath<A>) {
+        self.put_between(b" [", path.joined(), b"]");
+    }
+
+    fn put_commit_ish<A: Allocator>(&mut self, word: &[u8], commit: &CommitIsh<A>) {
+        self.put(word);
         match commit {
             CommitIsh::Mark(mark) => self.put_mark(*mark),
             CommitIsh::Text(text) => self.put_between(b" ", text, b""),
         }
     }
 
-    fn put_blob<A: Allocator>(&mut self, blob: &Blob<A>) -> Result<(), AllocError> {
-        self.put(b"blob")?;
-        if let Some(mark) = blob.mark {
-            self.put_mark(mark)?;
-        }
-        self.put_between(b" <", &blob.bytes, b">")
+    fn put_blob<A: Allocator>(&mut self, blob: &Blob<A>) {
+        self.put(b"blob");
+        self.put_any_mark(blob.mark);
+        self.put_between(b" <", &blob.bytes, b">");
     }
 
-    fn put_commit<A: Allocator + Copy>(&mut self, commit: &Commit<A>) -> Result<(), AllocError> {
-        self.put_between(b"commit ", &commit.branch.bytes, b"")?;
-        if let Some(mark) = commit.mark {
-            self.put_mark(mark)?;
-        }
-        if let Some(author) = &commit.author {
-            self.put_between(b" author(", &author.bytes, b")")?;
-        }
-        self.put_between(b" committer(", &commit.committer.bytes, b")")?;
-        if let Some(encoding) = &commit.encoding {
-            self.put_between(b" encoding(", &encoding.name, b")")?;
-        }
-        self.put_between(b" <", &commit.message, b">")?;
+    fn put_commit<A: Allocator + Copy>(&mut self, commit: &Commit<A>) {
+        self.put_between(b"commit ", &commit.branch.bytes, b"");
+        self.put_any_mark(commit.mark);
+        self.put_head(commit);
+        self.put_between(b" <", &commit.message, b">");
         if let Some(from) = &commit.from {
-            self.put_commit_ish(b" from", from)?;
+            self.put_commit_ish(b" from", from);
         }
         for merge in commit.merges.iter() {
-            self.put_commit_ish(b" merge", merge)?;
+            self.put_commit_ish(b" merge", merge);
         }
-        for change in commit.changes.iter() {
-            self.put_change(change)?;
-        }
-        Ok(())
+        self.put_changes(&commit.changes);
     }
 
-    fn put_change<A: Allocator + Copy>(&mut self, change: &Change<A>) -> Result<(), AllocError> {
+    fn put_head<A: Allocator + Copy>(&mut self, commit: &Commit<A>) {
+        if let Some(author) = &commit.author {
+            self.put_between(b" author(", &author.bytes, b")");
+        }
+        self.put_between(b" committer(", &commit.committer.bytes, b")");
+        if let Some(encoding) = &commit.encoding {
+            self.put_between(b" encoding(", &encoding.name, b")");
+        }
+    }
+
+    fn put_changes<A: Allocator + Copy>(&mut self, changes: &[Change<A>]) {
+        for change in changes {
+            self.put_change(change);
+        }
+    }
+
+    fn put_change<A: Allocator + Copy>(&mut self, change: &Change<A>) {
         match change {
             Change::Modify(modify) => self.put_modify(modify),
             Change::Remove(path) => {
-                self.put(b" D")?;
-                self.put_path(path)
+                self.put(b" D");
+                self.put_path(path);
             }
             Change::Copy {
                 source,
                 destination,
             } => {
-                self.put(b" C")?;
-                self.put_path(source)?;
-                self.put_path(destination)
+                self.put(b" C");
+                self.put_path(source);
+                self.put_path(destination);
             }
             Change::Rename {
                 source,
                 destination,
             } => {
-                self.put(b" R")?;
-                self.put_path(source)?;
-                self.put_path(destination)
+                self.put(b" R");
+                self.put_path(source);
+                self.put_path(destination);
             }
             Change::Clear => self.put(b" deleteall"),
         }
     }
 
-    fn put_modify<A: Allocator + Copy>(&mut self, modify: &Modify<A>) -> Result<(), AllocError> {
+    fn put_modify<A: Allocator + Copy>(&mut self, modify: &Modify<A>) {
         self.put(match modify.mode {
             Mode::File => b" M 100644".as_slice(),
             Mode::Exec => b" M 100755".as_slice(),
             Mode::Link => b" M 120000".as_slice(),
             Mode::Gitlink => b" M 160000".as_slice(),
             Mode::Dir => b" M 040000".as_slice(),
-        })?;
+        });
         match &modify.data_ref {
-            DataRef::Mark(mark) => self.put_mark(*mark)?,
-            DataRef::Name(name) => self.put_between(b" ", &name.digits, b"")?,
-            DataRef::Inline(bytes) => self.put_between(b" <", bytes, b">")?,
+            DataRef::Mark(mark) => self.put_mark(*mark),
+            DataRef::Name(name) => self.put_between(b" ", &name.digits, b""),
+            DataRef::Inline(bytes) => self.put_between(b" <", bytes, b">"),
         }
-        self.put_path(&modify.path)
+        self.put_path(&modify.path);
     }
 
-    fn put_tag<A: Allocator>(&mut self, tag: &Tag<A>) -> Result<(), AllocError> {
-        self.put_between(b"tag ", &tag.name.bytes, b"")?;
-        if let Some(mark) = tag.mark {
-            self.put_mark(mark)?;
-        }
-        self.put_commit_ish(b" from", &tag.from)?;
+    fn put_tag<A: Allocator>(&mut self, tag: &Tag<A>) {
+        self.put_between(b"tag ", &tag.name.bytes, b"");
+        self.put_any_mark(tag.mark);
+        self.put_commit_ish(b" from", &tag.from);
         if let Some(tagger) = &tag.tagger {
-            self.put_between(b" tagger(", &tagger.bytes, b")")?;
+            self.put_between(b" tagger(", &tagger.bytes, b")");
         }
-        self.put_between(b" <", &tag.message, b">")
+        self.put_between(b" <", &tag.message, b">");
     }
 
-    fn put_command<A: Allocator + Copy>(&mut self, command: &Command<A>) -> Result<(), AllocError> {
+    fn put_reset<A: Allocator>(&mut self, reset: &Reset<A>) {
+        self.put_between(b"reset ", &reset.branch.bytes, b"");
+        if let Some(from) = &reset.from {
+            self.put_commit_ish(b" from", from);
+        }
+    }
+
+    fn put_feature(&mut self, feature: &Feature) {
+        self.put(match feature {
+            Feature::Done => b"feature done".as_slice(),
+            Feature::RawDates => b"feature date-format=raw".as_slice(),
+            Feature::Force => b"feature force".as_slice(),
+        });
+    }
+
+    fn put_command<A: Allocator + Copy>(&mut self, command: &Command<A>) {
         match command {
             Command::Blob(blob) => self.put_blob(blob),
             Command::Commit(commit) => self.put_commit(commit),
             Command::Tag(tag) => self.put_tag(tag),
-            Command::Reset(reset) => {
-                self.put_between(b"reset ", &reset.branch.bytes, b"")?;
-                match &reset.from {
-                    Some(from) => self.put_commit_ish(b" from", from),
-                    None => Ok(()),
-                }
-            }
+            Command::Reset(reset) => self.put_reset(reset),
             Command::Checkpoint => self.put(b"checkpoint"),
             Command::Progress(text) => self.put_between(b"progress ", text, b""),
-            Command::Feature(feature) => self.put(match feature {
-                Feature::Done => b"feature done".as_slice(),
-                Feature::RawDates => b"feature date-format=raw".as_slice(),
-                Feature::Force => b"feature force".as_slice(),
-            }),
+            Command::Feature(feature) => self.put_feature(feature),
             Command::OptionLine(text) => self.put_between(b"option ", text, b""),
             Command::Done => self.put(b"done"),
         }
     }
+
+    /// Puts a command, or the dot at the end. Answers what is there in place of a command.
+    fn put_in<A: Allocator + Copy>(
+        &mut self,
+        next: &Result<Option<Command<A>>, CommandFault>,
+    ) -> Option<End> {
+        match next {
+            Ok(Some(command)) => {
+                self.put_command(command);
+                self.put(b";");
+            }
+            Ok(None) => self.put(b"."),
+            Err(_) => {}
+        }
+        end_in(next)
+    }
+
+    /// Reads a command, and puts it.
+    fn put_next<A: Allocator + Copy>(
+        &mut self,
+        reader: &mut CommandReader<Bytes<'_>, A>,
+    ) -> Option<End> {
+        let next = next(reader);
+        let end = self.put_in(&next);
+        drop(next);
+        end
+    }
+
+    /// Whether it is a front of the text, and the whole text where no fault is in its place.
+    fn is_whole(&self, end: End) -> bool {
+        self.is_right && (end.is_some() || self.len == COMMANDS.len())
+    }
 }
 
-/// The commands up to the end or a fault, each with a semicolon, then a dot or the fault's name.
-fn spell<R: Source, A: Allocator + Copy, B: Allocator + Copy>(
-    alloc: B,
-    reader: &mut CommandReader<R, A>,
-) -> Result<Vec<u8, B>, AllocError> {
+/// What comes after commands, where they are those of the text up to there.
+fn end_of<A: Allocator + Copy>(reader: &mut CommandReader<Bytes<'_>, A>) -> Option<End> {
     let mut spelling = Spelling {
-        alloc,
-        text: Vec::new(alloc),
+        len: 0,
+        is_right: true,
     };
     for _ in 0..100u8 {
-        match reader.next() {
-            Ok(Some(command)) => {
-                spelling.put_command(&command)?;
-                spelling.put(b";")?;
-            }
-            Ok(None) => {
-                spelling.put(b".")?;
-                break;
-            }
-            Err(fault) => {
-                let name = format!(in alloc; "{fault}")?;
-                spelling.put(name.as_bytes())?;
-                break;
-            }
+        if let Some(end) = spelling.put_next(reader) {
+            return if spelling.is_whole(end) {
+                Some(end)
+            } else {
+                None
+            };
         }
     }
-    Ok(spelling.text)
+    None
 }
 
-fn spelled_by<A: Allocator + Copy>(
+/// The same of a stream in pieces of this size, where the end comes again.
+fn told_end<A: Allocator + Copy>(alloc: A, text: &[u8], piece: usize, fails: bool) -> Option<End>
+    requires { 0 < piece }
+{
+    let mut reader = reader_of(alloc, text, piece, fails);
+    let end = end_of(&mut reader);
+    let again = answer(&mut reader);
+    drop(reader);
+    if again == (0, end?) { end } else { None }
+}
+
+/// Whether a stream in pieces of this size, behind which the source fails or ends, gives its commands, and then this.
+fn is_spelled<A: Allocator + Copy>(
     alloc: A,
     text: &[u8],
     piece: usize,
-) -> Result<Vec<u8, A>, AllocError>
+    fails: bool,
+    end: End,
+) -> bool
     requires { 0 < piece }
 {
-    let mut reader = CommandReader::new(alloc, Bytes::new(text, piece, false));
-    spell(alloc, &mut reader)
+    told_end(alloc, text, piece, fails) == Some(end)
 }
 
 #[test]
-fn commands_have_their_parts_in_pieces_of_any_size(rt: HostRuntime) -> Result<(), Fail> {
+fn commands_have_their_parts_in_pieces_of_any_size(rt: HostRuntime) {
     for piece in 1..33usize {
-        assert_eq!(rt;
-            spelled_by(rt.alloc(), STREAM, piece)?.as_slice(),
-            COMMANDS,
+        assert!(rt;
+            is_spelled(rt.alloc(), STREAM, piece, false, None),
             "at {piece}"
         );
     }
-    assert_eq!(rt; spelled_by(rt.alloc(), STREAM, 4096)?.as_slice(), COMMANDS);
-    Ok(())
+    assert!(rt; is_spelled(rt.alloc(), STREAM, 4096, false, None));
 }
 
 #[test]
-fn failed_read_keeps_the_commands_before_it(rt: HostRuntime) -> Result<(), Fail> {
+fn failed_read_keeps_the_commands_before_it(rt: HostRuntime) {
+    let failed = Some(CommandFault::ReadFailed);
     for count in 0..STREAM.len() - 4 {
-        let mut reader = CommandReader::new(rt.alloc(), Bytes::new(&STREAM[..count], 7, true));
-        let commands = spell(rt.alloc(), &mut reader)?;
-        let Some(front) = commands.strip_suffix(b"ReadFailed") else {
-            return Err(Fail::from("no failure"));
-        };
-        assert!(rt; COMMANDS.starts_with(front), "after {count}");
-        assert!(rt; matches!(reader.next(), Err(CommandFault::ReadFailed)));
+        assert!(rt;
+            is_spelled(rt.alloc(), &STREAM[..count], 7, true, failed),
+            "after {count}"
+        );
     }
-    Ok(())
 }
 
-#[derive(Drop)]
-struct Trial<A: Allocator> {
-    commands: Vec<u8, A>,
-    again: Vec<u8, A>,
-    is_waiting: bool,
-}
-
-fn trial_at<B: Allocator + Copy, C: Allocator>(
-    alloc: B,
-    heap: &Refusing<C>,
-    nth: u64,
-) -> Result<Trial<B>, AllocError> {
-    let mut reader = CommandReader::new(heap, Bytes::new(STREAM, 5, false));
+/// Whether the stream is read before the growth with this number comes. None where another answer than that growth's refusal
+/// came.
+fn is_read_before<B: Allocator>(heap: &Refusing<B>, nth: u64) -> Option<bool> {
     heap.arm(nth);
-    let commands = spell(alloc, &mut reader)?;
+    let end = told_end(heap, STREAM, 5, false)?;
     let is_waiting = heap.is_waiting();
-    heap.arm(0);
-    let again = spell(alloc, &mut reader)?;
-    Ok(Trial {
-        commands,
-        again,
-        is_waiting,
-    })
+    let wanted = if is_waiting {
+        None
+    } else {
+        Some(CommandFault::OutOfMemory)
+    };
+    if end == wanted {
+        Some(is_waiting)
+    } else {
+        None
+    }
+}
+
+/// How many growths are refused, one after the other, until the stream is read. None where another answer came.
+fn refused_growths<B: Allocator>(heap: &Refusing<B>) -> Option<u64> {
+    for nth in 1..1000u64 {
+        if is_read_before(heap, nth)? {
+            return Some(nth - 1);
+        }
+    }
+    None
 }
 
 #[test]
-fn refused_growth_is_out_of_memory(rt: HostRuntime) -> Result<(), Fail> {
-    let mut refused = 0u64;
-    for nth in 1..1000u64 {
-        let heap = Refusing::new(rt.alloc(), 0);
-        let trial = trial_at(rt.alloc(), &heap, nth)?;
-        if trial.is_waiting {
-            assert_eq!(rt; trial.commands.as_slice(), COMMANDS);
-            assert_eq!(rt; trial.again.as_slice(), b".".as_slice());
-            break;
-        }
-        let Some(front) = trial.commands.strip_suffix(b"OutOfMemory") else {
-            return Err(Fail::from("no refusal"));
-        };
-        assert!(rt; COMMANDS.starts_with(front), "at {nth}");
-        assert_eq!(rt; trial.again.as_slice(), b"OutOfMemory".as_slice());
-        refused = nth;
+fn refused_growth_is_out_of_memory(rt: HostRuntime) {
+    let heap = Refusing::new(rt.alloc(), 0);
+    assert!(rt; refused_growths(&heap).unwrap_or(0) > 40);
+}
+
+/// Whether a fault prints this name.
+fn is_printed<A: Allocator + Copy>(alloc: A, fault: CommandFault, name: &str) -> bool {
+    match format!(in alloc; "{fault}") {
+        Ok(printed) => printed.as_str() == name,
+        Err(_) => false,
     }
-    assert!(rt; refused > 40);
-    Ok(())
+}
+
+#[test]
+fn faults_print_their_names(rt: HostRuntime) {
+    assert!(rt; is_printed(rt.alloc(), CommandFault::ReadFailed, "ReadFailed"));
+    assert!(rt; is_printed(rt.alloc(), CommandFault::OutOfMemory, "OutOfMemory"));
 }

@@ -4,7 +4,7 @@ use super::Row;
 use gx_command::CommandFault;
 
 /// Streams of single lines, and of what stands where a command is expected.
-pub(super) const FIRST_LINES: [Row; 35] = [
+pub(super) const FIRST_LINES: &[Row] = &[
     (b"", 0, None),
     (b"\n\n\n", 0, None),
     (b"# a\n\n#b", 0, None),
@@ -43,7 +43,7 @@ pub(super) const FIRST_LINES: [Row; 35] = [
 ];
 
 /// Streams with features and options.
-pub(super) const OPTIONS: [Row; 28] = [
+pub(super) const OPTIONS: &[Row] = &[
     (b"feature\n", 0, Some(CommandFault::BadLine)),
     (b"feature \n", 0, Some(CommandFault::Unsupported)),
     (b"feature what\n", 0, Some(CommandFault::Unsupported)),
@@ -116,10 +116,21 @@ pub(super) const OPTIONS: [Row; 28] = [
         2,
         Some(CommandFault::LateOption),
     ),
+    (
+        b"feature done\n\
+commit refs/heads/main\n\
+committer A <a@x> 1 +0000\n\
+data 0\n\
+commit refs/heads/main\n\
+committer A <a@x> 1 +0000\n\
+data 0\n",
+        3,
+        Some(CommandFault::MissingDone),
+    ),
 ];
 
 /// Streams of blobs.
-pub(super) const BLOBS: [Row; 38] = [
+pub(super) const BLOBS: &[Row] = &[
     (b"blob x\ndata 0\n", 0, Some(CommandFault::BadLine)),
     (b"blob \ndata 0\n", 0, Some(CommandFault::BadLine)),
     (b"blob\n", 0, Some(CommandFault::BadLine)),
@@ -189,7 +200,7 @@ pub(super) const BLOBS: [Row; 38] = [
 ];
 
 /// Streams of commits, up to their message.
-pub(super) const COMMITS: [Row; 44] = [
+pub(super) const COMMITS: &[Row] = &[
     (b"commit\n", 0, Some(CommandFault::BadLine)),
     (b"commit \n", 0, Some(CommandFault::BadRefName)),
     (
@@ -373,7 +384,7 @@ pub(super) const COMMITS: [Row; 44] = [
 ];
 
 /// What follows a commit's message, before its changes and after it.
-pub(super) const LINKS: [Row; 38] = [
+pub(super) const LINKS: &[Row] = &[
     (b"", 1, None),
     (b"\n", 1, None),
     (b"\n\n\n", 1, None),
@@ -443,7 +454,7 @@ pub(super) const LINKS: [Row; 38] = [
 ];
 
 /// What follows a commit's message: changes.
-pub(super) const CHANGES: [Row; 79] = [
+pub(super) const CHANGES: &[Row] = &[
     (b"M\n", 0, Some(CommandFault::BadLine)),
     (b"M \n", 0, Some(CommandFault::BadMode)),
     (b"M 777\n", 0, Some(CommandFault::BadMode)),
@@ -570,7 +581,7 @@ pub(super) const CHANGES: [Row; 79] = [
 ];
 
 /// Streams of tags and resets.
-pub(super) const TAGS_AND_RESETS: [Row; 37] = [
+pub(super) const TAGS_AND_RESETS: &[Row] = &[
     (b"tag\n", 0, Some(CommandFault::BadLine)),
     (b"tag \n", 0, Some(CommandFault::BadRefName)),
     (b"tag a..b\n", 0, Some(CommandFault::BadRefName)),
@@ -668,4 +679,34 @@ pub(super) const TAGS_AND_RESETS: [Row; 37] = [
     (b"reset a\ndata x\n", 0, Some(CommandFault::BadNumber)),
     (b"reset a\n\ndata x\n", 1, Some(CommandFault::BadNumber)),
     (b"reset a\nreset b\nreset c\nfrom a\n", 3, None),
+];
+
+/// Streams behind which the source fails.
+pub(super) const FAILED: &[Row] = &[
+    (b"", 0, Some(CommandFault::ReadFailed)),
+    (b"progress a", 0, Some(CommandFault::ReadFailed)),
+    (b"progress a\n", 1, Some(CommandFault::ReadFailed)),
+    (b"blob\ndata 1\na", 0, Some(CommandFault::ReadFailed)),
+    (b"blob\ndata 1\na\n", 1, Some(CommandFault::ReadFailed)),
+    (b"reset a\n", 0, Some(CommandFault::ReadFailed)),
+    (b"reset a\n\n", 1, Some(CommandFault::ReadFailed)),
+    (b"reset a\nfrom :1\n", 0, Some(CommandFault::ReadFailed)),
+    (b"reset a\nreset b\n", 1, Some(CommandFault::ReadFailed)),
+    (b"reset a\ndata 0\n", 0, Some(CommandFault::ReadFailed)),
+    (
+        b"feature done\nfeature force\n",
+        2,
+        Some(CommandFault::ReadFailed),
+    ),
+    (
+        b"commit a\ncommitter A <a@x> 1 +0\ndata 0\nD a\n",
+        0,
+        Some(CommandFault::ReadFailed),
+    ),
+    (
+        b"commit a\ncommitter A <a@x> 1 +0\ndata 0\nD a\n\n",
+        1,
+        Some(CommandFault::ReadFailed),
+    ),
+    (b"done\nblob\n", 1, None),
 ];

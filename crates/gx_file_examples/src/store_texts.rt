@@ -1,11 +1,8 @@
-//! Texts that are written again, whose changes are told, and for which memory is refused.
-
 ghost use Rattle.std.specs.Prelude.{◌<◌, length};
 
-use gx_file::{FileFault, read, write};
+use gx_file::{FileFault, OutOfMemory, read, write};
 use gx_object::Sha1Namer;
 use gx_refusing::Refusing;
-use gx_repo::Repo;
 use std::alloc::{AllocError, Allocator};
 use std::hash::RandomState;
 use std::test::Fail;
@@ -14,22 +11,18 @@ mod limits;
 mod refusals;
 
 /// A text with an object of each kind, and with two refs.
-const WHOLE: &[u8] = b"gxstore 1\nobjects 4\n\
-blob 10\nversion 1\n\n\
-tree 36\n100644 test.txt\0\
-\x83\xba\xae\x61\x80\x4e\x65\xcc\x73\xa7\x20\x1a\x72\x52\x75\x0c\x76\x06\x6a\x30\n\
-commit 98\ntree d8329fc1cc938780ffdd9f94e0d364e0ea74f579\n\
-author A <a@x> 1 +0000\ncommitter A <a@x> 1 +0000\n\nv1\n\
-tag 94\nobject 02d6adf1689e06135d2b4b4d471f1ae489887b53\n\
-type commit\ntag v1\ntagger A <a@x> 2 +0000\n\none\n\
-refs 2\n02d6adf1689e06135d2b4b4d471f1ae489887b53 refs/heads/main\n\
-97d8375ddbc6d68ebd1cd704d215a6ca988cdf29 refs/tags/v1\nend\n";
-
-/// The text of the empty store.
-const EMPTY: &[u8] = b"gxstore 1\nobjects 0\nrefs 0\nend\n";
-
-/// A text with one blob.
-const ONE_BLOB: &[u8] = b"gxstore 1\nobjects 1\nblob 13\ntest content\n\nrefs 0\nend\n";
+const WHOLE: &[&[u8]] = &[
+    b"gxstore 1\nobjects 4\n",
+    b"blob 10\nversion 1\n\n",
+    b"tree 36\n100644 test.txt\0",
+    b"\x83\xba\xae\x61\x80\x4e\x65\xcc\x73\xa7\x20\x1a\x72\x52\x75\x0c\x76\x06\x6a\x30\n",
+    b"commit 98\ntree d8329fc1cc938780ffdd9f94e0d364e0ea74f579\n",
+    b"author A <a@x> 1 +0000\ncommitter A <a@x> 1 +0000\n\nv1\n",
+    b"tag 94\nobject 02d6adf1689e06135d2b4b4d471f1ae489887b53\n",
+    b"type commit\ntag v1\ntagger A <a@x> 2 +0000\n\none\n",
+    b"refs 2\n02d6adf1689e06135d2b4b4d471f1ae489887b53 refs/heads/main\n",
+    b"97d8375ddbc6d68ebd1cd704d215a6ca988cdf29 refs/tags/v1\nend\n",
+];
 
 /// Git's names of the objects in that text.
 const NAMES: &[&[u8]] = &[
@@ -43,51 +36,27 @@ const NAMES: &[&[u8]] = &[
 const HELLO: &[u8] =
     b"\xce\x01\x36\x25\x03\x0b\xa8\xdb\xa9\x06\xf7\x56\x96\x7f\x9e\x9c\xa3\x94\x46\x4a";
 
-/// Appends these parts, one after the other.
-fn append<A: Allocator>(text: &mut Vec<u8, A>, parts: &[&[u8]]) -> Result<(), AllocError> {
-    for part in parts {
-        text.extend_from_slice(part)?;
-    }
-    Ok(())
-}
-
 /// These parts, one after the other.
 fn joined<A: Allocator + Copy>(alloc: A, parts: &[&[u8]]) -> Result<Vec<u8, A>, AllocError> {
     let mut text = Vec::new(alloc);
-    append(&mut text, parts)?;
-    Ok(text)
-}
-
-/// The repository of a text.
-fn repo_of<A: Allocator + Copy>(
-    alloc: A,
-    text: &[u8],
-    state: RandomState,
-) -> Result<Repo<Sha1Namer, A>, FileFault> {
-    read(alloc, Sha1Namer, text, state)
-}
-
-/// Whether a repository is written as this text. None where there is no memory for it.
-fn is_written<A: Allocator + Copy>(
-    alloc: A,
-    repo: &Repo<Sha1Namer, A>,
-    text: &[u8],
-) -> Option<bool> {
-    match write(alloc, repo) {
-        Ok(written) => Some(written.as_slice() == text),
-        Err(_) => None,
+    for part in parts {
+        text.extend_from_slice(part)?;
     }
+    Ok(text)
 }
 
 /// Why a text is refused; none where it is read.
 fn fault_in<A: Allocator + Copy>(alloc: A, text: &[u8], state: RandomState) -> Option<FileFault> {
-    repo_of(alloc, text, state).err()
+    read(alloc, Sha1Namer, text, state).err()
 }
 
 /// Whether a text is read, and what was read is written as that text.
 fn is_written_again<A: Allocator + Copy>(alloc: A, text: &[u8], state: RandomState) -> bool {
-    match repo_of(alloc, text, state) {
-        Ok(repo) => is_written(alloc, &repo, text) == Some(true),
+    let Ok(repo) = read(alloc, Sha1Namer, text, state) else {
+        return false;
+    };
+    match write(alloc, &repo) {
+        Ok(again) => again.as_slice() == text,
         Err(_) => false,
     }
 }
@@ -95,29 +64,14 @@ fn is_written_again<A: Allocator + Copy>(alloc: A, text: &[u8], state: RandomSta
 #[test]
 fn texts_are_written_again(rt: HostRuntime) -> Result<(), Fail> {
     let state = RandomState::new(&rt)?;
-    assert_eq!(rt; EMPTY.len(), 31);
-    for text in [EMPTY, ONE_BLOB, WHOLE] {
-        assert!(rt; is_written_again(rt.alloc(), text, state));
-    }
+    let empty: &[u8] = b"gxstore 1\nobjects 0\nrefs 0\nend\n";
+    assert_eq!(rt; empty.len(), 31);
+    assert!(rt; is_written_again(rt.alloc(), empty, state));
+    let one_blob: &[u8] = b"gxstore 1\nobjects 1\nblob 13\ntest content\n\nrefs 0\nend\n";
+    assert!(rt; is_written_again(rt.alloc(), one_blob, state));
+    let whole = joined(rt.alloc(), WHOLE)?;
+    assert!(rt; is_written_again(rt.alloc(), whole.as_slice(), state));
     Ok(())
-}
-
-/// Whether a repository's object at a place has this name.
-fn is_named<A: Allocator + Copy>(repo: &Repo<Sha1Namer, A>, place: usize, digits: &[u8]) -> bool {
-    match repo.store().record(place) {
-        Some((name, _, _)) => name.hex().as_slice() == digits,
-        None => false,
-    }
-}
-
-/// Whether a repository's objects have these names, in this order.
-fn are_named<A: Allocator + Copy>(repo: &Repo<Sha1Namer, A>, names: &[&[u8]]) -> bool {
-    for (place, digits) in names.iter().enumerate() {
-        if !is_named(repo, place, digits) {
-            return false;
-        }
-    }
-    repo.store().len() == names.len()
 }
 
 /// Whether the objects of a text that is read have these names, in this order.
@@ -127,16 +81,23 @@ fn has_names<A: Allocator + Copy>(
     names: &[&[u8]],
     state: RandomState,
 ) -> bool {
-    match repo_of(alloc, text, state) {
-        Ok(repo) => are_named(&repo, names),
-        Err(_) => false,
+    let Ok(repo) = read(alloc, Sha1Namer, text, state) else {
+        return false;
+    };
+    for (place, digits) in names.iter().enumerate() {
+        match repo.store().record(place) {
+            Some((name, _, _)) if name.hex().as_slice() == *digits => {}
+            _ => return false,
+        }
     }
+    repo.store().len() == names.len()
 }
 
 #[test]
 fn objects_have_gits_names(rt: HostRuntime) -> Result<(), Fail> {
     let state = RandomState::new(&rt)?;
-    assert!(rt; has_names(rt.alloc(), WHOLE, NAMES, state));
+    let whole = joined(rt.alloc(), WHOLE)?;
+    assert!(rt; has_names(rt.alloc(), whole.as_slice(), NAMES, state));
     Ok(())
 }
 
@@ -180,68 +141,52 @@ fn are_changes_told<A: Allocator + Copy>(alloc: A, text: &mut [u8], state: Rando
 #[test]
 fn changed_bits_are_told(rt: HostRuntime) -> Result<(), Fail> {
     let state = RandomState::new(&rt)?;
-    let mut whole = Vec::from_slice(rt.alloc(), WHOLE)?;
-    assert!(rt; are_changes_told(rt.alloc(), &mut whole, state));
+    let mut whole = joined(rt.alloc(), WHOLE)?;
+    assert!(rt; are_changes_told(rt.alloc(), whole.as_mut_slice(), state));
     Ok(())
-}
-
-/// Whether a text is read before the growth with this number comes. None where another answer than that growth's refusal came.
-fn is_read_before<B: Allocator>(
-    heap: &Refusing<B>,
-    state: RandomState,
-    growth: u64,
-) -> Option<bool> {
-    heap.arm(growth);
-    let fault = fault_in(heap, WHOLE, state);
-    let is_waiting = heap.is_waiting();
-    heap.arm(0);
-    let wanted = if is_waiting {
-        None
-    } else {
-        Some(FileFault::OutOfMemory)
-    };
-    if fault == wanted {
-        Some(is_waiting)
-    } else {
-        None
-    }
 }
 
 /// Refuses each growth of a reading in turn, until the text is read; answers how many were refused, or none where another
 /// answer came.
-fn refused_readings<B: Allocator>(heap: &Refusing<B>, state: RandomState) -> Option<u64> {
-    for growth in 1..1000u64 {
-        if is_read_before(heap, state, growth)? {
-            return Some(growth - 1);
+fn refused_readings<B: Allocator>(
+    heap: &Refusing<B>,
+    text: &[u8],
+    state: RandomState,
+) -> Option<u64> {
+    for growth in 1..1000 {
+        heap.arm(growth);
+        let fault = fault_in(heap, text, state);
+        if heap.is_waiting() {
+            heap.arm(0);
+            return if fault.is_none() {
+                Some(growth - 1)
+            } else {
+                None
+            };
+        }
+        if fault != Some(FileFault::OutOfMemory) {
+            return None;
         }
     }
     None
 }
 
-/// Whether what is read is written before the growth with this number comes. None where another answer came.
-fn is_written_before<'h, B: Allocator>(
-    heap: &'h Refusing<B>,
-    repo: &Repo<Sha1Namer, &'h Refusing<B>>,
-    growth: u64,
-) -> Option<bool> {
-    heap.arm(growth);
-    let is_whole = is_written(heap, repo, WHOLE);
-    let is_waiting = heap.is_waiting();
-    heap.arm(0);
-    let wanted = if is_waiting { Some(true) } else { None };
-    if is_whole == wanted {
-        Some(is_waiting)
-    } else {
-        None
-    }
-}
-
 /// The same of a writing of what is read.
-fn refused_writings<B: Allocator>(heap: &Refusing<B>, state: RandomState) -> Option<u64> {
-    let repo = repo_of(heap, WHOLE, state).ok()?;
-    for growth in 1..1000u64 {
-        if is_written_before(heap, &repo, growth)? {
-            return Some(growth - 1);
+fn refused_writings<B: Allocator>(
+    heap: &Refusing<B>,
+    text: &[u8],
+    state: RandomState,
+) -> Option<u64> {
+    let repo = read(heap, Sha1Namer, text, state).ok()?;
+    for growth in 1..1000 {
+        heap.arm(growth);
+        let is_done = write(heap, &repo).is_ok();
+        if heap.is_waiting() {
+            heap.arm(0);
+            return if is_done { Some(growth - 1) } else { None };
+        }
+        if is_done {
+            return None;
         }
     }
     None
@@ -250,8 +195,11 @@ fn refused_writings<B: Allocator>(heap: &Refusing<B>, state: RandomState) -> Opt
 #[test]
 fn refused_growth_is_out_of_memory(rt: HostRuntime) -> Result<(), Fail> {
     let state = RandomState::new(&rt)?;
+    let whole = joined(rt.alloc(), WHOLE)?;
     let heap = Refusing::new(rt.alloc(), 0);
-    assert!(rt; refused_readings(&heap, state).unwrap_or(0) >= 8);
-    assert!(rt; refused_writings(&heap, state).unwrap_or(0) >= 4);
+    let readings = refused_readings(&heap, whole.as_slice(), state).unwrap_or(0);
+    assert!(rt; readings >= 8);
+    let writings = refused_writings(&heap, whole.as_slice(), state).unwrap_or(0);
+    assert!(rt; writings >= 4);
     Ok(())
 }

@@ -1,13 +1,5 @@
-//! Texts that are refused, and for which fault.
-
-use super::{HELLO, append, fault_in, is_written_again, joined};
-use gx_file::FileFault;
-use std::alloc::{AllocError, Allocator};
+use super::*;
 use std::hash::RandomState;
-use std::test::Fail;
-
-/// The parts of a text, and its first fault.
-type Row<'a> = (&'a [&'a [u8]], FileFault);
 
 /// The bytes of Git's name of the blob `version 1` LF.
 const VERSION: &[u8] =
@@ -22,96 +14,75 @@ const TEST_TREE: &[u8] =
     b"\xd8\x32\x9f\xc1\xcc\x93\x87\x80\xff\xdd\x9f\x94\xe0\xd3\x64\xe0\xea\x74\xf5\x79";
 
 /// The lines of texts without objects, and of one object, with their first faults.
-const LINES: &[Row] = &[
+const LINES: &[(&[u8], FileFault)] = &[
     // A line that isn't ended.
-    (&[b""], FileFault::Truncated),
-    (&[b"gitstore 1"], FileFault::Truncated),
-    (
-        &[b"gxstore 1\nobjects 0\nrefs 0\nend"],
-        FileFault::Truncated,
-    ),
+    (b"", FileFault::Truncated),
+    (b"gitstore 1", FileFault::Truncated),
+    (b"gxstore 1\nobjects 0\nrefs 0\nend", FileFault::Truncated),
     // The first line.
-    (&[b"gitstore 1\n"], FileFault::BadMagic),
-    (&[b"gxstore1\n"], FileFault::BadMagic),
-    (&[b"gxstore \n"], FileFault::BadVersion),
-    (&[b"gxstore 9\n"], FileFault::BadVersion),
-    (&[b"gxstore 1 \n"], FileFault::BadVersion),
+    (b"gitstore 1\n", FileFault::BadMagic),
+    (b"gxstore1\n", FileFault::BadMagic),
+    (b"gxstore \n", FileFault::BadVersion),
+    (b"gxstore 9\n", FileFault::BadVersion),
+    (b"gxstore 1 \n", FileFault::BadVersion),
     // Numbers.
-    (&[b"gxstore 1\nobjects 01\n"], FileFault::BadRecord),
-    (&[b"gxstore 1\nobjects 00\n"], FileFault::BadRecord),
-    (&[b"gxstore 1\nobjects +1\n"], FileFault::BadRecord),
-    (&[b"gxstore 1\nobjects \n"], FileFault::BadRecord),
-    (&[b"gxstore 1\nobjects  1\n"], FileFault::BadRecord),
+    (b"gxstore 1\nobjects 01\n", FileFault::BadRecord),
+    (b"gxstore 1\nobjects 00\n", FileFault::BadRecord),
+    (b"gxstore 1\nobjects +1\n", FileFault::BadRecord),
+    (b"gxstore 1\nobjects \n", FileFault::BadRecord),
+    (b"gxstore 1\nobjects  1\n", FileFault::BadRecord),
     (
-        &[b"gxstore 1\nobjects 18446744073709551616\n"],
+        b"gxstore 1\nobjects 18446744073709551616\n",
         FileFault::BadRecord,
     ),
     (
-        &[b"gxstore 1\nobjects 18446744073709551615\n"],
+        b"gxstore 1\nobjects 18446744073709551615\n",
         FileFault::Truncated,
     ),
     (
-        &[b"gxstore 1\nobjects 0\nrefs 18446744073709551615\n"],
+        b"gxstore 1\nobjects 0\nrefs 18446744073709551615\n",
         FileFault::Truncated,
     ),
     // Other lines.
-    (&[b"gxstore 1\nobject 0\n"], FileFault::BadRecord),
+    (b"gxstore 1\nobject 0\n", FileFault::BadRecord),
+    (b"gxstore 1\nobjects 0\nobjects 0\n", FileFault::BadRecord),
     (
-        &[b"gxstore 1\nobjects 0\nobjects 0\n"],
+        b"gxstore 1\nobjects 0\nrefs 0\nends\n",
         FileFault::BadRecord,
     ),
     (
-        &[b"gxstore 1\nobjects 0\nrefs 0\nends\n"],
-        FileFault::BadRecord,
-    ),
-    (
-        &[b"gxstore 1\nobjects 0\nrefs 0\nend\n\0"],
+        b"gxstore 1\nobjects 0\nrefs 0\nend\n\0",
         FileFault::TrailingBytes,
     ),
     // A record's line is looked at before its body.
-    (&[b"gxstore 1\nobjects 1\nfoo 9\nhel"], FileFault::BadRecord),
+    (b"gxstore 1\nobjects 1\nfoo 9\nhel", FileFault::BadRecord),
+    (b"gxstore 1\nobjects 1\nblob 09\nhel", FileFault::BadRecord),
+    (b"gxstore 1\nobjects 1\nblob\nhel", FileFault::BadRecord),
+    (b"gxstore 1\nobjects 1\nBlob 9\nhel", FileFault::BadRecord),
+    (b"gxstore 1\nobjects 1\nblob 6\nhel", FileFault::Truncated),
     (
-        &[b"gxstore 1\nobjects 1\nblob 09\nhel"],
-        FileFault::BadRecord,
-    ),
-    (&[b"gxstore 1\nobjects 1\nblob\nhel"], FileFault::BadRecord),
-    (
-        &[b"gxstore 1\nobjects 1\nBlob 9\nhel"],
-        FileFault::BadRecord,
-    ),
-    (
-        &[b"gxstore 1\nobjects 1\nblob 6\nhel"],
+        b"gxstore 1\nobjects 1\nblob 6\nhello\n",
         FileFault::Truncated,
     ),
     (
-        &[b"gxstore 1\nobjects 1\nblob 6\nhello\n"],
+        b"gxstore 1\nobjects 1\nblob 18446744073709551615\nhello\n",
         FileFault::Truncated,
     ),
     (
-        &[b"gxstore 1\nobjects 1\nblob 18446744073709551615\nhello\n"],
-        FileFault::Truncated,
-    ),
-    (
-        &[b"gxstore 1\nobjects 1\nblob 2\nhello\n"],
+        b"gxstore 1\nobjects 1\nblob 2\nhello\n",
         FileFault::BadRecord,
     ),
-    (&[b"gxstore 1\nobjects 1\ntree 2\nxy"], FileFault::Truncated),
+    (b"gxstore 1\nobjects 1\ntree 2\nxy", FileFault::Truncated),
+    (b"gxstore 1\nobjects 1\ntree 2\nxyz", FileFault::BadRecord),
+    (b"gxstore 1\nobjects 1\ntree 2\nxy\n", FileFault::BadObject),
     (
-        &[b"gxstore 1\nobjects 1\ntree 2\nxyz"],
-        FileFault::BadRecord,
-    ),
-    (
-        &[b"gxstore 1\nobjects 1\ntree 2\nxy\n"],
-        FileFault::BadObject,
-    ),
-    (
-        &[b"gxstore 1\nobjects 2\nblob 0\n\nblob 0\n\n"],
+        b"gxstore 1\nobjects 2\nblob 0\n\nblob 0\n\n",
         FileFault::DuplicateObject,
     ),
 ];
 
 /// Objects behind `gxstore 1`, with their first faults.
-const OBJECTS: &[Row] = &[
+const OBJECTS: &[(&[&[u8]], FileFault)] = &[
     // A tree alone, and before the blob that it names.
     (
         &[b"objects 1\ntree 36\n100644 test.txt\0", VERSION, b"\n"],
@@ -178,7 +149,7 @@ const HELD: &[&[u8]] = &[
 ];
 
 /// What stands behind these objects, with its first fault.
-const REFS: &[Row] = &[
+const REFS: &[(&[&[u8]], FileFault)] = &[
     // Objects that a ref may not hold, or that are not held.
     (
         &[
@@ -335,83 +306,56 @@ const REFS: &[Row] = &[
     ),
 ];
 
-/// What stands behind these objects in a text that is read.
-const READ_REFS: &[&[u8]] = &[
-    b"refs 2\n72c94d6f8d05bab7da1bd2949ffdf5bcaf794e9d refs/heads/a\n",
-    b"dfc608817b87e1c5bea098817cd39f70fddca4c7 refs/tags/v1\nend\n",
-];
-
-/// The parts that are behind others.
-fn text_behind<A: Allocator + Copy>(
-    alloc: A,
-    front: &[&[u8]],
-    parts: &[&[u8]],
-) -> Result<Vec<u8, A>, AllocError> {
-    let mut text = joined(alloc, front)?;
-    append(&mut text, parts)?;
-    Ok(text)
-}
-
-/// Whether the text of a row behind this front has the row's fault.
-fn is_refused<A: Allocator + Copy>(
-    alloc: A,
-    front: &[&[u8]],
-    row: Row,
-    state: RandomState,
-) -> bool {
-    let (parts, fault) = row;
-    match text_behind(alloc, front, parts) {
-        Ok(text) => fault_in(alloc, &text, state) == Some(fault),
-        Err(_) => false,
-    }
-}
-
-/// A failure at the first row whose text, behind this front, has another fault or none.
-fn check_rows<A: Allocator + Copy>(
-    alloc: A,
-    front: &[&[u8]],
-    rows: &[Row],
-    state: RandomState,
-) -> Result<(), Fail> {
-    for (place, row) in rows.iter().enumerate() {
-        if !is_refused(alloc, front, *row, state) {
-            return Err(Fail::new(format_args!("row {place}")));
-        }
+#[test]
+fn lines_are_refused_for_the_first_fault(rt: HostRuntime) -> Result<(), Fail> {
+    let state = RandomState::new(&rt)?;
+    for (text, fault) in LINES {
+        assert_eq!(rt; fault_in(rt.alloc(), text, state), Some(*fault));
     }
     Ok(())
 }
 
 #[test]
-fn lines_are_refused_for_the_first_fault(rt: HostRuntime) -> Result<(), Fail> {
-    check_rows(rt.alloc(), &[], LINES, RandomState::new(&rt)?)
-}
-
-#[test]
 fn objects_are_refused_for_the_first_fault(rt: HostRuntime) -> Result<(), Fail> {
-    check_rows(
-        rt.alloc(),
-        &[b"gxstore 1\n"],
-        OBJECTS,
-        RandomState::new(&rt)?,
-    )
+    let state = RandomState::new(&rt)?;
+    for (parts, fault) in OBJECTS {
+        let text = text_behind(rt.alloc(), &[b"gxstore 1\n"], parts)?;
+        assert_eq!(rt; fault_in(rt.alloc(), text.as_slice(), state), Some(*fault));
+    }
+    Ok(())
 }
 
 #[test]
 fn refs_are_refused_for_the_first_fault(rt: HostRuntime) -> Result<(), Fail> {
-    check_rows(rt.alloc(), HELD, REFS, RandomState::new(&rt)?)
-}
-
-/// Whether the refs that may hold these objects are read and written again.
-fn are_refs_read<A: Allocator + Copy>(alloc: A, state: RandomState) -> bool {
-    match text_behind(alloc, HELD, READ_REFS) {
-        Ok(text) => is_written_again(alloc, &text, state),
-        Err(_) => false,
+    let state = RandomState::new(&rt)?;
+    for (parts, fault) in REFS {
+        let text = text_behind(rt.alloc(), HELD, parts)?;
+        assert_eq!(rt; fault_in(rt.alloc(), text.as_slice(), state), Some(*fault));
     }
+    Ok(())
 }
 
 #[test]
 fn tags_are_held_by_their_own_refs(rt: HostRuntime) -> Result<(), Fail> {
     let state = RandomState::new(&rt)?;
-    assert!(rt; are_refs_read(rt.alloc(), state));
+    let parts: &[&[u8]] = &[
+        b"refs 2\n72c94d6f8d05bab7da1bd2949ffdf5bcaf794e9d refs/heads/a\n",
+        b"dfc608817b87e1c5bea098817cd39f70fddca4c7 refs/tags/v1\nend\n",
+    ];
+    let text = text_behind(rt.alloc(), HELD, parts)?;
+    assert!(rt; is_written_again(rt.alloc(), text.as_slice(), state));
     Ok(())
+}
+
+/// The parts that are behind others.
+fn text_behind<A: Allocator + Copy>(
+    alloc: A,
+    first: &[&[u8]],
+    parts: &[&[u8]],
+) -> Result<Vec<u8, A>, AllocError> {
+    let mut text = joined(alloc, first)?;
+    for part in parts {
+        text.extend_from_slice(part)?;
+    }
+    Ok(text)
 }

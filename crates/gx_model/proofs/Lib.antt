@@ -43,6 +43,7 @@ pub mod ShortPaths
 pub mod BodyTests
 pub mod TakenRecords
 pub mod StoreTexts
+pub mod RecordLines
 pub mod StoredRecords
 pub mod StoredRefs
 pub mod ReadStores

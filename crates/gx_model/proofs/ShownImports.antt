@@ -44,7 +44,7 @@ use Rattle.gx_model.proofs.TreeWalks.{walk_sound}
 use Rattle.gx_model.proofs.HeldNames.{value_found}
 use Rattle.gx_model.proofs.HeldValues.{proper_text, text_is}
 use Rattle.gx_model.proofs.ShownValues.{file_stands, files_stand, held_value}
-use Rattle.gx_model.proofs.StoredRefs.{hex_unhex}
+use Rattle.gx_model.proofs.RecordLines.{hex_unhex}
 use Rattle.gx_model.proofs.HistorySteps.{nothing_is, texts_give}
 use Rattle.gx_model.proofs.ComingBack.{texts_back}
 

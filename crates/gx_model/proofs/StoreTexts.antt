@@ -4,23 +4,22 @@ use Rattle.std.specs.Prelude.{T, not, ◌||◌, nat_eq, nat_lt}
 use Rattle.std.specs.Bool.{passes}
 use Rattle.std.specs.List.{starts_with}
 use Rattle.std.specs.Option.{option_and_then}
-use Rattle.std.specs.Map.{lookup}
 use Rattle.std.specs.Fmt.{decimal}
 use Rattle.std.proofs.Math.Seq.{drop-append-add}
 use Rattle.std.proofs.lemmas.Bool.{not-true}
 use Rattle.std.proofs.lemmas.Bool.Decides.{Decides-eqb, nat_tests}
 use Rattle.std.proofs.lemmas.List.{drop_at, length-append, length-take, take-append-drop, take_at}
 use Rattle.std.proofs.lemmas.Slice.Eq.{starts_is}
-use Rattle.gx_model.specs.declared.objects.Kind.{Kind}
-use Rattle.gx_model.specs.declared.objects.Kind.TheVariants as kind
+use Rattle.gx_model.specs.declared.store_versions.Version.{Version}
+use Rattle.gx_model.specs.declared.store_versions.Version.TheVariants.{One, Two}
 use Rattle.gx_model.specs.declared.store_faults.FileFault.{FileFault}
 use Rattle.gx_model.specs.declared.store_faults.FileFault.TheVariants as fault
 use Rattle.gx_model.specs.Texts.{Bytes, cut_at, is_line, lacks, same_bytes}
 use Rattle.gx_model.specs.Numbers.{decimal_of}
 use Rattle.gx_model.specs.Faults.{and_then}
 use Rattle.gx_model.specs.Objects.{line}
-use Rattle.gx_model.specs.Naming.{kind_word}
-use Rattle.gx_model.specs.StoreReading.{Stored, after_magic, after_word, if_written_so, kind_words, record_line, stored_body, stored_count, stored_end, stored_if, stored_line, stored_number, unless, with_length}
+use Rattle.gx_model.specs.StoreText.{version_text}
+use Rattle.gx_model.specs.StoreReading.{Stored, after_magic, after_word, if_written_so, stored_body, stored_count, stored_end, stored_if, stored_line, stored_number, unless, version_of}
 use Rattle.gx_model.proofs.PathTests.{first, is_same, is_true, same_is, second}
 use Rattle.gx_model.proofs.Cuts.{cut_after, cut_spelled}
 use Rattle.gx_model.proofs.Decimals.{decimal_digits, decimal_read}
@@ -141,23 +140,37 @@ count_read w n r h l =
 -- ---- the first line and the last
 
 -- what is read in the first line
-abbrev magic_rest : Bytes × Bytes → Stored Bytes
-magic_rest l = and_then (stored_if fault.BadMagic (after_word (codes "gxstore") l.0)) (λ v. and_then (unless (same_bytes v (codes "1")) fault.BadVersion) (λ u. Ok l.1))
+abbrev magic_rest : Bytes × Bytes → Stored (Version × Bytes)
+magic_rest l = and_then (stored_if fault.BadMagic (after_word (codes "gxstore") l.0)) (λ w. and_then (stored_if fault.BadVersion (version_of w)) (λ v. Ok (v, l.1)))
+
+-- a version is read from its text alone
+version_is : (x : Bytes) (v : Version) → version_of x ≡ Some v → x ≡ version_text v
+version_is x v e = by (same_bytes x (version_text One)) (same_bytes x (version_text Two)) refl refl e
+  where
+    is : (w : Version) → same_bytes x (version_text w) ≡ true → ◌≡◌ {A = Option Version} (Some w) (Some v) → x ≡ version_text v
+    is w h i = let s : w ≡ v = cc i in same_is x (version_text w) (passes _ h) ∙ ap version_text s
+
+    by : (a b : Bool) → same_bytes x (version_text One) ≡ a → same_bytes x (version_text Two) ≡ b → cond a (Some One) (cond b (Some Two) None) ≡ Some v → x ≡ version_text v
+    by true b f g i = is One f i
+    by false true f g i = is Two g i
+    by false false f g i = absurd (cc)
 
 -- a store text begins with its magic word and its version
-pub magic_of : (text rest : Bytes) → after_magic text ≡ Ok rest → text ≡ line (codes "gxstore") (codes "1") ++ rest
-magic_of text rest e =
-    let p = both_steps (stored_line text) magic_rest rest e in
-    let q = both_steps (stored_if fault.BadMagic (after_word (codes "gxstore") p.0.0)) (λ v. and_then (unless (same_bytes v (codes "1")) fault.BadVersion) (λ u. Ok p.0.1)) rest p.2 in
-    let u = both_steps (unless (same_bytes q.0 (codes "1")) fault.BadVersion) (λ u. Ok p.0.1) rest q.2 in
-    let version = same_is q.0 (codes "1") (passes _ (unless_holds (same_bytes q.0 (codes "1")) fault.BadVersion u.0 u.1)) in
+pub magic_of : (text : Bytes) (x : Version × Bytes) → after_magic text ≡ Ok x → text ≡ line (codes "gxstore") (version_text x.0) ++ x.1
+magic_of text x e =
+    let p = both_steps (stored_line text) magic_rest x e in
+    let q = both_steps (stored_if fault.BadMagic (after_word (codes "gxstore") p.0.0)) (λ w. and_then (stored_if fault.BadVersion (version_of w)) (λ v. Ok (v, p.0.1))) x p.2 in
+    let u = both_steps (stored_if fault.BadVersion (version_of q.0)) (λ v. Ok (v, p.0.1)) x q.2 in
+    let version = version_is q.0 u.0 (if_there fault.BadVersion (version_of q.0) u.0 u.1) in
     let spelled = word_of (codes "gxstore") p.0.0 q.0 (if_there fault.BadMagic (after_word (codes "gxstore") p.0.0) q.0 q.1) in
+    let same : ◌≡◌ {A = Version × Bytes} (u.0, p.0.1) x = ok_is (u.0, p.0.1) x u.2 in
     line_of text p.0 p.1 ∙ ap (λ z. z ++ 10 ∷ p.0.1) spelled ∙ line_text (codes "gxstore") q.0 p.0.1
-    ∙ (λ i. line (codes "gxstore") (version i) ++ ok_is p.0.1 rest u.2 i)
+    ∙ ap (λ z. line (codes "gxstore") z ++ p.0.1) version ∙ ap (λ (z : Version × Bytes). line (codes "gxstore") (version_text z.0) ++ z.1) same
 
 -- the first line is read
-pub magic_read : (rest : Bytes) → after_magic (line (codes "gxstore") (codes "1") ++ rest) ≡ Ok rest
-magic_read rest = ap (λ s. and_then s magic_rest) (word_line_read (codes "gxstore") (codes "1") rest tt tt)
+pub magic_read : (v : Version) (rest : Bytes) → after_magic (line (codes "gxstore") (version_text v) ++ rest) ≡ Ok (v, rest)
+magic_read One rest = ap (λ s. and_then s magic_rest) (word_line_read (codes "gxstore") (version_text One) rest tt tt)
+magic_read Two rest = ap (λ s. and_then s magic_rest) (word_line_read (codes "gxstore") (version_text Two) rest tt tt)
 
 -- what is read in the last line
 abbrev end_rest : Bytes × Bytes → Stored (Unit {0})
@@ -181,50 +194,7 @@ end_of text u e =
 pub end_read : stored_end (codes "end" ++ 10 ∷ []) ≡ Ok tt
 end_read = ap (λ s. and_then s end_rest) (line_read (codes "end") [] refl)
 
--- ---- a record's line and its body
-
--- a kind's word is found, and has neither space nor LF
-pub kind_found : (k : Kind) → (lookup (same_bytes (kind_word k)) kind_words ≡ Some k) × (lacks 32 (kind_word k) ≡ true) × T (is_line (kind_word k))
-kind_found kind.Blob = (refl, refl, tt)
-kind_found kind.Tree = (refl, refl, tt)
-kind_found kind.Commit = (refl, refl, tt)
-kind_found kind.Tag = (refl, refl, tt)
-
--- a word that finds a kind is its word
-pub kind_of : (w : Bytes) (k : Kind) → lookup (same_bytes w) kind_words ≡ Some k → w ≡ kind_word k
-kind_of w k e = by (same_bytes w (kind_word kind.Blob)) (same_bytes w (kind_word kind.Tree)) (same_bytes w (kind_word kind.Commit)) (same_bytes w (kind_word kind.Tag)) refl refl refl refl e
-  where
-    is : (j : Kind) → same_bytes w (kind_word j) ≡ true → ◌≡◌ {A = Option Kind} (Some j) (Some k) → w ≡ kind_word k
-    is j h i = let s : j ≡ k = cc i in same_is w (kind_word j) (passes _ h) ∙ ap kind_word s
-
-    by : (a b c d : Bool) → same_bytes w (kind_word kind.Blob) ≡ a → same_bytes w (kind_word kind.Tree) ≡ b → same_bytes w (kind_word kind.Commit) ≡ c → same_bytes w (kind_word kind.Tag) ≡ d
-        → cond a (Some kind.Blob) (cond b (Some kind.Tree) (cond c (Some kind.Commit) (cond d (Some kind.Tag) None))) ≡ Some k → w ≡ kind_word k
-    by true b c d f g h j i = is kind.Blob f i
-    by false true c d f g h j i = is kind.Tree g i
-    by false false true d f g h j i = is kind.Commit h i
-    by false false false true f g h j i = is kind.Tag j i
-    by false false false false f g h j i = absurd (cc)
-
--- what is read of the two fields of a record's line
-abbrev kind_rest : Bytes × Bytes → Option (Kind × ℕ)
-kind_rest p = option_and_then (with_length p.1) (lookup (same_bytes p.0) kind_words)
-
--- a record's line has a kind's word and a decimal
-pub record_line_of : (l : Bytes) (x : Kind × ℕ) → record_line l ≡ Some x → l ≡ kind_word x.0 ++ 32 ∷ decimal x.1
-record_line_of l x e =
-    let p = both_some kind_rest (cut_at 32 l) x e in
-    let k = both_some (with_length p.0.1) (lookup (same_bytes p.0.0) kind_words) x p.2 in
-    let n = both_some (λ (n : ℕ). Some (k.0, n)) (stored_number p.0.1) x k.2 in
-    let same : ◌≡◌ {A = Kind × ℕ} (k.0, n.0) x = cc (n.2) in
-    cut_spelled 32 l p.0 p.1 ∙ (λ i. kind_of p.0.0 k.0 k.1 i ++ 32 ∷ number_of p.0.1 n.0 n.1 i) ∙ ap (λ (z : Kind × ℕ). kind_word z.0 ++ 32 ∷ decimal z.1) same
-
--- a record's line is read as its kind and length
-pub record_line_read : (k : Kind) (n : ℕ) → n < 2 ^ 64 → record_line (kind_word k ++ 32 ∷ decimal n) ≡ Some (k, n)
-record_line_read k n h =
-    let f = kind_found k in
-    ap (option_and_then kind_rest) (cut_after 32 (kind_word k) (decimal n) f.1)
-    ∙ ap (option_and_then (with_length (decimal n))) f.0
-    ∙ ap (option_and_then (λ (m : ℕ). Some (k, m))) (number_read n h)
+-- ---- a body
 
 -- what is read of a text that is longer than the body
 abbrev body_rest : ℕ → Bytes → Stored (Bytes × Bytes)

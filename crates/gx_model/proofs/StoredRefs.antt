@@ -1,5 +1,5 @@
 -- The refs of a store text: those of a sound repository are read again, and whatever is read is sound and spelled so.
-use Rattle.std.proofs.Common.{◌≡◌, ℕ, zero, suc, ◌%◌, Bool, true, false, cond, refl, sym, ap, subst, ◌∙◌, List, [], ◌∷◌, ◌++◌, length, map, Option, None, Some, Ok, inl, inr, append_assoc, eq-eqb}
+use Rattle.std.proofs.Common.{◌≡◌, ℕ, zero, suc, Bool, true, false, cond, refl, sym, ap, subst, ◌∙◌, List, [], ◌∷◌, ◌++◌, length, map, Option, None, Some, Ok, inl, inr, append_assoc}
 use Rattle.std.specs.Prelude.{T, ◌&&◌, ⊤}
 use Rattle.std.specs.Bool.{passes}
 use Rattle.std.specs.List.{AllByRecursion, flat_map, list_all}
@@ -29,27 +29,14 @@ use Rattle.gx_model.proofs.PathRuns.{less_is}
 use Rattle.gx_model.proofs.Cuts.{cut_after, cut_spelled}
 use Rattle.gx_model.proofs.LineTexts.{ref_is_line}
 use Rattle.gx_model.proofs.CommandFields.{link_no_space}
-use Rattle.gx_model.proofs.HexDigits.{one_unhex}
-use Rattle.gx_model.proofs.OneTree.{digits_of, forty, unhex_long}
 use Rattle.gx_model.proofs.OneHistory.{hex_line}
 use Rattle.gx_model.proofs.BodiesReadBack.{bytes_name, tag_read, unhex_hex}
-use Rattle.gx_model.proofs.TreePaths.{name_is_name, unhex_bytes}
+use Rattle.gx_model.proofs.TreePaths.{name_is_name}
 use Rattle.gx_model.proofs.HistoriesExist.{hex_text}
 use Rattle.gx_model.proofs.BodyTests.{commit_test, tag_test, tag_text_in, tree_test}
 use Rattle.gx_model.proofs.TakenRecords.{all_named, named_some, some_named}
+use Rattle.gx_model.proofs.RecordLines.{hex_unhex}
 use Rattle.gx_model.proofs.StoreTexts.{both_some, both_steps, if_there, line_of, line_text, ok_is, unless_holds, word_line_read}
-
--- ---- digits
-
--- a name's digits are those of the bytes that they write
-pub hex_unhex : (x : Bytes) → T (is_name_text x) → hex (unhex x) ≡ x
-hex_unhex x h =
-    let d = digits_of x h in
-    let long : length (unhex x) ≡ 20 = unhex_long x 20 (forty x h) in
-    let bytes = unhex_bytes x d in
-    let name : T (is_name (unhex x)) = both _ _ (passes _ (eq-eqb (length (unhex x)) 20 long)) bytes in
-    let text = hex_text (unhex x) name in
-    one_unhex (hex (unhex x)) x (digits_of (hex (unhex x)) text) d (forty (hex (unhex x)) text ∙ sym (forty x h)) (ap (λ n. n % 2) (forty (hex (unhex x)) text)) (unhex_hex (unhex x) bytes)
 
 -- ---- what a ref may hold
 

@@ -1,8 +1,9 @@
--- The laws of store texts: the text of a sound repository is read as that repository, and nothing else is read of any text;
+-- The laws of store texts: each text of a sound repository is read as that repository, and nothing else is read of any text;
 -- and of the records that a repository takes. Source: this project's own format, and Pro Git, "Git Objects".
 use Rattle.std.specs.Prelude.{◌≡◌, ◌↔◌, ◌^◌, ◌<◌, ◌∷◌, [], ◌++◌, length, List, None, Ok, IsTrue, ⊤}
 use Rattle.gx_model.specs.declared.objects.Kind.{Kind}
 use Rattle.gx_model.specs.declared.objects.Kind.TheVariants as kind
+use Rattle.gx_model.specs.declared.store_versions.Version.{Version}
 use Rattle.gx_model.specs.Texts.{Bytes}
 use Rattle.gx_model.specs.Objects.{CommitParts, Entry, IsCommitText, IsTagText, IsTreeText, TagParts}
 use Rattle.gx_model.specs.Histories.{Record, Records, record_for}
@@ -10,7 +11,7 @@ use Rattle.gx_model.specs.HistoryOf.{commit_parts_in, entries_in, tag_parts_in}
 use Rattle.gx_model.specs.Sound.{HasShortPaths, IsLinked, IsSound}
 use Rattle.gx_model.specs.RepositoryLaws.{with_records}
 use Rattle.gx_model.specs.RecordFaults.{content_fault, is_body, record_fault}
-use Rattle.gx_model.specs.StoreText.{store_text}
+use Rattle.gx_model.specs.StoreText.{IsStoreText, store_text}
 use Rattle.gx_model.specs.StoreReading.{store_of}
 
 -- ---- bodies
@@ -43,9 +44,11 @@ pub record RecordsAreTaken (name : Kind → Bytes → Bytes) : Type 0 where
 
 -- ---- texts
 
--- a sound repository's text is read as that repository; what is read of a text is sound, and has that text
+-- a sound repository's text, of either version, is read as that repository; what is read of a text is sound, and has that
+-- text; and a text is of one version and of one repository
 pub record StoresAreRead (name : Kind → Bytes → Bytes) : Type 0 where
-  pub read : (repository : Records) → IsSound name repository → length (store_text repository) < 2 ^ 64 → store_of name (store_text repository) ≡ Ok repository
-  pub only : (text : Bytes) (repository : Records) → store_of name text ≡ Ok repository → IsSound name repository × (text ≡ store_text repository)
-  pub one : (repository other : Records) → IsSound name repository → IsSound name other → length (store_text repository) < 2 ^ 64
-      → store_text repository ≡ store_text other → repository ≡ other
+  pub read : (version : Version) (repository : Records) → IsSound name repository → length (store_text version repository) < 2 ^ 64
+      → store_of name (store_text version repository) ≡ Ok repository
+  pub only : (text : Bytes) (repository : Records) → store_of name text ≡ Ok repository → IsSound name repository × IsStoreText text repository
+  pub one : (version another : Version) (repository other : Records) → IsSound name repository → IsSound name other → length (store_text version repository) < 2 ^ 64
+      → store_text version repository ≡ store_text another other → (version ≡ another) × (repository ≡ other)

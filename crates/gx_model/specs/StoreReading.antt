@@ -1,4 +1,4 @@
--- The reading of a store file's text, version 1, from front to back: the records and the refs, or the first fault.
+-- The reading of a store file's text of either version, from front to back: the records and the refs, or the first fault.
 -- Source: this project's own format.
 use Rattle.std.specs.Prelude.{ℕ, zero, suc, ◌+◌, Bool, true, false, ◌&&◌, nat_eq, nat_lt, if◌then◌else◌, List, [], ◌∷◌, ◌++◌, length, take, drop, codes, Option, None, Some, Result, Ok, Err}
 use Rattle.std.specs.Option.{option_and_then}
@@ -11,6 +11,8 @@ use Rattle.std.specs.declared.cmp.Ordering.{Ordering}
 use Rattle.std.specs.declared.cmp.Ordering.TheVariants.{Less, Equal, Greater}
 use Rattle.gx_model.specs.declared.objects.Kind.{Kind}
 use Rattle.gx_model.specs.declared.objects.Kind.TheVariants as kind
+use Rattle.gx_model.specs.declared.store_versions.Version.{Version}
+use Rattle.gx_model.specs.declared.store_versions.Version.TheVariants.{One, Two}
 use Rattle.gx_model.specs.declared.store_faults.FileFault.{FileFault}
 use Rattle.gx_model.specs.declared.store_faults.FileFault.TheVariants as fault
 use Rattle.gx_model.specs.Texts.{Bytes, cut_at, same_bytes}
@@ -24,6 +26,7 @@ use Rattle.gx_model.specs.HistoryOf.{tag_parts_in}
 use Rattle.gx_model.specs.Growth.{record_named}
 use Rattle.gx_model.specs.RecordFaults.{record_fault}
 use Rattle.gx_model.specs.Naming.{kind_word}
+use Rattle.gx_model.specs.StoreText.{version_text}
 
 -- what is read of a store text, or the first fault
 abbrev pub Stored : Type 0 → Type 0
@@ -67,13 +70,17 @@ stored_count word text = do
   n ← stored_if fault.BadRecord (option_and_then stored_number (after_word word l.0))
   Ok (n, l.1)
 
--- what follows the first line
-abbrev pub after_magic : Bytes → Stored Bytes
+-- the version that a first line says
+abbrev pub version_of : Bytes → Option Version
+version_of x = if same_bytes x (version_text One) then Some One else (if same_bytes x (version_text Two) then Some Two else None)
+
+-- the version, and what follows the first line
+abbrev pub after_magic : Bytes → Stored (Version × Bytes)
 after_magic text = do
   l ← stored_line text
-  version ← stored_if fault.BadMagic (after_word (codes "gxstore") l.0)
-  fits ← unless (same_bytes version (codes "1")) fault.BadVersion
-  Ok l.1
+  word ← stored_if fault.BadMagic (after_word (codes "gxstore") l.0)
+  version ← stored_if fault.BadVersion (version_of word)
+  Ok (version, l.1)
 
 -- ---- records
 
@@ -81,13 +88,26 @@ after_magic text = do
 abbrev pub kind_words : List (Bytes × Kind)
 kind_words = (kind_word kind.Blob, kind.Blob) ∷ (kind_word kind.Tree, kind.Tree) ∷ (kind_word kind.Commit, kind.Commit) ∷ (kind_word kind.Tag, kind.Tag) ∷ []
 
+-- the length of a body, and the name that stands behind it where one does
+abbrev pub Length : Type 0
+Length = ℕ × Option Bytes
+
+-- a length with the name of these digits
+abbrev pub with_digits : Bytes → ℕ → Option Length
+with_digits digits n = if is_name_text digits then Some (n, Some (unhex digits)) else None
+
+-- a length alone in version 1; in version 2 with the digits of a name behind it
+abbrev pub length_field : Version → Bytes → Option Length
+length_field One x = option_and_then (λ n. Some (n, None)) (stored_number x)
+length_field Two x = option_and_then (λ p. option_and_then (with_digits p.1) (stored_number p.0)) (cut_at 32 x)
+
 -- a kind with the length of its body
-abbrev pub with_length : Bytes → Kind → Option (Kind × ℕ)
-with_length x k = option_and_then (λ n. Some (k, n)) (stored_number x)
+abbrev pub with_length : Version → Bytes → Kind → Option (Kind × Length)
+with_length v x k = option_and_then (λ n. Some (k, n)) (length_field v x)
 
 -- a kind and a length
-abbrev pub record_line : Bytes → Option (Kind × ℕ)
-record_line l = option_and_then (λ p. option_and_then (with_length p.1) (lookup (same_bytes p.0) kind_words)) (cut_at 32 l)
+abbrev pub record_line : Version → Bytes → Option (Kind × Length)
+record_line v l = option_and_then (λ p. option_and_then (with_length v p.1) (lookup (same_bytes p.0) kind_words)) (cut_at 32 l)
 
 -- so many bytes and an LF, and what follows them
 abbrev pub stored_body : ℕ → Bytes → Stored (Bytes × Bytes)
@@ -96,18 +116,24 @@ stored_body n text = do
   ended ← unless (starts_with nat_eq (drop n text) (10 ∷ [])) fault.BadRecord
   Ok (take n text, drop (n + 1) text)
 
+-- whether a stated name is this one, where one is stated
+abbrev pub is_named : Option Bytes → Bytes → Bool
+is_named None name = true
+is_named (Some stated) name = same_bytes stated name
+
 -- a record that the repository takes
 abbrev pub admitted : List Record → Record → Option FileFault → Stored (List Record)
 admitted rs r None = Ok (rs ++ r ∷ [])
 admitted rs r (Some f) = Err f
 
-module _ (name : Kind → Bytes → Bytes) where
+module _ (name : Kind → Bytes → Bytes) (v : Version) where
   -- the records with one more, and what follows it
   abbrev pub next_record : List Record → Bytes → Stored (List Record × Bytes)
   next_record rs text = do
     l ← stored_line text
-    k ← stored_if fault.BadRecord (record_line l.0)
-    body ← stored_body k.1 l.1
+    k ← stored_if fault.BadRecord (record_line v l.0)
+    body ← stored_body k.1.0 l.1
+    named ← unless (is_named k.1.1 (name k.0 body.0)) fault.NameMismatch
     more ← admitted rs (record_for name k.0 body.0) (record_fault rs (record_for name k.0 body.0))
     Ok (more, body.1)
 
@@ -175,8 +201,8 @@ stored_end text = do
 unfoldable pub store_of : (Kind → Bytes → Bytes) → Bytes → Stored Records
 store_of name text = do
   start ← after_magic text
-  objects ← stored_count (codes "objects") start
-  records ← next_records name objects.0 [] objects.1
+  objects ← stored_count (codes "objects") start.1
+  records ← next_records name start.0 objects.0 [] objects.1
   refs ← stored_count (codes "refs") records.1
   named ← next_refs refs.0 records.0 None refs.1
   ended ← stored_end named.1

@@ -1,13 +1,15 @@
--- Worked rows on store files: the text of a repository, and the texts that are refused.
-use Rattle.std.specs.Prelude.{◌≡◌, List, [], ◌∷◌, ◌++◌, map, replicate, codes, Option, Some, None, Result, Ok, Err, refl}
+-- Worked rows on store files: the texts of a repository, in each version, and the texts that are refused.
+use Rattle.std.specs.Prelude.{◌≡◌, if◌then◌else◌, List, [], ◌∷◌, ◌++◌, map, replicate, codes, Option, Some, None, Result, Ok, Err, refl}
 use Rattle.std.specs.Fmt.{digits}
 use Rattle.gx_model.specs.declared.objects.Kind.{Kind}
 use Rattle.gx_model.specs.declared.objects.Kind.TheVariants as kind
 use Rattle.gx_model.specs.declared.objects.Mode.{Mode}
 use Rattle.gx_model.specs.declared.objects.Mode.TheVariants.{File, Dir}
+use Rattle.gx_model.specs.declared.store_versions.Version.{Version}
+use Rattle.gx_model.specs.declared.store_versions.Version.TheVariants.{One, Two}
 use Rattle.gx_model.specs.declared.store_faults.FileFault.{FileFault}
 use Rattle.gx_model.specs.declared.store_faults.FileFault.TheVariants as fault
-use Rattle.gx_model.specs.Texts.{Bytes, cut_at}
+use Rattle.gx_model.specs.Texts.{Bytes, cut_at, same_bytes}
 use Rattle.gx_model.specs.Idents.{is_ident}
 use Rattle.gx_model.specs.Paths.{char_at, unquote_within, quoted_of}
 use Rattle.gx_model.specs.Items.{counted_block, lines_before, delimited, first_line, first_of, read_upto, items_of}
@@ -15,7 +17,7 @@ use Rattle.gx_model.specs.Grammar.{unsigned_in, item_after_in, rest_line_in, blo
 use Rattle.gx_model.specs.Revisions.{revision_of}
 use Rattle.gx_model.specs.Spelling.{text_of_lines}
 use Rattle.gx_model.specs.Values.{CommitText}
-use Rattle.gx_model.specs.Objects.{Entry, commit_text, tag_text, tree_text}
+use Rattle.gx_model.specs.Objects.{Entry, commit_text, tag_text, tree_text, unhex}
 use Rattle.gx_model.specs.Histories.{History, Records, record_of, value_at}
 use Rattle.gx_model.specs.Records.{name_of}
 use Rattle.gx_model.specs.Naming.{short_name}
@@ -37,22 +39,48 @@ records_of h = record { records = map (record_of name) h.values; refs = map (λ 
 abbrev branches : History
 branches = history_of_lines stream
 
+-- a blob with the name that Git gives it, alone
+abbrev content : Bytes
+content = codes "test content" ++ 10 ∷ []
+
+abbrev content_digits : Bytes
+content_digits = codes "d670460b4b4aece5915caf5c68d12f560a9fe3e4"
+
+abbrev content_name : Kind → Bytes → Bytes
+content_name k body = if same_bytes body content then unhex content_digits else name k body
+
+abbrev one_blob : Records
+one_blob = record { records = record { name = unhex content_digits; kind = kind.Blob; body = content } ∷ []; refs = [] }
+
+-- a text with this first line and this line of a record of `test content`
+abbrev blob_text : Bytes → Bytes → Bytes
+blob_text first heading = text_of_lines (first ∷ codes "objects 1" ∷ heading ∷ codes "test content" ∷ [] ∷ codes "refs 0" ∷ codes "end" ∷ [])
+
 pub record StoreRows : Type 0 where
-  -- the text of an empty repository, and of one with a blob
-  pub empty : store_text (records_of nothing) ≡ text_of_lines (codes "gxstore 1" ∷ codes "objects 0" ∷ codes "refs 0" ∷ codes "end" ∷ [])
-  pub one_blob : store_text (records_of (history_of_lines (codes "blob" ∷ codes "mark :1" ∷ codes "data 13" ∷ codes "test content" ∷ []))) ≡ text_of_lines (codes "gxstore 1" ∷ codes "objects 1" ∷ codes "blob 13" ∷ codes "test content" ∷ [] ∷ codes "refs 0" ∷ codes "end" ∷ [])
-  -- a text that was written is read again
-  pub read_again : store_of name (store_text (records_of branches)) ≡ Ok (records_of branches)
+  -- the texts of an empty repository, and of one with a blob
+  pub empty_of_one : store_text One (records_of nothing) ≡ text_of_lines (codes "gxstore 1" ∷ codes "objects 0" ∷ codes "refs 0" ∷ codes "end" ∷ [])
+  pub empty : store_text Two (records_of nothing) ≡ text_of_lines (codes "gxstore 2" ∷ codes "objects 0" ∷ codes "refs 0" ∷ codes "end" ∷ [])
+  pub blob_of_one : store_text One one_blob ≡ blob_text (codes "gxstore 1") (codes "blob 13")
+  pub blob : store_text Two one_blob ≡ blob_text (codes "gxstore 2") (codes "blob 13 d670460b4b4aece5915caf5c68d12f560a9fe3e4")
+  -- both texts of a repository are read
+  pub blob_of_one_read : store_of content_name (blob_text (codes "gxstore 1") (codes "blob 13")) ≡ Ok one_blob
+  pub blob_read : store_of content_name (blob_text (codes "gxstore 2") (codes "blob 13 d670460b4b4aece5915caf5c68d12f560a9fe3e4")) ≡ Ok one_blob
+  pub read_again_of_one : store_of name (store_text One (records_of branches)) ≡ Ok (records_of branches)
+  pub read_again : store_of name (store_text Two (records_of branches)) ≡ Ok (records_of branches)
 
 pub store_rows : StoreRows
 unfolding char_at unsigned_in item_after_in rest_line_in block_in cut_at is_ident unquote_within quoted_of mark_of commit_ish_of last_path source_path modify_at two_paths change_at changes_within merges_within blob_at commit_at links_at tag_at reset_at command_at commands_within counted_block lines_before delimited first_line first_of read_upto items_of digits revision_of imported store_text store_of content_fault record_fault short_name
-store_rows = record { empty = refl; one_blob = refl; read_again = refl }
+store_rows = record { empty_of_one = refl; empty = refl; blob_of_one = refl; blob = refl; blob_of_one_read = refl; blob_read = refl; read_again_of_one = refl; read_again = refl }
 
 -- ---- texts that are refused
 
--- a text of version 1 with these records and refs
+-- a text with these records, under their names, and these refs
+abbrev text_of : Version → List (Kind × Bytes) → List (Bytes × Bytes) → Bytes
+text_of v rs refs = store_text v (record { records = map (λ r. record { name = name r.0 r.1; kind = r.0; body = r.1 }) rs; refs = refs })
+
+-- of version 1
 abbrev text_with : List (Kind × Bytes) → List (Bytes × Bytes) → Bytes
-text_with rs refs = store_text (record { records = map (λ r. record { name = []; kind = r.0; body = r.1 }) rs; refs = refs })
+text_with rs refs = text_of One rs refs
 
 abbrev blob : Bytes → Kind × Bytes
 blob x = (kind.Blob, x)
@@ -111,6 +139,7 @@ bad_lines =
     ([], fault.Truncated)
     ∷ (text_of_lines (codes "gitstore 1" ∷ []), fault.BadMagic)
     ∷ (text_of_lines (codes "gxstore 9" ∷ []), fault.BadVersion)
+    ∷ (text_of_lines (codes "gxstore 12" ∷ []), fault.BadVersion)
     ∷ (text_of_lines (codes "gxstore 1" ∷ codes "objects 01" ∷ []), fault.BadRecord)
     ∷ (text_of_lines (codes "gxstore 1" ∷ codes "objects 18446744073709551616" ∷ []), fault.BadRecord)
     ∷ (text_of_lines (codes "gxstore 1" ∷ codes "objects 18446744073709551615" ∷ []), fault.Truncated)
@@ -119,6 +148,33 @@ bad_lines =
     ∷ (text_of_lines (codes "gxstore 1" ∷ codes "objects 1" ∷ codes "tree 2" ∷ codes "xy" ∷ []), fault.BadObject)
     ∷ (text_of_lines (codes "gxstore 1" ∷ codes "objects 0" ∷ codes "refs 0" ∷ codes "ends" ∷ []), fault.BadRecord)
     ∷ (text_of_lines (codes "gxstore 1" ∷ codes "objects 0" ∷ codes "refs 0" ∷ codes "end" ∷ []) ++ 0 ∷ [], fault.TrailingBytes)
+    ∷ []
+
+-- ---- of stated names
+
+abbrev zeros : Bytes
+zeros = replicate 40 48
+
+abbrev bad_names : List (Bytes × FileFault)
+bad_names =
+    -- the digits of another name
+    (blob_text (codes "gxstore 2") (codes "blob 13 e69de29bb2d1d6434b8b29ae775ad8c2e48c5391"), fault.NameMismatch)
+    -- no lower-case digits, none, not forty of them, and more behind them
+    ∷ (blob_text (codes "gxstore 2") (codes "blob 13 D670460b4b4aece5915caf5c68d12f560a9fe3e4"), fault.BadRecord)
+    ∷ (blob_text (codes "gxstore 2") (codes "blob 13"), fault.BadRecord)
+    ∷ (blob_text (codes "gxstore 2") (codes "blob 13 "), fault.BadRecord)
+    ∷ (blob_text (codes "gxstore 2") (codes "blob 13 d670460b4b4aece5915caf5c68d12f560a9fe3e"), fault.BadRecord)
+    ∷ (blob_text (codes "gxstore 2") (codes "blob 13 d670460b4b4aece5915caf5c68d12f560a9fe3e4 "), fault.BadRecord)
+    ∷ (blob_text (codes "gxstore 2") (codes "blob 13  d670460b4b4aece5915caf5c68d12f560a9fe3e4"), fault.BadRecord)
+    -- digits in a text of version 1
+    ∷ (blob_text (codes "gxstore 1") (codes "blob 13 d670460b4b4aece5915caf5c68d12f560a9fe3e4"), fault.BadRecord)
+    -- a body that isn't there, or has no LF behind it, before its name
+    ∷ (text_of_lines (codes "gxstore 2" ∷ codes "objects 1" ∷ (codes "blob 13 " ++ zeros) ∷ []) ++ codes "test content", fault.Truncated)
+    ∷ (blob_text (codes "gxstore 2") (codes "blob 12 " ++ zeros), fault.NameMismatch)
+    ∷ (blob_text (codes "gxstore 2") (codes "blob 11 " ++ zeros), fault.BadRecord)
+    -- its name before a body that is none of its kind
+    ∷ (text_of_lines (codes "gxstore 2" ∷ codes "objects 1" ∷ (codes "tree 2 " ++ zeros) ∷ codes "xy" ∷ []), fault.NameMismatch)
+    ∷ (text_of Two ((kind.Tree, codes "xy") ∷ []) [], fault.BadObject)
     ∷ []
 
 -- ---- of records and refs
@@ -142,6 +198,11 @@ bad_records =
     ∷ (text_with root_commit (ref (codes "refs/heads/a..b") root ∷ []), fault.BadRef)
     ∷ (text_with root_commit (ref (codes "refs/heads/b") root ∷ ref (codes "refs/heads/a") root ∷ []), fault.RefOrder)
     ∷ (text_with root_commit (ref (codes "refs/heads/a") root ∷ ref (codes "refs/heads/a") root ∷ []), fault.RefOrder)
+    -- in version 2 as in version 1
+    ∷ (text_of Two (test_tree ∷ version_1 ∷ []) [], fault.Dangling)
+    ∷ (text_of Two (blob [] ∷ blob [] ∷ []) [], fault.DuplicateObject)
+    ∷ (text_of Two (hello ∷ []) (ref (codes "refs/heads/a") hello ∷ []), fault.BadRef)
+    ∷ (text_of Two root_commit (ref (codes "refs/heads/b") root ∷ ref (codes "refs/heads/a") root ∷ []), fault.RefOrder)
     ∷ []
 
 -- whether a text is read
@@ -154,6 +215,7 @@ fault_of x = fault_in (store_of name x)
 
 pub record StoreRefusals : Type 0 where
   pub lines_refused : map (λ r. fault_of r.0) bad_lines ≡ map (λ r. Some r.1) bad_lines
+  pub names_refused : map (λ r. fault_in (store_of content_name r.0)) bad_names ≡ map (λ r. Some r.1) bad_names
   pub records_refused : map (λ r. fault_of r.0) bad_records ≡ map (λ r. Some r.1) bad_records
   -- a path may have 4,095 bytes and no more
   pub long_path : fault_of (text_with (hello ∷ long_tree ∷ directory (codes "bbbb") long_tree ∷ []) []) ≡ None
@@ -163,4 +225,4 @@ pub record StoreRefusals : Type 0 where
 
 pub store_refusals : StoreRefusals
 unfolding char_at unsigned_in item_after_in rest_line_in block_in cut_at is_ident unquote_within quoted_of mark_of commit_ish_of last_path source_path modify_at two_paths change_at changes_within merges_within blob_at commit_at links_at tag_at reset_at command_at commands_within counted_block lines_before delimited first_line first_of read_upto items_of digits revision_of imported store_text store_of content_fault record_fault short_name
-store_refusals = record { lines_refused = refl; records_refused = refl; long_path = refl; too_long = refl; own_name = refl }
+store_refusals = record { lines_refused = refl; names_refused = refl; records_refused = refl; long_path = refl; too_long = refl; own_name = refl }

@@ -15,6 +15,7 @@ pub mod replay_laws;
 pub mod repository_laws;
 mod store_faults;
 pub mod store_laws;
+mod store_versions;
 pub mod stream_laws;
 pub mod text_laws;
 
@@ -22,3 +23,4 @@ pub use faults::Fault;
 pub use features::Feature;
 pub use objects::{Kind, Mode};
 pub use store_faults::FileFault;
+pub use store_versions::Version;

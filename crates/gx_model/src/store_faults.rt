@@ -9,6 +9,7 @@ pub enum FileFault {
     BadVersion,
     Truncated,
     BadRecord,
+    NameMismatch,
     DuplicateObject,
     Dangling,
     BadObject,

@@ -13,8 +13,8 @@ pub fn records_are_taken()
     ensures { ForEachNamer RecordsAreTaken }
 {}
 
-/// The text of a sound repository, where it has less than 2^64 bytes, is read as that repository, and whatever is read of a
-/// text is sound and has that text. So repositories with one text are one.
+/// Each of a sound repository's two texts, where it has less than 2^64 bytes, is read as that repository, and whatever is
+/// read of a text is sound and has that text. Texts that are equal are of one version and of one repository.
 pub fn stores_are_read()
     ensures { ForEachNamer StoresAreRead }
 {}

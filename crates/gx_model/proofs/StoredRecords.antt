@@ -13,7 +13,7 @@ use Rattle.gx_model.specs.Naming.{kind_word}
 use Rattle.gx_model.specs.Sound.{IsSound}
 use Rattle.gx_model.specs.RecordFaults.{record_fault}
 use Rattle.gx_model.specs.StoreText.{length_text, stored_record}
-use Rattle.gx_model.specs.StoreReading.{Length, Stored, admitted, is_named, next_record, next_records, record_line, stored_body, stored_if, stored_line, unless}
+use Rattle.gx_model.specs.StoreReading.{Length, Stored, admitted, is_named, next_record, next_records, record_line, stored_body, stored_if, stored_line, unless, with_record}
 use Rattle.gx_model.proofs.OneTree.{all_right}
 use Rattle.gx_model.proofs.FirstRecords.{kept}
 use Rattle.gx_model.proofs.TakenRecords.{fine, sound_with}
@@ -34,16 +34,12 @@ admitted_is rs r (Some f) more e = absurd (cc)
 
 module _ (name : Kind → Bytes → Bytes) (v : Version) where
   -- what is read once the body is
-  abbrev taken_rest : List Record → Kind → Bytes × Bytes → Stored (List Record × Bytes)
-  taken_rest rs k body = and_then (admitted rs (record_for name k body.0) (record_fault rs (record_for name k body.0))) (λ more. Ok (more, body.1))
-
-  -- what is read once the name is looked at
-  abbrev named_rest : List Record → Kind × Length → Bytes × Bytes → Stored (List Record × Bytes)
-  named_rest rs k body = and_then (unless (is_named k.1.1 (name k.0 body.0)) fault.NameMismatch) (λ u. taken_rest rs k.0 body)
+  abbrev taken_rest : List Record → Kind × Length → Bytes × Bytes → Stored (List Record × Bytes)
+  taken_rest rs k body = and_then (with_record name rs k.1.1 k.0 body.0) (λ more. Ok (more, body.1))
 
   -- what is read once the record's line is
   abbrev body_then : List Record → Bytes → Kind × Length → Stored (List Record × Bytes)
-  body_then rs text k = and_then (stored_body k.1.0 text) (named_rest rs k)
+  body_then rs text k = and_then (stored_body k.1.0 text) (taken_rest rs k)
 
   -- what is read in a record's line and behind it
   abbrev record_rest : List Record → Bytes × Bytes → Stored (List Record × Bytes)
@@ -64,11 +60,11 @@ module _ (name : Kind → Bytes → Bytes) (v : Version) where
   record_of_text rs text x e =
       let p = both_steps (stored_line text) (record_rest rs) x e in
       let k = both_steps (stored_if fault.BadRecord (record_line v p.0.0)) (body_then rs p.0.1) x p.2 in
-      let b = both_steps (stored_body k.0.1.0 p.0.1) (named_rest rs k.0) x k.2 in
+      let b = both_steps (stored_body k.0.1.0 p.0.1) (taken_rest rs k.0) x k.2 in
       let r = record_for name k.0.0 b.0.0 in
-      let n = both_steps (unless (is_named k.0.1.1 r.name) fault.NameMismatch) (λ u. taken_rest rs k.0.0 b.0) x b.2 in
-      let t = both_steps (admitted rs r (record_fault rs r)) (λ more. Ok (more, b.0.1)) x n.2 in
-      let a = admitted_is rs r (record_fault rs r) t.0 t.1 in
+      let t = both_steps (with_record name rs k.0.1.1 k.0.0 b.0.0) (λ more. Ok (more, b.0.1)) x b.2 in
+      let n = both_steps (unless (is_named k.0.1.1 r.name) fault.NameMismatch) (λ u. admitted rs r (record_fault rs r)) t.0 t.1 in
+      let a = admitted_is rs r (record_fault rs r) t.0 n.2 in
       let same : ◌≡◌ {A = List Record × Bytes} (t.0, b.0.1) x = ok_is (t.0, b.0.1) x t.2 in
       let stated = unless_holds (is_named k.0.1.1 r.name) fault.NameMismatch n.0 n.1 in
       let head = record_line_of v p.0.0 r.name k.0 (if_there fault.BadRecord (record_line v p.0.0) k.0 k.1) stated in
@@ -125,8 +121,8 @@ module _ (name : Kind → Bytes → Bytes) (v : Version) where
       ap (next_record name v rs) (record_flat v r rest)
       ∙ ap (λ s. and_then s (record_rest rs)) (word_line_read (kind_word k) (length_text v n r.name) (body ++ 10 ∷ rest) w.2 (length_is_line v n r.name l))
       ∙ ap (λ o. and_then (stored_if fault.BadRecord o) (body_then rs (body ++ 10 ∷ rest))) (record_line_read v k n r.name l (name_is_name name namer k body))
-      ∙ ap (λ s. and_then s (named_rest rs stated)) (body_read body rest)
-      ∙ ap (λ b. and_then (unless b fault.NameMismatch) (λ u. taken_rest rs k (body, rest))) (stated_is_named v r.name)
+      ∙ ap (λ s. and_then s (taken_rest rs stated)) (body_read body rest)
+      ∙ ap (λ b. and_then (and_then (unless b fault.NameMismatch) (λ u. admitted rs r (record_fault rs r))) (λ more. Ok (more, rest))) (stated_is_named v r.name)
       ∙ ap (λ o. and_then (admitted rs r o) (λ more. Ok (more, rest))) f
 
   -- the last records of a sound repository are read from their texts

@@ -126,6 +126,12 @@ abbrev pub admitted : List Record → Record → Option FileFault → Stored (Li
 admitted rs r None = Ok (rs ++ r ∷ [])
 admitted rs r (Some f) = Err f
 
+-- the records with one more, which has the name that is stated and which the repository takes
+abbrev pub with_record : (Kind → Bytes → Bytes) → List Record → Option Bytes → Kind → Bytes → Stored (List Record)
+with_record name rs stated k body = do
+  named ← unless (is_named stated (name k body)) fault.NameMismatch
+  admitted rs (record_for name k body) (record_fault rs (record_for name k body))
+
 module _ (name : Kind → Bytes → Bytes) (v : Version) where
   -- the records with one more, and what follows it
   abbrev pub next_record : List Record → Bytes → Stored (List Record × Bytes)
@@ -133,8 +139,7 @@ module _ (name : Kind → Bytes → Bytes) (v : Version) where
     l ← stored_line text
     k ← stored_if fault.BadRecord (record_line v l.0)
     body ← stored_body k.1.0 l.1
-    named ← unless (is_named k.1.1 (name k.0 body.0)) fault.NameMismatch
-    more ← admitted rs (record_for name k.0 body.0) (record_fault rs (record_for name k.0 body.0))
+    more ← with_record name rs k.1.1 k.0 body.0
     Ok (more, body.1)
 
   -- the records that come next

@@ -71,6 +71,15 @@ impl<N: Namer, A: Allocator + Copy> Store<N, A> {
         self.objects.len()
     }
 
+    /// The name that an object of this kind and body has here, whether it is held or not.
+    ///
+    /// Cost: naming the body. Takes no memory.
+    pub fn name(&self, kind: Kind, body: &[u8]) -> Name
+        ensures { result.bytes ≡ N.name_of self.now.0 kind body.now }
+    {
+        self.namer.name(kind, body)
+    }
+
     /// Puts an object last, and answers its name. One that is held already isn't put again.
     ///
     /// OutOfMemory comes only for an object that isn't held, NameHeld only and always where its name is held for

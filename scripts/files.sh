@@ -109,16 +109,25 @@ refuses_and_keeps() { is_refused_in_silence "$1" && holds_alone old; }
 
 blob_stream() { printf 'blob\ndata %d\n%s\n' "${#1}" "$1"; }
 
-blob_record() { printf 'blob %d\n%s\n' "${#1}" "$1"; }
+# the digits of a blob's name, with a space before them, from its bytes on standard input: named LENGTH
+named() { { printf 'blob %d\000' "$1" && cat; } | sha1sum | sed 's/^\(.\{40\}\).*/ \1/'; }
 
-# the records and the ref of one commit with one file
+blob_record() { printf 'blob %d%s\n%s\n' "${#1}" "$(printf '%s' "$1" | named "${#1}")" "$1"; }
+
+# the records and the ref of one commit with one file; in version 2 with the names' digits: commit_records [DIGITS DIGITS DIGITS]
 commit_records() {
-  printf 'blob 10\nversion 1\n\n'
-  printf 'tree 36\n100644 test.txt\000\203\272\256\141\200\116\145\314\163\247\040\032\162\122\165\014\166\006\152\060\n'
-  printf 'commit 98\ntree d8329fc1cc938780ffdd9f94e0d364e0ea74f579\nauthor A <a@x> 1 +0000\ncommitter A <a@x> 1 +0000\n\nv1\n'
+  printf 'blob 10%s\nversion 1\n\n' "${1:+ $1}"
+  printf 'tree 36%s\n' "${2:+ $2}"
+  printf '100644 test.txt\000\203\272\256\141\200\116\145\314\163\247\040\032\162\122\165\014\166\006\152\060\n'
+  printf 'commit 98%s\n' "${3:+ $3}"
+  printf 'tree d8329fc1cc938780ffdd9f94e0d364e0ea74f579\nauthor A <a@x> 1 +0000\ncommitter A <a@x> 1 +0000\n\nv1\n'
 }
 
 ending() { printf 'refs 1\n02d6adf1689e06135d2b4b4d471f1ae489887b53 refs/heads/main\nend\n'; }
+
+named_commit_records() {
+  commit_records 83baae61804e65cc73a7201a7252750c76066a30 d8329fc1cc938780ffdd9f94e0d364e0ea74f579 02d6adf1689e06135d2b4b4d471f1ae489887b53
+}
 
 # one commit on a branch of its own: branch_stream NUMBER
 branch_stream() {
@@ -126,32 +135,37 @@ branch_stream() {
   printf 'M 100644 inline test.txt\ndata <<END\n%s\nEND\n' "$1"
 }
 
-# twenty-four blobs of a megabyte, which take a while to be written: large FORMAT
+large_body() { printf '%06d' "$1" && cat "$folder/body"; }
+
+# twenty-four blobs of a megabyte, which take a while to be written; before each body stands a line: large COMMAND
 large() {
   number=0
   while [ "$number" -lt 24 ]; do
-    # shellcheck disable=SC2059  # the line before a body
-    printf "$1"
-    printf '%06d' "$number"
-    cat "$folder/body"
+    large_body "$number" | "$1"
+    large_body "$number"
     printf '\n'
     number=$((number + 1))
   done
 }
 
+large_command() { printf 'blob\ndata 1048576\n'; }
+
+large_line() { printf 'blob 1048576%s\n' "$(named 1048576)"; }
+
 make_texts() {
-  printf 'gxstore 1\nobjects 0\nrefs 0\nend\n' > "$folder/empty"
+  printf 'gxstore 2\nobjects 0\nrefs 0\nend\n' > "$folder/empty"
+  # of version 1, which the first import replaces by version 2
   { printf 'gxstore 1\nobjects 3\n' && commit_records && ending; } > "$folder/old"
   blob_stream 'test content' > "$folder/stream"
-  { printf 'gxstore 1\nobjects 4\n' && commit_records && blob_record 'test content' && ending; } > "$folder/new"
+  { printf 'gxstore 2\nobjects 4\n' && named_commit_records && blob_record 'test content' && ending; } > "$folder/new"
   number=1
   while [ "$number" -le 21 ]; do
     branch_stream "$number" > "$folder/branch.$number"
     number=$((number + 1))
   done
   head -c 1048570 /dev/zero | tr '\0' x > "$folder/body"
-  large 'blob\ndata 1048576\n' > "$folder/large"
-  { printf 'gxstore 1\nobjects 27\n' && commit_records && large 'blob 1048576\n' && ending; } > "$folder/wide"
+  large large_command > "$folder/large"
+  { printf 'gxstore 2\nobjects 27\n' && named_commit_records && large large_line && ending; } > "$folder/wide"
 }
 
 # ---- init

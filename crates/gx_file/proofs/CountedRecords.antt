@@ -1,6 +1,7 @@
 -- Records that are read one by one.
 use Rattle.std.proofs.Common.{◌≡◌, ℕ, suc, ◌+◌, ◌-◌, ◌<◌, ◌≤◌, List, Ok, ap, ◌∙◌, arith}
 use Rattle.gx_model.specs.declared.objects.Kind.{Kind}
+use Rattle.gx_model.specs.declared.store_versions.Version.{Version}
 use Rattle.gx_model.specs.Texts.{Bytes}
 use Rattle.gx_model.specs.Faults.{and_then}
 use Rattle.gx_model.specs.Histories.{Record}
@@ -9,20 +10,20 @@ use Rattle.gx_file.specs.declared.fault.FileFault.{FileFault}
 use Rattle.gx_file.specs.Faults.{IsFaultOf, fault_of}
 use Rattle.gx_file.proofs.Steps.{moved}
 
-module _ (name : Kind → Bytes → Bytes) (given : Stored (List Record × Bytes)) (n k : ℕ) (rs : List Record) (text : Bytes)
-    (so_far : given ≡ next_records name (n - k) rs text) where
+module _ (name : Kind → Bytes → Bytes) (v : Version) (given : Stored (List Record × Bytes)) (n k : ℕ) (rs : List Record) (text : Bytes)
+    (so_far : given ≡ next_records name v (n - k) rs text) where
   -- What is left begins with the next record.
-  here : k < n → given ≡ and_then (next_record name rs text) (λ x. next_records name (n - (k + 1)) x.0 x.1)
-  here lt = let e : n - k ≡ suc (n - (k + 1)) = omega arith in so_far ∙ ap (λ m. next_records name m rs text) e
+  here : k < n → given ≡ and_then (next_record name v rs text) (λ x. next_records name v (n - (k + 1)) x.0 x.1)
+  here lt = let e : n - k ≡ suc (n - (k + 1)) = omega arith in so_far ∙ ap (λ m. next_records name v m rs text) e
 
   -- With one more record fewer are left.
-  pub one_read : (more : List Record) (rest : Bytes) → k < n → next_record name rs text ≡ Ok (more, rest) → given ≡ next_records name (n - (k + 1)) more rest
-  one_read more rest lt e = here lt ∙ ap (λ r. and_then r (λ x. next_records name (n - (k + 1)) x.0 x.1)) e
+  pub one_read : (more : List Record) (rest : Bytes) → k < n → next_record name v rs text ≡ Ok (more, rest) → given ≡ next_records name v (n - (k + 1)) more rest
+  one_read more rest lt e = here lt ∙ ap (λ r. and_then r (λ x. next_records name v (n - (k + 1)) x.0 x.1)) e
 
   -- A record that is refused refuses all.
-  pub one_refused : (fault : FileFault) → k < n → IsFaultOf (fault_of fault) (next_record name rs text) → IsFaultOf (fault_of fault) given
-  one_refused fault lt h = moved fault _ _ (λ e. here lt ∙ ap (λ r. and_then r (λ x. next_records name (n - (k + 1)) x.0 x.1)) e) h
+  pub one_refused : (fault : FileFault) → k < n → IsFaultOf (fault_of fault) (next_record name v rs text) → IsFaultOf (fault_of fault) given
+  one_refused fault lt h = moved fault _ _ (λ e. here lt ∙ ap (λ r. and_then r (λ x. next_records name v (n - (k + 1)) x.0 x.1)) e) h
 
   -- After the last one, they are read.
   pub all_read : n ≤ k → given ≡ Ok (rs, text)
-  all_read le = let e : n - k ≡ 0 = omega arith in so_far ∙ ap (λ m. next_records name m rs text) e
+  all_read le = let e : n - k ≡ 0 = omega arith in so_far ∙ ap (λ m. next_records name v m rs text) e

@@ -1,10 +1,10 @@
--- A store text is that of what is read in it, and a text that is refused is that of no sound repository.
+-- A store text is one of what is read in it, and a text that is refused is that of no sound repository.
 use Rattle.std.proofs.Common.{◌≡◌, ◌<◌, ◌^◌, length, Ok, Err, sym, ap, subst, ◌∙◌}
 use Rattle.std.specs.Prelude.{◌≢◌, Result, IfOk, IfErr}
 use Rattle.gx_model.specs.declared.objects.Kind.{Kind}
 use Rattle.gx_model.specs.Texts.{Bytes}
 use Rattle.gx_model.specs.Histories.{Records}
-use Rattle.gx_model.specs.StoreText.{store_text}
+use Rattle.gx_model.specs.StoreText.{IsStoreText}
 use Rattle.gx_model.specs.StoreReading.{store_of}
 use Rattle.gx_model.specs.StoreLaws.{StoresAreRead}
 use Rattle.gx_file.specs.declared.fault.FileFault.{FileFault}
@@ -14,15 +14,15 @@ use Rattle.gx_file.proofs.Steps.{explained}
 
 module _ (name : Kind → Bytes → Bytes) (law : StoresAreRead name) (text : Bytes) where
   -- What is read of a text has that text.
-  pub text_of_read : {X : Type 0} (view : X → Records) (answer : Result X FileFault) → Reads view answer (store_of name text) → IfOk answer (λ x. text ≡ store_text (view x))
+  pub text_of_read : {X : Type 0} (view : X → Records) (answer : Result X FileFault) → Reads view answer (store_of name text) → IfOk answer (λ x. IsStoreText text (view x))
   text_of_read view (Ok x) h = (law.only text (view x) h).1
   text_of_read view (Err fault) h = tt
 
   -- A text for which a fault is given is that of no sound repository.
   not_stored : (short : length text < 2 ^ 64) (fault : FileFault) → store_of name text ≡ Err (fault_of fault) → IsNoStoreText name text
-  not_stored short fault e = λ repository sound same.
+  not_stored short fault e = λ version repository sound same.
       let fits = subst (λ t. length t < 2 ^ 64) same short in
-      let read = law.read repository sound fits in
+      let read = law.read version repository sound fits in
       let both = sym e ∙ ap (store_of name) same ∙ read in
       absurd (cc)
 

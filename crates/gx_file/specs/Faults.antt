@@ -2,6 +2,7 @@
 -- Source: this project's own format.
 use Rattle.std.specs.Prelude.{◌≡◌, ◌≢◌, codes, IfErr, Result, Ok, Err, ⊤}
 use Rattle.gx_model.specs.declared.objects.Kind.{Kind}
+use Rattle.gx_model.specs.declared.store_versions.Version.{Version}
 use Rattle.gx_model.specs.declared.store_faults.FileFault.{FileFault as ModelFault}
 use Rattle.gx_model.specs.declared.store_faults.FileFault.TheVariants as model
 use Rattle.gx_model.specs.Texts.{Bytes}
@@ -14,7 +15,7 @@ use Rattle.gx_repo.specs.declared.fault.AddFault.TheVariants as add
 use Rattle.gx_repo.specs.declared.fault.PublishFault.{PublishFault}
 use Rattle.gx_repo.specs.declared.fault.PublishFault.TheVariants as publish
 use Rattle.gx_file.specs.declared.fault.FileFault.{FileFault}
-use Rattle.gx_file.specs.declared.fault.FileFault.TheVariants.{OutOfMemory, BadMagic, BadVersion, Truncated, BadRecord, DuplicateObject, Dangling, BadObject, BadRef, RefOrder, TrailingBytes}
+use Rattle.gx_file.specs.declared.fault.FileFault.TheVariants.{OutOfMemory, BadMagic, BadVersion, Truncated, BadRecord, NameMismatch, DuplicateObject, Dangling, BadObject, BadRef, RefOrder, TrailingBytes}
 
 -- a refusal of a store text, as a fault of the model
 abbrev pub fault_of : FileFault → ModelFault
@@ -23,6 +24,7 @@ fault_of BadMagic = model.BadMagic
 fault_of BadVersion = model.BadVersion
 fault_of Truncated = model.Truncated
 fault_of BadRecord = model.BadRecord
+fault_of NameMismatch = model.NameMismatch
 fault_of DuplicateObject = model.DuplicateObject
 fault_of Dangling = model.Dangling
 fault_of BadObject = model.BadObject
@@ -37,6 +39,7 @@ word BadMagic = codes "BadMagic"
 word BadVersion = codes "BadVersion"
 word Truncated = codes "Truncated"
 word BadRecord = codes "BadRecord"
+word NameMismatch = codes "NameMismatch"
 word DuplicateObject = codes "DuplicateObject"
 word Dangling = codes "Dangling"
 word BadObject = codes "BadObject"
@@ -72,6 +75,6 @@ Reads view (Err e) given = IsFaultOf (fault_of e) given
 abbrev pub NeedsNoMemory : {X : Type 0} → Result X FileFault → Type 0
 NeedsNoMemory answer = IfErr answer (λ fault. fault ≢ OutOfMemory)
 
--- no sound repository has this text
+-- no sound repository has this text, in either version
 abbrev pub IsNoStoreText : (Kind → Bytes → Bytes) → Bytes → Type 0
-IsNoStoreText name text = (repository : Records) → IsSound name repository → text ≢ store_text repository
+IsNoStoreText name text = (v : Version) (repository : Records) → IsSound name repository → text ≢ store_text v repository

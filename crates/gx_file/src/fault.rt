@@ -12,12 +12,14 @@ pub enum FileFault {
     OutOfMemory,
     /// The first line doesn't begin with `gxstore` and a space.
     BadMagic,
-    /// The version isn't 1.
+    /// The version is neither 1 nor 2.
     BadVersion,
     /// The text ends inside a line, or inside a body with its LF.
     Truncated,
     /// A line `objects`, `refs` or `end`, or that of a record, isn't as written, or a body has no LF behind it.
     BadRecord,
+    /// The digits in a record's line aren't the name of its kind and body.
+    NameMismatch,
     /// A record's name is that of an earlier one.
     DuplicateObject,
     /// A record links to one that doesn't stand before it, or that is of another kind.
@@ -46,6 +48,7 @@ impl FileFault {
             FileFault::BadVersion => "BadVersion",
             FileFault::Truncated => "Truncated",
             FileFault::BadRecord => "BadRecord",
+            FileFault::NameMismatch => "NameMismatch",
             FileFault::DuplicateObject => "DuplicateObject",
             FileFault::Dangling => "Dangling",
             FileFault::BadObject => "BadObject",

@@ -1,11 +1,12 @@
 //! The lines of a store text. Source: this project's own format.
 ghost use Rattle.std.specs.Prelude.{◌≡◌, codes};
 ghost use Rattle.std.specs.Option.{option_and_then, option_map};
-ghost use Rattle.gx_model.specs.StoreReading.{after_magic, after_word, stored_count, stored_end, stored_line, stored_number};
+ghost use Rattle.gx_model.specs.StoreReading.{after_magic, after_word, stored_count, stored_end, stored_line, stored_number, version_of};
 ghost use Rattle.gx_file.specs.Faults.{NeedsNoMemory, Reads};
-ghost use Rattle.gx_file.specs.Texts.{shown_count, shown_pair};
+ghost use Rattle.gx_file.specs.Texts.{shown_count, shown_pair, shown_start};
 
 use crate::FileFault;
+use gx_model::Version;
 use gx_text::{cut, decimal};
 
 /// The first line without its LF, and what follows it.
@@ -33,19 +34,31 @@ pub(crate) fn read_number(text: &[u8]) -> Option<u64>
     decimal(text)
 }
 
-/// What follows the first line, which tells what the text is and its version.
-pub(crate) fn read_magic(text: &[u8]) -> Result<&[u8], FileFault>
-    ensures rest { Reads (λ rest. rest.now) result (after_magic text.now) }
+/// The version, and what follows the first line, which tells what the text is.
+pub(crate) fn read_magic(text: &[u8]) -> Result<(Version, &[u8]), FileFault>
+    ensures start { Reads shown_start result (after_magic text.now) }
     ensures memory { NeedsNoMemory result }
 {
     let (line, rest) = read_line(text)?;
-    let Some(version) = after_word(b"gxstore", line) else {
+    let Some(word) = after_word(b"gxstore", line) else {
         return Err(FileFault::BadMagic);
     };
-    if version == b"1".as_slice() {
-        Ok(rest)
+    let Some(version) = version_of(word) else {
+        return Err(FileFault::BadVersion);
+    };
+    Ok((version, rest))
+}
+
+/// The version that a word says.
+fn version_of(word: &[u8]) -> Option<Version>
+    ensures { result ≡ version_of word.now }
+{
+    if word == b"1".as_slice() {
+        Some(Version::One)
+    } else if word == b"2".as_slice() {
+        Some(Version::Two)
     } else {
-        Err(FileFault::BadVersion)
+        None
     }
 }
 

@@ -1,7 +1,7 @@
 //! Reading a whole store text. Source: this project's own format.
 ghost use Rattle.std.specs.Prelude.{◌≡◌, ◌≢◌, IfOk, IfErr};
 ghost use Rattle.gx_model.specs.StoreReading.{store_of};
-ghost use Rattle.gx_model.specs.StoreText.{store_text};
+ghost use Rattle.gx_model.specs.StoreText.{IsStoreText};
 ghost use Rattle.gx_file.specs.declared.fault.FileFault.TheVariants as fault;
 ghost use Rattle.gx_file.specs.Faults.{IsNoStoreText, Reads};
 
@@ -15,12 +15,12 @@ use gx_repo::Repo;
 use std::alloc::Allocator;
 use std::hash::RandomState;
 
-/// The repository of a store text, every claim of which is checked: the form of its lines, each body, link and name, and
-/// each ref. The text of the repository is the one that was read.
+/// The repository of a store text of version 1 or 2, every claim of which is checked: the form of its lines, each body,
+/// link and name, and each ref. The text of the repository in that version is the one that was read.
 ///
 /// The first fault from the front is answered, with the causes that [`FileFault`] gives. A text that is refused, but for
 /// want of memory, is that of no sound repository.
-/// Cost: one pass over the text, each body hashed once; a look-up for each link. Memory: the bodies and the
+/// Cost: one pass over the text, each body hashed once, and that of a record that is refused twice; a look-up for each link. Memory: the bodies and the
 /// refs that were read, whatever numbers the text states.
 pub fn read<N: Namer + Drop, A: Allocator + Copy>(
     alloc: A,
@@ -30,7 +30,7 @@ pub fn read<N: Namer + Drop, A: Allocator + Copy>(
 ) -> Result<Repo<N, A>, FileFault>
     ensures namer { IfOk result (λ repo. repo.0 ≡ namer) }
     ensures store { Reads (λ repo. repo.1) result (store_of (N.name_of namer) text.now) }
-    ensures text { IfOk result (λ repo. text.now ≡ store_text repo.1) }
+    ensures text { IfOk result (λ repo. IsStoreText text.now repo.1) }
     ensures refused { IfErr result (λ why. why ≢ fault.OutOfMemory → IsNoStoreText (N.name_of namer) text.now) }
 {
     stores_are_read();
@@ -48,10 +48,10 @@ fn read_store<N: Namer + Drop, A: Allocator + Copy>(
     ensures namer { IfOk result (λ repo. repo.0 ≡ namer) }
     ensures store { Reads (λ repo. repo.1) result (store_of (N.name_of namer) text.now) }
 {
-    let rest = read_magic(text)?;
+    let (version, rest) = read_magic(text)?;
     let (objects, rest) = read_count(b"objects", rest)?;
     let mut repo = Repo::new(alloc, namer, state);
-    let rest = read_records(&mut repo, objects, rest)?;
+    let rest = read_records(&mut repo, version, objects, rest)?;
     let (refs, rest) = read_count(b"refs", rest)?;
     let rest = read_refs(alloc, &mut repo, refs, rest)?;
     read_end(rest)?;

@@ -1,31 +1,35 @@
 //! The records of a store text. Source: this project's own format.
 ghost use Rattle.std.specs.Prelude.{◌≡◌};
 ghost use Rattle.std.specs.Map.{lookup};
+ghost use Rattle.std.specs.Option.{option_map};
+ghost use Rattle.gx_model.specs.declared.store_faults.FileFault.TheVariants as model;
 ghost use Rattle.gx_model.specs.Texts.{same_bytes};
-ghost use Rattle.gx_model.specs.StoreReading.{kind_words, next_record, next_records, record_line, stored_body};
+ghost use Rattle.gx_model.specs.StoreReading.{is_named, kind_words, length_field, next_record, next_records, record_line, stored_body, unless, with_record};
 ghost use Rattle.gx_file.specs.Faults.{NeedsNoMemory, Reads};
-ghost use Rattle.gx_file.specs.Texts.{shown_pair};
+ghost use Rattle.gx_file.specs.Texts.{shown_heading, shown_length, shown_name, shown_pair};
 
 use crate::FileFault;
 use crate::lines::{read_line, read_number};
-use gx_object::{Kind, Namer};
-use gx_repo::Repo;
+use gx_model::Version;
+use gx_object::{Kind, Name, Namer};
+use gx_repo::{AddFault, Repo};
 use gx_text::cut;
 use std::alloc::Allocator;
 
 /// Adds the records that come next, so many of them, and answers what follows them.
 pub(crate) fn read_records<'a, N: Namer, A: Allocator + Copy>(
     repo: &mut Repo<N, A>,
+    version: Version,
     count: u64,
     text: &'a [u8],
 ) -> Result<&'a [u8], FileFault>
     ensures namer { repo.new.0 ≡ repo.old.0 }
     ensures refs { repo.new.1.refs ≡ repo.old.1.refs }
-    ensures records { Reads (λ rest. (repo.new.1.records, rest.now)) result (next_records (N.name_of repo.old.0) count repo.old.1.records text.now) }
+    ensures records { Reads (λ rest. (repo.new.1.records, rest.now)) result (next_records (N.name_of repo.old.0) version count repo.old.1.records text.now) }
 {
     let mut rest = text;
     for _ in 0..count {
-        rest = read_record(repo, rest)?;
+        rest = read_record(repo, version, rest)?;
     }
     Ok(rest)
 }
@@ -33,28 +37,77 @@ pub(crate) fn read_records<'a, N: Namer, A: Allocator + Copy>(
 /// Adds the record that comes next, and answers what follows it.
 fn read_record<'a, N: Namer, A: Allocator + Copy>(
     repo: &mut Repo<N, A>,
+    version: Version,
     text: &'a [u8],
 ) -> Result<&'a [u8], FileFault>
     ensures namer { repo.new.0 ≡ repo.old.0 }
     ensures refs { repo.new.1.refs ≡ repo.old.1.refs }
-    ensures record { Reads (λ rest. (repo.new.1.records, rest.now)) result (next_record (N.name_of repo.old.0) repo.old.1.records text.now) }
+    ensures record { Reads (λ rest. (repo.new.1.records, rest.now)) result (next_record (N.name_of repo.old.0) version repo.old.1.records text.now) }
 {
     let (line, rest) = read_line(text)?;
-    let Some((kind, length)) = record_line(line) else {
+    let Some((kind, (length, stated))) = record_line(version, line) else {
         return Err(FileFault::BadRecord);
     };
     let (body, rest) = read_body(length, rest)?;
-    repo.add_record(kind, body)?;
+    add(repo, stated, kind, body)?;
     Ok(rest)
 }
 
-/// The kind and the length in a record's line.
-fn record_line(line: &[u8]) -> Option<(Kind, u64)>
-    ensures { result ≡ record_line line.now }
+/// Adds a record of which nothing is known, and which has the name that is stated, where one is.
+///
+/// Adding a record makes its name. So only one that is refused is named here again, to tell which of its faults is first.
+fn add<N: Namer, A: Allocator + Copy>(
+    repo: &mut Repo<N, A>,
+    stated: Option<Name>,
+    kind: Kind,
+    body: &[u8],
+) -> Result<(), FileFault>
+    ensures namer { repo.new.0 ≡ repo.old.0 }
+    ensures refs { repo.new.1.refs ≡ repo.old.1.refs }
+    ensures record { Reads (λ _. repo.new.1.records) result (with_record (N.name_of repo.old.0) repo.old.1.records (shown_name stated) kind body.now) }
 {
-    let (word, length) = cut(line, b' ')?;
+    match repo.add_record(kind, body) {
+        Ok(name) => check_name(stated, &name),
+        Err(AddFault::OutOfMemory) => Err(FileFault::OutOfMemory),
+        Err(fault) => {
+            check_name(stated, &repo.store().name(kind, body))?;
+            Err(FileFault::from(fault))
+        }
+    }
+}
+
+/// Answers `NameMismatch` where a name is stated that isn't this one.
+fn check_name(stated: Option<Name>, name: &Name) -> Result<(), FileFault>
+    ensures name { Reads (λ done. done) result (unless (is_named (shown_name stated) name.now.bytes) model.NameMismatch) }
+    ensures memory { NeedsNoMemory result }
+{
+    match stated {
+        Some(stated) if stated != *name => Err(FileFault::NameMismatch),
+        _ => Ok(()),
+    }
+}
+
+/// The kind and the length in a record's line, and the name that it states.
+fn record_line(version: Version, line: &[u8]) -> Option<(Kind, (u64, Option<Name>))>
+    ensures { option_map shown_heading result ≡ record_line version line.now }
+{
+    let (word, field) = cut(line, b' ')?;
     let kind = kind_named(word)?;
-    Some((kind, read_number(length)?))
+    Some((kind, length_field(version, field)?))
+}
+
+/// A length, and in version 2 the name whose digits stand behind it.
+fn length_field(version: Version, field: &[u8]) -> Option<(u64, Option<Name>)>
+    ensures { option_map shown_length result ≡ length_field version field.now }
+{
+    match version {
+        Version::One => Some((read_number(field)?, None)),
+        Version::Two => {
+            let (length, digits) = cut(field, b' ')?;
+            let length = read_number(length)?;
+            Some((length, Some(Name::read_lower(digits)?)))
+        }
+    }
 }
 
 /// The kind of this word.

@@ -4,6 +4,7 @@ ghost use Rattle.std.specs.List.{flat_map};
 ghost use Rattle.std.specs.Fmt.{decimal};
 ghost use Rattle.gx_model.specs.Naming.{kind_word};
 ghost use Rattle.gx_model.specs.Objects.{line};
+ghost use Rattle.gx_model.specs.declared.store_versions.Version.TheVariants.{Two};
 ghost use Rattle.gx_model.specs.StoreReading.{store_of};
 ghost use Rattle.gx_model.specs.StoreText.{store_text, stored_record, stored_ref};
 
@@ -12,7 +13,7 @@ use gx_object::{Kind, Name, Namer};
 use gx_repo::Repo;
 use std::alloc::{AllocError, Allocator};
 
-/// The text of a repository: its records in their order, and its refs in the byte order of their names.
+/// The text of a repository, of version 2: its records in their order, and its refs in the byte order of their names.
 ///
 /// Cost: the text's length. Memory: the text.
 #[tactic(auto, unfolding(gx_model::specs::StoreText::store_text))]
@@ -20,13 +21,13 @@ pub fn write<N: Namer, A: Allocator + Copy>(
     alloc: A,
     repo: &Repo<N, A>,
 ) -> Result<Vec<u8, A>, AllocError>
-    ensures text { IfOk result (λ text. text.items ≡ store_text repo.now.1) }
+    ensures text { IfOk result (λ text. text.items ≡ store_text Two repo.now.1) }
     ensures read { IfOk result (λ text. store_of (N.name_of repo.now.0) text.items ≡ Ok repo.now.1) }
 {
     stores_are_read();
     repo.sound();
     let mut text = Vec::new(alloc);
-    text.extend_from_slice(b"gxstore 1\n")?;
+    text.extend_from_slice(b"gxstore 2\n")?;
     put_records(&mut text, repo)?;
     put_refs(&mut text, repo)?;
     text.extend_from_slice(b"end\n")?;
@@ -38,16 +39,16 @@ fn put_records<N: Namer, A: Allocator + Copy>(
     text: &mut Vec<u8, A>,
     repo: &Repo<N, A>,
 ) -> Result<(), AllocError>
-    ensures { OnOk result (text.new.items ≡ text.old.items ++ line (codes "objects") (decimal (length repo.now.1.records)) ++ flat_map stored_record repo.now.1.records) }
+    ensures { OnOk result (text.new.items ≡ text.old.items ++ line (codes "objects") (decimal (length repo.now.1.records)) ++ flat_map (stored_record Two) repo.now.1.records) }
 {
     let store = repo.store();
     let count = store.len();
     put_count(text, b"objects", count)?;
     for place in 0..count {
-        let Some((_, kind, body)) = store.record(place) else {
+        let Some((name, kind, body)) = store.record(place) else {
             unreachable!();
         };
-        put_record(text, kind, body)?;
+        put_record(text, &name, kind, body)?;
     }
     Ok(())
 }
@@ -55,12 +56,16 @@ fn put_records<N: Namer, A: Allocator + Copy>(
 /// Appends a record.
 fn put_record<A: Allocator + Copy>(
     text: &mut Vec<u8, A>,
+    name: &Name,
     kind: Kind,
     body: &[u8],
 ) -> Result<(), AllocError>
-    ensures { OnOk result (text.new.items ≡ text.old.items ++ (line (kind_word kind) (decimal (length body.now)) ++ body.now ++ 10 ∷ [])) }
+    ensures { OnOk result (text.new.items ≡ text.old.items ++ stored_record Two (record { name = name.now.bytes; kind = kind; body = body.now })) }
 {
-    put_count(text, kind_word(kind), body.len())?;
+    put_number(text, kind_word(kind), body.len())?;
+    text.push(b' ')?;
+    text.extend_from_slice(name.hex().as_slice())?;
+    text.push(b'\n')?;
     text.extend_from_slice(body)?;
     text.push(b'\n')?;
     Ok(())
@@ -103,11 +108,23 @@ fn put_count<A: Allocator + Copy>(
 ) -> Result<(), AllocError>
     ensures { OnOk result (text.new.items ≡ text.old.items ++ line word.now (decimal count)) }
 {
+    put_number(text, word, count)?;
+    text.push(b'\n')?;
+    Ok(())
+}
+
+/// Appends a word and a number behind it, without an LF.
+fn put_number<A: Allocator + Copy>(
+    text: &mut Vec<u8, A>,
+    word: &[u8],
+    count: usize,
+) -> Result<(), AllocError>
+    ensures { OnOk result (text.new.items ≡ text.old.items ++ (word.now ++ 32 ∷ decimal count)) }
+{
     let mut digits = itoa::Buffer::new();
     text.extend_from_slice(word)?;
     text.push(b' ')?;
     text.extend_from_slice(digits.format(count).as_bytes())?;
-    text.push(b'\n')?;
     Ok(())
 }
 

@@ -8,7 +8,7 @@ pub returns-in_err-rest-clause-records : goal.returns-in_err-rest-clause-records
 returns-in_err-rest-clause-records g c =
     let p = err_from_is_err_and c.from_residual.result c.from_residual.ensures.1 in
     let name = g.N.Namer.name_of c.args.repo.now.0 in
-    rw (p.1, p.2) (one_refused name (next_records name c.args.count c.args.repo.now.1.records c.args.text.now) c.args.count c.loop.counter c.loop.repo.1.records c.loop.rest.now c.loop.invariant.records
+    rw (p.1, p.2) (one_refused name c.args.version (next_records name c.args.version c.args.count c.args.repo.now.1.records c.args.text.now) c.args.count c.loop.counter c.loop.repo.1.records c.loop.rest.now c.loop.invariant.records
     c.in_err-rest.field-0.0 c.loop-test.true (rw c.loop.invariant.namer at c.in_err-rest.ensures.record))
 
 pub loop-preserved : goal.loop-preserved
@@ -17,6 +17,6 @@ loop-preserved g c =
     record {
       namer = c.in_ok-rest.ensures.namer ∙ c.loop.invariant.namer;
       refs = c.in_ok-rest.ensures.refs ∙ c.loop.invariant.refs;
-      records = one_read name (next_records name c.args.count c.args.repo.now.1.records c.args.text.now) c.args.count c.loop.counter c.loop.repo.1.records c.loop.rest.now c.loop.invariant.records
+      records = one_read name c.args.version (next_records name c.args.version c.args.count c.args.repo.now.1.records c.args.text.now) c.args.count c.loop.counter c.loop.repo.1.records c.loop.rest.now c.loop.invariant.records
           c.read_record.new.repo.1.records c.in_ok-rest.rest.now c.loop-test.true (rw c.loop.invariant.namer at c.in_ok-rest.ensures.record);
     }

@@ -6,5 +6,5 @@ abbrev pub invariant-loop : goal.invariant-loop
 invariant-loop g l = record {
   namer : l.repo.0 ≡ l.fn.repo.0;
   refs : l.repo.1.refs ≡ l.fn.repo.1.refs;
-  records : next_records (g.N.Namer.name_of l.fn.repo.0) l.count l.fn.repo.1.records l.fn.text ≡ next_records (g.N.Namer.name_of l.fn.repo.0) (l.count - l.counter) l.repo.1.records l.rest;
+  records : next_records (g.N.Namer.name_of l.fn.repo.0) l.version l.count l.fn.repo.1.records l.fn.text ≡ next_records (g.N.Namer.name_of l.fn.repo.0) l.version (l.count - l.counter) l.repo.1.records l.rest;
 }

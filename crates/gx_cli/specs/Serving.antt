@@ -7,6 +7,7 @@ use Rattle.gx_model.specs.Texts.{Bytes}
 use Rattle.gx_model.specs.Histories.{Records}
 use Rattle.gx_model.specs.HistoryOf.{history_of}
 use Rattle.gx_model.specs.Sound.{IsSound}
+use Rattle.gx_model.specs.declared.store_versions.Version.TheVariants as version
 use Rattle.gx_model.specs.StoreText.{store_text}
 use Rattle.gx_model.specs.StoreReading.{Stored, store_of}
 use Rattle.gx_text.specs.Devices.{Coming, Taken}
@@ -50,10 +51,10 @@ IsOutcome (Err f) o = (o.status ≡ 1) × (o.fault ≡ Some f) × (o.store ≡ N
 abbrev pub IsRefused : {A : Type 0} → CliFault → Outcome A → Type 0
 IsRefused fault o = (o.status ≡ 1) × (o.fault ≡ Some fault) × (o.store ≡ None)
 
--- the next store text is that of this repository, and is read as this repository, unless memory ran out
+-- the next store text is that of this repository, of version 2, and is read as this repository, unless memory ran out
 abbrev pub IsWritten : {A : Type 0} → (Kind → Bytes → Bytes) → Records → Outcome A → Type 0
 IsWritten {A} name repository o =
-    ((o.status ≡ 0) × (o.fault ≡ None) × ((text : Vec ℕ A) × (o.store ≡ Some text) × (text.items ≡ store_text repository) × (store_of name text.items ≡ Ok repository)))
+    ((o.status ≡ 0) × (o.fault ≡ None) × ((text : Vec ℕ A) × (o.store ≡ Some text) × (text.items ≡ store_text version.Two repository) × (store_of name text.items ≡ Ok repository)))
     ⊎ IsRefused OutOfMemory o
 
 -- the export of the store of a text, which is read first

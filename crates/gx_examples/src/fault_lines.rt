@@ -74,6 +74,7 @@ const STORES: &[(FileFault, &str)] = &[
     (FileFault::BadVersion, "gx: store: BadVersion"),
     (FileFault::Truncated, "gx: store: Truncated"),
     (FileFault::BadRecord, "gx: store: BadRecord"),
+    (FileFault::NameMismatch, "gx: store: NameMismatch"),
     (FileFault::DuplicateObject, "gx: store: DuplicateObject"),
     (FileFault::Dangling, "gx: store: Dangling"),
     (FileFault::BadObject, "gx: store: BadObject"),

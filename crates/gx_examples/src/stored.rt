@@ -17,10 +17,14 @@ use std::hash::RandomState;
 use std::test::Fail;
 
 /// The text of an empty store.
-pub(crate) const EMPTY: &[u8] = b"gxstore 1\nobjects 0\nrefs 0\nend\n";
+pub(crate) const EMPTY: &[u8] = b"gxstore 2\nobjects 0\nrefs 0\nend\n";
 
 /// The text of a store with one blob.
-const WITH_BLOB: &[u8] = b"gxstore 1\nobjects 1\nblob 13\ntest content\n\nrefs 0\nend\n";
+const WITH_BLOB: &[u8] =
+    b"gxstore 2\nobjects 1\nblob 13 d670460b4b4aece5915caf5c68d12f560a9fe3e4\ntest content\n\nrefs 0\nend\n";
+
+/// That of version 1.
+const OLD_WITH_BLOB: &[u8] = b"gxstore 1\nobjects 1\nblob 13\ntest content\n\nrefs 0\nend\n";
 
 /// A commit's name, twice.
 const TWICE: &[u8] =
@@ -257,6 +261,7 @@ fn store_texts_have_their_form(rt: HostRuntime) -> Result<(), Fail> {
     let import = Line::Import { file: "store" };
     assert!(rt; writes(rt.alloc(), &import, EMPTY, ONE_BLOB, WITH_BLOB, state)?);
     assert!(rt; writes(rt.alloc(), &import, WITH_BLOB, b"", WITH_BLOB, state)?);
+    assert!(rt; writes(rt.alloc(), &import, OLD_WITH_BLOB, b"", WITH_BLOB, state)?);
     Ok(())
 }
 

@@ -1,8 +1,10 @@
 ghost use Rattle.std.specs.Prelude.{◌<◌, length};
 
 use gx_file::{FileFault, OutOfMemory, read, write};
+use gx_model::Version;
 use gx_object::Sha1Namer;
 use gx_refusing::Refusing;
+use gx_repo::Repo;
 use std::alloc::{AllocError, Allocator};
 use std::hash::RandomState;
 use std::test::Fail;
@@ -10,26 +12,40 @@ use std::test::Fail;
 mod limits;
 mod refusals;
 
-/// A text with an object of each kind, and with two refs.
-const WHOLE: &[&[u8]] = &[
-    b"gxstore 1\nobjects 4\n",
-    b"blob 10\nversion 1\n\n",
-    b"tree 36\n100644 test.txt\0",
-    b"\x83\xba\xae\x61\x80\x4e\x65\xcc\x73\xa7\x20\x1a\x72\x52\x75\x0c\x76\x06\x6a\x30\n",
-    b"commit 98\ntree d8329fc1cc938780ffdd9f94e0d364e0ea74f579\n",
-    b"author A <a@x> 1 +0000\ncommitter A <a@x> 1 +0000\n\nv1\n",
-    b"tag 94\nobject 02d6adf1689e06135d2b4b4d471f1ae489887b53\n",
-    b"type commit\ntag v1\ntagger A <a@x> 2 +0000\n\none\n",
-    b"refs 2\n02d6adf1689e06135d2b4b4d471f1ae489887b53 refs/heads/main\n",
-    b"97d8375ddbc6d68ebd1cd704d215a6ca988cdf29 refs/tags/v1\nend\n",
+/// An object of each kind: its line in version 1, the name that Git gives it, and its body.
+const OBJECTS: &[(&[u8], &[u8], &[u8])] = &[
+    (
+        b"blob 10",
+        b"83baae61804e65cc73a7201a7252750c76066a30",
+        b"version 1\n",
+    ),
+    (
+        b"tree 36",
+        b"d8329fc1cc938780ffdd9f94e0d364e0ea74f579",
+        b"100644 test.txt\0\x83\xba\xae\x61\x80\x4e\x65\xcc\x73\xa7\x20\x1a\x72\x52\x75\x0c\x76\x06\x6a\x30",
+    ),
+    (
+        b"commit 98",
+        b"02d6adf1689e06135d2b4b4d471f1ae489887b53",
+        b"tree d8329fc1cc938780ffdd9f94e0d364e0ea74f579\nauthor A <a@x> 1 +0000\ncommitter A <a@x> 1 +0000\n\nv1",
+    ),
+    (
+        b"tag 94",
+        b"97d8375ddbc6d68ebd1cd704d215a6ca988cdf29",
+        b"object 02d6adf1689e06135d2b4b4d471f1ae489887b53\ntype commit\ntag v1\ntagger A <a@x> 2 +0000\n\none",
+    ),
 ];
 
-/// Git's names of the objects in that text.
-const NAMES: &[&[u8]] = &[
-    b"83baae61804e65cc73a7201a7252750c76066a30",
-    b"d8329fc1cc938780ffdd9f94e0d364e0ea74f579",
-    b"02d6adf1689e06135d2b4b4d471f1ae489887b53",
-    b"97d8375ddbc6d68ebd1cd704d215a6ca988cdf29",
+/// Two refs that hold these objects, and the end of a text.
+const HOLDING: &[u8] =
+    b"refs 2\n02d6adf1689e06135d2b4b4d471f1ae489887b53 refs/heads/main\n97d8375ddbc6d68ebd1cd704d215a6ca988cdf29 refs/tags/v1\nend\n";
+
+/// Texts with no objects and with one.
+const SMALL: &[&[u8]] = &[
+    b"gxstore 1\nobjects 0\nrefs 0\nend\n",
+    b"gxstore 2\nobjects 0\nrefs 0\nend\n",
+    b"gxstore 1\nobjects 1\nblob 13\ntest content\n\nrefs 0\nend\n",
+    b"gxstore 2\nobjects 1\nblob 13 d670460b4b4aece5915caf5c68d12f560a9fe3e4\ntest content\n\nrefs 0\nend\n",
 ];
 
 /// The bytes of Git's name of the blob `hello` LF.
@@ -45,63 +61,136 @@ fn joined<A: Allocator + Copy>(alloc: A, parts: &[&[u8]]) -> Result<Vec<u8, A>, 
     Ok(text)
 }
 
+/// The text of these objects and refs.
+fn whole<A: Allocator + Copy>(alloc: A, version: Version) -> Result<Vec<u8, A>, AllocError> {
+    let mut text = Vec::new(alloc);
+    text.extend_from_slice(match version {
+        Version::One => b"gxstore 1\nobjects 4\n",
+        Version::Two => b"gxstore 2\nobjects 4\n",
+    })?;
+    for (line, name, body) in OBJECTS {
+        text.extend_from_slice(line)?;
+        if version == Version::Two {
+            text.push(b' ')?;
+            text.extend_from_slice(name)?;
+        }
+        text.push(b'\n')?;
+        text.extend_from_slice(body)?;
+        text.push(b'\n')?;
+    }
+    text.extend_from_slice(HOLDING)?;
+    Ok(text)
+}
+
 /// Why a text is refused; none where it is read.
 fn fault_in<A: Allocator + Copy>(alloc: A, text: &[u8], state: RandomState) -> Option<FileFault> {
     read(alloc, Sha1Namer, text, state).err()
 }
 
-/// Whether a text is read, and what was read is written as that text.
+/// Whether two repositories have the same objects in the same order, and the same refs.
+fn are_same<A: Allocator + Copy>(one: &Repo<Sha1Namer, A>, other: &Repo<Sha1Namer, A>) -> bool {
+    for place in 0..one.store().len() {
+        if one.store().record(place) != other.store().record(place) {
+            return false;
+        }
+    }
+    one.store().len() == other.store().len() && one.refs().eq(other.refs())
+}
+
+/// Whether this is the text of version 2 that goes with one of version 1 which was read: it has the digits and a space more
+/// for each object, and is read as the same repository.
+fn is_next_of<A: Allocator + Copy>(
+    alloc: A,
+    next: &[u8],
+    text: &[u8],
+    repo: &Repo<Sha1Namer, A>,
+    state: RandomState,
+) -> bool {
+    let Ok(again) = read(alloc, Sha1Namer, next, state) else {
+        return false;
+    };
+    let more = next.len().checked_sub(text.len());
+    next.starts_with(b"gxstore 2\n")
+        && more == repo.store().len().checked_mul(41)
+        && are_same(repo, &again)
+}
+
+/// Whether a text is read, and what was read is written as that text, or as that of version 2 where it is of version 1.
 fn is_written_again<A: Allocator + Copy>(alloc: A, text: &[u8], state: RandomState) -> bool {
     let Ok(repo) = read(alloc, Sha1Namer, text, state) else {
         return false;
     };
-    match write(alloc, &repo) {
-        Ok(again) => again.as_slice() == text,
-        Err(_) => false,
-    }
+    let Ok(again) = write(alloc, &repo) else {
+        return false;
+    };
+    again.as_slice() == text || is_next_of(alloc, again.as_slice(), text, &repo, state)
 }
 
 #[test]
 fn texts_are_written_again(rt: HostRuntime) -> Result<(), Fail> {
     let state = RandomState::new(&rt)?;
-    let empty: &[u8] = b"gxstore 1\nobjects 0\nrefs 0\nend\n";
-    assert_eq!(rt; empty.len(), 31);
-    assert!(rt; is_written_again(rt.alloc(), empty, state));
-    let one_blob: &[u8] = b"gxstore 1\nobjects 1\nblob 13\ntest content\n\nrefs 0\nend\n";
-    assert!(rt; is_written_again(rt.alloc(), one_blob, state));
-    let whole = joined(rt.alloc(), WHOLE)?;
-    assert!(rt; is_written_again(rt.alloc(), whole.as_slice(), state));
+    for text in SMALL {
+        assert!(rt; is_written_again(rt.alloc(), text, state));
+    }
+    for version in [Version::One, Version::Two] {
+        let text = whole(rt.alloc(), version)?;
+        assert!(rt; is_written_again(rt.alloc(), text.as_slice(), state));
+    }
     Ok(())
 }
 
-/// Whether the objects of a text that is read have these names, in this order.
-fn has_names<A: Allocator + Copy>(
+/// Whether a text is read, and written as another one.
+fn is_written_as<A: Allocator + Copy>(
     alloc: A,
     text: &[u8],
-    names: &[&[u8]],
+    written: &[u8],
     state: RandomState,
 ) -> bool {
     let Ok(repo) = read(alloc, Sha1Namer, text, state) else {
         return false;
     };
-    for (place, digits) in names.iter().enumerate() {
+    match write(alloc, &repo) {
+        Ok(again) => again.as_slice() == written,
+        Err(_) => false,
+    }
+}
+
+#[test]
+fn version_2_is_written(rt: HostRuntime) -> Result<(), Fail> {
+    let state = RandomState::new(&rt)?;
+    let written = whole(rt.alloc(), Version::Two)?;
+    for version in [Version::One, Version::Two] {
+        let text = whole(rt.alloc(), version)?;
+        assert!(rt; is_written_as(rt.alloc(), text.as_slice(), written.as_slice(), state));
+    }
+    Ok(())
+}
+
+/// Whether the objects of a text that is read have Git's names, in this order.
+fn has_names<A: Allocator + Copy>(alloc: A, text: &[u8], state: RandomState) -> bool {
+    let Ok(repo) = read(alloc, Sha1Namer, text, state) else {
+        return false;
+    };
+    for (place, (_, digits, _)) in OBJECTS.iter().enumerate() {
         match repo.store().record(place) {
             Some((name, _, _)) if name.hex().as_slice() == *digits => {}
             _ => return false,
         }
     }
-    repo.store().len() == names.len()
+    repo.store().len() == OBJECTS.len()
 }
 
 #[test]
 fn objects_have_gits_names(rt: HostRuntime) -> Result<(), Fail> {
     let state = RandomState::new(&rt)?;
-    let whole = joined(rt.alloc(), WHOLE)?;
-    assert!(rt; has_names(rt.alloc(), whole.as_slice(), NAMES, state));
+    for version in [Version::One, Version::Two] {
+        let text = whole(rt.alloc(), version)?;
+        assert!(rt; has_names(rt.alloc(), text.as_slice(), state));
+    }
     Ok(())
 }
 
-/// Whether a text is refused for its own sake, or else is the text of what is read.
+/// Whether a text is refused for its own sake, or else goes with what is read of it.
 fn is_told<A: Allocator + Copy>(alloc: A, text: &[u8], state: RandomState) -> bool {
     match fault_in(alloc, text, state) {
         None => is_written_again(alloc, text, state),
@@ -141,8 +230,10 @@ fn are_changes_told<A: Allocator + Copy>(alloc: A, text: &mut [u8], state: Rando
 #[test]
 fn changed_bits_are_told(rt: HostRuntime) -> Result<(), Fail> {
     let state = RandomState::new(&rt)?;
-    let mut whole = joined(rt.alloc(), WHOLE)?;
-    assert!(rt; are_changes_told(rt.alloc(), whole.as_mut_slice(), state));
+    for version in [Version::One, Version::Two] {
+        let mut text = whole(rt.alloc(), version)?;
+        assert!(rt; are_changes_told(rt.alloc(), text.as_mut_slice(), state));
+    }
     Ok(())
 }
 
@@ -195,7 +286,7 @@ fn refused_writings<B: Allocator>(
 #[test]
 fn refused_growth_is_out_of_memory(rt: HostRuntime) -> Result<(), Fail> {
     let state = RandomState::new(&rt)?;
-    let whole = joined(rt.alloc(), WHOLE)?;
+    let whole = whole(rt.alloc(), Version::Two)?;
     let heap = Refusing::new(rt.alloc(), 0);
     let readings = refused_readings(&heap, whole.as_slice(), state).unwrap_or(0);
     assert!(rt; readings >= 8);

@@ -22,7 +22,7 @@ pub(crate) const MERGED_TEXT: &[u8] =
     b"feature done\nblob\nmark :1\ndata 6\nhello\n\nreset refs/gx/export\ncommit refs/gx/export\nmark :2\nauthor A <a@x> 1 +0000\ncommitter A <a@x> 1 +0000\ndata 1\np\ndeleteall\nM 100644 :1 f\n\nreset refs/gx/export\ncommit refs/gx/export\nmark :3\nauthor A <a@x> 2 +0000\ncommitter A <a@x> 2 +0000\ndata 1\nq\ndeleteall\nM 160000 d670460b4b4aece5915caf5c68d12f560a9fe3e4 sub\n\ncommit refs/gx/export\nmark :4\nauthor A <a@x> 3 +0000\ncommitter A <a@x> 3 +0000\ndata 1\nm\nfrom :2\nmerge :3\ndeleteall\nM 100644 :1 f\n\nreset refs/gx/export\nreset refs/heads/a\nfrom :4\n\nreset refs/heads/b\nfrom :3\n\ntag t\nfrom :4\ntagger A <a@x> 4 +0000\ndata 1\nt\ndone\n";
 
 /// The text of an empty store.
-pub(crate) const EMPTY: &[u8] = b"gxstore 1\nobjects 0\nrefs 0\nend\n";
+pub(crate) const EMPTY: &[u8] = b"gxstore 2\nobjects 0\nrefs 0\nend\n";
 
 /// Why what a source gives is refused; none where it is imported. What the devices tell is left open here, so no caller has
 /// more to prove than that the call is safe.

@@ -127,14 +127,14 @@ fn fault_in<N: Namer + Drop, A: Allocator + Copy>(
     read(alloc, namer, text, state).err()
 }
 
-/// A store text of Git's names has no record under them where names are short, and one record alone where they are constant.
+/// A store text of Git's names has other names than its records where names are short, and one record alone where they are constant.
 #[test]
 fn store_text_of_other_names_is_refused(rt: HostRuntime) -> Result<(), Fail> {
     let state = RandomState::new(&rt)?;
     let text = stored(rt.alloc(), Sha1Namer, FIRST, state);
     assert_eq!(rt; fault_in(rt.alloc(), Sha1Namer, &text, state), None);
     let short = fault_in(rt.alloc(), ShortNamer, &text, state);
-    assert_eq!(rt; short, Some(FileFault::Dangling));
+    assert_eq!(rt; short, Some(FileFault::NameMismatch));
     let blobs: &[u8] = b"gxstore 1\nobjects 2\nblob 1\na\nblob 1\nb\nrefs 0\nend\n";
     let constant = fault_in(rt.alloc(), ConstantNamer, blobs, state);
     assert_eq!(rt; constant, Some(FileFault::DuplicateObject));

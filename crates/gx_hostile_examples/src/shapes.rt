@@ -118,7 +118,7 @@ fn modes_of_main<N: Namer, A: Allocator + Copy>(
 fn trees_with_very_many_paths_are_opened(rt: HostRuntime) -> Result<(), Fail> {
     let state = RandomState::new(&rt)?;
     let text = doubled_text(rt.alloc(), state).ok_or("no text")?;
-    assert!(rt; text.starts_with(b"gxstore 1\nobjects 43\n"));
+    assert!(rt; text.starts_with(b"gxstore 2\nobjects 43\n"));
     let repo = opened(rt.alloc(), &text, state).ok_or("a refusal")?;
     assert_eq!(rt;
         modes_of_main(rt.alloc(), &repo),

@@ -312,6 +312,26 @@ pub(super) const REFUSED_STORES: &[RefusedStore<'static>] = &[
     (b"gxstore 9\n", "gx: store: BadVersion"),
     (b"gxstore 1\nobjects 01\n", "gx: store: BadRecord"),
     (
+        b"gxstore 2\nobjects 1\nblob 13 e69de29bb2d1d6434b8b29ae775ad8c2e48c5391\ntest content\n\nrefs 0\nend\n",
+        "gx: store: NameMismatch",
+    ),
+    (
+        b"gxstore 2\nobjects 1\nblob 13 D670460b4b4aece5915caf5c68d12f560a9fe3e4\ntest content\n\nrefs 0\nend\n",
+        "gx: store: BadRecord",
+    ),
+    (
+        b"gxstore 2\nobjects 1\nblob 13\ntest content\n\nrefs 0\nend\n",
+        "gx: store: BadRecord",
+    ),
+    (
+        b"gxstore 1\nobjects 1\nblob 13 d670460b4b4aece5915caf5c68d12f560a9fe3e4\ntest content\n\nrefs 0\nend\n",
+        "gx: store: BadRecord",
+    ),
+    (
+        b"gxstore 2\nobjects 1\ntree 2 0000000000000000000000000000000000000000\nxy\n",
+        "gx: store: NameMismatch",
+    ),
+    (
         b"gxstore 1\nobjects 0\nrefs 0\nend\nx",
         "gx: store: TrailingBytes",
     ),

@@ -25,6 +25,8 @@ const LINES: &[(&[u8], FileFault)] = &[
     (b"gxstore \n", FileFault::BadVersion),
     (b"gxstore 9\n", FileFault::BadVersion),
     (b"gxstore 1 \n", FileFault::BadVersion),
+    (b"gxstore 2 \n", FileFault::BadVersion),
+    (b"gxstore 12\n", FileFault::BadVersion),
     // Numbers.
     (b"gxstore 1\nobjects 01\n", FileFault::BadRecord),
     (b"gxstore 1\nobjects 00\n", FileFault::BadRecord),
@@ -59,6 +61,10 @@ const LINES: &[(&[u8], FileFault)] = &[
     (b"gxstore 1\nobjects 1\nblob 09\nhel", FileFault::BadRecord),
     (b"gxstore 1\nobjects 1\nblob\nhel", FileFault::BadRecord),
     (b"gxstore 1\nobjects 1\nBlob 9\nhel", FileFault::BadRecord),
+    (
+        b"gxstore 1\nobjects 1\nblob 6 ce013625030ba8dba906f756967f9e9ca394464a\nhello\n\n",
+        FileFault::BadRecord,
+    ),
     (b"gxstore 1\nobjects 1\nblob 6\nhel", FileFault::Truncated),
     (
         b"gxstore 1\nobjects 1\nblob 6\nhello\n",
@@ -78,6 +84,79 @@ const LINES: &[(&[u8], FileFault)] = &[
     (
         b"gxstore 1\nobjects 2\nblob 0\n\nblob 0\n\n",
         FileFault::DuplicateObject,
+    ),
+];
+
+/// The lines of an object of version 2 behind `objects 2`, with their first faults.
+const NAMED: &[(&[u8], FileFault)] = &[
+    // The digits are of the line's form: forty, lower case, and nothing more.
+    (b"blob 6\nhello\n\n", FileFault::BadRecord),
+    (b"blob 6 \nhello\n\n", FileFault::BadRecord),
+    (
+        b"blob 6 CE013625030BA8DBA906F756967F9E9CA394464A\nhello\n\n",
+        FileFault::BadRecord,
+    ),
+    (
+        b"blob 6 ce013625030ba8dba906f756967f9e9ca394464\nhello\n\n",
+        FileFault::BadRecord,
+    ),
+    (
+        b"blob 6 ce013625030ba8dba906f756967f9e9ca394464a0\nhello\n\n",
+        FileFault::BadRecord,
+    ),
+    (
+        b"blob 6 ce013625030ba8dba906f756967f9e9ca394464a \nhello\n\n",
+        FileFault::BadRecord,
+    ),
+    (
+        b"blob  6 ce013625030ba8dba906f756967f9e9ca394464a\nhello\n\n",
+        FileFault::BadRecord,
+    ),
+    (
+        b"blob 06 ce013625030ba8dba906f756967f9e9ca394464a\nhello\n\n",
+        FileFault::BadRecord,
+    ),
+    // A body and its LF are looked at before the name.
+    (
+        b"blob 6 0000000000000000000000000000000000000000\nhello",
+        FileFault::Truncated,
+    ),
+    (
+        b"blob 6 0000000000000000000000000000000000000000\nhello\n",
+        FileFault::Truncated,
+    ),
+    (
+        b"blob 5 0000000000000000000000000000000000000000\nhello!\n",
+        FileFault::BadRecord,
+    ),
+    // The name before what is against the object.
+    (
+        b"blob 6 0000000000000000000000000000000000000000\nhello\n\n",
+        FileFault::NameMismatch,
+    ),
+    (
+        b"tree 2 0000000000000000000000000000000000000000\nxy\n",
+        FileFault::NameMismatch,
+    ),
+    (
+        b"tree 2 87ba6d80d1aecfc70a6848387623c179b75991f2\nxy\n",
+        FileFault::BadObject,
+    ),
+    (
+        b"commit 97 ce013625030ba8dba906f756967f9e9ca394464a\ntree 4b825dc642cb6eb9a060e54bf8d69288fbee4904\nauthor A <a@x> 1 +0000\ncommitter A <a@x> 1 +0000\n\nm\n",
+        FileFault::NameMismatch,
+    ),
+    (
+        b"commit 97 72c94d6f8d05bab7da1bd2949ffdf5bcaf794e9d\ntree 4b825dc642cb6eb9a060e54bf8d69288fbee4904\nauthor A <a@x> 1 +0000\ncommitter A <a@x> 1 +0000\n\nm\n",
+        FileFault::Dangling,
+    ),
+    (
+        b"blob 0 e69de29bb2d1d6434b8b29ae775ad8c2e48c5391\n\nblob 0 e69de29bb2d1d6434b8b29ae775ad8c2e48c5391\n\n",
+        FileFault::DuplicateObject,
+    ),
+    (
+        b"blob 0 e69de29bb2d1d6434b8b29ae775ad8c2e48c5391\n\nblob 0 ce013625030ba8dba906f756967f9e9ca394464a\n\n",
+        FileFault::NameMismatch,
     ),
 ];
 
@@ -311,6 +390,16 @@ fn lines_are_refused_for_the_first_fault(rt: HostRuntime) -> Result<(), Fail> {
     let state = RandomState::new(&rt)?;
     for (text, fault) in LINES {
         assert_eq!(rt; fault_in(rt.alloc(), text, state), Some(*fault));
+    }
+    Ok(())
+}
+
+#[test]
+fn named_objects_are_refused_for_the_first_fault(rt: HostRuntime) -> Result<(), Fail> {
+    let state = RandomState::new(&rt)?;
+    for (lines, fault) in NAMED {
+        let text = text_behind(rt.alloc(), &[b"gxstore 2\nobjects 2\n"], &[*lines])?;
+        assert_eq!(rt; fault_in(rt.alloc(), text.as_slice(), state), Some(*fault));
     }
     Ok(())
 }

@@ -64,7 +64,7 @@ module _ (name : Kind → Bytes → Bytes) (read : Bytes → Result Revision Fau
   all_replayed n s t [] e = let k : n + 0 ≡ n = omega arith in ap (λ u. ended n u None) (same_ok s t e) ∙ ap (λ m. ended m t None) (sym k)
   all_replayed n s t (c ∷ cs) e = by (step name read s c) (λ u. all_replayed (n + 1) u t cs) e where
     by : (r : Result State Fault) → ((u : State) → steps name read u cs ≡ Ok t → replayed name read (n + 1) u cs None ≡ replayed name read (n + 1 + length cs) t [] None) → and_then r (λ u. steps name read u cs) ≡ Ok t
-        → elim r as (λ x. Outcome) [ Ok u ↦ replayed name read (n + 1) u cs None | Err f ↦ refused (n + 1) f s.progress ] ≡ replayed name read (n + suc (length cs)) t [] None
+        → elim r as (λ x. Outcome) [ Ok u ↦ replayed name read (n + 1) u cs None | Err f ↦ refused (n + 1) f s.progress s.kept ] ≡ replayed name read (n + suc (length cs)) t [] None
     by (Ok u) again e = let k : n + 1 + length cs ≡ n + suc (length cs) = omega arith in again u e ∙ ap (λ m. ended m t None) k
     by (Err f) again e = absurd cc
 
@@ -154,7 +154,7 @@ module _ (name : Kind → Bytes → Bytes) (read : Bytes → Result Revision Fau
           all = λ u r. let a = any_from (map (λ r. value_at r.1) h.refs) u r in reached_held us after.whole a.0 u a.2 (all_in (IsIn us) (map (λ r. value_at r.1) h.refs) a.0 (targets (IsIn us) h.refs after.has) a.1);
           whole = after.whole;
         },
-        all_replayed name read 0 (start nothing) t (export_commands h) all ∙ ap (λ b. cond b (finished (final t) [] (report (0 + length (export_commands h)) t)) (refused (0 + length (export_commands h) + 1) faults.NotFastForward [])) forward ∙ ap (finished (final t) []) told,
+        all_replayed name read 0 (start nothing) t (export_commands h) all ∙ ap (λ b. cond b (finished (final t) [] (report (0 + length (export_commands h)) t)) (refused (0 + length (export_commands h) + 1) faults.NotFastForward [] t.kept)) forward ∙ ap (finished (final t) []) told,
       )
     where
       targets : (P : Value → Type 0) (rs : Refs) → AllByRecursion (λ r. P (value_at r.1)) rs → AllByRecursion P (map (λ r. value_at r.1) rs)

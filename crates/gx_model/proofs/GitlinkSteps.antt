@@ -3,7 +3,7 @@ use Rattle.std.proofs.Common.{◌≡◌, ℕ, suc, ◌+◌, Bool, true, false, c
 use Rattle.std.specs.Prelude.{IfOk, IfSome, ◌&&◌, ◌==◌, length}
 use Rattle.std.proofs.lemmas.Grind.{common_steps}
 use Rattle.std.proofs.lemmas.Bool.Decides.{nat_tests}
-use Rattle.std.specs.List.{AllByRecursion, filter_map, list_all}
+use Rattle.std.specs.List.{AllByRecursion, filter_map, fold, list_all}
 use Rattle.std.specs.FinMap.Entries.{by_order, put}
 use Rattle.std.specs.declared.cmp.Ordering.TheVariants.{Less, Equal, Greater}
 use Rattle.gx_model.specs.declared.faults.Fault.{Fault}
@@ -13,12 +13,13 @@ use Rattle.gx_model.specs.declared.objects.Kind.{Kind}
 use Rattle.gx_model.specs.declared.objects.Mode.{Mode}
 use Rattle.gx_model.specs.declared.objects.Mode.TheVariants.{File, Exec, Link, Gitlink, Dir}
 use Rattle.gx_model.specs.Texts.{Bytes}
+use Rattle.gx_model.specs.RefNames.{tag_ref}
 use Rattle.gx_model.specs.Faults.{and_then}
 use Rattle.gx_model.specs.Paths.{Path}
 use Rattle.gx_model.specs.Files.{FileMap}
 use Rattle.gx_model.specs.Edits.{copied, modified, renamed}
 use Rattle.gx_model.specs.Values.{Commit, Tag, Value, blob_value, commit, commit_value, commits_of, files_of, list_of, parents_of, tag_value, tree_value}
-use Rattle.gx_model.specs.Histories.{History, IsHistory, IsIn, Target, value_at, with_tree, with_value}
+use Rattle.gx_model.specs.Histories.{History, IsHistory, IsIn, Target, at_commit, at_tag, value_at, with_tree, with_value}
 use Rattle.gx_model.specs.Revisions.{Revision}
 use Rattle.gx_model.specs.Denotation.{base_value, lower}
 use Rattle.gx_model.specs.Items.{items_of}
@@ -27,8 +28,8 @@ use Rattle.gx_model.specs.Commands as command
 use Rattle.gx_model.specs.Commands.{Asks, Blob, Change, Checkpoint, Clear, Command, CommitIsh, CommitParts, Copy, DataRef, Done, Inline, Mark, Marked, Modify, Named, Object, OptionLine, Progress, Remove, Rename, Reset, TagParts}
 use Rattle.gx_model.specs.Grammar.{commands_of, is_null}
 use Rattle.gx_model.specs.ExportLaws.{IsNotNull}
-use Rattle.gx_model.specs.Gitlinks.{BringsNoNullGitlink, GivesNoNullGitlink, HoldsNoNullGitlink, HoldsTellsHas, ReplaysKeepNone, TextsBringNone}
-use Rattle.gx_model.specs.Replay.{Outcome, Report, State, added, all_changed, all_committed, at, blob_bytes, byte_cmp, changed, commit_alone, committed, committed_for, content, ended, final, finished, first_parent, is_fast_forward, marked, on_branch, refused, replayed, report, start, starting_files, step, step_commit, step_reset, step_tag, text_made, with_first_parent}
+use Rattle.gx_model.specs.Gitlinks.{BringsNoNullGitlink, GivesNoNullGitlink, HoldsNoNullGitlink, HoldsTellsHas, RefusalsKeepNone, ReplaysKeepNone, TextsBringNone}
+use Rattle.gx_model.specs.Replay.{Kept, Outcome, Report, State, added, all_changed, all_committed, at, blob_bytes, byte_cmp, changed, checkpointed, commit_alone, committed, committed_for, content, ended, final, final_refs, finished, first_parent, is_fast_forward, marked, on_branch, refused, replayed, report, start, starting_files, step, step_checkpoint, step_commit, step_reset, step_tag, text_made, with_branch, with_first_parent}
 use Rattle.gx_model.proofs.GivenCommits.{IsStateOf, MayBeOf, OfCommit, all_committed_kept, all_each, alone_kept, committed_kept, first_kept, for_branch, with_first_kept}
 use Rattle.gx_model.proofs.KeptCommits.{all_in}
 use Rattle.gx_model.proofs.ReadGitlinks.{none_brought}
@@ -42,6 +43,8 @@ pub record IsFreeState (s : State) : Type 0 where
   pub refs : AllByRecursion (λ ref. IsFreeValue (value_at ref.1)) s.history.refs
   pub marks : AllByRecursion (λ mark. IsFreeValue mark.1) s.marks
   pub branches : AllByRecursion (λ branch. IfSome branch.1 IsFree) s.branches
+  pub tags : AllByRecursion (λ made. IsFree made.1.target) s.tags
+  pub kept : HoldsNoNullGitlink s.kept.history
 
 free_value : (v : Value) → IsFreeValue v → OfCommit IsFree v
 free_value (blob_value x) h = tt
@@ -65,7 +68,7 @@ free_commits_of s h = record {
 pub start_free : (h : History) → IsHistory h → HoldsNoNullGitlink h → IsFreeState (start h)
 start_free h is none =
     let values = all_free [] h.values tt is.closed none in
-    record { values = values; refs = by h.refs values is.held; marks = tt; branches = tt }
+    record { values = values; refs = by h.refs values is.held; marks = tt; branches = tt; tags = tt; kept = none }
   where
     by : (refs : List (Bytes × Target)) → AllByRecursion IsFreeValue h.values → AllByRecursion (λ ref. IsIn h.values (value_at ref.1)) refs → AllByRecursion (λ ref. IsFreeValue (value_at ref.1)) refs
     by [] values k = tt
@@ -82,11 +85,11 @@ with_value_free vs (commit_value c) h k = with_one_free (with_tree vs (files_of 
 with_value_free vs (tag_value t) h k = with_one_free vs (tag_value t) h k
 
 added_free : (v : Value) (s : State) → IsFreeState s → IsFreeValue v → IsFreeState (added v s)
-added_free v s h k = record { values = with_value_free s.history.values v h.values k; refs = h.refs; marks = h.marks; branches = h.branches }
+added_free v s h k = record { values = with_value_free s.history.values v h.values k; refs = h.refs; marks = h.marks; branches = h.branches; tags = h.tags; kept = h.kept }
 
 marked_free : (m : Option ℕ) (v : Value) (s : State) → IsFreeState s → IsFreeValue v → IsFreeState (marked m v s)
 marked_free None v s h k = h
-marked_free (Some n) v s h k = record { values = h.values; refs = h.refs; marks = (k, h.marks); branches = h.branches }
+marked_free (Some n) v s h k = record { values = h.values; refs = h.refs; marks = (k, h.marks); branches = h.branches; tags = h.tags; kept = h.kept }
 
 put_free : (n : Bytes) (o : Option Commit) (bs : List (Bytes × Option Commit)) → IfSome o IsFree → AllByRecursion (λ branch. IfSome branch.1 IsFree) bs → AllByRecursion (λ branch. IfSome branch.1 IsFree) (put byte_cmp n o bs)
 put_free n o [] h k = (h, tt)
@@ -98,7 +101,53 @@ put_free n o (b ∷ bs) h k =
     ]
 
 on_branch_free : (n : Bytes) (o : Option Commit) (s : State) → IsFreeState s → IfSome o IsFree → IsFreeState (on_branch n o s)
-on_branch_free n o s h k = record { values = h.values; refs = h.refs; marks = h.marks; branches = put_free n o s.branches k h.branches }
+on_branch_free n o s h k = record { values = h.values; refs = h.refs; marks = h.marks; branches = put_free n o s.branches k h.branches; tags = h.tags; kept = h.kept }
+
+put_tag : (n : Bytes) (made : Tag) (ts : List (Bytes × Tag)) → IsFree made.target → AllByRecursion (λ t. IsFree t.1.target) ts → AllByRecursion (λ t. IsFree t.1.target) (put byte_cmp n made ts)
+put_tag n made [] h k = (h, tt)
+put_tag n made (t ∷ ts) h k =
+    elim (byte_cmp n t.0) as (λ r. AllByRecursion (λ t. IsFree t.1.target) (by_order r ((n, made) ∷ t ∷ ts) ((t.0, made) ∷ ts) (t ∷ put byte_cmp n made ts))) [
+      | Less ↦ (h, k)
+      | Equal ↦ (h, k.1)
+      | Greater ↦ (k.0, put_tag n made ts h k.1)
+    ]
+
+-- ---- checkpoints
+
+abbrev AreFreeRefs : List (Bytes × Target) → Type 0
+AreFreeRefs refs = AllByRecursion (λ ref. IsFreeValue (value_at ref.1)) refs
+
+put_ref : (n : Bytes) (x : Target) (refs : List (Bytes × Target)) → IsFreeValue (value_at x) → AreFreeRefs refs → AreFreeRefs (put byte_cmp n x refs)
+put_ref n x [] h k = (h, tt)
+put_ref n x (r ∷ rs) h k =
+    elim (byte_cmp n r.0) as (λ o. AreFreeRefs (by_order o ((n, x) ∷ r ∷ rs) ((r.0, x) ∷ rs) (r ∷ put byte_cmp n x rs))) [
+      | Less ↦ (h, k)
+      | Equal ↦ (h, k.1)
+      | Greater ↦ (k.0, put_ref n x rs h k.1)
+    ]
+
+branches_put : (bs : List (Bytes × Option Commit)) (refs : List (Bytes × Target)) → AllByRecursion (λ branch. IfSome branch.1 IsFree) bs → AreFreeRefs refs → AreFreeRefs (fold with_branch refs bs)
+branches_put [] refs h k = k
+branches_put ((n, None) ∷ bs) refs h k = branches_put bs refs h.1 k
+branches_put ((n, Some c) ∷ bs) refs h k = branches_put bs (put byte_cmp n (at_commit c) refs) h.1 (put_ref n (at_commit c) refs h.0 k)
+
+tags_put : (ts : List (Bytes × Tag)) (refs : List (Bytes × Target)) → AllByRecursion (λ t. IsFree t.1.target) ts → AreFreeRefs refs → AreFreeRefs (fold (λ rs t. put byte_cmp t.0 (at_tag t.1) rs) refs ts)
+tags_put [] refs h k = k
+tags_put (t ∷ ts) refs h k = tags_put ts (put byte_cmp t.0 (at_tag t.1) refs) h.1 (put_ref t.0 (at_tag t.1) refs h.0 k)
+
+checkpoint_step : (s : State) → IsFreeState s → IfOk (step_checkpoint s) IsFreeState
+checkpoint_step s h = by (is_fast_forward s)
+  where
+    by : (b : Bool) → IfOk (cond b (Ok (checkpointed s)) (Err fault.NotFastForward)) IsFreeState
+    by true = record {
+      values = h.values;
+      refs = tags_put s.tags (fold with_branch s.history.refs s.branches) h.tags (branches_put s.branches s.history.refs h.branches h.refs);
+      marks = h.marks;
+      branches = h.branches;
+      tags = h.tags;
+      kept = none_held s h;
+    }
+    by false = tt
 
 -- digits that aren't forty zeros aren't in lower case either
 zero_lowered : (d : ℕ) → (lower d == 48) ≡ (d == 48)
@@ -195,7 +244,7 @@ module _ (name : Kind → Bytes → Bytes) (read : Bytes → Result Revision Fau
       (λ c k.
       let made : Tag = record { target = c; name = t.name; tagger = t.tagger; message = t.message } in
       let free = marked_free t.mark (tag_value made) (added (tag_value made) s) (added_free (tag_value made) s h k) k in
-      record { values = free.values; refs = free.refs; marks = free.marks; branches = free.branches })
+      record { values = free.values; refs = free.refs; marks = free.marks; branches = free.branches; tags = put_tag (tag_ref t.name) made (marked t.mark (tag_value made) (added (tag_value made) s)).tags k free.tags; kept = free.kept })
 
   reset_step : (s : State) (b : Bytes) (o : Option CommitIsh) → IsFreeState s → IfOk (step_reset name read s b o) IsFreeState
   reset_step s b None h = on_branch_free b None s h tt
@@ -207,36 +256,43 @@ module _ (name : Kind → Bytes → Bytes) (read : Bytes → Result Revision Fau
   step_free s (command.Commit c) h k = commit_step s c h k
   step_free s (command.Tag t) h k = tag_step s t h
   step_free s (Reset r) h k = reset_step s r.ref r.parent h
-  step_free s (Progress x) h k = record { values = h.values; refs = h.refs; marks = h.marks; branches = h.branches }
-  step_free s (Asks features.Force) h k = record { values = h.values; refs = h.refs; marks = h.marks; branches = h.branches }
+  step_free s (Progress x) h k = record { values = h.values; refs = h.refs; marks = h.marks; branches = h.branches; tags = h.tags; kept = h.kept }
+  step_free s (Asks features.Force) h k = record { values = h.values; refs = h.refs; marks = h.marks; branches = h.branches; tags = h.tags; kept = h.kept }
   step_free s (Asks features.Done) h k = h
-  step_free s Checkpoint h k = h
+  step_free s Checkpoint h k = checkpoint_step s h
   step_free s (Asks features.RawDates) h k = h
   step_free s (OptionLine t) h k = h
   step_free s Done h k = h
 
   -- ---- all commands
 
-  end_free : (n : ℕ) (s : State) (end : Option Fault) (k : History) (text : Bytes) (counts : Report) → IsFreeState s → ended n s end ≡ finished k text counts → HoldsNoNullGitlink k
-  end_free n s (Some e) k text counts h is = absurd cc
-  end_free n s None k text counts h is = by (is_fast_forward s) is
-    where
-      by : (b : Bool) → cond b (finished (final s) s.progress (report n s)) (refused (n + 1) fault.NotFastForward s.progress) ≡ finished k text counts → HoldsNoNullGitlink k
-      by true e = let same : final s ≡ k = cc in subst HoldsNoNullGitlink same (none_held s h)
-      by false e = absurd cc
+  -- the history that an outcome gives, or keeps
+  abbrev IsFreeOutcome : Outcome → Type 0
+  IsFreeOutcome (finished h x r) = HoldsNoNullGitlink h
+  IsFreeOutcome (refused n f x kept) = HoldsNoNullGitlink kept.history
 
-  replayed_free : (n : ℕ) (s : State) (cs : List Command) (end : Option Fault) (k : History) (text : Bytes) (counts : Report) → IsFreeState s → AllByRecursion BringsNoNullGitlink cs
-      → replayed name read n s cs end ≡ finished k text counts → HoldsNoNullGitlink k
-  replayed_free n s [] end k text counts h all is = end_free n s end k text counts h is
-  replayed_free n s (c ∷ cs) end k text counts h all is = by (step name read s c) (step_free s c h all.0) (λ t free e. replayed_free (n + 1) t cs end k text counts free all.1 e) is
+  end_free : (n : ℕ) (s : State) (end : Option Fault) → IsFreeState s → IsFreeOutcome (ended n s end)
+  end_free n s (Some e) h = h.kept
+  end_free n s None h = by (is_fast_forward s)
     where
-      by : (r : Result State Fault) → IfOk r IsFreeState → ((t : State) → IsFreeState t → replayed name read (n + 1) t cs end ≡ finished k text counts → HoldsNoNullGitlink k)
-          → elim r as (λ _. Outcome) [ Ok t ↦ replayed name read (n + 1) t cs end | Err e ↦ refused (n + 1) e s.progress ] ≡ finished k text counts → HoldsNoNullGitlink k
-      by (Ok t) free rest e = rest t free e
-      by (Err f) free rest e = absurd cc
+      by : (b : Bool) → IsFreeOutcome (cond b (finished (final s) s.progress (report n s)) (refused (n + 1) fault.NotFastForward s.progress s.kept))
+      by true = none_held s h
+      by false = h.kept
+
+  replayed_free : (n : ℕ) (s : State) (cs : List Command) (end : Option Fault) → IsFreeState s → AllByRecursion BringsNoNullGitlink cs → IsFreeOutcome (replayed name read n s cs end)
+  replayed_free n s [] end h all = end_free n s end h
+  replayed_free n s (c ∷ cs) end h all = by (step name read s c) (step_free s c h all.0) (λ t free. replayed_free (n + 1) t cs end free all.1)
+    where
+      by : (r : Result State Fault) → IfOk r IsFreeState → ((t : State) → IsFreeState t → IsFreeOutcome (replayed name read (n + 1) t cs end))
+          → IsFreeOutcome (elim r as (λ _. Outcome) [ Ok t ↦ replayed name read (n + 1) t cs end | Err e ↦ refused (n + 1) e s.progress s.kept ])
+      by (Ok t) free rest = rest t free
+      by (Err f) free rest = h.kept
 
 pub none_kept : ReplaysKeepNone
-none_kept name read h k commands end n text counts is none brings e = replayed_free name read n (start h) commands end k text counts (start_free h is none) brings e
+none_kept name read h k commands end n text counts is none brings e = subst (IsFreeOutcome name read) e (replayed_free name read n (start h) commands end (start_free h is none) brings)
+
+pub refusals_keep_none : RefusalsKeepNone
+refusals_keep_none name read h commands end n number fault text kept is none brings e = subst (IsFreeOutcome name read) e (replayed_free name read n (start h) commands end (start_free h is none) brings)
 
 pub none_from_text : TextsBringNone
 none_from_text name read h k given fails text counts is none e =

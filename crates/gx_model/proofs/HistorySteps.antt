@@ -32,8 +32,8 @@ use Rattle.gx_model.specs.Commands.{Asks, Blob, Change, Checkpoint, Clear, Comma
 use Rattle.gx_model.specs.Grammar.{commands_of, is_name}
 use Rattle.gx_model.specs.Grammar.{is_hex_digit as is_any_digit}
 use Rattle.gx_model.specs.ExportLaws.{nothing}
-use Rattle.gx_model.specs.ProperReplays.{IsContent, IsProperChange, IsProperCommand, IsProperCommit, IsProperTag, IsWholePath, ReplaysGiveHistories, TextsGiveHistories}
-use Rattle.gx_model.specs.Replay.{Outcome, Report, State, added, all_changed, all_committed, at, blob_bytes, byte_cmp, changed, commit_alone, committed, committed_for, content, ended, final, final_refs, finished, first_parent, is_fast_forward, marked, ok_or_mark, on_branch, or_else, refused, replayed, report, start, starting_files, step, step_commit, step_reset, step_tag, text_made, with_branch, with_first_parent}
+use Rattle.gx_model.specs.ProperReplays.{IsContent, IsProperChange, IsProperCommand, IsProperCommit, IsProperTag, IsWholePath, RefusalsKeepHistories, ReplaysGiveHistories, TextsGiveHistories}
+use Rattle.gx_model.specs.Replay.{Kept, Outcome, Report, State, added, all_changed, all_committed, at, blob_bytes, byte_cmp, changed, checkpointed, commit_alone, committed, committed_for, content, ended, final, final_refs, finished, first_parent, is_fast_forward, marked, ok_or_mark, on_branch, or_else, refused, replayed, report, start, starting_files, step, step_checkpoint, step_commit, step_reset, step_tag, text_made, with_branch, with_first_parent}
 use Rattle.gx_model.proofs.PathTests.{both, first, is_true, second}
 use Rattle.gx_model.proofs.FileMapEdits.{Parts, copied_parts, modified_parts, of_parts, parts_of, removed_parts, renamed_parts}
 use Rattle.gx_model.proofs.OneTree.{all_left, all_unmap}
@@ -169,6 +169,7 @@ record IsMadeTag (vs : List Value) (made : Bytes × Tag) : Type 0 where
 -- a state whose history is proper, and holds what its marks, branches and tags stand for
 record IsProperState (s : State) : Type 0 where
   pub history : IsHistory s.history
+  pub kept : IsHistory s.kept.history
   pub marks : AllByRecursion (λ mark. IsIn s.history.values mark.1) s.marks
   pub branches : AllByRecursion (IsBranch s.history.values) s.branches
   pub tags : AllByRecursion (IsMadeTag s.history.values) s.tags
@@ -186,7 +187,7 @@ commits_held s h =
     }
 
 start_proper : (h : History) → IsHistory h → IsProperState (start h)
-start_proper h is = record { history = is; marks = tt; branches = tt; tags = tt }
+start_proper h is = record { history = is; kept = is; marks = tt; branches = tt; tags = tt }
 
 -- a value that is added to such a state
 record IsAddedTo (s : State) (v : Value) : Type 0 where
@@ -210,6 +211,7 @@ added_proper v s h t n =
           held = all_each (λ ref. IsIn vs (value_at ref.1)) (λ ref. IsIn ws (value_at ref.1)) (λ ref i. g (value_at ref.1) i) s.history.refs h.history.held;
           own = h.history.own;
         };
+        kept = h.kept;
         marks = all_each (λ mark. IsIn vs mark.1) (λ mark. IsIn ws mark.1) (λ mark i. g mark.1 i) s.marks h.marks;
         branches = all_each (IsBranch vs) (IsBranch ws) (λ branch k. (k.0, still vs ws g branch.1 k.1)) s.branches h.branches;
         tags = all_each (IsMadeTag vs) (IsMadeTag ws) (λ made k. record { ref = k.ref; own = k.own; held = g (tag_value made.1) k.held }) s.tags h.tags;
@@ -224,7 +226,7 @@ added_proper v s h t n =
 
 marked_proper : (m : Option ℕ) (v : Value) (s : State) → IsProperState s → IsIn s.history.values v → IsProperState (marked m v s)
 marked_proper None v s h i = h
-marked_proper (Some n) v s h i = record { history = h.history; marks = (i, h.marks); branches = h.branches; tags = h.tags }
+marked_proper (Some n) v s h i = record { history = h.history; kept = h.kept; marks = (i, h.marks); branches = h.branches; tags = h.tags }
 
 -- to set a mark leaves the values
 marked_values : (m : Option ℕ) (v : Value) (s : State) → (marked m v s).history.values ≡ s.history.values
@@ -232,7 +234,71 @@ marked_values None v s = refl
 marked_values (Some n) v s = refl
 
 on_branch_proper : (n : Bytes) (o : Option Commit) (s : State) → IsProperState s → T (is_ref_name n) → IfSome o (IsHeld s.history.values) → IsProperState (on_branch n o s)
-on_branch_proper n o s h is k = record { history = h.history; marks = h.marks; branches = put_each (IsBranch s.history.values) n o s.branches (is, k) h.branches; tags = h.tags }
+on_branch_proper n o s h is k = record { history = h.history; kept = h.kept; marks = h.marks; branches = put_each (IsBranch s.history.values) n o s.branches (is, k) h.branches; tags = h.tags }
+
+-- ---- checkpoints, and the end
+
+-- a ref has a ref name, and stands at a held commit or a held tag of its own
+record IsRef (vs : List Value) (ref : Bytes × Target) : Type 0 where
+  pub named : T (is_ref_name ref.0)
+  pub held : IsIn vs (value_at ref.1)
+  pub own : IsRefOf ref.0 ref.1
+
+record AreRefs (vs : List Value) (refs : List (Bytes × Target)) : Type 0 where
+  pub sorted : T (is_sorted byte_cmp refs)
+  pub each : AllByRecursion (IsRef vs) refs
+
+put_ref : (vs : List Value) (n : Bytes) (t : Target) (refs : List (Bytes × Target)) → AreRefs vs refs → IsRef vs (n, t) → AreRefs vs (put byte_cmp n t refs)
+put_ref vs n t refs h is = record { sorted = is_sorted-put byte_cmp order n t refs h.sorted; each = put_each (IsRef vs) n t refs is h.each }
+
+branches_put : (vs : List Value) (bs : List (Bytes × Option Commit)) (refs : List (Bytes × Target)) → AllByRecursion (IsBranch vs) bs → AreRefs vs refs → AreRefs vs (fold with_branch refs bs)
+branches_put vs [] refs k h = h
+branches_put vs (b ∷ bs) refs k h = branches_put vs bs (with_branch refs b) k.1 (by b.1 k.0.1)
+  where
+    by : (o : Option Commit) → IfSome o (IsHeld vs) → AreRefs vs (elim o [ None ↦ refs | Some c ↦ put byte_cmp b.0 (at_commit c) refs ])
+    by None i = h
+    by (Some c) i = put_ref vs b.0 (at_commit c) refs h (record { named = k.0.0; held = i; own = tt })
+
+abbrev with_tag : List (Bytes × Target) → Bytes × Tag → List (Bytes × Target)
+with_tag refs made = put byte_cmp made.0 (at_tag made.1) refs
+
+tags_put : (vs : List Value) (ts : List (Bytes × Tag)) (refs : List (Bytes × Target)) → AllByRecursion (IsMadeTag vs) ts → AreRefs vs refs → AreRefs vs (fold with_tag refs ts)
+tags_put vs [] refs k h = h
+tags_put vs (t ∷ ts) refs k h = tags_put vs ts (with_tag refs t) k.1 (put_ref vs t.0 (at_tag t.1) refs h (record { named = k.0.ref; held = k.0.held; own = k.0.own }))
+
+refs_of : (vs : List Value) (refs : List (Bytes × Target)) → T (list_all (λ ref. is_ref_name ref.0) refs) → AllByRecursion (λ ref. IsIn vs (value_at ref.1)) refs → AllByRecursion (λ ref. IsRefOf ref.0 ref.1) refs → AllByRecursion (IsRef vs) refs
+refs_of vs [] n h o = tt
+refs_of vs (r ∷ rs) n h o = (record { named = first (is_ref_name r.0) _ n; held = h.0; own = o.0 }, refs_of vs rs (second (is_ref_name r.0) _ n) h.1 o.1)
+
+names_of : (vs : List Value) (refs : List (Bytes × Target)) → AllByRecursion (IsRef vs) refs → T (list_all (λ ref. is_ref_name ref.0) refs)
+names_of vs [] h = tt
+names_of vs (r ∷ rs) h = both (is_ref_name r.0) _ h.0.named (names_of vs rs h.1)
+
+final_proper : (s : State) → IsProperState s → IsHistory (final s)
+final_proper s h =
+    let vs = s.history.values in
+    let is = h.history in
+    let old : AreRefs vs s.history.refs = record { sorted = passes _ is.sorted; each = refs_of vs s.history.refs (passes _ is.ref_names) is.held is.own } in
+    let new : AreRefs vs (final_refs s) = tags_put vs s.tags (fold with_branch s.history.refs s.branches) h.tags (branches_put vs s.branches s.history.refs h.branches old) in
+    record {
+      proper = is.proper;
+      closed = is.closed;
+      sorted = is_true _ new.sorted;
+      ref_names = is_true _ (names_of vs (final_refs s) new.each);
+      held = all_each (IsRef vs) (λ ref. IsIn vs (value_at ref.1)) (λ ref k. k.held) (final_refs s) new.each;
+      own = all_each (IsRef vs) (λ ref. IsRefOf ref.0 ref.1) (λ ref k. k.own) (final_refs s) new.each;
+    }
+
+-- what a checkpoint makes of such a state
+checkpointed_proper : (s : State) → IsProperState s → IsProperState (checkpointed s)
+checkpointed_proper s h = let is = final_proper s h in record { history = is; kept = is; marks = h.marks; branches = h.branches; tags = h.tags }
+
+checkpoint_step : (s : State) → IsProperState s → IfOk (step_checkpoint s) IsProperState
+checkpoint_step s h = by (is_fast_forward s)
+  where
+    by : (b : Bool) → IfOk (cond b (Ok (checkpointed s)) (Err fault.NotFastForward)) IsProperState
+    by true = checkpointed_proper s h
+    by false = tt
 
 -- ---- a commit's files
 
@@ -389,6 +455,7 @@ module _ (name : Kind → Bytes → Bytes) (read : Bytes → Result Revision Fau
           let has = subst (λ us. IsIn us (tag_value v)) (sym (marked_values t.mark (tag_value v) (added (tag_value v) s))) a.has in
           record {
             history = m.history;
+            kept = m.kept;
             marks = m.marks;
             branches = m.branches;
             tags = put_each (IsMadeTag s'.history.values) (tag_ref t.name) v s'.tags (record { ref = passes _ k.name; own = refl; held = has }) m.tags;
@@ -406,86 +473,38 @@ module _ (name : Kind → Bytes → Bytes) (read : Bytes → Result Revision Fau
   step_proper s (command.Commit c) h k = commit_step s c h k
   step_proper s (command.Tag t) h k = tag_step s t h k
   step_proper s (Reset r) h k = reset_step s r.ref r.parent h (passes _ k)
-  step_proper s (Progress x) h k = record { history = h.history; marks = h.marks; branches = h.branches; tags = h.tags }
-  step_proper s (Asks features.Force) h k = record { history = h.history; marks = h.marks; branches = h.branches; tags = h.tags }
+  step_proper s (Progress x) h k = record { history = h.history; kept = h.kept; marks = h.marks; branches = h.branches; tags = h.tags }
+  step_proper s (Asks features.Force) h k = record { history = h.history; kept = h.kept; marks = h.marks; branches = h.branches; tags = h.tags }
   step_proper s (Asks features.Done) h k = h
-  step_proper s Checkpoint h k = h
+  step_proper s Checkpoint h k = checkpoint_step s h
   step_proper s (Asks features.RawDates) h k = h
   step_proper s (OptionLine t) h k = h
   step_proper s Done h k = h
 
--- ---- the end
-
--- a ref has a ref name, and stands at a held commit or a held tag of its own
-record IsRef (vs : List Value) (ref : Bytes × Target) : Type 0 where
-  pub named : T (is_ref_name ref.0)
-  pub held : IsIn vs (value_at ref.1)
-  pub own : IsRefOf ref.0 ref.1
-
-record AreRefs (vs : List Value) (refs : List (Bytes × Target)) : Type 0 where
-  pub sorted : T (is_sorted byte_cmp refs)
-  pub each : AllByRecursion (IsRef vs) refs
-
-put_ref : (vs : List Value) (n : Bytes) (t : Target) (refs : List (Bytes × Target)) → AreRefs vs refs → IsRef vs (n, t) → AreRefs vs (put byte_cmp n t refs)
-put_ref vs n t refs h is = record { sorted = is_sorted-put byte_cmp order n t refs h.sorted; each = put_each (IsRef vs) n t refs is h.each }
-
-branches_put : (vs : List Value) (bs : List (Bytes × Option Commit)) (refs : List (Bytes × Target)) → AllByRecursion (IsBranch vs) bs → AreRefs vs refs → AreRefs vs (fold with_branch refs bs)
-branches_put vs [] refs k h = h
-branches_put vs (b ∷ bs) refs k h = branches_put vs bs (with_branch refs b) k.1 (by b.1 k.0.1)
-  where
-    by : (o : Option Commit) → IfSome o (IsHeld vs) → AreRefs vs (elim o [ None ↦ refs | Some c ↦ put byte_cmp b.0 (at_commit c) refs ])
-    by None i = h
-    by (Some c) i = put_ref vs b.0 (at_commit c) refs h (record { named = k.0.0; held = i; own = tt })
-
-abbrev with_tag : List (Bytes × Target) → Bytes × Tag → List (Bytes × Target)
-with_tag refs made = put byte_cmp made.0 (at_tag made.1) refs
-
-tags_put : (vs : List Value) (ts : List (Bytes × Tag)) (refs : List (Bytes × Target)) → AllByRecursion (IsMadeTag vs) ts → AreRefs vs refs → AreRefs vs (fold with_tag refs ts)
-tags_put vs [] refs k h = h
-tags_put vs (t ∷ ts) refs k h = tags_put vs ts (with_tag refs t) k.1 (put_ref vs t.0 (at_tag t.1) refs h (record { named = k.0.ref; held = k.0.held; own = k.0.own }))
-
-refs_of : (vs : List Value) (refs : List (Bytes × Target)) → T (list_all (λ ref. is_ref_name ref.0) refs) → AllByRecursion (λ ref. IsIn vs (value_at ref.1)) refs → AllByRecursion (λ ref. IsRefOf ref.0 ref.1) refs → AllByRecursion (IsRef vs) refs
-refs_of vs [] n h o = tt
-refs_of vs (r ∷ rs) n h o = (record { named = first (is_ref_name r.0) _ n; held = h.0; own = o.0 }, refs_of vs rs (second (is_ref_name r.0) _ n) h.1 o.1)
-
-names_of : (vs : List Value) (refs : List (Bytes × Target)) → AllByRecursion (IsRef vs) refs → T (list_all (λ ref. is_ref_name ref.0) refs)
-names_of vs [] h = tt
-names_of vs (r ∷ rs) h = both (is_ref_name r.0) _ h.0.named (names_of vs rs h.1)
-
-final_proper : (s : State) → IsProperState s → IsHistory (final s)
-final_proper s h =
-    let vs = s.history.values in
-    let is = h.history in
-    let old : AreRefs vs s.history.refs = record { sorted = passes _ is.sorted; each = refs_of vs s.history.refs (passes _ is.ref_names) is.held is.own } in
-    let new : AreRefs vs (final_refs s) = tags_put vs s.tags (fold with_branch s.history.refs s.branches) h.tags (branches_put vs s.branches s.history.refs h.branches old) in
-    record {
-      proper = is.proper;
-      closed = is.closed;
-      sorted = is_true _ new.sorted;
-      ref_names = is_true _ (names_of vs (final_refs s) new.each);
-      held = all_each (IsRef vs) (λ ref. IsIn vs (value_at ref.1)) (λ ref k. k.held) (final_refs s) new.each;
-      own = all_each (IsRef vs) (λ ref. IsRefOf ref.0 ref.1) (λ ref k. k.own) (final_refs s) new.each;
-    }
-
 -- ---- all commands
 
-module _ (name : Kind → Bytes → Bytes) (read : Bytes → Result Revision Fault) (k : History) (text : Bytes) (counts : Report) where
-  end_proper : (n : ℕ) (s : State) (end : Option Fault) → IsProperState s → ended n s end ≡ finished k text counts → IsHistory k
-  end_proper n s (Some e) h is = absurd cc
-  end_proper n s None h is = by (is_fast_forward s) is
-    where
-      by : (b : Bool) → cond b (finished (final s) s.progress (report n s)) (refused (n + 1) fault.NotFastForward s.progress) ≡ finished k text counts → IsHistory k
-      by true e = let same : final s ≡ k = cc in subst IsHistory same (final_proper s h)
-      by false e = absurd cc
+-- the history that an outcome gives, or keeps
+abbrev IsOutcome : Outcome → Type 0
+IsOutcome (finished h x r) = IsHistory h
+IsOutcome (refused n f x kept) = IsHistory kept.history
 
-  replayed_proper : (n : ℕ) (s : State) (cs : List Command) (end : Option Fault) → IsProperState s → AllByRecursion IsProperCommand cs → replayed name read n s cs end ≡ finished k text counts → IsHistory k
-  replayed_proper n s [] end h all is = end_proper n s end h is
-  replayed_proper n s (c ∷ cs) end h all is = by (step name read s c) (step_proper name read s c h all.0) (λ t proper e. replayed_proper (n + 1) t cs end proper all.1 e) is
+module _ (name : Kind → Bytes → Bytes) (read : Bytes → Result Revision Fault) where
+  end_proper : (n : ℕ) (s : State) (end : Option Fault) → IsProperState s → IsOutcome (ended n s end)
+  end_proper n s (Some e) h = h.kept
+  end_proper n s None h = by (is_fast_forward s)
     where
-      by : (r : Result State Fault) → IfOk r IsProperState → ((t : State) → IsProperState t → replayed name read (n + 1) t cs end ≡ finished k text counts → IsHistory k)
-          → elim r as (λ _. Outcome) [ Ok t ↦ replayed name read (n + 1) t cs end | Err e ↦ refused (n + 1) e s.progress ] ≡ finished k text counts → IsHistory k
-      by (Ok t) proper rest e = rest t proper e
-      by (Err f) proper rest e = absurd cc
+      by : (b : Bool) → IsOutcome (cond b (finished (final s) s.progress (report n s)) (refused (n + 1) fault.NotFastForward s.progress s.kept))
+      by true = final_proper s h
+      by false = h.kept
+
+  replayed_proper : (n : ℕ) (s : State) (cs : List Command) (end : Option Fault) → IsProperState s → AllByRecursion IsProperCommand cs → IsOutcome (replayed name read n s cs end)
+  replayed_proper n s [] end h all = end_proper n s end h
+  replayed_proper n s (c ∷ cs) end h all = by (step name read s c) (step_proper name read s c h all.0) (λ t proper. replayed_proper (n + 1) t cs end proper all.1)
+    where
+      by : (r : Result State Fault) → IfOk r IsProperState → ((t : State) → IsProperState t → IsOutcome (replayed name read (n + 1) t cs end))
+          → IsOutcome (elim r as (λ _. Outcome) [ Ok t ↦ replayed name read (n + 1) t cs end | Err e ↦ refused (n + 1) e s.progress s.kept ])
+      by (Ok t) proper rest = rest t proper
+      by (Err f) proper rest = h.kept
 
 -- ---- the laws
 
@@ -493,7 +512,10 @@ pub nothing_is : IsHistory nothing
 nothing_is = record { proper = refl; closed = tt; sorted = refl; ref_names = refl; held = tt; own = tt }
 
 pub replays_give : ReplaysGiveHistories
-replays_give name read h k commands end n text counts is all e = replayed_proper name read k text counts n (start h) commands end (start_proper h is) all e
+replays_give name read h k commands end n text counts is all e = subst IsOutcome e (replayed_proper name read n (start h) commands end (start_proper h is) all)
+
+pub refusals_keep : RefusalsKeepHistories
+refusals_keep name read h commands end n number fault text kept is all e = subst IsOutcome e (replayed_proper name read n (start h) commands end (start_proper h is) all)
 
 pub texts_give : TextsGiveHistories
 texts_give name read h k given fails text counts is e =

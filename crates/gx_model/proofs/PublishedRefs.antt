@@ -143,6 +143,8 @@ not_there (r ∷ before) n x rest h =
 abbrev pub state_with : List Value → List Value → Branches → Tags → State
 state_with ws vs bs ts = record {
   history = record { values = vs; refs = [] };
+  kept = record { history = record { values = []; refs = [] }; checkpoints = 0 };
+  published = [];
   marks = numbered ws;
   branches = bs;
   tags = ts;

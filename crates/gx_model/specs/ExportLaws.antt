@@ -142,6 +142,8 @@ carried (Some c) = (carrier, c) ∷ []
 abbrev pub state_at : List Value → List Value → Option (Option Commit) → State
 state_at ws vs b = record {
   history = record { values = vs; refs = [] };
+  kept = record { history = record { values = []; refs = [] }; checkpoints = 0 };
+  published = [];
   marks = numbered ws;
   branches = carried b;
   tags = [];

@@ -16,7 +16,7 @@ use Rattle.gx_model.specs.Histories.{History, IsHistory}
 use Rattle.gx_model.specs.Revisions.{Revision}
 use Rattle.gx_model.specs.Ranges.{commit_of}
 use Rattle.gx_model.specs.Export.{export_text}
-use Rattle.gx_model.specs.Replay.{Report, finished, refused, replayed, replayed_text, start}
+use Rattle.gx_model.specs.Replay.{Kept, Report, finished, refused, replayed, replayed_text, start}
 use Rattle.gx_model.specs.ExportLaws.{HasNoNullGitlink, HaveNoNullGitlink, IsAgain, exported_report, nothing}
 
 -- ---- commands
@@ -57,6 +57,14 @@ ReplaysKeepNone =
     → IsHistory h → HoldsNoNullGitlink h → AllByRecursion BringsNoNullGitlink commands
     → replayed name read n (start h) commands end ≡ finished k text report → HoldsNoNullGitlink k
 
+-- nor where they are refused
+abbrev pub RefusalsKeepNone : Type 0
+RefusalsKeepNone =
+    (name : Kind → Bytes → Bytes) (read : Bytes → Result Revision Fault) (h : History) (commands : List Command)
+    (end : Option Fault) (n number : ℕ) (fault : Fault) (text : Bytes) (kept : Kept)
+    → IsHistory h → HoldsNoNullGitlink h → AllByRecursion BringsNoNullGitlink commands
+    → replayed name read n (start h) commands end ≡ refused number fault text kept → HoldsNoNullGitlink kept.history
+
 -- so no text brings one
 abbrev pub TextsBringNone : Type 0
 TextsBringNone =
@@ -76,4 +84,4 @@ abbrev pub NullGitlinksAreRefused : Type 0
 NullGitlinksAreRefused =
     (name : Kind → Bytes → Bytes) (read : Bytes → Result Revision Fault) (h : History)
     → IsHistory h → (HasNoNullGitlink h → ⊥) → length (export_text h) < 2 ^ 64
-    → (n : ℕ) × (replayed_text name read nothing (export_text h) false ≡ refused n Unsupported [])
+    → (n : ℕ) × (replayed_text name read nothing (export_text h) false ≡ refused n Unsupported [] (start nothing).kept)

@@ -1,6 +1,7 @@
 -- Worked rows on imports: what streams give, and why they are refused.
-use Rattle.std.specs.Prelude.{◌≡◌, ℕ, true, false, List, [], ◌∷◌, ◌++◌, map, replicate, codes, Some, None, Ok, Err, refl}
+use Rattle.std.specs.Prelude.{◌≡◌, ℕ, true, false, List, [], ◌∷◌, ◌++◌, map, replicate, codes, Option, Some, None, Ok, Err, refl}
 use Rattle.std.specs.Fmt.{digits}
+use Rattle.std.specs.Option.{option_map}
 use Rattle.gx_model.specs.declared.objects.Kind.TheVariants.{Blob}
 use Rattle.gx_model.specs.declared.objects.Mode.TheVariants.{File, Dir}
 use Rattle.gx_model.specs.declared.faults.Fault.{Fault}
@@ -20,8 +21,8 @@ use Rattle.gx_model.specs.Records.{body_of, entries, named_map}
 use Rattle.gx_model.specs.Histories.{History}
 use Rattle.gx_model.specs.Denotation.{Shown, denoted, object}
 use Rattle.gx_model.specs.Naming.{short_name}
-use Rattle.gx_model.specs.Replay.{Outcome, finished, imported, refused}
-use Rattle.gx_model.specs.RowTexts.{acceptance, history_after, history_of_lines, imported_lines, imported_to, refusal, shown}
+use Rattle.gx_model.specs.Replay.{Kept, Outcome, finished, imported, refused}
+use Rattle.gx_model.specs.RowTexts.{acceptance, history_after, history_of_lines, imported_lines, imported_to, kept_after, nothing, refusal, shown}
 
 -- one commit on main with these changes
 abbrev on_main : List Bytes → List Bytes
@@ -120,7 +121,7 @@ paths_in _ = []
 
 abbrev paths_after : Outcome → Given (List Bytes)
 paths_after (finished h x r) = and_then (shown h (codes "main^{tree}")) (λ v. Ok (paths_in v))
-paths_after (refused n f x) = Err f
+paths_after (refused n f x k) = Err f
 
 -- the files `a` and `d/x`, and then this change
 abbrev after_change : Bytes → Given (List Bytes)
@@ -181,6 +182,10 @@ continued = history_after (imported_to published (next_commit (codes "from refs/
 abbrev two_commits_without_done : List Bytes
 two_commits_without_done = codes "feature done" ∷ (first_commit ++ next_commit [])
 
+-- what is kept of this many checkpoints
+abbrev at_checkpoint : History → ℕ → Kept
+at_checkpoint h n = record { history = h; checkpoints = n }
+
 pub record EndRows : Type 0 where
   -- a published branch goes on from its own commit, or else by force
   pub not_forward : refusal (imported_to published (next_commit [])) ≡ Some (2, fault.NotFastForward)
@@ -196,11 +201,84 @@ pub record EndRows : Type 0 where
   pub progress : acceptance (imported_lines (codes "progress half" ∷ [])) ≡ Some (codes "progress half" ++ 10 ∷ [], record { commands = 1; objects = 0; refs = 0 })
   pub one_commit : acceptance (imported_lines first_commit) ≡ Some ([], record { commands = 1; objects = 3; refs = 1 })
   -- progress that went out before a refusal stays out
-  pub progress_so_far : imported_lines (codes "progress half" ∷ codes "foo" ∷ []) ≡ refused 2 fault.UnknownCommand (codes "progress half" ++ 10 ∷ [])
+  pub progress_so_far : imported_lines (codes "progress half" ∷ codes "foo" ∷ []) ≡ refused 2 fault.UnknownCommand (codes "progress half" ++ 10 ∷ []) (at_checkpoint nothing 0)
 
 pub end_rows : EndRows
 unfolding char_at unsigned_in item_after_in rest_line_in block_in cut_at is_ident unquote_within quoted_of mark_of commit_ish_of last_path source_path modify_at two_paths change_at changes_within merges_within blob_at commit_at links_at tag_at reset_at command_at commands_within counted_block lines_before delimited first_line first_of read_upto items_of digits revision_of imported denoted short_name
 end_rows = record { not_forward = refl; forward = refl; from_itself = refl; merge_of_itself = refl; forced = refl; missing_done = refl; late_option = refl; progress = refl; one_commit = refl; progress_so_far = refl }
+
+-- ---- checkpoints
+
+-- the first commit, a checkpoint, and then these lines
+abbrev checkpoint_then : List Bytes → List Bytes
+checkpoint_then ls = first_commit ++ codes "checkpoint" ∷ ls
+
+-- main is reset, and a commit without a parent is made there
+abbrev from_anew : List Bytes → List Bytes
+from_anew ls = codes "reset refs/heads/main" ∷ next_commit ls
+
+-- the number, the fault and what is kept
+abbrev refusal_kept : List Bytes → Option (ℕ × Fault) × Option Kept
+refusal_kept ls = let o = imported_lines ls in (refusal o, kept_after o)
+
+-- refused with this number and fault, the history as after the first commit, and so many checkpoints
+abbrev keeps_first : ℕ → Fault → ℕ → Option (ℕ × Fault) × Option Kept
+keeps_first n f count = (Some (n, f), Some (at_checkpoint published count))
+
+-- a second branch that begins at a ref
+abbrev branch_of_main : List Bytes
+branch_of_main = codes "commit refs/heads/b" ∷ codes "committer A <a@x> 2 +0000" ∷ codes "data 2" ∷ codes "v2" ∷ codes "from main" ∷ []
+
+abbrev both_branches : History
+both_branches = history_of_lines (checkpoint_then branch_of_main)
+
+-- main is reset after a checkpoint
+abbrev reset_after : Outcome
+reset_after = imported_lines (checkpoint_then (codes "reset refs/heads/main" ∷ []))
+
+-- how many checkpoints were applied, and where main stands
+abbrev count_and_main : Kept → ℕ × Given Shown
+count_and_main k = (k.checkpoints, shown k.history (codes "main"))
+
+-- a checkpoint, a commit without a parent, and a second checkpoint
+abbrev two_checkpoints : List Bytes
+two_checkpoints = checkpoint_then (from_anew (codes "checkpoint" ∷ codes "foo" ∷ []))
+
+pub record CheckpointRows : Type 0 where
+  -- a refusal leaves what the last checkpoint published
+  pub unknown_command : refusal_kept (checkpoint_then (codes "foo" ∷ [])) ≡ keeps_first 3 fault.UnknownCommand 1
+  pub missing_done : refusal_kept (codes "feature done" ∷ checkpoint_then []) ≡ keeps_first 4 fault.MissingDone 1
+  -- the end goes on from what a checkpoint published
+  pub not_forward : refusal_kept (checkpoint_then (from_anew [])) ≡ keeps_first 5 fault.NotFastForward 1
+  pub unpublished : shown (history_of_lines (first_commit ++ from_anew [])) (codes "main^") ≡ Err fault.NoParent
+  -- revisions are read over the refs that it published
+  pub branch_of_ref : shown both_branches (codes "b^") ≡ shown both_branches (codes "main")
+  pub no_ref_yet : refusal_kept (first_commit ++ branch_of_main) ≡ (Some (2, fault.UnknownRef), Some (at_checkpoint nothing 0))
+  -- a ref that it published stays, and is counted
+  pub reset_history : history_after reset_after ≡ published
+  pub reset_report : acceptance reset_after ≡ Some ([], record { commands = 3; objects = 3; refs = 1 })
+  pub reset_alone : acceptance (imported_lines (first_commit ++ codes "reset refs/heads/main" ∷ [])) ≡ Some ([], record { commands = 2; objects = 3; refs = 0 })
+  -- a checkpoint has the condition of the end, and its own number
+  pub at_second : refusal_kept two_checkpoints ≡ keeps_first 5 fault.NotFastForward 1
+  pub at_second_forced : refusal (imported_lines (codes "feature force" ∷ two_checkpoints)) ≡ Some (7, fault.UnknownCommand)
+  pub both_hold : option_map count_and_main (kept_after (imported_lines (codes "feature force" ∷ two_checkpoints))) ≡ Some (2, shown (history_of_lines (from_anew [])) (codes "main"))
+
+pub checkpoint_rows : CheckpointRows
+unfolding char_at unsigned_in item_after_in rest_line_in block_in cut_at is_ident unquote_within quoted_of mark_of commit_ish_of last_path source_path modify_at two_paths change_at changes_within merges_within blob_at commit_at links_at tag_at reset_at command_at commands_within counted_block lines_before delimited first_line first_of read_upto items_of digits revision_of imported denoted short_name
+checkpoint_rows = record {
+  unknown_command = refl;
+  missing_done = refl;
+  not_forward = refl;
+  unpublished = refl;
+  branch_of_ref = refl;
+  no_ref_yet = refl;
+  reset_history = refl;
+  reset_report = refl;
+  reset_alone = refl;
+  at_second = refl;
+  at_second_forced = refl;
+  both_hold = refl;
+}
 
 -- ---- refusals
 

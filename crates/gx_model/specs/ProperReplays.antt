@@ -17,7 +17,7 @@ use Rattle.gx_model.specs.Grammar.{commands_of, is_name}
 use Rattle.gx_model.specs.Values.{is_optional_encoding, is_optional_ident}
 use Rattle.gx_model.specs.Histories.{History, IsHistory}
 use Rattle.gx_model.specs.Revisions.{Revision}
-use Rattle.gx_model.specs.Replay.{Report, finished, replayed, replayed_text, start}
+use Rattle.gx_model.specs.Replay.{Kept, Report, finished, refused, replayed, replayed_text, start}
 
 -- ---- commands
 
@@ -74,6 +74,14 @@ ReplaysGiveHistories =
     (end : Option Fault) (n : ℕ) (text : Bytes) (report : Report)
     → IsHistory h → AllByRecursion IsProperCommand commands
     → replayed name read n (start h) commands end ≡ finished k text report → IsHistory k
+
+-- and where they are refused, what is kept is one
+abbrev pub RefusalsKeepHistories : Type 0
+RefusalsKeepHistories =
+    (name : Kind → Bytes → Bytes) (read : Bytes → Result Revision Fault) (h : History) (commands : List Command)
+    (end : Option Fault) (n number : ℕ) (fault : Fault) (text : Bytes) (kept : Kept)
+    → IsHistory h → AllByRecursion IsProperCommand commands
+    → replayed name read n (start h) commands end ≡ refused number fault text kept → IsHistory kept.history
 
 -- so does any text
 abbrev pub TextsGiveHistories : Type 0

@@ -36,10 +36,18 @@ or_else (Some y) x = y
 
 -- ---- the state of a replay
 
+-- what a refusal leaves: the history at the last checkpoint, or at the start, and how many checkpoints were applied
+pub record Kept : Type 0 where
+  pub history : History
+  pub checkpoints : ℕ
+
 -- what a replay has made so far
 pub record State : Type 0 where
-  -- the values so far, with the refs as at the start
+  -- the values so far, with the refs as last published
   pub history : History
+  pub kept : Kept
+  -- what the checkpoints published so far
+  pub published : List (Bytes × Target)
   -- the newest first
   pub marks : List (ℕ × Value)
   -- a branch's commit, or none
@@ -53,7 +61,17 @@ pub record State : Type 0 where
 
 -- a replay that begins with this history
 abbrev pub start : History → State
-start h = record { history = h; marks = []; branches = []; tags = []; is_forced = false; progress = []; held = length h.values }
+start h = record {
+  history = h;
+  kept = record { history = h; checkpoints = 0 };
+  published = [];
+  marks = [];
+  branches = [];
+  tags = [];
+  is_forced = false;
+  progress = [];
+  held = length h.values;
+}
 
 -- the byte order of texts
 abbrev pub byte_cmp : Bytes → Bytes → Ordering
@@ -93,7 +111,7 @@ abbrev pub peeled_at : Target → Commit
 peeled_at (at_commit c) = c
 peeled_at (at_tag t) = t.target
 
--- ---- the end
+-- ---- checkpoints, and the end
 
 -- the new commit of a branch has the old one of its ref as an ancestor, or is that
 abbrev pub is_forward : Option Target → Option Commit → Bool
@@ -112,15 +130,27 @@ with_branch rs b = elim b.1 [ None ↦ rs | Some c ↦ put byte_cmp b.0 (at_comm
 abbrev pub overwritten : State → List (Bytes × Target) → List (Bytes × Target)
 overwritten s refs = fold (λ rs t. put byte_cmp t.0 (at_tag t.1) rs) (fold with_branch refs s.branches) s.tags
 
--- the refs at the end: the old ones, then the branches, then the tags
+-- the refs after a checkpoint or the end: those last published, then the branches, then the tags
 abbrev pub final_refs : State → List (Bytes × Target)
 final_refs s = overwritten s s.history.refs
 
--- the history at the end
+-- the history after a checkpoint or the end
 abbrev pub final : State → History
 final s = record { values = s.history.values; refs = final_refs s }
 
--- how many commands were read, values added, and refs published, each name once
+-- the state after a checkpoint: what it published is kept
+abbrev pub checkpointed : State → State
+checkpointed s = record s {
+  history = final s;
+  kept = record { history = final s; checkpoints = s.kept.checkpoints + 1 };
+  published = overwritten s s.published;
+}
+
+-- what a checkpoint does
+abbrev pub step_checkpoint : State → Result State Fault
+step_checkpoint s = if is_fast_forward s then Ok (checkpointed s) else Err fault.NotFastForward
+
+-- how many commands were read, values added, and refs published at a checkpoint or at the end, each name once
 pub record Report : Type 0 where
   pub commands : ℕ
   pub objects : ℕ
@@ -128,21 +158,22 @@ pub record Report : Type 0 where
 
 -- after n commands
 abbrev pub report : ℕ → State → Report
-report n s = record { commands = n; objects = length s.history.values - s.held; refs = length (overwritten s []) }
+report n s = record { commands = n; objects = length s.history.values - s.held; refs = length (overwritten s s.published) }
 
--- the new history, the progress text and the report; or a fault with its command's number, and the progress text so far
+-- the new history, the progress text and the report; or a fault with its command's number, the progress text so far, and what is
+-- kept
 pub data Outcome : Type 0 where
   finished : History → Bytes → Report → Outcome
-  refused : ℕ → Fault → Bytes → Outcome
+  refused : ℕ → Fault → Bytes → Kept → Outcome
 
 -- n commands were read before; the end is the reader's: none, or a fault
 abbrev pub ended : ℕ → State → Option Fault → Outcome
-ended n s (Some e) = refused (n + 1) e s.progress
-ended n s None = if is_fast_forward s then finished (final s) s.progress (report n s) else refused (n + 1) fault.NotFastForward s.progress
+ended n s (Some e) = refused (n + 1) e s.progress s.kept
+ended n s None = if is_fast_forward s then finished (final s) s.progress (report n s) else refused (n + 1) fault.NotFastForward s.progress s.kept
 
 -- the name of values, and how a revision's text is read
 module _ (name : Kind → Bytes → Bytes) (read : Bytes → Result Revision Fault) where
-  -- over the refs as at the start and the values so far
+  -- over the refs as last published and the values so far
   abbrev pub revision_value : State → Bytes → Result Value Fault
   revision_value s x = and_then (read x) (λ r. value_denoted name s.history r)
 
@@ -265,7 +296,7 @@ module _ (name : Kind → Bytes → Bytes) (read : Bytes → Result Revision Fau
   step s (Asks features.Force) = Ok (record s { is_forced = true })
   -- the reader asks for the command `done` where the feature does
   step s (Asks features.Done) = Ok s
-  step s Checkpoint = Ok s
+  step s Checkpoint = step_checkpoint s
   step s (Asks features.RawDates) = Ok s
   step s (OptionLine t) = Ok s
   step s Done = Ok s
@@ -275,7 +306,7 @@ module _ (name : Kind → Bytes → Bytes) (read : Bytes → Result Revision Fau
   -- what all commands give
   abbrev pub replayed : ℕ → State → List Command → Option Fault → Outcome
   replayed n s [] end = ended n s end
-  replayed n s (c ∷ cs) end = elim (step s c) [ Ok t ↦ replayed (n + 1) t cs end | Err e ↦ refused (n + 1) e s.progress ]
+  replayed n s (c ∷ cs) end = elim (step s c) [ Ok t ↦ replayed (n + 1) t cs end | Err e ↦ refused (n + 1) e s.progress s.kept ]
 
   -- the commands of a text that an end follows, or a failure, from a history on
   abbrev pub replayed_commands : History → Commands → Outcome

@@ -12,7 +12,7 @@ use Rattle.gx_model.specs.Histories.{History}
 use Rattle.gx_model.specs.Denotation.{Shown, denoted}
 use Rattle.gx_model.specs.Naming.{kind_number, short_name}
 use Rattle.gx_model.specs.Ranges.{WordFault, each_word, listing, words_denoted}
-use Rattle.gx_model.specs.Replay.{Outcome, Report, finished, imported, refused}
+use Rattle.gx_model.specs.Replay.{Kept, Outcome, Report, finished, imported, refused}
 
 -- a name as short names are, that also tells bodies apart by their last byte
 abbrev pub last_byte_name : Kind → Bytes → Bytes
@@ -34,7 +34,7 @@ imported_lines ls = imported_to nothing ls
 -- the history after an import that is accepted
 abbrev pub history_after : Outcome → History
 history_after (finished h x r) = h
-history_after (refused n f x) = nothing
+history_after (refused n f x k) = nothing
 
 abbrev pub history_of_lines : List Bytes → History
 history_of_lines ls = history_after (imported_lines ls)
@@ -42,12 +42,17 @@ history_of_lines ls = history_after (imported_lines ls)
 -- the number and the fault of an import that is refused
 abbrev pub refusal : Outcome → Option (ℕ × Fault)
 refusal (finished h x r) = None
-refusal (refused n f x) = Some (n, f)
+refusal (refused n f x k) = Some (n, f)
+
+-- what an import that is refused leaves
+abbrev pub kept_after : Outcome → Option Kept
+kept_after (finished h x r) = None
+kept_after (refused n f x k) = Some k
 
 -- the progress text and the report of an import that is accepted
 abbrev pub acceptance : Outcome → Option (Bytes × Report)
 acceptance (finished h x r) = Some (x, r)
-acceptance (refused n f x) = None
+acceptance (refused n f x k) = None
 
 -- ---- revisions and range words
 

@@ -1,6 +1,6 @@
 //! Laws of gitlinks of forty zeros: no stream brings one.
 ghost use Rattle.gx_model.specs.ExportLaws.{nothing};
-ghost use Rattle.gx_model.specs.Gitlinks.{HoldsNoNullGitlink, HoldsTellsHas, NullGitlinksAreRefused, ReplaysKeepNone, StreamsBringNone, TextsBringNone, TextsComeBack};
+ghost use Rattle.gx_model.specs.Gitlinks.{HoldsNoNullGitlink, HoldsTellsHas, NullGitlinksAreRefused, RefusalsKeepNone, ReplaysKeepNone, StreamsBringNone, TextsBringNone, TextsComeBack};
 
 /// No command that a stream has gives a gitlink of forty zeros.
 #[tactic(auto, using(crate::proofs::ReadGitlinks::none_brought))]
@@ -9,11 +9,12 @@ pub fn streams_bring_none()
 {}
 
 /// The empty history holds no gitlink of forty zeros. Where a history holds none, none is left after commands that bring
-/// none, and so after any text that is replayed; nor do its refs reach one.
-#[tactic(auto, using(crate::proofs::GitlinkSteps::none_kept, crate::proofs::GitlinkSteps::none_from_text, crate::proofs::GitlinkSteps::none_reached))]
+/// none, also where they are refused, and so after any text that is replayed; nor do its refs reach one.
+#[tactic(auto, using(crate::proofs::GitlinkSteps::none_kept, crate::proofs::GitlinkSteps::refusals_keep_none, crate::proofs::GitlinkSteps::none_from_text, crate::proofs::GitlinkSteps::none_reached))]
 pub fn replays_keep_none()
     ensures empty { HoldsNoNullGitlink nothing }
     ensures kept { ReplaysKeepNone }
+    ensures refused { RefusalsKeepNone }
     ensures texts { TextsBringNone }
     ensures reached { HoldsTellsHas }
 {}

@@ -1,7 +1,7 @@
 //! Laws of replays: what commands make of a history is a history.
 ghost use Rattle.gx_model.specs.ExportLaws.{nothing};
 ghost use Rattle.gx_model.specs.Histories.{IsHistory};
-ghost use Rattle.gx_model.specs.ProperReplays.{ReplaysGiveHistories, StreamsAreProper, TextsGiveHistories};
+ghost use Rattle.gx_model.specs.ProperReplays.{RefusalsKeepHistories, ReplaysGiveHistories, StreamsAreProper, TextsGiveHistories};
 
 /// The commands that a stream has are proper: their ref names, tag names, identities, encodings, new paths and gitlink digits
 /// have their forms. Source: git-fast-import(1), "Commands".
@@ -10,11 +10,12 @@ pub fn streams_are_proper()
     ensures { StreamsAreProper }
 {}
 
-/// The empty history is proper. Where a history is, so is what proper commands make of it, if they aren't refused, and so what
-/// any text does. Whatever names objects have, and however revisions are read.
-#[tactic(auto, using(crate::proofs::HistorySteps::nothing_is, crate::proofs::HistorySteps::replays_give, crate::proofs::HistorySteps::texts_give))]
+/// The empty history is proper. Where a history is, so is what proper commands make of it, and what is kept of it where they
+/// are refused, and so what any text makes. Whatever names objects have, and however revisions are read.
+#[tactic(auto, using(crate::proofs::HistorySteps::nothing_is, crate::proofs::HistorySteps::replays_give, crate::proofs::HistorySteps::refusals_keep, crate::proofs::HistorySteps::texts_give))]
 pub fn replays_give_histories()
     ensures empty { IsHistory nothing }
     ensures replays { ReplaysGiveHistories }
+    ensures refused { RefusalsKeepHistories }
     ensures texts { TextsGiveHistories }
 {}

@@ -26,14 +26,14 @@ class Store:
         name = hashlib.sha1(b'%s %d\0' % (kind, len(body)) + body).digest()
         if name not in self.names:
             self.names.add(name)
-            self.records.append((kind, body))
-            self.size += len(body) + len(kind) + 9
+            self.records.append((kind, name, body))
+            self.size += len(body) + len(kind) + 50
         return name
 
     def write(self, out, ref, name):
-        out.write(b'gxstore 1\nobjects %d\n' % len(self.records))
-        for kind, body in self.records:
-            out.write(b'%s %d\n' % (kind, len(body)))
+        out.write(b'gxstore 2\nobjects %d\n' % len(self.records))
+        for kind, name_of_record, body in self.records:
+            out.write(b'%s %d %s\n' % (kind, len(body), name_of_record.hex().encode()))
             out.write(body)
             out.write(b'\n')
         out.write(b'refs 1\n%s %s\nend\n' % (name.hex().encode(), ref))

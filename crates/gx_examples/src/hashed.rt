@@ -1,6 +1,6 @@
 //! Stores whose hashes have other keys.
 
-use crate::stored::stored;
+use crate::sessions::stored;
 use std::alloc::{AllocError, Allocator};
 use std::hash::RandomState;
 use std::test::Fail;

@@ -10,9 +10,13 @@ mod fault_lines;
 #[cfg(test)]
 mod hashed;
 #[cfg(test)]
+mod limits;
+#[cfg(test)]
 mod lines;
 #[cfg(test)]
 mod round_trips;
+#[cfg(test)]
+mod sessions;
 #[cfg(test)]
 mod stored;
 #[cfg(test)]

@@ -4,49 +4,24 @@ use gx_cli::{Line, LineFault, LogOptions, read_line};
 use std::alloc::{AllocError, Global};
 use std::test::Fail;
 
-type Words = &'static [&'static str];
-
-/// Words, and their line as it is printed for debugging.
-const LINES: &[(Words, &str)] = &[
-    (&["blobs"], "Blobs"),
-    (&["try", "main"], r#"Try("main")"#),
-    (&["try", "--", "-x"], r#"Try("-x")"#),
-    (&["init", "f"], r#"Init { file: "f" }"#),
-    (&["import", "f"], r#"Import { file: "f" }"#),
-    (
-        &["show", "f", "main:a b"],
-        r#"Show { file: "f", revision: "main:a b" }"#,
-    ),
-    (&["show", "-", "x"], r#"Show { file: "-", revision: "x" }"#),
-    (
-        &["ls", "f", "x"],
-        r#"Ls { recursive: false, file: "f", revision: "x" }"#,
-    ),
-    (
-        &["ls", "-r", "f", "x"],
-        r#"Ls { recursive: true, file: "f", revision: "x" }"#,
-    ),
-    (
-        &["ls", "f", "x", "--recursive"],
-        r#"Ls { recursive: true, file: "f", revision: "x" }"#,
-    ),
-    (&["refs", "f"], r#"Refs { file: "f" }"#),
-];
-
-fn gives(alloc: Global, words: Words, line: &str) -> Result<bool, AllocError> {
-    match read_line(alloc, words) {
-        Ok(read) => Ok(format!(in alloc; "{read:?}")?.as_str() == line),
-        Err(_) => Ok(false),
-    }
+/// What comes of words.
+#[derive(Clone, Copy)]
+enum Reading<'a> {
+    /// A line that is printed so for debugging.
+    Line(&'a str),
+    /// A log of these ranges in the file `f`.
+    Log(LogOptions, &'a [&'a str]),
+    /// A log of so many commits of `a` in the file `f`.
+    Count(u64),
+    /// The names of these revisions in the file `f`.
+    RevParse(&'a [&'a str]),
+    /// Status two.
+    Refusal,
+    /// Status zero, and a text in which this stands.
+    Help(&'a str),
 }
 
-#[test]
-fn words_give_their_line(rt: HostRuntime) -> Result<(), Fail> {
-    for (words, line) in LINES {
-        assert!(rt; gives(rt.alloc(), words, line)?, "{line}");
-    }
-    Ok(())
-}
+type Row<'a> = (&'a [&'a str], Reading<'a>);
 
 const PLAIN: LogOptions = LogOptions {
     reverse: false,
@@ -72,32 +47,54 @@ const WITH_PARENTS: LogOptions = LogOptions {
     parents: true,
 };
 
-const fn at_most(count: u64) -> LogOptions {
-    LogOptions {
-        reverse: false,
-        max_count: Some(count),
-        parents: false,
-    }
-}
+const LINES: &[Row<'static>] = &[
+    (&["blobs"], Reading::Line("Blobs")),
+    (&["try", "main"], Reading::Line(r#"Try("main")"#)),
+    (&["try", "--", "-x"], Reading::Line(r#"Try("-x")"#)),
+    (&["init", "f"], Reading::Line(r#"Init { file: "f" }"#)),
+    (&["import", "f"], Reading::Line(r#"Import { file: "f" }"#)),
+    (
+        &["show", "f", "main:a b"],
+        Reading::Line(r#"Show { file: "f", revision: "main:a b" }"#),
+    ),
+    (
+        &["show", "-", "x"],
+        Reading::Line(r#"Show { file: "-", revision: "x" }"#),
+    ),
+    (
+        &["ls", "f", "x"],
+        Reading::Line(r#"Ls { recursive: false, file: "f", revision: "x" }"#),
+    ),
+    (
+        &["ls", "-r", "f", "x"],
+        Reading::Line(r#"Ls { recursive: true, file: "f", revision: "x" }"#),
+    ),
+    (
+        &["ls", "f", "x", "--recursive"],
+        Reading::Line(r#"Ls { recursive: true, file: "f", revision: "x" }"#),
+    ),
+    (&["refs", "f"], Reading::Line(r#"Refs { file: "f" }"#)),
+];
 
-const LOGS: &[(Words, LogOptions, Words)] = &[
-    (&["log", "f", "main"], PLAIN, &["main"]),
-    (&["log", "f", "^main"], PLAIN, &["^main"]),
+/// Words of `log`.
+const LOGS: &[Row<'static>] = &[
+    (&["log", "f", "main"], Reading::Log(PLAIN, &["main"])),
+    (&["log", "f", "^main"], Reading::Log(PLAIN, &["^main"])),
     (
         &["log", "f", "b", "a..b", "r^!"],
-        PLAIN,
-        &["b", "a..b", "r^!"],
+        Reading::Log(PLAIN, &["b", "a..b", "r^!"]),
     ),
     (
         &["log", "f", "--", "-x", "--", "^main"],
-        PLAIN,
-        &["-x", "--", "^main"],
+        Reading::Log(PLAIN, &["-x", "--", "^main"]),
     ),
-    (&["log", "--reverse", "f", "a"], REVERSED, &["a"]),
+    (
+        &["log", "--reverse", "f", "a"],
+        Reading::Log(REVERSED, &["a"]),
+    ),
     (
         &["log", "f", "a", "--parents", "b"],
-        WITH_PARENTS,
-        &["a", "b"],
+        Reading::Log(WITH_PARENTS, &["a", "b"]),
     ),
     (
         &[
@@ -109,153 +106,181 @@ const LOGS: &[(Words, LogOptions, Words)] = &[
             "f",
             "a",
         ],
-        ALL,
-        &["a"],
+        Reading::Log(ALL, &["a"]),
     ),
     (
         &["log", "--max-count=3", "f", "a", "--parents", "--reverse"],
-        ALL,
-        &["a"],
+        Reading::Log(ALL, &["a"]),
+    ),
+    (&["log", "--max-count", "0", "f", "a"], Reading::Count(0)),
+    (&["log", "--max-count", "007", "f", "a"], Reading::Count(7)),
+    (&["log", "--max-count", "+4", "f", "a"], Reading::Count(4)),
+    (
+        &["log", "--max-count", "18446744073709551615", "f", "a"],
+        Reading::Count(18446744073709551615),
     ),
 ];
 
-/// Numbers of `--max-count`, as they are written and as they are taken.
-const COUNTS: &[(&str, u64)] = &[
-    ("0", 0),
-    ("007", 7),
-    ("+4", 4),
-    ("18446744073709551615", 18446744073709551615),
-];
-
-fn logs(alloc: Global, words: &[&str], options: LogOptions, wanted: &[&str]) -> bool {
-    match read_line(alloc, words) {
-        Ok(
-            Line::Log {
-                options: read,
-                file,
-                ranges,
-            },
-        ) => read == options && file == "f" && ranges.as_slice() == wanted,
-        _ => false,
-    }
-}
-
-#[test]
-fn options_and_ranges_of_log_are_read(rt: HostRuntime) {
-    for (words, options, ranges) in LOGS {
-        assert!(rt; logs(rt.alloc(), words, *options, ranges), "{words:?}");
-    }
-    for (text, count) in COUNTS {
-        let words = ["log", "--max-count", text, "f", "a"];
-        assert!(rt; logs(rt.alloc(), &words, at_most(*count), &["a"]), "{text}");
-    }
-}
-
-const REVISIONS: &[(Words, Words)] = &[
-    (&["rev-parse", "f", "main"], &["main"]),
+/// Words of `rev-parse`, whose revisions stay in their order.
+const REVISIONS: &[Row<'static>] = &[
+    (&["rev-parse", "f", "main"], Reading::RevParse(&["main"])),
     (
         &["rev-parse", "f", "b", "a^{tree}", "b"],
-        &["b", "a^{tree}", "b"],
+        Reading::RevParse(&["b", "a^{tree}", "b"]),
     ),
-    (&["rev-parse", "f", "--", "-x"], &["-x"]),
+    (&["rev-parse", "f", "--", "-x"], Reading::RevParse(&["-x"])),
 ];
 
-fn names(alloc: Global, words: Words, wanted: Words) -> bool {
-    match read_line(alloc, words) {
-        Ok(Line::RevParse { file, revisions }) => file == "f" && revisions.as_slice() == wanted,
-        _ => false,
-    }
-}
-
-#[test]
-fn revisions_are_read_in_their_order(rt: HostRuntime) {
-    for (words, revisions) in REVISIONS {
-        assert!(rt; names(rt.alloc(), words, revisions), "{words:?}");
-    }
-}
-
-const REFUSED: &[Words] = &[
-    &[],
-    &["blob"],
-    &["blobs", "f"],
-    &["--version"],
-    &["try"],
-    &["try", "-x"],
-    &["try", "a", "b"],
-    &["init"],
-    &["import"],
-    &["show", "f"],
-    &["show", "f", "a", "b"],
-    &["ls", "f"],
-    &["ls", "-r", "f"],
-    &["ls", "-x", "f", "a"],
-    &["ls", "-r", "-r", "f", "a"],
-    &["refs"],
-    &["log", "f"],
-    &["log", "f", "-x"],
-    &["log", "--max-count", "f", "a"],
-    &["log", "--max-count", "-1", "f", "a"],
-    &["log", "--max-count=-1", "f", "a"],
-    &["log", "--max-count", "18446744073709551616", "f", "a"],
-    &["log", "--max-count", "", "f", "a"],
-    &["log", "--reverse=yes", "f", "a"],
-    &["rev-parse", "f"],
-    &["rev-parse", "f", "-x"],
+const REFUSED: &[Row<'static>] = &[
+    (&[], Reading::Refusal),
+    (&["blob"], Reading::Refusal),
+    (&["blobs", "f"], Reading::Refusal),
+    (&["--version"], Reading::Refusal),
+    (&["try"], Reading::Refusal),
+    (&["try", "-x"], Reading::Refusal),
+    (&["try", "a", "b"], Reading::Refusal),
+    (&["init"], Reading::Refusal),
+    (&["import"], Reading::Refusal),
+    (&["show", "f"], Reading::Refusal),
+    (&["show", "f", "a", "b"], Reading::Refusal),
+    (&["ls", "f"], Reading::Refusal),
+    (&["ls", "-r", "f"], Reading::Refusal),
+    (&["ls", "-x", "f", "a"], Reading::Refusal),
+    (&["ls", "-r", "-r", "f", "a"], Reading::Refusal),
+    (&["refs"], Reading::Refusal),
+    (&["log", "f"], Reading::Refusal),
+    (&["log", "f", "-x"], Reading::Refusal),
+    (&["log", "--max-count", "f", "a"], Reading::Refusal),
+    (&["log", "--max-count", "-1", "f", "a"], Reading::Refusal),
+    (&["log", "--max-count=-1", "f", "a"], Reading::Refusal),
+    (
+        &["log", "--max-count", "18446744073709551616", "f", "a"],
+        Reading::Refusal,
+    ),
+    (&["log", "--max-count", "", "f", "a"], Reading::Refusal),
+    (&["log", "--reverse=yes", "f", "a"], Reading::Refusal),
+    (&["rev-parse", "f"], Reading::Refusal),
+    (&["rev-parse", "f", "-x"], Reading::Refusal),
 ];
 
-fn status_of(alloc: Global, words: Words) -> Option<u8> {
-    match read_line(alloc, words) {
-        Err(LineFault::Status { status, text: _ }) => Some(status),
-        _ => None,
-    }
-}
-
-#[test]
-fn other_words_end_with_status_two(rt: HostRuntime) {
-    for words in REFUSED {
-        assert_eq!(rt; status_of(rt.alloc(), words), Some(2), "{words:?}");
-    }
-}
-
-/// Requests for help, and what stands in the text.
-const HELP: &[(Words, &str)] = &[
-    (&["--help"], "Usage: gx <COMMAND>\n"),
-    (&["--help"], "\nExit status:\n"),
-    (&["-h"], "  rev-parse  Prints the names"),
-    (&["help"], "Usage: gx <COMMAND>\n"),
-    (&["help", "show"], "Usage: gx show <FILE> <REV>\n"),
-    (&["blobs", "--help"], "Usage: gx blobs\n"),
-    (&["try", "--help"], "Usage: gx try <REV>\n"),
-    (&["init", "--help"], "Usage: gx init <FILE>\n"),
-    (&["import", "--help"], "Usage: gx import <FILE>\n"),
-    (&["show", "--help"], "Usage: gx show <FILE> <REV>\n"),
-    (&["ls", "--help"], "Usage: gx ls [OPTIONS] <FILE> <REV>\n"),
-    (&["ls", "--help"], "  -r, --recursive\n"),
-    (&["refs", "--help"], "Usage: gx refs <FILE>\n"),
+const HELP: &[Row<'static>] = &[
+    (&["--help"], Reading::Help("Usage: gx <COMMAND>\n")),
+    (&["--help"], Reading::Help("\nExit status:\n")),
+    (&["-h"], Reading::Help("  rev-parse  Prints the names")),
+    (&["help"], Reading::Help("Usage: gx <COMMAND>\n")),
+    (
+        &["help", "show"],
+        Reading::Help("Usage: gx show <FILE> <REV>\n"),
+    ),
+    (&["blobs", "--help"], Reading::Help("Usage: gx blobs\n")),
+    (&["try", "--help"], Reading::Help("Usage: gx try <REV>\n")),
+    (
+        &["init", "--help"],
+        Reading::Help("Usage: gx init <FILE>\n"),
+    ),
+    (
+        &["import", "--help"],
+        Reading::Help("Usage: gx import <FILE>\n"),
+    ),
+    (
+        &["show", "--help"],
+        Reading::Help("Usage: gx show <FILE> <REV>\n"),
+    ),
+    (
+        &["ls", "--help"],
+        Reading::Help("Usage: gx ls [OPTIONS] <FILE> <REV>\n"),
+    ),
+    (&["ls", "--help"], Reading::Help("  -r, --recursive\n")),
+    (
+        &["refs", "--help"],
+        Reading::Help("Usage: gx refs <FILE>\n"),
+    ),
     (
         &["log", "--help"],
-        "Usage: gx log [OPTIONS] <FILE> <RANGE>...\n",
+        Reading::Help("Usage: gx log [OPTIONS] <FILE> <RANGE>...\n"),
     ),
-    (&["log", "--help"], "      --max-count <N>\n"),
-    (&["log", "-h"], "      --max-count <N>  Lists N commits"),
+    (&["log", "--help"], Reading::Help("      --max-count <N>\n")),
+    (
+        &["log", "-h"],
+        Reading::Help("      --max-count <N>  Lists N commits"),
+    ),
     (
         &["rev-parse", "--help"],
-        "Usage: gx rev-parse <FILE> <REV>...\n",
+        Reading::Help("Usage: gx rev-parse <FILE> <REV>...\n"),
     ),
-    (&["rev-parse", "--help"], "\nRefusals:\n"),
+    (&["rev-parse", "--help"], Reading::Help("\nRefusals:\n")),
 ];
 
-/// Whether the words ask for help, and get this among the rest.
-fn is_told(alloc: Global, words: Words, part: &str) -> bool {
-    match read_line(alloc, words) {
-        Err(LineFault::Status { status, text }) => status == 0 && text.as_str().contains(part),
+/// Whether a line is a log with these options, of these ranges.
+fn is_log(line: &Line<'_>, wanted: LogOptions, words: &[&str]) -> bool {
+    match line {
+        Line::Log {
+            options,
+            file,
+            ranges,
+        } => *options == wanted && *file == "f" && ranges.as_slice() == words,
         _ => false,
     }
 }
 
-#[test]
-fn help_ends_with_status_zero(rt: HostRuntime) {
-    for (words, part) in HELP {
-        assert!(rt; is_told(rt.alloc(), words, part), "{part}");
+/// Whether a line names these revisions.
+fn is_names(line: &Line<'_>, words: &[&str]) -> bool {
+    match line {
+        Line::RevParse { file, revisions } => *file == "f" && revisions.as_slice() == words,
+        _ => false,
     }
+}
+
+/// Whether a line is the one that is to be read.
+fn is_line(alloc: Global, line: &Line<'_>, reading: Reading<'_>) -> Result<bool, AllocError> {
+    Ok(match reading {
+        Reading::Line(text) => format!(in alloc; "{line:?}")?.as_str() == text,
+        Reading::Log(options, words) => is_log(line, options, words),
+        Reading::Count(count) => is_log(
+            line,
+            LogOptions {
+                max_count: Some(count),
+                ..PLAIN
+            },
+            &["a"],
+        ),
+        Reading::RevParse(words) => is_names(line, words),
+        Reading::Refusal | Reading::Help(_) => false,
+    })
+}
+
+/// Whether just this comes of words.
+fn is_read(alloc: Global, words: &[&str], reading: Reading<'_>) -> Result<bool, AllocError> {
+    match read_line(alloc, words) {
+        Ok(line) => is_line(alloc, &line, reading),
+        Err(LineFault::Status { status, text }) => Ok(match reading {
+            Reading::Refusal => status == 2,
+            Reading::Help(part) => status == 0 && text.as_str().contains(part),
+            _ => false,
+        }),
+        Err(LineFault::OutOfMemory) => Ok(false),
+    }
+}
+
+/// Reads words. The first of which something else comes are a failure.
+fn are_read(alloc: Global, rows: &[Row<'_>]) -> Result<(), Fail> {
+    for (words, reading) in rows {
+        if !is_read(alloc, words, *reading)? {
+            return Err(Fail::new(format_args!("{words:?}")));
+        }
+    }
+    Ok(())
+}
+
+#[test]
+fn words_give_their_line(rt: HostRuntime) -> Result<(), Fail> {
+    are_read(rt.alloc(), LINES)?;
+    are_read(rt.alloc(), LOGS)?;
+    are_read(rt.alloc(), REVISIONS)
+}
+
+#[test]
+fn other_words_end_with_their_status(rt: HostRuntime) -> Result<(), Fail> {
+    are_read(rt.alloc(), REFUSED)?;
+    are_read(rt.alloc(), HELP)
 }

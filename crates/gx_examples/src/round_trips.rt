@@ -3,7 +3,7 @@
 use crate::exported::MERGED;
 use crate::exported::generated::history;
 use gx_cli::{CliFault, RoundTrip, look_in, round_trip};
-use gx_import::{ImportFault, ImportKind};
+use gx_import::{ImportFault, ImportKind, Report};
 use gx_object::{Mode, Sha1Namer};
 use gx_refusing::Refusing;
 use gx_repo::Repo;
@@ -18,28 +18,13 @@ const ODD: &[u8] =
     b"blob\nmark :1\ndata 5\none\nx\ncommit refs/heads/main\nmark :2\nauthor A U Thor <a@x> 1700000000 +0100\ncommitter C O Mitter <c@x> 1700000001 -0130\ndata 6\nfirst\nM 100644 :1 \"a b\\\"\\303\\244\"\nM 100755 inline dir/sub/run\ndata 2\ngo\nM 120000 inline dir/link\ndata 3\nrun\nM 160000 d670460b4b4aece5915caf5c68d12f560a9fe3e4 mod\n\ncommit refs/heads/side\nmark :3\ncommitter A <a@x> 2 +0000\ndata 4\nside\nfrom :2\nR dir \"moved dir\"\nC \"a b\\\"\\303\\244\" copy\nD mod\n\nprogress half\ncommit refs/heads/main\nmark :4\ncommitter A <a@x> 3 +0000\ndata 5\nother\nM 100644 inline dir.t\ndata <<E\nhello\nE\n\ncommit refs/heads/main\nmark :5\ncommitter A <a@x> 4 +0000\ndata 5\nmerge\nmerge :3\nR dir/sub sub\n\ntag v1.0\nfrom :5\ntagger A <a@x> 5 +0000\ndata 3\none\ntag old/v0\nfrom :2\ndata 0\nreset refs/heads/kept\nfrom :3\n";
 
 /// Its refs, with the digits that git shows.
-const ODD_REFS: &[(&str, &str)] = &[
-    (
-        "refs/heads/kept",
-        "39b12c0f6ae0528020a7712cc5edb4c7ea6262f5",
-    ),
-    (
-        "refs/heads/main",
-        "231e4842e22f542ed2e0473967b3a2678ec20565",
-    ),
-    (
-        "refs/heads/side",
-        "39b12c0f6ae0528020a7712cc5edb4c7ea6262f5",
-    ),
-    (
-        "refs/tags/old/v0",
-        "b789cd8a41fc3c7613aa26b0428846ad4c6b4665",
-    ),
-    ("refs/tags/v1.0", "4d87bc15d31c990120745e4f5e757420064d9e44"),
-];
+const ODD_REFS: &[u8] =
+    b"39b12c0f6ae0528020a7712cc5edb4c7ea6262f5 refs/heads/kept\n231e4842e22f542ed2e0473967b3a2678ec20565 refs/heads/main\n39b12c0f6ae0528020a7712cc5edb4c7ea6262f5 refs/heads/side\nb789cd8a41fc3c7613aa26b0428846ad4c6b4665 refs/tags/old/v0\n4d87bc15d31c990120745e4f5e757420064d9e44 refs/tags/v1.0\n";
 
-/// Revisions, paths, and the mode and the bytes of the files there.
-const ODD_FILES: &[(&str, &str, Mode, &str)] = &[
+/// A revision, a path, and the mode and the bytes of the file there.
+type File<'a> = (&'a str, &'a str, Mode, &'a str);
+
+const ODD_FILES: &[File<'static>] = &[
     ("main", "a b\"\u{e4}", Mode::File, "one\nx"),
     ("main", "dir.t", Mode::File, "hello\n"),
     ("main", "sub/run", Mode::Exec, "go"),
@@ -57,11 +42,10 @@ const ODD_FILES: &[(&str, &str, Mode, &str)] = &[
 ];
 
 /// A stream that is imported into an empty store, exported, and imported again, and a file that is looked up between.
-fn tripped_with_file<A: Allocator + Copy>(
+fn tripped<A: Allocator + Copy>(
     alloc: A,
     stream: &[u8],
-    revision: &str,
-    path: &str,
+    (revision, path): (&str, &str),
     sink: &mut Held<A>,
     state: RandomState,
 ) -> Result<RoundTrip<Sha1Namer, A>, CliFault> {
@@ -75,104 +59,26 @@ fn tripped_with_file<A: Allocator + Copy>(
     round_trip(alloc, Sha1Namer, source, sink, &revision, &path, state)
 }
 
-/// A stream that is imported into an empty store, exported, and imported again.
-fn tripped<A: Allocator + Copy>(
+/// The refs of a repository, a line for each.
+fn refs_of<A: Allocator + Copy>(
     alloc: A,
-    stream: &[u8],
-    sink: &mut Held<A>,
-    state: RandomState,
-) -> Result<RoundTrip<Sha1Namer, A>, CliFault> {
-    tripped_with_file(alloc, stream, "main", "dir.t", sink, state)
-}
-
-/// Whether two repositories have the same refs under the same names.
-fn have_same_refs<A: Allocator + Copy>(
-    one: &Repo<Sha1Namer, A>,
-    other: &Repo<Sha1Namer, A>,
-) -> bool {
-    let mut refs = other.refs();
-    for (name, object) in one.refs() {
-        match refs.next() {
-            Some((same, target)) if same == name && target == object => {}
-            _ => return false,
-        }
+    repo: &Repo<Sha1Namer, A>,
+) -> Result<Vec<u8, A>, AllocError> {
+    let mut lines = Vec::new(alloc);
+    for (name, object) in repo.refs() {
+        lines.extend_from_slice(object.hex().as_slice())?;
+        lines.push(b' ')?;
+        lines.extend_from_slice(name)?;
+        lines.push(b'\n')?;
     }
-    refs.next().is_none()
-}
-
-/// Whether a repository has these refs and no more.
-fn has_refs<A: Allocator + Copy>(repo: &Repo<Sha1Namer, A>, rows: &[(&str, &str)]) -> bool {
-    let mut refs = repo.refs();
-    for (name, digits) in rows {
-        match refs.next() {
-            Some((held, object)) => {
-                if held != name.as_bytes() || object.hex().as_slice() != digits.as_bytes() {
-                    return false;
-                }
-            }
-            None => return false,
-        }
-    }
-    refs.next().is_none()
-}
-
-/// Whether what a stream makes comes back: the same refs, no more objects, and the same text.
-fn comes_back(alloc: Global, stream: &[u8], state: RandomState) -> Result<bool, AllocError> {
-    let mut held = Held::new(alloc, 64)?;
-    let Ok(trip) = tripped(alloc, stream, &mut held, state) else {
-        return Ok(false);
-    };
-    let Ok(twice) = tripped(alloc, &trip.text, &mut held, state) else {
-        return Ok(false);
-    };
-    let has_fewer = trip.again.store().len() <= trip.first.store().len();
-    let has_all = twice.first.store().len() == twice.again.store().len();
-    Ok(
-        have_same_refs(&trip.first, &trip.again)
-            && have_same_refs(&trip.first, &twice.again)
-            && has_fewer
-            && has_all
-            && trip.text == twice.text,
-    )
-}
-
-#[test]
-fn streams_come_back(rt: HostRuntime) -> Result<(), Fail> {
-    let state = RandomState::new(&rt)?;
-    let many = history(rt.alloc())?;
-    let rows: [&[u8]; 5] = [b"", b"blob\ndata 4\nlost\n", MERGED, ODD, many.as_slice()];
-    for stream in rows {
-        assert!(rt; comes_back(rt.alloc(), stream, state)?);
-    }
-    Ok(())
-}
-
-#[test]
-fn refs_of_both_are_those_of_git(rt: HostRuntime) -> Result<(), Fail> {
-    let state = RandomState::new(&rt)?;
-    let mut held = Held::new(rt.alloc(), 64)?;
-    let Ok(trip) = tripped(rt.alloc(), ODD, &mut held, state) else {
-        assert!(rt; false, "the stream comes back");
-        return Ok(());
-    };
-    assert!(rt; has_refs(&trip.first, ODD_REFS));
-    assert!(rt; has_refs(&trip.again, ODD_REFS));
-    assert_eq!(rt; trip.report.commands, 9);
-    assert_eq!(rt; trip.report.refs, 5);
-    assert_eq!(rt; held.bytes(), b"progress half\n".as_slice());
-    assert!(rt;
-        trip.text
-            .starts_with(b"feature done\nblob\nmark :1\ndata 5\none\nx\n")
-    );
-    assert!(rt; trip.text.ends_with(b"\ndone\n"));
-    Ok(())
+    Ok(lines)
 }
 
 /// Whether the file at a path of a revision has this mode and these bytes.
-fn has_file<A: Allocator + Copy>(
-    alloc: A,
-    repo: &Repo<Sha1Namer, A>,
-    (revision, path, mode, bytes): (&str, &str, Mode, &str),
+fn has_file(
+    alloc: Global,
+    repo: &Repo<Sha1Namer, Global>,
+    (revision, path, mode, bytes): File<'_>,
 ) -> bool {
     let Ok(revision) = Revision::read(alloc, revision.as_bytes()) else {
         return false;
@@ -186,35 +92,126 @@ fn has_file<A: Allocator + Copy>(
     }
 }
 
-#[test]
-fn files_of_both_are_looked_up(rt: HostRuntime) -> Result<(), Fail> {
-    let state = RandomState::new(&rt)?;
-    let mut held = Held::new(rt.alloc(), 64)?;
-    let Ok(trip) = tripped(rt.alloc(), ODD, &mut held, state) else {
-        assert!(rt; false, "the stream comes back");
-        return Ok(());
-    };
-    for row in ODD_FILES {
-        assert!(rt; has_file(rt.alloc(), &trip.first, *row), "{}", row.1);
-        assert!(rt; has_file(rt.alloc(), &trip.again, *row), "{}", row.1);
+/// Whether a repository has the odd stream's files.
+fn has_odd_files(alloc: Global, repo: &Repo<Sha1Namer, Global>) -> bool {
+    for file in ODD_FILES {
+        if !has_file(alloc, repo, *file) {
+            return false;
+        }
     }
-    assert!(rt; !has_file(rt.alloc(), &trip.again, ("side", "mod", Mode::Gitlink, "")));
+    !has_file(alloc, repo, ("side", "mod", Mode::Gitlink, ""))
+}
+
+/// What the repositories of a trip show.
+#[derive(Drop)]
+struct Shown {
+    report: Report,
+    refs: Vec<u8>,
+    refs_again: Vec<u8>,
+    has_no_more_objects: bool,
+    has_as_many_objects: bool,
+    has_odd_files: bool,
+    file: Result<(Mode, Vec<u8>), CliFault>,
+    text: Vec<u8>,
+}
+
+/// What a trip shows.
+fn look_at(alloc: Global, trip: RoundTrip<Sha1Namer, Global>) -> Result<Shown, AllocError> {
+    let (first, again) = (trip.first.store().len(), trip.again.store().len());
+    Ok(Shown {
+        report: trip.report,
+        refs: refs_of(alloc, &trip.first)?,
+        refs_again: refs_of(alloc, &trip.again)?,
+        has_no_more_objects: again <= first,
+        has_as_many_objects: again == first,
+        has_odd_files: has_odd_files(alloc, &trip.first) && has_odd_files(alloc, &trip.again),
+        file: trip.file,
+        text: trip.text,
+    })
+}
+
+/// What a trip shows that is to be accepted, and whose import prints this.
+fn trip_of(
+    alloc: Global,
+    stream: &[u8],
+    file: (&str, &str),
+    printed: &[u8],
+    state: RandomState,
+) -> Result<Option<Shown>, AllocError> {
+    let mut held = Held::new(alloc, 64)?;
+    match tripped(alloc, stream, file, &mut held, state) {
+        Ok(trip) if held.bytes() == printed => Ok(Some(look_at(alloc, trip)?)),
+        _ => Ok(None),
+    }
+}
+
+/// Whether what a stream makes comes back: the same refs, no more objects, and the same text.
+fn comes_back(
+    alloc: Global,
+    (stream, printed): (&[u8], &[u8]),
+    state: RandomState,
+) -> Result<bool, AllocError> {
+    let file = ("main", "dir.t");
+    let Some(trip) = trip_of(alloc, stream, file, printed, state)? else {
+        return Ok(false);
+    };
+    let Some(twice) = trip_of(alloc, &trip.text, file, b"", state)? else {
+        return Ok(false);
+    };
+    let has_refs = trip.refs == trip.refs_again && trip.refs == twice.refs_again;
+    let has_objects = trip.has_no_more_objects && twice.has_as_many_objects;
+    Ok(has_refs && has_objects && trip.text == twice.text)
+}
+
+/// Streams, and what their imports print.
+const STREAMS: &[(&[u8], &[u8])] = &[
+    (b"", b""),
+    (b"blob\ndata 4\nlost\n", b""),
+    (MERGED, b""),
+    (ODD, b"progress half\n"),
+];
+
+#[test]
+fn streams_come_back(rt: HostRuntime) -> Result<(), Fail> {
+    let state = RandomState::new(&rt)?;
+    for (place, row) in STREAMS.iter().enumerate() {
+        assert!(rt; comes_back(rt.alloc(), *row, state)?, "row {place}");
+    }
+    let many = history(rt.alloc())?;
+    assert!(rt; comes_back(rt.alloc(), (&many, b""), state)?);
+    Ok(())
+}
+
+/// Whether the odd stream's trip shows its refs and files, its numbers, and an export.
+fn is_odd(trip: &Shown) -> bool {
+    let has_refs = trip.refs.as_slice() == ODD_REFS && trip.refs_again.as_slice() == ODD_REFS;
+    let has_numbers = trip.report.commands == 9 && trip.report.refs == 5;
+    let front = b"feature done\nblob\nmark :1\ndata 5\none\nx\n";
+    let has_text = trip.text.starts_with(front) && trip.text.ends_with(b"\ndone\n");
+    has_refs && has_numbers && has_text && trip.has_odd_files
+}
+
+#[test]
+fn refs_and_files_of_both_are_those_of_git(rt: HostRuntime) -> Result<(), Fail> {
+    let state = RandomState::new(&rt)?;
+    let file = ("main", "dir.t");
+    let trip = trip_of(rt.alloc(), ODD, file, b"progress half\n", state)?;
+    assert!(rt; is_odd(&trip.ok_or("no trip")?));
     Ok(())
 }
 
 /// Whether a trip of the odd stream looks this file up.
-fn is_looked_up<A: Allocator + Copy>(
-    alloc: A,
-    (revision, path, mode, bytes): (&str, &str, Mode, &str),
+fn is_looked_up(
+    alloc: Global,
+    (revision, path, mode, bytes): File<'_>,
     state: RandomState,
 ) -> Result<bool, AllocError> {
-    let mut held = Held::new(alloc, 64)?;
-    let Ok(trip) = tripped_with_file(alloc, ODD, revision, path, &mut held, state) else {
-        return Ok(false);
-    };
-    match &trip.file {
-        Ok((has, file)) => Ok(*has == mode && file.as_slice() == bytes.as_bytes()),
-        Err(_) => Ok(false),
+    match trip_of(alloc, ODD, (revision, path), b"progress half\n", state)? {
+        Some(trip) => match &trip.file {
+            Ok((has, file)) => Ok(*has == mode && file.as_slice() == bytes.as_bytes()),
+            Err(_) => Ok(false),
+        },
+        None => Ok(false),
     }
 }
 
@@ -227,73 +224,133 @@ fn trips_look_their_file_up(rt: HostRuntime) -> Result<(), Fail> {
     Ok(())
 }
 
-#[test]
-fn file_that_is_not_there_stops_no_trip(rt: HostRuntime) -> Result<(), Fail> {
-    let state = RandomState::new(&rt)?;
-    let mut held = Held::new(rt.alloc(), 64)?;
-    let Ok(trip) = tripped_with_file(rt.alloc(), ODD, "side", "mod", &mut held, state) else {
-        assert!(rt; false, "the stream comes back");
-        return Ok(());
-    };
+/// Whether a trip of the odd stream has no such file, and comes to its end.
+fn is_missed(alloc: Global, file: (&str, &str), state: RandomState) -> Result<bool, AllocError> {
     let missing = CliFault::Revision {
         number: 1,
         kind: RevFault::NoSuchPath,
     };
-    assert_eq!(rt; trip.file.err(), Some(missing));
-    assert!(rt; have_same_refs(&trip.first, &trip.again));
+    match trip_of(alloc, ODD, file, b"progress half\n", state)? {
+        Some(trip) => Ok(trip.refs == trip.refs_again && trip.file.err() == Some(missing)),
+        None => Ok(false),
+    }
+}
+
+#[test]
+fn file_that_is_not_there_stops_no_trip(rt: HostRuntime) -> Result<(), Fail> {
+    let state = RandomState::new(&rt)?;
+    assert!(rt; is_missed(rt.alloc(), ("side", "mod"), state)?);
     Ok(())
+}
+
+/// Why a trip is refused, and whether its import prints this first.
+fn refusal_of(
+    alloc: Global,
+    stream: &[u8],
+    printed: &[u8],
+    state: RandomState,
+) -> Result<Option<CliFault>, AllocError> {
+    let mut held = Held::new(alloc, 64)?;
+    let trip = tripped(alloc, stream, ("main", "dir.t"), &mut held, state);
+    if held.bytes() == printed {
+        Ok(trip.err())
+    } else {
+        Ok(None)
+    }
 }
 
 #[test]
 fn refused_import_has_its_fault(rt: HostRuntime) -> Result<(), Fail> {
     let state = RandomState::new(&rt)?;
-    let mut held = Held::new(rt.alloc(), 64)?;
-    let trip = tripped(rt.alloc(), b"progress x\nfoo\n", &mut held, state);
     let fault = ImportFault {
         command: 2,
         kind: ImportKind::UnknownCommand,
     };
-    assert_eq!(rt; trip.err(), Some(CliFault::Import(fault)));
-    assert_eq!(rt; held.bytes(), b"progress x\n".as_slice());
+    let refusal = refusal_of(rt.alloc(), b"progress x\nfoo\n", b"progress x\n", state)?;
+    assert!(rt; refusal == Some(CliFault::Import(fault)));
     Ok(())
 }
 
-/// Whether a trip that wants memory ends as it has to: for want of it, or as it should.
-fn ends_well<B: Allocator>(
-    heap: &Refusing<B>,
+/// Whether a trip, or its file alone, is refused for want of memory.
+fn is_memory<A: Allocator>(trip: &Result<RoundTrip<Sha1Namer, A>, CliFault>) -> bool {
+    match trip {
+        Ok(trip) => matches!(trip.file, Err(CliFault::OutOfMemory)),
+        Err(CliFault::OutOfMemory) => true,
+        Err(CliFault::Import(fault)) => fault.kind == ImportKind::OutOfMemory,
+        Err(_) => false,
+    }
+}
+
+/// Whether two repositories have the same refs.
+fn have_same_refs<A: Allocator + Copy>(
+    alloc: A,
+    one: &Repo<Sha1Namer, A>,
+    other: &Repo<Sha1Namer, A>,
+) -> bool {
+    match (refs_of(alloc, one), refs_of(alloc, other)) {
+        (Ok(refs), Ok(others)) => refs == others,
+        _ => false,
+    }
+}
+
+/// Whether a trip found its file, and has the same refs twice.
+fn is_whole<A: Allocator + Copy>(
+    alloc: A,
+    trip: &Result<RoundTrip<Sha1Namer, A>, CliFault>,
+) -> bool {
+    match trip {
+        Ok(trip) => trip.file.is_ok() && have_same_refs(alloc, &trip.first, &trip.again),
+        Err(_) => false,
+    }
+}
+
+/// Whether a trip at which a growth was to be refused ends as it has to: for want of memory, or as it should where no growth
+/// was. None where it is for want of memory.
+fn judged<A: Allocator + Copy>(
+    alloc: A,
+    trip: &Result<RoundTrip<Sha1Namer, A>, CliFault>,
+    is_waiting: bool,
+) -> Option<bool> {
+    if is_waiting {
+        Some(is_whole(alloc, trip))
+    } else if is_memory(trip) {
+        None
+    } else {
+        Some(false)
+    }
+}
+
+/// What comes of a trip at which the growth with this number is refused.
+fn ends_well<'a, B: Allocator>(
+    heap: &'a Refusing<B>,
+    sink: &mut Held<&'a Refusing<B>>,
     nth: u64,
     state: RandomState,
-) -> Result<Option<bool>, AllocError> {
-    let mut held = Held::new(heap, 64)?;
+) -> Option<bool> {
     heap.arm(nth);
-    let trip = tripped_with_file(heap, MERGED, "a", "f", &mut held, state);
+    let trip = tripped(heap, MERGED, ("a", "f"), sink, state);
     let is_waiting = heap.is_waiting();
     heap.arm(0);
-    match trip {
-        Ok(trip) if is_waiting => Ok(Some(
-            trip.file.is_ok() && have_same_refs(&trip.first, &trip.again),
-        )),
-        Ok(trip) => match trip.file {
-            Err(CliFault::OutOfMemory) => Ok(None),
-            _ => Ok(Some(false)),
-        },
-        Err(CliFault::OutOfMemory) => Ok(None),
-        Err(CliFault::Import(fault)) if fault.kind == ImportKind::OutOfMemory => Ok(None),
-        Err(_) => Ok(Some(false)),
+    judged(heap, &trip, is_waiting)
+}
+
+/// How many growths are refused before a trip succeeds; none where one is answered otherwise.
+fn refused_growths<B: Allocator + Copy>(alloc: B, state: RandomState) -> u64 {
+    for nth in 1..3000u64 {
+        let heap = Refusing::new(alloc, 0);
+        let Ok(mut held) = Held::new(&heap, 64) else {
+            return 0;
+        };
+        if let Some(is_well) = ends_well(&heap, &mut held, nth, state) {
+            return if is_well { nth - 1 } else { 0 };
+        }
     }
+    0
 }
 
 #[test]
 fn each_refused_growth_of_a_round_trip_is_out_of_memory(rt: HostRuntime) -> Result<(), Fail> {
     let state = RandomState::new(&rt)?;
-    for nth in 1..3000u64 {
-        let heap = Refusing::new(rt.alloc(), 0);
-        if let Some(is_well) = ends_well(&heap, nth, state)? {
-            assert!(rt; is_well);
-            assert!(rt; nth > 100);
-            return Ok(());
-        }
-    }
-    assert!(rt; false, "a trip succeeds");
+    assert!(rt; refused_growths(rt.alloc(), state) >= 100);
     Ok(())
 }

@@ -27,6 +27,7 @@ chmod 755 "$folder"
 cp "$1" "$folder/gx"
 chmod 755 "$folder/gx"
 gx=$folder/gx
+scripts=$(dirname "$0")
 
 passed=0
 failed=0
@@ -684,7 +685,29 @@ check_inits_at_once() {
   done
 }
 
+# ---- stores, by the checker that knows nothing of gx
+
+is_taken() { python3 "$scripts/check_store.py" "$1" 2> "$folder/err"; }
+
+is_not_taken() { ! is_taken "$1"; }
+
+check_texts() {
+  if ! command -v python3 > "$folder/found"; then
+    echo "skipped: the checker of store texts, since there is no python3"
+    return
+  fi
+  for text in empty new wide; do
+    check "the checker takes the store $text" is_taken "$folder/$text"
+  done
+  check 'it takes no version 1' is_not_taken "$folder/old"
+  for change in 's/ 83ba/ 83bb/' 's/^version 1/version 2/' 's/^objects 4/objects 5/' 's/^02d6/12d6/' 's/^refs 1/refs 2/' 's/^end/End/'; do
+    LC_ALL=C sed "$change" "$folder/new" > "$folder/changed"
+    check "it takes no store changed by $change" is_not_taken "$folder/changed"
+  done
+}
+
 make_texts
+check_texts
 fresh good
 run "$folder/stream" import "$file"
 check 'import makes the new text' makes new

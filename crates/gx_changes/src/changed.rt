@@ -2,7 +2,7 @@
 ghost use Rattle.std.specs.Prelude.{◌<◌, length};
 
 use crate::breach::{Breach, Case};
-use crate::store_text::look_at_text;
+use crate::store_text::{look_at_old_text, look_at_text};
 use crate::stream::look_at_stream;
 use std::alloc::Allocator;
 use std::fmt::{self, Display, Formatter, Write};
@@ -13,6 +13,8 @@ use std::hash::RandomState;
 pub(crate) enum Text {
     Stream,
     StoreText,
+    /// A store text of version 1.
+    OldStoreText,
 }
 
 impl Display for Text {
@@ -20,6 +22,7 @@ impl Display for Text {
         f.write_str(match self {
             Text::Stream => "stream",
             Text::StoreText => "store text",
+            Text::OldStoreText => "store text of version 1",
         })
     }
 }
@@ -80,5 +83,6 @@ fn look_at<A: Allocator + Copy>(
     match kind {
         Text::Stream => look_at_stream(alloc, text, state),
         Text::StoreText => look_at_text(alloc, text, state),
+        Text::OldStoreText => look_at_old_text(alloc, text, state),
     }
 }

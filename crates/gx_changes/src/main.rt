@@ -1,11 +1,13 @@
 //! The program `gx_changes`: what comes of a stream, and of its store text, when a byte of it is another. The stream on standard input
-//! is imported with each byte changed in turn, and the text of its store is read so. Each answer is compared with the others.
+//! is imported with each byte changed in turn, and the text of its store, of either version, is read so. Each answer is compared
+//! with the others.
 #![tactic(auto)]
 
 ghost use Rattle.std.specs.Prelude.{◌<◌, IfOk, IfSome};
 
 mod breach;
 mod changed;
+mod old_text;
 mod store_text;
 mod stream;
 
@@ -15,7 +17,7 @@ use std::env;
 use std::hash::RandomState;
 use std::io::{self, Read};
 use std::process::ExitCode;
-use stream::store_text_of;
+use stream::store_texts_of;
 
 fn main(rt: HostRuntime) -> io::Result<ExitCode> {
     let Some(step) = step_of(&rt)? else {
@@ -27,15 +29,16 @@ fn main(rt: HostRuntime) -> io::Result<ExitCode> {
     let mut stream = Vec::new(rt.alloc());
     rt.stdin().read_to_end(&mut stream)?;
     let state = RandomState::new(&rt)?;
-    let mut text = match store_text_of(rt.alloc(), stream.as_slice(), state) {
-        Ok(text) => text,
+    let (mut text, mut old) = match store_texts_of(rt.alloc(), stream.as_slice(), state) {
+        Ok(texts) => texts,
         Err(breach) => {
             eprintln!(rt; "gx_changes: {breach}")?;
             return Ok(ExitCode::from(1));
         }
     };
     let is_fit = try_text(&rt, Text::Stream, stream.as_mut_slice(), step, state)?
-        && try_text(&rt, Text::StoreText, text.as_mut_slice(), step, state)?;
+        && try_text(&rt, Text::StoreText, text.as_mut_slice(), step, state)?
+        && try_text(&rt, Text::OldStoreText, old.as_mut_slice(), step, state)?;
     Ok(ExitCode::from(if is_fit { 0 } else { 1 }))
 }
 

@@ -1,6 +1,7 @@
 //! What comes of a store text.
 
 use crate::breach::Breach;
+use crate::old_text::old_text_of;
 use crate::stream::exported;
 use gx_file::{FileFault, read, write};
 use gx_object::Sha1Namer;
@@ -18,6 +19,27 @@ pub(crate) fn look_at_text<A: Allocator + Copy>(
         Ok(repo) => {
             exported(alloc, &repo)?;
             is_written_as(alloc, &repo, text)
+        }
+        Err(FileFault::OutOfMemory) => Err(Breach::OutOfMemory),
+        Err(_) => Ok(()),
+    }
+}
+
+/// A text of version 1 that is read is the one of what was read, which is written as version 2 and can be exported.
+pub(crate) fn look_at_old_text<A: Allocator + Copy>(
+    alloc: A,
+    text: &[u8],
+    state: RandomState,
+) -> Result<(), Breach> {
+    match read(alloc, Sha1Namer, text, state) {
+        Ok(repo) => {
+            exported(alloc, &repo)?;
+            look_at_written(alloc, &repo, state)?;
+            if old_text_of(alloc, &repo)?.as_slice() == text {
+                Ok(())
+            } else {
+                Err(Breach::OtherText)
+            }
         }
         Err(FileFault::OutOfMemory) => Err(Breach::OutOfMemory),
         Err(_) => Ok(()),

@@ -1,6 +1,7 @@
 //! What comes of a stream.
 
 use crate::breach::Breach;
+use crate::old_text::old_text_of;
 use crate::store_text::look_at_written;
 use gx_export::{ExportFault, export};
 use gx_file::write;
@@ -28,15 +29,15 @@ pub(crate) fn look_at_stream<A: Allocator + Copy>(
     }
 }
 
-/// The store text of what a stream makes.
-pub(crate) fn store_text_of<A: Allocator + Copy>(
+/// The store text of what a stream makes, and that of version 1.
+pub(crate) fn store_texts_of<A: Allocator + Copy>(
     alloc: A,
     text: &[u8],
     state: RandomState,
-) -> Result<Vec<u8, A>, Breach> {
+) -> Result<(Vec<u8, A>, Vec<u8, A>), Breach> {
     let mut repo = Repo::new(alloc, Sha1Namer, state);
     match imports(alloc, &mut repo, text)? {
-        None => Ok(write(alloc, &repo)?),
+        None => Ok((write(alloc, &repo)?, old_text_of(alloc, &repo)?)),
         Some(_) => Err(Breach::Refused),
     }
 }

@@ -4,6 +4,7 @@ use crate::given::{FIRST, MERGED, opened, refusal_of, stored, text_of};
 use gx_import::{ImportFault, ImportKind};
 use gx_object::Sha1Namer;
 use gx_refusing::Refusing;
+use gx_repo::Repo;
 use std::alloc::Allocator;
 use std::hash::RandomState;
 use std::test::Fail;
@@ -20,26 +21,37 @@ fn is_memory(refused: Option<ImportFault>) -> bool {
 /// A store text, a stream, and the text of both together.
 type Given<'a> = (&'a [u8], &'a [u8], &'a [u8]);
 
-/// Whether an import is right at which the growth with this number is refused: for want of memory, with the store as it was.
-/// None where no growth has that number, and the store has all.
-fn is_right<B: Allocator>(
-    heap: &Refusing<B>,
+/// Whether an import behind some store text is right at which the growth with this number is refused: for want of memory,
+/// with the store as it was. None where no growth has that number, and the store has all.
+fn is_right<'a, B: Allocator>(
+    heap: &'a Refusing<B>,
+    repo: &mut Repo<Sha1Namer, &'a Refusing<B>>,
     (before, stream, after): Given<'_>,
+    nth: u64,
+) -> Option<bool> {
+    heap.arm(nth);
+    let refused = refusal_of(heap, repo, stream);
+    let is_waiting = heap.is_waiting();
+    heap.arm(0);
+    let text = text_of(heap, repo);
+    if is_waiting && refused.is_none() && text.as_slice() == after {
+        None
+    } else {
+        Some(!is_waiting && is_memory(refused) && text.as_slice() == before)
+    }
+}
+
+/// The same, in a repository that is read for it.
+fn is_right_behind<B: Allocator>(
+    heap: &Refusing<B>,
+    given: Given<'_>,
     nth: u64,
     state: RandomState,
 ) -> Option<bool> {
-    let Some(mut repo) = opened(heap, before, state) else {
-        return Some(false);
-    };
-    heap.arm(nth);
-    let refused = refusal_of(heap, &mut repo, stream);
-    let is_waiting = heap.is_waiting();
-    heap.arm(0);
-    let text = text_of(heap, &repo);
-    if is_waiting && refused.is_none() && text.as_slice() == after {
-        return None;
+    match opened(heap, given.0, state) {
+        Some(mut repo) => is_right(heap, &mut repo, given, nth),
+        None => Some(false),
     }
-    Some(!is_waiting && is_memory(refused) && text.as_slice() == before)
 }
 
 /// Refuses each growth in turn, until an import is done; answers how many were refused, or none where an answer was wrong.
@@ -49,13 +61,27 @@ fn refused_growths<B: Allocator>(
     state: RandomState,
 ) -> Option<u64> {
     for nth in 1..2000u64 {
-        match is_right(heap, given, nth, state) {
+        match is_right_behind(heap, given, nth, state) {
             None => return Some(nth - 1),
             Some(true) => {}
             Some(false) => return None,
         }
     }
     None
+}
+
+/// The text of a store with a stream imported; none where that is refused.
+fn text_behind<A: Allocator + Copy>(
+    alloc: A,
+    before: &[u8],
+    stream: &[u8],
+    state: RandomState,
+) -> Option<Vec<u8, A>> {
+    let mut repo = opened(alloc, before, state)?;
+    match refusal_of(alloc, &mut repo, stream) {
+        None => Some(text_of(alloc, &repo)),
+        Some(_) => None,
+    }
 }
 
 /// How many growths of an import behind the first commit are refused; none where an answer was wrong.
@@ -65,11 +91,7 @@ fn refused_behind_first<B: Allocator + Copy>(
     state: RandomState,
 ) -> Option<u64> {
     let before = stored(alloc, Sha1Namer, FIRST, state);
-    let mut repo = opened(alloc, &before, state)?;
-    if refusal_of(alloc, &mut repo, stream).is_some() {
-        return None;
-    }
-    let after = text_of(alloc, &repo);
+    let after = text_behind(alloc, &before, stream, state)?;
     let heap = Refusing::new(alloc, 0);
     refused_growths(&heap, (&before, stream, &after), state)
 }

@@ -3,4 +3,22 @@
 #![tactic(auto)]
 
 #[cfg(test)]
-mod trees;
+mod edits;
+#[cfg(test)]
+mod large;
+#[cfg(test)]
+mod long;
+#[cfg(test)]
+mod moves;
+#[cfg(test)]
+mod names;
+#[cfg(test)]
+mod places;
+#[cfg(test)]
+mod refused;
+#[cfg(test)]
+mod sessions;
+#[cfg(test)]
+mod shown;
+#[cfg(test)]
+mod written;

@@ -1,5 +1,12 @@
-use super::written::{HELLO, NEW_FILE, VERSION_1, VERSION_2};
-use super::*;
+//! Many files, edited as a plain list of them is.
+
+use crate::edits::{Edit, answer_to, put};
+use crate::names::{HELLO, NEW_FILE, VERSION_1, VERSION_2};
+use gx_object::{Mode, Name, Sha1Namer};
+use gx_store::Store;
+use gx_text::TreePath;
+use gx_tree::PathTree;
+use std::alloc::{AllocError, Allocator};
 use std::hash::RandomState;
 use std::test::Fail;
 
@@ -178,10 +185,10 @@ fn step_in_tree<A: Allocator + Copy>(
     name: Name,
 ) -> bool {
     match step {
-        Step::Modify(mode) => put(alloc, tree, first, mode, name),
-        Step::Remove => removes(alloc, tree, first),
-        Step::Copy => edited(alloc, tree, Edit::Copy, first, second) == Some(Ok(())),
-        Step::Rename => edited(alloc, tree, Edit::Rename, first, second) == Some(Ok(())),
+        Step::Modify(mode) => put(alloc, tree, first, mode, name).is_ok(),
+        Step::Remove => answer_to(alloc, tree, Edit::Remove(first)).is_ok(),
+        Step::Copy => answer_to(alloc, tree, Edit::Copy(first, second)).is_ok(),
+        Step::Rename => answer_to(alloc, tree, Edit::Rename(first, second)).is_ok(),
     }
 }
 

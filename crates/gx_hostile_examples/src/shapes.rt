@@ -124,7 +124,7 @@ fn are_opened<A: Allocator + Copy>(alloc: A, state: RandomState) -> Option<bool>
     let text = doubled_text(alloc, state)?;
     let repo = opened(alloc, &text, state)?;
     let path = path_of(alloc, 40, b'f').ok()?;
-    let has_objects = text.starts_with(b"gxstore 1\nobjects 43\n");
+    let has_objects = text.starts_with(b"gxstore 2\nobjects 43\n");
     let has_modes = modes_of_main(alloc, &repo) == Some((Mode::Dir, Mode::Dir));
     let is_shown = shows(alloc, &repo, b"main", &path, b"hello\n");
     Some(has_objects && has_modes && is_shown && text_of(alloc, &repo) == text)

@@ -6,7 +6,7 @@ use gx_object::{Mode, Name, Sha1Namer};
 use gx_store::Store;
 use gx_text::TreePath;
 use gx_tree::PathTree;
-use std::alloc::{AllocError, Allocator};
+use std::alloc::{AllocError, Allocator, Global};
 use std::hash::RandomState;
 use std::test::Fail;
 
@@ -342,13 +342,27 @@ const FILLED: [u8; 40] = *b"ee8b8301830e939aa592b99825253aef6910c1ac";
 
 const EDITED: [u8; 40] = *b"208624144a2dc19234269d5b31848457af6c4f25";
 
+/// Whether both have so many files, and the tree is written under the name with these digits and loaded again.
+fn are_written(both: &mut Both<Global>, files: usize, digits: [u8; 40]) -> bool {
+    both.written() == Some((files, digits, true))
+}
+
+/// Fills both, and does the steps.
+fn edit_many(both: &mut Both<Global>) -> Result<(), Fail> {
+    if !both.fill_all() || !are_written(both, 2000, FILLED) {
+        return Err(Fail::new(format_args!("filled")));
+    }
+    if let Some(step) = both.first_unlike() {
+        return Err(Fail::new(format_args!("after {step:?}")));
+    }
+    if !are_written(both, 3768, EDITED) {
+        return Err(Fail::new(format_args!("edited")));
+    }
+    Ok(())
+}
+
 #[test]
 fn many_files_are_edited_as_a_plain_list_is(rt: HostRuntime) -> Result<(), Fail> {
     let mut both = Both::new(rt.alloc(), RandomState::new(&rt)?);
-    assert!(rt; both.fill_all());
-    assert_eq!(rt; both.written(), Some((2000, FILLED, true)));
-    let unlike = both.first_unlike();
-    assert!(rt; unlike.is_none(), "after {unlike:?}");
-    assert_eq!(rt; both.written(), Some((3768, EDITED, true)));
-    Ok(())
+    edit_many(&mut both)
 }

@@ -25,7 +25,11 @@ enum Cause {
 fn fault_of(cause: Cause) -> CliFault {
     match cause {
         Cause::Blobs(kind) => CliFault::Blobs(BlobsFault { command: 1, kind }),
-        Cause::Import(kind) => CliFault::Import(ImportFault { command: 20, kind }),
+        Cause::Import(kind) => CliFault::Import(ImportFault {
+            command: 20,
+            kind,
+            checkpoints: 0,
+        }),
         Cause::Revision(kind) => CliFault::Revision { number: 3, kind },
         Cause::Store(fault) => CliFault::Store(fault),
         Cause::Other(fault) => fault,
@@ -255,6 +259,7 @@ const LINES: &[(Cause, &str)] = &[
         Cause::Other(CliFault::Import(ImportFault {
             command: 18446744073709551615,
             kind: ImportKind::BadLine,
+            checkpoints: 0,
         })),
         "gx: command 18446744073709551615: BadLine",
     ),

@@ -47,6 +47,7 @@ fn refusal_at(command: Command<'_>, room: usize) -> (CliFault, &'static str) {
             CliFault::Import(ImportFault {
                 command: 1,
                 kind: ImportKind::WriteFailed,
+                checkpoints: 0,
             }),
             "gx: command 1: WriteFailed",
         ),

@@ -265,6 +265,7 @@ fn refused_import_has_its_fault(rt: HostRuntime) -> Result<(), Fail> {
     let fault = ImportFault {
         command: 2,
         kind: ImportKind::UnknownCommand,
+        checkpoints: 0,
     };
     let refusal = refusal_of(rt.alloc(), b"progress x\nfoo\n", b"progress x\n", state)?;
     assert!(rt; refusal == Some(CliFault::Import(fault)));

@@ -22,6 +22,8 @@ pub(crate) enum Command<'a> {
     Import(&'a [u8]),
     /// The stream lacks its last line, `done`.
     ImportUnfinished(&'a [u8]),
+    /// The stream has a checkpoint, up to which it is kept where it is refused.
+    ImportKept(&'a [u8]),
     Export,
     Show(&'a str),
     /// Whether all files are listed, and a revision.
@@ -59,7 +61,9 @@ pub(crate) fn line_of<'a>(alloc: Global, command: Command<'a>) -> Result<Line<'a
         Command::Blobs(_) => Line::Blobs,
         Command::Try(_, revision) | Command::TryFailing(_, revision) => Line::Try(revision),
         Command::Init => Line::Init { file },
-        Command::Import(_) | Command::ImportUnfinished(_) => Line::Import { file },
+        Command::Import(_) | Command::ImportUnfinished(_) | Command::ImportKept(_) => {
+            Line::Import { file }
+        }
         Command::Export => Line::Export { file },
         Command::Show(revision) => Line::Show { file, revision },
         Command::Ls(recursive, revision) => Line::Ls {
@@ -83,7 +87,9 @@ pub(crate) fn line_of<'a>(alloc: Global, command: Command<'a>) -> Result<Line<'a
 /// What a command reads: a stream that is tried in small pieces.
 pub(crate) fn source_of(command: Command<'_>) -> Bytes<'_> {
     let (stream, piece, fails): (&[u8], usize, bool) = match command {
-        Command::Blobs(stream) | Command::Import(stream) => (stream, 4096, false),
+        Command::Blobs(stream) | Command::Import(stream) | Command::ImportKept(stream) => {
+            (stream, 4096, false)
+        }
         Command::ImportUnfinished(stream) => {
             (stream.strip_suffix(b"done\n").unwrap_or(b""), 4096, false)
         }
@@ -119,6 +125,15 @@ pub(crate) fn has_line(
     }
 }
 
+/// Whether a command makes a store's next text.
+fn makes_text(command: Command<'_>, is_accepted: bool) -> bool {
+    match command {
+        Command::Init | Command::Import(_) | Command::ImportUnfinished(_) => is_accepted,
+        Command::ImportKept(_) => true,
+        _ => false,
+    }
+}
+
 /// Whether a command ends with this line and its status, and makes a store text just where it has to.
 fn ends_so(
     alloc: Global,
@@ -127,12 +142,8 @@ fn ends_so(
     line: &str,
 ) -> Result<bool, AllocError> {
     let is_accepted = line.is_empty();
-    let is_making = matches!(
-        command,
-        Command::Init | Command::Import(_) | Command::ImportUnfinished(_)
-    );
     let has_status = outcome.status == if is_accepted { 0 } else { 1 };
-    let has_store = outcome.store.is_some() == (is_accepted && is_making);
+    let has_store = outcome.store.is_some() == makes_text(command, is_accepted);
     Ok(has_status && has_store && has_line(alloc, outcome.fault, line)?)
 }
 

@@ -1,5 +1,6 @@
 //! Commands on the text of a store. The names are those that git gives these objects.
 
+mod checkpoints;
 mod listed;
 mod rows;
 
@@ -17,6 +18,10 @@ const ACCEPTED: &[Session<'static>] = &[
     ("accepted imports give a store text", rows::IMPORTS),
     ("trees are listed by entries or by files", listed::TREES),
     ("commits are listed by options and ranges", listed::LOGS),
+    (
+        "a checkpoint publishes, and is kept where what follows is refused",
+        checkpoints::SESSIONS,
+    ),
 ];
 
 #[test]

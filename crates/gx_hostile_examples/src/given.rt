@@ -57,7 +57,11 @@ pub(crate) fn refusal_of<N: Namer, A: Allocator + Copy>(
 }
 
 pub(crate) fn fault(command: u64, kind: ImportKind) -> ImportFault {
-    ImportFault { command, kind }
+    ImportFault {
+        command,
+        kind,
+        checkpoints: 0,
+    }
 }
 
 /// The store text of a repository; an empty one where there is no memory.

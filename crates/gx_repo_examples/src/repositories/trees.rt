@@ -1,6 +1,18 @@
+//! Trees that remember the names of their directories.
+
 ghost use Rattle.gx_model.specs.Sound.{IsNamedMap};
 
-use super::*;
+use super::calls::{Answer, Call, add_file, add_tree, added, is_held};
+use super::names::{BOTH, WHOLE};
+use super::sessions::{Outcome, Step, are_done, judge};
+use gx_object::{Kind, Mode, Namer, Sha1Namer};
+use gx_refusing::Refusing;
+use gx_repo::Repo;
+use gx_text::TreePath;
+use gx_tree::PathTree;
+use std::alloc::Allocator;
+use std::hash::RandomState;
+use std::test::Fail;
 
 /// Adds a blob to two repositories, and puts it at a path of a tree whose files are held in both.
 fn add_file_to_both<N: Namer, A: Allocator + Copy>(
@@ -32,126 +44,124 @@ fn add_file_to_both<N: Namer, A: Allocator + Copy>(
     answer
 }
 
+/// Whether a tree of two files, in three directories, is added whole to each of two repositories that hold its blobs.
+fn is_added_whole<N: Namer, A: Allocator + Copy>(
+    first: &mut Repo<N, A>,
+    second: &mut Repo<N, A>,
+    tree: &mut PathTree<A>,
+) -> bool
+    requires first { IsNamedMap first.now.1.records tree.now.files }
+    requires second { IsNamedMap second.now.1.records tree.now.files }
+{
+    let root = first.add_tree(tree);
+    let are_apart = first.store().len() == 5 && second.store().len() == 2;
+    let other = second.add_tree(tree);
+    are_apart && second.store().len() == 5 && root == Ok(BOTH) && other == root
+}
+
+/// Whether the tree is made of two files in the repositories, and added whole to both.
+fn is_made_whole<N: Namer, A: Allocator + Copy>(
+    alloc: A,
+    first: &mut Repo<N, A>,
+    second: &mut Repo<N, A>,
+    tree: &mut PathTree<A>,
+) -> bool
+    requires first { IsNamedMap first.now.1.records tree.now.files }
+    requires second { IsNamedMap second.now.1.records tree.now.files }
+{
+    add_file_to_both(
+        alloc,
+        first,
+        second,
+        tree,
+        b"bak/old/test.txt",
+        b"version 1\n",
+    ) && add_file_to_both(alloc, first, second, tree, b"test.txt", b"version 2\n")
+        && is_added_whole(first, second, tree)
+}
+
 /// A tree remembers what another repository holds, and is added to one that holds none of its directories.
 #[test]
 fn tree_of_another_repository_is_added_whole(rt: HostRuntime) -> Result<(), Fail> {
     let state = RandomState::new(&rt)?;
-    let alloc = rt.alloc();
-    let mut first = Repo::new(alloc, Sha1Namer, state);
-    let mut second = Repo::new(alloc, Sha1Namer, state);
-    let mut tree = PathTree::empty(alloc);
-    let bak: &[u8] = b"bak/old/test.txt";
-    let is_added = add_file_to_both(
-        alloc,
-        &mut first,
-        &mut second,
-        &mut tree,
-        bak,
-        b"version 1\n",
-    );
-    assert!(rt; is_added);
-    let file: &[u8] = b"test.txt";
-    let is_added = add_file_to_both(
-        alloc,
-        &mut first,
-        &mut second,
-        &mut tree,
-        file,
-        b"version 2\n",
-    );
-    assert!(rt; is_added);
-    let root = first.add_tree(&mut tree);
-    assert_eq!(rt; first.store().len(), 5);
-    assert_eq!(rt; second.store().len(), 2);
-    let other = second.add_tree(&mut tree);
-    assert_eq!(rt; second.store().len(), 5);
-    assert!(rt; root.is_ok());
-    assert_eq!(rt; other, root);
+    let mut first = Repo::new(rt.alloc(), Sha1Namer, state);
+    let mut second = Repo::new(rt.alloc(), Sha1Namer, state);
+    let mut tree = PathTree::empty(rt.alloc());
+    assert!(rt; is_made_whole(rt.alloc(), &mut first, &mut second, &mut tree));
     Ok(())
 }
 
-/// A tree that remembers the names of its directories is changed and added, where the growth with this number is
-/// refused. Then it is added once more, with no growth refused and no name trusted. The heap is given once more as the
-/// allocator.
+/// What comes of a tree at home, of which a file is changed, where the growth with this number is refused as it is added.
+/// Then it is added once more, with no growth refused and no name trusted. The heap is given once more as the allocator.
 fn tried_tree<B: Allocator, C: Allocator + Copy>(
     heap: &Refusing<B>,
     own: C,
-    n: u64,
-    state: RandomState,
-) -> Option<(Trial, Name)> {
-    let mut repo = Repo::new(own, Sha1Namer, state);
-    let mut tree = PathTree::empty(own);
-    if !add_file(
-        own,
-        &mut repo,
-        &mut tree,
-        b"bak/old/test.txt",
-        b"version 1\n",
-    ) {
-        return None;
+    repo: &mut Repo<Sha1Namer, C>,
+    tree: &mut PathTree<C>,
+    growth: u64,
+) -> Outcome
+    requires named { IsNamedMap repo.now.1.records tree.now.files }
+{
+    if !add_file(own, repo, tree, b"bak/old/test.txt", b"version 1\n") {
+        return Outcome::Wrong;
     }
-    if !add_file(own, &mut repo, &mut tree, b"src/test.txt", b"version 1\n") {
-        return None;
+    if !add_file(own, repo, tree, b"src/test.txt", b"version 1\n") {
+        return Outcome::Wrong;
     }
-    let Ok(_) = repo.add_tree(&mut tree) else {
-        return None;
+    let Ok(_) = add_tree(repo, tree) else {
+        return Outcome::Wrong;
     };
-    if !add_file(
-        own,
-        &mut repo,
-        &mut tree,
-        b"bak/old/test.txt",
-        b"version 2\n",
-    ) {
-        return None;
+    if !add_file(own, repo, tree, b"bak/old/test.txt", b"version 2\n") {
+        return Outcome::Wrong;
     }
-    let objects = repo.store().len();
-    heap.arm(n);
-    let answer = answer_of(repo.add_tree_shared(&mut tree));
-    let is_waiting = heap.is_waiting();
+    heap.arm(growth);
+    let answer = added(repo.add_tree_shared(tree));
+    let is_refused = !heap.is_waiting();
     heap.arm(0);
-    let is_same = repo.store().len() == objects && has_refs(&repo, &[]);
-    let root = repo.add_tree(&mut tree).ok()?;
-    let trial = Trial {
-        answer,
-        is_same,
-        is_waiting,
-    };
-    Some((trial, root))
+    let is_same = are_done(own, repo, tree, CHANGED);
+    if !are_done(own, repo, tree, ADDED) {
+        return Outcome::Wrong;
+    }
+    judge(answer, Answer::Named(WHOLE), is_refused, is_same)
 }
 
+/// Two blobs are held, and three trees, of which one is that of two directories.
+const CHANGED: &[Step] = &[
+    (Call::Objects, Answer::Counted(5)),
+    (Call::Refs(&[]), Answer::Yes),
+];
+
+const ADDED: &[Step] = &[(Call::Tree, Answer::Named(WHOLE))];
+
+/// Does that with an empty repository.
+fn tried_anew<B: Allocator, C: Allocator + Copy>(
+    heap: &Refusing<B>,
+    own: C,
+    state: RandomState,
+    growth: u64,
+) -> Outcome {
+    let mut repo = Repo::new(own, Sha1Namer, state);
+    let mut tree = PathTree::empty(own);
+    tried_tree(heap, own, &mut repo, &mut tree, growth)
+}
+
+/// How many growths are refused, one after the other, until the tree is added; none where something else came.
+fn refused_growths<A: Allocator + Copy>(alloc: A, state: RandomState) -> Option<u64> {
+    for growth in 1..100u64 {
+        let heap = Refusing::new(alloc, 0);
+        match tried_anew(&heap, &heap, state, growth) {
+            Outcome::Done => return Some(growth - 1),
+            Outcome::Refused => {}
+            Outcome::Wrong => return None,
+        }
+    }
+    None
+}
+
+/// Three directories are changed, each with a body, a record and an entry made anew.
 #[test]
 fn refused_growth_adds_no_shared_tree(rt: HostRuntime) -> Result<(), Fail> {
     let state = RandomState::new(&rt)?;
-    let alloc = rt.alloc();
-    let mut repo = Repo::new(alloc, Sha1Namer, state);
-    let mut tree = PathTree::empty(alloc);
-    assert!(rt; add_file(alloc, &mut repo, &mut tree, b"src/test.txt", b"version 1\n"));
-    assert!(rt;
-        add_file(
-            alloc,
-            &mut repo,
-            &mut tree,
-            b"bak/old/test.txt",
-            b"version 2\n"
-        )
-    );
-    let whole = repo.add_tree(&mut tree).map_err(|_| "growth")?;
-    let mut refused = 0u64;
-    for n in 1..100 {
-        let heap = Refusing::new(alloc, 0);
-        let (trial, root) = tried_tree(&heap, &heap, n, state).ok_or("set-up")?;
-        assert_eq!(rt; root, whole);
-        if trial.is_waiting {
-            assert_eq!(rt; trial.answer, Answer::Done);
-            assert!(rt; !trial.is_same);
-            break;
-        }
-        assert_eq!(rt; trial.answer, Answer::OutOfMemory);
-        assert!(rt; trial.is_same);
-        refused = n;
-    }
-    // three directories are changed, each with a body, a record and an entry made anew
-    assert!(rt; refused > 6 && refused < 99);
+    assert!(rt; refused_growths(rt.alloc(), state).unwrap_or(0) > 6);
     Ok(())
 }

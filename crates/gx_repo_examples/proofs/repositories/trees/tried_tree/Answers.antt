@@ -3,15 +3,10 @@ use Rattle.gx_model.specs.Sound.{IsNamedMap}
 use Rattle.gx_model.proofs.NamedMaps.{named_kept}
 use Rattle.gx_repo_examples.proofs.repositories.trees.tried_tree.Goals as goal
 
-pub add_file-requires-3 : goal.add_file-requires-3
-add_file-requires-3 g c =
-    let new = c.add_tree.new.self.1.records in
-    record { named = subst (IsNamedMap new) (sym c.add_tree.ensures.map) (named_kept _ new c.add_tree.ensures.keeps c.add_file-2.new.tree.files c.add_file-2.ensures.named) }
-
-pub add_tree-requires-2 : goal.add_tree-requires-2
-add_tree-requires-2 g c =
-    let new = c.add_tree_shared.new.self.1.records in
-    record { named = subst (IsNamedMap new) (sym c.add_tree_shared.ensures.map) (named_kept _ new c.add_tree_shared.ensures.keeps c.add_file-3.new.tree.files c.add_file-3.ensures.named) }
-
 pub add_tree_shared-requires-clause-home : goal.add_tree_shared-requires-clause-home
 add_tree_shared-requires-clause-home g c = c.add_file-3.ensures.home c.in-Ok.ensures.home
+
+pub are_done-is_same-requires : goal.are_done-is_same-requires
+are_done-is_same-requires g c =
+    let new = c.add_tree_shared.new.self.1.records in
+    record { named = subst (IsNamedMap new) (sym c.add_tree_shared.ensures.map) (named_kept _ new c.add_tree_shared.ensures.keeps c.add_file-3.new.tree.files c.add_file-3.ensures.named) }

@@ -13,7 +13,7 @@ use Rattle.gx_tree.specs.Named.{NamedTree, IsAtHome}
 use Rattle.gx_model.proofs.NamedMaps.{named_after, named_kept}
 use Rattle.gx_model.proofs.Puts.{front_put}
 use Rattle.gx_repo.specs.Additions.{Adds}
-use Rattle.gx_repo_examples.proofs.repositories.add_file.Goals as goal
+use Rattle.gx_repo_examples.proofs.repositories.calls.add_file.Goals as goal
 
 -- more records keep a tree at home
 abbrev KeepHome : Type 0

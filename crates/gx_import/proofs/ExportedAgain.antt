@@ -150,14 +150,14 @@ module _ (name : Kind → Bytes → Bytes) where
               let other : refused fault.command (fault_of fault.kind) r.0 r.1 ≡ finished q.0 [] (exported_report (history_of exported) q.0) = sym r.2 ∙ ends in
               absurd (cc other)
           | inr k ↦
-            let none = none_counted old new (commands_from coming).list fault (none_asked exported sound links coming gives) k.3 in
-            elim k.2 as (λ _. ExportedOr exported last (Err fault)) [
-            | inl m ↦ (inl m.0, none)
-            | inr l ↦ elim l as (λ _. ExportedOr exported last (Err fault)) [
-              | inl m ↦
-                  absurd (none_clashes name 0 (start (history_of old)) (commands_from coming).list (commands_from coming).fault q.0 [] (exported_report (history_of exported) q.0)
-                  (ap (λ r. replayed_commands name revision_of (history_of r) (commands_from coming)) empty ∙ q.2) (names_apart exported sound q.0 q.1) fault.command m.1)
-              | inr m ↦ (inr m.0, none)
-            ]
-          ]
+              let none = none_counted old new (commands_from coming).list fault (none_asked exported sound links coming gives) k.3 in
+              elim k.2 as (λ _. ExportedOr exported last (Err fault)) [
+                | inl m ↦ (inl m.0, none)
+                | inr l ↦ elim l as (λ _. ExportedOr exported last (Err fault)) [
+                  | inl m ↦
+                      absurd (none_clashes name 0 (start (history_of old)) (commands_from coming).list (commands_from coming).fault q.0 [] (exported_report (history_of exported) q.0)
+                      (ap (λ r. replayed_commands name revision_of (history_of r) (commands_from coming)) empty ∙ q.2) (names_apart exported sound q.0 q.1) fault.command m.1)
+                  | inr m ↦ (inr m.0, none)
+                ]
+              ]
         ]

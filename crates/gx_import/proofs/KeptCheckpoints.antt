@@ -1,26 +1,23 @@
 -- What a checkpoint keeps, what the commands after it leave of that, and the records and refs that a refusal goes back to.
-use Rattle.std.proofs.Common.{◌≡◌, ◌⊎◌, ℕ, zero, suc, ◌+◌, ◌≤◌, Bool, true, false, cond, List, [], ◌∷◌, ◌++◌, length, take, Option, Result, Ok, Err, refl, sym, ap, subst, ◌∙◌, inl, inr, arith}
-use Rattle.std.specs.Prelude.{IfOk, OnErr, OnOk, T}
+use Rattle.std.proofs.Common.{◌≡◌, ℕ, zero, suc, ◌+◌, ◌≤◌, Bool, true, false, cond, List, [], ◌∷◌, ◌++◌, length, take, Option, Result, Ok, Err, refl, sym, ap, subst, ◌∙◌, inl, inr, arith}
+use Rattle.std.specs.Prelude.{IfOk, OnErr, OnOk}
 use Rattle.std.specs.List.{AllByRecursion}
 use Rattle.std.proofs.Math.Seq.{take-length}
 use Rattle.std.proofs.lemmas.List.{append-nil, take-append-le}
 use Rattle.gx_model.specs.declared.objects.Kind.{Kind}
-use Rattle.gx_model.specs.declared.faults.Fault.{Fault}
 use Rattle.gx_model.specs.declared.faults.Fault.TheVariants as fault
 use Rattle.gx_model.specs.Texts.{Bytes}
 use Rattle.gx_model.specs.Commands.{Checkpoint, Command}
 use Rattle.gx_model.specs.Histories.{Record, Records}
 use Rattle.gx_model.specs.HistoryOf.{history_of}
-use Rattle.gx_model.specs.Revisions.{revision_of}
-use Rattle.gx_model.specs.Replay.{State, checkpointed, final, is_fast_forward, start, step, step_checkpoint}
+use Rattle.gx_model.specs.Replay.{State, checkpointed, final, is_fast_forward, start, step_checkpoint}
 use Rattle.gx_model.specs.Sound.{IsTarget}
 use Rattle.gx_text.specs.Devices.{Taken}
 use Rattle.gx_import.specs.Applying.{Applies}
-use Rattle.gx_import.specs.Imports.{Leaves}
 use Rattle.gx_import.specs.Keeping.{AreNames, AreNone, AreStill, EntersAll, IsLeft, IsNext, Keeps, KeepsAfter, KeepsInEach, Moves, left_of}
 use Rattle.gx_import.specs.Publishing.{Publishes}
 use Rattle.gx_import.specs.Rows.{rows_of}
-use Rattle.gx_import.specs.Standing.{Extends, Follows, Stands}
+use Rattle.gx_import.specs.Standing.{Extends, Stands}
 use Rattle.gx_import.specs.declared.checkpoints.Checkpoints.{Checkpoints}
 use Rattle.gx_import.specs.declared.fault.ImportKind.{ImportKind}
 use Rattle.gx_import.specs.declared.fault.ImportKind.TheVariants.{OutOfMemory, ReadFailed, WriteFailed, UnknownCommand, BadLine, BadNumber, TruncatedData, BadPath, PathTooLong, BadMode, BadIdent, BadRefName, UnknownMark, WrongKind, UnknownObject, NoSuchPath, RootNotTree, FromItself, EmptyBranch, Unsupported, LateOption, MissingDone, NotFastForward, NameHeld, BadRevision, UnknownRef, Ambiguous, NoParent}

@@ -13,7 +13,7 @@ use Rattle.gx_model.specs.Items.{items_of}
 use Rattle.gx_model.specs.Revisions.{revision_of}
 use Rattle.gx_model.specs.Replay.{Kept, Outcome, State, refused, replayed, step}
 use Rattle.gx_model.specs.Export.{export_items, export_text, inner_commands, reached_commits}
-use Rattle.gx_model.specs.ExportLaws.{IsReadable, IsSpelled, between}
+use Rattle.gx_model.specs.ExportLaws.{IsReadable, IsSpelled}
 use Rattle.gx_model.proofs.CommandItems.{commands_read}
 use Rattle.gx_model.proofs.ItemTexts.{items_read}
 use Rattle.gx_model.proofs.SpelledExports.{export_spelled}

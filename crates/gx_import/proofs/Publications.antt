@@ -1,8 +1,7 @@
 -- The end of an import: what is published after the last command, how many objects were added, and the records that stay after a fault.
-use Rattle.std.proofs.Common.{◌≡◌, ℕ, ◌+◌, ◌-◌, ◌≤◌, true, false, cond, List, [], length, take, Option, Some, None, Ok, Err, refl, sym, ap, subst, ◌∙◌, inl, inr, arith}
-use Rattle.std.specs.List.{AllByRecursion}
+use Rattle.std.proofs.Common.{◌≡◌, ℕ, ◌+◌, ◌-◌, ◌≤◌, true, false, cond, List, [], length, take, Option, Some, None, Ok, Err, refl, sym, ap, subst, ◌∙◌, inl, inr}
 use Rattle.std.proofs.Math.Seq.{take-append_seam}
-use Rattle.std.proofs.lemmas.List.{append-nil, length-append, length-map}
+use Rattle.std.proofs.lemmas.List.{append-nil, length-map}
 use Rattle.gx_model.specs.declared.objects.Kind.{Kind}
 use Rattle.gx_model.specs.declared.faults.Fault.TheVariants as fault
 use Rattle.gx_model.specs.Texts.{Bytes}
@@ -13,7 +12,7 @@ use Rattle.gx_model.specs.RepositoryLaws.{HistoriesOf}
 use Rattle.gx_model.specs.Revisions.{revision_of}
 use Rattle.gx_model.specs.Replay as model
 use Rattle.gx_model.specs.Replay.{Outcome, State, final, finished, imported, is_fast_forward, overwritten, refused, replayed_commands, report}
-use Rattle.gx_model.specs.Sound.{IsSound, IsTarget}
+use Rattle.gx_model.specs.Sound.{IsSound}
 use Rattle.gx_text.specs.Devices.{Coming, Taken}
 use Rattle.gx_stream.specs.Heard.{heard}
 use Rattle.gx_command.specs.Reading.{commands_from}
@@ -21,7 +20,6 @@ use Rattle.gx_import.specs.Imports.{Imports, Leaves, Replays, StandsForIts, Stan
 use Rattle.gx_import.specs.Publishing.{Publishes}
 use Rattle.gx_import.specs.Replaying.{EndsAs, IsLast}
 use Rattle.gx_import.specs.Standing.{Extends}
-use Rattle.gx_import.specs.declared.fault.ImportFault.{ImportFault}
 use Rattle.gx_import.specs.declared.report.Report.{Report}
 use Rattle.gx_import.specs.declared.fault.ImportKind.{ImportKind}
 use Rattle.gx_import.specs.declared.fault.ImportKind.TheVariants.{OutOfMemory, ReadFailed, WriteFailed, UnknownCommand, BadLine, BadNumber, TruncatedData, BadPath, PathTooLong, BadMode, BadIdent, BadRefName, UnknownMark, WrongKind, UnknownObject, NoSuchPath, RootNotTree, FromItself, EmptyBranch, Unsupported, LateOption, MissingDone, NotFastForward, NameHeld, BadRevision, UnknownRef, Ambiguous, NoParent}

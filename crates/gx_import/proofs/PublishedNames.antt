@@ -1,5 +1,5 @@
 -- The names that were published: those of more refs are entered, and there are as many as the refs that a state published.
-use Rattle.std.proofs.Common.{◌≡◌, ℕ, suc, Bool, true, false, cond, List, [], ◌∷◌, length, map, Option, Some, None, refl, sym, ap, subst, ◌∙◌}
+use Rattle.std.proofs.Common.{◌≡◌, suc, Bool, true, false, cond, List, [], ◌∷◌, length, map, Option, Some, None, refl, sym, ap, subst, ◌∙◌}
 use Rattle.std.specs.Prelude.{IsTrue, T, is_some, not}
 use Rattle.std.specs.Bool.{passes}
 use Rattle.std.specs.Map.{lookup}
@@ -14,16 +14,14 @@ use Rattle.gx_model.specs.declared.objects.Kind.{Kind}
 use Rattle.gx_model.specs.Texts.{Bytes, same_bytes}
 use Rattle.gx_model.specs.Histories.{Records, value_at}
 use Rattle.gx_model.specs.Records.{name_of}
-use Rattle.gx_model.specs.Publishing.{Change, Ref, with_changes}
-use Rattle.gx_model.specs.Replay.{State, byte_cmp, overwritten}
-use Rattle.gx_model.proofs.PathTests.{is_true}
+use Rattle.gx_model.specs.Publishing.{Change, with_changes}
+use Rattle.gx_model.specs.Replay.{byte_cmp, overwritten}
 use Rattle.gx_object.specs.declared.name.Name.{Name}
 use Rattle.gx_import.specs.Keeping.{AreNames, Enters, EntersAll}
 use Rattle.gx_import.specs.RefChanges.{changes_of}
-use Rattle.gx_import.specs.Standing.{Stands}
 use Rattle.gx_import.specs.declared.tables.Tables.{Tables}
 use Rattle.gx_import.proofs.RelatedRows.{related_put}
-use Rattle.gx_import.proofs.SetRefs.{Targets, changes_seen, overwritten_is, put_target, seen, seen_all, targets_of}
+use Rattle.gx_import.proofs.SetRefs.{changes_seen, overwritten_is, seen, seen_all, targets_of}
 use Rattle.gx_import.proofs.SortedRows.{order, same_text}
 
 tied : (q n : Bytes) → eq_by_cmp byte_cmp q n ≡ true → byte_cmp q n ≡ Equal

@@ -6,7 +6,8 @@ use Rattle.gx_model.specs.Histories.{Records}
 use Rattle.gx_model.specs.HistoryOf.{history_of}
 use Rattle.gx_model.specs.Replay.{overwritten}
 use Rattle.gx_import.specs.Keeping.{IsLeft, left_of}
-use Rattle.gx_import.specs.Rows.{rows_of}
+use Rattle.std.proofs.lemmas.List.{length-map}
+use Rattle.gx_import.specs.Rows.{row_of, rows_of}
 use Rattle.gx_import.specs.Standing.{Stands}
 use Rattle.gx_import.proofs.PublishedNames.{as_many}
 use Rattle.gx_import.proofs.Publications.{imports_all, imports_none}
@@ -29,9 +30,8 @@ returns-in-Err-clause-replayed g c =
 
 pub returns-in-Err-clause-left : goal.returns-in-Err-clause-left
 returns-in-Err-clause-left g c =
-    let left = c.replay.ensures.left in
-    let same = c.in-Err.ensures.unchanged in
-    subst (λ (r : g.row.N.Denot × Records). IsLeft c.args.repo.now.1 r.1 c.replay.new.checkpoints) (sym same) left
+    let left = subst (λ (r : g.row.N.Denot × Records). IsLeft c.args.repo.now.1 r.1 c.replay.new.checkpoints) (sym c.in-Err.ensures.unchanged) c.replay.ensures.left in
+    record { fits = left.fits; front = left.front; targets = left.targets; none = left.none }
 
 pub returns-in-Err-clause-gitlinks : goal.returns-in-Err-clause-gitlinks
 returns-in-Err-clause-gitlinks g c = λ none.
@@ -53,11 +53,11 @@ returns-clause-replayed g c =
     let sounds = subst (λ n. IsSound (g.N.Namer.name_of n) new) {y = c.args.repo.now.0} (c.publish.ensures.namer ∙ c.replay.ensures.namer) c.sound-2.ensures in
     let law = c.histories_of_records.ensures name (g.met.N.Namer.is_namer c.args.repo.now.0) in
     let held = c.len-held.ensures.count ∙ ap (λ z. length z.1) c.store.ensures in
-    let counts = c.len-refs.ensures ∙ sym (as_many (overwritten k.0 k.0.published) (rows_of c.publish.new.published) (c.in_default-publish.ensures.entered k.0 stands k.2.names)) in
+    let counts = c.len-2.ensures.len ∙ sym (length-map c.publish.new.published.rows.entries row_of) ∙ sym (as_many (overwritten k.0 k.0.published) (rows_of c.publish.new.published) (c.in_default.ensures.entered k.0 stands k.2.names)) in
     let len = c.len.ensures.count ∙ ap (λ z. length z.1) c.store-2.ensures in
-    let all = imports_all name old new c.replay.new.repo.1 coming c.in_ok-commands.commands k.0 was now k.3 law c.sound.ensures sounds c.len-refs.result (c.in_default-publish.ensures.published k.0 stands) counts in
+    let all = imports_all name old new c.replay.new.repo.1 coming c.in_ok-commands.commands k.0 was now k.3 law c.sound.ensures sounds c.len-2.result (c.in_default.ensures.published k.0 stands) counts in
     let objects : length new.records - length old.records ≡ c.len.result - c.len-held.result = ap (λ x. x - length old.records) (sym len) ∙ ap (λ x. c.len.result - x) (sym held) in
-    subst (λ x. Imports name old new coming was now (Ok (record { commands = c.in_ok-commands.commands; objects = x; refs = c.len-refs.result }))) objects all
+    subst (λ x. Imports name old new coming was now (Ok (record { commands = c.in_ok-commands.commands; objects = x; refs = c.len-2.result }))) objects all
 
 pub returns-clause-gitlinks : goal.returns-clause-gitlinks
 returns-clause-gitlinks g c = λ none.

@@ -1,4 +1,4 @@
-use Rattle.std.proofs.Common.{◌≡◌, map, sym, ap, subst, ◌∙◌}
+use Rattle.std.proofs.Common.{map, sym, ap, subst, ◌∙◌}
 use Rattle.gx_model.specs.Publishing.{changes_fault, with_changes}
 use Rattle.gx_repo.specs.Refs.{asked}
 use Rattle.gx_import.specs.Keeping.{Enters}

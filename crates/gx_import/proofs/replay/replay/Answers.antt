@@ -12,7 +12,6 @@ use Rattle.std.specs.Prelude.{IsTrue}
 use Rattle.std.specs.FinMap.Entries.{is_sorted}
 use Rattle.gx_import.specs.Keeping.{Keeps, left_of}
 use Rattle.gx_import.specs.Replaying.{EndsAs}
-use Rattle.gx_import.specs.Rows.{rows_of}
 use Rattle.gx_import.proofs.KeptCheckpoints.{counted_next, kept_start, left_next, left_start}
 use Rattle.gx_import.specs.Standing.{AreTipsAtHome, Stands}
 use Rattle.gx_import.proofs.ReachedStates.{IsAt, at_end, at_next, at_refused, at_start, at_stopped, extends_more, stand_empty, step_keeps}

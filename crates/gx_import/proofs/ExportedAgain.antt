@@ -5,7 +5,12 @@ use Rattle.std.specs.List.{AllByRecursion, filter, filter_map, flat_map}
 use Rattle.std.proofs.lemmas.Bool.{false≢true}
 use Rattle.std.proofs.lemmas.Bool.Decides.{nat_tests}
 use Rattle.gx_model.specs.declared.objects.Kind.{Kind}
+use Rattle.gx_model.specs.declared.faults.Fault.TheVariants as model_fault
 use Rattle.gx_model.specs.Texts.{Bytes}
+use Rattle.gx_model.specs.Commands.{Command}
+use Rattle.gx_model.specs.Grammar.{commands_of}
+use Rattle.gx_model.specs.Items.{items_of}
+use Rattle.gx_model.proofs.OneTree.{all_left}
 use Rattle.gx_model.specs.Values.{Commit, Value}
 use Rattle.gx_model.specs.Records.{name_of}
 use Rattle.gx_model.specs.Histories.{History, IsIn, Records, StandsFor, Target, record_of, value_at}
@@ -13,7 +18,7 @@ use Rattle.gx_model.specs.HistoryOf.{history_of}
 use Rattle.gx_model.specs.Sound.{AnyByRecursion, IsSound}
 use Rattle.gx_model.specs.Ranges.{commit_of}
 use Rattle.gx_model.specs.Revisions.{revision_of}
-use Rattle.gx_model.specs.Replay.{finished, refused, replayed_commands, replayed_text, start}
+use Rattle.gx_model.specs.Replay.{Kept, finished, refused, replayed_commands, replayed_text, start}
 use Rattle.gx_model.specs.Export.{command_items, export_text, inner_commands, is_reached, item_text, reached_commits}
 use Rattle.gx_model.specs.ExportLaws.{ExportIsImported, FormedIsReadable, HasNoNullGitlink, IsAgain, between, exported_report}
 use Rattle.gx_model.specs.RepositoryLaws.{HistoriesOf, NamesTell}
@@ -22,10 +27,12 @@ use Rattle.gx_stream.specs.Heard.{heard_upto}
 use Rattle.gx_command.specs.Reading.{commands_from}
 use Rattle.gx_import.specs.Exported.{ExportedOr, GivesExport, ImportsExport, IsExported, nothing}
 use Rattle.gx_import.specs.ImportKinds.{fault_of}
-use Rattle.gx_import.specs.Imports.{Imports, report_of}
+use Rattle.gx_import.specs.Imports.{Imports, LeavesBefore, report_of}
 use Rattle.gx_import.specs.declared.fault.ImportFault.{ImportFault}
 use Rattle.gx_import.specs.declared.report.Report.{Report}
 use Rattle.gx_import.proofs.NoClashes.{HaveNames, none_clashes}
+use Rattle.gx_import.proofs.OtherCommands.{AreOther, exports_are_other, kept_through}
+use Rattle.gx_import.proofs.ProgressTexts.{IsOther}
 use Rattle.gx_import.proofs.ReachedStates.{imported_is}
 
 -- ---- the text
@@ -118,6 +125,20 @@ module _ (name : Kind → Bytes → Bytes) where
         let same : history_of new ≡ q.0 = cc ends in
         stand_again exported new (histories.stands exported sound) (histories.stands new stands) (subst (IsAgain (history_of exported)) (sym same) q.1)
 
+    -- the commands of an export's text ask for no checkpoint
+    none_asked : (exported : Records) → IsSound name exported → HasNoNullGitlink (history_of exported) → (coming : Coming) → GivesExport exported coming → AreOther (commands_from coming).list
+    none_asked exported sound links coming gives =
+        let h = history_of exported in
+        let is = (histories.stands exported sound).history in
+        let room = heard_short (2 ^ 63 - 1) coming (export_text h) gives in
+        subst (λ c. AreOther (commands_of (items_of c.bytes c.fails)).list) (sym gives) (exports_are_other h is (readable h is links (omega (arith, room))))
+
+    -- and so a fault comes after none
+    none_counted : (old new : Records) (commands : List Command) (fault : ImportFault) → AreOther commands → LeavesBefore name old new commands fault → fault.checkpoints ≡ 0
+    none_counted old new commands fault other k =
+        let front = all_left IsOther k.0 k.1 (subst AreOther k.2 other) in
+        k.7.count ∙ ap (λ (z : Kept). z.checkpoints) (kept_through name 0 (start (history_of old)) k.0 model_fault.ReadFailed fault.command model_fault.ReadFailed k.4 k.5 front k.6)
+
     -- one that is refused, for want of memory or at the sink
     pub stopped : (old new last : Records) (coming : Option Coming) (was now : Option Taken) (fault : ImportFault) → Imports name old new coming was now (Err fault) → ImportsExport name old last coming (Err fault)
     stopped old new last None was now fault h = tt
@@ -126,15 +147,17 @@ module _ (name : Kind → Bytes → Bytes) where
         let ends = imported_is name (history_of old) coming ∙ ap (λ r. replayed_commands name revision_of (history_of r) (commands_from coming)) empty ∙ q.2 in
         elim h as (λ _. ExportedOr exported last (Err fault)) [
           | inl r ↦
-              let other : refused fault.command (fault_of fault.kind) r.0 ≡ finished q.0 [] (exported_report (history_of exported) q.0) = sym r.1 ∙ ends in
+              let other : refused fault.command (fault_of fault.kind) r.0 r.1 ≡ finished q.0 [] (exported_report (history_of exported) q.0) = sym r.2 ∙ ends in
               absurd (cc other)
-          | inr k ↦ elim k.2 as (λ _. ExportedOr exported last (Err fault)) [
-            | inl m ↦ inl m.0
-            | inr l ↦ elim l as (λ _. ExportedOr exported last (Err fault)) [
-              | inl m ↦
-                  absurd (none_clashes name 0 (start (history_of old)) (commands_from coming).list (commands_from coming).fault q.0 [] (exported_report (history_of exported) q.0)
-                  (ap (λ r. replayed_commands name revision_of (history_of r) (commands_from coming)) empty ∙ q.2) (names_apart exported sound q.0 q.1) fault.command m.1)
-              | inr m ↦ inr m.0
-            ]
-          ]
+          | inr k ↦
+              let none = none_counted old new (commands_from coming).list fault (none_asked exported sound links coming gives) k.3 in
+              elim k.2 as (λ _. ExportedOr exported last (Err fault)) [
+                | inl m ↦ (inl m.0, none)
+                | inr l ↦ elim l as (λ _. ExportedOr exported last (Err fault)) [
+                  | inl m ↦
+                      absurd (none_clashes name 0 (start (history_of old)) (commands_from coming).list (commands_from coming).fault q.0 [] (exported_report (history_of exported) q.0)
+                      (ap (λ r. replayed_commands name revision_of (history_of r) (commands_from coming)) empty ∙ q.2) (names_apart exported sound q.0 q.1) fault.command m.1)
+                  | inr m ↦ (inr m.0, none)
+                ]
+              ]
         ]

@@ -11,7 +11,7 @@ pub mod NamedEdits
 pub mod HeldBlobs
 pub mod KeptRefs
 pub mod SetRefs
-pub mod CountedRefs
+pub mod PublishedNames
 pub mod AddedAnswers
 pub mod Extensions
 pub mod Clashes
@@ -21,6 +21,7 @@ pub mod EditedFiles
 pub mod ChangesSoFar
 pub mod Marking
 pub mod ProgressTexts
+pub mod KeptCheckpoints
 pub mod Features
 pub mod AppliedCommands
 pub mod ReachedStates
@@ -37,6 +38,7 @@ pub mod MergedParents
 pub mod MadeCommits
 pub mod CommitRuns
 pub mod NoClashes
+pub mod OtherCommands
 pub mod ExportedAgain
 pub mod RefusedExports
 pub mod LoadFaults

@@ -23,6 +23,7 @@ use Rattle.gx_model.proofs.GrownTrees.{trees_fold}
 use Rattle.gx_model.proofs.PathTests.{same_is}
 use Rattle.gx_import.specs.Additions.{Clash, ClashesAt, added_by_commit, added_by_tag, blobs_added, tag_made, unless_refused, values_added}
 use Rattle.gx_import.proofs.AddedAnswers.{both_given}
+use Rattle.gx_import.proofs.KeptCheckpoints.{given_checkpoint}
 use Rattle.gx_import.proofs.GrownStates.{all_keep, changes_after}
 use Rattle.gx_import.proofs.MadeCommits.{adding_made, after_changes, after_first, after_others, made}
 use Rattle.gx_import.proofs.Standings.{one_has}
@@ -85,7 +86,7 @@ module _ (name : Kind → Bytes → Bytes) where
   step_adds s (Asks features.Force) t e = ap (λ z. z.history.values) (given_is _ t e)
   step_adds s (Asks features.Done) t e = ap (λ z. z.history.values) (given_is _ t e)
   step_adds s (Asks features.RawDates) t e = ap (λ z. z.history.values) (given_is _ t e)
-  step_adds s Checkpoint t e = ap (λ z. z.history.values) (given_is _ t e)
+  step_adds s Checkpoint t e = ap (λ z. z.history.values) (given_checkpoint s t e).1
   step_adds s (OptionLine x) t e = ap (λ z. z.history.values) (given_is _ t e)
   step_adds s Done t e = ap (λ z. z.history.values) (given_is _ t e)
 
@@ -130,14 +131,14 @@ module _ (name : Kind → Bytes → Bytes) where
   end_keeps : (n : ℕ) (s : State) (end : Option Fault) (k : History) (text : Bytes) (r : Report) → ended n s end ≡ finished k text r → k.values ≡ s.history.values
   end_keeps n s (Some f) k text r e = absurd (cc e)
   end_keeps n s None k text r e =
-      elim (is_fast_forward s) as (λ b. cond b (finished (final s) s.progress (report n s)) (refused (n + 1) NotFastForward s.progress) ≡ finished k text r → k.values ≡ s.history.values) [
+      elim (is_fast_forward s) as (λ b. cond b (finished (final s) s.progress (report n s)) (refused (n + 1) NotFastForward s.progress s.kept) ≡ finished k text r → k.values ≡ s.history.values) [
         | true ↦ λ h. let same : final s ≡ k = cc h in ap (λ z. z.values) (sym same)
         | false ↦ λ h. absurd (cc h)
       ] e
 
   -- what the next commands give
   abbrev Next : ℕ → State → List Command → Option Fault → Result State Fault → Outcome
-  Next n s cs end given = elim given [ Ok t ↦ replayed name revision_of (n + 1) t cs end | Err f ↦ refused (n + 1) f s.progress ]
+  Next n s cs end given = elim given [ Ok t ↦ replayed name revision_of (n + 1) t cs end | Err f ↦ refused (n + 1) f s.progress s.kept ]
 
   -- what stood in the history before some commands stands there after them
   pub values_stay : (n : ℕ) (s : State) (cs : List Command) (end : Option Fault) (k : History) (text : Bytes) (r : Report) → replayed name revision_of n s cs end ≡ finished k text r

@@ -6,6 +6,7 @@ use Rattle.std.specs.FinMap.Entries.{is_sorted}
 use Rattle.std.specs.Option.{option_map}
 use Rattle.gx_model.specs.declared.objects.Kind.{Kind}
 use Rattle.gx_model.specs.declared.faults.Fault.{Fault}
+use Rattle.gx_model.specs.declared.faults.Fault.TheVariants as fault
 use Rattle.gx_model.specs.Texts.{Bytes}
 use Rattle.gx_model.specs.Grammar.{stops, with_first}
 use Rattle.gx_model.specs.Gitlinks.{BringsNoNullGitlink, HoldsNoNullGitlink}
@@ -26,7 +27,7 @@ use Rattle.gx_command.specs.declared.fault.CommandFault.TheVariants as command_f
 use Rattle.gx_import.specs.Additions.{ClashesAt}
 use Rattle.gx_import.specs.Applying.{Applies}
 use Rattle.gx_import.specs.ImportKinds.{fault_of, of_command}
-use Rattle.gx_import.specs.Imports.{Imports, IsCutAt, Replays, last_number, line_of, only, progress_of, replayed_on}
+use Rattle.gx_import.specs.Imports.{Imports, IsCutAt, Leaves, LeavesBefore, Replays, cut_off, last_number, line_of, only, progress_of, replayed_on}
 use Rattle.gx_import.specs.Replaying.{EndsAs, IsLast}
 use Rattle.gx_import.specs.Objects.{IsOf, IsTagOf}
 use Rattle.gx_import.specs.Rows.{AreBoth, AreRows}
@@ -88,7 +89,7 @@ module _ (name : Kind → Bytes → Bytes) where
       → (t : State) (text : Bytes) → step name revision_of s c ≡ Ok t → t.progress ≡ s.progress ++ text → t.held ≡ s.held → Took mid now text → HasReached h (before ++ c ∷ []) (n + 1) t was now
   reached_next h before n s c was mid now k t text e p held took = record {
     outcome = λ left. ap (replayed_commands name revision_of h) (behind_next before c left) ∙ k.outcome (with_first c left)
-        ∙ ap (λ r. elim r as (λ _. Outcome) [ Ok u ↦ replayed name revision_of (n + 1) u left.list left.fault | Err f ↦ refused (n + 1) f s.progress ]) e;
+        ∙ ap (λ r. elim r as (λ _. Outcome) [ Ok u ↦ replayed name revision_of (n + 1) u left.list left.fault | Err f ↦ refused (n + 1) f s.progress s.kept ]) e;
     clashes = λ left number i.
         let next = subst (λ r. elim r as (λ _. Type 0) [ Ok u ↦ ClashesAt name (n + 1) u left number | Err f ↦ ⊥ ]) (sym e) i in
         subst (λ l. ClashesAt name 0 (start h) l number) (sym (append_assoc before (c ∷ []) left)) (k.clashes (c ∷ left) number (inr next));
@@ -97,15 +98,22 @@ module _ (name : Kind → Bytes → Bytes) where
     held = held ∙ k.held;
   }
 
+  -- where the stream is cut off behind these commands, what the state keeps is kept
+  cut_here : (old : Records) (before : List Command) (n : ℕ) (s : State) (was now : Option Taken) → HasReached (history_of old) before n s was now
+      → replayed_on name old (cut_off before) ≡ refused (n + 1) fault.ReadFailed s.progress s.kept
+  cut_here old before n s was now k = ap (λ l. replayed_on name old (cut_off l)) (sym (append-nil before)) ∙ k.outcome (stops (Some fault.ReadFailed))
+
   -- these commands alone end with the state
   reached_last : (old : Records) (before : List Command) (n : ℕ) (s : State) (was now : Option Taken) → HasReached (history_of old) before n s was now → IsLast name old (only before) n s was now
   reached_last old before n s was now k = record {
     outcome = ap (λ l. replayed_on name old (only l)) (sym (append-nil before)) ∙ k.outcome (only []);
+    cut = cut_here old before n s was now k;
+    count = k.count;
     progress = k.progress;
     held = k.held;
   }
 
-  module _ (old new : Records) (before : List Command) (n : ℕ) (s : State) (was mid : Option Taken) (k : HasReached (history_of old) before n s was mid) where
+  module _ (old new : Records) (before : List Command) (n : ℕ) (s : State) (was mid : Option Taken) (k : HasReached (history_of old) before n s was mid) (count : ℕ) (leaves : Leaves new count s.kept) where
     -- what the sink has is a front of the outcome's text
     took_front : (left : Commands) → TookFront was mid (progress_of (replayed_on name old (behind before left)))
     took_front left =
@@ -117,38 +125,42 @@ module _ (name : Kind → Bytes → Bytes) where
 
     -- what the import answers at the next command, where this is left
     abbrev Stops : Commands → Option Taken → ImportKind → Type 0
-    Stops left now kind = Replays name old new (behind before left) (replayed_on name old (behind before left)) was now (Err (record { command = n + 1; kind = kind }))
+    Stops left now kind = Replays name old new (behind before left) (replayed_on name old (behind before left)) was now (Err (record { command = n + 1; kind = kind; checkpoints = count }))
+
+    -- what is left is what was kept before the next command
+    left_before : (kind : ImportKind) (cs : List Command) → LeavesBefore name old new (before ++ cs) (record { command = n + 1; kind = kind; checkpoints = count })
+    left_before kind cs = (before, cs, refl, sym (ap (λ m. m + 1) k.count), s.progress, s.kept, cut_here old before n s was mid k, leaves)
 
     -- memory ran out
     out_of_memory : (left : Commands) → Stops left mid OutOfMemory
-    out_of_memory left = inr (from_one n, number_within left, inl (refl, took_front left))
+    out_of_memory left = inr (from_one n, number_within left, inl (refl, took_front left), left_before OutOfMemory left.list)
 
     -- what is left is the reader's fault
     fault_read : (left : Commands) (f : CommandFault) → left ≡ stops (Some (command.fault_of f)) → Stops left mid (of_command f)
     fault_read left f e =
-        inl (s.progress, k.outcome left ∙ ap (λ l. replayed name revision_of n s l.list l.fault) e ∙ ap (λ g. refused (n + 1) g s.progress) (sym (same_fault f)), k.progress)
+        inl (s.progress, s.kept, k.outcome left ∙ ap (λ l. replayed name revision_of n s l.list l.fault) e ∙ ap (λ g. refused (n + 1) g s.progress s.kept) (sym (same_fault f)), k.progress, leaves)
 
     module _ (c : Command) (left : Commands) (now : Option Taken) where
       -- the step that is refused ends the outcome
-      refused_here : (f : Fault) → step name revision_of s c ≡ Err f → replayed_on name old (behind before (with_first c left)) ≡ refused (n + 1) f s.progress
-      refused_here f e = k.outcome (with_first c left) ∙ ap (λ r. elim r as (λ _. Outcome) [ Ok u ↦ replayed name revision_of (n + 1) u left.list left.fault | Err g ↦ refused (n + 1) g s.progress ]) e
+      refused_here : (f : Fault) → step name revision_of s c ≡ Err f → replayed_on name old (behind before (with_first c left)) ≡ refused (n + 1) f s.progress s.kept
+      refused_here f e = k.outcome (with_first c left) ∙ ap (λ r. elim r as (λ _. Outcome) [ Ok u ↦ replayed name revision_of (n + 1) u left.list left.fault | Err g ↦ refused (n + 1) g s.progress s.kept ]) e
 
       -- and the sink is as it was
       refused_as : (e : ImportKind) → (step name revision_of s c ≡ Err (fault_of e)) × (now ≡ mid) → Stops (with_first c left) now e
-      refused_as e h = inl (s.progress, refused_here (fault_of e) h.0, subst (λ m. Took was m s.progress) (sym h.1) k.progress)
+      refused_as e h = inl (s.progress, s.kept, refused_here (fault_of e) h.0, subst (λ m. Took was m s.progress) (sym h.1) k.progress, leaves)
 
       -- the sink failed within the text of a step
       failed_here : (t : State) (text : Bytes) → step name revision_of s c ≡ Ok t → t.progress ≡ s.progress ++ text → FailedWithin mid now text
           → FailedWithin was now (progress_of (replayed_on name old (behind before (with_first c left))))
       failed_here t text e p failed =
           let b = begins_outcome name (n + 1) t left.list left.fault in
-          let o = k.outcome (with_first c left) ∙ ap (λ r. elim r as (λ _. Outcome) [ Ok u ↦ replayed name revision_of (n + 1) u left.list left.fault | Err f ↦ refused (n + 1) f s.progress ]) e in
+          let o = k.outcome (with_first c left) ∙ ap (λ r. elim r as (λ _. Outcome) [ Ok u ↦ replayed name revision_of (n + 1) u left.list left.fault | Err f ↦ refused (n + 1) f s.progress s.kept ]) e in
           let whole = ap progress_of o ∙ b.1 ∙ ap (λ x. x ++ b.0) p in
           subst (FailedWithin was now) (sym whole) (failed_sooner was now (s.progress ++ text) b.0 (failed_later was mid now s.progress text k.progress failed))
 
       -- the line of a progress is cut, behind those of the commands before
-      cut_here : (text : Bytes) → c ≡ Progress text → FailedWithin mid now (line_of text) → IsCutAt name old (before ++ c ∷ left.list) (n + 1) was now
-      cut_here text e failed =
+      line_cut : (text : Bytes) → c ≡ Progress text → FailedWithin mid now (line_of text) → IsCutAt name old (before ++ c ∷ left.list) (n + 1) was now
+      line_cut text e failed =
           let last = reached_last old before n s was mid k in
           let said = ap progress_of last.outcome ∙ last_progress name n s None in
           (before, text, left.list, ap (λ x. before ++ x ∷ left.list) e, sym (ap (λ m. m + 1) k.count), (mid, subst (Took was mid) (sym said) k.progress, failed))
@@ -159,14 +171,14 @@ module _ (name : Kind → Bytes → Bytes) where
       stopped r now_r tables WriteFailed h =
           elim h as (λ _. Stops (with_first c left) now WriteFailed) [
             | inl e ↦ refused_as WriteFailed e
-            | inr e ↦ inr (from_one n, number_within (with_first c left), inr (inr (refl, cut_here e.1 e.2 e.5, failed_here e.0 (line_of e.1) e.3 e.4.progress e.5)))
+            | inr e ↦ inr (from_one n, number_within (with_first c left), inr (inr (refl, line_cut e.1 e.2 e.5, failed_here e.0 (line_of e.1) e.3 e.4.progress e.5)), left_before WriteFailed (c ∷ left.list))
           ]
       stopped r now_r tables NameHeld h =
           elim h.0 as (λ _. Stops (with_first c left) now NameHeld) [
             | inl e ↦ refused_as NameHeld (e, h.1)
             | inr e ↦
                 let front = subst (λ m. TookFront was m (progress_of (replayed_on name old (behind before (with_first c left))))) (sym h.1) (took_front (with_first c left)) in
-                inr (from_one n, number_within (with_first c left), inr (inl (refl, k.clashes (c ∷ left.list) (n + 1) (inl (refl, e)), front)))
+                inr (from_one n, number_within (with_first c left), inr (inl (refl, k.clashes (c ∷ left.list) (n + 1) (inl (refl, e)), front)), left_before NameHeld (c ∷ left.list))
           ]
       stopped r now_r tables ReadFailed h = refused_as ReadFailed h
       stopped r now_r tables UnknownCommand h = refused_as UnknownCommand h
@@ -224,28 +236,29 @@ module _ (name : Kind → Bytes → Bytes) where
 
   pub at_stopped : {A : Type 0} (old last r new : Records) (tables : Tables A) (coming : Option Coming) (n : ℕ) (s : State) (c : read.Command A) (ahead later : Option Commands) (was mid now : Option Taken)
       → IsAt old coming n s ahead was mid → Reads ahead later (Ok (Some c)) → (e : ImportKind) → Applies name r new tables s (shown_command c) mid now (Err e)
-      → Imports name old last coming was now (Err (record { command = n + 1; kind = e }))
-  at_stopped old last r new tables None n s c ahead later was mid now k reads e h =
+      → (count : ℕ) → Leaves last count s.kept → Imports name old last coming was now (Err (record { command = n + 1; kind = e; checkpoints = count }))
+  at_stopped old last r new tables None n s c ahead later was mid now k reads e h count leaves =
       let left = stops None in
-      (behind k.0 (with_first (shown_command c) left), tt, stopped name old last k.0 n s was mid k.1 (shown_command c) left now r new tables e h)
-  at_stopped {A} old last r new tables (Some coming) n s c ahead later was mid now k reads e h =
+      (behind k.0 (with_first (shown_command c) left), tt, stopped name old last k.0 n s was mid k.1 count leaves (shown_command c) left now r new tables e h)
+  at_stopped {A} old last r new tables (Some coming) n s c ahead later was mid now k reads e h count leaves =
       let q = subst (λ o. Reads {A = A} o later (Ok (Some c))) k.2 reads in
-      told old last coming (behind k.0 (with_first (shown_command c) q.0)) was now (record { command = n + 1; kind = e }) (k.3 ∙ ap (behind k.0) q.1)
-      (stopped name old last k.0 n s was mid k.4 (shown_command c) q.0 now r new tables e h)
+      told old last coming (behind k.0 (with_first (shown_command c) q.0)) was now (record { command = n + 1; kind = e; checkpoints = count }) (k.3 ∙ ap (behind k.0) q.1)
+      (stopped name old last k.0 n s was mid k.4 count leaves (shown_command c) q.0 now r new tables e h)
 
   pub at_refused : (A : Type 0) (old last : Records) (coming : Option Coming) (n : ℕ) (s : State) (ahead later : Option Commands) (was now : Option Taken) → IsAt old coming n s ahead was now
-      → (f : CommandFault) → Reads {A = A} ahead later (Err f) → Imports name old last coming was now (Err (record { command = n + 1; kind = of_command f }))
-  at_refused A old last None n s ahead later was now k f reads =
+      → (f : CommandFault) → Reads {A = A} ahead later (Err f) → (count : ℕ) → Leaves last count s.kept
+      → Imports name old last coming was now (Err (record { command = n + 1; kind = of_command f; checkpoints = count }))
+  at_refused A old last None n s ahead later was now k f reads count leaves =
       let left = stops (Some (command.fault_of f)) in
-      (behind k.0 left, (f, refl), fault_read name old last k.0 n s was now k.1 left f refl)
-  at_refused A old last (Some coming) n s ahead later was now k f reads =
+      (behind k.0 left, (f, refl), fault_read name old last k.0 n s was now k.1 count leaves left f refl)
+  at_refused A old last (Some coming) n s ahead later was now k f reads count leaves =
       let q = subst (λ o. Reads {A = A} o later (Err f)) k.2 reads in
-      let goal : ImportKind → Type 0 = λ kind. Imports name old last (Some coming) was now (Err (record { command = n + 1; kind = kind })) in
+      let goal : ImportKind → Type 0 = λ kind. Imports name old last (Some coming) was now (Err (record { command = n + 1; kind = kind; checkpoints = count })) in
       elim q.1 as (λ _. goal (of_command f)) [
         | inl e ↦
-            let answer = told old last coming (behind k.0 k.1) was now (record { command = n + 1; kind = OutOfMemory }) k.3 (out_of_memory name old last k.0 n s was now k.4 k.1) in
+            let answer = told old last coming (behind k.0 k.1) was now (record { command = n + 1; kind = OutOfMemory; checkpoints = count }) k.3 (out_of_memory name old last k.0 n s was now k.4 count leaves k.1) in
             subst (λ g. goal (of_command g)) (sym e) answer
-        | inr e ↦ told old last coming (behind k.0 k.1) was now (record { command = n + 1; kind = of_command f }) k.3 (fault_read name old last k.0 n s was now k.4 k.1 f e)
+        | inr e ↦ told old last coming (behind k.0 k.1) was now (record { command = n + 1; kind = of_command f; checkpoints = count }) k.3 (fault_read name old last k.0 n s was now k.4 count leaves k.1 f e)
       ]
 
   pub at_end : (A : Type 0) (old : Records) (coming : Option Coming) (n : ℕ) (s : State) (ahead later : Option Commands) (was now : Option Taken) → IsAt old coming n s ahead was now
@@ -253,7 +266,14 @@ module _ (name : Kind → Bytes → Bytes) where
   at_end A old None n s ahead later was now k reads = (k.0, reached_last name old k.0 n s was now k.1)
   at_end A old (Some coming) n s ahead later was now k reads =
       let q = subst (λ o. Reads {A = A} o later (Ok None)) k.2 reads in
-      record { outcome = ap (replayed_on name old) (k.3 ∙ ap (behind k.0) q.0) ∙ k.4.outcome (stops None); progress = k.4.progress; held = k.4.held }
+      let all = k.3 ∙ ap (behind k.0) q.0 in
+      record {
+        outcome = ap (replayed_on name old) all ∙ k.4.outcome (stops None);
+        cut = ap (λ cs. replayed_on name old (cut_off cs.list)) all ∙ k.4.outcome (stops (Some fault.ReadFailed));
+        count = ap (λ cs. length cs.list) all ∙ ap length (append-nil k.0) ∙ k.4.count;
+        progress = k.4.progress;
+        held = k.4.held;
+      }
 
 -- where nothing was replayed, tables that are empty stand
 pub stand_empty : (name : Kind → Bytes → Bytes) {A : Type 0} (r : Records) (tables : Tables A) → AreEmpty tables → Stands name r tables (start (history_of r))

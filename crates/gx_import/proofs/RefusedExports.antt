@@ -6,7 +6,7 @@ use Rattle.gx_model.specs.Texts.{Bytes}
 use Rattle.gx_model.specs.Histories.{Records}
 use Rattle.gx_model.specs.HistoryOf.{history_of}
 use Rattle.gx_model.specs.Revisions.{revision_of}
-use Rattle.gx_model.specs.Replay.{refused, imported, replayed_commands, replayed_text}
+use Rattle.gx_model.specs.Replay.{Kept, refused, imported, replayed_commands, replayed_text, start}
 use Rattle.gx_model.specs.Export.{export_text}
 use Rattle.gx_model.specs.Gitlinks.{NullGitlinksAreRefused}
 use Rattle.gx_model.specs.RepositoryLaws.{HistoriesOf}
@@ -56,14 +56,14 @@ is_unsupported NoParent e = absurd (cc e)
 
 module _ (name : Kind → Bytes → Bytes) where
   -- an outcome that is a refusal
-  answered : (old new : Records) (coming : Coming) (was now : Option Taken) (number : ℕ) (result : Result Report ImportFault)
-      → imported name (history_of old) (heard coming).bytes (heard coming).fails ≡ refused number model.Unsupported []
+  answered : (old new : Records) (coming : Coming) (was now : Option Taken) (number : ℕ) (kept : Kept) (result : Result Report ImportFault)
+      → imported name (history_of old) (heard coming).bytes (heard coming).fails ≡ refused number model.Unsupported [] kept
       → Imports name old new (Some coming) was now result → UnsupportedOr result
-  answered old new coming was now number (Ok report) e h = absurd (cc (sym h.1 ∙ e))
-  answered old new coming was now number (Err fault) e (inl r) =
-      let same : refused fault.command (fault_of fault.kind) r.0 ≡ refused number model.Unsupported [] = sym r.1 ∙ e in
+  answered old new coming was now number kept (Ok report) e h = absurd (cc (sym h.1 ∙ e))
+  answered old new coming was now number kept (Err fault) e (inl r) =
+      let same : refused fault.command (fault_of fault.kind) r.0 r.1 ≡ refused number model.Unsupported [] kept = sym r.2 ∙ e in
       inl (is_unsupported fault.kind (cc same))
-  answered old new coming was now number (Err fault) e (inr k) = elim k.2 as (λ _. UnsupportedOr (Err fault)) [
+  answered old new coming was now number kept (Err fault) e (inr k) = elim k.2 as (λ _. UnsupportedOr (Err fault)) [
     | inl m ↦ inr (inl m.0)
     | inr l ↦ elim l as (λ _. UnsupportedOr (Err fault)) [
       | inl m ↦ inr (inr (inr m.0))
@@ -80,6 +80,6 @@ module _ (name : Kind → Bytes → Bytes) where
       let q = nulls name revision_of (history_of exported) (histories.stands exported sound).history links (omega (arith, room)) in
       let same : imported name (history_of old) (heard coming).bytes (heard coming).fails ≡ replayed_commands name revision_of (history_of nothing) (commands_from coming) =
       imported_is name (history_of old) coming ∙ ap (λ r. replayed_commands name revision_of (history_of r) (commands_from coming)) empty in
-      let known : replayed_commands name revision_of (history_of nothing) (commands_from coming) ≡ refused q.0 model.Unsupported [] =
+      let known : replayed_commands name revision_of (history_of nothing) (commands_from coming) ≡ refused q.0 model.Unsupported [] (start (history_of nothing)).kept =
       (λ i. replayed_text name revision_of (history_of nothing) (gives i).bytes (gives i).fails) ∙ q.1 in
-      answered old new coming was now q.0 result (same ∙ known) h
+      answered old new coming was now q.0 (start (history_of nothing)).kept result (same ∙ known) h

@@ -36,10 +36,10 @@ pub record IsExported (exported new : Records) : Type 0 where
   pub records : AllByRecursion (λ held. AnyByRecursion (λ other. other ≡ held) exported.records) new.records
   pub text : export_text (history_of new) ≡ export_text (history_of exported)
 
--- the export is imported, or memory ran out, or the sink of progress texts failed
+-- The export is imported, or memory ran out, or the sink of progress texts failed. It asks for no checkpoint.
 abbrev pub ExportedOr : Records → Records → Result Report ImportFault → Type 0
 ExportedOr exported new (Ok report) = IsExported exported new
-ExportedOr exported new (Err fault) = (fault.kind ≡ OutOfMemory) ⊎ (fault.kind ≡ WriteFailed)
+ExportedOr exported new (Err fault) = ((fault.kind ≡ OutOfMemory) ⊎ (fault.kind ≡ WriteFailed)) × (fault.checkpoints ≡ 0)
 
 -- The export of a sound repository under this namer is imported into an empty one, unless memory runs out or
 -- the sink fails. A gitlink of forty zeros is left out, which no import takes and none brings.

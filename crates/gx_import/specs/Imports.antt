@@ -2,6 +2,7 @@
 -- Source: git-fast-import(1).
 use Rattle.std.specs.Prelude.{◌≡◌, ◌⊎◌, ℕ, ◌+◌, ◌≤◌, List, [], ◌∷◌, ◌++◌, length, codes, Option, Some, None, Result, Ok, Err, IfSome}
 use Rattle.gx_model.specs.declared.objects.Kind.{Kind}
+use Rattle.gx_model.specs.declared.faults.Fault.TheVariants as model_fault
 use Rattle.gx_model.specs.Texts.{Bytes}
 use Rattle.gx_model.specs.Histories.{Records, StandsFor}
 use Rattle.gx_model.specs.HistoryOf.{history_of}
@@ -9,7 +10,7 @@ use Rattle.gx_model.specs.Sound.{IsSound}
 use Rattle.gx_model.specs.Commands.{Command, Commands, Progress}
 use Rattle.gx_model.specs.Revisions.{revision_of}
 use Rattle.gx_model.specs.Replay as model
-use Rattle.gx_model.specs.Replay.{Outcome, finished, refused, imported, replayed_commands, start}
+use Rattle.gx_model.specs.Replay.{Kept, Outcome, finished, refused, imported, replayed_commands, start}
 use Rattle.gx_text.specs.Devices.{Coming, FailedWithin, Taken, Took, TookFront}
 use Rattle.gx_stream.specs.Heard.{heard}
 use Rattle.gx_command.specs.CommandFaults as reader
@@ -24,12 +25,12 @@ use Rattle.gx_import.specs.declared.report.Report.{Report}
 -- the whole progress text
 abbrev pub progress_of : Outcome → Bytes
 progress_of (finished h text report) = text
-progress_of (refused number fault text) = text
+progress_of (refused number fault text kept) = text
 
 -- the number of the command that is refused, or what a refusal at the end has
 abbrev pub last_number : Outcome → ℕ
 last_number (finished h text report) = report.commands + 1
-last_number (refused number fault text) = number
+last_number (refused number fault text kept) = number
 
 -- a report as the model has it
 abbrev pub report_of : Report → model.Report
@@ -42,6 +43,15 @@ AreRead commands = IfSome commands.fault (λ fault. (why : CommandFault) × (fau
 -- these commands alone, with no fault behind them
 abbrev pub only : List Command → Commands
 only commands = record { list = commands; fault = None }
+
+-- these commands, and then a failed read
+abbrev pub cut_off : List Command → Commands
+cut_off commands = record { list = commands; fault = Some model_fault.ReadFailed }
+
+-- the repository has the history that is kept, and there were so many checkpoints
+pub record Leaves (new : Records) (checkpoints : ℕ) (kept : Kept) : Type 0 where
+  pub history : history_of new ≡ kept.history
+  pub count : checkpoints ≡ kept.checkpoints
 
 -- the line of a progress, with its line feed
 abbrev pub line_of : Bytes → Bytes
@@ -62,21 +72,30 @@ module _ (name : Kind → Bytes → Bytes) where
       (before : List Command) × (text : Bytes) × (after : List Command) × (commands ≡ before ++ Progress text ∷ after)
       × (number ≡ length before + 1) × FailedBehind was now (progress_of (replayed_on old (only before))) (line_of text)
 
+  -- the new repository has what is kept where the stream is cut off before the command with the fault's number
+  abbrev pub LeavesBefore : Records → Records → List Command → ImportFault → Type 0
+  LeavesBefore old new commands fault =
+      (before : List Command) × (after : List Command) × (commands ≡ before ++ after) × (fault.command ≡ length before + 1)
+      × (text : Bytes) × (kept : Kept) × (replayed_on old (cut_off before) ≡ refused fault.command model_fault.ReadFailed text kept)
+      × Leaves new fault.checkpoints kept
+
   -- In the place of what the replay gives, at that command or before it, memory ran out, the sink failed, or a value had the
-  -- name of another one.
-  abbrev pub Interrupts : Records → Commands → Outcome → Option Taken → Option Taken → ImportFault → Type 0
-  Interrupts old commands outcome was now fault =
+  -- name of another one. What the last checkpoint before it published is left.
+  abbrev pub Interrupts : Records → Records → Commands → Outcome → Option Taken → Option Taken → ImportFault → Type 0
+  Interrupts old new commands outcome was now fault =
       (1 ≤ fault.command) × (fault.command ≤ last_number outcome)
       × (((fault.kind ≡ OutOfMemory) × TookFront was now (progress_of outcome))
       ⊎ (((fault.kind ≡ NameHeld) × ClashesAt name 0 (start (history_of old)) commands.list fault.command × TookFront was now (progress_of outcome))
       ⊎ ((fault.kind ≡ WriteFailed) × IsCutAt old commands.list fault.command was now × FailedWithin was now (progress_of outcome))))
+      × LeavesBefore old new commands.list fault
 
-  -- an import is accepted as the replay is, refused as it is, or interrupted
+  -- an import is accepted as the replay is, refused as it is and leaves what it keeps, or interrupted
   abbrev pub Replays : Records → Records → Commands → Outcome → Option Taken → Option Taken → Result Report ImportFault → Type 0
   Replays old new commands outcome was now (Ok report) = (text : Bytes) × (outcome ≡ finished (history_of new) text (report_of report)) × Took was now text
   Replays old new commands outcome was now (Err fault) =
-      ((text : Bytes) × (outcome ≡ refused fault.command (fault_of fault.kind) text) × Took was now text)
-      ⊎ Interrupts old commands outcome was now fault
+      ((text : Bytes) × (kept : Kept) × (outcome ≡ refused fault.command (fault_of fault.kind) text kept) × Took was now text
+      × Leaves new fault.checkpoints kept)
+      ⊎ Interrupts old new commands outcome was now fault
 
   -- What an import does where the source tells its bytes is what the replay of their commands gives. Where it tells nothing,
   -- there are commands that a reader gives, and what the import does is what their replay gives.
@@ -88,7 +107,7 @@ module _ (name : Kind → Bytes → Bytes) where
   -- the replay is accepted, and a sound repository stands for its history
   abbrev pub StandsForIts : Outcome → Records → Type 0
   StandsForIts (finished h text report) new = IsSound name new × StandsFor name new h
-  StandsForIts (refused number fault text) new = ⊥
+  StandsForIts (refused number fault text kept) new = ⊥
 
   -- the new repository stands for the history that the replay of what the source gives makes of the old one's
   abbrev pub StandsReplayed : Records → Records → Option Coming → Type 0

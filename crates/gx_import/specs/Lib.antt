@@ -12,6 +12,7 @@ pub mod Applying
 pub mod Calls
 pub mod RefChanges
 pub mod Publishing
-pub mod Replaying
 pub mod Imports
+pub mod Keeping
+pub mod Replaying
 pub mod Exported

@@ -1,9 +1,7 @@
 -- The refs that an import sets: those of the branches with a commit, and then those of the tags.
 -- Source: git-fast-import(1), "commit", "reset" and "tag".
-use Rattle.std.specs.Prelude.{ℕ, Bool, true, false, List, [], ◌∷◌, ◌++◌, length, map, Option, Some, None, is_some}
-use Rattle.std.specs.List.{filter}
-use Rattle.std.specs.Map.{lookup}
-use Rattle.gx_model.specs.Texts.{Bytes, same_bytes}
+use Rattle.std.specs.Prelude.{Bool, true, List, [], ◌∷◌, ◌++◌, map, Option, Some, None}
+use Rattle.gx_model.specs.Texts.{Bytes}
 use Rattle.gx_model.specs.Values.{Commit}
 use Rattle.gx_model.specs.Histories.{Target}
 use Rattle.gx_model.specs.Replay.{is_forward}
@@ -30,15 +28,6 @@ tag_changes tags = map (λ tag. (tag.0, tag.1.bytes)) tags
 -- the branches with a commit, and then the tags
 abbrev pub changes_of : {A : Type 0} → Tables A → List Change
 changes_of tables = branch_changes (rows_of tables.branches) ++ tag_changes (rows_of tables.tags)
-
--- whether a branch is there and has a commit
-abbrev pub has_commit : {A : Type 0} → Option (Tip A) → Bool
-has_commit None = false
-has_commit (Some tip) = is_some tip.commit
-
--- how many of these tags have the ref of a branch with a commit
-abbrev pub hidden_by : {A : Type 0} → List (Bytes × Tip A) → List (Bytes × Name) → ℕ
-hidden_by branches tags = length (filter (λ tag. has_commit (lookup (same_bytes tag.0) branches)) tags)
 
 -- a ref's old target is kept by the branch of its name, where there is one
 abbrev pub is_kept_by : Option (Option Commit) → Target → Bool

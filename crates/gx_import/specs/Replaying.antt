@@ -2,20 +2,23 @@
 -- Source: git-fast-import(1), "Commands".
 use Rattle.std.specs.Prelude.{◌≡◌, ℕ, ◌+◌, List, length, Option, Some, None, Result, Ok, Err, ⊤}
 use Rattle.gx_model.specs.declared.objects.Kind.{Kind}
+use Rattle.gx_model.specs.declared.faults.Fault.TheVariants.{ReadFailed}
 use Rattle.gx_model.specs.Texts.{Bytes}
 use Rattle.gx_model.specs.Histories.{Records}
 use Rattle.gx_model.specs.HistoryOf.{history_of}
 use Rattle.gx_model.specs.Commands as model
 use Rattle.gx_model.specs.Commands.{Commands}
 use Rattle.gx_model.specs.Revisions.{revision_of}
-use Rattle.gx_model.specs.Replay.{State, ended, replayed_commands}
+use Rattle.gx_model.specs.Replay.{State, ended, refused, replayed_commands}
 use Rattle.gx_text.specs.Devices.{Coming, FailedWithin, Taken, Took}
 use Rattle.gx_command.specs.Reading.{Falls, Reads, commands_from}
 use Rattle.gx_command.specs.declared.commands.Command.{Command}
 use Rattle.gx_command.specs.declared.fault.CommandFault.{CommandFault}
 use Rattle.gx_import.specs.ImportKinds.{of_command}
-use Rattle.gx_import.specs.Imports.{Imports, only}
+use Rattle.gx_import.specs.Imports.{Imports, cut_off, only}
+use Rattle.gx_import.specs.Keeping.{Keeps, left_of}
 use Rattle.gx_import.specs.Standing.{Stands}
+use Rattle.gx_import.specs.declared.checkpoints.Checkpoints.{Checkpoints}
 use Rattle.gx_import.specs.declared.fault.ImportFault.{ImportFault}
 use Rattle.gx_import.specs.declared.fault.ImportKind.{ImportKind}
 use Rattle.gx_import.specs.declared.fault.ImportKind.TheVariants.{WriteFailed}
@@ -26,10 +29,11 @@ abbrev pub Writes : Option Taken → Option Taken → Bytes → Result (Unit {0}
 Writes was now text (Ok _) = Took was now text
 Writes was now text (Err e) = (e ≡ WriteFailed) × FailedWithin was now text
 
--- the reader's answer after n commands; its fault is the import's, at the next command
-abbrev pub ReadsNext : {A : Type 0} → ℕ → Option Commands → Option Commands → Result (Option (Command A)) ImportFault → Type 0
-ReadsNext n old new (Ok c) = Reads old new (Ok c)
-ReadsNext {A} n old new (Err fault) = (f : CommandFault) × (fault ≡ record { command = n + 1; kind = of_command f }) × Reads {A = A} old new (Err f)
+-- the reader's answer after n commands; its fault is the import's, at the next command, after so many checkpoints
+abbrev pub ReadsNext : {A : Type 0} → ℕ → ℕ → Option Commands → Option Commands → Result (Option (Command A)) ImportFault → Type 0
+ReadsNext n count old new (Ok c) = Reads old new (Ok c)
+ReadsNext {A} n count old new (Err fault) =
+    (f : CommandFault) × (fault ≡ record { command = n + 1; kind = of_command f; checkpoints = count }) × Reads {A = A} old new (Err f)
 
 -- each command lowers the bound
 abbrev pub FallsNext : {A : Type 0} → ℕ → ℕ → Result (Option (Command A)) ImportFault → Type 0
@@ -40,6 +44,8 @@ module _ (name : Kind → Bytes → Bytes) where
   -- the last state of the replay of these commands, n in number, and the sink has its progress text
   pub record IsLast (old : Records) (commands : Commands) (n : ℕ) (s : State) (was now : Option Taken) : Type 0 where
     pub outcome : replayed_commands name revision_of (history_of old) commands ≡ ended n s None
+    pub cut : replayed_commands name revision_of (history_of old) (cut_off commands.list) ≡ refused (n + 1) ReadFailed s.progress s.kept
+    pub count : length commands.list ≡ n
     pub progress : Took was now s.progress
     pub held : s.held ≡ length (history_of old).values
 
@@ -49,6 +55,12 @@ module _ (name : Kind → Bytes → Bytes) where
   EndsAs old (Some coming) n s was now = IsLast old (commands_from coming) n s was now
 
   -- all commands are replayed, and the repository and the tables stand for the last state; or the import is refused, or interrupted
-  abbrev pub ReplaysTo : {A : Type 0} → Records → Records → Tables A → Option Coming → Option Taken → Option Taken → Result ℕ ImportFault → Type 0
-  ReplaysTo old new tables coming was now (Ok n) = (s : State) × Stands name new tables s × EndsAs old coming n s was now
-  ReplaysTo old new tables coming was now (Err fault) = Imports name old new coming was now (Err fault)
+  abbrev pub ReplaysTo : {A : Type 0} → Records → Records → Tables A → Checkpoints A → Option Coming → Option Taken → Option Taken → Result ℕ ImportFault → Type 0
+  ReplaysTo old new tables checkpoints coming was now (Ok n) =
+      (s : State) × Stands name new tables s × Keeps new checkpoints s × EndsAs old coming n s was now
+  ReplaysTo old new tables checkpoints coming was now (Err fault) = Imports name old (left_of checkpoints new) coming was now (Err fault)
+
+-- the new repository, or after a fault what it leaves
+abbrev pub left_by : {A X E : Type 0} → Result X E → Checkpoints A → Records → Records
+left_by (Ok _) checkpoints new = new
+left_by (Err _) checkpoints new = left_of checkpoints new

@@ -14,12 +14,14 @@ use std::error::Error;
 use std::fmt::{self, Display, Formatter, Write};
 
 /// Why an import is refused: the number of the command, from 1, and what is wrong with it.
-/// A fault after the last command has the number of commands and one.
+/// A fault after the last command has the number of commands and one. What the checkpoints before it published stays.
 #[derive(Clone, Copy, Debug, PartialEq, Eq, thiserror::Error)]
 #[error("command {command}: {kind}")]
 pub struct ImportFault {
     pub command: u64,
     pub kind: ImportKind,
+    /// How many checkpoints were applied before it.
+    pub checkpoints: u64,
 }
 
 /// What is wrong with a command. Each prints its name. Source: git-fast-import(1), in the profile of this project.

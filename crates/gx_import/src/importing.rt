@@ -1,10 +1,14 @@
 //! Imports of whole streams. Source: git-fast-import(1).
 
-ghost use Rattle.std.specs.Prelude.{◌≡◌, OnErr, OnOk};
+ghost use Rattle.std.specs.Prelude.{◌≡◌, IfErr, OnErr, OnOk};
 ghost use Rattle.gx_import.specs.Exported.{ImportsExport, KeepsNoNullGitlink, RefusesNullGitlink};
 ghost use Rattle.gx_import.specs.Imports.{Imports, StandsReplayed};
+ghost use Rattle.gx_import.specs.Keeping.{AreNone, IsLeft};
+ghost use Rattle.gx_import.specs.Replaying.{left_by};
 ghost use Rattle.gx_import.specs.Standing.{Extends};
+ghost use Rattle.gx_model.specs.Sound.{IsSound};
 
+use crate::checkpoints::Checkpoints;
 use crate::publishing::publish;
 use crate::replay::replay;
 use crate::tables::Tables;
@@ -17,21 +21,22 @@ use gx_repo::Repo;
 use gx_text::{Sink, Source};
 use std::alloc::Allocator;
 
-/// Imports a stream: replays its commands one after the other, and at the end publishes the branches with a commit and
-/// the tags. Lines of `progress` go to the sink as they come.
+/// Imports a stream: replays its commands one after the other, and at each `checkpoint` and at the end publishes the
+/// branches with a commit and the tags. Lines of `progress` go to the sink as they come.
 ///
-/// Each command is read whole before it is applied. Revisions are read over the refs that were published before the
-/// import. A published branch may not lose a commit, unless the stream asks for `force`.
+/// Each command is read whole before it is applied. Revisions are read over the refs that were published last, before the
+/// import or at a checkpoint. A published branch may not lose a commit, unless the stream asks for `force`.
 ///
-/// Errors: those of `ImportKind`, each with its causes there, with the number of the command. After a fault the
-/// repository is as it was: its objects and its refs. What went to the sink stays there.
+/// Errors: those of `ImportKind`, each with its causes there, with the number of the command and that of the checkpoints
+/// before it. After a fault the repository is as it was right after the last checkpoint, its objects and its refs; where
+/// there was none, it is as it was before. What went to the sink stays there.
 ///
 /// No commit that it makes has a submodule of forty zeros, which an export couldn't bring back: a stream that names one is
 /// refused, and so is the export of a store that holds one below a ref.
 ///
 /// Cost: each command's bytes; for a commit the directories on its changed paths, and once for a branch the size of the
 /// tree that it starts from; and for each object to be put or found a look-up. Memory: the objects, the marks,
-/// the branches with their files, and one command. Source: git-fast-import(1).
+/// the branches with their files, and one command. A checkpoint costs what the end does. Source: git-fast-import(1).
 pub fn import<N: Namer, A: Allocator + Copy, R: Source + Drop, W: Sink>(
     alloc: A,
     repo: &mut Repo<N, A>,
@@ -41,7 +46,9 @@ pub fn import<N: Namer, A: Allocator + Copy, R: Source + Drop, W: Sink>(
     ensures namer { repo.new.0 ≡ repo.old.0 }
     ensures replayed { Imports (N.name_of repo.old.0) repo.old.1 repo.new.1 (R.coming source) (W.taken sink.old) (W.taken sink.new) result }
     ensures stands { OnOk result (StandsReplayed (N.name_of repo.old.0) repo.old.1 repo.new.1 (R.coming source)) }
-    ensures unchanged { OnErr result (repo.new ≡ repo.old) }
+    ensures extends { Extends repo.old.1.records repo.new.1.records }
+    ensures sound { IsSound (N.name_of repo.old.0) repo.new.1 }
+    ensures unchanged { IfErr result (λ fault. fault.checkpoints ≡ 0 → repo.new ≡ repo.old) }
     ensures exported { ImportsExport (N.name_of repo.old.0) repo.old.1 repo.new.1 (R.coming source) result }
     ensures gitlinks { KeepsNoNullGitlink repo.old.1 repo.new.1 }
     ensures nulls { RefusesNullGitlink (N.name_of repo.old.0) repo.old.1 (R.coming source) result }
@@ -52,52 +59,54 @@ pub fn import<N: Namer, A: Allocator + Copy, R: Source + Drop, W: Sink>(
     exports_are_readable();
     exports_are_imported();
     repo.sound();
-    let held = repo.store().len();
-    match replay_and_publish(alloc, repo, source, sink) {
+    let mut checkpoints = Checkpoints::new(alloc, repo.store().len());
+    match replay_and_publish(alloc, repo, &mut checkpoints, source, sink) {
         Ok(report) => {
             repo.sound();
             Ok(report)
         }
         Err(fault) => {
-            repo.truncate(held);
+            repo.truncate(checkpoints.records);
+            repo.sound();
             Err(fault)
         }
     }
 }
 
-/// Replays a stream's commands, and publishes what they made. A refused import leaves the refs as they were, and the old
-/// objects in front of those that were added.
+/// Replays a stream's commands, and publishes what they made. A refused import leaves the refs of the last checkpoint, and
+/// its objects in front of those that were added.
 fn replay_and_publish<N: Namer, A: Allocator + Copy, R: Source + Drop, W: Sink>(
     alloc: A,
     repo: &mut Repo<N, A>,
+    checkpoints: &mut Checkpoints<A>,
     source: R,
     sink: &mut W,
 ) -> Result<Report, ImportFault>
+    requires none { AreNone repo.now.1 checkpoints.now }
     ensures namer { repo.new.0 ≡ repo.old.0 }
     ensures extends { Extends repo.old.1.records repo.new.1.records }
-    ensures replayed { Imports (N.name_of repo.old.0) repo.old.1 repo.new.1 (R.coming source) (W.taken sink.old) (W.taken sink.new) result }
-    ensures unpublished { OnErr result (repo.new.1.refs ≡ repo.old.1.refs) }
-    ensures gitlinks { OnOk result (KeepsNoNullGitlink repo.old.1 repo.new.1) }
+    ensures replayed { Imports (N.name_of repo.old.0) repo.old.1 (left_by result checkpoints.new repo.new.1) (R.coming source) (W.taken sink.old) (W.taken sink.new) result }
+    ensures left { OnErr result (IsLeft repo.old.1 repo.new.1 checkpoints.new) }
+    ensures counted { IfErr result (λ fault. fault.checkpoints ≡ checkpoints.new.count) }
+    ensures gitlinks { KeepsNoNullGitlink repo.old.1 (left_by result checkpoints.new repo.new.1) }
 {
     histories_of_records();
     repo.sound();
     let held = repo.store().len();
     let mut tables = Tables::new(alloc);
-    let commands = replay(repo, &mut tables, source, sink)?;
-    let refs = match publish(repo, &tables) {
-        Ok(refs) => refs,
-        Err(kind) => {
-            return Err(ImportFault {
-                command: commands + 1,
-                kind,
-            });
-        }
-    };
+    let commands = replay(repo, &mut tables, checkpoints, source, sink)?;
+    if let Err(kind) = publish(repo, &tables, &mut checkpoints.refs) {
+        return Err(ImportFault {
+            command: commands + 1,
+            kind,
+            checkpoints: checkpoints.count,
+        });
+    }
     repo.sound();
     let objects = (repo.store().len() - held) as u64;
     Ok(Report {
         commands,
         objects,
-        refs,
+        refs: checkpoints.refs.rows.len() as u64,
     })
 }

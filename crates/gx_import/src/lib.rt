@@ -1,11 +1,12 @@
 //! The import of streams: the commands of git-fast-import(1), replayed on a repository.
-//! An import that is accepted leaves the replayed history, and one that is refused leaves the repository as it was.
+//! An import that is accepted leaves the replayed history, and one that is refused leaves what its last checkpoint published.
 #![tactic(auto)]
 
 mod at_hand;
 mod blob;
 mod branches;
 mod changes;
+mod checkpoints;
 mod commit;
 mod commit_ish;
 mod fault;

@@ -1,15 +1,14 @@
 //! What an import publishes. Source: git-fast-import(1), "force", and gitglossary(7), "fast-forward".
 
-ghost use Rattle.std.specs.Prelude.{◌≡◌, [], ◌++◌, map, None, IsTrue, IfOk, IfErr, OnOk, OnErr};
+ghost use Rattle.std.specs.Prelude.{◌≡◌, [], ◌∷◌, ◌++◌, map, None, IsTrue, IfOk, IfErr, OnOk, OnErr};
 ghost use Rattle.std.specs.FinMap.Entries.{is_sorted};
 ghost use Rattle.gx_model.specs.Replay.{State, byte_cmp, is_fast_forward};
 ghost use Rattle.gx_model.specs.Sound.{IsTarget};
-ghost use Rattle.std.specs.Map.{lookup};
-ghost use Rattle.gx_model.specs.Texts.{same_bytes};
 ghost use Rattle.gx_model.specs.Publishing.{changes_fault, with_changes};
 ghost use Rattle.gx_repo.specs.Refs.{asked};
 ghost use Rattle.gx_import.specs.Publishing.{Publishes};
-ghost use Rattle.gx_import.specs.RefChanges.{branch_changes, branch_then, changes_of, has_commit, hidden_by, tag_changes};
+ghost use Rattle.gx_import.specs.Keeping.{Enters, EntersAll};
+ghost use Rattle.gx_import.specs.RefChanges.{branch_changes, branch_then, changes_of, tag_changes};
 ghost use Rattle.gx_import.specs.Rows.{rows_of};
 ghost use Rattle.gx_import.specs.Standing.{Stands};
 ghost use Rattle.gx_import.specs.declared.fault.ImportKind.TheVariants.{OutOfMemory};
@@ -25,15 +24,20 @@ use gx_repo::{PublishFault, RefChange, Repo};
 use gx_rev::reaches;
 use std::alloc::{AllocError, Allocator};
 
-/// Publishes the branches with a commit, and then the tags, and answers how many refs these are, each name once.
+/// Publishes the branches with a commit, and then the tags, and enters their names among those that were published.
 pub(crate) fn publish<N: Namer, A: Allocator + Copy>(
     repo: &mut Repo<N, A>,
     tables: &Tables<A>,
-) -> Result<u64, ImportKind>
+    published: &mut Table<Name, A>,
+) -> Result<(), ImportKind>
     requires stands { (s : State) × Stands (N.name_of repo.now.0) repo.now.1 tables.now s }
+    requires sorted { IsTrue (is_sorted byte_cmp (rows_of published.now)) }
     ensures namer { repo.new.0 ≡ repo.old.0 }
     ensures records { repo.new.1.records ≡ repo.old.1.records }
+    ensures unchanged { OnErr result (repo.new ≡ repo.old) }
     ensures published { (s : State) → Stands (N.name_of repo.old.0) repo.old.1 tables.now s → Publishes s repo.old.1 repo.new.1 result }
+    ensures entered { OnOk result (EntersAll (N.name_of repo.old.0) repo.old.1 tables.now (rows_of published.old) (rows_of published.new)) }
+    ensures sorted { OnOk result (IsTrue (is_sorted byte_cmp (rows_of published.new))) }
 {
     histories_of_records();
     repo.sound();
@@ -41,9 +45,9 @@ pub(crate) fn publish<N: Namer, A: Allocator + Copy>(
         return Err(ImportKind::NotFastForward);
     }
     let changes = changes(tables)?;
+    enter_all(tables.alloc, published, changes.as_slice())?;
     publish_all(repo, changes.as_slice())?;
-    let hidden = hidden_branches(tables);
-    Ok((changes.len() - hidden) as u64)
+    Ok(())
 }
 
 /// Whether no published branch loses a commit, or `force` was asked for.
@@ -167,27 +171,35 @@ fn publish_all<N: Namer, A: Allocator + Copy>(
     }
 }
 
-/// How many tags have the ref of a branch with a commit.
-fn hidden_branches<A: Allocator + Copy>(tables: &Tables<A>) -> usize
-    requires sorted { IsTrue (is_sorted byte_cmp (rows_of tables.now.branches)) }
-    ensures { result ≡ hidden_by (rows_of tables.now.branches) (rows_of tables.now.tags) }
+/// Enters the names of these refs, those that aren't there yet.
+fn enter_all<A: Allocator + Copy>(
+    alloc: A,
+    published: &mut Table<Name, A>,
+    changes: &[RefChange<'_>],
+) -> Result<(), AllocError>
+    requires sorted { IsTrue (is_sorted byte_cmp (rows_of published.now)) }
+    ensures sorted { OnOk result (IsTrue (is_sorted byte_cmp (rows_of published.new))) }
+    ensures entered { OnOk result (Enters (rows_of published.old) (rows_of published.new) (map asked changes.now)) }
 {
-    let mut hidden = 0;
-    for (name, _) in &tables.tags.rows {
-        if has_commit(&tables.branches, name.as_slice()) {
-            hidden += 1;
-        }
+    for change in changes {
+        enter(alloc, published, change)?;
     }
-    hidden
+    Ok(())
 }
 
-/// Whether a branch of this name has a commit.
-fn has_commit<A: Allocator + Copy>(branches: &Table<Tip<A>, A>, name: &[u8]) -> bool
-    requires sorted { IsTrue (is_sorted byte_cmp (rows_of branches.now)) }
-    ensures { result ≡ has_commit (lookup (same_bytes name.now) (rows_of branches.now)) }
+/// Enters the name of a ref, unless it is there.
+fn enter<A: Allocator + Copy>(
+    alloc: A,
+    published: &mut Table<Name, A>,
+    change: &RefChange<'_>,
+) -> Result<(), AllocError>
+    requires sorted { IsTrue (is_sorted byte_cmp (rows_of published.now)) }
+    ensures sorted { OnOk result (IsTrue (is_sorted byte_cmp (rows_of published.new))) }
+    ensures entered { OnOk result (Enters (rows_of published.old) (rows_of published.new) (asked change.now ∷ [])) }
 {
-    match branches.get(name) {
-        Some(tip) => tip.commit.is_some(),
-        None => false,
+    if published.get(change.name).is_none() {
+        let name = Vec::from_slice(alloc, change.name)?;
+        published.set(name, change.target)?;
     }
+    Ok(())
 }

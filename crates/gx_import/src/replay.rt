@@ -1,18 +1,24 @@
 //! The commands of a stream, applied one after the other. Source: git-fast-import(1), "Commands".
 
-ghost use Rattle.std.specs.Prelude.{◌≡◌, ◌<◌, ◌≤◌, ◌-◌, ◌^◌, ◌++◌, [], ◌∷◌, codes, IfOk, IfSome, OnOk};
+ghost use Rattle.std.specs.Prelude.{◌≡◌, ◌<◌, ◌≤◌, ◌-◌, ◌^◌, ◌++◌, [], ◌∷◌, codes, length, ◌+◌, IfErr, IfOk, IfSome, OnErr, OnOk, IsTrue};
 ghost use Rattle.gx_model.specs.Gitlinks.{BringsNoNullGitlink};
 ghost use Rattle.gx_model.specs.Histories.{IsHistory};
 ghost use Rattle.gx_model.specs.HistoryOf.{history_of};
-ghost use Rattle.gx_model.specs.Replay.{State};
+ghost use Rattle.gx_model.specs.Replay.{State, byte_cmp};
+ghost use Rattle.std.specs.FinMap.Entries.{is_sorted};
 ghost use Rattle.gx_command.specs.Views.{shown_command};
 ghost use Rattle.gx_import.specs.Exported.{KeepsNoNullGitlink};
+ghost use Rattle.gx_import.specs.Keeping.{AreNone, AreStill, EntersAll, IsLeft, IsNext, KeepsInEach, Moves, left_of};
 ghost use Rattle.gx_import.specs.Replaying.{FallsNext, ReadsNext, ReplaysTo, Writes};
+ghost use Rattle.gx_import.specs.Publishing.{Publishes};
+ghost use Rattle.gx_import.specs.Rows.{rows_of};
 ghost use Rattle.gx_import.specs.Standing.{AreEmpty, AreTipsAtHome, Extends, Stands};
 ghost use Rattle.gx_import.specs.Calls.{AppliesInEach, AsksFor};
 
 use crate::blob::apply_blob;
+use crate::checkpoints::Checkpoints;
 use crate::commit::apply_commit;
+use crate::publishing::publish;
 use crate::reset::apply_reset;
 use crate::tables::Tables;
 use crate::tag::apply_tag;
@@ -28,38 +34,46 @@ use std::alloc::Allocator;
 pub(crate) fn replay<N: Namer, A: Allocator + Copy, R: Source + Drop, W: Sink>(
     repo: &mut Repo<N, A>,
     tables: &mut Tables<A>,
+    checkpoints: &mut Checkpoints<A>,
     source: R,
     sink: &mut W,
 ) -> Result<u64, ImportFault>
     requires empty { AreEmpty tables.now }
+    requires none { AreNone repo.now.1 checkpoints.now }
     ensures namer { repo.new.0 ≡ repo.old.0 }
-    ensures refs { repo.new.1.refs ≡ repo.old.1.refs }
     ensures extends { Extends repo.old.1.records repo.new.1.records }
     ensures count { IfOk result (λ commands. commands ≤ 2 ^ 63 - 1) }
-    ensures replayed { ReplaysTo (N.name_of repo.old.0) repo.old.1 repo.new.1 tables.new (R.coming source) (W.taken sink.old) (W.taken sink.new) result }
+    ensures replayed { ReplaysTo (N.name_of repo.old.0) repo.old.1 repo.new.1 tables.new checkpoints.new (R.coming source) (W.taken sink.old) (W.taken sink.new) result }
+    ensures left { IsLeft repo.old.1 repo.new.1 checkpoints.new }
+    ensures sorted { OnOk result (IsTrue (is_sorted byte_cmp (rows_of checkpoints.new.refs))) }
+    ensures counted { IfErr result (λ fault. fault.checkpoints ≡ checkpoints.new.count) }
     ensures gitlinks { OnOk result (IsHistory (history_of repo.old.1) → KeepsNoNullGitlink repo.old.1 repo.new.1) }
+    ensures gitlinks_left { IsHistory (history_of repo.old.1) → KeepsNoNullGitlink repo.old.1 (left_of checkpoints.new repo.new.1) }
 {
     let mut reader = CommandReader::new(tables.alloc, source);
     let mut commands = 0;
-    while let Some(command) = next_command(&mut reader, commands)? {
+    repo.sound();
+    while let Some(command) = next_command(&mut reader, commands, checkpoints.count)? {
         commands += 1;
-        if let Err(kind) = apply(repo, tables, sink, command) {
+        if let Err(kind) = apply(repo, tables, checkpoints, sink, command) {
             return Err(ImportFault {
                 command: commands,
                 kind,
+                checkpoints: checkpoints.count,
             });
         }
     }
     Ok(commands)
 }
 
-/// The next command, after so many.
+/// The next command, after so many, of which some were checkpoints.
 fn next_command<R: Source, A: Allocator + Copy>(
     reader: &mut CommandReader<R, A>,
     commands: u64,
+    checkpoints: u64,
 ) -> Result<Option<Command<A>>, ImportFault>
     requires room { commands < 2 ^ 64 - 1 }
-    ensures reads { ReadsNext commands reader.old.commands reader.new.commands result }
+    ensures reads { ReadsNext commands checkpoints reader.old.commands reader.new.commands result }
     ensures falls { FallsNext reader.old.most reader.new.most result }
     ensures gitlinks { IfOk result (λ next. IfSome next (λ command. BringsNoNullGitlink (shown_command command))) }
 {
@@ -68,6 +82,7 @@ fn next_command<R: Source, A: Allocator + Copy>(
         Err(fault) => Err(ImportFault {
             command: commands + 1,
             kind: ImportKind::from(fault),
+            checkpoints,
         }),
     }
 }
@@ -76,15 +91,21 @@ fn next_command<R: Source, A: Allocator + Copy>(
 fn apply<N: Namer, A: Allocator + Copy, W: Sink>(
     repo: &mut Repo<N, A>,
     tables: &mut Tables<A>,
+    checkpoints: &mut Checkpoints<A>,
     sink: &mut W,
     command: Command<A>,
 ) -> Result<(), ImportKind>
     requires stands { (s : State) × Stands (N.name_of repo.now.0) repo.now.1 tables.now s }
     requires homes { AreTipsAtHome (N.name_of repo.now.0) repo.now.1.records tables.now }
+    requires fits { checkpoints.now.records ≤ length repo.now.1.records }
+    requires room { checkpoints.now.count < 2 ^ 64 - 1 }
+    requires sorted { IsTrue (is_sorted byte_cmp (rows_of checkpoints.now.refs)) }
     ensures homes { IfOk result (λ _. AreTipsAtHome (N.name_of repo.old.0) repo.new.1.records tables.new) }
     ensures namer { repo.new.0 ≡ repo.old.0 }
-    ensures refs { repo.new.1.refs ≡ repo.old.1.refs }
     ensures extends { Extends repo.old.1.records repo.new.1.records }
+    ensures moves { Moves repo.old.1 repo.new.1 checkpoints.old checkpoints.new }
+    ensures sorted { OnOk result (IsTrue (is_sorted byte_cmp (rows_of checkpoints.new.refs))) }
+    ensures keeps { KeepsInEach (N.name_of repo.old.0) repo.old.1 repo.new.1 tables.old checkpoints.old checkpoints.new (shown_command command) result }
     ensures steps { AppliesInEach (N.name_of repo.old.0) repo.old.1 repo.new.1 tables.old tables.new (shown_command command) (W.taken sink.old) (W.taken sink.new) result }
 {
     records_keep_home();
@@ -98,8 +119,33 @@ fn apply<N: Namer, A: Allocator + Copy, W: Sink>(
             apply_feature(tables, feature);
             Ok(())
         }
-        Command::Checkpoint | Command::OptionLine(_) | Command::Done => Ok(()),
+        Command::Checkpoint => apply_checkpoint(repo, tables, checkpoints),
+        Command::OptionLine(_) | Command::Done => Ok(()),
     }
+}
+
+/// Publishes what was made so far: after a later fault it is kept.
+fn apply_checkpoint<N: Namer, A: Allocator + Copy>(
+    repo: &mut Repo<N, A>,
+    tables: &Tables<A>,
+    checkpoints: &mut Checkpoints<A>,
+) -> Result<(), ImportKind>
+    requires stands { (s : State) × Stands (N.name_of repo.now.0) repo.now.1 tables.now s }
+    requires room { checkpoints.now.count < 2 ^ 64 - 1 }
+    requires sorted { IsTrue (is_sorted byte_cmp (rows_of checkpoints.now.refs)) }
+    ensures namer { repo.new.0 ≡ repo.old.0 }
+    ensures records { repo.new.1.records ≡ repo.old.1.records }
+    ensures next { OnOk result (IsNext repo.new.1 checkpoints.old checkpoints.new) }
+    ensures still { OnErr result (AreStill repo.old.1 repo.new.1 checkpoints.old checkpoints.new) }
+    ensures published { (s : State) → Stands (N.name_of repo.old.0) repo.old.1 tables.now s → Publishes s repo.old.1 repo.new.1 result }
+    ensures entered { OnOk result (EntersAll (N.name_of repo.old.0) repo.old.1 tables.now (rows_of checkpoints.old.refs) (rows_of checkpoints.new.refs)) }
+    ensures sorted { OnOk result (IsTrue (is_sorted byte_cmp (rows_of checkpoints.new.refs))) }
+{
+    publish(repo, tables, &mut checkpoints.refs)?;
+    repo.sound();
+    checkpoints.count += 1;
+    checkpoints.records = repo.store().len();
+    Ok(())
 }
 
 /// Writes the whole line of a progress, and a line feed.

@@ -7,6 +7,6 @@ pub struct Report {
     pub commands: u64,
     /// The objects that were added.
     pub objects: u64,
-    /// The refs that were published, each name once, also where its value stays.
+    /// The refs that were published at a checkpoint or at the end, each name once, also where its value stays.
     pub refs: u64,
 }

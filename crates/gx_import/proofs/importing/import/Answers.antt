@@ -1,29 +1,28 @@
 use Rattle.std.proofs.Common.{Ok, Err, length, sym, ap, subst, ◌∙◌}
-use Rattle.gx_model.specs.Gitlinks.{HoldsNoNullGitlink}
 use Rattle.gx_model.specs.Histories.{Records}
-use Rattle.gx_model.specs.HistoryOf.{history_of}
 use Rattle.gx_model.specs.Sound.{IsSound}
 use Rattle.gx_import.proofs.ExportedAgain.{accepted, stopped}
 use Rattle.gx_import.proofs.RefusedExports.{null_refused}
-use Rattle.gx_import.proofs.Publications.{as_before, imports_fault, stands_replayed, targets_stay}
+use Rattle.gx_import.specs.Keeping.{left_of}
+use Rattle.gx_import.specs.Standing.{Extends}
+use Rattle.gx_import.proofs.KeptCheckpoints.{front_left}
+use Rattle.gx_import.proofs.Publications.{stands_replayed}
 use Rattle.gx_import.proofs.importing.import.Goals as goal
 
+pub replay_and_publish-requires : goal.replay_and_publish-requires
+replay_and_publish-requires g c =
+    record { none = record { records = c.new-checkpoints.ensures.records ∙ c.len.ensures.count ∙ ap (λ z. length z.1) c.store.ensures; count = c.new-checkpoints.ensures.count; refs = c.new-checkpoints.ensures.refs } }
+
 pub truncate-requires : goal.truncate-requires
-truncate-requires g c =
-    let held = c.len-held.ensures.count ∙ ap (λ z. length z.1) c.store.ensures in
-    record { targets = targets_stay c.args.repo.now.1 c.replay_and_publish.new.repo.1 c.len-held.result held c.replay_and_publish.ensures.extends c.in-Err.ensures.unpublished c.sound.ensures.held }
+truncate-requires g c = record { targets = c.in-Err.ensures.left.targets }
 
-pub returns-in-Err-clause-namer : goal.returns-in-Err-clause-namer
-returns-in-Err-clause-namer g c = ap (λ z. z.0) c.truncate.ensures ∙ c.replay_and_publish.ensures.namer
+pub returns-clause-extends : goal.returns-clause-extends
+returns-clause-extends g c =
+    subst (λ (r : g.row.N.Denot × Records). Extends c.args.repo.now.1.records r.1.records) (sym c.truncate.ensures)
+    (front_left c.replay_and_publish.new.checkpoints.records c.args.repo.now.1.records c.replay_and_publish.new.repo.1.records c.in-Err.ensures.left.front c.replay_and_publish.ensures.extends)
 
-pub returns-in-Err-clause-replayed : goal.returns-in-Err-clause-replayed
-returns-in-Err-clause-replayed g c =
-    imports_fault (g.N.Namer.name_of c.args.repo.now.0) c.args.repo.now.1 c.replay_and_publish.new.repo.1 c.truncate.new.self.1 (g.R.Source.coming c.args.source) (g.W.Sink.taken c.args.sink.now) (g.W.Sink.taken c.replay_and_publish.new.sink) c.in-Err.fault c.in-Err.ensures.replayed
-
-pub returns-in-Err-clause-unchanged : goal.returns-in-Err-clause-unchanged
-returns-in-Err-clause-unchanged g c =
-    let held = c.len-held.ensures.count ∙ ap (λ z. length z.1) c.store.ensures in
-    as_before c.args.repo.now.0 c.replay_and_publish.new.repo.0 c.args.repo.now.1 c.replay_and_publish.new.repo.1 c.len-held.result c.truncate.new.self c.truncate.ensures held c.replay_and_publish.ensures.extends c.replay_and_publish.ensures.namer c.in-Err.ensures.unpublished
+pub returns-in-Ok-clause-sound : goal.returns-in-Ok-clause-sound
+returns-in-Ok-clause-sound g c = subst (λ n. IsSound (g.N.Namer.name_of n) c.replay_and_publish.new.repo.1) {y = c.args.repo.now.0} c.replay_and_publish.ensures.namer c.sound-in-Ok.ensures
 
 pub returns-in-Ok-clause-exported : goal.returns-in-Ok-clause-exported
 returns-in-Ok-clause-exported g c =
@@ -42,19 +41,13 @@ returns-in-Ok-clause-stands g c =
     stands_replayed name c.args.repo.now.1 new (g.R.Source.coming c.args.source) (g.W.Sink.taken c.args.sink.now) (g.W.Sink.taken c.replay_and_publish.new.sink) c.in-Ok.report
     (c.histories_of_records.ensures name (g.met.N.Namer.is_namer c.args.repo.now.0)) sound c.in-Ok.ensures.replayed
 
-pub returns-in-Err-clause-exported : goal.returns-in-Err-clause-exported
-returns-in-Err-clause-exported g c =
+pub returns-clause-exported : goal.returns-clause-exported
+returns-clause-exported g c =
     let name = g.N.Namer.name_of c.args.repo.now.0 in
     let namer = g.met.N.Namer.is_namer c.args.repo.now.0 in
     stopped name (c.histories_of_records.ensures name namer) (c.names_tell_values.ensures name namer) c.exports_are_readable.ensures.readable c.exports_are_imported.ensures.imported
-    c.args.repo.now.1 c.replay_and_publish.new.repo.1 c.truncate.new.self.1 (g.R.Source.coming c.args.source) (g.W.Sink.taken c.args.sink.now) (g.W.Sink.taken c.replay_and_publish.new.sink) c.in-Err.fault
+    c.args.repo.now.1 (left_of c.replay_and_publish.new.checkpoints c.replay_and_publish.new.repo.1) c.truncate.new.self.1 (g.R.Source.coming c.args.source) (g.W.Sink.taken c.args.sink.now) (g.W.Sink.taken c.replay_and_publish.new.sink) c.in-Err.fault
     c.in-Err.ensures.replayed
-
-pub returns-in-Err-clause-gitlinks : goal.returns-in-Err-clause-gitlinks
-returns-in-Err-clause-gitlinks g c = λ none.
-    let held = c.len-held.ensures.count ∙ ap (λ z. length z.1) c.store.ensures in
-    let same = as_before c.args.repo.now.0 c.replay_and_publish.new.repo.0 c.args.repo.now.1 c.replay_and_publish.new.repo.1 c.len-held.result c.truncate.new.self c.truncate.ensures held c.replay_and_publish.ensures.extends c.replay_and_publish.ensures.namer c.in-Err.ensures.unpublished in
-    subst (λ (r : g.row.N.Denot × Records). HoldsNoNullGitlink (history_of r.1)) (sym same) none
 
 pub returns-in-Ok-clause-nulls : goal.returns-in-Ok-clause-nulls
 returns-in-Ok-clause-nulls g c =
@@ -62,8 +55,8 @@ returns-in-Ok-clause-nulls g c =
     null_refused name (c.histories_of_records.ensures name (g.met.N.Namer.is_namer c.args.repo.now.0)) c.nulls_are_refused.ensures c.args.repo.now.1 c.replay_and_publish.new.repo.1
     (g.R.Source.coming c.args.source) (g.W.Sink.taken c.args.sink.now) (g.W.Sink.taken c.replay_and_publish.new.sink) (Ok c.in-Ok.report) c.in-Ok.ensures.replayed
 
-pub returns-in-Err-clause-nulls : goal.returns-in-Err-clause-nulls
-returns-in-Err-clause-nulls g c =
+pub returns-clause-nulls : goal.returns-clause-nulls
+returns-clause-nulls g c =
     let name = g.N.Namer.name_of c.args.repo.now.0 in
-    null_refused name (c.histories_of_records.ensures name (g.met.N.Namer.is_namer c.args.repo.now.0)) c.nulls_are_refused.ensures c.args.repo.now.1 c.replay_and_publish.new.repo.1
+    null_refused name (c.histories_of_records.ensures name (g.met.N.Namer.is_namer c.args.repo.now.0)) c.nulls_are_refused.ensures c.args.repo.now.1 (left_of c.replay_and_publish.new.checkpoints c.replay_and_publish.new.repo.1)
     (g.R.Source.coming c.args.source) (g.W.Sink.taken c.args.sink.now) (g.W.Sink.taken c.replay_and_publish.new.sink) (Err c.in-Err.fault) c.in-Err.ensures.replayed

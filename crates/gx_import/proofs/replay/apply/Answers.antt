@@ -6,7 +6,11 @@ use Rattle.gx_model.specs.Revisions.{revision_of}
 use Rattle.gx_command.specs.Views.{shown_blob, shown_command, shown_commit, shown_reset, shown_tag}
 use Rattle.gx_import.specs.Additions.{values_added}
 use Rattle.gx_import.proofs.AppliedCommands.{added_as, clash_here, given_as, progress_as, unchanged}
+use Rattle.std.proofs.Common.{refl}
+use Rattle.gx_model.specs.Commands.{Asks, Progress}
 use Rattle.gx_import.specs.Rows.{rows_of}
+use Rattle.gx_import.proofs.KeptCheckpoints.{checkpoint_as, kept_anew, kept_here, kept_on, moved, same_records, when_ok}
+use Rattle.gx_import.proofs.ProgressTexts.{IsOther}
 use Rattle.gx_import.proofs.TipHomes.{AreHome, always, homes_longer}
 use Rattle.gx_import.proofs.replay.apply.Goals as goal
 
@@ -40,16 +44,118 @@ returns-in-Progress-clause-steps g c = λ s h.
     let wrote = rw c.as_slice.ensures.value at c.apply_progress.ensures in
     rw c.in-Progress.is (progress_as name c.args.repo.now.1 c.args.tables.now s c.in-Progress.text.items (taken c.args.sink.now) (taken c.apply_progress.new.sink) c.apply_progress.result h wrote)
 
+pub returns-in-Checkpoint-clause-steps : goal.returns-in-Checkpoint-clause-steps
+returns-in-Checkpoint-clause-steps g c = λ s h.
+    let name = g.N.Namer.name_of c.args.repo.now.0 in
+    rw c.in-Checkpoint.is (checkpoint_as name c.args.repo.now.1 c.apply_checkpoint.new.repo.1 c.args.tables.now s (g.W.Sink.taken c.args.sink.now) c.apply_checkpoint.result h (c.apply_checkpoint.ensures.published s h))
+
 pub returns-clause-steps : goal.returns-clause-steps
 returns-clause-steps g c = λ s h.
     let name = g.N.Namer.name_of c.args.repo.now.0 in
     let step_of : Command g.row.A.Denot → Result State Fault = λ command. step name revision_of s (shown_command command) in
     let is : step_of c.args.command ≡ Ok s =
-    elim c.in-Checkpoint.is as (λ _. step_of c.args.command ≡ Ok s) [
-      | inl e ↦ ap step_of e
-      | inr k ↦ elim k as (λ _. step_of c.args.command ≡ Ok s) [ inl e ↦ ap step_of e.1 | inr e ↦ ap step_of e ]
+    elim c.in-OptionLine.is as (λ _. step_of c.args.command ≡ Ok s) [
+      | inl e ↦ ap step_of e.1
+      | inr e ↦ ap step_of e
     ] in
     unchanged name c.args.repo.now.1 c.args.tables.now s (shown_command c.args.command) (g.W.Sink.taken c.args.sink.now) h is
+
+-- ---- what is kept
+
+pub returns-in-Blob-clause-keeps : goal.returns-in-Blob-clause-keeps
+returns-in-Blob-clause-keeps g c =
+    let name = g.N.Namer.name_of c.args.repo.now.0 in
+    rw c.in-Blob.is (kept_on name c.args.repo.now.1 c.apply_blob.new.repo.1 c.args.tables.now c.args.checkpoints.now (shown_blob c.in-Blob.blob) tt c.requires.fits c.apply_blob.ensures.extends c.apply_blob.ensures.refs c.apply_blob.result)
+
+pub returns-in-Blob-clause-moves : goal.returns-in-Blob-clause-moves
+returns-in-Blob-clause-moves g c = inl (record { count = refl; records = refl; refs = c.apply_blob.ensures.refs })
+
+pub returns-in-Blob-clause-sorted : goal.returns-in-Blob-clause-sorted
+returns-in-Blob-clause-sorted g c = when_ok c.apply_blob.result c.requires.sorted
+
+pub returns-in-Commit-clause-keeps : goal.returns-in-Commit-clause-keeps
+returns-in-Commit-clause-keeps g c =
+    let name = g.N.Namer.name_of c.args.repo.now.0 in
+    rw c.in-Commit.is (kept_on name c.args.repo.now.1 c.apply_commit.new.repo.1 c.args.tables.now c.args.checkpoints.now (shown_commit c.in-Commit.commit) tt c.requires.fits c.apply_commit.ensures.extends c.apply_commit.ensures.refs c.apply_commit.result)
+
+pub returns-in-Commit-clause-moves : goal.returns-in-Commit-clause-moves
+returns-in-Commit-clause-moves g c = inl (record { count = refl; records = refl; refs = c.apply_commit.ensures.refs })
+
+pub returns-in-Commit-clause-sorted : goal.returns-in-Commit-clause-sorted
+returns-in-Commit-clause-sorted g c = when_ok c.apply_commit.result c.requires.sorted
+
+pub returns-in-Tag-clause-keeps : goal.returns-in-Tag-clause-keeps
+returns-in-Tag-clause-keeps g c =
+    let name = g.N.Namer.name_of c.args.repo.now.0 in
+    rw c.in-Tag.is (kept_on name c.args.repo.now.1 c.apply_tag.new.repo.1 c.args.tables.now c.args.checkpoints.now (shown_tag c.in-Tag.tag) tt c.requires.fits c.apply_tag.ensures.extends c.apply_tag.ensures.refs c.apply_tag.result)
+
+pub returns-in-Tag-clause-moves : goal.returns-in-Tag-clause-moves
+returns-in-Tag-clause-moves g c = inl (record { count = refl; records = refl; refs = c.apply_tag.ensures.refs })
+
+pub returns-in-Tag-clause-sorted : goal.returns-in-Tag-clause-sorted
+returns-in-Tag-clause-sorted g c = when_ok c.apply_tag.result c.requires.sorted
+
+pub returns-in-Reset-clause-keeps : goal.returns-in-Reset-clause-keeps
+returns-in-Reset-clause-keeps g c =
+    let name = g.N.Namer.name_of c.args.repo.now.0 in
+    rw c.in-Reset.is (kept_here name c.args.repo.now.1 c.args.tables.now c.args.checkpoints.now (shown_reset c.in-Reset.reset) tt c.requires.fits c.apply_reset.result)
+
+pub returns-in-Reset-clause-moves : goal.returns-in-Reset-clause-moves
+returns-in-Reset-clause-moves g c = inl (record { count = refl; records = refl; refs = refl })
+
+pub returns-in-Reset-clause-sorted : goal.returns-in-Reset-clause-sorted
+returns-in-Reset-clause-sorted g c = when_ok c.apply_reset.result c.requires.sorted
+
+pub returns-in-Progress-clause-keeps : goal.returns-in-Progress-clause-keeps
+returns-in-Progress-clause-keeps g c =
+    let name = g.N.Namer.name_of c.args.repo.now.0 in
+    rw c.in-Progress.is (kept_here name c.args.repo.now.1 c.args.tables.now c.args.checkpoints.now (Progress c.in-Progress.text.items) tt c.requires.fits c.apply_progress.result)
+
+pub returns-in-Progress-clause-moves : goal.returns-in-Progress-clause-moves
+returns-in-Progress-clause-moves g c = inl (record { count = refl; records = refl; refs = refl })
+
+pub returns-in-Progress-clause-sorted : goal.returns-in-Progress-clause-sorted
+returns-in-Progress-clause-sorted g c = when_ok c.apply_progress.result c.requires.sorted
+
+pub returns-in-Feature-clause-keeps : goal.returns-in-Feature-clause-keeps
+returns-in-Feature-clause-keeps g c =
+    let name = g.N.Namer.name_of c.args.repo.now.0 in
+    rw c.in-Feature.is (kept_here name c.args.repo.now.1 c.args.tables.now c.args.checkpoints.now (Asks c.in-Feature.feature) tt c.requires.fits (Ok tt))
+
+pub returns-in-Feature-clause-moves : goal.returns-in-Feature-clause-moves
+returns-in-Feature-clause-moves g c = inl (record { count = refl; records = refl; refs = refl })
+
+pub returns-clause-keeps : goal.returns-clause-keeps
+returns-clause-keeps g c =
+    let name = g.N.Namer.name_of c.args.repo.now.0 in
+    let is_other : Command g.row.A.Denot → Type 0 = λ command. IsOther (shown_command command) in
+    let other : is_other c.args.command =
+    elim c.in-OptionLine.is as (λ _. is_other c.args.command) [
+      | inl e ↦ subst is_other (sym e.1) tt
+      | inr e ↦ subst is_other (sym e) tt
+    ] in
+    kept_here name c.args.repo.now.1 c.args.tables.now c.args.checkpoints.now (shown_command c.args.command) other c.requires.fits (Ok tt)
+
+pub returns-clause-moves : goal.returns-clause-moves
+returns-clause-moves g c = inl (record { count = refl; records = refl; refs = refl })
+
+pub returns-in-Checkpoint-clause-keeps : goal.returns-in-Checkpoint-clause-keeps
+returns-in-Checkpoint-clause-keeps g c =
+    let name = g.N.Namer.name_of c.args.repo.now.0 in
+    let ensures = c.apply_checkpoint.ensures in
+    rw c.in-Checkpoint.is (kept_anew name c.args.repo.now.1 c.apply_checkpoint.new.repo.1 c.args.tables.now c.args.checkpoints.now c.apply_checkpoint.new.checkpoints c.apply_checkpoint.result ensures.records ensures.next ensures.still ensures.published ensures.entered)
+
+pub returns-in-Checkpoint-clause-moves : goal.returns-in-Checkpoint-clause-moves
+returns-in-Checkpoint-clause-moves g c =
+    moved c.args.repo.now.1 c.apply_checkpoint.new.repo.1 c.args.checkpoints.now c.apply_checkpoint.new.checkpoints c.apply_checkpoint.result c.apply_checkpoint.ensures.next c.apply_checkpoint.ensures.still
+
+pub returns-in-Checkpoint-clause-extends : goal.returns-in-Checkpoint-clause-extends
+returns-in-Checkpoint-clause-extends g c = same_records c.args.repo.now.1.records c.apply_checkpoint.new.repo.1.records c.apply_checkpoint.ensures.records
+
+pub returns-in-Checkpoint-clause-homes : goal.returns-in-Checkpoint-clause-homes
+returns-in-Checkpoint-clause-homes g c =
+    let name = g.N.Namer.name_of c.args.repo.now.0 in
+    always _ c.apply_checkpoint.result (subst (λ records. AreHome name records (rows_of c.args.tables.now.branches)) (sym c.apply_checkpoint.ensures.records) c.requires.homes)
 
 pub returns-in-Blob-clause-homes : goal.returns-in-Blob-clause-homes
 returns-in-Blob-clause-homes g c =

@@ -1,0 +1,102 @@
+-- The names that were published: those of more refs are entered, and there are as many as the refs that a state published.
+use Rattle.std.proofs.Common.{◌≡◌, suc, Bool, true, false, cond, List, [], ◌∷◌, length, map, Option, Some, None, refl, sym, ap, subst, ◌∙◌}
+use Rattle.std.specs.Prelude.{IsTrue, T, is_some, not}
+use Rattle.std.specs.Bool.{passes}
+use Rattle.std.specs.Map.{lookup}
+use Rattle.std.specs.Option.{option_map}
+use Rattle.std.specs.Ordering.{eq_by_cmp, is_eq}
+use Rattle.std.specs.declared.cmp.Ordering.{Ordering}
+use Rattle.std.specs.declared.cmp.Ordering.TheVariants.{Less, Equal, Greater}
+use Rattle.std.specs.FinMap.Entries.{find, find-put, find_tied, is_sorted, is_sorted-put, put, same_entries}
+use Rattle.std.proofs.lemmas.Bool.{false≢true}
+use Rattle.std.proofs.lemmas.Map.Text.{is_eq-slice_cmp}
+use Rattle.gx_model.specs.declared.objects.Kind.{Kind}
+use Rattle.gx_model.specs.Texts.{Bytes, same_bytes}
+use Rattle.gx_model.specs.Histories.{Records, value_at}
+use Rattle.gx_model.specs.Records.{name_of}
+use Rattle.gx_model.specs.Publishing.{Change, with_changes}
+use Rattle.gx_model.specs.Replay.{byte_cmp, overwritten}
+use Rattle.gx_object.specs.declared.name.Name.{Name}
+use Rattle.gx_import.specs.Keeping.{AreNames, Enters, EntersAll}
+use Rattle.gx_import.specs.RefChanges.{changes_of}
+use Rattle.gx_import.specs.declared.tables.Tables.{Tables}
+use Rattle.gx_import.proofs.RelatedRows.{related_put}
+use Rattle.gx_import.proofs.SetRefs.{changes_seen, overwritten_is, seen, seen_all, targets_of}
+use Rattle.gx_import.proofs.SortedRows.{order, same_text}
+
+tied : (q n : Bytes) → eq_by_cmp byte_cmp q n ≡ true → byte_cmp q n ≡ Equal
+tied q n e = by (byte_cmp q n) e
+  where
+    by : (o : Ordering) → is_eq o ≡ true → o ≡ Equal
+    by Equal e = refl
+    by Less e = absurd (cc e)
+    by Greater e = absurd (cc e)
+
+module _ {Y : Type 0} where
+  -- the two look-ups of a name
+  found : (n : Bytes) (ys : List (Bytes × Y)) → find byte_cmp n ys ≡ lookup (same_bytes n) ys
+  found n [] = refl
+  found n (y ∷ ys) = λ i. cond (is_eq-slice_cmp n y.0 i) (Some y.1) (found n ys i)
+
+  -- what stands at a name is put there
+  put_there : (n : Bytes) (y : Y) (ys : List (Bytes × Y)) → T (is_sorted byte_cmp ys) → lookup (same_bytes n) ys ≡ Some y → put byte_cmp n y ys ≡ ys
+  put_there n y ys s e =
+      same_entries byte_cmp order same_text (put byte_cmp n y ys) ys (is_sorted-put byte_cmp order n y ys s) s
+      (λ q. find-put byte_cmp order q n y ys ∙ by q (eq_by_cmp byte_cmp q n) refl)
+    where
+      by : (q : Bytes) (b : Bool) → eq_by_cmp byte_cmp q n ≡ b → cond b (Some y) (find byte_cmp q ys) ≡ find byte_cmp q ys
+      by q true t = sym e ∙ sym (found n ys) ∙ find_tied byte_cmp order q n (tied q n t) ys
+      by q false t = refl
+
+-- a name more
+pub names_put : {X Y : Type 0} (n : Bytes) (x : X) (y : Y) (xs : List (Bytes × X)) (ys : List (Bytes × Y)) → AreNames xs ys → AreNames (put byte_cmp n x xs) (put byte_cmp n y ys)
+names_put n x y xs ys h = related_put (λ _ _. Unit {0}) n x y tt xs ys h
+
+-- a name that is there
+pub names_there : {X Y : Type 0} (n : Bytes) (x : X) (y : Y) (xs : List (Bytes × X)) (ys : List (Bytes × Y)) → IsTrue (is_sorted byte_cmp ys) → lookup (same_bytes n) ys ≡ Some y → AreNames xs ys
+    → AreNames (put byte_cmp n x xs) ys
+names_there n x y xs ys s e h = subst (AreNames (put byte_cmp n x xs)) (put_there n y ys (passes _ s) e) (names_put n x y xs ys h)
+
+-- one name is entered
+pub entered : (change : Change) (old new : List (Bytes × Name)) (called : Name) → new ≡ put byte_cmp change.0 called old → Enters old new (change ∷ [])
+entered change old new called e = λ refs h. subst (AreNames (put byte_cmp change.0 change.1 refs)) (sym e) (names_put change.0 change.1 called refs old h)
+
+-- or it is there
+pub not_entered : (change : Change) (rows : List (Bytes × Name)) (called : Name) → IsTrue (is_sorted byte_cmp rows) → lookup (same_bytes change.0) rows ≡ Some called → Enters rows rows (change ∷ [])
+not_entered change rows called s e = λ refs h. names_there change.0 change.1 called refs rows s e h
+
+-- where it is found
+pub found_entered : {X : Type 0} (change : Change) (rows : List (Bytes × Name)) (f : X → Name) (o : Option X) (b : Bool) → IsTrue (is_sorted byte_cmp rows)
+    → option_map f o ≡ lookup (same_bytes change.0) rows → is_some o ≡ not b → b ≡ false → Enters rows rows (change ∷ [])
+found_entered change rows f None b s e q n = absurd (false≢true (q ∙ ap not n))
+found_entered change rows f (Some x) b s e q n = not_entered change rows (f x) s (sym e)
+
+-- ---- all names of a state
+
+module _ {X Y Z : Type 0} (f : X → Y) where
+  pub names_mapped : (xs : List (Bytes × X)) (zs : List (Bytes × Z)) → AreNames xs zs → AreNames (map (λ (t : Bytes × X). let r : Bytes × Y = (t.0, f t.1) in r) xs) zs
+  names_mapped [] [] h = tt
+  names_mapped [] (z ∷ zs) h = absurd h
+  names_mapped (x ∷ xs) [] h = absurd h
+  names_mapped (x ∷ xs) (z ∷ zs) h = (h.0, tt, names_mapped xs zs h.2)
+
+  pub names_unmapped : (xs : List (Bytes × X)) (zs : List (Bytes × Z)) → AreNames (map (λ (t : Bytes × X). let r : Bytes × Y = (t.0, f t.1) in r) xs) zs → AreNames xs zs
+  names_unmapped [] [] h = tt
+  names_unmapped [] (z ∷ zs) h = absurd h
+  names_unmapped (x ∷ xs) [] h = absurd h
+  names_unmapped (x ∷ xs) (z ∷ zs) h = (h.0, tt, names_unmapped xs zs h.2)
+
+-- the same names are as many
+pub as_many : {X Y : Type 0} (xs : List (Bytes × X)) (ys : List (Bytes × Y)) → AreNames xs ys → length xs ≡ length ys
+as_many [] [] h = refl
+as_many [] (y ∷ ys) h = absurd h
+as_many (x ∷ xs) [] h = absurd h
+as_many (x ∷ xs) (y ∷ ys) h = ap suc (as_many xs ys h.2)
+
+-- the names of all that a state publishes
+pub all_entered : (name : Kind → Bytes → Bytes) {A : Type 0} (r : Records) (tables : Tables A) (old new : List (Bytes × Name)) → Enters old new (changes_of tables) → EntersAll name r tables old new
+all_entered name r tables old new enters = λ s h names.
+    let all = enters (map (seen name) s.published) (names_mapped (λ t. name_of name (value_at t)) s.published old names) in
+    let same : with_changes (map (seen name) s.published) (changes_of tables) ≡ map (seen name) (overwritten s s.published) =
+    ap (with_changes (map (seen name) s.published)) (changes_seen name r tables s h) ∙ sym (seen_all name s.published (targets_of s)) ∙ ap (map (seen name)) (sym (overwritten_is s s.published)) in
+    names_unmapped (λ t. name_of name (value_at t)) (overwritten s s.published) new (subst (λ refs. AreNames refs new) same all)

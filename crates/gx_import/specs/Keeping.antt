@@ -1,0 +1,80 @@
+-- What an import holds of its checkpoints: the records and refs that a refusal leaves, and the names that were published.
+-- Source: git-fast-import(1), "checkpoint".
+use Rattle.std.specs.Prelude.{◌≡◌, ◌⊎◌, ◌+◌, ◌≤◌, [], List, length, take, Result, Ok, Err, ⊤}
+use Rattle.std.specs.List.{AllByRecursion}
+use Rattle.gx_model.specs.declared.objects.Kind.{Kind}
+use Rattle.gx_model.specs.Texts.{Bytes}
+use Rattle.gx_model.specs.Histories.{Records}
+use Rattle.gx_model.specs.Commands.{Command}
+use Rattle.gx_model.specs.Publishing.{Change, Ref, with_changes}
+use Rattle.gx_model.specs.Revisions.{revision_of}
+use Rattle.gx_model.specs.Replay.{State, overwritten, step}
+use Rattle.gx_model.specs.Sound.{IsTarget}
+use Rattle.gx_object.specs.declared.name.Name.{Name}
+use Rattle.gx_import.specs.Imports.{Leaves}
+use Rattle.gx_import.specs.Rows.{AreRows, rows_of}
+use Rattle.gx_import.specs.Standing.{Stands}
+use Rattle.gx_import.specs.declared.checkpoints.Checkpoints.{Checkpoints}
+use Rattle.gx_import.specs.declared.fault.ImportKind.{ImportKind}
+use Rattle.gx_import.specs.declared.tables.Tables.{Tables}
+
+-- the same names in the same order
+abbrev pub AreNames : {X Y : Type 0} → List (Bytes × X) → List (Bytes × Y) → Type 0
+AreNames xs ys = AreRows (λ x y. ⊤) xs ys
+
+-- the names of changes entered among others
+abbrev pub Enters : List (Bytes × Name) → List (Bytes × Name) → List Change → Type 0
+Enters old new changes = (refs : List Ref) → AreNames refs old → AreNames (with_changes refs changes) new
+
+-- what a refusal leaves: the records of the last checkpoint, and the refs
+abbrev pub left_of : {A : Type 0} → Checkpoints A → Records → Records
+left_of checkpoints repository = record { records = take checkpoints.records repository.records; refs = repository.refs }
+
+-- It is a repository with the old records in front, and the old one where no checkpoint was applied.
+pub record IsLeft {A : Type 0} (old repository : Records) (checkpoints : Checkpoints A) : Type 0 where
+  pub fits : checkpoints.records ≤ length repository.records
+  pub front : length old.records ≤ checkpoints.records
+  pub targets : AllByRecursion (λ ref. IsTarget (take checkpoints.records repository.records) ref.0 ref.1) repository.refs
+  pub none : checkpoints.count ≡ 0 → (checkpoints.records ≡ length old.records) × (repository.refs ≡ old.refs)
+
+-- the repository and the checkpoints keep what the state keeps
+pub record Keeps {A : Type 0} (repository : Records) (checkpoints : Checkpoints A) (state : State) : Type 0 where
+  pub leaves : Leaves (left_of checkpoints repository) checkpoints.count state.kept
+  pub names : AreNames state.published (rows_of checkpoints.refs)
+
+-- no checkpoint was applied, and nothing published
+pub record AreNone {A : Type 0} (repository : Records) (checkpoints : Checkpoints A) : Type 0 where
+  pub records : checkpoints.records ≡ length repository.records
+  pub count : checkpoints.count ≡ 0
+  pub refs : rows_of checkpoints.refs ≡ []
+
+-- one more, and what is held then
+pub record IsNext {A : Type 0} (repository : Records) (was now : Checkpoints A) : Type 0 where
+  pub count : now.count ≡ was.count + 1
+  pub records : now.records ≡ length repository.records
+  pub targets : AllByRecursion (λ ref. IsTarget repository.records ref.0 ref.1) repository.refs
+
+-- no more, and the refs stay
+pub record AreStill {A : Type 0} (old new : Records) (was now : Checkpoints A) : Type 0 where
+  pub count : now.count ≡ was.count
+  pub records : now.records ≡ was.records
+  pub refs : new.refs ≡ old.refs
+
+-- a checkpoint more, or none
+abbrev pub Moves : {A : Type 0} → Records → Records → Checkpoints A → Checkpoints A → Type 0
+Moves old new was now = AreStill old new was now ⊎ IsNext new was now
+
+module _ (name : Kind → Bytes → Bytes) {A : Type 0} where
+  -- the names that each state publishes are entered
+  abbrev pub EntersAll : Records → Tables A → List (Bytes × Name) → List (Bytes × Name) → Type 0
+  EntersAll repository tables old new =
+      (s : State) → Stands name repository tables s → AreNames s.published old → AreNames (overwritten s s.published) new
+
+  -- what is kept after a command is what the model keeps; where the command is refused, it is what was kept before
+  abbrev pub KeepsAfter : Records → Records → Checkpoints A → Checkpoints A → State → Command → Result (Unit {0}) ImportKind → Type 0
+  KeepsAfter old new was now s c (Ok _) = (t : State) → step name revision_of s c ≡ Ok t → Keeps new now t
+  KeepsAfter old new was now s c (Err _) = Leaves (left_of now new) now.count s.kept
+
+  -- the same in each state that the repository, the tables and the checkpoints stand for
+  abbrev pub KeepsInEach : Records → Records → Tables A → Checkpoints A → Checkpoints A → Command → Result (Unit {0}) ImportKind → Type 0
+  KeepsInEach old new tables was now c answer = (s : State) → Stands name old tables s → Keeps old was s → KeepsAfter old new was now s c answer

@@ -1,104 +1,309 @@
 #!/usr/bin/env bash
-# Makes three streams by other programs, and compares what `gx try` shows of each with what `git show` does after `git fast-import`:
-# `git fast-export` of a repository with merges, tags, links and a submodule; cvs-fast-export of a CVS module; reposurgeon's
-# conversion of a Mercurial repository.
-#   bench/real.sh [FOLDER]      FOLDER: where to keep the streams; a folder of its own, dropped at the end, if left out
-# It builds crates/gx, and needs rt, git, cvs, cvs-fast-export, hg and reposurgeon (Debian packages of these names, and mercurial).
+# Has small repositories of several systems converted by the converters of the table below, and compares what `gx` makes of each stream with what
+# `git fast-import` makes of it: all refs, all commits with their parents, the name of each path of each ref, the files of each commit, and the bytes of
+# each object. Of a stream that gx refuses it tells the refusal and what git does; then the stream is mended, and compared so.
+#   bench/real.sh [FOLDER [CONVERTER..]]      FOLDER: where to keep repositories and streams; one of its own, dropped at the end, if it is left out
+# GX names the program; without it crates/gx is built, which needs rt. A converter is left out, and named, where one of its programs is missing. Debian's
+# packages have the programs' names, but for hg (mercurial), hggit (mercurial-git), svn and svnadmin (subversion), src (simple-revision-control),
+# fastimport (python3-fastimport), public-inbox-mda (public-inbox), and import-tars.perl, which is in git's package.
+# Status 1 says that a converter failed, or that something is refused or differs from git which the table doesn't tell, or that doesn't any more.
 set -euo pipefail
 cd "$(dirname "$0")/.."
-root=$PWD
+. bench/story.bash
+
+# Each converter, its programs, and its stories (bench/story.bash). Behind `=` stands the fault of the stream, or `names` where an identity begins with
+# `<`, so that commits get other names than git's.
+table='
+git-fast-export     git                              plain quote people=names gone=Unsupported
+git-filter-repo     git-filter-repo                  plain quote gone=Unsupported
+hg-fastexport       hg                               plain quote=BadPath people=names gone
+breezy              brz                              plain quote=BadPath people=names
+fossil              fossil                           plain quote=BadPath people gone
+darcs               darcs                            plain quote people
+cvs-fast-export     cvs,cvs-fast-export              plain quote=BadPath gone
+reposurgeon-hg      hg,reposurgeon                   plain quote=BadPath people gone
+reposurgeon-svn     svn,svnadmin,reposurgeon         plain quote=BadPath people gone
+reposurgeon-src     src,reposurgeon                  plain
+svn-all-fast-export svn,svnadmin,svn-all-fast-export plain quote=BadPath people gone=Unsupported
+git-svn             svn,svnadmin,git-svn             plain quote people gone
+svn2git             svn,svnadmin,git-svn,svn2git     plain quote people
+hg-git              hg,hggit                         plain quote people gone
+python3-fastimport  fastimport                       plain quote=BadPath people=names
+public-inbox        public-inbox-mda                 plain people
+import-tars         import-tars.perl                 plain quote=BadPath
+'
+
 if [ $# -gt 0 ]; then
   folder=$1
+  shift
   mkdir -p "$folder"
 else
   folder=$(mktemp -d)
   trap 'rm -rf "$folder"' EXIT
 fi
+chosen=("$@")
 folder=$(cd "$folder" && pwd)
-gx=${GX:-$root/crates/gx/out/gx}
+gx=${GX:-crates/gx/out/gx}
 [ -x "$gx" ] || (cd crates/gx && rt run -- blobs < /dev/null)
+gx=$(realpath "$gx")
 
-export GIT_AUTHOR_NAME=A GIT_AUTHOR_EMAIL=a@example.com GIT_COMMITTER_NAME=C GIT_COMMITTER_EMAIL=c@example.com
-export HGUSER='H <h@example.com>' LOGNAME=c TZ=UTC
-tick=1700000000
-save() {
-  tick=$((tick + 60))
-  GIT_AUTHOR_DATE="$tick +0100" GIT_COMMITTER_DATE="$tick +0000" git "$@"
+# no settings of the user
+export HOME=$folder/home TZ=UTC LC_ALL=C.UTF-8 GIT_CONFIG_NOSYSTEM=1 HGRCPATH=
+ann='Ann <ann@example.com>'
+rm -rf "$HOME"
+mkdir -p "$HOME"
+git config --global user.name Ann
+git config --global user.email ann@example.com
+import_tars=/usr/share/doc/git/contrib/fast-import/import-tars.perl
+
+# The converters. Each makes its repository in the current folder, and writes the stream to the descriptor 3.
+
+run_git_fast_export() {
+  local -a wanted=(--all)
+  (git_repository repo)
+  [ "$story" != gone ] || wanted=(--all --tag-of-filtered-object=rewrite -- src)
+  git -C repo fast-export --full-tree "${wanted[@]}" >&3
 }
 
-make_git() {
-  git init -q -b main "$1"
-  cd "$1"
-  mkdir -p src/deep doc
-  printf 'int main(void) { return 0; }\n' > src/main.c
-  printf 'deep\n' > src/deep/file
-  printf 'read me\n' > README
-  printf 'tab\tand "quote"\n' > 'doc/odd "name".txt'
-  ln -s README link
-  git add -A && save commit -q -m 'First'
-  git tag plain && save tag -a v1 -m 'The first version'
-  git checkout -q -b topic
-  printf 'topic\n' > doc/topic && chmod +x src/main.c
-  git add -A && save commit -q -m 'Topic'
-  git checkout -q main
-  git mv src/deep/file src/deep/moved
-  printf 'second\n' >> README
-  git update-index --add --cacheinfo 160000,d670460b4b4aece5915caf5c68d12f560a9fe3e4,module
-  git add README && save commit -q -m 'Move a file, add a module'
-  save merge -q --no-ff -m 'Merge topic' topic
-  save tag -a v2 -m 'The second version' && git rm -q -r doc && save commit -q -m 'Drop the documents'
-  git fast-export --all
+run_git_filter_repo() {
+  local -a wanted=()
+  (git_repository repo)
+  [ "$story" != gone ] || wanted=(--path src)
+  echo 'one==>eins' > words
+  git -C repo filter-repo --force --dry-run --replace-text "$PWD/words" "${wanted[@]}"
+  cat repo/.git/filter-repo/fast-export.filtered >&3
 }
 
-make_cvs() {
-  mkdir -p "$1/module" && cd "$1"
-  cvs -Q -d "$1/store" init
-  mkdir "$1/store/module" && cvs -Q -d "$1/store" checkout module
-  cd module && mkdir lib && printf 'one\n' > a.txt && printf 'lib\n' > lib/b.txt
-  cvs -Q add lib && cvs -Q add a.txt lib/b.txt && cvs -Q commit -m 'First'
-  cvs -Q tag START && sleep 2
-  printf 'two\n' >> a.txt && cvs -Q commit -m 'Second' && cvs -Q tag -b BRANCH && sleep 2
-  cvs -Q update -r BRANCH && printf 'branch\n' > lib/b.txt && cvs -Q commit -m 'On a branch'
-  find "$1/store/module" -name '*,v' | cvs-fast-export
+run_hg_fastexport() {
+  (hg_repository repo)
+  hg -R repo --config extensions.fastexport= fastexport >&3
 }
 
-make_hg() {
-  hg init "$1" && cd "$1"
-  mkdir sub && printf 'one\n' > a && printf 'x\n' > sub/x && hg -q commit -A -m 'First' -d '1700000000 0'
-  printf 'two\n' >> a && hg -q commit -m 'Second' -d '1700000060 -3600'
-  hg -q update 0 && printf 'side\n' > sub/y && hg -q commit -A -m 'Side' -d '1700000120 0'
-  hg -q merge 1 && hg -q commit -m 'Merge' -d '1700000180 0'
-  hg tag -d '1700000240 0' release
-  cd .. && reposurgeon "read $1" 'prefer git' 'write -'
+run_breezy() {
+  (brz_repository repo)
+  brz fast-export --plain repo/trunk >&3
 }
 
-# what git shows of a revision: a tree as `ls-tree` prints it, any other object's bytes
-git_shows() {
-  case $(git -C "$1" cat-file -t "$2") in
-    tree) git -C "$1" -c core.quotePath=true ls-tree "$2" ;;
-    *) git -C "$1" cat-file "$(git -C "$1" cat-file -t "$2")" "$2" ;;
+run_fossil() {
+  (fossil_repository repo)
+  fossil export --git repo >&3
+}
+
+run_darcs() {
+  (darcs_repository repo)
+  darcs convert export -q --repodir repo >&3
+}
+
+run_cvs_fast_export() {
+  (LOGNAME=ann cvs_repository cvsroot)
+  find cvsroot/module -name '*,v' | cvs-fast-export >&3
+}
+
+run_reposurgeon_hg() {
+  (hg_repository repo)
+  reposurgeon 'read repo' 'prefer git' 'write -' >&3
+}
+
+run_reposurgeon_svn() {
+  (svn_repository repo)
+  svnadmin dump -q repo > repo.dump
+  reposurgeon 'read <repo.dump' 'prefer git' 'write -' >&3
+}
+
+run_reposurgeon_src() {
+  (src_repository repo)
+  cd repo && reposurgeon 'read .' 'prefer git' 'write -' >&3
+}
+
+run_svn_all_fast_export() {
+  (svn_repository repo)
+  printf '%s\n' 'create repository out' 'end repository' 'match /trunk/' 'repository out' 'branch master' 'end match' 'match /branches/([^/]+)/' \
+    'repository out' 'branch \1' 'end match' 'match /tags/([^/]+)/' 'repository out' 'branch refs/tags/\1' 'annotated true' 'end match' \
+    'match /' 'end match' > rules
+  svn-all-fast-export --create-dump --rules rules --identity-domain example.com --empty-dirs repo
+  cat out.fi >&3
+}
+
+run_git_svn() {
+  (svn_repository repo)
+  git svn clone -q --stdlayout "file://$PWD/repo" clone
+  git -C clone fast-export --all --full-tree >&3
+}
+
+run_svn2git() {
+  (svn_repository repo)
+  mkdir clone && cd clone && svn2git --nobranches "file://${PWD%/*}/repo"
+  git fast-export --all --full-tree >&3
+}
+
+run_hg_git() {
+  (hg_repository repo)
+  git init -q --bare clone && cd repo && hg bookmark -r default main && hg bookmark -r topic side
+  hg -q --config extensions.hggit= push ../clone
+  git -C ../clone fast-export --all --full-tree >&3
+}
+
+# `python3` may be another one, which doesn't see Debian's modules
+run_python3_fastimport() {
+  (git_repository repo)
+  git -C repo fast-export --all | /usr/bin/python3 -c 'import sys
+from fastimport.parser import ImportParser
+from fastimport.processors.filter_processor import FilterProcessor
+FilterProcessor(params={b"exclude_paths": [b"doc/", b"module"]}, outf=sys.stdout.buffer).process(ImportParser(sys.stdin.buffer).iter_commands)' >&3
+}
+
+run_public_inbox() {
+  (inbox_repository repo)
+  git -C repo/git/0.git fast-export --all --full-tree >&3
+}
+
+# it starts `git fast-import`; here a `git` that hands on what that one is given
+run_import_tars() {
+  mkdir p-1 bin && (cd p-1 && first_files && with_link && with_tab) && tar -cf p-1.tar p-1
+  mv p-1 p-2 && echo two >> p-2/README && tar -czf p-2.tar.gz p-2
+  printf '#!/bin/sh\ncat\n' > bin/git && chmod +x bin/git
+  PATH=$PWD/bin:$PATH perl "$import_tars" p-1.tar p-2.tar.gz >&3
+}
+
+there() {
+  case $1 in
+    git-svn) [ -x "$(git --exec-path)/git-svn" ] ;;
+    hggit) ! hg --config extensions.hggit= version 2>&1 | grep -q 'failed to import' ;;
+    fastimport) /usr/bin/python3 -c 'import fastimport' ;;
+    import-tars.perl) [ -f "$import_tars" ] ;;
+    *) command -v "$1" ;;
+  esac > "$folder/found" 2>&1
+}
+
+# The two importers: each makes its repository of a stream, anew
+
+by_git() {
+  rm -rf git && git init -q --bare git
+  git -C git fast-import --quiet < "$1" > git.progress 2> git.fault
+}
+
+by_gx() {
+  rm -f store && "$gx" init store
+  "$gx" import store < "$1" > gx.progress 2> gx.fault
+}
+
+# what to ask both: their refs, each ref's commit and tree, and each path of it; and git's commits and objects
+ask() {
+  local -a paths
+  local ref
+  words=()
+  mapfile -t refs < <(git -C git for-each-ref --format='%(refname)')
+  for ref in "${refs[@]}"; do
+    mapfile -d '' -t paths < <(git -C git ls-tree -r -t -z --name-only "$ref")
+    words+=("$ref" "$ref^{commit}" "$ref^{tree}" "${paths[@]/#/"$ref:"}")
+  done
+  mapfile -t commits < <(git -C git rev-list --all)
+  mapfile -t objects < <(git -C git cat-file --batch-all-objects --batch-check='%(objectname)')
+}
+
+git_answers() {
+  local word
+  git -C git show-ref
+  git -C git rev-list --parents --all | sort
+  git -C git rev-parse "${words[@]}"
+  for word in "${commits[@]}"; do git -C git ls-tree -r "$word"; done
+  for word in "${objects[@]}"; do git -C git cat-file -p "$word"; done
+}
+
+gx_answers() {
+  local word
+  "$gx" refs store
+  "$gx" log --parents store "${refs[@]}" | sort
+  "$gx" rev-parse store "${words[@]}"
+  for word in "${commits[@]}"; do "$gx" ls -r store "$word"; done
+  for word in "${objects[@]}"; do "$gx" show store "$word"; done
+}
+
+same() {
+  ask
+  [ ${#commits[@]} -gt 0 ] && git_answers > git.answers && gx_answers > gx.answers 2>&1 && cmp git.answers gx.answers > difference
+}
+
+counted() {
+  git -C git cat-file --batch-all-objects --batch-check='%(objecttype)' | sort | uniq -c | awk '{ printf ", %s %ss", $1, $2 }'
+  echo ", ${#words[@]} revisions"
+}
+
+# the stream without what the story has that is refused
+mend() {
+  case $story in
+    quote) sed 's/^\(M [^ ]* [^ ]*\) "quoted$/\1 "\\"quoted"/' "$1" ;;
+    people) sed -E 's/^(author|committer|tagger) </\1  </' "$1" ;;
+    gone) sed '/^from 0\{40\}$/d' "$1" ;;
   esac
 }
 
+# how one story came out: `same`, `names` or a fault in `met`, and what is said of it in `told`
 compare() {
-  local name=$1 shown=0 word tip
-  rm -rf "$folder/$name.git" && git init -q --bare "$folder/$name.git"
-  git -C "$folder/$name.git" fast-import --quiet < "$folder/$name.stream"
-  for tip in $(git -C "$folder/$name.git" for-each-ref --format='%(refname)'); do
-    git -C "$folder/$name.git" ls-tree -r -t -z --name-only "$tip" > "$folder/paths"
-    { printf '%s\0' "$tip" "$tip^{commit}" "$tip^{tree}"; sed -z "s|^|$tip:|" "$folder/paths"; git -C "$folder/$name.git" rev-list --all | tr '\n' '\0'; } > "$folder/words"
-    while IFS= read -r -d '' word; do
-      git -C "$folder/$name.git" cat-file -e "$word" 2> "$folder/missing" || continue
-      git_shows "$folder/$name.git" "$word" > "$folder/want"
-      "$gx" try "$word" < "$folder/$name.stream" > "$folder/got"
-      cmp "$folder/want" "$folder/got" || { echo "$name: $word differs"; exit 1; }
-      shown=$((shown + 1))
-    done < "$folder/words"
-  done
-  echo "$name: $(stat -c %s "$folder/$name.stream") bytes, $shown revisions shown as git does"
+  local git_says='git imports it'
+  met=same
+  told="$(stat -c %s stream) bytes"
+  by_git stream || git_says=$(head -n 1 git.fault)
+  if ! by_gx stream; then
+    met=$(sed 's/.*: //' gx.fault)
+    told+=", $(< gx.fault) ($git_says)"
+  elif [ "$git_says" != 'git imports it' ]; then
+    met=$git_says
+  elif ! same; then
+    met=names
+    told+=', other names'
+  fi
+  [ "$met" = same ] || {
+    mend stream > mended
+    [ "$git_says" = 'git imports it' ] || by_git mended
+    if by_gx mended && same; then told+='; mended'; else met+=', also when it was mended,'; fi
+  }
+  told+=$(counted)
 }
 
-(make_git "$folder/git") > "$folder/git-fast-export.stream"
-(make_cvs "$folder/cvs") > "$folder/cvs-fast-export.stream"
-(make_hg "$folder/hg") > "$folder/reposurgeon.stream"
-for name in git-fast-export cvs-fast-export reposurgeon; do compare "$name"; done
+failed=0
+try_story() {
+  local name=$1 story=$2 expected=$3 here=$folder/$1-$2 status=0 bob='Bob <bob@example.com>' cas='Cas <cas@example.com>'
+  if [ "$story" = people ]; then
+    bob='<bob@example.com>'
+    cas=cas
+  fi
+  rm -rf "$here"
+  mkdir -p "$here/home"
+  set +e
+  (
+    set -e
+    cd "$here"
+    "run_${name//-/_}"
+  ) 3> "$here/stream" > "$here/log" 2>&1
+  status=$?
+  set -e
+  cd "$here"
+  if [ $status -ne 0 ]; then
+    met=failed
+    told="the converter failed: $(tail -n 1 log)"
+  else
+    compare
+  fi
+  [ "$met" = "$expected" ] || {
+    failed=$((failed + 1))
+    told="FAIL $met instead of $expected, $told"
+  }
+  printf '%-20s %-7s %s\n' "$name" "$story" "$told"
+}
+
+while read -r name programs stories; do
+  [ ${#chosen[@]} -eq 0 ] || [[ " ${chosen[*]} " == *" $name "* ]] || continue
+  missing=
+  for program in ${programs//,/ }; do there "$program" || missing+=" $program"; done
+  if [ -n "$missing" ]; then
+    echo "$name is left out, since it needs$missing"
+    continue
+  fi
+  for word in $stories; do
+    expected=same
+    [[ $word != *=* ]] || expected=${word#*=}
+    try_story "$name" "${word%%=*}" "$expected" < /dev/null
+  done
+done < <(sed '/^$/d' <<< "$table")
+[ $failed -eq 0 ]

@@ -9,6 +9,7 @@ use std::alloc::Allocator;
 use std::hash::RandomState;
 use std::test::Fail;
 
+mod checkpoints;
 mod counting;
 mod devices;
 mod rows;
@@ -204,6 +205,7 @@ fn faults_print_their_command_and_kind(rt: HostRuntime) -> Result<(), Fail> {
     let fault = ImportFault {
         command: 7,
         kind: ImportKind::NotFastForward,
+        checkpoints: 0,
     };
     let text = format!(in rt.alloc(); "{fault}")?;
     assert_eq!(rt; text.as_bytes(), b"command 7: NotFastForward".as_slice());

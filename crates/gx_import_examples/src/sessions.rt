@@ -16,6 +16,8 @@ pub(crate) enum Step<'a> {
     Import(&'a [&'a [u8]], (u64, u64, u64)),
     /// The parts of a stream are refused: the number of the command, and what is wrong with it.
     Refuse(&'a [&'a [u8]], u64, ImportKind),
+    /// The same, with so many checkpoints before it.
+    RefuseBehind(&'a [&'a [u8]], u64, ImportKind, u64),
     /// So many objects and refs are held.
     Hold(usize, usize),
     /// A revision shows the object of this name.
@@ -68,9 +70,13 @@ pub(crate) fn joined<A: Allocator + Copy>(
     Ok(text)
 }
 
-/// The answer to a stream's command that is refused.
+/// The answer to a stream's command that is refused, with no checkpoint before it.
 pub(crate) fn refusal(command: u64, kind: ImportKind) -> Result<Report, ImportFault> {
-    Err(ImportFault { command, kind })
+    Err(ImportFault {
+        command,
+        kind,
+        checkpoints: 0,
+    })
 }
 
 /// Imports the bytes of several parts, which come as one, in pieces.
@@ -118,6 +124,16 @@ pub(crate) fn refuses<N: Namer, A: Allocator + Copy>(
     kind: ImportKind,
 ) -> bool {
     imported(alloc, repo, parts) == refusal(command, kind)
+}
+
+/// Whether an import of these parts is refused with this fault.
+fn refuses_with<N: Namer, A: Allocator + Copy>(
+    alloc: A,
+    repo: &mut Repo<N, A>,
+    parts: &[&[u8]],
+    fault: ImportFault,
+) -> bool {
+    imported(alloc, repo, parts) == Err(fault)
 }
 
 /// Whether a repository has so many objects and refs.
@@ -272,6 +288,14 @@ fn is_done<N: Namer, A: Allocator + Copy>(
     match step {
         Step::Import(parts, numbers) => imports(alloc, repo, parts, *numbers),
         Step::Refuse(parts, command, kind) => refuses(alloc, repo, parts, *command, *kind),
+        Step::RefuseBehind(parts, command, kind, checkpoints) => {
+            let fault = ImportFault {
+                command: *command,
+                kind: *kind,
+                checkpoints: *checkpoints,
+            };
+            refuses_with(alloc, repo, parts, fault)
+        }
         Step::Hold(objects, refs) => holds(repo, *objects, *refs),
         Step::Show(revision, digits) => shows(alloc, repo, revision, digits),
         Step::Miss(revision, reason) => misses(alloc, repo, revision, *reason),

@@ -152,6 +152,7 @@ fn failed_write_refuses_the_import(rt: HostRuntime) -> Result<(), Fail> {
         let fault = ImportFault {
             command: *command,
             kind: ImportKind::WriteFailed,
+            checkpoints: 0,
         };
         assert!(rt; fault_of(rt.alloc(), state, source) == Some(fault));
     }

@@ -45,7 +45,7 @@ fn main(rt: HostRuntime) -> io::Result<ExitCode> {
 fn run(rt: &HostRuntime, line: &Line<'_>, state: RandomState) -> Result<(), RunFault> {
     match line {
         Line::Blobs | Line::Try(_) => {
-            stream(rt, line, b"", state)?;
+            refusal(&stream(rt, line, b"", state))?;
             Ok(())
         }
         Line::Init { file } => init(rt, line, file, state),
@@ -87,13 +87,11 @@ fn init_locked(
     state: RandomState,
 ) -> Result<(), RunFault> {
     want_no_store(rt, next.store())?;
-    if let Some(text) = stream(rt, line, b"", state)? {
-        next.publish(rt, &text)?;
-    }
-    Ok(())
+    let outcome = stream(rt, line, b"", state);
+    end(rt, next, &outcome)
 }
 
-/// Imports standard input into a store file, which a refused import leaves as it was.
+/// Imports standard input into a store file, which a refused import leaves as the last checkpoint made it.
 fn import(
     rt: &HostRuntime,
     line: &Line<'_>,
@@ -115,33 +113,42 @@ fn import_locked(
     state: RandomState,
 ) -> Result<(), RunFault> {
     let store = read_store(rt, next.store())?;
-    let text = stream(rt, line, &store, state)?;
+    let outcome = stream(rt, line, &store, state);
     drop(store);
-    if let Some(text) = text {
-        next.publish(rt, &text)?;
+    end(rt, next, &outcome)
+}
+
+/// Puts a store's next text in its place, where there is one, also where the command is refused.
+fn end(
+    rt: &HostRuntime,
+    next: &mut NextText,
+    outcome: &Outcome<Global>,
+) -> Result<(), RunFault> {
+    if let Some(text) = &outcome.store {
+        next.publish(rt, text)?;
     }
+    refusal(outcome)?;
     Ok(())
 }
 
-/// Serves a command that reads standard input, and answers the next text of its store. What it prints goes out as it comes.
+/// Why a command was refused, if it was.
+fn refusal(outcome: &Outcome<Global>) -> Result<(), CliFault> {
+    match outcome.fault {
+        Some(fault) => Err(fault),
+        None => Ok(()),
+    }
+}
+
+/// Serves a command that reads standard input. What it prints goes out as it comes.
 fn stream(
     rt: &HostRuntime,
     line: &Line<'_>,
     store: &[u8],
     state: RandomState,
-) -> Result<Option<Vec<u8>>, CliFault> {
+) -> Outcome<Global> {
     let source = FromRead::new(rt.stdin());
     let mut sink = IntoWrite::new(rt.stdout());
-    let outcome = serve(rt.alloc(), Sha1Namer, line, store, source, &mut sink, state);
-    let Outcome {
-        status: _,
-        fault,
-        store: text,
-    } = outcome;
-    match fault {
-        Some(fault) => Err(fault),
-        None => Ok(text),
-    }
+    serve(rt.alloc(), Sha1Namer, line, store, source, &mut sink, state)
 }
 
 /// Serves a command that prints of a store, through a buffer.

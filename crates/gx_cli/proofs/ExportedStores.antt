@@ -1,5 +1,5 @@
 -- The import of an export into an empty store.
-use Rattle.std.proofs.Common.{◌≡◌, ◌∙◌, sym, subst, inl, inr, Option, Some, None, Ok, Err}
+use Rattle.std.proofs.Common.{◌≡◌, ℕ, zero, suc, ◌∙◌, refl, sym, subst, inl, inr, Option, Some, None, Ok, Err}
 use Rattle.gx_model.specs.declared.objects.Kind.{Kind}
 use Rattle.gx_model.specs.Texts.{Bytes}
 use Rattle.gx_model.specs.Histories.{Records}
@@ -11,16 +11,42 @@ use Rattle.gx_import.specs.Imports.{Imports}
 use Rattle.gx_import.specs.declared.report.Report.{Report}
 use Rattle.gx_import.specs.declared.fault.ImportFault.{ImportFault}
 use Rattle.gx_cli.specs.Again.{ImportsAgain}
-use Rattle.gx_cli.specs.Serving.{ImportsInto, IsRefused, IsWritten}
+use Rattle.gx_cli.specs.Serving.{ImportsInto, IsKept, IsLeft, IsRefused, IsWritten}
+use Rattle.gx_cli.specs.declared.fault.CliFault.{CliFault}
 use Rattle.gx_cli.specs.declared.fault.CliFault.TheVariants.{Import}
 use Rattle.gx_cli.specs.declared.serving.Outcome.{Outcome}
 
 -- the import of an export into the empty store that was read is refused only for want of memory or by the sink
-pub refused_again : (name : Kind → Bytes → Bytes) {A : Type 0} (stored : Stored Records) (old new : Records) (coming : Option Coming) (fault : ImportFault) (outcome : Outcome A)
-    → stored ≡ Ok old → ImportsExport name old new coming (Err fault) → IsRefused (Import fault) outcome → ImportsAgain name stored coming outcome
-refused_again name stored old new None fault outcome read h k = tt
-refused_again name stored old new (Some coming) fault outcome read h k =
-    λ exported is links gives empty. inl (inr (fault, h exported is links gives (cc (sym read ∙ empty)), k))
+pub refused_again : (name left_name : Kind → Bytes → Bytes) {A : Type 0} (stored : Stored Records) (old new : Records) (coming : Option Coming) (fault : ImportFault) (outcome : Outcome A)
+    → stored ≡ Ok old → ImportsExport name old new coming (Err fault) → IsLeft left_name fault.checkpoints new (Import fault) outcome → ImportsAgain name stored coming outcome
+refused_again name left_name stored old new None fault outcome read h k = tt
+refused_again name left_name stored old new (Some coming) fault outcome read h k = λ exported is links gives empty.
+    let e = h exported is links gives (cc (sym read ∙ empty)) in
+    inl (inr (fault, e.0, subst (λ n. IsLeft left_name n new (Import fault) outcome) e.1 k))
+
+-- a refused import into the store that was read: what it left was written, where there was a checkpoint
+pub refused_into : {N A : Type 0} (name_of : N → Kind → Bytes → Bytes) (namer : N) (old new : N × Records) (store : Bytes) (fault : ImportFault) (outcome : Outcome A) → old.0 ≡ namer → new.0 ≡ old.0
+    → store_of (name_of namer) store ≡ Ok old.1 → IsSound (name_of old.0) new.1 → IsLeft (name_of new.0) fault.checkpoints new.1 (Import fault) outcome
+    → (coming : Option Coming) (was now : Option Taken) → Imports (name_of old.0) old.1 new.1 coming was now (Err fault) → KeepsNoNullGitlink old.1 new.1
+    → ImportsInto (name_of namer) (store_of (name_of namer) store) coming was now outcome
+refused_into name_of namer old new store fault outcome same kept read sound left coming was now replayed keeps =
+    subst (λ stored. ImportsInto (name_of namer) stored coming was now outcome) (sym read)
+    (inr (
+      new.1,
+      Err fault,
+      subst (λ n. Imports (name_of n) old.1 new.1 coming was now (Err fault)) same replayed,
+      keeps,
+      (subst (λ n. IsSound (name_of n) new.1) same sound, subst (λ n. IsLeft (name_of n) fault.checkpoints new.1 (Import fault) outcome) (kept ∙ same) left),
+    ))
+
+-- a refusal after no checkpoint
+pub left_none : (name : Kind → Bytes → Bytes) {A : Type 0} (n : ℕ) (new : Records) (fault : CliFault) (o : Outcome A) → n ≡ 0 → IsRefused fault o → IsLeft name n new fault o
+left_none name n new fault o e k = subst (λ m. IsLeft name m new fault o) (sym e) k
+
+-- and after some
+pub left_some : (name : Kind → Bytes → Bytes) {A : Type 0} (n : ℕ) (new : Records) (fault : CliFault) (o : Outcome A) → (n ≡ 0 → ⊥) → IsKept name new fault o → IsLeft name n new fault o
+left_some name zero new fault o some k = absurd (some refl)
+left_some name (suc n) new fault o some k = k
 
 -- an accepted import into the store that was read: the new repository was written
 module _ {N A : Type 0} (name_of : N → Kind → Bytes → Bytes) (namer : N) (old new : N × Records) (store : Bytes) (report : Report) (outcome : Outcome A) (same : old.0 ≡ namer) (kept : new.0 ≡ old.0)

@@ -87,8 +87,8 @@ module _ {N : Type 0} (name_of : N → Kind → Bytes → Bytes) (namer : N) (re
   trip_refused A coming new fault h = by coming (from_nothing name_of namer old new coming was now (Err fault) empty h)
     where
       by : (c : Option Coming) → Imports (name_of namer) nothing new c was now (Err fault) → RoundTrips (name_of namer) revision path {N = N} {A = A} c was now (Err (Import fault))
-      by None k = k
-      by (Some c) k = k
+      by None k = (k.0, k.1, (new, k.2))
+      by (Some c) k = (new, k)
 
   -- there was no memory for the export, or it is too long
   pub trip_stopped : (A : Type 0) (coming : Option Coming) (new : Records) (report : Report) (fault : CliFault) → Imports (name_of old.0) old.1 new coming was now (Ok report) → ExportsText {A = A} (history_of new) (Err fault) → RoundTrips (name_of namer) revision path {N = N} {A = A} coming was now (Err fault)

@@ -26,8 +26,8 @@ pub refused_alone : {N : Type 0} (name_of : N → Kind → Bytes → Bytes) (nam
 refused_alone {N} name_of namer old new coming was now fault e h = by coming (subst (λ (o : N × Records). Imports (name_of o.0) o.1 new coming was now (Err fault)) e h)
   where
     by : (c : Option Coming) → Imports (name_of namer) nothing new c was now (Err fault) → ImportsAlone (name_of namer) {N = N} c was now (Err fault)
-    by None k = k
-    by (Some c) k = k
+    by None k = (k.0, k.1, (new, k.2))
+    by (Some c) k = (new, k)
 
 -- an import into a repository with nothing, where it is accepted
 pub accepted_alone : {N : Type 0} (name_of : N → Kind → Bytes → Bytes) (namer : N) (old new : N × Records) (coming : Option Coming) (was now : Option Taken) (report : Report) → old ≡ (namer, nothing)

@@ -41,7 +41,7 @@ ExportsText h (Err fault) = ⊥
 -- the import of an export into an empty store makes that repository again, unless memory ran out or the sink failed
 abbrev pub ImportsAgainOr : {N : Type 0} → Records → Result (N × Records) ImportFault → Type 0
 ImportsAgainOr exported (Ok again) = IsExported exported again.1
-ImportsAgainOr exported (Err fault) = (fault.kind ≡ kind.OutOfMemory) ⊎ (fault.kind ≡ kind.WriteFailed)
+ImportsAgainOr exported (Err fault) = ((fault.kind ≡ kind.OutOfMemory) ⊎ (fault.kind ≡ kind.WriteFailed)) × (fault.checkpoints ≡ 0)
 
 module _ (name : Kind → Bytes → Bytes) (revision : Revision) (path : Path) {N A : Type 0} where
   pub record ComesBack (h : History) (trip : RoundTrip N A) : Type 0 where

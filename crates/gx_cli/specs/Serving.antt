@@ -1,5 +1,5 @@
 -- How the commands end.
-use Rattle.std.specs.Prelude.{◌≡◌, ◌⊎◌, ℕ, [], Option, Some, None, Result, Ok, Err}
+use Rattle.std.specs.Prelude.{◌≡◌, ◌⊎◌, ℕ, zero, suc, [], Option, Some, None, Result, Ok, Err}
 use Rattle.std.specs.Option.{option_map}
 use Rattle.std.specs.declared.vec.Vec.{Vec}
 use Rattle.gx_model.specs.declared.objects.Kind.{Kind}
@@ -51,11 +51,18 @@ IsOutcome (Err f) o = (o.status ≡ 1) × (o.fault ≡ Some f) × (o.store ≡ N
 abbrev pub IsRefused : {A : Type 0} → CliFault → Outcome A → Type 0
 IsRefused fault o = (o.status ≡ 1) × (o.fault ≡ Some fault) × (o.store ≡ None)
 
--- the next store text is that of this repository, of version 2, and is read as this repository, unless memory ran out
+-- the next store text is that of this repository, of version 2, and is read as this repository
+abbrev pub HasText : {A : Type 0} → (Kind → Bytes → Bytes) → Records → Outcome A → Type 0
+HasText {A} name repository o =
+    (text : Vec ℕ A) × (o.store ≡ Some text) × (text.items ≡ store_text version.Two repository) × (store_of name text.items ≡ Ok repository)
+
+-- the command is accepted with the next store text of this repository, unless memory ran out
 abbrev pub IsWritten : {A : Type 0} → (Kind → Bytes → Bytes) → Records → Outcome A → Type 0
-IsWritten {A} name repository o =
-    ((o.status ≡ 0) × (o.fault ≡ None) × ((text : Vec ℕ A) × (o.store ≡ Some text) × (text.items ≡ store_text version.Two repository) × (store_of name text.items ≡ Ok repository)))
-    ⊎ IsRefused OutOfMemory o
+IsWritten name repository o = ((o.status ≡ 0) × (o.fault ≡ None) × HasText name repository o) ⊎ IsRefused OutOfMemory o
+
+-- It is refused with that text, unless memory ran out.
+abbrev pub IsKept : {A : Type 0} → (Kind → Bytes → Bytes) → Records → CliFault → Outcome A → Type 0
+IsKept name repository fault o = ((o.status ≡ 1) × (o.fault ≡ Some fault) × HasText name repository o) ⊎ IsRefused OutOfMemory o
 
 -- the export of the store of a text, which is read first
 abbrev pub ExportsStored : {A : Type 0} → Stored Records → Option Taken → Option Taken → Outcome A → Type 0
@@ -74,10 +81,15 @@ printed_by name (line.RevParse file words) r = names_text name (history_of r) (t
 printed_by name _ r = Ok []
 
 module _ (name : Kind → Bytes → Bytes) {A : Type 0} where
-  -- after an import the next store text is that of the new repository, which is sound; a refused one gives none
+  -- after a refused import the next store text is that of what the last checkpoint published; where there was none, it gives none
+  abbrev pub IsLeft : ℕ → Records → CliFault → Outcome A → Type 0
+  IsLeft zero new fault o = IsRefused fault o
+  IsLeft (suc n) new fault o = IsKept name new fault o
+
+  -- after an import the next store text is that of the new repository, which is sound
   abbrev pub IsImported : Records → Result Report ImportFault → Outcome A → Type 0
   IsImported new (Ok report) o = IsSound name new × IsWritten name new o
-  IsImported new (Err fault) o = IsRefused (Import fault) o
+  IsImported new (Err fault) o = IsSound name new × IsLeft fault.checkpoints new (Import fault) o
 
   -- The import of a stream into the store of a text, which is read first. It brings no gitlink of forty zeros.
   abbrev pub ImportsInto : Stored Records → Option Coming → Option Taken → Option Taken → Outcome A → Type 0

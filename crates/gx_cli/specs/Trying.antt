@@ -57,9 +57,9 @@ module _ (name : Kind → Bytes → Bytes) where
   abbrev pub LooksIn : {A : Type 0} → Records → Revision → Path → Result (Mode × Vec ℕ A) CliFault → Type 0
   LooksIn repository revision path answer = LooksAs (looked_up name (history_of repository) revision path) answer
 
-  -- a refused import into an empty store, or one that was interrupted
+  -- a refused import into an empty store, or one that was interrupted, which leaves some repository
   abbrev pub Refuses : Commands → Outcome → Option Taken → Option Taken → ImportFault → Type 0
-  Refuses commands outcome was now fault = Replays name nothing nothing commands outcome was now (Err fault)
+  Refuses commands outcome was now fault = (left : Records) × Replays name nothing left commands outcome was now (Err fault)
 
   -- Once the replay is accepted, its progress text went out, and then the word is shown in its history.
   abbrev pub ShowsReplayed : Commands → Outcome → Bytes → Option Taken → Option Taken → Result (Unit {0}) CliFault → Type 0

@@ -3,11 +3,12 @@
 ghost use Rattle.gx_model.specs.StoreReading.{store_of};
 ghost use Rattle.gx_import.specs.Exported.{nothing};
 ghost use Rattle.gx_cli.specs.Again.{ImportsAgain};
-ghost use Rattle.gx_cli.specs.Serving.{ImportsInto, IsWritten};
+ghost use Rattle.gx_cli.specs.Serving.{ImportsInto, IsLeft, IsWritten};
+ghost use Rattle.gx_cli.specs.declared.fault.CliFault.TheVariants.{Import};
 
 use crate::CliFault;
 use crate::serving::{Outcome, refused};
-use gx_import::import;
+use gx_import::{ImportFault, import};
 use gx_object::Namer;
 use gx_repo::Repo;
 use gx_text::{Sink, Source};
@@ -28,7 +29,8 @@ pub(crate) fn init<N: Namer + Drop, A: Allocator + Copy>(
 
 /// Imports a stream into the store of a text. Lines of `progress` go out as they come.
 ///
-/// The store's text is read first. A refused import makes no text.
+/// The store's text is read first. After a refused import the text is that of the last checkpoint; where there was none,
+/// there is no text.
 pub(crate) fn import_into<N: Namer + Drop, R: Source + Drop, W: Sink, A: Allocator + Copy>(
     alloc: A,
     namer: N,
@@ -49,7 +51,28 @@ pub(crate) fn import_into<N: Namer + Drop, R: Source + Drop, W: Sink, A: Allocat
             repo.sound();
             written(alloc, &repo)
         }
-        Err(fault) => refused(CliFault::Import(fault)),
+        Err(fault) => left(alloc, &repo, fault),
+    }
+}
+
+/// How a refused import ends: after a checkpoint with the text of what it left.
+fn left<N: Namer, A: Allocator + Copy>(
+    alloc: A,
+    repo: &Repo<N, A>,
+    fault: ImportFault,
+) -> Outcome<A>
+    ensures { IsLeft (N.name_of repo.now.0) fault.checkpoints repo.now.1 (Import fault) result }
+{
+    if fault.checkpoints == 0 {
+        return refused(CliFault::Import(fault));
+    }
+    match gx_file::write(alloc, repo) {
+        Ok(text) => Outcome {
+            status: 1,
+            fault: Some(CliFault::Import(fault)),
+            store: Some(text),
+        },
+        Err(_) => refused(CliFault::OutOfMemory),
     }
 }
 

@@ -36,8 +36,8 @@ pub struct Outcome<A: Allocator> {
 ///
 /// `blobs` reads the source as [`blobs`] does, and `try` as [`try_revision`] does: the source is read before the revision.
 /// Both, and `init`, have no use for the store's bytes. The other commands read the store's text first, then all words, and
-/// then evaluate each in its order; `import` reads its source then. Only `init` and `import` answer a next store text, and
-/// only where they are accepted.
+/// then evaluate each in its order; `import` reads its source then. Only `init` and `import` answer a next store text: `init`
+/// where it is accepted, and `import` also where it is refused after a checkpoint.
 ///
 /// Importing what was exported makes the repository again, as far as its refs reach: the same refs and object names.
 ///

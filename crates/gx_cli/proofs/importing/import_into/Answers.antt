@@ -1,7 +1,7 @@
 use Rattle.std.proofs.Common.{subst, Err}
 use Rattle.gx_model.specs.StoreReading.{store_of}
 use Rattle.gx_import.specs.Exported.{ImportsExport}
-use Rattle.gx_cli.proofs.ExportedStores.{accepted_again, imported_into, refused_again}
+use Rattle.gx_cli.proofs.ExportedStores.{accepted_again, imported_into, refused_again, refused_into}
 use Rattle.gx_cli.proofs.importing.import_into.Goals as goal
 
 pub returns-clause-again : goal.returns-clause-again
@@ -12,7 +12,12 @@ returns-clause-again g c =
     let coming = g.R.Source.coming c.args.source in
     let fault = c.in-Err-import.fault in
     let imported = subst (λ namer. ImportsExport (g.N.Namer.name_of namer) old.1 new coming (Err fault)) c.in-Ok.ensures.namer c.in-Err-import.ensures.exported in
-    refused_again name (store_of name c.args.store.now) old.1 new coming fault c.refused-in-Err-import.result c.in-Ok.ensures.store imported c.refused-in-Err-import.ensures
+    refused_again name (g.N.Namer.name_of c.import.new.repo.0) (store_of name c.args.store.now) old.1 new coming fault c.left.result c.in-Ok.ensures.store imported c.left.ensures
+
+pub returns-clause-imported : goal.returns-clause-imported
+returns-clause-imported g c =
+    refused_into g.N.Namer.name_of c.args.namer c.in-Ok.repo c.import.new.repo c.args.store.now c.in-Err-import.fault c.left.result c.in-Ok.ensures.namer c.import.ensures.namer c.in-Ok.ensures.store c.import.ensures.sound c.left.ensures
+    (g.R.Source.coming c.args.source) (g.W.Sink.taken c.args.sink.now) (g.W.Sink.taken c.import.new.sink) c.in-Err-import.ensures.replayed c.import.ensures.gitlinks
 
 pub returns-in-Ok-import-clause-imported : goal.returns-in-Ok-import-clause-imported
 returns-in-Ok-import-clause-imported g c =

@@ -119,11 +119,7 @@ fn import_locked(
 }
 
 /// Puts a store's next text in its place, where there is one, also where the command is refused.
-fn end(
-    rt: &HostRuntime,
-    next: &mut NextText,
-    outcome: &Outcome<Global>,
-) -> Result<(), RunFault> {
+fn end(rt: &HostRuntime, next: &mut NextText, outcome: &Outcome<Global>) -> Result<(), RunFault> {
     if let Some(text) = &outcome.store {
         next.publish(rt, text)?;
     }
@@ -140,12 +136,7 @@ fn refusal(outcome: &Outcome<Global>) -> Result<(), CliFault> {
 }
 
 /// Serves a command that reads standard input. What it prints goes out as it comes.
-fn stream(
-    rt: &HostRuntime,
-    line: &Line<'_>,
-    store: &[u8],
-    state: RandomState,
-) -> Outcome<Global> {
+fn stream(rt: &HostRuntime, line: &Line<'_>, store: &[u8], state: RandomState) -> Outcome<Global> {
     let source = FromRead::new(rt.stdin());
     let mut sink = IntoWrite::new(rt.stdout());
     serve(rt.alloc(), Sha1Namer, line, store, source, &mut sink, state)

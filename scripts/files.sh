@@ -106,6 +106,9 @@ makes() { is_done && holds_alone "$1"; }
 
 refuses_and_keeps() { is_refused_in_silence "$1" && holds_alone old; }
 
+# refused, and the store has this text all the same
+refuses_and_makes() { is_refused_in_silence "$1" && holds_alone "$2"; }
+
 # ---- texts and streams, as the formats say
 
 blob_stream() { printf 'blob\ndata %d\n%s\n' "${#1}" "$1"; }
@@ -706,12 +709,24 @@ check_texts() {
   done
 }
 
+check_checkpoints() {
+  fresh checkpoint
+  { cat "$folder/stream" && printf 'checkpoint\nfoo\n'; } > "$folder/checked"
+  run "$folder/checked" import "$file"
+  check 'a refused import keeps what came up to its checkpoint' refuses_and_makes 'command 3: UnknownCommand' new
+  fresh unchecked
+  { cat "$folder/stream" && printf 'foo\ncheckpoint\n'; } > "$folder/checked"
+  run "$folder/checked" import "$file"
+  check 'and nothing where a checkpoint comes too late' refuses_and_keeps 'command 2: UnknownCommand'
+}
+
 make_texts
 check_texts
 fresh good
 run "$folder/stream" import "$file"
 check 'import makes the new text' makes new
 check_init
+check_checkpoints
 check_reading
 check_writing
 check_left_over

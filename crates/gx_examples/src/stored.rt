@@ -18,16 +18,23 @@ const ACCEPTED: &[Session<'static>] = &[
     ("accepted imports give a store text", rows::IMPORTS),
     ("trees are listed by entries or by files", listed::TREES),
     ("commits are listed by options and ranges", listed::LOGS),
-    (
-        "a checkpoint publishes, and is kept where what follows is refused",
-        checkpoints::SESSIONS,
-    ),
 ];
 
 #[test]
 fn commands_print_and_make_store_texts(rt: HostRuntime) -> Result<(), Fail> {
     let state = RandomState::new(&rt)?;
     run_all(rt.alloc(), ACCEPTED, state)
+}
+
+const CHECKED: &[Session<'static>] = &[(
+    "a checkpoint publishes, and is kept where what follows is refused",
+    checkpoints::SESSIONS,
+)];
+
+#[test]
+fn checkpoints_publish_and_are_kept(rt: HostRuntime) -> Result<(), Fail> {
+    let state = RandomState::new(&rt)?;
+    run_all(rt.alloc(), CHECKED, state)
 }
 
 const REFUSED: &[Session<'static>] = &[

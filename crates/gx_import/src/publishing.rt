@@ -93,6 +93,10 @@ fn is_forward<N: Namer, A: Allocator + Copy>(
     let Some(old) = repo.peel(object) else {
         unreachable!();
     };
+    // most branches stand still between two checkpoints
+    if new == old {
+        return Ok(true);
+    }
     Ok(reaches(tables.alloc, repo, &new, &old)?)
 }
 

@@ -1,6 +1,10 @@
-use Rattle.std.proofs.Common.{◌∙◌}
+use Rattle.std.proofs.Common.{◌≡◌, ◌∙◌, ap, sym, rules}
 use Rattle.gx_model.specs.HistoryOf.{target_in, value_of_name}
 use Rattle.gx_import.proofs.KeptRefs.{kept_alone, kept_by_new, kept_empty, new_holds}
+use Rattle.gx_model.specs.Ranges.{reaches}
+use Rattle.gx_model.specs.HistoryOf.{commit_of_value}
+use Rattle.gx_model.proofs.PathTests.{is_true}
+use Rattle.gx_model.proofs.ReachedCommits.{itself}
 use Rattle.gx_model.proofs.PeeledRefs.{not_unpeeled, old_holds}
 use Rattle.gx_import.proofs.publishing.is_forward.Goals as goal
 
@@ -30,4 +34,14 @@ pub returns-clause-forward : goal.returns-clause-forward
 returns-clause-forward g c = λ s h.
     c.in_ok-reaches.ensures
     ∙ kept_by_new (g.N.Namer.name_of c.args.repo.now.0) (g.met.N.Namer.is_namer c.args.repo.now.0) c.args.repo.now.1 c.sound.ensures c.args.tables.now s h c.args.name.now c.in-Some.tip.now c.in-Some.ensures c.in-Some-commit.new c.in-Some-commit.is
+    c.args.object.now.bytes c.in-Some-peel.old.bytes c.requires.target c.in-Some-peel.ensures
+
+pub returns-then-eq-clause-forward : goal.returns-then-eq-clause-forward
+returns-then-eq-clause-forward g c = λ s h.
+    let r = c.args.repo.now.1 in
+    let same : c.in-Some-commit.new.bytes ≡ c.in-Some-peel.old.bytes = search rules in
+    let new = commit_of_value (value_of_name r.records c.in-Some-commit.new.bytes) in
+    sym (is_true (reaches new new) (itself new))
+    ∙ ap (λ called. reaches new (commit_of_value (value_of_name r.records called))) same
+    ∙ kept_by_new (g.N.Namer.name_of c.args.repo.now.0) (g.met.N.Namer.is_namer c.args.repo.now.0) r c.sound.ensures c.args.tables.now s h c.args.name.now c.in-Some.tip.now c.in-Some.ensures c.in-Some-commit.new c.in-Some-commit.is
     c.args.object.now.bytes c.in-Some-peel.old.bytes c.requires.target c.in-Some-peel.ensures

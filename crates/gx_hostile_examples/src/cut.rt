@@ -1,6 +1,6 @@
 //! Exports that are cut at each byte, and imported.
 
-use crate::given::{EMPTY, MERGED, MERGED_TEXT, end_of, exported, refusal_of};
+use crate::given::{EMPTY, MERGED, MERGED_TEXT, exported, refusal_of, text_of};
 use gx_object::Sha1Namer;
 use gx_repo::Repo;
 use std::alloc::Allocator;
@@ -9,9 +9,9 @@ use std::test::Fail;
 
 /// Whether a stream is refused, and the store stays empty.
 fn is_refused<A: Allocator + Copy>(alloc: A, stream: &[u8], state: RandomState) -> bool {
-    let end = end_of(alloc, Sha1Namer, stream, state);
-    let is_refused = end.refused.map_or(0, |fault| fault.command) > 0;
-    is_refused && end.text.as_slice() == EMPTY
+    let mut repo = Repo::new(alloc, Sha1Namer, state);
+    let refused = refusal_of(alloc, &mut repo, stream);
+    refused.is_some() && text_of(alloc, &repo).as_slice() == EMPTY
 }
 
 #[test]
@@ -36,17 +36,13 @@ fn export_of<A: Allocator + Copy>(alloc: A, stream: &[u8], state: RandomState) -
     }
 }
 
-/// Whether a stream makes a store whose export is the text.
-fn makes_text<A: Allocator + Copy>(alloc: A, stream: &[u8], state: RandomState) -> bool {
-    export_of(alloc, stream, state).as_slice() == MERGED_TEXT
-}
-
 /// The last line needs no line feed.
 #[test]
 fn export_without_its_last_byte_is_imported(rt: HostRuntime) -> Result<(), Fail> {
     let state = RandomState::new(&rt)?;
+    let text = export_of(rt.alloc(), MERGED, state);
+    assert_eq!(rt; text.as_slice(), MERGED_TEXT);
     let (_, front) = MERGED_TEXT.split_last().ok_or("no text")?;
-    assert!(rt; makes_text(rt.alloc(), MERGED, state));
-    assert!(rt; makes_text(rt.alloc(), front, state));
+    assert_eq!(rt; export_of(rt.alloc(), front, state).as_slice(), MERGED_TEXT);
     Ok(())
 }

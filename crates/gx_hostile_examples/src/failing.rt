@@ -1,8 +1,9 @@
 //! Sources that fail at each byte of a stream, and at its end.
 
-use crate::given::{FIRST, MERGED, end_behind, stored};
+use crate::given::{FIRST, MERGED, refusal, refusal_of, stored, text_of};
 use gx_import::ImportKind;
 use gx_object::Sha1Namer;
+use gx_repo::Repo;
 use gx_text::Bytes;
 use std::alloc::Allocator;
 use std::hash::RandomState;
@@ -15,10 +16,11 @@ fn is_refused<A: Allocator + Copy>(
     bytes: &[u8],
     state: RandomState,
 ) -> bool {
-    let source = Bytes::new(bytes, 1, true);
-    let end = end_behind(alloc, Sha1Namer, FIRST, source, state);
-    let has_failed = end.refused.map(|fault| fault.kind) == Some(ImportKind::ReadFailed);
-    has_failed && end.text.as_slice() == before
+    let mut repo = Repo::new(alloc, Sha1Namer, state);
+    let is_first = refusal_of(alloc, &mut repo, FIRST).is_none();
+    let refused = refusal(alloc, &mut repo, Bytes::new(bytes, 1, true));
+    let has_failed = refused.map(|fault| fault.kind) == Some(ImportKind::ReadFailed);
+    is_first && has_failed && text_of(alloc, &repo).as_slice() == before
 }
 
 #[test]

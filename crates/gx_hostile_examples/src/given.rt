@@ -72,49 +72,6 @@ pub(crate) fn text_of<N: Namer, A: Allocator + Copy>(alloc: A, repo: &Repo<N, A>
     }
 }
 
-/// What comes of a stream: why it is refused, if it is, and the store text then.
-#[derive(Drop)]
-pub(crate) struct End<A: Allocator> {
-    pub(crate) refused: Option<ImportFault>,
-    pub(crate) text: Vec<u8, A>,
-}
-
-/// What comes of a stream, in a new store or behind another stream. That one is to be imported: where it is refused, nothing
-/// is looked at behind it.
-pub(crate) fn end_behind<N: Namer + Drop, A: Allocator + Copy>(
-    alloc: A,
-    namer: N,
-    first: &[u8],
-    source: Bytes<'_>,
-    state: RandomState,
-) -> End<A> {
-    let mut repo = Repo::new(alloc, namer, state);
-    let refused = match refusal_of(alloc, &mut repo, first) {
-        None => refusal(alloc, &mut repo, source),
-        Some(_) => Some(fault(0, ImportKind::OutOfMemory)),
-    };
-    let text = text_of(alloc, &repo);
-    End { refused, text }
-}
-
-/// What comes of a stream that comes in large pieces, in a new store.
-pub(crate) fn end_of<N: Namer + Drop, A: Allocator + Copy>(
-    alloc: A,
-    namer: N,
-    stream: &[u8],
-    state: RandomState,
-) -> End<A> {
-    end_behind(alloc, namer, b"", Bytes::new(stream, 4096, false), state)
-}
-
-/// The store text where a stream is imported; an empty one where it is refused.
-pub(crate) fn accepted<A: Allocator + Copy>(alloc: A, end: End<A>) -> Vec<u8, A> {
-    match end.refused {
-        None => end.text,
-        Some(_) => Vec::new(alloc),
-    }
-}
-
 /// The text of a new store with a stream imported; an empty one where that is refused.
 pub(crate) fn stored<N: Namer + Drop, A: Allocator + Copy>(
     alloc: A,
@@ -122,7 +79,11 @@ pub(crate) fn stored<N: Namer + Drop, A: Allocator + Copy>(
     stream: &[u8],
     state: RandomState,
 ) -> Vec<u8, A> {
-    accepted(alloc, end_of(alloc, namer, stream, state))
+    let mut repo = Repo::new(alloc, namer, state);
+    match refusal_of(alloc, &mut repo, stream) {
+        None => text_of(alloc, &repo),
+        Some(_) => Vec::new(alloc),
+    }
 }
 
 /// The export of a repository; an empty one where it is refused.

@@ -1,12 +1,11 @@
 //! Namers that give other objects one name: what is held stays, and nothing else is stored under its name.
 
-use crate::given::{EMPTY, FIRST, end_behind, end_of, fault, refusal_of, stored};
+use crate::given::{EMPTY, FIRST, fault, refusal_of, stored, text_of};
 use gx_file::{FileFault, read};
 use gx_import::ImportKind;
 use gx_object::{Kind, Name, Namer, Sha1Namer, ShortNamer};
 use gx_repo::Repo;
 use gx_rev::{RevFault, Revision, Shown};
-use gx_text::Bytes;
 use std::alloc::Allocator;
 use std::hash::RandomState;
 use std::test::Fail;
@@ -50,24 +49,14 @@ const SHORT: &[(&[u8], &[u8; 40])] = &[
     ),
 ];
 
-/// Whether the first commit's objects have these digits.
-fn have_digits<A: Allocator + Copy>(alloc: A, state: RandomState) -> bool {
-    let mut repo = Repo::new(alloc, ShortNamer, state);
-    if refusal_of(alloc, &mut repo, FIRST).is_some() {
-        return false;
-    }
-    for (revision, digits) in SHORT {
-        if digits_of(alloc, &repo, revision) != Ok(**digits) {
-            return false;
-        }
-    }
-    true
-}
-
 #[test]
 fn short_names_tell_kind_and_length(rt: HostRuntime) -> Result<(), Fail> {
     let state = RandomState::new(&rt)?;
-    assert!(rt; have_digits(rt.alloc(), state));
+    let mut repo = Repo::new(rt.alloc(), ShortNamer, state);
+    assert_eq!(rt; refusal_of(rt.alloc(), &mut repo, FIRST), None);
+    for (revision, digits) in SHORT {
+        assert_eq!(rt; digits_of(rt.alloc(), &repo, revision), Ok(**digits));
+    }
     Ok(())
 }
 
@@ -81,10 +70,12 @@ const SECOND: &[&[u8]] = &[
 /// Whether the first command of a stream is refused behind the first commit, since a name is held, and the store stays as it
 /// was.
 fn is_held_behind_first<A: Allocator + Copy>(alloc: A, stream: &[u8], state: RandomState) -> bool {
-    let before = stored(alloc, ShortNamer, FIRST, state);
-    let source = Bytes::new(stream, 4096, false);
-    let end = end_behind(alloc, ShortNamer, FIRST, source, state);
-    end.refused == Some(fault(1, ImportKind::NameHeld)) && end.text == before
+    let mut repo = Repo::new(alloc, ShortNamer, state);
+    let is_first = refusal_of(alloc, &mut repo, FIRST).is_none();
+    let before = text_of(alloc, &repo);
+    let refused = refusal_of(alloc, &mut repo, stream);
+    let is_held = refused == Some(fault(1, ImportKind::NameHeld));
+    is_first && is_held && text_of(alloc, &repo) == before
 }
 
 #[test]
@@ -100,27 +91,29 @@ fn other_object_of_a_held_name_is_refused(rt: HostRuntime) -> Result<(), Fail> {
 const RENAMED: &[u8] =
     b"commit refs/heads/main\nmark :1\ncommitter A <a@x> 1 +0000\ndata 2\nv1\nM 100644 inline test.txt\ndata 10\nversion 1\ncommit refs/heads/b\ncommitter A <a@x> 2 +0000\ndata 2\nv2\nfrom :1\nR test.txt text.txt\n";
 
-/// Whether a stream is refused at this command, since a name is held, and the store stays empty.
-fn is_held_at<N: Namer + Drop, A: Allocator + Copy>(
+/// The command at which a stream is refused since a name is held, where the store stays empty.
+fn held_at<N: Namer + Drop, A: Allocator + Copy>(
     alloc: A,
     namer: N,
     stream: &[u8],
-    command: u64,
     state: RandomState,
-) -> bool {
-    let end = end_of(alloc, namer, stream, state);
-    end.refused == Some(fault(command, ImportKind::NameHeld)) && end.text.as_slice() == EMPTY
+) -> Option<u64> {
+    let mut repo = Repo::new(alloc, namer, state);
+    let refused = refusal_of(alloc, &mut repo, stream)?;
+    if refused.kind == ImportKind::NameHeld && text_of(alloc, &repo).as_slice() == EMPTY {
+        Some(refused.command)
+    } else {
+        None
+    }
 }
-
-/// Three blobs, the first one twice.
-const BLOBS: &[u8] = b"blob\ndata 1\na\nblob\ndata 1\na\nblob\ndata 1\nb\n";
 
 #[test]
 fn refused_stream_leaves_an_empty_store(rt: HostRuntime) -> Result<(), Fail> {
     let state = RandomState::new(&rt)?;
-    assert!(rt; is_held_at(rt.alloc(), ShortNamer, RENAMED, 2, state));
-    assert!(rt; is_held_at(rt.alloc(), ConstantNamer, FIRST, 1, state));
-    assert!(rt; is_held_at(rt.alloc(), ConstantNamer, BLOBS, 3, state));
+    assert_eq!(rt; held_at(rt.alloc(), ShortNamer, RENAMED, state), Some(2));
+    assert_eq!(rt; held_at(rt.alloc(), ConstantNamer, FIRST, state), Some(1));
+    let blobs: &[u8] = b"blob\ndata 1\na\nblob\ndata 1\na\nblob\ndata 1\nb\n";
+    assert_eq!(rt; held_at(rt.alloc(), ConstantNamer, blobs, state), Some(3));
     Ok(())
 }
 
@@ -134,21 +127,16 @@ fn fault_in<N: Namer + Drop, A: Allocator + Copy>(
     read(alloc, namer, text, state).err()
 }
 
-/// Two blobs.
-const TWO: &[u8] = b"gxstore 1\nobjects 2\nblob 1\na\nblob 1\nb\nrefs 0\nend\n";
-
-/// Whether a store text of Git's names is read by these, and otherwise has other names than its records where names are short,
-/// and one record alone where they are constant.
-fn are_refused<A: Allocator + Copy>(alloc: A, state: RandomState) -> bool {
-    let text = stored(alloc, Sha1Namer, FIRST, state);
-    fault_in(alloc, Sha1Namer, &text, state).is_none()
-        && fault_in(alloc, ShortNamer, &text, state) == Some(FileFault::NameMismatch)
-        && fault_in(alloc, ConstantNamer, TWO, state) == Some(FileFault::DuplicateObject)
-}
-
+/// A store text of Git's names has other names than its records where names are short, and one record alone where they are constant.
 #[test]
 fn store_text_of_other_names_is_refused(rt: HostRuntime) -> Result<(), Fail> {
     let state = RandomState::new(&rt)?;
-    assert!(rt; are_refused(rt.alloc(), state));
+    let text = stored(rt.alloc(), Sha1Namer, FIRST, state);
+    assert_eq!(rt; fault_in(rt.alloc(), Sha1Namer, &text, state), None);
+    let short = fault_in(rt.alloc(), ShortNamer, &text, state);
+    assert_eq!(rt; short, Some(FileFault::NameMismatch));
+    let blobs: &[u8] = b"gxstore 1\nobjects 2\nblob 1\na\nblob 1\nb\nrefs 0\nend\n";
+    let constant = fault_in(rt.alloc(), ConstantNamer, blobs, state);
+    assert_eq!(rt; constant, Some(FileFault::DuplicateObject));
     Ok(())
 }

@@ -2,7 +2,7 @@
 
 ghost use Rattle.std.specs.Prelude.{◌<◌, None};
 
-use crate::given::{MERGED, accepted, end_behind, fault, refusal_into, stored};
+use crate::given::{MERGED, fault, refusal, refusal_into, stored, text_of};
 use gx_import::ImportKind;
 use gx_object::Sha1Namer;
 use gx_repo::Repo;
@@ -22,8 +22,11 @@ const STREAMS: &[&[u8]] = &[
 
 /// The text of a new store with a stream imported that comes byte by byte.
 fn stored_bytewise<A: Allocator + Copy>(alloc: A, stream: &[u8], state: RandomState) -> Vec<u8, A> {
-    let source = Bytes::new(stream, 1, false);
-    accepted(alloc, end_behind(alloc, Sha1Namer, b"", source, state))
+    let mut repo = Repo::new(alloc, Sha1Namer, state);
+    match refusal(alloc, &mut repo, Bytes::new(stream, 1, false)) {
+        None => text_of(alloc, &repo),
+        Some(_) => Vec::new(alloc),
+    }
 }
 
 #[test]
@@ -91,9 +94,9 @@ fn refusal_of_length<A: Allocator + Copy>(
 ) -> Result<Option<ImportKind>, AllocError> {
     let mut stream = Vec::from_slice(alloc, front)?;
     stream.extend_from_slice(length)?;
-    let source = Bytes::new(&stream, 5, false);
-    let end = end_behind(alloc, Sha1Namer, b"", source, state);
-    Ok(end.refused.map(|fault| fault.kind))
+    let mut repo = Repo::new(alloc, Sha1Namer, state);
+    let refused = refusal(alloc, &mut repo, Bytes::new(&stream, 5, false));
+    Ok(refused.map(|fault| fault.kind))
 }
 
 #[test]

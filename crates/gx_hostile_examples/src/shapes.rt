@@ -7,7 +7,6 @@ use gx_rev::{Range, Revision, Shown, look, tree, walk};
 use gx_text::TreePath;
 use std::alloc::{AllocError, Allocator};
 use std::hash::RandomState;
-use std::slice::from_ref;
 use std::test::Fail;
 
 /// The body of a tree in which each of these entries, a mode and a component, names one object.
@@ -99,16 +98,7 @@ fn shows<N: Namer, A: Allocator + Copy>(
     }
 }
 
-/// The modes of the first and the second entry of a tree, where it has no third.
-fn modes_of(body: &[u8]) -> Option<(Mode, Mode)> {
-    let mut entries = decode_tree(body).ok()?;
-    match (entries.next(), entries.next(), entries.next()) {
-        (Some(first), Some(second), None) => Some((first.mode, second.mode)),
-        _ => None,
-    }
-}
-
-/// The same of main's tree.
+/// The modes of the first and the second entry of main's tree, where it has no third.
 fn modes_of_main<N: Namer, A: Allocator + Copy>(
     alloc: A,
     repo: &Repo<N, A>,
@@ -116,24 +106,27 @@ fn modes_of_main<N: Namer, A: Allocator + Copy>(
     let main = Revision::read(alloc, b"main").ok()?;
     let name = tree(repo, &main).ok()?;
     let (_, body) = repo.store().get(&name)?;
-    modes_of(body)
-}
-
-/// Whether those trees are opened, show a file, and are written as they were.
-fn are_opened<A: Allocator + Copy>(alloc: A, state: RandomState) -> Option<bool> {
-    let text = doubled_text(alloc, state)?;
-    let repo = opened(alloc, &text, state)?;
-    let path = path_of(alloc, 40, b'f').ok()?;
-    let has_objects = text.starts_with(b"gxstore 2\nobjects 43\n");
-    let has_modes = modes_of_main(alloc, &repo) == Some((Mode::Dir, Mode::Dir));
-    let is_shown = shows(alloc, &repo, b"main", &path, b"hello\n");
-    Some(has_objects && has_modes && is_shown && text_of(alloc, &repo) == text)
+    let mut entries = decode_tree(body).ok()?;
+    let modes = (entries.next()?.mode, entries.next()?.mode);
+    if entries.next().is_some() {
+        return None;
+    }
+    Some(modes)
 }
 
 #[test]
 fn trees_with_very_many_paths_are_opened(rt: HostRuntime) -> Result<(), Fail> {
     let state = RandomState::new(&rt)?;
-    assert!(rt; are_opened(rt.alloc(), state).unwrap_or(false));
+    let text = doubled_text(rt.alloc(), state).ok_or("no text")?;
+    assert!(rt; text.starts_with(b"gxstore 2\nobjects 43\n"));
+    let repo = opened(rt.alloc(), &text, state).ok_or("a refusal")?;
+    assert_eq!(rt;
+        modes_of_main(rt.alloc(), &repo),
+        Some((Mode::Dir, Mode::Dir))
+    );
+    let path = path_of(rt.alloc(), 40, b'f')?;
+    assert!(rt; shows(rt.alloc(), &repo, b"main", &path, b"hello\n"));
+    assert!(rt; text_of(rt.alloc(), &repo) == text);
     Ok(())
 }
 
@@ -141,20 +134,15 @@ fn trees_with_very_many_paths_are_opened(rt: HostRuntime) -> Result<(), Fail> {
 const AGAIN: &[u8] =
     b"commit refs/heads/again\ncommitter A <a@x> 2 +0000\ndata 0\nfrom main\nM 100644 inline g\ndata 5\nagain\n";
 
-/// Whether a commit begins at those trees, and shows a file of theirs and its own.
-fn are_loaded<A: Allocator + Copy>(alloc: A, state: RandomState) -> Option<bool> {
-    let text = doubled_text(alloc, state)?;
-    let mut repo = opened(alloc, &text, state)?;
-    let is_imported = refusal_of(alloc, &mut repo, AGAIN).is_none();
-    let path = path_of(alloc, 40, b'f').ok()?;
-    let is_shown = shows(alloc, &repo, b"again", &path, b"hello\n");
-    Some(is_imported && is_shown && shows(alloc, &repo, b"again", b"g", b"again"))
-}
-
 #[test]
 fn trees_with_very_many_paths_are_loaded(rt: HostRuntime) -> Result<(), Fail> {
     let state = RandomState::new(&rt)?;
-    assert!(rt; are_loaded(rt.alloc(), state).unwrap_or(false));
+    let text = doubled_text(rt.alloc(), state).ok_or("no text")?;
+    let mut repo = opened(rt.alloc(), &text, state).ok_or("a refusal")?;
+    assert_eq!(rt; refusal_of(rt.alloc(), &mut repo, AGAIN), None);
+    let path = path_of(rt.alloc(), 40, b'f')?;
+    assert!(rt; shows(rt.alloc(), &repo, b"again", &path, b"hello\n"));
+    assert!(rt; shows(rt.alloc(), &repo, b"again", b"g", b"again"));
     Ok(())
 }
 
@@ -168,22 +156,17 @@ fn stream_with<A: Allocator + Copy>(alloc: A, path: &[u8]) -> Result<Vec<u8, A>,
     Ok(stream)
 }
 
-/// Whether a file at a path of 2048 components is shown, and comes back from its export.
-fn deep_path_comes_back<A: Allocator + Copy>(alloc: A, state: RandomState) -> Option<bool> {
-    let path = path_of(alloc, 2047, b'a').ok()?;
-    let stream = stream_with(alloc, &path).ok()?;
-    let text = stored(alloc, Sha1Namer, &stream, state);
-    let repo = opened(alloc, &text, state)?;
-    let is_shown = shows(alloc, &repo, b"main", &path, b"hello\n");
-    let again = exported(alloc, &repo, 5000);
-    let is_same = stored(alloc, Sha1Namer, &again, state) == text;
-    Some(path.len() == 4095 && is_shown && is_same)
-}
-
 #[test]
 fn path_of_2048_components_comes_back(rt: HostRuntime) -> Result<(), Fail> {
     let state = RandomState::new(&rt)?;
-    assert!(rt; deep_path_comes_back(rt.alloc(), state).unwrap_or(false));
+    let path = path_of(rt.alloc(), 2047, b'a')?;
+    assert_eq!(rt; path.len(), 4095);
+    let stream = stream_with(rt.alloc(), &path)?;
+    let text = stored(rt.alloc(), Sha1Namer, &stream, state);
+    let repo = opened(rt.alloc(), &text, state).ok_or("a refusal")?;
+    assert!(rt; shows(rt.alloc(), &repo, b"main", &path, b"hello\n"));
+    let again = exported(rt.alloc(), &repo, 5000);
+    assert!(rt; stored(rt.alloc(), Sha1Namer, &again, state) == text);
     Ok(())
 }
 
@@ -217,25 +200,24 @@ fn commits_of_main<N: Namer, A: Allocator + Copy>(
     alloc: A,
     repo: &Repo<N, A>,
 ) -> Option<Vec<Name, A>> {
-    let main = Range::read(alloc, b"main").ok()?;
-    walk(alloc, repo, from_ref(&main)).ok()
-}
-
-/// Whether a walk from main lists all of a line of commits, from its last to its first.
-fn line_is_walked<A: Allocator + Copy>(alloc: A, state: RandomState) -> Option<bool> {
-    let stream = line_of_commits(alloc, 10000).ok()?;
-    let mut repo = Repo::new(alloc, Sha1Namer, state);
-    let is_imported = refusal_of(alloc, &mut repo, &stream).is_none();
-    let names = commits_of_main(alloc, &repo)?;
-    let has_last = names.first().copied() == name_of(alloc, &repo, b"main");
-    let has_first = names.last().copied() == name_of(alloc, &repo, b"main~9999");
-    let is_over = name_of(alloc, &repo, b"main~10000").is_none();
-    Some(is_imported && names.len() == 10000 && has_last && has_first && is_over)
+    let mut words = Vec::new(alloc);
+    words.push(Range::read(alloc, b"main").ok()?).ok()?;
+    walk(alloc, repo, words.as_slice()).ok()
 }
 
 #[test]
 fn line_of_many_commits_is_walked(rt: HostRuntime) -> Result<(), Fail> {
     let state = RandomState::new(&rt)?;
-    assert!(rt; line_is_walked(rt.alloc(), state).unwrap_or(false));
+    let stream = line_of_commits(rt.alloc(), 10000)?;
+    let mut repo = Repo::new(rt.alloc(), Sha1Namer, state);
+    assert_eq!(rt; refusal_of(rt.alloc(), &mut repo, &stream), None);
+    let names = commits_of_main(rt.alloc(), &repo).ok_or("a refusal")?;
+    assert_eq!(rt; names.len(), 10000);
+    assert_eq!(rt; names.first().copied(), name_of(rt.alloc(), &repo, b"main"));
+    assert_eq!(rt;
+        names.last().copied(),
+        name_of(rt.alloc(), &repo, b"main~9999")
+    );
+    assert_eq!(rt; name_of(rt.alloc(), &repo, b"main~10000"), None);
     Ok(())
 }

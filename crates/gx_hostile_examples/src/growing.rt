@@ -1,4 +1,4 @@
-//! Memory that is refused at each growth in turn: the store stays as it was, or has all.
+//! Memory that is refused at each growth in turn: the store stays as it was or as at a checkpoint, or has all.
 
 use crate::given::{FIRST, MERGED, opened, refusal_of, stored, text_of};
 use gx_import::{ImportFault, ImportKind};
@@ -12,74 +12,165 @@ use std::test::Fail;
 const MANY: &[u8] =
     b"feature done\nblob\nmark :1\ndata 3\nabc\ncommit refs/heads/main\nmark :2\nauthor A <a@x> 1 +0000\ncommitter B <b@x> 2 +0000\nencoding x\ndata 3\nfoofrom main^0\nM 644 :1 d/e\nM 755 inline f\ndata 3\nxyz\nC d g\nR f h\nD d/e\nreset refs/heads/b\nfrom :2\ncommit refs/heads/b\ncommitter B <b@x> 3 +0000\ndata 0\nmerge main^0\nM 644 :1 k\ntag v\nmark :3\nfrom :2\ntagger A <a@x> 1 +0000\ndata 0\nreset refs/heads/c\nfrom :3\nprogress x\ndone\n";
 
-/// Whether an import ended for want of memory.
-fn is_memory(refused: Option<ImportFault>) -> bool {
-    refused.map(|fault| fault.kind) == Some(ImportKind::OutOfMemory)
+/// Two branches that are merged, a checkpoint, and a tag.
+const CHECKED: &[u8] =
+    b"commit refs/heads/a\nmark :1\ncommitter A <a@x> 1 +0000\ndata 1\np\nM 100644 inline f\ndata 6\nhello\n\ncommit refs/heads/b\nmark :2\ncommitter A <a@x> 2 +0000\ndata 1\nq\nM 160000 d670460b4b4aece5915caf5c68d12f560a9fe3e4 sub\ncommit refs/heads/a\nmark :3\ncommitter A <a@x> 3 +0000\ndata 1\nm\nmerge :2\ncheckpoint\ntag t\nfrom :3\ntagger A <a@x> 4 +0000\ndata 1\nt\n";
+
+/// What stands in it from the checkpoint on.
+const BEHIND: &[u8] = b"checkpoint\ntag t\nfrom :3\ntagger A <a@x> 4 +0000\ndata 1\nt\n";
+
+/// The refs at the checkpoint, behind the first commit, as git has them.
+const KEPT_REFS: &[u8] =
+    b"refs 3\n968fb90b8bd2f72513de336bc4957112d0a7efcb refs/heads/a\nd97ef578490daed1d6b4dc3a1cf1d587d055d659 refs/heads/b\n02d6adf1689e06135d2b4b4d471f1ae489887b53 refs/heads/main\nend\n";
+
+/// The refs at the end.
+const ALL_REFS: &[u8] =
+    b"refs 4\n968fb90b8bd2f72513de336bc4957112d0a7efcb refs/heads/a\nd97ef578490daed1d6b4dc3a1cf1d587d055d659 refs/heads/b\n02d6adf1689e06135d2b4b4d471f1ae489887b53 refs/heads/main\nf8501fc630a4538aaecbc169d9e436efc2e0c7bd refs/tags/t\nend\n";
+
+/// The store text before an import, that at its checkpoint, and that with all of its stream.
+type Texts<'a> = (&'a [u8], &'a [u8], &'a [u8]);
+
+/// What an import leaves.
+#[derive(Clone, Copy)]
+enum Left {
+    /// The store as it was, for want of memory.
+    Before,
+    /// The store as at the checkpoint, for want of memory.
+    Kept,
+    /// All of the stream, where no growth was refused.
+    All,
+    /// None of these.
+    Wrong,
 }
 
-/// A store text, a stream, and the text of both together.
-type Given<'a> = (&'a [u8], &'a [u8], &'a [u8]);
+/// What a refused import leaves, where the text is that of the checkpoints that its fault counts.
+fn left_by_fault(fault: ImportFault, (before, kept, _): Texts<'_>, text: &[u8]) -> Left {
+    let is_memory = fault.kind == ImportKind::OutOfMemory;
+    if is_memory && fault.checkpoints == 0 && text == before {
+        Left::Before
+    } else if is_memory && fault.checkpoints == 1 && text == kept {
+        Left::Kept
+    } else {
+        Left::Wrong
+    }
+}
 
-/// Whether an import is right at which the growth with this number is refused: for want of memory, with the store as it was.
-/// None where no growth has that number, and the store has all.
-fn is_right<B: Allocator>(
+/// What an import leaves, whose growth is refused unless it is still waited for.
+fn left_by(refused: Option<ImportFault>, is_waiting: bool, texts: Texts<'_>, text: &[u8]) -> Left {
+    match refused {
+        Some(fault) if !is_waiting => left_by_fault(fault, texts, text),
+        None if is_waiting && text == texts.2 => Left::All,
+        _ => Left::Wrong,
+    }
+}
+
+/// What an import leaves at which the growth with this number is refused.
+fn left_without<B: Allocator>(
     heap: &Refusing<B>,
-    (before, stream, after): Given<'_>,
+    texts: Texts<'_>,
+    stream: &[u8],
     nth: u64,
     state: RandomState,
-) -> Option<bool> {
-    let Some(mut repo) = opened(heap, before, state) else {
-        return Some(false);
+) -> Left {
+    let Some(mut repo) = opened(heap, texts.0, state) else {
+        return Left::Wrong;
     };
     heap.arm(nth);
     let refused = refusal_of(heap, &mut repo, stream);
     let is_waiting = heap.is_waiting();
     heap.arm(0);
     let text = text_of(heap, &repo);
-    if is_waiting && refused.is_none() && text.as_slice() == after {
-        return None;
-    }
-    Some(!is_waiting && is_memory(refused) && text.as_slice() == before)
+    left_by(refused, is_waiting, texts, text.as_slice())
 }
 
-/// Refuses each growth in turn, until an import is done; answers how many were refused, or none where an answer was wrong.
+/// Refuses each growth in turn, until an import is done; answers how many were refused before a checkpoint and how many behind
+/// it, or none where an answer was wrong.
 fn refused_growths<B: Allocator>(
     heap: &Refusing<B>,
-    given: Given<'_>,
+    texts: Texts<'_>,
+    stream: &[u8],
     state: RandomState,
-) -> Option<u64> {
+) -> Option<(u64, u64)> {
+    let mut before = 0u64;
+    let mut behind = 0u64;
     for nth in 1..2000u64 {
-        match is_right(heap, given, nth, state) {
-            None => return Some(nth - 1),
-            Some(true) => {}
-            Some(false) => return None,
+        match left_without(heap, texts, stream, nth, state) {
+            Left::Before => before = before.saturating_add(1),
+            Left::Kept => behind = behind.saturating_add(1),
+            Left::All => return Some((before, behind)),
+            Left::Wrong => return None,
         }
     }
     None
 }
 
-/// How many growths of an import behind the first commit are refused; none where an answer was wrong.
-fn refused_behind_first<B: Allocator + Copy>(
-    alloc: B,
+/// The text of a store with a stream imported; an empty one where that is refused.
+fn text_behind<A: Allocator + Copy>(
+    alloc: A,
+    before: &[u8],
     stream: &[u8],
     state: RandomState,
-) -> Option<u64> {
-    let before = stored(alloc, Sha1Namer, FIRST, state);
-    let mut repo = opened(alloc, &before, state)?;
-    if refusal_of(alloc, &mut repo, stream).is_some() {
-        return None;
+) -> Vec<u8, A> {
+    let Some(mut repo) = opened(alloc, before, state) else {
+        return Vec::new(alloc);
+    };
+    match refusal_of(alloc, &mut repo, stream) {
+        None => text_of(alloc, &repo),
+        Some(_) => Vec::new(alloc),
     }
-    let after = text_of(alloc, &repo);
+}
+
+/// How many growths of an import behind the first commit are refused, before a checkpoint and behind it; none where an answer
+/// was wrong. Given are the part of the stream before the checkpoint, and the stream.
+fn refused_behind_first<B: Allocator + Copy>(
+    alloc: B,
+    front: &[u8],
+    stream: &[u8],
+    state: RandomState,
+) -> Option<(u64, u64)> {
+    let before = stored(alloc, Sha1Namer, FIRST, state);
+    let kept = text_behind(alloc, &before, front, state);
+    let after = text_behind(alloc, &before, stream, state);
     let heap = Refusing::new(alloc, 0);
-    refused_growths(&heap, (&before, stream, &after), state)
+    refused_growths(&heap, (&before, &kept, &after), stream, state)
 }
 
 #[test]
 fn refused_growth_leaves_the_store(rt: HostRuntime) -> Result<(), Fail> {
     let state = RandomState::new(&rt)?;
     for stream in [MERGED, MANY] {
-        let refused = refused_behind_first(rt.alloc(), stream, state);
-        assert!(rt; refused.unwrap_or(0) > 20);
+        let refused = refused_behind_first(rt.alloc(), b"", stream, state);
+        let (before, behind) = refused.unwrap_or((0, 0));
+        assert!(rt; before > 20);
+        assert_eq!(rt; behind, 0);
     }
+    Ok(())
+}
+
+#[test]
+fn refused_growth_leaves_the_last_checkpoint(rt: HostRuntime) -> Result<(), Fail> {
+    let state = RandomState::new(&rt)?;
+    let front = CHECKED.strip_suffix(BEHIND).ok_or("no checkpoint")?;
+    let refused = refused_behind_first(rt.alloc(), front, CHECKED, state);
+    let (before, behind) = refused.unwrap_or((0, 0));
+    assert!(rt; before > 20);
+    assert!(rt; behind > 0);
+    Ok(())
+}
+
+/// Whether these are the refs at the checkpoint and at the end, where the store is as without a checkpoint.
+fn are_published<A: Allocator + Copy>(alloc: A, front: &[u8], state: RandomState) -> bool {
+    let before = stored(alloc, Sha1Namer, FIRST, state);
+    let kept = text_behind(alloc, &before, front, state);
+    let after = text_behind(alloc, &before, CHECKED, state);
+    let merged = text_behind(alloc, &before, MERGED, state);
+    kept.ends_with(KEPT_REFS) && after.ends_with(ALL_REFS) && after == merged
+}
+
+#[test]
+fn checkpoint_and_end_have_their_refs(rt: HostRuntime) -> Result<(), Fail> {
+    let state = RandomState::new(&rt)?;
+    let front = CHECKED.strip_suffix(BEHIND).ok_or("no checkpoint")?;
+    assert!(rt; are_published(rt.alloc(), front, state));
     Ok(())
 }

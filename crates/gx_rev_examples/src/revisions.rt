@@ -1,4 +1,6 @@
+mod questions;
 mod reading;
 mod sample;
 mod showing;
 mod walks;
+mod words;

@@ -8,7 +8,6 @@ use gx_repo::{RefChange, Repo};
 use gx_text::{Ident, TreePath};
 use gx_tree::PathTree;
 use std::alloc::Allocator;
-use std::test::Fail;
 
 const IDENT: &[u8] = b"A <a@x> 1 +0000";
 
@@ -37,6 +36,23 @@ pub(super) const VERSION_1: &[u8] = b"83baae61804e65cc73a7201a7252750c76066a30";
 
 pub(super) const VERSION_2: &[u8] = b"1f7a7a472abf3dd9643fd615f6da379c4acb3e3a";
 
+/// Those of the row: its six commits, the one at their side, and the tag of the last.
+pub(super) const ROW_1: &[u8] = b"4cedd8f8d314ec1cacb44ab28bc5e33120d2a7bd";
+
+pub(super) const ROW_2: &[u8] = b"2ce8a56927862fb79a4f126c20c67b0330ae4cee";
+
+pub(super) const ROW_3: &[u8] = b"dac03ecbb7678df250614fe0441f1295237fd3bd";
+
+pub(super) const ROW_4: &[u8] = b"fd7868fe5327c3ecb0cfbda148b9751c945a08ea";
+
+pub(super) const ROW_5: &[u8] = b"7462407b40e0b7fc8fed97323a89840c9ddb3b37";
+
+pub(super) const ROW_6: &[u8] = b"59a386ee13e29d824e8ff68f5d50a4d273f813d9";
+
+pub(super) const SIDE: &[u8] = b"da681b9e698011552e591b337c44decf9cda8638";
+
+pub(super) const ROW_TAG: &[u8] = b"20d64e071d4e7efed33e60d71bc89674011ad65b";
+
 const REFS: [&[u8]; 6] = [
     b"refs/heads/main",
     b"refs/tags/v1",
@@ -45,10 +61,6 @@ const REFS: [&[u8]; 6] = [
     b"refs/heads/q",
     b"refs/heads/y",
 ];
-
-pub(super) fn name_of(digits: &[u8]) -> Result<Name, Fail> {
-    Ok(Name::read(digits).ok_or("digits")?)
-}
 
 /// Whether an object of this kind is held under this name.
 pub(super) fn is_held<N: Namer, A: Allocator + Copy>(
@@ -143,7 +155,7 @@ fn add_commit<'x, N: Namer, A: Allocator + Copy>(
 }
 
 /// Adds a commit without files.
-pub(super) fn add_empty<N: Namer, A: Allocator + Copy>(
+fn add_empty<N: Namer, A: Allocator + Copy>(
     alloc: A,
     repo: &mut Repo<N, A>,
     parents: &[Name],
@@ -289,13 +301,10 @@ fn add_row<N: Namer, A: Allocator + Copy>(alloc: A, repo: &mut Repo<N, A>) -> Op
 }
 
 /// Fills an empty repository: `main` at the last of six commits in a row, `v1` for its tag, `x` with files, other refs
-/// at the first four commits. Answers the commits, the one at their side, the tag, and the tree of no files.
-pub(super) fn fill_row<N: Namer, A: Allocator + Copy>(
-    alloc: A,
-    repo: &mut Repo<N, A>,
-) -> Option<[Name; 9]> {
+/// at the first four commits.
+fn fill_row<N: Namer, A: Allocator + Copy>(alloc: A, repo: &mut Repo<N, A>) -> Option<()> {
     let x = add_x(alloc, repo)?;
-    let [a, b, head, other, c, main, side] = add_row(alloc, repo)?;
+    let [a, b, head, other, _, main, _] = add_row(alloc, repo)?;
     let tag = add_tag(repo, main)?;
     let targets = [main, tag, x, a, b, head, other, other];
     for (name, target) in ROW_REFS.iter().zip(&targets) {
@@ -303,8 +312,7 @@ pub(super) fn fill_row<N: Namer, A: Allocator + Copy>(
             return None;
         }
     }
-    let empty = Name::read(EMPTY_TREE)?;
-    Some([a, b, head, other, c, main, side, tag, empty])
+    Some(())
 }
 
 const ROW_REFS: [&[u8]; 8] = [
@@ -317,3 +325,60 @@ const ROW_REFS: [&[u8]; 8] = [
     b"refs/heads/a-1",
     b"refs/heads/a-b",
 ];
+
+/// What a repository holds before it is asked.
+#[derive(Clone, Copy)]
+pub(super) enum Sample {
+    /// Files, a tag, a gitlink, and a commit with two parents.
+    Branches,
+    /// Six commits in a row, one at their side, and a commit with files.
+    Row,
+    /// A commit that is made twice, for two refs.
+    Twice,
+    /// A commit with an empty message.
+    Commit,
+    /// That commit, with one ref that is named by digits, and `HEAD`.
+    Digits,
+    /// Blobs of one byte and of two.
+    Blobs,
+    /// A blob of which Git's book tells the name.
+    Content,
+}
+
+/// Adds a commit, and a ref to it.
+fn add_for<N: Namer, A: Allocator + Copy>(
+    alloc: A,
+    repo: &mut Repo<N, A>,
+    name: &[u8],
+    message: &[u8],
+) -> bool {
+    match add_empty(alloc, repo, &[], message) {
+        Some(target) => publish(repo, name, target),
+        None => false,
+    }
+}
+
+/// Adds a blob.
+fn add_blob<N: Namer, A: Allocator + Copy>(repo: &mut Repo<N, A>, body: &[u8]) -> bool {
+    repo.add_blob(body).is_ok()
+}
+
+/// Fills an empty repository. Answers whether it is filled.
+pub(super) fn fill_sample<N: Namer, A: Allocator + Copy>(
+    alloc: A,
+    repo: &mut Repo<N, A>,
+    sample: Sample,
+) -> bool {
+    match sample {
+        Sample::Branches => fill(alloc, repo).is_some(),
+        Sample::Row => fill_row(alloc, repo).is_some(),
+        Sample::Twice => {
+            add_for(alloc, repo, b"refs/heads/x", b"p")
+                && add_for(alloc, repo, b"refs/heads/y", b"p")
+        }
+        Sample::Commit => add_empty(alloc, repo, &[], b"").is_some(),
+        Sample::Digits => add_for(alloc, repo, b"1111", b"") && add_for(alloc, repo, b"HEAD", b""),
+        Sample::Blobs => add_blob(repo, b"a") && add_blob(repo, b"ab"),
+        Sample::Content => add_blob(repo, b"test content\n"),
+    }
+}

@@ -1,6 +1,7 @@
 mod questions;
 mod reading;
-mod sample;
+mod samples;
 mod showing;
+mod steps;
 mod walks;
 mod words;

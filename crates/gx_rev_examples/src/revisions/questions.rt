@@ -1,6 +1,6 @@
 //! What is asked of a repository, and what it answers.
 
-use super::sample::{Sample, fill_sample, is_held};
+use super::steps::{Step, fill, is_held};
 use super::words::{Shape, shape_of};
 use gx_object::{Kind, Mode, Name, Namer};
 use gx_repo::Repo;
@@ -292,10 +292,10 @@ fn wrong_answer<N: Namer, A: Allocator + Copy>(
 fn filled_and_asked<N: Namer, A: Allocator + Copy>(
     alloc: A,
     repo: &mut Repo<N, A>,
-    sample: Sample,
+    sample: &[Step<'_>],
     questions: &[Question<'_>],
 ) -> Result<(), Fail> {
-    if !fill_sample(alloc, repo, sample) {
+    if !fill(alloc, repo, sample) {
         return Err(Fail::new(format_args!("the sample")));
     }
     tell_values(repo);
@@ -310,7 +310,7 @@ pub(super) fn ask<N: Namer + Drop, A: Allocator + Copy>(
     alloc: A,
     namer: N,
     state: RandomState,
-    sample: Sample,
+    sample: &[Step<'_>],
     questions: &[Question<'_>],
 ) -> Result<(), Fail> {
     let mut repo = Repo::new(alloc, namer, state);

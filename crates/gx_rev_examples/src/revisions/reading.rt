@@ -1,9 +1,8 @@
 //! Revisions and range words: what they are read as.
 
 use super::questions::{Question, ask};
-use super::sample::{
-    EMPTY_TREE, ROW_1, ROW_2, ROW_3, ROW_4, ROW_5, ROW_6, ROW_TAG, SIDE, Sample, VERSION_1,
-    VERSION_2,
+use super::samples::{
+    EMPTY_TREE, ROW, ROW_1, ROW_2, ROW_3, ROW_4, ROW_5, ROW_6, ROW_TAG, SIDE, VERSION_1, VERSION_2,
 };
 use super::words::Shape;
 use gx_object::{Kind, Sha1Namer};
@@ -51,7 +50,7 @@ const SUFFIXES: &[Question] = &[
 #[test]
 fn suffixes_are_read_in_their_order(rt: HostRuntime) -> Result<(), Fail> {
     let state = RandomState::new(&rt)?;
-    ask(rt.alloc(), Sha1Namer, state, Sample::Row, SUFFIXES)
+    ask(rt.alloc(), Sha1Namer, state, ROW, SUFFIXES)
 }
 
 /// Two texts that show the same, the second a commit, a tree or a blob by its digits.
@@ -67,7 +66,7 @@ const BASES: &[Question] = &[
 #[test]
 fn bases_and_paths_are_read(rt: HostRuntime) -> Result<(), Fail> {
     let state = RandomState::new(&rt)?;
-    ask(rt.alloc(), Sha1Namer, state, Sample::Row, BASES)
+    ask(rt.alloc(), Sha1Namer, state, ROW, BASES)
 }
 
 /// A text, how often `a` is put behind it, and why the whole is no revision.
@@ -199,7 +198,7 @@ const WORDS: &[Question] = &[
 #[test]
 fn range_words_have_the_first_shape_that_fits(rt: HostRuntime) -> Result<(), Fail> {
     let state = RandomState::new(&rt)?;
-    ask(rt.alloc(), Sha1Namer, state, Sample::Row, WORDS)
+    ask(rt.alloc(), Sha1Namer, state, ROW, WORDS)
 }
 
 /// What is answered for a word where the growth with this number is refused, and whether it has not come.

@@ -1,10 +1,11 @@
 //! What revisions show: objects, files and commits.
 
 use super::questions::{Question, ask};
-use super::sample::{
-    EMPTY_TREE, FIRST, FIRST_TREE, LINK, P, Q, SECOND, SECOND_TREE, Sample, TAG, VERSION_1,
-    VERSION_2, Y, fill_sample,
+use super::samples::{
+    BRANCHES, EMPTY_TREE, FIRST, FIRST_TREE, LINK, P, Q, SECOND, SECOND_TREE, TAG, VERSION_1,
+    VERSION_2, Y,
 };
+use super::steps::{Step, fill};
 use gx_object::{Kind, Mode, Namer, Sha1Namer, ShortNamer};
 use gx_refusing::Refusing;
 use gx_repo::Repo;
@@ -60,7 +61,7 @@ const OBJECTS: &[Question] = &[
 #[test]
 fn revisions_show_objects(rt: HostRuntime) -> Result<(), Fail> {
     let state = RandomState::new(&rt)?;
-    ask(rt.alloc(), Sha1Namer, state, Sample::Branches, OBJECTS)
+    ask(rt.alloc(), Sha1Namer, state, BRANCHES, OBJECTS)
 }
 
 const REFUSED: &[Question] = &[
@@ -97,7 +98,7 @@ const REFUSED: &[Question] = &[
 #[test]
 fn refused_revisions_show_nothing(rt: HostRuntime) -> Result<(), Fail> {
     let state = RandomState::new(&rt)?;
-    ask(rt.alloc(), Sha1Namer, state, Sample::Branches, REFUSED)
+    ask(rt.alloc(), Sha1Namer, state, BRANCHES, REFUSED)
 }
 
 /// The digits of the name that `ShortNamer` gives the commit, and the first 39 of them.
@@ -105,10 +106,19 @@ const COMMIT: &[u8] = b"1111111111111111111111111111111111110260";
 
 const MOST_OF_COMMIT: &[u8] = b"111111111111111111111111111111111111026";
 
+const COMMITTED: &[Step] = &[Step::Commit(&[], b"")];
+
 const ABBREVIATIONS: &[Question] = &[
     Question::Miss(b"1111", RevFault::Ambiguous),
     Question::Show(COMMIT, Kind::Commit, COMMIT),
     Question::Show(MOST_OF_COMMIT, Kind::Commit, COMMIT),
+];
+
+/// Two refs, of which one is named by digits.
+const PUBLISHED: &[Step] = &[
+    Step::Commit(&[], b""),
+    Step::Publish(b"1111", COMMIT),
+    Step::Publish(b"HEAD", COMMIT),
 ];
 
 const DIGITS: &[Question] = &[
@@ -119,11 +129,13 @@ const DIGITS: &[Question] = &[
 #[test]
 fn abbreviations_are_of_one_object_and_refs_come_first(rt: HostRuntime) -> Result<(), Fail> {
     let state = RandomState::new(&rt)?;
-    ask(rt.alloc(), ShortNamer, state, Sample::Commit, ABBREVIATIONS)?;
-    ask(rt.alloc(), ShortNamer, state, Sample::Digits, DIGITS)
+    ask(rt.alloc(), ShortNamer, state, COMMITTED, ABBREVIATIONS)?;
+    ask(rt.alloc(), ShortNamer, state, PUBLISHED, DIGITS)
 }
 
-const TWO_BLOBS: &[Question] = &[
+const TWO_BLOBS: &[Step] = &[Step::Blob(b"a"), Step::Blob(b"ab")];
+
+const BEGINNINGS: &[Question] = &[
     Question::Miss(b"1111", RevFault::Ambiguous),
     Question::Miss(
         b"111111111111111111111111111111111111000",
@@ -139,10 +151,13 @@ const TWO_BLOBS: &[Question] = &[
 #[test]
 fn digits_that_begin_two_blobs_are_ambiguous(rt: HostRuntime) -> Result<(), Fail> {
     let state = RandomState::new(&rt)?;
-    ask(rt.alloc(), ShortNamer, state, Sample::Blobs, TWO_BLOBS)
+    ask(rt.alloc(), ShortNamer, state, TWO_BLOBS, BEGINNINGS)
 }
 
-const ONE_BLOB: &[Question] = &[
+/// A blob of which Git's book tells the name.
+const ONE_BLOB: &[Step] = &[Step::Blob(b"test content\n")];
+
+const ABBREVIATED: &[Question] = &[
     Question::Show(
         b"d670",
         Kind::Blob,
@@ -159,7 +174,7 @@ const ONE_BLOB: &[Question] = &[
 #[test]
 fn digits_show_the_one_object_that_they_begin(rt: HostRuntime) -> Result<(), Fail> {
     let state = RandomState::new(&rt)?;
-    ask(rt.alloc(), Sha1Namer, state, Sample::Content, ONE_BLOB)
+    ask(rt.alloc(), Sha1Namer, state, ONE_BLOB, ABBREVIATED)
 }
 
 const LOOKS: &[Question] = &[
@@ -181,7 +196,7 @@ const LOOKS: &[Question] = &[
 #[test]
 fn files_are_looked_up(rt: HostRuntime) -> Result<(), Fail> {
     let state = RandomState::new(&rt)?;
-    ask(rt.alloc(), Sha1Namer, state, Sample::Branches, LOOKS)
+    ask(rt.alloc(), Sha1Namer, state, BRANCHES, LOOKS)
 }
 
 const COMMITS: &[Question] = &[
@@ -197,7 +212,7 @@ const COMMITS: &[Question] = &[
 #[test]
 fn commits_are_shown_after_peeling(rt: HostRuntime) -> Result<(), Fail> {
     let state = RandomState::new(&rt)?;
-    ask(rt.alloc(), Sha1Namer, state, Sample::Branches, COMMITS)
+    ask(rt.alloc(), Sha1Namer, state, BRANCHES, COMMITS)
 }
 
 /// A look, at which the growth with this number is refused, and whether it has not come.
@@ -223,7 +238,7 @@ fn refused_look_at<B: Allocator, N: Namer, C: Allocator + Copy>(
     own: C,
     n: u64,
 ) -> Option<(Option<RevFault>, bool)> {
-    if !fill_sample(own, repo, Sample::Branches) {
+    if !fill(own, repo, BRANCHES) {
         return None;
     }
     let revision = Revision::read(own, b"main^{tree}:bak").ok()?;

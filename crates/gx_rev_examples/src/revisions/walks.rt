@@ -1,7 +1,8 @@
 //! What a walk lists, and which commits reach one another.
 
 use super::questions::{Question, ask, ranges_of, reached};
-use super::sample::{FIRST, P, Q, SECOND, Sample, Y, fill_sample};
+use super::samples::{BRANCHES, FIRST, P, Q, SECOND, Y};
+use super::steps::{Step, fill};
 use gx_object::{Namer, Sha1Namer};
 use gx_refusing::Refusing;
 use gx_repo::Repo;
@@ -38,8 +39,16 @@ const LISTED: &[Question] = &[
 #[test]
 fn words_list_what_they_reach(rt: HostRuntime) -> Result<(), Fail> {
     let state = RandomState::new(&rt)?;
-    ask(rt.alloc(), Sha1Namer, state, Sample::Branches, LISTED)
+    ask(rt.alloc(), Sha1Namer, state, BRANCHES, LISTED)
 }
+
+/// A commit that is made twice, for two refs.
+const TWICE: &[Step] = &[
+    Step::Commit(&[], b"p"),
+    Step::Publish(b"refs/heads/x", P),
+    Step::Commit(&[], b"p"),
+    Step::Publish(b"refs/heads/y", P),
+];
 
 const LISTED_ONCE: &[Question] = &[
     Question::List(&[b"x", b"y"], &[P]),
@@ -50,7 +59,7 @@ const LISTED_ONCE: &[Question] = &[
 #[test]
 fn commit_made_twice_is_listed_once(rt: HostRuntime) -> Result<(), Fail> {
     let state = RandomState::new(&rt)?;
-    ask(rt.alloc(), Sha1Namer, state, Sample::Twice, LISTED_ONCE)
+    ask(rt.alloc(), Sha1Namer, state, TWICE, LISTED_ONCE)
 }
 
 const REFUSED: &[Question] = &[
@@ -65,7 +74,7 @@ const REFUSED: &[Question] = &[
 #[test]
 fn first_refused_word_is_answered(rt: HostRuntime) -> Result<(), Fail> {
     let state = RandomState::new(&rt)?;
-    ask(rt.alloc(), Sha1Namer, state, Sample::Branches, REFUSED)
+    ask(rt.alloc(), Sha1Namer, state, BRANCHES, REFUSED)
 }
 
 const REACHED: &[Question] = &[
@@ -82,7 +91,7 @@ const REACHED: &[Question] = &[
 #[test]
 fn commits_reach_themselves_and_their_ancestors(rt: HostRuntime) -> Result<(), Fail> {
     let state = RandomState::new(&rt)?;
-    ask(rt.alloc(), Sha1Namer, state, Sample::Branches, REACHED)
+    ask(rt.alloc(), Sha1Namer, state, BRANCHES, REACHED)
 }
 
 /// What a walk is refused for, or with no words a question of what is reached.
@@ -135,7 +144,7 @@ fn refused_in<B: Allocator, N: Namer, C: Allocator + Copy>(
     word: &[u8],
     n: u64,
 ) -> Option<(Option<WalkFault>, bool)> {
-    if !fill_sample(own, repo, Sample::Branches) {
+    if !fill(own, repo, BRANCHES) {
         return None;
     }
     let ranges = word_ranges(own, word)?;

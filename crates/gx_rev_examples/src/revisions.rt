@@ -1,3 +1,4 @@
+mod growths;
 mod questions;
 mod reading;
 mod samples;

@@ -1,13 +1,13 @@
 //! Revisions and range words: what they are read as.
 
+use super::growths::{Call, refuse_each};
 use super::questions::{Question, ask};
 use super::samples::{
     EMPTY_TREE, ROW, ROW_1, ROW_2, ROW_3, ROW_4, ROW_5, ROW_6, ROW_TAG, SIDE, VERSION_1, VERSION_2,
 };
 use super::words::Shape;
 use gx_object::{Kind, Sha1Namer};
-use gx_refusing::Refusing;
-use gx_rev::{Range, RevFault, Revision};
+use gx_rev::{RevFault, Revision};
 use std::alloc::{AllocError, Allocator};
 use std::hash::RandomState;
 use std::test::Fail;
@@ -201,45 +201,17 @@ fn range_words_have_the_first_shape_that_fits(rt: HostRuntime) -> Result<(), Fai
     ask(rt.alloc(), Sha1Namer, state, ROW, WORDS)
 }
 
-/// What is answered for a word where the growth with this number is refused, and whether it has not come.
-fn refused<B: Allocator>(heap: &Refusing<B>, text: &[u8], n: u64) -> (Option<RevFault>, bool) {
-    heap.arm(n);
-    let fault = Range::read(heap, text).err();
-    let is_waiting = heap.is_waiting();
-    heap.arm(0);
-    (fault, is_waiting)
-}
-
-/// How many growths of a word are refused before none is, where each answer to a refused growth says so.
-fn growths_of<A: Allocator + Copy>(alloc: A, text: &[u8]) -> Option<u64> {
-    let mut refused_growths = 0u64;
-    for n in 1..100u64 {
-        let heap = Refusing::new(alloc, 0);
-        let (fault, is_waiting) = refused(&heap, text, n);
-        let is_refused = fault == Some(RevFault::OutOfMemory);
-        if is_refused == is_waiting {
-            return None;
-        }
-        if is_waiting {
-            return Some(refused_growths);
-        }
-        refused_growths = n;
-    }
-    None
-}
-
-const GROWING: [&[u8]; 6] = [
-    b"main^2~3:a/b..other^{tree}:c",
-    b"^main^",
-    b"main~2^@",
-    b"main^^!",
-    b"main^-2",
-    b"main:a",
+const GROWING: &[Call] = &[
+    Call::Read(b"main^2~3:a/b..other^{tree}:c"),
+    Call::Read(b"^main^"),
+    Call::Read(b"main~2^@"),
+    Call::Read(b"main^^!"),
+    Call::Read(b"main^-2"),
+    Call::Read(b"main:a"),
 ];
 
 #[test]
-fn refused_growths_are_answered(rt: HostRuntime) {
-    for text in GROWING {
-        assert!(rt; growths_of(rt.alloc(), text).unwrap_or(0) > 0);
-    }
+fn refused_growths_are_answered(rt: HostRuntime) -> Result<(), Fail> {
+    let state = RandomState::new(&rt)?;
+    refuse_each(rt.alloc(), state, GROWING)
 }

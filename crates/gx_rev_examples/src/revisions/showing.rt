@@ -1,17 +1,14 @@
 //! What revisions show: objects, files and commits.
 
+use super::growths::{Call, refused_growths};
 use super::questions::{Question, ask};
 use super::samples::{
     BRANCHES, EMPTY_TREE, FIRST, FIRST_TREE, LINK, P, Q, SECOND, SECOND_TREE, TAG, VERSION_1,
     VERSION_2, Y,
 };
-use super::steps::{Step, fill};
-use gx_object::{Kind, Mode, Namer, Sha1Namer, ShortNamer};
-use gx_refusing::Refusing;
-use gx_repo::Repo;
-use gx_rev::{RevFault, Revision, look};
-use gx_text::TreePath;
-use std::alloc::Allocator;
+use super::steps::Step;
+use gx_object::{Kind, Mode, Sha1Namer, ShortNamer};
+use gx_rev::RevFault;
 use std::hash::RandomState;
 use std::test::Fail;
 
@@ -215,55 +212,12 @@ fn commits_are_shown_after_peeling(rt: HostRuntime) -> Result<(), Fail> {
     ask(rt.alloc(), Sha1Namer, state, BRANCHES, COMMITS)
 }
 
-/// A look, at which the growth with this number is refused, and whether it has not come.
-fn refused_look<B: Allocator, N: Namer, C: Allocator + Copy>(
-    heap: &Refusing<B>,
-    repo: &Repo<N, C>,
-    revision: &Revision<C>,
-    path: &TreePath<C>,
-    own: C,
-    n: u64,
-) -> (Option<RevFault>, bool) {
-    heap.arm(n);
-    let fault = look(own, repo, revision, path).err();
-    let is_waiting = heap.is_waiting();
-    heap.arm(0);
-    (fault, is_waiting)
-}
-
-/// A look into a sample, at which the growth with this number is refused. The heap is given once more as the allocator.
-fn refused_look_at<B: Allocator, N: Namer, C: Allocator + Copy>(
-    heap: &Refusing<B>,
-    repo: &mut Repo<N, C>,
-    own: C,
-    n: u64,
-) -> Option<(Option<RevFault>, bool)> {
-    if !fill(own, repo, BRANCHES) {
-        return None;
-    }
-    let revision = Revision::read(own, b"main^{tree}:bak").ok()?;
-    let path = TreePath::read(own, b"test.txt").ok()?;
-    Some(refused_look(heap, repo, &revision, &path, own, n))
-}
-
-/// Does that with an empty repository.
-fn refused_look_anew<B: Allocator, C: Allocator + Copy>(
-    heap: &Refusing<B>,
-    own: C,
-    n: u64,
-    state: RandomState,
-) -> Option<(Option<RevFault>, bool)> {
-    let mut repo = Repo::new(own, Sha1Namer, state);
-    refused_look_at(heap, &mut repo, own, n)
-}
+/// A look asks for memory once.
+const GROWING: Call = Call::Look(b"main^{tree}:bak", b"test.txt");
 
 #[test]
 fn refused_growths_show_no_file(rt: HostRuntime) -> Result<(), Fail> {
     let state = RandomState::new(&rt)?;
-    let heap = Refusing::new(rt.alloc(), 0);
-    let refused = refused_look_anew(&heap, &heap, 1, state);
-    assert!(rt; refused == Some((Some(RevFault::OutOfMemory), false)));
-    let ample = refused_look_anew(&heap, &heap, 2, state);
-    assert!(rt; ample == Some((None, true)));
+    assert!(rt; refused_growths(rt.alloc(), state, GROWING) == Some(1));
     Ok(())
 }

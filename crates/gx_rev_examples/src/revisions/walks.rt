@@ -1,13 +1,11 @@
 //! What a walk lists, and which commits reach one another.
 
-use super::questions::{Question, ask, ranges_of, reached};
+use super::growths::{Call, refuse_each};
+use super::questions::{Question, ask};
 use super::samples::{BRANCHES, FIRST, P, Q, SECOND, Y};
-use super::steps::{Step, fill};
-use gx_object::{Namer, Sha1Namer};
-use gx_refusing::Refusing;
-use gx_repo::Repo;
-use gx_rev::{Range, RevFault, WalkFault, walk};
-use std::alloc::Allocator;
+use super::steps::Step;
+use gx_object::Sha1Namer;
+use gx_rev::RevFault;
 use std::hash::RandomState;
 use std::test::Fail;
 
@@ -94,104 +92,19 @@ fn commits_reach_themselves_and_their_ancestors(rt: HostRuntime) -> Result<(), F
     ask(rt.alloc(), Sha1Namer, state, BRANCHES, REACHED)
 }
 
-/// What a walk is refused for, or with no words a question of what is reached.
-fn fault_of<N: Namer, A: Allocator + Copy>(
-    alloc: A,
-    repo: &Repo<N, A>,
-    ranges: &[Range<A>],
-) -> Option<WalkFault> {
-    if !ranges.is_empty() {
-        return walk(alloc, repo, ranges).err();
-    }
-    match reached(alloc, repo, Y, Y) {
-        Some(Err(kind)) => Some(WalkFault { word: 0, kind }),
-        Some(Ok(true)) => None,
-        _ => Some(WalkFault {
-            word: 999,
-            kind: RevFault::UnknownObject,
-        }),
-    }
-}
-
-/// The range of a word, or none for no word.
-fn word_ranges<A: Allocator + Copy>(alloc: A, word: &[u8]) -> Option<Vec<Range<A>, A>> {
-    if word.is_empty() {
-        return Some(Vec::new(alloc));
-    }
-    ranges_of(alloc, &[word]).ok()
-}
-
-/// What a walk over these ranges is refused for where the growth with this number is, and whether it has not come.
-fn refused<B: Allocator, N: Namer, C: Allocator + Copy>(
-    heap: &Refusing<B>,
-    own: C,
-    repo: &Repo<N, C>,
-    ranges: &[Range<C>],
-    n: u64,
-) -> (Option<WalkFault>, bool) {
-    heap.arm(n);
-    let fault = fault_of(own, repo, ranges);
-    let is_waiting = heap.is_waiting();
-    heap.arm(0);
-    (fault, is_waiting)
-}
-
-/// The same of a walk over a word in a sample. The heap is given once more as the allocator.
-fn refused_in<B: Allocator, N: Namer, C: Allocator + Copy>(
-    heap: &Refusing<B>,
-    own: C,
-    repo: &mut Repo<N, C>,
-    word: &[u8],
-    n: u64,
-) -> Option<(Option<WalkFault>, bool)> {
-    if !fill(own, repo, BRANCHES) {
-        return None;
-    }
-    let ranges = word_ranges(own, word)?;
-    Some(refused(heap, own, repo, &ranges, n))
-}
-
-/// The same in an empty repository.
-fn refused_anew<B: Allocator, C: Allocator + Copy>(
-    heap: &Refusing<B>,
-    own: C,
-    word: &[u8],
-    n: u64,
-    state: RandomState,
-) -> Option<(Option<WalkFault>, bool)> {
-    let mut repo = Repo::new(own, Sha1Namer, state);
-    refused_in(heap, own, &mut repo, word, n)
-}
-
-const MEMORY: Option<WalkFault> = Some(WalkFault {
-    word: 0,
-    kind: RevFault::OutOfMemory,
-});
-
-/// How many growths are refused before none is, where each is answered as one of no word.
-fn growths_of<A: Allocator + Copy>(alloc: A, word: &[u8], state: RandomState) -> Option<u64> {
-    let mut refused_growths = 0u64;
-    for n in 1..100u64 {
-        let heap = Refusing::new(alloc, 0);
-        let (fault, is_waiting) = refused_anew(&heap, &heap, word, n, state)?;
-        if is_waiting && fault.is_none() {
-            return Some(refused_growths);
-        }
-        if is_waiting || fault != MEMORY {
-            return None;
-        }
-        refused_growths = n;
-    }
-    None
-}
-
-const GROWING: &[&[u8]] = &[b"", b"y", b"^y", b"p..y", b"p...y", b"y^@", b"y^!", b"y^-2"];
+const GROWING: &[Call] = &[
+    Call::Reach(Y, Y),
+    Call::Walk(&[b"y"]),
+    Call::Walk(&[b"^y"]),
+    Call::Walk(&[b"p..y"]),
+    Call::Walk(&[b"p...y"]),
+    Call::Walk(&[b"y^@"]),
+    Call::Walk(&[b"y^!"]),
+    Call::Walk(&[b"y^-2"]),
+];
 
 #[test]
 fn refused_growths_are_of_no_word(rt: HostRuntime) -> Result<(), Fail> {
     let state = RandomState::new(&rt)?;
-    for word in GROWING {
-        assert!(rt; growths_of(rt.alloc(), word, state).unwrap_or(0) > 0);
-    }
-    Ok(())
+    refuse_each(rt.alloc(), state, GROWING)
 }

@@ -1,4 +1,8 @@
+mod growths;
+mod questions;
 mod reading;
-mod sample;
+mod samples;
 mod showing;
+mod steps;
 mod walks;
+mod words;

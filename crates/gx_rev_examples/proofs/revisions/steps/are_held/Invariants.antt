@@ -2,7 +2,7 @@ use Rattle.std.proofs.Common.{map, drop}
 use Rattle.std.specs.List.{AllByRecursion}
 use Rattle.gx_model.specs.declared.objects.Kind.TheVariants as kinds
 use Rattle.gx_model.specs.Sound.{Holds}
-use Rattle.gx_rev_examples.proofs.revisions.sample.are_held.Given as goal
+use Rattle.gx_rev_examples.proofs.revisions.steps.are_held.Given as goal
 
 abbrev pub invariant-loop-name : goal.invariant-loop-name
 invariant-loop-name g l =

@@ -4,7 +4,7 @@ use Rattle.gx_model.specs.declared.objects.Mode.TheVariants.{File}
 use Rattle.gx_tree.specs.Faults.{fault_of}
 use Rattle.gx_tree.specs.Named.{NamedTree}
 use Rattle.gx_model.proofs.NamedMaps.{named_after, named_kept}
-use Rattle.gx_rev_examples.proofs.revisions.sample.add_file.Goals as goal
+use Rattle.gx_rev_examples.proofs.revisions.steps.add_file.Goals as goal
 
 pub returns : goal.returns
 returns g c =

@@ -1,7 +1,7 @@
 use Rattle.std.proofs.Common.{sym, subst}
 use Rattle.gx_model.specs.Sound.{IsNamedMap}
 use Rattle.gx_model.proofs.NamedMaps.{named_kept}
-use Rattle.gx_rev_examples.proofs.revisions.sample.add_commit.Goals as goal
+use Rattle.gx_rev_examples.proofs.revisions.steps.add_commit.Goals as goal
 
 pub returns-then-not-are_held : goal.returns-then-not-are_held
 returns-then-not-are_held g c =

@@ -1,7 +1,7 @@
 use Rattle.std.proofs.Common.{rules, ◌≡◌, subst}
 use Rattle.gx_model.specs.Sound.{Holds}
 use Rattle.gx_model.proofs.HeldObjects.{held_shown, is_shown}
-use Rattle.gx_rev_examples.proofs.revisions.sample.is_held.Goals as goal
+use Rattle.gx_rev_examples.proofs.revisions.steps.is_held.Goals as goal
 
 pub returns : goal.returns
 returns g c = λ same.

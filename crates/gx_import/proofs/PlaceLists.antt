@@ -4,11 +4,11 @@ use Rattle.std.specs.Prelude.{T, IsTrue, ◌||◌, ◌↔◌, ◌==◌, Result, 
 use Rattle.std.specs.Bool.{passes}
 use Rattle.std.specs.List.{AllByRecursion, slice_get}
 use Rattle.std.specs.Ordering.{nat_cmp, match_ordering}
-use Rattle.std.specs.declared.cmp.Ordering.Ordering.TheVariants.{Less, Equal, Greater}
+use Rattle.std.specs.declared.cmp.Ordering.TheVariants.{Less, Equal, Greater}
 use Rattle.std.specs.BTreeSet.{insert_key}
 use Rattle.std.specs.BTreeMap.Range.{IsLtBy}
 use Rattle.std.proofs.Math.Dec.{eqb}
-use Rattle.std.proofs.lemmas.Bool.Decides.{eqb_tells, nat_tests}
+use Rattle.std.proofs.lemmas.Bool.Decides.{Decides-eqb, eqb_tells, nat_tests}
 use Rattle.gx_model.specs.declared.objects.Kind.{Kind}
 use Rattle.gx_model.specs.Values.{Commit, Commits, commit, commit_value, list_of, more, none, parents_of, same_commit}
 use Rattle.gx_model.specs.Objects.{IsNamer}
@@ -222,10 +222,10 @@ module _ (name : Kind → List ℕ → List ℕ) (namer : IsNamer name) (r : Rec
     -- the walk has come down to the last place
     pub at_last : (xs : List ℕ) (k : ℕ) → k ≤ last → AllByRecursion (IsCommitBefore r k) xs → IsTrue (k == last) ↔ SomeReaches r (xs ++ k ∷ []) d
     at_last xs k l h = (
-      λ e. any_end (ReachesFrom r d) xs k (let same : k ≡ last = grind (arith, nat_tests) in (d, subst (λ n. IsAt r n d) (sym same) at, is_true _ (itself d))),
+      λ e. any_end (ReachesFrom r d) xs k (let same : k ≡ last = (Decides-eqb k last).0 e in (d, subst (λ n. IsAt r n d) (sym same) at, is_true _ (itself d))),
       λ w. elim (any_last (ReachesFrom r d) xs k w) [
         | inl a ↦ absurd (none_before k xs l h a)
-        | inr p ↦ (let m = not_later k p in grind (arith, nat_tests))
+        | inr p ↦ (let m = not_later k p in (Decides-eqb k last).1 (omega arith))
       ],
     )
 

@@ -11,8 +11,8 @@ use Rattle.gx_import.proofs.ancestors.is_reached.Goals as goal
 pub loop-place-init : goal.loop-place-init
 loop-place-init g c = record { commits = c.requires; same = λ made e. ((λ h. h), (λ h. h)) }
 
-pub returns-then-place-clause : goal.returns-then-place
-returns-then-place-clause g c = λ made e.
+pub returns-then-place-last : goal.returns-then-place-last
+returns-then-place-last g c = λ made e.
     let r = c.args.repo.now.1 in
     let keys = c.pop_last.new.self.keys in
     let was = c.in-Some.ensures.removal in

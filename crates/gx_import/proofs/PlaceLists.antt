@@ -1,6 +1,6 @@
 -- Lists of places in order: what the commits at them reach, and a walk that goes down by them.
 use Rattle.std.proofs.Common.{◌≡◌, ◌≢◌, ℕ, zero, suc, ◌+◌, ◌<◌, ◌≤◌, Bool, true, false, refl, sym, ap, subst, ◌∙◌, arith, List, [], ◌∷◌, ◌++◌, length, Some, None, ◌⊎◌, inl, inr}
-use Rattle.std.specs.Prelude.{T, IsTrue, ◌||◌, ◌↔◌, ◌==◌, Result, Ok, Err, IfOk}
+use Rattle.std.specs.Prelude.{T, IsTrue, ◌↔◌, ◌==◌, Result, Ok, Err, IfOk}
 use Rattle.std.specs.Bool.{passes}
 use Rattle.std.specs.List.{AllByRecursion, slice_get}
 use Rattle.std.specs.Ordering.{nat_cmp, match_ordering}
@@ -16,7 +16,6 @@ use Rattle.gx_model.specs.Histories.{Records}
 use Rattle.gx_model.specs.HistoryLaws.{IsParent}
 use Rattle.gx_model.specs.Marks.{IsAt}
 use Rattle.gx_model.specs.Ranges.{reaches, some_reaches}
-use Rattle.gx_model.specs.RepositoryLaws.{values_of}
 use Rattle.gx_model.specs.Sound.{AnyByRecursion, IsSound}
 use Rattle.gx_model.proofs.Marking.{IsBefore, least}
 use Rattle.gx_model.proofs.PathTests.{is_true, left_or, one_of, right_or}

@@ -9,7 +9,7 @@ use Rattle.gx_rev.specs.Objects.{commit_at}
 use Rattle.gx_import.specs.Places.{IsCommitBefore}
 use Rattle.gx_import.proofs.PlaceLists.{HasFirst, all_insert, all_inserted, no_parent_more, no_parent_yet, parent_inserted, parent_place}
 use Rattle.gx_import.proofs.ancestors.insert_parents.Goals as goal
-use Rattle.gx_import.proofs.ancestors.insert_parents.Goals.{in-Some, in_default}
+use Rattle.gx_import.proofs.ancestors.insert_parents.Goals.{in-Some+in_ok-insert, in_default}
 
 pub loop-number-init : goal.loop-number-init
 loop-number-init g c = record {
@@ -32,7 +32,7 @@ loop-number-preserved g c =
     let now = c.loop-number.places.keys in
     let same = λ (made : Commit) (e : IsAt r c.args.place made). (let o : Some (commit_value made) ≡ Some (commit_value (commit_at r here)) = sym e ∙ c.name_at-commit.ensures.commit in let p : made ≡ commit_at r here = cc o in p) in
     elim c.match-parent.branch [
-      | in-Some w ↦
+      | in-Some+in_ok-insert w ↦
           let there = parent_there name namer r c.sound.ensures here.bytes w.in-Some.parent.bytes n c.name_at-commit.ensures.held (rw c.view_of-view.ensures at w.in-Some.ensures) in
           let keys : c.match-parent.places.keys ≡ insert_key nat_cmp now w.place_of.result = ap (λ s. s.keys) w.places-is ∙ w.in_ok-insert.ensures.keys in
           record {

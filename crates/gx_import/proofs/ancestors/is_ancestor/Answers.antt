@@ -1,11 +1,11 @@
-use Rattle.std.proofs.Common.{◌≡◌, Bool, true, false, [], ◌∷◌, refl, sym, ap, subst, ◌∙◌, inl, inr}
+use Rattle.std.proofs.Common.{◌≡◌, [], ◌∷◌, sym, ap, subst, ◌∙◌}
 use Rattle.std.specs.List.{AllByRecursion}
 use Rattle.std.specs.Ordering.{nat_cmp}
 use Rattle.std.specs.BTreeSet.{insert_key}
 use Rattle.gx_model.specs.declared.objects.Kind.TheVariants as kinds
 use Rattle.gx_model.proofs.HeldValues.{holds_held}
 use Rattle.gx_rev.specs.Objects.{commit_at}
-use Rattle.gx_import.specs.Places.{IsCommitPlace, SomeReaches}
+use Rattle.gx_import.specs.Places.{IsCommitPlace}
 use Rattle.gx_import.proofs.PlaceLists.{one_reaches}
 use Rattle.gx_import.proofs.ancestors.is_ancestor.Goals as goal
 

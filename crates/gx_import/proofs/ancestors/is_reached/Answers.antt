@@ -1,10 +1,9 @@
-use Rattle.std.proofs.Common.{◌≡◌, ◌<◌, ◌≤◌, ◌++◌, List, [], ◌∷◌, ap, sym, subst, arith, length, ◌∙◌}
-use Rattle.std.specs.Prelude.{◌↔◌}
+use Rattle.std.proofs.Common.{◌≡◌, false, true, [], ap, sym, subst, arith, ◌∙◌}
 use Rattle.std.specs.List.{AllByRecursion}
 use Rattle.std.specs.Ordering.{nat_cmp}
 use Rattle.std.specs.BTreeMap.Range.{IsLtBy}
 use Rattle.std.proofs.lemmas.List.Elements.{recursion_from_All}
-use Rattle.gx_import.specs.Places.{IsCommitBefore, IsCommitPlace, SomeReaches}
+use Rattle.gx_import.specs.Places.{IsCommitPlace, SomeReaches}
 use Rattle.gx_import.proofs.PlaceLists.{all_before, all_last, all_places, at_last, behind_before, behind_end, behind_last, none_left, stepped}
 use Rattle.gx_import.proofs.ancestors.is_reached.Goals as goal
 
@@ -58,5 +57,5 @@ pub returns : goal.returns
 returns g c = λ made e.
     let r = c.args.repo.now.1 in
     let same = c.loop-place.invariant.same made e in
-    let none : c.loop-place.places.keys ≡ [] = none_left c.loop-place.places.keys (omega (arith)) in
-    ((λ h. absurd cc), (λ h. absurd (subst (λ ks. SomeReaches r ks made) none (same.1 h))))
+    let none : c.loop-place.places.keys ≡ [] = none_left c.loop-place.places.keys (λ l. let f : false ≡ true = c.in_default.ensures.variant.1 l in cc f) in
+    ((λ h. absurd (let f : false ≡ true = h in cc f)), (λ h. absurd (subst (λ ks. SomeReaches r ks made) none (same.1 h))))

@@ -79,6 +79,14 @@ def commits(size):
         written += len(text)
 
 
+def turns(count, branches, checkpoints=0):
+    out = sys.stdout.buffer
+    for number in range(1, count + 1):
+        out.write(commit(b'refs/heads/branch%03d' % (number % branches), number, number, b'', inline_change(number)))
+        if checkpoints and number % checkpoints == 0:
+            out.write(b'checkpoint\n\n')
+
+
 def source_lines(random, count):
     words = [b'return', b'value', b'index', b'buffer', b'length', b'if', b'for', b'static', b'const', b'result']
     return b''.join(b'    %s %s = %s(%d);\n' % (*random.choices(words, k=3), random.randrange(1000)) for _ in range(count))
@@ -214,4 +222,4 @@ def mixed(count):
 
 
 kind, *sizes = sys.argv[1:]
-{'blob': one_blob, 'blobs': many_blobs, 'commits': commits, 'history': history, 'steady': steady, 'flat': flat, 'mixed': mixed}[kind](*map(int, sizes))
+{'blob': one_blob, 'blobs': many_blobs, 'commits': commits, 'history': history, 'steady': steady, 'flat': flat, 'turns': turns, 'mixed': mixed}[kind](*map(int, sizes))

@@ -9,6 +9,7 @@ pub mod Blobs
 pub mod Parents
 pub mod NamedEdits
 pub mod HeldBlobs
+pub mod PlaceLists
 pub mod KeptRefs
 pub mod SetRefs
 pub mod PublishedNames

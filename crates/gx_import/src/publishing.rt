@@ -15,13 +15,13 @@ ghost use Rattle.gx_import.specs.declared.fault.ImportKind.TheVariants.{OutOfMem
 ghost use Rattle.gx_import.specs.Calls.{TellsForward};
 
 use crate::ImportKind;
+use crate::ancestors::is_ancestor;
 use crate::branches::Tip;
 use crate::table::Table;
 use crate::tables::Tables;
 use gx_model::repository_laws::histories_of_records;
 use gx_object::{Name, Namer};
 use gx_repo::{PublishFault, RefChange, Repo};
-use gx_rev::reaches;
 use std::alloc::{AllocError, Allocator};
 
 /// Publishes the branches with a commit, and then the tags, and enters their names among those that were published.
@@ -97,7 +97,7 @@ fn is_forward<N: Namer, A: Allocator + Copy>(
     if new == old {
         return Ok(true);
     }
-    Ok(reaches(tables.alloc, repo, &new, &old)?)
+    Ok(is_ancestor(tables.alloc, repo, &old, &new)?)
 }
 
 /// The refs to be set: the branches with a commit, and then the tags.

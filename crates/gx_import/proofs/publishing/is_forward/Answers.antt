@@ -22,17 +22,17 @@ pub unreachable-requires : goal.unreachable-requires
 unreachable-requires g c =
     not_unpeeled (g.N.Namer.name_of c.args.repo.now.0) (g.met.N.Namer.is_namer c.args.repo.now.0) c.args.repo.now.1 c.sound.ensures c.args.name.now c.args.object.now.bytes c.requires.target c.in_default-peel.ensures
 
-pub reaches-requires-clause-from : goal.reaches-requires-clause-from
-reaches-requires-clause-from g c =
+pub is_ancestor-requires-clause-new : goal.is_ancestor-requires-clause-new
+is_ancestor-requires-clause-new g c =
     new_holds (g.N.Namer.name_of c.args.repo.now.0) (g.met.N.Namer.is_namer c.args.repo.now.0) c.args.repo.now.1 c.sound.ensures c.args.tables.now c.requires.stands.0 c.requires.stands.1 c.args.name.now c.in-Some.tip.now c.in-Some.ensures c.in-Some-commit.new c.in-Some-commit.is
 
-pub reaches-requires-clause-to : goal.reaches-requires-clause-to
-reaches-requires-clause-to g c =
+pub is_ancestor-requires-clause-old : goal.is_ancestor-requires-clause-old
+is_ancestor-requires-clause-old g c =
     old_holds (g.N.Namer.name_of c.args.repo.now.0) (g.met.N.Namer.is_namer c.args.repo.now.0) c.args.repo.now.1 c.sound.ensures c.args.name.now c.args.object.now.bytes c.in-Some-peel.old.bytes c.requires.target c.in-Some-peel.ensures
 
 pub returns-clause-forward : goal.returns-clause-forward
 returns-clause-forward g c = λ s h.
-    c.in_ok-reaches.ensures
+    c.in_ok-is_ancestor.ensures
     ∙ kept_by_new (g.N.Namer.name_of c.args.repo.now.0) (g.met.N.Namer.is_namer c.args.repo.now.0) c.args.repo.now.1 c.sound.ensures c.args.tables.now s h c.args.name.now c.in-Some.tip.now c.in-Some.ensures c.in-Some-commit.new c.in-Some-commit.is
     c.args.object.now.bytes c.in-Some-peel.old.bytes c.requires.target c.in-Some-peel.ensures
 

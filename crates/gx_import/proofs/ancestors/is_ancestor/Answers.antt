@@ -1,0 +1,28 @@
+use Rattle.std.proofs.Common.{◌≡◌, [], ◌∷◌, sym, ap, subst, ◌∙◌}
+use Rattle.std.specs.List.{AllByRecursion}
+use Rattle.std.specs.Ordering.{nat_cmp}
+use Rattle.std.specs.BTreeSet.{insert_key}
+use Rattle.gx_model.specs.declared.objects.Kind.TheVariants as kinds
+use Rattle.gx_model.proofs.HeldValues.{holds_held}
+use Rattle.gx_rev.specs.Objects.{commit_at}
+use Rattle.gx_import.specs.Places.{IsCommitPlace}
+use Rattle.gx_import.proofs.PlaceLists.{one_reaches}
+use Rattle.gx_import.proofs.ancestors.is_ancestor.Goals as goal
+
+pub place_of-last-requires : goal.place_of-last-requires
+place_of-last-requires g c = holds_held (g.N.Namer.name_of c.args.repo.now.0) (g.met.N.Namer.is_namer c.args.repo.now.0) c.args.repo.now.1 c.sound.ensures kinds.Commit c.args.old.now.bytes c.requires.old
+
+pub place_of-first-requires : goal.place_of-first-requires
+place_of-first-requires g c = holds_held (g.N.Namer.name_of c.args.repo.now.0) (g.met.N.Namer.is_namer c.args.repo.now.0) c.args.repo.now.1 c.sound.ensures kinds.Commit c.args.new.now.bytes c.requires.new
+
+pub is_reached-requires : goal.is_reached-requires
+is_reached-requires g c =
+    let r = c.args.repo.now.1 in
+    let keys : c.insert.new.self.keys ≡ c.place_of-first.result ∷ [] = c.in_ok-insert.ensures.keys ∙ ap (λ ks. insert_key nat_cmp ks c.place_of-first.result) c.new-places.ensures.empty in
+    subst (AllByRecursion (IsCommitPlace r)) (sym keys) ((commit_at r c.args.new.now, c.place_of-first.ensures), tt)
+
+pub returns : goal.returns
+returns g c =
+    let r = c.args.repo.now.1 in
+    let keys : c.insert.new.self.keys ≡ c.place_of-first.result ∷ [] = c.in_ok-insert.ensures.keys ∙ ap (λ ks. insert_key nat_cmp ks c.place_of-first.result) c.new-places.ensures.empty in
+    one_reaches r (commit_at r c.args.new.now) (commit_at r c.args.old.now) c.place_of-first.result c.insert.new.self.keys c.is_reached.result keys c.place_of-first.ensures (c.is_reached.ensures (commit_at r c.args.old.now) c.place_of-last.ensures)

@@ -1,0 +1,16 @@
+use Rattle.std.specs.Prelude.{◌↔◌}
+use Rattle.std.specs.List.{AllByRecursion}
+use Rattle.gx_model.specs.Marks.{IsAt}
+use Rattle.gx_model.specs.Values.{Commit}
+use Rattle.gx_import.specs.Places.{IsCommitPlace, SomeReaches}
+use Rattle.gx_import.proofs.PlaceLists.{behind_last}
+use Rattle.gx_import.proofs.ancestors.is_reached.Given as goal
+
+abbrev pub invariant-loop-place : goal.invariant-loop-place
+invariant-loop-place g l = record {
+  commits : AllByRecursion (IsCommitPlace l.repo.1) l.places.keys;
+  same : (made : Commit) → IsAt l.repo.1 l.last made → SomeReaches l.repo.1 l.places.keys made ↔ SomeReaches l.repo.1 l.fn.places.keys made;
+}
+
+abbrev pub decreases-loop-place : goal.decreases-loop-place
+decreases-loop-place g l = behind_last l.places.keys

@@ -1,0 +1,27 @@
+use Rattle.std.proofs.Common.{◌≡◌, ◌∙◌, ap, Some, None}
+use Rattle.std.specs.List.{slice_get}
+use Rattle.gx_model.specs.RepositoryLaws.{values_of}
+use Rattle.gx_model.proofs.HeldPlaces.{held_place}
+use Rattle.gx_model.proofs.HeldValues.{commit_held}
+use Rattle.gx_model.proofs.Standing.{commit_at_place}
+use Rattle.gx_import.proofs.ancestors.place_of.Goals as goal
+
+pub unreachable-requires : goal.unreachable-requires
+unreachable-requires g c =
+    let name = g.N.Namer.name_of c.args.repo.now.0 in
+    let namer = g.met.N.Namer.is_namer c.args.repo.now.0 in
+    let r = c.args.repo.now.1 in
+    let p = held_place name namer r c.sound.ensures c.args.commit.now.bytes (commit_held name namer r c.sound.ensures c.args.commit.now.bytes c.requires) in
+    let e = rw c.store.ensures at c.in_default.ensures in
+    let f : None ≡ Some p.0 = e ∙ p.1 in cc f
+
+pub returns : goal.returns
+returns g c =
+    let name = g.N.Namer.name_of c.args.repo.now.0 in
+    let namer = g.met.N.Namer.is_namer c.args.repo.now.0 in
+    let r = c.args.repo.now.1 in
+    let p = held_place name namer r c.sound.ensures c.args.commit.now.bytes (commit_held name namer r c.sound.ensures c.args.commit.now.bytes c.requires) in
+    let e = rw c.store.ensures at c.in-Some.ensures in
+    let f : Some c.in-Some.place ≡ Some p.0 = e ∙ p.1 in
+    let same : c.in-Some.place ≡ p.0 = cc f in
+    commit_at_place name namer r c.sound.ensures c.args.commit.now.bytes c.in-Some.place c.requires (ap (slice_get (values_of r)) same ∙ p.2)

@@ -1,0 +1,105 @@
+//! Ancestors, by places: a commit's parents stand before it. Source: gitglossary(7), "reachable", and git-merge-base(1).
+
+ghost use Rattle.std.specs.Prelude.{◌≡◌, ◌⊎◌, ◌↔◌, IfOk, IsTrue, OnOk};
+ghost use Rattle.std.specs.List.{AllByRecursion};
+ghost use Rattle.gx_model.specs.declared.objects.Kind.TheVariants as kinds;
+ghost use Rattle.gx_model.specs.Marks.{IsAt};
+ghost use Rattle.gx_model.specs.Ranges.{reaches};
+ghost use Rattle.gx_model.specs.Sound.{Holds};
+ghost use Rattle.gx_model.specs.Values.{Commit, parents_of};
+ghost use Rattle.gx_rev.specs.Objects.{IsHeldAs, commit_at};
+ghost use Rattle.gx_import.specs.Places.{AddsParents, IsCommitBefore, IsCommitPlace, SomeReaches};
+
+use gx_object::{Name, Namer};
+use gx_repo::Repo;
+use gx_rev::view_of;
+use std::alloc::{AllocError, Allocator};
+use std::collections::BTreeSet;
+
+/// Whether the first of two held commits is the second or one of its ancestors.
+///
+/// Cost: for each commit behind the first one that the second reaches, its body and a look-up for each of its parents.
+/// Memory: the places that are still to be visited.
+pub(crate) fn is_ancestor<N: Namer, A: Allocator + Copy>(
+    alloc: A,
+    repo: &Repo<N, A>,
+    old: &Name,
+    new: &Name,
+) -> Result<bool, AllocError>
+    requires old { Holds repo.now.1.records kinds.Commit old.now.bytes }
+    requires new { Holds repo.now.1.records kinds.Commit new.now.bytes }
+    ensures { IfOk result (λ is_ancestor. is_ancestor ≡ reaches (commit_at repo.now.1 new.now) (commit_at repo.now.1 old.now)) }
+{
+    repo.sound();
+    let last = place_of(repo, old);
+    let first = place_of(repo, new);
+    let mut places = BTreeSet::new(alloc);
+    places.insert(first)?;
+    is_reached(repo, &mut places, last)
+}
+
+/// Whether the commit at the last place is reached from one of these. They are visited from the newest one on, down to it.
+fn is_reached<N: Namer, A: Allocator + Copy>(
+    repo: &Repo<N, A>,
+    places: &mut BTreeSet<usize, A>,
+    last: usize,
+) -> Result<bool, AllocError>
+    requires { AllByRecursion (IsCommitPlace repo.now.1) places.now.keys }
+    ensures { (commit : Commit) → IsAt repo.now.1 last commit → IfOk result (λ is_reached. IsTrue is_reached ↔ SomeReaches repo.now.1 places.old.keys commit) }
+{
+    repo.sound();
+    while let Some(place) = places.pop_last() {
+        if place <= last {
+            return Ok(place == last);
+        }
+        insert_parents(repo, places, place)?;
+    }
+    Ok(false)
+}
+
+/// Adds the places of the parents of the commit at a place, which stand before it.
+fn insert_parents<N: Namer, A: Allocator + Copy>(
+    repo: &Repo<N, A>,
+    places: &mut BTreeSet<usize, A>,
+    place: usize,
+) -> Result<(), AllocError>
+    requires commit { IsCommitPlace repo.now.1 place }
+    requires before { AllByRecursion (IsCommitBefore repo.now.1 place) places.now.keys }
+    ensures before { OnOk result (AllByRecursion (IsCommitBefore repo.now.1 place) places.new.keys) }
+    ensures parents { OnOk result ((commit : Commit) → IsAt repo.now.1 place commit → AddsParents repo.now.1 (parents_of commit) places.old.keys places.new.keys) }
+{
+    repo.sound();
+    let commit = name_at(repo, place);
+    let view = view_of(repo, &commit);
+    for number in 0..view.parent_count() {
+        if let Some(parent) = view.parent(number) {
+            places.insert(place_of(repo, &parent))?;
+        }
+    }
+    Ok(())
+}
+
+/// The place of a held commit.
+fn place_of<N: Namer, A: Allocator + Copy>(repo: &Repo<N, A>, commit: &Name) -> usize
+    requires { IsHeldAs kinds.Commit repo.now.1 commit.now }
+    ensures { IsAt repo.now.1 result (commit_at repo.now.1 commit.now) }
+{
+    repo.sound();
+    let Some(place) = repo.store().place(commit) else {
+        unreachable!();
+    };
+    place
+}
+
+/// The name of the commit at a place.
+fn name_at<N: Namer, A: Allocator + Copy>(repo: &Repo<N, A>, place: usize) -> Name
+    requires { IsCommitPlace repo.now.1 place }
+    ensures held { IsHeldAs kinds.Commit repo.now.1 result }
+    ensures commit { IsAt repo.now.1 place (commit_at repo.now.1 result) }
+{
+    repo.sound();
+    let Some((name, _, _)) = repo.store().record(place) else {
+        unreachable!();
+    };
+    name
+}

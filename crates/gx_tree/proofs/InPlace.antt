@@ -18,7 +18,7 @@ use Rattle.gx_tree.proofs.Levels.{key_trans}
 use Rattle.gx_tree.proofs.Searches.{after_at, found_either, inserted_at, kept_at_place, not_before_itself}
 use Rattle.gx_tree.proofs.Texts.{bytes_same, cases_bytes, same_bytes_flip, same_itself}
 
-others_after : (a : Bytes × Kept) (es : Level) → AllByRecursion (IsAfter a) es → others a.0 es ≡ es
+pub others_after : (a : Bytes × Kept) (es : Level) → AllByRecursion (IsAfter a) es → others a.0 es ≡ es
 others_after a [] h = refl
 others_after a (e ∷ es) h = rw h.0.0 (ap (λ r. e ∷ r) (others_after a es h.1))
 
@@ -61,7 +61,7 @@ all_set P (y ∷ xs) (suc i) x h p = (h.0, all_set P xs i x h.1 p)
 
 -- ---- a new entry
 
-others_same : (c : Bytes) (es : Level) → kept_at c es ≡ None → others c es ≡ es
+pub others_same : (c : Bytes) (es : Level) → kept_at c es ≡ None → others c es ≡ es
 others_same c [] h = refl
 others_same c (e ∷ es) h = elim (cases_bytes c e.0) [
   | inl s ↦ let clash : Some e.1 ≡ None = rw (bytes_same c e.0 s) at h in cc

@@ -21,3 +21,4 @@ pub mod HeldLevels
 pub mod HeldRecords
 pub mod WrittenHomes
 pub mod InPlace
+pub mod TakenOut

@@ -1,6 +1,6 @@
 //! Directories: their entries in the order of Git's trees, each a file or a directory below. Entries never change while
 //! more than one directory has them, so trees share them, and the entries made in their place share their components.
-ghost use Rattle.std.specs.Prelude.{◌≡◌, ◌≤◌, ◌<◌, ◌+◌, ◌++◌, ◌∷◌, [], IsTrue, ◌↔◌, IfOk, drop, length, take};
+ghost use Rattle.std.specs.Prelude.{◌≡◌, ◌≤◌, ◌<◌, ◌+◌, ◌++◌, ◌∷◌, [], IsTrue, ◌↔◌, IfOk, OnOk, drop, length, take};
 ghost use Rattle.std.specs.Option.{option_map};
 ghost use Rattle.gx_tree.specs.Homes.{Keeps, Both, IfThere, Borrowed, AreAtHome, IsHeldAtHome, IsItemAtHome};
 ghost use Rattle.gx_tree.specs.Named.{IsAtHome, nothing};
@@ -11,7 +11,7 @@ ghost use Rattle.gx_tree.specs.Steps.{files_of, replaced};
 
 use crate::path_tree::Found;
 use crate::reach::reach_of;
-use crate::search::{find, place_of};
+use crate::search::{find, place_at, place_of};
 use gx_object::{Mode, Name};
 use gx_text::TreePath;
 use std::alloc::{AllocError, Allocator};
@@ -198,22 +198,42 @@ pub(crate) fn folder_in<'a, A: Allocator + Copy>(
     }
 }
 
-// The entries but for that of a component.
+// The entries but for that of a component. It is looked for, and the others are not looked at.
 fn shared_others<A: Allocator + Copy>(
     alloc: A,
     entries: &[Entry<A>],
     component: &[u8],
 ) -> Result<Vec<Entry<A>, A>, AllocError>
+    requires { IsLevel (seen_all entries.now) }
     ensures others { IfOk result (λ v. seen_all v.items ≡ others component.now (seen_all entries.now)) }
     ensures home { IfOk result (λ v. Keeps AreAtHome AreAtHome entries.now v.items) }
 {
     let mut others = Vec::with_capacity(alloc, entries.len() + 1)?;
-    for entry in entries {
-        if component != entry.component() {
-            others.push(entry.shared()?)?;
+    match place_at(entries, component) {
+        Some(place) => {
+            share_into(&mut others, &entries[..place])?;
+            share_into(&mut others, &entries[place + 1..])?;
+            Ok(others)
+        }
+        None => {
+            share_into(&mut others, entries)?;
+            Ok(others)
         }
     }
-    Ok(others)
+}
+
+// Puts the entries behind those that are shared already.
+fn share_into<A: Allocator + Copy>(
+    shared: &mut Vec<Entry<A>, A>,
+    entries: &[Entry<A>],
+) -> Result<(), AllocError>
+    ensures entries { OnOk result (seen_all shared.new.items ≡ seen_all shared.old.items ++ seen_all entries.now) }
+    ensures home { OnOk result (Keeps (Both AreAtHome AreAtHome) AreAtHome (shared.old.items, entries.now) shared.new.items) }
+{
+    for entry in entries {
+        shared.push(entry.shared()?)?;
+    }
+    Ok(())
 }
 
 /// The entries, with `new` in place of what stood at its component.

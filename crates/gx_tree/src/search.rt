@@ -1,5 +1,5 @@
 //! Finding a component among a directory's entries, by halves.
-ghost use Rattle.std.specs.Prelude.{◌≡◌, ◌≤◌, ◌++◌, true, false, length, IfErr, IfOk};
+ghost use Rattle.std.specs.Prelude.{◌≡◌, ◌≤◌, ◌++◌, true, false, length, IfErr, IfOk, IfSome, IsNone, None};
 ghost use Rattle.std.specs.Cmp.Lexicographic.{slice_cmp};
 ghost use Rattle.std.specs.List.Sorted.{IsPartitionPoint};
 ghost use Rattle.std.specs.Ordering.{nat_cmp};
@@ -67,6 +67,21 @@ pub(crate) fn place_marked<A: Allocator + Copy>(
         return Ok(place - 1);
     }
     Err(place)
+}
+
+/// The place of what stands at a component, as a file or as a directory.
+pub(crate) fn place_at<A: Allocator + Copy>(entries: &[Entry<A>], component: &[u8]) -> Option<usize>
+    requires { IsLevel (seen_all entries.now) }
+    ensures found { IfSome result (λ place. IsEntryAt component.now entries.now place) }
+    ensures missing { IsNone result → kept_at component.now (seen_all entries.now) ≡ None }
+{
+    match place_marked(entries, component, b"") {
+        Ok(place) => Some(place),
+        Err(_) => match place_marked(entries, component, b"/") {
+            Ok(place) => Some(place),
+            Err(_) => None,
+        },
+    }
 }
 
 /// How many entries don't come after a component with what follows it in the order.

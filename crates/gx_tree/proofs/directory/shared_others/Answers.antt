@@ -1,15 +1,21 @@
 use Rattle.std.proofs.Common.{sym, subst}
 use Rattle.gx_tree.specs.Homes.{AreAtHome, IsItemAtHome}
-use Rattle.gx_tree.proofs.Copies.{others_kept, others_left}
-use Rattle.gx_tree.proofs.Homes.{all_at, all_joined}
+use Rattle.gx_tree.proofs.TakenOut.{all_left, all_others, all_taken, both_others}
 use Rattle.gx_tree.proofs.directory.shared_others.Goals as goal
-use Rattle.gx_tree.proofs.directory.shared_others.Goals.{then-ne+in_ok-shared+in_ok-push, else-ne}
 
-pub loop-entry-preserved : goal.loop-entry-preserved
-loop-entry-preserved g c = elim c.if-ne.branch [
-  | then-ne+in_ok-shared+in_ok-push w ↦ rw w.others-is (
-    others_kept c.args.component.now c.component.result.now c.args.entries.now c.loop-entry.entry-index c.entry-item.result w.in_ok-shared.field-0 c.loop-entry.others.items w.push.new.self.items c.ne.result c.loop-entry-test.true c.entry-item.is c.component.ensures c.ne.ensures w.if-ne.true w.in_ok-shared.ensures.seen w.in_ok-push.ensures.items c.loop-entry.invariant.0,
-    λ name rs h. subst (AreAtHome name rs) (sym w.in_ok-push.ensures.items) (all_joined (λ e. IsItemAtHome name rs e.item) c.loop-entry.others.items _ (c.loop-entry.invariant.1 name rs h) (w.in_ok-shared.ensures.home name rs (all_at (λ e. IsItemAtHome name rs e.item) c.args.entries.now c.loop-entry.entry-index c.entry-item.result c.loop-entry-test.true c.entry-item.is h), tt)),
-  )
-  | else-ne w ↦ rw w.others-is (others_left c.args.component.now c.component.result.now c.args.entries.now c.loop-entry.entry-index c.entry-item.result c.loop-entry.others.items c.ne.result c.loop-entry-test.true c.entry-item.is c.component.ensures c.ne.ensures w.if-ne.false c.loop-entry.invariant.0, c.loop-entry.invariant.1)
-]
+pub returns-in_ok-share_into-in-None-clause-others : goal.returns-in_ok-share_into-in-None-clause-others
+returns-in_ok-share_into-in-None-clause-others g c =
+    all_others c.args.component.now c.args.entries.now c.in_ok-others.others.items _ c.place_at.result (sym c.in-None.is) c.place_at.ensures.missing c.in_ok-others.ensures.items c.in_ok-share_into-in-None.ensures.entries
+
+pub returns-in_ok-share_into-in-Some-2-clause-others : goal.returns-in_ok-share_into-in-Some-2-clause-others
+returns-in_ok-share_into-in-Some-2-clause-others g c =
+    both_others c.args.component.now c.args.entries.now c.in_ok-others.others.items c.share_into.new.shared.items _ c.in-Some.place c.requires c.in-Some.ensures.found c.in_ok-others.ensures.items c.in_ok-share_into-in-Some.ensures.entries c.in_ok-share_into-in-Some-2.ensures.entries
+
+pub returns-in_ok-share_into-in-None-clause-home : goal.returns-in_ok-share_into-in-None-clause-home
+returns-in_ok-share_into-in-None-clause-home g c name rs h =
+    c.in_ok-share_into-in-None.ensures.home name rs (subst (AreAtHome name rs) (sym c.in_ok-others.ensures.items) tt, h)
+
+pub returns-in_ok-share_into-in-Some-2-clause-home : goal.returns-in_ok-share_into-in-Some-2-clause-home
+returns-in_ok-share_into-in-Some-2-clause-home g c name rs h =
+    let first = c.in_ok-share_into-in-Some.ensures.home name rs (subst (AreAtHome name rs) (sym c.in_ok-others.ensures.items) tt, all_taken (λ e. IsItemAtHome name rs e.item) c.args.entries.now c.in-Some.place h) in
+    c.in_ok-share_into-in-Some-2.ensures.home name rs (first, all_taken (λ e. IsItemAtHome name rs e.item) _ _ (all_left (λ e. IsItemAtHome name rs e.item) c.args.entries.now _ h))

@@ -27,7 +27,7 @@ first_again c j k [] h m = refl
 first_again c j k (e ∷ es) h m = let a : comes_before c k e ≡ true = ap (λ z. precedes (c ++ z) e) m ∙ h.0.1 in rw a refl
 
 -- the entry at i, read as r, gives way to one of the same component and mark
-in_place : {A : Type 0} (es : List (Entry A)) (i : ℕ) (r e : Entry A) → IsLevel (seen_all es) → i < length es → r ≡ get_or es i r → (seen e).0 ≡ (seen r).0 → mark (kept e.item) ≡ mark (kept r.item) → seen_all (slice_set es i e) ≡ with_kept (seen r).0 (kept e.item) (seen_all es)
+pub in_place : {A : Type 0} (es : List (Entry A)) (i : ℕ) (r e : Entry A) → IsLevel (seen_all es) → i < length es → r ≡ get_or es i r → (seen e).0 ≡ (seen r).0 → mark (kept e.item) ≡ mark (kept r.item) → seen_all (slice_set es i e) ≡ with_kept (seen r).0 (kept e.item) (seen_all es)
 in_place [] i r e h l ir c m = absurd (omega arith)
 in_place (x ∷ es) zero r e h l ir c m =
     let t : (seen r).0 ≡ (seen x).0 = ap (λ z. (seen z).0) ir in

@@ -1,6 +1,7 @@
-//! What an edit makes of a directory: the directories on its path are made anew, and no other changes. Where a file takes
-//! the place of another or of nothing, and no other tree has the directories on its path, it is put in them as they are.
-ghost use Rattle.std.specs.Prelude.{◌≡◌, ◌≢◌, ◌<◌, ◌+◌, [], IfOk, IsFalse, IsTrue, Some, drop, length};
+//! What an edit makes of a directory: the directories on its path are made anew, and no other changes. Where no other tree
+//! has them, a file that takes the place of another or of nothing is put in them as they are, and what is removed is taken
+//! out of them.
+ghost use Rattle.std.specs.Prelude.{◌≡◌, ◌≢◌, ◌<◌, ◌+◌, [], IfOk, IsFalse, IsTrue, None, Some, drop, length};
 ghost use Rattle.gx_model.specs.Edits.{removed};
 ghost use Rattle.gx_model.specs.Files.{sub_map};
 ghost use Rattle.gx_model.specs.Paths.{path_text};
@@ -11,10 +12,11 @@ ghost use Rattle.gx_tree.specs.Searches.{IsMissingAt};
 ghost use Rattle.gx_tree.specs.Steps.{grafted, is_made, kept_grafted, kept_removed};
 ghost use Rattle.gx_tree.specs.Views.{kept, kept_if, option_kept, seen_all};
 ghost use Rattle.gx_model.specs.declared.objects.Mode.TheVariants as modes;
+ghost use Rattle.gx_tree.specs.declared.edits.Taken.TheVariants as taken;
 
 use crate::directory::{Directory, Entry, Item, folder_in, with_entry, with_item};
 use crate::reach::longer;
-use crate::search::{find, place_marked};
+use crate::search::{find, place_at, place_marked};
 use gx_object::{Mode, Name};
 use gx_text::TreePath;
 use std::alloc::{AllocError, Allocator};
@@ -108,6 +110,93 @@ impl<A: Allocator + Copy> Directory<A> {
             self.reach = longer(self.reach, bytes);
         }
         Ok(is_put)
+    }
+}
+
+impl<A: Allocator + Copy> Directory<A> {
+    /// Takes out what stands at or below the rest of the path, with the directories below this one that are left with no
+    /// file, and answers whether it did: only where something stands there, and no other tree has the directories on the
+    /// path. Takes no memory.
+    #[cycle(take)]
+    pub(crate) fn take(&mut self, path: &TreePath<A>, depth: usize) -> bool
+        requires { depth < length path.now }
+        ensures files { IsTrue result → self.new.files ≡ removed self.old.files (drop depth path.now) }
+        ensures unchanged { IsFalse result → self.new ≡ self.old }
+        ensures home { KeepsHome self.old self.new }
+    {
+        let is_taken = take_in(&mut self.entries, path, depth);
+        if is_taken {
+            self.remembered = None;
+        }
+        is_taken
+    }
+}
+
+/// What a removal takes of an item.
+enum Taken {
+    Nothing,
+    Part,
+    Whole,
+}
+
+// Takes out an entry, or what stands below one of them.
+#[cycle(take)]
+fn take_in<A: Allocator + Copy>(
+    entries: &mut Rc<Vec<Entry<A>, A>, A>,
+    path: &TreePath<A>,
+    depth: usize,
+) -> bool
+    requires within { depth < length path.now }
+    requires level { IsLevel (seen_all entries.now.value.items) }
+    ensures level { IsTrue result → IsLevel (seen_all entries.new.value.items) }
+    ensures files { IsTrue result → files (seen_all entries.new.value.items) ≡ removed (files (seen_all entries.old.value.items)) (drop depth path.now) }
+    ensures unchanged { IsFalse result → entries.new.value.items ≡ entries.old.value.items }
+    ensures home { Keeps AreAtHome AreAtHome entries.old.value.items entries.new.value.items }
+{
+    let Some(place) = place_at(entries.as_slice(), path.component(depth)) else {
+        return false;
+    };
+    let Some(owned) = Rc::get_mut(entries) else {
+        return false;
+    };
+    match owned[place].item.take(path, depth) {
+        Taken::Nothing => false,
+        Taken::Part => true,
+        Taken::Whole => {
+            owned.remove(place);
+            true
+        }
+    }
+}
+
+impl<A: Allocator + Copy> Item<A> {
+    // Takes out what stands below this directory at the path behind the component at `depth`; the whole, where that is the
+    // last, or where no file is left, is for the caller to take.
+    #[cycle(take)]
+    fn take(&mut self, path: &TreePath<A>, depth: usize) -> Taken
+        requires { depth < length path.now }
+        ensures whole { result ≡ taken.Whole → None ≡ kept_removed (drop (depth + 1) path.now) (Some (kept self.old)) }
+        ensures part { result ≡ taken.Part → Some (kept self.new) ≡ kept_removed (drop (depth + 1) path.now) (Some (kept self.old)) }
+        ensures mark { result ≡ taken.Part → mark (kept self.new) ≡ mark (kept self.old) }
+        ensures unchanged { result ≡ taken.Nothing → self.new ≡ self.old }
+        ensures home { Keeps IsItemAtHome IsItemAtHome self.old self.new }
+    {
+        let length = path.len();
+        if depth + 1 == length {
+            return Taken::Whole;
+        }
+        match self {
+            Item::File(_, _) => Taken::Nothing,
+            Item::Folder(below) => {
+                if !below.take(path, depth + 1) {
+                    return Taken::Nothing;
+                }
+                if below.is_empty() {
+                    return Taken::Whole;
+                }
+                Taken::Part
+            }
+        }
     }
 }
 

@@ -173,6 +173,29 @@ impl<A: Allocator + Copy> Root<A> {
         Ok(Root::of(node.removed(alloc, path, 0)?))
     }
 
+    /// Takes out what stands at or below a path, and answers whether it did: only where something stands there, and no other
+    /// tree has the directories on the path. Takes no memory.
+    pub(crate) fn take(&mut self, path: &TreePath<A>) -> bool
+        ensures files { IsTrue result → self.new.files ≡ removed self.old.files path.now }
+        ensures unchanged { IsFalse result → self.new ≡ self.old }
+        ensures home { KeepsHome self.old self.new }
+    {
+        if path.len() == 0 {
+            self.node = None;
+            return true;
+        }
+        let Some(node) = &mut self.node else {
+            return false;
+        };
+        if !node.take(path, 0) {
+            return false;
+        }
+        if node.is_empty() {
+            self.node = None;
+        }
+        true
+    }
+
     /// Appends the files, each by its path.
     pub(crate) fn list_into(
         &self,

@@ -1,12 +1,12 @@
 -- Copies and renames, by what stands at their source.
-use Rattle.std.proofs.Common.{◌≡◌, ◌≢◌, ◌≤◌, true, false, cond, not, ◌&&◌, [], ◌∷◌, ◌++◌, map, length, drop, Option, Some, None, Result, inl, inr, refl, sym, ap, ◌∙◌, subst, arith, append-nil}
-use Rattle.std.specs.Prelude.{is_some, Err}
+use Rattle.std.proofs.Common.{◌≡◌, ◌≢◌, ◌<◌, ◌≤◌, true, false, cond, not, ◌&&◌, [], ◌∷◌, ◌++◌, map, length, drop, Option, Some, None, Result, inl, inr, refl, sym, ap, ◌∙◌, subst, arith, append-nil}
+use Rattle.std.specs.Prelude.{is_some, Err, IfErr, Ok}
 use Rattle.std.specs.List.{list_all}
 use Rattle.std.proofs.lemmas.Bool.{and_parts, cases_Bool, false≢true}
 use Rattle.gx_model.specs.declared.faults.Fault.{Fault}
 use Rattle.gx_model.specs.declared.faults.Fault.TheVariants as model
 use Rattle.gx_model.specs.Texts.{Bytes}
-use Rattle.gx_model.specs.Paths.{Path, begins, path_cmp}
+use Rattle.gx_model.specs.Paths.{Path, begins, is_short, path_cmp}
 use Rattle.gx_model.specs.Files.{FileMap, Leaf, file_at, sub_map, under}
 use Rattle.gx_model.specs.Edits.{copied, copy_fault, moved, removed, renamed, with_all, without, without_line, unless}
 use Rattle.gx_model.proofs.FoundFiles.{at_moved}
@@ -73,6 +73,26 @@ pub renamed_is : (f : FileMap Bytes) (s d : Path) (k : Kept) → sub_map f s ≡
 renamed_is f s d k e h =
     ap (λ g. unless (copy_fault f s d) (with_all g (without_line d (without s f)))) (moved_is s d (under s f) ∙ ap (below d) e)
     ∙ ap (λ o. unless o (grafted d (kept_map k) (removed f s))) (copy_fault_is f s d k e h)
+
+-- a file may stand at each short path but the root
+pub file_fits : (x : Leaf Bytes) (p : Path) → (0 < length p) → is_short p ≡ true → graft_fault (file x) p ≡ None
+file_fits x [] l h = absurd (omega arith)
+file_fits x (c ∷ p) l h =
+    let short : is_short ((c ∷ p) ++ []) ≡ true = ap is_short (append-nil (c ∷ p)) ∙ h in
+    rw short refl
+
+pub file_within : (x : Leaf Bytes) (p : Path) → graft_fault (file x) p ≡ None → 0 < length p
+file_within x [] h = cc
+file_within x (c ∷ p) h = omega arith
+
+-- whatever is so is so where a call was refused
+pub if_refused : {X E : Type 0} (P : Type 0) (r : Result X E) → P → IfErr r (λ e. P)
+if_refused P (Ok x) h = tt
+if_refused P (Err e) h = h
+
+-- what may stand there is copied there
+pub copied_there : (f : FileMap Bytes) (s d : Path) (k : Kept) → sub_map f s ≡ kept_map k → IsKept k → graft_fault k d ≡ None → copied f s d ≡ Ok (grafted d (kept_map k) f)
+copied_there f s d k e h fits = copied_is f s d k e h ∙ ap (λ o. unless o (grafted d (kept_map k) f)) fits
 
 pub refused_by : (o : Option Fault) (x : TreeFault) (g : FileMap Bytes) → Some (fault_of x) ≡ o → IsFaultOf (fault_of x) (unless o g)
 refused_by o x g e = subst (λ r. IsFaultOf (fault_of x) (unless r g)) e (itself (fault_of x) g)

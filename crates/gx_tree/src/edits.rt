@@ -1,6 +1,6 @@
 //! What an edit makes of a directory: the directories on its path are made anew, and no other changes. Where no other tree
 //! has them, a file that takes the place of another or of nothing is put in them as they are, and what is removed is taken
-//! out of them.
+//! out of them as they are.
 ghost use Rattle.std.specs.Prelude.{◌≡◌, ◌≢◌, ◌<◌, ◌+◌, [], IfOk, IsFalse, IsTrue, None, Some, drop, length};
 ghost use Rattle.gx_model.specs.Edits.{removed};
 ghost use Rattle.gx_model.specs.Files.{sub_map};

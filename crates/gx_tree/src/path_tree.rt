@@ -191,14 +191,18 @@ impl<A: Allocator + Copy> PathTree<A> {
     ///
     /// `NoSuchPath` where no file stands at or below the source; then `RootNotTree` where a file would be the root; then
     /// `PathTooLong` where a path would have more than 4,095 bytes; then `OutOfMemory`. Each leaves the tree as it was.
-    /// Cost: as for `remove`. What is copied is shared, and none of its paths is looked at, since each directory knows the
-    /// bytes of the longest below it. Source: git-fast-import(1), "filecopy".
+    /// Cost: for a file as for `modify`; for a directory those on the destination's path are made anew. It is shared, and
+    /// none of its paths is looked at, since each directory knows the bytes of the longest below it. Source:
+    /// git-fast-import(1), "filecopy".
     pub fn copy(&mut self, source: &TreePath<A>, destination: &TreePath<A>) -> Result<(), TreeFault>
         ensures map { Gives fault_of (λ _. self.new.files) result (copied self.old.files source.now destination.now) }
         ensures refused { Refuses (copied self.old.files source.now destination.now) result }
         ensures unchanged { OnErr result (self.new ≡ self.old) }
         ensures home { KeepsHome self.old self.new }
     {
+        if self.root.put_copy(self.alloc, source, destination)? {
+            return Ok(());
+        }
         self.root = self.copied_root(source, destination)?;
         Ok(())
     }
@@ -208,8 +212,8 @@ impl<A: Allocator + Copy> PathTree<A> {
     /// nothing.
     ///
     /// The errors are those of `copy`, in their order, and each leaves the tree as it was.
-    /// Cost: as for `remove`, twice. As for `copy`, no path below the source is looked at. Source: git-fast-import(1),
-    /// "filerename".
+    /// Cost: the directories on the source's path are made anew, and then it is put as by `copy`, where no path below the
+    /// source is looked at. Source: git-fast-import(1), "filerename".
     pub fn rename(
         &mut self,
         source: &TreePath<A>,
@@ -304,8 +308,29 @@ impl<A: Allocator + Copy> PathTree<A> {
             return Err(fault);
         }
         let rest = self.root.removed(self.alloc, source)?;
-        Ok(placed(self.alloc, &rest, &held, destination)?)
+        Ok(put_or_placed(self.alloc, rest, &held, destination)?)
     }
+}
+
+// What `placed` answers, for a root that is given away: where no other tree has the directories on the path, a file is put
+// in them as they are.
+fn put_or_placed<A: Allocator + Copy>(
+    alloc: A,
+    mut rest: Root<A>,
+    held: &Held<'_, A>,
+    path: &TreePath<A>,
+) -> Result<Root<A>, AllocError>
+    requires kept { IsKept (kept_held held.now) }
+    requires checked { graft_fault (kept_held held.now) path.now ≡ None }
+    ensures files { IfOk result (λ root. root.files ≡ grafted path.now (kept_map (kept_held held.now)) rest.files) }
+    ensures home { IfOk result (Keeps (Both IsHeldAtHome IsAtHome) IsAtHome (held.now, rest)) }
+{
+    if let Held::File(mode, name) = held {
+        if rest.put(alloc, path, *mode, *name)? {
+            return Ok(rest);
+        }
+    }
+    placed(alloc, &rest, held, path)
 }
 
 // The root with what is held at a path, in place of what stands there, above it or below it.

@@ -1,10 +1,11 @@
 //! The root of a tree: a directory, and none where there are no files.
-ghost use Rattle.std.specs.Prelude.{◌≡◌, ◌≢◌, ◌<◌, ◌++◌, [], IfOk, IsFalse, IsOk, IsTrue, OnOk, length, map, take};
+ghost use Rattle.std.specs.Prelude.{◌≡◌, ◌≢◌, ◌<◌, ◌++◌, [], IfErr, IfOk, IsFalse, IsOk, IsTrue, Ok, OnOk, length, map, take};
 ghost use Rattle.std.specs.List.{list_all};
 ghost use Rattle.std.specs.Option.{option_map};
-ghost use Rattle.gx_model.specs.Edits.{removed};
+ghost use Rattle.gx_model.specs.Edits.{copied, removed};
 ghost use Rattle.gx_model.specs.Files.{sub_map};
 ghost use Rattle.gx_model.specs.Growth.{tree_records};
+ghost use Rattle.gx_model.specs.NameMaps.{IsNameMap};
 ghost use Rattle.gx_model.specs.Paths.{is_short};
 ghost use Rattle.gx_tree.specs.Copies.{option_held};
 ghost use Rattle.gx_tree.specs.Homes.{Keeps, Both, IfThere, Borrowed, AreAtHome, IsHeldAtHome, IsItemAtHome};
@@ -156,6 +157,28 @@ impl<A: Allocator + Copy> Root<A> {
             Some(node) => node.put(alloc, path, 0, path.joined().len(), mode, name),
             None => Ok(false),
         }
+    }
+
+    /// Puts the file at one path at another too, as `put` does, and answers whether it did.
+    pub(crate) fn put_copy(
+        &mut self,
+        alloc: A,
+        source: &TreePath<A>,
+        destination: &TreePath<A>,
+    ) -> Result<bool, AllocError>
+        ensures files { IsTrue (is_made result) → copied self.old.files source.now destination.now ≡ Ok self.new.files }
+        ensures names { IsTrue (is_made result) → IsNameMap self.old.files → IsNameMap self.new.files }
+        ensures unchanged { IsFalse (is_made result) → self.new ≡ self.old }
+        ensures allowed { IfErr result (λ _. IsOk (copied self.old.files source.now destination.now)) }
+        ensures home { KeepsHome self.old self.new }
+    {
+        let Some(Held::File(mode, name)) = self.held_at(source) else {
+            return Ok(false);
+        };
+        if destination.len() == 0 {
+            return Ok(false);
+        }
+        self.put(alloc, destination, mode, name)
     }
 
     /// That without what stands at or below a path.

@@ -1,21 +1,20 @@
 -- A directory's entries where one takes the place of another.
-use Rattle.std.proofs.Common.{◌≡◌, ℕ, ◌+◌, ◌<◌, zero, suc, Bool, true, false, List, [], ◌∷◌, ◌++◌, length, get_or, drop, take, slice_set, Some, None, Result, Ok, Err, inl, inr, refl, sym, ap, ◌∙◌, arith, subst}
+use Rattle.std.proofs.Common.{◌≡◌, ℕ, ◌+◌, ◌<◌, zero, suc, Bool, true, false, List, [], ◌∷◌, ◌++◌, length, get_or, drop, slice_set, Option, Some, None, ◌≤◌, inl, inr, refl, sym, ap, ◌∙◌, arith, subst}
 use Rattle.std.specs.List.{insert, list_all, AllByRecursion}
-use Rattle.std.specs.Prelude.{IfErr, is_ok}
+use Rattle.std.specs.Prelude.{IsNone, is_some}
 use Rattle.std.proofs.lemmas.Bool.{cases_Bool, true≢false}
-use Rattle.std.proofs.lemmas.List.{map-append}
 use Rattle.gx_model.specs.Texts.{Bytes, same_bytes}
 use Rattle.gx_model.specs.Paths.{Path, is_component}
 use Rattle.gx_model.specs.Files.{Leaf}
 use Rattle.gx_tree.specs.Nodes.{Kept, Level, IsAfter, IsKept, IsLevel, comes_before, file, files, inserted, kept_at, kept_map, key, mark, others, precedes, with_kept}
-use Rattle.gx_tree.specs.Searches.{Finds, IsEntryAt, IsMissingAt}
+use Rattle.gx_tree.specs.Searches.{IsEntryAt}
 use Rattle.gx_tree.specs.Steps.{grafted, kept_grafted}
 use Rattle.gx_tree.specs.Views.{kept, seen, seen_all}
 use Rattle.gx_tree.specs.declared.directory.Entry.{Entry}
-use Rattle.gx_tree.proofs.Below.{root_at_end}
-use Rattle.gx_tree.proofs.EditSteps.{Leaves, grafted_step, kept_grafted_here}
+use Rattle.gx_tree.proofs.Copies.{with_kept_is}
+use Rattle.gx_tree.proofs.EditSteps.{Leaves, grafted_step}
 use Rattle.gx_tree.proofs.Levels.{key_trans}
-use Rattle.gx_tree.proofs.Searches.{after_at, found_either, inserted_at, kept_at_place, not_before_itself}
+use Rattle.gx_tree.proofs.Searches.{IsPlace, after_at, kept_at_place, not_before_itself}
 use Rattle.gx_tree.proofs.Texts.{bytes_same, cases_bytes, same_bytes_flip, same_itself}
 
 pub others_after : (a : Bytes × Kept) (es : Level) → AllByRecursion (IsAfter a) es → others a.0 es ≡ es
@@ -68,21 +67,15 @@ others_same c (e ∷ es) h = elim (cases_bytes c e.0) [
   | inr n ↦ rw n (ap (λ r. e ∷ r) (others_same c es (rw n at h)))
 ]
 
--- what a search answers that finds no place
-pub not_found : {A : Type 0} (c m : Bytes) (xs es : List (Entry A)) (r : Result ℕ ℕ) (b : Bool) → xs ≡ es → b ≡ is_ok r → b ≡ false → IfErr r (λ i. IsMissingAt c m xs i) → Finds c m (seen_all es) None
-not_found c m xs es (Ok i) b ex eb n h = absurd (true≢false (sym eb ∙ n))
-not_found c m xs es (Err i) b ex eb n h = subst (λ z. Finds c m (seen_all z) None) ex h.nothing
+-- what a search answers that finds nothing
+pub none_found : {X : Type 0} (o : Option X) (b : Bool) → b ≡ is_some o → b ≡ false → IsNone o
+none_found None b e n = refl
+none_found (Some x) b e n = absurd (true≢false (sym e ∙ n))
 
--- a new file at its place, where nothing stands at its component
-pub inserted_new : {A : Type 0} (c : Bytes) (x : Leaf Bytes) (i : ℕ) (new : Entry A) (es ys out : List (Entry A)) → seen new ≡ (c, file x) → ys ≡ es → out ≡ insert ys i new → IsMissingAt c [] es i → Finds c (47 ∷ []) (seen_all es) None → seen_all out ≡ with_kept c (file x) (seen_all es)
-inserted_new c x i new es ys out en ey eo m n =
-    let none = found_either c (seen_all es) None m.nothing n in
-    let at : seen_all out ≡ seen_all (take i es) ++ seen new ∷ seen_all (drop i es) = rw (eo, ey) (map-append seen (take i es) (new ∷ drop i es)) in
-    at ∙ ap (λ z. seen_all (take i es) ++ z ∷ seen_all (drop i es)) en
-    ∙ sym (inserted_at c (file x) es i m.within m.place) ∙ ap (inserted c (file x)) (sym (others_same c (seen_all es) none))
-
--- so a file at the path's last component is an edit of the whole
-pub put_last : {A : Type 0} {c : Bytes} (p : Path) (i : ℕ) (x : Leaf Bytes) (es out : List (Entry A)) → i < length p → i + 1 ≡ length p → IsKept (file x) → list_all is_component p ≡ true → IsLevel (seen_all es) → c ≡ get_or p i [] → seen_all out ≡ with_kept c (file x) (seen_all es) → Leaves (grafted (drop i p) (kept_map (file x)) (files (seen_all es))) (seen_all out)
-put_last {A} {c} p i x es out l last hx hp level ec eo =
-    let o = kept_at c (seen_all es) in
-    grafted_step p i (seen_all es) (seen_all out) (file x) o l hx hp refl level ec refl refl refl refl (kept_grafted_here (drop (i + 1) p) (file x) o (root_at_end p i last)) eo
+-- a new file at its place, in the directories that it needs, is an edit of the whole
+pub put_new : {A : Type 0} {c c' m : Bytes} {k : Kept} (p : Path) (i n : ℕ) (x : Leaf Bytes) (new : Entry A) (es ys zs out : List (Entry A)) → i < length p → IsKept (file x) → list_all is_component p ≡ true → IsLevel (seen_all es) → c ≡ get_or p i [] → kept_at c (seen_all es) ≡ None → seen new ≡ (c, k) → k ≡ kept_grafted (drop (i + 1) p) (file x) None → ys ≡ es → zs ≡ ys → c' ≡ (seen new).0 → m ≡ mark (kept new.item) → n ≤ length zs → IsPlace (c' ++ m) zs n → out ≡ insert ys n new → Leaves (grafted (drop i p) (kept_map (file x)) (files (seen_all es))) (seen_all out)
+put_new {A} {c} {c'} {m} {k} p i n x new es ys zs out l hx hp level ec none en ek ey ez ec' em within place eo =
+    let at : c ≡ new.component.value.items = ap (λ z. z.0) (sym en) in
+    let others : seen_all ys ≡ others c (seen_all es) = ap seen_all ey ∙ sym (others_same c (seen_all es) none) in
+    let is = with_kept_is c c' m new es ys zs out n at ec' em ez eo others within place in
+    grafted_step p i (seen_all es) (seen_all out) (file x) None l hx hp refl level ec (sym at) refl refl none (ap (λ z. z.1) en ∙ ek) is

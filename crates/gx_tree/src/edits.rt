@@ -16,7 +16,7 @@ ghost use Rattle.gx_tree.specs.declared.edits.Taken.TheVariants as taken;
 
 use crate::directory::{Directory, Entry, Item, folder_in, with_entry, with_item};
 use crate::reach::longer;
-use crate::search::{find, place_at, place_marked};
+use crate::search::{find, place_at, place_marked, place_of};
 use gx_object::{Mode, Name};
 use gx_text::TreePath;
 use std::alloc::{AllocError, Allocator};
@@ -84,8 +84,9 @@ impl<A: Allocator + Copy> Directory<A> {
 }
 
 impl<A: Allocator + Copy> Directory<A> {
-    /// Puts a file in place of the one at the rest of the path, which has so many bytes, or where nothing stands in the last
-    /// directory on it, and answers whether it did: only where no other tree has the directories on the path.
+    /// Puts a file in place of the one at the rest of the path, which has so many bytes, or where nothing stands at its next
+    /// component in the last directory that is there, and answers whether it did: only where no other tree has the
+    /// directories on the path.
     #[cycle(put)]
     pub(crate) fn put(
         &mut self,
@@ -228,35 +229,37 @@ fn put_in<A: Allocator + Copy>(
             Some(owned) => owned[place].item.put(alloc, path, depth, bytes, mode, name),
             None => Ok(false),
         },
-        Err(place) if depth + 1 == length => {
-            insert_in(entries, alloc, component, place, mode, name)
-        }
-        Err(_) => Ok(false),
+        Err(_) => insert_in(entries, alloc, path, depth, mode, name),
     }
 }
 
-// Puts a new file among the entries at its place, unless a directory stands at its component.
+// Puts a new file among the entries, in the directories that it needs, unless something stands at its component.
 fn insert_in<A: Allocator + Copy>(
     entries: &mut Rc<Vec<Entry<A>, A>, A>,
     alloc: A,
-    component: &[u8],
-    place: usize,
+    path: &TreePath<A>,
+    depth: usize,
     mode: Mode,
     name: Name,
 ) -> Result<bool, AllocError>
+    requires within { depth < length path.now }
+    requires mode { mode ≢ modes.Dir }
     requires level { IsLevel (seen_all entries.now.value.items) }
-    requires missing { IsMissingAt component.now [] entries.now.value.items place }
-    ensures entries { IsTrue (is_made result) → seen_all entries.new.value.items ≡ with_kept component.now (file (mode, name.bytes)) (seen_all entries.old.value.items) }
+    ensures level { IsTrue (is_made result) → IsLevel (seen_all entries.new.value.items) }
+    ensures files { IsTrue (is_made result) → files (seen_all entries.new.value.items) ≡ grafted (drop depth path.now) (kept_map (file (mode, name.bytes))) (files (seen_all entries.old.value.items)) }
     ensures unchanged { IsFalse (is_made result) → entries.new.value.items ≡ entries.old.value.items }
     ensures home { Keeps AreAtHome AreAtHome entries.old.value.items entries.new.value.items }
 {
-    if place_marked(entries.as_slice(), component, b"/").is_ok() {
+    let component = path.component(depth);
+    if place_at(entries.as_slice(), component).is_some() {
         return Ok(false);
     }
     let Some(owned) = Rc::get_mut(entries) else {
         return Ok(false);
     };
-    let new = Entry::new(alloc, component, Item::File(mode, name))?;
+    let item = new_item(alloc, path, depth, Item::File(mode, name))?;
+    let new = Entry::new(alloc, component, item)?;
+    let place = place_of(owned, new.component(), new.mark());
     owned.insert(place, new)?;
     Ok(true)
 }
@@ -298,6 +301,26 @@ impl<A: Allocator + Copy> Item<A> {
             }
         }
     }
+}
+
+// What stands at the component at `depth` where nothing did, after an item was put at the path.
+fn new_item<A: Allocator + Copy>(
+    alloc: A,
+    path: &TreePath<A>,
+    depth: usize,
+    item: Item<A>,
+) -> Result<Item<A>, AllocError>
+    requires within { depth < length path.now }
+    requires kept { IsKept (kept item) }
+    ensures kept { IfOk result (λ i. kept i ≡ kept_grafted (drop (depth + 1) path.now) (kept item) None) }
+    ensures home { IfOk result (Keeps IsItemAtHome IsItemAtHome item) }
+{
+    let length = path.len();
+    if depth + 1 == length {
+        return Ok(item);
+    }
+    let below = Directory::new(alloc)?.grafted(alloc, path, depth + 1, item)?;
+    Ok(Item::Folder(below))
 }
 
 // The bytes of the path behind the component at `depth`, where the path from it on has `bytes`.

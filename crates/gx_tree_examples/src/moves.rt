@@ -224,3 +224,49 @@ const AROUND: &[Step<'static>] = &[
 fn duplicates_keep_their_files(rt: HostRuntime) -> Result<(), Fail> {
     run(rt.alloc(), AROUND, RandomState::new(&rt)?)
 }
+
+/// Removals in a tree that shares no directory, and in one that shares some with its duplicate.
+const REMOVALS: &[Step<'static>] = &[
+    Step::Fill(MIXED_FILES),
+    Step::Accept(Edit::Remove(b"d/e/f")),
+    Step::Accept(Edit::Remove(b"d/x")),
+    Step::List(b"d/e.x:x2 d/l:l3 m:g4 n/m:g5 "),
+    Step::Accept(Edit::Remove(b"n/m")),
+    Step::Accept(Edit::Remove(b"d")),
+    Step::List(b"m:g4 "),
+    Step::Fill(&[(b"a/b/c", Mode::File, b'1')]),
+    Step::Accept(Edit::Remove(b"a/b/c")),
+    Step::List(b""),
+    Step::Fill(MIXED_FILES),
+    Step::Duplicate,
+    Step::Accept(Edit::Remove(b"d/e/f")),
+    Step::Accept(Edit::Remove(b"d/l")),
+    Step::Accept(Edit::Remove(b"n")),
+    Step::List(b"d/e.x:x2 m:g4 "),
+    Step::ListDuplicate(MIXED),
+];
+
+#[test]
+fn removals_leave_the_other_files(rt: HostRuntime) -> Result<(), Fail> {
+    run(rt.alloc(), REMOVALS, RandomState::new(&rt)?)
+}
+
+/// Files that are copied and moved, beside a duplicate and without one.
+const FILES_MOVED: &[Step<'static>] = &[
+    Step::Fill(MIXED_FILES),
+    Step::Accept(Edit::Copy(b"d/l", b"d/a")),
+    Step::Accept(Edit::Copy(b"m", b"d/e/f")),
+    Step::Accept(Edit::Rename(b"d/a", b"d/z")),
+    Step::List(b"d/e.x:x2 d/e/f:g4 d/l:l3 d/z:l3 m:g4 n/m:g5 "),
+    Step::Fill(MIXED_FILES),
+    Step::Duplicate,
+    Step::Accept(Edit::Copy(b"d/l", b"d/a")),
+    Step::Accept(Edit::Rename(b"n/m", b"d/e/g")),
+    Step::List(b"d/a:l3 d/e.x:x2 d/e/f:f1 d/e/g:g5 d/l:l3 m:g4 "),
+    Step::ListDuplicate(MIXED),
+];
+
+#[test]
+fn files_are_copied_and_moved_beside_a_duplicate(rt: HostRuntime) -> Result<(), Fail> {
+    run(rt.alloc(), FILES_MOVED, RandomState::new(&rt)?)
+}

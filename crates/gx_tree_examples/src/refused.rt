@@ -17,6 +17,8 @@ use std::test::Fail;
 enum Call {
     Modify,
     Remove,
+    /// A removal in a tree that has a duplicate.
+    RemoveBeside,
     Copy,
     Rename,
     Duplicate,
@@ -43,6 +45,10 @@ fn answer_to<A: Allocator + Copy>(
     match call {
         Call::Modify => tree.modify(destination, Mode::Exec, name_of(b'9')),
         Call::Remove => tree.remove(source),
+        Call::RemoveBeside => match tree.duplicate() {
+            Ok(_copy) => tree.remove(source),
+            Err(fault) => Err(fault),
+        },
         Call::Copy => tree.copy(source, destination),
         Call::Rename => tree.rename(source, destination),
         Call::Duplicate => tree.duplicate().map(|_| ()),
@@ -231,7 +237,7 @@ const GROWING: &[Given<'static>] = &[
         MIXED,
         b"d/e.x:x2 d/e/f:f1 d/l:l3 m:g4 n/m:g5 n/o:x9 ",
     ),
-    (Call::Remove, MIXED, b"d/e.x:x2 d/l:l3 m:g4 n/m:g5 "),
+    (Call::RemoveBeside, MIXED, b"d/e.x:x2 d/l:l3 m:g4 n/m:g5 "),
     (
         Call::Copy,
         MIXED,
@@ -258,11 +264,19 @@ fn a_refused_growth_leaves_the_files(rt: HostRuntime) -> Result<(), Fail> {
     Ok(())
 }
 
+/// Calls on a tree that shares no directory.
+const STILL: &[Given<'static>] = &[
+    (Call::Duplicate, MIXED, MIXED),
+    (Call::Remove, MIXED, b"d/e.x:x2 d/l:l3 m:g4 n/m:g5 "),
+];
+
 #[test]
-fn a_duplicate_takes_no_memory(rt: HostRuntime) -> Result<(), Fail> {
+fn a_duplicate_and_a_removal_take_no_memory(rt: HostRuntime) -> Result<(), Fail> {
     let state = RandomState::new(&rt)?;
-    let refused = refused_growths(rt.alloc(), (Call::Duplicate, MIXED, MIXED), state);
-    assert!(rt; refused == Some(0));
+    for given in STILL {
+        let refused = refused_growths(rt.alloc(), *given, state);
+        assert!(rt; refused == Some(0), "at {:?}", given.0);
+    }
     Ok(())
 }
 

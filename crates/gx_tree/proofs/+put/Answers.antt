@@ -8,7 +8,7 @@ use Rattle.gx_tree.proofs.Below.{no_root_before}
 use Rattle.gx_tree.proofs.EditSteps.{kept_grafted_folder}
 use Rattle.gx_tree.proofs.Grafts.{grafted_some, kept_some}
 use Rattle.gx_tree.proofs.Homes.{all_at, entries_at_home, items_are_those, made_at_home}
-use Rattle.gx_tree.proofs.InPlace.{all_set, put_at, put_last}
+use Rattle.gx_tree.proofs.InPlace.{all_set, put_at}
 use Rattle.gx_tree.proofs.Rooms.{put_reach}
 use Rattle.gx_tree.proofs.+put.Goals as goal
 
@@ -53,11 +53,3 @@ edits::put_in-returns-in-Some-clause-home g t c = λ name rs h.
     let all : AreAtHome name rs es = subst (λ v. AreAtHome name rs v.items) (sym c.in-Some.ensures.value) h in
     let within = subst (λ z. c.in-Ok.place < length z) (items_are_those c.as_slice.ensures.value c.deref.ensures ∙ ap (λ v. v.items) (sym c.in-Some.ensures.value)) c.in-Ok.ensures.found.0 in
     all_set (λ e. IsItemAtHome name rs e.item) es c.in-Ok.place _ all (c.put.ensures.home name rs (all_at (λ e. IsItemAtHome name rs e.item) es c.in-Ok.place r within c.index_mut.ensures.value all))
-
-pub edits::put_in-returns-in-Err-clause-level : goal.edits::put_in-returns-in-Err-clause-level
-edits::put_in-returns-in-Err-clause-level g t c = λ is.
-    (put_last c.args.path.now c.args.depth (c.args.mode, c.args.name.bytes) c.args.entries.now.value.items c.insert_in.new.entries.value.items c.requires.within (c.if-depth-length-2.true ∙ c.len-length.ensures.length) c.requires.mode (and_parts _ _ c.component-component.ensures.path).0 c.requires.level c.component-component.ensures.component (c.insert_in.ensures.entries is)).level
-
-pub edits::put_in-returns-in-Err-clause-files : goal.edits::put_in-returns-in-Err-clause-files
-edits::put_in-returns-in-Err-clause-files g t c = λ is.
-    (put_last c.args.path.now c.args.depth (c.args.mode, c.args.name.bytes) c.args.entries.now.value.items c.insert_in.new.entries.value.items c.requires.within (c.if-depth-length-2.true ∙ c.len-length.ensures.length) c.requires.mode (and_parts _ _ c.component-component.ensures.path).0 c.requires.level c.component-component.ensures.component (c.insert_in.ensures.entries is)).is

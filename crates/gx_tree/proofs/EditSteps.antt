@@ -41,10 +41,6 @@ pub kept_grafted_folder : (q : Path) (j : Kept) (o : Option Kept) → is_root q 
 kept_grafted_folder [] j o h = absurd (true≢false h)
 kept_grafted_folder (d ∷ q) j o h = refl
 
-pub kept_grafted_here : (q : Path) (j : Kept) (o : Option Kept) → is_root q ≡ true → j ≡ kept_grafted q j o
-kept_grafted_here [] j o h = refl
-kept_grafted_here (d ∷ q) j o h = absurd (true≢false (sym h))
-
 pub removed_step : {f : FileMap Bytes} {c : Bytes} {xs ys : Level} (p : Path) (i : ℕ) (es out : Level) (o k : Option Kept) → i < length p → list_all is_component p ≡ true → files es ≡ f → IsLevel es → c ≡ get_or p i [] → xs ≡ es → ys ≡ es → kept_at c xs ≡ o → k ≡ kept_removed (drop (i + 1) p) o → out ≡ replaced c k ys → Leaves (removed f (drop i p)) out
 removed_step {f} {c} {xs} {ys} p i es out o k l hp view level ec ex ey eo ek eout =
     let at = at_component p i l ec in

@@ -1,9 +1,7 @@
 -- What a search among a directory's entries answers.
-use Rattle.std.specs.Prelude.{◌≡◌, ◌≢◌, ◌<◌, ◌≤◌, ◌++◌, true, false, ℕ, List, get_or, length, Option, None, Some}
+use Rattle.std.specs.Prelude.{◌≡◌, ◌≢◌, ◌<◌, ℕ, List, get_or, length, Option, None, Some}
 use Rattle.gx_model.specs.Texts.{Bytes}
-use Rattle.std.specs.List.Sorted.{IsPartitionPoint}
-use Rattle.gx_tree.specs.Nodes.{Kept, Level, kept_at, mark, precedes}
-use Rattle.gx_tree.specs.Views.{seen, seen_all}
+use Rattle.gx_tree.specs.Nodes.{Kept, Level, kept_at, mark}
 use Rattle.gx_tree.specs.declared.directory.Entry.{Entry}
 
 -- what is kept at c, if it has this mark
@@ -14,9 +12,3 @@ Finds c m es None = (k : Kept) → kept_at c es ≡ Some k → mark k ≢ m
 -- the entry at i is that of c
 abbrev pub IsEntryAt : {A : Type 0} → Bytes → List (Entry A) → ℕ → Type 0
 IsEntryAt {A} c es i = (i < length es) × ((d : Entry A) → (get_or es i d).component.value.items ≡ c)
-
--- nothing is kept at c with this mark, and what comes after it in the order begins at i
-pub record IsMissingAt {A : Type 0} (c m : Bytes) (es : List (Entry A)) (i : ℕ) : Type 0 where
-  pub within : i ≤ length es
-  pub place : IsPartitionPoint {X = Entry A} (λ e. precedes (c ++ m) (seen e) ≡ false) (λ e. precedes (c ++ m) (seen e) ≡ true) es i
-  pub nothing : Finds c m (seen_all es) None

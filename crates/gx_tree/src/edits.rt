@@ -8,7 +8,6 @@ ghost use Rattle.gx_model.specs.Paths.{path_text};
 ghost use Rattle.gx_tree.specs.Homes.{Keeps, Both, IfThere, Borrowed, AreAtHome, IsHeldAtHome, IsItemAtHome};
 ghost use Rattle.gx_tree.specs.Named.{IsAtHome, KeepsHome};
 ghost use Rattle.gx_tree.specs.Nodes.{IsKept, IsLevel, file, files, kept_map, map_if, mark, with_kept, IsKeptAt};
-ghost use Rattle.gx_tree.specs.Searches.{IsMissingAt};
 ghost use Rattle.gx_tree.specs.Steps.{grafted, is_made, kept_grafted, kept_removed};
 ghost use Rattle.gx_tree.specs.Views.{kept, kept_if, option_kept, seen_all};
 ghost use Rattle.gx_model.specs.declared.objects.Mode.TheVariants as modes;
@@ -225,11 +224,11 @@ fn put_in<A: Allocator + Copy>(
     let component = path.component(depth);
     let mark: &[u8] = if depth + 1 == length { b"" } else { b"/" };
     match place_marked(entries.as_slice(), component, mark) {
-        Ok(place) => match Rc::get_mut(entries) {
+        Some(place) => match Rc::get_mut(entries) {
             Some(owned) => owned[place].item.put(alloc, path, depth, bytes, mode, name),
             None => Ok(false),
         },
-        Err(_) => insert_in(entries, alloc, path, depth, mode, name),
+        None => insert_in(entries, alloc, path, depth, mode, name),
     }
 }
 

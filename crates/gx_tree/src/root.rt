@@ -138,8 +138,9 @@ impl<A: Allocator + Copy> Root<A> {
         }
     }
 
-    /// Puts a file in place of the one at a path, or where nothing stands in its directory, and answers whether it did: only
-    /// where no other tree has the directories on the path. Takes memory for a new file alone.
+    /// Puts a file in place of the one at a path, or where nothing stands at its next component in the last directory that is
+    /// there, and answers whether it did: only where no other tree has the directories on the path. Takes memory for a new
+    /// file alone.
     pub(crate) fn put(
         &mut self,
         alloc: A,

@@ -1,11 +1,11 @@
 //! Finding a component among a directory's entries, by halves.
-ghost use Rattle.std.specs.Prelude.{◌≡◌, ◌≤◌, ◌++◌, true, false, length, IfErr, IfOk, IfSome, IsNone, None};
+ghost use Rattle.std.specs.Prelude.{◌≡◌, ◌≤◌, ◌++◌, true, false, length, IfSome, IsNone, None};
 ghost use Rattle.std.specs.Cmp.Lexicographic.{slice_cmp};
 ghost use Rattle.std.specs.List.Sorted.{IsPartitionPoint};
 ghost use Rattle.std.specs.Ordering.{nat_cmp};
 ghost use Rattle.gx_tree.specs.Homes.{Keeps, Both, IfThere, Borrowed, AreAtHome, IsHeldAtHome, IsItemAtHome};
 ghost use Rattle.gx_tree.specs.Nodes.{IsLevel, kept_at, key, precedes};
-ghost use Rattle.gx_tree.specs.Searches.{Finds, IsEntryAt, IsMissingAt};
+ghost use Rattle.gx_tree.specs.Searches.{Finds, IsEntryAt};
 ghost use Rattle.gx_tree.specs.Views.{option_kept, seen, seen_all};
 
 use crate::directory::{Entry, Item};
@@ -48,25 +48,24 @@ fn find_marked<'a, A: Allocator + Copy>(
     None
 }
 
-/// The place of an entry of a component, if it is there, where this follows it in the order, and as an error the place
-/// that it would have.
+/// The place of an entry of a component, if this follows it in the order.
 pub(crate) fn place_marked<A: Allocator + Copy>(
     entries: &[Entry<A>],
     component: &[u8],
     mark: &[u8],
-) -> Result<usize, usize>
+) -> Option<usize>
     requires { IsLevel (seen_all entries.now) }
-    ensures found { IfOk result (λ place. IsEntryAt component.now entries.now place) }
-    ensures missing { IfErr result (λ place. IsMissingAt component.now mark.now entries.now place) }
+    ensures found { IfSome result (λ place. IsEntryAt component.now entries.now place) }
+    ensures missing { IsNone result → Finds component.now mark.now (seen_all entries.now) None }
 {
     let place = place_of(entries, component, mark);
     if place == 0 {
-        return Err(0);
+        return None;
     }
     if entries[place - 1].component() == component {
-        return Ok(place - 1);
+        return Some(place - 1);
     }
-    Err(place)
+    None
 }
 
 /// The place of what stands at a component, as a file or as a directory.
@@ -76,11 +75,8 @@ pub(crate) fn place_at<A: Allocator + Copy>(entries: &[Entry<A>], component: &[u
     ensures missing { IsNone result → kept_at component.now (seen_all entries.now) ≡ None }
 {
     match place_marked(entries, component, b"") {
-        Ok(place) => Some(place),
-        Err(_) => match place_marked(entries, component, b"/") {
-            Ok(place) => Some(place),
-            Err(_) => None,
-        },
+        Some(place) => Some(place),
+        None => place_marked(entries, component, b"/"),
     }
 }
 

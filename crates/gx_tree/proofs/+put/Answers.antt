@@ -38,18 +38,18 @@ directory::Item::put-returns-in-Folder-2-clause-kept g t c = λ is.
 pub directory::Item::put-returns-in-Folder-2-clause-home : goal.directory::Item::put-returns-in-Folder-2-clause-home
 directory::Item::put-returns-in-Folder-2-clause-home g t c = λ name rs h. c.put.ensures.home name rs (subst (IsItemAtHome name rs) c.in-Folder.is h)
 
-pub edits::put_in-returns-in-Some-clause-level : goal.edits::put_in-returns-in-Some-clause-level
-edits::put_in-returns-in-Some-clause-level g t c = λ is.
-    (put_at c.args.path.now c.args.depth c.in-Ok.place (file (c.args.mode, c.args.name.bytes)) c.args.entries.now.value.items c.as_slice.result.now c.in-Some.owned.now.items c.index_mut.result.now _ c.requires.within c.requires.mode (and_parts _ _ c.component-component.ensures.path).0 c.requires.level (items_are_those c.as_slice.ensures.value c.deref.ensures) (ap (λ v. v.items) c.in-Some.ensures.value) c.in-Ok.ensures.found c.component-component.ensures.component c.index_mut.ensures.value refl (c.put.ensures.kept is) (c.put.ensures.mark is)).level
+pub edits::put_in-returns-in-Some-get_mut-clause-level : goal.edits::put_in-returns-in-Some-get_mut-clause-level
+edits::put_in-returns-in-Some-get_mut-clause-level g t c = λ is.
+    (put_at c.args.path.now c.args.depth c.in-Some.place (file (c.args.mode, c.args.name.bytes)) c.args.entries.now.value.items c.as_slice.result.now c.in-Some-get_mut.owned.now.items c.index_mut.result.now _ c.requires.within c.requires.mode (and_parts _ _ c.component-component.ensures.path).0 c.requires.level (items_are_those c.as_slice.ensures.value c.deref.ensures) (ap (λ v. v.items) c.in-Some-get_mut.ensures.value) c.in-Some.ensures.found c.component-component.ensures.component c.index_mut.ensures.value refl (c.put.ensures.kept is) (c.put.ensures.mark is)).level
 
-pub edits::put_in-returns-in-Some-clause-files : goal.edits::put_in-returns-in-Some-clause-files
-edits::put_in-returns-in-Some-clause-files g t c = λ is.
-    (put_at c.args.path.now c.args.depth c.in-Ok.place (file (c.args.mode, c.args.name.bytes)) c.args.entries.now.value.items c.as_slice.result.now c.in-Some.owned.now.items c.index_mut.result.now _ c.requires.within c.requires.mode (and_parts _ _ c.component-component.ensures.path).0 c.requires.level (items_are_those c.as_slice.ensures.value c.deref.ensures) (ap (λ v. v.items) c.in-Some.ensures.value) c.in-Ok.ensures.found c.component-component.ensures.component c.index_mut.ensures.value refl (c.put.ensures.kept is) (c.put.ensures.mark is)).is
+pub edits::put_in-returns-in-Some-get_mut-clause-files : goal.edits::put_in-returns-in-Some-get_mut-clause-files
+edits::put_in-returns-in-Some-get_mut-clause-files g t c = λ is.
+    (put_at c.args.path.now c.args.depth c.in-Some.place (file (c.args.mode, c.args.name.bytes)) c.args.entries.now.value.items c.as_slice.result.now c.in-Some-get_mut.owned.now.items c.index_mut.result.now _ c.requires.within c.requires.mode (and_parts _ _ c.component-component.ensures.path).0 c.requires.level (items_are_those c.as_slice.ensures.value c.deref.ensures) (ap (λ v. v.items) c.in-Some-get_mut.ensures.value) c.in-Some.ensures.found c.component-component.ensures.component c.index_mut.ensures.value refl (c.put.ensures.kept is) (c.put.ensures.mark is)).is
 
-pub edits::put_in-returns-in-Some-clause-home : goal.edits::put_in-returns-in-Some-clause-home
-edits::put_in-returns-in-Some-clause-home g t c = λ name rs h.
-    let es = c.in-Some.owned.now.items in
+pub edits::put_in-returns-in-Some-get_mut-clause-home : goal.edits::put_in-returns-in-Some-get_mut-clause-home
+edits::put_in-returns-in-Some-get_mut-clause-home g t c = λ name rs h.
+    let es = c.in-Some-get_mut.owned.now.items in
     let r = c.index_mut.result.now in
-    let all : AreAtHome name rs es = subst (λ v. AreAtHome name rs v.items) (sym c.in-Some.ensures.value) h in
-    let within = subst (λ z. c.in-Ok.place < length z) (items_are_those c.as_slice.ensures.value c.deref.ensures ∙ ap (λ v. v.items) (sym c.in-Some.ensures.value)) c.in-Ok.ensures.found.0 in
-    all_set (λ e. IsItemAtHome name rs e.item) es c.in-Ok.place _ all (c.put.ensures.home name rs (all_at (λ e. IsItemAtHome name rs e.item) es c.in-Ok.place r within c.index_mut.ensures.value all))
+    let all : AreAtHome name rs es = subst (λ v. AreAtHome name rs v.items) (sym c.in-Some-get_mut.ensures.value) h in
+    let within = subst (λ z. c.in-Some.place < length z) (items_are_those c.as_slice.ensures.value c.deref.ensures ∙ ap (λ v. v.items) (sym c.in-Some-get_mut.ensures.value)) c.in-Some.ensures.found.0 in
+    all_set (λ e. IsItemAtHome name rs e.item) es c.in-Some.place _ all (c.put.ensures.home name rs (all_at (λ e. IsItemAtHome name rs e.item) es c.in-Some.place r within c.index_mut.ensures.value all))

@@ -1,5 +1,6 @@
 pub mod Additions
 pub mod PublishedRefs
+pub mod NamedRefs
 pub mod RefMaps
 pub mod HeldRecords
 pub mod PathRooms

@@ -1,5 +1,5 @@
 -- Why changes of refs are refused.
-use Rattle.std.proofs.Common.{◌≡◌, List, Some, ap}
+use Rattle.std.proofs.Common.{◌≡◌, List, Some, None, Ok, ap}
 use Rattle.gx_model.specs.Histories.{Records}
 use Rattle.gx_model.specs.Faults.{IsFaultOf}
 use Rattle.gx_repo.specs.declared.fault.PublishFault.{PublishFault}
@@ -15,3 +15,8 @@ refused r changes OutOfMemory e = tt
 refused r changes faults.BadRefName e = ap (λ f. unless f (with_changes r.refs changes)) e
 refused r changes faults.UnknownObject e = ap (λ f. unless f (with_changes r.refs changes)) e
 refused r changes faults.WrongKind e = ap (λ f. unless f (with_changes r.refs changes)) e
+
+-- what isn't refused is set
+pub not_refused : (r : Records) (changes : List Change) → changes_fault r.records changes ≡ None → published r changes ≡ Ok (with_changes r.refs changes)
+unfolding published
+not_refused r changes e = ap (λ f. unless f (with_changes r.refs changes)) e

@@ -3,9 +3,9 @@ ghost use Rattle.std.specs.Prelude.{◌≡◌, map, IsTrue, IfOk};
 ghost use Rattle.std.specs.FinMap.Entries.{is_sorted};
 ghost use Rattle.gx_model.specs.Replay.{byte_cmp};
 ghost use Rattle.gx_model.specs.Publishing.{with_changes};
-ghost use Rattle.gx_repo.specs.Refs.{asked, kept, ref_of};
+ghost use Rattle.gx_repo.specs.Refs.{are_held, asked, kept, ref_of};
 
-use crate::refs::Ref;
+use crate::refs::{Ref, is_held, set_object};
 use gx_object::Name;
 use std::alloc::{AllocError, Allocator};
 use std::collections::BTreeMap;
@@ -15,6 +15,30 @@ use std::collections::BTreeMap;
 pub struct RefChange<'a> {
     pub name: &'a [u8],
     pub target: Name,
+}
+
+/// Whether each of these changes is one of a ref that is held.
+pub(crate) fn are_held<A: Allocator + Copy>(refs: &[Ref<A>], changes: &[RefChange<'_>]) -> bool
+    requires sorted { IsTrue (is_sorted byte_cmp (map kept refs.now)) }
+    ensures { result ≡ are_held (map kept refs.now) (map asked changes.now) }
+{
+    for change in changes {
+        if !is_held(refs, change.name) {
+            return false;
+        }
+    }
+    true
+}
+
+/// Makes the changes in turn, which are of refs that are held. Takes no memory.
+pub(crate) fn set_objects<A: Allocator + Copy>(refs: &mut [Ref<A>], changes: &[RefChange<'_>])
+    requires sorted { IsTrue (is_sorted byte_cmp (map kept refs.now)) }
+    requires held { IsTrue (are_held (map kept refs.now) (map asked changes.now)) }
+    ensures { map kept refs.new ≡ with_changes (map kept refs.old) (map asked changes.now) }
+{
+    for change in changes {
+        set_object(refs, change.name, change.target);
+    }
 }
 
 /// Copies of these refs, with the changes made in turn.

@@ -1,6 +1,6 @@
 //! Refs in the byte order of their names. Source: gitglossary(7), "ref".
-ghost use Rattle.std.specs.Prelude.{◌≡◌, ◌++◌, map, drop, IsTrue};
-ghost use Rattle.std.specs.FinMap.Entries.{is_sorted};
+ghost use Rattle.std.specs.Prelude.{◌≡◌, ◌++◌, map, drop, None, IsTrue, IfOk, OnErr};
+ghost use Rattle.std.specs.FinMap.Entries.{is_sorted, put};
 ghost use Rattle.std.specs.Iterator.{item_count};
 ghost use Rattle.std.specs.Map.{lookup};
 ghost use Rattle.std.specs.Map.Iter.{TakesFirst};
@@ -9,7 +9,7 @@ ghost use Rattle.gx_model.specs.Denotation.{ref_names};
 ghost use Rattle.gx_model.specs.Lookups.{first_named};
 ghost use Rattle.gx_model.specs.Replay.{byte_cmp};
 ghost use Rattle.gx_model.specs.Texts.{same_bytes};
-ghost use Rattle.gx_repo.specs.Refs.{kept, shown};
+ghost use Rattle.gx_repo.specs.Refs.{IsNamedAt, is_held, kept, shown};
 
 use gx_object::Name;
 use std::alloc::Allocator;
@@ -99,6 +99,68 @@ fn find<A: Allocator + Copy>(
         Ok(place) => Some(refs[place].object),
         Err(_) => None,
     }
+}
+
+/// The object of the ref of this name, and the place behind the ref's own. It is looked for at a place first.
+pub(crate) fn find_near<A: Allocator + Copy>(
+    refs: &[Ref<A>],
+    place: usize,
+    name: &[u8],
+) -> (usize, Option<Name>)
+    requires sorted { IsTrue (is_sorted byte_cmp (map kept refs.now)) }
+    ensures { option_map (λ n. n.bytes) result.1 ≡ lookup (same_bytes name.now) (map kept refs.now) }
+{
+    match place_near(refs, place, name) {
+        Ok(found) => (found + 1, Some(refs[found].object)),
+        Err(missing) => (missing, None),
+    }
+}
+
+/// The place of the ref of this name, or the one that it would have. It is looked for at a place first.
+fn place_near<A: Allocator + Copy>(
+    refs: &[Ref<A>],
+    place: usize,
+    name: &[u8],
+) -> Result<usize, usize>
+    requires sorted { IsTrue (is_sorted byte_cmp (map kept refs.now)) }
+    ensures found { IfOk result (IsNamedAt refs.now name.now) }
+    ensures none { OnErr result (lookup (same_bytes name.now) (map kept refs.now) ≡ None) }
+{
+    if let Some(held) = refs.get(place) {
+        if held.name.as_slice() == name {
+            return Ok(place);
+        }
+    }
+    place_of(refs, name)
+}
+
+/// The place of the ref of this name, or the one that it would have.
+fn place_of<A: Allocator + Copy>(refs: &[Ref<A>], name: &[u8]) -> Result<usize, usize>
+    requires sorted { IsTrue (is_sorted byte_cmp (map kept refs.now)) }
+    ensures found { IfOk result (IsNamedAt refs.now name.now) }
+    ensures none { OnErr result (lookup (same_bytes name.now) (map kept refs.now) ≡ None) }
+{
+    refs.binary_search_by(|held| held.name.as_slice().cmp(name))
+}
+
+/// Whether a ref of this name is held.
+pub(crate) fn is_held<A: Allocator + Copy>(refs: &[Ref<A>], name: &[u8]) -> bool
+    requires sorted { IsTrue (is_sorted byte_cmp (map kept refs.now)) }
+    ensures { result ≡ is_held (map kept refs.now) name.now }
+{
+    place_of(refs, name).is_ok()
+}
+
+/// Sets the object of a ref that is held. Takes no memory.
+pub(crate) fn set_object<A: Allocator + Copy>(refs: &mut [Ref<A>], name: &[u8], object: Name)
+    requires sorted { IsTrue (is_sorted byte_cmp (map kept refs.now)) }
+    requires held { IsTrue (is_held (map kept refs.now) name.now) }
+    ensures { map kept refs.new ≡ put byte_cmp name.now object.bytes (map kept refs.old) }
+{
+    let Ok(place) = place_of(refs, name) else {
+        unreachable!();
+    };
+    refs[place].object = object;
 }
 
 /// How a text stands to three others together, in byte order.

@@ -1,6 +1,7 @@
 //! Repositories: a store of objects, and refs that hold some of them.
 ghost use Rattle.std.specs.Prelude.{◌⊎◌, ◌≡◌, [], map, take, Some, None, IsTrue, IfOk, IfErr, IsOkAnd, OnOk, OnErr};
 ghost use Rattle.std.specs.List.{AllByRecursion};
+ghost use Rattle.std.specs.Map.{lookup};
 ghost use Rattle.std.specs.Option.{option_map};
 ghost use Rattle.gx_model.specs.declared.objects.Kind.TheVariants as kinds;
 ghost use Rattle.gx_model.specs.Denotation.{ref_names};
@@ -32,8 +33,8 @@ ghost use Rattle.gx_repo.specs.Rooms.{room_of};
 
 use crate::checking::checked_room;
 use crate::fault::{AddFault, OutOfMemory, PublishFault};
-use crate::publishing::{RefChange, with_changes};
-use crate::refs::{Ref, Refs, find_by_names};
+use crate::publishing::{RefChange, are_held, set_objects, with_changes};
+use crate::refs::{Ref, Refs, find_by_names, find_near};
 use crate::rooms::enter_rooms;
 use gx_model::repository_laws::{
     links_tell_values, parts_change, puts_add_values, trees_add_file_maps,
@@ -132,6 +133,17 @@ impl<N: Namer, A: Allocator + Copy> Repo<N, A> {
         ensures { IsOkAnd result (λ found. option_map (λ n. n.bytes) found ≡ first_named self.now.1.refs (ref_names name.now)) }
     {
         Ok(find_by_names(self.refs.as_slice(), name))
+    }
+
+    /// The object of the ref of this name, and the place behind the ref's own among all refs.
+    ///
+    /// Cost: one comparison where the ref stands at the place that is passed, as each does when refs are asked for in the
+    /// byte order of their names, each at the place that the answer before gave; otherwise a binary search. Takes no memory.
+    /// Source: gitglossary(7), "ref".
+    pub fn ref_near(&self, place: usize, name: &[u8]) -> (usize, Option<Name>)
+        ensures { option_map (λ n. n.bytes) result.1 ≡ lookup (same_bytes name.now) self.now.1.refs }
+    {
+        find_near(self.refs.as_slice(), place, name)
     }
 
     /// Adds a blob, and answers its name. One that is held already is not added again.
@@ -308,9 +320,10 @@ impl<N: Namer, A: Allocator + Copy> Repo<N, A> {
     /// The first change that is refused is answered: `BadRefName`: the name isn't that of a ref. `UnknownObject`: the
     /// object isn't held. `WrongKind`: it is neither a commit nor a tag whose own name makes the ref's.
     /// `OutOfMemory`: a growth was refused. After a fault the repository is as it was.
-    /// Cost: in proportion to the refs and changes, times the logarithm of their number; and for each change a look-up of
-    /// its object.
+    /// Cost: for each change a look-up of its object, and two binary searches among the refs. Where a change names a ref that
+    /// isn't held, in proportion to the refs and changes, times the logarithm of their number. No growth is needed otherwise.
     /// Source: git-check-ref-format(1), and gitglossary(7), "ref".
+    #[tactic(auto, unfolding(gx_model::specs::Publishing::published))]
     pub fn publish(&mut self, changes: &[RefChange<'_>]) -> Result<(), PublishFault>
         ensures namer { self.new.0 ≡ self.old.0 }
         ensures records { self.new.1.records ≡ self.old.1.records }
@@ -318,7 +331,12 @@ impl<N: Namer, A: Allocator + Copy> Repo<N, A> {
         ensures unchanged { OnErr result (self.new ≡ self.old) }
     {
         parts_change();
-        self.refs = self.changed_refs(changes)?;
+        self.check_all(changes)?;
+        if are_held(self.refs.as_slice(), changes) {
+            set_objects(self.refs.as_mut_slice(), changes);
+            return Ok(());
+        }
+        self.refs = with_changes(self.alloc, self.refs.as_slice(), changes)?;
         Ok(())
     }
 
@@ -378,15 +396,6 @@ impl<N: Namer, A: Allocator + Copy> Repo<N, A> {
             return Err(StoreFault::OutOfMemory);
         };
         Ok(name)
-    }
-
-    /// The refs that these changes give.
-    #[tactic(auto, unfolding(gx_model::specs::Publishing::published))]
-    fn changed_refs(&self, changes: &[RefChange<'_>]) -> Result<Vec<Ref<A>, A>, PublishFault>
-        ensures { Gives fault_of (λ refs. map kept refs.items) result (published self.now.1 (map asked changes.now)) }
-    {
-        self.check_all(changes)?;
-        Ok(with_changes(self.alloc, self.refs.as_slice(), changes)?)
     }
 
     /// Answers why the first of these changes that is refused is.

@@ -10,7 +10,7 @@ pub mod Parents
 pub mod NamedEdits
 pub mod HeldBlobs
 pub mod PlaceLists
-pub mod KeptRefs
+pub mod ForwardBranches
 pub mod SetRefs
 pub mod PublishedNames
 pub mod AddedAnswers
@@ -44,3 +44,5 @@ pub mod ExportedAgain
 pub mod RefusedExports
 pub mod LoadFaults
 pub mod TipHomes
+pub mod FoundRows
+pub mod MovedChanges

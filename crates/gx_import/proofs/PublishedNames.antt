@@ -2,6 +2,7 @@
 use Rattle.std.proofs.Common.{◌≡◌, suc, Bool, true, false, cond, List, [], ◌∷◌, length, map, Option, Some, None, refl, sym, ap, subst, ◌∙◌}
 use Rattle.std.specs.Prelude.{IsTrue, T, is_some, not}
 use Rattle.std.specs.Bool.{passes}
+use Rattle.std.specs.List.{filter}
 use Rattle.std.specs.Map.{lookup}
 use Rattle.std.specs.Option.{option_map}
 use Rattle.std.specs.Ordering.{eq_by_cmp, is_eq}
@@ -14,13 +15,15 @@ use Rattle.gx_model.specs.declared.objects.Kind.{Kind}
 use Rattle.gx_model.specs.Texts.{Bytes, same_bytes}
 use Rattle.gx_model.specs.Histories.{Records, value_at}
 use Rattle.gx_model.specs.Records.{name_of}
-use Rattle.gx_model.specs.Publishing.{Change, with_changes}
+use Rattle.gx_model.specs.Publishing.{Change, Ref, with_changes}
 use Rattle.gx_model.specs.Replay.{byte_cmp, overwritten}
+use Rattle.gx_model.proofs.PathTests.{is_true}
 use Rattle.gx_object.specs.declared.name.Name.{Name}
 use Rattle.gx_import.specs.Keeping.{AreNames, Enters, EntersAll}
-use Rattle.gx_import.specs.RefChanges.{changes_of}
+use Rattle.gx_import.specs.RefChanges.{changes_of, is_new}
+use Rattle.gx_import.specs.Rows.{AreBoth}
 use Rattle.gx_import.specs.declared.tables.Tables.{Tables}
-use Rattle.gx_import.proofs.RelatedRows.{related_put}
+use Rattle.gx_import.proofs.RelatedRows.{related_found, related_itself, related_put, related_through, sorted_same}
 use Rattle.gx_import.proofs.SetRefs.{changes_seen, overwritten_is, seen, seen_all, targets_of}
 use Rattle.gx_import.proofs.SortedRows.{order, same_text}
 
@@ -34,12 +37,12 @@ tied q n e = by (byte_cmp q n) e
 
 module _ {Y : Type 0} where
   -- the two look-ups of a name
-  found : (n : Bytes) (ys : List (Bytes × Y)) → find byte_cmp n ys ≡ lookup (same_bytes n) ys
+  pub found : (n : Bytes) (ys : List (Bytes × Y)) → find byte_cmp n ys ≡ lookup (same_bytes n) ys
   found n [] = refl
   found n (y ∷ ys) = λ i. cond (is_eq-slice_cmp n y.0 i) (Some y.1) (found n ys i)
 
   -- what stands at a name is put there
-  put_there : (n : Bytes) (y : Y) (ys : List (Bytes × Y)) → T (is_sorted byte_cmp ys) → lookup (same_bytes n) ys ≡ Some y → put byte_cmp n y ys ≡ ys
+  pub put_there : (n : Bytes) (y : Y) (ys : List (Bytes × Y)) → T (is_sorted byte_cmp ys) → lookup (same_bytes n) ys ≡ Some y → put byte_cmp n y ys ≡ ys
   put_there n y ys s e =
       same_entries byte_cmp order same_text (put byte_cmp n y ys) ys (is_sorted-put byte_cmp order n y ys s) s
       (λ q. find-put byte_cmp order q n y ys ∙ by q (eq_by_cmp byte_cmp q n) refl)
@@ -70,6 +73,52 @@ pub found_entered : {X : Type 0} (change : Change) (rows : List (Bytes × Name))
     → option_map f o ≡ lookup (same_bytes change.0) rows → is_some o ≡ not b → b ≡ false → Enters rows rows (change ∷ [])
 found_entered change rows f None b s e q n = absurd (false≢true (q ∙ ap not n))
 found_entered change rows f (Some x) b s e q n = not_entered change rows (f x) s (sym e)
+
+-- ---- names that are there are left out
+
+abbrev pub IsThere : {X : Type 0} → List (Bytes × X) → Bytes → Type 0
+IsThere rows n = T (is_some (lookup (same_bytes n) rows))
+
+some_there : {X : Type 0} (o : Option X) → T (is_some o) → (x : X) × (o ≡ Some x)
+some_there None t = absurd t
+some_there (Some x) t = (x, refl)
+
+there_in_both : {X Y : Type 0} (o : Option X) (p : Option Y) → AreBoth (λ (x : X) (y : Y). Unit {0}) o p → T (is_some p) → T (is_some o)
+there_in_both None None h t = t
+there_in_both None (Some y) h t = absurd h
+there_in_both (Some x) p h t = tt
+
+-- a name that is there stays where one is put
+there_put : {X : Type 0} (n : Bytes) (x : X) (rows : List (Bytes × X)) (m : Bytes) → IsThere rows m → IsThere (put byte_cmp n x rows) m
+there_put n x rows m t =
+    subst (λ o. T (is_some o)) (sym (find-put byte_cmp order m n x rows) ∙ found m (put byte_cmp n x rows))
+    (elim (eq_by_cmp byte_cmp m n) as (λ b. T (is_some (cond b (Some x) (find byte_cmp m rows)))) [
+      | true ↦ tt
+      | false ↦ subst (λ o. T (is_some o)) (sym (found m rows)) t
+    ])
+
+not_true : (b : Bool) → not b ≡ false → T b
+not_true true e = tt
+not_true false e = absurd (false≢true (sym e))
+
+same_names : (old : List (Bytes × Name)) (changes : List Change) (xs ys : List Ref) → T (is_sorted byte_cmp ys) → AreNames xs ys → ((n : Bytes) → IsThere old n → IsThere ys n)
+    → AreNames (with_changes xs changes) (with_changes ys (filter (is_new old) changes))
+same_names old [] xs ys s h there = h
+same_names old (c ∷ cs) xs ys s h there =
+    elim (is_new old c) as (λ b. is_new old c ≡ b → AreNames (with_changes xs (c ∷ cs)) (with_changes ys (cond b (c ∷ filter (is_new old) cs) (filter (is_new old) cs)))) [
+      | true ↦ λ e. same_names old cs (put byte_cmp c.0 c.1 xs) (put byte_cmp c.0 c.1 ys) (is_sorted-put byte_cmp order c.0 c.1 ys s) (names_put c.0 c.1 c.1 xs ys h) (λ n t. there_put c.0 c.1 ys n (there n t))
+      | false ↦ λ e.
+          let held = some_there (lookup (same_bytes c.0) ys) (there c.0 (not_true _ e)) in
+          same_names old cs (put byte_cmp c.0 c.1 xs) ys s (names_there c.0 c.1 held.0 xs ys (is_true _ s) held.1 h) there
+    ] refl
+
+-- where the new names are entered, all are
+pub new_entered : (old new : List (Bytes × Name)) (changes : List Change) → IsTrue (is_sorted byte_cmp old) → Enters old new (filter (is_new old) changes) → Enters old new changes
+new_entered old new changes sorted enters = λ refs h.
+    let rising = passes _ (sorted_same (λ x y. Unit {0}) refs old h ∙ sorted) in
+    let there = λ (n : Bytes) (t : IsThere old n). there_in_both (lookup (same_bytes n) refs) (lookup (same_bytes n) old) (related_found (λ x y. Unit {0}) (same_bytes n) refs old h) t in
+    related_through (λ x y. Unit {0}) (λ x y. Unit {0}) (λ x y. Unit {0}) (λ x y z _ _. tt) (with_changes refs changes) (with_changes refs (filter (is_new old) changes)) new
+    (same_names old changes refs refs rising (related_itself (λ x y. Unit {0}) (λ x. tt) refs) there) (enters refs h)
 
 -- ---- all names of a state
 

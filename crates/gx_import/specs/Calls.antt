@@ -2,6 +2,7 @@
 -- Source: git-fast-import(1), "Commands".
 use Rattle.std.specs.Prelude.{◌≡◌, List, [], ◌∷◌, Bool, Option, Result, Ok, IfOk}
 use Rattle.std.specs.Map.{lookup}
+use Rattle.std.specs.Option.{option_map}
 use Rattle.std.specs.declared.vec.Vec.{Vec}
 use Rattle.gx_model.specs.declared.objects.Kind.{Kind}
 use Rattle.gx_model.specs.declared.objects.Mode.{Mode}
@@ -28,7 +29,6 @@ use Rattle.gx_import.specs.Additions.{Clash, added_alone, added_by_commit, added
 use Rattle.gx_import.specs.Answers.{AddsAs, GivesAs}
 use Rattle.gx_import.specs.Applying.{Applies}
 use Rattle.gx_import.specs.Objects.{IsCommitOf, IsOf, IsTreeOf}
-use Rattle.gx_import.specs.RefChanges.{is_kept_by}
 use Rattle.gx_import.specs.Rows.{AreAll, AreBoth}
 use Rattle.gx_import.specs.Standing.{AreTipsAtHome, Follows, IsContentName, Stands}
 use Rattle.gx_import.specs.Steps.{optional_commit, value_named}
@@ -87,6 +87,12 @@ module _ (name : Kind → Bytes → Bytes) where
       (λ t called. Follows name new tables s t × (called.bytes ≡ name_of name (tag_value (tag_made target parts))))
       answer (Ok (added (tag_value (tag_made target parts)) s))
 
+  -- whether what a ref holds is an ancestor of the commit that is to stand there
+  abbrev pub TellsForward : Records → Option Name → Option Name → Result Bool ImportKind → Type 0
+  TellsForward repository object called answer =
+      (made : Option Commit) → AreBoth (IsCommitOf name (values_of repository)) made called
+      → IfOk answer (λ is_forward. is_forward ≡ replay.is_forward (option_map (λ held. target_in (value_of_name repository.records held.bytes)) object) made)
+
 module _ (name : Kind → Bytes → Bytes) {A : Type 0} where
   -- in each state that the repository and the tables stand for
   abbrev pub InEach : Records → Tables A → (State → Type 0) → Type 0
@@ -135,12 +141,6 @@ module _ (name : Kind → Bytes → Bytes) {A : Type 0} where
   GivesStartingFiles repository tables first answer =
       (s : State) (made : Option Commit) → Stands name repository tables s → AreBoth (IsCommitOf name s.history.values) made first
       → IfOk answer (λ files. files.files ≡ named_map name (starting_files name revision_of made))
-
-  -- whether what stood at a ref is an ancestor of what is to stand there
-  abbrev pub TellsForward : Records → Tables A → Bytes → Bytes → Result Bool ImportKind → Type 0
-  TellsForward repository tables ref_name object answer =
-      InEach repository tables (λ s.
-      IfOk answer (λ is_forward. is_forward ≡ is_kept_by (lookup (same_bytes ref_name) s.branches) (target_in (value_of_name repository.records object))))
 
   -- ---- what is added
 

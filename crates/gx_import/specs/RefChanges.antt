@@ -1,12 +1,13 @@
 -- The refs that an import sets: those of the branches with a commit, and then those of the tags.
 -- Source: git-fast-import(1), "commit", "reset" and "tag".
-use Rattle.std.specs.Prelude.{Bool, true, List, [], ◌∷◌, ◌++◌, map, Option, Some, None}
-use Rattle.gx_model.specs.Texts.{Bytes}
-use Rattle.gx_model.specs.Values.{Commit}
-use Rattle.gx_model.specs.Histories.{Target}
-use Rattle.gx_model.specs.Replay.{is_forward}
+use Rattle.std.specs.Prelude.{Bool, false, not, is_some, List, [], ◌∷◌, ◌++◌, map, Option, Some, None}
+use Rattle.std.specs.List.{filter}
+use Rattle.std.specs.Map.{lookup}
+use Rattle.gx_model.specs.Texts.{Bytes, same_bytes}
+use Rattle.gx_model.specs.Histories.{Records}
+use Rattle.gx_model.specs.Sound.{IsTarget}
 use Rattle.gx_object.specs.declared.name.Name.{Name}
-use Rattle.gx_model.specs.Publishing.{Change}
+use Rattle.gx_model.specs.Publishing.{Change, Ref}
 use Rattle.gx_import.specs.Rows.{rows_of}
 use Rattle.gx_import.specs.declared.branches.Tip.{Tip}
 use Rattle.gx_import.specs.declared.tables.Tables.{Tables}
@@ -29,7 +30,23 @@ tag_changes tags = map (λ tag. (tag.0, tag.1.bytes)) tags
 abbrev pub changes_of : {A : Type 0} → Tables A → List Change
 changes_of tables = branch_changes (rows_of tables.branches) ++ tag_changes (rows_of tables.tags)
 
--- a ref's old target is kept by the branch of its name, where there is one
-abbrev pub is_kept_by : Option (Option Commit) → Target → Bool
-is_kept_by None old = true
-is_kept_by (Some new) old = is_forward (Some old) new
+-- a ref holds this object
+abbrev pub is_at : Option Bytes → Bytes → Bool
+is_at None object = false
+is_at (Some held) object = same_bytes held object
+
+-- a change sets what its ref doesn't hold already
+abbrev pub is_moved : List Ref → Change → Bool
+is_moved refs change = not (is_at (lookup (same_bytes change.0) refs) change.1)
+
+-- the branches that are moved, and then the tags
+abbrev pub moved_of : {A : Type 0} → List Ref → Tables A → List Change
+moved_of refs tables = filter (is_moved refs) (branch_changes (rows_of tables.branches)) ++ tag_changes (rows_of tables.tags)
+
+-- a change sets a ref whose name is not among these rows
+abbrev pub is_new : List (Bytes × Name) → Change → Bool
+is_new rows change = not (is_some (lookup (same_bytes change.0) rows))
+
+-- a ref may hold this object
+abbrev pub IsHeldByRef : Records → Name → Type 0
+IsHeldByRef repository object = (ref_name : Bytes) × IsTarget repository.records ref_name object.bytes

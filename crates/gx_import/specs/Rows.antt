@@ -1,7 +1,10 @@
 -- The rows of a table, as a list of names and values.
 use Rattle.std.specs.Prelude.{◌≡◌, ℕ, List, [], ◌∷◌, map, Option, Some, None, ⊤}
+use Rattle.std.specs.Borrow.{Bor}
+use Rattle.std.specs.List.{AllByRecursion}
+use Rattle.std.specs.Map.{lookup}
 use Rattle.std.specs.declared.vec.Vec.{Vec}
-use Rattle.gx_model.specs.Texts.{Bytes}
+use Rattle.gx_model.specs.Texts.{Bytes, same_bytes}
 use Rattle.gx_import.specs.declared.table.Table.{Table}
 
 -- a row without where its name lies in memory
@@ -11,6 +14,14 @@ row_of row = (row.0.items, row.1)
 -- the rows of a table
 abbrev pub rows_of : {T A : Type 0} → Table T A → List (Bytes × T)
 rows_of table = map row_of table.rows.entries
+
+-- a row is found among these at its name
+abbrev pub IsFound : {T A : Type 0} → List (Bytes × T) → Bor (Vec ℕ A) × Bor T → Type 0
+IsFound rows row = lookup (same_bytes row.0.now.items) rows ≡ Some row.1.now
+
+-- so is each of these
+abbrev pub AreFound : {T A : Type 0} → List (Bytes × T) → List (Vec ℕ A × T) → Type 0
+AreFound rows others = AllByRecursion (λ row. lookup (same_bytes row.0.items) rows ≡ Some row.1) others
 
 module _ {X Y : Type 0} (Is : X → Y → Type 0) where
   -- the same names, and at each of them what goes together

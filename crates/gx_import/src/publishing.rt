@@ -1,22 +1,29 @@
 //! What an import publishes. Source: git-fast-import(1), "force", and gitglossary(7), "fast-forward".
 
-ghost use Rattle.std.specs.Prelude.{◌≡◌, [], ◌∷◌, ◌++◌, map, None, IsTrue, IfOk, IfErr, OnOk, OnErr};
+ghost use Rattle.std.specs.Prelude.{◌≡◌, List, [], ◌∷◌, ◌++◌, map, Option, None, IsTrue, IfOk, IfErr, IfSome, OnOk, OnErr};
 ghost use Rattle.std.specs.FinMap.Entries.{is_sorted};
+ghost use Rattle.std.specs.List.{filter};
+ghost use Rattle.std.specs.Map.{lookup};
+ghost use Rattle.std.specs.Option.{option_map};
+ghost use Rattle.gx_model.specs.Publishing.{Ref, changes_fault, with_changes};
 ghost use Rattle.gx_model.specs.Replay.{State, byte_cmp, is_fast_forward};
-ghost use Rattle.gx_model.specs.Sound.{IsTarget};
-ghost use Rattle.gx_model.specs.Publishing.{changes_fault, with_changes};
+ghost use Rattle.gx_model.specs.RepositoryLaws.{values_of};
+ghost use Rattle.gx_model.specs.Texts.{same_bytes};
+ghost use Rattle.gx_model.specs.Values.{Commit};
 ghost use Rattle.gx_repo.specs.Refs.{asked};
-ghost use Rattle.gx_import.specs.Publishing.{Publishes};
+ghost use Rattle.gx_import.specs.Calls.{TellsForward};
 ghost use Rattle.gx_import.specs.Keeping.{Enters, EntersAll};
-ghost use Rattle.gx_import.specs.RefChanges.{branch_changes, branch_then, changes_of, tag_changes};
-ghost use Rattle.gx_import.specs.Rows.{rows_of};
+ghost use Rattle.gx_import.specs.Objects.{IsCommitOf};
+ghost use Rattle.gx_import.specs.Publishing.{Publishes};
+ghost use Rattle.gx_import.specs.RefChanges.{IsHeldByRef, branch_changes, branch_then, is_at, is_moved, moved_of, tag_changes};
+ghost use Rattle.gx_import.specs.Rows.{AreBoth, rows_of};
 ghost use Rattle.gx_import.specs.Standing.{Stands};
 ghost use Rattle.gx_import.specs.declared.fault.ImportKind.TheVariants.{OutOfMemory};
-ghost use Rattle.gx_import.specs.Calls.{TellsForward};
 
 use crate::ImportKind;
 use crate::ancestors::is_ancestor;
 use crate::branches::Tip;
+use crate::new_names::new_names;
 use crate::table::Table;
 use crate::tables::Tables;
 use gx_model::repository_laws::histories_of_records;
@@ -44,8 +51,9 @@ pub(crate) fn publish<N: Namer, A: Allocator + Copy>(
     if !is_fast_forward(repo, tables)? {
         return Err(ImportKind::NotFastForward);
     }
-    let changes = changes(tables)?;
-    enter_all(tables.alloc, published, changes.as_slice())?;
+    let changes = changes(repo, tables)?;
+    let names = new_names(tables, published)?;
+    enter_all(tables.alloc, published, names.as_slice())?;
     publish_all(repo, changes.as_slice())?;
     Ok(())
 }
@@ -63,80 +71,101 @@ fn is_fast_forward<N: Namer, A: Allocator + Copy>(
         return Ok(true);
     }
     repo.sound();
-    for (name, object) in repo.refs() {
-        if !is_forward(repo, tables, name, &object)? {
+    let mut place = 0;
+    for (name, tip) in &tables.branches.rows {
+        let (next, object) = repo.ref_near(place, name.as_slice());
+        place = next;
+        if !is_forward(tables.alloc, repo, object, tip.commit)? {
             return Ok(false);
         }
     }
     Ok(true)
 }
 
-/// Whether the branch of a published ref has the ref's commit as its own or as an ancestor.
+/// Whether a branch's commit is the one that its ref holds, or has that one as an ancestor.
 fn is_forward<N: Namer, A: Allocator + Copy>(
+    alloc: A,
     repo: &Repo<N, A>,
-    tables: &Tables<A>,
-    name: &[u8],
-    object: &Name,
+    object: Option<Name>,
+    commit: Option<Name>,
 ) -> Result<bool, ImportKind>
-    requires stands { (s : State) × Stands (N.name_of repo.now.0) repo.now.1 tables.now s }
-    requires target { IsTarget repo.now.1.records name.now object.now.bytes }
-    ensures forward { TellsForward (N.name_of repo.now.0) repo.now.1 tables.now name.now object.now.bytes result }
+    requires target { IfSome object (IsHeldByRef repo.now.1) }
+    requires commit { (made : Option Commit) × AreBoth (IsCommitOf (N.name_of repo.now.0) (values_of repo.now.1)) made commit }
+    ensures forward { TellsForward (N.name_of repo.now.0) repo.now.1 object commit result }
     ensures fault { IfErr result (λ fault. fault ≡ OutOfMemory) }
 {
     repo.sound();
-    let Some(tip) = tables.branches.get(name) else {
+    let Some(object) = object else {
         return Ok(true);
     };
-    let Some(new) = tip.commit else {
+    let Some(new) = commit else {
         return Ok(true);
-    };
-    let Some(old) = repo.peel(object) else {
-        unreachable!();
     };
     // most branches stand still between two checkpoints
-    if new == old {
+    if new == object {
         return Ok(true);
     }
-    Ok(is_ancestor(tables.alloc, repo, &old, &new)?)
+    let Some(old) = repo.peel(&object) else {
+        unreachable!();
+    };
+    Ok(is_ancestor(alloc, repo, &old, &new)?)
 }
 
-/// The refs to be set: the branches with a commit, and then the tags.
-fn changes<'a, A: Allocator + Copy>(
+/// The refs to be set: the branches with a commit that their refs don't hold already, and then the tags.
+fn changes<'a, N: Namer, A: Allocator + Copy>(
+    repo: &Repo<N, A>,
     tables: &'a Tables<A>,
 ) -> Result<Vec<RefChange<'a>, A>, AllocError>
-    ensures { IfOk result (λ changes. map asked changes.items ≡ changes_of tables.now) }
+    ensures { IfOk result (λ changes. map asked changes.items ≡ moved_of repo.now.1.refs tables.now) }
 {
     let mut changes = Vec::new(tables.alloc);
-    append_branches(&mut changes, &tables.branches)?;
+    append_branches(&mut changes, repo, &tables.branches)?;
     append_tags(&mut changes, &tables.tags)?;
     Ok(changes)
 }
 
-/// Appends the branches with a commit.
-fn append_branches<'a, A: Allocator + Copy>(
+/// Appends the branches with a commit that their refs don't hold already.
+fn append_branches<'a, N: Namer, A: Allocator + Copy>(
     changes: &mut Vec<RefChange<'a>, A>,
+    repo: &Repo<N, A>,
     branches: &'a Table<Tip<A>, A>,
 ) -> Result<(), AllocError>
-    ensures { OnOk result (map asked changes.new.items ≡ map asked changes.old.items ++ branch_changes (rows_of branches.now)) }
+    ensures { OnOk result (map asked changes.new.items ≡ map asked changes.old.items ++ filter (is_moved repo.now.1.refs) (branch_changes (rows_of branches.now))) }
 {
+    let mut place = 0;
     for (name, tip) in &branches.rows {
-        append_branch(changes, name.as_slice(), tip.commit)?;
+        let (next, object) = repo.ref_near(place, name.as_slice());
+        place = next;
+        append_branch(changes, name.as_slice(), object, tip.commit)?;
     }
     Ok(())
 }
 
-/// Appends a branch, where it has a commit.
+/// Appends a branch, where it has a commit, and its ref doesn't hold this object.
 fn append_branch<'a, A: Allocator + Copy>(
     changes: &mut Vec<RefChange<'a>, A>,
     name: &'a [u8],
+    object: Option<Name>,
     commit: Option<Name>,
 ) -> Result<(), AllocError>
-    ensures { OnOk result (map asked changes.new.items ≡ map asked changes.old.items ++ branch_then name.now commit []) }
+    ensures { (refs : List Ref) → option_map (λ n. n.bytes) object ≡ lookup (same_bytes name.now) refs → OnOk result (map asked changes.new.items ≡ map asked changes.old.items ++ filter (is_moved refs) (branch_then name.now commit [])) }
 {
     if let Some(target) = commit {
-        changes.push(RefChange { name, target })?;
+        if !is_at(object, target) {
+            changes.push(RefChange { name, target })?;
+        }
     }
     Ok(())
+}
+
+/// Whether what a ref holds is this object.
+fn is_at(held: Option<Name>, object: Name) -> bool
+    ensures { result ≡ is_at (option_map (λ n. n.bytes) held) object.bytes }
+{
+    match held {
+        Some(held) => held == object,
+        None => false,
+    }
 }
 
 /// Appends the tags.

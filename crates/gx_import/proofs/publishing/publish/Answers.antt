@@ -2,31 +2,38 @@ use Rattle.std.proofs.Common.{map, sym, ap, subst, ◌∙◌}
 use Rattle.gx_model.specs.Publishing.{changes_fault, with_changes}
 use Rattle.gx_repo.specs.Refs.{asked}
 use Rattle.gx_import.specs.Keeping.{Enters}
+use Rattle.gx_import.specs.RefChanges.{branch_changes, changes_of, is_moved, tag_changes}
 use Rattle.gx_import.specs.Rows.{rows_of}
-use Rattle.gx_import.proofs.PublishedNames.{all_entered}
+use Rattle.gx_import.proofs.MovedChanges.{fewer_free, moved_set}
+use Rattle.gx_import.proofs.PublishedNames.{all_entered, new_entered}
 use Rattle.gx_import.proofs.SetRefs.{changes_free, final_set}
 use Rattle.gx_import.proofs.publishing.publish.Goals as goal
 
 pub publish_all-requires : goal.publish_all-requires
 publish_all-requires g c =
     let r = c.args.repo.now.1 in
+    let tables = c.args.tables.now in
     ap (λ cs. changes_fault r.records (map asked cs)) c.as_slice-2.ensures.value ∙ ap (changes_fault r.records) c.in_ok-changes.ensures
-    ∙ changes_free (g.N.Namer.name_of c.args.repo.now.0) (g.met.N.Namer.is_namer c.args.repo.now.0) r c.sound.ensures c.args.tables.now c.requires.stands.0 c.requires.stands.1
+    ∙ fewer_free (is_moved r.refs) r.records (branch_changes (rows_of tables.branches)) (tag_changes (rows_of tables.tags))
+    (changes_free (g.N.Namer.name_of c.args.repo.now.0) (g.met.N.Namer.is_namer c.args.repo.now.0) r c.sound.ensures tables c.requires.stands.0 c.requires.stands.1)
 
 pub returns-clause-published : goal.returns-clause-published
 returns-clause-published g c = λ s h.
     let name = g.N.Namer.name_of c.args.repo.now.0 in
     let namer = g.met.N.Namer.is_namer c.args.repo.now.0 in
     let r = c.args.repo.now.1 in
-    let set = c.in_ok-publish_all.ensures.refs ∙ ap (λ cs. with_changes r.refs (map asked cs)) c.as_slice-2.ensures.value ∙ ap (with_changes r.refs) c.in_ok-changes.ensures in (
+    let tables = c.args.tables.now in
+    let moved = c.in_ok-publish_all.ensures.refs ∙ ap (λ cs. with_changes r.refs (map asked cs)) c.as_slice-2.ensures.value ∙ ap (with_changes r.refs) c.in_ok-changes.ensures in
+    let set = moved ∙ moved_set r.refs (rows_of tables.branches) (tag_changes (rows_of tables.tags)) c.sound.ensures.sorted h.branches_sorted in (
       sym (c.in_ok-is_fast_forward.ensures.forward s h) ∙ c.if-not-branch.false,
-      final_set name namer r c.sound.ensures c.args.tables.now s h (c.histories_of_records.ensures name namer) c.publish_all.new.repo.1 c.in_ok-publish_all.ensures.records set,
+      final_set name namer r c.sound.ensures tables s h (c.histories_of_records.ensures name namer) c.publish_all.new.repo.1 c.in_ok-publish_all.ensures.records set,
     )
 
 pub returns-clause-entered : goal.returns-clause-entered
 returns-clause-entered g c =
     let name = g.N.Namer.name_of c.args.repo.now.0 in
+    let tables = c.args.tables.now in
     let old = rows_of c.args.published.now in
     let new = rows_of c.enter_all.new.published in
-    let all = ap (map asked) c.as_slice.ensures.value ∙ c.in_ok-changes.ensures in
-    all_entered name c.args.repo.now.1 c.args.tables.now old new (subst (Enters old new) all c.in_ok-enter_all.ensures.entered)
+    let names = ap (map asked) c.as_slice.ensures.value ∙ c.in_ok-names.ensures in
+    all_entered name c.args.repo.now.1 tables old new (new_entered old new (changes_of tables) c.requires.sorted (subst (Enters old new) names c.in_ok-enter_all.ensures.entered))

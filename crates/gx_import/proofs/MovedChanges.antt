@@ -1,0 +1,119 @@
+-- Changes of branches that their refs hold already are left out: the others give the same refs, and are refused no sooner.
+use Rattle.std.proofs.Common.{◌≡◌, Bool, true, false, cond, List, [], ◌∷◌, ◌++◌, append-nil, append_assoc, Option, Some, None, refl, sym, ap, ◌∙◌}
+use Rattle.std.specs.Prelude.{IsTrue, T, not}
+use Rattle.std.specs.Bool.{passes}
+use Rattle.std.specs.List.{AllByRecursion, filter, fold}
+use Rattle.std.specs.Map.{lookup}
+use Rattle.std.specs.Ordering.{is_lt}
+use Rattle.std.specs.FinMap.Entries.{below_all, find, find-put, is_sorted, is_sorted-put, put}
+use Rattle.std.proofs.lemmas.Bool.{true≢false}
+use Rattle.std.proofs.lemmas.List.Sums.{fold-append}
+use Rattle.gx_model.specs.declared.faults.Fault.{Fault}
+use Rattle.gx_model.specs.Texts.{Bytes, same_bytes}
+use Rattle.gx_model.specs.Histories.{Record}
+use Rattle.gx_model.specs.Publishing.{Change, Ref, change_fault, changes_fault, first_fault, with_change, with_changes}
+use Rattle.gx_model.specs.Replay.{byte_cmp}
+use Rattle.gx_model.proofs.PathTests.{both, first, second, same_is}
+use Rattle.gx_object.specs.declared.name.Name.{Name}
+use Rattle.gx_import.specs.declared.branches.Tip.{Tip}
+use Rattle.gx_import.specs.RefChanges.{branch_changes, branch_then, is_at, is_moved}
+use Rattle.gx_import.proofs.FoundRows.{name_apart}
+use Rattle.gx_import.proofs.PublishedNames.{found, put_there}
+use Rattle.gx_import.proofs.SortedRows.{order}
+
+-- ---- one branch after the other
+
+-- what passes a test is appended of one branch, and then of more
+pub one_appended : (test : Change → Bool) (was now : List Change) (n : Bytes) (commit : Option Name) (more : List Change)
+    → now ≡ was ++ filter test (branch_then n commit []) → now ++ filter test more ≡ was ++ filter test (branch_then n commit more)
+one_appended test was now n None more e = ap (λ cs. cs ++ filter test more) (e ∙ append-nil was)
+one_appended test was now n (Some called) more e =
+    ap (λ cs. cs ++ filter test more) e
+    ∙ elim (test (n, called.bytes)) as (λ b. (was ++ cond b ((n, called.bytes) ∷ []) []) ++ filter test more ≡ was ++ cond b ((n, called.bytes) ∷ filter test more) (filter test more)) [
+      | true ↦ append_assoc was ((n, called.bytes) ∷ []) (filter test more)
+      | false ↦ ap (λ cs. cs ++ filter test more) (append-nil was)
+    ]
+
+-- ---- branches in order give changes in order
+
+below_changes : {A : Type 0} (n : Bytes) (rows : List (Bytes × Tip A)) → T (below_all byte_cmp n rows) → T (below_all byte_cmp n (branch_changes rows))
+below_changes n [] h = tt
+below_changes n (row ∷ rows) h =
+    let rest = below_changes n rows (second (is_lt (byte_cmp n row.0)) _ h) in
+    elim row.1.commit as (λ o. T (below_all byte_cmp n (branch_then row.0 o (branch_changes rows)))) [
+      | None ↦ rest
+      | Some called ↦ both _ _ (first _ _ h) rest
+    ]
+
+sorted_changes : {A : Type 0} (rows : List (Bytes × Tip A)) → T (is_sorted byte_cmp rows) → T (is_sorted byte_cmp (branch_changes rows))
+sorted_changes [] h = tt
+sorted_changes (row ∷ rows) h =
+    let rest = sorted_changes rows (second (below_all byte_cmp row.0 rows) _ h) in
+    elim row.1.commit as (λ o. T (is_sorted byte_cmp (branch_then row.0 o (branch_changes rows)))) [
+      | None ↦ rest
+      | Some called ↦ both _ _ (below_changes row.0 rows (first _ _ h)) rest
+    ]
+
+-- ---- the refs that changes in order give
+
+-- refs hold the same as others at the names of these changes
+abbrev HoldSame : List Ref → List Ref → List Change → Type 0
+HoldSame now refs changes = AllByRecursion (λ c. lookup (same_bytes c.0) now ≡ lookup (same_bytes c.0) refs) changes
+
+hold_same : (refs : List Ref) (changes : List Change) → HoldSame refs refs changes
+hold_same refs [] = tt
+hold_same refs (c ∷ cs) = (refl, hold_same refs cs)
+
+-- so they do where a smaller name is set
+same_after : (n object : Bytes) (now refs : List Ref) (changes : List Change) → T (below_all byte_cmp n changes) → HoldSame now refs changes → HoldSame (put byte_cmp n object now) refs changes
+same_after n object now refs [] b h = tt
+same_after n object now refs (c ∷ cs) b h = (
+  sym (found c.0 (put byte_cmp n object now)) ∙ find-put byte_cmp order c.0 n object now
+      ∙ ap (λ t. cond t (Some object) (find byte_cmp c.0 now)) (name_apart n c.0 (first _ _ b))
+      ∙ found c.0 now ∙ h.0,
+  same_after n object now refs cs (second (is_lt (byte_cmp n c.0)) _ b) h.1,
+)
+
+not_true : (b : Bool) → not b ≡ false → b ≡ true
+not_true true e = refl
+not_true false e = absurd (true≢false e)
+
+-- a change that is left out is one that stands
+stands_so : (object : Bytes) (held : Option Bytes) → not (is_at held object) ≡ false → held ≡ Some object
+stands_so object None e = absurd (true≢false e)
+stands_so object (Some held) e = ap (λ x. Some x) (same_is held object (passes _ (not_true _ e)))
+
+others_set : (refs now : List Ref) (changes : List Change) → T (is_sorted byte_cmp now) → T (is_sorted byte_cmp changes) → HoldSame now refs changes
+    → with_changes now changes ≡ with_changes now (filter (is_moved refs) changes)
+others_set refs now [] s t h = refl
+others_set refs now (c ∷ cs) s t h =
+    let rising = second (below_all byte_cmp c.0 cs) _ t in
+    elim (is_moved refs c) as (λ b. is_moved refs c ≡ b → with_changes now (c ∷ cs) ≡ with_changes now (cond b (c ∷ filter (is_moved refs) cs) (filter (is_moved refs) cs))) [
+      | true ↦ λ e. others_set refs (put byte_cmp c.0 c.1 now) cs (is_sorted-put byte_cmp order c.0 c.1 now s) rising (same_after c.0 c.1 now refs cs (first _ _ t) h.1)
+      | false ↦ λ e. ap (λ rs. with_changes rs cs) (put_there c.0 c.1 now s (h.0 ∙ stands_so c.1 (lookup (same_bytes c.0) refs) e)) ∙ others_set refs now cs s rising h.1
+    ] refl
+
+-- the moved branches and the tags give what all branches and the tags give
+pub moved_set : {A : Type 0} (refs : List Ref) (rows : List (Bytes × Tip A)) (tags : List Change) → IsTrue (is_sorted byte_cmp refs) → IsTrue (is_sorted byte_cmp rows)
+    → with_changes refs (filter (is_moved refs) (branch_changes rows) ++ tags) ≡ with_changes refs (branch_changes rows ++ tags)
+moved_set refs rows tags s t =
+    fold-append with_change refs (filter (is_moved refs) (branch_changes rows)) tags
+    ∙ ap (λ rs. fold with_change rs tags) (sym (others_set refs refs (branch_changes rows) (passes _ s) (sorted_changes rows (passes _ t)) (hold_same refs (branch_changes rows))))
+    ∙ sym (fold-append with_change refs (branch_changes rows) tags)
+
+-- ---- changes that are refused
+
+none_of : (why later : Option Fault) → first_fault why later ≡ None → (why ≡ None) × (later ≡ None)
+none_of None later e = (refl, e)
+none_of (Some why) later e = absurd (cc)
+
+-- where none of more changes is refused, none of these is
+pub fewer_free : (test : Change → Bool) (records : List Record) (changes others : List Change) → changes_fault records (changes ++ others) ≡ None → changes_fault records (filter test changes ++ others) ≡ None
+fewer_free test records [] others e = e
+fewer_free test records (c ∷ cs) others e =
+    let free = none_of (change_fault records c) (changes_fault records (cs ++ others)) e in
+    let rest = fewer_free test records cs others free.1 in
+    elim (test c) as (λ b. changes_fault records (cond b (c ∷ filter test cs) (filter test cs) ++ others) ≡ None) [
+      | true ↦ ap (λ why. first_fault why (changes_fault records (filter test cs ++ others))) free.0 ∙ rest
+      | false ↦ rest
+    ]

@@ -1,0 +1,84 @@
+//! Look-ups in a table by names in rising order.
+
+ghost use Rattle.std.specs.Prelude.{◌≡◌, List, IfSome, IsTrue};
+ghost use Rattle.std.specs.FinMap.Entries.{is_sorted};
+ghost use Rattle.std.specs.Map.{lookup};
+ghost use Rattle.std.specs.Option.{option_map};
+ghost use Rattle.gx_model.specs.Replay.{byte_cmp};
+ghost use Rattle.gx_model.specs.Texts.{Bytes, same_bytes};
+ghost use Rattle.gx_import.specs.Rows.{AreFound, IsFound, rows_of};
+
+use crate::table::Table;
+use std::alloc::Allocator;
+use std::collections::btree_map::Iter;
+use std::marker::Model;
+
+/// A table with its rows from a place on, where names in rising order are found without a search.
+///
+/// It is seen as all rows of the table.
+#[derive(Drop)]
+pub(crate) struct RowsAhead<'a, T, A: Allocator> {
+    table: &'a Table<T, A>,
+    next: Option<(&'a Vec<u8, A>, &'a T)>,
+    rest: Iter<'a, Vec<u8, A>, T>,
+}
+
+impl<'a, T, A: Allocator> Model for RowsAhead<'a, T, A> {
+    ghost use Rattle.std.specs.Prelude.{◌≡◌, List, IfSome, IsTrue};
+    ghost use Rattle.std.specs.FinMap.Entries.{is_sorted};
+    ghost use Rattle.gx_model.specs.Replay.{byte_cmp};
+    ghost use Rattle.gx_model.specs.Texts.{Bytes};
+    ghost use Rattle.gx_import.specs.Rows.{AreFound, IsFound, rows_of};
+
+    ghost Value = { List (Bytes × T) };
+
+    ghost view = { λ s. rows_of s.table.now };
+
+    ghost invariant = { λ s. IsTrue (is_sorted byte_cmp (rows_of s.table.now)) × IfSome s.next (IsFound (rows_of s.table.now)) × AreFound (rows_of s.table.now) s.rest };
+}
+
+impl<'a, T: Drop, A: Allocator + Copy> RowsAhead<'a, T, A> {
+    /// A table with all its rows. Takes no memory.
+    pub(crate) fn new(table: &'a Table<T, A>) -> RowsAhead<'a, T, A>
+        requires sorted { IsTrue (is_sorted byte_cmp (rows_of table.now)) }
+        ensures { result ≡ rows_of table.now }
+    {
+        let mut rest = table.rows.iter();
+        let next = rest.next();
+        RowsAhead { table, next, rest }
+    }
+
+    /// What stands at a name. The rows with smaller names are left behind.
+    ///
+    /// Cost: a comparison for each row that is left behind, and a search where the name isn't ahead. Takes no memory.
+    pub(crate) fn get(&mut self, name: &[u8]) -> Option<&'a T>
+        ensures same { self.new ≡ self.old }
+        ensures found { option_map (λ value. value.now) result ≡ lookup (same_bytes name.now) self.old }
+    {
+        self.next = first_from(self.next, &mut self.rest, name);
+        if let Some((held, value)) = self.next {
+            if held.as_slice() == name {
+                return Some(value);
+            }
+        }
+        self.table.get(name)
+    }
+}
+
+/// The first row from this next one on whose name isn't smaller than this.
+fn first_from<'a, T, A: Allocator + Copy>(
+    next: Option<(&'a Vec<u8, A>, &'a T)>,
+    rest: &mut Iter<'a, Vec<u8, A>, T>,
+    name: &[u8],
+) -> Option<(&'a Vec<u8, A>, &'a T)>
+    ensures { (all : List (Bytes × T)) → IfSome next.entry (IsFound all) → AreFound all rest.old → IfSome result (IsFound all) × AreFound all rest.new }
+{
+    let mut first = next;
+    while let Some((held, _)) = first {
+        if held.as_slice() >= name {
+            break;
+        }
+        first = rest.next();
+    }
+    first
+}

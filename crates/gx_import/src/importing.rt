@@ -36,8 +36,10 @@ use std::alloc::Allocator;
 ///
 /// Cost: each command's bytes; for a commit the directories on its changed paths, and once for a branch the size of the
 /// tree that it starts from; and for each object to be put or found a look-up. Memory: the objects, the marks,
-/// the branches with their files, and one command. A checkpoint, as the end, costs the branches and the refs, and for each
-/// published branch that moved the commits that it reaches behind its old one. Source: git-fast-import(1).
+/// the branches with their files, and one command. A checkpoint, as the end, costs a few comparisons for each branch and each
+/// published name; for each branch that moved the commits that it reaches behind its old one; for each such branch and each
+/// tag a look-up of its object and searches among the refs; and where a ref is new, copies of all refs. Source:
+/// git-fast-import(1).
 pub fn import<N: Namer, A: Allocator + Copy, R: Source + Drop, W: Sink>(
     alloc: A,
     repo: &mut Repo<N, A>,

@@ -1,6 +1,6 @@
 //! Look-ups in a table by names in rising order.
 
-ghost use Rattle.std.specs.Prelude.{◌≡◌, List, IfSome, IsTrue};
+ghost use Rattle.std.specs.Prelude.{◌≡◌, List, Some, IfSome, IsTrue};
 ghost use Rattle.std.specs.FinMap.Entries.{is_sorted};
 ghost use Rattle.std.specs.Map.{lookup};
 ghost use Rattle.std.specs.Option.{option_map};
@@ -55,13 +55,27 @@ impl<'a, T: Drop, A: Allocator + Copy> RowsAhead<'a, T, A> {
         ensures same { self.new ≡ self.old }
         ensures found { option_map (λ value. value.now) result ≡ lookup (same_bytes name.now) self.old }
     {
+        if let Some(value) = self.take(name) {
+            return Some(value);
+        }
         self.next = first_from(self.next, &mut self.rest, name);
-        if let Some((held, value)) = self.next {
-            if held.as_slice() == name {
-                return Some(value);
-            }
+        if let Some(value) = self.take(name) {
+            return Some(value);
         }
         self.table.get(name)
+    }
+
+    /// What stands at a name, where its row is the next one, which is left behind then.
+    fn take(&mut self, name: &[u8]) -> Option<&'a T>
+        ensures same { self.new ≡ self.old }
+        ensures found { IfSome result (λ value. lookup (same_bytes name.now) self.old ≡ Some value.now) }
+    {
+        let (held, value) = self.next?;
+        if held.as_slice() != name {
+            return None;
+        }
+        self.next = self.rest.next();
+        Some(value)
     }
 }
 

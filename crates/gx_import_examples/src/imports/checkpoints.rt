@@ -94,6 +94,14 @@ const SESSIONS: &[Session] = &[
         ],
     ),
     (
+        "so is one that stands where it is to stand",
+        &[
+            Step::Import(&[FIRST], (1, 3, 1)),
+            Step::Import(&[FIRST, CHECKPOINT, OTHER], (3, 1, 2)),
+            Step::Hold(4, 2),
+        ],
+    ),
+    (
         "a checkpoint has the condition of the end, and its own number",
         &[
             Step::RefuseBehind(

@@ -1,0 +1,106 @@
+-- What adapting a stream gives, sends and leaves.
+use Rattle.std.specs.Prelude.{◌≡◌, ℕ, ◌+◌, ◌<◌, ◌^◌, Bool, codes, ◌∷◌, if◌then◌else◌, List, ◌++◌, Option, Some, None, Result, Ok, Err, ⊤}
+use Rattle.gx_model.specs.declared.faults.Fault.TheVariants as model
+use Rattle.gx_model.specs.Texts.{Bytes}
+use Rattle.gx_model.specs.Items.{Item, End, Finished, Failed, Stream}
+use Rattle.gx_text.specs.Devices.{Coming, Taken, Took, FailedWithin}
+use Rattle.gx_stream.specs.Heard.{items_from}
+use Rattle.gx_stream.specs.Faults.{fault_of}
+use Rattle.gx_stream.specs.declared.fault.StreamFault.{StreamFault}
+use Rattle.gx_stream.specs.declared.fault.StreamFault.TheVariants as stream
+use Rattle.gx_adapt.specs.Paths.{quoted, anew}
+use Rattle.gx_adapt.specs.Lines as lines
+use Rattle.gx_adapt.specs.Streams.{Placed, lot_at, items_for, is_reset, adapted, stream_text, is_spaced, is_deletion, is_requoted, is_marks, on_line, report_of}
+use Rattle.gx_adapt.specs.Laws.{IsReadAdapted}
+use Rattle.gx_adapt.specs.declared.fault.AdaptFault.{AdaptFault}
+use Rattle.gx_adapt.specs.declared.fault.AdaptFault.TheVariants.{OutOfMemory, ReadFailed, WriteFailed, TruncatedData, BadNumber}
+use Rattle.gx_adapt.specs.declared.lot.Lot.{Lot}
+use Rattle.gx_adapt.specs.declared.lot.Lot.TheVariants.{Kept, Deletion, Marks, Ident, Modify, Remove, Move}
+use Rattle.gx_adapt.specs.declared.report.Report.{Report}
+
+-- a fault of the items, as it is answered
+abbrev pub of_stream : StreamFault → AdaptFault
+of_stream stream.OutOfMemory = OutOfMemory
+of_stream stream.ReadFailed = ReadFailed
+of_stream stream.TruncatedData = TruncatedData
+of_stream stream.BadNumber = BadNumber
+
+-- an end as a reader of items tells it: none, or one of its faults
+abbrev pub IsEnd : End → Type 0
+IsEnd Finished = ⊤
+IsEnd (Failed f) = (why : StreamFault) × (f ≡ fault_of why)
+
+-- the text of what stands in the place of some items
+abbrev pub text_for : List Item → Bytes
+text_for is = stream_text (adapted is)
+
+-- all that came went out adapted, and this is the end
+abbrev pub EndsWith : Stream → End → Option Taken → Option Taken → Type 0
+EndsWith s end was is = (s.end ≡ end) × Took was is (text_for s.items)
+
+-- All items went out adapted, and the report counts them. Or those went out that came before the stream's fault. For want
+-- of memory some first items went out. Where the sink failed, a front of the adapted text did.
+abbrev pub Adapts : Stream → Option Taken → Option Taken → Result Report AdaptFault → Type 0
+Adapts s was is (Ok report) = (report ≡ report_of s.items) × EndsWith s Finished was is
+Adapts s was is (Err ReadFailed) = EndsWith s (Failed model.ReadFailed) was is
+Adapts s was is (Err TruncatedData) = EndsWith s (Failed model.TruncatedData) was is
+Adapts s was is (Err BadNumber) = EndsWith s (Failed model.BadNumber) was is
+Adapts s was is (Err OutOfMemory) = (front : List Item) × (rest : List Item) × (s.items ≡ front ++ rest) × Took was is (text_for front)
+Adapts s was is (Err WriteFailed) = FailedWithin was is (text_for s.items)
+
+-- the same of what a source gives. Where it tells nothing, of some items with their end
+abbrev pub AdaptsFrom : Option Coming → Option Taken → Option Taken → Result Report AdaptFault → Type 0
+AdaptsFrom None was is r = (s : Stream) × IsEnd s.end × Adapts s was is r
+AdaptsFrom (Some c) was is r = Adapts (items_from c) was is r
+
+-- what went out is read as these items again
+abbrev pub IsReadAgain : Option Coming → Type 0
+IsReadAgain None = Unit {0}
+IsReadAgain (Some c) = IsReadAdapted c
+
+-- ---- one item
+
+-- what becomes of a line, as the code tells it
+abbrev pub lot_seen : Lot → lines.Lot
+lot_seen Kept = lines.kept
+lot_seen Deletion = lines.deletion
+lot_seen Marks = lines.marks
+lot_seen (Ident word ident) = lines.spaced (word.now ++ 32 ∷ 32 ∷ ident.now)
+lot_seen (Modify mode dataref path) = lines.requoted ((codes "M " ++ mode.now ++ 32 ∷ dataref.now) ++ 32 ∷ quoted path.now)
+lot_seen (Remove path) = lines.requoted (codes "D" ++ 32 ∷ quoted path.now)
+lot_seen (Move word source destination) = lines.requoted (word.now ++ 32 ∷ anew source.now ++ 32 ∷ anew destination.now)
+
+-- one more, where it is so
+abbrev pub one_if : Bool → ℕ → ℕ
+one_if holds n = if holds then n + 1 else n
+
+-- an item counted
+abbrev pub with_item : Placed → Report → Report
+with_item p r = record {
+  identities = one_if (is_spaced (lot_at p)) r.identities;
+  deletions = one_if (is_deletion (lot_at p)) r.deletions;
+  paths = one_if (is_requoted (lot_at p)) r.paths;
+  marks = one_if (is_marks (lot_at p)) r.marks;
+  notes = one_if (on_line lines.is_note p.item) r.notes;
+  early_dates = one_if (on_line lines.is_early p.item) r.early_dates;
+}
+
+-- each count has room for one more
+pub record HasRoom (r : Report) : Type 0 where
+  pub identities : r.identities < 2 ^ 63
+  pub deletions : r.deletions < 2 ^ 63
+  pub paths : r.paths < 2 ^ 63
+  pub marks : r.marks < 2 ^ 63
+  pub notes : r.notes < 2 ^ 63
+  pub early_dates : r.early_dates < 2 ^ 63
+
+-- A text went out, or the sink failed within it.
+abbrev pub Puts : Bytes → Option Taken → Option Taken → Result (Unit {0}) AdaptFault → Type 0
+Puts text was is (Ok done) = Took was is text
+Puts text was is (Err WriteFailed) = FailedWithin was is text
+Puts text was is (Err fault) = ⊥
+
+-- The same, and for want of memory nothing went out.
+abbrev pub PutsIf : Bytes → Option Taken → Option Taken → Result (Unit {0}) AdaptFault → Type 0
+PutsIf text was is (Err OutOfMemory) = is ≡ was
+PutsIf text was is r = Puts text was is r

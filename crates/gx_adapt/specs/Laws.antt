@@ -1,0 +1,18 @@
+-- What holds of every adapted stream.
+use Rattle.std.specs.Prelude.{◌≡◌, true, false}
+use Rattle.gx_model.specs.Texts.{Bytes, is_line, lacks}
+use Rattle.gx_model.specs.Items.{Finished, items_of}
+use Rattle.gx_model.specs.Paths.{path_of}
+use Rattle.gx_model.specs.Grammar.{last_path}
+use Rattle.gx_text.specs.Devices.{Coming}
+use Rattle.gx_stream.specs.Heard.{items_from}
+use Rattle.gx_adapt.specs.Paths.{quoted}
+use Rattle.gx_adapt.specs.Streams.{adapted, stream_text}
+
+-- a text is read as the items that stand in the place of what a source gives
+abbrev pub IsReadAdapted : Coming → Type 0
+IsReadAdapted c = items_of (stream_text (adapted (items_from c).items)) false ≡ record { items = adapted (items_from c).items; end = Finished }
+
+-- a path in quotes is read as the path of the text between them. Only a NUL can't stand there, nor in any path
+abbrev pub QuotedPathsAreKept : Type 0
+QuotedPathsAreKept = (path : Bytes) → is_line path ≡ true → lacks 0 path ≡ true → last_path (quoted path) ≡ path_of path

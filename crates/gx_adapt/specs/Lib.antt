@@ -1,0 +1,6 @@
+pub mod Paths
+pub mod Lines
+pub mod Streams
+pub mod Laws
+pub mod Adapting
+pub mod Rows

@@ -1,0 +1,122 @@
+-- What becomes of a line.
+-- Source: git-fast-import(1), "author", "committer", "tagger", "from", "filemodify", "filedelete", "filecopy", "filerename", "feature" and "get-mark".
+use Rattle.std.specs.Prelude.{Bool, true, false, ◌&&◌, ◌||◌, nat_eq, List, [], ◌∷◌, ◌++◌, codes, Option, Some, None, if◌then◌else◌}
+use Rattle.std.specs.List.{starts_with}
+use Rattle.std.specs.Str.{bytes_eq}
+use Rattle.gx_model.specs.Texts.{Bytes, cut_at}
+use Rattle.gx_model.specs.Items.{Item, Line}
+use Rattle.gx_model.specs.Grammar.{Words, words_of}
+use Rattle.gx_adapt.specs.Paths.{quoted, is_open, anew, source_of}
+
+-- A line stays, or is left out since it deletes a branch or is about marks, or is another line: one whose identity has a
+-- space before its `<`, or one with a path in quotes.
+pub data Lot : Type 0 where
+  kept : Lot
+  deletion : Lot
+  marks : Lot
+  spaced : Bytes → Lot
+  requoted : Bytes → Lot
+
+-- ---- which lines
+
+-- a line begins so
+abbrev pub begins : Bytes → Bytes → Bool
+begins front l = starts_with nat_eq l front
+
+-- a reset to another commit or to none
+abbrev pub is_reset_line : Bytes → Bool
+is_reset_line l = begins (codes "reset ") l
+
+-- a `from` with forty zeros
+abbrev pub is_null_from : Bytes → Bool
+is_null_from l = bytes_eq l (codes "from 0000000000000000000000000000000000000000")
+
+-- files of marks, which a stream can't ask for here, and a mark's name asked for
+abbrev pub is_of_marks : Bytes → Bool
+is_of_marks l =
+    begins (codes "feature import-marks=") l || begins (codes "feature import-marks-if-exists=") l || begins (codes "feature export-marks=") l
+    || bytes_eq l (codes "feature relative-marks") || bytes_eq l (codes "feature no-relative-marks") || begins (codes "get-mark :") l
+
+-- the word of a line with an identity
+abbrev pub is_ident_word : Bytes → Bool
+is_ident_word word = bytes_eq word (codes "author") || bytes_eq word (codes "committer") || bytes_eq word (codes "tagger")
+
+-- the word of a line with two paths
+abbrev pub is_move_word : Bytes → Bool
+is_move_word word = bytes_eq word (codes "C") || bytes_eq word (codes "R")
+
+-- ---- what becomes of them
+
+-- an identity that begins with `<`
+unfoldable pub ident_lot : Bytes → Bytes → Lot
+ident_lot word ident = if begins (codes "<") ident then spaced (word ++ 32 ∷ 32 ∷ ident) else kept
+
+-- a path that ends its line, and the part before it
+unfoldable pub path_lot : Bytes → Bytes → Lot
+path_lot front path = if is_open path then requoted (front ++ 32 ∷ quoted path) else kept
+
+-- behind the dataref, which follows the mode
+abbrev pub dataref_lot : Bytes → Option (Bytes × Bytes) → Lot
+dataref_lot mode None = kept
+dataref_lot mode (Some p) = path_lot (codes "M " ++ mode ++ 32 ∷ p.0) p.1
+
+-- a modify, from its mode on
+abbrev pub mode_lot : Option (Bytes × Bytes) → Lot
+mode_lot None = kept
+mode_lot (Some p) = dataref_lot p.0 (cut_at 32 p.1)
+
+unfoldable pub modify_lot : Bytes → Lot
+modify_lot rest = mode_lot (cut_at 32 rest)
+
+-- a source and a destination
+abbrev pub paths_lot : Bytes → Option (Bytes × Bytes) → Lot
+paths_lot word None = kept
+paths_lot word (Some p) = if is_open p.0 || is_open p.1 then requoted (word ++ 32 ∷ anew p.0 ++ 32 ∷ anew p.1) else kept
+
+unfoldable pub move_lot : Bytes → Bytes → Lot
+move_lot word rest = paths_lot word (source_of rest)
+
+-- by the word of a line, and its rest
+unfoldable pub word_lot : Bytes → Bytes → Lot
+word_lot word rest =
+    if is_ident_word word then ident_lot word rest
+    else (if bytes_eq word (codes "M") then modify_lot rest
+    else (if bytes_eq word (codes "D") then path_lot (codes "D") rest
+    else (if is_move_word word then move_lot word rest else kept)))
+
+abbrev pub words_lot : Option (Bytes × Bytes) → Lot
+words_lot None = kept
+words_lot (Some p) = word_lot p.0 p.1
+
+-- what becomes of a line, by whether it stands directly behind a reset
+unfoldable pub lot_of : Bool → Bytes → Lot
+lot_of after_reset l =
+    if is_of_marks l then marks
+    else (if after_reset && is_null_from l then deletion else words_lot (cut_at 32 l))
+
+-- the lines that stand in its place
+abbrev pub lines_for : Bytes → Lot → List Item
+lines_for l kept = Line l ∷ []
+lines_for l deletion = []
+lines_for l marks = []
+lines_for l (spaced new) = Line new ∷ []
+lines_for l (requoted new) = Line new ∷ []
+
+-- ---- what is seen and stays
+
+-- a note
+abbrev pub is_note : Bytes → Bool
+is_note l = begins (codes "N ") l
+
+-- the date behind an email's `>`, with its sign
+abbrev pub has_minus : Option (Bytes × Bytes) → Bool
+has_minus None = false
+has_minus (Some p) = begins (codes " -") p.1
+
+abbrev pub has_early_ident : Option (Bytes × Bytes) → Bool
+has_early_ident None = false
+has_early_ident (Some p) = is_ident_word p.0 && has_minus (cut_at 62 p.1)
+
+-- an identity dated before 1970
+unfoldable pub is_early : Bytes → Bool
+is_early l = has_early_ident (cut_at 32 l)

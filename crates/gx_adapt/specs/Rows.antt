@@ -1,0 +1,121 @@
+-- Worked lines and streams: what becomes of them. Each row holds by computing.
+use Rattle.std.specs.Prelude.{◌≡◌, Bool, true, false, List, [], ◌∷◌, ◌++◌, map, codes, refl}
+use Rattle.std.specs.Fmt.{decimal}
+use Rattle.gx_model.specs.Texts.{Bytes, cut_at}
+use Rattle.gx_model.specs.Paths.{char_at, unquote_within, path_of, quoted_of}
+use Rattle.gx_model.specs.Grammar.{last_path}
+use Rattle.gx_model.specs.Items.{Item, Line, Data}
+use Rattle.gx_model.specs.Spelling.{text_of_lines}
+use Rattle.gx_adapt.specs.Paths.{quoted, is_open, source_of}
+use Rattle.gx_adapt.specs.Lines.{Lot, kept, deletion, marks, spaced, requoted, ident_lot, path_lot, modify_lot, move_lot, word_lot, lot_of, is_early}
+use Rattle.gx_adapt.specs.Streams.{adapted, stream_text, report_of}
+
+-- ---- lines
+
+-- a line, whether a reset stands directly before it, and what becomes of it
+pub record LineRow : Type 0 where
+  pub after_reset : Bool
+  pub line : Bytes
+  pub lot : Lot
+
+abbrev row : Bytes → Lot → LineRow
+row line lot = record { after_reset = false; line = line; lot = lot }
+
+abbrev null_from : Bytes
+null_from = codes "from 0000000000000000000000000000000000000000"
+
+abbrev pub line_rows : List LineRow
+line_rows =
+    row (codes "author <a> 1 +0000") (spaced (codes "author  <a> 1 +0000"))
+    ∷ row (codes "committer <a> 1 +0000") (spaced (codes "committer  <a> 1 +0000"))
+    ∷ row (codes "tagger <a> 1 +0000") (spaced (codes "tagger  <a> 1 +0000"))
+    ∷ row (codes "committer  <a> 1 +0000") kept
+    ∷ row (codes "committer A <a> 1 +0000") kept
+    ∷ row (codes "merge <a") kept
+    -- a branch's deletion
+    ∷ record { after_reset = true; line = null_from; lot = deletion }
+    ∷ row null_from kept
+    ∷ record { after_reset = true; line = codes "from :1"; lot = kept }
+    ∷ record { after_reset = true; line = null_from ++ codes "0"; lot = kept }
+    -- paths
+    ∷ row (codes "M 100644 :1 \"a") (requoted (codes "M 100644 :1 \"\\\"a\""))
+    ∷ row (codes "M 100644 inline \"a\" b") (requoted (codes "M 100644 inline \"\\\"a\\\" b\""))
+    ∷ row (codes "M 100644 :1 \"a\"") kept
+    ∷ row (codes "M 100644 :1 a\"b") kept
+    ∷ row (codes "M 100644 :1 \"a\\y\"") (requoted (codes "M 100644 :1 \"\\\"a\\\\y\\\"\""))
+    ∷ row (codes "M 100644 :1 \"\\351\"") kept
+    ∷ row (codes "M 100644 :1 \"") (requoted (codes "M 100644 :1 \"\\\"\""))
+    ∷ row (codes "M 100644 \"a") kept
+    ∷ row (codes "D \"a b") (requoted (codes "D \"\\\"a b\""))
+    ∷ row (codes "D \"a b\"") kept
+    ∷ row (codes "R \"a b") (requoted (codes "R \"\\\"a\" b"))
+    ∷ row (codes "R \"a b\" \"c") (requoted (codes "R \"a b\" \"\\\"c\""))
+    ∷ row (codes "C a \"b\" c") (requoted (codes "C a \"\\\"b\\\" c\""))
+    ∷ row (codes "C \"a\"b \"c") (requoted (codes "C \"\\\"a\\\"b\" \"\\\"c\""))
+    ∷ row (codes "C \"a b\" c d") kept
+    ∷ row (codes "R \"a\"") kept
+    -- marks
+    ∷ row (codes "feature import-marks=marks") marks
+    ∷ row (codes "feature import-marks-if-exists=marks") marks
+    ∷ row (codes "feature export-marks=marks") marks
+    ∷ row (codes "feature relative-marks") marks
+    ∷ row (codes "feature no-relative-marks") marks
+    ∷ row (codes "get-mark :1") marks
+    ∷ row (codes "feature done") kept
+    ∷ row (codes "feature date-format=raw") kept
+    ∷ row (codes "mark :1") kept
+    ∷ row [] kept
+    ∷ []
+
+lines_adapted : map (λ r. lot_of r.after_reset r.line) line_rows ≡ map (λ r. r.lot) line_rows
+unfolding cut_at char_at unquote_within is_open source_of ident_lot path_lot modify_lot move_lot word_lot lot_of
+lines_adapted = refl
+
+-- identities, and whether they are dated before 1970
+abbrev pub dates : List (Bytes × Bool)
+dates =
+    (codes "author A <a> -1 +0000", true)
+    ∷ (codes "committer <a> -100 -0500", true)
+    ∷ (codes "committer A - <a-> 1 -0500", false)
+    ∷ (codes "merge A <a> -1 +0000", false)
+    ∷ (codes "author", false)
+    ∷ []
+
+dates_told : map (λ r. is_early r.0) dates ≡ map (λ r. r.1) dates
+unfolding cut_at is_early
+dates_told = refl
+
+-- ---- paths
+
+-- names that begin with a quote
+abbrev pub names : List Bytes
+names = codes "\"" ∷ codes "\"a" ∷ codes "\"a\" b" ∷ codes "\"a\\y\"" ∷ codes "\"\\" ∷ codes "\"a/b" ∷ []
+
+names_kept : map (λ name. last_path (quoted name)) names ≡ map path_of names
+unfolding char_at unquote_within quoted_of last_path
+names_kept = refl
+
+-- ---- streams
+
+abbrev before : List Item
+before =
+    Line (codes "feature done") ∷ Line (codes "feature export-marks=marks") ∷ Line (codes "blob") ∷ Line (codes "mark :1") ∷ Data (codes "author <a> 1 +0000" ++ 10 ∷ [])
+    ∷ Line (codes "commit refs/heads/main") ∷ Line (codes "author <a> -1 +0000") ∷ Line (codes "committer A <a> 1 +0000") ∷ Data (codes "M 100644 :1 \"a") ∷ Line null_from
+    ∷ Line (codes "N :1 refs/heads/main") ∷ Line (codes "M 100644 :1 \"a") ∷ Line [] ∷ Line (codes "reset refs/heads/side") ∷ Line null_from ∷ Line [] ∷ Line (codes "done") ∷ []
+
+abbrev after : List Item
+after =
+    Line (codes "feature done") ∷ Line (codes "blob") ∷ Line (codes "mark :1") ∷ Data (codes "author <a> 1 +0000" ++ 10 ∷ [])
+    ∷ Line (codes "commit refs/heads/main") ∷ Line (codes "author  <a> -1 +0000") ∷ Line (codes "committer A <a> 1 +0000") ∷ Data (codes "M 100644 :1 \"a") ∷ Line null_from
+    ∷ Line (codes "N :1 refs/heads/main") ∷ Line (codes "M 100644 :1 \"\\\"a\"") ∷ Line [] ∷ Line (codes "reset refs/heads/side") ∷ Line [] ∷ Line (codes "done") ∷ []
+
+stream_adapted : adapted before ≡ after
+unfolding cut_at char_at unquote_within is_open source_of ident_lot path_lot modify_lot move_lot word_lot lot_of
+stream_adapted = refl
+
+stream_counted : report_of before ≡ record { identities = 1; deletions = 1; paths = 1; marks = 1; notes = 1; early_dates = 1 }
+unfolding cut_at char_at unquote_within is_open source_of ident_lot path_lot modify_lot move_lot word_lot lot_of is_early
+stream_counted = refl
+
+text_spelled : stream_text (Line (codes "blob") ∷ Data (codes "a" ++ 10 ∷ []) ∷ Line [] ∷ []) ≡ text_of_lines (codes "blob" ∷ (codes "data " ++ decimal 2) ∷ codes "a" ∷ [] ∷ [] ∷ [])
+text_spelled = refl

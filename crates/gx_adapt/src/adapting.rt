@@ -1,0 +1,101 @@
+//! A stream, adapted.
+
+ghost use Rattle.std.specs.Prelude.{◌≡◌, OnOk};
+ghost use Rattle.gx_model.specs.Items.{Line, Data};
+ghost use Rattle.gx_model.specs.Export.{item_text};
+ghost use Rattle.gx_adapt.specs.Streams.{items_in, stream_text};
+ghost use Rattle.gx_adapt.specs.Adapting.{AdaptsFrom, IsReadAgain, HasRoom, Puts, PutsIf, with_item};
+
+use crate::fault::AdaptFault;
+use crate::lot::{is_reset_line, lot_of};
+use crate::report::Report;
+use crate::text::{put_announcement, put_line};
+use gx_stream::{Item, ItemReader};
+use gx_text::{Sink, Source, send};
+use std::alloc::Allocator;
+
+/// Sends a stream with the lines changed that are read otherwise here than by git, and answers how many they are:
+///
+/// - an identity that begins with `<` gets a space before it, as git writes it,
+/// - `from` with forty zeros directly behind a `reset` is left out,
+/// - a path that begins with a quote and isn't a quoted text is put in quotes, so that it is the name that git takes,
+/// - lines that ask for files of marks, and `get-mark`, are left out.
+///
+/// No byte of a block changes. Comments go, a block is announced by its length, and an LF ends each line and each block.
+/// Each item goes out as soon as it has come. Memory: that of the longest item. Cost: the bytes of the stream.
+/// Source: git-fast-import(1).
+pub fn adapt<R: Source + Drop, W: Sink, A: Allocator + Copy>(
+    alloc: A,
+    source: R,
+    sink: &mut W,
+) -> Result<Report, AdaptFault>
+    ensures adapts { AdaptsFrom (R.coming source) (W.taken sink.old) (W.taken sink.new) result }
+    ensures again { OnOk result (IsReadAgain (R.coming source)) }
+{
+    let mut reader = ItemReader::new(alloc, source);
+    let mut text = Vec::new(alloc);
+    let mut report = Report::new();
+    let mut after_reset = false;
+    loop {
+        let item = match reader.next() {
+            Err(fault) => return Err(AdaptFault::from(fault)),
+            Ok(None) => return Ok(report),
+            Ok(Some(item)) => item,
+        };
+        match item {
+            Item::Line(line) => {
+                send_line(&mut text, sink, &mut report, after_reset, line)?;
+                after_reset = is_reset_line(line);
+            }
+            Item::Data(bytes) => {
+                send_block(&mut text, sink, bytes)?;
+                after_reset = false;
+            }
+        }
+    }
+}
+
+/// Sends what stands in the place of a line, and counts it. The buffer is used anew.
+fn send_line<W: Sink, A: Allocator + Copy>(
+    text: &mut Vec<u8, A>,
+    sink: &mut W,
+    report: &mut Report,
+    after_reset: bool,
+    line: &[u8],
+) -> Result<(), AdaptFault>
+    requires room { HasRoom report.old }
+    ensures sends { PutsIf (stream_text (items_in after_reset (Line line.now))) (W.taken sink.old) (W.taken sink.new) result }
+    ensures counts { OnOk result (report.new ≡ with_item (record { after_reset = after_reset; item = Line line.now }) report.old) }
+{
+    let lot = lot_of(after_reset, line);
+    text.clear();
+    put_line(text, line, lot)?;
+    send_all(sink, text)?;
+    report.add(line, lot);
+    Ok(())
+}
+
+/// Sends a block, behind its length.
+fn send_block<W: Sink, A: Allocator + Copy>(
+    text: &mut Vec<u8, A>,
+    sink: &mut W,
+    bytes: &[u8],
+) -> Result<(), AdaptFault>
+    ensures sends { PutsIf (item_text (Data bytes.now)) (W.taken sink.old) (W.taken sink.new) result }
+{
+    text.clear();
+    put_announcement(text, bytes.len())?;
+    send_all(sink, text)?;
+    send_all(sink, bytes)?;
+    send_all(sink, b"\n")
+}
+
+/// Sends a text.
+fn send_all<W: Sink>(sink: &mut W, text: &[u8]) -> Result<(), AdaptFault>
+    ensures { Puts text.now (W.taken sink.old) (W.taken sink.new) result }
+{
+    match send(sink, text) {
+        Ok(()) => Ok(()),
+        Err(_) => Err(AdaptFault::WriteFailed),
+    }
+}

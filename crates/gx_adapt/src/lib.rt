@@ -1,0 +1,16 @@
+//! Streams of other converters, with the lines changed that are read otherwise here than by git: identities without a name,
+//! deleted branches, paths that begin with a quote, and lines about marks. Blocks stay as they are.
+#![tactic(auto)]
+
+mod adapting;
+mod fault;
+mod laws;
+mod lot;
+mod path;
+mod report;
+mod text;
+
+pub use adapting::adapt;
+pub use fault::AdaptFault;
+pub use laws::quoted_paths_are_kept;
+pub use report::Report;

@@ -1,1 +1,3 @@
-
+pub mod SentTexts
+pub mod Quoted
+pub mod QuotedPaths

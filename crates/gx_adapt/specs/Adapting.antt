@@ -10,7 +10,7 @@ use Rattle.gx_stream.specs.declared.fault.StreamFault.{StreamFault}
 use Rattle.gx_stream.specs.declared.fault.StreamFault.TheVariants as stream
 use Rattle.gx_adapt.specs.Paths.{quoted, anew}
 use Rattle.gx_adapt.specs.Lines as lines
-use Rattle.gx_adapt.specs.Streams.{Placed, lot_at, items_for, is_reset, adapted, stream_text, is_spaced, is_deletion, is_requoted, is_marks, on_line, report_of}
+use Rattle.gx_adapt.specs.Streams.{lot_in, adapted, stream_text, is_spaced, is_deletion, is_requoted, is_marks, on_line, report_of}
 use Rattle.gx_adapt.specs.Laws.{IsReadAdapted}
 use Rattle.gx_adapt.specs.declared.fault.AdaptFault.{AdaptFault}
 use Rattle.gx_adapt.specs.declared.fault.AdaptFault.TheVariants.{OutOfMemory, ReadFailed, WriteFailed, TruncatedData, BadNumber}
@@ -75,14 +75,14 @@ abbrev pub one_if : Bool → ℕ → ℕ
 one_if holds n = if holds then n + 1 else n
 
 -- an item counted
-abbrev pub with_item : Placed → Report → Report
-with_item p r = record {
-  identities = one_if (is_spaced (lot_at p)) r.identities;
-  deletions = one_if (is_deletion (lot_at p)) r.deletions;
-  paths = one_if (is_requoted (lot_at p)) r.paths;
-  marks = one_if (is_marks (lot_at p)) r.marks;
-  notes = one_if (on_line lines.is_note p.item) r.notes;
-  early_dates = one_if (on_line lines.is_early p.item) r.early_dates;
+abbrev pub with_item : Bool → Item → Report → Report
+with_item after_reset item r = record {
+  identities = one_if (is_spaced (lot_in after_reset item)) r.identities;
+  deletions = one_if (is_deletion (lot_in after_reset item)) r.deletions;
+  paths = one_if (is_requoted (lot_in after_reset item)) r.paths;
+  marks = one_if (is_marks (lot_in after_reset item)) r.marks;
+  notes = one_if (on_line lines.is_note item) r.notes;
+  early_dates = one_if (on_line lines.is_early item) r.early_dates;
 }
 
 -- each count has room for one more
@@ -95,12 +95,12 @@ pub record HasRoom (r : Report) : Type 0 where
   pub early_dates : r.early_dates < 2 ^ 63
 
 -- A text went out, or the sink failed within it.
-abbrev pub Puts : Bytes → Option Taken → Option Taken → Result (Unit {0}) AdaptFault → Type 0
+abbrev pub Puts : {A : Type 0} → Bytes → Option Taken → Option Taken → Result A AdaptFault → Type 0
 Puts text was is (Ok done) = Took was is text
 Puts text was is (Err WriteFailed) = FailedWithin was is text
 Puts text was is (Err fault) = ⊥
 
 -- The same, and for want of memory nothing went out.
-abbrev pub PutsIf : Bytes → Option Taken → Option Taken → Result (Unit {0}) AdaptFault → Type 0
+abbrev pub PutsIf : {A : Type 0} → Bytes → Option Taken → Option Taken → Result A AdaptFault → Type 0
 PutsIf text was is (Err OutOfMemory) = is ≡ was
 PutsIf text was is r = Puts text was is r

@@ -5,7 +5,6 @@ use Rattle.gx_model.specs.Texts.{Bytes, cut_at}
 use Rattle.gx_model.specs.Paths.{char_at, unquote_within, path_of, quoted_of}
 use Rattle.gx_model.specs.Grammar.{last_path}
 use Rattle.gx_model.specs.Items.{Item, Line, Data}
-use Rattle.gx_model.specs.Spelling.{text_of_lines}
 use Rattle.gx_adapt.specs.Paths.{quoted, is_open, source_of}
 use Rattle.gx_adapt.specs.Lines.{Lot, kept, deletion, marks, spaced, requoted, ident_lot, path_lot, modify_lot, move_lot, word_lot, lot_of, is_early}
 use Rattle.gx_adapt.specs.Streams.{adapted, stream_text, report_of}
@@ -117,5 +116,5 @@ stream_counted : report_of before ≡ record { identities = 1; deletions = 1; pa
 unfolding cut_at char_at unquote_within is_open source_of ident_lot path_lot modify_lot move_lot word_lot lot_of is_early
 stream_counted = refl
 
-text_spelled : stream_text (Line (codes "blob") ∷ Data (codes "a" ++ 10 ∷ []) ∷ Line [] ∷ []) ≡ text_of_lines (codes "blob" ∷ (codes "data " ++ decimal 2) ∷ codes "a" ∷ [] ∷ [] ∷ [])
+text_spelled : stream_text (Line (codes "blob") ∷ Data (codes "a" ++ 10 ∷ []) ∷ Line [] ∷ []) ≡ codes "blob" ++ 10 ∷ (codes "data " ++ decimal 2 ++ 10 ∷ 97 ∷ 10 ∷ 10 ∷ []) ++ 10 ∷ []
 text_spelled = refl

@@ -1,9 +1,10 @@
 //! A stream, adapted.
 
-ghost use Rattle.std.specs.Prelude.{◌≡◌, OnOk};
+ghost use Rattle.std.specs.Prelude.{◌≡◌, IfOk, OnOk};
 ghost use Rattle.gx_model.specs.Items.{Line, Data};
 ghost use Rattle.gx_model.specs.Export.{item_text};
-ghost use Rattle.gx_adapt.specs.Streams.{items_in, stream_text};
+ghost use Rattle.gx_stream.specs.Reading.{item_of};
+ghost use Rattle.gx_adapt.specs.Streams.{is_reset, items_in, stream_text};
 ghost use Rattle.gx_adapt.specs.Adapting.{AdaptsFrom, IsReadAgain, HasRoom, Puts, PutsIf, with_item};
 
 use crate::fault::AdaptFault;
@@ -42,15 +43,31 @@ pub fn adapt<R: Source + Drop, W: Sink, A: Allocator + Copy>(
             Ok(None) => return Ok(report),
             Ok(Some(item)) => item,
         };
-        match item {
-            Item::Line(line) => {
-                send_line(&mut text, sink, &mut report, after_reset, line)?;
-                after_reset = is_reset_line(line);
-            }
-            Item::Data(bytes) => {
-                send_block(&mut text, sink, bytes)?;
-                after_reset = false;
-            }
+        after_reset = send_item(&mut text, sink, &mut report, after_reset, item)?;
+    }
+}
+
+/// Sends what stands in the place of an item, and counts that. Answers whether the item is a reset.
+fn send_item<W: Sink, A: Allocator + Copy>(
+    text: &mut Vec<u8, A>,
+    sink: &mut W,
+    report: &mut Report,
+    after_reset: bool,
+    item: Item<'_>,
+) -> Result<bool, AdaptFault>
+    requires room { HasRoom report.old }
+    ensures reset { IfOk result (λ resets. resets ≡ is_reset (item_of item.entry)) }
+    ensures sends { PutsIf (stream_text (items_in after_reset (item_of item.entry))) (W.taken sink.old) (W.taken sink.new) result }
+    ensures counts { OnOk result (report.new ≡ with_item after_reset (item_of item.entry) report.old) }
+{
+    match item {
+        Item::Line(line) => {
+            send_line(text, sink, report, after_reset, line)?;
+            Ok(is_reset_line(line))
+        }
+        Item::Data(bytes) => {
+            send_block(text, sink, bytes)?;
+            Ok(false)
         }
     }
 }
@@ -65,7 +82,7 @@ fn send_line<W: Sink, A: Allocator + Copy>(
 ) -> Result<(), AdaptFault>
     requires room { HasRoom report.old }
     ensures sends { PutsIf (stream_text (items_in after_reset (Line line.now))) (W.taken sink.old) (W.taken sink.new) result }
-    ensures counts { OnOk result (report.new ≡ with_item (record { after_reset = after_reset; item = Line line.now }) report.old) }
+    ensures counts { OnOk result (report.new ≡ with_item after_reset (Line line.now) report.old) }
 {
     let lot = lot_of(after_reset, line);
     text.clear();

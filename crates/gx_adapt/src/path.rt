@@ -32,7 +32,9 @@ pub(crate) fn source_of(bytes: &[u8]) -> Option<(&[u8], &[u8])>
     ensures { option_map (λ p. (p.0.now, p.1.now)) result ≡ source_of bytes.now }
 {
     match after_quoted(bytes) {
-        Some([b' ', rest @ ..]) => Some((&bytes[..bytes.len() - (rest.len() + 1)], rest)),
+        Some(rest) if rest.starts_with(b" ") => {
+            Some((&bytes[..bytes.len() - rest.len()], &rest[1..]))
+        }
         _ => cut(bytes, b' '),
     }
 }

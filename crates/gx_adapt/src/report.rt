@@ -44,7 +44,7 @@ impl Report {
     /// Counts a line, of which this becomes.
     pub(crate) fn add(&mut self, line: &[u8], lot: Lot<'_>)
         requires room { HasRoom self.old }
-        ensures added { (after_reset : Bool) → lot_of after_reset line.now ≡ lot_seen lot.entry → self.new ≡ with_item (record { after_reset = after_reset; item = Line line.now }) self.old }
+        ensures added { (after_reset : Bool) → lot_of after_reset line.now ≡ lot_seen lot.entry → self.new ≡ with_item after_reset (Line line.now) self.old }
     {
         match lot {
             Lot::Kept => {}

@@ -1,7 +1,10 @@
 -- What a sink took of texts that were sent one after the other.
-use Rattle.std.proofs.Common.{◌≡◌, ℕ, true, sym, ap, ◌∙◌, arith, [], ◌++◌, take, drop, append_assoc, append-nil, Option, None, Some, Result, Ok, Err}
+use Rattle.std.proofs.Common.{◌≡◌, ℕ, true, sym, ap, ◌∙◌, arith, [], ◌∷◌, ◌++◌, length, codes, subst, take, drop, append_assoc, append-nil, Option, None, Some, Result, Ok, Err}
 use Rattle.std.proofs.lemmas.List.{take-append-drop, length-drop, length-append}
 use Rattle.gx_model.specs.Texts.{Bytes}
+use Rattle.std.specs.Fmt.{decimal}
+use Rattle.gx_model.specs.Items.{Data}
+use Rattle.gx_model.specs.Export.{item_text}
 use Rattle.gx_adapt.specs.Adapting.{Puts, PutsIf}
 use Rattle.gx_adapt.specs.declared.fault.AdaptFault.{AdaptFault}
 use Rattle.gx_adapt.specs.declared.fault.AdaptFault.TheVariants.{OutOfMemory, ReadFailed, WriteFailed, TruncatedData, BadNumber}
@@ -69,7 +72,7 @@ puts_both was mid now before text (Err TruncatedData) h k = absurd k
 puts_both was mid now before text (Err BadNumber) h k = absurd k
 
 -- where the first isn't sent
-pub puts_first : (was now : Option Taken) (text more : Bytes) (fault : AdaptFault) → Puts text was now (Err fault) → Puts (text ++ more) was now (Err fault)
+pub puts_first : (was now : Option Taken) (text more : Bytes) (fault : AdaptFault) → Puts {A = Unit {0}} text was now (Err fault) → Puts {A = Unit {0}} (text ++ more) was now (Err fault)
 puts_first was now text more WriteFailed h = failed_before was now text more h
 puts_first was now text more OutOfMemory h = absurd h
 puts_first was now text more ReadFailed h = absurd h
@@ -84,3 +87,24 @@ puts_if was now text (Err OutOfMemory) h = absurd h
 puts_if was now text (Err ReadFailed) h = absurd h
 puts_if was now text (Err TruncatedData) h = absurd h
 puts_if was now text (Err BadNumber) h = absurd h
+
+-- ---- a block, in three parts
+
+-- the line that announces it
+abbrev pub announcement : Bytes → Bytes
+announcement x = codes "data " ++ decimal (length x) ++ 10 ∷ []
+
+block_text : (x : Bytes) → announcement x ++ (x ++ 10 ∷ []) ≡ item_text (Data x)
+block_text x = simp append_assoc
+
+as_block : (was now : Option Taken) (x : Bytes) (r : Result (Unit {0}) AdaptFault) → Puts (announcement x ++ (x ++ 10 ∷ [])) was now r → PutsIf (item_text (Data x)) was now r
+as_block was now x r h = puts_if was now (item_text (Data x)) r (subst (λ t. Puts t was now r) (block_text x) h)
+
+pub block_first : (was now : Option Taken) (x : Bytes) (fault : AdaptFault) → Puts {A = Unit {0}} (announcement x) was now (Err fault) → PutsIf {A = Unit {0}} (item_text (Data x)) was now (Err fault)
+block_first was now x fault h = as_block was now x (Err fault) (puts_first was now (announcement x) (x ++ 10 ∷ []) fault h)
+
+pub block_second : (was mid now : Option Taken) (x : Bytes) (fault : AdaptFault) → Took was mid (announcement x) → Puts {A = Unit {0}} x mid now (Err fault) → PutsIf {A = Unit {0}} (item_text (Data x)) was now (Err fault)
+block_second was mid now x fault h k = as_block was now x (Err fault) (puts_both was mid now (announcement x) (x ++ 10 ∷ []) (Err fault) h (puts_first mid now x (10 ∷ []) fault k))
+
+pub block_whole : (was mid end now : Option Taken) (x : Bytes) (r : Result (Unit {0}) AdaptFault) → Took was mid (announcement x) → Took mid end x → Puts (10 ∷ []) end now r → PutsIf (item_text (Data x)) was now r
+block_whole was mid end now x r h k l = as_block was now x r (puts_both was mid now (announcement x) (x ++ 10 ∷ []) r h (puts_both mid end now x (10 ∷ []) r k l))

@@ -43,7 +43,10 @@ pub fn adapt<R: Source + Drop, W: Sink, A: Allocator + Copy>(
             Ok(None) => return Ok(report),
             Ok(Some(item)) => item,
         };
-        after_reset = send_item(&mut text, sink, &mut report, after_reset, item)?;
+        match send_item(&mut text, sink, &mut report, after_reset, item) {
+            Err(fault) => return Err(fault),
+            Ok(resets) => after_reset = resets,
+        }
     }
 }
 
@@ -62,13 +65,15 @@ fn send_item<W: Sink, A: Allocator + Copy>(
 {
     match item {
         Item::Line(line) => {
-            send_line(text, sink, report, after_reset, line)?;
-            Ok(is_reset_line(line))
+            match send_line(text, sink, report, after_reset, line) {
+                Ok(()) => Ok(is_reset_line(line)),
+                Err(fault) => Err(fault),
+            }
         }
-        Item::Data(bytes) => {
-            send_block(text, sink, bytes)?;
-            Ok(false)
-        }
+        Item::Data(bytes) => match send_block(text, sink, bytes) {
+            Ok(()) => Ok(false),
+            Err(fault) => Err(fault),
+        },
     }
 }
 
@@ -87,7 +92,9 @@ fn send_line<W: Sink, A: Allocator + Copy>(
     let lot = lot_of(after_reset, line);
     text.clear();
     put_line(text, line, lot)?;
-    send_all(sink, text)?;
+    if let Err(fault) = send_all(sink, text) {
+        return Err(fault);
+    }
     report.add(line, lot);
     Ok(())
 }
@@ -102,8 +109,12 @@ fn send_block<W: Sink, A: Allocator + Copy>(
 {
     text.clear();
     put_announcement(text, bytes.len())?;
-    send_all(sink, text)?;
-    send_all(sink, bytes)?;
+    if let Err(fault) = send_all(sink, text) {
+        return Err(fault);
+    }
+    if let Err(fault) = send_all(sink, bytes) {
+        return Err(fault);
+    }
     send_all(sink, b"\n")
 }
 

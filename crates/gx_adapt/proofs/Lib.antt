@@ -1,3 +1,6 @@
 pub mod SentTexts
 pub mod Quoted
 pub mod QuotedPaths
+pub mod Counts
+pub mod Progress
+pub mod Readable

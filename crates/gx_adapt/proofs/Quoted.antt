@@ -1,12 +1,12 @@
 -- What follows a quoted text, found byte by byte.
-use Rattle.std.proofs.Common.{◌≡◌, ℕ, suc, ◌+◌, ◌-◌, ◌<◌, ◌≤◌, Bool, true, false, [], ◌∷◌, Option, Some, None, refl, sym, ap, subst, ◌∙◌, arith, length}
+use Rattle.std.proofs.Common.{◌≡◌, ℕ, suc, ◌+◌, ◌-◌, ◌<◌, ◌≤◌, Bool, true, false, ◌∷◌, Option, Some, None, refl, sym, ap, subst, ◌∙◌, arith, length}
 use Rattle.std.specs.Prelude.{is_none}
 use Rattle.std.specs.Option.{option_map}
 use Rattle.std.proofs.lemmas.Bool.{false≢true}
 use Rattle.std.proofs.lemmas.List.{length-append}
 use Rattle.gx_model.specs.Texts.{Bytes}
 use Rattle.gx_adapt.specs.Paths.{after_quoted}
-use Rattle.gx_model.specs.Paths.{char_at, unquote_within, unquote, is_itself, WritesByte, WritesText, as_itself, by_letter, writes_none, writes_more, path_of, with_rest, quoted_of, path_at}
+use Rattle.gx_model.specs.Paths.{char_at, unquote_within, unquote}
 use Rattle.gx_model.proofs.Cuts.{some_is, map_some}
 use Rattle.gx_model.proofs.Quotes.{quoted_text_tells}
 

@@ -1,7 +1,7 @@
 -- A path in quotes is read as the path of the text between them.
-use Rattle.std.proofs.Common.{◌≡◌, ℕ, Bool, true, false, cond, not, ◌||◌, [], ◌∷◌, ◌++◌, length, nat_eq, Some, Result, Ok, Err, refl, sym, ap, subst, ◌∙◌}
+use Rattle.std.proofs.Common.{◌≡◌, ℕ, Bool, true, false, cond, not, ◌||◌, [], ◌∷◌, ◌++◌, length, nat_eq, Some, Result, Ok, Err, refl, sym, ap, subst, append_assoc}
 use Rattle.std.specs.Prelude.{◌==◌}
-use Rattle.std.specs.List.{list_all, flat_map}
+use Rattle.std.specs.List.{flat_map}
 use Rattle.std.proofs.lemmas.Bool.{eqb-true, not-true}
 use Rattle.std.proofs.lemmas.List.Concat.{flat_map-cons}
 use Rattle.gx_model.specs.declared.faults.Fault.{Fault}
@@ -9,12 +9,12 @@ use Rattle.gx_model.specs.declared.faults.Fault.TheVariants as faults
 use Rattle.gx_model.specs.Faults.{◌>>=◌}
 use Rattle.gx_model.specs.Texts.{Bytes, is_line, lacks}
 use Rattle.gx_model.specs.Paths.{Path, named, WritesByte, as_itself, by_letter, WritesText, writes_none, writes_more, path_of, path_at, quoted_of, with_rest}
-use Rattle.gx_model.specs.Grammar.{last_path}
+use Rattle.gx_model.specs.Grammar.{last_path, source_path, after_space}
 use Rattle.gx_model.proofs.Cuts.{lacks-cons}
 use Rattle.gx_model.proofs.Idents.{and_one, and_two}
 use Rattle.gx_model.proofs.Quotes.{quoted_text_tells}
 use Rattle.gx_adapt.specs.Paths.{escaped, quoted}
-use Rattle.gx_adapt.specs.Laws.{QuotedPathsAreKept}
+use Rattle.gx_adapt.specs.Laws.{QuotedPathsAreKept, QuotedSourcesAreKept}
 
 writes_one : (b : ℕ) → nat_eq b 10 ≡ false → nat_eq b 0 ≡ false → WritesByte (escaped b) b
 writes_one b lf nul = by (b == 34) refl (b == 92) refl where
@@ -41,3 +41,17 @@ ended (Err e) = refl
 pub quoted_kept : QuotedPathsAreKept
 unfolding last_path
 quoted_kept text h k = rw (quoted_read text h k) (ended (path_of text))
+
+-- ---- a source, and a space behind it
+
+source_read : (text rest : Bytes) → is_line text ≡ true → lacks 0 text ≡ true → quoted_of (quoted text ++ 32 ∷ rest) ≡ path_at (Some (text, 32 ∷ rest))
+unfolding quoted_of
+source_read text rest h k = ap path_at ((quoted_text_tells (quoted text ++ 32 ∷ rest) text (32 ∷ rest)).1 (record { body = flat_map escaped text; spelled = ap (λ t. 34 ∷ t) (append_assoc (flat_map escaped text) (34 ∷ []) (32 ∷ rest)); writes = writes_all text h k }))
+
+spaced_source : (r : Result Path Fault) (rest : Bytes) → (with_rest (32 ∷ rest) r >>= λ p. after_space p.0 p.1) ≡ (r >>= λ p. Ok (p, rest))
+spaced_source (Ok p) rest = refl
+spaced_source (Err e) rest = refl
+
+pub source_kept : QuotedSourcesAreKept
+unfolding source_path
+source_kept text rest h k = rw (source_read text rest h k) (spaced_source (path_of text) rest)

@@ -108,3 +108,7 @@ block_second was mid now x fault h k = as_block was now x (Err fault) (puts_both
 
 pub block_whole : (was mid end now : Option Taken) (x : Bytes) (r : Result (Unit {0}) AdaptFault) → Took was mid (announcement x) → Took mid end x → Puts (10 ∷ []) end now r → PutsIf (item_text (Data x)) was now r
 block_whole was mid end now x r h k l = as_block was now x r (puts_both was mid now (announcement x) (x ++ 10 ∷ []) r h (puts_both mid end now x (10 ∷ []) r k l))
+
+-- what a buffer holds that was empty
+pub filled : (seen held before x : Bytes) → seen ≡ held → held ≡ before ++ x → before ≡ [] → seen ≡ x
+filled seen held before x e f g = e ∙ f ∙ ap (λ t. t ++ x) g

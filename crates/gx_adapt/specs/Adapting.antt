@@ -4,13 +4,12 @@ use Rattle.gx_model.specs.declared.faults.Fault.TheVariants as model
 use Rattle.gx_model.specs.Texts.{Bytes}
 use Rattle.gx_model.specs.Items.{Item, End, Finished, Failed, Stream}
 use Rattle.gx_text.specs.Devices.{Coming, Taken, Took, FailedWithin}
-use Rattle.gx_stream.specs.Heard.{items_from}
 use Rattle.gx_stream.specs.Faults.{fault_of}
 use Rattle.gx_stream.specs.declared.fault.StreamFault.{StreamFault}
 use Rattle.gx_stream.specs.declared.fault.StreamFault.TheVariants as stream
 use Rattle.gx_adapt.specs.Paths.{quoted, anew}
 use Rattle.gx_adapt.specs.Lines as lines
-use Rattle.gx_adapt.specs.Streams.{lot_in, adapted, stream_text, is_spaced, is_deletion, is_requoted, is_marks, on_line, report_of}
+use Rattle.gx_adapt.specs.Streams.{adapted, stream_text, is_spaced, is_deletion, is_requoted, is_marks, on_line, report_of}
 use Rattle.gx_adapt.specs.Laws.{IsReadAdapted}
 use Rattle.gx_adapt.specs.declared.fault.AdaptFault.{AdaptFault}
 use Rattle.gx_adapt.specs.declared.fault.AdaptFault.TheVariants.{OutOfMemory, ReadFailed, WriteFailed, TruncatedData, BadNumber}
@@ -48,10 +47,10 @@ Adapts s was is (Err BadNumber) = EndsWith s (Failed model.BadNumber) was is
 Adapts s was is (Err OutOfMemory) = (front : List Item) × (rest : List Item) × (s.items ≡ front ++ rest) × Took was is (text_for front)
 Adapts s was is (Err WriteFailed) = FailedWithin was is (text_for s.items)
 
--- the same of what a source gives. Where it tells nothing, of some items with their end
-abbrev pub AdaptsFrom : Option Coming → Option Taken → Option Taken → Result Report AdaptFault → Type 0
+-- the same of a source's items; where it tells nothing, of some items with their end
+abbrev pub AdaptsFrom : Option Stream → Option Taken → Option Taken → Result Report AdaptFault → Type 0
 AdaptsFrom None was is r = (s : Stream) × IsEnd s.end × Adapts s was is r
-AdaptsFrom (Some c) was is r = Adapts (items_from c) was is r
+AdaptsFrom (Some s) was is r = Adapts s was is r
 
 -- what went out is read as these items again
 abbrev pub IsReadAgain : Option Coming → Type 0
@@ -74,13 +73,13 @@ lot_seen (Move word source destination) = lines.requoted (word.now ++ 32 ∷ ane
 abbrev pub one_if : Bool → ℕ → ℕ
 one_if holds n = if holds then n + 1 else n
 
--- an item counted
-abbrev pub with_item : Bool → Item → Report → Report
-with_item after_reset item r = record {
-  identities = one_if (is_spaced (lot_in after_reset item)) r.identities;
-  deletions = one_if (is_deletion (lot_in after_reset item)) r.deletions;
-  paths = one_if (is_requoted (lot_in after_reset item)) r.paths;
-  marks = one_if (is_marks (lot_in after_reset item)) r.marks;
+-- an item counted, of which this becomes
+abbrev pub counted : lines.Lot → Item → Report → Report
+counted lot item r = record {
+  identities = one_if (is_spaced lot) r.identities;
+  deletions = one_if (is_deletion lot) r.deletions;
+  paths = one_if (is_requoted lot) r.paths;
+  marks = one_if (is_marks lot) r.marks;
   notes = one_if (on_line lines.is_note item) r.notes;
   early_dates = one_if (on_line lines.is_early item) r.early_dates;
 }

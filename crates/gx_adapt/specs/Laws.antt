@@ -1,9 +1,10 @@
 -- What holds of every adapted stream.
-use Rattle.std.specs.Prelude.{◌≡◌, true, false}
+use Rattle.std.specs.Prelude.{◌≡◌, true, false, ◌∷◌, ◌++◌, Ok}
 use Rattle.gx_model.specs.Texts.{Bytes, is_line, lacks}
+use Rattle.gx_model.specs.Faults.{◌>>=◌}
 use Rattle.gx_model.specs.Items.{Finished, items_of}
 use Rattle.gx_model.specs.Paths.{path_of}
-use Rattle.gx_model.specs.Grammar.{last_path}
+use Rattle.gx_model.specs.Grammar.{last_path, source_path}
 use Rattle.gx_text.specs.Devices.{Coming}
 use Rattle.gx_stream.specs.Heard.{items_from}
 use Rattle.gx_adapt.specs.Paths.{quoted}
@@ -16,3 +17,7 @@ IsReadAdapted c = items_of (stream_text (adapted (items_from c).items)) false �
 -- a path in quotes is read as the path of the text between them. Only a NUL can't stand there, nor in any path
 abbrev pub QuotedPathsAreKept : Type 0
 QuotedPathsAreKept = (path : Bytes) → is_line path ≡ true → lacks 0 path ≡ true → last_path (quoted path) ≡ path_of path
+
+-- and so is the source of a copy or a rename
+abbrev pub QuotedSourcesAreKept : Type 0
+QuotedSourcesAreKept = (path rest : Bytes) → is_line path ≡ true → lacks 0 path ≡ true → source_path (quoted path ++ 32 ∷ rest) ≡ (path_of path >>= λ p. Ok (p, rest))

@@ -1,13 +1,12 @@
 -- Worked lines and streams: what becomes of them. Each row holds by computing.
 use Rattle.std.specs.Prelude.{◌≡◌, Bool, true, false, List, [], ◌∷◌, ◌++◌, map, codes, refl}
-use Rattle.std.specs.Fmt.{decimal}
 use Rattle.gx_model.specs.Texts.{Bytes, cut_at}
 use Rattle.gx_model.specs.Paths.{char_at, unquote_within, path_of, quoted_of}
 use Rattle.gx_model.specs.Grammar.{last_path}
 use Rattle.gx_model.specs.Items.{Item, Line, Data}
 use Rattle.gx_adapt.specs.Paths.{quoted, is_open, source_of}
 use Rattle.gx_adapt.specs.Lines.{Lot, kept, deletion, marks, spaced, requoted, ident_lot, path_lot, modify_lot, move_lot, word_lot, lot_of, is_early}
-use Rattle.gx_adapt.specs.Streams.{adapted, stream_text, report_of}
+use Rattle.gx_adapt.specs.Streams.{adapted, report_of}
 
 -- ---- lines
 
@@ -115,6 +114,3 @@ stream_adapted = refl
 stream_counted : report_of before ≡ record { identities = 1; deletions = 1; paths = 1; marks = 1; notes = 1; early_dates = 1 }
 unfolding cut_at char_at unquote_within is_open source_of ident_lot path_lot modify_lot move_lot word_lot lot_of is_early
 stream_counted = refl
-
-text_spelled : stream_text (Line (codes "blob") ∷ Data (codes "a" ++ 10 ∷ []) ∷ Line [] ∷ []) ≡ codes "blob" ++ 10 ∷ (codes "data " ++ decimal 2 ++ 10 ∷ 97 ∷ 10 ∷ 10 ∷ []) ++ 10 ∷ []
-text_spelled = refl

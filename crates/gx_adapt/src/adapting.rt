@@ -1,11 +1,14 @@
 //! A stream, adapted.
 
 ghost use Rattle.std.specs.Prelude.{◌≡◌, IfOk, OnOk};
+ghost use Rattle.std.specs.Option.{option_map};
 ghost use Rattle.gx_model.specs.Items.{Line, Data};
 ghost use Rattle.gx_model.specs.Export.{item_text};
+ghost use Rattle.gx_stream.specs.Heard.{items_from};
 ghost use Rattle.gx_stream.specs.Reading.{item_of};
-ghost use Rattle.gx_adapt.specs.Streams.{is_reset, items_in, stream_text};
-ghost use Rattle.gx_adapt.specs.Adapting.{AdaptsFrom, IsReadAgain, HasRoom, Puts, PutsIf, with_item};
+ghost use Rattle.gx_adapt.specs.Lines.{lot_of};
+ghost use Rattle.gx_adapt.specs.Streams.{is_reset, items_in, lot_in, stream_text};
+ghost use Rattle.gx_adapt.specs.Adapting.{AdaptsFrom, IsReadAgain, HasRoom, Puts, PutsIf, counted};
 
 use crate::fault::AdaptFault;
 use crate::lot::{is_reset_line, lot_of};
@@ -30,7 +33,7 @@ pub fn adapt<R: Source + Drop, W: Sink, A: Allocator + Copy>(
     source: R,
     sink: &mut W,
 ) -> Result<Report, AdaptFault>
-    ensures adapts { AdaptsFrom (R.coming source) (W.taken sink.old) (W.taken sink.new) result }
+    ensures adapts { AdaptsFrom (option_map items_from (R.coming source)) (W.taken sink.old) (W.taken sink.new) result }
     ensures again { OnOk result (IsReadAgain (R.coming source)) }
 {
     let mut reader = ItemReader::new(alloc, source);
@@ -61,7 +64,7 @@ fn send_item<W: Sink, A: Allocator + Copy>(
     requires room { HasRoom report.old }
     ensures reset { IfOk result (λ resets. resets ≡ is_reset (item_of item.entry)) }
     ensures sends { PutsIf (stream_text (items_in after_reset (item_of item.entry))) (W.taken sink.old) (W.taken sink.new) result }
-    ensures counts { OnOk result (report.new ≡ with_item after_reset (item_of item.entry) report.old) }
+    ensures counts { OnOk result (report.new ≡ counted (lot_in after_reset (item_of item.entry)) (item_of item.entry) report.old) }
 {
     match item {
         Item::Line(line) => {
@@ -87,7 +90,7 @@ fn send_line<W: Sink, A: Allocator + Copy>(
 ) -> Result<(), AdaptFault>
     requires room { HasRoom report.old }
     ensures sends { PutsIf (stream_text (items_in after_reset (Line line.now))) (W.taken sink.old) (W.taken sink.new) result }
-    ensures counts { OnOk result (report.new ≡ with_item after_reset (Line line.now) report.old) }
+    ensures counts { OnOk result (report.new ≡ counted (lot_of after_reset line.now) (Line line.now) report.old) }
 {
     let lot = lot_of(after_reset, line);
     text.clear();

@@ -71,9 +71,7 @@ fn is_of_marks(line: &[u8]) -> bool
 pub(crate) fn is_ident_word(word: &[u8]) -> bool
     ensures { result ≡ is_ident_word word.now }
 {
-    word == b"author".as_slice()
-        || word == b"committer".as_slice()
-        || word == b"tagger".as_slice()
+    word == b"author".as_slice() || word == b"committer".as_slice() || word == b"tagger".as_slice()
 }
 
 fn is_move_word(word: &[u8]) -> bool

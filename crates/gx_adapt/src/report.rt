@@ -1,10 +1,10 @@
 //! What was changed in a stream.
 
-ghost use Rattle.std.specs.Prelude.{ℕ, ◌≡◌, ◌<◌, ◌^◌, Bool};
+ghost use Rattle.std.specs.Prelude.{◌≡◌};
 ghost use Rattle.gx_model.specs.Texts.{cut_at};
 ghost use Rattle.gx_model.specs.Items.{Line};
-ghost use Rattle.gx_adapt.specs.Lines.{lot_of, is_early, has_minus};
-ghost use Rattle.gx_adapt.specs.Adapting.{lot_seen, one_if, with_item, HasRoom};
+ghost use Rattle.gx_adapt.specs.Lines.{is_early, has_minus};
+ghost use Rattle.gx_adapt.specs.Adapting.{lot_seen, counted, HasRoom};
 
 use crate::lot::{Lot, is_ident_word};
 use gx_text::cut;
@@ -44,7 +44,7 @@ impl Report {
     /// Counts a line, of which this becomes.
     pub(crate) fn add(&mut self, line: &[u8], lot: Lot<'_>)
         requires room { HasRoom self.old }
-        ensures added { (after_reset : Bool) → lot_of after_reset line.now ≡ lot_seen lot.entry → self.new ≡ with_item after_reset (Line line.now) self.old }
+        ensures added { self.new ≡ counted (lot_seen lot.entry) (Line line.now) self.old }
     {
         match lot {
             Lot::Kept => {}

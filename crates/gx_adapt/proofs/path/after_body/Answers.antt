@@ -1,4 +1,4 @@
-use Rattle.std.proofs.Common.{◌≡◌, Bool, Some, ap, sym, length, arith}
+use Rattle.std.proofs.Common.{◌≡◌, Some, ap, sym, length, arith}
 use Rattle.gx_adapt.proofs.Quoted.{rest_within, seen_char, char_stops, char_closes, char_goes_on, char_ends}
 use Rattle.gx_adapt.proofs.path.after_body.Goals as goal
 

@@ -1,0 +1,133 @@
+-- Adapting a stream, so far.
+use Rattle.std.proofs.Common.{◌≡◌, ℕ, ◌+◌, ◌-◌, ◌<◌, ◌≤◌, ◌^◌, Bool, false, ◌⊎◌, inl, inr, Option, Some, None, Ok, Err, List, [], ◌∷◌, ◌++◌, length, refl, sym, ap, subst, ◌∙◌, arith, append_assoc, append-nil}
+use Rattle.std.proofs.lemmas.List.{length_push}
+use Rattle.gx_model.specs.Items.{Item as ModelItem, Stream, End, Finished, Failed, then_comes}
+use Rattle.gx_text.specs.Devices.{Taken, Took, FailedWithin}
+use Rattle.gx_stream.specs.declared.item.Item.{Item}
+use Rattle.gx_stream.specs.declared.fault.StreamFault.{StreamFault}
+use Rattle.gx_stream.specs.declared.fault.StreamFault.TheVariants as stream
+use Rattle.gx_stream.specs.Faults.{fault_of, ended}
+use Rattle.gx_stream.specs.Reading.{Reads, item_of}
+use Rattle.gx_adapt.specs.Lines as lines
+use Rattle.gx_adapt.specs.Streams.{lot_in, lot_at, is_reset, items_in, stream_text, is_spaced, is_deletion, is_requoted, is_marks, on_line, report_of}
+use Rattle.gx_adapt.specs.Adapting.{text_for, Adapts, AdaptsFrom, HasRoom, PutsIf, of_stream, counted}
+use Rattle.gx_adapt.specs.declared.fault.AdaptFault.{AdaptFault}
+use Rattle.gx_adapt.specs.declared.fault.AdaptFault.TheVariants as faults
+use Rattle.gx_adapt.specs.declared.report.Report.{Report}
+use Rattle.gx_adapt.proofs.SentTexts.{took_nothing, took_both, failed_after, failed_before}
+use Rattle.gx_adapt.proofs.Counts.{after_of, after-push, text_behind, text-push, text-within, many-few, report-push}
+
+-- items that came, and what comes after them
+abbrev pub after : List ModelItem → Stream → Stream
+after came left = record { items = came ++ left.items; end = left.end }
+
+-- these items came, and then what is left
+abbrev pub Goes : Option Stream → Option Stream → List ModelItem → Type 0
+Goes None now front = Unit {0}
+Goes (Some r) now front = (left : Stream) × (now ≡ Some left) × (r ≡ after front left)
+
+pub record Progress (start now : Option Stream) (after_reset : Bool) (was is : Option Taken) (report : Report) (most : ℕ) : Type 0 where
+  pub front : List ModelItem
+  pub goes : Goes start now front
+  pub reset : after_reset ≡ after_of false front
+  pub wrote : Took was is (text_for front)
+  pub counted : report ≡ report_of front
+  pub few : length front + most ≤ 2 ^ 63 - 1
+
+Goes-none : (start now : Option Stream) → now ≡ start → Goes start now []
+Goes-none None now e = tt
+Goes-none (Some r) now e = (r, e, refl)
+
+pub Progress-none : (start now : Option Stream) (was : Option Taken) (report : Report) (most : ℕ) → now ≡ start → report ≡ report_of [] → most ≤ 2 ^ 63 - 1 → Progress start now false was was report most
+Progress-none start now was report most e r m =
+    record { front = []; goes = Goes-none start now e; reset = refl; wrote = took_nothing was; counted = r; few = omega (arith, m) }
+
+Goes-item : (start now new : Option Stream) (front : List ModelItem) (item : Item) → Goes start now front → Reads now new (Ok (Some item)) → Goes start new (front ++ item_of item ∷ [])
+Goes-item None now new front item g r = tt
+Goes-item (Some s) now new front item g r =
+    let t = rw g.1 at r in
+    (t.0, t.2, g.2 ∙ ap (after front) t.1 ∙ ap (λ is. record { items = is; end = t.0.end }) (sym (append_assoc front (item_of item ∷ []) t.0.items)))
+
+pub Progress-item : (start now new : Option Stream) (after_reset resets : Bool) (was is out : Option Taken) (report new_report : Report) (most left : ℕ) (item : Item) → resets ≡ is_reset (item_of item) → new_report ≡ counted (lot_in after_reset (item_of item)) (item_of item) report → left < most
+    → Took is out (stream_text (items_in after_reset (item_of item))) → Progress start now after_reset was is report most → Reads now new (Ok (Some item)) → Progress start new resets was out new_report left
+Progress-item start now new after_reset resets was is out report new_report most left item e c m s p r =
+    let i = item_of item in
+    let sent = subst (λ b. Took is out (stream_text (items_in b i))) p.reset s in
+    let count = c ∙ ap (λ b. counted (lot_in b i) i report) p.reset ∙ ap (counted (lot_in (after_of false p.front) i) i) p.counted in
+    record {
+      front = p.front ++ i ∷ [];
+      goes = Goes-item start now new p.front item p.goes r;
+      reset = e ∙ sym (after-push false p.front i);
+      wrote = subst (Took was out) (sym (text-push p.front i)) (took_both was is out (text_for p.front) (stream_text (items_in (after_of false p.front) i)) p.wrote sent);
+      counted = count ∙ sym (report-push p.front i);
+      few = omega (arith, m, p.few, length_push p.front i);
+    }
+
+-- ---- there is room
+
+pub Progress-room : (start now : Option Stream) (after_reset : Bool) (was is : Option Taken) (report : Report) (most : ℕ) → Progress start now after_reset was is report most → HasRoom report
+Progress-room start now after_reset was is report most p = subst HasRoom (sym p.counted) (record {
+  identities = omega (arith, p.few, many-few (λ q. is_spaced (lot_at q)) p.front);
+  deletions = omega (arith, p.few, many-few (λ q. is_deletion (lot_at q)) p.front);
+  paths = omega (arith, p.few, many-few (λ q. is_requoted (lot_at q)) p.front);
+  marks = omega (arith, p.few, many-few (λ q. is_marks (lot_at q)) p.front);
+  notes = omega (arith, p.few, many-few (λ q. on_line lines.is_note q.item) p.front);
+  early_dates = omega (arith, p.few, many-few (λ q. on_line lines.is_early q.item) p.front);
+})
+
+-- ---- the end of the items
+
+-- the items that came are all
+whole : (s left : Stream) (front : List ModelItem) (e : End) → s ≡ after front left → left ≡ ended e → s ≡ record { items = front; end = e }
+whole s left front e g h = g ∙ ap (after front) h ∙ ap (λ is. record { items = is; end = e }) (append-nil front)
+
+pub Adapts-end : (start now new : Option Stream) (after_reset : Bool) (was is : Option Taken) (report : Report) (most : ℕ) → Progress start now after_reset was is report most → Reads now new (Ok None) → AdaptsFrom start was is (Ok report)
+Adapts-end None now new after_reset was is report most p r = (record { items = p.front; end = Finished }, tt, (p.counted, (refl, p.wrote)))
+Adapts-end (Some s) now new after_reset was is report most p r =
+    let t = rw p.goes.1 at r in
+    subst (λ s. Adapts s was is (Ok report)) (sym (whole s p.goes.0 p.front Finished p.goes.2 t.0)) (p.counted, (refl, p.wrote))
+
+fault_at : (front : List ModelItem) (was is : Option Taken) (f : StreamFault) → Took was is (text_for front) → Adapts (record { items = front; end = Failed (fault_of f) }) was is (Err (of_stream f))
+fault_at front was is stream.OutOfMemory w = (front, [], sym (append-nil front), w)
+fault_at front was is stream.ReadFailed w = (refl, w)
+fault_at front was is stream.TruncatedData w = (refl, w)
+fault_at front was is stream.BadNumber w = (refl, w)
+
+no_memory : (s left : Stream) (front : List ModelItem) (was is : Option Taken) → s ≡ after front left → Took was is (text_for front) → Adapts s was is (Err faults.OutOfMemory)
+no_memory s left front was is g w = (front, left.items, ap (λ (t : Stream). t.items) g, w)
+
+fault_case : (s left : Stream) (front : List ModelItem) (was is : Option Taken) (f : StreamFault) → s ≡ after front left → Took was is (text_for front) → (f ≡ stream.OutOfMemory) ⊎ (left ≡ ended (Failed (fault_of f))) → Adapts s was is (Err (of_stream f))
+fault_case s left front was is f g w (inl e) = subst (λ f. Adapts s was is (Err (of_stream f))) (sym e) (no_memory s left front was is g w)
+fault_case s left front was is f g w (inr e) = subst (λ s. Adapts s was is (Err (of_stream f))) (sym (whole s left front (Failed (fault_of f)) g e)) (fault_at front was is f w)
+
+pub Adapts-fault : (start now new : Option Stream) (after_reset : Bool) (was is : Option Taken) (report : Report) (most : ℕ) (f : StreamFault) → Progress start now after_reset was is report most → Reads now new (Err f) → AdaptsFrom start was is (Err (of_stream f))
+Adapts-fault None now new after_reset was is report most f p r = (record { items = p.front; end = Failed (fault_of f) }, (f, refl), fault_at p.front was is f p.wrote)
+Adapts-fault (Some s) now new after_reset was is report most f p r =
+    let t = rw p.goes.1 at r in
+    fault_case s p.goes.0 p.front was is f p.goes.2 p.wrote t.1
+
+-- ---- an item that isn't sent
+
+failed_at : (was is out : Option Taken) (front : List ModelItem) (i : ModelItem) (more : List ModelItem) → Took was is (text_for front) → FailedWithin is out (stream_text (items_in (after_of false front) i)) → FailedWithin was out (text_for (front ++ i ∷ more))
+failed_at was is out front i more w f =
+    let here = stream_text (items_in (after_of false front) i) in
+    subst (FailedWithin was out) (sym (text-within front i more)) (failed_after was is out (text_for front) (here ++ text_behind (is_reset i) more) w (failed_before is out here (text_behind (is_reset i) more) f))
+
+-- where the item comes from
+unsent : (s left : Stream) (front : List ModelItem) (i : ModelItem) (was is out : Option Taken) (fault : AdaptFault) → s ≡ after front (then_comes i left) → Took was is (text_for front) → PutsIf {A = Bool} (stream_text (items_in (after_of false front) i)) is out (Err fault) → Adapts s was out (Err fault)
+unsent s left front i was is out faults.OutOfMemory g w f = (front, i ∷ left.items, ap (λ (t : Stream). t.items) g, subst (λ o. Took was o (text_for front)) (sym f) w)
+unsent s left front i was is out faults.WriteFailed g w f = subst (λ is. FailedWithin was out (text_for is)) (sym (ap (λ (t : Stream). t.items) g)) (failed_at was is out front i left.items w f)
+unsent s left front i was is out faults.ReadFailed g w f = absurd f
+unsent s left front i was is out faults.TruncatedData g w f = absurd f
+unsent s left front i was is out faults.BadNumber g w f = absurd f
+
+pub Adapts-unsent : (start now new : Option Stream) (after_reset : Bool) (was is out : Option Taken) (report : Report) (most : ℕ) (item : Item) (fault : AdaptFault) → PutsIf {A = Bool} (stream_text (items_in after_reset (item_of item))) is out (Err fault) → Progress start now after_reset was is report most → Reads now new (Ok (Some item))
+    → AdaptsFrom start was out (Err fault)
+Adapts-unsent None now new after_reset was is out report most item fault f p r =
+    let i = item_of item in
+    let s = after p.front (then_comes i (ended Finished)) in
+    (s, tt, unsent s (ended Finished) p.front i was is out fault refl p.wrote (subst (λ b. PutsIf {A = Bool} (stream_text (items_in b i)) is out (Err fault)) p.reset f))
+Adapts-unsent (Some s) now new after_reset was is out report most item fault f p r =
+    let i = item_of item in
+    let t = rw p.goes.1 at r in
+    unsent s t.0 p.front i was is out fault (p.goes.2 ∙ ap (after p.front) t.1) p.wrote (subst (λ b. PutsIf {A = Bool} (stream_text (items_in b i)) is out (Err fault)) p.reset f)

@@ -1,0 +1,101 @@
+use super::*;
+
+pub(super) const NOTHING: Report = Report {
+    identities: 0,
+    deletions: 0,
+    paths: 0,
+    marks: 0,
+    notes: 0,
+    early_dates: 0,
+};
+
+/// Streams of each kind of line, with what they are adapted to.
+pub(super) const STREAMS: &[Row] = &[
+    (
+        b"author <a> 1 +0000\ncommitter <a> 1 +0000\ntagger <a> 1 +0000\ncommitter  <a> 1 +0000\n",
+        b"author  <a> 1 +0000\ncommitter  <a> 1 +0000\ntagger  <a> 1 +0000\ncommitter  <a> 1 +0000\n",
+        Report {
+            identities: 3,
+            ..NOTHING
+        },
+    ),
+    (
+        b"reset refs/heads/a\n# deleted\nfrom 0000000000000000000000000000000000000000\n\nreset refs/heads/b\nfrom :1\n",
+        b"reset refs/heads/a\n\nreset refs/heads/b\nfrom :1\n",
+        Report {
+            deletions: 1,
+            ..NOTHING
+        },
+    ),
+    (
+        b"commit refs/heads/a\nfrom 0000000000000000000000000000000000000000\n",
+        b"commit refs/heads/a\nfrom 0000000000000000000000000000000000000000\n",
+        NOTHING,
+    ),
+    (
+        b"M 100644 :1 \"a\nM 100644 :1 \"a\" b\nM 100644 :1 \"\\351\"\nD \"a\\\nD a\"\n",
+        b"M 100644 :1 \"\\\"a\"\nM 100644 :1 \"\\\"a\\\" b\"\nM 100644 :1 \"\\351\"\nD \"\\\"a\\\\\"\nD a\"\n",
+        Report {
+            paths: 3,
+            ..NOTHING
+        },
+    ),
+    (
+        b"R \"a \"b c\nC \"a b\" \"c\nR \"a b\" c\nC a \"b\n",
+        b"R \"\\\"a\" \"\\\"b c\"\nC \"a b\" \"\\\"c\"\nR \"a b\" c\nC a \"\\\"b\"\n",
+        Report {
+            paths: 3,
+            ..NOTHING
+        },
+    ),
+    (
+        b"feature import-marks=m\nfeature export-marks=m\nfeature relative-marks\nfeature done\nget-mark :1\ndone\n",
+        b"feature done\ndone\n",
+        Report {
+            marks: 4,
+            ..NOTHING
+        },
+    ),
+    (
+        b"N :1 refs/heads/a\ncommitter <a> -1 +0000",
+        b"N :1 refs/heads/a\ncommitter  <a> -1 +0000\n",
+        Report {
+            identities: 1,
+            notes: 1,
+            early_dates: 1,
+            ..NOTHING
+        },
+    ),
+    (
+        b"data 19\nauthor <a> 1 +0000\ndata <<END\nD \"a\nEND\n",
+        b"data 19\nauthor <a> 1 +0000\n\ndata 5\nD \"a\n\n",
+        NOTHING,
+    ),
+    (b"", b"", NOTHING),
+    (MIXED, MIXED_ADAPTED, MIXED_REPORT),
+];
+
+/// Streams that end within a block, or with a faulty one.
+pub(super) const CUT: &[Cut] = &[
+    (
+        b"author <a> 1 +0000\ndata 5\nab",
+        b"author  <a> 1 +0000\n",
+        AdaptFault::TruncatedData,
+    ),
+    (b"blob\ndata x\n", b"blob\n", AdaptFault::BadNumber),
+];
+
+pub(super) const MIXED: &[u8] =
+    b"feature export-marks=m\nblob\nmark :1\ndata 19\nauthor <a> 1 +0000\ncommit refs/heads/a\nauthor <a> -1 +0000\ncommitter A <a> 1 +0000\ndata 2\n\"a\nM 100644 :1 \"a\n\nreset refs/heads/b\nfrom 0000000000000000000000000000000000000000\n\n";
+
+pub(super) const MIXED_ADAPTED: &[u8] =
+    b"blob\nmark :1\ndata 19\nauthor <a> 1 +0000\n\ncommit refs/heads/a\nauthor  <a> -1 +0000\ncommitter A <a> 1 +0000\ndata 2\n\"a\nM 100644 :1 \"\\\"a\"\n\nreset refs/heads/b\n\n";
+
+pub(super) const MIXED_REPORT: Report = Report {
+    identities: 1,
+    deletions: 1,
+    paths: 1,
+    marks: 1,
+    notes: 0,
+    early_dates: 1,
+};

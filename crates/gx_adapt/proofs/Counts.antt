@@ -2,9 +2,11 @@
 use Rattle.std.proofs.Common.{◌≡◌, ℕ, suc, ◌≤◌, Bool, true, false, if◌then◌else◌, List, [], ◌∷◌, ◌++◌, length, refl, sym, ap, ◌∙◌, arith, append-nil}
 use Rattle.std.specs.List.{flat_map, filter}
 use Rattle.std.proofs.lemmas.Grind.{flat_map-append}
-use Rattle.gx_model.specs.Items.{Item}
+use Rattle.gx_model.specs.Items.{Item, Line, Data}
 use Rattle.gx_model.specs.Export.{item_text}
 use Rattle.gx_adapt.specs.Lines as lines
+use Rattle.gx_adapt.specs.Lines.{lines_for, lot_of, is_reset_line}
+use Rattle.gx_adapt.specs.Laws.{BlocksAreKept, blocks_of}
 use Rattle.gx_adapt.specs.Streams.{Placed, is_reset, placed_from, placed, lot_in, lot_at, items_in, items_for, adapted, stream_text, is_spaced, is_deletion, is_requoted, is_marks, on_line, how_many, report_of}
 use Rattle.gx_adapt.specs.Adapting.{text_for, one_if, counted}
 use Rattle.gx_adapt.specs.declared.report.Report.{Report}
@@ -80,3 +82,20 @@ pub report-push : (xs : List Item) (i : Item) → report_of (xs ++ i ∷ []) ≡
 report-push xs i =
     same_report (many-push (λ p. is_spaced (lot_at p)) xs i) (many-push (λ p. is_deletion (lot_at p)) xs i) (many-push (λ p. is_requoted (lot_at p)) xs i)
     (many-push (λ p. is_marks (lot_at p)) xs i) (many-push (λ p. on_line lines.is_note p.item) xs i) (many-push (λ p. on_line lines.is_early p.item) xs i)
+
+-- ---- blocks
+
+lines_without : (l : List ℕ) (lot : lines.Lot) (is : List Item) → blocks_of (lines_for l lot ++ is) ≡ blocks_of is
+lines_without l lines.kept is = refl
+lines_without l lines.deletion is = refl
+lines_without l lines.marks is = refl
+lines_without l (lines.spaced new) is = refl
+lines_without l (lines.requoted new) is = refl
+
+blocks_from : (b : Bool) (is : List Item) → blocks_of (flat_map items_for (placed_from b is)) ≡ blocks_of is
+blocks_from b [] = refl
+blocks_from b (Line l ∷ is) = lines_without l (lot_of b l) (flat_map items_for (placed_from (is_reset_line l) is)) ∙ blocks_from (is_reset_line l) is
+blocks_from b (Data x ∷ is) = ap (λ xs. x ∷ xs) (blocks_from false is)
+
+pub blocks_kept : BlocksAreKept
+blocks_kept is = blocks_from false is

@@ -1,5 +1,5 @@
 -- What adapting a stream gives, sends and leaves.
-use Rattle.std.specs.Prelude.{◌≡◌, ℕ, ◌+◌, ◌<◌, ◌^◌, Bool, codes, ◌∷◌, if◌then◌else◌, List, ◌++◌, Option, Some, None, Result, Ok, Err, ⊤}
+use Rattle.std.specs.Prelude.{◌≡◌, ℕ, ◌+◌, ◌<◌, ◌^◌, Bool, codes, if◌then◌else◌, List, ◌++◌, Option, Some, None, Result, Ok, Err, ⊤}
 use Rattle.gx_model.specs.declared.faults.Fault.TheVariants as model
 use Rattle.gx_model.specs.Texts.{Bytes}
 use Rattle.gx_model.specs.Items.{Item, End, Finished, Failed, Stream}
@@ -7,9 +7,8 @@ use Rattle.gx_text.specs.Devices.{Coming, Taken, Took, FailedWithin}
 use Rattle.gx_stream.specs.Faults.{fault_of}
 use Rattle.gx_stream.specs.declared.fault.StreamFault.{StreamFault}
 use Rattle.gx_stream.specs.declared.fault.StreamFault.TheVariants as stream
-use Rattle.gx_adapt.specs.Paths.{quoted, anew}
 use Rattle.gx_adapt.specs.Lines as lines
-use Rattle.gx_adapt.specs.Streams.{adapted, stream_text, is_spaced, is_deletion, is_requoted, is_marks, on_line, report_of}
+use Rattle.gx_adapt.specs.Streams.{items_in, lot_in, adapted, stream_text, is_spaced, is_deletion, is_requoted, is_marks, on_line, report_of}
 use Rattle.gx_adapt.specs.Laws.{IsReadAdapted}
 use Rattle.gx_adapt.specs.declared.fault.AdaptFault.{AdaptFault}
 use Rattle.gx_adapt.specs.declared.fault.AdaptFault.TheVariants.{OutOfMemory, ReadFailed, WriteFailed, TruncatedData, BadNumber}
@@ -64,10 +63,10 @@ abbrev pub lot_seen : Lot → lines.Lot
 lot_seen Kept = lines.kept
 lot_seen Deletion = lines.deletion
 lot_seen Marks = lines.marks
-lot_seen (Ident word ident) = lines.spaced (word.now ++ 32 ∷ 32 ∷ ident.now)
-lot_seen (Modify mode dataref path) = lines.requoted ((codes "M " ++ mode.now ++ 32 ∷ dataref.now) ++ 32 ∷ quoted path.now)
-lot_seen (Remove path) = lines.requoted (codes "D" ++ 32 ∷ quoted path.now)
-lot_seen (Move word source destination) = lines.requoted (word.now ++ 32 ∷ anew source.now ++ 32 ∷ anew destination.now)
+lot_seen (Ident word ident) = lines.spaced (lines.spaced_line word.now ident.now)
+lot_seen (Modify mode dataref path) = lines.requoted (lines.quoted_line (lines.modify_front mode.now dataref.now) path.now)
+lot_seen (Remove path) = lines.requoted (lines.quoted_line (codes "D") path.now)
+lot_seen (Move word source destination) = lines.requoted (lines.moved_line word.now source.now destination.now)
 
 -- one more, where it is so
 abbrev pub one_if : Bool → ℕ → ℕ
@@ -83,6 +82,10 @@ counted lot item r = record {
   notes = one_if (on_line lines.is_note item) r.notes;
   early_dates = one_if (on_line lines.is_early item) r.early_dates;
 }
+
+-- the same by what stands before it
+abbrev pub with_item : Bool → Item → Report → Report
+with_item after_reset item r = counted (lot_in after_reset item) item r
 
 -- each count has room for one more
 pub record HasRoom (r : Report) : Type 0 where
@@ -103,3 +106,7 @@ Puts text was is (Err fault) = ⊥
 abbrev pub PutsIf : {A : Type 0} → Bytes → Option Taken → Option Taken → Result A AdaptFault → Type 0
 PutsIf text was is (Err OutOfMemory) = is ≡ was
 PutsIf text was is r = Puts text was is r
+
+-- the same of what stands in an item's place
+abbrev pub SendsFor : {A : Type 0} → Bool → Item → Option Taken → Option Taken → Result A AdaptFault → Type 0
+SendsFor after_reset item was is r = PutsIf (stream_text (items_in after_reset item)) was is r

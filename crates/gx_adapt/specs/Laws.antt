@@ -1,8 +1,8 @@
 -- What holds of every adapted stream.
-use Rattle.std.specs.Prelude.{◌≡◌, true, false, ◌∷◌, ◌++◌, Ok}
+use Rattle.std.specs.Prelude.{◌≡◌, true, false, List, [], ◌∷◌, ◌++◌, Ok}
 use Rattle.gx_model.specs.Texts.{Bytes, is_line, lacks}
 use Rattle.gx_model.specs.Faults.{◌>>=◌}
-use Rattle.gx_model.specs.Items.{Finished, items_of}
+use Rattle.gx_model.specs.Items.{Item, Line, Data, Finished, items_of}
 use Rattle.gx_model.specs.Paths.{path_of}
 use Rattle.gx_model.specs.Grammar.{last_path, source_path}
 use Rattle.gx_text.specs.Devices.{Coming}
@@ -13,6 +13,16 @@ use Rattle.gx_adapt.specs.Streams.{adapted, stream_text}
 -- a text is read as the items that stand in the place of what a source gives
 abbrev pub IsReadAdapted : Coming → Type 0
 IsReadAdapted c = items_of (stream_text (adapted (items_from c).items)) false ≡ record { items = adapted (items_from c).items; end = Finished }
+
+-- the blocks of a stream, in order
+abbrev pub blocks_of : List Item → List Bytes
+blocks_of [] = []
+blocks_of (Line l ∷ is) = blocks_of is
+blocks_of (Data x ∷ is) = x ∷ blocks_of is
+
+-- no block is changed, left out or put in
+abbrev pub BlocksAreKept : Type 0
+BlocksAreKept = (is : List Item) → blocks_of (adapted is) ≡ blocks_of is
 
 -- a path in quotes is read as the path of the text between them. Only a NUL can't stand there, nor in any path
 abbrev pub QuotedPathsAreKept : Type 0

@@ -44,20 +44,38 @@ is_ident_word word = bytes_eq word (codes "author") || bytes_eq word (codes "com
 abbrev pub is_move_word : Bytes → Bool
 is_move_word word = bytes_eq word (codes "C") || bytes_eq word (codes "R")
 
+-- ---- lines written anew
+
+-- a space more before an identity
+abbrev pub spaced_line : Bytes → Bytes → Bytes
+spaced_line word ident = word ++ 32 ∷ 32 ∷ ident
+
+-- a modify before its path
+abbrev pub modify_front : Bytes → Bytes → Bytes
+modify_front mode dataref = codes "M " ++ mode ++ 32 ∷ dataref
+
+-- a path in quotes, behind what stands before it
+abbrev pub quoted_line : Bytes → Bytes → Bytes
+quoted_line front path = front ++ 32 ∷ quoted path
+
+-- two paths, of which one or both are in quotes
+abbrev pub moved_line : Bytes → Bytes → Bytes → Bytes
+moved_line word source destination = word ++ 32 ∷ anew source ++ 32 ∷ anew destination
+
 -- ---- what becomes of them
 
 -- an identity that begins with `<`
 unfoldable pub ident_lot : Bytes → Bytes → Lot
-ident_lot word ident = if begins (codes "<") ident then spaced (word ++ 32 ∷ 32 ∷ ident) else kept
+ident_lot word ident = if begins (codes "<") ident then spaced (spaced_line word ident) else kept
 
 -- a path that ends its line, and the part before it
 unfoldable pub path_lot : Bytes → Bytes → Lot
-path_lot front path = if is_open path then requoted (front ++ 32 ∷ quoted path) else kept
+path_lot front path = if is_open path then requoted (quoted_line front path) else kept
 
 -- behind the dataref, which follows the mode
 abbrev pub dataref_lot : Bytes → Option (Bytes × Bytes) → Lot
 dataref_lot mode None = kept
-dataref_lot mode (Some p) = path_lot (codes "M " ++ mode ++ 32 ∷ p.0) p.1
+dataref_lot mode (Some p) = path_lot (modify_front mode p.0) p.1
 
 -- a modify, from its mode on
 abbrev pub mode_lot : Option (Bytes × Bytes) → Lot
@@ -70,7 +88,7 @@ modify_lot rest = mode_lot (cut_at 32 rest)
 -- a source and a destination
 abbrev pub paths_lot : Bytes → Option (Bytes × Bytes) → Lot
 paths_lot word None = kept
-paths_lot word (Some p) = if is_open p.0 || is_open p.1 then requoted (word ++ 32 ∷ anew p.0 ++ 32 ∷ anew p.1) else kept
+paths_lot word (Some p) = if is_open p.0 || is_open p.1 then requoted (moved_line word p.0 p.1) else kept
 
 unfoldable pub move_lot : Bytes → Bytes → Lot
 move_lot word rest = paths_lot word (source_of rest)

@@ -6,9 +6,8 @@ ghost use Rattle.gx_model.specs.Items.{Line, Data};
 ghost use Rattle.gx_model.specs.Export.{item_text};
 ghost use Rattle.gx_stream.specs.Heard.{items_from};
 ghost use Rattle.gx_stream.specs.Reading.{item_of};
-ghost use Rattle.gx_adapt.specs.Lines.{lot_of};
-ghost use Rattle.gx_adapt.specs.Streams.{is_reset, items_in, lot_in, stream_text};
-ghost use Rattle.gx_adapt.specs.Adapting.{AdaptsFrom, IsReadAgain, HasRoom, Puts, PutsIf, counted};
+ghost use Rattle.gx_adapt.specs.Streams.{is_reset};
+ghost use Rattle.gx_adapt.specs.Adapting.{AdaptsFrom, IsReadAgain, HasRoom, Puts, PutsIf, SendsFor, with_item};
 
 use crate::fault::AdaptFault;
 use crate::lot::{is_reset_line, lot_of};
@@ -63,8 +62,8 @@ fn send_item<W: Sink, A: Allocator + Copy>(
 ) -> Result<bool, AdaptFault>
     requires room { HasRoom report.old }
     ensures reset { IfOk result (λ resets. resets ≡ is_reset (item_of item.entry)) }
-    ensures sends { PutsIf (stream_text (items_in after_reset (item_of item.entry))) (W.taken sink.old) (W.taken sink.new) result }
-    ensures counts { OnOk result (report.new ≡ counted (lot_in after_reset (item_of item.entry)) (item_of item.entry) report.old) }
+    ensures sends { SendsFor after_reset (item_of item.entry) (W.taken sink.old) (W.taken sink.new) result }
+    ensures counts { OnOk result (report.new ≡ with_item after_reset (item_of item.entry) report.old) }
 {
     match item {
         Item::Line(line) => {
@@ -89,8 +88,8 @@ fn send_line<W: Sink, A: Allocator + Copy>(
     line: &[u8],
 ) -> Result<(), AdaptFault>
     requires room { HasRoom report.old }
-    ensures sends { PutsIf (stream_text (items_in after_reset (Line line.now))) (W.taken sink.old) (W.taken sink.new) result }
-    ensures counts { OnOk result (report.new ≡ counted (lot_of after_reset line.now) (Line line.now) report.old) }
+    ensures sends { SendsFor after_reset (Line line.now) (W.taken sink.old) (W.taken sink.new) result }
+    ensures counts { OnOk result (report.new ≡ with_item after_reset (Line line.now) report.old) }
 {
     let lot = lot_of(after_reset, line);
     text.clear();

@@ -12,5 +12,5 @@ mod text;
 
 pub use adapting::adapt;
 pub use fault::AdaptFault;
-pub use laws::quoted_paths_are_kept;
+pub use laws::{blocks_are_kept, quoted_paths_are_kept};
 pub use report::Report;

@@ -3,7 +3,7 @@
 ghost use Rattle.std.specs.Prelude.{◌≡◌, Bool, length, is_none, is_some};
 ghost use Rattle.std.specs.Option.{option_map};
 ghost use Rattle.gx_model.specs.Texts.{Bytes};
-ghost use Rattle.gx_model.specs.Paths.{named, is_octal, escape_at, char_at, unquote_within, unquote};
+ghost use Rattle.gx_model.specs.Paths.{named, is_octal, escape_at, char_at, unquote_within};
 ghost use Rattle.gx_adapt.specs.Paths.{ends, after_quoted, is_open, source_of};
 
 use gx_text::cut;

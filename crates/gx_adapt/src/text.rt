@@ -1,11 +1,9 @@
 //! The text of items.
 
-ghost use Rattle.std.specs.Prelude.{ℕ, ◌≡◌, ◌++◌, ◌∷◌, [], length, codes, OnOk};
-ghost use Rattle.std.specs.List.{flat_map};
+ghost use Rattle.std.specs.Prelude.{◌≡◌, ◌++◌, ◌∷◌, [], codes, OnOk};
 ghost use Rattle.std.specs.Fmt.{decimal};
-ghost use Rattle.gx_model.specs.Items.{Line, Data};
 ghost use Rattle.gx_adapt.specs.Paths.{escaped, quoted, anew};
-ghost use Rattle.gx_adapt.specs.Lines.{lines_for};
+ghost use Rattle.gx_adapt.specs.Lines.{lines_for, spaced_line, modify_front, quoted_line, moved_line};
 ghost use Rattle.gx_adapt.specs.Streams.{stream_text};
 ghost use Rattle.gx_adapt.specs.Adapting.{lot_seen};
 
@@ -39,7 +37,7 @@ fn put_ident<A: Allocator + Copy>(
     word: &[u8],
     ident: &[u8],
 ) -> Result<(), AllocError>
-    ensures { OnOk result (out.new.items ≡ out.old.items ++ (word.now ++ 32 ∷ 32 ∷ ident.now)) }
+    ensures { OnOk result (out.new.items ≡ out.old.items ++ spaced_line word.now ident.now) }
 {
     out.extend_from_slice(word)?;
     out.extend_from_slice(b"  ")?;
@@ -52,7 +50,7 @@ fn put_modify<A: Allocator + Copy>(
     dataref: &[u8],
     path: &[u8],
 ) -> Result<(), AllocError>
-    ensures { OnOk result (out.new.items ≡ out.old.items ++ ((codes "M " ++ mode.now ++ 32 ∷ dataref.now) ++ 32 ∷ quoted path.now)) }
+    ensures { OnOk result (out.new.items ≡ out.old.items ++ quoted_line (modify_front mode.now dataref.now) path.now) }
 {
     out.extend_from_slice(b"M ")?;
     out.extend_from_slice(mode)?;
@@ -63,7 +61,7 @@ fn put_modify<A: Allocator + Copy>(
 }
 
 fn put_remove<A: Allocator + Copy>(out: &mut Vec<u8, A>, path: &[u8]) -> Result<(), AllocError>
-    ensures { OnOk result (out.new.items ≡ out.old.items ++ (codes "D" ++ 32 ∷ quoted path.now)) }
+    ensures { OnOk result (out.new.items ≡ out.old.items ++ quoted_line (codes "D") path.now) }
 {
     out.extend_from_slice(b"D ")?;
     put_quoted(out, path)
@@ -75,7 +73,7 @@ fn put_move<A: Allocator + Copy>(
     source: &[u8],
     destination: &[u8],
 ) -> Result<(), AllocError>
-    ensures { OnOk result (out.new.items ≡ out.old.items ++ (word.now ++ 32 ∷ anew source.now ++ 32 ∷ anew destination.now)) }
+    ensures { OnOk result (out.new.items ≡ out.old.items ++ moved_line word.now source.now destination.now) }
 {
     out.extend_from_slice(word)?;
     out.push(b' ')?;

@@ -25,7 +25,8 @@ use std::alloc::Allocator;
 /// - lines that ask for files of marks, and `get-mark`, are left out.
 ///
 /// No byte of a block changes. Comments go, a block is announced by its length, and an LF ends each line and each block.
-/// Each item goes out as soon as it has come. Memory: that of the longest item. Cost: the bytes of the stream.
+/// Each item goes out as soon as it has come. Memory: the longest item, and the longest line once more. Cost: the bytes of
+/// the stream.
 /// Source: git-fast-import(1).
 pub fn adapt<R: Source + Drop, W: Sink, A: Allocator + Copy>(
     alloc: A,

@@ -72,6 +72,17 @@ pub(super) const STREAMS: &[Row] = &[
         NOTHING,
     ),
     (b"", b"", NOTHING),
+    // git fast-import makes one commit of both, a6917bc834f074bb7be84548d649dd95c65e5b64
+    (
+        b"blob\nmark :1\ndata 1\nx\ncommit refs/heads/m\nmark :2\ncommitter A <a@b> 1 +0000\ndata 1\nm\nM 100644 :1 \"a\nM 100644 :1 plain\nM 100644 :1 \"q\\\nM 100644 :1 \"x\\y\"\n\ncommit refs/heads/m\nmark :3\ncommitter <a@b> 1 +0000\ndata 1\nn\nfrom :2\nC \"a b c\nR \"x\\y\" c\nC plain \"z\\q\nD \"q\\\n\nreset refs/heads/gone\nfrom 0000000000000000000000000000000000000000\n\n",
+        b"blob\nmark :1\ndata 1\nx\ncommit refs/heads/m\nmark :2\ncommitter A <a@b> 1 +0000\ndata 1\nm\nM 100644 :1 \"\\\"a\"\nM 100644 :1 plain\nM 100644 :1 \"\\\"q\\\\\"\nM 100644 :1 \"\\\"x\\\\y\\\"\"\n\ncommit refs/heads/m\nmark :3\ncommitter  <a@b> 1 +0000\ndata 1\nn\nfrom :2\nC \"\\\"a\" b c\nR \"\\\"x\\\\y\\\"\" c\nC plain \"\\\"z\\\\q\"\nD \"\\\"q\\\\\"\n\nreset refs/heads/gone\n\n",
+        Report {
+            identities: 1,
+            deletions: 1,
+            paths: 7,
+            ..NOTHING
+        },
+    ),
     (MIXED, MIXED_ADAPTED, MIXED_REPORT),
 ];
 

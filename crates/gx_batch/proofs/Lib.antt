@@ -1,0 +1,6 @@
+pub mod Answering
+pub mod Arrivals
+pub mod CutLines
+pub mod PassedBytes
+pub mod RestParts
+pub mod SentTexts

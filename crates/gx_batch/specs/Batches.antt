@@ -1,0 +1,29 @@
+-- What answering the lines of a source gives.
+use Rattle.std.specs.Prelude.{◌≡◌, Bool, true, false, List, ◌++◌, Option, None, Some, Result, Ok, Err}
+use Rattle.std.specs.List.{flat_map}
+use Rattle.gx_model.specs.Texts.{Bytes}
+use Rattle.gx_text.specs.Devices.{Coming, FailedWithin, Taken, Took}
+use Rattle.gx_stream.specs.Heard.{heard}
+use Rattle.gx_batch.specs.Lines.{lines_from}
+use Rattle.gx_batch.specs.declared.fault.BatchFault.{BatchFault}
+use Rattle.gx_batch.specs.declared.fault.BatchFault.TheVariants.{OutOfMemory, ReadFailed, WriteFailed}
+
+-- A text went out. Where the sink failed, a front of it did; where memory ran out, nothing.
+abbrev pub Sent : Bytes → Option Taken → Option Taken → Result (Unit {0}) BatchFault → Type 0
+Sent text was now (Ok _) = Took was now text
+Sent text was now (Err WriteFailed) = FailedWithin was now text
+Sent text was now (Err OutOfMemory) = now ≡ was
+Sent text was now (Err ReadFailed) = ⊥
+
+-- The answers to all the lines went out, and the source ended, or it failed behind them. Where the sink failed, a front of their text
+-- went out; where memory ran out, the answers to the first lines.
+abbrev pub Answered : (Bytes → Bytes) → List Bytes → Bool → Option Taken → Option Taken → Result (Unit {0}) BatchFault → Type 0
+Answered answer lines fails was now (Ok _) = (fails ≡ false) × Took was now (flat_map answer lines)
+Answered answer lines fails was now (Err ReadFailed) = (fails ≡ true) × Took was now (flat_map answer lines)
+Answered answer lines fails was now (Err WriteFailed) = FailedWithin was now (flat_map answer lines)
+Answered answer lines fails was now (Err OutOfMemory) = (front : List Bytes) × (rest : List Bytes) × (lines ≡ front ++ rest) × Took was now (flat_map answer front)
+
+-- The same of the lines of a source. Where it tells nothing, there are lines that it gave.
+abbrev pub Answers : (Bytes → Bytes) → Option Coming → Option Taken → Option Taken → Result (Unit {0}) BatchFault → Type 0
+Answers answer None was now result = (lines : List Bytes) × (fails : Bool) × Answered answer lines fails was now result
+Answers answer (Some coming) was now result = Answered answer (lines_from (heard coming)) (heard coming).fails was now result

@@ -1,0 +1,5 @@
+pub mod Lines
+pub mod Answers
+pub mod Batches
+pub mod Reading
+pub mod Rows

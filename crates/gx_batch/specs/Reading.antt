@@ -1,0 +1,78 @@
+-- What a reader of lines is seen as, and what one call answers and leaves.
+use Rattle.std.specs.Prelude.{◌≡◌, ℕ, suc, ◌+◌, ◌<◌, ◌≤◌, Bool, true, false, [], ◌∷◌, ◌++◌, length, slice_range, Option, None, Some, Result, Ok, Err, ⊤}
+use Rattle.gx_model.specs.Texts.{Bytes, lacks}
+use Rattle.gx_text.specs.Devices.{Coming}
+use Rattle.gx_stream.specs.Heard.{heard_upto}
+use Rattle.gx_batch.specs.Lines.{lines_from}
+use Rattle.gx_batch.specs.declared.fault.BatchFault.{BatchFault}
+use Rattle.gx_batch.specs.declared.fault.BatchFault.TheVariants.{OutOfMemory, ReadFailed, WriteFailed}
+use Rattle.gx_batch.specs.declared.lines.LineReader.{LineReader}
+use Rattle.gx_batch.specs.declared.lines.State.{State}
+use Rattle.gx_batch.specs.declared.lines.State.TheVariants.{Open, Ended, Failed}
+
+-- these bytes before what comes
+abbrev pub behind : Bytes → Coming → Coming
+behind front c = record { bytes = front ++ c.bytes; fails = c.fails }
+
+-- what is still to come, where that is known: what came and isn't read yet, and what the source still gives
+abbrev pub coming_seen : State → ℕ → Option Coming → Bytes → Option Coming
+coming_seen Open room None rest = None
+coming_seen Open room (Some c) rest = Some (behind rest (heard_upto room c))
+coming_seen Ended room coming rest = Some (record { bytes = rest; fails = false })
+coming_seen Failed room coming rest = Some (record { bytes = rest; fails = true })
+
+-- how many bytes may come at most
+abbrev pub most_seen : State → ℕ → Bytes → ℕ
+most_seen Open room rest = length rest + room
+most_seen Ended room rest = length rest
+most_seen Failed room rest = length rest
+
+-- how many pulls may follow at most
+abbrev pub pulls_left : State → ℕ → ℕ
+pulls_left Open room = suc room
+pulls_left Ended room = 0
+pulls_left Failed room = 0
+
+-- what came and isn't read yet
+abbrev pub rest_of : {R A : Type 0} → LineReader R A → Bytes
+rest_of reader = slice_range reader.piece.items reader.at reader.end
+
+abbrev pub seen : {R A : Type 0} → LineReader R A → Option Coming → Option Coming
+seen reader coming = coming_seen reader.state reader.room coming (rest_of reader)
+
+abbrev pub most : {R A : Type 0} → LineReader R A → ℕ
+most reader = most_seen reader.state reader.room (rest_of reader)
+
+-- what isn't read yet stands within the piece, which is never empty
+abbrev pub IsSound : {R A : Type 0} → LineReader R A → Type 0
+IsSound reader = (reader.at ≤ reader.end) × (reader.end ≤ length reader.piece.items) × (0 < length reader.piece.items)
+
+-- where it is known what is to come, it is these bytes before what is to come now
+abbrev pub Passes : Bytes → Option Coming → Option Coming → Type 0
+Passes front None now = ⊤
+Passes front (Some was) now = (left : Coming) × (now ≡ Some left) × (was ≡ behind front left)
+
+-- Of what is left to read, what stands before an LF is put behind a line, with what stands behind the LF left; or all is, and none of
+-- it is an LF.
+abbrev pub TakesPart : Bytes → Bytes → Bytes → Bytes → Bool → Type 0
+TakesPart rest left line now true = (front : Bytes) × (lacks 10 front ≡ true) × (rest ≡ front ++ 10 ∷ left) × (now ≡ line ++ front)
+TakesPart rest left line now false = (lacks 10 rest ≡ true) × (left ≡ []) × (now ≡ line ++ rest)
+
+-- Where the lines to come are known, the first is answered, and the others are left. That there is none is answered only where none
+-- is left, with the end or the failure that follows.
+abbrev pub ReadsFrom : Coming → Option Coming → Bytes → Result Bool BatchFault → Type 0
+ReadsFrom was now line (Ok true) = (left : Coming) × (now ≡ Some left) × (lines_from was ≡ line ∷ lines_from left) × (left.fails ≡ was.fails)
+ReadsFrom was now line (Ok false) = (lines_from was ≡ []) × (was.fails ≡ false)
+ReadsFrom was now line (Err ReadFailed) = (lines_from was ≡ []) × (was.fails ≡ true)
+ReadsFrom was now line (Err OutOfMemory) = ⊤
+ReadsFrom was now line (Err WriteFailed) = ⊥
+
+abbrev pub Reads : Option Coming → Option Coming → Bytes → Result Bool BatchFault → Type 0
+Reads None now line (Err WriteFailed) = ⊥
+Reads None now line answer = ⊤
+Reads (Some was) now line answer = ReadsFrom was now line answer
+
+-- a line lowers the bound
+abbrev pub Falls : ℕ → ℕ → Result Bool BatchFault → Type 0
+Falls was now (Ok true) = now < was
+Falls was now answer = ⊤

@@ -1,0 +1,168 @@
+//! What is answered to a line.
+
+ghost use Rattle.std.specs.Prelude.{◌≡◌, ◌∷◌, ◌++◌, ◌≤◌, [], length, codes, IfErr, IfOk, OnOk};
+ghost use Rattle.std.specs.Fmt.{decimal};
+ghost use Rattle.gx_model.specs.Denotation.{denoted};
+ghost use Rattle.gx_model.specs.Faults.{Gives, and_then};
+ghost use Rattle.gx_model.specs.HistoryOf.{history_of};
+ghost use Rattle.gx_model.specs.Naming.{kind_word};
+ghost use Rattle.gx_model.specs.Objects.{hex, line};
+ghost use Rattle.gx_model.specs.Records.{body_of};
+ghost use Rattle.gx_model.specs.Revisions.{revision_of};
+ghost use Rattle.gx_rev.specs.Answers.{IsNamed, shown_by};
+ghost use Rattle.gx_rev.specs.declared.shown.Shown.TheVariants.{Object};
+ghost use Rattle.gx_rev.specs.Objects.{IsHeld, value_at};
+ghost use Rattle.gx_rev.specs.RevFaults.{fault_of};
+ghost use Rattle.gx_batch.specs.Answers.{batch_answer, object_line, object_text, reason};
+ghost use Rattle.gx_batch.specs.Batches.{Sent};
+ghost use Rattle.gx_batch.specs.declared.fault.BatchFault.TheVariants.{WriteFailed};
+
+use crate::BatchFault;
+use gx_object::{Kind, Name, Namer};
+use gx_repo::Repo;
+use gx_rev::{RevFault, Revision, Shown};
+use gx_text::{Sink, send};
+use itoa::Buffer;
+use std::alloc::{AllocError, Allocator};
+
+/// An object of fewer bytes goes out at once with its line.
+const SMALL: usize = 0x1_0000;
+
+/// Sends the answer to a line. The text is made in the buffer; nothing is sent where there is no memory for it.
+pub(crate) fn answer<N: Namer, W: Sink, A: Allocator + Copy>(
+    alloc: A,
+    repo: &Repo<N, A>,
+    check: bool,
+    asked: &[u8],
+    buffer: &mut Vec<u8, A>,
+    sink: &mut W,
+) -> Result<(), BatchFault>
+    ensures { Sent (batch_answer (N.name_of repo.now.0) check (history_of repo.now.1) asked.now) (W.taken sink.old) (W.taken sink.new) result }
+{
+    match eval(alloc, repo, asked) {
+        Ok(Shown::Object(kind, name)) => answer_object(repo, check, kind, &name, buffer, sink),
+        Ok(Shown::Submodule(_)) => answer_refusal(asked, b"missing", buffer, sink),
+        Err(RevFault::OutOfMemory) => Err(BatchFault::OutOfMemory),
+        Err(RevFault::Ambiguous) => answer_refusal(asked, b"ambiguous", buffer, sink),
+        Err(_) => answer_refusal(asked, b"missing", buffer, sink),
+    }
+}
+
+/// What a line shows as a revision.
+fn eval<N: Namer, A: Allocator + Copy>(
+    alloc: A,
+    repo: &Repo<N, A>,
+    asked: &[u8],
+) -> Result<Shown, RevFault>
+    ensures shown { Gives fault_of (shown_by repo.now.1) result (and_then (revision_of asked.now) (denoted (N.name_of repo.now.0) (history_of repo.now.1))) }
+    ensures named { IfOk result (IsNamed (N.name_of repo.now.0) repo.now.1) }
+{
+    let revision = Revision::read(alloc, asked)?;
+    revision.eval(repo)
+}
+
+/// Sends a line, and behind it why it gives no object.
+fn answer_refusal<W: Sink, A: Allocator>(
+    asked: &[u8],
+    why: &[u8],
+    buffer: &mut Vec<u8, A>,
+    sink: &mut W,
+) -> Result<(), BatchFault>
+    ensures { Sent (line asked.now why.now) (W.taken sink.old) (W.taken sink.new) result }
+{
+    buffer.clear();
+    buffer.extend_from_slice(asked)?;
+    buffer.push(b' ')?;
+    buffer.extend_from_slice(why)?;
+    buffer.push(b'\n')?;
+    put(sink, buffer)
+}
+
+/// Sends the line of a held object, and where its bytes are asked for these and an LF.
+fn answer_object<N: Namer, W: Sink, A: Allocator + Copy>(
+    repo: &Repo<N, A>,
+    check: bool,
+    kind: Kind,
+    name: &Name,
+    buffer: &mut Vec<u8, A>,
+    sink: &mut W,
+) -> Result<(), BatchFault>
+    requires { IsNamed (N.name_of repo.now.0) repo.now.1 (Object kind name.now) }
+    ensures { Sent (object_text (N.name_of repo.now.0) check (value_at repo.now.1 name.now)) (W.taken sink.old) (W.taken sink.new) result }
+{
+    let body = body_of(repo, name);
+    make_line(buffer, name, kind, body.len())?;
+    if check {
+        put(sink, buffer)
+    } else if body.len() < SMALL {
+        buffer.extend_from_slice(body)?;
+        buffer.push(b'\n')?;
+        put(sink, buffer)
+    } else {
+        put_parts(sink, buffer, body)
+    }
+}
+
+/// Makes the line of an object of this name, kind and size.
+fn make_line<A: Allocator>(
+    buffer: &mut Vec<u8, A>,
+    name: &Name,
+    kind: Kind,
+    size: usize,
+) -> Result<(), AllocError>
+    ensures { OnOk result (buffer.new.items ≡ line (hex name.now.bytes) (kind_word kind ++ 32 ∷ decimal size)) }
+{
+    let mut digits = Buffer::new();
+    buffer.clear();
+    buffer.extend_from_slice(name.hex().as_slice())?;
+    buffer.push(b' ')?;
+    buffer.extend_from_slice(kind_word(kind))?;
+    buffer.push(b' ')?;
+    buffer.extend_from_slice(digits.format(size).as_bytes())?;
+    buffer.push(b'\n')?;
+    Ok(())
+}
+
+/// The word of a kind.
+fn kind_word(kind: Kind) -> &'static [u8]
+    ensures { result.now ≡ kind_word kind }
+{
+    match kind {
+        Kind::Blob => b"blob",
+        Kind::Tree => b"tree",
+        Kind::Commit => b"commit",
+        Kind::Tag => b"tag",
+    }
+}
+
+/// The body of a held object.
+fn body_of<'a, N: Namer, A: Allocator + Copy>(repo: &'a Repo<N, A>, name: &Name) -> &'a [u8]
+    requires { IsHeld repo.now.1 name.now }
+    ensures { result.now ≡ body_of (N.name_of repo.now.0) (value_at repo.now.1 name.now) }
+{
+    repo.sound();
+    let Some((_, body)) = repo.store().get(name) else {
+        unreachable!();
+    };
+    body
+}
+
+/// Sends an object's line, its bytes and an LF, one after the other.
+fn put_parts<W: Sink>(sink: &mut W, line: &[u8], body: &[u8]) -> Result<(), BatchFault>
+    ensures { Sent (line.now ++ (body.now ++ 10 ∷ [])) (W.taken sink.old) (W.taken sink.new) result }
+{
+    put(sink, line)?;
+    put(sink, body)?;
+    put(sink, b"\n")
+}
+
+/// Sends a text. Takes no memory.
+fn put<W: Sink>(sink: &mut W, text: &[u8]) -> Result<(), BatchFault>
+    ensures sent { Sent text.now (W.taken sink.old) (W.taken sink.new) result }
+    ensures memory { IfErr result (λ fault. fault ≡ WriteFailed) }
+{
+    match send(sink, text) {
+        Ok(()) => Ok(()),
+        Err(_) => Err(BatchFault::WriteFailed),
+    }
+}

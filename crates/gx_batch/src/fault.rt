@@ -1,0 +1,37 @@
+//! Why no further line is answered.
+
+ghost use Rattle.std.specs.Prelude.{◌≡◌};
+ghost use Rattle.gx_batch.specs.declared.fault.BatchFault.TheVariants.{OutOfMemory};
+
+use std::alloc::{AllocError, AllocFailed};
+use thiserror::Error;
+
+/// Why no further line is answered.
+#[derive(Clone, Copy, Debug, PartialEq, Eq, Drop, Error)]
+pub enum BatchFault {
+    /// A growth was refused.
+    #[error("out of memory")]
+    OutOfMemory,
+    /// The source failed, or gave more than 2^63 - 1 bytes.
+    #[error("read failed")]
+    ReadFailed,
+    /// The sink didn't take all of an answer.
+    #[error("write failed")]
+    WriteFailed,
+}
+
+impl From<AllocError> for BatchFault {
+    ghost from_gives = { λ _ fault. fault ≡ OutOfMemory };
+
+    fn from(_error: AllocError) -> BatchFault {
+        BatchFault::OutOfMemory
+    }
+}
+
+impl<T: Drop> From<AllocFailed<T>> for BatchFault {
+    ghost from_gives = { λ _ fault. fault ≡ OutOfMemory };
+
+    fn from(_error: AllocFailed<T>) -> BatchFault {
+        BatchFault::OutOfMemory
+    }
+}

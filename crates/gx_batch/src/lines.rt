@@ -1,0 +1,144 @@
+//! The lines that a source gives.
+
+ghost use Rattle.std.specs.Prelude.{◌≡◌, ◌<◌, ◌≤◌, ◌+◌, ◌-◌, ◌^◌, [], length, slice_range, take, IfOk, OnOk};
+ghost use Rattle.std.specs.Option.{option_map};
+ghost use Rattle.gx_stream.specs.Heard.{heard};
+ghost use Rattle.gx_batch.specs.Reading.{Falls, IsSound, Passes, Reads, TakesPart, coming_seen, most, pulls_left, rest_of, seen};
+ghost use Rattle.gx_batch.specs.declared.lines.State.TheVariants.{Open};
+
+use crate::BatchFault;
+use gx_text::{Failed, Source, cut};
+use std::alloc::{AllocError, Allocator};
+
+/// The most bytes that are taken from a source.
+const LIMIT: usize = 0x7fff_ffff_ffff_ffff;
+
+/// How many bytes a pull asks for.
+const PIECE: usize = 0x1_0000;
+
+/// What is known of the source: more may come, or it ended, or it failed.
+#[derive(Clone, Copy, Drop)]
+pub(crate) enum State {
+    Open,
+    Ended,
+    Failed,
+}
+
+/// A reader of lines. What came and isn't read yet stands in the piece, between `at` and `end`; at most `room` bytes may
+/// still come.
+#[derive(Drop)]
+pub(crate) struct LineReader<R: Source, A: Allocator> {
+    source: R,
+    piece: Vec<u8, A>,
+    at: usize,
+    end: usize,
+    room: usize,
+    state: State,
+}
+
+impl<R: Source + Drop, A: Allocator + Copy> LineReader<R, A> {
+    /// A reader of all the lines of a source. Nothing is pulled yet. Memory: one piece.
+    pub(crate) fn new(alloc: A, source: R) -> Result<LineReader<R, A>, AllocError>
+        ensures sound { IfOk result IsSound }
+        ensures seen { IfOk result (λ reader. seen reader (R.coming reader.source) ≡ option_map heard (R.coming source)) }
+    {
+        let mut piece = Vec::new(alloc);
+        piece.resize(PIECE, 0)?;
+        Ok(LineReader {
+            source,
+            piece,
+            at: 0,
+            end: 0,
+            room: LIMIT,
+            state: State::Open,
+        })
+    }
+
+    /// Reads the next line, without its LF. Answers whether there is one: what stands behind the last LF is one where the
+    /// source ends, unless it is empty. After `false` and after a fault it is over.
+    ///
+    /// Cost: the line's bytes. Memory: the longest line.
+    pub(crate) fn next(&mut self, line: &mut Vec<u8, A>) -> Result<bool, BatchFault>
+        requires { IsSound self.old }
+        ensures sound { IsSound self.new }
+        ensures reads { Reads (seen self.old (R.coming self.old.source)) (seen self.new (R.coming self.new.source)) line.new.items result }
+        ensures falls { Falls (most self.old) (most self.new) result }
+    {
+        line.clear();
+        loop {
+            if take_part(&self.piece, &mut self.at, self.end, line)? {
+                return Ok(true);
+            }
+            match self.state {
+                State::Open => self.pull(),
+                State::Ended => return Ok(!line.is_empty()),
+                State::Failed => return Err(BatchFault::ReadFailed),
+            }
+        }
+    }
+
+    /// Pulls one piece, where all is read that came.
+    fn pull(&mut self)
+        requires sound { IsSound self.old }
+        requires open { self.old.state ≡ Open }
+        requires read { rest_of self.old ≡ [] }
+        ensures sound { IsSound self.new }
+        ensures keeps { Passes [] (seen self.old (R.coming self.old.source)) (seen self.new (R.coming self.new.source)) }
+        ensures most { most self.new ≤ most self.old }
+        ensures fewer { pulls_left self.new.state self.new.room < pulls_left self.old.state self.old.room }
+    {
+        let (state, count) = pull_piece(&mut self.source, &mut self.piece, &mut self.room);
+        self.state = state;
+        self.at = 0;
+        self.end = count;
+    }
+}
+
+/// Appends what stands before the next LF, and moves behind it, or appends all that is left. Answers whether there is an LF.
+fn take_part<A: Allocator>(
+    piece: &[u8],
+    at: &mut usize,
+    end: usize,
+    line: &mut Vec<u8, A>,
+) -> Result<bool, AllocError>
+    requires { (at.old ≤ end) × (end ≤ length piece.now) }
+    ensures within { at.new ≤ end }
+    ensures takes { IfOk result (TakesPart (slice_range piece.now at.old end) (slice_range piece.now at.new end) line.old.items line.new.items) }
+{
+    let rest = &piece[*at..end];
+    match cut(rest, b'\n') {
+        Some((front, after)) => {
+            line.extend_from_slice(front)?;
+            *at = end - after.len();
+            Ok(true)
+        }
+        None => {
+            line.extend_from_slice(rest)?;
+            *at = end;
+            Ok(false)
+        }
+    }
+}
+
+/// Pulls one piece. Answers what is known of the source then, and how many bytes of the piece are taken.
+fn pull_piece<R: Source>(source: &mut R, piece: &mut [u8], room: &mut usize) -> (State, usize)
+    requires { 0 < length piece.old }
+    ensures within { result.1 ≤ length piece.new }
+    ensures keeps { Passes [] (coming_seen Open room.old (R.coming source.old) []) (coming_seen result.0 room.new (R.coming source.new) (take result.1 piece.new)) }
+    ensures room { result.1 + room.new ≤ room.old }
+    ensures fewer { pulls_left result.0 room.new < pulls_left Open room.old }
+{
+    match source.pull(piece) {
+        Err(Failed) => (State::Failed, 0),
+        Ok(0) => (State::Ended, 0),
+        Ok(count) => {
+            let taken = count.min(*room);
+            *room -= taken;
+            if taken < count {
+                (State::Failed, taken)
+            } else {
+                (State::Open, taken)
+            }
+        }
+    }
+}

@@ -1,6 +1,6 @@
 //! What is answered to a line.
 
-ghost use Rattle.std.specs.Prelude.{◌≡◌, ◌∷◌, ◌++◌, ◌≤◌, [], length, codes, IfErr, IfOk, OnOk};
+ghost use Rattle.std.specs.Prelude.{◌≡◌, ◌∷◌, ◌++◌, [], IfErr, IfOk, OnOk};
 ghost use Rattle.std.specs.Fmt.{decimal};
 ghost use Rattle.gx_model.specs.Denotation.{denoted};
 ghost use Rattle.gx_model.specs.Faults.{Gives, and_then};
@@ -13,7 +13,7 @@ ghost use Rattle.gx_rev.specs.Answers.{IsNamed, shown_by};
 ghost use Rattle.gx_rev.specs.declared.shown.Shown.TheVariants.{Object};
 ghost use Rattle.gx_rev.specs.Objects.{IsHeld, value_at};
 ghost use Rattle.gx_rev.specs.RevFaults.{fault_of};
-ghost use Rattle.gx_batch.specs.Answers.{batch_answer, object_line, object_text, reason};
+ghost use Rattle.gx_batch.specs.Answers.{batch_answer, object_text};
 ghost use Rattle.gx_batch.specs.Batches.{Sent};
 ghost use Rattle.gx_batch.specs.declared.fault.BatchFault.TheVariants.{WriteFailed};
 

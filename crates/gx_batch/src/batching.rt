@@ -21,7 +21,7 @@ use std::alloc::Allocator;
 /// `ReadFailed`: the source failed, or gave more than 2^63 - 1 bytes. The lines before were answered; one that was cut is not.
 /// `WriteFailed`: the sink didn't take all of an answer. `OutOfMemory`: the answers before went out, and nothing of the next.
 /// Cost: the bytes of the lines, however they are cut, that of `Revision::eval` for each, and what goes out. Memory: the
-/// longest line, twice; else a few pieces of 64 KiB.
+/// longest line, its revision or its answer, and two pieces of 64 KiB.
 /// Source: git-cat-file(1), "BATCH OUTPUT".
 pub fn batch<N: Namer, R: Source + Drop, W: Sink, A: Allocator + Copy>(
     alloc: A,

@@ -1,6 +1,6 @@
 //! The lines that a source gives.
 
-ghost use Rattle.std.specs.Prelude.{◌≡◌, ◌<◌, ◌≤◌, ◌+◌, ◌-◌, ◌^◌, [], length, slice_range, take, IfOk, OnOk};
+ghost use Rattle.std.specs.Prelude.{◌≡◌, ◌<◌, ◌≤◌, ◌+◌, [], length, slice_range, take, IfOk};
 ghost use Rattle.std.specs.Option.{option_map};
 ghost use Rattle.gx_stream.specs.Heard.{heard};
 ghost use Rattle.gx_batch.specs.Reading.{Falls, IsSound, Passes, Reads, TakesPart, coming_seen, most, pulls_left, rest_of, seen};

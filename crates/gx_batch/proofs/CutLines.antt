@@ -5,11 +5,11 @@ use Rattle.gx_model.specs.Texts.{Bytes, cut_at, lacks}
 use Rattle.gx_model.proofs.Cuts.{lacks-cons, map_some, some_is}
 use Rattle.gx_batch.specs.Lines.{begun_with, lines_of}
 
-line_past : (b : ℕ) (bs : Bytes) (fails : Bool) → eqb b 10 ≡ false → lines_of (b ∷ bs) fails ≡ begun_with b fails (lines_of bs fails)
+pub line_past : (b : ℕ) (bs : Bytes) (fails : Bool) → eqb b 10 ≡ false → lines_of (b ∷ bs) fails ≡ begun_with b fails (lines_of bs fails)
 unfolding lines_of
 line_past b bs fails e = rw e refl
 
-line_here : (bs : Bytes) (fails : Bool) → lines_of (10 ∷ bs) fails ≡ [] ∷ lines_of bs fails
+pub line_here : (bs : Bytes) (fails : Bool) → lines_of (10 ∷ bs) fails ≡ [] ∷ lines_of bs fails
 unfolding lines_of
 line_here bs fails = refl
 

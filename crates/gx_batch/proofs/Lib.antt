@@ -4,3 +4,4 @@ pub mod CutLines
 pub mod PassedBytes
 pub mod RestParts
 pub mod SentTexts
+pub mod SpelledLines

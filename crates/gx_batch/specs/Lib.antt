@@ -3,3 +3,4 @@ pub mod Answers
 pub mod Batches
 pub mod Reading
 pub mod Rows
+pub mod LineLaws

@@ -5,6 +5,7 @@
 mod answers;
 mod batching;
 mod fault;
+pub mod line_laws;
 mod lines;
 
 pub use batching::batch;

@@ -17,7 +17,7 @@ use Rattle.gx_stream.proofs.Firsts.{Shortens, first_of-shortens, first_of-line, 
 pub Skipped-none : (text : Bytes) (fails : Bool) (start : ℕ) → start ≤ length text → Skipped text fails start start
 Skipped-none text fails start l = record { from = omega arith; within = l; same = λ more then_fails g. refl }
 
-line_first : (text : Bytes) (fails : Bool) (at : ℕ) (line : Place) → IsLine text fails at line → first_of (drop at text) fails ≡ first_line (bytes_at text line) (drop line.next text) fails
+pub line_first : (text : Bytes) (fails : Bool) (at : ℕ) (line : Place) → IsLine text fails at line → first_of (drop at text) fails ≡ first_line (bytes_at text line) (drop line.next text) fails
 line_first text fails at line is =
     first_of-line (drop at text) fails is.some ∙ ap (λ l. first_line l (drop (line_len (drop at text) + 1) (drop at text)) fails) (sym is.bytes) ∙ ap (λ rest. first_line (bytes_at text line) rest fails) (sym is.rest)
 

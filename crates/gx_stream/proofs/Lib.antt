@@ -6,3 +6,4 @@ pub mod Longer
 pub mod Scans
 pub mod Views
 pub mod Arrivals
+pub mod FirstItems

@@ -3,3 +3,4 @@ pub mod Faults
 pub mod Places
 pub mod Reading
 pub mod Input
+pub mod FirstItems

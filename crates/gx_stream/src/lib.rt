@@ -3,11 +3,13 @@
 #![tactic(auto)]
 
 mod fault;
+mod first;
 mod input;
 mod item;
 mod places;
 mod reader;
 
 pub use fault::StreamFault;
+pub use first::{First, first_item};
 pub use item::Item;
 pub use reader::ItemReader;

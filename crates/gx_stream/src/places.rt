@@ -99,7 +99,7 @@ pub(crate) fn find_item(text: &[u8], at: &mut usize, scan: &mut Scan, fails: boo
 
 /// The item that begins with a line which is no comment.
 #[tactic(auto, unfolding(gx_model::specs::Items::first_line))]
-fn find_from(text: &[u8], line: Place, scan: &mut Scan, fails: bool) -> Found
+pub(crate) fn find_from(text: &[u8], line: Place, scan: &mut Scan, fails: bool) -> Found
     requires within { (line.start ≤ line.end) × (line.end ≤ line.next) × (line.next ≤ length text.now) }
     requires no_comment { starts_with nat_eq (slice_range text.now line.start line.end) (codes "#") ≡ false }
     requires scan { IsSearched text.now (drop 2 (drop 5 (slice_range text.now line.start line.end))) fails line.next scan.old }
@@ -199,7 +199,7 @@ fn find_lines(
 }
 
 /// The line at a place, which has no LF before another. None stands at the end, or where the text fails before an LF.
-fn find_line(text: &[u8], at: usize, seen: usize, fails: bool) -> Option<Place>
+pub(crate) fn find_line(text: &[u8], at: usize, seen: usize, fails: bool) -> Option<Place>
     requires { GoesTo text.now at seen }
     ensures { IsLineAt text.now fails at result }
 {

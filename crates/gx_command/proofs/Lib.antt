@@ -8,3 +8,6 @@ pub mod Steps
 pub mod NextCommands
 pub mod TakenItems
 pub mod BroughtGitlinks
+pub mod PassedCommands
+pub mod CountedItems
+pub mod LastItems

@@ -8,3 +8,4 @@ pub mod Ahead
 pub mod Bodies
 pub mod Heads
 pub mod Reading
+pub mod Behind

@@ -3,6 +3,7 @@
 #![tactic(auto)]
 
 mod ahead;
+mod behind;
 mod bodies;
 mod change_lines;
 mod commands;
@@ -14,6 +15,7 @@ mod modify_line;
 mod reader;
 mod texts;
 
+pub use behind::{BehindFault, items_behind};
 pub use commands::{Blob, Change, Command, Commit, CommitIsh, DataRef, Modify, Reset, Tag};
 pub use fault::CommandFault;
 pub use gx_model::Feature;

@@ -5,6 +5,7 @@ ghost use Rattle.std.specs.Option.{option_map};
 ghost use Rattle.gx_model.specs.Gitlinks.{BringsNoNullGitlink};
 ghost use Rattle.gx_model.specs.Grammar.{is_option, asks_done, is_done};
 ghost use Rattle.gx_command.specs.Ahead.{to_come, most, Reads as ReadsAhead, Falls as FallsAhead};
+ghost use Rattle.gx_command.specs.Behind.{at_start};
 ghost use Rattle.gx_command.specs.Reading.{Reads, Finishes, Falls, Repeats, commands_from, next_after, over_after, state_after};
 ghost use Rattle.gx_command.specs.Views.{shown_command};
 
@@ -63,10 +64,7 @@ impl<R: Source, A: Allocator + Copy> CommandReader<R, A> {
     {
         CommandReader {
             ahead: Ahead::new(alloc, source),
-            state: State::Open(Options {
-                are_all: true,
-                needs_done: false,
-            }),
+            state: State::at_start(),
         }
     }
 
@@ -112,7 +110,7 @@ impl<R: Source, A: Allocator + Copy> CommandReader<R, A> {
 }
 
 /// The command that comes next. A stream that asks for `done` doesn't end without it.
-fn next_command<R: Source, A: Allocator + Copy>(
+pub(crate) fn next_command<R: Source, A: Allocator + Copy>(
     ahead: &mut Ahead<R, A>,
     options: Options,
 ) -> Result<Option<Command<A>>, CommandFault>
@@ -126,9 +124,21 @@ fn next_command<R: Source, A: Allocator + Copy>(
     }
 }
 
+impl State {
+    /// No command came yet.
+    pub(crate) fn at_start() -> State
+        ensures { result ≡ at_start }
+    {
+        State::Open(Options {
+            are_all: true,
+            needs_done: false,
+        })
+    }
+}
+
 impl Options {
     /// The state after a command.
-    fn after<A: Allocator>(self, command: &Command<A>) -> State
+    pub(crate) fn after<A: Allocator>(self, command: &Command<A>) -> State
         ensures { result ≡ state_after self (shown_command command.now) }
     {
         if is_done(command) {

@@ -1,0 +1,31 @@
+use Rattle.std.proofs.Common.{arith}
+use Rattle.gx_command.proofs.PassedCommands.{passed_none, passed_more, passes_all, passes_over, passes_end, passes_fault, over_unless}
+use Rattle.gx_command.proofs.ahead.Ahead.pass_commands.Goals as goal
+
+pub returns-in_default : goal.returns-in_default
+returns-in_default g c = record {
+  passes = passes_over _ _ _ _ _ c.loop-passed-test.true (over_unless _ c.in_default.not-Open) c.loop-passed.invariant.passed;
+  falls = c.loop-passed.invariant.falls;
+}
+
+pub returns-in-Ok-None-clause-passes : goal.returns-in-Ok-None-clause-passes
+returns-in-Ok-None-clause-passes g c =
+    let passed = rw c.in-Open.is at c.loop-passed.invariant.passed in
+    passes_end g.row.A.Denot _ _ _ _ _ _ c.loop-passed-test.true passed (rw c.in-Ok-None.field-0-is at c.in-Ok-None.ensures.reads)
+
+pub returns-in-Err-clause-passes : goal.returns-in-Err-clause-passes
+returns-in-Err-clause-passes g c =
+    let passed = rw c.in-Open.is at c.loop-passed.invariant.passed in
+    rw c.fault_at.ensures (passes_fault g.row.A.Denot _ _ _ _ _ _ _ _ c.loop-passed-test.true passed c.in-Err.ensures.reads)
+
+pub loop-passed-preserved : goal.loop-passed-preserved
+loop-passed-preserved g c =
+    let passed = rw c.in-Open.is at c.loop-passed.invariant.passed in
+    record {
+      passed = rw c.after-state.ensures (passed_more _ _ c.in-Ok-Some.command _ _ _ passed (rw c.in-Ok-Some.field-0-is at c.in-Ok-Some.ensures.reads));
+      within = omega (arith, c.loop-passed-test.true);
+      falls = omega (arith, c.loop-passed.invariant.falls, rw c.in-Ok-Some.field-0-is at c.in-Ok-Some.ensures.falls);
+    }
+
+pub returns-clause-passes : goal.returns-clause-passes
+returns-clause-passes g c = passes_all _ _ _ _ _ (omega (arith, c.loop-passed.invariant.within, c.loop-passed-test.false)) c.loop-passed.invariant.passed

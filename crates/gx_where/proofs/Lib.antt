@@ -1,0 +1,2 @@
+pub mod NextItems
+pub mod ToldPlaces

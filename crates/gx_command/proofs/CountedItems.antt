@@ -1,8 +1,7 @@
 -- Items that are counted past the empty lines before them.
-use Rattle.std.proofs.Common.{◌≡◌, ℕ, zero, suc, ◌+◌, Bool, true, false, not, ◌||◌, List, [], ◌∷◌, length, Option, Some, None, Result, Ok, Err, refl, sym, ap, subst, ◌∙◌, inl, inr, arith}
-use Rattle.gx_model.specs.Items.{Item, Line, Data, Stream, then_comes, Finished}
-use Rattle.gx_stream.specs.Faults.{ended}
-use Rattle.gx_command.specs.Behind.{past_empty, is_empty_line}
+use Rattle.std.proofs.Common.{◌≡◌, ℕ, zero, suc, ◌+◌, List, length, Option, Some, None}
+use Rattle.gx_model.specs.Items.{Item, Stream}
+use Rattle.gx_command.specs.Behind.{past_empty}
 
 -- before an item is counted, empty lines are passed
 abbrev pub past_if : ℕ → List Item → List Item
@@ -13,7 +12,3 @@ past_if (suc n) items = items
 abbrev pub AreCounted : ℕ → Option Stream → Option Stream → Type 0
 AreCounted count None now = Unit {0}
 AreCounted count (Some s) now = (t : Stream) × (now ≡ Some t) × (length (past_empty s.items) ≡ count + length (past_if count t.items))
-
-pub counted_none : (old : Option Stream) → AreCounted 0 old old
-counted_none None = tt
-counted_none (Some s) = (s, refl, omega arith)

@@ -1,22 +1,18 @@
 -- What reading leaves are the last of the items that there were, with the same end.
-use Rattle.std.proofs.Common.{◌≡◌, ℕ, zero, suc, ◌<◌, ◌≤◌, Bool, true, false, cond, List, [], ◌∷◌, ◌++◌, length, drop, ◌+◌, ◌-◌, Option, Some, None, Ok, Err, refl, sym, ap, subst, ◌∙◌, append_assoc, arith}
+use Rattle.std.proofs.Common.{◌≡◌, ℕ, zero, suc, ◌≤◌, Bool, true, false, cond, List, [], ◌∷◌, ◌++◌, length, drop, ◌+◌, ◌-◌, Option, Some, None, Ok, Err, refl, sym, ap, subst, ◌∙◌, append_assoc, arith}
 use Rattle.std.specs.Prelude.{codes, ◌||◌}
+use Rattle.std.specs.List.{list_all, list_any}
 use Rattle.gx_model.specs.Texts.{Bytes}
 use Rattle.gx_model.specs.Faults.{Given, ◌>>=◌}
 use Rattle.gx_model.specs.Items.{Item, Line, Data, End, Finished, Failed, Stream}
 use Rattle.gx_model.specs.Commands.{Change, Command, CommitIsh}
-use Rattle.gx_model.specs.Grammar.{Read, Words, at_end, after, words_of, is_word, rest_of, bare, rest_line_in, rest_line, read_some, optional, read_needed, needed, block_in, block, mark_of, any_text, encoding_of, ident_of, ref_of, tag_of, commit_ish_of, feature_of, mode_of, where_of, suits, Where, AtMark, AtName, AtBlock, bytes_from, part_of, last_path, two_paths, modify_at, change_at, changes_within, changes, merges_within, merges, item_after_in, item_after, unsigned_in, unsigned, blob_at, links_at, commit_at, tag_at, reset_at, if_early, command_at}
+use Rattle.gx_model.specs.Grammar.{Read, Words, at_end, after, words_of, is_word, rest_of, bare, rest_line_in, rest_line, read_some, optional, read_needed, needed, block_in, block, mark_of, any_text, encoding_of, ident_of, ref_of, tag_of, commit_ish_of, feature_of, mode_of, where_of, suits, Where, AtMark, AtName, AtBlock, bytes_from, part_of, last_path, two_paths, modify_at, change_at, changes_within, changes, merges_within, merges, item_after_in, item_after, unsigned_in, unsigned, blob_at, links_at, commit_at, tag_at, reset_at, if_early, command_at, asks_done, is_done, is_option}
 use Rattle.std.proofs.lemmas.List.{length-append}
 use Rattle.std.proofs.Math.Seq.{drop-append_seam}
 use Rattle.gx_model.specs.declared.faults.Fault.{Fault}
-use Rattle.gx_command.specs.Behind.{CountsLeft, Passes, TellsBehind, at_start, from_next, last_of, left_behind, past_empty}
+use Rattle.gx_command.specs.Behind.{CountsLeft, Passes, TellsBehind, from_next, last_of, left_behind, next_behind, or_missing_done, past_empty}
 use Rattle.gx_command.specs.Heads.{first, first_in, there}
-use Rattle.gx_command.specs.Reading.{next_after, or_missing, state_after}
-use Rattle.gx_command.specs.declared.reader.Options.{Options}
-use Rattle.gx_command.specs.declared.reader.State.{State}
-use Rattle.gx_command.specs.declared.reader.State.TheVariants.{Open, Ended}
-use Rattle.gx_command.specs.declared.reader.State.TheVariants as states
-use Rattle.gx_command.proofs.PassedCommands.{left_zero, left_more, left_none, left_fault, left_over}
+use Rattle.gx_command.proofs.PassedCommands.{left_by, left_next, left_over, left_zero}
 
 -- these are the last of those
 abbrev pub AreLast : Stream → Stream → Type 0
@@ -252,12 +248,14 @@ first_in_ends early (Line (b ∷ bs) ∷ more) s is =
     let read = command_at early (words_of (b ∷ bs)) (after more s) in
     still_last (there read) s (after more s) (then_ends read _ (after more s) (command_ends early (words_of (b ∷ bs)) (after more s)) (λ c. all_last _)) (but_one _ more s is)
 
-missing_ends : (o : Options) (x : Option Command × Stream) → Ends (or_missing o x) x.1
-missing_ends o (None, t) = choice_ends o.needs_done (Err _) (Ok (None, t)) t tt (all_last t)
-missing_ends o (Some c, t) = all_last t
+missing_ends : (before : List Command) (x : Option Command × Stream) → Ends (or_missing_done before x) x.1
+missing_ends before (None, t) = choice_ends (list_any asks_done before) (Err _) (Ok (None, t)) t tt (all_last t)
+missing_ends before (Some c, t) = all_last t
 
-next_ends : (o : Options) (s : Stream) → Ends (next_after o s) s
-next_ends o s = then_ends (first o.are_all s) (or_missing o) s (first_in_ends o.are_all s.items s refl) (missing_ends o)
+next_ends : (before : List Command) (s : Stream) → Ends (next_behind before s) s
+next_ends before s =
+    let early = list_all is_option before in
+    then_ends (first early s) (or_missing_done before) s (first_in_ends early s.items s refl) (missing_ends before)
 
 past_is_last : (items : List Item) → (front : List Item) × (items ≡ front ++ past_empty items)
 past_is_last [] = ([], refl)
@@ -272,33 +270,31 @@ abbrev refused : Fault → Given (Option Stream)
 refused f = Err f
 
 -- what is left behind commands
-behind_ends : (n : ℕ) (state : State) (s t : Stream) → left_behind n state s ≡ given (Some t) → AreLast t s
-behind_ends zero state s t e =
+behind_ends : (n : ℕ) (before : List Command) (s t : Stream) → left_behind n before s ≡ given (Some t) → AreLast t s
+behind_ends zero before s t e =
     let past = past_is_last s.items in
-    let same : from_next s ≡ t = the_same (from_next s) t (sym (left_zero state s) ∙ e) in
+    let same : from_next s ≡ t = the_same (from_next s) t (sym (left_zero before s) ∙ e) in
     subst (λ u. AreLast u s) same (past.0, past.1, refl)
   where
     the_same : (t u : Stream) → given (Some t) ≡ given (Some u) → t ≡ u
     the_same t u e = cc
-behind_ends (suc n) Ended s t e = absurd (fewer (sym (left_over n Ended s tt) ∙ e)) where
-  fewer : given None ≡ given (Some t) → ⊥
-  fewer e = cc
-behind_ends (suc n) (states.Failed f) s t e = absurd (fewer (sym (left_over n (states.Failed f) s tt) ∙ e)) where
-  fewer : given None ≡ given (Some t) → ⊥
-  fewer e = cc
-behind_ends (suc n) (Open o) s t e = by (next_after o s) refl (λ state u. behind_ends n state u t) where
+behind_ends (suc n) before s t e = at (list_any is_done before) refl (λ more u. behind_ends n more u t) where
   fewer : given None ≡ given (Some t) → ⊥
   fewer e = cc
 
   fails : (f : Fault) → refused f ≡ given (Some t) → ⊥
   fails f e = cc
 
-  by : (r : Read (Option Command)) → next_after o s ≡ r → ((state : State) (u : Stream) → left_behind n state u ≡ given (Some t) → AreLast t u) → AreLast t s
-  by (Err f) is again = absurd (fails f (sym (left_fault n o s f is) ∙ e))
-  by (Ok (None, u)) is again = absurd (fewer (sym (left_none n o s u is) ∙ e))
-  by (Ok (Some c, u)) is again =
-      let next : AreLast u s = subst (λ r. Ends r s) is (next_ends o s) in
-      last_of_last s u t next (again (state_after o c) u (sym (left_more n o s u c is) ∙ e))
+  by : (r : Read (Option Command)) → next_behind before s ≡ r → left_by n before r ≡ given (Some t) → ((more : List Command) (u : Stream) → left_behind n more u ≡ given (Some t) → AreLast t u) → AreLast t s
+  by (Err f) is h again = absurd (fails f h)
+  by (Ok (None, u)) is h again = absurd (fewer h)
+  by (Ok (Some c, u)) is h again =
+      let next : AreLast u s = subst (λ r. Ends r s) is (next_ends before s) in
+      last_of_last s u t next (again (before ++ c ∷ []) u h)
+
+  at : (over : Bool) → list_any is_done before ≡ over → ((more : List Command) (u : Stream) → left_behind n more u ≡ given (Some t) → AreLast t u) → AreLast t s
+  at true over again = absurd (fewer (sym (left_over n before s over) ∙ e))
+  at false over again = by (next_behind before s) refl (sym (left_next n before s over) ∙ e) again
 
 -- ---- by their number
 
@@ -317,5 +313,5 @@ pub tells_behind : (n m : ℕ) (old mid : Option Stream) → Passes n old mid (O
 tells_behind n m None mid h k = tt
 tells_behind n m (Some s) mid (t, is, e) k =
     let count : length (past_empty t.items) ≡ m = subst (λ m'. CountsLeft m' (Ok m)) is k in
-    let last = by_number s (from_next t) (behind_ends n at_start s (from_next t) e) in
+    let last = by_number s (from_next t) (behind_ends n [] s (from_next t) e) in
     subst (λ m. TellsBehind n (Some s) (Ok (Some m))) count (last.0, e ∙ ap (λ left. given (Some left)) last.1)

@@ -11,3 +11,4 @@ pub mod BroughtGitlinks
 pub mod PassedCommands
 pub mod CountedItems
 pub mod LastItems
+pub mod BehindCommands

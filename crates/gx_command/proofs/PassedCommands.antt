@@ -1,15 +1,18 @@
 -- Commands that were read one by one, and what is left of the items behind them.
-use Rattle.std.proofs.Common.{◌≡◌, ℕ, zero, suc, ◌+◌, ◌-◌, ◌<◌, ◌⊎◌, true, false, Option, Some, None, Result, Ok, Err, refl, ap, subst, ◌∙◌, inl, inr, arith}
+use Rattle.std.proofs.Common.{◌≡◌, ℕ, zero, suc, ◌+◌, ◌-◌, ◌<◌, ◌⊎◌, true, false, Option, Some, None, Ok, Err, List, [], ◌∷◌, ◌++◌, Bool, refl, ap, subst, ◌∙◌, inl, inr, arith}
+use Rattle.std.specs.Prelude.{◌&&◌, ◌||◌, if◌then◌else◌}
+use Rattle.std.specs.List.{list_all, list_any}
 use Rattle.std.specs.Option.{option_map}
-use Rattle.gx_model.specs.declared.faults.Fault.{Fault}
-use Rattle.gx_model.specs.Faults.{◌>>=◌}
+use Rattle.gx_model.specs.Faults.{Given, ◌>>=◌}
 use Rattle.gx_model.specs.Items.{Stream}
 use Rattle.gx_model.specs.Commands as model
+use Rattle.gx_model.specs.Grammar.{Read, asks_done, is_done, is_option}
 use Rattle.gx_command.specs.Ahead.{Fails}
 use Rattle.gx_command.specs.Ahead as ahead
-use Rattle.gx_command.specs.Behind.{FailsAt, Passes, at_start, fault_at, from_next, left_behind, or_none}
+use Rattle.gx_command.specs.Behind.{FailsAt, Passes, at_start, fault_at, from_next, left_behind, next_behind, or_missing_done, or_none}
+use Rattle.gx_command.specs.Heads.{first}
 use Rattle.gx_command.specs.CommandFaults.{fault_of}
-use Rattle.gx_command.specs.Reading.{next_after, state_after}
+use Rattle.gx_command.specs.Reading.{next_after, or_missing, state_after}
 use Rattle.gx_command.specs.Views.{shown_command}
 use Rattle.gx_command.specs.declared.behind.BehindFault.TheVariants as behind
 use Rattle.gx_command.specs.declared.commands.Command.{Command}
@@ -18,24 +21,33 @@ use Rattle.gx_command.specs.declared.fault.CommandFault.TheVariants as faults
 use Rattle.gx_command.specs.declared.reader.Options.{Options}
 use Rattle.gx_command.specs.declared.reader.State.{State}
 use Rattle.gx_command.specs.declared.reader.State.TheVariants.{Open, Ended, Failed}
+use Rattle.gx_command.proofs.Steps.{all_more, any_more}
 
 -- ---- one command more
 
-pub left_zero : (state : State) (t : Stream) → left_behind zero state t ≡ Ok (Some (from_next t))
+pub left_zero : (before : List model.Command) (t : Stream) → left_behind zero before t ≡ Ok (Some (from_next t))
 unfolding left_behind
-left_zero state t = refl
+left_zero before t = refl
 
-pub left_more : (n : ℕ) (o : Options) (t u : Stream) (c : model.Command) → next_after o t ≡ Ok (Some c, u) → left_behind (suc n) (Open o) t ≡ left_behind n (state_after o c) u
-unfolding left_behind
-left_more n o t u c e = ap (λ r. r >>= λ x. or_none x.0 (λ c. left_behind n (state_after o c) x.1)) e
+-- what follows the command that comes next
+abbrev pub left_by : ℕ → List model.Command → Read (Option model.Command) → Given (Option Stream)
+left_by n before r = r >>= λ x. or_none x.0 (λ c. left_behind n (before ++ c ∷ []) x.1)
 
-pub left_none : (n : ℕ) (o : Options) (t u : Stream) → next_after o t ≡ Ok (None, u) → left_behind (suc n) (Open o) t ≡ Ok None
+pub left_next : (n : ℕ) (before : List model.Command) (t : Stream) → list_any is_done before ≡ false → left_behind (suc n) before t ≡ left_by n before (next_behind before t)
 unfolding left_behind
-left_none n o t u e = ap (λ r. r >>= λ x. or_none x.0 (λ c. left_behind n (state_after o c) x.1)) e
+left_next n before t goes_on = rw goes_on refl
 
-pub left_fault : (n : ℕ) (o : Options) (t : Stream) (f : Fault) → next_after o t ≡ Err f → left_behind (suc n) (Open o) t ≡ Err f
+pub left_over : (n : ℕ) (before : List model.Command) (t : Stream) → list_any is_done before ≡ true → left_behind (suc n) before t ≡ Ok None
 unfolding left_behind
-left_fault n o t f e = ap (λ r. r >>= λ x. or_none x.0 (λ c. left_behind n (state_after o c) x.1)) e
+left_over n before t over = rw over refl
+
+-- ---- the commands that were read
+
+-- the reader's state after these commands
+abbrev pub StandsAfter : List model.Command → State → Type 0
+StandsAfter before (Open o) = (list_any is_done before ≡ false) × (list_all is_option before ≡ o.are_all) × (list_any asks_done before ≡ o.needs_done)
+StandsAfter before Ended = list_any is_done before ≡ true
+StandsAfter before (Failed f) = ⊥
 
 -- no command comes in this state
 abbrev pub IsOver : State → Type 0
@@ -43,40 +55,58 @@ IsOver (Open o) = ⊥
 IsOver Ended = Unit {0}
 IsOver (Failed f) = Unit {0}
 
-pub left_over : (n : ℕ) (state : State) (t : Stream) → IsOver state → left_behind (suc n) state t ≡ Ok None
-unfolding left_behind
-left_over n (Open o) t over = absurd over
-left_over n Ended t over = refl
-left_over n (Failed f) t over = refl
-
 pub over_unless : (state : State) → ((o : Options) → state ≡ Open o → ⊥) → IsOver state
 over_unless (Open o) unless = unless o refl
 over_unless Ended unless = tt
 over_unless (Failed f) unless = tt
 
--- ---- the commands that were read
+is_over : (before : List model.Command) (state : State) → IsOver state → StandsAfter before state → list_any is_done before ≡ true
+is_over before (Open o) over stands = absurd over
+is_over before Ended over stands = stands
+is_over before (Failed f) over stands = absurd stands
+
+or_missing_is : (before : List model.Command) (o : Options) (r : Read (Option model.Command)) → list_any asks_done before ≡ o.needs_done → (r >>= or_missing_done before) ≡ (r >>= or_missing o)
+or_missing_is before o (Err f) needs = refl
+or_missing_is before o (Ok (None, t)) needs = rw needs refl
+or_missing_is before o (Ok (Some c, t)) needs = refl
+
+-- the reader's next command is the model's
+next_is : (before : List model.Command) (o : Options) (t : Stream) → StandsAfter before (Open o) → next_behind before t ≡ next_after o t
+next_is before o t stands = ap (λ early. (first early t >>= or_missing_done before)) stands.1 ∙ or_missing_is before o (first o.are_all t) stands.2
+
+left_by_state : (n : ℕ) (before : List model.Command) (o : Options) (t : Stream) (r : Read (Option model.Command)) → StandsAfter before (Open o) → next_after o t ≡ r → left_behind (suc n) before t ≡ left_by n before r
+left_by_state n before o t r stands e = left_next n before t stands.0 ∙ ap (left_by n before) (next_is before o t stands ∙ e)
+
+stands_more : (before : List model.Command) (o : Options) (c : model.Command) → StandsAfter before (Open o) → StandsAfter (before ++ c ∷ []) (state_after o c)
+stands_more before o c stands = by (is_done c) refl where
+  done : list_any is_done (before ++ c ∷ []) ≡ (list_any is_done before || is_done c)
+  done = any_more is_done before c
+
+  by : (d : Bool) → is_done c ≡ d → StandsAfter (before ++ c ∷ []) (if d then Ended else Open (record { are_all = o.are_all && is_option c; needs_done = o.needs_done || asks_done c }))
+  by true e = done ∙ rw (stands.0, e) refl
+  by false e = (done ∙ rw (stands.0, e) refl, all_more is_option before c ∙ ap (λ a. a && is_option c) stands.1, any_more asks_done before c ∙ ap (λ a. a || asks_done c) stands.2)
 
 -- so many commands were read, and this is what is left
 abbrev pub ArePassed : ℕ → State → Option Stream → Option Stream → Type 0
 ArePassed passed state None now = Unit {0}
-ArePassed passed state (Some s) now = (t : Stream) × (now ≡ Some t) × ((n : ℕ) → left_behind (passed + n) at_start s ≡ left_behind n state t)
+ArePassed passed state (Some s) now = (before : List model.Command) × (t : Stream) × (now ≡ Some t) × StandsAfter before state × ((n : ℕ) → left_behind (passed + n) [] s ≡ left_behind n before t)
 
 pub passed_none : (old : Option Stream) → ArePassed 0 at_start old old
 passed_none None = tt
-passed_none (Some s) = (s, refl, λ n. ap (λ k. left_behind k at_start s) (omega arith))
+passed_none (Some s) = ([], s, refl, (refl, refl, refl), λ n. ap (λ k. left_behind k [] s) (omega arith))
 
 pub passed_more : {A : Type 0} (passed : ℕ) (o : Options) (c : Command A) (old now new : Option Stream) → ArePassed passed (Open o) old now → ahead.Reads (option_map shown_command) (next_after o) now new (Ok (Some c)) → ArePassed (passed + 1) (state_after o (shown_command c)) old new
 passed_more passed o c None now new h k = tt
-passed_more passed o c (Some s) now new (t, is, e) k =
+passed_more passed o c (Some s) now new (before, t, is, stands, e) k =
     let l = subst (λ (m : Option Stream). ahead.Reads (option_map shown_command) (next_after o) m new (Ok (Some c))) is k in
     let one : (n : ℕ) → passed + 1 + n ≡ passed + suc n = λ n. omega arith in
-    (l.0, l.1, λ n. ap (λ k. left_behind k at_start s) (one n) ∙ e (suc n) ∙ left_more n o t l.0 (shown_command c) l.2)
+    (before ++ shown_command c ∷ [], l.0, l.1, stands_more before o (shown_command c) stands, λ n. ap (λ k. left_behind k [] s) (one n) ∙ e (suc n) ∙ left_by_state n before o t _ stands l.2)
 
 pub passes_all : (passed n : ℕ) (state : State) (old now : Option Stream) → passed ≡ n → ArePassed passed state old now → Passes n old now (Ok true)
 passes_all passed n state None now same h = tt
-passes_all passed n state (Some s) now same (t, is, e) =
+passes_all passed n state (Some s) now same (before, t, is, stands, e) =
     let all : n ≡ passed + 0 = omega (arith, same) in
-    (t, is, ap (λ k. left_behind k at_start s) all ∙ e 0 ∙ left_zero state t)
+    (t, is, ap (λ k. left_behind k [] s) all ∙ e 0 ∙ left_zero before t)
 
 -- the commands that are still wanted
 wanted : (passed n : ℕ) → passed < n → n ≡ passed + suc (n - passed - 1)
@@ -84,14 +114,14 @@ wanted passed n less = omega (arith, less)
 
 pub passes_over : (passed n : ℕ) (state : State) (old now : Option Stream) → passed < n → IsOver state → ArePassed passed state old now → Passes n old now (Ok false)
 passes_over passed n state None now less over h = tt
-passes_over passed n state (Some s) now less over (t, is, e) =
-    ap (λ k. left_behind k at_start s) (wanted passed n less) ∙ e (suc (n - passed - 1)) ∙ left_over (n - passed - 1) state t over
+passes_over passed n state (Some s) now less over (before, t, is, stands, e) =
+    ap (λ k. left_behind k [] s) (wanted passed n less) ∙ e (suc (n - passed - 1)) ∙ left_over (n - passed - 1) before t (is_over before state over stands)
 
 pub passes_end : (A : Type 0) (passed n : ℕ) (o : Options) (old now new : Option Stream) → passed < n → ArePassed passed (Open o) old now → ahead.Reads {X = Option (Command A)} (option_map shown_command) (next_after o) now new (Ok None) → Passes n old new (Ok false)
 passes_end A passed n o None now new less h k = tt
-passes_end A passed n o (Some s) now new less (t, is, e) k =
+passes_end A passed n o (Some s) now new less (before, t, is, stands, e) k =
     let l = subst (λ (m : Option Stream). ahead.Reads {X = Option (Command A)} (option_map shown_command) (next_after o) m new (Ok None)) is k in
-    ap (λ k. left_behind k at_start s) (wanted passed n less) ∙ e (suc (n - passed - 1)) ∙ left_none (n - passed - 1) o t l.0 l.2
+    ap (λ k. left_behind k [] s) (wanted passed n less) ∙ e (suc (n - passed - 1)) ∙ left_by_state (n - passed - 1) before o t _ stands l.2
 
 -- ---- a fault
 
@@ -113,7 +143,7 @@ which k faults.MissingDone = inr refl
 
 pub passes_fault : (A : Type 0) (passed n : ℕ) (o : Options) (f : CommandFault) (old now new new' : Option Stream) → passed < n → ArePassed passed (Open o) old now → ahead.Reads {X = Option (Command A)} (option_map shown_command) (next_after o) now new (Err f) → Passes n old new' (Err (fault_at (passed + 1) f))
 passes_fault A passed n o f None now new new' less h k = tt
-passes_fault A passed n o f (Some s) now new new' less (t, is, e) k = by (subst (λ (m : Option Stream). ahead.Reads {X = Option (Command A)} (option_map shown_command) (next_after o) m new (Err f)) is k) where
+passes_fault A passed n o f (Some s) now new new' less (before, t, is, stands, e) k = by (subst (λ (m : Option Stream). ahead.Reads {X = Option (Command A)} (option_map shown_command) (next_after o) m new (Err f)) is k) where
   fails : next_after o t ≡ Err (fault_of f) → FailsAt n (passed + 1) f s
   fails fault =
       let none : passed + 1 - 1 ≡ passed + 0 = omega arith in
@@ -121,8 +151,8 @@ passes_fault A passed n o f (Some s) now new new' less (t, is, e) k = by (subst 
       record {
         from = omega arith;
         among = omega (arith, less);
-        before = (from_next t, ap (λ k. left_behind k at_start s) none ∙ e 0 ∙ left_zero (Open o) t);
-        fault = ap (λ k. left_behind k at_start s) one ∙ e (suc 0) ∙ left_fault 0 o t (fault_of f) fault;
+        before = (from_next t, ap (λ k. left_behind k [] s) none ∙ e 0 ∙ left_zero before t);
+        fault = ap (λ k. left_behind k [] s) one ∙ e (suc 0) ∙ left_by_state 0 before o t _ stands fault;
       }
 
   by : Fails f (next_after o t) → Passes n (Some s) new' (Err (fault_at (passed + 1) f))

@@ -1,20 +1,19 @@
 -- What is left of items behind so many commands.
-use Rattle.std.specs.Prelude.{◌≡◌, ℕ, zero, suc, ◌-◌, ◌<◌, ◌≤◌, Bool, true, false, List, [], ◌∷◌, length, drop, Option, Some, None, Result, Ok, Err}
+use Rattle.std.specs.Prelude.{◌≡◌, ℕ, zero, suc, ◌-◌, ◌<◌, ◌≤◌, Bool, true, false, if◌then◌else◌, List, [], ◌∷◌, ◌++◌, length, drop, Option, Some, None, Result, Ok, Err}
+use Rattle.std.specs.List.{list_all, list_any}
 use Rattle.gx_model.specs.Faults.{Given, ◌>>=◌}
 use Rattle.gx_model.specs.Items.{Item, Line, Data, Stream}
-use Rattle.gx_model.specs.Commands.{Command}
+use Rattle.gx_model.specs.declared.faults.Fault.TheVariants as model
+use Rattle.gx_model.specs.Commands.{Command, Commands}
+use Rattle.gx_model.specs.Grammar.{Read, asks_done, commands_of, commands_within, is_done, is_option, stops}
 use Rattle.gx_command.specs.CommandFaults.{fault_of}
-use Rattle.gx_command.specs.Reading.{next_after, state_after}
+use Rattle.gx_command.specs.Heads.{first}
 use Rattle.gx_command.specs.declared.fault.CommandFault.{CommandFault}
 use Rattle.gx_command.specs.declared.fault.CommandFault.TheVariants as faults
 use Rattle.gx_command.specs.declared.behind.BehindFault.{BehindFault}
 use Rattle.gx_command.specs.declared.behind.BehindFault.TheVariants.{OutOfMemory, Command as AtCommand}
 use Rattle.gx_command.specs.declared.reader.State.{State}
-use Rattle.gx_command.specs.declared.reader.State.TheVariants.{Open, Ended, Failed}
-
--- a reader that has read no command yet
-abbrev pub at_start : State
-at_start = Open (record { are_all = true; needs_done = false })
+use Rattle.gx_command.specs.declared.reader.State.TheVariants.{Open}
 
 -- items without the empty lines before them
 abbrev pub past_empty : List Item → List Item
@@ -26,18 +25,37 @@ past_empty (Line (b ∷ bs) ∷ more) = Line (b ∷ bs) ∷ more
 abbrev pub from_next : Stream → Stream
 from_next s = record { items = past_empty s.items; end = s.end }
 
+-- a command, or the end where none of those before asked for `done`
+abbrev pub or_missing_done : List Command → Option Command × Stream → Read (Option Command)
+or_missing_done before (None, t) = if list_any asks_done before then Err model.MissingDone else Ok (None, t)
+or_missing_done before (Some c, t) = Ok (Some c, t)
+
+-- the command that comes next behind others, past empty lines; none at the end
+abbrev pub next_behind : List Command → Stream → Read (Option Command)
+next_behind before s = first (list_all is_option before) s >>= or_missing_done before
+
 -- what follows the command that came, if one did
 abbrev pub or_none : Option Command → (Command → Given (Option Stream)) → Given (Option Stream)
 or_none None next = Ok None
 or_none (Some c) next = next c
 
--- What is left of items behind n commands and the empty lines after them, from a reader's state on. None where fewer
--- commands come, as after `done`, and otherwise the fault of one of them.
-unfoldable pub left_behind : ℕ → State → Stream → Given (Option Stream)
-left_behind zero state s = Ok (Some (from_next s))
-left_behind (suc n) Ended s = Ok None
-left_behind (suc n) (Failed f) s = Ok None
-left_behind (suc n) (Open o) s = next_after o s >>= λ x. or_none x.0 (λ c. left_behind n (state_after o c) x.1)
+-- What is left of items behind n commands and the empty lines after them, where those commands came before. None where
+-- fewer come, as after `done`, and otherwise the fault of one of them.
+unfoldable pub left_behind : ℕ → List Command → Stream → Given (Option Stream)
+left_behind zero before s = Ok (Some (from_next s))
+left_behind (suc n) before s = if list_any is_done before then Ok None else (next_behind before s >>= λ x. or_none x.0 (λ c. left_behind n (before ++ c ∷ []) x.1))
+
+-- the commands of items, behind others: none behind `done`
+abbrev pub commands_behind : List Command → Stream → Commands
+commands_behind before s = if list_any is_done before then stops None else commands_within (length s.items) before s.items s.end
+
+-- some commands, and then these
+abbrev pub then_come : List Command → Commands → Commands
+then_come front cs = record { list = front ++ cs.list; fault = cs.fault }
+
+-- the commands of the items are n, and then those of what is left behind them
+abbrev pub AreBehind : ℕ → Stream → Stream → Type 0
+AreBehind n s left = (front : List Command) × (length front ≡ n) × (commands_of s ≡ then_come front (commands_behind front left))
 
 -- the last of the items, so many, with the same end
 abbrev pub last_of : Stream → ℕ → Stream
@@ -47,24 +65,28 @@ last_of s n = record { items = drop (length s.items - n) s.items; end = s.end }
 pub record FailsAt (n command : ℕ) (f : CommandFault) (s : Stream) : Type 0 where
   pub from : 0 < command
   pub among : command ≤ n
-  pub before : (left : Stream) × (left_behind (command - 1) at_start s ≡ Ok (Some left))
-  pub fault : left_behind command at_start s ≡ Err (fault_of f)
+  pub before : (left : Stream) × (left_behind (command - 1) [] s ≡ Ok (Some left))
+  pub fault : left_behind command [] s ≡ Err (fault_of f)
 
 -- Where the source tells its bytes, the items left behind n commands are the last of all, so many as are answered.
 abbrev pub TellsBehind : ℕ → Option Stream → Result (Option ℕ) BehindFault → Type 0
 TellsBehind n None answer = Unit {0}
-TellsBehind n (Some s) (Ok None) = left_behind n at_start s ≡ Ok None
-TellsBehind n (Some s) (Ok (Some m)) = (m ≤ length s.items) × (left_behind n at_start s ≡ Ok (Some (last_of s m)))
+TellsBehind n (Some s) (Ok None) = left_behind n [] s ≡ Ok None
+TellsBehind n (Some s) (Ok (Some m)) = (m ≤ length s.items) × (left_behind n [] s ≡ Ok (Some (last_of s m)))
 TellsBehind n (Some s) (Err OutOfMemory) = Unit {0}
 TellsBehind n (Some s) (Err (AtCommand command f)) = FailsAt n command f s
 
 -- ---- the steps
 
+-- a reader that has read no command yet
+abbrev pub at_start : State
+at_start = Open (record { are_all = true; needs_done = false })
+
 -- n commands were read, or there are fewer
 abbrev pub Passes : ℕ → Option Stream → Option Stream → Result Bool BehindFault → Type 0
 Passes n None new answer = Unit {0}
-Passes n (Some s) new (Ok true) = (t : Stream) × (new ≡ Some t) × (left_behind n at_start s ≡ Ok (Some (from_next t)))
-Passes n (Some s) new (Ok false) = left_behind n at_start s ≡ Ok None
+Passes n (Some s) new (Ok true) = (t : Stream) × (new ≡ Some t) × (left_behind n [] s ≡ Ok (Some (from_next t)))
+Passes n (Some s) new (Ok false) = left_behind n [] s ≡ Ok None
 Passes n (Some s) new (Err OutOfMemory) = Unit {0}
 Passes n (Some s) new (Err (AtCommand command f)) = FailsAt n command f s
 

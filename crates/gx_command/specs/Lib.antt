@@ -9,3 +9,4 @@ pub mod Bodies
 pub mod Heads
 pub mod Reading
 pub mod Behind
+pub mod BehindRows

@@ -1,11 +1,9 @@
 -- The items of a text, by what it begins with, and the ends of a text.
-use Rattle.std.proofs.Common.{◌≡◌, ℕ, zero, suc, ◌+◌, ◌-◌, ◌<◌, ◌≤◌, ◌^◌, true, false, List, [], ◌∷◌, length, drop, nat_le, refl, sym, ap, subst, ◌∙◌, arith}
-use Rattle.std.specs.Prelude.{if◌then◌else◌}
+use Rattle.std.proofs.Common.{◌≡◌, ℕ, zero, suc, ◌+◌, ◌-◌, ◌<◌, ◌≤◌, ◌^◌, true, false, [], length, drop, nat_le, refl, sym, ap, subst, ◌∙◌, arith}
 use Rattle.std.proofs.lemmas.List.{drop-drop}
 use Rattle.std.proofs.lemmas.Bool.Decides.{nat_tests}
 use Rattle.gx_model.specs.Texts.{Bytes}
 use Rattle.gx_model.specs.Items.{Item, End, Stream, First, takes, drops, ends, first_of, then_comes, after, items_of}
-use Rattle.gx_text.specs.Devices.{Coming}
 use Rattle.gx_stream.specs.Heard.{heard_upto, items_from}
 use Rattle.gx_stream.specs.FirstItems.{IsEndOf}
 use Rattle.gx_stream.proofs.Firsts.{Shortens, first_of-shortens, items_of-first}

@@ -1,8 +1,8 @@
 -- Why it isn't told where a command begins.
-use Rattle.std.specs.Prelude.{◌≡◌, ℕ, zero, ◌<◌, ◌-◌, ◌^◌, ◌⊎◌, false, length, None, Ok}
+use Rattle.std.specs.Prelude.{◌≡◌, ℕ, ◌<◌, ◌-◌, ◌^◌, ◌⊎◌, [], false, length, None, Ok}
 use Rattle.gx_model.specs.Texts.{Bytes}
 use Rattle.gx_model.specs.Items.{items_of}
-use Rattle.gx_command.specs.Behind.{FailsAt, at_start, left_behind}
+use Rattle.gx_command.specs.Behind.{FailsAt, left_behind}
 use Rattle.gx_command.specs.declared.behind.BehindFault.{BehindFault}
 use Rattle.gx_command.specs.declared.behind.BehindFault.TheVariants as behind
 use Rattle.gx_where.specs.declared.fault.WhereFault.{WhereFault}
@@ -14,7 +14,7 @@ of_behind (behind.Command command kind) = Command command kind
 
 -- why the place of a command in a text isn't told: each fault with its cause
 abbrev pub IsWhy : ℕ → Bytes → WhereFault → Type 0
-IsWhy command text NoSuchCommand = (command ≡ 0) ⊎ (left_behind (command - 1) at_start (items_of text false) ≡ Ok None)
+IsWhy command text NoSuchCommand = (command ≡ 0) ⊎ (left_behind (command - 1) [] (items_of text false) ≡ Ok None)
 IsWhy command text (Command number kind) = FailsAt (command - 1) number kind (items_of text false)
 IsWhy command text ReadFailed = 2 ^ 63 - 1 < length text
 IsWhy command text OutOfMemory = Unit {0}

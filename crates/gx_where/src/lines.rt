@@ -1,8 +1,9 @@
 //! The lines of a text.
 
-ghost use Rattle.std.specs.Prelude.{◌≡◌, take, length, ◌≤◌};
+ghost use Rattle.std.specs.Prelude.{◌≡◌, ◌≤◌, length};
 ghost use Rattle.std.specs.List.{count_by};
-ghost use Rattle.gx_model.specs.Items.{is_lf, line_len};
+ghost use Rattle.gx_model.specs.Items.{is_lf};
+ghost use Rattle.gx_where.specs.Places.{front_line};
 
 use memchr::memchr;
 
@@ -16,7 +17,7 @@ pub(crate) fn count_lines(text: &[u8]) -> u64
 
 /// The bytes of a text before its first LF, or all of them where it has none.
 pub(crate) fn first_line(text: &[u8]) -> &[u8]
-    ensures { result.now ≡ take (line_len text.now) text.now }
+    ensures { result.now ≡ front_line text.now }
 {
     let len = memchr(b'\n', text).unwrap_or(text.len());
     &text[..len]

@@ -1,11 +1,9 @@
 //! The place at which a command begins.
 
-ghost use Rattle.std.specs.Prelude.{◌≡◌, ◌<◌, ◌≤◌, ◌-◌, ◌+◌, ◌^◌, ◌⊎◌, Ok, Some, None, IfOk, IfErr, length, drop, take, IsErrOf, false};
-ghost use Rattle.std.specs.List.{count_by};
-ghost use Rattle.gx_model.specs.Items.{items_of, is_lf, line_len};
+ghost use Rattle.std.specs.Prelude.{◌≡◌, ◌<◌, ◌≤◌, ◌-◌, ◌^◌, IfOk, IfErr, length};
 ghost use Rattle.gx_stream.specs.FirstItems.{IsEndOf};
-ghost use Rattle.gx_command.specs.Behind.{left_behind, at_start};
 ghost use Rattle.gx_where.specs.Rests.{Reaches, BeginsNoComment};
+ghost use Rattle.gx_where.specs.Places.{BeginsWith, GoesOnWith, rest_at, line_at, front_line};
 ghost use Rattle.gx_where.specs.Faults.{IsWhy};
 
 use crate::fault::WhereFault;
@@ -46,12 +44,13 @@ pub fn place_of_command<A: Allocator + Copy>(
     command: u64,
 ) -> Result<Place<'_>, WhereFault>
     ensures number { IfOk result (λ place. 0 < command) }
-    ensures begins { IfOk result (λ place. left_behind (command - 1) at_start (items_of text.now false) ≡ Ok (Some (items_of (drop place.byte text.now) false))) }
+    ensures begins { IfOk result (λ place. BeginsWith command text.now (rest_at text.now place)) }
+    ensures commands { IfOk result (λ place. GoesOnWith command text.now (rest_at text.now place)) }
     ensures within { IfOk result (λ place. place.byte ≤ length text.now) }
-    ensures reached { IfOk result (λ place. Reaches text.now (drop place.byte text.now)) }
-    ensures item { IfOk result (λ place. BeginsNoComment (drop place.byte text.now)) }
-    ensures line { IfOk result (λ place. place.line ≡ 1 + count_by is_lf (take place.byte text.now)) }
-    ensures first { IfOk result (λ place. place.first.now ≡ take (line_len (drop place.byte text.now)) (drop place.byte text.now)) }
+    ensures reached { IfOk result (λ place. Reaches text.now (rest_at text.now place)) }
+    ensures item { IfOk result (λ place. BeginsNoComment (rest_at text.now place)) }
+    ensures line { IfOk result (λ place. place.line ≡ line_at text.now place.byte) }
+    ensures first { IfOk result (λ place. place.first.now ≡ front_line (rest_at text.now place)) }
     ensures why { IfErr result (IsWhy command text.now) }
 {
     if text.len() > LIMIT {
@@ -71,10 +70,10 @@ pub fn place_of_command<A: Allocator + Copy>(
 fn place_of_rest<'a>(text: &[u8], rest: &'a [u8]) -> Place<'a>
     requires end { IsEndOf text.now rest.now }
     requires short { length text.now ≤ 2 ^ 63 - 1 }
-    ensures byte { drop result.byte text.now ≡ rest.now }
+    ensures byte { rest_at text.now result ≡ rest.now }
     ensures within { result.byte ≤ length text.now }
-    ensures line { result.line ≡ 1 + count_by is_lf (take result.byte text.now) }
-    ensures first { result.first.now ≡ take (line_len rest.now) rest.now }
+    ensures line { result.line ≡ line_at text.now result.byte }
+    ensures first { result.first.now ≡ front_line rest.now }
 {
     let byte = text.len() - rest.len();
     Place {

@@ -14,3 +14,4 @@ pub mod StoredAnswers
 pub mod WordsRead
 pub mod ExportedStores
 pub mod RoundTrips
+pub mod MadeCommands

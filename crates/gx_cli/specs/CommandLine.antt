@@ -1,10 +1,12 @@
 -- The command line of gx: what clap is told of it, and what a line says of the words that clap took.
-use Rattle.std.specs.Prelude.{◌≡◌, ⊤, ℕ, Bool, true, false, List, [], map, Option, Some, None, codes, IsSomeAnd}
+use Rattle.std.specs.Prelude.{◌≡◌, ⊤, ℕ, Bool, true, false, List, [], map, Option, Some, None, Result, IfOk, codes, IsSomeAnd}
 use Rattle.std.specs.Borrow.{Bor}
 use Rattle.std.specs.Str.Parse.{ParsesUnsigned}
 use Rattle.std.specs.declared.num.ParseIntError.{ParseIntError}
 use Rattle.clap.specs.Lexer.{usize_max}
-use Rattle.clap.specs.Words.{App, ReadsOne, Row, Rule, Text, all_of, first_of, new_app, new_rule, one_of, subcommand_of, with_rule, with_subcommand}
+use Rattle.clap.specs.Words.{App, ReadsOne, Row, Rule, Text, all_of, app_of, first_of, new_app, new_rule, one_of, subcommand_of, with_rule, with_subcommand}
+use Rattle.clap.specs.declared.builder.command.Command.{Command}
+use Rattle.clap.specs.declared.builder.command.Command.TheViews.{out-Command as fields_of}
 use Rattle.clap.specs.declared.builder.action.ArgAction.TheVariants.{SetTrue}
 use Rattle.clap.specs.declared.builder.value_parser.ValueParser.TheVariants as parser
 use Rattle.clap.specs.declared.error.kind.ErrorKind.{ErrorKind}
@@ -51,6 +53,18 @@ file = one_word (codes "file")
 abbrev pub revision : Rule
 revision = one_word (codes "rev")
 
+abbrev pub recursive : Rule
+recursive = letter_flag (codes "recursive") 114
+
+abbrev pub reverse : Rule
+reverse = flag (codes "reverse")
+
+abbrev pub max_count : Rule
+max_count = number (codes "max-count")
+
+abbrev pub parents : Rule
+parents = flag (codes "parents")
+
 -- ---- commands
 
 -- a command with one more command under it
@@ -71,17 +85,24 @@ abbrev pub show_command : App
 show_command = with_rule (file_command (codes "show")) revision
 
 abbrev pub ls_command : App
-ls_command = with_rule (with_rule (file_command (codes "ls")) revision) (letter_flag (codes "recursive") 114)
+ls_command = with_rule (with_rule (file_command (codes "ls")) revision) recursive
 
 abbrev pub ranges_command : App
 ranges_command = with_rule (file_command (codes "log")) (words (codes "range"))
 
 abbrev pub log_command : App
-log_command = with_rule (with_rule (with_rule ranges_command (flag (codes "reverse")))
-    (number (codes "max-count"))) (flag (codes "parents"))
+log_command = with_rule (with_rule (with_rule ranges_command reverse) max_count) parents
 
 abbrev pub rev_parse_command : App
 rev_parse_command = with_rule (file_command (codes "rev-parse")) (words (codes "rev"))
+
+-- what clap was told of a command, none of whose arguments are for the commands below it, too
+abbrev pub IsMade : Command → App → Type 0
+IsMade made a = (app_of made ≡ a) × ((fields_of made).has_globals ≡ false)
+
+-- the same, unless there was no memory for it
+abbrev pub Makes : {E : Type 0} → Result Command E → App → Type 0
+Makes result a = IfOk result (λ made. IsMade made a)
 
 -- the commands that read a stream and keep nothing
 abbrev pub with_stream_commands : App → App

@@ -1,6 +1,6 @@
 //! The command line of `gx`, read by `clap`.
 
-ghost use Rattle.std.specs.Prelude.{◌≡◌, IfOk, Some, map};
+ghost use Rattle.std.specs.Prelude.{◌≡◌, IfOk, Some, codes, map};
 ghost use Rattle.clap.specs.Words.{all_of, first_of, found_of, kind_of, rows_of};
 ghost use Rattle.gx_cli.specs.CommandLine as say;
 
@@ -115,34 +115,42 @@ fn line_of<'a>(
     match name {
         "blobs" => Ok(Line::Blobs),
         "try" => Ok(Line::Try(word_of(alloc, matches, "rev")?)),
-        "init" => Ok(Line::Init {
-            file: word_of(alloc, matches, "file")?,
-        }),
-        "import" => Ok(Line::Import {
-            file: word_of(alloc, matches, "file")?,
-        }),
-        "export" => Ok(Line::Export {
-            file: word_of(alloc, matches, "file")?,
-        }),
+        _ => file_line(alloc, name, matches, word_of(alloc, matches, "file")?),
+    }
+}
+
+/// The line that a command on a store file gives.
+#[tactic(auto, unfolding(crate::specs::CommandLine::Says))]
+fn file_line<'a>(
+    alloc: Global,
+    name: &'a str,
+    matches: &ArgMatches<'a>,
+    file: &'a str,
+) -> Result<Line<'a>, LineFault>
+    requires { first_of (codes "file") (rows_of (found_of matches.now)) ≡ Some file.now }
+    ensures { IfOk result (λ line. say.Says name.now (rows_of (found_of matches.now)) line) }
+{
+    match name {
+        "init" => Ok(Line::Init { file }),
+        "import" => Ok(Line::Import { file }),
+        "export" => Ok(Line::Export { file }),
+        "refs" => Ok(Line::Refs { file }),
         "show" => Ok(Line::Show {
-            file: word_of(alloc, matches, "file")?,
+            file,
             revision: word_of(alloc, matches, "rev")?,
         }),
         "ls" => Ok(Line::Ls {
             recursive: is_set(matches, "recursive"),
-            file: word_of(alloc, matches, "file")?,
+            file,
             revision: word_of(alloc, matches, "rev")?,
-        }),
-        "refs" => Ok(Line::Refs {
-            file: word_of(alloc, matches, "file")?,
         }),
         "log" => Ok(Line::Log {
             options: log_options(matches),
-            file: word_of(alloc, matches, "file")?,
+            file,
             ranges: words_of(alloc, matches, "range")?,
         }),
         "rev-parse" => Ok(Line::RevParse {
-            file: word_of(alloc, matches, "file")?,
+            file,
             revisions: words_of(alloc, matches, "rev")?,
         }),
         _ => Err(unknown(alloc)),

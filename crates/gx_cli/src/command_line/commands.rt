@@ -1,7 +1,8 @@
-//! The commands of `gx`, as clap is told of them.
+//! The commands of `gx`, as clap is told of them. What was made so far is handed on as a result: `with_argument` and
+//! `with_command` alone see whether memory ran out.
 
 ghost use Rattle.std.specs.Prelude.{◌≡◌, IfOk, false};
-ghost use Rattle.clap.specs.Words.{app_of, new_app, rule_of, with_rule};
+ghost use Rattle.clap.specs.Words.{App, app_of, new_app, rule_of, with_rule};
 ghost use Rattle.clap.specs.declared.builder.command.Command.TheViews.{out-Command as fields_of};
 ghost use Rattle.gx_cli.specs.CommandLine as say;
 
@@ -14,16 +15,15 @@ use std::alloc::{AllocError, Global};
 pub(super) fn command_line<'a>(alloc: Global) -> Result<Command<'a>, AllocError>
     ensures app { IfOk result (λ c. app_of c ≡ say.gx) }
 {
-    let gx = with_stream_commands(alloc, top(alloc)?)?;
-    let gx = with_store_commands(alloc, gx)?;
-    let gx = with_tree_commands(alloc, gx)?;
+    let gx = with_stream_commands(alloc, top(alloc));
+    let gx = with_store_commands(alloc, gx);
+    let gx = with_tree_commands(alloc, gx);
     with_commit_commands(alloc, gx)
 }
 
 /// What stands above the commands.
 fn top<'a>(alloc: Global) -> Result<Command<'a>, AllocError>
-    ensures app { IfOk result (λ c. app_of c ≡ say.top) }
-    ensures local { IfOk result (λ c. (fields_of c).has_globals ≡ false) }
+    ensures { say.Makes result say.top }
 {
     command(alloc, "gx", manual::GX)
         .no_binary_name(true)
@@ -32,139 +32,148 @@ fn top<'a>(alloc: Global) -> Result<Command<'a>, AllocError>
 }
 
 /// The commands that read a stream and keep nothing.
-fn with_stream_commands<'a>(alloc: Global, gx: Command<'a>) -> Result<Command<'a>, AllocError>
-    requires local { (fields_of gx).has_globals ≡ false }
-    ensures app { IfOk result (λ c. app_of c ≡ say.with_stream_commands (app_of gx.entry)) }
-    ensures local { IfOk result (λ c. (fields_of c).has_globals ≡ false) }
+fn with_stream_commands<'a>(
+    alloc: Global,
+    gx: Result<Command<'a>, AllocError>,
+) -> Result<Command<'a>, AllocError>
+    ensures { (a : App) → say.Makes gx.entry a → say.Makes result (say.with_stream_commands a) }
 {
-    let gx = with_command(gx, command(alloc, "blobs", manual::BLOBS))?;
-    with_command(gx, try_command(alloc)?)
+    let gx = with_command(gx, Ok(command(alloc, "blobs", manual::BLOBS)));
+    with_command(gx, try_command(alloc))
 }
 
 fn try_command<'a>(alloc: Global) -> Result<Command<'a>, AllocError>
-    ensures app { IfOk result (λ c. app_of c ≡ say.try_command) }
-    ensures local { IfOk result (λ c. (fields_of c).has_globals ≡ false) }
+    ensures { say.Makes result say.try_command }
 {
-    with_argument(command(alloc, "try", manual::TRY), revision(alloc))
+    with_argument(Ok(command(alloc, "try", manual::TRY)), revision(alloc))
 }
 
 /// The commands on a store as a whole.
-fn with_store_commands<'a>(alloc: Global, gx: Command<'a>) -> Result<Command<'a>, AllocError>
-    requires local { (fields_of gx).has_globals ≡ false }
-    ensures app { IfOk result (λ c. app_of c ≡ say.with_store_commands (app_of gx.entry)) }
-    ensures local { IfOk result (λ c. (fields_of c).has_globals ≡ false) }
+fn with_store_commands<'a>(
+    alloc: Global,
+    gx: Result<Command<'a>, AllocError>,
+) -> Result<Command<'a>, AllocError>
+    ensures { (a : App) → say.Makes gx.entry a → say.Makes result (say.with_store_commands a) }
 {
-    let gx = with_file_command(alloc, gx, "init", manual::INIT)?;
-    let gx = with_file_command(alloc, gx, "import", manual::IMPORT)?;
-    let gx = with_file_command(alloc, gx, "export", manual::EXPORT)?;
-    with_file_command(alloc, gx, "refs", manual::REFS)
+    let gx = with_command(gx, file_command(alloc, "init", manual::INIT));
+    let gx = with_command(gx, file_command(alloc, "import", manual::IMPORT));
+    let gx = with_command(gx, file_command(alloc, "export", manual::EXPORT));
+    with_command(gx, file_command(alloc, "refs", manual::REFS))
 }
 
 /// The commands that show objects.
-fn with_tree_commands<'a>(alloc: Global, gx: Command<'a>) -> Result<Command<'a>, AllocError>
-    requires local { (fields_of gx).has_globals ≡ false }
-    ensures app { IfOk result (λ c. app_of c ≡ say.with_tree_commands (app_of gx.entry)) }
-    ensures local { IfOk result (λ c. (fields_of c).has_globals ≡ false) }
+fn with_tree_commands<'a>(
+    alloc: Global,
+    gx: Result<Command<'a>, AllocError>,
+) -> Result<Command<'a>, AllocError>
+    ensures { (a : App) → say.Makes gx.entry a → say.Makes result (say.with_tree_commands a) }
 {
-    let gx = with_command(gx, show_command(alloc)?)?;
-    with_command(gx, ls_command(alloc)?)
+    let gx = with_command(gx, show_command(alloc));
+    with_command(gx, ls_command(alloc))
 }
 
 fn show_command<'a>(alloc: Global) -> Result<Command<'a>, AllocError>
-    ensures app { IfOk result (λ c. app_of c ≡ say.show_command) }
-    ensures local { IfOk result (λ c. (fields_of c).has_globals ≡ false) }
+    ensures { say.Makes result say.show_command }
 {
-    let show = file_command(alloc, "show", manual::SHOW)?;
+    let show = file_command(alloc, "show", manual::SHOW);
     with_argument(show, revision(alloc))
 }
 
 fn ls_command<'a>(alloc: Global) -> Result<Command<'a>, AllocError>
-    ensures app { IfOk result (λ c. app_of c ≡ say.ls_command) }
-    ensures local { IfOk result (λ c. (fields_of c).has_globals ≡ false) }
+    ensures { say.Makes result say.ls_command }
 {
-    let recursive = letter_flag(
+    let ls = file_command(alloc, "ls", manual::LS);
+    let ls = with_argument(ls, revision(alloc));
+    with_argument(ls, recursive(alloc))
+}
+
+fn recursive<'a>(alloc: Global) -> Arg<'a>
+    ensures rule { rule_of result ≡ say.recursive }
+    ensures local { result.global ≡ false }
+{
+    letter_flag(
         alloc,
         "recursive",
         'r',
         "Lists all files below the tree by their paths, and no trees",
-    );
-    let ls = file_command(alloc, "ls", manual::LS)?;
-    let ls = with_argument(ls, revision(alloc))?;
-    with_argument(ls, recursive)
+    )
 }
 
 /// The commands with a list of words.
-fn with_commit_commands<'a>(alloc: Global, gx: Command<'a>) -> Result<Command<'a>, AllocError>
-    requires local { (fields_of gx).has_globals ≡ false }
-    ensures app { IfOk result (λ c. app_of c ≡ say.with_commit_commands (app_of gx.entry)) }
-    ensures local { IfOk result (λ c. (fields_of c).has_globals ≡ false) }
+fn with_commit_commands<'a>(
+    alloc: Global,
+    gx: Result<Command<'a>, AllocError>,
+) -> Result<Command<'a>, AllocError>
+    ensures { (a : App) → say.Makes gx.entry a → say.Makes result (say.with_commit_commands a) }
 {
-    let gx = with_command(gx, log_command(alloc)?)?;
-    with_command(gx, rev_parse_command(alloc)?)
+    let gx = with_command(gx, log_command(alloc));
+    with_command(gx, rev_parse_command(alloc))
 }
 
 fn log_command<'a>(alloc: Global) -> Result<Command<'a>, AllocError>
-    ensures app { IfOk result (λ c. app_of c ≡ say.log_command) }
-    ensures local { IfOk result (λ c. (fields_of c).has_globals ≡ false) }
+    ensures { say.Makes result say.log_command }
 {
-    let reverse = flag(
+    let log = with_argument(ranges_command(alloc), reverse(alloc));
+    let log = with_argument(log, max_count(alloc));
+    with_argument(log, parents(alloc))
+}
+
+fn reverse<'a>(alloc: Global) -> Arg<'a>
+    ensures rule { rule_of result ≡ say.reverse }
+    ensures local { result.global ≡ false }
+{
+    flag(
         alloc,
         "reverse",
         "Turns the list, so that the oldest commit comes first",
-    );
-    let max_count = number(
+    )
+}
+
+fn max_count<'a>(alloc: Global) -> Arg<'a>
+    ensures rule { rule_of result ≡ say.max_count }
+    ensures local { result.global ≡ false }
+{
+    number(
         alloc,
         "max-count",
         "Lists N commits at most, counted before --reverse turns them",
-    );
-    let parents = flag(
+    )
+}
+
+fn parents<'a>(alloc: Global) -> Arg<'a>
+    ensures rule { rule_of result ≡ say.parents }
+    ensures local { result.global ≡ false }
+{
+    flag(
         alloc,
         "parents",
         "Prints the names of its parents behind each commit",
-    );
-    let log = with_argument(ranges_command(alloc)?, reverse)?;
-    let log = with_argument(log, max_count)?;
-    with_argument(log, parents)
+    )
 }
 
 /// The command `log` with its ranges, and with none of its options.
 fn ranges_command<'a>(alloc: Global) -> Result<Command<'a>, AllocError>
-    ensures app { IfOk result (λ c. app_of c ≡ say.ranges_command) }
-    ensures local { IfOk result (λ c. (fields_of c).has_globals ≡ false) }
+    ensures { say.Makes result say.ranges_command }
 {
     let ranges = words(alloc, "range", "RANGE", "Commits, as gx --help has it");
-    with_argument(file_command(alloc, "log", manual::LOG)?, ranges)
+    with_argument(file_command(alloc, "log", manual::LOG), ranges)
 }
 
 fn rev_parse_command<'a>(alloc: Global) -> Result<Command<'a>, AllocError>
-    ensures app { IfOk result (λ c. app_of c ≡ say.rev_parse_command) }
-    ensures local { IfOk result (λ c. (fields_of c).has_globals ≡ false) }
+    ensures { say.Makes result say.rev_parse_command }
 {
     let revisions = words(alloc, "rev", "REV", "Revisions, as gx --help has it");
-    let rev_parse = file_command(alloc, "rev-parse", manual::REV_PARSE)?;
-    with_argument(rev_parse, revisions)
+    with_argument(
+        file_command(alloc, "rev-parse", manual::REV_PARSE),
+        revisions,
+    )
 }
 
 /// A command whose first word is the store file.
 fn file_command<'a>(alloc: Global, name: &'a str, page: Page) -> Result<Command<'a>, AllocError>
-    ensures app { IfOk result (λ c. app_of c ≡ say.file_command name.entry.now) }
-    ensures local { IfOk result (λ c. (fields_of c).has_globals ≡ false) }
+    ensures { say.Makes result (say.file_command name.entry.now) }
 {
-    with_argument(command(alloc, name, page), file(alloc))
-}
-
-/// A command with one more command under it, whose only word is the store file.
-fn with_file_command<'a>(
-    alloc: Global,
-    gx: Command<'a>,
-    name: &'a str,
-    page: Page,
-) -> Result<Command<'a>, AllocError>
-    requires local { (fields_of gx).has_globals ≡ false }
-    ensures app { IfOk result (λ c. app_of c ≡ say.under (app_of gx.entry) (say.file_command name.entry.now)) }
-    ensures local { IfOk result (λ c. (fields_of c).has_globals ≡ false) }
-{
-    with_command(gx, file_command(alloc, name, page)?)
+    with_argument(Ok(command(alloc, name, page)), file(alloc))
 }
 
 /// A command with its page of the manual.
@@ -178,22 +187,42 @@ fn command<'a>(alloc: Global, name: &'a str, page: Page) -> Command<'a>
         .after_long_help(page.details)
 }
 
-/// A command with one argument more.
-fn with_argument<'a>(command: Command<'a>, argument: Arg<'a>) -> Result<Command<'a>, AllocError>
-    requires argument { argument.global ≡ false }
-    requires local { (fields_of command).has_globals ≡ false }
-    ensures app { IfOk result (λ c. app_of c ≡ with_rule (app_of command.entry) (rule_of argument.entry)) }
-    ensures local { IfOk result (λ c. (fields_of c).has_globals ≡ false) }
+/// A command with one argument more, where there was memory for the command.
+fn with_argument<'a>(
+    command: Result<Command<'a>, AllocError>,
+    argument: Arg<'a>,
+) -> Result<Command<'a>, AllocError>
+    requires { argument.global ≡ false }
+    ensures { (a : App) → say.Makes command.entry a → say.Makes result (with_rule a (rule_of argument.entry)) }
 {
-    command.arg(argument)
+    match command {
+        Ok(command) => command.arg(argument),
+        Err(error) => Err(error),
+    }
 }
 
-/// A command with one more command under it.
-fn with_command<'a>(command: Command<'a>, sub: Command<'a>) -> Result<Command<'a>, AllocError>
-    requires sub { (fields_of sub).has_globals ≡ false }
-    requires local { (fields_of command).has_globals ≡ false }
-    ensures app { IfOk result (λ c. app_of c ≡ say.under (app_of command.entry) (app_of sub.entry)) }
-    ensures local { IfOk result (λ c. (fields_of c).has_globals ≡ false) }
+/// A command with one more command under it, where there was memory for both.
+fn with_command<'a>(
+    command: Result<Command<'a>, AllocError>,
+    sub: Result<Command<'a>, AllocError>,
+) -> Result<Command<'a>, AllocError>
+    ensures { (a b : App) → say.Makes command.entry a → say.Makes sub.entry b → say.Makes result (say.under a b) }
 {
-    command.subcommand(sub)
+    match command {
+        Ok(command) => with_made(command, sub),
+        Err(error) => Err(error),
+    }
+}
+
+/// The same of a command that is there.
+fn with_made<'a>(
+    command: Command<'a>,
+    sub: Result<Command<'a>, AllocError>,
+) -> Result<Command<'a>, AllocError>
+    ensures { (a b : App) → say.IsMade command.entry a → say.Makes sub.entry b → say.Makes result (say.under a b) }
+{
+    match sub {
+        Ok(sub) => command.subcommand(sub),
+        Err(error) => Err(error),
+    }
 }

@@ -89,6 +89,7 @@ __gx_cut() {
 __gx_options() {
   case ${words[1]} in
     ls) __gx_answer '' "$1" -r --recursive --help ;;
+    batch) __gx_answer '' "$1" --check --help ;;
     log) __gx_answer '' "$1" --reverse --max-count --parents --help ;;
     *) __gx_answer '' "$1" --help ;;
   esac
@@ -99,13 +100,13 @@ __gx_words_of_command() {
   local -a operands
   __gx_operands
   case ${words[1]}:${#operands[@]} in
-    init:0 | import:0 | export:0 | show:0 | ls:0 | refs:0 | log:0 | rev-parse:0) __gx_files "$last" ;;
+    init:0 | import:0 | export:0 | show:0 | ls:0 | batch:0 | refs:0 | log:0 | rev-parse:0) __gx_files "$last" ;;
     show:1 | ls:1 | log:[1-9]* | rev-parse:[1-9]*) __gx_revisions "$last" ;;
   esac
 }
 
 _gx() {
-  local -a words commands=(blobs try init import export show ls refs log rev-parse)
+  local -a words commands=(blobs try adapt init import export show ls batch refs log rev-parse)
   COMPREPLY=()
   __gx_words
   local last=${words[-1]}

@@ -56,13 +56,18 @@ line() {
   fi
 }
 
-line 'gx ' blobs try init import export show ls refs log rev-parse help --help
+line 'gx ' blobs try adapt init import export show ls batch refs log rev-parse help --help
 line 'gx r' refs rev-parse
 line 'gx x'
 line 'gx help l' ls log
 line 'gx blobs '
 line 'gx try '
+line 'gx a' adapt
+line 'gx adapt '
 line 'gx ls -' -r --recursive --help
+line 'gx batch -' --check --help
+line 'gx batch --check st' store
+line 'gx batch store '
 line 'gx log --' --reverse --max-count --parents --help
 line 'gx show -' --help
 line 'gx show s' store sub

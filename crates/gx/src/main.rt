@@ -44,7 +44,7 @@ fn main(rt: HostRuntime) -> io::Result<ExitCode> {
 /// Runs a command on its file and on the standard streams.
 fn run(rt: &HostRuntime, line: &Line<'_>, state: RandomState) -> Result<(), RunFault> {
     match line {
-        Line::Blobs | Line::Try(_) => {
+        Line::Blobs | Line::Try(_) | Line::Adapt | Line::Batch { check: _, file: _ } => {
             refusal(&stream(rt, line, b"", state))?;
             Ok(())
         }

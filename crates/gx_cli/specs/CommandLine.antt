@@ -12,7 +12,7 @@ use Rattle.clap.specs.declared.builder.value_parser.ValueParser.TheVariants as p
 use Rattle.clap.specs.declared.error.kind.ErrorKind.{ErrorKind}
 use Rattle.clap.specs.declared.error.kind.ErrorKind.TheVariants.{DisplayHelp, DisplayVersion}
 use Rattle.gx_cli.specs.declared.command_line.Line.{Line}
-use Rattle.gx_cli.specs.declared.command_line.Line.TheVariants.{Blobs, Try, Init, Import, Export, Show, Ls, Refs, Log, RevParse}
+use Rattle.gx_cli.specs.declared.command_line.Line.TheVariants.{Blobs, Try, Adapt, Init, Import, Export, Show, Ls, Batch, Refs, Log, RevParse}
 use Rattle.gx_cli.specs.declared.command_line.LineFault.{LineFault}
 use Rattle.gx_cli.specs.declared.command_line.LineFault.TheVariants.{OutOfMemory, Status}
 use Rattle.gx_cli.specs.declared.command_line.LogOptions.{LogOptions}
@@ -56,6 +56,9 @@ revision = one_word (codes "rev")
 abbrev pub recursive : Rule
 recursive = letter_flag (codes "recursive") 114
 
+abbrev pub check : Rule
+check = flag (codes "check")
+
 abbrev pub reverse : Rule
 reverse = flag (codes "reverse")
 
@@ -87,6 +90,9 @@ show_command = with_rule (file_command (codes "show")) revision
 abbrev pub ls_command : App
 ls_command = with_rule (with_rule (file_command (codes "ls")) revision) recursive
 
+abbrev pub batch_command : App
+batch_command = with_rule (file_command (codes "batch")) check
+
 abbrev pub ranges_command : App
 ranges_command = with_rule (file_command (codes "log")) (words (codes "range"))
 
@@ -106,7 +112,7 @@ Makes result a = IfOk result (λ made. IsMade made a)
 
 -- the commands that read a stream and keep nothing
 abbrev pub with_stream_commands : App → App
-with_stream_commands a = under (under a (new_app (codes "blobs"))) try_command
+with_stream_commands a = under (under (under a (new_app (codes "blobs"))) try_command) (new_app (codes "adapt"))
 
 -- the commands on a store as a whole
 abbrev pub with_store_commands : App → App
@@ -115,7 +121,7 @@ with_store_commands a =
 
 -- the commands that show objects
 abbrev pub with_tree_commands : App → App
-with_tree_commands a = under (under a show_command) ls_command
+with_tree_commands a = under (under (under a show_command) ls_command) batch_command
 
 -- the commands with a list of words
 abbrev pub with_commit_commands : App → App
@@ -151,6 +157,7 @@ AreLogOptions rows options = IsFlag (codes "reverse") rows options.reverse
 unfoldable pub Says : Text → List Row → Line → Type 0
 Says name rows Blobs = name ≡ codes "blobs"
 Says name rows (Try revision) = (name ≡ codes "try") × IsWord (codes "rev") rows revision
+Says name rows Adapt = name ≡ codes "adapt"
 Says name rows (Init file) = (name ≡ codes "init") × IsWord (codes "file") rows file
 Says name rows (Import file) = (name ≡ codes "import") × IsWord (codes "file") rows file
 Says name rows (Export file) = (name ≡ codes "export") × IsWord (codes "file") rows file
@@ -158,6 +165,7 @@ Says name rows (Show file revision) = (name ≡ codes "show")
     × (IsWord (codes "file") rows file × IsWord (codes "rev") rows revision)
 Says name rows (Ls recursive file revision) = (name ≡ codes "ls") × (IsFlag (codes "recursive") rows recursive
     × (IsWord (codes "file") rows file × IsWord (codes "rev") rows revision))
+Says name rows (Batch check file) = (name ≡ codes "batch") × (IsFlag (codes "check") rows check × IsWord (codes "file") rows file)
 Says name rows (Refs file) = (name ≡ codes "refs") × IsWord (codes "file") rows file
 Says name rows (Log options file ranges) = (name ≡ codes "log") × (AreLogOptions rows options
     × (IsWord (codes "file") rows file × AreWords (codes "range") rows ranges.items))

@@ -31,6 +31,8 @@ pub enum Line<'a> {
     Blobs,
     /// A stream is tried: the revision is shown once it was imported.
     Try(&'a str),
+    /// A stream's lines are mended that an import refuses.
+    Adapt,
     /// A new store is made.
     Init {
         file: &'a str,
@@ -53,6 +55,11 @@ pub enum Line<'a> {
         recursive: bool,
         file: &'a str,
         revision: &'a str,
+    },
+    /// What the revisions on standard input give is shown, or with `check` no more than its name, kind and size.
+    Batch {
+        check: bool,
+        file: &'a str,
     },
     /// The refs are listed.
     Refs {
@@ -115,6 +122,7 @@ fn line_of<'a>(
     match name {
         "blobs" => Ok(Line::Blobs),
         "try" => Ok(Line::Try(word_of(alloc, matches, "rev")?)),
+        "adapt" => Ok(Line::Adapt),
         _ => file_line(alloc, name, matches, word_of(alloc, matches, "file")?),
     }
 }
@@ -143,6 +151,10 @@ fn file_line<'a>(
             recursive: is_set(matches, "recursive"),
             file,
             revision: word_of(alloc, matches, "rev")?,
+        }),
+        "batch" => Ok(Line::Batch {
+            check: is_set(matches, "check"),
+            file,
         }),
         "log" => Ok(Line::Log {
             options: log_options(matches),

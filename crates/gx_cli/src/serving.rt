@@ -107,7 +107,9 @@ fn print_stored<N: Namer + Drop, W: Sink, A: Allocator + Copy>(
         | Line::Try(_)
         | Line::Init { file: _ }
         | Line::Import { file: _ }
-        | Line::Export { file: _ } => Ok(()),
+        | Line::Export { file: _ }
+        | Line::Adapt
+        | Line::Batch { check: _, file: _ } => Ok(()),
     }
 }
 

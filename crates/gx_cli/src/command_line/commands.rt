@@ -39,7 +39,8 @@ fn with_stream_commands<'a>(
     ensures { (a : App) → say.Makes gx.entry a → say.Makes result (say.with_stream_commands a) }
 {
     let gx = with_command(gx, Ok(command(alloc, "blobs", manual::BLOBS)));
-    with_command(gx, try_command(alloc))
+    let gx = with_command(gx, try_command(alloc));
+    with_command(gx, Ok(command(alloc, "adapt", manual::ADAPT)))
 }
 
 fn try_command<'a>(alloc: Global) -> Result<Command<'a>, AllocError>
@@ -69,7 +70,8 @@ fn with_tree_commands<'a>(
     ensures { (a : App) → say.Makes gx.entry a → say.Makes result (say.with_tree_commands a) }
 {
     let gx = with_command(gx, show_command(alloc));
-    with_command(gx, ls_command(alloc))
+    let gx = with_command(gx, ls_command(alloc));
+    with_command(gx, batch_command(alloc))
 }
 
 fn show_command<'a>(alloc: Global) -> Result<Command<'a>, AllocError>
@@ -96,6 +98,24 @@ fn recursive<'a>(alloc: Global) -> Arg<'a>
         "recursive",
         'r',
         "Lists all files below the tree by their paths, and no trees",
+    )
+}
+
+fn batch_command<'a>(alloc: Global) -> Result<Command<'a>, AllocError>
+    ensures { say.Makes result say.batch_command }
+{
+    let batch = file_command(alloc, "batch", manual::BATCH);
+    with_argument(batch, check(alloc))
+}
+
+fn check<'a>(alloc: Global) -> Arg<'a>
+    ensures rule { rule_of result ≡ say.check }
+    ensures local { result.global ≡ false }
+{
+    flag(
+        alloc,
+        "check",
+        "Leaves out the bytes of each object and the line feed behind them",
     )
 }
 

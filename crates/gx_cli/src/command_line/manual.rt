@@ -60,7 +60,7 @@ Refusals:
                         Dangling, BadObject, BadRef, RefOrder or TrailingBytes
   gx: export: KIND      OutOfMemory or WriteFailed
   gx: store exists      FILE is there, where a store is to be made
-  gx: read failed       FILE can't be read
+  gx: read failed       FILE or standard input can't be read
   gx: write failed      FILE or standard output can't be written
   gx: out of memory",
 };
@@ -98,6 +98,32 @@ Output:
 Refusals:
   gx: command N: KIND   as gx import --help has it
   gx: revision 1: KIND  as gx --help has it
+  gx: write failed
+  gx: out of memory",
+};
+
+/// The page of `adapt`.
+pub(super) const ADAPT: Page = Page {
+    about: "Mends lines of a stream that converters write and import refuses",
+    description: "\
+Copies a stream from standard input to standard output, and mends lines of
+commands that converters write and gx import refuses, or takes under other
+names than git fast-import.
+
+No byte of data is changed.",
+    details: "\
+Output:
+  The stream, but for these lines of its commands:
+    author, committer, tagger  an identity that begins with < gets a space
+                               before it
+    from                       forty zeros behind a reset: the line is left out
+    M, D, C, R                 a path with an opening quote and no closing one
+                               is quoted
+    feature                    a line of marks or of get-mark is left out
+  Standard error tells how many of each there were.
+
+Refusals:
+  gx: read failed       standard input can't be read
   gx: write failed
   gx: out of memory",
 };
@@ -208,6 +234,31 @@ Refusals:
   gx: read failed
   gx: store: KIND       as gx --help has it
   gx: revision 1: KIND  as gx --help has it
+  gx: write failed
+  gx: out of memory",
+};
+
+/// The page of `batch`.
+pub(super) const BATCH: Page = Page {
+    about: "Shows what each line of standard input gives, which is a revision",
+    description: "\
+Shows what each line of standard input gives, which is a revision, as
+git cat-file --batch does.
+
+The store is read once. Each answer is sent as soon as it is made. A read or a
+write that fails ends the command.",
+    details: "\
+Output, for each line:
+  of an object          its name's 40 digits, a space, its kind, a space, its
+                        size in bytes and a line feed, and then its bytes and
+                        a line feed, which --check leaves out
+  where nothing is      the line, a space and missing
+  of an abbreviation    the line, a space and ambiguous, where the names of
+                        several objects begin so
+
+Refusals:
+  gx: read failed       FILE or standard input can't be read
+  gx: store: KIND       as gx --help has it
   gx: write failed
   gx: out of memory",
 };

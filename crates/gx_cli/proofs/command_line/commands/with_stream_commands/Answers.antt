@@ -5,5 +5,8 @@ use Rattle.gx_cli.proofs.command_line.commands.with_stream_commands.Goals as goa
 
 pub returns : goal.returns
 returns c = λ a h.
-    let blobs = new_app (codes "blobs") in
-    c.with_command.ensures (under a blobs) try_command (c.with_command-gx.ensures a blobs h (c.command.ensures.app, c.command.ensures.local)) c.try_command.ensures
+    let one = under a (new_app (codes "blobs")) in
+    let two = under one try_command in
+    let first = c.with_command-gx.ensures a (new_app (codes "blobs")) h (c.command.ensures.app, c.command.ensures.local) in
+    let second = c.with_command-gx-2.ensures one try_command first c.try_command.ensures in
+    c.with_command.ensures two (new_app (codes "adapt")) second (c.command-2.ensures.app, c.command-2.ensures.local)

@@ -6,7 +6,7 @@ ghost use Rattle.clap.specs.Words.{App, app_of, new_app, rule_of, with_rule};
 ghost use Rattle.clap.specs.declared.builder.command.Command.TheViews.{out-Command as fields_of};
 ghost use Rattle.gx_cli.specs.CommandLine as say;
 
-use super::arguments::{file, flag, letter_flag, number, revision, words};
+use super::arguments::{check, file, max_count, parents, recursive, reverse, revision, words};
 use super::manual::{self, Page};
 use clap::{Arg, Command};
 use std::alloc::{AllocError, Global};
@@ -89,34 +89,11 @@ fn ls_command<'a>(alloc: Global) -> Result<Command<'a>, AllocError>
     with_argument(ls, recursive(alloc))
 }
 
-fn recursive<'a>(alloc: Global) -> Arg<'a>
-    ensures rule { rule_of result ≡ say.recursive }
-    ensures local { result.global ≡ false }
-{
-    letter_flag(
-        alloc,
-        "recursive",
-        'r',
-        "Lists all files below the tree by their paths, and no trees",
-    )
-}
-
 fn batch_command<'a>(alloc: Global) -> Result<Command<'a>, AllocError>
     ensures { say.Makes result say.batch_command }
 {
     let batch = file_command(alloc, "batch", manual::BATCH);
     with_argument(batch, check(alloc))
-}
-
-fn check<'a>(alloc: Global) -> Arg<'a>
-    ensures rule { rule_of result ≡ say.check }
-    ensures local { result.global ≡ false }
-{
-    flag(
-        alloc,
-        "check",
-        "Leaves out the bytes of each object and the line feed behind them",
-    )
 }
 
 /// The commands with a list of words.
@@ -136,39 +113,6 @@ fn log_command<'a>(alloc: Global) -> Result<Command<'a>, AllocError>
     let log = with_argument(ranges_command(alloc), reverse(alloc));
     let log = with_argument(log, max_count(alloc));
     with_argument(log, parents(alloc))
-}
-
-fn reverse<'a>(alloc: Global) -> Arg<'a>
-    ensures rule { rule_of result ≡ say.reverse }
-    ensures local { result.global ≡ false }
-{
-    flag(
-        alloc,
-        "reverse",
-        "Turns the list, so that the oldest commit comes first",
-    )
-}
-
-fn max_count<'a>(alloc: Global) -> Arg<'a>
-    ensures rule { rule_of result ≡ say.max_count }
-    ensures local { result.global ≡ false }
-{
-    number(
-        alloc,
-        "max-count",
-        "Lists N commits at most, counted before --reverse turns them",
-    )
-}
-
-fn parents<'a>(alloc: Global) -> Arg<'a>
-    ensures rule { rule_of result ≡ say.parents }
-    ensures local { result.global ≡ false }
-{
-    flag(
-        alloc,
-        "parents",
-        "Prints the names of its parents behind each commit",
-    )
 }
 
 /// The command `log` with its ranges, and with none of its options.

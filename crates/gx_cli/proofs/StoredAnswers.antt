@@ -1,5 +1,5 @@
 -- What commands answer once a store's text was read, or wasn't.
-use Rattle.std.proofs.Common.{◌≡◌, refl, sym, ap, subst, ◌⊎◌, inl, inr, Bool, Bor, [], Option, Result, Ok, Err}
+use Rattle.std.proofs.Common.{◌≡◌, refl, sym, ap, subst, ◌⊎◌, inl, inr, ℕ, Bool, Bor, [], Option, Result, Ok, Err}
 use Rattle.gx_model.specs.declared.objects.Kind.{Kind}
 use Rattle.gx_model.specs.Texts.{Bytes}
 use Rattle.gx_model.specs.Faults.{Given}
@@ -61,7 +61,8 @@ IsSilent given =
     ⊎ (((file : Bor Bytes) × (given ≡ line.Import file))
     ⊎ (((file : Bor Bytes) × (given ≡ line.Export file))
     ⊎ ((given ≡ line.Adapt)
-    ⊎ ((check : Bool) × (file : Bor Bytes) × (given ≡ line.Batch check file)))))))
+    ⊎ (((command : ℕ) × (given ≡ line.Where command))
+    ⊎ ((check : Bool) × (file : Bor Bytes) × (given ≡ line.Batch check file))))))))
 
 -- it prints nothing of any repository
 silent : (name : Kind → Bytes → Bytes) (given : Line) (repository : Records) → IsSilent given → Ok [] ≡ printed_by name given repository
@@ -71,7 +72,8 @@ silent name given repository (inr (inr (inl h))) = ap (λ l. printed_by name l r
 silent name given repository (inr (inr (inr (inl h)))) = ap (λ l. printed_by name l repository) (sym h.1)
 silent name given repository (inr (inr (inr (inr (inl h))))) = ap (λ l. printed_by name l repository) (sym h.1)
 silent name given repository (inr (inr (inr (inr (inr (inl e)))))) = ap (λ l. printed_by name l repository) (sym e)
-silent name given repository (inr (inr (inr (inr (inr (inr h)))))) = ap (λ l. printed_by name l repository) (sym h.2)
+silent name given repository (inr (inr (inr (inr (inr (inr (inl h))))))) = ap (λ l. printed_by name l repository) (sym h.1)
+silent name given repository (inr (inr (inr (inr (inr (inr (inr h))))))) = ap (λ l. printed_by name l repository) (sym h.2)
 
 -- nothing is printed then
 pub line_silent : {N : Type 0} (name_of : N → Kind → Bytes → Bytes) (namer : N) (repository : N × Records) (store : Bytes) (given : Line) (was : Option Taken)

@@ -12,7 +12,7 @@ use Rattle.clap.specs.declared.builder.value_parser.ValueParser.TheVariants as p
 use Rattle.clap.specs.declared.error.kind.ErrorKind.{ErrorKind}
 use Rattle.clap.specs.declared.error.kind.ErrorKind.TheVariants.{DisplayHelp, DisplayVersion}
 use Rattle.gx_cli.specs.declared.command_line.Line.{Line}
-use Rattle.gx_cli.specs.declared.command_line.Line.TheVariants.{Blobs, Try, Adapt, Init, Import, Export, Show, Ls, Batch, Refs, Log, RevParse}
+use Rattle.gx_cli.specs.declared.command_line.Line.TheVariants.{Blobs, Try, Adapt, Where, Init, Import, Export, Show, Ls, Batch, Refs, Log, RevParse}
 use Rattle.gx_cli.specs.declared.command_line.LineFault.{LineFault}
 use Rattle.gx_cli.specs.declared.command_line.LineFault.TheVariants.{OutOfMemory, Status}
 use Rattle.gx_cli.specs.declared.command_line.LogOptions.{LogOptions}
@@ -46,6 +46,10 @@ number id = record (new_rule id) {
   value_names = 1;
   parser = Some (parser.Unsigned 0 18446744073709551615);
 }
+
+-- a positional whole number below 2^64 that isn't left out
+abbrev pub needed_number : Text → Rule
+needed_number id = record (one_word id) { parser = Some (parser.Unsigned 0 18446744073709551615) }
 
 abbrev pub file : Rule
 file = one_word (codes "file")
@@ -84,6 +88,9 @@ file_command name = with_rule (new_app name) file
 abbrev pub try_command : App
 try_command = with_rule (new_app (codes "try")) revision
 
+abbrev pub where_command : App
+where_command = with_rule (new_app (codes "where")) (needed_number (codes "number"))
+
 abbrev pub show_command : App
 show_command = with_rule (file_command (codes "show")) revision
 
@@ -112,7 +119,7 @@ Makes result a = IfOk result (λ made. IsMade made a)
 
 -- the commands that read a stream and keep nothing
 abbrev pub with_stream_commands : App → App
-with_stream_commands a = under (under (under a (new_app (codes "blobs"))) try_command) (new_app (codes "adapt"))
+with_stream_commands a = under (under (under (under a (new_app (codes "blobs"))) try_command) (new_app (codes "adapt"))) where_command
 
 -- the commands on a store as a whole
 abbrev pub with_store_commands : App → App
@@ -158,6 +165,7 @@ unfoldable pub Says : Text → List Row → Line → Type 0
 Says name rows Blobs = name ≡ codes "blobs"
 Says name rows (Try revision) = (name ≡ codes "try") × IsWord (codes "rev") rows revision
 Says name rows Adapt = name ≡ codes "adapt"
+Says name rows (Where command) = (name ≡ codes "where") × IsNumber (codes "number") rows (Some command)
 Says name rows (Init file) = (name ≡ codes "init") × IsWord (codes "file") rows file
 Says name rows (Import file) = (name ≡ codes "import") × IsWord (codes "file") rows file
 Says name rows (Export file) = (name ≡ codes "export") × IsWord (codes "file") rows file

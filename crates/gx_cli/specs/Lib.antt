@@ -9,6 +9,8 @@ pub mod FileLines
 pub mod Words
 pub mod Sending
 pub mod Answers
+pub mod Gathering
+pub mod Placing
 pub mod Serving
 pub mod Again
 pub mod CommandLine

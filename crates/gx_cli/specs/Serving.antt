@@ -1,5 +1,5 @@
 -- How the commands end.
-use Rattle.std.specs.Prelude.{◌≡◌, ◌⊎◌, ℕ, zero, suc, [], Option, Some, None, Result, Ok, Err}
+use Rattle.std.specs.Prelude.{◌≡◌, ◌⊎◌, ℕ, zero, suc, Bool, [], Option, Some, None, Result, Ok, Err}
 use Rattle.std.specs.Option.{option_map}
 use Rattle.std.specs.declared.vec.Vec.{Vec}
 use Rattle.gx_model.specs.declared.objects.Kind.{Kind}
@@ -16,8 +16,13 @@ use Rattle.gx_import.specs.Exported.{KeepsNoNullGitlink, nothing}
 use Rattle.gx_import.specs.Imports.{Imports}
 use Rattle.gx_import.specs.declared.fault.ImportFault.{ImportFault}
 use Rattle.gx_import.specs.declared.report.Report.{Report}
+use Rattle.gx_adapt.specs.declared.report.Report.{Report as AdaptReport}
+use Rattle.gx_batch.specs.Answers.{batch_answer as answered_by}
+use Rattle.gx_batch.specs.Batches.{Answers}
+use Rattle.gx_batch.specs.declared.fault.BatchFault.{BatchFault}
 use Rattle.gx_export.specs.Exports.{Exports}
 use Rattle.gx_export.specs.declared.fault.ExportFault.{ExportFault}
+use Rattle.gx_model.specs.declared.store_faults.FileFault as model
 use Rattle.gx_file.specs.declared.fault.FileFault.{FileFault}
 use Rattle.gx_file.specs.declared.fault.FileFault.TheVariants as file
 use Rattle.gx_file.specs.Faults.{fault_of}
@@ -28,6 +33,8 @@ use Rattle.gx_cli.specs.declared.fault.CliFault.{CliFault}
 use Rattle.gx_cli.specs.declared.fault.CliFault.TheVariants.{Blobs, Export, Import, OutOfMemory, Store}
 use Rattle.gx_cli.specs.declared.serving.Outcome.{Outcome}
 use Rattle.gx_cli.specs.Answers.{Prints}
+use Rattle.gx_cli.specs.Gathering.{AdaptsStream, batch_answer}
+use Rattle.gx_cli.specs.Placing.{PlacesFrom}
 use Rattle.gx_cli.specs.Printing.{PrintsBlobs}
 use Rattle.gx_cli.specs.Stored.{Printed, list_text, log_text, names_text, of_stored, refs_text, show_text, texts_of}
 use Rattle.gx_cli.specs.Trying.{Tries}
@@ -64,12 +71,19 @@ IsWritten name repository o = ((o.status ≡ 0) × (o.fault ≡ None) × HasText
 abbrev pub IsKept : {A : Type 0} → (Kind → Bytes → Bytes) → Records → CliFault → Outcome A → Type 0
 IsKept name repository fault o = ((o.status ≡ 1) × (o.fault ≡ Some fault) × HasText name repository o) ⊎ IsRefused OutOfMemory o
 
+-- no memory for what a store's text is read into, and nothing went out
+abbrev pub IsUnopened : {A : Type 0} → Option Taken → Option Taken → Outcome A → Type 0
+IsUnopened was now o = IsRefused (Store file.OutOfMemory) o × (now ≡ was)
+
+-- a store's text isn't read for this cause, unless there was no memory for it, and nothing went out
+abbrev pub IsUnread : {A : Type 0} → model.FileFault → Option Taken → Option Taken → Outcome A → Type 0
+IsUnread f was now o = (why : FileFault) × ((why ≡ file.OutOfMemory) ⊎ (f ≡ fault_of why)) × IsRefused (Store why) o × (now ≡ was)
+
 -- the export of the store of a text, which is read first
 abbrev pub ExportsStored : {A : Type 0} → Stored Records → Option Taken → Option Taken → Outcome A → Type 0
 ExportsStored (Ok repository) was now o =
-    (IsRefused (Store file.OutOfMemory) o × (now ≡ was))
-    ⊎ ((answer : Result (Unit {0}) ExportFault) × Exports repository was now answer × IsOutcome (export_answer answer) o)
-ExportsStored (Err f) was now o = (why : FileFault) × ((why ≡ file.OutOfMemory) ⊎ (f ≡ fault_of why)) × IsRefused (Store why) o × (now ≡ was)
+    IsUnopened was now o ⊎ ((answer : Result (Unit {0}) ExportFault) × Exports repository was now answer × IsOutcome (export_answer answer) o)
+ExportsStored (Err f) was now o = IsUnread f was now o
 
 -- what a command prints of a store: nothing where it has no use for one, or makes one
 abbrev pub printed_by : (Kind → Bytes → Bytes) → Line → Records → Printed
@@ -86,17 +100,24 @@ module _ (name : Kind → Bytes → Bytes) {A : Type 0} where
   IsLeft zero new fault o = IsRefused fault o
   IsLeft (suc n) new fault o = IsKept name new fault o
 
-  -- after an import the next store text is that of the new repository, which is sound
-  abbrev pub IsImported : Records → Result Report ImportFault → Outcome A → Type 0
-  IsImported new (Ok report) o = IsSound name new × IsWritten name new o
-  IsImported new (Err fault) o = IsSound name new × IsLeft fault.checkpoints new (Import fault) o
+  -- After an import the next store text is that of the new repository, which is sound, and what was imported is told.
+  abbrev pub IsImported : Records → Result Report ImportFault → Outcome A × Option Report → Type 0
+  IsImported new (Ok report) o = IsSound name new × IsWritten name new o.0 × (o.1 ≡ Some report)
+  IsImported new (Err fault) o = IsSound name new × IsLeft fault.checkpoints new (Import fault) o.0 × (o.1 ≡ None)
 
   -- The import of a stream into the store of a text, which is read first. It brings no gitlink of forty zeros.
-  abbrev pub ImportsInto : Stored Records → Option Coming → Option Taken → Option Taken → Outcome A → Type 0
+  abbrev pub ImportsInto : Stored Records → Option Coming → Option Taken → Option Taken → Outcome A × Option Report → Type 0
   ImportsInto (Ok old) coming was now o =
-      (IsRefused (Store file.OutOfMemory) o × (now ≡ was))
+      (IsUnopened was now o.0 × (o.1 ≡ None))
       ⊎ ((new : Records) × (answer : Result Report ImportFault) × Imports name old new coming was now answer × KeepsNoNullGitlink old new × IsImported new answer o)
-  ImportsInto (Err f) coming was now o = (why : FileFault) × ((why ≡ file.OutOfMemory) ⊎ (f ≡ fault_of why)) × IsRefused (Store why) o × (now ≡ was)
+  ImportsInto (Err f) coming was now o = IsUnread f was now o.0 × (o.1 ≡ None)
+
+  -- the answers to the lines of a source, of the store of a text, which is read first
+  abbrev pub BatchesStored : Bool → Stored Records → Option Coming → Option Taken → Option Taken → Outcome A → Type 0
+  BatchesStored check (Ok repository) coming was now o =
+      IsUnopened was now o
+      ⊎ ((answer : Result (Unit {0}) BatchFault) × Answers (answered_by name check (history_of repository)) coming was now answer × IsOutcome (batch_answer answer) o)
+  BatchesStored check (Err f) coming was now o = IsUnread f was now o
 
   -- what is printed of a store, and how the command ends
   abbrev pub PrintsStored : Stored Records → (Records → Printed) → Option Taken → Option Taken → Outcome A → Type 0
@@ -106,7 +127,10 @@ module _ (name : Kind → Bytes → Bytes) {A : Type 0} where
   abbrev pub Serves : Line → Bytes → Option Coming → Option Taken → Option Taken → Outcome A → Type 0
   Serves line.Blobs store coming was now o = (answer : Result ℕ BlobsFault) × PrintsBlobs name (option_map items_from coming) was now answer × IsOutcome (blobs_answer answer) o
   Serves (line.Try word) store coming was now o = (answer : Result (Unit {0}) CliFault) × Tries name coming word.now was now answer × IsOutcome answer o
+  Serves line.Adapt store coming was now o = (answer : Result AdaptReport CliFault) × AdaptsStream coming was now answer × IsOutcome answer o
+  Serves (line.Where command) store coming was now o = (answer : Result (Unit {0}) CliFault) × PlacesFrom command coming was now answer × IsOutcome answer o
+  Serves (line.Batch check file) store coming was now o = BatchesStored check (store_of name store) coming was now o
   Serves (line.Init file) store coming was now o = IsWritten name nothing o × (now ≡ was)
-  Serves (line.Import file) store coming was now o = ImportsInto (store_of name store) coming was now o
+  Serves (line.Import file) store coming was now o = (told : Option Report) × ImportsInto (store_of name store) coming was now (o, told)
   Serves (line.Export file) store coming was now o = ExportsStored (store_of name store) was now o
   Serves printing store coming was now o = PrintsStored (store_of name store) (printed_by name printing) was now o

@@ -33,6 +33,8 @@ pub enum Line<'a> {
     Try(&'a str),
     /// A stream's lines are mended that an import refuses.
     Adapt,
+    /// It is told where the command with this number begins in a stream, counted from 1.
+    Where(u64),
     /// A new store is made.
     Init {
         file: &'a str,
@@ -123,6 +125,10 @@ fn line_of<'a>(
         "blobs" => Ok(Line::Blobs),
         "try" => Ok(Line::Try(word_of(alloc, matches, "rev")?)),
         "adapt" => Ok(Line::Adapt),
+        "where" => match number_of(matches, "number") {
+            Some(command) => Ok(Line::Where(command)),
+            None => Err(unknown(alloc)),
+        },
         _ => file_line(alloc, name, matches, word_of(alloc, matches, "file")?),
     }
 }

@@ -1,14 +1,18 @@
 //! Why a command is refused.
 
 ghost use Rattle.std.specs.Prelude.{◌≡◌};
+ghost use Rattle.gx_cli.specs.Gathering.{of_batch};
 ghost use Rattle.gx_cli.specs.declared.fault.CliFault.TheVariants.{OutOfMemory};
 
 use crate::BlobsFault;
+use gx_adapt::AdaptFault;
+use gx_batch::BatchFault;
 use gx_export::ExportFault;
 use gx_file::FileFault;
 use gx_import::ImportFault;
 use gx_rev::RevFault;
-use std::alloc::AllocFailed;
+use gx_where::WhereFault;
+use std::alloc::{AllocError, AllocFailed};
 use thiserror::Error;
 
 /// A refusal, which prints as its line on standard error.
@@ -27,10 +31,17 @@ pub enum CliFault {
     /// Why the store isn't exported as a whole.
     #[error("gx: export: {0}")]
     Export(ExportFault),
+    /// Why a stream isn't adapted to its end.
+    #[error("gx: adapt: {0}")]
+    Adapt(AdaptFault),
+    /// Why it isn't told where a command begins.
+    #[error("gx: where: {0}")]
+    Where(WhereFault),
     /// There is a store where a new one is to be made. The program answers it, which looks at files.
     #[error("gx: store exists")]
     StoreExists,
-    /// The store's file can't be read. The program answers it, too.
+    /// The source failed whose lines are answered, or whose text is searched. The program answers it, too, where it can't read
+    /// the store's file.
     #[error("gx: read failed")]
     ReadFailed,
     /// The sink didn't take all of the output.
@@ -39,6 +50,26 @@ pub enum CliFault {
     /// A growth was refused.
     #[error("gx: out of memory")]
     OutOfMemory,
+}
+
+impl From<AllocError> for CliFault {
+    ghost from_gives = { λ _ fault. fault ≡ OutOfMemory };
+
+    fn from(_error: AllocError) -> CliFault {
+        CliFault::OutOfMemory
+    }
+}
+
+impl From<BatchFault> for CliFault {
+    ghost from_gives = { λ from fault. fault ≡ of_batch from };
+
+    fn from(fault: BatchFault) -> CliFault {
+        match fault {
+            BatchFault::OutOfMemory => CliFault::OutOfMemory,
+            BatchFault::ReadFailed => CliFault::ReadFailed,
+            BatchFault::WriteFailed => CliFault::WriteFailed,
+        }
+    }
 }
 
 impl<T: Drop> From<AllocFailed<T>> for CliFault {

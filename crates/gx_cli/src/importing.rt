@@ -8,7 +8,7 @@ ghost use Rattle.gx_cli.specs.declared.fault.CliFault.TheVariants.{Import};
 
 use crate::CliFault;
 use crate::serving::{Outcome, refused};
-use gx_import::{ImportFault, import};
+use gx_import::{ImportFault, Report, import};
 use gx_object::Namer;
 use gx_repo::Repo;
 use gx_text::{Sink, Source};
@@ -27,31 +27,33 @@ pub(crate) fn init<N: Namer + Drop, A: Allocator + Copy>(
     written(alloc, &repo)
 }
 
-/// Imports a stream into the store of a text. Lines of `progress` go out as they come.
+/// Imports a stream into the store of a text, as the command `import` of [`serve`](crate::serve) does, and tells what was
+/// imported. Lines of `progress` go out as they come.
 ///
 /// The store's text is read first. After a refused import the text is that of the last checkpoint; where there was none,
-/// there is no text.
-pub(crate) fn import_into<N: Namer + Drop, R: Source + Drop, W: Sink, A: Allocator + Copy>(
+/// there is no text. There is a report where the import isn't refused, also where there is no memory for the next text.
+/// Cost: that of reading the store's text, of the import, and of the next text.
+pub fn import_into<N: Namer + Drop, R: Source + Drop, W: Sink, A: Allocator + Copy>(
     alloc: A,
     namer: N,
     store: &[u8],
     source: R,
     sink: &mut W,
     state: RandomState,
-) -> Outcome<A>
+) -> (Outcome<A>, Option<Report>)
     ensures imported { ImportsInto (N.name_of namer) (store_of (N.name_of namer) store.now) (R.coming source) (W.taken sink.old) (W.taken sink.new) result }
-    ensures again { ImportsAgain (N.name_of namer) (store_of (N.name_of namer) store.now) (R.coming source) result }
+    ensures again { ImportsAgain (N.name_of namer) (store_of (N.name_of namer) store.now) (R.coming source) result.0 }
 {
     let mut repo = match gx_file::read(alloc, namer, store, state) {
         Ok(repo) => repo,
-        Err(fault) => return refused(CliFault::Store(fault)),
+        Err(fault) => return (refused(CliFault::Store(fault)), None),
     };
     match import(alloc, &mut repo, source, sink) {
-        Ok(_) => {
+        Ok(report) => {
             repo.sound();
-            written(alloc, &repo)
+            (written(alloc, &repo), Some(report))
         }
-        Err(fault) => left(alloc, &repo, fault),
+        Err(fault) => (left(alloc, &repo, fault), None),
     }
 }
 

@@ -2,16 +2,20 @@
 //! Files, standard streams and the exit status are the program's own.
 #![tactic(auto)]
 
+mod adapting;
+mod batching;
 mod blob_names;
 mod command_line;
 mod exporting;
 mod fault;
+mod gathering;
 mod growing;
 mod importing;
 mod listing;
 mod log;
 mod ls;
 mod names;
+mod placing;
 mod refs;
 mod sending;
 mod serving;
@@ -20,9 +24,13 @@ mod trips;
 mod trying;
 mod words;
 
+pub use adapting::adapt_stream;
 pub use blob_names::{BlobsFault, BlobsKind, blobs};
 pub use command_line::{Line, LineFault, LogOptions, read_line};
 pub use fault::CliFault;
+pub use gx_adapt::Report as AdaptReport;
+pub use gx_import::Report as ImportReport;
+pub use importing::import_into;
 pub use serving::{Outcome, serve};
 pub use trips::{RoundTrip, round_trip};
 pub use trying::{import_alone, look_in, try_revision};

@@ -11,11 +11,14 @@ ghost use Rattle.gx_cli.specs.Answers.{Prints};
 ghost use Rattle.gx_cli.specs.Serving.{IsOutcome, IsRefused, Serves, blobs_answer, printed_by};
 ghost use Rattle.gx_cli.specs.Stored.{of_stored};
 
+use crate::adapting::adapt_stream;
+use crate::batching::batch_stored;
 use crate::exporting::export_stored;
 use crate::importing::{import_into, init};
 use crate::log::log;
 use crate::ls::list;
 use crate::names::print_names;
+use crate::placing::print_place;
 use crate::refs::print_refs;
 use crate::showing::show_stored;
 use crate::{CliFault, Line, blobs, try_revision};
@@ -34,9 +37,10 @@ pub struct Outcome<A: Allocator> {
 
 /// Runs a command. What it prints goes to the sink.
 ///
-/// `blobs` reads the source as [`blobs`] does, and `try` as [`try_revision`] does: the source is read before the revision.
-/// Both, and `init`, have no use for the store's bytes. The other commands read the store's text first, then all words, and
-/// then evaluate each in its order; `import` reads its source then. Only `init` and `import` answer a next store text: `init`
+/// `blobs` reads the source as [`blobs`] does, `adapt` as [`adapt_stream`] does, and `try` as [`try_revision`] does: the source
+/// is read before the revision. `where` reads it whole, and tells where a command begins. These, and `init`, have no use for the
+/// store's bytes. The other commands read the store's text first, then all words, and then evaluate each in its order; `import`
+/// and `batch` read their source then. Only `init` and `import` answer a next store text: `init`
 /// where it is accepted, and `import` also where it is refused after a checkpoint.
 ///
 /// Importing what was exported makes the repository again, as far as its refs reach: the same refs and object names.
@@ -65,8 +69,16 @@ pub fn serve<N: Namer + Drop, R: Source + Drop, W: Sink, A: Allocator + Copy>(
             sink,
             state,
         )),
+        Line::Adapt => outcome_of(adapt_stream(alloc, source, sink)),
+        Line::Where(command) => outcome_of(print_place(alloc, *command, source, sink)),
         Line::Init { file: _ } => init(alloc, namer, state),
-        Line::Import { file: _ } => import_into(alloc, namer, store, source, sink, state),
+        Line::Import { file: _ } => {
+            let (outcome, _) = import_into(alloc, namer, store, source, sink, state);
+            outcome
+        }
+        Line::Batch { check, file: _ } => {
+            batch_stored(alloc, namer, *check, store, source, sink, state)
+        }
         Line::Export { file: _ } => export_stored(alloc, namer, store, sink, state),
         _ => outcome_of(print_stored(alloc, namer, line, store, sink, state)),
     }
@@ -109,6 +121,7 @@ fn print_stored<N: Namer + Drop, W: Sink, A: Allocator + Copy>(
         | Line::Import { file: _ }
         | Line::Export { file: _ }
         | Line::Adapt
+        | Line::Where(_)
         | Line::Batch { check: _, file: _ } => Ok(()),
     }
 }

@@ -96,6 +96,18 @@ fn one_word<'a>(alloc: Global, id: &'a str, shown: &'a str, help: &'a str) -> Ar
         .help(help)
 }
 
+/// A positional argument that isn't left out, and is a whole number below 2^64. Help shows it by `N`.
+pub(super) fn needed_number<'a>(alloc: Global, id: &'a str, help: &'a str) -> Arg<'a>
+    ensures rule { rule_of result ≡ say.needed_number id.entry.now }
+    ensures local { result.global ≡ false }
+{
+    Arg::new(alloc, id)
+        .required(true)
+        .value_name("N")
+        .value_parser(ValueParser::unsigned(0, u64::MAX))
+        .help(help)
+}
+
 /// A positional argument that stands at least once. Help shows it by `shown`.
 pub(super) fn words<'a>(alloc: Global, id: &'a str, shown: &'a str, help: &'a str) -> Arg<'a>
     ensures rule { rule_of result ≡ say.words id.entry.now }

@@ -6,7 +6,7 @@ ghost use Rattle.clap.specs.Words.{App, app_of, new_app, rule_of, with_rule};
 ghost use Rattle.clap.specs.declared.builder.command.Command.TheViews.{out-Command as fields_of};
 ghost use Rattle.gx_cli.specs.CommandLine as say;
 
-use super::arguments::{check, file, max_count, parents, recursive, reverse, revision, words};
+use super::arguments::{check, file, max_count, needed_number, parents, recursive, reverse, revision, words};
 use super::manual::{self, Page};
 use clap::{Arg, Command};
 use std::alloc::{AllocError, Global};
@@ -40,13 +40,21 @@ fn with_stream_commands<'a>(
 {
     let gx = with_command(gx, Ok(command(alloc, "blobs", manual::BLOBS)));
     let gx = with_command(gx, try_command(alloc));
-    with_command(gx, Ok(command(alloc, "adapt", manual::ADAPT)))
+    let gx = with_command(gx, Ok(command(alloc, "adapt", manual::ADAPT)));
+    with_command(gx, where_command(alloc))
 }
 
 fn try_command<'a>(alloc: Global) -> Result<Command<'a>, AllocError>
     ensures { say.Makes result say.try_command }
 {
     with_argument(Ok(command(alloc, "try", manual::TRY)), revision(alloc))
+}
+
+fn where_command<'a>(alloc: Global) -> Result<Command<'a>, AllocError>
+    ensures { say.Makes result say.where_command }
+{
+    let number = needed_number(alloc, "number", "The number of a command, from 1");
+    with_argument(Ok(command(alloc, "where", manual::WHERE)), number)
 }
 
 /// The commands on a store as a whole.

@@ -120,10 +120,35 @@ Output:
     M, D, C, R                 a path with an opening quote and no closing one
                                is quoted
     feature                    a line of marks or of get-mark is left out
-  Standard error tells how many of each there were.
+  Comments go, and each block of data is announced by its length. Standard
+  error tells how many lines of each kind were mended, and what stays that is
+  refused later.
 
 Refusals:
-  gx: read failed       standard input can't be read
+  gx: adapt: KIND       KIND is ReadFailed, WriteFailed, TruncatedData,
+                        BadNumber or OutOfMemory",
+};
+
+/// The page of `where`.
+pub(super) const WHERE: Page = Page {
+    about: "Tells where the Nth command of a stream begins",
+    description: "\
+Tells where the Nth command of the stream on standard input begins, so that
+what an import refused by its number is found.
+
+The commands before it are read as an import reads them. Where N is one more
+than there are commands, it is the end. The stream is held in memory.",
+    details: "\
+Output:
+  The number of its first line, from 1, the byte at which it begins, from 0,
+  and that line, with colons between, as grep -bn prints a line.
+
+Refusals:
+  gx: where: no such command   N is 0, or there are fewer commands
+  gx: where: command M: KIND   the Mth command, before it, is refused
+  gx: where: read failed       the stream has 2^63 bytes or more
+  gx: where: out of memory
+  gx: read failed              standard input can't be read
   gx: write failed
   gx: out of memory",
 };

@@ -5,7 +5,7 @@ use Rattle.gx_cli.specs.Answers.{Prints}
 use Rattle.gx_cli.specs.Serving.{printed_by}
 use Rattle.gx_cli.specs.Stored.{list_text, log_text, names_text, show_text, texts_of}
 use Rattle.gx_cli.proofs.StoredAnswers.{line_printed, line_silent, unread_printed}
-use Rattle.gx_cli.proofs.serving.print_stored.Goals.{in-Blobs, in-Blobs-2, in-Blobs-3, in-Blobs-4, in-Blobs-5, in-Blobs-6, in-Blobs-7}
+use Rattle.gx_cli.proofs.serving.print_stored.Goals.{in-Blobs, in-Blobs-2, in-Blobs-3, in-Blobs-4, in-Blobs-5, in-Blobs-6, in-Blobs-7, in-Blobs-8}
 use Rattle.gx_cli.proofs.serving.print_stored.Goals as goal
 
 pub returns-in-Err : goal.returns-in-Err
@@ -60,4 +60,5 @@ returns g c =
       | in-Blobs-5 w ↦ rw w.result-is (line_silent g.N.Namer.name_of c.args.namer c.in-Ok.repo c.args.store.now c.args.line.now was c.in-Ok.ensures.namer c.in-Ok.ensures.store w.in-Blobs.is)
       | in-Blobs-6 w ↦ rw w.result-is (line_silent g.N.Namer.name_of c.args.namer c.in-Ok.repo c.args.store.now c.args.line.now was c.in-Ok.ensures.namer c.in-Ok.ensures.store w.in-Blobs.is)
       | in-Blobs-7 w ↦ rw w.result-is (line_silent g.N.Namer.name_of c.args.namer c.in-Ok.repo c.args.store.now c.args.line.now was c.in-Ok.ensures.namer c.in-Ok.ensures.store w.in-Blobs.is)
+      | in-Blobs-8 w ↦ rw w.result-is (line_silent g.N.Namer.name_of c.args.namer c.in-Ok.repo c.args.store.now c.args.line.now was c.in-Ok.ensures.namer c.in-Ok.ensures.store w.in-Blobs.is)
     ]

@@ -1,0 +1,59 @@
+-- What the commands answer that read a source alone, with their faults among those of the commands.
+use Rattle.std.specs.Prelude.{◌≡◌, true, false, Option, Some, None, Result, Ok, Err, ⊤}
+use Rattle.std.specs.Option.{option_map}
+use Rattle.std.specs.declared.vec.Vec.{Vec}
+use Rattle.std.specs.Prelude.{ℕ}
+use Rattle.gx_model.specs.Texts.{Bytes}
+use Rattle.gx_text.specs.Devices.{Coming, Taken}
+use Rattle.gx_stream.specs.Heard.{items_from}
+use Rattle.gx_adapt.specs.Adapting.{AdaptsFrom}
+use Rattle.gx_adapt.specs.declared.fault.AdaptFault.{AdaptFault}
+use Rattle.gx_adapt.specs.declared.report.Report.{Report}
+use Rattle.gx_batch.specs.declared.fault.BatchFault.{BatchFault}
+use Rattle.gx_batch.specs.declared.fault.BatchFault.TheVariants as batch
+use Rattle.gx_cli.specs.declared.fault.CliFault.{CliFault}
+use Rattle.gx_cli.specs.declared.fault.CliFault.TheVariants.{Adapt, OutOfMemory, ReadFailed, WriteFailed}
+
+-- ---- adapt
+
+-- what `adapt` answers, with its fault among those of the commands
+abbrev pub adapt_answer : Result Report AdaptFault → Result Report CliFault
+adapt_answer (Ok report) = Ok report
+adapt_answer (Err f) = Err (Adapt f)
+
+-- a source's stream goes out adapted
+abbrev pub AdaptsStream : Option Coming → Option Taken → Option Taken → Result Report CliFault → Type 0
+AdaptsStream coming was now r =
+    (answer : Result Report AdaptFault) × AdaptsFrom (option_map items_from coming) was now answer × (r ≡ adapt_answer answer)
+
+-- ---- batch
+
+-- a fault of `batch` among those of the commands
+abbrev pub of_batch : BatchFault → CliFault
+of_batch batch.OutOfMemory = OutOfMemory
+of_batch batch.ReadFailed = ReadFailed
+of_batch batch.WriteFailed = WriteFailed
+
+-- what `batch` answers, with its fault among those of the commands
+abbrev pub batch_answer : Result (Unit {0}) BatchFault → Result (Unit {0}) CliFault
+batch_answer (Ok done) = Ok done
+batch_answer (Err f) = Err (of_batch f)
+
+-- ---- all of a source
+
+-- this is all that a source gives, up to its end; of one that tells nothing, nothing is claimed
+abbrev pub IsAllOf : Option Coming → Bytes → Type 0
+IsAllOf None text = ⊤
+IsAllOf (Some c) text = (text ≡ c.bytes) × (c.fails ≡ false)
+
+-- a source ends with a failure
+abbrev pub EndsBadly : Option Coming → Type 0
+EndsBadly None = ⊤
+EndsBadly (Some c) = c.fails ≡ true
+
+-- all of a source, or why there isn't all of it
+abbrev pub Gathers : {A : Type 0} → Option Coming → Result (Vec ℕ A) CliFault → Type 0
+Gathers coming (Ok text) = IsAllOf coming text.items
+Gathers coming (Err ReadFailed) = EndsBadly coming
+Gathers coming (Err OutOfMemory) = ⊤
+Gathers coming (Err fault) = ⊥

@@ -1,0 +1,37 @@
+//! Many revisions of one store. Source: git-cat-file(1), "BATCH OUTPUT".
+
+ghost use Rattle.std.specs.Prelude.{◌≡◌};
+ghost use Rattle.gx_model.specs.StoreReading.{store_of};
+ghost use Rattle.gx_cli.specs.Serving.{BatchesStored};
+
+use crate::CliFault;
+use crate::serving::{Outcome, outcome_of, refused};
+use gx_batch::batch;
+use gx_object::Namer;
+use gx_text::{Sink, Source};
+use std::alloc::Allocator;
+use std::hash::RandomState;
+
+/// Answers each line of a source as a revision of the store of a text, which is read first.
+///
+/// Cost: that of reading the store's text, and that of `gx_batch::batch`.
+pub(crate) fn batch_stored<N: Namer + Drop, R: Source + Drop, W: Sink, A: Allocator + Copy>(
+    alloc: A,
+    namer: N,
+    check: bool,
+    store: &[u8],
+    source: R,
+    sink: &mut W,
+    state: RandomState,
+) -> Outcome<A>
+    ensures { BatchesStored (N.name_of namer) check (store_of (N.name_of namer) store.now) (R.coming source) (W.taken sink.old) (W.taken sink.new) result }
+{
+    let repo = match gx_file::read(alloc, namer, store, state) {
+        Ok(repo) => repo,
+        Err(fault) => return refused(CliFault::Store(fault)),
+    };
+    match batch(alloc, &repo, check, source, sink) {
+        Ok(()) => outcome_of(Ok(())),
+        Err(fault) => refused(CliFault::from(fault)),
+    }
+}

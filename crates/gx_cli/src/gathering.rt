@@ -1,0 +1,33 @@
+//! All of a source, in memory.
+
+ghost use Rattle.std.specs.Prelude.{◌≡◌};
+ghost use Rattle.gx_cli.specs.Gathering.{Gathers};
+
+use crate::CliFault;
+use gx_text::{Failed, Source};
+use std::alloc::Allocator;
+
+/// How many bytes a pull asks for.
+const PIECE: usize = 0x1_0000;
+
+/// All that a source gives up to its end.
+///
+/// `ReadFailed`: the source failed. `OutOfMemory`: a growth was refused. Cost: the bytes. Memory: the bytes, and one piece.
+pub(crate) fn gather<R: Source, A: Allocator + Copy>(
+    alloc: A,
+    source: R,
+) -> Result<Vec<u8, A>, CliFault>
+    ensures { Gathers (R.coming source) result }
+{
+    let mut source = source;
+    let mut text = Vec::new(alloc);
+    let mut piece = Vec::new(alloc);
+    piece.resize(PIECE, 0)?;
+    loop {
+        match source.pull(&mut piece) {
+            Err(Failed) => return Err(CliFault::ReadFailed),
+            Ok(0) => return Ok(text),
+            Ok(count) => text.extend_from_slice(&piece[..count])?,
+        }
+    }
+}

@@ -6,7 +6,9 @@ ghost use Rattle.clap.specs.Words.{App, app_of, new_app, rule_of, with_rule};
 ghost use Rattle.clap.specs.declared.builder.command.Command.TheViews.{out-Command as fields_of};
 ghost use Rattle.gx_cli.specs.CommandLine as say;
 
-use super::arguments::{check, file, max_count, needed_number, parents, recursive, reverse, revision, words};
+use super::arguments::{
+    check, file, max_count, needed_number, parents, recursive, reverse, revision, words,
+};
 use super::manual::{self, Page};
 use clap::{Arg, Command};
 use std::alloc::{AllocError, Global};

@@ -15,3 +15,4 @@ pub mod WordsRead
 pub mod ExportedStores
 pub mod RoundTrips
 pub mod MadeCommands
+pub mod Gathered

@@ -13,7 +13,7 @@ const PIECE: usize = 0x1_0000;
 /// All that a source gives up to its end.
 ///
 /// `ReadFailed`: the source failed. `OutOfMemory`: a growth was refused. Cost: the bytes. Memory: the bytes, and one piece.
-pub(crate) fn gather<R: Source, A: Allocator + Copy>(
+pub(crate) fn gather<R: Source + Drop, A: Allocator + Copy>(
     alloc: A,
     source: R,
 ) -> Result<Vec<u8, A>, CliFault>

@@ -15,7 +15,7 @@ use std::alloc::{AllocError, Allocator};
 ///
 /// `ReadFailed`: the source failed. `Where`: it isn't told. `WriteFailed`: the sink didn't take all of the line.
 /// `OutOfMemory`: a growth was refused. Memory: the stream's text, and what `place_of_command` takes. Cost: that of it.
-pub(crate) fn print_place<R: Source, W: Sink, A: Allocator + Copy>(
+pub(crate) fn print_place<R: Source + Drop, W: Sink, A: Allocator + Copy>(
     alloc: A,
     command: u64,
     source: R,

@@ -1,18 +1,20 @@
 #!/usr/bin/env bash
-# Has small repositories of several systems converted by the converters of the table below, and compares what `gx` makes of each stream with what
-# `git fast-import` makes of it: all refs, all commits with their parents, the name of each path of each ref, the files of each commit, and the bytes of
-# each object. Of a stream that gx refuses it tells the refusal and what git does; then the stream is mended, and compared so.
+# Has small repositories of several systems converted by the converters of the table below, runs each stream through `gx adapt`, and compares what
+# `gx import` makes of what comes out with what `git fast-import` makes of it: all refs, all commits with their parents, the name of each path of each ref,
+# the files of each commit, and the bytes of each object. Tells what was adapted, what gx makes of the stream as it was, and whether git gives its refs
+# the same names as those of the adapted one. At the end it says which converters ran, and which were left out.
 #   bench/real.sh [FOLDER [CONVERTER..]]      FOLDER: where to keep repositories and streams; one of its own, dropped at the end, if it is left out
 # GX names the program; without it crates/gx is built, which needs rt. A converter is left out, and named, where one of its programs is missing. Debian's
 # packages have the programs' names, but for hg (mercurial), hggit (mercurial-git), svn and svnadmin (subversion), src (simple-revision-control),
 # fastimport (python3-fastimport), public-inbox-mda (public-inbox), and import-tars.perl, which is in git's package.
-# Status 1 says that a converter failed, or that something is refused or differs from git which the table doesn't tell, or that doesn't any more.
+# Status 1 says that a converter failed; that an adapted stream is refused or differs from git's import of it, or has other names than git gives the stream as it
+# was; or that gx makes something else of that one than the table tells.
 set -euo pipefail
 cd "$(dirname "$0")/.."
 . bench/story.bash
 
-# Each converter, its programs, and its stories (bench/story.bash). Behind `=` stands the fault of the stream, or `names` where an identity begins with
-# `<`, so that commits get other names than git's.
+# Each converter, its programs, and its stories (bench/story.bash). Behind `=` stands what gx makes of the stream as it is: the fault, or `names` where an
+# identity begins with `<`, so that commits get other names than git's.
 table='
 git-fast-export     git                              plain quote people=names gone=Unsupported
 git-filter-repo     git-filter-repo                  plain quote gone=Unsupported
@@ -229,36 +231,51 @@ counted() {
   echo ", ${#words[@]} revisions"
 }
 
-# the stream without what the story has that is refused
-mend() {
-  case $story in
-    quote) sed 's/^\(M [^ ]* [^ ]*\) "quoted$/\1 "\\"quoted"/' "$1" ;;
-    people) sed -E 's/^(author|committer|tagger) </\1  </' "$1" ;;
-    gone) sed '/^from 0\{40\}$/d' "$1" ;;
-  esac
+# what gx makes of the stream as it is: `same`, `names`, or its fault
+met_by_gx() {
+  if ! by_gx stream; then
+    sed 's/.*: //' gx.fault
+  elif same; then
+    echo same
+  else
+    echo names
+  fi
 }
 
-# how one story came out: `same`, `names` or a fault in `met`, and what is said of it in `told`
-compare() {
-  local git_says='git imports it'
-  met=same
-  told="$(stat -c %s stream) bytes"
-  by_git stream || git_says=$(head -n 1 git.fault)
-  if ! by_gx stream; then
-    met=$(sed 's/.*: //' gx.fault)
-    told+=", $(< gx.fault) ($git_says)"
-  elif [ "$git_says" != 'git imports it' ]; then
-    met=$git_says
-  elif ! same; then
-    met=names
-    told+=', other names'
+# what git says of the stream as it is, beside the adapted one
+git_says() {
+  if ! by_git stream; then
+    echo "git refuses it as it was ($(head -n 1 git.fault))"
+  elif git -C git show-ref | cmp -s - adapted.refs; then
+    echo 'git gives it the same names as it was'
+  else
+    echo 'git gives it other names as it was'
   fi
-  [ "$met" = same ] || {
-    mend stream > mended
-    [ "$git_says" = 'git imports it' ] || by_git mended
-    if by_gx mended && same; then told+='; mended'; else met+=', also when it was mended,'; fi
+}
+
+# how one story came out: in `met` what gx makes of the stream as it was, in `wrong` what is wrong with the adapted one, and in `told` what is said of both
+compare() {
+  local said
+  met=none
+  wrong=
+  told="$(stat -c %s stream) bytes"
+  "$gx" adapt < stream > adapted 2> adapt.told || {
+    wrong="it isn't adapted: $(tail -n 1 adapt.told)"
+    return 0
   }
+  cmp -s stream adapted || told+=', adapted'
+  [ ! -s adapt.told ] || told+=" ($(paste -s -d ';' adapt.told))"
+  by_git adapted || wrong="git refuses it adapted: $(head -n 1 git.fault)"
+  by_gx adapted || wrong+="gx refuses it adapted: $(< gx.fault)"
+  [ -z "$wrong" ] || return 0
+  git -C git show-ref > adapted.refs || true
+  same || wrong='gx and git differ adapted'
   told+=$(counted)
+  said=$(git_says)
+  [[ $said != *' other names '* ]] || wrong+=" $said"
+  told+="; $said"
+  met=$(met_by_gx)
+  [ "$met" = same ] || told+="; gx as it was: $met"
 }
 
 failed=0
@@ -280,30 +297,38 @@ try_story() {
   set -e
   cd "$here"
   if [ $status -ne 0 ]; then
-    met=failed
-    told="the converter failed: $(tail -n 1 log)"
+    met=$expected
+    wrong='the converter failed'
+    told=$(tail -n 1 log)
   else
     compare
   fi
-  [ "$met" = "$expected" ] || {
+  [ "$met" = "$expected" ] || wrong+=" $met instead of $expected as it was"
+  [ -z "$wrong" ] || {
     failed=$((failed + 1))
-    told="FAIL $met instead of $expected, $told"
+    told="FAIL $wrong, $told"
   }
   printf '%-20s %-7s %s\n' "$name" "$story" "$told"
 }
 
+ran=()
+left_out=()
 while read -r name programs stories; do
   [ ${#chosen[@]} -eq 0 ] || [[ " ${chosen[*]} " == *" $name "* ]] || continue
   missing=
   for program in ${programs//,/ }; do there "$program" || missing+=" $program"; done
   if [ -n "$missing" ]; then
+    left_out+=("$name")
     echo "$name is left out, since it needs$missing"
     continue
   fi
+  ran+=("$name")
   for word in $stories; do
     expected=same
     [[ $word != *=* ]] || expected=${word#*=}
     try_story "$name" "${word%%=*}" "$expected" < /dev/null
   done
 done < <(sed '/^$/d' <<< "$table")
+echo "ran: ${ran[*]-}"
+echo "left out: ${left_out[*]-}"
 [ $failed -eq 0 ]

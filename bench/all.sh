@@ -9,7 +9,7 @@
 # with RUNS=3 and streams that are there.
 # RUNS: how many runs, 5 if it isn't set; what took longer than LONG seconds, 10 if it isn't set, isn't run again. GX: the program, crates/gx/out/gx if it
 # isn't set. GX_BENCH: the program gx_bench, which hashes by the kit's SHA-1; crates/gx_bench/out/gx_bench if it isn't set, and left out where it isn't built.
-# STREAMS: a folder of streams, each made there unless it is there. It needs git, sha1sum, python3 and GNU time, and 15 GB of disk.
+# STREAMS: a folder of streams, as `steady_10000`, each made there unless it is there. It needs git, sha1sum, python3 and GNU time, and 15 GB of disk.
 set -euo pipefail
 cd "$(dirname "$0")/.."
 export LC_ALL=C.UTF-8
@@ -45,7 +45,7 @@ import,open history 2000
 import,open history 10000
 import,open history 40000
 import,open flat 10000 2000
-import      blobs 200000 1024
+import      blobs 200000 1000
 all         own
 '
 
@@ -53,7 +53,7 @@ all         own
 stream_of() {
   [ "$1" != file ] || { realpath "$2"; return; }
   local made=$*
-  made=$streams/${made// /-}
+  made=$streams/${made// /_}
   if [ ! -f "$made" ]; then
     if [ "$1" = own ]; then git fast-export --all; else python3 bench/streams.py "$@"; fi > "$made.new"
     mv "$made.new" "$made"

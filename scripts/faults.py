@@ -26,8 +26,11 @@ ENUMS = {
     "Revisions": ["gx_rev/src/fault.rt RevFault"],
     "Stores": ["gx_file/src/fault.rt FileFault", "gx_repo/src/fault.rt AddFault"],
     "Exports": ["gx_export/src/fault.rt ExportFault"],
+    "Adapted streams": ["gx_adapt/src/fault.rt AdaptFault"],
+    "Places of commands": ["gx_where/src/fault.rt WhereFault"],
     "Files and memory": [
         "gx_cli/src/fault.rt CliFault",
+        "gx_batch/src/fault.rt BatchFault",
         "gx_cli/src/command_line.rt LineFault",
         "gx/src/fault.rt RunFault",
     ],

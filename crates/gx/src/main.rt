@@ -1,16 +1,23 @@
 //! The program `gx`: its words, files, standard streams and exit status around `gx_cli`.
 #![tactic(auto)]
 
+mod command_count;
 mod fault;
 mod files;
 mod next_text;
+mod progress;
+mod reports;
 
 use fault::RunFault;
 use files::{read_store, want_no_store, want_store};
-use gx_cli::{CliFault, Line, LineFault, Outcome, read_line, serve};
+use gx_cli::{
+    CliFault, ImportReport, Line, LineFault, Outcome, adapt_stream, import_into, read_line, serve,
+};
 use gx_object::Sha1Namer;
 use gx_text::{FromRead, IntoWrite};
 use next_text::NextText;
+use progress::{Beside, Metered};
+use reports::{tell_adaption, tell_import};
 use std::alloc::Global;
 use std::hash::RandomState;
 use std::io::{BufWriter, ErrorKind, Write};
@@ -44,14 +51,14 @@ fn main(rt: HostRuntime) -> io::Result<ExitCode> {
 /// Runs a command on its file and on the standard streams.
 fn run(rt: &HostRuntime, line: &Line<'_>, state: RandomState) -> Result<(), RunFault> {
     match line {
-        Line::Blobs | Line::Try(_) | Line::Adapt | Line::Batch { check: _, file: _ } => {
-            refusal(&stream(rt, line, b"", state))?;
-            Ok(())
-        }
-        Line::Init { file } => init(rt, line, file, state),
-        Line::Import { file } => import(rt, line, file, state),
-        Line::Export { file }
-        | Line::Show { file, revision: _ }
+        Line::Init { file } => return init(rt, line, file, state),
+        Line::Import { file } => return import(rt, file, state),
+        Line::Blobs | Line::Where(_) => refusal(&stream(rt, line, b"", state))?,
+        Line::Try(_) => refusal(&try_stream(rt, line, state))?,
+        Line::Adapt => adapt(rt)?,
+        Line::Batch { check: _, file } => batch(rt, line, file, state)?,
+        Line::Export { file } => export(rt, line, file, state)?,
+        Line::Show { file, revision: _ }
         | Line::Ls {
             recursive: _,
             file,
@@ -63,11 +70,9 @@ fn run(rt: &HostRuntime, line: &Line<'_>, state: RandomState) -> Result<(), RunF
             file,
             ranges: _,
         }
-        | Line::RevParse { file, revisions: _ } => {
-            print(rt, line, file, state)?;
-            Ok(())
-        }
+        | Line::RevParse { file, revisions: _ } => print(rt, line, file, state)?,
     }
+    Ok(())
 }
 
 /// Makes a store file where there is none.
@@ -92,30 +97,44 @@ fn init_locked(
 }
 
 /// Imports standard input into a store file, which a refused import leaves as the last checkpoint made it.
-fn import(
-    rt: &HostRuntime,
-    line: &Line<'_>,
-    file: &str,
-    state: RandomState,
-) -> Result<(), RunFault> {
+fn import(rt: &HostRuntime, file: &str, state: RandomState) -> Result<(), RunFault> {
     want_store(rt, file)?;
     let mut next = NextText::claim(rt, file)?;
-    let answer = import_locked(rt, line, &mut next, state);
+    let answer = import_locked(rt, &mut next, state);
     next.release(rt);
-    answer
+    if let Some(report) = answer? {
+        tell_import(rt, &report);
+    }
+    Ok(())
 }
 
 /// What another run left while this one waited is what is imported into.
 fn import_locked(
     rt: &HostRuntime,
-    line: &Line<'_>,
     next: &mut NextText,
     state: RandomState,
-) -> Result<(), RunFault> {
+) -> Result<Option<ImportReport>, RunFault> {
     let store = read_store(rt, next.store())?;
-    let outcome = stream(rt, line, &store, state);
+    let (outcome, report) = import_shown(rt, &store, state);
     drop(store);
-    end(rt, next, &outcome)
+    end(rt, next, &outcome)?;
+    Ok(report)
+}
+
+/// Imports standard input, and shows how far it is.
+fn import_shown(
+    rt: &HostRuntime,
+    store: &[u8],
+    state: RandomState,
+) -> (Outcome<Global>, Option<ImportReport>) {
+    let mut input = Metered::input(rt);
+    let imported = {
+        let source = FromRead::new(&mut input);
+        let mut sink = IntoWrite::new(Beside::new(rt));
+        import_into(rt.alloc(), Sha1Namer, store, source, &mut sink, state)
+    };
+    input.clear();
+    imported
 }
 
 /// Puts a store's next text in its place, where there is one, also where the command is refused.
@@ -142,7 +161,47 @@ fn stream(rt: &HostRuntime, line: &Line<'_>, store: &[u8], state: RandomState) -
     serve(rt.alloc(), Sha1Namer, line, store, source, &mut sink, state)
 }
 
-/// Serves a command that prints of a store, through a buffer.
+/// The same of a try, and shows how far its import is.
+fn try_stream(rt: &HostRuntime, line: &Line<'_>, state: RandomState) -> Outcome<Global> {
+    let mut input = Metered::input(rt);
+    let outcome = {
+        let source = FromRead::new(&mut input);
+        let mut sink = IntoWrite::new(Beside::new(rt));
+        serve(rt.alloc(), Sha1Namer, line, b"", source, &mut sink, state)
+    };
+    input.clear();
+    outcome
+}
+
+/// Answers the lines of standard input, each before the next is waited for.
+fn batch(
+    rt: &HostRuntime,
+    line: &Line<'_>,
+    file: &str,
+    state: RandomState,
+) -> Result<(), CliFault> {
+    let store = read_store(rt, file)?;
+    refusal(&stream(rt, line, &store, state))
+}
+
+/// Adapts standard input, through a buffer, and tells what was changed.
+fn adapt(rt: &HostRuntime) -> Result<(), CliFault> {
+    let Ok(mut out) = BufWriter::new(rt.alloc(), rt.stdout()) else {
+        return Err(CliFault::OutOfMemory);
+    };
+    let answer = {
+        let source = FromRead::new(rt.stdin());
+        let mut sink = IntoWrite::new(&mut out);
+        adapt_stream(rt.alloc(), source, &mut sink)
+    };
+    let flushed = out.flush();
+    let report = answer?;
+    flushed.map_err(|_| CliFault::WriteFailed)?;
+    tell_adaption(rt, &report);
+    Ok(())
+}
+
+/// Serves a command that prints of a store.
 fn print(
     rt: &HostRuntime,
     line: &Line<'_>,
@@ -150,21 +209,38 @@ fn print(
     state: RandomState,
 ) -> Result<(), CliFault> {
     let store = read_store(rt, file)?;
-    let Ok(mut out) = BufWriter::new(rt.alloc(), rt.stdout()) else {
+    print_to(rt, line, &store, rt.stdout(), state)
+}
+
+/// Exports a store, and shows how much went out.
+fn export(
+    rt: &HostRuntime,
+    line: &Line<'_>,
+    file: &str,
+    state: RandomState,
+) -> Result<(), CliFault> {
+    let store = read_store(rt, file)?;
+    let mut output = Metered::output(rt);
+    let answer = print_to(rt, line, &store, &mut output, state);
+    output.clear();
+    answer
+}
+
+/// What is printed goes out through a buffer.
+fn print_to<W: Write + Drop>(
+    rt: &HostRuntime,
+    line: &Line<'_>,
+    store: &[u8],
+    output: W,
+    state: RandomState,
+) -> Result<(), CliFault> {
+    let Ok(mut out) = BufWriter::new(rt.alloc(), output) else {
         return Err(CliFault::OutOfMemory);
     };
     let outcome = {
         let source = FromRead::new(rt.stdin());
         let mut sink = IntoWrite::new(&mut out);
-        serve(
-            rt.alloc(),
-            Sha1Namer,
-            line,
-            &store,
-            source,
-            &mut sink,
-            state,
-        )
+        serve(rt.alloc(), Sha1Namer, line, store, source, &mut sink, state)
     };
     let flushed = out.flush();
     let outcome: Outcome<Global> = outcome;

@@ -12,10 +12,10 @@ from pathlib import Path
 TOP = Path(__file__).resolve().parent.parent
 DOCS = TOP / "docs"
 
-WIDTH = 900
+WIDTH, WIDE = 900, 1186
 MARGIN = 30
 INK, FAINT, PAPER, FILL, FRAME = "#1b2733", "#4a5a6a", "#ffffff", "#e8f0f8", "#2f5d8a"
-COLUMN, ROOM = 260, 30
+COLUMN, ROOM = 125, 18
 BOX, GAP = 52, 32
 
 
@@ -71,9 +71,9 @@ def line(points, arrow=True):
     return f'<polyline points="{path}" fill="none" stroke="{FAINT}" stroke-width="1.5"{end}/>'
 
 
-def picture(height, title, about, parts):
+def picture(width, height, title, about, parts):
     head = [
-        f'<svg xmlns="http://www.w3.org/2000/svg" viewBox="0 0 {WIDTH} {height}" width="{WIDTH}" height="{height}"'
+        f'<svg xmlns="http://www.w3.org/2000/svg" viewBox="0 0 {width} {height}" width="{width}" height="{height}"'
         ' role="img"'
         ' font-family="Helvetica, Arial, \'DejaVu Sans\', sans-serif">',
         f"<title>{escape(title)}</title>",
@@ -81,7 +81,7 @@ def picture(height, title, about, parts):
         "<!-- Made by scripts/pictures.py. -->",
         '<defs><marker id="head" viewBox="0 0 10 10" refX="9" refY="5" markerWidth="9" markerHeight="9" orient="auto">'
         f'<path d="M0,1 L10,5 L0,9 z" fill="{FAINT}"/></marker></defs>',
-        f'<rect width="{WIDTH}" height="{height}" fill="{PAPER}"/>',
+        f'<rect width="{width}" height="{height}" fill="{PAPER}"/>',
     ]
     return "\n".join(head + parts + ["</svg>"]) + "\n"
 
@@ -114,16 +114,30 @@ class Layers:
         left, _, width = self.place(name)
         return left < x < left + width
 
+    def aside(self, name, way):
+        """Where a line with a step leaves or meets a crate: off its middle, on the side of the other one."""
+        return self.middle(name) + way * min(70, self.place(name)[2] // 2 - 20)
+
+    def stands_between(self, upper, lower, x):
+        depths = range(self.depth[lower] + 1, self.depth[upper])
+        return any(self.is_over(name, x) for name in self.span if self.depth[name] in depths)
+
     def edge(self, upper, lower):
-        """A line from a crate to one below: straight down where they stand in line, and otherwise with a step aside."""
-        ends = self.middle(upper), self.middle(lower)
+        """A line from a crate to one below: straight down where they stand in line, and otherwise with a step aside. Where other crates stand in its
+        way, it goes down beside them."""
         top, foot = self.place(upper)[1] + BOX, self.place(lower)[1]
         narrow = min((upper, lower), key=lambda name: self.place(name)[2])
         if self.is_over(upper, self.middle(narrow)) and self.is_over(lower, self.middle(narrow)):
             return line([(self.middle(narrow), top), (self.middle(narrow), foot)])
-        side = 70 if ends[0] < ends[1] else -70
+        way = 1 if self.middle(upper) < self.middle(lower) else -1
+        start, end = self.aside(upper, way), self.aside(lower, -way)
         turn = top + GAP // 2
-        return line([(ends[0] + side, top), (ends[0] + side, turn), (ends[1] - side, turn), (ends[1] - side, foot)])
+        if not self.stands_between(upper, lower, end):
+            return line([(start, top), (start, turn), (end, turn), (end, foot)])
+        left, _, width = self.place(lower)
+        beside = left - ROOM // 2 if way > 0 else left + width + ROOM // 2
+        early, last = top + GAP // 4, foot - GAP // 2
+        return line([(start, top), (start, early), (beside, early), (beside, last), (end, last), (end, foot)])
 
     def shapes(self):
         parts = []
@@ -149,7 +163,7 @@ def layers(stands, found):
         parts.append(text(MARGIN, y, name, 14, "start", "bold"))
         parts.append(text(MARGIN + 200, y, f"{words} {below}".strip(), 14, "start"))
     about = "Each crate stands on those that its lines lead to, and on all that these stand on."
-    return picture(y + 24, "The layers of the crates", about, parts)
+    return picture(WIDE, y + 24, "The layers of the crates", about, parts)
 
 
 def pair(y, row):
@@ -180,7 +194,7 @@ def meaning(found):
         "What a repository holds by names on the left, what it means by values on the right,"
         " and the definitions that lead from one to the other."
     )
-    return picture(y, "What a repository means", about, parts)
+    return picture(WIDTH, y, "What a repository means", about, parts)
 
 
 def main():

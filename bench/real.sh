@@ -256,15 +256,14 @@ git_says() {
 # how one story came out: in `met` what gx makes of the stream as it was, in `wrong` what is wrong with the adapted one, and in `told` what is said of both
 compare() {
   local said
-  met=none
+  met=$expected
   wrong=
   told="$(stat -c %s stream) bytes"
   "$gx" adapt < stream > adapted 2> adapt.told || {
     wrong="it isn't adapted: $(tail -n 1 adapt.told)"
     return 0
   }
-  cmp -s stream adapted || told+=', adapted'
-  [ ! -s adapt.told ] || told+=" ($(paste -s -d ';' adapt.told))"
+  [ ! -s adapt.told ] || told+=", adapted ($(sed 's/^gx: //' adapt.told | paste -s -d ','))"
   by_git adapted || wrong="git refuses it adapted: $(head -n 1 git.fault)"
   by_gx adapted || wrong+="gx refuses it adapted: $(< gx.fault)"
   [ -z "$wrong" ] || return 0

@@ -3,6 +3,7 @@
 
     scripts/speed.py           draws docs/speed.svg, and writes the table in docs/BENCHMARKS.md, between its two marks
     scripts/speed.py --check   ends with 1 where one of them isn't what it would write
+    scripts/speed.py --goals   prints each goal of speed and memory with what was measured, and ends with 1 where one is missed
 """
 
 import sys
@@ -151,15 +152,66 @@ def steady(rows, program):
     return sorted(found.items())
 
 
-def slope(rows):
+def each_commit(rows):
+    """The milliseconds of a steady commit beyond the first, by how many there are; and whether the first one's are left out."""
     points = steady(rows, OURS)
     first = points[0][1] if points and points[0][0] <= 1 else 0
-    each = [(count, (wall - first) * 1000 / (count - 1)) for count, wall in points if count > 1]
+    return [(count, (wall - first) * 1000 / (count - 1)) for count, wall in points if count > 1], first
+
+
+def slope(rows):
+    each, first = each_commit(rows)
     if len(each) < 2:
         return []
     cost = ", ".join(f"{value:.3f} ms among {with_commas(count)}" for count, value in each)
     without = " beyond the first, with all files," if first else ""
     return ["", f"A steady commit{without} costs {cost}: **{each[-1][1] / each[0][1]:.2f} times** as much among the most as among the fewest."]
+
+
+# ---- the goals
+
+
+def least_of(stream, command):
+    """How many times as long as gx each program of git's is to take at least."""
+    if command == "export":
+        return {"git fast-export --full-tree --all": 30}
+    if command == "open":
+        return {"git fsck --full": 3}
+    few = {"flat": {QUICK: 8}, "blobs": {QUICK: 4}}
+    return few.get(stream.split(" ")[0], {QUICK: 8, PLAIN: 10})
+
+
+def goals(rows):
+    """What is asked for, as a value that is to be at least or at most a bound."""
+    sizes, found = store_sizes(rows), groups(rows)
+    for (stream, command), programs in found.items():
+        ours = programs.get(OURS)
+        if not ours or stream == "steady 0":
+            continue
+        if command in ("import", "export", "open"):
+            for program, least in least_of(stream, command).items():
+                if program in programs:
+                    yield f"{stream}, {command}: {program} takes so many times as long", programs[program]["seconds"] / ours["seconds"], least, True
+        if command == "open":
+            yield f"{stream}, open: times of hashing alone", ours["seconds"] / limit_of(command, programs)[0], 2.2, False
+        if command in ("ls", "log", "show") and (stream, "open") in found and len(programs) > 1:
+            git = next(row for program, row in programs.items() if program != OURS)
+            both = found[stream, "open"][OURS]["seconds"] + git["seconds"]
+            yield f"{stream}, {command}: times of opening and git's own", ours["seconds"] / both, 1, False
+        if sizes.get(stream):
+            yield f"{stream}, {command}: memory, times of the store file", ours["megabytes"] * 1048576 / sizes[stream], 1.3, False
+    each, _ = each_commit(rows)
+    if len(each) > 1:
+        yield "steady, import: a commit among the most, times of one among the fewest", each[-1][1] / each[0][1], 1.15, False
+
+
+def tell_goals(rows):
+    missed = 0
+    for words, value, bound, is_least in goals(rows):
+        holds = value >= bound if is_least else value <= bound
+        missed += not holds
+        print(f"{'      ' if holds else 'MISSED'} {words}: {value:.2f}, {'at least' if is_least else 'at most'} {bound}")
+    return missed
 
 
 # ---- the picture
@@ -224,7 +276,8 @@ def apart(wanted, least=22):
 def lines_of(rows):
     """What is drawn, by program: the points with commits."""
     found = {program: [(x, y) for x, y in steady(rows, program) if x > 1] for program in DRAWN if program != "limit"}
-    parts = [dict(steady(rows, program)) for program in ("sha1sum", "written once")]
+    hashing = steady(rows, "hashed by the kit") or steady(rows, "sha1sum")
+    parts = [dict(hashing), dict(steady(rows, "written once"))]
     if all(parts):
         found["limit"] = [(x, y + parts[1][x]) for x, y in sorted(parts[0].items()) if x > 1 and x in parts[1]]
     return {program: points for program, points in found.items() if points}
@@ -272,6 +325,8 @@ def main():
     if not (DOCS / "speed.tsv").exists():
         sys.exit("docs/speed.tsv isn't there: it is what bench/all.sh prints")
     notes, rows = measured()
+    if "--goals" in sys.argv[1:]:
+        sys.exit(1 if tell_goals(rows) else 0)
     made = {PICTURE: picture(rows), PAGE: page(notes, rows)}
     if "--check" not in sys.argv[1:]:
         for file, text in made.items():

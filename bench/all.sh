@@ -2,8 +2,9 @@
 # Measures every command of gx beside git doing the same, and beside the limit, which is hashing and writing the same bytes once. Prints a table as TSV,
 # which scripts/speed.py reads, behind lines that begin with `#` and tell the machine: for each thing the wall time of the best run in seconds, with its
 # processor time in seconds and its peak memory in MB (GNU time's), how many runs there were, and the bytes of what was made or read.
-#   bench/all.sh [COMMAND [STREAM]]     COMMAND: import, open, ls, log, show, rev-parse, export, or all; STREAM: one of bench/streams.py with its numbers, as
-#                                       `steady 10000`, or `own`, this repository by `git fast-export --all`, or `file PATH`
+#   bench/all.sh [COMMAND [STREAM]]     COMMAND: import, open, ls, log, show, rev-parse, export, or all; with STREAM also several, joined by commas.
+#                                       STREAM: one of bench/streams.py with its numbers, as `steady 10000`; or `own`, this repository by
+#                                       `git fast-export --all`; or `file PATH`
 # Without STREAM there are steady histories of 0, 1,000, 10,000 and 100,000 commits behind the first, histories of 2,000, 10,000 and 40,000, a directory of
 # 10,000 files, 200,000 blobs, and this repository; each command is measured on those that it is for, see below. All of it takes about a quarter of an hour
 # with RUNS=3 and streams that are there.
@@ -13,7 +14,7 @@
 set -euo pipefail
 cd "$(dirname "$0")/.."
 export LC_ALL=C.UTF-8
-gx=$(realpath "${GX:-crates/gx/out/gx}")
+gx=$(realpath -m "${GX:-crates/gx/out/gx}")
 [ -x "$gx" ] || {
   echo "$gx isn't built" >&2
   exit 2
@@ -88,7 +89,7 @@ written() { row "$1" 'written once' "$2" dd "if=$2" "of=$folder/copy" bs=1M conv
 hashed() {
   row "$1" sha1sum "$store" sha1sum "$store"
   # shellcheck disable=SC2016  # the inner shell's own
-  [ ! -x "$bench" ] || input=$store row "$1" "hashed by the kit" "$store" sh -c 'exec "$0" limit > /dev/null' "$bench"
+  [ ! -x "$bench" ] || input=$store row "$1" "hashed by the kit" "$store" sh -c 'exec "$0" limit > /dev/null 2>&1' "$bench"
 }
 
 # The store and the repository of a stream, for all that follows; measured where import is asked for.
@@ -194,7 +195,7 @@ echo "# $(sed -n 's/^model name[^:]*: //p' /proc/cpuinfo | head -n 1), $(nproc) 
 echo "# load average before: $(cut -d ' ' -f 1 /proc/loadavg); best of $RUNS runs, or of those up to the first that took over $LONG s"
 printf 'stream\tcommits\tcommand\tprogram\tseconds\tprocessor\tmegabytes\truns\tbytes\n'
 if [ $# -gt 1 ]; then
-  measure "$@"
+  measure "${1//,/ }" "${@:2}"
 else
   mapfile -t lines < <(chosen "${1:-all}")
   for line in "${lines[@]}"; do

@@ -9,7 +9,7 @@
 set -euo pipefail
 cd "$(dirname "$0")/.."
 export LC_ALL=C.UTF-8
-gx=$(realpath "${GX:-crates/gx/out/gx}")
+gx=$(realpath -m "${GX:-crates/gx/out/gx}")
 [ -x "$gx" ] || {
   echo "$gx isn't built" >&2
   exit 2

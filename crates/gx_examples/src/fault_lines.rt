@@ -1,11 +1,14 @@
 //! The line of each fault, as the program prints it on standard error.
 
 use crate::sessions::has_line;
+use gx_adapt::AdaptFault;
 use gx_cli::{BlobsFault, BlobsKind, CliFault, LineFault};
+use gx_command::CommandFault;
 use gx_export::ExportFault;
 use gx_file::FileFault;
 use gx_import::{ImportFault, ImportKind};
 use gx_rev::RevFault;
+use gx_where::WhereFault;
 use std::alloc::{AllocError, Global};
 use std::test::Fail;
 
@@ -19,6 +22,8 @@ enum Cause {
     /// The third revision is refused.
     Revision(RevFault),
     Store(FileFault),
+    Adapt(AdaptFault),
+    Where(WhereFault),
     Other(CliFault),
 }
 
@@ -32,6 +37,8 @@ fn fault_of(cause: Cause) -> CliFault {
         }),
         Cause::Revision(kind) => CliFault::Revision { number: 3, kind },
         Cause::Store(fault) => CliFault::Store(fault),
+        Cause::Adapt(fault) => CliFault::Adapt(fault),
+        Cause::Where(fault) => CliFault::Where(fault),
         Cause::Other(fault) => fault,
     }
 }
@@ -240,6 +247,44 @@ const LINES: &[(Cause, &str)] = &[
     (
         Cause::Store(FileFault::TrailingBytes),
         "gx: store: TrailingBytes",
+    ),
+    // why a stream isn't adapted to its end
+    (
+        Cause::Adapt(AdaptFault::OutOfMemory),
+        "gx: adapt: OutOfMemory",
+    ),
+    (
+        Cause::Adapt(AdaptFault::ReadFailed),
+        "gx: adapt: ReadFailed",
+    ),
+    (
+        Cause::Adapt(AdaptFault::WriteFailed),
+        "gx: adapt: WriteFailed",
+    ),
+    (
+        Cause::Adapt(AdaptFault::TruncatedData),
+        "gx: adapt: TruncatedData",
+    ),
+    (Cause::Adapt(AdaptFault::BadNumber), "gx: adapt: BadNumber"),
+    // why it isn't told where a command begins
+    (
+        Cause::Where(WhereFault::NoSuchCommand),
+        "gx: where: no such command",
+    ),
+    (
+        Cause::Where(WhereFault::Command {
+            command: 2,
+            kind: CommandFault::TruncatedData,
+        }),
+        "gx: where: command 2: TruncatedData",
+    ),
+    (
+        Cause::Where(WhereFault::ReadFailed),
+        "gx: where: read failed",
+    ),
+    (
+        Cause::Where(WhereFault::OutOfMemory),
+        "gx: where: out of memory",
     ),
     // the others
     (

@@ -14,10 +14,14 @@ mod limits;
 #[cfg(test)]
 mod lines;
 #[cfg(test)]
+mod reports;
+#[cfg(test)]
 mod round_trips;
 #[cfg(test)]
 mod sessions;
 #[cfg(test)]
 mod stored;
+#[cfg(test)]
+mod streams;
 #[cfg(test)]
 mod trying;

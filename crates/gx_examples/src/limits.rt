@@ -3,13 +3,16 @@
 use crate::exported::{MERGED, MERGED_TEXT};
 use crate::sessions::{Command, has_line, line_of, ran, source_of, stored};
 use crate::stored::{ONE_REF, ROOT, TAGGED};
+use crate::streams::{MENDED, ROUGH};
 use crate::trying::{COMMIT, LINES, STREAM, WIDE};
+use gx_adapt::AdaptFault;
 use gx_cli::{CliFault, Line};
 use gx_export::ExportFault;
 use gx_file::FileFault;
 use gx_import::{ImportFault, ImportKind};
 use gx_refusing::Refusing;
 use gx_text::Held;
+use gx_where::WhereFault;
 use std::alloc::{AllocError, Allocator, Global};
 use std::hash::RandomState;
 use std::test::Fail;
@@ -27,10 +30,27 @@ const REFS: Given<'static> = (Command::Refs, ROOT, ONE_REF);
 
 const EXPORT: Given<'static> = (Command::Export, MERGED, MERGED_TEXT);
 
+const ADAPTED: Given<'static> = (Command::Adapt(ROUGH), b"", MENDED);
+
+const FOUND: Given<'static> = (
+    Command::Where(2, MENDED),
+    b"",
+    b"5:22:commit refs/heads/m\n",
+);
+
+const ANSWER: Given<'static> = (
+    Command::Batch(false, b"main:test.txt"),
+    ROOT,
+    b"83baae61804e65cc73a7201a7252750c76066a30 blob 10\nversion 1\n\n",
+);
+
 const WRITING: &[Given<'static>] = &[
     NAMES,
     REFS,
     EXPORT,
+    ADAPTED,
+    FOUND,
+    ANSWER,
     (Command::Try(STREAM, "main"), b"", COMMIT),
 ];
 
@@ -42,6 +62,10 @@ fn refusal_at(command: Command<'_>, room: usize) -> (CliFault, &'static str) {
                 written: room as u64,
             }),
             "gx: export: WriteFailed",
+        ),
+        Command::Adapt(_) => (
+            CliFault::Adapt(AdaptFault::WriteFailed),
+            "gx: adapt: WriteFailed",
         ),
         Command::Try(_, _) if room < 11 => (
             CliFault::Import(ImportFault {
@@ -105,26 +129,37 @@ const GROWING: &[(Given<'static>, u64)] = &[
     ((Command::Import(TAGGED), ROOT, b""), 21),
     ((Command::Init, b"", b""), 1),
     (EXPORT, 21),
+    (ADAPTED, 2),
+    (FOUND, 3),
+    (ANSWER, 6),
     ((Command::Try(WIDE, "main^{tree}"), b"", LINES), 21),
 ];
 
 /// Whether memory ran out, as this command says it.
 fn is_memory(command: Command<'_>, fault: CliFault) -> bool {
     let is_export = matches!(command, Command::Export);
-    let reads_store = !matches!(command, Command::Try(_, _));
+    let reads_store = !matches!(
+        command,
+        Command::Try(_, _) | Command::Adapt(_) | Command::Where(_, _)
+    );
     match fault {
         CliFault::OutOfMemory => !is_export,
         CliFault::Import(fault) => !is_export && fault.kind == ImportKind::OutOfMemory,
         CliFault::Export(fault) => is_export && fault == ExportFault::OutOfMemory,
         CliFault::Store(fault) => reads_store && fault == FileFault::OutOfMemory,
+        CliFault::Adapt(fault) => fault == AdaptFault::OutOfMemory,
+        CliFault::Where(fault) => fault == WhereFault::OutOfMemory,
         _ => false,
     }
 }
 
-/// Whether what is printed is right where memory ran out: a front for an export or a try, and nothing else for others.
+/// Whether what is printed is right where memory ran out: a front for an export, a try, an adaption or a batch, and nothing
+/// for others.
 fn is_left(command: Command<'_>, printed: &[u8], whole: &[u8]) -> bool {
     match command {
-        Command::Export | Command::Try(_, _) => whole.starts_with(printed),
+        Command::Export | Command::Try(_, _) | Command::Adapt(_) | Command::Batch(_, _) => {
+            whole.starts_with(printed)
+        }
         _ => printed.is_empty(),
     }
 }

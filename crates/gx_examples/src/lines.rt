@@ -51,6 +51,12 @@ const LINES: &[Row<'static>] = &[
     (&["blobs"], Reading::Line("Blobs")),
     (&["try", "main"], Reading::Line(r#"Try("main")"#)),
     (&["try", "--", "-x"], Reading::Line(r#"Try("-x")"#)),
+    (&["adapt"], Reading::Line("Adapt")),
+    (&["where", "7"], Reading::Line("Where(7)")),
+    (
+        &["where", "18446744073709551615"],
+        Reading::Line("Where(18446744073709551615)"),
+    ),
     (&["init", "f"], Reading::Line(r#"Init { file: "f" }"#)),
     (&["import", "f"], Reading::Line(r#"Import { file: "f" }"#)),
     (
@@ -72,6 +78,14 @@ const LINES: &[Row<'static>] = &[
     (
         &["ls", "f", "x", "--recursive"],
         Reading::Line(r#"Ls { recursive: true, file: "f", revision: "x" }"#),
+    ),
+    (
+        &["batch", "f"],
+        Reading::Line(r#"Batch { check: false, file: "f" }"#),
+    ),
+    (
+        &["batch", "--check", "f"],
+        Reading::Line(r#"Batch { check: true, file: "f" }"#),
     ),
     (&["refs", "f"], Reading::Line(r#"Refs { file: "f" }"#)),
 ];
@@ -139,6 +153,11 @@ const REFUSED: &[Row<'static>] = &[
     (&["try"], Reading::Refusal),
     (&["try", "-x"], Reading::Refusal),
     (&["try", "a", "b"], Reading::Refusal),
+    (&["adapt", "f"], Reading::Refusal),
+    (&["where"], Reading::Refusal),
+    (&["where", "x"], Reading::Refusal),
+    (&["where", "18446744073709551616"], Reading::Refusal),
+    (&["where", "1", "f"], Reading::Refusal),
     (&["init"], Reading::Refusal),
     (&["import"], Reading::Refusal),
     (&["show", "f"], Reading::Refusal),
@@ -147,6 +166,8 @@ const REFUSED: &[Row<'static>] = &[
     (&["ls", "-r", "f"], Reading::Refusal),
     (&["ls", "-x", "f", "a"], Reading::Refusal),
     (&["ls", "-r", "-r", "f", "a"], Reading::Refusal),
+    (&["batch"], Reading::Refusal),
+    (&["batch", "f", "main"], Reading::Refusal),
     (&["refs"], Reading::Refusal),
     (&["log", "f"], Reading::Refusal),
     (&["log", "f", "-x"], Reading::Refusal),
@@ -174,6 +195,8 @@ const HELP: &[Row<'static>] = &[
     ),
     (&["blobs", "--help"], Reading::Help("Usage: gx blobs\n")),
     (&["try", "--help"], Reading::Help("Usage: gx try <REV>\n")),
+    (&["adapt", "--help"], Reading::Help("Usage: gx adapt\n")),
+    (&["where", "--help"], Reading::Help("Usage: gx where <N>\n")),
     (
         &["init", "--help"],
         Reading::Help("Usage: gx init <FILE>\n"),
@@ -191,6 +214,10 @@ const HELP: &[Row<'static>] = &[
         Reading::Help("Usage: gx ls [OPTIONS] <FILE> <REV>\n"),
     ),
     (&["ls", "--help"], Reading::Help("  -r, --recursive\n")),
+    (
+        &["batch", "--help"],
+        Reading::Help("Usage: gx batch [OPTIONS] <FILE>\n"),
+    ),
     (
         &["refs", "--help"],
         Reading::Help("Usage: gx refs <FILE>\n"),

@@ -18,6 +18,11 @@ pub(crate) enum Command<'a> {
     Try(&'a [u8], &'a str),
     /// The same, of a source that fails behind the stream.
     TryFailing(&'a [u8], &'a str),
+    Adapt(&'a [u8]),
+    /// The number of a command, and a stream in which it is looked for.
+    Where(u64, &'a [u8]),
+    /// The same, of a source that fails behind the stream.
+    WhereFailing(u64, &'a [u8]),
     Init,
     Import(&'a [u8]),
     /// The stream lacks its last line, `done`.
@@ -28,6 +33,10 @@ pub(crate) enum Command<'a> {
     Show(&'a str),
     /// Whether all files are listed, and a revision.
     Ls(bool, &'a str),
+    /// Whether bytes are left out, and the lines that are answered.
+    Batch(bool, &'a [u8]),
+    /// The same, of a source that fails behind the lines.
+    BatchFailing(bool, &'a [u8]),
     Refs,
     Log(LogOptions, &'a [&'a str]),
     RevParse(&'a [&'a str]),
@@ -60,6 +69,8 @@ pub(crate) fn line_of<'a>(alloc: Global, command: Command<'a>) -> Result<Line<'a
     Ok(match command {
         Command::Blobs(_) => Line::Blobs,
         Command::Try(_, revision) | Command::TryFailing(_, revision) => Line::Try(revision),
+        Command::Adapt(_) => Line::Adapt,
+        Command::Where(number, _) | Command::WhereFailing(number, _) => Line::Where(number),
         Command::Init => Line::Init { file },
         Command::Import(_) | Command::ImportUnfinished(_) | Command::ImportKept(_) => {
             Line::Import { file }
@@ -71,6 +82,7 @@ pub(crate) fn line_of<'a>(alloc: Global, command: Command<'a>) -> Result<Line<'a
             file,
             revision,
         },
+        Command::Batch(check, _) | Command::BatchFailing(check, _) => Line::Batch { check, file },
         Command::Refs => Line::Refs { file },
         Command::Log(options, words) => Line::Log {
             options,
@@ -90,6 +102,10 @@ pub(crate) fn source_of(command: Command<'_>) -> Bytes<'_> {
         Command::Blobs(stream) | Command::Import(stream) | Command::ImportKept(stream) => {
             (stream, 4096, false)
         }
+        Command::Adapt(stream) | Command::Where(_, stream) | Command::Batch(_, stream) => {
+            (stream, 7, false)
+        }
+        Command::WhereFailing(_, stream) | Command::BatchFailing(_, stream) => (stream, 7, true),
         Command::ImportUnfinished(stream) => {
             (stream.strip_suffix(b"done\n").unwrap_or(b""), 4096, false)
         }

@@ -1,5 +1,6 @@
 //! Commands on the text of a store. The names are those that git gives these objects.
 
+mod batches;
 mod checkpoints;
 mod listed;
 mod rows;
@@ -55,6 +56,17 @@ const REFUSED: &[Session<'static>] = &[
 fn refused_commands_print_and_make_nothing(rt: HostRuntime) -> Result<(), Fail> {
     let state = RandomState::new(&rt)?;
     run_all(rt.alloc(), REFUSED, state)
+}
+
+const BATCHES: &[Session<'static>] = &[
+    ("lines are answered", batches::ANSWERS),
+    ("lines are answered up to a failure", batches::REFUSED),
+];
+
+#[test]
+fn lines_are_answered_of_a_store(rt: HostRuntime) -> Result<(), Fail> {
+    let state = RandomState::new(&rt)?;
+    run_all(rt.alloc(), BATCHES, state)
 }
 
 /// A commit with one file, whose path has so many bytes behind a front, and behind it a line.

@@ -106,7 +106,7 @@ __gx_words_of_command() {
 }
 
 _gx() {
-  local -a words commands=(blobs try adapt init import export show ls batch refs log rev-parse)
+  local -a words commands=(blobs try adapt where init import export show ls batch refs log rev-parse)
   COMPREPLY=()
   __gx_words
   local last=${words[-1]}

@@ -56,7 +56,7 @@ line() {
   fi
 }
 
-line 'gx ' blobs try adapt init import export show ls batch refs log rev-parse help --help
+line 'gx ' blobs try adapt where init import export show ls batch refs log rev-parse help --help
 line 'gx r' refs rev-parse
 line 'gx x'
 line 'gx help l' ls log
@@ -64,6 +64,9 @@ line 'gx blobs '
 line 'gx try '
 line 'gx a' adapt
 line 'gx adapt '
+line 'gx w' where
+line 'gx where '
+line 'gx where -' --help
 line 'gx ls -' -r --recursive --help
 line 'gx batch -' --check --help
 line 'gx batch --check st' store

@@ -16,7 +16,7 @@ use gx_cli::{
 use gx_object::Sha1Namer;
 use gx_text::{FromRead, IntoWrite};
 use next_text::NextText;
-use progress::{Beside, Metered};
+use progress::{Beside, Metered, ProgressLine};
 use reports::{tell_adaption, tell_import};
 use std::alloc::Global;
 use std::hash::RandomState;
@@ -127,13 +127,11 @@ fn import_shown(
     store: &[u8],
     state: RandomState,
 ) -> (Outcome<Global>, Option<ImportReport>) {
-    let mut input = Metered::input(rt);
-    let imported = {
-        let source = FromRead::new(&mut input);
-        let mut sink = IntoWrite::new(Beside::new(rt));
-        import_into(rt.alloc(), Sha1Namer, store, source, &mut sink, state)
-    };
-    input.clear();
+    let progress = ProgressLine::new(rt);
+    let source = FromRead::new(Metered::input(&progress));
+    let mut sink = IntoWrite::new(Beside::new(&progress));
+    let imported = import_into(rt.alloc(), Sha1Namer, store, source, &mut sink, state);
+    progress.clear();
     imported
 }
 
@@ -163,13 +161,11 @@ fn stream(rt: &HostRuntime, line: &Line<'_>, store: &[u8], state: RandomState) -
 
 /// The same of a try, and shows how far its import is.
 fn try_stream(rt: &HostRuntime, line: &Line<'_>, state: RandomState) -> Outcome<Global> {
-    let mut input = Metered::input(rt);
-    let outcome = {
-        let source = FromRead::new(&mut input);
-        let mut sink = IntoWrite::new(Beside::new(rt));
-        serve(rt.alloc(), Sha1Namer, line, b"", source, &mut sink, state)
-    };
-    input.clear();
+    let progress = ProgressLine::new(rt);
+    let source = FromRead::new(Metered::input(&progress));
+    let mut sink = IntoWrite::new(Beside::new(&progress));
+    let outcome = serve(rt.alloc(), Sha1Namer, line, b"", source, &mut sink, state);
+    progress.clear();
     outcome
 }
 
@@ -220,9 +216,9 @@ fn export(
     state: RandomState,
 ) -> Result<(), CliFault> {
     let store = read_store(rt, file)?;
-    let mut output = Metered::output(rt);
-    let answer = print_to(rt, line, &store, &mut output, state);
-    output.clear();
+    let progress = ProgressLine::new(rt);
+    let answer = print_to(rt, line, &store, Metered::output(&progress), state);
+    progress.clear();
     answer
 }
 

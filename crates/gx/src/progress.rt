@@ -1,45 +1,82 @@
 //! How far a long command is, on a terminal: one line of standard error, which is written anew as bytes go by.
 
 use crate::command_count::CommandCount;
+use std::cell::Cell;
 use std::io::{self, IsTerminal, Read, Stdin, Stdout, Write};
 use std::time::Instant;
 
-/// So many milliseconds a line stands at least.
+/// So many milliseconds the line stands at least.
 const PERIOD: u128 = 100;
+
+/// The line, which is there or isn't. Nothing hangs on whether the terminal takes it.
+#[derive(Drop)]
+pub(crate) struct ProgressLine<'a> {
+    rt: &'a HostRuntime,
+    is_shown: Cell<bool>,
+}
+
+impl<'a> ProgressLine<'a> {
+    pub(crate) fn new(rt: &'a HostRuntime) -> ProgressLine<'a> {
+        ProgressLine {
+            rt,
+            is_shown: Cell::new(false),
+        }
+    }
+
+    fn show(&self, bytes: u64, commands: u64) {
+        let tenths = bytes / 100_000;
+        let (whole, tenth) = (tenths / 10, tenths % 10);
+        let _ = eprint!(self.rt; "\rgx: {whole}.{tenth} MB, {commands} commands\x1b[K");
+        self.is_shown.set(true);
+    }
+
+    /// Takes the line away, if it is there.
+    pub(crate) fn clear(&self) {
+        if self.is_shown.get() {
+            let _ = eprint!(self.rt; "\r\x1b[K");
+            self.is_shown.set(false);
+        }
+    }
+}
 
 /// What has gone by, and when it was shown.
 #[derive(Drop)]
 struct Progress<'a> {
-    rt: &'a HostRuntime,
+    line: &'a ProgressLine<'a>,
     bytes: u64,
     commands: CommandCount,
     last: Instant,
-    is_shown: bool,
 }
 
-impl Progress<'_> {
-    /// Counts bytes, and shows the line where the last one stood long enough.
+impl<'a> Progress<'a> {
+    /// That of nothing, where standard error is a terminal. Without a clock nothing is shown.
+    fn new(line: &'a ProgressLine<'a>) -> Option<Progress<'a>> {
+        if !is_terminal(line.rt) {
+            return None;
+        }
+        let last = Instant::now(line.rt).ok()?;
+        Some(Progress {
+            line,
+            bytes: 0,
+            commands: CommandCount::new(),
+            last,
+        })
+    }
+
+    /// Counts bytes, and shows the line where it stood long enough.
     fn add(&mut self, bytes: &[u8]) {
         self.bytes = self.bytes.saturating_add(bytes.len() as u64);
         self.commands.add(bytes);
-        if let Ok(now) = Instant::now(self.rt) {
+        if let Ok(now) = Instant::now(self.line.rt) {
             if now.duration_since(self.last).as_millis() >= PERIOD {
                 self.last = now;
-                self.show();
+                self.line.show(self.bytes, self.commands.commands());
             }
         }
     }
-
-    /// Nothing hangs on a line that the terminal doesn't take.
-    fn show(&mut self) {
-        let (bytes, commands) = (self.bytes / 100_000, self.commands.commands());
-        let (whole, tenth) = (bytes / 10, bytes % 10);
-        let _ = eprint!(self.rt; "\rgx: {whole}.{tenth} MB, {commands} commands\x1b[K");
-        self.is_shown = true;
-    }
 }
 
-/// A reader or a writer of a stream, whose bytes are counted where a terminal shows them.
+/// A reader or a writer of a stream, whose bytes are counted where they are to be shown.
 #[derive(Drop)]
 pub(crate) struct Metered<'a, D> {
     device: D,
@@ -47,35 +84,28 @@ pub(crate) struct Metered<'a, D> {
 }
 
 impl<'a> Metered<'a, Stdin> {
-    /// Standard input. It is shown how far it is read where standard error is a terminal, and nobody types the stream there.
-    pub(crate) fn input(rt: &'a HostRuntime) -> Metered<'a, Stdin> {
-        let is_typed = rt.stdin().is_terminal();
-        Metered {
-            device: rt.stdin(),
-            progress: progress_unless(rt, is_typed),
-        }
+    /// Standard input. It isn't shown how far it is where somebody types the stream.
+    pub(crate) fn input(line: &'a ProgressLine<'a>) -> Metered<'a, Stdin> {
+        let device = line.rt.stdin();
+        let progress = if device.is_terminal() {
+            None
+        } else {
+            Progress::new(line)
+        };
+        Metered { device, progress }
     }
 }
 
 impl<'a> Metered<'a, Stdout> {
-    /// Standard output. It is shown how much went out where standard error is a terminal, and the stream doesn't go there.
-    pub(crate) fn output(rt: &'a HostRuntime) -> Metered<'a, Stdout> {
-        let is_seen = rt.stdout().is_terminal();
-        Metered {
-            device: rt.stdout(),
-            progress: progress_unless(rt, is_seen),
-        }
-    }
-}
-
-impl<D> Metered<'_, D> {
-    /// Takes the line away, if there is one.
-    pub(crate) fn clear(&self) {
-        if let Some(progress) = &self.progress {
-            if progress.is_shown {
-                clear_line(progress.rt);
-            }
-        }
+    /// Standard output. It isn't shown how far it is where the stream itself is seen.
+    pub(crate) fn output(line: &'a ProgressLine<'a>) -> Metered<'a, Stdout> {
+        let device = line.rt.stdout();
+        let progress = if device.is_terminal() {
+            None
+        } else {
+            Progress::new(line)
+        };
+        Metered { device, progress }
     }
 }
 
@@ -103,28 +133,29 @@ impl<D: Write> Write for Metered<'_, D> {
     }
 }
 
-/// Standard output beside a line that may stand on the same terminal.
+/// Standard output. Where it is a terminal, the line goes before anything is written, since it may stand there.
 #[derive(Drop)]
 pub(crate) struct Beside<'a> {
-    rt: &'a HostRuntime,
+    line: &'a ProgressLine<'a>,
     output: Stdout,
-    is_same: bool,
+    is_terminal: bool,
 }
 
 impl<'a> Beside<'a> {
-    pub(crate) fn new(rt: &'a HostRuntime) -> Beside<'a> {
+    pub(crate) fn new(line: &'a ProgressLine<'a>) -> Beside<'a> {
+        let output = line.rt.stdout();
         Beside {
-            rt,
-            output: rt.stdout(),
-            is_same: is_terminal(rt) && rt.stdout().is_terminal(),
+            line,
+            output,
+            is_terminal: output.is_terminal(),
         }
     }
 }
 
 impl Write for Beside<'_> {
     fn write(&mut self, buf: &[u8]) -> io::Result<usize> {
-        if self.is_same {
-            clear_line(self.rt);
+        if self.is_terminal {
+            self.line.clear();
         }
         self.output.write(buf)
     }
@@ -137,23 +168,4 @@ impl Write for Beside<'_> {
 /// Whether somebody reads standard error as it comes.
 pub(crate) fn is_terminal(rt: &HostRuntime) -> bool {
     rt.stderr().is_terminal()
-}
-
-fn clear_line(rt: &HostRuntime) {
-    let _ = eprint!(rt; "\r\x1b[K");
-}
-
-/// What has gone by at the beginning, where it is to be shown. Without a clock nothing is.
-fn progress_unless(rt: &HostRuntime, is_hidden: bool) -> Option<Progress<'_>> {
-    if is_hidden || !is_terminal(rt) {
-        return None;
-    }
-    let last = Instant::now(rt).ok()?;
-    Some(Progress {
-        rt,
-        bytes: 0,
-        commands: CommandCount::new(),
-        last,
-        is_shown: false,
-    })
 }

@@ -16,3 +16,4 @@ pub mod ExportedStores
 pub mod RoundTrips
 pub mod MadeCommands
 pub mod Gathered
+pub mod ServedLines

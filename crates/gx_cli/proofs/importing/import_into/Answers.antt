@@ -21,10 +21,10 @@ returns-clause-imported g c =
 
 pub returns-in-Ok-import-clause-imported : goal.returns-in-Ok-import-clause-imported
 returns-in-Ok-import-clause-imported g c =
-    imported_into g.N.Namer.name_of c.args.namer c.in-Ok.repo c.import.new.repo c.args.store.now c.in-Ok-import.field-0 c.written.result c.in-Ok.ensures.namer c.import.ensures.namer c.in-Ok.ensures.store c.sound.ensures c.written.ensures
+    imported_into g.N.Namer.name_of c.args.namer c.in-Ok.repo c.import.new.repo c.args.store.now c.in-Ok-import.report c.written.result c.in-Ok.ensures.namer c.import.ensures.namer c.in-Ok.ensures.store c.sound.ensures c.written.ensures
     (g.R.Source.coming c.args.source) (g.W.Sink.taken c.args.sink.now) (g.W.Sink.taken c.import.new.sink) c.in-Ok-import.ensures.replayed c.import.ensures.gitlinks
 
 pub returns-in-Ok-import-clause-again : goal.returns-in-Ok-import-clause-again
 returns-in-Ok-import-clause-again g c =
-    accepted_again g.N.Namer.name_of c.args.namer c.in-Ok.repo c.import.new.repo c.args.store.now c.in-Ok-import.field-0 c.written.result c.in-Ok.ensures.namer c.import.ensures.namer c.in-Ok.ensures.store c.sound.ensures c.written.ensures
+    accepted_again g.N.Namer.name_of c.args.namer c.in-Ok.repo c.import.new.repo c.args.store.now c.in-Ok-import.report c.written.result c.in-Ok.ensures.namer c.import.ensures.namer c.in-Ok.ensures.store c.sound.ensures c.written.ensures
     (g.R.Source.coming c.args.source) c.in-Ok-import.ensures.exported

@@ -59,6 +59,9 @@ Refusals:
                         BadVersion, Truncated, BadRecord, DuplicateObject,
                         Dangling, BadObject, BadRef, RefOrder or TrailingBytes
   gx: export: KIND      OutOfMemory or WriteFailed
+  gx: adapt: KIND       OutOfMemory, ReadFailed, WriteFailed, TruncatedData or
+                        BadNumber
+  gx: where: ...        as gx where --help has it
   gx: store exists      FILE is there, where a store is to be made
   gx: read failed       FILE or standard input can't be read
   gx: write failed      FILE or standard output can't be written

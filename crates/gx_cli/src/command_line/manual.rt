@@ -56,8 +56,9 @@ Refusals:
                         BadPath, PathTooLong, UnknownRef, UnknownObject,
                         Ambiguous, NoParent, WrongKind or NoSuchPath
   gx: store: KIND       the text of FILE. KIND is OutOfMemory, BadMagic,
-                        BadVersion, Truncated, BadRecord, DuplicateObject,
-                        Dangling, BadObject, BadRef, RefOrder or TrailingBytes
+                        BadVersion, Truncated, BadRecord, NameMismatch,
+                        DuplicateObject, Dangling, BadObject, BadRef, RefOrder
+                        or TrailingBytes
   gx: export: KIND      OutOfMemory or WriteFailed
   gx: adapt: KIND       OutOfMemory, ReadFailed, WriteFailed, TruncatedData or
                         BadNumber

@@ -1,6 +1,6 @@
 -- What the calls of an import do, from each state of the replay that the repository and the tables stand for.
 -- Source: git-fast-import(1), "Commands".
-use Rattle.std.specs.Prelude.{◌≡◌, List, [], ◌∷◌, Bool, Option, Result, Ok, IfOk}
+use Rattle.std.specs.Prelude.{◌≡◌, ◌||◌, List, [], ◌∷◌, Bool, Option, Result, Ok, IfOk}
 use Rattle.std.specs.Map.{lookup}
 use Rattle.std.specs.Option.{option_map}
 use Rattle.std.specs.declared.vec.Vec.{Vec}
@@ -88,10 +88,16 @@ module _ (name : Kind → Bytes → Bytes) where
       answer (Ok (added (tag_value (tag_made target parts)) s))
 
   -- whether what a ref holds is an ancestor of the commit that is to stand there
-  abbrev pub TellsForward : Records → Option Name → Option Name → Result Bool ImportKind → Type 0
+  abbrev pub TellsForward : {E : Type 0} → Records → Option Name → Option Name → Result Bool E → Type 0
   TellsForward repository object called answer =
       (made : Option Commit) → AreBoth (IsCommitOf name (values_of repository)) made called
       → IfOk answer (λ is_forward. is_forward ≡ replay.is_forward (option_map (λ held. target_in (value_of_name repository.records held.bytes)) object) made)
+
+  -- whether the commit may stand there: it is forward so, or `force` was asked for
+  abbrev pub TellsMovable : {E : Type 0} → Records → Bool → Option Name → Option Name → Result Bool E → Type 0
+  TellsMovable repository is_forced object called answer =
+      (made : Option Commit) → AreBoth (IsCommitOf name (values_of repository)) made called
+      → IfOk answer (λ is_movable. is_movable ≡ (is_forced || replay.is_forward (option_map (λ held. target_in (value_of_name repository.records held.bytes)) object) made))
 
 module _ (name : Kind → Bytes → Bytes) {A : Type 0} where
   -- in each state that the repository and the tables stand for

@@ -1,6 +1,6 @@
 //! What an import publishes. Source: git-fast-import(1), "force", and gitglossary(7), "fast-forward".
 
-ghost use Rattle.std.specs.Prelude.{◌≡◌, List, [], ◌∷◌, ◌++◌, map, Option, None, IsTrue, IfOk, IfErr, IfSome, OnOk, OnErr};
+ghost use Rattle.std.specs.Prelude.{◌≡◌, List, [], ◌∷◌, ◌++◌, map, is_some, Option, Some, None, IsTrue, IfOk, IfErr, IfSome, OnOk, OnErr};
 ghost use Rattle.std.specs.FinMap.Entries.{is_sorted};
 ghost use Rattle.std.specs.List.{filter};
 ghost use Rattle.std.specs.Map.{lookup};
@@ -11,7 +11,7 @@ ghost use Rattle.gx_model.specs.RepositoryLaws.{values_of};
 ghost use Rattle.gx_model.specs.Texts.{same_bytes};
 ghost use Rattle.gx_model.specs.Values.{Commit};
 ghost use Rattle.gx_repo.specs.Refs.{asked};
-ghost use Rattle.gx_import.specs.Calls.{TellsForward};
+ghost use Rattle.gx_import.specs.Calls.{TellsForward, TellsMovable};
 ghost use Rattle.gx_import.specs.Keeping.{Enters, EntersAll};
 ghost use Rattle.gx_import.specs.Objects.{IsCommitOf};
 ghost use Rattle.gx_import.specs.Publishing.{Publishes};
@@ -22,7 +22,6 @@ ghost use Rattle.gx_import.specs.declared.fault.ImportKind.TheVariants.{OutOfMem
 
 use crate::ImportKind;
 use crate::ancestors::is_ancestor;
-use crate::branches::Tip;
 use crate::new_names::new_names;
 use crate::table::Table;
 use crate::tables::Tables;
@@ -48,114 +47,105 @@ pub(crate) fn publish<N: Namer, A: Allocator + Copy>(
 {
     histories_of_records();
     repo.sound();
-    if !is_fast_forward(repo, tables)? {
+    let Some(changes) = changes(repo, tables)? else {
         return Err(ImportKind::NotFastForward);
-    }
-    let changes = changes(repo, tables)?;
+    };
     let names = new_names(tables, published)?;
     enter_all(tables.alloc, published, names.as_slice())?;
     publish_all(repo, changes.as_slice())?;
     Ok(())
 }
 
-/// Whether no published branch loses a commit, or `force` was asked for.
-fn is_fast_forward<N: Namer, A: Allocator + Copy>(
+/// The refs to be set: the branches with a commit that their refs don't hold already, and then the tags. None where a
+/// published branch loses a commit, and `force` was not asked for.
+fn changes<'a, N: Namer, A: Allocator + Copy>(
     repo: &Repo<N, A>,
-    tables: &Tables<A>,
-) -> Result<bool, ImportKind>
+    tables: &'a Tables<A>,
+) -> Result<Option<Vec<RefChange<'a>, A>>, AllocError>
+    requires stands { (s : State) × Stands (N.name_of repo.now.0) repo.now.1 tables.now s }
+    ensures forward { (s : State) → Stands (N.name_of repo.now.0) repo.now.1 tables.now s → IfOk result (λ changes. is_some changes ≡ is_fast_forward s) }
+    ensures changes { IfOk result (λ changes. IfSome changes (λ changes. map asked changes.items ≡ moved_of repo.now.1.refs tables.now)) }
+{
+    let mut changes = Vec::new(tables.alloc);
+    if !append_branches(&mut changes, repo, tables)? {
+        return Ok(None);
+    }
+    append_tags(&mut changes, &tables.tags)?;
+    Ok(Some(changes))
+}
+
+/// Appends the branches with a commit that their refs don't hold already, and answers whether none of them loses a commit,
+/// or `force` was asked for.
+fn append_branches<'a, N: Namer, A: Allocator + Copy>(
+    changes: &mut Vec<RefChange<'a>, A>,
+    repo: &Repo<N, A>,
+    tables: &'a Tables<A>,
+) -> Result<bool, AllocError>
     requires stands { (s : State) × Stands (N.name_of repo.now.0) repo.now.1 tables.now s }
     ensures forward { (s : State) → Stands (N.name_of repo.now.0) repo.now.1 tables.now s → IfOk result (λ is_forward. is_forward ≡ is_fast_forward s) }
-    ensures fault { IfErr result (λ fault. fault ≡ OutOfMemory) }
+    ensures appended { IfOk result (λ is_forward. IsTrue is_forward → map asked changes.new.items ≡ map asked changes.old.items ++ filter (is_moved repo.now.1.refs) (branch_changes (rows_of tables.now.branches))) }
 {
-    if tables.is_forced {
-        return Ok(true);
-    }
     repo.sound();
     let mut place = 0;
     for (name, tip) in &tables.branches.rows {
         let (next, object) = repo.ref_near(place, name.as_slice());
         place = next;
-        if !is_forward(tables.alloc, repo, object, tip.commit)? {
+        if !append_branch(changes, repo, tables, name.as_slice(), object, tip.commit)? {
             return Ok(false);
         }
     }
     Ok(true)
 }
 
-/// Whether a branch's commit is the one that its ref holds, or has that one as an ancestor.
+/// Appends a branch, where it has a commit, and its ref doesn't hold this object. It isn't appended where it loses a commit,
+/// unless `force` was asked for: this is answered.
+fn append_branch<'a, N: Namer, A: Allocator + Copy>(
+    changes: &mut Vec<RefChange<'a>, A>,
+    repo: &Repo<N, A>,
+    tables: &Tables<A>,
+    name: &'a [u8],
+    object: Option<Name>,
+    commit: Option<Name>,
+) -> Result<bool, AllocError>
+    requires target { IfSome object (IsHeldByRef repo.now.1) }
+    requires commit { (made : Option Commit) × AreBoth (IsCommitOf (N.name_of repo.now.0) (values_of repo.now.1)) made commit }
+    ensures forward { TellsMovable (N.name_of repo.now.0) repo.now.1 tables.now.is_forced object commit result }
+    ensures appended { (refs : List Ref) → option_map (λ n. n.bytes) object ≡ lookup (same_bytes name.now) refs → IfOk result (λ is_forward. IsTrue is_forward → map asked changes.new.items ≡ map asked changes.old.items ++ filter (is_moved refs) (branch_then name.now commit [])) }
+{
+    repo.sound();
+    let Some(target) = commit else {
+        return Ok(true);
+    };
+    // most branches stand still between two checkpoints
+    if is_at(object, target) {
+        return Ok(true);
+    }
+    if !tables.is_forced && !is_forward(tables.alloc, repo, object, target)? {
+        return Ok(false);
+    }
+    changes.push(RefChange { name, target })?;
+    Ok(true)
+}
+
+/// Whether what a ref holds is an ancestor of a commit, or there is no such ref.
 fn is_forward<N: Namer, A: Allocator + Copy>(
     alloc: A,
     repo: &Repo<N, A>,
     object: Option<Name>,
-    commit: Option<Name>,
-) -> Result<bool, ImportKind>
+    new: Name,
+) -> Result<bool, AllocError>
     requires target { IfSome object (IsHeldByRef repo.now.1) }
-    requires commit { (made : Option Commit) × AreBoth (IsCommitOf (N.name_of repo.now.0) (values_of repo.now.1)) made commit }
-    ensures forward { TellsForward (N.name_of repo.now.0) repo.now.1 object commit result }
-    ensures fault { IfErr result (λ fault. fault ≡ OutOfMemory) }
+    requires commit { (made : Option Commit) × AreBoth (IsCommitOf (N.name_of repo.now.0) (values_of repo.now.1)) made (Some new) }
+    ensures { TellsForward (N.name_of repo.now.0) repo.now.1 object (Some new) result }
 {
     repo.sound();
     let Some(object) = object else {
         return Ok(true);
     };
-    let Some(new) = commit else {
-        return Ok(true);
-    };
-    // most branches stand still between two checkpoints
-    if new == object {
-        return Ok(true);
-    }
     let Some(old) = repo.peel(&object) else {
         unreachable!();
     };
-    Ok(is_ancestor(alloc, repo, &old, &new)?)
-}
-
-/// The refs to be set: the branches with a commit that their refs don't hold already, and then the tags.
-fn changes<'a, N: Namer, A: Allocator + Copy>(
-    repo: &Repo<N, A>,
-    tables: &'a Tables<A>,
-) -> Result<Vec<RefChange<'a>, A>, AllocError>
-    ensures { IfOk result (λ changes. map asked changes.items ≡ moved_of repo.now.1.refs tables.now) }
-{
-    let mut changes = Vec::new(tables.alloc);
-    append_branches(&mut changes, repo, &tables.branches)?;
-    append_tags(&mut changes, &tables.tags)?;
-    Ok(changes)
-}
-
-/// Appends the branches with a commit that their refs don't hold already.
-fn append_branches<'a, N: Namer, A: Allocator + Copy>(
-    changes: &mut Vec<RefChange<'a>, A>,
-    repo: &Repo<N, A>,
-    branches: &'a Table<Tip<A>, A>,
-) -> Result<(), AllocError>
-    ensures { OnOk result (map asked changes.new.items ≡ map asked changes.old.items ++ filter (is_moved repo.now.1.refs) (branch_changes (rows_of branches.now))) }
-{
-    let mut place = 0;
-    for (name, tip) in &branches.rows {
-        let (next, object) = repo.ref_near(place, name.as_slice());
-        place = next;
-        append_branch(changes, name.as_slice(), object, tip.commit)?;
-    }
-    Ok(())
-}
-
-/// Appends a branch, where it has a commit, and its ref doesn't hold this object.
-fn append_branch<'a, A: Allocator + Copy>(
-    changes: &mut Vec<RefChange<'a>, A>,
-    name: &'a [u8],
-    object: Option<Name>,
-    commit: Option<Name>,
-) -> Result<(), AllocError>
-    ensures { (refs : List Ref) → option_map (λ n. n.bytes) object ≡ lookup (same_bytes name.now) refs → OnOk result (map asked changes.new.items ≡ map asked changes.old.items ++ filter (is_moved refs) (branch_then name.now commit [])) }
-{
-    if let Some(target) = commit {
-        if !is_at(object, target) {
-            changes.push(RefChange { name, target })?;
-        }
-    }
-    Ok(())
+    is_ancestor(alloc, repo, &old, &new)
 }
 
 /// Whether what a ref holds is this object.

@@ -1,8 +1,8 @@
-use Rattle.std.proofs.Common.{map, sym, ap, subst, ◌∙◌}
+use Rattle.std.proofs.Common.{◌≡◌, IfSome, is_some, map, refl, sym, ap, subst, ◌∙◌}
 use Rattle.gx_model.specs.Publishing.{changes_fault, with_changes}
 use Rattle.gx_repo.specs.Refs.{asked}
 use Rattle.gx_import.specs.Keeping.{Enters}
-use Rattle.gx_import.specs.RefChanges.{branch_changes, changes_of, is_moved, tag_changes}
+use Rattle.gx_import.specs.RefChanges.{branch_changes, changes_of, is_moved, moved_of, tag_changes}
 use Rattle.gx_import.specs.Rows.{rows_of}
 use Rattle.gx_import.proofs.MovedChanges.{fewer_free, moved_set}
 use Rattle.gx_import.proofs.PublishedNames.{all_entered, new_entered}
@@ -13,9 +13,13 @@ pub publish_all-requires : goal.publish_all-requires
 publish_all-requires g c =
     let r = c.args.repo.now.1 in
     let tables = c.args.tables.now in
-    ap (λ cs. changes_fault r.records (map asked cs)) c.as_slice-2.ensures.value ∙ ap (changes_fault r.records) c.in_ok-changes.ensures
+    let asked_for = subst (λ o. IfSome o (λ cs. map asked cs.items ≡ moved_of r.refs tables)) c.in-Some.is c.in_ok-changes.ensures.changes in
+    ap (λ cs. changes_fault r.records (map asked cs)) c.as_slice-2.ensures.value ∙ ap (changes_fault r.records) asked_for
     ∙ fewer_free (is_moved r.refs) r.records (branch_changes (rows_of tables.branches)) (tag_changes (rows_of tables.tags))
     (changes_free (g.N.Namer.name_of c.args.repo.now.0) (g.met.N.Namer.is_namer c.args.repo.now.0) r c.sound.ensures tables c.requires.stands.0 c.requires.stands.1)
+
+pub returns-in_default-clause-published : goal.returns-in_default-clause-published
+returns-in_default-clause-published g c = λ s h. (sym (c.in_ok-changes.ensures.forward s h) ∙ ap is_some c.in_default.is, refl)
 
 pub returns-clause-published : goal.returns-clause-published
 returns-clause-published g c = λ s h.
@@ -23,9 +27,10 @@ returns-clause-published g c = λ s h.
     let namer = g.met.N.Namer.is_namer c.args.repo.now.0 in
     let r = c.args.repo.now.1 in
     let tables = c.args.tables.now in
-    let moved = c.in_ok-publish_all.ensures.refs ∙ ap (λ cs. with_changes r.refs (map asked cs)) c.as_slice-2.ensures.value ∙ ap (with_changes r.refs) c.in_ok-changes.ensures in
+    let asked_for = subst (λ o. IfSome o (λ cs. map asked cs.items ≡ moved_of r.refs tables)) c.in-Some.is c.in_ok-changes.ensures.changes in
+    let moved = c.in_ok-publish_all.ensures.refs ∙ ap (λ cs. with_changes r.refs (map asked cs)) c.as_slice-2.ensures.value ∙ ap (with_changes r.refs) asked_for in
     let set = moved ∙ moved_set r.refs (rows_of tables.branches) (tag_changes (rows_of tables.tags)) c.sound.ensures.sorted h.branches_sorted in (
-      sym (c.in_ok-is_fast_forward.ensures.forward s h) ∙ c.if-not-branch.false,
+      sym (c.in_ok-changes.ensures.forward s h) ∙ ap is_some c.in-Some.is,
       final_set name namer r c.sound.ensures tables s h (c.histories_of_records.ensures name namer) c.publish_all.new.repo.1 c.in_ok-publish_all.ensures.records set,
     )
 

@@ -188,6 +188,10 @@ all_inserted r cs n old now l has d = (
 through_parents : (c d : Commit) → T (some_reaches (parents_of c) d) → T (reaches c d)
 through_parents (commit f ps t) d h = right_or (same_commit (commit f ps t) d) (some_reaches ps d) h
 
+-- a commit reaches its parents
+pub parent_reached : (c p : Commit) (i : ℕ) → slice_get (list_of (parents_of c)) i ≡ Some p → IsTrue (reaches c p)
+parent_reached c p i e = is_true _ (through_parents c p (parent_in (parents_of c) i p p e (itself p)))
+
 from_parents : (c d : Commit) → (c ≡ d → ⊥) → T (reaches c d) → T (some_reaches (parents_of c) d)
 from_parents (commit f ps t) d n h = one_of (same_commit (commit f ps t) d) (some_reaches ps d) h (λ s. absurd (n (commit_is (commit f ps t) d s))) (λ k. k)
 

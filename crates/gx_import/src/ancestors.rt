@@ -18,8 +18,9 @@ use std::collections::BTreeSet;
 
 /// Whether the first of two held commits is the second or one of its ancestors.
 ///
-/// Cost: for each commit behind the first one that the second reaches, its body and a look-up for each of its parents.
-/// Memory: the places that are still to be visited.
+/// Cost: a look-up, where it is the first parent of the second. Otherwise, for each commit behind the first one that the
+/// second reaches, its body and a look-up for each of its parents. Memory: the places that are still to be visited, and
+/// none in the first case.
 pub(crate) fn is_ancestor<N: Namer, A: Allocator + Copy>(
     alloc: A,
     repo: &Repo<N, A>,
@@ -31,11 +32,28 @@ pub(crate) fn is_ancestor<N: Namer, A: Allocator + Copy>(
     ensures { IfOk result (λ is_ancestor. is_ancestor ≡ reaches (commit_at repo.now.1 new.now) (commit_at repo.now.1 old.now)) }
 {
     repo.sound();
+    // a branch that moved by one commit needs no walk
+    if is_first_parent(repo, old, new) {
+        return Ok(true);
+    }
     let last = place_of(repo, old);
     let first = place_of(repo, new);
     let mut places = BTreeSet::new(alloc);
     places.insert(first)?;
     is_reached(repo, &mut places, last)
+}
+
+/// Whether the first of two commits is the first parent of the second.
+fn is_first_parent<N: Namer, A: Allocator + Copy>(repo: &Repo<N, A>, old: &Name, new: &Name) -> bool
+    requires { IsHeldAs kinds.Commit repo.now.1 new.now }
+    ensures { IsTrue result → IsTrue (reaches (commit_at repo.now.1 new.now) (commit_at repo.now.1 old.now)) }
+{
+    repo.sound();
+    let view = view_of(repo, new);
+    match view.parent(0) {
+        Some(parent) => parent == *old,
+        None => false,
+    }
 }
 
 /// Whether the commit at the last place is reached from one of these. They are visited from the newest one on, down to it.

@@ -9,6 +9,12 @@ use Rattle.gx_import.specs.Places.{IsCommitPlace}
 use Rattle.gx_import.proofs.PlaceLists.{one_reaches}
 use Rattle.gx_import.proofs.ancestors.is_ancestor.Goals as goal
 
+pub is_first_parent-requires : goal.is_first_parent-requires
+is_first_parent-requires g c = holds_held (g.N.Namer.name_of c.args.repo.now.0) (g.met.N.Namer.is_namer c.args.repo.now.0) c.args.repo.now.1 c.sound.ensures kinds.Commit c.args.new.now.bytes c.requires.new
+
+pub returns-then-is_first_parent : goal.returns-then-is_first_parent
+returns-then-is_first_parent g c = sym (c.is_first_parent.ensures c.if-is_first_parent.true)
+
 pub place_of-last-requires : goal.place_of-last-requires
 place_of-last-requires g c = holds_held (g.N.Namer.name_of c.args.repo.now.0) (g.met.N.Namer.is_namer c.args.repo.now.0) c.args.repo.now.1 c.sound.ensures kinds.Commit c.args.old.now.bytes c.requires.old
 

@@ -1,9 +1,7 @@
 -- The blobs of files, one after the other.
-use Rattle.std.proofs.Common.{◌≡◌, ◌≢◌, ℕ, suc, ◌+◌, ◌<◌, true, false, cond, List, [], ◌∷◌, ◌++◌, map, length, take, drop, get_or, Option, Some, Result, Ok, Bool, not, refl, sym, ap, subst, ◌∙◌, arith}
-use Rattle.std.specs.List.{AllByRecursion}
-use Rattle.std.proofs.Math.Seq.{drop-cons, take-suc}
+use Rattle.std.proofs.Common.{◌≡◌, ◌≢◌, ℕ, suc, true, false, cond, List, [], ◌∷◌, ◌++◌, length, Option, Some, Result, Ok, Bool, not, refl, sym, ap, subst, ◌∙◌}
 use Rattle.std.proofs.lemmas.Grind.{flat_map-append}
-use Rattle.std.proofs.lemmas.List.{map-append, take-append-drop}
+use Rattle.std.proofs.lemmas.List.{map-append}
 use Rattle.std.proofs.lemmas.List.Elements.{filter_map-append}
 use Rattle.gx_model.specs.declared.objects.Mode.TheVariants.{File, Exec, Link, Gitlink, Dir}
 use Rattle.gx_model.specs.declared.objects.Mode.{Mode}
@@ -70,10 +68,6 @@ bytes_append named xs ys =
     ap contents (map-append (λ entry. (entry.0, (entry.1.0, content_of named entry.1.0 entry.1.1))) xs ys)
     ∙ filter_map-append (λ e. content_in e.1.0 e.1.1) (contents_of named xs) (contents_of named ys)
 
--- a gitlink has none
-pub no_bytes : (named : Named) (path : Path) (mode : Mode) (n : Bytes) → mode ≡ Gitlink → bytes_named named ((path, (mode, n)) ∷ []) ≡ []
-no_bytes named path mode n e = ap (λ m. bytes_named named ((path, (m, n)) ∷ [])) e
-
 -- another file has its blob's
 pub one_bytes : (named : Named) (path : Path) (mode : Mode) (n : Bytes) → mode ≢ Gitlink → bytes_named named ((path, (mode, n)) ∷ []) ≡ bytes_of_blob (value_named named n) ∷ []
 one_bytes named path File n g = refl
@@ -81,23 +75,3 @@ one_bytes named path Exec n g = refl
 one_bytes named path Link n g = refl
 one_bytes named path Gitlink n g = absurd (g refl)
 one_bytes named path Dir n g = refl
-
--- ---- lists by places
-
-module _ {X Y : Type 0} (view : X → Y) (xs : List X) (i : ℕ) (x : X) (h : i < length xs) (e : x ≡ get_or xs i x) where
-  -- one more
-  pub view_next : map view (take (i + 1) xs) ≡ map view (take i xs) ++ (view x ∷ [])
-  view_next =
-      let step : i + 1 ≡ suc i = omega arith in
-      ap (λ n. map view (take n xs)) step ∙ ap (map view) (take-suc xs i x h) ∙ map-append view (take i xs) (get_or xs i x ∷ []) ∙ ap (λ y. map view (take i xs) ++ (view y ∷ [])) (sym e)
-
-  -- those before, this one, and those behind it
-  pub view_parts : map view xs ≡ map view (take i xs) ++ (view x ∷ map view (drop (suc i) xs))
-  view_parts =
-      ap (map view) (sym (take-append-drop i xs)) ∙ map-append view (take i xs) (drop i xs) ∙ ap (λ t. map view (take i xs) ++ map view t) (drop-cons xs i x h)
-      ∙ ap (λ y. map view (take i xs) ++ (view y ∷ map view (drop (suc i) xs))) (sym e)
-
--- what all pass, one in the middle passes
-pub passes_between : {Y : Type 0} (P : Y → Type 0) (before rest : List Y) (y : Y) → AllByRecursion P (before ++ y ∷ rest) → P y
-passes_between P [] rest y h = h.0
-passes_between P (z ∷ before) rest y h = passes_between P before rest y h.1

@@ -1,5 +1,5 @@
 -- The items of a commit in their parts, and what is shown of a held commit.
-use Rattle.std.proofs.Common.{◌≡◌, ℕ, zero, suc, ◌+◌, ◌<◌, List, [], ◌∷◌, ◌++◌, map, length, set, Option, Some, Ok, refl, sym, ap, subst, ◌∙◌, arith, append_assoc, codes}
+use Rattle.std.proofs.Common.{◌≡◌, ℕ, zero, suc, ◌+◌, ◌<◌, List, [], ◌∷◌, ◌++◌, map, length, set, Option, Some, Ok, refl, sym, ap, subst, ◌∙◌, arith, append_assoc, codes, IsTrue}
 use Rattle.std.specs.Bool.{passes}
 use Rattle.std.specs.List.{AllByRecursion, fold, slice_get}
 use Rattle.std.proofs.lemmas.Grind.{flat_map-append}
@@ -21,7 +21,8 @@ use Rattle.gx_model.proofs.LinkedValues.{parts_in, proper_in}
 use Rattle.gx_model.proofs.OneTree.{all_left}
 use Rattle.gx_model.proofs.PathTests.{is_true}
 use Rattle.gx_text.specs.Devices.{Taken}
-use Rattle.gx_model.proofs.HeldValues.{all_whole, names_long, value_held, value_holds}
+use Rattle.gx_model.proofs.HeldValues.{all_whole, commit_stands, names_long, value_held, value_holds}
+use Rattle.gx_model.specs.RecordFaults.{is_held}
 use Rattle.gx_model.proofs.Standing.{at_in}
 use Rattle.gx_model.specs.NameMaps.{AreFiles}
 use Rattle.gx_model.proofs.FilesByName.{contents_told, files_named}
@@ -103,12 +104,11 @@ module _ (name : Kind → Bytes → Bytes) (namer : IsNamer name) (r : Records) 
 
   -- its lines
   pub lines_told : (c : Commit) (view : CommitParts) (names : FileMap Bytes) → IsShownAs c view names → (us : List Value)
-      → commit_lines us view.text (map (λ n. commit_of_value (value_of_name r.records n)) view.parents) (contents_of (named_values r.records) names) ≡ commit_lines us (text_of c) (list_of (parents_of c)) (files_of c)
+      → commit_lines us view.text (map (λ n. commit_of_value (value_of_name r.records n)) view.parents) (files_of c) ≡ commit_lines us (text_of c) (list_of (parents_of c)) (files_of c)
   lines_told c view names s us =
       let text = s.text in
       let parents = s.parents in
-      let files = s.files in
-      λ i. commit_lines us (text i) (parents i) (files i)
+      λ i. commit_lines us (text i) (parents i) (files_of c)
 
   parents_told : (ps : Commits) → AllByRecursion (IsIn (history_of r).values) (map commit_value (list_of ps)) → map (λ n. commit_of_value (value_of_name r.records n)) (names_of name ps) ≡ list_of ps
   parents_told none h = refl
@@ -131,6 +131,20 @@ module _ (name : Kind → Bytes → Bytes) (namer : IsNamer name) (r : Records) 
         content = is_true _ (proper_in vs (tree_value (files_of c)) (passes _ w.proper) tree);
         known = all_left (IsIn vs) (blobs_of (files_of c)) (map tree_value (sub_maps (files_of c))) (parts_in vs (tree_value (files_of c)) w tree);
       }
+
+  -- what the names of a held commit's files name is held, and these are its files
+  pub files_named_so : (n : Bytes) → IsTrue (is_held r.records kind.Commit n) → IsNamedMap r.records (named_map name (files_of (commit_of_value (value_of_name r.records n))))
+      × (contents_of (named_values r.records) (named_map name (files_of (commit_of_value (value_of_name r.records n)))) ≡ files_of (commit_of_value (value_of_name r.records n)))
+  files_named_so n h =
+      let c = commit_of_value (value_of_name r.records n) in
+      let files = commit_files c (commit_stands name namer r sound n h).1 in
+      (files_named name namer r sound (files_of c) (named_map name (files_of c)) files, contents_told name namer r sound (files_of c) (named_map name (files_of c)) files)
+
+  -- the commit at a place is that of its name
+  pub same_commit : (place : ℕ) (c : Commit) (n : Bytes) → slice_get (values_of r) place ≡ Some (commit_value c) → slice_get (values_of r) place ≡ Some (value_of_name r.records n) → commit_of_value (value_of_name r.records n) ≡ c
+  same_commit place c n e f =
+      let value : value_of_name r.records n ≡ commit_value c = (let o : Some (value_of_name r.records n) ≡ Some (commit_value c) = sym f ∙ e in cc o) in
+      ap commit_of_value value
 
   -- the commit at a place, by its name
   pub shown_as : (place : ℕ) (c : Commit) (n : Bytes) (view : CommitParts) (names : FileMap Bytes) → slice_get (values_of r) place ≡ Some (commit_value c) → slice_get (values_of r) place ≡ Some (value_of_name r.records n)

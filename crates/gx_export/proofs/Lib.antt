@@ -5,8 +5,8 @@ pub mod CommitLists
 pub mod CommitTexts
 pub mod ExportTexts
 pub mod FileLines
-pub mod FilePlaces
 pub mod Numbering
 pub mod Placing
 pub mod RefLines
 pub mod Writing
+pub mod Gathering

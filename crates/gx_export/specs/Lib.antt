@@ -1,5 +1,6 @@
 pub mod Exports
 pub mod Faults
+pub mod FileTexts
 pub mod Marks
 pub mod Outputs
 pub mod Reaching

@@ -1,14 +1,10 @@
 -- The values that were written, with their marks.
-use Rattle.std.specs.Prelude.{◌≡◌, ◌≢◌, ℕ, ◌≤◌, List, [], ◌∷◌, length, slice_index_or, Option, Some, Result, Ok, Err, ⊤}
+use Rattle.std.specs.Prelude.{◌≡◌, ℕ, ◌≤◌, List, length, slice_index_or, Option, Some, Result, Ok, Err}
 use Rattle.std.specs.List.{slice_get}
-use Rattle.gx_model.specs.declared.objects.Mode.TheVariants.{Gitlink}
 use Rattle.gx_model.specs.Export.{number_in}
-use Rattle.gx_model.specs.Files.{FileMap}
 use Rattle.gx_model.specs.Histories.{Records}
-use Rattle.gx_model.specs.HistoryOf.{value_of_name}
 use Rattle.gx_model.specs.Items.{Item}
 use Rattle.gx_model.specs.RepositoryLaws.{values_of}
-use Rattle.gx_model.specs.Texts.{Bytes}
 use Rattle.gx_model.specs.Values.{Value}
 use Rattle.gx_text.specs.Devices.{Taken}
 use Rattle.gx_export.specs.Outputs.{Stops, Writes, most}
@@ -27,14 +23,6 @@ pub record HasWritten {A : Type 0} (repository : Records) (ws : List Value) (wri
   pub marks : AreNumbers (values_of repository) ws written.marks.items
   pub each : written.count ≤ written.bytes
   pub most : written.bytes ≤ most
-
--- for each file, the place of its blob; a gitlink's is any number
-abbrev pub ArePlaces : Records → FileMap Bytes → List ℕ → Type 0
-ArePlaces repository [] [] = ⊤
-ArePlaces repository [] (place ∷ places) = ⊥
-ArePlaces repository (file ∷ files) [] = ⊥
-ArePlaces repository (file ∷ files) (place ∷ places) =
-    (file.1.0 ≢ Gitlink → slice_get (values_of repository) place ≡ Some (value_of_name repository.records file.1.1)) × ArePlaces repository files places
 
 -- Items go out, and then these values were written; or the export stops within the items.
 abbrev pub Adds : {A : Type 0} → Records → List Value → List Item → Written A → Written A → Option Taken → Option Taken → Result (Unit {0}) ExportFault → Type 0

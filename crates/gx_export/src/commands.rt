@@ -2,18 +2,16 @@
 
 ghost use Rattle.std.specs.Prelude.{◌≡◌, ◌≤◌, [], ◌∷◌, Some};
 ghost use Rattle.std.specs.Option.{option_map};
-ghost use Rattle.gx_model.specs.declared.objects.Mode.TheVariants.{Gitlink};
 ghost use Rattle.gx_model.specs.Commands.{Blob, Marked, Reset};
-ghost use Rattle.gx_model.specs.Export.{mark_text, mode_digits, optional_line, to_nothing, word_line};
+ghost use Rattle.gx_model.specs.Export.{mark_text, optional_line, to_nothing, word_line};
 ghost use Rattle.gx_model.specs.Items.{Data};
-ghost use Rattle.gx_model.specs.Objects.{hex};
 ghost use Rattle.gx_export.specs.Faults.{NeedsNoMemory};
 ghost use Rattle.gx_export.specs.Outputs.{Writes, most};
-ghost use Rattle.gx_export.specs.Texts.{author_items, command_text, file_line, head_items, items_text, tag_command, target_items};
+ghost use Rattle.gx_export.specs.Texts.{author_items, command_text, head_items, items_text, tag_command, target_items};
 
 use crate::ExportFault;
 use crate::output::write_all;
-use gx_object::{CommitView, Mode, Name, TagView};
+use gx_object::{CommitView, TagView};
 use gx_text::Sink;
 use itoa::Buffer;
 
@@ -144,60 +142,6 @@ pub(crate) fn write_parent<W: Sink>(
     )
 }
 
-/// Writes the line of a file whose bytes have a mark. The path is printed.
-pub(crate) fn write_file<W: Sink>(
-    sink: &mut W,
-    written: &mut u64,
-    mode: Mode,
-    mark: u64,
-    path: &[u8],
-) -> Result<(), ExportFault>
-    requires { written.old ≤ most }
-    ensures text { Writes written.old written.new (W.taken sink.old) (W.taken sink.new) (items_text (file_line mode (mark_text mark) path.now ∷ [])) result }
-    ensures memory { NeedsNoMemory result }
-{
-    let digits = mode_digits(mode);
-    let mut number = Buffer::new();
-    write_all(
-        sink,
-        written,
-        &[
-            b"M ".as_slice(),
-            digits.as_slice(),
-            b" :",
-            number.format(mark).as_bytes(),
-            b" ",
-            path,
-            b"\n",
-        ],
-    )
-}
-
-/// Writes the line of a gitlink. The path is printed.
-pub(crate) fn write_gitlink<W: Sink>(
-    sink: &mut W,
-    written: &mut u64,
-    name: &Name,
-    path: &[u8],
-) -> Result<(), ExportFault>
-    requires { written.old ≤ most }
-    ensures text { Writes written.old written.new (W.taken sink.old) (W.taken sink.new) (items_text (file_line Gitlink (hex name.now.bytes) path.now ∷ [])) result }
-    ensures memory { NeedsNoMemory result }
-{
-    let digits = name.hex();
-    write_all(
-        sink,
-        written,
-        &[
-            b"M 160000 ".as_slice(),
-            digits.as_slice(),
-            b" ",
-            path,
-            b"\n",
-        ],
-    )
-}
-
 /// Writes a reset to no commit.
 pub(crate) fn write_reset<W: Sink>(
     sink: &mut W,
@@ -275,17 +219,4 @@ fn write_target<W: Sink>(
             b"\n",
         ],
     )
-}
-
-/// The six digits of a mode.
-fn mode_digits(mode: Mode) -> [u8; 6]
-    ensures { result ≡ mode_digits mode }
-{
-    match mode {
-        Mode::File => *b"100644",
-        Mode::Exec => *b"100755",
-        Mode::Link => *b"120000",
-        Mode::Gitlink => *b"160000",
-        Mode::Dir => *b"040000",
-    }
 }

@@ -15,6 +15,7 @@ ghost use Rattle.gx_export.specs.Texts.{items_of, items_text, last_items};
 use crate::ExportFault;
 use crate::commands::write_reset;
 use crate::commit::write_commit;
+use crate::lines::Lines;
 use crate::output::write;
 use crate::reached::reached;
 use crate::refs::write_refs;
@@ -62,9 +63,10 @@ fn write_commits<N: Namer, A: Allocator + Copy, W: Sink>(
     requires written { HasWritten repo.now.1 [] written.old }
     ensures { Adds repo.now.1 (all_written (reached_commits (history_of repo.now.1))) (items_of (commit_commands [] (reached_commits (history_of repo.now.1)))) written.old written.new (W.taken sink.old) (W.taken sink.new) result }
 {
+    let mut lines = Lines::new(alloc);
     for place in 0..reached.len() {
         if reached[place] {
-            write_commit(alloc, repo, sink, written, place)?;
+            write_commit(alloc, repo, sink, written, &mut lines, place)?;
         }
     }
     Ok(())

@@ -6,10 +6,12 @@ mod commands;
 mod commit;
 mod exporting;
 mod fault;
+mod lines;
 mod objects;
 mod output;
 mod reached;
 mod refs;
+mod trees;
 mod written;
 
 pub use exporting::export;

@@ -15,7 +15,7 @@ use Rattle.gx_export.proofs.Placing.{record_here}
 use Rattle.gx_export.specs.Outputs.{Stops, Writes}
 use Rattle.gx_export.specs.Texts.{command_text}
 use Rattle.gx_export.proofs.Numbering.{adds_new_blob, adds_old_blob, blob_here, body_here, mark_here, only_place, place_marked, stops_new_blob}
-use Rattle.gx_export.proofs.commit.write_blob_once.Goals as goal
+use Rattle.gx_export.proofs.trees.write_blob_once.Goals as goal
 
 pub returns-then-index-gt0-clause-adds : goal.returns-then-index-gt0-clause-adds
 returns-then-index-gt0-clause-adds g c = λ ws h.

@@ -1,0 +1,313 @@
+-- The blobs and the lines of files, gathered one after the other.
+use Rattle.std.proofs.Common.{◌≡◌, ◌≢◌, ◌++◌, ℕ, ◌-◌, ◌<◌, suc, Bool, true, false, cond, [], ◌∷◌, List, length, Option, Result, Ok, Err, refl, sym, ap, ◌∙◌, subst, append_assoc, append-nil}
+use Rattle.std.specs.Prelude.{◌||◌}
+use Rattle.std.specs.Result.{OnOk}
+use Rattle.std.specs.List.{list_all, AllByRecursion}
+use Rattle.std.proofs.lemmas.List.{map-append}
+use Rattle.std.proofs.lemmas.Grind.{flat_map-append}
+use Rattle.gx_model.specs.declared.objects.Kind.{Kind}
+use Rattle.gx_model.specs.declared.objects.Mode.{Mode}
+use Rattle.gx_model.specs.declared.objects.Mode.TheVariants.{File, Exec, Link, Gitlink, Dir}
+use Rattle.gx_model.specs.Export.{blob_commands, contents, item_text, mark_text, number_in, with_blobs}
+use Rattle.gx_model.specs.Files.{FileMap}
+use Rattle.gx_model.specs.Histories.{Records, is_in}
+use Rattle.gx_model.specs.HistoryOf.{Named, bytes_of_blob, content_of, contents_of, named_values, placed, value_of_name}
+use Rattle.gx_model.specs.NameMaps.{IsHeldTree}
+use Rattle.gx_model.specs.Objects.{Entry as TreeEntry, hex}
+use Rattle.gx_model.specs.Paths.{Path, is_short, path_text, printed}
+use Rattle.gx_model.specs.Sound.{IsHeldAs}
+use Rattle.gx_model.specs.Texts.{Bytes}
+use Rattle.gx_model.specs.Values.{Value, blob_value, same_value}
+use Rattle.gx_model.proofs.SameValues.{same_value_tells}
+use Rattle.gx_model.proofs.FileMapEdits.{parts_of}
+use Rattle.gx_model.proofs.OneTree.{all_left, all_right}
+use Rattle.gx_text.specs.Devices.{Taken}
+use Rattle.gx_tree.specs.HeldTrees.{IsHeldEntry, IsHeldWithin}
+use Rattle.gx_tree.specs.Lists.{below}
+use Rattle.gx_tree.specs.Nodes.{Kept, Level, files, file, folder, kept_map}
+use Rattle.gx_tree.specs.Writes.{kept_leaf}
+use Rattle.gx_tree.proofs.HeldLevels.{IsLoading, IsNext, entries_held, within_all}
+use Rattle.gx_tree.proofs.LevelsOf.{IsLevel-level_of, files-level_of, level_of}
+use Rattle.gx_tree.proofs.Listed.{IsListed, all_listed, below-placed, below_root, map_short}
+use Rattle.gx_export.specs.FileTexts.{Gathers, IsEntryBelow, IsGathered, IsTreeBelow, bytes_in, lines_text}
+use Rattle.gx_export.specs.Marks.{Adds, HasWritten}
+use Rattle.gx_export.specs.Outputs.{Stops, Writes}
+use Rattle.gx_export.specs.Texts.{file_items, file_line, items_of, items_text}
+use Rattle.gx_export.specs.declared.fault.ExportFault.{ExportFault}
+use Rattle.gx_export.specs.declared.fault.ExportFault.TheVariants.{OutOfMemory}
+use Rattle.gx_export.specs.declared.lines.Lines.{Lines}
+use Rattle.gx_export.specs.declared.written.Written.{Written}
+use Rattle.gx_export.proofs.BlobLists.{blobs_append, blobs_sooner, bytes_append, next_blobs, one_bytes}
+use Rattle.gx_export.proofs.CommitLines.{file_dataref}
+use Rattle.gx_export.proofs.FileLines.{lines_append, one_line}
+use Rattle.gx_export.proofs.Numbering.{adds_nothing}
+use Rattle.gx_export.proofs.Writing.{items_append}
+
+-- ---- what was written keeps its mark
+
+-- each of these blobs was written
+abbrev pub AreWritten : List Value → List Bytes → Type 0
+AreWritten ws xs = AllByRecursion (λ x. is_in ws (blob_value x) ≡ true) xs
+
+-- a value that wasn't written is another one than one that was
+apart : (ws : List Value) (u v : Value) → is_in ws u ≡ false → is_in ws v ≡ true → same_value u v ≡ false
+apart ws u v n h = by (same_value u v) refl
+  where
+    by : (b : Bool) → same_value u v ≡ b → same_value u v ≡ false
+    by false e = e
+    by true e = absurd (let o : true ≡ false = sym h ∙ ap (is_in ws) (sym ((same_value_tells u v).0 e)) ∙ n in cc o)
+
+kept_in_more : (ws : List Value) (u v : Value) → is_in ws v ≡ true → is_in (u ∷ ws) v ≡ true
+kept_in_more ws u v h = by (same_value v u)
+  where
+    by : (b : Bool) → (b || is_in ws v) ≡ true
+    by true = refl
+    by false = h
+
+-- one more
+still_one : (ws : List Value) (x : Bytes) (v : Value) → is_in ws v ≡ true → (is_in (with_blobs ws (x ∷ [])) v ≡ true) × (number_in (with_blobs ws (x ∷ [])) v ≡ number_in ws v)
+still_one ws x v h = by (is_in ws (blob_value x)) refl
+  where
+    by : (b : Bool) → is_in ws (blob_value x) ≡ b → (is_in (cond b ws (blob_value x ∷ ws)) v ≡ true) × (number_in (cond b ws (blob_value x ∷ ws)) v ≡ number_in ws v)
+    by true e = (h, refl)
+    by false e = (kept_in_more ws (blob_value x) v h, ap (λ b. cond b (suc (length ws)) (number_in ws v)) (apart ws (blob_value x) v e h))
+
+-- what was written is so, and has its mark, after more blobs
+pub still : (ws : List Value) (xs : List Bytes) (v : Value) → is_in ws v ≡ true → (is_in (with_blobs ws xs) v ≡ true) × (number_in (with_blobs ws xs) v ≡ number_in ws v)
+still ws [] v h = (h, refl)
+still ws (x ∷ xs) v h =
+    let one = still_one ws x v h in
+    let rest = still (with_blobs ws (x ∷ [])) xs v one.0 in
+    (rest.0, rest.1 ∙ one.1)
+
+pub still_written : (ws : List Value) (xs ys : List Bytes) → AreWritten ws ys → AreWritten (with_blobs ws xs) ys
+still_written ws xs [] h = tt
+still_written ws xs (y ∷ ys) h = ((still ws xs (blob_value y) h.0).0, still_written ws xs ys h.1)
+
+same_in : (u : Value) → same_value u u ≡ true
+same_in u = (same_value_tells u u).1 refl
+
+first_written : (ws : List Value) (x : Bytes) → is_in (with_blobs ws (x ∷ [])) (blob_value x) ≡ true
+first_written ws x = by (is_in ws (blob_value x)) refl
+  where
+    by : (b : Bool) → is_in ws (blob_value x) ≡ b → is_in (cond b ws (blob_value x ∷ ws)) (blob_value x) ≡ true
+    by true e = e
+    by false e = ap (λ b. b || is_in ws (blob_value x)) (same_in (blob_value x))
+
+-- blobs that go out are written then
+pub all_written : (ws : List Value) (xs : List Bytes) → AreWritten (with_blobs ws xs) xs
+all_written ws [] = tt
+all_written ws (x ∷ xs) = ((still (with_blobs ws (x ∷ [])) xs (blob_value x) (first_written ws x)).0, all_written (with_blobs ws (x ∷ [])) xs)
+
+-- ---- lines stay
+
+module _ (named : Named) (ws us : List Value) where
+  -- a mark that was given stays
+  abbrev pub Keeps : Type 0
+  Keeps = (v : Value) → is_in ws v ≡ true → number_in us v ≡ number_in ws v
+
+  line_stays : (path : Path) (mode : Mode) (n : Bytes) (es : FileMap Bytes) → Keeps → (AreWritten ws (bytes_in named es) → lines_text named us es ≡ lines_text named ws es) → AreWritten ws (bytes_in named ((path, (mode, n)) ∷ es))
+      → lines_text named us ((path, (mode, n)) ∷ es) ≡ lines_text named ws ((path, (mode, n)) ∷ es)
+  line_stays path File n es k ih h = let e = k (blob_value (content_of named File n)) h.0 in let rest = ih h.1 in λ i. item_text (file_line File (mark_text (e i)) (printed (path_text path))) ++ rest i
+  line_stays path Exec n es k ih h = let e = k (blob_value (content_of named Exec n)) h.0 in let rest = ih h.1 in λ i. item_text (file_line Exec (mark_text (e i)) (printed (path_text path))) ++ rest i
+  line_stays path Link n es k ih h = let e = k (blob_value (content_of named Link n)) h.0 in let rest = ih h.1 in λ i. item_text (file_line Link (mark_text (e i)) (printed (path_text path))) ++ rest i
+  line_stays path Dir n es k ih h = let e = k (blob_value (content_of named Dir n)) h.0 in let rest = ih h.1 in λ i. item_text (file_line Dir (mark_text (e i)) (printed (path_text path))) ++ rest i
+  line_stays path Gitlink n es k ih h = ap (λ rest. item_text (file_line Gitlink (hex n) (printed (path_text path))) ++ rest) (ih h)
+
+  -- the lines of files whose blobs were written stay
+  pub lines_stay : (names : FileMap Bytes) → Keeps → AreWritten ws (bytes_in named names) → lines_text named us names ≡ lines_text named ws names
+  lines_stay [] k h = refl
+  lines_stay (e ∷ es) k h = line_stays e.0 e.1.0 e.1.1 es k (lines_stay es k) h
+
+text_append : (named : Named) (ws : List Value) (xs ys : FileMap Bytes) → lines_text named ws (xs ++ ys) ≡ lines_text named ws xs ++ lines_text named ws ys
+text_append named ws xs ys = ap items_text (lines_append named ws xs ys) ∙ items_append (file_items ws (contents_of named xs)) (file_items ws (contents_of named ys))
+
+-- ---- files behind others
+
+module _ {A : Type 0} (r : Records) (ws : List Value) (xs ys : FileMap Bytes) (old mid new : Written A) (was between now : Option Taken) (first next last : Lines A) where
+  abbrev named : Named
+  named = named_values r.records
+
+  abbrev us : List Value
+  us = with_blobs ws (bytes_in named xs)
+
+  both_bytes : with_blobs us (bytes_in named ys) ≡ with_blobs ws (bytes_in named (xs ++ ys))
+  both_bytes = sym (blobs_append ws (bytes_in named xs) (bytes_in named ys)) ∙ ap (with_blobs ws) (sym (bytes_append named xs ys))
+
+  both_lines : lines_text named us xs ++ lines_text named (with_blobs us (bytes_in named ys)) ys ≡ lines_text named (with_blobs us (bytes_in named ys)) (xs ++ ys)
+  both_lines =
+      let vs = with_blobs us (bytes_in named ys) in
+      let stay = lines_stay named us vs xs (λ v h. (still us (bytes_in named ys) v h).1) (all_written ws (bytes_in named xs)) in
+      ap (λ t. t ++ lines_text named vs ys) (sym stay) ∙ sym (text_append named vs xs ys)
+
+  both_add : (result : Result (Unit {0}) ExportFault) → Adds r us (items_of (blob_commands ws (bytes_in named xs))) old mid was between (Ok tt) → Adds r (with_blobs us (bytes_in named ys)) (items_of (blob_commands us (bytes_in named ys))) mid new between now result
+      → Adds r (with_blobs ws (bytes_in named (xs ++ ys))) (items_of (blob_commands ws (bytes_in named (xs ++ ys)))) old new was now result
+  both_add result h k = subst (λ bs. Adds r (with_blobs ws bs) (items_of (blob_commands ws bs)) old new was now result) (sym (bytes_append named xs ys)) (next_blobs r ws (bytes_in named xs) (bytes_in named ys) old mid new was between now result h k)
+
+  pub gathers_next : IsGathered r ws xs old mid was between first next → IsGathered r us ys mid new between now next last → IsGathered r ws (xs ++ ys) old new was now first last
+  gathers_next h k = record {
+    adds = both_add (Ok tt) h.adds k.adds;
+    text = k.text ∙ ap (λ t. t ++ lines_text named (with_blobs us (bytes_in named ys)) ys) h.text ∙ append_assoc first.text.items (lines_text named us xs) (lines_text named (with_blobs us (bytes_in named ys)) ys)
+        ∙ ap (λ t. first.text.items ++ t) (both_lines ∙ ap (λ vs. lines_text named vs (xs ++ ys)) both_bytes);
+  }
+
+  pub gathers_stop : (e : ExportFault) → IsGathered r ws xs old mid was between first next → Stops mid.bytes between now (items_text (items_of (blob_commands us (bytes_in named ys)))) e → Stops old.bytes was now (items_text (items_of (blob_commands ws (bytes_in named (xs ++ ys))))) e
+  gathers_stop e h k = both_add (Err e) h.adds k
+
+pub gathers_sooner : (named : Named) (ws : List Value) (xs ys : FileMap Bytes) (before : ℕ) (was now : Option Taken) (e : ExportFault) → Stops before was now (items_text (items_of (blob_commands ws (bytes_in named xs)))) e → Stops before was now (items_text (items_of (blob_commands ws (bytes_in named (xs ++ ys))))) e
+gathers_sooner named ws xs ys before was now e h = subst (λ bs. Stops before was now (items_text (items_of (blob_commands ws bs))) e) (sym (bytes_append named xs ys)) (blobs_sooner before was now ws (bytes_in named xs) (bytes_in named ys) e h)
+
+-- memory runs out once all has gone out
+pub stops_last : (before after : ℕ) (was now : Option Taken) (text : Bytes) → Writes before after was now text (Ok tt) → Stops before was now text OutOfMemory
+stops_last before after was now text h = (text, [], sym (append-nil text), h.2)
+
+-- ---- one file
+
+module _ {A : Type 0} (r : Records) (ws : List Value) (path : Path) (mode : Mode) (n : Bytes) (old new : Written A) (was now : Option Taken) (first last : Lines A) where
+  abbrev here : FileMap Bytes
+  here = (path, (mode, n)) ∷ []
+
+  -- a gitlink has no blob
+  pub gathers_gitlink : mode ≡ Gitlink → HasWritten r ws old → last.text.items ≡ first.text.items ++ items_text (file_line Gitlink (hex n) (printed (path_text path)) ∷ []) → IsGathered r ws here old old was was first last
+  gathers_gitlink e h k =
+      let link : IsGathered r ws ((path, (Gitlink, n)) ∷ []) old old was was first last = record { adds = adds_nothing r ws old was h; text = k } in
+      subst (λ m. IsGathered r ws ((path, (m, n)) ∷ []) old old was was first last) (sym e) link
+
+  module _ (link : mode ≢ Gitlink) (dir : mode ≢ Dir) where
+    bytes_here : bytes_in (named_values r.records) here ≡ bytes_of_blob (value_of_name r.records n) ∷ []
+    bytes_here = one_bytes (named_values r.records) path mode n link
+
+    -- another file's blob goes out
+    pub gathers_file : (mark : ℕ) → Adds r (with_blobs ws (bytes_of_blob (value_of_name r.records n) ∷ [])) (items_of (blob_commands ws (bytes_of_blob (value_of_name r.records n) ∷ []))) old new was now (Ok tt)
+        → mark ≡ number_in (with_blobs ws (bytes_of_blob (value_of_name r.records n) ∷ [])) (blob_value (bytes_of_blob (value_of_name r.records n)))
+        → last.text.items ≡ first.text.items ++ items_text (file_line mode (mark_text mark) (printed (path_text path)) ∷ []) → IsGathered r ws here old new was now first last
+    gathers_file mark adds m text =
+        let named = named_values r.records in
+        let x = bytes_of_blob (value_of_name r.records n) in
+        let us = with_blobs ws (x ∷ []) in
+        let line = ap mark_text m ∙ sym (file_dataref named us mode n link dir) in
+        let lines = ap (λ t. items_text (file_line mode t (printed (path_text path)) ∷ [])) line ∙ ap items_text (sym (one_line named us path mode n dir)) in
+        record {
+          adds = subst (λ bs. Adds r (with_blobs ws bs) (items_of (blob_commands ws bs)) old new was now (Ok tt)) (sym bytes_here) adds;
+          text = text ∙ ap (λ t. first.text.items ++ t) (lines ∙ ap (λ bs. lines_text named (with_blobs ws bs) here) (sym bytes_here));
+        }
+
+    pub file_stops : (e : ExportFault) → Stops old.bytes was now (items_text (items_of (blob_commands ws (bytes_of_blob (value_of_name r.records n) ∷ [])))) e → Stops old.bytes was now (items_text (items_of (blob_commands ws (bytes_in (named_values r.records) here)))) e
+    file_stops e h = subst (λ bs. Stops old.bytes was now (items_text (items_of (blob_commands ws bs))) e) (sym bytes_here) h
+
+-- ---- the entries of a tree
+
+below_append : (front : Path) (f g : FileMap Bytes) → below front (f ++ g) ≡ below front f ++ below front g
+below_append front f g = map-append _ f g
+
+files_more : (front : Path) (done : Level) (c : Bytes) (k : Kept) → below front (files (done ++ (c, k) ∷ [])) ≡ below front (files done) ++ below front (placed c (kept_map k))
+files_more front done c k =
+    ap (below front) (flat_map-append (λ e. placed e.0 (kept_map e.1)) done ((c, k) ∷ []) ∙ ap (λ t. files done ++ t) (append-nil (placed c (kept_map k))))
+    ∙ below_append front (files done) (placed c (kept_map k))
+
+-- the files of these entries are gathered, and those of the others are to come
+pub record IsWalking {A : Type 0} (name : Kind → Bytes → Bytes) (r : Records) (ws : List Value) (front : Path) (all : Level) (left : List TreeEntry) (old new : Written A) (was now : Option Taken) (first last : Lines A) : Type 0 where
+  pub done : Level
+  pub loading : IsLoading name all left done
+  pub gathered : IsGathered r ws (below front (files done)) old new was now first last
+
+pub nothing_gathered : {A : Type 0} (r : Records) (ws : List Value) (written : Written A) (was : Option Taken) (lines : Lines A) → HasWritten r ws written → IsGathered r ws [] written written was was lines lines
+nothing_gathered r ws written was lines h = record { adds = adds_nothing r ws written was h; text = sym (append-nil lines.text.items) }
+
+module _ {A : Type 0} (name : Kind → Bytes → Bytes) (r : Records) (ws : List Value) (front : Path) (all : Level) (before left : List TreeEntry) (e : TreeEntry) (P : Bytes × Kept → Type 0) (old mid new : Written A) (was between now : Option Taken) (first next last : Lines A) where
+  module _ (w : IsWalking name r ws front all before old mid was between first next) (n : IsNext name P all e left w.done) where
+    -- the files of one entry more
+    pub walking_next : IsGathered r (with_blobs ws (bytes_in (named_values r.records) (below front (files w.done)))) (below front (placed e.component (kept_map n.kept))) mid new between now next last → IsWalking name r ws front all left old new was now first last
+    walking_next k = record {
+      done = w.done ++ (e.component, n.kept) ∷ [];
+      loading = n.more (e.component, n.kept) refl;
+      gathered = subst (λ fs. IsGathered r ws fs old new was now first last) (sym (files_more front w.done e.component n.kept))
+          (gathers_next r ws (below front (files w.done)) (below front (placed e.component (kept_map n.kept))) old mid new was between now first next last w.gathered k);
+    }
+
+    -- or the export stops within them
+    pub walking_stops : (f : FileMap Bytes) (fault : ExportFault) → files all ≡ f → Stops mid.bytes between now (items_text (items_of (blob_commands (with_blobs ws (bytes_in (named_values r.records) (below front (files w.done)))) (bytes_in (named_values r.records) (below front (placed e.component (kept_map n.kept))))))) fault
+        → Stops old.bytes was now (items_text (items_of (blob_commands ws (bytes_in (named_values r.records) (below front f))))) fault
+    walking_stops f fault whole k =
+        let named = named_values r.records in
+        let l = n.more (e.component, n.kept) refl in
+        let here = gathers_stop r ws (below front (files w.done)) (below front (placed e.component (kept_map n.kept))) old mid new was between now first next last fault w.gathered k in
+        let done = w.done ++ (e.component, n.kept) ∷ [] in
+        let these = subst (λ fs. Stops old.bytes was now (items_text (items_of (blob_commands ws (bytes_in named fs)))) fault) (sym (files_more front w.done e.component n.kept)) here in
+        let parts : below front (files done) ++ below front (files l.rest) ≡ below front f = sym (below_append front (files done) (files l.rest)) ∙ ap (below front) (sym (flat_map-append (λ e. placed e.0 (kept_map e.1)) done l.rest) ∙ ap files (sym l.split) ∙ whole) in
+        subst (λ fs. Stops old.bytes was now (items_text (items_of (blob_commands ws (bytes_in named fs)))) fault) parts (gathers_sooner named ws (below front (files done)) (below front (files l.rest)) old.bytes was now fault these)
+
+-- ---- what is held below a path
+
+all_placed : (P : Mode × Bytes → Type 0) (c : Bytes) (f : FileMap Bytes) → AllByRecursion (λ e. P e.1) (placed c f) → AllByRecursion (λ e. P e.1) f
+all_placed P c [] h = tt
+all_placed P c (e ∷ f) h = (h.0, all_placed P c f h.1)
+
+module _ (name : Kind → Bytes → Bytes) (r : Records) (room : ℕ) (front : Path) where
+  abbrev HeldLeaf : Mode × Bytes → Type 0
+  HeldLeaf x = IsHeldAs r.records x.0 x.1
+
+  all_entries : (es : Level) → AllByRecursion (IsHeldEntry name r.records room) es → AllByRecursion (IsListed front) es → AllByRecursion (λ e. HeldLeaf e.1) (files es) → AllByRecursion (IsEntryBelow name r room front) es
+  all_entries [] h l a = tt
+  all_entries (e ∷ es) h l a =
+      let here = all_left (λ f. HeldLeaf f.1) (placed e.0 (kept_map e.1)) (files es) a in
+      let rest = all_right (λ f. HeldLeaf f.1) (placed e.0 (kept_map e.1)) (files es) a in
+      (record { entry = h.0; component = l.0.0; short = l.0.1; paths = l.0.2; held = all_placed HeldLeaf e.0 (kept_map e.1) here }, all_entries es h.1 l.1 rest)
+
+  -- each entry of a tree below a path
+  pub entries_below : (n : Bytes) (g : FileMap Bytes) → IsTreeBelow name r room front n g → AllByRecursion (IsEntryBelow name r room front) (level_of g)
+  entries_below n g h =
+      let map_is = h.within.0.map in
+      let whole = files-level_of g (parts_of g map_is.file_map) in
+      all_entries (level_of g) (entries_held name r.records n g room h.within)
+      (all_listed front (level_of g) (IsLevel-level_of g map_is) (ap (λ z. list_all (λ e. is_short e.0) (below front z)) whole ∙ h.paths))
+      (subst (λ z. AllByRecursion (λ f. HeldLeaf f.1) z) (sym whole) h.held)
+
+  module _ (c n : Bytes) (mode : Mode) where
+    -- what a file names is held
+    pub file_leaf : (k : Kept) → IsEntryBelow name r room front (c, k) → kept_leaf name k ≡ (mode, n) → mode ≢ Dir → IsHeldAs r.records mode n
+    file_leaf (file x) h e d = subst HeldLeaf e h.held.0
+    file_leaf (folder g) h e d = absurd (d (ap (λ x. x.0) (sym e)))
+
+    pub file_below : (k : Kept) → kept_leaf name k ≡ (mode, n) → mode ≢ Dir → (front ++ c ∷ [], (mode, n)) ∷ [] ≡ below front (placed c (kept_map k))
+    file_below (file x) e d = ap (λ x. (front ++ c ∷ [], x) ∷ []) (sym e)
+    file_below (folder g) e d = absurd (d (ap (λ x. x.0) (sym e)))
+
+    -- a directory's tree is held
+    pub folder_tree : (k : Kept) → IsEntryBelow name r room front (c, k) → kept_leaf name k ≡ (mode, n) → mode ≡ Dir → (length c < room) × ((g : FileMap Bytes) × IsTreeBelow name r (room - length c - 1) (front ++ c ∷ []) n g)
+    folder_tree (file x) h e d = absurd (h.entry (ap (λ x. x.0) e ∙ d))
+    folder_tree (folder g) h e d = (h.entry.0, (g, record { within = subst (λ m. IsHeldWithin name r.records (room - length c - 1) m g) (ap (λ x. x.1) e) h.entry.1; paths = h.paths; held = h.held }))
+
+    pub folder_below : (most : ℕ) (k : Kept) → IsHeldEntry name r.records most (c, k) → kept_leaf name k ≡ (mode, n) → mode ≡ Dir → (g : FileMap Bytes) × IsHeldTree name r.records n g × (below (front ++ c ∷ []) g ≡ below front (placed c (kept_map k)))
+    folder_below most (file x) h e d = absurd (h (ap (λ x. x.0) e ∙ d))
+    folder_below most (folder g) h e d = (g, subst (λ m. IsHeldTree name r.records m g) (ap (λ x. x.1) e) h.1.0, below-placed front c g)
+
+-- ---- a whole tree
+
+-- a held tree, from the root
+pub whole_tree : (name : Kind → Bytes → Bytes) (r : Records) (n : Bytes) (g : FileMap Bytes) → IsHeldTree name r.records n g → AllByRecursion (λ e. IsHeldAs r.records e.1.0 e.1.1) g → IsTreeBelow name r 4095 [] n g
+whole_tree name r n g h held = record {
+  within = (h, within_all g h.map);
+  paths = ap (λ z. list_all (λ e. is_short e.0) z) (below_root g) ∙ map_short g h.map.file_map;
+  held = held;
+}
+
+module _ {A : Type 0} (r : Records) (ws : List Value) (front : Path) (names files : FileMap Bytes) (old new : Written A) (was now : Option Taken) (first last : Lines A) (result : Result (Unit {0}) ExportFault) (root : front ≡ []) (same : contents_of (named_values r.records) names ≡ files) where
+  names_are : contents_of (named_values r.records) (below front names) ≡ files
+  names_are = ap (contents_of (named_values r.records)) (ap (λ p. below p names) root ∙ below_root names) ∙ same
+
+  -- the blobs of all files went out
+  pub adds_gathered : Gathers r ws (below front names) old new was now first last result → Adds r (with_blobs ws (contents files)) (items_of (blob_commands ws (contents files))) old new was now result
+  adds_gathered h = subst (λ fs. Adds r (with_blobs ws (contents fs)) (items_of (blob_commands ws (contents fs))) old new was now result) names_are (by result h)
+    where
+      by : (result : Result (Unit {0}) ExportFault) → Gathers r ws (below front names) old new was now first last result → Adds r (with_blobs ws (bytes_in (named_values r.records) (below front names))) (items_of (blob_commands ws (bytes_in (named_values r.records) (below front names)))) old new was now result
+      by (Ok x) k = k.adds
+      by (Err e) k = k
+
+  -- and their lines are all that is gathered
+  pub text_gathered : first.text.items ≡ [] → Gathers r ws (below front names) old new was now first last result → OnOk result (last.text.items ≡ items_text (file_items (with_blobs ws (contents files)) files))
+  text_gathered none h = by result h
+    where
+      by : (result : Result (Unit {0}) ExportFault) → Gathers r ws (below front names) old new was now first last result → OnOk result (last.text.items ≡ items_text (file_items (with_blobs ws (contents files)) files))
+      by (Ok x) k = k.text ∙ ap (λ t. t ++ lines_text (named_values r.records) (with_blobs ws (bytes_in (named_values r.records) (below front names))) (below front names)) none ∙ ap (λ fs. items_text (file_items (with_blobs ws (contents fs)) fs)) names_are
+      by (Err e) k = tt

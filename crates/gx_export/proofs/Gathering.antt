@@ -1,5 +1,5 @@
 -- The blobs and the lines of files, gathered one after the other.
-use Rattle.std.proofs.Common.{◌≡◌, ◌≢◌, ◌++◌, ℕ, ◌-◌, ◌<◌, suc, Bool, true, false, cond, [], ◌∷◌, List, length, Option, Result, Ok, Err, refl, sym, ap, ◌∙◌, subst, append_assoc, append-nil}
+use Rattle.std.proofs.Common.{◌≡◌, ◌≢◌, ◌++◌, ℕ, ◌-◌, ◌<◌, suc, Bool, true, false, cond, [], ◌∷◌, List, length, slice_range, drop, Option, Some, Result, Ok, Err, refl, sym, ap, ◌∙◌, subst, append_assoc, append-nil}
 use Rattle.std.specs.Prelude.{◌||◌}
 use Rattle.std.specs.Result.{OnOk}
 use Rattle.std.specs.List.{list_all, AllByRecursion}
@@ -17,7 +17,8 @@ use Rattle.gx_model.specs.Objects.{Entry as TreeEntry, hex}
 use Rattle.gx_model.specs.Paths.{Path, is_short, path_text, printed}
 use Rattle.gx_model.specs.Sound.{IsHeldAs}
 use Rattle.gx_model.specs.Texts.{Bytes}
-use Rattle.gx_model.specs.Values.{Value, blob_value, same_value}
+use Rattle.gx_model.specs.Values.{Commit, Value, blob_value, commit_value, same_value}
+use Rattle.gx_model.specs.Commands.{Blob}
 use Rattle.gx_model.proofs.SameValues.{same_value_tells}
 use Rattle.gx_model.proofs.FileMapEdits.{parts_of}
 use Rattle.gx_model.proofs.OneTree.{all_left, all_right}
@@ -29,25 +30,23 @@ use Rattle.gx_tree.specs.Writes.{kept_leaf}
 use Rattle.gx_tree.proofs.HeldLevels.{IsLoading, IsNext, entries_held, within_all}
 use Rattle.gx_tree.proofs.LevelsOf.{IsLevel-level_of, files-level_of, level_of}
 use Rattle.gx_tree.proofs.Listed.{IsListed, all_listed, below-placed, below_root, map_short}
-use Rattle.gx_export.specs.FileTexts.{Gathers, IsEntryBelow, IsGathered, IsTreeBelow, bytes_in, lines_text}
+use Rattle.gx_export.specs.FileTexts.{AreKept, AreWritten, Gathers, IsEntryBelow, IsGathered, IsKept, IsLinesOf, IsTreeBelow, StandsIn, bytes_in, lines_text}
 use Rattle.gx_export.specs.Marks.{Adds, HasWritten}
 use Rattle.gx_export.specs.Outputs.{Stops, Writes}
 use Rattle.gx_export.specs.Texts.{file_items, file_line, items_of, items_text}
 use Rattle.gx_export.specs.declared.fault.ExportFault.{ExportFault}
 use Rattle.gx_export.specs.declared.fault.ExportFault.TheVariants.{OutOfMemory}
+use Rattle.gx_export.specs.declared.lines.Directory.{Directory}
 use Rattle.gx_export.specs.declared.lines.Lines.{Lines}
 use Rattle.gx_export.specs.declared.written.Written.{Written}
 use Rattle.gx_export.proofs.BlobLists.{blobs_append, blobs_sooner, bytes_append, next_blobs, one_bytes}
 use Rattle.gx_export.proofs.CommitLines.{file_dataref}
+use Rattle.gx_export.proofs.Keeping.{all_mapped, some_mapped}
 use Rattle.gx_export.proofs.FileLines.{lines_append, one_line}
 use Rattle.gx_export.proofs.Numbering.{adds_nothing}
 use Rattle.gx_export.proofs.Writing.{items_append}
 
 -- ---- what was written keeps its mark
-
--- each of these blobs was written
-abbrev pub AreWritten : List Value → List Bytes → Type 0
-AreWritten ws xs = AllByRecursion (λ x. is_in ws (blob_value x) ≡ true) xs
 
 -- a value that wasn't written is another one than one that was
 apart : (ws : List Value) (u v : Value) → is_in ws u ≡ false → is_in ws v ≡ true → same_value u v ≡ false
@@ -104,14 +103,14 @@ all_written ws (x ∷ xs) = ((still (with_blobs ws (x ∷ [])) xs (blob_value x)
 module _ (named : Named) (ws us : List Value) where
   -- a mark that was given stays
   abbrev pub Keeps : Type 0
-  Keeps = (v : Value) → is_in ws v ≡ true → number_in us v ≡ number_in ws v
+  Keeps = (x : Bytes) → is_in ws (blob_value x) ≡ true → (is_in us (blob_value x) ≡ true) × (number_in us (blob_value x) ≡ number_in ws (blob_value x))
 
   line_stays : (path : Path) (mode : Mode) (n : Bytes) (es : FileMap Bytes) → Keeps → (AreWritten ws (bytes_in named es) → lines_text named us es ≡ lines_text named ws es) → AreWritten ws (bytes_in named ((path, (mode, n)) ∷ es))
       → lines_text named us ((path, (mode, n)) ∷ es) ≡ lines_text named ws ((path, (mode, n)) ∷ es)
-  line_stays path File n es k ih h = let e = k (blob_value (content_of named File n)) h.0 in let rest = ih h.1 in λ i. item_text (file_line File (mark_text (e i)) (printed (path_text path))) ++ rest i
-  line_stays path Exec n es k ih h = let e = k (blob_value (content_of named Exec n)) h.0 in let rest = ih h.1 in λ i. item_text (file_line Exec (mark_text (e i)) (printed (path_text path))) ++ rest i
-  line_stays path Link n es k ih h = let e = k (blob_value (content_of named Link n)) h.0 in let rest = ih h.1 in λ i. item_text (file_line Link (mark_text (e i)) (printed (path_text path))) ++ rest i
-  line_stays path Dir n es k ih h = let e = k (blob_value (content_of named Dir n)) h.0 in let rest = ih h.1 in λ i. item_text (file_line Dir (mark_text (e i)) (printed (path_text path))) ++ rest i
+  line_stays path File n es k ih h = let e = (k (content_of named File n) h.0).1 in let rest = ih h.1 in λ i. item_text (file_line File (mark_text (e i)) (printed (path_text path))) ++ rest i
+  line_stays path Exec n es k ih h = let e = (k (content_of named Exec n) h.0).1 in let rest = ih h.1 in λ i. item_text (file_line Exec (mark_text (e i)) (printed (path_text path))) ++ rest i
+  line_stays path Link n es k ih h = let e = (k (content_of named Link n) h.0).1 in let rest = ih h.1 in λ i. item_text (file_line Link (mark_text (e i)) (printed (path_text path))) ++ rest i
+  line_stays path Dir n es k ih h = let e = (k (content_of named Dir n) h.0).1 in let rest = ih h.1 in λ i. item_text (file_line Dir (mark_text (e i)) (printed (path_text path))) ++ rest i
   line_stays path Gitlink n es k ih h = ap (λ rest. item_text (file_line Gitlink (hex n) (printed (path_text path))) ++ rest) (ih h)
 
   -- the lines of files whose blobs were written stay
@@ -119,12 +118,51 @@ module _ (named : Named) (ws us : List Value) where
   lines_stay [] k h = refl
   lines_stay (e ∷ es) k h = line_stays e.0 e.1.0 e.1.1 es k (lines_stay es k) h
 
+written_stay : (ws us : List Value) (xs : List Bytes) → ((x : Bytes) → is_in ws (blob_value x) ≡ true → (is_in us (blob_value x) ≡ true) × (number_in us (blob_value x) ≡ number_in ws (blob_value x))) → AreWritten ws xs → AreWritten us xs
+written_stay ws us [] k h = tt
+written_stay ws us (x ∷ xs) k h = ((k x h.0).0, written_stay ws us xs k h.1)
+
+-- so what is kept is kept
+module _ (name : Kind → Bytes → Bytes) (r : Records) (ws us : List Value) (k : Keeps [] ws us) where
+  lines_still : (names : FileMap Bytes) (text : Bytes) → IsLinesOf r ws names text → IsLinesOf r us names text
+  lines_still names text l = record {
+    lines = l.lines ∙ sym (lines_stay (named_values r.records) ws us names k l.written);
+    written = written_stay ws us (bytes_in (named_values r.records) names) k l.written;
+  }
+
+  stands_still : (text : Bytes) (a b : ℕ) (path tree : Bytes) → StandsIn name r ws text a b path tree → StandsIn name r us text a b path tree
+  stands_still text a b path tree s = record { order = s.order; within = s.within; lines = λ front g p h. lines_still (below front g) (slice_range text a b) (s.lines front g p h) }
+
+  module _ {A : Type 0} where
+    all_still : (text : Bytes) (ds : List (Directory A)) → AllByRecursion (IsKept name r ws text) ds → AllByRecursion (IsKept name r us text) ds
+    all_still text ds = all_mapped (IsKept name r ws text) (IsKept name r us text) ds (λ d. some_mapped (λ t. StandsIn name r ws text d.start d.end d.path.items t.bytes) (λ t. StandsIn name r us text d.start d.end d.path.items t.bytes) d.tree (λ t. stands_still text d.start d.end d.path.items t.bytes))
+
+    pub kept_still : (lines : Lines A) → AreKept name r ws lines → AreKept name r us lines
+    kept_still lines h = record { now = all_still lines.text.items lines.directories.items h.now; earlier = all_still lines.earlier.items lines.left.items h.earlier }
+
+-- after more blobs
+pub kept_after : {A : Type 0} (name : Kind → Bytes → Bytes) (r : Records) (ws : List Value) (xs : List Bytes) (lines : Lines A) → AreKept name r ws lines → AreKept name r (with_blobs ws xs) lines
+kept_after name r ws xs = kept_still name r ws (with_blobs ws xs) (λ x h. still ws xs (blob_value x) h)
+
+-- after a commit
+pub kept_commit : {A : Type 0} (name : Kind → Bytes → Bytes) (r : Records) (ws : List Value) (c : Commit) (lines : Lines A) → AreKept name r ws lines → AreKept name r (commit_value c ∷ ws) lines
+kept_commit name r ws c = kept_still name r ws (commit_value c ∷ ws) (λ x h. (h, refl))
+
+-- blobs that were written don't go out again
+skipped : (ws : List Value) (xs : List Bytes) → AreWritten ws xs → (with_blobs ws xs ≡ ws) × (blob_commands ws xs ≡ [])
+skipped ws [] h = (refl, refl)
+skipped ws (x ∷ xs) h =
+    let rest = skipped ws xs h.1 in (
+      ap (λ b. with_blobs (cond b ws (blob_value x ∷ ws)) xs) h.0 ∙ rest.0,
+      ap (λ b. cond b (blob_commands ws xs) (Blob (record { mark = Some (suc (length ws)); bytes = x }) ∷ blob_commands (blob_value x ∷ ws) xs)) h.0 ∙ rest.1,
+    )
+
 text_append : (named : Named) (ws : List Value) (xs ys : FileMap Bytes) → lines_text named ws (xs ++ ys) ≡ lines_text named ws xs ++ lines_text named ws ys
 text_append named ws xs ys = ap items_text (lines_append named ws xs ys) ∙ items_append (file_items ws (contents_of named xs)) (file_items ws (contents_of named ys))
 
 -- ---- files behind others
 
-module _ {A : Type 0} (r : Records) (ws : List Value) (xs ys : FileMap Bytes) (old mid new : Written A) (was between now : Option Taken) (first next last : Lines A) where
+module _ {A : Type 0} (name : Kind → Bytes → Bytes) (r : Records) (ws : List Value) (xs ys : FileMap Bytes) (old mid new : Written A) (was between now : Option Taken) (first next last : Lines A) where
   abbrev named : Named
   named = named_values r.records
 
@@ -137,21 +175,22 @@ module _ {A : Type 0} (r : Records) (ws : List Value) (xs ys : FileMap Bytes) (o
   both_lines : lines_text named us xs ++ lines_text named (with_blobs us (bytes_in named ys)) ys ≡ lines_text named (with_blobs us (bytes_in named ys)) (xs ++ ys)
   both_lines =
       let vs = with_blobs us (bytes_in named ys) in
-      let stay = lines_stay named us vs xs (λ v h. (still us (bytes_in named ys) v h).1) (all_written ws (bytes_in named xs)) in
+      let stay = lines_stay named us vs xs (λ x h. still us (bytes_in named ys) (blob_value x) h) (all_written ws (bytes_in named xs)) in
       ap (λ t. t ++ lines_text named vs ys) (sym stay) ∙ sym (text_append named vs xs ys)
 
   both_add : (result : Result (Unit {0}) ExportFault) → Adds r us (items_of (blob_commands ws (bytes_in named xs))) old mid was between (Ok tt) → Adds r (with_blobs us (bytes_in named ys)) (items_of (blob_commands us (bytes_in named ys))) mid new between now result
       → Adds r (with_blobs ws (bytes_in named (xs ++ ys))) (items_of (blob_commands ws (bytes_in named (xs ++ ys)))) old new was now result
   both_add result h k = subst (λ bs. Adds r (with_blobs ws bs) (items_of (blob_commands ws bs)) old new was now result) (sym (bytes_append named xs ys)) (next_blobs r ws (bytes_in named xs) (bytes_in named ys) old mid new was between now result h k)
 
-  pub gathers_next : IsGathered r ws xs old mid was between first next → IsGathered r us ys mid new between now next last → IsGathered r ws (xs ++ ys) old new was now first last
+  pub gathers_next : IsGathered name r ws xs old mid was between first next → IsGathered name r us ys mid new between now next last → IsGathered name r ws (xs ++ ys) old new was now first last
   gathers_next h k = record {
     adds = both_add (Ok tt) h.adds k.adds;
     text = k.text ∙ ap (λ t. t ++ lines_text named (with_blobs us (bytes_in named ys)) ys) h.text ∙ append_assoc first.text.items (lines_text named us xs) (lines_text named (with_blobs us (bytes_in named ys)) ys)
         ∙ ap (λ t. first.text.items ++ t) (both_lines ∙ ap (λ vs. lines_text named vs (xs ++ ys)) both_bytes);
+    kept = subst (λ vs. AreKept name r vs last) both_bytes k.kept;
   }
 
-  pub gathers_stop : (e : ExportFault) → IsGathered r ws xs old mid was between first next → Stops mid.bytes between now (items_text (items_of (blob_commands us (bytes_in named ys)))) e → Stops old.bytes was now (items_text (items_of (blob_commands ws (bytes_in named (xs ++ ys))))) e
+  pub gathers_stop : (e : ExportFault) → IsGathered name r ws xs old mid was between first next → Stops mid.bytes between now (items_text (items_of (blob_commands us (bytes_in named ys)))) e → Stops old.bytes was now (items_text (items_of (blob_commands ws (bytes_in named (xs ++ ys))))) e
   gathers_stop e h k = both_add (Err e) h.adds k
 
 pub gathers_sooner : (named : Named) (ws : List Value) (xs ys : FileMap Bytes) (before : ℕ) (was now : Option Taken) (e : ExportFault) → Stops before was now (items_text (items_of (blob_commands ws (bytes_in named xs)))) e → Stops before was now (items_text (items_of (blob_commands ws (bytes_in named (xs ++ ys))))) e
@@ -161,17 +200,31 @@ gathers_sooner named ws xs ys before was now e h = subst (λ bs. Stops before wa
 pub stops_last : (before after : ℕ) (was now : Option Taken) (text : Bytes) → Writes before after was now text (Ok tt) → Stops before was now text OutOfMemory
 stops_last before after was now text h = (text, [], sym (append-nil text), h.2)
 
+drop_front : (xs ys : Bytes) → drop (length xs) (xs ++ ys) ≡ ys
+drop_front [] ys = refl
+drop_front (x ∷ xs) ys = drop_front xs ys
+
+-- what was gathered are the last lines
+pub lines_gathered : {A : Type 0} (name : Kind → Bytes → Bytes) (r : Records) (ws : List Value) (names : FileMap Bytes) (old new : Written A) (was now : Option Taken) (first last : Lines A) (start : ℕ) → length first.text.items ≡ start → IsGathered name r ws names old new was now first last
+    → IsLinesOf r (with_blobs ws (bytes_in (named_values r.records) names)) names (drop start last.text.items)
+lines_gathered name r ws names old new was now first last start e k =
+    let lines = lines_text (named_values r.records) (with_blobs ws (bytes_in (named_values r.records) names)) names in
+    record {
+      lines = ap (drop start) k.text ∙ ap (λ n. drop n (first.text.items ++ lines)) (sym e) ∙ drop_front first.text.items lines;
+      written = all_written ws (bytes_in (named_values r.records) names);
+    }
+
 -- ---- one file
 
-module _ {A : Type 0} (r : Records) (ws : List Value) (path : Path) (mode : Mode) (n : Bytes) (old new : Written A) (was now : Option Taken) (first last : Lines A) where
+module _ {A : Type 0} (name : Kind → Bytes → Bytes) (r : Records) (ws : List Value) (path : Path) (mode : Mode) (n : Bytes) (old new : Written A) (was now : Option Taken) (first last : Lines A) where
   abbrev here : FileMap Bytes
   here = (path, (mode, n)) ∷ []
 
   -- a gitlink has no blob
-  pub gathers_gitlink : mode ≡ Gitlink → HasWritten r ws old → last.text.items ≡ first.text.items ++ items_text (file_line Gitlink (hex n) (printed (path_text path)) ∷ []) → IsGathered r ws here old old was was first last
-  gathers_gitlink e h k =
-      let link : IsGathered r ws ((path, (Gitlink, n)) ∷ []) old old was was first last = record { adds = adds_nothing r ws old was h; text = k } in
-      subst (λ m. IsGathered r ws ((path, (m, n)) ∷ []) old old was was first last) (sym e) link
+  pub gathers_gitlink : mode ≡ Gitlink → HasWritten r ws old → last.text.items ≡ first.text.items ++ items_text (file_line Gitlink (hex n) (printed (path_text path)) ∷ []) → AreKept name r ws last → IsGathered name r ws here old old was was first last
+  gathers_gitlink e h k kept =
+      let link : IsGathered name r ws ((path, (Gitlink, n)) ∷ []) old old was was first last = record { adds = adds_nothing r ws old was h; text = k; kept = kept } in
+      subst (λ m. IsGathered name r ws ((path, (m, n)) ∷ []) old old was was first last) (sym e) link
 
   module _ (link : mode ≢ Gitlink) (dir : mode ≢ Dir) where
     bytes_here : bytes_in (named_values r.records) here ≡ bytes_of_blob (value_of_name r.records n) ∷ []
@@ -180,8 +233,8 @@ module _ {A : Type 0} (r : Records) (ws : List Value) (path : Path) (mode : Mode
     -- another file's blob goes out
     pub gathers_file : (mark : ℕ) → Adds r (with_blobs ws (bytes_of_blob (value_of_name r.records n) ∷ [])) (items_of (blob_commands ws (bytes_of_blob (value_of_name r.records n) ∷ []))) old new was now (Ok tt)
         → mark ≡ number_in (with_blobs ws (bytes_of_blob (value_of_name r.records n) ∷ [])) (blob_value (bytes_of_blob (value_of_name r.records n)))
-        → last.text.items ≡ first.text.items ++ items_text (file_line mode (mark_text mark) (printed (path_text path)) ∷ []) → IsGathered r ws here old new was now first last
-    gathers_file mark adds m text =
+        → last.text.items ≡ first.text.items ++ items_text (file_line mode (mark_text mark) (printed (path_text path)) ∷ []) → AreKept name r ws last → IsGathered name r ws here old new was now first last
+    gathers_file mark adds m text kept =
         let named = named_values r.records in
         let x = bytes_of_blob (value_of_name r.records n) in
         let us = with_blobs ws (x ∷ []) in
@@ -190,6 +243,7 @@ module _ {A : Type 0} (r : Records) (ws : List Value) (path : Path) (mode : Mode
         record {
           adds = subst (λ bs. Adds r (with_blobs ws bs) (items_of (blob_commands ws bs)) old new was now (Ok tt)) (sym bytes_here) adds;
           text = text ∙ ap (λ t. first.text.items ++ t) (lines ∙ ap (λ bs. lines_text named (with_blobs ws bs) here) (sym bytes_here));
+          kept = kept_after name r ws (bytes_in named here) last kept;
         }
 
     pub file_stops : (e : ExportFault) → Stops old.bytes was now (items_text (items_of (blob_commands ws (bytes_of_blob (value_of_name r.records n) ∷ [])))) e → Stops old.bytes was now (items_text (items_of (blob_commands ws (bytes_in (named_values r.records) here)))) e
@@ -209,20 +263,31 @@ files_more front done c k =
 pub record IsWalking {A : Type 0} (name : Kind → Bytes → Bytes) (r : Records) (ws : List Value) (front : Path) (all : Level) (left : List TreeEntry) (old new : Written A) (was now : Option Taken) (first last : Lines A) : Type 0 where
   pub done : Level
   pub loading : IsLoading name all left done
-  pub gathered : IsGathered r ws (below front (files done)) old new was now first last
+  pub gathered : IsGathered name r ws (below front (files done)) old new was now first last
 
-pub nothing_gathered : {A : Type 0} (r : Records) (ws : List Value) (written : Written A) (was : Option Taken) (lines : Lines A) → HasWritten r ws written → IsGathered r ws [] written written was was lines lines
-nothing_gathered r ws written was lines h = record { adds = adds_nothing r ws written was h; text = sym (append-nil lines.text.items) }
+pub nothing_gathered : {A : Type 0} (name : Kind → Bytes → Bytes) (r : Records) (ws : List Value) (written : Written A) (was : Option Taken) (lines : Lines A) → HasWritten r ws written → AreKept name r ws lines → IsGathered name r ws [] written written was was lines lines
+nothing_gathered name r ws written was lines h kept = record { adds = adds_nothing r ws written was h; text = sym (append-nil lines.text.items); kept = kept }
+
+-- files whose blobs were written, and whose lines are there
+pub gathered_again : {A : Type 0} (name : Kind → Bytes → Bytes) (r : Records) (ws : List Value) (names : FileMap Bytes) (written : Written A) (was : Option Taken) (first last : Lines A) (lines : Bytes) → HasWritten r ws written → last.text.items ≡ first.text.items ++ lines → IsLinesOf r ws names lines → AreKept name r ws last → IsGathered name r ws names written written was was first last
+gathered_again name r ws names written was first last lines h e l kept =
+    let named = named_values r.records in
+    let s = skipped ws (bytes_in named names) l.written in
+    record {
+      adds = subst (λ us. Adds r us (items_of (blob_commands ws (bytes_in named names))) written written was was (Ok tt)) (sym s.0) (subst (λ cs. Adds r ws (items_of cs) written written was was (Ok tt)) (sym s.1) (adds_nothing r ws written was h));
+      text = e ∙ ap (λ t. first.text.items ++ t) (l.lines ∙ ap (λ us. lines_text named us names) (sym s.0));
+      kept = kept_after name r ws (bytes_in named names) last kept;
+    }
 
 module _ {A : Type 0} (name : Kind → Bytes → Bytes) (r : Records) (ws : List Value) (front : Path) (all : Level) (before left : List TreeEntry) (e : TreeEntry) (P : Bytes × Kept → Type 0) (old mid new : Written A) (was between now : Option Taken) (first next last : Lines A) where
   module _ (w : IsWalking name r ws front all before old mid was between first next) (n : IsNext name P all e left w.done) where
     -- the files of one entry more
-    pub walking_next : IsGathered r (with_blobs ws (bytes_in (named_values r.records) (below front (files w.done)))) (below front (placed e.component (kept_map n.kept))) mid new between now next last → IsWalking name r ws front all left old new was now first last
+    pub walking_next : IsGathered name r (with_blobs ws (bytes_in (named_values r.records) (below front (files w.done)))) (below front (placed e.component (kept_map n.kept))) mid new between now next last → IsWalking name r ws front all left old new was now first last
     walking_next k = record {
       done = w.done ++ (e.component, n.kept) ∷ [];
       loading = n.more (e.component, n.kept) refl;
-      gathered = subst (λ fs. IsGathered r ws fs old new was now first last) (sym (files_more front w.done e.component n.kept))
-          (gathers_next r ws (below front (files w.done)) (below front (placed e.component (kept_map n.kept))) old mid new was between now first next last w.gathered k);
+      gathered = subst (λ fs. IsGathered name r ws fs old new was now first last) (sym (files_more front w.done e.component n.kept))
+          (gathers_next name r ws (below front (files w.done)) (below front (placed e.component (kept_map n.kept))) old mid new was between now first next last w.gathered k);
     }
 
     -- or the export stops within them
@@ -231,7 +296,7 @@ module _ {A : Type 0} (name : Kind → Bytes → Bytes) (r : Records) (ws : List
     walking_stops f fault whole k =
         let named = named_values r.records in
         let l = n.more (e.component, n.kept) refl in
-        let here = gathers_stop r ws (below front (files w.done)) (below front (placed e.component (kept_map n.kept))) old mid new was between now first next last fault w.gathered k in
+        let here = gathers_stop name r ws (below front (files w.done)) (below front (placed e.component (kept_map n.kept))) old mid new was between now first next last fault w.gathered k in
         let done = w.done ++ (e.component, n.kept) ∷ [] in
         let these = subst (λ fs. Stops old.bytes was now (items_text (items_of (blob_commands ws (bytes_in named fs)))) fault) (sym (files_more front w.done e.component n.kept)) here in
         let parts : below front (files done) ++ below front (files l.rest) ≡ below front f = sym (below_append front (files done) (files l.rest)) ∙ ap (below front) (sym (flat_map-append (λ e. placed e.0 (kept_map e.1)) done l.rest) ∙ ap files (sym l.split) ∙ whole) in
@@ -292,22 +357,30 @@ whole_tree name r n g h held = record {
   held = held;
 }
 
-module _ {A : Type 0} (r : Records) (ws : List Value) (front : Path) (names files : FileMap Bytes) (old new : Written A) (was now : Option Taken) (first last : Lines A) (result : Result (Unit {0}) ExportFault) (root : front ≡ []) (same : contents_of (named_values r.records) names ≡ files) where
+module _ {A : Type 0} (name : Kind → Bytes → Bytes) (r : Records) (ws : List Value) (front : Path) (names files : FileMap Bytes) (old new : Written A) (was now : Option Taken) (first last : Lines A) (result : Result (Unit {0}) ExportFault) (root : front ≡ []) (same : contents_of (named_values r.records) names ≡ files) where
   names_are : contents_of (named_values r.records) (below front names) ≡ files
   names_are = ap (contents_of (named_values r.records)) (ap (λ p. below p names) root ∙ below_root names) ∙ same
 
   -- the blobs of all files went out
-  pub adds_gathered : Gathers r ws (below front names) old new was now first last result → Adds r (with_blobs ws (contents files)) (items_of (blob_commands ws (contents files))) old new was now result
+  pub adds_gathered : Gathers name r ws (below front names) old new was now first last result → Adds r (with_blobs ws (contents files)) (items_of (blob_commands ws (contents files))) old new was now result
   adds_gathered h = subst (λ fs. Adds r (with_blobs ws (contents fs)) (items_of (blob_commands ws (contents fs))) old new was now result) names_are (by result h)
     where
-      by : (result : Result (Unit {0}) ExportFault) → Gathers r ws (below front names) old new was now first last result → Adds r (with_blobs ws (bytes_in (named_values r.records) (below front names))) (items_of (blob_commands ws (bytes_in (named_values r.records) (below front names)))) old new was now result
+      by : (result : Result (Unit {0}) ExportFault) → Gathers name r ws (below front names) old new was now first last result → Adds r (with_blobs ws (bytes_in (named_values r.records) (below front names))) (items_of (blob_commands ws (bytes_in (named_values r.records) (below front names)))) old new was now result
       by (Ok x) k = k.adds
       by (Err e) k = k
 
   -- and their lines are all that is gathered
-  pub text_gathered : first.text.items ≡ [] → Gathers r ws (below front names) old new was now first last result → OnOk result (last.text.items ≡ items_text (file_items (with_blobs ws (contents files)) files))
+  pub text_gathered : first.text.items ≡ [] → Gathers name r ws (below front names) old new was now first last result → OnOk result (last.text.items ≡ items_text (file_items (with_blobs ws (contents files)) files))
   text_gathered none h = by result h
     where
-      by : (result : Result (Unit {0}) ExportFault) → Gathers r ws (below front names) old new was now first last result → OnOk result (last.text.items ≡ items_text (file_items (with_blobs ws (contents files)) files))
+      by : (result : Result (Unit {0}) ExportFault) → Gathers name r ws (below front names) old new was now first last result → OnOk result (last.text.items ≡ items_text (file_items (with_blobs ws (contents files)) files))
       by (Ok x) k = k.text ∙ ap (λ t. t ++ lines_text (named_values r.records) (with_blobs ws (bytes_in (named_values r.records) (below front names))) (below front names)) none ∙ ap (λ fs. items_text (file_items (with_blobs ws (contents fs)) fs)) names_are
+      by (Err e) k = tt
+
+  -- and they are kept
+  pub kept_gathered : Gathers name r ws (below front names) old new was now first last result → OnOk result (AreKept name r (with_blobs ws (contents files)) last)
+  kept_gathered h = by result h
+    where
+      by : (result : Result (Unit {0}) ExportFault) → Gathers name r ws (below front names) old new was now first last result → OnOk result (AreKept name r (with_blobs ws (contents files)) last)
+      by (Ok x) k = subst (λ fs. AreKept name r (with_blobs ws (contents fs)) last) names_are k.kept
       by (Err e) k = tt

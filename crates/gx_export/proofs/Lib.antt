@@ -10,3 +10,5 @@ pub mod Placing
 pub mod RefLines
 pub mod Writing
 pub mod Gathering
+pub mod Keeping
+pub mod OneMap

@@ -1,15 +1,16 @@
 -- The lines of files as they are gathered, and the trees that the files stand in.
-use Rattle.std.specs.Prelude.{◌≡◌, ◌++◌, [], ◌∷◌, ℕ, List, Option, Result, Ok, Err, IsTrue}
-use Rattle.std.specs.List.{list_all, AllByRecursion}
+use Rattle.std.specs.Prelude.{◌≡◌, ◌≤◌, ◌++◌, [], ◌∷◌, ℕ, Bool, true, false, length, List, Option, Result, Ok, Err, IfSome, IsTrue}
+use Rattle.std.specs.List.{list_all, slice_range, AllByRecursion}
 use Rattle.gx_model.specs.declared.objects.Kind.{Kind}
 use Rattle.gx_model.specs.Export.{blob_commands, contents, with_blobs}
 use Rattle.gx_model.specs.Files.{FileMap}
-use Rattle.gx_model.specs.Histories.{Records}
+use Rattle.gx_model.specs.Histories.{Records, is_in}
 use Rattle.gx_model.specs.HistoryOf.{Named, contents_of, named_values}
-use Rattle.gx_model.specs.Paths.{Path, is_component, is_short}
+use Rattle.gx_model.specs.NameMaps.{IsHeldTree}
+use Rattle.gx_model.specs.Paths.{Path, is_component, is_short, path_of}
 use Rattle.gx_model.specs.Sound.{IsHeldAs}
 use Rattle.gx_model.specs.Texts.{Bytes}
-use Rattle.gx_model.specs.Values.{Value}
+use Rattle.gx_model.specs.Values.{Value, blob_value}
 use Rattle.gx_text.specs.Devices.{Taken}
 use Rattle.gx_tree.specs.HeldTrees.{IsHeldEntry, IsHeldWithin}
 use Rattle.gx_tree.specs.Lists.{below}
@@ -18,6 +19,7 @@ use Rattle.gx_export.specs.Marks.{Adds}
 use Rattle.gx_export.specs.Outputs.{Stops}
 use Rattle.gx_export.specs.Texts.{file_items, items_of, items_text}
 use Rattle.gx_export.specs.declared.fault.ExportFault.{ExportFault}
+use Rattle.gx_export.specs.declared.lines.Directory.{Directory}
 use Rattle.gx_export.specs.declared.lines.Lines.{Lines}
 use Rattle.gx_export.specs.declared.written.Written.{Written}
 
@@ -43,12 +45,51 @@ pub record IsEntryBelow (name : Kind → Bytes → Bytes) (repository : Records)
   pub paths : IsTrue (list_all (λ f. is_short f.0) (below (front ++ e.0 ∷ []) (kept_map e.1)))
   pub held : AllByRecursion (λ f. IsHeldAs repository.records f.1.0 f.1.1) (kept_map e.1)
 
+-- ---- what is kept of the lines
+
+-- each of these blobs was written
+abbrev pub AreWritten : List Value → List Bytes → Type 0
+AreWritten ws xs = AllByRecursion (λ x. is_in ws (blob_value x) ≡ true) xs
+
+-- the lines of files whose blobs were all written
+pub record IsLinesOf (repository : Records) (ws : List Value) (names : FileMap Bytes) (text : Bytes) : Type 0 where
+  pub lines : text ≡ lines_text (named_values repository.records) ws names
+  pub written : AreWritten ws (bytes_in (named_values repository.records) names)
+
+-- within a text, from one place to another, stand the lines of the files of a tree, below a path that is written so
+pub record StandsIn (name : Kind → Bytes → Bytes) (repository : Records) (ws : List Value) (text : Bytes) (start end : ℕ) (path tree : Bytes) : Type 0 where
+  pub order : start ≤ end
+  pub within : end ≤ length text
+  pub lines : (front : Path) (g : FileMap Bytes) → path_of path ≡ Ok front → IsHeldTree name repository.records tree g → IsLinesOf repository ws (below front g) (slice_range text start end)
+
+-- of a directory without a tree nothing is claimed
+abbrev pub IsKept : {A : Type 0} → (Kind → Bytes → Bytes) → Records → List Value → Bytes → Directory A → Type 0
+IsKept name repository ws text directory = IfSome directory.tree (λ tree. StandsIn name repository ws text directory.start directory.end directory.path.items tree.bytes)
+
+-- all directories of both commits
+pub record AreKept {A : Type 0} (name : Kind → Bytes → Bytes) (repository : Records) (ws : List Value) (lines : Lines A) : Type 0 where
+  pub now : AllByRecursion (IsKept name repository ws lines.text.items) lines.directories.items
+  pub earlier : AllByRecursion (IsKept name repository ws lines.earlier.items) lines.left.items
+
+abbrev pub StaysKept : {A : Type 0} → Lines A → Lines A → Type 0
+StaysKept old new = (name : Kind → Bytes → Bytes) (repository : Records) (ws : List Value) → AreKept name repository ws old → AreKept name repository ws new
+
+-- Behind what was gathered stand the lines of a tree's files, or nothing new.
+abbrev pub TakesOver : {A : Type 0} → (Kind → Bytes → Bytes) → Records → List Value → Bytes → Bytes → Lines A → Lines A → Bool → Type 0
+TakesOver name repository ws path tree old new true =
+    AreKept name repository ws new
+    × ((front : Path) (g : FileMap Bytes) → path_of path ≡ Ok front → IsHeldTree name repository.records tree g → (lines : Bytes) × (new.text.items ≡ old.text.items ++ lines) × IsLinesOf repository ws (below front g) lines)
+TakesOver name repository ws path tree old new false = AreKept name repository ws new × (new.text ≡ old.text)
+
+-- ---- what is gathered
+
 -- the blobs of files went out, and the lines of the files stand behind those that were gathered before
-pub record IsGathered {A : Type 0} (repository : Records) (ws : List Value) (names : FileMap Bytes) (old new : Written A) (was now : Option Taken) (before after : Lines A) : Type 0 where
+pub record IsGathered {A : Type 0} (name : Kind → Bytes → Bytes) (repository : Records) (ws : List Value) (names : FileMap Bytes) (old new : Written A) (was now : Option Taken) (before after : Lines A) : Type 0 where
   pub adds : Adds repository (with_blobs ws (bytes_in (named_values repository.records) names)) (items_of (blob_commands ws (bytes_in (named_values repository.records) names))) old new was now (Ok tt)
   pub text : after.text.items ≡ before.text.items ++ lines_text (named_values repository.records) (with_blobs ws (bytes_in (named_values repository.records) names)) names
+  pub kept : AreKept name repository (with_blobs ws (bytes_in (named_values repository.records) names)) after
 
 -- Or the export stops within the blobs.
-abbrev pub Gathers : {A : Type 0} → Records → List Value → FileMap Bytes → Written A → Written A → Option Taken → Option Taken → Lines A → Lines A → Result (Unit {0}) ExportFault → Type 0
-Gathers repository ws names old new was now before after (Ok _) = IsGathered repository ws names old new was now before after
-Gathers repository ws names old new was now before after (Err fault) = Stops old.bytes was now (items_text (items_of (blob_commands ws (bytes_in (named_values repository.records) names)))) fault
+abbrev pub Gathers : {A : Type 0} → (Kind → Bytes → Bytes) → Records → List Value → FileMap Bytes → Written A → Written A → Option Taken → Option Taken → Lines A → Lines A → Result (Unit {0}) ExportFault → Type 0
+Gathers name repository ws names old new was now before after (Ok _) = IsGathered name repository ws names old new was now before after
+Gathers name repository ws names old new was now before after (Err fault) = Stops old.bytes was now (items_text (items_of (blob_commands ws (bytes_in (named_values repository.records) names)))) fault

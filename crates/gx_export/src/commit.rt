@@ -1,6 +1,6 @@
 //! One commit, after the blobs of its files that weren't written yet.
 
-ghost use Rattle.std.specs.Prelude.{◌≡◌, ◌≢◌, ◌≤◌, length, List, [], ◌∷◌, map, codes, Some};
+ghost use Rattle.std.specs.Prelude.{◌≡◌, ◌≢◌, ◌≤◌, length, List, [], ◌∷◌, map, codes, OnOk, Some};
 ghost use Rattle.std.specs.List.{slice_get, AllByRecursion};
 ghost use Rattle.gx_model.specs.declared.objects.Kind.TheVariants as kinds;
 ghost use Rattle.gx_model.specs.RepositoryLaws.{values_of};
@@ -11,6 +11,7 @@ ghost use Rattle.gx_model.specs.Sound.{Holds};
 ghost use Rattle.gx_model.specs.Texts.{Bytes};
 ghost use Rattle.gx_model.specs.Values.{Commit, Value, commit_value};
 ghost use Rattle.gx_export.specs.Faults.{NeedsNoMemory};
+ghost use Rattle.gx_export.specs.FileTexts.{AreKept};
 ghost use Rattle.gx_export.specs.Marks.{Adds, HasWritten};
 ghost use Rattle.gx_export.specs.Outputs.{Writes, most};
 ghost use Rattle.gx_export.specs.Texts.{change_lines, commit_lines, file_items, items_of, items_text, parent_items, root_items};
@@ -38,8 +39,9 @@ pub(crate) fn write_commit<N: Namer, A: Allocator + Copy, W: Sink>(
     place: usize,
 ) -> Result<(), ExportFault>
     requires commit { (made : Commit) × (slice_get (values_of repo.now.1) place ≡ Some (commit_value made)) }
-    requires written { (ws : List Value) × HasWritten repo.now.1 ws written.old }
-    ensures { (made : Commit) (ws : List Value) → slice_get (values_of repo.now.1) place ≡ Some (commit_value made) → HasWritten repo.now.1 ws written.old → Adds repo.now.1 (with_commit ws made) (items_of (one_commit ws made)) written.old written.new (W.taken sink.old) (W.taken sink.new) result }
+    requires written { (ws : List Value) × HasWritten repo.now.1 ws written.old × AreKept (N.name_of repo.now.0) repo.now.1 ws lines.old }
+    ensures adds { (made : Commit) (ws : List Value) → slice_get (values_of repo.now.1) place ≡ Some (commit_value made) → HasWritten repo.now.1 ws written.old → AreKept (N.name_of repo.now.0) repo.now.1 ws lines.old → Adds repo.now.1 (with_commit ws made) (items_of (one_commit ws made)) written.old written.new (W.taken sink.old) (W.taken sink.new) result }
+    ensures kept { (made : Commit) (ws : List Value) → slice_get (values_of repo.now.1) place ≡ Some (commit_value made) → HasWritten repo.now.1 ws written.old → AreKept (N.name_of repo.now.0) repo.now.1 ws lines.old → OnOk result (AreKept (N.name_of repo.now.0) repo.now.1 (with_commit ws made) lines.new) }
 {
     repo.sound();
     let commit = name_at(repo, place);

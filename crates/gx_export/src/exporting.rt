@@ -31,8 +31,9 @@ use std::alloc::Allocator;
 /// WriteFailed where the sink fails, or has taken 2^63 - 1 bytes of a longer text. What went to the sink stays there, and
 /// is a front of the text. So a text that went out whole is no longer than what an import reads.
 ///
-/// Cost: the text's length, for each commit that is written its trees, and for each file, parent and ref the number of
-/// records. Memory: nine bytes for each record, and one commit's files with their paths and places.
+/// Cost: the text's length, for each commit the number of its directories and of those of the commit before, for each entry
+/// of a tree that didn't stand at its path in the commit before its path's length, and for each such entry, parent and ref a
+/// look-up. Memory: nine bytes for each record, and two commits' file lines with the paths of their directories.
 /// Source: git-fast-export(1), `--full-tree`.
 pub fn export<N: Namer, A: Allocator + Copy, W: Sink>(
     alloc: A,

@@ -1,39 +1,169 @@
-//! The lines of a commit's files, which are gathered before they go out.
+//! The lines of a commit's files, which are gathered before they go out. Those of a directory that stays are taken over
+//! from the commit before.
 
-ghost use Rattle.std.specs.Prelude.{◌≡◌, ◌++◌, [], ◌∷◌, OnOk};
-ghost use Rattle.std.specs.List.{flat_map};
+ghost use Rattle.std.specs.Prelude.{◌≡◌, ◌≤◌, ◌+◌, ◌-◌, ◌++◌, [], ◌∷◌, true, length, drop, List, Ok, Some, IfOk, OnOk};
+ghost use Rattle.std.specs.List.{flat_map, slice_range};
+ghost use Rattle.gx_model.specs.declared.objects.Kind.{Kind};
 ghost use Rattle.gx_model.specs.declared.objects.Mode.TheVariants.{Gitlink};
 ghost use Rattle.gx_model.specs.Export.{mark_text, mode_digits};
+ghost use Rattle.gx_model.specs.Files.{FileMap};
+ghost use Rattle.gx_model.specs.Histories.{Records};
+ghost use Rattle.gx_model.specs.NameMaps.{IsHeldTree};
 ghost use Rattle.gx_model.specs.Objects.{hex};
-ghost use Rattle.gx_model.specs.Paths.{path_text, printed};
+ghost use Rattle.gx_model.specs.Paths.{Path, path_of, path_text, printed};
+ghost use Rattle.gx_model.specs.Texts.{Bytes};
+ghost use Rattle.gx_model.specs.Values.{Value};
+ghost use Rattle.gx_tree.specs.Lists.{below};
+ghost use Rattle.gx_export.specs.FileTexts.{AreKept, IsLinesOf, StaysKept, TakesOver};
 ghost use Rattle.gx_export.specs.Texts.{file_line, items_text};
 
 use gx_object::{Mode, Name};
 use gx_text::TreePath;
 use itoa::Buffer;
 use std::alloc::{AllocError, Allocator};
+use std::mem::{replace, swap};
 
-/// The lines of the files of one commit.
+/// A directory whose lines stand from a place to another one of a text. Before they do, no tree is known.
+#[derive(Drop)]
+pub(crate) struct Directory<A: Allocator> {
+    path: Vec<u8, A>,
+    tree: Option<Name>,
+    start: usize,
+    end: usize,
+}
+
+/// The lines of the files of one commit, and those of the commit before, each with its directories in the order in which
+/// trees lead to them. Of the latter the first `next` were passed.
 #[derive(Drop)]
 pub(crate) struct Lines<A: Allocator> {
     pub(crate) text: Vec<u8, A>,
+    directories: Vec<Directory<A>, A>,
+    earlier: Vec<u8, A>,
+    left: Vec<Directory<A>, A>,
+    next: usize,
+    alloc: A,
 }
 
 impl<A: Allocator + Copy> Lines<A> {
     /// No lines. Takes no memory.
     pub(crate) fn new(alloc: A) -> Lines<A>
-        ensures { result.text.items ≡ [] }
+        ensures { (name : Kind → Bytes → Bytes) (repository : Records) (ws : List Value) → AreKept name repository ws result }
     {
         Lines {
             text: Vec::new(alloc),
+            directories: Vec::new(alloc),
+            earlier: Vec::new(alloc),
+            left: Vec::new(alloc),
+            next: 0,
+            alloc,
         }
     }
 
     /// Begins the lines of the next commit.
     pub(crate) fn begin(&mut self)
-        ensures { self.new.text.items ≡ [] }
+        ensures text { self.new.text.items ≡ [] }
+        ensures kept { StaysKept self.old self.new }
     {
+        swap(&mut self.text, &mut self.earlier);
+        swap(&mut self.directories, &mut self.left);
         self.text.clear();
+        self.directories.clear();
+        self.next = 0;
+    }
+
+    /// Appends the lines that the directory at a path had in the commit before, where its tree is the same. What stands
+    /// below it is known then, too.
+    pub(crate) fn take_over(&mut self, path: &[u8], tree: &Name) -> Result<bool, AllocError>
+        ensures { (name : Kind → Bytes → Bytes) (repository : Records) (ws : List Value) → AreKept name repository ws self.old → IfOk result (TakesOver name repository ws path.now tree.now.bytes self.old self.new) }
+    {
+        self.pass(path);
+        if self.next >= self.left.len() {
+            return Ok(false);
+        }
+        if is_of(&self.left[self.next], path, tree) {
+            let start = self.left[self.next].start;
+            let end = self.left[self.next].end;
+            if start <= end && end <= self.earlier.len() {
+                let place = self.text.len();
+                self.text.extend_from_slice(&self.earlier[start..end])?;
+                self.carry(start, end, place)?;
+                return Ok(true);
+            }
+        }
+        Ok(false)
+    }
+
+    /// Passes the directories of the commit before that stand before a path.
+    fn pass(&mut self, path: &[u8])
+        ensures { self.new ≡ record self.old { next = self.new.next } }
+    {
+        while self.next < self.left.len() && comes_before(&self.left[self.next].path, path) {
+            self.next += 1;
+        }
+    }
+
+    /// Moves the directories whose lines stood between two places of the old text to the new one, where these lines stand
+    /// from a place on.
+    fn carry(&mut self, start: usize, end: usize, place: usize) -> Result<(), AllocError>
+        requires order { start ≤ end }
+        requires room { place + (end - start) ≤ length self.old.text.items }
+        ensures text { self.new.text ≡ self.old.text }
+        ensures kept { (name : Kind → Bytes → Bytes) (repository : Records) (ws : List Value) (before : Bytes) → self.old.text.items ≡ before ++ slice_range self.old.earlier.items start end → length before ≡ place → AreKept name repository ws self.old → OnOk result (AreKept name repository ws self.new) }
+    {
+        while self.next < self.left.len() && stands_within(&self.left[self.next], start, end) {
+            let empty = Directory {
+                path: Vec::new(self.alloc),
+                tree: None,
+                start: 0,
+                end: 0,
+            };
+            let moved = replace(&mut self.left[self.next], empty);
+            let directory = Directory {
+                path: moved.path,
+                tree: moved.tree,
+                start: place + (moved.start - start),
+                end: place + (moved.end - start),
+            };
+            self.directories.push(directory)?;
+            self.next += 1;
+        }
+        Ok(())
+    }
+
+    /// Enters the directory at a path, and answers its number.
+    pub(crate) fn open(&mut self, path: &[u8]) -> Result<usize, AllocError>
+        ensures text { self.new.text ≡ self.old.text }
+        ensures kept { OnOk result (StaysKept self.old self.new) }
+    {
+        if self.next < self.left.len() && has_path(&self.left[self.next], path) {
+            self.next += 1;
+        }
+        let place = self.directories.len();
+        let path = Vec::from_slice(self.alloc, path)?;
+        let directory = Directory {
+            path,
+            tree: None,
+            start: 0,
+            end: 0,
+        };
+        self.directories.push(directory)?;
+        Ok(place)
+    }
+
+    /// The lines of the directory with a number are those from a place on.
+    pub(crate) fn close(&mut self, number: usize, path: &[u8], tree: &Name, start: usize)
+        ensures text { self.new.text ≡ self.old.text }
+        ensures kept { (name : Kind → Bytes → Bytes) (repository : Records) (ws : List Value) → AreKept name repository ws self.old → start ≤ length self.old.text.items → ((front : Path) (g : FileMap Bytes) → path_of path.now ≡ Ok front → IsHeldTree name repository.records tree.now.bytes g → IsLinesOf repository ws (below front g) (drop start self.old.text.items)) → AreKept name repository ws self.new }
+    {
+        if number >= self.directories.len() {
+            return;
+        }
+        if has_path(&self.directories[number], path) {
+            let directory = &mut self.directories[number];
+            directory.tree = Some(*tree);
+            directory.start = start;
+            directory.end = self.text.len();
+        }
     }
 
     /// Appends the line of a file whose bytes have a mark.
@@ -43,7 +173,8 @@ impl<A: Allocator + Copy> Lines<A> {
         mark: u64,
         path: &TreePath<A>,
     ) -> Result<(), AllocError>
-        ensures { OnOk result (self.new.text.items ≡ self.old.text.items ++ items_text (file_line mode (mark_text mark) (printed (path_text path.now)) ∷ [])) }
+        ensures text { OnOk result (self.new.text.items ≡ self.old.text.items ++ items_text (file_line mode (mark_text mark) (printed (path_text path.now)) ∷ [])) }
+        ensures kept { OnOk result (StaysKept self.old self.new) }
     {
         let digits = mode_digits(mode);
         let mut number = Buffer::new();
@@ -62,7 +193,8 @@ impl<A: Allocator + Copy> Lines<A> {
 
     /// Appends the line of a gitlink.
     pub(crate) fn add_gitlink(&mut self, name: &Name, path: &TreePath<A>) -> Result<(), AllocError>
-        ensures { OnOk result (self.new.text.items ≡ self.old.text.items ++ items_text (file_line Gitlink (hex name.now.bytes) (printed (path_text path.now)) ∷ [])) }
+        ensures text { OnOk result (self.new.text.items ≡ self.old.text.items ++ items_text (file_line Gitlink (hex name.now.bytes) (printed (path_text path.now)) ∷ [])) }
+        ensures kept { OnOk result (StaysKept self.old self.new) }
     {
         let digits = name.hex();
         append_all(
@@ -71,6 +203,45 @@ impl<A: Allocator + Copy> Lines<A> {
         )?;
         end_line(&mut self.text, path)
     }
+}
+
+/// Whether a directory has this path and this tree.
+fn is_of<A: Allocator>(directory: &Directory<A>, path: &[u8], tree: &Name) -> bool
+    ensures path { result ≡ true → directory.now.path.items ≡ path.now }
+    ensures tree { result ≡ true → directory.now.tree ≡ Some tree.now }
+{
+    match directory.tree {
+        Some(known) => known == *tree && directory.path.as_slice() == path,
+        None => false,
+    }
+}
+
+/// Whether a directory has this path.
+fn has_path<A: Allocator>(directory: &Directory<A>, path: &[u8]) -> bool
+    ensures { result ≡ true → directory.now.path.items ≡ path.now }
+{
+    directory.path.as_slice() == path
+}
+
+/// Whether a directory's lines stand between two places.
+fn stands_within<A: Allocator>(directory: &Directory<A>, start: usize, end: usize) -> bool
+    ensures start { result ≡ true → start ≤ directory.now.start }
+    ensures order { result ≡ true → directory.now.start ≤ directory.now.end }
+    ensures end { result ≡ true → directory.now.end ≤ end }
+{
+    start <= directory.start && directory.start <= directory.end && directory.end <= end
+}
+
+/// Whether a directory's path comes before another one, where a slash follows both.
+fn comes_before(path: &[u8], other: &[u8]) -> bool {
+    let shared = path.len().min(other.len());
+    if path[..shared] != other[..shared] {
+        return path[..shared] < other[..shared];
+    }
+    if path.len() < other.len() {
+        return path.len() == 0 || b'/' <= other[shared];
+    }
+    path.len() > other.len() && path[shared] < b'/'
 }
 
 /// Appends a path, as it is printed, and the end of its line.

@@ -18,7 +18,7 @@ ghost use Rattle.gx_tree.specs.HeldTrees.{IsHeldEntry};
 ghost use Rattle.gx_tree.specs.Lists.{below};
 ghost use Rattle.gx_tree.specs.Nodes.{Kept, kept_map};
 ghost use Rattle.gx_tree.specs.Writes.{kept_leaf};
-ghost use Rattle.gx_export.specs.FileTexts.{Gathers, IsEntryBelow, IsTreeBelow};
+ghost use Rattle.gx_export.specs.FileTexts.{AreKept, Gathers, IsEntryBelow, IsTreeBelow};
 ghost use Rattle.gx_export.specs.Faults.{NeedsNoMemory};
 ghost use Rattle.gx_export.specs.Marks.{Adds, HasWritten};
 ghost use Rattle.gx_export.specs.Texts.{file_items, items_of, items_text};
@@ -47,9 +47,10 @@ pub(crate) fn add_files<N: Namer, A: Allocator + Copy, W: Sink>(
     commit: &Name,
 ) -> Result<(), ExportFault>
     requires held { IsHeldAs kinds.Commit repo.now.1 commit.now }
-    requires written { (ws : List Value) × HasWritten repo.now.1 ws written.old }
-    ensures adds { (ws : List Value) → HasWritten repo.now.1 ws written.old → Adds repo.now.1 (with_blobs ws (contents (files_of (commit_at repo.now.1 commit.now)))) (items_of (blob_commands ws (contents (files_of (commit_at repo.now.1 commit.now))))) written.old written.new (W.taken sink.old) (W.taken sink.new) result }
-    ensures text { (ws : List Value) → HasWritten repo.now.1 ws written.old → OnOk result (lines.new.text.items ≡ items_text (file_items (with_blobs ws (contents (files_of (commit_at repo.now.1 commit.now)))) (files_of (commit_at repo.now.1 commit.now)))) }
+    requires written { (ws : List Value) × HasWritten repo.now.1 ws written.old × AreKept (N.name_of repo.now.0) repo.now.1 ws lines.old }
+    ensures adds { (ws : List Value) → HasWritten repo.now.1 ws written.old → AreKept (N.name_of repo.now.0) repo.now.1 ws lines.old → Adds repo.now.1 (with_blobs ws (contents (files_of (commit_at repo.now.1 commit.now)))) (items_of (blob_commands ws (contents (files_of (commit_at repo.now.1 commit.now))))) written.old written.new (W.taken sink.old) (W.taken sink.new) result }
+    ensures text { (ws : List Value) → HasWritten repo.now.1 ws written.old → AreKept (N.name_of repo.now.0) repo.now.1 ws lines.old → OnOk result (lines.new.text.items ≡ items_text (file_items (with_blobs ws (contents (files_of (commit_at repo.now.1 commit.now)))) (files_of (commit_at repo.now.1 commit.now)))) }
+    ensures kept { (ws : List Value) → HasWritten repo.now.1 ws written.old → AreKept (N.name_of repo.now.0) repo.now.1 ws lines.old → OnOk result (AreKept (N.name_of repo.now.0) repo.now.1 (with_blobs ws (contents (files_of (commit_at repo.now.1 commit.now)))) lines.new) }
 {
     repo.sound();
     let view = view_of(repo, commit);
@@ -68,7 +69,7 @@ pub(crate) fn add_files<N: Namer, A: Allocator + Copy, W: Sink>(
 }
 
 /// Writes the blobs of a held tree's files that weren't written yet, and gathers the lines of the files, whose paths stand
-/// below `front` and have at most `room` bytes there.
+/// below `front` and have at most `room` bytes there. Those of a tree that stood there in the commit before are taken over.
 #[cycle(gather)]
 fn add_tree<N: Namer, A: Allocator + Copy, W: Sink>(
     alloc: A,
@@ -81,8 +82,34 @@ fn add_tree<N: Namer, A: Allocator + Copy, W: Sink>(
     room: usize,
 ) -> Result<(), ExportFault>
     requires held { (g : FileMap Bytes) × IsTreeBelow (N.name_of repo.now.0) repo.now.1 room front.now tree.now.bytes g }
-    requires written { (ws : List Value) × HasWritten repo.now.1 ws written.old }
-    ensures { (ws : List Value) (g : FileMap Bytes) → HasWritten repo.now.1 ws written.old → IsHeldTree (N.name_of repo.now.0) repo.now.1.records tree.now.bytes g → Gathers repo.now.1 ws (below front.now g) written.old written.new (W.taken sink.old) (W.taken sink.new) lines.old lines.new result }
+    requires written { (ws : List Value) × HasWritten repo.now.1 ws written.old × AreKept (N.name_of repo.now.0) repo.now.1 ws lines.old }
+    ensures { (ws : List Value) (g : FileMap Bytes) → HasWritten repo.now.1 ws written.old → IsHeldTree (N.name_of repo.now.0) repo.now.1.records tree.now.bytes g → AreKept (N.name_of repo.now.0) repo.now.1 ws lines.old → Gathers (N.name_of repo.now.0) repo.now.1 ws (below front.now g) written.old written.new (W.taken sink.old) (W.taken sink.new) lines.old lines.new result }
+{
+    if lines.take_over(front.joined(), tree)? {
+        return Ok(());
+    }
+    let start = lines.text.len();
+    let number = lines.open(front.joined())?;
+    add_entries(alloc, repo, sink, written, lines, front, tree, room)?;
+    lines.close(number, front.joined(), tree, start);
+    Ok(())
+}
+
+/// Does so for all entries of a tree.
+#[cycle(gather)]
+fn add_entries<N: Namer, A: Allocator + Copy, W: Sink>(
+    alloc: A,
+    repo: &Repo<N, A>,
+    sink: &mut W,
+    written: &mut Written<A>,
+    lines: &mut Lines<A>,
+    front: &TreePath<A>,
+    tree: &Name,
+    room: usize,
+) -> Result<(), ExportFault>
+    requires held { (g : FileMap Bytes) × IsTreeBelow (N.name_of repo.now.0) repo.now.1 room front.now tree.now.bytes g }
+    requires written { (ws : List Value) × HasWritten repo.now.1 ws written.old × AreKept (N.name_of repo.now.0) repo.now.1 ws lines.old }
+    ensures { (ws : List Value) (g : FileMap Bytes) → HasWritten repo.now.1 ws written.old → IsHeldTree (N.name_of repo.now.0) repo.now.1.records tree.now.bytes g → AreKept (N.name_of repo.now.0) repo.now.1 ws lines.old → Gathers (N.name_of repo.now.0) repo.now.1 ws (below front.now g) written.old written.new (W.taken sink.old) (W.taken sink.new) lines.old lines.new result }
 {
     let Some((_, body)) = repo.store().get(tree) else {
         unreachable!();
@@ -106,8 +133,8 @@ fn add_entry<N: Namer, A: Allocator + Copy, W: Sink>(
     room: usize,
 ) -> Result<(), ExportFault>
     requires held { (k : Kept) × IsEntryBelow (N.name_of repo.now.0) repo.now.1 room front.now (entry.now.component.now, k) × (kept_leaf (N.name_of repo.now.0) k ≡ (entry.now.mode, entry.now.name.bytes)) }
-    requires written { (ws : List Value) × HasWritten repo.now.1 ws written.old }
-    ensures { (ws : List Value) (k : Kept) → HasWritten repo.now.1 ws written.old → IsHeldEntry (N.name_of repo.now.0) repo.now.1.records 4095 (entry.now.component.now, k) → kept_leaf (N.name_of repo.now.0) k ≡ (entry.now.mode, entry.now.name.bytes) → Gathers repo.now.1 ws (below front.now (placed entry.now.component.now (kept_map k))) written.old written.new (W.taken sink.old) (W.taken sink.new) lines.old lines.new result }
+    requires written { (ws : List Value) × HasWritten repo.now.1 ws written.old × AreKept (N.name_of repo.now.0) repo.now.1 ws lines.old }
+    ensures { (ws : List Value) (k : Kept) → HasWritten repo.now.1 ws written.old → IsHeldEntry (N.name_of repo.now.0) repo.now.1.records 4095 (entry.now.component.now, k) → kept_leaf (N.name_of repo.now.0) k ≡ (entry.now.mode, entry.now.name.bytes) → AreKept (N.name_of repo.now.0) repo.now.1 ws lines.old → Gathers (N.name_of repo.now.0) repo.now.1 ws (below front.now (placed entry.now.component.now (kept_map k))) written.old written.new (W.taken sink.old) (W.taken sink.new) lines.old lines.new result }
 {
     let path = child(alloc, front, entry.component)?;
     if entry.mode != Mode::Dir {
@@ -141,8 +168,8 @@ fn add_file<N: Namer, A: Allocator + Copy, W: Sink>(
 ) -> Result<(), ExportFault>
     requires file { mode ≢ modes.Dir }
     requires held { sound.IsHeldAs repo.now.1.records mode name.now.bytes }
-    requires written { (ws : List Value) × HasWritten repo.now.1 ws written.old }
-    ensures { (ws : List Value) → HasWritten repo.now.1 ws written.old → Gathers repo.now.1 ws ((path.now, (mode, name.now.bytes)) ∷ []) written.old written.new (W.taken sink.old) (W.taken sink.new) lines.old lines.new result }
+    requires written { (ws : List Value) × HasWritten repo.now.1 ws written.old × AreKept (N.name_of repo.now.0) repo.now.1 ws lines.old }
+    ensures { (ws : List Value) → HasWritten repo.now.1 ws written.old → AreKept (N.name_of repo.now.0) repo.now.1 ws lines.old → Gathers (N.name_of repo.now.0) repo.now.1 ws ((path.now, (mode, name.now.bytes)) ∷ []) written.old written.new (W.taken sink.old) (W.taken sink.new) lines.old lines.new result }
 {
     repo.sound();
     if mode == Mode::Gitlink {

@@ -10,6 +10,8 @@ use Rattle.gx_export.specs.Marks.{Adds}
 use Rattle.gx_export.specs.Outputs.{Stops, Writes}
 use Rattle.gx_export.specs.Texts.{commit_lines, file_items, items_of, items_text, root_items}
 use Rattle.gx_export.proofs.CommitTexts.{commit_marked, lines_told, one_commit_parts, same_commit, shown_as}
+use Rattle.gx_export.specs.FileTexts.{AreKept}
+use Rattle.gx_export.proofs.Gathering.{kept_commit}
 use Rattle.gx_export.proofs.Numbering.{adds_bytes, adds_later, place_marked}
 use Rattle.gx_export.proofs.Writing.{items_sooner}
 use Rattle.gx_export.proofs.commit.write_commit.Goals as goal
@@ -31,8 +33,8 @@ add_files-requires-clause-held g c =
     let r = c.args.repo.now.1 in
     commit_name_there name namer r c.sound.ensures c.name_at-commit.result.bytes c.args.place c.requires.commit.0 c.name_at-commit.ensures.held c.name_at-commit.ensures.value c.requires.commit.1
 
-pub returns-in_err-add_files : goal.returns-in_err-add_files
-returns-in_err-add_files g c = λ made ws e h.
+pub returns-in_err-add_files-clause-adds : goal.returns-in_err-add_files-clause-adds
+returns-in_err-add_files-clause-adds g c = λ made ws e h kept.
     let name = g.N.Namer.name_of c.args.repo.now.0 in
     let namer = g.met.N.Namer.is_namer c.args.repo.now.0 in
     let r = c.args.repo.now.1 in
@@ -45,15 +47,15 @@ returns-in_err-add_files g c = λ made ws e h.
     let same = same_commit name namer r c.sound.ensures c.args.place made n e c.name_at-commit.ensures.value in
     let p = err_from_is_err_and c.from_residual.result c.from_residual.ensures.1 in
     let fault = c.in_err-add_files.field-0.0 in
-    let stop = subst (λ d. Stops c.args.written.now.bytes (taken c.args.sink.now) (taken c.add_files.new.sink) (items_text (items_of (blob_commands ws (contents (files_of d))))) fault) same (c.in_err-add_files.ensures.adds ws h) in
+    let stop = subst (λ d. Stops c.args.written.now.bytes (taken c.args.sink.now) (taken c.add_files.new.sink) (items_text (items_of (blob_commands ws (contents (files_of d))))) fault) same (c.in_err-add_files.ensures.adds ws h kept) in
     rw (p.1, p.2) (subst (λ is. Stops c.args.written.now.bytes (taken c.args.sink.now) (taken c.add_files.new.sink) (items_text is) fault) all
     (items_sooner c.args.written.now.bytes (taken c.args.sink.now) (taken c.add_files.new.sink) before (root_items (length ps) ++ lines) fault stop))
 
 pub write_root-requires : goal.write_root-requires
-write_root-requires g c = let h = c.requires.written.1 in (c.in_ok-add_files.ensures.adds c.requires.written.0 h).0.most
+write_root-requires g c = let h = c.requires.written.1 in (c.in_ok-add_files.ensures.adds c.requires.written.0 h c.requires.written.2).0.most
 
-pub returns-in_err-write_root : goal.returns-in_err-write_root
-returns-in_err-write_root g c = λ made ws e h.
+pub returns-in_err-write_root-clause-adds : goal.returns-in_err-write_root-clause-adds
+returns-in_err-write_root-clause-adds g c = λ made ws e h kept.
     let name = g.N.Namer.name_of c.args.repo.now.0 in
     let namer = g.met.N.Namer.is_namer c.args.repo.now.0 in
     let r = c.args.repo.now.1 in
@@ -66,7 +68,7 @@ returns-in_err-write_root g c = λ made ws e h.
     let all = sym (one_commit_parts ws made) in
     let us = with_blobs ws (contents (files_of made)) in
     let same = same_commit name namer r c.sound.ensures c.args.place made n e c.name_at-commit.ensures.value in
-    let blobs = subst (λ d. Adds r (with_blobs ws (contents (files_of d))) (items_of (blob_commands ws (contents (files_of d)))) c.args.written.now c.add_files.new.written (taken c.args.sink.now) (taken c.add_files.new.sink) (Ok tt)) same (c.in_ok-add_files.ensures.adds ws h) in
+    let blobs = subst (λ d. Adds r (with_blobs ws (contents (files_of d))) (items_of (blob_commands ws (contents (files_of d)))) c.args.written.now c.add_files.new.written (taken c.args.sink.now) (taken c.add_files.new.sink) (Ok tt)) same (c.in_ok-add_files.ensures.adds ws h kept) in
     let p = err_from_is_err_and c.from_residual-in_err-write_root.result c.from_residual-in_err-write_root.ensures.1 in
     let fault = c.in_err-write_root.field-0.0 in
     let stop = subst (λ n. Stops c.add_files.new.written.bytes (taken c.add_files.new.sink) (taken c.write_root.new.sink) (items_text (root_items n)) fault) s.count c.in_err-write_root.ensures.text in
@@ -83,6 +85,7 @@ write_lines-requires-clause-parents g c =
     let e = c.requires.commit.1 in
     let ws = c.requires.written.0 in
     let h = c.requires.written.1 in
+    let kept = c.requires.written.2 in
     let n = c.name_at-commit.result.bytes in
     let s = shown_as name namer r c.sound.ensures c.args.place made n c.view_of-view.result (named_map name (files_of (commit_at r c.name_at-commit.result))) e c.name_at-commit.ensures.value c.view_of-view.ensures refl in
     s.holds
@@ -96,19 +99,20 @@ write_lines-requires-clause-written g c =
     let e = c.requires.commit.1 in
     let ws = c.requires.written.0 in
     let h = c.requires.written.1 in
+    let kept = c.requires.written.2 in
     let taken = g.W.Sink.taken in
     let n = c.name_at-commit.result.bytes in
     let s = shown_as name namer r c.sound.ensures c.args.place made n c.view_of-view.result (named_map name (files_of (commit_at r c.name_at-commit.result))) e c.name_at-commit.ensures.value c.view_of-view.ensures refl in
     let us = with_blobs ws (contents (files_of made)) in
     let same = same_commit name namer r c.sound.ensures c.args.place made n e c.name_at-commit.ensures.value in
-    let blobs = subst (λ d. Adds r (with_blobs ws (contents (files_of d))) (items_of (blob_commands ws (contents (files_of d)))) c.args.written.now c.add_files.new.written (taken c.args.sink.now) (taken c.add_files.new.sink) (Ok tt)) same (c.in_ok-add_files.ensures.adds ws h) in
+    let blobs = subst (λ d. Adds r (with_blobs ws (contents (files_of d))) (items_of (blob_commands ws (contents (files_of d)))) c.args.written.now c.add_files.new.written (taken c.args.sink.now) (taken c.add_files.new.sink) (Ok tt)) same (c.in_ok-add_files.ensures.adds ws h kept) in
     let mid = record c.add_files.new.written { bytes = c.write_root.new.written } in
     let reset = subst (λ n. Writes c.add_files.new.written.bytes c.write_root.new.written (taken c.add_files.new.sink) (taken c.write_root.new.sink) (items_text (root_items n)) (Ok tt)) s.count c.in_ok-write_root.ensures.text in
     let root = adds_bytes r us (root_items (length (list_of (parents_of made)))) c.add_files.new.written mid (taken c.add_files.new.sink) (taken c.write_root.new.sink) (Ok tt) blobs.0 (λ _. c.add_files.new.written.count) (λ _. c.add_files.new.written.marks.items) reset in
     (us, root.0)
 
-pub returns-in_err-write_lines : goal.returns-in_err-write_lines
-returns-in_err-write_lines g c = λ made ws e h.
+pub returns-in_err-write_lines-clause-adds : goal.returns-in_err-write_lines-clause-adds
+returns-in_err-write_lines-clause-adds g c = λ made ws e h kept.
     let name = g.N.Namer.name_of c.args.repo.now.0 in
     let namer = g.met.N.Namer.is_namer c.args.repo.now.0 in
     let r = c.args.repo.now.1 in
@@ -121,11 +125,11 @@ returns-in_err-write_lines g c = λ made ws e h.
     let all = sym (one_commit_parts ws made) in
     let us = with_blobs ws (contents (files_of made)) in
     let same = same_commit name namer r c.sound.ensures c.args.place made n e c.name_at-commit.ensures.value in
-    let blobs = subst (λ d. Adds r (with_blobs ws (contents (files_of d))) (items_of (blob_commands ws (contents (files_of d)))) c.args.written.now c.add_files.new.written (taken c.args.sink.now) (taken c.add_files.new.sink) (Ok tt)) same (c.in_ok-add_files.ensures.adds ws h) in
+    let blobs = subst (λ d. Adds r (with_blobs ws (contents (files_of d))) (items_of (blob_commands ws (contents (files_of d)))) c.args.written.now c.add_files.new.written (taken c.args.sink.now) (taken c.add_files.new.sink) (Ok tt)) same (c.in_ok-add_files.ensures.adds ws h kept) in
     let mid = record c.add_files.new.written { bytes = c.write_root.new.written } in
     let reset = subst (λ n. Writes c.add_files.new.written.bytes c.write_root.new.written (taken c.add_files.new.sink) (taken c.write_root.new.sink) (items_text (root_items n)) (Ok tt)) s.count c.in_ok-write_root.ensures.text in
     let root = adds_bytes r us (root_items (length (list_of (parents_of made)))) c.add_files.new.written mid (taken c.add_files.new.sink) (taken c.write_root.new.sink) (Ok tt) blobs.0 (λ _. c.add_files.new.written.count) (λ _. c.add_files.new.written.marks.items) reset in
-    let text = c.deref.ensures.value ∙ subst (λ d. c.add_files.new.lines.text.items ≡ items_text (file_items (with_blobs ws (contents (files_of d))) (files_of d))) same (c.in_ok-add_files.ensures.text ws h) in
+    let text = c.deref.ensures.value ∙ subst (λ d. c.add_files.new.lines.text.items ≡ items_text (file_items (with_blobs ws (contents (files_of d))) (files_of d))) same (c.in_ok-add_files.ensures.text ws h kept) in
     let lines_are = lines_told name namer r c.sound.ensures made c.view_of-view.result (named_map name (files_of (commit_at r c.name_at-commit.result))) s us in
     let p = err_from_is_err_and c.from_residual-in_err-write_lines.result c.from_residual-in_err-write_lines.ensures.1 in
     let fault = c.in_err-write_lines.field-0.0 in
@@ -143,16 +147,17 @@ mark-requires-clause-place g c =
     let e = c.requires.commit.1 in
     let ws = c.requires.written.0 in
     let h = c.requires.written.1 in
+    let kept = c.requires.written.2 in
     let taken = g.W.Sink.taken in
     let n = c.name_at-commit.result.bytes in
     let s = shown_as name namer r c.sound.ensures c.args.place made n c.view_of-view.result (named_map name (files_of (commit_at r c.name_at-commit.result))) e c.name_at-commit.ensures.value c.view_of-view.ensures refl in
     let us = with_blobs ws (contents (files_of made)) in
     let same = same_commit name namer r c.sound.ensures c.args.place made n e c.name_at-commit.ensures.value in
-    let blobs = subst (λ d. Adds r (with_blobs ws (contents (files_of d))) (items_of (blob_commands ws (contents (files_of d)))) c.args.written.now c.add_files.new.written (taken c.args.sink.now) (taken c.add_files.new.sink) (Ok tt)) same (c.in_ok-add_files.ensures.adds ws h) in
+    let blobs = subst (λ d. Adds r (with_blobs ws (contents (files_of d))) (items_of (blob_commands ws (contents (files_of d)))) c.args.written.now c.add_files.new.written (taken c.args.sink.now) (taken c.add_files.new.sink) (Ok tt)) same (c.in_ok-add_files.ensures.adds ws h kept) in
     let mid = record c.add_files.new.written { bytes = c.write_root.new.written } in
     let reset = subst (λ n. Writes c.add_files.new.written.bytes c.write_root.new.written (taken c.add_files.new.sink) (taken c.write_root.new.sink) (items_text (root_items n)) (Ok tt)) s.count c.in_ok-write_root.ensures.text in
     let root = adds_bytes r us (root_items (length (list_of (parents_of made)))) c.add_files.new.written mid (taken c.add_files.new.sink) (taken c.write_root.new.sink) (Ok tt) blobs.0 (λ _. c.add_files.new.written.count) (λ _. c.add_files.new.written.marks.items) reset in
-    let text = c.deref.ensures.value ∙ subst (λ d. c.add_files.new.lines.text.items ≡ items_text (file_items (with_blobs ws (contents (files_of d))) (files_of d))) same (c.in_ok-add_files.ensures.text ws h) in
+    let text = c.deref.ensures.value ∙ subst (λ d. c.add_files.new.lines.text.items ≡ items_text (file_items (with_blobs ws (contents (files_of d))) (files_of d))) same (c.in_ok-add_files.ensures.text ws h kept) in
     let k = (c.in_ok-write_lines.ensures.adds us (files_of made) root.0 text).0 in
     place_marked name namer r c.sound.ensures us c.write_lines.new.written.marks.items (commit_value made) c.args.place k.marks e
 
@@ -165,23 +170,24 @@ mark-requires-clause-room g c =
     let e = c.requires.commit.1 in
     let ws = c.requires.written.0 in
     let h = c.requires.written.1 in
+    let kept = c.requires.written.2 in
     let taken = g.W.Sink.taken in
     let n = c.name_at-commit.result.bytes in
     let s = shown_as name namer r c.sound.ensures c.args.place made n c.view_of-view.result (named_map name (files_of (commit_at r c.name_at-commit.result))) e c.name_at-commit.ensures.value c.view_of-view.ensures refl in
     let us = with_blobs ws (contents (files_of made)) in
     let same = same_commit name namer r c.sound.ensures c.args.place made n e c.name_at-commit.ensures.value in
-    let blobs = subst (λ d. Adds r (with_blobs ws (contents (files_of d))) (items_of (blob_commands ws (contents (files_of d)))) c.args.written.now c.add_files.new.written (taken c.args.sink.now) (taken c.add_files.new.sink) (Ok tt)) same (c.in_ok-add_files.ensures.adds ws h) in
+    let blobs = subst (λ d. Adds r (with_blobs ws (contents (files_of d))) (items_of (blob_commands ws (contents (files_of d)))) c.args.written.now c.add_files.new.written (taken c.args.sink.now) (taken c.add_files.new.sink) (Ok tt)) same (c.in_ok-add_files.ensures.adds ws h kept) in
     let mid = record c.add_files.new.written { bytes = c.write_root.new.written } in
     let reset = subst (λ n. Writes c.add_files.new.written.bytes c.write_root.new.written (taken c.add_files.new.sink) (taken c.write_root.new.sink) (items_text (root_items n)) (Ok tt)) s.count c.in_ok-write_root.ensures.text in
     let root = adds_bytes r us (root_items (length (list_of (parents_of made)))) c.add_files.new.written mid (taken c.add_files.new.sink) (taken c.write_root.new.sink) (Ok tt) blobs.0 (λ _. c.add_files.new.written.count) (λ _. c.add_files.new.written.marks.items) reset in
-    let text = c.deref.ensures.value ∙ subst (λ d. c.add_files.new.lines.text.items ≡ items_text (file_items (with_blobs ws (contents (files_of d))) (files_of d))) same (c.in_ok-add_files.ensures.text ws h) in
+    let text = c.deref.ensures.value ∙ subst (λ d. c.add_files.new.lines.text.items ≡ items_text (file_items (with_blobs ws (contents (files_of d))) (files_of d))) same (c.in_ok-add_files.ensures.text ws h kept) in
     let k = (c.in_ok-write_lines.ensures.adds us (files_of made) root.0 text).0 in
     let a = k.each in
     let b = k.most in
     omega arith
 
-pub returns : goal.returns
-returns g c = λ made ws e h.
+pub returns-clause-adds : goal.returns-clause-adds
+returns-clause-adds g c = λ made ws e h kept.
     let name = g.N.Namer.name_of c.args.repo.now.0 in
     let namer = g.met.N.Namer.is_namer c.args.repo.now.0 in
     let r = c.args.repo.now.1 in
@@ -194,11 +200,11 @@ returns g c = λ made ws e h.
     let all = sym (one_commit_parts ws made) in
     let us = with_blobs ws (contents (files_of made)) in
     let same = same_commit name namer r c.sound.ensures c.args.place made n e c.name_at-commit.ensures.value in
-    let blobs = subst (λ d. Adds r (with_blobs ws (contents (files_of d))) (items_of (blob_commands ws (contents (files_of d)))) c.args.written.now c.add_files.new.written (taken c.args.sink.now) (taken c.add_files.new.sink) (Ok tt)) same (c.in_ok-add_files.ensures.adds ws h) in
+    let blobs = subst (λ d. Adds r (with_blobs ws (contents (files_of d))) (items_of (blob_commands ws (contents (files_of d)))) c.args.written.now c.add_files.new.written (taken c.args.sink.now) (taken c.add_files.new.sink) (Ok tt)) same (c.in_ok-add_files.ensures.adds ws h kept) in
     let mid = record c.add_files.new.written { bytes = c.write_root.new.written } in
     let reset = subst (λ n. Writes c.add_files.new.written.bytes c.write_root.new.written (taken c.add_files.new.sink) (taken c.write_root.new.sink) (items_text (root_items n)) (Ok tt)) s.count c.in_ok-write_root.ensures.text in
     let root = adds_bytes r us (root_items (length (list_of (parents_of made)))) c.add_files.new.written mid (taken c.add_files.new.sink) (taken c.write_root.new.sink) (Ok tt) blobs.0 (λ _. c.add_files.new.written.count) (λ _. c.add_files.new.written.marks.items) reset in
-    let text = c.deref.ensures.value ∙ subst (λ d. c.add_files.new.lines.text.items ≡ items_text (file_items (with_blobs ws (contents (files_of d))) (files_of d))) same (c.in_ok-add_files.ensures.text ws h) in
+    let text = c.deref.ensures.value ∙ subst (λ d. c.add_files.new.lines.text.items ≡ items_text (file_items (with_blobs ws (contents (files_of d))) (files_of d))) same (c.in_ok-add_files.ensures.text ws h kept) in
     let lines_are = lines_told name namer r c.sound.ensures made c.view_of-view.result (named_map name (files_of (commit_at r c.name_at-commit.result))) s us in
     let made_lines = subst (λ is. Adds r us is mid c.write_lines.new.written (taken c.write_root.new.sink) (taken c.write_lines.new.sink) (Ok tt)) lines_are (c.in_ok-write_lines.ensures.adds us (files_of made) root.0 text) in
     let later = adds_later r us us before (root_items (length ps) ++ lines) c.args.written.now c.add_files.new.written c.write_lines.new.written (taken c.args.sink.now) (taken c.add_files.new.sink) (taken c.write_lines.new.sink) (Ok tt) blobs
@@ -207,3 +213,12 @@ returns g c = λ made ws e h.
       commit_marked name namer r c.sound.ensures us made c.args.place mid c.write_lines.new.written c.mark.new.self (taken c.write_root.new.sink) (taken c.write_lines.new.sink) e root.0 made_lines c.mark.ensures.bytes c.mark.ensures.count c.mark.ensures.marks,
       subst (λ n. Writes c.args.written.now.bytes n (taken c.args.sink.now) (taken c.write_lines.new.sink) (items_text (items_of (one_commit ws made))) (Ok tt)) (sym c.mark.ensures.bytes) whole,
     )
+
+pub returns-clause-kept : goal.returns-clause-kept
+returns-clause-kept g c = λ made ws e h kept.
+    let name = g.N.Namer.name_of c.args.repo.now.0 in
+    let namer = g.met.N.Namer.is_namer c.args.repo.now.0 in
+    let r = c.args.repo.now.1 in
+    let n = c.name_at-commit.result.bytes in
+    let same = same_commit name namer r c.sound.ensures c.args.place made n e c.name_at-commit.ensures.value in
+    kept_commit name r (with_blobs ws (contents (files_of made))) made c.add_files.new.lines (subst (λ d. AreKept name r (with_blobs ws (contents (files_of d))) c.add_files.new.lines) same (c.in_ok-add_files.ensures.kept ws h kept))

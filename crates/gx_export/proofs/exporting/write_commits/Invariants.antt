@@ -1,6 +1,7 @@
 use Rattle.std.proofs.Common.{take, [], Ok}
 use Rattle.gx_model.specs.Export.{all_written, commit_commands}
 use Rattle.gx_model.specs.RepositoryLaws.{values_of}
+use Rattle.gx_export.specs.FileTexts.{AreKept}
 use Rattle.gx_export.specs.Marks.{Adds}
 use Rattle.gx_export.specs.Reaching.{is_wanted}
 use Rattle.gx_export.specs.Texts.{items_of}
@@ -10,4 +11,5 @@ use Rattle.gx_export.proofs.exporting.write_commits.Given as goal
 abbrev pub invariant-loop-place : goal.invariant-loop-place
 invariant-loop-place g l = record {
   adds : Adds l.repo.1 (all_written (picked (is_wanted l.repo.1) (take l.place (values_of l.repo.1)))) (items_of (commit_commands [] (picked (is_wanted l.repo.1) (take l.place (values_of l.repo.1))))) l.fn.written l.written (g.W.Sink.taken l.fn.sink) (g.W.Sink.taken l.sink) (Ok tt);
+  kept : AreKept (g.N.Namer.name_of l.repo.0) l.repo.1 (all_written (picked (is_wanted l.repo.1) (take l.place (values_of l.repo.1)))) l.lines;
 }

@@ -4,16 +4,20 @@ use Rattle.gx_model.specs.NameMaps.{IsHeldTree}
 use Rattle.gx_model.specs.Texts.{Bytes}
 use Rattle.gx_model.specs.Values.{Value}
 use Rattle.gx_tree.proofs.LevelsOf.{level_of}
+use Rattle.gx_export.specs.FileTexts.{AreKept}
 use Rattle.gx_export.specs.Marks.{HasWritten}
 use Rattle.gx_export.proofs.Gathering.{IsWalking}
 use Rattle.gx_export.proofs.trees.+gather.Given as goal
 
 abbrev pub decreases-add_tree : goal.decreases-add_tree
-decreases-add_tree g l = 2 * l.room + 1
+decreases-add_tree g l = 3 * l.room + 2
+
+abbrev pub decreases-add_entries : goal.decreases-add_entries
+decreases-add_entries g l = 3 * l.room + 1
 
 abbrev pub decreases-add_entry : goal.decreases-add_entry
-decreases-add_entry g l = 2 * l.room
+decreases-add_entry g l = 3 * l.room
 
-abbrev pub invariant-add_tree-loop-entry : goal.invariant-add_tree-loop-entry
-invariant-add_tree-loop-entry g l = (ws : List Value) (f : FileMap Bytes) → HasWritten l.repo.1 ws l.fn.written → IsHeldTree (g.N.Namer.name_of l.repo.0) l.repo.1.records l.tree.bytes f
+abbrev pub invariant-add_entries-loop-entry : goal.invariant-add_entries-loop-entry
+invariant-add_entries-loop-entry g l = (ws : List Value) (f : FileMap Bytes) → HasWritten l.repo.1 ws l.fn.written → AreKept (g.N.Namer.name_of l.repo.0) l.repo.1 ws l.fn.lines → IsHeldTree (g.N.Namer.name_of l.repo.0) l.repo.1.records l.tree.bytes f
     → IsWalking (g.N.Namer.name_of l.repo.0) l.repo.1 ws l.front (level_of f) l.entry-iterator l.fn.written l.written (g.W.Sink.taken l.fn.sink) (g.W.Sink.taken l.sink) l.fn.lines l.lines

@@ -1,5 +1,5 @@
-use Rattle.std.proofs.Common.{◌≡◌, ◌≢◌, ◌∙◌, ap, [], ◌∷◌, true, false, arith}
-use denote.Enum.Bare.{sameb}
+use Rattle.std.proofs.Common.{sym, ◌≡◌, ◌≢◌, ◌∙◌, ap, [], ◌∷◌, true, false, arith, rules}
+use denote.Enum.Bare.{same_true, sameb}
 use Rattle.std.proofs.lemmas.Result.{err_from_is_err_and}
 use Rattle.gx_model.specs.contracts.objects.Mode.{the_type}
 use Rattle.gx_model.specs.declared.objects.Kind.TheVariants as kind
@@ -11,7 +11,7 @@ use Rattle.gx_model.proofs.HeldValues.{holds_held, kind_held}
 use Rattle.gx_export.specs.declared.fault.ExportFault.TheVariants.{OutOfMemory}
 use Rattle.gx_export.specs.Texts.{items_of, items_text}
 use Rattle.gx_export.proofs.CommitLines.{file_held}
-use Rattle.gx_export.proofs.Gathering.{file_stops, gathers_file, stops_last}
+use Rattle.gx_export.proofs.Gathering.{file_stops, gathers_file, gathers_gitlink, stops_last}
 use Rattle.gx_export.proofs.Numbering.{blob_here, mark_here, place_marked}
 use Rattle.gx_export.proofs.trees.add_file.Goals as goal
 
@@ -33,11 +33,18 @@ write_blob_once-requires-clause-held g c =
     let other : c.args.mode ≢ Gitlink = λ e. (let f : false ≡ true = c.if-eq.ensures ∙ ap (λ m. sameb the_type m Gitlink) e in cc f) in
     holds_held name namer r c.sound.ensures kind.Blob n (file_held r.records c.args.mode n other c.requires.file c.requires.held)
 
+pub returns-then-eq : goal.returns-then-eq
+returns-then-eq g c = λ ws h kept.
+    let name = g.N.Namer.name_of c.args.repo.now.0 in
+    let r = c.args.repo.now.1 in
+    let is : c.args.mode ≡ Gitlink = same_true the_type (search rules) _ _ (sym c.if-eq.ensures) in
+    gathers_gitlink name r ws c.args.path.now c.args.mode c.args.name.now.bytes c.args.written.now c.args.written.now (g.W.Sink.taken c.args.sink.now) (g.W.Sink.taken c.args.sink.now) c.args.lines.now c.add_gitlink.new.self is h c.in_ok-add_gitlink.ensures.text (c.in_ok-add_gitlink.ensures.kept name r ws kept)
+
 pub returns-in_err-write_blob_once : goal.returns-in_err-write_blob_once
-returns-in_err-write_blob_once g c = λ ws h.
+returns-in_err-write_blob_once g c = λ ws h kept.
     let other : c.args.mode ≢ Gitlink = λ e. (let f : false ≡ true = c.if-eq.ensures ∙ ap (λ m. sameb the_type m Gitlink) e in cc f) in
     let p = err_from_is_err_and c.from_residual-in_err-write_blob_once.result c.from_residual-in_err-write_blob_once.ensures.1 in
-    rw (p.1, p.2) (file_stops c.args.repo.now.1 ws c.args.path.now c.args.mode c.args.name.now.bytes c.args.written.now c.args.written.now (g.W.Sink.taken c.args.sink.now) (g.W.Sink.taken c.write_blob_once.new.sink) c.args.lines.now c.args.lines.now other c.requires.file
+    rw (p.1, p.2) (file_stops (g.N.Namer.name_of c.args.repo.now.0) c.args.repo.now.1 ws c.args.path.now c.args.mode c.args.name.now.bytes c.args.written.now c.args.written.now (g.W.Sink.taken c.args.sink.now) (g.W.Sink.taken c.write_blob_once.new.sink) c.args.lines.now c.args.lines.now other c.requires.file
     c.in_err-write_blob_once.field-0.0 (c.in_err-write_blob_once.ensures.adds ws h))
 
 pub index-requires : goal.index-requires
@@ -52,17 +59,17 @@ index-requires g c =
     omega (arith, k, long)
 
 pub returns-in_err-add_file : goal.returns-in_err-add_file
-returns-in_err-add_file g c = λ ws h.
+returns-in_err-add_file g c = λ ws h kept.
     let taken = g.W.Sink.taken in
     let other : c.args.mode ≢ Gitlink = λ e. (let f : false ≡ true = c.if-eq.ensures ∙ ap (λ m. sameb the_type m Gitlink) e in cc f) in
     let p = err_from_is_err_and c.from_residual-in_err-add_file.result c.from_residual-in_err-add_file.ensures.1 in
     let x = bytes_of_blob (value_at c.args.repo.now.1 c.args.name.now) in
     let out = c.in_ok-write_blob_once.ensures.adds ws h in
     let stop = stops_last c.args.written.now.bytes c.write_blob_once.new.written.bytes (taken c.args.sink.now) (taken c.write_blob_once.new.sink) (items_text (items_of (blob_commands ws (x ∷ [])))) out.1 in
-    rw (p.1, p.2) (file_stops c.args.repo.now.1 ws c.args.path.now c.args.mode c.args.name.now.bytes c.args.written.now c.args.written.now (taken c.args.sink.now) (taken c.write_blob_once.new.sink) c.args.lines.now c.args.lines.now other c.requires.file OutOfMemory stop)
+    rw (p.1, p.2) (file_stops (g.N.Namer.name_of c.args.repo.now.0) c.args.repo.now.1 ws c.args.path.now c.args.mode c.args.name.now.bytes c.args.written.now c.args.written.now (taken c.args.sink.now) (taken c.write_blob_once.new.sink) c.args.lines.now c.args.lines.now other c.requires.file OutOfMemory stop)
 
 pub returns : goal.returns
-returns g c = λ ws h.
+returns g c = λ ws h kept.
     let name = g.N.Namer.name_of c.args.repo.now.0 in
     let namer = g.met.N.Namer.is_namer c.args.repo.now.0 in
     let r = c.args.repo.now.1 in
@@ -73,4 +80,4 @@ returns g c = λ ws h.
     let us = with_blobs ws (bytes_of_blob v ∷ []) in
     let out = c.in_ok-write_blob_once.ensures.adds ws h in
     let mark = c.index.ensures ∙ mark_here name namer r c.sound.ensures us c.write_blob_once.new.written.marks.items v c.place_of-place.result c.index.result.now out.0.marks c.place_of-place.ensures ∙ ap (number_in us) (blob_here name namer r c.sound.ensures n held) in
-    gathers_file r ws c.args.path.now c.args.mode n c.args.written.now c.write_blob_once.new.written (g.W.Sink.taken c.args.sink.now) (g.W.Sink.taken c.write_blob_once.new.sink) c.args.lines.now c.add_file.new.self other c.requires.file c.index.result.now out mark c.in_ok-add_file.ensures
+    gathers_file name r ws c.args.path.now c.args.mode n c.args.written.now c.write_blob_once.new.written (g.W.Sink.taken c.args.sink.now) (g.W.Sink.taken c.write_blob_once.new.sink) c.args.lines.now c.add_file.new.self other c.requires.file c.index.result.now out mark c.in_ok-add_file.ensures.text (c.in_ok-add_file.ensures.kept name r ws kept)

@@ -7,3 +7,5 @@ pub mod GatheredRefs
 pub mod SetRefs
 pub mod StoredTexts
 pub mod StoreTexts
+pub mod SentTexts
+pub mod SentStores

@@ -1,3 +1,4 @@
 pub mod Faults
 pub mod Gathering
+pub mod Sending
 pub mod Texts

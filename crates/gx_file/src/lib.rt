@@ -7,9 +7,11 @@ mod lines;
 mod reading;
 mod records;
 mod refs;
+mod sending;
 mod writing;
 
 pub use fault::FileFault;
 pub use gx_repo::OutOfMemory;
 pub use reading::read;
+pub use sending::write_to;
 pub use writing::write;

@@ -129,7 +129,7 @@ fn put_number<A: Allocator + Copy>(
 }
 
 /// The word of a kind.
-fn kind_word(kind: Kind) -> &'static [u8]
+pub(crate) fn kind_word(kind: Kind) -> &'static [u8]
     ensures { result.now ≡ kind_word kind }
 {
     match kind {

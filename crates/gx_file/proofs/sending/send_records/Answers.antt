@@ -1,0 +1,54 @@
+use Rattle.std.proofs.Common.{◌++◌, ◌+◌, ◌<◌, ◌^◌, List, codes, drop, length, ap, subst}
+use Rattle.std.specs.List.{flat_map}
+use Rattle.std.specs.Fmt.{decimal}
+use Rattle.std.proofs.lemmas.Result.{err_from_is_err_and}
+use Rattle.gx_model.specs.declared.store_versions.Version.TheVariants.{Two}
+use Rattle.gx_model.specs.Histories.{Record}
+use Rattle.gx_model.specs.Objects.{line}
+use Rattle.gx_model.specs.StoreText.{stored_record}
+use Rattle.gx_text.specs.Devices.{FailedWithin}
+use Rattle.gx_file.proofs.SentTexts.{all_from, all_left, from_place, is_within, left_fails, less_left, next_left}
+use Rattle.gx_file.proofs.sending.send_records.Goals as goal
+
+pub returns-in_err-send_count-clause-text : goal.returns-in_err-send_count-clause-text
+returns-in_err-send_count-clause-text g c =
+    let p = err_from_is_err_and c.from_residual.result c.from_residual.ensures.1 in
+    let texts = λ (rs : List Record). line (codes "objects") (decimal (length rs)) ++ flat_map (stored_record Two) rs in
+    let rs = c.store-store.result.now.1 in
+    let was = g.W.Sink.taken c.args.sink.now in
+    let now = g.W.Sink.taken c.send_count.new.sink in
+    let counted = subst (λ n. FailedWithin was now (line (codes "objects") (decimal n))) c.len-count.ensures.count c.in_err-send_count.ensures in
+    let fails = left_fails (texts rs) was was now (line (codes "objects") (decimal (length rs))) (flat_map (stored_record Two) rs) (all_left (texts rs) was) counted in
+    rw p.1 (subst (λ rs. FailedWithin was now (texts rs)) (ap (λ s. s.1) c.store-store.ensures) fails)
+
+pub unreachable-requires : goal.unreachable-requires
+unreachable-requires g c = is_within c.store-store.result.now.1 c.loop-place.place c.in_default.ensures (rw c.len-count.ensures.count at c.loop-place-test.true)
+
+pub returns-in_err-send_record-clause-text : goal.returns-in_err-send_record-clause-text
+returns-in_err-send_record-clause-text g c =
+    let p = err_from_is_err_and c.from_residual-in_err-send_record.result c.from_residual-in_err-send_record.ensures.1 in
+    let texts = λ (rs : List Record). line (codes "objects") (decimal (length rs)) ++ flat_map (stored_record Two) rs in
+    let rs = c.store-store.result.now.1 in
+    let place = c.loop-place.place in
+    let r : Record = record { name = c.in-Some.name.bytes; kind = c.in-Some.kind; body = c.in-Some.body.now } in
+    let was = g.W.Sink.taken c.args.sink.now in
+    let mid = g.W.Sink.taken c.loop-place.sink in
+    let now = g.W.Sink.taken c.send_record.new.sink in
+    let left = next_left (stored_record Two) (texts rs) was mid rs place r (from_place rs place r c.in-Some.ensures) c.loop-place.invariant.0 in
+    let fails = left_fails (texts rs) was mid now (stored_record Two r) (flat_map (stored_record Two) (drop (place + 1) rs)) left c.in_err-send_record.ensures.text in
+    rw p.1 (subst (λ rs. FailedWithin was now (texts rs)) (ap (λ s. s.1) c.store-store.ensures) fails)
+
+pub loop-place-preserved : goal.loop-place-preserved
+loop-place-preserved g c =
+    let texts = λ (rs : List Record). line (codes "objects") (decimal (length rs)) ++ flat_map (stored_record Two) rs in
+    let rs = c.store-store.result.now.1 in
+    let place = c.loop-place.place in
+    let r : Record = record { name = c.in-Some.name.bytes; kind = c.in-Some.kind; body = c.in-Some.body.now } in
+    let here = from_place rs place r c.in-Some.ensures in
+    let was = g.W.Sink.taken c.args.sink.now in
+    let mid = g.W.Sink.taken c.loop-place.sink in
+    let now = g.W.Sink.taken c.send_record.new.sink in
+    let left = next_left (stored_record Two) (texts rs) was mid rs place r here c.loop-place.invariant.0 in (
+      less_left (texts rs) was mid now (stored_record Two r) (flat_map (stored_record Two) (drop (place + 1) rs)) left c.in_ok-send_record.ensures.text,
+      all_from (λ x. length x.body < 2 ^ 64) rs place r here c.in_ok-send_record.ensures.length c.loop-place.invariant.1,
+    )

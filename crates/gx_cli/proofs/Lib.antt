@@ -11,6 +11,7 @@ pub mod Weaker
 pub mod Trials
 pub mod Pieces
 pub mod StoredAnswers
+pub mod StoredImports
 pub mod WordsRead
 pub mod ExportedStores
 pub mod RoundTrips

@@ -5,6 +5,7 @@ pub mod Listings
 pub mod Trying
 pub mod Headline
 pub mod Stored
+pub mod Storing
 pub mod FileLines
 pub mod Words
 pub mod Sending

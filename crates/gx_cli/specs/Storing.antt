@@ -1,0 +1,59 @@
+-- Imports that answer the repository whose text is the store's next one.
+-- Source: git-fast-import(1).
+use Rattle.std.specs.Prelude.{◌≡◌, ◌⊎◌, ℕ, zero, suc, Option, Some, None, Result, Ok, Err, ⊤}
+use Rattle.gx_model.specs.declared.objects.Kind.{Kind}
+use Rattle.gx_model.specs.Texts.{Bytes}
+use Rattle.gx_model.specs.Histories.{Records}
+use Rattle.gx_model.specs.HistoryOf.{history_of}
+use Rattle.gx_model.specs.ExportLaws.{HasNoNullGitlink}
+use Rattle.gx_model.specs.Sound.{IsSound}
+use Rattle.gx_model.specs.StoreReading.{Stored}
+use Rattle.gx_text.specs.Devices.{Coming, Taken}
+use Rattle.gx_import.specs.Exported.{GivesExport, IsExported, KeepsNoNullGitlink, nothing}
+use Rattle.gx_import.specs.Imports.{Imports}
+use Rattle.gx_import.specs.declared.report.Report.{Report}
+use Rattle.gx_import.specs.declared.fault.ImportFault.{ImportFault}
+use Rattle.gx_import.specs.declared.fault.ImportKind.TheVariants as kind
+use Rattle.gx_file.specs.declared.fault.FileFault.{FileFault}
+use Rattle.gx_file.specs.declared.fault.FileFault.TheVariants as file
+use Rattle.gx_file.specs.Faults.{fault_of}
+use Rattle.gx_cli.specs.declared.fault.CliFault.{CliFault}
+use Rattle.gx_cli.specs.declared.fault.CliFault.TheVariants.{Import, Store}
+
+-- the repository whose text is the store's next one, where there is one, and what was imported or why it is refused
+abbrev pub Answer : Type 0 → Type 0
+Answer N = Option (N × Records) × Result Report CliFault
+
+-- memory ran out, while the store was read or while the stream was imported, or the sink of progress texts failed
+abbrev pub IsInterrupted : {N : Type 0} → Answer N → Type 0
+IsInterrupted answer =
+    (answer ≡ (None, Err (Store file.OutOfMemory)))
+    ⊎ ((fault : ImportFault) × ((fault.kind ≡ kind.OutOfMemory) ⊎ (fault.kind ≡ kind.WriteFailed)) × (answer ≡ (None, Err (Import fault))))
+
+-- where an import is refused after so many checkpoints, the next text is that of what the last one published; after none there is none
+abbrev pub next_after : {X : Type 0} → ℕ → X → Option X
+next_after zero new = None
+next_after (suc n) new = Some new
+
+module _ {N : Type 0} (name_of : N → Kind → Bytes → Bytes) (namer : N) where
+  -- After an import the next text is that of the new repository, which is sound, and what was imported is told.
+  abbrev pub IsAnswer : Records → Result Report ImportFault → Answer N → Type 0
+  IsAnswer new (Ok report) answer = IsSound (name_of namer) new × (answer ≡ (Some (namer, new), Ok report))
+  IsAnswer new (Err fault) answer = IsSound (name_of namer) new × (answer ≡ (next_after fault.checkpoints (namer, new), Err (Import fault)))
+
+  -- The import of a stream into the store of a text, which is read first. It brings no gitlink of forty zeros.
+  abbrev pub ImportsStore : Stored Records → Option Coming → Option Taken → Option Taken → Answer N → Type 0
+  ImportsStore (Ok old) coming was now answer =
+      ((answer ≡ (None, Err (Store file.OutOfMemory))) × (now ≡ was))
+      ⊎ ((new : Records) × (given : Result Report ImportFault) × Imports (name_of namer) old new coming was now given × KeepsNoNullGitlink old new × IsAnswer new given answer)
+  ImportsStore (Err f) coming was now answer =
+      (why : FileFault) × ((why ≡ file.OutOfMemory) ⊎ (f ≡ fault_of why)) × (answer ≡ (None, Err (Store why))) × (now ≡ was)
+
+  -- The import of a sound repository's export into an empty store makes that repository again, as far as its refs reach. A
+  -- gitlink of forty zeros is left out, which no import takes and none brings.
+  abbrev pub ImportsStoreAgain : Stored Records → Option Coming → Answer N → Type 0
+  ImportsStoreAgain stored None answer = ⊤
+  ImportsStoreAgain stored (Some coming) answer =
+      (exported : Records) → IsSound (name_of namer) exported → HasNoNullGitlink (history_of exported)
+      → GivesExport exported coming → stored ≡ Ok nothing
+      → IsInterrupted answer ⊎ ((new : Records) × (report : Report) × IsExported exported new × IsSound (name_of namer) new × (answer ≡ (Some (namer, new), Ok report)))

@@ -1,0 +1,75 @@
+//! An import whose store's next text goes out to a sink. Source: git-fast-import(1).
+
+ghost use Rattle.std.specs.Prelude.{◌≡◌, Ok, IfErr, IfOk};
+ghost use Rattle.gx_model.specs.declared.store_versions.Version.TheVariants.{Two};
+ghost use Rattle.gx_model.specs.StoreReading.{store_of};
+ghost use Rattle.gx_model.specs.StoreText.{store_text};
+ghost use Rattle.gx_cli.specs.Sending.{PrintsText};
+ghost use Rattle.gx_cli.specs.Storing.{ImportsStore, ImportsStoreAgain, next_after};
+ghost use Rattle.gx_cli.specs.declared.fault.CliFault.TheVariants.{WriteFailed};
+
+use crate::CliFault;
+use gx_file::write_to;
+use gx_import::{Report, import};
+use gx_object::Namer;
+use gx_repo::Repo;
+use gx_text::{Sink, Source};
+use std::alloc::Allocator;
+use std::hash::RandomState;
+
+/// Imports a stream into the store of a text, as [`import_into`](crate::import_into) does. In place of the store's next text it
+/// answers the repository whose text that is, where there is one: [`send_store`] sends it. Lines of `progress` go out as they come.
+///
+/// The store's text is read first, and let go. After a refused import the next text is that of the last checkpoint; where there
+/// was none, there is none.
+/// Cost: that of reading the store's text, and of the import. Memory: the store's text until it is read, and what the import takes.
+pub fn import_store<N: Namer + Drop, R: Source + Drop, W: Sink, A: Allocator + Copy>(
+    alloc: A,
+    namer: N,
+    store: Vec<u8, A>,
+    source: R,
+    sink: &mut W,
+    state: RandomState,
+) -> (Option<Repo<N, A>>, Result<Report, CliFault>)
+    ensures imported { ImportsStore N.name_of namer (store_of (N.name_of namer) store.items) (R.coming source) (W.taken sink.old) (W.taken sink.new) result }
+    ensures again { ImportsStoreAgain N.name_of namer (store_of (N.name_of namer) store.items) (R.coming source) result }
+{
+    let read = gx_file::read(alloc, namer, &store, state);
+    drop(store);
+    let mut repo = match read {
+        Ok(repo) => repo,
+        Err(fault) => return (None, Err(CliFault::Store(fault))),
+    };
+    match import(alloc, &mut repo, source, sink) {
+        Ok(report) => (Some(repo), Ok(report)),
+        Err(fault) => (left(repo, fault.checkpoints), Err(CliFault::Import(fault))),
+    }
+}
+
+/// What the next text is of after a refused import, where there was a checkpoint.
+fn left<N: Namer + Drop, A: Allocator + Copy>(
+    repo: Repo<N, A>,
+    checkpoints: u64,
+) -> Option<Repo<N, A>>
+    ensures { result ≡ next_after checkpoints repo }
+{
+    if checkpoints == 0 { None } else { Some(repo) }
+}
+
+/// Sends the store text of a repository, which is of version 2. Each body goes out from where the repository has it.
+///
+/// `WriteFailed` where the sink fails, and nothing else. What it took is a front of the text.
+/// Cost: the text's length, and some pushes for each record and ref. Takes no memory.
+pub fn send_store<N: Namer, A: Allocator + Copy, W: Sink>(
+    repo: &Repo<N, A>,
+    sink: &mut W,
+) -> Result<(), CliFault>
+    ensures text { PrintsText (store_text Two repo.now.1) (W.taken sink.old) (W.taken sink.new) result }
+    ensures read { IfOk result (λ _. store_of (N.name_of repo.now.0) (store_text Two repo.now.1) ≡ Ok repo.now.1) }
+    ensures fault { IfErr result (λ fault. fault ≡ WriteFailed) }
+{
+    match write_to(repo, sink) {
+        Ok(()) => Ok(()),
+        Err(_) => Err(CliFault::WriteFailed),
+    }
+}

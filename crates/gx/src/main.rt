@@ -11,7 +11,8 @@ mod reports;
 use fault::RunFault;
 use files::{read_store, want_no_store, want_store};
 use gx_cli::{
-    CliFault, ImportReport, Line, LineFault, Outcome, adapt_stream, import_into, read_line, serve,
+    CliFault, ImportReport, Line, LineFault, Outcome, Repo, adapt_stream, import_store, read_line,
+    serve,
 };
 use gx_object::Sha1Namer;
 use gx_text::{FromRead, IntoWrite};
@@ -102,9 +103,7 @@ fn import(rt: &HostRuntime, file: &str, state: RandomState) -> Result<(), RunFau
     let mut next = NextText::claim(rt, file)?;
     let answer = import_locked(rt, &mut next, state);
     next.release(rt);
-    if let Some(report) = answer? {
-        tell_import(rt, &report);
-    }
+    tell_import(rt, &answer?);
     Ok(())
 }
 
@@ -113,24 +112,28 @@ fn import_locked(
     rt: &HostRuntime,
     next: &mut NextText,
     state: RandomState,
-) -> Result<Option<ImportReport>, RunFault> {
+) -> Result<ImportReport, RunFault> {
     let store = read_store(rt, next.store())?;
-    let (outcome, report) = import_shown(rt, &store, state);
-    drop(store);
-    end(rt, next, &outcome)?;
-    Ok(report)
+    let (repo, answer) = import_shown(rt, store, state);
+    if let Some(repo) = &repo {
+        next.publish_store(rt, repo)?;
+    }
+    Ok(answer?)
 }
 
 /// Imports standard input, and shows how far it is.
 fn import_shown(
     rt: &HostRuntime,
-    store: &[u8],
+    store: Vec<u8>,
     state: RandomState,
-) -> (Outcome<Global>, Option<ImportReport>) {
+) -> (
+    Option<Repo<Sha1Namer, Global>>,
+    Result<ImportReport, CliFault>,
+) {
     let progress = ProgressLine::new(rt);
     let source = FromRead::new(Metered::input(&progress));
     let mut sink = IntoWrite::new(Beside::new(&progress));
-    let imported = import_into(rt.alloc(), Sha1Namer, store, source, &mut sink, state);
+    let imported = import_store(rt.alloc(), Sha1Namer, store, source, &mut sink, state);
     progress.clear();
     imported
 }

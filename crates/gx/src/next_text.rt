@@ -6,11 +6,17 @@
 
 use crate::fault::RunFault;
 use crate::files::follow_links;
-use gx_cli::CliFault;
+use gx_cli::{CliFault, Repo, send_store};
+use gx_object::Sha1Namer;
+use gx_text::IntoWrite;
+use std::alloc::Global;
 use std::fs::{self, File};
-use std::io::{self, ErrorKind, Write};
+use std::io::{self, BufWriter, ErrorKind, Write};
 use std::os::unix::fs::MetadataExt;
 use std::path::Path;
+
+/// So many bytes are written at once.
+const BUFFER: usize = 1 << 16;
 
 /// The locked file of a next text, which this run has made.
 #[derive(Drop)]
@@ -55,12 +61,56 @@ impl NextText {
         }
     }
 
-    /// The text has the permissions of the file that it replaces before it has a byte.
+    /// The same of a repository's text, which goes out as it is made.
+    pub(crate) fn publish_store(
+        &mut self,
+        rt: &HostRuntime,
+        repo: &Repo<Sha1Namer, Global>,
+    ) -> Result<(), CliFault> {
+        if self.take_permissions(rt).is_err() {
+            return Err(CliFault::WriteFailed);
+        }
+        self.write_store(rt, repo)?;
+        match self.rename(rt) {
+            Ok(()) => Ok(()),
+            Err(_) => Err(CliFault::WriteFailed),
+        }
+    }
+
     fn write_and_rename(&mut self, rt: &HostRuntime, text: &[u8]) -> io::Result<()> {
+        self.take_permissions(rt)?;
+        self.held.write_all(text)?;
+        self.rename(rt)
+    }
+
+    /// The text has the permissions of the file that it replaces before it has a byte.
+    fn take_permissions(&mut self, rt: &HostRuntime) -> io::Result<()> {
         if let Ok(replaced) = fs::metadata(rt, &self.store) {
             self.held.set_permissions(replaced.permissions())?;
         }
-        self.held.write_all(text)?;
+        Ok(())
+    }
+
+    /// A repository's text goes out through a buffer.
+    fn write_store(
+        &mut self,
+        rt: &HostRuntime,
+        repo: &Repo<Sha1Namer, Global>,
+    ) -> Result<(), CliFault> {
+        let Ok(mut out) = BufWriter::with_capacity(rt.alloc(), BUFFER, &mut self.held) else {
+            return Err(CliFault::OutOfMemory);
+        };
+        let sent = {
+            let mut sink = IntoWrite::new(&mut out);
+            send_store(repo, &mut sink)
+        };
+        let flushed = out.flush();
+        sent?;
+        flushed.map_err(|_| CliFault::WriteFailed)
+    }
+
+    /// Makes what was written durable, and puts it into the store file's place.
+    fn rename(&mut self, rt: &HostRuntime) -> io::Result<()> {
         self.held.sync_all()?;
         if !names(rt, &self.path, &self.held) {
             // somebody took the file away by hand

@@ -1,10 +1,11 @@
 ghost use Rattle.std.specs.Prelude.{◌<◌, length};
 
-use gx_file::{FileFault, OutOfMemory, read, write};
+use gx_file::{FileFault, OutOfMemory, read, write, write_to};
 use gx_model::Version;
 use gx_object::Sha1Namer;
 use gx_refusing::Refusing;
 use gx_repo::Repo;
+use gx_text::Held;
 use std::alloc::{AllocError, Allocator};
 use std::hash::RandomState;
 use std::test::Fail;
@@ -292,5 +293,25 @@ fn refused_growth_is_out_of_memory(rt: HostRuntime) -> Result<(), Fail> {
     assert!(rt; readings >= 8);
     let writings = refused_writings(&heap, whole.as_slice(), state).unwrap_or(0);
     assert!(rt; writings >= 4);
+    Ok(())
+}
+
+#[test]
+fn text_goes_out_as_it_is_written(rt: HostRuntime) -> Result<(), Fail> {
+    let text = whole(rt.alloc(), Version::Two)?;
+    let Ok(repo) = read(
+        rt.alloc(),
+        Sha1Namer,
+        text.as_slice(),
+        RandomState::new(&rt)?,
+    ) else {
+        return Err(Fail::new(format_args!("the text isn't read")));
+    };
+    let mut sink = Held::new(rt.alloc(), text.len())?;
+    assert!(rt; write_to(&repo, &mut sink).is_ok());
+    assert!(rt; sink.bytes() == text.as_slice());
+    let mut short = Held::new(rt.alloc(), text.len() - 1)?;
+    assert!(rt; write_to(&repo, &mut short).is_err());
+    assert!(rt; text.starts_with(short.bytes()));
     Ok(())
 }

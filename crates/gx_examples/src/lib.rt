@@ -22,6 +22,8 @@ mod sessions;
 #[cfg(test)]
 mod stored;
 #[cfg(test)]
+mod storing;
+#[cfg(test)]
 mod streams;
 #[cfg(test)]
 mod trying;

@@ -6,7 +6,8 @@ mod listed;
 mod rows;
 
 use crate::sessions::{Command, EMPTY, Session, run, run_all};
-pub(crate) use rows::{ONE_BLOB, ONE_REF, ROOT, TAGGED};
+pub(crate) use checkpoints::FIRST;
+pub(crate) use rows::{ONE_BLOB, ONE_REF, ROOT, TAGGED, WITH_BLOB};
 use std::alloc::{AllocError, Allocator, Global};
 use std::hash::RandomState;
 use std::test::Fail;

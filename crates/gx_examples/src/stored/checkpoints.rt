@@ -3,7 +3,7 @@
 use crate::sessions::{Command, EMPTY, INIT, Step};
 
 /// The text of a store with the first commit of each stream here.
-const FIRST: &[u8] =
+pub(crate) const FIRST: &[u8] =
     b"gxstore 2\nobjects 3\nblob 10 83baae61804e65cc73a7201a7252750c76066a30\nversion 1\n\ntree 36 d8329fc1cc938780ffdd9f94e0d364e0ea74f579\n100644 test.txt\0\x83\xba\xae\x61\x80\x4e\x65\xcc\x73\xa7\x20\x1a\x72\x52\x75\x0c\x76\x06\x6a\x30\ncommit 98 02d6adf1689e06135d2b4b4d471f1ae489887b53\ntree d8329fc1cc938780ffdd9f94e0d364e0ea74f579\nauthor A <a@x> 1 +0000\ncommitter A <a@x> 1 +0000\n\nv1\nrefs 1\n02d6adf1689e06135d2b4b4d471f1ae489887b53 refs/heads/main\nend\n";
 
 const NAME: &[u8] = b"02d6adf1689e06135d2b4b4d471f1ae489887b53\n";

@@ -47,7 +47,7 @@ const DELIMITED: &[u8] =
     b"commit refs/heads/main\ncommitter A <a@x> 1 +0000\ndata 0\nM 100644 inline f\ndata <<END\nENDING\n\nEND\n";
 
 /// The text of a store with that blob.
-const WITH_BLOB: &[u8] =
+pub(crate) const WITH_BLOB: &[u8] =
     b"gxstore 2\nobjects 1\nblob 13 d670460b4b4aece5915caf5c68d12f560a9fe3e4\ntest content\n\nrefs 0\nend\n";
 
 /// That of version 1.

@@ -1,6 +1,7 @@
 pub mod SentTexts
 pub mod Quoted
 pub mod QuotedPaths
+pub mod Marked
 pub mod Counts
 pub mod Progress
 pub mod Readable

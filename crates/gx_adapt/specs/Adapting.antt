@@ -1,19 +1,25 @@
 -- What adapting a stream gives, sends and leaves.
-use Rattle.std.specs.Prelude.{◌≡◌, ℕ, ◌+◌, ◌<◌, ◌^◌, Bool, codes, if◌then◌else◌, List, ◌++◌, Option, Some, None, Result, Ok, Err, ⊤}
+use Rattle.std.specs.Prelude.{◌≡◌, ℕ, ◌+◌, ◌<◌, ◌^◌, Bool, false, ◌&&◌, codes, if◌then◌else◌, List, ◌++◌, Option, Some, None, Result, Ok, Err, ⊤}
+use Rattle.std.specs.Ordering.{nat_cmp}
+use Rattle.std.specs.Option.{option_or, option_map_or}
+use Rattle.std.specs.BTreeSet.{contains}
 use Rattle.gx_model.specs.declared.faults.Fault.TheVariants as model
 use Rattle.gx_model.specs.Texts.{Bytes}
-use Rattle.gx_model.specs.Items.{Item, End, Finished, Failed, Stream}
+use Rattle.gx_model.specs.Items.{Item, Line, Data, End, Finished, Failed, Stream}
 use Rattle.gx_text.specs.Devices.{Coming, Taken, Took, FailedWithin}
 use Rattle.gx_stream.specs.Faults.{fault_of}
 use Rattle.gx_stream.specs.declared.fault.StreamFault.{StreamFault}
 use Rattle.gx_stream.specs.declared.fault.StreamFault.TheVariants as stream
 use Rattle.gx_adapt.specs.Lines as lines
+use Rattle.gx_adapt.specs.Marks.{command_begun, command_of, mark_behind, is_blob_or_tag, is_tag, sets_mark, is_of_blob_or_tag}
 use Rattle.gx_adapt.specs.Streams.{items_in, lot_in, adapted, stream_text, is_spaced, is_deletion, is_requoted, is_marks, on_line, report_of}
 use Rattle.gx_adapt.specs.Laws.{IsReadAdapted}
 use Rattle.gx_adapt.specs.declared.fault.AdaptFault.{AdaptFault}
 use Rattle.gx_adapt.specs.declared.fault.AdaptFault.TheVariants.{OutOfMemory, ReadFailed, WriteFailed, TruncatedData, BadNumber}
 use Rattle.gx_adapt.specs.declared.lot.Lot.{Lot}
 use Rattle.gx_adapt.specs.declared.lot.Lot.TheVariants.{Kept, Deletion, Marks, Ident, Modify, Remove, Move}
+use Rattle.gx_adapt.specs.declared.marks.Command.{Command}
+use Rattle.gx_adapt.specs.declared.marks.Marks as held
 use Rattle.gx_adapt.specs.declared.report.Report.{Report}
 
 -- a fault of the items, as it is answered
@@ -56,6 +62,41 @@ abbrev pub IsReadAgain : Option Coming → Type 0
 IsReadAgain None = Unit {0}
 IsReadAgain (Some c) = IsReadAdapted c
 
+-- ---- marks
+
+-- whether a mark is held as that of a blob or a tag
+abbrev pub holds_mark : {A : Type 0} → held.Marks A → ℕ → Bool
+holds_mark marks number = contains nat_cmp marks.numbers number
+
+-- the command and the marks behind some items, which stand the latest first
+pub record StandsBehind {A : Type 0} (earlier : List Item) (marks : held.Marks A) : Type 0 where
+  pub command : marks.command ≡ command_of earlier
+  pub numbers : (number : ℕ) → holds_mark marks number ≡ is_of_blob_or_tag earlier number
+
+-- whether an item is the `from` of a tag of a blob or of a tag, by what is held
+abbrev pub names_held : {A : Type 0} → held.Marks A → Item → Bool
+names_held marks (Line l) = is_tag marks.command && option_map_or (holds_mark marks) (mark_behind (codes "from") l) false
+names_held marks (Data x) = false
+
+-- the command behind an item
+abbrev pub command_behind : Item → Option Command → Option Command
+command_behind (Line l) before = option_or (command_begun l) before
+command_behind (Data x) before = before
+
+-- whether a mark is that of a blob or a tag behind an item, by the command and by whether it was
+abbrev pub marked_behind : Item → Option Command → ℕ → Bool → Bool
+marked_behind (Line l) command number was = if sets_mark l number then is_blob_or_tag command else was
+marked_behind (Data x) command number was = was
+
+-- an item's mark is set
+abbrev pub SetsMark : {A : Type 0} → Item → held.Marks A → held.Marks A → Type 0
+SetsMark item was is = (number : ℕ) → holds_mark is number ≡ marked_behind item was.command number (holds_mark was number)
+
+-- an item was passed
+pub record Passes {A : Type 0} (item : Item) (was is : held.Marks A) : Type 0 where
+  pub command : is.command ≡ command_behind item was.command
+  pub numbers : SetsMark item was is
+
 -- ---- one item
 
 -- what becomes of a line, as the code tells it
@@ -72,20 +113,21 @@ lot_seen (Move word source destination) = lines.requoted (lines.moved_line word.
 abbrev pub one_if : Bool → ℕ → ℕ
 one_if holds n = if holds then n + 1 else n
 
--- an item counted, of which this becomes
-abbrev pub counted : lines.Lot → Item → Report → Report
-counted lot item r = record {
+-- an item counted, of which this becomes, and which names a blob or a tag for a tag, or doesn't
+abbrev pub counted : lines.Lot → Bool → Item → Report → Report
+counted lot names item r = record {
   identities = one_if (is_spaced lot) r.identities;
   deletions = one_if (is_deletion lot) r.deletions;
   paths = one_if (is_requoted lot) r.paths;
   marks = one_if (is_marks lot) r.marks;
   notes = one_if (on_line lines.is_note item) r.notes;
   early_dates = one_if (on_line lines.is_early item) r.early_dates;
+  tags_of_blobs_or_tags = one_if names r.tags_of_blobs_or_tags;
 }
 
 -- the same by what stands before it
-abbrev pub with_item : Bool → Item → Report → Report
-with_item after_reset item r = counted (lot_in after_reset item) item r
+abbrev pub with_item : {A : Type 0} → Bool → held.Marks A → Item → Report → Report
+with_item after_reset marks item r = counted (lot_in after_reset item) (names_held marks item) item r
 
 -- each count has room for one more
 pub record HasRoom (r : Report) : Type 0 where
@@ -95,6 +137,7 @@ pub record HasRoom (r : Report) : Type 0 where
   pub marks : r.marks < 2 ^ 63
   pub notes : r.notes < 2 ^ 63
   pub early_dates : r.early_dates < 2 ^ 63
+  pub tags_of_blobs_or_tags : r.tags_of_blobs_or_tags < 2 ^ 63
 
 -- A text went out, or the sink failed within it.
 abbrev pub Puts : {A : Type 0} → Bytes → Option Taken → Option Taken → Result A AdaptFault → Type 0

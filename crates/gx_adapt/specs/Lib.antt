@@ -1,5 +1,6 @@
 pub mod Paths
 pub mod Lines
+pub mod Marks
 pub mod Streams
 pub mod Laws
 pub mod Adapting

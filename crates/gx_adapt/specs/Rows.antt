@@ -1,11 +1,12 @@
 -- Worked lines and streams: what becomes of them. Each row holds by computing.
-use Rattle.std.specs.Prelude.{◌≡◌, Bool, true, false, List, [], ◌∷◌, ◌++◌, map, codes, refl}
+use Rattle.std.specs.Prelude.{◌≡◌, ℕ, Bool, true, false, List, [], ◌∷◌, ◌++◌, map, codes, refl}
 use Rattle.gx_model.specs.Texts.{Bytes, cut_at}
 use Rattle.gx_model.specs.Paths.{char_at, unquote_within, path_of, quoted_of}
-use Rattle.gx_model.specs.Grammar.{last_path}
+use Rattle.gx_model.specs.Grammar.{last_path, mark_of}
 use Rattle.gx_model.specs.Items.{Item, Line, Data}
 use Rattle.gx_adapt.specs.Paths.{quoted, is_open, source_of}
 use Rattle.gx_adapt.specs.Lines.{Lot, kept, deletion, marks, spaced, requoted, ident_lot, path_lot, modify_lot, move_lot, word_lot, lot_of, is_early}
+use Rattle.gx_adapt.specs.Marks.{command_begun, mark_behind, tags_of_blobs_or_tags}
 use Rattle.gx_adapt.specs.Streams.{adapted, report_of}
 
 -- ---- lines
@@ -111,6 +112,46 @@ stream_adapted : adapted before ≡ after
 unfolding cut_at char_at unquote_within is_open source_of ident_lot path_lot modify_lot move_lot word_lot lot_of
 stream_adapted = refl
 
-stream_counted : report_of before ≡ record { identities = 1; deletions = 1; paths = 1; marks = 1; notes = 1; early_dates = 1 }
-unfolding cut_at char_at unquote_within is_open source_of ident_lot path_lot modify_lot move_lot word_lot lot_of is_early
+stream_counted : report_of before ≡ record { identities = 1; deletions = 1; paths = 1; marks = 1; notes = 1; early_dates = 1; tags_of_blobs_or_tags = 0 }
+unfolding cut_at char_at unquote_within is_open source_of ident_lot path_lot modify_lot move_lot word_lot lot_of is_early command_begun mark_of mark_behind
 stream_counted = refl
+
+-- ---- tags
+
+abbrev a_blob : Bytes → List Item
+a_blob mark = Line (codes "blob") ∷ Line (codes "mark :" ++ mark) ∷ Data (codes "mark :7") ∷ []
+
+abbrev a_commit : Bytes → List Item
+a_commit mark = Line (codes "commit refs/heads/main") ∷ Line (codes "mark :" ++ mark) ∷ Line (codes "committer A <a> 1 +0000") ∷ Data (codes "blob") ∷ []
+
+abbrev a_tag : Bytes → Bytes → List Item
+a_tag mark target = Line (codes "tag v") ∷ Line (codes "mark :" ++ mark) ∷ Line (codes "from " ++ target) ∷ Data (codes "tag") ∷ []
+
+-- streams, and how many of their tags are of a blob or of a tag
+abbrev pub tag_rows : List (List Item × ℕ)
+tag_rows =
+    (a_blob (codes "1") ++ a_tag (codes "2") (codes ":1"), 1)
+    ∷ (a_commit (codes "1") ++ a_tag (codes "2") (codes ":1"), 0)
+    ∷ (a_commit (codes "1") ++ a_tag (codes "2") (codes ":1") ++ a_tag (codes "3") (codes ":2"), 1)
+    ∷ (a_blob (codes "1") ++ a_tag (codes "2") (codes ":1") ++ a_tag (codes "3") (codes ":2"), 2)
+    -- a mark that is set anew
+    ∷ (a_blob (codes "1") ++ a_commit (codes "1") ++ a_tag (codes "2") (codes ":1"), 0)
+    ∷ (a_commit (codes "1") ++ a_blob (codes "1") ++ a_tag (codes "2") (codes ":1"), 1)
+    -- one number, written with a zero more
+    ∷ (a_blob (codes "01") ++ a_tag (codes "2") (codes ":1"), 1)
+    -- marks in blocks, and those that aren't there
+    ∷ (a_blob (codes "1") ++ a_tag (codes "2") (codes ":7"), 0)
+    ∷ (a_tag (codes "2") (codes ":2"), 1)
+    ∷ (a_blob (codes "0") ++ a_tag (codes "2") (codes ":0"), 0)
+    -- what no mark names
+    ∷ (a_blob (codes "1") ++ a_tag (codes "2") (codes "1"), 0)
+    ∷ (a_blob (codes "1") ++ a_tag (codes "2") (codes "refs/heads/main"), 0)
+    -- a `from` of other commands
+    ∷ (a_blob (codes "1") ++ a_commit (codes "2") ++ Line (codes "from :1") ∷ [], 0)
+    ∷ (a_blob (codes "1") ++ Line (codes "reset refs/tags/v") ∷ Line (codes "from :1") ∷ [], 0)
+    ∷ (a_blob (codes "1") ++ a_tag (codes "2") (codes ":3") ++ Line (codes "reset refs/tags/v") ∷ Line (codes "from :1") ∷ [], 0)
+    ∷ []
+
+tags_counted : map (λ r. tags_of_blobs_or_tags r.0) tag_rows ≡ map (λ r. r.1) tag_rows
+unfolding cut_at command_begun mark_of mark_behind
+tags_counted = refl

@@ -6,6 +6,7 @@ use Rattle.gx_model.specs.Texts.{Bytes}
 use Rattle.gx_model.specs.Items.{Item, Line, Data}
 use Rattle.gx_model.specs.Export.{item_text}
 use Rattle.gx_adapt.specs.Lines.{Lot, kept, deletion, marks, spaced, requoted, is_reset_line, lot_of, lines_for, is_note, is_early}
+use Rattle.gx_adapt.specs.Marks.{tags_of_blobs_or_tags}
 use Rattle.gx_adapt.specs.declared.report.Report.{Report}
 
 -- an item, and whether a reset stands directly before it
@@ -98,4 +99,5 @@ report_of is = record {
   marks = how_many (λ p. is_marks (lot_at p)) is;
   notes = how_many (λ p. on_line is_note p.item) is;
   early_dates = how_many (λ p. on_line is_early p.item) is;
+  tags_of_blobs_or_tags = tags_of_blobs_or_tags is;
 }

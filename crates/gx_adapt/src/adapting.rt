@@ -7,10 +7,11 @@ ghost use Rattle.gx_model.specs.Export.{item_text};
 ghost use Rattle.gx_stream.specs.Heard.{items_from};
 ghost use Rattle.gx_stream.specs.Reading.{item_of};
 ghost use Rattle.gx_adapt.specs.Streams.{is_reset};
-ghost use Rattle.gx_adapt.specs.Adapting.{AdaptsFrom, IsReadAgain, HasRoom, Puts, PutsIf, SendsFor, with_item};
+ghost use Rattle.gx_adapt.specs.Adapting.{AdaptsFrom, IsReadAgain, HasRoom, Passes, Puts, PutsIf, SendsFor, with_item};
 
 use crate::fault::AdaptFault;
 use crate::lot::{is_reset_line, lot_of};
+use crate::marks::Marks;
 use crate::report::Report;
 use crate::text::{put_announcement, put_line};
 use gx_stream::{Item, ItemReader};
@@ -25,8 +26,9 @@ use std::alloc::Allocator;
 /// - lines that ask for files of marks, and `get-mark`, are left out.
 ///
 /// No byte of a block changes. Comments go, a block is announced by its length, and an LF ends each line and each block.
-/// Each item goes out as soon as it has come. Memory: the longest item, and the longest line once more. Cost: the bytes of
-/// the stream.
+/// Tags of blobs and of tags are counted, by the marks. Each item goes out as soon as it has come. Memory: the longest item,
+/// the longest line once more, and the marks of blobs and of tags. Cost: the bytes of the stream, and for each line with a mark
+/// the logarithm of the number of marks.
 /// Source: git-fast-import(1).
 pub fn adapt<R: Source + Drop, W: Sink, A: Allocator + Copy>(
     alloc: A,
@@ -40,13 +42,14 @@ pub fn adapt<R: Source + Drop, W: Sink, A: Allocator + Copy>(
     let mut text = Vec::new(alloc);
     let mut report = Report::new();
     let mut after_reset = false;
+    let mut marks = Marks::new(alloc);
     loop {
         let item = match reader.next() {
             Err(fault) => return Err(AdaptFault::from(fault)),
             Ok(None) => return Ok(report),
             Ok(Some(item)) => item,
         };
-        match send_item(&mut text, sink, &mut report, after_reset, item) {
+        match send_item(&mut text, sink, &mut report, &mut marks, after_reset, item) {
             Err(fault) => return Err(fault),
             Ok(resets) => after_reset = resets,
         }
@@ -58,17 +61,19 @@ fn send_item<W: Sink, A: Allocator + Copy>(
     text: &mut Vec<u8, A>,
     sink: &mut W,
     report: &mut Report,
+    marks: &mut Marks<A>,
     after_reset: bool,
     item: Item<'_>,
 ) -> Result<bool, AdaptFault>
     requires room { HasRoom report.old }
     ensures reset { IfOk result (λ resets. resets ≡ is_reset (item_of item.entry)) }
     ensures sends { SendsFor after_reset (item_of item.entry) (W.taken sink.old) (W.taken sink.new) result }
-    ensures counts { OnOk result (report.new ≡ with_item after_reset (item_of item.entry) report.old) }
+    ensures passes { OnOk result (Passes (item_of item.entry) marks.old marks.new) }
+    ensures counts { OnOk result (report.new ≡ with_item after_reset marks.old (item_of item.entry) report.old) }
 {
     match item {
         Item::Line(line) => {
-            match send_line(text, sink, report, after_reset, line) {
+            match send_line(text, sink, report, marks, after_reset, line) {
                 Ok(()) => Ok(is_reset_line(line)),
                 Err(fault) => Err(fault),
             }
@@ -85,20 +90,23 @@ fn send_line<W: Sink, A: Allocator + Copy>(
     text: &mut Vec<u8, A>,
     sink: &mut W,
     report: &mut Report,
+    marks: &mut Marks<A>,
     after_reset: bool,
     line: &[u8],
 ) -> Result<(), AdaptFault>
     requires room { HasRoom report.old }
     ensures sends { SendsFor after_reset (Line line.now) (W.taken sink.old) (W.taken sink.new) result }
-    ensures counts { OnOk result (report.new ≡ with_item after_reset (Line line.now) report.old) }
+    ensures passes { OnOk result (Passes (Line line.now) marks.old marks.new) }
+    ensures counts { OnOk result (report.new ≡ with_item after_reset marks.old (Line line.now) report.old) }
 {
     let lot = lot_of(after_reset, line);
+    let names_blob_or_tag = marks.pass(line)?;
     text.clear();
     put_line(text, line, lot)?;
     if let Err(fault) = send_all(sink, text) {
         return Err(fault);
     }
-    report.add(line, lot);
+    report.add(line, lot, names_blob_or_tag);
     Ok(())
 }
 

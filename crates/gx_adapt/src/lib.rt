@@ -6,6 +6,7 @@ mod adapting;
 mod fault;
 mod laws;
 mod lot;
+mod marks;
 mod path;
 mod report;
 mod text;

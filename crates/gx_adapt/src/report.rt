@@ -24,12 +24,14 @@ pub struct Report {
     pub notes: u64,
     /// Identities dated before 1970. They stay as they are.
     pub early_dates: u64,
+    /// Tags whose `from` is the mark of a blob or of a tag. They stay as they are.
+    pub tags_of_blobs_or_tags: u64,
 }
 
 impl Report {
     /// A report of no items.
     pub(crate) fn new() -> Report
-        ensures { result ≡ record { identities = 0; deletions = 0; paths = 0; marks = 0; notes = 0; early_dates = 0 } }
+        ensures { result ≡ record { identities = 0; deletions = 0; paths = 0; marks = 0; notes = 0; early_dates = 0; tags_of_blobs_or_tags = 0 } }
     {
         Report {
             identities: 0,
@@ -38,13 +40,14 @@ impl Report {
             marks: 0,
             notes: 0,
             early_dates: 0,
+            tags_of_blobs_or_tags: 0,
         }
     }
 
-    /// Counts a line, of which this becomes.
-    pub(crate) fn add(&mut self, line: &[u8], lot: Lot<'_>)
+    /// Counts a line, of which this becomes, and which names a blob or a tag for a tag, or doesn't.
+    pub(crate) fn add(&mut self, line: &[u8], lot: Lot<'_>, names_blob_or_tag: bool)
         requires room { HasRoom self.old }
-        ensures added { self.new ≡ counted (lot_seen lot.entry) (Line line.now) self.old }
+        ensures added { self.new ≡ counted (lot_seen lot.entry) names_blob_or_tag (Line line.now) self.old }
     {
         match lot {
             Lot::Kept => {}
@@ -58,6 +61,9 @@ impl Report {
         }
         if is_early(line) {
             self.early_dates += 1;
+        }
+        if names_blob_or_tag {
+            self.tags_of_blobs_or_tags += 1;
         }
     }
 }

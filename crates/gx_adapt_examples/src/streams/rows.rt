@@ -7,6 +7,7 @@ pub(super) const NOTHING: Report = Report {
     marks: 0,
     notes: 0,
     early_dates: 0,
+    tags_of_blobs_or_tags: 0,
 };
 
 /// Streams of each kind of line, with what they are adapted to.
@@ -83,6 +84,34 @@ pub(super) const STREAMS: &[Row] = &[
             ..NOTHING
         },
     ),
+    // a tag of a blob, one of a commit, and one of a tag
+    (
+        b"blob\nmark :1\ndata 1\nx\ntag a\nmark :2\nfrom :1\ndata 1\na\n",
+        b"blob\nmark :1\ndata 1\nx\ntag a\nmark :2\nfrom :1\ndata 1\na\n",
+        Report {
+            tags_of_blobs_or_tags: 1,
+            ..NOTHING
+        },
+    ),
+    (
+        b"commit refs/heads/m\nmark :1\ndata 1\nm\ntag a\nfrom :1\ndata 1\na\n",
+        b"commit refs/heads/m\nmark :1\ndata 1\nm\ntag a\nfrom :1\ndata 1\na\n",
+        NOTHING,
+    ),
+    (
+        b"commit refs/heads/m\nmark :1\ndata 1\nm\ntag a\nmark :2\nfrom :1\ndata 1\na\ntag b\nfrom :2\ndata 1\nb\n",
+        b"commit refs/heads/m\nmark :1\ndata 1\nm\ntag a\nmark :2\nfrom :1\ndata 1\na\ntag b\nfrom :2\ndata 1\nb\n",
+        Report {
+            tags_of_blobs_or_tags: 1,
+            ..NOTHING
+        },
+    ),
+    // a mark that a commit sets anew, one within a block, and a reset to a blob
+    (
+        b"blob\nmark :1\ndata 8\nmark :3\n\ncommit refs/heads/m\nmark :1\ndata 1\nm\ntag a\nfrom :1\ndata 1\na\ntag b\nfrom :3\ndata 1\nb\nblob\nmark :4\ndata 0\nreset refs/tags/c\nfrom :4\n",
+        b"blob\nmark :1\ndata 8\nmark :3\n\ncommit refs/heads/m\nmark :1\ndata 1\nm\ntag a\nfrom :1\ndata 1\na\ntag b\nfrom :3\ndata 1\nb\nblob\nmark :4\ndata 0\n\nreset refs/tags/c\nfrom :4\n",
+        NOTHING,
+    ),
     (MIXED, MIXED_ADAPTED, MIXED_REPORT),
 ];
 
@@ -109,4 +138,5 @@ pub(super) const MIXED_REPORT: Report = Report {
     marks: 1,
     notes: 0,
     early_dates: 1,
+    tags_of_blobs_or_tags: 0,
 };

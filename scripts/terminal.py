@@ -186,6 +186,8 @@ def try_adapt():
     want("adapt tells what it did in a file, too", plain[0] == 0 and plain[1].splitlines() == told, plain)
     adapted = b"commit refs/heads/m\ncommitter  <a@b> -1 +0000\ndata 0\n\nM 100644 :1 \"\\\"a\"\nN :1 :2\n"
     want("adapt prints the stream alone", plain[2] == adapted, plain)
+    tags = b"blob\nmark :1\ndata 1\nx\ntag a\nmark :2\nfrom :1\ndata 1\na\ntag b\nfrom :2\ndata 1\nb\n"
+    want("adapt counts tags of blobs and of tags", run_plain(["adapt"], tags) == (0, b"gx: tags of blobs and tags that an import refuses: 2\n", tags))
     want("adapt of an adapted stream", run_plain(["adapt"], b"blob\ndata 1\nx\n") == (0, b"", b"blob\ndata 1\nx\n"))
     want("adapt of a cut stream", run_plain(["adapt"], b"blob\ndata 9\nx") == (1, b"gx: adapt: TruncatedData\n", b"blob\n"))
 

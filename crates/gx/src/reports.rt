@@ -23,6 +23,10 @@ pub(crate) fn tell_adaption(rt: &HostRuntime, report: &AdaptReport) {
             "dates before 1970 that an import refuses",
             report.early_dates,
         ),
+        (
+            "tags of blobs and tags that an import refuses",
+            report.tags_of_blobs_or_tags,
+        ),
     ];
     for (what, count) in counts.iter() {
         if *count > 0 {

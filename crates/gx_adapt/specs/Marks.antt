@@ -19,7 +19,7 @@ command_begun l =
     else (if begins (codes "tag ") l then Some Tag
     else (if is_reset_line l then Some Reset else None)))
 
--- the command that the latest line began that began one
+-- the command that these items are in: that of the latest line that begins one
 abbrev pub command_of : List Item → Option Command
 command_of [] = None
 command_of (Line l ∷ earlier) = option_or (command_begun l) (command_of earlier)
@@ -30,9 +30,11 @@ abbrev pub mark_in : Bytes → Option (Bytes × Bytes) → Option ℕ
 mark_in word None = None
 mark_in word (Some p) = if bytes_eq p.0 word then result_ok (mark_of p.1) else None
 
+-- the same of a line, at its first space
 unfoldable pub mark_behind : Bytes → Bytes → Option ℕ
 mark_behind word l = mark_in word (cut_at 32 l)
 
+-- a command whose mark no tag may have
 abbrev pub is_blob_or_tag : Option Command → Bool
 is_blob_or_tag None = false
 is_blob_or_tag (Some Blob) = true

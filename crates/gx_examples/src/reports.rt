@@ -82,6 +82,7 @@ const UNCHANGED: AdaptReport = AdaptReport {
     marks: 0,
     notes: 0,
     early_dates: 0,
+    tags_of_blobs_or_tags: 0,
 };
 
 /// Streams, and what is told where they are adapted.
@@ -102,6 +103,13 @@ const ADAPTED: &[(&[u8], AdaptReport)] = &[
         AdaptReport {
             notes: 2,
             early_dates: 1,
+            ..UNCHANGED
+        },
+    ),
+    (
+        b"blob\nmark :1\ndata 0\ntag blob\nmark :2\nfrom :1\ndata 0\ntag tag\nfrom :2\ndata 0\n",
+        AdaptReport {
+            tags_of_blobs_or_tags: 2,
             ..UNCHANGED
         },
     ),

@@ -14,7 +14,7 @@ use Rattle.gx_model.specs.Replay.{State, checkpointed, final, is_fast_forward, s
 use Rattle.gx_model.specs.Sound.{IsTarget}
 use Rattle.gx_text.specs.Devices.{Taken}
 use Rattle.gx_import.specs.Applying.{Applies}
-use Rattle.gx_import.specs.Keeping.{AreNames, AreNone, AreStill, EntersAll, IsLeft, IsNext, Keeps, KeepsAfter, KeepsInEach, Moves, left_of}
+use Rattle.gx_import.specs.Keeping.{AreNames, AreNone, AreStill, EntersAll, HoldsAll, IsLeft, IsNext, Keeps, KeepsAfter, KeepsInEach, Moves, left_of}
 use Rattle.gx_import.specs.Publishing.{Publishes}
 use Rattle.gx_import.specs.Rows.{rows_of}
 use Rattle.gx_import.specs.Standing.{Extends, Stands}
@@ -203,6 +203,14 @@ module _ {A : Type 0} where
         targets = subst (λ rs. HaveTargets rs new.refs) (sym records) next.targets;
         none = λ q. absurd (omega (arith, next.count, q));
       }
+
+  -- the refs stay all published ones
+  pub all_still : (old new : Records) (checkpoints : Checkpoints A) → new.refs ≡ old.refs → HoldsAll old checkpoints → HoldsAll new checkpoints
+  all_still old new checkpoints same h = λ all. subst (λ refs. AreNames refs (rows_of checkpoints.refs)) (sym same) (h all)
+
+  -- and are none at the start
+  pub all_none : (r : Records) (checkpoints : Checkpoints A) → AreNone r checkpoints → HoldsAll r checkpoints
+  all_none r checkpoints h = λ all. subst (λ refs. AreNames refs (rows_of checkpoints.refs)) (sym (h.all all)) (subst (AreNames {X = Bytes} []) (sym h.refs) tt)
 
   pub moved : (old new : Records) (was now : Checkpoints A) (r : Result (Unit {0}) ImportKind) → OnOk r (IsNext new was now) → OnErr r (AreStill old new was now) → Moves old new was now
   moved old new was now (Ok x) next still = inr next

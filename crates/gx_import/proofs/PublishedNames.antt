@@ -1,5 +1,5 @@
 -- The names that were published: those of more refs are entered, and there are as many as the refs that a state published.
-use Rattle.std.proofs.Common.{◌≡◌, suc, Bool, true, false, cond, List, [], ◌∷◌, length, map, Option, Some, None, refl, sym, ap, subst, ◌∙◌}
+use Rattle.std.proofs.Common.{◌≡◌, suc, Bool, true, false, cond, List, [], ◌∷◌, ◌++◌, append-nil, length, map, Option, Some, None, refl, sym, ap, subst, ◌∙◌}
 use Rattle.std.specs.Prelude.{IsTrue, T, is_some, not}
 use Rattle.std.specs.Bool.{passes}
 use Rattle.std.specs.List.{filter}
@@ -20,8 +20,8 @@ use Rattle.gx_model.specs.Replay.{byte_cmp, overwritten}
 use Rattle.gx_model.proofs.PathTests.{is_true}
 use Rattle.gx_object.specs.declared.name.Name.{Name}
 use Rattle.gx_import.specs.Keeping.{AreNames, Enters, EntersAll}
-use Rattle.gx_import.specs.RefChanges.{changes_of, is_new}
-use Rattle.gx_import.specs.Rows.{AreBoth}
+use Rattle.gx_import.specs.RefChanges.{branch_changes, changes_of, is_at, is_moved, is_new, moved_of, tag_changes}
+use Rattle.gx_import.specs.Rows.{AreBoth, rows_of}
 use Rattle.gx_import.specs.declared.tables.Tables.{Tables}
 use Rattle.gx_import.proofs.RelatedRows.{related_found, related_itself, related_put, related_through, sorted_same}
 use Rattle.gx_import.proofs.SetRefs.{changes_seen, overwritten_is, seen, seen_all, targets_of}
@@ -88,6 +88,17 @@ there_in_both None None h t = t
 there_in_both None (Some y) h t = absurd h
 there_in_both (Some x) p h t = tt
 
+there_in_other : {X Y : Type 0} (o : Option X) (p : Option Y) → AreBoth (λ (x : X) (y : Y). Unit {0}) o p → T (is_some o) → T (is_some p)
+there_in_other None None h t = t
+there_in_other None (Some y) h t = absurd h
+there_in_other (Some x) None h t = absurd h
+there_in_other (Some x) (Some y) h t = tt
+
+-- what holds an object is there
+some_at : (object : Bytes) (held : Option Bytes) → not (is_at held object) ≡ false → T (is_some held)
+some_at object None e = absurd (false≢true (sym e))
+some_at object (Some held) e = tt
+
 -- a name that is there stays where one is put
 there_put : {X : Type 0} (n : Bytes) (x : X) (rows : List (Bytes × X)) (m : Bytes) → IsThere rows m → IsThere (put byte_cmp n x rows) m
 there_put n x rows m t =
@@ -101,24 +112,42 @@ not_true : (b : Bool) → not b ≡ false → T b
 not_true true e = tt
 not_true false e = absurd (false≢true (sym e))
 
-same_names : (old : List (Bytes × Name)) (changes : List Change) (xs ys : List Ref) → T (is_sorted byte_cmp ys) → AreNames xs ys → ((n : Bytes) → IsThere old n → IsThere ys n)
-    → AreNames (with_changes xs changes) (with_changes ys (filter (is_new old) changes))
-same_names old [] xs ys s h there = h
-same_names old (c ∷ cs) xs ys s h there =
-    elim (is_new old c) as (λ b. is_new old c ≡ b → AreNames (with_changes xs (c ∷ cs)) (with_changes ys (cond b (c ∷ filter (is_new old) cs) (filter (is_new old) cs)))) [
-      | true ↦ λ e. same_names old cs (put byte_cmp c.0 c.1 xs) (put byte_cmp c.0 c.1 ys) (is_sorted-put byte_cmp order c.0 c.1 ys s) (names_put c.0 c.1 c.1 xs ys h) (λ n t. there_put c.0 c.1 ys n (there n t))
-      | false ↦ λ e.
-          let held = some_there (lookup (same_bytes c.0) ys) (there c.0 (not_true _ e)) in
-          same_names old cs (put byte_cmp c.0 c.1 xs) ys s (names_there c.0 c.1 held.0 xs ys (is_true _ s) held.1 h) there
-    ] refl
+names_with : (changes : List Change) (xs ys : List Ref) → AreNames xs ys → AreNames (with_changes xs changes) (with_changes ys changes)
+names_with [] xs ys h = h
+names_with (c ∷ cs) xs ys h = names_with cs (put byte_cmp c.0 c.1 xs) (put byte_cmp c.0 c.1 ys) (names_put c.0 c.1 c.1 xs ys h)
 
--- where the new names are entered, all are
+module _ (test : Change → Bool) (old : List (Bytes × Name)) (left_out : (c : Change) → test c ≡ false → IsThere old c.0) where
+  same_names : (changes more : List Change) (xs ys : List Ref) → T (is_sorted byte_cmp ys) → AreNames xs ys → ((n : Bytes) → IsThere old n → IsThere ys n)
+      → AreNames (with_changes xs (changes ++ more)) (with_changes ys (filter test changes ++ more))
+  same_names [] more xs ys s h there = names_with more xs ys h
+  same_names (c ∷ cs) more xs ys s h there =
+      elim (test c) as (λ b. test c ≡ b → AreNames (with_changes xs (c ∷ cs ++ more)) (with_changes ys (cond b (c ∷ filter test cs) (filter test cs) ++ more))) [
+        | true ↦ λ e. same_names cs more (put byte_cmp c.0 c.1 xs) (put byte_cmp c.0 c.1 ys) (is_sorted-put byte_cmp order c.0 c.1 ys s) (names_put c.0 c.1 c.1 xs ys h) (λ n t. there_put c.0 c.1 ys n (there n t))
+        | false ↦ λ e.
+            let held = some_there (lookup (same_bytes c.0) ys) (there c.0 (left_out c e)) in
+            same_names cs more (put byte_cmp c.0 c.1 xs) ys s (names_there c.0 c.1 held.0 xs ys (is_true _ s) held.1 h) there
+      ] refl
+
+  -- where the others are entered, all are
+  pub others_entered : (new : List (Bytes × Name)) (changes more : List Change) → IsTrue (is_sorted byte_cmp old) → Enters old new (filter test changes ++ more) → Enters old new (changes ++ more)
+  others_entered new changes more sorted enters = λ refs h.
+      let rising = passes _ (sorted_same (λ x y. Unit {0}) refs old h ∙ sorted) in
+      let there = λ (n : Bytes) (t : IsThere old n). there_in_both (lookup (same_bytes n) refs) (lookup (same_bytes n) old) (related_found (λ x y. Unit {0}) (same_bytes n) refs old h) t in
+      related_through (λ x y. Unit {0}) (λ x y. Unit {0}) (λ x y. Unit {0}) (λ x y z _ _. tt) (with_changes refs (changes ++ more)) (with_changes refs (filter test changes ++ more)) new
+      (same_names changes more refs refs rising (related_itself (λ x y. Unit {0}) (λ x. tt) refs) there) (enters refs h)
+
+-- so they are where the new ones are
 pub new_entered : (old new : List (Bytes × Name)) (changes : List Change) → IsTrue (is_sorted byte_cmp old) → Enters old new (filter (is_new old) changes) → Enters old new changes
-new_entered old new changes sorted enters = λ refs h.
-    let rising = passes _ (sorted_same (λ x y. Unit {0}) refs old h ∙ sorted) in
-    let there = λ (n : Bytes) (t : IsThere old n). there_in_both (lookup (same_bytes n) refs) (lookup (same_bytes n) old) (related_found (λ x y. Unit {0}) (same_bytes n) refs old h) t in
-    related_through (λ x y. Unit {0}) (λ x y. Unit {0}) (λ x y. Unit {0}) (λ x y z _ _. tt) (with_changes refs changes) (with_changes refs (filter (is_new old) changes)) new
-    (same_names old changes refs refs rising (related_itself (λ x y. Unit {0}) (λ x. tt) refs) there) (enters refs h)
+new_entered old new changes sorted enters =
+    subst (Enters old new) (append-nil changes)
+    (others_entered (is_new old) old (λ c e. not_true _ e) new changes [] sorted (subst (Enters old new) (sym (append-nil (filter (is_new old) changes))) enters))
+
+-- and where the moved ones are, beside refs whose names are all there
+pub moved_entered : {A : Type 0} (refs : List Ref) (old new : List (Bytes × Name)) (tables : Tables A) → IsTrue (is_sorted byte_cmp old) → AreNames refs old → Enters old new (moved_of refs tables) → Enters old new (changes_of tables)
+moved_entered refs old new tables sorted all enters =
+    others_entered (is_moved refs) old
+    (λ c e. there_in_other (lookup (same_bytes c.0) refs) (lookup (same_bytes c.0) old) (related_found (λ x y. Unit {0}) (same_bytes c.0) refs old all) (some_at c.1 (lookup (same_bytes c.0) refs) e))
+    new (branch_changes (rows_of tables.branches)) (tag_changes (rows_of tables.tags)) sorted enters
 
 -- ---- all names of a state
 

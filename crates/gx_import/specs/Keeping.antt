@@ -1,6 +1,6 @@
 -- What an import holds of its checkpoints: the records and refs that a refusal leaves, and the names that were published.
 -- Source: git-fast-import(1), "checkpoint".
-use Rattle.std.specs.Prelude.{◌≡◌, ◌⊎◌, ◌+◌, ◌≤◌, [], List, length, take, Result, Ok, Err, ⊤}
+use Rattle.std.specs.Prelude.{◌≡◌, ◌⊎◌, ◌+◌, ◌≤◌, Bool, [], List, length, take, IsTrue, Result, Ok, Err, ⊤}
 use Rattle.std.specs.List.{AllByRecursion}
 use Rattle.gx_model.specs.declared.objects.Kind.{Kind}
 use Rattle.gx_model.specs.Texts.{Bytes}
@@ -26,6 +26,14 @@ AreNames xs ys = AreRows (λ x y. ⊤) xs ys
 abbrev pub Enters : List (Bytes × Name) → List (Bytes × Name) → List Change → Type 0
 Enters old new changes = (refs : List Ref) → AreNames refs old → AreNames (with_changes refs changes) new
 
+-- where each ref is a published one, the names that were published are those of the refs
+abbrev pub HasAll : Bool → List Ref → List (Bytes × Name) → Type 0
+HasAll has_all refs rows = IsTrue has_all → AreNames refs rows
+
+-- the same of what an import holds of its checkpoints
+abbrev pub HoldsAll : {A : Type 0} → Records → Checkpoints A → Type 0
+HoldsAll repository checkpoints = HasAll checkpoints.has_all repository.refs (rows_of checkpoints.refs)
+
 -- what a refusal leaves: the records of the last checkpoint, and the refs
 abbrev pub left_of : {A : Type 0} → Checkpoints A → Records → Records
 left_of checkpoints repository = record { records = take checkpoints.records repository.records; refs = repository.refs }
@@ -47,6 +55,7 @@ pub record AreNone {A : Type 0} (repository : Records) (checkpoints : Checkpoint
   pub records : checkpoints.records ≡ length repository.records
   pub count : checkpoints.count ≡ 0
   pub refs : rows_of checkpoints.refs ≡ []
+  pub all : IsTrue checkpoints.has_all → repository.refs ≡ []
 
 -- one more, and what is held then
 pub record IsNext {A : Type 0} (repository : Records) (was now : Checkpoints A) : Type 0 where

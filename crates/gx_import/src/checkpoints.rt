@@ -16,19 +16,23 @@ pub(crate) struct Checkpoints<A: Allocator> {
     pub(crate) records: usize,
     /// The refs that were published, by their names.
     pub(crate) refs: Table<Name, A>,
+    /// Whether there was no ref at the start, so that each ref is one that was published.
+    pub(crate) has_all: bool,
 }
 
 impl<A: Allocator + Copy> Checkpoints<A> {
-    /// None, with so many records at the start. Takes no memory.
-    pub(crate) fn new(alloc: A, records: usize) -> Checkpoints<A>
+    /// None, with so many records at the start, and maybe no ref. Takes no memory.
+    pub(crate) fn new(alloc: A, records: usize, has_all: bool) -> Checkpoints<A>
         ensures count { result.count ≡ 0 }
         ensures records { result.records ≡ records }
         ensures refs { rows_of result.refs ≡ [] }
+        ensures has_all { result.has_all ≡ has_all }
     {
         Checkpoints {
             count: 0,
             records,
             refs: Table::new(alloc),
+            has_all,
         }
     }
 }

@@ -1,6 +1,6 @@
 //! Imports of whole streams. Source: git-fast-import(1).
 
-ghost use Rattle.std.specs.Prelude.{◌≡◌, IfErr, OnErr, OnOk};
+ghost use Rattle.std.specs.Prelude.{◌≡◌, [], IfErr, IsTrue, OnErr, OnOk};
 ghost use Rattle.gx_import.specs.Exported.{ImportsExport, KeepsNoNullGitlink, RefusesNullGitlink};
 ghost use Rattle.gx_import.specs.Imports.{Imports, StandsReplayed};
 ghost use Rattle.gx_import.specs.Keeping.{AreNone, IsLeft};
@@ -36,10 +36,10 @@ use std::alloc::Allocator;
 ///
 /// Cost: each command's bytes; for a commit the directories on its changed paths, and once for a branch the size of the
 /// tree that it starts from; and for each object to be put or found a look-up. Memory: the objects, the marks,
-/// the branches with their files, and one command. A checkpoint, as the end, costs a few comparisons for each branch and each
-/// published name; for each branch that moved the commits that it reaches behind its old one; for each such branch and each
-/// tag a look-up of its object and searches among the refs; and where a ref is new, copies of all refs. Source:
-/// git-fast-import(1).
+/// the branches with their files, and one command. A checkpoint, as the end, costs a comparison or two for each branch, and
+/// where there were refs before the import a few more for each branch, tag and published name; for each branch that moved
+/// the commits that it reaches behind its old one; for each such branch and each tag a look-up of its object and searches
+/// among the refs and the published names; and where a ref is new, copies of all refs. Source: git-fast-import(1).
 pub fn import<N: Namer, A: Allocator + Copy, R: Source + Drop, W: Sink>(
     alloc: A,
     repo: &mut Repo<N, A>,
@@ -62,7 +62,7 @@ pub fn import<N: Namer, A: Allocator + Copy, R: Source + Drop, W: Sink>(
     exports_are_readable();
     exports_are_imported();
     repo.sound();
-    let mut checkpoints = Checkpoints::new(alloc, repo.store().len());
+    let mut checkpoints = Checkpoints::new(alloc, repo.store().len(), has_no_refs(repo));
     match replay_and_publish(alloc, repo, &mut checkpoints, source, sink) {
         Ok(report) => {
             repo.sound();
@@ -74,6 +74,13 @@ pub fn import<N: Namer, A: Allocator + Copy, R: Source + Drop, W: Sink>(
             Err(fault)
         }
     }
+}
+
+/// Whether a repository has no refs.
+fn has_no_refs<N: Namer, A: Allocator + Copy>(repo: &Repo<N, A>) -> bool
+    ensures { IsTrue result → repo.now.1.refs ≡ [] }
+{
+    repo.refs().next().is_none()
 }
 
 /// Replays a stream's commands, and publishes what they made. A refused import leaves the refs of the last checkpoint, and
@@ -98,7 +105,7 @@ fn replay_and_publish<N: Namer, A: Allocator + Copy, R: Source + Drop, W: Sink>(
     let held = repo.store().len();
     let mut tables = Tables::new(alloc);
     let commands = replay(repo, &mut tables, checkpoints, source, sink)?;
-    if let Err(kind) = publish(repo, &tables, &mut checkpoints.refs) {
+    if let Err(kind) = publish(repo, &tables, &mut checkpoints.refs, checkpoints.has_all) {
         return Err(ImportFault {
             command: commands + 1,
             kind,

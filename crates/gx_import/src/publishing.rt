@@ -12,10 +12,10 @@ ghost use Rattle.gx_model.specs.Texts.{same_bytes};
 ghost use Rattle.gx_model.specs.Values.{Commit};
 ghost use Rattle.gx_repo.specs.Refs.{asked};
 ghost use Rattle.gx_import.specs.Calls.{TellsForward, TellsMovable};
-ghost use Rattle.gx_import.specs.Keeping.{Enters, EntersAll};
+ghost use Rattle.gx_import.specs.Keeping.{Enters, EntersAll, HasAll};
 ghost use Rattle.gx_import.specs.Objects.{IsCommitOf};
 ghost use Rattle.gx_import.specs.Publishing.{Publishes};
-ghost use Rattle.gx_import.specs.RefChanges.{IsHeldByRef, branch_changes, branch_then, is_at, is_moved, moved_of, tag_changes};
+ghost use Rattle.gx_import.specs.RefChanges.{IsHeldByRef, branch_changes, branch_then, changes_of, is_at, is_moved, moved_of, tag_changes};
 ghost use Rattle.gx_import.specs.Rows.{AreBoth, rows_of};
 ghost use Rattle.gx_import.specs.Standing.{Stands};
 ghost use Rattle.gx_import.specs.declared.fault.ImportKind.TheVariants.{OutOfMemory};
@@ -30,28 +30,31 @@ use gx_object::{Name, Namer};
 use gx_repo::{PublishFault, RefChange, Repo};
 use std::alloc::{AllocError, Allocator};
 
-/// Publishes the branches with a commit, and then the tags, and enters their names among those that were published.
+/// Publishes the branches with a commit, and then the tags, and enters their names among those that were published, which
+/// may be all refs.
 pub(crate) fn publish<N: Namer, A: Allocator + Copy>(
     repo: &mut Repo<N, A>,
     tables: &Tables<A>,
     published: &mut Table<Name, A>,
+    has_all: bool,
 ) -> Result<(), ImportKind>
     requires stands { (s : State) × Stands (N.name_of repo.now.0) repo.now.1 tables.now s }
     requires sorted { IsTrue (is_sorted byte_cmp (rows_of published.now)) }
+    requires has_all { HasAll has_all repo.now.1.refs (rows_of published.now) }
     ensures namer { repo.new.0 ≡ repo.old.0 }
     ensures records { repo.new.1.records ≡ repo.old.1.records }
     ensures unchanged { OnErr result (repo.new ≡ repo.old) }
     ensures published { (s : State) → Stands (N.name_of repo.old.0) repo.old.1 tables.now s → Publishes s repo.old.1 repo.new.1 result }
     ensures entered { OnOk result (EntersAll (N.name_of repo.old.0) repo.old.1 tables.now (rows_of published.old) (rows_of published.new)) }
     ensures sorted { OnOk result (IsTrue (is_sorted byte_cmp (rows_of published.new))) }
+    ensures has_all { OnOk result (HasAll has_all repo.new.1.refs (rows_of published.new)) }
 {
     histories_of_records();
     repo.sound();
     let Some(changes) = changes(repo, tables)? else {
         return Err(ImportKind::NotFastForward);
     };
-    let names = new_names(tables, published)?;
-    enter_all(tables.alloc, published, names.as_slice())?;
+    enter_names(tables, published, has_all, changes.as_slice())?;
     publish_all(repo, changes.as_slice())?;
     Ok(())
 }
@@ -192,6 +195,26 @@ fn publish_all<N: Namer, A: Allocator + Copy>(
             _ => unreachable!(),
         },
     }
+}
+
+/// Enters the names of the branches with a commit and of the tags, where these changes set the refs. A ref that is to stay
+/// has its name there already, where all refs are published ones; else the names are gone through for new ones.
+fn enter_names<A: Allocator + Copy>(
+    tables: &Tables<A>,
+    published: &mut Table<Name, A>,
+    has_all: bool,
+    changes: &[RefChange<'_>],
+) -> Result<(), AllocError>
+    requires sorted { IsTrue (is_sorted byte_cmp (rows_of published.now)) }
+    requires changes { (refs : List Ref) × HasAll has_all refs (rows_of published.now) × (map asked changes.now ≡ moved_of refs tables.now) }
+    ensures sorted { OnOk result (IsTrue (is_sorted byte_cmp (rows_of published.new))) }
+    ensures entered { OnOk result (Enters (rows_of published.old) (rows_of published.new) (changes_of tables.now)) }
+{
+    if has_all {
+        return enter_all(tables.alloc, published, changes);
+    }
+    let names = new_names(tables, published)?;
+    enter_all(tables.alloc, published, names.as_slice())
 }
 
 /// Enters the names of these refs, those that aren't there yet.

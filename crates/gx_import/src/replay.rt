@@ -8,7 +8,7 @@ ghost use Rattle.gx_model.specs.Replay.{State, byte_cmp};
 ghost use Rattle.std.specs.FinMap.Entries.{is_sorted};
 ghost use Rattle.gx_command.specs.Views.{shown_command};
 ghost use Rattle.gx_import.specs.Exported.{KeepsNoNullGitlink};
-ghost use Rattle.gx_import.specs.Keeping.{AreNone, AreStill, EntersAll, IsLeft, IsNext, KeepsInEach, Moves, left_of};
+ghost use Rattle.gx_import.specs.Keeping.{AreNone, AreStill, EntersAll, HoldsAll, IsLeft, IsNext, KeepsInEach, Moves, left_of};
 ghost use Rattle.gx_import.specs.Replaying.{FallsNext, ReadsNext, ReplaysTo, Writes};
 ghost use Rattle.gx_import.specs.Publishing.{Publishes};
 ghost use Rattle.gx_import.specs.Rows.{rows_of};
@@ -46,6 +46,7 @@ pub(crate) fn replay<N: Namer, A: Allocator + Copy, R: Source + Drop, W: Sink>(
     ensures replayed { ReplaysTo (N.name_of repo.old.0) repo.old.1 repo.new.1 tables.new checkpoints.new (R.coming source) (W.taken sink.old) (W.taken sink.new) result }
     ensures left { IsLeft repo.old.1 repo.new.1 checkpoints.new }
     ensures sorted { OnOk result (IsTrue (is_sorted byte_cmp (rows_of checkpoints.new.refs))) }
+    ensures has_all { OnOk result (HoldsAll repo.new.1 checkpoints.new) }
     ensures counted { IfErr result (λ fault. fault.checkpoints ≡ checkpoints.new.count) }
     ensures gitlinks { OnOk result (IsHistory (history_of repo.old.1) → KeepsNoNullGitlink repo.old.1 repo.new.1) }
     ensures gitlinks_left { IsHistory (history_of repo.old.1) → KeepsNoNullGitlink repo.old.1 (left_of checkpoints.new repo.new.1) }
@@ -100,11 +101,13 @@ fn apply<N: Namer, A: Allocator + Copy, W: Sink>(
     requires fits { checkpoints.now.records ≤ length repo.now.1.records }
     requires room { checkpoints.now.count < 2 ^ 64 - 1 }
     requires sorted { IsTrue (is_sorted byte_cmp (rows_of checkpoints.now.refs)) }
+    requires has_all { HoldsAll repo.now.1 checkpoints.now }
     ensures homes { IfOk result (λ _. AreTipsAtHome (N.name_of repo.old.0) repo.new.1.records tables.new) }
     ensures namer { repo.new.0 ≡ repo.old.0 }
     ensures extends { Extends repo.old.1.records repo.new.1.records }
     ensures moves { Moves repo.old.1 repo.new.1 checkpoints.old checkpoints.new }
     ensures sorted { OnOk result (IsTrue (is_sorted byte_cmp (rows_of checkpoints.new.refs))) }
+    ensures has_all { OnOk result (HoldsAll repo.new.1 checkpoints.new) }
     ensures keeps { KeepsInEach (N.name_of repo.old.0) repo.old.1 repo.new.1 tables.old checkpoints.old checkpoints.new (shown_command command) result }
     ensures steps { AppliesInEach (N.name_of repo.old.0) repo.old.1 repo.new.1 tables.old tables.new (shown_command command) (W.taken sink.old) (W.taken sink.new) result }
 {
@@ -133,6 +136,7 @@ fn apply_checkpoint<N: Namer, A: Allocator + Copy>(
     requires stands { (s : State) × Stands (N.name_of repo.now.0) repo.now.1 tables.now s }
     requires room { checkpoints.now.count < 2 ^ 64 - 1 }
     requires sorted { IsTrue (is_sorted byte_cmp (rows_of checkpoints.now.refs)) }
+    requires has_all { HoldsAll repo.now.1 checkpoints.now }
     ensures namer { repo.new.0 ≡ repo.old.0 }
     ensures records { repo.new.1.records ≡ repo.old.1.records }
     ensures next { OnOk result (IsNext repo.new.1 checkpoints.old checkpoints.new) }
@@ -140,8 +144,9 @@ fn apply_checkpoint<N: Namer, A: Allocator + Copy>(
     ensures published { (s : State) → Stands (N.name_of repo.old.0) repo.old.1 tables.now s → Publishes s repo.old.1 repo.new.1 result }
     ensures entered { OnOk result (EntersAll (N.name_of repo.old.0) repo.old.1 tables.now (rows_of checkpoints.old.refs) (rows_of checkpoints.new.refs)) }
     ensures sorted { OnOk result (IsTrue (is_sorted byte_cmp (rows_of checkpoints.new.refs))) }
+    ensures has_all { OnOk result (HoldsAll repo.new.1 checkpoints.new) }
 {
-    publish(repo, tables, &mut checkpoints.refs)?;
+    publish(repo, tables, &mut checkpoints.refs, checkpoints.has_all)?;
     repo.sound();
     checkpoints.count += 1;
     checkpoints.records = repo.store().len();

@@ -17,7 +17,7 @@ use Rattle.gx_import.proofs.importing.replay_and_publish.Goals as goal
 pub publish-requires : goal.publish-requires
 publish-requires g c =
     let k = c.in_ok-commands.ensures.replayed in
-    record { sorted = c.in_ok-commands.ensures.sorted; stands = (k.0, subst (λ n. Stands (g.N.Namer.name_of n) c.replay.new.repo.1 c.replay.new.tables k.0) {y = c.replay.new.repo.0} (sym {a = c.replay.new.repo.0} c.replay.ensures.namer) k.1) }
+    record { sorted = c.in_ok-commands.ensures.sorted; has_all = c.in_ok-commands.ensures.has_all; stands = (k.0, subst (λ n. Stands (g.N.Namer.name_of n) c.replay.new.repo.1 c.replay.new.tables k.0) {y = c.replay.new.repo.0} (sym {a = c.replay.new.repo.0} c.replay.ensures.namer) k.1) }
 
 pub returns-in-Err-clause-replayed : goal.returns-in-Err-clause-replayed
 returns-in-Err-clause-replayed g c =

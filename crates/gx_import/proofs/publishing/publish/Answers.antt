@@ -1,11 +1,11 @@
 use Rattle.std.proofs.Common.{◌≡◌, IfSome, is_some, map, refl, sym, ap, subst, ◌∙◌}
 use Rattle.gx_model.specs.Publishing.{changes_fault, with_changes}
 use Rattle.gx_repo.specs.Refs.{asked}
-use Rattle.gx_import.specs.Keeping.{Enters}
-use Rattle.gx_import.specs.RefChanges.{branch_changes, changes_of, is_moved, moved_of, tag_changes}
+use Rattle.gx_import.specs.Keeping.{AreNames}
+use Rattle.gx_import.specs.RefChanges.{branch_changes, is_moved, moved_of, tag_changes}
 use Rattle.gx_import.specs.Rows.{rows_of}
 use Rattle.gx_import.proofs.MovedChanges.{fewer_free, moved_set}
-use Rattle.gx_import.proofs.PublishedNames.{all_entered, new_entered}
+use Rattle.gx_import.proofs.PublishedNames.{all_entered}
 use Rattle.gx_import.proofs.SetRefs.{changes_free, final_set}
 use Rattle.gx_import.proofs.publishing.publish.Goals as goal
 
@@ -34,11 +34,23 @@ returns-clause-published g c = λ s h.
       final_set name namer r c.sound.ensures tables s h (c.histories_of_records.ensures name namer) c.publish_all.new.repo.1 c.in_ok-publish_all.ensures.records set,
     )
 
+pub enter_names-requires : goal.enter_names-requires
+enter_names-requires g c =
+    let r = c.args.repo.now.1 in
+    let asked_for = subst (λ o. IfSome o (λ cs. map asked cs.items ≡ moved_of r.refs c.args.tables.now)) c.in-Some.is c.in_ok-changes.ensures.changes in
+    record { sorted = c.requires.sorted; changes = (r.refs, c.requires.has_all, ap (map asked) c.as_slice.ensures.value ∙ asked_for) }
+
 pub returns-clause-entered : goal.returns-clause-entered
 returns-clause-entered g c =
     let name = g.N.Namer.name_of c.args.repo.now.0 in
     let tables = c.args.tables.now in
-    let old = rows_of c.args.published.now in
-    let new = rows_of c.enter_all.new.published in
-    let names = ap (map asked) c.as_slice.ensures.value ∙ c.in_ok-names.ensures in
-    all_entered name c.args.repo.now.1 tables old new (new_entered old new (changes_of tables) c.requires.sorted (subst (Enters old new) names c.in_ok-enter_all.ensures.entered))
+    all_entered name c.args.repo.now.1 tables (rows_of c.args.published.now) (rows_of c.enter_names.new.published) c.in_ok-enter_names.ensures.entered
+
+pub returns-clause-has_all : goal.returns-clause-has_all
+returns-clause-has_all g c = λ all.
+    let r = c.args.repo.now.1 in
+    let tables = c.args.tables.now in
+    let asked_for = subst (λ o. IfSome o (λ cs. map asked cs.items ≡ moved_of r.refs tables)) c.in-Some.is c.in_ok-changes.ensures.changes in
+    let moved = c.in_ok-publish_all.ensures.refs ∙ ap (λ cs. with_changes r.refs (map asked cs)) c.as_slice-2.ensures.value ∙ ap (with_changes r.refs) asked_for in
+    let set = moved ∙ moved_set r.refs (rows_of tables.branches) (tag_changes (rows_of tables.tags)) c.sound.ensures.sorted c.requires.stands.1.branches_sorted in
+    subst (λ refs. AreNames refs (rows_of c.enter_names.new.published)) (sym set) (c.in_ok-enter_names.ensures.entered r.refs (c.requires.has_all all))

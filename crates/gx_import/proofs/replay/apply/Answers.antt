@@ -9,7 +9,7 @@ use Rattle.gx_import.proofs.AppliedCommands.{added_as, clash_here, given_as, pro
 use Rattle.std.proofs.Common.{refl}
 use Rattle.gx_model.specs.Commands.{Asks, Progress}
 use Rattle.gx_import.specs.Rows.{rows_of}
-use Rattle.gx_import.proofs.KeptCheckpoints.{checkpoint_as, kept_anew, kept_here, kept_on, moved, same_records, when_ok}
+use Rattle.gx_import.proofs.KeptCheckpoints.{all_still, checkpoint_as, kept_anew, kept_here, kept_on, moved, same_records, when_ok}
 use Rattle.gx_import.proofs.ProgressTexts.{IsOther}
 use Rattle.gx_import.proofs.TipHomes.{AreHome, always, homes_longer}
 use Rattle.gx_import.proofs.replay.apply.Goals as goal
@@ -73,6 +73,9 @@ returns-in-Blob-clause-moves g c = inl (record { count = refl; records = refl; r
 pub returns-in-Blob-clause-sorted : goal.returns-in-Blob-clause-sorted
 returns-in-Blob-clause-sorted g c = when_ok c.apply_blob.result c.requires.sorted
 
+pub returns-in-Blob-clause-has_all : goal.returns-in-Blob-clause-has_all
+returns-in-Blob-clause-has_all g c = when_ok c.apply_blob.result (all_still c.args.repo.now.1 c.apply_blob.new.repo.1 c.args.checkpoints.now c.apply_blob.ensures.refs c.requires.has_all)
+
 pub returns-in-Commit-clause-keeps : goal.returns-in-Commit-clause-keeps
 returns-in-Commit-clause-keeps g c =
     let name = g.N.Namer.name_of c.args.repo.now.0 in
@@ -83,6 +86,9 @@ returns-in-Commit-clause-moves g c = inl (record { count = refl; records = refl;
 
 pub returns-in-Commit-clause-sorted : goal.returns-in-Commit-clause-sorted
 returns-in-Commit-clause-sorted g c = when_ok c.apply_commit.result c.requires.sorted
+
+pub returns-in-Commit-clause-has_all : goal.returns-in-Commit-clause-has_all
+returns-in-Commit-clause-has_all g c = when_ok c.apply_commit.result (all_still c.args.repo.now.1 c.apply_commit.new.repo.1 c.args.checkpoints.now c.apply_commit.ensures.refs c.requires.has_all)
 
 pub returns-in-Tag-clause-keeps : goal.returns-in-Tag-clause-keeps
 returns-in-Tag-clause-keeps g c =
@@ -95,6 +101,9 @@ returns-in-Tag-clause-moves g c = inl (record { count = refl; records = refl; re
 pub returns-in-Tag-clause-sorted : goal.returns-in-Tag-clause-sorted
 returns-in-Tag-clause-sorted g c = when_ok c.apply_tag.result c.requires.sorted
 
+pub returns-in-Tag-clause-has_all : goal.returns-in-Tag-clause-has_all
+returns-in-Tag-clause-has_all g c = when_ok c.apply_tag.result (all_still c.args.repo.now.1 c.apply_tag.new.repo.1 c.args.checkpoints.now c.apply_tag.ensures.refs c.requires.has_all)
+
 pub returns-in-Reset-clause-keeps : goal.returns-in-Reset-clause-keeps
 returns-in-Reset-clause-keeps g c =
     let name = g.N.Namer.name_of c.args.repo.now.0 in
@@ -106,6 +115,9 @@ returns-in-Reset-clause-moves g c = inl (record { count = refl; records = refl; 
 pub returns-in-Reset-clause-sorted : goal.returns-in-Reset-clause-sorted
 returns-in-Reset-clause-sorted g c = when_ok c.apply_reset.result c.requires.sorted
 
+pub returns-in-Reset-clause-has_all : goal.returns-in-Reset-clause-has_all
+returns-in-Reset-clause-has_all g c = when_ok c.apply_reset.result c.requires.has_all
+
 pub returns-in-Progress-clause-keeps : goal.returns-in-Progress-clause-keeps
 returns-in-Progress-clause-keeps g c =
     let name = g.N.Namer.name_of c.args.repo.now.0 in
@@ -116,6 +128,9 @@ returns-in-Progress-clause-moves g c = inl (record { count = refl; records = ref
 
 pub returns-in-Progress-clause-sorted : goal.returns-in-Progress-clause-sorted
 returns-in-Progress-clause-sorted g c = when_ok c.apply_progress.result c.requires.sorted
+
+pub returns-in-Progress-clause-has_all : goal.returns-in-Progress-clause-has_all
+returns-in-Progress-clause-has_all g c = when_ok c.apply_progress.result c.requires.has_all
 
 pub returns-in-Feature-clause-keeps : goal.returns-in-Feature-clause-keeps
 returns-in-Feature-clause-keeps g c =

@@ -12,7 +12,7 @@ use Rattle.std.specs.Prelude.{IsTrue}
 use Rattle.std.specs.FinMap.Entries.{is_sorted}
 use Rattle.gx_import.specs.Keeping.{Keeps, left_of}
 use Rattle.gx_import.specs.Replaying.{EndsAs}
-use Rattle.gx_import.proofs.KeptCheckpoints.{counted_next, kept_start, left_next, left_start}
+use Rattle.gx_import.proofs.KeptCheckpoints.{all_none, counted_next, kept_start, left_next, left_start}
 use Rattle.gx_import.specs.Standing.{AreTipsAtHome, Stands}
 use Rattle.gx_import.proofs.ReachedStates.{IsAt, at_end, at_next, at_refused, at_start, at_stopped, extends_more, stand_empty, step_keeps}
 use Rattle.gx_import.proofs.TipHomes.{AreHome}
@@ -29,6 +29,7 @@ loop-reader-init g c =
       counted = omega (arith, c.requires.none.count);
       left = left_start c.args.repo.now.1 c.args.checkpoints.now c.requires.none c.sound.ensures.held;
       sorted = subst (λ rows. IsTrue (is_sorted byte_cmp rows)) (sym c.requires.none.refs) refl;
+      has_all = all_none c.args.repo.now.1 c.args.checkpoints.now c.requires.none;
       stands = (
         start (history_of c.args.repo.now.1),
         stand_empty name c.args.repo.now.1 c.args.tables.now c.requires.empty,
@@ -64,7 +65,7 @@ pub overflow_add-commands : goal.overflow_add-commands
 overflow_add-commands g c = omega (arith, c.loop-reader.invariant.room)
 
 pub apply-requires : goal.apply-requires
-apply-requires g c = record { stands = (c.loop-reader.invariant.stands.0, c.loop-reader.invariant.stands.1); homes = c.loop-reader.invariant.homes; fits = c.loop-reader.invariant.left.fits; room = omega (arith, c.loop-reader.invariant.room, c.loop-reader.invariant.counted); sorted = c.loop-reader.invariant.sorted }
+apply-requires g c = record { stands = (c.loop-reader.invariant.stands.0, c.loop-reader.invariant.stands.1); homes = c.loop-reader.invariant.homes; fits = c.loop-reader.invariant.left.fits; room = omega (arith, c.loop-reader.invariant.room, c.loop-reader.invariant.counted); sorted = c.loop-reader.invariant.sorted; has_all = c.loop-reader.invariant.has_all }
 
 pub returns-in-Err-clause-namer : goal.returns-in-Err-clause-namer
 returns-in-Err-clause-namer g c = c.apply.ensures.namer ∙ c.loop-reader.invariant.namer
@@ -107,6 +108,7 @@ loop-reader-preserved g c =
       counted = counted_next c.loop-reader.repo.1 c.apply.new.repo.1 c.loop-reader.checkpoints c.apply.new.checkpoints c.loop-reader.commands c.apply.ensures.moves inv.counted;
       left = left_next old c.loop-reader.repo.1 c.apply.new.repo.1 c.loop-reader.checkpoints c.apply.new.checkpoints inv.left c.apply.ensures.extends c.apply.ensures.moves;
       sorted = c.in_default-apply.ensures.sorted;
+      has_all = c.in_default-apply.ensures.has_all;
       stands = (
         h.0,
         subst (λ n. Stands (g.N.Namer.name_of n) c.apply.new.repo.1 c.apply.new.tables h.0) (sym c.apply.ensures.namer) h.2,
@@ -170,6 +172,9 @@ returns-clause-left g c = c.loop-reader.invariant.left
 
 pub returns-clause-sorted : goal.returns-clause-sorted
 returns-clause-sorted g c = c.loop-reader.invariant.sorted
+
+pub returns-clause-has_all : goal.returns-clause-has_all
+returns-clause-has_all g c = c.loop-reader.invariant.has_all
 
 pub returns-clause-gitlinks_left : goal.returns-clause-gitlinks_left
 returns-clause-gitlinks_left g c = λ is none.

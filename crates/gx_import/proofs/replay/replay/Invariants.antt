@@ -6,7 +6,7 @@ use Rattle.gx_model.specs.Replay.{State, byte_cmp}
 use Rattle.gx_model.proofs.GitlinkSteps.{IsFreeState}
 use Rattle.std.specs.Prelude.{IsTrue}
 use Rattle.std.specs.FinMap.Entries.{is_sorted}
-use Rattle.gx_import.specs.Keeping.{IsLeft, Keeps}
+use Rattle.gx_import.specs.Keeping.{HoldsAll, IsLeft, Keeps}
 use Rattle.gx_import.specs.Rows.{rows_of}
 use Rattle.gx_import.specs.Standing.{AreTipsAtHome, Extends, Stands}
 use Rattle.gx_import.proofs.ReachedStates.{IsAt}
@@ -21,6 +21,7 @@ invariant-loop-reader g l = record {
   counted : l.checkpoints.count ≤ l.commands;
   left : IsLeft l.fn.repo.1 l.repo.1 l.checkpoints;
   sorted : IsTrue (is_sorted byte_cmp (rows_of l.checkpoints.refs));
+  has_all : HoldsAll l.repo.1 l.checkpoints;
   stands : (s : State) × Stands (g.N.Namer.name_of l.repo.0) l.repo.1 l.tables s
       × IsAt (g.N.Namer.name_of l.repo.0) l.fn.repo.1 (g.R.Source.coming l.fn.source) l.commands s l.reader.commands (g.W.Sink.taken l.fn.sink) (g.W.Sink.taken l.sink)
       × (IsHistory (history_of l.fn.repo.1) → HoldsNoNullGitlink (history_of l.fn.repo.1) → IsFreeState s)

@@ -50,7 +50,7 @@ fn goes_out(
 ) -> Result<bool, AllocError> {
     let mut sink = Held::new(alloc, text.len())?;
     let is_sent = send_store(repo, &mut sink).is_ok() && sink.bytes() == text;
-    let mut short = Held::new(alloc, text.len() - 1)?;
+    let mut short = Held::new(alloc, text.len().saturating_sub(1))?;
     let is_cut = send_store(repo, &mut short).is_err() && text.starts_with(short.bytes());
     Ok(is_sent && is_cut)
 }

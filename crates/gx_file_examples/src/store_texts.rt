@@ -310,7 +310,7 @@ fn text_goes_out_as_it_is_written(rt: HostRuntime) -> Result<(), Fail> {
     let mut sink = Held::new(rt.alloc(), text.len())?;
     assert!(rt; write_to(&repo, &mut sink).is_ok());
     assert!(rt; sink.bytes() == text.as_slice());
-    let mut short = Held::new(rt.alloc(), text.len() - 1)?;
+    let mut short = Held::new(rt.alloc(), text.len().saturating_sub(1))?;
     assert!(rt; write_to(&repo, &mut short).is_err());
     assert!(rt; text.starts_with(short.bytes()));
     Ok(())

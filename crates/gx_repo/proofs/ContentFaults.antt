@@ -89,6 +89,13 @@ pub wider_last : (a : Option ℕ) → wider a (Some 0) ≡ a
 wider_last None = refl
 wider_last (Some x) = ap Some (omega arith)
 
+-- of three rooms it is the same from either side
+wider_turned : (a b c : Option ℕ) → wider (wider a b) c ≡ wider a (wider b c)
+wider_turned None b c = refl
+wider_turned (Some x) None c = refl
+wider_turned (Some x) (Some y) None = refl
+wider_turned (Some x) (Some y) (Some z) = ap Some (omega arith)
+
 -- of two rooms that may be missing, one is
 both_rooms : (b c : Bool) (x y : ℕ) → wider (if b then None else Some x) (if c then None else Some y) ≡ (if b || c then None else Some (max x y))
 both_rooms true c x y = refl
@@ -157,6 +164,17 @@ module _ (rs : List Record) (body : Bytes) where
   -- once no entry is left, all are held
   pub held_at_end : (left : List Entry) → left ≡ [] → list_all (λ e. is_entry_held rs e.mode e.name) (entries_in body) ≡ list_all (λ e. is_entry_held rs e.mode e.name) left → are_links_held rs kinds.Tree body ≡ true
   held_at_end left e h = h ∙ ap (list_all (λ e. is_entry_held rs e.mode e.name)) e
+
+  -- the next entry's room, entered
+  pub wider_next : (e : Entry) (left more : List Entry) (far next now : Option ℕ) → left ≡ e ∷ more → wider far (widest rs left) ≡ widest rs (entries_in body) → next ≡ entry_room rs e → now ≡ wider far next
+      → wider now (widest rs more) ≡ widest rs (entries_in body)
+  wider_next e left more far next now s h n w =
+      ap (λ x. wider x (widest rs more)) (w ∙ ap (wider far) n) ∙ wider_turned far (entry_room rs e) (widest rs more) ∙ sym (ap (λ es. wider far (widest rs es)) s) ∙ h
+
+  -- where the next entry is held, all are where the others are
+  pub next_held : (e : Entry) (left more : List Entry) → left ≡ e ∷ more → list_all (λ e. is_entry_held rs e.mode e.name) (entries_in body) ≡ list_all (λ e. is_entry_held rs e.mode e.name) left → is_entry_held rs e.mode e.name ≡ true
+      → list_all (λ e. is_entry_held rs e.mode e.name) (entries_in body) ≡ list_all (λ e. is_entry_held rs e.mode e.name) more
+  next_held e left more s h d = h ∙ ap (list_all (λ x. is_entry_held rs x.mode x.name)) s ∙ ap (λ b. b && list_all (λ x. is_entry_held rs x.mode x.name) more) d
 
   -- where the next entry isn't held, not all are
   pub next_dangling : (e : Entry) (left more : List Entry) → left ≡ e ∷ more → list_all (λ e. is_entry_held rs e.mode e.name) (entries_in body) ≡ list_all (λ e. is_entry_held rs e.mode e.name) left → is_entry_held rs e.mode e.name ≡ false

@@ -6,6 +6,7 @@ pub mod HeldRecords
 pub mod PathRooms
 pub mod Places
 pub mod RecordRooms
+pub mod EarlierTrees
 pub mod EntryRooms
 pub mod CheckedEntries
 pub mod ContentFaults

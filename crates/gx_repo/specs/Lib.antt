@@ -5,3 +5,4 @@ pub mod Rooms
 pub mod Places
 pub mod Records
 pub mod Checking
+pub mod Earlier

@@ -1,5 +1,5 @@
 //! What a record of which nothing is known has against it. Source: Pro Git, "Git Objects".
-ghost use Rattle.std.specs.Prelude.{◌≡◌, [], length, max, slice_get, true, false, Some, None, IfOk, IfErr, OnOk, OnErr};
+ghost use Rattle.std.specs.Prelude.{◌≡◌, [], length, max, slice_get, true, false, Some, None, IsTrue, IfOk, IfErr, OnOk, OnErr};
 ghost use Rattle.gx_model.specs.declared.objects.Kind.TheVariants as kinds;
 ghost use Rattle.gx_model.specs.HistoryOf.{named_values, value_in};
 ghost use Rattle.gx_model.specs.RecordFaults.{content_fault, is_entry_held, is_held, is_of_kind};
@@ -11,6 +11,7 @@ ghost use Rattle.gx_repo.specs.Checking.{entry_room, wider};
 ghost use Rattle.gx_repo.specs.Records.{add_fault};
 ghost use Rattle.gx_repo.specs.Rooms.{room_of, rooms_of};
 
+use crate::earlier::Hints;
 use crate::fault::AddFault;
 use gx_model::store_laws::bodies_are_read;
 use gx_object::{Entry, Kind, Mode, Name, Namer, decode_commit, decode_tag, decode_tree};
@@ -22,10 +23,12 @@ const MOST_ROOM: usize = 4096;
 
 /// The room of what is below an object, or what its body has against it.
 ///
-/// Cost: the body's length, and a look-up for each link; each entry is looked at once. Takes no memory.
+/// Cost: the body's length, and a look-up for each link, but for those of files that stand in the tree to which the hints
+/// lead; each entry is looked at once. Takes no memory.
 pub(crate) fn checked_room<N: Namer, A: Allocator + Copy>(
     store: &Store<N, A>,
     rooms: &[usize],
+    hints: &Hints,
     kind: Kind,
     body: &[u8],
 ) -> Result<usize, AddFault>
@@ -37,7 +40,7 @@ pub(crate) fn checked_room<N: Namer, A: Allocator + Copy>(
 {
     match kind {
         Kind::Blob => Ok(0),
-        Kind::Tree => tree_room(store, rooms, body),
+        Kind::Tree => tree_room(store, rooms, hints, body),
         Kind::Commit => check_commit(store, body),
         Kind::Tag => check_tag(store, body),
     }
@@ -47,6 +50,7 @@ pub(crate) fn checked_room<N: Namer, A: Allocator + Copy>(
 fn tree_room<N: Namer, A: Allocator + Copy>(
     store: &Store<N, A>,
     rooms: &[usize],
+    hints: &Hints,
     body: &[u8],
 ) -> Result<usize, AddFault>
     requires sound { IsSound (N.name_of store.now.0) (record { records = store.now.1; refs = [] }) }
@@ -59,9 +63,11 @@ fn tree_room<N: Namer, A: Allocator + Copy>(
     let Ok(entries) = decode_tree(body) else {
         return Err(AddFault::BadObject);
     };
+    let mut earlier = hints.earlier(store, body);
     let mut widest = Some(0);
     for entry in entries {
-        widest = wider(widest, entry_room(store, rooms, &entry)?);
+        let is_known = earlier.takes(&entry);
+        widest = wider(widest, entry_room(store, rooms, is_known, &entry)?);
     }
     let Some(room) = widest else {
         return Err(AddFault::BadObject);
@@ -79,14 +85,17 @@ fn wider(room: Option<usize>, other: Option<usize>) -> Option<usize>
     Some(usize::max(room?, other?))
 }
 
-/// The room of what is at or below an entry, or none where it names a tree without entries.
+/// The room of what is at or below an entry, or none where it names a tree without entries. A file that is known to be
+/// held isn't looked up.
 fn entry_room<N: Namer, A: Allocator + Copy>(
     store: &Store<N, A>,
     rooms: &[usize],
+    is_known: bool,
     entry: &Entry<'_>,
 ) -> Result<Option<usize>, AddFault>
     requires sound { IsSound (N.name_of store.now.0) (record { records = store.now.1; refs = [] }) }
     requires rooms { rooms.now ≡ rooms_of store.now.1 }
+    requires known { IsTrue is_known → is_entry_held store.now.1 entry.now.mode entry.now.name.bytes ≡ true }
     ensures room { IfOk result (λ room. room ≡ entry_room store.now.1 (shown entry.now)) }
     ensures held { OnOk result (is_entry_held store.now.1 entry.now.mode entry.now.name.bytes ≡ true) }
     ensures fault { IfErr result (λ fault. fault ≡ Dangling) }
@@ -105,7 +114,9 @@ fn entry_room<N: Namer, A: Allocator + Copy>(
             }
         }
         Mode::File | Mode::Exec | Mode::Link => {
-            place_of(store, Kind::Blob, &entry.name)?;
+            if !is_known {
+                place_of(store, Kind::Blob, &entry.name)?;
+            }
             Ok(Some(own))
         }
     }

@@ -3,6 +3,7 @@
 #![tactic(auto)]
 
 mod checking;
+mod earlier;
 mod fault;
 mod publishing;
 mod refs;

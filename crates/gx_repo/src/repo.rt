@@ -32,6 +32,7 @@ ghost use Rattle.gx_repo.specs.Refs.{asked, kept};
 ghost use Rattle.gx_repo.specs.Rooms.{room_of};
 
 use crate::checking::checked_room;
+use crate::earlier::Hints;
 use crate::fault::{AddFault, OutOfMemory, PublishFault};
 use crate::publishing::{RefChange, are_held, set_objects, with_changes};
 use crate::refs::{Ref, Refs, find_by_names, find_near};
@@ -56,6 +57,7 @@ pub struct Repo<N: Namer, A: Allocator> {
     store: Store<N, A>,
     /// Of each record, by its place.
     rooms: Vec<usize, A>,
+    hints: Hints,
     refs: Vec<Ref<A>, A>,
     alloc: A,
 }
@@ -82,6 +84,7 @@ impl<N: Namer, A: Allocator + Copy> Repo<N, A> {
         Repo {
             store: Store::new(alloc, namer, state),
             rooms: Vec::new(alloc),
+            hints: Hints::new(),
             refs: Vec::new(alloc),
             alloc,
         }
@@ -293,8 +296,10 @@ impl<N: Namer, A: Allocator + Copy> Repo<N, A> {
     /// `Dangling`: a link isn't held, or is held as another kind. `BadObject`: an entry names a tree without entries, or a
     /// path below the tree has more than 4,095 bytes. `DuplicateObject`: the name is held, whatever its bytes.
     /// `OutOfMemory`: a growth was refused. After a fault the repository is as it was.
-    /// Cost: that of `Store::put`, and a look-up for each link; each entry is looked at once, and so are those of the trees
-    /// that were added since the last such call. Source: Pro Git, "Git Objects".
+    /// Cost: that of `Store::put`, and a look-up for each link, but for a file's that stands alike in the tree beside which a
+    /// new one is looked at: one that was added here, with the same first or the same last entry, and not much over twice as
+    /// long. Each entry of both is looked at once, and so are those of the trees that were added since the last such call.
+    /// Source: Pro Git, "Git Objects".
     pub fn add_record(&mut self, kind: Kind, body: &[u8]) -> Result<Name, AddFault>
         ensures namer { self.new.0 ≡ self.old.0 }
         ensures adds { AddsRecord self.old.1.records self.new.1.records (record_for (N.name_of self.old.0) kind body.now) result }
@@ -352,7 +357,8 @@ impl<N: Namer, A: Allocator + Copy> Repo<N, A> {
         self.rooms.truncate(len);
     }
 
-    /// The room of what is below an object, or what its body has against it. The rooms of all records are entered before.
+    /// The room of what is below an object, or what its body has against it. The rooms of all records are entered before,
+    /// and the place at which a tree is to stand behind.
     fn room_of(&mut self, kind: Kind, body: &[u8]) -> Result<usize, AddFault>
         ensures same { self.new ≡ self.old }
         ensures ok { IfOk result (λ _. content_fault self.old.1.records kind body.now ≡ None) }
@@ -365,7 +371,11 @@ impl<N: Namer, A: Allocator + Copy> Repo<N, A> {
             self.rooms.truncate(entered);
             return Err(AddFault::OutOfMemory);
         };
-        checked_room(&self.store, self.rooms.as_slice(), kind, body)
+        let room = checked_room(&self.store, self.rooms.as_slice(), &self.hints, kind, body)?;
+        if kind == Kind::Tree {
+            self.hints.enter(body, self.store.len());
+        }
+        Ok(room)
     }
 
     /// Puts an object whose links are held, with the room of what is below it where all before it have theirs.

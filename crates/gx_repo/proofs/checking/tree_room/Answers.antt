@@ -1,7 +1,7 @@
 use Rattle.std.proofs.Common.{sym, ◌∙◌}
 use Rattle.gx_model.specs.declared.objects.Kind.TheVariants as kinds
 use Rattle.gx_object.specs.Entries.{shown}
-use Rattle.gx_repo.proofs.ContentFaults.{bad_below, dangling_passed, empty_below, fine_below, held_at_end, long_below, next_dangling, not_canonical, not_held, nothing_against, told_bad, told_good, widest_at_end, widest_room}
+use Rattle.gx_repo.proofs.ContentFaults.{bad_below, dangling_passed, empty_below, fine_below, held_at_end, long_below, next_dangling, next_held, not_canonical, not_held, nothing_against, told_bad, told_good, wider_next, widest_at_end, widest_room}
 use Rattle.gx_repo.proofs.checking.tree_room.Goals as goal
 
 pub returns-in_default-clause-fault : goal.returns-in_default-clause-fault
@@ -15,6 +15,17 @@ returns-in_err-entry_room-clause-fault g c =
     let good = told_good c.bodies_are_read.ensures kinds.Tree body (c.in-Ok.entries, c.in-Ok.ensures.found) in
     let links = next_dangling rs body (shown c.in-Some.entry) c.loop-entry.entry-iterator c.next.new.self c.in-Some.ensures.steps c.loop-entry.invariant.0 c.in_err-entry_room.ensures.dangling in
     dangling_passed rs kinds.Tree body c.from_residual.result c.in_err-entry_room.field-0.0 c.from_residual.ensures.1 c.in_err-entry_room.ensures.fault (not_held rs kinds.Tree body good links)
+
+pub loop-entry-preserved : goal.loop-entry-preserved
+loop-entry-preserved g c =
+    let rs = c.args.store.now.1 in
+    let body = c.args.body.now in
+    let e = shown c.in-Some.entry in
+    let left = c.loop-entry.entry-iterator in (
+      next_held rs body e left c.next.new.self c.in-Some.ensures.steps c.loop-entry.invariant.0 c.in_ok-entry_room.ensures.held,
+      wider_next rs body e left c.next.new.self c.loop-entry.widest c.in_ok-entry_room.field-0 c.wider-widest.result c.in-Some.ensures.steps c.loop-entry.invariant.1 c.in_ok-entry_room.ensures.room c.wider-widest.ensures,
+      c.takes-is_known.ensures.left rs c.loop-entry.invariant.2,
+    )
 
 pub returns-in_default-widest-clause-fault : goal.returns-in_default-widest-clause-fault
 returns-in_default-widest-clause-fault g c =

@@ -1,0 +1,187 @@
+//! A new tree beside an earlier one: an entry that stands in a tree that is held is held, too, and needs no look-up.
+ghost use Rattle.std.specs.Prelude.{◌<◌, ◌≡◌, [], List, IsTrue};
+ghost use Rattle.gx_model.specs.Histories.{Record};
+ghost use Rattle.gx_model.specs.Sound.{IsSound};
+ghost use Rattle.gx_object.specs.Entries.{shown};
+ghost use Rattle.gx_repo.specs.Earlier.{AreLeftHeld, IsHeldTree, IsThere};
+
+use gx_object::{Entry, Kind, Namer, TreeEntries, held_tree};
+use gx_store::Store;
+use gx_text::cut;
+use std::alloc::Allocator;
+
+/// How many hints there are by the first entries of trees, and as many by the last.
+const SLOTS: usize = 1024;
+
+/// A place at which no record stands.
+const NOWHERE: usize = usize::MAX;
+
+/// Where trees stand that a new one may be like: for each front of a name the last tree whose first entry has a name that
+/// begins so, and for each end of one the last tree whose last entry has a name that ends so.
+///
+/// A hint is any number, since what stands at its place is looked at where it is used. So hints are left as they are when
+/// records are dropped. They are not on the heap, so that no growth is needed for them.
+#[derive(Drop)]
+pub(crate) struct Hints {
+    by_first: [usize; SLOTS],
+    by_last: [usize; SLOTS],
+}
+
+impl Hints {
+    /// Hints that lead to no tree.
+    pub(crate) fn new() -> Hints {
+        Hints {
+            by_first: [NOWHERE; SLOTS],
+            by_last: [NOWHERE; SLOTS],
+        }
+    }
+
+    /// The held tree to which the hints lead from a new one's body, and of two the one whose length is nearer; one without
+    /// entries where they lead to none, or to longer ones than twice the body.
+    ///
+    /// Cost: the length of the first component, and two looks at records. Takes no memory.
+    pub(crate) fn earlier<'a, N: Namer, A: Allocator + Copy>(
+        &self,
+        store: &'a Store<N, A>,
+        body: &[u8],
+    ) -> Earlier<'a>
+        requires sound { IsSound (N.name_of store.now.0) (record { records = store.now.1; refs = [] }) }
+        ensures { AreLeftHeld store.now.1 result }
+    {
+        let first = tree_at(store, self.by_first[first_slot(body)]);
+        let last = tree_at(store, self.by_last[last_slot(body)]);
+        let mut rest = held_tree(nearer(body.len(), first, last));
+        let next = rest.next();
+        Earlier { next, rest }
+    }
+
+    /// Enters the place at which the tree with this body is to stand.
+    pub(crate) fn enter(&mut self, body: &[u8], place: usize) {
+        self.by_first[first_slot(body)] = place;
+        self.by_last[last_slot(body)] = place;
+    }
+}
+
+/// What is left of an earlier tree's entries.
+#[derive(Drop)]
+pub(crate) struct Earlier<'a> {
+    next: Option<Entry<'a>>,
+    rest: TreeEntries<'a>,
+}
+
+impl<'a> Earlier<'a> {
+    /// Whether an entry of this mode and name comes next, or next once those are passed whose components come before the
+    /// entry's. It is then passed, too.
+    ///
+    /// Cost: each entry is passed once. Takes no memory.
+    pub(crate) fn takes(&mut self, entry: &Entry<'_>) -> bool
+        ensures left { (records : List Record) → AreLeftHeld records self.old → AreLeftHeld records self.new }
+        ensures held { IsTrue result → (records : List Record) → AreLeftHeld records self.old → IsThere records (shown entry.now) }
+    {
+        if self.is_next(entry) {
+            self.pass_one();
+            return true;
+        }
+        self.pass_before(entry.component);
+        if self.is_next(entry) {
+            self.pass_one();
+            return true;
+        }
+        false
+    }
+
+    fn pass_one(&mut self)
+        ensures { (records : List Record) → AreLeftHeld records self.old → AreLeftHeld records self.new }
+    {
+        self.next = self.rest.next();
+    }
+
+    fn is_next(&self, entry: &Entry<'_>) -> bool
+        ensures { IsTrue result → (records : List Record) → AreLeftHeld records self.now → IsThere records (shown entry.now) }
+    {
+        match &self.next {
+            Some(next) => next.mode == entry.mode && next.name == entry.name,
+            None => false,
+        }
+    }
+
+    fn pass_before(&mut self, component: &[u8])
+        ensures { (records : List Record) → AreLeftHeld records self.old → AreLeftHeld records self.new }
+    {
+        if !self.is_before(component) {
+            return;
+        }
+        self.next = None;
+        while let Some(next) = self.rest.next() {
+            if next.component >= component {
+                self.next = Some(next);
+                return;
+            }
+        }
+    }
+
+    fn is_before(&self, component: &[u8]) -> bool {
+        match &self.next {
+            Some(next) => next.component < component,
+            None => false,
+        }
+    }
+}
+
+/// The body of the tree at a place; that of one without entries, where no tree stands there.
+fn tree_at<N: Namer, A: Allocator + Copy>(store: &Store<N, A>, place: usize) -> &[u8]
+    requires sound { IsSound (N.name_of store.now.0) (record { records = store.now.1; refs = [] }) }
+    ensures { IsHeldTree store.now.1 result.now }
+{
+    match store.record(place) {
+        Some((_, Kind::Tree, body)) => body,
+        _ => b"",
+    }
+}
+
+/// Of two bodies the one whose length is nearer to this; an empty one where that is more than twice as long.
+fn nearer<'a>(len: usize, first: &'a [u8], last: &'a [u8]) -> &'a [u8]
+    ensures { (records : List Record) → IsHeldTree records first.now → IsHeldTree records last.now → IsHeldTree records result.now }
+{
+    let near = if distance(first.len(), len) <= distance(last.len(), len) {
+        first
+    } else {
+        last
+    };
+    if near.len() / 2 > len { b"" } else { near }
+}
+
+fn distance(len: usize, other: usize) -> usize {
+    if len < other {
+        other - len
+    } else {
+        len - other
+    }
+}
+
+/// The slot of the first entry's name, in what may be a tree's body.
+fn first_slot(body: &[u8]) -> usize
+    ensures { result < 1024 }
+{
+    match cut(body, 0) {
+        Some((_, name)) => slot_of(name),
+        None => 0,
+    }
+}
+
+/// The slot of the last entry's name, in what may be a tree's body.
+fn last_slot(body: &[u8]) -> usize
+    ensures { result < 1024 }
+{
+    slot_of(&body[body.len().saturating_sub(2)..])
+}
+
+/// The slot of what begins with these bytes.
+fn slot_of(bytes: &[u8]) -> usize
+    ensures { result < 1024 }
+{
+    match bytes {
+        [first, second, ..] => (usize::from(*first) * 256 + usize::from(*second)) % SLOTS,
+        _ => 0,
+    }
+}

@@ -1,4 +1,4 @@
-use Rattle.std.proofs.Common.{◌≡◌, [], length, map, take, sym, ap, subst, ◌∙◌}
+use Rattle.std.proofs.Common.{map, sym, subst}
 use Rattle.gx_model.specs.Histories.{Records, with_tree}
 use Rattle.gx_model.specs.HistoryOf.{contents_of, named_values}
 use Rattle.gx_model.specs.RepositoryLaws.{values_of}
@@ -6,7 +6,6 @@ use Rattle.gx_model.specs.declared.objects.Kind.TheVariants as kinds
 use Rattle.gx_model.specs.Sound.{Holds, IsSound, Keeps}
 use Rattle.gx_repo.specs.Additions.{HasValues}
 use Rattle.gx_repo.specs.Refs.{kept}
-use Rattle.gx_repo.specs.Rooms.{rooms_of}
 use Rattle.gx_repo.proofs.Additions.{trees_grown}
 use Rattle.gx_repo.proofs.HeldRecords.{keeps_front, tree_holds}
 use Rattle.gx_repo.proofs.RecordRooms.{front_kept}

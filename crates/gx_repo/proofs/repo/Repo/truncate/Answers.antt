@@ -1,4 +1,4 @@
-use Rattle.std.proofs.Common.{◌≡◌, ℕ, zero, suc, List, [], ◌∷◌, ◌++◌, take, drop, map, refl, sym, ap, subst, ◌∙◌}
+use Rattle.std.proofs.Common.{◌≡◌, ℕ, zero, suc, List, [], ◌∷◌, ◌++◌, take, drop, map, refl, sym, ap, subst}
 use Rattle.gx_model.specs.Sound.{IsSound}
 use Rattle.gx_repo.specs.Refs.{kept}
 use Rattle.gx_repo.specs.Rooms.{IsFront}

@@ -1,14 +1,25 @@
 -- The texts of items and of commands, in their parts.
-use Rattle.std.specs.Prelude.{ℕ, zero, suc, length, List, [], ◌∷◌, ◌++◌, map, None, Some, codes}
+use Rattle.std.specs.Prelude.{ℕ, zero, suc, length, List, [], ◌∷◌, ◌++◌, map, Option, None, Some, codes}
+use Rattle.std.specs.Borrow.{Bor}
 use Rattle.std.specs.List.{flat_map}
+use Rattle.std.specs.Option.{option_map}
 use Rattle.gx_model.specs.declared.objects.Mode.{Mode}
 use Rattle.gx_model.specs.Texts.{Bytes}
 use Rattle.gx_model.specs.Items.{Data, Item, Line}
 use Rattle.gx_model.specs.Files.{FileMap}
-use Rattle.gx_model.specs.Commands.{Command, Marked, Tag}
+use Rattle.gx_model.specs.Commands.{Blob, Command, Marked, Reset, Tag}
 use Rattle.gx_model.specs.Objects.{TagParts}
+use Rattle.gx_model.specs.Paths.{Path, path_text, printed}
 use Rattle.gx_model.specs.Values.{Commit, CommitText, Value}
 use Rattle.gx_model.specs.Export.{carrier, change_items, command_items, commit_ish_text, file_change, first_parent, from_line, item_text, mark_line, mark_text, mode_digits, optional_line, other_parents, to_nothing, word_line}
+
+-- the bytes of parts, one after the other
+abbrev pub parts_text : List (Bor Bytes) → Bytes
+parts_text parts = flat_map (λ part. part.now) parts
+
+-- a text that may be left out
+abbrev pub optional_text : Option (Bor Bytes) → Option Bytes
+optional_text text = option_map (λ text. text.now) text
 
 -- the text of items
 abbrev pub items_text : List Item → Bytes
@@ -27,6 +38,14 @@ author_items mark text =
 abbrev pub head_items : ℕ → CommitText → List Item
 head_items mark text = author_items mark text ++ (optional_line (codes "encoding") text.encoding ++ Data text.message ∷ [])
 
+-- a blob under a mark
+abbrev pub blob_under : ℕ → Bytes → Command
+blob_under mark bytes = Blob (record { mark = Some mark; bytes = bytes })
+
+-- a reset to a commit that has a mark
+abbrev pub to_marked : Bytes → ℕ → Command
+to_marked name mark = Reset (record { ref = name; parent = Some (Marked mark) })
+
 -- a tag's items up to its commit, by the commit's mark
 abbrev pub target_items : ℕ → Bytes → List Item
 target_items mark name = word_line (codes "tag") name ∷ word_line (codes "from") (mark_text mark) ∷ []
@@ -38,6 +57,10 @@ tag_command mark parts = Tag (record { name = parts.name; mark = None; target = 
 -- the line of a file, with what it names and its path as texts
 abbrev pub file_line : Mode → Bytes → Bytes → Item
 file_line mode dataref path = word_line (codes "M") (mode_digits mode ++ 32 ∷ dataref ++ 32 ∷ path)
+
+-- a path as it ends the line of a file
+abbrev pub line_end : Path → Bytes
+line_end path = printed (path_text path) ++ 10 ∷ []
 
 -- the items of commands
 abbrev pub items_of : List Command → List Item

@@ -1,13 +1,11 @@
 //! The texts of commands. Source: git-fast-import(1), "Input Format".
 
-ghost use Rattle.std.specs.Prelude.{◌≡◌, ◌≤◌, [], ◌∷◌, Some};
-ghost use Rattle.std.specs.Option.{option_map};
-ghost use Rattle.gx_model.specs.Commands.{Blob, Marked, Reset};
+ghost use Rattle.std.specs.Prelude.{◌≤◌, [], ◌∷◌};
 ghost use Rattle.gx_model.specs.Export.{mark_text, optional_line, to_nothing, word_line};
 ghost use Rattle.gx_model.specs.Items.{Data};
 ghost use Rattle.gx_export.specs.Faults.{NeedsNoMemory};
 ghost use Rattle.gx_export.specs.Outputs.{Writes, most};
-ghost use Rattle.gx_export.specs.Texts.{author_items, command_text, head_items, items_text, tag_command, target_items};
+ghost use Rattle.gx_export.specs.Texts.{author_items, blob_under, command_text, head_items, items_text, optional_text, tag_command, target_items, to_marked};
 
 use crate::ExportFault;
 use crate::output::write_all;
@@ -23,7 +21,7 @@ pub(crate) fn write_blob<W: Sink>(
     bytes: &[u8],
 ) -> Result<(), ExportFault>
     requires { written.old ≤ most }
-    ensures text { Writes written.old written.new (W.taken sink.old) (W.taken sink.new) (command_text (Blob (record { mark = Some mark; bytes = bytes.now }))) result }
+    ensures text { Writes written.old written.new (W.taken sink.old) (W.taken sink.new) (command_text (blob_under mark bytes.now)) result }
     ensures memory { NeedsNoMemory result }
 {
     let mut number = Buffer::new();
@@ -71,7 +69,7 @@ fn write_optional<W: Sink>(
     text: Option<&[u8]>,
 ) -> Result<(), ExportFault>
     requires { written.old ≤ most }
-    ensures text { Writes written.old written.new (W.taken sink.old) (W.taken sink.new) (items_text (optional_line word.now (option_map (λ text. text.now) text.entry))) result }
+    ensures text { Writes written.old written.new (W.taken sink.old) (W.taken sink.new) (items_text (optional_line word.now (optional_text text.entry))) result }
     ensures memory { NeedsNoMemory result }
 {
     match text {
@@ -163,7 +161,7 @@ pub(crate) fn write_reset_to<W: Sink>(
     mark: u64,
 ) -> Result<(), ExportFault>
     requires { written.old ≤ most }
-    ensures text { Writes written.old written.new (W.taken sink.old) (W.taken sink.new) (command_text (Reset (record { ref = name.now; parent = Some (Marked mark) }))) result }
+    ensures text { Writes written.old written.new (W.taken sink.old) (W.taken sink.new) (command_text (to_marked name.now mark)) result }
     ensures memory { NeedsNoMemory result }
 {
     let mut number = Buffer::new();

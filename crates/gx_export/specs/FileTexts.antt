@@ -1,13 +1,14 @@
 -- The lines of files as they are gathered, and the trees that the files stand in.
-use Rattle.std.specs.Prelude.{◌≡◌, ◌≤◌, ◌++◌, [], ◌∷◌, ℕ, Bool, true, false, length, List, Option, Result, Ok, Err, IfSome, IsTrue}
+use Rattle.std.specs.Prelude.{◌≡◌, ◌≤◌, ◌++◌, [], ◌∷◌, ℕ, Bool, true, false, length, drop, List, Option, Result, Ok, Err, IfOk, IfSome, IsTrue, OnOk}
 use Rattle.std.specs.List.{list_all, slice_range, AllByRecursion}
 use Rattle.gx_model.specs.declared.objects.Kind.{Kind}
+use Rattle.gx_model.specs.declared.objects.Mode.{Mode}
 use Rattle.gx_model.specs.Export.{blob_commands, contents, with_blobs}
 use Rattle.gx_model.specs.Files.{FileMap}
 use Rattle.gx_model.specs.Histories.{Records, is_in}
 use Rattle.gx_model.specs.HistoryOf.{Named, contents_of, named_values}
 use Rattle.gx_model.specs.NameMaps.{IsHeldTree}
-use Rattle.gx_model.specs.Paths.{Path, is_component, is_short, path_of}
+use Rattle.gx_model.specs.Paths.{Path, is_component, is_short, path_of, path_text, printed}
 use Rattle.gx_model.specs.Sound.{IsHeldAs}
 use Rattle.gx_model.specs.Texts.{Bytes}
 use Rattle.gx_model.specs.Values.{Value, blob_value}
@@ -15,9 +16,9 @@ use Rattle.gx_text.specs.Devices.{Taken}
 use Rattle.gx_tree.specs.HeldTrees.{IsHeldEntry, IsHeldWithin}
 use Rattle.gx_tree.specs.Lists.{below}
 use Rattle.gx_tree.specs.Nodes.{Kept, kept_map}
-use Rattle.gx_export.specs.Marks.{Adds}
+use Rattle.gx_export.specs.Marks.{AddsBlobs}
 use Rattle.gx_export.specs.Outputs.{Stops}
-use Rattle.gx_export.specs.Texts.{file_items, items_of, items_text}
+use Rattle.gx_export.specs.Texts.{file_items, file_line, items_of, items_text}
 use Rattle.gx_export.specs.declared.fault.ExportFault.{ExportFault}
 use Rattle.gx_export.specs.declared.lines.Directory.{Directory}
 use Rattle.gx_export.specs.declared.lines.Lines.{Lines}
@@ -56,11 +57,16 @@ pub record IsLinesOf (repository : Records) (ws : List Value) (names : FileMap B
   pub lines : text ≡ lines_text (named_values repository.records) ws names
   pub written : AreWritten ws (bytes_in (named_values repository.records) names)
 
+-- a text is that of the lines of a tree's files, below a path that is written so
+abbrev pub IsLinesOfTree : (Kind → Bytes → Bytes) → Records → List Value → Bytes → Bytes → Bytes → Type 0
+IsLinesOfTree name repository ws path tree text =
+    (front : Path) (g : FileMap Bytes) → path_of path ≡ Ok front → IsHeldTree name repository.records tree g → IsLinesOf repository ws (below front g) text
+
 -- within a text, from one place to another, stand the lines of the files of a tree, below a path that is written so
 pub record StandsIn (name : Kind → Bytes → Bytes) (repository : Records) (ws : List Value) (text : Bytes) (start end : ℕ) (path tree : Bytes) : Type 0 where
   pub order : start ≤ end
   pub within : end ≤ length text
-  pub lines : (front : Path) (g : FileMap Bytes) → path_of path ≡ Ok front → IsHeldTree name repository.records tree g → IsLinesOf repository ws (below front g) (slice_range text start end)
+  pub lines : IsLinesOfTree name repository ws path tree (slice_range text start end)
 
 -- of a directory without a tree nothing is claimed
 abbrev pub IsKept : {A : Type 0} → (Kind → Bytes → Bytes) → Records → List Value → Bytes → Directory A → Type 0
@@ -70,6 +76,10 @@ IsKept name repository ws text directory = IfSome directory.tree (λ tree. Stand
 pub record AreKept {A : Type 0} (name : Kind → Bytes → Bytes) (repository : Records) (ws : List Value) (lines : Lines A) : Type 0 where
   pub now : AllByRecursion (IsKept name repository ws lines.text.items) lines.directories.items
   pub earlier : AllByRecursion (IsKept name repository ws lines.earlier.items) lines.left.items
+
+-- all directories of both commits are kept, whatever was written
+abbrev pub IsAlwaysKept : {A : Type 0} → Lines A → Type 0
+IsAlwaysKept lines = (name : Kind → Bytes → Bytes) (repository : Records) (ws : List Value) → AreKept name repository ws lines
 
 abbrev pub StaysKept : {A : Type 0} → Lines A → Lines A → Type 0
 StaysKept old new = (name : Kind → Bytes → Bytes) (repository : Records) (ws : List Value) → AreKept name repository ws old → AreKept name repository ws new
@@ -81,11 +91,30 @@ TakesOver name repository ws path tree old new true =
     × ((front : Path) (g : FileMap Bytes) → path_of path ≡ Ok front → IsHeldTree name repository.records tree g → (lines : Bytes) × (new.text.items ≡ old.text.items ++ lines) × IsLinesOf repository ws (below front g) lines)
 TakesOver name repository ws path tree old new false = AreKept name repository ws new × (new.text ≡ old.text)
 
+-- Where directories were kept, they stay so, and the lines of a tree's files are taken over or nothing is.
+abbrev pub MayTakeOver : {A E : Type 0} → Bytes → Bytes → Lines A → Lines A → Result Bool E → Type 0
+MayTakeOver path tree old new result =
+    (name : Kind → Bytes → Bytes) (repository : Records) (ws : List Value) → AreKept name repository ws old → IfOk result (TakesOver name repository ws path tree old new)
+
+-- Where directories were kept, they stay so, if the text ends with what stood between two places of the text before.
+abbrev pub Carries : {A E : Type 0} → ℕ → ℕ → ℕ → Lines A → Lines A → Result (Unit {0}) E → Type 0
+Carries start end place old new result =
+    (name : Kind → Bytes → Bytes) (repository : Records) (ws : List Value) (before : Bytes) → old.text.items ≡ before ++ slice_range old.earlier.items start end → length before ≡ place → AreKept name repository ws old → OnOk result (AreKept name repository ws new)
+
+-- Where directories were kept, they stay so, if the lines from a place on are those of a tree's files.
+abbrev pub Closes : {A : Type 0} → Bytes → Bytes → ℕ → Lines A → Lines A → Type 0
+Closes path tree start old new =
+    (name : Kind → Bytes → Bytes) (repository : Records) (ws : List Value) → AreKept name repository ws old → start ≤ length old.text.items → IsLinesOfTree name repository ws path tree (drop start old.text.items) → AreKept name repository ws new
+
+-- the line of a file stands behind those that were gathered before
+abbrev pub AppendsLine : {A : Type 0} → Lines A → Lines A → Mode → Bytes → Path → Type 0
+AppendsLine old new mode dataref path = new.text.items ≡ old.text.items ++ items_text (file_line mode dataref (printed (path_text path)) ∷ [])
+
 -- ---- what is gathered
 
 -- the blobs of files went out, and the lines of the files stand behind those that were gathered before
 pub record IsGathered {A : Type 0} (name : Kind → Bytes → Bytes) (repository : Records) (ws : List Value) (names : FileMap Bytes) (old new : Written A) (was now : Option Taken) (before after : Lines A) : Type 0 where
-  pub adds : Adds repository (with_blobs ws (bytes_in (named_values repository.records) names)) (items_of (blob_commands ws (bytes_in (named_values repository.records) names))) old new was now (Ok tt)
+  pub adds : AddsBlobs repository ws (bytes_in (named_values repository.records) names) old new was now (Ok tt)
   pub text : after.text.items ≡ before.text.items ++ lines_text (named_values repository.records) (with_blobs ws (bytes_in (named_values repository.records) names)) names
   pub kept : AreKept name repository (with_blobs ws (bytes_in (named_values repository.records) names)) after
 

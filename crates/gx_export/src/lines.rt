@@ -1,21 +1,12 @@
 //! The lines of a commit's files, which are gathered before they go out. Those of a directory that stays are taken over
 //! from the commit before.
 
-ghost use Rattle.std.specs.Prelude.{◌≡◌, ◌≤◌, ◌+◌, ◌-◌, ◌++◌, [], ◌∷◌, true, length, drop, List, Ok, Some, IfOk, OnOk};
-ghost use Rattle.std.specs.List.{flat_map, slice_range};
-ghost use Rattle.gx_model.specs.declared.objects.Kind.{Kind};
+ghost use Rattle.std.specs.Prelude.{◌≡◌, ◌≤◌, ◌+◌, ◌-◌, ◌++◌, [], true, length, Some, OnOk};
 ghost use Rattle.gx_model.specs.declared.objects.Mode.TheVariants.{Gitlink};
 ghost use Rattle.gx_model.specs.Export.{mark_text, mode_digits};
-ghost use Rattle.gx_model.specs.Files.{FileMap};
-ghost use Rattle.gx_model.specs.Histories.{Records};
-ghost use Rattle.gx_model.specs.NameMaps.{IsHeldTree};
 ghost use Rattle.gx_model.specs.Objects.{hex};
-ghost use Rattle.gx_model.specs.Paths.{Path, path_of, path_text, printed};
-ghost use Rattle.gx_model.specs.Texts.{Bytes};
-ghost use Rattle.gx_model.specs.Values.{Value};
-ghost use Rattle.gx_tree.specs.Lists.{below};
-ghost use Rattle.gx_export.specs.FileTexts.{AreKept, IsLinesOf, StaysKept, TakesOver};
-ghost use Rattle.gx_export.specs.Texts.{file_line, items_text};
+ghost use Rattle.gx_export.specs.FileTexts.{AppendsLine, Carries, Closes, IsAlwaysKept, MayTakeOver, StaysKept};
+ghost use Rattle.gx_export.specs.Texts.{line_end, parts_text};
 
 use gx_object::{Mode, Name};
 use gx_text::TreePath;
@@ -47,7 +38,7 @@ pub(crate) struct Lines<A: Allocator> {
 impl<A: Allocator + Copy> Lines<A> {
     /// No lines. Takes no memory.
     pub(crate) fn new(alloc: A) -> Lines<A>
-        ensures { (name : Kind → Bytes → Bytes) (repository : Records) (ws : List Value) → AreKept name repository ws result }
+        ensures { IsAlwaysKept result }
     {
         Lines {
             text: Vec::new(alloc),
@@ -74,7 +65,7 @@ impl<A: Allocator + Copy> Lines<A> {
     /// Appends the lines that the directory at a path had in the commit before, where its tree is the same. What stands
     /// below it is known then, too.
     pub(crate) fn take_over(&mut self, path: &[u8], tree: &Name) -> Result<bool, AllocError>
-        ensures { (name : Kind → Bytes → Bytes) (repository : Records) (ws : List Value) → AreKept name repository ws self.old → IfOk result (TakesOver name repository ws path.now tree.now.bytes self.old self.new) }
+        ensures { MayTakeOver path.now tree.now.bytes self.old self.new result }
     {
         self.pass(path);
         if self.next >= self.left.len() {
@@ -108,7 +99,7 @@ impl<A: Allocator + Copy> Lines<A> {
         requires order { start ≤ end }
         requires room { place + (end - start) ≤ length self.old.text.items }
         ensures text { self.new.text ≡ self.old.text }
-        ensures kept { (name : Kind → Bytes → Bytes) (repository : Records) (ws : List Value) (before : Bytes) → self.old.text.items ≡ before ++ slice_range self.old.earlier.items start end → length before ≡ place → AreKept name repository ws self.old → OnOk result (AreKept name repository ws self.new) }
+        ensures kept { Carries start end place self.old self.new result }
     {
         while self.next < self.left.len() && stands_within(&self.left[self.next], start, end) {
             let empty = Directory {
@@ -153,7 +144,7 @@ impl<A: Allocator + Copy> Lines<A> {
     /// The lines of the directory with a number are those from a place on.
     pub(crate) fn close(&mut self, number: usize, path: &[u8], tree: &Name, start: usize)
         ensures text { self.new.text ≡ self.old.text }
-        ensures kept { (name : Kind → Bytes → Bytes) (repository : Records) (ws : List Value) → AreKept name repository ws self.old → start ≤ length self.old.text.items → ((front : Path) (g : FileMap Bytes) → path_of path.now ≡ Ok front → IsHeldTree name repository.records tree.now.bytes g → IsLinesOf repository ws (below front g) (drop start self.old.text.items)) → AreKept name repository ws self.new }
+        ensures kept { Closes path.now tree.now.bytes start self.old self.new }
     {
         if number >= self.directories.len() {
             return;
@@ -173,7 +164,7 @@ impl<A: Allocator + Copy> Lines<A> {
         mark: u64,
         path: &TreePath<A>,
     ) -> Result<(), AllocError>
-        ensures text { OnOk result (self.new.text.items ≡ self.old.text.items ++ items_text (file_line mode (mark_text mark) (printed (path_text path.now)) ∷ [])) }
+        ensures text { OnOk result (AppendsLine self.old self.new mode (mark_text mark) path.now) }
         ensures kept { OnOk result (StaysKept self.old self.new) }
     {
         let digits = mode_digits(mode);
@@ -193,7 +184,7 @@ impl<A: Allocator + Copy> Lines<A> {
 
     /// Appends the line of a gitlink.
     pub(crate) fn add_gitlink(&mut self, name: &Name, path: &TreePath<A>) -> Result<(), AllocError>
-        ensures text { OnOk result (self.new.text.items ≡ self.old.text.items ++ items_text (file_line Gitlink (hex name.now.bytes) (printed (path_text path.now)) ∷ [])) }
+        ensures text { OnOk result (AppendsLine self.old self.new Gitlink (hex name.now.bytes) path.now) }
         ensures kept { OnOk result (StaysKept self.old self.new) }
     {
         let digits = name.hex();
@@ -249,7 +240,7 @@ fn end_line<A: Allocator + Copy>(
     text: &mut Vec<u8, A>,
     path: &TreePath<A>,
 ) -> Result<(), AllocError>
-    ensures { OnOk result (text.new.items ≡ text.old.items ++ (printed (path_text path.now) ++ 10 ∷ [])) }
+    ensures { OnOk result (text.new.items ≡ text.old.items ++ line_end path.now) }
 {
     let Ok(()) = path.write_quoted(text) else {
         return Err(AllocError);
@@ -260,7 +251,7 @@ fn end_line<A: Allocator + Copy>(
 
 /// Appends the bytes of all parts.
 fn append_all<A: Allocator + Copy>(text: &mut Vec<u8, A>, parts: &[&[u8]]) -> Result<(), AllocError>
-    ensures { OnOk result (text.new.items ≡ text.old.items ++ flat_map (λ part. part.now) parts.now) }
+    ensures { OnOk result (text.new.items ≡ text.old.items ++ parts_text parts.now) }
 {
     for part in parts {
         text.extend_from_slice(part)?;

@@ -1,11 +1,9 @@
 //! What an export has written so far.
 
-ghost use Rattle.std.specs.Prelude.{◌≡◌, ◌<◌, ◌+◌, ◌-◌, ◌^◌, List, length, IfOk, replicate, slice_set};
+ghost use Rattle.std.specs.Prelude.{◌≡◌, ◌<◌, ◌+◌, ◌-◌, ◌^◌, length, IfOk, replicate, slice_set};
 ghost use Rattle.gx_model.specs.RepositoryLaws.{values_of};
-ghost use Rattle.gx_model.specs.Export.{number_in};
-ghost use Rattle.gx_model.specs.Values.{Value};
 ghost use Rattle.gx_rev.specs.Objects.{IsHeld, value_at};
-ghost use Rattle.gx_export.specs.Marks.{AreNumbers};
+ghost use Rattle.gx_export.specs.Marks.{IsMarkOf};
 
 use crate::objects::place_of;
 use gx_object::{Name, Namer};
@@ -57,7 +55,7 @@ pub(crate) fn mark_of<N: Namer, A: Allocator + Copy>(
 ) -> u64
     requires held { IsHeld repo.now.1 name.now }
     requires long { length written.now.marks.items ≡ length (values_of repo.now.1) }
-    ensures { (ws : List Value) → AreNumbers (values_of repo.now.1) ws written.now.marks.items → result ≡ number_in ws (value_at repo.now.1 name.now) }
+    ensures { IsMarkOf repo.now.1 written.now.marks.items (value_at repo.now.1 name.now) result }
 {
     let place = place_of(repo, name);
     written.marks[place]

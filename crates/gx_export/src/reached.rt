@@ -1,15 +1,12 @@
 //! The commits that refs reach, marked by their places: those of the refs, and then, from the last record to the first,
 //! the parents of each that is marked. A commit's parents stand before it.
 
-ghost use Rattle.std.specs.Prelude.{◌≡◌, IfOk, false, length, replicate};
+ghost use Rattle.std.specs.Prelude.{◌≡◌, IfOk, length};
 ghost use Rattle.gx_model.specs.declared.objects.Kind.TheVariants as kinds;
-ghost use Rattle.gx_model.specs.HistoryLaws.{IsParent};
-ghost use Rattle.gx_model.specs.HistoryOf.{history_of};
 ghost use Rattle.gx_model.specs.RepositoryLaws.{values_of};
-ghost use Rattle.gx_model.specs.Values.{parents_of};
-ghost use Rattle.gx_model.specs.Marks.{Marks, marks_of};
+ghost use Rattle.gx_model.specs.Marks.{Marks};
 ghost use Rattle.gx_rev.specs.Objects.{IsHeldAs, commit_at};
-ghost use Rattle.gx_export.specs.Reaching.{IsTip, is_wanted};
+ghost use Rattle.gx_export.specs.Reaching.{IsParentOf, MarksTips, reached_marks, unmarked};
 
 use crate::objects::{name_at, place_of};
 use gx_object::{Name, Namer};
@@ -22,7 +19,7 @@ pub(crate) fn reached<N: Namer, A: Allocator + Copy>(
     alloc: A,
     repo: &Repo<N, A>,
 ) -> Result<Vec<bool, A>, AllocError>
-    ensures { IfOk result (λ marks. marks.items ≡ marks_of (is_wanted repo.now.1) (values_of repo.now.1)) }
+    ensures { IfOk result (λ marks. marks.items ≡ reached_marks repo.now.1) }
 {
     repo.sound();
     let count = repo.store().len();
@@ -33,8 +30,8 @@ pub(crate) fn reached<N: Namer, A: Allocator + Copy>(
 
 /// Marks what refs reach.
 fn mark_reached<N: Namer, A: Allocator + Copy>(repo: &Repo<N, A>, marks: &mut [bool])
-    requires none { marks.old ≡ replicate (length (values_of repo.now.1)) false }
-    ensures { marks.new ≡ marks_of (is_wanted repo.now.1) (values_of repo.now.1) }
+    requires none { marks.old ≡ unmarked repo.now.1 }
+    ensures { marks.new ≡ reached_marks repo.now.1 }
 {
     mark_refs(repo, marks);
     mark_ancestors(repo, marks);
@@ -43,7 +40,7 @@ fn mark_reached<N: Namer, A: Allocator + Copy>(repo: &Repo<N, A>, marks: &mut [b
 /// Marks the commits that refs hold, and those of their tags.
 fn mark_refs<N: Namer, A: Allocator + Copy>(repo: &Repo<N, A>, marks: &mut [bool])
     requires { length marks.old ≡ length (values_of repo.now.1) }
-    ensures { Marks repo.now.1 (IsTip (history_of repo.now.1).refs) marks.old marks.new }
+    ensures { MarksTips repo.now.1 marks.old marks.new }
 {
     repo.sound();
     for (_, object) in repo.refs() {
@@ -55,9 +52,9 @@ fn mark_refs<N: Namer, A: Allocator + Copy>(repo: &Repo<N, A>, marks: &mut [bool
 
 /// Marks the ancestors of the commits that are marked.
 fn mark_ancestors<N: Namer, A: Allocator + Copy>(repo: &Repo<N, A>, marks: &mut [bool])
-    requires tips { Marks repo.now.1 (IsTip (history_of repo.now.1).refs) (replicate (length (values_of repo.now.1)) false) marks.old }
+    requires tips { MarksTips repo.now.1 (unmarked repo.now.1) marks.old }
     requires long { length marks.old ≡ length (values_of repo.now.1) }
-    ensures { marks.new ≡ marks_of (is_wanted repo.now.1) (values_of repo.now.1) }
+    ensures { marks.new ≡ reached_marks repo.now.1 }
 {
     repo.sound();
     let mut left = marks.len();
@@ -73,7 +70,7 @@ fn mark_ancestors<N: Namer, A: Allocator + Copy>(repo: &Repo<N, A>, marks: &mut 
 fn mark_parents<N: Namer, A: Allocator + Copy>(repo: &Repo<N, A>, marks: &mut [bool], commit: &Name)
     requires held { IsHeldAs kinds.Commit repo.now.1 commit.now }
     requires long { length marks.old ≡ length (values_of repo.now.1) }
-    ensures { Marks repo.now.1 (λ parent. IsParent parent (parents_of (commit_at repo.now.1 commit.now))) marks.old marks.new }
+    ensures { Marks repo.now.1 (IsParentOf (commit_at repo.now.1 commit.now)) marks.old marks.new }
 {
     repo.sound();
     let view = view_of(repo, commit);
@@ -88,7 +85,7 @@ fn mark_parents<N: Namer, A: Allocator + Copy>(repo: &Repo<N, A>, marks: &mut [b
 fn mark<N: Namer, A: Allocator + Copy>(repo: &Repo<N, A>, marks: &mut [bool], commit: &Name)
     requires held { IsHeldAs kinds.Commit repo.now.1 commit.now }
     requires long { length marks.old ≡ length (values_of repo.now.1) }
-    ensures { Marks repo.now.1 (λ marked. marked ≡ commit_at repo.now.1 commit.now) marks.old marks.new }
+    ensures { Marks repo.now.1 (λ made. made ≡ commit_at repo.now.1 commit.now) marks.old marks.new }
 {
     repo.sound();
     let place = place_of(repo, commit);

@@ -3,5 +3,6 @@ pub mod Faults
 pub mod FileTexts
 pub mod Marks
 pub mod Outputs
+pub mod Parts
 pub mod Reaching
 pub mod Texts

@@ -1,20 +1,16 @@
 //! One commit, after the blobs of its files that weren't written yet.
 
-ghost use Rattle.std.specs.Prelude.{◌≡◌, ◌≢◌, ◌≤◌, length, List, [], ◌∷◌, map, codes, OnOk, Some};
-ghost use Rattle.std.specs.List.{slice_get, AllByRecursion};
+ghost use Rattle.std.specs.Prelude.{◌≡◌, ◌≢◌, ◌≤◌, length, List, codes};
+ghost use Rattle.std.specs.List.{AllByRecursion};
 ghost use Rattle.gx_model.specs.declared.objects.Kind.TheVariants as kinds;
-ghost use Rattle.gx_model.specs.RepositoryLaws.{values_of};
-ghost use Rattle.gx_model.specs.Export.{one_commit, with_commit};
-ghost use Rattle.gx_model.specs.Files.{FileMap};
-ghost use Rattle.gx_model.specs.HistoryOf.{commit_of_value, value_of_name};
+ghost use Rattle.gx_model.specs.Marks.{IsAt};
 ghost use Rattle.gx_model.specs.Sound.{Holds};
-ghost use Rattle.gx_model.specs.Texts.{Bytes};
-ghost use Rattle.gx_model.specs.Values.{Commit, Value, commit_value};
+ghost use Rattle.gx_model.specs.Values.{Commit, Value};
 ghost use Rattle.gx_export.specs.Faults.{NeedsNoMemory};
-ghost use Rattle.gx_export.specs.FileTexts.{AreKept};
-ghost use Rattle.gx_export.specs.Marks.{Adds, HasWritten};
+ghost use Rattle.gx_export.specs.Marks.{HasWritten};
 ghost use Rattle.gx_export.specs.Outputs.{Writes, most};
-ghost use Rattle.gx_export.specs.Texts.{change_lines, commit_lines, file_items, items_of, items_text, parent_items, root_items};
+ghost use Rattle.gx_export.specs.Parts.{AddsCommitLines, AddsOneCommit, AddsParentLines, IsUnderWay, KeepsOneCommit, WritesChanges};
+ghost use Rattle.gx_export.specs.Texts.{items_text, root_items};
 
 use crate::ExportFault;
 use crate::commands::{write_commit_head, write_parent, write_reset};
@@ -38,10 +34,10 @@ pub(crate) fn write_commit<N: Namer, A: Allocator + Copy, W: Sink>(
     lines: &mut Lines<A>,
     place: usize,
 ) -> Result<(), ExportFault>
-    requires commit { (made : Commit) × (slice_get (values_of repo.now.1) place ≡ Some (commit_value made)) }
-    requires written { (ws : List Value) × HasWritten repo.now.1 ws written.old × AreKept (N.name_of repo.now.0) repo.now.1 ws lines.old }
-    ensures adds { (made : Commit) (ws : List Value) → slice_get (values_of repo.now.1) place ≡ Some (commit_value made) → HasWritten repo.now.1 ws written.old → AreKept (N.name_of repo.now.0) repo.now.1 ws lines.old → Adds repo.now.1 (with_commit ws made) (items_of (one_commit ws made)) written.old written.new (W.taken sink.old) (W.taken sink.new) result }
-    ensures kept { (made : Commit) (ws : List Value) → slice_get (values_of repo.now.1) place ≡ Some (commit_value made) → HasWritten repo.now.1 ws written.old → AreKept (N.name_of repo.now.0) repo.now.1 ws lines.old → OnOk result (AreKept (N.name_of repo.now.0) repo.now.1 (with_commit ws made) lines.new) }
+    requires commit { (made : Commit) × IsAt repo.now.1 place made }
+    requires written { IsUnderWay N.name_of repo.now written.old lines.old }
+    ensures adds { AddsOneCommit N.name_of repo.now place written.old written.new (W.taken sink.old) (W.taken sink.new) lines.old result }
+    ensures kept { KeepsOneCommit N.name_of repo.now place written.old lines.old lines.new result }
 {
     repo.sound();
     let commit = name_at(repo, place);
@@ -79,7 +75,7 @@ fn write_lines<N: Namer, A: Allocator + Copy, W: Sink>(
 ) -> Result<(), ExportFault>
     requires parents { AllByRecursion (Holds repo.now.1.records kinds.Commit) commit.now.parents }
     requires written { (ws : List Value) × HasWritten repo.now.1 ws written.old }
-    ensures adds { (ws : List Value) (files : FileMap Bytes) → HasWritten repo.now.1 ws written.old → lines.now ≡ items_text (file_items ws files) → Adds repo.now.1 ws (commit_lines ws commit.now.text (map (λ name. commit_of_value (value_of_name repo.now.1.records name)) commit.now.parents) files) written.old written.new (W.taken sink.old) (W.taken sink.new) result }
+    ensures adds { AddsCommitLines repo.now.1 commit.now lines.now written.old written.new (W.taken sink.old) (W.taken sink.new) result }
     ensures memory { NeedsNoMemory result }
 {
     write_commit_head(sink, &mut written.bytes, written.count + 1, commit)?;
@@ -96,7 +92,7 @@ fn write_parents<N: Namer, A: Allocator + Copy, W: Sink>(
 ) -> Result<(), ExportFault>
     requires parents { AllByRecursion (Holds repo.now.1.records kinds.Commit) commit.now.parents }
     requires written { (ws : List Value) × HasWritten repo.now.1 ws written.old }
-    ensures adds { (ws : List Value) → HasWritten repo.now.1 ws written.old → Adds repo.now.1 ws (parent_items ws (map (λ name. commit_of_value (value_of_name repo.now.1.records name)) commit.now.parents)) written.old written.new (W.taken sink.old) (W.taken sink.new) result }
+    ensures adds { AddsParentLines repo.now.1 commit.now.parents written.old written.new (W.taken sink.old) (W.taken sink.new) result }
     ensures memory { NeedsNoMemory result }
 {
     repo.sound();
@@ -120,7 +116,7 @@ fn parent_word(number: usize) -> &'static [u8]
 /// Writes `deleteall`, the lines of all files, and an empty line.
 fn write_files<W: Sink>(sink: &mut W, written: &mut u64, lines: &[u8]) -> Result<(), ExportFault>
     requires { written.old ≤ most }
-    ensures text { (ws : List Value) (files : FileMap Bytes) → lines.now ≡ items_text (file_items ws files) → Writes written.old written.new (W.taken sink.old) (W.taken sink.new) (items_text (change_lines ws files)) result }
+    ensures text { WritesChanges lines.now written.old written.new (W.taken sink.old) (W.taken sink.new) result }
     ensures memory { NeedsNoMemory result }
 {
     write_all(sink, written, &[b"deleteall\n".as_slice(), lines, b"\n"])

@@ -1,16 +1,13 @@
 //! Exports of whole repositories. Source: git-fast-export(1).
 
 ghost use Rattle.std.specs.Prelude.{◌≡◌, ◌≤◌, []};
-ghost use Rattle.gx_model.specs.Export.{all_written, commit_commands, reached_commits};
-ghost use Rattle.gx_model.specs.HistoryOf.{history_of};
-ghost use Rattle.gx_model.specs.RepositoryLaws.{values_of};
-ghost use Rattle.gx_model.specs.Marks.{marks_of};
 ghost use Rattle.gx_export.specs.Exports.{Exports};
 ghost use Rattle.gx_export.specs.Faults.{NeedsNoMemory};
-ghost use Rattle.gx_export.specs.Marks.{Adds, HasWritten};
+ghost use Rattle.gx_export.specs.Marks.{HasWritten};
 ghost use Rattle.gx_export.specs.Outputs.{Writes, most};
-ghost use Rattle.gx_export.specs.Reaching.{is_wanted};
-ghost use Rattle.gx_export.specs.Texts.{items_of, items_text, last_items};
+ghost use Rattle.gx_export.specs.Parts.{AddsReachedCommits};
+ghost use Rattle.gx_export.specs.Reaching.{reached_marks};
+ghost use Rattle.gx_export.specs.Texts.{items_text, last_items};
 
 use crate::ExportFault;
 use crate::commands::write_reset;
@@ -60,9 +57,9 @@ fn write_commits<N: Namer, A: Allocator + Copy, W: Sink>(
     written: &mut Written<A>,
     reached: &[bool],
 ) -> Result<(), ExportFault>
-    requires reached { reached.now ≡ marks_of (is_wanted repo.now.1) (values_of repo.now.1) }
+    requires reached { reached.now ≡ reached_marks repo.now.1 }
     requires written { HasWritten repo.now.1 [] written.old }
-    ensures { Adds repo.now.1 (all_written (reached_commits (history_of repo.now.1))) (items_of (commit_commands [] (reached_commits (history_of repo.now.1)))) written.old written.new (W.taken sink.old) (W.taken sink.new) result }
+    ensures { AddsReachedCommits repo.now.1 written.old written.new (W.taken sink.old) (W.taken sink.new) result }
 {
     let mut lines = Lines::new(alloc);
     for place in 0..reached.len() {

@@ -1,13 +1,11 @@
 //! The refs at the end of an export: resets to commits, and tags.
 
-ghost use Rattle.std.specs.Prelude.{List, map};
-ghost use Rattle.gx_model.specs.Export.{command_items, ref_command};
-ghost use Rattle.gx_model.specs.HistoryOf.{history_of, target_in, value_of_name};
+ghost use Rattle.std.specs.Prelude.{List};
 ghost use Rattle.gx_model.specs.Sound.{IsTarget};
 ghost use Rattle.gx_model.specs.Values.{Value};
 ghost use Rattle.gx_export.specs.Faults.{NeedsNoMemory};
-ghost use Rattle.gx_export.specs.Marks.{Adds, HasWritten};
-ghost use Rattle.gx_export.specs.Texts.{items_of};
+ghost use Rattle.gx_export.specs.Marks.{HasWritten};
+ghost use Rattle.gx_export.specs.Parts.{AddsAllRefs, AddsOneRef};
 
 use crate::ExportFault;
 use crate::commands::{write_reset_to, write_tag};
@@ -24,7 +22,7 @@ pub(crate) fn write_refs<N: Namer, A: Allocator + Copy, W: Sink>(
     written: &mut Written<A>,
 ) -> Result<(), ExportFault>
     requires written { (ws : List Value) × HasWritten repo.now.1 ws written.old }
-    ensures adds { (ws : List Value) → HasWritten repo.now.1 ws written.old → Adds repo.now.1 ws (items_of (map (ref_command ws) (history_of repo.now.1).refs)) written.old written.new (W.taken sink.old) (W.taken sink.new) result }
+    ensures adds { AddsAllRefs repo.now.1 written.old written.new (W.taken sink.old) (W.taken sink.new) result }
     ensures memory { NeedsNoMemory result }
 {
     repo.sound();
@@ -44,7 +42,7 @@ fn write_ref<N: Namer, A: Allocator + Copy, W: Sink>(
 ) -> Result<(), ExportFault>
     requires target { IsTarget repo.now.1.records name.now object.now.bytes }
     requires written { (ws : List Value) × HasWritten repo.now.1 ws written.old }
-    ensures adds { (ws : List Value) → HasWritten repo.now.1 ws written.old → Adds repo.now.1 ws (command_items (ref_command ws (name.now, target_in (value_of_name repo.now.1.records object.now.bytes)))) written.old written.new (W.taken sink.old) (W.taken sink.new) result }
+    ensures adds { AddsOneRef repo.now.1 name.now object.now written.old written.new (W.taken sink.old) (W.taken sink.new) result }
     ensures memory { NeedsNoMemory result }
 {
     repo.sound();

@@ -1,27 +1,17 @@
 //! The trees of a commit: the blobs of their files go out, and the files' lines are gathered.
 
-ghost use Rattle.std.specs.Prelude.{◌≡◌, ◌≢◌, ◌++◌, [], ◌∷◌, IfOk, IsTrue, List, OnOk, Some};
+ghost use Rattle.std.specs.Prelude.{◌≡◌, ◌≢◌, ◌++◌, [], ◌∷◌, IfOk, IsTrue, List, Some};
 ghost use Rattle.std.specs.List.{slice_get};
 ghost use Rattle.gx_model.specs.declared.objects.Kind.TheVariants as kinds;
 ghost use Rattle.gx_model.specs.declared.objects.Mode.TheVariants as modes;
-ghost use Rattle.gx_model.specs.Files.{FileMap};
-ghost use Rattle.gx_model.specs.Export.{blob_commands, contents, with_blobs};
-ghost use Rattle.gx_model.specs.HistoryOf.{bytes_of_blob, placed};
-ghost use Rattle.gx_model.specs.NameMaps.{IsHeldTree};
 ghost use Rattle.gx_model.specs.Paths.{is_component, is_short};
 ghost use Rattle.gx_model.specs.RepositoryLaws.{values_of};
 ghost use Rattle.gx_model.specs.Sound as sound;
-ghost use Rattle.gx_model.specs.Texts.{Bytes};
-ghost use Rattle.gx_model.specs.Values.{Value, files_of};
-ghost use Rattle.gx_rev.specs.Objects.{IsHeldAs, commit_at, value_at};
-ghost use Rattle.gx_tree.specs.HeldTrees.{IsHeldEntry};
-ghost use Rattle.gx_tree.specs.Lists.{below};
-ghost use Rattle.gx_tree.specs.Nodes.{Kept, kept_map};
-ghost use Rattle.gx_tree.specs.Writes.{kept_leaf};
-ghost use Rattle.gx_export.specs.FileTexts.{AreKept, Gathers, IsEntryBelow, IsTreeBelow};
+ghost use Rattle.gx_model.specs.Values.{Value};
+ghost use Rattle.gx_rev.specs.Objects.{IsHeldAs, value_at};
 ghost use Rattle.gx_export.specs.Faults.{NeedsNoMemory};
-ghost use Rattle.gx_export.specs.Marks.{Adds, HasWritten};
-ghost use Rattle.gx_export.specs.Texts.{file_items, items_of, items_text};
+ghost use Rattle.gx_export.specs.Marks.{HasWritten};
+ghost use Rattle.gx_export.specs.Parts.{AddsBlobsOf, AddsOneBlob, GathersEntry, GathersFile, GathersLinesOf, GathersTree, HasEntryBelow, HasTreeBelow, IsUnderWay, KeepsLinesOf};
 
 use crate::ExportFault;
 use crate::commands::write_blob;
@@ -47,10 +37,10 @@ pub(crate) fn add_files<N: Namer, A: Allocator + Copy, W: Sink>(
     commit: &Name,
 ) -> Result<(), ExportFault>
     requires held { IsHeldAs kinds.Commit repo.now.1 commit.now }
-    requires written { (ws : List Value) × HasWritten repo.now.1 ws written.old × AreKept (N.name_of repo.now.0) repo.now.1 ws lines.old }
-    ensures adds { (ws : List Value) → HasWritten repo.now.1 ws written.old → AreKept (N.name_of repo.now.0) repo.now.1 ws lines.old → Adds repo.now.1 (with_blobs ws (contents (files_of (commit_at repo.now.1 commit.now)))) (items_of (blob_commands ws (contents (files_of (commit_at repo.now.1 commit.now))))) written.old written.new (W.taken sink.old) (W.taken sink.new) result }
-    ensures text { (ws : List Value) → HasWritten repo.now.1 ws written.old → AreKept (N.name_of repo.now.0) repo.now.1 ws lines.old → OnOk result (lines.new.text.items ≡ items_text (file_items (with_blobs ws (contents (files_of (commit_at repo.now.1 commit.now)))) (files_of (commit_at repo.now.1 commit.now)))) }
-    ensures kept { (ws : List Value) → HasWritten repo.now.1 ws written.old → AreKept (N.name_of repo.now.0) repo.now.1 ws lines.old → OnOk result (AreKept (N.name_of repo.now.0) repo.now.1 (with_blobs ws (contents (files_of (commit_at repo.now.1 commit.now)))) lines.new) }
+    requires written { IsUnderWay N.name_of repo.now written.old lines.old }
+    ensures adds { AddsBlobsOf N.name_of repo.now commit.now written.old written.new (W.taken sink.old) (W.taken sink.new) lines.old result }
+    ensures text { GathersLinesOf N.name_of repo.now commit.now written.old lines.old lines.new result }
+    ensures kept { KeepsLinesOf N.name_of repo.now commit.now written.old lines.old lines.new result }
 {
     repo.sound();
     let view = view_of(repo, commit);
@@ -81,9 +71,9 @@ fn add_tree<N: Namer, A: Allocator + Copy, W: Sink>(
     tree: &Name,
     room: usize,
 ) -> Result<(), ExportFault>
-    requires held { (g : FileMap Bytes) × IsTreeBelow (N.name_of repo.now.0) repo.now.1 room front.now tree.now.bytes g }
-    requires written { (ws : List Value) × HasWritten repo.now.1 ws written.old × AreKept (N.name_of repo.now.0) repo.now.1 ws lines.old }
-    ensures { (ws : List Value) (g : FileMap Bytes) → HasWritten repo.now.1 ws written.old → IsHeldTree (N.name_of repo.now.0) repo.now.1.records tree.now.bytes g → AreKept (N.name_of repo.now.0) repo.now.1 ws lines.old → Gathers (N.name_of repo.now.0) repo.now.1 ws (below front.now g) written.old written.new (W.taken sink.old) (W.taken sink.new) lines.old lines.new result }
+    requires held { HasTreeBelow N.name_of repo.now room front.now tree.now }
+    requires written { IsUnderWay N.name_of repo.now written.old lines.old }
+    ensures { GathersTree N.name_of repo.now front.now tree.now written.old written.new (W.taken sink.old) (W.taken sink.new) lines.old lines.new result }
 {
     if lines.take_over(front.joined(), tree)? {
         return Ok(());
@@ -107,9 +97,9 @@ fn add_entries<N: Namer, A: Allocator + Copy, W: Sink>(
     tree: &Name,
     room: usize,
 ) -> Result<(), ExportFault>
-    requires held { (g : FileMap Bytes) × IsTreeBelow (N.name_of repo.now.0) repo.now.1 room front.now tree.now.bytes g }
-    requires written { (ws : List Value) × HasWritten repo.now.1 ws written.old × AreKept (N.name_of repo.now.0) repo.now.1 ws lines.old }
-    ensures { (ws : List Value) (g : FileMap Bytes) → HasWritten repo.now.1 ws written.old → IsHeldTree (N.name_of repo.now.0) repo.now.1.records tree.now.bytes g → AreKept (N.name_of repo.now.0) repo.now.1 ws lines.old → Gathers (N.name_of repo.now.0) repo.now.1 ws (below front.now g) written.old written.new (W.taken sink.old) (W.taken sink.new) lines.old lines.new result }
+    requires held { HasTreeBelow N.name_of repo.now room front.now tree.now }
+    requires written { IsUnderWay N.name_of repo.now written.old lines.old }
+    ensures { GathersTree N.name_of repo.now front.now tree.now written.old written.new (W.taken sink.old) (W.taken sink.new) lines.old lines.new result }
 {
     let Some((_, body)) = repo.store().get(tree) else {
         unreachable!();
@@ -132,9 +122,9 @@ fn add_entry<N: Namer, A: Allocator + Copy, W: Sink>(
     entry: &Entry<'_>,
     room: usize,
 ) -> Result<(), ExportFault>
-    requires held { (k : Kept) × IsEntryBelow (N.name_of repo.now.0) repo.now.1 room front.now (entry.now.component.now, k) × (kept_leaf (N.name_of repo.now.0) k ≡ (entry.now.mode, entry.now.name.bytes)) }
-    requires written { (ws : List Value) × HasWritten repo.now.1 ws written.old × AreKept (N.name_of repo.now.0) repo.now.1 ws lines.old }
-    ensures { (ws : List Value) (k : Kept) → HasWritten repo.now.1 ws written.old → IsHeldEntry (N.name_of repo.now.0) repo.now.1.records 4095 (entry.now.component.now, k) → kept_leaf (N.name_of repo.now.0) k ≡ (entry.now.mode, entry.now.name.bytes) → AreKept (N.name_of repo.now.0) repo.now.1 ws lines.old → Gathers (N.name_of repo.now.0) repo.now.1 ws (below front.now (placed entry.now.component.now (kept_map k))) written.old written.new (W.taken sink.old) (W.taken sink.new) lines.old lines.new result }
+    requires held { HasEntryBelow N.name_of repo.now room front.now entry.now }
+    requires written { IsUnderWay N.name_of repo.now written.old lines.old }
+    ensures { GathersEntry N.name_of repo.now front.now entry.now written.old written.new (W.taken sink.old) (W.taken sink.new) lines.old lines.new result }
 {
     let path = child(alloc, front, entry.component)?;
     if entry.mode != Mode::Dir {
@@ -168,8 +158,8 @@ fn add_file<N: Namer, A: Allocator + Copy, W: Sink>(
 ) -> Result<(), ExportFault>
     requires file { mode ≢ modes.Dir }
     requires held { sound.IsHeldAs repo.now.1.records mode name.now.bytes }
-    requires written { (ws : List Value) × HasWritten repo.now.1 ws written.old × AreKept (N.name_of repo.now.0) repo.now.1 ws lines.old }
-    ensures { (ws : List Value) → HasWritten repo.now.1 ws written.old → AreKept (N.name_of repo.now.0) repo.now.1 ws lines.old → Gathers (N.name_of repo.now.0) repo.now.1 ws ((path.now, (mode, name.now.bytes)) ∷ []) written.old written.new (W.taken sink.old) (W.taken sink.new) lines.old lines.new result }
+    requires written { IsUnderWay N.name_of repo.now written.old lines.old }
+    ensures { GathersFile N.name_of repo.now path.now mode name.now written.old written.new (W.taken sink.old) (W.taken sink.new) lines.old lines.new result }
 {
     repo.sound();
     if mode == Mode::Gitlink {
@@ -193,7 +183,7 @@ fn write_blob_once<N: Namer, A: Allocator + Copy, W: Sink>(
     requires held { IsHeldAs kinds.Blob repo.now.1 name.now }
     requires place { slice_get (values_of repo.now.1) place ≡ Some (value_at repo.now.1 name.now) }
     requires written { (ws : List Value) × HasWritten repo.now.1 ws written.old }
-    ensures adds { (ws : List Value) → HasWritten repo.now.1 ws written.old → Adds repo.now.1 (with_blobs ws (bytes_of_blob (value_at repo.now.1 name.now) ∷ [])) (items_of (blob_commands ws (bytes_of_blob (value_at repo.now.1 name.now) ∷ []))) written.old written.new (W.taken sink.old) (W.taken sink.new) result }
+    ensures adds { AddsOneBlob repo.now.1 name.now written.old written.new (W.taken sink.old) (W.taken sink.new) result }
     ensures memory { NeedsNoMemory result }
 {
     repo.sound();

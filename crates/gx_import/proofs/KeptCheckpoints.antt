@@ -14,7 +14,7 @@ use Rattle.gx_model.specs.Replay.{State, checkpointed, final, is_fast_forward, s
 use Rattle.gx_model.specs.Sound.{IsTarget}
 use Rattle.gx_text.specs.Devices.{Taken}
 use Rattle.gx_import.specs.Applying.{Applies}
-use Rattle.gx_import.specs.Keeping.{AreNames, AreNone, AreStill, EntersAll, HoldsAll, IsLeft, IsNext, Keeps, KeepsAfter, KeepsInEach, Moves, left_of}
+use Rattle.gx_import.specs.Keeping.{AreNames, AreNone, AreStill, EntersAll, HoldsAll, IsLeft, IsNext, Keeps, KeepsAfter, KeepsFromEach, Moves, left_of}
 use Rattle.gx_import.specs.Publishing.{Publishes}
 use Rattle.gx_import.specs.Rows.{rows_of}
 use Rattle.gx_import.specs.Standing.{Extends, Stands}
@@ -127,7 +127,7 @@ module _ (name : Kind → Bytes → Bytes) {A : Type 0} where
   -- and what it published is kept from then on
   pub kept_anew : (old new : Records) (tables : Tables A) (was now : Checkpoints A) (r : Result (Unit {0}) ImportKind) → new.records ≡ old.records
       → OnOk r (IsNext new was now) → OnErr r (AreStill old new was now) → ((s : State) → Stands name old tables s → Publishes s old new r) → OnOk r (EntersAll name old tables (rows_of was.refs) (rows_of now.refs))
-      → KeepsInEach name old new tables was now Checkpoint r
+      → KeepsFromEach name old new tables was now Checkpoint r
   kept_anew old new tables was now (Ok x) same next still published entered = λ s h k t e.
       let whole : left_of now new ≡ new = λ i. with_refs ((ap (λ n. take n new.records) next.records ∙ take-length new.records) i) new.refs in
       subst (Keeps new now) (sym (given_checkpoint s t e).1) (record {
@@ -140,7 +140,7 @@ module _ (name : Kind → Bytes → Bytes) {A : Type 0} where
 
   -- what another command leaves of it
   pub kept_on : (old new : Records) (tables : Tables A) (checkpoints : Checkpoints A) (c : Command) → IsOther c → checkpoints.records ≤ length old.records → Extends old.records new.records → new.refs ≡ old.refs
-      → (r : Result (Unit {0}) ImportKind) → KeepsInEach name old new tables checkpoints checkpoints c r
+      → (r : Result (Unit {0}) ImportKind) → KeepsFromEach name old new tables checkpoints checkpoints c r
   kept_on old new tables checkpoints c other fits e same r = λ s h k. by s k r
     where
       left : left_of checkpoints new ≡ left_of checkpoints old
@@ -165,7 +165,7 @@ module _ (name : Kind → Bytes → Bytes) {A : Type 0} where
       record { leaves = record { history = ap history_of whole; count = h.count }; names = subst (AreNames (start (history_of r)).published) (sym h.refs) tt }
 
   -- and what one leaves that adds nothing
-  pub kept_here : (r : Records) (tables : Tables A) (checkpoints : Checkpoints A) (c : Command) → IsOther c → checkpoints.records ≤ length r.records → (a : Result (Unit {0}) ImportKind) → KeepsInEach name r r tables checkpoints checkpoints c a
+  pub kept_here : (r : Records) (tables : Tables A) (checkpoints : Checkpoints A) (c : Command) → IsOther c → checkpoints.records ≤ length r.records → (a : Result (Unit {0}) ImportKind) → KeepsFromEach name r r tables checkpoints checkpoints c a
   kept_here r tables checkpoints c other fits a = kept_on r r tables checkpoints c other fits (same_records r.records r.records refl) refl a
 
 -- ---- what is left

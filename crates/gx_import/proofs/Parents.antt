@@ -91,7 +91,7 @@ module _ (name : Kind → Bytes → Bytes) {A : Type 0} where
   -- files that were at hand are those of the first parent
   pub taken_files : IsNamer name → (r : Records) → IsSound name r → (tables : Tables A) (s : State) → Stands name r tables s → (branch : Bytes) (n : Name) (files : NamedTree) → WereFiles (rows_of tables.branches) branch n files
       → (made : Option Commit) → AreBoth (IsCommitOf name s.history.values) made (Some n) → files.files ≡ named_map name (starting_files name revision_of made)
-  taken_files namer r sound tables s h branch n files (tip, found, at, of) made first =
+  taken_files namer r sound tables s h branch n files (tip, found, (at, of)) made first =
       let both = subst (AreBoth (IsTip name s.history.values) (lookup (same_bytes branch) s.branches)) found (related_found (IsTip name s.history.values) (same_bytes branch) s.branches (rows_of tables.branches) h.branches) in
       let t = at_tip s.history.values (lookup (same_bytes branch) s.branches) tip both n files at of in
       let own = commit_by_name name namer r sound t.0 n (subst (λ z. IsCommitOf name z.values t.0 n) (sym h.history) t.1) in

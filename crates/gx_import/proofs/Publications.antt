@@ -16,7 +16,7 @@ use Rattle.gx_model.specs.Sound.{IsSound}
 use Rattle.gx_text.specs.Devices.{Coming, Taken}
 use Rattle.gx_stream.specs.Heard.{heard}
 use Rattle.gx_command.specs.Reading.{commands_from}
-use Rattle.gx_import.specs.Imports.{Imports, Leaves, Replays, StandsForIts, StandsReplayed, last_number, only, progress_of, replayed_on, report_of}
+use Rattle.gx_import.specs.Imports.{Imports, Leaves, Replays, StandsForIts, StandsForReplay, last_number, only, progress_of, replayed_on, report_of}
 use Rattle.gx_import.specs.Publishing.{Publishes}
 use Rattle.gx_import.specs.Replaying.{EndsAs, IsLast}
 use Rattle.gx_import.specs.Standing.{Extends}
@@ -125,7 +125,7 @@ module _ (name : Kind → Bytes → Bytes) where
   stands_for new outcome text report law sound e = subst (λ o. StandsForIts name o new) (sym e) (sound, law.stands new sound)
 
   pub stands_replayed : (old new : Records) (coming : Option Coming) (was now : Option Taken) (report : Report) → HistoriesOf name → IsSound name new → Imports name old new coming was now (Ok report)
-      → StandsReplayed name old new coming
+      → StandsForReplay name old new coming
   stands_replayed old new None was now report law sound h = (h.0, h.1, stands_for new (replayed_on name old h.0) h.2.0 (report_of report) law sound h.2.1)
   stands_replayed old new (Some coming) was now report law sound h = stands_for new (imported name (history_of old) (heard coming).bytes (heard coming).fails) h.0 (report_of report) law sound h.1
 

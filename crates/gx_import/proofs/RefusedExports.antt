@@ -13,7 +13,7 @@ use Rattle.gx_model.specs.RepositoryLaws.{HistoriesOf}
 use Rattle.gx_text.specs.Devices.{Coming, Taken}
 use Rattle.gx_stream.specs.Heard.{heard}
 use Rattle.gx_command.specs.Reading.{commands_from}
-use Rattle.gx_import.specs.Exported.{RefusesNullGitlink, UnsupportedOr, nothing}
+use Rattle.gx_import.specs.Exported.{RefusesItsExport, UnsupportedOr, nothing}
 use Rattle.gx_import.specs.ImportKinds.{fault_of}
 use Rattle.gx_import.specs.Imports.{Imports}
 use Rattle.gx_import.specs.declared.fault.ImportFault.{ImportFault}
@@ -72,7 +72,7 @@ module _ (name : Kind → Bytes → Bytes) where
   ]
 
   pub null_refused : HistoriesOf name → NullGitlinksAreRefused → (old new : Records) (coming : Option Coming) (was now : Option Taken) (result : Result Report ImportFault)
-      → Imports name old new coming was now result → RefusesNullGitlink name old coming result
+      → Imports name old new coming was now result → RefusesItsExport name old coming result
   null_refused histories nulls old new None was now result h = tt
   null_refused histories nulls old new (Some coming) was now result h = λ exported sound links gives empty.
       let text = export_text (history_of exported) in

@@ -62,7 +62,7 @@ module _ {A : Type 0} (name : Kind → Bytes → Bytes) where
     ]
 
     pub taken_home : (branch : Bytes) (rows : List (Bytes × Tip A)) (called : Name) (tree : NamedTree) → WereFiles rows branch called tree → AreHome rs rows → IsAtHome name rs tree
-    taken_home branch rows called tree (tip, found, at, of) h = subst (IfThere IsAtHome name rs) of (tip_home branch rows tip found h)
+    taken_home branch rows called tree (tip, found, (at, of)) h = subst (IfThere IsAtHome name rs) of (tip_home branch rows tip found h)
 
     pub homes_put : (n : Bytes) (tip : Tip A) (rows : List (Bytes × Tip A)) → IfThere IsAtHome name rs tip.files → AreHome rs rows → AreHome rs (put byte_cmp n tip rows)
     homes_put n tip [] k h = (k, tt)

@@ -4,7 +4,7 @@ use Rattle.std.specs.Prelude.{◌≡◌, ◌⊎◌, [], Option, Some, None, Resu
 use Rattle.std.specs.List.{AllByRecursion}
 use Rattle.gx_model.specs.declared.objects.Kind.{Kind}
 use Rattle.gx_model.specs.Texts.{Bytes}
-use Rattle.gx_model.specs.Histories.{Records}
+use Rattle.gx_model.specs.Histories.{IsHistory, Records}
 use Rattle.gx_model.specs.HistoryOf.{history_of}
 use Rattle.gx_model.specs.Sound.{AnyByRecursion, IsSound}
 use Rattle.gx_model.specs.Export.{export_text}
@@ -12,6 +12,7 @@ use Rattle.gx_model.specs.ExportLaws.{HasNoNullGitlink, IsAgain}
 use Rattle.gx_model.specs.Gitlinks.{HoldsNoNullGitlink}
 use Rattle.gx_text.specs.Devices.{Coming}
 use Rattle.gx_stream.specs.Heard.{heard}
+use Rattle.gx_import.specs.Repositories.{Repository}
 use Rattle.gx_import.specs.declared.fault.ImportFault.{ImportFault}
 use Rattle.gx_import.specs.declared.fault.ImportKind.TheVariants.{NameHeld, OutOfMemory, Unsupported, WriteFailed}
 use Rattle.gx_import.specs.declared.report.Report.{Report}
@@ -23,6 +24,10 @@ nothing = record { records = []; refs = [] }
 -- where no commit had a gitlink of forty zeros, none has one
 abbrev pub KeepsNoNullGitlink : Records → Records → Type 0
 KeepsNoNullGitlink old new = HoldsNoNullGitlink (history_of old) → HoldsNoNullGitlink (history_of new)
+
+-- the same, where the old repository has the history that its records and refs tell
+abbrev pub MakesNoNullGitlink : Records → Records → Type 0
+MakesNoNullGitlink old new = IsHistory (history_of old) → KeepsNoNullGitlink old new
 
 -- a source that gives the export text of this repository, and then ends
 abbrev pub GivesExport : Records → Coming → Type 0
@@ -54,7 +59,16 @@ UnsupportedOr (Ok report) = ⊥
 UnsupportedOr (Err fault) = (fault.kind ≡ Unsupported) ⊎ ((fault.kind ≡ OutOfMemory) ⊎ ((fault.kind ≡ WriteFailed) ⊎ (fault.kind ≡ NameHeld)))
 
 -- Where refs of a sound repository under this namer reach a gitlink of forty zeros, an empty one refuses its export.
-abbrev pub RefusesNullGitlink : (Kind → Bytes → Bytes) → Records → Option Coming → Result Report ImportFault → Type 0
-RefusesNullGitlink name old None result = ⊤
-RefusesNullGitlink name old (Some coming) result =
+abbrev pub RefusesItsExport : (Kind → Bytes → Bytes) → Records → Option Coming → Result Report ImportFault → Type 0
+RefusesItsExport name old None result = ⊤
+RefusesItsExport name old (Some coming) result =
     (exported : Records) → IsSound name exported → (HasNoNullGitlink (history_of exported) → ⊥) → GivesExport exported coming → old ≡ nothing → UnsupportedOr result
+
+module _ {N : Type 0} (names : N → Kind → Bytes → Bytes) where
+  -- an empty repository imports the export of any sound one whose refs reach no gitlink of forty zeros
+  abbrev pub ImportsAnyExport : Repository N → Repository N → Option Coming → Result Report ImportFault → Type 0
+  ImportsAnyExport old new = ImportsExport (names old.0) old.1 new.1
+
+  -- an empty repository refuses the export of any sound one whose refs reach a gitlink of forty zeros
+  abbrev pub RefusesNullGitlink : Repository N → Option Coming → Result Report ImportFault → Type 0
+  RefusesNullGitlink old = RefusesItsExport (names old.0) old.1

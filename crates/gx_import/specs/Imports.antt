@@ -16,6 +16,7 @@ use Rattle.gx_stream.specs.Heard.{heard}
 use Rattle.gx_command.specs.CommandFaults as reader
 use Rattle.gx_command.specs.Reading.{commands_from}
 use Rattle.gx_command.specs.declared.fault.CommandFault.{CommandFault}
+use Rattle.gx_import.specs.Repositories.{Repository}
 use Rattle.gx_import.specs.Additions.{ClashesAt}
 use Rattle.gx_import.specs.ImportKinds.{fault_of}
 use Rattle.gx_import.specs.declared.fault.ImportFault.{ImportFault}
@@ -110,6 +111,15 @@ module _ (name : Kind → Bytes → Bytes) where
   StandsForIts (refused number fault text kept) new = ⊥
 
   -- the new repository stands for the history that the replay of what the source gives makes of the old one's
-  abbrev pub StandsReplayed : Records → Records → Option Coming → Type 0
-  StandsReplayed old new None = (commands : Commands) × AreRead commands × StandsForIts (replayed_on old commands) new
-  StandsReplayed old new (Some coming) = StandsForIts (imported name (history_of old) (heard coming).bytes (heard coming).fails) new
+  abbrev pub StandsForReplay : Records → Records → Option Coming → Type 0
+  StandsForReplay old new None = (commands : Commands) × AreRead commands × StandsForIts (replayed_on old commands) new
+  StandsForReplay old new (Some coming) = StandsForIts (imported name (history_of old) (heard coming).bytes (heard coming).fails) new
+
+module _ {N : Type 0} (names : N → Kind → Bytes → Bytes) where
+  -- what an import does to a repository and a sink, and what it answers
+  abbrev pub ImportsStream : Repository N → Repository N → Option Coming → Option Taken → Option Taken → Result Report ImportFault → Type 0
+  ImportsStream old new = Imports (names old.0) old.1 new.1
+
+  -- the new repository stands for the history of that replay
+  abbrev pub StandsReplayed : Repository N → Repository N → Option Coming → Type 0
+  StandsReplayed old new = StandsForReplay (names old.0) old.1 new.1

@@ -1,6 +1,6 @@
 -- What an import holds of its checkpoints: the records and refs that a refusal leaves, and the names that were published.
 -- Source: git-fast-import(1), "checkpoint".
-use Rattle.std.specs.Prelude.{◌≡◌, ◌⊎◌, ◌+◌, ◌≤◌, Bool, [], List, length, take, IsTrue, Result, Ok, Err, ⊤}
+use Rattle.std.specs.Prelude.{◌≡◌, ◌⊎◌, ◌+◌, ◌≤◌, Bool, [], List, length, take, IsTrue, Result, Ok, Err, OnOk, ⊤}
 use Rattle.std.specs.List.{AllByRecursion}
 use Rattle.gx_model.specs.declared.objects.Kind.{Kind}
 use Rattle.gx_model.specs.Texts.{Bytes}
@@ -11,11 +11,16 @@ use Rattle.gx_model.specs.Revisions.{revision_of}
 use Rattle.gx_model.specs.Replay.{State, overwritten, step}
 use Rattle.gx_model.specs.Sound.{IsTarget}
 use Rattle.gx_object.specs.declared.name.Name.{Name}
+use Rattle.gx_command.specs.Views.{shown_command}
+use Rattle.gx_command.specs.declared.commands.Command.{Command as GivenCommand}
+use Rattle.gx_import.specs.Repositories.{Repository}
 use Rattle.gx_import.specs.Imports.{Leaves}
+use Rattle.gx_import.specs.RefChanges.{moved_of}
 use Rattle.gx_import.specs.Rows.{AreRows, rows_of}
 use Rattle.gx_import.specs.Standing.{Stands}
 use Rattle.gx_import.specs.declared.checkpoints.Checkpoints.{Checkpoints}
 use Rattle.gx_import.specs.declared.fault.ImportKind.{ImportKind}
+use Rattle.gx_import.specs.declared.table.Table.{Table}
 use Rattle.gx_import.specs.declared.tables.Tables.{Tables}
 
 -- the same names in the same order
@@ -26,9 +31,17 @@ AreNames xs ys = AreRows (λ x y. ⊤) xs ys
 abbrev pub Enters : List (Bytes × Name) → List (Bytes × Name) → List Change → Type 0
 Enters old new changes = (refs : List Ref) → AreNames refs old → AreNames (with_changes refs changes) new
 
+-- the names of changes entered among those of a table
+abbrev pub EntersNames : {A : Type 0} → Table Name A → Table Name A → List Change → Type 0
+EntersNames old new = Enters (rows_of old) (rows_of new)
+
 -- where each ref is a published one, the names that were published are those of the refs
 abbrev pub HasAll : Bool → List Ref → List (Bytes × Name) → Type 0
 HasAll has_all refs rows = IsTrue has_all → AreNames refs rows
+
+-- changes are the branches moved from some refs, and then the tags; where each ref is a published one, those have the published names
+abbrev pub AreMoved : {A : Type 0} → Bool → Table Name A → Tables A → List Change → Type 0
+AreMoved has_all published tables changes = (refs : List Ref) × HasAll has_all refs (rows_of published) × (changes ≡ moved_of refs tables)
 
 -- the same of what an import holds of its checkpoints
 abbrev pub HoldsAll : {A : Type 0} → Records → Checkpoints A → Type 0
@@ -84,6 +97,15 @@ module _ (name : Kind → Bytes → Bytes) {A : Type 0} where
   KeepsAfter old new was now s c (Ok _) = (t : State) → step name revision_of s c ≡ Ok t → Keeps new now t
   KeepsAfter old new was now s c (Err _) = Leaves (left_of now new) now.count s.kept
 
-  -- the same in each state that the repository, the tables and the checkpoints stand for
-  abbrev pub KeepsInEach : Records → Records → Tables A → Checkpoints A → Checkpoints A → Command → Result (Unit {0}) ImportKind → Type 0
-  KeepsInEach old new tables was now c answer = (s : State) → Stands name old tables s → Keeps old was s → KeepsAfter old new was now s c answer
+  -- the same from each state that the repository, the tables and the checkpoints stand for
+  abbrev pub KeepsFromEach : Records → Records → Tables A → Checkpoints A → Checkpoints A → Command → Result (Unit {0}) ImportKind → Type 0
+  KeepsFromEach old new tables was now c answer = (s : State) → Stands name old tables s → Keeps old was s → KeepsAfter old new was now s c answer
+
+module _ {N : Type 0} (names : N → Kind → Bytes → Bytes) {A : Type 0} where
+  -- where a call is accepted, the names that each state publishes are entered among those of a table
+  abbrev pub EntersInEach : {X E : Type 0} → Repository N → Tables A → Table Name A → Table Name A → Result X E → Type 0
+  EntersInEach repository tables old new answer = OnOk answer (EntersAll (names repository.0) repository.1 tables (rows_of old) (rows_of new))
+
+  -- the same of a repository with its namer, and of a command as it was read
+  abbrev pub KeepsInEach : Repository N → Repository N → Tables A → Checkpoints A → Checkpoints A → GivenCommand A → Result (Unit {0}) ImportKind → Type 0
+  KeepsInEach old new tables was now command = KeepsFromEach (names old.0) old.1 new.1 tables was now (shown_command command)

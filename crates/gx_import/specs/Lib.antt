@@ -1,3 +1,4 @@
+pub mod Repositories
 pub mod ImportKinds
 pub mod Answers
 pub mod Objects

@@ -1,5 +1,5 @@
 -- Marks as a map from numbers to objects.
-use Rattle.std.specs.Prelude.{ℕ, nat_eq, if◌then◌else◌, Option, Some, None, Result, Ok, Err}
+use Rattle.std.specs.Prelude.{◌≡◌, ℕ, nat_eq, if◌then◌else◌, Option, Some, None, Result, Ok, Err}
 use Rattle.std.specs.Ordering.{nat_cmp}
 use Rattle.std.specs.BTreeMap.{get}
 use Rattle.gx_import.specs.declared.object.Object.{Object}
@@ -20,3 +20,7 @@ object_or_fault None = Err UnknownMark
 abbrev pub marked_object : Option ℕ → Object → ℕ → Option Object → Option Object
 marked_object None object number old = old
 marked_object (Some mark) object number old = if nat_eq number mark then Some object else old
+
+-- a mark was set, where one was asked for, and the others stay
+abbrev pub SetsMark : {A : Type 0} → Option ℕ → Object → Marks A → Marks A → Type 0
+SetsMark mark object old new = (number : ℕ) → object_at new number ≡ marked_object mark object number (object_at old number)

@@ -1,14 +1,23 @@
 -- Objects and names, as the values that they stand for.
-use Rattle.std.specs.Prelude.{◌≡◌, if◌then◌else◌, List, Option, None, Some, Result, Ok, Err}
+use Rattle.std.specs.Prelude.{◌≡◌, if◌then◌else◌, List, map, Option, None, Some, Result, Ok, Err}
+use Rattle.std.specs.List.{AllByRecursion}
+use Rattle.std.specs.Option.{option_map}
 use Rattle.gx_model.specs.declared.objects.Kind.{Kind}
 use Rattle.gx_model.specs.declared.objects.Kind.TheVariants as kind
 use Rattle.gx_model.specs.Texts.{Bytes}
 use Rattle.gx_model.specs.Files.{FileMap}
 use Rattle.gx_model.specs.Values.{Commit, Tag, Value, blob_value, commit_value, tag_value, tree_value}
 use Rattle.gx_model.specs.Records.{kind_of, name_of}
-use Rattle.gx_model.specs.Histories.{IsIn}
+use Rattle.gx_model.specs.Histories.{IsIn, Records}
+use Rattle.gx_model.specs.Objects.{CommitParts, TagParts}
+use Rattle.gx_model.specs.Sound.{Holds}
+use Rattle.gx_model.specs.Replay.{text_made}
+use Rattle.gx_model.specs.Revisions.{revision_of}
 use Rattle.gx_model.specs.Growth.{same_kind}
 use Rattle.gx_object.specs.declared.name.Name.{Name}
+use Rattle.gx_command.specs.Views.{commit_parts}
+use Rattle.gx_command.specs.declared.commands.Commit.{Commit as CommitCommand}
+use Rattle.gx_command.specs.declared.commands.Tag.{Tag as TagCommand}
 use Rattle.gx_import.specs.declared.object.Object.{Object}
 use Rattle.gx_import.specs.declared.fault.ImportKind.{ImportKind}
 use Rattle.gx_import.specs.declared.fault.ImportKind.TheVariants.{EmptyBranch, WrongKind}
@@ -21,6 +30,19 @@ name_of_kind object kind = if same_kind object.kind kind then Ok object.name els
 abbrev pub branch_object : Option Name → Result Object ImportKind
 branch_object None = Err EmptyBranch
 branch_object (Some called) = Ok (record { kind = kind.Commit; name = called })
+
+-- each of these names is that of a held commit
+abbrev pub AreHeldCommits : Records → List Name → Type 0
+AreHeldCommits repository names = AllByRecursion (λ called. Holds repository.records kind.Commit called.bytes) names
+
+-- the parts of the commit object that a command makes of this tree and these parents; no object's name bears on its text
+abbrev pub commit_object : {A : Type 0} → Name → List Name → CommitCommand A → CommitParts
+commit_object tree parents commit =
+    record { tree = tree.bytes; parents = map (λ n. n.bytes) parents; text = text_made (λ kind body. body) revision_of (commit_parts commit) }
+
+-- the parts of the tag object that a command makes of this commit
+abbrev pub tag_object : {A : Type 0} → Name → TagCommand A → TagParts
+tag_object object tag = record { object = object.bytes; name = tag.name.bytes.items; tagger = option_map (λ i. i.bytes.items) tag.tagger; message = tag.message.items }
 
 module _ (name : Kind → Bytes → Bytes) where
   -- an object is a value that stands among these

@@ -1,10 +1,16 @@
 -- Places of commits, and what the commits at some places reach.
-use Rattle.std.specs.Prelude.{◌<◌, ◌⊎◌, ◌↔◌, ℕ, IsTrue, List}
-use Rattle.gx_model.specs.Values.{Commit, Commits}
+use Rattle.std.specs.Prelude.{◌<◌, ◌⊎◌, ◌↔◌, ℕ, Bool, IsTrue, List, Result, IfOk}
+use Rattle.gx_model.specs.Values.{Commit, Commits, parents_of}
 use Rattle.gx_model.specs.Histories.{Records}
 use Rattle.gx_model.specs.Marks.{IsAt}
 use Rattle.gx_model.specs.Ranges.{reaches, some_reaches}
 use Rattle.gx_model.specs.Sound.{AnyByRecursion}
+use Rattle.gx_object.specs.declared.name.Name.{Name}
+use Rattle.gx_rev.specs.Objects.{commit_at}
+
+-- the commit of the first name is that of the second, or a descendant of it
+abbrev pub reaches_at : Records → Name → Name → Bool
+reaches_at repository new old = reaches (commit_at repository new) (commit_at repository old)
 
 -- a commit stands at a place
 abbrev pub IsCommitPlace : Records → ℕ → Type 0
@@ -26,3 +32,12 @@ SomeReaches repository places reached = AnyByRecursion (ReachesFrom repository r
 abbrev pub AddsParents : Records → Commits → List ℕ → List ℕ → Type 0
 AddsParents repository parents old new =
     (reached : Commit) → SomeReaches repository new reached ↔ (SomeReaches repository old reached ⊎ IsTrue (some_reaches parents reached))
+
+-- the commits at these places reach what those at the others did, and what the parents of the commit at a place do
+abbrev pub AddsParentsAt : Records → ℕ → List ℕ → List ℕ → Type 0
+AddsParentsAt repository place old new = (commit : Commit) → IsAt repository place commit → AddsParents repository (parents_of commit) old new
+
+-- what is answered is whether a commit at one of these places reaches the commit at the last place
+abbrev pub TellsReached : {E : Type 0} → Records → List ℕ → ℕ → Result Bool E → Type 0
+TellsReached repository places last answer =
+    (commit : Commit) → IsAt repository last commit → IfOk answer (λ is_reached. IsTrue is_reached ↔ SomeReaches repository places commit)

@@ -1,6 +1,6 @@
 -- What reading, applying and writing do on the way through a stream, and where the replay of all commands ends.
 -- Source: git-fast-import(1), "Commands".
-use Rattle.std.specs.Prelude.{◌≡◌, ℕ, ◌+◌, List, length, Option, Some, None, Result, Ok, Err, ⊤}
+use Rattle.std.specs.Prelude.{◌≡◌, ℕ, ◌+◌, List, length, Option, Some, None, Result, Ok, Err, IfOk, IfSome, ⊤}
 use Rattle.gx_model.specs.declared.objects.Kind.{Kind}
 use Rattle.gx_model.specs.declared.faults.Fault.TheVariants.{ReadFailed}
 use Rattle.gx_model.specs.Texts.{Bytes}
@@ -12,8 +12,11 @@ use Rattle.gx_model.specs.Revisions.{revision_of}
 use Rattle.gx_model.specs.Replay.{State, ended, refused, replayed_commands}
 use Rattle.gx_text.specs.Devices.{Coming, FailedWithin, Taken, Took}
 use Rattle.gx_command.specs.Reading.{Falls, Reads, commands_from}
+use Rattle.gx_model.specs.Gitlinks.{BringsNoNullGitlink}
+use Rattle.gx_command.specs.Views.{shown_command}
 use Rattle.gx_command.specs.declared.commands.Command.{Command}
 use Rattle.gx_command.specs.declared.fault.CommandFault.{CommandFault}
+use Rattle.gx_import.specs.Repositories.{Repository}
 use Rattle.gx_import.specs.ImportKinds.{of_command}
 use Rattle.gx_import.specs.Imports.{Imports, cut_off, only}
 use Rattle.gx_import.specs.Keeping.{Keeps, left_of}
@@ -22,6 +25,7 @@ use Rattle.gx_import.specs.declared.checkpoints.Checkpoints.{Checkpoints}
 use Rattle.gx_import.specs.declared.fault.ImportFault.{ImportFault}
 use Rattle.gx_import.specs.declared.fault.ImportKind.{ImportKind}
 use Rattle.gx_import.specs.declared.fault.ImportKind.TheVariants.{WriteFailed}
+use Rattle.gx_import.specs.declared.report.Report.{Report}
 use Rattle.gx_import.specs.declared.tables.Tables.{Tables}
 
 -- a sink takes a text, or fails within it
@@ -40,6 +44,10 @@ abbrev pub FallsNext : {A : Type 0} → ℕ → ℕ → Result (Option (Command 
 FallsNext old new (Ok c) = Falls old new (Ok c)
 FallsNext old new (Err fault) = ⊤
 
+-- no command that is read names a gitlink of forty zeros
+abbrev pub ReadsNoNullGitlink : {A E : Type 0} → Result (Option (Command A)) E → Type 0
+ReadsNoNullGitlink answer = IfOk answer (λ next. IfSome next (λ command. BringsNoNullGitlink (shown_command command)))
+
 module _ (name : Kind → Bytes → Bytes) where
   -- the last state of the replay of these commands, n in number, and the sink has its progress text
   pub record IsLast (old : Records) (commands : Commands) (n : ℕ) (s : State) (was now : Option Taken) : Type 0 where
@@ -54,13 +62,18 @@ module _ (name : Kind → Bytes → Bytes) where
   EndsAs old None n s was now = (commands : List model.Command) × IsLast old (only commands) n s was now
   EndsAs old (Some coming) n s was now = IsLast old (commands_from coming) n s was now
 
-  -- all commands are replayed, and the repository and the tables stand for the last state; or the import is refused, or interrupted
-  abbrev pub ReplaysTo : {A : Type 0} → Records → Records → Tables A → Checkpoints A → Option Coming → Option Taken → Option Taken → Result ℕ ImportFault → Type 0
-  ReplaysTo old new tables checkpoints coming was now (Ok n) =
-      (s : State) × Stands name new tables s × Keeps new checkpoints s × EndsAs old coming n s was now
-  ReplaysTo old new tables checkpoints coming was now (Err fault) = Imports name old (left_of checkpoints new) coming was now (Err fault)
-
 -- the new repository, or after a fault what it leaves
 abbrev pub left_by : {A X E : Type 0} → Result X E → Checkpoints A → Records → Records
 left_by (Ok _) checkpoints new = new
 left_by (Err _) checkpoints new = left_of checkpoints new
+
+module _ {N : Type 0} (names : N → Kind → Bytes → Bytes) {A : Type 0} where
+  -- all commands are replayed, and the repository and the tables stand for the last state; or the import is refused, or interrupted
+  abbrev pub ReplaysTo : Repository N → Repository N → Tables A → Checkpoints A → Option Coming → Option Taken → Option Taken → Result ℕ ImportFault → Type 0
+  ReplaysTo old new tables checkpoints coming was now (Ok n) =
+      (s : State) × Stands (names old.0) new.1 tables s × Keeps new.1 checkpoints s × EndsAs (names old.0) old.1 coming n s was now
+  ReplaysTo old new tables checkpoints coming was now (Err fault) = Imports (names old.0) old.1 (left_of checkpoints new.1) coming was now (Err fault)
+
+  -- an import of a stream, which leaves after a fault what the checkpoints kept
+  abbrev pub LeavesImport : Repository N → Repository N → Checkpoints A → Option Coming → Option Taken → Option Taken → Result Report ImportFault → Type 0
+  LeavesImport old new checkpoints coming was now answer = Imports (names old.0) old.1 (left_by answer checkpoints new.1) coming was now answer

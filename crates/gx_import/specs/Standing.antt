@@ -1,5 +1,5 @@
 -- How what an import holds stands to the state of its replay: names in place of values that stand in the history.
-use Rattle.std.specs.Prelude.{◌≡◌, ◌⊎◌, ℕ, nat_eq, false, List, [], ◌++◌, Option, Some, None, IsTrue, IfSome, ⊤}
+use Rattle.std.specs.Prelude.{◌≡◌, ◌⊎◌, ℕ, nat_eq, false, List, [], ◌++◌, Option, Some, None, Result, IsTrue, IfOk, IfSome, ⊤}
 use Rattle.std.specs.List.{AllByRecursion, list_all}
 use Rattle.std.specs.Map.{lookup}
 use Rattle.std.specs.FinMap.Entries.{is_sorted}
@@ -15,6 +15,7 @@ use Rattle.gx_model.specs.Replay.{State, byte_cmp}
 use Rattle.gx_object.specs.declared.name.Name.{Name}
 use Rattle.gx_tree.specs.Homes.{IfThere}
 use Rattle.gx_tree.specs.Named.{NamedTree, IsAtHome}
+use Rattle.gx_import.specs.Repositories.{Repository}
 use Rattle.gx_import.specs.Marks.{object_at}
 use Rattle.gx_import.specs.Objects.{IsCommitOf, IsOf, IsTagOf}
 use Rattle.gx_import.specs.Rows.{AreBoth, AreRows, rows_of}
@@ -38,11 +39,15 @@ module _ (name : Kind → Bytes → Bytes) where
     pub named : called.bytes ≡ content_name name mode given.1
     pub known : IfSome (blob_of mode given.1) (IsIn before.history.values)
 
+  -- a tree has the files of a commit, by their names
+  abbrev pub HasFilesOf : Commit → NamedTree → Type 0
+  HasFilesOf revision tree = tree.files ≡ named_map name (files_of revision)
+
   -- files at hand are those of the commit
   abbrev pub AreTipFiles : Option Commit → Option NamedTree → Type 0
   AreTipFiles revision None = ⊤
   AreTipFiles None (Some tree) = ⊥
-  AreTipFiles (Some revision) (Some tree) = tree.files ≡ named_map name (files_of revision)
+  AreTipFiles (Some revision) (Some tree) = HasFilesOf revision tree
 
   -- where a branch stands
   pub record IsTip {A : Type 0} (values : List Value) (revision : Option Commit) (tip : Tip A) : Type 0 where
@@ -71,13 +76,46 @@ module _ (name : Kind → Bytes → Bytes) where
 abbrev pub IsTaken : {A : Type 0} → Tip A → Tip A → Type 0
 IsTaken old new = (new.commit ≡ old.commit) × ((new.files ≡ old.files) ⊎ (new.files ≡ None))
 
+-- a branch stands at this commit, and has these files at hand
+abbrev pub HasFiles : {A : Type 0} → Tip A → Name → NamedTree → Type 0
+HasFiles tip called files = (tip.commit ≡ Some called) × (tip.files ≡ Some files)
+
 -- these files were those of this commit, at a branch of this name
 abbrev pub WereFiles : {A : Type 0} → List (Bytes × Tip A) → Bytes → Name → NamedTree → Type 0
-WereFiles {A} branches branch called files = (tip : Tip A) × (lookup (same_bytes branch) branches ≡ Some tip) × (tip.commit ≡ Some called) × (tip.files ≡ Some files)
+WereFiles {A} branches branch called files = (tip : Tip A) × (lookup (same_bytes branch) branches ≡ Some tip) × HasFiles tip called files
+
+-- these files are those of this commit, at some branch
+abbrev pub AreAtSomeBranch : {A : Type 0} → List (Bytes × Tip A) → Name → NamedTree → Type 0
+AreAtSomeBranch branches called files = (branch : Bytes) × WereFiles branches branch called files
 
 -- the files at hand at each branch are at home among these records
 abbrev pub AreTipsAtHome : {A : Type 0} → (Kind → Bytes → Bytes) → List Record → Tables A → Type 0
 AreTipsAtHome name rs tables = AllByRecursion (λ row. IfThere IsAtHome name rs row.1.files) (rows_of tables.branches)
+
+module _ {N : Type 0} (names : N → Kind → Bytes → Bytes) (repository : Repository N) {A : Type 0} where
+  -- the repository and the tables stand for some state of a replay
+  abbrev pub StandsForSome : Tables A → Type 0
+  StandsForSome tables = (s : State) × Stands (names repository.0) repository.1 tables s
+
+  -- the tables stand for each state that they stood for
+  abbrev pub KeepsStanding : Tables A → Tables A → Type 0
+  KeepsStanding old new = (s : State) → Stands (names repository.0) repository.1 old s → Stands (names repository.0) repository.1 new s
+
+  -- the files at hand at each branch are at home in the repository
+  abbrev pub HasTipsAtHome : Tables A → Type 0
+  HasTipsAtHome tables = AreTipsAtHome (names repository.0) repository.1.records tables
+
+  -- the files at hand at each branch are at home in the repository, where they were
+  abbrev pub TipsStayAtHome : Tables A → Tables A → Type 0
+  TipsStayAtHome old new = HasTipsAtHome old → HasTipsAtHome new
+
+  -- where the files at hand at each branch are at home in the repository, the files that are given are
+  abbrev pub GivesFilesAtHome : {E : Type 0} → Tables A → Result NamedTree E → Type 0
+  GivesFilesAtHome tables answer = HasTipsAtHome tables → IfOk answer (IsAtHome (names repository.0) repository.1.records)
+
+-- the files are at home in the new repository, where they were in the old one
+abbrev pub StayAtHome : {N : Type 0} → (N → Kind → Bytes → Bytes) → Repository N → Repository N → NamedTree → NamedTree → Type 0
+StayAtHome names old new was now = IsAtHome (names old.0) old.1.records was → IsAtHome (names old.0) new.1.records now
 
 -- no marks, no branches, no tags, and nothing asked for
 pub record AreEmpty {A : Type 0} (tables : Tables A) : Type 0 where

@@ -1,5 +1,5 @@
 -- Parts of the replay's steps. Source: git-fast-import(1), "Commands".
-use Rattle.std.specs.Prelude.{Option, Some, None, Ok, Err}
+use Rattle.std.specs.Prelude.{Bool, Option, Some, None, Ok, Err}
 use Rattle.std.specs.Map.{lookup}
 use Rattle.gx_model.specs.declared.objects.Kind.{Kind}
 use Rattle.gx_model.specs.declared.faults.Fault.TheVariants.{UnknownObject}
@@ -11,7 +11,11 @@ use Rattle.gx_model.specs.Texts.{Bytes, same_bytes}
 use Rattle.gx_model.specs.Values.{Commit, Value, commit_value}
 use Rattle.gx_model.specs.Commands.{CommitIsh, Marked, Named}
 use Rattle.gx_model.specs.Revisions.{revision_of}
-use Rattle.gx_model.specs.Replay.{State, at, blob_bytes, branch_commit, committed_for, revision_value}
+use Rattle.gx_model.specs.Replay.{State, at, blob_bytes, branch_commit, committed_for, is_itself, revision_value}
+
+-- a commit-ish is the name of the branch; no object's name bears on this
+abbrev pub is_branch_itself : Bytes → CommitIsh → Bool
+is_branch_itself = is_itself (λ kind body. body) revision_of
 
 module _ (name : Kind → Bytes → Bytes) where
   -- what a branch of this name gives, and otherwise a revision

@@ -1,14 +1,12 @@
 //! Ancestors, by places: a commit's parents stand before it. Source: gitglossary(7), "reachable", and git-merge-base(1).
 
-ghost use Rattle.std.specs.Prelude.{◌≡◌, ◌⊎◌, ◌↔◌, IfOk, IsTrue, OnOk};
+ghost use Rattle.std.specs.Prelude.{◌≡◌, IfOk, IsTrue, OnOk};
 ghost use Rattle.std.specs.List.{AllByRecursion};
 ghost use Rattle.gx_model.specs.declared.objects.Kind.TheVariants as kinds;
 ghost use Rattle.gx_model.specs.Marks.{IsAt};
-ghost use Rattle.gx_model.specs.Ranges.{reaches};
 ghost use Rattle.gx_model.specs.Sound.{Holds};
-ghost use Rattle.gx_model.specs.Values.{Commit, parents_of};
 ghost use Rattle.gx_rev.specs.Objects.{IsHeldAs, commit_at};
-ghost use Rattle.gx_import.specs.Places.{AddsParents, IsCommitBefore, IsCommitPlace, SomeReaches};
+ghost use Rattle.gx_import.specs.Places.{AddsParentsAt, IsCommitBefore, IsCommitPlace, TellsReached, reaches_at};
 
 use gx_object::{Name, Namer};
 use gx_repo::Repo;
@@ -29,7 +27,7 @@ pub(crate) fn is_ancestor<N: Namer, A: Allocator + Copy>(
 ) -> Result<bool, AllocError>
     requires old { Holds repo.now.1.records kinds.Commit old.now.bytes }
     requires new { Holds repo.now.1.records kinds.Commit new.now.bytes }
-    ensures { IfOk result (λ is_ancestor. is_ancestor ≡ reaches (commit_at repo.now.1 new.now) (commit_at repo.now.1 old.now)) }
+    ensures { IfOk result (λ is_ancestor. is_ancestor ≡ reaches_at repo.now.1 new.now old.now) }
 {
     repo.sound();
     // a branch that moved by one commit needs no walk
@@ -46,7 +44,7 @@ pub(crate) fn is_ancestor<N: Namer, A: Allocator + Copy>(
 /// Whether the first of two commits is the first parent of the second.
 fn is_first_parent<N: Namer, A: Allocator + Copy>(repo: &Repo<N, A>, old: &Name, new: &Name) -> bool
     requires { IsHeldAs kinds.Commit repo.now.1 new.now }
-    ensures { IsTrue result → IsTrue (reaches (commit_at repo.now.1 new.now) (commit_at repo.now.1 old.now)) }
+    ensures { IsTrue result → IsTrue (reaches_at repo.now.1 new.now old.now) }
 {
     repo.sound();
     let view = view_of(repo, new);
@@ -63,7 +61,7 @@ fn is_reached<N: Namer, A: Allocator + Copy>(
     last: usize,
 ) -> Result<bool, AllocError>
     requires { AllByRecursion (IsCommitPlace repo.now.1) places.now.keys }
-    ensures { (commit : Commit) → IsAt repo.now.1 last commit → IfOk result (λ is_reached. IsTrue is_reached ↔ SomeReaches repo.now.1 places.old.keys commit) }
+    ensures { TellsReached repo.now.1 places.old.keys last result }
 {
     repo.sound();
     while let Some(place) = places.pop_last() {
@@ -84,7 +82,7 @@ fn insert_parents<N: Namer, A: Allocator + Copy>(
     requires commit { IsCommitPlace repo.now.1 place }
     requires before { AllByRecursion (IsCommitBefore repo.now.1 place) places.now.keys }
     ensures before { OnOk result (AllByRecursion (IsCommitBefore repo.now.1 place) places.new.keys) }
-    ensures parents { OnOk result ((commit : Commit) → IsAt repo.now.1 place commit → AddsParents repo.now.1 (parents_of commit) places.old.keys places.new.keys) }
+    ensures parents { OnOk result (AddsParentsAt repo.now.1 place places.old.keys places.new.keys) }
 {
     repo.sound();
     let commit = name_at(repo, place);

@@ -1,10 +1,9 @@
 //! Blob commands. Source: git-fast-import(1), "blob".
 
 ghost use Rattle.std.specs.Prelude.{◌≡◌};
-ghost use Rattle.gx_model.specs.Values.{blob_value};
 ghost use Rattle.gx_command.specs.Views.{shown_blob};
 ghost use Rattle.gx_import.specs.Standing.{Extends};
-ghost use Rattle.gx_import.specs.Calls.{MakesBlob};
+ghost use Rattle.gx_import.specs.Calls.{Makes};
 
 use crate::ImportKind;
 use crate::object::Object;
@@ -25,7 +24,7 @@ pub(crate) fn apply_blob<N: Namer, A: Allocator + Copy>(
     ensures namer { repo.new.0 ≡ repo.old.0 }
     ensures refs { repo.new.1.refs ≡ repo.old.1.refs }
     ensures extends { Extends repo.old.1.records repo.new.1.records }
-    ensures steps { MakesBlob (N.name_of repo.old.0) repo.old.1 repo.new.1 tables.old tables.new (blob_value blob.bytes.items) (shown_blob blob) result }
+    ensures steps { Makes N.name_of repo.old repo.new tables.old tables.new (shown_blob blob) result }
 {
     repo.sound();
     puts_add_values();

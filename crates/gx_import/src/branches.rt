@@ -1,11 +1,8 @@
 //! The branches of an import: their commits, and the files of these. Source: git-fast-import(1), "commit" and "reset".
 
-ghost use Rattle.std.specs.Prelude.{◌≡◌, None, Some, IsTrue, IfSome};
-ghost use Rattle.std.specs.FinMap.Entries.{is_sorted};
-ghost use Rattle.gx_model.specs.Replay.{byte_cmp};
-ghost use Rattle.gx_model.specs.Texts.{Bytes};
-ghost use Rattle.gx_import.specs.Rows.{AreRows, rows_of};
-ghost use Rattle.gx_import.specs.Standing.{IsTaken, WereFiles};
+ghost use Rattle.std.specs.Prelude.{IfSome};
+ghost use Rattle.gx_import.specs.Rows.{AreRows, IsSorted, rows_of};
+ghost use Rattle.gx_import.specs.Standing.{AreAtSomeBranch, HasFiles, IsTaken, WereFiles};
 
 use crate::at_hand::AtHand;
 use crate::table::Table;
@@ -24,7 +21,7 @@ impl<A: Allocator + Copy> Tip<A> {
     /// Takes the files of this commit, where the branch stands there and they are at hand.
     fn take_files(&mut self, commit: &Name) -> Option<PathTree<A>>
         ensures taken { IsTaken self.old self.new }
-        ensures files { IfSome result (λ files. (self.old.commit ≡ Some commit.now) × (self.old.files ≡ Some files)) }
+        ensures files { IfSome result (HasFiles self.old commit.now) }
     {
         if self.commit == Some(*commit) {
             self.files.take()
@@ -35,7 +32,7 @@ impl<A: Allocator + Copy> Tip<A> {
 
     /// The files of this commit, where the branch stands there and they are at hand.
     fn files_at(&self, commit: &Name) -> Option<&PathTree<A>>
-        ensures { IfSome result (λ files. (self.now.commit ≡ Some commit.now) × (self.now.files ≡ Some files.now)) }
+        ensures { IfSome result (λ files. HasFiles self.now commit.now files.now) }
     {
         match &self.files {
             Some(files) if self.commit == Some(*commit) => Some(files),
@@ -52,9 +49,9 @@ pub(crate) fn take_files<A: Allocator + Copy>(
     name: &[u8],
     commit: &Name,
 ) -> Option<PathTree<A>>
-    requires sorted { IsTrue (is_sorted byte_cmp (rows_of branches.now)) }
+    requires sorted { IsSorted branches.now }
     ensures taken { AreRows IsTaken (rows_of branches.old) (rows_of branches.new) }
-    ensures sorted { IsTrue (is_sorted byte_cmp (rows_of branches.new)) }
+    ensures sorted { IsSorted branches.new }
     ensures files { IfSome result (WereFiles (rows_of branches.old) name.now commit.now) }
 {
     match branches.rows.get_mut(name) {
@@ -71,8 +68,8 @@ pub(crate) fn files_at<'a, A: Allocator + Copy>(
     at_hand: &AtHand<A>,
     commit: &Name,
 ) -> Option<&'a PathTree<A>>
-    requires sorted { IsTrue (is_sorted byte_cmp (rows_of branches.now)) }
-    ensures { IfSome result (λ files. (branch : Bytes) × WereFiles (rows_of branches.now) branch commit.now files.now) }
+    requires sorted { IsSorted branches.now }
+    ensures { IfSome result (λ files. AreAtSomeBranch (rows_of branches.now) commit.now files.now) }
 {
     let branch = at_hand.branch(commit)?;
     let tip = branches.get(branch)?;

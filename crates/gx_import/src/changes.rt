@@ -1,17 +1,11 @@
 //! The changes of a commit's files. Source: git-fast-import(1), "filemodify" to "filedeleteall".
 
-ghost use Rattle.std.specs.Prelude.{◌≡◌, ◌≢◌, map, IfOk, IsTrue};
+ghost use Rattle.std.specs.Prelude.{◌≡◌, ◌≢◌, IfOk, IsTrue};
 ghost use Rattle.gx_model.specs.declared.objects.Mode.TheVariants as modes;
 ghost use Rattle.gx_command.specs.DataRefs.{is_suited};
-ghost use Rattle.gx_command.specs.Views.{shown_change, shown_data, shown_modify};
 ghost use Rattle.gx_model.specs.Commands as model;
-ghost use Rattle.gx_import.specs.Answers.{GivesAs};
-ghost use Rattle.gx_model.specs.RepositoryLaws.{values_of};
-ghost use Rattle.gx_import.specs.Objects.{IsBlobOf};
-ghost use Rattle.gx_import.specs.Standing.{Extends};
-ghost use Rattle.gx_tree.specs.Named.{IsAtHome};
-ghost use Rattle.gx_import.specs.Steps.{bytes_held};
-ghost use Rattle.gx_import.specs.Calls.{AddsContent, MakesChange, MakesChanges, NamesContent};
+ghost use Rattle.gx_import.specs.Standing.{Extends, StayAtHome};
+ghost use Rattle.gx_import.specs.Calls.{AddsContent, Changes, ChangesAll, GivesBlob, Modifies, NamesContent};
 
 use crate::ImportKind;
 use crate::object::{Object, name_of_kind};
@@ -33,8 +27,8 @@ pub(crate) fn change_all<N: Namer, A: Allocator + Copy>(
     ensures namer { repo.new.0 ≡ repo.old.0 }
     ensures refs { repo.new.1.refs ≡ repo.old.1.refs }
     ensures extends { Extends repo.old.1.records repo.new.1.records }
-    ensures home { IfOk result (λ _. IsAtHome (N.name_of repo.old.0) repo.old.1.records files.old → IsAtHome (N.name_of repo.old.0) repo.new.1.records files.new) }
-    ensures steps { MakesChanges (N.name_of repo.old.0) repo.old.1 repo.new.1 tables.now files.old.files files.new.files (map shown_change changes.items) result }
+    ensures home { IfOk result (λ _. StayAtHome N.name_of repo.old repo.new files.old files.new) }
+    ensures steps { ChangesAll N.name_of repo.old repo.new tables.now files.old files.new changes result }
 {
     for change in changes {
         change_files(repo, tables, files, change)?;
@@ -52,8 +46,8 @@ fn change_files<N: Namer, A: Allocator + Copy>(
     ensures namer { repo.new.0 ≡ repo.old.0 }
     ensures refs { repo.new.1.refs ≡ repo.old.1.refs }
     ensures extends { Extends repo.old.1.records repo.new.1.records }
-    ensures home { IfOk result (λ _. IsAtHome (N.name_of repo.old.0) repo.old.1.records files.old → IsAtHome (N.name_of repo.old.0) repo.new.1.records files.new) }
-    ensures steps { MakesChange (N.name_of repo.old.0) repo.old.1 repo.new.1 tables.now files.old.files files.new.files (shown_change change) result }
+    ensures home { IfOk result (λ _. StayAtHome N.name_of repo.old repo.new files.old files.new) }
+    ensures steps { Changes N.name_of repo.old repo.new tables.now files.old files.new change result }
 {
     match change {
         Change::Modify(modify) => modify_files(repo, tables, files, modify)?,
@@ -82,8 +76,8 @@ fn modify_files<N: Namer, A: Allocator + Copy>(
     ensures namer { repo.new.0 ≡ repo.old.0 }
     ensures refs { repo.new.1.refs ≡ repo.old.1.refs }
     ensures extends { Extends repo.old.1.records repo.new.1.records }
-    ensures home { IfOk result (λ _. IsAtHome (N.name_of repo.old.0) repo.old.1.records files.old → IsAtHome (N.name_of repo.old.0) repo.new.1.records files.new) }
-    ensures steps { MakesChange (N.name_of repo.old.0) repo.old.1 repo.new.1 tables.now files.old.files files.new.files (shown_modify modify) result }
+    ensures home { IfOk result (λ _. StayAtHome N.name_of repo.old repo.new files.old files.new) }
+    ensures steps { Modifies N.name_of repo.old repo.new tables.now files.old files.new modify result }
 {
     records_keep_home();
     let name = content(repo, tables, modify.mode, modify.data_ref)?;
@@ -104,7 +98,7 @@ fn content<N: Namer, A: Allocator + Copy>(
     ensures namer { repo.new.0 ≡ repo.old.0 }
     ensures refs { repo.new.1.refs ≡ repo.old.1.refs }
     ensures extends { Extends repo.old.1.records repo.new.1.records }
-    ensures steps { AddsContent (N.name_of repo.old.0) repo.old.1 repo.new.1 tables.now mode (shown_data data_ref) result }
+    ensures steps { AddsContent N.name_of repo.old repo.new tables.now mode data_ref result }
 {
     repo.sound();
     puts_add_values();
@@ -122,7 +116,7 @@ fn named_content<N: Namer, A: Allocator + Copy>(
     digits: &Digits,
 ) -> Result<Name, ImportKind>
     requires { mode ≢ modes.Dir }
-    ensures { NamesContent (N.name_of repo.now.0) repo.now.1 mode (model.Object digits.now.digits) result }
+    ensures { NamesContent N.name_of repo.now mode (model.Object digits.now.digits) result }
 {
     repo.sound();
     let Some(name) = Name::read(&digits.digits) else {
@@ -139,7 +133,7 @@ fn held_blob<N: Namer, A: Allocator + Copy>(
     repo: &Repo<N, A>,
     name: Name,
 ) -> Result<Name, ImportKind>
-    ensures { GivesAs (IsBlobOf (N.name_of repo.now.0) (values_of repo.now.1) name) result (bytes_held (N.name_of repo.now.0) repo.now.1 name.bytes) }
+    ensures { GivesBlob N.name_of repo.now name result }
 {
     repo.sound();
     match repo.store().get(&name) {

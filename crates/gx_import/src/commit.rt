@@ -1,20 +1,17 @@
 //! Commit commands. Source: git-fast-import(1), "commit".
 
-ghost use Rattle.std.specs.Prelude.{◌≡◌, [], map, IsTrue, IfOk};
-ghost use Rattle.std.specs.List.{AllByRecursion, cons_option};
-ghost use Rattle.std.specs.FinMap.Entries.{is_sorted};
+ghost use Rattle.std.specs.Prelude.{◌≡◌, [], IfOk};
+ghost use Rattle.std.specs.List.{cons_option};
 ghost use Rattle.gx_model.specs.declared.objects.Kind.TheVariants as kinds;
-ghost use Rattle.gx_model.specs.Records.{name_of};
-ghost use Rattle.gx_model.specs.Replay.{State, byte_cmp, text_made};
-ghost use Rattle.gx_model.specs.Revisions.{revision_of};
 ghost use Rattle.gx_model.specs.Sound.{Holds, IsNamedMap};
 ghost use Rattle.gx_text.specs.Idents.{ident_bytes};
 ghost use Rattle.gx_object.specs.Parts.{commit_parts as shown_parts};
-ghost use Rattle.gx_command.specs.Views.{commit_parts, shown_commit_ish};
-ghost use Rattle.gx_import.specs.Rows.{rows_of};
-ghost use Rattle.gx_import.specs.Standing.{AreTipsAtHome, Extends, Stands};
+ghost use Rattle.gx_command.specs.Views.{shown_commit};
 ghost use Rattle.gx_tree.specs.Named.{IsAtHome};
-ghost use Rattle.gx_import.specs.Calls.{AddsCommit, AddsCommitAlone, IsOwnCommit, MakesCommit, NamesFirstParent, NamesParents};
+ghost use Rattle.gx_import.specs.Objects.{AreHeldCommits, commit_object};
+ghost use Rattle.gx_import.specs.Rows.{IsSorted};
+ghost use Rattle.gx_import.specs.Standing.{Extends, HasTipsAtHome, StandsForSome};
+ghost use Rattle.gx_import.specs.Calls.{AddsCommit, AddsCommitAlone, IsOwnCommit, Makes, NamesFirstParent, NamesParents};
 
 use crate::ImportKind;
 use crate::branches::Tip;
@@ -38,13 +35,13 @@ pub(crate) fn apply_commit<N: Namer, A: Allocator + Copy>(
     tables: &mut Tables<A>,
     mut commit: Commit<A>,
 ) -> Result<(), ImportKind>
-    requires stands { (s : State) × Stands (N.name_of repo.now.0) repo.now.1 tables.now s }
-    requires homes { AreTipsAtHome (N.name_of repo.now.0) repo.now.1.records tables.now }
-    ensures homes { IfOk result (λ _. AreTipsAtHome (N.name_of repo.old.0) repo.new.1.records tables.new) }
+    requires stands { StandsForSome N.name_of repo.now tables.now }
+    requires homes { HasTipsAtHome N.name_of repo.now tables.now }
+    ensures homes { IfOk result (λ _. HasTipsAtHome N.name_of (repo.old.0, repo.new.1) tables.new) }
     ensures namer { repo.new.0 ≡ repo.old.0 }
     ensures refs { repo.new.1.refs ≡ repo.old.1.refs }
     ensures extends { Extends repo.old.1.records repo.new.1.records }
-    ensures steps { MakesCommit (N.name_of repo.old.0) repo.old.1 repo.new.1 tables.old tables.new (commit_parts commit) result }
+    ensures steps { Makes N.name_of repo.old repo.new tables.old tables.new (shown_commit commit) result }
 {
     repo.sound();
     records_keep_home();
@@ -71,8 +68,8 @@ fn first_parent<N: Namer, A: Allocator + Copy>(
     tables: &Tables<A>,
     commit: &Commit<A>,
 ) -> Result<Option<Name>, ImportKind>
-    requires sorted { IsTrue (is_sorted byte_cmp (rows_of tables.now.branches)) }
-    ensures { NamesFirstParent (N.name_of repo.now.0) repo.now.1 tables.now (commit_parts commit.now) result }
+    requires sorted { IsSorted tables.now.branches }
+    ensures { NamesFirstParent N.name_of repo.now tables.now commit.now result }
 {
     let branch = commit.branch.bytes.as_slice();
     match &commit.from {
@@ -87,8 +84,8 @@ fn own_commit<N: Namer, A: Allocator + Copy>(
     tables: &Tables<A>,
     branch: &[u8],
 ) -> Option<Name>
-    requires sorted { IsTrue (is_sorted byte_cmp (rows_of tables.now.branches)) }
-    ensures { IsOwnCommit (N.name_of repo.now.0) repo.now.1 tables.now branch.now result }
+    requires sorted { IsSorted tables.now.branches }
+    ensures { IsOwnCommit N.name_of repo.now tables.now branch.now result }
 {
     repo.sound();
     match tables.branches.get(branch) {
@@ -104,8 +101,8 @@ fn parents<N: Namer, A: Allocator + Copy>(
     commit: &Commit<A>,
     first: Option<Name>,
 ) -> Result<Vec<Name, A>, ImportKind>
-    requires sorted { IsTrue (is_sorted byte_cmp (rows_of tables.now.branches)) }
-    ensures { NamesParents (N.name_of repo.now.0) repo.now.1 tables.now commit.now.branch.bytes.items first (map shown_commit_ish commit.now.merges.items) result }
+    requires sorted { IsSorted tables.now.branches }
+    ensures { NamesParents N.name_of repo.now tables.now commit.now first result }
 {
     let branch = commit.branch.bytes.as_slice();
     let mut parents = first_alone(tables.alloc, first)?;
@@ -138,14 +135,14 @@ fn add<N: Namer, A: Allocator + Copy>(
     commit: &Commit<A>,
 ) -> Result<Name, ImportKind>
     requires named { IsNamedMap repo.now.1.records files.now.files }
-    requires parents { AllByRecursion (λ parent. Holds repo.now.1.records kinds.Commit parent.bytes) parents.now }
+    requires parents { AreHeldCommits repo.now.1 parents.now }
     requires home { IsAtHome (N.name_of repo.now.0) repo.now.1.records files.now }
     ensures home { IfOk result (λ _. IsAtHome (N.name_of repo.old.0) repo.new.1.records files.new) }
     ensures namer { repo.new.0 ≡ repo.old.0 }
     ensures refs { repo.new.1.refs ≡ repo.old.1.refs }
     ensures extends { Extends repo.old.1.records repo.new.1.records }
     ensures files { files.new.files ≡ files.old.files }
-    ensures steps { AddsCommit (N.name_of repo.old.0) A repo.old.1 repo.new.1 files.old.files parents.now (commit_parts commit.now) result }
+    ensures steps { AddsCommit N.name_of repo.old repo.new files.old parents.now commit.now result }
 {
     repo.sound();
     trees_add_file_maps();
@@ -163,11 +160,11 @@ fn add_alone<N: Namer, A: Allocator + Copy>(
     commit: &Commit<A>,
 ) -> Result<Name, ImportKind>
     requires tree { Holds repo.now.1.records kinds.Tree tree.bytes }
-    requires parents { AllByRecursion (λ parent. Holds repo.now.1.records kinds.Commit parent.bytes) parents.now }
+    requires parents { AreHeldCommits repo.now.1 parents.now }
     ensures namer { repo.new.0 ≡ repo.old.0 }
     ensures refs { repo.new.1.refs ≡ repo.old.1.refs }
     ensures extends { Extends repo.old.1.records repo.new.1.records }
-    ensures steps { AddsCommitAlone (N.name_of repo.old.0) A repo.old.1 repo.new.1 tree parents.now (commit_parts commit.now) result }
+    ensures steps { AddsCommitAlone N.name_of repo.old repo.new tree parents.now commit.now result }
 {
     repo.sound();
     puts_add_values();
@@ -180,7 +177,7 @@ fn object_parts<'a, A: Allocator + Copy>(
     parents: &'a [Name],
     commit: &'a Commit<A>,
 ) -> CommitParts<'a>
-    ensures { shown_parts result ≡ record { tree = tree.bytes; parents = map (λ n. n.bytes) parents.now; text = text_made (λ kind body. body) revision_of (commit_parts commit.now) } }
+    ensures { shown_parts result ≡ commit_object tree parents.now commit.now }
 {
     let committer = ident(&commit.committer);
     let author = match &commit.author {

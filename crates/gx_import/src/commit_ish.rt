@@ -1,12 +1,10 @@
 //! What names a commit. Source: git-fast-import(1), "from".
 
-ghost use Rattle.std.specs.Prelude.{◌≡◌, IsTrue};
-ghost use Rattle.std.specs.FinMap.Entries.{is_sorted};
-ghost use Rattle.gx_model.specs.Replay.{byte_cmp, is_itself};
-ghost use Rattle.gx_model.specs.Revisions.{revision_of};
+ghost use Rattle.std.specs.Prelude.{◌≡◌};
 ghost use Rattle.gx_command.specs.Views.{shown_commit_ish};
 ghost use Rattle.gx_import.specs.Objects.{branch_object};
-ghost use Rattle.gx_import.specs.Rows.{rows_of};
+ghost use Rattle.gx_import.specs.Rows.{IsSorted};
+ghost use Rattle.gx_import.specs.Steps.{is_branch_itself};
 ghost use Rattle.gx_import.specs.Calls.{NamesCommit, NamesObject, ShowsRevision};
 
 use crate::ImportKind;
@@ -24,8 +22,8 @@ pub(crate) fn object_named<N: Namer, A: Allocator + Copy>(
     tables: &Tables<A>,
     commit_ish: &CommitIsh<A>,
 ) -> Result<Object, ImportKind>
-    requires sorted { IsTrue (is_sorted byte_cmp (rows_of tables.now.branches)) }
-    ensures { NamesObject (N.name_of repo.now.0) repo.now.1 tables.now (shown_commit_ish commit_ish.now) result }
+    requires sorted { IsSorted tables.now.branches }
+    ensures { NamesObject N.name_of repo.now tables.now commit_ish.now result }
 {
     match commit_ish {
         CommitIsh::Mark(number) => tables.marks.object(*number),
@@ -55,7 +53,7 @@ fn revision_object<N: Namer, A: Allocator + Copy>(
     repo: &Repo<N, A>,
     text: &[u8],
 ) -> Result<Object, ImportKind>
-    ensures { ShowsRevision (N.name_of repo.now.0) repo.now.1 text.now result }
+    ensures { ShowsRevision N.name_of repo.now text.now result }
 {
     repo.sound();
     let revision = Revision::read(alloc, text)?;
@@ -72,8 +70,8 @@ pub(crate) fn committed_for<N: Namer, A: Allocator + Copy>(
     branch: &[u8],
     commit_ish: &CommitIsh<A>,
 ) -> Result<Name, ImportKind>
-    requires sorted { IsTrue (is_sorted byte_cmp (rows_of tables.now.branches)) }
-    ensures { NamesCommit (N.name_of repo.now.0) repo.now.1 tables.now branch.now (shown_commit_ish commit_ish.now) result }
+    requires sorted { IsSorted tables.now.branches }
+    ensures { NamesCommit N.name_of repo.now tables.now branch.now commit_ish.now result }
 {
     if is_itself(branch, commit_ish) {
         return Err(ImportKind::FromItself);
@@ -84,7 +82,7 @@ pub(crate) fn committed_for<N: Namer, A: Allocator + Copy>(
 
 /// Whether a commit-ish is the name of the branch.
 fn is_itself<A: Allocator + Copy>(branch: &[u8], commit_ish: &CommitIsh<A>) -> bool
-    ensures { result ≡ is_itself (λ kind body. body) revision_of branch.now (shown_commit_ish commit_ish.now) }
+    ensures { result ≡ is_branch_itself branch.now (shown_commit_ish commit_ish.now) }
 {
     match commit_ish {
         CommitIsh::Mark(_) => false,

@@ -2,14 +2,11 @@
 
 ghost use Rattle.std.specs.Prelude.{◌≡◌, Some, IfOk, IfErr};
 ghost use Rattle.gx_model.specs.declared.objects.Kind.TheVariants as kinds;
-ghost use Rattle.gx_model.specs.Records.{named_map, parts_of_commit};
-ghost use Rattle.gx_model.specs.Replay.{State};
-ghost use Rattle.gx_model.specs.Values.{Commit, files_of};
 ghost use Rattle.gx_tree.specs.Named.{IsAtHome};
-ghost use Rattle.gx_rev.specs.Objects.{IsHeldAs, commit_at};
+ghost use Rattle.gx_rev.specs.Objects.{IsHeldAs};
 ghost use Rattle.gx_import.specs.declared.fault.ImportKind.TheVariants.{OutOfMemory};
-ghost use Rattle.gx_import.specs.Standing.{AreTipsAtHome, Stands};
-ghost use Rattle.gx_import.specs.Calls.{GivesStartingFiles, IsSomeCommit};
+ghost use Rattle.gx_import.specs.Standing.{GivesFilesAtHome, KeepsStanding, TipsStayAtHome};
+ghost use Rattle.gx_import.specs.Calls.{GivesStartingFiles, HasFilesAt, IsSomeCommit, tree_at};
 
 use crate::ImportKind;
 use crate::branches::{files_at, take_files};
@@ -29,11 +26,11 @@ pub(crate) fn starting_files<N: Namer, A: Allocator + Copy>(
     branch: &[u8],
     first: Option<Name>,
 ) -> Result<PathTree<A>, ImportKind>
-    requires stands { IsSomeCommit (N.name_of repo.now.0) repo.now.1 tables.now first }
-    ensures tables { (s : State) → Stands (N.name_of repo.now.0) repo.now.1 tables.old s → Stands (N.name_of repo.now.0) repo.now.1 tables.new s }
-    ensures files { GivesStartingFiles (N.name_of repo.now.0) repo.now.1 tables.old first result }
-    ensures homes { AreTipsAtHome (N.name_of repo.now.0) repo.now.1.records tables.old → AreTipsAtHome (N.name_of repo.now.0) repo.now.1.records tables.new }
-    ensures home { AreTipsAtHome (N.name_of repo.now.0) repo.now.1.records tables.old → IfOk result (IsAtHome (N.name_of repo.now.0) repo.now.1.records) }
+    requires stands { IsSomeCommit N.name_of repo.now tables.now first }
+    ensures tables { KeepsStanding N.name_of repo.now tables.old tables.new }
+    ensures files { GivesStartingFiles N.name_of repo.now tables.old first result }
+    ensures homes { TipsStayAtHome N.name_of repo.now tables.old tables.new }
+    ensures home { GivesFilesAtHome N.name_of repo.now tables.old result }
     ensures fault { IfErr result (λ fault. fault ≡ OutOfMemory) }
 {
     repo.sound();
@@ -52,9 +49,9 @@ fn other_files<N: Namer, A: Allocator + Copy>(
     tables: &Tables<A>,
     commit: &Name,
 ) -> Result<PathTree<A>, ImportKind>
-    requires stands { IsSomeCommit (N.name_of repo.now.0) repo.now.1 tables.now (Some commit.now) }
-    ensures files { GivesStartingFiles (N.name_of repo.now.0) repo.now.1 tables.now (Some commit.now) result }
-    ensures home { AreTipsAtHome (N.name_of repo.now.0) repo.now.1.records tables.now → IfOk result (IsAtHome (N.name_of repo.now.0) repo.now.1.records) }
+    requires stands { IsSomeCommit N.name_of repo.now tables.now (Some commit.now) }
+    ensures files { GivesStartingFiles N.name_of repo.now tables.now (Some commit.now) result }
+    ensures home { GivesFilesAtHome N.name_of repo.now tables.now result }
     ensures fault { IfErr result (λ fault. fault ≡ OutOfMemory) }
 {
     repo.sound();
@@ -71,7 +68,7 @@ fn loaded_files<N: Namer, A: Allocator + Copy>(
     commit: &Name,
 ) -> Result<PathTree<A>, ImportKind>
     requires { IsHeldAs kinds.Commit repo.now.1 commit.now }
-    ensures files { IfOk result (λ files. files.files ≡ named_map (N.name_of repo.now.0) (files_of (commit_at repo.now.1 commit.now))) }
+    ensures files { IfOk result (HasFilesAt N.name_of repo.now commit.now) }
     ensures home { IfOk result (IsAtHome (N.name_of repo.now.0) repo.now.1.records) }
     ensures fault { IfErr result (λ fault. fault ≡ OutOfMemory) }
 {
@@ -83,7 +80,7 @@ fn loaded_files<N: Namer, A: Allocator + Copy>(
 /// The tree of a held commit.
 fn tree_of<N: Namer, A: Allocator + Copy>(repo: &Repo<N, A>, commit: &Name) -> Name
     requires { IsHeldAs kinds.Commit repo.now.1 commit.now }
-    ensures { result.bytes ≡ (parts_of_commit (N.name_of repo.now.0) (commit_at repo.now.1 commit.now)).tree }
+    ensures { result.bytes ≡ tree_at N.name_of repo.now commit.now }
 {
     repo.sound();
     let Some((_, body)) = repo.store().get(commit) else {

@@ -1,10 +1,10 @@
 //! Imports of whole streams. Source: git-fast-import(1).
 
 ghost use Rattle.std.specs.Prelude.{◌≡◌, [], IfErr, IsTrue, OnErr, OnOk};
-ghost use Rattle.gx_import.specs.Exported.{ImportsExport, KeepsNoNullGitlink, RefusesNullGitlink};
-ghost use Rattle.gx_import.specs.Imports.{Imports, StandsReplayed};
+ghost use Rattle.gx_import.specs.Exported.{ImportsAnyExport, KeepsNoNullGitlink, RefusesNullGitlink};
+ghost use Rattle.gx_import.specs.Imports.{ImportsStream, StandsReplayed};
 ghost use Rattle.gx_import.specs.Keeping.{AreNone, IsLeft};
-ghost use Rattle.gx_import.specs.Replaying.{left_by};
+ghost use Rattle.gx_import.specs.Replaying.{LeavesImport, left_by};
 ghost use Rattle.gx_import.specs.Standing.{Extends};
 ghost use Rattle.gx_model.specs.Sound.{IsSound};
 
@@ -47,14 +47,14 @@ pub fn import<N: Namer, A: Allocator + Copy, R: Source + Drop, W: Sink>(
     sink: &mut W,
 ) -> Result<Report, ImportFault>
     ensures namer { repo.new.0 ≡ repo.old.0 }
-    ensures replayed { Imports (N.name_of repo.old.0) repo.old.1 repo.new.1 (R.coming source) (W.taken sink.old) (W.taken sink.new) result }
-    ensures stands { OnOk result (StandsReplayed (N.name_of repo.old.0) repo.old.1 repo.new.1 (R.coming source)) }
+    ensures replayed { ImportsStream N.name_of repo.old repo.new (R.coming source) (W.taken sink.old) (W.taken sink.new) result }
+    ensures stands { OnOk result (StandsReplayed N.name_of repo.old repo.new (R.coming source)) }
     ensures extends { Extends repo.old.1.records repo.new.1.records }
     ensures sound { IsSound (N.name_of repo.old.0) repo.new.1 }
     ensures unchanged { IfErr result (λ fault. fault.checkpoints ≡ 0 → repo.new ≡ repo.old) }
-    ensures exported { ImportsExport (N.name_of repo.old.0) repo.old.1 repo.new.1 (R.coming source) result }
+    ensures exported { ImportsAnyExport N.name_of repo.old repo.new (R.coming source) result }
     ensures gitlinks { KeepsNoNullGitlink repo.old.1 repo.new.1 }
-    ensures nulls { RefusesNullGitlink (N.name_of repo.old.0) repo.old.1 (R.coming source) result }
+    ensures nulls { RefusesNullGitlink N.name_of repo.old (R.coming source) result }
 {
     histories_of_records();
     names_tell_values();
@@ -95,7 +95,7 @@ fn replay_and_publish<N: Namer, A: Allocator + Copy, R: Source + Drop, W: Sink>(
     requires none { AreNone repo.now.1 checkpoints.now }
     ensures namer { repo.new.0 ≡ repo.old.0 }
     ensures extends { Extends repo.old.1.records repo.new.1.records }
-    ensures replayed { Imports (N.name_of repo.old.0) repo.old.1 (left_by result checkpoints.new repo.new.1) (R.coming source) (W.taken sink.old) (W.taken sink.new) result }
+    ensures replayed { LeavesImport N.name_of repo.old repo.new checkpoints.new (R.coming source) (W.taken sink.old) (W.taken sink.new) result }
     ensures left { OnErr result (IsLeft repo.old.1 repo.new.1 checkpoints.new) }
     ensures counted { IfErr result (λ fault. fault.checkpoints ≡ checkpoints.new.count) }
     ensures gitlinks { KeepsNoNullGitlink repo.old.1 (left_by result checkpoints.new repo.new.1) }

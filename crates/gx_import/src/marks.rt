@@ -1,7 +1,7 @@
 //! The objects that marks stand for. Source: git-fast-import(1), "mark".
 
 ghost use Rattle.std.specs.Prelude.{◌≡◌, ℕ, None, OnOk};
-ghost use Rattle.gx_import.specs.Marks.{marked_object, object_at, object_or_fault};
+ghost use Rattle.gx_import.specs.Marks.{SetsMark, object_at, object_or_fault};
 
 use crate::ImportKind;
 use crate::object::Object;
@@ -42,7 +42,7 @@ impl<A: Allocator + Copy> Marks<A> {
         mark: Option<u64>,
         object: Object,
     ) -> Result<(), AllocFailed<(u64, Object)>>
-        ensures { OnOk result ((number : ℕ) → object_at self.new number ≡ marked_object mark object number (object_at self.old number)) }
+        ensures { OnOk result (SetsMark mark object self.old self.new) }
     {
         if let Some(number) = mark {
             self.objects.insert(number, object)?;

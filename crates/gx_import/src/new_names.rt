@@ -1,12 +1,8 @@
 //! The names of an import's refs that were not published yet.
 
-ghost use Rattle.std.specs.Prelude.{◌≡◌, [], ◌++◌, map, IsTrue, IfOk, OnOk};
-ghost use Rattle.std.specs.FinMap.Entries.{is_sorted};
-ghost use Rattle.std.specs.List.{filter};
-ghost use Rattle.gx_model.specs.Replay.{byte_cmp};
-ghost use Rattle.gx_repo.specs.Refs.{asked};
-ghost use Rattle.gx_import.specs.RefChanges.{branch_changes, branch_then, changes_of, is_new, tag_changes};
-ghost use Rattle.gx_import.specs.Rows.{rows_of};
+ghost use Rattle.std.specs.Prelude.{◌≡◌, IfOk, OnOk};
+ghost use Rattle.gx_import.specs.RefChanges.{AppendsIfNew, AppendsNewBranches, AppendsNewTags, AreChanges, new_of};
+ghost use Rattle.gx_import.specs.Rows.{IsSorted, rows_of};
 
 use crate::branches::Tip;
 use crate::rows_ahead::RowsAhead;
@@ -23,8 +19,8 @@ pub(crate) fn new_names<'a, A: Allocator + Copy>(
     tables: &'a Tables<A>,
     published: &Table<Name, A>,
 ) -> Result<Vec<RefChange<'a>, A>, AllocError>
-    requires sorted { IsTrue (is_sorted byte_cmp (rows_of published.now)) }
-    ensures { IfOk result (λ names. map asked names.items ≡ filter (is_new (rows_of published.now)) (changes_of tables.now)) }
+    requires sorted { IsSorted published.now }
+    ensures { IfOk result (AreChanges (new_of (rows_of published.now) tables.now)) }
 {
     let mut names = Vec::new(tables.alloc);
     append_branches(&mut names, published, &tables.branches)?;
@@ -38,8 +34,8 @@ fn append_branches<'a, A: Allocator + Copy>(
     published: &Table<Name, A>,
     branches: &'a Table<Tip<A>, A>,
 ) -> Result<(), AllocError>
-    requires sorted { IsTrue (is_sorted byte_cmp (rows_of published.now)) }
-    ensures { OnOk result (map asked names.new.items ≡ map asked names.old.items ++ filter (is_new (rows_of published.now)) (branch_changes (rows_of branches.now))) }
+    requires sorted { IsSorted published.now }
+    ensures { OnOk result (AppendsNewBranches published.now branches.now names.old names.new) }
 {
     let mut ahead = RowsAhead::new(published);
     for (name, tip) in &branches.rows {
@@ -54,8 +50,8 @@ fn append_tags<'a, A: Allocator + Copy>(
     published: &Table<Name, A>,
     tags: &'a Table<Name, A>,
 ) -> Result<(), AllocError>
-    requires sorted { IsTrue (is_sorted byte_cmp (rows_of published.now)) }
-    ensures { OnOk result (map asked names.new.items ≡ map asked names.old.items ++ filter (is_new (rows_of published.now)) (tag_changes (rows_of tags.now))) }
+    requires sorted { IsSorted published.now }
+    ensures { OnOk result (AppendsNewTags published.now tags.now names.old names.new) }
 {
     let mut ahead = RowsAhead::new(published);
     for (name, object) in &tags.rows {
@@ -72,7 +68,7 @@ fn append<'a, A: Allocator + Copy>(
     object: Option<Name>,
 ) -> Result<(), AllocError>
     ensures same { published.new ≡ published.old }
-    ensures appended { OnOk result (map asked names.new.items ≡ map asked names.old.items ++ filter (is_new published.old) (branch_then name.now object [])) }
+    ensures appended { OnOk result (AppendsIfNew published.old name.now object names.old names.new) }
 {
     if let Some(target) = object {
         if published.get(name).is_none() {

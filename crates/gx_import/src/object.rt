@@ -21,7 +21,7 @@ pub(crate) fn commit_in<N: Namer, A: Allocator + Copy>(
     repo: &Repo<N, A>,
     object: Object,
 ) -> Result<Name, ImportKind>
-    ensures { ShowsCommit (N.name_of repo.now.0) repo.now.1 object result }
+    ensures { ShowsCommit N.name_of repo.now object result }
 {
     repo.sound();
     match repo.peel(&object.name) {

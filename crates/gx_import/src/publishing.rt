@@ -1,23 +1,15 @@
 //! What an import publishes. Source: git-fast-import(1), "force", and gitglossary(7), "fast-forward".
 
-ghost use Rattle.std.specs.Prelude.{◌≡◌, List, [], ◌∷◌, ◌++◌, map, is_some, Option, Some, None, IsTrue, IfOk, IfErr, IfSome, OnOk, OnErr};
-ghost use Rattle.std.specs.FinMap.Entries.{is_sorted};
-ghost use Rattle.std.specs.List.{filter};
-ghost use Rattle.std.specs.Map.{lookup};
+ghost use Rattle.std.specs.Prelude.{◌≡◌, [], ◌∷◌, map, is_some, Some, None, IfErr, IfSome, OnOk, OnErr};
 ghost use Rattle.std.specs.Option.{option_map};
-ghost use Rattle.gx_model.specs.Publishing.{Ref, changes_fault, with_changes};
-ghost use Rattle.gx_model.specs.Replay.{State, byte_cmp, is_fast_forward};
-ghost use Rattle.gx_model.specs.RepositoryLaws.{values_of};
-ghost use Rattle.gx_model.specs.Texts.{same_bytes};
-ghost use Rattle.gx_model.specs.Values.{Commit};
+ghost use Rattle.gx_model.specs.Publishing.{changes_fault, with_changes};
 ghost use Rattle.gx_repo.specs.Refs.{asked};
-ghost use Rattle.gx_import.specs.Calls.{TellsForward, TellsMovable};
-ghost use Rattle.gx_import.specs.Keeping.{Enters, EntersAll, HasAll};
-ghost use Rattle.gx_import.specs.Objects.{IsCommitOf};
-ghost use Rattle.gx_import.specs.Publishing.{Publishes};
-ghost use Rattle.gx_import.specs.RefChanges.{IsHeldByRef, branch_changes, branch_then, changes_of, is_at, is_moved, moved_of, tag_changes};
-ghost use Rattle.gx_import.specs.Rows.{AreBoth, rows_of};
-ghost use Rattle.gx_import.specs.Standing.{Stands};
+ghost use Rattle.gx_import.specs.Calls.{IsCommitIfAny, TellsForward, TellsMovable};
+ghost use Rattle.gx_import.specs.Keeping.{AreMoved, EntersInEach, EntersNames, HasAll};
+ghost use Rattle.gx_import.specs.Publishing.{PublishesInEach, TellsFastForward};
+ghost use Rattle.gx_import.specs.RefChanges.{Appends, AppendsBranch, AppendsBranches, GivesMoved, IsHeldByRef, changes_of, is_at, tag_changes};
+ghost use Rattle.gx_import.specs.Rows.{IsSorted, rows_of};
+ghost use Rattle.gx_import.specs.Standing.{StandsForSome};
 ghost use Rattle.gx_import.specs.declared.fault.ImportKind.TheVariants.{OutOfMemory};
 
 use crate::ImportKind;
@@ -38,15 +30,15 @@ pub(crate) fn publish<N: Namer, A: Allocator + Copy>(
     published: &mut Table<Name, A>,
     has_all: bool,
 ) -> Result<(), ImportKind>
-    requires stands { (s : State) × Stands (N.name_of repo.now.0) repo.now.1 tables.now s }
-    requires sorted { IsTrue (is_sorted byte_cmp (rows_of published.now)) }
+    requires stands { StandsForSome N.name_of repo.now tables.now }
+    requires sorted { IsSorted published.now }
     requires has_all { HasAll has_all repo.now.1.refs (rows_of published.now) }
     ensures namer { repo.new.0 ≡ repo.old.0 }
     ensures records { repo.new.1.records ≡ repo.old.1.records }
     ensures unchanged { OnErr result (repo.new ≡ repo.old) }
-    ensures published { (s : State) → Stands (N.name_of repo.old.0) repo.old.1 tables.now s → Publishes s repo.old.1 repo.new.1 result }
-    ensures entered { OnOk result (EntersAll (N.name_of repo.old.0) repo.old.1 tables.now (rows_of published.old) (rows_of published.new)) }
-    ensures sorted { OnOk result (IsTrue (is_sorted byte_cmp (rows_of published.new))) }
+    ensures published { PublishesInEach N.name_of repo.old repo.new tables.now result }
+    ensures entered { EntersInEach N.name_of repo.old tables.now published.old published.new result }
+    ensures sorted { OnOk result (IsSorted published.new) }
     ensures has_all { OnOk result (HasAll has_all repo.new.1.refs (rows_of published.new)) }
 {
     histories_of_records();
@@ -65,9 +57,9 @@ fn changes<'a, N: Namer, A: Allocator + Copy>(
     repo: &Repo<N, A>,
     tables: &'a Tables<A>,
 ) -> Result<Option<Vec<RefChange<'a>, A>>, AllocError>
-    requires stands { (s : State) × Stands (N.name_of repo.now.0) repo.now.1 tables.now s }
-    ensures forward { (s : State) → Stands (N.name_of repo.now.0) repo.now.1 tables.now s → IfOk result (λ changes. is_some changes ≡ is_fast_forward s) }
-    ensures changes { IfOk result (λ changes. IfSome changes (λ changes. map asked changes.items ≡ moved_of repo.now.1.refs tables.now)) }
+    requires stands { StandsForSome N.name_of repo.now tables.now }
+    ensures forward { TellsFastForward N.name_of repo.now tables.now is_some result }
+    ensures changes { GivesMoved repo.now.1.refs tables.now result }
 {
     let mut changes = Vec::new(tables.alloc);
     if !append_branches(&mut changes, repo, tables)? {
@@ -84,9 +76,9 @@ fn append_branches<'a, N: Namer, A: Allocator + Copy>(
     repo: &Repo<N, A>,
     tables: &'a Tables<A>,
 ) -> Result<bool, AllocError>
-    requires stands { (s : State) × Stands (N.name_of repo.now.0) repo.now.1 tables.now s }
-    ensures forward { (s : State) → Stands (N.name_of repo.now.0) repo.now.1 tables.now s → IfOk result (λ is_forward. is_forward ≡ is_fast_forward s) }
-    ensures appended { IfOk result (λ is_forward. IsTrue is_forward → map asked changes.new.items ≡ map asked changes.old.items ++ filter (is_moved repo.now.1.refs) (branch_changes (rows_of tables.now.branches))) }
+    requires stands { StandsForSome N.name_of repo.now tables.now }
+    ensures forward { TellsFastForward N.name_of repo.now tables.now (λ is_forward. is_forward) result }
+    ensures appended { AppendsBranches repo.now.1.refs tables.now changes.old changes.new result }
 {
     repo.sound();
     let mut place = 0;
@@ -111,9 +103,9 @@ fn append_branch<'a, N: Namer, A: Allocator + Copy>(
     commit: Option<Name>,
 ) -> Result<bool, AllocError>
     requires target { IfSome object (IsHeldByRef repo.now.1) }
-    requires commit { (made : Option Commit) × AreBoth (IsCommitOf (N.name_of repo.now.0) (values_of repo.now.1)) made commit }
-    ensures forward { TellsMovable (N.name_of repo.now.0) repo.now.1 tables.now.is_forced object commit result }
-    ensures appended { (refs : List Ref) → option_map (λ n. n.bytes) object ≡ lookup (same_bytes name.now) refs → IfOk result (λ is_forward. IsTrue is_forward → map asked changes.new.items ≡ map asked changes.old.items ++ filter (is_moved refs) (branch_then name.now commit [])) }
+    requires commit { IsCommitIfAny N.name_of repo.now commit }
+    ensures forward { TellsMovable N.name_of repo.now tables.now.is_forced object commit result }
+    ensures appended { AppendsBranch name.now object commit changes.old changes.new result }
 {
     repo.sound();
     let Some(target) = commit else {
@@ -138,8 +130,8 @@ fn is_forward<N: Namer, A: Allocator + Copy>(
     new: Name,
 ) -> Result<bool, AllocError>
     requires target { IfSome object (IsHeldByRef repo.now.1) }
-    requires commit { (made : Option Commit) × AreBoth (IsCommitOf (N.name_of repo.now.0) (values_of repo.now.1)) made (Some new) }
-    ensures { TellsForward (N.name_of repo.now.0) repo.now.1 object (Some new) result }
+    requires commit { IsCommitIfAny N.name_of repo.now (Some new) }
+    ensures { TellsForward N.name_of repo.now object (Some new) result }
 {
     repo.sound();
     let Some(object) = object else {
@@ -166,7 +158,7 @@ fn append_tags<'a, A: Allocator + Copy>(
     changes: &mut Vec<RefChange<'a>, A>,
     tags: &'a Table<Name, A>,
 ) -> Result<(), AllocError>
-    ensures { OnOk result (map asked changes.new.items ≡ map asked changes.old.items ++ tag_changes (rows_of tags.now)) }
+    ensures { OnOk result (Appends (tag_changes (rows_of tags.now)) changes.old changes.new) }
 {
     for (name, object) in &tags.rows {
         let name = name.as_slice();
@@ -205,10 +197,10 @@ fn enter_names<A: Allocator + Copy>(
     has_all: bool,
     changes: &[RefChange<'_>],
 ) -> Result<(), AllocError>
-    requires sorted { IsTrue (is_sorted byte_cmp (rows_of published.now)) }
-    requires changes { (refs : List Ref) × HasAll has_all refs (rows_of published.now) × (map asked changes.now ≡ moved_of refs tables.now) }
-    ensures sorted { OnOk result (IsTrue (is_sorted byte_cmp (rows_of published.new))) }
-    ensures entered { OnOk result (Enters (rows_of published.old) (rows_of published.new) (changes_of tables.now)) }
+    requires sorted { IsSorted published.now }
+    requires changes { AreMoved has_all published.now tables.now (map asked changes.now) }
+    ensures sorted { OnOk result (IsSorted published.new) }
+    ensures entered { OnOk result (EntersNames published.old published.new (changes_of tables.now)) }
 {
     if has_all {
         return enter_all(tables.alloc, published, changes);
@@ -223,9 +215,9 @@ fn enter_all<A: Allocator + Copy>(
     published: &mut Table<Name, A>,
     changes: &[RefChange<'_>],
 ) -> Result<(), AllocError>
-    requires sorted { IsTrue (is_sorted byte_cmp (rows_of published.now)) }
-    ensures sorted { OnOk result (IsTrue (is_sorted byte_cmp (rows_of published.new))) }
-    ensures entered { OnOk result (Enters (rows_of published.old) (rows_of published.new) (map asked changes.now)) }
+    requires sorted { IsSorted published.now }
+    ensures sorted { OnOk result (IsSorted published.new) }
+    ensures entered { OnOk result (EntersNames published.old published.new (map asked changes.now)) }
 {
     for change in changes {
         enter(alloc, published, change)?;
@@ -239,9 +231,9 @@ fn enter<A: Allocator + Copy>(
     published: &mut Table<Name, A>,
     change: &RefChange<'_>,
 ) -> Result<(), AllocError>
-    requires sorted { IsTrue (is_sorted byte_cmp (rows_of published.now)) }
-    ensures sorted { OnOk result (IsTrue (is_sorted byte_cmp (rows_of published.new))) }
-    ensures entered { OnOk result (Enters (rows_of published.old) (rows_of published.new) (asked change.now ∷ [])) }
+    requires sorted { IsSorted published.now }
+    ensures sorted { OnOk result (IsSorted published.new) }
+    ensures entered { OnOk result (EntersNames published.old published.new (asked change.now ∷ [])) }
 {
     if published.get(change.name).is_none() {
         let name = Vec::from_slice(alloc, change.name)?;

@@ -1,18 +1,13 @@
 //! The commands of a stream, applied one after the other. Source: git-fast-import(1), "Commands".
 
-ghost use Rattle.std.specs.Prelude.{◌≡◌, ◌<◌, ◌≤◌, ◌-◌, ◌^◌, ◌++◌, [], ◌∷◌, codes, length, ◌+◌, IfErr, IfOk, IfSome, OnErr, OnOk, IsTrue};
-ghost use Rattle.gx_model.specs.Gitlinks.{BringsNoNullGitlink};
-ghost use Rattle.gx_model.specs.Histories.{IsHistory};
-ghost use Rattle.gx_model.specs.HistoryOf.{history_of};
-ghost use Rattle.gx_model.specs.Replay.{State, byte_cmp};
-ghost use Rattle.std.specs.FinMap.Entries.{is_sorted};
-ghost use Rattle.gx_command.specs.Views.{shown_command};
-ghost use Rattle.gx_import.specs.Exported.{KeepsNoNullGitlink};
-ghost use Rattle.gx_import.specs.Keeping.{AreNone, AreStill, EntersAll, HoldsAll, IsLeft, IsNext, KeepsInEach, Moves, left_of};
-ghost use Rattle.gx_import.specs.Replaying.{FallsNext, ReadsNext, ReplaysTo, Writes};
-ghost use Rattle.gx_import.specs.Publishing.{Publishes};
-ghost use Rattle.gx_import.specs.Rows.{rows_of};
-ghost use Rattle.gx_import.specs.Standing.{AreEmpty, AreTipsAtHome, Extends, Stands};
+ghost use Rattle.std.specs.Prelude.{◌≡◌, ◌<◌, ◌≤◌, ◌-◌, ◌^◌, length, ◌+◌, IfErr, IfOk, OnErr, OnOk};
+ghost use Rattle.gx_import.specs.Exported.{MakesNoNullGitlink};
+ghost use Rattle.gx_import.specs.Imports.{line_of};
+ghost use Rattle.gx_import.specs.Keeping.{AreNone, AreStill, EntersInEach, HoldsAll, IsLeft, IsNext, KeepsInEach, Moves, left_of};
+ghost use Rattle.gx_import.specs.Replaying.{FallsNext, ReadsNext, ReadsNoNullGitlink, ReplaysTo, Writes};
+ghost use Rattle.gx_import.specs.Publishing.{PublishesInEach};
+ghost use Rattle.gx_import.specs.Rows.{IsSorted};
+ghost use Rattle.gx_import.specs.Standing.{AreEmpty, Extends, HasTipsAtHome, StandsForSome};
 ghost use Rattle.gx_import.specs.Calls.{AppliesInEach, AsksFor};
 
 use crate::blob::apply_blob;
@@ -43,13 +38,13 @@ pub(crate) fn replay<N: Namer, A: Allocator + Copy, R: Source + Drop, W: Sink>(
     ensures namer { repo.new.0 ≡ repo.old.0 }
     ensures extends { Extends repo.old.1.records repo.new.1.records }
     ensures count { IfOk result (λ commands. commands ≤ 2 ^ 63 - 1) }
-    ensures replayed { ReplaysTo (N.name_of repo.old.0) repo.old.1 repo.new.1 tables.new checkpoints.new (R.coming source) (W.taken sink.old) (W.taken sink.new) result }
+    ensures replayed { ReplaysTo N.name_of repo.old repo.new tables.new checkpoints.new (R.coming source) (W.taken sink.old) (W.taken sink.new) result }
     ensures left { IsLeft repo.old.1 repo.new.1 checkpoints.new }
-    ensures sorted { OnOk result (IsTrue (is_sorted byte_cmp (rows_of checkpoints.new.refs))) }
+    ensures sorted { OnOk result (IsSorted checkpoints.new.refs) }
     ensures has_all { OnOk result (HoldsAll repo.new.1 checkpoints.new) }
     ensures counted { IfErr result (λ fault. fault.checkpoints ≡ checkpoints.new.count) }
-    ensures gitlinks { OnOk result (IsHistory (history_of repo.old.1) → KeepsNoNullGitlink repo.old.1 repo.new.1) }
-    ensures gitlinks_left { IsHistory (history_of repo.old.1) → KeepsNoNullGitlink repo.old.1 (left_of checkpoints.new repo.new.1) }
+    ensures gitlinks { OnOk result (MakesNoNullGitlink repo.old.1 repo.new.1) }
+    ensures gitlinks_left { MakesNoNullGitlink repo.old.1 (left_of checkpoints.new repo.new.1) }
 {
     let mut reader = CommandReader::new(tables.alloc, source);
     let mut commands = 0;
@@ -76,7 +71,7 @@ fn next_command<R: Source, A: Allocator + Copy>(
     requires room { commands < 2 ^ 64 - 1 }
     ensures reads { ReadsNext commands checkpoints reader.old.commands reader.new.commands result }
     ensures falls { FallsNext reader.old.most reader.new.most result }
-    ensures gitlinks { IfOk result (λ next. IfSome next (λ command. BringsNoNullGitlink (shown_command command))) }
+    ensures gitlinks { ReadsNoNullGitlink result }
 {
     match reader.next() {
         Ok(command) => Ok(command),
@@ -96,20 +91,20 @@ fn apply<N: Namer, A: Allocator + Copy, W: Sink>(
     sink: &mut W,
     command: Command<A>,
 ) -> Result<(), ImportKind>
-    requires stands { (s : State) × Stands (N.name_of repo.now.0) repo.now.1 tables.now s }
-    requires homes { AreTipsAtHome (N.name_of repo.now.0) repo.now.1.records tables.now }
+    requires stands { StandsForSome N.name_of repo.now tables.now }
+    requires homes { HasTipsAtHome N.name_of repo.now tables.now }
     requires fits { checkpoints.now.records ≤ length repo.now.1.records }
     requires room { checkpoints.now.count < 2 ^ 64 - 1 }
-    requires sorted { IsTrue (is_sorted byte_cmp (rows_of checkpoints.now.refs)) }
+    requires sorted { IsSorted checkpoints.now.refs }
     requires has_all { HoldsAll repo.now.1 checkpoints.now }
-    ensures homes { IfOk result (λ _. AreTipsAtHome (N.name_of repo.old.0) repo.new.1.records tables.new) }
+    ensures homes { IfOk result (λ _. HasTipsAtHome N.name_of (repo.old.0, repo.new.1) tables.new) }
     ensures namer { repo.new.0 ≡ repo.old.0 }
     ensures extends { Extends repo.old.1.records repo.new.1.records }
     ensures moves { Moves repo.old.1 repo.new.1 checkpoints.old checkpoints.new }
-    ensures sorted { OnOk result (IsTrue (is_sorted byte_cmp (rows_of checkpoints.new.refs))) }
+    ensures sorted { OnOk result (IsSorted checkpoints.new.refs) }
     ensures has_all { OnOk result (HoldsAll repo.new.1 checkpoints.new) }
-    ensures keeps { KeepsInEach (N.name_of repo.old.0) repo.old.1 repo.new.1 tables.old checkpoints.old checkpoints.new (shown_command command) result }
-    ensures steps { AppliesInEach (N.name_of repo.old.0) repo.old.1 repo.new.1 tables.old tables.new (shown_command command) (W.taken sink.old) (W.taken sink.new) result }
+    ensures keeps { KeepsInEach N.name_of repo.old repo.new tables.old checkpoints.old checkpoints.new command result }
+    ensures steps { AppliesInEach N.name_of repo.old repo.new tables.old tables.new command (W.taken sink.old) (W.taken sink.new) result }
 {
     records_keep_home();
     match command {
@@ -133,17 +128,17 @@ fn apply_checkpoint<N: Namer, A: Allocator + Copy>(
     tables: &Tables<A>,
     checkpoints: &mut Checkpoints<A>,
 ) -> Result<(), ImportKind>
-    requires stands { (s : State) × Stands (N.name_of repo.now.0) repo.now.1 tables.now s }
+    requires stands { StandsForSome N.name_of repo.now tables.now }
     requires room { checkpoints.now.count < 2 ^ 64 - 1 }
-    requires sorted { IsTrue (is_sorted byte_cmp (rows_of checkpoints.now.refs)) }
+    requires sorted { IsSorted checkpoints.now.refs }
     requires has_all { HoldsAll repo.now.1 checkpoints.now }
     ensures namer { repo.new.0 ≡ repo.old.0 }
     ensures records { repo.new.1.records ≡ repo.old.1.records }
     ensures next { OnOk result (IsNext repo.new.1 checkpoints.old checkpoints.new) }
     ensures still { OnErr result (AreStill repo.old.1 repo.new.1 checkpoints.old checkpoints.new) }
-    ensures published { (s : State) → Stands (N.name_of repo.old.0) repo.old.1 tables.now s → Publishes s repo.old.1 repo.new.1 result }
-    ensures entered { OnOk result (EntersAll (N.name_of repo.old.0) repo.old.1 tables.now (rows_of checkpoints.old.refs) (rows_of checkpoints.new.refs)) }
-    ensures sorted { OnOk result (IsTrue (is_sorted byte_cmp (rows_of checkpoints.new.refs))) }
+    ensures published { PublishesInEach N.name_of repo.old repo.new tables.now result }
+    ensures entered { EntersInEach N.name_of repo.old tables.now checkpoints.old.refs checkpoints.new.refs result }
+    ensures sorted { OnOk result (IsSorted checkpoints.new.refs) }
     ensures has_all { OnOk result (HoldsAll repo.new.1 checkpoints.new) }
 {
     publish(repo, tables, &mut checkpoints.refs, checkpoints.has_all)?;
@@ -155,7 +150,7 @@ fn apply_checkpoint<N: Namer, A: Allocator + Copy>(
 
 /// Writes the whole line of a progress, and a line feed.
 fn apply_progress<W: Sink>(sink: &mut W, text: &[u8]) -> Result<(), ImportKind>
-    ensures { Writes (W.taken sink.old) (W.taken sink.new) (codes "progress " ++ text.now ++ 10 ∷ []) result }
+    ensures { Writes (W.taken sink.old) (W.taken sink.new) (line_of text.now) result }
 {
     write(sink, b"progress ")?;
     write(sink, text)?;

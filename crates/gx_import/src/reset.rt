@@ -1,12 +1,7 @@
 //! Reset commands. Source: git-fast-import(1), "reset".
 
-ghost use Rattle.std.specs.Prelude.{IsTrue};
-ghost use Rattle.std.specs.FinMap.Entries.{is_sorted};
-ghost use Rattle.std.specs.Option.{option_map};
-ghost use Rattle.gx_model.specs.Replay.{byte_cmp};
-ghost use Rattle.gx_command.specs.Views.{shown_commit_ish};
-ghost use Rattle.gx_import.specs.Rows.{rows_of};
-ghost use Rattle.gx_import.specs.Calls.{KeepsTipsAtHome, NamesOptionalCommit, Resets};
+ghost use Rattle.gx_import.specs.Rows.{IsSorted};
+ghost use Rattle.gx_import.specs.Calls.{KeepsTipsAtHome, NamesTarget, Resets};
 
 use crate::ImportKind;
 use crate::branches::Tip;
@@ -23,9 +18,9 @@ pub(crate) fn apply_reset<N: Namer, A: Allocator + Copy>(
     tables: &mut Tables<A>,
     reset: Reset<A>,
 ) -> Result<(), ImportKind>
-    requires sorted { IsTrue (is_sorted byte_cmp (rows_of tables.now.branches)) }
+    requires sorted { IsSorted tables.now.branches }
     ensures homes { KeepsTipsAtHome tables.old tables.new result }
-    ensures steps { Resets (N.name_of repo.now.0) repo.now.1 tables.old tables.new reset.branch.bytes.items (option_map shown_commit_ish reset.from) result }
+    ensures steps { Resets N.name_of repo.now tables.old tables.new reset result }
 {
     let commit = target(repo, tables, &reset)?;
     let tip = Tip {
@@ -41,8 +36,8 @@ fn target<N: Namer, A: Allocator + Copy>(
     tables: &Tables<A>,
     reset: &Reset<A>,
 ) -> Result<Option<Name>, ImportKind>
-    requires sorted { IsTrue (is_sorted byte_cmp (rows_of tables.now.branches)) }
-    ensures { NamesOptionalCommit (N.name_of repo.now.0) repo.now.1 tables.now reset.now.branch.bytes.items (option_map shown_commit_ish reset.now.from) result }
+    requires sorted { IsSorted tables.now.branches }
+    ensures { NamesTarget N.name_of repo.now tables.now reset.now result }
 {
     match &reset.from {
         Some(from) => {

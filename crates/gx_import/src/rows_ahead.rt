@@ -1,12 +1,10 @@
 //! Look-ups in a table by names in rising order.
 
-ghost use Rattle.std.specs.Prelude.{◌≡◌, List, Some, IfSome, IsTrue};
-ghost use Rattle.std.specs.FinMap.Entries.{is_sorted};
+ghost use Rattle.std.specs.Prelude.{◌≡◌, List, Some, IfSome};
 ghost use Rattle.std.specs.Map.{lookup};
 ghost use Rattle.std.specs.Option.{option_map};
-ghost use Rattle.gx_model.specs.Replay.{byte_cmp};
-ghost use Rattle.gx_model.specs.Texts.{Bytes, same_bytes};
-ghost use Rattle.gx_import.specs.Rows.{AreFound, IsFound, rows_of};
+ghost use Rattle.gx_model.specs.Texts.{same_bytes};
+ghost use Rattle.gx_import.specs.Rows.{IsSorted, StayFound, rows_of};
 
 use crate::table::Table;
 use std::alloc::Allocator;
@@ -24,23 +22,21 @@ pub(crate) struct RowsAhead<'a, T, A: Allocator> {
 }
 
 impl<'a, T, A: Allocator> Model for RowsAhead<'a, T, A> {
-    ghost use Rattle.std.specs.Prelude.{◌≡◌, List, IfSome, IsTrue};
-    ghost use Rattle.std.specs.FinMap.Entries.{is_sorted};
-    ghost use Rattle.gx_model.specs.Replay.{byte_cmp};
+    ghost use Rattle.std.specs.Prelude.{List};
     ghost use Rattle.gx_model.specs.Texts.{Bytes};
-    ghost use Rattle.gx_import.specs.Rows.{AreFound, IsFound, rows_of};
+    ghost use Rattle.gx_import.specs.Rows.{AreAhead, rows_of};
 
     ghost Value = { List (Bytes × T) };
 
     ghost view = { λ s. rows_of s.table.now };
 
-    ghost invariant = { λ s. IsTrue (is_sorted byte_cmp (rows_of s.table.now)) × IfSome s.next (IsFound (rows_of s.table.now)) × AreFound (rows_of s.table.now) s.rest };
+    ghost invariant = { λ s. AreAhead s.table.now s.next s.rest };
 }
 
 impl<'a, T: Drop, A: Allocator + Copy> RowsAhead<'a, T, A> {
     /// A table with all its rows. Takes no memory.
     pub(crate) fn new(table: &'a Table<T, A>) -> RowsAhead<'a, T, A>
-        requires sorted { IsTrue (is_sorted byte_cmp (rows_of table.now)) }
+        requires sorted { IsSorted table.now }
         ensures { result ≡ rows_of table.now }
     {
         let mut rest = table.rows.iter();
@@ -85,7 +81,7 @@ fn first_from<'a, T, A: Allocator + Copy>(
     rest: &mut Iter<'a, Vec<u8, A>, T>,
     name: &[u8],
 ) -> Option<(&'a Vec<u8, A>, &'a T)>
-    ensures { (all : List (Bytes × T)) → IfSome next.entry (IsFound all) → AreFound all rest.old → IfSome result (IsFound all) × AreFound all rest.new }
+    ensures { StayFound next.entry result rest.old rest.new }
 {
     let mut first = next;
     while let Some((held, _)) = first {

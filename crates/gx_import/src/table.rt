@@ -1,12 +1,10 @@
 //! Tables by ref names.
 
-ghost use Rattle.std.specs.Prelude.{◌≡◌, [], map, IsTrue, OnOk};
-ghost use Rattle.std.specs.FinMap.Entries.{is_sorted, put};
+ghost use Rattle.std.specs.Prelude.{◌≡◌, [], map, OnOk};
 ghost use Rattle.std.specs.Map.{lookup};
 ghost use Rattle.std.specs.Option.{option_map};
-ghost use Rattle.gx_model.specs.Replay.{byte_cmp};
 ghost use Rattle.gx_model.specs.Texts.{same_bytes};
-ghost use Rattle.gx_import.specs.Rows.{rows_of};
+ghost use Rattle.gx_import.specs.Rows.{IsSorted, SetsRow, rows_of};
 
 use std::alloc::{AllocError, Allocator};
 use std::collections::BTreeMap;
@@ -29,7 +27,7 @@ impl<T: Drop, A: Allocator + Copy> Table<T, A> {
 
     /// What stands at a name. Cost: the logarithm of the number of rows. Takes no memory.
     pub(crate) fn get(&self, name: &[u8]) -> Option<&T>
-        requires sorted { IsTrue (is_sorted byte_cmp (rows_of self.now)) }
+        requires sorted { IsSorted self.now }
         ensures { option_map (λ value. value.now) result ≡ lookup (same_bytes name.now) (rows_of self.now) }
     {
         self.rows.get(name)
@@ -37,8 +35,8 @@ impl<T: Drop, A: Allocator + Copy> Table<T, A> {
 
     /// Sets what stands at a name. Cost: the logarithm of the number of rows.
     pub(crate) fn set(&mut self, name: Vec<u8, A>, value: T) -> Result<(), AllocError>
-        requires sorted { IsTrue (is_sorted byte_cmp (rows_of self.now)) }
-        ensures { OnOk result (rows_of self.new ≡ put byte_cmp name.items value (rows_of self.old)) }
+        requires sorted { IsSorted self.now }
+        ensures { OnOk result (SetsRow name.items value self.old self.new) }
     {
         self.rows.insert(name, value)?;
         Ok(())

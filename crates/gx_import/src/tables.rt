@@ -1,10 +1,8 @@
 //! What an import has made so far, besides the objects.
 
-ghost use Rattle.std.specs.Prelude.{◌≡◌, IsTrue, OnOk};
-ghost use Rattle.std.specs.FinMap.Entries.{is_sorted, put};
-ghost use Rattle.gx_model.specs.Replay.{byte_cmp};
+ghost use Rattle.std.specs.Prelude.{◌≡◌, OnOk};
 ghost use Rattle.gx_import.specs.AtHand.{IsEntered};
-ghost use Rattle.gx_import.specs.Rows.{rows_of};
+ghost use Rattle.gx_import.specs.Rows.{IsSorted, SetsRow};
 ghost use Rattle.gx_import.specs.Standing.{AreEmpty};
 
 use crate::at_hand::AtHand;
@@ -46,9 +44,9 @@ impl<A: Allocator + Copy> Tables<A> {
     ///
     /// Cost: the name, and the logarithm of the number of branches.
     pub(crate) fn set_tip(&mut self, branch: Vec<u8, A>, tip: Tip<A>) -> Result<(), AllocError>
-        requires sorted { IsTrue (is_sorted byte_cmp (rows_of self.now.branches)) }
+        requires sorted { IsSorted self.now.branches }
         ensures marks { self.new.marks ≡ self.old.marks }
-        ensures branches { OnOk result (rows_of self.new.branches ≡ put byte_cmp branch.items tip (rows_of self.old.branches)) }
+        ensures branches { OnOk result (SetsRow branch.items tip self.old.branches self.new.branches) }
         ensures entered { OnOk result (IsEntered self.new.at_hand branch.items tip) }
         ensures tags { self.new.tags ≡ self.old.tags }
         ensures forced { self.new.is_forced ≡ self.old.is_forced }
@@ -60,7 +58,7 @@ impl<A: Allocator + Copy> Tables<A> {
 
     /// Forgets the commit at which a branch has files at hand.
     fn forget_tip(&mut self, branch: &[u8])
-        requires sorted { IsTrue (is_sorted byte_cmp (rows_of self.now.branches)) }
+        requires sorted { IsSorted self.now.branches }
         ensures marks { self.new.marks ≡ self.old.marks }
         ensures branches { self.new.branches ≡ self.old.branches }
         ensures tags { self.new.tags ≡ self.old.tags }

@@ -1,17 +1,14 @@
 //! Tag commands. Source: git-fast-import(1), "tag".
 
 ghost use Rattle.std.specs.Prelude.{◌≡◌, IfOk};
-ghost use Rattle.std.specs.Option.{option_map};
 ghost use Rattle.gx_model.specs.declared.objects.Kind.TheVariants as kinds;
 ghost use Rattle.gx_model.specs.RefNames.{tag_ref};
-ghost use Rattle.gx_model.specs.Records.{name_of};
-ghost use Rattle.gx_model.specs.Replay.{State};
 ghost use Rattle.gx_model.specs.Sound.{Holds};
-ghost use Rattle.gx_model.specs.Values.{Commit};
 ghost use Rattle.gx_object.specs.Parts.{tag_parts as shown_parts};
-ghost use Rattle.gx_command.specs.Views.{tag_parts};
-ghost use Rattle.gx_import.specs.Standing.{Extends, Stands};
-ghost use Rattle.gx_import.specs.Calls.{AddsTag, MakesTag};
+ghost use Rattle.gx_command.specs.Views.{shown_tag};
+ghost use Rattle.gx_import.specs.Objects.{tag_object};
+ghost use Rattle.gx_import.specs.Standing.{Extends, StandsForSome};
+ghost use Rattle.gx_import.specs.Calls.{AddsTag, Makes};
 
 use crate::ImportKind;
 use crate::commit::ident;
@@ -30,12 +27,12 @@ pub(crate) fn apply_tag<N: Namer, A: Allocator + Copy>(
     tables: &mut Tables<A>,
     tag: &Tag<A>,
 ) -> Result<(), ImportKind>
-    requires stands { (s : State) × Stands (N.name_of repo.now.0) repo.now.1 tables.now s }
+    requires stands { StandsForSome N.name_of repo.now tables.now }
     ensures branches { tables.new.branches ≡ tables.old.branches }
     ensures namer { repo.new.0 ≡ repo.old.0 }
     ensures refs { repo.new.1.refs ≡ repo.old.1.refs }
     ensures extends { Extends repo.old.1.records repo.new.1.records }
-    ensures steps { MakesTag (N.name_of repo.old.0) repo.old.1 repo.new.1 tables.old tables.new (tag_parts tag.now) result }
+    ensures steps { Makes N.name_of repo.old repo.new tables.old tables.new (shown_tag tag.now) result }
 {
     repo.sound();
     let object = object_named(repo, tables, &tag.from)?;
@@ -57,7 +54,7 @@ fn add<N: Namer, A: Allocator + Copy>(
     ensures namer { repo.new.0 ≡ repo.old.0 }
     ensures refs { repo.new.1.refs ≡ repo.old.1.refs }
     ensures extends { Extends repo.old.1.records repo.new.1.records }
-    ensures steps { AddsTag (N.name_of repo.old.0) A repo.old.1 repo.new.1 object (tag_parts tag.now) result }
+    ensures steps { AddsTag N.name_of repo.old repo.new object tag.now result }
 {
     repo.sound();
     puts_add_values();
@@ -66,7 +63,7 @@ fn add<N: Namer, A: Allocator + Copy>(
 
 /// The parts of a tag object.
 fn object_parts<'a, A: Allocator + Copy>(object: Name, tag: &'a Tag<A>) -> TagParts<'a>
-    ensures { shown_parts result ≡ record { object = object.bytes; name = tag.now.name.bytes.items; tagger = option_map (λ i. i.bytes.items) tag.now.tagger; message = tag.now.message.items } }
+    ensures { shown_parts result ≡ tag_object object tag.now }
 {
     let tagger = match &tag.tagger {
         Some(tagger) => Some(ident(tagger)),

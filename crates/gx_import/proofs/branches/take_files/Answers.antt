@@ -21,7 +21,7 @@ returns-in-Some-clause-files g c =
     let n = c.args.name.now in
     let es = c.args.branches.now.rows.entries in
     let found : lookup (same_bytes n) (map row_of es) ≡ Some c.in-Some.tip.now = sym (found_at n es) ∙ sym c.in-Some.ensures.value in
-    some_more _ _ c.take_files.result (λ f h. (c.in-Some.tip.now, found, h.0, h.1)) c.take_files.ensures.files
+    some_more _ _ c.take_files.result (λ f h. (c.in-Some.tip.now, found, h)) c.take_files.ensures.files
 
 pub returns-in-Some-clause-sorted : goal.returns-in-Some-clause-sorted
 returns-in-Some-clause-sorted g c =

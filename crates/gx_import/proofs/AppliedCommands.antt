@@ -8,7 +8,6 @@ use Rattle.gx_model.specs.Commands.{Command, Progress}
 use Rattle.gx_model.specs.Histories.{Records}
 use Rattle.gx_model.specs.RepositoryLaws.{values_of}
 use Rattle.gx_model.specs.Values.{Value}
-use Rattle.gx_model.specs.Revisions.{revision_of}
 use Rattle.gx_model.specs.Replay.{State, step}
 use Rattle.gx_text.specs.Devices.{Taken}
 use Rattle.gx_import.specs.Additions.{Clash, values_added}
@@ -33,12 +32,12 @@ is_spoken s x = record {
 
 module _ (name : Kind → Bytes → Bytes) {A : Type 0} where
   -- a state that follows is one after the empty text
-  pub followed : (old new : Records) (tables : Tables A) (s : State) (c : Command) (was : Option Taken) (t : State) → step name revision_of s c ≡ Ok t → Follows name new tables s t → Applies name old new tables s c was was (Ok tt)
+  pub followed : (old new : Records) (tables : Tables A) (s : State) (c : Command) (was : Option Taken) (t : State) → step name s c ≡ Ok t → Follows name new tables s t → Applies name old new tables s c was was (Ok tt)
   followed old new tables s c was t e h = (t, [], e, h.stands, record { progress = h.progress ∙ sym (append-nil s.progress); held = h.held }, took_none was)
 
   -- a command that may add values
   pub added_as : (old new : Records) (tables : Tables A) (s : State) (c : Command) (was : Option Taken) (clash : Type 0) → (clash → Clash name s.history.values (values_added name s c)) → (r : Result (Unit {0}) ImportKind)
-      → AddsAs clash (λ t _. Follows name new tables s t) r (step name revision_of s c) → Applies name old new tables s c was was r
+      → AddsAs clash (λ t _. Follows name new tables s t) r (step name s c) → Applies name old new tables s c was was r
   added_as old new tables s c was clash f (Ok x) h = followed old new tables s c was h.0 h.1 h.2
   added_as old new tables s c was clash f (Err OutOfMemory) h = refl
   added_as old new tables s c was clash f (Err ReadFailed) h = (h, refl)
@@ -71,7 +70,7 @@ module _ (name : Kind → Bytes → Bytes) {A : Type 0} where
 
   -- one that adds none
   pub given_as : (old new : Records) (tables : Tables A) (s : State) (c : Command) (was : Option Taken) (r : Result (Unit {0}) ImportKind)
-      → GivesAs (λ t _. Follows name new tables s t) r (step name revision_of s c) → Applies name old new tables s c was was r
+      → GivesAs (λ t _. Follows name new tables s t) r (step name s c) → Applies name old new tables s c was was r
   given_as old new tables s c was (Ok x) h = followed old new tables s c was h.0 h.1 h.2
   given_as old new tables s c was (Err OutOfMemory) h = refl
   given_as old new tables s c was (Err ReadFailed) h = (h, refl)
@@ -120,7 +119,7 @@ module _ (name : Kind → Bytes → Bytes) {A : Type 0} where
   }
 
   -- a command that changes nothing
-  pub unchanged : (old : Records) (tables : Tables A) (s : State) (c : Command) (was : Option Taken) → Stands name old tables s → step name revision_of s c ≡ Ok s → Applies name old old tables s c was was (Ok tt)
+  pub unchanged : (old : Records) (tables : Tables A) (s : State) (c : Command) (was : Option Taken) → Stands name old tables s → step name s c ≡ Ok s → Applies name old old tables s c was was (Ok tt)
   unchanged old tables s c was h e = followed old old tables s c was s e (record { stands = h; progress = refl; held = refl })
 
   -- a progress, whose line is written

@@ -7,7 +7,6 @@ use Rattle.gx_model.specs.Files.{FileMap}
 use Rattle.gx_model.specs.Histories.{Records}
 use Rattle.gx_model.specs.RepositoryLaws.{values_of}
 use Rattle.gx_model.specs.Commands.{Change}
-use Rattle.gx_model.specs.Revisions.{revision_of}
 use Rattle.gx_model.specs.Replay.{State, all_changed, changed}
 use Rattle.gx_import.specs.declared.fault.ImportKind.{ImportKind}
 use Rattle.gx_import.specs.declared.tables.Tables.{Tables}
@@ -24,7 +23,7 @@ module _ (name : Kind → Bytes → Bytes) {A : Type 0} where
   pub record AreMade (old now : Records) (tables : Tables A) (s : State) (f : FileMap Bytes) (all left : List Change) (names : FileMap Bytes) : Type 0 where
     pub state : State
     pub files : FileMap Bytes
-    pub steps : all_changed name revision_of s f all ≡ all_changed name revision_of state files left
+    pub steps : all_changed name s f all ≡ all_changed name state files left
     pub follows : Follows name now tables s state
     pub are : AreFiles name state.history.values files names
     pub clash : Clash name (values_of now) (blobs_added name state files left) → Clash name (values_of old) (blobs_added name s f all)
@@ -38,12 +37,12 @@ module _ (name : Kind → Bytes → Bytes) {A : Type 0} where
     values_same = ap (λ h. h.values) made.follows.stands.history
 
     -- one more
-    one_made : (later : Records) (after : FileMap Bytes) (y : State × FileMap Bytes) → changed name revision_of made.state made.files c ≡ Ok y → Follows name later tables made.state y.0 → AreFiles name y.0.history.values y.1 after
+    one_made : (later : Records) (after : FileMap Bytes) (y : State × FileMap Bytes) → changed name made.state made.files c ≡ Ok y → Follows name later tables made.state y.0 → AreFiles name y.0.history.values y.1 after
         → AreMade old later tables s f all left after
     one_made later after y e follows are = record {
       state = y.0;
       files = y.1;
-      steps = made.steps ∙ ap (λ z. and_then z (λ r. all_changed name revision_of r.0 r.1 left)) e;
+      steps = made.steps ∙ ap (λ z. and_then z (λ r. all_changed name r.0 r.1 left)) e;
       follows = record { stands = follows.stands; progress = follows.progress ∙ made.follows.progress; held = follows.held ∙ made.follows.held };
       are = are;
       clash = λ k. made.clash (
@@ -55,18 +54,18 @@ module _ (name : Kind → Bytes → Bytes) {A : Type 0} where
     }
 
     -- one that is refused
-    one_refused : {X : Type 0} (Be Is : State × FileMap Bytes → X → Type 0) (e : ImportKind) → AddsAs (Clash name (values_of now) (blob_added c)) Be (Err e) (changed name revision_of made.state made.files c)
-        → AddsAs (Clash name (values_of old) (blobs_added name s f all)) Is (Err e) (all_changed name revision_of s f all)
+    one_refused : {X : Type 0} (Be Is : State × FileMap Bytes → X → Type 0) (e : ImportKind) → AddsAs (Clash name (values_of now) (blob_added c)) Be (Err e) (changed name made.state made.files c)
+        → AddsAs (Clash name (values_of old) (blobs_added name s f all)) Is (Err e) (all_changed name s f all)
     one_refused Be Is e h =
         subst (AddsAs (Clash name (values_of old) (blobs_added name s f all)) Is (Err e)) (sym made.steps)
         (adds_then (Clash name (values_of now) (blob_added c)) (Clash name (values_of old) (blobs_added name s f all)) (λ k. made.clash (clash_first name (values_of now) (blob_added c) _ k)) Be Is e
-        (changed name revision_of made.state made.files c) (λ r. all_changed name revision_of r.0 r.1 left) h)
+        (changed name made.state made.files c) (λ r. all_changed name r.0 r.1 left) h)
 
   -- all were made
   pub all_made : {X : Type 0} (old now : Records) (tables : Tables A) (s : State) (f : FileMap Bytes) (xs left : List X) (shown : X → Change) (names : FileMap Bytes) → AreMade old now tables s f (map shown xs) (map shown left) names → left ≡ []
-      → (x : State × FileMap Bytes) × (all_changed name revision_of s f (map shown xs) ≡ Ok x) × (Follows name now tables s x.0 × AreFiles name x.0.history.values x.1 names)
+      → (x : State × FileMap Bytes) × (all_changed name s f (map shown xs) ≡ Ok x) × (Follows name now tables s x.0 × AreFiles name x.0.history.values x.1 names)
   all_made old now tables s f xs left shown names made none =
-      ((made.state, made.files), made.steps ∙ ap (λ z. all_changed name revision_of made.state made.files (map shown z)) none, (made.follows, made.are))
+      ((made.state, made.files), made.steps ∙ ap (λ z. all_changed name made.state made.files (map shown z)) none, (made.follows, made.are))
 
   module _ {X : Type 0} (old now : Records) (tables : Tables A) (s : State) (f : FileMap Bytes) (xs left right : List X) (shown : X → Change) (here : X) (names : FileMap Bytes) (is : left ≡ here ∷ right) (made : AreMade old now tables s f (map shown xs) (map shown left) names) where
     with_next : AreMade old now tables s f (map shown xs) (shown here ∷ map shown right) names
@@ -74,7 +73,7 @@ module _ (name : Kind → Bytes → Bytes) {A : Type 0} where
 
     -- the next of them is made
     pub next_made : (later : Records) (after : FileMap Bytes)
-        → ((t : State) (g : FileMap Bytes) → Stands name now tables t → AreFiles name t.history.values g names → (y : State × FileMap Bytes) × (changed name revision_of t g (shown here) ≡ Ok y) × (Follows name later tables t y.0 × AreFiles name y.0.history.values y.1 after))
+        → ((t : State) (g : FileMap Bytes) → Stands name now tables t → AreFiles name t.history.values g names → (y : State × FileMap Bytes) × (changed name t g (shown here) ≡ Ok y) × (Follows name later tables t y.0 × AreFiles name y.0.history.values y.1 after))
         → AreMade old later tables s f (map shown xs) (map shown right) after
     next_made later after step =
         let done = step with_next.state with_next.files with_next.follows.stands with_next.are in
@@ -82,7 +81,7 @@ module _ (name : Kind → Bytes → Bytes) {A : Type 0} where
 
     -- or refused
     pub next_refused : {W : Type 0} (Be : State → State × FileMap Bytes → W → Type 0) (Is : State × FileMap Bytes → W → Type 0) (e : ImportKind)
-        → ((t : State) (g : FileMap Bytes) → Stands name now tables t → AreFiles name t.history.values g names → AddsAs (Clash name (values_of now) (blob_added (shown here))) (Be t) (Err e) (changed name revision_of t g (shown here)))
-        → AddsAs (Clash name (values_of old) (blobs_added name s f (map shown xs))) Is (Err e) (all_changed name revision_of s f (map shown xs))
+        → ((t : State) (g : FileMap Bytes) → Stands name now tables t → AreFiles name t.history.values g names → AddsAs (Clash name (values_of now) (blob_added (shown here))) (Be t) (Err e) (changed name t g (shown here)))
+        → AddsAs (Clash name (values_of old) (blobs_added name s f (map shown xs))) Is (Err e) (all_changed name s f (map shown xs))
     next_refused Be Is e step =
         one_refused old now tables s f (map shown xs) (shown here) (map shown right) names with_next (Be with_next.state) Is e (step with_next.state with_next.files with_next.follows.stands with_next.are)

@@ -13,7 +13,6 @@ use Rattle.gx_model.specs.Growth.{clashes, with_values}
 use Rattle.gx_model.specs.Edits.{copied, modified, removed, renamed}
 use Rattle.gx_model.specs.Commands.{Change, Clear, Copy, DataRef, Inline, Mark, Modify, Object, Remove, Rename}
 use Rattle.gx_model.specs.Denotation.{base_value, lower}
-use Rattle.gx_model.specs.Revisions.{revision_of}
 use Rattle.gx_model.specs.Replay.{State, added, at, blob_bytes, changed, content}
 use Rattle.gx_import.specs.Additions.{Clash, blob_added, content_added}
 use Rattle.gx_import.proofs.AddedAnswers.{both_given}
@@ -51,16 +50,16 @@ module _ (name : Kind → Bytes → Bytes) where
   -- ---- the state that a change gives
 
   abbrev marked_content : State → ℕ → Result (State × Bytes) Fault
-  marked_content s n = and_then (at s n) (λ v. and_then (blob_bytes name revision_of v) (λ x. Ok (s, x)))
+  marked_content s n = and_then (at s n) (λ v. and_then (blob_bytes v) (λ x. Ok (s, x)))
 
-  content_of_mark : (s : State) (m : Mode) (n : ℕ) → content name revision_of s m (Mark n) ≡ marked_content s n
+  content_of_mark : (s : State) (m : Mode) (n : ℕ) → content name s m (Mark n) ≡ marked_content s n
   content_of_mark s File n = refl
   content_of_mark s Exec n = refl
   content_of_mark s Link n = refl
   content_of_mark s Gitlink n = refl
   content_of_mark s Dir n = refl
 
-  pub content_inline : (s : State) (m : Mode) (x : Bytes) → content name revision_of s m (Inline x) ≡ Ok (added (blob_value x) s, x)
+  pub content_inline : (s : State) (m : Mode) (x : Bytes) → content name s m (Inline x) ≡ Ok (added (blob_value x) s, x)
   content_inline s File x = refl
   content_inline s Exec x = refl
   content_inline s Link x = refl
@@ -68,13 +67,13 @@ module _ (name : Kind → Bytes → Bytes) where
   content_inline s Dir x = refl
 
   abbrev digits_content : State → Bytes → Result (State × Bytes) Fault
-  digits_content s x = and_then (base_value name s.history x) (λ v. and_then (blob_bytes name revision_of v) (λ y. Ok (s, y)))
+  digits_content s x = and_then (base_value name s.history x) (λ v. and_then (blob_bytes v) (λ y. Ok (s, y)))
 
-  valued_state : (given : Result Value Fault) (s : State) (r : State × Bytes) → and_then given (λ v. and_then (blob_bytes name revision_of v) (λ y. Ok (s, y))) ≡ Ok r → r.0 ≡ s
-  valued_state (Ok v) s r h = kept_state (blob_bytes name revision_of v) s r h
+  valued_state : (given : Result Value Fault) (s : State) (r : State × Bytes) → and_then given (λ v. and_then (blob_bytes v) (λ y. Ok (s, y))) ≡ Ok r → r.0 ≡ s
+  valued_state (Ok v) s r h = kept_state (blob_bytes v) s r h
   valued_state (Err e) s r h = absurd (cc h)
 
-  digits_state : (s : State) (m : Mode) (x : Bytes) (r : State × Bytes) → content name revision_of s m (Object x) ≡ Ok r → r.0 ≡ s
+  digits_state : (s : State) (m : Mode) (x : Bytes) (r : State × Bytes) → content name s m (Object x) ≡ Ok r → r.0 ≡ s
   digits_state s File x r h = valued_state (base_value name s.history x) s r h
   digits_state s Exec x r h = valued_state (base_value name s.history x) s r h
   digits_state s Link x r h = valued_state (base_value name s.history x) s r h
@@ -82,7 +81,7 @@ module _ (name : Kind → Bytes → Bytes) where
   digits_state s Dir x r h = valued_state (base_value name s.history x) s r h
 
   -- what a content gives is in the state with its blob
-  pub content_state : (s : State) (m : Mode) (d : DataRef) (r : State × Bytes) → content name revision_of s m d ≡ Ok r → r.0 ≡ with_content d s
+  pub content_state : (s : State) (m : Mode) (d : DataRef) (r : State × Bytes) → content name s m d ≡ Ok r → r.0 ≡ with_content d s
   content_state s m (Mark n) r h = valued_state (at s n) s r (sym (content_of_mark s m n) ∙ h)
   content_state s m (Object x) r h = digits_state s m x r h
   content_state s m (Inline x) r h = let e : (added (blob_value x) s, x) ≡ r = cc (sym (content_inline s m x) ∙ h) in ap (λ z. z.0) (sym e)
@@ -93,9 +92,9 @@ module _ (name : Kind → Bytes → Bytes) where
   content_later (Object x) s ys h = h
 
   -- of those behind a change
-  pub change_later : (s : State) (f : FileMap Bytes) (c : Change) (r : State × FileMap Bytes) → changed name revision_of s f c ≡ Ok r → (ys : List Value) → Clash name r.0.history.values ys → Clash name s.history.values (blob_added c ++ ys)
+  pub change_later : (s : State) (f : FileMap Bytes) (c : Change) (r : State × FileMap Bytes) → changed name s f c ≡ Ok r → (ys : List Value) → Clash name r.0.history.values ys → Clash name s.history.values (blob_added c ++ ys)
   change_later s f (Modify m d p) r h ys k =
-      let y = both_given (content name revision_of s m d) (λ y. and_then (modified f p (m, y.1)) (λ g. Ok (y.0, g))) r h in
+      let y = both_given (content name s m d) (λ y. and_then (modified f p (m, y.1)) (λ g. Ok (y.0, g))) r h in
       let t = kept_state (modified f p (m, y.0.1)) y.0.0 r y.2 in
       content_later d s ys (subst (λ z. Clash name z.history.values ys) (t ∙ content_state s m d y.0 y.1) k)
   change_later s f (Remove p) r h ys k = let e : (s, removed f p) ≡ r = cc h in subst (λ z. Clash name z.0.history.values ys) (sym e) k

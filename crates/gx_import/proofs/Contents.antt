@@ -10,7 +10,6 @@ use Rattle.gx_model.specs.Values.{blob_value}
 use Rattle.gx_model.specs.Records.{name_of}
 use Rattle.gx_model.specs.Histories.{IsIn, Records, with_one}
 use Rattle.gx_model.specs.RepositoryLaws.{values_of}
-use Rattle.gx_model.specs.Revisions.{revision_of}
 use Rattle.gx_model.specs.Commands.{Inline, Object}
 use Rattle.gx_model.specs.Replay.{State, added, content}
 use Rattle.gx_object.specs.declared.name.Name.{Name}
@@ -45,7 +44,7 @@ module _ (name : Kind → Bytes → Bytes) where
   -- a blob that is put
   pub blob_put : {A : Type 0} (r now : Records) (tables : Tables A) (s : State) → Stands name r tables s → (m : Mode) (x : Bytes) (n : Name)
       → (m ≡ Gitlink → ⊥) → (m ≡ Dir → ⊥) → HasValues r now (with_one (values_of r) (blob_value x)) → n.bytes ≡ name_of name (blob_value x)
-      → (y : State × Bytes) × (content name revision_of s m (Inline x) ≡ Ok y) × (Follows name now tables s y.0 × IsContentName name y.0 y m n)
+      → (y : State × Bytes) × (content name s m (Inline x) ≡ Ok y) × (Follows name now tables s y.0 × IsContentName name y.0 y m n)
   blob_put r now tables s h m x n k l has e = (
     (added (blob_value x) s, x),
     content_inline name s m x,

@@ -13,7 +13,6 @@ use Rattle.gx_model.specs.Edits.{copied, modified, removed, renamed, unless}
 use Rattle.gx_model.specs.Records.{content_name, named_map}
 use Rattle.gx_model.specs.Histories.{Records}
 use Rattle.gx_model.specs.Commands.{DataRef, Modify}
-use Rattle.gx_model.specs.Revisions.{revision_of}
 use Rattle.gx_model.specs.Replay.{State, changed, content}
 use Rattle.gx_object.specs.declared.name.Name.{Name}
 use Rattle.gx_tree.specs.Faults as tree_faults
@@ -105,9 +104,9 @@ module _ (name : Kind → Bytes → Bytes) where
         ((s, g.0), ap (λ z. and_then z (λ g. Ok (s, g))) g.1, (record { stands = h; progress = refl; held = refl }, g.2))
 
     -- a file that is set
-    pub modify_done : (s : State) (f names : FileMap Bytes) → AreFiles name s.history.values f names → (m : Mode) (d : DataRef) (p : Path) (n : Name) (y : State × Bytes) → content name revision_of s m d ≡ Ok y
+    pub modify_done : (s : State) (f names : FileMap Bytes) → AreFiles name s.history.values f names → (m : Mode) (d : DataRef) (p : Path) (n : Name) (y : State × Bytes) → content name s m d ≡ Ok y
         → Follows name r tables s y.0 → IsContentName name y.0 y m n → (now : FileMap Bytes) → modified names p (m, n.bytes) ≡ Ok now → IsNameMap now
-        → (x : State × FileMap Bytes) × (changed name revision_of s f (Modify m d p) ≡ Ok x) × (Follows name r tables s x.0 × AreFiles name x.0.history.values x.1 now)
+        → (x : State × FileMap Bytes) × (changed name s f (Modify m d p) ≡ Ok x) × (Follows name r tables s x.0 × AreFiles name x.0.history.values x.1 now)
     modify_done s f names are m d p n y given follows is now e map =
         let g = named_done (modified f p (m, y.1)) now (sym (modified_names f names p m y.1 n.bytes are.named is.named) ∙ e) in
         let old = files_leaves name s.history.values f names are in

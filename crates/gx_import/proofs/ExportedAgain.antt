@@ -17,7 +17,6 @@ use Rattle.gx_model.specs.Histories.{History, IsIn, Records, StandsFor, Target, 
 use Rattle.gx_model.specs.HistoryOf.{history_of}
 use Rattle.gx_model.specs.Sound.{AnyByRecursion, IsSound}
 use Rattle.gx_model.specs.Ranges.{commit_of}
-use Rattle.gx_model.specs.Revisions.{revision_of}
 use Rattle.gx_model.specs.Replay.{Kept, finished, refused, replayed_commands, replayed_text, start}
 use Rattle.gx_model.specs.Export.{command_items, export_text, inner_commands, is_reached, item_text, reached_commits}
 use Rattle.gx_model.specs.ExportLaws.{ExportIsImported, FormedIsReadable, HasNoNullGitlink, IsAgain, between, exported_report}
@@ -101,15 +100,15 @@ module _ (name : Kind → Bytes → Bytes) where
     -- what the commands of an export's text give from nothing
     abbrev pub Replayed : Records → Coming → Type 0
     Replayed exported coming =
-        (k : History) × IsAgain (history_of exported) k × (replayed_commands name revision_of (history_of nothing) (commands_from coming) ≡ finished k [] (exported_report (history_of exported) k))
+        (k : History) × IsAgain (history_of exported) k × (replayed_commands name (history_of nothing) (commands_from coming) ≡ finished k [] (exported_report (history_of exported) k))
 
     export_replayed : (exported : Records) → IsSound name exported → HasNoNullGitlink (history_of exported) → (coming : Coming) → GivesExport exported coming → Replayed exported coming
     export_replayed exported sound links coming gives =
         let h = history_of exported in
         let is = (histories.stands exported sound).history in
         let room = heard_short (2 ^ 63 - 1) coming (export_text h) gives in
-        let q = imports name revision_of h is (readable h is links (omega (arith, room))) in
-        (q.0, q.1, (λ i. replayed_text name revision_of (history_of nothing) (gives i).bytes (gives i).fails) ∙ q.2)
+        let q = imports name h is (readable h is links (omega (arith, room))) in
+        (q.0, q.1, (λ i. replayed_text name (history_of nothing) (gives i).bytes (gives i).fails) ∙ q.2)
 
     -- the values of what an export gives have names of their own
     names_apart : (exported : Records) → IsSound name exported → (k : History) → IsAgain (history_of exported) k → HaveNames name k.values
@@ -121,7 +120,7 @@ module _ (name : Kind → Bytes → Bytes) where
     accepted old new (Some coming) was now report stands h = λ exported sound links gives empty.
         let q = export_replayed exported sound links coming gives in
         let ends : finished (history_of new) h.0 (report_of report) ≡ finished q.0 [] (exported_report (history_of exported) q.0) =
-        sym h.1 ∙ imported_is name (history_of old) coming ∙ ap (λ r. replayed_commands name revision_of (history_of r) (commands_from coming)) empty ∙ q.2 in
+        sym h.1 ∙ imported_is name (history_of old) coming ∙ ap (λ r. replayed_commands name (history_of r) (commands_from coming)) empty ∙ q.2 in
         let same : history_of new ≡ q.0 = cc ends in
         stand_again exported new (histories.stands exported sound) (histories.stands new stands) (subst (IsAgain (history_of exported)) (sym same) q.1)
 
@@ -144,7 +143,7 @@ module _ (name : Kind → Bytes → Bytes) where
     stopped old new last None was now fault h = tt
     stopped old new last (Some coming) was now fault h = λ exported sound links gives empty.
         let q = export_replayed exported sound links coming gives in
-        let ends = imported_is name (history_of old) coming ∙ ap (λ r. replayed_commands name revision_of (history_of r) (commands_from coming)) empty ∙ q.2 in
+        let ends = imported_is name (history_of old) coming ∙ ap (λ r. replayed_commands name (history_of r) (commands_from coming)) empty ∙ q.2 in
         elim h as (λ _. ExportedOr exported last (Err fault)) [
           | inl r ↦
               let other : refused fault.command (fault_of fault.kind) r.0 r.1 ≡ finished q.0 [] (exported_report (history_of exported) q.0) = sym r.2 ∙ ends in
@@ -156,7 +155,7 @@ module _ (name : Kind → Bytes → Bytes) where
                 | inr l ↦ elim l as (λ _. ExportedOr exported last (Err fault)) [
                   | inl m ↦
                       absurd (none_clashes name 0 (start (history_of old)) (commands_from coming).list (commands_from coming).fault q.0 [] (exported_report (history_of exported) q.0)
-                      (ap (λ r. replayed_commands name revision_of (history_of r) (commands_from coming)) empty ∙ q.2) (names_apart exported sound q.0 q.1) fault.command m.1)
+                      (ap (λ r. replayed_commands name (history_of r) (commands_from coming)) empty ∙ q.2) (names_apart exported sound q.0 q.1) fault.command m.1)
                   | inr m ↦ (inr m.0, none)
                 ]
               ]

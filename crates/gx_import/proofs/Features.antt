@@ -6,12 +6,11 @@ use Rattle.gx_model.specs.Texts.{Bytes}
 use Rattle.gx_model.specs.Commands.{Asks}
 use Rattle.gx_model.specs.Histories.{Records}
 use Rattle.gx_model.specs.Replay.{State, step}
-use Rattle.gx_model.specs.Revisions.{revision_of}
 use Rattle.gx_import.specs.declared.tables.Tables.{Tables}
 use Rattle.gx_import.specs.Standing.{Follows, Stands}
 
 pub forced_now : {A : Type 0} (name : Kind → Bytes → Bytes) (r : Records) (tables : Tables A) (s : State) → Stands name r tables s
-    → (t : State) × (step name revision_of s (Asks features.Force) ≡ Ok t) × Follows name r (record tables { is_forced = true }) s t
+    → (t : State) × (step name s (Asks features.Force) ≡ Ok t) × Follows name r (record tables { is_forced = true }) s t
 forced_now name r tables s h = (
   record s { is_forced = true },
   refl,

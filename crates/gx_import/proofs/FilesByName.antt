@@ -17,7 +17,6 @@ use Rattle.gx_model.proofs.OneTree.{all_left}
 use Rattle.gx_model.proofs.LinkedValues.{parts_in, proper_in}
 use Rattle.gx_model.proofs.HeldValues.{all_whole}
 use Rattle.gx_model.specs.Replay.{State, starting_files}
-use Rattle.gx_model.specs.Revisions.{revision_of}
 use Rattle.gx_object.specs.declared.name.Name.{Name}
 use Rattle.gx_import.specs.Objects.{IsCommitOf}
 use Rattle.gx_import.specs.Rows.{AreBoth}
@@ -31,14 +30,14 @@ module _ (name : Kind → Bytes → Bytes) (namer : IsNamer name) (r : Records) 
       (is_true _ (proper_in (history_of r).values (tree_value (files_of c)) (passes _ w.proper) tree), all_left (IsIn (history_of r).values) (blobs_of (files_of c)) (map tree_value (sub_maps (files_of c))) (parts_in (history_of r).values (tree_value (files_of c)) w tree))
 
   first_known : (made : Option Commit) (first : Option Name) → AreBoth (IsCommitOf name (history_of r).values) made first
-      → IsTrue (is_content (starting_files name revision_of made)) × AllByRecursion (IsIn (history_of r).values) (blobs_of (starting_files name revision_of made))
+      → IsTrue (is_content (starting_files made)) × AllByRecursion (IsIn (history_of r).values) (blobs_of (starting_files made))
   first_known None first h = (refl, tt)
   first_known (Some c) None h = absurd h
   first_known (Some c) (Some n) h = commit_files c h.stands
 
   -- the files that a commit starts from
   pub first_files : (s : State) → history_of r ≡ s.history → (made : Option Commit) (first : Option Name) → AreBoth (IsCommitOf name s.history.values) made first
-      → (names : FileMap Bytes) → names ≡ named_map name (starting_files name revision_of made) → AreFiles name s.history.values (starting_files name revision_of made) names
+      → (names : FileMap Bytes) → names ≡ named_map name (starting_files made) → AreFiles name s.history.values (starting_files made) names
   first_files s e made first h names same =
       let k = first_known made first (subst (λ z. AreBoth (IsCommitOf name z.values) made first) (sym e) h) in
-      record { named = same; content = k.0; known = subst (λ z. AllByRecursion (IsIn z.values) (blobs_of (starting_files name revision_of made))) e k.1 }
+      record { named = same; content = k.0; known = subst (λ z. AllByRecursion (IsIn z.values) (blobs_of (starting_files made))) e k.1 }

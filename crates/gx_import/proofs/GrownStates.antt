@@ -15,7 +15,6 @@ use Rattle.gx_model.specs.Histories.{IsIn, Records, record_of, with_one, with_tr
 use Rattle.gx_model.specs.HistoryOf.{contents_of, named_values}
 use Rattle.gx_model.specs.Growth.{all_trees, clashes, put_all, tree_records, with_values}
 use Rattle.gx_model.specs.RepositoryLaws.{NamesTree, PutsGrow, TreesGrow, values_of}
-use Rattle.gx_model.specs.Revisions.{revision_of}
 use Rattle.gx_model.specs.Sound.{IsNamedMap, IsSound}
 use Rattle.gx_model.specs.Denotation.{base_value, lower}
 use Rattle.gx_model.specs.Commands.{Change, Clear, Copy, DataRef, Inline, Mark, Modify, Object, Remove, Rename}
@@ -106,9 +105,9 @@ module _ (name : Kind → Bytes → Bytes) where
   abbrev Bytes_given : State → Bytes → Result (State × Bytes) Fault
   Bytes_given s x = Ok (s, x)
 
-  held_after : (s : State) (given : Result Value Fault) (r : State × Bytes) → and_then given (λ v. and_then (blob_bytes name revision_of v) (λ x. Bytes_given s x)) ≡ Ok r → r.0 ≡ s
+  held_after : (s : State) (given : Result Value Fault) (r : State × Bytes) → and_then given (λ v. and_then (blob_bytes v) (λ x. Bytes_given s x)) ≡ Ok r → r.0 ≡ s
   held_after s (Err e) r k = absurd (cc k)
-  held_after s (Ok v) r k = of (blob_bytes name revision_of v) k
+  held_after s (Ok v) r k = of (blob_bytes v) k
     where
       of : (o : Result Bytes Fault) → and_then o (λ x. Bytes_given s x) ≡ Ok r → r.0 ≡ s
       of (Err e) k = absurd (cc k)
@@ -132,7 +131,7 @@ module _ (name : Kind → Bytes → Bytes) where
   own : {s : State} {r : State × Bytes} (x : Bytes) → Bytes_given s x ≡ Ok r → r.0 ≡ s
   own {s} {r} x k = let same : (let p : State × Bytes = (s, x) in p) ≡ r = cc k in sym (ap (λ (p : State × Bytes). p.0) same)
 
-  content_after : (s : State) (m : Mode) (d : DataRef) (r : State × Bytes) → content name revision_of s m d ≡ Ok r → Adds_so s d r
+  content_after : (s : State) (m : Mode) (d : DataRef) (r : State × Bytes) → content name s m d ≡ Ok r → Adds_so s d r
   content_after s File (Object x) r e = values_same s r (held_after s (base_value name s.history x) r e)
   content_after s File (Mark n) r e = values_same s r (held_after s (at s n) r e)
   content_after s File (Inline x) r e = inline_after s x r e
@@ -164,21 +163,21 @@ module _ (name : Kind → Bytes → Bytes) where
   modify_after s d (Err e) next r one k = absurd (cc k)
   modify_after s d (Ok t) next r one k = ap (λ u. u.history.values) (edit_after t.0 (next t) r k) ∙ one t refl
 
-  changed_after : (s : State) (f : FileMap Bytes) (c : Change) (r : State × FileMap Bytes) → changed name revision_of s f c ≡ Ok r → Adds_by s c r
-  changed_after s f (Modify m d p) r e = modify_after s d (content name revision_of s m d) (λ t. modified f p (m, t.1)) r (λ t. content_after s m d t) e
+  changed_after : (s : State) (f : FileMap Bytes) (c : Change) (r : State × FileMap Bytes) → changed name s f c ≡ Ok r → Adds_by s c r
+  changed_after s f (Modify m d p) r e = modify_after s d (content name s m d) (λ t. modified f p (m, t.1)) r (λ t. content_after s m d t) e
   changed_after s f (Remove p) r e = let same = edit_after s (Ok _) r e in ap (λ t. t.history.values) same
   changed_after s f (Copy p q) r e = ap (λ t. t.history.values) (edit_after s (copied f p q) r e)
   changed_after s f (Rename p q) r e = ap (λ t. t.history.values) (edit_after s (renamed f p q) r e)
   changed_after s f Clear r e = ap (λ t. t.history.values) (edit_after s (Ok []) r e)
 
   more_after : (s : State) (c : Change) (cs : List Change) (given : Result (State × FileMap Bytes) Fault) (r : State × FileMap Bytes) → ((t : State × FileMap Bytes) → given ≡ Ok t → Adds_by s c t)
-      → ((t : State × FileMap Bytes) → all_changed name revision_of t.0 t.1 cs ≡ Ok r → r.0.history.values ≡ fold with_one t.0.history.values (blobs_added name t.0 t.1 cs))
-      → and_then given (λ t. all_changed name revision_of t.0 t.1 cs) ≡ Ok r → r.0.history.values ≡ fold with_one s.history.values (blob_added c ++ unless_refused (λ t. blobs_added name t.0 t.1 cs) given)
+      → ((t : State × FileMap Bytes) → all_changed name t.0 t.1 cs ≡ Ok r → r.0.history.values ≡ fold with_one t.0.history.values (blobs_added name t.0 t.1 cs))
+      → and_then given (λ t. all_changed name t.0 t.1 cs) ≡ Ok r → r.0.history.values ≡ fold with_one s.history.values (blob_added c ++ unless_refused (λ t. blobs_added name t.0 t.1 cs) given)
   more_after s c cs (Err e) r one rest k = absurd (cc k)
   more_after s c cs (Ok t) r one rest k =
       rest t k ∙ ap (λ vs. fold with_one vs (blobs_added name t.0 t.1 cs)) (one t refl) ∙ sym (fold_append with_one s.history.values (blob_added c) (blobs_added name t.0 t.1 cs))
 
   -- changes that were made added their blobs
-  pub changes_after : (s : State) (f : FileMap Bytes) (cs : List Change) (r : State × FileMap Bytes) → all_changed name revision_of s f cs ≡ Ok r → r.0.history.values ≡ fold with_one s.history.values (blobs_added name s f cs)
+  pub changes_after : (s : State) (f : FileMap Bytes) (cs : List Change) (r : State × FileMap Bytes) → all_changed name s f cs ≡ Ok r → r.0.history.values ≡ fold with_one s.history.values (blobs_added name s f cs)
   changes_after s f [] r e = ap (λ t. t.history.values) (edit_after s (Ok f) r e)
-  changes_after s f (c ∷ cs) r e = more_after s c cs (changed name revision_of s f c) r (λ t. changed_after s f c t) (λ t. changes_after t.0 t.1 cs r) e
+  changes_after s f (c ∷ cs) r e = more_after s c cs (changed name s f c) r (λ t. changed_after s f c t) (λ t. changes_after t.0 t.1 cs r) e

@@ -22,7 +22,6 @@ use Rattle.gx_model.specs.HistoryOf.{history_of, value_of_name}
 use Rattle.gx_model.specs.Growth.{record_named}
 use Rattle.gx_model.specs.Sound.{IsSound}
 use Rattle.gx_model.specs.Denotation.{base_value, begun_by, full_name, is_any_digit, lower}
-use Rattle.gx_model.specs.Revisions.{revision_of}
 use Rattle.gx_model.specs.Commands.{Object}
 use Rattle.gx_model.specs.Replay.{State, blob_bytes, content}
 use Rattle.gx_object.specs.declared.name.Name.{Name}
@@ -41,7 +40,7 @@ or_unknown o given = elim o [ None ↦ Err fault.UnknownObject | Some held ↦ g
 
 module _ (name : Kind → Bytes → Bytes) (namer : IsNamer name) (r : Records) (sound : IsSound name r) where
   of_value : (n : Name) (k : Kind) (u : Value) → k ≡ kind_of name u → IsIn (history_of r).values u → name_of name u ≡ n.bytes
-      → GivesAs (IsBlobOf name (history_of r).values n) (name_of_kind (record { kind = k; name = n }) kind.Blob) (blob_bytes name revision_of u)
+      → GivesAs (IsBlobOf name (history_of r).values n) (name_of_kind (record { kind = k; name = n }) kind.Blob) (blob_bytes u)
   of_value n k (blob_value x) e i m = rw e (x, refl, record { same = refl; stands = i; named = sym m })
   of_value n k (tree_value f) e i m = rw e refl
   of_value n k (commit_value c) e i m = rw e refl
@@ -54,16 +53,16 @@ module _ (name : Kind → Bytes → Bytes) (namer : IsNamer name) (r : Records) 
       let h = some_got r.records n.bytes (k, body) e in
       let v = held_is name namer r sound n.bytes h in
       let same = got name namer r sound n.bytes (k, body) h e in
-      subst (λ o. GivesAs (IsBlobOf name (history_of r).values n) (name_of_kind (record { kind = k; name = n }) kind.Blob) (or_unknown o (blob_bytes name revision_of (value_of_name r.records n.bytes)))) (sym v.found)
+      subst (λ o. GivesAs (IsBlobOf name (history_of r).values n) (name_of_kind (record { kind = k; name = n }) kind.Blob) (or_unknown o (blob_bytes (value_of_name r.records n.bytes)))) (sym v.found)
       (of_value n k (value_of_name r.records n.bytes) (ap (λ o. o.0) same) v.stands v.named)
 
   pub none_held : (n : Bytes) → None ≡ option_map object_of (record_named r.records n) → bytes_held name r n ≡ Err fault.UnknownObject
-  none_held n e = ap (λ o. or_unknown o (blob_bytes name revision_of (value_of_name r.records n))) (none_got r.records n e)
+  none_held n e = ap (λ o. or_unknown o (blob_bytes (value_of_name r.records n))) (none_got r.records n e)
 
   base_is : (h : History) (x : Bytes) → (list_all is_any_digit x && nat_eq (length x) 40) ≡ true → base_value name h x ≡ full_name name (begun_by name h x)
   base_is h x e = rw e refl
 
-  plain : (s : State) (m : Mode) → (m ≡ Gitlink → ⊥) → (x : Bytes) → content name revision_of s m (Object x) ≡ and_then (base_value name s.history x) (λ v. and_then {B = State × Bytes} (blob_bytes name revision_of v) (λ y. Ok (s, y)))
+  plain : (s : State) (m : Mode) → (m ≡ Gitlink → ⊥) → (x : Bytes) → content name s m (Object x) ≡ and_then (base_value name s.history x) (λ v. and_then {B = State × Bytes} (blob_bytes v) (λ y. Ok (s, y)))
   plain s File k x = refl
   plain s Exec k x = refl
   plain s Link k x = refl
@@ -71,20 +70,20 @@ module _ (name : Kind → Bytes → Bytes) (namer : IsNamer name) (r : Records) 
   plain s Dir k x = refl
 
   content_by : (s : State) → history_of r ≡ s.history → (m : Mode) → (m ≡ Gitlink → ⊥) → (x n : Bytes) → (list_all is_any_digit x && nat_eq (length x) 40) ≡ true → n ≡ unhex (map lower x)
-      → content name revision_of s m (Object x) ≡ and_then {B = State × Bytes} (bytes_held name r n) (λ y. Ok (s, y))
+      → content name s m (Object x) ≡ and_then {B = State × Bytes} (bytes_held name r n) (λ y. Ok (s, y))
   content_by s h m k x n d e =
-      plain s m k x ∙ ap (λ b. and_then b (λ v. and_then {B = State × Bytes} (blob_bytes name revision_of v) (λ y. Ok (s, y)))) (ap (λ z. base_value name z x) (sym h) ∙ base_is (history_of r) x d) ∙ by (record_named r.records n) refl
+      plain s m k x ∙ ap (λ b. and_then b (λ v. and_then {B = State × Bytes} (blob_bytes v) (λ y. Ok (s, y)))) (ap (λ z. base_value name z x) (sym h) ∙ base_is (history_of r) x d) ∙ by (record_named r.records n) refl
     where
       by : (o : Option Record) → record_named r.records n ≡ o
-          → and_then (full_name name (begun_by name (history_of r) x)) (λ v. and_then {B = State × Bytes} (blob_bytes name revision_of v) (λ y. Ok (s, y))) ≡ and_then {B = State × Bytes} (or_unknown (record_named r.records n) (blob_bytes name revision_of (value_of_name r.records n))) (λ y. Ok (s, y))
+          → and_then (full_name name (begun_by name (history_of r) x)) (λ v. and_then {B = State × Bytes} (blob_bytes v) (λ y. Ok (s, y))) ≡ and_then {B = State × Bytes} (or_unknown (record_named r.records n) (blob_bytes (value_of_name r.records n))) (λ y. Ok (s, y))
       by None f =
           let w = whole_digits x d in
-          ap (λ b. and_then b (λ v. and_then {B = State × Bytes} (blob_bytes name revision_of v) (λ y. Ok (s, y)))) (full_none name namer r sound x n w.1 w.0 e f)
-          ∙ sym (ap (λ o. and_then {B = State × Bytes} (or_unknown o (blob_bytes name revision_of (value_of_name r.records n))) (λ y. Ok (s, y))) f)
+          ap (λ b. and_then b (λ v. and_then {B = State × Bytes} (blob_bytes v) (λ y. Ok (s, y)))) (full_none name namer r sound x n w.1 w.0 e f)
+          ∙ sym (ap (λ o. and_then {B = State × Bytes} (or_unknown o (blob_bytes (value_of_name r.records n))) (λ y. Ok (s, y))) f)
       by (Some held) f =
           let w = whole_digits x d in
-          ap (λ b. and_then b (λ v. and_then {B = State × Bytes} (blob_bytes name revision_of v) (λ y. Ok (s, y)))) (full_found name namer r sound x n w.1 w.0 e (subst (λ o. IsTrue (is_some o)) (sym f) refl))
-          ∙ sym (ap (λ o. and_then {B = State × Bytes} (or_unknown o (blob_bytes name revision_of (value_of_name r.records n))) (λ y. Ok (s, y))) f)
+          ap (λ b. and_then b (λ v. and_then {B = State × Bytes} (blob_bytes v) (λ y. Ok (s, y)))) (full_found name namer r sound x n w.1 w.0 e (subst (λ o. IsTrue (is_some o)) (sym f) refl))
+          ∙ sym (ap (λ o. and_then {B = State × Bytes} (or_unknown o (blob_bytes (value_of_name r.records n))) (λ y. Ok (s, y))) f)
 
   content_name_is : (s : State) (x : Bytes) (n : Name) (m : Mode) → (m ≡ Gitlink → ⊥) → (m ≡ Dir → ⊥) → n.bytes ≡ name_of name (blob_value x) → IsIn s.history.values (blob_value x) → IsContentName name s (s, x) m n
   content_name_is s x n File k l e i = record { same = refl; leaf = refl; named = e; known = i }
@@ -95,7 +94,7 @@ module _ (name : Kind → Bytes → Bytes) (namer : IsNamer name) (r : Records) 
 
   -- digits that name a blob
   pub content_found : (s : State) → history_of r ≡ s.history → (m : Mode) → (m ≡ Gitlink → ⊥) → (m ≡ Dir → ⊥) → (x : Bytes) (n : Name) → (list_all is_any_digit x && nat_eq (length x) 40) ≡ true → n.bytes ≡ unhex (map lower x)
-      → (result : Result Name ImportKind) → GivesAs (IsBlobOf name (history_of r).values n) result (bytes_held name r n.bytes) → GivesAs (λ y called. IsContentName name s y m called) result (content name revision_of s m (Object x))
+      → (result : Result Name ImportKind) → GivesAs (IsBlobOf name (history_of r).values n) result (bytes_held name r n.bytes) → GivesAs (λ y called. IsContentName name s y m called) result (content name s m (Object x))
   content_found s h m k l x n d e (Ok called) g = (
     (s, g.0),
     content_by s h m k x n.bytes d e ∙ ap (λ b. and_then {B = State × Bytes} b (λ y. Ok (s, y))) g.1,

@@ -4,7 +4,6 @@ use Rattle.std.specs.Prelude.{T, IsTrue}
 use Rattle.std.specs.Option.{option_map}
 use Rattle.gx_model.specs.Idents.{is_ident}
 use Rattle.gx_model.specs.Replay.{or_else, text_made}
-use Rattle.gx_model.specs.Revisions.{revision_of}
 use Rattle.gx_command.specs.declared.commands.Commit.{Commit as GivenCommit}
 use Rattle.gx_command.specs.declared.commands.Tag.{Tag as GivenTag}
 use Rattle.gx_command.specs.declared.texts.Identity.{Identity}
@@ -130,7 +129,7 @@ tagger_proper t = by t.tagger
     by None = refl
     by (Some i) = i.proper
 
-pub text_proper : {A : Type 0} (c : GivenCommit A) → IsTrue (is_proper_text (text_made (λ kind body. body) revision_of (commit_parts c)))
+pub text_proper : {A : Type 0} (c : GivenCommit A) → IsTrue (is_proper_text (text_made (commit_parts c)))
 text_proper c = is_true _ (both _ _ (both _ _ (author c.author c.committer) (passes _ c.committer.proper)) (passes _ (encoding c.encoding)))
   where
     author : {A : Type 0} (o : Option (Identity A)) (i : Identity A) → T (is_ident (or_else (option_map (λ i. i.bytes.items) o) i.bytes.items))

@@ -10,7 +10,6 @@ use Rattle.gx_model.specs.Values.{Commit, Value, commit_value}
 use Rattle.gx_model.specs.Histories.{IsIn, with_one}
 use Rattle.gx_model.specs.Growth.{with_values}
 use Rattle.gx_model.specs.Commands.{Change, CommitParts}
-use Rattle.gx_model.specs.Revisions.{revision_of}
 use Rattle.gx_model.specs.Replay.{State, added, all_changed, all_committed, committed_to, first_parent, marked, on_branch, starting_files, step_commit}
 use Rattle.gx_import.specs.declared.fault.ImportKind.{ImportKind}
 use Rattle.gx_import.specs.Additions.{Clash, added_by_commit, blobs_added, commit_added, commit_made, unless_refused, values_made}
@@ -25,43 +24,43 @@ use Rattle.gx_import.proofs.Refusals.{first_answers, merged_answer}
 
 module _ (name : Kind → Bytes → Bytes) (s : State) (c : CommitParts) where
   abbrev pub after_changes : Option Commit → List Commit → State × FileMap Bytes → Result State Fault
-  after_changes first others r = Ok (committed_to name revision_of c (commit_made name c first others r.1) r.0)
+  after_changes first others r = Ok (committed_to c (commit_made name c first others r.1) r.0)
 
   abbrev pub after_others : Option Commit → List Commit → Result State Fault
-  after_others first others = and_then (all_changed name revision_of s (starting_files name revision_of first) c.changes) (after_changes first others)
+  after_others first others = and_then (all_changed name s (starting_files first) c.changes) (after_changes first others)
 
   abbrev pub after_first : Option Commit → Result State Fault
-  after_first first = and_then (all_committed name revision_of c.ref s c.merges) (after_others first)
+  after_first first = and_then (all_committed name c.ref s c.merges) (after_others first)
 
   -- the first parent is refused
-  pub first_refused : {Z : Type 0} (clash : Type 0) (Be : State → Z → Type 0) (e : ImportKind) → IsFaultOf (fault_of e) (first_parent name revision_of s c) → AddsAs clash Be (Err e) (step_commit name revision_of s c)
-  first_refused clash Be e h = gives_refused clash Be e (first_parent name revision_of s c) after_first (first_answers name s c) h
+  pub first_refused : {Z : Type 0} (clash : Type 0) (Be : State → Z → Type 0) (e : ImportKind) → IsFaultOf (fault_of e) (first_parent name s c) → AddsAs clash Be (Err e) (step_commit name s c)
+  first_refused clash Be e h = gives_refused clash Be e (first_parent name s c) after_first (first_answers name s c) h
 
-  module _ (first : Option Commit) (k : first_parent name revision_of s c ≡ Ok first) where
+  module _ (first : Option Commit) (k : first_parent name s c ≡ Ok first) where
     -- another parent is
-    pub others_refused : {Z : Type 0} (clash : Type 0) (Be : State → Z → Type 0) (e : ImportKind) → IsFaultOf (fault_of e) (all_committed name revision_of c.ref s c.merges) → AddsAs clash Be (Err e) (step_commit name revision_of s c)
+    pub others_refused : {Z : Type 0} (clash : Type 0) (Be : State → Z → Type 0) (e : ImportKind) → IsFaultOf (fault_of e) (all_committed name c.ref s c.merges) → AddsAs clash Be (Err e) (step_commit name s c)
     others_refused clash Be e h =
         subst (AddsAs clash Be (Err e)) (sym (ap (λ o. and_then o after_first) k))
-        (gives_refused clash Be e (all_committed name revision_of c.ref s c.merges) (after_others first) (merged_answer name c.ref s c.merges) h)
+        (gives_refused clash Be e (all_committed name c.ref s c.merges) (after_others first) (merged_answer name c.ref s c.merges) h)
 
-    module _ (others : List Commit) (l : all_committed name revision_of c.ref s c.merges ≡ Ok others) where
+    module _ (others : List Commit) (l : all_committed name c.ref s c.merges ≡ Ok others) where
       abbrev blobs : List Value
-      blobs = blobs_added name s (starting_files name revision_of first) c.changes
+      blobs = blobs_added name s (starting_files first) c.changes
 
       abbrev changed_files : Result (State × FileMap Bytes) Fault
-      changed_files = all_changed name revision_of s (starting_files name revision_of first) c.changes
+      changed_files = all_changed name s (starting_files first) c.changes
 
-      stepped : step_commit name revision_of s c ≡ after_others first others
+      stepped : step_commit name s c ≡ after_others first others
       stepped = ap (λ o. and_then o after_first) k ∙ ap (λ o. and_then o (after_others first)) l
 
       adding : added_by_commit name s c ≡ values_made name s c first others
-      adding = ap (unless_refused (λ p. unless_refused (values_made name s c p) (all_committed name revision_of c.ref s c.merges))) k ∙ ap (unless_refused (values_made name s c first)) l
+      adding = ap (unless_refused (λ p. unless_refused (values_made name s c p) (all_committed name c.ref s c.merges))) k ∙ ap (unless_refused (values_made name s c first)) l
 
       -- the changes are
       pub changes_refused : {X Z : Type 0} (vs : List Value) (Is : State × FileMap Bytes → X → Type 0) (Be : State → Z → Type 0) (e : ImportKind)
-          → AddsAs (Clash name vs blobs) Is (Err e) changed_files → AddsAs (Clash name vs (added_by_commit name s c)) Be (Err e) (step_commit name revision_of s c)
+          → AddsAs (Clash name vs blobs) Is (Err e) changed_files → AddsAs (Clash name vs (added_by_commit name s c)) Be (Err e) (step_commit name s c)
       changes_refused vs Is Be e h =
-          subst (λ xs. AddsAs (Clash name vs xs) Be (Err e) (step_commit name revision_of s c)) (sym adding)
+          subst (λ xs. AddsAs (Clash name vs xs) Be (Err e) (step_commit name s c)) (sym adding)
           (subst (AddsAs (Clash name vs (values_made name s c first others)) Be (Err e)) (sym stepped)
           (adds_refused (Clash name vs blobs) (Clash name vs (values_made name s c first others)) Is Be
           (λ q. clash_first name blobs (unless_refused (λ r. commit_added r.1 (commit_made name c first others r.1)) changed_files) vs q) e changed_files (after_changes first others) h))
@@ -71,7 +70,7 @@ module _ (name : Kind → Bytes → Bytes) (s : State) (c : CommitParts) where
         made = commit_made name c first others r.1
 
         -- what the whole gives
-        pub step_made : step_commit name revision_of s c ≡ Ok (committed_to name revision_of c made r.0)
+        pub step_made : step_commit name s c ≡ Ok (committed_to c made r.0)
         step_made = stepped ∙ ap (λ o. and_then o (after_changes first others)) m
 
         -- what the whole adds
@@ -83,16 +82,16 @@ module _ (name : Kind → Bytes → Bytes) (s : State) (c : CommitParts) where
 
         -- its trees or itself are
         pub made_refused : {X Z : Type 0} (vs now : List Value) → vs ≡ s.history.values → now ≡ r.0.history.values → (Is : State → X → Type 0) (Be : State → Z → Type 0) (e : ImportKind)
-            → AddsAs (Clash name now (commit_added r.1 made)) Is (Err e) (Ok (added (commit_value made) r.0)) → AddsAs (Clash name vs (added_by_commit name s c)) Be (Err e) (step_commit name revision_of s c)
+            → AddsAs (Clash name now (commit_added r.1 made)) Is (Err e) (Ok (added (commit_value made) r.0)) → AddsAs (Clash name vs (added_by_commit name s c)) Be (Err e) (step_commit name s c)
         made_refused vs now old new Is Be e h =
-            let values : now ≡ fold with_one vs blobs = new ∙ changes_after name s (starting_files name revision_of first) c.changes r m ∙ ap (λ us. fold with_one us blobs) (sym old) in
-            subst (λ xs. AddsAs (Clash name vs xs) Be (Err e) (step_commit name revision_of s c)) (sym adding_made)
+            let values : now ≡ fold with_one vs blobs = new ∙ changes_after name s (starting_files first) c.changes r m ∙ ap (λ us. fold with_one us blobs) (sym old) in
+            subst (λ xs. AddsAs (Clash name vs xs) Be (Err e) (step_commit name s c)) (sym adding_made)
             (subst (AddsAs (Clash name vs (blobs ++ commit_added r.1 made)) Be (Err e)) (sym step_made)
             (adds_refused (Clash name now (commit_added r.1 made)) (Clash name vs (blobs ++ commit_added r.1 made)) Is Be
             (λ q. clash_after name blobs (commit_added r.1 made) vs (subst (λ us. with_values name us (commit_added r.1 made) ≡ None) values q)) e (Ok (added (commit_value made) r.0)) then_set h))
 
 -- the parents stand after the changes, too
-pub parents_after : (name : Kind → Bytes → Bytes) (s : State) (f : FileMap Bytes) (cs : List Change) (r : State × FileMap Bytes) → all_changed name revision_of s f cs ≡ Ok r → (ps : List Commit) (ns : List Name)
+pub parents_after : (name : Kind → Bytes → Bytes) (s : State) (f : FileMap Bytes) (cs : List Change) (r : State × FileMap Bytes) → all_changed name s f cs ≡ Ok r → (ps : List Commit) (ns : List Name)
     → AreAll (IsCommitOf name s.history.values) ps ns → AreAll (IsCommitOf name r.0.history.values) ps ns
 parents_after name s f cs r e ps ns h =
     commits_keep name s.history.values r.0.history.values (λ u i. subst (λ vs. IsIn vs u) (sym (changes_after name s f cs r e)) (all_keep (blobs_added name s f cs) s.history.values u i)) ps ns h

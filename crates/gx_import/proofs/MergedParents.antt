@@ -7,7 +7,6 @@ use Rattle.gx_model.specs.Texts.{Bytes}
 use Rattle.gx_model.specs.Faults.{IsFaultOf, and_then}
 use Rattle.gx_model.specs.Values.{Commit}
 use Rattle.gx_model.specs.Commands.{CommitIsh}
-use Rattle.gx_model.specs.Revisions.{revision_of}
 use Rattle.gx_model.specs.Replay.{State, all_committed, committed_for, with_first_parent}
 use Rattle.gx_object.specs.declared.name.Name.{Name}
 use Rattle.gx_import.specs.declared.fault.ImportKind.{ImportKind}
@@ -20,15 +19,15 @@ module _ (name : Kind → Bytes → Bytes) (b : Bytes) (s : State) (made : Optio
   -- these names are those of the parents so far, and the rest of what is merged is left
   pub record ArePartOf (whole rest : List CommitIsh) (names : List Name) : Type 0 where
     pub done : List Commit
-    pub are : AreAll (IsCommitOf name s.history.values) (with_first_parent name revision_of made done) names
-    pub left : all_committed name revision_of b s whole ≡ and_then (all_committed name revision_of b s rest) (λ cs. Ok (done ++ cs))
+    pub are : AreAll (IsCommitOf name s.history.values) (with_first_parent made done) names
+    pub left : all_committed name b s whole ≡ and_then (all_committed name b s rest) (λ cs. Ok (done ++ cs))
 
   none_done : (given : Result (List Commit) Fault) → given ≡ and_then given (λ cs. Ok ([] ++ cs))
   none_done (Ok cs) = refl
   none_done (Err e) = refl
 
   first_alone : (m : Option Commit) (first : Option Name) → AreBoth (IsCommitOf name s.history.values) m first → (names : List Name) → names ≡ cons_option first []
-      → AreAll (IsCommitOf name s.history.values) (with_first_parent name revision_of m []) names
+      → AreAll (IsCommitOf name s.history.values) (with_first_parent m []) names
   first_alone None None h names e = subst (AreAll (IsCommitOf name s.history.values) []) (sym e) tt
   first_alone None (Some n) h names e = absurd h
   first_alone (Some c) None h names e = absurd h
@@ -36,7 +35,7 @@ module _ (name : Kind → Bytes → Bytes) (b : Bytes) (s : State) (made : Optio
 
   -- at first
   pub part_none : (xs : List CommitIsh) (first : Option Name) → AreBoth (IsCommitOf name s.history.values) made first → (names : List Name) → names ≡ cons_option first [] → ArePartOf xs xs names
-  part_none xs first h names e = record { done = []; are = first_alone made first h names e; left = none_done (all_committed name revision_of b s xs) }
+  part_none xs first h names e = record { done = []; are = first_alone made first h names e; left = none_done (all_committed name b s xs) }
 
   all_last : (cs : List Commit) (ns : List Name) (c : Commit) (n : Name) → AreAll (IsCommitOf name s.history.values) cs ns → IsCommitOf name s.history.values c n → AreAll (IsCommitOf name s.history.values) (cs ++ c ∷ []) (ns ++ n ∷ [])
   all_last [] [] c n h k = (k, tt)
@@ -44,7 +43,7 @@ module _ (name : Kind → Bytes → Bytes) (b : Bytes) (s : State) (made : Optio
   all_last (d ∷ cs) [] c n h k = absurd h
   all_last (d ∷ cs) (m ∷ ns) c n h k = (h.0, all_last cs ns c n h.1 k)
 
-  first_and : (m : Option Commit) (cs : List Commit) (c : Commit) → with_first_parent name revision_of m cs ++ c ∷ [] ≡ with_first_parent name revision_of m (cs ++ c ∷ [])
+  first_and : (m : Option Commit) (cs : List Commit) (c : Commit) → with_first_parent m cs ++ c ∷ [] ≡ with_first_parent m (cs ++ c ∷ [])
   first_and None cs c = refl
   first_and (Some d) cs c = refl
 
@@ -56,23 +55,23 @@ module _ (name : Kind → Bytes → Bytes) (b : Bytes) (s : State) (made : Optio
   moved_on done c (Ok cs) = ap Ok (sym (append_assoc done (c ∷ []) cs))
 
   -- one more
-  pub part_more : (whole rest : List CommitIsh) (x : CommitIsh) (names : List Name) → ArePartOf whole (x ∷ rest) names → (c : Commit) (n : Name) → committed_for name revision_of b s x ≡ Ok c → IsCommitOf name s.history.values c n
+  pub part_more : (whole rest : List CommitIsh) (x : CommitIsh) (names : List Name) → ArePartOf whole (x ∷ rest) names → (c : Commit) (n : Name) → committed_for name b s x ≡ Ok c → IsCommitOf name s.history.values c n
       → ArePartOf whole rest (names ++ n ∷ [])
   part_more whole rest x names h c n e is =
       record {
         done = h.done ++ c ∷ [];
-        are = subst (λ cs. AreAll (IsCommitOf name s.history.values) cs (names ++ n ∷ [])) (first_and made h.done c) (all_last (with_first_parent name revision_of made h.done) names c n h.are is);
-        left = h.left ∙ ap (λ o. and_then (and_then o (λ d. and_then (all_committed name revision_of b s rest) (λ cs. Ok (d ∷ cs)))) (λ cs. Ok (h.done ++ cs))) e ∙ moved_on h.done c (all_committed name revision_of b s rest);
+        are = subst (λ cs. AreAll (IsCommitOf name s.history.values) cs (names ++ n ∷ [])) (first_and made h.done c) (all_last (with_first_parent made h.done) names c n h.are is);
+        left = h.left ∙ ap (λ o. and_then (and_then o (λ d. and_then (all_committed name b s rest) (λ cs. Ok (d ∷ cs)))) (λ cs. Ok (h.done ++ cs))) e ∙ moved_on h.done c (all_committed name b s rest);
       }
 
   -- one is refused
-  pub part_refused : (whole rest : List CommitIsh) (x : CommitIsh) (names : List Name) → ArePartOf whole (x ∷ rest) names → (e : ImportKind) → IsFaultOf (fault_of e) (committed_for name revision_of b s x)
-      → IsFaultOf (fault_of e) (all_committed name revision_of b s whole)
+  pub part_refused : (whole rest : List CommitIsh) (x : CommitIsh) (names : List Name) → ArePartOf whole (x ∷ rest) names → (e : ImportKind) → IsFaultOf (fault_of e) (committed_for name b s x)
+      → IsFaultOf (fault_of e) (all_committed name b s whole)
   part_refused whole rest x names h e k =
       subst (IsFaultOf (fault_of e)) (sym h.left)
-      (fault_then (fault_of e) (all_committed name revision_of b s (x ∷ rest)) (λ cs. Ok (h.done ++ cs)) (fault_then (fault_of e) (committed_for name revision_of b s x) (λ c. and_then (all_committed name revision_of b s rest) (λ cs. Ok (c ∷ cs))) k))
+      (fault_then (fault_of e) (all_committed name b s (x ∷ rest)) (λ cs. Ok (h.done ++ cs)) (fault_then (fault_of e) (committed_for name b s x) (λ c. and_then (all_committed name b s rest) (λ cs. Ok (c ∷ cs))) k))
 
   -- all of them
   pub part_all : (whole : List CommitIsh) (names : List Name) → ArePartOf whole [] names
-      → (others : List Commit) × (all_committed name revision_of b s whole ≡ Ok others) × AreAll (IsCommitOf name s.history.values) (with_first_parent name revision_of made others) names
+      → (others : List Commit) × (all_committed name b s whole ≡ Ok others) × AreAll (IsCommitOf name s.history.values) (with_first_parent made others) names
   part_all whole names h = (h.done, h.left ∙ ap Ok (append-nil h.done), h.are)

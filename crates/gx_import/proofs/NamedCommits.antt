@@ -50,7 +50,7 @@ module _ (name : Kind → Bytes → Bytes) {A : Type 0} where
   branch_named r tables s h text tip e =
       found_gives s.history.values (lookup (same_bytes text) s.branches) tip
       (subst (AreBoth (IsTip name s.history.values) (lookup (same_bytes text) s.branches)) (sym e) (related_found (IsTip name s.history.values) (same_bytes text) s.branches (rows_of tables.branches) h.branches))
-      (revision_value name revision_of s text)
+      (revision_value name s text)
 
   -- and one that names none
   pub revision_named : (r : Records) (tables : Tables A) (s : State) → Stands name r tables s → (text : Bytes) → None ≡ lookup (same_bytes text) (rows_of tables.branches)
@@ -59,5 +59,5 @@ module _ (name : Kind → Bytes → Bytes) {A : Type 0} where
   revision_named r tables s h text e result k =
       let none = none_found name A s.history.values (lookup (same_bytes text) s.branches)
       (subst (AreBoth (IsTip name s.history.values) (lookup (same_bytes text) s.branches)) (sym e) (related_found (IsTip name s.history.values) (same_bytes text) s.branches (rows_of tables.branches) h.branches)) in
-      subst (λ o. GivesAs (IsOf name s.history.values) result (or_revision name o (revision_value name revision_of s text))) (sym none)
+      subst (λ o. GivesAs (IsOf name s.history.values) result (or_revision name o (revision_value name s text))) (sym none)
       (subst (λ z. GivesAs (IsOf name z.values) result (and_then (revision_of text) (λ v. value_denoted name z v))) h.history k)

@@ -16,7 +16,6 @@ use Rattle.gx_model.specs.Histories.{History, IsIn, is_in, with_one}
 use Rattle.gx_model.specs.Growth.{all_trees, clashes, with_values}
 use Rattle.gx_model.specs.Commands as command
 use Rattle.gx_model.specs.Commands.{Asks, Blob, Checkpoint, Command, CommitIsh, CommitParts, Done, OptionLine, Progress, Reset, TagParts}
-use Rattle.gx_model.specs.Revisions.{revision_of}
 use Rattle.gx_model.specs.Replay.{Outcome, Report, State, added, all_changed, all_committed, commit_alone, committed, committed_for, ended, final, finished, first_parent, is_fast_forward, marked, on_branch, refused, replayed, report, starting_files, step, step_commit, step_reset, step_tag}
 use Rattle.gx_model.proofs.GrownRecords.{is_is_in}
 use Rattle.gx_model.proofs.GrownTrees.{trees_fold}
@@ -45,39 +44,39 @@ module _ (name : Kind → Bytes → Bytes) where
   Adds s vs t = t.history.values ≡ fold with_one s.history.values vs
 
   -- a commit adds its blobs, its trees and itself
-  commit_adds : (s : State) (c : CommitParts) (t : State) → step_commit name revision_of s c ≡ Ok t → Adds s (added_by_commit name s c) t
+  commit_adds : (s : State) (c : CommitParts) (t : State) → step_commit name s c ≡ Ok t → Adds s (added_by_commit name s c) t
   commit_adds s c t e =
-      let p = both_given (first_parent name revision_of s c) (after_first name s c) t e in
-      let q = both_given (all_committed name revision_of c.ref s c.merges) (after_others name s c p.0) t p.2 in
-      let r = both_given (all_changed name revision_of s (starting_files name revision_of p.0) c.changes) (after_changes name s c p.0 q.0) t q.2 in
+      let p = both_given (first_parent name s c) (after_first name s c) t e in
+      let q = both_given (all_committed name c.ref s c.merges) (after_others name s c p.0) t p.2 in
+      let r = both_given (all_changed name s (starting_files p.0) c.changes) (after_changes name s c p.0 q.0) t q.2 in
       let v : Value = commit_value (made name s c p.0 p.1 q.0 q.1 r.0 r.1) in
-      let blobs = blobs_added name s (starting_files name revision_of p.0) c.changes in
+      let blobs = blobs_added name s (starting_files p.0) c.changes in
       ap (λ z. z.history.values) (given_is _ t r.2)
       ∙ ap (λ z. z.values) (marked_history c.mark v (added v r.0.0))
       ∙ ap (λ z. with_one z v) (trees_fold r.0.0.history.values r.0.1)
       ∙ sym (fold-append with_one r.0.0.history.values (map tree_value (all_trees r.0.1)) (v ∷ []))
-      ∙ ap (λ z. fold with_one z (map tree_value (all_trees r.0.1) ++ v ∷ [])) (changes_after name s (starting_files name revision_of p.0) c.changes r.0 r.1)
+      ∙ ap (λ z. fold with_one z (map tree_value (all_trees r.0.1) ++ v ∷ [])) (changes_after name s (starting_files p.0) c.changes r.0 r.1)
       ∙ sym (fold-append with_one s.history.values blobs (map tree_value (all_trees r.0.1) ++ v ∷ []))
       ∙ ap (fold with_one s.history.values) (sym (adding_made name s c p.0 p.1 q.0 q.1 r.0 r.1))
 
   -- a tag adds itself
-  tag_adds : (s : State) (g : TagParts) (t : State) → step_tag name revision_of s g ≡ Ok t → Adds s (added_by_tag name s g) t
+  tag_adds : (s : State) (g : TagParts) (t : State) → step_tag name s g ≡ Ok t → Adds s (added_by_tag name s g) t
   tag_adds s g t e =
-      let q = both_given (committed name revision_of commit_alone s g.target) _ t e in
+      let q = both_given (committed name commit_alone s g.target) _ t e in
       let v : Value = tag_value (tag_made q.0 g) in
       ap (λ z. z.history.values) (given_is _ t q.2)
       ∙ ap (λ z. z.values) (marked_history g.mark v (added v s))
       ∙ ap (λ o. fold with_one s.history.values (unless_refused (λ c. tag_value (tag_made c g) ∷ []) o)) (sym q.1)
 
   -- a reset adds nothing
-  reset_adds : (s : State) (b : Bytes) (x : Option CommitIsh) (t : State) → step_reset name revision_of s b x ≡ Ok t → Adds s [] t
+  reset_adds : (s : State) (b : Bytes) (x : Option CommitIsh) (t : State) → step_reset name s b x ≡ Ok t → Adds s [] t
   reset_adds s b None t e = ap (λ z. z.history.values) (given_is _ t e)
   reset_adds s b (Some x) t e =
-      let q = both_given (committed_for name revision_of b s x) (λ c. Ok (on_branch b (Some c) s)) t e in
+      let q = both_given (committed_for name b s x) (λ c. Ok (on_branch b (Some c) s)) t e in
       ap (λ z. z.history.values) (given_is _ t q.2)
 
   -- a command adds these values, in their order
-  pub step_adds : (s : State) (c : Command) (t : State) → step name revision_of s c ≡ Ok t → Adds s (values_added name s c) t
+  pub step_adds : (s : State) (c : Command) (t : State) → step name s c ≡ Ok t → Adds s (values_added name s c) t
   step_adds s (Blob b) t e = ap (λ z. z.history.values) (given_is _ t e) ∙ ap (λ z. z.values) (marked_history b.mark _ _)
   step_adds s (command.Commit c) t e = commit_adds s c t e
   step_adds s (command.Tag g) t e = tag_adds s g t e
@@ -138,14 +137,14 @@ module _ (name : Kind → Bytes → Bytes) where
 
   -- what the next commands give
   abbrev Next : ℕ → State → List Command → Option Fault → Result State Fault → Outcome
-  Next n s cs end given = elim given [ Ok t ↦ replayed name revision_of (n + 1) t cs end | Err f ↦ refused (n + 1) f s.progress s.kept ]
+  Next n s cs end given = elim given [ Ok t ↦ replayed name (n + 1) t cs end | Err f ↦ refused (n + 1) f s.progress s.kept ]
 
   -- what stood in the history before some commands stands there after them
-  pub values_stay : (n : ℕ) (s : State) (cs : List Command) (end : Option Fault) (k : History) (text : Bytes) (r : Report) → replayed name revision_of n s cs end ≡ finished k text r
+  pub values_stay : (n : ℕ) (s : State) (cs : List Command) (end : Option Fault) (k : History) (text : Bytes) (r : Report) → replayed name n s cs end ≡ finished k text r
       → (u : Value) → IsIn s.history.values u → IsIn k.values u
   values_stay n s [] end k text r e u i = subst (λ vs. IsIn vs u) (sym (end_keeps n s end k text r e)) i
   values_stay n s (c ∷ cs) end k text r e u i =
-      elim (step name revision_of s c) as (λ o. step name revision_of s c ≡ o → Next n s cs end o ≡ finished k text r → IsIn k.values u) [
+      elim (step name s c) as (λ o. step name s c ≡ o → Next n s cs end o ≡ finished k text r → IsIn k.values u) [
         | Ok t ↦ λ q h. values_stay (n + 1) t cs end k text r h u (subst (λ vs. IsIn vs u) (sym (step_adds s c t q)) (all_keep (values_added name s c) s.history.values u i))
         | Err f ↦ λ q h. absurd (cc h)
       ] refl e
@@ -155,11 +154,11 @@ module _ (name : Kind → Bytes → Bytes) where
   Later n cs number given = elim given [ Ok t ↦ ClashesAt name (n + 1) t cs number | Err f ↦ ⊥ ]
 
   -- no command of a finished replay clashes
-  pub none_clashes : (n : ℕ) (s : State) (cs : List Command) (end : Option Fault) (k : History) (text : Bytes) (r : Report) → replayed name revision_of n s cs end ≡ finished k text r
+  pub none_clashes : (n : ℕ) (s : State) (cs : List Command) (end : Option Fault) (k : History) (text : Bytes) (r : Report) → replayed name n s cs end ≡ finished k text r
       → HaveNames k.values → (number : ℕ) → ClashesAt name n s cs number → ⊥
   none_clashes n s [] end k text r e names number h = h
   none_clashes n s (c ∷ cs) end k text r e names number h =
-      elim (step name revision_of s c) as (λ o. step name revision_of s c ≡ o → Next n s cs end o ≡ finished k text r
+      elim (step name s c) as (λ o. step name s c ≡ o → Next n s cs end o ≡ finished k text r
       → ((number ≡ n + 1) × Clash name s.history.values (values_added name s c)) ⊎ Later n cs number o → ⊥) [
         | Ok t ↦ λ q h i. elim i [
           | inl j ↦ all_fit k.values names (values_added name s c) s.history.values (λ u l. values_stay (n + 1) t cs end k text r h u (subst (λ vs. IsIn vs u) (sym (step_adds s c t q)) l)) j.1

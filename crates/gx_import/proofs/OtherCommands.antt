@@ -10,7 +10,6 @@ use Rattle.gx_model.specs.Commands.{Asks, Blob, Checkpoint, Command, Done, Optio
 use Rattle.gx_model.specs.Grammar.{commands_of}
 use Rattle.gx_model.specs.Histories.{History, IsHistory}
 use Rattle.gx_model.specs.Items.{items_of}
-use Rattle.gx_model.specs.Revisions.{revision_of}
 use Rattle.gx_model.specs.Replay.{Kept, Outcome, State, refused, replayed, step}
 use Rattle.gx_model.specs.Export.{export_items, export_text, inner_commands, reached_commits}
 use Rattle.gx_model.specs.ExportLaws.{IsReadable, IsSpelled}
@@ -52,11 +51,11 @@ exports_are_other h is readable =
 
 -- what is kept where such commands are cut off
 pub kept_through : (name : Kind → Bytes → Bytes) (n : ℕ) (s : State) (cs : List Command) (f : Fault) (number : ℕ) (g : Fault) (text : Bytes) (kept : Kept) → AreOther cs
-    → replayed name revision_of n s cs (Some f) ≡ refused number g text kept → kept ≡ s.kept
+    → replayed name n s cs (Some f) ≡ refused number g text kept → kept ≡ s.kept
 kept_through name n s [] f number g text kept h e = let same : s.kept ≡ kept = cc e in sym same
-kept_through name n s (c ∷ cs) f number g text kept h e = by (step name revision_of s c) (kept_still name s c h.0) (λ t. kept_through name (n + 1) t cs f number g text kept h.1) e
+kept_through name n s (c ∷ cs) f number g text kept h e = by (step name s c) (kept_still name s c h.0) (λ t. kept_through name (n + 1) t cs f number g text kept h.1) e
   where
-    by : (r : Result State Fault) → IfOk r (HasKept name s) → ((t : State) → replayed name revision_of (n + 1) t cs (Some f) ≡ refused number g text kept → kept ≡ t.kept)
-        → elim r as (λ _. Outcome) [ Ok t ↦ replayed name revision_of (n + 1) t cs (Some f) | Err d ↦ refused (n + 1) d s.progress s.kept ] ≡ refused number g text kept → kept ≡ s.kept
+    by : (r : Result State Fault) → IfOk r (HasKept name s) → ((t : State) → replayed name (n + 1) t cs (Some f) ≡ refused number g text kept → kept ≡ t.kept)
+        → elim r as (λ _. Outcome) [ Ok t ↦ replayed name (n + 1) t cs (Some f) | Err d ↦ refused (n + 1) d s.progress s.kept ] ≡ refused number g text kept → kept ≡ s.kept
     by (Ok t) k rest e = rest t e ∙ k.kept
     by (Err d) k rest e = let same : s.kept ≡ kept = cc e in sym same

@@ -11,7 +11,6 @@ use Rattle.gx_model.specs.Objects.{IsNamer}
 use Rattle.gx_model.specs.Records.{named_map}
 use Rattle.gx_model.specs.Histories.{Records}
 use Rattle.gx_model.specs.HistoryOf.{commit_of_value, history_of, value_of_name}
-use Rattle.gx_model.specs.Revisions.{revision_of}
 use Rattle.gx_model.specs.Sound.{IsSound}
 use Rattle.gx_model.specs.RecordFaults.{is_held}
 use Rattle.gx_model.specs.Replay.{State, byte_cmp, own_commit, starting_files}
@@ -45,13 +44,13 @@ module _ (name : Kind → Bytes → Bytes) where
   parent_held namer r sound s e made n h = (first_held namer r sound made n (subst (λ z. AreBoth (IsCommitOf name z.values) made (Some n)) (sym e) h)).2.held
 
   pub parent_files : IsNamer name → (r : Records) → IsSound name r → (s : State) → history_of r ≡ s.history → (made : Option Commit) (n : Name) → AreBoth (IsCommitOf name s.history.values) made (Some n)
-      → files_of (commit_of_value (value_of_name r.records n.bytes)) ≡ starting_files name revision_of made
+      → files_of (commit_of_value (value_of_name r.records n.bytes)) ≡ starting_files made
   parent_files namer r sound s e made n h =
       let f = first_held namer r sound made n (subst (λ z. AreBoth (IsCommitOf name z.values) made (Some n)) (sym e) h) in
-      ap files_of f.2.same ∙ sym (ap (starting_files name revision_of) f.1)
+      ap files_of f.2.same ∙ sym (ap (starting_files) f.1)
 
 module _ (name : Kind → Bytes → Bytes) {A : Type 0} where
-  pub own_found : (values : List Value) (o : Option (Option Commit)) (tip : Tip A) → AreBoth (IsTip name values) o (Some tip) → AreBoth (IsCommitOf name values) (own_commit name revision_of o) tip.commit
+  pub own_found : (values : List Value) (o : Option (Option Commit)) (tip : Tip A) → AreBoth (IsTip name values) o (Some tip) → AreBoth (IsCommitOf name values) (own_commit o) tip.commit
   own_found values None tip h = absurd h
   own_found values (Some made) tip h = h.commit
 
@@ -90,7 +89,7 @@ module _ (name : Kind → Bytes → Bytes) {A : Type 0} where
 
   -- files that were at hand are those of the first parent
   pub taken_files : IsNamer name → (r : Records) → IsSound name r → (tables : Tables A) (s : State) → Stands name r tables s → (branch : Bytes) (n : Name) (files : NamedTree) → WereFiles (rows_of tables.branches) branch n files
-      → (made : Option Commit) → AreBoth (IsCommitOf name s.history.values) made (Some n) → files.files ≡ named_map name (starting_files name revision_of made)
+      → (made : Option Commit) → AreBoth (IsCommitOf name s.history.values) made (Some n) → files.files ≡ named_map name (starting_files made)
   taken_files namer r sound tables s h branch n files (tip, found, (at, of)) made first =
       let both = subst (AreBoth (IsTip name s.history.values) (lookup (same_bytes branch) s.branches)) found (related_found (IsTip name s.history.values) (same_bytes branch) s.branches (rows_of tables.branches) h.branches) in
       let t = at_tip s.history.values (lookup (same_bytes branch) s.branches) tip both n files at of in

@@ -16,7 +16,6 @@ use Rattle.gx_model.specs.Edits.{copied, modified, renamed}
 use Rattle.gx_model.specs.Values.{Value, blob_value, commit, commit_value, commits_of, tag_value}
 use Rattle.gx_model.specs.Commands as command
 use Rattle.gx_model.specs.Commands.{Asks, Blob, Change, Checkpoint, Clear, Command, CommitIsh, CommitParts, Copy, DataRef, Done, Inline, Mark, Modify, Object, OptionLine, Progress, Remove, Rename, Reset, TagParts}
-use Rattle.gx_model.specs.Revisions.{revision_of}
 use Rattle.gx_model.specs.Replay.{State, added, all_changed, all_committed, at, blob_bytes, changed, checkpointed, commit_alone, committed, committed_for, content, ended, final, finished, first_parent, is_fast_forward, marked, refused, replayed, report, starting_files, step, step_checkpoint, step_commit, step_reset, step_tag, text_made, with_first_parent}
 use Rattle.gx_text.specs.Devices.{FailedWithin, Sends, Taken, Took}
 use Rattle.gx_import.specs.Additions.{tag_made}
@@ -65,14 +64,14 @@ same_marked None v s t h = h
 same_marked (Some n) v s t h = record { progress = h.progress; held = h.held; kept = h.kept; published = h.published }
 
 module _ (name : Kind → Bytes → Bytes) where
-  same_content : (s : State) (m : Mode) (d : DataRef) → IfOk (content name revision_of s m d) (λ r. HasSame s r.0)
+  same_content : (s : State) (m : Mode) (d : DataRef) → IfOk (content name s m d) (λ r. HasSame s r.0)
   same_content s Gitlink (Object x) = same s
-  same_content s m (Mark n) = next_has (λ r. HasSame s r.0) (at s n) _ (λ v. next_has (λ r. HasSame s r.0) (blob_bytes name revision_of v) _ (λ x. same s))
-  same_content s m (Object x) = next_has (λ r. HasSame s r.0) (base_value name s.history x) _ (λ v. next_has (λ r. HasSame s r.0) (blob_bytes name revision_of v) _ (λ y. same s))
+  same_content s m (Mark n) = next_has (λ r. HasSame s r.0) (at s n) _ (λ v. next_has (λ r. HasSame s r.0) (blob_bytes v) _ (λ x. same s))
+  same_content s m (Object x) = next_has (λ r. HasSame s r.0) (base_value name s.history x) _ (λ v. next_has (λ r. HasSame s r.0) (blob_bytes v) _ (λ y. same s))
   same_content s m (Inline x) = record { progress = refl; held = refl; kept = refl; published = refl }
 
-  same_changed : (s : State) (f : FileMap Bytes) (c : Change) → IfOk (changed name revision_of s f c) (λ r. HasSame s r.0)
-  same_changed s f (Modify m d p) = then_has (λ r. HasSame s r.0) (λ r. HasSame s r.0) (content name revision_of s m d) _ (same_content s m d) (λ r h. next_has (λ q. HasSame s q.0) (modified f p (m, r.1)) _ (λ g. h))
+  same_changed : (s : State) (f : FileMap Bytes) (c : Change) → IfOk (changed name s f c) (λ r. HasSame s r.0)
+  same_changed s f (Modify m d p) = then_has (λ r. HasSame s r.0) (λ r. HasSame s r.0) (content name s m d) _ (same_content s m d) (λ r h. next_has (λ q. HasSame s q.0) (modified f p (m, r.1)) _ (λ g. h))
   same_changed s f (Remove p) = same s
   same_changed s f (Copy p q) = next_has (λ r. HasSame s r.0) (copied f p q) _ (λ g. same s)
   same_changed s f (Rename p q) = next_has (λ r. HasSame s r.0) (renamed f p q) _ (λ g. same s)
@@ -82,31 +81,31 @@ module _ (name : Kind → Bytes → Bytes) where
   then_same s t h (Ok q) k = record { progress = k.progress ∙ h.progress; held = k.held ∙ h.held; kept = k.kept ∙ h.kept; published = k.published ∙ h.published }
   then_same s t h (Err e) k = tt
 
-  same_all_changed : (s : State) (f : FileMap Bytes) (cs : List Change) → IfOk (all_changed name revision_of s f cs) (λ r. HasSame s r.0)
+  same_all_changed : (s : State) (f : FileMap Bytes) (cs : List Change) → IfOk (all_changed name s f cs) (λ r. HasSame s r.0)
   same_all_changed s f [] = same s
   same_all_changed s f (c ∷ cs) =
-      then_has (λ r. HasSame s r.0) (λ r. HasSame s r.0) (changed name revision_of s f c) (λ r. all_changed name revision_of r.0 r.1 cs) (same_changed s f c)
-      (λ r h. then_same s r.0 h (all_changed name revision_of r.0 r.1 cs) (same_all_changed r.0 r.1 cs))
+      then_has (λ r. HasSame s r.0) (λ r. HasSame s r.0) (changed name s f c) (λ r. all_changed name r.0 r.1 cs) (same_changed s f c)
+      (λ r h. then_same s r.0 h (all_changed name r.0 r.1 cs) (same_all_changed r.0 r.1 cs))
 
-  same_commit : (s : State) (c : CommitParts) → IfOk (step_commit name revision_of s c) (HasSame s)
+  same_commit : (s : State) (c : CommitParts) → IfOk (step_commit name s c) (HasSame s)
   same_commit s c =
-      next_has (HasSame s) (first_parent name revision_of s c) _ (λ first. next_has (HasSame s) (all_committed name revision_of c.ref s c.merges) _ (λ others.
-      then_has (λ r. HasSame s r.0) (HasSame s) (all_changed name revision_of s (starting_files name revision_of first) c.changes) _ (same_all_changed s (starting_files name revision_of first) c.changes)
+      next_has (HasSame s) (first_parent name s c) _ (λ first. next_has (HasSame s) (all_committed name c.ref s c.merges) _ (λ others.
+      then_has (λ r. HasSame s r.0) (HasSame s) (all_changed name s (starting_files first) c.changes) _ (same_all_changed s (starting_files first) c.changes)
       (λ r h.
-      let made = commit_value (commit r.1 (commits_of (with_first_parent name revision_of first others)) (text_made name revision_of c)) in
+      let made = commit_value (commit r.1 (commits_of (with_first_parent first others)) (text_made c)) in
       let m = same_marked c.mark made s (added made r.0) (record { progress = h.progress; held = h.held; kept = h.kept; published = h.published }) in
       record { progress = m.progress; held = m.held; kept = m.kept; published = m.published })))
 
-  same_tag : (s : State) (t : TagParts) → IfOk (step_tag name revision_of s t) (HasSame s)
+  same_tag : (s : State) (t : TagParts) → IfOk (step_tag name s t) (HasSame s)
   same_tag s t =
-      next_has (HasSame s) (committed name revision_of commit_alone s t.target) _ (λ c.
+      next_has (HasSame s) (committed name commit_alone s t.target) _ (λ c.
       let made = tag_value (tag_made c t) in
       let m = same_marked t.mark made s (added made s) (record { progress = refl; held = refl; kept = refl; published = refl }) in
       record { progress = m.progress; held = m.held; kept = m.kept; published = m.published })
 
-  same_reset : (s : State) (b : Bytes) (x : Option CommitIsh) → IfOk (step_reset name revision_of s b x) (HasSame s)
+  same_reset : (s : State) (b : Bytes) (x : Option CommitIsh) → IfOk (step_reset name s b x) (HasSame s)
   same_reset s b None = record { progress = refl; held = refl; kept = refl; published = refl }
-  same_reset s b (Some x) = next_has (HasSame s) (committed_for name revision_of b s x) _ (λ c. record { progress = refl; held = refl; kept = refl; published = refl })
+  same_reset s b (Some x) = next_has (HasSame s) (committed_for name b s x) _ (λ c. record { progress = refl; held = refl; kept = refl; published = refl })
 
   same_blob : (s : State) (m : Option ℕ) (x : Bytes) → HasSame s (marked m (blob_value x) (added (blob_value x) s))
   same_blob s m x = same_marked m (blob_value x) s (added (blob_value x) s) (record { progress = refl; held = refl; kept = refl; published = refl })
@@ -122,11 +121,11 @@ module _ (name : Kind → Bytes → Bytes) where
       by true = record { text = []; progress = sym (append-nil s.progress); held = refl }
       by false = tt
 
-  pub more_progress : (s : State) (c : Command) → IfOk (step name revision_of s c) (HasMore s)
+  pub more_progress : (s : State) (c : Command) → IfOk (step name s c) (HasMore s)
   more_progress s (Blob b) = no_more s _ (same_blob s b.mark b.bytes)
-  more_progress s (command.Commit c) = all_more s (step_commit name revision_of s c) (same_commit s c)
-  more_progress s (command.Tag t) = all_more s (step_tag name revision_of s t) (same_tag s t)
-  more_progress s (Reset r) = all_more s (step_reset name revision_of s r.ref r.parent) (same_reset s r.ref r.parent)
+  more_progress s (command.Commit c) = all_more s (step_commit name s c) (same_commit s c)
+  more_progress s (command.Tag t) = all_more s (step_tag name s t) (same_tag s t)
+  more_progress s (Reset r) = all_more s (step_reset name s r.ref r.parent) (same_reset s r.ref r.parent)
   more_progress s (Progress x) = record { text = codes "progress " ++ x ++ 10 ∷ []; progress = ap (λ z. z ++ 10 ∷ []) (append_assoc s.progress (codes "progress ") x) ∙ append_assoc s.progress (codes "progress " ++ x) (10 ∷ []); held = refl }
   more_progress s (Asks features.Force) = record { text = []; progress = sym (append-nil s.progress); held = refl }
   more_progress s (Asks features.Done) = no_more s s (same s)
@@ -146,11 +145,11 @@ module _ (name : Kind → Bytes → Bytes) where
   all_kept s (Ok t) h = record { kept = h.kept; published = h.published }
   all_kept s (Err e) h = tt
 
-  pub kept_still : (s : State) (c : Command) → IsOther c → IfOk (step name revision_of s c) (HasKept s)
+  pub kept_still : (s : State) (c : Command) → IsOther c → IfOk (step name s c) (HasKept s)
   kept_still s (Blob b) o = let h = same_blob s b.mark b.bytes in record { kept = h.kept; published = h.published }
-  kept_still s (command.Commit c) o = all_kept s (step_commit name revision_of s c) (same_commit s c)
-  kept_still s (command.Tag t) o = all_kept s (step_tag name revision_of s t) (same_tag s t)
-  kept_still s (Reset r) o = all_kept s (step_reset name revision_of s r.ref r.parent) (same_reset s r.ref r.parent)
+  kept_still s (command.Commit c) o = all_kept s (step_commit name s c) (same_commit s c)
+  kept_still s (command.Tag t) o = all_kept s (step_tag name s t) (same_tag s t)
+  kept_still s (Reset r) o = all_kept s (step_reset name s r.ref r.parent) (same_reset s r.ref r.parent)
   kept_still s (Progress x) o = record { kept = refl; published = refl }
   kept_still s (Asks features.Force) o = record { kept = refl; published = refl }
   kept_still s (Asks features.Done) o = record { kept = refl; published = refl }
@@ -167,10 +166,10 @@ module _ (name : Kind → Bytes → Bytes) where
   last_progress n s None = elim (is_fast_forward s) as (λ b. progress_of (cond b (finished (final s) s.progress (report n s)) (refused (n + 1) fault.NotFastForward s.progress s.kept)) ≡ s.progress) [ true ↦ refl | false ↦ refl ]
 
   -- the outcome's progress begins with that of each state on the way
-  pub begins_outcome : (n : ℕ) (s : State) (cs : List Command) (end : Option Fault) → (rest : Bytes) × (progress_of (replayed name revision_of n s cs end) ≡ s.progress ++ rest)
+  pub begins_outcome : (n : ℕ) (s : State) (cs : List Command) (end : Option Fault) → (rest : Bytes) × (progress_of (replayed name n s cs end) ≡ s.progress ++ rest)
   begins_outcome n s [] end = ([], last_progress n s end ∙ sym (append-nil s.progress))
   begins_outcome n s (c ∷ cs) end =
-      elim (step name revision_of s c) as (λ r. IfOk r (HasMore s) → (rest : Bytes) × (progress_of (elim r [ Ok t ↦ replayed name revision_of (n + 1) t cs end | Err e ↦ refused (n + 1) e s.progress s.kept ]) ≡ s.progress ++ rest)) [
+      elim (step name s c) as (λ r. IfOk r (HasMore s) → (rest : Bytes) × (progress_of (elim r [ Ok t ↦ replayed name (n + 1) t cs end | Err e ↦ refused (n + 1) e s.progress s.kept ]) ≡ s.progress ++ rest)) [
         | Ok t ↦ λ h.
             let k = begins_outcome (n + 1) t cs end in
             (h.text ++ k.0, k.1 ∙ ap (λ x. x ++ k.0) h.progress ∙ append_assoc s.progress h.text k.0)
@@ -182,10 +181,10 @@ module _ (name : Kind → Bytes → Bytes) where
   last_end n s None = elim (is_fast_forward s) as (λ b. n + 1 ≤ last_number (cond b (finished (final s) s.progress (report n s)) (refused (n + 1) fault.NotFastForward s.progress s.kept))) [ true ↦ omega arith | false ↦ omega arith ]
 
   -- its number is that of a command that comes, or more
-  pub numbers_outcome : (n : ℕ) (s : State) (cs : List Command) (end : Option Fault) → n + 1 ≤ last_number (replayed name revision_of n s cs end)
+  pub numbers_outcome : (n : ℕ) (s : State) (cs : List Command) (end : Option Fault) → n + 1 ≤ last_number (replayed name n s cs end)
   numbers_outcome n s [] end = last_end n s end
   numbers_outcome n s (c ∷ cs) end =
-      elim (step name revision_of s c) as (λ r. n + 1 ≤ last_number (elim r [ Ok t ↦ replayed name revision_of (n + 1) t cs end | Err e ↦ refused (n + 1) e s.progress s.kept ])) [
+      elim (step name s c) as (λ r. n + 1 ≤ last_number (elim r [ Ok t ↦ replayed name (n + 1) t cs end | Err e ↦ refused (n + 1) e s.progress s.kept ])) [
         | Ok t ↦ let k = numbers_outcome (n + 1) t cs end in omega (arith, k)
         | Err e ↦ omega arith
       ]

@@ -9,7 +9,6 @@ use Rattle.gx_model.specs.Histories.{Record, Records, record_of}
 use Rattle.gx_model.specs.HistoryOf.{history_of}
 use Rattle.gx_model.specs.Commands.{Commands}
 use Rattle.gx_model.specs.RepositoryLaws.{HistoriesOf}
-use Rattle.gx_model.specs.Revisions.{revision_of}
 use Rattle.gx_model.specs.Replay as model
 use Rattle.gx_model.specs.Replay.{Outcome, State, final, finished, imported, is_fast_forward, overwritten, refused, replayed_commands, report}
 use Rattle.gx_model.specs.Sound.{IsSound}
@@ -33,7 +32,7 @@ counted name law r sound = ap length (law.stands r sound).records ∙ length-map
 module _ (name : Kind → Bytes → Bytes) where
   forward : (old new : Records) (commands : Commands) (n : ℕ) (s : State) (was now : Option Taken) → IsLast name old commands n s was now → (objects count : ℕ) → is_fast_forward s ≡ true → history_of new ≡ final s
       → count ≡ length (overwritten s s.published) → objects ≡ length s.history.values - s.held
-      → Replays name old new commands (replayed_commands name revision_of (history_of old) commands) was now (Ok (record { commands = n; objects = objects; refs = count }))
+      → Replays name old new commands (replayed_commands name (history_of old) commands) was now (Ok (record { commands = n; objects = objects; refs = count }))
   forward old new commands n s was now k objects count is made counts adds = (
     s.progress,
     k.outcome
@@ -46,13 +45,13 @@ module _ (name : Kind → Bytes → Bytes) where
 
   backward : (old new : Records) (commands : Commands) (n : ℕ) (s : State) (was now : Option Taken) → IsLast name old commands n s was now → is_fast_forward s ≡ false
       → (count : ℕ) → Leaves new count s.kept
-      → Replays name old new commands (replayed_commands name revision_of (history_of old) commands) was now (Err (record { command = n + 1; kind = NotFastForward; checkpoints = count }))
+      → Replays name old new commands (replayed_commands name (history_of old) commands) was now (Err (record { command = n + 1; kind = NotFastForward; checkpoints = count }))
   backward old new commands n s was now k is count leaves =
       inl (s.progress, s.kept, k.outcome ∙ ap (λ b. cond b (finished (final s) s.progress (report n s)) (refused (n + 1) fault.NotFastForward s.progress s.kept)) is, k.progress, leaves)
 
   no_memory : (old new : Records) (commands : Commands) (n : ℕ) (s : State) (was now : Option Taken) → IsLast name old commands n s was now
       → (count : ℕ) → Leaves new count s.kept
-      → Replays name old new commands (replayed_commands name revision_of (history_of old) commands) was now (Err (record { command = n + 1; kind = OutOfMemory; checkpoints = count }))
+      → Replays name old new commands (replayed_commands name (history_of old) commands) was now (Err (record { command = n + 1; kind = OutOfMemory; checkpoints = count }))
   no_memory old new commands n s was now k count leaves =
       let b = begins_outcome name n s [] None in
       inr (
@@ -63,7 +62,7 @@ module _ (name : Kind → Bytes → Bytes) where
       )
 
   not_published : (old new mid last : Records) (commands : Commands) (n : ℕ) (s : State) (was now : Option Taken) → IsLast name old commands n s was now → (count : ℕ) → Leaves new count s.kept → (e : ImportKind)
-      → Publishes s mid last (Err e) → Replays name old new commands (replayed_commands name revision_of (history_of old) commands) was now (Err (record { command = n + 1; kind = e; checkpoints = count }))
+      → Publishes s mid last (Err e) → Replays name old new commands (replayed_commands name (history_of old) commands) was now (Err (record { command = n + 1; kind = e; checkpoints = count }))
   not_published old new mid last commands n s was now k count leaves OutOfMemory h = no_memory old new commands n s was now k count leaves
   not_published old new mid last commands n s was now k count leaves ReadFailed h = absurd h
   not_published old new mid last commands n s was now k count leaves WriteFailed h = absurd h

@@ -13,7 +13,6 @@ use Rattle.gx_model.specs.Gitlinks.{BringsNoNullGitlink, HoldsNoNullGitlink}
 use Rattle.gx_model.specs.Histories.{History, Record, Records}
 use Rattle.gx_model.specs.HistoryOf.{history_of}
 use Rattle.gx_model.specs.Commands.{Command, Commands, Progress}
-use Rattle.gx_model.specs.Revisions.{revision_of}
 use Rattle.gx_model.specs.Replay.{Outcome, State, byte_cmp, imported, refused, replayed, replayed_commands, start, step}
 use Rattle.gx_model.proofs.GitlinkSteps.{IsFreeState, step_free}
 use Rattle.gx_text.specs.Devices.{Coming, FailedWithin, Taken, Took, TookFront}
@@ -69,13 +68,13 @@ behind_next before c left = ap (λ l. record { list = l; fault = left.fault }) (
 
 module _ (name : Kind → Bytes → Bytes) where
   -- the outcome of an import is that of its commands
-  pub imported_is : (h : History) (c : Coming) → imported name h (heard c).bytes (heard c).fails ≡ replayed_commands name revision_of h (commands_from c)
+  pub imported_is : (h : History) (c : Coming) → imported name h (heard c).bytes (heard c).fails ≡ replayed_commands name h (commands_from c)
   unfolding imported
   imported_is h c = refl
 
   -- these commands, n in number, were replayed to this state, and the sink has the progress text
   pub record HasReached (h : History) (before : List Command) (n : ℕ) (s : State) (was now : Option Taken) : Type 0 where
-    pub outcome : (left : Commands) → replayed_commands name revision_of h (behind before left) ≡ replayed name revision_of n s left.list left.fault
+    pub outcome : (left : Commands) → replayed_commands name h (behind before left) ≡ replayed name n s left.list left.fault
     pub clashes : (left : List Command) (number : ℕ) → ClashesAt name n s left number → ClashesAt name 0 (start h) (before ++ left) number
     pub count : length before ≡ n
     pub progress : Took was now s.progress
@@ -86,10 +85,10 @@ module _ (name : Kind → Bytes → Bytes) where
 
   -- the state after one command more
   reached_next : (h : History) (before : List Command) (n : ℕ) (s : State) (c : Command) (was mid now : Option Taken) → HasReached h before n s was mid
-      → (t : State) (text : Bytes) → step name revision_of s c ≡ Ok t → t.progress ≡ s.progress ++ text → t.held ≡ s.held → Took mid now text → HasReached h (before ++ c ∷ []) (n + 1) t was now
+      → (t : State) (text : Bytes) → step name s c ≡ Ok t → t.progress ≡ s.progress ++ text → t.held ≡ s.held → Took mid now text → HasReached h (before ++ c ∷ []) (n + 1) t was now
   reached_next h before n s c was mid now k t text e p held took = record {
-    outcome = λ left. ap (replayed_commands name revision_of h) (behind_next before c left) ∙ k.outcome (with_first c left)
-        ∙ ap (λ r. elim r as (λ _. Outcome) [ Ok u ↦ replayed name revision_of (n + 1) u left.list left.fault | Err f ↦ refused (n + 1) f s.progress s.kept ]) e;
+    outcome = λ left. ap (replayed_commands name h) (behind_next before c left) ∙ k.outcome (with_first c left)
+        ∙ ap (λ r. elim r as (λ _. Outcome) [ Ok u ↦ replayed name (n + 1) u left.list left.fault | Err f ↦ refused (n + 1) f s.progress s.kept ]) e;
     clashes = λ left number i.
         let next = subst (λ r. elim r as (λ _. Type 0) [ Ok u ↦ ClashesAt name (n + 1) u left number | Err f ↦ ⊥ ]) (sym e) i in
         subst (λ l. ClashesAt name 0 (start h) l number) (sym (append_assoc before (c ∷ []) left)) (k.clashes (c ∷ left) number (inr next));
@@ -138,23 +137,23 @@ module _ (name : Kind → Bytes → Bytes) where
     -- what is left is the reader's fault
     fault_read : (left : Commands) (f : CommandFault) → left ≡ stops (Some (command.fault_of f)) → Stops left mid (of_command f)
     fault_read left f e =
-        inl (s.progress, s.kept, k.outcome left ∙ ap (λ l. replayed name revision_of n s l.list l.fault) e ∙ ap (λ g. refused (n + 1) g s.progress s.kept) (sym (same_fault f)), k.progress, leaves)
+        inl (s.progress, s.kept, k.outcome left ∙ ap (λ l. replayed name n s l.list l.fault) e ∙ ap (λ g. refused (n + 1) g s.progress s.kept) (sym (same_fault f)), k.progress, leaves)
 
     module _ (c : Command) (left : Commands) (now : Option Taken) where
       -- the step that is refused ends the outcome
-      refused_here : (f : Fault) → step name revision_of s c ≡ Err f → replayed_on name old (behind before (with_first c left)) ≡ refused (n + 1) f s.progress s.kept
-      refused_here f e = k.outcome (with_first c left) ∙ ap (λ r. elim r as (λ _. Outcome) [ Ok u ↦ replayed name revision_of (n + 1) u left.list left.fault | Err g ↦ refused (n + 1) g s.progress s.kept ]) e
+      refused_here : (f : Fault) → step name s c ≡ Err f → replayed_on name old (behind before (with_first c left)) ≡ refused (n + 1) f s.progress s.kept
+      refused_here f e = k.outcome (with_first c left) ∙ ap (λ r. elim r as (λ _. Outcome) [ Ok u ↦ replayed name (n + 1) u left.list left.fault | Err g ↦ refused (n + 1) g s.progress s.kept ]) e
 
       -- and the sink is as it was
-      refused_as : (e : ImportKind) → (step name revision_of s c ≡ Err (fault_of e)) × (now ≡ mid) → Stops (with_first c left) now e
+      refused_as : (e : ImportKind) → (step name s c ≡ Err (fault_of e)) × (now ≡ mid) → Stops (with_first c left) now e
       refused_as e h = inl (s.progress, s.kept, refused_here (fault_of e) h.0, subst (λ m. Took was m s.progress) (sym h.1) k.progress, leaves)
 
       -- the sink failed within the text of a step
-      failed_here : (t : State) (text : Bytes) → step name revision_of s c ≡ Ok t → t.progress ≡ s.progress ++ text → FailedWithin mid now text
+      failed_here : (t : State) (text : Bytes) → step name s c ≡ Ok t → t.progress ≡ s.progress ++ text → FailedWithin mid now text
           → FailedWithin was now (progress_of (replayed_on name old (behind before (with_first c left))))
       failed_here t text e p failed =
           let b = begins_outcome name (n + 1) t left.list left.fault in
-          let o = k.outcome (with_first c left) ∙ ap (λ r. elim r as (λ _. Outcome) [ Ok u ↦ replayed name revision_of (n + 1) u left.list left.fault | Err f ↦ refused (n + 1) f s.progress s.kept ]) e in
+          let o = k.outcome (with_first c left) ∙ ap (λ r. elim r as (λ _. Outcome) [ Ok u ↦ replayed name (n + 1) u left.list left.fault | Err f ↦ refused (n + 1) f s.progress s.kept ]) e in
           let whole = ap progress_of o ∙ b.1 ∙ ap (λ x. x ++ b.0) p in
           subst (FailedWithin was now) (sym whole) (failed_sooner was now (s.progress ++ text) b.0 (failed_later was mid now s.progress text k.progress failed))
 
@@ -219,7 +218,7 @@ module _ (name : Kind → Bytes → Bytes) where
 
   pub at_next : {A : Type 0} (old r new : Records) (tables : Tables A) (coming : Option Coming) (n : ℕ) (s : State) (c : read.Command A) (ahead later : Option Commands) (was mid now : Option Taken)
       → IsAt old coming n s ahead was mid → Reads ahead later (Ok (Some c)) → Applies name r new tables s (shown_command c) mid now (Ok tt)
-      → (t : State) × (step name revision_of s (shown_command c) ≡ Ok t) × Stands name new tables t × IsAt old coming (n + 1) t later was now
+      → (t : State) × (step name s (shown_command c) ≡ Ok t) × Stands name new tables t × IsAt old coming (n + 1) t later was now
   at_next old r new tables None n s c ahead later was mid now k reads h =
       (h.0, h.2, h.3, (k.0 ++ shown_command c ∷ [], reached_next name (history_of old) k.0 n s (shown_command c) was mid now k.1 h.0 h.1 h.2 h.4.progress h.4.held h.5))
   at_next {A} old r new tables (Some coming) n s c ahead later was mid now k reads h =
@@ -290,8 +289,8 @@ stand_empty name {A} r tables h = record {
 }
 
 -- a step keeps a state without gitlinks of forty zeros
-pub step_keeps : (name : Kind → Bytes → Bytes) (s t : State) (c : Command) → step name revision_of s c ≡ Ok t → IsFreeState s → BringsNoNullGitlink c → IsFreeState t
-step_keeps name s t c e free brings = subst (λ r. IfOk r IsFreeState) e (step_free name revision_of s c free brings)
+pub step_keeps : (name : Kind → Bytes → Bytes) (s t : State) (c : Command) → step name s c ≡ Ok t → IsFreeState s → BringsNoNullGitlink c → IsFreeState t
+step_keeps name s t c e free brings = subst (λ r. IfOk r IsFreeState) e (step_free name s c free brings)
 
 -- which values a history has hangs on the records alone
 pub same_records_keep : (r s : Records) → s.records ≡ r.records → HoldsNoNullGitlink (history_of r) → HoldsNoNullGitlink (history_of s)

@@ -195,13 +195,13 @@ module _ (name : Kind → Bytes → Bytes) where
   mark_answers None = tt
   mark_answers (Some v) = tt
 
-  branch_answers : (o : Option (Option Commit)) (given : Result Commit Fault) → IsAnswer given → IsAnswer (or_branch name revision_of o given)
+  branch_answers : (o : Option (Option Commit)) (given : Result Commit Fault) → IsAnswer given → IsAnswer (or_branch o given)
   branch_answers None given h = h
   branch_answers (Some None) given h = tt
   branch_answers (Some (Some c)) given h = tt
 
   -- a commit-ish
-  pub committed_answers : (kind : Value → Result Commit Fault) → ((v : Value) → IsAnswer (kind v)) → (s : State) (x : CommitIsh) → IsAnswer (committed name revision_of kind s x)
+  pub committed_answers : (kind : Value → Result Commit Fault) → ((v : Value) → IsAnswer (kind v)) → (s : State) (x : CommitIsh) → IsAnswer (committed name kind s x)
   committed_answers kind k s (Marked n) = then_answers (at s n) kind (mark_answers (lookup (nat_eq n) s.marks)) k
   committed_answers kind k s (Named x) = branch_answers (lookup (same_bytes x) s.branches) _ (then_answers (and_then (revision_of x) (λ r. value_denoted name s.history r)) kind (revision_value_answers s x) k)
 
@@ -212,22 +212,22 @@ module _ (name : Kind → Bytes → Bytes) where
   alone_answers (tag_value t) = tt
 
   -- the commit of a tag
-  pub target_answers : (s : State) (x : CommitIsh) → IsAnswer (committed name revision_of commit_alone s x)
+  pub target_answers : (s : State) (x : CommitIsh) → IsAnswer (committed name commit_alone s x)
   target_answers s x = committed_answers commit_alone alone_answers s x
 
   -- a parent
-  pub parent_is_answer : (b : Bytes) (s : State) (x : CommitIsh) → IsAnswer (committed_for name revision_of b s x)
-  parent_is_answer b s x = elim (is_itself name revision_of b x) as (λ t. IsAnswer (cond t (Err fault.FromItself) (committed name revision_of commit_in s x))) [ true ↦ tt | false ↦ committed_answers commit_in peeled_answers s x ]
+  pub parent_is_answer : (b : Bytes) (s : State) (x : CommitIsh) → IsAnswer (committed_for name b s x)
+  parent_is_answer b s x = elim (is_itself b x) as (λ t. IsAnswer (cond t (Err fault.FromItself) (committed name commit_in s x))) [ true ↦ tt | false ↦ committed_answers commit_in peeled_answers s x ]
 
   -- all that are merged
-  pub merged_answer : (b : Bytes) (s : State) (xs : List CommitIsh) → IsAnswer (all_committed name revision_of b s xs)
+  pub merged_answer : (b : Bytes) (s : State) (xs : List CommitIsh) → IsAnswer (all_committed name b s xs)
   merged_answer b s [] = tt
-  merged_answer b s (x ∷ xs) = then_answers (committed_for name revision_of b s x) _ (parent_is_answer b s x) (λ c. then_answers (all_committed name revision_of b s xs) _ (merged_answer b s xs) (λ cs. tt))
+  merged_answer b s (x ∷ xs) = then_answers (committed_for name b s x) _ (parent_is_answer b s x) (λ c. then_answers (all_committed name b s xs) _ (merged_answer b s xs) (λ cs. tt))
 
   -- and the first
-  pub first_answers : (s : State) (c : CommitParts) → IsAnswer (first_parent name revision_of s c)
+  pub first_answers : (s : State) (c : CommitParts) → IsAnswer (first_parent name s c)
   first_answers s c = by c.parent
     where
-      by : (o : Option CommitIsh) → IsAnswer (elim o [ None ↦ Ok (elim (lookup (same_bytes c.ref) s.branches) [ Some d ↦ d | None ↦ None ]) | Some x ↦ and_then (committed_for name revision_of c.ref s x) (λ p. Ok (Some p)) ])
+      by : (o : Option CommitIsh) → IsAnswer (elim o [ None ↦ Ok (elim (lookup (same_bytes c.ref) s.branches) [ Some d ↦ d | None ↦ None ]) | Some x ↦ and_then (committed_for name c.ref s x) (λ p. Ok (Some p)) ])
       by None = tt
-      by (Some x) = then_answers (committed_for name revision_of c.ref s x) _ (parent_is_answer c.ref s x) (λ p. tt)
+      by (Some x) = then_answers (committed_for name c.ref s x) _ (parent_is_answer c.ref s x) (λ p. tt)

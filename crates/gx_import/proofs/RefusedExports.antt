@@ -5,7 +5,6 @@ use Rattle.gx_model.specs.declared.objects.Kind.{Kind}
 use Rattle.gx_model.specs.Texts.{Bytes}
 use Rattle.gx_model.specs.Histories.{Records}
 use Rattle.gx_model.specs.HistoryOf.{history_of}
-use Rattle.gx_model.specs.Revisions.{revision_of}
 use Rattle.gx_model.specs.Replay.{Kept, refused, imported, replayed_commands, replayed_text, start}
 use Rattle.gx_model.specs.Export.{export_text}
 use Rattle.gx_model.specs.Gitlinks.{NullGitlinksAreRefused}
@@ -77,9 +76,9 @@ module _ (name : Kind → Bytes → Bytes) where
   null_refused histories nulls old new (Some coming) was now result h = λ exported sound links gives empty.
       let text = export_text (history_of exported) in
       let room = heard_short (2 ^ 63 - 1) coming text gives in
-      let q = nulls name revision_of (history_of exported) (histories.stands exported sound).history links (omega (arith, room)) in
-      let same : imported name (history_of old) (heard coming).bytes (heard coming).fails ≡ replayed_commands name revision_of (history_of nothing) (commands_from coming) =
-      imported_is name (history_of old) coming ∙ ap (λ r. replayed_commands name revision_of (history_of r) (commands_from coming)) empty in
-      let known : replayed_commands name revision_of (history_of nothing) (commands_from coming) ≡ refused q.0 model.Unsupported [] (start (history_of nothing)).kept =
-      (λ i. replayed_text name revision_of (history_of nothing) (gives i).bytes (gives i).fails) ∙ q.1 in
+      let q = nulls name (history_of exported) (histories.stands exported sound).history links (omega (arith, room)) in
+      let same : imported name (history_of old) (heard coming).bytes (heard coming).fails ≡ replayed_commands name (history_of nothing) (commands_from coming) =
+      imported_is name (history_of old) coming ∙ ap (λ r. replayed_commands name (history_of r) (commands_from coming)) empty in
+      let known : replayed_commands name (history_of nothing) (commands_from coming) ≡ refused q.0 model.Unsupported [] (start (history_of nothing)).kept =
+      (λ i. replayed_text name (history_of nothing) (gives i).bytes (gives i).fails) ∙ q.1 in
       answered old new coming was now q.0 (start (history_of nothing)).kept result (same ∙ known) h

@@ -6,7 +6,6 @@ use Rattle.gx_model.specs.Faults.{and_then}
 use Rattle.gx_model.specs.Texts.{Bytes}
 use Rattle.gx_model.specs.Values.{Commit}
 use Rattle.gx_model.specs.Commands.{CommitIsh}
-use Rattle.gx_model.specs.Revisions.{revision_of}
 use Rattle.gx_model.specs.Replay.{State, committed_for, on_branch, step_reset}
 use Rattle.gx_import.specs.Steps.{optional_commit}
 
@@ -14,6 +13,6 @@ then_some : {X : Type 0} (r : Result Commit Fault) (f : Option Commit → Result
 then_some (Ok c) f = refl
 then_some (Err e) f = refl
 
-pub reset_by : (name : Kind → Bytes → Bytes) (s : State) (branch : Bytes) (named : Option CommitIsh) → step_reset name revision_of s branch named ≡ and_then (optional_commit name s branch named) (λ c. Ok (on_branch branch c s))
+pub reset_by : (name : Kind → Bytes → Bytes) (s : State) (branch : Bytes) (named : Option CommitIsh) → step_reset name s branch named ≡ and_then (optional_commit name s branch named) (λ c. Ok (on_branch branch c s))
 reset_by name s branch None = refl
-reset_by name s branch (Some x) = then_some (committed_for name revision_of branch s x) (λ c. Ok (on_branch branch c s))
+reset_by name s branch (Some x) = then_some (committed_for name branch s x) (λ c. Ok (on_branch branch c s))

@@ -10,7 +10,6 @@ use Rattle.gx_model.specs.Histories.{with_one}
 use Rattle.gx_model.specs.Growth.{all_trees, with_values}
 use Rattle.gx_model.specs.Commands as command
 use Rattle.gx_model.specs.Commands.{Asks, Blob, Change, Checkpoint, Command, CommitParts, DataRef, Done, Inline, Modify, OptionLine, Progress, Reset, TagParts}
-use Rattle.gx_model.specs.Revisions.{revision_of}
 use Rattle.gx_model.specs.Replay.{State, all_changed, all_committed, changed, commit_alone, committed, first_parent, starting_files, step, text_made, with_first_parent}
 
 -- the blob that a file's content adds
@@ -44,25 +43,25 @@ module _ (name : Kind → Bytes → Bytes) where
   -- the blobs that changes add, up to the first that is refused
   abbrev pub blobs_added : State → FileMap Bytes → List Change → List Value
   blobs_added s files [] = []
-  blobs_added s files (c ∷ cs) = blob_added c ++ unless_refused (λ r. blobs_added r.0 r.1 cs) (changed name revision_of s files c)
+  blobs_added s files (c ∷ cs) = blob_added c ++ unless_refused (λ r. blobs_added r.0 r.1 cs) (changed name s files c)
 
   -- the commit that a command makes of these parents and files
   abbrev pub commit_made : CommitParts → Option Commit → List Commit → FileMap Bytes → Commit
-  commit_made c first others files = commit files (commits_of (with_first_parent name revision_of first others)) (text_made name revision_of c)
+  commit_made c first others files = commit files (commits_of (with_first_parent first others)) (text_made c)
 
   -- its blobs, its trees and itself
   abbrev pub values_made : State → CommitParts → Option Commit → List Commit → List Value
   values_made s c first others =
-      blobs_added s (starting_files name revision_of first) c.changes
-      ++ unless_refused (λ r. commit_added r.1 (commit_made c first others r.1)) (all_changed name revision_of s (starting_files name revision_of first) c.changes)
+      blobs_added s (starting_files first) c.changes
+      ++ unless_refused (λ r. commit_added r.1 (commit_made c first others r.1)) (all_changed name s (starting_files first) c.changes)
 
   -- what a commit command adds
   abbrev pub added_by_commit : State → CommitParts → List Value
-  added_by_commit s c = unless_refused (λ first. unless_refused (values_made s c first) (all_committed name revision_of c.ref s c.merges)) (first_parent name revision_of s c)
+  added_by_commit s c = unless_refused (λ first. unless_refused (values_made s c first) (all_committed name c.ref s c.merges)) (first_parent name s c)
 
   -- what a tag command adds
   abbrev pub added_by_tag : State → TagParts → List Value
-  added_by_tag s t = unless_refused (λ c. tag_value (tag_made c t) ∷ []) (committed name revision_of commit_alone s t.target)
+  added_by_tag s t = unless_refused (λ c. tag_value (tag_made c t) ∷ []) (committed name commit_alone s t.target)
 
   -- what a command adds
   abbrev pub values_added : State → Command → List Value
@@ -85,4 +84,4 @@ module _ (name : Kind → Bytes → Bytes) where
   ClashesAt n s [] number = ⊥
   ClashesAt n s (c ∷ cs) number =
       ((number ≡ n + 1) × Clash s.history.values (values_added s c))
-      ⊎ elim (step name revision_of s c) [ Ok t ↦ ClashesAt (n + 1) t cs number | Err e ↦ ⊥ ]
+      ⊎ elim (step name s c) [ Ok t ↦ ClashesAt (n + 1) t cs number | Err e ↦ ⊥ ]

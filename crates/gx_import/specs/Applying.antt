@@ -5,7 +5,6 @@ use Rattle.gx_model.specs.declared.objects.Kind.{Kind}
 use Rattle.gx_model.specs.Texts.{Bytes}
 use Rattle.gx_model.specs.Histories.{Records}
 use Rattle.gx_model.specs.Commands.{Command, Progress}
-use Rattle.gx_model.specs.Revisions.{revision_of}
 use Rattle.gx_model.specs.Replay.{State, step}
 use Rattle.gx_text.specs.Devices.{FailedWithin, Taken, Took}
 use Rattle.gx_import.specs.Additions.{Clash, values_added}
@@ -25,10 +24,10 @@ module _ (name : Kind → Bytes → Bytes) {A : Type 0} where
   -- A command that is applied is the model's step, and the sink has its progress text. Otherwise the sink failed within the
   -- line of a progress, or it is as it was, and the step is refused so, a value that it adds clashes, or memory ran out.
   abbrev pub Applies : Records → Records → Tables A → State → Command → Option Taken → Option Taken → Result (Unit {0}) ImportKind → Type 0
-  Applies old new tables s c was now (Ok _) = (t : State) × (text : Bytes) × (step name revision_of s c ≡ Ok t) × Stands name new tables t × IsProgress s t text × Took was now text
+  Applies old new tables s c was now (Ok _) = (t : State) × (text : Bytes) × (step name s c ≡ Ok t) × Stands name new tables t × IsProgress s t text × Took was now text
   Applies old new tables s c was now (Err OutOfMemory) = now ≡ was
-  Applies old new tables s c was now (Err NameHeld) = ((step name revision_of s c ≡ Err (fault_of NameHeld)) ⊎ Clash name s.history.values (values_added name s c)) × (now ≡ was)
+  Applies old new tables s c was now (Err NameHeld) = ((step name s c ≡ Err (fault_of NameHeld)) ⊎ Clash name s.history.values (values_added name s c)) × (now ≡ was)
   Applies old new tables s c was now (Err WriteFailed) =
-      ((step name revision_of s c ≡ Err (fault_of WriteFailed)) × (now ≡ was))
-      ⊎ ((t : State) × (text : Bytes) × (c ≡ Progress text) × (step name revision_of s c ≡ Ok t) × IsProgress s t (line_of text) × FailedWithin was now (line_of text))
-  Applies old new tables s c was now (Err e) = (step name revision_of s c ≡ Err (fault_of e)) × (now ≡ was)
+      ((step name s c ≡ Err (fault_of WriteFailed)) × (now ≡ was))
+      ⊎ ((t : State) × (text : Bytes) × (c ≡ Progress text) × (step name s c ≡ Ok t) × IsProgress s t (line_of text) × FailedWithin was now (line_of text))
+  Applies old new tables s c was now (Err e) = (step name s c ≡ Err (fault_of e)) × (now ≡ was)

@@ -50,7 +50,7 @@ use Rattle.gx_import.specs.declared.tables.Tables.{Tables}
 
 -- the commit that a command makes with these files and parents
 abbrev pub commit_of : (Kind → Bytes → Bytes) → CommitParts → FileMap Bytes → List Commit → Commit
-commit_of name parts files parents = commit files (commits_of parents) (text_made name revision_of parts)
+commit_of name parts files parents = commit files (commits_of parents) (text_made parts)
 
 -- where a call is accepted, the files at hand stay at home
 abbrev pub KeepsTipsAtHome : {A X : Type 0} → Tables A → Tables A → Result X ImportKind → Type 0
@@ -76,7 +76,7 @@ module _ {N : Type 0} (names : N → Kind → Bytes → Bytes) where
   -- the content of a file that is held, by its name
   abbrev pub NamesContent : Repository N → Mode → DataRef → Result Name ImportKind → Type 0
   NamesContent repository mode given answer =
-      (s : State) → history_of repository.1 ≡ s.history → GivesAs (λ made called. IsContentName (names repository.0) s made mode called) answer (content (names repository.0) revision_of s mode given)
+      (s : State) → history_of repository.1 ≡ s.history → GivesAs (λ made called. IsContentName (names repository.0) s made mode called) answer (content (names repository.0) s mode given)
 
   -- the name of the tree of a held commit
   abbrev pub tree_at : Repository N → Name → Bytes
@@ -117,7 +117,7 @@ module _ {N : Type 0} (names : N → Kind → Bytes → Bytes) {A : Type 0} wher
   -- the commit that it names for a branch
   abbrev pub NamesCommit : Repository N → Tables A → Bytes → CommitIsh A → Result Name ImportKind → Type 0
   NamesCommit repository tables branch named answer =
-      InEach repository tables (λ s. GivesAs (IsCommitOf (names repository.0) s.history.values) answer (replay.committed_for (names repository.0) revision_of branch s (shown_commit_ish named)))
+      InEach repository tables (λ s. GivesAs (IsCommitOf (names repository.0) s.history.values) answer (replay.committed_for (names repository.0) branch s (shown_commit_ish named)))
 
   -- the commit that a reset names, where it names one
   abbrev pub NamesTarget : Repository N → Tables A → Reset A → Result (Option Name) ImportKind → Type 0
@@ -129,20 +129,20 @@ module _ {N : Type 0} (names : N → Kind → Bytes → Bytes) {A : Type 0} wher
   -- a branch's own commit
   abbrev pub IsOwnCommit : Repository N → Tables A → Bytes → Option Name → Type 0
   IsOwnCommit repository tables branch answer =
-      InEach repository tables (λ s. AreBoth (IsCommitOf (names repository.0) s.history.values) (own_commit (names repository.0) revision_of (lookup (same_bytes branch) s.branches)) answer)
+      InEach repository tables (λ s. AreBoth (IsCommitOf (names repository.0) s.history.values) (own_commit (lookup (same_bytes branch) s.branches)) answer)
 
   -- the first parent of the commit that a command makes
   abbrev pub NamesFirstParent : Repository N → Tables A → CommitCommand A → Result (Option Name) ImportKind → Type 0
   NamesFirstParent repository tables command answer =
       InEach repository tables (λ s.
-      GivesAs (AreBoth (IsCommitOf (names repository.0) s.history.values)) answer (first_parent (names repository.0) revision_of s (commit_parts command)))
+      GivesAs (AreBoth (IsCommitOf (names repository.0) s.history.values)) answer (first_parent (names repository.0) s (commit_parts command)))
 
   -- this first parent, if there is one, and those that the command merges
   abbrev pub NamesParents : Repository N → Tables A → CommitCommand A → Option Name → Result (Vec Name A) ImportKind → Type 0
   NamesParents repository tables command first answer =
       (s : State) (made : Option Commit) → Stands (names repository.0) repository.1 tables s → AreBoth (IsCommitOf (names repository.0) s.history.values) made first
-      → GivesAs (λ commits called. AreAll (IsCommitOf (names repository.0) s.history.values) (with_first_parent (names repository.0) revision_of made commits) called.items) answer
-      (all_committed (names repository.0) revision_of command.branch.bytes.items s (map shown_commit_ish command.merges.items))
+      → GivesAs (λ commits called. AreAll (IsCommitOf (names repository.0) s.history.values) (with_first_parent made commits) called.items) answer
+      (all_committed (names repository.0) command.branch.bytes.items s (map shown_commit_ish command.merges.items))
 
   -- a name that may stand for a commit is that of one in some state
   abbrev pub IsSomeCommit : Repository N → Tables A → Option Name → Type 0
@@ -153,7 +153,7 @@ module _ {N : Type 0} (names : N → Kind → Bytes → Bytes) {A : Type 0} wher
   abbrev pub GivesStartingFiles : Repository N → Tables A → Option Name → Result NamedTree ImportKind → Type 0
   GivesStartingFiles repository tables first answer =
       (s : State) (made : Option Commit) → Stands (names repository.0) repository.1 tables s → AreBoth (IsCommitOf (names repository.0) s.history.values) made first
-      → IfOk answer (λ files. files.files ≡ named_map (names repository.0) (starting_files (names repository.0) revision_of made))
+      → IfOk answer (λ files. files.files ≡ named_map (names repository.0) (starting_files made))
 
   -- ---- what is added
 
@@ -189,7 +189,7 @@ module _ {N : Type 0} (names : N → Kind → Bytes → Bytes) {A : Type 0} wher
       InEach old tables (λ s.
       AddsAs (Clash (names old.0) (values_of old.1) (content_added (shown_data given)))
       (λ made called. Follows (names old.0) new.1 tables s made.0 × IsContentName (names old.0) made.0 made mode called)
-      answer (content (names old.0) revision_of s mode (shown_data given)))
+      answer (content (names old.0) s mode (shown_data given)))
 
   -- the blob of one change, whose files come from those that were
   abbrev pub MakesChange : {X : Type 0} → Repository N → Repository N → Tables A → NamedTree → NamedTree → model.Change → Result X ImportKind → Type 0
@@ -197,7 +197,7 @@ module _ {N : Type 0} (names : N → Kind → Bytes → Bytes) {A : Type 0} wher
       (s : State) (files : FileMap Bytes) → Stands (names old.0) old.1 tables s → AreFiles (names old.0) s.history.values files was.files
       → AddsAs (Clash (names old.0) (values_of old.1) (blob_added change))
       (λ r _. Follows (names old.0) new.1 tables s r.0 × AreFiles (names old.0) r.0.history.values r.1 now.files)
-      answer (changed (names old.0) revision_of s files change)
+      answer (changed (names old.0) s files change)
 
   -- the same of a change as it was read
   abbrev pub Changes : {X : Type 0} → Repository N → Repository N → Tables A → NamedTree → NamedTree → Change A → Result X ImportKind → Type 0
@@ -213,7 +213,7 @@ module _ {N : Type 0} (names : N → Kind → Bytes → Bytes) {A : Type 0} wher
       (s : State) (files : FileMap Bytes) → Stands (names old.0) old.1 tables s → AreFiles (names old.0) s.history.values files was.files
       → AddsAs (Clash (names old.0) (values_of old.1) (blobs_added (names old.0) s files (map shown_change changes.items)))
       (λ r _. Follows (names old.0) new.1 tables s r.0 × AreFiles (names old.0) r.0.history.values r.1 now.files)
-      answer (all_changed (names old.0) revision_of s files (map shown_change changes.items))
+      answer (all_changed (names old.0) s files (map shown_change changes.items))
 
   -- ---- what a command does
 
@@ -222,14 +222,14 @@ module _ {N : Type 0} (names : N → Kind → Bytes → Bytes) {A : Type 0} wher
   Makes old new was now command answer =
       InEach old was (λ s.
       AddsAs (Clash (names old.0) (values_of old.1) (values_added (names old.0) s command)) (λ t _. Follows (names old.0) new.1 now s t) answer
-      (step (names old.0) revision_of s command))
+      (step (names old.0) s command))
 
   -- a branch that is set
   abbrev pub Resets : {X : Type 0} → Repository N → Tables A → Tables A → Reset A → Result X ImportKind → Type 0
   Resets repository was now reset answer =
       InEach repository was (λ s.
       GivesAs (λ t _. Follows (names repository.0) repository.1 now s t) answer
-      (step_reset (names repository.0) revision_of s reset.branch.bytes.items (option_map shown_commit_ish reset.from)))
+      (step_reset (names repository.0) s reset.branch.bytes.items (option_map shown_commit_ish reset.from)))
 
   -- any command
   abbrev pub AppliesInEach : Repository N → Repository N → Tables A → Tables A → GivenCommand A → Option Taken → Option Taken → Result (Unit {0}) ImportKind → Type 0
@@ -240,4 +240,4 @@ module _ {N : Type 0} (names : N → Kind → Bytes → Bytes) {A : Type 0} wher
 abbrev pub AsksFor : {A : Type 0} → Tables A → Tables A → Feature → Type 0
 AsksFor was now feature =
     (name : Kind → Bytes → Bytes) (repository : Records) (s : State) → Stands name repository was s
-    → (t : State) × (step name revision_of s (Asks feature) ≡ Ok t) × Follows name repository now s t
+    → (t : State) × (step name s (Asks feature) ≡ Ok t) × Follows name repository now s t

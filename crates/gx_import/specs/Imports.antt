@@ -8,7 +8,6 @@ use Rattle.gx_model.specs.Histories.{Records, StandsFor}
 use Rattle.gx_model.specs.HistoryOf.{history_of}
 use Rattle.gx_model.specs.Sound.{IsSound}
 use Rattle.gx_model.specs.Commands.{Command, Commands, Progress}
-use Rattle.gx_model.specs.Revisions.{revision_of}
 use Rattle.gx_model.specs.Replay as model
 use Rattle.gx_model.specs.Replay.{Kept, Outcome, finished, refused, imported, replayed_commands, start}
 use Rattle.gx_text.specs.Devices.{Coming, FailedWithin, Taken, Took, TookFront}
@@ -65,7 +64,7 @@ FailedBehind was now before text = (mid : Option Taken) × Took was mid before �
 module _ (name : Kind → Bytes → Bytes) where
   -- what the replay of commands gives, from the history of a repository on
   abbrev pub replayed_on : Records → Commands → Outcome
-  replayed_on old commands = replayed_commands name revision_of (history_of old) commands
+  replayed_on old commands = replayed_commands name (history_of old) commands
 
   -- the command with this number is a progress, and within its line the sink failed, behind the lines of those before it
   abbrev pub IsCutAt : Records → List Command → ℕ → Option Taken → Option Taken → Type 0

@@ -7,7 +7,6 @@ use Rattle.gx_model.specs.Texts.{Bytes}
 use Rattle.gx_model.specs.Histories.{Records}
 use Rattle.gx_model.specs.Commands.{Command}
 use Rattle.gx_model.specs.Publishing.{Change, Ref, with_changes}
-use Rattle.gx_model.specs.Revisions.{revision_of}
 use Rattle.gx_model.specs.Replay.{State, overwritten, step}
 use Rattle.gx_model.specs.Sound.{IsTarget}
 use Rattle.gx_object.specs.declared.name.Name.{Name}
@@ -94,7 +93,7 @@ module _ (name : Kind → Bytes → Bytes) {A : Type 0} where
 
   -- what is kept after a command is what the model keeps; where the command is refused, it is what was kept before
   abbrev pub KeepsAfter : Records → Records → Checkpoints A → Checkpoints A → State → Command → Result (Unit {0}) ImportKind → Type 0
-  KeepsAfter old new was now s c (Ok _) = (t : State) → step name revision_of s c ≡ Ok t → Keeps new now t
+  KeepsAfter old new was now s c (Ok _) = (t : State) → step name s c ≡ Ok t → Keeps new now t
   KeepsAfter old new was now s c (Err _) = Leaves (left_of now new) now.count s.kept
 
   -- the same from each state that the repository, the tables and the checkpoints stand for

@@ -12,7 +12,6 @@ use Rattle.gx_model.specs.Histories.{IsIn, Records}
 use Rattle.gx_model.specs.Objects.{CommitParts, TagParts}
 use Rattle.gx_model.specs.Sound.{Holds}
 use Rattle.gx_model.specs.Replay.{text_made}
-use Rattle.gx_model.specs.Revisions.{revision_of}
 use Rattle.gx_model.specs.Growth.{same_kind}
 use Rattle.gx_object.specs.declared.name.Name.{Name}
 use Rattle.gx_command.specs.Views.{commit_parts}
@@ -38,7 +37,7 @@ AreHeldCommits repository names = AllByRecursion (λ called. Holds repository.re
 -- the parts of the commit object that a command makes of this tree and these parents; no object's name bears on its text
 abbrev pub commit_object : {A : Type 0} → Name → List Name → CommitCommand A → CommitParts
 commit_object tree parents commit =
-    record { tree = tree.bytes; parents = map (λ n. n.bytes) parents; text = text_made (λ kind body. body) revision_of (commit_parts commit) }
+    record { tree = tree.bytes; parents = map (λ n. n.bytes) parents; text = text_made (commit_parts commit) }
 
 -- the parts of the tag object that a command makes of this commit
 abbrev pub tag_object : {A : Type 0} → Name → TagCommand A → TagParts

@@ -8,7 +8,6 @@ use Rattle.gx_model.specs.Histories.{Records}
 use Rattle.gx_model.specs.HistoryOf.{history_of}
 use Rattle.gx_model.specs.Commands as model
 use Rattle.gx_model.specs.Commands.{Commands}
-use Rattle.gx_model.specs.Revisions.{revision_of}
 use Rattle.gx_model.specs.Replay.{State, ended, refused, replayed_commands}
 use Rattle.gx_text.specs.Devices.{Coming, FailedWithin, Taken, Took}
 use Rattle.gx_command.specs.Reading.{Falls, Reads, commands_from}
@@ -51,8 +50,8 @@ ReadsNoNullGitlink answer = IfOk answer (λ next. IfSome next (λ command. Bring
 module _ (name : Kind → Bytes → Bytes) where
   -- the last state of the replay of these commands, n in number, and the sink has its progress text
   pub record IsLast (old : Records) (commands : Commands) (n : ℕ) (s : State) (was now : Option Taken) : Type 0 where
-    pub outcome : replayed_commands name revision_of (history_of old) commands ≡ ended n s None
-    pub cut : replayed_commands name revision_of (history_of old) (cut_off commands.list) ≡ refused (n + 1) ReadFailed s.progress s.kept
+    pub outcome : replayed_commands name (history_of old) commands ≡ ended n s None
+    pub cut : replayed_commands name (history_of old) (cut_off commands.list) ≡ refused (n + 1) ReadFailed s.progress s.kept
     pub count : length commands.list ≡ n
     pub progress : Took was now s.progress
     pub held : s.held ≡ length (history_of old).values

@@ -10,29 +10,28 @@ use Rattle.gx_model.specs.Faults.{Given, and_then}
 use Rattle.gx_model.specs.Texts.{Bytes, same_bytes}
 use Rattle.gx_model.specs.Values.{Commit, Value, commit_value}
 use Rattle.gx_model.specs.Commands.{CommitIsh, Marked, Named}
-use Rattle.gx_model.specs.Revisions.{revision_of}
 use Rattle.gx_model.specs.Replay.{State, at, blob_bytes, branch_commit, committed_for, is_itself, revision_value}
 
 -- a commit-ish is the name of the branch; no object's name bears on this
 abbrev pub is_branch_itself : Bytes → CommitIsh → Bool
-is_branch_itself = is_itself (λ kind body. body) revision_of
+is_branch_itself = is_itself
 
 module _ (name : Kind → Bytes → Bytes) where
   -- what a branch of this name gives, and otherwise a revision
   abbrev pub or_revision : Option (Option Commit) → Given Value → Given Value
   or_revision None given = given
-  or_revision (Some revision) given = and_then (branch_commit name revision_of revision) (λ c. Ok (commit_value c))
+  or_revision (Some revision) given = and_then (branch_commit revision) (λ c. Ok (commit_value c))
 
   -- the value that a commit-ish names: a branch's commit, a mark's value, or what a revision gives
   abbrev pub value_named : State → CommitIsh → Given Value
   value_named s (Marked number) = at s number
-  value_named s (Named text) = or_revision (lookup (same_bytes text) s.branches) (revision_value name revision_of s text)
+  value_named s (Named text) = or_revision (lookup (same_bytes text) s.branches) (revision_value name s text)
 
   -- the commit that is named, where one is
   abbrev pub optional_commit : State → Bytes → Option CommitIsh → Given (Option Commit)
   optional_commit s branch None = Ok None
-  optional_commit s branch (Some named) = and_then (committed_for name revision_of branch s named) (λ c. Ok (Some c))
+  optional_commit s branch (Some named) = and_then (committed_for name branch s named) (λ c. Ok (Some c))
 
   -- the bytes of the blob that is held under a name
   abbrev pub bytes_held : Records → Bytes → Given Bytes
-  bytes_held repository called = elim (record_named repository.records called) [ None ↦ Err UnknownObject | Some held ↦ blob_bytes name revision_of (value_of_name repository.records called) ]
+  bytes_held repository called = elim (record_named repository.records called) [ None ↦ Err UnknownObject | Some held ↦ blob_bytes (value_of_name repository.records called) ]

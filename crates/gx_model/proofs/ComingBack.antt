@@ -7,7 +7,7 @@ use Rattle.gx_model.proofs.ReadableExports.{formed_readable}
 use Rattle.gx_model.proofs.SpelledExports.{export_imported}
 
 pub texts_back : TextsComeBack
-texts_back name read h given fails text report e short =
-    let is = texts_give name read nothing h given fails text report nothing_is e in
-    let none = none_reached h (none_from_text name read nothing h given fails text report nothing_is tt e) in
-    export_imported name read h is (formed_readable h is none short)
+texts_back name h given fails text report e short =
+    let is = texts_give name nothing h given fails text report nothing_is e in
+    let none = none_reached h (none_from_text name nothing h given fails text report nothing_is tt e) in
+    export_imported name h is (formed_readable h is none short)

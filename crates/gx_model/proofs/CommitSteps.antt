@@ -17,7 +17,6 @@ use Rattle.gx_model.specs.Files.{FileMap, are_apart, is_file_map}
 use Rattle.gx_model.specs.Histories.{IsIn, is_in, with_one, with_value}
 use Rattle.gx_model.specs.Paths.{Path, are_in_line, begins, is_file_path, path_cmp}
 use Rattle.gx_model.specs.Replay.{State, all_changed, all_committed, at, committed_for, content, ok_or_mark, step}
-use Rattle.gx_model.specs.Revisions.{Revision}
 use Rattle.gx_model.specs.Texts.{Bytes}
 use Rattle.gx_model.specs.Values.{Commit, Commits, Value, blob_value, commit, commit_value, commits_of, files_of, is_content, is_hex_digit, is_leaf, list_of, more, none, parents_of, same_value}
 use Rattle.gx_model.specs.declared.faults.Fault.{Fault}
@@ -128,20 +127,20 @@ module _ {X : Type 0} where
       let k = parts_of (before ++ ((c ∷ p), x) ∷ es) h in
       ap Ok (ap (put path_cmp (c ∷ p) x) (apart_from before ((c ∷ p), x) es k.apart) ∙ put_last before ((c ∷ p), x) es k.sorted)
 
-module _ (name : Kind → Bytes → Bytes) (read : Bytes → Result Revision Fault) where
-  pub steps-append : (s : State) (xs ys : List Command) → steps name read s (xs ++ ys) ≡ and_then (steps name read s xs) (λ t. steps name read t ys)
+module _ (name : Kind → Bytes → Bytes) where
+  pub steps-append : (s : State) (xs ys : List Command) → steps name s (xs ++ ys) ≡ and_then (steps name s xs) (λ t. steps name t ys)
   steps-append s [] ys = refl
-  steps-append s (x ∷ xs) ys = by (λ t. steps-append t xs ys) (step name read s x) where
-    by : ((t : State) → steps name read t (xs ++ ys) ≡ and_then (steps name read t xs) (λ t. steps name read t ys)) → (r : Result State Fault) → and_then r (λ t. steps name read t (xs ++ ys)) ≡ and_then (and_then r (λ t. steps name read t xs)) (λ t. steps name read t ys)
+  steps-append s (x ∷ xs) ys = by (λ t. steps-append t xs ys) (step name s x) where
+    by : ((t : State) → steps name t (xs ++ ys) ≡ and_then (steps name t xs) (λ t. steps name t ys)) → (r : Result State Fault) → and_then r (λ t. steps name t (xs ++ ys)) ≡ and_then (and_then r (λ t. steps name t xs)) (λ t. steps name t ys)
     by again (Ok t) = again t
     by again (Err e) = refl
 
-  pub blobs_replayed : (ws vs : List Value) (b : Option (Option Commit)) (xs : List Bytes) → steps name read (state_at ws vs b) (blob_commands ws xs) ≡ Ok (state_at (with_blobs ws xs) (values_with_blobs ws vs xs) b)
+  pub blobs_replayed : (ws vs : List Value) (b : Option (Option Commit)) (xs : List Bytes) → steps name (state_at ws vs b) (blob_commands ws xs) ≡ Ok (state_at (with_blobs ws xs) (values_with_blobs ws vs xs) b)
   blobs_replayed ws vs b [] = refl
   blobs_replayed ws vs b (x ∷ xs) =
       let held = blobs_replayed ws vs b xs in
       let new = blobs_replayed (blob_value x ∷ ws) (with_one vs (blob_value x)) b xs in
-      elim (is_in ws (blob_value x)) as (λ t. steps name read (state_at ws vs b) (cond t (blob_commands ws xs) (command.Blob (record { mark = Some (suc (length ws)); bytes = x }) ∷ blob_commands (blob_value x ∷ ws) xs))
+      elim (is_in ws (blob_value x)) as (λ t. steps name (state_at ws vs b) (cond t (blob_commands ws xs) (command.Blob (record { mark = Some (suc (length ws)); bytes = x }) ∷ blob_commands (blob_value x ∷ ws) xs))
       ≡ Ok (state_at (with_blobs (cond t ws (blob_value x ∷ ws)) xs) (cond t (values_with_blobs ws vs xs) (values_with_blobs (blob_value x ∷ ws) (with_one vs (blob_value x)) xs)) b)) [ true ↦ held | false ↦ new ]
 
   -- ---- parents
@@ -149,16 +148,16 @@ module _ (name : Kind → Bytes → Bytes) (read : Bytes → Result Revision Fau
   mark_gives : (ws vs : List Value) (b : Option (Option Commit)) (v : Value) → IsIn ws v → at (state_at ws vs b) (number_in ws v) ≡ Ok v
   mark_gives ws vs b v h = ap ok_or_mark (number_found ws v h)
 
-  parent_given : (ws vs : List Value) (b : Option (Option Commit)) (p : Commit) → IsIn ws (commit_value p) → committed_for name read carrier (state_at ws vs b) (marked_in ws (commit_value p)) ≡ Ok p
+  parent_given : (ws vs : List Value) (b : Option (Option Commit)) (p : Commit) → IsIn ws (commit_value p) → committed_for name carrier (state_at ws vs b) (marked_in ws (commit_value p)) ≡ Ok p
   parent_given ws vs b p h = rw (mark_gives ws vs b (commit_value p) h) refl
 
-  others_given : (ws vs : List Value) (b : Option (Option Commit)) (ps : List Commit) → AllByRecursion (λ p. IsIn ws (commit_value p)) ps → all_committed name read carrier (state_at ws vs b) (map (λ q. marked_in ws (commit_value q)) ps) ≡ Ok ps
+  others_given : (ws vs : List Value) (b : Option (Option Commit)) (ps : List Commit) → AllByRecursion (λ p. IsIn ws (commit_value p)) ps → all_committed name carrier (state_at ws vs b) (map (λ q. marked_in ws (commit_value q)) ps) ≡ Ok ps
   others_given ws vs b [] h = refl
   others_given ws vs b (p ∷ ps) h = rw (parent_given ws vs b p h.0, others_given ws vs b ps h.1) refl
 
   -- ---- files
 
-  content_given : (ws vs : List Value) (b : Option (Option Commit)) (m : Mode) (x : Bytes) → T (is_leaf m x) → AllByRecursion (λ y. IsIn ws (blob_value y)) (cons_option (content_in m x) []) → content name read (state_at ws vs b) m (dataref_in ws m x) ≡ Ok (state_at ws vs b, x)
+  content_given : (ws vs : List Value) (b : Option (Option Commit)) (m : Mode) (x : Bytes) → T (is_leaf m x) → AllByRecursion (λ y. IsIn ws (blob_value y)) (cons_option (content_in m x) []) → content name (state_at ws vs b) m (dataref_in ws m x) ≡ Ok (state_at ws vs b, x)
   content_given ws vs b File x l h = rw (mark_gives ws vs b (blob_value x) h.0) refl
   content_given ws vs b Exec x l h = rw (mark_gives ws vs b (blob_value x) h.0) refl
   content_given ws vs b Link x l h = rw (mark_gives ws vs b (blob_value x) h.0) refl
@@ -166,7 +165,7 @@ module _ (name : Kind → Bytes → Bytes) (read : Bytes → Result Revision Fau
   content_given ws vs b Gitlink x l h = ap (λ d. Ok (state_at ws vs b, d)) (lower_again x (second (nat_eq (length x) 40) (list_all is_hex_digit x) l))
 
   files_given : (ws vs : List Value) (b : Option (Option Commit)) (before es : FileMap Bytes) → is_file_map (before ++ es) ≡ true → T (are_leaves es) → AllByRecursion (λ y. IsIn ws (blob_value y)) (contents es)
-      → all_changed name read (state_at ws vs b) before (map (file_change ws) es) ≡ Ok (state_at ws vs b, before ++ es)
+      → all_changed name (state_at ws vs b) before (map (file_change ws) es) ≡ Ok (state_at ws vs b, before ++ es)
   files_given ws vs b before [] h l k = ap (λ f. Ok (state_at ws vs b, f)) (sym (append-nil before))
   files_given ws vs b before (e ∷ es) h l k =
       let again = files_given ws vs b (before ++ e ∷ []) es (ap is_file_map (append_assoc before (e ∷ []) es) ∙ h) (second (is_leaf e.1.0 e.1.1) _ l) (rest_of (λ y. IsIn ws (blob_value y)) (content_in e.1.0 e.1.1) (contents es) k) in
@@ -180,20 +179,20 @@ module _ (name : Kind → Bytes → Bytes) (read : Bytes → Result Revision Fau
 
   commit_replayed : (ws vs : List Value) (b : Option (Option Commit)) (c : Commit) → T (is_content (files_of c)) → AllIn ws (list_of (parents_of c)) → AllByRecursion (λ y. IsIn ws (blob_value y)) (contents (files_of c))
       → (list_of (parents_of c) ≡ [] → b ≡ Some None)
-      → step name read (state_at ws vs b) (commit_command ws c) ≡ Ok (state_at (commit_value c ∷ ws) (with_value vs (commit_value c)) (Some (Some c)))
+      → step name (state_at ws vs b) (commit_command ws c) ≡ Ok (state_at (commit_value c ∷ ws) (with_value vs (commit_value c)) (Some (Some c)))
   commit_replayed ws vs b (commit f none t) h k g r =
-      subst (λ b. step name read (state_at ws vs b) (commit_command ws (commit f none t)) ≡ Ok (state_at (commit_value (commit f none t) ∷ ws) (with_value vs (commit_value (commit f none t))) (Some (Some (commit f none t))))) (sym (r refl))
+      subst (λ b. step name (state_at ws vs b) (commit_command ws (commit f none t)) ≡ Ok (state_at (commit_value (commit f none t) ∷ ws) (with_value vs (commit_value (commit f none t))) (Some (Some (commit f none t))))) (sym (r refl))
       (rw (files_given ws vs (Some None) [] f (map_of f h) (leaves_of f h) g) refl)
   commit_replayed ws vs None (commit f (more p ps) t) h k g r =
       rw (parent_given ws vs None p k.0, others_given ws vs None (list_of ps) k.1, files_given ws vs None [] f (map_of f h) (leaves_of f h) g, commits_again ps) refl
   commit_replayed ws vs (Some x) (commit f (more p ps) t) h k g r =
       rw (parent_given ws vs (Some x) p k.0, others_given ws vs (Some x) (list_of ps) k.1, files_given ws vs (Some x) [] f (map_of f h) (leaves_of f h) g, commits_again ps) refl
 
-  alone : (r : Result State Fault) → and_then r (λ t. steps name read t []) ≡ r
+  alone : (r : Result State Fault) → and_then r (λ t. steps name t []) ≡ r
   alone (Ok t) = refl
   alone (Err e) = refl
 
-  reset_replayed : (ws vs : List Value) (b : Option (Option Commit)) (rest : List Command) → steps name read (state_at ws vs b) (root_reset [] ++ rest) ≡ steps name read (state_at ws vs (Some None)) rest
+  reset_replayed : (ws vs : List Value) (b : Option (Option Commit)) (rest : List Command) → steps name (state_at ws vs b) (root_reset [] ++ rest) ≡ steps name (state_at ws vs (Some None)) rest
   reset_replayed ws vs None rest = refl
   reset_replayed ws vs (Some x) rest = refl
 
@@ -202,15 +201,15 @@ module _ (name : Kind → Bytes → Bytes) (read : Bytes → Result Revision Fau
   all_still ws xs (p ∷ ps) h = (blobs_keep ws xs (commit_value p) h.0, all_still ws xs ps h.1)
 
   last_replayed : (ws vs : List Value) (b : Option (Option Commit)) (c : Commit) → T (is_content (files_of c)) → AllIn ws (list_of (parents_of c)) → AllByRecursion (λ y. IsIn ws (blob_value y)) (contents (files_of c))
-      → steps name read (state_at ws vs b) (root_reset (list_of (parents_of c)) ++ (commit_command ws c ∷ [])) ≡ Ok (state_at (commit_value c ∷ ws) (with_value vs (commit_value c)) (Some (Some c)))
+      → steps name (state_at ws vs b) (root_reset (list_of (parents_of c)) ++ (commit_command ws c ∷ [])) ≡ Ok (state_at (commit_value c ∷ ws) (with_value vs (commit_value c)) (Some (Some c)))
   last_replayed ws vs b (commit f none t) h k g =
       reset_replayed ws vs b (commit_command ws (commit f none t) ∷ []) ∙ alone _ ∙ commit_replayed ws vs (Some None) (commit f none t) h k g (λ _. refl)
   last_replayed ws vs b (commit f (more p ps) t) h k g = alone _ ∙ commit_replayed ws vs b (commit f (more p ps) t) h k g (λ e. absurd cc)
 
   pub one_commit_replayed : (ws vs : List Value) (b : Option (Option Commit)) (c : Commit) → IsTrue (is_content (files_of c)) → AllByRecursion (λ p. IsIn ws (commit_value p)) (list_of (parents_of c))
-      → steps name read (state_at ws vs b) (one_commit ws c) ≡ Ok (state_at (with_commit ws c) (values_with_commit ws vs c) (Some (Some c)))
+      → steps name (state_at ws vs b) (one_commit ws c) ≡ Ok (state_at (with_commit ws c) (values_with_commit ws vs c) (Some (Some c)))
   one_commit_replayed ws vs b c h k =
       let xs = contents (files_of c) in
       let end = root_reset (list_of (parents_of c)) ++ (commit_command (with_blobs ws xs) c ∷ []) in
-      steps-append (state_at ws vs b) (blob_commands ws xs) end ∙ ap (λ r. and_then r (λ t. steps name read t end)) (blobs_replayed ws vs b xs)
+      steps-append (state_at ws vs b) (blob_commands ws xs) end ∙ ap (λ r. and_then r (λ t. steps name t end)) (blobs_replayed ws vs b xs)
       ∙ last_replayed (with_blobs ws xs) (values_with_blobs ws vs xs) b c (passes _ h) (all_still ws xs (list_of (parents_of c)) k) (blobs_have ws xs)

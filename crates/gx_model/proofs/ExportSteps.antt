@@ -13,7 +13,6 @@ use Rattle.gx_model.specs.Faults.{and_then}
 use Rattle.gx_model.specs.Histories.{History, IsHistory, IsIn, IsWhole, Target, value_at}
 use Rattle.gx_model.specs.Ranges.{commit_of}
 use Rattle.gx_model.specs.Replay.{Outcome, State, byte_cmp, ended, final, final_refs, finished, is_fast_forward, is_forward, peeled_at, refused, replayed, report, start, step}
-use Rattle.gx_model.specs.Revisions.{Revision}
 use Rattle.gx_model.specs.Texts.{Bytes}
 use Rattle.gx_model.specs.Values.{Commit, Value, commit_value, files_of, is_content, is_proper, is_proper_text, list_of, parents_of, text_of}
 use Rattle.gx_model.specs.declared.faults.Fault.{Fault}
@@ -49,22 +48,22 @@ okay s = Ok s
 same_ok : (s t : State) → okay s ≡ okay t → s ≡ t
 same_ok s t e = cc
 
-module _ (name : Kind → Bytes → Bytes) (read : Bytes → Result Revision Fault) where
+module _ (name : Kind → Bytes → Bytes) where
   pub commits_replayed : (ws vs : List Value) (b : Option (Option Commit)) (before cs : List Commit) → HoldsWhat ws vs before → FollowsAll before cs
-      → steps name read (state_at ws vs b) (commit_commands ws cs) ≡ Ok (state_at (fold with_commit ws cs) (values_after ws vs cs) (last_carried b cs))
+      → steps name (state_at ws vs b) (commit_commands ws cs) ≡ Ok (state_at (fold with_commit ws cs) (values_after ws vs cs) (last_carried b cs))
   commits_replayed ws vs b before [] h f = refl
   commits_replayed ws vs b before (c ∷ cs) h f =
-      let one = one_commit_replayed name read ws vs b c (is_true _ (first (is_content (files_of c)) (is_proper_text (text_of c)) (passes _ f.0))) (each_one (IsOne before) (λ p. IsIn ws (commit_value p)) (λ p i. one_of_all (λ d. IsIn ws (commit_value d)) before p h.commits i) (list_of (parents_of c)) f.1) in
+      let one = one_commit_replayed name ws vs b c (is_true _ (first (is_content (files_of c)) (is_proper_text (text_of c)) (passes _ f.0))) (each_one (IsOne before) (λ p. IsIn ws (commit_value p)) (λ p i. one_of_all (λ d. IsIn ws (commit_value d)) before p h.commits i) (list_of (parents_of c)) f.1) in
       let rest = commits_replayed (with_commit ws c) (values_with_commit ws vs c) (Some (Some c)) (before ++ c ∷ []) cs (commit_keeps ws vs before c h f.0 f.1 f.2) f.3 in
-      steps-append name read (state_at ws vs b) (one_commit ws c) (commit_commands (with_commit ws c) cs) ∙ ap (λ r. and_then r (λ t. steps name read t (commit_commands (with_commit ws c) cs))) one ∙ rest
+      steps-append name (state_at ws vs b) (one_commit ws c) (commit_commands (with_commit ws c) cs) ∙ ap (λ r. and_then r (λ t. steps name t (commit_commands (with_commit ws c) cs))) one ∙ rest
 
   -- ---- the end, from the steps
 
-  all_replayed : (n : ℕ) (s t : State) (cs : List Command) → steps name read s cs ≡ Ok t → replayed name read n s cs None ≡ replayed name read (n + length cs) t [] None
+  all_replayed : (n : ℕ) (s t : State) (cs : List Command) → steps name s cs ≡ Ok t → replayed name n s cs None ≡ replayed name (n + length cs) t [] None
   all_replayed n s t [] e = let k : n + 0 ≡ n = omega arith in ap (λ u. ended n u None) (same_ok s t e) ∙ ap (λ m. ended m t None) (sym k)
-  all_replayed n s t (c ∷ cs) e = by (step name read s c) (λ u. all_replayed (n + 1) u t cs) e where
-    by : (r : Result State Fault) → ((u : State) → steps name read u cs ≡ Ok t → replayed name read (n + 1) u cs None ≡ replayed name read (n + 1 + length cs) t [] None) → and_then r (λ u. steps name read u cs) ≡ Ok t
-        → elim r as (λ x. Outcome) [ Ok u ↦ replayed name read (n + 1) u cs None | Err f ↦ refused (n + 1) f s.progress s.kept ] ≡ replayed name read (n + suc (length cs)) t [] None
+  all_replayed n s t (c ∷ cs) e = by (step name s c) (λ u. all_replayed (n + 1) u t cs) e where
+    by : (r : Result State Fault) → ((u : State) → steps name u cs ≡ Ok t → replayed name (n + 1) u cs None ≡ replayed name (n + 1 + length cs) t [] None) → and_then r (λ u. steps name u cs) ≡ Ok t
+        → elim r as (λ x. Outcome) [ Ok u ↦ replayed name (n + 1) u cs None | Err f ↦ refused (n + 1) f s.progress s.kept ] ≡ replayed name (n + suc (length cs)) t [] None
     by (Ok u) again e = let k : n + 1 + length cs ≡ n + suc (length cs) = omega arith in again u e ∙ ap (λ m. ended m t None) k
     by (Err f) again e = absurd cc
 
@@ -110,16 +109,16 @@ proper_refs h x = proper_all h.refs x.held where
   proper_all [] g = tt
   proper_all (r ∷ rs) g = (proper_in h.values (value_at r.1) (passes _ x.proper) g.0, proper_all rs g.1)
 
-module _ (name : Kind → Bytes → Bytes) (read : Bytes → Result Revision Fault) where
-  any_reset : (ws vs : List Value) (b : Option (Option Commit)) (rest : List Command) → steps name read (state_at ws vs b) (command.Reset (record { ref = carrier; parent = None }) ∷ rest) ≡ steps name read (state_at ws vs (Some None)) rest
+module _ (name : Kind → Bytes → Bytes) where
+  any_reset : (ws vs : List Value) (b : Option (Option Commit)) (rest : List Command) → steps name (state_at ws vs b) (command.Reset (record { ref = carrier; parent = None }) ∷ rest) ≡ steps name (state_at ws vs (Some None)) rest
   any_reset ws vs None rest = refl
   any_reset ws vs (Some x) rest = refl
 
-  last_reset_replayed : (ws vs : List Value) (cs : List Commit) (rest : List Command) → steps name read (state_at ws vs (last_carried None cs)) (last_reset cs ++ rest) ≡ steps name read (state_at ws vs (after_reset cs)) rest
+  last_reset_replayed : (ws vs : List Value) (cs : List Commit) (rest : List Command) → steps name (state_at ws vs (last_carried None cs)) (last_reset cs ++ rest) ≡ steps name (state_at ws vs (after_reset cs)) rest
   last_reset_replayed ws vs [] rest = refl
   last_reset_replayed ws vs (c ∷ cs) rest = any_reset ws vs (last_carried (Some (Some c)) cs) rest
 
-  pub export_replayed : (h : History) → IsHistory h → (k : History) × IsAgain h k × (replayed name read 0 (start nothing) (export_commands h) None ≡ finished k [] (exported_report h k))
+  pub export_replayed : (h : History) → IsHistory h → (k : History) × IsAgain h k × (replayed name 0 (start nothing) (export_commands h) None ≡ finished k [] (exported_report h k))
   export_replayed h x =
       let cs = reached_commits h in
       let f = all_follow h x in
@@ -132,12 +131,12 @@ module _ (name : Kind → Bytes → Bytes) (read : Bytes → Result Revision Fau
       let first_branches = carried (after_reset cs) in
       let t = state_with ws us (ref_branches first_branches h.refs) (ref_tags [] h.refs) in
       let ref_part = map (ref_command ws) h.refs in
-      let inner : steps name read (state_at [] [] None) (inner_commands cs h.refs) ≡ Ok t =
-      steps-append name read (state_at [] [] None) (commit_commands [] cs) (last_reset cs ++ ref_part)
-      ∙ ap (λ r. and_then r (λ u. steps name read u (last_reset cs ++ ref_part))) (commits_replayed name read [] [] None [] cs none_held f)
-      ∙ last_reset_replayed ws vs cs ref_part ∙ refs_replayed name read ws vs first_branches [] h.refs x.own peeled in
-      let all : steps name read (start nothing) (export_commands h) ≡ Ok t =
-      steps-append name read (state_at [] [] None) (inner_commands cs h.refs) (command.Done ∷ []) ∙ ap (λ r. and_then r (λ u. steps name read u (command.Done ∷ []))) inner in
+      let inner : steps name (state_at [] [] None) (inner_commands cs h.refs) ≡ Ok t =
+      steps-append name (state_at [] [] None) (commit_commands [] cs) (last_reset cs ++ ref_part)
+      ∙ ap (λ r. and_then r (λ u. steps name u (last_reset cs ++ ref_part))) (commits_replayed name [] [] None [] cs none_held f)
+      ∙ last_reset_replayed ws vs cs ref_part ∙ refs_replayed name ws vs first_branches [] h.refs x.own peeled in
+      let all : steps name (start nothing) (export_commands h) ≡ Ok t =
+      steps-append name (state_at [] [] None) (inner_commands cs h.refs) (command.Done ∷ []) ∙ ap (λ r. and_then r (λ u. steps name u (command.Done ∷ []))) inner in
       let forward : is_fast_forward t ≡ true = all_forward us (ref_branches first_branches h.refs) in
       let whole : IsWhole h.values = record { closed = x.closed; proper = x.proper } in
       let only : (u : Value) → IsIn us u → IsReached h u = λ u j. elim (after.only u j) [ inl k ↦ commits_reached h.refs cs u (all_pass (is_reached h.refs) (filter_map commit_of h.values)) (held.only u k) | inr r ↦ r ] in
@@ -154,7 +153,7 @@ module _ (name : Kind → Bytes → Bytes) (read : Bytes → Result Revision Fau
           all = λ u r. let a = any_from (map (λ r. value_at r.1) h.refs) u r in reached_held us after.whole a.0 u a.2 (all_in (IsIn us) (map (λ r. value_at r.1) h.refs) a.0 (targets (IsIn us) h.refs after.has) a.1);
           whole = after.whole;
         },
-        all_replayed name read 0 (start nothing) t (export_commands h) all ∙ ap (λ b. cond b (finished (final t) [] (report (0 + length (export_commands h)) t)) (refused (0 + length (export_commands h) + 1) faults.NotFastForward [] t.kept)) forward ∙ ap (finished (final t) []) told,
+        all_replayed name 0 (start nothing) t (export_commands h) all ∙ ap (λ b. cond b (finished (final t) [] (report (0 + length (export_commands h)) t)) (refused (0 + length (export_commands h) + 1) faults.NotFastForward [] t.kept)) forward ∙ ap (finished (final t) []) told,
       )
     where
       targets : (P : Value → Type 0) (rs : Refs) → AllByRecursion (λ r. P (value_at r.1)) rs → AllByRecursion P (map (λ r. value_at r.1) rs)

@@ -20,7 +20,6 @@ use Rattle.gx_model.specs.Files.{FileMap}
 use Rattle.gx_model.specs.Edits.{copied, modified, renamed}
 use Rattle.gx_model.specs.Values.{Commit, Tag, Value, blob_value, commit, commit_value, commits_of, files_of, list_of, parents_of, tag_value, tree_value}
 use Rattle.gx_model.specs.Histories.{History, IsHistory, IsIn, Target, at_commit, at_tag, value_at, with_tree, with_value}
-use Rattle.gx_model.specs.Revisions.{Revision}
 use Rattle.gx_model.specs.Denotation.{base_value, lower}
 use Rattle.gx_model.specs.Items.{items_of}
 use Rattle.gx_model.specs.Ranges.{commit_of}
@@ -166,7 +165,7 @@ null_lowered x e = (λ i. zeros_lowered x i && (length_lowered x i == 40)) ∙ e
 
 -- ---- a commit's files
 
-module _ (name : Kind → Bytes → Bytes) (read : Bytes → Result Revision Fault) where
+module _ (name : Kind → Bytes → Bytes) where
   abbrev GivesFree : Mode → State × Bytes → Type 0
   GivesFree m r = IsFreeState r.0 × IsNotNull m r.1
 
@@ -176,14 +175,14 @@ module _ (name : Kind → Bytes → Bytes) (read : Bytes → Result Revision Fau
   abbrev given_bytes : State → Bytes → Result (State × Bytes) Fault
   given_bytes s x = Ok (s, x)
 
-  blob_given : (s : State) (m : Mode) → ((x : Bytes) → IsNotNull m x) → IsFreeState s → (r : Result Value Fault) → IfOk (and_then r (λ v. and_then (blob_bytes name read v) (given_bytes s))) (GivesFree m)
+  blob_given : (s : State) (m : Mode) → ((x : Bytes) → IsNotNull m x) → IsFreeState s → (r : Result Value Fault) → IfOk (and_then r (λ v. and_then (blob_bytes v) (given_bytes s))) (GivesFree m)
   blob_given s m plain h (Err e) = tt
   blob_given s m plain h (Ok (blob_value x)) = (h, plain x)
   blob_given s m plain h (Ok (tree_value f)) = tt
   blob_given s m plain h (Ok (commit_value c)) = tt
   blob_given s m plain h (Ok (tag_value t)) = tt
 
-  content_free : (s : State) (m : Mode) (d : DataRef) (p : Path) → IsFreeState s → GivesNoNullGitlink (Modify m d p) → IfOk (content name read s m d) (GivesFree m)
+  content_free : (s : State) (m : Mode) (d : DataRef) (p : Path) → IsFreeState s → GivesNoNullGitlink (Modify m d p) → IfOk (content name s m d) (GivesFree m)
   content_free s Gitlink (Object x) p h k = (h, null_lowered x k)
   content_free s Gitlink (Mark n) p h k = absurd k
   content_free s Gitlink (Inline x) p h k = absurd k
@@ -206,52 +205,52 @@ module _ (name : Kind → Bytes → Bytes) (read : Bytes → Result Revision Fau
   edited : (s : State) (r : Result (FileMap Bytes) Fault) → IsFreeState s → IfOk r AreNotNull → IfOk (and_then r (with_files s)) FilesFree
   edited s r h k = then_if AreNotNull FilesFree r (with_files s) k (λ f l. (h, l))
 
-  changed_free : (s : State) (f : FileMap Bytes) (c : Change) → IsFreeState s → AreNotNull f → GivesNoNullGitlink c → IfOk (changed name read s f c) FilesFree
+  changed_free : (s : State) (f : FileMap Bytes) (c : Change) → IsFreeState s → AreNotNull f → GivesNoNullGitlink c → IfOk (changed name s f c) FilesFree
   changed_free s f (Modify m d p) h k l =
-      then_if (GivesFree m) FilesFree (content name read s m d) (λ r. and_then (modified f p (m, r.1)) (with_files r.0)) (content_free s m d p h l)
+      then_if (GivesFree m) FilesFree (content name s m d) (λ r. and_then (modified f p (m, r.1)) (with_files r.0)) (content_free s m d p h l)
       (λ r given. edited r.0 (modified f p (m, r.1)) given.0 (modified_leaves (λ leaf. IsNotNull leaf.0 leaf.1) f p (m, r.1) given.1 k))
   changed_free s f (Remove p) h k l = (h, all_pass (λ file. IsNotNull file.1.0 file.1.1) _ f k)
   changed_free s f (Copy p q) h k l = edited s (copied f p q) h (copied_leaves (λ leaf. IsNotNull leaf.0 leaf.1) f p q k)
   changed_free s f (Rename p q) h k l = edited s (renamed f p q) h (renamed_leaves (λ leaf. IsNotNull leaf.0 leaf.1) f p q k)
   changed_free s f Clear h k l = (h, tt)
 
-  all_changed_free : (s : State) (f : FileMap Bytes) (cs : List Change) → IsFreeState s → AreNotNull f → AllByRecursion GivesNoNullGitlink cs → IfOk (all_changed name read s f cs) FilesFree
+  all_changed_free : (s : State) (f : FileMap Bytes) (cs : List Change) → IsFreeState s → AreNotNull f → AllByRecursion GivesNoNullGitlink cs → IfOk (all_changed name s f cs) FilesFree
   all_changed_free s f [] h k l = (h, k)
   all_changed_free s f (c ∷ cs) h k l =
-      then_if FilesFree FilesFree (changed name read s f c) (λ r. all_changed name read r.0 r.1 cs) (changed_free s f c h k l.0) (λ r both. all_changed_free r.0 r.1 cs both.0 both.1 l.1)
+      then_if FilesFree FilesFree (changed name s f c) (λ r. all_changed name r.0 r.1 cs) (changed_free s f c h k l.0) (λ r both. all_changed_free r.0 r.1 cs both.0 both.1 l.1)
 
   -- ---- commands
 
-  starting_free : (o : Option Commit) → MayBeOf IsFree o → AreNotNull (starting_files name read o)
+  starting_free : (o : Option Commit) → MayBeOf IsFree o → AreNotNull (starting_files o)
   starting_free None h = tt
   starting_free (Some c) h = free_files c h
 
-  commit_step : (s : State) (c : CommitParts) → IsFreeState s → AllByRecursion GivesNoNullGitlink c.changes → IfOk (step_commit name read s c) IsFreeState
+  commit_step : (s : State) (c : CommitParts) → IsFreeState s → AllByRecursion GivesNoNullGitlink c.changes → IfOk (step_commit name s c) IsFreeState
   commit_step s c h k =
       let kept = free_commits_of s h in
-      then_if (MayBeOf IsFree) IsFreeState (first_parent name read s c) _ (first_kept IsFree free_elders name read s c kept)
-      (λ o first. then_if (AllByRecursion IsFree) IsFreeState (all_committed name read c.ref s c.merges) _ (all_committed_kept IsFree free_elders name read c.ref s c.merges kept)
-      (λ cs others. then_if FilesFree IsFreeState (all_changed name read s (starting_files name read o) c.changes) _ (all_changed_free s (starting_files name read o) c.changes h (starting_free o first) k)
+      then_if (MayBeOf IsFree) IsFreeState (first_parent name s c) _ (first_kept IsFree free_elders name s c kept)
+      (λ o first. then_if (AllByRecursion IsFree) IsFreeState (all_committed name c.ref s c.merges) _ (all_committed_kept IsFree free_elders name c.ref s c.merges kept)
+      (λ cs others. then_if FilesFree IsFreeState (all_changed name s (starting_files o) c.changes) _ (all_changed_free s (starting_files o) c.changes h (starting_free o first) k)
       (λ r both.
-      let made = commit r.1 (commits_of (with_first_parent name read o cs)) (text_made name read c) in
-      let free : IsFree made = (both.1, free_commits (with_first_parent name read o cs) (with_first_kept IsFree free_elders name read o cs first others)) in
+      let made = commit r.1 (commits_of (with_first_parent o cs)) (text_made c) in
+      let free : IsFree made = (both.1, free_commits (with_first_parent o cs) (with_first_kept IsFree free_elders name o cs first others)) in
       on_branch_free c.ref (Some made) (marked c.mark (commit_value made) (added (commit_value made) r.0))
       (marked_free c.mark (commit_value made) (added (commit_value made) r.0) (added_free (commit_value made) r.0 both.0 free) free) free)))
 
-  tag_step : (s : State) (t : TagParts) → IsFreeState s → IfOk (step_tag name read s t) IsFreeState
+  tag_step : (s : State) (t : TagParts) → IsFreeState s → IfOk (step_tag name s t) IsFreeState
   tag_step s t h =
-      then_if IsFree IsFreeState (committed name read commit_alone s t.target) _ (committed_kept IsFree free_elders name read commit_alone (alone_kept IsFree) s t.target (free_commits_of s h))
+      then_if IsFree IsFreeState (committed name commit_alone s t.target) _ (committed_kept IsFree free_elders name commit_alone (alone_kept IsFree) s t.target (free_commits_of s h))
       (λ c k.
       let made : Tag = record { target = c; name = t.name; tagger = t.tagger; message = t.message } in
       let free = marked_free t.mark (tag_value made) (added (tag_value made) s) (added_free (tag_value made) s h k) k in
       record { values = free.values; refs = free.refs; marks = free.marks; branches = free.branches; tags = put_tag (tag_ref t.name) made (marked t.mark (tag_value made) (added (tag_value made) s)).tags k free.tags; kept = free.kept })
 
-  reset_step : (s : State) (b : Bytes) (o : Option CommitIsh) → IsFreeState s → IfOk (step_reset name read s b o) IsFreeState
+  reset_step : (s : State) (b : Bytes) (o : Option CommitIsh) → IsFreeState s → IfOk (step_reset name s b o) IsFreeState
   reset_step s b None h = on_branch_free b None s h tt
   reset_step s b (Some x) h =
-      then_if IsFree IsFreeState (committed_for name read b s x) _ (for_branch IsFree free_elders name read b s x (free_commits_of s h)) (λ c k. on_branch_free b (Some c) s h k)
+      then_if IsFree IsFreeState (committed_for name b s x) _ (for_branch IsFree free_elders name b s x (free_commits_of s h)) (λ c k. on_branch_free b (Some c) s h k)
 
-  pub step_free : (s : State) (c : Command) → IsFreeState s → BringsNoNullGitlink c → IfOk (step name read s c) IsFreeState
+  pub step_free : (s : State) (c : Command) → IsFreeState s → BringsNoNullGitlink c → IfOk (step name s c) IsFreeState
   step_free s (Blob b) h k = marked_free b.mark (blob_value b.bytes) (added (blob_value b.bytes) s) (added_free (blob_value b.bytes) s h tt) tt
   step_free s (command.Commit c) h k = commit_step s c h k
   step_free s (command.Tag t) h k = tag_step s t h
@@ -279,25 +278,25 @@ module _ (name : Kind → Bytes → Bytes) (read : Bytes → Result Revision Fau
       by true = none_held s h
       by false = h.kept
 
-  replayed_free : (n : ℕ) (s : State) (cs : List Command) (end : Option Fault) → IsFreeState s → AllByRecursion BringsNoNullGitlink cs → IsFreeOutcome (replayed name read n s cs end)
+  replayed_free : (n : ℕ) (s : State) (cs : List Command) (end : Option Fault) → IsFreeState s → AllByRecursion BringsNoNullGitlink cs → IsFreeOutcome (replayed name n s cs end)
   replayed_free n s [] end h all = end_free n s end h
-  replayed_free n s (c ∷ cs) end h all = by (step name read s c) (step_free s c h all.0) (λ t free. replayed_free (n + 1) t cs end free all.1)
+  replayed_free n s (c ∷ cs) end h all = by (step name s c) (step_free s c h all.0) (λ t free. replayed_free (n + 1) t cs end free all.1)
     where
-      by : (r : Result State Fault) → IfOk r IsFreeState → ((t : State) → IsFreeState t → IsFreeOutcome (replayed name read (n + 1) t cs end))
-          → IsFreeOutcome (elim r as (λ _. Outcome) [ Ok t ↦ replayed name read (n + 1) t cs end | Err e ↦ refused (n + 1) e s.progress s.kept ])
+      by : (r : Result State Fault) → IfOk r IsFreeState → ((t : State) → IsFreeState t → IsFreeOutcome (replayed name (n + 1) t cs end))
+          → IsFreeOutcome (elim r as (λ _. Outcome) [ Ok t ↦ replayed name (n + 1) t cs end | Err e ↦ refused (n + 1) e s.progress s.kept ])
       by (Ok t) free rest = rest t free
       by (Err f) free rest = h.kept
 
 pub none_kept : ReplaysKeepNone
-none_kept name read h k commands end n text counts is none brings e = subst (IsFreeOutcome name read) e (replayed_free name read n (start h) commands end (start_free h is none) brings)
+none_kept name h k commands end n text counts is none brings e = subst (IsFreeOutcome name) e (replayed_free name n (start h) commands end (start_free h is none) brings)
 
 pub refusals_keep_none : RefusalsKeepNone
-refusals_keep_none name read h commands end n number fault text kept is none brings e = subst (IsFreeOutcome name read) e (replayed_free name read n (start h) commands end (start_free h is none) brings)
+refusals_keep_none name h commands end n number fault text kept is none brings e = subst (IsFreeOutcome name) e (replayed_free name n (start h) commands end (start_free h is none) brings)
 
 pub none_from_text : TextsBringNone
-none_from_text name read h k given fails text counts is none e =
+none_from_text name h k given fails text counts is none e =
     let commands = commands_of (items_of given fails) in
-    none_kept name read h k commands.list commands.fault 0 text counts is none (none_brought (items_of given fails)) e
+    none_kept name h k commands.list commands.fault 0 text counts is none (none_brought (items_of given fails)) e
 
 pub none_reached : HoldsTellsHas
 none_reached h none = all_pass (λ made. AllByRecursion (λ file. IsNotNull file.1.0 file.1.1) (files_of made)) _ (filter_map commit_of h.values) none

@@ -14,7 +14,7 @@ use Rattle.gx_model.specs.Paths.{Path}
 use Rattle.gx_model.specs.Files.{FileMap, Leaf, file_at, sub_map}
 use Rattle.gx_model.specs.Values.{Commit, Value, blob_value, commit_value, list_of, parents_of, tag_value, tree_value}
 use Rattle.gx_model.specs.Histories.{History, Target, value_at}
-use Rattle.gx_model.specs.Revisions.{Revision, Suffix, ancestor, as_blob, as_commit, as_tag, as_tree, itself, parent, peeled}
+use Rattle.gx_model.specs.Revisions.{Revision, Suffix, ancestor, as_blob, as_commit, as_tag, as_tree, itself, parent, peeled, revision_of}
 use Rattle.gx_model.specs.Denotation.{Shown, all_suffixed, are_digits, at_path, base_value, begun_by, commit_in, denoted, files_in, find_ref, first_ref, full_name, nth_ancestor, nth_parent, of_leaf, of_sub_map, or_no_parent, or_ref, ref_at, ref_names, shown_at, shown_value, suffixed, the_one, value_denoted}
 use Rattle.gx_model.specs.Commands.{CommitIsh, CommitParts, Marked, Named}
 use Rattle.gx_model.specs.Replay.{State, all_committed, at, commit_alone, committed, committed_for, first_parent, is_itself, ok_or_mark, or_branch, own_commit, revision_value, with_first_parent}
@@ -188,7 +188,7 @@ module _ (P : Commit → Type 0) where
 
     -- ---- what a state gives
 
-    module _ (name : Kind → Bytes → Bytes) (read : Bytes → Result Revision Fault) where
+    module _ (name : Kind → Bytes → Bytes) where
       at_kept : (s : State) (n : ℕ) → IsStateOf s → IfOk (at s n) OfCommit
       at_kept s n h = by (lookup (nat_eq n) s.marks) (found OfCommit (nat_eq n) s.marks h.marks)
         where
@@ -196,47 +196,47 @@ module _ (P : Commit → Type 0) where
           by None k = tt
           by (Some v) k = k
 
-      revision_kept : (s : State) (x : Bytes) → IsStateOf s → IfOk (revision_value name read s x) OfCommit
-      revision_kept s x h = by (read x)
+      revision_kept : (s : State) (x : Bytes) → IsStateOf s → IfOk (revision_value name s x) OfCommit
+      revision_kept s x h = by (revision_of x)
         where
           by : (r : Result Revision Fault) → IfOk (and_then r (λ a. value_denoted name s.history a)) OfCommit
           by (Ok a) = denoted_kept name s.history h.values h.refs a
           by (Err e) = tt
 
-      pub committed_kept : (kind : Value → Result Commit Fault) → ((v : Value) → OfCommit v → IfOk (kind v) P) → (s : State) (x : CommitIsh) → IsStateOf s → IfOk (committed name read kind s x) P
+      pub committed_kept : (kind : Value → Result Commit Fault) → ((v : Value) → OfCommit v → IfOk (kind v) P) → (s : State) (x : CommitIsh) → IsStateOf s → IfOk (committed name kind s x) P
       committed_kept kind keeps s (Marked n) h = then_if OfCommit P (at s n) kind (at_kept s n h) keeps
       committed_kept kind keeps s (Named x) h = by (lookup (same_bytes x) s.branches) (found (λ o. IfSome o P) (same_bytes x) s.branches h.branches)
         where
-          by : (o : Option (Option Commit)) → IfSome o (λ c. IfSome c P) → IfOk (or_branch name read o (and_then (revision_value name read s x) kind)) P
-          by None k = then_if OfCommit P (revision_value name read s x) kind (revision_kept s x h) keeps
+          by : (o : Option (Option Commit)) → IfSome o (λ c. IfSome c P) → IfOk (or_branch o (and_then (revision_value name s x) kind)) P
+          by None k = then_if OfCommit P (revision_value name s x) kind (revision_kept s x h) keeps
           by (Some None) k = tt
           by (Some (Some c)) k = k
 
-      pub for_branch : (b : Bytes) (s : State) (x : CommitIsh) → IsStateOf s → IfOk (committed_for name read b s x) P
+      pub for_branch : (b : Bytes) (s : State) (x : CommitIsh) → IsStateOf s → IfOk (committed_for name b s x) P
       for_branch b s x h =
-          elim (is_itself name read b x) as (λ t. IfOk (cond t (Err fault.FromItself) (committed name read commit_in s x)) P) [
+          elim (is_itself b x) as (λ t. IfOk (cond t (Err fault.FromItself) (committed name commit_in s x)) P) [
             | true ↦ tt
             | false ↦ committed_kept commit_in commit_kept s x h
           ]
 
-      pub all_committed_kept : (b : Bytes) (s : State) (xs : List CommitIsh) → IsStateOf s → IfOk (all_committed name read b s xs) (AllByRecursion P)
+      pub all_committed_kept : (b : Bytes) (s : State) (xs : List CommitIsh) → IsStateOf s → IfOk (all_committed name b s xs) (AllByRecursion P)
       all_committed_kept b s [] h = tt
       all_committed_kept b s (x ∷ xs) h =
-          then_if P (AllByRecursion P) (committed_for name read b s x) (λ c. and_then (all_committed name read b s xs) (λ cs. Ok (c ∷ cs))) (for_branch b s x h)
-          (λ c k. then_if (AllByRecursion P) (AllByRecursion P) (all_committed name read b s xs) (λ cs. Ok (c ∷ cs)) (all_committed_kept b s xs h) (λ cs l. (k, l)))
+          then_if P (AllByRecursion P) (committed_for name b s x) (λ c. and_then (all_committed name b s xs) (λ cs. Ok (c ∷ cs))) (for_branch b s x h)
+          (λ c k. then_if (AllByRecursion P) (AllByRecursion P) (all_committed name b s xs) (λ cs. Ok (c ∷ cs)) (all_committed_kept b s xs h) (λ cs l. (k, l)))
 
-      pub first_kept : (s : State) (c : CommitParts) → IsStateOf s → IfOk (first_parent name read s c) MayBeOf
+      pub first_kept : (s : State) (c : CommitParts) → IsStateOf s → IfOk (first_parent name s c) MayBeOf
       first_kept s c h = by c.parent
         where
-          own : (o : Option (Option Commit)) → IfSome o MayBeOf → IfSome (own_commit name read o) P
+          own : (o : Option (Option Commit)) → IfSome o MayBeOf → IfSome (own_commit o) P
           own None k = tt
           own (Some None) k = tt
           own (Some (Some d)) k = k
 
-          by : (o : Option CommitIsh) → IfOk (elim o as (λ _. Result (Option Commit) Fault) [ None ↦ Ok (own_commit name read (lookup (same_bytes c.ref) s.branches)) | Some x ↦ and_then (committed_for name read c.ref s x) (λ p. Ok (Some p)) ]) MayBeOf
+          by : (o : Option CommitIsh) → IfOk (elim o as (λ _. Result (Option Commit) Fault) [ None ↦ Ok (own_commit (lookup (same_bytes c.ref) s.branches)) | Some x ↦ and_then (committed_for name c.ref s x) (λ p. Ok (Some p)) ]) MayBeOf
           by None = own (lookup (same_bytes c.ref) s.branches) (found MayBeOf (same_bytes c.ref) s.branches h.branches)
-          by (Some x) = then_if P MayBeOf (committed_for name read c.ref s x) (λ p. Ok (Some p)) (for_branch c.ref s x h) (λ p k. k)
+          by (Some x) = then_if P MayBeOf (committed_for name c.ref s x) (λ p. Ok (Some p)) (for_branch c.ref s x h) (λ p k. k)
 
-      pub with_first_kept : (o : Option Commit) (cs : List Commit) → MayBeOf o → AllByRecursion P cs → AllByRecursion P (with_first_parent name read o cs)
+      pub with_first_kept : (o : Option Commit) (cs : List Commit) → MayBeOf o → AllByRecursion P cs → AllByRecursion P (with_first_parent o cs)
       with_first_kept None cs h k = k
       with_first_kept (Some c) cs h k = (h, k)

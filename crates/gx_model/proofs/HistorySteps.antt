@@ -24,7 +24,6 @@ use Rattle.gx_model.specs.Edits.{copied, modified, renamed}
 use Rattle.gx_model.specs.Values.{Commit, Tag, Value, blob_of, blob_value, blobs_of, commit, commit_value, commits_of, files_of, is_content, is_hex_digit, is_leaf, is_name_text, is_optional_ident, is_proper, is_proper_text, list_of, parents_of, sub_maps, tag_value, tree_value}
 use Rattle.gx_model.specs.Histories.{History, IsHistory, IsIn, IsRefOf, IsWhole, Target, at_commit, at_tag, value_at, with_value}
 use Rattle.gx_model.specs.HistoryLaws.{needs}
-use Rattle.gx_model.specs.Revisions.{Revision}
 use Rattle.gx_model.specs.Denotation.{base_value, lower}
 use Rattle.gx_model.specs.Items.{items_of}
 use Rattle.gx_model.specs.Commands as command
@@ -308,7 +307,7 @@ record Grew (s : State) (P : List Value → Type 0) (t : State) : Type 0 where
   pub grows : Grows s.history.values t.history.values
   pub made : P t.history.values
 
-module _ (name : Kind → Bytes → Bytes) (read : Bytes → Result Revision Fault) where
+module _ (name : Kind → Bytes → Bytes) where
   abbrev GivesContent : State → Mode → State × Bytes → Type 0
   GivesContent s m r = Grew s (λ vs. IsKept vs (m, r.1)) r.0
 
@@ -319,7 +318,7 @@ module _ (name : Kind → Bytes → Bytes) (read : Bytes → Result Revision Fau
   given_bytes s x = Ok (s, x)
 
   blob_given : (s : State) (m : Mode) → ((x : Bytes) → IsIn s.history.values (blob_value x) → IsKept s.history.values (m, x)) → IsProperState s
-      → (r : Result Value Fault) → IfOk r (IsIn s.history.values) → IfOk (and_then r (λ v. and_then (blob_bytes name read v) (given_bytes s))) (GivesContent s m)
+      → (r : Result Value Fault) → IfOk r (IsIn s.history.values) → IfOk (and_then r (λ v. and_then (blob_bytes v) (given_bytes s))) (GivesContent s m)
   blob_given s m plain h (Err e) k = tt
   blob_given s m plain h (Ok (blob_value x)) k = record { state = h; grows = λ u i. i; made = plain x k }
   blob_given s m plain h (Ok (tree_value f)) k = tt
@@ -341,7 +340,7 @@ module _ (name : Kind → Bytes → Bytes) (read : Bytes → Result Revision Fau
       let a = added_proper (blob_value x) s h tt tt in
       record { state = a.state; grows = a.grows; made = plain (with_value s.history.values (blob_value x)) a.has }
 
-  content_given : (s : State) (m : Mode) (d : DataRef) → IsProperState s → IsContent m d → IfOk (content name read s m d) (GivesContent s m)
+  content_given : (s : State) (m : Mode) (d : DataRef) → IsProperState s → IsContent m d → IfOk (content name s m d) (GivesContent s m)
   content_given s Gitlink (Object x) h k = record { state = h; grows = λ u i. i; made = (name_lowered x (passes _ k), tt) }
   content_given s Gitlink (Mark n) h k = absurd k
   content_given s Gitlink (Inline x) h k = absurd k
@@ -372,9 +371,9 @@ module _ (name : Kind → Bytes → Bytes) (read : Bytes → Result Revision Fau
   components : (p : Path) → IsWholePath p → T (list_all is_component p)
   components p w = first (list_all is_component p) (is_short p) (passes _ w)
 
-  changed_proper : (s : State) (f : FileMap Bytes) (c : Change) → IsProperState s → AreFiles s.history.values f → IsProperChange c → IfOk (changed name read s f c) (GivesFiles s)
+  changed_proper : (s : State) (f : FileMap Bytes) (c : Change) → IsProperState s → AreFiles s.history.values f → IsProperChange c → IfOk (changed name s f c) (GivesFiles s)
   changed_proper s f (Modify m d p) h k l =
-      then_if (GivesContent s m) (GivesFiles s) (content name read s m d) (λ r. and_then (modified f p (m, r.1)) (with_files r.0)) (content_given s m d h l.0)
+      then_if (GivesContent s m) (GivesFiles s) (content name s m d) (λ r. and_then (modified f p (m, r.1)) (with_files r.0)) (content_given s m d h l.0)
       (λ r given.
       let files = grown s.history.values r.0.history.values given.grows f k in
       edited s r.0 (modified f p (m, r.1)) given.state given.grows (modified_files f p (m, r.1) l.1 files.parts)
@@ -390,11 +389,11 @@ module _ (name : Kind → Bytes → Bytes) (read : Bytes → Result Revision Fau
   then_grew : (s t u : State) (f : FileMap Bytes) → Grows s.history.values t.history.values → GivesFiles t (u, f) → GivesFiles s (u, f)
   then_grew s t u f g k = record { state = k.state; grows = λ v i. k.grows v (g v i); made = k.made }
 
-  all_changed_proper : (s : State) (f : FileMap Bytes) (cs : List Change) → IsProperState s → AreFiles s.history.values f → AllByRecursion IsProperChange cs → IfOk (all_changed name read s f cs) (GivesFiles s)
+  all_changed_proper : (s : State) (f : FileMap Bytes) (cs : List Change) → IsProperState s → AreFiles s.history.values f → AllByRecursion IsProperChange cs → IfOk (all_changed name s f cs) (GivesFiles s)
   all_changed_proper s f [] h k l = record { state = h; grows = λ u i. i; made = k }
   all_changed_proper s f (c ∷ cs) h k l =
-      then_if (GivesFiles s) (GivesFiles s) (changed name read s f c) (λ r. all_changed name read r.0 r.1 cs) (changed_proper s f c h k l.0)
-      (λ r given. by r given (all_changed name read r.0 r.1 cs) (all_changed_proper r.0 r.1 cs given.state given.made l.1))
+      then_if (GivesFiles s) (GivesFiles s) (changed name s f c) (λ r. all_changed name r.0 r.1 cs) (changed_proper s f c h k l.0)
+      (λ r given. by r given (all_changed name r.0 r.1 cs) (all_changed_proper r.0 r.1 cs given.state given.made l.1))
     where
       by : (r : State × FileMap Bytes) → GivesFiles s r → (o : Result (State × FileMap Bytes) Fault) → IfOk o (GivesFiles r.0) → IfOk o (GivesFiles s)
       by r given (Ok x) q = then_grew s r.0 x.0 x.1 given.grows q
@@ -402,7 +401,7 @@ module _ (name : Kind → Bytes → Bytes) (read : Bytes → Result Revision Fau
 
   -- ---- commands
 
-  starting_held : (vs : List Value) → IsWhole vs → (o : Option Commit) → MayBeOf (IsHeld vs) o → AreFiles vs (starting_files name read o)
+  starting_held : (vs : List Value) → IsWhole vs → (o : Option Commit) → MayBeOf (IsHeld vs) o → AreFiles vs (starting_files o)
   starting_held vs whole None h = record { parts = record { paths = tt; apart = tt; sorted = tt }; leaves = tt }
   starting_held vs whole (Some c) h = files_held vs whole c h
 
@@ -410,28 +409,28 @@ module _ (name : Kind → Bytes → Bytes) (read : Bytes → Result Revision Fau
   parents_held vs ws g [] h = tt
   parents_held vs ws g (c ∷ cs) h = (g (commit_value c) h.0, parents_held vs ws g cs h.1)
 
-  text_proper : (c : CommitParts) → IsProperCommit c → T (is_proper_text (text_made name read c))
+  text_proper : (c : CommitParts) → IsProperCommit c → T (is_proper_text (text_made c))
   text_proper c h = both (is_ident (or_else c.author c.committer) && is_ident c.committer) _ (both (is_ident (or_else c.author c.committer)) _ (by c.author h.author) (passes _ h.committer)) (passes _ h.encoding)
     where
       by : (o : Option Bytes) → IsTrue (is_optional_ident o) → T (is_ident (or_else o c.committer))
       by None k = passes _ h.committer
       by (Some x) k = passes _ k
 
-  commit_step : (s : State) (c : CommitParts) → IsProperState s → IsProperCommit c → IfOk (step_commit name read s c) IsProperState
+  commit_step : (s : State) (c : CommitParts) → IsProperState s → IsProperCommit c → IfOk (step_commit name s c) IsProperState
   commit_step s c h k =
       let vs = s.history.values in
       let whole = whole_of s.history h.history in
       let kept = commits_held s h in
       let up = elders vs whole in
-      then_if (MayBeOf (IsHeld vs)) IsProperState (first_parent name read s c) _ (first_kept (IsHeld vs) up name read s c kept)
-      (λ o first. then_if (AllByRecursion (IsHeld vs)) IsProperState (all_committed name read c.ref s c.merges) _ (all_committed_kept (IsHeld vs) up name read c.ref s c.merges kept)
-      (λ cs others. then_if (GivesFiles s) IsProperState (all_changed name read s (starting_files name read o) c.changes) _ (all_changed_proper s (starting_files name read o) c.changes h (starting_held vs whole o first) k.changes)
-      (λ r given. made r (with_first_parent name read o cs) given (with_first_kept (IsHeld vs) up name read o cs first others))))
+      then_if (MayBeOf (IsHeld vs)) IsProperState (first_parent name s c) _ (first_kept (IsHeld vs) up name s c kept)
+      (λ o first. then_if (AllByRecursion (IsHeld vs)) IsProperState (all_committed name c.ref s c.merges) _ (all_committed_kept (IsHeld vs) up name c.ref s c.merges kept)
+      (λ cs others. then_if (GivesFiles s) IsProperState (all_changed name s (starting_files o) c.changes) _ (all_changed_proper s (starting_files o) c.changes h (starting_held vs whole o first) k.changes)
+      (λ r given. made r (with_first_parent o cs) given (with_first_kept (IsHeld vs) up name o cs first others))))
     where
       made : (r : State × FileMap Bytes) (ps : List Commit) → GivesFiles s r → AllByRecursion (IsHeld s.history.values) ps
-          → IsProperState (on_branch c.ref (Some (commit r.1 (commits_of ps) (text_made name read c))) (marked c.mark (commit_value (commit r.1 (commits_of ps) (text_made name read c))) (added (commit_value (commit r.1 (commits_of ps) (text_made name read c))) r.0)))
+          → IsProperState (on_branch c.ref (Some (commit r.1 (commits_of ps) (text_made c))) (marked c.mark (commit_value (commit r.1 (commits_of ps) (text_made c))) (added (commit_value (commit r.1 (commits_of ps) (text_made c))) r.0)))
       made r ps given held =
-          let new = commit r.1 (commits_of ps) (text_made name read c) in
+          let new = commit r.1 (commits_of ps) (text_made c) in
           let ws = r.0.history.values in
           let a = added_proper (commit_value new) r.0 given.state (both (is_content r.1) _ (content_of ws r.1 given.made) (text_proper c k))
           (all_join (IsIn ws) (blobs_of r.1) (map commit_value (list_of (commits_of ps))) (blobs_kept ws r.1 given.made.leaves) (parents_held s.history.values ws given.grows ps held)) in
@@ -439,12 +438,12 @@ module _ (name : Kind → Bytes → Bytes) (read : Bytes → Result Revision Fau
           (marked_proper c.mark (commit_value new) (added (commit_value new) r.0) a.state a.has) (passes _ k.ref)
           (subst (λ us. IsIn us (commit_value new)) (sym (marked_values c.mark (commit_value new) (added (commit_value new) r.0))) a.has)
 
-  tag_step : (s : State) (t : TagParts) → IsProperState s → IsProperTag t → IfOk (step_tag name read s t) IsProperState
+  tag_step : (s : State) (t : TagParts) → IsProperState s → IsProperTag t → IfOk (step_tag name s t) IsProperState
   tag_step s t h k =
       let vs = s.history.values in
       let whole = whole_of s.history h.history in
-      then_if (IsHeld vs) IsProperState (committed name read commit_alone s t.target) _
-      (committed_kept (IsHeld vs) (elders vs whole) name read commit_alone (alone_kept (IsHeld vs)) s t.target (commits_held s h)) made
+      then_if (IsHeld vs) IsProperState (committed name commit_alone s t.target) _
+      (committed_kept (IsHeld vs) (elders vs whole) name commit_alone (alone_kept (IsHeld vs)) s t.target (commits_held s h)) made
     where
       made : (c : Commit) → IsHeld s.history.values c → IsProperState (let v : Tag = record { target = c; name = t.name; tagger = t.tagger; message = t.message } in let s' : State = marked t.mark (tag_value v) (added (tag_value v) s) in record s' { tags = put byte_cmp (tag_ref t.name) v s'.tags })
       made c i =
@@ -461,14 +460,14 @@ module _ (name : Kind → Bytes → Bytes) (read : Bytes → Result Revision Fau
             tags = put_each (IsMadeTag s'.history.values) (tag_ref t.name) v s'.tags (record { ref = passes _ k.name; own = refl; held = has }) m.tags;
           }
 
-  reset_step : (s : State) (b : Bytes) (o : Option CommitIsh) → IsProperState s → T (is_ref_name b) → IfOk (step_reset name read s b o) IsProperState
+  reset_step : (s : State) (b : Bytes) (o : Option CommitIsh) → IsProperState s → T (is_ref_name b) → IfOk (step_reset name s b o) IsProperState
   reset_step s b None h is = on_branch_proper b None s h is tt
   reset_step s b (Some x) h is =
       let vs = s.history.values in
       let whole = whole_of s.history h.history in
-      then_if (IsHeld vs) IsProperState (committed_for name read b s x) _ (for_branch (IsHeld vs) (elders vs whole) name read b s x (commits_held s h)) (λ c i. on_branch_proper b (Some c) s h is i)
+      then_if (IsHeld vs) IsProperState (committed_for name b s x) _ (for_branch (IsHeld vs) (elders vs whole) name b s x (commits_held s h)) (λ c i. on_branch_proper b (Some c) s h is i)
 
-  step_proper : (s : State) (c : Command) → IsProperState s → IsProperCommand c → IfOk (step name read s c) IsProperState
+  step_proper : (s : State) (c : Command) → IsProperState s → IsProperCommand c → IfOk (step name s c) IsProperState
   step_proper s (Blob b) h k = let a = added_proper (blob_value b.bytes) s h tt tt in marked_proper b.mark (blob_value b.bytes) (added (blob_value b.bytes) s) a.state a.has
   step_proper s (command.Commit c) h k = commit_step s c h k
   step_proper s (command.Tag t) h k = tag_step s t h k
@@ -488,7 +487,7 @@ abbrev IsOutcome : Outcome → Type 0
 IsOutcome (finished h x r) = IsHistory h
 IsOutcome (refused n f x kept) = IsHistory kept.history
 
-module _ (name : Kind → Bytes → Bytes) (read : Bytes → Result Revision Fault) where
+module _ (name : Kind → Bytes → Bytes) where
   end_proper : (n : ℕ) (s : State) (end : Option Fault) → IsProperState s → IsOutcome (ended n s end)
   end_proper n s (Some e) h = h.kept
   end_proper n s None h = by (is_fast_forward s)
@@ -497,12 +496,12 @@ module _ (name : Kind → Bytes → Bytes) (read : Bytes → Result Revision Fau
       by true = final_proper s h
       by false = h.kept
 
-  replayed_proper : (n : ℕ) (s : State) (cs : List Command) (end : Option Fault) → IsProperState s → AllByRecursion IsProperCommand cs → IsOutcome (replayed name read n s cs end)
+  replayed_proper : (n : ℕ) (s : State) (cs : List Command) (end : Option Fault) → IsProperState s → AllByRecursion IsProperCommand cs → IsOutcome (replayed name n s cs end)
   replayed_proper n s [] end h all = end_proper n s end h
-  replayed_proper n s (c ∷ cs) end h all = by (step name read s c) (step_proper name read s c h all.0) (λ t proper. replayed_proper (n + 1) t cs end proper all.1)
+  replayed_proper n s (c ∷ cs) end h all = by (step name s c) (step_proper name s c h all.0) (λ t proper. replayed_proper (n + 1) t cs end proper all.1)
     where
-      by : (r : Result State Fault) → IfOk r IsProperState → ((t : State) → IsProperState t → IsOutcome (replayed name read (n + 1) t cs end))
-          → IsOutcome (elim r as (λ _. Outcome) [ Ok t ↦ replayed name read (n + 1) t cs end | Err e ↦ refused (n + 1) e s.progress s.kept ])
+      by : (r : Result State Fault) → IfOk r IsProperState → ((t : State) → IsProperState t → IsOutcome (replayed name (n + 1) t cs end))
+          → IsOutcome (elim r as (λ _. Outcome) [ Ok t ↦ replayed name (n + 1) t cs end | Err e ↦ refused (n + 1) e s.progress s.kept ])
       by (Ok t) proper rest = rest t proper
       by (Err f) proper rest = h.kept
 
@@ -512,12 +511,12 @@ pub nothing_is : IsHistory nothing
 nothing_is = record { proper = refl; closed = tt; sorted = refl; ref_names = refl; held = tt; own = tt }
 
 pub replays_give : ReplaysGiveHistories
-replays_give name read h k commands end n text counts is all e = subst IsOutcome e (replayed_proper name read n (start h) commands end (start_proper h is) all)
+replays_give name h k commands end n text counts is all e = subst IsOutcome e (replayed_proper name n (start h) commands end (start_proper h is) all)
 
 pub refusals_keep : RefusalsKeepHistories
-refusals_keep name read h commands end n number fault text kept is all e = subst IsOutcome e (replayed_proper name read n (start h) commands end (start_proper h is) all)
+refusals_keep name h commands end n number fault text kept is all e = subst IsOutcome e (replayed_proper name n (start h) commands end (start_proper h is) all)
 
 pub texts_give : TextsGiveHistories
-texts_give name read h k given fails text counts is e =
+texts_give name h k given fails text counts is e =
     let commands = commands_of (items_of given fails) in
-    replays_give name read h k commands.list commands.fault 0 text counts is (all_proper (items_of given fails)) e
+    replays_give name h k commands.list commands.fault 0 text counts is (all_proper (items_of given fails)) e

@@ -1,5 +1,5 @@
 -- The commands of an export's refs are replayed, and the refs are what they were.
-use Rattle.std.proofs.Common.{◌≡◌, true, false, cond, Option, Some, None, Result, Ok, List, [], ◌∷◌, ◌++◌, map, refl, sym, ap, subst, ◌∙◌, append-nil, append_assoc, inl, inr}
+use Rattle.std.proofs.Common.{◌≡◌, true, false, cond, Option, Some, None, Ok, List, [], ◌∷◌, ◌++◌, map, refl, sym, ap, subst, ◌∙◌, append-nil, append_assoc, inl, inr}
 use Rattle.std.proofs.lemmas.Map.Text.{is_eq-slice_cmp}
 use Rattle.std.proofs.lemmas.Slice.Eq.{bytes_eq-Decides}
 use Rattle.std.specs.Cmp.{IsTotalOrder}
@@ -15,10 +15,8 @@ use Rattle.gx_model.specs.Histories.{IsIn, IsRefOf, IsWhole, Reaches, Target, at
 use Rattle.gx_model.specs.HistoryLaws.{IsAdded}
 use Rattle.gx_model.specs.Ranges.{commit_of}
 use Rattle.gx_model.specs.Replay.{State, byte_cmp, peeled_at, with_branch}
-use Rattle.gx_model.specs.Revisions.{Revision}
 use Rattle.gx_model.specs.Texts.{Bytes}
 use Rattle.gx_model.specs.Values.{Commit, Tag, Value, commit_value, is_proper, tag_value}
-use Rattle.gx_model.specs.declared.faults.Fault.{Fault}
 use Rattle.gx_model.specs.declared.objects.Kind.{Kind}
 use Rattle.gx_model.proofs.AddedValues.{keeps, one_added}
 use Rattle.gx_model.proofs.CommitSteps.{number_found}
@@ -171,8 +169,8 @@ ref_tags ts ((n, at_tag t) ∷ rs) = ref_tags (put byte_cmp n t ts) rs
 abbrev pub ArePeeled : List Value → Refs → Type 0
 ArePeeled ws rs = AllByRecursion (λ r. IsIn ws (commit_value (peeled_at r.1))) rs
 
-module _ (name : Kind → Bytes → Bytes) (read : Bytes → Result Revision Fault) where
-  pub refs_replayed : (ws vs : List Value) (bs : Branches) (ts : Tags) (rs : Refs) → AllByRecursion (λ r. IsRefOf r.0 r.1) rs → ArePeeled ws rs → steps name read (state_with ws vs bs ts) (map (ref_command ws) rs) ≡ Ok (state_with ws (ref_values vs rs) (ref_branches bs rs) (ref_tags ts rs))
+module _ (name : Kind → Bytes → Bytes) where
+  pub refs_replayed : (ws vs : List Value) (bs : Branches) (ts : Tags) (rs : Refs) → AllByRecursion (λ r. IsRefOf r.0 r.1) rs → ArePeeled ws rs → steps name (state_with ws vs bs ts) (map (ref_command ws) rs) ≡ Ok (state_with ws (ref_values vs rs) (ref_branches bs rs) (ref_tags ts rs))
   refs_replayed ws vs bs ts [] o h = refl
   refs_replayed ws vs bs ts ((n, at_commit c) ∷ rs) o h =
       let again = refs_replayed ws vs (put byte_cmp n (Some c) bs) ts rs o.1 h.1 in

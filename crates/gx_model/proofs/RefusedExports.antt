@@ -19,7 +19,6 @@ use Rattle.gx_model.specs.Paths.{Path, is_file_path, path_text, printed}
 use Rattle.gx_model.specs.Files.{FileMap, Leaf, are_file_paths}
 use Rattle.gx_model.specs.Values.{Commit, Value, blob_value, commit_value, files_of, is_content, is_hex_digit, is_leaf, is_name_text, is_optional_encoding, is_proper, is_proper_text, list_of, parents_of, text_of}
 use Rattle.gx_model.specs.Histories.{History, IsHistory, IsIn}
-use Rattle.gx_model.specs.Revisions.{Revision}
 use Rattle.gx_model.specs.Items.{Data, Finished, Item, Line, Stream, items_of}
 use Rattle.gx_model.specs.Commands as command
 use Rattle.gx_model.specs.Commands.{Change, Clear, Command, CommitIsh, CommitParts, Copy, Modify, Object, Remove, Rename}
@@ -391,15 +390,15 @@ okay s = Ok s
 same_ok : (s t : State) → okay s ≡ okay t → s ≡ t
 same_ok s t e = cc
 
-module _ (name : Kind → Bytes → Bytes) (read : Bytes → Result Revision Fault) where
-  root_replayed : (ws vs : List Value) (b : Option (Option Commit)) (ps : List Commit) → steps name read (state_at ws vs b) (root_reset ps) ≡ Ok (state_at ws vs (after_root b ps))
+module _ (name : Kind → Bytes → Bytes) where
+  root_replayed : (ws vs : List Value) (b : Option (Option Commit)) (ps : List Commit) → steps name (state_at ws vs b) (root_reset ps) ≡ Ok (state_at ws vs (after_root b ps))
   root_replayed ws vs None [] = refl
   root_replayed ws vs (Some x) [] = refl
   root_replayed ws vs b (p ∷ ps) = refl
 
   -- the commands up to the commit that is refused
   front_replayed : (before : List Commit) (xs : List Bytes) (ps : List Commit) → FollowsAll [] before
-      → (t : State) × (t.progress ≡ []) × (t.kept ≡ (start nothing).kept) × (steps name read (state_at [] [] None) (commit_commands [] before ++ (blob_commands (fold with_commit [] before) xs ++ root_reset ps)) ≡ Ok t)
+      → (t : State) × (t.progress ≡ []) × (t.kept ≡ (start nothing).kept) × (steps name (state_at [] [] None) (commit_commands [] before ++ (blob_commands (fold with_commit [] before) xs ++ root_reset ps)) ≡ Ok t)
   front_replayed before xs ps f =
       let ws = fold with_commit [] before in
       let vs = values_after [] [] before in
@@ -409,20 +408,20 @@ module _ (name : Kind → Bytes → Bytes) (read : Bytes → Result Revision Fau
         state_at (with_blobs ws xs) us (after_root b ps),
         refl,
         refl,
-        steps-append name read (state_at [] [] None) (commit_commands [] before) rest
-            ∙ ap (λ r. and_then r (λ u. steps name read u rest)) (commits_replayed name read [] [] None [] before none_held f)
-            ∙ steps-append name read (state_at ws vs b) (blob_commands ws xs) (root_reset ps)
-            ∙ ap (λ r. and_then r (λ u. steps name read u (root_reset ps))) (blobs_replayed name read ws vs b xs)
+        steps-append name (state_at [] [] None) (commit_commands [] before) rest
+            ∙ ap (λ r. and_then r (λ u. steps name u rest)) (commits_replayed name [] [] None [] before none_held f)
+            ∙ steps-append name (state_at ws vs b) (blob_commands ws xs) (root_reset ps)
+            ∙ ap (λ r. and_then r (λ u. steps name u (root_reset ps))) (blobs_replayed name ws vs b xs)
             ∙ root_replayed (with_blobs ws xs) us b ps,
       )
 
   -- a fault behind commands that are replayed
-  then_refused : (n : ℕ) (s t : State) (cs : List Command) (f : Fault) → steps name read s cs ≡ Ok t → (m : ℕ) × (replayed name read n s cs (Some f) ≡ refused m f t.progress t.kept)
+  then_refused : (n : ℕ) (s t : State) (cs : List Command) (f : Fault) → steps name s cs ≡ Ok t → (m : ℕ) × (replayed name n s cs (Some f) ≡ refused m f t.progress t.kept)
   then_refused n s t [] f e = (n + 1, ap (λ (u : State). refused (n + 1) f u.progress u.kept) (same_ok s t e))
-  then_refused n s t (c ∷ cs) f e = by (step name read s c) (λ u. then_refused (n + 1) u t cs f) e
+  then_refused n s t (c ∷ cs) f e = by (step name s c) (λ u. then_refused (n + 1) u t cs f) e
     where
-      by : (r : Result State Fault) → ((u : State) → steps name read u cs ≡ Ok t → (m : ℕ) × (replayed name read (n + 1) u cs (Some f) ≡ refused m f t.progress t.kept)) → and_then r (λ u. steps name read u cs) ≡ Ok t
-          → (m : ℕ) × (elim r as (λ x. Outcome) [ Ok u ↦ replayed name read (n + 1) u cs (Some f) | Err g ↦ refused (n + 1) g s.progress s.kept ] ≡ refused m f t.progress t.kept)
+      by : (r : Result State Fault) → ((u : State) → steps name u cs ≡ Ok t → (m : ℕ) × (replayed name (n + 1) u cs (Some f) ≡ refused m f t.progress t.kept)) → and_then r (λ u. steps name u cs) ≡ Ok t
+          → (m : ℕ) × (elim r as (λ x. Outcome) [ Ok u ↦ replayed name (n + 1) u cs (Some f) | Err g ↦ refused (n + 1) g s.progress s.kept ] ≡ refused m f t.progress t.kept)
       by (Ok u) again q = again u q
       by (Err g) again q = absurd cc
 
@@ -568,18 +567,18 @@ module _ (h : History) (is : IsHistory h) (before : List Commit) (bad : Commit) 
       ∙ ap (λ is. commands_of (stream is)) items_split
       ∙ read_refused bad_items bad_fails (starts_commit (commit_with with_own bad (files_of bad)) rest) front front_spelled (some_lines (commit_with with_own bad (files_of bad)) rest)
 
-  import_refused : (name : Kind → Bytes → Bytes) (read : Bytes → Result Revision Fault)
-      → (n : ℕ) × (replayed_text name read nothing (flat_map item_text (flat_map command_items (between (inner_commands all h.refs)))) false ≡ refused n faults.Unsupported [] (start nothing).kept)
-  import_refused name read =
-      let ran = front_replayed name read before (contents (files_of bad)) (list_of (parents_of bad)) follows_before in
-      let end = then_refused name read 0 (start nothing) ran.0 (command.Asks features.Done ∷ front) faults.Unsupported ran.3 in
-      (end.0, ap (λ cs. replayed name read 0 (start nothing) cs.list cs.fault) commands_are ∙ end.1 ∙ (λ i. refused end.0 faults.Unsupported (ran.1 i) (ran.2 i)))
+  import_refused : (name : Kind → Bytes → Bytes)
+      → (n : ℕ) × (replayed_text name nothing (flat_map item_text (flat_map command_items (between (inner_commands all h.refs)))) false ≡ refused n faults.Unsupported [] (start nothing).kept)
+  import_refused name =
+      let ran = front_replayed name before (contents (files_of bad)) (list_of (parents_of bad)) follows_before in
+      let end = then_refused name 0 (start nothing) ran.0 (command.Asks features.Done ∷ front) faults.Unsupported ran.3 in
+      (end.0, ap (λ cs. replayed name 0 (start nothing) cs.list cs.fault) commands_are ∙ end.1 ∙ (λ i. refused end.0 faults.Unsupported (ran.1 i) (ran.2 i)))
 
 pub nulls_refused : NullGitlinksAreRefused
-nulls_refused name read h is some short = by (first_commit (reached_commits h))
+nulls_refused name h is some short = by (first_commit (reached_commits h))
   where
-    by : HaveNoNullGitlink (reached_commits h) ⊎ FirstCommit (reached_commits h) → (n : ℕ) × (replayed_text name read nothing (export_text h) false ≡ refused n faults.Unsupported [] (start nothing).kept)
+    by : HaveNoNullGitlink (reached_commits h) ⊎ FirstCommit (reached_commits h) → (n : ℕ) × (replayed_text name nothing (export_text h) false ≡ refused n faults.Unsupported [] (start nothing).kept)
     by (inl none) = absurd (some none)
-    by (inr r) = subst (λ cs. AreExported h cs → (n : ℕ) × (replayed_text name read nothing (flat_map item_text (flat_map command_items (between (inner_commands cs h.refs)))) false ≡ refused n faults.Unsupported [] (start nothing).kept)) (sym r.are)
-        (λ known. import_refused h is r.before r.bad r.after r.file r.clean known name read)
+    by (inr r) = subst (λ cs. AreExported h cs → (n : ℕ) × (replayed_text name nothing (flat_map item_text (flat_map command_items (between (inner_commands cs h.refs)))) false ≡ refused n faults.Unsupported [] (start nothing).kept)) (sym r.are)
+        (λ known. import_refused h is r.before r.bad r.after r.file r.clean known name)
         (record { follows = all_follow h is; peeled = peeled_ones h is; fits = short })

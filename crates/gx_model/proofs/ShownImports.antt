@@ -26,7 +26,7 @@ use Rattle.gx_model.specs.Sound.{AnyByRecursion, IsSound}
 use Rattle.gx_model.specs.Growth.{record_named}
 use Rattle.gx_model.specs.Walks.{place_in, place_of, walked}
 use Rattle.gx_model.specs.Lookups.{first_named, or_else}
-use Rattle.gx_model.specs.Revisions.{Revision, revision_of}
+use Rattle.gx_model.specs.Revisions.{Revision}
 use Rattle.gx_model.specs.Denotation.{Shown, denoted, file_shown, files_in, first_ref, looked_up, object, of_file, or_ref, ref_names, shown_value, submodule}
 use Rattle.gx_model.specs.Replay.{imported}
 use Rattle.gx_model.specs.ExportLaws.{AnyReaches, IsAgain, nothing}
@@ -228,9 +228,9 @@ module _ (name : Kind → Bytes → Bytes) (namer : IsNamer name) where
   pub headline : Headline name
   unfolding imported
   headline given fails h progress report r e has =
-      let is = texts_give name revision_of nothing h given fails progress report nothing_is e in
+      let is = texts_give name nothing h given fails progress report nothing_is e in
       let s : StandsFor name r h = record { history = is; records = has.records; distinct = has.distinct; refs = has.refs } in (
         s,
         shown name namer r h s,
-        λ short. let q = texts_back name revision_of h given fails progress report e short in (q.0, of_history q.0, q.2, comes_back r h q.0 s q.1),
+        λ short. let q = texts_back name h given fails progress report e short in (q.0, of_history q.0, q.2, comes_back r h q.0 s q.1),
       )

@@ -1,5 +1,5 @@
 -- An export's commands can be spelled, and its text is imported.
-use Rattle.std.proofs.Common.{◌≡◌, suc, ◌<◌, ◌≤◌, ◌^◌, Bool, true, false, cond, ◌&&◌, Some, Result, List, [], ◌∷◌, ◌++◌, length, map, refl, sym, ap, subst, ◌∙◌, arith, inl, inr}
+use Rattle.std.proofs.Common.{◌≡◌, suc, ◌<◌, ◌≤◌, ◌^◌, Bool, true, false, cond, ◌&&◌, Some, List, [], ◌∷◌, ◌++◌, length, map, refl, sym, ap, subst, ◌∙◌, arith, inl, inr}
 use Rattle.std.specs.Bool.{passes}
 use Rattle.std.specs.List.{list_all, fold, AllByRecursion, cons_option}
 use Rattle.std.specs.Prelude.{T, ◌⊎◌}
@@ -13,10 +13,8 @@ use Rattle.gx_model.specs.Idents.{is_ident}
 use Rattle.gx_model.specs.Paths.{is_file_path}
 use Rattle.gx_model.specs.RefNames.{is_ref_name, is_tag_name}
 use Rattle.gx_model.specs.Replay.{finished, peeled_at, replayed, replayed_text, start}
-use Rattle.gx_model.specs.Revisions.{Revision}
 use Rattle.gx_model.specs.Texts.{Bytes}
 use Rattle.gx_model.specs.Values.{Commit, Value, blob_value, commit_value, files_of, is_content, is_leaf, is_proper, is_proper_text, list_of, parents_of, same_value, text_of}
-use Rattle.gx_model.specs.declared.faults.Fault.{Fault}
 use Rattle.gx_model.specs.declared.objects.Kind.{Kind}
 use Rattle.gx_model.specs.declared.objects.Mode.{Mode}
 use Rattle.gx_model.specs.declared.objects.Mode.TheVariants.{Dir, Exec, File, Gitlink, Link}
@@ -166,12 +164,12 @@ export_spelled h x r =
 
 -- ---- the import of an export
 
-pub export_imported : (name : Kind → Bytes → Bytes) (read : Bytes → Result Revision Fault) (h : History) → IsHistory h → IsReadable h
-    → (k : History) × IsAgain h k × (replayed_text name read nothing (export_text h) false ≡ finished k [] (exported_report h k))
-export_imported name read h x r =
+pub export_imported : (name : Kind → Bytes → Bytes) (h : History) → IsHistory h → IsReadable h
+    → (k : History) × IsAgain h k × (replayed_text name nothing (export_text h) false ≡ finished k [] (exported_report h k))
+export_imported name h x r =
     let inner = inner_commands (reached_commits h) h.refs in
     let s = export_spelled h x r in
     let items = items_read (export_items h) (between_spelled inner s) in
     let commands = ap commands_of items ∙ commands_read inner s in
-    let again = export_replayed name read h x in
-    (again.0, again.1, ap (λ cs. replayed name read 0 (start nothing) cs.list cs.fault) commands ∙ again.2)
+    let again = export_replayed name h x in
+    (again.0, again.1, ap (λ cs. replayed name 0 (start nothing) cs.list cs.fault) commands ∙ again.2)

@@ -19,7 +19,6 @@ use Rattle.gx_model.specs.Grammar.{commands_of, is_null}
 use Rattle.gx_model.specs.Files.{Leaf}
 use Rattle.gx_model.specs.Values.{Commit, Value, blob_value, commit_value, files_of, is_content, is_name_text, is_optional_encoding, is_optional_ident, is_proper, list_of, parents_of, text_of}
 use Rattle.gx_model.specs.Histories.{History, IsHistory, IsIn, IsWhole, Reaches, Target, at_commit, at_tag, is_in, value_at, with_one, with_value}
-use Rattle.gx_model.specs.Revisions.{Revision}
 use Rattle.gx_model.specs.Ranges.{commit_of}
 use Rattle.gx_model.specs.Replay.{Report, State, finished, or_else, replayed, replayed_text, start, step}
 use Rattle.gx_model.specs.Export.{all_written, carrier, command_items, contents, export_commands, export_text, inner_commands, item_text, one_commit, reached_commits, with_commit}
@@ -162,11 +161,11 @@ values_with_blobs ws vs (x ∷ xs) =
 abbrev pub values_with_commit : List Value → List Value → Commit → List Value
 values_with_commit ws vs c = with_value (values_with_blobs ws vs (contents (files_of c))) (commit_value c)
 
-module _ (name : Kind → Bytes → Bytes) (read : Bytes → Result Revision Fault) where
+module _ (name : Kind → Bytes → Bytes) where
   -- the state after some commands, without the end
   abbrev pub steps : State → List Command → Result State Fault
   steps s [] = Ok s
-  steps s (c ∷ cs) = and_then (step name read s c) (λ t. steps t cs)
+  steps s (c ∷ cs) = and_then (step name s c) (λ t. steps t cs)
 
   -- One commit's commands, where its parents were written: they meet no fault, mark n still stands for the nth blob or commit written, and the values are these.
   abbrev pub CommitIsReplayed : Type 0
@@ -226,8 +225,8 @@ exported_report h k = record { commands = length (export_commands h); objects = 
 -- the commands of an export, replayed from nothing, give its refs and what they reach
 abbrev pub ExportIsReplayed : Type 0
 ExportIsReplayed =
-    (name : Kind → Bytes → Bytes) (read : Bytes → Result Revision Fault) (h : History) → IsHistory h
-    → (k : History) × IsAgain h k × (replayed name read 0 (start nothing) (export_commands h) None ≡ finished k [] (exported_report h k))
+    (name : Kind → Bytes → Bytes) (h : History) → IsHistory h
+    → (k : History) × IsAgain h k × (replayed name 0 (start nothing) (export_commands h) None ≡ finished k [] (exported_report h k))
 
 -- ---- what an export can be read of
 
@@ -271,8 +270,8 @@ ExportIsSpelled = (h : History) → IsHistory h → IsReadable h → AllByRecurs
 -- importing the export of a history gives the same refs and exactly what they reach
 abbrev pub ExportIsImported : Type 0
 ExportIsImported =
-    (name : Kind → Bytes → Bytes) (read : Bytes → Result Revision Fault) (h : History) → IsHistory h → IsReadable h
-    → (k : History) × IsAgain h k × (replayed_text name read nothing (export_text h) false ≡ finished k [] (exported_report h k))
+    (name : Kind → Bytes → Bytes) (h : History) → IsHistory h → IsReadable h
+    → (k : History) × IsAgain h k × (replayed_text name nothing (export_text h) false ≡ finished k [] (exported_report h k))
 
 -- lengths and marks fit where the text does
 abbrev pub FormedIsReadable : Type 0

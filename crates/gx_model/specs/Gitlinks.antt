@@ -1,7 +1,7 @@
 -- Gitlinks of forty zeros: no command of a stream gives one, so that an import makes no commit with one, and its export can be
 -- imported.
 -- Source: git-fast-import(1), "filemodify".
-use Rattle.std.specs.Prelude.{◌≡◌, ℕ, ◌<◌, ◌^◌, Bool, false, List, [], length, Option, Result, ⊤}
+use Rattle.std.specs.Prelude.{◌≡◌, ℕ, ◌<◌, ◌^◌, Bool, false, List, [], length, Option, ⊤}
 use Rattle.std.specs.List.{AllByRecursion, filter_map}
 use Rattle.gx_model.specs.declared.faults.Fault.{Fault}
 use Rattle.gx_model.specs.declared.faults.Fault.TheVariants.{Unsupported}
@@ -13,7 +13,6 @@ use Rattle.gx_model.specs.Commands as command
 use Rattle.gx_model.specs.Commands.{Change, Command, Inline, Mark, Modify, Object}
 use Rattle.gx_model.specs.Grammar.{commands_of, is_null}
 use Rattle.gx_model.specs.Histories.{History, IsHistory}
-use Rattle.gx_model.specs.Revisions.{Revision}
 use Rattle.gx_model.specs.Ranges.{commit_of}
 use Rattle.gx_model.specs.Export.{export_text}
 use Rattle.gx_model.specs.Replay.{Kept, Report, finished, refused, replayed, replayed_text, start}
@@ -52,36 +51,36 @@ StreamsBringNone = (s : Stream) → AllByRecursion BringsNoNullGitlink (commands
 -- and commands that bring none leave none where there was none
 abbrev pub ReplaysKeepNone : Type 0
 ReplaysKeepNone =
-    (name : Kind → Bytes → Bytes) (read : Bytes → Result Revision Fault) (h k : History) (commands : List Command)
+    (name : Kind → Bytes → Bytes) (h k : History) (commands : List Command)
     (end : Option Fault) (n : ℕ) (text : Bytes) (report : Report)
     → IsHistory h → HoldsNoNullGitlink h → AllByRecursion BringsNoNullGitlink commands
-    → replayed name read n (start h) commands end ≡ finished k text report → HoldsNoNullGitlink k
+    → replayed name n (start h) commands end ≡ finished k text report → HoldsNoNullGitlink k
 
 -- nor where they are refused
 abbrev pub RefusalsKeepNone : Type 0
 RefusalsKeepNone =
-    (name : Kind → Bytes → Bytes) (read : Bytes → Result Revision Fault) (h : History) (commands : List Command)
+    (name : Kind → Bytes → Bytes) (h : History) (commands : List Command)
     (end : Option Fault) (n number : ℕ) (fault : Fault) (text : Bytes) (kept : Kept)
     → IsHistory h → HoldsNoNullGitlink h → AllByRecursion BringsNoNullGitlink commands
-    → replayed name read n (start h) commands end ≡ refused number fault text kept → HoldsNoNullGitlink kept.history
+    → replayed name n (start h) commands end ≡ refused number fault text kept → HoldsNoNullGitlink kept.history
 
 -- so no text brings one
 abbrev pub TextsBringNone : Type 0
 TextsBringNone =
-    (name : Kind → Bytes → Bytes) (read : Bytes → Result Revision Fault) (h k : History) (given : Bytes) (fails : Bool) (text : Bytes) (report : Report)
-    → IsHistory h → HoldsNoNullGitlink h → replayed_text name read h given fails ≡ finished k text report → HoldsNoNullGitlink k
+    (name : Kind → Bytes → Bytes) (h k : History) (given : Bytes) (fails : Bool) (text : Bytes) (report : Report)
+    → IsHistory h → HoldsNoNullGitlink h → replayed_text name h given fails ≡ finished k text report → HoldsNoNullGitlink k
 
 -- Whatever text gives a history from nothing: that history's export, read and replayed from nothing, gives the same refs, exactly
 -- what these reach, and the commits in their order.
 abbrev pub TextsComeBack : Type 0
 TextsComeBack =
-    (name : Kind → Bytes → Bytes) (read : Bytes → Result Revision Fault) (h : History) (given : Bytes) (fails : Bool) (text : Bytes) (report : Report)
-    → replayed_text name read nothing given fails ≡ finished h text report → length (export_text h) < 2 ^ 64
-    → (k : History) × IsAgain h k × (replayed_text name read nothing (export_text h) false ≡ finished k [] (exported_report h k))
+    (name : Kind → Bytes → Bytes) (h : History) (given : Bytes) (fails : Bool) (text : Bytes) (report : Report)
+    → replayed_text name nothing given fails ≡ finished h text report → length (export_text h) < 2 ^ 64
+    → (k : History) × IsAgain h k × (replayed_text name nothing (export_text h) false ≡ finished k [] (exported_report h k))
 
 -- Where refs reach one, which no text brings but a store may hold, the history's export is refused: what it writes can't be read.
 abbrev pub NullGitlinksAreRefused : Type 0
 NullGitlinksAreRefused =
-    (name : Kind → Bytes → Bytes) (read : Bytes → Result Revision Fault) (h : History)
+    (name : Kind → Bytes → Bytes) (h : History)
     → IsHistory h → (HasNoNullGitlink h → ⊥) → length (export_text h) < 2 ^ 64
-    → (n : ℕ) × (replayed_text name read nothing (export_text h) false ≡ refused n Unsupported [] (start nothing).kept)
+    → (n : ℕ) × (replayed_text name nothing (export_text h) false ≡ refused n Unsupported [] (start nothing).kept)

@@ -1,6 +1,6 @@
 -- Replays give histories: the parts of a stream's commands have their forms, and commands whose parts have them leave a history
 -- one. Source: git-fast-import(1), "Commands".
-use Rattle.std.specs.Prelude.{◌≡◌, ℕ, Bool, ◌&&◌, IsTrue, List, Option, Result, ⊤}
+use Rattle.std.specs.Prelude.{◌≡◌, ℕ, Bool, ◌&&◌, IsTrue, List, Option, ⊤}
 use Rattle.std.specs.List.{AllByRecursion, list_all}
 use Rattle.gx_model.specs.declared.faults.Fault.{Fault}
 use Rattle.gx_model.specs.declared.objects.Kind.{Kind}
@@ -16,7 +16,6 @@ use Rattle.gx_model.specs.Commands.{Change, Clear, Command, CommitParts, Copy, D
 use Rattle.gx_model.specs.Grammar.{commands_of, is_name}
 use Rattle.gx_model.specs.Values.{is_optional_encoding, is_optional_ident}
 use Rattle.gx_model.specs.Histories.{History, IsHistory}
-use Rattle.gx_model.specs.Revisions.{Revision}
 use Rattle.gx_model.specs.Replay.{Kept, Report, finished, refused, replayed, replayed_text, start}
 
 -- ---- commands
@@ -70,22 +69,22 @@ StreamsAreProper = (s : Stream) → AllByRecursion IsProperCommand (commands_of 
 -- commands with such parts leave a history one
 abbrev pub ReplaysGiveHistories : Type 0
 ReplaysGiveHistories =
-    (name : Kind → Bytes → Bytes) (read : Bytes → Result Revision Fault) (h k : History) (commands : List Command)
+    (name : Kind → Bytes → Bytes) (h k : History) (commands : List Command)
     (end : Option Fault) (n : ℕ) (text : Bytes) (report : Report)
     → IsHistory h → AllByRecursion IsProperCommand commands
-    → replayed name read n (start h) commands end ≡ finished k text report → IsHistory k
+    → replayed name n (start h) commands end ≡ finished k text report → IsHistory k
 
 -- and where they are refused, what is kept is one
 abbrev pub RefusalsKeepHistories : Type 0
 RefusalsKeepHistories =
-    (name : Kind → Bytes → Bytes) (read : Bytes → Result Revision Fault) (h : History) (commands : List Command)
+    (name : Kind → Bytes → Bytes) (h : History) (commands : List Command)
     (end : Option Fault) (n number : ℕ) (fault : Fault) (text : Bytes) (kept : Kept)
     → IsHistory h → AllByRecursion IsProperCommand commands
-    → replayed name read n (start h) commands end ≡ refused number fault text kept → IsHistory kept.history
+    → replayed name n (start h) commands end ≡ refused number fault text kept → IsHistory kept.history
 
 -- so does any text
 abbrev pub TextsGiveHistories : Type 0
 TextsGiveHistories =
-    (name : Kind → Bytes → Bytes) (read : Bytes → Result Revision Fault) (h k : History) (given : Bytes) (fails : Bool)
+    (name : Kind → Bytes → Bytes) (h k : History) (given : Bytes) (fails : Bool)
     (text : Bytes) (report : Report)
-    → IsHistory h → replayed_text name read h given fails ≡ finished k text report → IsHistory k
+    → IsHistory h → replayed_text name h given fails ≡ finished k text report → IsHistory k

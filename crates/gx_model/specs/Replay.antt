@@ -18,7 +18,7 @@ use Rattle.gx_model.specs.Commands as command
 use Rattle.gx_model.specs.Texts.{Bytes, same_bytes}
 use Rattle.gx_model.specs.RefNames.{tag_ref}
 use Rattle.gx_model.specs.Faults.{and_then}
-use Rattle.gx_model.specs.Revisions.{Revision, revision_of}
+use Rattle.gx_model.specs.Revisions.{revision_of}
 use Rattle.gx_model.specs.Items.{items_of}
 use Rattle.gx_model.specs.Commands.{Asks, Blob, Change, Checkpoint, Clear, Command, Commands, CommitIsh, CommitParts, Copy, DataRef, Done, Inline, Mark, Marked, Modify, Named, Object, OptionLine, Progress, Remove, Rename, Reset, TagParts}
 use Rattle.gx_model.specs.Grammar.{commands_of}
@@ -111,6 +111,51 @@ abbrev pub peeled_at : Target → Commit
 peeled_at (at_commit c) = c
 peeled_at (at_tag t) = t.target
 
+-- a branch's commit, or EmptyBranch
+abbrev pub branch_commit : Option Commit → Result Commit Fault
+branch_commit None = Err fault.EmptyBranch
+branch_commit (Some c) = Ok c
+
+-- a branch of this name, and otherwise what comes next
+abbrev pub or_branch : Option (Option Commit) → Result Commit Fault → Result Commit Fault
+or_branch None r = r
+or_branch (Some c) r = branch_commit c
+
+-- for the commits and resets of a branch: itself is refused first
+abbrev pub is_itself : Bytes → CommitIsh → Bool
+is_itself b (Marked n) = false
+is_itself b (Named x) = same_bytes b x
+
+-- ---- what a file's content and a commit are made of
+
+-- the bytes of a blob
+abbrev pub blob_bytes : Value → Result Bytes Fault
+blob_bytes (blob_value x) = Ok x
+blob_bytes _ = Err fault.WrongKind
+
+-- the first parent: that of `from`, or else the branch's own
+abbrev pub own_commit : Option (Option Commit) → Option Commit
+own_commit (Some c) = c
+own_commit None = None
+
+-- a missing author is the committer
+abbrev pub text_made : CommitParts → CommitText
+text_made c = record { author = or_else c.author c.committer; committer = c.committer; encoding = c.encoding; message = c.message }
+
+-- the files that a commit starts from
+abbrev pub starting_files : Option Commit → FileMap Bytes
+starting_files None = []
+starting_files (Some c) = files_of c
+
+-- the first parent, where there is one, and the others
+abbrev pub with_first_parent : Option Commit → List Commit → List Commit
+with_first_parent None cs = cs
+with_first_parent (Some c) cs = c ∷ cs
+
+-- a commit added, marked and put on its branch
+abbrev pub committed_to : CommitParts → Commit → State → State
+committed_to c v s = on_branch c.ref (Some v) (marked c.mark (commit_value v) (added (commit_value v) s))
+
 -- ---- checkpoints, and the end
 
 -- the new commit of a branch has the old one of its ref as an ancestor, or is that
@@ -171,31 +216,16 @@ abbrev pub ended : ℕ → State → Option Fault → Outcome
 ended n s (Some e) = refused (n + 1) e s.progress s.kept
 ended n s None = if is_fast_forward s then finished (final s) s.progress (report n s) else refused (n + 1) fault.NotFastForward s.progress s.kept
 
--- the name of values, and how a revision's text is read
-module _ (name : Kind → Bytes → Bytes) (read : Bytes → Result Revision Fault) where
+-- the name of values
+module _ (name : Kind → Bytes → Bytes) where
   -- over the refs as last published and the values so far
   abbrev pub revision_value : State → Bytes → Result Value Fault
-  revision_value s x = and_then (read x) (λ r. value_denoted name s.history r)
-
-  -- a branch's commit, or EmptyBranch
-  abbrev pub branch_commit : Option Commit → Result Commit Fault
-  branch_commit None = Err fault.EmptyBranch
-  branch_commit (Some c) = Ok c
-
-  -- a branch of this name, and otherwise what comes next
-  abbrev pub or_branch : Option (Option Commit) → Result Commit Fault → Result Commit Fault
-  or_branch None r = r
-  or_branch (Some c) r = branch_commit c
+  revision_value s x = and_then (revision_of x) (λ r. value_denoted name s.history r)
 
   -- the commit that is named: a branch, a mark or a revision
   abbrev pub committed : (Value → Result Commit Fault) → State → CommitIsh → Result Commit Fault
   committed kind s (Marked n) = and_then (at s n) kind
   committed kind s (Named x) = or_branch (lookup (same_bytes x) s.branches) (and_then (revision_value s x) kind)
-
-  -- for the commits and resets of a branch: itself is refused first
-  abbrev pub is_itself : Bytes → CommitIsh → Bool
-  is_itself b (Marked n) = false
-  is_itself b (Named x) = same_bytes b x
 
   -- the same for a command of a branch, which may not name itself
   abbrev pub committed_for : Bytes → State → CommitIsh → Result Commit Fault
@@ -207,11 +237,6 @@ module _ (name : Kind → Bytes → Bytes) (read : Bytes → Result Revision Fau
   all_committed b s (x ∷ xs) = and_then (committed_for b s x) (λ c. and_then (all_committed b s xs) (λ cs. Ok (c ∷ cs)))
 
   -- ---- changes: the state, where inline bytes are added, and the files
-
-  -- the bytes of a blob
-  abbrev pub blob_bytes : Value → Result Bytes Fault
-  blob_bytes (blob_value x) = Ok x
-  blob_bytes _ = Err fault.WrongKind
 
   -- a gitlink's digits are kept in lower case
   abbrev pub content : State → Mode → DataRef → Result (State × Bytes) Fault
@@ -235,35 +260,12 @@ module _ (name : Kind → Bytes → Bytes) (read : Bytes → Result Revision Fau
 
   -- ---- one command
 
-  -- the first parent: that of `from`, or else the branch's own
-  abbrev pub own_commit : Option (Option Commit) → Option Commit
-  own_commit (Some c) = c
-  own_commit None = None
-
   -- the first parent of a commit
   abbrev pub first_parent : State → CommitParts → Result (Option Commit) Fault
   first_parent s c = elim c.parent [
     | None ↦ Ok (own_commit (lookup (same_bytes c.ref) s.branches))
     | Some x ↦ and_then (committed_for c.ref s x) (λ p. Ok (Some p))
   ]
-
-  -- a missing author is the committer
-  abbrev pub text_made : CommitParts → CommitText
-  text_made c = record { author = or_else c.author c.committer; committer = c.committer; encoding = c.encoding; message = c.message }
-
-  -- the files that a commit starts from
-  abbrev pub starting_files : Option Commit → FileMap Bytes
-  starting_files None = []
-  starting_files (Some c) = files_of c
-
-  -- the first parent, where there is one, and the others
-  abbrev pub with_first_parent : Option Commit → List Commit → List Commit
-  with_first_parent None cs = cs
-  with_first_parent (Some c) cs = c ∷ cs
-
-  -- a commit added, marked and put on its branch
-  abbrev pub committed_to : CommitParts → Commit → State → State
-  committed_to c v s = on_branch c.ref (Some v) (marked c.mark (commit_value v) (added (commit_value v) s))
 
   -- what a commit command does
   abbrev pub step_commit : State → CommitParts → Result State Fault
@@ -318,4 +320,4 @@ module _ (name : Kind → Bytes → Bytes) (read : Bytes → Result Revision Fau
 
 -- what the import of a text gives
 unfoldable pub imported : (Kind → Bytes → Bytes) → History → Bytes → Bool → Outcome
-imported name h text fails = replayed_text name revision_of h text fails
+imported name h text fails = replayed_text name h text fails

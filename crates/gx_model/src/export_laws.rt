@@ -1,8 +1,6 @@
 //! Laws of the export text.
-ghost use Rattle.std.specs.Prelude.{List, ℕ, Result};
-ghost use Rattle.gx_model.specs.Revisions.{Revision};
+ghost use Rattle.std.specs.Prelude.{List, ℕ};
 ghost use Rattle.gx_model.specs.ExportLaws.{CommandsAreItems, CommandsAreRead, CommitIsReplayed, CommitKeeps, ExportIsImported, ExportIsReplayed, ExportIsSpelled, FormedIsReadable, ItemsAreRead};
-ghost use Rattle.gx_model.specs.declared.faults.Fault.{Fault};
 ghost use Rattle.gx_model.specs.declared.objects.Kind.{Kind};
 
 /// The text of some items is read as these items, where each is a line that is no comment and announces no block, or a block.
@@ -22,7 +20,7 @@ pub fn commands_are_read()
 /// After them a history holds exactly what the commits so far reach.
 #[tactic(auto, using(crate::proofs::CommitSteps::one_commit_replayed))]
 pub fn commits_are_replayed()
-    ensures replayed { (name : Kind → List ℕ → List ℕ) (read : List ℕ → Result Revision Fault) → CommitIsReplayed name read }
+    ensures replayed { (name : Kind → List ℕ → List ℕ) → CommitIsReplayed name }
     ensures kept { CommitKeeps }
 {}
 

@@ -5,7 +5,6 @@ use Rattle.std.specs.Vec.Iter.{into_iter_items}
 use Rattle.gx_model.specs.Texts.{Bytes}
 use Rattle.gx_model.specs.Files.{FileMap}
 use Rattle.gx_model.specs.Replay.{State, changed}
-use Rattle.gx_model.specs.Revisions.{revision_of}
 use Rattle.gx_model.specs.RepositoryLaws.{values_of}
 use Rattle.gx_command.specs.Views.{shown_change}
 use Rattle.gx_import.specs.Standing.{Follows, Stands}
@@ -56,7 +55,7 @@ returns-in_err-change_files-clause-steps g c = λ s f h are.
     let step = subst (λ n. (t : State) (h : FileMap Bytes) → Stands (g.N.Namer.name_of n) l.repo.1 c.args.tables.now t → AreFiles (g.N.Namer.name_of n) t.history.values h l.files.files
     → AddsAs {X = Unit {0}} {Y = State × FileMap Bytes} (Clash (g.N.Namer.name_of n) (values_of l.repo.1) (blob_added change))
     (λ r x. Follows (g.N.Namer.name_of n) c.change_files.new.repo.1 c.args.tables.now t r.0 × AreFiles (g.N.Namer.name_of n) r.0.history.values r.1 c.change_files.new.files.files)
-    (Err c.in_err-change_files.field-0.0) (changed (g.N.Namer.name_of n) revision_of t h change)) l.invariant.0 v.steps in
+    (Err c.in_err-change_files.field-0.0) (changed (g.N.Namer.name_of n) t h change)) l.invariant.0 v.steps in
     let Be : State → State × FileMap Bytes → Unit {0} → Type 0 = λ t r x. Follows name c.change_files.new.repo.1 c.args.tables.now t r.0 × AreFiles name r.0.history.values r.1 c.change_files.new.files.files in
     rw (p.1, p.2)
     (next_refused name c.args.repo.now.1 l.repo.1 c.args.tables.now s f c.args.changes.items (into_iter_items l.change-iterator) (into_iter_items c.next.new.self) shown_change c.in-Some.change l.files.files c.in-Some.ensures.steps.0 (l.invariant.3 s f h are) Be (Be s) c.in_err-change_files.field-0.0 step)

@@ -5,7 +5,6 @@ use Rattle.gx_model.specs.Faults.{IsFaultOf}
 use Rattle.gx_model.specs.RepositoryLaws.{values_of}
 use Rattle.gx_model.specs.Files.{FileMap}
 use Rattle.gx_model.specs.Texts.{Bytes}
-use Rattle.gx_model.specs.Revisions.{revision_of}
 use Rattle.gx_model.specs.Replay.{State, changed}
 use Rattle.gx_command.specs.Views.{shown_change}
 use Rattle.gx_tree.specs.Faults.{fault_of}
@@ -30,7 +29,7 @@ returns-in_err-copy-in-Copy-clause-steps g c = λ s f h are.
     let to = c.in-Copy.destination in
     let refused = subst (IsFaultOf (fault_of e)) (copied_names name f c.args.files.now.files from to are.named) c.in_err-copy-in-Copy.ensures.map in
     let Is : State × FileMap Bytes → Unit {0} → Type 0 = λ r x. Follows name c.args.repo.now.1 c.args.tables.now s r.0 × AreFiles name r.0.history.values r.1 c.copy.new.self.files in
-    let answer : AddsAs (Clash name (values_of c.args.repo.now.1) (blob_added (shown_change c.args.change))) Is (Err (of_tree e)) (changed name revision_of s f (shown_change c.args.change)) =
+    let answer : AddsAs (Clash name (values_of c.args.repo.now.1) (blob_added (shown_change c.args.change))) Is (Err (of_tree e)) (changed name s f (shown_change c.args.change)) =
     rw c.in-Copy.is (edit_refused name (Clash name (values_of c.args.repo.now.1) []) Is e (copied f from to) s (copied_free f from to) refused)
     in rw (p.1, p.2) answer
 
@@ -44,7 +43,7 @@ returns-in_err-rename-in-Rename-clause-steps g c = λ s f h are.
     let to = c.in-Rename.destination in
     let refused = subst (IsFaultOf (fault_of e)) (renamed_names name f c.args.files.now.files from to are.named) c.in_err-rename-in-Rename.ensures.map in
     let Is : State × FileMap Bytes → Unit {0} → Type 0 = λ r x. Follows name c.args.repo.now.1 c.args.tables.now s r.0 × AreFiles name r.0.history.values r.1 c.rename.new.self.files in
-    let answer : AddsAs (Clash name (values_of c.args.repo.now.1) (blob_added (shown_change c.args.change))) Is (Err (of_tree e)) (changed name revision_of s f (shown_change c.args.change)) =
+    let answer : AddsAs (Clash name (values_of c.args.repo.now.1) (blob_added (shown_change c.args.change))) Is (Err (of_tree e)) (changed name s f (shown_change c.args.change)) =
     rw c.in-Rename.is (edit_refused name (Clash name (values_of c.args.repo.now.1) []) Is e (renamed f from to) s (renamed_free f from to) refused)
     in rw (p.1, p.2) answer
 

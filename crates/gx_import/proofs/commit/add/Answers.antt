@@ -5,7 +5,6 @@ use Rattle.gx_model.specs.Records.{name_of}
 use Rattle.gx_model.specs.Histories.{with_tree}
 use Rattle.gx_model.specs.Replay.{State, added, text_made}
 use Rattle.gx_model.specs.RepositoryLaws.{values_of}
-use Rattle.gx_model.specs.Revisions.{revision_of}
 use Rattle.gx_model.specs.Values.{commit, commit_value, commits_of, tree_value}
 use Rattle.gx_model.proofs.GrownTrees.{trees_fold}
 use Rattle.gx_command.specs.Views.{commit_parts}
@@ -28,7 +27,7 @@ returns-in_err-tree-clause-steps g c = λ tables s f ps h files parents.
     let namer = g.met.N.Namer.is_namer c.args.repo.now.0 in
     let r = c.args.repo.now.1 in
     let p = err_from_is_err_and c.from_residual.result c.from_residual.ensures.1 in
-    let v = commit_value (commit f (commits_of ps) (text_made name revision_of (commit_parts c.args.commit.now))) in
+    let v = commit_value (commit f (commits_of ps) (text_made (commit_parts c.args.commit.now))) in
     let of_files = subst (λ z. AreFiles name z.values f c.args.files.now.files) (sym h.history) files in
     let same = contents_told name namer r c.sound.ensures f c.args.files.now.files of_files in
     rw (p.1, p.2) (puts_refused {X = Name} {Y = State} _ (λ u called. Follows name c.add_tree_shared.new.self.1 tables s u × (called.bytes ≡ name_of name v)) (Ok (added v s)) _ _ _ [] c.in_err-tree.field-0.0
@@ -49,7 +48,7 @@ returns-clause-steps g c = λ tables s f ps h files parents.
     let namer = g.met.N.Namer.is_namer c.args.repo.now.0 in
     let r = c.args.repo.now.1 in
     let now = c.add_tree_shared.new.self.1 in
-    let v = commit_value (commit f (commits_of ps) (text_made name revision_of (commit_parts c.args.commit.now))) in
+    let v = commit_value (commit f (commits_of ps) (text_made (commit_parts c.args.commit.now))) in
     let of_files = subst (λ z. AreFiles name z.values f c.args.files.now.files) (sym h.history) files in
     let same = contents_told name namer r c.sound.ensures f c.args.files.now.files of_files in
     let has = subst (λ z. HasValues r now (with_tree (values_of r) z)) same c.in_ok-tree.ensures.history in

@@ -7,7 +7,6 @@ use Rattle.gx_model.specs.Records.{name_of}
 use Rattle.gx_model.specs.Histories.{with_one}
 use Rattle.gx_model.specs.Replay.{State, text_made}
 use Rattle.gx_model.specs.RepositoryLaws.{values_of}
-use Rattle.gx_model.specs.Revisions.{revision_of}
 use Rattle.gx_model.specs.Values.{commit, commit_value, commits_of}
 use Rattle.gx_command.specs.Views.{commit_parts}
 use Rattle.gx_object.specs.declared.name.Name.{Name}
@@ -32,7 +31,7 @@ returns-in_err-add_commit-clause-steps g c = λ tables s f ps h tree parents.
     let namer = g.met.N.Namer.is_namer c.args.repo.now.0 in
     let r = c.args.repo.now.1 in
     let p = err_from_is_err_and c.from_residual.result c.from_residual.ensures.1 in
-    let text = text_made name revision_of (commit_parts c.args.commit.now) in
+    let text = text_made (commit_parts c.args.commit.now) in
     let v = commit_value (commit f (commits_of ps) text) in
     let of_tree = subst (λ z. IsTreeOf name z.values f c.args.tree) (sym h.history) tree in
     let of_parents = subst (λ z. AreAll (IsCommitOf name z.values) ps c.args.parents.now) (sym h.history) parents in
@@ -49,7 +48,7 @@ returns-clause-steps g c = λ tables s f ps h tree parents.
     let namer = g.met.N.Namer.is_namer c.args.repo.now.0 in
     let r = c.args.repo.now.1 in
     let now = c.add_commit.new.self.1 in
-    let text = text_made name revision_of (commit_parts c.args.commit.now) in
+    let text = text_made (commit_parts c.args.commit.now) in
     let v = commit_value (commit f (commits_of ps) text) in
     let of_tree = subst (λ z. IsTreeOf name z.values f c.args.tree) (sym h.history) tree in
     let of_parents = subst (λ z. AreAll (IsCommitOf name z.values) ps c.args.parents.now) (sym h.history) parents in

@@ -2,7 +2,6 @@ use Rattle.std.proofs.Common.{◌≡◌, Result, Ok, ap, inl, inr, sym, subst}
 use Rattle.gx_model.specs.declared.faults.Fault.{Fault}
 use Rattle.gx_command.specs.declared.commands.Command.{Command}
 use Rattle.gx_model.specs.Replay.{State, step}
-use Rattle.gx_model.specs.Revisions.{revision_of}
 use Rattle.gx_command.specs.Views.{shown_blob, shown_command, shown_commit, shown_reset, shown_tag}
 use Rattle.gx_import.specs.Additions.{values_added}
 use Rattle.gx_import.proofs.AppliedCommands.{added_as, clash_here, given_as, progress_as, unchanged}
@@ -52,7 +51,7 @@ returns-in-Checkpoint-clause-steps g c = λ s h.
 pub returns-clause-steps : goal.returns-clause-steps
 returns-clause-steps g c = λ s h.
     let name = g.N.Namer.name_of c.args.repo.now.0 in
-    let step_of : Command g.row.A.Denot → Result State Fault = λ command. step name revision_of s (shown_command command) in
+    let step_of : Command g.row.A.Denot → Result State Fault = λ command. step name s (shown_command command) in
     let is : step_of c.args.command ≡ Ok s =
     elim c.in-OptionLine.is as (λ _. step_of c.args.command ≡ Ok s) [
       | inl e ↦ ap step_of e.1

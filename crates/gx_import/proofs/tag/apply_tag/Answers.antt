@@ -5,7 +5,6 @@ use Rattle.gx_model.specs.Faults.{and_then}
 use Rattle.gx_model.specs.RefNames.{tag_ref}
 use Rattle.gx_model.specs.Replay.{State, added, byte_cmp, commit_alone, committed}
 use Rattle.gx_model.specs.RepositoryLaws.{values_of}
-use Rattle.gx_model.specs.Revisions.{revision_of}
 use Rattle.gx_model.specs.Values.{Commit, tag_value}
 use Rattle.gx_command.specs.Views.{tag_parts}
 use Rattle.gx_import.specs.Additions.{tag_made}
@@ -26,7 +25,7 @@ returns-in_err-object-clause-steps g c = λ s h.
     let p = err_from_is_err_and c.from_residual.result c.from_residual.ensures.1 in
     let t = tag_parts c.args.tag.now in
     let e = c.in_err-object.field-0.0 in
-    rw (p.1, p.2) (gives_refused {Y = Commit} {Z = Unit {0}} {W = State} _ (λ u x. Follows name c.args.repo.now.1 c.args.tables.now s u) e (committed name revision_of commit_alone s t.target) (tag_next t s)
+    rw (p.1, p.2) (gives_refused {Y = Commit} {Z = Unit {0}} {W = State} _ (λ u x. Follows name c.args.repo.now.1 c.args.tables.now s u) e (committed name commit_alone s t.target) (tag_next t s)
     (target_answers name s t.target) (target_refused name s t.target e (c.in_err-object.ensures s h)))
 
 pub returns-in_err-target-clause-steps : goal.returns-in_err-target-clause-steps
@@ -36,7 +35,7 @@ returns-in_err-target-clause-steps g c = λ s h.
     let t = tag_parts c.args.tag.now in
     let e = c.in_err-target.field-0.0 in
     let k = c.in_ok-object.ensures s h in
-    rw (p.1, p.2) (gives_refused {Y = Commit} {Z = Unit {0}} {W = State} _ (λ u x. Follows name c.args.repo.now.1 c.args.tables.now s u) e (committed name revision_of commit_alone s t.target) (tag_next t s)
+    rw (p.1, p.2) (gives_refused {Y = Commit} {Z = Unit {0}} {W = State} _ (λ u x. Follows name c.args.repo.now.1 c.args.tables.now s u) e (committed name commit_alone s t.target) (tag_next t s)
     (target_answers name s t.target) (target_named name s.history.values s t.target k.0 k.1 c.in_ok-object.object k.2 (Err e) c.in_err-target.ensures))
 
 pub returns-in_err-name-clause-steps : goal.returns-in_err-name-clause-steps

@@ -17,7 +17,7 @@ use Rattle.gx_model.specs.declared.features.Feature.TheVariants as features
 use Rattle.gx_model.specs.Commands as command
 use Rattle.gx_model.specs.Texts.{Bytes, same_bytes}
 use Rattle.gx_model.specs.RefNames.{tag_ref}
-use Rattle.gx_model.specs.Faults.{and_then}
+use Rattle.gx_model.specs.Faults.{and_then, ◌>>=◌}
 use Rattle.gx_model.specs.Revisions.{revision_of}
 use Rattle.gx_model.specs.Items.{items_of}
 use Rattle.gx_model.specs.Commands.{Asks, Blob, Change, Checkpoint, Clear, Command, Commands, CommitIsh, CommitParts, Copy, DataRef, Done, Inline, Mark, Marked, Modify, Named, Object, OptionLine, Progress, Remove, Rename, Reset, TagParts}
@@ -269,11 +269,11 @@ module _ (name : Kind → Bytes → Bytes) where
 
   -- what a commit command does
   abbrev pub step_commit : State → CommitParts → Result State Fault
-  step_commit s c =
-      and_then (first_parent s c) (λ first.
-      and_then (all_committed c.ref s c.merges) (λ others.
-      and_then (all_changed s (starting_files first) c.changes) (λ r.
-      Ok (committed_to c (commit r.1 (commits_of (with_first_parent first others)) (text_made c)) r.0))))
+  step_commit s c = do
+    first ← first_parent s c
+    others ← all_committed c.ref s c.merges
+    r ← all_changed s (starting_files first) c.changes
+    Ok (committed_to c (commit r.1 (commits_of (with_first_parent first others)) (text_made c)) r.0)
 
   -- what a tag command does
   abbrev pub step_tag : State → TagParts → Result State Fault

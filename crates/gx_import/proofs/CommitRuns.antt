@@ -90,7 +90,7 @@ module _ (name : Kind → Bytes → Bytes) {A : Type 0} where
       parents_held now = commits_hold name namer mid now ps parents (subst (λ z. AreAll (IsCommitOf name z.values) ps parents) (sym m.2.0.stands.history) stay)
 
       abbrev v : Commit
-      v = commit_made name t k.0 l.0 m.0.1
+      v = commit_made t k.0 l.0 m.0.1
 
       pub add_fails : (new : Records) (e : ImportKind) → AddGives name A mid new stop parents t (Err e) → {Z : Type 0} (Be : State → Z → Type 0) → AddsAs (Clash name (values_of r) (added_by_commit name s t)) Be (Err e) (step_commit name s t)
       add_fails new e adds Be =

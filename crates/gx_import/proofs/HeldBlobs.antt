@@ -48,7 +48,7 @@ module _ (name : Kind → Bytes → Bytes) (namer : IsNamer name) (r : Records) 
 
   -- the object of a held name, where it is a blob
   pub blob_found : (n : Name) (k : Kind) (body : Bytes) → Some (k, body) ≡ option_map object_of (record_named r.records n.bytes)
-      → GivesAs (IsBlobOf name (history_of r).values n) (name_of_kind (record { kind = k; name = n }) kind.Blob) (bytes_held name r n.bytes)
+      → GivesAs (IsBlobOf name (history_of r).values n) (name_of_kind (record { kind = k; name = n }) kind.Blob) (bytes_held r n.bytes)
   blob_found n k body e =
       let h = some_got r.records n.bytes (k, body) e in
       let v = held_is name namer r sound n.bytes h in
@@ -56,7 +56,7 @@ module _ (name : Kind → Bytes → Bytes) (namer : IsNamer name) (r : Records) 
       subst (λ o. GivesAs (IsBlobOf name (history_of r).values n) (name_of_kind (record { kind = k; name = n }) kind.Blob) (or_unknown o (blob_bytes (value_of_name r.records n.bytes)))) (sym v.found)
       (of_value n k (value_of_name r.records n.bytes) (ap (λ o. o.0) same) v.stands v.named)
 
-  pub none_held : (n : Bytes) → None ≡ option_map object_of (record_named r.records n) → bytes_held name r n ≡ Err fault.UnknownObject
+  pub none_held : (n : Bytes) → None ≡ option_map object_of (record_named r.records n) → bytes_held r n ≡ Err fault.UnknownObject
   none_held n e = ap (λ o. or_unknown o (blob_bytes (value_of_name r.records n))) (none_got r.records n e)
 
   base_is : (h : History) (x : Bytes) → (list_all is_any_digit x && nat_eq (length x) 40) ≡ true → base_value name h x ≡ full_name name (begun_by name h x)
@@ -70,7 +70,7 @@ module _ (name : Kind → Bytes → Bytes) (namer : IsNamer name) (r : Records) 
   plain s Dir k x = refl
 
   content_by : (s : State) → history_of r ≡ s.history → (m : Mode) → (m ≡ Gitlink → ⊥) → (x n : Bytes) → (list_all is_any_digit x && nat_eq (length x) 40) ≡ true → n ≡ unhex (map lower x)
-      → content name s m (Object x) ≡ and_then {B = State × Bytes} (bytes_held name r n) (λ y. Ok (s, y))
+      → content name s m (Object x) ≡ and_then {B = State × Bytes} (bytes_held r n) (λ y. Ok (s, y))
   content_by s h m k x n d e =
       plain s m k x ∙ ap (λ b. and_then b (λ v. and_then {B = State × Bytes} (blob_bytes v) (λ y. Ok (s, y)))) (ap (λ z. base_value name z x) (sym h) ∙ base_is (history_of r) x d) ∙ by (record_named r.records n) refl
     where
@@ -94,14 +94,14 @@ module _ (name : Kind → Bytes → Bytes) (namer : IsNamer name) (r : Records) 
 
   -- digits that name a blob
   pub content_found : (s : State) → history_of r ≡ s.history → (m : Mode) → (m ≡ Gitlink → ⊥) → (m ≡ Dir → ⊥) → (x : Bytes) (n : Name) → (list_all is_any_digit x && nat_eq (length x) 40) ≡ true → n.bytes ≡ unhex (map lower x)
-      → (result : Result Name ImportKind) → GivesAs (IsBlobOf name (history_of r).values n) result (bytes_held name r n.bytes) → GivesAs (λ y called. IsContentName name s y m called) result (content name s m (Object x))
+      → (result : Result Name ImportKind) → GivesAs (IsBlobOf name (history_of r).values n) result (bytes_held r n.bytes) → GivesAs (λ y called. IsContentName name s y m called) result (content name s m (Object x))
   content_found s h m k l x n d e (Ok called) g = (
     (s, g.0),
     content_by s h m k x n.bytes d e ∙ ap (λ b. and_then {B = State × Bytes} b (λ y. Ok (s, y))) g.1,
     subst (IsContentName name s (s, g.0) m) (sym g.2.same) (content_name_is s g.0 n m k l g.2.named (subst (λ z. IsIn z.values (blob_value g.0)) h g.2.stands)),
   )
   content_found s h m k l x n d e (Err f) g =
-      subst (IsFaultOf (fault_of f)) (sym (content_by s h m k x n.bytes d e)) (fault_then (fault_of f) (bytes_held name r n.bytes) (λ y. Ok (s, y)) g)
+      subst (IsFaultOf (fault_of f)) (sym (content_by s h m k x n.bytes d e)) (fault_then (fault_of f) (bytes_held r n.bytes) (λ y. Ok (s, y)) g)
 
 lower_digit : (d : ℕ) → is_any_digit d ≡ true → is_hex_digit (lower d) ≡ true
 lower_digit d h = grind (arith, common_steps, h)

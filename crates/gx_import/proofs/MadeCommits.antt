@@ -24,7 +24,7 @@ use Rattle.gx_import.proofs.Refusals.{first_answers, merged_answer}
 
 module _ (name : Kind → Bytes → Bytes) (s : State) (c : CommitParts) where
   abbrev pub after_changes : Option Commit → List Commit → State × FileMap Bytes → Result State Fault
-  after_changes first others r = Ok (committed_to c (commit_made name c first others r.1) r.0)
+  after_changes first others r = Ok (committed_to c (commit_made c first others r.1) r.0)
 
   abbrev pub after_others : Option Commit → List Commit → Result State Fault
   after_others first others = and_then (all_changed name s (starting_files first) c.changes) (after_changes first others)
@@ -63,11 +63,11 @@ module _ (name : Kind → Bytes → Bytes) (s : State) (c : CommitParts) where
           subst (λ xs. AddsAs (Clash name vs xs) Be (Err e) (step_commit name s c)) (sym adding)
           (subst (AddsAs (Clash name vs (values_made name s c first others)) Be (Err e)) (sym stepped)
           (adds_refused (Clash name vs blobs) (Clash name vs (values_made name s c first others)) Is Be
-          (λ q. clash_first name blobs (unless_refused (λ r. commit_added r.1 (commit_made name c first others r.1)) changed_files) vs q) e changed_files (after_changes first others) h))
+          (λ q. clash_first name blobs (unless_refused (λ r. commit_added r.1 (commit_made c first others r.1)) changed_files) vs q) e changed_files (after_changes first others) h))
 
       module _ (r : State × FileMap Bytes) (m : changed_files ≡ Ok r) where
         abbrev pub made : Commit
-        made = commit_made name c first others r.1
+        made = commit_made c first others r.1
 
         -- what the whole gives
         pub step_made : step_commit name s c ≡ Ok (committed_to c made r.0)
@@ -75,7 +75,7 @@ module _ (name : Kind → Bytes → Bytes) (s : State) (c : CommitParts) where
 
         -- what the whole adds
         pub adding_made : added_by_commit name s c ≡ blobs ++ commit_added r.1 made
-        adding_made = adding ∙ ap (λ o. blobs ++ unless_refused (λ r. commit_added r.1 (commit_made name c first others r.1)) o) m
+        adding_made = adding ∙ ap (λ o. blobs ++ unless_refused (λ r. commit_added r.1 (commit_made c first others r.1)) o) m
 
         abbrev then_set : State → Result State Fault
         then_set t = Ok (on_branch c.ref (Some made) (marked c.mark (commit_value made) t))

@@ -27,7 +27,7 @@ use Rattle.gx_object.specs.declared.name.Name.{Name}
 module _ (name : Kind → Bytes → Bytes) where
   -- a branch at a commit, or at none
   branch_gives : (values : List Value) (made : Option Commit) (called : Option Name) → AreBoth (IsCommitOf name values) made called → (given : Given Value)
-      → GivesAs (IsOf name values) (branch_object called) (or_revision name (Some made) given)
+      → GivesAs (IsOf name values) (branch_object called) (or_revision (Some made) given)
   branch_gives values None None h given = refl
   branch_gives values None (Some n) h given = absurd h
   branch_gives values (Some c) None h given = absurd h
@@ -40,7 +40,7 @@ none_found name A values (Some made) h = absurd h
 
 module _ (name : Kind → Bytes → Bytes) {A : Type 0} where
   found_gives : (values : List Value) (o : Option (Option Commit)) (tip : Tip A) → AreBoth (IsTip name values) o (Some tip) → (given : Given Value)
-      → GivesAs (IsOf name values) (branch_object tip.commit) (or_revision name o given)
+      → GivesAs (IsOf name values) (branch_object tip.commit) (or_revision o given)
   found_gives values None tip h given = absurd h
   found_gives values (Some made) tip h given = branch_gives name values made tip.commit h.commit given
 
@@ -59,5 +59,5 @@ module _ (name : Kind → Bytes → Bytes) {A : Type 0} where
   revision_named r tables s h text e result k =
       let none = none_found name A s.history.values (lookup (same_bytes text) s.branches)
       (subst (AreBoth (IsTip name s.history.values) (lookup (same_bytes text) s.branches)) (sym e) (related_found (IsTip name s.history.values) (same_bytes text) s.branches (rows_of tables.branches) h.branches)) in
-      subst (λ o. GivesAs (IsOf name s.history.values) result (or_revision name o (revision_value name s text))) (sym none)
+      subst (λ o. GivesAs (IsOf name s.history.values) result (or_revision o (revision_value name s text))) (sym none)
       (subst (λ z. GivesAs (IsOf name z.values) result (and_then (revision_of text) (λ v. value_denoted name z v))) h.history k)

@@ -36,7 +36,7 @@ module _ (name : Kind → Bytes → Bytes) where
   pub tag_step : (s : State) (t : TagParts) → step_tag name s t ≡ and_then (committed name commit_alone s t.target) (tag_next t s)
   tag_step s t = refl
 
-  branch_alone : (o : Option (Option Commit)) (given : Result Value Fault) → or_branch o (and_then given commit_alone) ≡ and_then (or_revision name o given) commit_alone
+  branch_alone : (o : Option (Option Commit)) (given : Result Value Fault) → or_branch o (and_then given commit_alone) ≡ and_then (or_revision o given) commit_alone
   branch_alone None given = refl
   branch_alone (Some None) given = refl
   branch_alone (Some (Some c)) given = refl

@@ -30,6 +30,10 @@ commit_added files made = map tree_value (all_trees files) ++ commit_value made 
 abbrev pub added_alone : Value → State → State
 added_alone v s = record s { history = record { values = with_one s.history.values v; refs = s.history.refs } }
 
+-- the commit that a command makes of these parents and files
+abbrev pub commit_made : CommitParts → Option Commit → List Commit → FileMap Bytes → Commit
+commit_made c first others files = commit files (commits_of (with_first_parent first others)) (text_made c)
+
 -- the tag that a command makes of this commit
 abbrev pub tag_made : Commit → TagParts → Tag
 tag_made target t = record { target = target; name = t.name; tagger = t.tagger; message = t.message }
@@ -44,10 +48,6 @@ module _ (name : Kind → Bytes → Bytes) where
   abbrev pub blobs_added : State → FileMap Bytes → List Change → List Value
   blobs_added s files [] = []
   blobs_added s files (c ∷ cs) = blob_added c ++ unless_refused (λ r. blobs_added r.0 r.1 cs) (changed name s files c)
-
-  -- the commit that a command makes of these parents and files
-  abbrev pub commit_made : CommitParts → Option Commit → List Commit → FileMap Bytes → Commit
-  commit_made c first others files = commit files (commits_of (with_first_parent first others)) (text_made c)
 
   -- its blobs, its trees and itself
   abbrev pub values_made : State → CommitParts → Option Commit → List Commit → List Value

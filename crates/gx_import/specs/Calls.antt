@@ -49,8 +49,8 @@ use Rattle.gx_import.specs.declared.object.Object.{Object}
 use Rattle.gx_import.specs.declared.tables.Tables.{Tables}
 
 -- the commit that a command makes with these files and parents
-abbrev pub commit_of : (Kind → Bytes → Bytes) → CommitParts → FileMap Bytes → List Commit → Commit
-commit_of name parts files parents = commit files (commits_of parents) (text_made parts)
+abbrev pub commit_of : CommitParts → FileMap Bytes → List Commit → Commit
+commit_of parts files parents = commit files (commits_of parents) (text_made parts)
 
 -- where a call is accepted, the files at hand stay at home
 abbrev pub KeepsTipsAtHome : {A X : Type 0} → Tables A → Tables A → Result X ImportKind → Type 0
@@ -71,7 +71,7 @@ module _ {N : Type 0} (names : N → Kind → Bytes → Bytes) where
   -- the blob of this name, or why it is none
   abbrev pub GivesBlob : Repository N → Name → Result Name ImportKind → Type 0
   GivesBlob repository called answer =
-      GivesAs (IsBlobOf (names repository.0) (values_of repository.1) called) answer (bytes_held (names repository.0) repository.1 called.bytes)
+      GivesAs (IsBlobOf (names repository.0) (values_of repository.1) called) answer (bytes_held repository.1 called.bytes)
 
   -- the content of a file that is held, by its name
   abbrev pub NamesContent : Repository N → Mode → DataRef → Result Name ImportKind → Type 0
@@ -162,18 +162,18 @@ module _ {N : Type 0} (names : N → Kind → Bytes → Bytes) {A : Type 0} wher
   AddsCommit old new tree parents command answer =
       (tables : Tables A) (s : State) (files : FileMap Bytes) (made : List Commit) → Stands (names old.0) old.1 tables s
       → AreFiles (names old.0) s.history.values files tree.files → AreAll (IsCommitOf (names old.0) s.history.values) made parents
-      → AddsAs (Clash (names old.0) (values_of old.1) (commit_added files (commit_of (names old.0) (commit_parts command) files made)))
-      (λ t called. Follows (names old.0) new.1 tables s t × (called.bytes ≡ name_of (names old.0) (commit_value (commit_of (names old.0) (commit_parts command) files made))))
-      answer (Ok (added (commit_value (commit_of (names old.0) (commit_parts command) files made)) s))
+      → AddsAs (Clash (names old.0) (values_of old.1) (commit_added files (commit_of (commit_parts command) files made)))
+      (λ t called. Follows (names old.0) new.1 tables s t × (called.bytes ≡ name_of (names old.0) (commit_value (commit_of (commit_parts command) files made))))
+      answer (Ok (added (commit_value (commit_of (commit_parts command) files made)) s))
 
   -- a commit of this tree and these parents, without its trees
   abbrev pub AddsCommitAlone : Repository N → Repository N → Name → List Name → CommitCommand A → Result Name ImportKind → Type 0
   AddsCommitAlone old new tree parents command answer =
       (tables : Tables A) (s : State) (files : FileMap Bytes) (made : List Commit) → Stands (names old.0) old.1 tables s
       → IsTreeOf (names old.0) s.history.values files tree → AreAll (IsCommitOf (names old.0) s.history.values) made parents
-      → AddsAs (Clash (names old.0) (values_of old.1) (commit_value (commit_of (names old.0) (commit_parts command) files made) ∷ []))
-      (λ t called. Follows (names old.0) new.1 tables s t × (called.bytes ≡ name_of (names old.0) (commit_value (commit_of (names old.0) (commit_parts command) files made))))
-      answer (Ok (added_alone (commit_value (commit_of (names old.0) (commit_parts command) files made)) s))
+      → AddsAs (Clash (names old.0) (values_of old.1) (commit_value (commit_of (commit_parts command) files made) ∷ []))
+      (λ t called. Follows (names old.0) new.1 tables s t × (called.bytes ≡ name_of (names old.0) (commit_value (commit_of (commit_parts command) files made))))
+      answer (Ok (added_alone (commit_value (commit_of (commit_parts command) files made)) s))
 
   -- a tag of this commit
   abbrev pub AddsTag : Repository N → Repository N → Name → TagCommand A → Result Name ImportKind → Type 0

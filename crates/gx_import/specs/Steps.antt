@@ -1,5 +1,5 @@
 -- Parts of the replay's steps. Source: git-fast-import(1), "Commands".
-use Rattle.std.specs.Prelude.{Bool, Option, Some, None, Ok, Err}
+use Rattle.std.specs.Prelude.{Option, Some, None, Ok, Err}
 use Rattle.std.specs.Map.{lookup}
 use Rattle.gx_model.specs.declared.objects.Kind.{Kind}
 use Rattle.gx_model.specs.declared.faults.Fault.TheVariants.{UnknownObject}
@@ -10,18 +10,18 @@ use Rattle.gx_model.specs.Faults.{Given, and_then}
 use Rattle.gx_model.specs.Texts.{Bytes, same_bytes}
 use Rattle.gx_model.specs.Values.{Commit, Value, commit_value}
 use Rattle.gx_model.specs.Commands.{CommitIsh, Marked, Named}
-use Rattle.gx_model.specs.Replay.{State, at, blob_bytes, branch_commit, committed_for, is_itself, revision_value}
+use Rattle.gx_model.specs.Replay.{State, at, blob_bytes, branch_commit, committed_for, revision_value}
 
--- a commit-ish is the name of the branch; no object's name bears on this
-abbrev pub is_branch_itself : Bytes → CommitIsh → Bool
-is_branch_itself = is_itself
+-- what a branch of this name gives, and otherwise a revision
+abbrev pub or_revision : Option (Option Commit) → Given Value → Given Value
+or_revision None given = given
+or_revision (Some revision) given = and_then (branch_commit revision) (λ c. Ok (commit_value c))
+
+-- the bytes of the blob that is held under a name
+abbrev pub bytes_held : Records → Bytes → Given Bytes
+bytes_held repository called = elim (record_named repository.records called) [ None ↦ Err UnknownObject | Some held ↦ blob_bytes (value_of_name repository.records called) ]
 
 module _ (name : Kind → Bytes → Bytes) where
-  -- what a branch of this name gives, and otherwise a revision
-  abbrev pub or_revision : Option (Option Commit) → Given Value → Given Value
-  or_revision None given = given
-  or_revision (Some revision) given = and_then (branch_commit revision) (λ c. Ok (commit_value c))
-
   -- the value that a commit-ish names: a branch's commit, a mark's value, or what a revision gives
   abbrev pub value_named : State → CommitIsh → Given Value
   value_named s (Marked number) = at s number
@@ -31,7 +31,3 @@ module _ (name : Kind → Bytes → Bytes) where
   abbrev pub optional_commit : State → Bytes → Option CommitIsh → Given (Option Commit)
   optional_commit s branch None = Ok None
   optional_commit s branch (Some named) = and_then (committed_for name branch s named) (λ c. Ok (Some c))
-
-  -- the bytes of the blob that is held under a name
-  abbrev pub bytes_held : Records → Bytes → Given Bytes
-  bytes_held repository called = elim (record_named repository.records called) [ None ↦ Err UnknownObject | Some held ↦ blob_bytes (value_of_name repository.records called) ]

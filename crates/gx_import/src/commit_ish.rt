@@ -1,10 +1,10 @@
 //! What names a commit. Source: git-fast-import(1), "from".
 
 ghost use Rattle.std.specs.Prelude.{◌≡◌};
+ghost use Rattle.gx_model.specs.Replay.{is_itself};
 ghost use Rattle.gx_command.specs.Views.{shown_commit_ish};
 ghost use Rattle.gx_import.specs.Objects.{branch_object};
 ghost use Rattle.gx_import.specs.Rows.{IsSorted};
-ghost use Rattle.gx_import.specs.Steps.{is_branch_itself};
 ghost use Rattle.gx_import.specs.Calls.{NamesCommit, NamesObject, ShowsRevision};
 
 use crate::ImportKind;
@@ -82,7 +82,7 @@ pub(crate) fn committed_for<N: Namer, A: Allocator + Copy>(
 
 /// Whether a commit-ish is the name of the branch.
 fn is_itself<A: Allocator + Copy>(branch: &[u8], commit_ish: &CommitIsh<A>) -> bool
-    ensures { result ≡ is_branch_itself branch.now (shown_commit_ish commit_ish.now) }
+    ensures { result ≡ is_itself branch.now (shown_commit_ish commit_ish.now) }
 {
     match commit_ish {
         CommitIsh::Mark(_) => false,

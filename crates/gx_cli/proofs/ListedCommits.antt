@@ -52,11 +52,11 @@ module _ {X : Type 0} (P : X → Type 0) where
   all_taken (suc n) (x ∷ xs) h = (h.0, all_taken n xs h.1)
 
   -- what holds of all holds of those that are kept, in either order
-  pub all_arranged : (name : Kind → Bytes → Bytes) (backwards : Bool) (most : Option ℕ) (xs : List X) → AllByRecursion P xs → AllByRecursion P (turned name backwards (limited name most xs))
-  all_arranged name true None xs h = all_reversed xs h
-  all_arranged name false None xs h = h
-  all_arranged name true (Some n) xs h = all_reversed (take n xs) (all_taken n xs h)
-  all_arranged name false (Some n) xs h = all_taken n xs h
+  pub all_arranged : (backwards : Bool) (most : Option ℕ) (xs : List X) → AllByRecursion P xs → AllByRecursion P (turned backwards (limited most xs))
+  all_arranged true None xs h = all_reversed xs h
+  all_arranged false None xs h = h
+  all_arranged true (Some n) xs h = all_reversed (take n xs) (all_taken n xs h)
+  all_arranged false (Some n) xs h = all_taken n xs h
 
 module _ {X Y : Type 0} (f : X → Y) where
   map-reverse : (xs : List X) → map f (reverse xs) ≡ reverse (map f xs)
@@ -65,11 +65,11 @@ module _ {X Y : Type 0} (f : X → Y) where
       ap (map f) (reverse-append (x ∷ []) xs) ∙ map-append f (reverse xs) (x ∷ []) ∙ ap (λ ys. ys ++ f x ∷ []) (map-reverse xs) ∙ sym (reverse-append (f x ∷ []) (map f xs))
 
   -- those that are kept of what each gives
-  pub map_arranged : (name : Kind → Bytes → Bytes) (backwards : Bool) (most : Option ℕ) (xs : List X) → map f (turned name backwards (limited name most xs)) ≡ turned name backwards (limited name most (map f xs))
-  map_arranged name true None xs = map-reverse xs
-  map_arranged name false None xs = refl
-  map_arranged name true (Some n) xs = map-reverse (take n xs) ∙ ap reverse (sym (take-map f n xs))
-  map_arranged name false (Some n) xs = sym (take-map f n xs)
+  pub map_arranged : (backwards : Bool) (most : Option ℕ) (xs : List X) → map f (turned backwards (limited most xs)) ≡ turned backwards (limited most (map f xs))
+  map_arranged true None xs = map-reverse xs
+  map_arranged false None xs = refl
+  map_arranged true (Some n) xs = map-reverse (take n xs) ∙ ap reverse (sym (take-map f n xs))
+  map_arranged false (Some n) xs = sym (take-map f n xs)
 
 -- ---- listed commits stand in the history
 

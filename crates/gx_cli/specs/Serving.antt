@@ -94,6 +94,10 @@ printed_by name (line.Log options file words) r = log_text name options (history
 printed_by name (line.RevParse file words) r = names_text name (history_of r) (texts_of words.items)
 printed_by name _ r = Ok []
 
+-- what is printed of a store, and how the command ends
+abbrev pub PrintsStored : {A : Type 0} → Stored Records → (Records → Printed) → Option Taken → Option Taken → Outcome A → Type 0
+PrintsStored stored given was now o = (answer : Result (Unit {0}) CliFault) × Prints (of_stored stored given) was now answer × IsOutcome answer o
+
 module _ (name : Kind → Bytes → Bytes) {A : Type 0} where
   -- after a refused import the next store text is that of what the last checkpoint published; where there was none, it gives none
   abbrev pub IsLeft : ℕ → Records → CliFault → Outcome A → Type 0
@@ -118,10 +122,6 @@ module _ (name : Kind → Bytes → Bytes) {A : Type 0} where
       IsUnopened was now o
       ⊎ ((answer : Result (Unit {0}) BatchFault) × Answers (answered_by name check (history_of repository)) coming was now answer × IsOutcome (batch_answer answer) o)
   BatchesStored check (Err f) coming was now o = IsUnread f was now o
-
-  -- what is printed of a store, and how the command ends
-  abbrev pub PrintsStored : Stored Records → (Records → Printed) → Option Taken → Option Taken → Outcome A → Type 0
-  PrintsStored stored given was now o = (answer : Result (Unit {0}) CliFault) × Prints (of_stored stored given) was now answer × IsOutcome answer o
 
   -- what a command does to the sink, and how it ends
   abbrev pub Serves : Line → Bytes → Option Coming → Option Taken → Option Taken → Outcome A → Type 0

@@ -58,6 +58,17 @@ texts_of = map (λ word. word.now)
 abbrev pub refs_text : Records → Bytes
 refs_text repository = flat_map stored_ref repository.refs
 
+-- ---- which commits of a list, and in which order
+
+-- so many of these at most
+abbrev pub limited : {A : Type 0} → Option ℕ → List A → List A
+limited None xs = xs
+limited (Some n) xs = take n xs
+
+-- these, or the last one first
+abbrev pub turned : {A : Type 0} → Bool → List A → List A
+turned backwards xs = if backwards then reverse xs else xs
+
 module _ (name : Kind → Bytes → Bytes) where
   -- ---- one revision
 
@@ -97,15 +108,6 @@ module _ (name : Kind → Bytes → Bytes) where
   -- the commits that range words list
   abbrev pub commits_listed : History → List RangeWord → Result (List Commit) WordFault
   commits_listed h ws = and_then (words_denoted name h ws) (λ xs. Ok (listing h xs))
-
-  -- so many of these at most
-  abbrev pub limited : {A : Type 0} → Option ℕ → List A → List A
-  limited None xs = xs
-  limited (Some n) xs = take n xs
-
-  -- these, or the last one first
-  abbrev pub turned : {A : Type 0} → Bool → List A → List A
-  turned backwards xs = if backwards then reverse xs else xs
 
   -- a commit's line: its name, and where they are asked for its parents' names, each behind a space
   abbrev pub log_line : Bool → Commit → Bytes

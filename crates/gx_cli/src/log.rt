@@ -2,9 +2,7 @@
 
 ghost use Rattle.std.specs.Prelude.{◌≡◌, ◌∷◌, IfOk, map};
 ghost use Rattle.std.specs.List.{AllByRecursion, flat_map};
-ghost use Rattle.gx_model.specs.declared.objects.Kind.{Kind};
 ghost use Rattle.gx_model.specs.declared.objects.Kind.TheVariants as kinds;
-ghost use Rattle.gx_model.specs.Texts.{Bytes};
 ghost use Rattle.gx_model.specs.Faults.{and_then};
 ghost use Rattle.gx_model.specs.HistoryOf.{history_of};
 ghost use Rattle.gx_model.specs.Objects.{hex};
@@ -82,7 +80,7 @@ fn read_ranges<A: Allocator + Copy>(alloc: A, words: &[&str]) -> Result<Vec<Rang
 
 /// Keeps so many names at most, and then turns them round, as the options ask.
 fn arrange<A: Allocator>(names: &mut Vec<Name, A>, options: LogOptions)
-    ensures { (name : Kind → Bytes → Bytes) → names.new.items ≡ turned name options.reverse (limited name options.max_count names.old.items) }
+    ensures { names.new.items ≡ turned options.reverse (limited options.max_count names.old.items) }
 {
     if let Some(most) = options.max_count {
         names.truncate(most as usize);

@@ -28,10 +28,9 @@ returns-in_err-names g c =
 
 pub print_commits-requires : goal.print_commits-requires
 print_commits-requires g c =
-    let name = g.N.Namer.name_of c.args.repo.now.0 in
     let r = c.args.repo.now.1 in
     let o = c.args.options in
-    subst (AllByRecursion (IsHeldAs kinds.Commit r)) (sym (c.as_slice.ensures.value ∙ c.arrange.ensures name)) (all_arranged (IsHeldAs kinds.Commit r) name o.reverse o.max_count c.in_ok-names.names.items c.in_ok-names.ensures.held)
+    subst (AllByRecursion (IsHeldAs kinds.Commit r)) (sym (c.as_slice.ensures.value ∙ c.arrange.ensures)) (all_arranged (IsHeldAs kinds.Commit r) o.reverse o.max_count c.in_ok-names.names.items c.in_ok-names.ensures.held)
 
 pub returns : goal.returns
 returns g c =
@@ -45,5 +44,5 @@ returns g c =
     let names = c.in_ok-names.names.items in
     let text = log_lines name o (map (commit_at r) names) in
     let given = in_two read listed (log_lines name o) ∙ ap (λ x. and_then x (λ commits. Ok (log_lines name o commits))) c.in_ok-names.ensures.commits in
-    let lines = ap (λ ns. flat_map (log_line name o.parents) (map (commit_at r) ns)) (c.as_slice.ensures.value ∙ c.arrange.ensures name) ∙ ap (flat_map (log_line name o.parents)) (map_arranged (commit_at r) name o.reverse o.max_count names) in
+    let lines = ap (λ ns. flat_map (log_line name o.parents) (map (commit_at r) ns)) (c.as_slice.ensures.value ∙ c.arrange.ensures) ∙ ap (flat_map (log_line name o.parents)) (map_arranged (commit_at r) o.reverse o.max_count names) in
     given_text (log_text name o (history_of r) (texts_of c.args.words.now)) text was now c.print_commits.result given (subst (λ t. PrintsText t was now c.print_commits.result) lines c.print_commits.ensures)

@@ -28,7 +28,7 @@ use Rattle.gx_model.specs.Commands.{Asks, Blob, Change, Checkpoint, Clear, Comma
 use Rattle.gx_model.specs.Grammar.{commands_of, is_null}
 use Rattle.gx_model.specs.ExportLaws.{IsNotNull}
 use Rattle.gx_model.specs.Gitlinks.{BringsNoNullGitlink, GivesNoNullGitlink, HoldsNoNullGitlink, HoldsTellsHas, RefusalsKeepNone, ReplaysKeepNone, TextsBringNone}
-use Rattle.gx_model.specs.Replay.{Kept, Outcome, Report, State, added, all_changed, all_committed, at, blob_bytes, byte_cmp, changed, checkpointed, commit_alone, committed, committed_for, content, ended, final, final_refs, finished, first_parent, is_fast_forward, marked, on_branch, refused, replayed, report, start, starting_files, step, step_checkpoint, step_commit, step_reset, step_tag, text_made, with_branch, with_first_parent}
+use Rattle.gx_model.specs.Replay.{Outcome, State, added, all_changed, all_committed, at, blob_bytes, byte_cmp, changed, checkpointed, commit_alone, committed, committed_for, content, ended, final, finished, first_parent, is_fast_forward, marked, on_branch, refused, replayed, report, start, starting_files, step, step_checkpoint, step_commit, step_reset, step_tag, text_made, with_branch, with_first_parent}
 use Rattle.gx_model.proofs.GivenCommits.{IsStateOf, MayBeOf, OfCommit, all_committed_kept, all_each, alone_kept, committed_kept, first_kept, for_branch, with_first_kept}
 use Rattle.gx_model.proofs.KeptCommits.{all_in}
 use Rattle.gx_model.proofs.ReadGitlinks.{none_brought}

@@ -32,7 +32,7 @@ use Rattle.gx_model.specs.Grammar.{commands_of, is_name}
 use Rattle.gx_model.specs.Grammar.{is_hex_digit as is_any_digit}
 use Rattle.gx_model.specs.ExportLaws.{nothing}
 use Rattle.gx_model.specs.ProperReplays.{IsContent, IsProperChange, IsProperCommand, IsProperCommit, IsProperTag, IsWholePath, RefusalsKeepHistories, ReplaysGiveHistories, TextsGiveHistories}
-use Rattle.gx_model.specs.Replay.{Kept, Outcome, Report, State, added, all_changed, all_committed, at, blob_bytes, byte_cmp, changed, checkpointed, commit_alone, committed, committed_for, content, ended, final, final_refs, finished, first_parent, is_fast_forward, marked, ok_or_mark, on_branch, or_else, refused, replayed, report, start, starting_files, step, step_checkpoint, step_commit, step_reset, step_tag, text_made, with_branch, with_first_parent}
+use Rattle.gx_model.specs.Replay.{Outcome, State, added, all_changed, all_committed, at, blob_bytes, byte_cmp, changed, checkpointed, commit_alone, committed, committed_for, content, ended, final, final_refs, finished, first_parent, is_fast_forward, marked, ok_or_mark, on_branch, or_else, refused, replayed, report, start, starting_files, step, step_checkpoint, step_commit, step_reset, step_tag, text_made, with_branch, with_first_parent}
 use Rattle.gx_model.proofs.PathTests.{both, first, is_true, second}
 use Rattle.gx_model.proofs.FileMapEdits.{Parts, copied_parts, modified_parts, of_parts, parts_of, removed_parts, renamed_parts}
 use Rattle.gx_model.proofs.OneTree.{all_left, all_unmap}

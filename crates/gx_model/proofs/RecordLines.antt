@@ -1,5 +1,5 @@
 -- The line of a record in a store text: it is read again, and whatever is read is spelled so.
-use Rattle.std.proofs.Common.{◌≡◌, ℕ, ◌%◌, ◌<◌, ◌^◌, Bool, true, false, cond, refl, sym, ap, ◌∙◌, [], ◌∷◌, ◌++◌, length, Option, None, Some, eq-eqb}
+use Rattle.std.proofs.Common.{◌≡◌, ℕ, ◌%◌, ◌<◌, ◌^◌, Bool, true, false, cond, refl, sym, ap, ◌∙◌, ◌∷◌, ◌++◌, length, Option, None, Some, eq-eqb}
 use Rattle.std.specs.Prelude.{T}
 use Rattle.std.specs.Bool.{passes}
 use Rattle.std.specs.Option.{option_and_then}
@@ -18,7 +18,7 @@ use Rattle.gx_model.specs.StoreReading.{Length, is_named, kind_words, length_fie
 use Rattle.gx_model.proofs.PathTests.{both, is_same, is_true, same_is}
 use Rattle.gx_model.proofs.Cuts.{cut_after, cut_spelled}
 use Rattle.gx_model.proofs.LineTexts.{line_append}
-use Rattle.gx_model.proofs.CommandFields.{link_no_space, mark_no_space}
+use Rattle.gx_model.proofs.CommandFields.{mark_no_space}
 use Rattle.gx_model.proofs.HexDigits.{one_unhex}
 use Rattle.gx_model.proofs.OneTree.{digits_of, forty, unhex_long}
 use Rattle.gx_model.proofs.OneHistory.{hex_line}

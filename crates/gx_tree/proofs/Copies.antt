@@ -3,6 +3,7 @@ use Rattle.std.proofs.Common.{◌≡◌, ℕ, ◌+◌, ◌<◌, ◌≤◌, List,
 use Rattle.std.proofs.lemmas.List.{append-nil, drop_all, drop_more, map-append}
 use Rattle.std.specs.List.{insert}
 use Rattle.gx_model.specs.Texts.{Bytes}
+use Rattle.gx_tree.specs.Components.{bytes_of}
 use Rattle.gx_tree.specs.Nodes.{inserted, key, mark, others, with_kept}
 use Rattle.gx_tree.specs.Views.{kept, seen, seen_all}
 use Rattle.gx_tree.specs.declared.directory.Entry.{Entry}
@@ -29,11 +30,11 @@ pub alike_all_behind : {A : Type 0} (es : List (Entry A)) (i : ℕ) (out front :
 alike_all_behind es i out front l h = sym (append-nil (seen_all out)) ∙ ap (λ r. seen_all out ++ seen_all r) (sym (drop_all i es l)) ∙ h
 
 -- an entry inserted at its place among the others
-pub with_kept_is : {A : Type 0} (t t' m : Bytes) (new : Entry A) (es copies copies' out : List (Entry A)) (i : ℕ) → t ≡ new.component.value.items → t' ≡ new.component.value.items → m ≡ mark (kept new.item) → copies' ≡ copies → out ≡ insert copies i new → seen_all copies ≡ others t (seen_all es) → i ≤ length copies' → IsPlace (t' ++ m) copies' i → seen_all out ≡ with_kept new.component.value.items (kept new.item) (seen_all es)
+pub with_kept_is : {A : Type 0} (t t' m : Bytes) (new : Entry A) (es copies copies' out : List (Entry A)) (i : ℕ) → t ≡ bytes_of new.component → t' ≡ bytes_of new.component → m ≡ mark (kept new.item) → copies' ≡ copies → out ≡ insert copies i new → seen_all copies ≡ others t (seen_all es) → i ≤ length copies' → IsPlace (t' ++ m) copies' i → seen_all out ≡ with_kept (bytes_of new.component) (kept new.item) (seen_all es)
 with_kept_is t t' m new es copies copies' out i et et' em es' eo h l p =
-    let place : IsPlace (key new.component.value.items (kept new.item)) copies i = rw (et', em, es') at p in
+    let place : IsPlace (key (bytes_of new.component) (kept new.item)) copies i = rw (et', em, es') at p in
     let within : i ≤ length copies = rw es' at l in
     let a : seen_all out ≡ seen_all (take i copies) ++ seen new ∷ seen_all (drop i copies) = rw eo (map-append seen (take i copies) (new ∷ drop i copies)) in
-    let b = inserted_at new.component.value.items (kept new.item) copies i within place in
-    let d : seen_all copies ≡ others new.component.value.items (seen_all es) = rw et at h in
-    a ∙ sym b ∙ ap (inserted new.component.value.items (kept new.item)) d
+    let b = inserted_at (bytes_of new.component) (kept new.item) copies i within place in
+    let d : seen_all copies ≡ others (bytes_of new.component) (seen_all es) = rw et at h in
+    a ∙ sym b ∙ ap (inserted (bytes_of new.component) (kept new.item)) d

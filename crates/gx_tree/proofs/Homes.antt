@@ -7,6 +7,7 @@ use Rattle.gx_model.specs.Paths.{Path}
 use Rattle.gx_model.specs.Files.{FileMap, sub_map}
 use Rattle.gx_model.specs.Histories.{Record}
 use Rattle.gx_object.specs.declared.name.Name.{Name}
+use Rattle.gx_tree.specs.Components.{bytes_of}
 use Rattle.gx_tree.specs.Homes.{AreAtHome, IsItemAtHome}
 use Rattle.gx_tree.specs.Named.{NamedTree, IsAtHome, IsHome}
 use Rattle.gx_tree.specs.Nodes.{Level, IsAfter, IsLevel, files, kept_at, map_if}
@@ -76,27 +77,27 @@ module _ (P : Bytes → FileMap Bytes → Type 0) where
   from_item c (Folder d) all l k h = names_from c d.files (files all) d.names (λ p. sub_map-files c p all l ∙ ap (λ o. sub_map (map_if o) p) k) h
 
   abbrev AreKept : {A : Type 0} → Level → List (Entry A) → Type 0
-  AreKept all es = AllByRecursion (λ e. kept_at e.component.value.items all ≡ Some (kept e.item)) es
+  AreKept all es = AllByRecursion (λ e. kept_at (bytes_of e.component) all ≡ Some (kept e.item)) es
 
   below_items : {A : Type 0} (all : Level) (es : List (Entry A)) → IsLevel all → AreKept all es → AllByRecursion (λ e. IsItem e.item) es → AreNames (files all) (names_below es)
   below_items all [] l k h = tt
-  below_items all (e ∷ es) l k h = all_joined (λ x. P x.1 (sub_map (files all) x.0)) (item_names e.component.value.items e.item) (names_below es) (below_item e.component.value.items e.item all l k.0 h.0) (below_items all es l k.1 h.1)
+  below_items all (e ∷ es) l k h = all_joined (λ x. P x.1 (sub_map (files all) x.0)) (item_names (bytes_of e.component) e.item) (names_below es) (below_item (bytes_of e.component) e.item all l k.0 h.0) (below_items all es l k.1 h.1)
 
   from_items : {A : Type 0} (all : Level) (es : List (Entry A)) → IsLevel all → AreKept all es → AreNames (files all) (names_below es) → AllByRecursion (λ e. IsItem e.item) es
   from_items all [] l k h = tt
   from_items all (e ∷ es) l k h =
       let Q : Path × Bytes → Type 0 = λ x. P x.1 (sub_map (files all) x.0) in (
-        from_item e.component.value.items e.item all l k.0 (all_first Q (item_names e.component.value.items e.item) (names_below es) h),
-        from_items all es l k.1 (all_rest Q (item_names e.component.value.items e.item) (names_below es) h),
+        from_item (bytes_of e.component) e.item all l k.0 (all_first Q (item_names (bytes_of e.component) e.item) (names_below es) h),
+        from_items all es l k.1 (all_rest Q (item_names (bytes_of e.component) e.item) (names_below es) h),
       )
 
-kept_weaker : {A : Type 0} (e : Entry A) (all : Level) (es : List (Entry A)) → AllByRecursion (IsAfter (seen e)) (seen_all es) → AllByRecursion (λ f. kept_at f.component.value.items all ≡ Some (kept f.item)) es → AllByRecursion (λ f. kept_at f.component.value.items (seen e ∷ all) ≡ Some (kept f.item)) es
+kept_weaker : {A : Type 0} (e : Entry A) (all : Level) (es : List (Entry A)) → AllByRecursion (IsAfter (seen e)) (seen_all es) → AllByRecursion (λ f. kept_at (bytes_of f.component) all ≡ Some (kept f.item)) es → AllByRecursion (λ f. kept_at (bytes_of f.component) (seen e ∷ all) ≡ Some (kept f.item)) es
 kept_weaker e all [] a k = tt
-kept_weaker e all (f ∷ es) a k = (rw (same_bytes_flip f.component.value.items e.component.value.items, a.0.0) k.0, kept_weaker e all es a.1 k.1)
+kept_weaker e all (f ∷ es) a k = (rw (same_bytes_flip (bytes_of f.component) (bytes_of e.component), a.0.0) k.0, kept_weaker e all es a.1 k.1)
 
-each_is_kept : {A : Type 0} (es : List (Entry A)) → IsLevel (seen_all es) → AllByRecursion (λ f. kept_at f.component.value.items (seen_all es) ≡ Some (kept f.item)) es
+each_is_kept : {A : Type 0} (es : List (Entry A)) → IsLevel (seen_all es) → AllByRecursion (λ f. kept_at (bytes_of f.component) (seen_all es) ≡ Some (kept f.item)) es
 each_is_kept [] h = tt
-each_is_kept (e ∷ es) h = (rw (same_itself e.component.value.items) refl, kept_weaker e (seen_all es) es h.2 (each_is_kept es h.3))
+each_is_kept (e ∷ es) h = (rw (same_itself (bytes_of e.component)) refl, kept_weaker e (seen_all es) es h.2 (each_is_kept es h.3))
 
 -- ---- directories that are at home
 

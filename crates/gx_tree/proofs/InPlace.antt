@@ -6,6 +6,7 @@ use Rattle.std.proofs.lemmas.Bool.{cases_Bool, true≢false}
 use Rattle.gx_model.specs.Texts.{Bytes, same_bytes}
 use Rattle.gx_model.specs.Paths.{Path, is_component}
 use Rattle.gx_model.specs.Files.{Leaf}
+use Rattle.gx_tree.specs.Components.{bytes_of}
 use Rattle.gx_tree.specs.Nodes.{Kept, Level, IsAfter, IsKept, IsLevel, comes_before, file, files, inserted, kept_at, kept_map, key, mark, others, precedes, with_kept}
 use Rattle.gx_tree.specs.Searches.{IsEntryAt}
 use Rattle.gx_tree.specs.Steps.{grafted, kept_grafted}
@@ -75,7 +76,7 @@ none_found (Some x) b e n = absurd (true≢false (sym e ∙ n))
 -- a new file at its place, in the directories that it needs, is an edit of the whole
 pub put_new : {A : Type 0} {c c' m : Bytes} {k : Kept} (p : Path) (i n : ℕ) (x : Leaf Bytes) (new : Entry A) (es ys zs out : List (Entry A)) → i < length p → IsKept (file x) → list_all is_component p ≡ true → IsLevel (seen_all es) → c ≡ get_or p i [] → kept_at c (seen_all es) ≡ None → seen new ≡ (c, k) → k ≡ kept_grafted (drop (i + 1) p) (file x) None → ys ≡ es → zs ≡ ys → c' ≡ (seen new).0 → m ≡ mark (kept new.item) → n ≤ length zs → IsPlace (c' ++ m) zs n → out ≡ insert ys n new → Leaves (grafted (drop i p) (kept_map (file x)) (files (seen_all es))) (seen_all out)
 put_new {A} {c} {c'} {m} {k} p i n x new es ys zs out l hx hp level ec none en ek ey ez ec' em within place eo =
-    let at : c ≡ new.component.value.items = ap (λ z. z.0) (sym en) in
+    let at : c ≡ bytes_of new.component = ap (λ z. z.0) (sym en) in
     let others : seen_all ys ≡ others c (seen_all es) = ap seen_all ey ∙ sym (others_same c (seen_all es) none) in
     let is = with_kept_is c c' m new es ys zs out n at ec' em ez eo others within place in
     grafted_step p i (seen_all es) (seen_all out) (file x) None l hx hp refl level ec (sym at) refl refl none (ap (λ z. z.1) en ∙ ek) is

@@ -17,6 +17,7 @@ use Rattle.gx_model.specs.Paths.{Path, is_component, is_file_path, is_short, pat
 use Rattle.gx_model.specs.Files.{FileMap, are_file_paths, is_file_map}
 use Rattle.gx_model.specs.HistoryOf.{placed}
 use Rattle.gx_model.proofs.PathTexts.{path_again}
+use Rattle.gx_tree.specs.Components.{bytes_of}
 use Rattle.gx_tree.specs.Nodes.{Kept, Level, IsKept, IsLevel, file, files, folder, kept_map}
 use Rattle.gx_tree.specs.Views.{kept, seen, seen_all}
 use Rattle.gx_tree.specs.Lists.{below, listed}
@@ -106,12 +107,12 @@ list_file front path t c m n out out' ep et eo = rw (eo, map-append listed out (
 pub list_folder : (front path : Path) (t c : Bytes) (f g : FileMap Bytes) (out out' : List (Path × Mode × Name)) → path ≡ front ++ t ∷ [] → t ≡ c → g ≡ f → map listed out' ≡ map listed out ++ below path g → map listed out' ≡ map listed out ++ below front (placed c (kept_map (folder f)))
 list_folder front path t c f g out out' ep et eg eo = rw (eo, eg, ep, et, below-placed front c f) refl
 
-pub list_more : {A : Type 0} (front : Path) (es : List (Entry A)) (i : ℕ) (r : Entry A) (k : Kept) (total : FileMap Bytes) (out out' : List (Path × Mode × Name)) → i < length es → r ≡ get_or es i r → kept r.item ≡ k → map listed out' ≡ map listed out ++ below front (placed r.component.value.items (kept_map k)) → map listed out ++ below front (files (seen_all (drop i es))) ≡ total → map listed out' ++ below front (files (seen_all (drop (i + 1) es))) ≡ total
+pub list_more : {A : Type 0} (front : Path) (es : List (Entry A)) (i : ℕ) (r : Entry A) (k : Kept) (total : FileMap Bytes) (out out' : List (Path × Mode × Name)) → i < length es → r ≡ get_or es i r → kept r.item ≡ k → map listed out' ≡ map listed out ++ below front (placed (bytes_of r.component) (kept_map k)) → map listed out ++ below front (files (seen_all (drop i es))) ≡ total → map listed out' ++ below front (files (seen_all (drop (i + 1) es))) ≡ total
 list_more front es i r k total out out' l ir ek eo h =
-    let step : seen_all (drop i es) ≡ (r.component.value.items, k) ∷ seen_all (drop (i + 1) es) = rw (seen_more es i r l ir, ek) refl in
-    let whole : map listed out ++ (below front (placed r.component.value.items (kept_map k)) ++ below front (files (seen_all (drop (i + 1) es)))) ≡ total =
-    rw (step, below-append front (placed r.component.value.items (kept_map k)) (files (seen_all (drop (i + 1) es)))) at h in
-    rw (eo, append_assoc (map listed out) (below front (placed r.component.value.items (kept_map k))) (below front (files (seen_all (drop (i + 1) es))))) whole
+    let step : seen_all (drop i es) ≡ (bytes_of r.component, k) ∷ seen_all (drop (i + 1) es) = rw (seen_more es i r l ir, ek) refl in
+    let whole : map listed out ++ (below front (placed (bytes_of r.component) (kept_map k)) ++ below front (files (seen_all (drop (i + 1) es)))) ≡ total =
+    rw (step, below-append front (placed (bytes_of r.component) (kept_map k)) (files (seen_all (drop (i + 1) es)))) at h in
+    rw (eo, append_assoc (map listed out) (below front (placed (bytes_of r.component) (kept_map k))) (below front (files (seen_all (drop (i + 1) es))))) whole
 
 -- ---- the whole tree
 

@@ -3,6 +3,7 @@ use Rattle.std.proofs.Common.{◌≡◌, ℕ, ◌<◌, ◌+◌, ◌*◌, zero, s
 use Rattle.gx_model.specs.Files.{FileMap}
 use Rattle.gx_model.specs.Texts.{Bytes}
 use Rattle.gx_model.specs.HistoryOf.{placed}
+use Rattle.gx_tree.specs.Components.{bytes_of}
 use Rattle.gx_tree.specs.Nodes.{IsKept, IsLevel, components, files, folder, kept_map}
 use Rattle.gx_tree.specs.Falls.{components-append, components-placed, some_length}
 use Rattle.gx_tree.specs.Views.{kept, seen_all}
@@ -14,9 +15,9 @@ folder_at : {A : Type 0} (es : List (Entry A)) (i : ℕ) (d : Entry A) (f : File
 folder_at [] i d f h l e = absurd (omega arith)
 folder_at (x ∷ es) zero d f h l e =
     let k : IsKept (folder f) = subst IsKept e h.1 in
-    let same : components (placed x.component.value.items (kept_map (kept x.item))) ≡ components (placed x.component.value.items f) = ap (λ z. components (placed x.component.value.items (kept_map z))) e in
-    omega (arith, components-append (placed x.component.value.items (kept_map (kept x.item))) (files (seen_all es)), same, components-placed x.component.value.items f, some_length f k.0)
-folder_at (x ∷ es) (suc i) d f h l e = omega (arith, folder_at es i d f h.3 (omega arith) e, components-append (placed x.component.value.items (kept_map (kept x.item))) (files (seen_all es)))
+    let same : components (placed (bytes_of x.component) (kept_map (kept x.item))) ≡ components (placed (bytes_of x.component) f) = ap (λ z. components (placed (bytes_of x.component) (kept_map z))) e in
+    omega (arith, components-append (placed (bytes_of x.component) (kept_map (kept x.item))) (files (seen_all es)), same, components-placed (bytes_of x.component) f, some_length f k.0)
+folder_at (x ∷ es) (suc i) d f h l e = omega (arith, folder_at es i d f h.3 (omega arith) e, components-append (placed (bytes_of x.component) (kept_map (kept x.item))) (files (seen_all es)))
 
 -- the entry at i, read as r
 pub folder_less : {A : Type 0} {f : FileMap Bytes} (es xs : List (Entry A)) (i : ℕ) (r : Entry A) (g b : FileMap Bytes) → i < length xs → r ≡ get_or xs i r → xs ≡ es → files (seen_all es) ≡ f → IsLevel (seen_all es) → kept r.item ≡ folder g → b ≡ g → components b < components f

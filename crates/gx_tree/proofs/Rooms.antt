@@ -13,6 +13,7 @@ use Rattle.gx_model.specs.Files.{FileMap, Leaf}
 use Rattle.gx_model.specs.HistoryOf.{placed}
 use Rattle.gx_model.specs.declared.objects.Mode.{Mode}
 use Rattle.gx_object.specs.declared.name.Name.{Name}
+use Rattle.gx_tree.specs.Components.{bytes_of}
 use Rattle.gx_tree.specs.Lists.{below}
 use Rattle.gx_tree.specs.Nodes.{Kept, IsKept, IsLevel, Level, file, files, folder, is_inner_path, kept_map}
 use Rattle.gx_tree.specs.Rooms.{IsReach, is_within, kept_within}
@@ -77,11 +78,11 @@ kept_entry es xs i r l ir ex h =
     let a : AllByRecursion (λ e. IsKept e.1) (seen_all xs) = subst (λ z. AllByRecursion (λ e. IsKept e.1) (seen_all z)) (sym ex) (each_kept (seen_all es) h) in
     subst (λ z. IsKept (kept z.item)) (sym ir) (subst (λ z. IsKept z.1) (get_or-map seen xs i r (seen r) l) (all_at (λ e. IsKept e.1) (seen_all xs) i (seen r) (omega (arith, length-map xs seen)) a))
 
-pub rest_within : {A : Type 0} (es xs : List (Entry A)) (i : ℕ) (r : Entry A) (room : ℕ) → i < length xs → r ≡ get_or xs i r → xs ≡ es → IsLevel (seen_all es) → list_all (is_within room) (files (seen_all (drop i xs))) ≡ (kept_within room (length r.component.value.items) (kept r.item) && list_all (is_within room) (files (seen_all (drop (i + 1) xs))))
+pub rest_within : {A : Type 0} (es xs : List (Entry A)) (i : ℕ) (r : Entry A) (room : ℕ) → i < length xs → r ≡ get_or xs i r → xs ≡ es → IsLevel (seen_all es) → list_all (is_within room) (files (seen_all (drop i xs))) ≡ (kept_within room (length (bytes_of r.component)) (kept r.item) && list_all (is_within room) (files (seen_all (drop (i + 1) xs))))
 rest_within es xs i r room l ir ex h =
     rw (seen_more xs i r l ir)
-    (list_all-append (is_within room) (placed r.component.value.items (kept_map (kept r.item))) (files (seen_all (drop (i + 1) xs)))
-    ∙ ap (λ b. b && list_all (is_within room) (files (seen_all (drop (i + 1) xs)))) (kept_within-is r.component.value.items (kept r.item) room (kept_entry es xs i r l ir ex h)))
+    (list_all-append (is_within room) (placed (bytes_of r.component) (kept_map (kept r.item))) (files (seen_all (drop (i + 1) xs)))
+    ∙ ap (λ b. b && list_all (is_within room) (files (seen_all (drop (i + 1) xs)))) (kept_within-is (bytes_of r.component) (kept r.item) room (kept_entry es xs i r l ir ex h)))
 
 -- ---- below a path
 
@@ -134,11 +135,11 @@ folder_reach (Some n) P i b f c d e s h k =
     subst (λ j. kept_within n (length c) j ≡ true) (sym e) (and_from _ _ (lt-ltb (length c) n (omega (arith, sum))) (subst (λ z. list_all (is_within z) f ≡ true) left k))
 
 -- one more entry at i, read as r, whose reach is b, beside those before it, whose reach is a
-pub reach_more : {A : Type 0} (es : List (Entry A)) (i : ℕ) (r : Entry A) (a b m : ℕ) → i < length es → r ≡ get_or es i r → IsLevel (seen_all es) → kept_within b (length r.component.value.items) (kept r.item) ≡ true → max a b ≤ m
+pub reach_more : {A : Type 0} (es : List (Entry A)) (i : ℕ) (r : Entry A) (a b m : ℕ) → i < length es → r ≡ get_or es i r → IsLevel (seen_all es) → kept_within b (length (bytes_of r.component)) (kept r.item) ≡ true → max a b ≤ m
     → (a ≤ m → list_all (is_within m) (files (seen_all es)) ≡ list_all (is_within m) (files (seen_all (drop i es))))
     → list_all (is_within m) (files (seen_all es)) ≡ list_all (is_within m) (files (seen_all (drop (i + 1) es)))
 reach_more es i r a b m l ir h k le before =
-    let fits = kept_more b m (length r.component.value.items) (kept r.item) (omega (arith, le)) k in
+    let fits = kept_more b m (length (bytes_of r.component)) (kept r.item) (omega (arith, le)) k in
     before (omega (arith, le)) ∙ rest_within es es i r m l ir refl h ∙ ap (λ t. t && list_all (is_within m) (files (seen_all (drop (i + 1) es)))) fits
 
 pub reach_all : {A : Type 0} (es : List (Entry A)) (i m : ℕ) → length es ≤ i → list_all (is_within m) (files (seen_all es)) ≡ list_all (is_within m) (files (seen_all (drop i es))) → list_all (is_within m) (files (seen_all es)) ≡ true

@@ -7,6 +7,7 @@ use Rattle.std.specs.Cmp.Lexicographic.{nat_list_cmp_total}
 use Rattle.std.specs.Ordering.{is_lt}
 use Rattle.std.proofs.lemmas.Bool.{cases_Bool, false≢true, not-true, not-false, true≢false}
 use Rattle.gx_model.specs.Texts.{Bytes, same_bytes}
+use Rattle.gx_tree.specs.Components.{bytes_of}
 use Rattle.gx_tree.specs.Nodes.{Kept, Level, IsAfter, IsLevel, file, folder, inserted, kept_at, key, mark, precedes}
 use Rattle.gx_tree.specs.Searches.{Finds}
 use Rattle.gx_tree.specs.Views.{kept, seen, seen_all}
@@ -59,16 +60,16 @@ inserted_at c k (e ∷ es) (suc i) l h = rw (h.0 zero e (omega arith) (omega ari
 -- ---- what stands at a component
 
 -- the entry at i, read as r
-pub kept_at_place : {A : Type 0} (c t : Bytes) (es : List (Entry A)) (i : ℕ) (r : Entry A) → IsLevel (seen_all es) → i < length es → r ≡ get_or es i r → t ≡ r.component.value.items → same_bytes t c ≡ true → kept_at c (seen_all es) ≡ Some (kept r.item)
+pub kept_at_place : {A : Type 0} (c t : Bytes) (es : List (Entry A)) (i : ℕ) (r : Entry A) → IsLevel (seen_all es) → i < length es → r ≡ get_or es i r → t ≡ bytes_of r.component → same_bytes t c ≡ true → kept_at c (seen_all es) ≡ Some (kept r.item)
 kept_at_place c t [] i r h l ir it s = absurd (omega arith)
 kept_at_place c t (e ∷ es) zero r h l ir it s =
-    let b : same_bytes c e.component.value.items ≡ true = same_bytes_flip c e.component.value.items ∙ ap (λ z. same_bytes z c) (ap (λ z. z.component.value.items) (sym ir) ∙ sym it) ∙ s in
+    let b : same_bytes c (bytes_of e.component) ≡ true = same_bytes_flip c (bytes_of e.component) ∙ ap (λ z. same_bytes z c) (ap (λ z. (bytes_of z.component)) (sym ir) ∙ sym it) ∙ s in
     rw b (ap (λ z. Some (kept z.item)) (sym ir))
 kept_at_place c t (e ∷ es) (suc i) r h l ir it s =
-    let a : same_bytes e.component.value.items r.component.value.items ≡ false = subst (λ z. same_bytes e.component.value.items z.component.value.items ≡ false) (sym ir) (after_at (seen e) es i r h.2 (omega arith)).0 in
-    elim (cases_bytes c e.component.value.items) [
+    let a : same_bytes (bytes_of e.component) (bytes_of r.component) ≡ false = subst (λ z. same_bytes (bytes_of e.component) (bytes_of z.component) ≡ false) (sym ir) (after_at (seen e) es i r h.2 (omega arith)).0 in
+    elim (cases_bytes c (bytes_of e.component)) [
       | inl k ↦
-          let b : same_bytes e.component.value.items r.component.value.items ≡ true = same_bytes_flip e.component.value.items r.component.value.items ∙ ap (λ z. same_bytes z e.component.value.items) (sym it) ∙ ap (same_bytes t) (sym k) ∙ s in
+          let b : same_bytes (bytes_of e.component) (bytes_of r.component) ≡ true = same_bytes_flip (bytes_of e.component) (bytes_of r.component) ∙ ap (λ z. same_bytes z (bytes_of e.component)) (sym it) ∙ ap (same_bytes t) (sym k) ∙ s in
           absurd (false≢true (sym a ∙ b))
       | inr n ↦ rw n (kept_at_place c t es i r h.3 (omega arith) ir it s)
     ]
@@ -86,18 +87,18 @@ after_found a c k (f ∷ es) h e = elim (cases_bytes c f.0) [
 -- the entry before the place is that of the component
 abbrev IsBeforePlace : {A : Type 0} → Bytes → List (Entry A) → ℕ → Type 0
 IsBeforePlace c es zero = ⊥
-IsBeforePlace {A} c es (suc i) = (d : Entry A) → (get_or es i d).component.value.items ≡ c
+IsBeforePlace {A} c es (suc i) = (d : Entry A) → bytes_of (get_or es i d).component ≡ c
 
-found_here : {A : Type 0} (c : Bytes) (k : Kept) (e : Entry A) (es : List (Entry A)) (i : ℕ) → IsLevel (seen_all (e ∷ es)) → i ≤ length (e ∷ es) → IsPlace (key c k) (e ∷ es) i → c ≡ e.component.value.items → kept e.item ≡ k → IsBeforePlace c (e ∷ es) i
+found_here : {A : Type 0} (c : Bytes) (k : Kept) (e : Entry A) (es : List (Entry A)) (i : ℕ) → IsLevel (seen_all (e ∷ es)) → i ≤ length (e ∷ es) → IsPlace (key c k) (e ∷ es) i → c ≡ bytes_of e.component → kept e.item ≡ k → IsBeforePlace c (e ∷ es) i
 found_here c k e es zero h l p s t =
     let a : precedes (key c k) (seen e) ≡ true = p.1 zero e (omega arith) (omega arith) in
-    let b : is_lt (byte_cmp (key c k) (key c k)) ≡ true = ap (λ z. is_lt (byte_cmp (key c k) (key z k))) s ∙ ap (λ z. is_lt (byte_cmp (key c k) (key e.component.value.items z))) (sym t) ∙ a in
+    let b : is_lt (byte_cmp (key c k) (key c k)) ≡ true = ap (λ z. is_lt (byte_cmp (key c k) (key z k))) s ∙ ap (λ z. is_lt (byte_cmp (key c k) (key (bytes_of e.component) z))) (sym t) ∙ a in
     absurd (not_before_itself (key c k) b)
 found_here c k e es (suc zero) h l p s t = λ d. sym s
 found_here c k e [] (suc (suc i)) h l p s t = absurd (omega arith)
 found_here c k e (f ∷ es) (suc (suc i)) h l p s t =
     let a : precedes (key c k) (seen f) ≡ false = p.0 (suc zero) e (omega arith) (omega arith) in
-    let b : precedes (key c k) (seen f) ≡ true = ap (λ z. precedes (key z k) (seen f)) s ∙ ap (λ z. precedes (key e.component.value.items z) (seen f)) (sym t) ∙ h.2.0.1 in
+    let b : precedes (key c k) (seen f) ≡ true = ap (λ z. precedes (key z k) (seen f)) s ∙ ap (λ z. precedes (key (bytes_of e.component) z) (seen f)) (sym t) ∙ h.2.0.1 in
     absurd (true≢false (sym b ∙ a))
 
 further_on : {A : Type 0} (c : Bytes) (e : Entry A) (es : List (Entry A)) (i : ℕ) → IsBeforePlace c es i → IsBeforePlace c (e ∷ es) (suc i)
@@ -113,19 +114,19 @@ found_later c k e es (suc i) h l p n more = further_on c e es i (more i (omega a
 
 before_place : {A : Type 0} (c : Bytes) (k : Kept) (es : List (Entry A)) (i : ℕ) → IsLevel (seen_all es) → i ≤ length es → IsPlace (key c k) es i → kept_at c (seen_all es) ≡ Some k → IsBeforePlace c es i
 before_place c k [] i h l p e = cc
-before_place c k (f ∷ es) i h l p e = elim (cases_bytes c f.component.value.items) [
+before_place c k (f ∷ es) i h l p e = elim (cases_bytes c (bytes_of f.component)) [
   | inl s ↦
-      let at : Some (kept f.item) ≡ Some k = rw (bytes_same c f.component.value.items s) at e in
+      let at : Some (kept f.item) ≡ Some k = rw (bytes_same c (bytes_of f.component) s) at e in
       found_here c k f es i h l p s (cc)
   | inr n ↦ let m : kept_at c (seen_all es) ≡ Some k = rw n at e in found_later c k f es i h l p m (λ j b q. before_place c k es j h.3 b q m)
 ]
 
-one_before : {A : Type 0} (c : Bytes) (es : List (Entry A)) (i : ℕ) → IsBeforePlace c es i → (0 < i) × ((d : Entry A) → (get_or es (i - 1) d).component.value.items ≡ c)
+one_before : {A : Type 0} (c : Bytes) (es : List (Entry A)) (i : ℕ) → IsBeforePlace c es i → (0 < i) × ((d : Entry A) → bytes_of (get_or es (i - 1) d).component ≡ c)
 one_before c es zero h = absurd h
-one_before c es (suc i) h = let e : i ≡ suc i - 1 = omega arith in (omega arith, λ d. subst (λ j. (get_or es j d).component.value.items ≡ c) e (h d))
+one_before c es (suc i) h = let e : i ≡ suc i - 1 = omega arith in (omega arith, λ d. subst (λ j. bytes_of (get_or es j d).component ≡ c) e (h d))
 
 -- so a component that stands with its mark stands before its place
-pub stands_before : {A : Type 0} (c m : Bytes) (k : Kept) (es : List (Entry A)) (i : ℕ) → IsLevel (seen_all es) → i ≤ length es → IsPlace (c ++ m) es i → kept_at c (seen_all es) ≡ Some k → mark k ≡ m → (0 < i) × ((d : Entry A) → (get_or es (i - 1) d).component.value.items ≡ c)
+pub stands_before : {A : Type 0} (c m : Bytes) (k : Kept) (es : List (Entry A)) (i : ℕ) → IsLevel (seen_all es) → i ≤ length es → IsPlace (c ++ m) es i → kept_at c (seen_all es) ≡ Some k → mark k ≡ m → (0 < i) × ((d : Entry A) → bytes_of (get_or es (i - 1) d).component ≡ c)
 stands_before c m k es i h l p e n = one_before c es i (before_place c k es i h l (subst (λ z. IsPlace (c ++ z) es i) (sym n) p) e)
 
 -- nothing stands at the component with either mark

@@ -13,6 +13,7 @@ use Rattle.gx_model.specs.Edits.{is_root}
 use Rattle.gx_model.specs.Files.{FileMap, sub_map}
 use Rattle.gx_model.specs.Histories.{Record}
 use Rattle.gx_model.specs.Growth.{and_some, put, put_all, put_under, record_named, same_kind, same_object, tree_records}
+use Rattle.gx_tree.specs.Components.{bytes_of}
 use Rattle.gx_tree.specs.Homes.{AreAtHome, IsItemAtHome}
 use Rattle.gx_tree.specs.Named.{NamedTree, IsAtHome, IsHome, own_name}
 use Rattle.gx_tree.specs.Writes.{kept_leaf, kept_records, level_records}
@@ -124,7 +125,7 @@ own_none-item c (Folder d) more h = own_none c d.names more h
 -- what stands below entries is no name of the whole
 pub own_none-below : {A : Type 0} (es : List (Entry A)) → own_name (names_below es) ≡ None
 own_none-below [] = refl
-own_none-below (e ∷ es) = own_none-item e.component.value.items e.item (names_below es) (own_none-below es)
+own_none-below (e ∷ es) = own_none-item (bytes_of e.component) e.item (names_below es) (own_none-below es)
 
 module _ (name : Kind → Bytes → Bytes) (rs : List Record) where
   named_by : (d : NamedTree) (o : Option Bytes) → own_name d.names ≡ o → IsTrue (is_some o) → IsAtHome name rs d → IsHome name rs (unwrap_or o []) d.files
@@ -141,7 +142,7 @@ module _ (name : Kind → Bytes → Bytes) (rs : List Record) where
   own_entries (e ∷ es) h k =
       let leaf = own_leaf-is e.item h.0 k.0 in
       let rest = own_entries es h.1 k.1 in
-      λ i. record { mode = (leaf i).0; component = e.component.value.items; name = (leaf i).1 } ∷ rest i
+      λ i. record { mode = (leaf i).0; component = bytes_of e.component; name = (leaf i).1 } ∷ rest i
 
   records_held : {A : Type 0} (i : Item A) → IsItemAtHome name rs i → Remembers i → AllByRecursion (λ r. record_named rs r.name ≡ Some r) (kept_records name (kept i))
   records_held (File m n) h k = tt

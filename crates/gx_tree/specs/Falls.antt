@@ -6,6 +6,7 @@ use denote.Param.Weighed.{most}
 use Rattle.gx_model.specs.Texts.{Bytes}
 use Rattle.gx_model.specs.Files.{FileMap}
 use Rattle.gx_model.specs.HistoryOf.{placed}
+use Rattle.gx_tree.specs.Components.{bytes_of}
 use Rattle.gx_tree.specs.Nodes.{kept_map, files, components, IsKept, IsLevel}
 use Rattle.gx_tree.specs.Views.{kept, seen_all}
 use Rattle.gx_tree.specs.declared.directory.Item.{Item}
@@ -31,4 +32,4 @@ item_falls G c (Folder d) h = omega (arith, components-placed c d.files, some_le
 
 pub falls : {A : Type 0} (G : Ghosts A) (es : List (Entry A)) → IsLevel (seen_all es) → max (most (λ x. deep-Entry A G x) es) 0 ≤ components (files (seen_all es))
 falls G [] h = omega arith
-falls G (e ∷ es) h = omega (arith, item_falls G e.component.value.items e.item h.1, falls G es h.3, components-append (placed e.component.value.items (kept_map (kept e.item))) (files (seen_all es)))
+falls G (e ∷ es) h = omega (arith, item_falls G (bytes_of e.component) e.item h.1, falls G es h.3, components-append (placed (bytes_of e.component) (kept_map (kept e.item))) (files (seen_all es)))

@@ -1,3 +1,4 @@
+pub mod Components
 pub mod Nodes
 pub mod Views
 pub mod Falls

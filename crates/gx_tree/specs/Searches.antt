@@ -1,6 +1,7 @@
 -- What a search among a directory's entries answers.
 use Rattle.std.specs.Prelude.{◌≡◌, ◌≢◌, ◌<◌, ℕ, List, get_or, length, Option, None, Some}
 use Rattle.gx_model.specs.Texts.{Bytes}
+use Rattle.gx_tree.specs.Components.{bytes_of}
 use Rattle.gx_tree.specs.Nodes.{Kept, Level, kept_at, mark}
 use Rattle.gx_tree.specs.declared.directory.Entry.{Entry}
 
@@ -11,4 +12,4 @@ Finds c m es None = (k : Kept) → kept_at c es ≡ Some k → mark k ≢ m
 
 -- the entry at i is that of c
 abbrev pub IsEntryAt : {A : Type 0} → Bytes → List (Entry A) → ℕ → Type 0
-IsEntryAt {A} c es i = (i < length es) × ((d : Entry A) → (get_or es i d).component.value.items ≡ c)
+IsEntryAt {A} c es i = (i < length es) × ((d : Entry A) → bytes_of (get_or es i d).component ≡ c)

@@ -9,6 +9,7 @@ use Rattle.gx_model.specs.Files.{FileMap, Leaf}
 use Rattle.gx_model.specs.Objects.{Entry as TreeEntry}
 use Rattle.gx_model.specs.Paths.{Path}
 use Rattle.gx_object.specs.declared.name.Name.{Name}
+use Rattle.gx_tree.specs.Components.{bytes_of}
 use Rattle.gx_tree.specs.Named.{NamedTree, is_named, nothing, own_name}
 use Rattle.gx_tree.specs.Nodes.{Kept, Level, file, files, folder}
 use Rattle.gx_tree.specs.declared.directory.Item.{Item}
@@ -20,7 +21,7 @@ kept (File m n) = file (m, n.bytes)
 kept (Folder d) = folder d.files
 
 abbrev pub seen : {A : Type 0} → Entry A → Bytes × Kept
-seen e = (e.component.value.items, kept e.item)
+seen e = (bytes_of e.component, kept e.item)
 
 abbrev pub seen_all : {A : Type 0} → List (Entry A) → Level
 seen_all = map seen
@@ -54,7 +55,7 @@ item_names c (File m n) = []
 item_names c (Folder d) = map (λ e. (c ∷ e.0, e.1)) d.names
 
 abbrev pub names_below : {A : Type 0} → List (Entry A) → List (Path × Bytes)
-names_below = flat_map (λ e. item_names e.component.value.items e.item)
+names_below = flat_map (λ e. item_names (bytes_of e.component) e.item)
 
 -- with that of the whole first, if it is remembered
 abbrev pub names_of : {A : Type 0} → Option Name → List (Entry A) → List (Path × Bytes)
@@ -80,7 +81,7 @@ own_leaf (File m n) = (m, n.bytes)
 own_leaf (Folder d) = (Dir, unwrap_or (own_name d.names) [])
 
 abbrev pub own_entry : {A : Type 0} → Entry A → TreeEntry
-own_entry e = record { mode = (own_leaf e.item).0; component = e.component.value.items; name = (own_leaf e.item).1 }
+own_entry e = record { mode = (own_leaf e.item).0; component = bytes_of e.component; name = (own_leaf e.item).1 }
 
 -- where a name is remembered, all directories below remember theirs
 abbrev pub RemembersBelow : {A : Type 0} → Option Name → List (Entry A) → Type 0

@@ -1,5 +1,5 @@
 //! Directories: their entries in the order of Git's trees, each a file or a directory below. Entries never change while
-//! more than one directory has them, so trees share them, and the entries made in their place share their components.
+//! more than one directory has them, so trees share them.
 ghost use Rattle.std.specs.Prelude.{◌≡◌, ◌≤◌, ◌<◌, ◌+◌, ◌++◌, ◌∷◌, [], IsTrue, ◌↔◌, IfOk, OnOk, drop, length, take};
 ghost use Rattle.std.specs.Option.{option_map};
 ghost use Rattle.gx_tree.specs.Homes.{Keeps, Both, IfThere, Borrowed, AreAtHome, IsHeldAtHome, IsItemAtHome};
@@ -9,6 +9,7 @@ ghost use Rattle.gx_tree.specs.Views.{RemembersBelow, kept, kept_if, option_kept
 ghost use Rattle.gx_tree.specs.Standings.{standing_of, standing_at};
 ghost use Rattle.gx_tree.specs.Steps.{files_of, replaced};
 
+use crate::component::Component;
 use crate::path_tree::Found;
 use crate::reach::reach_of;
 use crate::search::{find, place_at, place_of};
@@ -32,7 +33,7 @@ pub(crate) struct Directory<A: Allocator> {
 #[cycle(tree)]
 #[derive(Drop)]
 pub(crate) struct Entry<A: Allocator> {
-    pub(crate) component: Rc<Vec<u8, A>, A>,
+    pub(crate) component: Component<A>,
     pub(crate) item: Item<A>,
 }
 
@@ -154,8 +155,7 @@ impl<A: Allocator + Copy> Entry<A> {
         ensures seen { IfOk result (λ e. seen e ≡ (component.now, kept item)) }
         ensures item { IfOk result (λ e. e.item ≡ item) }
     {
-        let bytes = Vec::from_slice(alloc, component)?;
-        let component = Rc::new(alloc, bytes)?;
+        let component = Component::new(alloc, component)?;
         Ok(Entry { component, item })
     }
 
@@ -163,7 +163,7 @@ impl<A: Allocator + Copy> Entry<A> {
         ensures seen { IfOk result (λ e. seen e ≡ seen self.now) }
         ensures home { IfOk result (λ e. Keeps IsItemAtHome IsItemAtHome self.now.item e.item) }
     {
-        let component = self.component.clone()?;
+        let component = self.component.shared()?;
         let item = self.item.shared()?;
         Ok(Entry { component, item })
     }

@@ -2,6 +2,7 @@
 //! Its edits are set operations on that map, and it writes and loads the canonical trees.
 #![tactic(auto)]
 
+mod component;
 mod copying;
 mod directory;
 mod edits;

@@ -145,9 +145,10 @@ impl<A: Allocator + Copy> PathTree<A> {
     ///
     /// Cost: where no other tree shares the directories on the path, and a file stands at it, or nothing at its next component
     /// in the last of them, searches by halves in each of these directories: they change in place. A file that stands takes
-    /// no memory. A new one moves the entries behind its place, and takes memory for its components' bytes, for the
-    /// directories that it needs and where the entries have no room. Otherwise the directories are made anew, with their
-    /// entries; those beside the path are shared, and components' bytes too. Source: git-fast-import(1), "filemodify".
+    /// no memory. A new one moves the entries behind its place, and takes memory for each of its components of more than 24
+    /// bytes, for the directories that it needs and where the entries have no room. Otherwise the directories are made anew,
+    /// with their entries; those beside the path are shared, and the bytes of long components too.
+    /// Source: git-fast-import(1), "filemodify".
     pub fn modify(&mut self, path: &TreePath<A>, mode: Mode, name: Name) -> Result<(), TreeFault>
         requires { mode ≢ modes.Dir }
         ensures map { Gives fault_of (λ _. self.new.files) result (modified self.old.files path.now (mode, name.bytes)) }

@@ -1,16 +1,14 @@
 //! Finding a component among a directory's entries, by halves.
 ghost use Rattle.std.specs.Prelude.{◌≡◌, ◌≤◌, ◌++◌, true, false, length, IfSome, IsNone, None};
-ghost use Rattle.std.specs.Cmp.Lexicographic.{slice_cmp};
 ghost use Rattle.std.specs.List.Sorted.{IsPartitionPoint};
-ghost use Rattle.std.specs.Ordering.{nat_cmp};
 ghost use Rattle.gx_tree.specs.Homes.{Keeps, Both, IfThere, Borrowed, AreAtHome, IsHeldAtHome, IsItemAtHome};
 ghost use Rattle.gx_tree.specs.Nodes.{IsLevel, kept_at, key, precedes};
 ghost use Rattle.gx_tree.specs.Searches.{Finds, IsEntryAt};
 ghost use Rattle.gx_tree.specs.Views.{option_kept, seen, seen_all};
 
 use crate::directory::{Entry, Item};
+use gx_object::compare_marked;
 use std::alloc::Allocator;
-use std::cmp::Ordering;
 
 /// What stands at a component.
 pub(crate) fn find<'a, A: Allocator + Copy>(
@@ -98,14 +96,6 @@ impl<A: Allocator + Copy> Entry<A> {
     fn is_after(&self, component: &[u8], mark: &[u8]) -> bool
         ensures { result ≡ precedes (component.now ++ mark.now) (seen self.now) }
     {
-        compare_texts(component, mark, self.component(), self.mark()).is_lt()
+        compare_marked(component, mark, self.component(), self.mark()).is_lt()
     }
-}
-
-// The order of two components with what follows them.
-fn compare_texts(first: &[u8], first_mark: &[u8], second: &[u8], second_mark: &[u8]) -> Ordering
-    ensures { result ≡ slice_cmp nat_cmp (first.now ++ first_mark.now) (second.now ++ second_mark.now) }
-{
-    let text = first.iter().chain(first_mark.iter());
-    text.cmp(second.iter().chain(second_mark.iter()))
 }

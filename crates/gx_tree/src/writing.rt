@@ -135,7 +135,7 @@ impl<A: Allocator + Copy> Entry<A> {
         ensures seen { IfOk result (λ entry. seen entry ≡ ((seen self.now).0, kept item)) }
         ensures item { IfOk result (λ entry. entry.item ≡ item) }
     {
-        let component = self.component.clone()?;
+        let component = self.component.shared()?;
         Ok(Entry { component, item })
     }
 

@@ -98,6 +98,29 @@ fn a_path_may_have_4095_bytes(rt: HostRuntime) -> Result<(), Fail> {
     run(rt.alloc(), LONGEST, RandomState::new(&rt)?)
 }
 
+/// Components of 24 bytes, the most that stand in an entry itself, and of 25: alone, copied, and beside another file.
+const KEPT: &[Step<'static>] = &[
+    Step::PutLong((b"", b's', 24)),
+    Step::ListLong((b"", b's', 24)),
+    Step::Fill(&[]),
+    Step::PutLong((b"", b'l', 25)),
+    Step::ListLong((b"", b'l', 25)),
+    Step::Fill(&[]),
+    Step::Accept(Edit::Put((b"d/abcdefghijklmnopqrstuvwx", Mode::File, b'1'))),
+    Step::Accept(Edit::Put((b"d/abcdefghijklmnopqrstuvwxy", Mode::Exec, b'2'))),
+    Step::Accept(Edit::Copy(b"d", b"e")),
+    Step::Accept(Edit::Remove(b"d/abcdefghijklmnopqrstuvwx")),
+    Step::Accept(Edit::Put((b"e/f", Mode::File, b'3'))),
+    Step::List(
+        b"d/abcdefghijklmnopqrstuvwxy:x2 e/abcdefghijklmnopqrstuvwx:f1 e/abcdefghijklmnopqrstuvwxy:x2 e/f:f3 ",
+    ),
+];
+
+#[test]
+fn components_are_kept_short_or_long(rt: HostRuntime) -> Result<(), Fail> {
+    run(rt.alloc(), KEPT, RandomState::new(&rt)?)
+}
+
 const DOUBLED: &[Step<'static>] = &[
     Step::Fill(&[(b"a/f", Mode::File, b'1')]),
     Step::Double(2),

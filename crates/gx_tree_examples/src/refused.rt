@@ -355,10 +355,40 @@ const WITH_ROOM: &[File<'static>] = &[
 ];
 
 #[test]
-fn a_new_file_takes_memory_for_its_component(rt: HostRuntime) {
+fn a_new_file_takes_no_memory_for_a_short_component(rt: HostRuntime) {
     let heap = Refusing::new(rt.alloc(), 0);
     let paths: (&[u8], &[u8]) = (b"d/e/h", b"d/e/i");
-    assert!(rt; are_put_into(&heap, &heap, WITH_ROOM, paths, 3));
+    assert!(rt; are_put_into(&heap, &heap, WITH_ROOM, paths, 1));
+}
+
+/// A file whose component has 25 bytes, and another one.
+const LONG: &[u8] = b"d/e/one-of-twenty-five-bytes";
+
+const LONG_TOO: &[u8] = b"d/e/two-of-twenty-five-bytes";
+
+/// What a put of a file with a long component answers in a tree of the files that leave room, where the growth with this
+/// number is refused; nothing where the tree can't be made.
+fn long_put<B: Allocator, C: Allocator + Copy>(
+    heap: &Refusing<B>,
+    own: C,
+    nth: u64,
+) -> Option<Result<(), TreeFault>> {
+    let mut tree = PathTree::empty(own);
+    match TreePath::read(own, LONG) {
+        Ok(path) if fill(own, &mut tree, WITH_ROOM) => {
+            Some(refused_put(heap, &mut tree, &path, nth))
+        }
+        _ => None,
+    }
+}
+
+#[test]
+fn a_new_file_takes_memory_for_a_long_component(rt: HostRuntime) {
+    let heap = Refusing::new(rt.alloc(), 0);
+    assert!(rt; are_put_into(&heap, &heap, WITH_ROOM, (LONG, LONG_TOO), 3));
+    let refused = Some(Err(TreeFault::OutOfMemory));
+    assert_eq!(rt; long_put(&heap, &heap, 1), refused);
+    assert_eq!(rt; long_put(&heap, &heap, 2), refused);
 }
 
 /// Whether a tree that was written is written by the names that it remembers while each growth is refused.

@@ -1,5 +1,6 @@
 use Rattle.std.proofs.Common.{sym, ap, ◌∙◌, arith}
 use Rattle.std.proofs.lemmas.Bool.{false≢true}
+use Rattle.gx_tree.specs.Components.{bytes_of}
 use Rattle.gx_tree.specs.Homes.{IsItemAtHome}
 use Rattle.gx_tree.proofs.Homes.{all_at}
 use Rattle.gx_tree.proofs.Searches.{kept_at_place, stands_before}
@@ -22,5 +23,5 @@ returns-then-eq-clause-home g c name rs h =
 pub returns-clause-kept : goal.returns-clause-kept
 returns-clause-kept g c k e m =
     let before = stands_before c.args.component.now c.args.mark.now k c.args.entries.now c.place_of-place.result c.requires c.place_of-place.ensures.within c.place_of-place.ensures.place e m in
-    let same = bytes_same c.component.result.now c.args.component.now (c.component.ensures ∙ ap (λ z. z.component.value.items) c.index-entries-place.is ∙ before.1 c.index-entries-place.result) in
+    let same = bytes_same c.component.result.now c.args.component.now (c.component.ensures ∙ ap (λ z. bytes_of z.component) c.index-entries-place.is ∙ before.1 c.index-entries-place.result) in
     false≢true (sym c.if-eq.false ∙ c.eq.ensures ∙ same)

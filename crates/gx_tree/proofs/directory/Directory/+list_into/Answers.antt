@@ -2,6 +2,7 @@ use Rattle.gx_tree.proofs.Homes.{items_are_those, files_same}
 use Rattle.std.proofs.Common.{◌≡◌, ◌<◌, arith, true, rules, refl, ap, ◌∙◌}
 use Rattle.std.specs.List.{list_all}
 use Rattle.gx_model.specs.Paths.{is_component, is_short}
+use Rattle.gx_tree.specs.Components.{bytes_of}
 use Rattle.gx_tree.specs.Nodes.{components, file, folder}
 use Rattle.gx_tree.specs.Lists.{below}
 use Rattle.gx_tree.specs.Views.{kept}
@@ -21,9 +22,9 @@ loop-entry-preserved g t c =
     let front = c.args.front.now in let r = c.entry-item.result in
     elim c.match-entry.branch [
       | in-File+in_ok-push-in-File w ↦ rw w.out-is (list_more front c.as_slice-entry-items.result.now c.loop-entry.entry-index r (file (w.in-File.mode, w.in-File.name.bytes)) _ c.loop-entry.out.items w.push.new.self.items c.loop-entry-test.true c.entry-item.is (ap kept w.in-File.is)
-          (list_file front c.in_ok-path.path c.component.result.now r.component.value.items w.in-File.mode w.in-File.name c.loop-entry.out.items w.push.new.self.items c.in_ok-path.ensures c.component.ensures w.in_ok-push-in-File.ensures.items) c.loop-entry.invariant)
+          (list_file front c.in_ok-path.path c.component.result.now (bytes_of r.component) w.in-File.mode w.in-File.name c.loop-entry.out.items w.push.new.self.items c.in_ok-path.ensures c.component.ensures w.in_ok-push-in-File.ensures.items) c.loop-entry.invariant)
       | in-Folder+in_ok-list_into-in-Folder w ↦ rw w.out-is (list_more front c.as_slice-entry-items.result.now c.loop-entry.entry-index r (folder w.in-Folder.below.files) _ c.loop-entry.out.items w.list_into.new.out.items c.loop-entry-test.true c.entry-item.is (ap kept w.in-Folder.is)
-          (list_folder front c.in_ok-path.path c.component.result.now r.component.value.items w.in-Folder.below.files w.in-Folder.below.files c.loop-entry.out.items w.list_into.new.out.items c.in_ok-path.ensures c.component.ensures refl w.in_ok-list_into-in-Folder.ensures) c.loop-entry.invariant)
+          (list_folder front c.in_ok-path.path c.component.result.now (bytes_of r.component) w.in-Folder.below.files w.in-Folder.below.files c.loop-entry.out.items w.list_into.new.out.items c.in_ok-path.ensures c.component.ensures refl w.in_ok-list_into-in-Folder.ensures) c.loop-entry.invariant)
     ]
 
 pub list_into-requires : goal.list_into-requires

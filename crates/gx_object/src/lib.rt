@@ -18,6 +18,6 @@ pub use fault::BadObject;
 pub use gx_model::{Kind, Mode};
 pub use name::Name;
 pub use namer::{Namer, Sha1Namer, ShortNamer};
-pub use order::is_canonical;
+pub use order::{compare_marked, is_canonical};
 pub use tag::{TagParts, TagView, decode_tag, encode_tag};
 pub use tree::{TreeEntries, decode_tree, encode_tree, encode_tree_into, held_tree};

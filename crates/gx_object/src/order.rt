@@ -1,7 +1,7 @@
 //! Which lists of entries are a tree's: the components are proper and differ, and a directory is sorted as if its
 //! component ended in a slash.
 
-ghost use Rattle.std.specs.Prelude.{◌≡◌, true, map, nat_lt};
+ghost use Rattle.std.specs.Prelude.{◌≡◌, ◌++◌, true, map, nat_lt};
 ghost use Rattle.std.specs.List.{list_all};
 ghost use Rattle.std.specs.Ordering.{nat_cmp};
 ghost use Rattle.std.specs.Cmp.Lexicographic.{slice_cmp};
@@ -93,8 +93,35 @@ pub(crate) fn comes_before(a: &Entry<'_>, b: &Entry<'_>) -> bool
 fn compare_keys(a: &Entry<'_>, b: &Entry<'_>) -> Ordering
     ensures { result ≡ slice_cmp nat_cmp (entry_key (shown a.now)) (entry_key (shown b.now)) }
 {
-    let first = a.component.iter().chain(mark(a.mode).iter());
-    first.cmp(b.component.iter().chain(mark(b.mode).iter()))
+    compare_marked(a.component, mark(a.mode), b.component, mark(b.mode))
+}
+
+/// The order of two components with what follows each in a tree's order: a slash after that of a directory.
+///
+/// Cost: the bytes up to the first that differ. What both components have first is compared at once. Takes no memory.
+pub fn compare_marked(
+    first: &[u8],
+    first_mark: &[u8],
+    second: &[u8],
+    second_mark: &[u8],
+) -> Ordering
+    ensures { result ≡ slice_cmp nat_cmp (first.now ++ first_mark.now) (second.now ++ second_mark.now) }
+{
+    let both = first.len().min(second.len());
+    match first[..both].cmp(&second[..both]) {
+        Ordering::Equal => {
+            compare_rests(&first[both..], first_mark, &second[both..], second_mark)
+        }
+        different => different,
+    }
+}
+
+/// The same byte by byte.
+fn compare_rests(first: &[u8], first_mark: &[u8], second: &[u8], second_mark: &[u8]) -> Ordering
+    ensures { result ≡ slice_cmp nat_cmp (first.now ++ first_mark.now) (second.now ++ second_mark.now) }
+{
+    let text = first.iter().chain(first_mark.iter());
+    text.cmp(second.iter().chain(second_mark.iter()))
 }
 
 /// What is added to a component for the order.

@@ -1,4 +1,4 @@
-use Rattle.std.proofs.Common.{[], ap, ◌∙◌, sym}
+use Rattle.std.proofs.Common.{[], ap}
 use Rattle.std.specs.Option.{is_some, unwrap_or}
 use Rattle.gx_object.proofs.Laws.{tree_read}
 use Rattle.gx_object.proofs.tree.held_tree.Goals as goal

@@ -1,10 +1,10 @@
 -- The body of a tree, read from the left: what is read stands in the body, and the text of entries is read as them.
-use Rattle.std.proofs.Common.{◌≡◌, ℕ, zero, suc, ◌<◌, ◌≤◌, Bool, true, false, cond, ltb, eqb, List, [], ◌∷◌, ◌++◌, length, take, drop, Option, Some, None, refl, ap, subst, ◌∙◌, arith, append_assoc, length-append, inl, inr, ◌⊎◌}
+use Rattle.std.proofs.Common.{◌≡◌, ℕ, zero, suc, ◌<◌, ◌≤◌, Bool, true, false, cond, ltb, List, [], ◌∷◌, ◌++◌, length, take, drop, Option, Some, None, refl, ap, subst, ◌∙◌, arith, append_assoc, length-append, inl, inr, ◌⊎◌}
 use Rattle.std.specs.Prelude.{codes}
 use Rattle.std.specs.Option.{is_some, unwrap_or}
 use Rattle.std.specs.Str.{bytes_eq}
 use Rattle.std.specs.Cmp.Lexicographic.{bytes_decides}
-use Rattle.std.proofs.lemmas.Bool.{ltb-false, le-ltb, false≢true, eqb-true}
+use Rattle.std.proofs.lemmas.Bool.{ltb-false, le-ltb, false≢true}
 use Rattle.std.proofs.lemmas.List.{take-append-drop, length-take, take_at, drop_at}
 use Rattle.gx_model.specs.Texts.{cut_at, lacks}
 use Rattle.gx_model.proofs.Cuts.{cut_after, cut_spelled}
@@ -158,8 +158,3 @@ goes-on can every s t y e = record {
   keeps = every t;
   rests = λ _. tt;
 }
-
-pub no_entries : (bytes : List ℕ) → eqb (length bytes) 0 ≡ true → is_some (entries_of bytes) ≡ true
-unfolding entries_within
-no_entries [] e = refl
-no_entries (b ∷ bytes) e = absurd (omega (arith, eqb-true _ _ e))

@@ -1,10 +1,11 @@
 -- The body of a tree, read from the left.
-use Rattle.std.specs.Prelude.{ℕ, zero, suc, nat_lt, List, [], ◌∷◌, length, take, drop, Option, Some, None, if◌then◌else◌}
-use Rattle.std.specs.Option.{option_and_then, unwrap_or}
+use Rattle.std.specs.Prelude.{Bool, false, ℕ, zero, suc, nat_lt, List, [], ◌∷◌, length, take, drop, Option, Some, None, if◌then◌else◌}
+use Rattle.std.specs.Option.{is_some, option_and_then, option_map, unwrap_or}
 use Rattle.gx_model.specs.declared.objects.Mode.{Mode}
 use Rattle.gx_model.specs.declared.objects.Mode.TheVariants.{File, Exec, Link, Gitlink, Dir}
 use Rattle.gx_model.specs.Texts.{Bytes, cut_at, same_bytes}
 use Rattle.gx_model.specs.Objects.{Entry, is_canonical, mode_text}
+use Rattle.gx_object.specs.Order.{are_ordered}
 
 infixl 10 ◌>>=◌
 abbrev pub ◌>>=◌ : {A B : Type 0} → Option A → (A → Option B) → Option B
@@ -47,3 +48,11 @@ abbrev pub tree_of : Bytes → Option (List Entry)
 tree_of body = do
   es ← entries_of body
   if is_canonical es then Some es else None
+
+-- a body is a tree's
+abbrev pub is_tree : Bytes → Bool
+is_tree body = is_some (tree_of body)
+
+-- with an entry before them, the bytes are entries in a tree's order
+abbrev pub goes_on : Entry → Bytes → Bool
+goes_on e bytes = unwrap_or (option_map (λ es. are_ordered (e ∷ es)) (entries_of bytes)) false

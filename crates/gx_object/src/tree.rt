@@ -1,13 +1,14 @@
 //! The bodies of trees. Source: Pro Git, "Git Objects".
 
-ghost use Rattle.std.specs.Prelude.{◌≡◌, ◌++◌, List, map, IsTrue, IfOk, IsOkAnd, OnOk};
+ghost use Rattle.std.specs.Prelude.{◌≡◌, ◌++◌, ◌||◌, ◌∷◌, List, map, IsTrue, IfOk, IsOkAnd, OnOk};
 ghost use Rattle.std.specs.Option.{is_some};
 ghost use Rattle.std.specs.Result.{result_ok};
 ghost use Rattle.std.specs.Iterator.{item_count};
 ghost use Rattle.std.specs.Map.Iter.{TakesFirst};
 ghost use Rattle.gx_model.specs.Objects.{Entry as TreeEntry, IsTreeText, is_canonical};
-ghost use Rattle.gx_object.specs.Order.{is_repeated, leads, meets, precedes};
-ghost use Rattle.gx_object.specs.Trees.{entries_of, tree_of};
+ghost use Rattle.gx_model.specs.Texts.{same_bytes};
+ghost use Rattle.gx_object.specs.Order.{is_repeated, leads, meets};
+ghost use Rattle.gx_object.specs.Trees.{entries_left, entries_of, is_tree, tree_of};
 ghost use Rattle.gx_object.specs.Entries.{shown};
 
 use crate::entry::{append_entry, first_entry};
@@ -66,15 +67,6 @@ impl<'a> Model for TreeEntries<'a> {
     ghost invariant = { λ it. is_some (entries_of it.rest.now) ≡ true };
 }
 
-impl<'a> TreeEntries<'a> {
-    /// The same entries once more.
-    fn again(&self) -> TreeEntries<'a>
-        ensures { result ≡ self.now }
-    {
-        TreeEntries { rest: self.rest }
-    }
-}
-
 impl<'a> Iterator for TreeEntries<'a> {
     type Item = Entry<'a>;
 
@@ -113,76 +105,66 @@ pub fn held_tree(body: &[u8]) -> TreeEntries<'_>
 fn read_tree(body: &[u8]) -> Result<TreeEntries<'_>, BadObject>
     ensures { result_ok result ≡ tree_of body.now }
 {
-    if !are_entries(body) {
-        return Err(BadObject);
+    if is_tree(body) {
+        Ok(TreeEntries { rest: body })
+    } else {
+        Err(BadObject)
     }
-    let entries = TreeEntries { rest: body };
-    if !are_canonical(entries.again()) {
-        return Err(BadObject);
-    }
-    Ok(entries)
 }
 
-/// Whether the bytes are entries, to the end.
-fn are_entries(bytes: &[u8]) -> bool
-    ensures { result ≡ is_some (entries_of bytes.now) }
+/// Whether the bytes are the body of a canonical list of entries. Each entry is read once, and those behind a file once
+/// more if the next one's component begins with the file's, up to the first whose component doesn't.
+fn is_tree(body: &[u8]) -> bool
+    ensures { result ≡ is_tree body.now }
 {
-    let mut rest = bytes;
-    while !rest.is_empty() {
-        let Some((_entry, after)) = first_entry(rest) else {
+    let Some((mut before, mut rest)) = first_entry(body) else {
+        return body.is_empty();
+    };
+    while let Some((next, after)) = first_entry(rest) {
+        if !leads(&before, &next, after) {
             return false;
-        };
+        }
+        before = next;
         rest = after;
     }
-    true
+    rest.is_empty() && is_component(before.component)
 }
 
-fn are_canonical(entries: TreeEntries<'_>) -> bool
-    ensures { result ≡ is_canonical entries.entry }
+/// Whether an entry may stand before the next one and the entries after that.
+fn leads(first: &Entry<'_>, next: &Entry<'_>, after: &[u8]) -> bool
+    ensures { IsTrue (is_some (entries_of after.now)) → result ≡ leads (shown first.now) (shown next.now ∷ entries_left after.now) }
 {
-    let mut rest = entries;
-    while let Some(first) = rest.next() {
-        if !leads(&first, &rest) {
+    is_component(first.component) && comes_before(first, next) && !is_repeated(first, next, after)
+}
+
+fn is_repeated(first: &Entry<'_>, next: &Entry<'_>, after: &[u8]) -> bool
+    ensures { IsTrue (is_some (entries_of after.now)) → result ≡ is_repeated (shown first.now) (shown next.now ∷ entries_left after.now) }
+{
+    first.mode != Mode::Dir
+        && next.component.starts_with(first.component)
+        && meets(first.component, next, after)
+}
+
+/// Whether the next entry, or one of those after it whose components begin with this one, has it.
+fn meets(component: &[u8], next: &Entry<'_>, after: &[u8]) -> bool
+    ensures { IsTrue (is_some (entries_of after.now)) → result ≡ (same_bytes (shown next.now).component component.now || meets component.now (entries_left after.now)) }
+{
+    next.component == component || meets_ahead(component, after)
+}
+
+/// The same of the entries that the bytes are. Where they aren't entries to the end, either may be answered.
+fn meets_ahead(component: &[u8], bytes: &[u8]) -> bool
+    ensures { IsTrue (is_some (entries_of bytes.now)) → result ≡ meets component.now (entries_left bytes.now) }
+{
+    let mut rest = bytes;
+    while let Some((entry, after)) = first_entry(rest) {
+        if !entry.component.starts_with(component) {
             return false;
         }
-    }
-    true
-}
-
-/// Whether an entry may stand before these.
-fn leads(first: &Entry<'_>, others: &TreeEntries<'_>) -> bool
-    ensures { result ≡ leads (shown first.now) others.now }
-{
-    is_component(first.component)
-        && precedes(first, others.again())
-        && !is_repeated(first, others.again())
-}
-
-fn precedes(first: &Entry<'_>, mut others: TreeEntries<'_>) -> bool
-    ensures { result ≡ precedes (shown first.now) others.entry }
-{
-    match others.next() {
-        Some(next) => comes_before(first, &next),
-        None => true,
-    }
-}
-
-fn is_repeated(first: &Entry<'_>, others: TreeEntries<'_>) -> bool
-    ensures { result ≡ is_repeated (shown first.now) others.entry }
-{
-    first.mode != Mode::Dir && meets(first.component, others)
-}
-
-fn meets(component: &[u8], others: TreeEntries<'_>) -> bool
-    ensures { result ≡ meets component.now others.entry }
-{
-    for other in others {
-        if !other.component.starts_with(component) {
-            return false;
-        }
-        if other.component == component {
+        if entry.component == component {
             return true;
         }
+        rest = after;
     }
     false
 }

@@ -2,7 +2,8 @@
 
 use crate::names::has_name;
 use gx_object::{
-    Entry, Kind, Mode, Name, decode_tree, encode_tree, encode_tree_into, is_canonical,
+    Entry, Kind, Mode, Name, compare_marked, decode_tree, encode_tree, encode_tree_into,
+    is_canonical,
 };
 use gx_refusing::Refusing;
 use std::alloc::Allocator;
@@ -195,6 +196,11 @@ fn other_orders_are_not_canonical(rt: HostRuntime) {
     for (entries, is) in ORDERS {
         assert!(rt; is_canonical(entries) == *is);
     }
+}
+
+#[test]
+fn a_directory_comes_after_a_file_with_a_dot(rt: HostRuntime) {
+    assert!(rt; compare_marked(b"bak", b"/", b"bak.txt", b"").is_gt());
 }
 
 #[test]

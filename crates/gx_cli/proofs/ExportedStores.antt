@@ -10,8 +10,8 @@ use Rattle.gx_import.specs.Exported.{ImportsExport, KeepsNoNullGitlink}
 use Rattle.gx_import.specs.Imports.{Imports}
 use Rattle.gx_import.specs.declared.report.Report.{Report}
 use Rattle.gx_import.specs.declared.fault.ImportFault.{ImportFault}
-use Rattle.gx_cli.specs.Again.{ImportsAgain}
-use Rattle.gx_cli.specs.Serving.{ImportsInto, IsKept, IsLeft, IsRefused, IsWritten}
+use Rattle.gx_cli.specs.Again.{ImportsAgain, ImportsIntoAgain}
+use Rattle.gx_cli.specs.Serving.{ImportsInto, ImportsIntoStored, IsKept, IsLeft, IsRefused, IsWritten}
 use Rattle.gx_cli.specs.declared.fault.CliFault.{CliFault}
 use Rattle.gx_cli.specs.declared.fault.CliFault.TheVariants.{Import}
 use Rattle.gx_cli.specs.declared.serving.Outcome.{Outcome}
@@ -28,9 +28,9 @@ refused_again name left_name stored old new (Some coming) fault outcome read h k
 pub refused_into : {N A : Type 0} (name_of : N → Kind → Bytes → Bytes) (namer : N) (old new : N × Records) (store : Bytes) (fault : ImportFault) (outcome : Outcome A) → old.0 ≡ namer → new.0 ≡ old.0
     → store_of (name_of namer) store ≡ Ok old.1 → IsSound (name_of old.0) new.1 → IsLeft (name_of new.0) fault.checkpoints new.1 (Import fault) outcome
     → (coming : Option Coming) (was now : Option Taken) → Imports (name_of old.0) old.1 new.1 coming was now (Err fault) → KeepsNoNullGitlink old.1 new.1
-    → ImportsInto (name_of namer) (store_of (name_of namer) store) coming was now (outcome, None)
+    → ImportsInto (name_of namer) store coming was now (outcome, None)
 refused_into name_of namer old new store fault outcome same kept read sound left coming was now replayed keeps =
-    subst (λ stored. ImportsInto (name_of namer) stored coming was now (outcome, None)) (sym read)
+    subst (λ stored. ImportsIntoStored (name_of namer) stored coming was now (outcome, None)) (sym read)
     (inr (
       new.1,
       Err fault,
@@ -57,12 +57,12 @@ module _ {N A : Type 0} (name_of : N → Kind → Bytes → Bytes) (namer : N) (
   written_still : IsWritten (name_of namer) new.1 outcome
   written_still = subst (λ n. IsWritten (name_of n) new.1 outcome) (kept ∙ same) written
 
-  pub imported_into : (coming : Option Coming) (was now : Option Taken) → Imports (name_of old.0) old.1 new.1 coming was now (Ok report) → KeepsNoNullGitlink old.1 new.1 → ImportsInto (name_of namer) (store_of (name_of namer) store) coming was now (outcome, Some report)
+  pub imported_into : (coming : Option Coming) (was now : Option Taken) → Imports (name_of old.0) old.1 new.1 coming was now (Ok report) → KeepsNoNullGitlink old.1 new.1 → ImportsInto (name_of namer) store coming was now (outcome, Some report)
   imported_into coming was now replayed keeps =
-      subst (λ stored. ImportsInto (name_of namer) stored coming was now (outcome, Some report)) (sym read)
+      subst (λ stored. ImportsIntoStored (name_of namer) stored coming was now (outcome, Some report)) (sym read)
       (inr (new.1, Ok report, subst (λ n. Imports (name_of n) old.1 new.1 coming was now (Ok report)) same replayed, keeps, (sound_still, written_still, refl)))
 
-  pub accepted_again : (coming : Option Coming) → ImportsExport (name_of old.0) old.1 new.1 coming (Ok report) → ImportsAgain (name_of namer) (store_of (name_of namer) store) coming outcome
+  pub accepted_again : (coming : Option Coming) → ImportsExport (name_of old.0) old.1 new.1 coming (Ok report) → ImportsIntoAgain (name_of namer) store coming outcome
   accepted_again None h = tt
   accepted_again (Some coming) h = λ exported is links gives empty.
       inr (new.1, subst (λ n. ImportsExport (name_of n) old.1 new.1 (Some coming) (Ok report)) same h exported is links gives (cc (sym read ∙ empty)), sound_still, written_still)

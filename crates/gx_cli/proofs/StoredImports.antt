@@ -10,7 +10,7 @@ use Rattle.gx_import.specs.Exported.{ImportsExport, KeepsNoNullGitlink}
 use Rattle.gx_import.specs.Imports.{Imports}
 use Rattle.gx_import.specs.declared.report.Report.{Report}
 use Rattle.gx_import.specs.declared.fault.ImportFault.{ImportFault}
-use Rattle.gx_cli.specs.Storing.{ImportsStore, ImportsStoreAgain, next_after}
+use Rattle.gx_cli.specs.Storing.{ImportsStore, ImportsStoreAgain, ImportsStored, next_after}
 use Rattle.gx_cli.specs.declared.fault.CliFault.TheVariants.{Import}
 
 -- after no checkpoint there is no next text
@@ -32,27 +32,27 @@ module _ {N : Type 0} (name_of : N → Kind → Bytes → Bytes) (namer : N) (ol
 
   -- an accepted import
   pub accepted_store : (report : Report) (coming : Option Coming) (was now : Option Taken) → Imports (name_of old.0) old.1 new.1 coming was now (Ok report) → KeepsNoNullGitlink old.1 new.1
-      → ImportsStore name_of namer (store_of (name_of namer) store) coming was now (Some new, Ok report)
+      → ImportsStore name_of namer store coming was now (Some new, Ok report)
   accepted_store report coming was now replayed keeps =
-      subst (λ stored. ImportsStore name_of namer stored coming was now (Some new, Ok report)) (sym read)
+      subst (λ stored. ImportsStored name_of namer stored coming was now (Some new, Ok report)) (sym read)
       (inr (new.1, Ok report, subst (λ n. Imports (name_of n) old.1 new.1 coming was now (Ok report)) same replayed, keeps, (sound_still, ap (λ x. (Some x, Ok report)) is_new)))
 
   -- a refused one
   pub refused_store : (fault : ImportFault) (next : Option (N × Records)) → next ≡ next_after fault.checkpoints new → (coming : Option Coming) (was now : Option Taken) → Imports (name_of old.0) old.1 new.1 coming was now (Err fault) → KeepsNoNullGitlink old.1 new.1
-      → ImportsStore name_of namer (store_of (name_of namer) store) coming was now (next, Err (Import fault))
+      → ImportsStore name_of namer store coming was now (next, Err (Import fault))
   refused_store fault next left coming was now replayed keeps =
-      subst (λ stored. ImportsStore name_of namer stored coming was now (next, Err (Import fault))) (sym read)
+      subst (λ stored. ImportsStored name_of namer stored coming was now (next, Err (Import fault))) (sym read)
       (inr (new.1, Err fault, subst (λ n. Imports (name_of n) old.1 new.1 coming was now (Err fault)) same replayed, keeps, (sound_still, ap (λ x. (x, Err (Import fault))) (left ∙ ap (next_after fault.checkpoints) is_new))))
 
   -- an accepted import of an export into the empty store
-  pub accepted_store_again : (report : Report) (coming : Option Coming) → ImportsExport (name_of old.0) old.1 new.1 coming (Ok report) → ImportsStoreAgain name_of namer (store_of (name_of namer) store) coming (Some new, Ok report)
+  pub accepted_store_again : (report : Report) (coming : Option Coming) → ImportsExport (name_of old.0) old.1 new.1 coming (Ok report) → ImportsStoreAgain name_of namer store coming (Some new, Ok report)
   accepted_store_again report None h = tt
   accepted_store_again report (Some coming) h = λ exported is links gives empty.
       inr (new.1, report, subst (λ n. ImportsExport (name_of n) old.1 new.1 (Some coming) (Ok report)) same h exported is links gives (cc (sym read ∙ empty)), sound_still, ap (λ x. (Some x, Ok report)) is_new)
 
   -- a refused one, for want of memory or by the sink
   pub refused_store_again : (fault : ImportFault) (next : Option (N × Records)) → next ≡ next_after fault.checkpoints new → (coming : Option Coming) → ImportsExport (name_of old.0) old.1 new.1 coming (Err fault)
-      → ImportsStoreAgain name_of namer (store_of (name_of namer) store) coming (next, Err (Import fault))
+      → ImportsStoreAgain name_of namer store coming (next, Err (Import fault))
   refused_store_again fault next left None h = tt
   refused_store_again fault next left (Some coming) h = λ exported is links gives empty.
       let e = subst (λ n. ImportsExport (name_of n) old.1 new.1 (Some coming) (Err fault)) same h exported is links gives (cc (sym read ∙ empty)) in

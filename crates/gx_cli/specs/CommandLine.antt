@@ -117,6 +117,18 @@ IsMade made a = (app_of made ≡ a) × ((fields_of made).has_globals ≡ false)
 abbrev pub Makes : {E : Type 0} → Result Command E → App → Type 0
 Makes result a = IfOk result (λ made. IsMade made a)
 
+-- an argument more for what was made so far, unless there was no memory for it
+abbrev pub AddsArgument : {E : Type 0} → Result Command E → Rule → Result Command E → Type 0
+AddsArgument made rule result = (a : App) → Makes made a → Makes result (with_rule a rule)
+
+-- one more command under what was made so far, unless there was no memory for it
+abbrev pub AddsCommand : {E : Type 0} → Result Command E → Result Command E → Result Command E → Type 0
+AddsCommand made sub result = (a b : App) → Makes made a → Makes sub b → Makes result (under a b)
+
+-- the same of a command that is there
+abbrev pub AddsToMade : {E : Type 0} → Command → Result Command E → Result Command E → Type 0
+AddsToMade made sub result = (a b : App) → IsMade made a → Makes sub b → Makes result (under a b)
+
 -- the commands that read a stream and keep nothing
 abbrev pub with_stream_commands : App → App
 with_stream_commands a = under (under (under (under a (new_app (codes "blobs"))) try_command) (new_app (codes "adapt"))) where_command

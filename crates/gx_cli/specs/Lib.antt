@@ -14,4 +14,5 @@ pub mod Gathering
 pub mod Placing
 pub mod Serving
 pub mod Again
+pub mod Parts
 pub mod CommandLine

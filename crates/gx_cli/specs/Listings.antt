@@ -1,6 +1,6 @@
 -- What a revision shows, as text: bytes, digits, the body of a commit or a tag, and a tree's entries as lines.
 -- Source: git-cat-file(1) and git-ls-tree(1), "OUTPUT FORMAT".
-use Rattle.std.specs.Prelude.{◌≡◌, [], ◌∷◌, ◌++◌, Ok, codes}
+use Rattle.std.specs.Prelude.{◌≡◌, List, [], ◌∷◌, ◌++◌, Ok, codes}
 use Rattle.std.specs.List.{flat_map}
 use Rattle.std.specs.Option.{option_map}
 use Rattle.gx_model.specs.declared.objects.Kind.{Kind}
@@ -31,6 +31,10 @@ kind_word _ = codes "blob"
 -- an entry's line: its mode, its kind, its name's digits, and behind a TAB its component as a path is printed
 abbrev pub entry_line : Entry → Bytes
 entry_line listed = mode_digits listed.mode ++ 32 ∷ kind_word listed.mode ++ 32 ∷ hex listed.name ++ 9 ∷ printed listed.component ++ 10 ∷ []
+
+-- the lines of entries
+abbrev pub entry_lines : List Entry → Bytes
+entry_lines entries = flat_map entry_line entries
 
 module _ (name : Kind → Bytes → Bytes) where
   -- what a first component of a file map names: a file's content, or else the tree of its sub-map

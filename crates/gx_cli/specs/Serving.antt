@@ -79,11 +79,15 @@ IsUnopened was now o = IsRefused (Store file.OutOfMemory) o × (now ≡ was)
 abbrev pub IsUnread : {A : Type 0} → model.FileFault → Option Taken → Option Taken → Outcome A → Type 0
 IsUnread f was now o = (why : FileFault) × ((why ≡ file.OutOfMemory) ⊎ (f ≡ fault_of why)) × IsRefused (Store why) o × (now ≡ was)
 
--- the export of the store of a text, which is read first
+-- the export of the store that a text was read as
 abbrev pub ExportsStored : {A : Type 0} → Stored Records → Option Taken → Option Taken → Outcome A → Type 0
 ExportsStored (Ok repository) was now o =
     IsUnopened was now o ⊎ ((answer : Result (Unit {0}) ExportFault) × Exports repository was now answer × IsOutcome (export_answer answer) o)
 ExportsStored (Err f) was now o = IsUnread f was now o
+
+-- the export of the store of a text, which is read first
+abbrev pub ExportsStore : {A : Type 0} → (Kind → Bytes → Bytes) → Bytes → Option Taken → Option Taken → Outcome A → Type 0
+ExportsStore name text was now o = ExportsStored (store_of name text) was now o
 
 -- what a command prints of a store: nothing where it has no use for one, or makes one
 abbrev pub printed_by : (Kind → Bytes → Bytes) → Line → Records → Printed
@@ -109,19 +113,27 @@ module _ (name : Kind → Bytes → Bytes) {A : Type 0} where
   IsImported new (Ok report) o = IsSound name new × IsWritten name new o.0 × (o.1 ≡ Some report)
   IsImported new (Err fault) o = IsSound name new × IsLeft fault.checkpoints new (Import fault) o.0 × (o.1 ≡ None)
 
-  -- The import of a stream into the store of a text, which is read first. It brings no gitlink of forty zeros.
-  abbrev pub ImportsInto : Stored Records → Option Coming → Option Taken → Option Taken → Outcome A × Option Report → Type 0
-  ImportsInto (Ok old) coming was now o =
+  -- The import of a stream into the store that a text was read as. It brings no gitlink of forty zeros.
+  abbrev pub ImportsIntoStored : Stored Records → Option Coming → Option Taken → Option Taken → Outcome A × Option Report → Type 0
+  ImportsIntoStored (Ok old) coming was now o =
       (IsUnopened was now o.0 × (o.1 ≡ None))
       ⊎ ((new : Records) × (answer : Result Report ImportFault) × Imports name old new coming was now answer × KeepsNoNullGitlink old new × IsImported new answer o)
-  ImportsInto (Err f) coming was now o = IsUnread f was now o.0 × (o.1 ≡ None)
+  ImportsIntoStored (Err f) coming was now o = IsUnread f was now o.0 × (o.1 ≡ None)
 
-  -- the answers to the lines of a source, of the store of a text, which is read first
+  -- the same of the store of a text, which is read first
+  abbrev pub ImportsInto : Bytes → Option Coming → Option Taken → Option Taken → Outcome A × Option Report → Type 0
+  ImportsInto text coming was now o = ImportsIntoStored (store_of name text) coming was now o
+
+  -- the answers to the lines of a source, of the store that a text was read as
   abbrev pub BatchesStored : Bool → Stored Records → Option Coming → Option Taken → Option Taken → Outcome A → Type 0
   BatchesStored check (Ok repository) coming was now o =
       IsUnopened was now o
       ⊎ ((answer : Result (Unit {0}) BatchFault) × Answers (answered_by name check (history_of repository)) coming was now answer × IsOutcome (batch_answer answer) o)
   BatchesStored check (Err f) coming was now o = IsUnread f was now o
+
+  -- the same of the store of a text, which is read first
+  abbrev pub AnswersLines : Bool → Bytes → Option Coming → Option Taken → Option Taken → Outcome A → Type 0
+  AnswersLines check text coming was now o = BatchesStored check (store_of name text) coming was now o
 
   -- what a command does to the sink, and how it ends
   abbrev pub Serves : Line → Bytes → Option Coming → Option Taken → Option Taken → Outcome A → Type 0
@@ -129,8 +141,8 @@ module _ (name : Kind → Bytes → Bytes) {A : Type 0} where
   Serves (line.Try word) store coming was now o = (answer : Result (Unit {0}) CliFault) × Tries name coming word.now was now answer × IsOutcome answer o
   Serves line.Adapt store coming was now o = (answer : Result AdaptReport CliFault) × AdaptsStream coming was now answer × IsOutcome answer o
   Serves (line.Where command) store coming was now o = (answer : Result (Unit {0}) CliFault) × PlacesFrom command coming was now answer × IsOutcome answer o
-  Serves (line.Batch check file) store coming was now o = BatchesStored check (store_of name store) coming was now o
+  Serves (line.Batch check file) store coming was now o = AnswersLines check store coming was now o
   Serves (line.Init file) store coming was now o = IsWritten name nothing o × (now ≡ was)
-  Serves (line.Import file) store coming was now o = (told : Option Report) × ImportsInto (store_of name store) coming was now (o, told)
-  Serves (line.Export file) store coming was now o = ExportsStored (store_of name store) was now o
+  Serves (line.Import file) store coming was now o = (told : Option Report) × ImportsInto store coming was now (o, told)
+  Serves (line.Export file) store coming was now o = ExportsStore name store was now o
   Serves printing store coming was now o = PrintsStored (store_of name store) (printed_by name printing) was now o

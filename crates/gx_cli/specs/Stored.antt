@@ -19,6 +19,7 @@ use Rattle.gx_model.specs.Denotation.{Shown, denoted, files_in, object, submodul
 use Rattle.gx_model.specs.Ranges.{WordFault, each_word, listing, words_denoted}
 use Rattle.gx_model.specs.StoreText.{stored_ref}
 use Rattle.gx_model.specs.StoreReading.{Stored}
+use Rattle.gx_object.specs.declared.name.Name.{Name}
 use Rattle.gx_cli.specs.Listings.{entry_line, text_of_word, tree_lines}
 use Rattle.gx_cli.specs.declared.command_line.LogOptions.{LogOptions}
 
@@ -54,6 +55,10 @@ texts_of = map (λ word. word.now)
 
 -- ---- refs
 
+-- the digits of a ref's object, and the ref's own name
+abbrev pub line_of_ref : Bytes → Name → Bytes
+line_of_ref name called = stored_ref (name, called.bytes)
+
 -- each ref's object and name
 abbrev pub refs_text : Records → Bytes
 refs_text repository = flat_map stored_ref repository.refs
@@ -68,6 +73,10 @@ limited (Some n) xs = take n xs
 -- these, or the last one first
 abbrev pub turned : {A : Type 0} → Bool → List A → List A
 turned backwards xs = if backwards then reverse xs else xs
+
+-- the names of a commit's parents, each behind a space
+abbrev pub parent_text : List Bytes → Bytes
+parent_text names = flat_map (λ called. 32 ∷ hex called) names
 
 module _ (name : Kind → Bytes → Bytes) where
   -- ---- one revision
@@ -111,7 +120,7 @@ module _ (name : Kind → Bytes → Bytes) where
 
   -- a commit's line: its name, and where they are asked for its parents' names, each behind a space
   abbrev pub log_line : Bool → Commit → Bytes
-  log_line parents made = hex (name_of name (commit_value made)) ++ (if parents then flat_map (λ called. 32 ∷ hex called) (names_of name (parents_of made)) else []) ++ 10 ∷ []
+  log_line parents made = hex (name_of name (commit_value made)) ++ (if parents then parent_text (names_of name (parents_of made)) else []) ++ 10 ∷ []
 
   -- the lines of the commits that are listed; the count limits before the reversal
   abbrev pub log_lines : LogOptions → List Commit → Bytes

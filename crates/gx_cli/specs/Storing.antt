@@ -7,7 +7,7 @@ use Rattle.gx_model.specs.Histories.{Records}
 use Rattle.gx_model.specs.HistoryOf.{history_of}
 use Rattle.gx_model.specs.ExportLaws.{HasNoNullGitlink}
 use Rattle.gx_model.specs.Sound.{IsSound}
-use Rattle.gx_model.specs.StoreReading.{Stored}
+use Rattle.gx_model.specs.StoreReading.{Stored, store_of}
 use Rattle.gx_text.specs.Devices.{Coming, Taken}
 use Rattle.gx_import.specs.Exported.{GivesExport, IsExported, KeepsNoNullGitlink, nothing}
 use Rattle.gx_import.specs.Imports.{Imports}
@@ -41,19 +41,27 @@ module _ {N : Type 0} (name_of : N → Kind → Bytes → Bytes) (namer : N) whe
   IsAnswer new (Ok report) answer = IsSound (name_of namer) new × (answer ≡ (Some (namer, new), Ok report))
   IsAnswer new (Err fault) answer = IsSound (name_of namer) new × (answer ≡ (next_after fault.checkpoints (namer, new), Err (Import fault)))
 
-  -- The import of a stream into the store of a text, which is read first. It brings no gitlink of forty zeros.
-  abbrev pub ImportsStore : Stored Records → Option Coming → Option Taken → Option Taken → Answer N → Type 0
-  ImportsStore (Ok old) coming was now answer =
+  -- The import of a stream into the store that a text was read as. It brings no gitlink of forty zeros.
+  abbrev pub ImportsStored : Stored Records → Option Coming → Option Taken → Option Taken → Answer N → Type 0
+  ImportsStored (Ok old) coming was now answer =
       ((answer ≡ (None, Err (Store file.OutOfMemory))) × (now ≡ was))
       ⊎ ((new : Records) × (given : Result Report ImportFault) × Imports (name_of namer) old new coming was now given × KeepsNoNullGitlink old new × IsAnswer new given answer)
-  ImportsStore (Err f) coming was now answer =
+  ImportsStored (Err f) coming was now answer =
       (why : FileFault) × ((why ≡ file.OutOfMemory) ⊎ (f ≡ fault_of why)) × (answer ≡ (None, Err (Store why))) × (now ≡ was)
 
   -- The import of a sound repository's export into an empty store makes that repository again, as far as its refs reach. A
   -- gitlink of forty zeros is left out, which no import takes and none brings.
-  abbrev pub ImportsStoreAgain : Stored Records → Option Coming → Answer N → Type 0
-  ImportsStoreAgain stored None answer = ⊤
-  ImportsStoreAgain stored (Some coming) answer =
+  abbrev pub ImportsStoredAgain : Stored Records → Option Coming → Answer N → Type 0
+  ImportsStoredAgain stored None answer = ⊤
+  ImportsStoredAgain stored (Some coming) answer =
       (exported : Records) → IsSound (name_of namer) exported → HasNoNullGitlink (history_of exported)
       → GivesExport exported coming → stored ≡ Ok nothing
       → IsInterrupted answer ⊎ ((new : Records) × (report : Report) × IsExported exported new × IsSound (name_of namer) new × (answer ≡ (Some (namer, new), Ok report)))
+
+  -- the import of a stream into the store of a text, which is read first
+  abbrev pub ImportsStore : Bytes → Option Coming → Option Taken → Option Taken → Answer N → Type 0
+  ImportsStore text coming was now answer = ImportsStored (store_of (name_of namer) text) coming was now answer
+
+  -- the import of a sound repository's export into the store of a text, where that is an empty store
+  abbrev pub ImportsStoreAgain : Bytes → Option Coming → Answer N → Type 0
+  ImportsStoreAgain text coming answer = ImportsStoredAgain (store_of (name_of namer) text) coming answer

@@ -1,8 +1,7 @@
 //! Many revisions of one store. Source: git-cat-file(1), "BATCH OUTPUT".
 
 ghost use Rattle.std.specs.Prelude.{◌≡◌};
-ghost use Rattle.gx_model.specs.StoreReading.{store_of};
-ghost use Rattle.gx_cli.specs.Serving.{BatchesStored};
+ghost use Rattle.gx_cli.specs.Serving.{AnswersLines};
 
 use crate::CliFault;
 use crate::serving::{Outcome, outcome_of, refused};
@@ -24,7 +23,7 @@ pub(crate) fn batch_stored<N: Namer + Drop, R: Source + Drop, W: Sink, A: Alloca
     sink: &mut W,
     state: RandomState,
 ) -> Outcome<A>
-    ensures { BatchesStored (N.name_of namer) check (store_of (N.name_of namer) store.now) (R.coming source) (W.taken sink.old) (W.taken sink.new) result }
+    ensures { AnswersLines (N.name_of namer) check store.now (R.coming source) (W.taken sink.old) (W.taken sink.new) result }
 {
     let repo = match gx_file::read(alloc, namer, store, state) {
         Ok(repo) => repo,

@@ -4,10 +4,10 @@ ghost use Rattle.std.specs.Prelude.{◌≡◌, Ok, Err};
 ghost use Rattle.std.specs.Option.{option_map};
 ghost use Rattle.gx_model.specs.Items.{Line as a_line, Finished};
 ghost use Rattle.gx_model.specs.Grammar.{mark_of};
-ghost use Rattle.gx_stream.specs.Heard.{items_from};
 ghost use Rattle.gx_stream.specs.Reading.{item_of};
+ghost use Rattle.gx_cli.specs.Parts.{AddsBlob, NamesBlobs};
 ghost use Rattle.gx_cli.specs.Steps.{step_of, stop_at, marked_as, marked_by, named_by, command_line, mark_line, oid_line};
-ghost use Rattle.gx_cli.specs.Printing.{step_seen, stop_of, kind_of, name_line, PrintsOne, PrintsBlobs};
+ghost use Rattle.gx_cli.specs.Printing.{step_seen, stop_of, kind_of, name_line};
 
 use gx_object::{Kind, Name, Namer};
 use gx_store::{Store, StoreFault};
@@ -59,7 +59,7 @@ pub fn blobs<N: Namer + Drop, R: Source + Drop, W: Sink, A: Allocator + Copy>(
     sink: &mut W,
     state: RandomState,
 ) -> Result<u64, BlobsFault>
-    ensures { PrintsBlobs (N.name_of namer) (option_map items_from (R.coming source)) (W.taken sink.old) (W.taken sink.new) result }
+    ensures { NamesBlobs N.name_of W.taken namer (R.coming source) sink.old sink.new result }
 {
     let mut reader = ItemReader::new(alloc, source);
     let mut store = Store::new(alloc, namer, state);
@@ -222,8 +222,7 @@ fn print_one<N: Namer, W: Sink, A: Allocator + Copy>(
     bytes: &[u8],
 ) -> Result<(), BlobsKind>
     ensures namer { store.new.0 ≡ store.old.0 }
-    ensures prints { PrintsOne (N.name_of store.old.0) store.old.1 store.new.1
-        (W.taken sink.old) (W.taken sink.new) bytes.now result }
+    ensures prints { AddsBlob N.name_of W.taken store.old store.new bytes.now sink.old sink.new result }
 {
     let name = match store.put(Kind::Blob, bytes) {
         Ok(name) => name,

@@ -1,7 +1,7 @@
 //! The command line of `gx`, read by `clap`.
 
 ghost use Rattle.std.specs.Prelude.{◌≡◌, IfOk, Some, codes, map};
-ghost use Rattle.clap.specs.Words.{all_of, first_of, found_of, kind_of, rows_of};
+ghost use Rattle.clap.specs.Words.{first_of, found_of, kind_of, rows_of};
 ghost use Rattle.gx_cli.specs.CommandLine as say;
 
 mod arguments;
@@ -202,7 +202,7 @@ fn words_of<'a>(
     matches: &ArgMatches<'a>,
     id: &str,
 ) -> Result<Vec<&'a str>, LineFault>
-    ensures { IfOk result (λ words. all_of id.now (rows_of (found_of matches.now)) ≡ Some (map (λ s. s.now) words.items)) }
+    ensures { IfOk result (λ words. say.AreWords id.now (rows_of (found_of matches.now)) words.items) }
 {
     match matches.get_strs(id) {
         Some(words) => Ok(Vec::from_slice(alloc, words)?),

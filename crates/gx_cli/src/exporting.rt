@@ -1,8 +1,7 @@
 //! The export of a store. Source: git-fast-export(1).
 
 ghost use Rattle.std.specs.Prelude.{◌≡◌};
-ghost use Rattle.gx_model.specs.StoreReading.{store_of};
-ghost use Rattle.gx_cli.specs.Serving.{ExportsStored};
+ghost use Rattle.gx_cli.specs.Serving.{ExportsStore};
 
 use crate::CliFault;
 use crate::serving::{Outcome, outcome_of, refused};
@@ -22,7 +21,7 @@ pub(crate) fn export_stored<N: Namer + Drop, W: Sink, A: Allocator + Copy>(
     sink: &mut W,
     state: RandomState,
 ) -> Outcome<A>
-    ensures { ExportsStored (store_of (N.name_of namer) store.now) (W.taken sink.old) (W.taken sink.new) result }
+    ensures { ExportsStore (N.name_of namer) store.now (W.taken sink.old) (W.taken sink.new) result }
 {
     let repo = match gx_file::read(alloc, namer, store, state) {
         Ok(repo) => repo,

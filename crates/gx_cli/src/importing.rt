@@ -1,8 +1,7 @@
 //! The commands that make a store's next text. Source: git-init(1) and git-fast-import(1).
 
-ghost use Rattle.gx_model.specs.StoreReading.{store_of};
 ghost use Rattle.gx_import.specs.Exported.{nothing};
-ghost use Rattle.gx_cli.specs.Again.{ImportsAgain};
+ghost use Rattle.gx_cli.specs.Again.{ImportsIntoAgain};
 ghost use Rattle.gx_cli.specs.Serving.{ImportsInto, IsLeft, IsWritten};
 ghost use Rattle.gx_cli.specs.declared.fault.CliFault.TheVariants.{Import};
 
@@ -41,8 +40,8 @@ pub fn import_into<N: Namer + Drop, R: Source + Drop, W: Sink, A: Allocator + Co
     sink: &mut W,
     state: RandomState,
 ) -> (Outcome<A>, Option<Report>)
-    ensures imported { ImportsInto (N.name_of namer) (store_of (N.name_of namer) store.now) (R.coming source) (W.taken sink.old) (W.taken sink.new) result }
-    ensures again { ImportsAgain (N.name_of namer) (store_of (N.name_of namer) store.now) (R.coming source) result.0 }
+    ensures imported { ImportsInto (N.name_of namer) store.now (R.coming source) (W.taken sink.old) (W.taken sink.new) result }
+    ensures again { ImportsIntoAgain (N.name_of namer) store.now (R.coming source) result.0 }
 {
     let mut repo = match gx_file::read(alloc, namer, store, state) {
         Ok(repo) => repo,

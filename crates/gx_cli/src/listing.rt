@@ -1,11 +1,11 @@
 //! The entries of a tree, one a line. Source: git-ls-tree(1), "OUTPUT FORMAT".
 
 ghost use Rattle.std.specs.Prelude.{◌≡◌, [], ◌∷◌, ◌++◌, Ok, IfOk, OnOk};
-ghost use Rattle.std.specs.List.{AllByRecursion, flat_map};
+ghost use Rattle.std.specs.List.{AllByRecursion};
 ghost use Rattle.gx_model.specs.Paths.{path_of, printed};
 ghost use Rattle.gx_object.specs.Entries.{shown};
-ghost use Rattle.gx_cli.specs.FileLines.{line_head, named_line};
-ghost use Rattle.gx_cli.specs.Listings.{IsListed, entry_line, kind_word, mode_digits};
+ghost use Rattle.gx_cli.specs.FileLines.{line_head, path_line};
+ghost use Rattle.gx_cli.specs.Listings.{IsListed, entry_line, entry_lines, kind_word, mode_digits};
 
 use gx_object::{Entry, Mode, Name, TreeEntries};
 use gx_text::{TextFault, TreePath};
@@ -19,7 +19,7 @@ pub(crate) fn listing<A: Allocator + Copy>(
     entries: TreeEntries<'_>,
 ) -> Result<Vec<u8, A>, AllocError>
     requires components { AllByRecursion IsListed entries }
-    ensures { IfOk result (λ text. text.items ≡ flat_map entry_line entries.entry) }
+    ensures { IfOk result (λ text. text.items ≡ entry_lines entries.entry) }
 {
     let mut text = Vec::new(alloc);
     for entry in entries {
@@ -50,7 +50,7 @@ pub(crate) fn put_file<A: Allocator + Copy>(
     mode: Mode,
     name: &Name,
 ) -> Result<(), AllocError>
-    ensures { OnOk result (out.new.items ≡ out.old.items ++ named_line (path.now, (mode, name.now.bytes))) }
+    ensures { OnOk result (out.new.items ≡ out.old.items ++ path_line path.now mode name.now) }
 {
     put_head(out, mode, name)?;
     if path.write_quoted(out).is_err() {

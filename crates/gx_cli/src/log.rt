@@ -1,19 +1,12 @@
 //! The commits that range words list, one a line. Source: git-log(1) and git-rev-list(1).
 
-ghost use Rattle.std.specs.Prelude.{◌≡◌, ◌∷◌, IfOk, map};
-ghost use Rattle.std.specs.List.{AllByRecursion, flat_map};
+ghost use Rattle.std.specs.Prelude.{◌≡◌, ◌∷◌, IfOk};
 ghost use Rattle.gx_model.specs.declared.objects.Kind.TheVariants as kinds;
-ghost use Rattle.gx_model.specs.Faults.{and_then};
-ghost use Rattle.gx_model.specs.HistoryOf.{history_of};
 ghost use Rattle.gx_model.specs.Objects.{hex};
-ghost use Rattle.gx_model.specs.Ranges.{each_word};
-ghost use Rattle.gx_model.specs.Revisions.{range_of};
-ghost use Rattle.gx_rev.specs.Objects.{IsHeldAs, commit_at};
-ghost use Rattle.gx_rev.specs.Views.{shown_range};
-ghost use Rattle.gx_cli.specs.Answers.{Prints};
+ghost use Rattle.gx_rev.specs.Objects.{IsHeldAs};
+ghost use Rattle.gx_cli.specs.Parts.{AreCommits, ListsCommits, Logs, PrintsCommit, PrintsCommits, ReadsRanges};
 ghost use Rattle.gx_cli.specs.Sending.{PrintsText};
-ghost use Rattle.gx_cli.specs.Stored.{all_words, commits_listed, limited, log_line, log_text, texts_of, turned};
-ghost use Rattle.gx_cli.specs.Words.{GivesWords};
+ghost use Rattle.gx_cli.specs.Stored.{limited, parent_text, turned};
 
 use crate::sending::put_text;
 use crate::words::refused;
@@ -36,7 +29,7 @@ pub(crate) fn log<N: Namer, A: Allocator + Copy, W: Sink>(
     words: &[&str],
     sink: &mut W,
 ) -> Result<(), CliFault>
-    ensures { Prints (log_text (N.name_of repo.now.0) options (history_of repo.now.1) (texts_of words.now)) (W.taken sink.old) (W.taken sink.new) result }
+    ensures { Logs N.name_of W.taken repo.now options words.now sink.old sink.new result }
 {
     let mut names = names_listed(alloc, repo, words)?;
     arrange(&mut names, options);
@@ -49,8 +42,8 @@ fn names_listed<N: Namer, A: Allocator + Copy>(
     repo: &Repo<N, A>,
     words: &[&str],
 ) -> Result<Vec<Name, A>, CliFault>
-    ensures commits { GivesWords (λ names. map (commit_at repo.now.1) names.items) result (all_words (and_then (each_word range_of (texts_of words.now)) (commits_listed (N.name_of repo.now.0) (history_of repo.now.1)))) }
-    ensures held { IfOk result (λ names. AllByRecursion (IsHeldAs kinds.Commit repo.now.1) names.items) }
+    ensures commits { ListsCommits N.name_of repo.now words.now result }
+    ensures held { IfOk result (λ names. AreCommits repo.now.1 names.items) }
 {
     repo.sound();
     let ranges = read_ranges(alloc, words)?;
@@ -62,7 +55,7 @@ fn names_listed<N: Namer, A: Allocator + Copy>(
 
 /// The range words of texts.
 fn read_ranges<A: Allocator + Copy>(alloc: A, words: &[&str]) -> Result<Vec<Range<A>, A>, CliFault>
-    ensures { GivesWords (λ ranges. map shown_range ranges.items) result (all_words (each_word range_of (texts_of words.now))) }
+    ensures { ReadsRanges words.now result }
 {
     let mut ranges = Vec::new(alloc);
     for (place, word) in words.iter().enumerate() {
@@ -97,8 +90,8 @@ fn print_commits<N: Namer, A: Allocator + Copy, W: Sink>(
     names: &[Name],
     sink: &mut W,
 ) -> Result<(), CliFault>
-    requires { AllByRecursion (IsHeldAs kinds.Commit repo.now.1) names.now }
-    ensures { PrintsText (flat_map (log_line (N.name_of repo.now.0) parents) (map (commit_at repo.now.1) names.now)) (W.taken sink.old) (W.taken sink.new) result }
+    requires { AreCommits repo.now.1 names.now }
+    ensures { PrintsCommits N.name_of W.taken repo.now parents names.now sink.old sink.new result }
 {
     for name in names {
         print_commit(repo, parents, name, sink)?;
@@ -114,7 +107,7 @@ fn print_commit<N: Namer, A: Allocator + Copy, W: Sink>(
     sink: &mut W,
 ) -> Result<(), CliFault>
     requires { IsHeldAs kinds.Commit repo.now.1 commit.now }
-    ensures { PrintsText (log_line (N.name_of repo.now.0) parents (commit_at repo.now.1 commit.now)) (W.taken sink.old) (W.taken sink.new) result }
+    ensures { PrintsCommit N.name_of W.taken repo.now parents commit.now sink.old sink.new result }
 {
     repo.sound();
     put_text(sink, commit.hex().as_slice())?;
@@ -126,7 +119,7 @@ fn print_commit<N: Namer, A: Allocator + Copy, W: Sink>(
 
 /// Prints the names of a commit's parents, each behind a space.
 fn print_parents<W: Sink>(commit: &CommitView<'_>, sink: &mut W) -> Result<(), CliFault>
-    ensures { PrintsText (flat_map (λ called. 32 ∷ hex called) commit.now.parents) (W.taken sink.old) (W.taken sink.new) result }
+    ensures { PrintsText (parent_text commit.now.parents) (W.taken sink.old) (W.taken sink.new) result }
 {
     for place in 0..commit.parent_count() {
         if let Some(parent) = commit.parent(place) {

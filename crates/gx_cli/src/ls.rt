@@ -1,20 +1,15 @@
 //! The entries of a revision's tree, or all of its files. Source: git-ls-tree(1).
 
 ghost use Rattle.std.specs.Prelude.{◌≡◌, IfOk, map};
-ghost use Rattle.std.specs.List.{AllByRecursion, flat_map};
+ghost use Rattle.std.specs.List.{AllByRecursion};
 ghost use Rattle.gx_model.specs.declared.objects.Kind.TheVariants as kinds;
-ghost use Rattle.gx_model.specs.Faults.{Gives};
-ghost use Rattle.gx_model.specs.HistoryOf.{history_of};
-ghost use Rattle.gx_model.specs.Records.{named_map};
 ghost use Rattle.gx_object.specs.Entries.{shown};
 ghost use Rattle.gx_tree.specs.Lists.{listed};
-ghost use Rattle.gx_rev.specs.Objects.{IsHeldAs, files_at};
-ghost use Rattle.gx_rev.specs.RevFaults.{fault_of};
-ghost use Rattle.gx_cli.specs.Answers.{Prints};
-ghost use Rattle.gx_cli.specs.FileLines.{named_line};
-ghost use Rattle.gx_cli.specs.Listings.{IsListed, entry_line, tree_lines};
+ghost use Rattle.gx_rev.specs.Objects.{IsHeldAs};
+ghost use Rattle.gx_cli.specs.FileLines.{listed_lines};
+ghost use Rattle.gx_cli.specs.Listings.{IsListed, entry_line, entry_lines};
+ghost use Rattle.gx_cli.specs.Parts.{GivesTree, ListsEntries, ListsFiles, ListsTree, ListsWord, PrintsFile, named_files};
 ghost use Rattle.gx_cli.specs.Sending.{PrintsText};
-ghost use Rattle.gx_cli.specs.Stored.{file_line, files_of_word, list_lines, list_text};
 
 use crate::CliFault;
 use crate::listing::{put_file, put_line};
@@ -39,7 +34,7 @@ pub(crate) fn list<N: Namer, A: Allocator + Copy, W: Sink>(
     word: &[u8],
     sink: &mut W,
 ) -> Result<(), CliFault>
-    ensures { Prints (list_text (N.name_of repo.now.0) recursive (history_of repo.now.1) word.now) (W.taken sink.old) (W.taken sink.new) result }
+    ensures { ListsWord N.name_of W.taken repo.now recursive word.now sink.old sink.new result }
 {
     match tree_of_word(alloc, repo, word) {
         Ok(tree) => print_tree(alloc, repo, recursive, &tree, sink),
@@ -53,7 +48,7 @@ fn tree_of_word<N: Namer, A: Allocator + Copy>(
     repo: &Repo<N, A>,
     word: &[u8],
 ) -> Result<Name, RevFault>
-    ensures files { Gives fault_of (files_at repo.now.1) result (files_of_word (N.name_of repo.now.0) (history_of repo.now.1) word.now) }
+    ensures files { GivesTree N.name_of repo.now word.now result }
     ensures held { IfOk result (IsHeldAs kinds.Tree repo.now.1) }
 {
     let revision = Revision::read(alloc, word)?;
@@ -69,7 +64,7 @@ fn print_tree<N: Namer, A: Allocator + Copy, W: Sink>(
     sink: &mut W,
 ) -> Result<(), CliFault>
     requires { IsHeldAs kinds.Tree repo.now.1 tree.now }
-    ensures { PrintsText (list_lines (N.name_of repo.now.0) recursive (files_at repo.now.1 tree.now)) (W.taken sink.old) (W.taken sink.new) result }
+    ensures { ListsTree N.name_of W.taken repo.now recursive tree.now sink.old sink.new result }
 {
     if recursive {
         print_files(alloc, repo, tree, sink)
@@ -86,7 +81,7 @@ fn print_components<N: Namer, A: Allocator + Copy, W: Sink>(
     sink: &mut W,
 ) -> Result<(), CliFault>
     requires { IsHeldAs kinds.Tree repo.now.1 tree.now }
-    ensures { PrintsText (tree_lines (N.name_of repo.now.0) (files_at repo.now.1 tree.now)) (W.taken sink.old) (W.taken sink.new) result }
+    ensures { ListsEntries N.name_of W.taken repo.now tree.now sink.old sink.new result }
 {
     repo.sound();
     let Some((_, body)) = repo.store().get(tree) else {
@@ -105,7 +100,7 @@ fn print_entries<A: Allocator + Copy, W: Sink>(
     sink: &mut W,
 ) -> Result<(), CliFault>
     requires components { AllByRecursion IsListed entries }
-    ensures { PrintsText (flat_map entry_line entries.entry) (W.taken sink.old) (W.taken sink.new) result }
+    ensures { PrintsText (entry_lines entries.entry) (W.taken sink.old) (W.taken sink.new) result }
 {
     let mut line = Vec::new(alloc);
     for entry in entries {
@@ -139,7 +134,7 @@ fn print_files<N: Namer, A: Allocator + Copy, W: Sink>(
     sink: &mut W,
 ) -> Result<(), CliFault>
     requires { IsHeldAs kinds.Tree repo.now.1 tree.now }
-    ensures { PrintsText (flat_map (file_line (N.name_of repo.now.0)) (files_at repo.now.1 tree.now)) (W.taken sink.old) (W.taken sink.new) result }
+    ensures { ListsFiles N.name_of W.taken repo.now tree.now sink.old sink.new result }
 {
     match files_of(alloc, repo, tree) {
         Ok(files) => print_listed(alloc, files.as_slice(), sink),
@@ -154,7 +149,7 @@ fn files_of<N: Namer, A: Allocator + Copy>(
     tree: &Name,
 ) -> Result<Vec<(TreePath<A>, Mode, Name), A>, AllocError>
     requires { IsHeldAs kinds.Tree repo.now.1 tree.now }
-    ensures { IfOk result (λ files. map listed files.items ≡ named_map (N.name_of repo.now.0) (files_at repo.now.1 tree.now)) }
+    ensures { IfOk result (λ files. map listed files.items ≡ named_files N.name_of repo.now tree.now) }
 {
     repo.sound();
     let Ok(files) = PathTree::load(alloc, repo.store(), tree) else {
@@ -172,7 +167,7 @@ fn print_listed<A: Allocator + Copy, W: Sink>(
     files: &[(TreePath<A>, Mode, Name)],
     sink: &mut W,
 ) -> Result<(), CliFault>
-    ensures { PrintsText (flat_map named_line (map listed files.now)) (W.taken sink.old) (W.taken sink.new) result }
+    ensures { PrintsText (listed_lines files.now) (W.taken sink.old) (W.taken sink.new) result }
 {
     let mut line = Vec::new(alloc);
     for (path, mode, name) in files {
@@ -189,7 +184,7 @@ fn print_file<A: Allocator + Copy, W: Sink>(
     name: &Name,
     sink: &mut W,
 ) -> Result<(), CliFault>
-    ensures { PrintsText (named_line (path.now, (mode, name.now.bytes))) (W.taken sink.old) (W.taken sink.new) result }
+    ensures { PrintsFile W.taken path.now mode name.now sink.old sink.new result }
 {
     line.clear();
     match put_file(line, path, mode, name) {

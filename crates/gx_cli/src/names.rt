@@ -1,14 +1,9 @@
 //! The names of what revisions give, one a line. Source: git-rev-parse(1).
 
-ghost use Rattle.std.specs.Prelude.{◌≡◌, IfOk, Ok, map};
-ghost use Rattle.std.specs.List.{AllByRecursion, flat_map};
-ghost use Rattle.gx_model.specs.Denotation.{denoted};
-ghost use Rattle.gx_model.specs.HistoryOf.{history_of};
-ghost use Rattle.gx_model.specs.Ranges.{each_word};
-ghost use Rattle.gx_model.specs.Revisions.{revision_of};
-ghost use Rattle.gx_rev.specs.Answers.{IsNamed, shown_by};
-ghost use Rattle.gx_cli.specs.Answers.{GivesWords, Prints, shown_line};
-ghost use Rattle.gx_cli.specs.Stored.{names_text, texts_of};
+ghost use Rattle.std.specs.Prelude.{◌≡◌, IfOk, Ok};
+ghost use Rattle.std.specs.List.{flat_map};
+ghost use Rattle.gx_cli.specs.Answers.{Prints, shown_line};
+ghost use Rattle.gx_cli.specs.Parts.{AreAllNamed, EvaluatesAll, PrintsNames, ReadsRevisions};
 
 use crate::CliFault;
 use crate::blob_names::name_line;
@@ -31,7 +26,7 @@ pub(crate) fn print_names<N: Namer, A: Allocator + Copy, W: Sink>(
     words: &[&str],
     sink: &mut W,
 ) -> Result<(), CliFault>
-    ensures { Prints (names_text (N.name_of repo.now.0) (history_of repo.now.1) (texts_of words.now)) (W.taken sink.old) (W.taken sink.new) result }
+    ensures { PrintsNames N.name_of W.taken repo.now words.now sink.old sink.new result }
 {
     let revisions = read_all(alloc, words)?;
     let shown = eval_all(alloc, repo, revisions.as_slice())?;
@@ -40,7 +35,7 @@ pub(crate) fn print_names<N: Namer, A: Allocator + Copy, W: Sink>(
 
 /// Each word as a revision, or the first that isn't one.
 fn read_all<A: Allocator + Copy>(alloc: A, words: &[&str]) -> Result<Vec<Revision<A>, A>, CliFault>
-    ensures { GivesWords (λ revisions. revisions.items) result (each_word revision_of (texts_of words.now)) }
+    ensures { ReadsRevisions words.now result }
 {
     let mut revisions = Vec::new(alloc);
     for (place, word) in words.iter().enumerate() {
@@ -58,8 +53,8 @@ fn eval_all<N: Namer, A: Allocator + Copy>(
     repo: &Repo<N, A>,
     revisions: &[Revision<A>],
 ) -> Result<Vec<Shown, A>, CliFault>
-    ensures shown { GivesWords (λ shown. map (shown_by repo.now.1) shown.items) result (each_word (denoted (N.name_of repo.now.0) (history_of repo.now.1)) revisions.now) }
-    ensures named { IfOk result (λ shown. AllByRecursion (IsNamed (N.name_of repo.now.0) repo.now.1) shown.items) }
+    ensures shown { EvaluatesAll N.name_of repo.now revisions.now result }
+    ensures named { IfOk result (λ shown. AreAllNamed N.name_of repo.now shown.items) }
 {
     let mut shown = Vec::new(alloc);
     for (place, revision) in revisions.iter().enumerate() {

@@ -1,9 +1,8 @@
 //! The refs of a store, one a line. Source: git-show-ref(1).
 
 ghost use Rattle.std.specs.Prelude.{◌≡◌, Ok};
-ghost use Rattle.gx_model.specs.StoreText.{stored_ref};
 ghost use Rattle.gx_cli.specs.Answers.{Prints, Puts};
-ghost use Rattle.gx_cli.specs.Stored.{refs_text};
+ghost use Rattle.gx_cli.specs.Stored.{line_of_ref, refs_text};
 
 use crate::CliFault;
 use crate::showing::print;
@@ -29,7 +28,7 @@ pub(crate) fn print_refs<N: Namer, A: Allocator + Copy, W: Sink>(
 
 /// Prints a ref's line.
 fn print_ref<W: Sink>(sink: &mut W, name: &[u8], object: &Name) -> Result<(), CliFault>
-    ensures { Puts (stored_ref (name.now, object.now.bytes)) (W.taken sink.old) (W.taken sink.new) result }
+    ensures { Puts (line_of_ref name.now object.now) (W.taken sink.old) (W.taken sink.new) result }
 {
     print(sink, object.hex().as_slice())?;
     print(sink, b" ")?;

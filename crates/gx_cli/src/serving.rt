@@ -1,15 +1,8 @@
 //! What a command does with the store's bytes, its input and its output.
 
-ghost use Rattle.std.specs.Prelude.{◌≡◌, ℕ, Result};
-ghost use Rattle.std.specs.Option.{option_map};
-ghost use Rattle.gx_stream.specs.Heard.{items_from};
-ghost use Rattle.gx_cli.specs.declared.blob_names.BlobsFault.{BlobsFault};
-ghost use Rattle.gx_cli.specs.Printing.{PrintsBlobs};
-ghost use Rattle.gx_model.specs.StoreReading.{store_of};
 ghost use Rattle.gx_cli.specs.Again.{ServesExported};
-ghost use Rattle.gx_cli.specs.Answers.{Prints};
-ghost use Rattle.gx_cli.specs.Serving.{IsOutcome, IsRefused, Serves, blobs_answer, printed_by};
-ghost use Rattle.gx_cli.specs.Stored.{of_stored};
+ghost use Rattle.gx_cli.specs.Parts.{AnswersBlobs, PrintsOfStore};
+ghost use Rattle.gx_cli.specs.Serving.{IsOutcome, IsRefused, Serves};
 
 use crate::adapting::adapt_stream;
 use crate::batching::batch_stored;
@@ -93,7 +86,7 @@ fn print_stored<N: Namer + Drop, W: Sink, A: Allocator + Copy>(
     sink: &mut W,
     state: RandomState,
 ) -> Result<(), CliFault>
-    ensures { Prints (of_stored (store_of (N.name_of namer) store.now) (printed_by (N.name_of namer) line.now)) (W.taken sink.old) (W.taken sink.new) result }
+    ensures { PrintsOfStore N.name_of W.taken namer line.now store.now sink.old sink.new result }
 {
     let repo = match gx_file::read(alloc, namer, store, state) {
         Ok(repo) => repo,
@@ -134,9 +127,7 @@ fn blobs_alone<N: Namer + Drop, R: Source + Drop, W: Sink, A: Allocator + Copy>(
     sink: &mut W,
     state: RandomState,
 ) -> Result<u64, CliFault>
-    ensures { (answer : Result ℕ BlobsFault)
-        × PrintsBlobs (N.name_of namer) (option_map items_from (R.coming source)) (W.taken sink.old) (W.taken sink.new) answer
-        × (result ≡ blobs_answer answer) }
+    ensures { AnswersBlobs N.name_of W.taken namer (R.coming source) sink.old sink.new result }
 {
     match blobs(alloc, namer, source, sink, state) {
         Ok(count) => Ok(count),

@@ -2,18 +2,11 @@
 
 ghost use Rattle.std.specs.Prelude.{◌≡◌, [], IfOk, Ok};
 ghost use Rattle.gx_model.specs.declared.objects.Kind.TheVariants as kinds;
-ghost use Rattle.gx_model.specs.Denotation.{denoted};
-ghost use Rattle.gx_model.specs.Faults.{Gives, and_then};
-ghost use Rattle.gx_model.specs.HistoryOf.{history_of};
 ghost use Rattle.gx_model.specs.Records.{body_of};
-ghost use Rattle.gx_model.specs.Revisions.{revision_of};
-ghost use Rattle.gx_rev.specs.Answers.{IsNamed, shown_by};
+ghost use Rattle.gx_rev.specs.Answers.{IsNamed};
 ghost use Rattle.gx_rev.specs.declared.shown.Shown.TheVariants.{Object};
-ghost use Rattle.gx_rev.specs.Objects.{IsHeld, IsHeldAs, files_at, value_at};
-ghost use Rattle.gx_rev.specs.RevFaults.{fault_of};
-ghost use Rattle.gx_cli.specs.Listings.{shown_text, text_of_word, tree_lines, value_text};
-ghost use Rattle.gx_cli.specs.Answers.{Prints};
-ghost use Rattle.gx_cli.specs.Stored.{show_text};
+ghost use Rattle.gx_rev.specs.Objects.{IsHeld, IsHeldAs, value_at};
+ghost use Rattle.gx_cli.specs.Parts.{Evaluates, PrintsObject, PrintsShown, PrintsWord, ShowsWord, entries_text};
 ghost use Rattle.gx_cli.specs.Trying.{Shows};
 
 use crate::CliFault;
@@ -31,7 +24,7 @@ pub(crate) fn show_stored<N: Namer, A: Allocator + Copy, W: Sink>(
     word: &[u8],
     sink: &mut W,
 ) -> Result<(), CliFault>
-    ensures { Prints (show_text (N.name_of repo.now.0) (history_of repo.now.1) word.now) (W.taken sink.old) (W.taken sink.new) result }
+    ensures { PrintsWord N.name_of W.taken repo.now word.now sink.old sink.new result }
 {
     show(alloc, repo, word, sink)
 }
@@ -46,7 +39,7 @@ pub(crate) fn show<N: Namer, A: Allocator + Copy, W: Sink>(
     word: &[u8],
     sink: &mut W,
 ) -> Result<(), CliFault>
-    ensures { Shows [] (text_of_word (N.name_of repo.now.0) (history_of repo.now.1) word.now) (W.taken sink.old) (W.taken sink.new) result }
+    ensures { ShowsWord N.name_of W.taken repo.now word.now sink.old sink.new result }
 {
     match eval_word(alloc, repo, word) {
         Ok(shown) => print_shown(alloc, repo, shown, sink),
@@ -61,7 +54,7 @@ fn eval_word<N: Namer, A: Allocator + Copy>(
     repo: &Repo<N, A>,
     word: &[u8],
 ) -> Result<Shown, RevFault>
-    ensures shown { Gives fault_of (shown_by repo.now.1) result (and_then (revision_of word.now) (denoted (N.name_of repo.now.0) (history_of repo.now.1))) }
+    ensures shown { Evaluates N.name_of repo.now word.now result }
     ensures named { IfOk result (IsNamed (N.name_of repo.now.0) repo.now.1) }
 {
     let revision = Revision::read(alloc, word)?;
@@ -76,7 +69,7 @@ fn print_shown<N: Namer, A: Allocator + Copy, W: Sink>(
     sink: &mut W,
 ) -> Result<(), CliFault>
     requires { IsNamed (N.name_of repo.now.0) repo.now.1 shown }
-    ensures { Shows [] (Ok (shown_text (N.name_of repo.now.0) (shown_by repo.now.1 shown))) (W.taken sink.old) (W.taken sink.new) result }
+    ensures { PrintsShown N.name_of W.taken repo.now shown sink.old sink.new result }
 {
     match shown {
         Shown::Object(kind, name) => print_object(alloc, repo, kind, &name, sink),
@@ -93,7 +86,7 @@ fn print_object<N: Namer, A: Allocator + Copy, W: Sink>(
     sink: &mut W,
 ) -> Result<(), CliFault>
     requires { IsNamed (N.name_of repo.now.0) repo.now.1 (Object kind name.now) }
-    ensures { Shows [] (Ok (value_text (N.name_of repo.now.0) (value_at repo.now.1 name.now))) (W.taken sink.old) (W.taken sink.new) result }
+    ensures { PrintsObject N.name_of W.taken repo.now name.now sink.old sink.new result }
 {
     repo.sound();
     match kind {
@@ -122,7 +115,7 @@ fn tree_listing<N: Namer, A: Allocator + Copy>(
     tree: &Name,
 ) -> Result<Vec<u8, A>, AllocError>
     requires { IsHeldAs kinds.Tree repo.now.1 tree.now }
-    ensures { IfOk result (λ text. text.items ≡ tree_lines (N.name_of repo.now.0) (files_at repo.now.1 tree.now)) }
+    ensures { IfOk result (λ text. text.items ≡ entries_text N.name_of repo.now tree.now) }
 {
     repo.sound();
     let Some((_, body)) = repo.store().get(tree) else {

@@ -1,9 +1,9 @@
 //! An import whose store's next text goes out to a sink. Source: git-fast-import(1).
 
-ghost use Rattle.std.specs.Prelude.{◌≡◌, Ok, IfErr, IfOk};
+ghost use Rattle.std.specs.Prelude.{◌≡◌, IfErr, IfOk};
 ghost use Rattle.gx_model.specs.declared.store_versions.Version.TheVariants.{Two};
-ghost use Rattle.gx_model.specs.StoreReading.{store_of};
 ghost use Rattle.gx_model.specs.StoreText.{store_text};
+ghost use Rattle.gx_cli.specs.Parts.{IsReadBack};
 ghost use Rattle.gx_cli.specs.Sending.{PrintsText};
 ghost use Rattle.gx_cli.specs.Storing.{ImportsStore, ImportsStoreAgain, next_after};
 ghost use Rattle.gx_cli.specs.declared.fault.CliFault.TheVariants.{WriteFailed};
@@ -31,8 +31,8 @@ pub fn import_store<N: Namer + Drop, R: Source + Drop, W: Sink, A: Allocator + C
     sink: &mut W,
     state: RandomState,
 ) -> (Option<Repo<N, A>>, Result<Report, CliFault>)
-    ensures imported { ImportsStore N.name_of namer (store_of (N.name_of namer) store.items) (R.coming source) (W.taken sink.old) (W.taken sink.new) result }
-    ensures again { ImportsStoreAgain N.name_of namer (store_of (N.name_of namer) store.items) (R.coming source) result }
+    ensures imported { ImportsStore N.name_of namer store.items (R.coming source) (W.taken sink.old) (W.taken sink.new) result }
+    ensures again { ImportsStoreAgain N.name_of namer store.items (R.coming source) result }
 {
     let read = gx_file::read(alloc, namer, &store, state);
     drop(store);
@@ -65,7 +65,7 @@ pub fn send_store<N: Namer, A: Allocator + Copy, W: Sink>(
     sink: &mut W,
 ) -> Result<(), CliFault>
     ensures text { PrintsText (store_text Two repo.now.1) (W.taken sink.old) (W.taken sink.new) result }
-    ensures read { IfOk result (λ _. store_of (N.name_of repo.now.0) (store_text Two repo.now.1) ≡ Ok repo.now.1) }
+    ensures read { IfOk result (λ _. IsReadBack N.name_of repo.now) }
     ensures fault { IfErr result (λ fault. fault ≡ WriteFailed) }
 {
     match write_to(repo, sink) {

@@ -1,7 +1,8 @@
 //! A stream, imported into an empty store, and what a revision shows there.
 
 ghost use Rattle.std.specs.Prelude.{◌≡◌, IfOk};
-ghost use Rattle.gx_cli.specs.Trying.{ImportsAlone, LooksIn, Tries};
+ghost use Rattle.gx_cli.specs.Parts.{TriesWord};
+ghost use Rattle.gx_cli.specs.Trying.{ImportsAlone, LooksIn};
 
 use crate::CliFault;
 use crate::showing::show;
@@ -26,7 +27,7 @@ pub fn try_revision<N: Namer + Drop, A: Allocator + Copy, R: Source + Drop, W: S
     sink: &mut W,
     state: RandomState,
 ) -> Result<(), CliFault>
-    ensures { Tries (N.name_of namer) (R.coming source) word.now (W.taken sink.old) (W.taken sink.new) result }
+    ensures { TriesWord N.name_of W.taken namer (R.coming source) word.now sink.old sink.new result }
 {
     match import_alone(alloc, namer, source, sink, state) {
         Ok(repo) => show(alloc, &repo, word, sink),

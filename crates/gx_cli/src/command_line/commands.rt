@@ -2,7 +2,7 @@
 //! `with_command` alone see whether memory ran out.
 
 ghost use Rattle.std.specs.Prelude.{◌≡◌, IfOk, false};
-ghost use Rattle.clap.specs.Words.{App, app_of, new_app, rule_of, with_rule};
+ghost use Rattle.clap.specs.Words.{App, app_of, new_app, rule_of};
 ghost use Rattle.clap.specs.declared.builder.command.Command.TheViews.{out-Command as fields_of};
 ghost use Rattle.gx_cli.specs.CommandLine as say;
 
@@ -167,7 +167,7 @@ fn with_argument<'a>(
     argument: Arg<'a>,
 ) -> Result<Command<'a>, AllocError>
     requires { argument.global ≡ false }
-    ensures { (a : App) → say.Makes command.entry a → say.Makes result (with_rule a (rule_of argument.entry)) }
+    ensures { say.AddsArgument command.entry (rule_of argument.entry) result }
 {
     match command {
         Ok(command) => command.arg(argument),
@@ -180,7 +180,7 @@ fn with_command<'a>(
     command: Result<Command<'a>, AllocError>,
     sub: Result<Command<'a>, AllocError>,
 ) -> Result<Command<'a>, AllocError>
-    ensures { (a b : App) → say.Makes command.entry a → say.Makes sub.entry b → say.Makes result (say.under a b) }
+    ensures { say.AddsCommand command.entry sub.entry result }
 {
     match command {
         Ok(command) => with_made(command, sub),
@@ -193,7 +193,7 @@ fn with_made<'a>(
     command: Command<'a>,
     sub: Result<Command<'a>, AllocError>,
 ) -> Result<Command<'a>, AllocError>
-    ensures { (a b : App) → say.IsMade command.entry a → say.Makes sub.entry b → say.Makes result (say.under a b) }
+    ensures { say.AddsToMade command.entry sub.entry result }
 {
     match sub {
         Ok(sub) => command.subcommand(sub),

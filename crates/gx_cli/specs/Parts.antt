@@ -1,0 +1,185 @@
+-- What each part of a command does. A repository is seen by the names that its namer gives, and a sink by what it took before the
+-- call and after it. What holds where memory runs out or the sink fails, is told by Answers, Sending, Trying and Words.
+use Rattle.std.specs.Prelude.{◌≡◌, ℕ, Bool, List, [], map, Option, Result, Ok}
+use Rattle.std.specs.Borrow.{Bor}
+use Rattle.std.specs.List.{AllByRecursion, flat_map}
+use Rattle.std.specs.Option.{option_map}
+use Rattle.std.specs.declared.vec.Vec.{Vec}
+use Rattle.gx_model.specs.declared.objects.Kind.{Kind}
+use Rattle.gx_model.specs.declared.objects.Kind.TheVariants as kinds
+use Rattle.gx_model.specs.declared.objects.Mode.{Mode}
+use Rattle.gx_model.specs.declared.store_versions.Version.TheVariants as version
+use Rattle.gx_model.specs.Denotation.{denoted}
+use Rattle.gx_model.specs.Faults.{Gives, and_then}
+use Rattle.gx_model.specs.Files.{FileMap}
+use Rattle.gx_model.specs.Histories.{Record, Records}
+use Rattle.gx_model.specs.HistoryOf.{history_of}
+use Rattle.gx_model.specs.Paths.{Path}
+use Rattle.gx_model.specs.Ranges.{each_word}
+use Rattle.gx_model.specs.Records.{named_map}
+use Rattle.gx_model.specs.Revisions.{Revision, range_of, revision_of}
+use Rattle.gx_model.specs.StoreReading.{store_of}
+use Rattle.gx_model.specs.StoreText.{store_text}
+use Rattle.gx_model.specs.Texts.{Bytes}
+use Rattle.gx_text.specs.Devices.{Coming, Taken}
+use Rattle.gx_object.specs.declared.name.Name.{Name}
+use Rattle.gx_stream.specs.Heard.{items_from}
+use Rattle.gx_rev.specs.Answers.{IsNamed, shown_by}
+use Rattle.gx_rev.specs.Objects.{IsHeldAs, commit_at, files_at, value_at}
+use Rattle.gx_rev.specs.RevFaults.{fault_of}
+use Rattle.gx_rev.specs.Views.{shown_range}
+use Rattle.gx_rev.specs.declared.fault.RevFault.{RevFault}
+use Rattle.gx_rev.specs.declared.range.Range.{Range}
+use Rattle.gx_rev.specs.declared.shown.Shown.{Shown}
+use Rattle.gx_import.specs.Repositories.{Repository}
+use Rattle.gx_cli.specs.Answers.{GivesWords, Prints}
+use Rattle.gx_cli.specs.FileLines.{path_line}
+use Rattle.gx_cli.specs.Listings.{shown_text, text_of_word, tree_lines, value_text}
+use Rattle.gx_cli.specs.Printing.{PrintsBlobs, PrintsOne}
+use Rattle.gx_cli.specs.Sending.{PrintsText}
+use Rattle.gx_cli.specs.Serving.{blobs_answer, printed_by}
+use Rattle.gx_cli.specs.Stored.{all_words, commits_listed, file_line, files_of_word, list_lines, list_text, log_line, log_text, names_text, of_stored, show_text, texts_of}
+use Rattle.gx_cli.specs.Trying.{Shows, Tries}
+use Rattle.gx_cli.specs.Words as refusing
+use Rattle.gx_cli.specs.declared.blob_names.BlobsFault.{BlobsFault}
+use Rattle.gx_cli.specs.declared.blob_names.BlobsKind.{BlobsKind}
+use Rattle.gx_cli.specs.declared.command_line.Line.{Line}
+use Rattle.gx_cli.specs.declared.command_line.LogOptions.{LogOptions}
+use Rattle.gx_cli.specs.declared.fault.CliFault.{CliFault}
+
+-- ---- words
+
+-- the revisions of these words, or the first word that isn't one
+abbrev pub ReadsRevisions : {A : Type 0} → List (Bor Bytes) → Result (Vec Revision A) CliFault → Type 0
+ReadsRevisions {A} words result = GivesWords (λ (revisions : Vec Revision A). revisions.items) result (each_word revision_of (texts_of words))
+
+-- these range words, or the first word that isn't one
+abbrev pub ReadsRanges : {A : Type 0} → List (Bor Bytes) → Result (Vec (Range A) A) CliFault → Type 0
+ReadsRanges {A} words result = refusing.GivesWords (λ (ranges : Vec (Range A) A). map shown_range ranges.items) result (all_words (each_word range_of (texts_of words)))
+
+-- each of these names is that of a held commit
+abbrev pub AreCommits : Records → List Name → Type 0
+AreCommits repository names = AllByRecursion (IsHeldAs kinds.Commit repository) names
+
+-- ---- files
+
+-- the line of the file of this mode at a path goes out
+abbrev pub PrintsFile : {W : Type 0} → (W → Option Taken) → Path → Mode → Name → W → W → Result (Unit {0}) CliFault → Type 0
+PrintsFile taken path mode called old new result = PrintsText (path_line path mode called) (taken old) (taken new) result
+
+-- ---- what is found in a repository
+
+module _ {N : Type 0} (name_of : N → Kind → Bytes → Bytes) where
+  -- what a word shows as a revision
+  abbrev pub Evaluates : Repository N → Bytes → Result Shown RevFault → Type 0
+  Evaluates repo word result = Gives fault_of (shown_by repo.1) result (and_then (revision_of word) (denoted (name_of repo.0) (history_of repo.1)))
+
+  -- what each of these revisions shows, or the first that shows nothing
+  abbrev pub EvaluatesAll : {A : Type 0} → Repository N → List Revision → Result (Vec Shown A) CliFault → Type 0
+  EvaluatesAll {A} repo revisions result =
+      GivesWords (λ (shown : Vec Shown A). map (shown_by repo.1) shown.items) result (each_word (denoted (name_of repo.0) (history_of repo.1)) revisions)
+
+  -- each of these is an object that is held under its name, or a submodule's name
+  abbrev pub AreAllNamed : Repository N → List Shown → Type 0
+  AreAllNamed repo shown = AllByRecursion (IsNamed (name_of repo.0) repo.1) shown
+
+  -- the tree that a word gives as a revision, by its files
+  abbrev pub GivesTree : Repository N → Bytes → Result Name RevFault → Type 0
+  GivesTree repo word result = Gives fault_of (files_at repo.1) result (files_of_word (name_of repo.0) (history_of repo.1) word)
+
+  -- the files of the tree of this name, by the names of their contents
+  abbrev pub named_files : Repository N → Name → FileMap Bytes
+  named_files repo tree = named_map (name_of repo.0) (files_at repo.1 tree)
+
+  -- the lines of the entries of the tree of this name
+  abbrev pub entries_text : Repository N → Name → Bytes
+  entries_text repo tree = tree_lines (name_of repo.0) (files_at repo.1 tree)
+
+  -- the names of the commits that range words list, the last made first, or the first word that is refused
+  abbrev pub ListsCommits : {A : Type 0} → Repository N → List (Bor Bytes) → Result (Vec Name A) CliFault → Type 0
+  ListsCommits {A} repo words result =
+      refusing.GivesWords (λ (names : Vec Name A). map (commit_at repo.1) names.items) result
+      (all_words (and_then (each_word range_of (texts_of words)) (commits_listed (name_of repo.0) (history_of repo.1))))
+
+  -- the store text of a repository is read as that repository
+  abbrev pub IsReadBack : Repository N → Type 0
+  IsReadBack repo = store_of (name_of repo.0) (store_text version.Two repo.1) ≡ Ok repo.1
+
+-- ---- what goes out to a sink
+
+module _ {N W : Type 0} (name_of : N → Kind → Bytes → Bytes) (taken : W → Option Taken) where
+  -- the names of the blobs of a source's stream go out
+  abbrev pub NamesBlobs : N → Option Coming → W → W → Result ℕ BlobsFault → Type 0
+  NamesBlobs namer coming old new answer = PrintsBlobs (name_of namer) (option_map items_from coming) (taken old) (taken new) answer
+
+  -- the same, with the fault among those of the commands
+  abbrev pub AnswersBlobs : N → Option Coming → W → W → Result ℕ CliFault → Type 0
+  AnswersBlobs namer coming old new result = (answer : Result ℕ BlobsFault) × NamesBlobs namer coming old new answer × (result ≡ blobs_answer answer)
+
+  -- a blob is put into a store, and its name goes out
+  abbrev pub AddsBlob : N × List Record → N × List Record → Bytes → W → W → Result (Unit {0}) BlobsKind → Type 0
+  AddsBlob before after bytes old new result = PrintsOne (name_of before.0) before.1 after.1 (taken old) (taken new) bytes result
+
+  -- once a stream was imported into an empty store, a word is shown as a revision
+  abbrev pub TriesWord : N → Option Coming → Bytes → W → W → Result (Unit {0}) CliFault → Type 0
+  TriesWord namer coming word old new result = Tries (name_of namer) coming word (taken old) (taken new) result
+
+  -- what a command prints of the store of a text goes out, or a refusal is answered
+  abbrev pub PrintsOfStore : N → Line → Bytes → W → W → Result (Unit {0}) CliFault → Type 0
+  PrintsOfStore namer line text old new result =
+      Prints (of_stored (store_of (name_of namer) text) (printed_by (name_of namer) line)) (taken old) (taken new) result
+
+  -- ---- one revision
+
+  -- the text that a word shows as a revision goes out, or why it shows none is answered
+  abbrev pub ShowsWord : Repository N → Bytes → W → W → Result (Unit {0}) CliFault → Type 0
+  ShowsWord repo word old new result = Shows [] (text_of_word (name_of repo.0) (history_of repo.1) word) (taken old) (taken new) result
+
+  -- the same, as what a command prints of a store
+  abbrev pub PrintsWord : Repository N → Bytes → W → W → Result (Unit {0}) CliFault → Type 0
+  PrintsWord repo word old new result = Prints (show_text (name_of repo.0) (history_of repo.1) word) (taken old) (taken new) result
+
+  -- the text of what is shown goes out
+  abbrev pub PrintsShown : Repository N → Shown → W → W → Result (Unit {0}) CliFault → Type 0
+  PrintsShown repo shown old new result = Shows [] (Ok (shown_text (name_of repo.0) (shown_by repo.1 shown))) (taken old) (taken new) result
+
+  -- the text of the object of this name goes out
+  abbrev pub PrintsObject : Repository N → Name → W → W → Result (Unit {0}) CliFault → Type 0
+  PrintsObject repo called old new result = Shows [] (Ok (value_text (name_of repo.0) (value_at repo.1 called))) (taken old) (taken new) result
+
+  -- ---- trees
+
+  -- the lines of the tree that a word gives as a revision go out, or why it gives none is answered
+  abbrev pub ListsWord : Repository N → Bool → Bytes → W → W → Result (Unit {0}) CliFault → Type 0
+  ListsWord repo recursive word old new result = Prints (list_text (name_of repo.0) recursive (history_of repo.1) word) (taken old) (taken new) result
+
+  -- the lines of the tree of this name go out: those of its entries, or of all its files
+  abbrev pub ListsTree : Repository N → Bool → Name → W → W → Result (Unit {0}) CliFault → Type 0
+  ListsTree repo recursive tree old new result = PrintsText (list_lines (name_of repo.0) recursive (files_at repo.1 tree)) (taken old) (taken new) result
+
+  -- the lines of the entries of the tree of this name go out
+  abbrev pub ListsEntries : Repository N → Name → W → W → Result (Unit {0}) CliFault → Type 0
+  ListsEntries repo tree old new result = PrintsText (entries_text name_of repo tree) (taken old) (taken new) result
+
+  -- the lines of all files of the tree of this name go out
+  abbrev pub ListsFiles : Repository N → Name → W → W → Result (Unit {0}) CliFault → Type 0
+  ListsFiles repo tree old new result = PrintsText (flat_map (file_line (name_of repo.0)) (files_at repo.1 tree)) (taken old) (taken new) result
+
+  -- ---- several words
+
+  -- a line for what each word shows as a revision goes out, or the first word that is refused is answered
+  abbrev pub PrintsNames : Repository N → List (Bor Bytes) → W → W → Result (Unit {0}) CliFault → Type 0
+  PrintsNames repo words old new result = Prints (names_text (name_of repo.0) (history_of repo.1) (texts_of words)) (taken old) (taken new) result
+
+  -- the lines of the commits that range words list go out, or the first word that is refused is answered
+  abbrev pub Logs : Repository N → LogOptions → List (Bor Bytes) → W → W → Result (Unit {0}) CliFault → Type 0
+  Logs repo options words old new result = Prints (log_text (name_of repo.0) options (history_of repo.1) (texts_of words)) (taken old) (taken new) result
+
+  -- the lines of the commits of these names go out
+  abbrev pub PrintsCommits : Repository N → Bool → List Name → W → W → Result (Unit {0}) CliFault → Type 0
+  PrintsCommits repo parents names old new result =
+      PrintsText (flat_map (log_line (name_of repo.0) parents) (map (commit_at repo.1) names)) (taken old) (taken new) result
+
+  -- the line of the commit of this name goes out
+  abbrev pub PrintsCommit : Repository N → Bool → Name → W → W → Result (Unit {0}) CliFault → Type 0
+  PrintsCommit repo parents called old new result = PrintsText (log_line (name_of repo.0) parents (commit_at repo.1 called)) (taken old) (taken new) result

@@ -48,7 +48,8 @@ pub fn round_trip<N: Namer + Copy + Drop, A: Allocator + Copy, R: Source + Drop,
     path: &TreePath<A>,
     state: RandomState,
 ) -> Result<RoundTrip<N, A>, CliFault>
-    ensures namer { IfOk result (λ trip. (trip.first.0 ≡ namer) × (trip.again.0 ≡ namer)) }
+    ensures namer { IfOk result (λ trip. trip.first.0 ≡ namer) }
+    ensures again { IfOk result (λ trip. trip.again.0 ≡ namer) }
     ensures back { RoundTrips (N.name_of namer) revision.now path.now (R.coming source) (W.taken sink.old) (W.taken sink.new) result }
 {
     replays_keep_none();

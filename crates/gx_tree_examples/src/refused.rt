@@ -362,9 +362,9 @@ fn a_new_file_takes_no_memory_for_a_short_component(rt: HostRuntime) {
 }
 
 /// A file whose component has 25 bytes, and another one.
-const LONG: &[u8] = b"d/e/one-of-twenty-five-bytes";
+const LONG: &[u8] = b"d/e/left-of-twenty-five-bytes";
 
-const LONG_TOO: &[u8] = b"d/e/two-of-twenty-five-bytes";
+const LONG_TOO: &[u8] = b"d/e/next-of-twenty-five-bytes";
 
 /// What a put of a file with a long component answers in a tree of the files that leave room, where the growth with this
 /// number is refused; nothing where the tree can't be made.

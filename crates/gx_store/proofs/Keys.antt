@@ -17,6 +17,7 @@ use Rattle.gx_object.specs.declared.name.Name.{Name}
 use Rattle.gx_object.specs.contracts.name.NamePartialEq.TheImpl as equality
 use Rattle.gx_object.specs.contracts.name.NameOrd.TheImpl as order
 use Rattle.gx_store.specs.NameOrder.{compare_names}
+use Rattle.gx_store.specs.Bodies.{bytes_of}
 use Rattle.gx_store.specs.Objects.{held, has, AreNames}
 use Rattle.gx_store.specs.declared.store.Object.{Object}
 
@@ -28,7 +29,7 @@ equal_names n m = is_eq-slice_cmp n.bytes m.bytes
 
 -- the record under a name
 abbrev pub under : {A : Type 0} → Name → Object A → Record
-under n object = record { name = n.bytes; kind = object.kind; body = object.body.items }
+under n object = record { name = n.bytes; kind = object.kind; body = bytes_of object.body }
 
 -- a look-up in the map finds the record
 pub found : {A : Type 0} (n : Name) (es : List (Name × Object A)) → record_named (map held es) n.bytes ≡ option_map (under n) (lookup ((equality.eq-value).it n) es)

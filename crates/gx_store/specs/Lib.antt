@@ -1,4 +1,5 @@
 pub mod Stores
 pub mod Prefixes
+pub mod Bodies
 pub mod Objects
 pub mod NameOrder

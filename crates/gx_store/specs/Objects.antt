@@ -5,11 +5,12 @@ use Rattle.std.specs.BTreeMap.{is_at}
 use Rattle.gx_model.specs.Histories.{Record}
 use Rattle.gx_model.specs.Growth.{record_named}
 use Rattle.gx_object.specs.declared.name.Name.{Name}
+use Rattle.gx_store.specs.Bodies.{bytes_of}
 use Rattle.gx_store.specs.NameOrder.{compare_names}
 use Rattle.gx_store.specs.declared.store.Object.{Object}
 
 abbrev pub held : {A : Type 0} → Name × Object A → Record
-held entry = record { name = entry.0.bytes; kind = entry.1.kind; body = entry.1.body.items }
+held entry = record { name = entry.0.bytes; kind = entry.1.kind; body = bytes_of entry.1.body }
 
 -- an ordered set has this name
 abbrev pub has : List Name → Name → Bool

@@ -2,10 +2,13 @@
 //! A record never changes, and other bytes under a held name are refused.
 #![tactic(auto)]
 
+mod body;
 mod fault;
 mod prefix;
 mod store;
+mod text;
 
 pub use fault::StoreFault;
 pub use prefix::Prefix;
 pub use store::Store;
+pub use text::Text;

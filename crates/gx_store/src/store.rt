@@ -1,16 +1,20 @@
 //! The records of a repository, by their names and by their places.
 
-ghost use Rattle.std.specs.Prelude.{◌≡◌, ◌↔◌, length, [], map, slice_get, take, None, IsTrue};
+ghost use Rattle.std.specs.Prelude.{◌≡◌, ◌≤◌, ◌↔◌, length, [], map, slice_get, take, None, IsTrue};
+ghost use Rattle.std.specs.List.{slice_range};
 ghost use Rattle.std.specs.Option.{option_map};
 ghost use Rattle.gx_model.specs.Growth.{record_named};
 ghost use Rattle.gx_model.specs.Lookups.{records_begun_by};
 ghost use Rattle.gx_store.specs.Stores.{AreHeld, IsFound, Puts, place_named, seen, seen_at};
 ghost use Rattle.gx_model.specs.Histories.{object_of, record_for};
+ghost use Rattle.gx_store.specs.Bodies.{bytes_of};
 ghost use Rattle.gx_store.specs.Prefixes.{prefix_of};
 ghost use Rattle.gx_store.specs.Objects.{held};
 
+use crate::body::Body;
 use crate::prefix::names_begun_by;
-use crate::{Prefix, StoreFault};
+use crate::text::Range;
+use crate::{Prefix, StoreFault, Text};
 use gx_object::{Kind, Name, Namer};
 use indexmap::IndexMap;
 use std::alloc::Allocator;
@@ -22,7 +26,7 @@ use std::marker::Model;
 #[derive(Drop)]
 pub(crate) struct Object<A: Allocator> {
     kind: Kind,
-    body: Vec<u8, A>,
+    body: Body<A>,
 }
 
 /// Objects under the names that a namer gives them, in the order in which they were put.
@@ -96,7 +100,8 @@ impl<N: Namer, A: Allocator + Copy> Store<N, A> {
         let Ok(copy) = Vec::from_slice(self.alloc, body) else {
             return Err(StoreFault::OutOfMemory);
         };
-        self.insert(name, Object { kind, body: copy })
+        let body = Body::Own(copy);
+        self.insert(name, Object { kind, body })
     }
 
     /// Does what `put` does, but takes no copy of the bytes: it keeps these, or drops them where the object is held
@@ -111,6 +116,35 @@ impl<N: Namer, A: Allocator + Copy> Store<N, A> {
         if self.is_held(&name, kind, body.as_slice())? {
             return Ok(name);
         }
+        let body = Body::Own(body);
+        self.insert(name, Object { kind, body })
+    }
+
+    /// Does what `put` does with the bytes of a text from one place up to another, but takes no copy of them: it shares
+    /// the text. Where the object is held already or isn't put, the text has no owner more than before.
+    ///
+    /// The errors are those of `put`. Cost: naming the body, and the logarithm of the number of records.
+    pub fn put_within(
+        &mut self,
+        kind: Kind,
+        text: &Text<A>,
+        start: usize,
+        end: usize,
+    ) -> Result<Name, StoreFault>
+        requires ordered { start ≤ end }
+        requires within { end ≤ length text.now }
+        ensures namer { self.new.0 ≡ self.old.0 }
+        ensures puts { Puts self.old.1 self.new.1 (record_for (N.name_of self.old.0) kind (slice_range text.now start end)) result }
+    {
+        let body = &text.as_slice()[start..end];
+        let name = self.namer.name(kind, body);
+        if self.is_held(&name, kind, body)? {
+            return Ok(name);
+        }
+        let Ok(text) = text.shared() else {
+            return Err(StoreFault::OutOfMemory);
+        };
+        let body = Body::Within(Range::new(text, start, end));
         self.insert(name, Object { kind, body })
     }
 
@@ -145,8 +179,9 @@ impl<N: Namer, A: Allocator + Copy> Store<N, A> {
         ensures { self.new ≡ (self.old.0, take len self.old.1) }
     {
         while self.objects.len() > len {
-            if let Some((name, _)) = self.objects.pop() {
+            if let Some((name, object)) = self.objects.pop() {
                 self.names.remove(&name);
+                drop(object);
             }
         }
     }
@@ -188,7 +223,7 @@ impl<N: Namer, A: Allocator + Copy> Store<N, A> {
 
     /// Puts an object last whose name isn't held.
     fn insert(&mut self, name: Name, object: Object<A>) -> Result<Name, StoreFault>
-        requires named { name.bytes ≡ N.name_of self.now.0 object.kind object.body.items }
+        requires named { name.bytes ≡ N.name_of self.now.0 object.kind (bytes_of object.body) }
         requires free { record_named self.now.1 name.bytes ≡ None }
         ensures namer { self.new.0 ≡ self.old.0 }
         ensures puts { Puts self.old.1 self.new.1 (held (name, object)) result }
@@ -208,7 +243,7 @@ impl<N: Namer, A: Allocator + Copy> Store<N, A> {
 
 /// Whether an object is of this kind and has this body.
 fn is_object<A: Allocator + Copy>(object: &Object<A>, kind: Kind, body: &[u8]) -> bool
-    ensures { IsTrue result ↔ (object.now.kind ≡ kind) × (object.now.body.items ≡ body.now) }
+    ensures { IsTrue result ↔ (object.now.kind ≡ kind) × (bytes_of object.now.body ≡ body.now) }
 {
     object.kind == kind && object.body.as_slice() == body
 }

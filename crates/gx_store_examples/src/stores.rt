@@ -2,20 +2,24 @@
 
 use gx_object::{Kind, Name, ShortNamer};
 use gx_refusing::Refusing;
-use gx_store::{Prefix, Store, StoreFault};
-use std::alloc::Allocator;
+use gx_store::{Prefix, Store, StoreFault, Text};
+use std::alloc::{AllocError, Allocator};
 use std::hash::RandomState;
 use std::test::Fail;
 
 mod refusals;
 
-/// The names of a blob and of a tree of one byte, and that of a blob of 171 bytes.
+/// The names of a blob and of a tree of one byte, of a tree of none, and of a blob of 171 bytes.
 const BLOB: Name = Name {
     bytes: *b"\x11\x11\x11\x11\x11\x11\x11\x11\x11\x11\x11\x11\x11\x11\x11\x11\x11\x11\x00\x01",
 };
 
 const TREE: Name = Name {
     bytes: *b"\x11\x11\x11\x11\x11\x11\x11\x11\x11\x11\x11\x11\x11\x11\x11\x11\x11\x11\x01\x01",
+};
+
+const EMPTY_TREE: Name = Name {
+    bytes: *b"\x11\x11\x11\x11\x11\x11\x11\x11\x11\x11\x11\x11\x11\x11\x11\x11\x11\x11\x01\x00",
 };
 
 const LONG_BLOB: Name = Name {
@@ -32,6 +36,8 @@ enum Step<'a> {
     Copy(Kind, &'a [u8], Result<Name, StoreFault>),
     /// Bytes are given to the store.
     Give(Kind, &'a [u8], Result<Name, StoreFault>),
+    /// A text is shared with the store, its bytes from a place up to another are put, and its other owner goes.
+    Share(Kind, &'a [u8], (usize, usize), Result<Name, StoreFault>),
     /// The first objects alone are kept.
     Truncate(usize),
     /// Exactly these objects are held, in this order.
@@ -64,6 +70,19 @@ const GIVEN_BYTES: &[Step] = &[
     Step::Hold(&[(BLOB, Kind::Blob, b"a")]),
 ];
 
+const SHARED_BYTES: &[Step] = &[
+    Step::Share(Kind::Blob, b"xay", (1, 2), Ok(BLOB)),
+    Step::Copy(Kind::Blob, b"a", Ok(BLOB)),
+    Step::Share(Kind::Blob, b"a", (0, 1), Ok(BLOB)),
+    Step::Share(Kind::Blob, b"ab", (1, 2), Err(StoreFault::NameHeld)),
+    Step::Share(Kind::Tree, b"ba", (1, 2), Ok(TREE)),
+    Step::Hold(&[(BLOB, Kind::Blob, b"a"), (TREE, Kind::Tree, b"a")]),
+    Step::Truncate(1),
+    Step::Hold(&[(BLOB, Kind::Blob, b"a")]),
+    Step::Share(Kind::Tree, b"", (0, 0), Ok(EMPTY_TREE)),
+    Step::Hold(&[(BLOB, Kind::Blob, b"a"), (EMPTY_TREE, Kind::Tree, b"")]),
+];
+
 const PREFIXES: &[Step] = &[
     Step::Find(b"", Prefix::Absent),
     Step::Copy(Kind::Blob, b"a", Ok(BLOB)),
@@ -92,20 +111,6 @@ const PREFIXES: &[Step] = &[
     Step::Hold(&[(BLOB, Kind::Blob, b"a")]),
 ];
 
-/// Copies bytes into a store, or gives them to it.
-fn put<A: Allocator + Copy>(
-    store: &mut Store<ShortNamer, A>,
-    is_given: bool,
-    kind: Kind,
-    body: Vec<u8, A>,
-) -> Result<Name, StoreFault> {
-    if is_given {
-        store.put_owned(kind, body)
-    } else {
-        store.put(kind, &body)
-    }
-}
-
 /// The answer to bytes that are given.
 fn give<A: Allocator + Copy>(
     alloc: A,
@@ -117,6 +122,25 @@ fn give<A: Allocator + Copy>(
         Ok(bytes) => store.put_owned(kind, bytes),
         Err(_) => Err(StoreFault::OutOfMemory),
     }
+}
+
+/// The answer to the bytes of a text from one place up to another. The store is the text's last owner.
+fn share<A: Allocator + Copy>(
+    store: &mut Store<ShortNamer, A>,
+    kind: Kind,
+    text: Text<A>,
+    (start, end): (usize, usize),
+) -> Result<Name, StoreFault> {
+    if start <= end && end <= text.as_slice().len() {
+        store.put_within(kind, &text, start, end)
+    } else {
+        Err(StoreFault::OutOfMemory)
+    }
+}
+
+/// A text of these bytes.
+fn text_of<A: Allocator + Copy>(alloc: A, bytes: &[u8]) -> Result<Text<A>, AllocError> {
+    Text::new(alloc, Vec::from_slice(alloc, bytes)?)
 }
 
 /// Whether an object is held at a place and under its name.
@@ -150,6 +174,10 @@ fn is_done<A: Allocator + Copy>(
     match step {
         Step::Copy(kind, body, answer) => store.put(kind, body) == answer,
         Step::Give(kind, body, answer) => give(alloc, store, kind, body) == answer,
+        Step::Share(kind, bytes, range, answer) => match text_of(alloc, bytes) {
+            Ok(text) => share(store, kind, text, range) == answer,
+            Err(_) => false,
+        },
         Step::Truncate(len) => {
             store.truncate(len);
             true
@@ -193,6 +221,12 @@ fn other_bytes_under_a_held_name_are_refused(rt: HostRuntime) -> Result<(), Fail
 fn given_bytes_are_put_as_copied_ones_are(rt: HostRuntime) -> Result<(), Fail> {
     let state = RandomState::new(&rt)?;
     all_done(first_wrong(rt.alloc(), state, GIVEN_BYTES))
+}
+
+#[test]
+fn ranges_of_a_text_are_put_as_copies_are(rt: HostRuntime) -> Result<(), Fail> {
+    let state = RandomState::new(&rt)?;
+    all_done(first_wrong(rt.alloc(), state, SHARED_BYTES))
 }
 
 #[test]

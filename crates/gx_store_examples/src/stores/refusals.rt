@@ -1,5 +1,43 @@
 use super::*;
 
+/// How the bytes of an object come into a store.
+#[derive(Clone, Copy)]
+enum Way {
+    Copied,
+    Given,
+    Shared,
+}
+
+/// The object's bytes as they are before they are put.
+enum Bytes<A: Allocator> {
+    Copied(Vec<u8, A>),
+    Given(Vec<u8, A>),
+    Shared(Text<A>),
+}
+
+const TREE_BYTES: &[u8] = b"bytes of one tree";
+
+/// The bytes of a tree, for this way; those that are shared stand in a text of one byte more on each side.
+fn tree_bytes<A: Allocator + Copy>(alloc: A, way: Way) -> Result<Bytes<A>, AllocError> {
+    match way {
+        Way::Copied => Ok(Bytes::Copied(Vec::from_slice(alloc, TREE_BYTES)?)),
+        Way::Given => Ok(Bytes::Given(Vec::from_slice(alloc, TREE_BYTES)?)),
+        Way::Shared => Ok(Bytes::Shared(text_of(alloc, b"(bytes of one tree)")?)),
+    }
+}
+
+/// Puts a tree of these bytes, which the store alone owns then.
+fn put<A: Allocator + Copy>(
+    store: &mut Store<ShortNamer, A>,
+    bytes: Bytes<A>,
+) -> Result<Name, StoreFault> {
+    match bytes {
+        Bytes::Copied(bytes) => store.put(Kind::Tree, &bytes),
+        Bytes::Given(bytes) => store.put_owned(Kind::Tree, bytes),
+        Bytes::Shared(text) => share(store, Kind::Tree, text, (1, 18)),
+    }
+}
+
 /// Puts a blob of each length below this one.
 fn fill<A: Allocator + Copy>(store: &mut Store<ShortNamer, A>, blobs: usize) {
     let bytes = [b'x'; 99];
@@ -16,7 +54,11 @@ fn has_tree<A: Allocator + Copy>(
 ) -> bool {
     let found = store.by_prefix(b"111111111111111111111111111111111111011");
     match tree {
-        Some(name) => store.len() == blobs.saturating_add(1) && found == Prefix::Unique(name),
+        Some(name) => {
+            store.len() == blobs.saturating_add(1)
+                && found == Prefix::Unique(name)
+                && store.record(blobs) == Some((name, Kind::Tree, TREE_BYTES))
+        }
         None => store.len() == blobs && found == Prefix::Absent,
     }
 }
@@ -45,21 +87,21 @@ fn judged<A: Allocator + Copy>(
     }
 }
 
-/// A put behind some blobs, of bytes that are copied or given, at which the growth with this number is refused.
+/// A put behind some blobs, of bytes that come in this way, at which the growth with this number is refused.
 fn refused_put<B: Allocator>(
     heap: &Refusing<B>,
     state: RandomState,
     blobs: usize,
-    is_given: bool,
+    way: Way,
     growth: u64,
 ) -> Outcome {
     let mut store = Store::new(heap, ShortNamer, state);
     fill(&mut store, blobs);
-    let Ok(body) = Vec::from_slice(heap, b"bytes of one tree") else {
+    let Ok(bytes) = tree_bytes(heap, way) else {
         return Outcome::Wrong;
     };
     heap.arm(growth);
-    let answer = put(&mut store, is_given, Kind::Tree, body);
+    let answer = put(&mut store, bytes);
     let is_refused = !heap.is_waiting();
     heap.arm(0);
     judged(&store, blobs, answer, is_refused)
@@ -70,11 +112,11 @@ fn refused_behind<B: Allocator + Copy>(
     alloc: B,
     state: RandomState,
     blobs: usize,
-    is_given: bool,
+    way: Way,
 ) -> Option<u64> {
     for growth in 1..100 {
         let heap = Refusing::new(alloc, 0);
-        match refused_put(&heap, state, blobs, is_given, growth) {
+        match refused_put(&heap, state, blobs, way, growth) {
             Outcome::Put => return Some(growth - 1),
             Outcome::Refused => {}
             Outcome::Wrong => return None,
@@ -84,25 +126,22 @@ fn refused_behind<B: Allocator + Copy>(
 }
 
 /// The same in puts behind none, one, .. and 59 blobs.
-fn refused_growths<B: Allocator + Copy>(
-    alloc: B,
-    state: RandomState,
-    is_given: bool,
-) -> Option<u64> {
+fn refused_growths<B: Allocator + Copy>(alloc: B, state: RandomState, way: Way) -> Option<u64> {
     let mut refused = 0u64;
     for blobs in 0..60 {
-        refused = refused.saturating_add(refused_behind(alloc, state, blobs, is_given)?);
+        refused = refused.saturating_add(refused_behind(alloc, state, blobs, way)?);
     }
     Some(refused)
 }
 
 /// Whether the table, the list and the set of names grow at some puts alone, and each body that is copied once more.
 fn are_refused<B: Allocator + Copy>(alloc: B, state: RandomState) -> bool {
-    let Some(given) = refused_growths(alloc, state, true) else {
+    let Some(given) = refused_growths(alloc, state, Way::Given) else {
         return false;
     };
-    let copied = refused_growths(alloc, state, false);
-    given > 3 && given < 240 && copied == Some(given.saturating_add(60))
+    let shared = refused_growths(alloc, state, Way::Shared);
+    let copied = refused_growths(alloc, state, Way::Copied);
+    given > 3 && given < 240 && shared == Some(given) && copied == Some(given.saturating_add(60))
 }
 
 #[test]

@@ -14,5 +14,5 @@ returns-in_err-object g c =
 pub returns : goal.returns
 returns g c =
     let n = c.args.name.now in
-    rw c.as_slice.ensures.value (ap (λ o. option_map object_of (option_map (under n) o)) c.in_ok-object.ensures.value
+    rw c.as_slice.ensures (ap (λ o. option_map object_of (option_map (under n) o)) c.in_ok-object.ensures.value
     ∙ ap (option_map object_of) (sym (found n c.self.inside.objects.entries)) ∙ ap (λ v. option_map object_of (record_named v.1 n.bytes)) c.self.view_is)

@@ -5,5 +5,5 @@ use Rattle.gx_store.proofs.store.Store.record.Goals as goal
 
 pub returns : goal.returns
 returns g c =
-    rw c.as_slice.ensures.value (ap (option_map held) c.in_ok-name.ensures.entry ∙ sym (slice_get-map held c.self.inside.objects.entries c.args.place)
+    rw c.as_slice.ensures (ap (option_map held) c.in_ok-name.ensures.entry ∙ sym (slice_get-map held c.self.inside.objects.entries c.args.place)
     ∙ ap (λ v. slice_get v.1 c.args.place) c.self.view_is)

@@ -15,7 +15,7 @@ invariant_of-self g c = (c.loop-self.invariant.1, c.loop-self.invariant.2)
 pub loop-self-preserved-in-Some : goal.loop-self-preserved-in-Some
 loop-self-preserved-in-Some g c =
     let n = c.in-Some.name in
-    let object = c.in-Some.field-0-1 in
+    let object = c.in-Some.object in
     let es = c.pop.new.self.entries in
     let rs = map held es in
     let popped = ap (map held) c.in-Some.ensures.entries ∙ map_push held es (n, object) in

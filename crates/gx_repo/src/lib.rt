@@ -5,13 +5,14 @@
 mod checking;
 mod earlier;
 mod fault;
+mod given;
 mod publishing;
 mod refs;
 mod repo;
 mod rooms;
 
 pub use fault::{AddFault, OutOfMemory, PublishFault};
-pub use gx_store::StoreFault;
+pub use gx_store::{StoreFault, Text};
 pub use publishing::RefChange;
 pub use refs::Refs;
 pub use repo::Repo;

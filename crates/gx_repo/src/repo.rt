@@ -1,6 +1,6 @@
 //! Repositories: a store of objects, and refs that hold some of them.
-ghost use Rattle.std.specs.Prelude.{◌⊎◌, ◌≡◌, [], map, take, Some, None, IsTrue, IfOk, IfErr, IsOkAnd, OnOk, OnErr};
-ghost use Rattle.std.specs.List.{AllByRecursion};
+ghost use Rattle.std.specs.Prelude.{◌⊎◌, ◌≡◌, ◌≤◌, [], length, map, take, Some, None, IsTrue, IfOk, IfErr, IsOkAnd, OnOk, OnErr};
+ghost use Rattle.std.specs.List.{AllByRecursion, slice_range};
 ghost use Rattle.std.specs.Map.{lookup};
 ghost use Rattle.std.specs.Option.{option_map};
 ghost use Rattle.gx_model.specs.declared.objects.Kind.TheVariants as kinds;
@@ -28,12 +28,14 @@ ghost use Rattle.gx_repo.specs.Additions.{Adds, AddsAll, HasValues, IsWriteFault
 ghost use Rattle.gx_repo.specs.Publishing.{fault_of};
 ghost use Rattle.gx_model.specs.Publishing.{change_fault, changes_fault, published};
 ghost use Rattle.gx_repo.specs.Records.{AddsRecord, add_fault};
+ghost use Rattle.gx_repo.specs.GivenBytes.{IsInText, bytes_given};
 ghost use Rattle.gx_repo.specs.Refs.{asked, kept};
 ghost use Rattle.gx_repo.specs.Rooms.{room_of};
 
 use crate::checking::checked_room;
 use crate::earlier::Hints;
 use crate::fault::{AddFault, OutOfMemory, PublishFault};
+use crate::given::Given;
 use crate::publishing::{RefChange, are_held, set_objects, with_changes};
 use crate::refs::{Ref, Refs, find_by_names, find_near};
 use crate::rooms::enter_rooms;
@@ -42,7 +44,7 @@ use gx_model::repository_laws::{
 };
 use gx_model::store_laws::records_are_taken;
 use gx_object::{CommitParts, Kind, Name, Namer, TagParts, decode_tag, encode_commit, encode_tag};
-use gx_store::{Store, StoreFault};
+use gx_store::{Store, StoreFault, Text};
 use gx_text::is_ref_name;
 use gx_tree::{PathTree, TreeFault};
 use std::alloc::Allocator;
@@ -162,7 +164,7 @@ impl<N: Namer, A: Allocator + Copy> Repo<N, A> {
         ensures held { IfOk result (λ name. Holds self.new.1.records kinds.Blob name.bytes) }
         ensures keeps { Keeps self.old.1.records self.new.1.records }
     {
-        self.add(Kind::Blob, body, 0)
+        self.add(Kind::Blob, &Given::Copied(body), 0)
     }
 
     /// Does what `add_blob` does, but takes no copy of the bytes: the repository keeps these, or drops them where the blob
@@ -266,7 +268,7 @@ impl<N: Namer, A: Allocator + Copy> Repo<N, A> {
         let Ok(body) = encode_commit(self.alloc, parts) else {
             return Err(StoreFault::OutOfMemory);
         };
-        self.add(Kind::Commit, &body, 0)
+        self.add(Kind::Commit, &Given::Copied(&body), 0)
     }
 
     /// Adds a tag whose commit is held, and answers its name. One that is held already is not added again.
@@ -287,7 +289,7 @@ impl<N: Namer, A: Allocator + Copy> Repo<N, A> {
         let Ok(body) = encode_tag(self.alloc, parts) else {
             return Err(StoreFault::OutOfMemory);
         };
-        self.add(Kind::Tag, &body, 0)
+        self.add(Kind::Tag, &Given::Copied(&body), 0)
     }
 
     /// Adds a record of which nothing is known, and answers its name.
@@ -306,18 +308,29 @@ impl<N: Namer, A: Allocator + Copy> Repo<N, A> {
         ensures refs { self.new.1.refs ≡ self.old.1.refs }
         ensures history { IfOk result (λ _. HasValues self.old.1 self.new.1 (with_one (values_of self.old.1) (value_in (named_values self.old.1.records) kind body.now))) }
     {
-        records_are_taken();
-        let room = self.room_of(kind, body)?;
-        let held = self.store.len();
-        let name = match self.add(kind, body, room) {
-            Ok(name) => name,
-            Err(StoreFault::NameHeld) => return Err(AddFault::DuplicateObject),
-            Err(StoreFault::OutOfMemory) => return Err(AddFault::OutOfMemory),
-        };
-        if self.store.len() == held {
-            return Err(AddFault::DuplicateObject);
-        }
-        Ok(name)
+        self.add_given(kind, &Given::Copied(body))
+    }
+
+    /// Does what `add_record` does with the bytes of a text from one place up to another, but takes no copy of them: the
+    /// repository shares the text.
+    ///
+    /// The errors are those of `add_record`. Cost: that of `Store::put_within`, and otherwise that of `add_record`. Source:
+    /// Pro Git, "Git Objects".
+    pub fn add_record_within(
+        &mut self,
+        kind: Kind,
+        text: &Text<A>,
+        start: usize,
+        end: usize,
+    ) -> Result<Name, AddFault>
+        requires ordered { start ≤ end }
+        requires within { end ≤ length text.now }
+        ensures namer { self.new.0 ≡ self.old.0 }
+        ensures adds { AddsRecord self.old.1.records self.new.1.records (record_for (N.name_of self.old.0) kind (slice_range text.now start end)) result }
+        ensures refs { self.new.1.refs ≡ self.old.1.refs }
+        ensures history { IfOk result (λ _. HasValues self.old.1 self.new.1 (with_one (values_of self.old.1) (value_in (named_values self.old.1.records) kind (slice_range text.now start end)))) }
+    {
+        self.add_given(kind, &Given::Within(text, start, end))
     }
 
     /// Sets all of these refs, or none. A later change of one name wins, and refs that are not named stay.
@@ -357,6 +370,28 @@ impl<N: Namer, A: Allocator + Copy> Repo<N, A> {
         self.rooms.truncate(len);
     }
 
+    /// Adds a record of which nothing is known.
+    fn add_given(&mut self, kind: Kind, given: &Given<'_, A>) -> Result<Name, AddFault>
+        requires in_text { IsInText given.now }
+        ensures namer { self.new.0 ≡ self.old.0 }
+        ensures adds { AddsRecord self.old.1.records self.new.1.records (record_for (N.name_of self.old.0) kind (bytes_given given.now)) result }
+        ensures refs { self.new.1.refs ≡ self.old.1.refs }
+        ensures history { IfOk result (λ _. HasValues self.old.1 self.new.1 (with_one (values_of self.old.1) (value_in (named_values self.old.1.records) kind (bytes_given given.now)))) }
+    {
+        records_are_taken();
+        let room = self.room_of(kind, given.as_slice())?;
+        let held = self.store.len();
+        let name = match self.add(kind, given, room) {
+            Ok(name) => name,
+            Err(StoreFault::NameHeld) => return Err(AddFault::DuplicateObject),
+            Err(StoreFault::OutOfMemory) => return Err(AddFault::OutOfMemory),
+        };
+        if self.store.len() == held {
+            return Err(AddFault::DuplicateObject);
+        }
+        Ok(name)
+    }
+
     /// The room of what is below an object, or what its body has against it. The rooms of all records are entered before,
     /// and the place at which a tree is to stand behind.
     fn room_of(&mut self, kind: Kind, body: &[u8]) -> Result<usize, AddFault>
@@ -379,22 +414,23 @@ impl<N: Namer, A: Allocator + Copy> Repo<N, A> {
     }
 
     /// Puts an object whose links are held, with the room of what is below it where all before it have theirs.
-    fn add(&mut self, kind: Kind, body: &[u8], room: usize) -> Result<Name, StoreFault>
-        requires linked { IsLinked self.now.1.records kind body.now }
-        requires short { HasShortPaths self.now.1.records (record_for (N.name_of self.now.0) kind body.now) }
-        requires room { room ≡ room_of (value_in (named_values self.now.1.records) kind body.now) }
+    fn add(&mut self, kind: Kind, given: &Given<'_, A>, room: usize) -> Result<Name, StoreFault>
+        requires in_text { IsInText given.now }
+        requires linked { IsLinked self.now.1.records kind (bytes_given given.now) }
+        requires short { HasShortPaths self.now.1.records (record_for (N.name_of self.now.0) kind (bytes_given given.now)) }
+        requires room { room ≡ room_of (value_in (named_values self.now.1.records) kind (bytes_given given.now)) }
         ensures namer { self.new.0 ≡ self.old.0 }
-        ensures adds { Adds self.old.1.records self.new.1.records (record_for (N.name_of self.old.0) kind body.now) result }
+        ensures adds { Adds self.old.1.records self.new.1.records (record_for (N.name_of self.old.0) kind (bytes_given given.now)) result }
         ensures refs { self.new.1.refs ≡ self.old.1.refs }
-        ensures history { IfOk result (λ _. HasValues self.old.1 self.new.1 (with_one (values_of self.old.1) (value_in (named_values self.old.1.records) kind body.now))) }
-        ensures value { IfOk result (λ name. name.bytes ≡ name_of (N.name_of self.old.0) (value_in (named_values self.old.1.records) kind body.now)) }
+        ensures history { IfOk result (λ _. HasValues self.old.1 self.new.1 (with_one (values_of self.old.1) (value_in (named_values self.old.1.records) kind (bytes_given given.now)))) }
+        ensures value { IfOk result (λ name. name.bytes ≡ name_of (N.name_of self.old.0) (value_in (named_values self.old.1.records) kind (bytes_given given.now))) }
         ensures held { IfOk result (λ name. Holds self.new.1.records kind name.bytes) }
         ensures keeps { Keeps self.old.1.records self.new.1.records }
     {
         links_tell_values();
         puts_add_values();
         let held = self.store.len();
-        let name = self.store.put(kind, body)?;
+        let name = given.put(&mut self.store, kind)?;
         if self.store.len() == held {
             return Ok(name);
         }

@@ -172,6 +172,43 @@ const GIVEN: Session = Session {
     after: &[],
 };
 
+/// Records are added within texts, of which the repository is the last owner.
+const WITHIN: Session = Session {
+    before: &[],
+    rows: &[
+        (
+            Call::Within(
+                Kind::Tree,
+                b"100644 test.txt\0\x83\xba\xaea\x80Ne\xccs\xa7 \x1arRu\x0cv\x06j0",
+                0,
+                36,
+            ),
+            Answer::Dangling,
+        ),
+        (
+            Call::Within(Kind::Blob, b"(version 1\n)", 1, 11),
+            Answer::Named(VERSION_1),
+        ),
+        (
+            Call::Within(Kind::Blob, b"version 1\n", 0, 10),
+            Answer::DuplicateObject,
+        ),
+        (Call::Blob(b"version 1\n"), Answer::Named(VERSION_1)),
+        (Call::Within(Kind::Tree, b"tree", 0, 4), Answer::BadObject),
+        (
+            Call::Within(
+                Kind::Tree,
+                b"\n100644 test.txt\0\x83\xba\xaea\x80Ne\xccs\xa7 \x1arRu\x0cv\x06j0\n",
+                1,
+                37,
+            ),
+            Answer::Named(FIRST_TREE),
+        ),
+        (Call::Objects, Answer::Counted(2)),
+    ],
+    after: &[],
+};
+
 /// The first objects alone are kept.
 const CUT: Session = Session {
     before: &[],
@@ -252,6 +289,19 @@ const GIVING: Session = Session {
     ],
 };
 
+/// A text is shared.
+const SHARING: Session = Session {
+    before: &[],
+    rows: &[(
+        Call::Within(Kind::Blob, b"(blob)", 1, 5),
+        Answer::Named(BLOB),
+    )],
+    after: &[
+        (Call::Objects, Answer::Counted(0)),
+        (Call::Refs(&[]), Answer::Yes),
+    ],
+};
+
 #[test]
 fn trees_have_gits_names(rt: HostRuntime) -> Result<(), Fail> {
     let state = RandomState::new(&rt)?;
@@ -301,6 +351,12 @@ fn given_bytes_are_added_as_a_blob(rt: HostRuntime) -> Result<(), Fail> {
 }
 
 #[test]
+fn records_are_added_within_texts(rt: HostRuntime) -> Result<(), Fail> {
+    let state = RandomState::new(&rt)?;
+    follow(rt.alloc(), Sha1Namer, state, &WITHIN)
+}
+
+#[test]
 fn truncated_repositories_keep_their_first_objects(rt: HostRuntime) -> Result<(), Fail> {
     let state = RandomState::new(&rt)?;
     follow(rt.alloc(), Sha1Namer, state, &CUT)
@@ -310,5 +366,6 @@ fn truncated_repositories_keep_their_first_objects(rt: HostRuntime) -> Result<()
 fn refused_growths_change_nothing(rt: HostRuntime) -> Result<(), Fail> {
     let state = RandomState::new(&rt)?;
     refuse_each(rt.alloc(), state, &GROWING, 1)?;
-    refuse_each(rt.alloc(), state, &GIVING, 2)
+    refuse_each(rt.alloc(), state, &GIVING, 2)?;
+    refuse_each(rt.alloc(), state, &SHARING, 2)
 }

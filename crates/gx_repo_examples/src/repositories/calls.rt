@@ -1,13 +1,13 @@
 //! The calls of a repository, and what each answers.
 
-ghost use Rattle.std.specs.Prelude.{IfOk, IsTrue, map};
+ghost use Rattle.std.specs.Prelude.{◌≤◌, IfOk, IsTrue, length, map};
 ghost use Rattle.std.specs.List.{AllByRecursion};
 ghost use Rattle.gx_model.specs.declared.objects.Kind.TheVariants as kinds;
 ghost use Rattle.gx_model.specs.Sound.{Holds, IsNamedMap, Keeps};
 ghost use Rattle.gx_tree.specs.Named.{IsAtHome};
 
 use gx_object::{CommitParts, Kind, Mode, Name, Namer, TagParts};
-use gx_repo::{AddFault, PublishFault, RefChange, Repo, StoreFault};
+use gx_repo::{AddFault, PublishFault, RefChange, Repo, StoreFault, Text};
 use gx_text::{Ident, TreePath};
 use gx_tree::{PathTree, records_keep_home};
 use std::alloc::{AllocError, Allocator};
@@ -24,6 +24,8 @@ pub(super) enum Call<'a> {
     Give(&'a [u8]),
     /// A record of which nothing is known is added.
     Record(Kind, &'a [u8]),
+    /// The same of the bytes of a text from a place up to another; the text's other owner goes.
+    Within(Kind, &'a [u8], usize, usize),
     /// The record of a tree with one entry is added: its mode, the byte that its component repeats, how often, its object.
     Entry(&'a [u8], u8, usize, Name),
     /// A commit in another encoding is added, with this tree and these parents.
@@ -144,6 +146,60 @@ fn add_record<N: Namer, A: Allocator + Copy>(
     ensures keeps { Keeps repo.old.1.records repo.new.1.records }
 {
     recorded(repo.add_record(kind, body))
+}
+
+/// A text of these bytes.
+fn text_of<A: Allocator + Copy>(alloc: A, bytes: &[u8]) -> Result<Text<A>, AllocError> {
+    Text::new(alloc, Vec::from_slice(alloc, bytes)?)
+}
+
+/// Adds a record within a text.
+fn add_range<N: Namer, A: Allocator + Copy>(
+    repo: &mut Repo<N, A>,
+    kind: Kind,
+    text: &Text<A>,
+    start: usize,
+    end: usize,
+) -> Answer
+    requires ordered { start ≤ end }
+    requires within { end ≤ length text.now }
+    ensures keeps { Keeps repo.old.1.records repo.new.1.records }
+{
+    recorded(repo.add_record_within(kind, text, start, end))
+}
+
+/// Adds a record within a text, of which the repository is the last owner, where the text has these places.
+fn add_within<N: Namer, A: Allocator + Copy>(
+    repo: &mut Repo<N, A>,
+    kind: Kind,
+    text: Text<A>,
+    start: usize,
+    end: usize,
+) -> Answer
+    ensures keeps { Keeps repo.old.1.records repo.new.1.records }
+{
+    if start <= end && end <= text.as_slice().len() {
+        add_range(repo, kind, &text, start, end)
+    } else {
+        Answer::NoCall
+    }
+}
+
+/// Adds a record within a text of these bytes.
+fn share_record<N: Namer, A: Allocator + Copy>(
+    alloc: A,
+    repo: &mut Repo<N, A>,
+    kind: Kind,
+    bytes: &[u8],
+    start: usize,
+    end: usize,
+) -> Answer
+    ensures keeps { Keeps repo.old.1.records repo.new.1.records }
+{
+    match text_of(alloc, bytes) {
+        Ok(text) => add_within(repo, kind, text, start, end),
+        Err(_) => Answer::OutOfMemory,
+    }
 }
 
 /// The body of a tree with one entry.
@@ -304,6 +360,9 @@ fn kept<N: Namer, A: Allocator + Copy>(alloc: A, repo: &mut Repo<N, A>, call: Ca
         Call::Blob(body) => add_blob(repo, body),
         Call::Give(body) => give_blob(alloc, repo, body),
         Call::Record(kind, body) => add_record(repo, kind, body),
+        Call::Within(kind, bytes, start, end) => {
+            share_record(alloc, repo, kind, bytes, start, end)
+        }
         Call::Entry(mode, byte, length, name) => {
             add_entry(alloc, repo, mode, byte, length, &name)
         }

@@ -9,3 +9,4 @@ pub mod StoredTexts
 pub mod StoreTexts
 pub mod SentTexts
 pub mod SentStores
+pub mod LeftTexts

@@ -2,6 +2,7 @@
 //! What is read is a sound repository, and its text is the one that was read.
 #![tactic(auto)]
 
+mod bodies;
 mod fault;
 mod lines;
 mod reading;
@@ -11,7 +12,7 @@ mod sending;
 mod writing;
 
 pub use fault::FileFault;
-pub use gx_repo::OutOfMemory;
-pub use reading::read;
+pub use gx_repo::{OutOfMemory, Text};
+pub use reading::{read, read_text};
 pub use sending::write_to;
 pub use writing::write;

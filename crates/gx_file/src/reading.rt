@@ -4,14 +4,16 @@ ghost use Rattle.gx_model.specs.StoreReading.{store_of};
 ghost use Rattle.gx_model.specs.StoreText.{IsStoreText};
 ghost use Rattle.gx_file.specs.declared.fault.FileFault.TheVariants as fault;
 ghost use Rattle.gx_file.specs.Faults.{IsNoStoreText, Reads};
+ghost use Rattle.gx_file.specs.TextEnds.{IsEndOfText};
 
 use crate::FileFault;
+use crate::bodies::Bodies;
 use crate::lines::{read_count, read_end, read_magic};
 use crate::records::read_records;
 use crate::refs::read_refs;
 use gx_model::store_laws::stores_are_read;
 use gx_object::Namer;
-use gx_repo::Repo;
+use gx_repo::{Repo, Text};
 use std::alloc::Allocator;
 use std::hash::RandomState;
 
@@ -34,7 +36,26 @@ pub fn read<N: Namer + Drop, A: Allocator + Copy>(
     ensures refused { IfErr result (λ why. why ≢ fault.OutOfMemory → IsNoStoreText (N.name_of namer) text.now) }
 {
     stores_are_read();
-    read_store(alloc, namer, text, state)
+    read_store(alloc, namer, &Bodies::Copied, text, state)
+}
+
+/// Does what `read` does, but takes no copy of the bodies: the repository shares the text, and each record is a range of it.
+///
+/// The faults are those of `read`, in the same order. Cost: that of `read`. Memory: the text for as long as one of its
+/// records is held; and what a record takes beside its body, and the refs that were read.
+pub fn read_text<N: Namer + Drop, A: Allocator + Copy>(
+    alloc: A,
+    namer: N,
+    text: Text<A>,
+    state: RandomState,
+) -> Result<Repo<N, A>, FileFault>
+    ensures namer { IfOk result (λ repo. repo.0 ≡ namer) }
+    ensures store { Reads (λ repo. repo.1) result (store_of (N.name_of namer) text) }
+    ensures text { IfOk result (λ repo. IsStoreText text repo.1) }
+    ensures refused { IfErr result (λ why. why ≢ fault.OutOfMemory → IsNoStoreText (N.name_of namer) text) }
+{
+    stores_are_read();
+    read_store(alloc, namer, &Bodies::Within(&text), text.as_slice(), state)
 }
 
 /// The repository of a store text, line by line.
@@ -42,16 +63,18 @@ pub fn read<N: Namer + Drop, A: Allocator + Copy>(
 fn read_store<N: Namer + Drop, A: Allocator + Copy>(
     alloc: A,
     namer: N,
+    bodies: &Bodies<'_, A>,
     text: &[u8],
     state: RandomState,
 ) -> Result<Repo<N, A>, FileFault>
+    requires left { IsEndOfText bodies.now text.now }
     ensures namer { IfOk result (λ repo. repo.0 ≡ namer) }
     ensures store { Reads (λ repo. repo.1) result (store_of (N.name_of namer) text.now) }
 {
     let (version, rest) = read_magic(text)?;
     let (objects, rest) = read_count(b"objects", rest)?;
     let mut repo = Repo::new(alloc, namer, state);
-    let rest = read_records(&mut repo, version, objects, rest)?;
+    let rest = read_records(&mut repo, bodies, version, objects, rest)?;
     let (refs, rest) = read_count(b"refs", rest)?;
     let rest = read_refs(alloc, &mut repo, refs, rest)?;
     read_end(rest)?;

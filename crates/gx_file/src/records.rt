@@ -1,14 +1,16 @@
 //! The records of a store text. Source: this project's own format.
-ghost use Rattle.std.specs.Prelude.{◌≡◌};
+ghost use Rattle.std.specs.Prelude.{◌≡◌, ◌++◌, ◌∷◌, IfOk};
 ghost use Rattle.std.specs.Map.{lookup};
 ghost use Rattle.std.specs.Option.{option_map};
 ghost use Rattle.gx_model.specs.declared.store_faults.FileFault.TheVariants as model;
 ghost use Rattle.gx_model.specs.Texts.{same_bytes};
 ghost use Rattle.gx_model.specs.StoreReading.{is_named, kind_words, length_field, next_record, next_records, record_line, stored_body, unless, with_record};
 ghost use Rattle.gx_file.specs.Faults.{NeedsNoMemory, Reads};
+ghost use Rattle.gx_file.specs.TextEnds.{IsEndOfText};
 ghost use Rattle.gx_file.specs.Texts.{shown_heading, shown_length, shown_name, shown_pair};
 
 use crate::FileFault;
+use crate::bodies::Bodies;
 use crate::lines::{read_line, read_number};
 use gx_model::Version;
 use gx_object::{Kind, Name, Namer};
@@ -19,17 +21,19 @@ use std::alloc::Allocator;
 /// Adds the records that come next, so many of them, and answers what follows them.
 pub(crate) fn read_records<'a, N: Namer, A: Allocator + Copy>(
     repo: &mut Repo<N, A>,
+    bodies: &Bodies<'_, A>,
     version: Version,
     count: u64,
     text: &'a [u8],
 ) -> Result<&'a [u8], FileFault>
+    requires left { IsEndOfText bodies.now text.now }
     ensures namer { repo.new.0 ≡ repo.old.0 }
     ensures refs { repo.new.1.refs ≡ repo.old.1.refs }
     ensures records { Reads (λ rest. (repo.new.1.records, rest.now)) result (next_records (N.name_of repo.old.0) version count repo.old.1.records text.now) }
 {
     let mut rest = text;
     for _ in 0..count {
-        rest = read_record(repo, version, rest)?;
+        rest = read_record(repo, bodies, version, rest)?;
     }
     Ok(rest)
 }
@@ -37,36 +41,43 @@ pub(crate) fn read_records<'a, N: Namer, A: Allocator + Copy>(
 /// Adds the record that comes next, and answers what follows it.
 fn read_record<'a, N: Namer, A: Allocator + Copy>(
     repo: &mut Repo<N, A>,
+    bodies: &Bodies<'_, A>,
     version: Version,
     text: &'a [u8],
 ) -> Result<&'a [u8], FileFault>
+    requires left { IsEndOfText bodies.now text.now }
     ensures namer { repo.new.0 ≡ repo.old.0 }
     ensures refs { repo.new.1.refs ≡ repo.old.1.refs }
     ensures record { Reads (λ rest. (repo.new.1.records, rest.now)) result (next_record (N.name_of repo.old.0) version repo.old.1.records text.now) }
+    ensures left { IfOk result (λ rest. IsEndOfText bodies.now rest.now) }
 {
     let (line, rest) = read_line(text)?;
     let Some((kind, (length, stated))) = record_line(version, line) else {
         return Err(FileFault::BadRecord);
     };
     let (body, rest) = read_body(length, rest)?;
-    add(repo, stated, kind, body)?;
+    add(repo, bodies, stated, kind, body, rest)?;
     Ok(rest)
 }
 
-/// Adds a record of which nothing is known, and which has the name that is stated, where one is.
+/// Adds a record of which nothing is known, in front of what is left of the text, and which has the name that is stated,
+/// where one is.
 ///
 /// Adding a record makes its name. So only one that is refused is named here again, to tell which of its faults is first.
 fn add<N: Namer, A: Allocator + Copy>(
     repo: &mut Repo<N, A>,
+    bodies: &Bodies<'_, A>,
     stated: Option<Name>,
     kind: Kind,
     body: &[u8],
+    rest: &[u8],
 ) -> Result<(), FileFault>
+    requires left { IsEndOfText bodies.now (body.now ++ 10 ∷ rest.now) }
     ensures namer { repo.new.0 ≡ repo.old.0 }
     ensures refs { repo.new.1.refs ≡ repo.old.1.refs }
     ensures record { Reads (λ _. repo.new.1.records) result (with_record (N.name_of repo.old.0) repo.old.1.records (shown_name stated) kind body.now) }
 {
-    match repo.add_record(kind, body) {
+    match bodies.add_record(repo, kind, body, rest) {
         Ok(name) => check_name(stated, &name),
         Err(AddFault::OutOfMemory) => Err(FileFault::OutOfMemory),
         Err(fault) => {

@@ -1,6 +1,6 @@
 ghost use Rattle.std.specs.Prelude.{◌<◌, length};
 
-use gx_file::{FileFault, OutOfMemory, read, write, write_to};
+use gx_file::{FileFault, OutOfMemory, Text, read, read_text, write, write_to};
 use gx_model::Version;
 use gx_object::Sha1Namer;
 use gx_refusing::Refusing;
@@ -88,6 +88,32 @@ fn fault_in<A: Allocator + Copy>(alloc: A, text: &[u8], state: RandomState) -> O
     read(alloc, Sha1Namer, text, state).err()
 }
 
+/// A text of these bytes.
+fn text_of<A: Allocator + Copy>(alloc: A, bytes: &[u8]) -> Result<Text<A>, AllocError> {
+    Text::new(alloc, Vec::from_slice(alloc, bytes)?)
+}
+
+/// The repository of a text that it shares, and which it alone owns then.
+fn read_shared<A: Allocator + Copy>(
+    alloc: A,
+    text: &[u8],
+    state: RandomState,
+) -> Result<Repo<Sha1Namer, A>, FileFault> {
+    match text_of(alloc, text) {
+        Ok(text) => read_text(alloc, Sha1Namer, text, state),
+        Err(_) => Err(FileFault::OutOfMemory),
+    }
+}
+
+/// Why a text is refused where the repository is to share it.
+fn fault_in_shared<A: Allocator + Copy>(
+    alloc: A,
+    text: &[u8],
+    state: RandomState,
+) -> Option<FileFault> {
+    read_shared(alloc, text, state).err()
+}
+
 /// Whether two repositories have the same objects in the same order, and the same refs.
 fn are_same<A: Allocator + Copy>(one: &Repo<Sha1Namer, A>, other: &Repo<Sha1Namer, A>) -> bool {
     for place in 0..one.store().len() {
@@ -136,6 +162,30 @@ fn texts_are_written_again(rt: HostRuntime) -> Result<(), Fail> {
     for version in [Version::One, Version::Two] {
         let text = whole(rt.alloc(), version)?;
         assert!(rt; is_written_again(rt.alloc(), text.as_slice(), state));
+    }
+    Ok(())
+}
+
+/// Whether a text is read alike where its bodies are copied and where they stay in it.
+fn is_read_alike<A: Allocator + Copy>(alloc: A, text: &[u8], state: RandomState) -> bool {
+    match (
+        read(alloc, Sha1Namer, text, state),
+        read_shared(alloc, text, state),
+    ) {
+        (Ok(repo), Ok(shared)) => are_same(&repo, &shared),
+        _ => false,
+    }
+}
+
+#[test]
+fn shared_texts_are_read_as_copied_ones_are(rt: HostRuntime) -> Result<(), Fail> {
+    let state = RandomState::new(&rt)?;
+    for text in SMALL {
+        assert!(rt; is_read_alike(rt.alloc(), text, state));
+    }
+    for version in [Version::One, Version::Two] {
+        let text = whole(rt.alloc(), version)?;
+        assert!(rt; is_read_alike(rt.alloc(), text.as_slice(), state));
     }
     Ok(())
 }
@@ -243,11 +293,16 @@ fn changed_bits_are_told(rt: HostRuntime) -> Result<(), Fail> {
 fn refused_readings<B: Allocator>(
     heap: &Refusing<B>,
     text: &[u8],
+    is_shared: bool,
     state: RandomState,
 ) -> Option<u64> {
     for growth in 1..1000 {
         heap.arm(growth);
-        let fault = fault_in(heap, text, state);
+        let fault = if is_shared {
+            fault_in_shared(heap, text, state)
+        } else {
+            fault_in(heap, text, state)
+        };
         if heap.is_waiting() {
             heap.arm(0);
             return if fault.is_none() {
@@ -289,8 +344,11 @@ fn refused_growth_is_out_of_memory(rt: HostRuntime) -> Result<(), Fail> {
     let state = RandomState::new(&rt)?;
     let whole = whole(rt.alloc(), Version::Two)?;
     let heap = Refusing::new(rt.alloc(), 0);
-    let readings = refused_readings(&heap, whole.as_slice(), state).unwrap_or(0);
+    let readings = refused_readings(&heap, whole.as_slice(), false, state).unwrap_or(0);
     assert!(rt; readings >= 8);
+    // The text and the count of its owners are two growths, and no body of the four is one.
+    let shared = refused_readings(&heap, whole.as_slice(), true, state);
+    assert!(rt; shared == Some(readings.saturating_sub(2)));
     let writings = refused_writings(&heap, whole.as_slice(), state).unwrap_or(0);
     assert!(rt; writings >= 4);
     Ok(())

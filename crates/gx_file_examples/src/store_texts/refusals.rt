@@ -390,6 +390,7 @@ fn lines_are_refused_for_the_first_fault(rt: HostRuntime) -> Result<(), Fail> {
     let state = RandomState::new(&rt)?;
     for (text, fault) in LINES {
         assert_eq!(rt; fault_in(rt.alloc(), text, state), Some(*fault));
+        assert_eq!(rt; fault_in_shared(rt.alloc(), text, state), Some(*fault));
     }
     Ok(())
 }
@@ -400,6 +401,10 @@ fn named_objects_are_refused_for_the_first_fault(rt: HostRuntime) -> Result<(), 
     for (lines, fault) in NAMED {
         let text = text_behind(rt.alloc(), &[b"gxstore 2\nobjects 2\n"], &[*lines])?;
         assert_eq!(rt; fault_in(rt.alloc(), text.as_slice(), state), Some(*fault));
+        assert_eq!(rt;
+            fault_in_shared(rt.alloc(), text.as_slice(), state),
+            Some(*fault)
+        );
     }
     Ok(())
 }
@@ -410,6 +415,10 @@ fn objects_are_refused_for_the_first_fault(rt: HostRuntime) -> Result<(), Fail> 
     for (parts, fault) in OBJECTS {
         let text = text_behind(rt.alloc(), &[b"gxstore 1\n"], parts)?;
         assert_eq!(rt; fault_in(rt.alloc(), text.as_slice(), state), Some(*fault));
+        assert_eq!(rt;
+            fault_in_shared(rt.alloc(), text.as_slice(), state),
+            Some(*fault)
+        );
     }
     Ok(())
 }
@@ -420,6 +429,10 @@ fn refs_are_refused_for_the_first_fault(rt: HostRuntime) -> Result<(), Fail> {
     for (parts, fault) in REFS {
         let text = text_behind(rt.alloc(), HELD, parts)?;
         assert_eq!(rt; fault_in(rt.alloc(), text.as_slice(), state), Some(*fault));
+        assert_eq!(rt;
+            fault_in_shared(rt.alloc(), text.as_slice(), state),
+            Some(*fault)
+        );
     }
     Ok(())
 }

@@ -15,6 +15,7 @@ pub loop-preserved : goal.loop-preserved
 loop-preserved g c =
     let name = g.N.Namer.name_of c.args.repo.now.0 in
     record {
+      left = c.in_ok-rest.ensures.left;
       namer = c.in_ok-rest.ensures.namer ∙ c.loop.invariant.namer;
       refs = c.in_ok-rest.ensures.refs ∙ c.loop.invariant.refs;
       records = one_read name c.args.version (next_records name c.args.version c.args.count c.args.repo.now.1.records c.args.text.now) c.args.count c.loop.counter c.loop.repo.1.records c.loop.rest.now c.loop.invariant.records

@@ -14,8 +14,7 @@ use Rattle.gx_model.specs.Denotation.{begins_with_digits, is_any_digit, lower}
 use Rattle.gx_model.proofs.NameDigits.{hex_lower, name_found, name_long}
 use Rattle.gx_store.specs.NameOrder.{compare, is_within}
 use Rattle.gx_store.specs.Prefixes.{BeginNone, filled}
-use Rattle.gx_store.proofs.NameOrder.{between, filled_forward, hex_order, within_filled}
-use Rattle.std.specs.Ordering.{is_gt}
+use Rattle.gx_store.proofs.NameOrder.{between, hex_order, within_filled}
 
 map_replicate : (k digit : ℕ) → lower digit ≡ digit → map lower (replicate k digit) ≡ replicate k digit
 map_replicate zero digit e = refl
@@ -100,21 +99,17 @@ not_filled digits digit e h n name = false_from_ne_true _ (λ b. refuted b)
 
 -- ---- where both ends come of it, they are the ends
 
-pub filled_ends : (digits least greatest : Bytes) → filled digits 48 ≡ Some least → filled digits 102 ≡ Some greatest
-    → (is_gt (compare least greatest) ≡ false) × ((n : Bytes) → is_name n ≡ true → is_within least greatest n ≡ begins_with_digits digits n)
-filled_ends digits least greatest l g =
+pub filled_ends : (digits least greatest : Bytes) → filled digits 48 ≡ Some least → filled digits 102 ≡ Some greatest → (n : Bytes) → is_name n ≡ true → is_within least greatest n ≡ begins_with_digits digits n
+filled_ends digits least greatest l g n name =
     let first = filled_digits digits 48 least refl l in
     let last = filled_digits digits 102 greatest refl g in
     let long = length-map digits lower in
-    let short = first.0 in (
-      ap is_gt (sym (hex_order least greatest (bytes least first.2) (bytes greatest last.2))) ∙ (λ i. is_gt (compare (first.1 i) (last.1 i))) ∙ filled_forward (map lower digits) (40 - length digits),
-      (λ n name.
-          let from = hex_order least n (bytes least first.2) (bytes n name) in
-          let to = hex_order greatest n (bytes greatest last.2) (bytes n name) in
-          let forty = name_long n name in
-          (λ i. between (sym from i) (sym to i)) ∙ (λ i. between (compare (first.1 i) (hex n)) (compare (last.1 i) (hex n)))
-          ∙ within_filled (map lower digits) (hex n) (40 - length digits) (omega arith) (hex_lower n (bytes n name))),
-    )
+    let short = first.0 in
+    let from = hex_order least n (bytes least first.2) (bytes n name) in
+    let to = hex_order greatest n (bytes greatest last.2) (bytes n name) in
+    let forty = name_long n name in
+    (λ i. between (sym from i) (sym to i)) ∙ (λ i. between (compare (first.1 i) (hex n)) (compare (last.1 i) (hex n)))
+    ∙ within_filled (map lower digits) (hex n) (40 - length digits) (omega arith) (hex_lower n (bytes n name))
   where
     bytes : (m : Bytes) → is_name m ≡ true → list_all (λ byte. nat_lt byte 256) m ≡ true
     bytes m h = (and_parts (nat_eq (length m) 20) _ h).1

@@ -2,5 +2,8 @@ pub mod Held
 pub mod Keys
 pub mod NameOrder
 pub mod FilledNames
-pub mod Picked
 pub mod Putting
+pub mod Chained
+pub mod Picking
+pub mod FrontOrder
+pub mod Between

@@ -1,7 +1,7 @@
 -- The order of names is that of their digits, and the names that begin with some digits are those between two.
 use Rattle.std.proofs.Common.{◌≡◌, ℕ, zero, suc, ◌+◌, ◌<◌, ◌≤◌, ◌/◌, ◌%◌, Bool, true, false, cond, not, ◌&&◌, refl, sym, ap, ◌∙◌, arith, [], ◌∷◌, ◌++◌, length, ◌⊎◌, inl, inr}
 use Rattle.std.specs.Prelude.{nat_lt, nat_eq, replicate}
-use Rattle.std.specs.Ordering.{nat_cmp, ordering_then, is_le, is_lt, is_gt}
+use Rattle.std.specs.Ordering.{nat_cmp, ordering_then, is_le, is_lt}
 use Rattle.std.specs.declared.cmp.Ordering.{Ordering}
 use Rattle.std.specs.declared.cmp.Ordering.TheVariants.{Less, Equal, Greater}
 use Rattle.std.specs.Cmp.{nat_cmp_is}
@@ -14,7 +14,7 @@ use Rattle.gx_model.specs.Objects.{hex, hex_digit}
 use Rattle.gx_store.specs.NameOrder.{compare, is_within}
 
 -- one number is below another, the same or above it
-compared : (m n : ℕ) → (m < n) ⊎ ((m ≡ n) ⊎ (n < m))
+pub compared : (m n : ℕ) → (m < n) ⊎ ((m ≡ n) ⊎ (n < m))
 compared m n = by (nat_lt m n) (nat_lt n m) refl refl
   where
     by : (b c : Bool) → nat_lt m n ≡ b → nat_lt n m ≡ c → (m < n) ⊎ ((m ≡ n) ⊎ (n < m))
@@ -22,13 +22,13 @@ compared m n = by (nat_lt m n) (nat_lt n m) refl refl
     by false true p q = inr (inr (grind (arith, nat_tests)))
     by false false p q = let above : n ≤ m = grind (arith, nat_tests) in let below : m ≤ n = grind (arith, nat_tests) in inr (inl (omega arith))
 
-is_less : (m n : ℕ) → m < n → nat_cmp m n ≡ Less
+pub is_less : (m n : ℕ) → m < n → nat_cmp m n ≡ Less
 is_less m n h = sym (nat_cmp_is m n Less h)
 
-is_equal : (m n : ℕ) → m ≡ n → nat_cmp m n ≡ Equal
+pub is_equal : (m n : ℕ) → m ≡ n → nat_cmp m n ≡ Equal
 is_equal m n h = sym (nat_cmp_is m n Equal h)
 
-is_greater : (m n : ℕ) → n < m → nat_cmp m n ≡ Greater
+pub is_greater : (m n : ℕ) → n < m → nat_cmp m n ≡ Greater
 is_greater m n h = sym (nat_cmp_is m n Greater h)
 
 -- ---- digits stand in the order of their values
@@ -141,8 +141,3 @@ within_filled (x ∷ xs) (y ∷ ys) k e h =
   where
     same : (m n : ℕ) → m ≡ n → nat_eq m n ≡ true
     same m n e = grind (arith, nat_tests)
-
-pub filled_forward : (xs : Bytes) (k : ℕ) → is_gt (compare (xs ++ replicate k 48) (xs ++ replicate k 102)) ≡ false
-filled_forward [] zero = refl
-filled_forward [] (suc k) = refl
-filled_forward (x ∷ xs) k = ap (λ o. is_gt (ordering_then o (compare (xs ++ replicate k 48) (xs ++ replicate k 102)))) (is_equal x x refl) ∙ filled_forward xs k

@@ -3,3 +3,4 @@ pub mod Prefixes
 pub mod Bodies
 pub mod Objects
 pub mod NameOrder
+pub mod Chains

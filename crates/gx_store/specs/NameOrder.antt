@@ -4,13 +4,9 @@ use Rattle.std.specs.Ordering.{is_le, is_lt, nat_cmp}
 use Rattle.std.specs.declared.cmp.Ordering.{Ordering}
 use Rattle.std.specs.Cmp.Lexicographic.{slice_cmp}
 use Rattle.gx_model.specs.Texts.{Bytes}
-use Rattle.gx_object.specs.declared.name.Name.{Name}
 
 abbrev pub compare : Bytes → Bytes → Ordering
 compare = slice_cmp nat_cmp
-
-abbrev pub compare_names : Name → Name → Ordering
-compare_names name other = compare name.bytes other.bytes
 
 -- from the first to the second, both included
 abbrev pub is_within : Bytes → Bytes → Bytes → Bool

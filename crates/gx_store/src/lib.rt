@@ -4,6 +4,7 @@
 
 mod body;
 mod fault;
+mod fronts;
 mod prefix;
 mod store;
 mod text;

@@ -12,13 +12,13 @@ ghost use Rattle.gx_store.specs.Prefixes.{prefix_of};
 ghost use Rattle.gx_store.specs.Objects.{held};
 
 use crate::body::Body;
+use crate::fronts::Fronts;
 use crate::prefix::names_begun_by;
 use crate::text::Range;
 use crate::{Prefix, StoreFault, Text};
 use gx_object::{Kind, Name, Namer};
 use indexmap::IndexMap;
 use std::alloc::Allocator;
-use std::collections::BTreeSet;
 use std::hash::RandomState;
 use std::marker::Model;
 
@@ -36,7 +36,7 @@ pub(crate) struct Object<A: Allocator> {
 pub struct Store<N: Namer, A: Allocator> {
     namer: N,
     objects: IndexMap<Name, Object<A>, RandomState, A>,
-    names: BTreeSet<Name, A>,
+    fronts: Fronts<A>,
     alloc: A,
 }
 
@@ -47,11 +47,13 @@ impl<N: Namer, A: Allocator> Model for Store<N, A> {
 
     ghost Value = { N × List Record };
 
-    ghost use Rattle.gx_store.specs.Objects.{held, AreNames};
+    ghost use Rattle.gx_store.specs.Objects.{held};
+    ghost use Rattle.gx_store.specs.Chains.{AreFronts};
+    ghost use Rattle.indexmap.specs.IndexMap.{keys};
 
     ghost view = { λ s. (s.namer, map held s.objects.entries) };
 
-    ghost invariant = { λ s. AreHeld (N.name_of s.namer) (map held s.objects.entries) × AreNames s.names.keys (map held s.objects.entries) };
+    ghost invariant = { λ s. AreHeld (N.name_of s.namer) (map held s.objects.entries) × AreFronts s.fronts (keys s.objects) };
 }
 
 impl<N: Namer, A: Allocator + Copy> Store<N, A> {
@@ -62,7 +64,7 @@ impl<N: Namer, A: Allocator + Copy> Store<N, A> {
         Store {
             namer,
             objects: IndexMap::with_hasher(alloc, state),
-            names: BTreeSet::new(alloc),
+            fronts: Fronts::new(alloc),
             alloc,
         }
     }
@@ -88,7 +90,7 @@ impl<N: Namer, A: Allocator + Copy> Store<N, A> {
     ///
     /// OutOfMemory comes only for an object that isn't held, NameHeld only and always where its name is held for
     /// another kind or other bytes; both leave the store as it was.
-    /// Cost: the body's length, and the logarithm of the number of records.
+    /// Cost: the body's length. Where the table grows, the number of records, which is constant on average.
     pub fn put(&mut self, kind: Kind, body: &[u8]) -> Result<Name, StoreFault>
         ensures namer { self.new.0 ≡ self.old.0 }
         ensures puts { Puts self.old.1 self.new.1 (record_for (N.name_of self.old.0) kind body.now) result }
@@ -107,7 +109,7 @@ impl<N: Namer, A: Allocator + Copy> Store<N, A> {
     /// Does what `put` does, but takes no copy of the bytes: it keeps these, or drops them where the object is held
     /// already or isn't put.
     ///
-    /// The errors are those of `put`. Cost: naming the body, and the logarithm of the number of records.
+    /// The errors are those of `put`. Cost: that of `put`, but for the copy.
     pub fn put_owned(&mut self, kind: Kind, body: Vec<u8, A>) -> Result<Name, StoreFault>
         ensures namer { self.new.0 ≡ self.old.0 }
         ensures puts { Puts self.old.1 self.new.1 (record_for (N.name_of self.old.0) kind body.items) result }
@@ -123,7 +125,7 @@ impl<N: Namer, A: Allocator + Copy> Store<N, A> {
     /// Does what `put` does with the bytes of a text from one place up to another, but takes no copy of them: it shares
     /// the text. Where the object is held already or isn't put, the text has no owner more than before.
     ///
-    /// The errors are those of `put`. Cost: naming the body, and the logarithm of the number of records.
+    /// The errors are those of `put`. Cost: that of `put`, but for the copy.
     pub fn put_within(
         &mut self,
         kind: Kind,
@@ -174,13 +176,13 @@ impl<N: Namer, A: Allocator + Copy> Store<N, A> {
 
     /// Keeps the first `len` objects alone, and all where there are no more.
     ///
-    /// Cost: for each object that is dropped, the logarithm of the number of records. Takes no memory.
+    /// Cost: the number of objects that are dropped. Takes no memory.
     pub fn truncate(&mut self, len: usize)
         ensures { self.new ≡ (self.old.0, take len self.old.1) }
     {
         while self.objects.len() > len {
             if let Some((name, object)) = self.objects.pop() {
-                self.names.remove(&name);
+                self.fronts.pop(&name);
                 drop(object);
             }
         }
@@ -189,22 +191,16 @@ impl<N: Namer, A: Allocator + Copy> Store<N, A> {
     /// The name that begins with these digits, of either case. An empty prefix begins every name, while more than 40
     /// digits, or any byte that is no digit, begin none.
     ///
-    /// Cost: the logarithm of the number of records. Takes no memory. Source: gitrevisions(7), "sha1".
+    /// Cost: the records whose fronts are near to those that the digits begin, up to the second that they begin, which
+    /// is constant, as expected of names, for digits that tell the records apart. Takes no memory.
+    /// Source: gitrevisions(7), "sha1".
     pub fn by_prefix(&self, digits: &[u8]) -> Prefix
         ensures { result ≡ prefix_of (records_begun_by self.now.1 digits.now) }
     {
-        let names = &self.names;
-        let Some((least, greatest)) = names_begun_by(digits) else {
-            return Prefix::Absent;
-        };
-        let mut begun = names.range(least..=greatest);
-        let Some(name) = begun.next() else {
-            return Prefix::Absent;
-        };
-        let None = begun.next() else {
-            return Prefix::Ambiguous;
-        };
-        Prefix::Unique(*name)
+        match names_begun_by(digits) {
+            Some(ends) => self.fronts.between(&self.objects, &ends),
+            None => Prefix::Absent,
+        }
     }
 
     /// Whether an object is held under its name. `NameHeld`: the name is held for another kind or other bytes.
@@ -228,16 +224,14 @@ impl<N: Namer, A: Allocator + Copy> Store<N, A> {
         ensures namer { self.new.0 ≡ self.old.0 }
         ensures puts { Puts self.old.1 self.new.1 (held (name, object)) result }
     {
-        let Ok(_) = self.names.insert(name) else {
+        let Ok(()) = self.fronts.reserve(self.alloc, &self.objects) else {
             return Err(StoreFault::OutOfMemory);
         };
-        match self.objects.insert(name, object) {
-            Ok(_) => Ok(name),
-            Err(_) => {
-                self.names.remove(&name);
-                Err(StoreFault::OutOfMemory)
-            }
-        }
+        let Ok(_) = self.objects.insert(name, object) else {
+            return Err(StoreFault::OutOfMemory);
+        };
+        self.fronts.put(&name);
+        Ok(name)
     }
 }
 

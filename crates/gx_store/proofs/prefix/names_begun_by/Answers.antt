@@ -11,6 +11,4 @@ pub returns-in_err-greatest-clause-none : goal.returns-in_err-greatest-clause-no
 returns-in_err-greatest-clause-none c = subst (λ r. IfNone r (BeginNone c.args.digits.now)) (sym c.from_residual-in_err-greatest.ensures) (not_filled c.args.digits.now 102 refl (sym c.in_err-greatest.ensures))
 
 pub returns-clause-within : goal.returns-clause-within
-returns-clause-within c =
-    let ends = filled_ends c.args.digits.now c.in_ok-least.least.bytes c.in_ok-greatest.greatest.bytes (sym c.in_ok-least.ensures) (sym c.in_ok-greatest.ensures) in
-    record { forward = ends.0; between = ends.1 }
+returns-clause-within c = filled_ends c.args.digits.now c.in_ok-least.least.bytes c.in_ok-greatest.greatest.bytes (sym c.in_ok-least.ensures) (sym c.in_ok-greatest.ensures)

@@ -1,0 +1,194 @@
+//! Names found by their fronts, without the names that begin otherwise.
+
+ghost use Rattle.std.specs.Prelude.{◌≡◌, ◌<◌, ◌≤◌, [], ◌∷◌, ◌++◌, List, length, OnOk, IfOk, IsTrue, ◌&&◌, vec_len, vec_capacity};
+ghost use Rattle.std.specs.List.{list_all};
+ghost use Rattle.indexmap.specs.IndexMap.{index_map_len, keys};
+ghost use Rattle.gx_model.specs.Objects.{is_name};
+ghost use Rattle.gx_object.specs.declared.name.Name.{Name};
+ghost use Rattle.gx_store.specs.Chains.{AreFronts, chain_of, front, is_in};
+ghost use Rattle.gx_store.specs.NameOrder.{is_within};
+ghost use Rattle.gx_store.specs.Prefixes.{joined, picked};
+
+use crate::Prefix;
+use gx_object::Name;
+use indexmap::IndexMap;
+use std::alloc::{AllocError, Allocator};
+use std::hash::RandomState;
+
+/// The places of names, each in the chain of its name's front, from the last one back.
+///
+/// There are as many chains as names or more, and they are in the order of the fronts.
+#[derive(Drop)]
+pub(crate) struct Fronts<A: Allocator> {
+    /// For each chain how many names there are up to its last one, or 0 where it has none.
+    heads: Vec<usize, A>,
+    /// For each name the same of its chain as the names before it are.
+    next: Vec<usize, A>,
+}
+
+impl<A: Allocator + Copy> Fronts<A> {
+    /// No chain. Takes no memory.
+    pub(crate) fn new(alloc: A) -> Fronts<A>
+        ensures { AreFronts result [] }
+    {
+        Fronts {
+            heads: Vec::new(alloc),
+            next: Vec::new(alloc),
+        }
+    }
+
+    /// Makes room for one name more: where there are as many names as chains, twice as many chains.
+    ///
+    /// Cost: constant, but the number of names where the chains are made anew, which is at most every other time that
+    /// as many names came as there were.
+    pub(crate) fn reserve<V>(
+        &mut self,
+        alloc: A,
+        names: &IndexMap<Name, V, RandomState, A>,
+    ) -> Result<(), AllocError>
+        requires { AreFronts self.old (keys names.now) }
+        ensures fronts { AreFronts self.new (keys names.now) }
+        ensures room { OnOk result (index_map_len names.now < length self.new.heads.items) }
+    {
+        if names.len() < self.heads.len() {
+            return Ok(());
+        }
+        *self = Fronts::of(alloc, names, names.len().max(4) * 2)?;
+        Ok(())
+    }
+
+    /// Puts the name that comes behind the others.
+    pub(crate) fn put(&mut self, name: &Name)
+        requires chains { vec_len self.old.next < vec_len self.old.heads }
+        requires room { vec_len self.old.heads ≤ vec_capacity self.old.next }
+        ensures fronts { (names : List Name) → AreFronts self.old names → AreFronts self.new (names ++ name.now ∷ []) }
+        ensures chains { length self.new.heads.items ≡ length self.old.heads.items }
+    {
+        let chain = chain_of(name, self.heads.len());
+        self.next.push_reserved(self.heads[chain]);
+        self.heads[chain] = self.next.len();
+    }
+
+    /// Drops the last name.
+    pub(crate) fn pop(&mut self, name: &Name)
+        requires { 0 < vec_len self.old.heads }
+        ensures { (names : List Name) → AreFronts self.old (names ++ name.now ∷ []) → AreFronts self.new names }
+    {
+        if let Some(before) = self.next.pop() {
+            let chain = chain_of(name, self.heads.len());
+            self.heads[chain] = before;
+        }
+    }
+
+    /// What lies between two names, both included.
+    ///
+    /// Cost: the names in the chains from the first one's to the second's, up to the second name that is found.
+    pub(crate) fn between<V>(
+        &self,
+        names: &IndexMap<Name, V, RandomState, A>,
+        ends: &(Name, Name),
+    ) -> Prefix
+        requires fronts { AreFronts self.now (keys names.now) }
+        requires names { IsTrue (list_all (λ name. is_name name.bytes) (keys names.now)) }
+        ensures { result ≡ picked (λ name. is_within ends.now.0.bytes ends.now.1.bytes name.bytes) (keys names.now) }
+    {
+        let mut found = Prefix::Absent;
+        if self.heads.is_empty() {
+            return found;
+        }
+        let first = chain_of(&ends.0, self.heads.len());
+        let last = chain_of(&ends.1, self.heads.len());
+        for chain in first..last + 1 {
+            found = self.with_chain(names, chain, ends, found);
+            if let Prefix::Ambiguous = found {
+                return found;
+            }
+        }
+        found
+    }
+
+    /// What is found with the names of a chain that lie between two, both included.
+    fn with_chain<V>(
+        &self,
+        names: &IndexMap<Name, V, RandomState, A>,
+        chain: usize,
+        ends: &(Name, Name),
+        mut found: Prefix,
+    ) -> Prefix
+        requires fronts { AreFronts self.now (keys names.now) }
+        requires within { chain < length self.now.heads.items }
+        ensures { result ≡ joined found (picked (λ name. is_in (length self.now.heads.items) chain name && is_within ends.now.0.bytes ends.now.1.bytes name.bytes) (keys names.now)) }
+    {
+        let mut end = self.heads[chain];
+        while end > 0 {
+            let place = end - 1;
+            let Some((name, _)) = names.get_index(place) else {
+                unreachable!()
+            };
+            if is_between(name, ends) {
+                match found {
+                    Prefix::Absent => found = Prefix::Unique(*name),
+                    _ => return Prefix::Ambiguous,
+                }
+            }
+            end = self.next[place];
+        }
+        found
+    }
+
+    /// These names, in so many chains.
+    fn of<V>(
+        alloc: A,
+        names: &IndexMap<Name, V, RandomState, A>,
+        chains: usize,
+    ) -> Result<Fronts<A>, AllocError>
+        requires { index_map_len names.now < chains }
+        ensures { IfOk result (λ fronts. AreFronts fronts (keys names.now) × (length fronts.heads.items ≡ chains)) }
+    {
+        let mut fronts = Fronts::with_chains(alloc, chains)?;
+        for place in 0..names.len() {
+            let Some((name, _)) = names.get_index(place) else {
+                unreachable!()
+            };
+            fronts.put(name);
+        }
+        Ok(fronts)
+    }
+
+    /// So many chains, of no names.
+    fn with_chains(alloc: A, chains: usize) -> Result<Fronts<A>, AllocError>
+        ensures { IfOk result (λ fronts. AreFronts fronts [] × (length fronts.heads.items ≡ chains)) }
+    {
+        let mut heads = Vec::new(alloc);
+        heads.resize(chains, 0)?;
+        let next = Vec::with_capacity(alloc, chains)?;
+        Ok(Fronts { heads, next })
+    }
+}
+
+/// The chain of a name's front, of so many.
+fn chain_of(name: &Name, chains: usize) -> usize
+    requires { 0 < chains }
+    ensures chain { result ≡ chain_of chains name.now }
+    ensures within { result < chains }
+    ensures bytes { IsTrue (is_name name.now.bytes) }
+{
+    let front = front(name.bytes.as_slice());
+    (u128::from(front) * chains as u128 / 4_294_967_296) as usize
+}
+
+/// The number that the first four bytes of a name are.
+fn front(bytes: &[u8]) -> u32
+    requires { length bytes.now ≡ 20 }
+    ensures front { result ≡ front bytes.now }
+    ensures bytes { IsTrue (is_name bytes.now) }
+{
+    u32::from_be_bytes([bytes[0], bytes[1], bytes[2], bytes[3]])
+}
+
+/// Whether a name lies between two, both included.
+fn is_between(name: &Name, ends: &(Name, Name)) -> bool
+    ensures { result ≡ is_within ends.now.0.bytes ends.now.1.bytes name.now.bytes }
+{
+    ends.0.cmp(name).is_le() && ends.1.cmp(name).is_ge()
+}

@@ -7,6 +7,7 @@ use std::alloc::{AllocError, Allocator};
 use std::hash::RandomState;
 use std::test::Fail;
 
+mod fronts;
 mod refusals;
 
 /// The names of a blob and of a tree of one byte, of a tree of none, and of a blob of 171 bytes.

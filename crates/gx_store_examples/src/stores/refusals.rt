@@ -134,7 +134,7 @@ fn refused_growths<B: Allocator + Copy>(alloc: B, state: RandomState, way: Way) 
     Some(refused)
 }
 
-/// Whether the table, the list and the set of names grow at some puts alone, and each body that is copied once more.
+/// Whether the table, the list and the chains grow at some puts alone, and each body that is copied once more.
 fn are_refused<B: Allocator + Copy>(alloc: B, state: RandomState) -> bool {
     let Some(given) = refused_growths(alloc, state, Way::Given) else {
         return false;

@@ -1,4 +1,4 @@
-//! Names found by their fronts, without the names that begin otherwise.
+//! Names found by their fronts, past the names that begin otherwise.
 
 ghost use Rattle.std.specs.Prelude.{◌≡◌, ◌<◌, ◌≤◌, [], ◌∷◌, ◌++◌, List, length, OnOk, IfOk, IsTrue, ◌&&◌, vec_len, vec_capacity};
 ghost use Rattle.std.specs.List.{list_all};
@@ -15,14 +15,13 @@ use indexmap::IndexMap;
 use std::alloc::{AllocError, Allocator};
 use std::hash::RandomState;
 
-/// The places of names, each in the chain of its name's front, from the last one back.
-///
-/// There are as many chains as names or more, and they are in the order of the fronts.
+/// Names in chains, which are as many as the names or more. Names stand in the chains in the order of their fronts, their
+/// first four bytes, and in a chain the last that came is the first.
 #[derive(Drop)]
 pub(crate) struct Fronts<A: Allocator> {
-    /// For each chain how many names there are up to its last one, or 0 where it has none.
+    /// For each chain how many names there are up to the last that is its own, or 0 where none is.
     heads: Vec<usize, A>,
-    /// For each name the same of its chain as the names before it are.
+    /// For each name the same of its chain among the names before it.
     next: Vec<usize, A>,
 }
 
@@ -39,8 +38,8 @@ impl<A: Allocator + Copy> Fronts<A> {
 
     /// Makes room for one name more: where there are as many names as chains, twice as many chains.
     ///
-    /// Cost: constant, but the number of names where the chains are made anew, which is at most every other time that
-    /// as many names came as there were.
+    /// A refusal leaves the chains as they were. Cost: constant, or the number of names where the chains are made anew,
+    /// which is one step for each name that comes, on average. Memory: while they are made, the new chains beside the old.
     pub(crate) fn reserve<V>(
         &mut self,
         alloc: A,
@@ -57,7 +56,7 @@ impl<A: Allocator + Copy> Fronts<A> {
         Ok(())
     }
 
-    /// Puts the name that comes behind the others.
+    /// Puts a name behind the others. Cost: constant. Takes no memory.
     pub(crate) fn put(&mut self, name: &Name)
         requires chains { vec_len self.old.next < vec_len self.old.heads }
         requires room { vec_len self.old.heads ≤ vec_capacity self.old.next }
@@ -69,7 +68,7 @@ impl<A: Allocator + Copy> Fronts<A> {
         self.heads[chain] = self.next.len();
     }
 
-    /// Drops the last name.
+    /// Drops the last name. Cost: constant. Takes no memory.
     pub(crate) fn pop(&mut self, name: &Name)
         requires { 0 < vec_len self.old.heads }
         ensures { (names : List Name) → AreFronts self.old (names ++ name.now ∷ []) → AreFronts self.new names }
@@ -82,7 +81,7 @@ impl<A: Allocator + Copy> Fronts<A> {
 
     /// What lies between two names, both included.
     ///
-    /// Cost: the names in the chains from the first one's to the second's, up to the second name that is found.
+    /// Cost: the chains from the first one's to the second's and the names in them, up to the second name that is found.
     pub(crate) fn between<V>(
         &self,
         names: &IndexMap<Name, V, RandomState, A>,

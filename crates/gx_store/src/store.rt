@@ -90,7 +90,7 @@ impl<N: Namer, A: Allocator + Copy> Store<N, A> {
     ///
     /// OutOfMemory comes only for an object that isn't held, NameHeld only and always where its name is held for
     /// another kind or other bytes; both leave the store as it was.
-    /// Cost: the body's length. Where the table grows, the number of records, which is constant on average.
+    /// Cost: the body's length, and, where a table grows, the number of records, which is constant on average.
     pub fn put(&mut self, kind: Kind, body: &[u8]) -> Result<Name, StoreFault>
         ensures namer { self.new.0 ≡ self.old.0 }
         ensures puts { Puts self.old.1 self.new.1 (record_for (N.name_of self.old.0) kind body.now) result }
@@ -191,9 +191,9 @@ impl<N: Namer, A: Allocator + Copy> Store<N, A> {
     /// The name that begins with these digits, of either case. An empty prefix begins every name, while more than 40
     /// digits, or any byte that is no digit, begin none.
     ///
-    /// Cost: the records whose fronts are near to those that the digits begin, up to the second that they begin, which
-    /// is constant, as expected of names, for digits that tell the records apart. Takes no memory.
-    /// Source: gitrevisions(7), "sha1".
+    /// Cost: the chains that the digits reach and the records in them, up to the second that they begin. That is constant,
+    /// as expected of names, for digits that tell the records apart; among names that were made to begin alike it is their
+    /// number. Takes no memory. Source: gitrevisions(7), "sha1".
     pub fn by_prefix(&self, digits: &[u8]) -> Prefix
         ensures { result ≡ prefix_of (records_begun_by self.now.1 digits.now) }
     {

@@ -24,7 +24,7 @@ ENUMS = {
         "gx_store/src/fault.rt StoreFault",
     ],
     "Revisions": ["gx_rev/src/fault.rt RevFault"],
-    "Stores": ["gx_file/src/fault.rt FileFault", "gx_repo/src/fault.rt AddFault"],
+    "Stores": ["gx_model/src/store_faults.rt FileFault", "gx_repo/src/fault.rt AddFault"],
     "Exports": ["gx_export/src/fault.rt ExportFault"],
     "Adapted streams": ["gx_adapt/src/fault.rt AdaptFault"],
     "Places of commands": ["gx_where/src/fault.rt WhereFault"],

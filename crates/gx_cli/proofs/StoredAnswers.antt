@@ -6,9 +6,9 @@ use Rattle.gx_model.specs.Faults.{Given}
 use Rattle.gx_model.specs.Histories.{Records}
 use Rattle.gx_model.specs.StoreReading.{Stored, store_of}
 use Rattle.gx_text.specs.Devices.{Taken}
-use Rattle.gx_file.specs.Faults.{IsFaultOf, fault_of}
-use Rattle.gx_file.specs.declared.fault.FileFault.{FileFault}
-use Rattle.gx_file.specs.declared.fault.FileFault.TheVariants as file
+use Rattle.gx_file.specs.Faults.{IsFaultOf}
+use Rattle.gx_model.specs.declared.store_faults.FileFault.{FileFault}
+use Rattle.gx_model.specs.declared.store_faults.FileFault.TheVariants as file
 use Rattle.gx_rev.specs.RevFaults as rev
 use Rattle.gx_cli.specs.Answers.{IsFrontOf, Prints}
 use Rattle.gx_cli.specs.Serving.{IsWritten, printed_by}
@@ -36,9 +36,9 @@ shows_printed given was now (Err OutOfMemory) h = ([], no_front (only_word given
 shows_printed given was now (Err fault) h = absurd h
 
 -- nothing is printed of a store whose text isn't read
-pub unread_printed : (stored : Stored Records) (given : Records → Printed) (was : Option Taken) (why : FileFault) → IsFaultOf (fault_of why) stored → Prints (of_stored stored given) was was (Err (Store why))
+pub unread_printed : (stored : Stored Records) (given : Records → Printed) (was : Option Taken) (why : FileFault) → IsFaultOf why stored → Prints (of_stored stored given) was was (Err (Store why))
 unread_printed stored given was file.OutOfMemory h = took_nothing was
-unread_printed stored given was why h = (of_store (fault_of why), ap (λ s. of_stored s given) h, refl, took_nothing was)
+unread_printed stored given was why h = (of_store why, ap (λ s. of_stored s given) h, refl, took_nothing was)
 
 -- what is printed of a repository is printed of the store that it was read from
 read_printed : {N : Type 0} (name_of : N → Kind → Bytes → Bytes) (namer : N) (repository : N × Records) (stored : (Kind → Bytes → Bytes) → Stored Records) (given : (Kind → Bytes → Bytes) → Records → Printed) (was now : Option Taken) (answer : Result (Unit {0}) CliFault)

@@ -3,8 +3,7 @@ use Rattle.std.specs.Prelude.{◌≡◌, ◌++◌, [], Option, Result, Ok, Err, 
 use Rattle.gx_model.specs.Texts.{Bytes}
 use Rattle.gx_model.specs.Ranges.{WordFault}
 use Rattle.gx_text.specs.Devices.{FailedWithin, Taken, Took}
-use Rattle.gx_file.specs.Faults as file
-use Rattle.gx_file.specs.declared.fault.FileFault.TheVariants as file_kind
+use Rattle.gx_model.specs.declared.store_faults.FileFault.TheVariants as file_kind
 use Rattle.gx_rev.specs.RevFaults as rev
 use Rattle.gx_rev.specs.declared.shown.Shown.{Shown}
 use Rattle.gx_rev.specs.declared.shown.Shown.TheVariants.{Object, Submodule}
@@ -20,7 +19,7 @@ IsFrontOf (Err refusal) front = front ≡ []
 
 -- a refusal as it is answered
 abbrev pub IsRefusal : Refusal → CliFault → Type 0
-IsRefusal (of_store f) (Store why) = f ≡ file.fault_of why
+IsRefusal (of_store f) (Store why) = f ≡ why
 IsRefusal (of_word n f) (Revision number why) = (number ≡ n) × (f ≡ rev.fault_of why)
 IsRefusal refusal fault = ⊥
 

@@ -22,10 +22,8 @@ use Rattle.gx_batch.specs.Batches.{Answers}
 use Rattle.gx_batch.specs.declared.fault.BatchFault.{BatchFault}
 use Rattle.gx_export.specs.Exports.{Exports}
 use Rattle.gx_export.specs.declared.fault.ExportFault.{ExportFault}
-use Rattle.gx_model.specs.declared.store_faults.FileFault as model
-use Rattle.gx_file.specs.declared.fault.FileFault.{FileFault}
-use Rattle.gx_file.specs.declared.fault.FileFault.TheVariants as file
-use Rattle.gx_file.specs.Faults.{fault_of}
+use Rattle.gx_model.specs.declared.store_faults.FileFault.{FileFault}
+use Rattle.gx_model.specs.declared.store_faults.FileFault.TheVariants as file
 use Rattle.gx_cli.specs.declared.blob_names.BlobsFault.{BlobsFault}
 use Rattle.gx_cli.specs.declared.command_line.Line.{Line}
 use Rattle.gx_cli.specs.declared.command_line.Line.TheVariants as line
@@ -76,8 +74,8 @@ abbrev pub IsUnopened : {A : Type 0} → Option Taken → Option Taken → Outco
 IsUnopened was now o = IsRefused (Store file.OutOfMemory) o × (now ≡ was)
 
 -- a store's text isn't read for this cause, unless there was no memory for it, and nothing went out
-abbrev pub IsUnread : {A : Type 0} → model.FileFault → Option Taken → Option Taken → Outcome A → Type 0
-IsUnread f was now o = (why : FileFault) × ((why ≡ file.OutOfMemory) ⊎ (f ≡ fault_of why)) × IsRefused (Store why) o × (now ≡ was)
+abbrev pub IsUnread : {A : Type 0} → FileFault → Option Taken → Option Taken → Outcome A → Type 0
+IsUnread f was now o = (why : FileFault) × ((why ≡ file.OutOfMemory) ⊎ (f ≡ why)) × IsRefused (Store why) o × (now ≡ was)
 
 -- the export of the store that a text was read as
 abbrev pub ExportsStored : {A : Type 0} → Stored Records → Option Taken → Option Taken → Outcome A → Type 0

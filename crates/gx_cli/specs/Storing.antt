@@ -14,9 +14,8 @@ use Rattle.gx_import.specs.Imports.{Imports}
 use Rattle.gx_import.specs.declared.report.Report.{Report}
 use Rattle.gx_import.specs.declared.fault.ImportFault.{ImportFault}
 use Rattle.gx_import.specs.declared.fault.ImportKind.TheVariants as kind
-use Rattle.gx_file.specs.declared.fault.FileFault.{FileFault}
-use Rattle.gx_file.specs.declared.fault.FileFault.TheVariants as file
-use Rattle.gx_file.specs.Faults.{fault_of}
+use Rattle.gx_model.specs.declared.store_faults.FileFault.{FileFault}
+use Rattle.gx_model.specs.declared.store_faults.FileFault.TheVariants as file
 use Rattle.gx_cli.specs.declared.fault.CliFault.{CliFault}
 use Rattle.gx_cli.specs.declared.fault.CliFault.TheVariants.{Import, Store}
 
@@ -47,7 +46,7 @@ module _ {N : Type 0} (name_of : N → Kind → Bytes → Bytes) (namer : N) whe
       ((answer ≡ (None, Err (Store file.OutOfMemory))) × (now ≡ was))
       ⊎ ((new : Records) × (given : Result Report ImportFault) × Imports (name_of namer) old new coming was now given × KeepsNoNullGitlink old new × IsAnswer new given answer)
   ImportsStored (Err f) coming was now answer =
-      (why : FileFault) × ((why ≡ file.OutOfMemory) ⊎ (f ≡ fault_of why)) × (answer ≡ (None, Err (Store why))) × (now ≡ was)
+      (why : FileFault) × ((why ≡ file.OutOfMemory) ⊎ (f ≡ why)) × (answer ≡ (None, Err (Store why))) × (now ≡ was)
 
   -- The import of a sound repository's export into an empty store makes that repository again, as far as its refs reach. A
   -- gitlink of forty zeros is left out, which no import takes and none brings.

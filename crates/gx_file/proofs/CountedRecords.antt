@@ -6,8 +6,8 @@ use Rattle.gx_model.specs.Texts.{Bytes}
 use Rattle.gx_model.specs.Faults.{and_then}
 use Rattle.gx_model.specs.Histories.{Record}
 use Rattle.gx_model.specs.StoreReading.{Stored, next_record, next_records}
-use Rattle.gx_file.specs.declared.fault.FileFault.{FileFault}
-use Rattle.gx_file.specs.Faults.{IsFaultOf, fault_of}
+use Rattle.gx_model.specs.declared.store_faults.FileFault.{FileFault}
+use Rattle.gx_file.specs.Faults.{IsFaultOf}
 use Rattle.gx_file.proofs.Steps.{moved}
 
 module _ (name : Kind → Bytes → Bytes) (v : Version) (given : Stored (List Record × Bytes)) (n k : ℕ) (rs : List Record) (text : Bytes)
@@ -21,7 +21,7 @@ module _ (name : Kind → Bytes → Bytes) (v : Version) (given : Stored (List R
   one_read more rest lt e = here lt ∙ ap (λ r. and_then r (λ x. next_records name v (n - (k + 1)) x.0 x.1)) e
 
   -- A record that is refused refuses all.
-  pub one_refused : (fault : FileFault) → k < n → IsFaultOf (fault_of fault) (next_record name v rs text) → IsFaultOf (fault_of fault) given
+  pub one_refused : (fault : FileFault) → k < n → IsFaultOf fault (next_record name v rs text) → IsFaultOf fault given
   one_refused fault lt h = moved fault _ _ (λ e. here lt ∙ ap (λ r. and_then r (λ x. next_records name v (n - (k + 1)) x.0 x.1)) e) h
 
   -- After the last one, they are read.

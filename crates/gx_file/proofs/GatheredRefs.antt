@@ -5,9 +5,9 @@ use Rattle.gx_model.specs.declared.store_faults.FileFault.TheVariants as model
 use Rattle.gx_model.specs.Texts.{Bytes}
 use Rattle.gx_model.specs.StoreReading.{Stored, is_after}
 use Rattle.gx_model.specs.Publishing.{Ref}
-use Rattle.gx_file.specs.declared.fault.FileFault.{FileFault}
-use Rattle.gx_file.specs.declared.fault.FileFault.TheVariants.{OutOfMemory, RefOrder}
-use Rattle.gx_file.specs.Faults.{IsFaultOf, fault_of}
+use Rattle.gx_model.specs.declared.store_faults.FileFault.{FileFault}
+use Rattle.gx_model.specs.declared.store_faults.FileFault.TheVariants.{OutOfMemory, RefOrder}
+use Rattle.gx_file.specs.Faults.{IsFaultOf}
 use Rattle.gx_file.specs.Gathering.{Gathered, Gathers, before, first_ref, gathered, gathered_from}
 
 -- these refs were gathered, and what the rest of the text has follows them
@@ -59,7 +59,7 @@ module _ (given : Gathered) (refs : List Ref) (n k : ℕ) (last : Option Bytes) 
   none_more = ((gathered (n - k) last text).0, so_far.listed)
 
   -- A line that isn't as written ends the refs.
-  pub one_refused : (fault : FileFault) → k < n → IsFaultOf (fault_of fault) (first_ref text) → Gathers given refs (Err fault)
+  pub one_refused : (fault : FileFault) → k < n → IsFaultOf fault (first_ref text) → Gathers given refs (Err fault)
   one_refused OutOfMemory lt h = none_more
   one_refused _ lt h =
       let now = here _ lt h in

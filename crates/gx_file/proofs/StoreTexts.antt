@@ -7,9 +7,9 @@ use Rattle.gx_model.specs.Histories.{Records}
 use Rattle.gx_model.specs.StoreText.{IsStoreText}
 use Rattle.gx_model.specs.StoreReading.{store_of}
 use Rattle.gx_model.specs.StoreLaws.{StoresAreRead}
-use Rattle.gx_file.specs.declared.fault.FileFault.{FileFault}
-use Rattle.gx_file.specs.declared.fault.FileFault.TheVariants.{OutOfMemory}
-use Rattle.gx_file.specs.Faults.{IsNoStoreText, Reads, fault_of}
+use Rattle.gx_model.specs.declared.store_faults.FileFault.{FileFault}
+use Rattle.gx_model.specs.declared.store_faults.FileFault.TheVariants.{OutOfMemory}
+use Rattle.gx_file.specs.Faults.{IsNoStoreText, Reads}
 use Rattle.gx_file.proofs.Steps.{explained}
 
 module _ (name : Kind → Bytes → Bytes) (law : StoresAreRead name) (text : Bytes) where
@@ -19,7 +19,7 @@ module _ (name : Kind → Bytes → Bytes) (law : StoresAreRead name) (text : By
   text_of_read view (Err fault) h = tt
 
   -- A text for which a fault is given is that of no sound repository.
-  not_stored : (short : length text < 2 ^ 64) (fault : FileFault) → store_of name text ≡ Err (fault_of fault) → IsNoStoreText name text
+  not_stored : (short : length text < 2 ^ 64) (fault : FileFault) → store_of name text ≡ Err fault → IsNoStoreText name text
   not_stored short fault e = λ version repository sound same.
       let fits = subst (λ t. length t < 2 ^ 64) same short in
       let read = law.read version repository sound fits in

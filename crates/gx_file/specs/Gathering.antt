@@ -8,9 +8,8 @@ use Rattle.gx_model.specs.StoreReading.{Stored, is_after, ref_line, stored_line}
 use Rattle.gx_model.specs.Publishing.{Ref}
 use Rattle.gx_repo.specs.Refs.{asked}
 use Rattle.gx_repo.specs.declared.publishing.RefChange.{RefChange}
-use Rattle.gx_file.specs.declared.fault.FileFault.{FileFault}
-use Rattle.gx_file.specs.declared.fault.FileFault.TheVariants.{OutOfMemory}
-use Rattle.gx_file.specs.Faults.{fault_of}
+use Rattle.gx_model.specs.declared.store_faults.FileFault.{FileFault}
+use Rattle.gx_model.specs.declared.store_faults.FileFault.TheVariants.{OutOfMemory}
 
 -- a ref with what follows its line
 abbrev pub with_rest : Bytes → Option Ref → Stored (Ref × Bytes)
@@ -49,7 +48,7 @@ gathered (suc n) last text = gathered_from last (first_ref text) (λ ref rest. g
 abbrev pub Gathers : Gathered → List Ref → Result (Bor Bytes) FileFault → Type 0
 Gathers given refs (Ok rest) = (given.0 ≡ refs) × (given.1 ≡ Ok rest.now)
 Gathers given refs (Err OutOfMemory) = (others : List Ref) × (given.0 ≡ refs ++ others)
-Gathers given refs (Err fault) = (given.0 ≡ refs) × (given.1 ≡ Err (fault_of fault))
+Gathers given refs (Err fault) = (given.0 ≡ refs) × (given.1 ≡ Err fault)
 
 -- a change and what follows its line, without where they lie in memory
 abbrev pub shown_change : RefChange × Bor Bytes → Ref × Bytes

@@ -3,7 +3,6 @@
 #![tactic(auto)]
 
 mod bodies;
-mod fault;
 mod lines;
 mod reading;
 mod records;
@@ -11,7 +10,7 @@ mod refs;
 mod sending;
 mod writing;
 
-pub use fault::FileFault;
+pub use gx_model::FileFault;
 pub use gx_repo::{OutOfMemory, Text};
 pub use reading::{read, read_text};
 pub use sending::write_to;

@@ -2,7 +2,7 @@
 ghost use Rattle.std.specs.Prelude.{◌≡◌, ◌≢◌, IfOk, IfErr};
 ghost use Rattle.gx_model.specs.StoreReading.{store_of};
 ghost use Rattle.gx_model.specs.StoreText.{IsStoreText};
-ghost use Rattle.gx_file.specs.declared.fault.FileFault.TheVariants as fault;
+ghost use Rattle.gx_model.specs.declared.store_faults.FileFault.TheVariants as fault;
 ghost use Rattle.gx_file.specs.Faults.{IsNoStoreText, Reads};
 ghost use Rattle.gx_file.specs.TextEnds.{IsEndOfText};
 

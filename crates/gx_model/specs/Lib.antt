@@ -26,6 +26,7 @@ pub mod Ranges
 pub mod Replay
 pub mod Export
 pub mod StoreText
+pub mod StoreFaults
 pub mod RecordFaults
 pub mod StoreReading
 pub mod FileMapLaws

@@ -7,3 +7,4 @@ pub mod Records
 pub mod GivenBytes
 pub mod Checking
 pub mod Earlier
+pub mod FileFaults

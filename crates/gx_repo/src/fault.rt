@@ -1,6 +1,7 @@
 //! Why a repository refuses a call.
 ghost use Rattle.gx_repo.specs.declared.fault.PublishFault.TheVariants as fault;
 
+use gx_model::FileFault;
 use std::alloc::AllocError;
 use thiserror::Error;
 
@@ -50,5 +51,36 @@ impl From<AllocError> for PublishFault {
 
     fn from(_error: AllocError) -> PublishFault {
         PublishFault::OutOfMemory
+    }
+}
+
+impl From<AddFault> for FileFault {
+    ghost use Rattle.std.specs.Prelude.{◌≡◌};
+    ghost use Rattle.gx_repo.specs.FileFaults.{of_add};
+
+    ghost from_gives = { λ from fault. fault ≡ of_add from };
+
+    fn from(fault: AddFault) -> FileFault {
+        match fault {
+            AddFault::OutOfMemory => FileFault::OutOfMemory,
+            AddFault::BadObject => FileFault::BadObject,
+            AddFault::Dangling => FileFault::Dangling,
+            AddFault::DuplicateObject => FileFault::DuplicateObject,
+        }
+    }
+}
+
+impl From<PublishFault> for FileFault {
+    ghost use Rattle.std.specs.Prelude.{◌≡◌};
+    ghost use Rattle.gx_repo.specs.FileFaults.{of_publish};
+
+    ghost from_gives = { λ from fault. fault ≡ of_publish from };
+
+    fn from(fault: PublishFault) -> FileFault {
+        match fault {
+            PublishFault::OutOfMemory => FileFault::OutOfMemory,
+            PublishFault::BadRefName | PublishFault::UnknownObject | PublishFault::WrongKind =>
+                FileFault::BadRef,
+        }
     }
 }

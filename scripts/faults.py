@@ -16,7 +16,7 @@ PAGE = TOP / "docs" / "FAULTS.md"
 ENUMS = {
     "Names of blobs": ["gx_cli/src/blob_names.rt BlobsKind"],
     "Imports": [
-        "gx_import/src/fault.rt ImportKind",
+        "gx_model/src/faults.rt Fault",
         "gx_command/src/fault.rt CommandFault",
         "gx_stream/src/fault.rt StreamFault",
         "gx_text/src/fault.rt TextFault",

@@ -11,7 +11,7 @@ use Rattle.gx_model.specs.StoreReading.{Stored, store_of}
 use Rattle.gx_text.specs.Devices.{Coming}
 use Rattle.gx_import.specs.Exported.{GivesExport, IsExported, nothing}
 use Rattle.gx_import.specs.declared.fault.ImportFault.{ImportFault}
-use Rattle.gx_import.specs.declared.fault.ImportKind.TheVariants as kind
+use Rattle.gx_model.specs.declared.faults.Fault.TheVariants as kind
 use Rattle.gx_model.specs.declared.store_faults.FileFault.TheVariants as file
 use Rattle.gx_cli.specs.declared.command_line.Line.{Line}
 use Rattle.gx_cli.specs.declared.command_line.Line.TheVariants as line

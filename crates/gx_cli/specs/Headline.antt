@@ -20,7 +20,7 @@ use Rattle.gx_command.specs.Reading.{commands_from}
 use Rattle.gx_import.specs.Exported.{IsExported, nothing}
 use Rattle.gx_import.specs.Imports.{AreRead, replayed_on, report_of}
 use Rattle.gx_import.specs.declared.fault.ImportFault.{ImportFault}
-use Rattle.gx_import.specs.declared.fault.ImportKind.TheVariants as kind
+use Rattle.gx_model.specs.declared.faults.Fault.TheVariants as kind
 use Rattle.gx_export.specs.Outputs.{most}
 use Rattle.gx_cli.specs.Trying.{LooksAs, Refuses, no_history}
 use Rattle.gx_cli.specs.declared.fault.CliFault.{CliFault}

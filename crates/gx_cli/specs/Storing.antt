@@ -13,7 +13,7 @@ use Rattle.gx_import.specs.Exported.{GivesExport, IsExported, KeepsNoNullGitlink
 use Rattle.gx_import.specs.Imports.{Imports}
 use Rattle.gx_import.specs.declared.report.Report.{Report}
 use Rattle.gx_import.specs.declared.fault.ImportFault.{ImportFault}
-use Rattle.gx_import.specs.declared.fault.ImportKind.TheVariants as kind
+use Rattle.gx_model.specs.declared.faults.Fault.TheVariants as kind
 use Rattle.gx_model.specs.declared.store_faults.FileFault.{FileFault}
 use Rattle.gx_model.specs.declared.store_faults.FileFault.TheVariants as file
 use Rattle.gx_cli.specs.declared.fault.CliFault.{CliFault}

@@ -4,6 +4,7 @@ ghost use Rattle.std.specs.Prelude.{◌≡◌};
 ghost use Rattle.gx_command.specs.declared.fault.CommandFault.TheVariants.{OutOfMemory};
 ghost use Rattle.gx_command.specs.CommandFaults.{fault_of, of_stream, of_text};
 
+use gx_model::Fault;
 use gx_stream::StreamFault;
 use gx_text::TextFault;
 use std::alloc::{AllocError, AllocFailed};
@@ -124,6 +125,29 @@ impl From<TextFault> for CommandFault {
             TextFault::BadPath => CommandFault::BadPath,
             TextFault::PathTooLong => CommandFault::PathTooLong,
             TextFault::BadIdent => CommandFault::BadIdent,
+        }
+    }
+}
+
+impl From<CommandFault> for Fault {
+    ghost from_gives = { λ from fault. fault ≡ fault_of from };
+
+    fn from(fault: CommandFault) -> Fault {
+        match fault {
+            CommandFault::OutOfMemory => Fault::OutOfMemory,
+            CommandFault::ReadFailed => Fault::ReadFailed,
+            CommandFault::TruncatedData => Fault::TruncatedData,
+            CommandFault::BadNumber => Fault::BadNumber,
+            CommandFault::UnknownCommand => Fault::UnknownCommand,
+            CommandFault::BadLine => Fault::BadLine,
+            CommandFault::BadPath => Fault::BadPath,
+            CommandFault::PathTooLong => Fault::PathTooLong,
+            CommandFault::BadMode => Fault::BadMode,
+            CommandFault::BadIdent => Fault::BadIdent,
+            CommandFault::BadRefName => Fault::BadRefName,
+            CommandFault::Unsupported => Fault::Unsupported,
+            CommandFault::LateOption => Fault::LateOption,
+            CommandFault::MissingDone => Fault::MissingDone,
         }
     }
 }

@@ -15,8 +15,8 @@ use Rattle.gx_import.specs.Answers.{AddsAs, GivesAs}
 use Rattle.gx_import.specs.Applying.{Applies, IsProgress}
 use Rattle.gx_import.specs.Replaying.{Writes}
 use Rattle.gx_import.specs.Standing.{Follows, Stands}
-use Rattle.gx_import.specs.declared.fault.ImportKind.{ImportKind}
-use Rattle.gx_import.specs.declared.fault.ImportKind.TheVariants.{OutOfMemory, ReadFailed, WriteFailed, UnknownCommand, BadLine, BadNumber, TruncatedData, BadPath, PathTooLong, BadMode, BadIdent, BadRefName, UnknownMark, WrongKind, UnknownObject, NoSuchPath, RootNotTree, FromItself, EmptyBranch, Unsupported, LateOption, MissingDone, NotFastForward, NameHeld, BadRevision, UnknownRef, Ambiguous, NoParent}
+use Rattle.gx_model.specs.declared.faults.Fault.{Fault}
+use Rattle.gx_model.specs.declared.faults.Fault.TheVariants.{OutOfMemory, ReadFailed, WriteFailed, UnknownCommand, BadLine, BadNumber, TruncatedData, BadPath, PathTooLong, BadMode, BadIdent, BadRefName, UnknownMark, WrongKind, UnknownObject, NoSuchPath, RootNotTree, FromItself, EmptyBranch, Unsupported, LateOption, MissingDone, NotFastForward, NameHeld, BadRevision, UnknownRef, Ambiguous, NoParent}
 use Rattle.gx_import.specs.declared.tables.Tables.{Tables}
 use Rattle.gx_import.proofs.ProgressTexts.{took_none}
 
@@ -36,7 +36,7 @@ module _ (name : Kind → Bytes → Bytes) {A : Type 0} where
   followed old new tables s c was t e h = (t, [], e, h.stands, record { progress = h.progress ∙ sym (append-nil s.progress); held = h.held }, took_none was)
 
   -- a command that may add values
-  pub added_as : (old new : Records) (tables : Tables A) (s : State) (c : Command) (was : Option Taken) (clash : Type 0) → (clash → Clash name s.history.values (values_added name s c)) → (r : Result (Unit {0}) ImportKind)
+  pub added_as : (old new : Records) (tables : Tables A) (s : State) (c : Command) (was : Option Taken) (clash : Type 0) → (clash → Clash name s.history.values (values_added name s c)) → (r : Result (Unit {0}) Fault)
       → AddsAs clash (λ t _. Follows name new tables s t) r (step name s c) → Applies name old new tables s c was was r
   added_as old new tables s c was clash f (Ok x) h = followed old new tables s c was h.0 h.1 h.2
   added_as old new tables s c was clash f (Err OutOfMemory) h = refl
@@ -69,7 +69,7 @@ module _ (name : Kind → Bytes → Bytes) {A : Type 0} where
   added_as old new tables s c was clash f (Err NoParent) h = (h, refl)
 
   -- one that adds none
-  pub given_as : (old new : Records) (tables : Tables A) (s : State) (c : Command) (was : Option Taken) (r : Result (Unit {0}) ImportKind)
+  pub given_as : (old new : Records) (tables : Tables A) (s : State) (c : Command) (was : Option Taken) (r : Result (Unit {0}) Fault)
       → GivesAs (λ t _. Follows name new tables s t) r (step name s c) → Applies name old new tables s c was was r
   given_as old new tables s c was (Ok x) h = followed old new tables s c was h.0 h.1 h.2
   given_as old new tables s c was (Err OutOfMemory) h = refl
@@ -123,7 +123,7 @@ module _ (name : Kind → Bytes → Bytes) {A : Type 0} where
   unchanged old tables s c was h e = followed old old tables s c was s e (record { stands = h; progress = refl; held = refl })
 
   -- a progress, whose line is written
-  pub progress_as : (old : Records) (tables : Tables A) (s : State) (x : Bytes) (was now : Option Taken) (r : Result (Unit {0}) ImportKind) → Stands name old tables s
+  pub progress_as : (old : Records) (tables : Tables A) (s : State) (x : Bytes) (was now : Option Taken) (r : Result (Unit {0}) Fault) → Stands name old tables s
       → Writes was now (codes "progress " ++ x ++ 10 ∷ []) r → Applies name old old tables s (Progress x) was now r
   progress_as old tables s x was now (Ok u) h k = (spoken s x, codes "progress " ++ x ++ 10 ∷ [], refl, still_stands old tables s x h, is_spoken s x, k)
   progress_as old tables s x was now (Err e) h k =

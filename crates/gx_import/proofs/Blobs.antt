@@ -14,7 +14,7 @@ use Rattle.gx_store.specs.declared.fault.StoreFault.{StoreFault}
 use Rattle.gx_store.specs.declared.fault.StoreFault.TheVariants.{OutOfMemory, NameHeld}
 use Rattle.gx_repo.specs.Additions.{Adds}
 use Rattle.gx_import.specs.Answers.{AddsAs}
-use Rattle.gx_import.specs.ImportKinds.{of_store}
+use Rattle.gx_store.specs.StoreFaults.{fault_of as of_store}
 
 nothing_mapped : {X Y : Type 0} (f : X → Y) (o : Option X) → option_map f o ≡ None → o ≡ None
 nothing_mapped f None e = refl

@@ -8,7 +8,7 @@ use Rattle.gx_model.specs.Histories.{Records}
 use Rattle.gx_model.specs.RepositoryLaws.{values_of}
 use Rattle.gx_model.specs.Commands.{Change}
 use Rattle.gx_model.specs.Replay.{State, all_changed, changed}
-use Rattle.gx_import.specs.declared.fault.ImportKind.{ImportKind}
+use Rattle.gx_model.specs.declared.faults.Fault.{Fault}
 use Rattle.gx_import.specs.declared.tables.Tables.{Tables}
 use Rattle.gx_import.specs.Additions.{Clash, blob_added, blobs_added, unless_refused}
 use Rattle.gx_import.specs.Answers.{AddsAs}
@@ -54,7 +54,7 @@ module _ (name : Kind → Bytes → Bytes) {A : Type 0} where
     }
 
     -- one that is refused
-    one_refused : {X : Type 0} (Be Is : State × FileMap Bytes → X → Type 0) (e : ImportKind) → AddsAs (Clash name (values_of now) (blob_added c)) Be (Err e) (changed name made.state made.files c)
+    one_refused : {X : Type 0} (Be Is : State × FileMap Bytes → X → Type 0) (e : Fault) → AddsAs (Clash name (values_of now) (blob_added c)) Be (Err e) (changed name made.state made.files c)
         → AddsAs (Clash name (values_of old) (blobs_added name s f all)) Is (Err e) (all_changed name s f all)
     one_refused Be Is e h =
         subst (AddsAs (Clash name (values_of old) (blobs_added name s f all)) Is (Err e)) (sym made.steps)
@@ -80,7 +80,7 @@ module _ (name : Kind → Bytes → Bytes) {A : Type 0} where
         one_made old now tables s f (map shown xs) (shown here) (map shown right) names with_next later after done.0 done.1 done.2.0 done.2.1
 
     -- or refused
-    pub next_refused : {W : Type 0} (Be : State → State × FileMap Bytes → W → Type 0) (Is : State × FileMap Bytes → W → Type 0) (e : ImportKind)
+    pub next_refused : {W : Type 0} (Be : State → State × FileMap Bytes → W → Type 0) (Is : State × FileMap Bytes → W → Type 0) (e : Fault)
         → ((t : State) (g : FileMap Bytes) → Stands name now tables t → AreFiles name t.history.values g names → AddsAs (Clash name (values_of now) (blob_added (shown here))) (Be t) (Err e) (changed name t g (shown here)))
         → AddsAs (Clash name (values_of old) (blobs_added name s f (map shown xs))) Is (Err e) (all_changed name s f (map shown xs))
     next_refused Be Is e step =

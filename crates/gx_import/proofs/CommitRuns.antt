@@ -22,7 +22,7 @@ use Rattle.gx_import.specs.declared.object.Object.{Object}
 use Rattle.gx_import.specs.declared.marks.Marks.{Marks}
 use Rattle.gx_import.specs.declared.branches.Tip.{Tip}
 use Rattle.gx_import.specs.declared.tables.Tables.{Tables}
-use Rattle.gx_import.specs.declared.fault.ImportKind.{ImportKind}
+use Rattle.gx_model.specs.declared.faults.Fault.{Fault}
 use Rattle.gx_import.specs.Additions.{Clash, added_by_commit, blobs_added, commit_added, commit_made}
 use Rattle.gx_import.specs.Answers.{AddsAs}
 use Rattle.gx_import.specs.Marks.{marked_object, object_at}
@@ -46,7 +46,7 @@ module _ (name : Kind → Bytes → Bytes) where
   OthersFound s t made parents = (others : List Commit) × (all_committed name t.ref s t.merges ≡ Ok others) × AreAll (IsCommitOf name s.history.values) (with_first_parent made others) parents
 
   -- what is said of the commit that is added
-  abbrev pub AddGives : (A : Type 0) → Records → Records → FileMap Bytes → List Name → CommitParts → Result Name ImportKind → Type 0
+  abbrev pub AddGives : (A : Type 0) → Records → Records → FileMap Bytes → List Name → CommitParts → Result Name Fault → Type 0
   AddGives A old new files parents t answer =
       (tables : Tables A) (s : State) (f : FileMap Bytes) (ps : List Commit) → Stands name old tables s → AreFiles name s.history.values f files → AreAll (IsCommitOf name s.history.values) ps parents
       → AddsAs (Clash name (values_of old) (commit_added f (commit f (commits_of ps) (text_made t))))
@@ -55,7 +55,7 @@ module _ (name : Kind → Bytes → Bytes) where
 
 module _ (name : Kind → Bytes → Bytes) {A : Type 0} where
   -- what is said of the changes
-  abbrev pub ChangesGive : Records → Records → Tables A → FileMap Bytes → FileMap Bytes → List Change → Result (Unit {0}) ImportKind → Type 0
+  abbrev pub ChangesGive : Records → Records → Tables A → FileMap Bytes → FileMap Bytes → List Change → Result (Unit {0}) Fault → Type 0
   ChangesGive old new tables start stop cs answer =
       (s : State) (f : FileMap Bytes) → Stands name old tables s → AreFiles name s.history.values f start
       → AddsAs (Clash name (values_of old) (blobs_added name s f cs)) (λ r _. Follows name new tables s r.0 × AreFiles name r.0.history.values r.1 stop) answer (all_changed name s f cs)
@@ -65,7 +65,7 @@ module _ (name : Kind → Bytes → Bytes) {A : Type 0} where
     known : AreFiles name s.history.values (starting_files k.0) start
     known = first_files name namer r sound s h.history k.0 first k.2 start files
 
-    pub changes_fail : (e : ImportKind) → ChangesGive r mid tables start stop t.changes (Err e) → {Z : Type 0} (Be : State → Z → Type 0) → AddsAs (Clash name (values_of r) (added_by_commit name s t)) Be (Err e) (step_commit name s t)
+    pub changes_fail : (e : Fault) → ChangesGive r mid tables start stop t.changes (Err e) → {Z : Type 0} (Be : State → Z → Type 0) → AddsAs (Clash name (values_of r) (added_by_commit name s t)) Be (Err e) (step_commit name s t)
     changes_fail e gives Be =
         changes_refused name s t k.0 k.1 l.0 l.1 (values_of r) (λ (q : State × FileMap Bytes) (x : Unit {0}). Follows name mid tables s q.0 × AreFiles name q.0.history.values q.1 stop) Be e
         (gives s (starting_files k.0) stand known)
@@ -92,7 +92,7 @@ module _ (name : Kind → Bytes → Bytes) {A : Type 0} where
       abbrev v : Commit
       v = commit_made t k.0 l.0 m.0.1
 
-      pub add_fails : (new : Records) (e : ImportKind) → AddGives name A mid new stop parents t (Err e) → {Z : Type 0} (Be : State → Z → Type 0) → AddsAs (Clash name (values_of r) (added_by_commit name s t)) Be (Err e) (step_commit name s t)
+      pub add_fails : (new : Records) (e : Fault) → AddGives name A mid new stop parents t (Err e) → {Z : Type 0} (Be : State → Z → Type 0) → AddsAs (Clash name (values_of r) (added_by_commit name s t)) Be (Err e) (step_commit name s t)
       add_fails new e adds Be =
           made_refused name s t k.0 k.1 l.0 l.1 m.0 m.1 (values_of r) (values_of mid) (ap (λ z. z.values) h.history) (ap (λ z. z.values) m.2.0.stands.history)
           (λ (u : State) (called : Name). Follows name new tables m.0.0 u × (called.bytes ≡ name_of name (commit_value v))) Be e

@@ -21,7 +21,7 @@ use Rattle.gx_tree.specs.declared.fault.TreeFault.{TreeFault}
 use Rattle.gx_tree.specs.declared.fault.TreeFault.TheVariants as tree
 use Rattle.gx_import.specs.declared.tables.Tables.{Tables}
 use Rattle.gx_import.specs.Answers.{AddsAs}
-use Rattle.gx_import.specs.ImportKinds.{of_tree}
+use Rattle.gx_tree.specs.Faults.{fault_of as of_tree}
 use Rattle.gx_import.specs.Standing.{Follows, IsContentName, Stands}
 use Rattle.gx_import.proofs.Clashes.{content_keeps, content_state, with_content}
 use Rattle.gx_import.proofs.KeptFiles.{AllLeaves, IsKnownLeaf, files_leaves, files_named, leaves_later, modified_leaves, removed_leaves}

@@ -25,7 +25,6 @@ use Rattle.gx_text.specs.Devices.{Coming, Taken}
 use Rattle.gx_stream.specs.Heard.{heard_upto}
 use Rattle.gx_command.specs.Reading.{commands_from}
 use Rattle.gx_import.specs.Exported.{ExportedOr, GivesExport, ImportsExport, IsExported, nothing}
-use Rattle.gx_import.specs.ImportKinds.{fault_of}
 use Rattle.gx_import.specs.Imports.{Imports, LeavesBefore, report_of}
 use Rattle.gx_import.specs.declared.fault.ImportFault.{ImportFault}
 use Rattle.gx_import.specs.declared.report.Report.{Report}
@@ -146,7 +145,7 @@ module _ (name : Kind → Bytes → Bytes) where
         let ends = imported_is name (history_of old) coming ∙ ap (λ r. replayed_commands name (history_of r) (commands_from coming)) empty ∙ q.2 in
         elim h as (λ _. ExportedOr exported last (Err fault)) [
           | inl r ↦
-              let other : refused fault.command (fault_of fault.kind) r.0 r.1 ≡ finished q.0 [] (exported_report (history_of exported) q.0) = sym r.2 ∙ ends in
+              let other : refused fault.command fault.kind r.0 r.1 ≡ finished q.0 [] (exported_report (history_of exported) q.0) = sym r.2 ∙ ends in
               absurd (cc other)
           | inr k ↦
               let none = none_counted old new (commands_from coming).list fault (none_asked exported sound links coming gives) k.3 in

@@ -27,9 +27,8 @@ use Rattle.gx_model.specs.Replay.{State, blob_bytes, content}
 use Rattle.gx_object.specs.declared.name.Name.{Name}
 use Rattle.gx_model.proofs.Bases.{full_found, full_none, none_got, some_got, whole_digits}
 use Rattle.gx_model.proofs.HeldValues.{got, held_is}
-use Rattle.gx_import.specs.declared.fault.ImportKind.{ImportKind}
+use Rattle.gx_model.specs.declared.faults.Fault.{Fault}
 use Rattle.gx_import.specs.Answers.{GivesAs}
-use Rattle.gx_import.specs.ImportKinds.{fault_of}
 use Rattle.gx_import.specs.Objects.{IsBlobOf, name_of_kind}
 use Rattle.gx_import.specs.Standing.{IsContentName}
 use Rattle.gx_import.specs.Steps.{bytes_held}
@@ -94,14 +93,14 @@ module _ (name : Kind → Bytes → Bytes) (namer : IsNamer name) (r : Records) 
 
   -- digits that name a blob
   pub content_found : (s : State) → history_of r ≡ s.history → (m : Mode) → (m ≡ Gitlink → ⊥) → (m ≡ Dir → ⊥) → (x : Bytes) (n : Name) → (list_all is_any_digit x && nat_eq (length x) 40) ≡ true → n.bytes ≡ unhex (map lower x)
-      → (result : Result Name ImportKind) → GivesAs (IsBlobOf name (history_of r).values n) result (bytes_held r n.bytes) → GivesAs (λ y called. IsContentName name s y m called) result (content name s m (Object x))
+      → (result : Result Name Fault) → GivesAs (IsBlobOf name (history_of r).values n) result (bytes_held r n.bytes) → GivesAs (λ y called. IsContentName name s y m called) result (content name s m (Object x))
   content_found s h m k l x n d e (Ok called) g = (
     (s, g.0),
     content_by s h m k x n.bytes d e ∙ ap (λ b. and_then {B = State × Bytes} b (λ y. Ok (s, y))) g.1,
     subst (IsContentName name s (s, g.0) m) (sym g.2.same) (content_name_is s g.0 n m k l g.2.named (subst (λ z. IsIn z.values (blob_value g.0)) h g.2.stands)),
   )
   content_found s h m k l x n d e (Err f) g =
-      subst (IsFaultOf (fault_of f)) (sym (content_by s h m k x n.bytes d e)) (fault_then (fault_of f) (bytes_held r n.bytes) (λ y. Ok (s, y)) g)
+      subst (IsFaultOf f) (sym (content_by s h m k x n.bytes d e)) (fault_then f (bytes_held r n.bytes) (λ y. Ok (s, y)) g)
 
 lower_digit : (d : ℕ) → is_any_digit d ≡ true → is_hex_digit (lower d) ≡ true
 lower_digit d h = grind (arith, common_steps, h)

@@ -19,8 +19,8 @@ use Rattle.gx_import.specs.Publishing.{Publishes}
 use Rattle.gx_import.specs.Rows.{rows_of}
 use Rattle.gx_import.specs.Standing.{Extends, Stands}
 use Rattle.gx_import.specs.declared.checkpoints.Checkpoints.{Checkpoints}
-use Rattle.gx_import.specs.declared.fault.ImportKind.{ImportKind}
-use Rattle.gx_import.specs.declared.fault.ImportKind.TheVariants.{OutOfMemory, ReadFailed, WriteFailed, UnknownCommand, BadLine, BadNumber, TruncatedData, BadPath, PathTooLong, BadMode, BadIdent, BadRefName, UnknownMark, WrongKind, UnknownObject, NoSuchPath, RootNotTree, FromItself, EmptyBranch, Unsupported, LateOption, MissingDone, NotFastForward, NameHeld, BadRevision, UnknownRef, Ambiguous, NoParent}
+use Rattle.gx_model.specs.declared.faults.Fault.{Fault}
+use Rattle.gx_model.specs.declared.faults.Fault.TheVariants.{OutOfMemory, ReadFailed, WriteFailed, UnknownCommand, BadLine, BadNumber, TruncatedData, BadPath, PathTooLong, BadMode, BadIdent, BadRefName, UnknownMark, WrongKind, UnknownObject, NoSuchPath, RootNotTree, FromItself, EmptyBranch, Unsupported, LateOption, MissingDone, NotFastForward, NameHeld, BadRevision, UnknownRef, Ambiguous, NoParent}
 use Rattle.gx_import.specs.declared.tables.Tables.{Tables}
 use Rattle.gx_import.proofs.AppliedCommands.{followed}
 use Rattle.gx_import.proofs.ProgressTexts.{HasKept, IsOther, kept_still}
@@ -91,7 +91,7 @@ module _ (name : Kind → Bytes → Bytes) {A : Type 0} where
   }
 
   -- what it does is the model's step
-  pub checkpoint_as : (old new : Records) (tables : Tables A) (s : State) (was : Option Taken) (r : Result (Unit {0}) ImportKind) → Stands name old tables s → Publishes s old new r
+  pub checkpoint_as : (old new : Records) (tables : Tables A) (s : State) (was : Option Taken) (r : Result (Unit {0}) Fault) → Stands name old tables s → Publishes s old new r
       → Applies name old new tables s Checkpoint was was r
   checkpoint_as old new tables s was (Ok x) h p =
       followed name old new tables s Checkpoint was (checkpointed s) (step_is s true p.0) (record { stands = published_stands old new tables s h p.1; progress = refl; held = refl })
@@ -125,7 +125,7 @@ module _ (name : Kind → Bytes → Bytes) {A : Type 0} where
   checkpoint_as old new tables s was (Err NoParent) h p = absurd p
 
   -- and what it published is kept from then on
-  pub kept_anew : (old new : Records) (tables : Tables A) (was now : Checkpoints A) (r : Result (Unit {0}) ImportKind) → new.records ≡ old.records
+  pub kept_anew : (old new : Records) (tables : Tables A) (was now : Checkpoints A) (r : Result (Unit {0}) Fault) → new.records ≡ old.records
       → OnOk r (IsNext new was now) → OnErr r (AreStill old new was now) → ((s : State) → Stands name old tables s → Publishes s old new r) → OnOk r (EntersAll name old tables (rows_of was.refs) (rows_of now.refs))
       → KeepsFromEach name old new tables was now Checkpoint r
   kept_anew old new tables was now (Ok x) same next still published entered = λ s h k t e.
@@ -140,13 +140,13 @@ module _ (name : Kind → Bytes → Bytes) {A : Type 0} where
 
   -- what another command leaves of it
   pub kept_on : (old new : Records) (tables : Tables A) (checkpoints : Checkpoints A) (c : Command) → IsOther c → checkpoints.records ≤ length old.records → Extends old.records new.records → new.refs ≡ old.refs
-      → (r : Result (Unit {0}) ImportKind) → KeepsFromEach name old new tables checkpoints checkpoints c r
+      → (r : Result (Unit {0}) Fault) → KeepsFromEach name old new tables checkpoints checkpoints c r
   kept_on old new tables checkpoints c other fits e same r = λ s h k. by s k r
     where
       left : left_of checkpoints new ≡ left_of checkpoints old
       left = left_same old new checkpoints.records fits e same
 
-      by : (s : State) → Keeps old checkpoints s → (r : Result (Unit {0}) ImportKind) → KeepsAfter name old new checkpoints checkpoints s c r
+      by : (s : State) → Keeps old checkpoints s → (r : Result (Unit {0}) Fault) → KeepsAfter name old new checkpoints checkpoints s c r
       by s k (Ok x) = λ t e.
           let p = subst (λ r. IfOk r (HasKept name s)) e (kept_still name s c other) in
           record {
@@ -165,7 +165,7 @@ module _ (name : Kind → Bytes → Bytes) {A : Type 0} where
       record { leaves = record { history = ap history_of whole; count = h.count }; names = subst (AreNames (start (history_of r)).published) (sym h.refs) tt }
 
   -- and what one leaves that adds nothing
-  pub kept_here : (r : Records) (tables : Tables A) (checkpoints : Checkpoints A) (c : Command) → IsOther c → checkpoints.records ≤ length r.records → (a : Result (Unit {0}) ImportKind) → KeepsFromEach name r r tables checkpoints checkpoints c a
+  pub kept_here : (r : Records) (tables : Tables A) (checkpoints : Checkpoints A) (c : Command) → IsOther c → checkpoints.records ≤ length r.records → (a : Result (Unit {0}) Fault) → KeepsFromEach name r r tables checkpoints checkpoints c a
   kept_here r tables checkpoints c other fits a = kept_on r r tables checkpoints c other fits (same_records r.records r.records refl) refl a
 
 -- ---- what is left
@@ -212,7 +212,7 @@ module _ {A : Type 0} where
   pub all_none : (r : Records) (checkpoints : Checkpoints A) → AreNone r checkpoints → HoldsAll r checkpoints
   all_none r checkpoints h = λ all. subst (λ refs. AreNames refs (rows_of checkpoints.refs)) (sym (h.all all)) (subst (AreNames {X = Bytes} []) (sym h.refs) tt)
 
-  pub moved : (old new : Records) (was now : Checkpoints A) (r : Result (Unit {0}) ImportKind) → OnOk r (IsNext new was now) → OnErr r (AreStill old new was now) → Moves old new was now
+  pub moved : (old new : Records) (was now : Checkpoints A) (r : Result (Unit {0}) Fault) → OnOk r (IsNext new was now) → OnErr r (AreStill old new was now) → Moves old new was now
   moved old new was now (Ok x) next still = inr next
   moved old new was now (Err e) next still = inl still
 

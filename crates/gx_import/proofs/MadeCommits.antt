@@ -11,13 +11,11 @@ use Rattle.gx_model.specs.Histories.{IsIn, with_one}
 use Rattle.gx_model.specs.Growth.{with_values}
 use Rattle.gx_model.specs.Commands.{Change, CommitParts}
 use Rattle.gx_model.specs.Replay.{State, added, all_changed, all_committed, committed_to, first_parent, marked, on_branch, starting_files, step_commit}
-use Rattle.gx_import.specs.declared.fault.ImportKind.{ImportKind}
 use Rattle.gx_import.specs.Additions.{Clash, added_by_commit, blobs_added, commit_added, commit_made, unless_refused, values_made}
 use Rattle.gx_import.specs.Answers.{AddsAs}
 use Rattle.gx_object.specs.declared.name.Name.{Name}
 use Rattle.gx_import.specs.Objects.{IsCommitOf}
 use Rattle.gx_import.specs.Rows.{AreAll}
-use Rattle.gx_import.specs.ImportKinds.{fault_of}
 use Rattle.gx_import.proofs.GrownStates.{all_keep, changes_after, clash_after, clash_first, commits_keep}
 use Rattle.gx_import.proofs.PartAnswers.{adds_refused, gives_refused}
 use Rattle.gx_import.proofs.Refusals.{first_answers, merged_answer}
@@ -33,12 +31,12 @@ module _ (name : Kind → Bytes → Bytes) (s : State) (c : CommitParts) where
   after_first first = and_then (all_committed name c.ref s c.merges) (after_others first)
 
   -- the first parent is refused
-  pub first_refused : {Z : Type 0} (clash : Type 0) (Be : State → Z → Type 0) (e : ImportKind) → IsFaultOf (fault_of e) (first_parent name s c) → AddsAs clash Be (Err e) (step_commit name s c)
+  pub first_refused : {Z : Type 0} (clash : Type 0) (Be : State → Z → Type 0) (e : Fault) → IsFaultOf e (first_parent name s c) → AddsAs clash Be (Err e) (step_commit name s c)
   first_refused clash Be e h = gives_refused clash Be e (first_parent name s c) after_first (first_answers name s c) h
 
   module _ (first : Option Commit) (k : first_parent name s c ≡ Ok first) where
     -- another parent is
-    pub others_refused : {Z : Type 0} (clash : Type 0) (Be : State → Z → Type 0) (e : ImportKind) → IsFaultOf (fault_of e) (all_committed name c.ref s c.merges) → AddsAs clash Be (Err e) (step_commit name s c)
+    pub others_refused : {Z : Type 0} (clash : Type 0) (Be : State → Z → Type 0) (e : Fault) → IsFaultOf e (all_committed name c.ref s c.merges) → AddsAs clash Be (Err e) (step_commit name s c)
     others_refused clash Be e h =
         subst (AddsAs clash Be (Err e)) (sym (ap (λ o. and_then o after_first) k))
         (gives_refused clash Be e (all_committed name c.ref s c.merges) (after_others first) (merged_answer name c.ref s c.merges) h)
@@ -57,7 +55,7 @@ module _ (name : Kind → Bytes → Bytes) (s : State) (c : CommitParts) where
       adding = ap (unless_refused (λ p. unless_refused (values_made name s c p) (all_committed name c.ref s c.merges))) k ∙ ap (unless_refused (values_made name s c first)) l
 
       -- the changes are
-      pub changes_refused : {X Z : Type 0} (vs : List Value) (Is : State × FileMap Bytes → X → Type 0) (Be : State → Z → Type 0) (e : ImportKind)
+      pub changes_refused : {X Z : Type 0} (vs : List Value) (Is : State × FileMap Bytes → X → Type 0) (Be : State → Z → Type 0) (e : Fault)
           → AddsAs (Clash name vs blobs) Is (Err e) changed_files → AddsAs (Clash name vs (added_by_commit name s c)) Be (Err e) (step_commit name s c)
       changes_refused vs Is Be e h =
           subst (λ xs. AddsAs (Clash name vs xs) Be (Err e) (step_commit name s c)) (sym adding)
@@ -81,7 +79,7 @@ module _ (name : Kind → Bytes → Bytes) (s : State) (c : CommitParts) where
         then_set t = Ok (on_branch c.ref (Some made) (marked c.mark (commit_value made) t))
 
         -- its trees or itself are
-        pub made_refused : {X Z : Type 0} (vs now : List Value) → vs ≡ s.history.values → now ≡ r.0.history.values → (Is : State → X → Type 0) (Be : State → Z → Type 0) (e : ImportKind)
+        pub made_refused : {X Z : Type 0} (vs now : List Value) → vs ≡ s.history.values → now ≡ r.0.history.values → (Is : State → X → Type 0) (Be : State → Z → Type 0) (e : Fault)
             → AddsAs (Clash name now (commit_added r.1 made)) Is (Err e) (Ok (added (commit_value made) r.0)) → AddsAs (Clash name vs (added_by_commit name s c)) Be (Err e) (step_commit name s c)
         made_refused vs now old new Is Be e h =
             let values : now ≡ fold with_one vs blobs = new ∙ changes_after name s (starting_files first) c.changes r m ∙ ap (λ us. fold with_one us blobs) (sym old) in

@@ -9,8 +9,6 @@ use Rattle.gx_model.specs.Values.{Commit}
 use Rattle.gx_model.specs.Commands.{CommitIsh}
 use Rattle.gx_model.specs.Replay.{State, all_committed, committed_for, with_first_parent}
 use Rattle.gx_object.specs.declared.name.Name.{Name}
-use Rattle.gx_import.specs.declared.fault.ImportKind.{ImportKind}
-use Rattle.gx_import.specs.ImportKinds.{fault_of}
 use Rattle.gx_import.specs.Objects.{IsCommitOf}
 use Rattle.gx_import.specs.Rows.{AreAll, AreBoth}
 use Rattle.gx_import.proofs.FaultSteps.{fault_then}
@@ -65,11 +63,11 @@ module _ (name : Kind → Bytes → Bytes) (b : Bytes) (s : State) (made : Optio
       }
 
   -- one is refused
-  pub part_refused : (whole rest : List CommitIsh) (x : CommitIsh) (names : List Name) → ArePartOf whole (x ∷ rest) names → (e : ImportKind) → IsFaultOf (fault_of e) (committed_for name b s x)
-      → IsFaultOf (fault_of e) (all_committed name b s whole)
+  pub part_refused : (whole rest : List CommitIsh) (x : CommitIsh) (names : List Name) → ArePartOf whole (x ∷ rest) names → (e : Fault) → IsFaultOf e (committed_for name b s x)
+      → IsFaultOf e (all_committed name b s whole)
   part_refused whole rest x names h e k =
-      subst (IsFaultOf (fault_of e)) (sym h.left)
-      (fault_then (fault_of e) (all_committed name b s (x ∷ rest)) (λ cs. Ok (h.done ++ cs)) (fault_then (fault_of e) (committed_for name b s x) (λ c. and_then (all_committed name b s rest) (λ cs. Ok (c ∷ cs))) k))
+      subst (IsFaultOf e) (sym h.left)
+      (fault_then e (all_committed name b s (x ∷ rest)) (λ cs. Ok (h.done ++ cs)) (fault_then e (committed_for name b s x) (λ c. and_then (all_committed name b s rest) (λ cs. Ok (c ∷ cs))) k))
 
   -- all of them
   pub part_all : (whole : List CommitIsh) (names : List Name) → ArePartOf whole [] names

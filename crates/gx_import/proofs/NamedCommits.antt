@@ -15,7 +15,7 @@ use Rattle.std.specs.Prelude.{List}
 use Rattle.gx_import.specs.declared.object.Object.{Object}
 use Rattle.gx_import.specs.declared.branches.Tip.{Tip}
 use Rattle.gx_import.specs.declared.tables.Tables.{Tables}
-use Rattle.gx_import.specs.declared.fault.ImportKind.{ImportKind}
+use Rattle.gx_model.specs.declared.faults.Fault.{Fault}
 use Rattle.gx_import.specs.Answers.{GivesAs}
 use Rattle.gx_import.specs.Objects.{IsCommitOf, IsOf, branch_object}
 use Rattle.gx_import.specs.Rows.{AreBoth, rows_of}
@@ -54,7 +54,7 @@ module _ (name : Kind → Bytes → Bytes) {A : Type 0} where
 
   -- and one that names none
   pub revision_named : (r : Records) (tables : Tables A) (s : State) → Stands name r tables s → (text : Bytes) → None ≡ lookup (same_bytes text) (rows_of tables.branches)
-      → (result : Result Object ImportKind) → GivesAs (IsOf name (history_of r).values) result (and_then (revision_of text) (λ v. value_denoted name (history_of r) v))
+      → (result : Result Object Fault) → GivesAs (IsOf name (history_of r).values) result (and_then (revision_of text) (λ v. value_denoted name (history_of r) v))
       → GivesAs (IsOf name s.history.values) result (value_named name s (Named text))
   revision_named r tables s h text e result k =
       let none = none_found name A s.history.values (lookup (same_bytes text) s.branches)

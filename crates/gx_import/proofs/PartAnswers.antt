@@ -9,14 +9,13 @@ use Rattle.gx_model.specs.Texts.{Bytes}
 use Rattle.gx_store.specs.declared.fault.StoreFault.{StoreFault}
 use Rattle.gx_store.specs.declared.fault.StoreFault.TheVariants as store
 use Rattle.gx_repo.specs.Additions.{Adds, AddsAll}
-use Rattle.gx_import.specs.declared.fault.ImportKind.{ImportKind}
-use Rattle.gx_import.specs.declared.fault.ImportKind.TheVariants.{OutOfMemory, ReadFailed, WriteFailed, UnknownCommand, BadLine, BadNumber, TruncatedData, BadPath, PathTooLong, BadMode, BadIdent, BadRefName, UnknownMark, WrongKind, UnknownObject, NoSuchPath, RootNotTree, FromItself, EmptyBranch, Unsupported, LateOption, MissingDone, NotFastForward, NameHeld, BadRevision, UnknownRef, Ambiguous, NoParent}
+use Rattle.gx_model.specs.declared.faults.Fault.TheVariants.{OutOfMemory, ReadFailed, WriteFailed, UnknownCommand, BadLine, BadNumber, TruncatedData, BadPath, PathTooLong, BadMode, BadIdent, BadRefName, UnknownMark, WrongKind, UnknownObject, NoSuchPath, RootNotTree, FromItself, EmptyBranch, Unsupported, LateOption, MissingDone, NotFastForward, NameHeld, BadRevision, UnknownRef, Ambiguous, NoParent}
 use Rattle.gx_import.specs.Answers.{AddsAs}
-use Rattle.gx_import.specs.ImportKinds.{fault_of, of_store}
+use Rattle.gx_store.specs.StoreFaults.{fault_of as of_store}
 use Rattle.gx_import.proofs.Refusals.{IsAnswer}
 
 -- what is said of a part, where its clash is one of the whole
-pub adds_more : {X Y : Type 0} (clash other : Type 0) (Is Be : Y → X → Type 0) → (clash → other) → ((y : Y) (x : X) → Is y x → Be y x) → (result : Result X ImportKind) (given : Result Y Fault)
+pub adds_more : {X Y : Type 0} (clash other : Type 0) (Is Be : Y → X → Type 0) → (clash → other) → ((y : Y) (x : X) → Is y x → Be y x) → (result : Result X Fault) (given : Result Y Fault)
     → AddsAs clash Is result given → AddsAs other Be result given
 adds_more clash other Is Be f k (Ok x) given h = (h.0, h.1, k h.0 x h.2)
 adds_more clash other Is Be f k (Err OutOfMemory) given h = tt
@@ -49,7 +48,7 @@ adds_more clash other Is Be f k (Err Ambiguous) given h = h
 adds_more clash other Is Be f k (Err NoParent) given h = h
 
 -- a part is refused
-pub adds_refused : {X Y Z W : Type 0} (clash other : Type 0) (Is : Y → X → Type 0) (Be : W → Z → Type 0) → (clash → other) → (e : ImportKind) (given : Result Y Fault) (next : Y → Result W Fault)
+pub adds_refused : {X Y Z W : Type 0} (clash other : Type 0) (Is : Y → X → Type 0) (Be : W → Z → Type 0) → (clash → other) → (e : Fault) (given : Result Y Fault) (next : Y → Result W Fault)
     → AddsAs clash Is (Err e) given → AddsAs other Be (Err e) (and_then given next)
 adds_refused clash other Is Be f OutOfMemory given next h = tt
 adds_refused clash other Is Be f ReadFailed given next h = ap (λ r. and_then r next) h
@@ -81,8 +80,8 @@ adds_refused clash other Is Be f Ambiguous given next h = ap (λ r. and_then r n
 adds_refused clash other Is Be f NoParent given next h = ap (λ r. and_then r next) h
 
 -- a part that adds nothing is refused
-pub gives_refused : {Y Z W : Type 0} (clash : Type 0) (Be : W → Z → Type 0) (e : ImportKind) (given : Result Y Fault) (next : Y → Result W Fault) → IsAnswer given
-    → IsFaultOf (fault_of e) given → AddsAs clash Be (Err e) (and_then given next)
+pub gives_refused : {Y Z W : Type 0} (clash : Type 0) (Be : W → Z → Type 0) (e : Fault) (given : Result Y Fault) (next : Y → Result W Fault) → IsAnswer given
+    → IsFaultOf e given → AddsAs clash Be (Err e) (and_then given next)
 gives_refused clash Be OutOfMemory given next a h = tt
 gives_refused clash Be ReadFailed given next a h = ap (λ r. and_then r next) h
 gives_refused clash Be WriteFailed given next a h = ap (λ r. and_then r next) h

@@ -21,7 +21,6 @@ use Rattle.gx_text.specs.Devices.{FailedWithin, Sends, Taken, Took}
 use Rattle.gx_import.specs.Additions.{tag_made}
 use Rattle.gx_import.specs.Imports.{last_number, progress_of}
 use Rattle.gx_import.specs.Replaying.{Writes}
-use Rattle.gx_import.specs.declared.fault.ImportKind.{ImportKind}
 
 -- any command but a checkpoint
 abbrev pub IsOther : Command → Type 0
@@ -224,10 +223,10 @@ sent_within (Some was) now text n h k = (take n text, drop n text, sym (take-app
     left = omega (arith, length-drop n text)
 
 -- a text that is written behind another one
-pub writes_later : (was mid now : Option Taken) (a b : Bytes) (r : Result (Unit {0}) ImportKind) → Took was mid a → Writes mid now b r → Writes was now (a ++ b) r
+pub writes_later : (was mid now : Option Taken) (a b : Bytes) (r : Result (Unit {0}) Fault) → Took was mid a → Writes mid now b r → Writes was now (a ++ b) r
 writes_later was mid now a b (Ok x) h k = took_more was mid now a b h k
 writes_later was mid now a b (Err e) h k = (k.0, failed_later was mid now a b h k.1)
 
 -- one that isn't written is the front of a longer one
-pub writes_sooner : (was now : Option Taken) (a b : Bytes) (e : ImportKind) → Writes was now a (Err e) → Writes was now (a ++ b) (Err e)
+pub writes_sooner : (was now : Option Taken) (a b : Bytes) (e : Fault) → Writes was now a (Err e) → Writes was now (a ++ b) (Err e)
 writes_sooner was now a b e h = (h.0, failed_sooner was now a b h.1)

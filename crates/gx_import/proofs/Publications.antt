@@ -20,8 +20,8 @@ use Rattle.gx_import.specs.Publishing.{Publishes}
 use Rattle.gx_import.specs.Replaying.{EndsAs, IsLast}
 use Rattle.gx_import.specs.Standing.{Extends}
 use Rattle.gx_import.specs.declared.report.Report.{Report}
-use Rattle.gx_import.specs.declared.fault.ImportKind.{ImportKind}
-use Rattle.gx_import.specs.declared.fault.ImportKind.TheVariants.{OutOfMemory, ReadFailed, WriteFailed, UnknownCommand, BadLine, BadNumber, TruncatedData, BadPath, PathTooLong, BadMode, BadIdent, BadRefName, UnknownMark, WrongKind, UnknownObject, NoSuchPath, RootNotTree, FromItself, EmptyBranch, Unsupported, LateOption, MissingDone, NotFastForward, NameHeld, BadRevision, UnknownRef, Ambiguous, NoParent}
+use Rattle.gx_model.specs.declared.faults.Fault.{Fault}
+use Rattle.gx_model.specs.declared.faults.Fault.TheVariants.{OutOfMemory, ReadFailed, WriteFailed, UnknownCommand, BadLine, BadNumber, TruncatedData, BadPath, PathTooLong, BadMode, BadIdent, BadRefName, UnknownMark, WrongKind, UnknownObject, NoSuchPath, RootNotTree, FromItself, EmptyBranch, Unsupported, LateOption, MissingDone, NotFastForward, NameHeld, BadRevision, UnknownRef, Ambiguous, NoParent}
 use Rattle.gx_import.proofs.ProgressTexts.{begins_outcome, numbers_outcome}
 use Rattle.gx_import.proofs.ReachedStates.{from_one, imported_is}
 
@@ -61,7 +61,7 @@ module _ (name : Kind → Bytes → Bytes) where
         (commands.list, [], sym (append-nil commands.list), sym (ap (λ m. m + 1) k.count), s.progress, s.kept, k.cut, leaves),
       )
 
-  not_published : (old new mid last : Records) (commands : Commands) (n : ℕ) (s : State) (was now : Option Taken) → IsLast name old commands n s was now → (count : ℕ) → Leaves new count s.kept → (e : ImportKind)
+  not_published : (old new mid last : Records) (commands : Commands) (n : ℕ) (s : State) (was now : Option Taken) → IsLast name old commands n s was now → (count : ℕ) → Leaves new count s.kept → (e : Fault)
       → Publishes s mid last (Err e) → Replays name old new commands (replayed_commands name (history_of old) commands) was now (Err (record { command = n + 1; kind = e; checkpoints = count }))
   not_published old new mid last commands n s was now k count leaves OutOfMemory h = no_memory old new commands n s was now k count leaves
   not_published old new mid last commands n s was now k count leaves ReadFailed h = absurd h
@@ -112,7 +112,7 @@ module _ (name : Kind → Bytes → Bytes) where
       by (Some c) last = subst (λ o. Replays name old new (commands_from c) o was now (Ok (record { commands = n; objects = length new.records - length old.records; refs = count }))) (sym (imported_is name (history_of old) c)) (replays (commands_from c) last)
 
   -- one that isn't published
-  pub imports_none : (old new mid last : Records) (coming : Option Coming) (n : ℕ) (s : State) (was now : Option Taken) → EndsAs name old coming n s was now → (count : ℕ) → Leaves new count s.kept → (e : ImportKind) → Publishes s mid last (Err e)
+  pub imports_none : (old new mid last : Records) (coming : Option Coming) (n : ℕ) (s : State) (was now : Option Taken) → EndsAs name old coming n s was now → (count : ℕ) → Leaves new count s.kept → (e : Fault) → Publishes s mid last (Err e)
       → Imports name old new coming was now (Err (record { command = n + 1; kind = e; checkpoints = count }))
   imports_none old new mid last None n s was now k count leaves e h = (only k.0, tt, not_published old new mid last (only k.0) n s was now k.1 count leaves e h)
   imports_none old new mid last (Some coming) n s was now k count leaves e h =

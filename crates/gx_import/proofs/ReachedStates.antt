@@ -17,42 +17,22 @@ use Rattle.gx_model.specs.Replay.{Outcome, State, byte_cmp, imported, refused, r
 use Rattle.gx_model.proofs.GitlinkSteps.{IsFreeState, step_free}
 use Rattle.gx_text.specs.Devices.{Coming, FailedWithin, Taken, Took, TookFront}
 use Rattle.gx_stream.specs.Heard.{heard}
-use Rattle.gx_command.specs.CommandFaults as command
 use Rattle.gx_command.specs.Reading.{Reads, commands_from}
 use Rattle.gx_command.specs.Views.{shown_command}
 use Rattle.gx_command.specs.declared.commands.Command as read
 use Rattle.gx_command.specs.declared.fault.CommandFault.{CommandFault}
-use Rattle.gx_command.specs.declared.fault.CommandFault.TheVariants as command_fault
 use Rattle.gx_import.specs.Additions.{ClashesAt}
 use Rattle.gx_import.specs.Applying.{Applies}
-use Rattle.gx_import.specs.ImportKinds.{fault_of, of_command}
+use Rattle.gx_command.specs.CommandFaults.{fault_of as of_command}
 use Rattle.gx_import.specs.Imports.{Imports, IsCutAt, Leaves, LeavesBefore, Replays, cut_off, last_number, line_of, only, progress_of, replayed_on}
 use Rattle.gx_import.specs.Replaying.{EndsAs, IsLast}
 use Rattle.gx_import.specs.Objects.{IsOf, IsTagOf}
 use Rattle.gx_import.specs.Rows.{AreBoth, AreRows}
 use Rattle.gx_import.specs.Standing.{AreEmpty, Extends, IsTip, Stands}
 use Rattle.gx_import.specs.declared.fault.ImportFault.{ImportFault}
-use Rattle.gx_import.specs.declared.fault.ImportKind.{ImportKind}
-use Rattle.gx_import.specs.declared.fault.ImportKind.TheVariants.{OutOfMemory, ReadFailed, WriteFailed, UnknownCommand, BadLine, BadNumber, TruncatedData, BadPath, PathTooLong, BadMode, BadIdent, BadRefName, UnknownMark, WrongKind, UnknownObject, NoSuchPath, RootNotTree, FromItself, EmptyBranch, Unsupported, LateOption, MissingDone, NotFastForward, NameHeld, BadRevision, UnknownRef, Ambiguous, NoParent}
+use Rattle.gx_model.specs.declared.faults.Fault.TheVariants.{OutOfMemory, ReadFailed, WriteFailed, UnknownCommand, BadLine, BadNumber, TruncatedData, BadPath, PathTooLong, BadMode, BadIdent, BadRefName, UnknownMark, WrongKind, UnknownObject, NoSuchPath, RootNotTree, FromItself, EmptyBranch, Unsupported, LateOption, MissingDone, NotFastForward, NameHeld, BadRevision, UnknownRef, Ambiguous, NoParent}
 use Rattle.gx_import.specs.declared.tables.Tables.{Tables}
 use Rattle.gx_import.proofs.ProgressTexts.{begins_outcome, failed_later, failed_sooner, last_progress, numbers_outcome, took_more, took_none}
-
--- a fault of the reader is one of the import
-same_fault : (f : CommandFault) → fault_of (of_command f) ≡ command.fault_of f
-same_fault command_fault.OutOfMemory = refl
-same_fault command_fault.ReadFailed = refl
-same_fault command_fault.TruncatedData = refl
-same_fault command_fault.BadNumber = refl
-same_fault command_fault.UnknownCommand = refl
-same_fault command_fault.BadLine = refl
-same_fault command_fault.BadPath = refl
-same_fault command_fault.PathTooLong = refl
-same_fault command_fault.BadMode = refl
-same_fault command_fault.BadIdent = refl
-same_fault command_fault.BadRefName = refl
-same_fault command_fault.Unsupported = refl
-same_fault command_fault.LateOption = refl
-same_fault command_fault.MissingDone = refl
 
 -- numbers of commands are from 1
 pub from_one : (n : ℕ) → 1 ≤ n + 1
@@ -123,11 +103,11 @@ module _ (name : Kind → Bytes → Bytes) where
     number_within left = subst (λ o. n + 1 ≤ last_number o) (sym (k.outcome left)) (numbers_outcome name n s left.list left.fault)
 
     -- what the import answers at the next command, where this is left
-    abbrev Stops : Commands → Option Taken → ImportKind → Type 0
+    abbrev Stops : Commands → Option Taken → Fault → Type 0
     Stops left now kind = Replays name old new (behind before left) (replayed_on name old (behind before left)) was now (Err (record { command = n + 1; kind = kind; checkpoints = count }))
 
     -- what is left is what was kept before the next command
-    left_before : (kind : ImportKind) (cs : List Command) → LeavesBefore name old new (before ++ cs) (record { command = n + 1; kind = kind; checkpoints = count })
+    left_before : (kind : Fault) (cs : List Command) → LeavesBefore name old new (before ++ cs) (record { command = n + 1; kind = kind; checkpoints = count })
     left_before kind cs = (before, cs, refl, sym (ap (λ m. m + 1) k.count), s.progress, s.kept, cut_here old before n s was mid k, leaves)
 
     -- memory ran out
@@ -135,9 +115,9 @@ module _ (name : Kind → Bytes → Bytes) where
     out_of_memory left = inr (from_one n, number_within left, inl (refl, took_front left), left_before OutOfMemory left.list)
 
     -- what is left is the reader's fault
-    fault_read : (left : Commands) (f : CommandFault) → left ≡ stops (Some (command.fault_of f)) → Stops left mid (of_command f)
+    fault_read : (left : Commands) (f : CommandFault) → left ≡ stops (Some (of_command f)) → Stops left mid (of_command f)
     fault_read left f e =
-        inl (s.progress, s.kept, k.outcome left ∙ ap (λ l. replayed name n s l.list l.fault) e ∙ ap (λ g. refused (n + 1) g s.progress s.kept) (sym (same_fault f)), k.progress, leaves)
+        inl (s.progress, s.kept, k.outcome left ∙ ap (λ l. replayed name n s l.list l.fault) e, k.progress, leaves)
 
     module _ (c : Command) (left : Commands) (now : Option Taken) where
       -- the step that is refused ends the outcome
@@ -145,8 +125,8 @@ module _ (name : Kind → Bytes → Bytes) where
       refused_here f e = k.outcome (with_first c left) ∙ ap (λ r. elim r as (λ _. Outcome) [ Ok u ↦ replayed name (n + 1) u left.list left.fault | Err g ↦ refused (n + 1) g s.progress s.kept ]) e
 
       -- and the sink is as it was
-      refused_as : (e : ImportKind) → (step name s c ≡ Err (fault_of e)) × (now ≡ mid) → Stops (with_first c left) now e
-      refused_as e h = inl (s.progress, s.kept, refused_here (fault_of e) h.0, subst (λ m. Took was m s.progress) (sym h.1) k.progress, leaves)
+      refused_as : (e : Fault) → (step name s c ≡ Err e) × (now ≡ mid) → Stops (with_first c left) now e
+      refused_as e h = inl (s.progress, s.kept, refused_here e h.0, subst (λ m. Took was m s.progress) (sym h.1) k.progress, leaves)
 
       -- the sink failed within the text of a step
       failed_here : (t : State) (text : Bytes) → step name s c ≡ Ok t → t.progress ≡ s.progress ++ text → FailedWithin mid now text
@@ -165,7 +145,7 @@ module _ (name : Kind → Bytes → Bytes) where
           (before, text, left.list, ap (λ x. before ++ x ∷ left.list) e, sym (ap (λ m. m + 1) k.count), (mid, subst (Took was mid) (sym said) k.progress, failed))
 
       -- a command that isn't applied
-      stopped : {A : Type 0} (r now_r : Records) (tables : Tables A) (e : ImportKind) → Applies name r now_r tables s c mid now (Err e) → Stops (with_first c left) now e
+      stopped : {A : Type 0} (r now_r : Records) (tables : Tables A) (e : Fault) → Applies name r now_r tables s c mid now (Err e) → Stops (with_first c left) now e
       stopped r now_r tables OutOfMemory h = subst (λ m. Stops (with_first c left) m OutOfMemory) (sym h) (out_of_memory (with_first c left))
       stopped r now_r tables WriteFailed h =
           elim h as (λ _. Stops (with_first c left) now WriteFailed) [
@@ -234,7 +214,7 @@ module _ (name : Kind → Bytes → Bytes) where
       (subst (λ cs. Replays name old last cs (replayed_on name old cs) was now (Err fault)) (sym e) h)
 
   pub at_stopped : {A : Type 0} (old last r new : Records) (tables : Tables A) (coming : Option Coming) (n : ℕ) (s : State) (c : read.Command A) (ahead later : Option Commands) (was mid now : Option Taken)
-      → IsAt old coming n s ahead was mid → Reads ahead later (Ok (Some c)) → (e : ImportKind) → Applies name r new tables s (shown_command c) mid now (Err e)
+      → IsAt old coming n s ahead was mid → Reads ahead later (Ok (Some c)) → (e : Fault) → Applies name r new tables s (shown_command c) mid now (Err e)
       → (count : ℕ) → Leaves last count s.kept → Imports name old last coming was now (Err (record { command = n + 1; kind = e; checkpoints = count }))
   at_stopped old last r new tables None n s c ahead later was mid now k reads e h count leaves =
       let left = stops None in
@@ -248,11 +228,11 @@ module _ (name : Kind → Bytes → Bytes) where
       → (f : CommandFault) → Reads {A = A} ahead later (Err f) → (count : ℕ) → Leaves last count s.kept
       → Imports name old last coming was now (Err (record { command = n + 1; kind = of_command f; checkpoints = count }))
   at_refused A old last None n s ahead later was now k f reads count leaves =
-      let left = stops (Some (command.fault_of f)) in
+      let left = stops (Some (of_command f)) in
       (behind k.0 left, (f, refl), fault_read name old last k.0 n s was now k.1 count leaves left f refl)
   at_refused A old last (Some coming) n s ahead later was now k f reads count leaves =
       let q = subst (λ o. Reads {A = A} o later (Err f)) k.2 reads in
-      let goal : ImportKind → Type 0 = λ kind. Imports name old last (Some coming) was now (Err (record { command = n + 1; kind = kind; checkpoints = count })) in
+      let goal : Fault → Type 0 = λ kind. Imports name old last (Some coming) was now (Err (record { command = n + 1; kind = kind; checkpoints = count })) in
       elim q.1 as (λ _. goal (of_command f)) [
         | inl e ↦
             let answer = told old last coming (behind k.0 k.1) was now (record { command = n + 1; kind = OutOfMemory; checkpoints = count }) k.3 (out_of_memory name old last k.0 n s was now k.4 count leaves k.1) in

@@ -13,17 +13,16 @@ use Rattle.gx_text.specs.Devices.{Coming, Taken}
 use Rattle.gx_stream.specs.Heard.{heard}
 use Rattle.gx_command.specs.Reading.{commands_from}
 use Rattle.gx_import.specs.Exported.{RefusesItsExport, UnsupportedOr, nothing}
-use Rattle.gx_import.specs.ImportKinds.{fault_of}
 use Rattle.gx_import.specs.Imports.{Imports}
 use Rattle.gx_import.specs.declared.fault.ImportFault.{ImportFault}
-use Rattle.gx_import.specs.declared.fault.ImportKind.{ImportKind}
-use Rattle.gx_import.specs.declared.fault.ImportKind.TheVariants.{OutOfMemory, ReadFailed, WriteFailed, UnknownCommand, BadLine, BadNumber, TruncatedData, BadPath, PathTooLong, BadMode, BadIdent, BadRefName, UnknownMark, WrongKind, UnknownObject, NoSuchPath, RootNotTree, FromItself, EmptyBranch, Unsupported, LateOption, MissingDone, NotFastForward, NameHeld, BadRevision, UnknownRef, Ambiguous, NoParent}
+use Rattle.gx_model.specs.declared.faults.Fault.{Fault}
+use Rattle.gx_model.specs.declared.faults.Fault.TheVariants.{OutOfMemory, ReadFailed, WriteFailed, UnknownCommand, BadLine, BadNumber, TruncatedData, BadPath, PathTooLong, BadMode, BadIdent, BadRefName, UnknownMark, WrongKind, UnknownObject, NoSuchPath, RootNotTree, FromItself, EmptyBranch, Unsupported, LateOption, MissingDone, NotFastForward, NameHeld, BadRevision, UnknownRef, Ambiguous, NoParent}
 use Rattle.gx_import.specs.declared.report.Report.{Report}
 use Rattle.gx_import.proofs.ExportedAgain.{heard_short}
 use Rattle.gx_import.proofs.ReachedStates.{imported_is}
 
 -- one kind alone is the model's
-is_unsupported : (kind : ImportKind) → fault_of kind ≡ model.Unsupported → kind ≡ Unsupported
+is_unsupported : (kind : Fault) → kind ≡ model.Unsupported → kind ≡ Unsupported
 is_unsupported OutOfMemory e = absurd (cc e)
 is_unsupported ReadFailed e = absurd (cc e)
 is_unsupported WriteFailed e = absurd (cc e)
@@ -60,7 +59,7 @@ module _ (name : Kind → Bytes → Bytes) where
       → Imports name old new (Some coming) was now result → UnsupportedOr result
   answered old new coming was now number kept (Ok report) e h = absurd (cc (sym h.1 ∙ e))
   answered old new coming was now number kept (Err fault) e (inl r) =
-      let same : refused fault.command (fault_of fault.kind) r.0 r.1 ≡ refused number model.Unsupported [] kept = sym r.2 ∙ e in
+      let same : refused fault.command fault.kind r.0 r.1 ≡ refused number model.Unsupported [] kept = sym r.2 ∙ e in
       inl (is_unsupported fault.kind (cc same))
   answered old new coming was now number kept (Err fault) e (inr k) = elim k.2 as (λ _. UnsupportedOr (Err fault)) [
     | inl m ↦ inr (inl m.0)

@@ -15,10 +15,8 @@ use Rattle.gx_model.specs.Commands.{CommitIsh, Marked, Named, TagParts}
 use Rattle.gx_model.specs.Replay.{State, added, byte_cmp, commit_alone, committed, marked, or_branch, revision_value, step_tag}
 use Rattle.gx_object.specs.declared.name.Name.{Name}
 use Rattle.gx_import.specs.declared.object.Object.{Object}
-use Rattle.gx_import.specs.declared.fault.ImportKind.{ImportKind}
 use Rattle.gx_import.specs.Additions.{Clash, added_by_tag, tag_made, unless_refused}
 use Rattle.gx_import.specs.Answers.{AddsAs, GivesAs}
-use Rattle.gx_import.specs.ImportKinds.{fault_of}
 use Rattle.gx_import.specs.Objects.{IsCommitOf, IsOf, name_of_kind}
 use Rattle.gx_import.specs.Steps.{or_revision, value_named}
 use Rattle.gx_import.proofs.FaultSteps.{fault_then}
@@ -54,18 +52,18 @@ module _ (name : Kind → Bytes → Bytes) where
   of_kind values n k (tag_value t) e i m = rw e refl
 
   -- what names no value names no commit
-  pub target_refused : (s : State) (x : CommitIsh) (e : ImportKind) → IsFaultOf (fault_of e) (value_named name s x) → IsFaultOf (fault_of e) (committed name commit_alone s x)
-  target_refused s x e h = subst (IsFaultOf (fault_of e)) (sym (target_by s x)) (fault_then (fault_of e) (value_named name s x) commit_alone h)
+  pub target_refused : (s : State) (x : CommitIsh) (e : Fault) → IsFaultOf e (value_named name s x) → IsFaultOf e (committed name commit_alone s x)
+  target_refused s x e h = subst (IsFaultOf e) (sym (target_by s x)) (fault_then e (value_named name s x) commit_alone h)
 
   -- the name of a commit, or that of another value
-  pub target_named : (values : List Value) (s : State) (x : CommitIsh) (v : Value) → value_named name s x ≡ Ok v → (object : Object) → IsOf name values v object → (answer : Result Name ImportKind) → answer ≡ name_of_kind object kinds.Commit
+  pub target_named : (values : List Value) (s : State) (x : CommitIsh) (v : Value) → value_named name s x ≡ Ok v → (object : Object) → IsOf name values v object → (answer : Result Name Fault) → answer ≡ name_of_kind object kinds.Commit
       → GivesAs (IsCommitOf name values) answer (committed name commit_alone s x)
   target_named values s x v e object is answer same =
       subst (λ a. GivesAs (IsCommitOf name values) a (committed name commit_alone s x)) (sym same)
       (subst (GivesAs (IsCommitOf name values) (name_of_kind object kinds.Commit)) (sym (target_by s x ∙ ap (λ o. and_then o commit_alone) e)) (of_kind values object.name object.kind v is.kind is.stands is.named))
 
   -- the tag of this commit is refused
-  pub tag_refused : {X Z : Type 0} (vs : List Value) (s : State) (t : TagParts) (c : Commit) → committed name commit_alone s t.target ≡ Ok c → (Is : State → X → Type 0) (Be : State → Z → Type 0) (e : ImportKind)
+  pub tag_refused : {X Z : Type 0} (vs : List Value) (s : State) (t : TagParts) (c : Commit) → committed name commit_alone s t.target ≡ Ok c → (Is : State → X → Type 0) (Be : State → Z → Type 0) (e : Fault)
       → AddsAs (Clash name vs (tag_value (tag_made c t) ∷ [])) Is (Err e) (Ok (added (tag_value (tag_made c t)) s)) → AddsAs (Clash name vs (added_by_tag name s t)) Be (Err e) (step_tag name s t)
   tag_refused vs s t c k Is Be e h =
       subst (λ xs. AddsAs (Clash name vs xs) Be (Err e) (step_tag name s t)) (sym (ap (unless_refused (λ d. tag_value (tag_made d t) ∷ [])) k))

@@ -8,11 +8,10 @@ use Rattle.gx_model.specs.Commands.{Command, Progress}
 use Rattle.gx_model.specs.Replay.{State, step}
 use Rattle.gx_text.specs.Devices.{FailedWithin, Taken, Took}
 use Rattle.gx_import.specs.Additions.{Clash, values_added}
-use Rattle.gx_import.specs.ImportKinds.{fault_of}
 use Rattle.gx_import.specs.Imports.{line_of}
 use Rattle.gx_import.specs.Standing.{Stands}
-use Rattle.gx_import.specs.declared.fault.ImportKind.{ImportKind}
-use Rattle.gx_import.specs.declared.fault.ImportKind.TheVariants.{NameHeld, OutOfMemory, WriteFailed}
+use Rattle.gx_model.specs.declared.faults.Fault.{Fault}
+use Rattle.gx_model.specs.declared.faults.Fault.TheVariants.{NameHeld, OutOfMemory, WriteFailed}
 use Rattle.gx_import.specs.declared.tables.Tables.{Tables}
 
 -- the progress text that comes between two states
@@ -23,11 +22,11 @@ pub record IsProgress (before after : State) (text : Bytes) : Type 0 where
 module _ (name : Kind → Bytes → Bytes) {A : Type 0} where
   -- A command that is applied is the model's step, and the sink has its progress text. Otherwise the sink failed within the
   -- line of a progress, or it is as it was, and the step is refused so, a value that it adds clashes, or memory ran out.
-  abbrev pub Applies : Records → Records → Tables A → State → Command → Option Taken → Option Taken → Result (Unit {0}) ImportKind → Type 0
+  abbrev pub Applies : Records → Records → Tables A → State → Command → Option Taken → Option Taken → Result (Unit {0}) Fault → Type 0
   Applies old new tables s c was now (Ok _) = (t : State) × (text : Bytes) × (step name s c ≡ Ok t) × Stands name new tables t × IsProgress s t text × Took was now text
   Applies old new tables s c was now (Err OutOfMemory) = now ≡ was
-  Applies old new tables s c was now (Err NameHeld) = ((step name s c ≡ Err (fault_of NameHeld)) ⊎ Clash name s.history.values (values_added name s c)) × (now ≡ was)
+  Applies old new tables s c was now (Err NameHeld) = ((step name s c ≡ Err NameHeld) ⊎ Clash name s.history.values (values_added name s c)) × (now ≡ was)
   Applies old new tables s c was now (Err WriteFailed) =
-      ((step name s c ≡ Err (fault_of WriteFailed)) × (now ≡ was))
+      ((step name s c ≡ Err WriteFailed) × (now ≡ was))
       ⊎ ((t : State) × (text : Bytes) × (c ≡ Progress text) × (step name s c ≡ Ok t) × IsProgress s t (line_of text) × FailedWithin was now (line_of text))
-  Applies old new tables s c was now (Err e) = (step name s c ≡ Err (fault_of e)) × (now ≡ was)
+  Applies old new tables s c was now (Err e) = (step name s c ≡ Err e) × (now ≡ was)

@@ -44,7 +44,7 @@ use Rattle.gx_import.specs.Objects.{IsBlobOf, IsCommitOf, IsOf, IsTreeOf}
 use Rattle.gx_import.specs.Rows.{AreAll, AreBoth}
 use Rattle.gx_import.specs.Standing.{AreTipsAtHome, Follows, HasFilesOf, IsContentName, Stands}
 use Rattle.gx_import.specs.Steps.{bytes_held, optional_commit, value_named}
-use Rattle.gx_import.specs.declared.fault.ImportKind.{ImportKind}
+use Rattle.gx_model.specs.declared.faults.Fault.{Fault}
 use Rattle.gx_import.specs.declared.object.Object.{Object}
 use Rattle.gx_import.specs.declared.tables.Tables.{Tables}
 
@@ -53,28 +53,28 @@ abbrev pub commit_of : CommitParts → FileMap Bytes → List Commit → Commit
 commit_of parts files parents = commit files (commits_of parents) (text_made parts)
 
 -- where a call is accepted, the files at hand stay at home
-abbrev pub KeepsTipsAtHome : {A X : Type 0} → Tables A → Tables A → Result X ImportKind → Type 0
+abbrev pub KeepsTipsAtHome : {A X : Type 0} → Tables A → Tables A → Result X Fault → Type 0
 KeepsTipsAtHome was now answer =
     (name : Kind → Bytes → Bytes) (records : List Record) → AreTipsAtHome name records was → IfOk answer (λ _. AreTipsAtHome name records now)
 
 module _ {N : Type 0} (names : N → Kind → Bytes → Bytes) where
   -- the object that a text shows as a revision
-  abbrev pub ShowsRevision : Repository N → Bytes → Result Object ImportKind → Type 0
+  abbrev pub ShowsRevision : Repository N → Bytes → Result Object Fault → Type 0
   ShowsRevision repository text answer =
       GivesAs (IsOf (names repository.0) (values_of repository.1)) answer (and_then (revision_of text) (λ r. value_denoted (names repository.0) (history_of repository.1) r))
 
   -- the commit of an object, or why it is none
-  abbrev pub ShowsCommit : Repository N → Object → Result Name ImportKind → Type 0
+  abbrev pub ShowsCommit : Repository N → Object → Result Name Fault → Type 0
   ShowsCommit repository object answer =
       (value : Value) → IsOf (names repository.0) (values_of repository.1) value object → GivesAs (IsCommitOf (names repository.0) (values_of repository.1)) answer (denoted.commit_in value)
 
   -- the blob of this name, or why it is none
-  abbrev pub GivesBlob : Repository N → Name → Result Name ImportKind → Type 0
+  abbrev pub GivesBlob : Repository N → Name → Result Name Fault → Type 0
   GivesBlob repository called answer =
       GivesAs (IsBlobOf (names repository.0) (values_of repository.1) called) answer (bytes_held repository.1 called.bytes)
 
   -- the content of a file that is held, by its name
-  abbrev pub NamesContent : Repository N → Mode → DataRef → Result Name ImportKind → Type 0
+  abbrev pub NamesContent : Repository N → Mode → DataRef → Result Name Fault → Type 0
   NamesContent repository mode given answer =
       (s : State) → history_of repository.1 ≡ s.history → GivesAs (λ made called. IsContentName (names repository.0) s made mode called) answer (content (names repository.0) s mode given)
 
@@ -110,17 +110,17 @@ module _ {N : Type 0} (names : N → Kind → Bytes → Bytes) {A : Type 0} wher
   -- ---- what is looked up
 
   -- the object that a commit-ish names
-  abbrev pub NamesObject : Repository N → Tables A → CommitIsh A → Result Object ImportKind → Type 0
+  abbrev pub NamesObject : Repository N → Tables A → CommitIsh A → Result Object Fault → Type 0
   NamesObject repository tables named answer =
       InEach repository tables (λ s. GivesAs (IsOf (names repository.0) s.history.values) answer (value_named (names repository.0) s (shown_commit_ish named)))
 
   -- the commit that it names for a branch
-  abbrev pub NamesCommit : Repository N → Tables A → Bytes → CommitIsh A → Result Name ImportKind → Type 0
+  abbrev pub NamesCommit : Repository N → Tables A → Bytes → CommitIsh A → Result Name Fault → Type 0
   NamesCommit repository tables branch named answer =
       InEach repository tables (λ s. GivesAs (IsCommitOf (names repository.0) s.history.values) answer (replay.committed_for (names repository.0) branch s (shown_commit_ish named)))
 
   -- the commit that a reset names, where it names one
-  abbrev pub NamesTarget : Repository N → Tables A → Reset A → Result (Option Name) ImportKind → Type 0
+  abbrev pub NamesTarget : Repository N → Tables A → Reset A → Result (Option Name) Fault → Type 0
   NamesTarget repository tables reset answer =
       InEach repository tables (λ s.
       GivesAs (AreBoth (IsCommitOf (names repository.0) s.history.values)) answer
@@ -132,13 +132,13 @@ module _ {N : Type 0} (names : N → Kind → Bytes → Bytes) {A : Type 0} wher
       InEach repository tables (λ s. AreBoth (IsCommitOf (names repository.0) s.history.values) (own_commit (lookup (same_bytes branch) s.branches)) answer)
 
   -- the first parent of the commit that a command makes
-  abbrev pub NamesFirstParent : Repository N → Tables A → CommitCommand A → Result (Option Name) ImportKind → Type 0
+  abbrev pub NamesFirstParent : Repository N → Tables A → CommitCommand A → Result (Option Name) Fault → Type 0
   NamesFirstParent repository tables command answer =
       InEach repository tables (λ s.
       GivesAs (AreBoth (IsCommitOf (names repository.0) s.history.values)) answer (first_parent (names repository.0) s (commit_parts command)))
 
   -- this first parent, if there is one, and those that the command merges
-  abbrev pub NamesParents : Repository N → Tables A → CommitCommand A → Option Name → Result (Vec Name A) ImportKind → Type 0
+  abbrev pub NamesParents : Repository N → Tables A → CommitCommand A → Option Name → Result (Vec Name A) Fault → Type 0
   NamesParents repository tables command first answer =
       (s : State) (made : Option Commit) → Stands (names repository.0) repository.1 tables s → AreBoth (IsCommitOf (names repository.0) s.history.values) made first
       → GivesAs (λ commits called. AreAll (IsCommitOf (names repository.0) s.history.values) (with_first_parent made commits) called.items) answer
@@ -150,7 +150,7 @@ module _ {N : Type 0} (names : N → Kind → Bytes → Bytes) {A : Type 0} wher
       (s : State) × (made : Option Commit) × Stands (names repository.0) repository.1 tables s × AreBoth (IsCommitOf (names repository.0) s.history.values) made called
 
   -- the files that a commit with this first parent begins with
-  abbrev pub GivesStartingFiles : Repository N → Tables A → Option Name → Result NamedTree ImportKind → Type 0
+  abbrev pub GivesStartingFiles : Repository N → Tables A → Option Name → Result NamedTree Fault → Type 0
   GivesStartingFiles repository tables first answer =
       (s : State) (made : Option Commit) → Stands (names repository.0) repository.1 tables s → AreBoth (IsCommitOf (names repository.0) s.history.values) made first
       → IfOk answer (λ files. files.files ≡ named_map (names repository.0) (starting_files made))
@@ -158,7 +158,7 @@ module _ {N : Type 0} (names : N → Kind → Bytes → Bytes) {A : Type 0} wher
   -- ---- what is added
 
   -- a commit with these files and parents, and its trees
-  abbrev pub AddsCommit : Repository N → Repository N → NamedTree → List Name → CommitCommand A → Result Name ImportKind → Type 0
+  abbrev pub AddsCommit : Repository N → Repository N → NamedTree → List Name → CommitCommand A → Result Name Fault → Type 0
   AddsCommit old new tree parents command answer =
       (tables : Tables A) (s : State) (files : FileMap Bytes) (made : List Commit) → Stands (names old.0) old.1 tables s
       → AreFiles (names old.0) s.history.values files tree.files → AreAll (IsCommitOf (names old.0) s.history.values) made parents
@@ -167,7 +167,7 @@ module _ {N : Type 0} (names : N → Kind → Bytes → Bytes) {A : Type 0} wher
       answer (Ok (added (commit_value (commit_of (commit_parts command) files made)) s))
 
   -- a commit of this tree and these parents, without its trees
-  abbrev pub AddsCommitAlone : Repository N → Repository N → Name → List Name → CommitCommand A → Result Name ImportKind → Type 0
+  abbrev pub AddsCommitAlone : Repository N → Repository N → Name → List Name → CommitCommand A → Result Name Fault → Type 0
   AddsCommitAlone old new tree parents command answer =
       (tables : Tables A) (s : State) (files : FileMap Bytes) (made : List Commit) → Stands (names old.0) old.1 tables s
       → IsTreeOf (names old.0) s.history.values files tree → AreAll (IsCommitOf (names old.0) s.history.values) made parents
@@ -176,7 +176,7 @@ module _ {N : Type 0} (names : N → Kind → Bytes → Bytes) {A : Type 0} wher
       answer (Ok (added_alone (commit_value (commit_of (commit_parts command) files made)) s))
 
   -- a tag of this commit
-  abbrev pub AddsTag : Repository N → Repository N → Name → TagCommand A → Result Name ImportKind → Type 0
+  abbrev pub AddsTag : Repository N → Repository N → Name → TagCommand A → Result Name Fault → Type 0
   AddsTag old new object command answer =
       (tables : Tables A) (s : State) (target : Commit) → Stands (names old.0) old.1 tables s → IsCommitOf (names old.0) s.history.values target object
       → AddsAs (Clash (names old.0) (values_of old.1) (tag_value (tag_made target (tag_parts command)) ∷ []))
@@ -184,7 +184,7 @@ module _ {N : Type 0} (names : N → Kind → Bytes → Bytes) {A : Type 0} wher
       answer (Ok (added (tag_value (tag_made target (tag_parts command))) s))
 
   -- the content of a file
-  abbrev pub AddsContent : Repository N → Repository N → Tables A → Mode → GivenData A → Result Name ImportKind → Type 0
+  abbrev pub AddsContent : Repository N → Repository N → Tables A → Mode → GivenData A → Result Name Fault → Type 0
   AddsContent old new tables mode given answer =
       InEach old tables (λ s.
       AddsAs (Clash (names old.0) (values_of old.1) (content_added (shown_data given)))
@@ -192,7 +192,7 @@ module _ {N : Type 0} (names : N → Kind → Bytes → Bytes) {A : Type 0} wher
       answer (content (names old.0) s mode (shown_data given)))
 
   -- the blob of one change, whose files come from those that were
-  abbrev pub MakesChange : {X : Type 0} → Repository N → Repository N → Tables A → NamedTree → NamedTree → model.Change → Result X ImportKind → Type 0
+  abbrev pub MakesChange : {X : Type 0} → Repository N → Repository N → Tables A → NamedTree → NamedTree → model.Change → Result X Fault → Type 0
   MakesChange old new tables was now change answer =
       (s : State) (files : FileMap Bytes) → Stands (names old.0) old.1 tables s → AreFiles (names old.0) s.history.values files was.files
       → AddsAs (Clash (names old.0) (values_of old.1) (blob_added change))
@@ -200,15 +200,15 @@ module _ {N : Type 0} (names : N → Kind → Bytes → Bytes) {A : Type 0} wher
       answer (changed (names old.0) s files change)
 
   -- the same of a change as it was read
-  abbrev pub Changes : {X : Type 0} → Repository N → Repository N → Tables A → NamedTree → NamedTree → Change A → Result X ImportKind → Type 0
+  abbrev pub Changes : {X : Type 0} → Repository N → Repository N → Tables A → NamedTree → NamedTree → Change A → Result X Fault → Type 0
   Changes old new tables was now change = MakesChange old new tables was now (shown_change change)
 
   -- the same of a modify
-  abbrev pub Modifies : {X : Type 0} → Repository N → Repository N → Tables A → NamedTree → NamedTree → Modify A → Result X ImportKind → Type 0
+  abbrev pub Modifies : {X : Type 0} → Repository N → Repository N → Tables A → NamedTree → NamedTree → Modify A → Result X Fault → Type 0
   Modifies old new tables was now modify = MakesChange old new tables was now (shown_modify modify)
 
   -- those of all changes
-  abbrev pub ChangesAll : {X : Type 0} → Repository N → Repository N → Tables A → NamedTree → NamedTree → Vec (Change A) A → Result X ImportKind → Type 0
+  abbrev pub ChangesAll : {X : Type 0} → Repository N → Repository N → Tables A → NamedTree → NamedTree → Vec (Change A) A → Result X Fault → Type 0
   ChangesAll old new tables was now changes answer =
       (s : State) (files : FileMap Bytes) → Stands (names old.0) old.1 tables s → AreFiles (names old.0) s.history.values files was.files
       → AddsAs (Clash (names old.0) (values_of old.1) (blobs_added (names old.0) s files (map shown_change changes.items)))
@@ -218,21 +218,21 @@ module _ {N : Type 0} (names : N → Kind → Bytes → Bytes) {A : Type 0} wher
   -- ---- what a command does
 
   -- the step of a blob, a commit or a tag, which adds its values
-  abbrev pub Makes : {X : Type 0} → Repository N → Repository N → Tables A → Tables A → Command → Result X ImportKind → Type 0
+  abbrev pub Makes : {X : Type 0} → Repository N → Repository N → Tables A → Tables A → Command → Result X Fault → Type 0
   Makes old new was now command answer =
       InEach old was (λ s.
       AddsAs (Clash (names old.0) (values_of old.1) (values_added (names old.0) s command)) (λ t _. Follows (names old.0) new.1 now s t) answer
       (step (names old.0) s command))
 
   -- a branch that is set
-  abbrev pub Resets : {X : Type 0} → Repository N → Tables A → Tables A → Reset A → Result X ImportKind → Type 0
+  abbrev pub Resets : {X : Type 0} → Repository N → Tables A → Tables A → Reset A → Result X Fault → Type 0
   Resets repository was now reset answer =
       InEach repository was (λ s.
       GivesAs (λ t _. Follows (names repository.0) repository.1 now s t) answer
       (step_reset (names repository.0) s reset.branch.bytes.items (option_map shown_commit_ish reset.from)))
 
   -- any command
-  abbrev pub AppliesInEach : Repository N → Repository N → Tables A → Tables A → GivenCommand A → Option Taken → Option Taken → Result (Unit {0}) ImportKind → Type 0
+  abbrev pub AppliesInEach : Repository N → Repository N → Tables A → Tables A → GivenCommand A → Option Taken → Option Taken → Result (Unit {0}) Fault → Type 0
   AppliesInEach old new was now command taken takes answer =
       InEach old was (λ s. Applies (names old.0) old.1 new.1 now s (shown_command command) taken takes answer)
 

@@ -14,7 +14,7 @@ use Rattle.gx_text.specs.Devices.{Coming}
 use Rattle.gx_stream.specs.Heard.{heard}
 use Rattle.gx_import.specs.Repositories.{Repository}
 use Rattle.gx_import.specs.declared.fault.ImportFault.{ImportFault}
-use Rattle.gx_import.specs.declared.fault.ImportKind.TheVariants.{NameHeld, OutOfMemory, Unsupported, WriteFailed}
+use Rattle.gx_model.specs.declared.faults.Fault.TheVariants.{NameHeld, OutOfMemory, Unsupported, WriteFailed}
 use Rattle.gx_import.specs.declared.report.Report.{Report}
 
 -- a repository without objects and refs

@@ -17,9 +17,8 @@ use Rattle.gx_command.specs.Reading.{commands_from}
 use Rattle.gx_command.specs.declared.fault.CommandFault.{CommandFault}
 use Rattle.gx_import.specs.Repositories.{Repository}
 use Rattle.gx_import.specs.Additions.{ClashesAt}
-use Rattle.gx_import.specs.ImportKinds.{fault_of}
 use Rattle.gx_import.specs.declared.fault.ImportFault.{ImportFault}
-use Rattle.gx_import.specs.declared.fault.ImportKind.TheVariants.{NameHeld, OutOfMemory, WriteFailed}
+use Rattle.gx_model.specs.declared.faults.Fault.TheVariants.{NameHeld, OutOfMemory, WriteFailed}
 use Rattle.gx_import.specs.declared.report.Report.{Report}
 
 -- the whole progress text
@@ -93,7 +92,7 @@ module _ (name : Kind → Bytes → Bytes) where
   abbrev pub Replays : Records → Records → Commands → Outcome → Option Taken → Option Taken → Result Report ImportFault → Type 0
   Replays old new commands outcome was now (Ok report) = (text : Bytes) × (outcome ≡ finished (history_of new) text (report_of report)) × Took was now text
   Replays old new commands outcome was now (Err fault) =
-      ((text : Bytes) × (kept : Kept) × (outcome ≡ refused fault.command (fault_of fault.kind) text kept) × Took was now text
+      ((text : Bytes) × (kept : Kept) × (outcome ≡ refused fault.command fault.kind text kept) × Took was now text
       × Leaves new fault.checkpoints kept)
       ⊎ Interrupts old new commands outcome was now fault
 

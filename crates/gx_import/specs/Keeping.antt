@@ -18,7 +18,7 @@ use Rattle.gx_import.specs.RefChanges.{moved_of}
 use Rattle.gx_import.specs.Rows.{AreRows, rows_of}
 use Rattle.gx_import.specs.Standing.{Stands}
 use Rattle.gx_import.specs.declared.checkpoints.Checkpoints.{Checkpoints}
-use Rattle.gx_import.specs.declared.fault.ImportKind.{ImportKind}
+use Rattle.gx_model.specs.declared.faults.Fault.{Fault}
 use Rattle.gx_import.specs.declared.table.Table.{Table}
 use Rattle.gx_import.specs.declared.tables.Tables.{Tables}
 
@@ -92,12 +92,12 @@ module _ (name : Kind → Bytes → Bytes) {A : Type 0} where
       (s : State) → Stands name repository tables s → AreNames s.published old → AreNames (overwritten s s.published) new
 
   -- what is kept after a command is what the model keeps; where the command is refused, it is what was kept before
-  abbrev pub KeepsAfter : Records → Records → Checkpoints A → Checkpoints A → State → Command → Result (Unit {0}) ImportKind → Type 0
+  abbrev pub KeepsAfter : Records → Records → Checkpoints A → Checkpoints A → State → Command → Result (Unit {0}) Fault → Type 0
   KeepsAfter old new was now s c (Ok _) = (t : State) → step name s c ≡ Ok t → Keeps new now t
   KeepsAfter old new was now s c (Err _) = Leaves (left_of now new) now.count s.kept
 
   -- the same from each state that the repository, the tables and the checkpoints stand for
-  abbrev pub KeepsFromEach : Records → Records → Tables A → Checkpoints A → Checkpoints A → Command → Result (Unit {0}) ImportKind → Type 0
+  abbrev pub KeepsFromEach : Records → Records → Tables A → Checkpoints A → Checkpoints A → Command → Result (Unit {0}) Fault → Type 0
   KeepsFromEach old new tables was now c answer = (s : State) → Stands name old tables s → Keeps old was s → KeepsAfter old new was now s c answer
 
 module _ {N : Type 0} (names : N → Kind → Bytes → Bytes) {A : Type 0} where
@@ -106,5 +106,5 @@ module _ {N : Type 0} (names : N → Kind → Bytes → Bytes) {A : Type 0} wher
   EntersInEach repository tables old new answer = OnOk answer (EntersAll (names repository.0) repository.1 tables (rows_of old) (rows_of new))
 
   -- the same of a repository with its namer, and of a command as it was read
-  abbrev pub KeepsInEach : Repository N → Repository N → Tables A → Checkpoints A → Checkpoints A → GivenCommand A → Result (Unit {0}) ImportKind → Type 0
+  abbrev pub KeepsInEach : Repository N → Repository N → Tables A → Checkpoints A → Checkpoints A → GivenCommand A → Result (Unit {0}) Fault → Type 0
   KeepsInEach old new tables was now command = KeepsFromEach (names old.0) old.1 new.1 tables was now (shown_command command)

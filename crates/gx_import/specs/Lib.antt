@@ -1,5 +1,4 @@
 pub mod Repositories
-pub mod ImportKinds
 pub mod Answers
 pub mod Objects
 pub mod Marks
@@ -7,7 +6,6 @@ pub mod Rows
 pub mod AtHand
 pub mod Standing
 pub mod Steps
-pub mod Words
 pub mod Additions
 pub mod Applying
 pub mod Calls

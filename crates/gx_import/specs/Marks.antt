@@ -4,15 +4,15 @@ use Rattle.std.specs.Ordering.{nat_cmp}
 use Rattle.std.specs.BTreeMap.{get}
 use Rattle.gx_import.specs.declared.object.Object.{Object}
 use Rattle.gx_import.specs.declared.marks.Marks.{Marks}
-use Rattle.gx_import.specs.declared.fault.ImportKind.{ImportKind}
-use Rattle.gx_import.specs.declared.fault.ImportKind.TheVariants.{UnknownMark}
+use Rattle.gx_model.specs.declared.faults.Fault.{Fault}
+use Rattle.gx_model.specs.declared.faults.Fault.TheVariants.{UnknownMark}
 
 -- the object of a mark
 abbrev pub object_at : {A : Type 0} → Marks A → ℕ → Option Object
 object_at marks number = get nat_cmp marks.objects number
 
 -- an object, or UnknownMark where there is none
-abbrev pub object_or_fault : Option Object → Result Object ImportKind
+abbrev pub object_or_fault : Option Object → Result Object Fault
 object_or_fault (Some object) = Ok object
 object_or_fault None = Err UnknownMark
 

@@ -18,15 +18,15 @@ use Rattle.gx_command.specs.Views.{commit_parts}
 use Rattle.gx_command.specs.declared.commands.Commit.{Commit as CommitCommand}
 use Rattle.gx_command.specs.declared.commands.Tag.{Tag as TagCommand}
 use Rattle.gx_import.specs.declared.object.Object.{Object}
-use Rattle.gx_import.specs.declared.fault.ImportKind.{ImportKind}
-use Rattle.gx_import.specs.declared.fault.ImportKind.TheVariants.{EmptyBranch, WrongKind}
+use Rattle.gx_model.specs.declared.faults.Fault.{Fault}
+use Rattle.gx_model.specs.declared.faults.Fault.TheVariants.{EmptyBranch, WrongKind}
 
 -- the name of an object of this kind, or WrongKind
-abbrev pub name_of_kind : Object → Kind → Result Name ImportKind
+abbrev pub name_of_kind : Object → Kind → Result Name Fault
 name_of_kind object kind = if same_kind object.kind kind then Ok object.name else Err WrongKind
 
 -- a branch's commit, or EmptyBranch
-abbrev pub branch_object : Option Name → Result Object ImportKind
+abbrev pub branch_object : Option Name → Result Object Fault
 branch_object None = Err EmptyBranch
 branch_object (Some called) = Ok (record { kind = kind.Commit; name = called })
 

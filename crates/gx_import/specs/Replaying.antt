@@ -2,7 +2,6 @@
 -- Source: git-fast-import(1), "Commands".
 use Rattle.std.specs.Prelude.{◌≡◌, ℕ, ◌+◌, List, length, Option, Some, None, Result, Ok, Err, IfOk, IfSome, ⊤}
 use Rattle.gx_model.specs.declared.objects.Kind.{Kind}
-use Rattle.gx_model.specs.declared.faults.Fault.TheVariants.{ReadFailed}
 use Rattle.gx_model.specs.Texts.{Bytes}
 use Rattle.gx_model.specs.Histories.{Records}
 use Rattle.gx_model.specs.HistoryOf.{history_of}
@@ -16,19 +15,19 @@ use Rattle.gx_command.specs.Views.{shown_command}
 use Rattle.gx_command.specs.declared.commands.Command.{Command}
 use Rattle.gx_command.specs.declared.fault.CommandFault.{CommandFault}
 use Rattle.gx_import.specs.Repositories.{Repository}
-use Rattle.gx_import.specs.ImportKinds.{of_command}
+use Rattle.gx_command.specs.CommandFaults.{fault_of as of_command}
 use Rattle.gx_import.specs.Imports.{Imports, cut_off, only}
 use Rattle.gx_import.specs.Keeping.{Keeps, left_of}
 use Rattle.gx_import.specs.Standing.{Stands}
 use Rattle.gx_import.specs.declared.checkpoints.Checkpoints.{Checkpoints}
 use Rattle.gx_import.specs.declared.fault.ImportFault.{ImportFault}
-use Rattle.gx_import.specs.declared.fault.ImportKind.{ImportKind}
-use Rattle.gx_import.specs.declared.fault.ImportKind.TheVariants.{WriteFailed}
+use Rattle.gx_model.specs.declared.faults.Fault.{Fault}
+use Rattle.gx_model.specs.declared.faults.Fault.TheVariants.{ReadFailed, WriteFailed}
 use Rattle.gx_import.specs.declared.report.Report.{Report}
 use Rattle.gx_import.specs.declared.tables.Tables.{Tables}
 
 -- a sink takes a text, or fails within it
-abbrev pub Writes : Option Taken → Option Taken → Bytes → Result (Unit {0}) ImportKind → Type 0
+abbrev pub Writes : Option Taken → Option Taken → Bytes → Result (Unit {0}) Fault → Type 0
 Writes was now text (Ok _) = Took was now text
 Writes was now text (Err e) = (e ≡ WriteFailed) × FailedWithin was now text
 

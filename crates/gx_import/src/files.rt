@@ -4,7 +4,7 @@ ghost use Rattle.std.specs.Prelude.{◌≡◌, Some, IfOk, IfErr};
 ghost use Rattle.gx_model.specs.declared.objects.Kind.TheVariants as kinds;
 ghost use Rattle.gx_tree.specs.Named.{IsAtHome};
 ghost use Rattle.gx_rev.specs.Objects.{IsHeldAs};
-ghost use Rattle.gx_import.specs.declared.fault.ImportKind.TheVariants.{OutOfMemory};
+ghost use Rattle.gx_model.specs.declared.faults.Fault.TheVariants.{OutOfMemory};
 ghost use Rattle.gx_import.specs.Standing.{GivesFilesAtHome, KeepsStanding, TipsStayAtHome};
 ghost use Rattle.gx_import.specs.Calls.{GivesStartingFiles, HasFilesAt, IsSomeCommit, tree_at};
 

@@ -10,7 +10,7 @@ ghost use Rattle.gx_import.specs.Publishing.{PublishesInEach, TellsFastForward};
 ghost use Rattle.gx_import.specs.RefChanges.{Appends, AppendsBranch, AppendsBranches, GivesMoved, IsHeldByRef, changes_of, is_at, tag_changes};
 ghost use Rattle.gx_import.specs.Rows.{IsSorted, rows_of};
 ghost use Rattle.gx_import.specs.Standing.{StandsForSome};
-ghost use Rattle.gx_import.specs.declared.fault.ImportKind.TheVariants.{OutOfMemory};
+ghost use Rattle.gx_model.specs.declared.faults.Fault.TheVariants.{OutOfMemory};
 
 use crate::ImportKind;
 use crate::ancestors::is_ancestor;

@@ -3,6 +3,7 @@ pub mod Numbers
 pub mod RefNames
 pub mod Idents
 pub mod Faults
+pub mod FaultWords
 pub mod Paths
 pub mod Revisions
 pub mod Items

@@ -4,6 +4,7 @@ ghost use Rattle.std.specs.Prelude.{◌≡◌, Some};
 ghost use Rattle.gx_rev.specs.declared.fault.RevFault.TheVariants.{OutOfMemory};
 ghost use Rattle.gx_rev.specs.RevFaults.{of_text, refusal, word};
 
+use gx_model::Fault;
 use gx_text::TextFault;
 use std::alloc::{AllocError, AllocFailed};
 use std::fmt;
@@ -115,6 +116,27 @@ impl From<AllocError> for WalkFault {
         WalkFault {
             word: 0,
             kind: RevFault::OutOfMemory,
+        }
+    }
+}
+
+impl From<RevFault> for Fault {
+    ghost use Rattle.gx_rev.specs.RevFaults.{fault_of};
+
+    ghost from_gives = { λ from fault. fault ≡ fault_of from };
+
+    fn from(fault: RevFault) -> Fault {
+        match fault {
+            RevFault::OutOfMemory => Fault::OutOfMemory,
+            RevFault::BadRevision => Fault::BadRevision,
+            RevFault::BadPath => Fault::BadPath,
+            RevFault::PathTooLong => Fault::PathTooLong,
+            RevFault::UnknownRef => Fault::UnknownRef,
+            RevFault::UnknownObject => Fault::UnknownObject,
+            RevFault::Ambiguous => Fault::Ambiguous,
+            RevFault::NoParent => Fault::NoParent,
+            RevFault::WrongKind => Fault::WrongKind,
+            RevFault::NoSuchPath => Fault::NoSuchPath,
         }
     }
 }

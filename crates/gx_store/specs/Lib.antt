@@ -4,3 +4,4 @@ pub mod Bodies
 pub mod Objects
 pub mod NameOrder
 pub mod Chains
+pub mod StoreFaults

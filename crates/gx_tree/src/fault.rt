@@ -1,6 +1,7 @@
 //! Why a tree refuses a call.
 ghost use Rattle.std.specs.Prelude.{◌≡◌};
 
+use gx_model::Fault;
 use gx_store::StoreFault;
 use std::alloc::AllocError;
 use thiserror::Error;
@@ -46,6 +47,22 @@ impl From<StoreFault> for TreeFault {
         match error {
             StoreFault::OutOfMemory => TreeFault::OutOfMemory,
             StoreFault::NameHeld => TreeFault::NameHeld,
+        }
+    }
+}
+
+impl From<TreeFault> for Fault {
+    ghost use Rattle.gx_tree.specs.Faults.{fault_of};
+
+    ghost from_gives = { λ from fault. fault ≡ fault_of from };
+
+    fn from(fault: TreeFault) -> Fault {
+        match fault {
+            TreeFault::OutOfMemory => Fault::OutOfMemory,
+            TreeFault::NoSuchPath => Fault::NoSuchPath,
+            TreeFault::RootNotTree => Fault::RootNotTree,
+            TreeFault::PathTooLong => Fault::PathTooLong,
+            TreeFault::NameHeld => Fault::NameHeld,
         }
     }
 }

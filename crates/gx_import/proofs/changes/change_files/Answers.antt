@@ -12,7 +12,7 @@ use Rattle.gx_tree.specs.Named.{NamedTree, IsAtHome}
 use Rattle.gx_model.specs.NameMaps.{AreFiles, IsNameMap}
 use Rattle.gx_import.specs.Additions.{Clash, blob_added}
 use Rattle.gx_import.specs.Answers.{AddsAs}
-use Rattle.gx_import.specs.ImportKinds.{of_tree}
+use Rattle.gx_tree.specs.Faults.{fault_of as of_tree}
 use Rattle.gx_import.specs.Standing.{Follows}
 use Rattle.gx_import.proofs.EditedFiles.{cleared_kept, copied_free, copied_names, edit_done, edit_refused, removed_kept, removed_names, renamed_free, renamed_names}
 use Rattle.gx_import.proofs.KeptFiles.{IsKnownLeaf, copied_leaves, renamed_leaves}

@@ -6,7 +6,7 @@ use Rattle.gx_model.specs.HistoryOf.{history_of}
 use Rattle.gx_model.specs.Replay.{State, byte_cmp, start}
 use Rattle.gx_model.proofs.GitlinkSteps.{none_held, start_free}
 use Rattle.gx_command.specs.Views.{shown_command}
-use Rattle.gx_import.specs.ImportKinds.{of_command}
+use Rattle.gx_command.specs.CommandFaults.{fault_of as of_command}
 use Rattle.gx_import.specs.Imports.{Imports}
 use Rattle.std.specs.Prelude.{IsTrue}
 use Rattle.std.specs.FinMap.Entries.{is_sorted}

@@ -4,7 +4,6 @@ use Rattle.std.specs.Option.{option_map}
 use Rattle.gx_model.specs.Faults.{IsFaultOf, and_then}
 use Rattle.gx_model.specs.Replay.{on_branch}
 use Rattle.gx_command.specs.Views.{shown_commit_ish}
-use Rattle.gx_import.specs.ImportKinds.{fault_of}
 use Rattle.gx_import.proofs.FaultSteps.{fault_then}
 use Rattle.gx_import.proofs.Resets.{reset_by}
 use Rattle.gx_import.proofs.Standings.{moved_branch}
@@ -18,7 +17,7 @@ returns-in_err-commit-clause-steps g c = λ s h.
     let b = c.args.reset.branch.bytes.items in
     let x = option_map shown_commit_ish c.args.reset.from in
     let k = c.in_err-commit.ensures s h in
-    rw (p.1, p.2) (subst (IsFaultOf (fault_of c.in_err-commit.field-0.0)) (sym (reset_by name s b x)) (fault_then (fault_of c.in_err-commit.field-0.0) _ (λ y. Ok (on_branch b y s)) k))
+    rw (p.1, p.2) (subst (IsFaultOf c.in_err-commit.field-0.0) (sym (reset_by name s b x)) (fault_then c.in_err-commit.field-0.0 _ (λ y. Ok (on_branch b y s)) k))
 
 pub returns-clause-steps : goal.returns-clause-steps
 returns-clause-steps g c = λ s h.

@@ -1,10 +1,10 @@
--- The word that each fault of an import prints, and its number.
+-- The word that each fault prints, and its number. Source: this project's own format.
 use Rattle.std.specs.Prelude.{ℕ, codes}
 use Rattle.gx_model.specs.Texts.{Bytes}
-use Rattle.gx_import.specs.declared.fault.ImportKind.{ImportKind}
-use Rattle.gx_import.specs.declared.fault.ImportKind.TheVariants.{OutOfMemory, ReadFailed, WriteFailed, UnknownCommand, BadLine, BadNumber, TruncatedData, BadPath, PathTooLong, BadMode, BadIdent, BadRefName, UnknownMark, WrongKind, UnknownObject, NoSuchPath, RootNotTree, FromItself, EmptyBranch, Unsupported, LateOption, MissingDone, NotFastForward, NameHeld, BadRevision, UnknownRef, Ambiguous, NoParent}
+use Rattle.gx_model.specs.declared.faults.Fault.{Fault}
+use Rattle.gx_model.specs.declared.faults.Fault.TheVariants.{OutOfMemory, ReadFailed, WriteFailed, UnknownCommand, BadLine, BadNumber, TruncatedData, BadPath, PathTooLong, BadMode, BadIdent, BadRefName, UnknownMark, WrongKind, UnknownObject, NoSuchPath, RootNotTree, FromItself, EmptyBranch, Unsupported, LateOption, MissingDone, NotFastForward, NameHeld, BadRevision, UnknownRef, Ambiguous, NoParent}
 
-abbrev pub word_of : ImportKind → Bytes
+abbrev pub word_of : Fault → Bytes
 word_of OutOfMemory = codes "OutOfMemory"
 word_of ReadFailed = codes "ReadFailed"
 word_of WriteFailed = codes "WriteFailed"
@@ -34,7 +34,7 @@ word_of UnknownRef = codes "UnknownRef"
 word_of Ambiguous = codes "Ambiguous"
 word_of NoParent = codes "NoParent"
 
-abbrev pub number_of : ImportKind → ℕ
+abbrev pub number_of : Fault → ℕ
 number_of OutOfMemory = 1
 number_of ReadFailed = 2
 number_of WriteFailed = 3

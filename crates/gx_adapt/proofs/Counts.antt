@@ -2,7 +2,7 @@
 use Rattle.std.proofs.Common.{◌≡◌, ℕ, suc, ◌≤◌, Bool, true, false, if◌then◌else◌, List, [], ◌∷◌, ◌++◌, length, reverse, refl, sym, ap, ◌∙◌, arith, append-nil}
 use Rattle.std.specs.List.{flat_map, filter}
 use Rattle.std.proofs.lemmas.Grind.{flat_map-append}
-use Rattle.gx_model.specs.Items.{Item, Line, Data}
+use Rattle.gx_model.specs.Streams.Items.{Item, Line, Data}
 use Rattle.gx_model.specs.Export.{item_text}
 use Rattle.gx_adapt.specs.Lines as lines
 use Rattle.gx_adapt.specs.Lines.{lines_for, lot_of, is_reset_line}

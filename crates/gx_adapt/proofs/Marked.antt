@@ -2,7 +2,7 @@
 use Rattle.std.proofs.Common.{◌≡◌, ℕ, ◌+◌, ◌≤◌, Bool, true, false, ◌&&◌, if◌then◌else◌, List, [], ◌∷◌, ◌++◌, length, reverse, codes, Option, Some, None, refl, sym, ap, subst, ◌∙◌, arith}
 use Rattle.std.specs.Option.{option_or, option_map_or}
 use Rattle.std.proofs.lemmas.List.{reverse-append, length-reverse}
-use Rattle.gx_model.specs.Items.{Item, Line, Data}
+use Rattle.gx_model.specs.Streams.Items.{Item, Line, Data}
 use Rattle.gx_adapt.specs.Marks.{command_begun, command_of, mark_behind, is_blob_or_tag, is_tag, sets_mark, is_of_blob_or_tag, names_blob_or_tag, many_named, tags_of_blobs_or_tags}
 use Rattle.gx_adapt.specs.Adapting.{one_if, holds_mark, StandsBehind, names_held, Passes}
 use Rattle.gx_adapt.specs.declared.marks.Marks.{Marks}

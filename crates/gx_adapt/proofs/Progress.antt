@@ -1,7 +1,7 @@
 -- Adapting a stream, so far.
 use Rattle.std.proofs.Common.{◌≡◌, ℕ, ◌+◌, ◌-◌, ◌<◌, ◌≤◌, ◌^◌, Bool, false, ◌⊎◌, inl, inr, Option, Some, None, Ok, Err, List, [], ◌∷◌, ◌++◌, length, reverse, refl, sym, ap, subst, ◌∙◌, arith, append_assoc, append-nil}
 use Rattle.std.proofs.lemmas.List.{length_push}
-use Rattle.gx_model.specs.Items.{Item as ModelItem, Stream, End, Finished, Failed, then_comes}
+use Rattle.gx_model.specs.Streams.Items.{Item as ModelItem, Stream, End, Finished, Failed, then_comes}
 use Rattle.gx_text.specs.Devices.{Taken, Took, FailedWithin}
 use Rattle.gx_stream.specs.declared.item.Item.{Item}
 use Rattle.gx_stream.specs.declared.fault.StreamFault.{StreamFault}

@@ -6,7 +6,7 @@ use Rattle.std.proofs.lemmas.Bool.{false≢true}
 use Rattle.std.proofs.lemmas.List.{length-append}
 use Rattle.gx_model.specs.Texts.{Bytes}
 use Rattle.gx_adapt.specs.Paths.{after_quoted}
-use Rattle.gx_model.specs.Paths.{char_at, unquote_within, unquote}
+use Rattle.gx_model.specs.Texts.Paths.{char_at, unquote_within, unquote}
 use Rattle.gx_model.proofs.Cuts.{some_is, map_some}
 use Rattle.gx_model.proofs.Quotes.{quoted_text_tells}
 

@@ -9,9 +9,9 @@ use Rattle.std.proofs.lemmas.List.{length-append, length-take, take-append-drop}
 use Rattle.std.proofs.lemmas.List.Folds.{list_all-append}
 use Rattle.std.proofs.lemmas.Slice.Eq.{starts_is, bytes_eq-Decides}
 use Rattle.gx_model.specs.Texts.{Bytes, is_line, cut_at}
-use Rattle.gx_model.specs.Items.{Item, Line, Data, End}
-use Rattle.gx_model.specs.Spelling.{HasNoLf, data_line, comment_line, Spells, IsReading, ended, taken, dropped}
-use Rattle.gx_model.specs.ExportLaws.{IsItem, IsItemLine}
+use Rattle.gx_model.specs.Streams.Items.{Item, Line, Data, End}
+use Rattle.gx_model.specs.Streams.Spelling.{HasNoLf, data_line, comment_line, Spells, IsReading, ended, taken, dropped}
+use Rattle.gx_model.specs.Laws.ExportLaws.{IsItem, IsItemLine}
 use Rattle.gx_model.proofs.Cuts.{some_is, map_some, cut_spelled}
 use Rattle.gx_model.proofs.Found.{has_reading}
 use Rattle.gx_model.proofs.Idents.{and_one, and_two}
@@ -20,7 +20,7 @@ use Rattle.gx_model.proofs.LineTexts.{line_append}
 use Rattle.gx_model.proofs.Quotes.{quoted_text_tells}
 use Rattle.gx_model.proofs.Readings.{refuted, finds, spells_shorter}
 use Rattle.gx_model.proofs.SpelledItems.{AreItems, items_append}
-use Rattle.gx_model.specs.Paths.{unquote}
+use Rattle.gx_model.specs.Texts.Paths.{unquote}
 use Rattle.gx_text.specs.Devices.{Coming}
 use Rattle.gx_stream.specs.Heard.{heard_upto, heard, items_from}
 use Rattle.gx_adapt.specs.Paths.{escaped, quoted, after_quoted, is_open, anew, source_before, source_of}

@@ -3,7 +3,7 @@ use Rattle.std.proofs.Common.{◌≡◌, ℕ, true, sym, ap, ◌∙◌, arith, [
 use Rattle.std.proofs.lemmas.List.{take-append-drop, length-drop, length-append}
 use Rattle.gx_model.specs.Texts.{Bytes}
 use Rattle.std.specs.Fmt.{decimal}
-use Rattle.gx_model.specs.Items.{Data}
+use Rattle.gx_model.specs.Streams.Items.{Data}
 use Rattle.gx_model.specs.Export.{item_text}
 use Rattle.gx_adapt.specs.Adapting.{Puts, PutsIf}
 use Rattle.gx_adapt.specs.declared.fault.AdaptFault.{AdaptFault}

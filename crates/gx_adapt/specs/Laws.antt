@@ -2,9 +2,9 @@
 use Rattle.std.specs.Prelude.{◌≡◌, true, false, List, [], ◌∷◌, ◌++◌, Ok}
 use Rattle.gx_model.specs.Texts.{Bytes, is_line, lacks}
 use Rattle.gx_model.specs.Faults.{◌>>=◌}
-use Rattle.gx_model.specs.Items.{Item, Line, Data, Finished, items_of}
-use Rattle.gx_model.specs.Paths.{path_of}
-use Rattle.gx_model.specs.Grammar.{last_path, source_path}
+use Rattle.gx_model.specs.Streams.Items.{Item, Line, Data, Finished, items_of}
+use Rattle.gx_model.specs.Texts.Paths.{path_of}
+use Rattle.gx_model.specs.Streams.Grammar.{last_path, source_path}
 use Rattle.gx_text.specs.Devices.{Coming}
 use Rattle.gx_stream.specs.Heard.{items_from}
 use Rattle.gx_adapt.specs.Paths.{quoted}

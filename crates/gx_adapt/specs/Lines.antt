@@ -4,7 +4,7 @@ use Rattle.std.specs.Prelude.{Bool, false, ◌&&◌, ◌||◌, nat_eq, List, [],
 use Rattle.std.specs.List.{starts_with}
 use Rattle.std.specs.Str.{bytes_eq}
 use Rattle.gx_model.specs.Texts.{Bytes, cut_at}
-use Rattle.gx_model.specs.Items.{Item, Line}
+use Rattle.gx_model.specs.Streams.Items.{Item, Line}
 use Rattle.gx_adapt.specs.Paths.{quoted, is_open, anew, source_of}
 
 -- A line stays, or is left out since it deletes a branch or is about marks, or is another line: one whose identity has a

@@ -4,7 +4,7 @@ use Rattle.std.specs.Prelude.{ℕ, ◌-◌, Bool, false, not, ◌&&◌, ◌||◌
 use Rattle.std.specs.Option.{option_map}
 use Rattle.std.specs.List.{flat_map}
 use Rattle.gx_model.specs.Texts.{Bytes, cut_at}
-use Rattle.gx_model.specs.Paths.{is_quoted, unquote}
+use Rattle.gx_model.specs.Texts.Paths.{is_quoted, unquote}
 
 -- a byte between quotes: a quote or a backslash has a backslash before it
 abbrev pub escaped : ℕ → Bytes

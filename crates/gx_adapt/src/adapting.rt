@@ -2,7 +2,7 @@
 
 ghost use Rattle.std.specs.Prelude.{◌≡◌, IfOk, OnOk};
 ghost use Rattle.std.specs.Option.{option_map};
-ghost use Rattle.gx_model.specs.Items.{Line, Data};
+ghost use Rattle.gx_model.specs.Streams.Items.{Line, Data};
 ghost use Rattle.gx_model.specs.Export.{item_text};
 ghost use Rattle.gx_stream.specs.Heard.{items_from};
 ghost use Rattle.gx_stream.specs.Reading.{item_of};

@@ -2,8 +2,8 @@
 
 ghost use Rattle.std.specs.Prelude.{◌≡◌, IfOk, OnOk, []};
 ghost use Rattle.std.specs.Result.{result_ok};
-ghost use Rattle.gx_model.specs.Grammar.{mark_of};
-ghost use Rattle.gx_model.specs.Items.{Line};
+ghost use Rattle.gx_model.specs.Streams.Grammar.{mark_of};
+ghost use Rattle.gx_model.specs.Streams.Items.{Line};
 ghost use Rattle.gx_adapt.specs.Marks.{command_begun, is_blob_or_tag, is_tag, mark_behind};
 ghost use Rattle.gx_adapt.specs.Adapting.{Passes, SetsMark, StandsBehind, names_held};
 
@@ -125,7 +125,7 @@ fn mark_behind(word: &[u8], line: &[u8]) -> Option<u64>
 }
 
 /// A colon and a mark's number, which is from 1.
-#[tactic(auto, unfolding(gx_model::specs::Grammar::mark_of))]
+#[tactic(auto, unfolding(gx_model::specs::Streams::Grammar::mark_of))]
 fn mark_of(text: &[u8]) -> Option<u64>
     ensures { result ≡ result_ok (mark_of text.now) }
 {

@@ -3,7 +3,7 @@
 ghost use Rattle.std.specs.Prelude.{◌≡◌, Bool, length, is_none, is_some};
 ghost use Rattle.std.specs.Option.{option_map};
 ghost use Rattle.gx_model.specs.Texts.{Bytes};
-ghost use Rattle.gx_model.specs.Paths.{named, is_octal, escape_at, char_at, unquote_within};
+ghost use Rattle.gx_model.specs.Texts.Paths.{named, is_octal, escape_at, char_at, unquote_within};
 ghost use Rattle.gx_adapt.specs.Paths.{ends, after_quoted, is_open, source_of};
 
 use gx_text::cut;
@@ -65,7 +65,7 @@ fn after_body(body: &[u8]) -> Option<&[u8]>
 }
 
 /// Whether the closing quote of a quoted text comes next, or else a byte of it, and what follows.
-#[tactic(auto, unfolding(gx_model::specs::Paths::char_at))]
+#[tactic(auto, unfolding(gx_model::specs::Texts::Paths::char_at))]
 fn next_char(bytes: &[u8]) -> Option<(bool, &[u8])>
     ensures { option_map (λ x. (x.0, x.1.now)) result ≡ option_map {U = Bool × Bytes} (λ c. (is_none c.0, c.1)) (char_at bytes.now) }
 {

@@ -2,7 +2,7 @@
 
 ghost use Rattle.std.specs.Prelude.{◌≡◌};
 ghost use Rattle.gx_model.specs.Texts.{cut_at};
-ghost use Rattle.gx_model.specs.Items.{Line};
+ghost use Rattle.gx_model.specs.Streams.Items.{Line};
 ghost use Rattle.gx_adapt.specs.Lines.{is_early, has_minus};
 ghost use Rattle.gx_adapt.specs.Adapting.{lot_seen, counted, HasRoom};
 

@@ -8,13 +8,13 @@ use Rattle.gx_model.specs.declared.faults.Fault.{Fault}
 use Rattle.gx_model.specs.declared.faults.Fault.TheVariants.{Ambiguous}
 use Rattle.gx_model.specs.Texts.{Bytes}
 use Rattle.gx_model.specs.Faults.{Given, and_then}
-use Rattle.gx_model.specs.Values.{Value}
+use Rattle.gx_model.specs.Histories.Values.{Value}
 use Rattle.gx_model.specs.Objects.{hex, line}
 use Rattle.gx_model.specs.Records.{body_of, kind_of, name_of}
 use Rattle.gx_model.specs.Histories.{History}
-use Rattle.gx_model.specs.Naming.{kind_word}
+use Rattle.gx_model.specs.Objects.Naming.{kind_word}
 use Rattle.gx_model.specs.Revisions.{revision_of}
-use Rattle.gx_model.specs.Denotation.{Shown, denoted, object, submodule}
+use Rattle.gx_model.specs.Revisions.Denotation.{Shown, denoted, object, submodule}
 
 -- why a line gives no object
 abbrev pub reason : Fault → Bytes

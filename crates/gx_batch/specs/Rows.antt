@@ -3,12 +3,12 @@ use Rattle.std.specs.Prelude.{◌≡◌, true, false, List, [], ◌∷◌, ◌++
 use Rattle.std.specs.Fmt.{digits}
 use Rattle.gx_model.specs.declared.objects.Mode.TheVariants.{File, Gitlink}
 use Rattle.gx_model.specs.Texts.{Bytes, cut_at}
-use Rattle.gx_model.specs.Files.{FileMap}
-use Rattle.gx_model.specs.Values.{Commit, blob_value, commit, commit_value, none, tree_value}
+use Rattle.gx_model.specs.Histories.Files.{FileMap}
+use Rattle.gx_model.specs.Histories.Values.{Commit, blob_value, commit, commit_value, none, tree_value}
 use Rattle.gx_model.specs.Histories.{History, at_commit}
-use Rattle.gx_model.specs.Naming.{short_name}
+use Rattle.gx_model.specs.Objects.Naming.{short_name}
 use Rattle.gx_model.specs.Revisions.{revision_of}
-use Rattle.gx_model.specs.Denotation.{denoted}
+use Rattle.gx_model.specs.Revisions.Denotation.{denoted}
 use Rattle.gx_batch.specs.Answers.{batch_answer, batch_text}
 use Rattle.gx_batch.specs.Lines.{lines_of}
 

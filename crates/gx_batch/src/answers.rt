@@ -2,10 +2,10 @@
 
 ghost use Rattle.std.specs.Prelude.{◌≡◌, ◌∷◌, ◌++◌, [], IfErr, IfOk, OnOk};
 ghost use Rattle.std.specs.Fmt.{decimal};
-ghost use Rattle.gx_model.specs.Denotation.{denoted};
+ghost use Rattle.gx_model.specs.Revisions.Denotation.{denoted};
 ghost use Rattle.gx_model.specs.Faults.{Gives, and_then};
-ghost use Rattle.gx_model.specs.HistoryOf.{history_of};
-ghost use Rattle.gx_model.specs.Naming.{kind_word};
+ghost use Rattle.gx_model.specs.Records.HistoryOf.{history_of};
+ghost use Rattle.gx_model.specs.Objects.Naming.{kind_word};
 ghost use Rattle.gx_model.specs.Objects.{hex, line};
 ghost use Rattle.gx_model.specs.Records.{body_of};
 ghost use Rattle.gx_model.specs.Revisions.{revision_of};

@@ -1,6 +1,6 @@
 //! The lines of a source, each answered before the next one is asked for.
 
-ghost use Rattle.gx_model.specs.HistoryOf.{history_of};
+ghost use Rattle.gx_model.specs.Records.HistoryOf.{history_of};
 ghost use Rattle.gx_batch.specs.Answers.{batch_answer};
 ghost use Rattle.gx_batch.specs.Batches.{Answers};
 

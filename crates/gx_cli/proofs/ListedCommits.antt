@@ -7,15 +7,15 @@ use Rattle.gx_model.specs.declared.objects.Kind.{Kind}
 use Rattle.gx_model.specs.declared.objects.Kind.TheVariants as kind
 use Rattle.gx_model.specs.Texts.{Bytes}
 use Rattle.gx_model.specs.Faults.{and_then}
-use Rattle.gx_model.specs.Values.{Commit, Value, blob_value, commit_value, tag_value, tree_value}
+use Rattle.gx_model.specs.Histories.Values.{Commit, Value, blob_value, commit_value, tag_value, tree_value}
 use Rattle.gx_model.specs.Objects.{IsNamer}
 use Rattle.gx_model.specs.Records.{name_of}
 use Rattle.gx_model.specs.Histories.{History, IsIn, Records}
-use Rattle.gx_model.specs.HistoryOf.{commit_of_value, history_of, value_of_name}
-use Rattle.gx_model.specs.Ranges.{Word, WordFault, commit_of, listed, listing, words_denoted}
-use Rattle.gx_model.specs.RecordFaults.{is_held}
+use Rattle.gx_model.specs.Records.HistoryOf.{commit_of_value, history_of, value_of_name}
+use Rattle.gx_model.specs.Revisions.Ranges.{Word, WordFault, commit_of, listed, listing, words_denoted}
+use Rattle.gx_model.specs.Records.RecordFaults.{is_held}
 use Rattle.gx_model.specs.Revisions.{RangeWord}
-use Rattle.gx_model.specs.Sound.{IsSound}
+use Rattle.gx_model.specs.Records.Sound.{IsSound}
 use Rattle.gx_object.specs.declared.name.Name.{Name}
 use Rattle.gx_rev.specs.declared.fault.RevFault.{RevFault}
 use Rattle.gx_rev.specs.declared.fault.RevFault.TheVariants.{OutOfMemory}

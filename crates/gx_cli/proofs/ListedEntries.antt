@@ -6,15 +6,15 @@ use Rattle.std.proofs.lemmas.Bool.{and_from, leb-true}
 use Rattle.gx_model.specs.declared.objects.Kind.{Kind}
 use Rattle.gx_model.specs.declared.objects.Kind.TheVariants as kind
 use Rattle.gx_model.specs.Texts.{Bytes, same_bytes}
-use Rattle.gx_model.specs.Paths.{Path, is_component, is_file_path, path_of, path_text}
-use Rattle.gx_model.specs.Files.{FileMap, are_file_paths, first_component, first_components, with_first}
-use Rattle.gx_model.specs.Values.{is_content}
+use Rattle.gx_model.specs.Texts.Paths.{Path, is_component, is_file_path, path_of, path_text}
+use Rattle.gx_model.specs.Histories.Files.{FileMap, are_file_paths, first_component, first_components, with_first}
+use Rattle.gx_model.specs.Histories.Values.{is_content}
 use Rattle.gx_model.specs.Objects.{Entry, IsNamer}
 use Rattle.gx_model.specs.Records.{entries, named_map}
 use Rattle.gx_model.specs.Histories.{Records}
-use Rattle.gx_model.specs.HistoryOf.{files_of_tree, history_of, value_of_name}
-use Rattle.gx_model.specs.RecordFaults.{is_held}
-use Rattle.gx_model.specs.Sound.{IsSound}
+use Rattle.gx_model.specs.Records.HistoryOf.{files_of_tree, history_of, value_of_name}
+use Rattle.gx_model.specs.Records.RecordFaults.{is_held}
+use Rattle.gx_model.specs.Records.Sound.{IsSound}
 use Rattle.gx_model.proofs.GrownRecords.{distinct_of}
 use Rattle.gx_model.proofs.HistoriesExist.{stands}
 use Rattle.gx_model.proofs.OneTree.{node_entry, spelling}

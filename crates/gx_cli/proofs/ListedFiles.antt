@@ -5,14 +5,14 @@ use Rattle.std.specs.List.{flat_map}
 use Rattle.gx_model.specs.declared.objects.Kind.{Kind}
 use Rattle.gx_model.specs.declared.objects.Kind.TheVariants as kind
 use Rattle.gx_model.specs.Texts.{Bytes}
-use Rattle.gx_model.specs.Files.{FileMap}
+use Rattle.gx_model.specs.Histories.Files.{FileMap}
 use Rattle.gx_model.specs.Objects.{IsNamer}
 use Rattle.gx_model.specs.Records.{name_of, named_map}
 use Rattle.gx_model.specs.Histories.{Records}
-use Rattle.gx_model.specs.HistoryOf.{files_of_tree, value_of_name}
-use Rattle.gx_model.specs.RecordFaults.{is_held}
-use Rattle.gx_model.specs.Sound.{IsSound}
-use Rattle.gx_model.specs.NameMaps.{IsHeldTree}
+use Rattle.gx_model.specs.Records.HistoryOf.{files_of_tree, value_of_name}
+use Rattle.gx_model.specs.Records.RecordFaults.{is_held}
+use Rattle.gx_model.specs.Records.Sound.{IsSound}
+use Rattle.gx_model.specs.Objects.NameMaps.{IsHeldTree}
 use Rattle.gx_model.proofs.HeldValues.{held_is, kind_held, tree_stands}
 use Rattle.gx_model.proofs.HeldTrees.{tree_is_held}
 use Rattle.gx_cli.specs.FileLines.{named_line}

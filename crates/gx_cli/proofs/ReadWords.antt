@@ -2,7 +2,7 @@
 use Rattle.std.proofs.Common.{◌≡◌, ℕ, ◌+◌, arith, refl, sym, ap, ◌∙◌, List, [], ◌∷◌, ◌++◌, append_assoc, append-nil, Result, Ok, Err}
 use Rattle.gx_model.specs.declared.faults.Fault.{Fault}
 use Rattle.gx_model.specs.Faults.{Given, IsFaultOf, and_then}
-use Rattle.gx_model.specs.Ranges.{WordFault, at_word, each_from, each_word}
+use Rattle.gx_model.specs.Revisions.Ranges.{WordFault, at_word, each_from, each_word}
 use Rattle.gx_rev.specs.declared.fault.RevFault.{RevFault}
 use Rattle.gx_rev.specs.declared.fault.RevFault.TheVariants.{OutOfMemory}
 use Rattle.gx_rev.specs.RevFaults.{fault_of}

@@ -1,7 +1,7 @@
 -- What words give in several steps, and what is printed where one of them is refused.
 use Rattle.std.proofs.Common.{◌≡◌, refl, sym, ap, subst, [], Option, Result, Ok, Err}
 use Rattle.gx_model.specs.Faults.{Given, IsFaultOf, and_then}
-use Rattle.gx_model.specs.Ranges.{WordFault}
+use Rattle.gx_model.specs.Revisions.Ranges.{WordFault}
 use Rattle.gx_model.specs.Texts.{Bytes}
 use Rattle.gx_text.specs.Devices.{Taken}
 use Rattle.gx_rev.specs.declared.fault.RevFault.{RevFault}

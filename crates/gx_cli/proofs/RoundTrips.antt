@@ -5,12 +5,12 @@ use Rattle.std.proofs.lemmas.Bool.Decides.{nat_tests}
 use Rattle.gx_model.specs.declared.objects.Kind.{Kind}
 use Rattle.gx_model.specs.Texts.{Bytes}
 use Rattle.gx_model.specs.Histories.{Records}
-use Rattle.gx_model.specs.HistoryOf.{history_of}
-use Rattle.gx_model.specs.Paths.{Path}
+use Rattle.gx_model.specs.Records.HistoryOf.{history_of}
+use Rattle.gx_model.specs.Texts.Paths.{Path}
 use Rattle.gx_model.specs.Revisions.{Revision}
-use Rattle.gx_model.specs.Sound.{IsSound}
+use Rattle.gx_model.specs.Records.Sound.{IsSound}
 use Rattle.gx_model.specs.Export.{export_text}
-use Rattle.gx_model.specs.Gitlinks.{HoldsNoNullGitlink, HoldsTellsHas}
+use Rattle.gx_model.specs.Streams.Gitlinks.{HoldsNoNullGitlink, HoldsTellsHas}
 use Rattle.gx_text.specs.Devices.{Coming, Taken}
 use Rattle.gx_stream.specs.Heard.{heard_upto}
 use Rattle.gx_import.specs.Exported.{ExportedOr, ImportsExport, IsExported, KeepsNoNullGitlink, nothing}

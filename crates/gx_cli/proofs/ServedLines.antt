@@ -2,9 +2,9 @@
 use Rattle.std.proofs.Common.{◌≡◌, refl, sym, subst, inr, ℕ, Bool, Bor, Option, Result, Ok}
 use Rattle.gx_model.specs.declared.objects.Kind.{Kind}
 use Rattle.gx_model.specs.Texts.{Bytes}
-use Rattle.gx_model.specs.HistoryOf.{history_of}
+use Rattle.gx_model.specs.Records.HistoryOf.{history_of}
 use Rattle.gx_model.specs.Histories.{Records}
-use Rattle.gx_model.specs.StoreReading.{store_of}
+use Rattle.gx_model.specs.Stores.StoreReading.{store_of}
 use Rattle.gx_text.specs.Devices.{Coming, Taken}
 use Rattle.gx_batch.specs.Answers.{batch_answer as answered_by}
 use Rattle.gx_batch.specs.Batches.{Answers}

@@ -4,9 +4,9 @@ use Rattle.std.specs.Str.{bytes_eq}
 use Rattle.gx_model.specs.declared.faults.Fault.TheVariants.{BadLine}
 use Rattle.gx_model.specs.Texts.{Bytes}
 use Rattle.gx_model.specs.Faults.{Given, ◌>>=◌, or_fault}
-use Rattle.gx_model.specs.Items.{Item, Line, Data, End, Finished, Failed, Stream}
-use Rattle.gx_model.specs.Grammar.{Read, words_of, is_word, mark_of, blob_at, block, block_in, rest_line_in, optional, any_text, read_some}
-use Rattle.gx_model.specs.Commands.{Command, Blob}
+use Rattle.gx_model.specs.Streams.Items.{Item, Line, Data, End, Finished, Failed, Stream}
+use Rattle.gx_model.specs.Streams.Grammar.{Read, words_of, is_word, mark_of, blob_at, block, block_in, rest_line_in, optional, any_text, read_some}
+use Rattle.gx_model.specs.Streams.Commands.{Command, Blob}
 use Rattle.gx_cli.specs.Blobs.{BlobRun, blobs_within, blobs_of, then_blobs, stops, first_body, not_a_blob}
 use Rattle.gx_cli.specs.Steps.{stop, go, run_of, stepped, command_line, mark_line, oid_line, named_by, marked_by, marked_as, refuse_line}
 use Rattle.gx_cli.specs.declared.blob_names.Stage.TheVariants.{Expected, Started, Marked, Named}

@@ -4,7 +4,7 @@ use Rattle.gx_model.specs.declared.objects.Kind.{Kind}
 use Rattle.gx_model.specs.Texts.{Bytes}
 use Rattle.gx_model.specs.Faults.{Given}
 use Rattle.gx_model.specs.Histories.{Records}
-use Rattle.gx_model.specs.StoreReading.{Stored, store_of}
+use Rattle.gx_model.specs.Stores.StoreReading.{Stored, store_of}
 use Rattle.gx_text.specs.Devices.{Taken}
 use Rattle.gx_file.specs.Faults.{IsFaultOf}
 use Rattle.gx_model.specs.declared.store_faults.FileFault.{FileFault}

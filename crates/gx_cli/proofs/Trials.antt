@@ -3,9 +3,9 @@ use Rattle.std.proofs.Common.{◌≡◌, subst, [], append-nil, Option, None, So
 use Rattle.gx_model.specs.declared.objects.Kind.{Kind}
 use Rattle.gx_model.specs.Texts.{Bytes}
 use Rattle.gx_model.specs.Faults.{Given}
-use Rattle.gx_model.specs.Commands.{Commands}
+use Rattle.gx_model.specs.Streams.Commands.{Commands}
 use Rattle.gx_model.specs.Histories.{Records}
-use Rattle.gx_model.specs.HistoryOf.{history_of}
+use Rattle.gx_model.specs.Records.HistoryOf.{history_of}
 use Rattle.gx_model.specs.Replay.{Outcome}
 use Rattle.gx_text.specs.Devices.{Coming, Taken, Took}
 use Rattle.gx_command.specs.Reading.{commands_from}

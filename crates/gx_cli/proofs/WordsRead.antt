@@ -8,8 +8,8 @@ use Rattle.gx_model.specs.Faults.{Given, IsFaultOf, and_then}
 use Rattle.gx_model.specs.Histories.{History, Records}
 use Rattle.gx_model.specs.Objects.{hex}
 use Rattle.gx_model.specs.Revisions.{Revision, revision_of}
-use Rattle.gx_model.specs.Denotation.{Shown, denoted}
-use Rattle.gx_model.specs.Ranges.{WordFault, at_word, each_from, each_word}
+use Rattle.gx_model.specs.Revisions.Denotation.{Shown, denoted}
+use Rattle.gx_model.specs.Revisions.Ranges.{WordFault, at_word, each_from, each_word}
 use Rattle.gx_text.specs.Devices.{Taken}
 use Rattle.gx_rev.specs.Answers.{IsNamed, shown_by}
 use Rattle.gx_rev.specs.RevFaults.{fault_of}

@@ -1,7 +1,7 @@
 -- How a command's answer goes with what it has to print.
 use Rattle.std.specs.Prelude.{◌≡◌, ◌++◌, [], Option, Result, Ok, Err, ⊤}
 use Rattle.gx_model.specs.Texts.{Bytes}
-use Rattle.gx_model.specs.Ranges.{WordFault}
+use Rattle.gx_model.specs.Revisions.Ranges.{WordFault}
 use Rattle.gx_text.specs.Devices.{FailedWithin, Taken, Took}
 use Rattle.gx_model.specs.declared.store_faults.FileFault.TheVariants as file_kind
 use Rattle.gx_rev.specs.RevFaults as rev

@@ -3,8 +3,8 @@ use Rattle.std.specs.Prelude.{List, [], ◌∷◌, ◌++◌, map}
 use Rattle.std.specs.List.{flat_map}
 use Rattle.gx_model.specs.declared.objects.Mode.{Mode}
 use Rattle.gx_model.specs.Texts.{Bytes}
-use Rattle.gx_model.specs.Paths.{Path, path_text}
-use Rattle.gx_model.specs.Files.{Leaf}
+use Rattle.gx_model.specs.Texts.Paths.{Path, path_text}
+use Rattle.gx_model.specs.Histories.Files.{Leaf}
 use Rattle.gx_model.specs.Objects.{hex}
 use Rattle.gx_object.specs.declared.name.Name.{Name}
 use Rattle.gx_tree.specs.Lists.{listed}

@@ -8,14 +8,14 @@ use Rattle.gx_model.specs.declared.objects.Mode.{Mode}
 use Rattle.gx_model.specs.declared.objects.Mode.TheVariants.{Gitlink, Dir}
 use Rattle.gx_model.specs.Texts.{Bytes}
 use Rattle.gx_model.specs.Faults.{Given, and_then}
-use Rattle.gx_model.specs.Paths.{path_of, printed}
-use Rattle.gx_model.specs.Files.{FileMap, file_at, first_components, sub_map}
-use Rattle.gx_model.specs.Values.{Value, blob_value, commit_value, tag_value, tree_value}
+use Rattle.gx_model.specs.Texts.Paths.{path_of, printed}
+use Rattle.gx_model.specs.Histories.Files.{FileMap, file_at, first_components, sub_map}
+use Rattle.gx_model.specs.Histories.Values.{Value, blob_value, commit_value, tag_value, tree_value}
 use Rattle.gx_model.specs.Objects.{Entry, hex, mode_text}
 use Rattle.gx_model.specs.Records.{commit_body, content_name, entry, node, tag_body, tree_name}
 use Rattle.gx_model.specs.Histories.{History}
 use Rattle.gx_model.specs.Revisions.{revision_of}
-use Rattle.gx_model.specs.Denotation.{Shown, denoted, object, submodule}
+use Rattle.gx_model.specs.Revisions.Denotation.{Shown, denoted, object, submodule}
 
 -- six octal digits
 abbrev pub mode_digits : Mode → Bytes

@@ -9,17 +9,17 @@ use Rattle.gx_model.specs.declared.objects.Kind.{Kind}
 use Rattle.gx_model.specs.declared.objects.Kind.TheVariants as kinds
 use Rattle.gx_model.specs.declared.objects.Mode.{Mode}
 use Rattle.gx_model.specs.declared.store_versions.Version.TheVariants as version
-use Rattle.gx_model.specs.Denotation.{denoted}
+use Rattle.gx_model.specs.Revisions.Denotation.{denoted}
 use Rattle.gx_model.specs.Faults.{Gives, and_then}
-use Rattle.gx_model.specs.Files.{FileMap}
+use Rattle.gx_model.specs.Histories.Files.{FileMap}
 use Rattle.gx_model.specs.Histories.{Record, Records}
-use Rattle.gx_model.specs.HistoryOf.{history_of}
-use Rattle.gx_model.specs.Paths.{Path}
-use Rattle.gx_model.specs.Ranges.{each_word}
+use Rattle.gx_model.specs.Records.HistoryOf.{history_of}
+use Rattle.gx_model.specs.Texts.Paths.{Path}
+use Rattle.gx_model.specs.Revisions.Ranges.{each_word}
 use Rattle.gx_model.specs.Records.{named_map}
 use Rattle.gx_model.specs.Revisions.{Revision, range_of, revision_of}
-use Rattle.gx_model.specs.StoreReading.{store_of}
-use Rattle.gx_model.specs.StoreText.{store_text}
+use Rattle.gx_model.specs.Stores.StoreReading.{store_of}
+use Rattle.gx_model.specs.Stores.StoreText.{store_text}
 use Rattle.gx_model.specs.Texts.{Bytes}
 use Rattle.gx_text.specs.Devices.{Coming, Taken}
 use Rattle.gx_object.specs.declared.name.Name.{Name}

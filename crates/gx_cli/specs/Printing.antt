@@ -6,9 +6,9 @@ use Rattle.gx_model.specs.declared.objects.Kind.TheVariants as kind
 use Rattle.gx_model.specs.declared.faults.Fault.TheVariants as fault
 use Rattle.gx_model.specs.Texts.{Bytes}
 use Rattle.gx_model.specs.Objects.{hex}
-use Rattle.gx_model.specs.Items.{End, Failed, Finished, Stream}
+use Rattle.gx_model.specs.Streams.Items.{End, Failed, Finished, Stream}
 use Rattle.gx_model.specs.Histories.{Record}
-use Rattle.gx_model.specs.Growth.{put}
+use Rattle.gx_model.specs.Records.Growth.{put}
 use Rattle.gx_text.specs.Devices.{Sends, Taken, Took}
 use Rattle.gx_stream.specs.Faults.{fault_of}
 use Rattle.gx_stream.specs.declared.fault.StreamFault.{StreamFault}

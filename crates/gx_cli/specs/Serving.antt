@@ -5,11 +5,11 @@ use Rattle.std.specs.declared.vec.Vec.{Vec}
 use Rattle.gx_model.specs.declared.objects.Kind.{Kind}
 use Rattle.gx_model.specs.Texts.{Bytes}
 use Rattle.gx_model.specs.Histories.{Records}
-use Rattle.gx_model.specs.HistoryOf.{history_of}
-use Rattle.gx_model.specs.Sound.{IsSound}
+use Rattle.gx_model.specs.Records.HistoryOf.{history_of}
+use Rattle.gx_model.specs.Records.Sound.{IsSound}
 use Rattle.gx_model.specs.declared.store_versions.Version.TheVariants as version
-use Rattle.gx_model.specs.StoreText.{store_text}
-use Rattle.gx_model.specs.StoreReading.{Stored, store_of}
+use Rattle.gx_model.specs.Stores.StoreText.{store_text}
+use Rattle.gx_model.specs.Stores.StoreReading.{Stored, store_of}
 use Rattle.gx_text.specs.Devices.{Coming, Taken}
 use Rattle.gx_stream.specs.Heard.{items_from}
 use Rattle.gx_import.specs.Exported.{KeepsNoNullGitlink, nothing}

@@ -5,8 +5,8 @@ use Rattle.std.specs.Str.{bytes_eq}
 use Rattle.gx_model.specs.declared.faults.Fault.TheVariants.{BadLine}
 use Rattle.gx_model.specs.Texts.{Bytes}
 use Rattle.gx_model.specs.Faults.{Given}
-use Rattle.gx_model.specs.Items.{Item, Line, Data, End, Finished, Failed}
-use Rattle.gx_model.specs.Grammar.{words_of, is_word, mark_of}
+use Rattle.gx_model.specs.Streams.Items.{Item, Line, Data, End, Finished, Failed}
+use Rattle.gx_model.specs.Streams.Grammar.{words_of, is_word, mark_of}
 use Rattle.gx_cli.specs.Blobs.{Stop, refused, not_a_blob, BlobRun, stops, first_body}
 use Rattle.gx_cli.specs.declared.blob_names.Stage.{Stage}
 use Rattle.gx_cli.specs.declared.blob_names.Stage.TheVariants.{Expected, Started, Marked, Named}

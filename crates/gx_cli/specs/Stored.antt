@@ -8,17 +8,17 @@ use Rattle.gx_model.specs.declared.faults.Fault.{Fault}
 use Rattle.gx_model.specs.declared.store_faults.FileFault.{FileFault}
 use Rattle.gx_model.specs.Texts.{Bytes}
 use Rattle.gx_model.specs.Faults.{Given, and_then}
-use Rattle.gx_model.specs.Paths.{Path, path_text}
-use Rattle.gx_model.specs.Files.{FileMap, Leaf}
-use Rattle.gx_model.specs.Values.{Commit, commit_value, parents_of}
+use Rattle.gx_model.specs.Texts.Paths.{Path, path_text}
+use Rattle.gx_model.specs.Histories.Files.{FileMap, Leaf}
+use Rattle.gx_model.specs.Histories.Values.{Commit, commit_value, parents_of}
 use Rattle.gx_model.specs.Objects.{hex}
 use Rattle.gx_model.specs.Records.{content_name, name_of, names_of}
 use Rattle.gx_model.specs.Histories.{History, Records}
 use Rattle.gx_model.specs.Revisions.{RangeWord, range_of, revision_of}
-use Rattle.gx_model.specs.Denotation.{Shown, denoted, files_in, object, submodule, value_denoted}
-use Rattle.gx_model.specs.Ranges.{WordFault, each_word, listing, words_denoted}
-use Rattle.gx_model.specs.StoreText.{stored_ref}
-use Rattle.gx_model.specs.StoreReading.{Stored}
+use Rattle.gx_model.specs.Revisions.Denotation.{Shown, denoted, files_in, object, submodule, value_denoted}
+use Rattle.gx_model.specs.Revisions.Ranges.{WordFault, each_word, listing, words_denoted}
+use Rattle.gx_model.specs.Stores.StoreText.{stored_ref}
+use Rattle.gx_model.specs.Stores.StoreReading.{Stored}
 use Rattle.gx_object.specs.declared.name.Name.{Name}
 use Rattle.gx_cli.specs.Listings.{entry_line, text_of_word, tree_lines}
 use Rattle.gx_cli.specs.declared.command_line.LogOptions.{LogOptions}

@@ -2,8 +2,8 @@
 
 ghost use Rattle.std.specs.Prelude.{◌≡◌, Ok, Err};
 ghost use Rattle.std.specs.Option.{option_map};
-ghost use Rattle.gx_model.specs.Items.{Line as a_line, Finished};
-ghost use Rattle.gx_model.specs.Grammar.{mark_of};
+ghost use Rattle.gx_model.specs.Streams.Items.{Line as a_line, Finished};
+ghost use Rattle.gx_model.specs.Streams.Grammar.{mark_of};
 ghost use Rattle.gx_stream.specs.Reading.{item_of};
 ghost use Rattle.gx_cli.specs.Parts.{AddsBlob, NamesBlobs};
 ghost use Rattle.gx_cli.specs.Steps.{step_of, stop_at, marked_as, marked_by, named_by, command_line, mark_line, oid_line};
@@ -192,7 +192,7 @@ fn mark_line<'a>(line: &[u8]) -> Step<'a>
 }
 
 /// A mark's text: a colon, and a number from 1.
-#[tactic(auto, unfolding(gx_model::specs::Grammar::mark_of))]
+#[tactic(auto, unfolding(gx_model::specs::Streams::Grammar::mark_of))]
 fn mark<'a>(text: &[u8]) -> Step<'a>
     ensures { step_seen result ≡ marked_as (mark_of text.now) }
 {

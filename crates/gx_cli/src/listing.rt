@@ -2,7 +2,7 @@
 
 ghost use Rattle.std.specs.Prelude.{◌≡◌, [], ◌∷◌, ◌++◌, Ok, IfOk, OnOk};
 ghost use Rattle.std.specs.List.{AllByRecursion};
-ghost use Rattle.gx_model.specs.Paths.{path_of, printed};
+ghost use Rattle.gx_model.specs.Texts.Paths.{path_of, printed};
 ghost use Rattle.gx_object.specs.Entries.{shown};
 ghost use Rattle.gx_cli.specs.FileLines.{line_head, path_line};
 ghost use Rattle.gx_cli.specs.Listings.{IsListed, entry_line, entry_lines, kind_word, mode_digits};

@@ -2,8 +2,8 @@
 
 ghost use Rattle.std.specs.Prelude.{◌≡◌, ◌≤◌, length, IfOk};
 ghost use Rattle.gx_model.specs.Export.{export_text};
-ghost use Rattle.gx_model.specs.Gitlinks.{HoldsNoNullGitlink};
-ghost use Rattle.gx_model.specs.HistoryOf.{history_of};
+ghost use Rattle.gx_model.specs.Streams.Gitlinks.{HoldsNoNullGitlink};
+ghost use Rattle.gx_model.specs.Records.HistoryOf.{history_of};
 ghost use Rattle.gx_export.specs.Outputs.{most};
 ghost use Rattle.gx_cli.specs.Headline.{ExportsText, ImportsAgainOr, RoundTrips};
 

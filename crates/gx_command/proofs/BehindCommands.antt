@@ -6,9 +6,9 @@ use Rattle.std.proofs.lemmas.List.{append-nil}
 use Rattle.gx_model.specs.declared.faults.Fault.{Fault}
 use Rattle.gx_model.specs.declared.faults.Fault.TheVariants as faults
 use Rattle.gx_model.specs.Faults.{Given, ◌>>=◌}
-use Rattle.gx_model.specs.Items.{Item, Line, Data, End, Stream}
-use Rattle.gx_model.specs.Commands.{Command, Commands}
-use Rattle.gx_model.specs.Grammar.{Read, asks_done, is_done, is_option, stops, with_first}
+use Rattle.gx_model.specs.Streams.Items.{Item, Line, Data, End, Stream}
+use Rattle.gx_model.specs.Streams.Commands.{Command, Commands}
+use Rattle.gx_model.specs.Streams.Grammar.{Read, asks_done, is_done, is_option, stops, with_first}
 use Rattle.gx_command.specs.Behind.{AreBehind, commands_behind, from_next, left_behind, next_behind, or_missing_done, past_empty, then_come}
 use Rattle.gx_command.specs.Heads.{first, first_in}
 use Rattle.gx_command.specs.Reading.{commands_after}

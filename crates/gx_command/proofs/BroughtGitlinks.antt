@@ -5,9 +5,9 @@ use Rattle.std.proofs.lemmas.Bool.{false≢true}
 use Rattle.std.specs.List.{AllByRecursion}
 use Rattle.gx_model.specs.declared.objects.Mode.{Mode}
 use Rattle.gx_model.specs.declared.objects.Mode.TheVariants.{File, Exec, Link, Gitlink, Dir}
-use Rattle.gx_model.specs.Paths.{Path}
-use Rattle.gx_model.specs.Commands as model
-use Rattle.gx_model.specs.Gitlinks.{BringsNoNullGitlink, GivesNoNullGitlink}
+use Rattle.gx_model.specs.Texts.Paths.{Path}
+use Rattle.gx_model.specs.Streams.Commands as model
+use Rattle.gx_model.specs.Streams.Gitlinks.{BringsNoNullGitlink, GivesNoNullGitlink}
 use Rattle.gx_command.specs.Views.{shown_change, shown_command, shown_data, shown_modify}
 use Rattle.gx_command.specs.DataRefs.{is_suited}
 use Rattle.gx_command.specs.declared.commands.Change.{Change}

@@ -1,6 +1,6 @@
 -- Items that are counted past the empty lines before them.
 use Rattle.std.proofs.Common.{◌≡◌, ℕ, zero, suc, ◌+◌, List, length, Option, Some, None}
-use Rattle.gx_model.specs.Items.{Item, Stream}
+use Rattle.gx_model.specs.Streams.Items.{Item, Stream}
 use Rattle.gx_command.specs.Behind.{past_empty}
 
 -- before an item is counted, empty lines are passed

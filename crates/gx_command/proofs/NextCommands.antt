@@ -6,10 +6,10 @@ use Rattle.std.specs.List.{list_any, list_all}
 use Rattle.gx_model.specs.declared.faults.Fault.{Fault}
 use Rattle.gx_model.specs.declared.faults.Fault.TheVariants as faults
 use Rattle.gx_model.specs.Faults.{◌>>=◌}
-use Rattle.gx_model.specs.Items.{Finished, Stream}
-use Rattle.gx_model.specs.Commands as model
-use Rattle.gx_model.specs.Commands.{Commands}
-use Rattle.gx_model.specs.Grammar.{Read, is_option, asks_done, is_done, fault_at_end, stops, with_first}
+use Rattle.gx_model.specs.Streams.Items.{Finished, Stream}
+use Rattle.gx_model.specs.Streams.Commands as model
+use Rattle.gx_model.specs.Streams.Commands.{Commands}
+use Rattle.gx_model.specs.Streams.Grammar.{Read, is_option, asks_done, is_done, fault_at_end, stops, with_first}
 use Rattle.gx_command.specs.Ahead.{Fails}
 use Rattle.gx_command.specs.Ahead as ahead
 use Rattle.gx_command.specs.CommandFaults.{fault_of}

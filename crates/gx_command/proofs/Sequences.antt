@@ -1,8 +1,8 @@
 -- Reading one thing after another.
 use Rattle.std.proofs.Common.{◌≡◌, ℕ, ◌≤◌, arith, Option, Some, None, Result, Ok, Err, refl, ap, subst, ◌∙◌, inl, inr}
 use Rattle.gx_model.specs.Faults.{◌>>=◌}
-use Rattle.gx_model.specs.Items.{Stream}
-use Rattle.gx_model.specs.Grammar.{Read}
+use Rattle.gx_model.specs.Streams.Items.{Stream}
+use Rattle.gx_model.specs.Streams.Grammar.{Read}
 use Rattle.gx_command.specs.Ahead.{Fails, Falls, Reads}
 use Rattle.gx_command.specs.declared.fault.CommandFault.{CommandFault}
 

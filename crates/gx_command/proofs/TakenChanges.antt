@@ -2,7 +2,7 @@
 use Rattle.std.proofs.Common.{◌≡◌, Option, Some, None, Result, Ok, Err, refl, ap, subst, ◌∙◌, inl, inr}
 use Rattle.std.specs.Option.{option_map}
 use Rattle.gx_model.specs.Faults.{IsFaultOf, ◌>>=◌}
-use Rattle.gx_model.specs.Items.{Stream, then_comes, Finished, Failed}
+use Rattle.gx_model.specs.Streams.Items.{Stream, then_comes, Finished, Failed}
 use Rattle.gx_stream.specs.Faults.{ended}
 use Rattle.gx_stream.specs.Reading.{item_of}
 use Rattle.gx_stream.specs.declared.item.Item.{Item}

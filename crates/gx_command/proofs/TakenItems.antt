@@ -1,6 +1,6 @@
 -- Taking an item where none is left.
 use Rattle.std.proofs.Common.{◌≡◌, Option, Some, None, Result, Ok, subst, sym, inl}
-use Rattle.gx_model.specs.Items.{Stream}
+use Rattle.gx_model.specs.Streams.Items.{Stream}
 use Rattle.gx_stream.specs.Reading.{ReadsAs}
 use Rattle.gx_stream.specs.declared.item.Item.{Item}
 use Rattle.gx_command.specs.Ahead.{Takes, with_held}

@@ -3,8 +3,8 @@ use Rattle.std.proofs.Common.{◌≡◌, Option, Some, None, Result, Ok, Err, re
 use Rattle.std.proofs.lemmas.Grind.{common_steps}
 use Rattle.std.specs.Borrow.{Bor}
 use Rattle.gx_model.specs.Texts.{Bytes}
-use Rattle.gx_model.specs.Items.{Stream, then_comes, Finished, Failed}
-use Rattle.gx_model.specs.Grammar.{rest_line, rest_line_in}
+use Rattle.gx_model.specs.Streams.Items.{Stream, then_comes, Finished, Failed}
+use Rattle.gx_model.specs.Streams.Grammar.{rest_line, rest_line_in}
 use Rattle.gx_stream.specs.Faults.{ended}
 use Rattle.gx_stream.specs.Reading.{item_of}
 use Rattle.gx_stream.specs.declared.item.Item.{Item}

@@ -3,9 +3,9 @@ use Rattle.std.specs.Prelude.{◌≡◌, ℕ, ◌+◌, ◌≤◌, ◌<◌, ◌�
 use Rattle.std.specs.Borrow.{Bor}
 use Rattle.gx_model.specs.Texts.{Bytes}
 use Rattle.gx_model.specs.Faults.{Given}
-use Rattle.gx_model.specs.Items as model
-use Rattle.gx_model.specs.Items.{Stream, then_comes, Finished, Failed}
-use Rattle.gx_model.specs.Grammar.{Read, rest_line}
+use Rattle.gx_model.specs.Streams.Items as model
+use Rattle.gx_model.specs.Streams.Items.{Stream, then_comes, Finished, Failed}
+use Rattle.gx_model.specs.Streams.Grammar.{Read, rest_line}
 use Rattle.gx_stream.specs.Faults.{ended}
 use Rattle.gx_stream.specs.Reading.{item_of}
 use Rattle.gx_stream.specs.declared.item.Item.{Item}

@@ -2,10 +2,10 @@
 use Rattle.std.specs.Prelude.{◌≡◌, ℕ, zero, suc, ◌-◌, ◌<◌, ◌≤◌, Bool, true, false, if◌then◌else◌, List, [], ◌∷◌, ◌++◌, length, drop, Option, Some, None, Result, Ok, Err}
 use Rattle.std.specs.List.{list_all, list_any}
 use Rattle.gx_model.specs.Faults.{Given, ◌>>=◌}
-use Rattle.gx_model.specs.Items.{Item, Line, Data, Stream}
+use Rattle.gx_model.specs.Streams.Items.{Item, Line, Data, Stream}
 use Rattle.gx_model.specs.declared.faults.Fault.TheVariants as model
-use Rattle.gx_model.specs.Commands.{Command, Commands}
-use Rattle.gx_model.specs.Grammar.{Read, asks_done, commands_of, commands_within, is_done, is_option, stops}
+use Rattle.gx_model.specs.Streams.Commands.{Command, Commands}
+use Rattle.gx_model.specs.Streams.Grammar.{Read, asks_done, commands_of, commands_within, is_done, is_option, stops}
 use Rattle.gx_command.specs.CommandFaults.{fault_of}
 use Rattle.gx_command.specs.Heads.{first}
 use Rattle.gx_command.specs.declared.fault.CommandFault.{CommandFault}

@@ -2,11 +2,11 @@
 use Rattle.std.specs.Prelude.{◌≡◌, Option, Some, None, Result, Ok, Err, [], ◌∷◌, List, map, if◌then◌else◌, codes}
 use Rattle.std.specs.Option.{option_map}
 use Rattle.gx_model.specs.Faults.{Given, ◌>>=◌}
-use Rattle.gx_model.specs.Items as model
-use Rattle.gx_model.specs.Items.{Stream, Line, Data}
-use Rattle.gx_model.specs.Commands as command
+use Rattle.gx_model.specs.Streams.Items as model
+use Rattle.gx_model.specs.Streams.Items.{Stream, Line, Data}
+use Rattle.gx_model.specs.Streams.Commands as command
 use Rattle.gx_model.specs.declared.faults.Fault.TheVariants as faults
-use Rattle.gx_model.specs.Grammar.{Read, at_end, after, words_of, is_word, change_at}
+use Rattle.gx_model.specs.Streams.Grammar.{Read, at_end, after, words_of, is_word, change_at}
 use Rattle.gx_command.specs.Ahead.{Fails}
 use Rattle.gx_command.specs.ChangeLines.{BeginsChange, completed}
 use Rattle.gx_command.specs.Views.{shown_commit_ish, shown_change}

@@ -1,10 +1,10 @@
 -- The lines that begin commands, and the command that comes next.
 use Rattle.std.specs.Prelude.{◌≡◌, Bool, Option, Some, None, Result, Ok, Err, [], ◌∷◌, List}
 use Rattle.gx_model.specs.Faults.{◌>>=◌}
-use Rattle.gx_model.specs.Items.{Item, Line, Data, Stream}
-use Rattle.gx_model.specs.Commands as model
+use Rattle.gx_model.specs.Streams.Items.{Item, Line, Data, Stream}
+use Rattle.gx_model.specs.Streams.Commands as model
 use Rattle.gx_model.specs.declared.faults.Fault.TheVariants as faults
-use Rattle.gx_model.specs.Grammar.{Read, at_end, after, words_of, blob_at, commit_at, tag_at, reset_at, command_at}
+use Rattle.gx_model.specs.Streams.Grammar.{Read, at_end, after, words_of, blob_at, commit_at, tag_at, reset_at, command_at}
 use Rattle.gx_command.specs.Ahead.{Fails}
 use Rattle.gx_command.specs.Views.{shown_command}
 use Rattle.gx_command.specs.declared.fault.CommandFault.{CommandFault}

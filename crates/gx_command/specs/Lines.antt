@@ -3,10 +3,10 @@ use Rattle.std.specs.Prelude.{Option, Some, None, Ok, if◌then◌else◌}
 use Rattle.std.specs.Option.{option_map}
 use Rattle.gx_model.specs.Texts.{Bytes}
 use Rattle.gx_model.specs.Faults.{Given, ◌>>=◌}
-use Rattle.gx_model.specs.Items as model
-use Rattle.gx_model.specs.Items.{Line, Data}
-use Rattle.gx_model.specs.Grammar as grammar
-use Rattle.gx_model.specs.Grammar.{words_of, is_word, rest_of}
+use Rattle.gx_model.specs.Streams.Items as model
+use Rattle.gx_model.specs.Streams.Items.{Line, Data}
+use Rattle.gx_model.specs.Streams.Grammar as grammar
+use Rattle.gx_model.specs.Streams.Grammar.{words_of, is_word, rest_of}
 use Rattle.gx_command.specs.declared.lines.Words.{Words}
 
 abbrev pub shown_words : Words → grammar.Words

@@ -4,10 +4,10 @@ use Rattle.std.specs.Option.{option_map}
 use Rattle.gx_model.specs.declared.features.Feature.TheVariants as features
 use Rattle.gx_model.specs.declared.faults.Fault.TheVariants as faults
 use Rattle.gx_model.specs.Faults.{◌>>=◌}
-use Rattle.gx_model.specs.Items.{Stream}
-use Rattle.gx_model.specs.Commands as model
-use Rattle.gx_model.specs.Commands.{Commands}
-use Rattle.gx_model.specs.Grammar.{Read, commands_of, commands_within, is_done, is_option, asks_done, stops, with_first}
+use Rattle.gx_model.specs.Streams.Items.{Stream}
+use Rattle.gx_model.specs.Streams.Commands as model
+use Rattle.gx_model.specs.Streams.Commands.{Commands}
+use Rattle.gx_model.specs.Streams.Grammar.{Read, commands_of, commands_within, is_done, is_option, asks_done, stops, with_first}
 use Rattle.gx_text.specs.Devices.{Coming}
 use Rattle.gx_stream.specs.Heard.{items_from}
 use Rattle.gx_command.specs.CommandFaults.{fault_of}

@@ -1,7 +1,7 @@
 -- Commands as the model has them, without where they lie in memory.
 use Rattle.std.specs.Prelude.{map}
 use Rattle.std.specs.Option.{option_map}
-use Rattle.gx_model.specs.Commands as model
+use Rattle.gx_model.specs.Streams.Commands as model
 use Rattle.gx_command.specs.declared.commands.Blob.{Blob}
 use Rattle.gx_command.specs.declared.commands.Commit.{Commit}
 use Rattle.gx_command.specs.declared.commands.Tag.{Tag}

@@ -88,7 +88,7 @@ impl<R: Source, A: Allocator + Copy> Ahead<R, A> {
     }
 
     /// Takes the next line where it has this word, and reads its rest. Otherwise the item stays.
-    #[tactic(auto, unfolding(gx_model::specs::Grammar::rest_line_in))]
+    #[tactic(auto, unfolding(gx_model::specs::Streams::Grammar::rest_line_in))]
     pub(crate) fn optional<T: Drop, F>(
         &mut self,
         word: &[u8],

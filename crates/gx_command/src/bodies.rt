@@ -3,9 +3,9 @@
 ghost use Rattle.std.specs.Prelude.{◌≡◌, ◌≢◌, IsTrue, codes, map, IfOk, IfErr};
 ghost use Rattle.std.specs.Option.{option_map};
 ghost use Rattle.gx_model.specs.Faults.{Gives};
-ghost use Rattle.gx_model.specs.Items.{Stream};
+ghost use Rattle.gx_model.specs.Streams.Items.{Stream};
 ghost use Rattle.gx_stream.specs.Reading.{item_of};
-ghost use Rattle.gx_model.specs.Grammar.{optional, needed, block, mark_of, any_text, ident_of, encoding_of, commit_ish_of, unsigned, item_after, bytes_from, merges, changes, blob_at, links_at, commit_at, tag_at, reset_at};
+ghost use Rattle.gx_model.specs.Streams.Grammar.{optional, needed, block, mark_of, any_text, ident_of, encoding_of, commit_ish_of, unsigned, item_after, bytes_from, merges, changes, blob_at, links_at, commit_at, tag_at, reset_at};
 ghost use Rattle.gx_command.specs.Ahead.{Reads, Falls, FallsNot, to_come, most};
 ghost use Rattle.gx_command.specs.Bodies.{next_change, shown_links, ChangeIn, TakesChange, signature_in, empty_line};
 ghost use Rattle.gx_command.specs.CommandFaults.{fault_of};
@@ -37,7 +37,7 @@ struct Links<A: Allocator> {
 }
 
 impl<R: Source, A: Allocator + Copy> Ahead<R, A> {
-    #[tactic(auto, unfolding(gx_model::specs::Grammar::blob_at))]
+    #[tactic(auto, unfolding(gx_model::specs::Streams::Grammar::blob_at))]
     pub(crate) fn blob(&mut self) -> Result<Blob<A>, CommandFault>
         ensures reads { Reads shown_blob blob_at (to_come self.old) (to_come self.new) result }
         ensures falls { FallsNot (most self.old) (most self.new) result }
@@ -48,7 +48,7 @@ impl<R: Source, A: Allocator + Copy> Ahead<R, A> {
         Ok(Blob { mark, bytes })
     }
 
-    #[tactic(auto, unfolding(gx_model::specs::Grammar::commit_at))]
+    #[tactic(auto, unfolding(gx_model::specs::Streams::Grammar::commit_at))]
     pub(crate) fn commit(&mut self, branch: RefName<A>) -> Result<Commit<A>, CommandFault>
         ensures reads { Reads shown_commit (commit_at branch.bytes.items) (to_come self.old) (to_come self.new) result }
         ensures falls { FallsNot (most self.old) (most self.new) result }
@@ -78,7 +78,7 @@ impl<R: Source, A: Allocator + Copy> Ahead<R, A> {
         })
     }
 
-    #[tactic(auto, unfolding(gx_model::specs::Grammar::links_at))]
+    #[tactic(auto, unfolding(gx_model::specs::Streams::Grammar::links_at))]
     fn links(&mut self) -> Result<Links<A>, CommandFault>
         ensures reads { Reads shown_links links_at (to_come self.old) (to_come self.new) result }
         ensures falls { FallsNot (most self.old) (most self.new) result }
@@ -94,7 +94,7 @@ impl<R: Source, A: Allocator + Copy> Ahead<R, A> {
         })
     }
 
-    #[tactic(auto, unfolding(gx_model::specs::Grammar::tag_at))]
+    #[tactic(auto, unfolding(gx_model::specs::Streams::Grammar::tag_at))]
     pub(crate) fn tag(&mut self, name: TagName<A>) -> Result<Tag<A>, CommandFault>
         ensures reads { Reads shown_tag (tag_at name.bytes.items) (to_come self.old) (to_come self.new) result }
         ensures falls { FallsNot (most self.old) (most self.new) result }
@@ -113,7 +113,7 @@ impl<R: Source, A: Allocator + Copy> Ahead<R, A> {
         })
     }
 
-    #[tactic(auto, unfolding(gx_model::specs::Grammar::reset_at))]
+    #[tactic(auto, unfolding(gx_model::specs::Streams::Grammar::reset_at))]
     pub(crate) fn reset(&mut self, branch: RefName<A>) -> Result<Reset<A>, CommandFault>
         ensures reads { Reads shown_reset (reset_at branch.bytes.items) (to_come self.old) (to_come self.new) result }
         ensures falls { FallsNot (most self.old) (most self.new) result }
@@ -245,7 +245,7 @@ impl<R: Source, A: Allocator + Copy> Ahead<R, A> {
     }
 
     /// The bytes of the next item, which has to be a block.
-    #[tactic(auto, unfolding(gx_model::specs::Grammar::block_in, crate::specs::Ahead::to_come, crate::specs::Ahead::most))]
+    #[tactic(auto, unfolding(gx_model::specs::Streams::Grammar::block_in, crate::specs::Ahead::to_come, crate::specs::Ahead::most))]
     fn block(&mut self) -> Result<Vec<u8, A>, CommandFault>
         ensures reads { Reads (λ v. v.items) block (to_come self.old) (to_come self.new) result }
         ensures falls { FallsNot (most self.old) (most self.new) result }
@@ -262,7 +262,7 @@ impl<R: Source, A: Allocator + Copy> Ahead<R, A> {
     }
 
     /// Refuses a signature.
-    #[tactic(auto, unfolding(gx_model::specs::Grammar::unsigned_in))]
+    #[tactic(auto, unfolding(gx_model::specs::Streams::Grammar::unsigned_in))]
     fn check_unsigned(&mut self) -> Result<(), CommandFault>
         ensures reads { Reads (λ u. u) unsigned (to_come self.old) (to_come self.new) result }
         ensures falls { FallsNot (most self.old) (most self.new) result }
@@ -272,7 +272,7 @@ impl<R: Source, A: Allocator + Copy> Ahead<R, A> {
     }
 
     /// Looks at the item after a commit or a reset, and takes it where it is an empty line.
-    #[tactic(auto, unfolding(gx_model::specs::Grammar::item_after_in))]
+    #[tactic(auto, unfolding(gx_model::specs::Streams::Grammar::item_after_in))]
     fn end(&mut self) -> Result<(), CommandFault>
         ensures reads { Reads (λ u. u) item_after (to_come self.old) (to_come self.new) result }
         ensures falls { FallsNot (most self.old) (most self.new) result }

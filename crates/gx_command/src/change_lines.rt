@@ -3,9 +3,9 @@
 ghost use Rattle.std.specs.Prelude.{◌≡◌, ◌≢◌, IsTrue, IfOk, IfErr, OnOk};
 ghost use Rattle.gx_command.specs.Places.{is_file_mode, is_suited_place};
 ghost use Rattle.gx_model.specs.Faults.{Gives};
-ghost use Rattle.gx_model.specs.Items.{Stream};
-ghost use Rattle.gx_model.specs.Paths.{is_quoted};
-ghost use Rattle.gx_model.specs.Grammar.{mode_of, where_of, suits, last_path, source_path, two_paths, modify_at, change_at, words_of};
+ghost use Rattle.gx_model.specs.Streams.Items.{Stream};
+ghost use Rattle.gx_model.specs.Texts.Paths.{is_quoted};
+ghost use Rattle.gx_model.specs.Streams.Grammar.{mode_of, where_of, suits, last_path, source_path, two_paths, modify_at, change_at, words_of};
 ghost use Rattle.gx_command.specs.CommandFaults.{fault_of};
 ghost use Rattle.gx_command.specs.ChangeLines.{shown_place, BeginsModify, BeginsChange};
 ghost use Rattle.gx_command.specs.declared.fault.CommandFault.TheVariants.{OutOfMemory};
@@ -28,7 +28,7 @@ pub(crate) enum ChangeLine<A: Allocator> {
 }
 
 /// The change that a line is, or begins. Another line gives none.
-#[tactic(auto, unfolding(gx_model::specs::Grammar::change_at))]
+#[tactic(auto, unfolding(gx_model::specs::Streams::Grammar::change_at))]
 pub(crate) fn read_change<A: Allocator + Copy>(
     alloc: A,
     line: &[u8],
@@ -65,7 +65,7 @@ pub(crate) fn read_change<A: Allocator + Copy>(
 }
 
 /// A modify's mode, dataref and path.
-#[tactic(auto, unfolding(gx_model::specs::Grammar::modify_at))]
+#[tactic(auto, unfolding(gx_model::specs::Streams::Grammar::modify_at))]
 fn read_modify<A: Allocator + Copy>(alloc: A, text: &[u8]) -> Result<ModifyLine<A>, CommandFault>
     ensures { (s : Stream) → BeginsModify s result (modify_at text.now s) }
 {
@@ -133,7 +133,7 @@ fn check_suits(mode: Mode, place: Place) -> Result<(), CommandFault>
 }
 
 /// The path that ends its line.
-#[tactic(auto, unfolding(gx_model::specs::Grammar::last_path))]
+#[tactic(auto, unfolding(gx_model::specs::Streams::Grammar::last_path))]
 fn read_last_path<A: Allocator + Copy>(alloc: A, text: &[u8]) -> Result<TreePath<A>, CommandFault>
     ensures { Gives fault_of (λ path. path) result (last_path text.now) }
 {
@@ -149,7 +149,7 @@ fn read_last_path<A: Allocator + Copy>(alloc: A, text: &[u8]) -> Result<TreePath
 }
 
 /// The path before a space, and what follows the space.
-#[tactic(auto, unfolding(gx_model::specs::Grammar::source_path))]
+#[tactic(auto, unfolding(gx_model::specs::Streams::Grammar::source_path))]
 fn read_source_path<A: Allocator + Copy>(
     alloc: A,
     text: &[u8],
@@ -168,7 +168,7 @@ fn read_source_path<A: Allocator + Copy>(
 }
 
 /// A source and a destination.
-#[tactic(auto, unfolding(gx_model::specs::Grammar::two_paths))]
+#[tactic(auto, unfolding(gx_model::specs::Streams::Grammar::two_paths))]
 fn read_two_paths<A: Allocator + Copy>(
     alloc: A,
     text: &[u8],

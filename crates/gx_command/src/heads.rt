@@ -3,8 +3,8 @@
 ghost use Rattle.std.specs.Prelude.{◌≡◌, ◌≢◌, ◌||◌, codes, Ok, IfErr};
 ghost use Rattle.std.specs.Option.{option_map};
 ghost use Rattle.gx_model.specs.Faults.{Gives, and_then};
-ghost use Rattle.gx_model.specs.Items.{Stream};
-ghost use Rattle.gx_model.specs.Grammar.{command_at, is_word, rest_of, if_early, feature_of};
+ghost use Rattle.gx_model.specs.Streams.Items.{Stream};
+ghost use Rattle.gx_model.specs.Streams.Grammar.{command_at, is_word, rest_of, if_early, feature_of};
 ghost use Rattle.gx_stream.specs.Reading.{item_of};
 ghost use Rattle.gx_command.specs.Ahead.{Reads, Falls, FallsNot, to_come, most};
 ghost use Rattle.gx_command.specs.CommandFaults.{fault_of};
@@ -109,7 +109,7 @@ fn read_start<A: Allocator + Copy>(
 }
 
 /// The command that a line begins with these words.
-#[tactic(auto, unfolding(gx_model::specs::Grammar::command_at))]
+#[tactic(auto, unfolding(gx_model::specs::Streams::Grammar::command_at))]
 fn read_head<A: Allocator + Copy>(
     alloc: A,
     is_early: bool,

@@ -2,7 +2,7 @@
 
 ghost use Rattle.std.specs.Prelude.{◌≢◌, IfErr, IsOk, IsErrOf};
 ghost use Rattle.gx_model.specs.Faults.{Gives};
-ghost use Rattle.gx_model.specs.Grammar.{mark_number, mark_of, commit_ish_of};
+ghost use Rattle.gx_model.specs.Streams.Grammar.{mark_number, mark_of, commit_ish_of};
 ghost use Rattle.gx_command.specs.CommandFaults.{fault_of};
 ghost use Rattle.gx_command.specs.Views.{shown_commit_ish};
 ghost use Rattle.gx_command.specs.declared.fault.CommandFault.TheVariants.{OutOfMemory};
@@ -25,7 +25,7 @@ pub(crate) fn read_mark_number(digits: &[u8]) -> Result<u64, CommandFault>
 }
 
 /// A colon and a mark's number.
-#[tactic(auto, unfolding(gx_model::specs::Grammar::mark_of))]
+#[tactic(auto, unfolding(gx_model::specs::Streams::Grammar::mark_of))]
 pub(crate) fn read_mark(text: &[u8]) -> Result<u64, CommandFault>
     ensures mark { Gives fault_of (λ n. n) result (mark_of text.now) }
     ensures memory { IfErr result (λ fault. fault ≢ OutOfMemory) }
@@ -37,7 +37,7 @@ pub(crate) fn read_mark(text: &[u8]) -> Result<u64, CommandFault>
 }
 
 /// A mark behind a colon, or any other text but forty zeros.
-#[tactic(auto, unfolding(gx_model::specs::Grammar::commit_ish_of))]
+#[tactic(auto, unfolding(gx_model::specs::Streams::Grammar::commit_ish_of))]
 pub(crate) fn read_commit_ish<A: Allocator + Copy>(
     alloc: A,
     text: &[u8],

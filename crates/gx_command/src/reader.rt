@@ -2,8 +2,8 @@
 
 ghost use Rattle.std.specs.Prelude.{◌≡◌, ◌-◌, ◌^◌, ◌&&◌, ◌||◌, None, IfOk, IfSome};
 ghost use Rattle.std.specs.Option.{option_map};
-ghost use Rattle.gx_model.specs.Gitlinks.{BringsNoNullGitlink};
-ghost use Rattle.gx_model.specs.Grammar.{is_option, asks_done, is_done};
+ghost use Rattle.gx_model.specs.Streams.Gitlinks.{BringsNoNullGitlink};
+ghost use Rattle.gx_model.specs.Streams.Grammar.{is_option, asks_done, is_done};
 ghost use Rattle.gx_command.specs.Ahead.{to_come, most, Reads as ReadsAhead, Falls as FallsAhead};
 ghost use Rattle.gx_command.specs.Behind.{at_start};
 ghost use Rattle.gx_command.specs.Reading.{Reads, Finishes, Falls, Repeats, commands_from, next_after, over_after, state_after};

@@ -3,11 +3,11 @@
 ghost use Rattle.std.specs.Prelude.{◌≡◌, IsTrue, Some, false, ◌==◌, not, nat_eq, IsOk, IsErrOf};
 ghost use Rattle.std.specs.List.{list_all};
 ghost use Rattle.gx_model.specs.Faults.{Gives};
-ghost use Rattle.gx_model.specs.Idents.{is_ident};
+ghost use Rattle.gx_model.specs.Texts.Idents.{is_ident};
 ghost use Rattle.gx_model.specs.Texts.{is_line};
-ghost use Rattle.gx_model.specs.Values.{is_optional_encoding};
-ghost use Rattle.gx_model.specs.RefNames.{is_ref_name, is_tag_name};
-ghost use Rattle.gx_model.specs.Grammar.{ident_of, ref_of, tag_of, encoding_of, is_null, is_hex_digit, is_name};
+ghost use Rattle.gx_model.specs.Histories.Values.{is_optional_encoding};
+ghost use Rattle.gx_model.specs.Texts.RefNames.{is_ref_name, is_tag_name};
+ghost use Rattle.gx_model.specs.Streams.Grammar.{ident_of, ref_of, tag_of, encoding_of, is_null, is_hex_digit, is_name};
 ghost use Rattle.gx_command.specs.CommandFaults.{fault_of};
 ghost use Rattle.gx_command.specs.declared.fault.CommandFault.TheVariants.{OutOfMemory};
 

@@ -8,22 +8,22 @@ use Rattle.std.proofs.Math.Dec.{eqb}
 use Rattle.std.proofs.lemmas.Bool.Decides.{eqb_tells}
 use Rattle.gx_model.specs.declared.objects.Kind.{Kind}
 use Rattle.gx_model.specs.Texts.{Bytes}
-use Rattle.gx_model.specs.Values.{Commit, Value, blob_value, commit_value, parents_of, tag_value, tree_value}
+use Rattle.gx_model.specs.Histories.Values.{Commit, Value, blob_value, commit_value, parents_of, tag_value, tree_value}
 use Rattle.gx_model.specs.Objects.{IsNamer}
 use Rattle.gx_model.specs.Export.{is_reached}
 use Rattle.gx_model.specs.Histories.{IsIn, Records, Target, at_commit, at_tag, value_at}
-use Rattle.gx_model.specs.HistoryLaws.{IsParent}
-use Rattle.gx_model.specs.HistoryOf.{commit_of_value, history_of, target_in, value_of_name}
-use Rattle.gx_model.specs.Lookups.{commit_named}
-use Rattle.gx_model.specs.Ranges.{reaches}
+use Rattle.gx_model.specs.Laws.HistoryLaws.{IsParent}
+use Rattle.gx_model.specs.Records.HistoryOf.{commit_of_value, history_of, target_in, value_of_name}
+use Rattle.gx_model.specs.Records.Lookups.{commit_named}
+use Rattle.gx_model.specs.Revisions.Ranges.{reaches}
 use Rattle.gx_model.specs.Replay.{peeled_at}
-use Rattle.gx_model.specs.RepositoryLaws.{values_of}
-use Rattle.gx_model.specs.Sound.{IsSound, IsTarget}
+use Rattle.gx_model.specs.Laws.RepositoryLaws.{values_of}
+use Rattle.gx_model.specs.Records.Sound.{IsSound, IsTarget}
 use Rattle.gx_model.proofs.PathTests.{is_true, left_or, one_of, right_or}
 use Rattle.gx_model.proofs.ReachedCommits.{closed, itself}
 use Rattle.gx_model.proofs.HistoriesExist.{stands}
 use Rattle.gx_model.proofs.LinkedValues.{parts_in}
-use Rattle.gx_model.specs.Marks.{IsAt, IsMarked, Marks, holds, marks_of}
+use Rattle.gx_model.specs.Histories.Marks.{IsAt, IsMarked, Marks, holds, marks_of}
 use Rattle.gx_model.proofs.HeldValues.{all_whole, peeled_to}
 use Rattle.gx_model.proofs.Marking.{least, marks_are}
 use Rattle.gx_model.proofs.Standing.{in_at, parent_before, same_place}

@@ -6,13 +6,13 @@ use Rattle.std.proofs.lemmas.List.Elements.{filter_map-append}
 use Rattle.gx_model.specs.declared.objects.Mode.TheVariants.{File, Exec, Link, Gitlink, Dir}
 use Rattle.gx_model.specs.declared.objects.Mode.{Mode}
 use Rattle.gx_model.specs.Texts.{Bytes}
-use Rattle.gx_model.specs.Commands.{Blob}
+use Rattle.gx_model.specs.Streams.Commands.{Blob}
 use Rattle.gx_model.specs.Export.{blob_commands, command_items, content_in, contents, with_blobs}
-use Rattle.gx_model.specs.Files.{FileMap}
+use Rattle.gx_model.specs.Histories.Files.{FileMap}
 use Rattle.gx_model.specs.Histories.{Records, is_in}
-use Rattle.gx_model.specs.HistoryOf.{Named, bytes_of_blob, content_of, contents_of, value_named}
-use Rattle.gx_model.specs.Paths.{Path}
-use Rattle.gx_model.specs.Values.{Value, blob_value}
+use Rattle.gx_model.specs.Records.HistoryOf.{Named, bytes_of_blob, content_of, contents_of, value_named}
+use Rattle.gx_model.specs.Texts.Paths.{Path}
+use Rattle.gx_model.specs.Histories.Values.{Value, blob_value}
 use Rattle.gx_text.specs.Devices.{Taken}
 use Rattle.gx_export.specs.Marks.{Adds}
 use Rattle.gx_export.specs.Outputs.{Stops}

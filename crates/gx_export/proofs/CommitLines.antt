@@ -7,10 +7,10 @@ use Rattle.gx_model.specs.declared.objects.Mode.TheVariants.{File, Exec, Link, G
 use Rattle.gx_model.specs.Texts.{Bytes}
 use Rattle.gx_model.specs.Export.{commit_ish_text, dataref_in, dataref_text, mark_text, marked_in, number_in, word_line}
 use Rattle.gx_model.specs.Histories.{Record}
-use Rattle.gx_model.specs.HistoryOf.{Named, bytes_of_blob, content_of, value_named}
-use Rattle.gx_model.specs.Items.{Item}
-use Rattle.gx_model.specs.Sound.{Holds, IsHeldAs}
-use Rattle.gx_model.specs.Values.{Commit, Value, blob_value, commit_value}
+use Rattle.gx_model.specs.Records.HistoryOf.{Named, bytes_of_blob, content_of, value_named}
+use Rattle.gx_model.specs.Streams.Items.{Item}
+use Rattle.gx_model.specs.Records.Sound.{Holds, IsHeldAs}
+use Rattle.gx_model.specs.Histories.Values.{Commit, Value, blob_value, commit_value}
 use Rattle.gx_export.specs.Texts.{parent_items}
 
 -- ---- files

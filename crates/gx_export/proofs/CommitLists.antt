@@ -5,10 +5,10 @@ use Rattle.std.specs.List.{filter, filter_map, fold, slice_get}
 use Rattle.std.proofs.lemmas.Grind.{flat_map-append}
 use Rattle.std.proofs.lemmas.List.{append-nil}
 use Rattle.gx_model.specs.Export.{all_written, command_items, commit_commands, one_commit, with_commit}
-use Rattle.gx_model.specs.Items.{Item}
-use Rattle.gx_model.specs.Ranges.{commit_of}
-use Rattle.gx_model.specs.Values.{Commit, Value, blob_value, commit_value, tag_value, tree_value}
-use Rattle.gx_model.specs.Marks.{holds, marks_of}
+use Rattle.gx_model.specs.Streams.Items.{Item}
+use Rattle.gx_model.specs.Revisions.Ranges.{commit_of}
+use Rattle.gx_model.specs.Histories.Values.{Commit, Value, blob_value, commit_value, tag_value, tree_value}
+use Rattle.gx_model.specs.Histories.Marks.{holds, marks_of}
 use Rattle.gx_export.specs.Texts.{items_of}
 
 -- the commits among these values that pass

@@ -8,23 +8,23 @@ use Rattle.gx_model.specs.declared.objects.Kind.{Kind}
 use Rattle.gx_model.specs.declared.objects.Kind.TheVariants as kind
 use Rattle.gx_model.specs.Texts.{Bytes}
 use Rattle.gx_model.specs.Export.{all_written, blob_commands, command_items, commit_command, commit_ish_text, contents, first_parent, from_line, last_reset, one_commit, optional_line, other_parents, root_reset, to_nothing, carrier, with_blobs, with_commit, word_line}
-use Rattle.gx_model.specs.Files.{FileMap}
+use Rattle.gx_model.specs.Histories.Files.{FileMap}
 use Rattle.gx_model.specs.Histories.{IsIn, Records}
-use Rattle.gx_model.specs.HistoryOf.{commit_of_value, contents_of, history_of, named_values, value_of_name}
-use Rattle.gx_model.specs.Items.{Data, Item}
+use Rattle.gx_model.specs.Records.HistoryOf.{commit_of_value, contents_of, history_of, named_values, value_of_name}
+use Rattle.gx_model.specs.Streams.Items.{Data, Item}
 use Rattle.gx_model.specs.Objects.{CommitParts, IsNamer}
 use Rattle.gx_model.specs.Records.{name_of, named_map, names_of, parts_of_commit}
-use Rattle.gx_model.specs.RepositoryLaws.{values_of}
-use Rattle.gx_model.specs.Sound.{Holds, IsNamedMap, IsSound}
-use Rattle.gx_model.specs.Values.{Commit, Commits, CommitText, Value, blobs_of, commit_value, files_of, list_of, more, none, parents_of, sub_maps, text_of, tree_value}
+use Rattle.gx_model.specs.Laws.RepositoryLaws.{values_of}
+use Rattle.gx_model.specs.Records.Sound.{Holds, IsNamedMap, IsSound}
+use Rattle.gx_model.specs.Histories.Values.{Commit, Commits, CommitText, Value, blobs_of, commit_value, files_of, list_of, more, none, parents_of, sub_maps, text_of, tree_value}
 use Rattle.gx_model.proofs.LinkedValues.{parts_in, proper_in}
 use Rattle.gx_model.proofs.OneTree.{all_left}
 use Rattle.gx_model.proofs.PathTests.{is_true}
 use Rattle.gx_text.specs.Devices.{Taken}
 use Rattle.gx_model.proofs.HeldValues.{all_whole, commit_stands, names_long, value_held, value_holds}
-use Rattle.gx_model.specs.RecordFaults.{is_held}
+use Rattle.gx_model.specs.Records.RecordFaults.{is_held}
 use Rattle.gx_model.proofs.Standing.{at_in}
-use Rattle.gx_model.specs.NameMaps.{AreFiles}
+use Rattle.gx_model.specs.Objects.NameMaps.{AreFiles}
 use Rattle.gx_model.proofs.FilesByName.{contents_told, files_named}
 use Rattle.gx_export.specs.Marks.{Adds, HasWritten}
 use Rattle.gx_export.specs.Texts.{author_items, change_lines, commit_lines, items_of, items_text, last_items, parent_items, root_items}

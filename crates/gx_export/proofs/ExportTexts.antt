@@ -1,12 +1,12 @@
 -- The items of an export in their parts.
 use Rattle.std.proofs.Common.{◌≡◌, ◌≢◌, ◌≤◌, ℕ, List, [], ◌∷◌, ◌++◌, map, length, Option, Result, Ok, Err, refl, sym, ap, subst, ◌∙◌, append_assoc, arith, codes}
 use Rattle.std.proofs.lemmas.Grind.{flat_map-append}
-use Rattle.gx_model.specs.Commands as command
+use Rattle.gx_model.specs.Streams.Commands as command
 use Rattle.gx_model.specs.Export.{all_written, command_items, commit_commands, export_items, last_reset, reached_commits, ref_command}
 use Rattle.gx_model.specs.Histories.{History, Records}
-use Rattle.gx_model.specs.HistoryOf.{history_of}
-use Rattle.gx_model.specs.Items.{Item, Line}
-use Rattle.gx_model.specs.Values.{Value}
+use Rattle.gx_model.specs.Records.HistoryOf.{history_of}
+use Rattle.gx_model.specs.Streams.Items.{Item, Line}
+use Rattle.gx_model.specs.Histories.Values.{Value}
 use Rattle.gx_text.specs.Devices.{Taken, Took}
 use Rattle.gx_export.specs.Exports.{Exports}
 use Rattle.gx_export.specs.Faults.{NeedsNoMemory}

@@ -7,11 +7,11 @@ use Rattle.gx_model.specs.declared.objects.Mode.{Mode}
 use Rattle.gx_model.specs.declared.objects.Mode.TheVariants.{File, Exec, Link, Gitlink, Dir}
 use Rattle.gx_model.specs.Texts.{Bytes}
 use Rattle.gx_model.specs.Export.{change_items, dataref_in, dataref_text, file_change}
-use Rattle.gx_model.specs.Files.{FileMap}
-use Rattle.gx_model.specs.HistoryOf.{Named, content_of, contents_of}
-use Rattle.gx_model.specs.Items.{Item}
-use Rattle.gx_model.specs.Paths.{Path, path_text, printed}
-use Rattle.gx_model.specs.Values.{Value}
+use Rattle.gx_model.specs.Histories.Files.{FileMap}
+use Rattle.gx_model.specs.Records.HistoryOf.{Named, content_of, contents_of}
+use Rattle.gx_model.specs.Streams.Items.{Item}
+use Rattle.gx_model.specs.Texts.Paths.{Path, path_text, printed}
+use Rattle.gx_model.specs.Histories.Values.{Value}
 use Rattle.gx_export.specs.Texts.{file_items, file_line}
 
 -- the lines of files, by the names of what they hold

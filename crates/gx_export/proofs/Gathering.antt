@@ -9,16 +9,16 @@ use Rattle.gx_model.specs.declared.objects.Kind.{Kind}
 use Rattle.gx_model.specs.declared.objects.Mode.{Mode}
 use Rattle.gx_model.specs.declared.objects.Mode.TheVariants.{File, Exec, Link, Gitlink, Dir}
 use Rattle.gx_model.specs.Export.{blob_commands, contents, item_text, mark_text, number_in, with_blobs}
-use Rattle.gx_model.specs.Files.{FileMap}
+use Rattle.gx_model.specs.Histories.Files.{FileMap}
 use Rattle.gx_model.specs.Histories.{Records, is_in}
-use Rattle.gx_model.specs.HistoryOf.{Named, bytes_of_blob, content_of, contents_of, named_values, placed, value_of_name}
-use Rattle.gx_model.specs.NameMaps.{IsHeldTree}
+use Rattle.gx_model.specs.Records.HistoryOf.{Named, bytes_of_blob, content_of, contents_of, named_values, placed, value_of_name}
+use Rattle.gx_model.specs.Objects.NameMaps.{IsHeldTree}
 use Rattle.gx_model.specs.Objects.{Entry as TreeEntry, hex}
-use Rattle.gx_model.specs.Paths.{Path, is_short, path_text, printed}
-use Rattle.gx_model.specs.Sound.{IsHeldAs}
+use Rattle.gx_model.specs.Texts.Paths.{Path, is_short, path_text, printed}
+use Rattle.gx_model.specs.Records.Sound.{IsHeldAs}
 use Rattle.gx_model.specs.Texts.{Bytes}
-use Rattle.gx_model.specs.Values.{Commit, Value, blob_value, commit_value, same_value}
-use Rattle.gx_model.specs.Commands.{Blob}
+use Rattle.gx_model.specs.Histories.Values.{Commit, Value, blob_value, commit_value, same_value}
+use Rattle.gx_model.specs.Streams.Commands.{Blob}
 use Rattle.gx_model.proofs.SameValues.{same_value_tells}
 use Rattle.gx_model.proofs.FileMapEdits.{parts_of}
 use Rattle.gx_model.proofs.OneTree.{all_left, all_right}

@@ -5,12 +5,12 @@ use Rattle.std.specs.List.{AllByRecursion}
 use Rattle.std.specs.Result.{OnOk}
 use Rattle.std.proofs.lemmas.List.{drop-append-le, drop-drop, drop-take, length-append, length-drop, take-append-le, take-take, take_all}
 use Rattle.gx_model.specs.declared.objects.Kind.{Kind}
-use Rattle.gx_model.specs.Files.{FileMap}
+use Rattle.gx_model.specs.Histories.Files.{FileMap}
 use Rattle.gx_model.specs.Histories.{Records}
-use Rattle.gx_model.specs.NameMaps.{IsHeldTree}
-use Rattle.gx_model.specs.Paths.{Path, path_of}
+use Rattle.gx_model.specs.Objects.NameMaps.{IsHeldTree}
+use Rattle.gx_model.specs.Texts.Paths.{Path, path_of}
 use Rattle.gx_model.specs.Texts.{Bytes}
-use Rattle.gx_model.specs.Values.{Value}
+use Rattle.gx_model.specs.Histories.Values.{Value}
 use Rattle.gx_tree.specs.Lists.{below}
 use Rattle.gx_export.specs.FileTexts.{AreKept, IsKept, IsLinesOf, StandsIn, StaysKept}
 use Rattle.gx_export.specs.declared.lines.Directory.{Directory}

@@ -9,20 +9,20 @@ use Rattle.std.proofs.lemmas.List.{append-nil, length-replicate}
 use Rattle.gx_model.specs.declared.objects.Kind.{Kind}
 use Rattle.gx_model.specs.declared.objects.Kind.TheVariants as kind
 use Rattle.gx_model.specs.Texts.{Bytes}
-use Rattle.gx_model.specs.Commands.{Blob}
+use Rattle.gx_model.specs.Streams.Commands.{Blob}
 use Rattle.gx_model.specs.Export.{blob_commands, command_items, number_in, with_blobs}
 use Rattle.gx_model.specs.Histories.{Records, is_in, object_of}
-use Rattle.gx_model.specs.HistoryOf.{bytes_of_blob, value_of_name}
-use Rattle.gx_model.specs.Growth.{record_named}
+use Rattle.gx_model.specs.Records.HistoryOf.{bytes_of_blob, value_of_name}
+use Rattle.gx_model.specs.Records.Growth.{record_named}
 use Rattle.gx_model.specs.Objects.{IsNamer}
-use Rattle.gx_model.specs.RecordFaults.{is_held}
-use Rattle.gx_model.specs.Sound.{IsSound}
+use Rattle.gx_model.specs.Records.RecordFaults.{is_held}
+use Rattle.gx_model.specs.Records.Sound.{IsSound}
 use Rattle.gx_model.proofs.HeldValues.{got, kind_held}
 use Rattle.gx_model.proofs.Standing.{at_within, same_place}
-use Rattle.gx_model.specs.Items.{Item}
+use Rattle.gx_model.specs.Streams.Items.{Item}
 use Rattle.gx_model.specs.Records.{body_of, kind_of}
-use Rattle.gx_model.specs.RepositoryLaws.{values_of}
-use Rattle.gx_model.specs.Values.{Value, blob_value, commit_value, same_value, tag_value, tree_value}
+use Rattle.gx_model.specs.Laws.RepositoryLaws.{values_of}
+use Rattle.gx_model.specs.Histories.Values.{Value, blob_value, commit_value, same_value, tag_value, tree_value}
 use Rattle.gx_model.proofs.SameValues.{same_value_tells}
 use Rattle.gx_text.specs.Devices.{Taken}
 use Rattle.gx_export.specs.Marks.{Adds, AreNumbers, HasWritten}

@@ -4,10 +4,10 @@ use Rattle.std.specs.List.{AllByRecursion}
 use Rattle.std.specs.Option.{option_map}
 use Rattle.gx_model.specs.declared.objects.Kind.{Kind}
 use Rattle.gx_model.specs.Texts.{Bytes}
-use Rattle.gx_model.specs.Files.{FileMap}
-use Rattle.gx_model.specs.Growth.{record_named}
+use Rattle.gx_model.specs.Histories.Files.{FileMap}
+use Rattle.gx_model.specs.Records.Growth.{record_named}
 use Rattle.gx_model.specs.Histories.{Record, object_of}
-use Rattle.gx_model.specs.NameMaps.{IsHeldTree}
+use Rattle.gx_model.specs.Objects.NameMaps.{IsHeldTree}
 use Rattle.gx_model.specs.Objects.{IsNamer}
 use Rattle.gx_model.proofs.BodiesReadBack.{entries_read}
 use Rattle.gx_model.proofs.FileMapEdits.{parts_of}

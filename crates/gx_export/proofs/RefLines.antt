@@ -8,19 +8,19 @@ use Rattle.std.proofs.lemmas.List.{append-nil, map-append}
 use Rattle.gx_model.specs.declared.objects.Kind.{Kind}
 use Rattle.gx_model.specs.declared.objects.Kind.TheVariants as kind
 use Rattle.gx_model.specs.Texts.{Bytes}
-use Rattle.gx_model.specs.RefNames.{is_tag_name}
-use Rattle.gx_model.specs.Commands.{Marked, Reset}
-use Rattle.gx_model.specs.Denotation.{commit_in}
+use Rattle.gx_model.specs.Texts.RefNames.{is_tag_name}
+use Rattle.gx_model.specs.Streams.Commands.{Marked, Reset}
+use Rattle.gx_model.specs.Revisions.Denotation.{commit_in}
 use Rattle.gx_model.specs.Export.{command_items, number_in, ref_command}
-use Rattle.gx_model.specs.Growth.{record_named}
+use Rattle.gx_model.specs.Records.Growth.{record_named}
 use Rattle.gx_model.specs.Histories.{IsIn, Record, Records, object_of}
-use Rattle.gx_model.specs.HistoryOf.{history_of, target_in, value_of_name}
-use Rattle.gx_model.specs.Items.{Item}
+use Rattle.gx_model.specs.Records.HistoryOf.{history_of, target_in, value_of_name}
+use Rattle.gx_model.specs.Streams.Items.{Item}
 use Rattle.gx_model.specs.Objects.{IsNamer, IsTagText, TagParts}
 use Rattle.gx_model.specs.Records.{body_of, commit_body, kind_of, name_of}
 use Rattle.gx_model.specs.Replay.{peeled_at}
-use Rattle.gx_model.specs.Sound.{IsSound}
-use Rattle.gx_model.specs.Values.{Tag, Value, blob_value, commit_value, is_optional_ident, tag_value, tree_value}
+use Rattle.gx_model.specs.Records.Sound.{IsSound}
+use Rattle.gx_model.specs.Histories.Values.{Tag, Value, blob_value, commit_value, is_optional_ident, tag_value, tree_value}
 use Rattle.gx_model.proofs.LinkedValues.{parts_in, proper_in}
 use Rattle.gx_model.proofs.PathTests.{first, is_true, second}
 use Rattle.gx_model.proofs.TreePaths.{name_is_name}

@@ -6,7 +6,7 @@ use Rattle.std.proofs.lemmas.List.{append-nil, length-append, length-drop, lengt
 use Rattle.std.proofs.Math.Seq.{take-suc, drop-cons}
 use Rattle.gx_model.specs.Texts.{Bytes}
 use Rattle.gx_text.specs.Devices.{Sends, Taken, Took}
-use Rattle.gx_model.specs.Items.{Item}
+use Rattle.gx_model.specs.Streams.Items.{Item}
 use Rattle.gx_model.specs.Export.{item_text}
 use Rattle.gx_export.specs.Texts.{items_text}
 use Rattle.gx_export.specs.Outputs.{Stops, StopsAfter, StopsAt, Writes, most}

@@ -2,10 +2,10 @@
 -- Source: git-fast-export(1).
 use Rattle.std.specs.Prelude.{◌∷◌, ◌≤◌, [], length, Option, Result, Ok, Err}
 use Rattle.gx_model.specs.declared.features.Feature.TheVariants as features
-use Rattle.gx_model.specs.Commands.{Asks}
+use Rattle.gx_model.specs.Streams.Commands.{Asks}
 use Rattle.gx_model.specs.Export.{commit_commands, export_text, reached_commits}
 use Rattle.gx_model.specs.Histories.{History, Records}
-use Rattle.gx_model.specs.HistoryOf.{history_of}
+use Rattle.gx_model.specs.Records.HistoryOf.{history_of}
 use Rattle.gx_model.specs.Texts.{Bytes}
 use Rattle.gx_text.specs.Devices.{Taken, Took, TookFront}
 use Rattle.gx_export.specs.Outputs.{StopsAt, most}

@@ -4,14 +4,14 @@ use Rattle.std.specs.List.{list_all, slice_range, AllByRecursion}
 use Rattle.gx_model.specs.declared.objects.Kind.{Kind}
 use Rattle.gx_model.specs.declared.objects.Mode.{Mode}
 use Rattle.gx_model.specs.Export.{blob_commands, contents, with_blobs}
-use Rattle.gx_model.specs.Files.{FileMap}
+use Rattle.gx_model.specs.Histories.Files.{FileMap}
 use Rattle.gx_model.specs.Histories.{Records, is_in}
-use Rattle.gx_model.specs.HistoryOf.{Named, contents_of, named_values}
-use Rattle.gx_model.specs.NameMaps.{IsHeldTree}
-use Rattle.gx_model.specs.Paths.{Path, is_component, is_short, path_of, path_text, printed}
-use Rattle.gx_model.specs.Sound.{IsHeldAs}
+use Rattle.gx_model.specs.Records.HistoryOf.{Named, contents_of, named_values}
+use Rattle.gx_model.specs.Objects.NameMaps.{IsHeldTree}
+use Rattle.gx_model.specs.Texts.Paths.{Path, is_component, is_short, path_of, path_text, printed}
+use Rattle.gx_model.specs.Records.Sound.{IsHeldAs}
 use Rattle.gx_model.specs.Texts.{Bytes}
-use Rattle.gx_model.specs.Values.{Value, blob_value}
+use Rattle.gx_model.specs.Histories.Values.{Value, blob_value}
 use Rattle.gx_text.specs.Devices.{Taken}
 use Rattle.gx_tree.specs.HeldTrees.{IsHeldEntry, IsHeldWithin}
 use Rattle.gx_tree.specs.Lists.{below}

@@ -3,10 +3,10 @@ use Rattle.std.specs.Prelude.{◌≡◌, ℕ, ◌≤◌, List, length, slice_ind
 use Rattle.std.specs.List.{slice_get}
 use Rattle.gx_model.specs.Export.{blob_commands, number_in, with_blobs}
 use Rattle.gx_model.specs.Histories.{Records}
-use Rattle.gx_model.specs.Items.{Item}
-use Rattle.gx_model.specs.RepositoryLaws.{values_of}
+use Rattle.gx_model.specs.Streams.Items.{Item}
+use Rattle.gx_model.specs.Laws.RepositoryLaws.{values_of}
 use Rattle.gx_model.specs.Texts.{Bytes}
-use Rattle.gx_model.specs.Values.{Value}
+use Rattle.gx_model.specs.Histories.Values.{Value}
 use Rattle.gx_text.specs.Devices.{Taken}
 use Rattle.gx_export.specs.Outputs.{Stops, Writes, most}
 use Rattle.gx_export.specs.Texts.{items_of, items_text}

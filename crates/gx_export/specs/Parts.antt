@@ -3,16 +3,16 @@ use Rattle.std.specs.Prelude.{◌≡◌, [], ◌∷◌, ℕ, List, map, Option, 
 use Rattle.gx_model.specs.declared.objects.Kind.{Kind}
 use Rattle.gx_model.specs.declared.objects.Mode.{Mode}
 use Rattle.gx_model.specs.Export.{all_written, commit_commands, command_items, contents, one_commit, reached_commits, ref_command, with_blobs, with_commit}
-use Rattle.gx_model.specs.Files.{FileMap}
+use Rattle.gx_model.specs.Histories.Files.{FileMap}
 use Rattle.gx_model.specs.Histories.{Records}
-use Rattle.gx_model.specs.HistoryOf.{bytes_of_blob, commit_of_value, history_of, placed, target_in, value_of_name}
-use Rattle.gx_model.specs.Items.{Item}
-use Rattle.gx_model.specs.Marks.{IsAt}
-use Rattle.gx_model.specs.NameMaps.{IsHeldTree}
+use Rattle.gx_model.specs.Records.HistoryOf.{bytes_of_blob, commit_of_value, history_of, placed, target_in, value_of_name}
+use Rattle.gx_model.specs.Streams.Items.{Item}
+use Rattle.gx_model.specs.Histories.Marks.{IsAt}
+use Rattle.gx_model.specs.Objects.NameMaps.{IsHeldTree}
 use Rattle.gx_model.specs.Objects.{CommitParts}
-use Rattle.gx_model.specs.Paths.{Path}
+use Rattle.gx_model.specs.Texts.Paths.{Path}
 use Rattle.gx_model.specs.Texts.{Bytes}
-use Rattle.gx_model.specs.Values.{Commit, Value, files_of}
+use Rattle.gx_model.specs.Histories.Values.{Commit, Value, files_of}
 use Rattle.gx_object.specs.declared.entry.Entry.{Entry}
 use Rattle.gx_object.specs.declared.name.Name.{Name}
 use Rattle.gx_text.specs.Devices.{Taken}

@@ -3,13 +3,13 @@ use Rattle.std.specs.Prelude.{◌≡◌, Bool, false, List, length, replicate}
 use Rattle.gx_model.specs.Texts.{Bytes}
 use Rattle.gx_model.specs.Export.{is_reached}
 use Rattle.gx_model.specs.Histories.{Records, Target}
-use Rattle.gx_model.specs.HistoryLaws.{IsParent}
-use Rattle.gx_model.specs.HistoryOf.{history_of}
-use Rattle.gx_model.specs.Marks.{Marks, marks_of}
+use Rattle.gx_model.specs.Laws.HistoryLaws.{IsParent}
+use Rattle.gx_model.specs.Records.HistoryOf.{history_of}
+use Rattle.gx_model.specs.Histories.Marks.{Marks, marks_of}
 use Rattle.gx_model.specs.Replay.{peeled_at}
-use Rattle.gx_model.specs.RepositoryLaws.{values_of}
-use Rattle.gx_model.specs.Sound.{AnyByRecursion}
-use Rattle.gx_model.specs.Values.{Commit, parents_of}
+use Rattle.gx_model.specs.Laws.RepositoryLaws.{values_of}
+use Rattle.gx_model.specs.Records.Sound.{AnyByRecursion}
+use Rattle.gx_model.specs.Histories.Values.{Commit, parents_of}
 
 -- the commit is held by one of these refs, or named by its tag
 abbrev pub IsTip : List (Bytes × Target) → Commit → Type 0

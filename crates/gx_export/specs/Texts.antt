@@ -5,12 +5,12 @@ use Rattle.std.specs.List.{flat_map}
 use Rattle.std.specs.Option.{option_map}
 use Rattle.gx_model.specs.declared.objects.Mode.{Mode}
 use Rattle.gx_model.specs.Texts.{Bytes}
-use Rattle.gx_model.specs.Items.{Data, Item, Line}
-use Rattle.gx_model.specs.Files.{FileMap}
-use Rattle.gx_model.specs.Commands.{Blob, Command, Marked, Reset, Tag}
+use Rattle.gx_model.specs.Streams.Items.{Data, Item, Line}
+use Rattle.gx_model.specs.Histories.Files.{FileMap}
+use Rattle.gx_model.specs.Streams.Commands.{Blob, Command, Marked, Reset, Tag}
 use Rattle.gx_model.specs.Objects.{TagParts}
-use Rattle.gx_model.specs.Paths.{Path, path_text, printed}
-use Rattle.gx_model.specs.Values.{Commit, CommitText, Value}
+use Rattle.gx_model.specs.Texts.Paths.{Path, path_text, printed}
+use Rattle.gx_model.specs.Histories.Values.{Commit, CommitText, Value}
 use Rattle.gx_model.specs.Export.{carrier, change_items, command_items, commit_ish_text, file_change, first_parent, from_line, item_text, mark_line, mark_text, mode_digits, optional_line, other_parents, to_nothing, word_line}
 
 -- the bytes of parts, one after the other

@@ -2,7 +2,7 @@
 
 ghost use Rattle.std.specs.Prelude.{◌≤◌, [], ◌∷◌};
 ghost use Rattle.gx_model.specs.Export.{mark_text, optional_line, to_nothing, word_line};
-ghost use Rattle.gx_model.specs.Items.{Data};
+ghost use Rattle.gx_model.specs.Streams.Items.{Data};
 ghost use Rattle.gx_export.specs.Faults.{NeedsNoMemory};
 ghost use Rattle.gx_export.specs.Outputs.{Writes, most};
 ghost use Rattle.gx_export.specs.Texts.{author_items, blob_under, command_text, head_items, items_text, optional_text, tag_command, target_items, to_marked};

@@ -3,9 +3,9 @@
 ghost use Rattle.std.specs.Prelude.{◌≡◌, ◌≢◌, ◌≤◌, length, List, codes};
 ghost use Rattle.std.specs.List.{AllByRecursion};
 ghost use Rattle.gx_model.specs.declared.objects.Kind.TheVariants as kinds;
-ghost use Rattle.gx_model.specs.Marks.{IsAt};
-ghost use Rattle.gx_model.specs.Sound.{Holds};
-ghost use Rattle.gx_model.specs.Values.{Commit, Value};
+ghost use Rattle.gx_model.specs.Histories.Marks.{IsAt};
+ghost use Rattle.gx_model.specs.Records.Sound.{Holds};
+ghost use Rattle.gx_model.specs.Histories.Values.{Commit, Value};
 ghost use Rattle.gx_export.specs.Faults.{NeedsNoMemory};
 ghost use Rattle.gx_export.specs.Marks.{HasWritten};
 ghost use Rattle.gx_export.specs.Outputs.{Writes, most};

@@ -3,8 +3,8 @@
 
 ghost use Rattle.std.specs.Prelude.{◌≡◌, IfOk, length};
 ghost use Rattle.gx_model.specs.declared.objects.Kind.TheVariants as kinds;
-ghost use Rattle.gx_model.specs.RepositoryLaws.{values_of};
-ghost use Rattle.gx_model.specs.Marks.{Marks};
+ghost use Rattle.gx_model.specs.Laws.RepositoryLaws.{values_of};
+ghost use Rattle.gx_model.specs.Histories.Marks.{Marks};
 ghost use Rattle.gx_rev.specs.Objects.{IsHeldAs, commit_at};
 ghost use Rattle.gx_export.specs.Reaching.{IsParentOf, MarksTips, reached_marks, unmarked};
 

@@ -1,8 +1,8 @@
 //! The refs at the end of an export: resets to commits, and tags.
 
 ghost use Rattle.std.specs.Prelude.{List};
-ghost use Rattle.gx_model.specs.Sound.{IsTarget};
-ghost use Rattle.gx_model.specs.Values.{Value};
+ghost use Rattle.gx_model.specs.Records.Sound.{IsTarget};
+ghost use Rattle.gx_model.specs.Histories.Values.{Value};
 ghost use Rattle.gx_export.specs.Faults.{NeedsNoMemory};
 ghost use Rattle.gx_export.specs.Marks.{HasWritten};
 ghost use Rattle.gx_export.specs.Parts.{AddsAllRefs, AddsOneRef};

@@ -4,10 +4,10 @@ ghost use Rattle.std.specs.Prelude.{◌≡◌, ◌≢◌, ◌++◌, [], ◌∷�
 ghost use Rattle.std.specs.List.{slice_get};
 ghost use Rattle.gx_model.specs.declared.objects.Kind.TheVariants as kinds;
 ghost use Rattle.gx_model.specs.declared.objects.Mode.TheVariants as modes;
-ghost use Rattle.gx_model.specs.Paths.{is_component, is_short};
-ghost use Rattle.gx_model.specs.RepositoryLaws.{values_of};
-ghost use Rattle.gx_model.specs.Sound as sound;
-ghost use Rattle.gx_model.specs.Values.{Value};
+ghost use Rattle.gx_model.specs.Texts.Paths.{is_component, is_short};
+ghost use Rattle.gx_model.specs.Laws.RepositoryLaws.{values_of};
+ghost use Rattle.gx_model.specs.Records.Sound as sound;
+ghost use Rattle.gx_model.specs.Histories.Values.{Value};
 ghost use Rattle.gx_rev.specs.Objects.{IsHeldAs, value_at};
 ghost use Rattle.gx_export.specs.Faults.{NeedsNoMemory};
 ghost use Rattle.gx_export.specs.Marks.{HasWritten};

@@ -5,7 +5,7 @@ use Rattle.gx_model.specs.declared.store_versions.Version.{Version}
 use Rattle.gx_model.specs.Texts.{Bytes}
 use Rattle.gx_model.specs.Faults.{and_then}
 use Rattle.gx_model.specs.Histories.{Record}
-use Rattle.gx_model.specs.StoreReading.{Stored, next_record, next_records}
+use Rattle.gx_model.specs.Stores.StoreReading.{Stored, next_record, next_records}
 use Rattle.gx_model.specs.declared.store_faults.FileFault.{FileFault}
 use Rattle.gx_file.specs.Faults.{IsFaultOf}
 use Rattle.gx_file.proofs.Steps.{moved}

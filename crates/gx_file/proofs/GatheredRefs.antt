@@ -3,8 +3,8 @@ use Rattle.std.proofs.Common.{◌≡◌, ℕ, suc, ◌+◌, ◌-◌, ◌<◌, �
 use Rattle.std.specs.Borrow.{Bor}
 use Rattle.gx_model.specs.declared.store_faults.FileFault.TheVariants as model
 use Rattle.gx_model.specs.Texts.{Bytes}
-use Rattle.gx_model.specs.StoreReading.{Stored, is_after}
-use Rattle.gx_model.specs.Publishing.{Ref}
+use Rattle.gx_model.specs.Stores.StoreReading.{Stored, is_after}
+use Rattle.gx_model.specs.Records.Publishing.{Ref}
 use Rattle.gx_model.specs.declared.store_faults.FileFault.{FileFault}
 use Rattle.gx_model.specs.declared.store_faults.FileFault.TheVariants.{OutOfMemory, RefOrder}
 use Rattle.gx_file.specs.Faults.{IsFaultOf}

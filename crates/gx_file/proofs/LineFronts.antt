@@ -13,7 +13,7 @@ use Rattle.std.proofs.lemmas.Bool.Decides.{nat_tests}
 use Rattle.gx_model.specs.declared.store_faults.FileFault.TheVariants as model
 use Rattle.gx_model.specs.Texts.{Bytes}
 use Rattle.gx_model.specs.Faults.{and_then}
-use Rattle.gx_model.specs.StoreReading.{after_word, stored_body, unless}
+use Rattle.gx_model.specs.Stores.StoreReading.{after_word, stored_body, unless}
 
 -- A line begins with a word and a space where it begins with the word and what follows begins with the space.
 pub begins_so : (word l : Bytes) → starts_with nat_eq l (word ++ 32 ∷ []) ≡ (pointwise nat_eq (take (length word) l) word && pointwise nat_eq (take 1 (drop (length word) l)) (32 ∷ []))

@@ -11,8 +11,8 @@ use Rattle.std.proofs.lemmas.Bool.{and_from, and_parts, cases_lt, false_from_ne_
 use Rattle.std.proofs.lemmas.Bool.Decides.{nat_tests}
 use Rattle.std.proofs.lemmas.Fmt.{decimal-digits_value, decimal_digit, first_decimal}
 use Rattle.gx_model.specs.Texts.{Bytes, same_bytes}
-use Rattle.gx_model.specs.Numbers.{decimal_of, is_number}
-use Rattle.gx_model.specs.StoreReading.{if_written_so, stored_number}
+use Rattle.gx_model.specs.Texts.Numbers.{decimal_of, is_number}
+use Rattle.gx_model.specs.Stores.StoreReading.{if_written_so, stored_number}
 use Rattle.gx_model.proofs.Decimals.{numerals}
 
 -- A text that begins with a zero has it as its first byte.

@@ -9,9 +9,9 @@ use Rattle.gx_model.specs.Texts.{Bytes}
 use Rattle.gx_model.specs.Faults.{and_then}
 use Rattle.gx_model.specs.Objects.{IsNamer, line}
 use Rattle.gx_model.specs.Histories.{Record, Records}
-use Rattle.gx_model.specs.Sound.{IsSound}
-use Rattle.gx_model.specs.StoreText.{store_text, stored_record, stored_ref, version_text}
-use Rattle.gx_model.specs.StoreReading.{Stored, next_records, next_refs, store_of, stored_count, stored_end}
+use Rattle.gx_model.specs.Records.Sound.{IsSound}
+use Rattle.gx_model.specs.Stores.StoreText.{store_text, stored_record, stored_ref, version_text}
+use Rattle.gx_model.specs.Stores.StoreReading.{Stored, next_records, next_refs, store_of, stored_count, stored_end}
 use Rattle.gx_model.proofs.ReadStores.{text_of}
 use Rattle.gx_model.proofs.StoreTexts.{count_read, end_read, magic_read}
 use Rattle.gx_model.proofs.StoredRecords.{records_read}

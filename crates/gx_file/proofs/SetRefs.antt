@@ -16,18 +16,18 @@ use Rattle.gx_model.specs.declared.store_faults.FileFault.TheVariants as model
 use Rattle.gx_model.specs.Texts.{Bytes, cut_at}
 use Rattle.gx_model.specs.Faults.{and_then}
 use Rattle.gx_model.specs.Faults.{IsFaultOf as RepoFaultOf}
-use Rattle.gx_model.specs.RefNames.{is_ref_name}
-use Rattle.gx_model.specs.Values.{is_name_text}
-use Rattle.gx_model.specs.Naming.{lower_name_in}
+use Rattle.gx_model.specs.Texts.RefNames.{is_ref_name}
+use Rattle.gx_model.specs.Histories.Values.{is_name_text}
+use Rattle.gx_model.specs.Objects.Naming.{lower_name_in}
 use Rattle.gx_model.specs.Objects.{unhex}
 use Rattle.std.specs.Option.{option_and_then}
 use Rattle.gx_model.specs.Histories.{Record, Records}
-use Rattle.gx_model.specs.Growth.{record_named}
+use Rattle.gx_model.specs.Records.Growth.{record_named}
 use Rattle.gx_model.specs.Replay.{byte_cmp}
-use Rattle.gx_model.specs.StoreReading.{Stored, if_ref, is_after, is_less, is_target, next_ref, next_refs, ref_line, stored_if, stored_line, unless}
+use Rattle.gx_model.specs.Stores.StoreReading.{Stored, if_ref, is_after, is_less, is_target, next_ref, next_refs, ref_line, stored_if, stored_line, unless}
 use Rattle.gx_repo.specs.declared.fault.PublishFault.{PublishFault}
 use Rattle.gx_repo.specs.declared.fault.PublishFault.TheVariants as publish
-use Rattle.gx_model.specs.Publishing.{Ref, change_fault, changes_fault, first_fault, published, unless as unless_fault, with_changes}
+use Rattle.gx_model.specs.Records.Publishing.{Ref, change_fault, changes_fault, first_fault, published, unless as unless_fault, with_changes}
 use Rattle.gx_repo.specs.Publishing.{fault_of as published_fault}
 use Rattle.gx_model.proofs.SortedRefs.{order}
 use Rattle.gx_model.specs.declared.store_faults.FileFault.{FileFault}

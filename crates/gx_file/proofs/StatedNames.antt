@@ -5,10 +5,10 @@ use Rattle.std.specs.Option.{option_and_then}
 use Rattle.std.proofs.lemmas.Option.{cond_some}
 use Rattle.gx_model.specs.declared.store_versions.Version.TheVariants.{Two}
 use Rattle.gx_model.specs.Texts.{Bytes, cut_at}
-use Rattle.gx_model.specs.Values.{is_name_text}
+use Rattle.gx_model.specs.Histories.Values.{is_name_text}
 use Rattle.gx_model.specs.Objects.{unhex}
-use Rattle.gx_model.specs.Naming.{lower_name_in}
-use Rattle.gx_model.specs.StoreReading.{length_field, stored_number, with_digits}
+use Rattle.gx_model.specs.Objects.Naming.{lower_name_in}
+use Rattle.gx_model.specs.Stores.StoreReading.{length_field, stored_number, with_digits}
 
 -- The length and the digits of a name that stand in a field.
 module _ (field number digits : Bytes) (n : ℕ) (cut : Some (number, digits) ≡ cut_at 32 field) (counted : Some n ≡ stored_number number) where

@@ -1,6 +1,6 @@
 -- What a fault says of the definition.
 use Rattle.std.proofs.Common.{◌≡◌, ◌≢◌, Err, refl}
-use Rattle.gx_model.specs.StoreReading.{Stored}
+use Rattle.gx_model.specs.Stores.StoreReading.{Stored}
 use Rattle.gx_model.specs.declared.store_faults.FileFault.{FileFault}
 use Rattle.gx_model.specs.declared.store_faults.FileFault.TheVariants.{OutOfMemory}
 use Rattle.gx_file.specs.Faults.{IsFaultOf}

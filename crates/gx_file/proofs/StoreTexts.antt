@@ -4,9 +4,9 @@ use Rattle.std.specs.Prelude.{◌≢◌, Result, IfOk, IfErr}
 use Rattle.gx_model.specs.declared.objects.Kind.{Kind}
 use Rattle.gx_model.specs.Texts.{Bytes}
 use Rattle.gx_model.specs.Histories.{Records}
-use Rattle.gx_model.specs.StoreText.{IsStoreText}
-use Rattle.gx_model.specs.StoreReading.{store_of}
-use Rattle.gx_model.specs.StoreLaws.{StoresAreRead}
+use Rattle.gx_model.specs.Stores.StoreText.{IsStoreText}
+use Rattle.gx_model.specs.Stores.StoreReading.{store_of}
+use Rattle.gx_model.specs.Laws.StoreLaws.{StoresAreRead}
 use Rattle.gx_model.specs.declared.store_faults.FileFault.{FileFault}
 use Rattle.gx_model.specs.declared.store_faults.FileFault.TheVariants.{OutOfMemory}
 use Rattle.gx_file.specs.Faults.{IsNoStoreText, Reads}

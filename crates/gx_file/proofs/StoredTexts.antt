@@ -10,8 +10,8 @@ use Rattle.std.specs.Prelude.{codes}
 use Rattle.std.specs.Fmt.{decimal}
 use Rattle.gx_model.specs.Objects.{line}
 use Rattle.gx_model.specs.Histories.{Record}
-use Rattle.gx_model.specs.StoreText.{stored_record, stored_ref}
-use Rattle.gx_model.specs.Publishing.{Ref}
+use Rattle.gx_model.specs.Stores.StoreText.{stored_record, stored_ref}
+use Rattle.gx_model.specs.Records.Publishing.{Ref}
 
 -- With one more record the text is that of one more.
 pub record_put : (v : Version) (rs : List Record) (i : ℕ) (r : Record) (start now : Bytes) → Some r ≡ slice_get rs i → now ≡ start ++ flat_map (stored_record v) (take i rs)

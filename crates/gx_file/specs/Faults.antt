@@ -6,9 +6,9 @@ use Rattle.gx_model.specs.declared.store_faults.FileFault.{FileFault}
 use Rattle.gx_model.specs.declared.store_faults.FileFault.TheVariants.{OutOfMemory}
 use Rattle.gx_model.specs.Texts.{Bytes}
 use Rattle.gx_model.specs.Histories.{Records}
-use Rattle.gx_model.specs.Sound.{IsSound}
-use Rattle.gx_model.specs.StoreText.{store_text}
-use Rattle.gx_model.specs.StoreReading.{Stored}
+use Rattle.gx_model.specs.Records.Sound.{IsSound}
+use Rattle.gx_model.specs.Stores.StoreText.{store_text}
+use Rattle.gx_model.specs.Stores.StoreReading.{Stored}
 
 -- a fault is the definition's; want of memory isn't
 abbrev pub IsFaultOf : {Y : Type 0} → FileFault → Stored Y → Type 0

@@ -4,8 +4,8 @@ use Rattle.std.specs.Borrow.{Bor}
 use Rattle.std.specs.Prelude.{◌≡◌, ℕ, zero, suc, if◌then◌else◌, List, [], ◌∷◌, ◌++◌, Option, None, Some, Result, Ok, Err}
 use Rattle.gx_model.specs.declared.store_faults.FileFault.TheVariants as model
 use Rattle.gx_model.specs.Texts.{Bytes}
-use Rattle.gx_model.specs.StoreReading.{Stored, is_after, ref_line, stored_line}
-use Rattle.gx_model.specs.Publishing.{Ref}
+use Rattle.gx_model.specs.Stores.StoreReading.{Stored, is_after, ref_line, stored_line}
+use Rattle.gx_model.specs.Records.Publishing.{Ref}
 use Rattle.gx_repo.specs.Refs.{asked}
 use Rattle.gx_repo.specs.declared.publishing.RefChange.{RefChange}
 use Rattle.gx_model.specs.declared.store_faults.FileFault.{FileFault}

@@ -5,7 +5,7 @@ use Rattle.std.specs.Option.{option_map}
 use Rattle.gx_model.specs.declared.objects.Kind.{Kind}
 use Rattle.gx_model.specs.declared.store_versions.Version.{Version}
 use Rattle.gx_model.specs.Texts.{Bytes}
-use Rattle.gx_model.specs.StoreReading.{Length}
+use Rattle.gx_model.specs.Stores.StoreReading.{Length}
 use Rattle.gx_object.specs.declared.name.Name.{Name}
 
 -- a part and what follows it

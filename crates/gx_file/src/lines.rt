@@ -1,7 +1,7 @@
 //! The lines of a store text. Source: this project's own format.
 ghost use Rattle.std.specs.Prelude.{◌≡◌, codes};
 ghost use Rattle.std.specs.Option.{option_and_then, option_map};
-ghost use Rattle.gx_model.specs.StoreReading.{after_magic, after_word, stored_count, stored_end, stored_line, stored_number, version_of};
+ghost use Rattle.gx_model.specs.Stores.StoreReading.{after_magic, after_word, stored_count, stored_end, stored_line, stored_number, version_of};
 ghost use Rattle.gx_file.specs.Faults.{NeedsNoMemory, Reads};
 ghost use Rattle.gx_file.specs.Texts.{shown_count, shown_pair, shown_start};
 

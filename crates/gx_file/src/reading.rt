@@ -1,7 +1,7 @@
 //! Reading a whole store text. Source: this project's own format.
 ghost use Rattle.std.specs.Prelude.{◌≡◌, ◌≢◌, IfOk, IfErr};
-ghost use Rattle.gx_model.specs.StoreReading.{store_of};
-ghost use Rattle.gx_model.specs.StoreText.{IsStoreText};
+ghost use Rattle.gx_model.specs.Stores.StoreReading.{store_of};
+ghost use Rattle.gx_model.specs.Stores.StoreText.{IsStoreText};
 ghost use Rattle.gx_model.specs.declared.store_faults.FileFault.TheVariants as fault;
 ghost use Rattle.gx_file.specs.Faults.{IsNoStoreText, Reads};
 ghost use Rattle.gx_file.specs.TextEnds.{IsEndOfText};
@@ -59,7 +59,7 @@ pub fn read_text<N: Namer + Drop, A: Allocator + Copy>(
 }
 
 /// The repository of a store text, line by line.
-#[tactic(auto, unfolding(gx_model::specs::StoreReading::store_of))]
+#[tactic(auto, unfolding(gx_model::specs::Stores::StoreReading::store_of))]
 fn read_store<N: Namer + Drop, A: Allocator + Copy>(
     alloc: A,
     namer: N,

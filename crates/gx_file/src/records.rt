@@ -4,7 +4,7 @@ ghost use Rattle.std.specs.Map.{lookup};
 ghost use Rattle.std.specs.Option.{option_map};
 ghost use Rattle.gx_model.specs.declared.store_faults.FileFault.TheVariants as model;
 ghost use Rattle.gx_model.specs.Texts.{same_bytes};
-ghost use Rattle.gx_model.specs.StoreReading.{is_named, kind_words, length_field, next_record, next_records, record_line, stored_body, unless, with_record};
+ghost use Rattle.gx_model.specs.Stores.StoreReading.{is_named, kind_words, length_field, next_record, next_records, record_line, stored_body, unless, with_record};
 ghost use Rattle.gx_file.specs.Faults.{NeedsNoMemory, Reads};
 ghost use Rattle.gx_file.specs.TextEnds.{IsEndOfText};
 ghost use Rattle.gx_file.specs.Texts.{shown_heading, shown_length, shown_name, shown_pair};

@@ -1,7 +1,7 @@
 //! The refs of a store text. Source: this project's own format, and git-check-ref-format(1).
 ghost use Rattle.std.specs.Prelude.{◌≡◌, [], None, map};
 ghost use Rattle.std.specs.Option.{option_map};
-ghost use Rattle.gx_model.specs.StoreReading.{is_after, next_refs, ref_line};
+ghost use Rattle.gx_model.specs.Stores.StoreReading.{is_after, next_refs, ref_line};
 ghost use Rattle.gx_repo.specs.Refs.{asked};
 ghost use Rattle.gx_file.specs.Faults.{NeedsNoMemory, Reads};
 ghost use Rattle.gx_file.specs.Gathering.{Gathers, first_ref, gathered, shown_change};
@@ -81,7 +81,7 @@ fn is_after(last: Option<&[u8]>, name: &[u8]) -> bool
 }
 
 /// The name of a ref and its object.
-#[tactic(auto, unfolding(gx_model::specs::Naming::lower_name_in))]
+#[tactic(auto, unfolding(gx_model::specs::Objects::Naming::lower_name_in))]
 fn ref_line(line: &[u8]) -> Option<(&[u8], Name)>
     ensures { option_map (λ ref. (ref.0.now, ref.1.bytes)) result ≡ ref_line line.now }
 {

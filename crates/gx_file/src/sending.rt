@@ -4,8 +4,8 @@ ghost use Rattle.std.specs.List.{flat_map};
 ghost use Rattle.std.specs.Fmt.{decimal};
 ghost use Rattle.gx_model.specs.Objects.{line};
 ghost use Rattle.gx_model.specs.declared.store_versions.Version.TheVariants.{Two};
-ghost use Rattle.gx_model.specs.StoreReading.{store_of};
-ghost use Rattle.gx_model.specs.StoreText.{length_text, store_text, stored_record, stored_ref};
+ghost use Rattle.gx_model.specs.Stores.StoreReading.{store_of};
+ghost use Rattle.gx_model.specs.Stores.StoreText.{length_text, store_text, stored_record, stored_ref};
 ghost use Rattle.gx_file.specs.Sending.{HaveLengths, Sent};
 
 use crate::writing::kind_word;

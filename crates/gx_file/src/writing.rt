@@ -2,11 +2,11 @@
 ghost use Rattle.std.specs.Prelude.{◌≡◌, [], ◌∷◌, ◌++◌, Ok, codes, length, IfOk, OnOk};
 ghost use Rattle.std.specs.List.{flat_map};
 ghost use Rattle.std.specs.Fmt.{decimal};
-ghost use Rattle.gx_model.specs.Naming.{kind_word};
+ghost use Rattle.gx_model.specs.Objects.Naming.{kind_word};
 ghost use Rattle.gx_model.specs.Objects.{line};
 ghost use Rattle.gx_model.specs.declared.store_versions.Version.TheVariants.{Two};
-ghost use Rattle.gx_model.specs.StoreReading.{store_of};
-ghost use Rattle.gx_model.specs.StoreText.{store_text, stored_record, stored_ref};
+ghost use Rattle.gx_model.specs.Stores.StoreReading.{store_of};
+ghost use Rattle.gx_model.specs.Stores.StoreText.{store_text, stored_record, stored_ref};
 
 use gx_model::store_laws::stores_are_read;
 use gx_object::{Kind, Name, Namer};
@@ -16,7 +16,7 @@ use std::alloc::{AllocError, Allocator};
 /// The text of a repository, of version 2: its records in their order, and its refs in the byte order of their names.
 ///
 /// Cost: the text's length. Memory: the text.
-#[tactic(auto, unfolding(gx_model::specs::StoreText::store_text))]
+#[tactic(auto, unfolding(gx_model::specs::Stores::StoreText::store_text))]
 pub fn write<N: Namer, A: Allocator + Copy>(
     alloc: A,
     repo: &Repo<N, A>,

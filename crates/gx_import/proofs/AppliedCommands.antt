@@ -4,10 +4,10 @@ use Rattle.std.specs.Prelude.{codes}
 use Rattle.std.proofs.lemmas.List.{append-nil}
 use Rattle.gx_model.specs.declared.objects.Kind.{Kind}
 use Rattle.gx_model.specs.Texts.{Bytes}
-use Rattle.gx_model.specs.Commands.{Command, Progress}
+use Rattle.gx_model.specs.Streams.Commands.{Command, Progress}
 use Rattle.gx_model.specs.Histories.{Records}
-use Rattle.gx_model.specs.RepositoryLaws.{values_of}
-use Rattle.gx_model.specs.Values.{Value}
+use Rattle.gx_model.specs.Laws.RepositoryLaws.{values_of}
+use Rattle.gx_model.specs.Histories.Values.{Value}
 use Rattle.gx_model.specs.Replay.{State, step}
 use Rattle.gx_text.specs.Devices.{Taken}
 use Rattle.gx_import.specs.Additions.{Clash, values_added}

@@ -5,11 +5,11 @@ use Rattle.gx_model.specs.declared.objects.Kind.{Kind}
 use Rattle.gx_model.specs.declared.objects.Kind.TheVariants as kinds
 use Rattle.gx_model.specs.declared.faults.Fault.{Fault}
 use Rattle.gx_model.specs.Texts.{Bytes}
-use Rattle.gx_model.specs.Values.{Value, blob_value}
+use Rattle.gx_model.specs.Histories.Values.{Value, blob_value}
 use Rattle.gx_model.specs.Histories.{Record, Records, record_for, record_of}
-use Rattle.gx_model.specs.Growth.{AreReady, and_some, put, put_all, with_values}
-use Rattle.gx_model.specs.RepositoryLaws.{PutsGrow, values_of}
-use Rattle.gx_model.specs.Sound.{IsSound}
+use Rattle.gx_model.specs.Records.Growth.{AreReady, and_some, put, put_all, with_values}
+use Rattle.gx_model.specs.Laws.RepositoryLaws.{PutsGrow, values_of}
+use Rattle.gx_model.specs.Records.Sound.{IsSound}
 use Rattle.gx_store.specs.declared.fault.StoreFault.{StoreFault}
 use Rattle.gx_store.specs.declared.fault.StoreFault.TheVariants.{OutOfMemory, NameHeld}
 use Rattle.gx_repo.specs.Additions.{Adds}

@@ -3,17 +3,17 @@ use Rattle.std.proofs.Common.{◌≡◌, List, [], ◌∷◌, ◌++◌, map, Ok,
 use Rattle.gx_model.specs.declared.objects.Kind.{Kind}
 use Rattle.gx_model.specs.Texts.{Bytes}
 use Rattle.gx_model.specs.Faults.{and_then}
-use Rattle.gx_model.specs.Files.{FileMap}
+use Rattle.gx_model.specs.Histories.Files.{FileMap}
 use Rattle.gx_model.specs.Histories.{Records}
-use Rattle.gx_model.specs.RepositoryLaws.{values_of}
-use Rattle.gx_model.specs.Commands.{Change}
+use Rattle.gx_model.specs.Laws.RepositoryLaws.{values_of}
+use Rattle.gx_model.specs.Streams.Commands.{Change}
 use Rattle.gx_model.specs.Replay.{State, all_changed, changed}
 use Rattle.gx_model.specs.declared.faults.Fault.{Fault}
 use Rattle.gx_import.specs.declared.tables.Tables.{Tables}
 use Rattle.gx_import.specs.Additions.{Clash, blob_added, blobs_added, unless_refused}
 use Rattle.gx_import.specs.Answers.{AddsAs}
 use Rattle.gx_import.specs.Standing.{Follows, Stands}
-use Rattle.gx_model.specs.NameMaps.{AreFiles}
+use Rattle.gx_model.specs.Objects.NameMaps.{AreFiles}
 use Rattle.gx_import.proofs.AddedAnswers.{adds_then}
 use Rattle.gx_import.proofs.Clashes.{change_later, clash_first}
 

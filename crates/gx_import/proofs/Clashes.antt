@@ -5,14 +5,14 @@ use Rattle.gx_model.specs.declared.objects.Mode.{Mode}
 use Rattle.gx_model.specs.declared.objects.Mode.TheVariants.{File, Exec, Link, Gitlink, Dir}
 use Rattle.gx_model.specs.declared.faults.Fault.{Fault}
 use Rattle.gx_model.specs.Texts.{Bytes}
-use Rattle.gx_model.specs.Files.{FileMap}
+use Rattle.gx_model.specs.Histories.Files.{FileMap}
 use Rattle.gx_model.specs.Faults.{and_then}
-use Rattle.gx_model.specs.Values.{Value, blob_value}
+use Rattle.gx_model.specs.Histories.Values.{Value, blob_value}
 use Rattle.gx_model.specs.Histories.{IsIn, with_one}
-use Rattle.gx_model.specs.Growth.{clashes, with_values}
-use Rattle.gx_model.specs.Edits.{copied, modified, removed, renamed}
-use Rattle.gx_model.specs.Commands.{Change, Clear, Copy, DataRef, Inline, Mark, Modify, Object, Remove, Rename}
-use Rattle.gx_model.specs.Denotation.{base_value, lower}
+use Rattle.gx_model.specs.Records.Growth.{clashes, with_values}
+use Rattle.gx_model.specs.Histories.Edits.{copied, modified, removed, renamed}
+use Rattle.gx_model.specs.Streams.Commands.{Change, Clear, Copy, DataRef, Inline, Mark, Modify, Object, Remove, Rename}
+use Rattle.gx_model.specs.Revisions.Denotation.{base_value, lower}
 use Rattle.gx_model.specs.Replay.{State, added, at, blob_bytes, changed, content}
 use Rattle.gx_import.specs.Additions.{Clash, blob_added, content_added}
 use Rattle.gx_import.proofs.AddedAnswers.{both_given}

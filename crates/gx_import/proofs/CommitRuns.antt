@@ -6,15 +6,15 @@ use Rattle.std.specs.FinMap.Entries.{put}
 use Rattle.gx_model.specs.declared.objects.Kind.{Kind}
 use Rattle.gx_model.specs.declared.objects.Kind.TheVariants as kinds
 use Rattle.gx_model.specs.Texts.{Bytes}
-use Rattle.gx_model.specs.RefNames.{is_ref_name}
-use Rattle.gx_model.specs.Files.{FileMap}
-use Rattle.gx_model.specs.Values.{Commit, commit, commit_value, commits_of}
+use Rattle.gx_model.specs.Texts.RefNames.{is_ref_name}
+use Rattle.gx_model.specs.Histories.Files.{FileMap}
+use Rattle.gx_model.specs.Histories.Values.{Commit, commit, commit_value, commits_of}
 use Rattle.gx_model.specs.Objects.{IsNamer}
 use Rattle.gx_model.specs.Records.{name_of, named_map}
 use Rattle.gx_model.specs.Histories.{Records, with_tree}
-use Rattle.gx_model.specs.RepositoryLaws.{values_of}
-use Rattle.gx_model.specs.Sound.{Holds, IsNamedMap, IsSound}
-use Rattle.gx_model.specs.Commands.{Change, CommitParts}
+use Rattle.gx_model.specs.Laws.RepositoryLaws.{values_of}
+use Rattle.gx_model.specs.Records.Sound.{Holds, IsNamedMap, IsSound}
+use Rattle.gx_model.specs.Streams.Commands.{Change, CommitParts}
 use Rattle.gx_model.specs.Replay.{State, added, all_changed, all_committed, byte_cmp, committed_to, first_parent, starting_files, step_commit, text_made, with_first_parent}
 use Rattle.gx_object.specs.declared.name.Name.{Name}
 use Rattle.gx_tree.specs.Named.{NamedTree}
@@ -29,7 +29,7 @@ use Rattle.gx_import.specs.Marks.{marked_object, object_at}
 use Rattle.gx_import.specs.Objects.{IsCommitOf}
 use Rattle.gx_import.specs.Rows.{AreAll, AreBoth, rows_of}
 use Rattle.gx_import.specs.Standing.{Follows, Stands}
-use Rattle.gx_model.specs.NameMaps.{AreFiles}
+use Rattle.gx_model.specs.Objects.NameMaps.{AreFiles}
 use Rattle.gx_import.proofs.FilesByName.{first_files}
 use Rattle.gx_model.proofs.FilesByName.{files_named}
 use Rattle.gx_import.proofs.HeldParts.{commits_hold}

@@ -7,16 +7,16 @@ use Rattle.gx_model.specs.declared.faults.Fault.{Fault}
 use Rattle.gx_model.specs.declared.faults.Fault.TheVariants as fault
 use Rattle.gx_model.specs.Texts.{Bytes}
 use Rattle.gx_model.specs.Faults.{IsFaultOf, and_then}
-use Rattle.gx_model.specs.Paths.{Path}
-use Rattle.gx_model.specs.Files.{FileMap, Leaf}
-use Rattle.gx_model.specs.Edits.{copied, modified, removed, renamed, unless}
+use Rattle.gx_model.specs.Texts.Paths.{Path}
+use Rattle.gx_model.specs.Histories.Files.{FileMap, Leaf}
+use Rattle.gx_model.specs.Histories.Edits.{copied, modified, removed, renamed, unless}
 use Rattle.gx_model.specs.Records.{content_name, named_map}
 use Rattle.gx_model.specs.Histories.{Records}
-use Rattle.gx_model.specs.Commands.{DataRef, Modify}
+use Rattle.gx_model.specs.Streams.Commands.{DataRef, Modify}
 use Rattle.gx_model.specs.Replay.{State, changed, content}
 use Rattle.gx_object.specs.declared.name.Name.{Name}
 use Rattle.gx_tree.specs.Faults as tree_faults
-use Rattle.gx_model.specs.NameMaps.{AreFiles, IsNameMap}
+use Rattle.gx_model.specs.Objects.NameMaps.{AreFiles, IsNameMap}
 use Rattle.gx_tree.specs.declared.fault.TreeFault.{TreeFault}
 use Rattle.gx_tree.specs.declared.fault.TreeFault.TheVariants as tree
 use Rattle.gx_import.specs.declared.tables.Tables.{Tables}

@@ -7,20 +7,20 @@ use Rattle.std.proofs.lemmas.Bool.Decides.{nat_tests}
 use Rattle.gx_model.specs.declared.objects.Kind.{Kind}
 use Rattle.gx_model.specs.declared.faults.Fault.TheVariants as model_fault
 use Rattle.gx_model.specs.Texts.{Bytes}
-use Rattle.gx_model.specs.Commands.{Command}
-use Rattle.gx_model.specs.Grammar.{commands_of}
-use Rattle.gx_model.specs.Items.{items_of}
+use Rattle.gx_model.specs.Streams.Commands.{Command}
+use Rattle.gx_model.specs.Streams.Grammar.{commands_of}
+use Rattle.gx_model.specs.Streams.Items.{items_of}
 use Rattle.gx_model.proofs.OneTree.{all_left}
-use Rattle.gx_model.specs.Values.{Commit, Value}
+use Rattle.gx_model.specs.Histories.Values.{Commit, Value}
 use Rattle.gx_model.specs.Records.{name_of}
 use Rattle.gx_model.specs.Histories.{History, IsIn, Records, StandsFor, Target, record_of, value_at}
-use Rattle.gx_model.specs.HistoryOf.{history_of}
-use Rattle.gx_model.specs.Sound.{AnyByRecursion, IsSound}
-use Rattle.gx_model.specs.Ranges.{commit_of}
+use Rattle.gx_model.specs.Records.HistoryOf.{history_of}
+use Rattle.gx_model.specs.Records.Sound.{AnyByRecursion, IsSound}
+use Rattle.gx_model.specs.Revisions.Ranges.{commit_of}
 use Rattle.gx_model.specs.Replay.{Kept, finished, refused, replayed_commands, replayed_text, start}
 use Rattle.gx_model.specs.Export.{command_items, export_text, inner_commands, is_reached, item_text, reached_commits}
-use Rattle.gx_model.specs.ExportLaws.{ExportIsImported, FormedIsReadable, HasNoNullGitlink, IsAgain, between, exported_report}
-use Rattle.gx_model.specs.RepositoryLaws.{HistoriesOf, NamesTell}
+use Rattle.gx_model.specs.Laws.ExportLaws.{ExportIsImported, FormedIsReadable, HasNoNullGitlink, IsAgain, between, exported_report}
+use Rattle.gx_model.specs.Laws.RepositoryLaws.{HistoriesOf, NamesTell}
 use Rattle.gx_text.specs.Devices.{Coming, Taken}
 use Rattle.gx_stream.specs.Heard.{heard_upto}
 use Rattle.gx_command.specs.Reading.{commands_from}

@@ -3,7 +3,7 @@ use Rattle.std.proofs.Common.{◌≡◌, true, Ok, refl}
 use Rattle.gx_model.specs.declared.objects.Kind.{Kind}
 use Rattle.gx_model.specs.declared.features.Feature.TheVariants as features
 use Rattle.gx_model.specs.Texts.{Bytes}
-use Rattle.gx_model.specs.Commands.{Asks}
+use Rattle.gx_model.specs.Streams.Commands.{Asks}
 use Rattle.gx_model.specs.Histories.{Records}
 use Rattle.gx_model.specs.Replay.{State, step}
 use Rattle.gx_import.specs.declared.tables.Tables.{Tables}

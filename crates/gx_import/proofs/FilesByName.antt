@@ -5,13 +5,13 @@ use Rattle.std.specs.Bool.{passes}
 use Rattle.std.specs.List.{AllByRecursion}
 use Rattle.gx_model.specs.declared.objects.Kind.{Kind}
 use Rattle.gx_model.specs.Texts.{Bytes}
-use Rattle.gx_model.specs.Files.{FileMap}
-use Rattle.gx_model.specs.Values.{Commit, blobs_of, commit_value, files_of, is_content, sub_maps, tree_value}
+use Rattle.gx_model.specs.Histories.Files.{FileMap}
+use Rattle.gx_model.specs.Histories.Values.{Commit, blobs_of, commit_value, files_of, is_content, sub_maps, tree_value}
 use Rattle.gx_model.specs.Objects.{IsNamer}
 use Rattle.gx_model.specs.Records.{named_map}
 use Rattle.gx_model.specs.Histories.{IsIn, Records}
-use Rattle.gx_model.specs.HistoryOf.{history_of}
-use Rattle.gx_model.specs.Sound.{IsSound}
+use Rattle.gx_model.specs.Records.HistoryOf.{history_of}
+use Rattle.gx_model.specs.Records.Sound.{IsSound}
 use Rattle.gx_model.proofs.PathTests.{is_true}
 use Rattle.gx_model.proofs.OneTree.{all_left}
 use Rattle.gx_model.proofs.LinkedValues.{parts_in, proper_in}
@@ -20,7 +20,7 @@ use Rattle.gx_model.specs.Replay.{State, starting_files}
 use Rattle.gx_object.specs.declared.name.Name.{Name}
 use Rattle.gx_import.specs.Objects.{IsCommitOf}
 use Rattle.gx_import.specs.Rows.{AreBoth}
-use Rattle.gx_model.specs.NameMaps.{AreFiles}
+use Rattle.gx_model.specs.Objects.NameMaps.{AreFiles}
 
 module _ (name : Kind → Bytes → Bytes) (namer : IsNamer name) (r : Records) (sound : IsSound name r) where
   commit_files : (c : Commit) → IsIn (history_of r).values (commit_value c) → IsTrue (is_content (files_of c)) × AllByRecursion (IsIn (history_of r).values) (blobs_of (files_of c))

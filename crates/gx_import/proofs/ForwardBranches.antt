@@ -9,15 +9,15 @@ use Rattle.std.proofs.lemmas.Bool.{true≢false}
 use Rattle.gx_model.specs.declared.objects.Kind.{Kind}
 use Rattle.gx_model.specs.declared.objects.Kind.TheVariants as kinds
 use Rattle.gx_model.specs.Texts.{Bytes, same_bytes}
-use Rattle.gx_model.specs.Values.{Commit, commit_value}
+use Rattle.gx_model.specs.Histories.Values.{Commit, commit_value}
 use Rattle.gx_model.specs.Objects.{IsNamer}
 use Rattle.gx_model.specs.Histories.{Records, Target}
-use Rattle.gx_model.specs.HistoryOf.{commit_of_value, history_of, target_in, value_of_name}
-use Rattle.gx_model.specs.RepositoryLaws.{values_of}
-use Rattle.gx_model.specs.Sound.{Holds, IsSound, IsTarget}
-use Rattle.gx_model.specs.Lookups.{commit_named}
-use Rattle.gx_model.specs.Denotation.{ref_at}
-use Rattle.gx_model.specs.Ranges.{reaches}
+use Rattle.gx_model.specs.Records.HistoryOf.{commit_of_value, history_of, target_in, value_of_name}
+use Rattle.gx_model.specs.Laws.RepositoryLaws.{values_of}
+use Rattle.gx_model.specs.Records.Sound.{Holds, IsSound, IsTarget}
+use Rattle.gx_model.specs.Records.Lookups.{commit_named}
+use Rattle.gx_model.specs.Revisions.Denotation.{ref_at}
+use Rattle.gx_model.specs.Revisions.Ranges.{reaches}
 use Rattle.gx_model.specs.Replay.{State, is_fast_forward, is_forward, peeled_at}
 use Rattle.gx_model.proofs.PathTests.{is_true, same_is}
 use Rattle.gx_model.proofs.PeeledRefs.{held_holds, old_is, told}

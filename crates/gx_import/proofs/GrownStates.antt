@@ -8,16 +8,16 @@ use Rattle.gx_model.specs.declared.objects.Mode.{Mode}
 use Rattle.gx_model.specs.declared.objects.Mode.TheVariants.{File, Exec, Link, Gitlink, Dir}
 use Rattle.gx_model.specs.Texts.{Bytes}
 use Rattle.gx_model.specs.Faults.{and_then}
-use Rattle.gx_model.specs.Files.{FileMap, depth}
-use Rattle.gx_model.specs.Edits.{copied, modified, renamed}
-use Rattle.gx_model.specs.Values.{Commit, Value, blob_value, sub_maps, tree_value}
+use Rattle.gx_model.specs.Histories.Files.{FileMap, depth}
+use Rattle.gx_model.specs.Histories.Edits.{copied, modified, renamed}
+use Rattle.gx_model.specs.Histories.Values.{Commit, Value, blob_value, sub_maps, tree_value}
 use Rattle.gx_model.specs.Histories.{IsIn, Records, record_of, with_one, with_tree, with_tree_to}
-use Rattle.gx_model.specs.HistoryOf.{contents_of, named_values}
-use Rattle.gx_model.specs.Growth.{all_trees, clashes, put_all, tree_records, with_values}
-use Rattle.gx_model.specs.RepositoryLaws.{NamesTree, PutsGrow, TreesGrow, values_of}
-use Rattle.gx_model.specs.Sound.{IsNamedMap, IsSound}
-use Rattle.gx_model.specs.Denotation.{base_value, lower}
-use Rattle.gx_model.specs.Commands.{Change, Clear, Copy, DataRef, Inline, Mark, Modify, Object, Remove, Rename}
+use Rattle.gx_model.specs.Records.HistoryOf.{contents_of, named_values}
+use Rattle.gx_model.specs.Records.Growth.{all_trees, clashes, put_all, tree_records, with_values}
+use Rattle.gx_model.specs.Laws.RepositoryLaws.{NamesTree, PutsGrow, TreesGrow, values_of}
+use Rattle.gx_model.specs.Records.Sound.{IsNamedMap, IsSound}
+use Rattle.gx_model.specs.Revisions.Denotation.{base_value, lower}
+use Rattle.gx_model.specs.Streams.Commands.{Change, Clear, Copy, DataRef, Inline, Mark, Modify, Object, Remove, Rename}
 use Rattle.gx_model.specs.Replay.{State, all_changed, at, blob_bytes, changed, content}
 use Rattle.gx_model.proofs.GrownTrees.{trees_fold}
 use Rattle.gx_object.specs.declared.name.Name.{Name}

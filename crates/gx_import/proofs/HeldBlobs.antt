@@ -14,15 +14,15 @@ use Rattle.gx_model.specs.declared.objects.Mode.{Mode}
 use Rattle.gx_model.specs.declared.objects.Mode.TheVariants.{File, Exec, Link, Gitlink, Dir}
 use Rattle.gx_model.specs.Texts.{Bytes}
 use Rattle.gx_model.specs.Faults.{Given, IsFaultOf, and_then}
-use Rattle.gx_model.specs.Values.{Value, blob_value, commit_value, is_hex_digit, is_name_text, tag_value, tree_value}
+use Rattle.gx_model.specs.Histories.Values.{Value, blob_value, commit_value, is_hex_digit, is_name_text, tag_value, tree_value}
 use Rattle.gx_model.specs.Objects.{IsNamer, unhex}
 use Rattle.gx_model.specs.Records.{kind_of, name_of}
 use Rattle.gx_model.specs.Histories.{History, IsIn, Record, Records, object_of}
-use Rattle.gx_model.specs.HistoryOf.{history_of, value_of_name}
-use Rattle.gx_model.specs.Growth.{record_named}
-use Rattle.gx_model.specs.Sound.{IsSound}
-use Rattle.gx_model.specs.Denotation.{base_value, begun_by, full_name, is_any_digit, lower}
-use Rattle.gx_model.specs.Commands.{Object}
+use Rattle.gx_model.specs.Records.HistoryOf.{history_of, value_of_name}
+use Rattle.gx_model.specs.Records.Growth.{record_named}
+use Rattle.gx_model.specs.Records.Sound.{IsSound}
+use Rattle.gx_model.specs.Revisions.Denotation.{base_value, begun_by, full_name, is_any_digit, lower}
+use Rattle.gx_model.specs.Streams.Commands.{Object}
 use Rattle.gx_model.specs.Replay.{State, blob_bytes, content}
 use Rattle.gx_object.specs.declared.name.Name.{Name}
 use Rattle.gx_model.proofs.Bases.{full_found, full_none, none_got, some_got, whole_digits}

@@ -3,14 +3,14 @@ use Rattle.std.proofs.Common.{◌≡◌, Some, None, Ok, Err, sym, ap, subst, �
 use Rattle.gx_model.specs.declared.objects.Kind.{Kind}
 use Rattle.gx_model.specs.declared.faults.Fault.TheVariants as fault
 use Rattle.gx_model.specs.Texts.{Bytes}
-use Rattle.gx_model.specs.Values.{Commit, Value}
+use Rattle.gx_model.specs.Histories.Values.{Commit, Value}
 use Rattle.gx_model.specs.Objects.{IsNamer}
 use Rattle.gx_model.specs.Records.{name_of}
 use Rattle.gx_model.specs.Histories.{Records}
-use Rattle.gx_model.specs.HistoryOf.{commit_of_value, history_of, value_of_name}
-use Rattle.gx_model.specs.Lookups.{commit_named}
-use Rattle.gx_model.specs.Sound.{IsSound}
-use Rattle.gx_model.specs.Denotation.{commit_in}
+use Rattle.gx_model.specs.Records.HistoryOf.{commit_of_value, history_of, value_of_name}
+use Rattle.gx_model.specs.Records.Lookups.{commit_named}
+use Rattle.gx_model.specs.Records.Sound.{IsSound}
+use Rattle.gx_model.specs.Revisions.Denotation.{commit_in}
 use Rattle.gx_object.specs.declared.name.Name.{Name}
 use Rattle.gx_model.proofs.HeldValues.{commit_held, commit_stands, held_is, kind_held, peeled_none, peeled_to, value_held}
 use Rattle.gx_import.specs.declared.object.Object.{Object}

@@ -2,7 +2,7 @@
 use Rattle.std.proofs.Common.{◌≡◌, List, [], ◌∷◌, map, Option, Some, None, refl, sym, ap, subst, ◌∙◌}
 use Rattle.std.specs.Prelude.{T, IsTrue}
 use Rattle.std.specs.Option.{option_map}
-use Rattle.gx_model.specs.Idents.{is_ident}
+use Rattle.gx_model.specs.Texts.Idents.{is_ident}
 use Rattle.gx_model.specs.Replay.{or_else, text_made}
 use Rattle.gx_command.specs.declared.commands.Commit.{Commit as GivenCommit}
 use Rattle.gx_command.specs.declared.commands.Tag.{Tag as GivenTag}
@@ -14,16 +14,16 @@ use Rattle.std.specs.List.{AllByRecursion}
 use Rattle.gx_model.specs.declared.objects.Kind.{Kind}
 use Rattle.gx_model.specs.declared.objects.Kind.TheVariants as kinds
 use Rattle.gx_model.specs.Texts.{Bytes}
-use Rattle.gx_model.specs.Files.{FileMap}
-use Rattle.gx_model.specs.RefNames.{is_tag_name}
-use Rattle.gx_model.specs.Values.{Commit, CommitText, Tag, Value, commit, commit_value, commits_of, is_content, is_optional_encoding, is_optional_ident, is_proper_text, list_of, tag_value, tree_value}
+use Rattle.gx_model.specs.Histories.Files.{FileMap}
+use Rattle.gx_model.specs.Texts.RefNames.{is_tag_name}
+use Rattle.gx_model.specs.Histories.Values.{Commit, CommitText, Tag, Value, commit, commit_value, commits_of, is_content, is_optional_encoding, is_optional_ident, is_proper_text, list_of, tag_value, tree_value}
 use Rattle.gx_model.specs.Objects.{CommitParts, IsNamer, TagParts, commit_text, tag_text}
 use Rattle.gx_model.specs.Records.{names_of}
 use Rattle.gx_model.specs.Histories.{IsIn, Record, Records, record_for, record_of}
-use Rattle.gx_model.specs.HistoryOf.{commit_of_value, files_of_tree, history_of, value_of_name}
-use Rattle.gx_model.specs.Growth.{AreReady, put, with_values}
-use Rattle.gx_model.specs.RepositoryLaws.{PutsGrow, values_of}
-use Rattle.gx_model.specs.Sound.{Holds, IsSound, Keeps}
+use Rattle.gx_model.specs.Records.HistoryOf.{commit_of_value, files_of_tree, history_of, value_of_name}
+use Rattle.gx_model.specs.Records.Growth.{AreReady, put, with_values}
+use Rattle.gx_model.specs.Laws.RepositoryLaws.{PutsGrow, values_of}
+use Rattle.gx_model.specs.Records.Sound.{Holds, IsSound, Keeps}
 use Rattle.gx_model.proofs.PathTests.{both, is_true}
 use Rattle.gx_model.proofs.LinkedValues.{proper_in}
 use Rattle.gx_object.specs.declared.name.Name.{Name}

@@ -7,11 +7,11 @@ use Rattle.std.proofs.lemmas.List.{append-nil, take-append-le}
 use Rattle.gx_model.specs.declared.objects.Kind.{Kind}
 use Rattle.gx_model.specs.declared.faults.Fault.TheVariants as fault
 use Rattle.gx_model.specs.Texts.{Bytes}
-use Rattle.gx_model.specs.Commands.{Checkpoint, Command}
+use Rattle.gx_model.specs.Streams.Commands.{Checkpoint, Command}
 use Rattle.gx_model.specs.Histories.{Record, Records}
-use Rattle.gx_model.specs.HistoryOf.{history_of}
+use Rattle.gx_model.specs.Records.HistoryOf.{history_of}
 use Rattle.gx_model.specs.Replay.{State, checkpointed, final, is_fast_forward, start, step_checkpoint}
-use Rattle.gx_model.specs.Sound.{IsTarget}
+use Rattle.gx_model.specs.Records.Sound.{IsTarget}
 use Rattle.gx_text.specs.Devices.{Taken}
 use Rattle.gx_import.specs.Applying.{Applies}
 use Rattle.gx_import.specs.Keeping.{AreNames, AreNone, AreStill, EntersAll, HoldsAll, IsLeft, IsNext, Keeps, KeepsAfter, KeepsFromEach, Moves, left_of}

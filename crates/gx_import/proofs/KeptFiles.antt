@@ -9,14 +9,14 @@ use Rattle.std.specs.FinMap.Entries.{below_all, by_order, is_sorted, put}
 use Rattle.gx_model.specs.declared.objects.Kind.{Kind}
 use Rattle.gx_model.specs.declared.faults.Fault.{Fault}
 use Rattle.gx_model.specs.Texts.{Bytes}
-use Rattle.gx_model.specs.Paths.{Path, are_in_line, begins, is_file_path, path_cmp}
-use Rattle.gx_model.specs.Files.{FileMap, Leaf, are_apart, is_file_map, under}
-use Rattle.gx_model.specs.Edits.{copied, copy_fault, modified, moved, removed, renamed, unless, with_all, without, without_line}
-use Rattle.gx_model.specs.Values.{Value, blob_of, blobs_of, is_leaf}
+use Rattle.gx_model.specs.Texts.Paths.{Path, are_in_line, begins, is_file_path, path_cmp}
+use Rattle.gx_model.specs.Histories.Files.{FileMap, Leaf, are_apart, is_file_map, under}
+use Rattle.gx_model.specs.Histories.Edits.{copied, copy_fault, modified, moved, removed, renamed, unless, with_all, without, without_line}
+use Rattle.gx_model.specs.Histories.Values.{Value, blob_of, blobs_of, is_leaf}
 use Rattle.gx_model.specs.Records.{content_name, named_map}
 use Rattle.gx_model.specs.Histories.{IsIn}
 use Rattle.gx_model.proofs.PathTests.{both, first, second, is_true}
-use Rattle.gx_model.specs.NameMaps.{AreFiles, IsNameMap}
+use Rattle.gx_model.specs.Objects.NameMaps.{AreFiles, IsNameMap}
 use Rattle.gx_import.proofs.NamedEdits.{leafed}
 
 -- ---- each leaf of an edited map is one of the old map's, or the new one

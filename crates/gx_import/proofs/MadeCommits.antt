@@ -5,11 +5,11 @@ use Rattle.gx_model.specs.declared.faults.Fault.{Fault}
 use Rattle.gx_model.specs.declared.objects.Kind.{Kind}
 use Rattle.gx_model.specs.Texts.{Bytes}
 use Rattle.gx_model.specs.Faults.{IsFaultOf, and_then}
-use Rattle.gx_model.specs.Files.{FileMap}
-use Rattle.gx_model.specs.Values.{Commit, Value, commit_value}
+use Rattle.gx_model.specs.Histories.Files.{FileMap}
+use Rattle.gx_model.specs.Histories.Values.{Commit, Value, commit_value}
 use Rattle.gx_model.specs.Histories.{IsIn, with_one}
-use Rattle.gx_model.specs.Growth.{with_values}
-use Rattle.gx_model.specs.Commands.{Change, CommitParts}
+use Rattle.gx_model.specs.Records.Growth.{with_values}
+use Rattle.gx_model.specs.Streams.Commands.{Change, CommitParts}
 use Rattle.gx_model.specs.Replay.{State, added, all_changed, all_committed, committed_to, first_parent, marked, on_branch, starting_files, step_commit}
 use Rattle.gx_import.specs.Additions.{Clash, added_by_commit, blobs_added, commit_added, commit_made, unless_refused, values_made}
 use Rattle.gx_import.specs.Answers.{AddsAs}

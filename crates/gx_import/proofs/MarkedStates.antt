@@ -8,8 +8,8 @@ use Rattle.std.specs.FinMap.Entries.{by_order, is_sorted, is_sorted-put, put}
 use Rattle.gx_model.specs.declared.objects.Kind.{Kind}
 use Rattle.gx_model.specs.declared.objects.Kind.TheVariants as kinds
 use Rattle.gx_model.specs.Texts.{Bytes}
-use Rattle.gx_model.specs.RefNames.{is_ref_name, tag_ref}
-use Rattle.gx_model.specs.Values.{Commit, Tag, Value, commit_value, files_of, tag_value}
+use Rattle.gx_model.specs.Texts.RefNames.{is_ref_name, tag_ref}
+use Rattle.gx_model.specs.Histories.Values.{Commit, Tag, Value, commit_value, files_of, tag_value}
 use Rattle.gx_model.specs.Records.{name_of, named_map}
 use Rattle.gx_model.specs.Histories.{IsIn, Records}
 use Rattle.gx_model.specs.Replay.{State, byte_cmp, marked, on_branch}

@@ -2,7 +2,7 @@
 use Rattle.std.proofs.Common.{ℕ, Option, Some, None, refl}
 use Rattle.gx_model.specs.declared.objects.Kind.{Kind}
 use Rattle.gx_model.specs.Texts.{Bytes}
-use Rattle.gx_model.specs.Values.{Value}
+use Rattle.gx_model.specs.Histories.Values.{Value}
 use Rattle.gx_model.specs.Histories.{Records}
 use Rattle.gx_model.specs.Replay.{State, added, marked}
 use Rattle.gx_import.specs.declared.tables.Tables.{Tables}

@@ -5,8 +5,8 @@ use Rattle.gx_model.specs.declared.faults.Fault.{Fault}
 use Rattle.gx_model.specs.declared.objects.Kind.{Kind}
 use Rattle.gx_model.specs.Texts.{Bytes}
 use Rattle.gx_model.specs.Faults.{IsFaultOf, and_then}
-use Rattle.gx_model.specs.Values.{Commit}
-use Rattle.gx_model.specs.Commands.{CommitIsh}
+use Rattle.gx_model.specs.Histories.Values.{Commit}
+use Rattle.gx_model.specs.Streams.Commands.{CommitIsh}
 use Rattle.gx_model.specs.Replay.{State, all_committed, committed_for, with_first_parent}
 use Rattle.gx_object.specs.declared.name.Name.{Name}
 use Rattle.gx_import.specs.Objects.{IsCommitOf}

@@ -11,7 +11,7 @@ use Rattle.std.proofs.lemmas.List.Sums.{fold-append}
 use Rattle.gx_model.specs.declared.faults.Fault.{Fault}
 use Rattle.gx_model.specs.Texts.{Bytes, same_bytes}
 use Rattle.gx_model.specs.Histories.{Record}
-use Rattle.gx_model.specs.Publishing.{Change, Ref, change_fault, changes_fault, first_fault, with_change, with_changes}
+use Rattle.gx_model.specs.Records.Publishing.{Change, Ref, change_fault, changes_fault, first_fault, with_change, with_changes}
 use Rattle.gx_model.specs.Replay.{byte_cmp}
 use Rattle.gx_model.proofs.PathTests.{both, first, second, same_is}
 use Rattle.gx_object.specs.declared.name.Name.{Name}

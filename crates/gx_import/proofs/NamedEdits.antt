@@ -7,9 +7,9 @@ use Rattle.std.specs.FinMap.Entries.{by_order, put}
 use Rattle.gx_model.specs.declared.faults.Fault.{Fault}
 use Rattle.gx_model.specs.declared.faults.Fault.TheVariants.{NoSuchPath, RootNotTree, PathTooLong}
 use Rattle.gx_model.specs.Faults.{and_then}
-use Rattle.gx_model.specs.Paths.{Path, are_in_line, begins, is_short, path_cmp, same_path}
-use Rattle.gx_model.specs.Files.{file_at, under}
-use Rattle.gx_model.specs.Edits.{copied, copy_fault, is_root, modified, moved, removed, renamed, unless, with_all, without, without_line}
+use Rattle.gx_model.specs.Texts.Paths.{Path, are_in_line, begins, is_short, path_cmp, same_path}
+use Rattle.gx_model.specs.Histories.Files.{file_at, under}
+use Rattle.gx_model.specs.Histories.Edits.{copied, copy_fault, is_root, modified, moved, removed, renamed, unless, with_all, without, without_line}
 
 module _ {X Y : Type 0} (h : X → Y) where
   -- each leaf so

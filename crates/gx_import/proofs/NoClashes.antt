@@ -10,12 +10,12 @@ use Rattle.gx_model.specs.declared.faults.Fault.{Fault}
 use Rattle.gx_model.specs.declared.faults.Fault.TheVariants.{NotFastForward}
 use Rattle.gx_model.specs.declared.features.Feature.TheVariants as features
 use Rattle.gx_model.specs.Texts.{Bytes, same_bytes}
-use Rattle.gx_model.specs.Values.{Value, commit_value, tag_value, tree_value}
+use Rattle.gx_model.specs.Histories.Values.{Value, commit_value, tag_value, tree_value}
 use Rattle.gx_model.specs.Records.{name_of}
 use Rattle.gx_model.specs.Histories.{History, IsIn, is_in, with_one}
-use Rattle.gx_model.specs.Growth.{all_trees, clashes, with_values}
-use Rattle.gx_model.specs.Commands as command
-use Rattle.gx_model.specs.Commands.{Asks, Blob, Checkpoint, Command, CommitIsh, CommitParts, Done, OptionLine, Progress, Reset, TagParts}
+use Rattle.gx_model.specs.Records.Growth.{all_trees, clashes, with_values}
+use Rattle.gx_model.specs.Streams.Commands as command
+use Rattle.gx_model.specs.Streams.Commands.{Asks, Blob, Checkpoint, Command, CommitIsh, CommitParts, Done, OptionLine, Progress, Reset, TagParts}
 use Rattle.gx_model.specs.Replay.{Outcome, Report, State, added, all_changed, all_committed, commit_alone, committed, committed_for, ended, final, finished, first_parent, is_fast_forward, marked, on_branch, refused, replayed, report, starting_files, step, step_commit, step_reset, step_tag}
 use Rattle.gx_model.proofs.GrownRecords.{is_is_in}
 use Rattle.gx_model.proofs.GrownTrees.{trees_fold}

@@ -5,14 +5,14 @@ use Rattle.std.specs.List.{AllByRecursion}
 use Rattle.gx_model.specs.declared.objects.Kind.{Kind}
 use Rattle.gx_model.specs.declared.faults.Fault.{Fault}
 use Rattle.gx_model.specs.Texts.{Bytes}
-use Rattle.gx_model.specs.Commands as command
-use Rattle.gx_model.specs.Commands.{Asks, Blob, Checkpoint, Command, Done, OptionLine, Progress, Reset}
-use Rattle.gx_model.specs.Grammar.{commands_of}
+use Rattle.gx_model.specs.Streams.Commands as command
+use Rattle.gx_model.specs.Streams.Commands.{Asks, Blob, Checkpoint, Command, Done, OptionLine, Progress, Reset}
+use Rattle.gx_model.specs.Streams.Grammar.{commands_of}
 use Rattle.gx_model.specs.Histories.{History, IsHistory}
-use Rattle.gx_model.specs.Items.{items_of}
+use Rattle.gx_model.specs.Streams.Items.{items_of}
 use Rattle.gx_model.specs.Replay.{Kept, Outcome, State, refused, replayed, step}
 use Rattle.gx_model.specs.Export.{export_items, export_text, inner_commands, reached_commits}
-use Rattle.gx_model.specs.ExportLaws.{IsReadable, IsSpelled}
+use Rattle.gx_model.specs.Laws.ExportLaws.{IsReadable, IsSpelled}
 use Rattle.gx_model.proofs.CommandItems.{commands_read}
 use Rattle.gx_model.proofs.ItemTexts.{items_read}
 use Rattle.gx_model.proofs.SpelledExports.{export_spelled}

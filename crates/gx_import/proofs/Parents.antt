@@ -6,13 +6,13 @@ use Rattle.std.specs.Map.{lookup}
 use Rattle.gx_model.specs.declared.objects.Kind.{Kind}
 use Rattle.gx_model.specs.declared.objects.Kind.TheVariants as kinds
 use Rattle.gx_model.specs.Texts.{Bytes, same_bytes}
-use Rattle.gx_model.specs.Values.{Commit, Value, commit_value, files_of}
+use Rattle.gx_model.specs.Histories.Values.{Commit, Value, commit_value, files_of}
 use Rattle.gx_model.specs.Objects.{IsNamer}
 use Rattle.gx_model.specs.Records.{named_map}
 use Rattle.gx_model.specs.Histories.{Records}
-use Rattle.gx_model.specs.HistoryOf.{commit_of_value, history_of, value_of_name}
-use Rattle.gx_model.specs.Sound.{IsSound}
-use Rattle.gx_model.specs.RecordFaults.{is_held}
+use Rattle.gx_model.specs.Records.HistoryOf.{commit_of_value, history_of, value_of_name}
+use Rattle.gx_model.specs.Records.Sound.{IsSound}
+use Rattle.gx_model.specs.Records.RecordFaults.{is_held}
 use Rattle.gx_model.specs.Replay.{State, byte_cmp, own_commit, starting_files}
 use Rattle.gx_object.specs.declared.name.Name.{Name}
 use Rattle.gx_model.proofs.HeldValues.{value_held}

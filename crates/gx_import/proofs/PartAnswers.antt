@@ -3,7 +3,7 @@ use Rattle.std.proofs.Common.{◌≡◌, Result, Ok, Err, ap, subst}
 use Rattle.gx_model.specs.declared.faults.Fault.{Fault}
 use Rattle.gx_model.specs.Faults.{IsFaultOf, and_then}
 use Rattle.gx_model.specs.Histories.{Record}
-use Rattle.gx_model.specs.Growth.{put, put_all}
+use Rattle.gx_model.specs.Records.Growth.{put, put_all}
 use Rattle.std.specs.Prelude.{List, None}
 use Rattle.gx_model.specs.Texts.{Bytes}
 use Rattle.gx_store.specs.declared.fault.StoreFault.{StoreFault}

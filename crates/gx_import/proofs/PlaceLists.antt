@@ -10,13 +10,13 @@ use Rattle.std.specs.BTreeMap.Range.{IsLtBy}
 use Rattle.std.proofs.Math.Dec.{eqb}
 use Rattle.std.proofs.lemmas.Bool.Decides.{Decides-eqb, eqb_tells, nat_tests}
 use Rattle.gx_model.specs.declared.objects.Kind.{Kind}
-use Rattle.gx_model.specs.Values.{Commit, Commits, commit, commit_value, list_of, more, none, parents_of, same_commit}
+use Rattle.gx_model.specs.Histories.Values.{Commit, Commits, commit, commit_value, list_of, more, none, parents_of, same_commit}
 use Rattle.gx_model.specs.Objects.{IsNamer}
 use Rattle.gx_model.specs.Histories.{Records}
-use Rattle.gx_model.specs.HistoryLaws.{IsParent}
-use Rattle.gx_model.specs.Marks.{IsAt}
-use Rattle.gx_model.specs.Ranges.{reaches, some_reaches}
-use Rattle.gx_model.specs.Sound.{AnyByRecursion, IsSound}
+use Rattle.gx_model.specs.Laws.HistoryLaws.{IsParent}
+use Rattle.gx_model.specs.Histories.Marks.{IsAt}
+use Rattle.gx_model.specs.Revisions.Ranges.{reaches, some_reaches}
+use Rattle.gx_model.specs.Records.Sound.{AnyByRecursion, IsSound}
 use Rattle.gx_model.proofs.Marking.{IsBefore, least}
 use Rattle.gx_model.proofs.PathTests.{is_true, left_or, one_of, right_or}
 use Rattle.gx_model.proofs.ReachedCommits.{itself}

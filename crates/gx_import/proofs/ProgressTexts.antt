@@ -10,12 +10,12 @@ use Rattle.gx_model.specs.declared.faults.Fault.TheVariants as fault
 use Rattle.gx_model.specs.declared.features.Feature.TheVariants as features
 use Rattle.gx_model.specs.Faults.{and_then}
 use Rattle.gx_model.specs.Texts.{Bytes}
-use Rattle.gx_model.specs.Files.{FileMap}
-use Rattle.gx_model.specs.Denotation.{base_value}
-use Rattle.gx_model.specs.Edits.{copied, modified, renamed}
-use Rattle.gx_model.specs.Values.{Value, blob_value, commit, commit_value, commits_of, tag_value}
-use Rattle.gx_model.specs.Commands as command
-use Rattle.gx_model.specs.Commands.{Asks, Blob, Change, Checkpoint, Clear, Command, CommitIsh, CommitParts, Copy, DataRef, Done, Inline, Mark, Modify, Object, OptionLine, Progress, Remove, Rename, Reset, TagParts}
+use Rattle.gx_model.specs.Histories.Files.{FileMap}
+use Rattle.gx_model.specs.Revisions.Denotation.{base_value}
+use Rattle.gx_model.specs.Histories.Edits.{copied, modified, renamed}
+use Rattle.gx_model.specs.Histories.Values.{Value, blob_value, commit, commit_value, commits_of, tag_value}
+use Rattle.gx_model.specs.Streams.Commands as command
+use Rattle.gx_model.specs.Streams.Commands.{Asks, Blob, Change, Checkpoint, Clear, Command, CommitIsh, CommitParts, Copy, DataRef, Done, Inline, Mark, Modify, Object, OptionLine, Progress, Remove, Rename, Reset, TagParts}
 use Rattle.gx_model.specs.Replay.{State, added, all_changed, all_committed, at, blob_bytes, changed, checkpointed, commit_alone, committed, committed_for, content, ended, final, finished, first_parent, is_fast_forward, marked, refused, replayed, report, starting_files, step, step_checkpoint, step_commit, step_reset, step_tag, text_made, with_first_parent}
 use Rattle.gx_text.specs.Devices.{FailedWithin, Sends, Taken, Took}
 use Rattle.gx_import.specs.Additions.{tag_made}

@@ -15,7 +15,7 @@ use Rattle.gx_model.specs.declared.objects.Kind.{Kind}
 use Rattle.gx_model.specs.Texts.{Bytes, same_bytes}
 use Rattle.gx_model.specs.Histories.{Records, value_at}
 use Rattle.gx_model.specs.Records.{name_of}
-use Rattle.gx_model.specs.Publishing.{Change, Ref, with_changes}
+use Rattle.gx_model.specs.Records.Publishing.{Change, Ref, with_changes}
 use Rattle.gx_model.specs.Replay.{byte_cmp, overwritten}
 use Rattle.gx_model.proofs.PathTests.{is_true}
 use Rattle.gx_object.specs.declared.name.Name.{Name}

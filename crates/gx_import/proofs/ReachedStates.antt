@@ -8,11 +8,11 @@ use Rattle.gx_model.specs.declared.objects.Kind.{Kind}
 use Rattle.gx_model.specs.declared.faults.Fault.{Fault}
 use Rattle.gx_model.specs.declared.faults.Fault.TheVariants as fault
 use Rattle.gx_model.specs.Texts.{Bytes}
-use Rattle.gx_model.specs.Grammar.{stops, with_first}
-use Rattle.gx_model.specs.Gitlinks.{BringsNoNullGitlink, HoldsNoNullGitlink}
+use Rattle.gx_model.specs.Streams.Grammar.{stops, with_first}
+use Rattle.gx_model.specs.Streams.Gitlinks.{BringsNoNullGitlink, HoldsNoNullGitlink}
 use Rattle.gx_model.specs.Histories.{History, Record, Records}
-use Rattle.gx_model.specs.HistoryOf.{history_of}
-use Rattle.gx_model.specs.Commands.{Command, Commands, Progress}
+use Rattle.gx_model.specs.Records.HistoryOf.{history_of}
+use Rattle.gx_model.specs.Streams.Commands.{Command, Commands, Progress}
 use Rattle.gx_model.specs.Replay.{Outcome, State, byte_cmp, imported, refused, replayed, replayed_commands, start, step}
 use Rattle.gx_model.proofs.GitlinkSteps.{IsFreeState, step_free}
 use Rattle.gx_text.specs.Devices.{Coming, FailedWithin, Taken, Took, TookFront}

@@ -7,16 +7,16 @@ use Rattle.gx_model.specs.declared.faults.Fault.{Fault}
 use Rattle.gx_model.specs.declared.faults.Fault.TheVariants as fault
 use Rattle.gx_model.specs.declared.objects.Kind.{Kind}
 use Rattle.gx_model.specs.Texts.{Bytes, cut_at, same_bytes}
-use Rattle.gx_model.specs.Numbers.{decimal_of}
-use Rattle.gx_model.specs.RefNames.{is_ref_name}
-use Rattle.gx_model.specs.Paths.{Path, is_component, parts_of, path_of}
+use Rattle.gx_model.specs.Texts.Numbers.{decimal_of}
+use Rattle.gx_model.specs.Texts.RefNames.{is_ref_name}
+use Rattle.gx_model.specs.Texts.Paths.{Path, is_component, parts_of, path_of}
 use Rattle.gx_model.specs.Faults.{and_then, or_fault}
-use Rattle.gx_model.specs.Files.{FileMap, Leaf, file_at, sub_map}
-use Rattle.gx_model.specs.Values.{Commit, Value, blob_value, commit_value, list_of, parents_of, tag_value, tree_value}
+use Rattle.gx_model.specs.Histories.Files.{FileMap, Leaf, file_at, sub_map}
+use Rattle.gx_model.specs.Histories.Values.{Commit, Value, blob_value, commit_value, list_of, parents_of, tag_value, tree_value}
 use Rattle.gx_model.specs.Histories.{History, Target, value_at}
 use Rattle.gx_model.specs.Revisions.{Revision, Suffix, ancestor, as_blob, as_commit, as_tag, as_tree, base_and_suffixes, base_of, braced_or_parent, braced_suffixes, itself, number_or_one, optional_path, parent, peeled, revision_in, revision_of, suffix_of, suffixes_of, with_path}
-use Rattle.gx_model.specs.Denotation.{Shown, all_suffixed, are_digits, at_path, base_value, begun_by, commit_in, denoted, files_in, find_ref, full_name, nth_ancestor, nth_parent, object, of_leaf, of_sub_map, only_blob, only_commit, only_tag, or_no_parent, peel, shown_at, shown_value, submodule, suffixed, the_one, value_denoted}
-use Rattle.gx_model.specs.Commands.{CommitIsh, CommitParts, Marked, Named}
+use Rattle.gx_model.specs.Revisions.Denotation.{Shown, all_suffixed, are_digits, at_path, base_value, begun_by, commit_in, denoted, files_in, find_ref, full_name, nth_ancestor, nth_parent, object, of_leaf, of_sub_map, only_blob, only_commit, only_tag, or_no_parent, peel, shown_at, shown_value, submodule, suffixed, the_one, value_denoted}
+use Rattle.gx_model.specs.Streams.Commands.{CommitIsh, CommitParts, Marked, Named}
 use Rattle.gx_model.specs.Replay.{State, all_committed, at, commit_alone, committed, committed_for, first_parent, is_itself, ok_or_mark, or_branch}
 
 -- a fault that isn't for a held name

@@ -4,11 +4,11 @@ use Rattle.gx_model.specs.declared.faults.Fault.TheVariants as model
 use Rattle.gx_model.specs.declared.objects.Kind.{Kind}
 use Rattle.gx_model.specs.Texts.{Bytes}
 use Rattle.gx_model.specs.Histories.{Records}
-use Rattle.gx_model.specs.HistoryOf.{history_of}
+use Rattle.gx_model.specs.Records.HistoryOf.{history_of}
 use Rattle.gx_model.specs.Replay.{Kept, refused, imported, replayed_commands, replayed_text, start}
 use Rattle.gx_model.specs.Export.{export_text}
-use Rattle.gx_model.specs.Gitlinks.{NullGitlinksAreRefused}
-use Rattle.gx_model.specs.RepositoryLaws.{HistoriesOf}
+use Rattle.gx_model.specs.Streams.Gitlinks.{NullGitlinksAreRefused}
+use Rattle.gx_model.specs.Laws.RepositoryLaws.{HistoriesOf}
 use Rattle.gx_text.specs.Devices.{Coming, Taken}
 use Rattle.gx_stream.specs.Heard.{heard}
 use Rattle.gx_command.specs.Reading.{commands_from}

@@ -4,8 +4,8 @@ use Rattle.gx_model.specs.declared.objects.Kind.{Kind}
 use Rattle.gx_model.specs.declared.faults.Fault.{Fault}
 use Rattle.gx_model.specs.Faults.{and_then}
 use Rattle.gx_model.specs.Texts.{Bytes}
-use Rattle.gx_model.specs.Values.{Commit}
-use Rattle.gx_model.specs.Commands.{CommitIsh}
+use Rattle.gx_model.specs.Histories.Values.{Commit}
+use Rattle.gx_model.specs.Streams.Commands.{CommitIsh}
 use Rattle.gx_model.specs.Replay.{State, committed_for, on_branch, step_reset}
 use Rattle.gx_import.specs.Steps.{optional_commit}
 

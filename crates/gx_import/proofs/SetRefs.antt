@@ -12,17 +12,17 @@ use Rattle.gx_model.specs.declared.faults.Fault.TheVariants.{WrongKind}
 use Rattle.gx_model.specs.declared.objects.Kind.{Kind}
 use Rattle.gx_model.specs.declared.objects.Kind.TheVariants as kinds
 use Rattle.gx_model.specs.Texts.{Bytes}
-use Rattle.gx_model.specs.RefNames.{is_ref_name, tag_ref}
-use Rattle.gx_model.specs.Values.{Commit, Tag, Value, is_optional_ident, is_proper, tag_value}
+use Rattle.gx_model.specs.Texts.RefNames.{is_ref_name, tag_ref}
+use Rattle.gx_model.specs.Histories.Values.{Commit, Tag, Value, is_optional_ident, is_proper, tag_value}
 use Rattle.gx_model.specs.Objects.{IsNamer, TagParts}
 use Rattle.gx_model.specs.Records.{body_of, commit_body, kind_of, name_of, tag_body}
 use Rattle.gx_model.specs.Faults.{IsFaultOf}
 use Rattle.gx_model.specs.Histories.{History, IsIn, IsRefOf, Records, StandsFor, Target, at_commit, at_tag, record_of, value_at}
-use Rattle.gx_model.specs.HistoryOf.{history_of}
-use Rattle.gx_model.specs.Sound.{IsSound}
+use Rattle.gx_model.specs.Records.HistoryOf.{history_of}
+use Rattle.gx_model.specs.Records.Sound.{IsSound}
 use Rattle.gx_model.specs.Replay.{State, byte_cmp, final, overwritten, with_branch}
-use Rattle.gx_model.specs.RepositoryLaws.{HistoriesOf, with_refs}
-use Rattle.gx_model.specs.StoreReading.{is_target_of_kind}
+use Rattle.gx_model.specs.Laws.RepositoryLaws.{HistoriesOf, with_refs}
+use Rattle.gx_model.specs.Stores.StoreReading.{is_target_of_kind}
 use Rattle.gx_model.proofs.BodiesReadBack.{tag_read}
 use Rattle.gx_model.proofs.HeldNames.{value_found}
 use Rattle.gx_model.proofs.HistoriesExist.{stands, tag_text_is}
@@ -30,7 +30,7 @@ use Rattle.gx_model.proofs.LinkedValues.{proper_in}
 use Rattle.gx_model.proofs.PathTests.{both, first, is_same, is_true, second}
 use Rattle.gx_object.specs.declared.name.Name.{Name}
 use Rattle.gx_repo.specs.Publishing.{fault_of}
-use Rattle.gx_model.specs.Publishing.{Change, change_fault, changes_fault, first_fault, published, unless, with_changes}
+use Rattle.gx_model.specs.Records.Publishing.{Change, change_fault, changes_fault, first_fault, published, unless, with_changes}
 use Rattle.gx_repo.specs.declared.fault.PublishFault.{PublishFault}
 use Rattle.gx_repo.specs.declared.fault.PublishFault.TheVariants as faults
 use Rattle.gx_model.proofs.ChangedRefs.{fault_shown}

@@ -2,16 +2,16 @@
 use Rattle.std.proofs.Common.{◌≡◌, List, [], ◌∷◌, Option, Some, None, Result, Ok, Err, refl, sym, ap, subst, ◌∙◌}
 use Rattle.std.specs.Map.{lookup}
 use Rattle.std.specs.FinMap.Entries.{put}
-use Rattle.gx_model.specs.RefNames.{tag_ref}
+use Rattle.gx_model.specs.Texts.RefNames.{tag_ref}
 use Rattle.gx_model.specs.declared.faults.Fault.{Fault}
 use Rattle.gx_model.specs.declared.objects.Kind.{Kind}
 use Rattle.gx_model.specs.declared.objects.Kind.TheVariants as kinds
 use Rattle.gx_model.specs.Texts.{Bytes, same_bytes}
 use Rattle.gx_model.specs.Faults.{IsFaultOf, and_then}
-use Rattle.gx_model.specs.Values.{Commit, Tag, Value, blob_value, commit_value, tag_value, tree_value}
+use Rattle.gx_model.specs.Histories.Values.{Commit, Tag, Value, blob_value, commit_value, tag_value, tree_value}
 use Rattle.gx_model.specs.Records.{kind_of, name_of}
 use Rattle.gx_model.specs.Histories.{IsIn}
-use Rattle.gx_model.specs.Commands.{CommitIsh, Marked, Named, TagParts}
+use Rattle.gx_model.specs.Streams.Commands.{CommitIsh, Marked, Named, TagParts}
 use Rattle.gx_model.specs.Replay.{State, added, byte_cmp, commit_alone, committed, marked, or_branch, revision_value, step_tag}
 use Rattle.gx_object.specs.declared.name.Name.{Name}
 use Rattle.gx_import.specs.declared.object.Object.{Object}

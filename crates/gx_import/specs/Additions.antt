@@ -4,12 +4,12 @@ use Rattle.std.specs.Prelude.{◌≡◌, ◌⊎◌, ℕ, ◌+◌, List, [], ◌�
 use Rattle.gx_model.specs.declared.objects.Kind.{Kind}
 use Rattle.gx_model.specs.declared.faults.Fault.{Fault}
 use Rattle.gx_model.specs.Texts.{Bytes}
-use Rattle.gx_model.specs.Files.{FileMap}
-use Rattle.gx_model.specs.Values.{Commit, Tag, Value, blob_value, commit, commit_value, commits_of, tag_value, tree_value}
+use Rattle.gx_model.specs.Histories.Files.{FileMap}
+use Rattle.gx_model.specs.Histories.Values.{Commit, Tag, Value, blob_value, commit, commit_value, commits_of, tag_value, tree_value}
 use Rattle.gx_model.specs.Histories.{with_one}
-use Rattle.gx_model.specs.Growth.{all_trees, with_values}
-use Rattle.gx_model.specs.Commands as command
-use Rattle.gx_model.specs.Commands.{Asks, Blob, Change, Checkpoint, Command, CommitParts, DataRef, Done, Inline, Modify, OptionLine, Progress, Reset, TagParts}
+use Rattle.gx_model.specs.Records.Growth.{all_trees, with_values}
+use Rattle.gx_model.specs.Streams.Commands as command
+use Rattle.gx_model.specs.Streams.Commands.{Asks, Blob, Change, Checkpoint, Command, CommitParts, DataRef, Done, Inline, Modify, OptionLine, Progress, Reset, TagParts}
 use Rattle.gx_model.specs.Replay.{State, all_changed, all_committed, changed, commit_alone, committed, first_parent, starting_files, step, text_made, with_first_parent}
 
 -- the blob that a file's content adds

@@ -4,7 +4,7 @@ use Rattle.std.specs.Prelude.{◌≡◌, ◌⊎◌, ◌++◌, Option, Result, Ok
 use Rattle.gx_model.specs.declared.objects.Kind.{Kind}
 use Rattle.gx_model.specs.Texts.{Bytes}
 use Rattle.gx_model.specs.Histories.{Records}
-use Rattle.gx_model.specs.Commands.{Command, Progress}
+use Rattle.gx_model.specs.Streams.Commands.{Command, Progress}
 use Rattle.gx_model.specs.Replay.{State, step}
 use Rattle.gx_text.specs.Devices.{FailedWithin, Taken, Took}
 use Rattle.gx_import.specs.Additions.{Clash, values_added}

@@ -8,19 +8,19 @@ use Rattle.gx_model.specs.declared.objects.Kind.{Kind}
 use Rattle.gx_model.specs.declared.objects.Mode.{Mode}
 use Rattle.gx_model.specs.Texts.{Bytes, same_bytes}
 use Rattle.gx_model.specs.Faults.{and_then}
-use Rattle.gx_model.specs.Files.{FileMap}
-use Rattle.gx_model.specs.Values.{Commit, Value, commit, commit_value, commits_of, tag_value}
+use Rattle.gx_model.specs.Histories.Files.{FileMap}
+use Rattle.gx_model.specs.Histories.Values.{Commit, Value, commit, commit_value, commits_of, tag_value}
 use Rattle.gx_model.specs.Records.{name_of, named_map, parts_of_commit}
 use Rattle.gx_model.specs.Histories.{Record, Records}
-use Rattle.gx_model.specs.HistoryOf.{history_of, target_in, value_of_name}
-use Rattle.gx_model.specs.Denotation as denoted
-use Rattle.gx_model.specs.Denotation.{value_denoted}
-use Rattle.gx_model.specs.NameMaps.{AreFiles}
+use Rattle.gx_model.specs.Records.HistoryOf.{history_of, target_in, value_of_name}
+use Rattle.gx_model.specs.Revisions.Denotation as denoted
+use Rattle.gx_model.specs.Revisions.Denotation.{value_denoted}
+use Rattle.gx_model.specs.Objects.NameMaps.{AreFiles}
 use Rattle.gx_model.specs.declared.features.Feature.{Feature}
-use Rattle.gx_model.specs.Commands as model
-use Rattle.gx_model.specs.Commands.{Asks, Command, CommitParts, DataRef}
+use Rattle.gx_model.specs.Streams.Commands as model
+use Rattle.gx_model.specs.Streams.Commands.{Asks, Command, CommitParts, DataRef}
 use Rattle.gx_model.specs.Revisions.{revision_of}
-use Rattle.gx_model.specs.RepositoryLaws.{values_of}
+use Rattle.gx_model.specs.Laws.RepositoryLaws.{values_of}
 use Rattle.gx_model.specs.Replay as replay
 use Rattle.gx_model.specs.Replay.{State, added, all_changed, all_committed, changed, content, first_parent, own_commit, starting_files, step, step_reset, text_made, with_first_parent}
 use Rattle.gx_text.specs.Devices.{Taken}

@@ -5,11 +5,11 @@ use Rattle.std.specs.List.{AllByRecursion}
 use Rattle.gx_model.specs.declared.objects.Kind.{Kind}
 use Rattle.gx_model.specs.Texts.{Bytes}
 use Rattle.gx_model.specs.Histories.{IsHistory, Records}
-use Rattle.gx_model.specs.HistoryOf.{history_of}
-use Rattle.gx_model.specs.Sound.{AnyByRecursion, IsSound}
+use Rattle.gx_model.specs.Records.HistoryOf.{history_of}
+use Rattle.gx_model.specs.Records.Sound.{AnyByRecursion, IsSound}
 use Rattle.gx_model.specs.Export.{export_text}
-use Rattle.gx_model.specs.ExportLaws.{HasNoNullGitlink, IsAgain}
-use Rattle.gx_model.specs.Gitlinks.{HoldsNoNullGitlink}
+use Rattle.gx_model.specs.Laws.ExportLaws.{HasNoNullGitlink, IsAgain}
+use Rattle.gx_model.specs.Streams.Gitlinks.{HoldsNoNullGitlink}
 use Rattle.gx_text.specs.Devices.{Coming}
 use Rattle.gx_stream.specs.Heard.{heard}
 use Rattle.gx_import.specs.Repositories.{Repository}

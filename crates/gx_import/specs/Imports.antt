@@ -5,9 +5,9 @@ use Rattle.gx_model.specs.declared.objects.Kind.{Kind}
 use Rattle.gx_model.specs.declared.faults.Fault.TheVariants as model_fault
 use Rattle.gx_model.specs.Texts.{Bytes}
 use Rattle.gx_model.specs.Histories.{Records, StandsFor}
-use Rattle.gx_model.specs.HistoryOf.{history_of}
-use Rattle.gx_model.specs.Sound.{IsSound}
-use Rattle.gx_model.specs.Commands.{Command, Commands, Progress}
+use Rattle.gx_model.specs.Records.HistoryOf.{history_of}
+use Rattle.gx_model.specs.Records.Sound.{IsSound}
+use Rattle.gx_model.specs.Streams.Commands.{Command, Commands, Progress}
 use Rattle.gx_model.specs.Replay as model
 use Rattle.gx_model.specs.Replay.{Kept, Outcome, finished, refused, imported, replayed_commands, start}
 use Rattle.gx_text.specs.Devices.{Coming, FailedWithin, Taken, Took, TookFront}

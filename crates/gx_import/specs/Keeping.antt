@@ -5,10 +5,10 @@ use Rattle.std.specs.List.{AllByRecursion}
 use Rattle.gx_model.specs.declared.objects.Kind.{Kind}
 use Rattle.gx_model.specs.Texts.{Bytes}
 use Rattle.gx_model.specs.Histories.{Records}
-use Rattle.gx_model.specs.Commands.{Command}
-use Rattle.gx_model.specs.Publishing.{Change, Ref, with_changes}
+use Rattle.gx_model.specs.Streams.Commands.{Command}
+use Rattle.gx_model.specs.Records.Publishing.{Change, Ref, with_changes}
 use Rattle.gx_model.specs.Replay.{State, overwritten, step}
-use Rattle.gx_model.specs.Sound.{IsTarget}
+use Rattle.gx_model.specs.Records.Sound.{IsTarget}
 use Rattle.gx_object.specs.declared.name.Name.{Name}
 use Rattle.gx_command.specs.Views.{shown_command}
 use Rattle.gx_command.specs.declared.commands.Command.{Command as GivenCommand}

@@ -5,14 +5,14 @@ use Rattle.std.specs.Option.{option_map}
 use Rattle.gx_model.specs.declared.objects.Kind.{Kind}
 use Rattle.gx_model.specs.declared.objects.Kind.TheVariants as kind
 use Rattle.gx_model.specs.Texts.{Bytes}
-use Rattle.gx_model.specs.Files.{FileMap}
-use Rattle.gx_model.specs.Values.{Commit, Tag, Value, blob_value, commit_value, tag_value, tree_value}
+use Rattle.gx_model.specs.Histories.Files.{FileMap}
+use Rattle.gx_model.specs.Histories.Values.{Commit, Tag, Value, blob_value, commit_value, tag_value, tree_value}
 use Rattle.gx_model.specs.Records.{kind_of, name_of}
 use Rattle.gx_model.specs.Histories.{IsIn, Records}
 use Rattle.gx_model.specs.Objects.{CommitParts, TagParts}
-use Rattle.gx_model.specs.Sound.{Holds}
+use Rattle.gx_model.specs.Records.Sound.{Holds}
 use Rattle.gx_model.specs.Replay.{text_made}
-use Rattle.gx_model.specs.Growth.{same_kind}
+use Rattle.gx_model.specs.Records.Growth.{same_kind}
 use Rattle.gx_object.specs.declared.name.Name.{Name}
 use Rattle.gx_command.specs.Views.{commit_parts}
 use Rattle.gx_command.specs.declared.commands.Commit.{Commit as CommitCommand}

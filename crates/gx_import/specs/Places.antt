@@ -1,10 +1,10 @@
 -- Places of commits, and what the commits at some places reach.
 use Rattle.std.specs.Prelude.{◌<◌, ◌⊎◌, ◌↔◌, ℕ, Bool, IsTrue, List, Result, IfOk}
-use Rattle.gx_model.specs.Values.{Commit, Commits, parents_of}
+use Rattle.gx_model.specs.Histories.Values.{Commit, Commits, parents_of}
 use Rattle.gx_model.specs.Histories.{Records}
-use Rattle.gx_model.specs.Marks.{IsAt}
-use Rattle.gx_model.specs.Ranges.{reaches, some_reaches}
-use Rattle.gx_model.specs.Sound.{AnyByRecursion}
+use Rattle.gx_model.specs.Histories.Marks.{IsAt}
+use Rattle.gx_model.specs.Revisions.Ranges.{reaches, some_reaches}
+use Rattle.gx_model.specs.Records.Sound.{AnyByRecursion}
 use Rattle.gx_object.specs.declared.name.Name.{Name}
 use Rattle.gx_rev.specs.Objects.{commit_at}
 

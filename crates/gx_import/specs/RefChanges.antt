@@ -7,9 +7,9 @@ use Rattle.std.specs.Option.{option_map}
 use Rattle.std.specs.declared.vec.Vec.{Vec}
 use Rattle.gx_model.specs.Texts.{Bytes, same_bytes}
 use Rattle.gx_model.specs.Histories.{Records}
-use Rattle.gx_model.specs.Sound.{IsTarget}
+use Rattle.gx_model.specs.Records.Sound.{IsTarget}
 use Rattle.gx_object.specs.declared.name.Name.{Name}
-use Rattle.gx_model.specs.Publishing.{Change, Ref}
+use Rattle.gx_model.specs.Records.Publishing.{Change, Ref}
 use Rattle.gx_repo.specs.Refs.{asked}
 use Rattle.gx_repo.specs.declared.publishing.RefChange.{RefChange}
 use Rattle.gx_import.specs.Rows.{rows_of}

@@ -4,13 +4,13 @@ use Rattle.std.specs.Prelude.{◌≡◌, ℕ, ◌+◌, List, length, Option, Som
 use Rattle.gx_model.specs.declared.objects.Kind.{Kind}
 use Rattle.gx_model.specs.Texts.{Bytes}
 use Rattle.gx_model.specs.Histories.{Records}
-use Rattle.gx_model.specs.HistoryOf.{history_of}
-use Rattle.gx_model.specs.Commands as model
-use Rattle.gx_model.specs.Commands.{Commands}
+use Rattle.gx_model.specs.Records.HistoryOf.{history_of}
+use Rattle.gx_model.specs.Streams.Commands as model
+use Rattle.gx_model.specs.Streams.Commands.{Commands}
 use Rattle.gx_model.specs.Replay.{State, ended, refused, replayed_commands}
 use Rattle.gx_text.specs.Devices.{Coming, FailedWithin, Taken, Took}
 use Rattle.gx_command.specs.Reading.{Falls, Reads, commands_from}
-use Rattle.gx_model.specs.Gitlinks.{BringsNoNullGitlink}
+use Rattle.gx_model.specs.Streams.Gitlinks.{BringsNoNullGitlink}
 use Rattle.gx_command.specs.Views.{shown_command}
 use Rattle.gx_command.specs.declared.commands.Command.{Command}
 use Rattle.gx_command.specs.declared.fault.CommandFault.{CommandFault}

@@ -4,12 +4,12 @@ use Rattle.std.specs.Map.{lookup}
 use Rattle.gx_model.specs.declared.objects.Kind.{Kind}
 use Rattle.gx_model.specs.declared.faults.Fault.TheVariants.{UnknownObject}
 use Rattle.gx_model.specs.Histories.{Records}
-use Rattle.gx_model.specs.HistoryOf.{value_of_name}
-use Rattle.gx_model.specs.Growth.{record_named}
+use Rattle.gx_model.specs.Records.HistoryOf.{value_of_name}
+use Rattle.gx_model.specs.Records.Growth.{record_named}
 use Rattle.gx_model.specs.Faults.{Given, and_then}
 use Rattle.gx_model.specs.Texts.{Bytes, same_bytes}
-use Rattle.gx_model.specs.Values.{Commit, Value, commit_value}
-use Rattle.gx_model.specs.Commands.{CommitIsh, Marked, Named}
+use Rattle.gx_model.specs.Histories.Values.{Commit, Value, commit_value}
+use Rattle.gx_model.specs.Streams.Commands.{CommitIsh, Marked, Named}
 use Rattle.gx_model.specs.Replay.{State, at, blob_bytes, branch_commit, committed_for, revision_value}
 
 -- what a branch of this name gives, and otherwise a revision

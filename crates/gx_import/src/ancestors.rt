@@ -3,8 +3,8 @@
 ghost use Rattle.std.specs.Prelude.{◌≡◌, IfOk, IsTrue, OnOk};
 ghost use Rattle.std.specs.List.{AllByRecursion};
 ghost use Rattle.gx_model.specs.declared.objects.Kind.TheVariants as kinds;
-ghost use Rattle.gx_model.specs.Marks.{IsAt};
-ghost use Rattle.gx_model.specs.Sound.{Holds};
+ghost use Rattle.gx_model.specs.Histories.Marks.{IsAt};
+ghost use Rattle.gx_model.specs.Records.Sound.{Holds};
 ghost use Rattle.gx_rev.specs.Objects.{IsHeldAs, commit_at};
 ghost use Rattle.gx_import.specs.Places.{AddsParentsAt, IsCommitBefore, IsCommitPlace, TellsReached, reaches_at};
 

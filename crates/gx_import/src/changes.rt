@@ -3,7 +3,7 @@
 ghost use Rattle.std.specs.Prelude.{◌≡◌, ◌≢◌, IfOk, IsTrue};
 ghost use Rattle.gx_model.specs.declared.objects.Mode.TheVariants as modes;
 ghost use Rattle.gx_command.specs.DataRefs.{is_suited};
-ghost use Rattle.gx_model.specs.Commands as model;
+ghost use Rattle.gx_model.specs.Streams.Commands as model;
 ghost use Rattle.gx_import.specs.Standing.{Extends, StayAtHome};
 ghost use Rattle.gx_import.specs.Calls.{AddsContent, Changes, ChangesAll, GivesBlob, Modifies, NamesContent};
 

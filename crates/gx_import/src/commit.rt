@@ -3,7 +3,7 @@
 ghost use Rattle.std.specs.Prelude.{◌≡◌, [], IfOk};
 ghost use Rattle.std.specs.List.{cons_option};
 ghost use Rattle.gx_model.specs.declared.objects.Kind.TheVariants as kinds;
-ghost use Rattle.gx_model.specs.Sound.{Holds, IsNamedMap};
+ghost use Rattle.gx_model.specs.Records.Sound.{Holds, IsNamedMap};
 ghost use Rattle.gx_text.specs.Idents.{ident_bytes};
 ghost use Rattle.gx_object.specs.Parts.{commit_parts as shown_parts};
 ghost use Rattle.gx_command.specs.Views.{shown_commit};

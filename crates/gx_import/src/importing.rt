@@ -6,7 +6,7 @@ ghost use Rattle.gx_import.specs.Imports.{ImportsStream, StandsReplayed};
 ghost use Rattle.gx_import.specs.Keeping.{AreNone, IsLeft};
 ghost use Rattle.gx_import.specs.Replaying.{LeavesImport, left_by};
 ghost use Rattle.gx_import.specs.Standing.{Extends};
-ghost use Rattle.gx_model.specs.Sound.{IsSound};
+ghost use Rattle.gx_model.specs.Records.Sound.{IsSound};
 
 use crate::checkpoints::Checkpoints;
 use crate::publishing::publish;

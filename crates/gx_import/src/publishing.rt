@@ -2,7 +2,7 @@
 
 ghost use Rattle.std.specs.Prelude.{◌≡◌, [], ◌∷◌, map, is_some, Some, None, IfErr, IfSome, OnOk, OnErr};
 ghost use Rattle.std.specs.Option.{option_map};
-ghost use Rattle.gx_model.specs.Publishing.{changes_fault, with_changes};
+ghost use Rattle.gx_model.specs.Records.Publishing.{changes_fault, with_changes};
 ghost use Rattle.gx_repo.specs.Refs.{asked};
 ghost use Rattle.gx_import.specs.Calls.{IsCommitIfAny, TellsForward, TellsMovable};
 ghost use Rattle.gx_import.specs.Keeping.{AreMoved, EntersInEach, EntersNames, HasAll};

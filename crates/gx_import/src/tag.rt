@@ -2,8 +2,8 @@
 
 ghost use Rattle.std.specs.Prelude.{◌≡◌, IfOk};
 ghost use Rattle.gx_model.specs.declared.objects.Kind.TheVariants as kinds;
-ghost use Rattle.gx_model.specs.RefNames.{tag_ref};
-ghost use Rattle.gx_model.specs.Sound.{Holds};
+ghost use Rattle.gx_model.specs.Texts.RefNames.{tag_ref};
+ghost use Rattle.gx_model.specs.Records.Sound.{Holds};
 ghost use Rattle.gx_object.specs.Parts.{tag_parts as shown_parts};
 ghost use Rattle.gx_command.specs.Views.{shown_tag};
 ghost use Rattle.gx_import.specs.Objects.{tag_object};

@@ -4,11 +4,11 @@ use Rattle.std.specs.Prelude.{T, ◌||◌, is_none, ◌⊎◌}
 use Rattle.std.specs.List.{filter, cons_option, fold, AllByRecursion}
 use Rattle.std.specs.Bool.{passes}
 use Rattle.gx_model.specs.Texts.{Bytes}
-use Rattle.gx_model.specs.Paths.{Path, begins, is_file_path}
-use Rattle.gx_model.specs.Files.{FileMap, Leaf, file_at, sub_map, first_components, depth, is_file_map, are_file_paths}
-use Rattle.gx_model.specs.Values.{Value, blob_value, tree_value, commit_value, tag_value, files_of, parents_of, list_of, parts, blobs_of, blob_of, sub_maps, is_content, is_proper, same_value}
+use Rattle.gx_model.specs.Texts.Paths.{Path, begins, is_file_path}
+use Rattle.gx_model.specs.Histories.Files.{FileMap, Leaf, file_at, sub_map, first_components, depth, is_file_map, are_file_paths}
+use Rattle.gx_model.specs.Histories.Values.{Value, blob_value, tree_value, commit_value, tag_value, files_of, parents_of, list_of, parts, blobs_of, blob_of, sub_maps, is_content, is_proper, same_value}
 use Rattle.gx_model.specs.Histories.{IsClosedAfter, IsIn, IsWhole, Reaches, is_in, itself, through, with_one, with_tree, with_tree_to, with_value}
-use Rattle.gx_model.specs.HistoryLaws.{IsAdded, needs}
+use Rattle.gx_model.specs.Laws.HistoryLaws.{IsAdded, needs}
 use Rattle.gx_model.proofs.PathTests.{both, first, is_true, all_append}
 use Rattle.gx_model.proofs.SameValues.{value_is}
 use Rattle.gx_model.proofs.TreeBodies.{depth_sub}

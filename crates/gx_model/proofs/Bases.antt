@@ -11,18 +11,18 @@ use Rattle.std.proofs.lemmas.List.{length-map, take_all}
 use Rattle.gx_model.specs.declared.faults.Fault.TheVariants as fault
 use Rattle.gx_model.specs.declared.objects.Kind.{Kind}
 use Rattle.gx_model.specs.Texts.{Bytes, same_bytes}
-use Rattle.gx_model.specs.Values.{Value, is_hex_digit}
+use Rattle.gx_model.specs.Histories.Values.{Value, is_hex_digit}
 use Rattle.gx_model.specs.Objects.{IsNamer, hex, unhex}
-use Rattle.gx_model.specs.Naming.{name_in}
+use Rattle.gx_model.specs.Objects.Naming.{name_in}
 use Rattle.gx_model.proofs.BodiesReadBack.{unhex_hex}
 use Rattle.gx_model.proofs.NameDigits.{hex_long, hex_unhex}
 use Rattle.gx_model.specs.Records.{body_of, kind_of, name_of}
 use Rattle.gx_model.specs.Histories.{IsIn, Record, Records, Target, object_of, value_at}
-use Rattle.gx_model.specs.HistoryOf.{history_of, target_in, value_of_name}
-use Rattle.gx_model.specs.Growth.{record_named}
-use Rattle.gx_model.specs.Sound.{IsSound}
-use Rattle.gx_model.specs.Lookups.{first_named, or_else}
-use Rattle.gx_model.specs.Denotation.{base_value, begins_with_digits, begun_by, find_ref, first_ref, full_name, is_any_digit, lower, or_ref, ref_at, ref_names, the_one}
+use Rattle.gx_model.specs.Records.HistoryOf.{history_of, target_in, value_of_name}
+use Rattle.gx_model.specs.Records.Growth.{record_named}
+use Rattle.gx_model.specs.Records.Sound.{IsSound}
+use Rattle.gx_model.specs.Records.Lookups.{first_named, or_else}
+use Rattle.gx_model.specs.Revisions.Denotation.{base_value, begins_with_digits, begun_by, find_ref, first_ref, full_name, is_any_digit, lower, or_ref, ref_at, ref_names, the_one}
 use Rattle.gx_model.proofs.PathTests.{is_same, is_true, same_is}
 use Rattle.gx_model.proofs.HistoriesExist.{stands}
 use Rattle.gx_model.proofs.FoundRecords.{first_found}

@@ -7,11 +7,11 @@ use Rattle.std.proofs.lemmas.Bool.Decides.{nat_tests}
 use Rattle.gx_model.specs.declared.objects.Mode.{Mode}
 use Rattle.gx_model.specs.declared.objects.Mode.TheVariants.{File, Exec, Link, Gitlink, Dir}
 use Rattle.gx_model.specs.Texts.{Bytes}
-use Rattle.gx_model.specs.Paths.{is_component}
-use Rattle.gx_model.specs.Values.{CommitText, is_optional_line, is_proper_text}
+use Rattle.gx_model.specs.Texts.Paths.{is_component}
+use Rattle.gx_model.specs.Histories.Values.{CommitText, is_optional_line, is_proper_text}
 use Rattle.gx_model.specs.Texts.{is_line}
 use Rattle.gx_model.specs.Objects.{Entry, tree_text, entry_text, mode_text, hex, hex_digit, digit_value, unhex, line, optional_line, text_lines, CommitParts, commit_text, TagParts, tag_text, is_name, is_canonical, IsTreeText, IsCommitText, IsTagText}
-use Rattle.gx_model.specs.HistoryOf.{sides_at, mode_in, entry_in, after_entry, entries_in_to, entries_in, field, parents_in_to, optional_in, text_in, commit_parts_in, tag_parts_in}
+use Rattle.gx_model.specs.Records.HistoryOf.{sides_at, mode_in, entry_in, after_entry, entries_in_to, entries_in, field, parents_in_to, optional_in, text_in, commit_parts_in, tag_parts_in}
 use Rattle.gx_model.proofs.PathTests.{component_free, first, is_true, second}
 use Rattle.gx_model.proofs.EntryTexts.{is_free, AreNamed, entry_flat, mode_free, starts_some}
 use Rattle.gx_model.proofs.OneHistory.{line_flat, text_flat, hex_line}

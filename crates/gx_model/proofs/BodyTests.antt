@@ -6,12 +6,12 @@ use Rattle.std.specs.Bool.{passes}
 use Rattle.gx_model.specs.declared.objects.Kind.{Kind}
 use Rattle.gx_model.specs.declared.objects.Kind.TheVariants as kind
 use Rattle.gx_model.specs.Texts.{Bytes, same_bytes}
-use Rattle.gx_model.specs.RefNames.{is_tag_name}
-use Rattle.gx_model.specs.Values.{is_optional_ident, is_proper_text}
+use Rattle.gx_model.specs.Texts.RefNames.{is_tag_name}
+use Rattle.gx_model.specs.Histories.Values.{is_optional_ident, is_proper_text}
 use Rattle.gx_model.specs.Objects.{CommitParts, Entry, IsCommitText, IsTagText, IsTreeText, TagParts, commit_text, is_canonical, is_name, tag_text, tree_text}
-use Rattle.gx_model.specs.HistoryOf.{commit_parts_in, entries_in, tag_parts_in}
-use Rattle.gx_model.specs.RecordFaults.{is_body, is_commit_body, is_tag_body, is_tree_body}
-use Rattle.gx_model.specs.StoreLaws.{IsBody}
+use Rattle.gx_model.specs.Records.HistoryOf.{commit_parts_in, entries_in, tag_parts_in}
+use Rattle.gx_model.specs.Records.RecordFaults.{is_body, is_commit_body, is_tag_body, is_tree_body}
+use Rattle.gx_model.specs.Laws.StoreLaws.{IsBody}
 use Rattle.gx_model.proofs.PathTests.{both, first, is_same, is_true, same_is, second}
 use Rattle.gx_model.proofs.BodiesReadBack.{commit_read, entries_read, tag_read}
 

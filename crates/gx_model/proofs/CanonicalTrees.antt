@@ -8,9 +8,9 @@ use Rattle.gx_model.specs.declared.objects.Kind.{Kind}
 use Rattle.gx_model.specs.declared.objects.Mode.{Mode}
 use Rattle.gx_model.specs.declared.objects.Mode.TheVariants.{File, Exec, Link, Gitlink, Dir}
 use Rattle.gx_model.specs.Texts.{Bytes, same_bytes}
-use Rattle.gx_model.specs.Files.{FileMap, Leaf, first_components, file_at, sub_map, is_file_map}
-use Rattle.gx_model.specs.Paths.{is_component}
-use Rattle.gx_model.specs.Values.{is_content, is_leaf}
+use Rattle.gx_model.specs.Histories.Files.{FileMap, Leaf, first_components, file_at, sub_map, is_file_map}
+use Rattle.gx_model.specs.Texts.Paths.{is_component}
+use Rattle.gx_model.specs.Histories.Values.{is_content, is_leaf}
 use Rattle.gx_model.specs.Objects.{IsNamer, entry_key, is_dir, is_canonical, are_different}
 use Rattle.gx_model.specs.Records.{node, entry, entries, named_map, tree_name}
 use Rattle.gx_model.proofs.PathTests.{both, first, second, is_true}

@@ -9,16 +9,16 @@ use Rattle.gx_model.specs.declared.faults.Fault.{Fault}
 use Rattle.gx_model.specs.declared.faults.Fault.TheVariants.{BadRefName, UnknownObject, WrongKind}
 use Rattle.gx_model.specs.declared.objects.Kind.{Kind}
 use Rattle.gx_model.specs.Texts.{Bytes}
-use Rattle.gx_model.specs.RefNames.{is_ref_name}
+use Rattle.gx_model.specs.Texts.RefNames.{is_ref_name}
 use Rattle.gx_model.specs.Objects.{IsNamer}
 use Rattle.gx_model.specs.Histories.{Record, Records}
-use Rattle.gx_model.specs.Sound.{IsSound, IsTarget}
-use Rattle.gx_model.specs.Growth.{record_named}
+use Rattle.gx_model.specs.Records.Sound.{IsSound, IsTarget}
+use Rattle.gx_model.specs.Records.Growth.{record_named}
 use Rattle.gx_model.specs.Replay.{byte_cmp}
-use Rattle.gx_model.specs.RepositoryLaws.{PartsChange, values_of, with_refs}
-use Rattle.gx_model.specs.StoreReading.{is_target, is_target_of_kind}
+use Rattle.gx_model.specs.Laws.RepositoryLaws.{PartsChange, values_of, with_refs}
+use Rattle.gx_model.specs.Stores.StoreReading.{is_target, is_target_of_kind}
 use Rattle.gx_model.proofs.PathTests.{both, first, second, is_true}
-use Rattle.gx_model.specs.Publishing.{Change, Ref, change_fault, changes_fault, first_fault, published, unless, with_changes}
+use Rattle.gx_model.specs.Records.Publishing.{Change, Ref, change_fault, changes_fault, first_fault, published, unless, with_changes}
 use Rattle.gx_model.proofs.HeldObjects.{IsShown, is_target_of}
 use Rattle.gx_model.proofs.SortedRefs.{order, same_text}
 

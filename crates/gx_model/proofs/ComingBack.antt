@@ -1,6 +1,6 @@
 -- What a text gives from nothing comes back from its export.
-use Rattle.gx_model.specs.ExportLaws.{nothing}
-use Rattle.gx_model.specs.Gitlinks.{TextsComeBack}
+use Rattle.gx_model.specs.Laws.ExportLaws.{nothing}
+use Rattle.gx_model.specs.Streams.Gitlinks.{TextsComeBack}
 use Rattle.gx_model.proofs.GitlinkSteps.{none_from_text, none_reached}
 use Rattle.gx_model.proofs.HistorySteps.{nothing_is, texts_give}
 use Rattle.gx_model.proofs.ReadableExports.{formed_readable}

@@ -9,12 +9,12 @@ use Rattle.std.proofs.lemmas.Bool.{false≢true, false_from_ne_true, leb-true}
 use Rattle.std.proofs.lemmas.Bool.Decides.{nat_tests}
 use Rattle.std.proofs.lemmas.Slice.Eq.{bytes_eq-Decides}
 use Rattle.gx_model.specs.Texts.{Bytes, lacks}
-use Rattle.gx_model.specs.Paths.{Path, is_component, path_text, printed}
-use Rattle.gx_model.specs.Values.{is_name_text, is_hex_digit}
-use Rattle.gx_model.specs.Commands.{Marked}
-use Rattle.gx_model.specs.Grammar as read
-use Rattle.gx_model.specs.Grammar.{mark_of, of_mark, mark_number, commit_ish_of, commit_ish_by, last_path, is_name, AtMark, AtName, where_of, where_by}
-use Rattle.gx_model.specs.ExportLaws.{IsMark, IsLink, IsPath}
+use Rattle.gx_model.specs.Texts.Paths.{Path, is_component, path_text, printed}
+use Rattle.gx_model.specs.Histories.Values.{is_name_text, is_hex_digit}
+use Rattle.gx_model.specs.Streams.Commands.{Marked}
+use Rattle.gx_model.specs.Streams.Grammar as read
+use Rattle.gx_model.specs.Streams.Grammar.{mark_of, of_mark, mark_number, commit_ish_of, commit_ish_by, last_path, is_name, AtMark, AtName, where_of, where_by}
+use Rattle.gx_model.specs.Laws.ExportLaws.{IsMark, IsLink, IsPath}
 use Rattle.gx_model.proofs.Idents.{and_one, and_two}
 use Rattle.gx_model.proofs.Decimals.{decimal_digits, decimal_read}
 use Rattle.gx_model.proofs.PathTexts.{path_again}

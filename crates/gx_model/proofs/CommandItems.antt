@@ -12,18 +12,18 @@ use Rattle.gx_model.specs.declared.objects.Mode.{Mode}
 use Rattle.gx_model.specs.declared.objects.Mode.TheVariants.{File, Exec, Link, Gitlink, Dir}
 use Rattle.gx_model.specs.declared.features.Feature.TheVariants as features
 use Rattle.gx_model.specs.Texts.{Bytes, cut_at, lacks}
-use Rattle.gx_model.specs.RefNames.{is_ref_name, is_tag_name}
-use Rattle.gx_model.specs.Idents.{is_ident}
+use Rattle.gx_model.specs.Texts.RefNames.{is_ref_name, is_tag_name}
+use Rattle.gx_model.specs.Texts.Idents.{is_ident}
 use Rattle.gx_model.specs.Faults.{Given, ◌>>=◌}
-use Rattle.gx_model.specs.Paths.{Path, path_text, printed}
-use Rattle.gx_model.specs.Items.{Item, Line, Data, Finished, Stream}
-use Rattle.gx_model.specs.Commands.{CommitIsh, Marked, Named, DataRef, Mark, Object, Inline, Change, Modify, Remove, Copy, Rename, Clear, Command}
-use Rattle.gx_model.specs.Commands as command
-use Rattle.gx_model.specs.Grammar.{words_of, words_by, is_word, rest_line_in, optional, block_in, commit_ish_of, modify_at, change_at, changes_within, merges_within, item_after_in, unsigned_in, blob_at, commit_at, links_at, read_some, ident_of, encoding_of, ref_of, tag_of, item_after, tag_at, reset_at, command_at, commands_within, commands_of, is_option, is_done, with_first}
-use Rattle.gx_model.specs.Values.{is_optional_encoding, is_optional_ident}
+use Rattle.gx_model.specs.Texts.Paths.{Path, path_text, printed}
+use Rattle.gx_model.specs.Streams.Items.{Item, Line, Data, Finished, Stream}
+use Rattle.gx_model.specs.Streams.Commands.{CommitIsh, Marked, Named, DataRef, Mark, Object, Inline, Change, Modify, Remove, Copy, Rename, Clear, Command}
+use Rattle.gx_model.specs.Streams.Commands as command
+use Rattle.gx_model.specs.Streams.Grammar.{words_of, words_by, is_word, rest_line_in, optional, block_in, commit_ish_of, modify_at, change_at, changes_within, merges_within, item_after_in, unsigned_in, blob_at, commit_at, links_at, read_some, ident_of, encoding_of, ref_of, tag_of, item_after, tag_at, reset_at, command_at, commands_within, commands_of, is_option, is_done, with_first}
+use Rattle.gx_model.specs.Histories.Values.{is_optional_encoding, is_optional_ident}
 use Rattle.gx_model.specs.Replay.{or_else}
 use Rattle.gx_model.specs.Export.{mode_digits, dataref_text, dataref_block, reset_items, commit_ish_text, change_items, command_items, from_line, optional_line}
-use Rattle.gx_model.specs.ExportLaws.{IsMark, IsLink, IsPath, IsDataRef, IsNamedByMark, IsNamedByMarkIf, IsSpelledChange, IsSpelled, HasMark, between}
+use Rattle.gx_model.specs.Laws.ExportLaws.{IsMark, IsLink, IsPath, IsDataRef, IsNamedByMark, IsNamedByMarkIf, IsSpelledChange, IsSpelled, HasMark, between}
 use Rattle.gx_model.proofs.Cuts.{cut_after}
 use Rattle.gx_model.proofs.CommandFields.{mark_read, commit_ish_read, where_mark, where_link, mark_no_space, link_no_space, path_read}
 

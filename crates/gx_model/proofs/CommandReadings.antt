@@ -6,12 +6,12 @@ use Rattle.gx_model.specs.declared.faults.Fault.TheVariants as faults
 use Rattle.gx_model.specs.declared.features.Feature.{Feature}
 use Rattle.gx_model.specs.Texts.{Bytes, cut_at}
 use Rattle.gx_model.specs.Faults.{Given}
-use Rattle.gx_model.specs.Items.{Item, Line, Data, End, Finished, Failed, Stream}
-use Rattle.gx_model.specs.Commands as command
-use Rattle.gx_model.specs.Commands.{CommitIsh, Change, Command, Commands}
-use Rattle.gx_model.specs.Grammar.{words_of, mark_of, any_text, ident_of, encoding_of, commit_ish_of, optional, needed, blob_at, links_at, commit_at, tag_at, reset_at, command_at, commands_within, commands_of, is_option, asks_done, is_done, stops, with_first}
-use Rattle.gx_model.specs.LineShapes.{line_of, IsOfNone, IsOfOne, IsRefText, IsTagText, IsFeatureText, IsIdentText, IsEncodingText, IsAnyText, IsMarkText, IsCommitIshText}
-use Rattle.gx_model.specs.CommandShapes.{words_of_text, words_alone, unsupported_words, Taken, Optional, Needed, both, first_fault, second_fault, IsChange, mark_line, oid_line, blob_lines, commit_links, commit_lines, tag_lines, reset_lines, AreOptions, IsCommand, BlobLines, CommitLinks, CommitLines, TagLines, ResetLines, blob_command, commit_command, tag_command, reset_command, made, refused, of_text, text_fault, blob, commit, commit_of_bad_ref, tag, tag_of_bad_name, reset, reset_of_bad_ref, checkpoint, progress, feature, late_feature, option, late_option, done, command_without_text, command_of_text, unsupported, unknown_line, unknown_block, AskDone, AreCommands, skipped, taken, at_done, at_fault, at_end, at_missing_done, at_failure}
+use Rattle.gx_model.specs.Streams.Items.{Item, Line, Data, End, Finished, Failed, Stream}
+use Rattle.gx_model.specs.Streams.Commands as command
+use Rattle.gx_model.specs.Streams.Commands.{CommitIsh, Change, Command, Commands}
+use Rattle.gx_model.specs.Streams.Grammar.{words_of, mark_of, any_text, ident_of, encoding_of, commit_ish_of, optional, needed, blob_at, links_at, commit_at, tag_at, reset_at, command_at, commands_within, commands_of, is_option, asks_done, is_done, stops, with_first}
+use Rattle.gx_model.specs.Streams.LineShapes.{line_of, IsOfNone, IsOfOne, IsRefText, IsTagText, IsFeatureText, IsIdentText, IsEncodingText, IsAnyText, IsMarkText, IsCommitIshText}
+use Rattle.gx_model.specs.Streams.CommandShapes.{words_of_text, words_alone, unsupported_words, Taken, Optional, Needed, both, first_fault, second_fault, IsChange, mark_line, oid_line, blob_lines, commit_links, commit_lines, tag_lines, reset_lines, AreOptions, IsCommand, BlobLines, CommitLinks, CommitLines, TagLines, ResetLines, blob_command, commit_command, tag_command, reset_command, made, refused, of_text, text_fault, blob, commit, commit_of_bad_ref, tag, tag_of_bad_name, reset, reset_of_bad_ref, checkpoint, progress, feature, late_feature, option, late_option, done, command_without_text, command_of_text, unsupported, unknown_line, unknown_block, AskDone, AreCommands, skipped, taken, at_done, at_fault, at_end, at_missing_done, at_failure}
 use Rattle.gx_model.proofs.Readings.{refuted}
 use Rattle.gx_model.proofs.WordShapes.{other_word, tested, which_word, blank_is_none, blank_is_of_none, blank_has_no_text}
 use Rattle.gx_model.proofs.TextShapes.{ident_shape, ident_there, ref_shape, ref_there, tag_shape, tag_there, encoding_shape, encoding_there, any_shape, any_there, mark_shape, mark_there, commit_ish_shape, commit_ish_there, feature_shape, feature_there}

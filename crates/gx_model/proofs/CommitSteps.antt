@@ -8,17 +8,17 @@ use Rattle.std.specs.Map.{lookup}
 use Rattle.std.specs.Ordering.{ordering_reverse, is_lt}
 use Rattle.std.specs.Prelude.{IsTrue, T}
 use Rattle.std.specs.declared.cmp.Ordering.TheVariants.{Greater}
-use Rattle.gx_model.specs.Commands.{Command}
-use Rattle.gx_model.specs.Edits.{modified}
+use Rattle.gx_model.specs.Streams.Commands.{Command}
+use Rattle.gx_model.specs.Histories.Edits.{modified}
 use Rattle.gx_model.specs.Export.{blob_commands, carrier, commit_command, content_in, contents, dataref_in, file_change, marked_in, number_in, one_commit, root_reset, with_blobs, with_commit}
-use Rattle.gx_model.specs.ExportLaws.{numbered, state_at, steps, values_with_blobs, values_with_commit}
+use Rattle.gx_model.specs.Laws.ExportLaws.{numbered, state_at, steps, values_with_blobs, values_with_commit}
 use Rattle.gx_model.specs.Faults.{and_then}
-use Rattle.gx_model.specs.Files.{FileMap, are_apart, is_file_map}
+use Rattle.gx_model.specs.Histories.Files.{FileMap, are_apart, is_file_map}
 use Rattle.gx_model.specs.Histories.{IsIn, is_in, with_one, with_value}
-use Rattle.gx_model.specs.Paths.{Path, are_in_line, begins, is_file_path, path_cmp}
+use Rattle.gx_model.specs.Texts.Paths.{Path, are_in_line, begins, is_file_path, path_cmp}
 use Rattle.gx_model.specs.Replay.{State, all_changed, all_committed, at, committed_for, content, ok_or_mark, step}
 use Rattle.gx_model.specs.Texts.{Bytes}
-use Rattle.gx_model.specs.Values.{Commit, Commits, Value, blob_value, commit, commit_value, commits_of, files_of, is_content, is_hex_digit, is_leaf, list_of, more, none, parents_of, same_value}
+use Rattle.gx_model.specs.Histories.Values.{Commit, Commits, Value, blob_value, commit, commit_value, commits_of, files_of, is_content, is_hex_digit, is_leaf, list_of, more, none, parents_of, same_value}
 use Rattle.gx_model.specs.declared.faults.Fault.{Fault}
 use Rattle.gx_model.specs.declared.objects.Kind.{Kind}
 use Rattle.gx_model.specs.declared.objects.Mode.{Mode}
@@ -29,7 +29,7 @@ use Rattle.gx_model.proofs.LowerDigits.{lower_again}
 use Rattle.gx_model.proofs.PathRuns.{less_is}
 use Rattle.gx_model.proofs.PathTests.{first, is_true, second}
 use Rattle.gx_model.proofs.SameValues.{value_is, value_same}
-use Rattle.gx_model.specs.Commands as command
+use Rattle.gx_model.specs.Streams.Commands as command
 
 -- ---- numbers
 

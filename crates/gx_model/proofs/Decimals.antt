@@ -9,7 +9,7 @@ use Rattle.std.proofs.lemmas.Fmt.{digits_decimal, digits_value-decimal, decimal_
 use Rattle.std.proofs.lemmas.Str.Parse.{IsNumeralModel, IsDigitsTest, numerals_by_value}
 use Rattle.std.proofs.lemmas.Bool.Decides.{nat_tests}
 use Rattle.gx_model.specs.Texts.{Bytes}
-use Rattle.gx_model.specs.Numbers.{decimal_of}
+use Rattle.gx_model.specs.Texts.Numbers.{decimal_of}
 
 abbrev pub AreDigits : Bytes → Type 0
 AreDigits ds = list_all is_ascii_digit ds ≡ true

@@ -7,10 +7,10 @@ use Rattle.std.specs.FinMap.Entries.{put}
 use Rattle.gx_model.specs.declared.faults.Fault.{Fault}
 use Rattle.gx_model.specs.declared.faults.Fault.TheVariants.{NoSuchPath, RootNotTree, PathTooLong}
 use Rattle.gx_model.specs.Texts.{Bytes}
-use Rattle.gx_model.specs.Paths.{Path, are_in_line, begins, is_component, is_file_path, is_short, path_cmp, same_path}
-use Rattle.gx_model.specs.Files.{FileMap, Leaf, are_file_paths, file_at, under}
-use Rattle.gx_model.specs.Edits.{copied, copy_fault, is_root, modified, moved, unless, removed, renamed, with_all, without, without_line}
-use Rattle.gx_model.specs.FileMapLaws.{HasLongPath, IsFileForRoot, IsModified, IsPlaced, IsRefusal, IsRemoved}
+use Rattle.gx_model.specs.Texts.Paths.{Path, are_in_line, begins, is_component, is_file_path, is_short, path_cmp, same_path}
+use Rattle.gx_model.specs.Histories.Files.{FileMap, Leaf, are_file_paths, file_at, under}
+use Rattle.gx_model.specs.Histories.Edits.{copied, copy_fault, is_root, modified, moved, unless, removed, renamed, with_all, without, without_line}
+use Rattle.gx_model.specs.Laws.FileMapLaws.{HasLongPath, IsFileForRoot, IsModified, IsPlaced, IsRefusal, IsRemoved}
 use Rattle.gx_model.proofs.PathTests.{begins_append, both, first, is_same, is_true, left_or, not_both, path_is, path_same, right_or, same_is, second}
 use Rattle.gx_model.proofs.FileMapEdits.{Parts, filter_parts, moved_paths, removed_parts}
 use Rattle.gx_model.proofs.FoundFiles.{at_filter, at_moved, at_put, at_with_all, none_moved, none_where, or_else, or_nothing, test_at}

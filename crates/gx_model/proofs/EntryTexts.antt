@@ -6,8 +6,8 @@ use Rattle.gx_model.specs.declared.objects.Mode.{Mode}
 use Rattle.gx_model.specs.declared.objects.Mode.TheVariants.{File, Exec, Link, Gitlink, Dir}
 use Rattle.std.specs.Bool.{passes}
 use Rattle.gx_model.specs.Texts.{Bytes, same_bytes}
-use Rattle.gx_model.specs.Paths.{is_component}
-use Rattle.gx_model.specs.Values.{same_mode}
+use Rattle.gx_model.specs.Texts.Paths.{is_component}
+use Rattle.gx_model.specs.Histories.Values.{same_mode}
 use Rattle.gx_model.specs.Objects.{Entry, tree_text, entry_text, mode_text}
 use Rattle.gx_model.proofs.PathTests.{component_free, first, second, not_both, is_same}
 use Rattle.gx_model.proofs.SameValues.{mode_is}

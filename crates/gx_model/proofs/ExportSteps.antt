@@ -5,16 +5,16 @@ use Rattle.std.specs.FinMap.Entries.{is_sorted}
 use Rattle.std.specs.List.{list_all, filter_map, fold, AllByRecursion}
 use Rattle.std.specs.Ordering.{eq_by_cmp}
 use Rattle.std.specs.Prelude.{T}
-use Rattle.gx_model.specs.Commands.{Command}
-use Rattle.gx_model.specs.Denotation.{ref_at}
+use Rattle.gx_model.specs.Streams.Commands.{Command}
+use Rattle.gx_model.specs.Revisions.Denotation.{ref_at}
 use Rattle.gx_model.specs.Export.{all_written, carrier, commit_commands, export_commands, inner_commands, is_reached, last_reset, one_commit, reached_commits, ref_command, with_commit}
-use Rattle.gx_model.specs.ExportLaws.{HoldsWhat, IsAgain, IsOne, IsReached, carried, exported_report, nothing, state_at, steps, values_with_commit}
+use Rattle.gx_model.specs.Laws.ExportLaws.{HoldsWhat, IsAgain, IsOne, IsReached, carried, exported_report, nothing, state_at, steps, values_with_commit}
 use Rattle.gx_model.specs.Faults.{and_then}
 use Rattle.gx_model.specs.Histories.{History, IsHistory, IsIn, IsWhole, Target, value_at}
-use Rattle.gx_model.specs.Ranges.{commit_of}
+use Rattle.gx_model.specs.Revisions.Ranges.{commit_of}
 use Rattle.gx_model.specs.Replay.{Outcome, State, byte_cmp, ended, final, final_refs, finished, is_fast_forward, is_forward, peeled_at, refused, replayed, report, start, step}
 use Rattle.gx_model.specs.Texts.{Bytes}
-use Rattle.gx_model.specs.Values.{Commit, Value, commit_value, files_of, is_content, is_proper, is_proper_text, list_of, parents_of, text_of}
+use Rattle.gx_model.specs.Histories.Values.{Commit, Value, commit_value, files_of, is_content, is_proper, is_proper_text, list_of, parents_of, text_of}
 use Rattle.gx_model.specs.declared.faults.Fault.{Fault}
 use Rattle.gx_model.specs.declared.objects.Kind.{Kind}
 use Rattle.gx_model.proofs.CommitSteps.{one_commit_replayed, steps-append}
@@ -23,7 +23,7 @@ use Rattle.gx_model.proofs.LinkedValues.{proper_in}
 use Rattle.gx_model.proofs.PathTests.{first, is_true}
 use Rattle.gx_model.proofs.PublishedRefs.{ArePeeled, Branches, Refs, all_peeled, at_branch, looked, ref_branches, ref_tags, ref_values, refs_held, refs_replayed, same_refs, state_with}
 use Rattle.gx_model.proofs.ReachedValues.{all_pass, all_reached, commits_reached, follows, one_filter, target_held}
-use Rattle.gx_model.specs.Commands as command
+use Rattle.gx_model.specs.Streams.Commands as command
 use Rattle.gx_model.specs.declared.faults.Fault.TheVariants as faults
 
 -- ---- the commits

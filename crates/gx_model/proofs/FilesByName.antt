@@ -7,14 +7,14 @@ use Rattle.gx_model.specs.declared.objects.Kind.{Kind}
 use Rattle.gx_model.specs.declared.objects.Mode.{Mode}
 use Rattle.gx_model.specs.declared.objects.Mode.TheVariants.{File, Exec, Link, Gitlink, Dir}
 use Rattle.gx_model.specs.Texts.{Bytes}
-use Rattle.gx_model.specs.Files.{FileMap, is_file_map}
-use Rattle.gx_model.specs.Values.{Value, blob_of, blob_value, blobs_of, is_leaf}
+use Rattle.gx_model.specs.Histories.Files.{FileMap, is_file_map}
+use Rattle.gx_model.specs.Histories.Values.{Value, blob_of, blob_value, blobs_of, is_leaf}
 use Rattle.gx_model.specs.Objects.{IsNamer}
 use Rattle.gx_model.specs.Records.{content_name, named_map}
 use Rattle.gx_model.specs.Histories.{IsIn, Records}
-use Rattle.gx_model.specs.HistoryOf.{bytes_of_blob, content_of, contents_of, history_of, named_values}
-use Rattle.gx_model.specs.NameMaps.{AreFiles}
-use Rattle.gx_model.specs.Sound.{IsHeldAs, IsNamedMap, IsSound}
+use Rattle.gx_model.specs.Records.HistoryOf.{bytes_of_blob, content_of, contents_of, history_of, named_values}
+use Rattle.gx_model.specs.Objects.NameMaps.{AreFiles}
+use Rattle.gx_model.specs.Records.Sound.{IsHeldAs, IsNamedMap, IsSound}
 use Rattle.gx_model.proofs.PathTests.{first, is_true, second}
 use Rattle.gx_model.proofs.OneTree.{digits_of, forty}
 use Rattle.gx_model.proofs.HeldNames.{value_found}

@@ -5,12 +5,12 @@ use Rattle.std.specs.List.{list_any, AllByRecursion}
 use Rattle.std.proofs.lemmas.List.{map-append}
 use Rattle.gx_model.specs.declared.objects.Kind.{Kind}
 use Rattle.gx_model.specs.Texts.{Bytes, same_bytes}
-use Rattle.gx_model.specs.Paths.{Path}
-use Rattle.gx_model.specs.Values.{Value}
+use Rattle.gx_model.specs.Texts.Paths.{Path}
+use Rattle.gx_model.specs.Histories.Values.{Value}
 use Rattle.gx_model.specs.Objects.{Entry}
 use Rattle.gx_model.specs.Histories.{Record, AreDistinct}
-use Rattle.gx_model.specs.Sound.{AnyByRecursion, IsLinkedAfter, HasPath, here, below, HasShortPaths, IsTarget, IsSound}
-use Rattle.gx_model.specs.HistoryOf.{Named, named_from, with_record, value_in, history_of}
+use Rattle.gx_model.specs.Records.Sound.{AnyByRecursion, IsLinkedAfter, HasPath, here, below, HasShortPaths, IsTarget, IsSound}
+use Rattle.gx_model.specs.Records.HistoryOf.{Named, named_from, with_record, value_in, history_of}
 use Rattle.gx_model.proofs.OneTree.{all_left}
 
 some_left : {X : Type 0} (P : X → Type 0) (xs ys : List X) → AnyByRecursion P xs → AnyByRecursion P (xs ++ ys)

@@ -6,11 +6,11 @@ use Rattle.std.proofs.lemmas.Bool.{false≢true}
 use Rattle.std.proofs.lemmas.List.{length-drop, length-take, take-append-drop, take_all, drop_all, nil_from_length}
 use Rattle.std.proofs.lemmas.Slice.Eq.{starts_is, bytes_eq-Decides}
 use Rattle.std.proofs.lemmas.Bool.Decides.{Decides-eqb, nat_tests}
-use Rattle.gx_model.specs.Numbers.{decimal_of}
+use Rattle.gx_model.specs.Texts.Numbers.{decimal_of}
 use Rattle.gx_model.specs.Texts.{Bytes}
-use Rattle.gx_model.specs.Items.{Line, Data, First, takes, drops, ends, first_of, first_line, announced, counted, counted_block, delimited, delimited_by, lines_before, with_line, without_lf, is_lf, line_len, has_no_line, end_of, cut_off, after, read_upto, items_of}
+use Rattle.gx_model.specs.Streams.Items.{Line, Data, First, takes, drops, ends, first_of, first_line, announced, counted, counted_block, delimited, delimited_by, lines_before, with_line, without_lf, is_lf, line_len, has_no_line, end_of, cut_off, after, read_upto, items_of}
 use Rattle.gx_model.proofs.Readings.{finds, nothing_before, one_line, its_line, no_line_left, spells_shorter}
-use Rattle.gx_model.specs.Spelling.{HasNoLf, BeginsLine, comment_line, data_line, delimiter_text, IsNot, EndsBlock, AreOther, text_of_lines, Spells, IsCut, Ends, IsReading, ended, taken, dropped}
+use Rattle.gx_model.specs.Streams.Spelling.{HasNoLf, BeginsLine, comment_line, data_line, delimiter_text, IsNot, EndsBlock, AreOther, text_of_lines, Spells, IsCut, Ends, IsReading, ended, taken, dropped}
 
 -- ---- lines
 

@@ -9,9 +9,9 @@ use Rattle.std.specs.Cmp.{tied_itself}
 use Rattle.std.specs.Cmp.Lexicographic.{texts_ties}
 use Rattle.std.specs.FinMap.Entries.{put, by_order}
 use Rattle.gx_model.specs.Texts.{same_bytes}
-use Rattle.gx_model.specs.Paths.{Path, begins, is_component, is_file_path, parts_of, path_cmp, path_text, same_path}
-use Rattle.gx_model.specs.Files.{are_file_paths, file_at, under}
-use Rattle.gx_model.specs.Edits.{moved, with_all}
+use Rattle.gx_model.specs.Texts.Paths.{Path, begins, is_component, is_file_path, parts_of, path_cmp, path_text, same_path}
+use Rattle.gx_model.specs.Histories.Files.{are_file_paths, file_at, under}
+use Rattle.gx_model.specs.Histories.Edits.{moved, with_all}
 use Rattle.gx_model.proofs.PathTests.{begins_append, both, first, is_same, is_true, path_is, same_is, second}
 use Rattle.gx_model.proofs.PathTexts.{parts_joined}
 use Rattle.gx_model.proofs.FileMapEdits.{all_put, path_order}

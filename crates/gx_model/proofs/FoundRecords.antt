@@ -6,14 +6,14 @@ use Rattle.std.specs.Map.{lookup}
 use Rattle.std.specs.Bool.{passes}
 use Rattle.gx_model.specs.declared.objects.Kind.{Kind}
 use Rattle.gx_model.specs.Texts.{Bytes, same_bytes}
-use Rattle.gx_model.specs.Values.{Value, blob_value, tree_value, commit_value, tag_value}
+use Rattle.gx_model.specs.Histories.Values.{Value, blob_value, tree_value, commit_value, tag_value}
 use Rattle.gx_model.specs.Objects.{IsNamer}
 use Rattle.gx_model.specs.Records.{name_of, kind_of, body_of}
 use Rattle.gx_model.specs.Histories.{Record, Records, IsIn, Target, record_of}
-use Rattle.gx_model.specs.Sound.{IsSound}
-use Rattle.gx_model.specs.HistoryOf.{target_in, value_of_name, history_of}
-use Rattle.gx_model.specs.Denotation.{first_ref, or_ref, begins_with_digits, begun_by}
-use Rattle.gx_model.specs.Lookups.{or_else, first_named, records_begun_by, commit_of_record, commit_named, commit_name_of}
+use Rattle.gx_model.specs.Records.Sound.{IsSound}
+use Rattle.gx_model.specs.Records.HistoryOf.{target_in, value_of_name, history_of}
+use Rattle.gx_model.specs.Revisions.Denotation.{first_ref, or_ref, begins_with_digits, begun_by}
+use Rattle.gx_model.specs.Records.Lookups.{or_else, first_named, records_begun_by, commit_of_record, commit_named, commit_name_of}
 use Rattle.gx_model.proofs.LinkedValues.{proper_in}
 use Rattle.gx_model.proofs.BodiesReadBack.{tag_read}
 use Rattle.gx_model.proofs.HistoriesExist.{stands, tag_text_is}

@@ -13,21 +13,21 @@ use Rattle.gx_model.specs.declared.objects.Kind.{Kind}
 use Rattle.gx_model.specs.declared.objects.Mode.{Mode}
 use Rattle.gx_model.specs.declared.objects.Mode.TheVariants.{File, Exec, Link, Gitlink, Dir}
 use Rattle.gx_model.specs.Texts.{Bytes}
-use Rattle.gx_model.specs.RefNames.{tag_ref}
+use Rattle.gx_model.specs.Texts.RefNames.{tag_ref}
 use Rattle.gx_model.specs.Faults.{and_then}
-use Rattle.gx_model.specs.Paths.{Path}
-use Rattle.gx_model.specs.Files.{FileMap}
-use Rattle.gx_model.specs.Edits.{copied, modified, renamed}
-use Rattle.gx_model.specs.Values.{Commit, Tag, Value, blob_value, commit, commit_value, commits_of, files_of, list_of, parents_of, tag_value, tree_value}
+use Rattle.gx_model.specs.Texts.Paths.{Path}
+use Rattle.gx_model.specs.Histories.Files.{FileMap}
+use Rattle.gx_model.specs.Histories.Edits.{copied, modified, renamed}
+use Rattle.gx_model.specs.Histories.Values.{Commit, Tag, Value, blob_value, commit, commit_value, commits_of, files_of, list_of, parents_of, tag_value, tree_value}
 use Rattle.gx_model.specs.Histories.{History, IsHistory, IsIn, Target, at_commit, at_tag, value_at, with_tree, with_value}
-use Rattle.gx_model.specs.Denotation.{base_value, lower}
-use Rattle.gx_model.specs.Items.{items_of}
-use Rattle.gx_model.specs.Ranges.{commit_of}
-use Rattle.gx_model.specs.Commands as command
-use Rattle.gx_model.specs.Commands.{Asks, Blob, Change, Checkpoint, Clear, Command, CommitIsh, CommitParts, Copy, DataRef, Done, Inline, Mark, Marked, Modify, Named, Object, OptionLine, Progress, Remove, Rename, Reset, TagParts}
-use Rattle.gx_model.specs.Grammar.{commands_of, is_null}
-use Rattle.gx_model.specs.ExportLaws.{IsNotNull}
-use Rattle.gx_model.specs.Gitlinks.{BringsNoNullGitlink, GivesNoNullGitlink, HoldsNoNullGitlink, HoldsTellsHas, RefusalsKeepNone, ReplaysKeepNone, TextsBringNone}
+use Rattle.gx_model.specs.Revisions.Denotation.{base_value, lower}
+use Rattle.gx_model.specs.Streams.Items.{items_of}
+use Rattle.gx_model.specs.Revisions.Ranges.{commit_of}
+use Rattle.gx_model.specs.Streams.Commands as command
+use Rattle.gx_model.specs.Streams.Commands.{Asks, Blob, Change, Checkpoint, Clear, Command, CommitIsh, CommitParts, Copy, DataRef, Done, Inline, Mark, Marked, Modify, Named, Object, OptionLine, Progress, Remove, Rename, Reset, TagParts}
+use Rattle.gx_model.specs.Streams.Grammar.{commands_of, is_null}
+use Rattle.gx_model.specs.Laws.ExportLaws.{IsNotNull}
+use Rattle.gx_model.specs.Streams.Gitlinks.{BringsNoNullGitlink, GivesNoNullGitlink, HoldsNoNullGitlink, HoldsTellsHas, RefusalsKeepNone, ReplaysKeepNone, TextsBringNone}
 use Rattle.gx_model.specs.Replay.{Outcome, State, added, all_changed, all_committed, at, blob_bytes, byte_cmp, changed, checkpointed, commit_alone, committed, committed_for, content, ended, final, finished, first_parent, is_fast_forward, marked, on_branch, refused, replayed, report, start, starting_files, step, step_checkpoint, step_commit, step_reset, step_tag, text_made, with_branch, with_first_parent}
 use Rattle.gx_model.proofs.GivenCommits.{IsStateOf, MayBeOf, OfCommit, all_committed_kept, all_each, alone_kept, committed_kept, first_kept, for_branch, with_first_kept}
 use Rattle.gx_model.proofs.KeptCommits.{all_in}

@@ -10,13 +10,13 @@ use Rattle.gx_model.specs.declared.objects.Mode.{Mode}
 use Rattle.gx_model.specs.declared.objects.Mode.TheVariants.{File, Exec, Link, Gitlink, Dir}
 use Rattle.gx_model.specs.Texts.{Bytes, same_bytes}
 use Rattle.gx_model.specs.Faults.{and_then}
-use Rattle.gx_model.specs.Paths.{Path}
-use Rattle.gx_model.specs.Files.{FileMap, Leaf, file_at, sub_map}
-use Rattle.gx_model.specs.Values.{Commit, Value, blob_value, commit_value, list_of, parents_of, tag_value, tree_value}
+use Rattle.gx_model.specs.Texts.Paths.{Path}
+use Rattle.gx_model.specs.Histories.Files.{FileMap, Leaf, file_at, sub_map}
+use Rattle.gx_model.specs.Histories.Values.{Commit, Value, blob_value, commit_value, list_of, parents_of, tag_value, tree_value}
 use Rattle.gx_model.specs.Histories.{History, Target, value_at}
 use Rattle.gx_model.specs.Revisions.{Revision, Suffix, ancestor, as_blob, as_commit, as_tag, as_tree, itself, parent, peeled, revision_of}
-use Rattle.gx_model.specs.Denotation.{Shown, all_suffixed, are_digits, at_path, base_value, begun_by, commit_in, denoted, files_in, find_ref, first_ref, full_name, nth_ancestor, nth_parent, of_leaf, of_sub_map, or_no_parent, or_ref, ref_at, ref_names, shown_at, shown_value, suffixed, the_one, value_denoted}
-use Rattle.gx_model.specs.Commands.{CommitIsh, CommitParts, Marked, Named}
+use Rattle.gx_model.specs.Revisions.Denotation.{Shown, all_suffixed, are_digits, at_path, base_value, begun_by, commit_in, denoted, files_in, find_ref, first_ref, full_name, nth_ancestor, nth_parent, of_leaf, of_sub_map, or_no_parent, or_ref, ref_at, ref_names, shown_at, shown_value, suffixed, the_one, value_denoted}
+use Rattle.gx_model.specs.Streams.Commands.{CommitIsh, CommitParts, Marked, Named}
 use Rattle.gx_model.specs.Replay.{State, all_committed, at, commit_alone, committed, committed_for, first_parent, is_itself, ok_or_mark, or_branch, own_commit, revision_value, with_first_parent}
 use Rattle.gx_model.proofs.NullGitlinks.{all_pass, found, then_if}
 

@@ -8,14 +8,14 @@ use Rattle.std.proofs.lemmas.List.{map-append}
 use Rattle.gx_model.specs.declared.objects.Kind.{Kind}
 use Rattle.gx_model.specs.declared.objects.Kind.TheVariants as kind
 use Rattle.gx_model.specs.Texts.{Bytes, same_bytes}
-use Rattle.gx_model.specs.Values.{Value, parts, is_proper, same_value}
+use Rattle.gx_model.specs.Histories.Values.{Value, parts, is_proper, same_value}
 use Rattle.gx_model.specs.Objects.{IsNamer}
 use Rattle.gx_model.specs.Records.{kind_of, body_of, name_of}
 use Rattle.gx_model.specs.Histories.{IsHistory, Record, Records, AreDistinct, IsIn, is_in, with_one, History, Target, value_at, record_of, StandsFor}
 use Rattle.gx_model.specs.Histories.{IsWhole}
-use Rattle.gx_model.specs.Sound.{IsSound}
-use Rattle.gx_model.specs.HistoryOf.{history_of}
-use Rattle.gx_model.specs.Growth.{same_kind, same_object, record_named, put_under, put, and_some, put_all, AreReady, clashes, with_values}
+use Rattle.gx_model.specs.Records.Sound.{IsSound}
+use Rattle.gx_model.specs.Records.HistoryOf.{history_of}
+use Rattle.gx_model.specs.Records.Growth.{same_kind, same_object, record_named, put_under, put, and_some, put_all, AreReady, clashes, with_values}
 use Rattle.gx_model.proofs.PathTests.{both, first, second, is_true, is_same, same_is}
 use Rattle.gx_model.proofs.SameValues.{value_same}
 use Rattle.gx_model.proofs.AddedValues.{is_in_is, keeps, one_added}

@@ -6,12 +6,12 @@ use Rattle.std.specs.Option.{option_map}
 use Rattle.std.proofs.lemmas.List.{map-append}
 use Rattle.gx_model.specs.declared.objects.Kind.{Kind}
 use Rattle.gx_model.specs.Texts.{Bytes}
-use Rattle.gx_model.specs.Files.{FileMap, Leaf, file_at, sub_map, first_components, depth}
-use Rattle.gx_model.specs.Values.{Value, blob_value, tree_value, commit_value, tag_value, files_of, blobs_of, sub_maps, parts, is_content}
+use Rattle.gx_model.specs.Histories.Files.{FileMap, Leaf, file_at, sub_map, first_components, depth}
+use Rattle.gx_model.specs.Histories.Values.{Value, blob_value, tree_value, commit_value, tag_value, files_of, blobs_of, sub_maps, parts, is_content}
 use Rattle.gx_model.specs.Records.{named_map, content_name}
 use Rattle.gx_model.specs.Histories.{IsIn, with_one, with_tree_to, with_tree, with_value, record_of}
 use Rattle.gx_model.specs.Histories.{IsWhole}
-use Rattle.gx_model.specs.Growth.{AreReady, all_trees_to, all_trees, tree_record, tree_records}
+use Rattle.gx_model.specs.Records.Growth.{AreReady, all_trees_to, all_trees, tree_record, tree_records}
 use Rattle.gx_model.proofs.PathTests.{is_true}
 use Rattle.gx_model.proofs.OneTree.{all_right, sub_named, at_named, firsts_named}
 use Rattle.gx_model.proofs.LinkedValues.{parts_in}

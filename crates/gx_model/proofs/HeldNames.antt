@@ -11,16 +11,16 @@ use Rattle.gx_model.specs.declared.objects.Kind.TheVariants as kind
 use Rattle.gx_model.specs.declared.objects.Mode.{Mode}
 use Rattle.gx_model.specs.declared.objects.Mode.TheVariants.{File, Exec, Link, Gitlink, Dir}
 use Rattle.gx_model.specs.Texts.{same_bytes, Bytes}
-use Rattle.gx_model.specs.Paths.{Path, path_cmp, are_in_line, is_file_path}
-use Rattle.gx_model.specs.Files.{FileMap, are_apart, are_file_paths, is_file_map}
-use Rattle.gx_model.specs.Values.{Value, blob_value, tree_value, commit_value, tag_value, blob_of, blobs_of, is_leaf, is_content, is_proper, parts}
-use Rattle.gx_model.specs.RefNames.{is_ref_name}
+use Rattle.gx_model.specs.Texts.Paths.{Path, path_cmp, are_in_line, is_file_path}
+use Rattle.gx_model.specs.Histories.Files.{FileMap, are_apart, are_file_paths, is_file_map}
+use Rattle.gx_model.specs.Histories.Values.{Value, blob_value, tree_value, commit_value, tag_value, blob_of, blobs_of, is_leaf, is_content, is_proper, parts}
+use Rattle.gx_model.specs.Texts.RefNames.{is_ref_name}
 use Rattle.gx_model.specs.Objects.{TagParts, IsTagText, IsNamer, is_name}
 use Rattle.gx_model.specs.Records.{commit_body, kind_of, name_of, content_name, named_map}
 use Rattle.gx_model.specs.Histories.{Record, Records, AreDistinct, IsIn, record_of, StandsFor}
-use Rattle.gx_model.specs.Sound.{AnyByRecursion, IsHeldAs, IsLinked, HasShortPaths, IsTarget, IsSound, IsNamedMap}
-use Rattle.gx_model.specs.HistoryOf.{Named, value_in, named_values, value_named, value_of_name, content_of, contents_of, history_of}
-use Rattle.gx_model.specs.Growth.{record_named}
+use Rattle.gx_model.specs.Records.Sound.{AnyByRecursion, IsHeldAs, IsLinked, HasShortPaths, IsTarget, IsSound, IsNamedMap}
+use Rattle.gx_model.specs.Records.HistoryOf.{Named, value_in, named_values, value_named, value_of_name, content_of, contents_of, history_of}
+use Rattle.gx_model.specs.Records.Growth.{record_named}
 use Rattle.gx_model.proofs.PathTests.{both, first, second, is_true, same_is}
 use Rattle.gx_model.proofs.OneHistory.{told_by_name, no_other}
 use Rattle.gx_model.proofs.BodiesReadBack.{unhex_hex, bytes_name}

@@ -6,14 +6,14 @@ use Rattle.std.proofs.lemmas.Bool.{false≢true}
 use Rattle.gx_model.specs.declared.objects.Kind.{Kind}
 use Rattle.gx_model.specs.declared.objects.Kind.TheVariants as kinds
 use Rattle.gx_model.specs.Texts.{Bytes, same_bytes}
-use Rattle.gx_model.specs.RefNames.{tag_ref}
+use Rattle.gx_model.specs.Texts.RefNames.{tag_ref}
 use Rattle.gx_model.specs.Objects.{IsNamer, IsTagText, TagParts}
 use Rattle.gx_model.specs.Histories.{Record, Records, object_of}
-use Rattle.gx_model.specs.HistoryOf.{tag_parts_in}
-use Rattle.gx_model.specs.Sound.{AnyByRecursion, Holds, IsSound, IsTarget}
-use Rattle.gx_model.specs.Growth.{record_named}
-use Rattle.gx_model.specs.Lookups.{commit_named, commit_of_record}
-use Rattle.gx_model.specs.StoreReading.{is_target, is_target_of_kind}
+use Rattle.gx_model.specs.Records.HistoryOf.{tag_parts_in}
+use Rattle.gx_model.specs.Records.Sound.{AnyByRecursion, Holds, IsSound, IsTarget}
+use Rattle.gx_model.specs.Records.Growth.{record_named}
+use Rattle.gx_model.specs.Records.Lookups.{commit_named, commit_of_record}
+use Rattle.gx_model.specs.Stores.StoreReading.{is_target, is_target_of_kind}
 use Rattle.gx_model.proofs.BodiesReadBack.{tag_read}
 use Rattle.gx_model.proofs.HeldNames.{held_tag}
 use Rattle.gx_model.proofs.PathTests.{same_is}

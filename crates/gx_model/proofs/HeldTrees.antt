@@ -11,16 +11,16 @@ use Rattle.gx_model.specs.declared.objects.Kind.TheVariants as kind
 use Rattle.gx_model.specs.declared.objects.Mode.{Mode}
 use Rattle.gx_model.specs.declared.objects.Mode.TheVariants.{File, Exec, Link, Gitlink, Dir}
 use Rattle.gx_model.specs.Texts.{Bytes}
-use Rattle.gx_model.specs.Paths.{Path, are_in_line, is_file_path, path_cmp}
-use Rattle.gx_model.specs.Files.{FileMap, are_apart, are_file_paths, is_file_map}
-use Rattle.gx_model.specs.Values.{Value, blobs_of, commit_value, files_of, is_content, is_leaf, sub_maps, tree_value}
+use Rattle.gx_model.specs.Texts.Paths.{Path, are_in_line, is_file_path, path_cmp}
+use Rattle.gx_model.specs.Histories.Files.{FileMap, are_apart, are_file_paths, is_file_map}
+use Rattle.gx_model.specs.Histories.Values.{Value, blobs_of, commit_value, files_of, is_content, is_leaf, sub_maps, tree_value}
 use Rattle.gx_model.specs.Objects.{IsNamer, IsTreeText, is_name, unhex}
 use Rattle.gx_model.specs.Records.{body_of, content_name, named_map, tree_body, tree_name}
 use Rattle.gx_model.specs.Histories.{IsIn, IsWhole, Record, Records, record_of}
-use Rattle.gx_model.specs.HistoryOf.{commit_of_value, files_of_tree, history_of, value_of_name}
-use Rattle.gx_model.specs.Growth.{all_trees, all_trees_to, record_named}
-use Rattle.gx_model.specs.RecordFaults.{is_held}
-use Rattle.gx_model.specs.Sound.{IsSound}
+use Rattle.gx_model.specs.Records.HistoryOf.{commit_of_value, files_of_tree, history_of, value_of_name}
+use Rattle.gx_model.specs.Records.Growth.{all_trees, all_trees_to, record_named}
+use Rattle.gx_model.specs.Records.RecordFaults.{is_held}
+use Rattle.gx_model.specs.Records.Sound.{IsSound}
 use Rattle.gx_model.proofs.PathTests.{both, first, second, is_true}
 use Rattle.gx_model.proofs.OneTree.{all_right, digits_of, forty, unhex_long}
 use Rattle.gx_model.proofs.TreePaths.{content_in, entries_of, name_is_name, text_of_tree, unhex_bytes}
@@ -28,7 +28,7 @@ use Rattle.gx_model.proofs.AddedValues.{all_join}
 use Rattle.gx_model.proofs.LinkedValues.{parts_in, proper_in}
 use Rattle.gx_model.proofs.GrownTrees.{trees_named}
 use Rattle.gx_model.proofs.HeldNames.{value_found}
-use Rattle.gx_model.specs.NameMaps.{IsHeldTree, IsNameMap}
+use Rattle.gx_model.specs.Objects.NameMaps.{IsHeldTree, IsNameMap}
 use Rattle.gx_model.proofs.GrownRecords.{distinct_of}
 use Rattle.gx_model.proofs.HistoriesExist.{stands}
 use Rattle.gx_model.proofs.HeldValues.{all_whole, commit_stands, tree_stands}

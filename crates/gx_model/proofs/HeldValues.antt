@@ -9,16 +9,16 @@ use Rattle.gx_model.specs.declared.objects.Kind.{Kind}
 use Rattle.gx_model.specs.declared.objects.Kind.TheVariants as kind
 use Rattle.gx_model.specs.Texts.{Bytes}
 use Rattle.gx_model.specs.Faults.{and_then}
-use Rattle.gx_model.specs.Values.{Commit, Commits, Value, blob_value, commit, commit_value, files_of, is_content, is_proper_text, list_of, more, none, parents_of, tag_value, text_of, tree_value}
+use Rattle.gx_model.specs.Histories.Values.{Commit, Commits, Value, blob_value, commit, commit_value, files_of, is_content, is_proper_text, list_of, more, none, parents_of, tag_value, text_of, tree_value}
 use Rattle.gx_model.specs.Objects.{IsCommitText, IsNamer, is_name}
 use Rattle.gx_model.specs.Records.{body_of, commit_body, kind_of, name_of, named_map, names_of, parts_of_commit, tree_body}
 use Rattle.gx_model.specs.Histories.{IsIn, IsWhole, Record, Records, object_of, record_of}
-use Rattle.gx_model.specs.HistoryOf.{bytes_of_blob, commit_of_value, files_of_tree, history_of, value_named, value_of_name}
-use Rattle.gx_model.specs.Growth.{record_named, same_kind}
-use Rattle.gx_model.specs.RecordFaults.{is_held, is_of_kind}
-use Rattle.gx_model.specs.Sound.{AnyByRecursion, Holds, IsSound}
-use Rattle.gx_model.specs.Lookups.{commit_name_of, commit_named}
-use Rattle.gx_model.specs.Denotation.{commit_in, files_in, nth_ancestor, nth_parent, or_no_parent, peel}
+use Rattle.gx_model.specs.Records.HistoryOf.{bytes_of_blob, commit_of_value, files_of_tree, history_of, value_named, value_of_name}
+use Rattle.gx_model.specs.Records.Growth.{record_named, same_kind}
+use Rattle.gx_model.specs.Records.RecordFaults.{is_held, is_of_kind}
+use Rattle.gx_model.specs.Records.Sound.{AnyByRecursion, Holds, IsSound}
+use Rattle.gx_model.specs.Records.Lookups.{commit_name_of, commit_named}
+use Rattle.gx_model.specs.Revisions.Denotation.{commit_in, files_in, nth_ancestor, nth_parent, or_no_parent, peel}
 use Rattle.gx_model.proofs.PathTests.{both, is_true, second}
 use Rattle.gx_model.proofs.LinkedValues.{found, holds, is_commit, is_tree, named, parts_in, proper_in}
 use Rattle.gx_model.proofs.TreePaths.{name_is_name}

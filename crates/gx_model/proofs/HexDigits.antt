@@ -4,7 +4,7 @@ use Rattle.std.specs.Prelude.{T, ◌&&◌, nat_lt, nat_le, ◌⊎◌}
 use Rattle.std.specs.List.{list_all}
 use Rattle.std.proofs.lemmas.Bool.Decides.{nat_tests}
 use Rattle.gx_model.specs.Texts.{Bytes}
-use Rattle.gx_model.specs.Values.{is_hex_digit}
+use Rattle.gx_model.specs.Histories.Values.{is_hex_digit}
 use Rattle.gx_model.specs.Objects.{hex, hex_digit, digit_value, unhex}
 use Rattle.gx_model.proofs.PathTests.{first, second, is_true, one_of}
 

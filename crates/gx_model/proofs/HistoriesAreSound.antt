@@ -13,15 +13,15 @@ use Rattle.gx_model.specs.declared.objects.Kind.TheVariants as kind
 use Rattle.gx_model.specs.declared.objects.Mode.{Mode}
 use Rattle.gx_model.specs.declared.objects.Mode.TheVariants.{File, Exec, Link, Gitlink, Dir}
 use Rattle.gx_model.specs.Texts.{Bytes, same_bytes}
-use Rattle.gx_model.specs.Paths.{Path, same_path, is_short, is_file_path}
-use Rattle.gx_model.specs.Files.{FileMap, Leaf, first_component, first_components, with_first, file_at, sub_map, under, are_file_paths}
-use Rattle.gx_model.specs.Values.{commit, Commits, none, more, list_of, Value, blob_value, tree_value, commit_value, tag_value, blob_of, blobs_of, sub_maps, parts, is_proper, is_content, is_leaf}
-use Rattle.gx_model.specs.RefNames.{is_ref_name}
+use Rattle.gx_model.specs.Texts.Paths.{Path, same_path, is_short, is_file_path}
+use Rattle.gx_model.specs.Histories.Files.{FileMap, Leaf, first_component, first_components, with_first, file_at, sub_map, under, are_file_paths}
+use Rattle.gx_model.specs.Histories.Values.{commit, Commits, none, more, list_of, Value, blob_value, tree_value, commit_value, tag_value, blob_of, blobs_of, sub_maps, parts, is_proper, is_content, is_leaf}
+use Rattle.gx_model.specs.Texts.RefNames.{is_ref_name}
 use Rattle.gx_model.specs.Objects.{IsNamer, tree_text, is_name}
 use Rattle.gx_model.specs.Records.{node, named_map, tree_body, tree_name, content_name, kind_of, body_of, name_of, commit_body, names_of}
 use Rattle.gx_model.specs.Histories.{Records, AreDistinct, IsIn, IsClosedAfter, History, Target, at_commit, at_tag, value_at, IsRefOf, record_of, StandsFor}
 use Rattle.gx_model.specs.Histories.{IsWhole}
-use Rattle.gx_model.specs.Sound.{AnyByRecursion, Holds, IsHeldAs, IsLinked, IsLinkedAfter, HasShortPaths, IsTarget, IsSound}
+use Rattle.gx_model.specs.Records.Sound.{AnyByRecursion, Holds, IsHeldAs, IsLinked, IsLinkedAfter, HasShortPaths, IsTarget, IsSound}
 use Rattle.gx_model.proofs.PathTests.{both, first, second, is_true, is_same, path_is, all_append}
 use Rattle.gx_model.proofs.OneTree.{leaf_named, node_entry, spelling, leaves, all_left, all_right, all_unmap, all_unfilter}
 use Rattle.gx_model.proofs.EntryTexts.{starts_some}

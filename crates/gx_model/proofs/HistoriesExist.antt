@@ -14,16 +14,16 @@ use Rattle.gx_model.specs.declared.objects.Kind.TheVariants as kind
 use Rattle.gx_model.specs.declared.objects.Mode.{Mode}
 use Rattle.gx_model.specs.declared.objects.Mode.TheVariants.{File, Exec, Link, Gitlink, Dir}
 use Rattle.gx_model.specs.Texts.{Bytes, same_bytes}
-use Rattle.gx_model.specs.Paths.{Path, path_cmp, is_component, is_short, is_file_path}
-use Rattle.gx_model.specs.Files.{FileMap, Leaf, are_file_paths, is_file_map}
-use Rattle.gx_model.specs.Values.{blobs_of, sub_maps, commits_of, list_of, Tag, Value, blob_value, tree_value, commit_value, tag_value, parts, is_proper, is_content, is_name_text, is_hex_digit, is_optional_ident}
-use Rattle.gx_model.specs.RefNames.{is_tag_name, is_ref_name, tag_ref}
+use Rattle.gx_model.specs.Texts.Paths.{Path, path_cmp, is_component, is_short, is_file_path}
+use Rattle.gx_model.specs.Histories.Files.{FileMap, Leaf, are_file_paths, is_file_map}
+use Rattle.gx_model.specs.Histories.Values.{blobs_of, sub_maps, commits_of, list_of, Tag, Value, blob_value, tree_value, commit_value, tag_value, parts, is_proper, is_content, is_name_text, is_hex_digit, is_optional_ident}
+use Rattle.gx_model.specs.Texts.RefNames.{is_tag_name, is_ref_name, tag_ref}
 use Rattle.gx_model.specs.Objects.{IsNamer, Entry, is_name, IsTreeText, IsTagText, commit_text, TagParts, tag_text, hex, hex_digit}
 use Rattle.gx_model.specs.Records.{node, named_map, tree_body, tree_name, kind_of, body_of, name_of, commit_body, names_of, tag_body}
 use Rattle.gx_model.specs.Histories.{Record, Records, AreDistinct, IsIn, is_in, History, Target, value_at, IsRefOf, record_of, StandsFor}
 use Rattle.gx_model.specs.Histories.{IsWhole}
-use Rattle.gx_model.specs.Sound.{AnyByRecursion, Holds, IsHeldAs, IsTree, IsCommit, IsTag, IsLinked, IsLinkedAfter, HasPath, here, below, HasShortPaths, IsTarget, IsSound}
-use Rattle.gx_model.specs.HistoryOf.{value_named, bytes_of_blob, files_of_tree, commit_of_value, entries_in, commit_parts_in, tag_parts_in, placed, files_at, files_of_entries, commit_of_parts, tag_of_parts, value_in, named_from, named_values, target_in, history_of}
+use Rattle.gx_model.specs.Records.Sound.{AnyByRecursion, Holds, IsHeldAs, IsTree, IsCommit, IsTag, IsLinked, IsLinkedAfter, HasPath, here, below, HasShortPaths, IsTarget, IsSound}
+use Rattle.gx_model.specs.Records.HistoryOf.{value_named, bytes_of_blob, files_of_tree, commit_of_value, entries_in, commit_parts_in, tag_parts_in, placed, files_at, files_of_entries, commit_of_parts, tag_of_parts, value_in, named_from, named_values, target_in, history_of}
 use Rattle.gx_model.proofs.PathTests.{both, first, second, is_true, is_same, all_append}
 use Rattle.gx_model.proofs.HexDigits.{digit_is}
 use Rattle.gx_model.proofs.PathOrder.{node_key}

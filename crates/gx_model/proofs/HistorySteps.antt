@@ -15,23 +15,23 @@ use Rattle.gx_model.specs.declared.objects.Kind.{Kind}
 use Rattle.gx_model.specs.declared.objects.Mode.{Mode}
 use Rattle.gx_model.specs.declared.objects.Mode.TheVariants.{File, Exec, Link, Gitlink, Dir}
 use Rattle.gx_model.specs.Texts.{Bytes}
-use Rattle.gx_model.specs.RefNames.{is_ref_name, tag_ref}
-use Rattle.gx_model.specs.Idents.{is_ident}
+use Rattle.gx_model.specs.Texts.RefNames.{is_ref_name, tag_ref}
+use Rattle.gx_model.specs.Texts.Idents.{is_ident}
 use Rattle.gx_model.specs.Faults.{and_then}
-use Rattle.gx_model.specs.Paths.{Path, is_component, is_short}
-use Rattle.gx_model.specs.Files.{FileMap, Leaf, is_file_map}
-use Rattle.gx_model.specs.Edits.{copied, modified, renamed}
-use Rattle.gx_model.specs.Values.{Commit, Tag, Value, blob_of, blob_value, blobs_of, commit, commit_value, commits_of, files_of, is_content, is_hex_digit, is_leaf, is_name_text, is_optional_ident, is_proper, is_proper_text, list_of, parents_of, sub_maps, tag_value, tree_value}
+use Rattle.gx_model.specs.Texts.Paths.{Path, is_component, is_short}
+use Rattle.gx_model.specs.Histories.Files.{FileMap, Leaf, is_file_map}
+use Rattle.gx_model.specs.Histories.Edits.{copied, modified, renamed}
+use Rattle.gx_model.specs.Histories.Values.{Commit, Tag, Value, blob_of, blob_value, blobs_of, commit, commit_value, commits_of, files_of, is_content, is_hex_digit, is_leaf, is_name_text, is_optional_ident, is_proper, is_proper_text, list_of, parents_of, sub_maps, tag_value, tree_value}
 use Rattle.gx_model.specs.Histories.{History, IsHistory, IsIn, IsRefOf, IsWhole, Target, at_commit, at_tag, value_at, with_value}
-use Rattle.gx_model.specs.HistoryLaws.{needs}
-use Rattle.gx_model.specs.Denotation.{base_value, lower}
-use Rattle.gx_model.specs.Items.{items_of}
-use Rattle.gx_model.specs.Commands as command
-use Rattle.gx_model.specs.Commands.{Asks, Blob, Change, Checkpoint, Clear, Command, CommitIsh, CommitParts, Copy, DataRef, Done, Inline, Mark, Modify, Object, OptionLine, Progress, Remove, Rename, Reset, TagParts}
-use Rattle.gx_model.specs.Grammar.{commands_of, is_name}
-use Rattle.gx_model.specs.Grammar.{is_hex_digit as is_any_digit}
-use Rattle.gx_model.specs.ExportLaws.{nothing}
-use Rattle.gx_model.specs.ProperReplays.{IsContent, IsProperChange, IsProperCommand, IsProperCommit, IsProperTag, IsWholePath, RefusalsKeepHistories, ReplaysGiveHistories, TextsGiveHistories}
+use Rattle.gx_model.specs.Laws.HistoryLaws.{needs}
+use Rattle.gx_model.specs.Revisions.Denotation.{base_value, lower}
+use Rattle.gx_model.specs.Streams.Items.{items_of}
+use Rattle.gx_model.specs.Streams.Commands as command
+use Rattle.gx_model.specs.Streams.Commands.{Asks, Blob, Change, Checkpoint, Clear, Command, CommitIsh, CommitParts, Copy, DataRef, Done, Inline, Mark, Modify, Object, OptionLine, Progress, Remove, Rename, Reset, TagParts}
+use Rattle.gx_model.specs.Streams.Grammar.{commands_of, is_name}
+use Rattle.gx_model.specs.Streams.Grammar.{is_hex_digit as is_any_digit}
+use Rattle.gx_model.specs.Laws.ExportLaws.{nothing}
+use Rattle.gx_model.specs.Replay.ProperReplays.{IsContent, IsProperChange, IsProperCommand, IsProperCommit, IsProperTag, IsWholePath, RefusalsKeepHistories, ReplaysGiveHistories, TextsGiveHistories}
 use Rattle.gx_model.specs.Replay.{Outcome, State, added, all_changed, all_committed, at, blob_bytes, byte_cmp, changed, checkpointed, commit_alone, committed, committed_for, content, ended, final, final_refs, finished, first_parent, is_fast_forward, marked, ok_or_mark, on_branch, or_else, refused, replayed, report, start, starting_files, step, step_checkpoint, step_commit, step_reset, step_tag, text_made, with_branch, with_first_parent}
 use Rattle.gx_model.proofs.PathTests.{both, first, is_true, second}
 use Rattle.gx_model.proofs.FileMapEdits.{Parts, copied_parts, modified_parts, of_parts, parts_of, removed_parts, renamed_parts}

@@ -9,8 +9,8 @@ use Rattle.std.proofs.lemmas.Bool.Decides.{nat_tests}
 use Rattle.std.proofs.lemmas.List.{nil_from_length, take-append-drop, length-append, drop_at}
 use Rattle.std.proofs.lemmas.List.Folds.{list_any-append}
 use Rattle.gx_model.specs.Texts.{Bytes, cut_at, lacks}
-use Rattle.gx_model.specs.Numbers.{is_number}
-use Rattle.gx_model.specs.Idents.{is_plain, is_offset, IsIdentHead, IsIdent, on_some, is_head, is_signed_offset, is_ident}
+use Rattle.gx_model.specs.Texts.Numbers.{is_number}
+use Rattle.gx_model.specs.Texts.Idents.{is_plain, is_offset, IsIdentHead, IsIdent, on_some, is_head, is_signed_offset, is_ident}
 use Rattle.gx_model.proofs.Cuts.{cut_after, cut_spelled, cut_here}
 
 pub and_one : (a b : Bool) → (a && b) ≡ true → a ≡ true

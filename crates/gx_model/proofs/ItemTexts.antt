@@ -6,10 +6,10 @@ use Rattle.std.specs.Fmt.{decimal}
 use Rattle.std.proofs.lemmas.Bool.{false≢true, not-true}
 use Rattle.std.proofs.lemmas.List.Concat.{flat_map-cons}
 use Rattle.gx_model.specs.Texts.{Bytes, is_line}
-use Rattle.gx_model.specs.Items.{Item, Line, Data, Finished, items_of}
-use Rattle.gx_model.specs.Spelling.{HasNoLf, BeginsLine, data_line, delimiter_text, IsNot, Spells, IsReading, ended, taken}
+use Rattle.gx_model.specs.Streams.Items.{Item, Line, Data, Finished, items_of}
+use Rattle.gx_model.specs.Streams.Spelling.{HasNoLf, BeginsLine, data_line, delimiter_text, IsNot, Spells, IsReading, ended, taken}
 use Rattle.gx_model.specs.Export.{item_text}
-use Rattle.gx_model.specs.ExportLaws.{IsItem}
+use Rattle.gx_model.specs.Laws.ExportLaws.{IsItem}
 use Rattle.gx_model.proofs.Idents.{and_one, and_two}
 use Rattle.gx_model.proofs.Decimals.{AreDigits, decimal_digits, decimal_read}
 use Rattle.gx_model.proofs.LineTexts.{digits_are_line}

@@ -5,13 +5,13 @@ use Rattle.std.specs.Bool.{passes}
 use Rattle.std.specs.List.{filter_map, fold, AllByRecursion, cons_option}
 use Rattle.std.specs.Prelude.{IsTrue, T, ◌⊎◌}
 use Rattle.gx_model.specs.Export.{content_in, contents, with_blobs, with_commit}
-use Rattle.gx_model.specs.ExportLaws.{AnyReaches, HoldsWhat, IsOne, values_with_blobs, values_with_commit}
-use Rattle.gx_model.specs.Files.{FileMap, depth}
+use Rattle.gx_model.specs.Laws.ExportLaws.{AnyReaches, HoldsWhat, IsOne, values_with_blobs, values_with_commit}
+use Rattle.gx_model.specs.Histories.Files.{FileMap, depth}
 use Rattle.gx_model.specs.Histories.{IsIn, IsWhole, Reaches, is_in, itself, through, with_one, with_tree, with_tree_to, with_value}
-use Rattle.gx_model.specs.HistoryLaws.{IsAdded}
-use Rattle.gx_model.specs.Ranges.{commit_of}
+use Rattle.gx_model.specs.Laws.HistoryLaws.{IsAdded}
+use Rattle.gx_model.specs.Revisions.Ranges.{commit_of}
 use Rattle.gx_model.specs.Texts.{Bytes}
-use Rattle.gx_model.specs.Values.{Commit, Value, blob_of, blob_value, blobs_of, commit_value, files_of, is_proper, list_of, parents_of, parts, sub_maps, tree_value}
+use Rattle.gx_model.specs.Histories.Values.{Commit, Value, blob_of, blob_value, blobs_of, commit_value, files_of, is_proper, list_of, parents_of, parts, sub_maps, tree_value}
 use Rattle.gx_model.specs.declared.objects.Mode.{Mode}
 use Rattle.gx_model.specs.declared.objects.Mode.TheVariants.{Dir, Exec, File, Gitlink, Link}
 use Rattle.gx_model.proofs.AddedValues.{all_join, in_left, in_some, is_in_is, keeps, one_added, value_added}

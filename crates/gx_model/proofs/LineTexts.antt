@@ -6,10 +6,10 @@ use Rattle.std.proofs.lemmas.Bool.{false≢true, and_from, not-true, or_parts, n
 use Rattle.std.proofs.lemmas.Bool.Decides.{Decides-eqb, nat_tests}
 use Rattle.std.proofs.lemmas.List.Folds.{list_all-append}
 use Rattle.gx_model.specs.Texts.{Bytes, is_line, lacks}
-use Rattle.gx_model.specs.Numbers.{is_number}
-use Rattle.gx_model.specs.RefNames.{is_ref_name, is_ref_byte, tag_ref, is_tag_name}
-use Rattle.gx_model.specs.Idents.{is_ident, is_plain, is_offset, IsIdentHead}
-use Rattle.gx_model.specs.Paths.{printed, printed_byte, is_printed_bare, letter_of, escaped}
+use Rattle.gx_model.specs.Texts.Numbers.{is_number}
+use Rattle.gx_model.specs.Texts.RefNames.{is_ref_name, is_ref_byte, tag_ref, is_tag_name}
+use Rattle.gx_model.specs.Texts.Idents.{is_ident, is_plain, is_offset, IsIdentHead}
+use Rattle.gx_model.specs.Texts.Paths.{printed, printed_byte, is_printed_bare, letter_of, escaped}
 use Rattle.gx_model.proofs.Idents.{and_one, and_two, reads_ident}
 
 -- each byte passes a test that LF doesn't pass

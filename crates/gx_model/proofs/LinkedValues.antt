@@ -6,13 +6,13 @@ use Rattle.std.specs.Bool.{passes}
 use Rattle.gx_model.specs.declared.objects.Kind.{Kind}
 use Rattle.gx_model.specs.declared.objects.Kind.TheVariants as kind
 use Rattle.gx_model.specs.Texts.{Bytes, same_bytes}
-use Rattle.gx_model.specs.Values.{Tag, Value, blob_value, tree_value, commit_value, tag_value, parts, is_proper}
+use Rattle.gx_model.specs.Histories.Values.{Tag, Value, blob_value, tree_value, commit_value, tag_value, parts, is_proper}
 use Rattle.gx_model.specs.Objects.{IsNamer}
 use Rattle.gx_model.specs.Records.{kind_of, name_of}
 use Rattle.gx_model.specs.Histories.{Record, AreDistinct, IsIn, IsClosedAfter, record_of}
 use Rattle.gx_model.specs.Histories.{IsWhole}
-use Rattle.gx_model.specs.Sound.{AnyByRecursion}
-use Rattle.gx_model.specs.HistoryOf.{Named, value_named, bytes_of_blob, files_of_tree, commit_of_value}
+use Rattle.gx_model.specs.Records.Sound.{AnyByRecursion}
+use Rattle.gx_model.specs.Records.HistoryOf.{Named, value_named, bytes_of_blob, files_of_tree, commit_of_value}
 use Rattle.gx_model.proofs.PathTests.{first, second, is_true, is_same, same_is}
 use Rattle.gx_model.proofs.AddedValues.{in_left, all_keep}
 use Rattle.gx_model.proofs.OneHistory.{no_other}

@@ -4,8 +4,8 @@ use Rattle.std.specs.Prelude.{T}
 use Rattle.std.specs.List.{list_all}
 use Rattle.std.proofs.lemmas.Grind.{common_steps}
 use Rattle.gx_model.specs.Texts.{Bytes}
-use Rattle.gx_model.specs.Values.{is_hex_digit}
-use Rattle.gx_model.specs.Denotation.{lower}
+use Rattle.gx_model.specs.Histories.Values.{is_hex_digit}
+use Rattle.gx_model.specs.Revisions.Denotation.{lower}
 use Rattle.gx_model.proofs.PathTests.{first, is_true, second}
 
 same_digit : (d : ℕ) → is_hex_digit d ≡ true → lower d ≡ d

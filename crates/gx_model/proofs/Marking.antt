@@ -5,15 +5,15 @@ use Rattle.std.specs.List.{slice_get}
 use Rattle.std.proofs.Math.Dec.{eqb}
 use Rattle.std.proofs.lemmas.Bool.Decides.{eqb_tells}
 use Rattle.gx_model.specs.declared.objects.Kind.{Kind}
-use Rattle.gx_model.specs.Values.{Commit, Commits, Value, commit, commit_value, list_of, more, none, parents_of, same_commit}
+use Rattle.gx_model.specs.Histories.Values.{Commit, Commits, Value, commit, commit_value, list_of, more, none, parents_of, same_commit}
 use Rattle.gx_model.specs.Objects.{IsNamer}
 use Rattle.gx_model.specs.Histories.{Records}
-use Rattle.gx_model.specs.HistoryLaws.{IsParent}
-use Rattle.gx_model.specs.Ranges.{reaches, some_reaches}
-use Rattle.gx_model.specs.Sound.{IsSound}
+use Rattle.gx_model.specs.Laws.HistoryLaws.{IsParent}
+use Rattle.gx_model.specs.Revisions.Ranges.{reaches, some_reaches}
+use Rattle.gx_model.specs.Records.Sound.{IsSound}
 use Rattle.gx_model.proofs.PathTests.{one_of}
 use Rattle.gx_model.proofs.SameValues.{commit_is}
-use Rattle.gx_model.specs.Marks.{IsAt, IsMarked, Marks, holds, marks_of}
+use Rattle.gx_model.specs.Histories.Marks.{IsAt, IsMarked, Marks, holds, marks_of}
 use Rattle.gx_model.proofs.Standing.{same_place}
 
 -- one of the first n

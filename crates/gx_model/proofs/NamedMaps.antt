@@ -8,14 +8,14 @@ use Rattle.gx_model.specs.declared.objects.Kind.TheVariants as kinds
 use Rattle.gx_model.specs.declared.objects.Mode.{Mode}
 use Rattle.gx_model.specs.declared.objects.Mode.TheVariants.{File, Exec, Link, Gitlink, Dir}
 use Rattle.gx_model.specs.Texts.{Bytes}
-use Rattle.gx_model.specs.Edits.{modified, without_line}
-use Rattle.gx_model.specs.Files.{FileMap, Leaf}
-use Rattle.gx_model.specs.Paths.{Path, are_in_line, path_cmp}
+use Rattle.gx_model.specs.Histories.Edits.{modified, without_line}
+use Rattle.gx_model.specs.Histories.Files.{FileMap, Leaf}
+use Rattle.gx_model.specs.Texts.Paths.{Path, are_in_line, path_cmp}
 use Rattle.gx_model.specs.Histories.{Record}
-use Rattle.gx_model.specs.Sound.{IsHeldAs, IsNamedMap, Keeps}
+use Rattle.gx_model.specs.Records.Sound.{IsHeldAs, IsNamedMap, Keeps}
 use Rattle.gx_model.specs.Faults.{Gives}
 use Rattle.gx_model.specs.declared.faults.Fault.{Fault}
-use Rattle.gx_model.specs.NameMaps.{IsNameMap}
+use Rattle.gx_model.specs.Objects.NameMaps.{IsNameMap}
 
 leaf_kept : (old new : List Record) → Keeps old new → (mode : Mode) (n : Bytes) → mode ≢ Dir → IsHeldAs old mode n → IsHeldAs new mode n
 leaf_kept old new k File n m h = k kinds.Blob n h

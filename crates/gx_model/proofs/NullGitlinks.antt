@@ -8,14 +8,14 @@ use Rattle.std.specs.FinMap.Entries.{by_order, put}
 use Rattle.gx_model.specs.declared.faults.Fault.{Fault}
 use Rattle.gx_model.specs.Texts.{Bytes}
 use Rattle.gx_model.specs.Faults.{and_then}
-use Rattle.gx_model.specs.Paths.{Path, path_cmp}
-use Rattle.gx_model.specs.Files.{FileMap, under}
-use Rattle.gx_model.specs.Edits.{copied, copy_fault, modified, moved, renamed, unless, with_all, without, without_line}
-use Rattle.gx_model.specs.Values.{Commit, Commits, Value, blob_value, commit, commit_value, commits_of, files_of, list_of, more, none, parents_of, tag_value, tree_value}
+use Rattle.gx_model.specs.Texts.Paths.{Path, path_cmp}
+use Rattle.gx_model.specs.Histories.Files.{FileMap, under}
+use Rattle.gx_model.specs.Histories.Edits.{copied, copy_fault, modified, moved, renamed, unless, with_all, without, without_line}
+use Rattle.gx_model.specs.Histories.Values.{Commit, Commits, Value, blob_value, commit, commit_value, commits_of, files_of, list_of, more, none, parents_of, tag_value, tree_value}
 use Rattle.gx_model.specs.Histories.{IsClosedAfter, IsIn, is_in, with_one, with_tree}
-use Rattle.gx_model.specs.Growth.{all_trees}
-use Rattle.gx_model.specs.ExportLaws.{HaveNoNullGitlink, IsNotNull}
-use Rattle.gx_model.specs.Ranges.{commit_of}
+use Rattle.gx_model.specs.Records.Growth.{all_trees}
+use Rattle.gx_model.specs.Laws.ExportLaws.{HaveNoNullGitlink, IsNotNull}
+use Rattle.gx_model.specs.Revisions.Ranges.{commit_of}
 use Rattle.gx_model.proofs.GrownTrees.{trees_fold}
 use Rattle.gx_model.proofs.KeptCommits.{all_in}
 

@@ -6,10 +6,10 @@ use Rattle.std.specs.Bool.{passes}
 use Rattle.gx_model.specs.declared.objects.Kind.{Kind}
 use Rattle.gx_model.specs.declared.objects.Kind.TheVariants as kind
 use Rattle.gx_model.specs.Texts.{Bytes, same_bytes}
-use Rattle.gx_model.specs.Files.{FileMap}
-use Rattle.gx_model.specs.Values.{CommitText, Commit, commit, Commits, none, more, Tag, Value, blob_value, tree_value, commit_value, tag_value, list_of, parts, is_proper, is_content, is_optional_line, is_proper_text, is_optional_ident}
+use Rattle.gx_model.specs.Histories.Files.{FileMap}
+use Rattle.gx_model.specs.Histories.Values.{CommitText, Commit, commit, Commits, none, more, Tag, Value, blob_value, tree_value, commit_value, tag_value, list_of, parts, is_proper, is_content, is_optional_line, is_proper_text, is_optional_ident}
 use Rattle.gx_model.specs.Texts.{is_line}
-use Rattle.gx_model.specs.RefNames.{is_tag_name}
+use Rattle.gx_model.specs.Texts.RefNames.{is_tag_name}
 use Rattle.gx_model.specs.Objects.{IsNamer, hex, hex_digit, line, optional_line, text_lines}
 use Rattle.gx_model.specs.Records.{tree_name, commit_body, parent_lines, tag_body, kind_of, body_of, name_of}
 use Rattle.gx_model.specs.Histories.{IsIn, IsClosedAfter, Target, at_commit, at_tag, value_at, History, Records, AreDistinct, record_of, StandsFor}

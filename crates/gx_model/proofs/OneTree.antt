@@ -10,9 +10,9 @@ use Rattle.gx_model.specs.declared.objects.Mode.{Mode}
 use Rattle.gx_model.specs.declared.objects.Mode.TheVariants.{File, Exec, Link, Gitlink, Dir}
 use Rattle.std.specs.Bool.{passes}
 use Rattle.gx_model.specs.Texts.{Bytes, same_bytes}
-use Rattle.gx_model.specs.Paths.{Path, same_path, begins, is_component, is_file_path, are_in_line}
-use Rattle.gx_model.specs.Files.{FileMap, Leaf, first_component, first_components, with_first, sub_map, file_at, is_file_map, are_file_paths, are_apart}
-use Rattle.gx_model.specs.Values.{Value, blob_value, tree_value, blob_of, blobs_of, sub_maps, parts, is_leaf, is_content, is_name_text, is_hex_digit}
+use Rattle.gx_model.specs.Texts.Paths.{Path, same_path, begins, is_component, is_file_path, are_in_line}
+use Rattle.gx_model.specs.Histories.Files.{FileMap, Leaf, first_component, first_components, with_first, sub_map, file_at, is_file_map, are_file_paths, are_apart}
+use Rattle.gx_model.specs.Histories.Values.{Value, blob_value, tree_value, blob_of, blobs_of, sub_maps, parts, is_leaf, is_content, is_name_text, is_hex_digit}
 use Rattle.gx_model.specs.Objects.{IsNamer, Entry, tree_text, unhex}
 use Rattle.gx_model.specs.Records.{node, entry, entries, tree_body, tree_name, content_name, named_map, name_of}
 use Rattle.gx_model.proofs.PathTests.{both, first, second, is_true, not_both, is_same, path_is, left_or, right_or}

@@ -8,9 +8,9 @@ use Rattle.std.specs.Ordering.{nat_cmp, ordering_then}
 use Rattle.std.specs.Cmp.Lexicographic.{slice_cmp}
 use Rattle.std.specs.FinMap.{nat_cmp-IsAntisymmetric}
 use Rattle.gx_model.specs.Texts.{Bytes}
-use Rattle.gx_model.specs.Paths.{Path, path_text, path_cmp, is_component}
+use Rattle.gx_model.specs.Texts.Paths.{Path, path_text, path_cmp, is_component}
 use Rattle.gx_model.specs.Objects.{Entry, entry_key}
-use Rattle.gx_model.specs.ObjectLaws.{IsAtOrBelow}
+use Rattle.gx_model.specs.Laws.ObjectLaws.{IsAtOrBelow}
 use Rattle.gx_model.proofs.PathTests.{component_free, first, second, not_both}
 
 -- the byte order

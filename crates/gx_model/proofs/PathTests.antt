@@ -6,7 +6,7 @@ use Rattle.std.specs.Str.{bytes_eq}
 use Rattle.std.specs.Cmp.Lexicographic.{bytes_decides}
 use Rattle.std.specs.Bool.{passes}
 use Rattle.gx_model.specs.Texts.{Bytes, same_bytes}
-use Rattle.gx_model.specs.Paths.{Path, same_path, begins, are_in_line, is_component}
+use Rattle.gx_model.specs.Texts.Paths.{Path, same_path, begins, are_in_line, is_component}
 
 -- both tests pass
 pub both : (a b : Bool) → T a → T b → T (a && b)

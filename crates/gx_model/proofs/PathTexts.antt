@@ -9,8 +9,8 @@ use Rattle.std.proofs.lemmas.List.Splits.{join_with_byte-slice_split, slice_spli
 use Rattle.gx_model.specs.declared.faults.Fault.{Fault}
 use Rattle.gx_model.specs.declared.faults.Fault.TheVariants as faults
 use Rattle.gx_model.specs.Texts.{Bytes}
-use Rattle.gx_model.specs.Paths.{AreBytes, Path, is_component, parts_of, path_of, path_text, IsPathOf}
-use Rattle.gx_model.specs.TextLaws.{HasNoPath, HasLongPath, IsPathFault}
+use Rattle.gx_model.specs.Texts.Paths.{AreBytes, Path, is_component, parts_of, path_of, path_text, IsPathOf}
+use Rattle.gx_model.specs.Laws.TextLaws.{HasNoPath, HasLongPath, IsPathFault}
 use Rattle.gx_model.proofs.Idents.{and_one, and_two}
 
 -- the components of a text, joined again, are the text

@@ -4,16 +4,16 @@ use Rattle.std.specs.Prelude.{IsTrue, is_some}
 use Rattle.gx_model.specs.declared.objects.Kind.{Kind}
 use Rattle.gx_model.specs.declared.objects.Kind.TheVariants as kinds
 use Rattle.gx_model.specs.Texts.{Bytes}
-use Rattle.gx_model.specs.Values.{Value, blob_value, commit_value, tag_value, tree_value}
+use Rattle.gx_model.specs.Histories.Values.{Value, blob_value, commit_value, tag_value, tree_value}
 use Rattle.gx_model.specs.Objects.{IsNamer}
 use Rattle.gx_model.specs.Records.{kind_of}
 use Rattle.gx_model.specs.Histories.{Records, Target}
-use Rattle.gx_model.specs.HistoryOf.{commit_of_value, target_in, value_of_name}
-use Rattle.gx_model.specs.Growth.{record_named}
-use Rattle.gx_model.specs.RecordFaults.{is_held}
-use Rattle.gx_model.specs.Sound.{AnyByRecursion, Holds, IsSound, IsTarget}
-use Rattle.gx_model.specs.Lookups.{commit_named}
-use Rattle.gx_model.specs.Denotation.{commit_in}
+use Rattle.gx_model.specs.Records.HistoryOf.{commit_of_value, target_in, value_of_name}
+use Rattle.gx_model.specs.Records.Growth.{record_named}
+use Rattle.gx_model.specs.Records.RecordFaults.{is_held}
+use Rattle.gx_model.specs.Records.Sound.{AnyByRecursion, Holds, IsSound, IsTarget}
+use Rattle.gx_model.specs.Records.Lookups.{commit_named}
+use Rattle.gx_model.specs.Revisions.Denotation.{commit_in}
 use Rattle.gx_model.specs.Replay.{peeled_at}
 use Rattle.gx_model.proofs.HeldObjects.{any_named}
 use Rattle.gx_model.proofs.HeldValues.{held_is, holds_held, kind_held, peeled_none, peeled_to}

@@ -3,9 +3,9 @@ use Rattle.std.proofs.Common.{[], ◌∷◌, Option, None, Some}
 use Rattle.std.specs.Prelude.{T, ◌&&◌}
 use Rattle.std.specs.Bool.{passes}
 use Rattle.gx_model.specs.Texts.{Bytes, is_line}
-use Rattle.gx_model.specs.RefNames.{is_tag_name}
-use Rattle.gx_model.specs.Idents.{is_ident}
-use Rattle.gx_model.specs.Values.{CommitText, is_optional_encoding, is_optional_ident, is_optional_line, is_proper_text}
+use Rattle.gx_model.specs.Texts.RefNames.{is_tag_name}
+use Rattle.gx_model.specs.Texts.Idents.{is_ident}
+use Rattle.gx_model.specs.Histories.Values.{CommitText, is_optional_encoding, is_optional_ident, is_optional_line, is_proper_text}
 use Rattle.gx_model.proofs.PathTests.{first, is_true, second}
 use Rattle.gx_model.proofs.LineTexts.{ident_is_line, tag_is_line}
 

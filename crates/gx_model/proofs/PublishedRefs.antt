@@ -10,13 +10,13 @@ use Rattle.std.specs.Ordering.{ordering_reverse, is_lt, is_eq, eq_by_cmp}
 use Rattle.std.specs.Prelude.{T, ◌⊎◌}
 use Rattle.std.specs.declared.cmp.Ordering.TheVariants.{Less, Equal, Greater}
 use Rattle.gx_model.specs.Export.{ref_command}
-use Rattle.gx_model.specs.ExportLaws.{AnyReaches, numbered, steps}
+use Rattle.gx_model.specs.Laws.ExportLaws.{AnyReaches, numbered, steps}
 use Rattle.gx_model.specs.Histories.{IsIn, IsRefOf, IsWhole, Reaches, Target, at_commit, at_tag, itself, value_at, with_one}
-use Rattle.gx_model.specs.HistoryLaws.{IsAdded}
-use Rattle.gx_model.specs.Ranges.{commit_of}
+use Rattle.gx_model.specs.Laws.HistoryLaws.{IsAdded}
+use Rattle.gx_model.specs.Revisions.Ranges.{commit_of}
 use Rattle.gx_model.specs.Replay.{State, byte_cmp, peeled_at, with_branch}
 use Rattle.gx_model.specs.Texts.{Bytes}
-use Rattle.gx_model.specs.Values.{Commit, Tag, Value, commit_value, is_proper, tag_value}
+use Rattle.gx_model.specs.Histories.Values.{Commit, Tag, Value, commit_value, is_proper, tag_value}
 use Rattle.gx_model.specs.declared.objects.Kind.{Kind}
 use Rattle.gx_model.proofs.AddedValues.{keeps, one_added}
 use Rattle.gx_model.proofs.CommitSteps.{number_found}

@@ -2,7 +2,7 @@
 use Rattle.std.proofs.Common.{◌≡◌, ◌≤◌, true, false, cond, List, [], ◌∷◌, ◌++◌, length, take, Option, Some, None, refl, sym, ap, ◌∙◌, arith}
 use Rattle.std.proofs.lemmas.List.{take-append-le, length-take, take_all, take-take}
 use Rattle.gx_model.specs.Histories.{Record}
-use Rattle.gx_model.specs.Growth.{and_some, put, put_all, put_under, record_named, same_object}
+use Rattle.gx_model.specs.Records.Growth.{and_some, put, put_all, put_under, record_named, same_object}
 
 after_put : (o : Option (List Record)) (ms ns : List Record) → ((s : List Record) → put_all s (ms ++ ns) ≡ and_some (put_all s ms) (λ s. put_all s ns)) → and_some o (λ s. put_all s (ms ++ ns)) ≡ and_some (and_some o (λ s. put_all s ms)) (λ s. put_all s ns)
 after_put None ms ns h = refl

@@ -1,9 +1,9 @@
 -- The commits that one reaches are the least set with it and with the parents of its members.
 use Rattle.std.proofs.Common.{Bool, refl, sym, subst, inl, inr}
 use Rattle.std.specs.Prelude.{T}
-use Rattle.gx_model.specs.Values.{Commit, commit, Commits, none, more, parents_of, same_commit}
-use Rattle.gx_model.specs.Ranges.{reaches, some_reaches}
-use Rattle.gx_model.specs.HistoryLaws.{IsParent}
+use Rattle.gx_model.specs.Histories.Values.{Commit, commit, Commits, none, more, parents_of, same_commit}
+use Rattle.gx_model.specs.Revisions.Ranges.{reaches, some_reaches}
+use Rattle.gx_model.specs.Laws.HistoryLaws.{IsParent}
 use Rattle.gx_model.proofs.PathTests.{left_or, right_or, one_of}
 use Rattle.gx_model.proofs.SameValues.{commit_is, commit_same}
 

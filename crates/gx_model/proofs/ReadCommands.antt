@@ -9,15 +9,15 @@ use Rattle.gx_model.specs.declared.faults.Fault.TheVariants as faults
 use Rattle.gx_model.specs.declared.objects.Mode.{Mode}
 use Rattle.gx_model.specs.declared.objects.Mode.TheVariants.{File, Exec, Link, Gitlink, Dir}
 use Rattle.gx_model.specs.Texts.{Bytes}
-use Rattle.gx_model.specs.RefNames.{is_ref_name, is_tag_name}
-use Rattle.gx_model.specs.Idents.{is_ident}
+use Rattle.gx_model.specs.Texts.RefNames.{is_ref_name, is_tag_name}
+use Rattle.gx_model.specs.Texts.Idents.{is_ident}
 use Rattle.gx_model.specs.Faults.{Given, ◌>>=◌}
-use Rattle.gx_model.specs.Paths.{Path, is_component, is_quoted, parts_of, path_at, path_of, quoted_of, unquote, with_rest}
-use Rattle.gx_model.specs.Items.{Data, End, Item, Line, Stream}
-use Rattle.gx_model.specs.Commands.{Change, Command, CommitIsh, DataRef, Modify}
-use Rattle.gx_model.specs.Values.{is_optional_encoding, is_optional_ident}
-use Rattle.gx_model.specs.Grammar.{AtBlock, AtMark, AtName, Read, Where, after, any_text, bare, blob_at, block, bytes_from, change_at, changes, changes_within, command_at, commands_within, commit_at, commit_ish_of, encoding_of, feature_of, ident_of, if_early, is_done, is_name, is_null, is_option, is_word, item_after, last_path, links_at, mark_of, mark_text, merges, mode_of, modify_at, needed, optional, part_of, read_needed, read_some, ref_of, reset_at, rest_line, rest_of, source_path, stops, suits, tag_at, tag_of, two_paths, unsigned, where_by, where_of, with_first, words_of, Words}
-use Rattle.gx_model.specs.ProperReplays.{IsProperChange, IsProperCommand, IsWholePath, StreamsAreProper}
+use Rattle.gx_model.specs.Texts.Paths.{Path, is_component, is_quoted, parts_of, path_at, path_of, quoted_of, unquote, with_rest}
+use Rattle.gx_model.specs.Streams.Items.{Data, End, Item, Line, Stream}
+use Rattle.gx_model.specs.Streams.Commands.{Change, Command, CommitIsh, DataRef, Modify}
+use Rattle.gx_model.specs.Histories.Values.{is_optional_encoding, is_optional_ident}
+use Rattle.gx_model.specs.Streams.Grammar.{AtBlock, AtMark, AtName, Read, Where, after, any_text, bare, blob_at, block, bytes_from, change_at, changes, changes_within, command_at, commands_within, commit_at, commit_ish_of, encoding_of, feature_of, ident_of, if_early, is_done, is_name, is_null, is_option, is_word, item_after, last_path, links_at, mark_of, mark_text, merges, mode_of, modify_at, needed, optional, part_of, read_needed, read_some, ref_of, reset_at, rest_line, rest_of, source_path, stops, suits, tag_at, tag_of, two_paths, unsigned, where_by, where_of, with_first, words_of, Words}
+use Rattle.gx_model.specs.Replay.ProperReplays.{IsProperChange, IsProperCommand, IsWholePath, StreamsAreProper}
 use Rattle.gx_model.proofs.PathTests.{both, is_true}
 use Rattle.gx_model.proofs.PathTexts.{text_of_parts}
 use Rattle.gx_model.proofs.NullGitlinks.{then_if}

@@ -8,11 +8,11 @@ use Rattle.gx_model.specs.declared.objects.Mode.{Mode}
 use Rattle.gx_model.specs.declared.objects.Mode.TheVariants.{File, Exec, Link, Gitlink, Dir}
 use Rattle.gx_model.specs.Texts.{Bytes}
 use Rattle.gx_model.specs.Faults.{Given, ◌>>=◌}
-use Rattle.gx_model.specs.Paths.{Path}
-use Rattle.gx_model.specs.Items.{Data, End, Failed, Finished, Item, Line, Stream}
-use Rattle.gx_model.specs.Commands.{Change, Command, CommitIsh, DataRef, Modify}
-use Rattle.gx_model.specs.Grammar.{AtBlock, AtMark, AtName, Read, Where, after, any_text, at_end, bare, blob_at, block, bytes_from, change_at, changes, changes_within, command_at, commands_within, commit_at, commit_ish_of, encoding_of, feature_of, ident_of, if_early, is_done, is_name, is_null, is_option, is_word, item_after, last_path, links_at, mark_of, mark_text, merges, mode_of, modify_at, needed, optional, part_of, ref_of, reset_at, rest_of, stops, suits, tag_at, tag_of, two_paths, unsigned, where_by, where_of, with_first, words_of, Words}
-use Rattle.gx_model.specs.Gitlinks.{BringsNoNullGitlink, GivesNoNullGitlink, StreamsBringNone}
+use Rattle.gx_model.specs.Texts.Paths.{Path}
+use Rattle.gx_model.specs.Streams.Items.{Data, End, Failed, Finished, Item, Line, Stream}
+use Rattle.gx_model.specs.Streams.Commands.{Change, Command, CommitIsh, DataRef, Modify}
+use Rattle.gx_model.specs.Streams.Grammar.{AtBlock, AtMark, AtName, Read, Where, after, any_text, at_end, bare, blob_at, block, bytes_from, change_at, changes, changes_within, command_at, commands_within, commit_at, commit_ish_of, encoding_of, feature_of, ident_of, if_early, is_done, is_name, is_null, is_option, is_word, item_after, last_path, links_at, mark_of, mark_text, merges, mode_of, modify_at, needed, optional, part_of, ref_of, reset_at, rest_of, stops, suits, tag_at, tag_of, two_paths, unsigned, where_by, where_of, with_first, words_of, Words}
+use Rattle.gx_model.specs.Streams.Gitlinks.{BringsNoNullGitlink, GivesNoNullGitlink, StreamsBringNone}
 use Rattle.gx_model.proofs.NullGitlinks.{then_if}
 
 any_ok : {A : Type 0} (r : Given A) → IfOk r (λ x. ⊤)

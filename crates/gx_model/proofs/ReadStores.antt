@@ -9,10 +9,10 @@ use Rattle.gx_model.specs.Texts.{Bytes}
 use Rattle.gx_model.specs.Faults.{and_then}
 use Rattle.gx_model.specs.Objects.{IsNamer, hex, line}
 use Rattle.gx_model.specs.Histories.{Record, Records}
-use Rattle.gx_model.specs.Naming.{kind_word}
-use Rattle.gx_model.specs.Sound.{IsSound}
-use Rattle.gx_model.specs.StoreText.{IsStoreText, length_text, store_text, stored_record, stored_ref, version_text}
-use Rattle.gx_model.specs.StoreReading.{Stored, after_magic, next_records, next_refs, store_of, stored_count, stored_end}
+use Rattle.gx_model.specs.Objects.Naming.{kind_word}
+use Rattle.gx_model.specs.Records.Sound.{IsSound}
+use Rattle.gx_model.specs.Stores.StoreText.{IsStoreText, length_text, store_text, stored_record, stored_ref, version_text}
+use Rattle.gx_model.specs.Stores.StoreReading.{Stored, after_magic, next_records, next_refs, store_of, stored_count, stored_end}
 use Rattle.gx_model.proofs.PathTests.{is_true}
 use Rattle.gx_model.proofs.StoreTexts.{both_steps, count_of, count_read, end_of, end_read, magic_of, magic_read, ok_is}
 use Rattle.gx_model.proofs.StoredRecords.{records_of_text, records_read}

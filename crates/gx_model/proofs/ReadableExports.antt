@@ -8,15 +8,15 @@ use Rattle.std.specs.Bool.{passes}
 use Rattle.std.specs.Fmt.{decimal}
 use Rattle.std.specs.List.{flat_map, fold, AllByRecursion, cons_option}
 use Rattle.std.specs.Prelude.{T}
-use Rattle.gx_model.specs.Commands.{Command}
+use Rattle.gx_model.specs.Streams.Commands.{Command}
 use Rattle.gx_model.specs.Export.{all_written, blob_commands, command_items, commit_command, commit_commands, content_in, contents, export_items, export_text, inner_commands, item_text, last_reset, one_commit, optional_line, reached_commits, ref_command, root_reset, with_blobs, with_commit}
-use Rattle.gx_model.specs.ExportLaws.{HasNoNullGitlink, HaveNoNullGitlink, IsNotNull, IsReadable, IsReadableCommit, IsReadableFile, IsReadableTarget}
-use Rattle.gx_model.specs.Files.{FileMap}
+use Rattle.gx_model.specs.Laws.ExportLaws.{HasNoNullGitlink, HaveNoNullGitlink, IsNotNull, IsReadable, IsReadableCommit, IsReadableFile, IsReadableTarget}
+use Rattle.gx_model.specs.Histories.Files.{FileMap}
 use Rattle.gx_model.specs.Histories.{History, IsHistory, IsIn, Target, at_commit, at_tag, is_in}
-use Rattle.gx_model.specs.Items.{Data, Item, Line}
-use Rattle.gx_model.specs.Paths.{Path}
+use Rattle.gx_model.specs.Streams.Items.{Data, Item, Line}
+use Rattle.gx_model.specs.Texts.Paths.{Path}
 use Rattle.gx_model.specs.Texts.{Bytes}
-use Rattle.gx_model.specs.Values.{Commit, Value, blob_value, commit_value, files_of, is_content, is_leaf, is_proper_text, list_of, parents_of, text_of}
+use Rattle.gx_model.specs.Histories.Values.{Commit, Value, blob_value, commit_value, files_of, is_content, is_leaf, is_proper_text, list_of, parents_of, text_of}
 use Rattle.gx_model.specs.declared.objects.Mode.{Mode}
 use Rattle.gx_model.specs.declared.objects.Mode.TheVariants.{Dir, Exec, File, Gitlink, Link}
 use Rattle.gx_model.proofs.AddedValues.{is_in_is}
@@ -24,7 +24,7 @@ use Rattle.gx_model.proofs.CommitSteps.{are_leaves, leaves_of}
 use Rattle.gx_model.proofs.ExportSteps.{all_follow}
 use Rattle.gx_model.proofs.KeptCommits.{FollowsAll}
 use Rattle.gx_model.proofs.PathTests.{first, is_true, second}
-use Rattle.gx_model.specs.Commands as command
+use Rattle.gx_model.specs.Streams.Commands as command
 
 abbrev Fits : Item → Type 0
 Fits (Line l) = Unit {0}

@@ -7,11 +7,11 @@ use Rattle.std.proofs.lemmas.List.{take_at, drop_at, length-append, take_all, dr
 use Rattle.std.proofs.lemmas.Slice.Eq.{starts_is, bytes_eq-Decides}
 use Rattle.std.proofs.Math.Seq.{drop-append-add}
 use Rattle.std.proofs.lemmas.Bool.Decides.{Decides-eqb, nat_tests}
-use Rattle.gx_model.specs.Numbers.{decimal_of}
+use Rattle.gx_model.specs.Texts.Numbers.{decimal_of}
 use Rattle.gx_model.specs.Texts.{Bytes}
 use Rattle.gx_model.specs.declared.faults.Fault.TheVariants as faults
-use Rattle.gx_model.specs.Items.{Item, Line, Data, End, Finished, Failed, takes, drops, ends, first_of, first_line, counted, counted_block, delimited, delimited_by, lines_before, with_line, without_lf, line_len, has_no_line, end_of, cut_off, then_comes, after, read_upto, items_of}
-use Rattle.gx_model.specs.Spelling.{HasNoLf, BeginsLine, comment_line, data_line, delimiter_text, IsNot, NoLfFirst, EndsBlock, AreOther, text_of_lines, Spells, IsCut, Ends, IsReading, ended, taken, dropped}
+use Rattle.gx_model.specs.Streams.Items.{Item, Line, Data, End, Finished, Failed, takes, drops, ends, first_of, first_line, counted, counted_block, delimited, delimited_by, lines_before, with_line, without_lf, line_len, has_no_line, end_of, cut_off, then_comes, after, read_upto, items_of}
+use Rattle.gx_model.specs.Streams.Spelling.{HasNoLf, BeginsLine, comment_line, data_line, delimiter_text, IsNot, NoLfFirst, EndsBlock, AreOther, text_of_lines, Spells, IsCut, Ends, IsReading, ended, taken, dropped}
 
 pub refuted : (b : Bool) → (b ≡ true → ⊥) → b ≡ false
 refuted true h = absurd (h refl)

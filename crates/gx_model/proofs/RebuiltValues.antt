@@ -9,12 +9,12 @@ use Rattle.std.specs.Bool.{passes}
 use Rattle.std.proofs.lemmas.List.Elements.{filter-append}
 use Rattle.gx_model.specs.declared.objects.Kind.{Kind}
 use Rattle.gx_model.specs.Texts.{Bytes, same_bytes}
-use Rattle.gx_model.specs.Paths.{Path, same_path, path_cmp, begins, are_in_line, is_component}
-use Rattle.gx_model.specs.Files.{FileMap, Leaf, first_components, with_first, file_at, sub_map, under, are_apart, are_file_paths}
-use Rattle.gx_model.specs.Values.{Value, tree_value, blobs_of, blob_of, sub_maps, parts, is_leaf, is_content}
+use Rattle.gx_model.specs.Texts.Paths.{Path, same_path, path_cmp, begins, are_in_line, is_component}
+use Rattle.gx_model.specs.Histories.Files.{FileMap, Leaf, first_components, with_first, file_at, sub_map, under, are_apart, are_file_paths}
+use Rattle.gx_model.specs.Histories.Values.{Value, tree_value, blobs_of, blob_of, sub_maps, parts, is_leaf, is_content}
 use Rattle.gx_model.specs.Objects.{IsNamer, Entry, entry_key, is_canonical, are_different, tree_text}
 use Rattle.gx_model.specs.Records.{node, entry, entries, named_map, tree_name, tree_body}
-use Rattle.gx_model.specs.HistoryOf.{placed}
+use Rattle.gx_model.specs.Records.HistoryOf.{placed}
 use Rattle.gx_model.proofs.PathTests.{both, first, second, all_append}
 use Rattle.gx_model.proofs.PathOrder.{by_node, node_key, byte_cmp}
 use Rattle.gx_model.proofs.FileMapEdits.{Parts, of_parts, apart_moved}

@@ -10,11 +10,11 @@ use Rattle.gx_model.specs.declared.objects.Kind.TheVariants as kind
 use Rattle.gx_model.specs.declared.store_versions.Version.{Version}
 use Rattle.gx_model.specs.declared.store_versions.Version.TheVariants.{One, Two}
 use Rattle.gx_model.specs.Texts.{Bytes, cut_at, is_line, lacks, same_bytes}
-use Rattle.gx_model.specs.Values.{is_name_text}
+use Rattle.gx_model.specs.Histories.Values.{is_name_text}
 use Rattle.gx_model.specs.Objects.{hex, is_name, unhex}
-use Rattle.gx_model.specs.Naming.{kind_word}
-use Rattle.gx_model.specs.StoreText.{length_text}
-use Rattle.gx_model.specs.StoreReading.{Length, is_named, kind_words, length_field, record_line, stored_number, with_digits, with_length}
+use Rattle.gx_model.specs.Objects.Naming.{kind_word}
+use Rattle.gx_model.specs.Stores.StoreText.{length_text}
+use Rattle.gx_model.specs.Stores.StoreReading.{Length, is_named, kind_words, length_field, record_line, stored_number, with_digits, with_length}
 use Rattle.gx_model.proofs.PathTests.{both, is_same, is_true, same_is}
 use Rattle.gx_model.proofs.Cuts.{cut_after, cut_spelled}
 use Rattle.gx_model.proofs.LineTexts.{line_append}

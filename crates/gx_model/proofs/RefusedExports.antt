@@ -13,19 +13,19 @@ use Rattle.gx_model.specs.declared.objects.Kind.{Kind}
 use Rattle.gx_model.specs.declared.objects.Mode.{Mode}
 use Rattle.gx_model.specs.declared.objects.Mode.TheVariants.{File, Exec, Link, Gitlink, Dir}
 use Rattle.gx_model.specs.Texts.{Bytes, cut_at}
-use Rattle.gx_model.specs.Idents.{is_ident}
+use Rattle.gx_model.specs.Texts.Idents.{is_ident}
 use Rattle.gx_model.specs.Faults.{and_then}
-use Rattle.gx_model.specs.Paths.{Path, is_file_path, path_text, printed}
-use Rattle.gx_model.specs.Files.{FileMap, Leaf, are_file_paths}
-use Rattle.gx_model.specs.Values.{Commit, Value, blob_value, commit_value, files_of, is_content, is_hex_digit, is_leaf, is_name_text, is_optional_encoding, is_proper, is_proper_text, list_of, parents_of, text_of}
+use Rattle.gx_model.specs.Texts.Paths.{Path, is_file_path, path_text, printed}
+use Rattle.gx_model.specs.Histories.Files.{FileMap, Leaf, are_file_paths}
+use Rattle.gx_model.specs.Histories.Values.{Commit, Value, blob_value, commit_value, files_of, is_content, is_hex_digit, is_leaf, is_name_text, is_optional_encoding, is_proper, is_proper_text, list_of, parents_of, text_of}
 use Rattle.gx_model.specs.Histories.{History, IsHistory, IsIn}
-use Rattle.gx_model.specs.Items.{Data, Finished, Item, Line, Stream, items_of}
-use Rattle.gx_model.specs.Commands as command
-use Rattle.gx_model.specs.Commands.{Change, Clear, Command, CommitIsh, CommitParts, Copy, Modify, Object, Remove, Rename}
-use Rattle.gx_model.specs.Grammar.{block_in, change_at, changes_within, command_at, commands_of, commands_within, commit_at, is_null, is_option, item_after_in, links_at, mark_number, modify_at, rest_line_in, stops, unsigned_in, where_by, where_of, with_first, words_of}
+use Rattle.gx_model.specs.Streams.Items.{Data, Finished, Item, Line, Stream, items_of}
+use Rattle.gx_model.specs.Streams.Commands as command
+use Rattle.gx_model.specs.Streams.Commands.{Change, Clear, Command, CommitIsh, CommitParts, Copy, Modify, Object, Remove, Rename}
+use Rattle.gx_model.specs.Streams.Grammar.{block_in, change_at, changes_within, command_at, commands_of, commands_within, commit_at, is_null, is_option, item_after_in, links_at, mark_number, modify_at, rest_line_in, stops, unsigned_in, where_by, where_of, with_first, words_of}
 use Rattle.gx_model.specs.Export.{all_written, blob_commands, carrier, change_items, command_items, commit_command, commit_commands, contents, export_text, file_change, first_parent, from_line, inner_commands, item_text, last_reset, mode_digits, one_commit, optional_line, other_parents, reached_commits, ref_command, root_reset, with_blobs, with_commit}
-use Rattle.gx_model.specs.ExportLaws.{HaveNoNullGitlink, IsMark, IsNamedByMark, IsNamedByMarkIf, IsNotNull, IsOne, IsSpelledChange, IsSpelledCommit, between, nothing, state_at, steps, values_with_blobs}
-use Rattle.gx_model.specs.Gitlinks.{NullGitlinksAreRefused}
+use Rattle.gx_model.specs.Laws.ExportLaws.{HaveNoNullGitlink, IsMark, IsNamedByMark, IsNamedByMarkIf, IsNotNull, IsOne, IsSpelledChange, IsSpelledCommit, between, nothing, state_at, steps, values_with_blobs}
+use Rattle.gx_model.specs.Streams.Gitlinks.{NullGitlinksAreRefused}
 use Rattle.gx_model.specs.Replay.{Outcome, State, refused, replayed, replayed_text, start, step}
 use Rattle.gx_model.proofs.PathTests.{first, is_true, second}
 use Rattle.gx_model.proofs.FileMapEdits.{parts_of}

@@ -7,8 +7,8 @@ use Rattle.std.specs.Ordering.{is_lt, ordering_reverse}
 use Rattle.std.specs.declared.cmp.Ordering.TheVariants.{Less, Equal, Greater}
 use Rattle.std.specs.Cmp.{tied_itself}
 use Rattle.std.specs.FinMap.Entries.{below_all, is_sorted}
-use Rattle.gx_model.specs.Paths.{Path, are_in_line, begins, path_cmp, same_path}
-use Rattle.gx_model.specs.Files.{are_apart, file_at}
+use Rattle.gx_model.specs.Texts.Paths.{Path, are_in_line, begins, path_cmp, same_path}
+use Rattle.gx_model.specs.Histories.Files.{are_apart, file_at}
 use Rattle.gx_model.proofs.PathTests.{both, first, is_true, not_both, or_comm, path_is, path_same, second}
 use Rattle.gx_model.proofs.FileMapEdits.{Parts, path_order}
 use Rattle.gx_model.proofs.PathRuns.{less_is, tail_parts}

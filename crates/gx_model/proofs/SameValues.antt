@@ -6,9 +6,9 @@ use Rattle.std.specs.Bool.{passes}
 use Rattle.gx_model.specs.declared.objects.Mode.{Mode}
 use Rattle.gx_model.specs.declared.objects.Mode.TheVariants.{File, Exec, Link, Gitlink, Dir}
 use Rattle.gx_model.specs.Texts.{Bytes, same_bytes}
-use Rattle.gx_model.specs.Files.{FileMap}
-use Rattle.gx_model.specs.Paths.{same_path}
-use Rattle.gx_model.specs.Values.{CommitText, Commit, commit, Commits, none, more, Value, blob_value, tree_value, commit_value, tag_value, same_mode, same_files, same_text_of, same_commit, same_commits, same_value}
+use Rattle.gx_model.specs.Histories.Files.{FileMap}
+use Rattle.gx_model.specs.Texts.Paths.{same_path}
+use Rattle.gx_model.specs.Histories.Values.{CommitText, Commit, commit, Commits, none, more, Value, blob_value, tree_value, commit_value, tag_value, same_mode, same_files, same_text_of, same_commit, same_commits, same_value}
 use Rattle.gx_model.proofs.PathTests.{both, first, second, is_true, same_is, is_same, path_is, path_same}
 
 -- modes that the test finds equal are one

@@ -8,15 +8,15 @@ use Rattle.gx_model.specs.declared.objects.Kind.TheVariants as kind
 use Rattle.gx_model.specs.declared.objects.Mode.{Mode}
 use Rattle.gx_model.specs.declared.objects.Mode.TheVariants.{File, Exec, Link, Gitlink, Dir}
 use Rattle.gx_model.specs.Texts.{Bytes}
-use Rattle.gx_model.specs.Paths.{Path, same_path, is_short}
-use Rattle.gx_model.specs.Files.{FileMap, Leaf, file_at}
-use Rattle.gx_model.specs.Values.{Value, tree_value}
+use Rattle.gx_model.specs.Texts.Paths.{Path, same_path, is_short}
+use Rattle.gx_model.specs.Histories.Files.{FileMap, Leaf, file_at}
+use Rattle.gx_model.specs.Histories.Values.{Value, tree_value}
 use Rattle.gx_model.specs.Objects.{IsNamer, Entry, IsTreeText}
 use Rattle.gx_model.specs.Records.{name_of, body_of}
 use Rattle.gx_model.specs.Histories.{Records, AreDistinct, IsIn, record_of}
 use Rattle.gx_model.specs.Histories.{IsWhole}
-use Rattle.gx_model.specs.Sound.{AnyByRecursion, IsHeldAs, HasPath, here, below, HasShortPaths, IsSound}
-use Rattle.gx_model.specs.HistoryOf.{Named, value_named, files_of_tree, entries_in, placed, files_at, files_of_entries, named_values, history_of}
+use Rattle.gx_model.specs.Records.Sound.{AnyByRecursion, IsHeldAs, HasPath, here, below, HasShortPaths, IsSound}
+use Rattle.gx_model.specs.Records.HistoryOf.{Named, value_named, files_of_tree, entries_in, placed, files_at, files_of_entries, named_values, history_of}
 use Rattle.gx_model.proofs.PathTests.{both, first, second, is_true, path_is, all_append}
 use Rattle.gx_model.proofs.PathRuns.{same_itself}
 use Rattle.gx_model.proofs.OneHistory.{told_by_name}

@@ -13,24 +13,24 @@ use Rattle.gx_model.specs.declared.objects.Kind.{Kind}
 use Rattle.gx_model.specs.declared.objects.Mode.{Mode}
 use Rattle.gx_model.specs.declared.objects.Mode.TheVariants.{File, Exec, Link, Gitlink, Dir}
 use Rattle.gx_model.specs.Texts.{Bytes, same_bytes}
-use Rattle.gx_model.specs.RefNames.{is_ref_name}
+use Rattle.gx_model.specs.Texts.RefNames.{is_ref_name}
 use Rattle.gx_model.specs.Faults.{Given, and_then}
-use Rattle.gx_model.specs.Paths.{Path}
-use Rattle.gx_model.specs.Files.{FileMap, Leaf, file_at, sub_map}
-use Rattle.gx_model.specs.Values.{Commit, Tag, Value, blob_value, commit_value, tag_value, tree_value}
+use Rattle.gx_model.specs.Texts.Paths.{Path}
+use Rattle.gx_model.specs.Histories.Files.{FileMap, Leaf, file_at, sub_map}
+use Rattle.gx_model.specs.Histories.Values.{Commit, Tag, Value, blob_value, commit_value, tag_value, tree_value}
 use Rattle.gx_model.specs.Objects.{IsNamer, TagParts}
 use Rattle.gx_model.specs.Records.{body_of, commit_body, content_name, kind_of, name_of, parts_of_commit, tag_body, tree_name}
 use Rattle.gx_model.specs.Histories.{AreDistinct, History, IsClosedAfter, IsHistory, IsIn, IsRefOf, IsWhole, Record, Records, StandsFor, Target, itself, record_of, value_at}
-use Rattle.gx_model.specs.HistoryOf.{commit_parts_in, history_of, tag_parts_in}
-use Rattle.gx_model.specs.Sound.{AnyByRecursion, IsSound}
-use Rattle.gx_model.specs.Growth.{record_named}
-use Rattle.gx_model.specs.Walks.{place_in, place_of, walked}
-use Rattle.gx_model.specs.Lookups.{first_named, or_else}
+use Rattle.gx_model.specs.Records.HistoryOf.{commit_parts_in, history_of, tag_parts_in}
+use Rattle.gx_model.specs.Records.Sound.{AnyByRecursion, IsSound}
+use Rattle.gx_model.specs.Records.Growth.{record_named}
+use Rattle.gx_model.specs.Records.Walks.{place_in, place_of, walked}
+use Rattle.gx_model.specs.Records.Lookups.{first_named, or_else}
 use Rattle.gx_model.specs.Revisions.{Revision}
-use Rattle.gx_model.specs.Denotation.{Shown, denoted, file_shown, files_in, first_ref, looked_up, object, of_file, or_ref, ref_names, shown_value, submodule}
+use Rattle.gx_model.specs.Revisions.Denotation.{Shown, denoted, file_shown, files_in, first_ref, looked_up, object, of_file, or_ref, ref_names, shown_value, submodule}
 use Rattle.gx_model.specs.Replay.{imported}
-use Rattle.gx_model.specs.ExportLaws.{AnyReaches, IsAgain, nothing}
-use Rattle.gx_model.specs.Headline.{ComesBack, Headline, Shows, body_named, file_held, leaf_held, object_denoted, tree_in, tree_named}
+use Rattle.gx_model.specs.Laws.ExportLaws.{AnyReaches, IsAgain, nothing}
+use Rattle.gx_model.specs.Laws.Headline.{ComesBack, Headline, Shows, body_named, file_held, leaf_held, object_denoted, tree_in, tree_named}
 use Rattle.gx_model.proofs.PathTests.{same_is}
 use Rattle.gx_model.proofs.AddedValues.{in_left, in_right}
 use Rattle.gx_model.proofs.LinkedValues.{parts_in, proper_in}

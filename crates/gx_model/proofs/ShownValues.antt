@@ -10,17 +10,17 @@ use Rattle.gx_model.specs.declared.objects.Mode.{Mode}
 use Rattle.gx_model.specs.declared.objects.Mode.TheVariants.{File, Exec, Link, Gitlink, Dir}
 use Rattle.gx_model.specs.Texts.{Bytes, same_bytes}
 use Rattle.gx_model.specs.Faults.{and_then}
-use Rattle.gx_model.specs.Paths.{Path}
-use Rattle.gx_model.specs.Files.{FileMap, Leaf, file_at, sub_map}
-use Rattle.gx_model.specs.Values.{Commit, Value, blob_of, blob_value, blobs_of, commit_value, files_of, is_content, is_leaf, list_of, parents_of, parts, sub_maps, tag_value, tree_value}
+use Rattle.gx_model.specs.Texts.Paths.{Path}
+use Rattle.gx_model.specs.Histories.Files.{FileMap, Leaf, file_at, sub_map}
+use Rattle.gx_model.specs.Histories.Values.{Commit, Value, blob_of, blob_value, blobs_of, commit_value, files_of, is_content, is_leaf, list_of, parents_of, parts, sub_maps, tag_value, tree_value}
 use Rattle.gx_model.specs.Objects.{IsNamer}
 use Rattle.gx_model.specs.Records.{kind_of, name_of}
 use Rattle.gx_model.specs.Histories.{AreDistinct, History, IsHistory, IsIn, IsWhole, Records, Target, value_at}
-use Rattle.gx_model.specs.HistoryOf.{history_of}
-use Rattle.gx_model.specs.Sound.{IsSound}
+use Rattle.gx_model.specs.Records.HistoryOf.{history_of}
+use Rattle.gx_model.specs.Records.Sound.{IsSound}
 use Rattle.gx_model.specs.Revisions.{Revision, Suffix, ancestor, as_blob, as_commit, as_tag, as_tree, itself, parent, peeled}
-use Rattle.gx_model.specs.Denotation.{Shown, all_suffixed, are_digits, at_path, base_value, begun_by, commit_in, denoted, files_in, find_ref, first_ref, full_name, nth_ancestor, nth_parent, object, of_leaf, of_sub_map, only_blob, only_commit, only_tag, or_no_parent, or_ref, peel, ref_at, ref_names, shown_at, submodule, suffixed, the_one}
-use Rattle.gx_model.specs.RepositoryLaws.{AreOneAnswer}
+use Rattle.gx_model.specs.Revisions.Denotation.{Shown, all_suffixed, are_digits, at_path, base_value, begun_by, commit_in, denoted, files_in, find_ref, first_ref, full_name, nth_ancestor, nth_parent, object, of_leaf, of_sub_map, only_blob, only_commit, only_tag, or_no_parent, or_ref, peel, ref_at, ref_names, shown_at, submodule, suffixed, the_one}
+use Rattle.gx_model.specs.Laws.RepositoryLaws.{AreOneAnswer}
 use Rattle.gx_model.proofs.OneTree.{all_left, found_known, only_file}
 use Rattle.gx_model.proofs.OneHistory.{told_by_name}
 use Rattle.gx_model.proofs.LinkedValues.{parts_in}

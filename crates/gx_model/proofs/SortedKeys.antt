@@ -7,8 +7,8 @@ use Rattle.std.specs.Ordering.{is_lt}
 use Rattle.std.specs.FinMap.Entries.{is_sorted, below_all}
 use Rattle.std.specs.Bool.{passes}
 use Rattle.gx_model.specs.Texts.{Bytes, same_bytes}
-use Rattle.gx_model.specs.Paths.{Path, same_path, path_cmp, is_component, is_file_path, are_in_line, begins}
-use Rattle.gx_model.specs.Files.{first_component, first_components, with_first, file_at, are_file_paths, are_apart}
+use Rattle.gx_model.specs.Texts.Paths.{Path, same_path, path_cmp, is_component, is_file_path, are_in_line, begins}
+use Rattle.gx_model.specs.Histories.Files.{first_component, first_components, with_first, file_at, are_file_paths, are_apart}
 use Rattle.gx_model.proofs.PathTests.{both, first, second, is_true, not_by, not_both, same_is, is_same, left_or, right_or, path_is, path_same}
 use Rattle.gx_model.proofs.PathOrder.{by_node, node_key, byte_cmp}
 use Rattle.gx_model.proofs.FileMapEdits.{Parts}

@@ -3,18 +3,18 @@ use Rattle.std.proofs.Common.{◌≡◌, suc, ◌<◌, ◌≤◌, ◌^◌, Bool,
 use Rattle.std.specs.Bool.{passes}
 use Rattle.std.specs.List.{list_all, fold, AllByRecursion, cons_option}
 use Rattle.std.specs.Prelude.{T, ◌⊎◌}
-use Rattle.gx_model.specs.Commands.{Command}
+use Rattle.gx_model.specs.Streams.Commands.{Command}
 use Rattle.gx_model.specs.Export.{all_written, blob_commands, carrier, commit_command, commit_commands, content_in, contents, dataref_in, export_items, export_text, file_change, first_parent, inner_commands, last_reset, marked_in, number_in, one_commit, other_parents, reached_commits, ref_command, root_reset, with_blobs, with_commit}
-use Rattle.gx_model.specs.ExportLaws.{IsAgain, IsDataRef, IsMark, IsNamedByMark, IsNamedByMarkIf, IsNotNull, IsOne, IsReadable, IsReadableCommit, IsReadableFile, IsReadableTarget, IsSpelled, IsSpelledChange, exported_report, nothing}
-use Rattle.gx_model.specs.Files.{FileMap, are_file_paths}
-use Rattle.gx_model.specs.Grammar.{commands_of}
+use Rattle.gx_model.specs.Laws.ExportLaws.{IsAgain, IsDataRef, IsMark, IsNamedByMark, IsNamedByMarkIf, IsNotNull, IsOne, IsReadable, IsReadableCommit, IsReadableFile, IsReadableTarget, IsSpelled, IsSpelledChange, exported_report, nothing}
+use Rattle.gx_model.specs.Histories.Files.{FileMap, are_file_paths}
+use Rattle.gx_model.specs.Streams.Grammar.{commands_of}
 use Rattle.gx_model.specs.Histories.{History, IsHistory, IsIn, Target, at_commit, at_tag, is_in, value_at}
-use Rattle.gx_model.specs.Idents.{is_ident}
-use Rattle.gx_model.specs.Paths.{is_file_path}
-use Rattle.gx_model.specs.RefNames.{is_ref_name, is_tag_name}
+use Rattle.gx_model.specs.Texts.Idents.{is_ident}
+use Rattle.gx_model.specs.Texts.Paths.{is_file_path}
+use Rattle.gx_model.specs.Texts.RefNames.{is_ref_name, is_tag_name}
 use Rattle.gx_model.specs.Replay.{finished, peeled_at, replayed, replayed_text, start}
 use Rattle.gx_model.specs.Texts.{Bytes}
-use Rattle.gx_model.specs.Values.{Commit, Value, blob_value, commit_value, files_of, is_content, is_leaf, is_proper, is_proper_text, list_of, parents_of, same_value, text_of}
+use Rattle.gx_model.specs.Histories.Values.{Commit, Value, blob_value, commit_value, files_of, is_content, is_leaf, is_proper, is_proper_text, list_of, parents_of, same_value, text_of}
 use Rattle.gx_model.specs.declared.objects.Kind.{Kind}
 use Rattle.gx_model.specs.declared.objects.Mode.{Mode}
 use Rattle.gx_model.specs.declared.objects.Mode.TheVariants.{Dir, Exec, File, Gitlink, Link}
@@ -27,7 +27,7 @@ use Rattle.gx_model.proofs.KeptCommits.{FollowsAll, each_one, one_of_all, snoc_a
 use Rattle.gx_model.proofs.PathTests.{first, is_true, second}
 use Rattle.gx_model.proofs.SameValues.{value_same}
 use Rattle.gx_model.proofs.SpelledItems.{between_spelled}
-use Rattle.gx_model.specs.Commands as command
+use Rattle.gx_model.specs.Streams.Commands as command
 
 -- ---- numbers
 

@@ -8,15 +8,15 @@ use Rattle.std.proofs.lemmas.Grind.{flat_map-append}
 use Rattle.gx_model.specs.declared.objects.Mode.{Mode}
 use Rattle.gx_model.specs.declared.objects.Mode.TheVariants.{File, Exec, Link, Gitlink, Dir}
 use Rattle.gx_model.specs.Texts.{Bytes, is_line}
-use Rattle.gx_model.specs.Idents.{is_ident}
-use Rattle.gx_model.specs.Paths.{Path, path_text, printed}
-use Rattle.gx_model.specs.Items.{Item, Line, Data}
-use Rattle.gx_model.specs.Commands.{CommitIsh, Marked, Named, DataRef, Mark, Object, Inline, Change, Modify, Remove, Copy, Rename, Clear, Command}
-use Rattle.gx_model.specs.Commands as command
-use Rattle.gx_model.specs.Values.{is_hex_digit, is_optional_encoding, is_optional_ident}
+use Rattle.gx_model.specs.Texts.Idents.{is_ident}
+use Rattle.gx_model.specs.Texts.Paths.{Path, path_text, printed}
+use Rattle.gx_model.specs.Streams.Items.{Item, Line, Data}
+use Rattle.gx_model.specs.Streams.Commands.{CommitIsh, Marked, Named, DataRef, Mark, Object, Inline, Change, Modify, Remove, Copy, Rename, Clear, Command}
+use Rattle.gx_model.specs.Streams.Commands as command
+use Rattle.gx_model.specs.Histories.Values.{is_hex_digit, is_optional_encoding, is_optional_ident}
 use Rattle.gx_model.specs.Replay.{or_else}
 use Rattle.gx_model.specs.Export.{mode_digits, dataref_text, commit_ish_text, change_items, command_items, from_line, optional_line, mark_line, reset_items}
-use Rattle.gx_model.specs.ExportLaws.{IsItemLine, IsItem, IsMark, IsLink, IsDataRef, IsNamedByMark, IsNamedByMarkIf, IsSpelledChange, IsSpelled, HasMark, between}
+use Rattle.gx_model.specs.Laws.ExportLaws.{IsItemLine, IsItem, IsMark, IsLink, IsDataRef, IsNamedByMark, IsNamedByMarkIf, IsSpelledChange, IsSpelled, HasMark, between}
 use Rattle.gx_model.proofs.Idents.{and_two}
 use Rattle.gx_model.proofs.Decimals.{decimal_digits}
 use Rattle.gx_model.proofs.LineTexts.{line_by, line_append, digits_are_line, ref_is_line, tag_is_line, ident_is_line, printed_is_line}

@@ -6,20 +6,20 @@ use Rattle.std.proofs.lemmas.List.{length-map}
 use Rattle.gx_model.specs.declared.objects.Kind.{Kind}
 use Rattle.gx_model.specs.declared.objects.Kind.TheVariants as kind
 use Rattle.gx_model.specs.Texts.{Bytes}
-use Rattle.gx_model.specs.Values.{Commit, Commits, Value, commit_value, list_of, more, none, parents_of, parts}
+use Rattle.gx_model.specs.Histories.Values.{Commit, Commits, Value, commit_value, list_of, more, none, parents_of, parts}
 use Rattle.gx_model.specs.Objects.{IsNamer}
 use Rattle.gx_model.specs.Records.{kind_of, name_of}
 use Rattle.gx_model.specs.Histories.{AreDistinct, IsClosedAfter, IsIn, Record, Records, record_of}
-use Rattle.gx_model.specs.HistoryLaws.{IsParent}
-use Rattle.gx_model.specs.HistoryOf.{commit_of_value, history_of, value_of_name}
-use Rattle.gx_model.specs.Growth.{record_named}
-use Rattle.gx_model.specs.RecordFaults.{is_held}
-use Rattle.gx_model.specs.RepositoryLaws.{values_of}
-use Rattle.gx_model.specs.Sound.{IsSound}
+use Rattle.gx_model.specs.Laws.HistoryLaws.{IsParent}
+use Rattle.gx_model.specs.Records.HistoryOf.{commit_of_value, history_of, value_of_name}
+use Rattle.gx_model.specs.Records.Growth.{record_named}
+use Rattle.gx_model.specs.Records.RecordFaults.{is_held}
+use Rattle.gx_model.specs.Laws.RepositoryLaws.{values_of}
+use Rattle.gx_model.specs.Records.Sound.{IsSound}
 use Rattle.gx_model.proofs.OneHistory.{no_other}
 use Rattle.gx_model.proofs.GrownRecords.{distinct_of}
 use Rattle.gx_model.proofs.HistoriesExist.{stands}
-use Rattle.gx_model.specs.Marks.{IsAt}
+use Rattle.gx_model.specs.Histories.Marks.{IsAt}
 use Rattle.gx_model.proofs.HeldValues.{all_whole, commit_stands, held_is, held_kind, kind_held, value_held}
 
 -- ---- places in a list

@@ -15,11 +15,11 @@ use Rattle.gx_model.specs.declared.store_versions.Version.TheVariants.{One, Two}
 use Rattle.gx_model.specs.declared.store_faults.FileFault.{FileFault}
 use Rattle.gx_model.specs.declared.store_faults.FileFault.TheVariants as fault
 use Rattle.gx_model.specs.Texts.{Bytes, cut_at, is_line, lacks, same_bytes}
-use Rattle.gx_model.specs.Numbers.{decimal_of}
+use Rattle.gx_model.specs.Texts.Numbers.{decimal_of}
 use Rattle.gx_model.specs.Faults.{and_then}
 use Rattle.gx_model.specs.Objects.{line}
-use Rattle.gx_model.specs.StoreText.{version_text}
-use Rattle.gx_model.specs.StoreReading.{Stored, after_magic, after_word, if_written_so, stored_body, stored_count, stored_end, stored_if, stored_line, stored_number, unless, version_of}
+use Rattle.gx_model.specs.Stores.StoreText.{version_text}
+use Rattle.gx_model.specs.Stores.StoreReading.{Stored, after_magic, after_word, if_written_so, stored_body, stored_count, stored_end, stored_if, stored_line, stored_number, unless, version_of}
 use Rattle.gx_model.proofs.PathTests.{first, is_same, is_true, same_is, second}
 use Rattle.gx_model.proofs.Cuts.{cut_after, cut_spelled}
 use Rattle.gx_model.proofs.Decimals.{decimal_digits, decimal_read}

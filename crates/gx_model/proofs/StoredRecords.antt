@@ -9,11 +9,11 @@ use Rattle.gx_model.specs.Texts.{Bytes}
 use Rattle.gx_model.specs.Faults.{and_then}
 use Rattle.gx_model.specs.Objects.{IsNamer, line}
 use Rattle.gx_model.specs.Histories.{Record, record_for}
-use Rattle.gx_model.specs.Naming.{kind_word}
-use Rattle.gx_model.specs.Sound.{IsSound}
-use Rattle.gx_model.specs.RecordFaults.{record_fault}
-use Rattle.gx_model.specs.StoreText.{length_text, stored_record}
-use Rattle.gx_model.specs.StoreReading.{Length, Stored, admitted, is_named, next_record, next_records, record_line, stored_body, stored_if, stored_line, unless, with_record}
+use Rattle.gx_model.specs.Objects.Naming.{kind_word}
+use Rattle.gx_model.specs.Records.Sound.{IsSound}
+use Rattle.gx_model.specs.Records.RecordFaults.{record_fault}
+use Rattle.gx_model.specs.Stores.StoreText.{length_text, stored_record}
+use Rattle.gx_model.specs.Stores.StoreReading.{Length, Stored, admitted, is_named, next_record, next_records, record_line, stored_body, stored_if, stored_line, unless, with_record}
 use Rattle.gx_model.proofs.OneTree.{all_right}
 use Rattle.gx_model.proofs.FirstRecords.{kept}
 use Rattle.gx_model.proofs.TakenRecords.{fine, sound_with}

@@ -13,17 +13,17 @@ use Rattle.gx_model.specs.declared.objects.Kind.{Kind}
 use Rattle.gx_model.specs.declared.objects.Kind.TheVariants as kind
 use Rattle.gx_model.specs.declared.store_faults.FileFault.TheVariants as fault
 use Rattle.gx_model.specs.Texts.{Bytes, cut_at}
-use Rattle.gx_model.specs.RefNames.{is_ref_name, tag_ref}
+use Rattle.gx_model.specs.Texts.RefNames.{is_ref_name, tag_ref}
 use Rattle.gx_model.specs.Faults.{and_then}
-use Rattle.gx_model.specs.Values.{is_name_text}
+use Rattle.gx_model.specs.Histories.Values.{is_name_text}
 use Rattle.gx_model.specs.Objects.{IsNamer, IsTagText, TagParts, hex, is_name, unhex}
 use Rattle.gx_model.specs.Histories.{AreDistinct, Record}
-use Rattle.gx_model.specs.HistoryOf.{tag_parts_in}
-use Rattle.gx_model.specs.Growth.{record_named}
-use Rattle.gx_model.specs.Sound.{IsLinked, IsLinkedAfter, IsTarget}
-use Rattle.gx_model.specs.RecordFaults.{is_body}
-use Rattle.gx_model.specs.StoreText.{stored_ref}
-use Rattle.gx_model.specs.StoreReading.{Stored, if_ref, is_after, is_less, is_target, is_target_of_kind, next_ref, next_refs, ref_line, stored_if, stored_line, unless}
+use Rattle.gx_model.specs.Records.HistoryOf.{tag_parts_in}
+use Rattle.gx_model.specs.Records.Growth.{record_named}
+use Rattle.gx_model.specs.Records.Sound.{IsLinked, IsLinkedAfter, IsTarget}
+use Rattle.gx_model.specs.Records.RecordFaults.{is_body}
+use Rattle.gx_model.specs.Stores.StoreText.{stored_ref}
+use Rattle.gx_model.specs.Stores.StoreReading.{Stored, if_ref, is_after, is_less, is_target, is_target_of_kind, next_ref, next_refs, ref_line, stored_if, stored_line, unless}
 use Rattle.gx_model.proofs.PathTests.{both, first, is_same, is_true, same_is, second}
 use Rattle.gx_model.proofs.PathRuns.{less_is}
 use Rattle.gx_model.proofs.Cuts.{cut_after, cut_spelled}

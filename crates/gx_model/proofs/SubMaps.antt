@@ -8,9 +8,9 @@ use Rattle.std.specs.FinMap.Entries.{is_sorted, below_all}
 use Rattle.std.specs.Bool.{passes}
 use Rattle.std.proofs.lemmas.Bool.{leb-true, le-leb}
 use Rattle.gx_model.specs.Texts.{Bytes, same_bytes}
-use Rattle.gx_model.specs.Paths.{Path, same_path, path_text, path_cmp, begins, is_short, is_file_path}
-use Rattle.gx_model.specs.Files.{FileMap, file_at, sub_map, under, are_file_paths, is_file_map}
-use Rattle.gx_model.specs.Values.{is_content, is_leaf}
+use Rattle.gx_model.specs.Texts.Paths.{Path, same_path, path_text, path_cmp, begins, is_short, is_file_path}
+use Rattle.gx_model.specs.Histories.Files.{FileMap, file_at, sub_map, under, are_file_paths, is_file_map}
+use Rattle.gx_model.specs.Histories.Values.{is_content, is_leaf}
 use Rattle.gx_model.proofs.PathTests.{both, first, second, is_true, not_both, all_filter, all_map, same_is}
 use Rattle.gx_model.proofs.PathOrder.{byte_cmp}
 use Rattle.gx_model.proofs.FileMapEdits.{Parts, parts_of, of_parts, apart_moved, all_into_root, none_at, filter_parts, under_passes}

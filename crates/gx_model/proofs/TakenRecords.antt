@@ -13,14 +13,14 @@ use Rattle.gx_model.specs.declared.objects.Mode.TheVariants.{File, Exec, Link, G
 use Rattle.gx_model.specs.declared.store_faults.FileFault.{FileFault}
 use Rattle.gx_model.specs.declared.store_faults.FileFault.TheVariants as fault
 use Rattle.gx_model.specs.Texts.{Bytes, same_bytes}
-use Rattle.gx_model.specs.Paths.{is_short}
+use Rattle.gx_model.specs.Texts.Paths.{is_short}
 use Rattle.gx_model.specs.Objects.{Entry, IsNamer, is_dir}
 use Rattle.gx_model.specs.Histories.{AreDistinct, Record, Records, record_for}
-use Rattle.gx_model.specs.HistoryOf.{commit_parts_in, entries_in, files_of_entries, named_values, tag_parts_in, value_in}
-use Rattle.gx_model.specs.Sound.{AnyByRecursion, HasShortPaths, Holds, IsCommit, IsHeldAs, IsLinked, IsLinkedAfter, IsSound, IsTag, IsTree}
-use Rattle.gx_model.specs.Growth.{put, put_under, record_named, same_kind}
-use Rattle.gx_model.specs.RepositoryLaws.{with_records}
-use Rattle.gx_model.specs.RecordFaults.{are_links_held, content_fault, has_empty_directory, has_long_path, is_bad_below, is_body, is_entry_held, is_held, is_of_kind, is_without_entries, or_duplicate, record_fault}
+use Rattle.gx_model.specs.Records.HistoryOf.{commit_parts_in, entries_in, files_of_entries, named_values, tag_parts_in, value_in}
+use Rattle.gx_model.specs.Records.Sound.{AnyByRecursion, HasShortPaths, Holds, IsCommit, IsHeldAs, IsLinked, IsLinkedAfter, IsSound, IsTag, IsTree}
+use Rattle.gx_model.specs.Records.Growth.{put, put_under, record_named, same_kind}
+use Rattle.gx_model.specs.Laws.RepositoryLaws.{with_records}
+use Rattle.gx_model.specs.Records.RecordFaults.{are_links_held, content_fault, has_empty_directory, has_long_path, is_bad_below, is_body, is_entry_held, is_held, is_of_kind, is_without_entries, or_duplicate, record_fault}
 use Rattle.gx_model.proofs.PathTests.{both, first, is_same, is_true, same_is, second}
 use Rattle.gx_model.proofs.OneTree.{all_right}
 use Rattle.gx_model.proofs.BodiesReadBack.{commit_read, entries_read, tag_read}

@@ -5,8 +5,8 @@ use Rattle.std.specs.List.{filter}
 use Rattle.gx_model.specs.declared.objects.Kind.{Kind}
 use Rattle.gx_model.specs.declared.objects.Kind.TheVariants as kind
 use Rattle.gx_model.specs.Texts.{Bytes, same_bytes}
-use Rattle.gx_model.specs.Paths.{Path, begins}
-use Rattle.gx_model.specs.Files.{FileMap, first_components, sub_map, file_at, depth}
+use Rattle.gx_model.specs.Texts.Paths.{Path, begins}
+use Rattle.gx_model.specs.Histories.Files.{FileMap, first_components, sub_map, file_at, depth}
 use Rattle.gx_model.specs.Records.{node, entry, entries, entries_to, tree_entries, tree_body}
 use Rattle.gx_model.specs.Objects.{tree_text}
 

@@ -9,15 +9,15 @@ use Rattle.gx_model.specs.declared.objects.Kind.TheVariants as kind
 use Rattle.gx_model.specs.declared.objects.Mode.{Mode}
 use Rattle.gx_model.specs.declared.objects.Mode.TheVariants.{File, Exec, Link, Gitlink, Dir}
 use Rattle.gx_model.specs.Texts.{Bytes, same_bytes}
-use Rattle.gx_model.specs.Paths.{Path, same_path, is_file_path}
-use Rattle.gx_model.specs.Files.{FileMap, Leaf, first_component, first_components, with_first, file_at, sub_map, under, are_file_paths, are_apart, is_file_map}
-use Rattle.gx_model.specs.Values.{Value, tree_value, is_content, is_leaf, is_hex_digit}
+use Rattle.gx_model.specs.Texts.Paths.{Path, same_path, is_file_path}
+use Rattle.gx_model.specs.Histories.Files.{FileMap, Leaf, first_component, first_components, with_first, file_at, sub_map, under, are_file_paths, are_apart, is_file_map}
+use Rattle.gx_model.specs.Histories.Values.{Value, tree_value, is_content, is_leaf, is_hex_digit}
 use Rattle.gx_model.specs.Objects.{IsNamer, unhex, digit_value, Entry, is_name, IsTreeText}
 use Rattle.gx_model.specs.Records.{content_name, node, entries, named_map, tree_name, tree_body, name_of, body_of}
 use Rattle.gx_model.specs.Histories.{Record, AreDistinct, IsIn, record_of}
 use Rattle.gx_model.specs.Histories.{IsWhole}
-use Rattle.gx_model.specs.Sound.{AnyByRecursion, HasPath, here, below}
-use Rattle.gx_model.specs.HistoryOf.{entries_in}
+use Rattle.gx_model.specs.Records.Sound.{AnyByRecursion, HasPath, here, below}
+use Rattle.gx_model.specs.Records.HistoryOf.{entries_in}
 use Rattle.gx_model.proofs.PathTests.{both, first, second, is_true, is_same, same_is, path_same}
 use Rattle.gx_model.proofs.FileMapEdits.{Parts, parts_of}
 use Rattle.gx_model.proofs.OneTree.{spelling, node_entry, node_of, leaf_named, leaves, only_file, dirs_known, forty, digits_of, unhex_long}

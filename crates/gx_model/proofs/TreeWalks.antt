@@ -5,16 +5,16 @@ use Rattle.std.specs.Option.{option_map}
 use Rattle.std.specs.Bool.{passes}
 use Rattle.gx_model.specs.declared.objects.Kind.{Kind}
 use Rattle.gx_model.specs.Texts.{Bytes, same_bytes}
-use Rattle.gx_model.specs.Paths.{Path, begins}
-use Rattle.gx_model.specs.Files.{FileMap, Leaf, first_component, first_components, with_first, file_at, sub_map, under}
-use Rattle.gx_model.specs.Values.{Value, tree_value, is_content}
+use Rattle.gx_model.specs.Texts.Paths.{Path, begins}
+use Rattle.gx_model.specs.Histories.Files.{FileMap, Leaf, first_component, first_components, with_first, file_at, sub_map, under}
+use Rattle.gx_model.specs.Histories.Values.{Value, tree_value, is_content}
 use Rattle.gx_model.specs.Objects.{IsNamer, is_dir}
 use Rattle.gx_model.specs.Records.{node, named_map, content_name, tree_name, tree_body, body_of, name_of}
 use Rattle.gx_model.specs.Histories.{Record, Records, AreDistinct, IsIn, record_of}
 use Rattle.gx_model.specs.Histories.{IsWhole}
-use Rattle.gx_model.specs.Sound.{AnyByRecursion}
-use Rattle.gx_model.specs.HistoryOf.{entries_in}
-use Rattle.gx_model.specs.Walks.{entry_at, entries_named, place_at_end, walked, walked_from, place_of, place_in, entry_for}
+use Rattle.gx_model.specs.Records.Sound.{AnyByRecursion}
+use Rattle.gx_model.specs.Records.HistoryOf.{entries_in}
+use Rattle.gx_model.specs.Records.Walks.{entry_at, entries_named, place_at_end, walked, walked_from, place_of, place_in, entry_for}
 use Rattle.gx_model.proofs.PathTests.{is_true, is_same, same_is}
 use Rattle.gx_model.proofs.OneTree.{spelling, node_entry, leaf_named, only_file}
 use Rattle.gx_model.proofs.OneHistory.{told_by_name, no_other}
@@ -24,8 +24,8 @@ use Rattle.gx_model.proofs.RebuiltValues.{has_some}
 use Rattle.gx_model.proofs.TreePaths.{file_sub, first_in, entries_of, text_of_tree, content_parts, content_in, sub_in, leaf_at}
 use Rattle.gx_model.proofs.HistoriesAreSound.{sub_some}
 use Rattle.gx_model.proofs.GrownRecords.{Lookup, looked_up, whole_of, distinct_of}
-use Rattle.gx_model.specs.Sound.{IsSound}
-use Rattle.gx_model.specs.HistoryOf.{history_of}
+use Rattle.gx_model.specs.Records.Sound.{IsSound}
+use Rattle.gx_model.specs.Records.HistoryOf.{history_of}
 use Rattle.gx_model.proofs.HistoriesExist.{stands}
 
 abbrev off : List (Path × Leaf Bytes) → Path → List (Path × Leaf Bytes)

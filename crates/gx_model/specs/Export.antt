@@ -6,15 +6,15 @@ use Rattle.std.specs.Fmt.{decimal}
 use Rattle.gx_model.specs.declared.objects.Mode.{Mode}
 use Rattle.gx_model.specs.declared.objects.Mode.TheVariants.{File, Exec, Link, Gitlink, Dir}
 use Rattle.gx_model.specs.declared.features.Feature.TheVariants as features
-use Rattle.gx_model.specs.Commands as command
+use Rattle.gx_model.specs.Streams.Commands as command
 use Rattle.gx_model.specs.Texts.{Bytes}
-use Rattle.gx_model.specs.Paths.{Path, path_text, printed}
-use Rattle.gx_model.specs.Items.{Data, Item, Line}
-use Rattle.gx_model.specs.Commands.{Asks, Blob, Change, Checkpoint, Clear, Command, CommitIsh, Copy, DataRef, Done, Inline, Mark, Marked, Modify, Named, Object, OptionLine, Progress, Remove, Rename, Reset}
-use Rattle.gx_model.specs.Files.{FileMap, Leaf}
-use Rattle.gx_model.specs.Values.{Commit, Value, blob_value, commit_value, files_of, list_of, parents_of, same_value, text_of}
+use Rattle.gx_model.specs.Texts.Paths.{Path, path_text, printed}
+use Rattle.gx_model.specs.Streams.Items.{Data, Item, Line}
+use Rattle.gx_model.specs.Streams.Commands.{Asks, Blob, Change, Checkpoint, Clear, Command, CommitIsh, Copy, DataRef, Done, Inline, Mark, Marked, Modify, Named, Object, OptionLine, Progress, Remove, Rename, Reset}
+use Rattle.gx_model.specs.Histories.Files.{FileMap, Leaf}
+use Rattle.gx_model.specs.Histories.Values.{Commit, Value, blob_value, commit_value, files_of, list_of, parents_of, same_value, text_of}
 use Rattle.gx_model.specs.Histories.{History, Target, at_commit, at_tag, is_in}
-use Rattle.gx_model.specs.Ranges.{commit_of, reaches}
+use Rattle.gx_model.specs.Revisions.Ranges.{commit_of, reaches}
 use Rattle.gx_model.specs.Replay.{peeled_at}
 
 -- ---- the commits, in the order in which they were first made

@@ -1,5 +1,7 @@
 -- How a call's answer goes with what a definition gives, and steps that may be refused.
 -- Source: this project's own.
+pub mod FaultWords
+pub mod StoreFaults
 use Rattle.std.specs.Prelude.{◌≡◌, Option, Some, None, Result, Ok, Err}
 use Rattle.gx_model.specs.declared.faults.Fault.{Fault}
 use Rattle.gx_model.specs.declared.faults.Fault.TheVariants.{OutOfMemory}

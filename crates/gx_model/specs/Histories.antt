@@ -1,4 +1,8 @@
 -- Histories, how a value is added to one, and the repositories that stand for one. Source: gitglossary(7), "object database" and "ref".
+pub mod Edits
+pub mod Files
+pub mod Marks
+pub mod Values
 use Rattle.std.specs.Prelude.{◌≡◌, ℕ, zero, suc, Bool, false, if◌then◌else◌, List, [], ◌∷◌, ◌++◌, map, IsTrue, ⊤, ◌⊎◌}
 use Rattle.std.specs.List.{fold, list_any, list_all, AllByRecursion}
 use Rattle.std.specs.Ordering.{nat_cmp}
@@ -6,9 +10,9 @@ use Rattle.std.specs.Cmp.Lexicographic.{slice_cmp}
 use Rattle.std.specs.FinMap.Entries.{is_sorted}
 use Rattle.gx_model.specs.declared.objects.Kind.{Kind}
 use Rattle.gx_model.specs.Texts.{Bytes, same_bytes}
-use Rattle.gx_model.specs.RefNames.{is_ref_name, tag_ref}
-use Rattle.gx_model.specs.Files.{FileMap, depth}
-use Rattle.gx_model.specs.Values.{Commit, Tag, Value, blob_value, commit_value, files_of, is_proper, parts, same_value, sub_maps, tag_value, tree_value}
+use Rattle.gx_model.specs.Texts.RefNames.{is_ref_name, tag_ref}
+use Rattle.gx_model.specs.Histories.Files.{FileMap, depth}
+use Rattle.gx_model.specs.Histories.Values.{Commit, Tag, Value, blob_value, commit_value, files_of, is_proper, parts, same_value, sub_maps, tag_value, tree_value}
 use Rattle.gx_model.specs.Records.{body_of, kind_of, name_of}
 
 -- ---- adding a value

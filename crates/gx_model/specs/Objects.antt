@@ -1,4 +1,6 @@
 -- Objects as texts: digits of names, modes, tree entries, and the bodies of trees, commits and tags. Source: Pro Git, "Git Objects".
+pub mod NameMaps
+pub mod Naming
 use Rattle.std.specs.Prelude.{◌≡◌, ℕ, ◌+◌, ◌*◌, ◌-◌, ◌/◌, ◌%◌, Bool, true, false, not, ◌&&◌, nat_lt, nat_eq, if◌then◌else◌, List, [], ◌∷◌, ◌++◌, map, length, IsTrue, Option, None, Some, codes}
 use Rattle.std.specs.List.{flat_map, list_all, list_any}
 use Rattle.std.specs.Ordering.{nat_cmp}
@@ -8,9 +10,9 @@ use Rattle.gx_model.specs.declared.objects.Kind.{Kind}
 use Rattle.gx_model.specs.declared.objects.Mode.{Mode}
 use Rattle.gx_model.specs.declared.objects.Mode.TheVariants.{File, Exec, Link, Gitlink, Dir}
 use Rattle.gx_model.specs.Texts.{Bytes, same_bytes}
-use Rattle.gx_model.specs.RefNames.{is_tag_name}
-use Rattle.gx_model.specs.Paths.{is_component}
-use Rattle.gx_model.specs.Values.{CommitText, is_optional_ident, is_proper_text}
+use Rattle.gx_model.specs.Texts.RefNames.{is_tag_name}
+use Rattle.gx_model.specs.Texts.Paths.{is_component}
+use Rattle.gx_model.specs.Histories.Values.{CommitText, is_optional_ident, is_proper_text}
 
 -- ---- digits
 

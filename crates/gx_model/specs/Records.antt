@@ -1,4 +1,11 @@
 -- The canonical record of a value: its kind and body, and the name of these. Source: Pro Git, "Git Objects".
+pub mod Growth
+pub mod HistoryOf
+pub mod Lookups
+pub mod Publishing
+pub mod RecordFaults
+pub mod Sound
+pub mod Walks
 use Rattle.std.specs.Prelude.{ℕ, zero, suc, List, [], ◌∷◌, map, Option, None, Some, codes}
 use Rattle.std.specs.List.{flat_map}
 use Rattle.gx_model.specs.declared.objects.Kind.{Kind}
@@ -6,8 +13,8 @@ use Rattle.gx_model.specs.declared.objects.Kind.TheVariants as kind
 use Rattle.gx_model.specs.declared.objects.Mode.{Mode}
 use Rattle.gx_model.specs.declared.objects.Mode.TheVariants.{Gitlink, Dir}
 use Rattle.gx_model.specs.Texts.{Bytes}
-use Rattle.gx_model.specs.Files.{FileMap, Leaf, depth, file_at, first_components, sub_map}
-use Rattle.gx_model.specs.Values.{Commit, Commits, Tag, Value, blob_value, commit, commit_value, files_of, more, none, parents_of, tag_value, text_of, tree_value}
+use Rattle.gx_model.specs.Histories.Files.{FileMap, Leaf, depth, file_at, first_components, sub_map}
+use Rattle.gx_model.specs.Histories.Values.{Commit, Commits, Tag, Value, blob_value, commit, commit_value, files_of, more, none, parents_of, tag_value, text_of, tree_value}
 use Rattle.gx_model.specs.Objects.{CommitParts, Entry, commit_text, hex, line, tag_text, tree_text, unhex}
 
 module _ (name : Kind → Bytes → Bytes) where

@@ -1,4 +1,5 @@
 -- The replay of a stream's commands on values. Source: git-fast-import(1), "Commands".
+pub mod ProperReplays
 use Rattle.std.specs.Prelude.{ℕ, ◌+◌, ◌-◌, Bool, true, false, ◌||◌, nat_eq, if◌then◌else◌, List, [], ◌∷◌, ◌++◌, length, map, Option, None, Some, codes}
 use Rattle.std.specs.declared.result.Result.{Result}
 use Rattle.std.specs.declared.result.Result.TheVariants.{Ok, Err}
@@ -14,20 +15,20 @@ use Rattle.gx_model.specs.declared.objects.Mode.TheVariants.{Gitlink}
 use Rattle.gx_model.specs.declared.faults.Fault.{Fault}
 use Rattle.gx_model.specs.declared.faults.Fault.TheVariants as fault
 use Rattle.gx_model.specs.declared.features.Feature.TheVariants as features
-use Rattle.gx_model.specs.Commands as command
+use Rattle.gx_model.specs.Streams.Commands as command
 use Rattle.gx_model.specs.Texts.{Bytes, same_bytes}
-use Rattle.gx_model.specs.RefNames.{tag_ref}
+use Rattle.gx_model.specs.Texts.RefNames.{tag_ref}
 use Rattle.gx_model.specs.Faults.{and_then, ◌>>=◌}
 use Rattle.gx_model.specs.Revisions.{revision_of}
-use Rattle.gx_model.specs.Items.{items_of}
-use Rattle.gx_model.specs.Commands.{Asks, Blob, Change, Checkpoint, Clear, Command, Commands, CommitIsh, CommitParts, Copy, DataRef, Done, Inline, Mark, Marked, Modify, Named, Object, OptionLine, Progress, Remove, Rename, Reset, TagParts}
-use Rattle.gx_model.specs.Grammar.{commands_of}
-use Rattle.gx_model.specs.Files.{FileMap}
-use Rattle.gx_model.specs.Edits.{copied, modified, removed, renamed}
-use Rattle.gx_model.specs.Values.{Commit, CommitText, Tag, Value, blob_value, commit, commit_value, commits_of, files_of, tag_value}
+use Rattle.gx_model.specs.Streams.Items.{items_of}
+use Rattle.gx_model.specs.Streams.Commands.{Asks, Blob, Change, Checkpoint, Clear, Command, Commands, CommitIsh, CommitParts, Copy, DataRef, Done, Inline, Mark, Marked, Modify, Named, Object, OptionLine, Progress, Remove, Rename, Reset, TagParts}
+use Rattle.gx_model.specs.Streams.Grammar.{commands_of}
+use Rattle.gx_model.specs.Histories.Files.{FileMap}
+use Rattle.gx_model.specs.Histories.Edits.{copied, modified, removed, renamed}
+use Rattle.gx_model.specs.Histories.Values.{Commit, CommitText, Tag, Value, blob_value, commit, commit_value, commits_of, files_of, tag_value}
 use Rattle.gx_model.specs.Histories.{History, Target, at_commit, at_tag, with_value}
-use Rattle.gx_model.specs.Denotation.{base_value, commit_in, lower, ref_at, value_denoted}
-use Rattle.gx_model.specs.Ranges.{reaches}
+use Rattle.gx_model.specs.Revisions.Denotation.{base_value, commit_in, lower, ref_at, value_denoted}
+use Rattle.gx_model.specs.Revisions.Ranges.{reaches}
 
 -- a text, or another where there is none
 abbrev pub or_else : Option Bytes → Bytes → Bytes

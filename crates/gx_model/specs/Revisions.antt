@@ -1,13 +1,15 @@
 -- Revisions and range words as texts. Source: gitrevisions(7).
+pub mod Denotation
+pub mod Ranges
 use Rattle.std.specs.Prelude.{ℕ, ◌-◌, ◌==◌, ◌&&◌, ◌||◌, codes, nat_eq, List, [], ◌∷◌, length, take, drop, Option, Some, None, Ok, Err, if◌then◌else◌}
 use Rattle.std.specs.Option.{option_map}
 use Rattle.std.specs.List.{starts_with, ends_with, suffix_len}
 use Rattle.std.specs.Char.{is_ascii_digit}
 use Rattle.std.specs.Map.{lookup}
 use Rattle.gx_model.specs.Texts.{Bytes, cut_at, same_bytes}
-use Rattle.gx_model.specs.Numbers.{decimal_of}
-use Rattle.gx_model.specs.RefNames.{is_ref_name}
-use Rattle.gx_model.specs.Paths.{Path, path_of}
+use Rattle.gx_model.specs.Texts.Numbers.{decimal_of}
+use Rattle.gx_model.specs.Texts.RefNames.{is_ref_name}
+use Rattle.gx_model.specs.Texts.Paths.{Path, path_of}
 use Rattle.gx_model.specs.Faults.{Given, ◌>>=◌, or_fault}
 use Rattle.gx_model.specs.declared.faults.Fault.TheVariants.{BadRevision}
 

@@ -1,5 +1,9 @@
 -- Texts are byte strings. What stands before and after a byte in them, and which bytes they lack.
 -- Source: this project's own.
+pub mod Idents
+pub mod Numbers
+pub mod Paths
+pub mod RefNames
 use Rattle.std.specs.Prelude.{ℕ, Bool, false, not, ◌&&◌, ◌||◌, ◌==◌, List, [], ◌∷◌, Option, Some, None, nat_eq, if◌then◌else◌}
 use Rattle.std.specs.Option.{option_map}
 use Rattle.std.specs.List.{list_any, list_all}

@@ -1,6 +1,6 @@
 //! Laws of the export text.
 ghost use Rattle.std.specs.Prelude.{List, ℕ};
-ghost use Rattle.gx_model.specs.ExportLaws.{CommandsAreItems, CommandsAreRead, CommitIsReplayed, CommitKeeps, ExportIsImported, ExportIsReplayed, ExportIsSpelled, FormedIsReadable, ItemsAreRead};
+ghost use Rattle.gx_model.specs.Laws.ExportLaws.{CommandsAreItems, CommandsAreRead, CommitIsReplayed, CommitKeeps, ExportIsImported, ExportIsReplayed, ExportIsSpelled, FormedIsReadable, ItemsAreRead};
 ghost use Rattle.gx_model.specs.declared.objects.Kind.{Kind};
 
 /// The text of some items is read as these items, where each is a line that is no comment and announces no block, or a block.

@@ -1,7 +1,7 @@
 //! Why a text, a stream, an edit, a revision or an import is refused.
 
 ghost use Rattle.std.specs.Prelude.{◌≡◌, Some};
-ghost use Rattle.gx_model.specs.FaultWords.{number_of, word_of};
+ghost use Rattle.gx_model.specs.Faults.FaultWords.{number_of, word_of};
 ghost use Rattle.gx_model.specs.declared.faults.Fault.TheVariants.{OutOfMemory};
 
 use std::alloc::{AllocError, AllocFailed};

@@ -1,5 +1,5 @@
 //! Laws of file maps: finite maps from whole paths to a mode and a content.
-ghost use Rattle.gx_model.specs.FileMapLaws.{EditsAreSetOperations, EditsKeepFileMaps, FileMapsAreMaps};
+ghost use Rattle.gx_model.specs.Laws.FileMapLaws.{EditsAreSetOperations, EditsKeepFileMaps, FileMapsAreMaps};
 
 /// A file map is known by what it gives at each path. Its entries stand in the byte order of whole paths, and no path begins another.
 pub fn file_maps_are_maps()

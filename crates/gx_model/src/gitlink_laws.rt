@@ -1,6 +1,6 @@
 //! Laws of gitlinks of forty zeros: no stream brings one.
-ghost use Rattle.gx_model.specs.ExportLaws.{nothing};
-ghost use Rattle.gx_model.specs.Gitlinks.{HoldsNoNullGitlink, HoldsTellsHas, NullGitlinksAreRefused, RefusalsKeepNone, ReplaysKeepNone, StreamsBringNone, TextsBringNone, TextsComeBack};
+ghost use Rattle.gx_model.specs.Laws.ExportLaws.{nothing};
+ghost use Rattle.gx_model.specs.Streams.Gitlinks.{HoldsNoNullGitlink, HoldsTellsHas, NullGitlinksAreRefused, RefusalsKeepNone, ReplaysKeepNone, StreamsBringNone, TextsBringNone, TextsComeBack};
 
 /// No command that a stream has gives a gitlink of forty zeros.
 #[tactic(auto, using(crate::proofs::ReadGitlinks::none_brought))]

@@ -1,5 +1,5 @@
 //! The headline: what a text gives is shown as it was replayed, and comes back from its export.
-ghost use Rattle.gx_model.specs.Headline.{Headline};
+ghost use Rattle.gx_model.specs.Laws.Headline.{Headline};
 ghost use Rattle.gx_model.specs.Objects.{ForEachNamer};
 
 /// For every text whose import into nothing is accepted, each repository that has the records of what it gave, no two under one

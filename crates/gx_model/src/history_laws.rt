@@ -1,5 +1,5 @@
 //! Laws of histories: how values are added, and what a commit reaches.
-ghost use Rattle.gx_model.specs.HistoryLaws.{AddsValue, ReachedIsLeast};
+ghost use Rattle.gx_model.specs.Laws.HistoryLaws.{AddsValue, ReachedIsLeast};
 
 /// To add a value keeps the values those of a history.
 pub fn adds_value()

@@ -1,5 +1,5 @@
 //! Laws of objects: what the bodies of trees, commits and tags tell.
-ghost use Rattle.gx_model.specs.ObjectLaws.{BodiesTellParts, EntriesStandInPathOrder, TreesAreCanonical, TreesTellMaps};
+ghost use Rattle.gx_model.specs.Laws.ObjectLaws.{BodiesTellParts, EntriesStandInPathOrder, TreesAreCanonical, TreesTellMaps};
 ghost use Rattle.gx_model.specs.Objects.{ForEachNamer};
 
 /// A canonical body of a tree, a commit or a tag is that of one list of entries, or of one set of parts.

@@ -1,7 +1,7 @@
 //! Laws of replays: what commands make of a history is a history.
-ghost use Rattle.gx_model.specs.ExportLaws.{nothing};
+ghost use Rattle.gx_model.specs.Laws.ExportLaws.{nothing};
 ghost use Rattle.gx_model.specs.Histories.{IsHistory};
-ghost use Rattle.gx_model.specs.ProperReplays.{RefusalsKeepHistories, ReplaysGiveHistories, StreamsAreProper, TextsGiveHistories};
+ghost use Rattle.gx_model.specs.Replay.ProperReplays.{RefusalsKeepHistories, ReplaysGiveHistories, StreamsAreProper, TextsGiveHistories};
 
 /// The commands that a stream has are proper: their ref names, tag names, identities, encodings, new paths and gitlink digits
 /// have their forms. Source: git-fast-import(1), "Commands".

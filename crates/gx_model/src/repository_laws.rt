@@ -1,6 +1,6 @@
 //! Laws of repositories: the history that one stands for, and how both grow together.
 ghost use Rattle.gx_model.specs.Objects.{ForEachNamer};
-ghost use Rattle.gx_model.specs.RepositoryLaws.{AnswersTell, HistoriesOf, LinksTell, NamesTell, PartsChange, PutsGrow, RecordsFind, ShortPathsTell, StandsForOne, TreesGrow, WalksTell};
+ghost use Rattle.gx_model.specs.Laws.RepositoryLaws.{AnswersTell, HistoriesOf, LinksTell, NamesTell, PartsChange, PutsGrow, RecordsFind, ShortPathsTell, StandsForOne, TreesGrow, WalksTell};
 
 /// A repository stands for one history at most.
 pub fn stands_for_one()

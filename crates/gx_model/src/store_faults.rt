@@ -37,7 +37,7 @@ pub enum FileFault {
 
 impl FileFault {
     ghost use Rattle.std.specs.Prelude.{◌≡◌};
-    ghost use Rattle.gx_model.specs.StoreFaults.{word};
+    ghost use Rattle.gx_model.specs.Faults.StoreFaults.{word};
 
     /// The word that a fault prints, which is its name. Takes no memory.
     pub fn word(self) -> &'static str
@@ -62,7 +62,7 @@ impl FileFault {
 
 impl fmt::Display for FileFault {
     ghost use Rattle.std.specs.Prelude.{Some};
-    ghost use Rattle.gx_model.specs.StoreFaults.{word};
+    ghost use Rattle.gx_model.specs.Faults.StoreFaults.{word};
 
     ghost output = { λ fault. Some (word fault) };
 

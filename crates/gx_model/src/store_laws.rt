@@ -1,6 +1,6 @@
 //! Laws of store texts, and of the records that a repository takes.
 ghost use Rattle.gx_model.specs.Objects.{ForEachNamer};
-ghost use Rattle.gx_model.specs.StoreLaws.{BodiesAreRead, RecordsAreTaken, StoresAreRead};
+ghost use Rattle.gx_model.specs.Laws.StoreLaws.{BodiesAreRead, RecordsAreTaken, StoresAreRead};
 
 /// A canonical body is told from every other, and what is read in it are its entries or its parts. Source: Pro Git, "Git Objects".
 pub fn bodies_are_read()

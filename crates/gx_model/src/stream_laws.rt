@@ -1,6 +1,6 @@
 //! Laws of streams: how a text reads as items, and items as commands.
-ghost use Rattle.gx_model.specs.CommandLaws.{OneCommands, SomeCommands};
-ghost use Rattle.gx_model.specs.StreamLaws.{OneReading, SomeReading};
+ghost use Rattle.gx_model.specs.Laws.CommandLaws.{OneCommands, SomeCommands};
+ghost use Rattle.gx_model.specs.Laws.StreamLaws.{OneReading, SomeReading};
 
 /// Every text, with an end or a failure after it, has a reading: comments, lines and blocks that spell it from front to back,
 /// and an end. It is the one that the contracts of readers speak of.

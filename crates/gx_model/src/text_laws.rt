@@ -1,5 +1,5 @@
 //! Laws of the texts in a stream: numbers, ref names, identities and paths.
-ghost use Rattle.gx_model.specs.TextLaws.{DecimalsAreRead, IdentsAreLines, IdentsAreRead, PartsAreJoined, PathsAreBytes, PathsAreRead, PathsAreRefused, PrintedPathsAreLines, PrintedPathsAreRead, QuotedPathsAreRead, QuotedPathsAreRefused, QuotedTextsAreRead, RefNamesAreLines, TagNamesAreLines};
+ghost use Rattle.gx_model.specs.Laws.TextLaws.{DecimalsAreRead, IdentsAreLines, IdentsAreRead, PartsAreJoined, PathsAreBytes, PathsAreRead, PathsAreRefused, PrintedPathsAreLines, PrintedPathsAreRead, QuotedPathsAreRead, QuotedPathsAreRefused, QuotedTextsAreRead, RefNamesAreLines, TagNamesAreLines};
 
 /// The decimal text of a number below 2^64 is read as this number.
 #[tactic(auto, using(crate::proofs::Decimals::decimal_read))]

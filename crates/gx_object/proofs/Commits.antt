@@ -4,8 +4,8 @@ use Rattle.std.specs.Prelude.{codes, nat_eq, IfOk, IsOkAnd, ◌&&◌}
 use Rattle.std.specs.Result.{result_ok}
 use Rattle.std.proofs.lemmas.Bool.{and_from, and_parts, false≢true, ne_eqb}
 use Rattle.gx_model.specs.Texts.{Bytes, is_line}
-use Rattle.gx_model.specs.Idents.{is_ident}
-use Rattle.gx_model.specs.Values.{CommitText, is_optional_encoding}
+use Rattle.gx_model.specs.Texts.Idents.{is_ident}
+use Rattle.gx_model.specs.Histories.Values.{CommitText, is_optional_encoding}
 use Rattle.gx_model.specs.Objects.{CommitParts, IsCommitText, commit_text, hex, line, optional_line, text_lines}
 use Rattle.gx_object.specs.Lines.{field, ident_field, name_field, or_absent, stripped}
 use Rattle.gx_object.specs.Commits.{commit_of, encoding_field, parent_lines, parents_of}

@@ -7,9 +7,9 @@ use Rattle.std.specs.Cmp.Lexicographic.{pointwise, bytes_decides}
 use Rattle.std.proofs.lemmas.Bool.{and_from, and_parts, or_from, not-true, not_from_false}
 use Rattle.std.proofs.lemmas.List.{take-append-drop, take_at, drop_at}
 use Rattle.gx_model.specs.Texts.{Bytes, cut_at, is_line, lacks}
-use Rattle.gx_model.specs.Idents.{is_ident}
+use Rattle.gx_model.specs.Texts.Idents.{is_ident}
 use Rattle.gx_model.specs.Objects.{hex, is_name, line}
-use Rattle.gx_model.specs.Naming.{lower_name_in}
+use Rattle.gx_model.specs.Objects.Naming.{lower_name_in}
 use Rattle.gx_model.proofs.Cuts.{cut_after, cut_spelled, map_some}
 use Rattle.gx_model.proofs.LineTexts.{ident_is_line}
 use Rattle.gx_object.specs.Lines.{◌>>=◌, field, ident_field, name_field, stripped}

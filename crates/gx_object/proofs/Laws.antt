@@ -7,7 +7,7 @@ use Rattle.std.proofs.lemmas.Bool.{and_from, and_parts, eq-eqb, eqb-true}
 use Rattle.std.proofs.lemmas.List.Concat.{flat_map-cons}
 use Rattle.std.proofs.lemmas.List.Folds.{list_all-append}
 use Rattle.gx_model.specs.Texts.{Bytes, lacks}
-use Rattle.gx_model.specs.Paths.{is_component}
+use Rattle.gx_model.specs.Texts.Paths.{is_component}
 use Rattle.gx_model.specs.Objects.{Entry, IsTreeText, entry_text, is_canonical, is_name, mode_text, tree_text}
 use Rattle.gx_object.specs.Trees.{entry_at, entries_within, entries_of, tree_of}
 use Rattle.gx_model.proofs.NameDigits.{AreBytes, all_bytes}

@@ -14,7 +14,7 @@ use Rattle.std.proofs.lemmas.Bool.Decides.{nat_tests, same_from_decides}
 use Rattle.gx_model.specs.declared.objects.Mode.{Mode}
 use Rattle.gx_model.specs.declared.objects.Mode.TheVariants.{File, Exec, Link, Gitlink, Dir}
 use Rattle.gx_model.specs.Texts.{Bytes, same_bytes}
-use Rattle.gx_model.specs.Paths.{is_component}
+use Rattle.gx_model.specs.Texts.Paths.{is_component}
 use Rattle.gx_model.specs.Objects.{Entry, are_different, entry_key, is_canonical, is_dir}
 use Rattle.gx_object.specs.declared.entry.Entry.{Entry as Read}
 use Rattle.gx_object.specs.Entries.{mark_of, shown}

@@ -8,7 +8,7 @@ use Rattle.std.proofs.Math.Seq.{drop-append-add}
 use Rattle.std.proofs.lemmas.List.Concat.{flat_map-cons}
 use Rattle.gx_model.specs.Texts.{Bytes}
 use Rattle.gx_model.specs.Objects.{hex, is_name, line}
-use Rattle.gx_model.specs.Naming.{lower_name_in}
+use Rattle.gx_model.specs.Objects.Naming.{lower_name_in}
 use Rattle.gx_object.specs.Lines.{field, name_field, stripped}
 use Rattle.gx_object.specs.Commits.{AreParents, parent_lines, parents_of, parents_within, with_first}
 use Rattle.gx_model.proofs.NameDigits.{name_again, name_long}

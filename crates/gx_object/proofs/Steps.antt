@@ -6,7 +6,7 @@ use Rattle.std.specs.Option.{is_some, option_map, unwrap_or}
 use Rattle.std.proofs.lemmas.Bool.{false≢true, eqb-true}
 use Rattle.std.proofs.lemmas.Bool.Decides.{nat_tests}
 use Rattle.gx_model.specs.Texts.{Bytes, same_bytes}
-use Rattle.gx_model.specs.Paths.{is_component}
+use Rattle.gx_model.specs.Texts.Paths.{is_component}
 use Rattle.gx_model.specs.Objects.{Entry, is_canonical, is_dir}
 use Rattle.gx_object.specs.Order.{are_ordered, leads, meets}
 use Rattle.gx_object.specs.Trees.{◌>>=◌, entry_at, entries_within, entries_of, entries_left, goes_on, is_tree}

@@ -5,8 +5,8 @@ use Rattle.std.specs.List.{list_all, ends_with}
 use Rattle.std.specs.Result.{result_ok}
 use Rattle.std.specs.Cmp.Lexicographic.{bytes_decides, pointwise}
 use Rattle.gx_model.specs.Texts.{Bytes, has_pair, same_bytes}
-use Rattle.gx_model.specs.RefNames.{is_ref_byte, is_ref_component, is_ref_name, is_tag_name, ref_components, tag_ref}
-use Rattle.gx_model.specs.Values.{is_optional_ident}
+use Rattle.gx_model.specs.Texts.RefNames.{is_ref_byte, is_ref_component, is_ref_name, is_tag_name, ref_components, tag_ref}
+use Rattle.gx_model.specs.Histories.Values.{is_optional_ident}
 use Rattle.gx_model.specs.Objects.{IsTagText, TagParts, hex, line, optional_line, tag_text}
 use Rattle.gx_model.proofs.BodiesReadBack.{tag_text_flat}
 use Rattle.gx_model.proofs.LineTexts.{tag_is_line}

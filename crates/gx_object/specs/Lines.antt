@@ -3,8 +3,8 @@ use Rattle.std.specs.Prelude.{nat_eq, if◌then◌else◌, [], ◌∷◌, length
 use Rattle.std.specs.Cmp.Lexicographic.{pointwise}
 use Rattle.std.specs.Option.{option_and_then}
 use Rattle.gx_model.specs.Texts.{Bytes, cut_at}
-use Rattle.gx_model.specs.Idents.{is_ident}
-use Rattle.gx_model.specs.Naming.{lower_name_in}
+use Rattle.gx_model.specs.Texts.Idents.{is_ident}
+use Rattle.gx_model.specs.Objects.Naming.{lower_name_in}
 
 infixl 10 ◌>>=◌
 abbrev pub ◌>>=◌ : {A B : Type 0} → Option A → (A → Option B) → Option B

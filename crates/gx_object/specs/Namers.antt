@@ -8,7 +8,7 @@ use Rattle.std.proofs.lemmas.List.Folds.{list_all-append}
 use Rattle.sha1.specs.Sha1.{sha1, digest_bytes}
 use Rattle.gx_model.specs.Texts.{Bytes}
 use Rattle.gx_model.specs.Objects.{IsNamer}
-use Rattle.gx_model.specs.Naming.{kind_number, record_text, short_name}
+use Rattle.gx_model.specs.Objects.Naming.{kind_number, record_text, short_name}
 use Rattle.gx_model.specs.declared.objects.Kind.{Kind}
 use Rattle.gx_model.specs.declared.objects.Kind.TheVariants.{Blob, Tree, Commit, Tag}
 

@@ -1,7 +1,7 @@
 -- The body of a tag, read from the left.
 use Rattle.std.specs.Prelude.{if◌then◌else◌, [], ◌∷◌, codes, Option, None, Some}
 use Rattle.gx_model.specs.Texts.{Bytes}
-use Rattle.gx_model.specs.RefNames.{is_tag_name}
+use Rattle.gx_model.specs.Texts.RefNames.{is_tag_name}
 use Rattle.gx_model.specs.Objects.{TagParts}
 use Rattle.gx_object.specs.Lines.{◌>>=◌, field, ident_field, name_field, or_absent, stripped}
 

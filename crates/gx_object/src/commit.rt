@@ -4,7 +4,7 @@ ghost use Rattle.std.specs.Prelude.{◌≡◌, ◌++◌, ℕ, List, length, map,
 ghost use Rattle.std.specs.List.{list_all};
 ghost use Rattle.std.specs.Option.{option_map};
 ghost use Rattle.std.specs.Result.{result_ok};
-ghost use Rattle.gx_model.specs.Values.{is_optional_encoding};
+ghost use Rattle.gx_model.specs.Histories.Values.{is_optional_encoding};
 ghost use Rattle.gx_model.specs.Objects.{CommitParts as Parts, IsCommitText, is_name};
 ghost use Rattle.gx_object.specs.Lines.{or_absent};
 ghost use Rattle.gx_object.specs.Commits.{commit_of, encoding_field, parent_lines, parents_of};

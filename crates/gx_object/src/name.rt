@@ -4,7 +4,7 @@ ghost use Rattle.std.specs.Prelude.{◌≡◌, ℕ, length, IsTrue, ◌↔◌};
 ghost use Rattle.std.specs.Option.{option_map};
 ghost use Rattle.std.specs.List.{list_all};
 ghost use Rattle.gx_model.specs.Objects.{hex, is_name};
-ghost use Rattle.gx_model.specs.Naming.{name_in, lower_name_in};
+ghost use Rattle.gx_model.specs.Objects.Naming.{name_in, lower_name_in};
 
 /// The name of an object: 20 bytes, ordered byte by byte. Source: gitglossary(7), "object name".
 #[derive(Clone, Copy, Debug, PartialEq, Eq, PartialOrd, Ord, Hash)]

@@ -4,7 +4,7 @@ ghost use Rattle.std.specs.Prelude.{◌≡◌, ℕ, List};
 ghost use Rattle.sha1.specs.Sha1.{sha1};
 ghost use Rattle.gx_model.specs.declared.objects.Kind.{Kind};
 ghost use Rattle.gx_model.specs.Objects.{IsNamer};
-ghost use Rattle.gx_model.specs.Naming.{kind_word, kind_number, record_text, short_name};
+ghost use Rattle.gx_model.specs.Objects.Naming.{kind_word, kind_number, record_text, short_name};
 ghost use Rattle.gx_object.specs.Namers.{sha1_is_namer, short_is_namer};
 
 use crate::{Kind, Name};
@@ -58,7 +58,7 @@ impl Namer for ShortNamer {
 
     ghost is_namer = { λ _. short_is_namer };
 
-    #[tactic(auto, unfolding(gx_model::specs::Naming::short_name))]
+    #[tactic(auto, unfolding(gx_model::specs::Objects::Naming::short_name))]
     fn name(&self, kind: Kind, body: &[u8]) -> Name {
         let mut bytes = [0x11; 20];
         bytes[18] = number(kind);

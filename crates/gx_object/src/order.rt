@@ -5,7 +5,7 @@ ghost use Rattle.std.specs.Prelude.{◌≡◌, ◌++◌, true, map, nat_lt};
 ghost use Rattle.std.specs.List.{list_all};
 ghost use Rattle.std.specs.Ordering.{nat_cmp};
 ghost use Rattle.std.specs.Cmp.Lexicographic.{slice_cmp};
-ghost use Rattle.gx_model.specs.Paths.{is_component};
+ghost use Rattle.gx_model.specs.Texts.Paths.{is_component};
 ghost use Rattle.gx_model.specs.Objects.{entry_key, is_canonical};
 ghost use Rattle.gx_object.specs.Order.{are_ordered, comes_before, is_repeated, leads, meets, precedes};
 ghost use Rattle.gx_object.specs.Entries.{mark_of, shown};

@@ -2,7 +2,7 @@
 
 ghost use Rattle.std.specs.Prelude.{◌≡◌, codes, IsTrue, IfOk, IsOkAnd};
 ghost use Rattle.std.specs.Option.{option_map};
-ghost use Rattle.gx_model.specs.RefNames.{is_tag_name};
+ghost use Rattle.gx_model.specs.Texts.RefNames.{is_tag_name};
 ghost use Rattle.gx_model.specs.Objects.{IsTagText, TagParts as Parts};
 ghost use Rattle.gx_object.specs.Lines.{ident_field, or_absent};
 ghost use Rattle.gx_object.specs.Tags.{tag_field, tag_of};

@@ -3,8 +3,8 @@ use Rattle.std.proofs.Common.{◌≡◌, ◌⊎◌, inl, inr, true, List, Option
 use Rattle.gx_model.specs.declared.store_faults.FileFault.{FileFault}
 use Rattle.gx_model.specs.declared.store_faults.FileFault.TheVariants as model
 use Rattle.gx_model.specs.Histories.{Record}
-use Rattle.gx_model.specs.Growth.{put, put_under, record_named}
-use Rattle.gx_model.specs.RecordFaults.{content_fault, or_duplicate, record_fault}
+use Rattle.gx_model.specs.Records.Growth.{put, put_under, record_named}
+use Rattle.gx_model.specs.Records.RecordFaults.{content_fault, or_duplicate, record_fault}
 use Rattle.gx_object.specs.declared.name.Name.{Name}
 use Rattle.gx_repo.specs.declared.fault.AddFault.{AddFault}
 use Rattle.gx_repo.specs.declared.fault.AddFault.TheVariants.{OutOfMemory, BadObject, Dangling, DuplicateObject}

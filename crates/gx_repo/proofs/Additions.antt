@@ -2,14 +2,14 @@
 use Rattle.std.proofs.Common.{◌≡◌, List, map, Some, Result, Ok, Err, sym, ap, subst, ◌∙◌}
 use Rattle.gx_model.specs.declared.objects.Kind.{Kind}
 use Rattle.gx_model.specs.Texts.{Bytes}
-use Rattle.gx_model.specs.Files.{FileMap}
-use Rattle.gx_model.specs.Values.{tree_value}
+use Rattle.gx_model.specs.Histories.Files.{FileMap}
+use Rattle.gx_model.specs.Histories.Values.{tree_value}
 use Rattle.gx_model.specs.Records.{name_of}
 use Rattle.gx_model.specs.Histories.{Record, Records, record_for, with_one, with_tree}
-use Rattle.gx_model.specs.HistoryOf.{contents_of, history_of, named_values, value_in}
-use Rattle.gx_model.specs.Sound.{HasShortPaths, IsLinked, IsNamedMap, IsSound}
-use Rattle.gx_model.specs.Growth.{all_trees, put, put_all, tree_records}
-use Rattle.gx_model.specs.RepositoryLaws.{LinksTell, PutsGrow, TreesGrow, values_of, with_records}
+use Rattle.gx_model.specs.Records.HistoryOf.{contents_of, history_of, named_values, value_in}
+use Rattle.gx_model.specs.Records.Sound.{HasShortPaths, IsLinked, IsNamedMap, IsSound}
+use Rattle.gx_model.specs.Records.Growth.{all_trees, put, put_all, tree_records}
+use Rattle.gx_model.specs.Laws.RepositoryLaws.{LinksTell, PutsGrow, TreesGrow, values_of, with_records}
 use Rattle.gx_object.specs.declared.name.Name.{Name}
 use Rattle.gx_store.specs.declared.fault.StoreFault.{StoreFault}
 use Rattle.gx_store.specs.declared.fault.StoreFault.TheVariants.{OutOfMemory, NameHeld}

@@ -9,10 +9,10 @@ use Rattle.gx_model.specs.declared.objects.Mode.TheVariants.{Dir}
 use Rattle.gx_model.specs.Texts.{Bytes}
 use Rattle.gx_model.specs.Objects.{Entry, IsNamer, is_dir}
 use Rattle.gx_model.specs.Histories.{Record}
-use Rattle.gx_model.specs.HistoryOf.{files_at, files_of_tree, named_values, placed, value_in, value_named}
-use Rattle.gx_model.specs.Sound.{AnyByRecursion, IsHeldAs, IsSound}
-use Rattle.gx_model.specs.Growth.{record_named}
-use Rattle.gx_model.specs.RecordFaults.{is_held, is_of_kind, is_without_entries}
+use Rattle.gx_model.specs.Records.HistoryOf.{files_at, files_of_tree, named_values, placed, value_in, value_named}
+use Rattle.gx_model.specs.Records.Sound.{AnyByRecursion, IsHeldAs, IsSound}
+use Rattle.gx_model.specs.Records.Growth.{record_named}
+use Rattle.gx_model.specs.Records.RecordFaults.{is_held, is_of_kind, is_without_entries}
 use Rattle.gx_model.proofs.PathTests.{same_is}
 use Rattle.gx_store.specs.Stores.{place_named}
 use Rattle.gx_repo.specs.Checking.{entry_room}

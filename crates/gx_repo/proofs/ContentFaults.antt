@@ -10,10 +10,10 @@ use Rattle.gx_model.specs.declared.store_faults.FileFault.TheVariants as model
 use Rattle.gx_model.specs.Texts.{Bytes}
 use Rattle.gx_model.specs.Objects.{CommitParts, Entry, IsCommitText, IsTagText, TagParts, is_dir}
 use Rattle.gx_model.specs.Histories.{Record}
-use Rattle.gx_model.specs.HistoryOf.{entries_in, files_at, files_of_entries, named_values, placed}
-use Rattle.gx_model.specs.Growth.{record_named}
-use Rattle.gx_model.specs.RecordFaults.{are_links_held, content_fault, has_empty_directory, has_long_path, is_bad_below, is_body, is_entry_held, is_held, is_without_entries}
-use Rattle.gx_model.specs.StoreLaws.{BodiesAreRead, IsBody}
+use Rattle.gx_model.specs.Records.HistoryOf.{entries_in, files_at, files_of_entries, named_values, placed}
+use Rattle.gx_model.specs.Records.Growth.{record_named}
+use Rattle.gx_model.specs.Records.RecordFaults.{are_links_held, content_fault, has_empty_directory, has_long_path, is_bad_below, is_body, is_entry_held, is_held, is_without_entries}
+use Rattle.gx_model.specs.Laws.StoreLaws.{BodiesAreRead, IsBody}
 use Rattle.gx_repo.specs.declared.fault.AddFault.{AddFault}
 use Rattle.gx_repo.specs.declared.fault.AddFault.TheVariants.{Dangling}
 use Rattle.gx_repo.specs.Checking.{entry_room, wider, widest}

@@ -8,10 +8,10 @@ use Rattle.gx_model.specs.declared.objects.Mode.{Mode}
 use Rattle.gx_model.specs.declared.objects.Mode.TheVariants.{File, Exec, Link, Gitlink, Dir}
 use Rattle.gx_model.specs.Texts.{Bytes}
 use Rattle.gx_model.specs.Objects.{Entry}
-use Rattle.gx_model.specs.Growth.{same_kind}
+use Rattle.gx_model.specs.Records.Growth.{same_kind}
 use Rattle.gx_model.specs.Histories.{AreDistinct, Record}
-use Rattle.gx_model.specs.RecordFaults.{is_entry_held, is_held, is_of_kind}
-use Rattle.gx_model.specs.Sound.{AnyByRecursion, IsHeldAs, IsLinked, IsSound}
+use Rattle.gx_model.specs.Records.RecordFaults.{is_entry_held, is_held, is_of_kind}
+use Rattle.gx_model.specs.Records.Sound.{AnyByRecursion, IsHeldAs, IsLinked, IsSound}
 use Rattle.gx_model.proofs.GrownRecords.{kind_same}
 use Rattle.gx_model.proofs.PathTests.{is_true}
 use Rattle.gx_model.proofs.TakenRecords.{named_some}

@@ -6,8 +6,8 @@ use Rattle.gx_model.specs.declared.objects.Mode.TheVariants.{Dir}
 use Rattle.gx_model.specs.Texts.{Bytes}
 use Rattle.gx_model.specs.Objects.{Entry, IsNamer}
 use Rattle.gx_model.specs.Histories.{Record}
-use Rattle.gx_model.specs.HistoryOf.{Named, files_at, files_of_entries, files_of_tree, named_values, placed, value_named}
-use Rattle.gx_model.specs.Sound.{IsHeldAs, IsSound}
+use Rattle.gx_model.specs.Records.HistoryOf.{Named, files_at, files_of_entries, files_of_tree, named_values, placed, value_named}
+use Rattle.gx_model.specs.Records.Sound.{IsHeldAs, IsSound}
 use Rattle.gx_store.specs.Stores.{place_named}
 use Rattle.gx_repo.specs.Places.{IsPlace}
 use Rattle.gx_repo.specs.Rooms.{room, room_of, rooms_of}

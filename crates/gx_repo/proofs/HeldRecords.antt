@@ -6,11 +6,11 @@ use Rattle.std.proofs.lemmas.List.{map-append, take-append-drop}
 use Rattle.gx_model.specs.declared.objects.Kind.{Kind}
 use Rattle.gx_model.specs.declared.objects.Kind.TheVariants as kinds
 use Rattle.gx_model.specs.Texts.{Bytes, same_bytes}
-use Rattle.gx_model.specs.Files.{FileMap, depth}
-use Rattle.gx_model.specs.Values.{sub_maps}
+use Rattle.gx_model.specs.Histories.Files.{FileMap, depth}
+use Rattle.gx_model.specs.Histories.Values.{sub_maps}
 use Rattle.gx_model.specs.Histories.{Record}
-use Rattle.gx_model.specs.Sound.{AnyByRecursion, Holds, Keeps}
-use Rattle.gx_model.specs.Growth.{all_trees_to, and_some, put, put_all, put_under, record_named, same_kind, same_object, tree_record, tree_records}
+use Rattle.gx_model.specs.Records.Sound.{AnyByRecursion, Holds, Keeps}
+use Rattle.gx_model.specs.Records.Growth.{all_trees_to, and_some, put, put_all, put_under, record_named, same_kind, same_object, tree_record, tree_records}
 use Rattle.gx_model.proofs.PathTests.{first, is_true}
 use Rattle.gx_tree.specs.Writes.{map_name}
 use Rattle.gx_model.proofs.Puts.{put_all-append}

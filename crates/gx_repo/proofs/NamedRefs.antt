@@ -11,7 +11,7 @@ use Rattle.std.specs.declared.cmp.Ordering.TheVariants.{Less, Equal, Greater}
 use Rattle.std.proofs.lemmas.Map.Text.{is_eq-slice_cmp}
 use Rattle.std.proofs.lemmas.List.{drop_more}
 use Rattle.gx_model.specs.Texts.{Bytes, same_bytes}
-use Rattle.gx_model.specs.Publishing.{Change, with_change, with_changes}
+use Rattle.gx_model.specs.Records.Publishing.{Change, with_change, with_changes}
 use Rattle.gx_model.specs.Replay.{byte_cmp}
 use Rattle.gx_model.proofs.PathTests.{both, first, second, is_same, is_true}
 use Rattle.gx_model.proofs.SortedRefs.{answers_rise, found_at, not_parted, order, put_there, same_text}

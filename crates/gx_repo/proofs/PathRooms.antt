@@ -4,9 +4,9 @@ use Rattle.std.specs.List.{list_all, AllByRecursion}
 use Rattle.std.proofs.lemmas.Bool.{le-leb, leb-true, lt-leb}
 use Rattle.std.proofs.lemmas.Bool.Decides.{leb_tells}
 use Rattle.gx_model.specs.Texts.{Bytes}
-use Rattle.gx_model.specs.Paths.{Path, is_component, is_file_path, is_short, path_text}
-use Rattle.gx_model.specs.Files.{FileMap, Leaf, are_file_paths}
-use Rattle.gx_model.specs.HistoryOf.{placed}
+use Rattle.gx_model.specs.Texts.Paths.{Path, is_component, is_file_path, is_short, path_text}
+use Rattle.gx_model.specs.Histories.Files.{FileMap, Leaf, are_file_paths}
+use Rattle.gx_model.specs.Records.HistoryOf.{placed}
 use Rattle.gx_model.proofs.PathTests.{first, is_true, second}
 use Rattle.gx_repo.specs.Rooms.{room}
 

@@ -8,8 +8,8 @@ use Rattle.std.proofs.lemmas.List.Sums.{fails_before_first}
 use Rattle.gx_model.specs.declared.objects.Kind.TheVariants as kinds
 use Rattle.gx_model.specs.Texts.{Bytes, same_bytes}
 use Rattle.gx_model.specs.Histories.{Record}
-use Rattle.gx_model.specs.Sound.{AnyByRecursion}
-use Rattle.gx_model.specs.Growth.{record_named}
+use Rattle.gx_model.specs.Records.Sound.{AnyByRecursion}
+use Rattle.gx_model.specs.Records.Growth.{record_named}
 use Rattle.gx_model.proofs.PathTests.{is_same, is_true}
 use Rattle.gx_store.specs.Stores.{place_named}
 use Rattle.gx_repo.specs.Places.{IsPlace}

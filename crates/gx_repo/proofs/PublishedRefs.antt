@@ -6,7 +6,7 @@ use Rattle.gx_repo.specs.declared.fault.PublishFault.{PublishFault}
 use Rattle.gx_repo.specs.declared.fault.PublishFault.TheVariants.{OutOfMemory}
 use Rattle.gx_repo.specs.declared.fault.PublishFault.TheVariants as faults
 use Rattle.gx_repo.specs.Publishing.{fault_of}
-use Rattle.gx_model.specs.Publishing.{Change, changes_fault, published, unless, with_changes}
+use Rattle.gx_model.specs.Records.Publishing.{Change, changes_fault, published, unless, with_changes}
 
 -- what is refused is refused by the first fault
 pub refused : (r : Records) (changes : List Change) (fault : PublishFault) → changes_fault r.records changes ≡ Some (fault_of fault) → IsFaultOf (fault_of fault) (published r changes)

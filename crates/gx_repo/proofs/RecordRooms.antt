@@ -10,13 +10,13 @@ use Rattle.gx_model.specs.declared.objects.Kind.{Kind}
 use Rattle.gx_model.specs.declared.objects.Kind.TheVariants as kinds
 use Rattle.gx_model.specs.declared.objects.Mode.TheVariants.{Dir}
 use Rattle.gx_model.specs.Texts.{Bytes, same_bytes}
-use Rattle.gx_model.specs.Files.{are_file_paths}
-use Rattle.gx_model.specs.Values.{Value, blob_value, commit_value, is_proper, tag_value, tree_value}
+use Rattle.gx_model.specs.Histories.Files.{are_file_paths}
+use Rattle.gx_model.specs.Histories.Values.{Value, blob_value, commit_value, is_proper, tag_value, tree_value}
 use Rattle.gx_model.specs.Objects.{IsNamer}
 use Rattle.gx_model.specs.Records.{body_of, kind_of}
 use Rattle.gx_model.specs.Histories.{Record, Records}
-use Rattle.gx_model.specs.HistoryOf.{Named, files_of_tree, history_of, named_from, named_values, value_in, value_named, with_record}
-use Rattle.gx_model.specs.Sound.{AnyByRecursion, IsHeldAs, IsLinked, IsLinkedAfter, IsSound}
+use Rattle.gx_model.specs.Records.HistoryOf.{Named, files_of_tree, history_of, named_from, named_values, value_in, value_named, with_record}
+use Rattle.gx_model.specs.Records.Sound.{AnyByRecursion, IsHeldAs, IsLinked, IsLinkedAfter, IsSound}
 use Rattle.gx_model.proofs.FirstRecords.{kept}
 use Rattle.gx_model.proofs.GrownRecords.{distinct_of}
 use Rattle.gx_model.proofs.HistoriesExist.{named_is, stands}

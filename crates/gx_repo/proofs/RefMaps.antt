@@ -11,7 +11,7 @@ use Rattle.std.specs.FinMap.Entries.{below_all, by_order, is_sorted, put}
 use Rattle.std.proofs.lemmas.List.{drop_more}
 use Rattle.gx_model.specs.Texts.{Bytes}
 use Rattle.gx_model.specs.Replay.{byte_cmp}
-use Rattle.gx_model.specs.Publishing.{with_changes}
+use Rattle.gx_model.specs.Records.Publishing.{with_changes}
 use Rattle.gx_model.proofs.PathTests.{first, second}
 use Rattle.gx_model.proofs.SortedRefs.{order}
 use Rattle.gx_object.specs.declared.name.Name.{Name}

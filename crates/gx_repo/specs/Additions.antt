@@ -4,10 +4,10 @@ use Rattle.gx_model.specs.declared.objects.Kind.{Kind}
 use Rattle.gx_model.specs.declared.objects.Kind.TheVariants as kind
 use Rattle.gx_model.specs.Texts.{Bytes}
 use Rattle.gx_model.specs.Objects.{CommitParts, TagParts, commit_text, tag_text}
-use Rattle.gx_model.specs.Values.{Value, commit_value, tag_value}
+use Rattle.gx_model.specs.Histories.Values.{Value, commit_value, tag_value}
 use Rattle.gx_model.specs.Histories.{Record, Records, record_for}
-use Rattle.gx_model.specs.HistoryOf.{commit_of_parts, history_of, named_values, tag_of_parts}
-use Rattle.gx_model.specs.Growth.{put, put_all}
+use Rattle.gx_model.specs.Records.HistoryOf.{commit_of_parts, history_of, named_values, tag_of_parts}
+use Rattle.gx_model.specs.Records.Growth.{put, put_all}
 use Rattle.gx_object.specs.declared.name.Name.{Name}
 use Rattle.gx_store.specs.declared.fault.StoreFault.{StoreFault}
 use Rattle.gx_store.specs.declared.fault.StoreFault.TheVariants.{OutOfMemory, NameHeld}

@@ -2,9 +2,9 @@
 use Rattle.std.specs.Prelude.{ℕ, max, ◌&&◌, if◌then◌else◌, List, [], ◌∷◌, Option, Some, None}
 use Rattle.gx_model.specs.Objects.{Entry, is_dir}
 use Rattle.gx_model.specs.Histories.{Record}
-use Rattle.gx_model.specs.HistoryOf.{files_at, named_values, placed}
-use Rattle.gx_model.specs.Growth.{record_named}
-use Rattle.gx_model.specs.RecordFaults.{is_without_entries}
+use Rattle.gx_model.specs.Records.HistoryOf.{files_at, named_values, placed}
+use Rattle.gx_model.specs.Records.Growth.{record_named}
+use Rattle.gx_model.specs.Records.RecordFaults.{is_without_entries}
 use Rattle.gx_repo.specs.Rooms.{room}
 
 -- the greater of two rooms; none where one is missing

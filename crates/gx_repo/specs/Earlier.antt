@@ -4,7 +4,7 @@ use Rattle.std.specs.List.{AllByRecursion}
 use Rattle.gx_model.specs.Texts.{Bytes}
 use Rattle.gx_model.specs.Objects.{Entry as TreeEntry, IsTreeText}
 use Rattle.gx_model.specs.Histories.{Record}
-use Rattle.gx_model.specs.RecordFaults.{is_entry_held}
+use Rattle.gx_model.specs.Records.RecordFaults.{is_entry_held}
 use Rattle.gx_object.specs.declared.entry.Entry.{Entry}
 use Rattle.gx_object.specs.Entries.{shown}
 use Rattle.gx_repo.specs.declared.earlier.Earlier.{Earlier}

@@ -1,11 +1,11 @@
 -- How much room the paths below trees take. Source: this project's own limit of 4,095 bytes for a path.
 use Rattle.std.specs.Prelude.{◌≡◌, ℕ, ◌+◌, take, List, [], ◌∷◌, length, map, max}
 use Rattle.gx_model.specs.Texts.{Bytes}
-use Rattle.gx_model.specs.Paths.{path_text}
-use Rattle.gx_model.specs.Files.{FileMap}
-use Rattle.gx_model.specs.Values.{Value, tree_value}
+use Rattle.gx_model.specs.Texts.Paths.{path_text}
+use Rattle.gx_model.specs.Histories.Files.{FileMap}
+use Rattle.gx_model.specs.Histories.Values.{Value, tree_value}
 use Rattle.gx_model.specs.Histories.{Record}
-use Rattle.gx_model.specs.HistoryOf.{named_values}
+use Rattle.gx_model.specs.Records.HistoryOf.{named_values}
 
 -- the length of the longest of these paths, with a slash before it; 0 where there is none
 abbrev pub room : FileMap Bytes → ℕ

@@ -1,9 +1,9 @@
 //! What a record of which nothing is known has against it. Source: Pro Git, "Git Objects".
 ghost use Rattle.std.specs.Prelude.{◌≡◌, [], length, max, slice_get, true, false, Some, None, IsTrue, IfOk, IfErr, OnOk, OnErr};
 ghost use Rattle.gx_model.specs.declared.objects.Kind.TheVariants as kinds;
-ghost use Rattle.gx_model.specs.HistoryOf.{named_values, value_in};
-ghost use Rattle.gx_model.specs.RecordFaults.{content_fault, is_entry_held, is_held, is_of_kind};
-ghost use Rattle.gx_model.specs.Sound.{IsSound};
+ghost use Rattle.gx_model.specs.Records.HistoryOf.{named_values, value_in};
+ghost use Rattle.gx_model.specs.Records.RecordFaults.{content_fault, is_entry_held, is_held, is_of_kind};
+ghost use Rattle.gx_model.specs.Records.Sound.{IsSound};
 ghost use Rattle.gx_object.specs.Entries.{shown};
 ghost use Rattle.gx_store.specs.Stores.{place_named};
 ghost use Rattle.gx_repo.specs.declared.fault.AddFault.TheVariants.{Dangling};

@@ -1,7 +1,7 @@
 //! A new tree beside an earlier one: an entry that stands in a tree that is held is held, too, and needs no look-up.
 ghost use Rattle.std.specs.Prelude.{◌<◌, ◌≡◌, [], List, IsTrue};
 ghost use Rattle.gx_model.specs.Histories.{Record};
-ghost use Rattle.gx_model.specs.Sound.{IsSound};
+ghost use Rattle.gx_model.specs.Records.Sound.{IsSound};
 ghost use Rattle.gx_object.specs.Entries.{shown};
 ghost use Rattle.gx_repo.specs.Earlier.{AreLeftHeld, IsHeldTree, IsThere};
 

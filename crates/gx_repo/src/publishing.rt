@@ -2,7 +2,7 @@
 ghost use Rattle.std.specs.Prelude.{◌≡◌, map, IsTrue, IfOk};
 ghost use Rattle.std.specs.FinMap.Entries.{is_sorted};
 ghost use Rattle.gx_model.specs.Replay.{byte_cmp};
-ghost use Rattle.gx_model.specs.Publishing.{with_changes};
+ghost use Rattle.gx_model.specs.Records.Publishing.{with_changes};
 ghost use Rattle.gx_repo.specs.Refs.{are_held, asked, kept, ref_of};
 
 use crate::refs::{Ref, is_held, set_object};

@@ -4,21 +4,21 @@ ghost use Rattle.std.specs.List.{AllByRecursion, slice_range};
 ghost use Rattle.std.specs.Map.{lookup};
 ghost use Rattle.std.specs.Option.{option_map};
 ghost use Rattle.gx_model.specs.declared.objects.Kind.TheVariants as kinds;
-ghost use Rattle.gx_model.specs.Denotation.{ref_names};
+ghost use Rattle.gx_model.specs.Revisions.Denotation.{ref_names};
 ghost use Rattle.gx_model.specs.Faults.{Gives};
-ghost use Rattle.gx_model.specs.Growth.{tree_records};
+ghost use Rattle.gx_model.specs.Records.Growth.{tree_records};
 ghost use Rattle.gx_model.specs.Objects.{IsTagText, TagParts as Parts};
-ghost use Rattle.gx_model.specs.StoreReading.{is_target_of_kind};
+ghost use Rattle.gx_model.specs.Stores.StoreReading.{is_target_of_kind};
 ghost use Rattle.gx_model.specs.Texts.{same_bytes};
 ghost use Rattle.gx_model.specs.Histories.{record_for, with_one, with_tree};
-ghost use Rattle.gx_model.specs.HistoryOf.{contents_of, named_values, value_in};
-ghost use Rattle.gx_model.specs.Lookups.{commit_named, first_named};
+ghost use Rattle.gx_model.specs.Records.HistoryOf.{contents_of, named_values, value_in};
+ghost use Rattle.gx_model.specs.Records.Lookups.{commit_named, first_named};
 ghost use Rattle.gx_model.specs.Records.{name_of};
-ghost use Rattle.gx_model.specs.RecordFaults.{content_fault};
-ghost use Rattle.gx_model.specs.RefNames.{is_tag_name, tag_ref};
-ghost use Rattle.gx_model.specs.RepositoryLaws.{values_of};
-ghost use Rattle.gx_model.specs.Sound.{HasShortPaths, Holds, IsLinked, IsNamedMap, IsSound, IsTarget, Keeps};
-ghost use Rattle.gx_model.specs.Values.{blob_value, is_optional_encoding, tree_value};
+ghost use Rattle.gx_model.specs.Records.RecordFaults.{content_fault};
+ghost use Rattle.gx_model.specs.Texts.RefNames.{is_tag_name, tag_ref};
+ghost use Rattle.gx_model.specs.Laws.RepositoryLaws.{values_of};
+ghost use Rattle.gx_model.specs.Records.Sound.{HasShortPaths, Holds, IsLinked, IsNamedMap, IsSound, IsTarget, Keeps};
+ghost use Rattle.gx_model.specs.Histories.Values.{blob_value, is_optional_encoding, tree_value};
 ghost use Rattle.gx_object.specs.Parts.{commit_parts, tag_parts};
 ghost use Rattle.gx_tree.specs.Named.{IsAtHome};
 ghost use Rattle.gx_repo.specs.declared.fault.AddFault.TheVariants as faults;
@@ -26,7 +26,7 @@ ghost use Rattle.gx_tree.specs.StoreFaults.{tree_fault};
 ghost use Rattle.gx_tree.specs.Writes.{map_name};
 ghost use Rattle.gx_repo.specs.Additions.{Adds, AddsAll, HasValues, IsWriteFault, commit_among, commit_record, tag_among, tag_record};
 ghost use Rattle.gx_repo.specs.Publishing.{fault_of};
-ghost use Rattle.gx_model.specs.Publishing.{change_fault, changes_fault, published};
+ghost use Rattle.gx_model.specs.Records.Publishing.{change_fault, changes_fault, published};
 ghost use Rattle.gx_repo.specs.Records.{AddsRecord, add_fault};
 ghost use Rattle.gx_repo.specs.GivenBytes.{IsInText, bytes_given};
 ghost use Rattle.gx_repo.specs.Refs.{asked, kept};
@@ -67,7 +67,7 @@ pub struct Repo<N: Namer, A: Allocator> {
 impl<N: Namer, A: Allocator> Model for Repo<N, A> {
     ghost use Rattle.std.specs.Prelude.{◌≡◌, map};
     ghost use Rattle.gx_model.specs.Histories.{Records};
-    ghost use Rattle.gx_model.specs.Sound.{IsSound};
+    ghost use Rattle.gx_model.specs.Records.Sound.{IsSound};
     ghost use Rattle.gx_repo.specs.Refs.{kept};
     ghost use Rattle.gx_repo.specs.Rooms.{IsFront};
 
@@ -341,7 +341,7 @@ impl<N: Namer, A: Allocator + Copy> Repo<N, A> {
     /// Cost: for each change a look-up of its object, and two binary searches among the refs. Where a change names a ref that
     /// isn't held, in proportion to the refs and changes, times the logarithm of their number. No growth is needed otherwise.
     /// Source: git-check-ref-format(1), and gitglossary(7), "ref".
-    #[tactic(auto, unfolding(gx_model::specs::Publishing::published))]
+    #[tactic(auto, unfolding(gx_model::specs::Records::Publishing::published))]
     pub fn publish(&mut self, changes: &[RefChange<'_>]) -> Result<(), PublishFault>
         ensures namer { self.new.0 ≡ self.old.0 }
         ensures records { self.new.1.records ≡ self.old.1.records }

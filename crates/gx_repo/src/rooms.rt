@@ -1,8 +1,8 @@
 //! How much room the paths below each held tree take, so that the limit of a path is checked by one look at each entry.
 ghost use Rattle.std.specs.Prelude.{◌≡◌, ◌<◌, [], length, take, OnOk, OnErr};
 ghost use Rattle.gx_model.specs.declared.objects.Mode.TheVariants as modes;
-ghost use Rattle.gx_model.specs.HistoryOf.{entries_in, files_at, files_of_entries, named_values, placed, value_in};
-ghost use Rattle.gx_model.specs.Sound.{IsHeldAs, IsLinked, IsSound, IsTree};
+ghost use Rattle.gx_model.specs.Records.HistoryOf.{entries_in, files_at, files_of_entries, named_values, placed, value_in};
+ghost use Rattle.gx_model.specs.Records.Sound.{IsHeldAs, IsLinked, IsSound, IsTree};
 ghost use Rattle.gx_repo.specs.Places.{IsPlace};
 ghost use Rattle.gx_repo.specs.Rooms.{room, room_of, rooms_of};
 

@@ -1,7 +1,7 @@
 -- A call that adds a record keeps those before it.
 use Rattle.std.proofs.Common.{◌≡◌, List, [], ◌∷◌, ◌++◌, Result, Ok, Err, inl, inr, sym, subst}
 use Rattle.gx_model.specs.Histories.{Record}
-use Rattle.gx_model.specs.Sound.{AnyByRecursion, Holds, Keeps}
+use Rattle.gx_model.specs.Records.Sound.{AnyByRecursion, Holds, Keeps}
 use Rattle.gx_object.specs.declared.name.Name.{Name}
 use Rattle.gx_repo.specs.declared.fault.AddFault.{AddFault}
 use Rattle.gx_repo.specs.declared.fault.AddFault.TheVariants.{OutOfMemory, BadObject, Dangling, DuplicateObject}

@@ -8,13 +8,13 @@ use Rattle.gx_model.specs.declared.objects.Kind.{Kind}
 use Rattle.gx_model.specs.Texts.{Bytes}
 use Rattle.gx_model.specs.Faults.{Given, IsFaultOf, and_then}
 use Rattle.gx_model.specs.Revisions.{RangeWord}
-use Rattle.gx_model.specs.Values.{Commit, commit_value}
+use Rattle.gx_model.specs.Histories.Values.{Commit, commit_value}
 use Rattle.gx_model.specs.Records.{name_of}
 use Rattle.gx_model.specs.Histories.{History, Records}
-use Rattle.gx_model.specs.Ranges.{Word, WordFault, at_word, each_from, listed, listing, nothing, span, word_denoted}
+use Rattle.gx_model.specs.Revisions.Ranges.{Word, WordFault, at_word, each_from, listed, listing, nothing, span, word_denoted}
 use Rattle.gx_rev.specs.declared.fault.RevFault.{RevFault}
 use Rattle.gx_rev.specs.declared.fault.RevFault.TheVariants.{OutOfMemory}
-use Rattle.gx_model.specs.Marks.{marks_of}
+use Rattle.gx_model.specs.Histories.Marks.{marks_of}
 use Rattle.gx_rev.specs.RevFaults.{fault_of}
 use Rattle.gx_rev.specs.Walking.{IsWordFault, names_back, refused_at}
 use Rattle.gx_rev.specs.Tips.{AddsTips, AreTips}

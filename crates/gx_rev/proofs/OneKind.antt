@@ -3,8 +3,8 @@ use Rattle.std.proofs.Common.{◌≡◌, refl}
 use Rattle.gx_model.specs.declared.objects.Kind.{Kind}
 use Rattle.gx_model.specs.declared.objects.Kind.TheVariants as kind
 use Rattle.gx_model.specs.Texts.{Bytes}
-use Rattle.gx_model.specs.Values.{Value, blob_value, commit_value, tag_value, tree_value}
-use Rattle.gx_model.specs.Denotation.{only_blob, only_commit, only_tag}
+use Rattle.gx_model.specs.Histories.Values.{Value, blob_value, commit_value, tag_value, tree_value}
+use Rattle.gx_model.specs.Revisions.Denotation.{only_blob, only_commit, only_tag}
 use Rattle.gx_rev.specs.Objects.{only}
 
 module _ (name : Kind → Bytes → Bytes) where

@@ -7,17 +7,17 @@ use Rattle.gx_model.specs.declared.objects.Kind.TheVariants as kind
 use Rattle.gx_model.specs.declared.objects.Mode.{Mode}
 use Rattle.gx_model.specs.declared.objects.Mode.TheVariants.{File, Exec, Link, Gitlink, Dir}
 use Rattle.gx_model.specs.Texts.{Bytes}
-use Rattle.gx_model.specs.Paths.{Path}
-use Rattle.gx_model.specs.Files.{FileMap, Leaf, file_at, sub_map}
-use Rattle.gx_model.specs.Values.{is_leaf, tree_value}
+use Rattle.gx_model.specs.Texts.Paths.{Path}
+use Rattle.gx_model.specs.Histories.Files.{FileMap, Leaf, file_at, sub_map}
+use Rattle.gx_model.specs.Histories.Values.{is_leaf, tree_value}
 use Rattle.gx_model.specs.Objects.{Entry, IsNamer, IsTreeText, is_dir}
 use Rattle.gx_model.specs.Records.{content_name, tree_name}
 use Rattle.gx_model.specs.Histories.{IsIn, Record, Records, object_of}
-use Rattle.gx_model.specs.HistoryOf.{entries_in, files_of_tree, history_of, value_of_name}
-use Rattle.gx_model.specs.Growth.{record_named}
-use Rattle.gx_model.specs.RecordFaults.{is_held}
-use Rattle.gx_model.specs.Sound.{IsSound}
-use Rattle.gx_model.specs.Walks.{Place, entries_named, entry_at, entry_for, place_at_end, place_of, walked, walked_from}
+use Rattle.gx_model.specs.Records.HistoryOf.{entries_in, files_of_tree, history_of, value_of_name}
+use Rattle.gx_model.specs.Records.Growth.{record_named}
+use Rattle.gx_model.specs.Records.RecordFaults.{is_held}
+use Rattle.gx_model.specs.Records.Sound.{IsSound}
+use Rattle.gx_model.specs.Records.Walks.{Place, entries_named, entry_at, entry_for, place_at_end, place_of, walked, walked_from}
 use Rattle.gx_model.proofs.BodiesReadBack.{entries_read}
 use Rattle.gx_model.proofs.GrownRecords.{distinct_of}
 use Rattle.gx_model.proofs.HistoriesExist.{stands}

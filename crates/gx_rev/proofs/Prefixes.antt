@@ -4,15 +4,15 @@ use Rattle.std.specs.Prelude.{is_some, IsTrue}
 use Rattle.gx_model.specs.declared.faults.Fault.TheVariants as fault
 use Rattle.gx_model.specs.declared.objects.Kind.{Kind}
 use Rattle.gx_model.specs.Texts.{Bytes}
-use Rattle.gx_model.specs.Values.{Value}
+use Rattle.gx_model.specs.Histories.Values.{Value}
 use Rattle.gx_model.specs.Objects.{IsNamer}
 use Rattle.gx_model.specs.Records.{name_of}
 use Rattle.gx_model.specs.Histories.{IsIn, Records, record_of}
-use Rattle.gx_model.specs.HistoryOf.{history_of, value_of_name}
-use Rattle.gx_model.specs.Growth.{record_named}
-use Rattle.gx_model.specs.Sound.{IsSound}
-use Rattle.gx_model.specs.Lookups.{records_begun_by}
-use Rattle.gx_model.specs.Denotation.{begun_by, the_one}
+use Rattle.gx_model.specs.Records.HistoryOf.{history_of, value_of_name}
+use Rattle.gx_model.specs.Records.Growth.{record_named}
+use Rattle.gx_model.specs.Records.Sound.{IsSound}
+use Rattle.gx_model.specs.Records.Lookups.{records_begun_by}
+use Rattle.gx_model.specs.Revisions.Denotation.{begun_by, the_one}
 use Rattle.gx_model.proofs.Bases.{begun_stands, value_is_held}
 use Rattle.gx_model.proofs.FoundRecords.{digits_find}
 use Rattle.gx_store.specs.declared.prefix.Prefix.TheVariants as prefix

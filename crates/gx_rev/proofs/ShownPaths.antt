@@ -8,18 +8,18 @@ use Rattle.gx_model.specs.declared.objects.Kind.TheVariants as kind
 use Rattle.gx_model.specs.declared.objects.Mode.{Mode}
 use Rattle.gx_model.specs.declared.objects.Mode.TheVariants.{File, Exec, Link, Gitlink, Dir}
 use Rattle.gx_model.specs.Texts.{Bytes}
-use Rattle.gx_model.specs.Paths.{Path}
-use Rattle.gx_model.specs.Files.{FileMap, Leaf, file_at, sub_map}
-use Rattle.gx_model.specs.Values.{Value, blob_of, blob_value, blobs_of, is_content, is_leaf, is_name_text, sub_maps, tree_value}
+use Rattle.gx_model.specs.Texts.Paths.{Path}
+use Rattle.gx_model.specs.Histories.Files.{FileMap, Leaf, file_at, sub_map}
+use Rattle.gx_model.specs.Histories.Values.{Value, blob_of, blob_value, blobs_of, is_content, is_leaf, is_name_text, sub_maps, tree_value}
 use Rattle.gx_model.specs.Objects.{IsNamer, hex, is_name, unhex}
-use Rattle.gx_model.specs.Naming.{lower_name_in}
+use Rattle.gx_model.specs.Objects.Naming.{lower_name_in}
 use Rattle.gx_model.specs.Records.{content_name, kind_of, name_of, tree_name}
 use Rattle.gx_model.specs.Histories.{AreDistinct, IsIn, Records}
-use Rattle.gx_model.specs.HistoryOf.{bytes_of_blob, files_of_tree, history_of, value_of_name}
-use Rattle.gx_model.specs.RecordFaults.{is_held}
-use Rattle.gx_model.specs.Sound.{IsSound}
-use Rattle.gx_model.specs.Walks.{Place, place_in, place_of, walked}
-use Rattle.gx_model.specs.Denotation.{Shown, at_path, file_shown, object, of_file, of_leaf, of_sub_map, submodule}
+use Rattle.gx_model.specs.Records.HistoryOf.{bytes_of_blob, files_of_tree, history_of, value_of_name}
+use Rattle.gx_model.specs.Records.RecordFaults.{is_held}
+use Rattle.gx_model.specs.Records.Sound.{IsSound}
+use Rattle.gx_model.specs.Records.Walks.{Place, place_in, place_of, walked}
+use Rattle.gx_model.specs.Revisions.Denotation.{Shown, at_path, file_shown, object, of_file, of_leaf, of_sub_map, submodule}
 use Rattle.gx_model.proofs.OneHistory.{told_by_name}
 use Rattle.gx_model.proofs.OneTree.{all_left, digits_of, forty, found_known, only_file}
 use Rattle.gx_model.proofs.LinkedValues.{parts_in}

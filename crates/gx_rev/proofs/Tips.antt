@@ -7,14 +7,14 @@ use Rattle.std.specs.List.{slice_get}
 use Rattle.std.proofs.Math.Dec.{eqb}
 use Rattle.std.proofs.lemmas.Bool.Decides.{eqb_tells}
 use Rattle.gx_model.specs.declared.objects.Kind.{Kind}
-use Rattle.gx_model.specs.Values.{Commit, Commits, Value, blob_value, commit_value, more, none, parents_of, tag_value, tree_value}
+use Rattle.gx_model.specs.Histories.Values.{Commit, Commits, Value, blob_value, commit_value, more, none, parents_of, tag_value, tree_value}
 use Rattle.gx_model.specs.Objects.{IsNamer}
 use Rattle.gx_model.specs.Histories.{Records}
-use Rattle.gx_model.specs.HistoryLaws.{IsParent}
-use Rattle.gx_model.specs.Marks.{IsAt, IsMarked, Marks, holds, marks_of}
-use Rattle.gx_model.specs.Ranges.{nothing, reaches, some_reaches}
-use Rattle.gx_model.specs.RepositoryLaws.{values_of}
-use Rattle.gx_model.specs.Sound.{IsSound}
+use Rattle.gx_model.specs.Laws.HistoryLaws.{IsParent}
+use Rattle.gx_model.specs.Histories.Marks.{IsAt, IsMarked, Marks, holds, marks_of}
+use Rattle.gx_model.specs.Revisions.Ranges.{nothing, reaches, some_reaches}
+use Rattle.gx_model.specs.Laws.RepositoryLaws.{values_of}
+use Rattle.gx_model.specs.Records.Sound.{IsSound}
 use Rattle.gx_model.proofs.Marking.{least, mark_tells, marks_are}
 use Rattle.gx_model.proofs.PathTests.{both, first, is_true, left_or, one_of, right_or, second}
 use Rattle.gx_model.proofs.ReachedCommits.{closed, itself}

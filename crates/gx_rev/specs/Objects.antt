@@ -4,13 +4,13 @@ use Rattle.gx_model.specs.declared.objects.Kind.{Kind}
 use Rattle.gx_model.specs.Texts.{Bytes}
 use Rattle.gx_model.specs.Faults.{Given}
 use Rattle.gx_model.specs.declared.faults.Fault.TheVariants.{WrongKind}
-use Rattle.gx_model.specs.Files.{FileMap}
-use Rattle.gx_model.specs.Values.{Commit, Value}
+use Rattle.gx_model.specs.Histories.Files.{FileMap}
+use Rattle.gx_model.specs.Histories.Values.{Commit, Value}
 use Rattle.gx_model.specs.Records.{kind_of}
 use Rattle.gx_model.specs.Histories.{Records}
-use Rattle.gx_model.specs.HistoryOf.{commit_of_value, files_of_tree, value_of_name}
-use Rattle.gx_model.specs.Growth.{record_named, same_kind}
-use Rattle.gx_model.specs.RecordFaults.{is_held}
+use Rattle.gx_model.specs.Records.HistoryOf.{commit_of_value, files_of_tree, value_of_name}
+use Rattle.gx_model.specs.Records.Growth.{record_named, same_kind}
+use Rattle.gx_model.specs.Records.RecordFaults.{is_held}
 use Rattle.gx_object.specs.declared.name.Name.{Name}
 
 -- an object of this name is held

@@ -5,7 +5,7 @@ use Rattle.gx_model.specs.declared.objects.Mode.{Mode}
 use Rattle.gx_model.specs.declared.objects.Mode.TheVariants.{Dir}
 use Rattle.gx_model.specs.Objects.{Entry}
 use Rattle.gx_model.specs.Histories.{Records}
-use Rattle.gx_model.specs.Walks.{Place}
+use Rattle.gx_model.specs.Records.Walks.{Place}
 use Rattle.gx_object.specs.declared.name.Name.{Name}
 use Rattle.gx_rev.specs.Objects.{IsHeldAs}
 

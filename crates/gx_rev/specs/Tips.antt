@@ -1,10 +1,10 @@
 -- Tips: marks of commits that stand for all that these commits reach.
 use Rattle.std.specs.Prelude.{◌≡◌, ℕ, Bool, ◌||◌, IsTrue, List, length}
-use Rattle.gx_model.specs.Values.{Commit}
+use Rattle.gx_model.specs.Histories.Values.{Commit}
 use Rattle.gx_model.specs.Histories.{Records}
-use Rattle.gx_model.specs.Marks.{IsAt, IsMarked, marks_of}
-use Rattle.gx_model.specs.Ranges.{reaches}
-use Rattle.gx_model.specs.RepositoryLaws.{values_of}
+use Rattle.gx_model.specs.Histories.Marks.{IsAt, IsMarked, marks_of}
+use Rattle.gx_model.specs.Revisions.Ranges.{reaches}
+use Rattle.gx_model.specs.Laws.RepositoryLaws.{values_of}
 
 -- the marks are of commits, and what these reach are the commits that pass
 pub record AreTips (repository : Records) (test : Commit → Bool) (marks : List Bool) : Type 0 where

@@ -6,14 +6,14 @@ use Rattle.gx_model.specs.declared.faults.Fault.TheVariants as model
 use Rattle.gx_model.specs.declared.objects.Kind.{Kind}
 use Rattle.gx_model.specs.Texts.{Bytes}
 use Rattle.gx_model.specs.Faults.{IsFaultOf}
-use Rattle.gx_model.specs.Values.{Commit, Value}
-use Rattle.gx_model.specs.HistoryOf.{history_of}
+use Rattle.gx_model.specs.Histories.Values.{Commit, Value}
+use Rattle.gx_model.specs.Records.HistoryOf.{history_of}
 use Rattle.gx_model.specs.Records.{name_of}
 use Rattle.gx_model.specs.Revisions.{RangeWord}
 use Rattle.gx_model.specs.Histories.{Records}
-use Rattle.gx_model.specs.Marks.{marks_of}
-use Rattle.gx_model.specs.RepositoryLaws.{values_of}
-use Rattle.gx_model.specs.Ranges.{Word, WordFault, span, word_denoted}
+use Rattle.gx_model.specs.Histories.Marks.{marks_of}
+use Rattle.gx_model.specs.Laws.RepositoryLaws.{values_of}
+use Rattle.gx_model.specs.Revisions.Ranges.{Word, WordFault, span, word_denoted}
 use Rattle.gx_object.specs.declared.name.Name.{Name}
 use Rattle.gx_rev.specs.declared.fault.RevFault.{RevFault}
 use Rattle.gx_rev.specs.declared.fault.RevFault.TheVariants.{OutOfMemory}

@@ -3,8 +3,8 @@
 ghost use Rattle.std.specs.Prelude.{◌≡◌, ◌&&◌, nat_eq, nat_le, nat_lt, true, length, IfOk};
 ghost use Rattle.std.specs.List.{list_all};
 ghost use Rattle.gx_model.specs.Faults.{Gives};
-ghost use Rattle.gx_model.specs.Denotation.{base_value, begun_by, full_name, is_any_digit, the_one};
-ghost use Rattle.gx_model.specs.HistoryOf.{history_of};
+ghost use Rattle.gx_model.specs.Revisions.Denotation.{base_value, begun_by, full_name, is_any_digit, the_one};
+ghost use Rattle.gx_model.specs.Records.HistoryOf.{history_of};
 ghost use Rattle.gx_rev.specs.Objects.{IsHeld, value_at};
 ghost use Rattle.gx_rev.specs.RevFaults.{NeedsNoMemory, fault_of};
 

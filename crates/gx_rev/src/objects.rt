@@ -3,7 +3,7 @@
 ghost use Rattle.std.specs.Prelude.{◌≡◌, IfOk};
 ghost use Rattle.gx_model.specs.declared.objects.Kind.TheVariants as kinds;
 ghost use Rattle.gx_model.specs.Faults.{Gives};
-ghost use Rattle.gx_model.specs.Denotation.{commit_in, files_in, nth_ancestor, nth_parent};
+ghost use Rattle.gx_model.specs.Revisions.Denotation.{commit_in, files_in, nth_ancestor, nth_parent};
 ghost use Rattle.gx_model.specs.Records.{kind_of, parts_of_commit};
 ghost use Rattle.gx_rev.specs.Objects.{IsHeld, IsHeldAs, commit_at, files_at, value_at};
 ghost use Rattle.gx_rev.specs.RevFaults.{NeedsNoMemory, fault_of};

@@ -4,7 +4,7 @@ ghost use Rattle.std.specs.Prelude.{◌≡◌, IfSome};
 ghost use Rattle.std.specs.Option.{option_map};
 ghost use Rattle.gx_model.specs.declared.objects.Kind.TheVariants as kinds;
 ghost use Rattle.gx_model.specs.Objects.{is_dir};
-ghost use Rattle.gx_model.specs.Walks.{entries_named, entry_at, walked};
+ghost use Rattle.gx_model.specs.Records.Walks.{entries_named, entry_at, walked};
 ghost use Rattle.gx_rev.specs.Objects.{IsHeldAs};
 ghost use Rattle.gx_rev.specs.Places.{IsHeldPlace, place_of_entry, shown_place};
 

@@ -4,12 +4,12 @@
 ghost use Rattle.std.specs.Prelude.{◌≡◌, ◌<◌, IfOk, Some, length};
 ghost use Rattle.std.specs.List.{slice_get};
 ghost use Rattle.gx_model.specs.declared.objects.Kind.TheVariants as kinds;
-ghost use Rattle.gx_model.specs.HistoryLaws.{IsParent};
-ghost use Rattle.gx_model.specs.Ranges.{nothing, reaches, some_reaches};
-ghost use Rattle.gx_model.specs.RepositoryLaws.{values_of};
-ghost use Rattle.gx_model.specs.Sound.{Holds};
-ghost use Rattle.gx_model.specs.Values.{parents_of};
-ghost use Rattle.gx_model.specs.Marks.{Marks, marks_of};
+ghost use Rattle.gx_model.specs.Laws.HistoryLaws.{IsParent};
+ghost use Rattle.gx_model.specs.Revisions.Ranges.{nothing, reaches, some_reaches};
+ghost use Rattle.gx_model.specs.Laws.RepositoryLaws.{values_of};
+ghost use Rattle.gx_model.specs.Records.Sound.{Holds};
+ghost use Rattle.gx_model.specs.Histories.Values.{parents_of};
+ghost use Rattle.gx_model.specs.Histories.Marks.{Marks, marks_of};
 ghost use Rattle.gx_rev.specs.Objects.{IsHeld, IsHeldAs, commit_at, value_at};
 ghost use Rattle.gx_rev.specs.Tips.{AddsTips, AreTips, HasTips, Spreads};
 

@@ -4,9 +4,9 @@ ghost use Rattle.std.specs.Prelude.{◌≡◌, IfOk, Ok, Some};
 ghost use Rattle.std.specs.Option.{option_map};
 ghost use Rattle.gx_model.specs.declared.objects.Kind.TheVariants as kinds;
 ghost use Rattle.gx_model.specs.declared.objects.Mode.TheVariants as modes;
-ghost use Rattle.gx_model.specs.Denotation.{commit_denoted, denoted, file_shown, files_in, looked_up, shown_at, value_denoted};
+ghost use Rattle.gx_model.specs.Revisions.Denotation.{commit_denoted, denoted, file_shown, files_in, looked_up, shown_at, value_denoted};
 ghost use Rattle.gx_model.specs.Faults.{Gives, and_then};
-ghost use Rattle.gx_model.specs.HistoryOf.{bytes_of_blob, history_of};
+ghost use Rattle.gx_model.specs.Records.HistoryOf.{bytes_of_blob, history_of};
 ghost use Rattle.gx_rev.specs.Answers.{AnswersTell, IsNamed, file_of, revision_with, seen_file, shown_as, shown_by};
 ghost use Rattle.gx_rev.specs.Objects.{IsHeld, IsHeldAs, commit_at, files_at, value_at};
 ghost use Rattle.gx_model.specs.Records.{parts_of_commit};
@@ -46,7 +46,7 @@ impl<A: Allocator + Copy> Revision<A> {
 }
 
 /// What a base, suffixes and a path show, from left to right.
-#[tactic(auto, unfolding(gx_model::specs::Denotation::denoted))]
+#[tactic(auto, unfolding(gx_model::specs::Revisions::Denotation::denoted))]
 fn eval_parts<N: Namer, A: Allocator + Copy>(
     repo: &Repo<N, A>,
     base: &[u8],
@@ -181,7 +181,7 @@ pub fn answers_tell_values<N: Namer, A: Allocator + Copy>(repo: &Repo<N, A>)
 /// Besides the faults of `Revision::eval`: WrongKind for the root and for a directory, and NoSuchPath; then OutOfMemory:
 /// only the copy of a file that is there takes memory.
 /// Cost: that of `Revision::eval`, and a copy of the file. Source: gitrevisions(7), "<rev>:<path>".
-#[tactic(auto, unfolding(gx_model::specs::Denotation::looked_up))]
+#[tactic(auto, unfolding(gx_model::specs::Revisions::Denotation::looked_up))]
 pub fn look<N: Namer, A: Allocator + Copy>(
     alloc: A,
     repo: &Repo<N, A>,

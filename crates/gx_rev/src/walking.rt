@@ -2,10 +2,10 @@
 //! serves what all words include, and one what they exclude.
 
 ghost use Rattle.std.specs.Prelude.{◌≡◌, IfOk, length, map};
-ghost use Rattle.gx_model.specs.HistoryOf.{history_of};
+ghost use Rattle.gx_model.specs.Records.HistoryOf.{history_of};
 ghost use Rattle.gx_model.specs.Revisions as words;
-ghost use Rattle.gx_model.specs.Ranges.{listed};
-ghost use Rattle.gx_model.specs.RepositoryLaws.{values_of};
+ghost use Rattle.gx_model.specs.Revisions.Ranges.{listed};
+ghost use Rattle.gx_model.specs.Laws.RepositoryLaws.{values_of};
 ghost use Rattle.gx_rev.specs.RevFaults.{NeedsNoMemory};
 ghost use Rattle.gx_rev.specs.Views.{shown_range};
 ghost use Rattle.gx_rev.specs.Tips.{HasTips};
@@ -26,7 +26,7 @@ use std::alloc::{AllocError, Allocator};
 /// what they exclude, and each `a...b` takes two of its own; a pass costs, besides, for each commit that it reaches its body
 /// and its parents, a look-up each. Takes a byte for each record and each of up to four sets.
 /// Source: gitrevisions(7), "Specifying Ranges".
-#[tactic(auto, unfolding(gx_model::specs::Ranges::listed))]
+#[tactic(auto, unfolding(gx_model::specs::Revisions::Ranges::listed))]
 pub fn walk<N: Namer, A: Allocator + Copy>(
     alloc: A,
     repo: &Repo<N, A>,

@@ -7,10 +7,10 @@ use Rattle.std.proofs.lemmas.Bool.Decides.{nat_tests}
 use Rattle.std.proofs.lemmas.List.{map-append, length-append, length-map, length-replicate}
 use Rattle.std.proofs.lemmas.List.Folds.{list_all-append}
 use Rattle.gx_model.specs.Texts.{Bytes}
-use Rattle.gx_model.specs.Values.{is_hex_digit}
+use Rattle.gx_model.specs.Histories.Values.{is_hex_digit}
 use Rattle.gx_model.specs.Objects.{hex, unhex, is_name}
-use Rattle.gx_model.specs.Naming.{lower_name_in, name_in}
-use Rattle.gx_model.specs.Denotation.{begins_with_digits, is_any_digit, lower}
+use Rattle.gx_model.specs.Objects.Naming.{lower_name_in, name_in}
+use Rattle.gx_model.specs.Revisions.Denotation.{begins_with_digits, is_any_digit, lower}
 use Rattle.gx_model.proofs.NameDigits.{hex_lower, name_found, name_long}
 use Rattle.gx_store.specs.NameOrder.{compare, is_within}
 use Rattle.gx_store.specs.Prefixes.{BeginNone, filled}

@@ -10,7 +10,7 @@ use Rattle.gx_model.specs.declared.objects.Kind.{Kind}
 use Rattle.gx_model.specs.Texts.{Bytes, same_bytes}
 use Rattle.gx_model.specs.Objects.{IsNamer, is_name}
 use Rattle.gx_model.specs.Histories.{AreDistinct, Record}
-use Rattle.gx_model.specs.Growth.{record_named}
+use Rattle.gx_model.specs.Records.Growth.{record_named}
 use Rattle.gx_store.specs.Stores.{AreHeld}
 
 abbrev names : List Record → List Bytes

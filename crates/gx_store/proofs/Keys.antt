@@ -9,7 +9,7 @@ use Rattle.std.specs.Cmp.Lexicographic.{bytes_decides}
 use Rattle.std.specs.Map.{lookup}
 use Rattle.gx_model.specs.Texts.{same_bytes}
 use Rattle.gx_model.specs.Histories.{Record}
-use Rattle.gx_model.specs.Growth.{record_named}
+use Rattle.gx_model.specs.Records.Growth.{record_named}
 use Rattle.gx_object.specs.declared.name.Name.{Name}
 use Rattle.gx_object.specs.contracts.name.NamePartialEq.TheImpl as equality
 use Rattle.gx_store.specs.Bodies.{bytes_of}

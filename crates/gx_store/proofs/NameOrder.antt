@@ -9,7 +9,7 @@ use Rattle.std.specs.List.{list_all, starts_with}
 use Rattle.std.proofs.lemmas.Bool.{and_parts, ltb-true}
 use Rattle.std.proofs.lemmas.Bool.Decides.{nat_tests}
 use Rattle.gx_model.specs.Texts.{Bytes}
-use Rattle.gx_model.specs.Values.{is_hex_digit}
+use Rattle.gx_model.specs.Histories.Values.{is_hex_digit}
 use Rattle.gx_model.specs.Objects.{hex, hex_digit}
 use Rattle.gx_store.specs.NameOrder.{compare, is_within}
 

@@ -6,8 +6,8 @@ use Rattle.std.proofs.lemmas.Bool.{and_parts, lt-ltb, false≢true}
 use Rattle.std.proofs.lemmas.List.{take-take}
 use Rattle.gx_model.specs.Texts.{Bytes}
 use Rattle.gx_model.specs.Objects.{is_name}
-use Rattle.gx_model.specs.Denotation.{begins_with_digits}
-use Rattle.gx_model.specs.Lookups.{records_begun_by}
+use Rattle.gx_model.specs.Revisions.Denotation.{begins_with_digits}
+use Rattle.gx_model.specs.Records.Lookups.{records_begun_by}
 use Rattle.gx_model.specs.Histories.{Record}
 use Rattle.gx_object.specs.declared.name.Name.{Name}
 use Rattle.gx_store.specs.NameOrder.{is_within}

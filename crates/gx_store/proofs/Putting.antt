@@ -5,7 +5,7 @@ use Rattle.std.proofs.lemmas.Bool.{and_parts}
 use Rattle.gx_model.specs.declared.objects.Kind.{Kind}
 use Rattle.gx_model.specs.declared.objects.Kind.TheVariants as kinds
 use Rattle.gx_model.specs.Histories.{Record}
-use Rattle.gx_model.specs.Growth.{put, put_under, record_named, same_kind, same_object}
+use Rattle.gx_model.specs.Records.Growth.{put, put_under, record_named, same_kind, same_object}
 
 same_so : (k l : Kind) → same_kind k l ≡ true → k ≡ l
 same_so kinds.Blob kinds.Blob h = refl

@@ -2,8 +2,8 @@
 use Rattle.std.specs.Prelude.{◌≡◌, ℕ, ◌-◌, Bool, false, List, [], ◌∷◌, ◌++◌, length, nat_le, replicate, IsTrue, Option, None, if◌then◌else◌}
 use Rattle.gx_model.specs.Texts.{Bytes}
 use Rattle.gx_model.specs.Objects.{is_name}
-use Rattle.gx_model.specs.Naming.{name_in}
-use Rattle.gx_model.specs.Denotation.{begins_with_digits}
+use Rattle.gx_model.specs.Objects.Naming.{name_in}
+use Rattle.gx_model.specs.Revisions.Denotation.{begins_with_digits}
 use Rattle.gx_model.specs.Histories.{Record}
 use Rattle.gx_object.specs.declared.name.Name.{Name}
 use Rattle.gx_store.specs.NameOrder.{is_within}

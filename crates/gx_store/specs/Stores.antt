@@ -6,7 +6,7 @@ use Rattle.gx_model.specs.declared.objects.Kind.{Kind}
 use Rattle.gx_model.specs.Texts.{Bytes, same_bytes}
 use Rattle.gx_model.specs.Objects.{is_name}
 use Rattle.gx_model.specs.Histories.{AreDistinct, Record}
-use Rattle.gx_model.specs.Growth.{put, record_named}
+use Rattle.gx_model.specs.Records.Growth.{put, record_named}
 use Rattle.gx_object.specs.declared.name.Name.{Name}
 use Rattle.gx_store.specs.declared.fault.StoreFault.{StoreFault}
 use Rattle.gx_store.specs.declared.fault.StoreFault.TheVariants.{OutOfMemory, NameHeld}

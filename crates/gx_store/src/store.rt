@@ -3,8 +3,8 @@
 ghost use Rattle.std.specs.Prelude.{◌≡◌, ◌≤◌, ◌↔◌, length, [], map, slice_get, take, None, IsTrue};
 ghost use Rattle.std.specs.List.{slice_range};
 ghost use Rattle.std.specs.Option.{option_map};
-ghost use Rattle.gx_model.specs.Growth.{record_named};
-ghost use Rattle.gx_model.specs.Lookups.{records_begun_by};
+ghost use Rattle.gx_model.specs.Records.Growth.{record_named};
+ghost use Rattle.gx_model.specs.Records.Lookups.{records_begun_by};
 ghost use Rattle.gx_store.specs.Stores.{AreHeld, IsFound, Puts, place_named, seen, seen_at};
 ghost use Rattle.gx_model.specs.Histories.{object_of, record_for};
 ghost use Rattle.gx_store.specs.Bodies.{bytes_of};

@@ -4,7 +4,7 @@ use Rattle.std.specs.List.{starts_with}
 use Rattle.std.proofs.lemmas.List.{length-drop}
 use Rattle.gx_model.specs.Texts.{Bytes}
 use Rattle.gx_model.specs.declared.faults.Fault.TheVariants as faults
-use Rattle.gx_model.specs.Items.{Item, Line, Data, Failed, First, takes, drops, ends, line_len, has_no_line, end_of, first_line, first_of, after, items_of}
+use Rattle.gx_model.specs.Streams.Items.{Item, Line, Data, Failed, First, takes, drops, ends, line_len, has_no_line, end_of, first_line, first_of, after, items_of}
 use Rattle.gx_stream.specs.Faults.{ended, end_seen}
 use Rattle.gx_stream.specs.Places.{IsLine, IsWithin, Begins, Skipped, ComesNext, NoneComes, Finds, GoesOn, bytes_at}
 use Rattle.gx_stream.specs.declared.fault.StreamFault.{StreamFault}

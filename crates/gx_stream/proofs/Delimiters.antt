@@ -6,7 +6,7 @@ use Rattle.std.proofs.Math.Logic.{⊎_elim}
 use Rattle.std.proofs.lemmas.Bool.{cases_lt}
 use Rattle.std.proofs.lemmas.List.{drop_all, drop-drop, drop-append-le, take-append-le, length-append, length-drop}
 use Rattle.gx_model.specs.Texts.{Bytes}
-use Rattle.gx_model.specs.Items.{line_len, has_no_line, with_line, lines_before}
+use Rattle.gx_model.specs.Streams.Items.{line_len, has_no_line, with_line, lines_before}
 use Rattle.gx_stream.specs.Places.{IsLine, AreLinesAt, GoesOn, Searched, before, behind, bytes_at}
 use Rattle.gx_stream.specs.declared.places.Place.{Place}
 use Rattle.gx_stream.proofs.Longer.{nothing_more, goes_on_line}

@@ -3,7 +3,7 @@ use Rattle.std.proofs.Common.{◌≡◌, ℕ, ◌≤◌, ◌-◌, arith, true, f
 use Rattle.std.specs.List.{starts_with}
 use Rattle.std.proofs.lemmas.List.{take_rest, length-drop}
 use Rattle.gx_model.specs.Texts.{Bytes}
-use Rattle.gx_model.specs.Items.{Item, takes, drops, first_line, first_of}
+use Rattle.gx_model.specs.Streams.Items.{Item, takes, drops, first_line, first_of}
 use Rattle.gx_stream.specs.FirstItems.{IsEndOf}
 use Rattle.gx_stream.specs.Places.{IsLine, bytes_at}
 use Rattle.gx_stream.specs.declared.places.Place.{Place}

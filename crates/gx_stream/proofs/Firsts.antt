@@ -5,8 +5,8 @@ use Rattle.std.specs.List.{starts_with}
 use Rattle.std.specs.Str.{bytes_eq}
 use Rattle.std.proofs.lemmas.List.{length-drop}
 use Rattle.gx_model.specs.Texts.{Bytes}
-use Rattle.gx_model.specs.Numbers.{decimal_of}
-use Rattle.gx_model.specs.Items.{Line, Data, End, Stream, First, takes, drops, ends, is_lf, line_len, has_no_line, end_of, cut_off, without_lf, with_line, lines_before, counted_block, counted, delimited, delimited_by, announced, first_line, first_of, then_comes, after, read_upto, items_of}
+use Rattle.gx_model.specs.Texts.Numbers.{decimal_of}
+use Rattle.gx_model.specs.Streams.Items.{Line, Data, End, Stream, First, takes, drops, ends, is_lf, line_len, has_no_line, end_of, cut_off, without_lf, with_line, lines_before, counted_block, counted, delimited, delimited_by, announced, first_line, first_of, then_comes, after, read_upto, items_of}
 use Rattle.gx_stream.proofs.Lines.{not_empty}
 
 -- what a text begins with leaves at most n bytes

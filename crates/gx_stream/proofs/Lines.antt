@@ -8,7 +8,7 @@ use Rattle.std.proofs.lemmas.List.Folds.{prefix_len-append}
 use Rattle.std.proofs.lemmas.List.Sums.{prefix_len-le-length, position_or_len_is, passes_at_first}
 use Rattle.memchr.specs.Find.{IsFirstByte, is_byte}
 use Rattle.gx_model.specs.Texts.{Bytes}
-use Rattle.gx_model.specs.Items.{is_lf, line_len, has_no_line}
+use Rattle.gx_model.specs.Streams.Items.{is_lf, line_len, has_no_line}
 use Rattle.gx_stream.specs.Places.{GoesTo, IsLine}
 
 refuted : (b : Bool) → (b ≡ true → ⊥) → b ≡ false

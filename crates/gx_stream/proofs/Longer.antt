@@ -7,9 +7,9 @@ use Rattle.std.proofs.lemmas.List.{length-append, length-drop, take-append-le, d
 use Rattle.std.proofs.lemmas.List.Sums.{prefix_len-le-length}
 use Rattle.std.proofs.lemmas.List.Folds.{prefix_len-append}
 use Rattle.gx_model.specs.Texts.{Bytes}
-use Rattle.gx_model.specs.Numbers.{decimal_of}
+use Rattle.gx_model.specs.Texts.Numbers.{decimal_of}
 use Rattle.gx_model.specs.declared.faults.Fault.TheVariants as faults
-use Rattle.gx_model.specs.Items.{Line, Data, End, Failed, First, takes, drops, ends, is_lf, line_len, has_no_line, end_of, cut_off, without_lf, with_line, lines_before, counted_block, counted, delimited, delimited_by, announced, first_line, first_of}
+use Rattle.gx_model.specs.Streams.Items.{Line, Data, End, Failed, First, takes, drops, ends, is_lf, line_len, has_no_line, end_of, cut_off, without_lf, with_line, lines_before, counted_block, counted, delimited, delimited_by, announced, first_line, first_of}
 use Rattle.gx_stream.specs.Places.{GoesOn}
 use Rattle.gx_stream.proofs.Lines.{not_empty}
 

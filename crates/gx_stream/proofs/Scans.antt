@@ -5,7 +5,7 @@ use Rattle.std.proofs.lemmas.Bool.Decides.{nat_tests}
 use Rattle.std.proofs.lemmas.List.Sums.{prefix_len-le-length}
 use Rattle.std.proofs.lemmas.List.{drop-drop, drop-append-le, take-append-le, length-append, length-drop}
 use Rattle.gx_model.specs.Texts.{Bytes}
-use Rattle.gx_model.specs.Items.{is_lf, line_len, has_no_line}
+use Rattle.gx_model.specs.Streams.Items.{is_lf, line_len, has_no_line}
 use Rattle.gx_stream.specs.Places.{IsLine, GoesTo, Searched, IsSearched, IsPast, IsScanned, before, behind, bytes_at, from_line, without, first_seen, past_first}
 use Rattle.gx_stream.specs.Input.{FitsState, IsLonger}
 use Rattle.gx_stream.specs.declared.input.State.{State}

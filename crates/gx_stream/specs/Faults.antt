@@ -1,6 +1,6 @@
 -- The faults of a stream as those of the model.
 use Rattle.std.specs.Prelude.{[], Option, Some, None}
-use Rattle.gx_model.specs.Items.{End, Finished, Failed, Stream}
+use Rattle.gx_model.specs.Streams.Items.{End, Finished, Failed, Stream}
 use Rattle.gx_model.specs.declared.faults.Fault.{Fault}
 use Rattle.gx_model.specs.declared.faults.Fault.TheVariants as model
 use Rattle.gx_stream.specs.declared.fault.StreamFault.{StreamFault}

@@ -1,7 +1,7 @@
 -- What a text in memory begins with, as the model has it.
 use Rattle.std.specs.Prelude.{◌≡◌, ◌≤◌, ◌-◌, length, drop}
 use Rattle.gx_model.specs.Texts.{Bytes}
-use Rattle.gx_model.specs.Items as model
+use Rattle.gx_model.specs.Streams.Items as model
 use Rattle.gx_stream.specs.Faults.{end_seen}
 use Rattle.gx_stream.specs.Reading.{item_of}
 use Rattle.gx_stream.specs.declared.first.First.{First}

@@ -1,7 +1,7 @@
 -- The items that a source stands for.
 use Rattle.std.specs.Prelude.{ℕ, ◌-◌, ◌^◌, true, length, take, nat_le, if◌then◌else◌}
 use Rattle.gx_text.specs.Devices.{Coming}
-use Rattle.gx_model.specs.Items.{Stream, items_of}
+use Rattle.gx_model.specs.Streams.Items.{Stream, items_of}
 
 -- what is taken where at most so many bytes are: a source that gives more has failed after those
 unfoldable pub heard_upto : ℕ → Coming → Coming

@@ -1,8 +1,8 @@
 -- What the fields of a reader stand for, and what each of its steps does to them.
 use Rattle.std.specs.Prelude.{◌≡◌, ℕ, suc, ◌+◌, ◌-◌, ◌≤◌, ◌^◌, Bool, true, false, ◌++◌, length, drop, Option, Some, None, Result, Ok, Err}
 use Rattle.gx_model.specs.Texts.{Bytes}
-use Rattle.gx_model.specs.Items.{Stream, items_of}
-use Rattle.gx_model.specs.Items as model
+use Rattle.gx_model.specs.Streams.Items.{Stream, items_of}
+use Rattle.gx_model.specs.Streams.Items as model
 use Rattle.gx_text.specs.Devices.{Coming}
 use Rattle.gx_stream.specs.Heard.{heard_upto}
 use Rattle.gx_stream.specs.Faults.{end_seen, ended}

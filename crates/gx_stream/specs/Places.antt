@@ -2,7 +2,7 @@
 use Rattle.std.specs.Prelude.{◌≡◌, ℕ, ◌+◌, ◌-◌, ◌<◌, ◌≤◌, ◌⊎◌, Bool, true, false, [], ◌++◌, length, drop, take, slice_range, Option, Some, None, suc, nat_eq, if◌then◌else◌}
 use Rattle.std.specs.Option.{option_map}
 use Rattle.gx_model.specs.Texts.{Bytes}
-use Rattle.gx_model.specs.Items.{Item, Line, Data, First, takes, ends, line_len, has_no_line, lines_before, items_of, then_comes}
+use Rattle.gx_model.specs.Streams.Items.{Item, Line, Data, First, takes, ends, line_len, has_no_line, lines_before, items_of, then_comes}
 use Rattle.gx_stream.specs.Faults.{end_seen, ended}
 use Rattle.gx_stream.specs.declared.fault.StreamFault.{StreamFault}
 use Rattle.gx_stream.specs.declared.fault.StreamFault.TheVariants.{BadNumber}

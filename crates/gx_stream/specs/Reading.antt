@@ -1,7 +1,7 @@
 -- What a reader of items is seen as, and what one call answers and leaves.
 use Rattle.std.specs.Prelude.{◌≡◌, ℕ, ◌<◌, ◌≤◌, ◌⊎◌, Option, Some, None, Result, Ok, Err}
-use Rattle.gx_model.specs.Items.{Stream, Finished, Failed, then_comes}
-use Rattle.gx_model.specs.Items as model
+use Rattle.gx_model.specs.Streams.Items.{Stream, Finished, Failed, then_comes}
+use Rattle.gx_model.specs.Streams.Items as model
 use Rattle.gx_stream.specs.Faults.{fault_of, ended}
 use Rattle.gx_stream.specs.declared.fault.StreamFault.{StreamFault}
 use Rattle.gx_stream.specs.declared.fault.StreamFault.TheVariants.{OutOfMemory}

@@ -1,7 +1,7 @@
 //! What a text in memory begins with.
 
 ghost use Rattle.std.specs.Prelude.{◌≡◌, false};
-ghost use Rattle.gx_model.specs.Items.{first_of};
+ghost use Rattle.gx_model.specs.Streams.Items.{first_of};
 ghost use Rattle.gx_stream.specs.FirstItems.{shown_first, StandsBehind};
 
 use crate::fault::StreamFault;
@@ -23,7 +23,7 @@ pub enum First<'a> {
 ///
 /// Cost: the bytes of the item or the comment. Takes no memory.
 /// Source: git-fast-import(1), "Comments" and "data".
-#[tactic(auto, unfolding(gx_model::specs::Items::first_of, gx_model::specs::Items::first_line))]
+#[tactic(auto, unfolding(gx_model::specs::Streams::Items::first_of, gx_model::specs::Streams::Items::first_line))]
 pub fn first_item(text: &[u8]) -> First<'_>
     ensures first { shown_first result ≡ first_of text.now false }
     ensures behind { StandsBehind text.now result }

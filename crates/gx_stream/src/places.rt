@@ -2,7 +2,7 @@
 
 ghost use Rattle.std.specs.Prelude.{◌≡◌, ◌≤◌, ◌+◌, ℕ, length, drop, nat_eq, nat_lt, ◌||◌, ◌&&◌, codes, true, false, slice_range};
 ghost use Rattle.std.specs.List.{starts_with};
-ghost use Rattle.gx_model.specs.Items.{line_len, has_no_line, without_lf, counted_block, delimited, announced, first_line, end_of, cut_off};
+ghost use Rattle.gx_model.specs.Streams.Items.{line_len, has_no_line, without_lf, counted_block, delimited, announced, first_line, end_of, cut_off};
 ghost use Rattle.gx_stream.specs.Faults.{end_seen};
 ghost use Rattle.gx_stream.specs.Places.{IsLineAt, AreLinesAt, GoesTo, IsSearched, IsScanned, from_line, without, first_seen, past_first, Begins, Skipped, Finds};
 
@@ -98,7 +98,7 @@ pub(crate) fn find_item(text: &[u8], at: &mut usize, scan: &mut Scan, fails: boo
 }
 
 /// The item that begins with a line which is no comment.
-#[tactic(auto, unfolding(gx_model::specs::Items::first_line))]
+#[tactic(auto, unfolding(gx_model::specs::Streams::Items::first_line))]
 pub(crate) fn find_from(text: &[u8], line: Place, scan: &mut Scan, fails: bool) -> Found
     requires within { (line.start ≤ line.end) × (line.end ≤ line.next) × (line.next ≤ length text.now) }
     requires no_comment { starts_with nat_eq (slice_range text.now line.start line.end) (codes "#") ≡ false }
@@ -131,7 +131,7 @@ fn find_block(text: &[u8], size: &[u8], start: usize, scan: &mut Scan, fails: bo
 }
 
 /// The block of so many bytes that begins at a place.
-#[tactic(auto, unfolding(gx_model::specs::Items::counted_block))]
+#[tactic(auto, unfolding(gx_model::specs::Streams::Items::counted_block))]
 fn find_counted(text: &[u8], count: u64, start: usize, fails: bool) -> Found
     requires { start ≤ length text.now }
     ensures { Begins text.now (counted_block count (drop start text.now) fails) result }
@@ -148,7 +148,7 @@ fn find_counted(text: &[u8], count: u64, start: usize, fails: bool) -> Found
 }
 
 /// The block that begins at a place and ends before its delimiter line.
-#[tactic(auto, unfolding(gx_model::specs::Items::delimited))]
+#[tactic(auto, unfolding(gx_model::specs::Streams::Items::delimited))]
 fn find_delimited(
     text: &[u8],
     delimiter: &[u8],

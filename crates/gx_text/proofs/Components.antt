@@ -5,7 +5,7 @@ use Rattle.std.proofs.lemmas.List.{append-nil, length-append, take_at, drop_at}
 use Rattle.std.proofs.lemmas.List.Splits.{length-slice_split}
 use Rattle.std.proofs.lemmas.Bool.{and_parts, leb-true}
 use Rattle.gx_model.specs.Texts.{Bytes}
-use Rattle.gx_model.specs.Paths.{Path, is_component, path_text, parts_of, path_of}
+use Rattle.gx_model.specs.Texts.Paths.{Path, is_component, path_text, parts_of, path_of}
 use Rattle.gx_model.specs.declared.faults.Fault.TheVariants as faults
 use Rattle.gx_text.specs.TreePaths.{is_path, slashes, component_ends}
 use Rattle.gx_model.proofs.PathTexts.{text_of_parts}

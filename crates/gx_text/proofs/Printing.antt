@@ -2,7 +2,7 @@
 use Rattle.std.proofs.Common.{◌≡◌, ℕ, suc, ◌≤◌, [], ◌∷◌, ◌++◌, length, get_or, take, Fits, w8, refl, sym, ap, ◌∙◌, arith}
 use Rattle.std.proofs.lemmas.List.{take-take, take_at, length-append}
 use Rattle.gx_model.specs.Texts.{Bytes}
-use Rattle.gx_model.specs.Paths.{AreBytes}
+use Rattle.gx_model.specs.Texts.Paths.{AreBytes}
 
 -- what leaves the middle as it was leaves the front of it as it was
 pub keep_front : (old xs mid new : Bytes) → mid ≡ old ++ xs → take (length mid) new ≡ mid → take (length old) new ≡ old

@@ -3,7 +3,7 @@ use Rattle.std.proofs.Common.{◌≡◌, ℕ, zero, suc, ◌-◌, ◌≤◌, Boo
 use Rattle.std.specs.Option.{option_map, option_and_then}
 use Rattle.std.proofs.lemmas.List.{drop_at, length-append}
 use Rattle.gx_model.specs.Texts.{Bytes}
-use Rattle.gx_model.specs.Paths.{Path, path_of, quoted_of, named, octal_of, escape_at, char_at, with_char, unquote_within, unquote, or_bad_path}
+use Rattle.gx_model.specs.Texts.Paths.{Path, path_of, quoted_of, named, octal_of, escape_at, char_at, with_char, unquote_within, unquote, or_bad_path}
 use Rattle.gx_model.proofs.Cuts.{some_is, map_some}
 
 abbrev pub Follows : Bytes → Bytes → Type 0

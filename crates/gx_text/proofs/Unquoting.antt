@@ -3,7 +3,7 @@ use Rattle.std.proofs.Common.{◌≡◌, ℕ, suc, ◌+◌, ◌-◌, ◌<◌, �
 use Rattle.std.specs.Option.{option_map}
 use Rattle.std.proofs.lemmas.List.{append-nil}
 use Rattle.gx_model.specs.Texts.{Bytes}
-use Rattle.gx_model.specs.Paths.{char_at, unquote_within}
+use Rattle.gx_model.specs.Texts.Paths.{char_at, unquote_within}
 
 abbrev pub with_front : Bytes → Option (Bytes × Bytes) → Option (Bytes × Bytes)
 with_front front o = option_map (λ p. (front ++ p.0, p.1)) o

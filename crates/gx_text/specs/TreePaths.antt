@@ -2,7 +2,7 @@
 use Rattle.std.specs.Prelude.{ℕ, ◌+◌, Bool, ◌&&◌, ◌==◌, List, [], ◌∷◌, ◌++◌, length, if◌then◌else◌}
 use Rattle.std.specs.List.{list_all}
 use Rattle.gx_model.specs.Texts.{Bytes}
-use Rattle.gx_model.specs.Paths.{Path, is_component, is_short}
+use Rattle.gx_model.specs.Texts.Paths.{Path, is_component, is_short}
 
 -- components that may stand in a path, at most 4,095 bytes with their slashes
 abbrev pub is_path : Path → Bool

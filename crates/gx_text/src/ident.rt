@@ -1,7 +1,7 @@
 //! Who made a commit or a tag, and when.
 
 ghost use Rattle.std.specs.Prelude.{◌≡◌, IfErr, IsTrue};
-ghost use Rattle.gx_model.specs.Idents.{is_plain, is_head, is_signed_offset, is_ident};
+ghost use Rattle.gx_model.specs.Texts.Idents.{is_plain, is_head, is_signed_offset, is_ident};
 
 use crate::cuts::cut;
 use crate::fault::TextFault;
@@ -17,7 +17,7 @@ pub struct Ident<'a> {
 
 impl<'a> Ident<'a> {
     ghost use Rattle.gx_model.specs.Faults.{Gives};
-    ghost use Rattle.gx_model.specs.Grammar.{ident_of};
+    ghost use Rattle.gx_model.specs.Streams.Grammar.{ident_of};
     ghost use Rattle.gx_text.specs.Idents.{ident_bytes};
     ghost use Rattle.gx_text.specs.TextFaults.{fault_of};
 
@@ -44,7 +44,7 @@ impl<'a> Ident<'a> {
     }
 }
 
-#[tactic(auto, unfolding(gx_model::specs::Idents::is_ident))]
+#[tactic(auto, unfolding(gx_model::specs::Texts::Idents::is_ident))]
 fn is_ident(bytes: &[u8]) -> bool
     ensures { result ≡ is_ident bytes.now }
 {

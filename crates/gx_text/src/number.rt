@@ -1,7 +1,7 @@
 //! Numbers in decimal.
 
 ghost use Rattle.std.specs.Prelude.{◌≡◌};
-ghost use Rattle.gx_model.specs.Numbers.{decimal_of};
+ghost use Rattle.gx_model.specs.Texts.Numbers.{decimal_of};
 
 use std::str;
 

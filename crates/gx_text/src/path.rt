@@ -3,8 +3,8 @@
 ghost use Rattle.std.specs.Prelude.{ℕ, ◌≡◌, ◌≢◌, true, nat_lt, ◌<◌, ◌≤◌, ◌++◌, [], Ok, IsTrue, ◌==◌, length, drop, slice_index_or, IfOk, IsOk, OnOk, OnErr, IfErr, IsErrOf};
 ghost use Rattle.std.specs.List.{list_all, slice_split};
 ghost use Rattle.gx_model.specs.Faults.{Gives};
-ghost use Rattle.gx_model.specs.Grammar.{last_path};
-ghost use Rattle.gx_model.specs.Paths.{is_component, parts_of, path_of, path_text, quoted_of, printed};
+ghost use Rattle.gx_model.specs.Streams.Grammar.{last_path};
+ghost use Rattle.gx_model.specs.Texts.Paths.{is_component, parts_of, path_of, path_text, quoted_of, printed};
 ghost use Rattle.gx_text.specs.declared.fault.TextFault.TheVariants.{OutOfMemory};
 ghost use Rattle.gx_text.specs.TextFaults.{fault_of};
 ghost use Rattle.gx_text.specs.TreePaths.{is_path, component_ends};
@@ -30,7 +30,7 @@ pub struct TreePath<A: Allocator> {
 
 impl<A: Allocator> Model for TreePath<A> {
     ghost use Rattle.std.specs.Prelude.{ℕ, ◌≡◌, List, Ok};
-    ghost use Rattle.gx_model.specs.Paths.{parts_of, path_of};
+    ghost use Rattle.gx_model.specs.Texts.Paths.{parts_of, path_of};
     ghost use Rattle.gx_text.specs.TreePaths.{component_ends};
 
     ghost Value = { List (List ℕ) };
@@ -69,7 +69,7 @@ impl<A: Allocator + Copy> TreePath<A> {
     ///
     /// Cost: the number of those bytes. Takes memory for them and for a number per component.
     /// Source: git-fast-import(1), "filemodify", on C-style quoting.
-    #[tactic(auto, unfolding(gx_model::specs::Paths::quoted_of))]
+    #[tactic(auto, unfolding(gx_model::specs::Texts::Paths::quoted_of))]
     pub fn read_quoted(alloc: A, bytes: &[u8]) -> Result<(TreePath<A>, usize), TextFault>
         ensures path { Gives fault_of (λ p. (p.0, drop p.1 bytes.now)) result (quoted_of bytes.now) }
         ensures within { IfOk result (λ p. p.1 ≤ length bytes.now) }

@@ -2,8 +2,8 @@
 
 ghost use Rattle.std.specs.Prelude.{ℕ, ◌≡◌, ◌++◌, ◌∷◌, [], length, take, OnOk};
 ghost use Rattle.std.specs.List.{list_all, flat_map};
-ghost use Rattle.gx_model.specs.Paths.{path_of, is_printed_bare, letter_of, printed_byte, printed};
-ghost use Rattle.gx_model.specs.Grammar.{last_path};
+ghost use Rattle.gx_model.specs.Texts.Paths.{path_of, is_printed_bare, letter_of, printed_byte, printed};
+ghost use Rattle.gx_model.specs.Streams.Grammar.{last_path};
 
 use std::alloc::{AllocError, Allocator};
 

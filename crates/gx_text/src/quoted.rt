@@ -3,7 +3,7 @@
 ghost use Rattle.std.specs.Prelude.{ℕ, ◌≡◌, ◌<◌, ◌≤◌, ◌-◌, length, drop, IfOk};
 ghost use Rattle.std.specs.Option.{option_map};
 ghost use Rattle.gx_model.specs.Faults.{Gives};
-ghost use Rattle.gx_model.specs.Paths.{named, octal_of, escape_at, char_at, unquote_within, unquote, or_bad_path};
+ghost use Rattle.gx_model.specs.Texts.Paths.{named, octal_of, escape_at, char_at, unquote_within, unquote, or_bad_path};
 ghost use Rattle.gx_text.specs.TextFaults.{fault_of};
 
 use crate::fault::TextFault;
@@ -45,7 +45,7 @@ fn unquoted_body<A: Allocator + Copy>(
 }
 
 // The byte at the front of a quoted text, or none at its closing quote, and what follows.
-#[tactic(auto, unfolding(gx_model::specs::Paths::char_at))]
+#[tactic(auto, unfolding(gx_model::specs::Texts::Paths::char_at))]
 fn next_char(bytes: &[u8]) -> Option<(Option<u8>, &[u8])>
     ensures { option_map (λ x. (x.0, x.1.now)) result ≡ char_at bytes.now }
 {

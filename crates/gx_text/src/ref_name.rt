@@ -3,7 +3,7 @@
 ghost use Rattle.std.specs.Prelude.{◌≡◌};
 ghost use Rattle.std.specs.List.{list_all};
 ghost use Rattle.gx_model.specs.Texts.{has_pair};
-ghost use Rattle.gx_model.specs.RefNames.{is_ref_byte, is_ref_component, ref_components, is_ref_name};
+ghost use Rattle.gx_model.specs.Texts.RefNames.{is_ref_byte, is_ref_component, ref_components, is_ref_name};
 
 /// Whether the bytes are a ref name. Names of one level are allowed.
 ///

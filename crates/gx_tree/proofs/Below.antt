@@ -6,10 +6,10 @@ use Rattle.std.proofs.lemmas.Bool.{false≢true, true≢false}
 use Rattle.std.proofs.lemmas.List.{append-nil, map-append}
 use Rattle.std.proofs.lemmas.List.Elements.{filter-append}
 use Rattle.gx_model.specs.Texts.{Bytes, same_bytes}
-use Rattle.gx_model.specs.Paths.{Path, begins, same_path}
-use Rattle.gx_model.specs.Files.{FileMap, file_at, sub_map, under}
-use Rattle.gx_model.specs.HistoryOf.{placed}
-use Rattle.gx_model.specs.Edits.{is_root}
+use Rattle.gx_model.specs.Texts.Paths.{Path, begins, same_path}
+use Rattle.gx_model.specs.Histories.Files.{FileMap, file_at, sub_map, under}
+use Rattle.gx_model.specs.Records.HistoryOf.{placed}
+use Rattle.gx_model.specs.Histories.Edits.{is_root}
 use Rattle.gx_tree.specs.Nodes.{Kept, Level, IsAfter, IsKeptAt, IsLevel, file, files, folder, kept_at, kept_map, map_if}
 use Rattle.gx_tree.specs.Steps.{files_of}
 use Rattle.gx_tree.specs.Standings.{Standing, a_directory, a_file, standing_at, standing_by}

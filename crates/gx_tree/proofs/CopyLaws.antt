@@ -6,9 +6,9 @@ use Rattle.std.proofs.lemmas.Bool.{and_parts, cases_Bool, false≢true}
 use Rattle.gx_model.specs.declared.faults.Fault.{Fault}
 use Rattle.gx_model.specs.declared.faults.Fault.TheVariants as model
 use Rattle.gx_model.specs.Texts.{Bytes}
-use Rattle.gx_model.specs.Paths.{Path, begins, is_short, path_cmp}
-use Rattle.gx_model.specs.Files.{FileMap, Leaf, file_at, sub_map, under}
-use Rattle.gx_model.specs.Edits.{copied, copy_fault, moved, removed, renamed, with_all, without, without_line, unless}
+use Rattle.gx_model.specs.Texts.Paths.{Path, begins, is_short, path_cmp}
+use Rattle.gx_model.specs.Histories.Files.{FileMap, Leaf, file_at, sub_map, under}
+use Rattle.gx_model.specs.Histories.Edits.{copied, copy_fault, moved, removed, renamed, with_all, without, without_line, unless}
 use Rattle.gx_model.proofs.FoundFiles.{at_moved}
 use Rattle.gx_tree.specs.Copies.{graft_fault, is_file}
 use Rattle.gx_tree.specs.Lists.{below}

@@ -3,9 +3,9 @@ use Rattle.std.proofs.Common.{◌≡◌, ◌≢◌, Bool, true, false, cond, not
 use Rattle.std.specs.declared.cmp.Ordering.TheVariants.{Less, Equal, Greater}
 use Rattle.std.specs.FinMap.Entries.{by_order, put}
 use Rattle.gx_model.specs.Texts.{Bytes, same_bytes}
-use Rattle.gx_model.specs.Paths.{Path, are_in_line, begins, is_component, path_cmp}
-use Rattle.gx_model.specs.Files.{FileMap, Leaf, file_at}
-use Rattle.gx_model.specs.Edits.{removed}
+use Rattle.gx_model.specs.Texts.Paths.{Path, are_in_line, begins, is_component, path_cmp}
+use Rattle.gx_model.specs.Histories.Files.{FileMap, Leaf, file_at}
+use Rattle.gx_model.specs.Histories.Edits.{removed}
 use Rattle.gx_tree.specs.Nodes.{Kept, Level, IsInner, IsKeptAt, IsLevel, file, files, folder, is_inner_path, kept_at, map_if}
 use Rattle.gx_tree.specs.Steps.{files_of, folder_if_any, kept_removed, replaced}
 use Rattle.gx_tree.proofs.Texts.{bytes_same, cases_bytes, same_bytes_flip}

@@ -3,10 +3,10 @@ use Rattle.std.proofs.Common.{◌≡◌, ◌≢◌, ℕ, ◌+◌, ◌<◌, zero,
 use Rattle.std.specs.List.{list_all}
 use Rattle.std.proofs.lemmas.Bool.{and_parts, true≢false}
 use Rattle.gx_model.specs.Texts.{Bytes}
-use Rattle.gx_model.specs.Paths.{Path, is_component}
-use Rattle.gx_model.specs.Files.{FileMap, Leaf}
-use Rattle.gx_model.specs.HistoryOf.{placed}
-use Rattle.gx_model.specs.Edits.{is_root, removed}
+use Rattle.gx_model.specs.Texts.Paths.{Path, is_component}
+use Rattle.gx_model.specs.Histories.Files.{FileMap, Leaf}
+use Rattle.gx_model.specs.Records.HistoryOf.{placed}
+use Rattle.gx_model.specs.Histories.Edits.{is_root, removed}
 use Rattle.gx_tree.specs.Nodes.{Kept, Level, IsKept, IsLevel, file, files, folder, is_inner_path, kept_at, kept_map, with_kept}
 use Rattle.gx_tree.specs.Steps.{files_of, folder_if_any, grafted, kept_grafted, kept_removed, replaced}
 use Rattle.gx_tree.proofs.Below.{at_component}

@@ -4,9 +4,9 @@ use Rattle.std.specs.List.{list_all}
 use Rattle.std.proofs.lemmas.Bool.{and_from, and_parts}
 use Rattle.std.proofs.lemmas.List.Folds.{list_all-append}
 use Rattle.gx_model.specs.Texts.{Bytes, same_bytes}
-use Rattle.gx_model.specs.Paths.{Path, is_component, same_path}
-use Rattle.gx_model.specs.Files.{FileMap, Leaf, file_at}
-use Rattle.gx_model.specs.Edits.{with_all, without_line}
+use Rattle.gx_model.specs.Texts.Paths.{Path, is_component, same_path}
+use Rattle.gx_model.specs.Histories.Files.{FileMap, Leaf, file_at}
+use Rattle.gx_model.specs.Histories.Edits.{with_all, without_line}
 use Rattle.gx_tree.specs.Nodes.{Kept, Level, IsInner, IsKept, IsKeptAt, IsLevel, file, files, folder, is_inner_path, kept_at, kept_map, map_if, with_kept}
 use Rattle.gx_tree.specs.Lists.{below}
 use Rattle.gx_tree.specs.Steps.{files_of, grafted, kept_grafted}

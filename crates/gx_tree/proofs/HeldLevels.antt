@@ -8,12 +8,12 @@ use Rattle.std.proofs.lemmas.Bool.{and_from, and_parts, false≢true, leb-true, 
 use Rattle.gx_model.specs.declared.objects.Kind.{Kind}
 use Rattle.gx_model.specs.declared.objects.Kind.TheVariants as kind
 use Rattle.gx_model.specs.Texts.{Bytes}
-use Rattle.gx_model.specs.Paths.{Path, begins, is_component, path_text, same_path}
-use Rattle.gx_model.specs.Files.{FileMap, Leaf, file_at, first_components, sub_map, under}
+use Rattle.gx_model.specs.Texts.Paths.{Path, begins, is_component, path_text, same_path}
+use Rattle.gx_model.specs.Histories.Files.{FileMap, Leaf, file_at, first_components, sub_map, under}
 use Rattle.gx_model.specs.Objects.{Entry as TreeEntry, IsNamer, IsTreeText, is_name, tree_text}
 use Rattle.gx_model.specs.Records.{entries, tree_body}
 use Rattle.gx_model.specs.Histories.{Record, object_of}
-use Rattle.gx_model.specs.Growth.{record_named, tree_record, tree_records}
+use Rattle.gx_model.specs.Records.Growth.{record_named, tree_record, tree_records}
 use Rattle.gx_model.proofs.FileMapEdits.{of_parts, parts_of}
 use Rattle.gx_model.proofs.OneTree.{all_left, all_right}
 use Rattle.gx_model.proofs.SubMaps.{sub_parts}
@@ -21,7 +21,7 @@ use Rattle.gx_model.proofs.TreePaths.{name_is_name}
 use Rattle.gx_store.specs.Stores.{seen}
 use Rattle.gx_tree.specs.Rooms.{is_within}
 use Rattle.gx_tree.specs.HeldTrees.{IsHeldEntry, IsHeldWithin}
-use Rattle.gx_model.specs.NameMaps.{IsHeldTree, IsNameMap}
+use Rattle.gx_model.specs.Objects.NameMaps.{IsHeldTree, IsNameMap}
 use Rattle.gx_tree.specs.Nodes.{Kept, Level, IsKept, IsLevel, is_inner_path}
 use Rattle.gx_tree.specs.Writes.{kept_leaf, kept_records}
 use Rattle.gx_tree.proofs.Texts.{bytes_same, cases_bytes, holds}

@@ -6,10 +6,10 @@ use Rattle.std.proofs.lemmas.Bool.{and_parts, false≢true}
 use Rattle.gx_model.specs.declared.objects.Kind.{Kind}
 use Rattle.gx_model.specs.declared.objects.Kind.TheVariants.{Blob, Tree, Commit, Tag}
 use Rattle.gx_model.specs.Texts.{Bytes, same_bytes}
-use Rattle.gx_model.specs.Files.{FileMap}
+use Rattle.gx_model.specs.Histories.Files.{FileMap}
 use Rattle.gx_model.specs.Histories.{Record}
-use Rattle.gx_model.specs.Growth.{and_some, put, put_all, put_under, record_named, same_kind, same_object, tree_records}
-use Rattle.gx_model.specs.NameMaps.{IsHeldTree, IsNameMap}
+use Rattle.gx_model.specs.Records.Growth.{and_some, put, put_all, put_under, record_named, same_kind, same_object, tree_records}
+use Rattle.gx_model.specs.Objects.NameMaps.{IsHeldTree, IsNameMap}
 use Rattle.gx_object.specs.declared.name.Name.{Name}
 use Rattle.gx_tree.specs.declared.fault.TreeFault.{TreeFault}
 use Rattle.gx_tree.specs.Writes.{PutsAll, map_name}

@@ -3,8 +3,8 @@ use Rattle.std.proofs.Common.{Vec, ◌≡◌, ℕ, ◌<◌, zero, suc, List, [],
 use Rattle.std.specs.List.{AllByRecursion}
 use Rattle.gx_model.specs.declared.objects.Kind.{Kind}
 use Rattle.gx_model.specs.Texts.{Bytes}
-use Rattle.gx_model.specs.Paths.{Path}
-use Rattle.gx_model.specs.Files.{FileMap, sub_map}
+use Rattle.gx_model.specs.Texts.Paths.{Path}
+use Rattle.gx_model.specs.Histories.Files.{FileMap, sub_map}
 use Rattle.gx_model.specs.Histories.{Record}
 use Rattle.gx_object.specs.declared.name.Name.{Name}
 use Rattle.gx_tree.specs.Components.{bytes_of}

@@ -4,8 +4,8 @@ use Rattle.std.specs.List.{insert, list_all, AllByRecursion}
 use Rattle.std.specs.Prelude.{IsNone, is_some}
 use Rattle.std.proofs.lemmas.Bool.{cases_Bool, true≢false}
 use Rattle.gx_model.specs.Texts.{Bytes, same_bytes}
-use Rattle.gx_model.specs.Paths.{Path, is_component}
-use Rattle.gx_model.specs.Files.{Leaf}
+use Rattle.gx_model.specs.Texts.Paths.{Path, is_component}
+use Rattle.gx_model.specs.Histories.Files.{Leaf}
 use Rattle.gx_tree.specs.Components.{bytes_of}
 use Rattle.gx_tree.specs.Nodes.{Kept, Level, IsAfter, IsKept, IsLevel, comes_before, file, files, inserted, kept_at, kept_map, key, mark, others, precedes, with_kept}
 use Rattle.gx_tree.specs.Searches.{IsEntryAt}

@@ -8,8 +8,8 @@ use Rattle.std.specs.Ordering.{is_lt}
 use Rattle.std.specs.Cmp.{tied_itself}
 use Rattle.std.specs.FinMap.Entries.{by_order, below_all, is_sorted, is_sorted-put, is_sorted-where_key, put}
 use Rattle.std.proofs.lemmas.Bool.{and_parts, and_from, cases_Bool, false≢true, true≢false}
-use Rattle.gx_model.specs.Paths.{Path, path_cmp, same_path}
-use Rattle.gx_model.specs.Files.{file_at}
+use Rattle.gx_model.specs.Texts.Paths.{Path, path_cmp, same_path}
+use Rattle.gx_model.specs.Histories.Files.{file_at}
 use Rattle.gx_tree.specs.Nodes.{is_inner_path}
 use Rattle.gx_tree.proofs.Order.{path_order, paths_equal}
 use Rattle.gx_tree.proofs.Texts.{cases_paths, holds, path_is, same_path_itself}

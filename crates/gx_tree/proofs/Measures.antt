@@ -1,8 +1,8 @@
 -- A directory below another has fewer components.
 use Rattle.std.proofs.Common.{◌≡◌, ℕ, ◌<◌, ◌+◌, ◌*◌, zero, suc, List, [], ◌∷◌, length, get_or, refl, sym, ap, ◌∙◌, arith, subst}
-use Rattle.gx_model.specs.Files.{FileMap}
+use Rattle.gx_model.specs.Histories.Files.{FileMap}
 use Rattle.gx_model.specs.Texts.{Bytes}
-use Rattle.gx_model.specs.HistoryOf.{placed}
+use Rattle.gx_model.specs.Records.HistoryOf.{placed}
 use Rattle.gx_tree.specs.Components.{bytes_of}
 use Rattle.gx_tree.specs.Nodes.{IsKept, IsLevel, components, files, folder, kept_map}
 use Rattle.gx_tree.specs.Falls.{components-append, components-placed, some_length}

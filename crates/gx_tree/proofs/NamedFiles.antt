@@ -8,12 +8,12 @@ use Rattle.std.specs.FinMap.Entries.{by_order, put}
 use Rattle.std.proofs.lemmas.Bool.{and_from, and_parts}
 use Rattle.gx_model.specs.declared.objects.Mode.TheVariants.{Dir}
 use Rattle.gx_model.specs.Texts.{Bytes}
-use Rattle.gx_model.specs.Paths.{Path, are_in_line, begins, is_component, is_file_path, is_short, path_cmp}
-use Rattle.gx_model.specs.Files.{FileMap, Leaf, is_file_map, sub_map, under}
-use Rattle.gx_model.specs.Edits.{copied, modified, removed, renamed, with_all, without_line}
+use Rattle.gx_model.specs.Texts.Paths.{Path, are_in_line, begins, is_component, is_file_path, is_short, path_cmp}
+use Rattle.gx_model.specs.Histories.Files.{FileMap, Leaf, is_file_map, sub_map, under}
+use Rattle.gx_model.specs.Histories.Edits.{copied, modified, removed, renamed, with_all, without_line}
 use Rattle.gx_model.specs.Objects.{is_name}
 use Rattle.gx_model.proofs.FileMapEdits.{Parts, copied_parts, modified_parts, of_parts, parts_of, removed_parts, renamed_parts}
-use Rattle.gx_model.specs.NameMaps.{IsNameMap}
+use Rattle.gx_model.specs.Objects.NameMaps.{IsNameMap}
 use Rattle.gx_tree.specs.Lists.{below}
 use Rattle.gx_tree.specs.Steps.{grafted}
 

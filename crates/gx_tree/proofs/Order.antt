@@ -10,7 +10,7 @@ use Rattle.std.specs.Cmp.Lexicographic.{slice_cmp, on_texts}
 use Rattle.std.specs.FinMap.{nat_cmp-IsAntisymmetric, slice_cmp-IsAntisymmetric}
 use Rattle.std.proofs.lemmas.Bool.{and_parts, or_parts, not-true, eqb-false, false≢true}
 use Rattle.gx_model.specs.Texts.{Bytes}
-use Rattle.gx_model.specs.Paths.{Path, is_component, path_cmp, path_text}
+use Rattle.gx_model.specs.Texts.Paths.{Path, is_component, path_cmp, path_text}
 use Rattle.gx_tree.specs.Nodes.{is_inner_path}
 use Rattle.gx_tree.proofs.Texts.{cases_bytes, differ_from}
 

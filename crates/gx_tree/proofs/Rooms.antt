@@ -7,10 +7,10 @@ use Rattle.std.proofs.lemmas.Bool.Decides.{leb_tells}
 use Rattle.std.proofs.lemmas.List.{drop_all, get_or-map, length-drop, length-map}
 use Rattle.std.proofs.lemmas.List.Folds.{list_all-append}
 use Rattle.gx_model.specs.Texts.{Bytes}
-use Rattle.gx_model.specs.Paths.{Path, are_in_line, is_short, path_text}
-use Rattle.gx_model.specs.Edits.{without_line}
-use Rattle.gx_model.specs.Files.{FileMap, Leaf}
-use Rattle.gx_model.specs.HistoryOf.{placed}
+use Rattle.gx_model.specs.Texts.Paths.{Path, are_in_line, is_short, path_text}
+use Rattle.gx_model.specs.Histories.Edits.{without_line}
+use Rattle.gx_model.specs.Histories.Files.{FileMap, Leaf}
+use Rattle.gx_model.specs.Records.HistoryOf.{placed}
 use Rattle.gx_model.specs.declared.objects.Mode.{Mode}
 use Rattle.gx_object.specs.declared.name.Name.{Name}
 use Rattle.gx_tree.specs.Components.{bytes_of}

@@ -4,9 +4,9 @@ use Rattle.std.specs.Prelude.{IsNone}
 use Rattle.std.specs.List.{list_all, remove, AllByRecursion}
 use Rattle.std.proofs.lemmas.List.{map-append, take-append-drop, take_rest}
 use Rattle.gx_model.specs.Texts.{Bytes, same_bytes}
-use Rattle.gx_model.specs.Paths.{Path, begins, is_component}
-use Rattle.gx_model.specs.Files.{FileMap}
-use Rattle.gx_model.specs.Edits.{removed}
+use Rattle.gx_model.specs.Texts.Paths.{Path, begins, is_component}
+use Rattle.gx_model.specs.Histories.Files.{FileMap}
+use Rattle.gx_model.specs.Histories.Edits.{removed}
 use Rattle.gx_tree.specs.Nodes.{IsLevel, files, kept_at, mark, others, with_kept}
 use Rattle.gx_tree.specs.Rooms.{IsReach, is_within}
 use Rattle.gx_tree.specs.Searches.{IsEntryAt}

@@ -4,7 +4,7 @@ use Rattle.std.specs.Prelude.{T}
 use Rattle.std.proofs.lemmas.Slice.Eq.{bytes_eq-Decides}
 use Rattle.std.proofs.lemmas.Bool.{false_from_ne_true, cases_Bool, false≢true, true≢false, and_parts}
 use Rattle.gx_model.specs.Texts.{Bytes, same_bytes}
-use Rattle.gx_model.specs.Paths.{Path, same_path}
+use Rattle.gx_model.specs.Texts.Paths.{Path, same_path}
 
 pub same_itself : (c : Bytes) → same_bytes c c ≡ true
 same_itself c = (bytes_eq-Decides c c).1 refl

@@ -11,13 +11,13 @@ use Rattle.gx_model.specs.declared.objects.Kind.{Kind}
 use Rattle.gx_model.specs.declared.objects.Mode.{Mode}
 use Rattle.gx_model.specs.declared.objects.Mode.TheVariants.{File, Exec, Link, Gitlink, Dir}
 use Rattle.gx_model.specs.Texts.{Bytes, same_bytes}
-use Rattle.gx_model.specs.Paths.{Path, is_component}
-use Rattle.gx_model.specs.Files.{FileMap, Leaf, depth, file_at, first_components, sub_map, with_first}
-use Rattle.gx_model.specs.HistoryOf.{placed}
+use Rattle.gx_model.specs.Texts.Paths.{Path, is_component}
+use Rattle.gx_model.specs.Histories.Files.{FileMap, Leaf, depth, file_at, first_components, sub_map, with_first}
+use Rattle.gx_model.specs.Records.HistoryOf.{placed}
 use Rattle.gx_model.specs.Objects.{Entry, are_different, entry_key, is_canonical, is_dir}
 use Rattle.gx_model.specs.Records.{entries, entry, node}
-use Rattle.gx_model.specs.Values.{sub_maps}
-use Rattle.gx_model.specs.Growth.{all_trees, all_trees_to, tree_record, tree_records}
+use Rattle.gx_model.specs.Histories.Values.{sub_maps}
+use Rattle.gx_model.specs.Records.Growth.{all_trees, all_trees_to, tree_record, tree_records}
 use Rattle.gx_model.proofs.TreeBodies.{depth_sub, unrolled}
 use Rattle.gx_tree.specs.Nodes.{Kept, Level, IsAfter, IsKept, IsLevel, file, files, folder, is_inner_path, kept_at, kept_map, key, map_if}
 use Rattle.gx_tree.specs.Writes.{kept_leaf, kept_records, map_name}

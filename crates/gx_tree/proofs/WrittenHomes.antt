@@ -8,11 +8,11 @@ use Rattle.gx_model.specs.declared.objects.Kind.{Kind}
 use Rattle.gx_model.specs.declared.objects.Kind.TheVariants.{Blob, Tree, Commit, Tag}
 use Rattle.gx_model.specs.declared.objects.Mode.TheVariants.{Dir}
 use Rattle.gx_model.specs.Texts.{Bytes}
-use Rattle.gx_model.specs.Paths.{Path}
-use Rattle.gx_model.specs.Edits.{is_root}
-use Rattle.gx_model.specs.Files.{FileMap, sub_map}
+use Rattle.gx_model.specs.Texts.Paths.{Path}
+use Rattle.gx_model.specs.Histories.Edits.{is_root}
+use Rattle.gx_model.specs.Histories.Files.{FileMap, sub_map}
 use Rattle.gx_model.specs.Histories.{Record}
-use Rattle.gx_model.specs.Growth.{and_some, put, put_all, put_under, record_named, same_kind, same_object, tree_records}
+use Rattle.gx_model.specs.Records.Growth.{and_some, put, put_all, put_under, record_named, same_kind, same_object, tree_records}
 use Rattle.gx_tree.specs.Components.{bytes_of}
 use Rattle.gx_tree.specs.Homes.{AreAtHome, IsItemAtHome}
 use Rattle.gx_tree.specs.Named.{NamedTree, IsAtHome, IsHome, own_name}

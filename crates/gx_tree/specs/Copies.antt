@@ -3,8 +3,8 @@ use Rattle.std.specs.Prelude.{Bool, ◌&&◌, true, false, if◌then◌else◌, 
 use Rattle.std.specs.List.{list_all}
 use Rattle.gx_model.specs.declared.faults.Fault.{Fault}
 use Rattle.gx_model.specs.declared.faults.Fault.TheVariants as model
-use Rattle.gx_model.specs.Edits.{is_root}
-use Rattle.gx_model.specs.Paths.{Path, is_short}
+use Rattle.gx_model.specs.Histories.Edits.{is_root}
+use Rattle.gx_model.specs.Texts.Paths.{Path, is_short}
 use Rattle.gx_tree.specs.Lists.{below}
 use Rattle.gx_tree.specs.Nodes.{Kept, file, folder, kept_map}
 use Rattle.gx_tree.specs.declared.copying.Held.{Held}

@@ -4,8 +4,8 @@ use Rattle.std.proofs.Common.{arith}
 use Rattle.std.specs.declared.alloc.Allocator.{Ghosts}
 use denote.Param.Weighed.{most}
 use Rattle.gx_model.specs.Texts.{Bytes}
-use Rattle.gx_model.specs.Files.{FileMap}
-use Rattle.gx_model.specs.HistoryOf.{placed}
+use Rattle.gx_model.specs.Histories.Files.{FileMap}
+use Rattle.gx_model.specs.Records.HistoryOf.{placed}
 use Rattle.gx_tree.specs.Components.{bytes_of}
 use Rattle.gx_tree.specs.Nodes.{kept_map, files, components, IsKept, IsLevel}
 use Rattle.gx_tree.specs.Views.{kept, seen_all}

@@ -4,9 +4,9 @@ use Rattle.std.specs.List.{list_all}
 use Rattle.gx_model.specs.declared.objects.Kind.{Kind}
 use Rattle.gx_model.specs.declared.objects.Mode.TheVariants.{Dir}
 use Rattle.gx_model.specs.Texts.{Bytes}
-use Rattle.gx_model.specs.Files.{FileMap}
+use Rattle.gx_model.specs.Histories.Files.{FileMap}
 use Rattle.gx_model.specs.Histories.{Record}
-use Rattle.gx_model.specs.NameMaps.{IsHeldTree}
+use Rattle.gx_model.specs.Objects.NameMaps.{IsHeldTree}
 use Rattle.gx_tree.specs.Nodes.{Kept, file, folder}
 use Rattle.gx_tree.specs.Rooms.{is_within}
 use Rattle.gx_tree.specs.Writes.{map_name}

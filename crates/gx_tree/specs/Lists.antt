@@ -1,8 +1,8 @@
 -- The list of a tree's files.
 use Rattle.std.specs.Prelude.{◌++◌, map}
 use Rattle.gx_model.specs.Texts.{Bytes}
-use Rattle.gx_model.specs.Paths.{Path}
-use Rattle.gx_model.specs.Files.{FileMap}
+use Rattle.gx_model.specs.Texts.Paths.{Path}
+use Rattle.gx_model.specs.Histories.Files.{FileMap}
 use Rattle.gx_model.specs.declared.objects.Mode.{Mode}
 use Rattle.gx_object.specs.declared.name.Name.{Name}
 

@@ -3,11 +3,11 @@ use Rattle.std.specs.Prelude.{◌≡◌, Bool, List, [], ◌∷◌, Option, None
 use Rattle.std.specs.List.{AllByRecursion}
 use Rattle.gx_model.specs.declared.objects.Kind.{Kind}
 use Rattle.gx_model.specs.Texts.{Bytes}
-use Rattle.gx_model.specs.Paths.{Path}
-use Rattle.gx_model.specs.Edits.{is_root}
-use Rattle.gx_model.specs.Files.{FileMap, sub_map}
+use Rattle.gx_model.specs.Texts.Paths.{Path}
+use Rattle.gx_model.specs.Histories.Edits.{is_root}
+use Rattle.gx_model.specs.Histories.Files.{FileMap, sub_map}
 use Rattle.gx_model.specs.Histories.{Record}
-use Rattle.gx_model.specs.Growth.{record_named, tree_records}
+use Rattle.gx_model.specs.Records.Growth.{record_named, tree_records}
 use Rattle.gx_tree.specs.Writes.{map_name}
 
 -- the files, and the remembered names, each with the path of its directory

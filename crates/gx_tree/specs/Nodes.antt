@@ -7,9 +7,9 @@ use Rattle.std.specs.Cmp.Lexicographic.{slice_cmp}
 use Rattle.std.specs.FinMap.Entries.{is_sorted}
 use Rattle.gx_model.specs.declared.objects.Mode.TheVariants.{Dir}
 use Rattle.gx_model.specs.Texts.{Bytes, same_bytes}
-use Rattle.gx_model.specs.Paths.{Path, is_component, path_cmp}
-use Rattle.gx_model.specs.Files.{FileMap, Leaf}
-use Rattle.gx_model.specs.HistoryOf.{placed}
+use Rattle.gx_model.specs.Texts.Paths.{Path, is_component, path_cmp}
+use Rattle.gx_model.specs.Histories.Files.{FileMap, Leaf}
+use Rattle.gx_model.specs.Records.HistoryOf.{placed}
 
 pub data Kept : Type 0 where
   file : Leaf Bytes → Kept

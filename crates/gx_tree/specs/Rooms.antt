@@ -1,8 +1,8 @@
 -- How many bytes the paths of a directory's files have.
 use Rattle.std.specs.Prelude.{ℕ, ◌-◌, Bool, ◌&&◌, nat_le, nat_lt, length, Option, IfSome, IsTrue}
 use Rattle.std.specs.List.{list_all}
-use Rattle.gx_model.specs.Files.{FileMap, Leaf}
-use Rattle.gx_model.specs.Paths.{Path, path_text}
+use Rattle.gx_model.specs.Histories.Files.{FileMap, Leaf}
+use Rattle.gx_model.specs.Texts.Paths.{Path, path_text}
 use Rattle.gx_model.specs.Texts.{Bytes}
 use Rattle.gx_tree.specs.Nodes.{Kept, file, folder}
 

@@ -1,8 +1,8 @@
 -- What a path leads to.
 use Rattle.std.specs.Prelude.{[], ◌∷◌, Option, Some, None}
 use Rattle.gx_model.specs.Texts.{Bytes}
-use Rattle.gx_model.specs.Paths.{Path}
-use Rattle.gx_model.specs.Files.{FileMap, Leaf, file_at, sub_map}
+use Rattle.gx_model.specs.Texts.Paths.{Path}
+use Rattle.gx_model.specs.Histories.Files.{FileMap, Leaf, file_at, sub_map}
 use Rattle.gx_tree.specs.declared.path_tree.Found.{Found}
 use Rattle.gx_tree.specs.declared.path_tree.Found.TheVariants.{File, Directory}
 

@@ -1,9 +1,9 @@
 -- What stands at a component after an edit below it.
 use Rattle.std.specs.Prelude.{Bool, false, [], ◌∷◌, Option, Some, None, Result, Ok, Err}
 use Rattle.gx_model.specs.Texts.{Bytes}
-use Rattle.gx_model.specs.Paths.{Path}
-use Rattle.gx_model.specs.Files.{FileMap}
-use Rattle.gx_model.specs.Edits.{removed, with_all, without_line}
+use Rattle.gx_model.specs.Texts.Paths.{Path}
+use Rattle.gx_model.specs.Histories.Files.{FileMap}
+use Rattle.gx_model.specs.Histories.Edits.{removed, with_all, without_line}
 use Rattle.gx_tree.specs.Nodes.{Kept, Level, file, folder, kept_map, others, with_kept}
 use Rattle.gx_tree.specs.Lists.{below}
 

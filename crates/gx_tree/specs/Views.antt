@@ -5,9 +5,9 @@ use Rattle.std.specs.Option.{unwrap_or}
 use Rattle.std.specs.Borrow.{Bor}
 use Rattle.gx_model.specs.Texts.{Bytes}
 use Rattle.gx_model.specs.declared.objects.Mode.TheVariants.{Dir}
-use Rattle.gx_model.specs.Files.{FileMap, Leaf}
+use Rattle.gx_model.specs.Histories.Files.{FileMap, Leaf}
 use Rattle.gx_model.specs.Objects.{Entry as TreeEntry}
-use Rattle.gx_model.specs.Paths.{Path}
+use Rattle.gx_model.specs.Texts.Paths.{Path}
 use Rattle.gx_object.specs.declared.name.Name.{Name}
 use Rattle.gx_tree.specs.Components.{bytes_of}
 use Rattle.gx_tree.specs.Named.{NamedTree, is_named, nothing, own_name}

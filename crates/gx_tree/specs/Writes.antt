@@ -5,10 +5,10 @@ use Rattle.gx_model.specs.declared.objects.Kind.{Kind}
 use Rattle.gx_model.specs.declared.objects.Kind.TheVariants as kind
 use Rattle.gx_model.specs.declared.objects.Mode.TheVariants.{Dir}
 use Rattle.gx_model.specs.Texts.{Bytes}
-use Rattle.gx_model.specs.Files.{FileMap, Leaf}
+use Rattle.gx_model.specs.Histories.Files.{FileMap, Leaf}
 use Rattle.gx_model.specs.Records.{tree_body}
 use Rattle.gx_model.specs.Histories.{Record}
-use Rattle.gx_model.specs.Growth.{put_all, tree_records}
+use Rattle.gx_model.specs.Records.Growth.{put_all, tree_records}
 use Rattle.gx_tree.specs.Nodes.{Kept, Level, file, folder}
 use Rattle.gx_tree.specs.declared.fault.TreeFault.{TreeFault}
 use Rattle.gx_tree.specs.declared.fault.TreeFault.TheVariants.{OutOfMemory, NameHeld}

@@ -2,7 +2,7 @@
 ghost use Rattle.std.specs.Prelude.{◌≡◌, IfOk, IsTrue, length};
 ghost use Rattle.std.specs.List.{list_all};
 ghost use Rattle.std.specs.Option.{option_map};
-ghost use Rattle.gx_model.specs.Paths.{is_short};
+ghost use Rattle.gx_model.specs.Texts.Paths.{is_short};
 ghost use Rattle.gx_text.specs.TreePaths.{is_path};
 ghost use Rattle.gx_tree.specs.Copies.{graft_fault, kept_held};
 ghost use Rattle.gx_tree.specs.Faults.{fault_of};

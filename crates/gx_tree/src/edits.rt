@@ -2,9 +2,9 @@
 //! has them, a file that takes the place of another or of nothing is put in them as they are, and what is removed is taken
 //! out of them as they are.
 ghost use Rattle.std.specs.Prelude.{◌≡◌, ◌≢◌, ◌<◌, ◌+◌, [], IfOk, IsFalse, IsTrue, None, Some, drop, length};
-ghost use Rattle.gx_model.specs.Edits.{removed};
-ghost use Rattle.gx_model.specs.Files.{sub_map};
-ghost use Rattle.gx_model.specs.Paths.{path_text};
+ghost use Rattle.gx_model.specs.Histories.Edits.{removed};
+ghost use Rattle.gx_model.specs.Histories.Files.{sub_map};
+ghost use Rattle.gx_model.specs.Texts.Paths.{path_text};
 ghost use Rattle.gx_tree.specs.Homes.{Keeps, Both, IfThere, Borrowed, AreAtHome, IsHeldAtHome, IsItemAtHome};
 ghost use Rattle.gx_tree.specs.Named.{IsAtHome, KeepsHome};
 ghost use Rattle.gx_tree.specs.Nodes.{IsKept, IsLevel, file, files, kept_map, map_if, mark, with_kept, IsKeptAt};

@@ -1,7 +1,7 @@
 //! The list of a directory's files.
 ghost use Rattle.std.specs.Prelude.{◌≡◌, ◌++◌, ◌∷◌, [], map, OnOk, IfOk, IsTrue};
 ghost use Rattle.std.specs.List.{list_all};
-ghost use Rattle.gx_model.specs.Paths.{is_component, is_short};
+ghost use Rattle.gx_model.specs.Texts.Paths.{is_component, is_short};
 ghost use Rattle.gx_tree.specs.Lists.{below, listed};
 
 use crate::directory::{Directory, Item};

@@ -1,6 +1,6 @@
 //! Making a directory from the records of its trees.
 ghost use Rattle.std.specs.Prelude.{◌≡◌, IfOk, OnOk, ℕ};
-ghost use Rattle.gx_model.specs.Files.{FileMap};
+ghost use Rattle.gx_model.specs.Histories.Files.{FileMap};
 ghost use Rattle.gx_model.specs.Texts.{Bytes};
 ghost use Rattle.gx_object.specs.Entries.{shown};
 ghost use Rattle.gx_tree.specs.Homes.{IsItemAtHome};

@@ -1,15 +1,15 @@
 //! Trees of files by their paths.
 ghost use Rattle.std.specs.Prelude.{◌≡◌, ◌≢◌, [], length, map, take, None, Ok, Err, IfOk, IsOk, OnErr, IsTrue};
 ghost use Rattle.std.specs.Option.{option_map};
-ghost use Rattle.gx_model.specs.Edits.{copied, modified, removed, renamed};
+ghost use Rattle.gx_model.specs.Histories.Edits.{copied, modified, removed, renamed};
 ghost use Rattle.gx_model.specs.Faults.{Gives};
-ghost use Rattle.gx_model.specs.Files.{FileMap, sub_map};
+ghost use Rattle.gx_model.specs.Histories.Files.{FileMap, sub_map};
 ghost use Rattle.gx_model.specs.Texts.{Bytes};
-ghost use Rattle.gx_model.specs.Growth.{tree_records};
+ghost use Rattle.gx_model.specs.Records.Growth.{tree_records};
 ghost use Rattle.gx_model.specs.Objects.{is_name};
 ghost use Rattle.gx_tree.specs.Copies.{graft_fault, kept_held, option_held};
 ghost use Rattle.gx_tree.specs.Faults.{fault_of, Refuses};
-ghost use Rattle.gx_model.specs.NameMaps.{IsHeldTree, IsNameMap};
+ghost use Rattle.gx_model.specs.Objects.NameMaps.{IsHeldTree, IsNameMap};
 ghost use Rattle.gx_tree.specs.Homes.{Keeps, Both, IfThere, Borrowed, AreAtHome, IsHeldAtHome, IsItemAtHome};
 ghost use Rattle.gx_tree.specs.Lists.{listed};
 ghost use Rattle.gx_tree.specs.Named.{IsAtHome, KeepsHome, nothing};
@@ -52,7 +52,7 @@ impl<A: Allocator> Model for PathTree<A> {
 
     ghost Value = { NamedTree };
 
-    ghost use Rattle.gx_model.specs.NameMaps.{IsNameMap};
+    ghost use Rattle.gx_model.specs.Objects.NameMaps.{IsNameMap};
 
     ghost view = { λ a. a.root };
 

@@ -2,11 +2,11 @@
 ghost use Rattle.std.specs.Prelude.{◌≡◌, ◌≢◌, ◌<◌, ◌++◌, [], IfErr, IfOk, IsFalse, IsOk, IsTrue, Ok, OnOk, length, map, take};
 ghost use Rattle.std.specs.List.{list_all};
 ghost use Rattle.std.specs.Option.{option_map};
-ghost use Rattle.gx_model.specs.Edits.{copied, removed};
-ghost use Rattle.gx_model.specs.Files.{sub_map};
-ghost use Rattle.gx_model.specs.Growth.{tree_records};
-ghost use Rattle.gx_model.specs.NameMaps.{IsNameMap};
-ghost use Rattle.gx_model.specs.Paths.{is_short};
+ghost use Rattle.gx_model.specs.Histories.Edits.{copied, removed};
+ghost use Rattle.gx_model.specs.Histories.Files.{sub_map};
+ghost use Rattle.gx_model.specs.Records.Growth.{tree_records};
+ghost use Rattle.gx_model.specs.Objects.NameMaps.{IsNameMap};
+ghost use Rattle.gx_model.specs.Texts.Paths.{is_short};
 ghost use Rattle.gx_tree.specs.Copies.{option_held};
 ghost use Rattle.gx_tree.specs.Homes.{Keeps, Both, IfThere, Borrowed, AreAtHome, IsHeldAtHome, IsItemAtHome};
 ghost use Rattle.gx_tree.specs.Lists.{listed};

@@ -1,7 +1,7 @@
 //! Writing a directory's trees: those below it first, in the order of its entries, and then its own. What is written
 //! comes back with the names remembered, and has the old entries where no directory among them gets a name.
 ghost use Rattle.std.specs.Prelude.{◌≡◌, ◌++◌, IfOk, IfSome, IsTrue, OnOk, Some, length, map, take};
-ghost use Rattle.gx_model.specs.Growth.{tree_records};
+ghost use Rattle.gx_model.specs.Records.Growth.{tree_records};
 ghost use Rattle.gx_model.specs.Objects.{entry_text, tree_text};
 ghost use Rattle.gx_tree.specs.Homes.{AreAtHome, IsItemAtHome};
 ghost use Rattle.gx_tree.specs.Named.{IsAtHome, is_named, own_name};

@@ -3,7 +3,7 @@ use Rattle.std.proofs.Common.{◌≡◌, ℕ, zero, suc, ◌+◌, ◌-◌, ◌<�
 use Rattle.std.proofs.lemmas.List.{drop-drop}
 use Rattle.std.proofs.lemmas.Bool.Decides.{nat_tests}
 use Rattle.gx_model.specs.Texts.{Bytes}
-use Rattle.gx_model.specs.Items.{Item, End, Stream, First, takes, drops, ends, first_of, then_comes, after, items_of}
+use Rattle.gx_model.specs.Streams.Items.{Item, End, Stream, First, takes, drops, ends, first_of, then_comes, after, items_of}
 use Rattle.gx_stream.specs.Heard.{heard_upto, items_from}
 use Rattle.gx_stream.specs.FirstItems.{IsEndOf}
 use Rattle.gx_stream.proofs.Firsts.{Shortens, first_of-shortens, items_of-first}

@@ -2,7 +2,7 @@
 use Rattle.std.proofs.Common.{◌≡◌, ℕ, ◌-◌, ◌≤◌, ◌^◌, false, [], length, drop, Option, Some, Result, Ok, Err, sym, ap, subst, ◌∙◌}
 use Rattle.std.specs.Option.{option_map}
 use Rattle.gx_model.specs.Texts.{Bytes}
-use Rattle.gx_model.specs.Items.{Stream, items_of}
+use Rattle.gx_model.specs.Streams.Items.{Stream, items_of}
 use Rattle.gx_text.specs.Devices.{Coming}
 use Rattle.gx_stream.specs.Heard.{items_from}
 use Rattle.gx_command.specs.Behind.{TellsBehind, last_of, left_behind}

@@ -1,7 +1,7 @@
 -- Why it isn't told where a command begins.
 use Rattle.std.specs.Prelude.{◌≡◌, ℕ, ◌<◌, ◌-◌, ◌^◌, ◌⊎◌, [], false, length, None, Ok}
 use Rattle.gx_model.specs.Texts.{Bytes}
-use Rattle.gx_model.specs.Items.{items_of}
+use Rattle.gx_model.specs.Streams.Items.{items_of}
 use Rattle.gx_command.specs.Behind.{FailsAt, left_behind}
 use Rattle.gx_command.specs.declared.behind.BehindFault.{BehindFault}
 use Rattle.gx_command.specs.declared.behind.BehindFault.TheVariants as behind

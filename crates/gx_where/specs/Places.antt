@@ -2,7 +2,7 @@
 use Rattle.std.specs.Prelude.{◌≡◌, ℕ, ◌+◌, ◌-◌, false, [], drop, take, Ok, Some}
 use Rattle.std.specs.List.{count_by}
 use Rattle.gx_model.specs.Texts.{Bytes}
-use Rattle.gx_model.specs.Items.{is_lf, items_of, line_len}
+use Rattle.gx_model.specs.Streams.Items.{is_lf, items_of, line_len}
 use Rattle.gx_command.specs.Behind.{AreBehind, left_behind}
 use Rattle.gx_where.specs.declared.place.Place.{Place}
 

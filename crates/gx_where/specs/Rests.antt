@@ -1,7 +1,7 @@
 -- What is left of a text behind its first items.
 use Rattle.std.specs.Prelude.{◌≡◌, ℕ, false, drop}
 use Rattle.gx_model.specs.Texts.{Bytes}
-use Rattle.gx_model.specs.Items.{Item, Stream, First, takes, drops, ends, first_of}
+use Rattle.gx_model.specs.Streams.Items.{Item, Stream, First, takes, drops, ends, first_of}
 
 -- the rests that are reached from the front of a text, item by item and comment by comment
 pub data Reaches (text : Bytes) : Bytes → Type 0 where

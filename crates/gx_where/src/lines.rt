@@ -2,7 +2,7 @@
 
 ghost use Rattle.std.specs.Prelude.{◌≡◌, ◌≤◌, length};
 ghost use Rattle.std.specs.List.{count_by};
-ghost use Rattle.gx_model.specs.Items.{is_lf};
+ghost use Rattle.gx_model.specs.Streams.Items.{is_lf};
 ghost use Rattle.gx_where.specs.Places.{front_line};
 
 use memchr::memchr;

@@ -1,7 +1,7 @@
 //! What is left of a text behind its first items.
 
 ghost use Rattle.std.specs.Prelude.{◌≡◌, ◌≤◌, length, false};
-ghost use Rattle.gx_model.specs.Items.{items_of};
+ghost use Rattle.gx_model.specs.Streams.Items.{items_of};
 ghost use Rattle.gx_stream.specs.FirstItems.{IsEndOf};
 ghost use Rattle.gx_where.specs.Rests.{Reaches, BeginsNoComment, without_first};
 

@@ -1,6 +1,6 @@
 //! Refs: what is published, refused and found.
 
-ghost use Rattle.gx_model.specs.Sound.{IsNamedMap};
+ghost use Rattle.gx_model.specs.Records.Sound.{IsNamedMap};
 
 use super::calls::{Answer, Call, IDENT, find};
 use super::names::*;

@@ -1,6 +1,6 @@
 //! Sessions: calls that follow one another, and trials, where each growth of a call is refused in turn.
 
-ghost use Rattle.gx_model.specs.Sound.{IsNamedMap};
+ghost use Rattle.gx_model.specs.Records.Sound.{IsNamedMap};
 
 use super::calls::{Answer, Call, perform};
 use gx_object::{Namer, Sha1Namer};

@@ -1,6 +1,6 @@
 //! Trees that remember the names of their directories.
 
-ghost use Rattle.gx_model.specs.Sound.{IsNamedMap};
+ghost use Rattle.gx_model.specs.Records.Sound.{IsNamedMap};
 
 use super::calls::{Answer, Call, add_file, add_tree, added, is_held};
 use super::names::{BOTH, WHOLE};

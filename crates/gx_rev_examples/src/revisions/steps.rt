@@ -3,7 +3,7 @@
 ghost use Rattle.std.specs.Prelude.{IsTrue, map};
 ghost use Rattle.std.specs.List.{AllByRecursion};
 ghost use Rattle.gx_model.specs.declared.objects.Kind.TheVariants as kinds;
-ghost use Rattle.gx_model.specs.Sound.{Holds, IsNamedMap, Keeps};
+ghost use Rattle.gx_model.specs.Records.Sound.{Holds, IsNamedMap, Keeps};
 
 use gx_object::{CommitParts, Kind, Mode, Name, Namer, TagParts};
 use gx_repo::{RefChange, Repo};

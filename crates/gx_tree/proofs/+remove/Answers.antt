@@ -1,7 +1,7 @@
 use Rattle.std.proofs.Common.{◌≡◌, ◌≢◌, [], ◌+◌, drop, Some, sym, ap, ◌∙◌, arith, subst}
 use Rattle.std.proofs.lemmas.Bool.{and_parts, true≢false}
 use Rattle.std.proofs.lemmas.Result.{IfOk-weaker}
-use Rattle.gx_model.specs.Edits.{removed}
+use Rattle.gx_model.specs.Histories.Edits.{removed}
 use Rattle.gx_tree.specs.Homes.{AreAtHome, Borrowed, IfThere, IsItemAtHome}
 use Rattle.gx_tree.specs.Named.{IsAtHome}
 use Rattle.gx_tree.specs.Nodes.{folder}

@@ -1,7 +1,7 @@
 use Rattle.std.proofs.Common.{Vec, ◌≡◌, Err, Some, map, refl, sym, ap, ◌∙◌, subst, arith}
 use Rattle.std.specs.List.{AllByRecursion}
 use Rattle.gx_model.specs.declared.objects.Kind.TheVariants as kind
-use Rattle.gx_model.specs.Growth.{put, put_all, tree_records}
+use Rattle.gx_model.specs.Records.Growth.{put, put_all, tree_records}
 use Rattle.gx_model.specs.Histories.{record_for}
 use Rattle.gx_model.specs.Objects.{tree_text}
 use Rattle.gx_object.specs.declared.name.Name.{Name}

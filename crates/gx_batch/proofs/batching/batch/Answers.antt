@@ -1,7 +1,7 @@
 use Rattle.std.proofs.Common.{Ok, Err, sym, subst}
 use Rattle.std.specs.Option.{option_map}
 use Rattle.std.proofs.lemmas.Result.{err_from_is_err_and}
-use Rattle.gx_model.specs.HistoryOf.{history_of}
+use Rattle.gx_model.specs.Records.HistoryOf.{history_of}
 use Rattle.gx_text.specs.Devices.{Took}
 use Rattle.gx_stream.specs.Heard.{heard}
 use Rattle.gx_batch.specs.Answers.{batch_answer}

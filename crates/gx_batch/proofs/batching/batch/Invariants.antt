@@ -1,4 +1,4 @@
-use Rattle.gx_model.specs.HistoryOf.{history_of}
+use Rattle.gx_model.specs.Records.HistoryOf.{history_of}
 use Rattle.gx_batch.specs.Answers.{batch_answer}
 use Rattle.gx_batch.specs.Reading.{IsSound, most, seen}
 use Rattle.std.specs.Option.{option_map}

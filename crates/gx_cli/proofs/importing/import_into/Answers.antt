@@ -1,5 +1,5 @@
 use Rattle.std.proofs.Common.{subst, Err}
-use Rattle.gx_model.specs.StoreReading.{store_of}
+use Rattle.gx_model.specs.Stores.StoreReading.{store_of}
 use Rattle.gx_import.specs.Exported.{ImportsExport}
 use Rattle.gx_cli.proofs.ExportedStores.{accepted_again, imported_into, refused_again, refused_into}
 use Rattle.gx_cli.proofs.importing.import_into.Goals as goal

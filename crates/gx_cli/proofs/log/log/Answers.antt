@@ -3,8 +3,8 @@ use Rattle.std.specs.List.{AllByRecursion, flat_map}
 use Rattle.std.proofs.lemmas.Result.{err_from_is_err_and}
 use Rattle.gx_model.specs.declared.objects.Kind.TheVariants as kinds
 use Rattle.gx_model.specs.Faults.{and_then}
-use Rattle.gx_model.specs.HistoryOf.{history_of}
-use Rattle.gx_model.specs.Ranges.{each_word}
+use Rattle.gx_model.specs.Records.HistoryOf.{history_of}
+use Rattle.gx_model.specs.Revisions.Ranges.{each_word}
 use Rattle.gx_model.specs.Revisions.{range_of}
 use Rattle.gx_rev.specs.Objects.{IsHeldAs, commit_at}
 use Rattle.gx_cli.specs.Answers.{Prints}

@@ -1,6 +1,6 @@
 use Rattle.std.proofs.Common.{ap, map, ◌∙◌}
-use Rattle.gx_model.specs.HistoryOf.{history_of}
-use Rattle.gx_model.specs.Ranges.{each_word}
+use Rattle.gx_model.specs.Records.HistoryOf.{history_of}
+use Rattle.gx_model.specs.Revisions.Ranges.{each_word}
 use Rattle.gx_model.specs.Revisions.{range_of}
 use Rattle.gx_rev.specs.Views.{shown_range}
 use Rattle.gx_cli.specs.Stored.{all_words, commits_listed, texts_of}

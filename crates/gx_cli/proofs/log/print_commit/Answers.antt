@@ -3,7 +3,7 @@ use Rattle.std.specs.List.{flat_map}
 use Rattle.std.proofs.lemmas.Result.{err_from_is_err_and}
 use Rattle.gx_model.specs.Objects.{CommitParts, hex}
 use Rattle.gx_model.specs.Texts.{Bytes}
-use Rattle.gx_model.specs.Values.{commit_value, parents_of}
+use Rattle.gx_model.specs.Histories.Values.{commit_value, parents_of}
 use Rattle.gx_model.specs.Records.{name_of, names_of}
 use Rattle.gx_rev.specs.Objects.{commit_at}
 use Rattle.gx_cli.specs.Stored.{log_line}

@@ -1,7 +1,7 @@
 use Rattle.std.proofs.Common.{◌≡◌, map, sym, ◌∙◌}
-use Rattle.gx_model.specs.HistoryOf.{files_of_tree, value_of_name}
+use Rattle.gx_model.specs.Records.HistoryOf.{files_of_tree, value_of_name}
 use Rattle.gx_model.specs.Records.{named_map}
-use Rattle.gx_model.specs.NameMaps.{IsHeldTree}
+use Rattle.gx_model.specs.Objects.NameMaps.{IsHeldTree}
 use Rattle.gx_tree.specs.Lists.{listed}
 use Rattle.gx_cli.proofs.ListedFiles.{held_tree}
 use Rattle.gx_cli.proofs.ls.files_of.Goals as goal

@@ -1,4 +1,4 @@
-use Rattle.gx_model.specs.HistoryOf.{history_of}
+use Rattle.gx_model.specs.Records.HistoryOf.{history_of}
 use Rattle.gx_cli.specs.Stored.{files_of_word, list_lines}
 use Rattle.gx_cli.proofs.RefusedWords.{only_refused}
 use Rattle.gx_cli.proofs.ls.list.Goals as goal

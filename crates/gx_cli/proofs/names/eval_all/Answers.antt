@@ -1,7 +1,7 @@
 use Rattle.std.proofs.Common.{◌≡◌, ◌+◌, ◌∷◌, [], ◌++◌, drop, map, sym, subst}
 use Rattle.std.proofs.lemmas.List.{map-append}
-use Rattle.gx_model.specs.Denotation.{denoted}
-use Rattle.gx_model.specs.HistoryOf.{history_of}
+use Rattle.gx_model.specs.Revisions.Denotation.{denoted}
+use Rattle.gx_model.specs.Records.HistoryOf.{history_of}
 use Rattle.gx_rev.specs.Answers.{IsNamed, shown_by}
 use Rattle.gx_cli.proofs.Pieces.{rest_from}
 use Rattle.gx_cli.proofs.WordsRead.{AreDone, all_push, next_done}

@@ -1,7 +1,7 @@
 use Rattle.std.proofs.Common.{drop, map}
 use Rattle.std.specs.List.{AllByRecursion}
-use Rattle.gx_model.specs.Denotation.{denoted}
-use Rattle.gx_model.specs.HistoryOf.{history_of}
+use Rattle.gx_model.specs.Revisions.Denotation.{denoted}
+use Rattle.gx_model.specs.Records.HistoryOf.{history_of}
 use Rattle.gx_rev.specs.Answers.{IsNamed, shown_by}
 use Rattle.gx_cli.proofs.WordsRead.{AreDone}
 use Rattle.gx_cli.proofs.names.eval_all.Given as goal

@@ -1,7 +1,7 @@
 use Rattle.std.proofs.Common.{◌∙◌, ◌++◌, ◌∷◌, [], subst}
 use Rattle.std.proofs.lemmas.Result.{err_from_is_err_and}
 use Rattle.gx_model.specs.Objects.{hex}
-use Rattle.gx_model.specs.StoreText.{stored_ref}
+use Rattle.gx_model.specs.Stores.StoreText.{stored_ref}
 use Rattle.gx_cli.specs.Answers.{Puts}
 use Rattle.gx_cli.proofs.Pieces.{left_fails, left_next, left_ref, put_alone}
 use Rattle.gx_cli.proofs.refs.print_ref.Goals as goal

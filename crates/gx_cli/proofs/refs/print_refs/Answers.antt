@@ -1,7 +1,7 @@
 use Rattle.std.proofs.Common.{Err, subst}
 use Rattle.std.specs.List.{flat_map}
 use Rattle.std.proofs.lemmas.Result.{err_from_is_err_and}
-use Rattle.gx_model.specs.StoreText.{stored_ref}
+use Rattle.gx_model.specs.Stores.StoreText.{stored_ref}
 use Rattle.gx_cli.specs.Stored.{refs_text}
 use Rattle.gx_cli.proofs.Pieces.{IsLeft, left_fails, left_next, put_printed}
 use Rattle.gx_cli.proofs.refs.print_refs.Goals as goal

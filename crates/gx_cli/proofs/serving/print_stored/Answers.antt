@@ -1,6 +1,6 @@
 use Rattle.std.proofs.Common.{subst}
-use Rattle.gx_model.specs.HistoryOf.{history_of}
-use Rattle.gx_model.specs.StoreReading.{store_of}
+use Rattle.gx_model.specs.Records.HistoryOf.{history_of}
+use Rattle.gx_model.specs.Stores.StoreReading.{store_of}
 use Rattle.gx_cli.specs.Answers.{Prints}
 use Rattle.gx_cli.specs.Serving.{printed_by}
 use Rattle.gx_cli.specs.Stored.{list_text, log_text, names_text, show_text, texts_of}

@@ -1,4 +1,4 @@
-use Rattle.gx_model.specs.HistoryOf.{history_of}
+use Rattle.gx_model.specs.Records.HistoryOf.{history_of}
 use Rattle.gx_cli.specs.Listings.{text_of_word}
 use Rattle.gx_cli.proofs.StoredAnswers.{shows_printed}
 use Rattle.gx_cli.proofs.showing.show_stored.Goals as goal

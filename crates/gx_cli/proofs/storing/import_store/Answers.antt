@@ -1,5 +1,5 @@
 use Rattle.std.proofs.Common.{◌≡◌, Ok, subst}
-use Rattle.gx_model.specs.StoreReading.{store_of}
+use Rattle.gx_model.specs.Stores.StoreReading.{store_of}
 use Rattle.gx_cli.proofs.StoredImports.{accepted_store, accepted_store_again, refused_store, refused_store_again}
 use Rattle.gx_cli.proofs.storing.import_store.Goals as goal
 

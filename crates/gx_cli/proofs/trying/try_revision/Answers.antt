@@ -1,5 +1,5 @@
 use Rattle.std.proofs.Common.{subst, []}
-use Rattle.gx_model.specs.HistoryOf.{history_of}
+use Rattle.gx_model.specs.Records.HistoryOf.{history_of}
 use Rattle.gx_cli.specs.Listings.{text_of_word}
 use Rattle.gx_cli.specs.Trying.{Shows}
 use Rattle.gx_cli.proofs.Trials.{tried}

@@ -1,7 +1,7 @@
 use Rattle.std.proofs.Common.{[], ◌∷◌, ◌++◌, codes, Err}
 use Rattle.std.proofs.lemmas.Result.{err_from_is_err_and}
 use Rattle.gx_model.specs.Export.{optional_line}
-use Rattle.gx_model.specs.Items.{Data}
+use Rattle.gx_model.specs.Streams.Items.{Data}
 use Rattle.gx_export.specs.Texts.{author_items}
 use Rattle.gx_export.proofs.Writing.{items_later, items_sooner}
 use Rattle.gx_export.proofs.commands.write_commit_head.Goals as goal

@@ -1,6 +1,6 @@
 use Rattle.std.proofs.Common.{◌≡◌, ◌+◌, ◌++◌, suc, map, length, subst, arith, Ok, Err}
 use Rattle.std.proofs.lemmas.Result.{err_from_is_err_and}
-use Rattle.gx_model.specs.HistoryOf.{commit_of_value, value_of_name}
+use Rattle.gx_model.specs.Records.HistoryOf.{commit_of_value, value_of_name}
 use Rattle.gx_export.specs.Outputs.{Stops, Writes}
 use Rattle.gx_export.specs.Texts.{change_lines, head_items, items_text, parent_items}
 use Rattle.gx_export.proofs.Numbering.{adds_bytes, adds_later}

@@ -2,8 +2,8 @@ use Rattle.std.proofs.Common.{◌<◌, length, arith, ◌∙◌, ap, sym, subst,
 use Rattle.std.proofs.lemmas.Result.{err_from_is_err_and}
 use Rattle.gx_model.specs.declared.objects.Kind.TheVariants as kind
 use Rattle.gx_model.specs.Export.{number_in}
-use Rattle.gx_model.specs.HistoryOf.{commit_of_value, value_of_name}
-use Rattle.gx_model.specs.Sound.{Holds}
+use Rattle.gx_model.specs.Records.HistoryOf.{commit_of_value, value_of_name}
+use Rattle.gx_model.specs.Records.Sound.{Holds}
 use Rattle.gx_rev.specs.Objects.{commit_at}
 use Rattle.gx_model.proofs.HeldValues.{commit_stands, holds_held, kind_held}
 use Rattle.gx_export.specs.Outputs.{Stops, Writes}

@@ -1,6 +1,6 @@
 use Rattle.std.proofs.Common.{List, map, take, Ok}
-use Rattle.gx_model.specs.HistoryOf.{commit_of_value, value_of_name}
-use Rattle.gx_model.specs.Values.{Value}
+use Rattle.gx_model.specs.Records.HistoryOf.{commit_of_value, value_of_name}
+use Rattle.gx_model.specs.Histories.Values.{Value}
 use Rattle.gx_export.specs.Marks.{Adds, HasWritten}
 use Rattle.gx_export.specs.Texts.{parent_items}
 use Rattle.gx_export.proofs.commit.write_parents.Given as goal

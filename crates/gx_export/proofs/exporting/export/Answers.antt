@@ -1,7 +1,7 @@
 use Rattle.std.proofs.Common.{[], ◌++◌, ◌∙◌, ap, subst, length, Ok, Err}
 use Rattle.std.proofs.lemmas.Result.{err_from_is_err_and}
 use Rattle.gx_model.specs.Export.{all_written, reached_commits}
-use Rattle.gx_model.specs.HistoryOf.{history_of}
+use Rattle.gx_model.specs.Records.HistoryOf.{history_of}
 use Rattle.gx_model.proofs.Standing.{as_many}
 use Rattle.gx_export.specs.Exports.{commits_text}
 use Rattle.gx_export.specs.Outputs.{Stops, Writes}

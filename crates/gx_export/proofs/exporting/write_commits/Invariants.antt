@@ -1,6 +1,6 @@
 use Rattle.std.proofs.Common.{take, [], Ok}
 use Rattle.gx_model.specs.Export.{all_written, commit_commands}
-use Rattle.gx_model.specs.RepositoryLaws.{values_of}
+use Rattle.gx_model.specs.Laws.RepositoryLaws.{values_of}
 use Rattle.gx_export.specs.FileTexts.{AreKept}
 use Rattle.gx_export.specs.Marks.{Adds}
 use Rattle.gx_export.specs.Reaching.{is_wanted}

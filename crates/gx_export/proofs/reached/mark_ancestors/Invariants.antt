@@ -1,5 +1,5 @@
 use Rattle.std.proofs.Common.{◌≡◌, length, ◌≤◌}
-use Rattle.gx_model.specs.RepositoryLaws.{values_of}
+use Rattle.gx_model.specs.Laws.RepositoryLaws.{values_of}
 use Rattle.gx_export.proofs.Ancestry.{AreMarked}
 use Rattle.gx_export.proofs.reached.mark_ancestors.Given as goal
 

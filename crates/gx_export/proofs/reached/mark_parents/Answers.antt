@@ -1,5 +1,5 @@
 use Rattle.std.proofs.Common.{◌≡◌, ◌≤◌, ◌∙◌, ap, arith, length, rules}
-use Rattle.gx_model.specs.Values.{list_of, parents_of}
+use Rattle.gx_model.specs.Histories.Values.{list_of, parents_of}
 use Rattle.gx_rev.specs.Objects.{commit_at}
 use Rattle.gx_model.proofs.HeldValues.{names_long, no_parent_there, parent_there}
 use Rattle.gx_model.proofs.Marking.{all_parents, next_marked, no_next}

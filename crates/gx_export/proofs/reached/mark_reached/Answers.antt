@@ -1,8 +1,8 @@
 use Rattle.std.proofs.Common.{◌∙◌, ap, subst, length, false}
 use Rattle.std.proofs.lemmas.List.{length-replicate}
-use Rattle.gx_model.specs.HistoryOf.{history_of}
-use Rattle.gx_model.specs.RepositoryLaws.{values_of}
-use Rattle.gx_model.specs.Marks.{Marks}
+use Rattle.gx_model.specs.Records.HistoryOf.{history_of}
+use Rattle.gx_model.specs.Laws.RepositoryLaws.{values_of}
+use Rattle.gx_model.specs.Histories.Marks.{Marks}
 use Rattle.gx_export.specs.Reaching.{IsTip}
 use Rattle.gx_export.proofs.reached.mark_reached.Goals as goal
 

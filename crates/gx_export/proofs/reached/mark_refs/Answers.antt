@@ -1,9 +1,9 @@
 use Rattle.std.proofs.Common.{[], ◌++◌, ◌∙◌, sym, subst, map, ap}
 use Rattle.std.proofs.lemmas.List.{append-nil}
 use Rattle.std.specs.List.{AllByRecursion}
-use Rattle.gx_model.specs.Sound.{IsTarget}
+use Rattle.gx_model.specs.Records.Sound.{IsTarget}
 use Rattle.gx_model.proofs.PeeledRefs.{not_unpeeled, target_peels, told}
-use Rattle.gx_model.specs.Marks.{Marks}
+use Rattle.gx_model.specs.Histories.Marks.{Marks}
 use Rattle.gx_rev.specs.Objects.{commit_at}
 use Rattle.gx_model.proofs.HeldValues.{peeled_to}
 use Rattle.gx_export.specs.Reaching.{IsTip}

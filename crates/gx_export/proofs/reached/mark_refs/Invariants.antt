@@ -1,10 +1,10 @@
 use Rattle.std.proofs.Common.{◌≡◌, List, ◌++◌, map, length}
 use Rattle.std.specs.List.{AllByRecursion}
-use Rattle.gx_model.specs.RepositoryLaws.{values_of}
-use Rattle.gx_model.specs.Sound.{IsTarget}
+use Rattle.gx_model.specs.Laws.RepositoryLaws.{values_of}
+use Rattle.gx_model.specs.Records.Sound.{IsTarget}
 use Rattle.gx_model.specs.Texts.{Bytes}
 use Rattle.gx_model.proofs.PeeledRefs.{told}
-use Rattle.gx_model.specs.Marks.{Marks}
+use Rattle.gx_model.specs.Histories.Marks.{Marks}
 use Rattle.gx_export.specs.Reaching.{IsTip}
 use Rattle.gx_export.proofs.reached.mark_refs.Given as goal
 

@@ -4,12 +4,12 @@ use Rattle.std.specs.Prelude.{IsTrue, is_some}
 use Rattle.std.specs.Option.{option_map}
 use Rattle.gx_model.specs.contracts.objects.Kind.{the_type}
 use Rattle.gx_model.specs.declared.objects.Kind.TheVariants as kind
-use Rattle.gx_model.specs.Commands.{Marked, Reset}
+use Rattle.gx_model.specs.Streams.Commands.{Marked, Reset}
 use Rattle.gx_model.specs.Export.{command_items, number_in, ref_command}
-use Rattle.gx_model.specs.Growth.{record_named}
-use Rattle.gx_model.specs.HistoryOf.{target_in, value_of_name}
+use Rattle.gx_model.specs.Records.Growth.{record_named}
+use Rattle.gx_model.specs.Records.HistoryOf.{target_in, value_of_name}
 use Rattle.gx_model.specs.Records.{kind_of}
-use Rattle.gx_model.specs.Values.{commit_value}
+use Rattle.gx_model.specs.Histories.Values.{commit_value}
 use Rattle.gx_model.specs.Histories.{object_of}
 use Rattle.gx_model.proofs.HeldValues.{got}
 use Rattle.gx_model.proofs.PeeledRefs.{target_peels}

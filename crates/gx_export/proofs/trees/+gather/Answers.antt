@@ -1,10 +1,10 @@
 use Rattle.std.proofs.Common.{◌≡◌, ◌≢◌, ◌+◌, ◌*◌, ◌<◌, ◌≤◌, ◌∙◌, ◌++◌, [], ◌∷◌, map, length, drop, true, false, not, ap, sym, subst, arith, rules, Ok}
 use Rattle.std.proofs.lemmas.List.{length-append}
 use Rattle.gx_model.specs.Export.{with_blobs}
-use Rattle.gx_model.specs.HistoryOf.{named_values}
-use Rattle.gx_model.specs.Files.{FileMap}
-use Rattle.gx_model.specs.NameMaps.{IsHeldTree}
-use Rattle.gx_model.specs.Paths.{Path, path_of}
+use Rattle.gx_model.specs.Records.HistoryOf.{named_values}
+use Rattle.gx_model.specs.Histories.Files.{FileMap}
+use Rattle.gx_model.specs.Objects.NameMaps.{IsHeldTree}
+use Rattle.gx_model.specs.Texts.Paths.{Path, path_of}
 use Rattle.gx_model.specs.Texts.{Bytes}
 use denote.Enum.Bare.{same_true, sameb}
 use Rattle.std.proofs.lemmas.Result.{err_from_is_err_and}

@@ -1,8 +1,8 @@
 use Rattle.std.proofs.Common.{◌+◌, ◌*◌, List}
-use Rattle.gx_model.specs.Files.{FileMap}
-use Rattle.gx_model.specs.NameMaps.{IsHeldTree}
+use Rattle.gx_model.specs.Histories.Files.{FileMap}
+use Rattle.gx_model.specs.Objects.NameMaps.{IsHeldTree}
 use Rattle.gx_model.specs.Texts.{Bytes}
-use Rattle.gx_model.specs.Values.{Value}
+use Rattle.gx_model.specs.Histories.Values.{Value}
 use Rattle.gx_tree.proofs.LevelsOf.{level_of}
 use Rattle.gx_export.specs.FileTexts.{AreKept}
 use Rattle.gx_export.specs.Marks.{HasWritten}

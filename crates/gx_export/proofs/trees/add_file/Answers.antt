@@ -5,7 +5,7 @@ use Rattle.gx_model.specs.contracts.objects.Mode.{the_type}
 use Rattle.gx_model.specs.declared.objects.Kind.TheVariants as kind
 use Rattle.gx_model.specs.declared.objects.Mode.TheVariants.{Gitlink}
 use Rattle.gx_model.specs.Export.{blob_commands, number_in, with_blobs}
-use Rattle.gx_model.specs.HistoryOf.{bytes_of_blob}
+use Rattle.gx_model.specs.Records.HistoryOf.{bytes_of_blob}
 use Rattle.gx_rev.specs.Objects.{value_at}
 use Rattle.gx_model.proofs.HeldValues.{holds_held, kind_held}
 use Rattle.gx_export.specs.declared.fault.ExportFault.TheVariants.{OutOfMemory}

@@ -1,5 +1,5 @@
 use Rattle.std.proofs.Common.{◌≡◌, ◌∷◌, ◌++◌, [], Ok, sym, ap, ◌∙◌, arith}
-use Rattle.gx_model.specs.Paths.{path_of, path_text}
+use Rattle.gx_model.specs.Texts.Paths.{path_of, path_text}
 use Rattle.gx_tree.proofs.Listed.{child_of_root, child_read, child_text, not_refused}
 use Rattle.gx_export.proofs.trees.child.Goals as goal
 use Rattle.gx_export.proofs.trees.child.Goals.{then-len-gt0+in_ok-push, else-len-gt0}

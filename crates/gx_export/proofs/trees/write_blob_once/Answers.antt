@@ -1,12 +1,12 @@
 use Rattle.std.proofs.Common.{◌≡◌, ◌<◌, ◌+◌, ◌∙◌, ap, sym, subst, arith, Some, Ok}
 use Rattle.std.proofs.lemmas.Result.{err_from_is_err_and}
-use Rattle.gx_model.specs.Commands.{Blob}
+use Rattle.gx_model.specs.Streams.Commands.{Blob}
 use Rattle.gx_model.specs.Export.{number_in}
-use Rattle.gx_model.specs.HistoryOf.{bytes_of_blob}
-use Rattle.gx_model.specs.Values.{blob_value}
+use Rattle.gx_model.specs.Records.HistoryOf.{bytes_of_blob}
+use Rattle.gx_model.specs.Histories.Values.{blob_value}
 use Rattle.std.specs.Option.{option_map}
 use Rattle.gx_model.specs.declared.objects.Kind.TheVariants as kind
-use Rattle.gx_model.specs.RepositoryLaws.{values_of}
+use Rattle.gx_model.specs.Laws.RepositoryLaws.{values_of}
 use Rattle.gx_model.specs.Histories.{object_of}
 use Rattle.gx_model.proofs.HeldValues.{kind_held}
 use Rattle.gx_model.proofs.Standing.{at_within, some_there}

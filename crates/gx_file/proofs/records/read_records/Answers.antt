@@ -1,6 +1,6 @@
 use Rattle.std.proofs.Common.{◌∙◌}
 use Rattle.std.proofs.lemmas.Result.{err_from_is_err_and}
-use Rattle.gx_model.specs.StoreReading.{next_records}
+use Rattle.gx_model.specs.Stores.StoreReading.{next_records}
 use Rattle.gx_file.proofs.CountedRecords.{one_read, one_refused}
 use Rattle.gx_file.proofs.records.read_records.Goals as goal
 

@@ -1,5 +1,5 @@
 use Rattle.std.proofs.Common.{◌≡◌, ◌-◌}
-use Rattle.gx_model.specs.StoreReading.{next_records}
+use Rattle.gx_model.specs.Stores.StoreReading.{next_records}
 use Rattle.gx_file.specs.TextEnds.{IsEndOfText}
 use Rattle.gx_file.proofs.records.read_records.Given as goal
 

@@ -5,7 +5,7 @@ use Rattle.std.proofs.lemmas.Result.{err_from_is_err_and}
 use Rattle.gx_model.specs.declared.store_versions.Version.TheVariants.{Two}
 use Rattle.gx_model.specs.Histories.{Record}
 use Rattle.gx_model.specs.Objects.{line}
-use Rattle.gx_model.specs.StoreText.{stored_record}
+use Rattle.gx_model.specs.Stores.StoreText.{stored_record}
 use Rattle.gx_text.specs.Devices.{FailedWithin}
 use Rattle.gx_file.proofs.SentTexts.{all_from, all_left, from_place, is_within, left_fails, less_left, next_left}
 use Rattle.gx_file.proofs.sending.send_records.Goals as goal

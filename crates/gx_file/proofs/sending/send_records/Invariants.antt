@@ -3,7 +3,7 @@ use Rattle.std.specs.List.{flat_map}
 use Rattle.std.specs.Fmt.{decimal}
 use Rattle.gx_model.specs.Objects.{line}
 use Rattle.gx_model.specs.declared.store_versions.Version.TheVariants.{Two}
-use Rattle.gx_model.specs.StoreText.{stored_record}
+use Rattle.gx_model.specs.Stores.StoreText.{stored_record}
 use Rattle.gx_file.specs.Sending.{HaveLengths}
 use Rattle.gx_file.proofs.SentTexts.{IsLeft}
 use Rattle.gx_file.proofs.sending.send_records.Given as goal

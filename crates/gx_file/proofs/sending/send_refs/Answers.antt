@@ -4,7 +4,7 @@ use Rattle.std.specs.Fmt.{decimal}
 use Rattle.std.proofs.lemmas.Iterator.Consumers.{YieldsList-from_rest, count_from_yields_List}
 use Rattle.std.proofs.lemmas.Result.{err_from_is_err_and}
 use Rattle.gx_model.specs.Objects.{line}
-use Rattle.gx_model.specs.StoreText.{stored_ref}
+use Rattle.gx_model.specs.Stores.StoreText.{stored_ref}
 use Rattle.gx_repo.specs.Refs.{shown}
 use Rattle.gx_text.specs.Devices.{FailedWithin, Took}
 use Rattle.gx_file.proofs.SentTexts.{IsLeft, all_left, left_fails, less_left}

@@ -4,7 +4,7 @@ use Rattle.std.specs.Fmt.{decimal}
 use Rattle.std.proofs.lemmas.Result.{err_from_is_err_and}
 use Rattle.gx_model.specs.declared.store_versions.Version.TheVariants.{Two}
 use Rattle.gx_model.specs.Objects.{line}
-use Rattle.gx_model.specs.StoreText.{store_text, stored_record, stored_ref, version_text}
+use Rattle.gx_model.specs.Stores.StoreText.{store_text, stored_record, stored_ref, version_text}
 use Rattle.gx_file.proofs.SentStores.{sent_store_read, store_left}
 use Rattle.gx_file.proofs.SentTexts.{anyway, last_left, left_fails, less_left}
 use Rattle.gx_file.proofs.sending.write_to.Goals as goal

@@ -1,6 +1,6 @@
 use Rattle.std.proofs.Common.{◌≡◌, ◌++◌}
 use Rattle.std.specs.List.{flat_map}
-use Rattle.gx_model.specs.StoreText.{stored_ref}
+use Rattle.gx_model.specs.Stores.StoreText.{stored_ref}
 use Rattle.gx_file.proofs.writing.put_refs.Given as goal
 
 abbrev pub invariant-loop-name : goal.invariant-loop-name

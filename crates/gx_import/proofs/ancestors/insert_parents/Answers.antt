@@ -2,8 +2,8 @@ use Rattle.std.proofs.Common.{◌≡◌, ◌≤◌, ◌+◌, ◌∙◌, ap, sym,
 use Rattle.std.specs.List.{AllByRecursion, slice_get}
 use Rattle.std.specs.Ordering.{nat_cmp}
 use Rattle.std.specs.BTreeSet.{insert_key}
-use Rattle.gx_model.specs.Values.{Commit, commit_value, list_of, parents_of}
-use Rattle.gx_model.specs.Marks.{IsAt}
+use Rattle.gx_model.specs.Histories.Values.{Commit, commit_value, list_of, parents_of}
+use Rattle.gx_model.specs.Histories.Marks.{IsAt}
 use Rattle.gx_model.proofs.HeldValues.{names_long, no_parent_there, parent_there}
 use Rattle.gx_rev.specs.Objects.{commit_at}
 use Rattle.gx_import.specs.Places.{IsCommitBefore}

@@ -1,6 +1,6 @@
 use Rattle.std.specs.List.{AllByRecursion}
-use Rattle.gx_model.specs.Marks.{IsAt}
-use Rattle.gx_model.specs.Values.{Commit, parents_of}
+use Rattle.gx_model.specs.Histories.Marks.{IsAt}
+use Rattle.gx_model.specs.Histories.Values.{Commit, parents_of}
 use Rattle.gx_import.specs.Places.{IsCommitBefore}
 use Rattle.gx_import.proofs.PlaceLists.{HasFirst}
 use Rattle.gx_import.proofs.ancestors.insert_parents.Given as goal

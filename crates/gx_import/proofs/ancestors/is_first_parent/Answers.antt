@@ -1,6 +1,6 @@
 use Rattle.std.proofs.Common.{◌≡◌, IsTrue, subst, rules}
-use Rattle.gx_model.specs.HistoryOf.{commit_of_value, value_of_name}
-use Rattle.gx_model.specs.Ranges.{reaches}
+use Rattle.gx_model.specs.Records.HistoryOf.{commit_of_value, value_of_name}
+use Rattle.gx_model.specs.Revisions.Ranges.{reaches}
 use Rattle.gx_model.proofs.HeldValues.{parent_there}
 use Rattle.gx_rev.specs.Objects.{commit_at}
 use Rattle.gx_import.proofs.PlaceLists.{parent_reached}

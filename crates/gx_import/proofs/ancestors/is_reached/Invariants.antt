@@ -1,7 +1,7 @@
 use Rattle.std.specs.Prelude.{◌↔◌}
 use Rattle.std.specs.List.{AllByRecursion}
-use Rattle.gx_model.specs.Marks.{IsAt}
-use Rattle.gx_model.specs.Values.{Commit}
+use Rattle.gx_model.specs.Histories.Marks.{IsAt}
+use Rattle.gx_model.specs.Histories.Values.{Commit}
 use Rattle.gx_import.specs.Places.{IsCommitPlace, SomeReaches}
 use Rattle.gx_import.proofs.PlaceLists.{behind_last}
 use Rattle.gx_import.proofs.ancestors.is_reached.Given as goal

@@ -1,5 +1,5 @@
-use Rattle.gx_model.specs.RepositoryLaws.{values_of}
-use Rattle.gx_model.specs.Values.{commit_value}
+use Rattle.gx_model.specs.Laws.RepositoryLaws.{values_of}
+use Rattle.gx_model.specs.Histories.Values.{commit_value}
 use Rattle.gx_model.proofs.Standing.{at_within, commit_at_place, commit_name_there, name_there, some_there}
 use Rattle.gx_store.specs.Stores.{seen_at}
 use Rattle.gx_import.proofs.ancestors.name_at.Goals as goal

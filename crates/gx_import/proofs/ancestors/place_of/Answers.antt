@@ -1,6 +1,6 @@
 use Rattle.std.proofs.Common.{◌≡◌, ◌∙◌, ap, Some, None}
 use Rattle.std.specs.List.{slice_get}
-use Rattle.gx_model.specs.RepositoryLaws.{values_of}
+use Rattle.gx_model.specs.Laws.RepositoryLaws.{values_of}
 use Rattle.gx_model.proofs.HeldPlaces.{held_place}
 use Rattle.gx_model.proofs.HeldValues.{commit_held}
 use Rattle.gx_model.proofs.Standing.{commit_at_place}

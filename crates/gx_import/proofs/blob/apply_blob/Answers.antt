@@ -1,6 +1,6 @@
 use Rattle.std.proofs.Common.{Ok, refl}
 use Rattle.std.proofs.lemmas.Result.{err_from_is_err_and}
-use Rattle.gx_model.specs.Values.{blob_value}
+use Rattle.gx_model.specs.Histories.Values.{blob_value}
 use Rattle.gx_model.specs.Replay.{State, added, marked}
 use Rattle.gx_import.specs.Standing.{Follows}
 use Rattle.gx_import.proofs.Blobs.{blob_refused}

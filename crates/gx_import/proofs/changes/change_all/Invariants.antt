@@ -1,11 +1,11 @@
 use Rattle.std.proofs.Common.{◌≡◌, length, map}
 use Rattle.std.specs.Vec.Iter.{into_iter_items, into_iter_len}
 use Rattle.gx_model.specs.Texts.{Bytes}
-use Rattle.gx_model.specs.Files.{FileMap}
+use Rattle.gx_model.specs.Histories.Files.{FileMap}
 use Rattle.gx_model.specs.Replay.{State}
 use Rattle.gx_command.specs.Views.{shown_change}
 use Rattle.gx_import.specs.Standing.{Extends, Stands}
-use Rattle.gx_model.specs.NameMaps.{AreFiles}
+use Rattle.gx_model.specs.Objects.NameMaps.{AreFiles}
 use Rattle.gx_tree.specs.Named.{IsAtHome}
 use Rattle.gx_import.proofs.ChangesSoFar.{AreMade}
 use Rattle.gx_import.proofs.changes.change_all.Given as goal

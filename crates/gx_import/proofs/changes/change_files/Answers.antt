@@ -1,15 +1,15 @@
 use Rattle.std.proofs.Common.{[], Ok, Err, sym, ap, subst, ◌∙◌}
 use Rattle.std.proofs.lemmas.Result.{err_from_is_err_and}
-use Rattle.gx_model.specs.Edits.{copied, removed, renamed}
+use Rattle.gx_model.specs.Histories.Edits.{copied, removed, renamed}
 use Rattle.gx_model.specs.Faults.{IsFaultOf}
-use Rattle.gx_model.specs.RepositoryLaws.{values_of}
-use Rattle.gx_model.specs.Files.{FileMap}
+use Rattle.gx_model.specs.Laws.RepositoryLaws.{values_of}
+use Rattle.gx_model.specs.Histories.Files.{FileMap}
 use Rattle.gx_model.specs.Texts.{Bytes}
 use Rattle.gx_model.specs.Replay.{State, changed}
 use Rattle.gx_command.specs.Views.{shown_change}
 use Rattle.gx_tree.specs.Faults.{fault_of}
 use Rattle.gx_tree.specs.Named.{NamedTree, IsAtHome}
-use Rattle.gx_model.specs.NameMaps.{AreFiles, IsNameMap}
+use Rattle.gx_model.specs.Objects.NameMaps.{AreFiles, IsNameMap}
 use Rattle.gx_import.specs.Additions.{Clash, blob_added}
 use Rattle.gx_import.specs.Answers.{AddsAs}
 use Rattle.gx_tree.specs.Faults.{fault_of as of_tree}

@@ -1,5 +1,5 @@
 use Rattle.std.proofs.Common.{◌≡◌, ℕ, List}
-use Rattle.gx_model.specs.Commands as model
+use Rattle.gx_model.specs.Streams.Commands as model
 use Rattle.gx_command.specs.Views.{shown_data}
 use Rattle.gx_import.proofs.Contents.{blob_put, no_directory, no_gitlink}
 use Rattle.gx_import.proofs.changes.content.Goals as goal

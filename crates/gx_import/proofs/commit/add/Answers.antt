@@ -1,18 +1,18 @@
 use Rattle.std.proofs.Common.{◌≡◌, [], ◌∷◌, map, None, Ok, sym, ap, subst, ◌∙◌}
 use Rattle.std.proofs.lemmas.Result.{err_from_is_err_and}
-use Rattle.gx_model.specs.Growth.{all_trees, with_values}
+use Rattle.gx_model.specs.Records.Growth.{all_trees, with_values}
 use Rattle.gx_model.specs.Records.{name_of}
 use Rattle.gx_model.specs.Histories.{with_tree}
 use Rattle.gx_model.specs.Replay.{State, added, text_made}
-use Rattle.gx_model.specs.RepositoryLaws.{values_of}
-use Rattle.gx_model.specs.Values.{commit, commit_value, commits_of, tree_value}
+use Rattle.gx_model.specs.Laws.RepositoryLaws.{values_of}
+use Rattle.gx_model.specs.Histories.Values.{commit, commit_value, commits_of, tree_value}
 use Rattle.gx_model.proofs.GrownTrees.{trees_fold}
 use Rattle.gx_command.specs.Views.{commit_parts}
 use Rattle.gx_object.specs.declared.name.Name.{Name}
 use Rattle.gx_repo.specs.Additions.{HasValues}
 use Rattle.gx_import.specs.Objects.{IsTreeOf}
 use Rattle.gx_import.specs.Standing.{Follows}
-use Rattle.gx_model.specs.NameMaps.{AreFiles}
+use Rattle.gx_model.specs.Objects.NameMaps.{AreFiles}
 use Rattle.gx_import.proofs.Extended.{extended_all, extended_more}
 use Rattle.gx_model.proofs.FilesByName.{contents_told}
 use Rattle.gx_import.proofs.GrownStates.{clash_after, clash_first, commits_keep, tree_has, tree_keeps, tree_stands, trees_clash, with_files}

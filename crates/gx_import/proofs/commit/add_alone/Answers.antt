@@ -2,12 +2,12 @@ use Rattle.std.proofs.Common.{◌≡◌, Ok, refl, sym, ap, subst, ◌∙◌}
 use Rattle.std.proofs.lemmas.Result.{err_from_is_err_and}
 use Rattle.std.specs.List.{AllByRecursion}
 use Rattle.gx_model.specs.declared.objects.Kind.TheVariants as kinds
-use Rattle.gx_model.specs.Sound.{Holds}
+use Rattle.gx_model.specs.Records.Sound.{Holds}
 use Rattle.gx_model.specs.Records.{name_of}
 use Rattle.gx_model.specs.Histories.{with_one}
 use Rattle.gx_model.specs.Replay.{State, text_made}
-use Rattle.gx_model.specs.RepositoryLaws.{values_of}
-use Rattle.gx_model.specs.Values.{commit, commit_value, commits_of}
+use Rattle.gx_model.specs.Laws.RepositoryLaws.{values_of}
+use Rattle.gx_model.specs.Histories.Values.{commit, commit_value, commits_of}
 use Rattle.gx_command.specs.Views.{commit_parts}
 use Rattle.gx_object.specs.declared.name.Name.{Name}
 use Rattle.gx_repo.specs.Additions.{HasValues}

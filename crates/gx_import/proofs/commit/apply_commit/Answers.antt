@@ -2,7 +2,7 @@ use Rattle.std.proofs.Common.{Some, Ok, Err, map, refl, sym, ap, subst}
 use Rattle.std.specs.List.{AllByRecursion}
 use Rattle.std.proofs.lemmas.Result.{err_from_is_err_and}
 use Rattle.gx_model.specs.declared.objects.Kind.TheVariants as kinds
-use Rattle.gx_model.specs.Sound.{Holds, IsSound}
+use Rattle.gx_model.specs.Records.Sound.{Holds, IsSound}
 use Rattle.gx_command.specs.Views.{commit_parts, shown_change}
 use Rattle.gx_import.proofs.CommitRuns.{AddGives, ChangesGive, add_fails, changes_fail, commit_done, named_after, parents_held}
 use Rattle.gx_import.proofs.Extended.{extended_more}

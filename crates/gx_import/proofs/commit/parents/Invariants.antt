@@ -1,6 +1,6 @@
 use Rattle.std.proofs.Common.{Option, map, drop}
 use Rattle.gx_model.specs.Replay.{State}
-use Rattle.gx_model.specs.Values as values
+use Rattle.gx_model.specs.Histories.Values as values
 use Rattle.gx_command.specs.Views.{shown_commit_ish}
 use Rattle.gx_import.specs.Objects.{IsCommitOf}
 use Rattle.gx_import.specs.Rows.{AreBoth}

@@ -1,6 +1,6 @@
 use Rattle.std.proofs.Common.{Ok, Err, length, sym, ap, subst, ◌∙◌}
 use Rattle.gx_model.specs.Histories.{Records}
-use Rattle.gx_model.specs.Sound.{IsSound}
+use Rattle.gx_model.specs.Records.Sound.{IsSound}
 use Rattle.gx_import.proofs.ExportedAgain.{accepted, stopped}
 use Rattle.gx_import.proofs.RefusedExports.{null_refused}
 use Rattle.gx_import.specs.Keeping.{left_of}

@@ -1,9 +1,9 @@
 use Rattle.std.proofs.Common.{◌≡◌, ◌-◌, length, Ok, sym, ap, subst, ◌∙◌}
-use Rattle.gx_model.specs.Sound.{IsSound}
+use Rattle.gx_model.specs.Records.Sound.{IsSound}
 use Rattle.gx_import.specs.Imports.{Imports, Leaves}
-use Rattle.gx_model.specs.Gitlinks.{HoldsNoNullGitlink}
+use Rattle.gx_model.specs.Streams.Gitlinks.{HoldsNoNullGitlink}
 use Rattle.gx_model.specs.Histories.{Records}
-use Rattle.gx_model.specs.HistoryOf.{history_of}
+use Rattle.gx_model.specs.Records.HistoryOf.{history_of}
 use Rattle.gx_model.specs.Replay.{overwritten}
 use Rattle.gx_import.specs.Keeping.{IsLeft, left_of}
 use Rattle.std.proofs.lemmas.List.{length-map}

@@ -1,5 +1,5 @@
 use Rattle.std.proofs.Common.{◌≡◌, IfSome, is_some, map, refl, sym, ap, subst, ◌∙◌}
-use Rattle.gx_model.specs.Publishing.{changes_fault, with_changes}
+use Rattle.gx_model.specs.Records.Publishing.{changes_fault, with_changes}
 use Rattle.gx_repo.specs.Refs.{asked}
 use Rattle.gx_import.specs.Keeping.{AreNames}
 use Rattle.gx_import.specs.RefChanges.{branch_changes, is_moved, moved_of, tag_changes}

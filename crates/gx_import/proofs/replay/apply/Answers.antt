@@ -6,7 +6,7 @@ use Rattle.gx_command.specs.Views.{shown_blob, shown_command, shown_commit, show
 use Rattle.gx_import.specs.Additions.{values_added}
 use Rattle.gx_import.proofs.AppliedCommands.{added_as, clash_here, given_as, progress_as, unchanged}
 use Rattle.std.proofs.Common.{refl}
-use Rattle.gx_model.specs.Commands.{Asks, Progress}
+use Rattle.gx_model.specs.Streams.Commands.{Asks, Progress}
 use Rattle.gx_import.specs.Rows.{rows_of}
 use Rattle.gx_import.proofs.KeptCheckpoints.{all_still, checkpoint_as, kept_anew, kept_here, kept_on, moved, same_records, when_ok}
 use Rattle.gx_import.proofs.ProgressTexts.{IsOther}

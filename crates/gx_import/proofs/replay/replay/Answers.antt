@@ -1,8 +1,8 @@
 use Rattle.std.proofs.Common.{◌+◌, [], Err, refl, sym, ap, subst, ◌∙◌, arith}
 use Rattle.std.proofs.lemmas.List.{append-nil}
 use Rattle.std.proofs.lemmas.Result.{err_from_is_err_and}
-use Rattle.gx_model.specs.Gitlinks.{HoldsNoNullGitlink}
-use Rattle.gx_model.specs.HistoryOf.{history_of}
+use Rattle.gx_model.specs.Streams.Gitlinks.{HoldsNoNullGitlink}
+use Rattle.gx_model.specs.Records.HistoryOf.{history_of}
 use Rattle.gx_model.specs.Replay.{State, byte_cmp, start}
 use Rattle.gx_model.proofs.GitlinkSteps.{none_held, start_free}
 use Rattle.gx_command.specs.Views.{shown_command}

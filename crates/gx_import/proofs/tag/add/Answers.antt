@@ -3,8 +3,8 @@ use Rattle.std.proofs.lemmas.Result.{err_from_is_err_and}
 use Rattle.gx_model.specs.Records.{name_of}
 use Rattle.gx_model.specs.Histories.{with_one}
 use Rattle.gx_model.specs.Replay.{State, added}
-use Rattle.gx_model.specs.RepositoryLaws.{values_of}
-use Rattle.gx_model.specs.Values.{tag_value}
+use Rattle.gx_model.specs.Laws.RepositoryLaws.{values_of}
+use Rattle.gx_model.specs.Histories.Values.{tag_value}
 use Rattle.gx_command.specs.Views.{tag_parts}
 use Rattle.gx_repo.specs.Additions.{HasValues}
 use Rattle.gx_import.specs.Additions.{tag_made}

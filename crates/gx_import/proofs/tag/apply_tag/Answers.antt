@@ -2,10 +2,10 @@ use Rattle.std.proofs.Common.{◌≡◌, Ok, Err, refl, sym, ap, subst, ◌∙�
 use Rattle.std.proofs.lemmas.Result.{err_from_is_err_and}
 use Rattle.std.specs.FinMap.Entries.{put}
 use Rattle.gx_model.specs.Faults.{and_then}
-use Rattle.gx_model.specs.RefNames.{tag_ref}
+use Rattle.gx_model.specs.Texts.RefNames.{tag_ref}
 use Rattle.gx_model.specs.Replay.{State, added, byte_cmp, commit_alone, committed}
-use Rattle.gx_model.specs.RepositoryLaws.{values_of}
-use Rattle.gx_model.specs.Values.{Commit, tag_value}
+use Rattle.gx_model.specs.Laws.RepositoryLaws.{values_of}
+use Rattle.gx_model.specs.Histories.Values.{Commit, tag_value}
 use Rattle.gx_command.specs.Views.{tag_parts}
 use Rattle.gx_import.specs.Additions.{tag_made}
 use Rattle.gx_import.specs.Objects.{IsCommitOf}

@@ -1,4 +1,4 @@
-use Rattle.gx_model.specs.HistoryOf.{history_of}
+use Rattle.gx_model.specs.Records.HistoryOf.{history_of}
 use Rattle.gx_model.proofs.HistoriesAreSound.{sound}
 use Rattle.gx_model.proofs.HistoriesExist.{stands}
 use Rattle.gx_model.proofs.OneHistory.{one_history}

@@ -1,4 +1,4 @@
-use Rattle.gx_model.specs.HistoryOf.{history_of}
+use Rattle.gx_model.specs.Records.HistoryOf.{history_of}
 use Rattle.gx_model.proofs.GrownRecords.{no_values, put_grows, puts_add, puts_grow, whole_of}
 use Rattle.gx_model.proofs.GrownTrees.{alone_added}
 use Rattle.gx_model.proofs.HistoriesExist.{stands}

@@ -1,4 +1,4 @@
-use Rattle.gx_model.specs.Denotation.{ref_names}
+use Rattle.gx_model.specs.Revisions.Denotation.{ref_names}
 use Rattle.gx_model.proofs.FoundRecords.{commits_found, digits_find, first_found}
 use Rattle.gx_model.proofs.repository_laws.records_are_found.Goals as goal
 

@@ -1,7 +1,7 @@
 use Rattle.std.proofs.Common.{◌∙◌, ap, sym}
 use Rattle.std.specs.Bool.{passes}
-use Rattle.gx_model.specs.Growth.{tree_records}
-use Rattle.gx_model.specs.HistoryOf.{contents_of, history_of, named_values}
+use Rattle.gx_model.specs.Records.Growth.{tree_records}
+use Rattle.gx_model.specs.Records.HistoryOf.{contents_of, history_of, named_values}
 use Rattle.gx_model.proofs.GrownRecords.{whole_of}
 use Rattle.gx_model.proofs.GrownTrees.{trees_fold, trees_named, trees_ready}
 use Rattle.gx_model.proofs.HeldNames.{contents}

@@ -1,5 +1,5 @@
 use Rattle.std.proofs.Common.{◌≡◌, ◌+◌, ◌-◌, ◌*◌, length, take, drop, sym, ap, ◌∙◌, arith}
-use Rattle.gx_model.specs.Naming.{lower_name_in}
+use Rattle.gx_model.specs.Objects.Naming.{lower_name_in}
 use Rattle.gx_object.proofs.Parents.{lines_long, none_at, name_at}
 use Rattle.gx_object.proofs.commit.parent_at.Goals as goal
 

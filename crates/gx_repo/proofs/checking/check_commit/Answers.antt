@@ -2,7 +2,7 @@ use Rattle.std.proofs.Common.{◌≡◌, true, false, ◌&&◌, ◌+◌, [], get
 use Rattle.std.specs.List.{list_all}
 use Rattle.std.proofs.lemmas.Option.{slice_get-get_or}
 use Rattle.gx_model.specs.declared.objects.Kind.TheVariants as kinds
-use Rattle.gx_model.specs.RecordFaults.{is_held}
+use Rattle.gx_model.specs.Records.RecordFaults.{is_held}
 use Rattle.gx_repo.proofs.ContentFaults.{commit_dangling, commit_fine, dangling_passed, next_name, not_canonical, told_bad}
 use Rattle.gx_repo.proofs.checking.check_commit.Goals as goal
 

@@ -1,7 +1,7 @@
 use Rattle.std.proofs.Common.{◌≡◌, drop}
 use Rattle.std.specs.List.{list_all}
 use Rattle.gx_model.specs.declared.objects.Kind.TheVariants as kinds
-use Rattle.gx_model.specs.RecordFaults.{is_held}
+use Rattle.gx_model.specs.Records.RecordFaults.{is_held}
 use Rattle.gx_repo.proofs.checking.check_commit.Given as goal
 
 abbrev pub invariant-loop-place : goal.invariant-loop-place

@@ -1,6 +1,6 @@
 use Rattle.std.proofs.Common.{sym, ap, ◌∙◌}
 use Rattle.gx_model.specs.declared.objects.Kind.TheVariants as kinds
-use Rattle.gx_model.specs.RecordFaults.{is_held}
+use Rattle.gx_model.specs.Records.RecordFaults.{is_held}
 use Rattle.gx_repo.proofs.ContentFaults.{dangling_passed, not_canonical, tag_dangling, tag_fine, told_bad}
 use Rattle.gx_repo.proofs.checking.check_tag.Goals as goal
 

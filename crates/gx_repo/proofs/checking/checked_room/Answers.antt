@@ -1,6 +1,6 @@
 use Rattle.std.proofs.Common.{refl, ap, ◌∙◌}
 use Rattle.gx_model.specs.declared.objects.Kind.TheVariants as kinds
-use Rattle.gx_model.specs.RecordFaults.{content_fault}
+use Rattle.gx_model.specs.Records.RecordFaults.{content_fault}
 use Rattle.gx_repo.proofs.ContentFaults.{nothing_against}
 use Rattle.gx_repo.proofs.checking.checked_room.Goals as goal
 

@@ -1,7 +1,7 @@
 use Rattle.std.proofs.Common.{◌≡◌}
 use Rattle.std.specs.List.{list_all}
-use Rattle.gx_model.specs.HistoryOf.{entries_in}
-use Rattle.gx_model.specs.RecordFaults.{is_entry_held}
+use Rattle.gx_model.specs.Records.HistoryOf.{entries_in}
+use Rattle.gx_model.specs.Records.RecordFaults.{is_entry_held}
 use Rattle.gx_repo.specs.Checking.{wider, widest}
 use Rattle.gx_repo.specs.Earlier.{AreLeftHeld}
 use Rattle.gx_repo.proofs.checking.tree_room.Given as goal

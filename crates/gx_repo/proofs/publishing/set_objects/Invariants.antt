@@ -1,6 +1,6 @@
 use Rattle.std.proofs.Common.{◌≡◌, map, drop, IsTrue}
 use Rattle.std.specs.FinMap.Entries.{is_sorted}
-use Rattle.gx_model.specs.Publishing.{with_changes}
+use Rattle.gx_model.specs.Records.Publishing.{with_changes}
 use Rattle.gx_model.specs.Replay.{byte_cmp}
 use Rattle.gx_repo.specs.Refs.{are_held, asked, kept}
 use Rattle.gx_repo.proofs.publishing.set_objects.Given as goal

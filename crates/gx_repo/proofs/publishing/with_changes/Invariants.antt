@@ -1,5 +1,5 @@
 use Rattle.std.proofs.Common.{◌≡◌, map, drop}
-use Rattle.gx_model.specs.Publishing.{with_changes}
+use Rattle.gx_model.specs.Records.Publishing.{with_changes}
 use Rattle.gx_repo.specs.Refs.{asked, kept, ref_of}
 use Rattle.gx_repo.proofs.publishing.with_changes.Given as goal
 

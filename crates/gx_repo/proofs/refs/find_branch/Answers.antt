@@ -1,7 +1,7 @@
 use Rattle.std.proofs.Common.{◌≡◌, refl, sym, ap, ◌∙◌, map, ◌++◌, append-nil, codes, [], ◌∷◌, Option, Some, None}
 use Rattle.std.specs.Map.{lookup}
 use Rattle.gx_model.specs.Texts.{Bytes, same_bytes}
-use Rattle.gx_model.specs.Lookups.{or_else, first_named}
+use Rattle.gx_model.specs.Records.Lookups.{or_else, first_named}
 use Rattle.gx_repo.specs.Refs.{kept}
 use Rattle.gx_repo.proofs.refs.find_branch.Goals as goal
 

@@ -1,7 +1,7 @@
 use Rattle.std.proofs.Common.{◌≡◌, ◌<◌, length, take, Some, slice_get, sym, subst, ap, ◌∙◌, arith}
 use Rattle.std.proofs.lemmas.Option.{slice_get_within}
 use Rattle.gx_model.specs.Histories.{Record}
-use Rattle.gx_model.specs.Sound.{IsLinked}
+use Rattle.gx_model.specs.Records.Sound.{IsLinked}
 use Rattle.gx_repo.specs.Rooms.{rooms_of}
 use Rattle.gx_repo.proofs.RecordRooms.{front_entered, linked_at, rooms_all, rooms_entered, rooms_taken}
 use Rattle.gx_repo.proofs.rooms.enter_rooms.Goals as goal

@@ -1,6 +1,6 @@
 use Rattle.std.proofs.Common.{◌+◌, length, take, get_or, sym, subst, ap, ◌∙◌, arith}
-use Rattle.gx_model.specs.HistoryOf.{files_at, named_values, placed}
-use Rattle.gx_model.specs.Sound.{IsHeldAs}
+use Rattle.gx_model.specs.Records.HistoryOf.{files_at, named_values, placed}
+use Rattle.gx_model.specs.Records.Sound.{IsHeldAs}
 use Rattle.gx_repo.specs.Rooms.{room}
 use Rattle.gx_repo.proofs.EntryRooms.{directory_room}
 use Rattle.gx_repo.proofs.RecordRooms.{rooms_small, sound_first}

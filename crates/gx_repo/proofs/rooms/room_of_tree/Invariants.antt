@@ -1,7 +1,7 @@
 use Rattle.std.proofs.Common.{◌≡◌, max, length, take}
 use Rattle.std.specs.List.{AllByRecursion}
-use Rattle.gx_model.specs.HistoryOf.{entries_in, files_of_entries, named_values}
-use Rattle.gx_model.specs.Sound.{IsHeldAs}
+use Rattle.gx_model.specs.Records.HistoryOf.{entries_in, files_of_entries, named_values}
+use Rattle.gx_model.specs.Records.Sound.{IsHeldAs}
 use Rattle.gx_repo.specs.Rooms.{room}
 use Rattle.gx_repo.proofs.rooms.room_of_tree.Given as goal
 

@@ -1,7 +1,7 @@
 use Rattle.std.proofs.Common.{ap, ◌∙◌, ◌-◌}
 use Rattle.std.proofs.lemmas.Result.{err_from_is_err_and}
 use Rattle.gx_model.specs.Faults.{and_then}
-use Rattle.gx_model.specs.Denotation.{nth_ancestor, nth_parent}
+use Rattle.gx_model.specs.Revisions.Denotation.{nth_ancestor, nth_parent}
 use Rattle.gx_rev.specs.Objects.{commit_at}
 use Rattle.gx_rev.specs.RevFaults.{fault_of}
 use Rattle.gx_model.proofs.HeldValues.{next_ancestor}

@@ -1,6 +1,6 @@
 use Rattle.std.proofs.Common.{◌≡◌}
 use Rattle.gx_model.specs.declared.objects.Kind.TheVariants as kinds
-use Rattle.gx_model.specs.Denotation.{nth_ancestor}
+use Rattle.gx_model.specs.Revisions.Denotation.{nth_ancestor}
 use Rattle.gx_rev.specs.Objects.{IsHeldAs, commit_at}
 use Rattle.gx_rev.proofs.objects.ancestor_of.Given as goal
 

@@ -1,6 +1,6 @@
 use Rattle.std.proofs.Common.{ap}
 use Rattle.gx_model.specs.declared.objects.Kind.TheVariants as kinds
-use Rattle.gx_model.specs.HistoryOf.{files_of_tree, value_of_name}
+use Rattle.gx_model.specs.Records.HistoryOf.{files_of_tree, value_of_name}
 use Rattle.gx_model.proofs.TreePaths.{entries_of}
 use Rattle.gx_model.proofs.HeldValues.{got, kind_held}
 use Rattle.gx_rev.proofs.PathSteps.{entries_got, place_held}

@@ -1,5 +1,5 @@
 use Rattle.std.proofs.Common.{◌≡◌}
-use Rattle.gx_model.specs.Walks.{entry_at}
+use Rattle.gx_model.specs.Records.Walks.{entry_at}
 use Rattle.gx_rev.proofs.places.find_entry.Given as goal
 
 abbrev pub invariant-loop-entry : goal.invariant-loop-entry

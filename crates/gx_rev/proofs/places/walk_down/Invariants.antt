@@ -1,5 +1,5 @@
 use Rattle.std.proofs.Common.{◌≡◌, drop}
-use Rattle.gx_model.specs.Walks.{walked}
+use Rattle.gx_model.specs.Records.Walks.{walked}
 use Rattle.gx_rev.specs.Places.{IsHeldPlace}
 use Rattle.gx_rev.proofs.PathSteps.{walked_on}
 use Rattle.gx_rev.proofs.places.walk_down.Given as goal

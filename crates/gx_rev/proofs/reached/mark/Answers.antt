@@ -1,5 +1,5 @@
 use Rattle.std.proofs.Common.{◌≡◌, ◌<◌, arith, length, length-set, true}
-use Rattle.gx_model.specs.RepositoryLaws.{values_of}
+use Rattle.gx_model.specs.Laws.RepositoryLaws.{values_of}
 use Rattle.gx_rev.specs.Objects.{commit_at, value_at}
 use Rattle.gx_model.proofs.Marking.{mark_there}
 use Rattle.gx_model.proofs.Standing.{at_within, commit_at_place}

@@ -1,7 +1,7 @@
 use Rattle.std.proofs.Common.{◌≡◌, length}
-use Rattle.gx_model.specs.RepositoryLaws.{values_of}
-use Rattle.gx_model.specs.Values.{list_of, parents_of}
-use Rattle.gx_model.specs.Marks.{Marks}
+use Rattle.gx_model.specs.Laws.RepositoryLaws.{values_of}
+use Rattle.gx_model.specs.Histories.Values.{list_of, parents_of}
+use Rattle.gx_model.specs.Histories.Marks.{Marks}
 use Rattle.gx_rev.specs.Objects.{commit_at}
 use Rattle.gx_model.proofs.Marking.{IsBefore}
 use Rattle.gx_rev.proofs.reached.mark_parents.Given as goal

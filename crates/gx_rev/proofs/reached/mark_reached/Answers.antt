@@ -1,4 +1,4 @@
-use Rattle.gx_model.specs.Ranges.{nothing, reaches}
+use Rattle.gx_model.specs.Revisions.Ranges.{nothing, reaches}
 use Rattle.gx_rev.specs.Objects.{commit_at}
 use Rattle.gx_rev.proofs.reached.mark_reached.Goals as goal
 

@@ -1,5 +1,5 @@
 use Rattle.std.proofs.Common.{sym, subst}
-use Rattle.gx_model.specs.Ranges.{nothing}
+use Rattle.gx_model.specs.Revisions.Ranges.{nothing}
 use Rattle.gx_rev.specs.Tips.{AreTips}
 use Rattle.gx_rev.proofs.reached.reached.Goals as goal
 

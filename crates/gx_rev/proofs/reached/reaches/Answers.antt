@@ -1,8 +1,8 @@
 use Rattle.std.proofs.Common.{◌∙◌, ap}
 use Rattle.std.specs.Prelude.{slice_index_or}
-use Rattle.gx_model.specs.Ranges.{reaches}
-use Rattle.gx_model.specs.RepositoryLaws.{values_of}
-use Rattle.gx_model.specs.Values.{commit_value}
+use Rattle.gx_model.specs.Revisions.Ranges.{reaches}
+use Rattle.gx_model.specs.Laws.RepositoryLaws.{values_of}
+use Rattle.gx_model.specs.Histories.Values.{commit_value}
 use Rattle.gx_rev.specs.Objects.{commit_at}
 use Rattle.gx_model.specs.declared.objects.Kind.TheVariants as kinds
 use Rattle.gx_model.proofs.HeldValues.{commit_held, holds_held}

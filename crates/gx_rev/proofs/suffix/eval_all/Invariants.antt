@@ -1,5 +1,5 @@
 use Rattle.std.proofs.Common.{◌≡◌, drop, map}
-use Rattle.gx_model.specs.Denotation.{all_suffixed}
+use Rattle.gx_model.specs.Revisions.Denotation.{all_suffixed}
 use Rattle.gx_rev.specs.Objects.{IsHeld, value_at}
 use Rattle.gx_rev.specs.Views.{shown_suffix}
 use Rattle.gx_rev.proofs.suffix.eval_all.Given as goal

@@ -1,5 +1,5 @@
 use Rattle.std.proofs.Common.{refl}
-use Rattle.gx_model.specs.Ranges.{between}
+use Rattle.gx_model.specs.Revisions.Ranges.{between}
 use Rattle.gx_rev.specs.Objects.{commit_at}
 use Rattle.gx_rev.proofs.walking.mark_between.Goals as goal
 

@@ -1,5 +1,5 @@
 use Rattle.std.proofs.Common.{refl}
-use Rattle.gx_model.specs.Ranges.{without_one}
+use Rattle.gx_model.specs.Revisions.Ranges.{without_one}
 use Rattle.gx_rev.specs.Objects.{commit_at}
 use Rattle.gx_rev.proofs.walking.mark_without_one.Goals as goal
 

@@ -1,5 +1,5 @@
 use Rattle.std.proofs.Common.{refl}
-use Rattle.gx_model.specs.Ranges.{all_parents, alone, with_ancestors, without_ancestors}
+use Rattle.gx_model.specs.Revisions.Ranges.{all_parents, alone, with_ancestors, without_ancestors}
 use Rattle.gx_rev.specs.Objects.{commit_at}
 use Rattle.gx_rev.proofs.Tips.{none_more}
 use Rattle.gx_rev.proofs.walking.mark_word.Goals as goal

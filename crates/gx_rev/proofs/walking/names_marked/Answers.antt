@@ -1,6 +1,6 @@
 use Rattle.std.proofs.Common.{◌≡◌, ◌<◌, ◌+◌, ◌-◌, ◌∙◌, sym, ap, arith, length, true, false, drop, ◌++◌, ◌∷◌, [], append-nil}
 use Rattle.std.proofs.lemmas.List.{map-append}
-use Rattle.gx_model.specs.RepositoryLaws.{values_of}
+use Rattle.gx_model.specs.Laws.RepositoryLaws.{values_of}
 use Rattle.gx_rev.specs.Objects.{value_at}
 use Rattle.gx_rev.specs.Walking.{names_back}
 use Rattle.gx_model.proofs.HeldValues.{held_is}

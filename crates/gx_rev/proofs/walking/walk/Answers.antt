@@ -1,8 +1,8 @@
 use Rattle.std.proofs.Common.{◌+◌, ◌≤◌, ◌++◌, ◌∷◌, [], ◌∙◌, ap, sym, subst, arith, drop, length, map}
 use Rattle.std.specs.Prelude.{◌||◌}
 use Rattle.std.proofs.lemmas.List.{with_items_is}
-use Rattle.gx_model.specs.HistoryOf.{history_of}
-use Rattle.gx_model.specs.Ranges.{span, word_denoted}
+use Rattle.gx_model.specs.Records.HistoryOf.{history_of}
+use Rattle.gx_model.specs.Revisions.Ranges.{span, word_denoted}
 use Rattle.gx_rev.specs.Tips.{AreTips}
 use Rattle.gx_rev.specs.Views.{shown_range}
 use Rattle.gx_rev.proofs.Listings.{AreDone, all_done, names_are, next_done, next_fails, none_done, some_excludes, some_includes, word_fails, words_end, words_from}

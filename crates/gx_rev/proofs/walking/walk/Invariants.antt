@@ -1,6 +1,6 @@
 use Rattle.std.proofs.Common.{List, drop, map}
-use Rattle.gx_model.specs.HistoryOf.{history_of}
-use Rattle.gx_model.specs.Ranges.{Word, word_denoted}
+use Rattle.gx_model.specs.Records.HistoryOf.{history_of}
+use Rattle.gx_model.specs.Revisions.Ranges.{Word, word_denoted}
 use Rattle.gx_rev.specs.Views.{shown_range}
 use Rattle.gx_rev.proofs.Listings.{AreDone}
 use Rattle.gx_rev.proofs.walking.walk.Given as goal

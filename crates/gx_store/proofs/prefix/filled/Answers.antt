@@ -2,7 +2,7 @@ use Rattle.std.proofs.Common.{◌≡◌, ◌≤◌, ◌++◌, ◌-◌, cond, len
 use Rattle.std.specs.Prelude.{replicate}
 use Rattle.std.proofs.lemmas.Bool.{le-leb, false_from_ne_true, leb-true}
 use Rattle.std.proofs.lemmas.List.{drop-replicate}
-use Rattle.gx_model.specs.Naming.{name_in}
+use Rattle.gx_model.specs.Objects.Naming.{name_in}
 use Rattle.gx_store.specs.Prefixes.{filled}
 use Rattle.gx_store.proofs.prefix.filled.Goals as goal
 

@@ -1,5 +1,5 @@
 use Rattle.std.proofs.Common.{◌≡◌, ◌-◌, ◌++◌, true, Some, take, sym, ap, subst, ◌∙◌, arith}
-use Rattle.gx_model.specs.Items.{items_of}
+use Rattle.gx_model.specs.Streams.Items.{items_of}
 use Rattle.gx_stream.specs.Input.{stream_seen, KeepsStream}
 use Rattle.gx_stream.specs.declared.input.State.TheVariants.{Open}
 use Rattle.gx_stream.proofs.Arrivals.{Keeps-failed, Keeps-ended, Keeps-over, Keeps-more}

@@ -1,6 +1,6 @@
 use Rattle.std.proofs.Common.{◌≡◌, ◌≤◌, ◌+◌, ◌-◌, ◌||◌, ◌&&◌, false, nat_eq, length, drop, min, sym, ap, subst, ◌∙◌, arith}
 use Rattle.std.proofs.lemmas.List.{take_rest}
-use Rattle.gx_model.specs.Items.{line_len, has_no_line}
+use Rattle.gx_model.specs.Streams.Items.{line_len, has_no_line}
 use Rattle.gx_stream.specs.Places.{IsLine}
 use Rattle.gx_stream.proofs.Lines.{line_is, line_at-from, no_line-from}
 use Rattle.gx_stream.proofs.places.find_line.Goals as goal

@@ -1,7 +1,7 @@
 use Rattle.std.proofs.Common.{rules, tests, eqb}
 use Rattle.std.proofs.lemmas.Iterator.Splits.{YieldsList-from_slice_split}
 use Rattle.std.proofs.lemmas.Iterator.Search.{all_from_yields_List}
-use Rattle.gx_model.specs.Paths.{is_component}
+use Rattle.gx_model.specs.Texts.Paths.{is_component}
 use Rattle.gx_text.proofs.path.are_components.Goals as goal
 
 pub returns : goal.returns

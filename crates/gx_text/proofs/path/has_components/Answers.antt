@@ -1,6 +1,6 @@
 use Rattle.std.proofs.Common.{sym, ap, ◌∙◌}
 use Rattle.std.specs.List.{list_all}
-use Rattle.gx_model.specs.Paths.{is_component}
+use Rattle.gx_model.specs.Texts.Paths.{is_component}
 use Rattle.gx_text.proofs.PathTexts.{parts_of-some, no_parts}
 use Rattle.gx_text.proofs.path.has_components.Goals as goal
 

@@ -1,7 +1,7 @@
 use Rattle.std.proofs.Common.{rules, tests}
 use Rattle.std.proofs.lemmas.Iterator.{YieldsList-from_slice}
 use Rattle.std.proofs.lemmas.Iterator.Search.{all_from_yields_List}
-use Rattle.gx_model.specs.Paths.{is_printed_bare}
+use Rattle.gx_model.specs.Texts.Paths.{is_printed_bare}
 use Rattle.gx_text.proofs.printed.are_bare.Goals as goal
 
 pub returns : goal.returns

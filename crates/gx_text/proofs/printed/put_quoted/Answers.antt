@@ -1,7 +1,7 @@
 use Rattle.std.proofs.Common.{◌∷◌}
 use Rattle.std.specs.List.{flat_map}
 use Rattle.std.proofs.Common.{take}
-use Rattle.gx_model.specs.Paths.{printed_byte}
+use Rattle.gx_model.specs.Texts.Paths.{printed_byte}
 use Rattle.gx_text.proofs.Printing.{keep_front}
 use Rattle.gx_text.proofs.printed.put_quoted.Goals as goal
 

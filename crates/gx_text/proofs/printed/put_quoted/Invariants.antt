@@ -1,6 +1,6 @@
 use Rattle.std.proofs.Common.{◌≡◌, ◌++◌, ◌∷◌, take}
 use Rattle.std.specs.List.{flat_map}
-use Rattle.gx_model.specs.Paths.{printed_byte}
+use Rattle.gx_model.specs.Texts.Paths.{printed_byte}
 use Rattle.gx_text.proofs.printed.put_quoted.Given as goal
 
 abbrev pub invariant-loop-b : goal.invariant-loop-b

@@ -1,5 +1,5 @@
 use Rattle.std.proofs.Common.{◌≡◌, Some, ap, sym, length}
-use Rattle.gx_model.specs.Paths.{or_bad_path, char_at}
+use Rattle.gx_model.specs.Texts.Paths.{or_bad_path, char_at}
 use Rattle.gx_text.proofs.Unquoting.{char_stops, char_closes, char_goes_on, char_ends}
 use Rattle.gx_text.proofs.quoted.unquoted_body.Goals as goal
 

@@ -1,5 +1,5 @@
 use Rattle.std.proofs.Common.{◌≡◌, ◌-◌, length}
-use Rattle.gx_model.specs.Paths.{unquote_within}
+use Rattle.gx_model.specs.Texts.Paths.{unquote_within}
 use Rattle.gx_text.proofs.Unquoting.{with_front}
 use Rattle.gx_text.proofs.quoted.unquoted_body.Given as goal
 

@@ -1,7 +1,7 @@
 use Rattle.std.proofs.Common.{rules, tests}
 use Rattle.std.proofs.lemmas.Iterator.{YieldsList-from_slice}
 use Rattle.std.proofs.lemmas.Iterator.Search.{all_from_yields_List}
-use Rattle.gx_model.specs.RefNames.{is_ref_byte}
+use Rattle.gx_model.specs.Texts.RefNames.{is_ref_byte}
 use Rattle.gx_text.proofs.ref_name.has_ref_bytes.Goals as goal
 
 pub returns : goal.returns

@@ -6,9 +6,9 @@ use Rattle.std.proofs.Common.{refl, ◌≡◌, ◌*◌, ◌<◌, map, sym, ap, �
 use Rattle.std.proofs.lemmas.List.{map-append}
 use Rattle.gx_model.proofs.FileMapEdits.{parts_of}
 use Rattle.gx_object.specs.Entries.{shown}
-use Rattle.gx_model.specs.Files.{FileMap}
+use Rattle.gx_model.specs.Histories.Files.{FileMap}
 use Rattle.gx_model.specs.Texts.{Bytes}
-use Rattle.gx_model.specs.NameMaps.{IsHeldTree}
+use Rattle.gx_model.specs.Objects.NameMaps.{IsHeldTree}
 use Rattle.gx_tree.specs.HeldTrees.{IsHeldEntry}
 use Rattle.gx_tree.specs.Loaded.{IsLoaded}
 use Rattle.gx_tree.specs.Nodes.{IsLevel, files}

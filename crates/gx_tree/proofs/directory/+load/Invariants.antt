@@ -1,9 +1,9 @@
 use Rattle.std.proofs.Common.{◌+◌, ◌*◌}
-use Rattle.gx_model.specs.Files.{FileMap}
+use Rattle.gx_model.specs.Histories.Files.{FileMap}
 use Rattle.gx_model.specs.Texts.{Bytes}
 use Rattle.std.specs.List.{AllByRecursion}
 use Rattle.gx_tree.specs.Homes.{AreAtHome}
-use Rattle.gx_model.specs.NameMaps.{IsHeldTree}
+use Rattle.gx_model.specs.Objects.NameMaps.{IsHeldTree}
 use Rattle.gx_tree.specs.Loaded.{AreLoaded}
 use Rattle.gx_tree.specs.Views.{seen_all, Remembers}
 use Rattle.gx_tree.proofs.HeldLevels.{IsLoading}

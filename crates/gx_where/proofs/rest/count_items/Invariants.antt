@@ -1,5 +1,5 @@
 use Rattle.std.proofs.Common.{◌≡◌, ◌≤◌, ◌+◌, false, length}
-use Rattle.gx_model.specs.Items.{items_of}
+use Rattle.gx_model.specs.Streams.Items.{items_of}
 use Rattle.gx_where.proofs.rest.count_items.Given as goal
 
 abbrev pub invariant-loop-next : goal.invariant-loop-next

@@ -1,5 +1,5 @@
 use Rattle.std.proofs.Common.{◌≡◌, false, length}
-use Rattle.gx_model.specs.Items.{items_of}
+use Rattle.gx_model.specs.Streams.Items.{items_of}
 use Rattle.gx_stream.specs.FirstItems.{IsEndOf}
 use Rattle.gx_where.specs.Rests.{Reaches, without_first}
 use Rattle.gx_where.proofs.rest.rest_behind.Given as goal

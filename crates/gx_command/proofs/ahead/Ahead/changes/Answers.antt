@@ -1,7 +1,7 @@
 use Rattle.std.proofs.Common.{arith}
 use Rattle.std.proofs.lemmas.List.{map-append}
 use Rattle.std.proofs.lemmas.Result.{err_from_is_err_and}
-use Rattle.gx_model.specs.Grammar.{changes}
+use Rattle.gx_model.specs.Streams.Grammar.{changes}
 use Rattle.gx_command.specs.Bodies.{next_change}
 use Rattle.gx_command.specs.Views.{shown_change}
 use Rattle.gx_command.proofs.Unrolled.{changes_unrolled, collects_one, collects_all, collects_fails}

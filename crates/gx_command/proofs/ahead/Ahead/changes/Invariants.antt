@@ -1,5 +1,5 @@
 use Rattle.std.proofs.Common.{◌≤◌, map}
-use Rattle.gx_model.specs.Grammar.{changes}
+use Rattle.gx_model.specs.Streams.Grammar.{changes}
 use Rattle.gx_command.specs.Ahead.{to_come, most}
 use Rattle.gx_command.specs.Views.{shown_change}
 use Rattle.gx_command.proofs.Unrolled.{Collects}

@@ -1,5 +1,5 @@
 use Rattle.std.proofs.lemmas.Result.{err_from_is_err_and}
-use Rattle.gx_model.specs.Grammar.{commit_at}
+use Rattle.gx_model.specs.Streams.Grammar.{commit_at}
 use Rattle.gx_command.specs.Views.{shown_commit}
 use Rattle.gx_command.proofs.Sequences.{first_fails, then_reads, all_read}
 use Rattle.gx_command.proofs.ahead.Ahead.commit.Goals as goal

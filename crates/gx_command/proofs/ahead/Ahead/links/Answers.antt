@@ -1,6 +1,6 @@
 use Rattle.std.proofs.Common.{◌≤◌, arith}
 use Rattle.std.proofs.lemmas.Result.{err_from_is_err_and}
-use Rattle.gx_model.specs.Grammar.{links_at}
+use Rattle.gx_model.specs.Streams.Grammar.{links_at}
 use Rattle.gx_command.specs.Ahead.{most}
 use Rattle.gx_command.specs.Bodies.{shown_links}
 use Rattle.gx_command.proofs.Sequences.{first_fails, then_reads, all_read, falls_not}

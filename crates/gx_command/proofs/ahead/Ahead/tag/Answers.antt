@@ -1,5 +1,5 @@
 use Rattle.std.proofs.lemmas.Result.{err_from_is_err_and}
-use Rattle.gx_model.specs.Grammar.{tag_at}
+use Rattle.gx_model.specs.Streams.Grammar.{tag_at}
 use Rattle.gx_command.proofs.Sequences.{first_fails, then_reads}
 use Rattle.gx_command.proofs.ahead.Ahead.tag.Goals as goal
 

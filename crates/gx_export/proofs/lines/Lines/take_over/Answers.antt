@@ -1,6 +1,6 @@
 use Rattle.std.proofs.Common.{◌≡◌, ◌<◌, ◌∙◌, ◌++◌, length, slice_range, refl, ap, sym, subst, arith}
 use Rattle.std.specs.Prelude.{IfSome}
-use Rattle.gx_model.specs.Paths.{path_of}
+use Rattle.gx_model.specs.Texts.Paths.{path_of}
 use Rattle.gx_tree.specs.Lists.{below}
 use Rattle.gx_export.specs.FileTexts.{AreKept, IsKept, IsLinesOf, StandsIn}
 use Rattle.gx_export.proofs.Keeping.{all_item, item_same, kept_longer}

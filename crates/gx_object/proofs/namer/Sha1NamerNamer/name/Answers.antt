@@ -1,6 +1,6 @@
 use Rattle.std.proofs.Common.{◌≡◌, ℕ, List, [], ◌∷◌, ◌++◌, length, decimal, ap, ◌∙◌, append_assoc}
 use Rattle.sha1.specs.Sha1.{sha1}
-use Rattle.gx_model.specs.Naming.{kind_word, record_text}
+use Rattle.gx_model.specs.Objects.Naming.{kind_word, record_text}
 use Rattle.gx_model.specs.declared.objects.Kind.{Kind}
 use Rattle.gx_object.proofs.namer.Sha1NamerNamer.name.Goals as goal
 

@@ -1,8 +1,8 @@
 use Rattle.std.proofs.Common.{arith, ◌++◌, ◌∷◌, [], map, take, sym, subst, ap, ◌∙◌}
 use Rattle.gx_model.specs.Histories.{Record, Records, record_for, with_one}
-use Rattle.gx_model.specs.HistoryOf.{named_values, value_in}
-use Rattle.gx_model.specs.RepositoryLaws.{values_of}
-use Rattle.gx_model.specs.Sound.{Holds, IsSound, Keeps}
+use Rattle.gx_model.specs.Records.HistoryOf.{named_values, value_in}
+use Rattle.gx_model.specs.Laws.RepositoryLaws.{values_of}
+use Rattle.gx_model.specs.Records.Sound.{Holds, IsSound, Keeps}
 use Rattle.gx_model.proofs.Puts.{front_put}
 use Rattle.gx_repo.specs.Additions.{HasValues}
 use Rattle.gx_repo.specs.GivenBytes.{bytes_given}

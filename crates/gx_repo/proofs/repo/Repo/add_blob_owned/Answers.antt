@@ -1,9 +1,9 @@
 use Rattle.std.proofs.Common.{map, sym, subst}
 use Rattle.gx_model.specs.declared.objects.Kind.TheVariants as kinds
 use Rattle.gx_model.specs.Histories.{Records, record_for, with_one}
-use Rattle.gx_model.specs.Values.{blob_value}
-use Rattle.gx_model.specs.RepositoryLaws.{values_of}
-use Rattle.gx_model.specs.Sound.{HasShortPaths, Holds, IsSound, Keeps}
+use Rattle.gx_model.specs.Histories.Values.{blob_value}
+use Rattle.gx_model.specs.Laws.RepositoryLaws.{values_of}
+use Rattle.gx_model.specs.Records.Sound.{HasShortPaths, Holds, IsSound, Keeps}
 use Rattle.gx_model.proofs.Puts.{front_put}
 use Rattle.gx_repo.specs.Additions.{HasValues}
 use Rattle.gx_repo.specs.Refs.{kept}

@@ -1,11 +1,11 @@
 use Rattle.std.proofs.Common.{◌≡◌, sym, subst}
 use Rattle.std.specs.Prelude.{IfOk}
 use Rattle.gx_model.specs.Histories.{with_one}
-use Rattle.gx_model.specs.HistoryOf.{commit_of_parts, named_values}
+use Rattle.gx_model.specs.Records.HistoryOf.{commit_of_parts, named_values}
 use Rattle.gx_model.specs.Objects.{IsCommitText}
 use Rattle.gx_model.specs.Records.{name_of}
-use Rattle.gx_model.specs.RepositoryLaws.{values_of}
-use Rattle.gx_model.specs.Values.{commit_value}
+use Rattle.gx_model.specs.Laws.RepositoryLaws.{values_of}
+use Rattle.gx_model.specs.Histories.Values.{commit_value}
 use Rattle.gx_model.proofs.BodiesReadBack.{commit_read}
 use Rattle.gx_object.specs.Parts.{commit_parts}
 use Rattle.gx_repo.specs.Additions.{HasValues}

@@ -1,9 +1,9 @@
 use Rattle.std.proofs.Common.{map, sym, subst}
 use Rattle.gx_model.specs.Histories.{Records, with_tree}
-use Rattle.gx_model.specs.HistoryOf.{contents_of, named_values}
-use Rattle.gx_model.specs.RepositoryLaws.{values_of}
+use Rattle.gx_model.specs.Records.HistoryOf.{contents_of, named_values}
+use Rattle.gx_model.specs.Laws.RepositoryLaws.{values_of}
 use Rattle.gx_model.specs.declared.objects.Kind.TheVariants as kinds
-use Rattle.gx_model.specs.Sound.{Holds, IsSound, Keeps}
+use Rattle.gx_model.specs.Records.Sound.{Holds, IsSound, Keeps}
 use Rattle.gx_repo.specs.Additions.{HasValues}
 use Rattle.gx_repo.specs.Refs.{kept}
 use Rattle.gx_repo.proofs.Additions.{trees_grown}

@@ -2,7 +2,7 @@ use Rattle.std.proofs.Common.{◌≡◌, Some, None, map, sym, ap, subst, ◌∙
 use Rattle.std.specs.Prelude.{not, if◌then◌else◌}
 use Rattle.gx_model.specs.declared.faults.Fault.TheVariants.{WrongKind}
 use Rattle.gx_model.specs.Histories.{Records}
-use Rattle.gx_model.specs.Publishing.{change_fault}
+use Rattle.gx_model.specs.Records.Publishing.{change_fault}
 use Rattle.gx_repo.specs.Refs.{asked, kept}
 use Rattle.gx_model.proofs.HeldObjects.{IsShown, is_shown, tag_shown}
 use Rattle.gx_model.proofs.ChangedRefs.{fault_shown}

@@ -1,5 +1,5 @@
 use Rattle.std.proofs.Common.{◌≡◌, map, drop}
-use Rattle.gx_model.specs.Publishing.{changes_fault}
+use Rattle.gx_model.specs.Records.Publishing.{changes_fault}
 use Rattle.gx_repo.specs.Refs.{asked}
 use Rattle.gx_repo.proofs.repo.Repo.check_all.Given as goal
 

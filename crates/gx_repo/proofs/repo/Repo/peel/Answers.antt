@@ -1,7 +1,7 @@
 use Rattle.std.proofs.Common.{◌≡◌, Some, map, subst}
 use Rattle.std.specs.Option.{option_map}
 use Rattle.gx_model.specs.Histories.{Records}
-use Rattle.gx_model.specs.Lookups.{commit_named}
+use Rattle.gx_model.specs.Records.Lookups.{commit_named}
 use Rattle.gx_repo.specs.Refs.{kept}
 use Rattle.gx_model.proofs.HeldObjects.{IsShown, commit_peeled, is_shown, tag_peeled}
 use Rattle.gx_repo.proofs.repo.Repo.peel.Goals as goal

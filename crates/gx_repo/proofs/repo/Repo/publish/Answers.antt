@@ -1,8 +1,8 @@
 use Rattle.std.proofs.Common.{◌≡◌, map, take, drop, length, ◌++◌, sym, ap, subst, ◌∙◌, rules}
 use Rattle.std.proofs.Math.Seq.{take-append_seam}
 use Rattle.gx_model.specs.Histories.{Records}
-use Rattle.gx_model.specs.Publishing.{with_changes}
-use Rattle.gx_model.specs.Sound.{IsSound}
+use Rattle.gx_model.specs.Records.Publishing.{with_changes}
+use Rattle.gx_model.specs.Records.Sound.{IsSound}
 use Rattle.gx_repo.specs.Refs.{asked, kept}
 use Rattle.gx_model.proofs.ChangedRefs.{published_is_sound}
 use Rattle.gx_repo.proofs.PublishedRefs.{not_refused}

@@ -1,5 +1,5 @@
 use Rattle.std.proofs.Common.{sym, subst}
-use Rattle.gx_model.specs.Sound.{IsNamedMap}
+use Rattle.gx_model.specs.Records.Sound.{IsNamedMap}
 use Rattle.gx_model.proofs.NamedMaps.{named_kept}
 use Rattle.gx_repo_examples.proofs.repositories.calls.add_tree.Goals as goal
 

@@ -1,7 +1,7 @@
 use Rattle.std.proofs.Common.{map, drop}
 use Rattle.std.specs.List.{AllByRecursion}
 use Rattle.gx_model.specs.declared.objects.Kind.TheVariants as kinds
-use Rattle.gx_model.specs.Sound.{Holds}
+use Rattle.gx_model.specs.Records.Sound.{Holds}
 use Rattle.gx_repo_examples.proofs.repositories.calls.are_held.Given as goal
 
 abbrev pub invariant-loop-name : goal.invariant-loop-name

@@ -1,5 +1,5 @@
 use Rattle.std.proofs.Common.{rules, ◌≡◌, subst}
-use Rattle.gx_model.specs.Sound.{Holds}
+use Rattle.gx_model.specs.Records.Sound.{Holds}
 use Rattle.gx_model.proofs.HeldObjects.{held_shown, is_shown}
 use Rattle.gx_repo_examples.proofs.repositories.calls.is_held.Goals as goal
 

@@ -1,4 +1,4 @@
-use Rattle.gx_model.specs.Sound.{IsNamedMap}
+use Rattle.gx_model.specs.Records.Sound.{IsNamedMap}
 use Rattle.gx_repo_examples.proofs.repositories.sessions.wrong_row.Given as goal
 
 abbrev pub invariant-loop-place : goal.invariant-loop-place

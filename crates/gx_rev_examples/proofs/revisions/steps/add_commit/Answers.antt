@@ -1,5 +1,5 @@
 use Rattle.std.proofs.Common.{sym, subst}
-use Rattle.gx_model.specs.Sound.{IsNamedMap}
+use Rattle.gx_model.specs.Records.Sound.{IsNamedMap}
 use Rattle.gx_model.proofs.NamedMaps.{named_kept}
 use Rattle.gx_rev_examples.proofs.revisions.steps.add_commit.Goals as goal
 

@@ -1,4 +1,4 @@
-use Rattle.gx_model.specs.Sound.{IsNamedMap}
+use Rattle.gx_model.specs.Records.Sound.{IsNamedMap}
 use Rattle.gx_rev_examples.proofs.revisions.steps.are_done.Given as goal
 
 abbrev pub invariant-loop-step : goal.invariant-loop-step

@@ -1,5 +1,5 @@
 use Rattle.std.proofs.Common.{◌≡◌, map, sym, ap, subst, ◌∙◌}
-use Rattle.gx_model.specs.Lookups.{records_begun_by}
+use Rattle.gx_model.specs.Records.Lookups.{records_begun_by}
 use Rattle.gx_store.specs.Objects.{held}
 use Rattle.gx_store.specs.Prefixes.{prefix_of}
 use Rattle.gx_store.specs.declared.prefix.Prefix.TheVariants.{Absent}

@@ -1,6 +1,6 @@
 use Rattle.std.proofs.Common.{option_map, sym, ap, ◌∙◌}
 use Rattle.gx_model.specs.Histories.{object_of}
-use Rattle.gx_model.specs.Growth.{record_named}
+use Rattle.gx_model.specs.Records.Growth.{record_named}
 use Rattle.gx_store.specs.Stores.{seen}
 use Rattle.gx_store.proofs.Keys.{found, under}
 use Rattle.gx_store.proofs.store.Store.get.Goals as goal

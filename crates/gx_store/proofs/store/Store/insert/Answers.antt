@@ -2,7 +2,7 @@ use Rattle.std.proofs.Common.{◌≡◌, map, Some, sym, ap, subst, ◌∙◌, r
 use Rattle.std.proofs.lemmas.List.{map_push}
 use Rattle.indexmap.proofs.CallerLemmas.{insert_entry-new}
 use Rattle.indexmap.specs.IndexMap.{keys}
-use Rattle.gx_model.specs.Growth.{put}
+use Rattle.gx_model.specs.Records.Growth.{put}
 use Rattle.gx_object.specs.contracts.name.NamePartialEq.TheImpl as equality
 use Rattle.gx_store.specs.Stores.{AreHeld}
 use Rattle.gx_store.specs.Chains.{AreFronts}

@@ -1,6 +1,6 @@
 use Rattle.std.proofs.Common.{◌≡◌, map, Some, None, sym, ap, subst, ◌∙◌, refl, option_map, true≢false}
 use Rattle.gx_model.specs.Histories.{Record}
-use Rattle.gx_model.specs.Growth.{put, record_named}
+use Rattle.gx_model.specs.Records.Growth.{put, record_named}
 use Rattle.gx_model.proofs.GrownRecords.{put_held}
 use Rattle.gx_store.specs.Objects.{held}
 use Rattle.gx_store.proofs.Keys.{found, under}

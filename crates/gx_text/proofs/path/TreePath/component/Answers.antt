@@ -1,7 +1,7 @@
 use Rattle.std.proofs.Common.{◌≡◌, ℕ, ◌+◌, ◌-◌, ◌<◌, ◌≤◌, true, subst, ap, length, List, [], get_or, take, drop, Fits, w64, Ok, refl, ◌∙◌, arith, rules}
 use Rattle.std.proofs.lemmas.Grind.{get_or_default_zero}
 use Rattle.gx_model.specs.Texts.{Bytes}
-use Rattle.gx_model.specs.Paths.{parts_of, path_of}
+use Rattle.gx_model.specs.Texts.Paths.{parts_of, path_of}
 use Rattle.gx_text.specs.TreePaths.{is_path, component_ends}
 use Rattle.gx_text.proofs.Components.{length-component_ends, text_is_path, text_is_short, placed, stands_within, stands_there, start_in, start_first, start_later, Stands}
 use Rattle.gx_text.proofs.path.TreePath.component.Goals as goal

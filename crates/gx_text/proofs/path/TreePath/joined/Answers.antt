@@ -1,5 +1,5 @@
 use Rattle.std.proofs.Common.{sym, ap, ◌∙◌}
-use Rattle.gx_model.specs.Paths.{path_text}
+use Rattle.gx_model.specs.Texts.Paths.{path_text}
 use Rattle.gx_model.proofs.PathTexts.{text_of_parts}
 use Rattle.gx_text.proofs.path.TreePath.joined.Goals as goal
 

@@ -1,5 +1,5 @@
 use Rattle.std.proofs.Common.{◌≡◌, Ok, ap, sym, ◌∙◌}
-use Rattle.gx_model.specs.Paths.{parts_of, path_of}
+use Rattle.gx_model.specs.Texts.Paths.{parts_of, path_of}
 use Rattle.gx_text.proofs.Rests.{used, quoted_path}
 use Rattle.gx_text.proofs.path.TreePath.read_quoted.Goals as goal
 

@@ -1,6 +1,6 @@
 use Rattle.gx_tree.proofs.Homes.{items_are_those, entries_at_home, files_same}
 use Rattle.std.proofs.Common.{◌+◌, drop, sym, ap, ◌∙◌, arith, subst}
-use Rattle.gx_model.specs.Files.{sub_map}
+use Rattle.gx_model.specs.Histories.Files.{sub_map}
 use Rattle.gx_tree.specs.Homes.{AreAtHome}
 use Rattle.gx_tree.specs.Views.{option_kept, seen_all}
 use Rattle.gx_tree.proofs.Below.{kept_step, taken_end, taken_further}

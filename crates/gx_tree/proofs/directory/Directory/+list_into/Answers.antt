@@ -1,7 +1,7 @@
 use Rattle.gx_tree.proofs.Homes.{items_are_those, files_same}
 use Rattle.std.proofs.Common.{◌≡◌, ◌<◌, arith, true, rules, refl, ap, ◌∙◌}
 use Rattle.std.specs.List.{list_all}
-use Rattle.gx_model.specs.Paths.{is_component, is_short}
+use Rattle.gx_model.specs.Texts.Paths.{is_component, is_short}
 use Rattle.gx_tree.specs.Components.{bytes_of}
 use Rattle.gx_tree.specs.Nodes.{components, file, folder}
 use Rattle.gx_tree.specs.Lists.{below}

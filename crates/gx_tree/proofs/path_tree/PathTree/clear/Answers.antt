@@ -1,5 +1,5 @@
 use Rattle.std.proofs.Common.{sym, subst}
-use Rattle.gx_model.specs.NameMaps.{IsNameMap}
+use Rattle.gx_model.specs.Objects.NameMaps.{IsNameMap}
 use Rattle.gx_tree.proofs.NamedFiles.{no_names}
 use Rattle.gx_tree.proofs.path_tree.PathTree.clear.Goals as goal
 

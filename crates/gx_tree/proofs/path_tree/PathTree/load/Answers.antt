@@ -1,5 +1,5 @@
 use Rattle.std.proofs.Common.{Ok, sym, ap, ◌∙◌, subst}
-use Rattle.gx_model.specs.NameMaps.{IsNameMap}
+use Rattle.gx_model.specs.Objects.NameMaps.{IsNameMap}
 use Rattle.gx_tree.proofs.HeldLevels.{within_all}
 use Rattle.gx_tree.proofs.path_tree.PathTree.load.Goals as goal
 

@@ -1,7 +1,7 @@
 use Rattle.std.proofs.Common.{◌<◌, ◌∷◌, [], length, Ok, refl, sym, ap, ◌∙◌, arith, subst}
 use Rattle.gx_model.specs.Objects.{is_name}
 use Rattle.gx_tree.specs.Named.{IsAtHome}
-use Rattle.gx_model.specs.NameMaps.{IsNameMap}
+use Rattle.gx_model.specs.Objects.NameMaps.{IsNameMap}
 use Rattle.gx_tree.specs.Steps.{grafted}
 use Rattle.gx_tree.proofs.Homes.{files_same}
 use Rattle.gx_tree.proofs.NamedFiles.{modified_is, names-modified}

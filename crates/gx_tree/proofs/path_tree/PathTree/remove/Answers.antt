@@ -1,7 +1,7 @@
 use Rattle.std.proofs.Common.{sym, ap, ◌∙◌, subst}
-use Rattle.gx_model.specs.Edits.{removed}
+use Rattle.gx_model.specs.Histories.Edits.{removed}
 use Rattle.gx_tree.specs.Named.{IsAtHome}
-use Rattle.gx_model.specs.NameMaps.{IsNameMap}
+use Rattle.gx_model.specs.Objects.NameMaps.{IsNameMap}
 use Rattle.gx_tree.proofs.Homes.{files_same}
 use Rattle.gx_tree.proofs.NamedFiles.{names-removed}
 use Rattle.gx_tree.proofs.path_tree.PathTree.remove.Goals as goal

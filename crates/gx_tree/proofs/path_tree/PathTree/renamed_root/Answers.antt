@@ -1,11 +1,11 @@
 use Rattle.std.proofs.Common.{◌≡◌, Ok, Err, refl, sym, ap, ◌∙◌, subst}
-use Rattle.gx_model.specs.Edits.{renamed, removed, unless}
+use Rattle.gx_model.specs.Histories.Edits.{renamed, removed, unless}
 use Rattle.gx_model.specs.Faults.{IsFaultOf}
-use Rattle.gx_model.specs.Files.{sub_map}
+use Rattle.gx_model.specs.Histories.Files.{sub_map}
 use Rattle.gx_tree.specs.declared.fault.TreeFault.TheVariants.{NoSuchPath}
 use Rattle.gx_tree.specs.Copies.{kept_held}
 use Rattle.gx_tree.specs.Faults.{fault_of, Refuses}
-use Rattle.gx_model.specs.NameMaps.{IsNameMap}
+use Rattle.gx_model.specs.Objects.NameMaps.{IsNameMap}
 use Rattle.gx_tree.specs.Named.{IsAtHome, NamedTree}
 use Rattle.gx_tree.specs.Nodes.{kept_map}
 use Rattle.gx_tree.specs.Steps.{grafted}

@@ -1,5 +1,5 @@
 use Rattle.std.proofs.Common.{subst}
-use Rattle.gx_model.specs.NameMaps.{IsHeldTree}
+use Rattle.gx_model.specs.Objects.NameMaps.{IsHeldTree}
 use Rattle.gx_tree.proofs.HeldRecords.{all_held}
 use Rattle.gx_tree.proofs.path_tree.PathTree.write.Goals as goal
 

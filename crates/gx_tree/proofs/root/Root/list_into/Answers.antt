@@ -1,7 +1,7 @@
 use Rattle.std.proofs.Common.{◌≡◌, ◌++◌, sym, ap, ◌∙◌, map, subst}
 use Rattle.std.specs.List.{list_all}
 use Rattle.std.specs.Result.{OnOk}
-use Rattle.gx_model.specs.Paths.{is_short}
+use Rattle.gx_model.specs.Texts.Paths.{is_short}
 use Rattle.gx_tree.specs.Lists.{below, listed}
 use Rattle.gx_tree.specs.Views.{root_tree}
 use Rattle.gx_tree.proofs.Listed.{below_root}

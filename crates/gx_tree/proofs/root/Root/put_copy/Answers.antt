@@ -1,8 +1,8 @@
 use Rattle.std.proofs.Common.{◌≡◌, None, Ok, refl, sym, ap, ◌∙◌, arith, subst}
 use Rattle.std.specs.Prelude.{IsOk}
 use Rattle.std.proofs.lemmas.Bool.{and_parts}
-use Rattle.gx_model.specs.Edits.{copied}
-use Rattle.gx_model.specs.Files.{sub_map}
+use Rattle.gx_model.specs.Histories.Edits.{copied}
+use Rattle.gx_model.specs.Histories.Files.{sub_map}
 use Rattle.gx_tree.specs.Copies.{graft_fault, kept_held}
 use Rattle.gx_tree.specs.Nodes.{IsKept, file, kept_map}
 use Rattle.gx_tree.proofs.CopyLaws.{copied_there, file_fits, if_refused}

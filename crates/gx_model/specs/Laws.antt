@@ -1,0 +1,11 @@
+-- What holds of the definitions: each law is the contract of a public function with an empty body.
+pub mod CommandLaws
+pub mod ExportLaws
+pub mod FileMapLaws
+pub mod Headline
+pub mod HistoryLaws
+pub mod ObjectLaws
+pub mod RepositoryLaws
+pub mod StoreLaws
+pub mod StreamLaws
+pub mod TextLaws

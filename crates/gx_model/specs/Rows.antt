@@ -1,0 +1,8 @@
+-- Worked rows: what the definitions give for texts that are spelled out. Each holds by computing.
+pub mod CommandShapeRows
+pub mod ExportRows
+pub mod ImportRows
+pub mod RevisionRows
+pub mod RowTexts
+pub mod StoreRows
+pub mod StreamRows

@@ -1,0 +1,3 @@
+-- Store files: their texts, and how these are read.
+pub mod StoreReading
+pub mod StoreText

@@ -1,0 +1,86 @@
+-- Gitlinks of forty zeros: no command of a stream gives one, so that an import makes no commit with one, and its export can be
+-- imported.
+-- Source: git-fast-import(1), "filemodify".
+use Rattle.std.specs.Prelude.{◌≡◌, ℕ, ◌<◌, ◌^◌, Bool, false, List, [], length, Option, ⊤}
+use Rattle.std.specs.List.{AllByRecursion, filter_map}
+use Rattle.gx_model.specs.declared.faults.Fault.{Fault}
+use Rattle.gx_model.specs.declared.faults.Fault.TheVariants.{Unsupported}
+use Rattle.gx_model.specs.declared.objects.Kind.{Kind}
+use Rattle.gx_model.specs.declared.objects.Mode.TheVariants.{Gitlink}
+use Rattle.gx_model.specs.Texts.{Bytes}
+use Rattle.gx_model.specs.Streams.Items.{Stream}
+use Rattle.gx_model.specs.Streams.Commands as command
+use Rattle.gx_model.specs.Streams.Commands.{Change, Command, Inline, Mark, Modify, Object}
+use Rattle.gx_model.specs.Streams.Grammar.{commands_of, is_null}
+use Rattle.gx_model.specs.Histories.{History, IsHistory}
+use Rattle.gx_model.specs.Revisions.Ranges.{commit_of}
+use Rattle.gx_model.specs.Export.{export_text}
+use Rattle.gx_model.specs.Replay.{Kept, Report, finished, refused, replayed, replayed_text, start}
+use Rattle.gx_model.specs.Laws.ExportLaws.{HasNoNullGitlink, HaveNoNullGitlink, IsAgain, exported_report, nothing}
+
+-- ---- commands
+
+-- a gitlink is given by digits, and these aren't forty zeros
+abbrev pub GivesNoNullGitlink : Change → Type 0
+GivesNoNullGitlink (Modify Gitlink (Object digits) path) = is_null digits ≡ false
+GivesNoNullGitlink (Modify Gitlink (Mark n) path) = ⊥
+GivesNoNullGitlink (Modify Gitlink (Inline bytes) path) = ⊥
+GivesNoNullGitlink _ = ⊤
+
+-- no change of the command gives a gitlink of forty zeros
+abbrev pub BringsNoNullGitlink : Command → Type 0
+BringsNoNullGitlink (command.Commit c) = AllByRecursion GivesNoNullGitlink c.changes
+BringsNoNullGitlink _ = ⊤
+
+-- ---- histories
+
+-- no commit has a gitlink of forty zeros, whether refs reach it or not
+abbrev pub HoldsNoNullGitlink : History → Type 0
+HoldsNoNullGitlink h = HaveNoNullGitlink (filter_map commit_of h.values)
+
+-- ---- laws
+
+-- where no commit has one, none that refs reach has
+abbrev pub HoldsTellsHas : Type 0
+HoldsTellsHas = (h : History) → HoldsNoNullGitlink h → HasNoNullGitlink h
+
+-- no stream has a command that brings one
+abbrev pub StreamsBringNone : Type 0
+StreamsBringNone = (s : Stream) → AllByRecursion BringsNoNullGitlink (commands_of s).list
+
+-- and commands that bring none leave none where there was none
+abbrev pub ReplaysKeepNone : Type 0
+ReplaysKeepNone =
+    (name : Kind → Bytes → Bytes) (h k : History) (commands : List Command)
+    (end : Option Fault) (n : ℕ) (text : Bytes) (report : Report)
+    → IsHistory h → HoldsNoNullGitlink h → AllByRecursion BringsNoNullGitlink commands
+    → replayed name n (start h) commands end ≡ finished k text report → HoldsNoNullGitlink k
+
+-- nor where they are refused
+abbrev pub RefusalsKeepNone : Type 0
+RefusalsKeepNone =
+    (name : Kind → Bytes → Bytes) (h : History) (commands : List Command)
+    (end : Option Fault) (n number : ℕ) (fault : Fault) (text : Bytes) (kept : Kept)
+    → IsHistory h → HoldsNoNullGitlink h → AllByRecursion BringsNoNullGitlink commands
+    → replayed name n (start h) commands end ≡ refused number fault text kept → HoldsNoNullGitlink kept.history
+
+-- so no text brings one
+abbrev pub TextsBringNone : Type 0
+TextsBringNone =
+    (name : Kind → Bytes → Bytes) (h k : History) (given : Bytes) (fails : Bool) (text : Bytes) (report : Report)
+    → IsHistory h → HoldsNoNullGitlink h → replayed_text name h given fails ≡ finished k text report → HoldsNoNullGitlink k
+
+-- Whatever text gives a history from nothing: that history's export, read and replayed from nothing, gives the same refs, exactly
+-- what these reach, and the commits in their order.
+abbrev pub TextsComeBack : Type 0
+TextsComeBack =
+    (name : Kind → Bytes → Bytes) (h : History) (given : Bytes) (fails : Bool) (text : Bytes) (report : Report)
+    → replayed_text name nothing given fails ≡ finished h text report → length (export_text h) < 2 ^ 64
+    → (k : History) × IsAgain h k × (replayed_text name nothing (export_text h) false ≡ finished k [] (exported_report h k))
+
+-- Where refs reach one, which no text brings but a store may hold, the history's export is refused: what it writes can't be read.
+abbrev pub NullGitlinksAreRefused : Type 0
+NullGitlinksAreRefused =
+    (name : Kind → Bytes → Bytes) (h : History)
+    → IsHistory h → (HasNoNullGitlink h → ⊥) → length (export_text h) < 2 ^ 64
+    → (n : ℕ) × (replayed_text name nothing (export_text h) false ≡ refused n Unsupported [] (start nothing).kept)

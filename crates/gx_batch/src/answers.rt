@@ -116,23 +116,11 @@ fn make_line<A: Allocator>(
     buffer.clear();
     buffer.extend_from_slice(name.hex().as_slice())?;
     buffer.push(b' ')?;
-    buffer.extend_from_slice(kind_word(kind))?;
+    buffer.extend_from_slice(kind.word().as_bytes())?;
     buffer.push(b' ')?;
     buffer.extend_from_slice(digits.format(size).as_bytes())?;
     buffer.push(b'\n')?;
     Ok(())
-}
-
-/// The word of a kind.
-fn kind_word(kind: Kind) -> &'static [u8]
-    ensures { result.now ≡ kind_word kind }
-{
-    match kind {
-        Kind::Blob => b"blob",
-        Kind::Tree => b"tree",
-        Kind::Commit => b"commit",
-        Kind::Tag => b"tag",
-    }
 }
 
 /// The body of a held object.

@@ -1,6 +1,6 @@
 //! Store texts of version 1, which are read and no longer written.
 
-use gx_object::{Kind, Sha1Namer};
+use gx_object::Sha1Namer;
 use gx_repo::Repo;
 use std::alloc::{AllocError, Allocator};
 
@@ -26,7 +26,7 @@ fn put_objects<A: Allocator + Copy>(
     text.extend_from_slice(line.as_bytes())?;
     for place in 0..count {
         if let Some((_, kind, body)) = repo.store().record(place) {
-            let line = format!(in alloc; "{} {}\n", word(kind), body.len())?;
+            let line = format!(in alloc; "{} {}\n", kind.word(), body.len())?;
             text.extend_from_slice(line.as_bytes())?;
             text.extend_from_slice(body)?;
             text.push(b'\n')?;
@@ -49,13 +49,4 @@ fn put_refs<A: Allocator + Copy>(
         text.push(b'\n')?;
     }
     Ok(())
-}
-
-fn word(kind: Kind) -> &'static str {
-    match kind {
-        Kind::Blob => "blob",
-        Kind::Tree => "tree",
-        Kind::Commit => "commit",
-        Kind::Tag => "tag",
-    }
 }

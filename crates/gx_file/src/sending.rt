@@ -8,7 +8,6 @@ ghost use Rattle.gx_model.specs.Stores.StoreReading.{store_of};
 ghost use Rattle.gx_model.specs.Stores.StoreText.{length_text, store_text, stored_record, stored_ref};
 ghost use Rattle.gx_file.specs.Sending.{HaveLengths, Sent};
 
-use crate::writing::kind_word;
 use gx_object::{Kind, Name, Namer};
 use gx_repo::Repo;
 use gx_text::{Failed, Sink, send};
@@ -59,7 +58,7 @@ fn send_record<W: Sink>(sink: &mut W, name: &Name, kind: Kind, body: &[u8]) -> R
     ensures text { Sent (stored_record Two (record { name = name.now.bytes; kind = kind; body = body.now })) (W.taken sink.old) (W.taken sink.new) result }
     ensures length { length body.now < 2 ^ 64 }
 {
-    send_body(sink, kind_word(kind), name, body)
+    send_body(sink, kind.word().as_bytes(), name, body)
 }
 
 /// Sends a body behind its line, which begins with this word.

@@ -2,7 +2,6 @@
 ghost use Rattle.std.specs.Prelude.{◌≡◌, [], ◌∷◌, ◌++◌, Ok, codes, length, IfOk, OnOk};
 ghost use Rattle.std.specs.List.{flat_map};
 ghost use Rattle.std.specs.Fmt.{decimal};
-ghost use Rattle.gx_model.specs.Objects.Naming.{kind_word};
 ghost use Rattle.gx_model.specs.Objects.{line};
 ghost use Rattle.gx_model.specs.declared.store_versions.Version.TheVariants.{Two};
 ghost use Rattle.gx_model.specs.Stores.StoreReading.{store_of};
@@ -62,7 +61,7 @@ fn put_record<A: Allocator + Copy>(
 ) -> Result<(), AllocError>
     ensures { OnOk result (text.new.items ≡ text.old.items ++ stored_record Two (record { name = name.now.bytes; kind = kind; body = body.now })) }
 {
-    put_number(text, kind_word(kind), body.len())?;
+    put_number(text, kind.word().as_bytes(), body.len())?;
     text.push(b' ')?;
     text.extend_from_slice(name.hex().as_slice())?;
     text.push(b'\n')?;
@@ -126,16 +125,4 @@ fn put_number<A: Allocator + Copy>(
     text.push(b' ')?;
     text.extend_from_slice(digits.format(count).as_bytes())?;
     Ok(())
-}
-
-/// The word of a kind.
-pub(crate) fn kind_word(kind: Kind) -> &'static [u8]
-    ensures { result.now ≡ kind_word kind }
-{
-    match kind {
-        Kind::Blob => b"blob",
-        Kind::Tree => b"tree",
-        Kind::Commit => b"commit",
-        Kind::Tag => b"tag",
-    }
 }

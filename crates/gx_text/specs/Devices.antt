@@ -73,3 +73,7 @@ TookFront was now text = (front : Bytes) × (rest : Bytes) × (text ≡ front ++
 pub record Holding : Type 0 where
   pub taken : Taken
   pub room : ℕ
+
+-- a sink over memory that took nothing yet, and takes so many bytes
+abbrev pub holding_nothing : ℕ → Holding
+holding_nothing room = record { taken = record { bytes = []; failed = false }; room = room }

@@ -1,4 +1,6 @@
 pub mod Devices
+pub mod Buffers
 pub mod TextFaults
 pub mod Idents
 pub mod TreePaths
+pub mod Quoting

@@ -2,7 +2,7 @@
 
 ghost use Rattle.std.specs.Prelude.{◌≡◌, ◌<◌, ◌≤◌, ◌+◌, length, [], Some, IfOk, false, IsOk};
 ghost use Rattle.std.specs.Vec.{vec_len, vec_capacity};
-ghost use Rattle.gx_text.specs.Devices.{Coming, Supply, Pulls, Taken, Holding, Pushes};
+ghost use Rattle.gx_text.specs.Devices.{Coming, Supply, Pulls, Taken, Holding, Pushes, holding_nothing};
 
 use crate::device::{Failed, Sink, Source};
 use std::alloc::{AllocError, Allocator};
@@ -93,10 +93,7 @@ impl<A: Allocator> Model for Held<A> {
 impl<A: Allocator + Copy> Held<A> {
     /// Takes `room` bytes, and then fails. All of its memory is taken here.
     pub fn new(alloc: A, room: usize) -> Result<Held<A>, AllocError>
-        ensures { IfOk result (λ h. h ≡ record {
-          taken = record { bytes = []; failed = false };
-          room = room;
-        }) }
+        ensures { IfOk result (λ held. held ≡ holding_nothing room) }
     {
         Ok(Held {
             bytes: Vec::with_capacity(alloc, room)?,

@@ -1,12 +1,13 @@
 //! Paths in a tree.
 
-ghost use Rattle.std.specs.Prelude.{ℕ, ◌≡◌, ◌≢◌, true, nat_lt, ◌<◌, ◌≤◌, ◌++◌, [], Ok, IsTrue, ◌==◌, length, drop, slice_index_or, IfOk, IsOk, OnOk, OnErr, IfErr, IsErrOf};
+ghost use Rattle.std.specs.Prelude.{ℕ, ◌≡◌, ◌≢◌, true, nat_lt, ◌<◌, ◌≤◌, [], Ok, IsTrue, ◌==◌, length, drop, slice_index_or, IfOk, IsOk, OnErr, IfErr, IsErrOf};
 ghost use Rattle.std.specs.List.{list_all, slice_split};
 ghost use Rattle.gx_model.specs.Faults.{Gives};
 ghost use Rattle.gx_model.specs.Streams.Grammar.{last_path};
 ghost use Rattle.gx_model.specs.Texts.Paths.{is_component, parts_of, path_of, path_text, quoted_of, printed};
 ghost use Rattle.gx_text.specs.declared.fault.TextFault.TheVariants.{OutOfMemory};
 ghost use Rattle.gx_text.specs.TextFaults.{fault_of};
+ghost use Rattle.gx_text.specs.Buffers.{GrowsBy};
 ghost use Rattle.gx_text.specs.TreePaths.{is_path, component_ends};
 
 use crate::fault::TextFault;
@@ -94,7 +95,7 @@ impl<A: Allocator + Copy> TreePath<A> {
     ///
     /// Cost: the length, at most four bytes for each of the path's and two quotes.
     pub fn write_quoted(&self, out: &mut Vec<u8, A>) -> Result<(), TextFault>
-        ensures printed { OnOk result (out.new.items ≡ out.old.items ++ printed (path_text self.now)) }
+        ensures printed { GrowsBy out.old out.new (printed (path_text self.now)) result }
         ensures again { last_path (printed (path_text self.now)) ≡ Ok self.now }
         ensures fault { IfErr result (λ e. e ≡ OutOfMemory) }
         ensures unchanged { OnErr result (out.new.items ≡ out.old.items) }

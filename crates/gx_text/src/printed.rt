@@ -1,9 +1,11 @@
 //! Texts, printed: as they stand, or quoted.
 
-ghost use Rattle.std.specs.Prelude.{ℕ, ◌≡◌, ◌++◌, ◌∷◌, [], length, take, OnOk};
-ghost use Rattle.std.specs.List.{list_all, flat_map};
+ghost use Rattle.std.specs.Prelude.{ℕ, ◌≡◌, length, take};
+ghost use Rattle.std.specs.List.{list_all};
 ghost use Rattle.gx_model.specs.Texts.Paths.{path_of, is_printed_bare, letter_of, printed_byte, printed};
 ghost use Rattle.gx_model.specs.Streams.Grammar.{last_path};
+ghost use Rattle.gx_text.specs.Buffers.{GrowsBy};
+ghost use Rattle.gx_text.specs.Quoting.{printed_quoted};
 
 use std::alloc::{AllocError, Allocator};
 
@@ -13,7 +15,7 @@ pub(crate) fn put_printed<A: Allocator + Copy>(
     out: &mut Vec<u8, A>,
     text: &[u8],
 ) -> Result<(), AllocError>
-    ensures ok { OnOk result (out.new.items ≡ out.old.items ++ printed text.now) }
+    ensures ok { GrowsBy out.old out.new (printed text.now) result }
     ensures front { take (length out.old.items) out.new.items ≡ out.old.items }
     ensures again { last_path (printed text.now) ≡ path_of text.now }
 {
@@ -25,7 +27,7 @@ pub(crate) fn put_printed<A: Allocator + Copy>(
 }
 
 fn put_quoted<A: Allocator + Copy>(out: &mut Vec<u8, A>, text: &[u8]) -> Result<(), AllocError>
-    ensures ok { OnOk result (out.new.items ≡ out.old.items ++ (34 ∷ flat_map printed_byte text.now ++ 34 ∷ [])) }
+    ensures ok { GrowsBy out.old out.new (printed_quoted text.now) result }
     ensures front { take (length out.old.items) out.new.items ≡ out.old.items }
 {
     out.push(b'"')?;
@@ -37,7 +39,7 @@ fn put_quoted<A: Allocator + Copy>(out: &mut Vec<u8, A>, text: &[u8]) -> Result<
 }
 
 fn put_byte<A: Allocator + Copy>(out: &mut Vec<u8, A>, b: u8) -> Result<(), AllocError>
-    ensures ok { OnOk result (out.new.items ≡ out.old.items ++ printed_byte b) }
+    ensures ok { GrowsBy out.old out.new (printed_byte b) result }
     ensures front { take (length out.old.items) out.new.items ≡ out.old.items }
 {
     if is_bare(b) {

@@ -2,9 +2,8 @@
 
 ghost use Rattle.std.specs.Prelude.{ℕ, ◌≡◌, ◌<◌, ◌≤◌, ◌-◌, length, drop, IfOk};
 ghost use Rattle.std.specs.Option.{option_map};
-ghost use Rattle.gx_model.specs.Faults.{Gives};
-ghost use Rattle.gx_model.specs.Texts.Paths.{named, octal_of, escape_at, char_at, unquote_within, unquote, or_bad_path};
-ghost use Rattle.gx_text.specs.TextFaults.{fault_of};
+ghost use Rattle.gx_model.specs.Texts.Paths.{named, octal_of, escape_at, char_at, unquote_within, unquote};
+ghost use Rattle.gx_text.specs.Quoting.{GivesUnquoted};
 
 use crate::fault::TextFault;
 use std::alloc::Allocator;
@@ -14,7 +13,7 @@ pub(crate) fn unquoted<A: Allocator + Copy>(
     alloc: A,
     bytes: &[u8],
 ) -> Result<(Vec<u8, A>, &[u8]), TextFault>
-    ensures { Gives fault_of (λ p. (p.0.items, p.1.now)) result (or_bad_path (unquote bytes.now)) }
+    ensures { GivesUnquoted (unquote bytes.now) result }
 {
     match bytes.split_first() {
         Some((b'"', body)) => unquoted_body(alloc, body),
@@ -27,7 +26,7 @@ fn unquoted_body<A: Allocator + Copy>(
     alloc: A,
     body: &[u8],
 ) -> Result<(Vec<u8, A>, &[u8]), TextFault>
-    ensures { Gives fault_of (λ p. (p.0.items, p.1.now)) result (or_bad_path (unquote_within (length body.now) body.now)) }
+    ensures { GivesUnquoted (unquote_within (length body.now) body.now) result }
 {
     let mut text = Vec::new(alloc);
     let mut rest = body;

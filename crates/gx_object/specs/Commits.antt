@@ -1,13 +1,23 @@
 -- The body of a commit, read from the left.
-use Rattle.std.specs.Prelude.{◌≡◌, ℕ, zero, suc, nat_eq, if◌then◌else◌, List, [], ◌∷◌, length, codes, Option, None, Some, IsTrue}
+use Rattle.std.specs.Prelude.{◌≡◌, ℕ, zero, suc, nat_eq, if◌then◌else◌, List, [], ◌∷◌, map, length, slice_get, codes, Option, None, Some, IsTrue}
 use Rattle.std.specs.List.{flat_map, list_all}
+use Rattle.std.specs.Option.{option_map}
 use Rattle.gx_model.specs.Texts.{Bytes}
 use Rattle.gx_model.specs.Objects.{CommitParts, hex, is_name, line}
 use Rattle.gx_object.specs.Lines.{◌>>=◌, field, ident_field, name_field, or_absent, stripped}
+use Rattle.gx_object.specs.declared.name.Name.{Name}
 
 -- the lines of the parents
 abbrev pub parent_lines : List Bytes → Bytes
 parent_lines names = flat_map (λ n. line (codes "parent") (hex n)) names
+
+-- the bytes of names
+abbrev pub names_of : List Name → List Bytes
+names_of names = map (λ name. name.bytes) names
+
+-- where these are lines of parents, the name in the line at this place is found, or none where there is no such line
+abbrev pub FindsParent : Bytes → ℕ → Option Name → Type 0
+FindsParent lines place found = (names : List Bytes) → IsTrue (list_all is_name names) → lines ≡ parent_lines names → option_map (λ name. name.bytes) found ≡ slice_get names place
 
 abbrev pub with_first : Bytes → List Bytes × Bytes → List Bytes × Bytes
 with_first name rest = (name ∷ rest.0, rest.1)
@@ -35,14 +45,18 @@ encoding_field bytes = do
   a ← field (codes "encoding") bytes
   if nat_eq (length a.0) 0 then None else Some a
 
+-- the encoding, where a line at the front has one, and what follows it
+abbrev pub encoding_of : Bytes → Option Bytes × Bytes
+encoding_of bytes = or_absent (encoding_field bytes) bytes
+
 unfoldable pub commit_of : Bytes → Option CommitParts
 commit_of body = do
   tree ← name_field (codes "tree") body
   author ← ident_field (codes "author") (parents_of tree.1).1
   committer ← ident_field (codes "committer") author.1
-  message ← stripped (10 ∷ []) (or_absent (encoding_field committer.1) committer.1).1
+  message ← stripped (10 ∷ []) (encoding_of committer.1).1
   Some (record {
     tree = tree.0;
     parents = (parents_of tree.1).0;
-    text = record { author = author.0; committer = committer.0; encoding = (or_absent (encoding_field committer.1) committer.1).0; message = message };
+    text = record { author = author.0; committer = committer.0; encoding = (encoding_of committer.1).0; message = message };
   })

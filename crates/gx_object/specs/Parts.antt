@@ -1,19 +1,26 @@
 -- The parts of commits and tags without where they lie in memory.
-use Rattle.std.specs.Prelude.{map}
+use Rattle.std.specs.Prelude.{◌≡◌, Result, IsOkAnd}
 use Rattle.std.specs.Option.{option_map}
 use Rattle.gx_model.specs.Objects.{CommitParts, TagParts}
+use Rattle.gx_model.specs.Texts.{Bytes}
 use Rattle.gx_text.specs.Idents.{ident_bytes}
+use Rattle.gx_object.specs.Commits.{names_of}
+use Rattle.gx_object.specs.Lines.{optional_bytes}
 use Rattle.gx_object.specs.declared.commit.CommitParts.{CommitParts as GivenCommit}
 use Rattle.gx_object.specs.declared.tag.TagParts.{TagParts as GivenTag}
+
+-- where a body is the text of something, that is what is found
+abbrev pub FindsEach : {T E : Type 0} → (T → Bytes → Type 0) → Bytes → Result T E → Type 0
+FindsEach {T} is_text body result = (written : T) → is_text written body → IsOkAnd result (λ found. found ≡ written)
 
 abbrev pub commit_parts : GivenCommit → CommitParts
 commit_parts p = record {
   tree = p.tree.bytes;
-  parents = map (λ n. n.bytes) p.parents.now;
+  parents = names_of p.parents.now;
   text = record {
     author = ident_bytes p.author;
     committer = ident_bytes p.committer;
-    encoding = option_map (λ e. e.now) p.encoding;
+    encoding = optional_bytes p.encoding;
     message = p.message.now;
   };
 }

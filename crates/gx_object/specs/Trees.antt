@@ -1,5 +1,5 @@
 -- The body of a tree, read from the left.
-use Rattle.std.specs.Prelude.{Bool, false, ℕ, zero, suc, nat_lt, List, [], ◌∷◌, length, take, drop, Option, Some, None, if◌then◌else◌}
+use Rattle.std.specs.Prelude.{Bool, false, ℕ, zero, suc, nat_lt, IsTrue, List, [], ◌∷◌, length, take, drop, Option, Some, None, if◌then◌else◌}
 use Rattle.std.specs.Option.{is_some, option_and_then, option_map, unwrap_or}
 use Rattle.gx_model.specs.declared.objects.Mode.{Mode}
 use Rattle.gx_model.specs.declared.objects.Mode.TheVariants.{File, Exec, Link, Gitlink, Dir}
@@ -40,6 +40,10 @@ entries_within (suc n) (b ∷ bytes) = do
 -- an entry has more than 20 bytes, so there are no more entries than bytes
 abbrev pub entries_of : Bytes → Option (List Entry)
 entries_of bytes = entries_within (length bytes) bytes
+
+-- the bytes are entries, to the end
+abbrev pub AreEntries : Bytes → Type 0
+AreEntries bytes = IsTrue (is_some (entries_of bytes))
 
 abbrev pub entries_left : Bytes → List Entry
 entries_left bytes = unwrap_or (entries_of bytes) []

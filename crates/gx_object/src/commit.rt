@@ -1,14 +1,14 @@
 //! The bodies of commits. Source: Pro Git, "Git Objects", and gitglossary(7), "commit object".
 
-ghost use Rattle.std.specs.Prelude.{◌≡◌, ◌++◌, ℕ, List, length, map, slice_get, IsTrue, IfOk, IsOkAnd, OnOk};
+ghost use Rattle.std.specs.Prelude.{◌≡◌, length, slice_get, IsTrue, IfOk, OnOk};
 ghost use Rattle.std.specs.List.{list_all};
 ghost use Rattle.std.specs.Option.{option_map};
-ghost use Rattle.std.specs.Result.{result_ok};
 ghost use Rattle.gx_model.specs.Histories.Values.{is_optional_encoding};
-ghost use Rattle.gx_model.specs.Objects.{CommitParts as Parts, IsCommitText, is_name};
-ghost use Rattle.gx_object.specs.Lines.{or_absent};
-ghost use Rattle.gx_object.specs.Commits.{commit_of, encoding_field, parent_lines, parents_of};
-ghost use Rattle.gx_object.specs.Parts.{commit_parts};
+ghost use Rattle.gx_model.specs.Objects.{IsCommitText, is_name};
+ghost use Rattle.gx_text.specs.Buffers.{GrowsBy};
+ghost use Rattle.gx_object.specs.Lines.{optional_bytes};
+ghost use Rattle.gx_object.specs.Commits.{FindsParent, commit_of, encoding_field, encoding_of, names_of, parent_lines, parents_of};
+ghost use Rattle.gx_object.specs.Parts.{FindsEach, commit_parts};
 
 use crate::line::{append_line, append_optional_line, cut_ident, cut_line, cut_name, strip};
 use crate::{BadObject, Name};
@@ -50,8 +50,8 @@ fn append_parents<A: Allocator + Copy>(
     body: &mut Vec<u8, A>,
     parents: &[Name],
 ) -> Result<(), AllocError>
-    ensures lines { OnOk result (body.new.items ≡ body.old.items ++ parent_lines (map (λ n. n.bytes) parents.now)) }
-    ensures names { OnOk result (IsTrue (list_all is_name (map (λ n. n.bytes) parents.now))) }
+    ensures lines { GrowsBy body.old body.new (parent_lines (names_of parents.now)) result }
+    ensures names { OnOk result (IsTrue (list_all is_name (names_of parents.now))) }
 {
     for parent in parents {
         append_line(body, b"parent", &parent.hex())?;
@@ -150,7 +150,7 @@ impl<'a> CommitView<'a> {
 /// Cost: the length of the body. Takes no memory.
 pub fn decode_commit(body: &[u8]) -> Result<CommitView<'_>, BadObject>
     ensures found { IfOk result (λ parts. IsCommitText parts body.now) }
-    ensures only { (parts : Parts) → IsCommitText parts body.now → IsOkAnd result (λ found. found ≡ parts) }
+    ensures only { FindsEach IsCommitText body.now result }
 {
     read_commit(body).ok_or(BadObject)
 }
@@ -190,8 +190,8 @@ fn split_parents(bytes: &[u8]) -> (&[u8], &[u8])
 
 /// What the line of an encoding has, where there is one, and what follows.
 fn split_encoding(bytes: &[u8]) -> (Option<&[u8]>, &[u8])
-    ensures text { option_map (λ e. e.now) result.0 ≡ (or_absent (encoding_field bytes.now) bytes.now).0 }
-    ensures rest { result.1.now ≡ (or_absent (encoding_field bytes.now) bytes.now).1 }
+    ensures text { optional_bytes result.0 ≡ (encoding_of bytes.now).0 }
+    ensures rest { result.1.now ≡ (encoding_of bytes.now).1 }
 {
     match cut_encoding(bytes) {
         Some((encoding, rest)) => (Some(encoding), rest),
@@ -213,7 +213,7 @@ fn cut_encoding(bytes: &[u8]) -> Option<(&[u8], &[u8])>
 
 /// The name in the line at a place among lines of parents.
 fn parent_at(lines: &[u8], place: usize) -> Option<Name>
-    ensures { (names : List (List ℕ)) → IsTrue (list_all is_name names) → lines.now ≡ parent_lines names → option_map (λ name. name.bytes) result ≡ slice_get names place }
+    ensures { FindsParent lines.now place result }
 {
     if place >= lines.len() / PARENT_LINE {
         return None;

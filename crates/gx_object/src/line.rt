@@ -1,9 +1,10 @@
 //! The lines of the bodies of commits and tags: a word, a space, and the rest of the line.
 
-ghost use Rattle.std.specs.Prelude.{◌≡◌, ◌++◌, OnOk};
+ghost use Rattle.std.specs.Prelude.{◌≡◌};
 ghost use Rattle.std.specs.Option.{option_map};
 ghost use Rattle.gx_model.specs.Objects.{line, optional_line};
-ghost use Rattle.gx_object.specs.Lines.{field, ident_field, name_field, stripped};
+ghost use Rattle.gx_text.specs.Buffers.{GrowsBy};
+ghost use Rattle.gx_object.specs.Lines.{field, ident_field, name_field, optional_bytes, stripped};
 
 use crate::Name;
 use gx_text::{Ident, cut};
@@ -14,7 +15,7 @@ pub(crate) fn append_line<A: Allocator + Copy>(
     word: &[u8],
     rest: &[u8],
 ) -> Result<(), AllocError>
-    ensures { OnOk result (body.new.items ≡ body.old.items ++ line word.now rest.now) }
+    ensures { GrowsBy body.old body.new (line word.now rest.now) result }
 {
     body.extend_from_slice(word)?;
     body.push(b' ')?;
@@ -28,7 +29,7 @@ pub(crate) fn append_optional_line<A: Allocator + Copy>(
     word: &[u8],
     rest: Option<&[u8]>,
 ) -> Result<(), AllocError>
-    ensures { OnOk result (body.new.items ≡ body.old.items ++ optional_line word.now (option_map (λ r. r.now) rest.entry)) }
+    ensures { GrowsBy body.old body.new (optional_line word.now (optional_bytes rest.entry)) result }
 {
     match rest {
         Some(rest) => append_line(body, word, rest),

@@ -1,12 +1,12 @@
 //! The bodies of tags. Source: gitglossary(7), "tag object".
 
-ghost use Rattle.std.specs.Prelude.{◌≡◌, codes, IsTrue, IfOk, IsOkAnd};
+ghost use Rattle.std.specs.Prelude.{◌≡◌, IsTrue, IfOk};
 ghost use Rattle.std.specs.Option.{option_map};
 ghost use Rattle.gx_model.specs.Texts.RefNames.{is_tag_name};
-ghost use Rattle.gx_model.specs.Objects.{IsTagText, TagParts as Parts};
-ghost use Rattle.gx_object.specs.Lines.{ident_field, or_absent};
-ghost use Rattle.gx_object.specs.Tags.{tag_field, tag_of};
-ghost use Rattle.gx_object.specs.Parts.{tag_parts};
+ghost use Rattle.gx_model.specs.Objects.{IsTagText};
+ghost use Rattle.gx_object.specs.Lines.{optional_bytes};
+ghost use Rattle.gx_object.specs.Tags.{tag_field, tag_of, tagger_of};
+ghost use Rattle.gx_object.specs.Parts.{FindsEach, tag_parts};
 
 use crate::line::{append_line, append_optional_line, cut_ident, cut_line, cut_name, strip};
 use crate::{BadObject, Name};
@@ -96,7 +96,7 @@ impl<'a> TagView<'a> {
 /// Cost: the length of the body. Takes no memory.
 pub fn decode_tag(body: &[u8]) -> Result<TagView<'_>, BadObject>
     ensures found { IfOk result (λ parts. IsTagText parts body.now) }
-    ensures only { (parts : Parts) → IsTagText parts body.now → IsOkAnd result (λ found. found ≡ parts) }
+    ensures only { FindsEach IsTagText body.now result }
 {
     read_tag(body).ok_or(BadObject)
 }
@@ -140,8 +140,8 @@ fn is_tag_name(name: &[u8]) -> bool
 
 /// What the line of a tagger has, where there is one, and what follows.
 fn split_tagger(bytes: &[u8]) -> (Option<&[u8]>, &[u8])
-    ensures text { option_map (λ t. t.now) result.0 ≡ (or_absent (ident_field (codes "tagger") bytes.now) bytes.now).0 }
-    ensures rest { result.1.now ≡ (or_absent (ident_field (codes "tagger") bytes.now) bytes.now).1 }
+    ensures text { optional_bytes result.0 ≡ (tagger_of bytes.now).0 }
+    ensures rest { result.1.now ≡ (tagger_of bytes.now).1 }
 {
     match cut_ident(bytes, b"tagger") {
         Some((tagger, rest)) => (Some(tagger), rest),

@@ -1,15 +1,14 @@
 //! The bodies of trees. Source: Pro Git, "Git Objects".
 
-ghost use Rattle.std.specs.Prelude.{◌≡◌, ◌++◌, ◌||◌, ◌∷◌, List, map, IsTrue, IfOk, IsOkAnd, OnOk};
-ghost use Rattle.std.specs.Option.{is_some};
+ghost use Rattle.std.specs.Prelude.{◌≡◌, List, map, IsTrue, IfOk, OnOk};
 ghost use Rattle.std.specs.Result.{result_ok};
 ghost use Rattle.std.specs.Iterator.{item_count};
 ghost use Rattle.std.specs.Map.Iter.{TakesFirst};
 ghost use Rattle.gx_model.specs.Objects.{Entry as TreeEntry, IsTreeText, is_canonical};
-ghost use Rattle.gx_model.specs.Texts.{same_bytes};
-ghost use Rattle.gx_object.specs.Order.{is_repeated, leads, meets};
-ghost use Rattle.gx_object.specs.Trees.{entries_left, entries_of, is_tree, tree_of};
-ghost use Rattle.gx_object.specs.Entries.{shown};
+ghost use Rattle.gx_object.specs.Order.{meets};
+ghost use Rattle.gx_object.specs.Trees.{AreEntries, entries_left, is_tree, tree_of};
+ghost use Rattle.gx_object.specs.Entries.{is_repeated_from, leads_from, meets_from, shown};
+ghost use Rattle.gx_object.specs.Parts.{FindsEach};
 
 use crate::entry::{append_entry, first_entry};
 use crate::order::{comes_before, is_component};
@@ -87,7 +86,7 @@ impl<'a> Iterator for TreeEntries<'a> {
 /// Takes no memory.
 pub fn decode_tree(body: &[u8]) -> Result<TreeEntries<'_>, BadObject>
     ensures found { IfOk result (λ entries. IsTreeText entries body.now) }
-    ensures only { (entries : List TreeEntry) → IsTreeText entries body.now → IsOkAnd result (λ found. found ≡ entries) }
+    ensures only { FindsEach IsTreeText body.now result }
 {
     read_tree(body)
 }
@@ -132,13 +131,13 @@ fn is_tree(body: &[u8]) -> bool
 
 /// Whether an entry may stand before the next one and the entries after that.
 fn leads(first: &Entry<'_>, next: &Entry<'_>, after: &[u8]) -> bool
-    ensures { IsTrue (is_some (entries_of after.now)) → result ≡ leads (shown first.now) (shown next.now ∷ entries_left after.now) }
+    ensures { AreEntries after.now → result ≡ leads_from first.now next.now after.now }
 {
     is_component(first.component) && comes_before(first, next) && !is_repeated(first, next, after)
 }
 
 fn is_repeated(first: &Entry<'_>, next: &Entry<'_>, after: &[u8]) -> bool
-    ensures { IsTrue (is_some (entries_of after.now)) → result ≡ is_repeated (shown first.now) (shown next.now ∷ entries_left after.now) }
+    ensures { AreEntries after.now → result ≡ is_repeated_from first.now next.now after.now }
 {
     first.mode != Mode::Dir
         && next.component.starts_with(first.component)
@@ -147,14 +146,14 @@ fn is_repeated(first: &Entry<'_>, next: &Entry<'_>, after: &[u8]) -> bool
 
 /// Whether the next entry, or one of those after it whose components begin with this one, has it.
 fn meets(component: &[u8], next: &Entry<'_>, after: &[u8]) -> bool
-    ensures { IsTrue (is_some (entries_of after.now)) → result ≡ (same_bytes (shown next.now).component component.now || meets component.now (entries_left after.now)) }
+    ensures { AreEntries after.now → result ≡ meets_from component.now next.now after.now }
 {
     next.component == component || meets_ahead(component, after)
 }
 
 /// The same of the entries that the bytes are. Where they aren't entries to the end, either may be answered.
 fn meets_ahead(component: &[u8], bytes: &[u8]) -> bool
-    ensures { IsTrue (is_some (entries_of bytes.now)) → result ≡ meets component.now (entries_left bytes.now) }
+    ensures { AreEntries bytes.now → result ≡ meets component.now (entries_left bytes.now) }
 {
     let mut rest = bytes;
     while let Some((entry, after)) = first_entry(rest) {

@@ -1,8 +1,11 @@
 -- Chains of names by their fronts.
-use Rattle.std.specs.Prelude.{◌≡◌, ℕ, ◌+◌, ◌*◌, ◌/◌, ◌<◌, ◌≤◌, Bool, List, [], ◌∷◌, length, take, Some, nat_eq, nat_lt, slice_get, slice_index, vec_capacity, cond, suc, refl}
+use Rattle.std.specs.Prelude.{◌≡◌, ℕ, ◌+◌, ◌*◌, ◌/◌, ◌<◌, ◌≤◌, Bool, ◌&&◌, List, [], ◌∷◌, ◌++◌, length, take, Some, nat_eq, nat_lt, slice_get, slice_index, vec_capacity, cond, suc, refl}
 use Rattle.gx_model.specs.Texts.{Bytes}
 use Rattle.gx_object.specs.declared.name.Name.{Name}
+use Rattle.gx_store.specs.NameOrder.{is_within}
+use Rattle.gx_store.specs.Prefixes.{picked}
 use Rattle.gx_store.specs.declared.fronts.Fronts.{Fronts}
+use Rattle.gx_store.specs.declared.prefix.Prefix.{Prefix}
 
 -- the first four bytes of a name, as a number below 2^32
 unfoldable pub front : Bytes → ℕ
@@ -28,6 +31,22 @@ pub record AreFronts {A : Type 0} (fronts : Fronts A) (names : List Name) : Type
   pub next : (place : ℕ) (name : Name) → slice_get names place ≡ Some name
       → slice_index fronts.next.items place ≡ up_to_last (is_in (length fronts.heads.items) (chain_of (length fronts.heads.items) name)) (take place names)
   pub room : length fronts.heads.items ≤ vec_capacity fronts.next
+
+-- these are the names, in so many chains
+abbrev pub AreFrontsIn : {A : Type 0} → ℕ → Fronts A → List Name → Type 0
+AreFrontsIn chains fronts names = AreFronts fronts names × (length fronts.heads.items ≡ chains)
+
+-- a name is put behind those that are there
+abbrev pub PutsLast : {A : Type 0} → Fronts A → Fronts A → Name → Type 0
+PutsLast old new name = (names : List Name) → AreFronts old names → AreFronts new (names ++ name ∷ [])
+
+-- the last name is dropped
+abbrev pub DropsLast : {A : Type 0} → Fronts A → Fronts A → Name → Type 0
+DropsLast old new name = (names : List Name) → AreFronts old (names ++ name ∷ []) → AreFronts new names
+
+-- what is found in a chain between two names, both included
+abbrev pub found_in : {A : Type 0} → Fronts A → ℕ → Name × Name → List Name → Prefix
+found_in fronts chain ends names = picked (λ name. is_in (length fronts.heads.items) chain name && is_within ends.0.bytes ends.1.bytes name.bytes) names
 
 -- ---- rows
 

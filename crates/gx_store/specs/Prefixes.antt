@@ -28,6 +28,10 @@ abbrev pub picked : (Name → Bool) → List Name → Prefix
 picked test [] = Absent
 picked test (name ∷ names) = if test name then joined (Unique name) (picked test names) else picked test names
 
+-- what is found between two names, both included
+abbrev pub found_between : Name × Name → List Name → Prefix
+found_between ends names = picked (λ name. is_within ends.0.bytes ends.1.bytes name.bytes) names
+
 -- the name whose digits are these and then one digit again and again
 unfoldable pub filled : Bytes → ℕ → Option Bytes
 filled digits digit = if nat_le (length digits) 40 then name_in (digits ++ replicate (40 - length digits) digit) else None

@@ -5,7 +5,7 @@ use Rattle.std.specs.Borrow.{Bor}
 use Rattle.gx_model.specs.declared.objects.Kind.{Kind}
 use Rattle.gx_model.specs.Texts.{Bytes, same_bytes}
 use Rattle.gx_model.specs.Objects.{is_name}
-use Rattle.gx_model.specs.Histories.{AreDistinct, Record}
+use Rattle.gx_model.specs.Histories.{AreDistinct, Record, record_for}
 use Rattle.gx_model.specs.Records.Growth.{put, record_named}
 use Rattle.gx_object.specs.declared.name.Name.{Name}
 use Rattle.gx_store.specs.declared.fault.StoreFault.{StoreFault}
@@ -22,6 +22,14 @@ abbrev pub Puts : List Record → List Record → Record → Result Name StoreFa
 Puts old new r (Ok name) = (name.bytes ≡ r.name) × (put old r ≡ Some new)
 Puts old new r (Err OutOfMemory) = (record_named old r.name ≡ None) × (new ≡ old)
 Puts old new r (Err NameHeld) = (put old r ≡ None) × (new ≡ old)
+
+-- what a put of an object of this kind with this body does, and answers
+abbrev pub PutsObject : {N : Type 0} → (N → Kind → Bytes → Bytes) → N × List Record → N × List Record → Kind → Bytes → Result Name StoreFault → Type 0
+PutsObject name_of old new kind body answer = Puts old.1 new.1 (record_for (name_of old.0) kind body) answer
+
+-- an object under a name, as a record
+abbrev pub record_under : Name → Kind → Bytes → Record
+record_under called kind body = record { name = called.bytes; kind = kind; body = body }
 
 -- whether this record is held, and no other has its name
 abbrev pub IsFound : List Record → Record → Result Bool StoreFault → Type 0

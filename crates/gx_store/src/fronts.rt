@@ -1,13 +1,11 @@
 //! Names found by their fronts, past the names that begin otherwise.
 
-ghost use Rattle.std.specs.Prelude.{◌≡◌, ◌<◌, ◌≤◌, [], ◌∷◌, ◌++◌, List, length, OnOk, IfOk, IsTrue, ◌&&◌, vec_len, vec_capacity};
+ghost use Rattle.std.specs.Prelude.{◌≡◌, ◌<◌, ◌≤◌, [], length, OnOk, IfOk, IsTrue, vec_len, vec_capacity};
 ghost use Rattle.std.specs.List.{list_all};
 ghost use Rattle.indexmap.specs.IndexMap.{index_map_len, keys};
 ghost use Rattle.gx_model.specs.Objects.{is_name};
-ghost use Rattle.gx_object.specs.declared.name.Name.{Name};
-ghost use Rattle.gx_store.specs.Chains.{AreFronts, chain_of, front, is_in};
-ghost use Rattle.gx_store.specs.NameOrder.{is_within};
-ghost use Rattle.gx_store.specs.Prefixes.{joined, picked};
+ghost use Rattle.gx_store.specs.Chains.{AreFronts, AreFrontsIn, DropsLast, PutsLast, chain_of, found_in, front};
+ghost use Rattle.gx_store.specs.Prefixes.{found_between, joined};
 
 use crate::Prefix;
 use gx_object::Name;
@@ -60,7 +58,7 @@ impl<A: Allocator + Copy> Fronts<A> {
     pub(crate) fn put(&mut self, name: &Name)
         requires chains { vec_len self.old.next < vec_len self.old.heads }
         requires room { vec_len self.old.heads ≤ vec_capacity self.old.next }
-        ensures fronts { (names : List Name) → AreFronts self.old names → AreFronts self.new (names ++ name.now ∷ []) }
+        ensures fronts { PutsLast self.old self.new name.now }
         ensures chains { length self.new.heads.items ≡ length self.old.heads.items }
     {
         let chain = chain_of(name, self.heads.len());
@@ -71,7 +69,7 @@ impl<A: Allocator + Copy> Fronts<A> {
     /// Drops the last name. Cost: constant. Takes no memory.
     pub(crate) fn pop(&mut self, name: &Name)
         requires { 0 < vec_len self.old.heads }
-        ensures { (names : List Name) → AreFronts self.old (names ++ name.now ∷ []) → AreFronts self.new names }
+        ensures { DropsLast self.old self.new name.now }
     {
         if let Some(before) = self.next.pop() {
             let chain = chain_of(name, self.heads.len());
@@ -89,7 +87,7 @@ impl<A: Allocator + Copy> Fronts<A> {
     ) -> Prefix
         requires fronts { AreFronts self.now (keys names.now) }
         requires names { IsTrue (list_all (λ name. is_name name.bytes) (keys names.now)) }
-        ensures { result ≡ picked (λ name. is_within ends.now.0.bytes ends.now.1.bytes name.bytes) (keys names.now) }
+        ensures { result ≡ found_between ends.now (keys names.now) }
     {
         let mut found = Prefix::Absent;
         if self.heads.is_empty() {
@@ -116,7 +114,7 @@ impl<A: Allocator + Copy> Fronts<A> {
     ) -> Prefix
         requires fronts { AreFronts self.now (keys names.now) }
         requires within { chain < length self.now.heads.items }
-        ensures { result ≡ joined found (picked (λ name. is_in (length self.now.heads.items) chain name && is_within ends.now.0.bytes ends.now.1.bytes name.bytes) (keys names.now)) }
+        ensures { result ≡ joined found (found_in self.now chain ends.now (keys names.now)) }
     {
         let mut end = self.heads[chain];
         while end > 0 {
@@ -142,7 +140,7 @@ impl<A: Allocator + Copy> Fronts<A> {
         chains: usize,
     ) -> Result<Fronts<A>, AllocError>
         requires { index_map_len names.now < chains }
-        ensures { IfOk result (λ fronts. AreFronts fronts (keys names.now) × (length fronts.heads.items ≡ chains)) }
+        ensures { IfOk result (λ fronts. AreFrontsIn chains fronts (keys names.now)) }
     {
         let mut fronts = Fronts::with_chains(alloc, chains)?;
         for place in 0..names.len() {
@@ -156,7 +154,7 @@ impl<A: Allocator + Copy> Fronts<A> {
 
     /// So many chains, of no names.
     fn with_chains(alloc: A, chains: usize) -> Result<Fronts<A>, AllocError>
-        ensures { IfOk result (λ fronts. AreFronts fronts [] × (length fronts.heads.items ≡ chains)) }
+        ensures { IfOk result (λ fronts. AreFrontsIn chains fronts []) }
     {
         let mut heads = Vec::new(alloc);
         heads.resize(chains, 0)?;

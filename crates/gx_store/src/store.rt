@@ -5,8 +5,8 @@ ghost use Rattle.std.specs.List.{slice_range};
 ghost use Rattle.std.specs.Option.{option_map};
 ghost use Rattle.gx_model.specs.Records.Growth.{record_named};
 ghost use Rattle.gx_model.specs.Records.Lookups.{records_begun_by};
-ghost use Rattle.gx_store.specs.Stores.{AreHeld, IsFound, Puts, place_named, seen, seen_at};
-ghost use Rattle.gx_model.specs.Histories.{object_of, record_for};
+ghost use Rattle.gx_store.specs.Stores.{AreHeld, IsFound, Puts, PutsObject, place_named, record_under, seen, seen_at};
+ghost use Rattle.gx_model.specs.Histories.{object_of};
 ghost use Rattle.gx_store.specs.Bodies.{bytes_of};
 ghost use Rattle.gx_store.specs.Prefixes.{prefix_of};
 ghost use Rattle.gx_store.specs.Objects.{held};
@@ -93,7 +93,7 @@ impl<N: Namer, A: Allocator + Copy> Store<N, A> {
     /// Cost: the body's length, and, where a table grows, the number of records, which is constant on average.
     pub fn put(&mut self, kind: Kind, body: &[u8]) -> Result<Name, StoreFault>
         ensures namer { self.new.0 ≡ self.old.0 }
-        ensures puts { Puts self.old.1 self.new.1 (record_for (N.name_of self.old.0) kind body.now) result }
+        ensures puts { PutsObject N.name_of self.old self.new kind body.now result }
     {
         let name = self.namer.name(kind, body);
         if self.is_held(&name, kind, body)? {
@@ -112,7 +112,7 @@ impl<N: Namer, A: Allocator + Copy> Store<N, A> {
     /// The errors are those of `put`. Cost: that of `put`, but for the copy.
     pub fn put_owned(&mut self, kind: Kind, body: Vec<u8, A>) -> Result<Name, StoreFault>
         ensures namer { self.new.0 ≡ self.old.0 }
-        ensures puts { Puts self.old.1 self.new.1 (record_for (N.name_of self.old.0) kind body.items) result }
+        ensures puts { PutsObject N.name_of self.old self.new kind body.items result }
     {
         let name = self.namer.name(kind, body.as_slice());
         if self.is_held(&name, kind, body.as_slice())? {
@@ -136,7 +136,7 @@ impl<N: Namer, A: Allocator + Copy> Store<N, A> {
         requires ordered { start ≤ end }
         requires within { end ≤ length text.now }
         ensures namer { self.new.0 ≡ self.old.0 }
-        ensures puts { Puts self.old.1 self.new.1 (record_for (N.name_of self.old.0) kind (slice_range text.now start end)) result }
+        ensures puts { PutsObject N.name_of self.old self.new kind (slice_range text.now start end) result }
     {
         let body = &text.as_slice()[start..end];
         let name = self.namer.name(kind, body);
@@ -205,7 +205,7 @@ impl<N: Namer, A: Allocator + Copy> Store<N, A> {
 
     /// Whether an object is held under its name. `NameHeld`: the name is held for another kind or other bytes.
     fn is_held(&self, name: &Name, kind: Kind, body: &[u8]) -> Result<bool, StoreFault>
-        ensures { IsFound self.now.1 (record { name = name.now.bytes; kind = kind; body = body.now }) result }
+        ensures { IsFound self.now.1 (record_under name.now kind body.now) result }
     {
         let Some(found) = self.objects.get(name) else {
             return Ok(false);

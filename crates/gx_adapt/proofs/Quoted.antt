@@ -5,18 +5,10 @@ use Rattle.std.specs.Option.{option_map}
 use Rattle.std.proofs.lemmas.Bool.{false≢true}
 use Rattle.std.proofs.lemmas.List.{length-append}
 use Rattle.gx_model.specs.Texts.{Bytes}
-use Rattle.gx_adapt.specs.Paths.{after_quoted}
+use Rattle.gx_adapt.specs.Paths.{after_quoted, rest_within, seen_char}
 use Rattle.gx_model.specs.Texts.Paths.{char_at, unquote_within, unquote}
 use Rattle.gx_model.proofs.Cuts.{some_is, map_some}
 use Rattle.gx_model.proofs.Quotes.{quoted_text_tells}
-
--- what follows the closing quote that is found within n bytes
-abbrev pub rest_within : ℕ → Bytes → Option Bytes
-rest_within n bs = option_map (λ p. p.1) (unquote_within n bs)
-
--- whether a quote closes, or a byte is read, and what follows
-abbrev pub seen_char : Bytes → Option (Bool × Bytes)
-seen_char bs = option_map {U = Bool × Bytes} (λ c. (is_none c.0, c.1)) (char_at bs)
 
 step_stops : (n : ℕ) (bs : Bytes) → seen_char bs ≡ None → rest_within (suc n) bs ≡ None
 unfolding unquote_within

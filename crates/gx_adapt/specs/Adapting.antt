@@ -1,13 +1,14 @@
 -- What adapting a stream gives, sends and leaves.
-use Rattle.std.specs.Prelude.{◌≡◌, ℕ, ◌+◌, ◌<◌, ◌^◌, Bool, false, ◌&&◌, codes, if◌then◌else◌, List, ◌++◌, Option, Some, None, Result, Ok, Err, ⊤}
+use Rattle.std.specs.Prelude.{◌≡◌, ℕ, ◌+◌, ◌<◌, ◌^◌, Bool, false, ◌&&◌, codes, if◌then◌else◌, List, ◌++◌, Option, Some, None, Result, Ok, Err, OnOk, ⊤}
 use Rattle.std.specs.Ordering.{nat_cmp}
-use Rattle.std.specs.Option.{option_or, option_map_or}
+use Rattle.std.specs.Option.{option_map, option_or, option_map_or}
 use Rattle.std.specs.BTreeSet.{contains}
 use Rattle.gx_model.specs.declared.faults.Fault.TheVariants as model
 use Rattle.gx_model.specs.Texts.{Bytes}
 use Rattle.gx_model.specs.Streams.Items.{Item, Line, Data, End, Finished, Failed, Stream}
 use Rattle.gx_text.specs.Devices.{Coming, Taken, Took, FailedWithin}
 use Rattle.gx_stream.specs.Faults.{fault_of}
+use Rattle.gx_stream.specs.Heard.{items_from}
 use Rattle.gx_stream.specs.declared.fault.StreamFault.{StreamFault}
 use Rattle.gx_stream.specs.declared.fault.StreamFault.TheVariants as stream
 use Rattle.gx_adapt.specs.Lines as lines
@@ -57,6 +58,10 @@ abbrev pub AdaptsFrom : Option Stream → Option Taken → Option Taken → Resu
 AdaptsFrom None was is r = (s : Stream) × IsEnd s.end × Adapts s was is r
 AdaptsFrom (Some s) was is r = Adapts s was is r
 
+-- the stream of a source goes out adapted
+abbrev pub AdaptsSource : Option Coming → Option Taken → Option Taken → Result Report AdaptFault → Type 0
+AdaptsSource coming was is r = AdaptsFrom (option_map items_from coming) was is r
+
 -- what went out is read as these items again
 abbrev pub IsReadAgain : Option Coming → Type 0
 IsReadAgain None = Unit {0}
@@ -105,7 +110,7 @@ lot_seen Kept = lines.kept
 lot_seen Deletion = lines.deletion
 lot_seen Marks = lines.marks
 lot_seen (Ident word ident) = lines.spaced (lines.spaced_line word.now ident.now)
-lot_seen (Modify mode dataref path) = lines.requoted (lines.quoted_line (lines.modify_front mode.now dataref.now) path.now)
+lot_seen (Modify mode dataref path) = lines.requoted (lines.modified_line mode.now dataref.now path.now)
 lot_seen (Remove path) = lines.requoted (lines.quoted_line (codes "D") path.now)
 lot_seen (Move word source destination) = lines.requoted (lines.moved_line word.now source.now destination.now)
 
@@ -128,6 +133,10 @@ counted lot names item r = record {
 -- the same by what stands before it
 abbrev pub with_item : {A : Type 0} → Bool → held.Marks A → Item → Report → Report
 with_item after_reset marks item r = counted (lot_in after_reset item) (names_held marks item) item r
+
+-- an item is counted in a report, unless a fault is answered
+abbrev pub Counts : {A T : Type 0} → Bool → Item → held.Marks A → Report → Report → Result T AdaptFault → Type 0
+Counts after_reset item marks was is r = OnOk r (is ≡ with_item after_reset marks item was)
 
 -- each count has room for one more
 pub record HasRoom (r : Report) : Type 0 where
@@ -153,3 +162,7 @@ PutsIf text was is r = Puts text was is r
 -- the same of what stands in an item's place
 abbrev pub SendsFor : {A : Type 0} → Bool → Item → Option Taken → Option Taken → Result A AdaptFault → Type 0
 SendsFor after_reset item was is r = PutsIf (stream_text (items_in after_reset item)) was is r
+
+-- the same of a sink, by what it tells
+abbrev pub SendsItem : {A W : Type 0} → (W → Option Taken) → Bool → Item → W → W → Result A AdaptFault → Type 0
+SendsItem taken after_reset item was is r = SendsFor after_reset item (taken was) (taken is) r

@@ -58,6 +58,10 @@ modify_front mode dataref = codes "M " ++ mode ++ 32 ∷ dataref
 abbrev pub quoted_line : Bytes → Bytes → Bytes
 quoted_line front path = front ++ 32 ∷ quoted path
 
+-- a modify with its path in quotes
+abbrev pub modified_line : Bytes → Bytes → Bytes → Bytes
+modified_line mode dataref path = quoted_line (modify_front mode dataref) path
+
 -- two paths, of which one or both are in quotes
 abbrev pub moved_line : Bytes → Bytes → Bytes → Bytes
 moved_line word source destination = word ++ 32 ∷ anew source ++ 32 ∷ anew destination

@@ -90,6 +90,10 @@ on_line test (Data x) = false
 abbrev pub how_many : (Placed → Bool) → List Item → ℕ
 how_many test is = length (filter test (placed is))
 
+-- nothing was changed or seen yet
+abbrev pub nothing_counted : Report
+nothing_counted = record { identities = 0; deletions = 0; paths = 0; marks = 0; notes = 0; early_dates = 0; tags_of_blobs_or_tags = 0 }
+
 -- what was changed in a stream, and what was seen
 abbrev pub report_of : List Item → Report
 report_of is = record {

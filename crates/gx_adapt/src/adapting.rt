@@ -1,13 +1,11 @@
 //! A stream, adapted.
 
 ghost use Rattle.std.specs.Prelude.{◌≡◌, IfOk, OnOk};
-ghost use Rattle.std.specs.Option.{option_map};
 ghost use Rattle.gx_model.specs.Streams.Items.{Line, Data};
 ghost use Rattle.gx_model.specs.Export.{item_text};
-ghost use Rattle.gx_stream.specs.Heard.{items_from};
 ghost use Rattle.gx_stream.specs.Reading.{item_of};
 ghost use Rattle.gx_adapt.specs.Streams.{is_reset};
-ghost use Rattle.gx_adapt.specs.Adapting.{AdaptsFrom, IsReadAgain, HasRoom, Passes, Puts, PutsIf, SendsFor, with_item};
+ghost use Rattle.gx_adapt.specs.Adapting.{AdaptsSource, Counts, IsReadAgain, HasRoom, Passes, Puts, PutsIf, SendsItem};
 
 use crate::fault::AdaptFault;
 use crate::lot::{is_reset_line, lot_of};
@@ -35,7 +33,7 @@ pub fn adapt<R: Source + Drop, W: Sink, A: Allocator + Copy>(
     source: R,
     sink: &mut W,
 ) -> Result<Report, AdaptFault>
-    ensures adapts { AdaptsFrom (option_map items_from (R.coming source)) (W.taken sink.old) (W.taken sink.new) result }
+    ensures adapts { AdaptsSource (R.coming source) (W.taken sink.old) (W.taken sink.new) result }
     ensures again { OnOk result (IsReadAgain (R.coming source)) }
 {
     let mut reader = ItemReader::new(alloc, source);
@@ -67,9 +65,9 @@ fn send_item<W: Sink, A: Allocator + Copy>(
 ) -> Result<bool, AdaptFault>
     requires room { HasRoom report.old }
     ensures reset { IfOk result (λ resets. resets ≡ is_reset (item_of item.entry)) }
-    ensures sends { SendsFor after_reset (item_of item.entry) (W.taken sink.old) (W.taken sink.new) result }
+    ensures sends { SendsItem W.taken after_reset (item_of item.entry) sink.old sink.new result }
     ensures passes { OnOk result (Passes (item_of item.entry) marks.old marks.new) }
-    ensures counts { OnOk result (report.new ≡ with_item after_reset marks.old (item_of item.entry) report.old) }
+    ensures counts { Counts after_reset (item_of item.entry) marks.old report.old report.new result }
 {
     match item {
         Item::Line(line) => {
@@ -95,9 +93,9 @@ fn send_line<W: Sink, A: Allocator + Copy>(
     line: &[u8],
 ) -> Result<(), AdaptFault>
     requires room { HasRoom report.old }
-    ensures sends { SendsFor after_reset (Line line.now) (W.taken sink.old) (W.taken sink.new) result }
+    ensures sends { SendsItem W.taken after_reset (Line line.now) sink.old sink.new result }
     ensures passes { OnOk result (Passes (Line line.now) marks.old marks.new) }
-    ensures counts { OnOk result (report.new ≡ with_item after_reset marks.old (Line line.now) report.old) }
+    ensures counts { Counts after_reset (Line line.now) marks.old report.old report.new result }
 {
     let lot = lot_of(after_reset, line);
     let names_blob_or_tag = marks.pass(line)?;

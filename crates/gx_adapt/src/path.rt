@@ -1,10 +1,9 @@
 //! Paths that begin with a quote.
 
-ghost use Rattle.std.specs.Prelude.{◌≡◌, Bool, length, is_none, is_some};
+ghost use Rattle.std.specs.Prelude.{◌≡◌, length, is_some};
 ghost use Rattle.std.specs.Option.{option_map};
-ghost use Rattle.gx_model.specs.Texts.{Bytes};
-ghost use Rattle.gx_model.specs.Texts.Paths.{named, is_octal, escape_at, char_at, unquote_within};
-ghost use Rattle.gx_adapt.specs.Paths.{ends, after_quoted, is_open, source_of};
+ghost use Rattle.gx_model.specs.Texts.Paths.{named, is_octal, escape_at};
+ghost use Rattle.gx_adapt.specs.Paths.{ends, after_quoted, is_open, rest_within, seen_char, source_of};
 
 use gx_text::cut;
 
@@ -51,7 +50,7 @@ fn after_quoted(bytes: &[u8]) -> Option<&[u8]>
 
 /// What follows the closing quote.
 fn after_body(body: &[u8]) -> Option<&[u8]>
-    ensures { option_map (λ r. r.now) result ≡ option_map (λ p. p.1) (unquote_within (length body.now) body.now) }
+    ensures { option_map (λ r. r.now) result ≡ rest_within (length body.now) body.now }
 {
     let mut rest = body;
     for _turn in 0..body.len() {
@@ -67,7 +66,7 @@ fn after_body(body: &[u8]) -> Option<&[u8]>
 /// Whether the closing quote of a quoted text comes next, or else a byte of it, and what follows.
 #[tactic(auto, unfolding(gx_model::specs::Texts::Paths::char_at))]
 fn next_char(bytes: &[u8]) -> Option<(bool, &[u8])>
-    ensures { option_map (λ x. (x.0, x.1.now)) result ≡ option_map {U = Bool × Bytes} (λ c. (is_none c.0, c.1)) (char_at bytes.now) }
+    ensures { option_map (λ x. (x.0, x.1.now)) result ≡ seen_char bytes.now }
 {
     let (first, rest) = bytes.split_first()?;
     if *first == b'"' {

@@ -4,6 +4,7 @@ ghost use Rattle.std.specs.Prelude.{◌≡◌};
 ghost use Rattle.gx_model.specs.Texts.{cut_at};
 ghost use Rattle.gx_model.specs.Streams.Items.{Line};
 ghost use Rattle.gx_adapt.specs.Lines.{is_early, has_minus};
+ghost use Rattle.gx_adapt.specs.Streams.{nothing_counted};
 ghost use Rattle.gx_adapt.specs.Adapting.{lot_seen, counted, HasRoom};
 
 use crate::lot::{Lot, is_ident_word};
@@ -31,7 +32,7 @@ pub struct Report {
 impl Report {
     /// A report of no items.
     pub(crate) fn new() -> Report
-        ensures { result ≡ record { identities = 0; deletions = 0; paths = 0; marks = 0; notes = 0; early_dates = 0; tags_of_blobs_or_tags = 0 } }
+        ensures { result ≡ nothing_counted }
     {
         Report {
             identities: 0,

@@ -1,9 +1,10 @@
 //! The text of items.
 
-ghost use Rattle.std.specs.Prelude.{◌≡◌, ◌++◌, ◌∷◌, [], codes, OnOk};
+ghost use Rattle.std.specs.Prelude.{◌++◌, ◌∷◌, [], codes};
 ghost use Rattle.std.specs.Fmt.{decimal};
+ghost use Rattle.gx_text.specs.Buffers.{GrowsBy};
 ghost use Rattle.gx_adapt.specs.Paths.{escaped, quoted, anew};
-ghost use Rattle.gx_adapt.specs.Lines.{lines_for, spaced_line, modify_front, quoted_line, moved_line};
+ghost use Rattle.gx_adapt.specs.Lines.{lines_for, spaced_line, modified_line, quoted_line, moved_line};
 ghost use Rattle.gx_adapt.specs.Streams.{stream_text};
 ghost use Rattle.gx_adapt.specs.Adapting.{lot_seen};
 
@@ -18,7 +19,7 @@ pub(crate) fn put_line<A: Allocator + Copy>(
     line: &[u8],
     lot: Lot<'_>,
 ) -> Result<(), AllocError>
-    ensures { OnOk result (out.new.items ≡ out.old.items ++ stream_text (lines_for line.now (lot_seen lot.entry))) }
+    ensures { GrowsBy out.old out.new (stream_text (lines_for line.now (lot_seen lot.entry))) result }
 {
     match lot {
         Lot::Deletion | Lot::Marks => return Ok(()),
@@ -37,7 +38,7 @@ fn put_ident<A: Allocator + Copy>(
     word: &[u8],
     ident: &[u8],
 ) -> Result<(), AllocError>
-    ensures { OnOk result (out.new.items ≡ out.old.items ++ spaced_line word.now ident.now) }
+    ensures { GrowsBy out.old out.new (spaced_line word.now ident.now) result }
 {
     out.extend_from_slice(word)?;
     out.extend_from_slice(b"  ")?;
@@ -50,7 +51,7 @@ fn put_modify<A: Allocator + Copy>(
     dataref: &[u8],
     path: &[u8],
 ) -> Result<(), AllocError>
-    ensures { OnOk result (out.new.items ≡ out.old.items ++ quoted_line (modify_front mode.now dataref.now) path.now) }
+    ensures { GrowsBy out.old out.new (modified_line mode.now dataref.now path.now) result }
 {
     out.extend_from_slice(b"M ")?;
     out.extend_from_slice(mode)?;
@@ -61,7 +62,7 @@ fn put_modify<A: Allocator + Copy>(
 }
 
 fn put_remove<A: Allocator + Copy>(out: &mut Vec<u8, A>, path: &[u8]) -> Result<(), AllocError>
-    ensures { OnOk result (out.new.items ≡ out.old.items ++ quoted_line (codes "D") path.now) }
+    ensures { GrowsBy out.old out.new (quoted_line (codes "D") path.now) result }
 {
     out.extend_from_slice(b"D ")?;
     put_quoted(out, path)
@@ -73,7 +74,7 @@ fn put_move<A: Allocator + Copy>(
     source: &[u8],
     destination: &[u8],
 ) -> Result<(), AllocError>
-    ensures { OnOk result (out.new.items ≡ out.old.items ++ moved_line word.now source.now destination.now) }
+    ensures { GrowsBy out.old out.new (moved_line word.now source.now destination.now) result }
 {
     out.extend_from_slice(word)?;
     out.push(b' ')?;
@@ -84,7 +85,7 @@ fn put_move<A: Allocator + Copy>(
 
 /// Appends a path, in quotes where it has to be.
 fn put_path<A: Allocator + Copy>(out: &mut Vec<u8, A>, path: &[u8]) -> Result<(), AllocError>
-    ensures { OnOk result (out.new.items ≡ out.old.items ++ anew path.now) }
+    ensures { GrowsBy out.old out.new (anew path.now) result }
 {
     if is_open(path) {
         put_quoted(out, path)
@@ -95,7 +96,7 @@ fn put_path<A: Allocator + Copy>(out: &mut Vec<u8, A>, path: &[u8]) -> Result<()
 
 /// Appends a text in quotes.
 fn put_quoted<A: Allocator + Copy>(out: &mut Vec<u8, A>, text: &[u8]) -> Result<(), AllocError>
-    ensures { OnOk result (out.new.items ≡ out.old.items ++ quoted text.now) }
+    ensures { GrowsBy out.old out.new (quoted text.now) result }
 {
     out.push(b'"')?;
     for b in text {
@@ -106,7 +107,7 @@ fn put_quoted<A: Allocator + Copy>(out: &mut Vec<u8, A>, text: &[u8]) -> Result<
 }
 
 fn put_escaped<A: Allocator + Copy>(out: &mut Vec<u8, A>, b: u8) -> Result<(), AllocError>
-    ensures { OnOk result (out.new.items ≡ out.old.items ++ escaped b) }
+    ensures { GrowsBy out.old out.new (escaped b) result }
 {
     if b == b'"' || b == b'\\' {
         out.push(b'\\')?;
@@ -120,7 +121,7 @@ pub(crate) fn put_announcement<A: Allocator + Copy>(
     out: &mut Vec<u8, A>,
     count: usize,
 ) -> Result<(), AllocError>
-    ensures { OnOk result (out.new.items ≡ out.old.items ++ (codes "data " ++ decimal count ++ 10 ∷ [])) }
+    ensures { GrowsBy out.old out.new (codes "data " ++ decimal count ++ 10 ∷ []) result }
 {
     let mut digits = Buffer::new();
     out.extend_from_slice(b"data ")?;

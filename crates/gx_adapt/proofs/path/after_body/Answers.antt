@@ -1,5 +1,6 @@
 use Rattle.std.proofs.Common.{◌≡◌, Some, ap, sym, length, arith}
-use Rattle.gx_adapt.proofs.Quoted.{rest_within, seen_char, char_stops, char_closes, char_goes_on, char_ends}
+use Rattle.gx_adapt.specs.Paths.{rest_within, seen_char}
+use Rattle.gx_adapt.proofs.Quoted.{char_stops, char_closes, char_goes_on, char_ends}
 use Rattle.gx_adapt.proofs.path.after_body.Goals as goal
 
 pub loop-turn-init : goal.loop-turn-init

@@ -1,5 +1,5 @@
 use Rattle.std.proofs.Common.{◌≡◌, ◌-◌, length}
-use Rattle.gx_adapt.proofs.Quoted.{rest_within}
+use Rattle.gx_adapt.specs.Paths.{rest_within}
 use Rattle.gx_adapt.proofs.path.after_body.Given as goal
 
 abbrev pub invariant-loop-turn : goal.invariant-loop-turn

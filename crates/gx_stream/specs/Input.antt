@@ -1,12 +1,13 @@
 -- What the fields of a reader stand for, and what each of its steps does to them.
-use Rattle.std.specs.Prelude.{◌≡◌, ℕ, suc, ◌+◌, ◌-◌, ◌≤◌, ◌^◌, Bool, true, false, ◌++◌, length, drop, Option, Some, None, Result, Ok, Err}
+use Rattle.std.specs.Prelude.{◌≡◌, ℕ, suc, ◌+◌, ◌-◌, ◌<◌, ◌≤◌, ◌^◌, Bool, true, false, ◌++◌, length, drop, Option, Some, None, Result, Ok, Err, IfOk}
+use Rattle.std.specs.declared.vec.Vec.{Vec}
 use Rattle.gx_model.specs.Texts.{Bytes}
 use Rattle.gx_model.specs.Streams.Items.{Stream, items_of}
 use Rattle.gx_model.specs.Streams.Items as model
 use Rattle.gx_text.specs.Devices.{Coming}
 use Rattle.gx_stream.specs.Heard.{heard_upto}
 use Rattle.gx_stream.specs.Faults.{end_seen, ended}
-use Rattle.gx_stream.specs.Reading.{Seen}
+use Rattle.gx_stream.specs.Reading.{AnswersAs, Seen}
 use Rattle.gx_stream.specs.Places.{bytes_at, IsWithin, IsScanned, Skipped, Finds}
 use Rattle.gx_stream.specs.declared.fault.StreamFault.{StreamFault}
 use Rattle.gx_stream.specs.declared.fault.StreamFault.TheVariants.{OutOfMemory, ReadFailed, TruncatedData, BadNumber}
@@ -62,6 +63,10 @@ answer_at text (Data p) = Ok (Some (model.Data (bytes_at text p)))
 answer_at text (End None) = Ok None
 answer_at text (End (Some f)) = Err f
 
+-- the next item, the end or a fault is answered, by where it stands in what came
+abbrev pub GivesNext : {R A : Type 0} → (R → Option Coming) → Input R A → Input R A → Found → Type 0
+GivesNext coming old new found = AnswersAs (seen old (coming old.source)) (seen new (coming new.source)) (answer_at new.text.items found)
+
 abbrev pub IsFoundWithin : Bytes → Found → Type 0
 IsFoundWithin text (Line p) = IsWithin text p
 IsFoundWithin text (Data p) = IsWithin text p
@@ -112,6 +117,15 @@ KeepsOver (Some last) old new = new ≡ old
 abbrev pub Keeps : Seen → Seen → Type 0
 Keeps old new = KeepsStream old.stream new.stream × (new.most ≤ old.most) × KeepsOver old.over old new
 
+-- the same of what came from a source
+abbrev pub KeepsInput : {R A : Type 0} → (R → Option Coming) → Input R A → Input R A → Type 0
+KeepsInput coming old new = Keeps (seen old (coming old.source)) (seen new (coming new.source))
+
+-- one pull from a source, with room for so many bytes and this text before it, keeps the items to come
+abbrev pub KeepsPulled : {R A E : Type 0} → (R → Option Coming) → R × ℕ × Vec ℕ A → R × ℕ × Vec ℕ A → Result State E → Type 0
+KeepsPulled coming old new result =
+    IfOk result (λ state. KeepsStream (stream_seen Open old.1 (coming old.0) old.2.items) (stream_seen state new.1 (coming new.0) new.2.items))
+
 -- a text has more bytes at its end
 abbrev pub IsLonger : Bytes → Bytes → Type 0
 IsLonger old new = (more : Bytes) × (new ≡ old ++ more)
@@ -121,3 +135,7 @@ abbrev pub pulls_left : State → ℕ → ℕ
 pulls_left Open room = suc room
 pulls_left (Ended fails) room = 0
 pulls_left (Over last) room = 0
+
+-- fewer pulls may follow
+abbrev pub LeavesFewer : {R A : Type 0} → Input R A → Input R A → Type 0
+LeavesFewer old new = pulls_left new.state new.room < pulls_left old.state old.room

@@ -1,8 +1,7 @@
 //! What came from a source, and the items in it.
 
 ghost use Rattle.std.specs.Prelude.{◌≡◌, ◌<◌, ◌≤◌, ◌+◌, length, drop, None, IfOk, OnOk};
-ghost use Rattle.gx_stream.specs.Reading.{AnswersAs};
-ghost use Rattle.gx_stream.specs.Input.{seen, stream_seen, IsSound, FitsState, IsLonger, IsFoundWithin, answer_at, Looks, is_whole, Takes, Keeps, KeepsStream, over_seen, pulls_left};
+ghost use Rattle.gx_stream.specs.Input.{IsSound, FitsState, IsLonger, IsFoundWithin, GivesNext, Looks, is_whole, Takes, KeepsInput, KeepsPulled, LeavesFewer, over_seen, pulls_left};
 ghost use Rattle.gx_stream.specs.declared.input.State.TheVariants.{Open};
 
 use crate::fault::StreamFault;
@@ -44,8 +43,7 @@ impl<R: Source, A: Allocator + Copy> Input<R, A> {
         requires { IsSound self.old }
         ensures sound { IsSound self.new }
         ensures within { IsFoundWithin self.new.text.items result }
-        ensures answers { AnswersAs (seen self.old (R.coming self.old.source)) (seen self.new (R.coming self.new.source))
-            (answer_at self.new.text.items result) }
+        ensures answers { GivesNext R.coming self.old self.new result }
     {
         loop {
             let found = look(&self.text, &mut self.at, &mut self.scan, self.state);
@@ -66,8 +64,8 @@ impl<R: Source, A: Allocator + Copy> Input<R, A> {
         requires sound { IsSound self.old }
         requires open { self.old.state ≡ Open }
         ensures sound { IsSound self.new }
-        ensures keeps { OnOk result (Keeps (seen self.old (R.coming self.old.source)) (seen self.new (R.coming self.new.source))) }
-        ensures fewer { OnOk result (pulls_left self.new.state self.new.room < pulls_left self.old.state self.old.room) }
+        ensures keeps { OnOk result (KeepsInput R.coming self.old self.new) }
+        ensures fewer { OnOk result (LeavesFewer self.old self.new) }
     {
         remove_front(&mut self.text, self.at);
         self.scan = self.scan.without(self.at);
@@ -155,8 +153,7 @@ fn append_piece<R: Source, A: Allocator>(
     requires { 0 < length buffer.old }
     ensures longer { IsLonger text.old.items text.new.items }
     ensures within { length text.new.items + room.new ≤ length text.old.items + room.old }
-    ensures keeps { IfOk result (λ state. KeepsStream (stream_seen Open room.old (R.coming source.old) text.old.items)
-        (stream_seen state room.new (R.coming source.new) text.new.items)) }
+    ensures keeps { KeepsPulled R.coming (source.old, room.old, text.old) (source.new, room.new, text.new) result }
     ensures goes_on { IfOk result (λ state. over_seen state ≡ None) }
     ensures fewer { IfOk result (λ state. pulls_left state room.new < pulls_left Open room.old) }
 {

@@ -1,10 +1,10 @@
 //! Where the items of a text stand: every answer is a place in the text, and nothing is copied.
 
-ghost use Rattle.std.specs.Prelude.{◌≡◌, ◌≤◌, ◌+◌, ℕ, length, drop, nat_eq, nat_lt, ◌||◌, ◌&&◌, codes, true, false, slice_range};
+ghost use Rattle.std.specs.Prelude.{◌≡◌, ◌≤◌, ◌+◌, ℕ, length, drop, nat_eq, nat_lt, ◌||◌, ◌&&◌, codes, true, false};
 ghost use Rattle.std.specs.List.{starts_with};
-ghost use Rattle.gx_model.specs.Streams.Items.{line_len, has_no_line, without_lf, counted_block, delimited, announced, first_line, end_of, cut_off};
+ghost use Rattle.gx_model.specs.Streams.Items.{line_len, has_no_line, without_lf, counted_block, delimited, announced, end_of, cut_off};
 ghost use Rattle.gx_stream.specs.Faults.{end_seen};
-ghost use Rattle.gx_stream.specs.Places.{IsLineAt, AreLinesAt, GoesTo, IsSearched, IsScanned, from_line, without, first_seen, past_first, Begins, Skipped, Finds};
+ghost use Rattle.gx_stream.specs.Places.{IsLineAt, AreLinesAt, GoesTo, IsSearched, IsScanned, from_line, without, first_seen, past_first, Begins, Skipped, Finds, bytes_at, delimiter_at, first_at};
 
 use crate::fault::StreamFault;
 use gx_text::decimal;
@@ -101,10 +101,10 @@ pub(crate) fn find_item(text: &[u8], at: &mut usize, scan: &mut Scan, fails: boo
 #[tactic(auto, unfolding(gx_model::specs::Streams::Items::first_line))]
 pub(crate) fn find_from(text: &[u8], line: Place, scan: &mut Scan, fails: bool) -> Found
     requires within { (line.start ≤ line.end) × (line.end ≤ line.next) × (line.next ≤ length text.now) }
-    requires no_comment { starts_with nat_eq (slice_range text.now line.start line.end) (codes "#") ≡ false }
-    requires scan { IsSearched text.now (drop 2 (drop 5 (slice_range text.now line.start line.end))) fails line.next scan.old }
-    ensures begins { Begins text.now (first_line (slice_range text.now line.start line.end) (drop line.next text.now) fails) result }
-    ensures scan { IsSearched text.now (drop 2 (drop 5 (slice_range text.now line.start line.end))) fails line.next scan.new }
+    requires no_comment { starts_with nat_eq (bytes_at text.now line) (codes "#") ≡ false }
+    requires scan { IsSearched text.now (delimiter_at text.now line) fails line.next scan.old }
+    ensures begins { Begins text.now (first_at text.now line fails) result }
+    ensures scan { IsSearched text.now (delimiter_at text.now line) fails line.next scan.new }
 {
     let bytes = &text[line.start..line.end];
     if bytes.starts_with(b"data ") {

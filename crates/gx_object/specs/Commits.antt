@@ -12,8 +12,8 @@ abbrev pub parent_lines : List Bytes → Bytes
 parent_lines names = flat_map (λ n. line (codes "parent") (hex n)) names
 
 -- the bytes of names
-abbrev pub names_of : List Name → List Bytes
-names_of names = map (λ name. name.bytes) names
+abbrev pub bytes_of_names : List Name → List Bytes
+bytes_of_names names = map (λ name. name.bytes) names
 
 -- where these are lines of parents, the name in the line at this place is found, or none where there is no such line
 abbrev pub FindsParent : Bytes → ℕ → Option Name → Type 0
@@ -46,17 +46,17 @@ encoding_field bytes = do
   if nat_eq (length a.0) 0 then None else Some a
 
 -- the encoding, where a line at the front has one, and what follows it
-abbrev pub encoding_of : Bytes → Option Bytes × Bytes
-encoding_of bytes = or_absent (encoding_field bytes) bytes
+abbrev pub encoding_and_rest : Bytes → Option Bytes × Bytes
+encoding_and_rest bytes = or_absent (encoding_field bytes) bytes
 
 unfoldable pub commit_of : Bytes → Option CommitParts
 commit_of body = do
   tree ← name_field (codes "tree") body
   author ← ident_field (codes "author") (parents_of tree.1).1
   committer ← ident_field (codes "committer") author.1
-  message ← stripped (10 ∷ []) (encoding_of committer.1).1
+  message ← stripped (10 ∷ []) (encoding_and_rest committer.1).1
   Some (record {
     tree = tree.0;
     parents = (parents_of tree.1).0;
-    text = record { author = author.0; committer = committer.0; encoding = (encoding_of committer.1).0; message = message };
+    text = record { author = author.0; committer = committer.0; encoding = (encoding_and_rest committer.1).0; message = message };
   })

@@ -4,7 +4,7 @@ use Rattle.std.specs.Option.{option_map}
 use Rattle.gx_model.specs.Objects.{CommitParts, TagParts}
 use Rattle.gx_model.specs.Texts.{Bytes}
 use Rattle.gx_text.specs.Idents.{ident_bytes}
-use Rattle.gx_object.specs.Commits.{names_of}
+use Rattle.gx_object.specs.Commits.{bytes_of_names}
 use Rattle.gx_object.specs.Lines.{optional_bytes}
 use Rattle.gx_object.specs.declared.commit.CommitParts.{CommitParts as GivenCommit}
 use Rattle.gx_object.specs.declared.tag.TagParts.{TagParts as GivenTag}
@@ -16,7 +16,7 @@ FindsEach {T} is_text body result = (written : T) → is_text written body → I
 abbrev pub commit_parts : GivenCommit → CommitParts
 commit_parts p = record {
   tree = p.tree.bytes;
-  parents = names_of p.parents.now;
+  parents = bytes_of_names p.parents.now;
   text = record {
     author = ident_bytes p.author;
     committer = ident_bytes p.committer;

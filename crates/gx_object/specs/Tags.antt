@@ -12,13 +12,13 @@ tag_field bytes = do
   if is_tag_name a.0 then Some a else None
 
 -- the tagger, where a line at the front has one, and what follows it
-abbrev pub tagger_of : Bytes → Option Bytes × Bytes
-tagger_of bytes = or_absent (ident_field (codes "tagger") bytes) bytes
+abbrev pub tagger_and_rest : Bytes → Option Bytes × Bytes
+tagger_and_rest bytes = or_absent (ident_field (codes "tagger") bytes) bytes
 
 unfoldable pub tag_of : Bytes → Option TagParts
 tag_of body = do
   object ← name_field (codes "object") body
   rest ← stripped (codes "type commit\n") object.1
   name ← tag_field rest
-  message ← stripped (10 ∷ []) (tagger_of name.1).1
-  Some (record { object = object.0; name = name.0; tagger = (tagger_of name.1).0; message = message })
+  message ← stripped (10 ∷ []) (tagger_and_rest name.1).1
+  Some (record { object = object.0; name = name.0; tagger = (tagger_and_rest name.1).0; message = message })

@@ -7,7 +7,7 @@ ghost use Rattle.gx_model.specs.Histories.Values.{is_optional_encoding};
 ghost use Rattle.gx_model.specs.Objects.{IsCommitText, is_name};
 ghost use Rattle.gx_text.specs.Buffers.{GrowsBy};
 ghost use Rattle.gx_object.specs.Lines.{optional_bytes};
-ghost use Rattle.gx_object.specs.Commits.{FindsParent, commit_of, encoding_field, encoding_of, names_of, parent_lines, parents_of};
+ghost use Rattle.gx_object.specs.Commits.{FindsParent, bytes_of_names, commit_of, encoding_and_rest, encoding_field, parent_lines, parents_of};
 ghost use Rattle.gx_object.specs.Parts.{FindsEach, commit_parts};
 
 use crate::line::{append_line, append_optional_line, cut_ident, cut_line, cut_name, strip};
@@ -50,8 +50,8 @@ fn append_parents<A: Allocator + Copy>(
     body: &mut Vec<u8, A>,
     parents: &[Name],
 ) -> Result<(), AllocError>
-    ensures lines { GrowsBy body.old body.new (parent_lines (names_of parents.now)) result }
-    ensures names { OnOk result (IsTrue (list_all is_name (names_of parents.now))) }
+    ensures lines { GrowsBy body.old body.new (parent_lines (bytes_of_names parents.now)) result }
+    ensures names { OnOk result (IsTrue (list_all is_name (bytes_of_names parents.now))) }
 {
     for parent in parents {
         append_line(body, b"parent", &parent.hex())?;
@@ -190,8 +190,8 @@ fn split_parents(bytes: &[u8]) -> (&[u8], &[u8])
 
 /// What the line of an encoding has, where there is one, and what follows.
 fn split_encoding(bytes: &[u8]) -> (Option<&[u8]>, &[u8])
-    ensures text { optional_bytes result.0 ≡ (encoding_of bytes.now).0 }
-    ensures rest { result.1.now ≡ (encoding_of bytes.now).1 }
+    ensures text { optional_bytes result.0 ≡ (encoding_and_rest bytes.now).0 }
+    ensures rest { result.1.now ≡ (encoding_and_rest bytes.now).1 }
 {
     match cut_encoding(bytes) {
         Some((encoding, rest)) => (Some(encoding), rest),

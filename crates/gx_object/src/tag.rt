@@ -5,7 +5,7 @@ ghost use Rattle.std.specs.Option.{option_map};
 ghost use Rattle.gx_model.specs.Texts.RefNames.{is_tag_name};
 ghost use Rattle.gx_model.specs.Objects.{IsTagText};
 ghost use Rattle.gx_object.specs.Lines.{optional_bytes};
-ghost use Rattle.gx_object.specs.Tags.{tag_field, tag_of, tagger_of};
+ghost use Rattle.gx_object.specs.Tags.{tag_field, tag_of, tagger_and_rest};
 ghost use Rattle.gx_object.specs.Parts.{FindsEach, tag_parts};
 
 use crate::line::{append_line, append_optional_line, cut_ident, cut_line, cut_name, strip};
@@ -140,8 +140,8 @@ fn is_tag_name(name: &[u8]) -> bool
 
 /// What the line of a tagger has, where there is one, and what follows.
 fn split_tagger(bytes: &[u8]) -> (Option<&[u8]>, &[u8])
-    ensures text { optional_bytes result.0 ≡ (tagger_of bytes.now).0 }
-    ensures rest { result.1.now ≡ (tagger_of bytes.now).1 }
+    ensures text { optional_bytes result.0 ≡ (tagger_and_rest bytes.now).0 }
+    ensures rest { result.1.now ≡ (tagger_and_rest bytes.now).1 }
 {
     match cut_ident(bytes, b"tagger") {
         Some((tagger, rest)) => (Some(tagger), rest),

@@ -5,7 +5,7 @@ use Rattle.gx_model.specs.Texts.{Bytes}
 use Rattle.gx_model.specs.Faults.{Given}
 use Rattle.gx_model.specs.Streams.Items as model
 use Rattle.gx_model.specs.Streams.Items.{Stream, then_comes, Finished, Failed}
-use Rattle.gx_model.specs.Streams.Grammar.{Read, rest_line}
+use Rattle.gx_model.specs.Streams.Grammar.{Read, optional, rest_line}
 use Rattle.gx_stream.specs.Faults.{ended}
 use Rattle.gx_stream.specs.Reading.{item_of}
 use Rattle.gx_stream.specs.declared.item.Item.{Item}
@@ -46,6 +46,18 @@ abbrev pub Reads : {X Y : Type 0} → (X → Y) → (Stream → Read Y) → Opti
 Reads view reading None new answer = Unit {0}
 Reads view reading (Some s) new (Ok x) = (t : Stream) × (new ≡ Some t) × (reading s ≡ Ok (view x, t))
 Reads view reading (Some s) new (Err f) = Fails f (reading s)
+
+-- of the items to come before a call, the definition gives the answer, seen so, and the items to come after it
+abbrev pub ReadsOn : {X Y R A : Type 0} → (X → Y) → (Stream → Read Y) → Ahead R A → Ahead R A → Result X CommandFault → Type 0
+ReadsOn view reading old new answer = Reads view reading (to_come old) (to_come new) answer
+
+-- the same where the answer is seen as it is
+abbrev pub ReadsPlain : {X R A : Type 0} → (Stream → Read X) → Ahead R A → Ahead R A → Result X CommandFault → Type 0
+ReadsPlain reading old new answer = ReadsOn (λ x. x) reading old new answer
+
+-- the line that comes next is read where it has the word, and otherwise none
+abbrev pub ReadsLine : {X Y R A : Type 0} → (X → Y) → Bytes → (Bytes → Given Y) → Ahead R A → Ahead R A → Result (Option X) CommandFault → Type 0
+ReadsLine view word reading old new answer = ReadsOn (option_map view) (optional word reading) old new answer
 
 -- the item that comes next was read by a function that may answer so
 pub record ReadNext {T : Type 0} (answers : Item → Result (Option T) CommandFault → Type 0) (s left : Stream) (answer : Result (Option T) CommandFault) : Type 0 where

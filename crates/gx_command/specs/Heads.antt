@@ -1,10 +1,11 @@
 -- The lines that begin commands, and the command that comes next.
-use Rattle.std.specs.Prelude.{◌≡◌, Bool, Option, Some, None, Result, Ok, Err, [], ◌∷◌, List}
-use Rattle.gx_model.specs.Faults.{◌>>=◌}
+use Rattle.std.specs.Prelude.{◌≡◌, ◌||◌, codes, Bool, Option, Some, None, Result, Ok, Err, [], ◌∷◌, List}
+use Rattle.gx_model.specs.Faults.{Given, ◌>>=◌}
 use Rattle.gx_model.specs.Streams.Items.{Item, Line, Data, Stream}
 use Rattle.gx_model.specs.Streams.Commands as model
+use Rattle.gx_model.specs.Texts.{Bytes}
 use Rattle.gx_model.specs.declared.faults.Fault.TheVariants as faults
-use Rattle.gx_model.specs.Streams.Grammar.{Read, at_end, after, words_of, blob_at, commit_at, tag_at, reset_at, command_at}
+use Rattle.gx_model.specs.Streams.Grammar.{Read, Words, at_end, after, words_of, is_word, rest_of, if_early, blob_at, commit_at, tag_at, reset_at, command_at}
 use Rattle.gx_command.specs.Ahead.{Fails}
 use Rattle.gx_command.specs.Views.{shown_command}
 use Rattle.gx_command.specs.declared.fault.CommandFault.{CommandFault}
@@ -25,6 +26,14 @@ begun (Whole c) s = Ok (shown_command c, s)
 abbrev pub Begins : {A : Type 0} → Stream → Result (Head A) CommandFault → Read model.Command → Type 0
 Begins s (Ok head) read = read ≡ begun head s
 Begins s (Err f) read = Fails f read
+
+-- the rest of an option's line, which stands before every other command
+abbrev pub early_rest : Bool → Words → Given Bytes
+early_rest early w = rest_of w >>= λ r. if_early early (Ok r)
+
+-- the word of a command that git-fast-import(1) has, and this reader has not
+abbrev pub is_left_out : Words → Bool
+is_left_out w = is_word w (codes "ls") || is_word w (codes "cat-blob") || is_word w (codes "get-mark") || is_word w (codes "alias")
 
 abbrev pub there : Read model.Command → Read (Option model.Command)
 there read = read >>= λ c. Ok (Some c.0, c.1)

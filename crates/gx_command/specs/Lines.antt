@@ -1,5 +1,6 @@
 -- Lines and their parts, without where they lie in memory.
 use Rattle.std.specs.Prelude.{Option, Some, None, Ok, if◌then◌else◌}
+use Rattle.std.specs.Borrow.{Bor}
 use Rattle.std.specs.Option.{option_map}
 use Rattle.gx_model.specs.Texts.{Bytes}
 use Rattle.gx_model.specs.Faults.{Given, ◌>>=◌}
@@ -9,8 +10,16 @@ use Rattle.gx_model.specs.Streams.Grammar as grammar
 use Rattle.gx_model.specs.Streams.Grammar.{words_of, is_word, rest_of}
 use Rattle.gx_command.specs.declared.lines.Words.{Words}
 
+-- the bytes that are lent
+abbrev pub lent_bytes : Bor Bytes → Bytes
+lent_bytes = λ r. r.now
+
+-- the rest of a line, where it has one
+abbrev pub shown_rest : Option (Bor Bytes) → Option Bytes
+shown_rest = option_map lent_bytes
+
 abbrev pub shown_words : Words → grammar.Words
-shown_words w = record { word = w.word.now; rest = option_map (λ r. r.now) w.rest }
+shown_words w = record { word = w.word.now; rest = shown_rest w.rest }
 
 -- the rest of a line that has this word
 abbrev pub rest_in : Bytes → model.Item → Given (Option Bytes)

@@ -1,9 +1,10 @@
 -- What a reader of commands is seen as, and what one call answers and leaves.
-use Rattle.std.specs.Prelude.{◌≡◌, ℕ, ◌<◌, ◌≤◌, ◌⊎◌, IsTrue, ◌&&◌, ◌||◌, if◌then◌else◌, List, [], ◌∷◌, ◌++◌, length, Option, Some, None, Result, Ok, Err}
+use Rattle.std.specs.Prelude.{◌≡◌, ℕ, ◌<◌, ◌≤◌, ◌⊎◌, IsTrue, IfOk, IfSome, ◌&&◌, ◌||◌, if◌then◌else◌, List, [], ◌∷◌, ◌++◌, length, Option, Some, None, Result, Ok, Err}
 use Rattle.std.specs.Option.{option_map}
 use Rattle.gx_model.specs.declared.features.Feature.TheVariants as features
 use Rattle.gx_model.specs.declared.faults.Fault.TheVariants as faults
 use Rattle.gx_model.specs.Faults.{◌>>=◌}
+use Rattle.gx_model.specs.Streams.Gitlinks.{BringsNoNullGitlink}
 use Rattle.gx_model.specs.Streams.Items.{Stream}
 use Rattle.gx_model.specs.Streams.Commands as model
 use Rattle.gx_model.specs.Streams.Commands.{Commands}
@@ -46,6 +47,10 @@ abbrev pub Finishes : {A : Type 0} → Option Commands → Result (Option (Comma
 Finishes new (Ok (Some c)) = IsTrue (is_done (shown_command c)) → new ≡ Some (stops None)
 Finishes new (Ok None) = Unit {0}
 Finishes new (Err f) = Unit {0}
+
+-- the command that is answered, where one is, brings no null gitlink
+abbrev pub ReadsNoNullGitlink : {A E : Type 0} → Result (Option (Command A)) E → Type 0
+ReadsNoNullGitlink answer = IfOk answer (λ next. IfSome next (λ command. BringsNoNullGitlink (shown_command command)))
 
 -- each command lowers the bound
 abbrev pub Falls : {A : Type 0} → ℕ → ℕ → Result (Option (Command A)) CommandFault → Type 0

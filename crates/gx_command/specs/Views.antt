@@ -2,6 +2,7 @@
 use Rattle.std.specs.Prelude.{map}
 use Rattle.std.specs.Option.{option_map}
 use Rattle.gx_model.specs.Streams.Commands as model
+use Rattle.gx_model.specs.Texts.{Bytes}
 use Rattle.gx_command.specs.declared.commands.Blob.{Blob}
 use Rattle.gx_command.specs.declared.commands.Commit.{Commit}
 use Rattle.gx_command.specs.declared.commands.Tag.{Tag}
@@ -15,6 +16,16 @@ use Rattle.gx_command.specs.declared.commands.Change.{Change}
 use Rattle.gx_command.specs.declared.commands.Change.TheVariants as change
 use Rattle.gx_command.specs.declared.commands.Command.{Command}
 use Rattle.gx_command.specs.declared.commands.Command.TheVariants as command
+use Rattle.gx_command.specs.declared.texts.Encoding.{Encoding}
+use Rattle.gx_command.specs.declared.texts.Identity.{Identity}
+
+-- who made it, as it is written
+abbrev pub shown_ident : {A : Type 0} → Identity A → Bytes
+shown_ident = λ i. i.bytes.items
+
+-- an encoding as its name
+abbrev pub shown_encoding : {A : Type 0} → Encoding A → Bytes
+shown_encoding = λ e. e.name.items
 
 abbrev pub shown_commit_ish : {A : Type 0} → CommitIsh A → model.CommitIsh
 shown_commit_ish (commit_ish.Mark n) = model.Marked n
@@ -42,9 +53,9 @@ abbrev pub commit_parts : {A : Type 0} → Commit A → model.CommitParts
 commit_parts c = record {
   ref = c.branch.bytes.items;
   mark = c.mark;
-  author = option_map (λ i. i.bytes.items) c.author;
+  author = option_map shown_ident c.author;
   committer = c.committer.bytes.items;
-  encoding = option_map (λ e. e.name.items) c.encoding;
+  encoding = option_map shown_encoding c.encoding;
   message = c.message.items;
   parent = option_map shown_commit_ish c.from;
   merges = map shown_commit_ish c.merges.items;
@@ -59,7 +70,7 @@ tag_parts t = record {
   name = t.name.bytes.items;
   mark = t.mark;
   target = shown_commit_ish t.from;
-  tagger = option_map (λ i. i.bytes.items) t.tagger;
+  tagger = option_map shown_ident t.tagger;
   message = t.message.items;
 }
 

@@ -1,20 +1,17 @@
 //! The lines and blocks of each command after its first line.
 
-ghost use Rattle.std.specs.Prelude.{◌≡◌, ◌≢◌, IsTrue, codes, map, IfOk, IfErr};
+ghost use Rattle.std.specs.Prelude.{◌≡◌, codes, map, IfOk};
 ghost use Rattle.std.specs.Option.{option_map};
 ghost use Rattle.gx_model.specs.Faults.{Gives};
 ghost use Rattle.gx_model.specs.Streams.Items.{Stream};
 ghost use Rattle.gx_stream.specs.Reading.{item_of};
 ghost use Rattle.gx_model.specs.Streams.Grammar.{optional, needed, block, mark_of, any_text, ident_of, encoding_of, commit_ish_of, unsigned, item_after, bytes_from, merges, changes, blob_at, links_at, commit_at, tag_at, reset_at};
-ghost use Rattle.gx_command.specs.Ahead.{Reads, Falls, FallsNot, to_come, most};
+ghost use Rattle.gx_command.specs.Ahead.{ReadsOn, ReadsPlain, ReadsLine, Falls, FallsNot, to_come, most};
 ghost use Rattle.gx_command.specs.Bodies.{next_change, shown_links, ChangeIn, TakesChange, signature_in, empty_line};
-ghost use Rattle.gx_command.specs.CommandFaults.{fault_of};
-ghost use Rattle.gx_model.specs.declared.objects.Mode.{Mode};
+ghost use Rattle.gx_command.specs.CommandFaults.{NeedsNoMemory, fault_of};
 ghost use Rattle.gx_command.specs.ChangeLines.{completed_modify, shown_place};
-ghost use Rattle.gx_command.specs.DataRefs.{is_suited};
-ghost use Rattle.gx_command.specs.Places.{is_suited_place};
-ghost use Rattle.gx_command.specs.Views.{shown_commit_ish, shown_data, shown_modify, shown_change, shown_blob, shown_commit, shown_tag, shown_reset};
-ghost use Rattle.gx_command.specs.declared.fault.CommandFault.TheVariants.{OutOfMemory};
+ghost use Rattle.gx_command.specs.Places.{IsSuitedAs};
+ghost use Rattle.gx_command.specs.Views.{shown_ident, shown_encoding, shown_commit_ish, shown_data, shown_modify, shown_change, shown_blob, shown_commit, shown_tag, shown_reset};
 
 use crate::ahead::{Ahead, Held};
 use crate::change_lines::{ChangeLine, read_change};
@@ -39,7 +36,7 @@ struct Links<A: Allocator> {
 impl<R: Source, A: Allocator + Copy> Ahead<R, A> {
     #[tactic(auto, unfolding(gx_model::specs::Streams::Grammar::blob_at))]
     pub(crate) fn blob(&mut self) -> Result<Blob<A>, CommandFault>
-        ensures reads { Reads shown_blob blob_at (to_come self.old) (to_come self.new) result }
+        ensures reads { ReadsOn shown_blob blob_at self.old self.new result }
         ensures falls { FallsNot (most self.old) (most self.new) result }
     {
         let mark = self.mark()?;
@@ -50,7 +47,7 @@ impl<R: Source, A: Allocator + Copy> Ahead<R, A> {
 
     #[tactic(auto, unfolding(gx_model::specs::Streams::Grammar::commit_at))]
     pub(crate) fn commit(&mut self, branch: RefName<A>) -> Result<Commit<A>, CommandFault>
-        ensures reads { Reads shown_commit (commit_at branch.bytes.items) (to_come self.old) (to_come self.new) result }
+        ensures reads { ReadsOn shown_commit (commit_at branch.bytes.items) self.old self.new result }
         ensures falls { FallsNot (most self.old) (most self.new) result }
     {
         let mark = self.mark()?;
@@ -80,7 +77,7 @@ impl<R: Source, A: Allocator + Copy> Ahead<R, A> {
 
     #[tactic(auto, unfolding(gx_model::specs::Streams::Grammar::links_at))]
     fn links(&mut self) -> Result<Links<A>, CommandFault>
-        ensures reads { Reads shown_links links_at (to_come self.old) (to_come self.new) result }
+        ensures reads { ReadsOn shown_links links_at self.old self.new result }
         ensures falls { FallsNot (most self.old) (most self.new) result }
     {
         let from = self.commit_ish(b"from")?;
@@ -96,7 +93,7 @@ impl<R: Source, A: Allocator + Copy> Ahead<R, A> {
 
     #[tactic(auto, unfolding(gx_model::specs::Streams::Grammar::tag_at))]
     pub(crate) fn tag(&mut self, name: TagName<A>) -> Result<Tag<A>, CommandFault>
-        ensures reads { Reads shown_tag (tag_at name.bytes.items) (to_come self.old) (to_come self.new) result }
+        ensures reads { ReadsOn shown_tag (tag_at name.bytes.items) self.old self.new result }
         ensures falls { FallsNot (most self.old) (most self.new) result }
     {
         let mark = self.mark()?;
@@ -115,7 +112,7 @@ impl<R: Source, A: Allocator + Copy> Ahead<R, A> {
 
     #[tactic(auto, unfolding(gx_model::specs::Streams::Grammar::reset_at))]
     pub(crate) fn reset(&mut self, branch: RefName<A>) -> Result<Reset<A>, CommandFault>
-        ensures reads { Reads shown_reset (reset_at branch.bytes.items) (to_come self.old) (to_come self.new) result }
+        ensures reads { ReadsOn shown_reset (reset_at branch.bytes.items) self.old self.new result }
         ensures falls { FallsNot (most self.old) (most self.new) result }
     {
         let from = self.commit_ish(b"from")?;
@@ -124,21 +121,21 @@ impl<R: Source, A: Allocator + Copy> Ahead<R, A> {
     }
 
     fn mark(&mut self) -> Result<Option<u64>, CommandFault>
-        ensures reads { Reads (λ mark. mark) (optional (codes "mark") mark_of) (to_come self.old) (to_come self.new) result }
+        ensures reads { ReadsPlain (optional (codes "mark") mark_of) self.old self.new result }
         ensures falls { FallsNot (most self.old) (most self.new) result }
     {
         self.optional(b"mark", |text| read_mark(text))
     }
 
     fn skip_oid(&mut self) -> Result<Option<()>, CommandFault>
-        ensures reads { Reads (λ oid. oid) (optional (codes "original-oid") any_text) (to_come self.old) (to_come self.new) result }
+        ensures reads { ReadsPlain (optional (codes "original-oid") any_text) self.old self.new result }
         ensures falls { FallsNot (most self.old) (most self.new) result }
     {
         self.optional(b"original-oid", |_text| Ok(()))
     }
 
     fn ident(&mut self, word: &[u8]) -> Result<Option<Identity<A>>, CommandFault>
-        ensures reads { Reads (option_map (λ i. i.bytes.items)) (optional word.now ident_of) (to_come self.old) (to_come self.new) result }
+        ensures reads { ReadsLine shown_ident word.now ident_of self.old self.new result }
         ensures falls { FallsNot (most self.old) (most self.new) result }
     {
         let alloc = self.alloc;
@@ -146,14 +143,14 @@ impl<R: Source, A: Allocator + Copy> Ahead<R, A> {
     }
 
     fn needed_ident(&mut self, word: &[u8]) -> Result<Identity<A>, CommandFault>
-        ensures reads { Reads (λ i. i.bytes.items) (needed word.now ident_of) (to_come self.old) (to_come self.new) result }
+        ensures reads { ReadsOn shown_ident (needed word.now ident_of) self.old self.new result }
         ensures falls { FallsNot (most self.old) (most self.new) result }
     {
         self.ident(word)?.ok_or(CommandFault::BadLine)
     }
 
     fn encoding(&mut self) -> Result<Option<Encoding<A>>, CommandFault>
-        ensures reads { Reads (option_map (λ e. e.name.items)) (optional (codes "encoding") encoding_of) (to_come self.old) (to_come self.new) result }
+        ensures reads { ReadsLine shown_encoding (codes "encoding") encoding_of self.old self.new result }
         ensures falls { FallsNot (most self.old) (most self.new) result }
     {
         let alloc = self.alloc;
@@ -161,7 +158,7 @@ impl<R: Source, A: Allocator + Copy> Ahead<R, A> {
     }
 
     fn commit_ish(&mut self, word: &[u8]) -> Result<Option<CommitIsh<A>>, CommandFault>
-        ensures reads { Reads (option_map shown_commit_ish) (optional word.now commit_ish_of) (to_come self.old) (to_come self.new) result }
+        ensures reads { ReadsLine shown_commit_ish word.now commit_ish_of self.old self.new result }
         ensures falls { Falls (most self.old) (most self.new) result }
     {
         let alloc = self.alloc;
@@ -169,7 +166,7 @@ impl<R: Source, A: Allocator + Copy> Ahead<R, A> {
     }
 
     fn needed_commit_ish(&mut self, word: &[u8]) -> Result<CommitIsh<A>, CommandFault>
-        ensures reads { Reads shown_commit_ish (needed word.now commit_ish_of) (to_come self.old) (to_come self.new) result }
+        ensures reads { ReadsOn shown_commit_ish (needed word.now commit_ish_of) self.old self.new result }
         ensures falls { FallsNot (most self.old) (most self.new) result }
     {
         self.commit_ish(word)?.ok_or(CommandFault::BadLine)
@@ -177,7 +174,7 @@ impl<R: Source, A: Allocator + Copy> Ahead<R, A> {
 
     /// The commits that are merged, of all the lines that name one.
     fn merges(&mut self) -> Result<Vec<CommitIsh<A>, A>, CommandFault>
-        ensures reads { Reads (λ v. map shown_commit_ish v.items) merges (to_come self.old) (to_come self.new) result }
+        ensures reads { ReadsOn (λ v. map shown_commit_ish v.items) merges self.old self.new result }
         ensures falls { FallsNot (most self.old) (most self.new) result }
     {
         let mut merges = Vec::new(self.alloc);
@@ -188,7 +185,7 @@ impl<R: Source, A: Allocator + Copy> Ahead<R, A> {
     }
 
     fn changes(&mut self) -> Result<Vec<Change<A>, A>, CommandFault>
-        ensures reads { Reads (λ v. map shown_change v.items) changes (to_come self.old) (to_come self.new) result }
+        ensures reads { ReadsOn (λ v. map shown_change v.items) changes self.old self.new result }
         ensures falls { FallsNot (most self.old) (most self.new) result }
     {
         let mut changes = Vec::new(self.alloc);
@@ -200,7 +197,7 @@ impl<R: Source, A: Allocator + Copy> Ahead<R, A> {
 
     /// The next change, with the block that belongs to it.
     fn change(&mut self) -> Result<Option<Change<A>>, CommandFault>
-        ensures reads { Reads (option_map shown_change) next_change (to_come self.old) (to_come self.new) result }
+        ensures reads { ReadsOn (option_map shown_change) next_change self.old self.new result }
         ensures falls { Falls (most self.old) (most self.new) result }
     {
         match self.change_line()? {
@@ -212,7 +209,7 @@ impl<R: Source, A: Allocator + Copy> Ahead<R, A> {
 
     /// The modify of a line, with the block that may belong to it.
     fn modify(&mut self, line: ModifyLine<A>) -> Result<Modify<A>, CommandFault>
-        ensures reads { Reads shown_modify (completed_modify line) (to_come self.old) (to_come self.new) result }
+        ensures reads { ReadsOn shown_modify (completed_modify line) self.old self.new result }
         ensures falls { FallsNot (most self.old) (most self.new) result }
     {
         let ModifyLine { mode, place, path } = line;
@@ -225,8 +222,8 @@ impl<R: Source, A: Allocator + Copy> Ahead<R, A> {
     }
 
     fn data_ref(&mut self, place: Place) -> Result<DataRef<A>, CommandFault>
-        ensures reads { Reads shown_data (bytes_from (shown_place place)) (to_come self.old) (to_come self.new) result }
-        ensures suits { IfOk result (λ data_ref. (mode : Mode) → IsTrue (is_suited_place mode place) → IsTrue (is_suited mode data_ref)) }
+        ensures reads { ReadsOn shown_data (bytes_from (shown_place place)) self.old self.new result }
+        ensures suits { IfOk result (IsSuitedAs place) }
         ensures falls { FallsNot (most self.old) (most self.new) result }
     {
         match place {
@@ -247,7 +244,7 @@ impl<R: Source, A: Allocator + Copy> Ahead<R, A> {
     /// The bytes of the next item, which has to be a block.
     #[tactic(auto, unfolding(gx_model::specs::Streams::Grammar::block_in, crate::specs::Ahead::to_come, crate::specs::Ahead::most))]
     fn block(&mut self) -> Result<Vec<u8, A>, CommandFault>
-        ensures reads { Reads (λ v. v.items) block (to_come self.old) (to_come self.new) result }
+        ensures reads { ReadsOn (λ v. v.items) block self.old self.new result }
         ensures falls { FallsNot (most self.old) (most self.new) result }
     {
         match self.held.take() {
@@ -264,7 +261,7 @@ impl<R: Source, A: Allocator + Copy> Ahead<R, A> {
     /// Refuses a signature.
     #[tactic(auto, unfolding(gx_model::specs::Streams::Grammar::unsigned_in))]
     fn check_unsigned(&mut self) -> Result<(), CommandFault>
-        ensures reads { Reads (λ u. u) unsigned (to_come self.old) (to_come self.new) result }
+        ensures reads { ReadsPlain unsigned self.old self.new result }
         ensures falls { FallsNot (most self.old) (most self.new) result }
     {
         let _none = self.take(|item| refuse_signature(item))?;
@@ -274,7 +271,7 @@ impl<R: Source, A: Allocator + Copy> Ahead<R, A> {
     /// Looks at the item after a commit or a reset, and takes it where it is an empty line.
     #[tactic(auto, unfolding(gx_model::specs::Streams::Grammar::item_after_in))]
     fn end(&mut self) -> Result<(), CommandFault>
-        ensures reads { Reads (λ u. u) item_after (to_come self.old) (to_come self.new) result }
+        ensures reads { ReadsPlain item_after self.old self.new result }
         ensures falls { FallsNot (most self.old) (most self.new) result }
     {
         let _line = self.take(|item| Ok(empty_line(item)))?;
@@ -297,7 +294,7 @@ fn change_in<A: Allocator + Copy>(
 
 fn refuse_signature(item: Item<'_>) -> Result<Option<()>, CommandFault>
     ensures signature { Gives fault_of (λ none. none) result (signature_in (item_of item.entry)) }
-    ensures memory { IfErr result (λ fault. fault ≢ OutOfMemory) }
+    ensures memory { NeedsNoMemory result }
 {
     match item {
         Item::Line(line) if Words::of(line).is(b"gpgsig") => Err(CommandFault::Unsupported),

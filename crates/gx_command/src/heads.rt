@@ -1,17 +1,16 @@
 //! The lines that begin commands.
 
-ghost use Rattle.std.specs.Prelude.{◌≡◌, ◌≢◌, ◌||◌, codes, Ok, IfErr};
+ghost use Rattle.std.specs.Prelude.{◌≡◌};
 ghost use Rattle.std.specs.Option.{option_map};
-ghost use Rattle.gx_model.specs.Faults.{Gives, and_then};
+ghost use Rattle.gx_model.specs.Faults.{Gives};
 ghost use Rattle.gx_model.specs.Streams.Items.{Stream};
-ghost use Rattle.gx_model.specs.Streams.Grammar.{command_at, is_word, rest_of, if_early, feature_of};
+ghost use Rattle.gx_model.specs.Streams.Grammar.{command_at, feature_of};
 ghost use Rattle.gx_stream.specs.Reading.{item_of};
-ghost use Rattle.gx_command.specs.Ahead.{Reads, Falls, FallsNot, to_come, most};
-ghost use Rattle.gx_command.specs.CommandFaults.{fault_of};
-ghost use Rattle.gx_command.specs.Heads.{Begins, BeginsIn, TakesStart, TakesHead, begun, first};
-ghost use Rattle.gx_command.specs.Lines.{shown_words};
+ghost use Rattle.gx_command.specs.Ahead.{ReadsOn, Falls, FallsNot, to_come, most};
+ghost use Rattle.gx_command.specs.CommandFaults.{NeedsNoMemory, fault_of};
+ghost use Rattle.gx_command.specs.Heads.{Begins, BeginsIn, TakesStart, TakesHead, begun, early_rest, first, is_left_out};
+ghost use Rattle.gx_command.specs.Lines.{lent_bytes, shown_words};
 ghost use Rattle.gx_command.specs.Views.{shown_command};
-ghost use Rattle.gx_command.specs.declared.fault.CommandFault.TheVariants.{OutOfMemory};
 
 use crate::ahead::Ahead;
 use crate::commands::Command;
@@ -44,7 +43,7 @@ pub(crate) enum Start<A: Allocator> {
 impl<R: Source, A: Allocator + Copy> Ahead<R, A> {
     /// The next command, or `None` at the end of the items. Only options came before it, or `is_early` is false.
     pub(crate) fn command(&mut self, is_early: bool) -> Result<Option<Command<A>>, CommandFault>
-        ensures reads { Reads (option_map shown_command) (first is_early) (to_come self.old) (to_come self.new) result }
+        ensures reads { ReadsOn (option_map shown_command) (first is_early) self.old self.new result }
         ensures falls { Falls (most self.old) (most self.new) result }
     {
         match self.head(is_early)? {
@@ -55,7 +54,7 @@ impl<R: Source, A: Allocator + Copy> Ahead<R, A> {
 
     /// The rest of the command that begins so.
     fn body(&mut self, head: Head<A>) -> Result<Command<A>, CommandFault>
-        ensures reads { Reads shown_command (begun head) (to_come self.old) (to_come self.new) result }
+        ensures reads { ReadsOn shown_command (begun head) self.old self.new result }
         ensures falls { FallsNot (most self.old) (most self.new) result }
     {
         match head {
@@ -150,8 +149,8 @@ fn read_head<A: Allocator + Copy>(
 
 /// The rest of an option, which stands before every other command.
 fn early_rest<'a>(is_early: bool, words: Words<'a>) -> Result<&'a [u8], CommandFault>
-    ensures rest { Gives fault_of (λ rest. rest.now) result (and_then (rest_of (shown_words words.entry)) (λ rest. if_early is_early (Ok rest))) }
-    ensures memory { IfErr result (λ fault. fault ≢ OutOfMemory) }
+    ensures rest { Gives fault_of lent_bytes result (early_rest is_early (shown_words words.entry)) }
+    ensures memory { NeedsNoMemory result }
 {
     let rest = words.rest()?;
     if is_early {
@@ -163,14 +162,14 @@ fn early_rest<'a>(is_early: bool, words: Words<'a>) -> Result<&'a [u8], CommandF
 
 /// A command of git-fast-import(1) that isn't supported.
 fn is_left_out(words: Words<'_>) -> bool
-    ensures { result ≡ (is_word (shown_words words.entry) (codes "ls") || is_word (shown_words words.entry) (codes "cat-blob") || is_word (shown_words words.entry) (codes "get-mark") || is_word (shown_words words.entry) (codes "alias")) }
+    ensures { result ≡ is_left_out (shown_words words.entry) }
 {
     words.is(b"ls") || words.is(b"cat-blob") || words.is(b"get-mark") || words.is(b"alias")
 }
 
 fn read_feature(text: &[u8]) -> Result<Feature, CommandFault>
     ensures feature { Gives fault_of (λ f. f) result (feature_of text.now) }
-    ensures memory { IfErr result (λ fault. fault ≢ OutOfMemory) }
+    ensures memory { NeedsNoMemory result }
 {
     if text == b"done".as_slice() {
         Ok(Feature::Done)

@@ -1,13 +1,11 @@
 //! Lines: the word and the rest of each.
 
-ghost use Rattle.std.specs.Prelude.{◌≡◌, ◌≢◌, IfErr};
-ghost use Rattle.std.specs.Option.{option_map};
+ghost use Rattle.std.specs.Prelude.{◌≡◌};
 ghost use Rattle.gx_model.specs.Faults.{Gives};
 ghost use Rattle.gx_model.specs.Streams.Grammar.{words_of, is_word, rest_of, bare};
 ghost use Rattle.gx_stream.specs.Reading.{item_of};
-ghost use Rattle.gx_command.specs.CommandFaults.{fault_of};
-ghost use Rattle.gx_command.specs.Lines.{shown_words, rest_in};
-ghost use Rattle.gx_command.specs.declared.fault.CommandFault.TheVariants.{OutOfMemory};
+ghost use Rattle.gx_command.specs.CommandFaults.{NeedsNoMemory, fault_of};
+ghost use Rattle.gx_command.specs.Lines.{lent_bytes, shown_words, shown_rest, rest_in};
 
 use crate::fault::CommandFault;
 use gx_stream::Item;
@@ -44,8 +42,8 @@ impl<'a> Words<'a> {
 
     /// The rest of a line that needs one.
     pub(crate) fn rest(self) -> Result<&'a [u8], CommandFault>
-        ensures rest { Gives fault_of (λ rest. rest.now) result (rest_of (shown_words self.entry)) }
-        ensures memory { IfErr result (λ fault. fault ≢ OutOfMemory) }
+        ensures rest { Gives fault_of lent_bytes result (rest_of (shown_words self.entry)) }
+        ensures memory { NeedsNoMemory result }
     {
         self.rest.ok_or(CommandFault::BadLine)
     }
@@ -53,7 +51,7 @@ impl<'a> Words<'a> {
     /// Refuses a line with a rest.
     pub(crate) fn check_bare(self) -> Result<(), CommandFault>
         ensures bare { Gives fault_of (λ u. u) result (bare (shown_words self.entry)) }
-        ensures memory { IfErr result (λ fault. fault ≢ OutOfMemory) }
+        ensures memory { NeedsNoMemory result }
     {
         match self.rest {
             Some(_) => Err(CommandFault::BadLine),
@@ -64,8 +62,8 @@ impl<'a> Words<'a> {
 
 /// The rest of a line that has this word. Another item gives none.
 pub(crate) fn rest_in<'a>(item: Item<'a>, word: &[u8]) -> Result<Option<&'a [u8]>, CommandFault>
-    ensures rest { Gives fault_of (option_map (λ rest. rest.now)) result (rest_in word.now (item_of item.entry)) }
-    ensures memory { IfErr result (λ fault. fault ≢ OutOfMemory) }
+    ensures rest { Gives fault_of shown_rest result (rest_in word.now (item_of item.entry)) }
+    ensures memory { NeedsNoMemory result }
 {
     match item {
         Item::Line(line) => {

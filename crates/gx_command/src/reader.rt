@@ -1,12 +1,11 @@
 //! The reader of commands.
 
-ghost use Rattle.std.specs.Prelude.{◌≡◌, ◌-◌, ◌^◌, ◌&&◌, ◌||◌, None, IfOk, IfSome};
+ghost use Rattle.std.specs.Prelude.{◌≡◌, ◌-◌, ◌^◌, ◌&&◌, ◌||◌, None};
 ghost use Rattle.std.specs.Option.{option_map};
-ghost use Rattle.gx_model.specs.Streams.Gitlinks.{BringsNoNullGitlink};
 ghost use Rattle.gx_model.specs.Streams.Grammar.{is_option, asks_done, is_done};
-ghost use Rattle.gx_command.specs.Ahead.{to_come, most, Reads as ReadsAhead, Falls as FallsAhead};
+ghost use Rattle.gx_command.specs.Ahead.{most, ReadsOn, Falls as FallsAhead};
 ghost use Rattle.gx_command.specs.Behind.{at_start};
-ghost use Rattle.gx_command.specs.Reading.{Reads, Finishes, Falls, Repeats, commands_from, next_after, over_after, state_after};
+ghost use Rattle.gx_command.specs.Reading.{Reads, ReadsNoNullGitlink, Finishes, Falls, Repeats, commands_from, next_after, over_after, state_after};
 ghost use Rattle.gx_command.specs.Views.{shown_command};
 
 use crate::ahead::Ahead;
@@ -85,7 +84,7 @@ impl<R: Source, A: Allocator + Copy> CommandReader<R, A> {
         ensures falls { Falls self.old.most self.new.most result }
         ensures over { self.new.over ≡ over_after result }
         ensures repeats { Repeats self.old.over self.old self.new result }
-        ensures gitlinks { IfOk result (λ next. IfSome next (λ command. BringsNoNullGitlink (shown_command command))) }
+        ensures gitlinks { ReadsNoNullGitlink result }
     {
         let options = match self.state {
             State::Open(options) => options,
@@ -114,7 +113,7 @@ pub(crate) fn next_command<R: Source, A: Allocator + Copy>(
     ahead: &mut Ahead<R, A>,
     options: Options,
 ) -> Result<Option<Command<A>>, CommandFault>
-    ensures reads { ReadsAhead (option_map shown_command) (next_after options) (to_come ahead.old) (to_come ahead.new) result }
+    ensures reads { ReadsOn (option_map shown_command) (next_after options) ahead.old ahead.new result }
     ensures falls { FallsAhead (most ahead.old) (most ahead.new) result }
 {
     match ahead.command(options.are_all)? {

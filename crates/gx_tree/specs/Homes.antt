@@ -2,6 +2,7 @@
 use Rattle.std.specs.Prelude.{List, Option, None, Some, ⊤}
 use Rattle.std.specs.Borrow.{Bor}
 use Rattle.std.specs.List.{AllByRecursion}
+use Rattle.std.specs.declared.vec.Vec.{Vec}
 use Rattle.gx_model.specs.declared.objects.Kind.{Kind}
 use Rattle.gx_model.specs.Texts.{Bytes}
 use Rattle.gx_model.specs.Histories.{Record}
@@ -15,6 +16,10 @@ use Rattle.gx_tree.specs.declared.directory.Entry.{Entry}
 -- what holds of something by the names that a namer gives, and the records that are held
 abbrev pub InStore : Type 0 → Type 1
 InStore X = (Kind → Bytes → Bytes) → List Record → X → Type 0
+
+-- it holds in a store, which is seen as its namer and its records
+abbrev pub HoldsIn : {N X : Type 0} → (N → Kind → Bytes → Bytes) → N × List Record → InStore X → X → Type 0
+HoldsIn names store P = P (names store.0) store.1
 
 -- the one holds wherever the other does
 abbrev pub Keeps : {X Y : Type 0} → InStore X → InStore Y → X → Y → Type 0
@@ -37,9 +42,17 @@ abbrev pub IsItemAtHome : {A : Type 0} → InStore (Item A)
 IsItemAtHome name rs (File m n) = ⊤
 IsItemAtHome name rs (Folder d) = IsAtHome name rs d
 
+-- an item that is lent is at home, if there is one
+abbrev pub IsLentAtHome : {A : Type 0} → InStore (Option (Bor (Item A)))
+IsLentAtHome = IfThere (Borrowed IsItemAtHome)
+
 abbrev pub AreAtHome : {A : Type 0} → InStore (List (Entry A))
 AreAtHome name rs es = AllByRecursion (λ e. IsItemAtHome name rs e.item) es
 
 abbrev pub IsHeldAtHome : {A : Type 0} → InStore (Held A)
 IsHeldAtHome name rs (held.File m n) = ⊤
 IsHeldAtHome name rs (held.Folder d) = IsAtHome name rs d.now
+
+-- entries that are made of x and of old entries are at home wherever both are
+abbrev pub EntriesKeepHome : {A X : Type 0} → InStore X → X → List (Entry A) → Vec (Entry A) A → Type 0
+EntriesKeepHome P x old new = Keeps (Both P AreAtHome) AreAtHome (x, old) new.items

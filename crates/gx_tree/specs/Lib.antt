@@ -15,3 +15,5 @@ pub mod Searches
 pub mod Named
 pub mod Homes
 pub mod Loaded
+pub mod Edits
+pub mod Calls

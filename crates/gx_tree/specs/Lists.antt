@@ -1,5 +1,5 @@
 -- The list of a tree's files.
-use Rattle.std.specs.Prelude.{◌++◌, map}
+use Rattle.std.specs.Prelude.{◌≡◌, List, ◌++◌, map}
 use Rattle.gx_model.specs.Texts.{Bytes}
 use Rattle.gx_model.specs.Texts.Paths.{Path}
 use Rattle.gx_model.specs.Histories.Files.{FileMap}
@@ -13,3 +13,7 @@ listed t = (t.0, (t.1, t.2.bytes))
 -- the same files below a path
 abbrev pub below : Path → FileMap Bytes → FileMap Bytes
 below p f = map (λ e. (p ++ e.0, e.1)) f
+
+-- these files are listed behind those that were
+abbrev pub AppendsFiles : FileMap Bytes → List (Path × Mode × Name) → List (Path × Mode × Name) → Type 0
+AppendsFiles f old new = map listed new ≡ map listed old ++ f

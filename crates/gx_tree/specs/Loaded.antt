@@ -24,3 +24,11 @@ pub record IsLoaded (name : Kind → Bytes → Bytes) (rs : List Record) (n : By
 -- each directory is loaded from the tree whose name it is entered for
 abbrev pub AreLoaded : {A : Type 0} → (Kind → Bytes → Bytes) → List Record → Loaded A → Type 0
 AreLoaded name rs loaded = (n : Name) → IfSome (directory_at loaded n) (IsLoaded name rs n.bytes)
+
+-- where d is loaded from the tree that n names, it is entered among what is loaded
+abbrev pub EntersLoaded : {A : Type 0} → Name → NamedTree → Loaded A → Loaded A → Type 0
+EntersLoaded n d old new = (name : Kind → Bytes → Bytes) (rs : List Record) → AreLoaded name rs old → IsLoaded name rs n.bytes d → AreLoaded name rs new
+
+-- nothing is loaded that isn't what its name says, whatever is held
+abbrev pub AreLoadedAnywhere : {A : Type 0} → Loaded A → Type 0
+AreLoadedAnywhere loaded = (name : Kind → Bytes → Bytes) (rs : List Record) → AreLoaded name rs loaded

@@ -1,5 +1,5 @@
 -- Trees whose directories may remember the names of theirs, and the stores that hold what is so named.
-use Rattle.std.specs.Prelude.{◌≡◌, Bool, List, [], ◌∷◌, Option, None, Some, if◌then◌else◌, is_some}
+use Rattle.std.specs.Prelude.{◌≡◌, Bool, List, [], ◌∷◌, ◌++◌, Option, None, Some, if◌then◌else◌, is_some}
 use Rattle.std.specs.List.{AllByRecursion}
 use Rattle.gx_model.specs.declared.objects.Kind.{Kind}
 use Rattle.gx_model.specs.Texts.{Bytes}
@@ -41,3 +41,7 @@ module _ (name : Kind → Bytes → Bytes) (rs : List Record) where
 -- the other is at home wherever the one is
 abbrev pub KeepsHome : NamedTree → NamedTree → Type 0
 KeepsHome old new = (name : Kind → Bytes → Bytes) (rs : List Record) → IsAtHome name rs old → IsAtHome name rs new
+
+-- a tree that is at home stays so with more records behind those that are held
+abbrev pub MoreRecordsKeepHome : Type 0
+MoreRecordsKeepHome = (name : Kind → Bytes → Bytes) (old more : List Record) (tree : NamedTree) → IsAtHome name old tree → IsAtHome name (old ++ more) tree

@@ -1,8 +1,10 @@
 -- What a search among a directory's entries answers.
-use Rattle.std.specs.Prelude.{◌≡◌, ◌≢◌, ◌<◌, ℕ, List, get_or, length, Option, None, Some}
+use Rattle.std.specs.Prelude.{◌≡◌, ◌≢◌, ◌<◌, ℕ, true, false, List, get_or, length, Option, None, Some}
+use Rattle.std.specs.List.Sorted.{IsPartitionPoint}
 use Rattle.gx_model.specs.Texts.{Bytes}
 use Rattle.gx_tree.specs.Components.{bytes_of}
-use Rattle.gx_tree.specs.Nodes.{Kept, Level, kept_at, mark}
+use Rattle.gx_tree.specs.Nodes.{Kept, Level, kept_at, mark, precedes}
+use Rattle.gx_tree.specs.Views.{seen}
 use Rattle.gx_tree.specs.declared.directory.Entry.{Entry}
 
 -- what is kept at c, if it has this mark
@@ -13,3 +15,7 @@ Finds c m es None = (k : Kept) → kept_at c es ≡ Some k → mark k ≢ m
 -- the entry at i is that of c
 abbrev pub IsEntryAt : {A : Type 0} → Bytes → List (Entry A) → ℕ → Type 0
 IsEntryAt {A} c es i = (i < length es) × ((d : Entry A) → bytes_of (get_or es i d).component ≡ c)
+
+-- the entries up to n don't come after the text, and those from there on do
+abbrev pub IsPlaceOf : {A : Type 0} → Bytes → List (Entry A) → ℕ → Type 0
+IsPlaceOf text es n = IsPartitionPoint (λ e. precedes text (seen e) ≡ false) (λ e. precedes text (seen e) ≡ true) es n

@@ -9,6 +9,7 @@ use Rattle.gx_model.specs.Histories.Files.{FileMap, Leaf}
 use Rattle.gx_model.specs.Records.{tree_body}
 use Rattle.gx_model.specs.Histories.{Record}
 use Rattle.gx_model.specs.Records.Growth.{put_all, tree_records}
+use Rattle.gx_object.specs.declared.name.Name.{Name}
 use Rattle.gx_tree.specs.Nodes.{Kept, Level, file, folder}
 use Rattle.gx_tree.specs.declared.fault.TreeFault.{TreeFault}
 use Rattle.gx_tree.specs.declared.fault.TreeFault.TheVariants.{OutOfMemory, NameHeld}
@@ -17,6 +18,10 @@ module _ (name : Kind → Bytes → Bytes) where
   -- the name of a map's tree
   abbrev pub map_name : FileMap Bytes → Bytes
   map_name g = name kind.Tree (tree_body name g)
+
+  -- n is the name of a map's tree
+  abbrev pub IsTreeName : FileMap Bytes → Name → Type 0
+  IsTreeName g n = n.bytes ≡ map_name g
 
   -- what an entry is and names
   abbrev pub kept_leaf : Kept → Leaf Bytes
@@ -38,3 +43,7 @@ PutsAll rs old new (Ok y) = put_all old rs ≡ Some new
 PutsAll rs old new (Err NameHeld) = put_all old rs ≡ None
 PutsAll rs old new (Err OutOfMemory) = ⊤
 PutsAll rs old new (Err f) = ⊥
+
+-- the records of x are put into a store, which is seen as its namer and its records, or one of them has the name of another
+abbrev pub StoresAll : {N X Y : Type 0} → (N → Kind → Bytes → Bytes) → ((Kind → Bytes → Bytes) → X → List Record) → X → N × List Record → N × List Record → Result Y TreeFault → Type 0
+StoresAll names records_of x old new = PutsAll (records_of (names old.0) x) old.1 new.1

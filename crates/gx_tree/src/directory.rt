@@ -1,13 +1,14 @@
 //! Directories: their entries in the order of Git's trees, each a file or a directory below. Entries never change while
 //! more than one directory has them, so trees share them.
-ghost use Rattle.std.specs.Prelude.{◌≡◌, ◌≤◌, ◌<◌, ◌+◌, ◌++◌, ◌∷◌, [], IsTrue, ◌↔◌, IfOk, OnOk, drop, length, take};
+ghost use Rattle.std.specs.Prelude.{◌≡◌, ◌≤◌, [], IsTrue, ◌↔◌, IfOk, OnOk, None, Some, drop, length};
 ghost use Rattle.std.specs.Option.{option_map};
-ghost use Rattle.gx_tree.specs.Homes.{Keeps, Both, IfThere, Borrowed, AreAtHome, IsHeldAtHome, IsItemAtHome};
+ghost use Rattle.gx_tree.specs.Edits.{AddsEntries, Replaces};
+ghost use Rattle.gx_tree.specs.Homes.{Keeps, IfThere, Borrowed, AreAtHome, EntriesKeepHome, IsItemAtHome, IsLentAtHome};
 ghost use Rattle.gx_tree.specs.Named.{IsAtHome, nothing};
-ghost use Rattle.gx_tree.specs.Nodes.{IsInner, IsLevel, mark, others, with_kept};
+ghost use Rattle.gx_tree.specs.Nodes.{IsInner, IsLevel, mark};
 ghost use Rattle.gx_tree.specs.Views.{RemembersBelow, kept, kept_if, option_kept, option_files, seen, seen_all, tree_of};
 ghost use Rattle.gx_tree.specs.Standings.{standing_of, standing_at};
-ghost use Rattle.gx_tree.specs.Steps.{files_of, replaced};
+ghost use Rattle.gx_tree.specs.Steps.{files_of};
 
 use crate::component::Component;
 use crate::path_tree::Found;
@@ -190,7 +191,7 @@ pub(crate) fn folder_in<'a, A: Allocator + Copy>(
     item: Option<&'a Item<A>>,
 ) -> Option<&'a Directory<A>>
     ensures files { files_of (option_kept item.entry) ≡ option_files result }
-    ensures home { Keeps (IfThere (Borrowed IsItemAtHome)) (IfThere (Borrowed IsAtHome)) item.entry result }
+    ensures home { Keeps IsLentAtHome (IfThere (Borrowed IsAtHome)) item.entry result }
 {
     match item {
         Some(Item::Folder(below)) => Some(below),
@@ -205,7 +206,7 @@ fn shared_others<A: Allocator + Copy>(
     component: &[u8],
 ) -> Result<Vec<Entry<A>, A>, AllocError>
     requires { IsLevel (seen_all entries.now) }
-    ensures others { IfOk result (λ v. seen_all v.items ≡ others component.now (seen_all entries.now)) }
+    ensures others { IfOk result (Replaces component.now None entries.now) }
     ensures home { IfOk result (λ v. Keeps AreAtHome AreAtHome entries.now v.items) }
 {
     let mut others = Vec::with_capacity(alloc, entries.len() + 1)?;
@@ -227,8 +228,8 @@ fn share_into<A: Allocator + Copy>(
     shared: &mut Vec<Entry<A>, A>,
     entries: &[Entry<A>],
 ) -> Result<(), AllocError>
-    ensures entries { OnOk result (seen_all shared.new.items ≡ seen_all shared.old.items ++ seen_all entries.now) }
-    ensures home { OnOk result (Keeps (Both AreAtHome AreAtHome) AreAtHome (shared.old.items, entries.now) shared.new.items) }
+    ensures entries { OnOk result (AddsEntries entries.now shared.old shared.new) }
+    ensures home { OnOk result (EntriesKeepHome AreAtHome shared.old.items entries.now shared.new) }
 {
     for entry in entries {
         shared.push(entry.shared()?)?;
@@ -243,8 +244,8 @@ pub(crate) fn with_entry<A: Allocator + Copy>(
     new: Entry<A>,
 ) -> Result<Vec<Entry<A>, A>, AllocError>
     requires { IsLevel (seen_all entries.now) }
-    ensures entries { IfOk result (λ v. seen_all v.items ≡ with_kept (seen new).0 (seen new).1 (seen_all entries.now)) }
-    ensures home { IfOk result (λ v. Keeps (Both IsItemAtHome AreAtHome) AreAtHome (new.item, entries.now) v.items) }
+    ensures entries { IfOk result (Replaces (seen new).0 (Some (seen new).1) entries.now) }
+    ensures home { IfOk result (EntriesKeepHome IsItemAtHome new.item entries.now) }
 {
     let mut all = shared_others(alloc, entries, new.component())?;
     let place = place_of(&all, new.component(), new.mark());
@@ -260,8 +261,8 @@ pub(crate) fn with_item<A: Allocator + Copy>(
     item: Option<Item<A>>,
 ) -> Result<Vec<Entry<A>, A>, AllocError>
     requires { IsLevel (seen_all entries.now) }
-    ensures entries { IfOk result (λ v. seen_all v.items ≡ replaced component.now (kept_if item) (seen_all entries.now)) }
-    ensures home { IfOk result (λ v. Keeps (Both (IfThere IsItemAtHome) AreAtHome) AreAtHome (item, entries.now) v.items) }
+    ensures entries { IfOk result (Replaces component.now (kept_if item) entries.now) }
+    ensures home { IfOk result (EntriesKeepHome (IfThere IsItemAtHome) item entries.now) }
 {
     match item {
         None => shared_others(alloc, entries, component),

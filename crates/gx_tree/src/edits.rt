@@ -5,11 +5,12 @@ ghost use Rattle.std.specs.Prelude.{◌≡◌, ◌≢◌, ◌<◌, ◌+◌, [], 
 ghost use Rattle.gx_model.specs.Histories.Edits.{removed};
 ghost use Rattle.gx_model.specs.Histories.Files.{sub_map};
 ghost use Rattle.gx_model.specs.Texts.Paths.{path_text};
-ghost use Rattle.gx_tree.specs.Homes.{Keeps, Both, IfThere, Borrowed, AreAtHome, IsHeldAtHome, IsItemAtHome};
+ghost use Rattle.gx_tree.specs.Edits.{Grafts, GraftsItem, IsLeftOf, IsLeftOfLent, PutsFile, PutsFileAt, PutsFileBelow, TakesBelow, level_in};
+ghost use Rattle.gx_tree.specs.Homes.{Keeps, Both, IfThere, AreAtHome, IsItemAtHome, IsLentAtHome};
 ghost use Rattle.gx_tree.specs.Named.{IsAtHome, KeepsHome};
-ghost use Rattle.gx_tree.specs.Nodes.{IsKept, IsLevel, file, files, kept_map, map_if, mark, with_kept, IsKeptAt};
-ghost use Rattle.gx_tree.specs.Steps.{grafted, is_made, kept_grafted, kept_removed};
-ghost use Rattle.gx_tree.specs.Views.{kept, kept_if, option_kept, seen_all};
+ghost use Rattle.gx_tree.specs.Nodes.{IsKept, IsLevel, map_if, mark, IsKeptAt};
+ghost use Rattle.gx_tree.specs.Steps.{is_made};
+ghost use Rattle.gx_tree.specs.Views.{kept, option_kept};
 ghost use Rattle.gx_model.specs.declared.objects.Mode.TheVariants as modes;
 ghost use Rattle.gx_tree.specs.declared.edits.Taken.TheVariants as taken;
 
@@ -27,7 +28,7 @@ impl<A: Allocator + Copy> Directory<A> {
         requires { depth < length path.now }
         ensures files { sub_map self.entry.now.files (drop depth path.now) ≡ map_if (option_kept result) }
         ensures kept { IsKeptAt (option_kept result) }
-        ensures home { Keeps IsAtHome (IfThere (Borrowed IsItemAtHome)) self.entry.now result }
+        ensures home { Keeps IsAtHome IsLentAtHome self.entry.now result }
     {
         let length = path.len();
         let item = find(self.entries.as_slice(), path.component(depth));
@@ -51,7 +52,7 @@ impl<A: Allocator + Copy> Directory<A> {
     ) -> Result<Directory<A>, AllocError>
         requires within { depth < length path.now }
         requires kept { IsKept (kept item) }
-        ensures files { IfOk result (λ d. d.files ≡ grafted (drop depth path.now) (kept_map (kept item)) self.now.files) }
+        ensures files { IfOk result (Grafts (drop depth path.now) (kept item) self.now) }
         ensures home { IfOk result (Keeps (Both IsItemAtHome IsAtHome) IsAtHome (item, self.now)) }
     {
         let component = path.component(depth);
@@ -99,7 +100,7 @@ impl<A: Allocator + Copy> Directory<A> {
         requires within { depth < length path.now }
         requires bytes { bytes ≡ length (path_text (drop depth path.now)) }
         requires mode { mode ≢ modes.Dir }
-        ensures files { IsTrue (is_made result) → self.new.files ≡ grafted (drop depth path.now) (kept_map (file (mode, name.bytes))) self.old.files }
+        ensures files { PutsFile (drop depth path.now) mode name self.old.files self.new.files result }
         ensures filled { IsTrue (is_made result) → self.new.files ≢ [] }
         ensures unchanged { IsFalse (is_made result) → self.new ≡ self.old }
         ensures home { KeepsHome self.old self.new }
@@ -147,9 +148,9 @@ fn take_in<A: Allocator + Copy>(
     depth: usize,
 ) -> bool
     requires within { depth < length path.now }
-    requires level { IsLevel (seen_all entries.now.value.items) }
-    ensures level { IsTrue result → IsLevel (seen_all entries.new.value.items) }
-    ensures files { IsTrue result → files (seen_all entries.new.value.items) ≡ removed (files (seen_all entries.old.value.items)) (drop depth path.now) }
+    requires level { IsLevel (level_in entries.now) }
+    ensures level { IsTrue result → IsLevel (level_in entries.new) }
+    ensures files { TakesBelow (drop depth path.now) entries.old entries.new result }
     ensures unchanged { IsFalse result → entries.new.value.items ≡ entries.old.value.items }
     ensures home { Keeps AreAtHome AreAtHome entries.old.value.items entries.new.value.items }
 {
@@ -175,8 +176,8 @@ impl<A: Allocator + Copy> Item<A> {
     #[cycle(take)]
     fn take(&mut self, path: &TreePath<A>, depth: usize) -> Taken
         requires { depth < length path.now }
-        ensures whole { result ≡ taken.Whole → None ≡ kept_removed (drop (depth + 1) path.now) (Some (kept self.old)) }
-        ensures part { result ≡ taken.Part → Some (kept self.new) ≡ kept_removed (drop (depth + 1) path.now) (Some (kept self.old)) }
+        ensures whole { result ≡ taken.Whole → IsLeftOf (drop (depth + 1) path.now) self.old None }
+        ensures part { result ≡ taken.Part → IsLeftOf (drop (depth + 1) path.now) self.old (Some self.new) }
         ensures mark { result ≡ taken.Part → mark (kept self.new) ≡ mark (kept self.old) }
         ensures unchanged { result ≡ taken.Nothing → self.new ≡ self.old }
         ensures home { Keeps IsItemAtHome IsItemAtHome self.old self.new }
@@ -214,9 +215,9 @@ fn put_in<A: Allocator + Copy>(
     requires within { depth < length path.now }
     requires bytes { bytes ≡ length (path_text (drop depth path.now)) }
     requires mode { mode ≢ modes.Dir }
-    requires level { IsLevel (seen_all entries.now.value.items) }
-    ensures level { IsTrue (is_made result) → IsLevel (seen_all entries.new.value.items) }
-    ensures files { IsTrue (is_made result) → files (seen_all entries.new.value.items) ≡ grafted (drop depth path.now) (kept_map (file (mode, name.bytes))) (files (seen_all entries.old.value.items)) }
+    requires level { IsLevel (level_in entries.now) }
+    ensures level { IsTrue (is_made result) → IsLevel (level_in entries.new) }
+    ensures files { PutsFileBelow (drop depth path.now) mode name entries.old entries.new result }
     ensures unchanged { IsFalse (is_made result) → entries.new.value.items ≡ entries.old.value.items }
     ensures home { Keeps AreAtHome AreAtHome entries.old.value.items entries.new.value.items }
 {
@@ -243,9 +244,9 @@ fn insert_in<A: Allocator + Copy>(
 ) -> Result<bool, AllocError>
     requires within { depth < length path.now }
     requires mode { mode ≢ modes.Dir }
-    requires level { IsLevel (seen_all entries.now.value.items) }
-    ensures level { IsTrue (is_made result) → IsLevel (seen_all entries.new.value.items) }
-    ensures files { IsTrue (is_made result) → files (seen_all entries.new.value.items) ≡ grafted (drop depth path.now) (kept_map (file (mode, name.bytes))) (files (seen_all entries.old.value.items)) }
+    requires level { IsLevel (level_in entries.now) }
+    ensures level { IsTrue (is_made result) → IsLevel (level_in entries.new) }
+    ensures files { PutsFileBelow (drop depth path.now) mode name entries.old entries.new result }
     ensures unchanged { IsFalse (is_made result) → entries.new.value.items ≡ entries.old.value.items }
     ensures home { Keeps AreAtHome AreAtHome entries.old.value.items entries.new.value.items }
 {
@@ -278,7 +279,7 @@ impl<A: Allocator + Copy> Item<A> {
         requires within { depth < length path.now }
         requires bytes { bytes ≡ length (path_text (drop depth path.now)) }
         requires mode { mode ≢ modes.Dir }
-        ensures kept { IsTrue (is_made result) → kept self.new ≡ kept_grafted (drop (depth + 1) path.now) (file (mode, name.bytes)) (Some (kept self.old)) }
+        ensures kept { PutsFileAt (drop (depth + 1) path.now) mode name self.old self.new result }
         ensures mark { IsTrue (is_made result) → mark (kept self.new) ≡ mark (kept self.old) }
         ensures unchanged { IsFalse (is_made result) → self.new ≡ self.old }
         ensures home { Keeps IsItemAtHome IsItemAtHome self.old self.new }
@@ -311,7 +312,7 @@ fn new_item<A: Allocator + Copy>(
 ) -> Result<Item<A>, AllocError>
     requires within { depth < length path.now }
     requires kept { IsKept (kept item) }
-    ensures kept { IfOk result (λ i. kept i ≡ kept_grafted (drop (depth + 1) path.now) (kept item) None) }
+    ensures kept { IfOk result (GraftsItem (drop (depth + 1) path.now) item None) }
     ensures home { IfOk result (Keeps IsItemAtHome IsItemAtHome item) }
 {
     let length = path.len();
@@ -342,8 +343,8 @@ fn item_grafted<A: Allocator + Copy>(
 ) -> Result<Item<A>, AllocError>
     requires within { depth < length path.now }
     requires kept { IsKept (kept item) }
-    ensures kept { IfOk result (λ i. kept i ≡ kept_grafted (drop (depth + 1) path.now) (kept item) (option_kept old.entry)) }
-    ensures home { IfOk result (Keeps (Both IsItemAtHome (IfThere (Borrowed IsItemAtHome))) IsItemAtHome (item, old.entry)) }
+    ensures kept { IfOk result (GraftsItem (drop (depth + 1) path.now) item old.entry) }
+    ensures home { IfOk result (Keeps (Both IsItemAtHome IsLentAtHome) IsItemAtHome (item, old.entry)) }
 {
     let length = path.len();
     if depth + 1 == length {
@@ -365,8 +366,8 @@ fn item_removed<A: Allocator + Copy>(
     depth: usize,
 ) -> Result<Option<Item<A>>, AllocError>
     requires { depth < length path.now }
-    ensures kept { IfOk result (λ o. kept_if o ≡ kept_removed (drop (depth + 1) path.now) (option_kept old.entry)) }
-    ensures home { IfOk result (Keeps (IfThere (Borrowed IsItemAtHome)) (IfThere IsItemAtHome) old.entry) }
+    ensures kept { IfOk result (IsLeftOfLent (drop (depth + 1) path.now) old.entry) }
+    ensures home { IfOk result (Keeps IsLentAtHome (IfThere IsItemAtHome) old.entry) }
 {
     let length = path.len();
     let Some(old) = old else {

@@ -1,8 +1,8 @@
 //! The list of a directory's files.
-ghost use Rattle.std.specs.Prelude.{◌≡◌, ◌++◌, ◌∷◌, [], map, OnOk, IfOk, IsTrue};
+ghost use Rattle.std.specs.Prelude.{◌≡◌, ◌++◌, ◌∷◌, [], OnOk, IfOk, IsTrue};
 ghost use Rattle.std.specs.List.{list_all};
 ghost use Rattle.gx_model.specs.Texts.Paths.{is_component, is_short};
-ghost use Rattle.gx_tree.specs.Lists.{below, listed};
+ghost use Rattle.gx_tree.specs.Lists.{AppendsFiles, below};
 
 use crate::directory::{Directory, Item};
 use gx_object::{Mode, Name};
@@ -18,7 +18,7 @@ impl<A: Allocator + Copy> Directory<A> {
         out: &mut Vec<(TreePath<A>, Mode, Name), A>,
     ) -> Result<(), AllocError>
         requires { IsTrue (list_all (λ e. is_short e.0) (below front.now self.now.files)) }
-        ensures { OnOk result (map listed out.new.items ≡ map listed out.old.items ++ below front.now self.now.files) }
+        ensures { OnOk result (AppendsFiles (below front.now self.now.files) out.old.items out.new.items) }
     {
         for entry in self.entries.as_slice() {
             let path = child(alloc, front, entry.component())?;

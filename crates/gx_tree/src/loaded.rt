@@ -1,9 +1,6 @@
 //! Directories that are made of held trees already.
-ghost use Rattle.std.specs.Prelude.{◌≡◌, IfOk, OnOk, List};
-ghost use Rattle.gx_model.specs.Texts.{Bytes};
-ghost use Rattle.gx_model.specs.Histories.{Record};
-ghost use Rattle.gx_model.specs.declared.objects.Kind.{Kind};
-ghost use Rattle.gx_tree.specs.Loaded.{AreLoaded, IsLoaded, directory_at};
+ghost use Rattle.std.specs.Prelude.{◌≡◌, IfOk, OnOk};
+ghost use Rattle.gx_tree.specs.Loaded.{AreLoadedAnywhere, EntersLoaded, directory_at};
 
 use crate::directory::Directory;
 use gx_object::Name;
@@ -19,7 +16,7 @@ pub(crate) struct Loaded<A: Allocator> {
 impl<A: Allocator + Copy> Loaded<A> {
     /// No directories. Takes no memory.
     pub(crate) fn new(alloc: A) -> Loaded<A>
-        ensures { (name : Kind → Bytes → Bytes) (rs : List Record) → AreLoaded name rs result }
+        ensures { AreLoadedAnywhere result }
     {
         Loaded {
             directories: BTreeMap::new(alloc),
@@ -38,7 +35,7 @@ impl<A: Allocator + Copy> Loaded<A> {
 
     /// Enters the directory of a tree's name, which it shares. Cost: the logarithm of the number of directories.
     pub(crate) fn enter(&mut self, name: &Name, directory: &Directory<A>) -> Result<(), AllocError>
-        ensures { OnOk result ((of : Kind → Bytes → Bytes) (rs : List Record) → AreLoaded of rs self.old → IsLoaded of rs name.now.bytes directory.now → AreLoaded of rs self.new) }
+        ensures { OnOk result (EntersLoaded name.now directory.now self.old self.new) }
     {
         let directory = directory.shared()?;
         self.directories.insert(*name, directory)?;

@@ -1,14 +1,9 @@
 //! Making a directory from the records of its trees.
-ghost use Rattle.std.specs.Prelude.{◌≡◌, IfOk, OnOk, ℕ};
-ghost use Rattle.gx_model.specs.Histories.Files.{FileMap};
-ghost use Rattle.gx_model.specs.Texts.{Bytes};
-ghost use Rattle.gx_object.specs.Entries.{shown};
-ghost use Rattle.gx_tree.specs.Homes.{IsItemAtHome};
-ghost use Rattle.gx_tree.specs.HeldTrees.{IsHeldEntry, IsHeldWithin};
+ghost use Rattle.std.specs.Prelude.{IfOk, OnOk};
+ghost use Rattle.gx_tree.specs.HeldTrees.{IsItemOf, NamesKeptWithin, NamesTreeWithin};
+ghost use Rattle.gx_tree.specs.Homes.{HoldsIn, IsItemAtHome};
 ghost use Rattle.gx_tree.specs.Loaded.{AreLoaded, IsLoaded};
-ghost use Rattle.gx_tree.specs.Nodes.{Kept};
-ghost use Rattle.gx_tree.specs.Views.{kept, Remembers};
-ghost use Rattle.gx_tree.specs.Writes.{kept_leaf};
+ghost use Rattle.gx_tree.specs.Views.{Remembers};
 
 use crate::directory::{Directory, Entry, Item};
 use crate::loaded::Loaded;
@@ -27,10 +22,10 @@ impl<A: Allocator + Copy> Directory<A> {
         room: usize,
         loaded: &mut Loaded<A>,
     ) -> Result<Directory<A>, AllocError>
-        requires held { (g : FileMap Bytes) × IsHeldWithin (N.name_of store.now.0) store.now.1 room name.now.bytes g }
-        requires loaded { AreLoaded (N.name_of store.now.0) store.now.1 loaded.old }
+        requires held { NamesTreeWithin (N.name_of store.now.0) store.now.1 room name.now }
+        requires loaded { HoldsIn N.name_of store.now AreLoaded loaded.old }
         ensures directory { IfOk result (IsLoaded (N.name_of store.now.0) store.now.1 name.now.bytes) }
-        ensures loaded { OnOk result (AreLoaded (N.name_of store.now.0) store.now.1 loaded.new) }
+        ensures loaded { OnOk result (HoldsIn N.name_of store.now AreLoaded loaded.new) }
     {
         if let Some(known) = loaded.of_tree(name)? {
             return Ok(known);
@@ -59,12 +54,12 @@ impl<A: Allocator + Copy> Item<A> {
         room: usize,
         loaded: &mut Loaded<A>,
     ) -> Result<Item<A>, AllocError>
-        requires held { (k : Kept) × IsHeldEntry (N.name_of store.now.0) store.now.1 room (entry.now.component.now, k) × (kept_leaf (N.name_of store.now.0) k ≡ (entry.now.mode, entry.now.name.bytes)) }
-        requires loaded { AreLoaded (N.name_of store.now.0) store.now.1 loaded.old }
-        ensures home { IfOk result (IsItemAtHome (N.name_of store.now.0) store.now.1) }
+        requires held { NamesKeptWithin (N.name_of store.now.0) store.now.1 room entry.now }
+        requires loaded { HoldsIn N.name_of store.now AreLoaded loaded.old }
+        ensures home { IfOk result (HoldsIn N.name_of store.now IsItemAtHome) }
         ensures remembers { IfOk result Remembers }
-        ensures kept { IfOk result (λ i. (k : Kept) (most : ℕ) → IsHeldEntry (N.name_of store.now.0) store.now.1 most (entry.now.component.now, k) → kept_leaf (N.name_of store.now.0) k ≡ (entry.now.mode, entry.now.name.bytes) → kept i ≡ k) }
-        ensures loaded { OnOk result (AreLoaded (N.name_of store.now.0) store.now.1 loaded.new) }
+        ensures kept { IfOk result (IsItemOf (N.name_of store.now.0) store.now.1 entry.now) }
+        ensures loaded { OnOk result (HoldsIn N.name_of store.now AreLoaded loaded.new) }
     {
         if entry.mode != Mode::Dir {
             return Ok(Item::File(entry.mode, entry.name));

@@ -3,19 +3,19 @@ ghost use Rattle.std.specs.Prelude.{◌≡◌, ◌≢◌, [], length, map, take,
 ghost use Rattle.std.specs.Option.{option_map};
 ghost use Rattle.gx_model.specs.Histories.Edits.{copied, modified, removed, renamed};
 ghost use Rattle.gx_model.specs.Faults.{Gives};
-ghost use Rattle.gx_model.specs.Histories.Files.{FileMap, sub_map};
-ghost use Rattle.gx_model.specs.Texts.{Bytes};
 ghost use Rattle.gx_model.specs.Records.Growth.{tree_records};
 ghost use Rattle.gx_model.specs.Objects.{is_name};
-ghost use Rattle.gx_tree.specs.Copies.{graft_fault, kept_held, option_held};
+ghost use Rattle.gx_tree.specs.Calls.{Becomes, GivesFiles, LoadsFiles};
+ghost use Rattle.gx_tree.specs.Copies.{graft_fault, kept_held};
+ghost use Rattle.gx_tree.specs.Edits.{Grafts};
 ghost use Rattle.gx_tree.specs.Faults.{fault_of, Refuses};
-ghost use Rattle.gx_model.specs.Objects.NameMaps.{IsHeldTree, IsNameMap};
-ghost use Rattle.gx_tree.specs.Homes.{Keeps, Both, IfThere, Borrowed, AreAtHome, IsHeldAtHome, IsItemAtHome};
+ghost use Rattle.gx_model.specs.Objects.NameMaps.{IsNameMap};
+ghost use Rattle.gx_tree.specs.HeldTrees.{HoldsTree, NamesHeldTree};
+ghost use Rattle.gx_tree.specs.Homes.{HoldsIn, Keeps, Both, IsHeldAtHome};
 ghost use Rattle.gx_tree.specs.Lists.{listed};
 ghost use Rattle.gx_tree.specs.Named.{IsAtHome, KeepsHome, nothing};
-ghost use Rattle.gx_tree.specs.Nodes.{IsKept, IsKeptAt, kept_map, map_if};
-ghost use Rattle.gx_tree.specs.Steps.{grafted};
-ghost use Rattle.gx_tree.specs.Writes.{PutsAll, map_name};
+ghost use Rattle.gx_tree.specs.Nodes.{IsKept};
+ghost use Rattle.gx_tree.specs.Writes.{IsTreeName, StoresAll};
 ghost use Rattle.gx_tree.specs.Standings.{standing_of, standing_at};
 ghost use Rattle.gx_model.specs.declared.objects.Mode.TheVariants as modes;
 ghost use Rattle.gx_tree.specs.declared.fault.TreeFault.TheVariants as faults;
@@ -81,9 +81,9 @@ impl<A: Allocator + Copy> PathTree<A> {
         store: &Store<N, A>,
         name: &Name,
     ) -> Result<PathTree<A>, TreeFault>
-        requires { (g : FileMap Bytes) × IsHeldTree (N.name_of store.now.0) store.now.1 name.now.bytes g }
-        ensures files { (g : FileMap Bytes) → IsHeldTree (N.name_of store.now.0) store.now.1 name.now.bytes g → Gives fault_of (λ tree. tree.files) result (Ok g) }
-        ensures home { IfOk result (IsAtHome (N.name_of store.now.0) store.now.1) }
+        requires { NamesHeldTree (N.name_of store.now.0) store.now.1 name.now }
+        ensures files { LoadsFiles (N.name_of store.now.0) store.now.1 name.now result }
+        ensures home { IfOk result (HoldsIn N.name_of store.now IsAtHome) }
     {
         let mut loaded = Loaded::new(alloc);
         let directory = Directory::load(alloc, store, name, MOST_BYTES, &mut loaded)?;
@@ -151,7 +151,7 @@ impl<A: Allocator + Copy> PathTree<A> {
     /// Source: git-fast-import(1), "filemodify".
     pub fn modify(&mut self, path: &TreePath<A>, mode: Mode, name: Name) -> Result<(), TreeFault>
         requires { mode ≢ modes.Dir }
-        ensures map { Gives fault_of (λ _. self.new.files) result (modified self.old.files path.now (mode, name.bytes)) }
+        ensures map { Becomes self.new result (modified self.old.files path.now (mode, name.bytes)) }
         ensures root { path.now ≡ [] → result ≡ Err faults.RootNotTree }
         ensures unchanged { OnErr result (self.new ≡ self.old) }
         ensures home { KeepsHome self.old self.new }
@@ -174,7 +174,7 @@ impl<A: Allocator + Copy> PathTree<A> {
     /// move of the entries behind the one that goes; it takes no memory. Otherwise the directories are made anew, as by
     /// `modify`; at the root it takes no memory. Source: git-fast-import(1), "filedelete".
     pub fn remove(&mut self, path: &TreePath<A>) -> Result<(), TreeFault>
-        ensures map { Gives fault_of (λ _. self.new.files) result (Ok (removed self.old.files path.now)) }
+        ensures map { Becomes self.new result (Ok (removed self.old.files path.now)) }
         ensures root { path.now ≡ [] → IsOk result }
         ensures unchanged { OnErr result (self.new ≡ self.old) }
         ensures home { KeepsHome self.old self.new }
@@ -196,7 +196,7 @@ impl<A: Allocator + Copy> PathTree<A> {
     /// none of its paths is looked at, since each directory knows the bytes of the longest below it. Source:
     /// git-fast-import(1), "filecopy".
     pub fn copy(&mut self, source: &TreePath<A>, destination: &TreePath<A>) -> Result<(), TreeFault>
-        ensures map { Gives fault_of (λ _. self.new.files) result (copied self.old.files source.now destination.now) }
+        ensures map { Becomes self.new result (copied self.old.files source.now destination.now) }
         ensures refused { Refuses (copied self.old.files source.now destination.now) result }
         ensures unchanged { OnErr result (self.new ≡ self.old) }
         ensures home { KeepsHome self.old self.new }
@@ -220,7 +220,7 @@ impl<A: Allocator + Copy> PathTree<A> {
         source: &TreePath<A>,
         destination: &TreePath<A>,
     ) -> Result<(), TreeFault>
-        ensures map { Gives fault_of (λ _. self.new.files) result (renamed self.old.files source.now destination.now) }
+        ensures map { Becomes self.new result (renamed self.old.files source.now destination.now) }
         ensures refused { Refuses (renamed self.old.files source.now destination.now) result }
         ensures unchanged { OnErr result (self.new ≡ self.old) }
         ensures home { KeepsHome self.old self.new }
@@ -238,9 +238,9 @@ impl<A: Allocator + Copy> PathTree<A> {
     /// Cost: the bytes of the trees, and for each directory a look-up in the store. Takes memory for the new records,
     /// for directories that remember their names, and for one body at a time. Source: gitglossary(7), "tree object".
     pub fn write<N: Namer>(&mut self, store: &mut Store<N, A>) -> Result<Name, TreeFault>
-        ensures name { IfOk result (λ name. name.bytes ≡ map_name (N.name_of store.old.0) self.old.files) }
-        ensures records { PutsAll (tree_records (N.name_of store.old.0) self.old.files) store.old.1 store.new.1 result }
-        ensures held { IfOk result (λ name. IsHeldTree (N.name_of store.old.0) store.new.1 name.bytes self.old.files) }
+        ensures name { IfOk result (IsTreeName (N.name_of store.old.0) self.old.files) }
+        ensures records { StoresAll N.name_of tree_records self.old.files store.old store.new result }
+        ensures held { IfOk result (HoldsTree (N.name_of store.old.0) store.new.1 self.old.files) }
         ensures front { take (length store.old.1) store.new.1 ≡ store.old.1 }
         ensures namer { store.new.0 ≡ store.old.0 }
         ensures map { self.new.files ≡ self.old.files }
@@ -258,10 +258,10 @@ impl<A: Allocator + Copy> PathTree<A> {
     /// The errors are those of `write`. Cost: the bytes of the trees without a remembered name, and for each of them a
     /// look-up in the store. Takes memory as `write` does, for these alone. Source: gitglossary(7), "tree object".
     pub fn write_shared<N: Namer>(&mut self, store: &mut Store<N, A>) -> Result<Name, TreeFault>
-        requires home { IsAtHome (N.name_of store.now.0) store.now.1 self.now }
-        ensures name { IfOk result (λ name. name.bytes ≡ map_name (N.name_of store.old.0) self.old.files) }
-        ensures records { PutsAll (tree_records (N.name_of store.old.0) self.old.files) store.old.1 store.new.1 result }
-        ensures held { IfOk result (λ name. IsHeldTree (N.name_of store.old.0) store.new.1 name.bytes self.old.files) }
+        requires home { HoldsIn N.name_of store.now IsAtHome self.now }
+        ensures name { IfOk result (IsTreeName (N.name_of store.old.0) self.old.files) }
+        ensures records { StoresAll N.name_of tree_records self.old.files store.old store.new result }
+        ensures held { IfOk result (HoldsTree (N.name_of store.old.0) store.new.1 self.old.files) }
         ensures front { take (length store.old.1) store.new.1 ≡ store.old.1 }
         ensures namer { store.new.0 ≡ store.old.0 }
         ensures map { self.new.files ≡ self.old.files }
@@ -278,7 +278,7 @@ impl<A: Allocator + Copy> PathTree<A> {
         source: &TreePath<A>,
         destination: &TreePath<A>,
     ) -> Result<Root<A>, TreeFault>
-        ensures files { Gives fault_of (λ root. root.files) result (copied self.now.files source.now destination.now) }
+        ensures files { GivesFiles result (copied self.now.files source.now destination.now) }
         ensures refused { Refuses (copied self.now.files source.now destination.now) result }
         ensures names { IfOk result (λ root. IsNameMap root.files) }
         ensures home { IfOk result (KeepsHome self.now) }
@@ -297,7 +297,7 @@ impl<A: Allocator + Copy> PathTree<A> {
         source: &TreePath<A>,
         destination: &TreePath<A>,
     ) -> Result<Root<A>, TreeFault>
-        ensures files { Gives fault_of (λ root. root.files) result (renamed self.now.files source.now destination.now) }
+        ensures files { GivesFiles result (renamed self.now.files source.now destination.now) }
         ensures refused { Refuses (renamed self.now.files source.now destination.now) result }
         ensures names { IfOk result (λ root. IsNameMap root.files) }
         ensures home { IfOk result (KeepsHome self.now) }
@@ -323,7 +323,7 @@ fn put_or_placed<A: Allocator + Copy>(
 ) -> Result<Root<A>, AllocError>
     requires kept { IsKept (kept_held held.now) }
     requires checked { graft_fault (kept_held held.now) path.now ≡ None }
-    ensures files { IfOk result (λ root. root.files ≡ grafted path.now (kept_map (kept_held held.now)) rest.files) }
+    ensures files { IfOk result (Grafts path.now (kept_held held.now) rest) }
     ensures home { IfOk result (Keeps (Both IsHeldAtHome IsAtHome) IsAtHome (held.now, rest)) }
 {
     if let Held::File(mode, name) = held {
@@ -343,7 +343,7 @@ fn placed<A: Allocator + Copy>(
 ) -> Result<Root<A>, AllocError>
     requires kept { IsKept (kept_held held.now) }
     requires checked { graft_fault (kept_held held.now) path.now ≡ None }
-    ensures files { IfOk result (λ root. root.files ≡ grafted path.now (kept_map (kept_held held.now)) rest.now.files) }
+    ensures files { IfOk result (Grafts path.now (kept_held held.now) rest.now) }
     ensures home { IfOk result (Keeps (Both IsHeldAtHome IsAtHome) IsAtHome (held.now, rest.now)) }
 {
     if path.len() > 0 {

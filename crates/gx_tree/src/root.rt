@@ -1,5 +1,5 @@
 //! The root of a tree: a directory, and none where there are no files.
-ghost use Rattle.std.specs.Prelude.{◌≡◌, ◌≢◌, ◌<◌, ◌++◌, [], IfErr, IfOk, IsFalse, IsOk, IsTrue, Ok, OnOk, length, map, take};
+ghost use Rattle.std.specs.Prelude.{◌≡◌, ◌≢◌, ◌<◌, [], IfErr, IfOk, IsFalse, IsOk, IsTrue, OnOk, length, take};
 ghost use Rattle.std.specs.List.{list_all};
 ghost use Rattle.std.specs.Option.{option_map};
 ghost use Rattle.gx_model.specs.Histories.Edits.{copied, removed};
@@ -7,16 +7,18 @@ ghost use Rattle.gx_model.specs.Histories.Files.{sub_map};
 ghost use Rattle.gx_model.specs.Records.Growth.{tree_records};
 ghost use Rattle.gx_model.specs.Objects.NameMaps.{IsNameMap};
 ghost use Rattle.gx_model.specs.Texts.Paths.{is_short};
+ghost use Rattle.gx_tree.specs.Calls.{IsMadeOf};
 ghost use Rattle.gx_tree.specs.Copies.{option_held};
-ghost use Rattle.gx_tree.specs.Homes.{Keeps, Both, IfThere, Borrowed, AreAtHome, IsHeldAtHome, IsItemAtHome};
-ghost use Rattle.gx_tree.specs.Lists.{listed};
+ghost use Rattle.gx_tree.specs.Edits.{Grafts, PutsFile};
+ghost use Rattle.gx_tree.specs.Homes.{HoldsIn, Keeps, Both, IfThere, IsHeldAtHome, IsItemAtHome};
+ghost use Rattle.gx_tree.specs.Lists.{AppendsFiles};
 ghost use Rattle.gx_tree.specs.Named.{IsAtHome, KeepsHome, nothing};
-ghost use Rattle.gx_tree.specs.Nodes.{IsKept, IsKeptAt, file, kept_map, map_if};
+ghost use Rattle.gx_tree.specs.Nodes.{IsKept, IsKeptAt, map_if};
 ghost use Rattle.gx_model.specs.declared.objects.Mode.TheVariants as modes;
 ghost use Rattle.gx_tree.specs.Standings.{standing_of, standing_at};
-ghost use Rattle.gx_tree.specs.Steps.{grafted, is_made};
+ghost use Rattle.gx_tree.specs.Steps.{is_made};
 ghost use Rattle.gx_tree.specs.Views.{kept};
-ghost use Rattle.gx_tree.specs.Writes.{PutsAll, map_name};
+ghost use Rattle.gx_tree.specs.Writes.{IsTreeName, StoresAll};
 
 use crate::copying::Held;
 use crate::directory::{Directory, Item};
@@ -129,7 +131,7 @@ impl<A: Allocator + Copy> Root<A> {
     ) -> Result<Root<A>, AllocError>
         requires within { 0 < length path.now }
         requires kept { IsKept (kept item) }
-        ensures files { IfOk result (λ root. root.files ≡ grafted path.now (kept_map (kept item)) self.now.files) }
+        ensures files { IfOk result (Grafts path.now (kept item) self.now) }
         ensures home { IfOk result (Keeps (Both IsItemAtHome IsAtHome) IsAtHome (item, self.now)) }
     {
         match &self.node {
@@ -150,7 +152,7 @@ impl<A: Allocator + Copy> Root<A> {
     ) -> Result<bool, AllocError>
         requires within { 0 < length path.now }
         requires mode { mode ≢ modes.Dir }
-        ensures files { IsTrue (is_made result) → self.new.files ≡ grafted path.now (kept_map (file (mode, name.bytes))) self.old.files }
+        ensures files { PutsFile path.now mode name self.old.files self.new.files result }
         ensures unchanged { IsFalse (is_made result) → self.new ≡ self.old }
         ensures home { KeepsHome self.old self.new }
     {
@@ -167,7 +169,7 @@ impl<A: Allocator + Copy> Root<A> {
         source: &TreePath<A>,
         destination: &TreePath<A>,
     ) -> Result<bool, AllocError>
-        ensures files { IsTrue (is_made result) → copied self.old.files source.now destination.now ≡ Ok self.new.files }
+        ensures files { IsMadeOf (copied self.old.files source.now destination.now) self.new result }
         ensures names { IsTrue (is_made result) → IsNameMap self.old.files → IsNameMap self.new.files }
         ensures unchanged { IsFalse (is_made result) → self.new ≡ self.old }
         ensures allowed { IfErr result (λ _. IsOk (copied self.old.files source.now destination.now)) }
@@ -227,7 +229,7 @@ impl<A: Allocator + Copy> Root<A> {
         out: &mut Vec<(TreePath<A>, Mode, Name), A>,
     ) -> Result<(), AllocError>
         requires { IsTrue (list_all (λ e. is_short e.0) self.now.files) }
-        ensures { OnOk result (map listed out.new.items ≡ map listed out.old.items ++ self.now.files) }
+        ensures { OnOk result (AppendsFiles self.now.files out.old.items out.new.items) }
     {
         match &self.node {
             Some(node) => node.list_into(alloc, &TreePath::root(alloc), out),
@@ -242,10 +244,10 @@ impl<A: Allocator + Copy> Root<A> {
         store: &mut Store<N, A>,
         trusts: bool,
     ) -> Result<(Root<A>, Name), TreeFault>
-        requires home { IsTrue trusts → IsAtHome (N.name_of store.now.0) store.now.1 self.now }
+        requires home { IsTrue trusts → HoldsIn N.name_of store.now IsAtHome self.now }
         ensures namer { store.new.0 ≡ store.old.0 }
-        ensures name { IfOk result (λ made. made.1.bytes ≡ map_name (N.name_of store.old.0) self.now.files) }
-        ensures puts { PutsAll (tree_records (N.name_of store.old.0) self.now.files) store.old.1 store.new.1 result }
+        ensures name { IfOk result (λ made. IsTreeName (N.name_of store.old.0) self.now.files made.1) }
+        ensures puts { StoresAll N.name_of tree_records self.now.files store.old store.new result }
         ensures front { take (length store.old.1) store.new.1 ≡ store.old.1 }
         ensures files { IfOk result (λ made. made.0.files ≡ self.now.files) }
         ensures home { IfOk result (λ made. IsAtHome (N.name_of store.old.0) store.new.1 made.0) }

@@ -1,9 +1,8 @@
 //! Finding a component among a directory's entries, by halves.
-ghost use Rattle.std.specs.Prelude.{◌≡◌, ◌≤◌, ◌++◌, true, false, length, IfSome, IsNone, None};
-ghost use Rattle.std.specs.List.Sorted.{IsPartitionPoint};
-ghost use Rattle.gx_tree.specs.Homes.{Keeps, Both, IfThere, Borrowed, AreAtHome, IsHeldAtHome, IsItemAtHome};
-ghost use Rattle.gx_tree.specs.Nodes.{IsLevel, kept_at, key, precedes};
-ghost use Rattle.gx_tree.specs.Searches.{Finds, IsEntryAt};
+ghost use Rattle.std.specs.Prelude.{◌≡◌, ◌≤◌, ◌++◌, length, IfSome, IsNone, None};
+ghost use Rattle.gx_tree.specs.Homes.{Keeps, AreAtHome, IsLentAtHome};
+ghost use Rattle.gx_tree.specs.Nodes.{IsLevel, kept_at, precedes};
+ghost use Rattle.gx_tree.specs.Searches.{Finds, IsEntryAt, IsPlaceOf};
 ghost use Rattle.gx_tree.specs.Views.{option_kept, seen, seen_all};
 
 use crate::directory::{Entry, Item};
@@ -17,7 +16,7 @@ pub(crate) fn find<'a, A: Allocator + Copy>(
 ) -> Option<&'a Item<A>>
     requires { IsLevel (seen_all entries.now) }
     ensures kept { kept_at component.now (seen_all entries.now) ≡ option_kept result }
-    ensures home { Keeps AreAtHome (IfThere (Borrowed IsItemAtHome)) entries.now result }
+    ensures home { Keeps AreAtHome IsLentAtHome entries.now result }
 {
     match find_marked(entries, component, b"") {
         Some(file) => Some(file),
@@ -33,7 +32,7 @@ fn find_marked<'a, A: Allocator + Copy>(
 ) -> Option<&'a Item<A>>
     requires { IsLevel (seen_all entries.now) }
     ensures kept { Finds component.now mark.now (seen_all entries.now) (option_kept result) }
-    ensures home { Keeps AreAtHome (IfThere (Borrowed IsItemAtHome)) entries.now result }
+    ensures home { Keeps AreAtHome IsLentAtHome entries.now result }
 {
     let place = place_of(entries, component, mark);
     if place == 0 {
@@ -86,7 +85,7 @@ pub(crate) fn place_of<A: Allocator + Copy>(
 ) -> usize
     requires { IsLevel (seen_all entries.now) }
     ensures within { result ≤ length entries.now }
-    ensures place { IsPartitionPoint (λ e. precedes (component.now ++ mark.now) (seen e) ≡ false) (λ e. precedes (component.now ++ mark.now) (seen e) ≡ true) entries.now result }
+    ensures place { IsPlaceOf (component.now ++ mark.now) entries.now result }
 {
     entries.partition_point(|entry| !entry.is_after(component, mark))
 }

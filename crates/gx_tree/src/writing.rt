@@ -3,12 +3,13 @@
 ghost use Rattle.std.specs.Prelude.{◌≡◌, ◌++◌, IfOk, IfSome, IsTrue, OnOk, Some, length, map, take};
 ghost use Rattle.gx_model.specs.Records.Growth.{tree_records};
 ghost use Rattle.gx_model.specs.Objects.{entry_text, tree_text};
-ghost use Rattle.gx_tree.specs.Homes.{AreAtHome, IsItemAtHome};
+ghost use Rattle.gx_tree.specs.Edits.{level_in};
+ghost use Rattle.gx_tree.specs.Homes.{HoldsIn, AreAtHome, IsItemAtHome};
 ghost use Rattle.gx_tree.specs.Named.{IsAtHome, is_named, own_name};
 ghost use Rattle.gx_tree.specs.Nodes.{IsLevel};
-ghost use Rattle.gx_tree.specs.Views.{IsNamed, kept, own_entry, seen, seen_all, RememberAll, Remembers};
+ghost use Rattle.gx_tree.specs.Views.{IsNamed, kept, own_entry, seen, RememberAll, Remembers};
 ghost use Rattle.std.specs.List.{AllByRecursion};
-ghost use Rattle.gx_tree.specs.Writes.{PutsAll, kept_records, level_records, map_name};
+ghost use Rattle.gx_tree.specs.Writes.{IsTreeName, StoresAll, kept_records, level_records};
 
 use crate::directory::{Directory, Entry, Item};
 use crate::fault::TreeFault;
@@ -28,10 +29,10 @@ impl<A: Allocator + Copy> Directory<A> {
         body: &mut Vec<u8, A>,
         trusts: bool,
     ) -> Result<(Directory<A>, Name), TreeFault>
-        requires home { IsTrue trusts → IsAtHome (N.name_of store.now.0) store.now.1 self.now }
+        requires home { IsTrue trusts → HoldsIn N.name_of store.now IsAtHome self.now }
         ensures namer { store.new.0 ≡ store.old.0 }
-        ensures name { IfOk result (λ made. made.1.bytes ≡ map_name (N.name_of store.old.0) self.now.files) }
-        ensures puts { PutsAll (tree_records (N.name_of store.old.0) self.now.files) store.old.1 store.new.1 result }
+        ensures name { IfOk result (λ made. IsTreeName (N.name_of store.old.0) self.now.files made.1) }
+        ensures puts { StoresAll N.name_of tree_records self.now.files store.old store.new result }
         ensures front { take (length store.old.1) store.new.1 ≡ store.old.1 }
         ensures files { IfOk result (λ made. made.0.files ≡ self.now.files) }
         ensures home { IfOk result (λ made. IsAtHome (N.name_of store.old.0) store.new.1 made.0) }
@@ -88,12 +89,12 @@ fn written_entries<A: Allocator + Copy, N: Namer>(
     body: &mut Vec<u8, A>,
     trusts: bool,
 ) -> Result<Rc<Vec<Entry<A>, A>, A>, TreeFault>
-    requires level { IsLevel (seen_all entries.now.value.items) }
-    requires home { IsTrue trusts → AreAtHome (N.name_of store.now.0) store.now.1 entries.now.value.items }
+    requires level { IsLevel (level_in entries.now) }
+    requires home { IsTrue trusts → HoldsIn N.name_of store.now AreAtHome entries.now.value.items }
     ensures namer { store.new.0 ≡ store.old.0 }
-    ensures puts { PutsAll (level_records (N.name_of store.old.0) (seen_all entries.now.value.items)) store.old.1 store.new.1 result }
+    ensures puts { StoresAll N.name_of level_records (level_in entries.now) store.old store.new result }
     ensures front { take (length store.old.1) store.new.1 ≡ store.old.1 }
-    ensures seen { IfOk result (λ es. seen_all es.value.items ≡ seen_all entries.now.value.items) }
+    ensures seen { IfOk result (λ es. level_in es ≡ level_in entries.now) }
     ensures home { IfOk result (λ es. AreAtHome (N.name_of store.old.0) store.new.1 es.value.items) }
     ensures remember { IfOk result (λ es. RememberAll es.value.items) }
 {
@@ -173,9 +174,9 @@ impl<A: Allocator + Copy> Item<A> {
         body: &mut Vec<u8, A>,
         trusts: bool,
     ) -> Result<Item<A>, TreeFault>
-        requires home { IsTrue trusts → IsItemAtHome (N.name_of store.now.0) store.now.1 self.now }
+        requires home { IsTrue trusts → HoldsIn N.name_of store.now IsItemAtHome self.now }
         ensures namer { store.new.0 ≡ store.old.0 }
-        ensures puts { PutsAll (kept_records (N.name_of store.old.0) (kept self.now)) store.old.1 store.new.1 result }
+        ensures puts { StoresAll N.name_of kept_records (kept self.now) store.old store.new result }
         ensures front { take (length store.old.1) store.new.1 ≡ store.old.1 }
         ensures kept { IfOk result (λ made. kept made ≡ kept self.now) }
         ensures home { IfOk result (λ made. IsItemAtHome (N.name_of store.old.0) store.new.1 made) }
@@ -201,10 +202,10 @@ pub(crate) fn written_node<A: Allocator + Copy, N: Namer>(
     body: &mut Vec<u8, A>,
     trusts: bool,
 ) -> Result<(Directory<A>, Name), TreeFault>
-    requires home { IsTrue trusts → IsAtHome (N.name_of store.now.0) store.now.1 node.now }
+    requires home { IsTrue trusts → HoldsIn N.name_of store.now IsAtHome node.now }
     ensures namer { store.new.0 ≡ store.old.0 }
-    ensures name { IfOk result (λ made. made.1.bytes ≡ map_name (N.name_of store.old.0) node.now.files) }
-    ensures puts { PutsAll (tree_records (N.name_of store.old.0) node.now.files) store.old.1 store.new.1 result }
+    ensures name { IfOk result (λ made. IsTreeName (N.name_of store.old.0) node.now.files made.1) }
+    ensures puts { StoresAll N.name_of tree_records node.now.files store.old store.new result }
     ensures front { take (length store.old.1) store.new.1 ≡ store.old.1 }
     ensures files { IfOk result (λ made. made.0.files ≡ node.now.files) }
     ensures home { IfOk result (λ made. IsAtHome (N.name_of store.old.0) store.new.1 made.0) }

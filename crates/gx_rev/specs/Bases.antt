@@ -1,7 +1,18 @@
 -- The base in a revision's text.
+use Rattle.std.specs.Prelude.{Bool, ◌&&◌, nat_eq, nat_le, nat_lt, length}
+use Rattle.std.specs.List.{list_all}
 use Rattle.gx_model.specs.Texts.{Bytes, cut_at}
 use Rattle.gx_model.specs.Revisions.{base_and_suffixes, with_path}
+use Rattle.gx_model.specs.Revisions.Denotation.{is_any_digit}
 
 -- what stands before the first `:`, and there before the first `^` or `~`
 abbrev pub base_text : Bytes → Bytes
 base_text text = (base_and_suffixes (with_path text (cut_at 58 text)).0).0
+
+-- an object's name in full: 40 hexadecimal digits
+abbrev pub is_full_name : Bytes → Bool
+is_full_name text = list_all is_any_digit text && nat_eq (length text) 40
+
+-- what may abbreviate an object's name: 4 to 39 hexadecimal digits
+abbrev pub is_abbreviation : Bytes → Bool
+is_abbreviation text = list_all is_any_digit text && nat_le 4 (length text) && nat_lt (length text) 40

@@ -7,3 +7,4 @@ pub mod Places
 pub mod Answers
 pub mod Tips
 pub mod Walking
+pub mod Calls

@@ -1,16 +1,18 @@
 -- Held objects by their names, and the values of the history that they are.
-use Rattle.std.specs.Prelude.{IsTrue, is_some, Ok, Err, if◌then◌else◌}
+use Rattle.std.specs.Prelude.{IsTrue, is_some, List, Ok, Err, if◌then◌else◌}
 use Rattle.gx_model.specs.declared.objects.Kind.{Kind}
 use Rattle.gx_model.specs.Texts.{Bytes}
 use Rattle.gx_model.specs.Faults.{Given}
 use Rattle.gx_model.specs.declared.faults.Fault.TheVariants.{WrongKind}
 use Rattle.gx_model.specs.Histories.Files.{FileMap}
-use Rattle.gx_model.specs.Histories.Values.{Commit, Value}
+use Rattle.gx_model.specs.Histories.Values.{Commit, Commits, Value, parents_of}
+use Rattle.gx_model.specs.Objects.{Entry}
 use Rattle.gx_model.specs.Records.{kind_of}
 use Rattle.gx_model.specs.Histories.{Records}
 use Rattle.gx_model.specs.Records.HistoryOf.{commit_of_value, files_of_tree, value_of_name}
 use Rattle.gx_model.specs.Records.Growth.{record_named, same_kind}
 use Rattle.gx_model.specs.Records.RecordFaults.{is_held}
+use Rattle.gx_model.specs.Records.Walks.{entries_named}
 use Rattle.gx_object.specs.declared.name.Name.{Name}
 
 -- an object of this name is held
@@ -30,6 +32,14 @@ commit_at repository called = commit_of_value (value_at repository called)
 
 abbrev pub files_at : Records → Name → FileMap Bytes
 files_at repository called = files_of_tree (value_at repository called)
+
+-- the parents of the commit of this name
+abbrev pub parents_at : Records → Name → Commits
+parents_at repository called = parents_of (commit_at repository called)
+
+-- the entries of the tree of this name
+abbrev pub entries_at : Records → Name → List Entry
+entries_at repository called = entries_named repository.records called.bytes
 
 -- a value of this kind, and no other
 abbrev pub only : (Kind → Bytes → Bytes) → Kind → Value → Given Value

@@ -1,5 +1,6 @@
 -- What stands at a path, and the tree that it may name.
-use Rattle.std.specs.Prelude.{◌≡◌}
+use Rattle.std.specs.Prelude.{◌≡◌, Option}
+use Rattle.std.specs.Option.{option_map}
 use Rattle.gx_model.specs.declared.objects.Kind.TheVariants as kind
 use Rattle.gx_model.specs.declared.objects.Mode.{Mode}
 use Rattle.gx_model.specs.declared.objects.Mode.TheVariants.{Dir}
@@ -15,6 +16,10 @@ shown_place place = (place.0, place.1.bytes)
 
 abbrev pub place_of_entry : Entry → Place
 place_of_entry entry = (entry.mode, entry.name)
+
+-- the mode and the name are those of an entry, where there is one
+abbrev pub IsOfEntry : Option Entry → Option (Mode × Name) → Type 0
+IsOfEntry entry place = option_map shown_place place ≡ option_map place_of_entry entry
 
 -- a directory names a held tree
 abbrev pub IsHeldPlace : Records → Mode × Name → Type 0

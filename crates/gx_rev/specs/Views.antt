@@ -1,9 +1,16 @@
--- Suffixes and range words as the model has them, without where they lie in memory.
+-- Suffixes, range words and what is borrowed, as the model has them, without where they lie in memory.
+use Rattle.std.specs.Prelude.{Option}
+use Rattle.std.specs.Borrow.{Bor}
+use Rattle.std.specs.Option.{option_map}
 use Rattle.gx_model.specs.Revisions as model
 use Rattle.gx_rev.specs.declared.suffix.Suffix.{Suffix}
 use Rattle.gx_rev.specs.declared.suffix.Suffix.TheVariants.{Parent, Ancestor, Peeled, Itself, Commit, Blob, Tree, Tag}
 use Rattle.gx_rev.specs.declared.range.Range.{Range}
 use Rattle.gx_rev.specs.declared.range.Range.TheVariants as range
+
+-- what is borrowed, where it is there
+abbrev pub borrowed : {X : Type 0} → Option (Bor X) → Option X
+borrowed it = option_map (λ x. x.now) it
 
 abbrev pub shown_suffix : Suffix → model.Suffix
 shown_suffix (Parent n) = model.parent n

@@ -1,12 +1,12 @@
 //! What the base of a revision gives: an object's name in full, a ref, or the digits that a name begins with.
 
-ghost use Rattle.std.specs.Prelude.{◌≡◌, ◌&&◌, nat_eq, nat_le, nat_lt, true, length, IfOk};
+ghost use Rattle.std.specs.Prelude.{◌≡◌, true, IfOk};
 ghost use Rattle.std.specs.List.{list_all};
-ghost use Rattle.gx_model.specs.Faults.{Gives};
-ghost use Rattle.gx_model.specs.Revisions.Denotation.{base_value, begun_by, full_name, is_any_digit, the_one};
-ghost use Rattle.gx_model.specs.Records.HistoryOf.{history_of};
-ghost use Rattle.gx_rev.specs.Objects.{IsHeld, value_at};
-ghost use Rattle.gx_rev.specs.RevFaults.{NeedsNoMemory, fault_of};
+ghost use Rattle.gx_model.specs.Revisions.Denotation.{is_any_digit};
+ghost use Rattle.gx_rev.specs.Bases.{is_abbreviation, is_full_name};
+ghost use Rattle.gx_rev.specs.Calls.{GivesBase, GivesBegun, GivesNamed};
+ghost use Rattle.gx_rev.specs.Objects.{IsHeld};
+ghost use Rattle.gx_rev.specs.RevFaults.{NeedsNoMemory};
 
 use crate::RevFault;
 use gx_object::{Name, Namer};
@@ -19,7 +19,7 @@ pub(crate) fn eval_base<N: Namer, A: Allocator + Copy>(
     repo: &Repo<N, A>,
     base: &[u8],
 ) -> Result<Name, RevFault>
-    ensures value { Gives fault_of (value_at repo.now.1) result (base_value (N.name_of repo.now.0) (history_of repo.now.1) base.now) }
+    ensures value { GivesBase N.name_of repo.now base.now result }
     ensures held { IfOk result (IsHeld repo.now.1) }
     ensures memory { NeedsNoMemory result }
 {
@@ -39,14 +39,14 @@ pub(crate) fn eval_base<N: Namer, A: Allocator + Copy>(
 
 /// Whether the text is a name in full: 40 digits.
 fn is_whole(text: &[u8]) -> bool
-    ensures { result ≡ (list_all is_any_digit text.now && nat_eq (length text.now) 40) }
+    ensures { result ≡ is_full_name text.now }
 {
     are_digits(text) && text.len() == 40
 }
 
 /// Whether the text may abbreviate a name: 4 to 39 digits.
 fn is_abbreviation(text: &[u8]) -> bool
-    ensures { result ≡ (list_all is_any_digit text.now && nat_le 4 (length text.now) && nat_lt (length text.now) 40) }
+    ensures { result ≡ is_abbreviation text.now }
 {
     are_digits(text) && 4 <= text.len() && text.len() < 40
 }
@@ -56,8 +56,8 @@ fn find_name<N: Namer, A: Allocator + Copy>(
     repo: &Repo<N, A>,
     digits: &[u8],
 ) -> Result<Name, RevFault>
-    requires { (list_all is_any_digit digits.now && nat_eq (length digits.now) 40) ≡ true }
-    ensures value { Gives fault_of (value_at repo.now.1) result (full_name (N.name_of repo.now.0) (begun_by (N.name_of repo.now.0) (history_of repo.now.1) digits.now)) }
+    requires { is_full_name digits.now ≡ true }
+    ensures value { GivesNamed N.name_of repo.now digits.now result }
     ensures held { IfOk result (IsHeld repo.now.1) }
     ensures memory { NeedsNoMemory result }
 {
@@ -76,7 +76,7 @@ fn find_digits<N: Namer, A: Allocator + Copy>(
     repo: &Repo<N, A>,
     digits: &[u8],
 ) -> Result<Name, RevFault>
-    ensures value { Gives fault_of (value_at repo.now.1) result (the_one (N.name_of repo.now.0) (begun_by (N.name_of repo.now.0) (history_of repo.now.1) digits.now)) }
+    ensures value { GivesBegun N.name_of repo.now digits.now result }
     ensures held { IfOk result (IsHeld repo.now.1) }
     ensures memory { NeedsNoMemory result }
 {

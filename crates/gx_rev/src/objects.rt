@@ -2,11 +2,11 @@
 
 ghost use Rattle.std.specs.Prelude.{◌≡◌, IfOk};
 ghost use Rattle.gx_model.specs.declared.objects.Kind.TheVariants as kinds;
-ghost use Rattle.gx_model.specs.Faults.{Gives};
-ghost use Rattle.gx_model.specs.Revisions.Denotation.{commit_in, files_in, nth_ancestor, nth_parent};
+ghost use Rattle.gx_model.specs.Revisions.Denotation.{commit_in, files_in};
 ghost use Rattle.gx_model.specs.Records.{kind_of, parts_of_commit};
-ghost use Rattle.gx_rev.specs.Objects.{IsHeld, IsHeldAs, commit_at, files_at, value_at};
-ghost use Rattle.gx_rev.specs.RevFaults.{NeedsNoMemory, fault_of};
+ghost use Rattle.gx_rev.specs.Calls.{GivesCommit, GivesFiles, ancestor_at, parent_at};
+ghost use Rattle.gx_rev.specs.Objects.{IsHeld, IsHeldAs, commit_at, value_at};
+ghost use Rattle.gx_rev.specs.RevFaults.{NeedsNoMemory};
 
 use crate::RevFault;
 use gx_object::{CommitView, Kind, Name, Namer, decode_commit};
@@ -31,7 +31,7 @@ pub(crate) fn commit_of<N: Namer, A: Allocator + Copy>(
     name: &Name,
 ) -> Result<Name, RevFault>
     requires { IsHeld repo.now.1 name.now }
-    ensures commit { Gives fault_of (commit_at repo.now.1) result (commit_in (value_at repo.now.1 name.now)) }
+    ensures commit { GivesCommit repo.now.1 (commit_in (value_at repo.now.1 name.now)) result }
     ensures held { IfOk result (IsHeldAs kinds.Commit repo.now.1) }
     ensures memory { NeedsNoMemory result }
 {
@@ -69,7 +69,7 @@ pub(crate) fn parent_of<N: Namer, A: Allocator + Copy>(
     number: u64,
 ) -> Result<Name, RevFault>
     requires { IsHeldAs kinds.Commit repo.now.1 commit.now }
-    ensures parent { Gives fault_of (commit_at repo.now.1) result (nth_parent number (commit_at repo.now.1 commit.now)) }
+    ensures parent { GivesCommit repo.now.1 (parent_at repo.now.1 commit.now number) result }
     ensures held { IfOk result (IsHeldAs kinds.Commit repo.now.1) }
     ensures memory { NeedsNoMemory result }
 {
@@ -90,7 +90,7 @@ pub(crate) fn ancestor_of<N: Namer, A: Allocator + Copy>(
     number: u64,
 ) -> Result<Name, RevFault>
     requires { IsHeldAs kinds.Commit repo.now.1 commit.now }
-    ensures ancestor { Gives fault_of (commit_at repo.now.1) result (nth_ancestor number (commit_at repo.now.1 commit.now)) }
+    ensures ancestor { GivesCommit repo.now.1 (ancestor_at repo.now.1 commit.now number) result }
     ensures held { IfOk result (IsHeldAs kinds.Commit repo.now.1) }
     ensures memory { NeedsNoMemory result }
 {
@@ -109,7 +109,7 @@ pub(crate) fn tree_of<N: Namer, A: Allocator + Copy>(
     name: &Name,
 ) -> Result<Name, RevFault>
     requires { IsHeld repo.now.1 name.now }
-    ensures files { Gives fault_of (files_at repo.now.1) result (files_in (value_at repo.now.1 name.now)) }
+    ensures files { GivesFiles repo.now.1 (files_in (value_at repo.now.1 name.now)) result }
     ensures held { IfOk result (IsHeldAs kinds.Tree repo.now.1) }
     ensures memory { NeedsNoMemory result }
 {

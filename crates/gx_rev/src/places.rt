@@ -4,9 +4,9 @@ ghost use Rattle.std.specs.Prelude.{◌≡◌, IfSome};
 ghost use Rattle.std.specs.Option.{option_map};
 ghost use Rattle.gx_model.specs.declared.objects.Kind.TheVariants as kinds;
 ghost use Rattle.gx_model.specs.Objects.{is_dir};
-ghost use Rattle.gx_model.specs.Records.Walks.{entries_named, entry_at, walked};
-ghost use Rattle.gx_rev.specs.Objects.{IsHeldAs};
-ghost use Rattle.gx_rev.specs.Places.{IsHeldPlace, place_of_entry, shown_place};
+ghost use Rattle.gx_model.specs.Records.Walks.{entry_at, walked};
+ghost use Rattle.gx_rev.specs.Objects.{IsHeldAs, entries_at};
+ghost use Rattle.gx_rev.specs.Places.{IsHeldPlace, IsOfEntry, shown_place};
 
 use gx_object::{Mode, Name, Namer, TreeEntries, decode_tree};
 use gx_repo::Repo;
@@ -47,7 +47,7 @@ fn entry_of<N: Namer, A: Allocator + Copy>(
     component: &[u8],
 ) -> Option<(Mode, Name)>
     requires { IsHeldAs kinds.Tree repo.now.1 tree.now }
-    ensures entry { option_map shown_place result ≡ option_map place_of_entry (entry_at (entries_named repo.now.1.records tree.now.bytes) component.now) }
+    ensures entry { IsOfEntry (entry_at (entries_at repo.now.1 tree.now) component.now) result }
     ensures held { IfSome result (IsHeldPlace repo.now.1) }
 {
     repo.sound();
@@ -62,7 +62,7 @@ fn entry_of<N: Namer, A: Allocator + Copy>(
 
 /// The mode and the name of the entry with this component.
 fn find_entry(entries: TreeEntries<'_>, component: &[u8]) -> Option<(Mode, Name)>
-    ensures { option_map shown_place result ≡ option_map place_of_entry (entry_at entries.entry component.now) }
+    ensures { IsOfEntry (entry_at entries.entry component.now) result }
 {
     for entry in entries {
         if component == entry.component {

@@ -4,14 +4,11 @@
 ghost use Rattle.std.specs.Prelude.{◌≡◌, ◌<◌, IfOk, Some, length};
 ghost use Rattle.std.specs.List.{slice_get};
 ghost use Rattle.gx_model.specs.declared.objects.Kind.TheVariants as kinds;
-ghost use Rattle.gx_model.specs.Laws.HistoryLaws.{IsParent};
-ghost use Rattle.gx_model.specs.Revisions.Ranges.{nothing, reaches, some_reaches};
+ghost use Rattle.gx_model.specs.Revisions.Ranges.{nothing, reaches};
 ghost use Rattle.gx_model.specs.Laws.RepositoryLaws.{values_of};
 ghost use Rattle.gx_model.specs.Records.Sound.{Holds};
-ghost use Rattle.gx_model.specs.Histories.Values.{parents_of};
-ghost use Rattle.gx_model.specs.Histories.Marks.{Marks, marks_of};
 ghost use Rattle.gx_rev.specs.Objects.{IsHeld, IsHeldAs, commit_at, value_at};
-ghost use Rattle.gx_rev.specs.Tips.{AddsTips, AreTips, HasTips, Spreads};
+ghost use Rattle.gx_rev.specs.Tips.{AddsParentsOf, AddsTips, AreTips, HasTips, MarksOne, MarksParentsOf, Spreads, TellsReach, marks_from};
 
 use crate::objects::view_of;
 use gx_object::{Name, Namer};
@@ -30,7 +27,7 @@ pub fn reaches<N: Namer, A: Allocator + Copy>(
 ) -> Result<bool, AllocError>
     requires from { Holds repo.now.1.records kinds.Commit from.now.bytes }
     requires to { Holds repo.now.1.records kinds.Commit to.now.bytes }
-    ensures { IfOk result (λ is_reached. is_reached ≡ reaches (commit_at repo.now.1 from.now) (commit_at repo.now.1 to.now)) }
+    ensures { IfOk result (TellsReach repo.now.1 from.now to.now) }
 {
     repo.sound();
     let marks = reached(alloc, repo, from)?;
@@ -45,7 +42,7 @@ pub(crate) fn reached<N: Namer, A: Allocator + Copy>(
     from: &Name,
 ) -> Result<Vec<bool, A>, AllocError>
     requires { IsHeldAs kinds.Commit repo.now.1 from.now }
-    ensures { IfOk result (λ marks. marks.items ≡ marks_of (reaches (commit_at repo.now.1 from.now)) (values_of repo.now.1)) }
+    ensures { IfOk result (λ marks. marks.items ≡ marks_from repo.now.1 from.now) }
 {
     let mut marks = unmarked(alloc, repo)?;
     mark_reached(repo, &mut marks, from);
@@ -68,7 +65,7 @@ pub(crate) fn unmarked<N: Namer, A: Allocator + Copy>(
 fn mark_reached<N: Namer, A: Allocator + Copy>(repo: &Repo<N, A>, marks: &mut [bool], from: &Name)
     requires held { IsHeldAs kinds.Commit repo.now.1 from.now }
     requires none { AreTips repo.now.1 nothing marks.old }
-    ensures { marks.new ≡ marks_of (reaches (commit_at repo.now.1 from.now)) (values_of repo.now.1) }
+    ensures { marks.new ≡ marks_from repo.now.1 from.now }
 {
     mark(repo, marks, from);
     spread(repo, marks);
@@ -99,8 +96,8 @@ pub(crate) fn mark_parents<N: Namer, A: Allocator + Copy>(
 )
     requires held { IsHeldAs kinds.Commit repo.now.1 commit.now }
     requires long { length marks.old ≡ length (values_of repo.now.1) }
-    ensures marked { Marks repo.now.1 (λ parent. IsParent parent (parents_of (commit_at repo.now.1 commit.now))) marks.old marks.new }
-    ensures tips { AddsTips repo.now.1 (some_reaches (parents_of (commit_at repo.now.1 commit.now))) marks.old marks.new }
+    ensures marked { MarksParentsOf repo.now.1 commit.now marks.old marks.new }
+    ensures tips { AddsParentsOf repo.now.1 commit.now marks.old marks.new }
 {
     repo.sound();
     let view = view_of(repo, commit);
@@ -119,7 +116,7 @@ pub(crate) fn mark<N: Namer, A: Allocator + Copy>(
 )
     requires held { IsHeldAs kinds.Commit repo.now.1 commit.now }
     requires long { length marks.old ≡ length (values_of repo.now.1) }
-    ensures marked { Marks repo.now.1 (λ marked. marked ≡ commit_at repo.now.1 commit.now) marks.old marks.new }
+    ensures marked { MarksOne repo.now.1 commit.now marks.old marks.new }
     ensures tips { AddsTips repo.now.1 (reaches (commit_at repo.now.1 commit.now)) marks.old marks.new }
 {
     repo.sound();

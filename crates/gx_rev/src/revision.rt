@@ -1,13 +1,13 @@
 //! Revisions as texts.
 
-ghost use Rattle.std.specs.Prelude.{◌≡◌, ◌≤◌, length, map, []};
-ghost use Rattle.std.specs.Option.{option_map};
+ghost use Rattle.std.specs.Prelude.{◌≡◌, ◌≤◌, length, []};
 ghost use Rattle.gx_model.specs.Faults.{Gives};
 ghost use Rattle.gx_model.specs.Texts.{cut_at};
-ghost use Rattle.gx_model.specs.Revisions.{base_and_suffixes, base_of, optional_path, revision_of, suffixes_of, with_path};
+ghost use Rattle.gx_model.specs.Revisions.{base_and_suffixes, base_of, optional_path, revision_of, with_path};
 ghost use Rattle.gx_rev.specs.Bases.{base_text};
+ghost use Rattle.gx_rev.specs.Calls.{ReadsSuffixes};
 ghost use Rattle.gx_rev.specs.RevFaults.{FaultsComeFirst, fault_of};
-ghost use Rattle.gx_rev.specs.Views.{shown_suffix};
+ghost use Rattle.gx_rev.specs.Views.{borrowed};
 
 use crate::RevFault;
 use crate::suffix::Suffix;
@@ -65,7 +65,7 @@ impl<A: Allocator + Copy> Revision<A> {
 /// What stands before the first `:`, and what follows it.
 fn cut_path(text: &[u8]) -> (&[u8], Option<&[u8]>)
     ensures front { result.0.now ≡ (with_path text.now (cut_at 58 text.now)).0 }
-    ensures path { option_map (λ x. x.now) result.1 ≡ (with_path text.now (cut_at 58 text.now)).1 }
+    ensures path { borrowed result.1 ≡ (with_path text.now (cut_at 58 text.now)).1 }
 {
     match cut(text, b':') {
         Some((front, path)) => (front, Some(path)),
@@ -101,7 +101,7 @@ fn read_base<A: Allocator + Copy>(alloc: A, text: &[u8]) -> Result<Vec<u8, A>, R
 /// The suffixes of a text that begins with one, or is empty.
 fn read_suffixes<A: Allocator + Copy>(alloc: A, text: &[u8]) -> Result<Vec<Suffix, A>, RevFault>
     requires { (base_and_suffixes text.now).0 ≡ [] }
-    ensures { Gives fault_of (λ suffixes. map shown_suffix suffixes.items) result (suffixes_of (base_and_suffixes text.now).1) }
+    ensures { ReadsSuffixes text.now result }
 {
     let mut suffixes = Vec::new(alloc);
     let mut rest = text;
@@ -117,7 +117,7 @@ fn read_path<A: Allocator + Copy>(
     alloc: A,
     text: Option<&[u8]>,
 ) -> Result<Option<TreePath<A>>, RevFault>
-    ensures { Gives fault_of (λ path. path) result (optional_path (option_map (λ x. x.now) text.entry)) }
+    ensures { Gives fault_of (λ path. path) result (optional_path (borrowed text.entry)) }
 {
     match text {
         None => Ok(None),

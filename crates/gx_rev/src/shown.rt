@@ -1,16 +1,15 @@
 //! What a revision shows in a repository.
 
-ghost use Rattle.std.specs.Prelude.{◌≡◌, IfOk, Ok, Some};
-ghost use Rattle.std.specs.Option.{option_map};
+ghost use Rattle.std.specs.Prelude.{◌≡◌, IfOk, Some};
 ghost use Rattle.gx_model.specs.declared.objects.Kind.TheVariants as kinds;
 ghost use Rattle.gx_model.specs.declared.objects.Mode.TheVariants as modes;
-ghost use Rattle.gx_model.specs.Revisions.Denotation.{commit_denoted, denoted, file_shown, files_in, looked_up, shown_at, value_denoted};
-ghost use Rattle.gx_model.specs.Faults.{Gives, and_then};
-ghost use Rattle.gx_model.specs.Records.HistoryOf.{bytes_of_blob, history_of};
-ghost use Rattle.gx_rev.specs.Answers.{AnswersTell, IsNamed, file_of, revision_with, seen_file, shown_as, shown_by};
-ghost use Rattle.gx_rev.specs.Objects.{IsHeld, IsHeldAs, commit_at, files_at, value_at};
-ghost use Rattle.gx_model.specs.Records.{parts_of_commit};
-ghost use Rattle.gx_rev.specs.RevFaults.{FaultsComeFirst, NeedsNoMemory, fault_of};
+ghost use Rattle.gx_model.specs.Revisions.Denotation.{file_shown};
+ghost use Rattle.gx_model.specs.Records.HistoryOf.{bytes_of_blob};
+ghost use Rattle.gx_rev.specs.Answers.{AnswersTell, IsNamed, file_of, shown_as};
+ghost use Rattle.gx_rev.specs.Calls.{Denotes, DenotesParts, GivesBodyOf, GivesCommitOf, GivesObjectOf, GivesTreeOf, ReadsFile, ShowsPathOf, file_in};
+ghost use Rattle.gx_rev.specs.Objects.{IsHeld, IsHeldAs, files_at, value_at};
+ghost use Rattle.gx_rev.specs.RevFaults.{FaultsComeFirst, NeedsNoMemory};
+ghost use Rattle.gx_rev.specs.Views.{borrowed};
 
 use crate::base::eval_base;
 use crate::objects::{commit_of, kind_of, tree_of, view_of};
@@ -37,7 +36,7 @@ impl<A: Allocator + Copy> Revision<A> {
     /// Cost: for the base, a search among the refs and a look-up; for each step of a suffix and each component of the path,
     /// an object's body and a look-up among the records. Source: gitrevisions(7), "Specifying Revisions".
     pub fn eval<N: Namer>(&self, repo: &Repo<N, A>) -> Result<Shown, RevFault>
-        ensures shown { Gives fault_of (shown_by repo.now.1) result (denoted (N.name_of repo.now.0) (history_of repo.now.1) self.now) }
+        ensures shown { Denotes N.name_of repo.now self.now result }
         ensures named { IfOk result (IsNamed (N.name_of repo.now.0) repo.now.1) }
         ensures memory { NeedsNoMemory result }
     {
@@ -53,7 +52,7 @@ fn eval_parts<N: Namer, A: Allocator + Copy>(
     suffixes: &[Suffix],
     path: Option<&TreePath<A>>,
 ) -> Result<Shown, RevFault>
-    ensures shown { Gives fault_of (shown_by repo.now.1) result (denoted (N.name_of repo.now.0) (history_of repo.now.1) (revision_with base.now suffixes.now (option_map (λ p. p.now) path.entry))) }
+    ensures shown { DenotesParts N.name_of repo.now base.now suffixes.now path.entry result }
     ensures named { IfOk result (IsNamed (N.name_of repo.now.0) repo.now.1) }
     ensures memory { NeedsNoMemory result }
 {
@@ -69,7 +68,7 @@ fn show<N: Namer, A: Allocator + Copy>(
     path: Option<&TreePath<A>>,
 ) -> Result<Shown, RevFault>
     requires { IsHeld repo.now.1 object.now }
-    ensures shown { Gives fault_of (shown_by repo.now.1) result (shown_at (value_at repo.now.1 object.now) (option_map (λ p. p.now) path.entry)) }
+    ensures shown { ShowsPathOf repo.now.1 object.now (borrowed path.entry) result }
     ensures named { IfOk result (IsNamed (N.name_of repo.now.0) repo.now.1) }
     ensures memory { NeedsNoMemory result }
 {
@@ -87,7 +86,7 @@ fn show_path<N: Namer, A: Allocator + Copy>(
     path: &TreePath<A>,
 ) -> Result<Shown, RevFault>
     requires { IsHeld repo.now.1 object.now }
-    ensures shown { Gives fault_of (shown_by repo.now.1) result (shown_at (value_at repo.now.1 object.now) (Some path.now)) }
+    ensures shown { ShowsPathOf repo.now.1 object.now (Some path.now) result }
     ensures named { IfOk result (IsNamed (N.name_of repo.now.0) repo.now.1) }
     ensures memory { NeedsNoMemory result }
 {
@@ -117,7 +116,7 @@ pub fn commit<'a, N: Namer, A: Allocator + Copy>(
     repo: &'a Repo<N, A>,
     revision: &Revision<A>,
 ) -> Result<CommitView<'a>, RevFault>
-    ensures view { Gives fault_of (λ view. view) result (and_then (commit_denoted (N.name_of repo.now.0) (history_of repo.now.1) revision.now) (λ c. Ok (parts_of_commit (N.name_of repo.now.0) c))) }
+    ensures view { GivesBodyOf N.name_of repo.now revision.now result }
     ensures memory { NeedsNoMemory result }
 {
     let commit = eval_commit(repo, revision)?;
@@ -132,7 +131,7 @@ pub fn tree<N: Namer, A: Allocator + Copy>(
     repo: &Repo<N, A>,
     revision: &Revision<A>,
 ) -> Result<Name, RevFault>
-    ensures files { Gives fault_of (files_at repo.now.1) result (and_then (value_denoted (N.name_of repo.now.0) (history_of repo.now.1) revision.now) files_in) }
+    ensures files { GivesTreeOf N.name_of repo.now revision.now result }
     ensures held { IfOk result (IsHeldAs kinds.Tree repo.now.1) }
     ensures memory { NeedsNoMemory result }
 {
@@ -145,7 +144,7 @@ pub(crate) fn eval_commit<N: Namer, A: Allocator + Copy>(
     repo: &Repo<N, A>,
     revision: &Revision<A>,
 ) -> Result<Name, RevFault>
-    ensures commit { Gives fault_of (commit_at repo.now.1) result (commit_denoted (N.name_of repo.now.0) (history_of repo.now.1) revision.now) }
+    ensures commit { GivesCommitOf N.name_of repo.now revision.now result }
     ensures held { IfOk result (IsHeldAs kinds.Commit repo.now.1) }
     ensures memory { NeedsNoMemory result }
 {
@@ -158,7 +157,7 @@ fn eval_object<N: Namer, A: Allocator + Copy>(
     repo: &Repo<N, A>,
     revision: &Revision<A>,
 ) -> Result<Name, RevFault>
-    ensures value { Gives fault_of (value_at repo.now.1) result (value_denoted (N.name_of repo.now.0) (history_of repo.now.1) revision.now) }
+    ensures value { GivesObjectOf N.name_of repo.now revision.now result }
     ensures held { IfOk result (IsHeld repo.now.1) }
     ensures memory { NeedsNoMemory result }
 {
@@ -188,8 +187,8 @@ pub fn look<N: Namer, A: Allocator + Copy>(
     revision: &Revision<A>,
     path: &TreePath<A>,
 ) -> Result<(Mode, Vec<u8, A>), RevFault>
-    ensures file { Gives fault_of seen_file result (looked_up (N.name_of repo.now.0) (history_of repo.now.1) revision.now path.now) }
-    ensures first { FaultsComeFirst result (looked_up (N.name_of repo.now.0) (history_of repo.now.1) revision.now path.now) }
+    ensures file { ReadsFile (file_in N.name_of repo.now revision.now path.now) result }
+    ensures first { FaultsComeFirst result (file_in N.name_of repo.now revision.now path.now) }
 {
     let tree = tree(repo, revision)?;
     look_in(alloc, repo, &tree, path)
@@ -203,7 +202,7 @@ fn look_in<N: Namer, A: Allocator + Copy>(
     path: &TreePath<A>,
 ) -> Result<(Mode, Vec<u8, A>), RevFault>
     requires { IsHeldAs kinds.Tree repo.now.1 tree.now }
-    ensures file { Gives fault_of seen_file result (file_shown (files_at repo.now.1 tree.now) path.now) }
+    ensures file { ReadsFile (file_shown (files_at repo.now.1 tree.now) path.now) result }
     ensures first { FaultsComeFirst result (file_shown (files_at repo.now.1 tree.now) path.now) }
 {
     repo.sound();
@@ -221,7 +220,7 @@ fn read_file<N: Namer, A: Allocator + Copy>(
     name: &Name,
 ) -> Result<(Mode, Vec<u8, A>), RevFault>
     requires { IsNamed (N.name_of repo.now.0) repo.now.1 (shown_as mode name.now) }
-    ensures file { Gives fault_of seen_file result (file_of repo.now.1 mode name.now) }
+    ensures file { ReadsFile (file_of repo.now.1 mode name.now) result }
     ensures first { FaultsComeFirst result (file_of repo.now.1 mode name.now) }
 {
     match mode {

@@ -1,15 +1,15 @@
 //! The suffixes of a revision.
 
-ghost use Rattle.std.specs.Prelude.{◌≡◌, ◌∷◌, IfOk, map};
+ghost use Rattle.std.specs.Prelude.{◌≡◌, ◌∷◌, IfOk};
 ghost use Rattle.std.specs.Map.{lookup};
 ghost use Rattle.std.specs.Option.{option_map};
 ghost use Rattle.gx_model.specs.Faults.{Gives};
 ghost use Rattle.gx_model.specs.Texts.{same_bytes};
+ghost use Rattle.gx_model.specs.Revisions as model;
 ghost use Rattle.gx_model.specs.Revisions.{braced_suffixes, number_or_one, suffix_of};
-ghost use Rattle.gx_model.specs.Revisions.Denotation.{all_suffixed, commit_in, files_in, nth_ancestor, nth_parent, peel, suffixed};
-ghost use Rattle.gx_model.specs.Faults.{and_then};
-ghost use Rattle.gx_model.specs.Histories.Values.{commit_value, tree_value};
-ghost use Rattle.gx_rev.specs.Objects.{IsHeld, only, value_at};
+ghost use Rattle.gx_model.specs.Revisions.Denotation.{peel};
+ghost use Rattle.gx_rev.specs.Calls.{GivesAllSuffixed, GivesOnly, GivesSuffixed};
+ghost use Rattle.gx_rev.specs.Objects.{IsHeld, value_at};
 ghost use Rattle.gx_rev.specs.RevFaults.{NeedsNoMemory, fault_of};
 ghost use Rattle.gx_rev.specs.Views.{shown_suffix};
 
@@ -63,7 +63,7 @@ impl Suffix {
         name: &Name,
     ) -> Result<Name, RevFault>
         requires { IsHeld repo.now.1 name.now }
-        ensures value { Gives fault_of (value_at repo.now.1) result (suffixed (value_at repo.now.1 name.now) (shown_suffix self)) }
+        ensures value { GivesSuffixed repo.now.1 name.now (shown_suffix self) result }
         ensures held { IfOk result (IsHeld repo.now.1) }
         ensures memory { NeedsNoMemory result }
     {
@@ -87,7 +87,7 @@ pub(crate) fn eval_all<N: Namer, A: Allocator + Copy>(
     suffixes: &[Suffix],
 ) -> Result<Name, RevFault>
     requires { IsHeld repo.now.1 name.now }
-    ensures value { Gives fault_of (value_at repo.now.1) result (all_suffixed (value_at repo.now.1 name.now) (map shown_suffix suffixes.now)) }
+    ensures value { GivesAllSuffixed repo.now.1 name.now suffixes.now result }
     ensures held { IfOk result (IsHeld repo.now.1) }
     ensures memory { NeedsNoMemory result }
 {
@@ -104,7 +104,7 @@ fn parent<N: Namer, A: Allocator + Copy>(
     number: u64,
 ) -> Result<Name, RevFault>
     requires { IsHeld repo.now.1 name.now }
-    ensures value { Gives fault_of (value_at repo.now.1) result (and_then (commit_in (value_at repo.now.1 name.now)) (λ c. and_then (nth_parent number c) (λ d. Ok (commit_value d)))) }
+    ensures value { GivesSuffixed repo.now.1 name.now (model.parent number) result }
     ensures held { IfOk result (IsHeld repo.now.1) }
     ensures memory { NeedsNoMemory result }
 {
@@ -120,7 +120,7 @@ fn ancestor<N: Namer, A: Allocator + Copy>(
     number: u64,
 ) -> Result<Name, RevFault>
     requires { IsHeld repo.now.1 name.now }
-    ensures value { Gives fault_of (value_at repo.now.1) result (and_then (commit_in (value_at repo.now.1 name.now)) (λ c. and_then (nth_ancestor number c) (λ d. Ok (commit_value d)))) }
+    ensures value { GivesSuffixed repo.now.1 name.now (model.ancestor number) result }
     ensures held { IfOk result (IsHeld repo.now.1) }
     ensures memory { NeedsNoMemory result }
 {
@@ -132,7 +132,7 @@ fn ancestor<N: Namer, A: Allocator + Copy>(
 
 fn tree<N: Namer, A: Allocator + Copy>(repo: &Repo<N, A>, name: &Name) -> Result<Name, RevFault>
     requires { IsHeld repo.now.1 name.now }
-    ensures value { Gives fault_of (value_at repo.now.1) result (and_then (files_in (value_at repo.now.1 name.now)) (λ f. Ok (tree_value f))) }
+    ensures value { GivesSuffixed repo.now.1 name.now model.as_tree result }
     ensures held { IfOk result (IsHeld repo.now.1) }
     ensures memory { NeedsNoMemory result }
 {
@@ -161,7 +161,7 @@ fn of_kind<N: Namer, A: Allocator + Copy>(
     kind: Kind,
 ) -> Result<Name, RevFault>
     requires { IsHeld repo.now.1 name.now }
-    ensures value { Gives fault_of (value_at repo.now.1) result (only (N.name_of repo.now.0) kind (value_at repo.now.1 name.now)) }
+    ensures value { GivesOnly N.name_of repo.now kind name.now result }
     ensures held { IfOk result (IsHeld repo.now.1) }
     ensures memory { NeedsNoMemory result }
 {

@@ -2,14 +2,13 @@
 //! serves what all words include, and one what they exclude.
 
 ghost use Rattle.std.specs.Prelude.{◌≡◌, IfOk, length, map};
-ghost use Rattle.gx_model.specs.Records.HistoryOf.{history_of};
 ghost use Rattle.gx_model.specs.Revisions as words;
-ghost use Rattle.gx_model.specs.Revisions.Ranges.{listed};
 ghost use Rattle.gx_model.specs.Laws.RepositoryLaws.{values_of};
+ghost use Rattle.gx_rev.specs.Calls.{AreMarked, ListsWords, MarksRange};
 ghost use Rattle.gx_rev.specs.RevFaults.{NeedsNoMemory};
 ghost use Rattle.gx_rev.specs.Views.{shown_range};
 ghost use Rattle.gx_rev.specs.Tips.{HasTips};
-ghost use Rattle.gx_rev.specs.Walking.{AreBoth, AreEither, AreListed, AreWithout, GivesNames, MarksWord, names_back, refused_at};
+ghost use Rattle.gx_rev.specs.Walking.{AreBoth, AreEither, AreListed, AreWithout, refused_at};
 
 use crate::objects::parent_of;
 use crate::reached::{mark, mark_parents, name_at, reached, spread, unmarked};
@@ -32,7 +31,7 @@ pub fn walk<N: Namer, A: Allocator + Copy>(
     repo: &Repo<N, A>,
     words: &[Range<A>],
 ) -> Result<Vec<Name, A>, WalkFault>
-    ensures { GivesNames result (listed (N.name_of repo.now.0) (history_of repo.now.1) (map shown_range words.now)) }
+    ensures { ListsWords N.name_of repo.now (map shown_range words.now) result }
 {
     let mut included = unmarked(alloc, repo)?;
     let mut excluded = unmarked(alloc, repo)?;
@@ -66,7 +65,7 @@ fn mark_word<N: Namer, A: Allocator + Copy>(
 ) -> Result<(), RevFault>
     requires included { length included.old ≡ length (values_of repo.now.1) }
     requires excluded { length excluded.old ≡ length (values_of repo.now.1) }
-    ensures { MarksWord (N.name_of repo.now.0) repo.now.1 (shown_range word.now)
+    ensures { MarksRange N.name_of repo.now (shown_range word.now)
         (included.old, excluded.old) (included.new, excluded.new) result }
 {
     match word {
@@ -100,7 +99,7 @@ fn mark_between<N: Namer, A: Allocator + Copy>(
 ) -> Result<(), RevFault>
     requires included { length included.old ≡ length (values_of repo.now.1) }
     requires excluded { length excluded.old ≡ length (values_of repo.now.1) }
-    ensures marks { MarksWord (N.name_of repo.now.0) repo.now.1 (words.Between left.now right.now)
+    ensures marks { MarksRange N.name_of repo.now (words.Between left.now right.now)
         (included.old, excluded.old) (included.new, excluded.new) result }
     ensures memory { NeedsNoMemory result }
 {
@@ -121,7 +120,7 @@ fn mark_without_one<N: Namer, A: Allocator + Copy>(
 ) -> Result<(), RevFault>
     requires included { length included.old ≡ length (values_of repo.now.1) }
     requires excluded { length excluded.old ≡ length (values_of repo.now.1) }
-    ensures marks { MarksWord (N.name_of repo.now.0) repo.now.1 (words.WithoutOne revision.now number)
+    ensures marks { MarksRange N.name_of repo.now (words.WithoutOne revision.now number)
         (included.old, excluded.old) (included.new, excluded.new) result }
     ensures memory { NeedsNoMemory result }
 {
@@ -143,7 +142,7 @@ fn mark_apart<N: Namer, A: Allocator + Copy>(
 ) -> Result<(), RevFault>
     requires included { length included.old ≡ length (values_of repo.now.1) }
     requires excluded { length excluded.old ≡ length (values_of repo.now.1) }
-    ensures { MarksWord (N.name_of repo.now.0) repo.now.1 (words.Apart left.now right.now)
+    ensures { MarksRange N.name_of repo.now (words.Apart left.now right.now)
         (included.old, excluded.old) (included.new, excluded.new) result }
 {
     repo.sound();
@@ -219,7 +218,7 @@ fn names_marked<N: Namer, A: Allocator + Copy>(
     marks: &[bool],
 ) -> Result<Vec<Name, A>, AllocError>
     requires { length marks.now ≡ length (values_of repo.now.1) }
-    ensures { IfOk result (λ names. map (λ n. n.bytes) names.items ≡ names_back (N.name_of repo.now.0) (values_of repo.now.1) marks.now) }
+    ensures { IfOk result (AreMarked N.name_of repo.now marks.now) }
 {
     repo.sound();
     let mut names = Vec::new(alloc);

@@ -1,6 +1,6 @@
 -- What is answered to a line: the object that it names as a revision, or why there is none.
 -- Source: git-cat-file(1), "BATCH OUTPUT".
-use Rattle.std.specs.Prelude.{Bool, if◌then◌else◌, List, [], ◌∷◌, ◌++◌, length, codes, Ok, Err}
+use Rattle.std.specs.Prelude.{ℕ, Bool, if◌then◌else◌, List, [], ◌∷◌, ◌++◌, length, codes, Ok, Err}
 use Rattle.std.specs.List.{flat_map}
 use Rattle.std.specs.Fmt.{decimal}
 use Rattle.gx_model.specs.declared.objects.Kind.{Kind}
@@ -21,10 +21,14 @@ abbrev pub reason : Fault → Bytes
 reason Ambiguous = codes "ambiguous"
 reason fault = codes "missing"
 
+-- the line of an object of this name, kind and length
+abbrev pub line_of_parts : Bytes → Kind → ℕ → Bytes
+line_of_parts called kind size = line (hex called) (kind_word kind ++ 32 ∷ decimal size)
+
 module _ (name : Kind → Bytes → Bytes) where
   -- an object's name, kind and length
   abbrev pub object_line : Value → Bytes
-  object_line value = line (hex (name_of name value)) (kind_word (kind_of name value) ++ 32 ∷ decimal (length (body_of name value)))
+  object_line value = line_of_parts (name_of name value) (kind_of name value) (length (body_of name value))
 
   -- the line, and where its bytes are asked for these and an LF
   abbrev pub object_text : Bool → Value → Bytes

@@ -1,6 +1,7 @@
 pub mod Lines
 pub mod Answers
 pub mod Batches
+pub mod Calls
 pub mod Reading
 pub mod Rows
 pub mod LineLaws

@@ -1,8 +1,10 @@
 -- What a reader of lines is seen as, and what one call answers and leaves.
-use Rattle.std.specs.Prelude.{◌≡◌, ℕ, suc, ◌+◌, ◌<◌, ◌≤◌, Bool, true, false, [], ◌∷◌, ◌++◌, length, slice_range, Option, None, Some, Result, Ok, Err, ⊤}
+use Rattle.std.specs.Prelude.{◌≡◌, ℕ, suc, ◌+◌, ◌<◌, ◌≤◌, Bool, true, false, [], ◌∷◌, ◌++◌, length, slice_range, take, Option, None, Some, Result, Ok, Err, ⊤}
+use Rattle.std.specs.Option.{option_map}
+use Rattle.std.specs.declared.vec.Vec.{Vec}
 use Rattle.gx_model.specs.Texts.{Bytes, lacks}
 use Rattle.gx_text.specs.Devices.{Coming}
-use Rattle.gx_stream.specs.Heard.{heard_upto}
+use Rattle.gx_stream.specs.Heard.{heard, heard_upto}
 use Rattle.gx_batch.specs.Lines.{lines_from}
 use Rattle.gx_batch.specs.declared.fault.BatchFault.{BatchFault}
 use Rattle.gx_batch.specs.declared.fault.BatchFault.TheVariants.{OutOfMemory, ReadFailed, WriteFailed}
@@ -40,6 +42,14 @@ rest_of reader = slice_range reader.piece.items reader.at reader.end
 abbrev pub seen : {R A : Type 0} → LineReader R A → Option Coming → Option Coming
 seen reader coming = coming_seen reader.state reader.room coming (rest_of reader)
 
+-- the same, by what its source gives
+abbrev pub seen_from : {R A : Type 0} → (R → Option Coming) → LineReader R A → Option Coming
+seen_from coming reader = seen reader (coming reader.source)
+
+-- a reader of all that a source gives
+abbrev pub IsReaderOf : {R A : Type 0} → (R → Option Coming) → R → LineReader R A → Type 0
+IsReaderOf coming source reader = seen_from coming reader ≡ option_map heard (coming source)
+
 abbrev pub most : {R A : Type 0} → LineReader R A → ℕ
 most reader = most_seen reader.state reader.room (rest_of reader)
 
@@ -52,11 +62,21 @@ abbrev pub Passes : Bytes → Option Coming → Option Coming → Type 0
 Passes front None now = ⊤
 Passes front (Some was) now = (left : Coming) × (now ≡ Some left) × (was ≡ behind front left)
 
+-- One piece is pulled, and nothing is lost of what is to come. Answered is what is known of the source then, and how many bytes of the
+-- piece are taken.
+abbrev pub KeepsComing : {R : Type 0} → (R → Option Coming) → R → R → ℕ → ℕ → Bytes → State × ℕ → Type 0
+KeepsComing coming old new before after piece answer =
+    Passes [] (coming_seen Open before (coming old) []) (coming_seen answer.0 after (coming new) (take answer.1 piece))
+
 -- Of what is left to read, what stands before an LF is put behind a line, with what stands behind the LF left; or all is, and none of
 -- it is an LF.
 abbrev pub TakesPart : Bytes → Bytes → Bytes → Bytes → Bool → Type 0
 TakesPart rest left line now true = (front : Bytes) × (lacks 10 front ≡ true) × (rest ≡ front ++ 10 ∷ left) × (now ≡ line ++ front)
 TakesPart rest left line now false = (lacks 10 rest ≡ true) × (left ≡ []) × (now ≡ line ++ rest)
+
+-- the same of what stands in a piece up to an end, from one place on before and from another then
+abbrev pub TakesPartOf : {A : Type 0} → Bytes → ℕ → ℕ → ℕ → Vec ℕ A → Vec ℕ A → Bool → Type 0
+TakesPartOf piece end before after line now = TakesPart (slice_range piece before end) (slice_range piece after end) line.items now.items
 
 -- Where the lines to come are known, the first is answered, and the others are left. That there is none is answered only where none
 -- is left, with the end or the failure that follows.
@@ -71,6 +91,10 @@ abbrev pub Reads : Option Coming → Option Coming → Bytes → Result Bool Bat
 Reads None now line (Err WriteFailed) = ⊥
 Reads None now line answer = ⊤
 Reads (Some was) now line answer = ReadsFrom was now line answer
+
+-- the same of a reader, by what its source gives
+abbrev pub ReadsLine : {R A : Type 0} → (R → Option Coming) → LineReader R A → LineReader R A → Vec ℕ A → Result Bool BatchFault → Type 0
+ReadsLine coming old new line answer = Reads (seen_from coming old) (seen_from coming new) line.items answer
 
 -- a line lowers the bound
 abbrev pub Falls : ℕ → ℕ → Result Bool BatchFault → Type 0

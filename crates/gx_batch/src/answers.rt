@@ -1,20 +1,16 @@
 //! What is answered to a line.
 
 ghost use Rattle.std.specs.Prelude.{◌≡◌, ◌∷◌, ◌++◌, [], IfErr, IfOk, OnOk};
-ghost use Rattle.std.specs.Fmt.{decimal};
-ghost use Rattle.gx_model.specs.Revisions.Denotation.{denoted};
-ghost use Rattle.gx_model.specs.Faults.{Gives, and_then};
-ghost use Rattle.gx_model.specs.Records.HistoryOf.{history_of};
 ghost use Rattle.gx_model.specs.Objects.Naming.{kind_word};
-ghost use Rattle.gx_model.specs.Objects.{hex, line};
+ghost use Rattle.gx_model.specs.Objects.{line};
 ghost use Rattle.gx_model.specs.Records.{body_of};
-ghost use Rattle.gx_model.specs.Revisions.{revision_of};
-ghost use Rattle.gx_rev.specs.Answers.{IsNamed, shown_by};
+ghost use Rattle.gx_rev.specs.Answers.{IsNamed};
+ghost use Rattle.gx_rev.specs.Calls.{DenotesText};
 ghost use Rattle.gx_rev.specs.declared.shown.Shown.TheVariants.{Object};
 ghost use Rattle.gx_rev.specs.Objects.{IsHeld, value_at};
-ghost use Rattle.gx_rev.specs.RevFaults.{fault_of};
-ghost use Rattle.gx_batch.specs.Answers.{batch_answer, object_text};
+ghost use Rattle.gx_batch.specs.Answers.{line_of_parts};
 ghost use Rattle.gx_batch.specs.Batches.{Sent};
+ghost use Rattle.gx_batch.specs.Calls.{SendsAnswer, SendsObject};
 ghost use Rattle.gx_batch.specs.declared.fault.BatchFault.TheVariants.{WriteFailed};
 
 use crate::BatchFault;
@@ -37,7 +33,7 @@ pub(crate) fn answer<N: Namer, W: Sink, A: Allocator + Copy>(
     buffer: &mut Vec<u8, A>,
     sink: &mut W,
 ) -> Result<(), BatchFault>
-    ensures { Sent (batch_answer (N.name_of repo.now.0) check (history_of repo.now.1) asked.now) (W.taken sink.old) (W.taken sink.new) result }
+    ensures { SendsAnswer N.name_of W.taken repo.now check asked.now sink.old sink.new result }
 {
     match eval(alloc, repo, asked) {
         Ok(Shown::Object(kind, name)) => answer_object(repo, check, kind, &name, buffer, sink),
@@ -54,7 +50,7 @@ fn eval<N: Namer, A: Allocator + Copy>(
     repo: &Repo<N, A>,
     asked: &[u8],
 ) -> Result<Shown, RevFault>
-    ensures shown { Gives fault_of (shown_by repo.now.1) result (and_then (revision_of asked.now) (denoted (N.name_of repo.now.0) (history_of repo.now.1))) }
+    ensures shown { DenotesText N.name_of repo.now asked.now result }
     ensures named { IfOk result (IsNamed (N.name_of repo.now.0) repo.now.1) }
 {
     let revision = Revision::read(alloc, asked)?;
@@ -88,7 +84,7 @@ fn answer_object<N: Namer, W: Sink, A: Allocator + Copy>(
     sink: &mut W,
 ) -> Result<(), BatchFault>
     requires { IsNamed (N.name_of repo.now.0) repo.now.1 (Object kind name.now) }
-    ensures { Sent (object_text (N.name_of repo.now.0) check (value_at repo.now.1 name.now)) (W.taken sink.old) (W.taken sink.new) result }
+    ensures { SendsObject N.name_of W.taken repo.now check name.now sink.old sink.new result }
 {
     let body = body_of(repo, name);
     make_line(buffer, name, kind, body.len())?;
@@ -110,7 +106,7 @@ fn make_line<A: Allocator>(
     kind: Kind,
     size: usize,
 ) -> Result<(), AllocError>
-    ensures { OnOk result (buffer.new.items ≡ line (hex name.now.bytes) (kind_word kind ++ 32 ∷ decimal size)) }
+    ensures { OnOk result (buffer.new.items ≡ line_of_parts name.now.bytes kind size) }
 {
     let mut digits = Buffer::new();
     buffer.clear();

@@ -1,8 +1,6 @@
 //! The lines of a source, each answered before the next one is asked for.
 
-ghost use Rattle.gx_model.specs.Records.HistoryOf.{history_of};
-ghost use Rattle.gx_batch.specs.Answers.{batch_answer};
-ghost use Rattle.gx_batch.specs.Batches.{Answers};
+ghost use Rattle.gx_batch.specs.Calls.{SendsAnswers};
 
 use crate::BatchFault;
 use crate::answers::answer;
@@ -30,7 +28,7 @@ pub fn batch<N: Namer, R: Source + Drop, W: Sink, A: Allocator + Copy>(
     source: R,
     sink: &mut W,
 ) -> Result<(), BatchFault>
-    ensures { Answers (batch_answer (N.name_of repo.now.0) check (history_of repo.now.1)) (R.coming source) (W.taken sink.old) (W.taken sink.new) result }
+    ensures { SendsAnswers N.name_of W.taken repo.now check (R.coming source) sink.old sink.new result }
 {
     let mut lines = LineReader::new(alloc, source)?;
     let mut line = Vec::new(alloc);

@@ -1,9 +1,7 @@
 //! The lines that a source gives.
 
-ghost use Rattle.std.specs.Prelude.{◌≡◌, ◌<◌, ◌≤◌, ◌+◌, [], length, slice_range, take, IfOk};
-ghost use Rattle.std.specs.Option.{option_map};
-ghost use Rattle.gx_stream.specs.Heard.{heard};
-ghost use Rattle.gx_batch.specs.Reading.{Falls, IsSound, Passes, Reads, TakesPart, coming_seen, most, pulls_left, rest_of, seen};
+ghost use Rattle.std.specs.Prelude.{◌≡◌, ◌<◌, ◌≤◌, ◌+◌, [], length, IfOk};
+ghost use Rattle.gx_batch.specs.Reading.{Falls, IsReaderOf, IsSound, KeepsComing, Passes, ReadsLine, TakesPartOf, most, pulls_left, rest_of, seen_from};
 ghost use Rattle.gx_batch.specs.declared.lines.State.TheVariants.{Open};
 
 use crate::BatchFault;
@@ -40,7 +38,7 @@ impl<R: Source + Drop, A: Allocator + Copy> LineReader<R, A> {
     /// A reader of all the lines of a source. Nothing is pulled yet. Memory: one piece.
     pub(crate) fn new(alloc: A, source: R) -> Result<LineReader<R, A>, AllocError>
         ensures sound { IfOk result IsSound }
-        ensures seen { IfOk result (λ reader. seen reader (R.coming reader.source) ≡ option_map heard (R.coming source)) }
+        ensures seen { IfOk result (IsReaderOf R.coming source) }
     {
         let mut piece = Vec::new(alloc);
         piece.resize(PIECE, 0)?;
@@ -61,7 +59,7 @@ impl<R: Source + Drop, A: Allocator + Copy> LineReader<R, A> {
     pub(crate) fn next(&mut self, line: &mut Vec<u8, A>) -> Result<bool, BatchFault>
         requires { IsSound self.old }
         ensures sound { IsSound self.new }
-        ensures reads { Reads (seen self.old (R.coming self.old.source)) (seen self.new (R.coming self.new.source)) line.new.items result }
+        ensures reads { ReadsLine R.coming self.old self.new line.new result }
         ensures falls { Falls (most self.old) (most self.new) result }
     {
         line.clear();
@@ -83,7 +81,7 @@ impl<R: Source + Drop, A: Allocator + Copy> LineReader<R, A> {
         requires open { self.old.state ≡ Open }
         requires read { rest_of self.old ≡ [] }
         ensures sound { IsSound self.new }
-        ensures keeps { Passes [] (seen self.old (R.coming self.old.source)) (seen self.new (R.coming self.new.source)) }
+        ensures keeps { Passes [] (seen_from R.coming self.old) (seen_from R.coming self.new) }
         ensures most { most self.new ≤ most self.old }
         ensures fewer { pulls_left self.new.state self.new.room < pulls_left self.old.state self.old.room }
     {
@@ -103,7 +101,7 @@ fn take_part<A: Allocator>(
 ) -> Result<bool, AllocError>
     requires { (at.old ≤ end) × (end ≤ length piece.now) }
     ensures within { at.new ≤ end }
-    ensures takes { IfOk result (TakesPart (slice_range piece.now at.old end) (slice_range piece.now at.new end) line.old.items line.new.items) }
+    ensures takes { IfOk result (TakesPartOf piece.now end at.old at.new line.old line.new) }
 {
     let rest = &piece[*at..end];
     match cut(rest, b'\n') {
@@ -124,7 +122,7 @@ fn take_part<A: Allocator>(
 fn pull_piece<R: Source>(source: &mut R, piece: &mut [u8], room: &mut usize) -> (State, usize)
     requires { 0 < length piece.old }
     ensures within { result.1 ≤ length piece.new }
-    ensures keeps { Passes [] (coming_seen Open room.old (R.coming source.old) []) (coming_seen result.0 room.new (R.coming source.new) (take result.1 piece.new)) }
+    ensures keeps { KeepsComing R.coming source.old source.new room.old room.new piece.new result }
     ensures room { result.1 + room.new ≤ room.old }
     ensures fewer { pulls_left result.0 room.new < pulls_left Open room.old }
 {

@@ -1,0 +1,26 @@
+-- What goes out to a sink of a repository. The repository is seen by the names that its namer gives, and the sink by what it took before
+-- the call and after it. Where an object is told by its first line alone, `check` is true.
+use Rattle.std.specs.Prelude.{Bool, Option, Result}
+use Rattle.gx_model.specs.declared.objects.Kind.{Kind}
+use Rattle.gx_model.specs.Texts.{Bytes}
+use Rattle.gx_model.specs.Histories.{Records}
+use Rattle.gx_model.specs.Records.HistoryOf.{history_of}
+use Rattle.gx_text.specs.Devices.{Coming, Taken}
+use Rattle.gx_object.specs.declared.name.Name.{Name}
+use Rattle.gx_rev.specs.Objects.{value_at}
+use Rattle.gx_batch.specs.Answers.{batch_answer, object_text}
+use Rattle.gx_batch.specs.Batches.{Answers, Sent}
+use Rattle.gx_batch.specs.declared.fault.BatchFault.{BatchFault}
+
+module _ {N W : Type 0} (name_of : N → Kind → Bytes → Bytes) (taken : W → Option Taken) (repo : N × Records) (check : Bool) where
+  -- the answer to a line
+  abbrev pub SendsAnswer : Bytes → W → W → Result (Unit {0}) BatchFault → Type 0
+  SendsAnswer asked old new result = Sent (batch_answer (name_of repo.0) check (history_of repo.1) asked) (taken old) (taken new) result
+
+  -- the text of the object of this name
+  abbrev pub SendsObject : Name → W → W → Result (Unit {0}) BatchFault → Type 0
+  SendsObject called old new result = Sent (object_text (name_of repo.0) check (value_at repo.1 called)) (taken old) (taken new) result
+
+  -- the answers to the lines of a source
+  abbrev pub SendsAnswers : Option Coming → W → W → Result (Unit {0}) BatchFault → Type 0
+  SendsAnswers coming old new result = Answers (batch_answer (name_of repo.0) check (history_of repo.1)) coming (taken old) (taken new) result

@@ -1,4 +1,3 @@
-pub mod Ancestry
 pub mod BlobLists
 pub mod CommitLines
 pub mod CommitLists

@@ -4,5 +4,4 @@ pub mod FileTexts
 pub mod Marks
 pub mod Outputs
 pub mod Parts
-pub mod Reaching
 pub mod Texts

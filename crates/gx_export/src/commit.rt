@@ -15,13 +15,12 @@ ghost use Rattle.gx_export.specs.Texts.{items_text, root_items};
 use crate::ExportFault;
 use crate::commands::{write_commit_head, write_parent, write_reset};
 use crate::lines::Lines;
-use crate::objects::name_at;
 use crate::output::write_all;
 use crate::trees::add_files;
 use crate::written::{Written, mark_of};
 use gx_object::{CommitView, Namer};
 use gx_repo::Repo;
-use gx_rev::view_of;
+use gx_rev::{name_at, view_of};
 use gx_text::Sink;
 use std::alloc::Allocator;
 

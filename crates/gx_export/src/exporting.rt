@@ -6,7 +6,7 @@ ghost use Rattle.gx_export.specs.Faults.{NeedsNoMemory};
 ghost use Rattle.gx_export.specs.Marks.{HasWritten};
 ghost use Rattle.gx_export.specs.Outputs.{Writes, most};
 ghost use Rattle.gx_export.specs.Parts.{AddsReachedCommits};
-ghost use Rattle.gx_export.specs.Reaching.{reached_marks};
+ghost use Rattle.gx_rev.specs.Reached.{reached_marks};
 ghost use Rattle.gx_export.specs.Texts.{items_text, last_items};
 
 use crate::ExportFault;
@@ -14,11 +14,11 @@ use crate::commands::write_reset;
 use crate::commit::write_commit;
 use crate::lines::Lines;
 use crate::output::write;
-use crate::reached::reached;
 use crate::refs::write_refs;
 use crate::written::Written;
 use gx_object::Namer;
 use gx_repo::Repo;
+use gx_rev::reached_from_refs;
 use gx_text::Sink;
 use std::alloc::Allocator;
 
@@ -40,7 +40,7 @@ pub fn export<N: Namer, A: Allocator + Copy, W: Sink>(
     ensures { Exports repo.now.1 (W.taken sink.old) (W.taken sink.new) result }
 {
     repo.sound();
-    let reached = reached(alloc, repo)?;
+    let reached = reached_from_refs(alloc, repo)?;
     let mut written = Written::new(alloc, repo.store().len())?;
     write(sink, &mut written.bytes, b"feature done\n")?;
     write_commits(alloc, repo, sink, &mut written, &reached)?;

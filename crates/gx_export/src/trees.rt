@@ -16,11 +16,10 @@ ghost use Rattle.gx_export.specs.Parts.{AddsBlobsOf, AddsOneBlob, GathersEntry, 
 use crate::ExportFault;
 use crate::commands::write_blob;
 use crate::lines::Lines;
-use crate::objects::place_of;
 use crate::written::Written;
 use gx_object::{Entry, Mode, Name, Namer, held_tree};
 use gx_repo::Repo;
-use gx_rev::view_of;
+use gx_rev::{place_of, view_of};
 use gx_text::{Sink, TextFault, TreePath};
 use std::alloc::{AllocError, Allocator};
 

@@ -5,9 +5,9 @@ ghost use Rattle.gx_model.specs.Laws.RepositoryLaws.{values_of};
 ghost use Rattle.gx_rev.specs.Objects.{IsHeld, value_at};
 ghost use Rattle.gx_export.specs.Marks.{IsMarkOf};
 
-use crate::objects::place_of;
 use gx_object::{Name, Namer};
 use gx_repo::Repo;
+use gx_rev::place_of;
 use std::alloc::{AllocError, Allocator};
 
 /// How many bytes were written, how many marks were given, and the mark of each blob and commit by the place of its

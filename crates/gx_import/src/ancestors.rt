@@ -3,14 +3,13 @@
 ghost use Rattle.std.specs.Prelude.{◌≡◌, IfOk, IsTrue, OnOk};
 ghost use Rattle.std.specs.List.{AllByRecursion};
 ghost use Rattle.gx_model.specs.declared.objects.Kind.TheVariants as kinds;
-ghost use Rattle.gx_model.specs.Histories.Marks.{IsAt};
 ghost use Rattle.gx_model.specs.Records.Sound.{Holds};
-ghost use Rattle.gx_rev.specs.Objects.{IsHeldAs, commit_at};
+ghost use Rattle.gx_rev.specs.Objects.{IsHeldAs};
 ghost use Rattle.gx_import.specs.Places.{AddsParentsAt, IsCommitBefore, IsCommitPlace, TellsReached, reaches_at};
 
 use gx_object::{Name, Namer};
 use gx_repo::Repo;
-use gx_rev::view_of;
+use gx_rev::{name_at, place_of, view_of};
 use std::alloc::{AllocError, Allocator};
 use std::collections::BTreeSet;
 
@@ -93,29 +92,4 @@ fn insert_parents<N: Namer, A: Allocator + Copy>(
         }
     }
     Ok(())
-}
-
-/// The place of a held commit.
-fn place_of<N: Namer, A: Allocator + Copy>(repo: &Repo<N, A>, commit: &Name) -> usize
-    requires { IsHeldAs kinds.Commit repo.now.1 commit.now }
-    ensures { IsAt repo.now.1 result (commit_at repo.now.1 commit.now) }
-{
-    repo.sound();
-    let Some(place) = repo.store().place(commit) else {
-        unreachable!();
-    };
-    place
-}
-
-/// The name of the commit at a place.
-fn name_at<N: Namer, A: Allocator + Copy>(repo: &Repo<N, A>, place: usize) -> Name
-    requires { IsCommitPlace repo.now.1 place }
-    ensures held { IsHeldAs kinds.Commit repo.now.1 result }
-    ensures commit { IsAt repo.now.1 place (commit_at repo.now.1 result) }
-{
-    repo.sound();
-    let Some((name, _, _)) = repo.store().record(place) else {
-        unreachable!();
-    };
-    name
 }

@@ -8,4 +8,5 @@ pub mod Listings
 pub mod OneAnswer
 pub mod OneKind
 pub mod Prefixes
+pub mod RefTips
 pub mod Tips

@@ -2,6 +2,7 @@ pub mod RevFaults
 pub mod Views
 pub mod Bases
 pub mod Ranges
+pub mod Reached
 pub mod Objects
 pub mod Places
 pub mod Answers

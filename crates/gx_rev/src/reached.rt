@@ -124,8 +124,10 @@ pub(crate) fn mark<N: Namer, A: Allocator + Copy>(
     marks[place] = true;
 }
 
-/// The place of a held object.
-fn place_of<N: Namer, A: Allocator + Copy>(repo: &Repo<N, A>, name: &Name) -> usize
+/// The place of a held object among the records.
+///
+/// Cost: a look-up. Takes no memory.
+pub fn place_of<N: Namer, A: Allocator + Copy>(repo: &Repo<N, A>, name: &Name) -> usize
     requires { IsHeld repo.now.1 name.now }
     ensures { slice_get (values_of repo.now.1) result ≡ Some (value_at repo.now.1 name.now) }
 {
@@ -136,8 +138,10 @@ fn place_of<N: Namer, A: Allocator + Copy>(repo: &Repo<N, A>, name: &Name) -> us
     place
 }
 
-/// The name of the object at a place.
-pub(crate) fn name_at<N: Namer, A: Allocator + Copy>(repo: &Repo<N, A>, place: usize) -> Name
+/// The name of the object at a place among the records.
+///
+/// Takes no memory.
+pub fn name_at<N: Namer, A: Allocator + Copy>(repo: &Repo<N, A>, place: usize) -> Name
     requires { place < length (values_of repo.now.1) }
     ensures value { slice_get (values_of repo.now.1) place ≡ Some (value_at repo.now.1 result) }
     ensures held { IsHeld repo.now.1 result }

@@ -1,6 +1,6 @@
 //! Calls that want memory, where each of their growths is refused in turn.
 
-use super::questions::{ranges_of, reached};
+use super::questions::{ranges_of, reached, reached_names};
 use super::samples::BRANCHES;
 use super::steps::fill;
 use gx_object::{Namer, Sha1Namer};
@@ -23,6 +23,8 @@ pub(super) enum Call<'a> {
     Walk(&'a [&'a [u8]]),
     /// A commit reaches another.
     Reach(&'a [u8], &'a [u8]),
+    /// What refs reach is listed.
+    Refs,
 }
 
 /// What came of a call at which a growth was to be refused.
@@ -163,6 +165,20 @@ fn reach_on<B: Allocator, N: Namer, C: Allocator + Copy>(
     outcome
 }
 
+/// What comes of listing what refs reach.
+fn refs_on<B: Allocator, N: Namer, C: Allocator + Copy>(
+    heap: &Refusing<B>,
+    own: C,
+    repo: &Repo<N, C>,
+    growth: u64,
+) -> Outcome {
+    heap.arm(growth);
+    let fault = reached_names(own, repo).err().map(RevFault::from);
+    let outcome = judge(fault, heap.is_waiting());
+    heap.arm(0);
+    outcome
+}
+
 /// What comes of a call in a repository with branches, which is filled before.
 fn tried<B: Allocator, N: Namer, C: Allocator + Copy>(
     heap: &Refusing<B>,
@@ -179,6 +195,7 @@ fn tried<B: Allocator, N: Namer, C: Allocator + Copy>(
         Call::Look(text, path) => look_at(heap, own, repo, text, path, growth),
         Call::Walk(words) => walk_over(heap, own, repo, words, growth),
         Call::Reach(from, to) => reach_on(heap, own, repo, from, to, growth),
+        Call::Refs => refs_on(heap, own, repo, growth),
     }
 }
 

@@ -5,7 +5,8 @@ use super::words::{Shape, shape_of};
 use gx_object::{Kind, Mode, Name, Namer};
 use gx_repo::Repo;
 use gx_rev::{
-    Range, RevFault, Revision, Shown, WalkFault, answers_tell_values, commit, look, reaches, walk,
+    Range, RevFault, Revision, Shown, WalkFault, answers_tell_values, commit, look,
+    reached_from_refs, reaches, walk,
 };
 use gx_text::TreePath;
 use std::alloc::{AllocError, Allocator};
@@ -39,6 +40,8 @@ pub(super) enum Question<'a> {
     NoList(&'a [&'a [u8]], usize, RevFault),
     /// Whether a commit reaches another.
     Reach(&'a [u8], &'a [u8], bool),
+    /// The refs reach the commits with these names, in the order of the records.
+    Refs(&'a [&'a [u8]]),
 }
 
 /// What the revision of a text shows.
@@ -198,6 +201,33 @@ fn walk_fault<N: Namer, A: Allocator + Copy>(
     walked(alloc, repo, words).err()
 }
 
+/// The commits that refs reach.
+pub(super) fn reached_names<N: Namer, A: Allocator + Copy>(
+    alloc: A,
+    repo: &Repo<N, A>,
+) -> Result<Vec<Name, A>, AllocError> {
+    let marks = reached_from_refs(alloc, repo)?;
+    let mut names = Vec::new(alloc);
+    for (place, is_reached) in marks.iter().enumerate() {
+        if let (true, Some((name, _, _))) = (*is_reached, repo.store().record(place)) {
+            names.push(name)?;
+        }
+    }
+    Ok(names)
+}
+
+/// Whether the refs reach exactly the commits with these digits, in this order.
+fn refs_reach<N: Namer, A: Allocator + Copy>(
+    alloc: A,
+    repo: &Repo<N, A>,
+    expected: &[&[u8]],
+) -> bool {
+    match reached_names(alloc, repo) {
+        Ok(names) => are_named(names.as_slice(), expected),
+        Err(_) => false,
+    }
+}
+
 /// Whether the commit with one name's digits reaches the one with another's; none where one isn't held.
 pub(super) fn reached<N: Namer, A: Allocator + Copy>(
     alloc: A,
@@ -242,6 +272,7 @@ fn is_history_answered<N: Namer, A: Allocator + Copy>(
             walk_fault(alloc, repo, words) == Some(WalkFault { word, kind })
         }
         Question::Reach(from, to, expected) => reaches_as_told(alloc, repo, from, to, expected),
+        Question::Refs(expected) => refs_reach(alloc, repo, expected),
         _ => false,
     }
 }

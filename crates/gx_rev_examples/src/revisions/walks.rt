@@ -2,7 +2,7 @@
 
 use super::growths::{Call, refuse_each};
 use super::questions::{Question, ask};
-use super::samples::{BRANCHES, FIRST, P, Q, SECOND, Y};
+use super::samples::{BRANCHES, FIRST, LINK, P, Q, SECOND, Y};
 use super::steps::Step;
 use gx_object::Sha1Namer;
 use gx_rev::RevFault;
@@ -92,7 +92,31 @@ fn commits_reach_themselves_and_their_ancestors(rt: HostRuntime) -> Result<(), F
     ask(rt.alloc(), Sha1Namer, state, BRANCHES, REACHED)
 }
 
+const REACHED_FROM_REFS: &[Question] = &[Question::Refs(&[FIRST, SECOND, LINK, P, Q, Y])];
+
+#[test]
+fn refs_and_tags_reach_commits(rt: HostRuntime) -> Result<(), Fail> {
+    let state = RandomState::new(&rt)?;
+    ask(rt.alloc(), Sha1Namer, state, BRANCHES, REACHED_FROM_REFS)
+}
+
+/// A merge that no ref reaches, and a ref at one of its parents.
+const UNREACHED: &[Step] = &[
+    Step::Commit(&[], b"p"),
+    Step::Commit(&[], b"q"),
+    Step::Commit(&[P, Q], b"y"),
+    Step::Publish(b"refs/heads/q", Q),
+];
+
+#[test]
+fn commits_that_no_ref_reaches_are_left_out(rt: HostRuntime) -> Result<(), Fail> {
+    let state = RandomState::new(&rt)?;
+    let questions = &[Question::Refs(&[Q])];
+    ask(rt.alloc(), Sha1Namer, state, UNREACHED, questions)
+}
+
 const GROWING: &[Call] = &[
+    Call::Refs,
     Call::Reach(Y, Y),
     Call::Walk(&[b"y"]),
     Call::Walk(&[b"^y"]),

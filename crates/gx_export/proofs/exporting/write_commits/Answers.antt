@@ -8,7 +8,7 @@ use Rattle.gx_model.specs.Histories.Marks.{holds}
 use Rattle.gx_export.specs.FileTexts.{AreKept}
 use Rattle.gx_export.specs.Marks.{Adds}
 use Rattle.gx_export.specs.Outputs.{Stops}
-use Rattle.gx_export.specs.Reaching.{is_wanted}
+use Rattle.gx_rev.specs.Reached.{is_wanted}
 use Rattle.gx_export.specs.Texts.{items_of, items_text}
 use Rattle.gx_export.proofs.CommitLists.{commits_items, items_first, items_last, items_parted, marked_commit, picked, picked_next, picked_parts, picked_passed, written_append}
 use Rattle.gx_export.proofs.Numbering.{adds_later, adds_nothing}

@@ -1,9 +1,0 @@
-use Rattle.std.proofs.Common.{◌≡◌, ◌∙◌, ap, length, replicate, false}
-use Rattle.gx_model.proofs.Standing.{as_many}
-use Rattle.gx_export.proofs.reached.reached.Goals as goal
-
-pub mark_reached-requires : goal.mark_reached-requires
-mark_reached-requires g c =
-    let n = as_many (g.N.Namer.name_of c.args.repo.now.0) (g.met.N.Namer.is_namer c.args.repo.now.0) c.args.repo.now.1 c.sound.ensures in
-    let m : c.len-count.result ≡ length c.args.repo.now.1.records = c.len-count.ensures.count ∙ ap (λ s. length s.1) c.store.ensures in
-    record { none = c.deref_mut.ensures.value ∙ c.in_ok-marks.ensures.items_if_clones_equal (λ y e. e) ∙ ap (λ k. replicate k false) (m ∙ n) }

@@ -1,11 +1,10 @@
 -- What a copy takes, and whether it may stand at a path.
 use Rattle.std.specs.Prelude.{Bool, ◌&&◌, true, false, if◌then◌else◌, Option, Some, None}
-use Rattle.std.specs.List.{list_all}
 use Rattle.gx_model.specs.declared.faults.Fault.{Fault}
 use Rattle.gx_model.specs.declared.faults.Fault.TheVariants as model
 use Rattle.gx_model.specs.Histories.Edits.{is_root}
-use Rattle.gx_model.specs.Texts.Paths.{Path, is_short}
-use Rattle.gx_tree.specs.Lists.{below}
+use Rattle.gx_model.specs.Texts.Paths.{Path}
+use Rattle.gx_tree.specs.Lists.{are_short, below}
 use Rattle.gx_tree.specs.Nodes.{Kept, file, folder, kept_map}
 use Rattle.gx_tree.specs.declared.copying.Held.{Held}
 use Rattle.gx_tree.specs.declared.copying.Held.TheVariants.{File, Folder}
@@ -26,5 +25,5 @@ option_held (Some h) = Some (kept_held h)
 abbrev pub graft_fault : Kept → Path → Option Fault
 graft_fault k p =
     if is_file k && is_root p then Some model.RootNotTree
-    else if list_all (λ e. is_short e.0) (below p (kept_map k)) then None
+    else if are_short (below p (kept_map k)) then None
     else Some model.PathTooLong

@@ -48,24 +48,24 @@ GraftsItem p item old new = kept new ≡ kept_grafted p (kept item) (option_kept
 abbrev pub PutsFile : {E : Type 0} → Path → Mode → Name → FileMap Bytes → FileMap Bytes → Result Bool E → Type 0
 PutsFile p mode name old new result = IsTrue (is_made result) → new ≡ grafted p (kept_map (file (mode, name.bytes))) old
 
--- so it stands among the files below shared entries
+-- the same of the files below entries that may be shared
 abbrev pub PutsFileBelow : {A E : Type 0} → Path → Mode → Name → Rc (Vec (Entry A) A) A → Rc (Vec (Entry A) A) A → Result Bool E → Type 0
 PutsFileBelow p mode name old new = PutsFile p mode name (files_below old) (files_below new)
 
--- so it stands in place of an item, or at the path below it
+-- the same of an item, with the file in its place or at the path below it
 abbrev pub PutsFileAt : {A E : Type 0} → Path → Mode → Name → Item A → Item A → Result Bool E → Type 0
 PutsFileAt p mode name old new result = IsTrue (is_made result) → kept new ≡ kept_grafted p (file (mode, name.bytes)) (Some (kept old))
 
 -- ---- what is taken out
 
--- where it is answered that something was taken out, nothing stands at or below the path
+-- where it is answered that something was taken out, the files are those without what stood at or below the path
 abbrev pub TakesBelow : {A : Type 0} → Path → Rc (Vec (Entry A) A) A → Rc (Vec (Entry A) A) A → Bool → Type 0
 TakesBelow p old new taken = IsTrue taken → files_below new ≡ removed (files_below old) p
 
--- what is left of an item without what stands at the path below it
+-- what is left of an item, if anything, without what stands at or below the path in it
 abbrev pub IsLeftOf : {A : Type 0} → Path → Item A → Option (Item A) → Type 0
 IsLeftOf p old left = kept_if left ≡ kept_removed p (Some (kept old))
 
--- what is left of an item that is lent, if there is one
+-- the same of an item that is lent, if there is one
 abbrev pub IsLeftOfLent : {A : Type 0} → Path → Option (Bor (Item A)) → Option (Item A) → Type 0
 IsLeftOfLent p old left = kept_if left ≡ kept_removed p (option_kept old)

@@ -33,14 +33,14 @@ module _ (name : Kind → Bytes → Bytes) (rs : List Record) where
   abbrev pub NamesHeldTree : Name → Type 0
   NamesHeldTree n = (g : FileMap Bytes) × IsHeldTree name rs n.bytes g
 
-  -- and its paths have at most so many bytes
+  -- n names such a tree whose paths have at most so many bytes
   abbrev pub NamesTreeWithin : ℕ → Name → Type 0
   NamesTreeWithin room n = (g : FileMap Bytes) × IsHeldWithin name rs room n.bytes g
 
-  -- an entry of a tree stands for something that is held
+  -- an entry of a tree stands for a file, or for such a directory, whose paths have at most so many bytes
   abbrev pub NamesKeptWithin : ℕ → Entry → Type 0
   NamesKeptWithin room e = (k : Kept) × IsHeldEntry name rs room (e.component.now, k) × (kept_leaf name k ≡ (e.mode, e.name.bytes))
 
-  -- the item is what an entry of a tree stands for, if that is held
+  -- the item is what an entry of a tree stands for, where that is held
   abbrev pub IsItemOf : {A : Type 0} → Entry → Item A → Type 0
   IsItemOf e i = (k : Kept) (most : ℕ) → IsHeldEntry name rs most (e.component.now, k) → kept_leaf name k ≡ (e.mode, e.name.bytes) → kept i ≡ k

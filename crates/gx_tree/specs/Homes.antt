@@ -17,7 +17,7 @@ use Rattle.gx_tree.specs.declared.directory.Entry.{Entry}
 abbrev pub InStore : Type 0 → Type 1
 InStore X = (Kind → Bytes → Bytes) → List Record → X → Type 0
 
--- it holds in a store, which is seen as its namer and its records
+-- it holds of something by the names of a store's namer, and the records that the store holds
 abbrev pub HoldsIn : {N X : Type 0} → (N → Kind → Bytes → Bytes) → N × List Record → InStore X → X → Type 0
 HoldsIn names store P = P (names store.0) store.1
 
@@ -42,7 +42,7 @@ abbrev pub IsItemAtHome : {A : Type 0} → InStore (Item A)
 IsItemAtHome name rs (File m n) = ⊤
 IsItemAtHome name rs (Folder d) = IsAtHome name rs d
 
--- an item that is lent is at home, if there is one
+-- the item that is lent is at home, if there is one
 abbrev pub IsLentAtHome : {A : Type 0} → InStore (Option (Bor (Item A)))
 IsLentAtHome = IfThere (Borrowed IsItemAtHome)
 

@@ -25,10 +25,10 @@ pub record IsLoaded (name : Kind → Bytes → Bytes) (rs : List Record) (n : By
 abbrev pub AreLoaded : {A : Type 0} → (Kind → Bytes → Bytes) → List Record → Loaded A → Type 0
 AreLoaded name rs loaded = (n : Name) → IfSome (directory_at loaded n) (IsLoaded name rs n.bytes)
 
--- where d is loaded from the tree that n names, it is entered among what is loaded
+-- with d entered for n each directory is still loaded so, wherever d is loaded from the tree that n names
 abbrev pub EntersLoaded : {A : Type 0} → Name → NamedTree → Loaded A → Loaded A → Type 0
 EntersLoaded n d old new = (name : Kind → Bytes → Bytes) (rs : List Record) → AreLoaded name rs old → IsLoaded name rs n.bytes d → AreLoaded name rs new
 
--- nothing is loaded that isn't what its name says, whatever is held
+-- each directory is loaded so, whatever names are given and whatever records are held
 abbrev pub AreLoadedAnywhere : {A : Type 0} → Loaded A → Type 0
 AreLoadedAnywhere loaded = (name : Kind → Bytes → Bytes) (rs : List Record) → AreLoaded name rs loaded

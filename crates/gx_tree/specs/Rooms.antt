@@ -14,6 +14,10 @@ abbrev pub kept_within : ℕ → ℕ → Kept → Bool
 kept_within room n (file x) = nat_le n room
 kept_within room n (folder f) = nat_lt n room && list_all (is_within (room - n - 1)) f
 
+-- the same at the component of an entry
+abbrev pub entry_within : ℕ → Bytes × Kept → Bool
+entry_within room e = kept_within room (length e.0) e.1
+
 -- no path has more bytes than this, if it is known
 abbrev pub IsReach : Option ℕ → FileMap Bytes → Type 0
 IsReach reach f = IfSome reach (λ n. IsTrue (list_all (is_within n) f))

@@ -16,6 +16,6 @@ Finds c m es None = (k : Kept) → kept_at c es ≡ Some k → mark k ≢ m
 abbrev pub IsEntryAt : {A : Type 0} → Bytes → List (Entry A) → ℕ → Type 0
 IsEntryAt {A} c es i = (i < length es) × ((d : Entry A) → bytes_of (get_or es i d).component ≡ c)
 
--- the entries up to n don't come after the text, and those from there on do
+-- n entries don't come after the text, and those behind them do
 abbrev pub IsPlaceOf : {A : Type 0} → Bytes → List (Entry A) → ℕ → Type 0
 IsPlaceOf text es n = IsPartitionPoint (λ e. precedes text (seen e) ≡ false) (λ e. precedes text (seen e) ≡ true) es n

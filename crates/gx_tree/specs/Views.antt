@@ -1,5 +1,5 @@
 -- What the fields of a directory are seen as.
-use Rattle.std.specs.Prelude.{◌≢◌, Bool, List, [], ◌∷◌, map, Option, Some, None, IsTrue, ⊤}
+use Rattle.std.specs.Prelude.{◌≢◌, ℕ, Bool, List, [], ◌∷◌, map, Option, Some, None, IsTrue, ⊤}
 use Rattle.std.specs.List.{flat_map, AllByRecursion}
 use Rattle.std.specs.Option.{unwrap_or}
 use Rattle.std.specs.Borrow.{Bor}
@@ -11,7 +11,8 @@ use Rattle.gx_model.specs.Texts.Paths.{Path}
 use Rattle.gx_object.specs.declared.name.Name.{Name}
 use Rattle.gx_tree.specs.Components.{bytes_of}
 use Rattle.gx_tree.specs.Named.{NamedTree, is_named, nothing, own_name}
-use Rattle.gx_tree.specs.Nodes.{Kept, Level, file, files, folder}
+use Rattle.gx_tree.specs.Nodes.{IsLevel, Kept, Level, file, files, folder}
+use Rattle.gx_tree.specs.Rooms.{IsReach}
 use Rattle.gx_tree.specs.declared.directory.Item.{Item}
 use Rattle.gx_tree.specs.declared.directory.Item.TheVariants.{File, Folder}
 use Rattle.gx_tree.specs.declared.directory.Entry.{Entry}
@@ -87,6 +88,10 @@ own_entry e = record { mode = (own_leaf e.item).0; component = bytes_of e.compon
 abbrev pub RemembersBelow : {A : Type 0} → Option Name → List (Entry A) → Type 0
 RemembersBelow None es = ⊤
 RemembersBelow (Some n) es = RememberAll es
+
+-- the entries stand in their order, their names are remembered where that of the whole is, and they reach no further than is kept
+abbrev pub IsDirectory : {A : Type 0} → Option Name → Option ℕ → List (Entry A) → Type 0
+IsDirectory remembered reach es = IsLevel (seen_all es) × RemembersBelow remembered es × IsReach reach (files (seen_all es))
 
 -- a file, or a directory with a remembered name, where such names are trusted
 abbrev pub IsNamed : {A : Type 0} → Bool → Item A → Type 0

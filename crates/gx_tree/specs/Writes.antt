@@ -44,6 +44,6 @@ PutsAll rs old new (Err NameHeld) = put_all old rs ≡ None
 PutsAll rs old new (Err OutOfMemory) = ⊤
 PutsAll rs old new (Err f) = ⊥
 
--- the records of x are put into a store, which is seen as its namer and its records, or one of them has the name of another
+-- the records of x by the store's namer are put into the store, or one of them has the name of another
 abbrev pub StoresAll : {N X Y : Type 0} → (N → Kind → Bytes → Bytes) → ((Kind → Bytes → Bytes) → X → List Record) → X → N × List Record → N × List Record → Result Y TreeFault → Type 0
 StoresAll names records_of x old new = PutsAll (records_of (names old.0) x) old.1 new.1

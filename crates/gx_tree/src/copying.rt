@@ -1,15 +1,14 @@
 //! What a copy or a rename takes from one path to another.
-ghost use Rattle.std.specs.Prelude.{◌≡◌, IfOk, IsTrue, length};
+ghost use Rattle.std.specs.Prelude.{◌≡◌, IfOk, IsTrue};
 ghost use Rattle.std.specs.List.{list_all};
 ghost use Rattle.std.specs.Option.{option_map};
-ghost use Rattle.gx_model.specs.Texts.Paths.{is_short};
 ghost use Rattle.gx_text.specs.TreePaths.{is_path};
 ghost use Rattle.gx_tree.specs.Copies.{graft_fault, kept_held};
 ghost use Rattle.gx_tree.specs.Faults.{fault_of};
-ghost use Rattle.gx_tree.specs.Homes.{Keeps, Both, IfThere, Borrowed, AreAtHome, IsHeldAtHome, IsItemAtHome};
-ghost use Rattle.gx_tree.specs.Lists.{below};
+ghost use Rattle.gx_tree.specs.Homes.{Keeps, IsHeldAtHome, IsItemAtHome};
+ghost use Rattle.gx_tree.specs.Lists.{are_short, below};
 ghost use Rattle.gx_tree.specs.Nodes.{IsKept, folder};
-ghost use Rattle.gx_tree.specs.Rooms.{is_within, kept_within};
+ghost use Rattle.gx_tree.specs.Rooms.{entry_within, is_within};
 ghost use Rattle.gx_tree.specs.Views.{kept, seen};
 
 use crate::directory::{Directory, Entry, Item};
@@ -59,7 +58,7 @@ impl<A: Allocator + Copy> Directory<A> {
     // Whether the paths of the files are short below a path.
     fn fits_below(&self, path: &TreePath<A>) -> bool
         requires { IsKept (folder self.now.files) }
-        ensures { result ≡ list_all (λ e. is_short e.0) (below path.now self.now.files) }
+        ensures { result ≡ are_short (below path.now self.now.files) }
     {
         if path.len() == 0 {
             return self.fits(MOST_BYTES);
@@ -89,7 +88,7 @@ impl<A: Allocator + Copy> Directory<A> {
 impl<A: Allocator + Copy> Entry<A> {
     #[cycle(fits)]
     fn fits(&self, room: usize) -> bool
-        ensures { result ≡ kept_within room (length (seen self.now).0) (seen self.now).1 }
+        ensures { result ≡ entry_within room (seen self.now) }
     {
         let used = self.component().len();
         match &self.item {

@@ -50,13 +50,12 @@ impl<A: Allocator> Model for Directory<A> {
 
     ghost Value = { NamedTree };
 
-    ghost use Rattle.gx_tree.specs.Nodes.{components, files, IsLevel};
-    ghost use Rattle.gx_tree.specs.Rooms.{IsReach};
-    ghost use Rattle.gx_tree.specs.Views.{tree_of, seen_all, RemembersBelow};
+    ghost use Rattle.gx_tree.specs.Nodes.{components};
+    ghost use Rattle.gx_tree.specs.Views.{IsDirectory, tree_of};
 
     ghost view = { λ a. tree_of a.remembered a.entries.value.items };
 
-    ghost invariant = { λ a. IsLevel (seen_all a.entries.value.items) × RemembersBelow a.remembered a.entries.value.items × IsReach a.reach (files (seen_all a.entries.value.items)) };
+    ghost invariant = { λ a. IsDirectory a.remembered a.reach a.entries.value.items };
 
     ghost size = { λ tree. components tree.files };
 

@@ -1,8 +1,7 @@
 //! The list of a directory's files.
 ghost use Rattle.std.specs.Prelude.{◌≡◌, ◌++◌, ◌∷◌, [], OnOk, IfOk, IsTrue};
-ghost use Rattle.std.specs.List.{list_all};
 ghost use Rattle.gx_model.specs.Texts.Paths.{is_component, is_short};
-ghost use Rattle.gx_tree.specs.Lists.{AppendsFiles, below};
+ghost use Rattle.gx_tree.specs.Lists.{AppendsFiles, are_short, below};
 
 use crate::directory::{Directory, Item};
 use gx_object::{Mode, Name};
@@ -17,7 +16,7 @@ impl<A: Allocator + Copy> Directory<A> {
         front: &TreePath<A>,
         out: &mut Vec<(TreePath<A>, Mode, Name), A>,
     ) -> Result<(), AllocError>
-        requires { IsTrue (list_all (λ e. is_short e.0) (below front.now self.now.files)) }
+        requires { IsTrue (are_short (below front.now self.now.files)) }
         ensures { OnOk result (AppendsFiles (below front.now self.now.files) out.old.items out.new.items) }
     {
         for entry in self.entries.as_slice() {

@@ -1,10 +1,10 @@
 //! How far the files of a directory reach: the bytes of the longest of their paths. Each directory keeps that number, so that
 //! whether a directory fits somewhere is asked of it, and not of each path below.
-ghost use Rattle.std.specs.Prelude.{◌≡◌, IfSome, IsTrue, length, max};
+ghost use Rattle.std.specs.Prelude.{◌≡◌, IfSome, IsTrue, max};
 ghost use Rattle.std.specs.List.{list_all};
 ghost use Rattle.std.specs.Option.{option_map};
 ghost use Rattle.gx_tree.specs.Nodes.{IsLevel, files};
-ghost use Rattle.gx_tree.specs.Rooms.{IsReach, is_within, kept_within};
+ghost use Rattle.gx_tree.specs.Rooms.{IsReach, entry_within, is_within};
 ghost use Rattle.gx_tree.specs.Views.{seen, seen_all};
 
 use crate::directory::{Directory, Entry, Item};
@@ -43,7 +43,7 @@ pub(crate) fn reach_of<A: Allocator + Copy>(entries: &[Entry<A>]) -> Option<usiz
 impl<A: Allocator + Copy> Entry<A> {
     // The reach of its file, or of the files below it.
     fn reach(&self) -> Option<usize>
-        ensures { IfSome result (λ n. IsTrue (kept_within n (length (seen self.now).0) (seen self.now).1)) }
+        ensures { IfSome result (λ n. IsTrue (entry_within n (seen self.now))) }
     {
         let used = self.component().len();
         match &self.item {

@@ -1,17 +1,15 @@
 //! The root of a tree: a directory, and none where there are no files.
 ghost use Rattle.std.specs.Prelude.{◌≡◌, ◌≢◌, ◌<◌, [], IfErr, IfOk, IsFalse, IsOk, IsTrue, OnOk, length, take};
-ghost use Rattle.std.specs.List.{list_all};
 ghost use Rattle.std.specs.Option.{option_map};
 ghost use Rattle.gx_model.specs.Histories.Edits.{copied, removed};
 ghost use Rattle.gx_model.specs.Histories.Files.{sub_map};
 ghost use Rattle.gx_model.specs.Records.Growth.{tree_records};
 ghost use Rattle.gx_model.specs.Objects.NameMaps.{IsNameMap};
-ghost use Rattle.gx_model.specs.Texts.Paths.{is_short};
 ghost use Rattle.gx_tree.specs.Calls.{IsMadeOf};
 ghost use Rattle.gx_tree.specs.Copies.{option_held};
 ghost use Rattle.gx_tree.specs.Edits.{Grafts, PutsFile};
 ghost use Rattle.gx_tree.specs.Homes.{HoldsIn, Keeps, Both, IfThere, IsHeldAtHome, IsItemAtHome};
-ghost use Rattle.gx_tree.specs.Lists.{AppendsFiles};
+ghost use Rattle.gx_tree.specs.Lists.{AppendsFiles, are_short};
 ghost use Rattle.gx_tree.specs.Named.{IsAtHome, KeepsHome, nothing};
 ghost use Rattle.gx_tree.specs.Nodes.{IsKept, IsKeptAt, map_if};
 ghost use Rattle.gx_model.specs.declared.objects.Mode.TheVariants as modes;
@@ -228,7 +226,7 @@ impl<A: Allocator + Copy> Root<A> {
         alloc: A,
         out: &mut Vec<(TreePath<A>, Mode, Name), A>,
     ) -> Result<(), AllocError>
-        requires { IsTrue (list_all (λ e. is_short e.0) self.now.files) }
+        requires { IsTrue (are_short self.now.files) }
         ensures { OnOk result (AppendsFiles self.now.files out.old.items out.new.items) }
     {
         match &self.node {

@@ -5,8 +5,9 @@ use Rattle.gx_model.specs.declared.objects.Kind.TheVariants as kind
 use Rattle.gx_model.specs.Texts.{Bytes}
 use Rattle.gx_model.specs.Objects.{CommitParts, TagParts, commit_text, tag_text}
 use Rattle.gx_model.specs.Histories.Values.{Value, commit_value, tag_value}
+use Rattle.gx_model.specs.Histories.Files.{FileMap}
 use Rattle.gx_model.specs.Histories.{Record, Records, record_for}
-use Rattle.gx_model.specs.Records.HistoryOf.{commit_of_parts, history_of, named_values, tag_of_parts}
+use Rattle.gx_model.specs.Records.HistoryOf.{commit_of_parts, contents_of, history_of, named_values, tag_of_parts, value_in}
 use Rattle.gx_model.specs.Records.Growth.{put, put_all}
 use Rattle.gx_object.specs.declared.name.Name.{Name}
 use Rattle.gx_store.specs.declared.fault.StoreFault.{StoreFault}
@@ -28,6 +29,14 @@ commit_among records parts = commit_value (commit_of_parts (named_values records
 -- the tag of these parts, where its commit is among the records
 abbrev pub tag_among : List Record → TagParts → Value
 tag_among records parts = tag_value (tag_of_parts (named_values records) parts)
+
+-- the value of a body of this kind, where its links are among the records
+abbrev pub value_among : List Record → Kind → Bytes → Value
+value_among records of_kind body = value_in (named_values records) of_kind body
+
+-- the files of a map of names, where these are among the records
+abbrev pub files_among : List Record → FileMap Bytes → FileMap Bytes
+files_among records names = contents_of (named_values records) names
 
 -- the records with this one put, or unchanged, and its name
 abbrev pub Adds : List Record → List Record → Record → Result Name StoreFault → Type 0

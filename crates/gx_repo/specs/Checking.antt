@@ -1,11 +1,15 @@
--- How much room the entries of a tree of which nothing is known take. Source: this project's own limit of 4,095 bytes for a path.
-use Rattle.std.specs.Prelude.{ℕ, max, ◌&&◌, if◌then◌else◌, List, [], ◌∷◌, Option, Some, None}
+-- What a record of which nothing is known has against it, and how much room the entries of a tree take. Source: this project's own limit of 4,095 bytes for a path.
+use Rattle.std.specs.Prelude.{◌≡◌, ◌⊎◌, ℕ, max, false, ◌&&◌, if◌then◌else◌, List, [], ◌∷◌, Option, Some, None}
+use Rattle.gx_model.specs.declared.objects.Kind.{Kind}
+use Rattle.gx_model.specs.Texts.{Bytes}
 use Rattle.gx_model.specs.Objects.{Entry, is_dir}
 use Rattle.gx_model.specs.Histories.{Record}
-use Rattle.gx_model.specs.Records.HistoryOf.{files_at, named_values, placed}
 use Rattle.gx_model.specs.Records.Growth.{record_named}
-use Rattle.gx_model.specs.Records.RecordFaults.{is_without_entries}
-use Rattle.gx_repo.specs.Rooms.{room}
+use Rattle.gx_model.specs.Records.RecordFaults.{content_fault, is_entry_held, is_without_entries}
+use Rattle.gx_repo.specs.declared.fault.AddFault.{AddFault}
+use Rattle.gx_repo.specs.declared.fault.AddFault.TheVariants.{OutOfMemory}
+use Rattle.gx_repo.specs.Records.{add_fault}
+use Rattle.gx_repo.specs.Rooms.{room_at}
 
 -- the greater of two rooms; none where one is missing
 abbrev pub wider : Option ℕ → Option ℕ → Option ℕ
@@ -17,9 +21,21 @@ wider (Some here) (Some there) = Some (max here there)
 abbrev pub entry_room : List Record → Entry → Option ℕ
 entry_room records e =
     if is_dir e.mode && is_without_entries (record_named records e.name) then None
-    else Some (room (placed e.component (files_at (named_values records) e.mode e.name)))
+    else Some (room_at records e)
 
 -- the greatest room of these entries; none where one of them names a tree without entries
 abbrev pub widest : List Record → List Entry → Option ℕ
 widest records [] = Some 0
 widest records (e ∷ es) = wider (entry_room records e) (widest records es)
+
+-- what an entry names isn't held
+abbrev pub IsDangling : List Record → Entry → Type 0
+IsDangling records e = is_entry_held records e.mode e.name ≡ false
+
+-- this is against a body of this kind
+abbrev pub IsAgainst : List Record → Kind → Bytes → AddFault → Type 0
+IsAgainst records of_kind body fault = content_fault records of_kind body ≡ Some (add_fault fault)
+
+-- memory ran out, or this is against a body of this kind
+abbrev pub MayRefuse : List Record → Kind → Bytes → AddFault → Type 0
+MayRefuse records of_kind body fault = (fault ≡ OutOfMemory) ⊎ IsAgainst records of_kind body fault

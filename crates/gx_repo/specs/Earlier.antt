@@ -25,3 +25,15 @@ left (Some next) rest = shown next ∷ rest
 -- what is left of an earlier tree is held
 abbrev pub AreLeftHeld : List Record → Earlier → Type 0
 AreLeftHeld records earlier = AllByRecursion (IsThere records) (left earlier.next earlier.rest)
+
+-- what is left stays held, wherever it was
+abbrev pub KeepsLeftHeld : Earlier → Earlier → Type 0
+KeepsLeftHeld old new = (records : List Record) → AreLeftHeld records old → AreLeftHeld records new
+
+-- what an entry names is held wherever what is left is
+abbrev pub IsThereWithLeft : Earlier → Entry → Type 0
+IsThereWithLeft earlier entry = (records : List Record) → AreLeftHeld records earlier → IsThere records (shown entry)
+
+-- a body is that of a tree whose entries are held, wherever both of these are
+abbrev pub IsHeldWithBoth : Bytes → Bytes → Bytes → Type 0
+IsHeldWithBoth first last body = (records : List Record) → IsHeldTree records first → IsHeldTree records last → IsHeldTree records body

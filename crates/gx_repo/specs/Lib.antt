@@ -1,4 +1,7 @@
+pub mod Repositories
 pub mod Additions
+pub mod Calls
+pub mod Objects
 pub mod Publishing
 pub mod Refs
 pub mod Rooms

@@ -1,8 +1,15 @@
--- Why a list of changes is refused, as a fault of the model.
+-- Which refs a list of changes gives, or why it is refused, as a fault of the model.
+use Rattle.std.specs.Prelude.{◌≡◌, List, map, Some, Result}
 use Rattle.gx_model.specs.declared.faults.Fault.{Fault}
 use Rattle.gx_model.specs.declared.faults.Fault.TheVariants as model
+use Rattle.gx_model.specs.Faults.{Gives}
+use Rattle.gx_model.specs.Histories.{Record, Records}
+use Rattle.gx_model.specs.Records.Publishing.{change_fault, changes_fault, published, with_changes}
+use Rattle.gx_repo.specs.Refs.{asked, kept}
 use Rattle.gx_repo.specs.declared.fault.PublishFault.{PublishFault}
 use Rattle.gx_repo.specs.declared.fault.PublishFault.TheVariants.{OutOfMemory, BadRefName, UnknownObject, WrongKind}
+use Rattle.gx_repo.specs.declared.publishing.RefChange.{RefChange}
+use Rattle.gx_repo.specs.declared.refs.Ref.{Ref}
 
 -- a refusal to publish, as a fault of the model
 abbrev pub fault_of : PublishFault → Fault
@@ -10,3 +17,19 @@ fault_of OutOfMemory = model.OutOfMemory
 fault_of BadRefName = model.BadRefName
 fault_of UnknownObject = model.UnknownObject
 fault_of WrongKind = model.WrongKind
+
+-- this is against a change
+abbrev pub IsAgainstChange : List Record → RefChange → PublishFault → Type 0
+IsAgainstChange records change fault = change_fault records (asked change) ≡ Some (fault_of fault)
+
+-- this is against the first of these changes that is refused
+abbrev pub IsAgainstFirst : List Record → List RefChange → PublishFault → Type 0
+IsAgainstFirst records changes fault = changes_fault records (map asked changes) ≡ Some (fault_of fault)
+
+-- the refs are those with these changes made in turn, or this is why they aren't
+abbrev pub SetsRefs : Records → Records → List RefChange → Result (Unit {0}) PublishFault → Type 0
+SetsRefs old new changes answer = Gives fault_of (λ _. new.refs) answer (published old (map asked changes))
+
+-- the refs with these changes made in turn
+abbrev pub MakesChanges : {A : Type 0} → List (Ref A) → List (Ref A) → List RefChange → Type 0
+MakesChanges old new changes = map kept new ≡ with_changes (map kept old) (map asked changes)

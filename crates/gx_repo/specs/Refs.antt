@@ -1,10 +1,16 @@
 -- Refs and their changes without where their names lie in memory.
-use Rattle.std.specs.Prelude.{◌≡◌, ℕ, ◌<◌, Bool, List, length, get_or, is_some}
+use Rattle.std.specs.Prelude.{◌≡◌, ℕ, ◌<◌, Bool, List, length, get_or, Option, is_some}
 use Rattle.std.specs.Borrow.{Bor}
 use Rattle.std.specs.List.{list_all}
 use Rattle.std.specs.Map.{lookup}
+use Rattle.std.specs.Option.{option_map}
 use Rattle.std.specs.declared.vec.Vec.{Vec}
+use Rattle.gx_model.specs.declared.objects.Kind.{Kind}
+use Rattle.gx_model.specs.declared.objects.Kind.TheVariants as kind
 use Rattle.gx_model.specs.Texts.{Bytes, same_bytes}
+use Rattle.gx_model.specs.Texts.RefNames.{tag_ref}
+use Rattle.gx_model.specs.Objects.{IsTagText, TagParts}
+use Rattle.gx_model.specs.Records.Lookups.{first_named}
 use Rattle.gx_object.specs.declared.name.Name.{Name}
 use Rattle.gx_repo.specs.declared.refs.Ref.{Ref}
 use Rattle.gx_repo.specs.declared.publishing.RefChange.{RefChange}
@@ -29,10 +35,34 @@ asked change = (change.name.now, change.target.bytes)
 abbrev pub IsNamedAt : {A : Type 0} → List (Ref A) → Bytes → ℕ → Type 0
 IsNamedAt {A} refs name place = (place < length refs) × ((past : Ref A) → (get_or refs place past).name.items ≡ name)
 
+-- the bytes of a name, where one is found
+abbrev pub bytes_found : Option Name → Option Bytes
+bytes_found found = option_map (λ n. n.bytes) found
+
+-- the object of the ref of this name
+abbrev pub object_named : List (Bytes × Bytes) → Bytes → Option Bytes
+object_named refs name = lookup (same_bytes name) refs
+
+-- what is found is the object of the ref of this name
+abbrev pub FindsObject : List (Bytes × Bytes) → Bytes → Option Name → Type 0
+FindsObject refs name found = bytes_found found ≡ object_named refs name
+
+-- what is found is the object of the first of these names that is a ref's
+abbrev pub FindsFirst : List (Bytes × Bytes) → List Bytes → Option Name → Type 0
+FindsFirst refs names found = bytes_found found ≡ first_named refs names
+
 -- a ref of this name is held
 abbrev pub is_held : List (Bytes × Bytes) → Bytes → Bool
-is_held refs name = is_some (lookup (same_bytes name) refs)
+is_held refs name = is_some (object_named refs name)
 
 -- each of these changes is one of a ref that is held
 abbrev pub are_held : List (Bytes × Bytes) → List (Bytes × Bytes) → Bool
 are_held refs changes = list_all (λ change. is_held refs change.0) changes
+
+-- a tag's body is that of a tag's parts
+abbrev pub HasTagParts : Kind → Bytes → Type 0
+HasTagParts of_kind body = of_kind ≡ kind.Tag → (parts : TagParts) × IsTagText parts body
+
+-- what is answered tells whether a ref's name is made by the own name of the tag with this body
+abbrev pub TellsOwnRef : Bytes → Bytes → Bool → Type 0
+TellsOwnRef name body answer = (parts : TagParts) → IsTagText parts body → answer ≡ same_bytes name (tag_ref parts.name)

@@ -1,15 +1,14 @@
 //! What a record of which nothing is known has against it. Source: Pro Git, "Git Objects".
-ghost use Rattle.std.specs.Prelude.{◌≡◌, [], length, max, slice_get, true, false, Some, None, IsTrue, IfOk, IfErr, OnOk, OnErr};
+ghost use Rattle.std.specs.Prelude.{◌≡◌, slice_get, true, false, Some, None, IsTrue, IfOk, IfErr, OnOk, OnErr};
 ghost use Rattle.gx_model.specs.declared.objects.Kind.TheVariants as kinds;
-ghost use Rattle.gx_model.specs.Records.HistoryOf.{named_values, value_in};
-ghost use Rattle.gx_model.specs.Records.RecordFaults.{content_fault, is_entry_held, is_held, is_of_kind};
-ghost use Rattle.gx_model.specs.Records.Sound.{IsSound};
+ghost use Rattle.gx_model.specs.Records.RecordFaults.{content_fault, is_held, is_of_kind};
 ghost use Rattle.gx_object.specs.Entries.{shown};
 ghost use Rattle.gx_store.specs.Stores.{place_named};
 ghost use Rattle.gx_repo.specs.declared.fault.AddFault.TheVariants.{Dangling};
-ghost use Rattle.gx_repo.specs.Checking.{entry_room, wider};
-ghost use Rattle.gx_repo.specs.Records.{add_fault};
-ghost use Rattle.gx_repo.specs.Rooms.{room_of, rooms_of};
+ghost use Rattle.gx_repo.specs.Checking.{IsAgainst, IsDangling, entry_room, wider};
+ghost use Rattle.gx_repo.specs.Rooms.{room_below, rooms_of};
+ghost use Rattle.gx_repo.specs.Earlier.{IsThere};
+ghost use Rattle.gx_repo.specs.Repositories.{IsSoundStore};
 
 use crate::earlier::Hints;
 use crate::fault::AddFault;
@@ -32,11 +31,11 @@ pub(crate) fn checked_room<N: Namer, A: Allocator + Copy>(
     kind: Kind,
     body: &[u8],
 ) -> Result<usize, AddFault>
-    requires sound { IsSound (N.name_of store.now.0) (record { records = store.now.1; refs = [] }) }
+    requires sound { IsSoundStore N.name_of store.now }
     requires rooms { rooms.now ≡ rooms_of store.now.1 }
     ensures ok { IfOk result (λ _. content_fault store.now.1 kind body.now ≡ None) }
-    ensures room { IfOk result (λ room. room ≡ room_of (value_in (named_values store.now.1) kind body.now)) }
-    ensures fault { IfErr result (λ fault. content_fault store.now.1 kind body.now ≡ Some (add_fault fault)) }
+    ensures room { IfOk result (λ room. room ≡ room_below store.now.1 kind body.now) }
+    ensures fault { IfErr result (IsAgainst store.now.1 kind body.now) }
 {
     match kind {
         Kind::Blob => Ok(0),
@@ -53,11 +52,11 @@ fn tree_room<N: Namer, A: Allocator + Copy>(
     hints: &Hints,
     body: &[u8],
 ) -> Result<usize, AddFault>
-    requires sound { IsSound (N.name_of store.now.0) (record { records = store.now.1; refs = [] }) }
+    requires sound { IsSoundStore N.name_of store.now }
     requires rooms { rooms.now ≡ rooms_of store.now.1 }
     ensures ok { IfOk result (λ _. content_fault store.now.1 kinds.Tree body.now ≡ None) }
-    ensures room { IfOk result (λ room. room ≡ room_of (value_in (named_values store.now.1) kinds.Tree body.now)) }
-    ensures fault { IfErr result (λ fault. content_fault store.now.1 kinds.Tree body.now ≡ Some (add_fault fault)) }
+    ensures room { IfOk result (λ room. room ≡ room_below store.now.1 kinds.Tree body.now) }
+    ensures fault { IfErr result (IsAgainst store.now.1 kinds.Tree body.now) }
 {
     bodies_are_read();
     let Ok(entries) = decode_tree(body) else {
@@ -93,13 +92,13 @@ fn entry_room<N: Namer, A: Allocator + Copy>(
     is_known: bool,
     entry: &Entry<'_>,
 ) -> Result<Option<usize>, AddFault>
-    requires sound { IsSound (N.name_of store.now.0) (record { records = store.now.1; refs = [] }) }
+    requires sound { IsSoundStore N.name_of store.now }
     requires rooms { rooms.now ≡ rooms_of store.now.1 }
-    requires known { IsTrue is_known → is_entry_held store.now.1 entry.now.mode entry.now.name.bytes ≡ true }
+    requires known { IsTrue is_known → IsThere store.now.1 (shown entry.now) }
     ensures room { IfOk result (λ room. room ≡ entry_room store.now.1 (shown entry.now)) }
-    ensures held { OnOk result (is_entry_held store.now.1 entry.now.mode entry.now.name.bytes ≡ true) }
+    ensures held { OnOk result (IsThere store.now.1 (shown entry.now)) }
     ensures fault { IfErr result (λ fault. fault ≡ Dangling) }
-    ensures dangling { OnErr result (is_entry_held store.now.1 entry.now.mode entry.now.name.bytes ≡ false) }
+    ensures dangling { OnErr result (IsDangling store.now.1 (shown entry.now)) }
 {
     let own = 1 + entry.component.len();
     match entry.mode {
@@ -160,7 +159,7 @@ fn check_commit<N: Namer, A: Allocator + Copy>(
 ) -> Result<usize, AddFault>
     ensures ok { IfOk result (λ _. content_fault store.now.1 kinds.Commit body.now ≡ None) }
     ensures room { IfOk result (λ room. room ≡ 0) }
-    ensures fault { IfErr result (λ fault. content_fault store.now.1 kinds.Commit body.now ≡ Some (add_fault fault)) }
+    ensures fault { IfErr result (IsAgainst store.now.1 kinds.Commit body.now) }
 {
     bodies_are_read();
     let Ok(commit) = decode_commit(body) else {
@@ -183,7 +182,7 @@ fn check_tag<N: Namer, A: Allocator + Copy>(
 ) -> Result<usize, AddFault>
     ensures ok { IfOk result (λ _. content_fault store.now.1 kinds.Tag body.now ≡ None) }
     ensures room { IfOk result (λ room. room ≡ 0) }
-    ensures fault { IfErr result (λ fault. content_fault store.now.1 kinds.Tag body.now ≡ Some (add_fault fault)) }
+    ensures fault { IfErr result (IsAgainst store.now.1 kinds.Tag body.now) }
 {
     bodies_are_read();
     let Ok(tag) = decode_tag(body) else {

@@ -1,9 +1,7 @@
 //! A new tree beside an earlier one: an entry that stands in a tree that is held is held, too, and needs no look-up.
-ghost use Rattle.std.specs.Prelude.{◌<◌, ◌≡◌, [], List, IsTrue};
-ghost use Rattle.gx_model.specs.Histories.{Record};
-ghost use Rattle.gx_model.specs.Records.Sound.{IsSound};
-ghost use Rattle.gx_object.specs.Entries.{shown};
-ghost use Rattle.gx_repo.specs.Earlier.{AreLeftHeld, IsHeldTree, IsThere};
+ghost use Rattle.std.specs.Prelude.{◌<◌, IsTrue};
+ghost use Rattle.gx_repo.specs.Earlier.{AreLeftHeld, IsHeldTree, IsHeldWithBoth, IsThereWithLeft, KeepsLeftHeld};
+ghost use Rattle.gx_repo.specs.Repositories.{IsSoundStore};
 
 use gx_object::{Entry, Kind, Namer, TreeEntries, held_tree};
 use gx_store::Store;
@@ -45,7 +43,7 @@ impl Hints {
         store: &'a Store<N, A>,
         body: &[u8],
     ) -> Earlier<'a>
-        requires sound { IsSound (N.name_of store.now.0) (record { records = store.now.1; refs = [] }) }
+        requires sound { IsSoundStore N.name_of store.now }
         ensures { AreLeftHeld store.now.1 result }
     {
         let first = tree_at(store, self.by_first[first_slot(body)]);
@@ -75,8 +73,8 @@ impl<'a> Earlier<'a> {
     ///
     /// Cost: each entry is passed once. Takes no memory.
     pub(crate) fn takes(&mut self, entry: &Entry<'_>) -> bool
-        ensures left { (records : List Record) → AreLeftHeld records self.old → AreLeftHeld records self.new }
-        ensures held { IsTrue result → (records : List Record) → AreLeftHeld records self.old → IsThere records (shown entry.now) }
+        ensures left { KeepsLeftHeld self.old self.new }
+        ensures held { IsTrue result → IsThereWithLeft self.old entry.now }
     {
         if self.is_next(entry) {
             self.pass_one();
@@ -91,13 +89,13 @@ impl<'a> Earlier<'a> {
     }
 
     fn pass_one(&mut self)
-        ensures { (records : List Record) → AreLeftHeld records self.old → AreLeftHeld records self.new }
+        ensures { KeepsLeftHeld self.old self.new }
     {
         self.next = self.rest.next();
     }
 
     fn is_next(&self, entry: &Entry<'_>) -> bool
-        ensures { IsTrue result → (records : List Record) → AreLeftHeld records self.now → IsThere records (shown entry.now) }
+        ensures { IsTrue result → IsThereWithLeft self.now entry.now }
     {
         match &self.next {
             Some(next) => next.mode == entry.mode && next.name == entry.name,
@@ -106,7 +104,7 @@ impl<'a> Earlier<'a> {
     }
 
     fn pass_before(&mut self, component: &[u8])
-        ensures { (records : List Record) → AreLeftHeld records self.old → AreLeftHeld records self.new }
+        ensures { KeepsLeftHeld self.old self.new }
     {
         if !self.is_before(component) {
             return;
@@ -130,7 +128,7 @@ impl<'a> Earlier<'a> {
 
 /// The body of the tree at a place; that of one without entries, where no tree stands there.
 fn tree_at<N: Namer, A: Allocator + Copy>(store: &Store<N, A>, place: usize) -> &[u8]
-    requires sound { IsSound (N.name_of store.now.0) (record { records = store.now.1; refs = [] }) }
+    requires sound { IsSoundStore N.name_of store.now }
     ensures { IsHeldTree store.now.1 result.now }
 {
     match store.record(place) {
@@ -141,7 +139,7 @@ fn tree_at<N: Namer, A: Allocator + Copy>(store: &Store<N, A>, place: usize) -> 
 
 /// Of two bodies the one whose length is nearer to this; an empty one where that is more than twice as long.
 fn nearer<'a>(len: usize, first: &'a [u8], last: &'a [u8]) -> &'a [u8]
-    ensures { (records : List Record) → IsHeldTree records first.now → IsHeldTree records last.now → IsHeldTree records result.now }
+    ensures { IsHeldWithBoth first.now last.now result.now }
 {
     let near = if distance(first.len(), len) <= distance(last.len(), len) {
         first

@@ -2,8 +2,8 @@
 ghost use Rattle.std.specs.Prelude.{◌≡◌, map, IsTrue, IfOk};
 ghost use Rattle.std.specs.FinMap.Entries.{is_sorted};
 ghost use Rattle.gx_model.specs.Replay.{byte_cmp};
-ghost use Rattle.gx_model.specs.Records.Publishing.{with_changes};
 ghost use Rattle.gx_repo.specs.Refs.{are_held, asked, kept, ref_of};
+ghost use Rattle.gx_repo.specs.Publishing.{MakesChanges};
 
 use crate::refs::{Ref, is_held, set_object};
 use gx_object::Name;
@@ -34,7 +34,7 @@ pub(crate) fn are_held<A: Allocator + Copy>(refs: &[Ref<A>], changes: &[RefChang
 pub(crate) fn set_objects<A: Allocator + Copy>(refs: &mut [Ref<A>], changes: &[RefChange<'_>])
     requires sorted { IsTrue (is_sorted byte_cmp (map kept refs.now)) }
     requires held { IsTrue (are_held (map kept refs.now) (map asked changes.now)) }
-    ensures { map kept refs.new ≡ with_changes (map kept refs.old) (map asked changes.now) }
+    ensures { MakesChanges refs.old refs.new changes.now }
 {
     for change in changes {
         set_object(refs, change.name, change.target);
@@ -48,7 +48,7 @@ pub(crate) fn with_changes<A: Allocator + Copy>(
     changes: &[RefChange<'_>],
 ) -> Result<Vec<Ref<A>, A>, AllocError>
     requires sorted { IsTrue (is_sorted byte_cmp (map kept refs.now)) }
-    ensures { IfOk result (λ now. map kept now.items ≡ with_changes (map kept refs.now) (map asked changes.now)) }
+    ensures { IfOk result (λ made. MakesChanges refs.now made.items changes.now) }
 {
     let mut objects = by_name(alloc, refs)?;
     for change in changes {

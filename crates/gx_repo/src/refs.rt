@@ -2,14 +2,10 @@
 ghost use Rattle.std.specs.Prelude.{◌≡◌, ◌++◌, map, drop, None, IsTrue, IfOk, OnErr};
 ghost use Rattle.std.specs.FinMap.Entries.{is_sorted, put};
 ghost use Rattle.std.specs.Iterator.{item_count};
-ghost use Rattle.std.specs.Map.{lookup};
 ghost use Rattle.std.specs.Map.Iter.{TakesFirst};
-ghost use Rattle.std.specs.Option.{option_map};
 ghost use Rattle.gx_model.specs.Revisions.Denotation.{ref_names};
-ghost use Rattle.gx_model.specs.Records.Lookups.{first_named};
 ghost use Rattle.gx_model.specs.Replay.{byte_cmp};
-ghost use Rattle.gx_model.specs.Texts.{same_bytes};
-ghost use Rattle.gx_repo.specs.Refs.{IsNamedAt, is_held, kept, shown};
+ghost use Rattle.gx_repo.specs.Refs.{FindsFirst, FindsObject, IsNamedAt, is_held, kept, object_named, shown};
 
 use gx_object::Name;
 use std::alloc::Allocator;
@@ -56,7 +52,7 @@ impl<'a, A: Allocator + Copy> Iterator for Refs<'a, A> {
 /// The object of the first ref among the names that a word stands for, in their order.
 pub(crate) fn find_by_names<A: Allocator + Copy>(refs: &[Ref<A>], word: &[u8]) -> Option<Name>
     requires sorted { IsTrue (is_sorted byte_cmp (map kept refs.now)) }
-    ensures { option_map (λ n. n.bytes) result ≡ first_named (map kept refs.now) (ref_names word.now) }
+    ensures { FindsFirst (map kept refs.now) (ref_names word.now) result }
 {
     if let Some(found) = find(refs, b"", word, b"") {
         return Some(found);
@@ -73,7 +69,7 @@ pub(crate) fn find_by_names<A: Allocator + Copy>(refs: &[Ref<A>], word: &[u8]) -
 /// The object of a branch's ref, or else of one that a remote repository has.
 fn find_branch<A: Allocator + Copy>(refs: &[Ref<A>], word: &[u8]) -> Option<Name>
     requires sorted { IsTrue (is_sorted byte_cmp (map kept refs.now)) }
-    ensures { option_map (λ n. n.bytes) result ≡ first_named (map kept refs.now) (drop 3 (ref_names word.now)) }
+    ensures { FindsFirst (map kept refs.now) (drop 3 (ref_names word.now)) result }
 {
     if let Some(found) = find(refs, b"refs/heads/", word, b"") {
         return Some(found);
@@ -92,7 +88,7 @@ fn find<A: Allocator + Copy>(
     after: &[u8],
 ) -> Option<Name>
     requires sorted { IsTrue (is_sorted byte_cmp (map kept refs.now)) }
-    ensures { option_map (λ n. n.bytes) result ≡ lookup (same_bytes (before.now ++ word.now ++ after.now)) (map kept refs.now) }
+    ensures { FindsObject (map kept refs.now) (before.now ++ word.now ++ after.now) result }
 {
     let found = refs.binary_search_by(|held| compare(held.name.as_slice(), before, word, after));
     match found {
@@ -108,7 +104,7 @@ pub(crate) fn find_near<A: Allocator + Copy>(
     name: &[u8],
 ) -> (usize, Option<Name>)
     requires sorted { IsTrue (is_sorted byte_cmp (map kept refs.now)) }
-    ensures { option_map (λ n. n.bytes) result.1 ≡ lookup (same_bytes name.now) (map kept refs.now) }
+    ensures { FindsObject (map kept refs.now) name.now result.1 }
 {
     match place_near(refs, place, name) {
         Ok(found) => (found + 1, Some(refs[found].object)),
@@ -124,7 +120,7 @@ fn place_near<A: Allocator + Copy>(
 ) -> Result<usize, usize>
     requires sorted { IsTrue (is_sorted byte_cmp (map kept refs.now)) }
     ensures found { IfOk result (IsNamedAt refs.now name.now) }
-    ensures none { OnErr result (lookup (same_bytes name.now) (map kept refs.now) ≡ None) }
+    ensures none { OnErr result (object_named (map kept refs.now) name.now ≡ None) }
 {
     if let Some(held) = refs.get(place) {
         if held.name.as_slice() == name {
@@ -138,7 +134,7 @@ fn place_near<A: Allocator + Copy>(
 fn place_of<A: Allocator + Copy>(refs: &[Ref<A>], name: &[u8]) -> Result<usize, usize>
     requires sorted { IsTrue (is_sorted byte_cmp (map kept refs.now)) }
     ensures found { IfOk result (IsNamedAt refs.now name.now) }
-    ensures none { OnErr result (lookup (same_bytes name.now) (map kept refs.now) ≡ None) }
+    ensures none { OnErr result (object_named (map kept refs.now) name.now ≡ None) }
 {
     refs.binary_search_by(|held| held.name.as_slice().cmp(name))
 }

@@ -1,36 +1,28 @@
 //! Repositories: a store of objects, and refs that hold some of them.
-ghost use Rattle.std.specs.Prelude.{◌⊎◌, ◌≡◌, ◌≤◌, [], length, map, take, Some, None, IsTrue, IfOk, IfErr, IsOkAnd, OnOk, OnErr};
-ghost use Rattle.std.specs.List.{AllByRecursion, slice_range};
-ghost use Rattle.std.specs.Map.{lookup};
-ghost use Rattle.std.specs.Option.{option_map};
+ghost use Rattle.std.specs.Prelude.{◌≡◌, ◌≤◌, [], length, map, take, Some, None, IsTrue, IfOk, IfErr, IsOkAnd, OnOk, OnErr};
+ghost use Rattle.std.specs.List.{slice_range};
 ghost use Rattle.gx_model.specs.declared.objects.Kind.TheVariants as kinds;
 ghost use Rattle.gx_model.specs.Revisions.Denotation.{ref_names};
-ghost use Rattle.gx_model.specs.Faults.{Gives};
-ghost use Rattle.gx_model.specs.Records.Growth.{tree_records};
 ghost use Rattle.gx_model.specs.Objects.{IsTagText, TagParts as Parts};
 ghost use Rattle.gx_model.specs.Stores.StoreReading.{is_target_of_kind};
-ghost use Rattle.gx_model.specs.Texts.{same_bytes};
-ghost use Rattle.gx_model.specs.Histories.{record_for, with_one, with_tree};
-ghost use Rattle.gx_model.specs.Records.HistoryOf.{contents_of, named_values, value_in};
-ghost use Rattle.gx_model.specs.Records.Lookups.{commit_named, first_named};
-ghost use Rattle.gx_model.specs.Records.{name_of};
+ghost use Rattle.gx_model.specs.Records.Lookups.{commit_named};
 ghost use Rattle.gx_model.specs.Records.RecordFaults.{content_fault};
-ghost use Rattle.gx_model.specs.Texts.RefNames.{is_tag_name, tag_ref};
-ghost use Rattle.gx_model.specs.Laws.RepositoryLaws.{values_of};
-ghost use Rattle.gx_model.specs.Records.Sound.{HasShortPaths, Holds, IsLinked, IsNamedMap, IsSound, IsTarget, Keeps};
-ghost use Rattle.gx_model.specs.Histories.Values.{blob_value, is_optional_encoding, tree_value};
+ghost use Rattle.gx_model.specs.Texts.RefNames.{is_tag_name};
+ghost use Rattle.gx_model.specs.Laws.RepositoryLaws.{with_records};
+ghost use Rattle.gx_model.specs.Records.Sound.{Holds, IsLinked, IsNamedMap, IsSound, Keeps};
+ghost use Rattle.gx_model.specs.Histories.Values.{blob_value, is_optional_encoding};
 ghost use Rattle.gx_object.specs.Parts.{commit_parts, tag_parts};
 ghost use Rattle.gx_tree.specs.Named.{IsAtHome};
-ghost use Rattle.gx_repo.specs.declared.fault.AddFault.TheVariants as faults;
 ghost use Rattle.gx_tree.specs.StoreFaults.{tree_fault};
-ghost use Rattle.gx_tree.specs.Writes.{map_name};
-ghost use Rattle.gx_repo.specs.Additions.{Adds, AddsAll, HasValues, IsWriteFault, commit_among, commit_record, tag_among, tag_record};
-ghost use Rattle.gx_repo.specs.Publishing.{fault_of};
-ghost use Rattle.gx_model.specs.Records.Publishing.{change_fault, changes_fault, published};
-ghost use Rattle.gx_repo.specs.Records.{AddsRecord, add_fault};
+ghost use Rattle.gx_repo.specs.Additions.{IsWriteFault};
+ghost use Rattle.gx_repo.specs.Publishing.{IsAgainstChange, IsAgainstFirst, SetsRefs};
+ghost use Rattle.gx_model.specs.Records.Publishing.{change_fault, changes_fault};
 ghost use Rattle.gx_repo.specs.GivenBytes.{IsInText, bytes_given};
-ghost use Rattle.gx_repo.specs.Refs.{asked, kept};
-ghost use Rattle.gx_repo.specs.Rooms.{room_of};
+ghost use Rattle.gx_repo.specs.Refs.{FindsFirst, FindsObject, HasTagParts, TellsOwnRef, asked, bytes_found, kept};
+ghost use Rattle.gx_repo.specs.Rooms.{room_below};
+ghost use Rattle.gx_repo.specs.Calls.{AddsAnew, AddsCommit, AddsObject, AddsTag, AddsTree, GainsObject, GainsTree, GainsValue, HasShortPathsBelow, NamesObject, NamesValue, commit_given, tag_given, tree_given};
+ghost use Rattle.gx_repo.specs.Objects.{AreTargets, HoldsEach};
+ghost use Rattle.gx_repo.specs.Checking.{MayRefuse};
 
 use crate::checking::checked_room;
 use crate::earlier::Hints;
@@ -119,7 +111,7 @@ impl<N: Namer, A: Allocator + Copy> Repo<N, A> {
     ///
     /// Cost: a look-up for each tag, and its body. Takes no memory. Source: gitrevisions(7), on `^{}`.
     pub fn peel(&self, name: &Name) -> Option<Name>
-        ensures { option_map (λ n. n.bytes) result ≡ commit_named self.now.1.records name.now.bytes }
+        ensures { bytes_found result ≡ commit_named self.now.1.records name.now.bytes }
     {
         let (kind, body) = self.store.get(name)?;
         match kind {
@@ -135,7 +127,7 @@ impl<N: Namer, A: Allocator + Copy> Repo<N, A> {
     /// Cost: six binary searches among the refs. No growth is needed, so none is refused.
     /// Source: gitrevisions(7), "refname".
     pub fn find_ref(&self, name: &[u8]) -> Result<Option<Name>, OutOfMemory>
-        ensures { IsOkAnd result (λ found. option_map (λ n. n.bytes) found ≡ first_named self.now.1.refs (ref_names name.now)) }
+        ensures { IsOkAnd result (FindsFirst self.now.1.refs (ref_names name.now)) }
     {
         Ok(find_by_names(self.refs.as_slice(), name))
     }
@@ -146,7 +138,7 @@ impl<N: Namer, A: Allocator + Copy> Repo<N, A> {
     /// byte order of their names, each at the place that the answer before gave; otherwise a binary search. Takes no memory.
     /// Source: gitglossary(7), "ref".
     pub fn ref_near(&self, place: usize, name: &[u8]) -> (usize, Option<Name>)
-        ensures { option_map (λ n. n.bytes) result.1 ≡ lookup (same_bytes name.now) self.now.1.refs }
+        ensures { FindsObject self.now.1.refs name.now result.1 }
     {
         find_near(self.refs.as_slice(), place, name)
     }
@@ -157,10 +149,10 @@ impl<N: Namer, A: Allocator + Copy> Repo<N, A> {
     /// Cost: that of `Store::put`. Source: gitglossary(7), "blob object".
     pub fn add_blob(&mut self, body: &[u8]) -> Result<Name, StoreFault>
         ensures namer { self.new.0 ≡ self.old.0 }
-        ensures adds { Adds self.old.1.records self.new.1.records (record_for (N.name_of self.old.0) kinds.Blob body.now) result }
+        ensures adds { AddsObject N.name_of self.old self.new kinds.Blob body.now result }
         ensures refs { self.new.1.refs ≡ self.old.1.refs }
-        ensures history { IfOk result (λ _. HasValues self.old.1 self.new.1 (with_one (values_of self.old.1) (blob_value body.now))) }
-        ensures value { IfOk result (λ name. name.bytes ≡ name_of (N.name_of self.old.0) (blob_value body.now)) }
+        ensures history { GainsValue self.old self.new (blob_value body.now) result }
+        ensures value { NamesValue N.name_of self.old (blob_value body.now) result }
         ensures held { IfOk result (λ name. Holds self.new.1.records kinds.Blob name.bytes) }
         ensures keeps { Keeps self.old.1.records self.new.1.records }
     {
@@ -173,10 +165,10 @@ impl<N: Namer, A: Allocator + Copy> Repo<N, A> {
     /// The errors are those of `add_blob`. Cost: that of `Store::put_owned`. Source: gitglossary(7), "blob object".
     pub fn add_blob_owned(&mut self, body: Vec<u8, A>) -> Result<Name, StoreFault>
         ensures namer { self.new.0 ≡ self.old.0 }
-        ensures adds { Adds self.old.1.records self.new.1.records (record_for (N.name_of self.old.0) kinds.Blob body.items) result }
+        ensures adds { AddsObject N.name_of self.old self.new kinds.Blob body.items result }
         ensures refs { self.new.1.refs ≡ self.old.1.refs }
-        ensures history { IfOk result (λ _. HasValues self.old.1 self.new.1 (with_one (values_of self.old.1) (blob_value body.items))) }
-        ensures value { IfOk result (λ name. name.bytes ≡ name_of (N.name_of self.old.0) (blob_value body.items)) }
+        ensures history { GainsValue self.old self.new (blob_value body.items) result }
+        ensures value { NamesValue N.name_of self.old (blob_value body.items) result }
         ensures held { IfOk result (λ name. Holds self.new.1.records kinds.Blob name.bytes) }
         ensures keeps { Keeps self.old.1.records self.new.1.records }
     {
@@ -194,10 +186,10 @@ impl<N: Namer, A: Allocator + Copy> Repo<N, A> {
     pub fn add_tree(&mut self, tree: &mut PathTree<A>) -> Result<Name, StoreFault>
         requires named { IsNamedMap self.now.1.records tree.now.files }
         ensures namer { self.new.0 ≡ self.old.0 }
-        ensures adds { AddsAll self.old.1.records self.new.1.records (tree_records (N.name_of self.old.0) tree.old.files) (map_name (N.name_of self.old.0) tree.old.files) result }
+        ensures adds { AddsTree N.name_of self.old self.new tree.old result }
         ensures refs { self.new.1.refs ≡ self.old.1.refs }
-        ensures history { IfOk result (λ _. HasValues self.old.1 self.new.1 (with_tree (values_of self.old.1) (contents_of (named_values self.old.1.records) tree.old.files))) }
-        ensures value { IfOk result (λ name. name.bytes ≡ name_of (N.name_of self.old.0) (tree_value (contents_of (named_values self.old.1.records) tree.old.files))) }
+        ensures history { GainsTree self.old self.new tree.old result }
+        ensures value { NamesValue N.name_of self.old (tree_given self.old tree.old) result }
         ensures held { IfOk result (λ name. Holds self.new.1.records kinds.Tree name.bytes) }
         ensures keeps { Keeps self.old.1.records self.new.1.records }
         ensures map { tree.new.files ≡ tree.old.files }
@@ -227,10 +219,10 @@ impl<N: Namer, A: Allocator + Copy> Repo<N, A> {
         requires named { IsNamedMap self.now.1.records tree.now.files }
         requires home { IsAtHome (N.name_of self.now.0) self.now.1.records tree.now }
         ensures namer { self.new.0 ≡ self.old.0 }
-        ensures adds { AddsAll self.old.1.records self.new.1.records (tree_records (N.name_of self.old.0) tree.old.files) (map_name (N.name_of self.old.0) tree.old.files) result }
+        ensures adds { AddsTree N.name_of self.old self.new tree.old result }
         ensures refs { self.new.1.refs ≡ self.old.1.refs }
-        ensures history { IfOk result (λ _. HasValues self.old.1 self.new.1 (with_tree (values_of self.old.1) (contents_of (named_values self.old.1.records) tree.old.files))) }
-        ensures value { IfOk result (λ name. name.bytes ≡ name_of (N.name_of self.old.0) (tree_value (contents_of (named_values self.old.1.records) tree.old.files))) }
+        ensures history { GainsTree self.old self.new tree.old result }
+        ensures value { NamesValue N.name_of self.old (tree_given self.old tree.old) result }
         ensures held { IfOk result (λ name. Holds self.new.1.records kinds.Tree name.bytes) }
         ensures keeps { Keeps self.old.1.records self.new.1.records }
         ensures map { tree.new.files ≡ tree.old.files }
@@ -256,12 +248,12 @@ impl<N: Namer, A: Allocator + Copy> Repo<N, A> {
     pub fn add_commit(&mut self, parts: &CommitParts<'_>) -> Result<Name, StoreFault>
         requires encoding { IsTrue (is_optional_encoding (commit_parts parts.now).text.encoding) }
         requires tree { Holds self.now.1.records kinds.Tree (commit_parts parts.now).tree }
-        requires parents { AllByRecursion (Holds self.now.1.records kinds.Commit) (commit_parts parts.now).parents }
+        requires parents { HoldsEach self.now.1.records kinds.Commit (commit_parts parts.now).parents }
         ensures namer { self.new.0 ≡ self.old.0 }
-        ensures adds { Adds self.old.1.records self.new.1.records (commit_record (N.name_of self.old.0) (commit_parts parts.now)) result }
+        ensures adds { AddsCommit N.name_of self.old self.new parts.now result }
         ensures refs { self.new.1.refs ≡ self.old.1.refs }
-        ensures history { IfOk result (λ _. HasValues self.old.1 self.new.1 (with_one (values_of self.old.1) (commit_among self.old.1.records (commit_parts parts.now)))) }
-        ensures value { IfOk result (λ name. name.bytes ≡ name_of (N.name_of self.old.0) (commit_among self.old.1.records (commit_parts parts.now))) }
+        ensures history { GainsValue self.old self.new (commit_given self.old parts.now) result }
+        ensures value { NamesValue N.name_of self.old (commit_given self.old parts.now) result }
         ensures held { IfOk result (λ name. Holds self.new.1.records kinds.Commit name.bytes) }
         ensures keeps { Keeps self.old.1.records self.new.1.records }
     {
@@ -279,10 +271,10 @@ impl<N: Namer, A: Allocator + Copy> Repo<N, A> {
         requires name { IsTrue (is_tag_name (tag_parts parts.now).name) }
         requires object { Holds self.now.1.records kinds.Commit (tag_parts parts.now).object }
         ensures namer { self.new.0 ≡ self.old.0 }
-        ensures adds { Adds self.old.1.records self.new.1.records (tag_record (N.name_of self.old.0) (tag_parts parts.now)) result }
+        ensures adds { AddsTag N.name_of self.old self.new parts.now result }
         ensures refs { self.new.1.refs ≡ self.old.1.refs }
-        ensures history { IfOk result (λ _. HasValues self.old.1 self.new.1 (with_one (values_of self.old.1) (tag_among self.old.1.records (tag_parts parts.now)))) }
-        ensures value { IfOk result (λ name. name.bytes ≡ name_of (N.name_of self.old.0) (tag_among self.old.1.records (tag_parts parts.now))) }
+        ensures history { GainsValue self.old self.new (tag_given self.old parts.now) result }
+        ensures value { NamesValue N.name_of self.old (tag_given self.old parts.now) result }
         ensures held { IfOk result (λ name. Holds self.new.1.records kinds.Tag name.bytes) }
         ensures keeps { Keeps self.old.1.records self.new.1.records }
     {
@@ -304,9 +296,9 @@ impl<N: Namer, A: Allocator + Copy> Repo<N, A> {
     /// Source: Pro Git, "Git Objects".
     pub fn add_record(&mut self, kind: Kind, body: &[u8]) -> Result<Name, AddFault>
         ensures namer { self.new.0 ≡ self.old.0 }
-        ensures adds { AddsRecord self.old.1.records self.new.1.records (record_for (N.name_of self.old.0) kind body.now) result }
+        ensures adds { AddsAnew N.name_of self.old self.new kind body.now result }
         ensures refs { self.new.1.refs ≡ self.old.1.refs }
-        ensures history { IfOk result (λ _. HasValues self.old.1 self.new.1 (with_one (values_of self.old.1) (value_in (named_values self.old.1.records) kind body.now))) }
+        ensures history { GainsObject self.old self.new kind body.now result }
     {
         self.add_given(kind, &Given::Copied(body))
     }
@@ -326,9 +318,9 @@ impl<N: Namer, A: Allocator + Copy> Repo<N, A> {
         requires ordered { start ≤ end }
         requires within { end ≤ length text.now }
         ensures namer { self.new.0 ≡ self.old.0 }
-        ensures adds { AddsRecord self.old.1.records self.new.1.records (record_for (N.name_of self.old.0) kind (slice_range text.now start end)) result }
+        ensures adds { AddsAnew N.name_of self.old self.new kind (slice_range text.now start end) result }
         ensures refs { self.new.1.refs ≡ self.old.1.refs }
-        ensures history { IfOk result (λ _. HasValues self.old.1 self.new.1 (with_one (values_of self.old.1) (value_in (named_values self.old.1.records) kind (slice_range text.now start end)))) }
+        ensures history { GainsObject self.old self.new kind (slice_range text.now start end) result }
     {
         self.add_given(kind, &Given::Within(text, start, end))
     }
@@ -345,7 +337,7 @@ impl<N: Namer, A: Allocator + Copy> Repo<N, A> {
     pub fn publish(&mut self, changes: &[RefChange<'_>]) -> Result<(), PublishFault>
         ensures namer { self.new.0 ≡ self.old.0 }
         ensures records { self.new.1.records ≡ self.old.1.records }
-        ensures refs { Gives fault_of (λ _. self.new.1.refs) result (published self.old.1 (map asked changes.now)) }
+        ensures refs { SetsRefs self.old.1 self.new.1 changes.now result }
         ensures unchanged { OnErr result (self.new ≡ self.old) }
     {
         parts_change();
@@ -362,8 +354,8 @@ impl<N: Namer, A: Allocator + Copy> Repo<N, A> {
     ///
     /// Cost: what is dropped. Takes no memory. Source: gitglossary(7), "object database".
     pub fn truncate(&mut self, len: usize)
-        requires targets { AllByRecursion (λ ref. IsTarget (take len self.now.1.records) ref.0 ref.1) self.now.1.refs }
-        ensures { self.new ≡ (self.old.0, record { records = take len self.old.1.records; refs = self.old.1.refs }) }
+        requires targets { AreTargets (take len self.now.1.records) self.now.1.refs }
+        ensures { self.new ≡ (self.old.0, with_records self.old.1 (take len self.old.1.records)) }
     {
         parts_change();
         self.store.truncate(len);
@@ -374,9 +366,9 @@ impl<N: Namer, A: Allocator + Copy> Repo<N, A> {
     fn add_given(&mut self, kind: Kind, given: &Given<'_, A>) -> Result<Name, AddFault>
         requires in_text { IsInText given.now }
         ensures namer { self.new.0 ≡ self.old.0 }
-        ensures adds { AddsRecord self.old.1.records self.new.1.records (record_for (N.name_of self.old.0) kind (bytes_given given.now)) result }
+        ensures adds { AddsAnew N.name_of self.old self.new kind (bytes_given given.now) result }
         ensures refs { self.new.1.refs ≡ self.old.1.refs }
-        ensures history { IfOk result (λ _. HasValues self.old.1 self.new.1 (with_one (values_of self.old.1) (value_in (named_values self.old.1.records) kind (bytes_given given.now)))) }
+        ensures history { GainsObject self.old self.new kind (bytes_given given.now) result }
     {
         records_are_taken();
         let room = self.room_of(kind, given.as_slice())?;
@@ -397,8 +389,8 @@ impl<N: Namer, A: Allocator + Copy> Repo<N, A> {
     fn room_of(&mut self, kind: Kind, body: &[u8]) -> Result<usize, AddFault>
         ensures same { self.new ≡ self.old }
         ensures ok { IfOk result (λ _. content_fault self.old.1.records kind body.now ≡ None) }
-        ensures room { IfOk result (λ room. room ≡ room_of (value_in (named_values self.old.1.records) kind body.now)) }
-        ensures fault { IfErr result (λ fault. (fault ≡ faults.OutOfMemory) ⊎ (content_fault self.old.1.records kind body.now ≡ Some (add_fault fault))) }
+        ensures room { IfOk result (λ room. room ≡ room_below self.old.1.records kind body.now) }
+        ensures fault { IfErr result (MayRefuse self.old.1.records kind body.now) }
     {
         parts_change();
         let entered = self.rooms.len();
@@ -417,13 +409,13 @@ impl<N: Namer, A: Allocator + Copy> Repo<N, A> {
     fn add(&mut self, kind: Kind, given: &Given<'_, A>, room: usize) -> Result<Name, StoreFault>
         requires in_text { IsInText given.now }
         requires linked { IsLinked self.now.1.records kind (bytes_given given.now) }
-        requires short { HasShortPaths self.now.1.records (record_for (N.name_of self.now.0) kind (bytes_given given.now)) }
-        requires room { room ≡ room_of (value_in (named_values self.now.1.records) kind (bytes_given given.now)) }
+        requires short { HasShortPathsBelow N.name_of self.now kind (bytes_given given.now) }
+        requires room { room ≡ room_below self.now.1.records kind (bytes_given given.now) }
         ensures namer { self.new.0 ≡ self.old.0 }
-        ensures adds { Adds self.old.1.records self.new.1.records (record_for (N.name_of self.old.0) kind (bytes_given given.now)) result }
+        ensures adds { AddsObject N.name_of self.old self.new kind (bytes_given given.now) result }
         ensures refs { self.new.1.refs ≡ self.old.1.refs }
-        ensures history { IfOk result (λ _. HasValues self.old.1 self.new.1 (with_one (values_of self.old.1) (value_in (named_values self.old.1.records) kind (bytes_given given.now)))) }
-        ensures value { IfOk result (λ name. name.bytes ≡ name_of (N.name_of self.old.0) (value_in (named_values self.old.1.records) kind (bytes_given given.now))) }
+        ensures history { GainsObject self.old self.new kind (bytes_given given.now) result }
+        ensures value { NamesObject N.name_of self.old kind (bytes_given given.now) result }
         ensures held { IfOk result (λ name. Holds self.new.1.records kind name.bytes) }
         ensures keeps { Keeps self.old.1.records self.new.1.records }
     {
@@ -447,7 +439,7 @@ impl<N: Namer, A: Allocator + Copy> Repo<N, A> {
     /// Answers why the first of these changes that is refused is.
     fn check_all(&self, changes: &[RefChange<'_>]) -> Result<(), PublishFault>
         ensures ok { OnOk result (changes_fault self.now.1.records (map asked changes.now) ≡ None) }
-        ensures fault { IfErr result (λ fault. changes_fault self.now.1.records (map asked changes.now) ≡ Some (fault_of fault)) }
+        ensures fault { IfErr result (IsAgainstFirst self.now.1.records changes.now) }
     {
         for change in changes {
             self.check(change)?;
@@ -458,7 +450,7 @@ impl<N: Namer, A: Allocator + Copy> Repo<N, A> {
     /// Answers why a change is refused.
     fn check(&self, change: &RefChange<'_>) -> Result<(), PublishFault>
         ensures ok { OnOk result (change_fault self.now.1.records (asked change.now) ≡ None) }
-        ensures fault { IfErr result (λ fault. change_fault self.now.1.records (asked change.now) ≡ Some (fault_of fault)) }
+        ensures fault { IfErr result (IsAgainstChange self.now.1.records change.now) }
     {
         if !is_ref_name(change.name) {
             return Err(PublishFault::BadRefName);
@@ -476,7 +468,7 @@ impl<N: Namer, A: Allocator + Copy> Repo<N, A> {
 
 /// The commit that a tag's body names.
 fn tag_object(body: &[u8]) -> Option<Name>
-    ensures { (parts : Parts) → IsTagText parts body.now → option_map (λ n. n.bytes) result ≡ Some parts.object }
+    ensures { (parts : Parts) → IsTagText parts body.now → bytes_found result ≡ Some parts.object }
 {
     match decode_tag(body) {
         Ok(tag) => Some(tag.object()),
@@ -486,7 +478,7 @@ fn tag_object(body: &[u8]) -> Option<Name>
 
 /// Whether a ref may hold an object of this kind and body: a commit, or a tag whose own name makes the ref's.
 fn is_target(name: &[u8], kind: Kind, body: &[u8]) -> bool
-    ensures { (kind ≡ kinds.Tag → (parts : Parts) × IsTagText parts body.now) → result ≡ is_target_of_kind name.now kind body.now }
+    ensures { HasTagParts kind body.now → result ≡ is_target_of_kind name.now kind body.now }
 {
     match kind {
         Kind::Commit => true,
@@ -497,7 +489,7 @@ fn is_target(name: &[u8], kind: Kind, body: &[u8]) -> bool
 
 /// Whether a ref's name is made by the own name of the tag with this body.
 fn is_own_ref(name: &[u8], body: &[u8]) -> bool
-    ensures { (parts : Parts) → IsTagText parts body.now → result ≡ same_bytes name.now (tag_ref parts.name) }
+    ensures { TellsOwnRef name.now body.now result }
 {
     let Ok(tag) = decode_tag(body) else {
         return false;

@@ -1,10 +1,12 @@
 //! How much room the paths below each held tree take, so that the limit of a path is checked by one look at each entry.
-ghost use Rattle.std.specs.Prelude.{◌≡◌, ◌<◌, [], length, take, OnOk, OnErr};
+ghost use Rattle.std.specs.Prelude.{◌≡◌, ◌<◌, length, take, OnOk, OnErr};
+ghost use Rattle.gx_model.specs.declared.objects.Kind.TheVariants as kinds;
 ghost use Rattle.gx_model.specs.declared.objects.Mode.TheVariants as modes;
-ghost use Rattle.gx_model.specs.Records.HistoryOf.{entries_in, files_at, files_of_entries, named_values, placed, value_in};
-ghost use Rattle.gx_model.specs.Records.Sound.{IsHeldAs, IsLinked, IsSound, IsTree};
+ghost use Rattle.gx_model.specs.Records.Sound.{IsHeldAs, IsLinked, IsTree};
 ghost use Rattle.gx_repo.specs.Places.{IsPlace};
-ghost use Rattle.gx_repo.specs.Rooms.{room, room_of, rooms_of};
+ghost use Rattle.gx_repo.specs.Rooms.{entered, room_at, room_below, rooms_of};
+ghost use Rattle.gx_object.specs.Entries.{shown};
+ghost use Rattle.gx_repo.specs.Repositories.{IsSoundStore};
 
 use gx_object::{Entry, Kind, Mode, Name, Namer, decode_tree};
 use gx_store::Store;
@@ -17,7 +19,7 @@ pub(crate) fn enter_rooms<N: Namer, A: Allocator + Copy>(
     store: &Store<N, A>,
     rooms: &mut Vec<usize, A>,
 ) -> Result<(), AllocError>
-    requires sound { IsSound (N.name_of store.now.0) (record { records = store.now.1; refs = [] }) }
+    requires sound { IsSoundStore N.name_of store.now }
     requires front { rooms.now.items ≡ take (length rooms.now.items) (rooms_of store.now.1) }
     ensures ok { OnOk result (rooms.new.items ≡ rooms_of store.now.1) }
     ensures err { OnErr result (take (length rooms.old.items) rooms.new.items ≡ rooms.old.items) }
@@ -36,10 +38,10 @@ fn room_of<N: Namer, A: Allocator + Copy>(
     kind: Kind,
     body: &[u8],
 ) -> usize
-    requires sound { IsSound (N.name_of store.now.0) (record { records = store.now.1; refs = [] }) }
-    requires rooms { rooms.now ≡ rooms_of (take (length rooms.now) store.now.1) }
-    requires linked { IsLinked (take (length rooms.now) store.now.1) kind body.now }
-    ensures { result ≡ room_of (value_in (named_values (take (length rooms.now) store.now.1)) kind body.now) }
+    requires sound { IsSoundStore N.name_of store.now }
+    requires rooms { rooms.now ≡ rooms_of (entered rooms.now store.now.1) }
+    requires linked { IsLinked (entered rooms.now store.now.1) kind body.now }
+    ensures { result ≡ room_below (entered rooms.now store.now.1) kind body.now }
 {
     match kind {
         Kind::Tree => room_of_tree(store, rooms, body),
@@ -53,10 +55,10 @@ fn room_of_tree<N: Namer, A: Allocator + Copy>(
     rooms: &[usize],
     body: &[u8],
 ) -> usize
-    requires sound { IsSound (N.name_of store.now.0) (record { records = store.now.1; refs = [] }) }
-    requires rooms { rooms.now ≡ rooms_of (take (length rooms.now) store.now.1) }
-    requires linked { IsTree (take (length rooms.now) store.now.1) body.now }
-    ensures { result ≡ room (files_of_entries (named_values (take (length rooms.now) store.now.1)) (entries_in body.now)) }
+    requires sound { IsSoundStore N.name_of store.now }
+    requires rooms { rooms.now ≡ rooms_of (entered rooms.now store.now.1) }
+    requires linked { IsTree (entered rooms.now store.now.1) body.now }
+    ensures { result ≡ room_below (entered rooms.now store.now.1) kinds.Tree body.now }
 {
     let Ok(entries) = decode_tree(body) else {
         unreachable!();
@@ -74,10 +76,10 @@ fn room_at<N: Namer, A: Allocator + Copy>(
     rooms: &[usize],
     entry: &Entry<'_>,
 ) -> usize
-    requires sound { IsSound (N.name_of store.now.0) (record { records = store.now.1; refs = [] }) }
-    requires rooms { rooms.now ≡ rooms_of (take (length rooms.now) store.now.1) }
-    requires held { IsHeldAs (take (length rooms.now) store.now.1) entry.now.mode entry.now.name.bytes }
-    ensures { result ≡ room (placed entry.now.component.now (files_at (named_values (take (length rooms.now) store.now.1)) entry.now.mode entry.now.name.bytes)) }
+    requires sound { IsSoundStore N.name_of store.now }
+    requires rooms { rooms.now ≡ rooms_of (entered rooms.now store.now.1) }
+    requires held { IsHeldAs (entered rooms.now store.now.1) entry.now.mode entry.now.name.bytes }
+    ensures { result ≡ room_at (entered rooms.now store.now.1) (shown entry.now) }
 {
     let own = 1 + entry.component.len();
     match entry.mode {
@@ -92,10 +94,10 @@ fn directory_place<N: Namer, A: Allocator + Copy>(
     rooms: &[usize],
     name: &Name,
 ) -> usize
-    requires rooms { rooms.now ≡ rooms_of (take (length rooms.now) store.now.1) }
-    requires held { IsHeldAs (take (length rooms.now) store.now.1) modes.Dir name.now.bytes }
+    requires rooms { rooms.now ≡ rooms_of (entered rooms.now store.now.1) }
+    requires held { IsHeldAs (entered rooms.now store.now.1) modes.Dir name.now.bytes }
     ensures within { result < length rooms.now }
-    ensures place { IsPlace (take (length rooms.now) store.now.1) name.now.bytes result }
+    ensures place { IsPlace (entered rooms.now store.now.1) name.now.bytes result }
 {
     match store.place(name) {
         Some(place) => place,

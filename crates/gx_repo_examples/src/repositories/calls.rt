@@ -1,10 +1,11 @@
 //! The calls of a repository, and what each answers.
 
 ghost use Rattle.std.specs.Prelude.{◌≤◌, IfOk, IsTrue, length, map};
-ghost use Rattle.std.specs.List.{AllByRecursion};
 ghost use Rattle.gx_model.specs.declared.objects.Kind.TheVariants as kinds;
 ghost use Rattle.gx_model.specs.Records.Sound.{Holds, IsNamedMap, Keeps};
 ghost use Rattle.gx_tree.specs.Named.{IsAtHome};
+ghost use Rattle.gx_repo.specs.Calls.{KeepsAtHome};
+ghost use Rattle.gx_repo.specs.Objects.{HoldsEach};
 
 use gx_object::{CommitParts, Kind, Mode, Name, Namer, TagParts};
 use gx_repo::{AddFault, PublishFault, RefChange, Repo, StoreFault, Text};
@@ -252,7 +253,7 @@ pub(super) fn is_held<N: Namer, A: Allocator + Copy>(
 
 /// Whether these are the names of commits that are held.
 fn are_held<N: Namer, A: Allocator + Copy>(repo: &Repo<N, A>, names: &[Name]) -> bool
-    ensures { IsTrue result → AllByRecursion (Holds repo.now.1.records kinds.Commit) (map (λ n. n.bytes) names.now) }
+    ensures { IsTrue result → HoldsEach repo.now.1.records kinds.Commit (map (λ n. n.bytes) names.now) }
 {
     for name in names {
         if !is_held(repo, Kind::Commit, name) {
@@ -383,7 +384,7 @@ pub(super) fn add_file<N: Namer, A: Allocator + Copy>(
 ) -> bool
     requires named { IsNamedMap repo.now.1.records tree.now.files }
     ensures named { IsNamedMap repo.new.1.records tree.new.files }
-    ensures home { IsAtHome (N.name_of repo.old.0) repo.old.1.records tree.old → IsAtHome (N.name_of repo.old.0) repo.new.1.records tree.new }
+    ensures home { KeepsAtHome N.name_of repo.old repo.new tree.old tree.new }
 {
     records_keep_home();
     let Ok(path) = TreePath::read(alloc, path) else {

@@ -4,4 +4,5 @@ pub mod FileTexts
 pub mod Marks
 pub mod Outputs
 pub mod Parts
+pub mod Sinks
 pub mod Texts

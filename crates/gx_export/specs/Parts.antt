@@ -39,37 +39,39 @@ commits_called repository names = map (λ name. commit_of_value (value_of_name r
 abbrev pub AddsItems : {A : Type 0} → Records → (List Value → List Item) → Written A → Written A → Option Taken → Option Taken → Result (Unit {0}) ExportFault → Type 0
 AddsItems repository items old new was now result = (ws : List Value) → HasWritten repository ws old → Adds repository ws (items ws) old new was now result
 
--- the items of all refs go out
-abbrev pub AddsAllRefs : {A : Type 0} → Records → Written A → Written A → Option Taken → Option Taken → Result (Unit {0}) ExportFault → Type 0
-AddsAllRefs repository old new was now result = AddsItems repository (λ ws. items_of (map (ref_command ws) (history_of repository).refs)) old new was now result
+-- a sink by what it took
+module _ {W : Type 0} (taken : W → Option Taken) where
+  -- the items of all refs go out
+  abbrev pub AddsAllRefs : {A : Type 0} → Records → Written A → Written A → W → W → Result (Unit {0}) ExportFault → Type 0
+  AddsAllRefs repository old new was now result = AddsItems repository (λ ws. items_of (map (ref_command ws) (history_of repository).refs)) old new (taken was) (taken now) result
 
--- the items of a ref go out
-abbrev pub AddsOneRef : {A : Type 0} → Records → Bytes → Name → Written A → Written A → Option Taken → Option Taken → Result (Unit {0}) ExportFault → Type 0
-AddsOneRef repository name object old new was now result = AddsItems repository (λ ws. command_items (ref_command ws (name, target_in (value_at repository object)))) old new was now result
+  -- the items of a ref go out
+  abbrev pub AddsOneRef : {A : Type 0} → Records → Bytes → Name → Written A → Written A → W → W → Result (Unit {0}) ExportFault → Type 0
+  AddsOneRef repository name object old new was now result = AddsItems repository (λ ws. command_items (ref_command ws (name, target_in (value_at repository object)))) old new (taken was) (taken now) result
 
--- the lines of these parents go out
-abbrev pub AddsParentLines : {A : Type 0} → Records → List Bytes → Written A → Written A → Option Taken → Option Taken → Result (Unit {0}) ExportFault → Type 0
-AddsParentLines repository parents old new was now result = AddsItems repository (λ ws. parent_items ws (commits_called repository parents)) old new was now result
+  -- the lines of these parents go out
+  abbrev pub AddsParentLines : {A : Type 0} → Records → List Bytes → Written A → Written A → W → W → Result (Unit {0}) ExportFault → Type 0
+  AddsParentLines repository parents old new was now result = AddsItems repository (λ ws. parent_items ws (commits_called repository parents)) old new (taken was) (taken now) result
 
--- the lines of a commit go out, where these are those of its files
-abbrev pub AddsCommitLines : {A : Type 0} → Records → CommitParts → Bytes → Written A → Written A → Option Taken → Option Taken → Result (Unit {0}) ExportFault → Type 0
-AddsCommitLines repository parts lines old new was now result =
-    (ws : List Value) (files : FileMap Bytes) → HasWritten repository ws old → lines ≡ items_text (file_items ws files) → Adds repository ws (commit_lines ws parts.text (commits_called repository parts.parents) files) old new was now result
+  -- the lines of a commit go out, where these are those of its files
+  abbrev pub AddsCommitLines : {A : Type 0} → Records → CommitParts → Bytes → Written A → Written A → W → W → Result (Unit {0}) ExportFault → Type 0
+  AddsCommitLines repository parts lines old new was now result =
+      (ws : List Value) (files : FileMap Bytes) → HasWritten repository ws old → lines ≡ items_text (file_items ws files) → Adds repository ws (commit_lines ws parts.text (commits_called repository parts.parents) files) old new (taken was) (taken now) result
 
--- what stands behind a commit's parents goes out, where these are the lines of its files
-abbrev pub WritesChanges : Bytes → ℕ → ℕ → Option Taken → Option Taken → Result (Unit {0}) ExportFault → Type 0
-WritesChanges lines before after was now result = (ws : List Value) (files : FileMap Bytes) → lines ≡ items_text (file_items ws files) → Writes before after was now (items_text (change_lines ws files)) result
+  -- what stands behind a commit's parents goes out, where these are the lines of its files
+  abbrev pub WritesChanges : Bytes → ℕ → ℕ → W → W → Result (Unit {0}) ExportFault → Type 0
+  WritesChanges lines before after was now result = (ws : List Value) (files : FileMap Bytes) → lines ≡ items_text (file_items ws files) → Writes before after (taken was) (taken now) (items_text (change_lines ws files)) result
 
--- ---- values
+  -- ---- values
 
--- the blob of this name goes out, where it wasn't written yet
-abbrev pub AddsOneBlob : {A : Type 0} → Records → Name → Written A → Written A → Option Taken → Option Taken → Result (Unit {0}) ExportFault → Type 0
-AddsOneBlob repository called old new was now result = (ws : List Value) → HasWritten repository ws old → AddsBlobs repository ws (bytes_of_blob (value_at repository called) ∷ []) old new was now result
+  -- the blob of this name goes out, where it wasn't written yet
+  abbrev pub AddsOneBlob : {A : Type 0} → Records → Name → Written A → Written A → W → W → Result (Unit {0}) ExportFault → Type 0
+  AddsOneBlob repository called old new was now result = (ws : List Value) → HasWritten repository ws old → AddsBlobs repository ws (bytes_of_blob (value_at repository called) ∷ []) old new (taken was) (taken now) result
 
--- the commits that refs reach go out, each behind its blobs
-abbrev pub AddsReachedCommits : {A : Type 0} → Records → Written A → Written A → Option Taken → Option Taken → Result (Unit {0}) ExportFault → Type 0
-AddsReachedCommits repository old new was now result =
-    Adds repository (all_written (reached_commits (history_of repository))) (items_of (commit_commands [] (reached_commits (history_of repository)))) old new was now result
+  -- the commits that refs reach go out, each behind its blobs
+  abbrev pub AddsReachedCommits : {A : Type 0} → Records → Written A → Written A → W → W → Result (Unit {0}) ExportFault → Type 0
+  AddsReachedCommits repository old new was now result =
+      Adds repository (all_written (reached_commits (history_of repository))) (items_of (commit_commands [] (reached_commits (history_of repository)))) old new (taken was) (taken now) result
 
 -- ---- values, and the lines of files
 
@@ -79,20 +81,10 @@ module _ {N : Type 0} (name_of : N → Kind → Bytes → Bytes) (repo : N × Re
   abbrev pub IsUnderWay : {A : Type 0} → Written A → Lines A → Type 0
   IsUnderWay written lines = (ws : List Value) × HasWritten repo.1 ws written × AreKept (name_of repo.0) repo.1 ws lines
 
-  -- the commit at this place goes out, behind its blobs
-  abbrev pub AddsOneCommit : {A : Type 0} → ℕ → Written A → Written A → Option Taken → Option Taken → Lines A → Result (Unit {0}) ExportFault → Type 0
-  AddsOneCommit place old new was now lines result =
-      (made : Commit) (ws : List Value) → IsAt repo.1 place made → HasWritten repo.1 ws old → AreKept (name_of repo.0) repo.1 ws lines → Adds repo.1 (with_commit ws made) (items_of (one_commit ws made)) old new was now result
-
   -- with the commit at this place written, the lines are kept
   abbrev pub KeepsOneCommit : {A : Type 0} → ℕ → Written A → Lines A → Lines A → Result (Unit {0}) ExportFault → Type 0
   KeepsOneCommit place written old new result =
       (made : Commit) (ws : List Value) → IsAt repo.1 place made → HasWritten repo.1 ws written → AreKept (name_of repo.0) repo.1 ws old → OnOk result (AreKept (name_of repo.0) repo.1 (with_commit ws made) new)
-
-  -- the blobs of the files of the commit of this name go out
-  abbrev pub AddsBlobsOf : {A : Type 0} → Name → Written A → Written A → Option Taken → Option Taken → Lines A → Result (Unit {0}) ExportFault → Type 0
-  AddsBlobsOf commit old new was now lines result =
-      (ws : List Value) → HasWritten repo.1 ws old → AreKept (name_of repo.0) repo.1 ws lines → AddsBlobs repo.1 ws (contents (files_of (commit_at repo.1 commit))) old new was now result
 
   -- the lines of the files of the commit of this name are gathered
   abbrev pub GathersLinesOf : {A : Type 0} → Name → Written A → Lines A → Lines A → Result (Unit {0}) ExportFault → Type 0
@@ -113,18 +105,30 @@ module _ {N : Type 0} (name_of : N → Kind → Bytes → Bytes) (repo : N × Re
   abbrev pub HasEntryBelow : ℕ → Path → Entry → Type 0
   HasEntryBelow room front entry = (k : Kept) × IsEntryBelow (name_of repo.0) repo.1 room front (entry.component.now, k) × (kept_leaf (name_of repo.0) k ≡ (entry.mode, entry.name.bytes))
 
+-- the same, and a sink by what it took
+module _ {N W : Type 0} (name_of : N → Kind → Bytes → Bytes) (taken : W → Option Taken) (repo : N × Records) where
+  -- the commit at this place goes out, behind its blobs
+  abbrev pub AddsOneCommit : {A : Type 0} → ℕ → Written A → Written A → W → W → Lines A → Result (Unit {0}) ExportFault → Type 0
+  AddsOneCommit place old new was now lines result =
+      (made : Commit) (ws : List Value) → IsAt repo.1 place made → HasWritten repo.1 ws old → AreKept (name_of repo.0) repo.1 ws lines → Adds repo.1 (with_commit ws made) (items_of (one_commit ws made)) old new (taken was) (taken now) result
+
+  -- the blobs of the files of the commit of this name go out
+  abbrev pub AddsBlobsOf : {A : Type 0} → Name → Written A → Written A → W → W → Lines A → Result (Unit {0}) ExportFault → Type 0
+  AddsBlobsOf commit old new was now lines result =
+      (ws : List Value) → HasWritten repo.1 ws old → AreKept (name_of repo.0) repo.1 ws lines → AddsBlobs repo.1 ws (contents (files_of (commit_at repo.1 commit))) old new (taken was) (taken now) result
+
   -- the files of the tree of this name are gathered, below a path
-  abbrev pub GathersTree : {A : Type 0} → Path → Name → Written A → Written A → Option Taken → Option Taken → Lines A → Lines A → Result (Unit {0}) ExportFault → Type 0
+  abbrev pub GathersTree : {A : Type 0} → Path → Name → Written A → Written A → W → W → Lines A → Lines A → Result (Unit {0}) ExportFault → Type 0
   GathersTree front tree old new was now before after result =
-      (ws : List Value) (g : FileMap Bytes) → HasWritten repo.1 ws old → IsHeldTree (name_of repo.0) repo.1.records tree.bytes g → AreKept (name_of repo.0) repo.1 ws before → Gathers (name_of repo.0) repo.1 ws (below front g) old new was now before after result
+      (ws : List Value) (g : FileMap Bytes) → HasWritten repo.1 ws old → IsHeldTree (name_of repo.0) repo.1.records tree.bytes g → AreKept (name_of repo.0) repo.1 ws before → Gathers (name_of repo.0) repo.1 ws (below front g) old new (taken was) (taken now) before after result
 
   -- the files of an entry of a tree are gathered, below a path
-  abbrev pub GathersEntry : {A : Type 0} → Path → Entry → Written A → Written A → Option Taken → Option Taken → Lines A → Lines A → Result (Unit {0}) ExportFault → Type 0
+  abbrev pub GathersEntry : {A : Type 0} → Path → Entry → Written A → Written A → W → W → Lines A → Lines A → Result (Unit {0}) ExportFault → Type 0
   GathersEntry front entry old new was now before after result =
       (ws : List Value) (k : Kept) → HasWritten repo.1 ws old → IsHeldEntry (name_of repo.0) repo.1.records 4095 (entry.component.now, k) → kept_leaf (name_of repo.0) k ≡ (entry.mode, entry.name.bytes) → AreKept (name_of repo.0) repo.1 ws before
-      → Gathers (name_of repo.0) repo.1 ws (below front (placed entry.component.now (kept_map k))) old new was now before after result
+      → Gathers (name_of repo.0) repo.1 ws (below front (placed entry.component.now (kept_map k))) old new (taken was) (taken now) before after result
 
   -- the file at this path is gathered
-  abbrev pub GathersFile : {A : Type 0} → Path → Mode → Name → Written A → Written A → Option Taken → Option Taken → Lines A → Lines A → Result (Unit {0}) ExportFault → Type 0
+  abbrev pub GathersFile : {A : Type 0} → Path → Mode → Name → Written A → Written A → W → W → Lines A → Lines A → Result (Unit {0}) ExportFault → Type 0
   GathersFile path mode called old new was now before after result =
-      (ws : List Value) → HasWritten repo.1 ws old → AreKept (name_of repo.0) repo.1 ws before → Gathers (name_of repo.0) repo.1 ws ((path, (mode, called.bytes)) ∷ []) old new was now before after result
+      (ws : List Value) → HasWritten repo.1 ws old → AreKept (name_of repo.0) repo.1 ws before → Gathers (name_of repo.0) repo.1 ws ((path, (mode, called.bytes)) ∷ []) old new (taken was) (taken now) before after result

@@ -1,11 +1,9 @@
 //! The texts of commands. Source: git-fast-import(1), "Input Format".
 
-ghost use Rattle.std.specs.Prelude.{◌≤◌, [], ◌∷◌};
-ghost use Rattle.gx_model.specs.Export.{mark_text, optional_line, to_nothing, word_line};
-ghost use Rattle.gx_model.specs.Streams.Items.{Data};
+ghost use Rattle.std.specs.Prelude.{◌≤◌};
 ghost use Rattle.gx_export.specs.Faults.{NeedsNoMemory};
-ghost use Rattle.gx_export.specs.Outputs.{Writes, most};
-ghost use Rattle.gx_export.specs.Texts.{author_items, blob_under, command_text, head_items, items_text, optional_text, tag_command, target_items, to_marked};
+ghost use Rattle.gx_export.specs.Outputs.{most};
+ghost use Rattle.gx_export.specs.Sinks.{ResetsTo, WritesAuthors, WritesBlob, WritesData, WritesHead, WritesIf, WritesParent, WritesReset, WritesTag, WritesTarget};
 
 use crate::ExportFault;
 use crate::output::write_all;
@@ -21,7 +19,7 @@ pub(crate) fn write_blob<W: Sink>(
     bytes: &[u8],
 ) -> Result<(), ExportFault>
     requires { written.old ≤ most }
-    ensures text { Writes written.old written.new (W.taken sink.old) (W.taken sink.new) (command_text (blob_under mark bytes.now)) result }
+    ensures text { WritesBlob W.taken mark bytes.now written.old written.new sink.old sink.new result }
     ensures memory { NeedsNoMemory result }
 {
     let mut number = Buffer::new();
@@ -44,7 +42,7 @@ pub(crate) fn write_blob<W: Sink>(
 /// Writes a block.
 fn write_block<W: Sink>(sink: &mut W, written: &mut u64, bytes: &[u8]) -> Result<(), ExportFault>
     requires { written.old ≤ most }
-    ensures text { Writes written.old written.new (W.taken sink.old) (W.taken sink.new) (items_text (Data bytes.now ∷ [])) result }
+    ensures text { WritesData W.taken bytes.now written.old written.new sink.old sink.new result }
     ensures memory { NeedsNoMemory result }
 {
     let mut length = Buffer::new();
@@ -69,7 +67,7 @@ fn write_optional<W: Sink>(
     text: Option<&[u8]>,
 ) -> Result<(), ExportFault>
     requires { written.old ≤ most }
-    ensures text { Writes written.old written.new (W.taken sink.old) (W.taken sink.new) (items_text (optional_line word.now (optional_text text.entry))) result }
+    ensures text { WritesIf W.taken word.now text.entry written.old written.new sink.old sink.new result }
     ensures memory { NeedsNoMemory result }
 {
     match text {
@@ -86,7 +84,7 @@ pub(crate) fn write_commit_head<W: Sink>(
     commit: &CommitView<'_>,
 ) -> Result<(), ExportFault>
     requires { written.old ≤ most }
-    ensures text { Writes written.old written.new (W.taken sink.old) (W.taken sink.new) (items_text (head_items mark commit.now.text)) result }
+    ensures text { WritesHead W.taken mark commit.now written.old written.new sink.old sink.new result }
     ensures memory { NeedsNoMemory result }
 {
     write_authors(sink, written, mark, commit)?;
@@ -102,7 +100,7 @@ fn write_authors<W: Sink>(
     commit: &CommitView<'_>,
 ) -> Result<(), ExportFault>
     requires { written.old ≤ most }
-    ensures text { Writes written.old written.new (W.taken sink.old) (W.taken sink.new) (items_text (author_items mark commit.now.text)) result }
+    ensures text { WritesAuthors W.taken mark commit.now written.old written.new sink.old sink.new result }
     ensures memory { NeedsNoMemory result }
 {
     let mut number = Buffer::new();
@@ -129,7 +127,7 @@ pub(crate) fn write_parent<W: Sink>(
     mark: u64,
 ) -> Result<(), ExportFault>
     requires { written.old ≤ most }
-    ensures text { Writes written.old written.new (W.taken sink.old) (W.taken sink.new) (items_text (word_line word.now (mark_text mark) ∷ [])) result }
+    ensures text { WritesParent W.taken word.now mark written.old written.new sink.old sink.new result }
     ensures memory { NeedsNoMemory result }
 {
     let mut number = Buffer::new();
@@ -147,7 +145,7 @@ pub(crate) fn write_reset<W: Sink>(
     name: &[u8],
 ) -> Result<(), ExportFault>
     requires { written.old ≤ most }
-    ensures text { Writes written.old written.new (W.taken sink.old) (W.taken sink.new) (command_text (to_nothing name.now)) result }
+    ensures text { WritesReset W.taken name.now written.old written.new sink.old sink.new result }
     ensures memory { NeedsNoMemory result }
 {
     write_all(sink, written, &[b"reset ".as_slice(), name, b"\n"])
@@ -161,7 +159,7 @@ pub(crate) fn write_reset_to<W: Sink>(
     mark: u64,
 ) -> Result<(), ExportFault>
     requires { written.old ≤ most }
-    ensures text { Writes written.old written.new (W.taken sink.old) (W.taken sink.new) (command_text (to_marked name.now mark)) result }
+    ensures text { ResetsTo W.taken name.now mark written.old written.new sink.old sink.new result }
     ensures memory { NeedsNoMemory result }
 {
     let mut number = Buffer::new();
@@ -186,7 +184,7 @@ pub(crate) fn write_tag<W: Sink>(
     mark: u64,
 ) -> Result<(), ExportFault>
     requires { written.old ≤ most }
-    ensures text { Writes written.old written.new (W.taken sink.old) (W.taken sink.new) (command_text (tag_command mark tag.now)) result }
+    ensures text { WritesTag W.taken mark tag.now written.old written.new sink.old sink.new result }
     ensures memory { NeedsNoMemory result }
 {
     write_target(sink, written, tag, mark)?;
@@ -202,7 +200,7 @@ fn write_target<W: Sink>(
     mark: u64,
 ) -> Result<(), ExportFault>
     requires { written.old ≤ most }
-    ensures text { Writes written.old written.new (W.taken sink.old) (W.taken sink.new) (items_text (target_items mark tag.now.name)) result }
+    ensures text { WritesTarget W.taken mark tag.now written.old written.new sink.old sink.new result }
     ensures memory { NeedsNoMemory result }
 {
     let mut number = Buffer::new();

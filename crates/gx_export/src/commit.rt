@@ -1,6 +1,6 @@
 //! One commit, after the blobs of its files that weren't written yet.
 
-ghost use Rattle.std.specs.Prelude.{◌≡◌, ◌≢◌, ◌≤◌, length, List, codes};
+ghost use Rattle.std.specs.Prelude.{◌≡◌, ◌≢◌, ◌≤◌, List, codes};
 ghost use Rattle.std.specs.List.{AllByRecursion};
 ghost use Rattle.gx_model.specs.declared.objects.Kind.TheVariants as kinds;
 ghost use Rattle.gx_model.specs.Histories.Marks.{IsAt};
@@ -8,9 +8,9 @@ ghost use Rattle.gx_model.specs.Records.Sound.{Holds};
 ghost use Rattle.gx_model.specs.Histories.Values.{Commit, Value};
 ghost use Rattle.gx_export.specs.Faults.{NeedsNoMemory};
 ghost use Rattle.gx_export.specs.Marks.{HasWritten};
-ghost use Rattle.gx_export.specs.Outputs.{Writes, most};
+ghost use Rattle.gx_export.specs.Outputs.{most};
 ghost use Rattle.gx_export.specs.Parts.{AddsCommitLines, AddsOneCommit, AddsParentLines, IsUnderWay, KeepsOneCommit, WritesChanges};
-ghost use Rattle.gx_export.specs.Texts.{items_text, root_items};
+ghost use Rattle.gx_export.specs.Sinks.{WritesRoot};
 
 use crate::ExportFault;
 use crate::commands::{write_commit_head, write_parent, write_reset};
@@ -35,7 +35,7 @@ pub(crate) fn write_commit<N: Namer, A: Allocator + Copy, W: Sink>(
 ) -> Result<(), ExportFault>
     requires commit { (made : Commit) × IsAt repo.now.1 place made }
     requires written { IsUnderWay N.name_of repo.now written.old lines.old }
-    ensures adds { AddsOneCommit N.name_of repo.now place written.old written.new (W.taken sink.old) (W.taken sink.new) lines.old result }
+    ensures adds { AddsOneCommit N.name_of W.taken repo.now place written.old written.new sink.old sink.new lines.old result }
     ensures kept { KeepsOneCommit N.name_of repo.now place written.old lines.old lines.new result }
 {
     repo.sound();
@@ -55,7 +55,7 @@ fn write_root<W: Sink>(
     commit: &CommitView<'_>,
 ) -> Result<(), ExportFault>
     requires { written.old ≤ most }
-    ensures text { Writes written.old written.new (W.taken sink.old) (W.taken sink.new) (items_text (root_items (length commit.now.parents))) result }
+    ensures text { WritesRoot W.taken commit.now written.old written.new sink.old sink.new result }
     ensures memory { NeedsNoMemory result }
 {
     if commit.parent_count() == 0 {
@@ -74,7 +74,7 @@ fn write_lines<N: Namer, A: Allocator + Copy, W: Sink>(
 ) -> Result<(), ExportFault>
     requires parents { AllByRecursion (Holds repo.now.1.records kinds.Commit) commit.now.parents }
     requires written { (ws : List Value) × HasWritten repo.now.1 ws written.old }
-    ensures adds { AddsCommitLines repo.now.1 commit.now lines.now written.old written.new (W.taken sink.old) (W.taken sink.new) result }
+    ensures adds { AddsCommitLines W.taken repo.now.1 commit.now lines.now written.old written.new sink.old sink.new result }
     ensures memory { NeedsNoMemory result }
 {
     write_commit_head(sink, &mut written.bytes, written.count + 1, commit)?;
@@ -91,7 +91,7 @@ fn write_parents<N: Namer, A: Allocator + Copy, W: Sink>(
 ) -> Result<(), ExportFault>
     requires parents { AllByRecursion (Holds repo.now.1.records kinds.Commit) commit.now.parents }
     requires written { (ws : List Value) × HasWritten repo.now.1 ws written.old }
-    ensures adds { AddsParentLines repo.now.1 commit.now.parents written.old written.new (W.taken sink.old) (W.taken sink.new) result }
+    ensures adds { AddsParentLines W.taken repo.now.1 commit.now.parents written.old written.new sink.old sink.new result }
     ensures memory { NeedsNoMemory result }
 {
     repo.sound();
@@ -115,7 +115,7 @@ fn parent_word(number: usize) -> &'static [u8]
 /// Writes `deleteall`, the lines of all files, and an empty line.
 fn write_files<W: Sink>(sink: &mut W, written: &mut u64, lines: &[u8]) -> Result<(), ExportFault>
     requires { written.old ≤ most }
-    ensures text { WritesChanges lines.now written.old written.new (W.taken sink.old) (W.taken sink.new) result }
+    ensures text { WritesChanges W.taken lines.now written.old written.new sink.old sink.new result }
     ensures memory { NeedsNoMemory result }
 {
     write_all(sink, written, &[b"deleteall\n".as_slice(), lines, b"\n"])

@@ -4,10 +4,10 @@ ghost use Rattle.std.specs.Prelude.{◌≡◌, ◌≤◌, []};
 ghost use Rattle.gx_export.specs.Exports.{Exports};
 ghost use Rattle.gx_export.specs.Faults.{NeedsNoMemory};
 ghost use Rattle.gx_export.specs.Marks.{HasWritten};
-ghost use Rattle.gx_export.specs.Outputs.{Writes, most};
+ghost use Rattle.gx_export.specs.Outputs.{most};
 ghost use Rattle.gx_export.specs.Parts.{AddsReachedCommits};
+ghost use Rattle.gx_export.specs.Sinks.{WritesLast};
 ghost use Rattle.gx_rev.specs.Reached.{reached_marks};
-ghost use Rattle.gx_export.specs.Texts.{items_text, last_items};
 
 use crate::ExportFault;
 use crate::commands::write_reset;
@@ -59,7 +59,7 @@ fn write_commits<N: Namer, A: Allocator + Copy, W: Sink>(
 ) -> Result<(), ExportFault>
     requires reached { reached.now ≡ reached_marks repo.now.1 }
     requires written { HasWritten repo.now.1 [] written.old }
-    ensures { AddsReachedCommits repo.now.1 written.old written.new (W.taken sink.old) (W.taken sink.new) result }
+    ensures { AddsReachedCommits W.taken repo.now.1 written.old written.new sink.old sink.new result }
 {
     let mut lines = Lines::new(alloc);
     for place in 0..reached.len() {
@@ -73,7 +73,7 @@ fn write_commits<N: Namer, A: Allocator + Copy, W: Sink>(
 /// Writes the reset behind the commits, where so many marks were given.
 fn write_last<W: Sink>(sink: &mut W, written: &mut u64, marks: u64) -> Result<(), ExportFault>
     requires { written.old ≤ most }
-    ensures text { Writes written.old written.new (W.taken sink.old) (W.taken sink.new) (items_text (last_items marks)) result }
+    ensures text { WritesLast W.taken marks written.old written.new sink.old sink.new result }
     ensures memory { NeedsNoMemory result }
 {
     if marks > 0 {

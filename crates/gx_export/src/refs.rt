@@ -22,7 +22,7 @@ pub(crate) fn write_refs<N: Namer, A: Allocator + Copy, W: Sink>(
     written: &mut Written<A>,
 ) -> Result<(), ExportFault>
     requires written { (ws : List Value) × HasWritten repo.now.1 ws written.old }
-    ensures adds { AddsAllRefs repo.now.1 written.old written.new (W.taken sink.old) (W.taken sink.new) result }
+    ensures adds { AddsAllRefs W.taken repo.now.1 written.old written.new sink.old sink.new result }
     ensures memory { NeedsNoMemory result }
 {
     repo.sound();
@@ -42,7 +42,7 @@ fn write_ref<N: Namer, A: Allocator + Copy, W: Sink>(
 ) -> Result<(), ExportFault>
     requires target { IsTarget repo.now.1.records name.now object.now.bytes }
     requires written { (ws : List Value) × HasWritten repo.now.1 ws written.old }
-    ensures adds { AddsOneRef repo.now.1 name.now object.now written.old written.new (W.taken sink.old) (W.taken sink.new) result }
+    ensures adds { AddsOneRef W.taken repo.now.1 name.now object.now written.old written.new sink.old sink.new result }
     ensures memory { NeedsNoMemory result }
 {
     repo.sound();

@@ -37,7 +37,7 @@ pub(crate) fn add_files<N: Namer, A: Allocator + Copy, W: Sink>(
 ) -> Result<(), ExportFault>
     requires held { IsHeldAs kinds.Commit repo.now.1 commit.now }
     requires written { IsUnderWay N.name_of repo.now written.old lines.old }
-    ensures adds { AddsBlobsOf N.name_of repo.now commit.now written.old written.new (W.taken sink.old) (W.taken sink.new) lines.old result }
+    ensures adds { AddsBlobsOf N.name_of W.taken repo.now commit.now written.old written.new sink.old sink.new lines.old result }
     ensures text { GathersLinesOf N.name_of repo.now commit.now written.old lines.old lines.new result }
     ensures kept { KeepsLinesOf N.name_of repo.now commit.now written.old lines.old lines.new result }
 {
@@ -72,7 +72,7 @@ fn add_tree<N: Namer, A: Allocator + Copy, W: Sink>(
 ) -> Result<(), ExportFault>
     requires held { HasTreeBelow N.name_of repo.now room front.now tree.now }
     requires written { IsUnderWay N.name_of repo.now written.old lines.old }
-    ensures { GathersTree N.name_of repo.now front.now tree.now written.old written.new (W.taken sink.old) (W.taken sink.new) lines.old lines.new result }
+    ensures { GathersTree N.name_of W.taken repo.now front.now tree.now written.old written.new sink.old sink.new lines.old lines.new result }
 {
     if lines.take_over(front.joined(), tree)? {
         return Ok(());
@@ -98,7 +98,7 @@ fn add_entries<N: Namer, A: Allocator + Copy, W: Sink>(
 ) -> Result<(), ExportFault>
     requires held { HasTreeBelow N.name_of repo.now room front.now tree.now }
     requires written { IsUnderWay N.name_of repo.now written.old lines.old }
-    ensures { GathersTree N.name_of repo.now front.now tree.now written.old written.new (W.taken sink.old) (W.taken sink.new) lines.old lines.new result }
+    ensures { GathersTree N.name_of W.taken repo.now front.now tree.now written.old written.new sink.old sink.new lines.old lines.new result }
 {
     let Some((_, body)) = repo.store().get(tree) else {
         unreachable!();
@@ -123,7 +123,7 @@ fn add_entry<N: Namer, A: Allocator + Copy, W: Sink>(
 ) -> Result<(), ExportFault>
     requires held { HasEntryBelow N.name_of repo.now room front.now entry.now }
     requires written { IsUnderWay N.name_of repo.now written.old lines.old }
-    ensures { GathersEntry N.name_of repo.now front.now entry.now written.old written.new (W.taken sink.old) (W.taken sink.new) lines.old lines.new result }
+    ensures { GathersEntry N.name_of W.taken repo.now front.now entry.now written.old written.new sink.old sink.new lines.old lines.new result }
 {
     let path = child(alloc, front, entry.component)?;
     if entry.mode != Mode::Dir {
@@ -158,7 +158,7 @@ fn add_file<N: Namer, A: Allocator + Copy, W: Sink>(
     requires file { mode ≢ modes.Dir }
     requires held { sound.IsHeldAs repo.now.1.records mode name.now.bytes }
     requires written { IsUnderWay N.name_of repo.now written.old lines.old }
-    ensures { GathersFile N.name_of repo.now path.now mode name.now written.old written.new (W.taken sink.old) (W.taken sink.new) lines.old lines.new result }
+    ensures { GathersFile N.name_of W.taken repo.now path.now mode name.now written.old written.new sink.old sink.new lines.old lines.new result }
 {
     repo.sound();
     if mode == Mode::Gitlink {
@@ -182,7 +182,7 @@ fn write_blob_once<N: Namer, A: Allocator + Copy, W: Sink>(
     requires held { IsHeldAs kinds.Blob repo.now.1 name.now }
     requires place { slice_get (values_of repo.now.1) place ≡ Some (value_at repo.now.1 name.now) }
     requires written { (ws : List Value) × HasWritten repo.now.1 ws written.old }
-    ensures adds { AddsOneBlob repo.now.1 name.now written.old written.new (W.taken sink.old) (W.taken sink.new) result }
+    ensures adds { AddsOneBlob W.taken repo.now.1 name.now written.old written.new sink.old sink.new result }
     ensures memory { NeedsNoMemory result }
 {
     repo.sound();

@@ -1,5 +1,7 @@
 pub mod Faults
 pub mod Gathering
+pub mod Reading
 pub mod Sending
 pub mod Texts
 pub mod TextEnds
+pub mod Writing

@@ -1,7 +1,6 @@
 //! How the bodies of the records that are read are kept.
 ghost use Rattle.std.specs.Prelude.{◌≡◌, ◌++◌, ◌∷◌};
-ghost use Rattle.gx_model.specs.Histories.{record_for};
-ghost use Rattle.gx_repo.specs.Records.{AddsRecord};
+ghost use Rattle.gx_file.specs.Reading.{AddsBody};
 ghost use Rattle.gx_file.specs.TextEnds.{IsEndOfText};
 
 use gx_object::{Kind, Name, Namer};
@@ -27,7 +26,7 @@ impl<'a, A: Allocator + Copy> Bodies<'a, A> {
         requires left { IsEndOfText self.now (body.now ++ 10 ∷ rest.now) }
         ensures namer { repo.new.0 ≡ repo.old.0 }
         ensures refs { repo.new.1.refs ≡ repo.old.1.refs }
-        ensures adds { AddsRecord repo.old.1.records repo.new.1.records (record_for (N.name_of repo.old.0) kind body.now) result }
+        ensures adds { AddsBody N.name_of repo.old repo.new kind body.now result }
     {
         match self {
             Bodies::Copied => repo.add_record(kind, body),

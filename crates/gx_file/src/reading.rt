@@ -1,9 +1,9 @@
 //! Reading a whole store text. Source: this project's own format.
-ghost use Rattle.std.specs.Prelude.{◌≡◌, ◌≢◌, IfOk, IfErr};
+ghost use Rattle.std.specs.Prelude.{◌≡◌, IfOk};
 ghost use Rattle.gx_model.specs.Stores.StoreReading.{store_of};
 ghost use Rattle.gx_model.specs.Stores.StoreText.{IsStoreText};
-ghost use Rattle.gx_model.specs.declared.store_faults.FileFault.TheVariants as fault;
-ghost use Rattle.gx_file.specs.Faults.{IsNoStoreText, Reads};
+ghost use Rattle.gx_file.specs.Faults.{Reads};
+ghost use Rattle.gx_file.specs.Reading.{RefusesOthers};
 ghost use Rattle.gx_file.specs.TextEnds.{IsEndOfText};
 
 use crate::FileFault;
@@ -33,7 +33,7 @@ pub fn read<N: Namer + Drop, A: Allocator + Copy>(
     ensures namer { IfOk result (λ repo. repo.0 ≡ namer) }
     ensures store { Reads (λ repo. repo.1) result (store_of (N.name_of namer) text.now) }
     ensures text { IfOk result (λ repo. IsStoreText text.now repo.1) }
-    ensures refused { IfErr result (λ why. why ≢ fault.OutOfMemory → IsNoStoreText (N.name_of namer) text.now) }
+    ensures refused { RefusesOthers (N.name_of namer) text.now result }
 {
     stores_are_read();
     read_store(alloc, namer, &Bodies::Copied, text, state)
@@ -52,7 +52,7 @@ pub fn read_text<N: Namer + Drop, A: Allocator + Copy>(
     ensures namer { IfOk result (λ repo. repo.0 ≡ namer) }
     ensures store { Reads (λ repo. repo.1) result (store_of (N.name_of namer) text) }
     ensures text { IfOk result (λ repo. IsStoreText text repo.1) }
-    ensures refused { IfErr result (λ why. why ≢ fault.OutOfMemory → IsNoStoreText (N.name_of namer) text) }
+    ensures refused { RefusesOthers (N.name_of namer) text result }
 {
     stores_are_read();
     read_store(alloc, namer, &Bodies::Within(&text), text.as_slice(), state)

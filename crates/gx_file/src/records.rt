@@ -2,12 +2,12 @@
 ghost use Rattle.std.specs.Prelude.{◌≡◌, ◌++◌, ◌∷◌, IfOk};
 ghost use Rattle.std.specs.Map.{lookup};
 ghost use Rattle.std.specs.Option.{option_map};
-ghost use Rattle.gx_model.specs.declared.store_faults.FileFault.TheVariants as model;
 ghost use Rattle.gx_model.specs.Texts.{same_bytes};
-ghost use Rattle.gx_model.specs.Stores.StoreReading.{is_named, kind_words, length_field, next_record, next_records, record_line, stored_body, unless, with_record};
+ghost use Rattle.gx_model.specs.Stores.StoreReading.{kind_words, length_field, record_line, stored_body};
 ghost use Rattle.gx_file.specs.Faults.{NeedsNoMemory, Reads};
+ghost use Rattle.gx_file.specs.Reading.{AddsStated, ChecksName, ReadsRecord, ReadsRecords};
 ghost use Rattle.gx_file.specs.TextEnds.{IsEndOfText};
-ghost use Rattle.gx_file.specs.Texts.{shown_heading, shown_length, shown_name, shown_pair};
+ghost use Rattle.gx_file.specs.Texts.{shown_heading, shown_length, shown_pair};
 
 use crate::FileFault;
 use crate::bodies::Bodies;
@@ -29,7 +29,7 @@ pub(crate) fn read_records<'a, N: Namer, A: Allocator + Copy>(
     requires left { IsEndOfText bodies.now text.now }
     ensures namer { repo.new.0 ≡ repo.old.0 }
     ensures refs { repo.new.1.refs ≡ repo.old.1.refs }
-    ensures records { Reads (λ rest. (repo.new.1.records, rest.now)) result (next_records (N.name_of repo.old.0) version count repo.old.1.records text.now) }
+    ensures records { ReadsRecords N.name_of repo.old repo.new version count text.now result }
 {
     let mut rest = text;
     for _ in 0..count {
@@ -48,7 +48,7 @@ fn read_record<'a, N: Namer, A: Allocator + Copy>(
     requires left { IsEndOfText bodies.now text.now }
     ensures namer { repo.new.0 ≡ repo.old.0 }
     ensures refs { repo.new.1.refs ≡ repo.old.1.refs }
-    ensures record { Reads (λ rest. (repo.new.1.records, rest.now)) result (next_record (N.name_of repo.old.0) version repo.old.1.records text.now) }
+    ensures record { ReadsRecord N.name_of repo.old repo.new version text.now result }
     ensures left { IfOk result (λ rest. IsEndOfText bodies.now rest.now) }
 {
     let (line, rest) = read_line(text)?;
@@ -75,7 +75,7 @@ fn add<N: Namer, A: Allocator + Copy>(
     requires left { IsEndOfText bodies.now (body.now ++ 10 ∷ rest.now) }
     ensures namer { repo.new.0 ≡ repo.old.0 }
     ensures refs { repo.new.1.refs ≡ repo.old.1.refs }
-    ensures record { Reads (λ _. repo.new.1.records) result (with_record (N.name_of repo.old.0) repo.old.1.records (shown_name stated) kind body.now) }
+    ensures record { AddsStated N.name_of repo.old repo.new stated kind body.now result }
 {
     match bodies.add_record(repo, kind, body, rest) {
         Ok(name) => check_name(stated, &name),
@@ -89,7 +89,7 @@ fn add<N: Namer, A: Allocator + Copy>(
 
 /// Answers `NameMismatch` where a name is stated that isn't this one.
 fn check_name(stated: Option<Name>, name: &Name) -> Result<(), FileFault>
-    ensures name { Reads (λ done. done) result (unless (is_named (shown_name stated) name.now.bytes) model.NameMismatch) }
+    ensures name { ChecksName stated name.now result }
     ensures memory { NeedsNoMemory result }
 {
     match stated {

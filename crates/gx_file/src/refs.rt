@@ -1,10 +1,11 @@
 //! The refs of a store text. Source: this project's own format, and git-check-ref-format(1).
 ghost use Rattle.std.specs.Prelude.{◌≡◌, [], None, map};
 ghost use Rattle.std.specs.Option.{option_map};
-ghost use Rattle.gx_model.specs.Stores.StoreReading.{is_after, next_refs, ref_line};
+ghost use Rattle.gx_model.specs.Stores.StoreReading.{is_after, ref_line};
 ghost use Rattle.gx_repo.specs.Refs.{asked};
 ghost use Rattle.gx_file.specs.Faults.{NeedsNoMemory, Reads};
 ghost use Rattle.gx_file.specs.Gathering.{Gathers, first_ref, gathered, shown_change};
+ghost use Rattle.gx_file.specs.Reading.{ReadsRefs};
 
 use crate::FileFault;
 use crate::lines::read_line;
@@ -25,7 +26,7 @@ pub(crate) fn read_refs<'a, N: Namer, A: Allocator + Copy>(
     requires none { repo.now.1.refs ≡ [] }
     ensures namer { repo.new.0 ≡ repo.old.0 }
     ensures records { repo.new.1.records ≡ repo.old.1.records }
-    ensures refs { Reads (λ rest. (repo.new.1.refs, rest.now)) result (next_refs count repo.old.1.records None text.now) }
+    ensures refs { ReadsRefs repo.old.1 repo.new.1 count text.now result }
 {
     let mut changes = Vec::new(alloc);
     let gathered = gather(&mut changes, count, text);

@@ -1,12 +1,12 @@
 //! Sending a store text to a sink. Source: this project's own format.
-ghost use Rattle.std.specs.Prelude.{◌≡◌, ◌<◌, ◌^◌, [], ◌∷◌, ◌++◌, Ok, codes, length, IfOk};
-ghost use Rattle.std.specs.List.{flat_map};
+ghost use Rattle.std.specs.Prelude.{◌<◌, ◌^◌, length, IfOk};
 ghost use Rattle.std.specs.Fmt.{decimal};
 ghost use Rattle.gx_model.specs.Objects.{line};
 ghost use Rattle.gx_model.specs.declared.store_versions.Version.TheVariants.{Two};
-ghost use Rattle.gx_model.specs.Stores.StoreReading.{store_of};
-ghost use Rattle.gx_model.specs.Stores.StoreText.{length_text, store_text, stored_record, stored_ref};
+ghost use Rattle.gx_model.specs.Stores.StoreText.{store_text};
+ghost use Rattle.gx_file.specs.Reading.{IsReadAs};
 ghost use Rattle.gx_file.specs.Sending.{HaveLengths, Sent};
+ghost use Rattle.gx_file.specs.Writing.{SendsBody, SendsParts, SendsRecord, SendsRecords, SendsRefs, ref_called};
 
 use gx_object::{Kind, Name, Namer};
 use gx_repo::Repo;
@@ -23,7 +23,7 @@ pub fn write_to<N: Namer, A: Allocator + Copy, W: Sink>(
     sink: &mut W,
 ) -> Result<(), Failed>
     ensures text { Sent (store_text Two repo.now.1) (W.taken sink.old) (W.taken sink.new) result }
-    ensures read { IfOk result (λ _. store_of (N.name_of repo.now.0) (store_text Two repo.now.1) ≡ Ok repo.now.1) }
+    ensures read { IfOk result (λ _. IsReadAs N.name_of (store_text Two repo.now.1) repo.now) }
 {
     repo.sound();
     send_text(sink, b"gxstore 2\n")?;
@@ -37,7 +37,7 @@ fn send_records<N: Namer, A: Allocator + Copy, W: Sink>(
     repo: &Repo<N, A>,
     sink: &mut W,
 ) -> Result<(), Failed>
-    ensures text { Sent (line (codes "objects") (decimal (length repo.now.1.records)) ++ flat_map (stored_record Two) repo.now.1.records) (W.taken sink.old) (W.taken sink.new) result }
+    ensures text { SendsRecords W.taken repo.now.1 sink.old sink.new result }
     ensures count { length repo.now.1.records < 2 ^ 64 }
     ensures lengths { IfOk result (λ _. HaveLengths repo.now.1.records) }
 {
@@ -55,7 +55,7 @@ fn send_records<N: Namer, A: Allocator + Copy, W: Sink>(
 
 /// Sends a record.
 fn send_record<W: Sink>(sink: &mut W, name: &Name, kind: Kind, body: &[u8]) -> Result<(), Failed>
-    ensures text { Sent (stored_record Two (record { name = name.now.bytes; kind = kind; body = body.now })) (W.taken sink.old) (W.taken sink.new) result }
+    ensures text { SendsRecord W.taken name.now kind body.now sink.old sink.new result }
     ensures length { length body.now < 2 ^ 64 }
 {
     send_body(sink, kind.word().as_bytes(), name, body)
@@ -63,7 +63,7 @@ fn send_record<W: Sink>(sink: &mut W, name: &Name, kind: Kind, body: &[u8]) -> R
 
 /// Sends a body behind its line, which begins with this word.
 fn send_body<W: Sink>(sink: &mut W, word: &[u8], name: &Name, body: &[u8]) -> Result<(), Failed>
-    ensures text { Sent (line word.now (length_text Two (length body.now) name.now.bytes) ++ body.now ++ 10 ∷ []) (W.taken sink.old) (W.taken sink.new) result }
+    ensures text { SendsBody W.taken word.now name.now body.now sink.old sink.new result }
     ensures length { length body.now < 2 ^ 64 }
 {
     let mut length = Buffer::new();
@@ -88,7 +88,7 @@ fn send_refs<N: Namer, A: Allocator + Copy, W: Sink>(
     repo: &Repo<N, A>,
     sink: &mut W,
 ) -> Result<(), Failed>
-    ensures text { Sent (line (codes "refs") (decimal (length repo.now.1.refs)) ++ flat_map stored_ref repo.now.1.refs) (W.taken sink.old) (W.taken sink.new) result }
+    ensures text { SendsRefs W.taken repo.now.1 sink.old sink.new result }
     ensures count { length repo.now.1.refs < 2 ^ 64 }
 {
     send_count(sink, b"refs", repo.refs().count())?;
@@ -100,7 +100,7 @@ fn send_refs<N: Namer, A: Allocator + Copy, W: Sink>(
 
 /// Sends a ref's line.
 fn send_ref<W: Sink>(sink: &mut W, name: &[u8], object: &Name) -> Result<(), Failed>
-    ensures { Sent (stored_ref (name.now, object.now.bytes)) (W.taken sink.old) (W.taken sink.new) result }
+    ensures { Sent (ref_called name.now object.now) (W.taken sink.old) (W.taken sink.new) result }
 {
     let digits = object.hex();
     send_all(sink, &[digits.as_slice(), b" ", name, b"\n"])
@@ -116,7 +116,7 @@ fn send_count<W: Sink>(sink: &mut W, word: &[u8], count: usize) -> Result<(), Fa
 
 /// Sends these texts, one after the other.
 fn send_all<W: Sink>(sink: &mut W, parts: &[&[u8]]) -> Result<(), Failed>
-    ensures { Sent (flat_map (λ part. part.now) parts.now) (W.taken sink.old) (W.taken sink.new) result }
+    ensures { SendsParts W.taken parts.now sink.old sink.new result }
 {
     for part in parts {
         send_text(sink, part)?;

@@ -1,11 +1,11 @@
 //! Writing a store text. Source: this project's own format.
-ghost use Rattle.std.specs.Prelude.{◌≡◌, [], ◌∷◌, ◌++◌, Ok, codes, length, IfOk, OnOk};
-ghost use Rattle.std.specs.List.{flat_map};
+ghost use Rattle.std.specs.Prelude.{◌≡◌, ◌∷◌, ◌++◌, IfOk, OnOk};
 ghost use Rattle.std.specs.Fmt.{decimal};
 ghost use Rattle.gx_model.specs.Objects.{line};
 ghost use Rattle.gx_model.specs.declared.store_versions.Version.TheVariants.{Two};
-ghost use Rattle.gx_model.specs.Stores.StoreReading.{store_of};
-ghost use Rattle.gx_model.specs.Stores.StoreText.{store_text, stored_record, stored_ref};
+ghost use Rattle.gx_model.specs.Stores.StoreText.{store_text};
+ghost use Rattle.gx_file.specs.Reading.{IsReadAs};
+ghost use Rattle.gx_file.specs.Writing.{record_called, ref_called, with_all_records, with_all_refs};
 
 use gx_model::store_laws::stores_are_read;
 use gx_object::{Kind, Name, Namer};
@@ -21,7 +21,7 @@ pub fn write<N: Namer, A: Allocator + Copy>(
     repo: &Repo<N, A>,
 ) -> Result<Vec<u8, A>, AllocError>
     ensures text { IfOk result (λ text. text.items ≡ store_text Two repo.now.1) }
-    ensures read { IfOk result (λ text. store_of (N.name_of repo.now.0) text.items ≡ Ok repo.now.1) }
+    ensures read { IfOk result (λ text. IsReadAs N.name_of text.items repo.now) }
 {
     stores_are_read();
     repo.sound();
@@ -38,7 +38,7 @@ fn put_records<N: Namer, A: Allocator + Copy>(
     text: &mut Vec<u8, A>,
     repo: &Repo<N, A>,
 ) -> Result<(), AllocError>
-    ensures { OnOk result (text.new.items ≡ text.old.items ++ line (codes "objects") (decimal (length repo.now.1.records)) ++ flat_map (stored_record Two) repo.now.1.records) }
+    ensures { OnOk result (text.new.items ≡ with_all_records text.old.items repo.now.1) }
 {
     let store = repo.store();
     let count = store.len();
@@ -59,7 +59,7 @@ fn put_record<A: Allocator + Copy>(
     kind: Kind,
     body: &[u8],
 ) -> Result<(), AllocError>
-    ensures { OnOk result (text.new.items ≡ text.old.items ++ stored_record Two (record { name = name.now.bytes; kind = kind; body = body.now })) }
+    ensures { OnOk result (text.new.items ≡ text.old.items ++ record_called name.now kind body.now) }
 {
     put_number(text, kind.word().as_bytes(), body.len())?;
     text.push(b' ')?;
@@ -75,7 +75,7 @@ fn put_refs<N: Namer, A: Allocator + Copy>(
     text: &mut Vec<u8, A>,
     repo: &Repo<N, A>,
 ) -> Result<(), AllocError>
-    ensures { OnOk result (text.new.items ≡ text.old.items ++ line (codes "refs") (decimal (length repo.now.1.refs)) ++ flat_map stored_ref repo.now.1.refs) }
+    ensures { OnOk result (text.new.items ≡ with_all_refs text.old.items repo.now.1) }
 {
     put_count(text, b"refs", repo.refs().count())?;
     for (name, object) in repo.refs() {
@@ -90,7 +90,7 @@ fn put_ref<A: Allocator + Copy>(
     name: &[u8],
     object: &Name,
 ) -> Result<(), AllocError>
-    ensures { OnOk result (text.new.items ≡ text.old.items ++ stored_ref (name.now, object.now.bytes)) }
+    ensures { OnOk result (text.new.items ≡ text.old.items ++ ref_called name.now object.now) }
 {
     text.extend_from_slice(object.hex().as_slice())?;
     text.push(b' ')?;

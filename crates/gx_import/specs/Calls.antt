@@ -24,7 +24,7 @@ use Rattle.gx_model.specs.Laws.RepositoryLaws.{values_of}
 use Rattle.gx_model.specs.Replay as replay
 use Rattle.gx_model.specs.Replay.{State, added, all_changed, all_committed, changed, content, first_parent, own_commit, starting_files, step, step_reset, text_made, with_first_parent}
 use Rattle.gx_text.specs.Devices.{Taken}
-use Rattle.gx_command.specs.Views.{commit_parts, shown_change, shown_command, shown_commit_ish, shown_data, shown_modify, tag_parts}
+use Rattle.gx_command.specs.Views.{commit_parts, shown_change, shown_command, shown_commit, shown_commit_ish, shown_data, shown_modify, tag_parts}
 use Rattle.gx_command.specs.declared.commands.Change.{Change}
 use Rattle.gx_command.specs.declared.commands.Command.{Command as GivenCommand}
 use Rattle.gx_command.specs.declared.commands.Commit.{Commit as CommitCommand}
@@ -224,6 +224,10 @@ module _ {N : Type 0} (names : N → Kind → Bytes → Bytes) {A : Type 0} wher
       AddsAs (Clash (names old.0) (values_of old.1) (values_added (names old.0) s command)) (λ t _. Follows (names old.0) new.1 now s t) answer
       (step (names old.0) s command))
 
+  -- the same of a commit as it was read
+  abbrev pub MakesCommit : {X : Type 0} → Repository N → Repository N → Tables A → Tables A → CommitCommand A → Result X Fault → Type 0
+  MakesCommit old new was now command = Makes old new was now (shown_commit command)
+
   -- a branch that is set
   abbrev pub Resets : {X : Type 0} → Repository N → Tables A → Tables A → Reset A → Result X Fault → Type 0
   Resets repository was now reset answer =
@@ -231,10 +235,11 @@ module _ {N : Type 0} (names : N → Kind → Bytes → Bytes) {A : Type 0} wher
       GivesAs (λ t _. Follows (names repository.0) repository.1 now s t) answer
       (step_reset (names repository.0) s reset.branch.bytes.items (option_map shown_commit_ish reset.from)))
 
-  -- any command
-  abbrev pub AppliesInEach : Repository N → Repository N → Tables A → Tables A → GivenCommand A → Option Taken → Option Taken → Result (Unit {0}) Fault → Type 0
-  AppliesInEach old new was now command taken takes answer =
-      InEach old was (λ s. Applies (names old.0) old.1 new.1 now s (shown_command command) taken takes answer)
+module _ {N W : Type 0} (names : N → Kind → Bytes → Bytes) (taken : W → Option Taken) {A : Type 0} where
+  -- any command, and what a sink takes of it
+  abbrev pub AppliesInEach : Repository N → Repository N → Tables A → Tables A → GivenCommand A → W → W → Result (Unit {0}) Fault → Type 0
+  AppliesInEach old new was now command before after answer =
+      InEach names old was (λ s. Applies (names old.0) old.1 new.1 now s (shown_command command) (taken before) (taken after) answer)
 
 -- what a feature asks for
 abbrev pub AsksFor : {A : Type 0} → Tables A → Tables A → Feature → Type 0

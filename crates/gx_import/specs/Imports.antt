@@ -113,11 +113,11 @@ module _ (name : Kind → Bytes → Bytes) where
   StandsForReplay old new None = (commands : Commands) × AreRead commands × StandsForIts (replayed_on old commands) new
   StandsForReplay old new (Some coming) = StandsForIts (imported name (history_of old) (heard coming).bytes (heard coming).fails) new
 
-module _ {N : Type 0} (names : N → Kind → Bytes → Bytes) where
-  -- what an import does to a repository and a sink, and what it answers
-  abbrev pub ImportsStream : Repository N → Repository N → Option Coming → Option Taken → Option Taken → Result Report ImportFault → Type 0
-  ImportsStream old new = Imports (names old.0) old.1 new.1
+-- the new repository stands for the history of that replay
+abbrev pub StandsReplayed : {N : Type 0} → (N → Kind → Bytes → Bytes) → Repository N → Repository N → Option Coming → Type 0
+StandsReplayed names old new = StandsForReplay (names old.0) old.1 new.1
 
-  -- the new repository stands for the history of that replay
-  abbrev pub StandsReplayed : Repository N → Repository N → Option Coming → Type 0
-  StandsReplayed old new = StandsForReplay (names old.0) old.1 new.1
+module _ {N W : Type 0} (names : N → Kind → Bytes → Bytes) (taken : W → Option Taken) where
+  -- what an import does to a repository and a sink, and what it answers
+  abbrev pub ImportsStream : Repository N → Repository N → Option Coming → W → W → Result Report ImportFault → Type 0
+  ImportsStream old new coming was now = Imports (names old.0) old.1 new.1 coming (taken was) (taken now)

@@ -105,6 +105,10 @@ module _ {N : Type 0} (names : N → Kind → Bytes → Bytes) {A : Type 0} wher
   abbrev pub EntersInEach : {X E : Type 0} → Repository N → Tables A → Table Name A → Table Name A → Result X E → Type 0
   EntersInEach repository tables old new answer = OnOk answer (EntersAll (names repository.0) repository.1 tables (rows_of old) (rows_of new))
 
-  -- the same of a repository with its namer, and of a command as it was read
+  -- the same of the published names that an import holds of its checkpoints
+  abbrev pub EntersEach : {X E : Type 0} → Repository N → Tables A → Checkpoints A → Checkpoints A → Result X E → Type 0
+  EntersEach repository tables was now answer = EntersInEach repository tables was.refs now.refs answer
+
+  -- what is kept after a command as it was read, from each state
   abbrev pub KeepsInEach : Repository N → Repository N → Tables A → Checkpoints A → Checkpoints A → GivenCommand A → Result (Unit {0}) Fault → Type 0
   KeepsInEach old new tables was now command = KeepsFromEach (names old.0) old.1 new.1 tables was now (shown_command command)

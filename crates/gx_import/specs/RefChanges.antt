@@ -9,7 +9,7 @@ use Rattle.gx_model.specs.Texts.{Bytes, same_bytes}
 use Rattle.gx_model.specs.Histories.{Records}
 use Rattle.gx_model.specs.Records.Sound.{IsTarget}
 use Rattle.gx_object.specs.declared.name.Name.{Name}
-use Rattle.gx_model.specs.Records.Publishing.{Change, Ref}
+use Rattle.gx_model.specs.Records.Publishing.{Change, Ref, with_changes}
 use Rattle.gx_repo.specs.Refs.{asked}
 use Rattle.gx_repo.specs.declared.publishing.RefChange.{RefChange}
 use Rattle.gx_import.specs.Rows.{rows_of}
@@ -59,6 +59,10 @@ IsHeldByRef repository object = (ref_name : Bytes) × IsTarget repository.record
 -- the branches with a commit and the tags whose refs are not among these rows
 abbrev pub new_of : {A : Type 0} → List (Bytes × Name) → Tables A → List Change
 new_of rows tables = filter (is_new rows) (changes_of tables)
+
+-- these changes set their refs, and the others stay
+abbrev pub ChangesRefs : Records → Records → List RefChange → Type 0
+ChangesRefs old new changes = new.refs ≡ with_changes old.refs (map asked changes)
 
 module _ {A : Type 0} where
   -- changes that are given ask for these

@@ -65,13 +65,13 @@ abbrev pub left_by : {A X E : Type 0} → Result X E → Checkpoints A → Recor
 left_by (Ok _) checkpoints new = new
 left_by (Err _) checkpoints new = left_of checkpoints new
 
-module _ {N : Type 0} (names : N → Kind → Bytes → Bytes) {A : Type 0} where
+module _ {N W : Type 0} (names : N → Kind → Bytes → Bytes) (taken : W → Option Taken) {A : Type 0} where
   -- all commands are replayed, and the repository and the tables stand for the last state; or the import is refused, or interrupted
-  abbrev pub ReplaysTo : Repository N → Repository N → Tables A → Checkpoints A → Option Coming → Option Taken → Option Taken → Result ℕ ImportFault → Type 0
+  abbrev pub ReplaysTo : Repository N → Repository N → Tables A → Checkpoints A → Option Coming → W → W → Result ℕ ImportFault → Type 0
   ReplaysTo old new tables checkpoints coming was now (Ok n) =
-      (s : State) × Stands (names old.0) new.1 tables s × Keeps new.1 checkpoints s × EndsAs (names old.0) old.1 coming n s was now
-  ReplaysTo old new tables checkpoints coming was now (Err fault) = Imports (names old.0) old.1 (left_of checkpoints new.1) coming was now (Err fault)
+      (s : State) × Stands (names old.0) new.1 tables s × Keeps new.1 checkpoints s × EndsAs (names old.0) old.1 coming n s (taken was) (taken now)
+  ReplaysTo old new tables checkpoints coming was now (Err fault) = Imports (names old.0) old.1 (left_of checkpoints new.1) coming (taken was) (taken now) (Err fault)
 
   -- an import of a stream, which leaves after a fault what the checkpoints kept
-  abbrev pub LeavesImport : Repository N → Repository N → Checkpoints A → Option Coming → Option Taken → Option Taken → Result Report ImportFault → Type 0
-  LeavesImport old new checkpoints coming was now answer = Imports (names old.0) old.1 (left_by answer checkpoints new.1) coming was now answer
+  abbrev pub LeavesImport : Repository N → Repository N → Checkpoints A → Option Coming → W → W → Result Report ImportFault → Type 0
+  LeavesImport old new checkpoints coming was now answer = Imports (names old.0) old.1 (left_by answer checkpoints new.1) coming (taken was) (taken now) answer

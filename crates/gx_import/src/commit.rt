@@ -6,12 +6,11 @@ ghost use Rattle.gx_model.specs.declared.objects.Kind.TheVariants as kinds;
 ghost use Rattle.gx_model.specs.Records.Sound.{Holds, IsNamedMap};
 ghost use Rattle.gx_text.specs.Idents.{ident_bytes};
 ghost use Rattle.gx_object.specs.Parts.{commit_parts as shown_parts};
-ghost use Rattle.gx_command.specs.Views.{shown_commit};
 ghost use Rattle.gx_tree.specs.Named.{IsAtHome};
 ghost use Rattle.gx_import.specs.Objects.{AreHeldCommits, commit_object};
 ghost use Rattle.gx_import.specs.Rows.{IsSorted};
 ghost use Rattle.gx_import.specs.Standing.{Extends, HasTipsAtHome, StandsForSome};
-ghost use Rattle.gx_import.specs.Calls.{AddsCommit, AddsCommitAlone, IsOwnCommit, Makes, NamesFirstParent, NamesParents};
+ghost use Rattle.gx_import.specs.Calls.{AddsCommit, AddsCommitAlone, IsOwnCommit, MakesCommit, NamesFirstParent, NamesParents};
 
 use crate::ImportKind;
 use crate::branches::Tip;
@@ -41,7 +40,7 @@ pub(crate) fn apply_commit<N: Namer, A: Allocator + Copy>(
     ensures namer { repo.new.0 ≡ repo.old.0 }
     ensures refs { repo.new.1.refs ≡ repo.old.1.refs }
     ensures extends { Extends repo.old.1.records repo.new.1.records }
-    ensures steps { Makes N.name_of repo.old repo.new tables.old tables.new (shown_commit commit) result }
+    ensures steps { MakesCommit N.name_of repo.old repo.new tables.old tables.new commit result }
 {
     repo.sound();
     records_keep_home();

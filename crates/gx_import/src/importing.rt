@@ -47,7 +47,7 @@ pub fn import<N: Namer, A: Allocator + Copy, R: Source + Drop, W: Sink>(
     sink: &mut W,
 ) -> Result<Report, ImportFault>
     ensures namer { repo.new.0 ≡ repo.old.0 }
-    ensures replayed { ImportsStream N.name_of repo.old repo.new (R.coming source) (W.taken sink.old) (W.taken sink.new) result }
+    ensures replayed { ImportsStream N.name_of W.taken repo.old repo.new (R.coming source) sink.old sink.new result }
     ensures stands { OnOk result (StandsReplayed N.name_of repo.old repo.new (R.coming source)) }
     ensures extends { Extends repo.old.1.records repo.new.1.records }
     ensures sound { IsSound (N.name_of repo.old.0) repo.new.1 }
@@ -95,7 +95,7 @@ fn replay_and_publish<N: Namer, A: Allocator + Copy, R: Source + Drop, W: Sink>(
     requires none { AreNone repo.now.1 checkpoints.now }
     ensures namer { repo.new.0 ≡ repo.old.0 }
     ensures extends { Extends repo.old.1.records repo.new.1.records }
-    ensures replayed { LeavesImport N.name_of repo.old repo.new checkpoints.new (R.coming source) (W.taken sink.old) (W.taken sink.new) result }
+    ensures replayed { LeavesImport N.name_of W.taken repo.old repo.new checkpoints.new (R.coming source) sink.old sink.new result }
     ensures left { OnErr result (IsLeft repo.old.1 repo.new.1 checkpoints.new) }
     ensures counted { IfErr result (λ fault. fault.checkpoints ≡ checkpoints.new.count) }
     ensures gitlinks { KeepsNoNullGitlink repo.old.1 (left_by result checkpoints.new repo.new.1) }

@@ -2,12 +2,12 @@
 
 ghost use Rattle.std.specs.Prelude.{◌≡◌, [], ◌∷◌, map, is_some, Some, None, IfErr, IfSome, OnOk, OnErr};
 ghost use Rattle.std.specs.Option.{option_map};
-ghost use Rattle.gx_model.specs.Records.Publishing.{changes_fault, with_changes};
+ghost use Rattle.gx_model.specs.Records.Publishing.{changes_fault};
 ghost use Rattle.gx_repo.specs.Refs.{asked};
 ghost use Rattle.gx_import.specs.Calls.{IsCommitIfAny, TellsForward, TellsMovable};
 ghost use Rattle.gx_import.specs.Keeping.{AreMoved, EntersInEach, EntersNames, HasAll};
 ghost use Rattle.gx_import.specs.Publishing.{PublishesInEach, TellsFastForward};
-ghost use Rattle.gx_import.specs.RefChanges.{Appends, AppendsBranch, AppendsBranches, GivesMoved, IsHeldByRef, changes_of, is_at, tag_changes};
+ghost use Rattle.gx_import.specs.RefChanges.{Appends, AppendsBranch, AppendsBranches, ChangesRefs, GivesMoved, IsHeldByRef, changes_of, is_at, tag_changes};
 ghost use Rattle.gx_import.specs.Rows.{IsSorted, rows_of};
 ghost use Rattle.gx_import.specs.Standing.{StandsForSome};
 ghost use Rattle.gx_model.specs.declared.faults.Fault.TheVariants.{OutOfMemory};
@@ -176,7 +176,7 @@ fn publish_all<N: Namer, A: Allocator + Copy>(
     requires { changes_fault repo.now.1.records (map asked changes.now) ≡ None }
     ensures namer { repo.new.0 ≡ repo.old.0 }
     ensures records { repo.new.1.records ≡ repo.old.1.records }
-    ensures refs { OnOk result (repo.new.1.refs ≡ with_changes repo.old.1.refs (map asked changes.now)) }
+    ensures refs { OnOk result (ChangesRefs repo.old.1 repo.new.1 changes.now) }
     ensures unchanged { OnErr result (repo.new ≡ repo.old) }
     ensures fault { IfErr result (λ fault. fault ≡ OutOfMemory) }
 {

@@ -3,7 +3,7 @@
 ghost use Rattle.std.specs.Prelude.{◌≡◌, ◌<◌, ◌≤◌, ◌-◌, ◌^◌, length, ◌+◌, IfErr, IfOk, OnErr, OnOk};
 ghost use Rattle.gx_import.specs.Exported.{MakesNoNullGitlink};
 ghost use Rattle.gx_import.specs.Imports.{line_of};
-ghost use Rattle.gx_import.specs.Keeping.{AreNone, AreStill, EntersInEach, HoldsAll, IsLeft, IsNext, KeepsInEach, Moves, left_of};
+ghost use Rattle.gx_import.specs.Keeping.{AreNone, AreStill, EntersEach, HoldsAll, IsLeft, IsNext, KeepsInEach, Moves, left_of};
 ghost use Rattle.gx_import.specs.Replaying.{FallsNext, ReadsNext, ReadsNoNullGitlink, ReplaysTo, Writes};
 ghost use Rattle.gx_import.specs.Publishing.{PublishesInEach};
 ghost use Rattle.gx_import.specs.Rows.{IsSorted};
@@ -38,7 +38,7 @@ pub(crate) fn replay<N: Namer, A: Allocator + Copy, R: Source + Drop, W: Sink>(
     ensures namer { repo.new.0 ≡ repo.old.0 }
     ensures extends { Extends repo.old.1.records repo.new.1.records }
     ensures count { IfOk result (λ commands. commands ≤ 2 ^ 63 - 1) }
-    ensures replayed { ReplaysTo N.name_of repo.old repo.new tables.new checkpoints.new (R.coming source) (W.taken sink.old) (W.taken sink.new) result }
+    ensures replayed { ReplaysTo N.name_of W.taken repo.old repo.new tables.new checkpoints.new (R.coming source) sink.old sink.new result }
     ensures left { IsLeft repo.old.1 repo.new.1 checkpoints.new }
     ensures sorted { OnOk result (IsSorted checkpoints.new.refs) }
     ensures has_all { OnOk result (HoldsAll repo.new.1 checkpoints.new) }
@@ -104,7 +104,7 @@ fn apply<N: Namer, A: Allocator + Copy, W: Sink>(
     ensures sorted { OnOk result (IsSorted checkpoints.new.refs) }
     ensures has_all { OnOk result (HoldsAll repo.new.1 checkpoints.new) }
     ensures keeps { KeepsInEach N.name_of repo.old repo.new tables.old checkpoints.old checkpoints.new command result }
-    ensures steps { AppliesInEach N.name_of repo.old repo.new tables.old tables.new command (W.taken sink.old) (W.taken sink.new) result }
+    ensures steps { AppliesInEach N.name_of W.taken repo.old repo.new tables.old tables.new command sink.old sink.new result }
 {
     records_keep_home();
     match command {
@@ -137,7 +137,7 @@ fn apply_checkpoint<N: Namer, A: Allocator + Copy>(
     ensures next { OnOk result (IsNext repo.new.1 checkpoints.old checkpoints.new) }
     ensures still { OnErr result (AreStill repo.old.1 repo.new.1 checkpoints.old checkpoints.new) }
     ensures published { PublishesInEach N.name_of repo.old repo.new tables.now result }
-    ensures entered { EntersInEach N.name_of repo.old tables.now checkpoints.old.refs checkpoints.new.refs result }
+    ensures entered { EntersEach N.name_of repo.old tables.now checkpoints.old checkpoints.new result }
     ensures sorted { OnOk result (IsSorted checkpoints.new.refs) }
     ensures has_all { OnOk result (HoldsAll repo.new.1 checkpoints.new) }
 {

@@ -5,6 +5,7 @@ ghost use Rattle.std.specs.List.{list_all};
 ghost use Rattle.indexmap.specs.IndexMap.{index_map_len, keys};
 ghost use Rattle.gx_model.specs.Objects.{is_name};
 ghost use Rattle.gx_store.specs.Chains.{AreFronts, AreFrontsIn, DropsLast, PutsLast, chain_of, found_in, front};
+ghost use Rattle.gx_store.specs.NameOrder.{is_within};
 ghost use Rattle.gx_store.specs.Prefixes.{found_between, joined};
 
 use crate::Prefix;

@@ -1,0 +1,54 @@
+-- The parts of a store text of version 2, as they are written. Source: this project's own format.
+use Rattle.std.specs.Borrow.{Bor}
+use Rattle.std.specs.Prelude.{[], ◌∷◌, ◌++◌, codes, length, List, Option, Result}
+use Rattle.std.specs.List.{flat_map}
+use Rattle.std.specs.Fmt.{decimal}
+use Rattle.gx_model.specs.declared.objects.Kind.{Kind}
+use Rattle.gx_model.specs.declared.store_versions.Version.TheVariants.{Two}
+use Rattle.gx_model.specs.Histories.{Records}
+use Rattle.gx_model.specs.Objects.{line}
+use Rattle.gx_model.specs.Stores.StoreText.{length_text, stored_record, stored_ref}
+use Rattle.gx_model.specs.Texts.{Bytes}
+use Rattle.gx_object.specs.declared.name.Name.{Name}
+use Rattle.gx_text.specs.Devices.{Taken}
+use Rattle.gx_text.specs.declared.device.Failed.{Failed}
+use Rattle.gx_file.specs.Sending.{Sent}
+
+-- a record of this name
+abbrev pub record_called : Name → Kind → Bytes → Bytes
+record_called name kind body = stored_record Two (record { name = name.bytes; kind = kind; body = body })
+
+-- the line of a ref of this name
+abbrev pub ref_called : Bytes → Name → Bytes
+ref_called name object = stored_ref (name, object.bytes)
+
+-- a text, and behind it the number of the records and the records
+abbrev pub with_all_records : Bytes → Records → Bytes
+with_all_records text repository = text ++ line (codes "objects") (decimal (length repository.records)) ++ flat_map (stored_record Two) repository.records
+
+-- a text, and behind it the number of the refs and the refs
+abbrev pub with_all_refs : Bytes → Records → Bytes
+with_all_refs text repository = text ++ line (codes "refs") (decimal (length repository.refs)) ++ flat_map stored_ref repository.refs
+
+-- a sink by what it took
+module _ {W : Type 0} (taken : W → Option Taken) where
+  -- the number of the records and the records go out
+  abbrev pub SendsRecords : Records → W → W → Result (Unit {0}) Failed → Type 0
+  SendsRecords repository old new result =
+      Sent (line (codes "objects") (decimal (length repository.records)) ++ flat_map (stored_record Two) repository.records) (taken old) (taken new) result
+
+  -- a record of this name goes out
+  abbrev pub SendsRecord : Name → Kind → Bytes → W → W → Result (Unit {0}) Failed → Type 0
+  SendsRecord name kind body old new result = Sent (record_called name kind body) (taken old) (taken new) result
+
+  -- a body goes out behind its line, which begins with this word
+  abbrev pub SendsBody : Bytes → Name → Bytes → W → W → Result (Unit {0}) Failed → Type 0
+  SendsBody word name body old new result = Sent (line word (length_text Two (length body) name.bytes) ++ body ++ 10 ∷ []) (taken old) (taken new) result
+
+  -- the number of the refs and the refs go out
+  abbrev pub SendsRefs : Records → W → W → Result (Unit {0}) Failed → Type 0
+  SendsRefs repository old new result = Sent (line (codes "refs") (decimal (length repository.refs)) ++ flat_map stored_ref repository.refs) (taken old) (taken new) result
+
+  -- texts go out, one after the other
+  abbrev pub SendsParts : List (Bor Bytes) → W → W → Result (Unit {0}) Failed → Type 0
+  SendsParts parts old new result = Sent (flat_map (λ part. part.now) parts) (taken old) (taken new) result

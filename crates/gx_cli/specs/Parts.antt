@@ -31,7 +31,7 @@ use Rattle.gx_rev.specs.Views.{shown_range}
 use Rattle.gx_rev.specs.declared.fault.RevFault.{RevFault}
 use Rattle.gx_rev.specs.declared.range.Range.{Range}
 use Rattle.gx_rev.specs.declared.shown.Shown.{Shown}
-use Rattle.gx_import.specs.Repositories.{Repository}
+use Rattle.gx_repo.specs.Repositories.{Repository}
 use Rattle.gx_cli.specs.Answers.{GivesWords, Prints}
 use Rattle.gx_cli.specs.FileLines.{path_line}
 use Rattle.gx_cli.specs.Listings.{shown_text, text_of_word, tree_lines, value_text}

@@ -36,7 +36,7 @@ use Rattle.gx_command.specs.declared.commands.Tag.{Tag as TagCommand}
 use Rattle.gx_object.specs.declared.name.Name.{Name}
 use Rattle.gx_tree.specs.Named.{NamedTree}
 use Rattle.gx_rev.specs.Objects.{commit_at}
-use Rattle.gx_import.specs.Repositories.{Repository}
+use Rattle.gx_repo.specs.Repositories.{Repository}
 use Rattle.gx_import.specs.Additions.{Clash, added_alone, blob_added, blobs_added, commit_added, content_added, tag_made, values_added}
 use Rattle.gx_import.specs.Answers.{AddsAs, GivesAs}
 use Rattle.gx_import.specs.Applying.{Applies}
@@ -110,8 +110,8 @@ module _ {N : Type 0} (names : N → Kind → Bytes → Bytes) {A : Type 0} wher
   -- ---- what is looked up
 
   -- the object that a commit-ish names
-  abbrev pub NamesObject : Repository N → Tables A → CommitIsh A → Result Object Fault → Type 0
-  NamesObject repository tables named answer =
+  abbrev pub NamesCommitIsh : Repository N → Tables A → CommitIsh A → Result Object Fault → Type 0
+  NamesCommitIsh repository tables named answer =
       InEach repository tables (λ s. GivesAs (IsOf (names repository.0) s.history.values) answer (value_named (names repository.0) s (shown_commit_ish named)))
 
   -- the commit that it names for a branch
@@ -158,8 +158,8 @@ module _ {N : Type 0} (names : N → Kind → Bytes → Bytes) {A : Type 0} wher
   -- ---- what is added
 
   -- a commit with these files and parents, and its trees
-  abbrev pub AddsCommit : Repository N → Repository N → NamedTree → List Name → CommitCommand A → Result Name Fault → Type 0
-  AddsCommit old new tree parents command answer =
+  abbrev pub AddsCommitWithTrees : Repository N → Repository N → NamedTree → List Name → CommitCommand A → Result Name Fault → Type 0
+  AddsCommitWithTrees old new tree parents command answer =
       (tables : Tables A) (s : State) (files : FileMap Bytes) (made : List Commit) → Stands (names old.0) old.1 tables s
       → AreFiles (names old.0) s.history.values files tree.files → AreAll (IsCommitOf (names old.0) s.history.values) made parents
       → AddsAs (Clash (names old.0) (values_of old.1) (commit_added files (commit_of (commit_parts command) files made)))
@@ -176,8 +176,8 @@ module _ {N : Type 0} (names : N → Kind → Bytes → Bytes) {A : Type 0} wher
       answer (Ok (added_alone (commit_value (commit_of (commit_parts command) files made)) s))
 
   -- a tag of this commit
-  abbrev pub AddsTag : Repository N → Repository N → Name → TagCommand A → Result Name Fault → Type 0
-  AddsTag old new object command answer =
+  abbrev pub AddsTagOf : Repository N → Repository N → Name → TagCommand A → Result Name Fault → Type 0
+  AddsTagOf old new object command answer =
       (tables : Tables A) (s : State) (target : Commit) → Stands (names old.0) old.1 tables s → IsCommitOf (names old.0) s.history.values target object
       → AddsAs (Clash (names old.0) (values_of old.1) (tag_value (tag_made target (tag_parts command)) ∷ []))
       (λ t called. Follows (names old.0) new.1 tables s t × (called.bytes ≡ name_of (names old.0) (tag_value (tag_made target (tag_parts command)))))

@@ -15,7 +15,7 @@ use Rattle.gx_stream.specs.Heard.{heard}
 use Rattle.gx_command.specs.CommandFaults as reader
 use Rattle.gx_command.specs.Reading.{commands_from}
 use Rattle.gx_command.specs.declared.fault.CommandFault.{CommandFault}
-use Rattle.gx_import.specs.Repositories.{Repository}
+use Rattle.gx_repo.specs.Repositories.{Repository}
 use Rattle.gx_import.specs.Additions.{ClashesAt}
 use Rattle.gx_import.specs.declared.fault.ImportFault.{ImportFault}
 use Rattle.gx_model.specs.declared.faults.Fault.TheVariants.{NameHeld, OutOfMemory, WriteFailed}

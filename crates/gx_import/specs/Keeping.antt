@@ -12,7 +12,7 @@ use Rattle.gx_model.specs.Records.Sound.{IsTarget}
 use Rattle.gx_object.specs.declared.name.Name.{Name}
 use Rattle.gx_command.specs.Views.{shown_command}
 use Rattle.gx_command.specs.declared.commands.Command.{Command as GivenCommand}
-use Rattle.gx_import.specs.Repositories.{Repository}
+use Rattle.gx_repo.specs.Repositories.{Repository}
 use Rattle.gx_import.specs.Imports.{Leaves}
 use Rattle.gx_import.specs.RefChanges.{moved_of}
 use Rattle.gx_import.specs.Rows.{AreRows, rows_of}

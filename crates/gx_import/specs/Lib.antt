@@ -1,4 +1,3 @@
-pub mod Repositories
 pub mod Answers
 pub mod Objects
 pub mod Marks

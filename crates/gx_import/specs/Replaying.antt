@@ -1,6 +1,6 @@
 -- What reading, applying and writing do on the way through a stream, and where the replay of all commands ends.
 -- Source: git-fast-import(1), "Commands".
-use Rattle.std.specs.Prelude.{◌≡◌, ℕ, ◌+◌, List, length, Option, Some, None, Result, Ok, Err, IfOk, IfSome, ⊤}
+use Rattle.std.specs.Prelude.{◌≡◌, ℕ, ◌+◌, List, length, Option, Some, None, Result, Ok, Err, ⊤}
 use Rattle.gx_model.specs.declared.objects.Kind.{Kind}
 use Rattle.gx_model.specs.Texts.{Bytes}
 use Rattle.gx_model.specs.Histories.{Records}
@@ -10,11 +10,9 @@ use Rattle.gx_model.specs.Streams.Commands.{Commands}
 use Rattle.gx_model.specs.Replay.{State, ended, refused, replayed_commands}
 use Rattle.gx_text.specs.Devices.{Coming, FailedWithin, Taken, Took}
 use Rattle.gx_command.specs.Reading.{Falls, Reads, commands_from}
-use Rattle.gx_model.specs.Streams.Gitlinks.{BringsNoNullGitlink}
-use Rattle.gx_command.specs.Views.{shown_command}
 use Rattle.gx_command.specs.declared.commands.Command.{Command}
 use Rattle.gx_command.specs.declared.fault.CommandFault.{CommandFault}
-use Rattle.gx_import.specs.Repositories.{Repository}
+use Rattle.gx_repo.specs.Repositories.{Repository}
 use Rattle.gx_command.specs.CommandFaults.{fault_of as of_command}
 use Rattle.gx_import.specs.Imports.{Imports, cut_off, only}
 use Rattle.gx_import.specs.Keeping.{Keeps, left_of}
@@ -41,10 +39,6 @@ ReadsNext {A} n count old new (Err fault) =
 abbrev pub FallsNext : {A : Type 0} → ℕ → ℕ → Result (Option (Command A)) ImportFault → Type 0
 FallsNext old new (Ok c) = Falls old new (Ok c)
 FallsNext old new (Err fault) = ⊤
-
--- no command that is read names a gitlink of forty zeros
-abbrev pub ReadsNoNullGitlink : {A E : Type 0} → Result (Option (Command A)) E → Type 0
-ReadsNoNullGitlink answer = IfOk answer (λ next. IfSome next (λ command. BringsNoNullGitlink (shown_command command)))
 
 module _ (name : Kind → Bytes → Bytes) where
   -- the last state of the replay of these commands, n in number, and the sink has its progress text

@@ -15,7 +15,7 @@ use Rattle.gx_model.specs.Replay.{State, byte_cmp}
 use Rattle.gx_object.specs.declared.name.Name.{Name}
 use Rattle.gx_tree.specs.Homes.{IfThere}
 use Rattle.gx_tree.specs.Named.{NamedTree, IsAtHome}
-use Rattle.gx_import.specs.Repositories.{Repository}
+use Rattle.gx_repo.specs.Repositories.{Repository}
 use Rattle.gx_import.specs.Marks.{object_at}
 use Rattle.gx_import.specs.Objects.{IsCommitOf, IsOf, IsTagOf}
 use Rattle.gx_import.specs.Rows.{AreBoth, AreRows, rows_of}

@@ -5,7 +5,7 @@ ghost use Rattle.gx_model.specs.Replay.{is_itself};
 ghost use Rattle.gx_command.specs.Views.{shown_commit_ish};
 ghost use Rattle.gx_import.specs.Objects.{branch_object};
 ghost use Rattle.gx_import.specs.Rows.{IsSorted};
-ghost use Rattle.gx_import.specs.Calls.{NamesCommit, NamesObject, ShowsRevision};
+ghost use Rattle.gx_import.specs.Calls.{NamesCommit, NamesCommitIsh, ShowsRevision};
 
 use crate::ImportKind;
 use crate::object::{Object, commit_in};
@@ -23,7 +23,7 @@ pub(crate) fn object_named<N: Namer, A: Allocator + Copy>(
     commit_ish: &CommitIsh<A>,
 ) -> Result<Object, ImportKind>
     requires sorted { IsSorted tables.now.branches }
-    ensures { NamesObject N.name_of repo.now tables.now commit_ish.now result }
+    ensures { NamesCommitIsh N.name_of repo.now tables.now commit_ish.now result }
 {
     match commit_ish {
         CommitIsh::Mark(number) => tables.marks.object(*number),

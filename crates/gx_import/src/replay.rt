@@ -4,7 +4,8 @@ ghost use Rattle.std.specs.Prelude.{◌≡◌, ◌<◌, ◌≤◌, ◌-◌, ◌^
 ghost use Rattle.gx_import.specs.Exported.{MakesNoNullGitlink};
 ghost use Rattle.gx_import.specs.Imports.{line_of};
 ghost use Rattle.gx_import.specs.Keeping.{AreNone, AreStill, EntersEach, HoldsAll, IsLeft, IsNext, KeepsInEach, Moves, left_of};
-ghost use Rattle.gx_import.specs.Replaying.{FallsNext, ReadsNext, ReadsNoNullGitlink, ReplaysTo, Writes};
+ghost use Rattle.gx_command.specs.Reading.{ReadsNoNullGitlink};
+ghost use Rattle.gx_import.specs.Replaying.{FallsNext, ReadsNext, ReplaysTo, Writes};
 ghost use Rattle.gx_import.specs.Publishing.{PublishesInEach};
 ghost use Rattle.gx_import.specs.Rows.{IsSorted};
 ghost use Rattle.gx_import.specs.Standing.{AreEmpty, Extends, HasTipsAtHome, StandsForSome};

@@ -8,7 +8,7 @@ ghost use Rattle.gx_object.specs.Parts.{tag_parts as shown_parts};
 ghost use Rattle.gx_command.specs.Views.{shown_tag};
 ghost use Rattle.gx_import.specs.Objects.{tag_object};
 ghost use Rattle.gx_import.specs.Standing.{Extends, StandsForSome};
-ghost use Rattle.gx_import.specs.Calls.{AddsTag, Makes};
+ghost use Rattle.gx_import.specs.Calls.{AddsTagOf, Makes};
 
 use crate::ImportKind;
 use crate::commit::ident;
@@ -54,7 +54,7 @@ fn add<N: Namer, A: Allocator + Copy>(
     ensures namer { repo.new.0 ≡ repo.old.0 }
     ensures refs { repo.new.1.refs ≡ repo.old.1.refs }
     ensures extends { Extends repo.old.1.records repo.new.1.records }
-    ensures steps { AddsTag N.name_of repo.old repo.new object tag.now result }
+    ensures steps { AddsTagOf N.name_of repo.old repo.new object tag.now result }
 {
     repo.sound();
     puts_add_values();

@@ -12,6 +12,7 @@ pub mod Sending
 pub mod Answers
 pub mod Gathering
 pub mod Placing
+pub mod Opening
 pub mod Serving
 pub mod Again
 pub mod Parts

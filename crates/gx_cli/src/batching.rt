@@ -1,9 +1,11 @@
 //! Many revisions of one store. Source: git-cat-file(1), "BATCH OUTPUT".
 
 ghost use Rattle.std.specs.Prelude.{◌≡◌};
+ghost use Rattle.gx_cli.specs.Opening.{bytes_of};
 ghost use Rattle.gx_cli.specs.Serving.{AnswersLines};
 
 use crate::CliFault;
+use crate::opening::{StoreBytes, open};
 use crate::serving::{Outcome, outcome_of, refused};
 use gx_batch::batch;
 use gx_object::Namer;
@@ -11,21 +13,21 @@ use gx_text::{Sink, Source};
 use std::alloc::Allocator;
 use std::hash::RandomState;
 
-/// Answers each line of a source as a revision of the store of a text, which is read first.
+/// Answers each line of a source as a revision of the store of these bytes, which are read first.
 ///
-/// Cost: that of reading the store's text, and that of `gx_batch::batch`.
+/// Cost: that of reading the store's bytes, and that of `gx_batch::batch`.
 pub(crate) fn batch_stored<N: Namer + Drop, R: Source + Drop, W: Sink, A: Allocator + Copy>(
     alloc: A,
     namer: N,
     check: bool,
-    store: &[u8],
+    store: StoreBytes<'_, A>,
     source: R,
     sink: &mut W,
     state: RandomState,
 ) -> Outcome<A>
-    ensures { AnswersLines (N.name_of namer) check store.now (R.coming source) (W.taken sink.old) (W.taken sink.new) result }
+    ensures { AnswersLines (N.name_of namer) check (bytes_of store.entry) (R.coming source) (W.taken sink.old) (W.taken sink.new) result }
 {
-    let repo = match gx_file::read(alloc, namer, store, state) {
+    let repo = match open(alloc, namer, store, state) {
         Ok(repo) => repo,
         Err(fault) => return refused(CliFault::Store(fault)),
     };

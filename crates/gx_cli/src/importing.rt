@@ -2,10 +2,12 @@
 
 ghost use Rattle.gx_import.specs.Exported.{nothing};
 ghost use Rattle.gx_cli.specs.Again.{ImportsIntoAgain};
+ghost use Rattle.gx_cli.specs.Opening.{bytes_of};
 ghost use Rattle.gx_cli.specs.Serving.{ImportsInto, IsLeft, IsWritten};
 ghost use Rattle.gx_cli.specs.declared.fault.CliFault.TheVariants.{Import};
 
 use crate::CliFault;
+use crate::opening::{StoreBytes, open};
 use crate::serving::{Outcome, refused};
 use gx_import::{ImportFault, Report, import};
 use gx_object::Namer;
@@ -43,7 +45,23 @@ pub fn import_into<N: Namer + Drop, R: Source + Drop, W: Sink, A: Allocator + Co
     ensures imported { ImportsInto (N.name_of namer) store.now (R.coming source) (W.taken sink.old) (W.taken sink.new) result }
     ensures again { ImportsIntoAgain (N.name_of namer) store.now (R.coming source) result.0 }
 {
-    let mut repo = match gx_file::read(alloc, namer, store, state) {
+    let store = StoreBytes::Borrowed(store);
+    import_stored(alloc, namer, store, source, sink, state)
+}
+
+/// Does what [`import_into`] does, with bytes that are borrowed or owned.
+pub(crate) fn import_stored<N: Namer + Drop, R: Source + Drop, W: Sink, A: Allocator + Copy>(
+    alloc: A,
+    namer: N,
+    store: StoreBytes<'_, A>,
+    source: R,
+    sink: &mut W,
+    state: RandomState,
+) -> (Outcome<A>, Option<Report>)
+    ensures imported { ImportsInto (N.name_of namer) (bytes_of store.entry) (R.coming source) (W.taken sink.old) (W.taken sink.new) result }
+    ensures again { ImportsIntoAgain (N.name_of namer) (bytes_of store.entry) (R.coming source) result.0 }
+{
+    let mut repo = match open(alloc, namer, store, state) {
         Ok(repo) => repo,
         Err(fault) => return (refused(CliFault::Store(fault)), None),
     };

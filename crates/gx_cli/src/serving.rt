@@ -1,16 +1,18 @@
 //! What a command does with the store's bytes, its input and its output.
 
 ghost use Rattle.gx_cli.specs.Again.{ServesExported};
+ghost use Rattle.gx_cli.specs.Opening.{bytes_of};
 ghost use Rattle.gx_cli.specs.Parts.{AnswersBlobs, PrintsOfStore};
 ghost use Rattle.gx_cli.specs.Serving.{IsOutcome, IsRefused, Serves};
 
 use crate::adapting::adapt_stream;
 use crate::batching::batch_stored;
 use crate::exporting::export_stored;
-use crate::importing::{import_into, init};
+use crate::importing::{import_stored, init};
 use crate::log::log;
 use crate::ls::list;
 use crate::names::print_names;
+use crate::opening::{StoreBytes, open};
 use crate::placing::print_place;
 use crate::refs::print_refs;
 use crate::showing::show_stored;
@@ -52,6 +54,44 @@ pub fn serve<N: Namer + Drop, R: Source + Drop, W: Sink, A: Allocator + Copy>(
     ensures served { Serves (N.name_of namer) line.now store.now (R.coming source) (W.taken sink.old) (W.taken sink.new) result }
     ensures again { ServesExported (N.name_of namer) line.now store.now (R.coming source) result }
 {
+    let store = StoreBytes::Borrowed(store);
+    serve_bytes(alloc, namer, line, store, source, sink, state)
+}
+
+/// Does what [`serve`] does, with a store's text that it is given: what is read of it shares it, and no body is copied.
+///
+/// The text is let go with the command, however that ends. Where there is no next text, the store's own stays as it was.
+///
+/// Cost: that of `serve`. Memory: the text, which stands in place of copies of its bodies.
+pub fn serve_owned<N: Namer + Drop, R: Source + Drop, W: Sink, A: Allocator + Copy>(
+    alloc: A,
+    namer: N,
+    line: &Line<'_>,
+    store: Vec<u8, A>,
+    source: R,
+    sink: &mut W,
+    state: RandomState,
+) -> Outcome<A>
+    ensures served { Serves (N.name_of namer) line.now store.items (R.coming source) (W.taken sink.old) (W.taken sink.new) result }
+    ensures again { ServesExported (N.name_of namer) line.now store.items (R.coming source) result }
+{
+    let store = StoreBytes::Owned(store);
+    serve_bytes(alloc, namer, line, store, source, sink, state)
+}
+
+/// Does what [`serve`] does, with bytes that are borrowed or owned.
+fn serve_bytes<N: Namer + Drop, R: Source + Drop, W: Sink, A: Allocator + Copy>(
+    alloc: A,
+    namer: N,
+    line: &Line<'_>,
+    store: StoreBytes<'_, A>,
+    source: R,
+    sink: &mut W,
+    state: RandomState,
+) -> Outcome<A>
+    ensures served { Serves (N.name_of namer) line.now (bytes_of store.entry) (R.coming source) (W.taken sink.old) (W.taken sink.new) result }
+    ensures again { ServesExported (N.name_of namer) line.now (bytes_of store.entry) (R.coming source) result }
+{
     match line {
         Line::Blobs => outcome_of(blobs_alone(alloc, namer, source, sink, state)),
         Line::Try(revision) => outcome_of(try_revision(
@@ -66,7 +106,7 @@ pub fn serve<N: Namer + Drop, R: Source + Drop, W: Sink, A: Allocator + Copy>(
         Line::Where(command) => outcome_of(print_place(alloc, *command, source, sink)),
         Line::Init { file: _ } => init(alloc, namer, state),
         Line::Import { file: _ } => {
-            let (outcome, _) = import_into(alloc, namer, store, source, sink, state);
+            let (outcome, _) = import_stored(alloc, namer, store, source, sink, state);
             outcome
         }
         Line::Batch { check, file: _ } => {
@@ -82,13 +122,13 @@ fn print_stored<N: Namer + Drop, W: Sink, A: Allocator + Copy>(
     alloc: A,
     namer: N,
     line: &Line<'_>,
-    store: &[u8],
+    store: StoreBytes<'_, A>,
     sink: &mut W,
     state: RandomState,
 ) -> Result<(), CliFault>
-    ensures { PrintsOfStore N.name_of W.taken namer line.now store.now sink.old sink.new result }
+    ensures { PrintsOfStore N.name_of W.taken namer line.now (bytes_of store.entry) sink.old sink.new result }
 {
-    let repo = match gx_file::read(alloc, namer, store, state) {
+    let repo = match open(alloc, namer, store, state) {
         Ok(repo) => repo,
         Err(fault) => return Err(CliFault::Store(fault)),
     };

@@ -9,6 +9,7 @@ ghost use Rattle.gx_cli.specs.Storing.{ImportsStore, ImportsStoreAgain, next_aft
 ghost use Rattle.gx_cli.specs.declared.fault.CliFault.TheVariants.{WriteFailed};
 
 use crate::CliFault;
+use crate::opening::{StoreBytes, open};
 use gx_file::write_to;
 use gx_import::{Report, import};
 use gx_object::Namer;
@@ -20,9 +21,10 @@ use std::hash::RandomState;
 /// Imports a stream into the store of a text, as [`import_into`](crate::import_into) does. In place of the store's next text it
 /// answers the repository whose text that is, where there is one: [`send_store`] sends it. Lines of `progress` go out as they come.
 ///
-/// The store's text is read first, and let go. After a refused import the next text is that of the last checkpoint; where there
-/// was none, there is none.
-/// Cost: that of reading the store's text, and of the import. Memory: the store's text until it is read, and what the import takes.
+/// The store's text is read first, and what is read of it shares it: no body is copied. After a refused import the next text is
+/// that of the last checkpoint; where there was none, there is none.
+/// Cost: that of reading the store's text, and of the import. Memory: the store's text for as long as one of its records is held,
+/// and what the import takes.
 pub fn import_store<N: Namer + Drop, R: Source + Drop, W: Sink, A: Allocator + Copy>(
     alloc: A,
     namer: N,
@@ -34,9 +36,7 @@ pub fn import_store<N: Namer + Drop, R: Source + Drop, W: Sink, A: Allocator + C
     ensures imported { ImportsStore N.name_of namer store.items (R.coming source) (W.taken sink.old) (W.taken sink.new) result }
     ensures again { ImportsStoreAgain N.name_of namer store.items (R.coming source) result }
 {
-    let read = gx_file::read(alloc, namer, &store, state);
-    drop(store);
-    let mut repo = match read {
+    let mut repo = match open(alloc, namer, StoreBytes::Owned(store), state) {
         Ok(repo) => repo,
         Err(fault) => return (None, Err(CliFault::Store(fault))),
     };

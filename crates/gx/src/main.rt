@@ -12,7 +12,7 @@ use fault::RunFault;
 use files::{read_store, want_no_store, want_store};
 use gx_cli::{
     CliFault, ImportReport, Line, LineFault, Outcome, Repo, adapt_stream, import_store, read_line,
-    serve,
+    serve, serve_owned,
 };
 use gx_object::Sha1Namer;
 use gx_text::{FromRead, IntoWrite};
@@ -54,7 +54,7 @@ fn run(rt: &HostRuntime, line: &Line<'_>, state: RandomState) -> Result<(), RunF
     match line {
         Line::Init { file } => return init(rt, line, file, state),
         Line::Import { file } => return import(rt, file, state),
-        Line::Blobs | Line::Where(_) => refusal(&stream(rt, line, b"", state))?,
+        Line::Blobs | Line::Where(_) => refusal(&stream(rt, line, state))?,
         Line::Try(_) => refusal(&try_stream(rt, line, state))?,
         Line::Adapt => adapt(rt)?,
         Line::Batch { check: _, file } => batch(rt, line, file, state)?,
@@ -93,7 +93,7 @@ fn init_locked(
     state: RandomState,
 ) -> Result<(), RunFault> {
     want_no_store(rt, next.store())?;
-    let outcome = stream(rt, line, b"", state);
+    let outcome = stream(rt, line, state);
     end(rt, next, &outcome)
 }
 
@@ -155,11 +155,11 @@ fn refusal(outcome: &Outcome<Global>) -> Result<(), CliFault> {
     }
 }
 
-/// Serves a command that reads standard input. What it prints goes out as it comes.
-fn stream(rt: &HostRuntime, line: &Line<'_>, store: &[u8], state: RandomState) -> Outcome<Global> {
+/// Serves a command that has no use for a store's text. What it prints goes out as it comes.
+fn stream(rt: &HostRuntime, line: &Line<'_>, state: RandomState) -> Outcome<Global> {
     let source = FromRead::new(rt.stdin());
     let mut sink = IntoWrite::new(rt.stdout());
-    serve(rt.alloc(), Sha1Namer, line, store, source, &mut sink, state)
+    serve(rt.alloc(), Sha1Namer, line, b"", source, &mut sink, state)
 }
 
 /// The same of a try, and shows how far its import is.
@@ -180,7 +180,18 @@ fn batch(
     state: RandomState,
 ) -> Result<(), CliFault> {
     let store = read_store(rt, file)?;
-    refusal(&stream(rt, line, &store, state))
+    let source = FromRead::new(rt.stdin());
+    let mut sink = IntoWrite::new(rt.stdout());
+    let outcome: Outcome<Global> = serve_owned(
+        rt.alloc(),
+        Sha1Namer,
+        line,
+        store,
+        source,
+        &mut sink,
+        state,
+    );
+    refusal(&outcome)
 }
 
 /// Adapts standard input, through a buffer, and tells what was changed.
@@ -208,7 +219,7 @@ fn print(
     state: RandomState,
 ) -> Result<(), CliFault> {
     let store = read_store(rt, file)?;
-    print_to(rt, line, &store, rt.stdout(), state)
+    print_to(rt, line, store, rt.stdout(), state)
 }
 
 /// Exports a store, and shows how much went out.
@@ -220,7 +231,7 @@ fn export(
 ) -> Result<(), CliFault> {
     let store = read_store(rt, file)?;
     let progress = ProgressLine::new(rt);
-    let answer = print_to(rt, line, &store, Metered::output(&progress), state);
+    let answer = print_to(rt, line, store, Metered::output(&progress), state);
     progress.clear();
     answer
 }
@@ -229,7 +240,7 @@ fn export(
 fn print_to<W: Write + Drop>(
     rt: &HostRuntime,
     line: &Line<'_>,
-    store: &[u8],
+    store: Vec<u8>,
     output: W,
     state: RandomState,
 ) -> Result<(), CliFault> {
@@ -239,7 +250,7 @@ fn print_to<W: Write + Drop>(
     let outcome = {
         let source = FromRead::new(rt.stdin());
         let mut sink = IntoWrite::new(&mut out);
-        serve(rt.alloc(), Sha1Namer, line, store, source, &mut sink, state)
+        serve_owned(rt.alloc(), Sha1Namer, line, store, source, &mut sink, state)
     };
     let flushed = out.flush();
     let outcome: Outcome<Global> = outcome;

@@ -14,6 +14,8 @@ mod limits;
 #[cfg(test)]
 mod lines;
 #[cfg(test)]
+mod owned;
+#[cfg(test)]
 mod reports;
 #[cfg(test)]
 mod round_trips;

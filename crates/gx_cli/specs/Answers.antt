@@ -1,7 +1,6 @@
 -- How a command's answer goes with what it has to print.
 use Rattle.std.specs.Prelude.{◌≡◌, ◌++◌, [], Option, Result, Ok, Err, ⊤}
 use Rattle.gx_model.specs.Texts.{Bytes}
-use Rattle.gx_model.specs.Revisions.Ranges.{WordFault}
 use Rattle.gx_text.specs.Devices.{FailedWithin, Taken, Took}
 use Rattle.gx_model.specs.declared.store_faults.FileFault.TheVariants as file_kind
 use Rattle.gx_rev.specs.RevFaults as rev
@@ -38,13 +37,6 @@ Puts text was now (Ok done) = Took was now text
 Puts text was now (Err WriteFailed) = FailedWithin was now text
 Puts text was now (Err OutOfMemory) = (front : Bytes) × IsFrontOf (Ok text) front × Took was now front
 Puts text was now (Err fault) = ⊥
-
--- what several words give, seen so, or the first that is refused, unless memory ran out
-abbrev pub GivesWords : {X Y : Type 0} → (X → Y) → Result X CliFault → Result Y WordFault → Type 0
-GivesWords view (Ok x) given = given ≡ Ok (view x)
-GivesWords view (Err (Revision number kind)) given = given ≡ Err (record { word = number; fault = rev.fault_of kind })
-GivesWords view (Err OutOfMemory) given = ⊤
-GivesWords view (Err fault) given = ⊥
 
 -- the line of an object's name, or of a submodule's digits
 abbrev pub shown_line : Shown → Bytes

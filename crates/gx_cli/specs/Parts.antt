@@ -32,7 +32,7 @@ use Rattle.gx_rev.specs.declared.fault.RevFault.{RevFault}
 use Rattle.gx_rev.specs.declared.range.Range.{Range}
 use Rattle.gx_rev.specs.declared.shown.Shown.{Shown}
 use Rattle.gx_repo.specs.Repositories.{Repository}
-use Rattle.gx_cli.specs.Answers.{GivesWords, Prints}
+use Rattle.gx_cli.specs.Answers.{Prints}
 use Rattle.gx_cli.specs.FileLines.{path_line}
 use Rattle.gx_cli.specs.Listings.{shown_text, text_of_word, tree_lines, value_text}
 use Rattle.gx_cli.specs.Printing.{PrintsBlobs, PrintsOne}
@@ -40,7 +40,7 @@ use Rattle.gx_cli.specs.Sending.{PrintsText}
 use Rattle.gx_cli.specs.Serving.{blobs_answer, printed_by}
 use Rattle.gx_cli.specs.Stored.{all_words, commits_listed, file_line, files_of_word, list_lines, list_text, log_line, log_text, names_text, of_stored, show_text, texts_of}
 use Rattle.gx_cli.specs.Trying.{Shows, Tries}
-use Rattle.gx_cli.specs.Words as refusing
+use Rattle.gx_cli.specs.Words.{GivesWords}
 use Rattle.gx_cli.specs.declared.blob_names.BlobsFault.{BlobsFault}
 use Rattle.gx_cli.specs.declared.blob_names.BlobsKind.{BlobsKind}
 use Rattle.gx_cli.specs.declared.command_line.Line.{Line}
@@ -51,11 +51,11 @@ use Rattle.gx_cli.specs.declared.fault.CliFault.{CliFault}
 
 -- the revisions of these words, or the first word that isn't one
 abbrev pub ReadsRevisions : {A : Type 0} → List (Bor Bytes) → Result (Vec Revision A) CliFault → Type 0
-ReadsRevisions {A} words result = GivesWords (λ (revisions : Vec Revision A). revisions.items) result (each_word revision_of (texts_of words))
+ReadsRevisions {A} words result = GivesWords (λ (revisions : Vec Revision A). revisions.items) result (all_words (each_word revision_of (texts_of words)))
 
 -- these range words, or the first word that isn't one
 abbrev pub ReadsRanges : {A : Type 0} → List (Bor Bytes) → Result (Vec (Range A) A) CliFault → Type 0
-ReadsRanges {A} words result = refusing.GivesWords (λ (ranges : Vec (Range A) A). map shown_range ranges.items) result (all_words (each_word range_of (texts_of words)))
+ReadsRanges {A} words result = GivesWords (λ (ranges : Vec (Range A) A). map shown_range ranges.items) result (all_words (each_word range_of (texts_of words)))
 
 -- each of these names is that of a held commit
 abbrev pub AreCommits : Records → List Name → Type 0
@@ -77,7 +77,7 @@ module _ {N : Type 0} (name_of : N → Kind → Bytes → Bytes) where
   -- what each of these revisions shows, or the first that shows nothing
   abbrev pub EvaluatesAll : {A : Type 0} → Repository N → List Revision → Result (Vec Shown A) CliFault → Type 0
   EvaluatesAll {A} repo revisions result =
-      GivesWords (λ (shown : Vec Shown A). map (shown_by repo.1) shown.items) result (each_word (denoted (name_of repo.0) (history_of repo.1)) revisions)
+      GivesWords (λ (shown : Vec Shown A). map (shown_by repo.1) shown.items) result (all_words (each_word (denoted (name_of repo.0) (history_of repo.1)) revisions))
 
   -- each of these is an object that is held under its name, or a submodule's name
   abbrev pub AreAllNamed : Repository N → List Shown → Type 0
@@ -98,7 +98,7 @@ module _ {N : Type 0} (name_of : N → Kind → Bytes → Bytes) where
   -- the names of the commits that range words list, the last made first, or the first word that is refused
   abbrev pub ListsCommits : {A : Type 0} → Repository N → List (Bor Bytes) → Result (Vec Name A) CliFault → Type 0
   ListsCommits {A} repo words result =
-      refusing.GivesWords (λ (names : Vec Name A). map (commit_at repo.1) names.items) result
+      GivesWords (λ (names : Vec Name A). map (commit_at repo.1) names.items) result
       (all_words (and_then (each_word range_of (texts_of words)) (commits_listed (name_of repo.0) (history_of repo.1))))
 
   -- the store text of a repository is read as that repository

@@ -3,11 +3,11 @@ use Rattle.std.specs.List.{AllByRecursion}
 use Rattle.gx_model.specs.Revisions.Denotation.{denoted}
 use Rattle.gx_model.specs.Records.HistoryOf.{history_of}
 use Rattle.gx_rev.specs.Answers.{IsNamed, shown_by}
-use Rattle.gx_cli.proofs.WordsRead.{AreDone}
+use Rattle.gx_cli.proofs.ReadWords.{AreRead}
 use Rattle.gx_cli.proofs.names.eval_all.Given as goal
 
 abbrev pub invariant-loop-place : goal.invariant-loop-place
 invariant-loop-place g l = record {
-  done : AreDone (denoted (g.N.Namer.name_of l.repo.0) (history_of l.repo.1)) l.revisions (drop l.place l.revisions) l.place (map (shown_by l.repo.1) l.shown.items);
+  done : AreRead (denoted (g.N.Namer.name_of l.repo.0) (history_of l.repo.1)) l.revisions (drop l.place l.revisions) l.place (map (shown_by l.repo.1) l.shown.items);
   named : AllByRecursion (IsNamed (g.N.Namer.name_of l.repo.0) l.repo.1) l.shown.items;
 }

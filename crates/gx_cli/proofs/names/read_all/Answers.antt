@@ -1,8 +1,9 @@
 use Rattle.std.proofs.Common.{◌≡◌, ◌+◌, ◌∷◌, drop, refl, sym, ap, subst, ◌∙◌}
+use Rattle.std.proofs.lemmas.List.{drop_all}
 use Rattle.gx_model.specs.Revisions.{revision_of}
-use Rattle.gx_cli.specs.Stored.{texts_of}
+use Rattle.gx_cli.specs.Stored.{all_words, texts_of}
 use Rattle.gx_cli.proofs.Pieces.{rest_from}
-use Rattle.gx_cli.proofs.WordsRead.{AreDone, next_done, next_refused}
+use Rattle.gx_cli.proofs.ReadWords.{AreRead, all_read, next_read, word_refused}
 use Rattle.gx_cli.proofs.names.read_all.Goals as goal
 
 pub loop-place-preserved : goal.loop-place-preserved
@@ -13,8 +14,8 @@ loop-place-preserved g c =
     let text = c.as_bytes.result.now in
     let left = texts_of (drop (place + 1) words) in
     let from : texts_of (drop place words) ≡ text ∷ left = ap texts_of (rest_from words place _ _ c.loop-place-test.true refl) ∙ ap (λ x. x ∷ left) (sym c.as_bytes.ensures.value) in
-    let so_far = subst (λ ws. AreDone revision_of (texts_of words) ws place done) from c.loop-place.invariant in
-    rw c.in_ok-push-in-Ok.ensures.items (next_done revision_of (texts_of words) left text place done c.in-Ok.revision c.in-Ok.ensures.revision so_far)
+    let so_far = subst (λ ws. AreRead revision_of (texts_of words) ws place done) from c.loop-place.invariant in
+    rw c.in_ok-push-in-Ok.ensures.items (next_read revision_of (texts_of words) left text place done c.in-Ok.revision c.in-Ok.ensures.revision so_far)
 
 pub returns-in-Err : goal.returns-in-Err
 returns-in-Err g c =
@@ -24,5 +25,13 @@ returns-in-Err g c =
     let text = c.as_bytes.result.now in
     let left = texts_of (drop (place + 1) words) in
     let from : texts_of (drop place words) ≡ text ∷ left = ap texts_of (rest_from words place _ _ c.loop-place-test.true refl) ∙ ap (λ x. x ∷ left) (sym c.as_bytes.ensures.value) in
-    let so_far = subst (λ ws. AreDone revision_of (texts_of words) ws place done) from c.loop-place.invariant in
-    rw c.refused.ensures (next_refused revision_of (texts_of words) left text place done c.in-Err.kind c.in-Err.ensures.revision so_far (place + 1) refl)
+    let so_far = subst (λ ws. AreRead revision_of (texts_of words) ws place done) from c.loop-place.invariant in
+    rw c.refused.ensures (word_refused revision_of (texts_of words) left text place done c.in-Err.kind c.in-Err.ensures.revision so_far (place + 1) refl)
+
+pub returns : goal.returns
+returns g c =
+    let words = c.args.words.now in
+    let place = c.loop-place.place in
+    let done = c.loop-place.revisions.items in
+    let so_far = subst (λ ws. AreRead revision_of (texts_of words) ws place done) (ap texts_of (drop_all place words c.loop-place-test.false)) c.loop-place.invariant in
+    ap all_words (all_read revision_of (texts_of words) place done so_far)

@@ -2,7 +2,7 @@
 use Rattle.std.proofs.Common.{◌≡◌, ℕ, ◌+◌, ◌-◌, ◌<◌, ◌≤◌, ◌^◌, Bool, false, ◌⊎◌, inl, inr, Option, Some, None, Ok, Err, List, [], ◌∷◌, ◌++◌, length, reverse, refl, sym, ap, subst, ◌∙◌, arith, append_assoc, append-nil}
 use Rattle.std.proofs.lemmas.List.{length_push}
 use Rattle.gx_model.specs.Streams.Items.{Item as ModelItem, Stream, End, Finished, Failed, then_comes}
-use Rattle.gx_text.specs.Devices.{Taken, Took, FailedWithin}
+use Rattle.gx_model.specs.Texts.Sinks.{Taken, Took, FailedWithin}
 use Rattle.gx_stream.specs.declared.item.Item.{Item}
 use Rattle.gx_stream.specs.declared.fault.StreamFault.{StreamFault}
 use Rattle.gx_stream.specs.declared.fault.StreamFault.TheVariants as stream
@@ -16,7 +16,7 @@ use Rattle.gx_adapt.specs.declared.marks.Marks.{Marks}
 use Rattle.gx_adapt.specs.declared.fault.AdaptFault.{AdaptFault}
 use Rattle.gx_adapt.specs.declared.fault.AdaptFault.TheVariants as faults
 use Rattle.gx_adapt.specs.declared.report.Report.{Report}
-use Rattle.gx_adapt.proofs.SentTexts.{took_nothing, took_both, failed_after, failed_before}
+use Rattle.gx_model.proofs.SentTexts.{took_nothing, took_both, failed_after, failed_longer}
 use Rattle.gx_adapt.proofs.Marked.{reverse-push, names-same, stands-push, tags-few}
 use Rattle.gx_adapt.proofs.Counts.{after_of, after-push, text_behind, text-push, text-within, many-few, report-push}
 
@@ -119,7 +119,7 @@ Adapts-fault (Some s) now new after_reset marks was is report most f p r =
 failed_at : (was is out : Option Taken) (front : List ModelItem) (i : ModelItem) (more : List ModelItem) → Took was is (text_for front) → FailedWithin is out (stream_text (items_in (after_of false front) i)) → FailedWithin was out (text_for (front ++ i ∷ more))
 failed_at was is out front i more w f =
     let here = stream_text (items_in (after_of false front) i) in
-    subst (FailedWithin was out) (sym (text-within front i more)) (failed_after was is out (text_for front) (here ++ text_behind (is_reset i) more) w (failed_before is out here (text_behind (is_reset i) more) f))
+    subst (FailedWithin was out) (sym (text-within front i more)) (failed_after was is out (text_for front) (here ++ text_behind (is_reset i) more) w (failed_longer is out here (text_behind (is_reset i) more) f))
 
 -- where the item comes from
 unsent : (s left : Stream) (front : List ModelItem) (i : ModelItem) (was is out : Option Taken) (fault : AdaptFault) → s ≡ after front (then_comes i left) → Took was is (text_for front) → PutsIf {A = Bool} (stream_text (items_in (after_of false front) i)) is out (Err fault) → Adapts s was out (Err fault)

@@ -1,6 +1,5 @@
 -- What a sink took of texts that were sent one after the other.
-use Rattle.std.proofs.Common.{◌≡◌, ℕ, true, sym, ap, ◌∙◌, arith, [], ◌∷◌, ◌++◌, length, codes, subst, take, drop, append_assoc, append-nil, Option, None, Some, Result, Ok, Err}
-use Rattle.std.proofs.lemmas.List.{take-append-drop, length-drop, length-append}
+use Rattle.std.proofs.Common.{◌≡◌, ap, ◌∙◌, [], ◌∷◌, ◌++◌, length, codes, subst, append_assoc, Option, Result, Ok, Err}
 use Rattle.gx_model.specs.Texts.{Bytes}
 use Rattle.std.specs.Fmt.{decimal}
 use Rattle.gx_model.specs.Streams.Items.{Data}
@@ -8,59 +7,8 @@ use Rattle.gx_model.specs.Export.{item_text}
 use Rattle.gx_adapt.specs.Adapting.{Puts, PutsIf}
 use Rattle.gx_adapt.specs.declared.fault.AdaptFault.{AdaptFault}
 use Rattle.gx_adapt.specs.declared.fault.AdaptFault.TheVariants.{OutOfMemory, ReadFailed, WriteFailed, TruncatedData, BadNumber}
-use Rattle.gx_text.specs.Devices.{FailedWithin, Sends, Taken, Took}
-
--- a text that wasn't sent whole failed within
-pub failed_within : (was now : Option Taken) (text : Bytes) (n : ℕ) → Sends was now text (Err n) → FailedWithin was now text
-failed_within None now text n h = tt
-failed_within (Some w) now text n h =
-    let long = length-drop n text in
-    (take n text, drop n text, sym (take-append-drop n text), omega (arith, h.0), h.1)
-
--- no text is taken by a sink that is as it was
-pub took_nothing : (was : Option Taken) → Took was was []
-took_nothing None = tt
-took_nothing (Some w) = ap (λ x. Some (record { bytes = x; failed = w.failed })) (sym (append-nil w.bytes))
-
--- one text behind another
-pub took_both : (was mid now : Option Taken) (before text : Bytes) → Took was mid before → Took mid now text → Took was now (before ++ text)
-took_both None mid now before text h k = tt
-took_both (Some w) mid now before text h k = by mid h k
-  where
-    by : (m : Option Taken) → m ≡ Some (record { bytes = w.bytes ++ before; failed = w.failed }) → Took m now text → now ≡ Some (record { bytes = w.bytes ++ (before ++ text); failed = w.failed })
-    by None e l = absurd cc
-    by (Some m) e l =
-        let same : m ≡ record { bytes = w.bytes ++ before; failed = w.failed } = cc e in
-        l ∙ ap (λ (t : Taken). Some (record { bytes = t.bytes ++ text; failed = t.failed })) same ∙ ap (λ x. Some (record { bytes = x; failed = w.failed })) (append_assoc w.bytes before text)
-
--- a failure within the second of two texts
-pub failed_after : (was mid now : Option Taken) (before text : Bytes) → Took was mid before → FailedWithin mid now text → FailedWithin was now (before ++ text)
-failed_after None mid now before text h k = tt
-failed_after (Some w) mid now before text h k = by mid h k
-  where
-    by : (m : Option Taken) → m ≡ Some (record { bytes = w.bytes ++ before; failed = w.failed }) → FailedWithin m now text → FailedWithin (Some w) now (before ++ text)
-    by None e l = absurd cc
-    by (Some m) e l =
-        let same : m ≡ record { bytes = w.bytes ++ before; failed = w.failed } = cc e in
-        let front = l.0 in
-        let rest = l.1 in (
-          before ++ front,
-          rest,
-          ap (λ x. before ++ x) l.2 ∙ sym (append_assoc before front rest),
-          l.3,
-          l.4 ∙ ap (λ (t : Taken). Some (record { bytes = t.bytes ++ front; failed = true })) same ∙ ap (λ x. Some (record { bytes = x; failed = true })) (append_assoc w.bytes before front),
-        )
-
--- a failure within the first of two texts
-pub failed_before : (was now : Option Taken) (text more : Bytes) → FailedWithin was now text → FailedWithin was now (text ++ more)
-failed_before None now text more h = tt
-failed_before (Some w) now text more h = (
-  h.0,
-  h.1 ++ more,
-  ap (λ x. x ++ more) h.2 ∙ append_assoc h.0 h.1 more,
-  omega (arith, h.3, length-append h.1 more),
-  h.4,
-)
+use Rattle.gx_model.specs.Texts.Sinks.{Taken, Took}
+use Rattle.gx_model.proofs.SentTexts.{failed_after, failed_longer, took_both}
 
 -- what two texts give that are sent one after the other
 pub puts_both : (was mid now : Option Taken) (before text : Bytes) (r : Result (Unit {0}) AdaptFault) → Took was mid before → Puts text mid now r → Puts (before ++ text) was now r
@@ -73,7 +21,7 @@ puts_both was mid now before text (Err BadNumber) h k = absurd k
 
 -- where the first isn't sent
 pub puts_first : (was now : Option Taken) (text more : Bytes) (fault : AdaptFault) → Puts {A = Unit {0}} text was now (Err fault) → Puts {A = Unit {0}} (text ++ more) was now (Err fault)
-puts_first was now text more WriteFailed h = failed_before was now text more h
+puts_first was now text more WriteFailed h = failed_longer was now text more h
 puts_first was now text more OutOfMemory h = absurd h
 puts_first was now text more ReadFailed h = absurd h
 puts_first was now text more TruncatedData h = absurd h

@@ -6,7 +6,8 @@ use Rattle.std.specs.BTreeSet.{contains}
 use Rattle.gx_model.specs.declared.faults.Fault.TheVariants as model
 use Rattle.gx_model.specs.Texts.{Bytes}
 use Rattle.gx_model.specs.Streams.Items.{Item, Line, Data, End, Finished, Failed, Stream}
-use Rattle.gx_text.specs.Devices.{Coming, Taken, Took, FailedWithin}
+use Rattle.gx_model.specs.Texts.Sinks.{Taken, Took, FailedWithin}
+use Rattle.gx_text.specs.Devices.{Coming}
 use Rattle.gx_stream.specs.Faults.{fault_of}
 use Rattle.gx_stream.specs.Heard.{items_from}
 use Rattle.gx_stream.specs.declared.fault.StreamFault.{StreamFault}
@@ -105,14 +106,14 @@ pub record Passes {A : Type 0} (item : Item) (was is : held.Marks A) : Type 0 wh
 -- ---- one item
 
 -- what becomes of a line, as the code tells it
-abbrev pub lot_seen : Lot → lines.Lot
-lot_seen Kept = lines.kept
-lot_seen Deletion = lines.deletion
-lot_seen Marks = lines.marks
-lot_seen (Ident word ident) = lines.spaced (lines.spaced_line word.now ident.now)
-lot_seen (Modify mode dataref path) = lines.requoted (lines.modified_line mode.now dataref.now path.now)
-lot_seen (Remove path) = lines.requoted (lines.quoted_line (codes "D") path.now)
-lot_seen (Move word source destination) = lines.requoted (lines.moved_line word.now source.now destination.now)
+abbrev pub shown_lot : Lot → lines.Lot
+shown_lot Kept = lines.kept
+shown_lot Deletion = lines.deletion
+shown_lot Marks = lines.marks
+shown_lot (Ident word ident) = lines.spaced (lines.spaced_line word.now ident.now)
+shown_lot (Modify mode dataref path) = lines.requoted (lines.modified_line mode.now dataref.now path.now)
+shown_lot (Remove path) = lines.requoted (lines.quoted_line (codes "D") path.now)
+shown_lot (Move word source destination) = lines.requoted (lines.moved_line word.now source.now destination.now)
 
 -- one more, where it is so
 abbrev pub one_if : Bool → ℕ → ℕ

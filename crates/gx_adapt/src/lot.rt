@@ -3,7 +3,7 @@
 ghost use Rattle.std.specs.Prelude.{◌≡◌, codes};
 ghost use Rattle.gx_model.specs.Texts.{cut_at};
 ghost use Rattle.gx_adapt.specs.Lines.{is_reset_line, is_null_from, is_of_marks, is_ident_word, is_move_word, ident_lot, path_lot, dataref_lot, modify_lot, move_lot, word_lot, lot_of};
-ghost use Rattle.gx_adapt.specs.Adapting.{lot_seen};
+ghost use Rattle.gx_adapt.specs.Adapting.{shown_lot};
 
 use crate::path::{is_open, source_of};
 use gx_text::cut;
@@ -29,7 +29,7 @@ pub(crate) enum Lot<'a> {
 /// What becomes of a line, by whether it stands directly behind a reset.
 #[tactic(auto, unfolding(crate::specs::Lines::lot_of))]
 pub(crate) fn lot_of(after_reset: bool, line: &[u8]) -> Lot<'_>
-    ensures { lot_seen result ≡ lot_of after_reset line.now }
+    ensures { shown_lot result ≡ lot_of after_reset line.now }
 {
     if is_of_marks(line) {
         return Lot::Marks;
@@ -82,7 +82,7 @@ fn is_move_word(word: &[u8]) -> bool
 
 #[tactic(auto, unfolding(crate::specs::Lines::word_lot))]
 fn word_lot<'a>(word: &'a [u8], rest: &'a [u8]) -> Lot<'a>
-    ensures { lot_seen result ≡ word_lot word.now rest.now }
+    ensures { shown_lot result ≡ word_lot word.now rest.now }
 {
     if is_ident_word(word) {
         ident_lot(word, rest)
@@ -99,7 +99,7 @@ fn word_lot<'a>(word: &'a [u8], rest: &'a [u8]) -> Lot<'a>
 
 #[tactic(auto, unfolding(crate::specs::Lines::ident_lot))]
 fn ident_lot<'a>(word: &'a [u8], ident: &'a [u8]) -> Lot<'a>
-    ensures { lot_seen result ≡ ident_lot word.now ident.now }
+    ensures { shown_lot result ≡ ident_lot word.now ident.now }
 {
     if ident.starts_with(b"<") {
         Lot::Ident(word, ident)
@@ -110,7 +110,7 @@ fn ident_lot<'a>(word: &'a [u8], ident: &'a [u8]) -> Lot<'a>
 
 #[tactic(auto, unfolding(crate::specs::Lines::modify_lot))]
 fn modify_lot(rest: &[u8]) -> Lot<'_>
-    ensures { lot_seen result ≡ modify_lot rest.now }
+    ensures { shown_lot result ≡ modify_lot rest.now }
 {
     match cut(rest, b' ') {
         Some((mode, rest)) => dataref_lot(mode, rest),
@@ -121,7 +121,7 @@ fn modify_lot(rest: &[u8]) -> Lot<'_>
 /// A modify behind its mode.
 #[tactic(auto, unfolding(crate::specs::Lines::path_lot))]
 fn dataref_lot<'a>(mode: &'a [u8], rest: &'a [u8]) -> Lot<'a>
-    ensures { lot_seen result ≡ dataref_lot mode.now (cut_at 32 rest.now) }
+    ensures { shown_lot result ≡ dataref_lot mode.now (cut_at 32 rest.now) }
 {
     match cut(rest, b' ') {
         Some((dataref, path)) if is_open(path) => Lot::Modify(mode, dataref, path),
@@ -131,7 +131,7 @@ fn dataref_lot<'a>(mode: &'a [u8], rest: &'a [u8]) -> Lot<'a>
 
 #[tactic(auto, unfolding(crate::specs::Lines::path_lot))]
 fn remove_lot(path: &[u8]) -> Lot<'_>
-    ensures { lot_seen result ≡ path_lot (codes "D") path.now }
+    ensures { shown_lot result ≡ path_lot (codes "D") path.now }
 {
     if is_open(path) {
         Lot::Remove(path)
@@ -142,7 +142,7 @@ fn remove_lot(path: &[u8]) -> Lot<'_>
 
 #[tactic(auto, unfolding(crate::specs::Lines::move_lot))]
 fn move_lot<'a>(word: &'a [u8], rest: &'a [u8]) -> Lot<'a>
-    ensures { lot_seen result ≡ move_lot word.now rest.now }
+    ensures { shown_lot result ≡ move_lot word.now rest.now }
 {
     match source_of(rest) {
         Some((source, destination)) if is_open(source) || is_open(destination) => {

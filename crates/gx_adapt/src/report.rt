@@ -5,7 +5,7 @@ ghost use Rattle.gx_model.specs.Texts.{cut_at};
 ghost use Rattle.gx_model.specs.Streams.Items.{Line};
 ghost use Rattle.gx_adapt.specs.Lines.{is_early, has_minus};
 ghost use Rattle.gx_adapt.specs.Streams.{nothing_counted};
-ghost use Rattle.gx_adapt.specs.Adapting.{lot_seen, counted, HasRoom};
+ghost use Rattle.gx_adapt.specs.Adapting.{shown_lot, counted, HasRoom};
 
 use crate::lot::{Lot, is_ident_word};
 use gx_text::cut;
@@ -48,7 +48,7 @@ impl Report {
     /// Counts a line, of which this becomes, and which names a blob or a tag for a tag, or doesn't.
     pub(crate) fn add(&mut self, line: &[u8], lot: Lot<'_>, names_blob_or_tag: bool)
         requires room { HasRoom self.old }
-        ensures added { self.new ≡ counted (lot_seen lot.entry) names_blob_or_tag (Line line.now) self.old }
+        ensures added { self.new ≡ counted (shown_lot lot.entry) names_blob_or_tag (Line line.now) self.old }
     {
         match lot {
             Lot::Kept => {}

@@ -6,7 +6,7 @@ ghost use Rattle.gx_text.specs.Buffers.{GrowsBy};
 ghost use Rattle.gx_adapt.specs.Paths.{escaped, quoted, anew};
 ghost use Rattle.gx_adapt.specs.Lines.{lines_for, spaced_line, modified_line, quoted_line, moved_line};
 ghost use Rattle.gx_adapt.specs.Streams.{stream_text};
-ghost use Rattle.gx_adapt.specs.Adapting.{lot_seen};
+ghost use Rattle.gx_adapt.specs.Adapting.{shown_lot};
 
 use crate::lot::Lot;
 use crate::path::is_open;
@@ -19,7 +19,7 @@ pub(crate) fn put_line<A: Allocator + Copy>(
     line: &[u8],
     lot: Lot<'_>,
 ) -> Result<(), AllocError>
-    ensures { GrowsBy out.old out.new (stream_text (lines_for line.now (lot_seen lot.entry))) result }
+    ensures { GrowsBy out.old out.new (stream_text (lines_for line.now (shown_lot lot.entry))) result }
 {
     match lot {
         Lot::Deletion | Lot::Marks => return Ok(()),

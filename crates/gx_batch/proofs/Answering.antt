@@ -3,14 +3,15 @@ use Rattle.std.proofs.Common.{◌≡◌, Bool, true, false, refl, sym, ap, subst
 use Rattle.std.specs.List.{flat_map}
 use Rattle.std.specs.Option.{option_map}
 use Rattle.gx_model.specs.Texts.{Bytes}
-use Rattle.gx_text.specs.Devices.{Coming, FailedWithin, Taken, Took}
+use Rattle.gx_model.specs.Texts.Sinks.{FailedWithin, Taken, Took}
+use Rattle.gx_text.specs.Devices.{Coming}
 use Rattle.gx_stream.specs.Heard.{heard}
 use Rattle.gx_batch.specs.Lines.{lines_from}
 use Rattle.gx_batch.specs.Reading.{Reads}
 use Rattle.gx_batch.specs.Batches.{Answered, Answers, Sent}
 use Rattle.gx_batch.specs.declared.fault.BatchFault.{BatchFault}
 use Rattle.gx_batch.specs.declared.fault.BatchFault.TheVariants.{OutOfMemory, ReadFailed, WriteFailed}
-use Rattle.gx_batch.proofs.SentTexts.{failed_after, failed_longer, took_both, took_nothing}
+use Rattle.gx_model.proofs.SentTexts.{failed_after, failed_longer, took_both, took_nothing}
 
 -- these lines were read of those that come, and the others are still to come
 abbrev pub AreRead : List Bytes → Option Coming → Option Coming → Type 0

@@ -9,7 +9,7 @@ use Rattle.gx_model.specs.Texts.{Bytes}
 use Rattle.gx_text.specs.Devices.{Coming, past, Pulls}
 use Rattle.gx_text.specs.declared.device.Failed.{Failed}
 use Rattle.gx_stream.specs.Heard.{heard_upto}
-use Rattle.gx_batch.specs.Reading.{Passes, behind, coming_seen}
+use Rattle.gx_batch.specs.Reading.{Passes, behind, shown_coming}
 use Rattle.gx_batch.specs.declared.lines.State.TheVariants.{Open}
 
 heard_short : (room : ℕ) (c : Coming) → length c.bytes ≤ room → heard_upto room c ≡ c
@@ -27,18 +27,18 @@ by_parts c bytes fails e f = ap (λ bs. record { bytes = bs; fails = c.fails }) 
 nothing_left : (room : ℕ) (c : Coming) (fails : Bool) → c.bytes ≡ [] → c.fails ≡ fails → heard_upto room c ≡ record { bytes = []; fails = fails }
 nothing_left room c fails none e = heard_short room c (omega (arith, ap length none)) ∙ by_parts c [] fails none e
 
-pub pulled_failed : (room : ℕ) (old new : Option Coming) (buffer : Bytes) (e : Failed) → Pulls old new buffer (Err e) → Passes [] (coming_seen Open room old []) (Some (record { bytes = []; fails = true }))
+pub pulled_failed : (room : ℕ) (old new : Option Coming) (buffer : Bytes) (e : Failed) → Pulls old new buffer (Err e) → Passes [] (shown_coming Open room old []) (Some (record { bytes = []; fails = true }))
 pulled_failed room None new buffer e p = tt
 pulled_failed room (Some c) new buffer e p = (record { bytes = []; fails = true }, refl, ap (behind []) (nothing_left room c true p.0 p.1))
 
-pub pulled_none : (room : ℕ) (old new : Option Coming) (buffer : Bytes) (n : ℕ) → n ≡ 0 → Pulls old new buffer (Ok n) → Passes [] (coming_seen Open room old []) (Some (record { bytes = []; fails = false }))
+pub pulled_none : (room : ℕ) (old new : Option Coming) (buffer : Bytes) (n : ℕ) → n ≡ 0 → Pulls old new buffer (Ok n) → Passes [] (shown_coming Open room old []) (Some (record { bytes = []; fails = false }))
 pulled_none room None new buffer n zero p = tt
 pulled_none room (Some c) new buffer n zero p =
     let done = p.3 zero in
     (record { bytes = []; fails = false }, refl, ap (behind []) (nothing_left room c false done.0 done.1))
 
 -- more came than is taken
-pub pulled_over : (room : ℕ) (old new : Option Coming) (buffer : Bytes) (n : ℕ) → room < n → Pulls old new buffer (Ok n) → Passes [] (coming_seen Open room old []) (Some (record { bytes = take room buffer; fails = true }))
+pub pulled_over : (room : ℕ) (old new : Option Coming) (buffer : Bytes) (n : ℕ) → room < n → Pulls old new buffer (Ok n) → Passes [] (shown_coming Open room old []) (Some (record { bytes = take room buffer; fails = true }))
 pulled_over room None new buffer n over p = tt
 pulled_over room (Some c) new buffer n over p =
     let le : room ≤ n = omega (arith, over) in
@@ -62,8 +62,8 @@ in_two room n c l m =
     whole ∙ ap (λ bs. record { bytes = bs; fails = c.fails }) (sym (take-append-drop n c.bytes)) ∙ sym (ap (behind (take n c.bytes)) rest))
     (cases_lt room (length c.bytes))
 
-pub pulled_more : (room : ℕ) (old new : Option Coming) (buffer : Bytes) (n : ℕ) → n ≤ room → Pulls old new buffer (Ok n) → Passes [] (coming_seen Open room old []) (coming_seen Open (room - n) new (take n buffer))
+pub pulled_more : (room : ℕ) (old new : Option Coming) (buffer : Bytes) (n : ℕ) → n ≤ room → Pulls old new buffer (Ok n) → Passes [] (shown_coming Open room old []) (shown_coming Open (room - n) new (take n buffer))
 pulled_more room None new buffer n l p = tt
 pulled_more room (Some c) new buffer n l p =
     let left = behind (take n buffer) (heard_upto (room - n) (past n c)) in
-    (left, ap (λ o. coming_seen Open (room - n) o (take n buffer)) p.2, ap (behind []) (in_two room n c l p.0 ∙ ap (λ bs. behind bs (heard_upto (room - n) (past n c))) (sym p.1)))
+    (left, ap (λ o. shown_coming Open (room - n) o (take n buffer)) p.2, ap (behind []) (in_two room n c l p.0 ∙ ap (λ bs. behind bs (heard_upto (room - n) (past n c))) (sym p.1)))

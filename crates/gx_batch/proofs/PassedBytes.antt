@@ -4,7 +4,7 @@ use Rattle.std.proofs.lemmas.Bool.Decides.{nat_tests}
 use Rattle.gx_model.specs.Texts.{Bytes, lacks}
 use Rattle.gx_text.specs.Devices.{Coming}
 use Rattle.gx_batch.specs.Lines.{lines_from, lines_of}
-use Rattle.gx_batch.specs.Reading.{Passes, Reads, TakesPart, behind, coming_seen, most_seen}
+use Rattle.gx_batch.specs.Reading.{Passes, Reads, TakesPart, behind, shown_coming, shown_most}
 use Rattle.gx_batch.specs.declared.fault.BatchFault.TheVariants.{ReadFailed}
 use Rattle.gx_batch.specs.declared.lines.State.{State}
 use Rattle.gx_batch.specs.declared.lines.State.TheVariants.{Open, Ended, Failed}
@@ -23,7 +23,7 @@ some_same : (c d : Coming) → Some c ≡ Some d → c ≡ d
 some_same c d e = cc
 
 -- bytes at the front are passed
-pub passes_front : (state : State) (room : ℕ) (coming : Option Coming) (front rest : Bytes) → Passes front (coming_seen state room coming (front ++ rest)) (coming_seen state room coming rest)
+pub passes_front : (state : State) (room : ℕ) (coming : Option Coming) (front rest : Bytes) → Passes front (shown_coming state room coming (front ++ rest)) (shown_coming state room coming rest)
 passes_front Open room None front rest = tt
 passes_front Open room (Some c) front rest = (_, refl, behind_both front rest _)
 passes_front Ended room coming front rest = (_, refl, refl)
@@ -60,7 +60,7 @@ has_none [] n empty long e h = refl
 has_none (b ∷ bs) n empty long e h = grind (arith, nat_tests)
 
 -- all was passed, and the source ended
-pub reads_end : (room : ℕ) (coming : Option Coming) (line : Bytes) (was : Option Coming) (answer : Bool) → lacks 10 line ≡ true → Passes line was (coming_seen Ended room coming []) → (answer ≡ true → 0 < length line) → (answer ≡ false → line ≡ []) → Reads was (coming_seen Ended room coming []) line (Ok answer)
+pub reads_end : (room : ℕ) (coming : Option Coming) (line : Bytes) (was : Option Coming) (answer : Bool) → lacks 10 line ≡ true → Passes line was (shown_coming Ended room coming []) → (answer ≡ true → 0 < length line) → (answer ≡ false → line ≡ []) → Reads was (shown_coming Ended room coming []) line (Ok answer)
 reads_end room coming line None true h p some none = tt
 reads_end room coming line None false h p some none = tt
 reads_end room coming line (Some c) true h p some none =
@@ -75,7 +75,7 @@ reads_end room coming line (Some c) false h p some none =
     (lines_left c (record { bytes = []; fails = false }) line whole ∙ ap (λ bs. lines_of bs false) (append-nil line ∙ none refl) ∙ no_lines false, ap (λ (d : Coming). d.fails) whole)
 
 -- all was passed, and the source failed
-pub reads_failure : (room : ℕ) (coming : Option Coming) (line : Bytes) (was : Option Coming) → lacks 10 line ≡ true → Passes line was (coming_seen Failed room coming []) → Reads was (coming_seen Failed room coming []) line (Err ReadFailed)
+pub reads_failure : (room : ℕ) (coming : Option Coming) (line : Bytes) (was : Option Coming) → lacks 10 line ≡ true → Passes line was (shown_coming Failed room coming []) → Reads was (shown_coming Failed room coming []) line (Err ReadFailed)
 reads_failure room coming line None h p = tt
 reads_failure room coming line (Some c) h p =
     let left = p.0 in
@@ -86,54 +86,54 @@ reads_failure room coming line (Some c) h p =
 -- ---- what one part changes
 
 -- the bound falls by the bytes that are passed
-most_less : (state : State) (room : ℕ) (front rest : Bytes) → most_seen state room (front ++ rest) ≡ length front + most_seen state room rest
+most_less : (state : State) (room : ℕ) (front rest : Bytes) → shown_most state room (front ++ rest) ≡ length front + shown_most state room rest
 most_less Open room front rest = let long = length-append front rest in omega arith
 most_less Ended room front rest = length-append front rest
 most_less Failed room front rest = length-append front rest
 
 module _ (was coming : Option Coming) (room : ℕ) (rest left line now : Bytes) where
   -- a line came whole
-  pub whole_line : (state : State) → lacks 10 line ≡ true → Passes line was (coming_seen state room coming rest) → TakesPart rest left line now true → Reads was (coming_seen state room coming left) now (Ok true)
+  pub whole_line : (state : State) → lacks 10 line ≡ true → Passes line was (shown_coming state room coming rest) → TakesPart rest left line now true → Reads was (shown_coming state room coming left) now (Ok true)
   whole_line state h p t =
       let front = t.0 in
       let ended = front ++ 10 ∷ [] in
       let parts : rest ≡ ended ++ left = t.2 ∙ sym (append_assoc front (10 ∷ []) left) in
-      let more = passes_both line ended was (coming_seen state room coming (ended ++ left)) (coming_seen state room coming left) (subst (λ bs. Passes line was (coming_seen state room coming bs)) parts p) (passes_front state room coming ended left) in
+      let more = passes_both line ended was (shown_coming state room coming (ended ++ left)) (shown_coming state room coming left) (subst (λ bs. Passes line was (shown_coming state room coming bs)) parts p) (passes_front state room coming ended left) in
       let joined : line ++ ended ≡ now ++ 10 ∷ [] = sym (append_assoc line front (10 ∷ [])) ∙ ap (λ bs. bs ++ 10 ∷ []) (sym t.3) in
-      reads_line now was (coming_seen state room coming left) (rw t.3 (lacks_both 10 line front h t.1)) (subst (λ bs. Passes bs was (coming_seen state room coming left)) joined more)
+      reads_line now was (shown_coming state room coming left) (rw t.3 (lacks_both 10 line front h t.1)) (subst (λ bs. Passes bs was (shown_coming state room coming left)) joined more)
 
   -- all that came is part of the line
-  pub all_passed : (state : State) → Passes line was (coming_seen state room coming rest) → TakesPart rest left line now false → Passes now was (coming_seen state room coming left)
+  pub all_passed : (state : State) → Passes line was (shown_coming state room coming rest) → TakesPart rest left line now false → Passes now was (shown_coming state room coming left)
   all_passed state p t =
       let parts : rest ≡ rest ++ left = sym (append-nil rest) ∙ ap (λ bs. rest ++ bs) (sym t.1) in
-      let more = passes_both line rest was (coming_seen state room coming (rest ++ left)) (coming_seen state room coming left) (subst (λ bs. Passes line was (coming_seen state room coming bs)) parts p) (passes_front state room coming rest left) in
-      subst (λ bs. Passes bs was (coming_seen state room coming left)) (sym t.2) more
+      let more = passes_both line rest was (shown_coming state room coming (rest ++ left)) (shown_coming state room coming left) (subst (λ bs. Passes line was (shown_coming state room coming bs)) parts p) (passes_front state room coming rest left) in
+      subst (λ bs. Passes bs was (shown_coming state room coming left)) (sym t.2) more
 
   pub still_lacks : lacks 10 line ≡ true → TakesPart rest left line now false → lacks 10 now ≡ true
   still_lacks h t = rw t.2 (lacks_both 10 line rest h t.0)
 
   -- the bound and the line's length change alike
-  pub same_most : (state : State) → TakesPart rest left line now false → length now + most_seen state room left ≡ length line + most_seen state room rest
+  pub same_most : (state : State) → TakesPart rest left line now false → length now + shown_most state room left ≡ length line + shown_most state room rest
   same_most state t =
       let parts : rest ≡ rest ++ left = sym (append-nil rest) ∙ ap (λ bs. rest ++ bs) (sym t.1) in
       let less = most_less state room rest left in
-      let same = ap (most_seen state room) parts in
+      let same = ap (shown_most state room) parts in
       let long = ap length t.2 in
       let both = length-append line rest in
       omega arith
 
   -- all passed, and the source ended
-  pub ends_so : (state : State) (answer : Bool) → state ≡ Ended → lacks 10 line ≡ true → Passes line was (coming_seen state room coming rest) → TakesPart rest left line now false → (answer ≡ true → 0 < length now) → (answer ≡ false → now ≡ []) → Reads was (coming_seen state room coming left) now (Ok answer)
+  pub ends_so : (state : State) (answer : Bool) → state ≡ Ended → lacks 10 line ≡ true → Passes line was (shown_coming state room coming rest) → TakesPart rest left line now false → (answer ≡ true → 0 < length now) → (answer ≡ false → now ≡ []) → Reads was (shown_coming state room coming left) now (Ok answer)
   ends_so state answer s h p t some none =
       let passed = all_passed state p t in
-      let here = subst (λ (st : State). Passes now was (coming_seen st room coming left)) s passed in
-      let read = reads_end room coming now was answer (still_lacks h t) (subst (λ bs. Passes now was (coming_seen Ended room coming bs)) t.1 here) some none in
-      subst (λ (st : State). Reads was (coming_seen st room coming left) now (Ok answer)) (sym s) (subst (λ bs. Reads was (coming_seen Ended room coming bs) now (Ok answer)) (sym t.1) read)
+      let here = subst (λ (st : State). Passes now was (shown_coming st room coming left)) s passed in
+      let read = reads_end room coming now was answer (still_lacks h t) (subst (λ bs. Passes now was (shown_coming Ended room coming bs)) t.1 here) some none in
+      subst (λ (st : State). Reads was (shown_coming st room coming left) now (Ok answer)) (sym s) (subst (λ bs. Reads was (shown_coming Ended room coming bs) now (Ok answer)) (sym t.1) read)
 
   -- all passed, and the source failed
-  pub fails_so : (state : State) → state ≡ Failed → lacks 10 line ≡ true → Passes line was (coming_seen state room coming rest) → TakesPart rest left line now false → Reads was (coming_seen state room coming left) now (Err ReadFailed)
+  pub fails_so : (state : State) → state ≡ Failed → lacks 10 line ≡ true → Passes line was (shown_coming state room coming rest) → TakesPart rest left line now false → Reads was (shown_coming state room coming left) now (Err ReadFailed)
   fails_so state s h p t =
       let passed = all_passed state p t in
-      let here = subst (λ (st : State). Passes now was (coming_seen st room coming left)) s passed in
-      let read = reads_failure room coming now was (still_lacks h t) (subst (λ bs. Passes now was (coming_seen Failed room coming bs)) t.1 here) in
-      subst (λ (st : State). Reads was (coming_seen st room coming left) now (Err ReadFailed)) (sym s) (subst (λ bs. Reads was (coming_seen Failed room coming bs) now (Err ReadFailed)) (sym t.1) read)
+      let here = subst (λ (st : State). Passes now was (shown_coming st room coming left)) s passed in
+      let read = reads_failure room coming now was (still_lacks h t) (subst (λ bs. Passes now was (shown_coming Failed room coming bs)) t.1 here) in
+      subst (λ (st : State). Reads was (shown_coming st room coming left) now (Err ReadFailed)) (sym s) (subst (λ bs. Reads was (shown_coming Failed room coming bs) now (Err ReadFailed)) (sym t.1) read)

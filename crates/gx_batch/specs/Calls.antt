@@ -5,7 +5,8 @@ use Rattle.gx_model.specs.declared.objects.Kind.{Kind}
 use Rattle.gx_model.specs.Texts.{Bytes}
 use Rattle.gx_model.specs.Histories.{Records}
 use Rattle.gx_model.specs.Records.HistoryOf.{history_of}
-use Rattle.gx_text.specs.Devices.{Coming, Taken}
+use Rattle.gx_model.specs.Texts.Sinks.{Taken}
+use Rattle.gx_text.specs.Devices.{Coming}
 use Rattle.gx_object.specs.declared.name.Name.{Name}
 use Rattle.gx_rev.specs.Objects.{value_at}
 use Rattle.gx_batch.specs.Answers.{batch_answer, object_text}

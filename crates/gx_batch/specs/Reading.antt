@@ -17,17 +17,17 @@ abbrev pub behind : Bytes → Coming → Coming
 behind front c = record { bytes = front ++ c.bytes; fails = c.fails }
 
 -- what is still to come, where that is known: what came and isn't read yet, and what the source still gives
-abbrev pub coming_seen : State → ℕ → Option Coming → Bytes → Option Coming
-coming_seen Open room None rest = None
-coming_seen Open room (Some c) rest = Some (behind rest (heard_upto room c))
-coming_seen Ended room coming rest = Some (record { bytes = rest; fails = false })
-coming_seen Failed room coming rest = Some (record { bytes = rest; fails = true })
+abbrev pub shown_coming : State → ℕ → Option Coming → Bytes → Option Coming
+shown_coming Open room None rest = None
+shown_coming Open room (Some c) rest = Some (behind rest (heard_upto room c))
+shown_coming Ended room coming rest = Some (record { bytes = rest; fails = false })
+shown_coming Failed room coming rest = Some (record { bytes = rest; fails = true })
 
 -- how many bytes may come at most
-abbrev pub most_seen : State → ℕ → Bytes → ℕ
-most_seen Open room rest = length rest + room
-most_seen Ended room rest = length rest
-most_seen Failed room rest = length rest
+abbrev pub shown_most : State → ℕ → Bytes → ℕ
+shown_most Open room rest = length rest + room
+shown_most Ended room rest = length rest
+shown_most Failed room rest = length rest
 
 -- how many pulls may follow at most
 abbrev pub pulls_left : State → ℕ → ℕ
@@ -39,19 +39,19 @@ pulls_left Failed room = 0
 abbrev pub rest_of : {R A : Type 0} → LineReader R A → Bytes
 rest_of reader = slice_range reader.piece.items reader.at reader.end
 
-abbrev pub seen : {R A : Type 0} → LineReader R A → Option Coming → Option Coming
-seen reader coming = coming_seen reader.state reader.room coming (rest_of reader)
+abbrev pub shown_reader : {R A : Type 0} → LineReader R A → Option Coming → Option Coming
+shown_reader reader coming = shown_coming reader.state reader.room coming (rest_of reader)
 
 -- the same, by what its source gives
-abbrev pub seen_from : {R A : Type 0} → (R → Option Coming) → LineReader R A → Option Coming
-seen_from coming reader = seen reader (coming reader.source)
+abbrev pub shown_from : {R A : Type 0} → (R → Option Coming) → LineReader R A → Option Coming
+shown_from coming reader = shown_reader reader (coming reader.source)
 
 -- a reader of all that a source gives
 abbrev pub IsReaderOf : {R A : Type 0} → (R → Option Coming) → R → LineReader R A → Type 0
-IsReaderOf coming source reader = seen_from coming reader ≡ option_map heard (coming source)
+IsReaderOf coming source reader = shown_from coming reader ≡ option_map heard (coming source)
 
 abbrev pub most : {R A : Type 0} → LineReader R A → ℕ
-most reader = most_seen reader.state reader.room (rest_of reader)
+most reader = shown_most reader.state reader.room (rest_of reader)
 
 -- what isn't read yet stands within the piece, which is never empty
 abbrev pub IsSound : {R A : Type 0} → LineReader R A → Type 0
@@ -66,7 +66,7 @@ Passes front (Some was) now = (left : Coming) × (now ≡ Some left) × (was ≡
 -- piece are taken.
 abbrev pub KeepsComing : {R : Type 0} → (R → Option Coming) → R → R → ℕ → ℕ → Bytes → State × ℕ → Type 0
 KeepsComing coming old new before after piece answer =
-    Passes [] (coming_seen Open before (coming old) []) (coming_seen answer.0 after (coming new) (take answer.1 piece))
+    Passes [] (shown_coming Open before (coming old) []) (shown_coming answer.0 after (coming new) (take answer.1 piece))
 
 -- Of what is left to read, what stands before an LF is put behind a line, with what stands behind the LF left; or all is, and none of
 -- it is an LF.
@@ -94,7 +94,7 @@ Reads (Some was) now line answer = ReadsFrom was now line answer
 
 -- the same of a reader, by what its source gives
 abbrev pub ReadsLine : {R A : Type 0} → (R → Option Coming) → LineReader R A → LineReader R A → Vec ℕ A → Result Bool BatchFault → Type 0
-ReadsLine coming old new line answer = Reads (seen_from coming old) (seen_from coming new) line.items answer
+ReadsLine coming old new line answer = Reads (shown_from coming old) (shown_from coming new) line.items answer
 
 -- a line lowers the bound
 abbrev pub Falls : ℕ → ℕ → Result Bool BatchFault → Type 0

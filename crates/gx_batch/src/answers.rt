@@ -3,11 +3,9 @@
 ghost use Rattle.std.specs.Prelude.{◌≡◌, ◌∷◌, ◌++◌, [], IfErr, IfOk, OnOk};
 ghost use Rattle.gx_model.specs.Objects.Naming.{kind_word};
 ghost use Rattle.gx_model.specs.Objects.{line};
-ghost use Rattle.gx_model.specs.Records.{body_of};
 ghost use Rattle.gx_rev.specs.Answers.{IsNamed};
 ghost use Rattle.gx_rev.specs.Calls.{DenotesText};
 ghost use Rattle.gx_rev.specs.declared.shown.Shown.TheVariants.{Object};
-ghost use Rattle.gx_rev.specs.Objects.{IsHeld, value_at};
 ghost use Rattle.gx_batch.specs.Answers.{line_of_parts};
 ghost use Rattle.gx_batch.specs.Batches.{Sent};
 ghost use Rattle.gx_batch.specs.Calls.{SendsAnswer, SendsObject};
@@ -16,7 +14,7 @@ ghost use Rattle.gx_batch.specs.declared.fault.BatchFault.TheVariants.{WriteFail
 use crate::BatchFault;
 use gx_object::{Kind, Name, Namer};
 use gx_repo::Repo;
-use gx_rev::{RevFault, Revision, Shown};
+use gx_rev::{RevFault, Revision, Shown, body_of};
 use gx_text::{Sink, send};
 use itoa::Buffer;
 use std::alloc::{AllocError, Allocator};
@@ -117,18 +115,6 @@ fn make_line<A: Allocator>(
     buffer.extend_from_slice(digits.format(size).as_bytes())?;
     buffer.push(b'\n')?;
     Ok(())
-}
-
-/// The body of a held object.
-fn body_of<'a, N: Namer, A: Allocator + Copy>(repo: &'a Repo<N, A>, name: &Name) -> &'a [u8]
-    requires { IsHeld repo.now.1 name.now }
-    ensures { result.now ≡ body_of (N.name_of repo.now.0) (value_at repo.now.1 name.now) }
-{
-    repo.sound();
-    let Some((_, body)) = repo.store().get(name) else {
-        unreachable!();
-    };
-    body
 }
 
 /// Sends an object's line, its bytes and an LF, one after the other.

@@ -1,7 +1,7 @@
 //! The lines that a source gives.
 
 ghost use Rattle.std.specs.Prelude.{◌≡◌, ◌<◌, ◌≤◌, ◌+◌, [], length, IfOk};
-ghost use Rattle.gx_batch.specs.Reading.{Falls, IsReaderOf, IsSound, KeepsComing, Passes, ReadsLine, TakesPartOf, most, pulls_left, rest_of, seen_from};
+ghost use Rattle.gx_batch.specs.Reading.{Falls, IsReaderOf, IsSound, KeepsComing, Passes, ReadsLine, TakesPartOf, most, pulls_left, rest_of, shown_from};
 ghost use Rattle.gx_batch.specs.declared.lines.State.TheVariants.{Open};
 
 use crate::BatchFault;
@@ -81,7 +81,7 @@ impl<R: Source + Drop, A: Allocator + Copy> LineReader<R, A> {
         requires open { self.old.state ≡ Open }
         requires read { rest_of self.old ≡ [] }
         ensures sound { IsSound self.new }
-        ensures keeps { Passes [] (seen_from R.coming self.old) (seen_from R.coming self.new) }
+        ensures keeps { Passes [] (shown_from R.coming self.old) (shown_from R.coming self.new) }
         ensures most { most self.new ≤ most self.old }
         ensures fewer { pulls_left self.new.state self.new.room < pulls_left self.old.state self.old.room }
     {

@@ -5,12 +5,13 @@ use Rattle.gx_model.specs.Texts.{Bytes}
 use Rattle.gx_model.specs.Histories.{Records}
 use Rattle.gx_model.specs.Records.Sound.{IsSound}
 use Rattle.gx_model.specs.Stores.StoreReading.{Stored, store_of}
-use Rattle.gx_text.specs.Devices.{Coming, Taken}
+use Rattle.gx_model.specs.Texts.Sinks.{Taken}
+use Rattle.gx_text.specs.Devices.{Coming}
 use Rattle.gx_import.specs.Exported.{ImportsExport, KeepsNoNullGitlink}
 use Rattle.gx_import.specs.Imports.{Imports}
 use Rattle.gx_import.specs.declared.report.Report.{Report}
 use Rattle.gx_import.specs.declared.fault.ImportFault.{ImportFault}
-use Rattle.gx_cli.specs.Again.{ImportsAgain, ImportsIntoAgain}
+use Rattle.gx_cli.specs.Again.{ImportsAgain, IntoAgain}
 use Rattle.gx_cli.specs.Serving.{ImportsInto, ImportsIntoStored, IsKept, IsLeft, IsRefused, IsWritten}
 use Rattle.gx_cli.specs.declared.fault.CliFault.{CliFault}
 use Rattle.gx_cli.specs.declared.fault.CliFault.TheVariants.{Import}
@@ -62,7 +63,7 @@ module _ {N A : Type 0} (name_of : N → Kind → Bytes → Bytes) (namer : N) (
       subst (λ stored. ImportsIntoStored (name_of namer) stored coming was now (outcome, Some report)) (sym read)
       (inr (new.1, Ok report, subst (λ n. Imports (name_of n) old.1 new.1 coming was now (Ok report)) same replayed, keeps, (sound_still, written_still, refl)))
 
-  pub accepted_again : (coming : Option Coming) → ImportsExport (name_of old.0) old.1 new.1 coming (Ok report) → ImportsIntoAgain (name_of namer) store coming outcome
+  pub accepted_again : (coming : Option Coming) → ImportsExport (name_of old.0) old.1 new.1 coming (Ok report) → IntoAgain (name_of namer) store coming outcome
   accepted_again None h = tt
   accepted_again (Some coming) h = λ exported is links gives empty.
       inr (new.1, subst (λ n. ImportsExport (name_of n) old.1 new.1 (Some coming) (Ok report)) same h exported is links gives (cc (sym read ∙ empty)), sound_still, written_still)

@@ -1,5 +1,4 @@
 pub mod ListedEntries
-pub mod SentTexts
 pub mod SentLines
 pub mod ReadWords
 pub mod RefusedWords

@@ -11,7 +11,7 @@ use Rattle.gx_model.specs.Texts.{Bytes, same_bytes}
 use Rattle.gx_model.specs.Streams.Items.{Item as ModelItem, Stream, End, Finished, Failed, then_comes}
 use Rattle.gx_model.specs.Histories.{Record}
 use Rattle.gx_model.specs.Records.Growth.{put, put_under, record_named, same_object}
-use Rattle.gx_text.specs.Devices.{Sends, Taken, Took}
+use Rattle.gx_model.specs.Texts.Sinks.{Sends, Taken, Took}
 use Rattle.gx_stream.specs.declared.item.Item.{Item}
 use Rattle.gx_stream.specs.declared.fault.StreamFault.{StreamFault}
 use Rattle.gx_stream.specs.declared.fault.StreamFault.TheVariants as stream
@@ -25,7 +25,7 @@ use Rattle.gx_cli.specs.declared.blob_names.Stage.TheVariants.{Expected}
 use Rattle.gx_cli.specs.declared.blob_names.BlobsKind.{BlobsKind}
 use Rattle.gx_cli.specs.declared.blob_names.BlobsKind.TheVariants as kinds
 use Rattle.gx_cli.specs.declared.blob_names.BlobsFault.{BlobsFault}
-use Rattle.gx_cli.proofs.SentTexts.{took_nothing}
+use Rattle.gx_model.proofs.SentTexts.{took_nothing}
 use Rattle.gx_cli.proofs.Staged.{blobs_of-run}
 
 -- the blobs of items, from a stage on

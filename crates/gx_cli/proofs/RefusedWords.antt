@@ -3,7 +3,7 @@ use Rattle.std.proofs.Common.{◌≡◌, refl, sym, ap, subst, [], Option, Resul
 use Rattle.gx_model.specs.Faults.{Given, IsFaultOf, and_then}
 use Rattle.gx_model.specs.Revisions.Ranges.{WordFault}
 use Rattle.gx_model.specs.Texts.{Bytes}
-use Rattle.gx_text.specs.Devices.{Taken}
+use Rattle.gx_model.specs.Texts.Sinks.{Taken}
 use Rattle.gx_rev.specs.declared.fault.RevFault.{RevFault}
 use Rattle.gx_rev.specs.declared.fault.RevFault.TheVariants.{OutOfMemory}
 use Rattle.gx_rev.specs.RevFaults.{fault_of}
@@ -12,7 +12,7 @@ use Rattle.gx_cli.specs.declared.fault.CliFault.TheVariants as cli
 use Rattle.gx_cli.specs.Answers.{IsFrontOf, Prints}
 use Rattle.gx_cli.specs.Stored.{Printed, Refusal, all_words, of_word, only_word}
 use Rattle.gx_cli.specs.Words.{RefusesWord, refused_at}
-use Rattle.gx_cli.proofs.SentTexts.{took_nothing}
+use Rattle.gx_model.proofs.SentTexts.{took_nothing}
 
 -- what is made of what all words give, in two steps
 pub in_two : {A B C : Type 0} (a : Result A WordFault) (f : A → Result B WordFault) (k : B → C) → all_words (and_then a (λ x. and_then (f x) (λ y. Ok (k y)))) ≡ and_then (all_words (and_then a f)) (λ y. Ok (k y))

@@ -11,7 +11,8 @@ use Rattle.gx_model.specs.Revisions.{Revision}
 use Rattle.gx_model.specs.Records.Sound.{IsSound}
 use Rattle.gx_model.specs.Export.{export_text}
 use Rattle.gx_model.specs.Streams.Gitlinks.{HoldsNoNullGitlink, HoldsTellsHas}
-use Rattle.gx_text.specs.Devices.{Coming, Taken}
+use Rattle.gx_model.specs.Texts.Sinks.{Taken}
+use Rattle.gx_text.specs.Devices.{Coming}
 use Rattle.gx_stream.specs.Heard.{heard_upto}
 use Rattle.gx_import.specs.Exported.{ExportedOr, ImportsExport, IsExported, KeepsNoNullGitlink, nothing}
 use Rattle.gx_import.specs.Imports.{Imports, report_of}

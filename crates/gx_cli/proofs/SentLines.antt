@@ -1,57 +1,31 @@
 -- Texts that go out one after the other, and the whole that they make.
-use Rattle.std.proofs.Common.{◌≡◌, ℕ, zero, suc, ◌<◌, ◌+◌, arith, refl, sym, ap, subst, ◌∙◌, List, [], ◌∷◌, ◌++◌, map, drop, length, get_or, append_assoc, append-nil, length-append, Option, None, Some, Result, Ok, Err}
+use Rattle.std.proofs.Common.{◌≡◌, ℕ, zero, suc, ◌<◌, ◌+◌, arith, refl, sym, ap, subst, ◌∙◌, List, [], ◌∷◌, ◌++◌, map, drop, length, get_or, append_assoc, append-nil, Option, None, Some, Result, Ok, Err}
 use Rattle.std.specs.List.{flat_map, slice_get}
 use Rattle.std.proofs.lemmas.List.{drop_all, drop_more}
 use Rattle.gx_model.specs.Texts.{Bytes}
-use Rattle.gx_text.specs.Devices.{FailedWithin, Taken, Took}
+use Rattle.gx_model.specs.Texts.Sinks.{FailedWithin, Taken, Took}
 use Rattle.gx_cli.specs.declared.fault.CliFault.{CliFault}
 use Rattle.gx_cli.specs.declared.fault.CliFault.TheVariants.{OutOfMemory, WriteFailed}
 use Rattle.gx_cli.specs.Answers.{Prints}
 use Rattle.gx_cli.specs.Sending.{PrintsText}
 use Rattle.gx_cli.specs.Stored.{Printed}
-use Rattle.gx_cli.proofs.SentTexts.{failed_after, took_both, took_nothing}
-
--- what went out, and the rest that is to go out, make the whole
-pub record IsSent (was now : Option Taken) (whole rest : Bytes) : Type 0 where
-  pub front : Bytes
-  pub took : Took was now front
-  pub joined : front ++ rest ≡ whole
-
--- nothing went out yet
-pub none_sent : (was : Option Taken) (whole : Bytes) → IsSent was was whole whole
-none_sent was whole = record { front = []; took = took_nothing was; joined = refl }
-
--- one text more
-pub more_sent : (was mid now : Option Taken) (whole text rest : Bytes) → IsSent was mid whole (text ++ rest) → Took mid now text → IsSent was now whole rest
-more_sent was mid now whole text rest s h = record {
-  front = s.front ++ text;
-  took = took_both was mid now s.front text s.took h;
-  joined = append_assoc s.front text rest ∙ s.joined;
-}
-
--- a failure within a text is one within a longer text
-failed_longer : (was now : Option Taken) (text rest : Bytes) → FailedWithin was now text → FailedWithin was now (text ++ rest)
-failed_longer None now text rest h = tt
-failed_longer (Some w) now text rest h =
-    let long = length-append h.1 rest in
-    (h.0, h.1 ++ rest, ap (λ x. x ++ rest) h.2 ∙ append_assoc h.0 h.1 rest, omega (arith, h.3, long), h.4)
+use Rattle.gx_model.proofs.SentTexts.{IsLeft, left_fails, took_both}
 
 -- what stopped one of the texts stopped the whole
-pub cut_short : (was mid now : Option Taken) (whole text rest : Bytes) (fault : CliFault) → IsSent was mid whole (text ++ rest) → PrintsText text mid now (Err fault) → PrintsText whole was now (Err fault)
-cut_short was mid now whole text rest WriteFailed s h =
-    subst (FailedWithin was now) (append_assoc s.front text rest ∙ s.joined) (failed_longer was now (s.front ++ text) rest (failed_after was mid now s.front text s.took h))
+pub cut_short : (was mid now : Option Taken) (whole text rest : Bytes) (fault : CliFault) → IsLeft whole was mid (text ++ rest) → PrintsText text mid now (Err fault) → PrintsText whole was now (Err fault)
+cut_short was mid now whole text rest WriteFailed s h = left_fails whole was mid now text rest s h
 cut_short was mid now whole text rest OutOfMemory s h = (
   s.front ++ h.0,
   h.1 ++ rest,
-  sym s.joined ∙ ap (λ x. s.front ++ (x ++ rest)) h.2 ∙ ap (λ x. s.front ++ x) (append_assoc h.0 h.1 rest) ∙ sym (append_assoc s.front h.0 (h.1 ++ rest)),
+  s.parts ∙ ap (λ x. s.front ++ (x ++ rest)) h.2 ∙ ap (λ x. s.front ++ x) (append_assoc h.0 h.1 rest) ∙ sym (append_assoc s.front h.0 (h.1 ++ rest)),
   took_both was mid now s.front h.0 s.took h.3,
 )
 cut_short was mid now whole text rest fault s h = absurd h
 
 -- the last text, and what came of the whole
-pub last_sent : (was mid now : Option Taken) (whole text : Bytes) (answer : Result (Unit {0}) CliFault) → IsSent was mid whole text → PrintsText text mid now answer → PrintsText whole was now answer
-last_sent was mid now whole text (Ok u) s h = subst (Took was now) s.joined (took_both was mid now s.front text s.took h)
-last_sent was mid now whole text (Err fault) s h = cut_short was mid now whole text [] fault (subst (IsSent was mid whole) (sym (append-nil text)) s) h
+pub last_sent : (was mid now : Option Taken) (whole text : Bytes) (answer : Result (Unit {0}) CliFault) → IsLeft whole was mid text → PrintsText text mid now answer → PrintsText whole was now answer
+last_sent was mid now whole text (Ok u) s h = subst (Took was now) (sym s.parts) (took_both was mid now s.front text s.took h)
+last_sent was mid now whole text (Err fault) s h = cut_short was mid now whole text [] fault (subst (IsLeft whole was mid) (sym (append-nil text)) s) h
 
 -- a text that is given
 pub given_text : (given : Printed) (text : Bytes) (was now : Option Taken) (answer : Result (Unit {0}) CliFault) → given ≡ Ok text → PrintsText text was now answer → Prints given was now answer

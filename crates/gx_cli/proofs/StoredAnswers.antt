@@ -5,7 +5,7 @@ use Rattle.gx_model.specs.Texts.{Bytes}
 use Rattle.gx_model.specs.Faults.{Given}
 use Rattle.gx_model.specs.Histories.{Records}
 use Rattle.gx_model.specs.Stores.StoreReading.{Stored, store_of}
-use Rattle.gx_text.specs.Devices.{Taken}
+use Rattle.gx_model.specs.Texts.Sinks.{Taken}
 use Rattle.gx_file.specs.Faults.{IsFaultOf}
 use Rattle.gx_model.specs.declared.store_faults.FileFault.{FileFault}
 use Rattle.gx_model.specs.declared.store_faults.FileFault.TheVariants as file
@@ -15,12 +15,11 @@ use Rattle.gx_cli.specs.Serving.{IsWritten, printed_by}
 use Rattle.gx_cli.specs.Stored.{Printed, of_store, of_stored, of_word, only_word}
 use Rattle.gx_import.specs.Exported.{nothing}
 use Rattle.gx_cli.specs.Trying.{Shows}
-use Rattle.gx_cli.specs.declared.command_line.Line.{Line}
-use Rattle.gx_cli.specs.declared.command_line.Line.TheVariants as line
+use Rattle.gx_cli.specs.declared.questions.Question.{Question}
 use Rattle.gx_cli.specs.declared.fault.CliFault.{CliFault}
 use Rattle.gx_cli.specs.declared.fault.CliFault.TheVariants.{OutOfMemory, Revision, Store, WriteFailed}
 use Rattle.gx_cli.specs.declared.serving.Outcome.{Outcome}
-use Rattle.gx_cli.proofs.SentTexts.{took_nothing}
+use Rattle.gx_model.proofs.SentTexts.{took_nothing}
 
 -- nothing is a front of whatever is printed
 pub no_front : (given : Printed) → IsFrontOf given []
@@ -46,41 +45,11 @@ read_printed : {N : Type 0} (name_of : N → Kind → Bytes → Bytes) (namer : 
 read_printed name_of namer repository stored given was now answer same read h =
     subst (λ s. Prints (of_stored s (given (name_of namer))) was now answer) (sym read) (subst (λ n. Prints (given (name_of n) repository.1) was now answer) same h)
 
--- what a line prints of the store that was read
-pub line_printed : {N : Type 0} (name_of : N → Kind → Bytes → Bytes) (namer : N) (repository : N × Records) (store : Bytes) (given shown : Line) (was now : Option Taken) (answer : Result (Unit {0}) CliFault)
-    → repository.0 ≡ namer → store_of (name_of namer) store ≡ Ok repository.1 → given ≡ shown → Prints (printed_by (name_of repository.0) shown repository.1) was now answer → Prints (of_stored (store_of (name_of namer) store) (printed_by (name_of namer) given)) was now answer
-line_printed name_of namer repository store given shown was now answer same read is h =
-    read_printed name_of namer repository (λ name. store_of name store) (λ name. printed_by name given) was now answer same read (subst (λ l. Prints (printed_by (name_of repository.0) l repository.1) was now answer) (sym is) h)
-
--- a line that has no use for a store, or makes one
-abbrev pub IsSilent : Line → Type 0
-IsSilent given =
-    (given ≡ line.Blobs)
-    ⊎ (((word : Bor Bytes) × (given ≡ line.Try word))
-    ⊎ (((file : Bor Bytes) × (given ≡ line.Init file))
-    ⊎ (((file : Bor Bytes) × (given ≡ line.Import file))
-    ⊎ (((file : Bor Bytes) × (given ≡ line.Export file))
-    ⊎ ((given ≡ line.Adapt)
-    ⊎ (((command : ℕ) × (given ≡ line.Where command))
-    ⊎ ((check : Bool) × (file : Bor Bytes) × (given ≡ line.Batch check file))))))))
-
--- it prints nothing of any repository
-silent : (name : Kind → Bytes → Bytes) (given : Line) (repository : Records) → IsSilent given → Ok [] ≡ printed_by name given repository
-silent name given repository (inl e) = ap (λ l. printed_by name l repository) (sym e)
-silent name given repository (inr (inl h)) = ap (λ l. printed_by name l repository) (sym h.1)
-silent name given repository (inr (inr (inl h))) = ap (λ l. printed_by name l repository) (sym h.1)
-silent name given repository (inr (inr (inr (inl h)))) = ap (λ l. printed_by name l repository) (sym h.1)
-silent name given repository (inr (inr (inr (inr (inl h))))) = ap (λ l. printed_by name l repository) (sym h.1)
-silent name given repository (inr (inr (inr (inr (inr (inl e)))))) = ap (λ l. printed_by name l repository) (sym e)
-silent name given repository (inr (inr (inr (inr (inr (inr (inl h))))))) = ap (λ l. printed_by name l repository) (sym h.1)
-silent name given repository (inr (inr (inr (inr (inr (inr (inr h))))))) = ap (λ l. printed_by name l repository) (sym h.2)
-
--- nothing is printed then
-pub line_silent : {N : Type 0} (name_of : N → Kind → Bytes → Bytes) (namer : N) (repository : N × Records) (store : Bytes) (given : Line) (was : Option Taken)
-    → repository.0 ≡ namer → store_of (name_of namer) store ≡ Ok repository.1 → IsSilent given → Prints (of_stored (store_of (name_of namer) store) (printed_by (name_of namer) given)) was was (Ok tt)
-line_silent name_of namer repository store given was same read is =
-    let printed : Prints (Ok []) was was (Ok tt) = ([], refl, took_nothing was) in
-    line_printed name_of namer repository store given given was was (Ok tt) same read refl (subst (λ text. Prints text was was (Ok tt)) (silent (name_of repository.0) given repository.1 is) printed)
+-- what a question prints of the store that was read
+pub question_printed : {N : Type 0} (name_of : N → Kind → Bytes → Bytes) (namer : N) (repository : N × Records) (store : Bytes) (given asked : Question) (was now : Option Taken) (answer : Result (Unit {0}) CliFault)
+    → repository.0 ≡ namer → store_of (name_of namer) store ≡ Ok repository.1 → given ≡ asked → Prints (printed_by (name_of repository.0) asked repository.1) was now answer → Prints (of_stored (store_of (name_of namer) store) (printed_by (name_of namer) given)) was now answer
+question_printed name_of namer repository store given asked was now answer same read is h =
+    read_printed name_of namer repository (λ name. store_of name store) (λ name. printed_by name given) was now answer same read (subst (λ q. Prints (printed_by (name_of repository.0) q repository.1) was now answer) (sym is) h)
 
 -- what is written of a new repository
 pub written_new : {N A : Type 0} (name_of : N → Kind → Bytes → Bytes) (repository : N × Records) (namer : N) (outcome : Outcome A) → repository ≡ (namer, nothing) → IsWritten (name_of repository.0) repository.1 outcome → IsWritten (name_of namer) nothing outcome

@@ -5,7 +5,8 @@ use Rattle.gx_model.specs.Texts.{Bytes}
 use Rattle.gx_model.specs.Histories.{Records}
 use Rattle.gx_model.specs.Records.Sound.{IsSound}
 use Rattle.gx_model.specs.Stores.StoreReading.{store_of}
-use Rattle.gx_text.specs.Devices.{Coming, Taken}
+use Rattle.gx_model.specs.Texts.Sinks.{Taken}
+use Rattle.gx_text.specs.Devices.{Coming}
 use Rattle.gx_import.specs.Exported.{ImportsExport, KeepsNoNullGitlink}
 use Rattle.gx_import.specs.Imports.{Imports}
 use Rattle.gx_import.specs.declared.report.Report.{Report}

@@ -7,7 +7,8 @@ use Rattle.gx_model.specs.Streams.Commands.{Commands}
 use Rattle.gx_model.specs.Histories.{Records}
 use Rattle.gx_model.specs.Records.HistoryOf.{history_of}
 use Rattle.gx_model.specs.Replay.{Outcome}
-use Rattle.gx_text.specs.Devices.{Coming, Taken, Took}
+use Rattle.gx_model.specs.Texts.Sinks.{Taken, Took}
+use Rattle.gx_text.specs.Devices.{Coming}
 use Rattle.gx_command.specs.Reading.{commands_from}
 use Rattle.gx_import.specs.Imports.{Imports, report_of}
 use Rattle.gx_import.specs.declared.report.Report.{Report}
@@ -18,7 +19,7 @@ use Rattle.gx_cli.specs.Trying.{ImportsAlone, Shows, ShowsReplayed, StandsAlone,
 use Rattle.gx_cli.specs.declared.fault.CliFault.{CliFault}
 use Rattle.gx_cli.specs.declared.fault.CliFault.TheVariants.{Import, OutOfMemory, WriteFailed}
 use Rattle.gx_cli.specs.declared.fault.CliFault.TheVariants as cli
-use Rattle.gx_cli.proofs.SentTexts.{failed_after, took_both}
+use Rattle.gx_model.proofs.SentTexts.{failed_after, took_both}
 
 -- an import into a repository with nothing, where it is refused
 pub refused_alone : {N : Type 0} (name_of : N → Kind → Bytes → Bytes) (namer : N) (old : N × Records) (new : Records) (coming : Option Coming) (was now : Option Taken) (fault : ImportFault) → old ≡ (namer, nothing)

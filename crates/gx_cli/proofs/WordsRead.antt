@@ -9,7 +9,7 @@ use Rattle.gx_model.specs.Objects.{hex}
 use Rattle.gx_model.specs.Revisions.{Revision, revision_of}
 use Rattle.gx_model.specs.Revisions.Denotation.{Shown, denoted}
 use Rattle.gx_model.specs.Revisions.Ranges.{WordFault, each_word}
-use Rattle.gx_text.specs.Devices.{Taken}
+use Rattle.gx_model.specs.Texts.Sinks.{Taken}
 use Rattle.gx_rev.specs.Answers.{IsNamed, shown_by}
 use Rattle.gx_rev.specs.RevFaults.{fault_of}
 use Rattle.gx_rev.specs.declared.shown.Shown.{Shown as Answer}
@@ -20,7 +20,7 @@ use Rattle.gx_cli.specs.Stored.{Refusal, all_words, name_line, names_text, of_wo
 use Rattle.gx_cli.specs.declared.fault.CliFault.{CliFault}
 use Rattle.gx_cli.specs.declared.fault.CliFault.TheVariants as cli
 use Rattle.gx_cli.proofs.RefusedWords.{then_words}
-use Rattle.gx_cli.proofs.SentTexts.{took_nothing}
+use Rattle.gx_model.proofs.SentTexts.{took_nothing}
 use Rattle.gx_cli.proofs.StoredAnswers.{no_front}
 
 -- where the first words are refused, so are all

@@ -39,10 +39,10 @@ module _ (name : Kind → Bytes → Bytes) {A : Type 0} where
       → GivesExport exported coming → stored ≡ Ok nothing → IsAgainOr exported o
 
   -- the same of the store of a text, which is read first
-  abbrev pub ImportsIntoAgain : Bytes → Option Coming → Outcome A → Type 0
-  ImportsIntoAgain text coming o = ImportsAgain (store_of name text) coming o
+  abbrev pub IntoAgain : Bytes → Option Coming → Outcome A → Type 0
+  IntoAgain text coming o = ImportsAgain (store_of name text) coming o
 
   -- the same of the command
   abbrev pub ServesExported : Line → Bytes → Option Coming → Outcome A → Type 0
-  ServesExported (line.Import file) store coming o = ImportsIntoAgain store coming o
+  ServesExported (line.Import file) store coming o = IntoAgain store coming o
   ServesExported line store coming o = ⊤

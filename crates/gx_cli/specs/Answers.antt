@@ -1,7 +1,7 @@
 -- How a command's answer goes with what it has to print.
-use Rattle.std.specs.Prelude.{◌≡◌, ◌++◌, [], Option, Result, Ok, Err, ⊤}
+use Rattle.std.specs.Prelude.{◌≡◌, ◌++◌, [], Option, Result, Ok, Err}
 use Rattle.gx_model.specs.Texts.{Bytes}
-use Rattle.gx_text.specs.Devices.{FailedWithin, Taken, Took}
+use Rattle.gx_model.specs.Texts.Sinks.{FailedWithin, Taken, Took}
 use Rattle.gx_model.specs.declared.store_faults.FileFault.TheVariants as file_kind
 use Rattle.gx_rev.specs.RevFaults as rev
 use Rattle.gx_rev.specs.declared.shown.Shown.{Shown}
@@ -30,13 +30,6 @@ Prints given was now (Err WriteFailed) = (text : Bytes) × (given ≡ Ok text) �
 Prints given was now (Err OutOfMemory) = (front : Bytes) × IsFrontOf given front × Took was now front
 Prints given was now (Err (Store file_kind.OutOfMemory)) = Took was now []
 Prints given was now (Err fault) = (refusal : Refusal) × (given ≡ Err refusal) × IsRefusal refusal fault × Took was now []
-
--- A text went out. Where the sink failed or memory ran out, a front of it did.
-abbrev pub Puts : Bytes → Option Taken → Option Taken → Result (Unit {0}) CliFault → Type 0
-Puts text was now (Ok done) = Took was now text
-Puts text was now (Err WriteFailed) = FailedWithin was now text
-Puts text was now (Err OutOfMemory) = (front : Bytes) × IsFrontOf (Ok text) front × Took was now front
-Puts text was now (Err fault) = ⊥
 
 -- the line of an object's name, or of a submodule's digits
 abbrev pub shown_line : Shown → Bytes

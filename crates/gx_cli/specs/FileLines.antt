@@ -7,7 +7,7 @@ use Rattle.gx_model.specs.Texts.Paths.{Path, path_text}
 use Rattle.gx_model.specs.Histories.Files.{Leaf}
 use Rattle.gx_model.specs.Objects.{hex}
 use Rattle.gx_object.specs.declared.name.Name.{Name}
-use Rattle.gx_tree.specs.Lists.{listed}
+use Rattle.gx_tree.specs.Lists.{shown_listed}
 use Rattle.gx_cli.specs.Listings.{entry_line, kind_word, mode_digits}
 
 -- what stands before the path in a line
@@ -24,4 +24,4 @@ path_line path mode called = named_line (path, (mode, called.bytes))
 
 -- the lines of files, as a tree lists them
 abbrev pub listed_lines : List (Path × Mode × Name) → Bytes
-listed_lines files = flat_map named_line (map listed files)
+listed_lines files = flat_map named_line (map shown_listed files)

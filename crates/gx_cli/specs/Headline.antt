@@ -14,7 +14,8 @@ use Rattle.gx_model.specs.Revisions.Denotation.{looked_up}
 use Rattle.gx_model.specs.Replay as model
 use Rattle.gx_model.specs.Replay.{Outcome, finished, imported}
 use Rattle.gx_model.specs.Export.{export_text}
-use Rattle.gx_text.specs.Devices.{Coming, Taken, Took}
+use Rattle.gx_model.specs.Texts.Sinks.{Taken, Took}
+use Rattle.gx_text.specs.Devices.{Coming}
 use Rattle.gx_stream.specs.Heard.{heard}
 use Rattle.gx_command.specs.Reading.{commands_from}
 use Rattle.gx_import.specs.Exported.{IsExported, nothing}

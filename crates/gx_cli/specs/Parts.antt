@@ -21,7 +21,8 @@ use Rattle.gx_model.specs.Revisions.{Revision, range_of, revision_of}
 use Rattle.gx_model.specs.Stores.StoreReading.{store_of}
 use Rattle.gx_model.specs.Stores.StoreText.{store_text}
 use Rattle.gx_model.specs.Texts.{Bytes}
-use Rattle.gx_text.specs.Devices.{Coming, Taken}
+use Rattle.gx_model.specs.Texts.Sinks.{Taken}
+use Rattle.gx_text.specs.Devices.{Coming}
 use Rattle.gx_object.specs.declared.name.Name.{Name}
 use Rattle.gx_stream.specs.Heard.{items_from}
 use Rattle.gx_rev.specs.Answers.{IsNamed, shown_by}
@@ -37,15 +38,18 @@ use Rattle.gx_cli.specs.FileLines.{path_line}
 use Rattle.gx_cli.specs.Listings.{shown_text, text_of_word, tree_lines, value_text}
 use Rattle.gx_cli.specs.Printing.{PrintsBlobs, PrintsOne}
 use Rattle.gx_cli.specs.Sending.{PrintsText}
-use Rattle.gx_cli.specs.Serving.{blobs_answer, printed_by}
-use Rattle.gx_cli.specs.Stored.{all_words, commits_listed, file_line, files_of_word, list_lines, list_text, log_line, log_text, names_text, of_stored, show_text, texts_of}
+use Rattle.gx_cli.specs.Opening.{bytes_of}
+use Rattle.gx_cli.specs.Serving.{PrintsStored, blobs_answer, printed_by}
+use Rattle.gx_cli.specs.Stored.{all_words, commits_listed, file_line, files_of_word, line_of_ref, list_lines, list_text, log_line, log_text, names_text, of_stored, show_text, texts_of}
 use Rattle.gx_cli.specs.Trying.{Shows, Tries}
 use Rattle.gx_cli.specs.Words.{GivesWords}
 use Rattle.gx_cli.specs.declared.blob_names.BlobsFault.{BlobsFault}
 use Rattle.gx_cli.specs.declared.blob_names.BlobsKind.{BlobsKind}
-use Rattle.gx_cli.specs.declared.command_line.Line.{Line}
 use Rattle.gx_cli.specs.declared.command_line.LogOptions.{LogOptions}
 use Rattle.gx_cli.specs.declared.fault.CliFault.{CliFault}
+use Rattle.gx_cli.specs.declared.opening.StoreBytes.{StoreBytes}
+use Rattle.gx_cli.specs.declared.questions.Question.{Question}
+use Rattle.gx_cli.specs.declared.serving.Outcome.{Outcome}
 
 -- ---- words
 
@@ -62,6 +66,10 @@ abbrev pub AreCommits : Records → List Name → Type 0
 AreCommits repository names = AllByRecursion (IsHeldAs kinds.Commit repository) names
 
 -- ---- files
+
+-- the line of a ref goes out
+abbrev pub PrintsRef : {W : Type 0} → (W → Option Taken) → Bytes → Name → W → W → Result (Unit {0}) CliFault → Type 0
+PrintsRef taken name object old new result = PrintsText (line_of_ref name object) (taken old) (taken new) result
 
 -- the line of the file of this mode at a path goes out
 abbrev pub PrintsFile : {W : Type 0} → (W → Option Taken) → Path → Mode → Name → W → W → Result (Unit {0}) CliFault → Type 0
@@ -124,10 +132,14 @@ module _ {N W : Type 0} (name_of : N → Kind → Bytes → Bytes) (taken : W �
   abbrev pub TriesWord : N → Option Coming → Bytes → W → W → Result (Unit {0}) CliFault → Type 0
   TriesWord namer coming word old new result = Tries (name_of namer) coming word (taken old) (taken new) result
 
-  -- what a command prints of the store of a text goes out, or a refusal is answered
-  abbrev pub PrintsOfStore : N → Line → Bytes → W → W → Result (Unit {0}) CliFault → Type 0
-  PrintsOfStore namer line text old new result =
-      Prints (of_stored (store_of (name_of namer) text) (printed_by (name_of namer) line)) (taken old) (taken new) result
+  -- what a question prints of the store of these bytes goes out, or a refusal is answered
+  abbrev pub PrintsOfStore : {A : Type 0} → N → Question → StoreBytes A → W → W → Result (Unit {0}) CliFault → Type 0
+  PrintsOfStore namer asked store old new result =
+      Prints (of_stored (store_of (name_of namer) (bytes_of store)) (printed_by (name_of namer) asked)) (taken old) (taken new) result
+
+  -- the same, and how the command ends
+  abbrev pub AsksStore : {A : Type 0} → N → Question → StoreBytes A → W → W → Outcome A → Type 0
+  AsksStore namer asked store old new o = PrintsStored (store_of (name_of namer) (bytes_of store)) (printed_by (name_of namer) asked) (taken old) (taken new) o
 
   -- ---- one revision
 
@@ -149,6 +161,10 @@ module _ {N W : Type 0} (name_of : N → Kind → Bytes → Bytes) (taken : W �
 
   -- ---- trees
 
+  -- the lines of the entries of the tree of this name go out, all of them made before
+  abbrev pub ShowsEntries : Repository N → Name → W → W → Result (Unit {0}) CliFault → Type 0
+  ShowsEntries repo tree old new result = Shows [] (Ok (entries_text name_of repo tree)) (taken old) (taken new) result
+
   -- the lines of the tree that a word gives as a revision go out, or why it gives none is answered
   abbrev pub ListsWord : Repository N → Bool → Bytes → W → W → Result (Unit {0}) CliFault → Type 0
   ListsWord repo recursive word old new result = Prints (list_text (name_of repo.0) recursive (history_of repo.1) word) (taken old) (taken new) result
@@ -156,10 +172,6 @@ module _ {N W : Type 0} (name_of : N → Kind → Bytes → Bytes) (taken : W �
   -- the lines of the tree of this name go out: those of its entries, or of all its files
   abbrev pub ListsTree : Repository N → Bool → Name → W → W → Result (Unit {0}) CliFault → Type 0
   ListsTree repo recursive tree old new result = PrintsText (list_lines (name_of repo.0) recursive (files_at repo.1 tree)) (taken old) (taken new) result
-
-  -- the lines of the entries of the tree of this name go out
-  abbrev pub ListsEntries : Repository N → Name → W → W → Result (Unit {0}) CliFault → Type 0
-  ListsEntries repo tree old new result = PrintsText (entries_text name_of repo tree) (taken old) (taken new) result
 
   -- the lines of all files of the tree of this name go out
   abbrev pub ListsFiles : Repository N → Name → W → W → Result (Unit {0}) CliFault → Type 0

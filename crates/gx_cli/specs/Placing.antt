@@ -3,7 +3,8 @@
 use Rattle.std.specs.Prelude.{◌≡◌, ℕ, ◌<◌, ◌≤◌, [], ◌∷◌, ◌++◌, length, Option, Result, Ok, Err}
 use Rattle.std.specs.Fmt.{decimal}
 use Rattle.gx_model.specs.Texts.{Bytes}
-use Rattle.gx_text.specs.Devices.{Coming, FailedWithin, Taken, Took}
+use Rattle.gx_model.specs.Texts.Sinks.{FailedWithin, Taken, Took}
+use Rattle.gx_text.specs.Devices.{Coming}
 use Rattle.gx_where.specs.Faults.{IsWhy}
 use Rattle.gx_where.specs.Places.{BeginsWith, GoesOnWith, front_line, line_at, rest_at}
 use Rattle.gx_where.specs.Rests.{BeginsNoComment, Reaches}

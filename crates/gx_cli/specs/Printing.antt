@@ -9,7 +9,7 @@ use Rattle.gx_model.specs.Objects.{hex}
 use Rattle.gx_model.specs.Streams.Items.{End, Failed, Finished, Stream}
 use Rattle.gx_model.specs.Histories.{Record}
 use Rattle.gx_model.specs.Records.Growth.{put}
-use Rattle.gx_text.specs.Devices.{Sends, Taken, Took}
+use Rattle.gx_model.specs.Texts.Sinks.{Sends, Taken, Took}
 use Rattle.gx_stream.specs.Faults.{fault_of}
 use Rattle.gx_stream.specs.declared.fault.StreamFault.{StreamFault}
 use Rattle.gx_stream.specs.declared.fault.StreamFault.TheVariants as stream
@@ -37,10 +37,10 @@ stop_of kinds.NameHeld = refused fault.NameHeld
 stop_of kinds.NotABlob = not_a_blob
 
 -- what an item does, as the code tells it
-abbrev pub step_seen : Step → model.Step
-step_seen (Halt k) = model.stop (stop_of k)
-step_seen (Go stage) = model.go stage
-step_seen (Body x) = model.body x.now
+abbrev pub shown_step : Step → model.Step
+shown_step (Halt k) = model.stop (stop_of k)
+shown_step (Go stage) = model.go stage
+shown_step (Body x) = model.body x.now
 
 -- a fault of the items, as it is answered
 abbrev pub kind_of : StreamFault → BlobsKind

@@ -10,7 +10,8 @@ use Rattle.gx_model.specs.Records.Sound.{IsSound}
 use Rattle.gx_model.specs.declared.store_versions.Version.TheVariants as version
 use Rattle.gx_model.specs.Stores.StoreText.{store_text}
 use Rattle.gx_model.specs.Stores.StoreReading.{Stored, store_of}
-use Rattle.gx_text.specs.Devices.{Coming, Taken}
+use Rattle.gx_model.specs.Texts.Sinks.{Taken}
+use Rattle.gx_text.specs.Devices.{Coming}
 use Rattle.gx_stream.specs.Heard.{items_from}
 use Rattle.gx_import.specs.Exported.{KeepsNoNullGitlink, nothing}
 use Rattle.gx_import.specs.Imports.{Imports}
@@ -28,6 +29,8 @@ use Rattle.gx_cli.specs.declared.blob_names.BlobsFault.{BlobsFault}
 use Rattle.gx_cli.specs.declared.command_line.Line.{Line}
 use Rattle.gx_cli.specs.declared.command_line.Line.TheVariants as line
 use Rattle.gx_cli.specs.declared.fault.CliFault.{CliFault}
+use Rattle.gx_cli.specs.declared.questions.Question.{Question}
+use Rattle.gx_cli.specs.declared.questions.Question.TheVariants as question
 use Rattle.gx_cli.specs.declared.fault.CliFault.TheVariants.{Blobs, Export, Import, OutOfMemory, Store}
 use Rattle.gx_cli.specs.declared.serving.Outcome.{Outcome}
 use Rattle.gx_cli.specs.Answers.{Prints}
@@ -87,14 +90,13 @@ ExportsStored (Err f) was now o = IsUnread f was now o
 abbrev pub ExportsStore : {A : Type 0} → (Kind → Bytes → Bytes) → Bytes → Option Taken → Option Taken → Outcome A → Type 0
 ExportsStore name text was now o = ExportsStored (store_of name text) was now o
 
--- what a command prints of a store: nothing where it has no use for one, or makes one
-abbrev pub printed_by : (Kind → Bytes → Bytes) → Line → Records → Printed
-printed_by name (line.Show file word) r = show_text name (history_of r) word.now
-printed_by name (line.Ls recursive file word) r = list_text name recursive (history_of r) word.now
-printed_by name (line.Refs file) r = Ok (refs_text r)
-printed_by name (line.Log options file words) r = log_text name options (history_of r) (texts_of words.items)
-printed_by name (line.RevParse file words) r = names_text name (history_of r) (texts_of words.items)
-printed_by name _ r = Ok []
+-- what a question prints of a store
+abbrev pub printed_by : (Kind → Bytes → Bytes) → Question → Records → Printed
+printed_by name (question.Show word) r = show_text name (history_of r) word.now
+printed_by name (question.List recursive word) r = list_text name recursive (history_of r) word.now
+printed_by name question.Refs r = Ok (refs_text r)
+printed_by name (question.Log options words) r = log_text name options (history_of r) (texts_of words.now)
+printed_by name (question.Names words) r = names_text name (history_of r) (texts_of words.now)
 
 -- what is printed of a store, and how the command ends
 abbrev pub PrintsStored : {A : Type 0} → Stored Records → (Records → Printed) → Option Taken → Option Taken → Outcome A → Type 0
@@ -143,4 +145,8 @@ module _ (name : Kind → Bytes → Bytes) {A : Type 0} where
   Serves (line.Init file) store coming was now o = IsWritten name nothing o × (now ≡ was)
   Serves (line.Import file) store coming was now o = (told : Option Report) × ImportsInto store coming was now (o, told)
   Serves (line.Export file) store coming was now o = ExportsStore name store was now o
-  Serves printing store coming was now o = PrintsStored (store_of name store) (printed_by name printing) was now o
+  Serves (line.Show file word) store coming was now o = PrintsStored (store_of name store) (λ r. show_text name (history_of r) word.now) was now o
+  Serves (line.Ls recursive file word) store coming was now o = PrintsStored (store_of name store) (λ r. list_text name recursive (history_of r) word.now) was now o
+  Serves (line.Refs file) store coming was now o = PrintsStored (store_of name store) (λ r. Ok (refs_text r)) was now o
+  Serves (line.Log options file words) store coming was now o = PrintsStored (store_of name store) (λ r. log_text name options (history_of r) (texts_of words.items)) was now o
+  Serves (line.RevParse file words) store coming was now o = PrintsStored (store_of name store) (λ r. names_text name (history_of r) (texts_of words.items)) was now o

@@ -8,7 +8,8 @@ use Rattle.gx_model.specs.Records.HistoryOf.{history_of}
 use Rattle.gx_model.specs.Laws.ExportLaws.{HasNoNullGitlink}
 use Rattle.gx_model.specs.Records.Sound.{IsSound}
 use Rattle.gx_model.specs.Stores.StoreReading.{Stored, store_of}
-use Rattle.gx_text.specs.Devices.{Coming, Taken}
+use Rattle.gx_model.specs.Texts.Sinks.{Taken}
+use Rattle.gx_text.specs.Devices.{Coming}
 use Rattle.gx_import.specs.Exported.{GivesExport, IsExported, KeepsNoNullGitlink, nothing}
 use Rattle.gx_import.specs.Imports.{Imports}
 use Rattle.gx_import.specs.declared.report.Report.{Report}

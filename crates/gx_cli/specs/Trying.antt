@@ -15,10 +15,11 @@ use Rattle.gx_model.specs.Revisions.{Revision}
 use Rattle.gx_model.specs.Revisions.Denotation.{looked_up}
 use Rattle.gx_model.specs.Replay as model
 use Rattle.gx_model.specs.Replay.{Outcome, finished, imported}
-use Rattle.gx_text.specs.Devices.{Coming, FailedWithin, Taken, Took}
+use Rattle.gx_model.specs.Texts.Sinks.{FailedWithin, Taken, Took}
+use Rattle.gx_text.specs.Devices.{Coming}
 use Rattle.gx_stream.specs.Heard.{heard}
 use Rattle.gx_command.specs.Reading.{commands_from}
-use Rattle.gx_rev.specs.Answers.{seen_file}
+use Rattle.gx_rev.specs.Answers.{shown_file}
 use Rattle.gx_rev.specs.RevFaults.{fault_of}
 use Rattle.gx_import.specs.Exported.{nothing}
 use Rattle.gx_import.specs.Imports.{AreRead, Replays, replayed_on}
@@ -47,7 +48,7 @@ Replayed outcome h text = (report : model.Report) × (outcome ≡ finished h tex
 
 -- what is looked up is given, or why nothing is, unless memory ran out
 abbrev pub LooksAs : {A : Type 0} → Given (Leaf Bytes) → Result (Mode × Vec ℕ A) CliFault → Type 0
-LooksAs given (Ok file) = given ≡ Ok (seen_file file)
+LooksAs given (Ok file) = given ≡ Ok (shown_file file)
 LooksAs given (Err (cli.Revision number kind)) = (number ≡ 1) × (given ≡ Err (fault_of kind))
 LooksAs given (Err OutOfMemory) = ⊤
 LooksAs given (Err fault) = ⊥

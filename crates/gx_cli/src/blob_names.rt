@@ -7,7 +7,7 @@ ghost use Rattle.gx_model.specs.Streams.Grammar.{mark_of};
 ghost use Rattle.gx_stream.specs.Reading.{item_of};
 ghost use Rattle.gx_cli.specs.Parts.{AddsBlob, NamesBlobs};
 ghost use Rattle.gx_cli.specs.Steps.{step_of, stop_at, marked_as, marked_by, named_by, command_line, mark_line, oid_line};
-ghost use Rattle.gx_cli.specs.Printing.{step_seen, stop_of, kind_of, name_line};
+ghost use Rattle.gx_cli.specs.Printing.{shown_step, stop_of, kind_of, name_line};
 
 use gx_object::{Kind, Name, Namer};
 use gx_store::{Store, StoreFault};
@@ -145,7 +145,7 @@ fn kind_at_end(stage: Stage) -> Option<BlobsKind>
 }
 
 fn take_item(stage: Stage, item: Item<'_>) -> Step<'_>
-    ensures { step_seen result ≡ step_of stage (item_of item.entry) }
+    ensures { shown_step result ≡ step_of stage (item_of item.entry) }
 {
     match item {
         Item::Data(bytes) => match stage {
@@ -157,7 +157,7 @@ fn take_item(stage: Stage, item: Item<'_>) -> Step<'_>
 }
 
 fn take_line<'a>(stage: Stage, line: &[u8]) -> Step<'a>
-    ensures { step_seen result ≡ step_of stage (a_line line.now) }
+    ensures { shown_step result ≡ step_of stage (a_line line.now) }
 {
     match stage {
         Stage::Expected => command_line(line),
@@ -169,7 +169,7 @@ fn take_line<'a>(stage: Stage, line: &[u8]) -> Step<'a>
 
 #[tactic(auto, unfolding(crate::specs::Steps::command_line))]
 fn command_line<'a>(line: &[u8]) -> Step<'a>
-    ensures { step_seen result ≡ command_line line.now }
+    ensures { shown_step result ≡ command_line line.now }
 {
     if line.is_empty() {
         Step::Go(Stage::Expected)
@@ -182,7 +182,7 @@ fn command_line<'a>(line: &[u8]) -> Step<'a>
 
 #[tactic(auto, unfolding(crate::specs::Steps::mark_line))]
 fn mark_line<'a>(line: &[u8]) -> Step<'a>
-    ensures { step_seen result ≡ mark_line line.now }
+    ensures { shown_step result ≡ mark_line line.now }
 {
     match cut(line, b' ') {
         Some((word, rest)) if word == b"mark".as_slice() => mark(rest),
@@ -194,7 +194,7 @@ fn mark_line<'a>(line: &[u8]) -> Step<'a>
 /// A mark's text: a colon, and a number from 1.
 #[tactic(auto, unfolding(gx_model::specs::Streams::Grammar::mark_of))]
 fn mark<'a>(text: &[u8]) -> Step<'a>
-    ensures { step_seen result ≡ marked_as (mark_of text.now) }
+    ensures { shown_step result ≡ marked_as (mark_of text.now) }
 {
     match text {
         [b':', digits @ ..] => match decimal(digits) {
@@ -207,7 +207,7 @@ fn mark<'a>(text: &[u8]) -> Step<'a>
 
 #[tactic(auto, unfolding(crate::specs::Steps::oid_line))]
 fn oid_line<'a>(line: &[u8]) -> Step<'a>
-    ensures { step_seen result ≡ oid_line line.now }
+    ensures { shown_step result ≡ oid_line line.now }
 {
     match cut(line, b' ') {
         Some((word, _)) if word == b"original-oid".as_slice() => Step::Go(Stage::Named),

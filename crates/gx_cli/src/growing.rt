@@ -1,7 +1,8 @@
 //! A sink over memory that grows.
 
 ghost use Rattle.std.specs.Prelude.{◌≡◌, ◌<◌, ◌≤◌, length, [], Some, IfOk, false};
-ghost use Rattle.gx_text.specs.Devices.{Taken, Pushes};
+ghost use Rattle.gx_model.specs.Texts.Sinks.{Taken};
+ghost use Rattle.gx_text.specs.Devices.{Pushes};
 
 use gx_text::{Failed, Sink};
 use std::alloc::Allocator;
@@ -15,7 +16,7 @@ pub(crate) struct Growing<A: Allocator> {
 }
 
 impl<A: Allocator> Model for Growing<A> {
-    ghost use Rattle.gx_text.specs.Devices.{Taken};
+    ghost use Rattle.gx_model.specs.Texts.Sinks.{Taken};
 
     ghost Value = { Taken };
 

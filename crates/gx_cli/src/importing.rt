@@ -1,7 +1,7 @@
 //! The commands that make a store's next text. Source: git-init(1) and git-fast-import(1).
 
 ghost use Rattle.gx_import.specs.Exported.{nothing};
-ghost use Rattle.gx_cli.specs.Again.{ImportsIntoAgain};
+ghost use Rattle.gx_cli.specs.Again.{IntoAgain};
 ghost use Rattle.gx_cli.specs.Opening.{bytes_of};
 ghost use Rattle.gx_cli.specs.Serving.{ImportsInto, IsLeft, IsWritten};
 ghost use Rattle.gx_cli.specs.declared.fault.CliFault.TheVariants.{Import};
@@ -43,7 +43,7 @@ pub fn import_into<N: Namer + Drop, R: Source + Drop, W: Sink, A: Allocator + Co
     state: RandomState,
 ) -> (Outcome<A>, Option<Report>)
     ensures imported { ImportsInto (N.name_of namer) store.now (R.coming source) (W.taken sink.old) (W.taken sink.new) result }
-    ensures again { ImportsIntoAgain (N.name_of namer) store.now (R.coming source) result.0 }
+    ensures again { IntoAgain (N.name_of namer) store.now (R.coming source) result.0 }
 {
     let store = StoreBytes::Borrowed(store);
     import_stored(alloc, namer, store, source, sink, state)
@@ -59,7 +59,7 @@ pub(crate) fn import_stored<N: Namer + Drop, R: Source + Drop, W: Sink, A: Alloc
     state: RandomState,
 ) -> (Outcome<A>, Option<Report>)
     ensures imported { ImportsInto (N.name_of namer) (bytes_of store.entry) (R.coming source) (W.taken sink.old) (W.taken sink.new) result }
-    ensures again { ImportsIntoAgain (N.name_of namer) (bytes_of store.entry) (R.coming source) result.0 }
+    ensures again { IntoAgain (N.name_of namer) (bytes_of store.entry) (R.coming source) result.0 }
 {
     let mut repo = match open(alloc, namer, store, state) {
         Ok(repo) => repo,

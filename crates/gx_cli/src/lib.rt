@@ -17,6 +17,7 @@ mod ls;
 mod names;
 mod opening;
 mod placing;
+mod questions;
 mod refs;
 mod sending;
 mod serving;

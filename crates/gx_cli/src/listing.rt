@@ -29,7 +29,7 @@ pub(crate) fn listing<A: Allocator + Copy>(
 }
 
 /// Appends an entry's line.
-pub(crate) fn put_line<A: Allocator + Copy>(
+fn put_line<A: Allocator + Copy>(
     alloc: A,
     out: &mut Vec<u8, A>,
     entry: &Entry<'_>,

@@ -1,21 +1,19 @@
 //! The entries of a revision's tree, or all of its files. Source: git-ls-tree(1).
 
 ghost use Rattle.std.specs.Prelude.{◌≡◌, IfOk, map};
-ghost use Rattle.std.specs.List.{AllByRecursion};
 ghost use Rattle.gx_model.specs.declared.objects.Kind.TheVariants as kinds;
-ghost use Rattle.gx_object.specs.Entries.{shown};
-ghost use Rattle.gx_tree.specs.Lists.{listed};
+ghost use Rattle.gx_tree.specs.Lists.{shown_listed};
 ghost use Rattle.gx_rev.specs.Objects.{IsHeldAs};
 ghost use Rattle.gx_cli.specs.FileLines.{listed_lines};
-ghost use Rattle.gx_cli.specs.Listings.{IsListed, entry_line, entry_lines};
-ghost use Rattle.gx_cli.specs.Parts.{GivesTree, ListsEntries, ListsFiles, ListsTree, ListsWord, PrintsFile, named_files};
+ghost use Rattle.gx_cli.specs.Parts.{GivesTree, ListsFiles, ListsTree, ListsWord, PrintsFile, named_files};
 ghost use Rattle.gx_cli.specs.Sending.{PrintsText};
 
 use crate::CliFault;
-use crate::listing::{put_file, put_line};
+use crate::listing::put_file;
 use crate::sending::put_text;
+use crate::showing::print_entries;
 use crate::words::refused;
-use gx_object::{Entry, Mode, Name, Namer, TreeEntries, decode_tree};
+use gx_object::{Mode, Name, Namer};
 use gx_repo::Repo;
 use gx_rev::{RevFault, Revision, tree};
 use gx_text::{Sink, TreePath};
@@ -26,7 +24,7 @@ use std::alloc::{AllocError, Allocator};
 /// lines go out one after the other.
 ///
 /// `Revision`: the word isn't a revision, or it gives no tree. Cost: that of `Revision::eval`, and of the trees that are
-/// listed. Memory: with `recursive` the list of the files, otherwise a line.
+/// listed. Memory: with `recursive` the list of the files, otherwise the lines.
 pub(crate) fn list<N: Namer, A: Allocator + Copy, W: Sink>(
     alloc: A,
     repo: &Repo<N, A>,
@@ -69,60 +67,7 @@ fn print_tree<N: Namer, A: Allocator + Copy, W: Sink>(
     if recursive {
         print_files(alloc, repo, tree, sink)
     } else {
-        print_components(alloc, repo, tree, sink)
-    }
-}
-
-/// Prints the lines of a held tree's entries.
-fn print_components<N: Namer, A: Allocator + Copy, W: Sink>(
-    alloc: A,
-    repo: &Repo<N, A>,
-    tree: &Name,
-    sink: &mut W,
-) -> Result<(), CliFault>
-    requires { IsHeldAs kinds.Tree repo.now.1 tree.now }
-    ensures { ListsEntries N.name_of W.taken repo.now tree.now sink.old sink.new result }
-{
-    repo.sound();
-    let Some((_, body)) = repo.store().get(tree) else {
-        unreachable!();
-    };
-    let Ok(entries) = decode_tree(body) else {
-        unreachable!();
-    };
-    print_entries(alloc, entries, sink)
-}
-
-/// Prints the lines of entries.
-fn print_entries<A: Allocator + Copy, W: Sink>(
-    alloc: A,
-    entries: TreeEntries<'_>,
-    sink: &mut W,
-) -> Result<(), CliFault>
-    requires components { AllByRecursion IsListed entries }
-    ensures { PrintsText (entry_lines entries.entry) (W.taken sink.old) (W.taken sink.new) result }
-{
-    let mut line = Vec::new(alloc);
-    for entry in entries {
-        print_entry(alloc, &mut line, &entry, sink)?;
-    }
-    Ok(())
-}
-
-/// Prints an entry's line, which is made in a buffer.
-fn print_entry<A: Allocator + Copy, W: Sink>(
-    alloc: A,
-    line: &mut Vec<u8, A>,
-    entry: &Entry<'_>,
-    sink: &mut W,
-) -> Result<(), CliFault>
-    requires { IsListed (shown entry.now) }
-    ensures { PrintsText (entry_line (shown entry.now)) (W.taken sink.old) (W.taken sink.new) result }
-{
-    line.clear();
-    match put_line(alloc, line, entry) {
-        Ok(()) => put_text(sink, line.as_slice()),
-        Err(_) => Err(CliFault::OutOfMemory),
+        print_entries(alloc, repo, tree, sink)
     }
 }
 
@@ -149,7 +94,7 @@ fn files_of<N: Namer, A: Allocator + Copy>(
     tree: &Name,
 ) -> Result<Vec<(TreePath<A>, Mode, Name), A>, AllocError>
     requires { IsHeldAs kinds.Tree repo.now.1 tree.now }
-    ensures { IfOk result (λ files. map listed files.items ≡ named_files N.name_of repo.now tree.now) }
+    ensures { IfOk result (λ fs. map shown_listed fs.items ≡ named_files N.name_of repo.now tree.now) }
 {
     repo.sound();
     let Ok(files) = PathTree::load(alloc, repo.store(), tree) else {

@@ -7,7 +7,7 @@ ghost use Rattle.gx_cli.specs.Parts.{AreAllNamed, EvaluatesAll, PrintsNames, Rea
 
 use crate::CliFault;
 use crate::blob_names::name_line;
-use crate::showing::print;
+use crate::sending::put_text;
 use crate::words::refused;
 use gx_object::Namer;
 use gx_repo::Repo;
@@ -71,7 +71,7 @@ fn print_lines<W: Sink>(all: &[Shown], sink: &mut W) -> Result<(), CliFault>
     ensures { Prints (Ok (flat_map shown_line all.now)) (W.taken sink.old) (W.taken sink.new) result }
 {
     for shown in all {
-        print(sink, shown_line(*shown).as_slice())?;
+        put_text(sink, shown_line(*shown).as_slice())?;
     }
     Ok(())
 }

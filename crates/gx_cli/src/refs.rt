@@ -1,11 +1,12 @@
 //! The refs of a store, one a line. Source: git-show-ref(1).
 
 ghost use Rattle.std.specs.Prelude.{◌≡◌, Ok};
-ghost use Rattle.gx_cli.specs.Answers.{Prints, Puts};
-ghost use Rattle.gx_cli.specs.Stored.{line_of_ref, refs_text};
+ghost use Rattle.gx_cli.specs.Answers.{Prints};
+ghost use Rattle.gx_cli.specs.Parts.{PrintsRef};
+ghost use Rattle.gx_cli.specs.Stored.{refs_text};
 
 use crate::CliFault;
-use crate::showing::print;
+use crate::sending::put_text;
 use gx_object::{Name, Namer};
 use gx_repo::Repo;
 use gx_text::Sink;
@@ -28,10 +29,10 @@ pub(crate) fn print_refs<N: Namer, A: Allocator + Copy, W: Sink>(
 
 /// Prints a ref's line.
 fn print_ref<W: Sink>(sink: &mut W, name: &[u8], object: &Name) -> Result<(), CliFault>
-    ensures { Puts (line_of_ref name.now object.now) (W.taken sink.old) (W.taken sink.new) result }
+    ensures { PrintsRef W.taken name.now object.now sink.old sink.new result }
 {
-    print(sink, object.hex().as_slice())?;
-    print(sink, b" ")?;
-    print(sink, name)?;
-    print(sink, b"\n")
+    put_text(sink, object.hex().as_slice())?;
+    put_text(sink, b" ")?;
+    put_text(sink, name)?;
+    put_text(sink, b"\n")
 }

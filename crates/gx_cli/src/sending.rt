@@ -1,13 +1,13 @@
 //! Texts that go out to a sink.
 
-ghost use Rattle.gx_cli.specs.Sending.{PrintsText};
+ghost use Rattle.gx_cli.specs.Sending.{Sent};
 
 use crate::CliFault;
 use gx_text::{Sink, send};
 
-/// Sends a text.
+/// Sends a text. Takes no memory.
 pub(crate) fn put_text<W: Sink>(sink: &mut W, text: &[u8]) -> Result<(), CliFault>
-    ensures { PrintsText text.now (W.taken sink.old) (W.taken sink.new) result }
+    ensures { Sent text.now (W.taken sink.old) (W.taken sink.new) result }
 {
     match send(sink, text) {
         Ok(()) => Ok(()),

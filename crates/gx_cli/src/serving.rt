@@ -2,20 +2,16 @@
 
 ghost use Rattle.gx_cli.specs.Again.{ServesExported};
 ghost use Rattle.gx_cli.specs.Opening.{bytes_of};
-ghost use Rattle.gx_cli.specs.Parts.{AnswersBlobs, PrintsOfStore};
+ghost use Rattle.gx_cli.specs.Parts.{AnswersBlobs, AsksStore};
 ghost use Rattle.gx_cli.specs.Serving.{IsOutcome, IsRefused, Serves};
 
 use crate::adapting::adapt_stream;
 use crate::batching::batch_stored;
 use crate::exporting::export_stored;
 use crate::importing::{import_stored, init};
-use crate::log::log;
-use crate::ls::list;
-use crate::names::print_names;
-use crate::opening::{StoreBytes, open};
+use crate::opening::StoreBytes;
 use crate::placing::print_place;
-use crate::refs::print_refs;
-use crate::showing::show_stored;
+use crate::questions::{Question, print_stored};
 use crate::{CliFault, Line, blobs, try_revision};
 use gx_object::Namer;
 use gx_text::{Sink, Source};
@@ -113,50 +109,45 @@ fn serve_bytes<N: Namer + Drop, R: Source + Drop, W: Sink, A: Allocator + Copy>(
             batch_stored(alloc, namer, *check, store, source, sink, state)
         }
         Line::Export { file: _ } => export_stored(alloc, namer, store, sink, state),
-        _ => outcome_of(print_stored(alloc, namer, line, store, sink, state)),
-    }
-}
-
-/// Prints what a command has to print of a store, which is nothing for those that have no use for one or make one.
-fn print_stored<N: Namer + Drop, W: Sink, A: Allocator + Copy>(
-    alloc: A,
-    namer: N,
-    line: &Line<'_>,
-    store: StoreBytes<'_, A>,
-    sink: &mut W,
-    state: RandomState,
-) -> Result<(), CliFault>
-    ensures { PrintsOfStore N.name_of W.taken namer line.now (bytes_of store.entry) sink.old sink.new result }
-{
-    let repo = match open(alloc, namer, store, state) {
-        Ok(repo) => repo,
-        Err(fault) => return Err(CliFault::Store(fault)),
-    };
-    match line {
-        Line::Show { file: _, revision } => show_stored(alloc, &repo, revision.as_bytes(), sink),
+        Line::Show { file: _, revision } => {
+            ask(alloc, namer, Question::Show(revision), store, sink, state)
+        }
         Line::Ls {
             recursive,
             file: _,
             revision,
-        } => list(alloc, &repo, *recursive, revision.as_bytes(), sink),
-        Line::Refs { file: _ } => print_refs(&repo, sink),
+        } => {
+            let question = Question::List(*recursive, revision);
+            ask(alloc, namer, question, store, sink, state)
+        }
+        Line::Refs { file: _ } => ask(alloc, namer, Question::Refs, store, sink, state),
         Line::Log {
             options,
             file: _,
             ranges,
-        } => log(alloc, &repo, *options, ranges.as_slice(), sink),
-        Line::RevParse { file: _, revisions } => {
-            print_names(alloc, &repo, revisions.as_slice(), sink)
+        } => {
+            let question = Question::Log(*options, ranges.as_slice());
+            ask(alloc, namer, question, store, sink, state)
         }
-        Line::Blobs
-        | Line::Try(_)
-        | Line::Init { file: _ }
-        | Line::Import { file: _ }
-        | Line::Export { file: _ }
-        | Line::Adapt
-        | Line::Where(_)
-        | Line::Batch { check: _, file: _ } => Ok(()),
+        Line::RevParse { file: _, revisions } => {
+            let question = Question::Names(revisions.as_slice());
+            ask(alloc, namer, question, store, sink, state)
+        }
     }
+}
+
+/// How a command ends that asks a question of a store.
+fn ask<N: Namer + Drop, W: Sink, A: Allocator + Copy>(
+    alloc: A,
+    namer: N,
+    question: Question<'_>,
+    store: StoreBytes<'_, A>,
+    sink: &mut W,
+    state: RandomState,
+) -> Outcome<A>
+    ensures { AsksStore N.name_of W.taken namer question.entry store.entry sink.old sink.new result }
+{
+    outcome_of(print_stored(alloc, namer, question, store, sink, state))
 }
 
 /// What `blobs` answers, with its fault among those of the commands.

@@ -1,20 +1,19 @@
 //! What a revision shows, printed. Source: git-cat-file(1) and git-ls-tree(1).
 
-ghost use Rattle.std.specs.Prelude.{◌≡◌, [], IfOk, Ok};
+ghost use Rattle.std.specs.Prelude.{◌≡◌, IfOk};
 ghost use Rattle.gx_model.specs.declared.objects.Kind.TheVariants as kinds;
-ghost use Rattle.gx_model.specs.Records.{body_of};
 ghost use Rattle.gx_rev.specs.Answers.{IsNamed};
 ghost use Rattle.gx_rev.specs.declared.shown.Shown.TheVariants.{Object};
-ghost use Rattle.gx_rev.specs.Objects.{IsHeld, IsHeldAs, value_at};
-ghost use Rattle.gx_cli.specs.Parts.{Evaluates, PrintsObject, PrintsShown, PrintsWord, ShowsWord, entries_text};
-ghost use Rattle.gx_cli.specs.Trying.{Shows};
+ghost use Rattle.gx_rev.specs.Objects.{IsHeldAs};
+ghost use Rattle.gx_cli.specs.Parts.{Evaluates, PrintsObject, PrintsShown, PrintsWord, ShowsEntries, ShowsWord, entries_text};
 
 use crate::CliFault;
 use crate::listing::listing;
-use gx_object::{Kind, Name, Namer, decode_tree};
+use crate::sending::put_text;
+use gx_object::{Kind, Name, Namer};
 use gx_repo::Repo;
-use gx_rev::{RevFault, Revision, Shown};
-use gx_text::{Sink, send};
+use gx_rev::{RevFault, Revision, Shown, body_of, entries_of};
+use gx_text::Sink;
 use std::alloc::{AllocError, Allocator};
 
 /// Shows a word as a revision of a store.
@@ -73,7 +72,7 @@ fn print_shown<N: Namer, A: Allocator + Copy, W: Sink>(
 {
     match shown {
         Shown::Object(kind, name) => print_object(alloc, repo, kind, &name, sink),
-        Shown::Submodule(name) => print(sink, name.hex().as_slice()),
+        Shown::Submodule(name) => put_text(sink, name.hex().as_slice()),
     }
 }
 
@@ -90,21 +89,24 @@ fn print_object<N: Namer, A: Allocator + Copy, W: Sink>(
 {
     repo.sound();
     match kind {
-        Kind::Tree => match tree_listing(alloc, repo, name) {
-            Ok(text) => print(sink, text.as_slice()),
-            Err(_) => Err(CliFault::OutOfMemory),
-        },
-        Kind::Blob | Kind::Commit | Kind::Tag => print(sink, body_of(repo, name)),
+        Kind::Tree => print_entries(alloc, repo, name, sink),
+        Kind::Blob | Kind::Commit | Kind::Tag => put_text(sink, body_of(repo, name)),
     }
 }
 
-/// Prints a text.
-pub(crate) fn print<W: Sink>(sink: &mut W, text: &[u8]) -> Result<(), CliFault>
-    ensures { Shows [] (Ok text.now) (W.taken sink.old) (W.taken sink.new) result }
+/// Prints the lines of a held tree's entries, which are made before they are printed.
+pub(crate) fn print_entries<N: Namer, A: Allocator + Copy, W: Sink>(
+    alloc: A,
+    repo: &Repo<N, A>,
+    tree: &Name,
+    sink: &mut W,
+) -> Result<(), CliFault>
+    requires { IsHeldAs kinds.Tree repo.now.1 tree.now }
+    ensures { ShowsEntries N.name_of W.taken repo.now tree.now sink.old sink.new result }
 {
-    match send(sink, text) {
-        Ok(()) => Ok(()),
-        Err(_) => Err(CliFault::WriteFailed),
+    match tree_listing(alloc, repo, tree) {
+        Ok(text) => put_text(sink, text.as_slice()),
+        Err(_) => Err(CliFault::OutOfMemory),
     }
 }
 
@@ -118,23 +120,5 @@ fn tree_listing<N: Namer, A: Allocator + Copy>(
     ensures { IfOk result (λ text. text.items ≡ entries_text N.name_of repo.now tree.now) }
 {
     repo.sound();
-    let Some((_, body)) = repo.store().get(tree) else {
-        unreachable!();
-    };
-    let Ok(entries) = decode_tree(body) else {
-        unreachable!();
-    };
-    listing(alloc, entries)
-}
-
-/// The body of a held object.
-fn body_of<'a, N: Namer, A: Allocator + Copy>(repo: &'a Repo<N, A>, name: &Name) -> &'a [u8]
-    requires { IsHeld repo.now.1 name.now }
-    ensures { result.now ≡ body_of (N.name_of repo.now.0) (value_at repo.now.1 name.now) }
-{
-    repo.sound();
-    let Some((_, body)) = repo.store().get(name) else {
-        unreachable!();
-    };
-    body
+    listing(alloc, entries_of(repo, tree))
 }

@@ -14,7 +14,7 @@ use Rattle.gx_command.specs.Ahead.{Fails}
 use Rattle.gx_command.specs.Ahead as ahead
 use Rattle.gx_command.specs.CommandFaults.{fault_of}
 use Rattle.gx_command.specs.Heads.{first}
-use Rattle.gx_command.specs.Reading.{Seen, Reads, Repeats, before_of, commands_after, next_after, or_missing, over_after, over_of, seen_as, state_after}
+use Rattle.gx_command.specs.Reading.{Seen, Reads, Repeats, before_of, commands_after, next_after, or_missing, over_after, over_of, shown_commands, state_after}
 use Rattle.gx_command.specs.Views.{shown_command}
 use Rattle.gx_command.specs.declared.commands.Command.{Command}
 use Rattle.gx_command.specs.declared.fault.CommandFault.{CommandFault}
@@ -95,13 +95,13 @@ after_fault o (Ok (None, u)) f e = ap stops (missing o) ∙ by o.needs_done e wh
 
 -- ---- one call
 
-pub reads_some : {A : Type 0} (o : Options) (c : Command A) (old : Option Commands) (before now : Option Stream) → option_map (commands_after (before_of o)) before ≡ old → ahead.Reads (option_map shown_command) (next_after o) before now (Ok (Some c)) → Reads old (seen_as (state_after o (shown_command c)) now) (Ok (Some c))
-reads_some o c old None now view h = subst (λ v. Reads v (seen_as (state_after o (shown_command c)) now) (Ok (Some c))) view tt
+pub reads_some : {A : Type 0} (o : Options) (c : Command A) (old : Option Commands) (before now : Option Stream) → option_map (commands_after (before_of o)) before ≡ old → ahead.Reads (option_map shown_command) (next_after o) before now (Ok (Some c)) → Reads old (shown_commands (state_after o (shown_command c)) now) (Ok (Some c))
+reads_some o c old None now view h = subst (λ v. Reads v (shown_commands (state_after o (shown_command c)) now) (Ok (Some c))) view tt
 reads_some {A} o c old (Some s) now view (t, is, e) =
-    subst (λ v. Reads v (seen_as (state_after o (shown_command c)) now) (Ok (Some c))) view
-    (subst (λ m. Reads (Some (commands_after (before_of o) s)) (seen_as (state_after o (shown_command c)) m) (Ok (Some c))) (sym is) (by (is_done (shown_command c)) (led_is o s _ (after_some o (first o.are_all s) (shown_command c) t e)))) where
+    subst (λ v. Reads v (shown_commands (state_after o (shown_command c)) now) (Ok (Some c))) view
+    (subst (λ m. Reads (Some (commands_after (before_of o) s)) (shown_commands (state_after o (shown_command c)) m) (Ok (Some c))) (sym is) (by (is_done (shown_command c)) (led_is o s _ (after_some o (first o.are_all s) (shown_command c) t e)))) where
       by : (d : Bool) → commands_after (before_of o) s ≡ (if d then with_first (shown_command c) (stops None) else with_first (shown_command c) (commands_after (before_of o ++ shown_command c ∷ []) t))
-          → Reads {A = A} (Some (commands_after (before_of o) s)) (seen_as (if d then Ended else Open (options_after o (shown_command c))) (Some t)) (Ok (Some c))
+          → Reads {A = A} (Some (commands_after (before_of o) s)) (shown_commands (if d then Ended else Open (options_after o (shown_command c))) (Some t)) (Ok (Some c))
       by true e = (stops None, e, refl)
       by false e = (commands_after (before_of (options_after o (shown_command c))) t, e ∙ ap (with_first (shown_command c)) (later_is o (shown_command c) t), refl)
 

@@ -17,13 +17,13 @@ use Rattle.gx_command.specs.declared.ahead.Ahead.{Ahead}
 use Rattle.gx_command.specs.declared.ahead.Held.{Held}
 use Rattle.gx_command.specs.declared.ahead.Held.TheVariants.{Line, Data}
 
-abbrev pub held_item : {A : Type 0} → Held A → model.Item
-held_item (Line x) = model.Line x.items
-held_item (Data x) = model.Data x.items
+abbrev pub shown_held_item : {A : Type 0} → Held A → model.Item
+shown_held_item (Line x) = model.Line x.items
+shown_held_item (Data x) = model.Data x.items
 
 abbrev pub with_held : {A : Type 0} → Option (Held A) → Option Stream → Option Stream
 with_held None s = s
-with_held (Some h) s = option_map (then_comes (held_item h)) s
+with_held (Some h) s = option_map (then_comes (shown_held_item h)) s
 
 -- what is still to come, where the source tells it
 unfoldable pub to_come : {R A : Type 0} → Ahead R A → Option Stream

@@ -84,10 +84,10 @@ before_of o = (if o.needs_done then model.Asks features.Done ∷ [] else []) ++ 
 abbrev pub commands_after : List model.Command → Stream → Commands
 commands_after before s = commands_within (length s.items) before s.items s.end
 
-abbrev pub seen_as : State → Option Stream → Option Commands
-seen_as (Open o) s = option_map (commands_after (before_of o)) s
-seen_as Ended s = Some (stops None)
-seen_as (Failed f) s = Some (stops (Some (fault_of f)))
+abbrev pub shown_commands : State → Option Stream → Option Commands
+shown_commands (Open o) s = option_map (commands_after (before_of o)) s
+shown_commands Ended s = Some (stops None)
+shown_commands (Failed f) s = Some (stops (Some (fault_of f)))
 
 abbrev pub most_of : State → ℕ → ℕ
 most_of (Open o) most = most

@@ -4,7 +4,7 @@ ghost use Rattle.std.specs.Prelude.{◌≡◌, ◌-◌, ◌^◌, IfOk};
 ghost use Rattle.std.specs.Option.{option_map};
 ghost use Rattle.gx_stream.specs.Heard.{items_from};
 ghost use Rattle.gx_stream.specs.Reading.{item_of};
-ghost use Rattle.gx_command.specs.Ahead.{AnswersRest, Takes, TakesLine, Falls, to_come, most, held_item};
+ghost use Rattle.gx_command.specs.Ahead.{AnswersRest, Takes, TakesLine, Falls, to_come, most, shown_held_item};
 
 use crate::fault::CommandFault;
 use crate::lines::rest_in;
@@ -21,7 +21,7 @@ pub(crate) enum Held<A: Allocator> {
 
 impl<A: Allocator + Copy> Held<A> {
     fn copy(alloc: A, item: Item<'_>) -> Result<Held<A>, AllocError>
-        ensures { IfOk result (λ held. held_item held ≡ item_of item.entry) }
+        ensures { IfOk result (λ held. shown_held_item held ≡ item_of item.entry) }
     {
         Ok(match item {
             Item::Line(line) => Held::Line(Vec::from_slice(alloc, line)?),
@@ -30,7 +30,7 @@ impl<A: Allocator + Copy> Held<A> {
     }
 
     fn lent(&self) -> Item<'_>
-        ensures { item_of result ≡ held_item self.now }
+        ensures { item_of result ≡ shown_held_item self.now }
     {
         match self {
             Held::Line(line) => Item::Line(line.as_slice()),

@@ -13,7 +13,7 @@ use Rattle.gx_model.specs.Histories.{Records, is_in}
 use Rattle.gx_model.specs.Records.HistoryOf.{Named, bytes_of_blob, content_of, contents_of, value_named}
 use Rattle.gx_model.specs.Texts.Paths.{Path}
 use Rattle.gx_model.specs.Histories.Values.{Value, blob_value}
-use Rattle.gx_text.specs.Devices.{Taken}
+use Rattle.gx_model.specs.Texts.Sinks.{Taken}
 use Rattle.gx_export.specs.Marks.{Adds}
 use Rattle.gx_export.specs.Outputs.{Stops}
 use Rattle.gx_export.specs.Texts.{items_of, items_text}

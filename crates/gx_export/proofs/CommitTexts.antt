@@ -20,7 +20,7 @@ use Rattle.gx_model.specs.Histories.Values.{Commit, Commits, CommitText, Value, 
 use Rattle.gx_model.proofs.LinkedValues.{parts_in, proper_in}
 use Rattle.gx_model.proofs.OneTree.{all_left}
 use Rattle.gx_model.proofs.PathTests.{is_true}
-use Rattle.gx_text.specs.Devices.{Taken}
+use Rattle.gx_model.specs.Texts.Sinks.{Taken}
 use Rattle.gx_model.proofs.HeldValues.{all_whole, commit_stands, names_long, value_held, value_holds}
 use Rattle.gx_model.specs.Records.RecordFaults.{is_held}
 use Rattle.gx_model.proofs.Standing.{at_in}

@@ -7,7 +7,7 @@ use Rattle.gx_model.specs.Histories.{History, Records}
 use Rattle.gx_model.specs.Records.HistoryOf.{history_of}
 use Rattle.gx_model.specs.Streams.Items.{Item, Line}
 use Rattle.gx_model.specs.Histories.Values.{Value}
-use Rattle.gx_text.specs.Devices.{Taken, Took}
+use Rattle.gx_model.specs.Texts.Sinks.{Taken, Took}
 use Rattle.gx_export.specs.Exports.{Exports}
 use Rattle.gx_export.specs.Faults.{NeedsNoMemory}
 use Rattle.gx_export.specs.Marks.{Adds}

@@ -22,7 +22,7 @@ use Rattle.gx_model.specs.Streams.Commands.{Blob}
 use Rattle.gx_model.proofs.SameValues.{same_value_tells}
 use Rattle.gx_model.proofs.FileMapEdits.{parts_of}
 use Rattle.gx_model.proofs.OneTree.{all_left, all_right}
-use Rattle.gx_text.specs.Devices.{Taken}
+use Rattle.gx_model.specs.Texts.Sinks.{Taken}
 use Rattle.gx_tree.specs.HeldTrees.{IsHeldEntry, IsHeldWithin}
 use Rattle.gx_tree.specs.Lists.{below}
 use Rattle.gx_tree.specs.Nodes.{Kept, Level, files, file, folder, kept_map}

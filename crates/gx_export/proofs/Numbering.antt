@@ -24,7 +24,7 @@ use Rattle.gx_model.specs.Records.{body_of, kind_of}
 use Rattle.gx_model.specs.Laws.RepositoryLaws.{values_of}
 use Rattle.gx_model.specs.Histories.Values.{Value, blob_value, commit_value, same_value, tag_value, tree_value}
 use Rattle.gx_model.proofs.SameValues.{same_value_tells}
-use Rattle.gx_text.specs.Devices.{Taken}
+use Rattle.gx_model.specs.Texts.Sinks.{Taken}
 use Rattle.gx_export.specs.Marks.{Adds, AreNumbers, HasWritten}
 use Rattle.gx_export.specs.Outputs.{Stops, Writes, most}
 use Rattle.gx_export.specs.Texts.{command_text, items_of, items_text}

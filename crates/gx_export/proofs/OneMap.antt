@@ -11,7 +11,7 @@ use Rattle.gx_model.specs.Objects.NameMaps.{IsHeldTree}
 use Rattle.gx_model.specs.Objects.{IsNamer}
 use Rattle.gx_model.proofs.BodiesReadBack.{entries_read}
 use Rattle.gx_model.proofs.FileMapEdits.{parts_of}
-use Rattle.gx_store.specs.Stores.{seen}
+use Rattle.gx_store.specs.Stores.{shown_object}
 use Rattle.gx_tree.specs.HeldTrees.{IsHeldEntry, IsHeldWithin}
 use Rattle.gx_tree.specs.Nodes.{Kept, Level, file, files, folder}
 use Rattle.gx_tree.specs.Writes.{map_name}
@@ -51,7 +51,7 @@ module _ (name : Kind → Bytes → Bytes) (rs : List Record) (namer : IsNamer n
       by None e = absurd (is_there name rs n f None h refl (sym (ap (option_map object_of) e)))
       by (Some x) e =
           let b : Bor Bytes = record { ref_ptr = (0, 0); now = x.body } in
-          let s : option_map seen (Some (x.kind, b)) ≡ option_map object_of (record_named rs n) = sym (ap (option_map object_of) e) in
+          let s : option_map shown_object (Some (x.kind, b)) ≡ option_map object_of (record_named rs n) = sym (ap (option_map object_of) e) in
           let one = entries_read (map (kept_entry name) (level_of f)) x.body (held_text name rs namer n f (Some (x.kind, b)) x.kind b h refl s) in
           let two = entries_read (map (kept_entry name) (level_of g)) x.body (held_text name rs namer n g (Some (x.kind, b)) x.kind b j refl s) in
           sym one ∙ two

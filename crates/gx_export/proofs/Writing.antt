@@ -5,24 +5,14 @@ use Rattle.std.proofs.lemmas.Grind.{flat_map-append}
 use Rattle.std.proofs.lemmas.List.{append-nil, length-append, length-drop, length-take, take-append-drop}
 use Rattle.std.proofs.Math.Seq.{take-suc, drop-cons}
 use Rattle.gx_model.specs.Texts.{Bytes}
-use Rattle.gx_text.specs.Devices.{Sends, Taken, Took}
+use Rattle.gx_model.specs.Texts.Sinks.{Sends, Taken, Took}
 use Rattle.gx_model.specs.Streams.Items.{Item}
 use Rattle.gx_model.specs.Export.{item_text}
+use Rattle.gx_model.proofs.SentTexts.{took_both, took_nothing}
 use Rattle.gx_export.specs.Texts.{items_text}
 use Rattle.gx_export.specs.Outputs.{Stops, StopsAfter, StopsAt, Writes, most}
 use Rattle.gx_export.specs.declared.fault.ExportFault.{ExportFault}
 use Rattle.gx_export.specs.declared.fault.ExportFault.TheVariants.{OutOfMemory, WriteFailed}
-
--- ---- what a sink took
-
-took_more : (was mid now : Option Taken) (a b : Bytes) → Took was mid a → Took mid now b → Took was now (a ++ b)
-took_more None mid now a b h k = tt
-took_more (Some was) mid now a b h k =
-    subst (λ m. Took m now b) h k ∙ ap (λ x. Some (record { bytes = x; failed = was.failed })) (append_assoc was.bytes a b)
-
-took_none : (was : Option Taken) → Took was was []
-took_none None = tt
-took_none (Some was) = ap (λ x. Some (record { bytes = x; failed = was.failed })) (sym (append-nil was.bytes))
 
 -- ---- stops
 
@@ -51,23 +41,23 @@ stopped_later before mid count was between now a b m h k =
     (a ++ k.0, k.1, ap (λ x. a ++ x) k.2 ∙ sym (append_assoc a k.0 k.1), k.3, (let l = k.4 in omega (arith, length-append a k.0)), fails_later count was between now a k.0 h k.5)
 
 pub stops_later : (before mid : ℕ) (was between now : Option Taken) (a b : Bytes) (e : ExportFault) → mid ≡ before + length a → Took was between a → Stops mid between now b e → Stops before was now (a ++ b) e
-stops_later before mid was between now a b OutOfMemory m h k = (a ++ k.0, k.1, ap (λ x. a ++ x) k.2 ∙ sym (append_assoc a k.0 k.1), took_more was between now a k.0 h k.3)
+stops_later before mid was between now a b OutOfMemory m h k = (a ++ k.0, k.1, ap (λ x. a ++ x) k.2 ∙ sym (append_assoc a k.0 k.1), took_both was between now a k.0 h k.3)
 stops_later before mid was between now a b (WriteFailed count) m h k = stopped_later before mid count was between now a b m h k
 
 -- memory runs out before a text
 pub stops_first : (before : ℕ) (was : Option Taken) (text : Bytes) → Stops before was was text OutOfMemory
-stops_first before was text = ([], text, refl, took_none was)
+stops_first before was text = ([], text, refl, took_nothing was)
 
 -- ---- writes
 
 -- a text that is written behind another one
 pub writes_later : (before mid after : ℕ) (was between now : Option Taken) (a b : Bytes) (r : Result (Unit {0}) ExportFault) → Writes before mid was between a (Ok tt) → Writes mid after between now b r → Writes before after was now (a ++ b) r
-writes_later before mid after was between now a b (Ok x) h k = ((let m = h.0 in let n = k.0 in omega (arith, length-append a b)), k.1, took_more was between now a b h.2 k.2)
+writes_later before mid after was between now a b (Ok x) h k = ((let m = h.0 in let n = k.0 in omega (arith, length-append a b)), k.1, took_both was between now a b h.2 k.2)
 writes_later before mid after was between now a b (Err e) h k = stops_later before mid was between now a b e h.0 h.2 k
 
 -- nothing is written
 pub writes_none : (before : ℕ) (was : Option Taken) → before ≤ most → Writes before before was was [] (Ok tt)
-writes_none before was h = (omega arith, h, took_none was)
+writes_none before was h = (omega arith, h, took_nothing was)
 
 -- ---- items
 

@@ -7,7 +7,7 @@ use Rattle.gx_model.specs.Export.{commit_commands, export_text, reached_commits}
 use Rattle.gx_model.specs.Histories.{History, Records}
 use Rattle.gx_model.specs.Records.HistoryOf.{history_of}
 use Rattle.gx_model.specs.Texts.{Bytes}
-use Rattle.gx_text.specs.Devices.{Taken, Took, TookFront}
+use Rattle.gx_model.specs.Texts.Sinks.{Taken, Took, TookFront}
 use Rattle.gx_export.specs.Outputs.{StopsAt, most}
 use Rattle.gx_export.specs.Texts.{items_of, items_text}
 use Rattle.gx_export.specs.declared.fault.ExportFault.{ExportFault}

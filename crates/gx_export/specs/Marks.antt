@@ -7,7 +7,7 @@ use Rattle.gx_model.specs.Streams.Items.{Item}
 use Rattle.gx_model.specs.Laws.RepositoryLaws.{values_of}
 use Rattle.gx_model.specs.Texts.{Bytes}
 use Rattle.gx_model.specs.Histories.Values.{Value}
-use Rattle.gx_text.specs.Devices.{Taken}
+use Rattle.gx_model.specs.Texts.Sinks.{Taken}
 use Rattle.gx_export.specs.Outputs.{Stops, Writes, most}
 use Rattle.gx_export.specs.Texts.{items_of, items_text}
 use Rattle.gx_export.specs.declared.fault.ExportFault.{ExportFault}

@@ -1,7 +1,7 @@
 -- What a sink makes of a text that is written to it.
 use Rattle.std.specs.Prelude.{◌≡◌, ◌⊎◌, ℕ, ◌+◌, ◌-◌, ◌^◌, ◌<◌, ◌≤◌, ◌++◌, length, true, Option, Some, None, Result, Ok, Err, ⊤}
 use Rattle.gx_model.specs.Texts.{Bytes}
-use Rattle.gx_text.specs.Devices.{Taken, Took, TookFront}
+use Rattle.gx_model.specs.Texts.Sinks.{Taken, Took, TookFront}
 use Rattle.gx_export.specs.declared.fault.ExportFault.{ExportFault}
 use Rattle.gx_export.specs.declared.fault.ExportFault.TheVariants.{OutOfMemory, WriteFailed}
 

@@ -5,7 +5,7 @@ use Rattle.gx_model.specs.Export.{mark_text, optional_line, to_nothing, word_lin
 use Rattle.gx_model.specs.Objects.{CommitParts, TagParts}
 use Rattle.gx_model.specs.Streams.Items.{Data}
 use Rattle.gx_model.specs.Texts.{Bytes}
-use Rattle.gx_text.specs.Devices.{Taken}
+use Rattle.gx_model.specs.Texts.Sinks.{Taken}
 use Rattle.gx_export.specs.Outputs.{Writes}
 use Rattle.gx_export.specs.Texts.{author_items, blob_under, command_text, head_items, items_text, last_items, optional_text, parts_text, root_items, tag_command, target_items, to_marked}
 use Rattle.gx_export.specs.declared.fault.ExportFault.{ExportFault}

@@ -16,9 +16,9 @@ use Rattle.gx_model.proofs.ReadStores.{text_of}
 use Rattle.gx_model.proofs.StoreTexts.{count_read, end_read, magic_read}
 use Rattle.gx_model.proofs.StoredRecords.{records_read}
 use Rattle.gx_model.proofs.StoredRefs.{refs_read, targets_name, targets_test}
-use Rattle.gx_text.specs.Devices.{Taken}
+use Rattle.gx_model.specs.Texts.Sinks.{Taken}
 use Rattle.gx_file.specs.Sending.{HaveLengths}
-use Rattle.gx_file.proofs.SentTexts.{IsLeft, all_left}
+use Rattle.gx_model.proofs.SentTexts.{IsLeft, all_left}
 
 -- seven texts in a row, grouped to the right
 grouped : (a b c d e f g : Bytes) → a ++ b ++ c ++ d ++ e ++ f ++ g ≡ a ++ (b ++ (c ++ (d ++ (e ++ (f ++ g)))))

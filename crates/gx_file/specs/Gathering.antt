@@ -6,7 +6,7 @@ use Rattle.gx_model.specs.declared.store_faults.FileFault.TheVariants as model
 use Rattle.gx_model.specs.Texts.{Bytes}
 use Rattle.gx_model.specs.Stores.StoreReading.{Stored, is_after, ref_line, stored_line}
 use Rattle.gx_model.specs.Records.Publishing.{Ref}
-use Rattle.gx_repo.specs.Refs.{asked}
+use Rattle.gx_repo.specs.Refs.{shown_update}
 use Rattle.gx_repo.specs.declared.publishing.RefChange.{RefChange}
 use Rattle.gx_model.specs.declared.store_faults.FileFault.{FileFault}
 use Rattle.gx_model.specs.declared.store_faults.FileFault.TheVariants.{OutOfMemory}
@@ -52,4 +52,4 @@ Gathers given refs (Err fault) = (given.0 ≡ refs) × (given.1 ≡ Err fault)
 
 -- a change and what follows its line, without where they lie in memory
 abbrev pub shown_change : RefChange × Bor Bytes → Ref × Bytes
-shown_change parts = (asked parts.0, parts.1.now)
+shown_change parts = (shown_update parts.0, parts.1.now)

@@ -3,7 +3,7 @@ use Rattle.std.specs.Prelude.{◌<◌, ◌^◌, length, List, Option, Result, Ok
 use Rattle.std.specs.List.{AllByRecursion}
 use Rattle.gx_model.specs.Texts.{Bytes}
 use Rattle.gx_model.specs.Histories.{Record}
-use Rattle.gx_text.specs.Devices.{FailedWithin, Taken, Took}
+use Rattle.gx_model.specs.Texts.Sinks.{FailedWithin, Taken, Took}
 use Rattle.gx_text.specs.declared.device.Failed.{Failed}
 
 -- The text went out, or the sink failed within it.

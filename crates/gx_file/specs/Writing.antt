@@ -10,7 +10,7 @@ use Rattle.gx_model.specs.Objects.{line}
 use Rattle.gx_model.specs.Stores.StoreText.{length_text, stored_record, stored_ref}
 use Rattle.gx_model.specs.Texts.{Bytes}
 use Rattle.gx_object.specs.declared.name.Name.{Name}
-use Rattle.gx_text.specs.Devices.{Taken}
+use Rattle.gx_model.specs.Texts.Sinks.{Taken}
 use Rattle.gx_text.specs.declared.device.Failed.{Failed}
 use Rattle.gx_file.specs.Sending.{Sent}
 

@@ -2,7 +2,7 @@
 ghost use Rattle.std.specs.Prelude.{◌≡◌, [], None, map};
 ghost use Rattle.std.specs.Option.{option_map};
 ghost use Rattle.gx_model.specs.Stores.StoreReading.{is_after, ref_line};
-ghost use Rattle.gx_repo.specs.Refs.{asked};
+ghost use Rattle.gx_repo.specs.Refs.{shown_update};
 ghost use Rattle.gx_file.specs.Faults.{NeedsNoMemory, Reads};
 ghost use Rattle.gx_file.specs.Gathering.{Gathers, first_ref, gathered, shown_change};
 ghost use Rattle.gx_file.specs.Reading.{ReadsRefs};
@@ -42,7 +42,7 @@ fn gather<'a, A: Allocator + Copy>(
     text: &'a [u8],
 ) -> Result<&'a [u8], FileFault>
     requires { changes.now.items ≡ [] }
-    ensures { Gathers (gathered count None text.now) (map asked changes.new.items) result }
+    ensures { Gathers (gathered count None text.now) (map shown_update changes.new.items) result }
 {
     let mut rest = text;
     let mut last: Option<&[u8]> = None;

@@ -9,7 +9,7 @@ use Rattle.gx_model.specs.Histories.{Records}
 use Rattle.gx_model.specs.Laws.RepositoryLaws.{values_of}
 use Rattle.gx_model.specs.Histories.Values.{Value}
 use Rattle.gx_model.specs.Replay.{State, step}
-use Rattle.gx_text.specs.Devices.{Taken}
+use Rattle.gx_model.specs.Texts.Sinks.{Taken}
 use Rattle.gx_import.specs.Additions.{Clash, values_added}
 use Rattle.gx_import.specs.Answers.{AddsAs, GivesAs}
 use Rattle.gx_import.specs.Applying.{Applies, IsProgress}
@@ -18,7 +18,7 @@ use Rattle.gx_import.specs.Standing.{Follows, Stands}
 use Rattle.gx_model.specs.declared.faults.Fault.{Fault}
 use Rattle.gx_model.specs.declared.faults.Fault.TheVariants.{OutOfMemory, ReadFailed, WriteFailed, UnknownCommand, BadLine, BadNumber, TruncatedData, BadPath, PathTooLong, BadMode, BadIdent, BadRefName, UnknownMark, WrongKind, UnknownObject, NoSuchPath, RootNotTree, FromItself, EmptyBranch, Unsupported, LateOption, MissingDone, NotFastForward, NameHeld, BadRevision, UnknownRef, Ambiguous, NoParent}
 use Rattle.gx_import.specs.declared.tables.Tables.{Tables}
-use Rattle.gx_import.proofs.ProgressTexts.{took_none}
+use Rattle.gx_model.proofs.SentTexts.{took_nothing}
 
 -- the state after a progress
 abbrev spoken : State → Bytes → State
@@ -33,7 +33,7 @@ is_spoken s x = record {
 module _ (name : Kind → Bytes → Bytes) {A : Type 0} where
   -- a state that follows is one after the empty text
   pub followed : (old new : Records) (tables : Tables A) (s : State) (c : Command) (was : Option Taken) (t : State) → step name s c ≡ Ok t → Follows name new tables s t → Applies name old new tables s c was was (Ok tt)
-  followed old new tables s c was t e h = (t, [], e, h.stands, record { progress = h.progress ∙ sym (append-nil s.progress); held = h.held }, took_none was)
+  followed old new tables s c was t e h = (t, [], e, h.stands, record { progress = h.progress ∙ sym (append-nil s.progress); held = h.held }, took_nothing was)
 
   -- a command that may add values
   pub added_as : (old new : Records) (tables : Tables A) (s : State) (c : Command) (was : Option Taken) (clash : Type 0) → (clash → Clash name s.history.values (values_added name s c)) → (r : Result (Unit {0}) Fault)

@@ -21,7 +21,8 @@ use Rattle.gx_model.specs.Replay.{Kept, finished, refused, replayed_commands, re
 use Rattle.gx_model.specs.Export.{command_items, export_text, inner_commands, is_reached, item_text, reached_commits}
 use Rattle.gx_model.specs.Laws.ExportLaws.{ExportIsImported, FormedIsReadable, HasNoNullGitlink, IsAgain, between, exported_report}
 use Rattle.gx_model.specs.Laws.RepositoryLaws.{HistoriesOf, NamesTell}
-use Rattle.gx_text.specs.Devices.{Coming, Taken}
+use Rattle.gx_model.specs.Texts.Sinks.{Taken}
+use Rattle.gx_text.specs.Devices.{Coming}
 use Rattle.gx_stream.specs.Heard.{heard_upto}
 use Rattle.gx_command.specs.Reading.{commands_from}
 use Rattle.gx_import.specs.Exported.{ExportedOr, GivesExport, ImportsExport, IsExported, nothing}

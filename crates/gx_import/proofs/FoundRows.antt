@@ -15,7 +15,7 @@ use Rattle.gx_model.specs.Replay.{byte_cmp}
 use Rattle.gx_model.proofs.PathRuns.{less_is}
 use Rattle.gx_model.proofs.PathTests.{first, second, is_same, is_true}
 use Rattle.gx_import.specs.Rows.{AreFound, IsFound, row_of}
-use Rattle.gx_import.proofs.SortedRows.{order}
+use Rattle.gx_model.proofs.SortedRefs.{order}
 
 -- a name behind another is not the same
 pub name_apart : (n m : Bytes) → T (is_lt (byte_cmp n m)) → is_eq (byte_cmp m n) ≡ false

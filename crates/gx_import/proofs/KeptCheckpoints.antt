@@ -12,7 +12,7 @@ use Rattle.gx_model.specs.Histories.{Record, Records}
 use Rattle.gx_model.specs.Records.HistoryOf.{history_of}
 use Rattle.gx_model.specs.Replay.{State, checkpointed, final, is_fast_forward, start, step_checkpoint}
 use Rattle.gx_model.specs.Records.Sound.{IsTarget}
-use Rattle.gx_text.specs.Devices.{Taken}
+use Rattle.gx_model.specs.Texts.Sinks.{Taken}
 use Rattle.gx_import.specs.Applying.{Applies}
 use Rattle.gx_import.specs.Keeping.{AreNames, AreNone, AreStill, EntersAll, HoldsAll, IsLeft, IsNext, Keeps, KeepsAfter, KeepsFromEach, Moves, left_of}
 use Rattle.gx_import.specs.Publishing.{Publishes}

@@ -25,7 +25,7 @@ use Rattle.gx_import.specs.Objects.{IsCommitOf, IsOf, IsTagOf}
 use Rattle.gx_import.specs.Rows.{AreBoth, AreRows, rows_of}
 use Rattle.gx_import.specs.Standing.{AreMarks, AreTipFiles, Follows, IsTip, Stands}
 use Rattle.gx_import.proofs.RelatedRows.{related_put}
-use Rattle.gx_import.proofs.SortedRows.{order, same_text}
+use Rattle.gx_model.proofs.SortedRefs.{order, same_text}
 use Rattle.gx_import.proofs.Standings.{marked_one, moved_branch}
 
 pub marked_history : (mark : Option ℕ) (v : Value) (s : State) → (marked mark v s).history ≡ s.history

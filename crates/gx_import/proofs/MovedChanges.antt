@@ -19,7 +19,7 @@ use Rattle.gx_import.specs.declared.branches.Tip.{Tip}
 use Rattle.gx_import.specs.RefChanges.{branch_changes, branch_then, is_at, is_moved}
 use Rattle.gx_import.proofs.FoundRows.{name_apart}
 use Rattle.gx_import.proofs.PublishedNames.{found, put_there}
-use Rattle.gx_import.proofs.SortedRows.{order}
+use Rattle.gx_model.proofs.SortedRefs.{order}
 
 -- ---- one branch after the other
 

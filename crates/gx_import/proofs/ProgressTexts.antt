@@ -1,7 +1,7 @@
 -- The progress text of a replay: each step's begins with the earlier one's, and so does that of the outcome. What a sink takes, one text after the other.
-use Rattle.std.proofs.Common.{◌≡◌, ℕ, ◌+◌, ◌≤◌, ◌<◌, Bool, true, false, cond, List, [], ◌∷◌, ◌++◌, length, take, drop, Option, Some, None, Result, Ok, Err, refl, sym, ap, subst, ◌∙◌, arith, append_assoc}
+use Rattle.std.proofs.Common.{◌≡◌, ℕ, ◌+◌, ◌≤◌, Bool, true, false, cond, List, [], ◌∷◌, ◌++◌, Option, Some, None, Result, Ok, Err, refl, sym, ap, ◌∙◌, arith, append_assoc}
 use Rattle.std.specs.Prelude.{IfOk, codes}
-use Rattle.std.proofs.lemmas.List.{append-nil, length-append, length-drop, take-append-drop}
+use Rattle.std.proofs.lemmas.List.{append-nil}
 use Rattle.gx_model.specs.declared.objects.Kind.{Kind}
 use Rattle.gx_model.specs.declared.objects.Mode.{Mode}
 use Rattle.gx_model.specs.declared.objects.Mode.TheVariants.{Gitlink}
@@ -17,7 +17,8 @@ use Rattle.gx_model.specs.Histories.Values.{Value, blob_value, commit, commit_va
 use Rattle.gx_model.specs.Streams.Commands as command
 use Rattle.gx_model.specs.Streams.Commands.{Asks, Blob, Change, Checkpoint, Clear, Command, CommitIsh, CommitParts, Copy, DataRef, Done, Inline, Mark, Modify, Object, OptionLine, Progress, Remove, Rename, Reset, TagParts}
 use Rattle.gx_model.specs.Replay.{State, added, all_changed, all_committed, at, blob_bytes, changed, checkpointed, commit_alone, committed, committed_for, content, ended, final, finished, first_parent, is_fast_forward, marked, refused, replayed, report, starting_files, step, step_checkpoint, step_commit, step_reset, step_tag, text_made, with_first_parent}
-use Rattle.gx_text.specs.Devices.{FailedWithin, Sends, Taken, Took}
+use Rattle.gx_model.specs.Texts.Sinks.{Taken, Took}
+use Rattle.gx_model.proofs.SentTexts.{failed_after, failed_longer, took_both}
 use Rattle.gx_import.specs.Additions.{tag_made}
 use Rattle.gx_import.specs.Imports.{last_number, progress_of}
 use Rattle.gx_import.specs.Replaying.{Writes}
@@ -188,45 +189,13 @@ module _ (name : Kind → Bytes → Bytes) where
         | Err e ↦ omega arith
       ]
 
--- ---- what a sink takes
-
-pub took_more : (was mid now : Option Taken) (a b : Bytes) → Took was mid a → Took mid now b → Took was now (a ++ b)
-took_more None mid now a b h k = tt
-took_more (Some was) mid now a b h k =
-    let e = subst (λ m. Took m now b) h k in
-    e ∙ ap (λ x. Some (record { bytes = x; failed = was.failed })) (append_assoc was.bytes a b)
-
-pub failed_later : (was mid now : Option Taken) (a b : Bytes) → Took was mid a → FailedWithin mid now b → FailedWithin was now (a ++ b)
-failed_later None mid now a b h k = tt
-failed_later (Some was) mid now a b h k =
-    let e = subst (λ m. FailedWithin m now b) h k in
-    (a ++ e.0, e.1, ap (λ x. a ++ x) e.2 ∙ sym (append_assoc a e.0 e.1), e.3, e.4 ∙ ap (λ x. Some (record { bytes = x; failed = true })) (append_assoc was.bytes a e.0))
-
-pub failed_sooner : (was now : Option Taken) (a b : Bytes) → FailedWithin was now a → FailedWithin was now (a ++ b)
-failed_sooner None now a b h = tt
-failed_sooner (Some was) now a b h = (h.0, h.1 ++ b, ap (λ x. x ++ b) h.2 ∙ append_assoc h.0 h.1 b, longer h.1 b h.3, h.4)
-  where
-    longer : (x y : Bytes) → 0 < length x → 0 < length (x ++ y)
-    longer x y k = omega (arith, length-append x y)
-
--- a sink that sends nothing
-pub took_none : (was : Option Taken) → Took was was []
-took_none None = tt
-took_none (Some was) = ap (λ x. Some (record { bytes = x; failed = was.failed })) (sym (append-nil was.bytes))
-
--- a text that is sent up to a place before its end
-pub sent_within : (was now : Option Taken) (text : Bytes) (n : ℕ) → n < length text → Sends was now text (Err n) → FailedWithin was now text
-sent_within None now text n h k = tt
-sent_within (Some was) now text n h k = (take n text, drop n text, sym (take-append-drop n text), left, k.1)
-  where
-    left : 0 < length (drop n text)
-    left = omega (arith, length-drop n text)
+-- ---- what a sink took
 
 -- a text that is written behind another one
 pub writes_later : (was mid now : Option Taken) (a b : Bytes) (r : Result (Unit {0}) Fault) → Took was mid a → Writes mid now b r → Writes was now (a ++ b) r
-writes_later was mid now a b (Ok x) h k = took_more was mid now a b h k
-writes_later was mid now a b (Err e) h k = (k.0, failed_later was mid now a b h k.1)
+writes_later was mid now a b (Ok x) h k = took_both was mid now a b h k
+writes_later was mid now a b (Err e) h k = (k.0, failed_after was mid now a b h k.1)
 
 -- one that isn't written is the front of a longer one
 pub writes_sooner : (was now : Option Taken) (a b : Bytes) (e : Fault) → Writes was now a (Err e) → Writes was now (a ++ b) (Err e)
-writes_sooner was now a b e h = (h.0, failed_sooner was now a b h.1)
+writes_sooner was now a b e h = (h.0, failed_longer was now a b h.1)

@@ -12,7 +12,8 @@ use Rattle.gx_model.specs.Laws.RepositoryLaws.{HistoriesOf}
 use Rattle.gx_model.specs.Replay as model
 use Rattle.gx_model.specs.Replay.{Outcome, State, final, finished, imported, is_fast_forward, overwritten, refused, replayed_commands, report}
 use Rattle.gx_model.specs.Records.Sound.{IsSound}
-use Rattle.gx_text.specs.Devices.{Coming, Taken}
+use Rattle.gx_model.specs.Texts.Sinks.{Taken}
+use Rattle.gx_text.specs.Devices.{Coming}
 use Rattle.gx_stream.specs.Heard.{heard}
 use Rattle.gx_command.specs.Reading.{commands_from}
 use Rattle.gx_import.specs.Imports.{Imports, Leaves, Replays, StandsForIts, StandsForReplay, last_number, only, progress_of, replayed_on, report_of}

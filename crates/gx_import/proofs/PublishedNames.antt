@@ -25,7 +25,7 @@ use Rattle.gx_import.specs.Rows.{AreBoth, rows_of}
 use Rattle.gx_import.specs.declared.tables.Tables.{Tables}
 use Rattle.gx_import.proofs.RelatedRows.{related_found, related_itself, related_put, related_through, sorted_same}
 use Rattle.gx_import.proofs.SetRefs.{changes_seen, overwritten_is, seen, seen_all, targets_of}
-use Rattle.gx_import.proofs.SortedRows.{order, same_text}
+use Rattle.gx_model.proofs.SortedRefs.{order, same_text}
 
 tied : (q n : Bytes) → eq_by_cmp byte_cmp q n ≡ true → byte_cmp q n ≡ Equal
 tied q n e = by (byte_cmp q n) e

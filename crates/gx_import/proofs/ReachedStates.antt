@@ -15,7 +15,8 @@ use Rattle.gx_model.specs.Records.HistoryOf.{history_of}
 use Rattle.gx_model.specs.Streams.Commands.{Command, Commands, Progress}
 use Rattle.gx_model.specs.Replay.{Outcome, State, byte_cmp, imported, refused, replayed, replayed_commands, start, step}
 use Rattle.gx_model.proofs.GitlinkSteps.{IsFreeState, step_free}
-use Rattle.gx_text.specs.Devices.{Coming, FailedWithin, Taken, Took, TookFront}
+use Rattle.gx_model.specs.Texts.Sinks.{FailedWithin, Taken, Took, TookFront}
+use Rattle.gx_text.specs.Devices.{Coming}
 use Rattle.gx_stream.specs.Heard.{heard}
 use Rattle.gx_command.specs.Reading.{Reads, commands_from}
 use Rattle.gx_command.specs.Views.{shown_command}
@@ -32,7 +33,8 @@ use Rattle.gx_import.specs.Standing.{AreEmpty, Extends, IsTip, Stands}
 use Rattle.gx_import.specs.declared.fault.ImportFault.{ImportFault}
 use Rattle.gx_model.specs.declared.faults.Fault.TheVariants.{OutOfMemory, ReadFailed, WriteFailed, UnknownCommand, BadLine, BadNumber, TruncatedData, BadPath, PathTooLong, BadMode, BadIdent, BadRefName, UnknownMark, WrongKind, UnknownObject, NoSuchPath, RootNotTree, FromItself, EmptyBranch, Unsupported, LateOption, MissingDone, NotFastForward, NameHeld, BadRevision, UnknownRef, Ambiguous, NoParent}
 use Rattle.gx_import.specs.declared.tables.Tables.{Tables}
-use Rattle.gx_import.proofs.ProgressTexts.{begins_outcome, failed_later, failed_sooner, last_progress, numbers_outcome, took_more, took_none}
+use Rattle.gx_model.proofs.SentTexts.{failed_after, failed_longer, took_both, took_nothing}
+use Rattle.gx_import.proofs.ProgressTexts.{begins_outcome, last_progress, numbers_outcome}
 
 -- numbers of commands are from 1
 pub from_one : (n : ℕ) → 1 ≤ n + 1
@@ -61,7 +63,7 @@ module _ (name : Kind → Bytes → Bytes) where
     pub held : s.held ≡ length h.values
 
   reached_start : (h : History) (was : Option Taken) → HasReached h [] 0 (start h) was was
-  reached_start h was = record { outcome = λ left. refl; clashes = λ left number k. k; count = refl; progress = took_none was; held = refl }
+  reached_start h was = record { outcome = λ left. refl; clashes = λ left number k. k; count = refl; progress = took_nothing was; held = refl }
 
   -- the state after one command more
   reached_next : (h : History) (before : List Command) (n : ℕ) (s : State) (c : Command) (was mid now : Option Taken) → HasReached h before n s was mid
@@ -73,7 +75,7 @@ module _ (name : Kind → Bytes → Bytes) where
         let next = subst (λ r. elim r as (λ _. Type 0) [ Ok u ↦ ClashesAt name (n + 1) u left number | Err f ↦ ⊥ ]) (sym e) i in
         subst (λ l. ClashesAt name 0 (start h) l number) (sym (append_assoc before (c ∷ []) left)) (k.clashes (c ∷ left) number (inr next));
     count = length-append before (c ∷ []) ∙ ap (λ m. m + 1) k.count;
-    progress = subst (Took was now) (sym p) (took_more was mid now s.progress text k.progress took);
+    progress = subst (Took was now) (sym p) (took_both was mid now s.progress text k.progress took);
     held = held ∙ k.held;
   }
 
@@ -135,7 +137,7 @@ module _ (name : Kind → Bytes → Bytes) where
           let b = begins_outcome name (n + 1) t left.list left.fault in
           let o = k.outcome (with_first c left) ∙ ap (λ r. elim r as (λ _. Outcome) [ Ok u ↦ replayed name (n + 1) u left.list left.fault | Err f ↦ refused (n + 1) f s.progress s.kept ]) e in
           let whole = ap progress_of o ∙ b.1 ∙ ap (λ x. x ++ b.0) p in
-          subst (FailedWithin was now) (sym whole) (failed_sooner was now (s.progress ++ text) b.0 (failed_later was mid now s.progress text k.progress failed))
+          subst (FailedWithin was now) (sym whole) (failed_longer was now (s.progress ++ text) b.0 (failed_after was mid now s.progress text k.progress failed))
 
       -- the line of a progress is cut, behind those of the commands before
       line_cut : (text : Bytes) → c ≡ Progress text → FailedWithin mid now (line_of text) → IsCutAt name old (before ++ c ∷ left.list) (n + 1) was now

@@ -9,7 +9,8 @@ use Rattle.gx_model.specs.Replay.{Kept, refused, imported, replayed_commands, re
 use Rattle.gx_model.specs.Export.{export_text}
 use Rattle.gx_model.specs.Streams.Gitlinks.{NullGitlinksAreRefused}
 use Rattle.gx_model.specs.Laws.RepositoryLaws.{HistoriesOf}
-use Rattle.gx_text.specs.Devices.{Coming, Taken}
+use Rattle.gx_model.specs.Texts.Sinks.{Taken}
+use Rattle.gx_text.specs.Devices.{Coming}
 use Rattle.gx_stream.specs.Heard.{heard}
 use Rattle.gx_command.specs.Reading.{commands_from}
 use Rattle.gx_import.specs.Exported.{RefusesItsExport, UnsupportedOr, nothing}

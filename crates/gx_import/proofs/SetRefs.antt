@@ -40,7 +40,7 @@ use Rattle.gx_import.specs.Objects.{IsCommitOf, IsTagOf}
 use Rattle.gx_import.specs.RefChanges.{branch_changes, branch_then, changes_of, tag_changes}
 use Rattle.gx_import.specs.Rows.{AreBoth, AreRows, rows_of}
 use Rattle.gx_import.specs.Standing.{IsTip, Stands}
-use Rattle.gx_import.proofs.SortedRows.{order, same_text}
+use Rattle.gx_model.proofs.SortedRefs.{order, same_text}
 
 -- ---- changes that are good are not refused
 

@@ -26,7 +26,7 @@ use Rattle.gx_import.specs.Objects.{IsCommitOf, IsOf, IsTagOf}
 use Rattle.gx_import.specs.Rows.{AreBoth, AreRows, rows_of}
 use Rattle.gx_import.specs.Standing.{AreMarks, IsTip, Stands}
 use Rattle.gx_import.proofs.RelatedRows.{related_more, related_put}
-use Rattle.gx_import.proofs.SortedRows.{order}
+use Rattle.gx_model.proofs.SortedRefs.{order}
 
 -- ---- values stay, and the one that is added stands
 

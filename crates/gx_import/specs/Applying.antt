@@ -6,7 +6,7 @@ use Rattle.gx_model.specs.Texts.{Bytes}
 use Rattle.gx_model.specs.Histories.{Records}
 use Rattle.gx_model.specs.Streams.Commands.{Command, Progress}
 use Rattle.gx_model.specs.Replay.{State, step}
-use Rattle.gx_text.specs.Devices.{FailedWithin, Taken, Took}
+use Rattle.gx_model.specs.Texts.Sinks.{FailedWithin, Taken, Took}
 use Rattle.gx_import.specs.Additions.{Clash, values_added}
 use Rattle.gx_import.specs.Imports.{line_of}
 use Rattle.gx_import.specs.Standing.{Stands}

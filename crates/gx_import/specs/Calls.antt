@@ -23,7 +23,7 @@ use Rattle.gx_model.specs.Revisions.{revision_of}
 use Rattle.gx_model.specs.Laws.RepositoryLaws.{values_of}
 use Rattle.gx_model.specs.Replay as replay
 use Rattle.gx_model.specs.Replay.{State, added, all_changed, all_committed, changed, content, first_parent, own_commit, starting_files, step, step_reset, text_made, with_first_parent}
-use Rattle.gx_text.specs.Devices.{Taken}
+use Rattle.gx_model.specs.Texts.Sinks.{Taken}
 use Rattle.gx_command.specs.Views.{commit_parts, shown_change, shown_command, shown_commit, shown_commit_ish, shown_data, shown_modify, tag_parts}
 use Rattle.gx_command.specs.declared.commands.Change.{Change}
 use Rattle.gx_command.specs.declared.commands.Command.{Command as GivenCommand}
@@ -208,8 +208,8 @@ module _ {N : Type 0} (names : N → Kind → Bytes → Bytes) {A : Type 0} wher
   Modifies old new tables was now modify = MakesChange old new tables was now (shown_modify modify)
 
   -- those of all changes
-  abbrev pub ChangesAll : {X : Type 0} → Repository N → Repository N → Tables A → NamedTree → NamedTree → Vec (Change A) A → Result X Fault → Type 0
-  ChangesAll old new tables was now changes answer =
+  abbrev pub EditsAll : {X : Type 0} → Repository N → Repository N → Tables A → NamedTree → NamedTree → Vec (Change A) A → Result X Fault → Type 0
+  EditsAll old new tables was now changes answer =
       (s : State) (files : FileMap Bytes) → Stands (names old.0) old.1 tables s → AreFiles (names old.0) s.history.values files was.files
       → AddsAs (Clash (names old.0) (values_of old.1) (blobs_added (names old.0) s files (map shown_change changes.items)))
       (λ r _. Follows (names old.0) new.1 tables s r.0 × AreFiles (names old.0) r.0.history.values r.1 now.files)

@@ -10,7 +10,8 @@ use Rattle.gx_model.specs.Records.Sound.{IsSound}
 use Rattle.gx_model.specs.Streams.Commands.{Command, Commands, Progress}
 use Rattle.gx_model.specs.Replay as model
 use Rattle.gx_model.specs.Replay.{Kept, Outcome, finished, refused, imported, replayed_commands, start}
-use Rattle.gx_text.specs.Devices.{Coming, FailedWithin, Taken, Took, TookFront}
+use Rattle.gx_model.specs.Texts.Sinks.{FailedWithin, Taken, Took, TookFront}
+use Rattle.gx_text.specs.Devices.{Coming}
 use Rattle.gx_stream.specs.Heard.{heard}
 use Rattle.gx_command.specs.CommandFaults as reader
 use Rattle.gx_command.specs.Reading.{commands_from}

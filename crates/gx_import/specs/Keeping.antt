@@ -1,6 +1,6 @@
 -- What an import holds of its checkpoints: the records and refs that a refusal leaves, and the names that were published.
 -- Source: git-fast-import(1), "checkpoint".
-use Rattle.std.specs.Prelude.{◌≡◌, ◌⊎◌, ◌+◌, ◌≤◌, Bool, [], List, length, take, IsTrue, Result, Ok, Err, OnOk, ⊤}
+use Rattle.std.specs.Prelude.{◌≡◌, ◌⊎◌, ◌+◌, ◌≤◌, Bool, [], List, length, map, take, IsTrue, Result, Ok, Err, OnOk, ⊤}
 use Rattle.std.specs.List.{AllByRecursion}
 use Rattle.gx_model.specs.declared.objects.Kind.{Kind}
 use Rattle.gx_model.specs.Texts.{Bytes}
@@ -12,7 +12,9 @@ use Rattle.gx_model.specs.Records.Sound.{IsTarget}
 use Rattle.gx_object.specs.declared.name.Name.{Name}
 use Rattle.gx_command.specs.Views.{shown_command}
 use Rattle.gx_command.specs.declared.commands.Command.{Command as GivenCommand}
+use Rattle.gx_repo.specs.Refs.{shown_update}
 use Rattle.gx_repo.specs.Repositories.{Repository}
+use Rattle.gx_repo.specs.declared.publishing.RefChange.{RefChange}
 use Rattle.gx_import.specs.Imports.{Leaves}
 use Rattle.gx_import.specs.RefChanges.{moved_of}
 use Rattle.gx_import.specs.Rows.{AreRows, rows_of}
@@ -33,6 +35,10 @@ Enters old new changes = (refs : List Ref) → AreNames refs old → AreNames (w
 -- the names of changes entered among those of a table
 abbrev pub EntersNames : {A : Type 0} → Table Name A → Table Name A → List Change → Type 0
 EntersNames old new = Enters (rows_of old) (rows_of new)
+
+-- the refs that these changes name are entered
+abbrev pub EntersUpdates : {A : Type 0} → Table Name A → Table Name A → List RefChange → Type 0
+EntersUpdates old new changes = EntersNames old new (map shown_update changes)
 
 -- where each ref is a published one, the names that were published are those of the refs
 abbrev pub HasAll : Bool → List Ref → List (Bytes × Name) → Type 0

@@ -10,7 +10,7 @@ use Rattle.gx_model.specs.Histories.{Records}
 use Rattle.gx_model.specs.Records.Sound.{IsTarget}
 use Rattle.gx_object.specs.declared.name.Name.{Name}
 use Rattle.gx_model.specs.Records.Publishing.{Change, Ref, with_changes}
-use Rattle.gx_repo.specs.Refs.{asked}
+use Rattle.gx_repo.specs.Refs.{shown_update}
 use Rattle.gx_repo.specs.declared.publishing.RefChange.{RefChange}
 use Rattle.gx_import.specs.Rows.{rows_of}
 use Rattle.gx_import.specs.declared.branches.Tip.{Tip}
@@ -62,16 +62,16 @@ new_of rows tables = filter (is_new rows) (changes_of tables)
 
 -- these changes set their refs, and the others stay
 abbrev pub ChangesRefs : Records → Records → List RefChange → Type 0
-ChangesRefs old new changes = new.refs ≡ with_changes old.refs (map asked changes)
+ChangesRefs old new changes = new.refs ≡ with_changes old.refs (map shown_update changes)
 
 module _ {A : Type 0} where
   -- changes that are given ask for these
   abbrev pub AreChanges : List Change → Vec RefChange A → Type 0
-  AreChanges changes given = map asked given.items ≡ changes
+  AreChanges changes given = map shown_update given.items ≡ changes
 
   -- these changes are appended
   abbrev pub Appends : List Change → Vec RefChange A → Vec RefChange A → Type 0
-  Appends changes old new = map asked new.items ≡ map asked old.items ++ changes
+  Appends changes old new = map shown_update new.items ≡ map shown_update old.items ++ changes
 
   -- those of these changes are appended whose refs are not among these rows
   abbrev pub AppendsNew : List (Bytes × Name) → List Change → Vec RefChange A → Vec RefChange A → Type 0

@@ -8,7 +8,8 @@ use Rattle.gx_model.specs.Records.HistoryOf.{history_of}
 use Rattle.gx_model.specs.Streams.Commands as model
 use Rattle.gx_model.specs.Streams.Commands.{Commands}
 use Rattle.gx_model.specs.Replay.{State, ended, refused, replayed_commands}
-use Rattle.gx_text.specs.Devices.{Coming, FailedWithin, Taken, Took}
+use Rattle.gx_model.specs.Texts.Sinks.{FailedWithin, Taken, Took}
+use Rattle.gx_text.specs.Devices.{Coming}
 use Rattle.gx_command.specs.Reading.{Falls, Reads, commands_from}
 use Rattle.gx_command.specs.declared.commands.Command.{Command}
 use Rattle.gx_command.specs.declared.fault.CommandFault.{CommandFault}

@@ -5,7 +5,7 @@ ghost use Rattle.gx_model.specs.declared.objects.Mode.TheVariants as modes;
 ghost use Rattle.gx_command.specs.DataRefs.{is_suited};
 ghost use Rattle.gx_model.specs.Streams.Commands as model;
 ghost use Rattle.gx_import.specs.Standing.{Extends, StayAtHome};
-ghost use Rattle.gx_import.specs.Calls.{AddsContent, Changes, ChangesAll, GivesBlob, Modifies, NamesContent};
+ghost use Rattle.gx_import.specs.Calls.{AddsContent, Changes, EditsAll, GivesBlob, Modifies, NamesContent};
 
 use crate::ImportKind;
 use crate::object::{Object, name_of_kind};
@@ -28,7 +28,7 @@ pub(crate) fn change_all<N: Namer, A: Allocator + Copy>(
     ensures refs { repo.new.1.refs ≡ repo.old.1.refs }
     ensures extends { Extends repo.old.1.records repo.new.1.records }
     ensures home { IfOk result (λ _. StayAtHome N.name_of repo.old repo.new files.old files.new) }
-    ensures steps { ChangesAll N.name_of repo.old repo.new tables.now files.old files.new changes result }
+    ensures steps { EditsAll N.name_of repo.old repo.new tables.now files.old files.new changes result }
 {
     for change in changes {
         change_files(repo, tables, files, change)?;

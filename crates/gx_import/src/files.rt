@@ -11,8 +11,9 @@ ghost use Rattle.gx_import.specs.Calls.{GivesStartingFiles, HasFilesAt, IsSomeCo
 use crate::ImportKind;
 use crate::branches::{files_at, take_files};
 use crate::tables::Tables;
-use gx_object::{Name, Namer, decode_commit};
+use gx_object::{Name, Namer};
 use gx_repo::Repo;
+use gx_rev::view_of;
 use gx_tree::PathTree;
 use std::alloc::Allocator;
 
@@ -82,12 +83,5 @@ fn tree_of<N: Namer, A: Allocator + Copy>(repo: &Repo<N, A>, commit: &Name) -> N
     requires { IsHeldAs kinds.Commit repo.now.1 commit.now }
     ensures { result.bytes ≡ tree_at N.name_of repo.now commit.now }
 {
-    repo.sound();
-    let Some((_, body)) = repo.store().get(commit) else {
-        unreachable!();
-    };
-    let Ok(view) = decode_commit(body) else {
-        unreachable!();
-    };
-    view.tree()
+    view_of(repo, commit).tree()
 }

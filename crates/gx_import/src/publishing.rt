@@ -3,9 +3,9 @@
 ghost use Rattle.std.specs.Prelude.{◌≡◌, [], ◌∷◌, map, is_some, Some, None, IfErr, IfSome, OnOk, OnErr};
 ghost use Rattle.std.specs.Option.{option_map};
 ghost use Rattle.gx_model.specs.Records.Publishing.{changes_fault};
-ghost use Rattle.gx_repo.specs.Refs.{asked};
+ghost use Rattle.gx_repo.specs.Refs.{shown_update};
 ghost use Rattle.gx_import.specs.Calls.{IsCommitIfAny, TellsForward, TellsMovable};
-ghost use Rattle.gx_import.specs.Keeping.{AreMoved, EntersInEach, EntersNames, HasAll};
+ghost use Rattle.gx_import.specs.Keeping.{AreMoved, EntersInEach, EntersNames, EntersUpdates, HasAll};
 ghost use Rattle.gx_import.specs.Publishing.{PublishesInEach, TellsFastForward};
 ghost use Rattle.gx_import.specs.RefChanges.{Appends, AppendsBranch, AppendsBranches, ChangesRefs, GivesMoved, IsHeldByRef, changes_of, is_at, tag_changes};
 ghost use Rattle.gx_import.specs.Rows.{IsSorted, rows_of};
@@ -173,7 +173,7 @@ fn publish_all<N: Namer, A: Allocator + Copy>(
     repo: &mut Repo<N, A>,
     changes: &[RefChange<'_>],
 ) -> Result<(), ImportKind>
-    requires { changes_fault repo.now.1.records (map asked changes.now) ≡ None }
+    requires { changes_fault repo.now.1.records (map shown_update changes.now) ≡ None }
     ensures namer { repo.new.0 ≡ repo.old.0 }
     ensures records { repo.new.1.records ≡ repo.old.1.records }
     ensures refs { OnOk result (ChangesRefs repo.old.1 repo.new.1 changes.now) }
@@ -198,7 +198,7 @@ fn enter_names<A: Allocator + Copy>(
     changes: &[RefChange<'_>],
 ) -> Result<(), AllocError>
     requires sorted { IsSorted published.now }
-    requires changes { AreMoved has_all published.now tables.now (map asked changes.now) }
+    requires changes { AreMoved has_all published.now tables.now (map shown_update changes.now) }
     ensures sorted { OnOk result (IsSorted published.new) }
     ensures entered { OnOk result (EntersNames published.old published.new (changes_of tables.now)) }
 {
@@ -217,7 +217,7 @@ fn enter_all<A: Allocator + Copy>(
 ) -> Result<(), AllocError>
     requires sorted { IsSorted published.now }
     ensures sorted { OnOk result (IsSorted published.new) }
-    ensures entered { OnOk result (EntersNames published.old published.new (map asked changes.now)) }
+    ensures entered { OnOk result (EntersUpdates published.old published.new changes.now) }
 {
     for change in changes {
         enter(alloc, published, change)?;
@@ -233,7 +233,7 @@ fn enter<A: Allocator + Copy>(
 ) -> Result<(), AllocError>
     requires sorted { IsSorted published.now }
     ensures sorted { OnOk result (IsSorted published.new) }
-    ensures entered { OnOk result (EntersNames published.old published.new (asked change.now ∷ [])) }
+    ensures entered { OnOk result (EntersUpdates published.old published.new (change.now ∷ [])) }
 {
     if published.get(change.name).is_none() {
         let name = Vec::from_slice(alloc, change.name)?;

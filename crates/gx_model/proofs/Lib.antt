@@ -5,6 +5,7 @@ pub mod LineTexts
 pub mod PathTexts
 pub mod Quotes
 pub mod Readings
+pub mod SentTexts
 pub mod Found
 pub mod PathTests
 pub mod FileMapEdits

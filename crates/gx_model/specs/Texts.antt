@@ -4,6 +4,7 @@ pub mod Idents
 pub mod Numbers
 pub mod Paths
 pub mod RefNames
+pub mod Sinks
 use Rattle.std.specs.Prelude.{ℕ, Bool, false, not, ◌&&◌, ◌||◌, ◌==◌, List, [], ◌∷◌, Option, Some, None, nat_eq, if◌then◌else◌}
 use Rattle.std.specs.Option.{option_map}
 use Rattle.std.specs.List.{list_any, list_all}

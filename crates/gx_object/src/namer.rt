@@ -4,7 +4,7 @@ ghost use Rattle.std.specs.Prelude.{◌≡◌, ℕ, List};
 ghost use Rattle.sha1.specs.Sha1.{sha1};
 ghost use Rattle.gx_model.specs.declared.objects.Kind.{Kind};
 ghost use Rattle.gx_model.specs.Objects.{IsNamer};
-ghost use Rattle.gx_model.specs.Objects.Naming.{kind_word, kind_number, record_text, short_name};
+ghost use Rattle.gx_model.specs.Objects.Naming.{kind_number, record_text, short_name};
 ghost use Rattle.gx_object.specs.Namers.{sha1_is_namer, short_is_namer};
 
 use crate::{Kind, Name};
@@ -37,7 +37,7 @@ impl Namer for Sha1Namer {
     fn name(&self, kind: Kind, body: &[u8]) -> Name {
         let mut buffer = Buffer::new();
         let mut hasher = Sha1::new();
-        hasher.update(word(kind));
+        hasher.update(kind.word().as_bytes());
         hasher.update(b" ");
         hasher.update(buffer.format(body.len()).as_bytes());
         hasher.update(b"\0");
@@ -64,18 +64,6 @@ impl Namer for ShortNamer {
         bytes[18] = number(kind);
         bytes[19] = (body.len() % 256) as u8;
         Name { bytes }
-    }
-}
-
-/// The word that stands before a body where it is named.
-fn word(kind: Kind) -> &'static [u8]
-    ensures { result.now ≡ kind_word kind }
-{
-    match kind {
-        Kind::Blob => b"blob",
-        Kind::Tree => b"tree",
-        Kind::Commit => b"commit",
-        Kind::Tag => b"tag",
     }
 }
 

@@ -16,7 +16,7 @@ use Rattle.gx_model.specs.Replay.{byte_cmp}
 use Rattle.gx_model.proofs.PathTests.{both, first, second, is_same, is_true}
 use Rattle.gx_model.proofs.SortedRefs.{answers_rise, found_at, not_parted, order, put_there, same_text}
 use Rattle.gx_object.specs.declared.name.Name.{Name}
-use Rattle.gx_repo.specs.Refs.{IsNamedAt, are_held, asked, is_held, kept}
+use Rattle.gx_repo.specs.Refs.{IsNamedAt, are_held, shown_update, is_held, shown_ref}
 use Rattle.gx_repo.specs.declared.refs.Ref.{Ref}
 use Rattle.gx_repo.specs.declared.publishing.RefChange.{RefChange}
 
@@ -27,9 +27,9 @@ module _ {A : Type 0} (n : Bytes) (refs : List (Ref A)) where
   named_at (Err place) lt h = tt
 
   -- and where it gives none, there is none
-  pub not_named : (r : Result ℕ ℕ) → IsTrue (is_sorted byte_cmp (map kept refs)) → IsBinarySearchResult (λ x. byte_cmp x.name.items n) refs r → OnErr r (lookup (same_bytes n) (map kept refs) ≡ None)
+  pub not_named : (r : Result ℕ ℕ) → IsTrue (is_sorted byte_cmp (map shown_ref refs)) → IsBinarySearchResult (λ x. byte_cmp x.name.items n) refs r → OnErr r (lookup (same_bytes n) (map shown_ref refs) ≡ None)
   not_named (Ok place) sorted h = tt
-  not_named (Err place) sorted h = sym (not_parted kept n refs place (h (answers_rise kept n refs (passes _ sorted))))
+  not_named (Err place) sorted h = sym (not_parted shown_ref n refs place (h (answers_rise shown_ref n refs (passes _ sorted))))
 
   same_cmp : (x : Bytes) → x ≡ n → byte_cmp x n ≡ Equal
   same_cmp x e = tied_cmp (byte_cmp x n) (is_eq-slice_cmp x n ∙ is_true _ (is_same x n e))
@@ -40,23 +40,23 @@ module _ {A : Type 0} (n : Bytes) (refs : List (Ref A)) where
       tied_cmp Greater t = absurd (cc t)
 
   -- what is looked up at the name is the object of the ref there
-  pub object_at : (place : ℕ) (past : Ref A) → IsTrue (is_sorted byte_cmp (map kept refs)) → IsNamedAt refs n place → Some (get_or refs place past).object.bytes ≡ lookup (same_bytes n) (map kept refs)
-  object_at place past sorted at = found_at kept n refs place past (passes _ sorted) at.0 (same_cmp _ (at.1 past))
+  pub object_at : (place : ℕ) (past : Ref A) → IsTrue (is_sorted byte_cmp (map shown_ref refs)) → IsNamedAt refs n place → Some (get_or refs place past).object.bytes ≡ lookup (same_bytes n) (map shown_ref refs)
+  object_at place past sorted at = found_at shown_ref n refs place past (passes _ sorted) at.0 (same_cmp _ (at.1 past))
 
   -- with the object set, refs have it put
-  pub object_set : (object : Name) (place : ℕ) (past : Ref A) → IsTrue (is_sorted byte_cmp (map kept refs)) → IsNamedAt refs n place
-      → map kept (set refs place (record { name = (get_or refs place past).name; object = object })) ≡ put byte_cmp n object.bytes (map kept refs)
+  pub object_set : (object : Name) (place : ℕ) (past : Ref A) → IsTrue (is_sorted byte_cmp (map shown_ref refs)) → IsNamedAt refs n place
+      → map shown_ref (set refs place (record { name = (get_or refs place past).name; object = object })) ≡ put byte_cmp n object.bytes (map shown_ref refs)
   object_set object place past sorted at =
-      put_there kept n object.bytes refs place past (record { name = (get_or refs place past).name; object = object }) (passes _ sorted) at.0 (same_cmp _ (at.1 past)) refl
+      put_there shown_ref n object.bytes refs place past (record { name = (get_or refs place past).name; object = object }) (passes _ sorted) at.0 (same_cmp _ (at.1 past)) refl
 
 -- a ref whose place is known is held
-held_at : {A : Type 0} (n : Bytes) (refs : List (Ref A)) (place : ℕ) → IsTrue (is_sorted byte_cmp (map kept refs)) → IsNamedAt refs n place → true ≡ is_held (map kept refs) n
+held_at : {A : Type 0} (n : Bytes) (refs : List (Ref A)) (place : ℕ) → IsTrue (is_sorted byte_cmp (map shown_ref refs)) → IsNamedAt refs n place → true ≡ is_held (map shown_ref refs) n
 held_at n [] place sorted at = let lt = at.0 in absurd (omega arith)
 held_at n (r ∷ rs) place sorted at = ap is_some (object_at n (r ∷ rs) place r sorted at)
 
 -- so a search tells whether one is held
-pub held_where : {A : Type 0} (n : Bytes) (refs : List (Ref A)) (r : Result ℕ ℕ) → IsTrue (is_sorted byte_cmp (map kept refs)) → IfOk r (IsNamedAt refs n)
-    → OnErr r (lookup (same_bytes n) (map kept refs) ≡ None) → is_ok r ≡ is_held (map kept refs) n
+pub held_where : {A : Type 0} (n : Bytes) (refs : List (Ref A)) (r : Result ℕ ℕ) → IsTrue (is_sorted byte_cmp (map shown_ref refs)) → IfOk r (IsNamedAt refs n)
+    → OnErr r (lookup (same_bytes n) (map shown_ref refs) ≡ None) → is_ok r ≡ is_held (map shown_ref refs) n
 held_where n refs (Ok place) sorted at none = held_at n refs place sorted at
 held_where n refs (Err place) sorted at none = sym (ap is_some none)
 
@@ -79,22 +79,22 @@ still_held n object refs (c ∷ cs) h =
         by false = subst (λ o. T (is_some o)) (sym (found c.0 refs)) t
 
 -- one change more is made, and the others are left
-module _ {A : Type 0} (changes : List RefChange) (i : ℕ) (d : RefChange) (refs now : List (Ref A)) (lt : i < length changes) (sorted : IsTrue (is_sorted byte_cmp (map kept refs)))
-    (made : map kept now ≡ with_change (map kept refs) (asked (get_or changes i d))) where
-  next : map asked (drop i changes) ≡ asked (get_or changes i d) ∷ map asked (drop (i + 1) changes)
-  next = ap (map asked) (drop_more changes i d lt)
+module _ {A : Type 0} (changes : List RefChange) (i : ℕ) (d : RefChange) (refs now : List (Ref A)) (lt : i < length changes) (sorted : IsTrue (is_sorted byte_cmp (map shown_ref refs)))
+    (made : map shown_ref now ≡ with_change (map shown_ref refs) (shown_update (get_or changes i d))) where
+  next : map shown_update (drop i changes) ≡ shown_update (get_or changes i d) ∷ map shown_update (drop (i + 1) changes)
+  next = ap (map shown_update) (drop_more changes i d lt)
 
-  pub next_sorted : IsTrue (is_sorted byte_cmp (map kept now))
+  pub next_sorted : IsTrue (is_sorted byte_cmp (map shown_ref now))
   next_sorted =
-      let change = asked (get_or changes i d) in
-      subst (λ rs. IsTrue (is_sorted byte_cmp rs)) (sym made) (is_true _ (is_sorted-put byte_cmp order change.0 change.1 (map kept refs) (passes _ sorted)))
+      let change = shown_update (get_or changes i d) in
+      subst (λ rs. IsTrue (is_sorted byte_cmp rs)) (sym made) (is_true _ (is_sorted-put byte_cmp order change.0 change.1 (map shown_ref refs) (passes _ sorted)))
 
-  pub next_held : IsTrue (are_held (map kept refs) (map asked (drop i changes))) → IsTrue (are_held (map kept now) (map asked (drop (i + 1) changes)))
+  pub next_held : IsTrue (are_held (map shown_ref refs) (map shown_update (drop i changes))) → IsTrue (are_held (map shown_ref now) (map shown_update (drop (i + 1) changes)))
   next_held h =
-      let change = asked (get_or changes i d) in
-      let all = passes _ (subst (λ cs. IsTrue (are_held (map kept refs) cs)) next h) in
-      subst (λ rs. IsTrue (are_held rs (map asked (drop (i + 1) changes)))) (sym made)
-      (still_held change.0 change.1 (map kept refs) (map asked (drop (i + 1) changes)) (is_true _ (second (is_held (map kept refs) change.0) _ all)))
+      let change = shown_update (get_or changes i d) in
+      let all = passes _ (subst (λ cs. IsTrue (are_held (map shown_ref refs) cs)) next h) in
+      subst (λ rs. IsTrue (are_held rs (map shown_update (drop (i + 1) changes)))) (sym made)
+      (still_held change.0 change.1 (map shown_ref refs) (map shown_update (drop (i + 1) changes)) (is_true _ (second (is_held (map shown_ref refs) change.0) _ all)))
 
-  pub next_left : (all : List (Bytes × Bytes)) → with_changes (map kept refs) (map asked (drop i changes)) ≡ all → with_changes (map kept now) (map asked (drop (i + 1) changes)) ≡ all
-  next_left all e = ap (λ rs. with_changes rs (map asked (drop (i + 1) changes))) made ∙ sym (ap (with_changes (map kept refs)) next) ∙ e
+  pub next_left : (all : List (Bytes × Bytes)) → with_changes (map shown_ref refs) (map shown_update (drop i changes)) ≡ all → with_changes (map shown_ref now) (map shown_update (drop (i + 1) changes)) ≡ all
+  next_left all e = ap (λ rs. with_changes rs (map shown_update (drop (i + 1) changes))) made ∙ sym (ap (with_changes (map shown_ref refs)) next) ∙ e

@@ -5,7 +5,7 @@ use Rattle.gx_model.specs.declared.faults.Fault.TheVariants as model
 use Rattle.gx_model.specs.Faults.{Gives}
 use Rattle.gx_model.specs.Histories.{Record, Records}
 use Rattle.gx_model.specs.Records.Publishing.{change_fault, changes_fault, published, with_changes}
-use Rattle.gx_repo.specs.Refs.{asked, kept}
+use Rattle.gx_repo.specs.Refs.{shown_update, shown_ref}
 use Rattle.gx_repo.specs.declared.fault.PublishFault.{PublishFault}
 use Rattle.gx_repo.specs.declared.fault.PublishFault.TheVariants.{OutOfMemory, BadRefName, UnknownObject, WrongKind}
 use Rattle.gx_repo.specs.declared.publishing.RefChange.{RefChange}
@@ -20,16 +20,16 @@ fault_of WrongKind = model.WrongKind
 
 -- this is against a change
 abbrev pub IsAgainstChange : List Record → RefChange → PublishFault → Type 0
-IsAgainstChange records change fault = change_fault records (asked change) ≡ Some (fault_of fault)
+IsAgainstChange records change fault = change_fault records (shown_update change) ≡ Some (fault_of fault)
 
 -- this is against the first of these changes that is refused
 abbrev pub IsAgainstFirst : List Record → List RefChange → PublishFault → Type 0
-IsAgainstFirst records changes fault = changes_fault records (map asked changes) ≡ Some (fault_of fault)
+IsAgainstFirst records changes fault = changes_fault records (map shown_update changes) ≡ Some (fault_of fault)
 
 -- the refs are those with these changes made in turn, or this is why they aren't
 abbrev pub SetsRefs : Records → Records → List RefChange → Result (Unit {0}) PublishFault → Type 0
-SetsRefs old new changes answer = Gives fault_of (λ _. new.refs) answer (published old (map asked changes))
+SetsRefs old new changes answer = Gives fault_of (λ _. new.refs) answer (published old (map shown_update changes))
 
 -- the refs with these changes made in turn
 abbrev pub MakesChanges : {A : Type 0} → List (Ref A) → List (Ref A) → List RefChange → Type 0
-MakesChanges old new changes = map kept new ≡ with_changes (map kept old) (map asked changes)
+MakesChanges old new changes = map shown_ref new ≡ with_changes (map shown_ref old) (map shown_update changes)

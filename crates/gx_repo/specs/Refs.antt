@@ -16,20 +16,20 @@ use Rattle.gx_repo.specs.declared.refs.Ref.{Ref}
 use Rattle.gx_repo.specs.declared.publishing.RefChange.{RefChange}
 
 -- a ref as it is held
-abbrev pub kept : {A : Type 0} → Ref A → Bytes × Bytes
-kept ref = (ref.name.items, ref.object.bytes)
+abbrev pub shown_ref : {A : Type 0} → Ref A → Bytes × Bytes
+shown_ref ref = (ref.name.items, ref.object.bytes)
 
 -- an entry of a map from names to objects, as a ref
 abbrev pub ref_of : {A : Type 0} → Vec ℕ A × Name → Bytes × Bytes
 ref_of entry = (entry.0.items, entry.1.bytes)
 
 -- a ref as it is shown
-abbrev pub shown : Bor Bytes × Name → Bytes × Bytes
-shown ref = (ref.0.now, ref.1.bytes)
+abbrev pub shown_lent_ref : Bor Bytes × Name → Bytes × Bytes
+shown_lent_ref ref = (ref.0.now, ref.1.bytes)
 
 -- a change that is asked for
-abbrev pub asked : RefChange → Bytes × Bytes
-asked change = (change.name.now, change.target.bytes)
+abbrev pub shown_update : RefChange → Bytes × Bytes
+shown_update change = (change.name.now, change.target.bytes)
 
 -- the ref at this place has this name
 abbrev pub IsNamedAt : {A : Type 0} → List (Ref A) → Bytes → ℕ → Type 0

@@ -2,7 +2,7 @@
 ghost use Rattle.std.specs.Prelude.{◌≡◌, map, IsTrue, IfOk};
 ghost use Rattle.std.specs.FinMap.Entries.{is_sorted};
 ghost use Rattle.gx_model.specs.Replay.{byte_cmp};
-ghost use Rattle.gx_repo.specs.Refs.{are_held, asked, kept, ref_of};
+ghost use Rattle.gx_repo.specs.Refs.{are_held, shown_update, shown_ref, ref_of};
 ghost use Rattle.gx_repo.specs.Publishing.{MakesChanges};
 
 use crate::refs::{Ref, is_held, set_object};
@@ -19,8 +19,8 @@ pub struct RefChange<'a> {
 
 /// Whether each of these changes is one of a ref that is held.
 pub(crate) fn are_held<A: Allocator + Copy>(refs: &[Ref<A>], changes: &[RefChange<'_>]) -> bool
-    requires sorted { IsTrue (is_sorted byte_cmp (map kept refs.now)) }
-    ensures { result ≡ are_held (map kept refs.now) (map asked changes.now) }
+    requires sorted { IsTrue (is_sorted byte_cmp (map shown_ref refs.now)) }
+    ensures { result ≡ are_held (map shown_ref refs.now) (map shown_update changes.now) }
 {
     for change in changes {
         if !is_held(refs, change.name) {
@@ -32,8 +32,8 @@ pub(crate) fn are_held<A: Allocator + Copy>(refs: &[Ref<A>], changes: &[RefChang
 
 /// Makes the changes in turn, which are of refs that are held. Takes no memory.
 pub(crate) fn set_objects<A: Allocator + Copy>(refs: &mut [Ref<A>], changes: &[RefChange<'_>])
-    requires sorted { IsTrue (is_sorted byte_cmp (map kept refs.now)) }
-    requires held { IsTrue (are_held (map kept refs.now) (map asked changes.now)) }
+    requires sorted { IsTrue (is_sorted byte_cmp (map shown_ref refs.now)) }
+    requires held { IsTrue (are_held (map shown_ref refs.now) (map shown_update changes.now)) }
     ensures { MakesChanges refs.old refs.new changes.now }
 {
     for change in changes {
@@ -47,7 +47,7 @@ pub(crate) fn with_changes<A: Allocator + Copy>(
     refs: &[Ref<A>],
     changes: &[RefChange<'_>],
 ) -> Result<Vec<Ref<A>, A>, AllocError>
-    requires sorted { IsTrue (is_sorted byte_cmp (map kept refs.now)) }
+    requires sorted { IsTrue (is_sorted byte_cmp (map shown_ref refs.now)) }
     ensures { IfOk result (λ made. MakesChanges refs.now made.items changes.now) }
 {
     let mut objects = by_name(alloc, refs)?;
@@ -63,8 +63,8 @@ fn by_name<A: Allocator + Copy>(
     alloc: A,
     refs: &[Ref<A>],
 ) -> Result<BTreeMap<Vec<u8, A>, Name, A>, AllocError>
-    requires sorted { IsTrue (is_sorted byte_cmp (map kept refs.now)) }
-    ensures { IfOk result (λ objects. map ref_of objects.entries ≡ map kept refs.now) }
+    requires sorted { IsTrue (is_sorted byte_cmp (map shown_ref refs.now)) }
+    ensures { IfOk result (λ objects. map ref_of objects.entries ≡ map shown_ref refs.now) }
 {
     let mut objects = BTreeMap::new(alloc);
     for held in refs {
@@ -79,7 +79,7 @@ fn in_order<A: Allocator + Copy>(
     alloc: A,
     objects: BTreeMap<Vec<u8, A>, Name, A>,
 ) -> Result<Vec<Ref<A>, A>, AllocError>
-    ensures { IfOk result (λ refs. map kept refs.items ≡ map ref_of objects.entries) }
+    ensures { IfOk result (λ refs. map shown_ref refs.items ≡ map ref_of objects.entries) }
 {
     let mut refs = Vec::new(alloc);
     for (name, object) in objects {

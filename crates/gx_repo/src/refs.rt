@@ -5,7 +5,7 @@ ghost use Rattle.std.specs.Iterator.{item_count};
 ghost use Rattle.std.specs.Map.Iter.{TakesFirst};
 ghost use Rattle.gx_model.specs.Revisions.Denotation.{ref_names};
 ghost use Rattle.gx_model.specs.Replay.{byte_cmp};
-ghost use Rattle.gx_repo.specs.Refs.{FindsFirst, FindsObject, IsNamedAt, is_held, kept, object_named, shown};
+ghost use Rattle.gx_repo.specs.Refs.{FindsFirst, FindsObject, IsNamedAt, is_held, shown_ref, object_named, shown_lent_ref};
 
 use gx_object::Name;
 use std::alloc::Allocator;
@@ -28,17 +28,17 @@ pub struct Refs<'a, A: Allocator> {
 
 impl<'a, A: Allocator> Model for Refs<'a, A> {
     ghost use Rattle.std.specs.Prelude.{List, ℕ, map};
-    ghost use Rattle.gx_repo.specs.Refs.{kept};
+    ghost use Rattle.gx_repo.specs.Refs.{shown_ref};
 
     ghost Value = { List (List ℕ × List ℕ) };
 
-    ghost view = { λ it. map kept it.rest.now };
+    ghost view = { λ it. map shown_ref it.rest.now };
 }
 
 impl<'a, A: Allocator + Copy> Iterator for Refs<'a, A> {
     type Item = (&'a [u8], Name);
 
-    ghost next_gives = { TakesFirst shown };
+    ghost next_gives = { TakesFirst shown_lent_ref };
 
     ghost remaining = { item_count (λ rest. rest) };
 
@@ -51,8 +51,8 @@ impl<'a, A: Allocator + Copy> Iterator for Refs<'a, A> {
 
 /// The object of the first ref among the names that a word stands for, in their order.
 pub(crate) fn find_by_names<A: Allocator + Copy>(refs: &[Ref<A>], word: &[u8]) -> Option<Name>
-    requires sorted { IsTrue (is_sorted byte_cmp (map kept refs.now)) }
-    ensures { FindsFirst (map kept refs.now) (ref_names word.now) result }
+    requires sorted { IsTrue (is_sorted byte_cmp (map shown_ref refs.now)) }
+    ensures { FindsFirst (map shown_ref refs.now) (ref_names word.now) result }
 {
     if let Some(found) = find(refs, b"", word, b"") {
         return Some(found);
@@ -68,8 +68,8 @@ pub(crate) fn find_by_names<A: Allocator + Copy>(refs: &[Ref<A>], word: &[u8]) -
 
 /// The object of a branch's ref, or else of one that a remote repository has.
 fn find_branch<A: Allocator + Copy>(refs: &[Ref<A>], word: &[u8]) -> Option<Name>
-    requires sorted { IsTrue (is_sorted byte_cmp (map kept refs.now)) }
-    ensures { FindsFirst (map kept refs.now) (drop 3 (ref_names word.now)) result }
+    requires sorted { IsTrue (is_sorted byte_cmp (map shown_ref refs.now)) }
+    ensures { FindsFirst (map shown_ref refs.now) (drop 3 (ref_names word.now)) result }
 {
     if let Some(found) = find(refs, b"refs/heads/", word, b"") {
         return Some(found);
@@ -87,8 +87,8 @@ fn find<A: Allocator + Copy>(
     word: &[u8],
     after: &[u8],
 ) -> Option<Name>
-    requires sorted { IsTrue (is_sorted byte_cmp (map kept refs.now)) }
-    ensures { FindsObject (map kept refs.now) (before.now ++ word.now ++ after.now) result }
+    requires sorted { IsTrue (is_sorted byte_cmp (map shown_ref refs.now)) }
+    ensures { FindsObject (map shown_ref refs.now) (before.now ++ word.now ++ after.now) result }
 {
     let found = refs.binary_search_by(|held| compare(held.name.as_slice(), before, word, after));
     match found {
@@ -103,8 +103,8 @@ pub(crate) fn find_near<A: Allocator + Copy>(
     place: usize,
     name: &[u8],
 ) -> (usize, Option<Name>)
-    requires sorted { IsTrue (is_sorted byte_cmp (map kept refs.now)) }
-    ensures { FindsObject (map kept refs.now) name.now result.1 }
+    requires sorted { IsTrue (is_sorted byte_cmp (map shown_ref refs.now)) }
+    ensures { FindsObject (map shown_ref refs.now) name.now result.1 }
 {
     match place_near(refs, place, name) {
         Ok(found) => (found + 1, Some(refs[found].object)),
@@ -118,9 +118,9 @@ fn place_near<A: Allocator + Copy>(
     place: usize,
     name: &[u8],
 ) -> Result<usize, usize>
-    requires sorted { IsTrue (is_sorted byte_cmp (map kept refs.now)) }
+    requires sorted { IsTrue (is_sorted byte_cmp (map shown_ref refs.now)) }
     ensures found { IfOk result (IsNamedAt refs.now name.now) }
-    ensures none { OnErr result (object_named (map kept refs.now) name.now ≡ None) }
+    ensures none { OnErr result (object_named (map shown_ref refs.now) name.now ≡ None) }
 {
     if let Some(held) = refs.get(place) {
         if held.name.as_slice() == name {
@@ -132,26 +132,26 @@ fn place_near<A: Allocator + Copy>(
 
 /// The place of the ref of this name, or the one that it would have.
 fn place_of<A: Allocator + Copy>(refs: &[Ref<A>], name: &[u8]) -> Result<usize, usize>
-    requires sorted { IsTrue (is_sorted byte_cmp (map kept refs.now)) }
+    requires sorted { IsTrue (is_sorted byte_cmp (map shown_ref refs.now)) }
     ensures found { IfOk result (IsNamedAt refs.now name.now) }
-    ensures none { OnErr result (object_named (map kept refs.now) name.now ≡ None) }
+    ensures none { OnErr result (object_named (map shown_ref refs.now) name.now ≡ None) }
 {
     refs.binary_search_by(|held| held.name.as_slice().cmp(name))
 }
 
 /// Whether a ref of this name is held.
 pub(crate) fn is_held<A: Allocator + Copy>(refs: &[Ref<A>], name: &[u8]) -> bool
-    requires sorted { IsTrue (is_sorted byte_cmp (map kept refs.now)) }
-    ensures { result ≡ is_held (map kept refs.now) name.now }
+    requires sorted { IsTrue (is_sorted byte_cmp (map shown_ref refs.now)) }
+    ensures { result ≡ is_held (map shown_ref refs.now) name.now }
 {
     place_of(refs, name).is_ok()
 }
 
 /// Sets the object of a ref that is held. Takes no memory.
 pub(crate) fn set_object<A: Allocator + Copy>(refs: &mut [Ref<A>], name: &[u8], object: Name)
-    requires sorted { IsTrue (is_sorted byte_cmp (map kept refs.now)) }
-    requires held { IsTrue (is_held (map kept refs.now) name.now) }
-    ensures { map kept refs.new ≡ put byte_cmp name.now object.bytes (map kept refs.old) }
+    requires sorted { IsTrue (is_sorted byte_cmp (map shown_ref refs.now)) }
+    requires held { IsTrue (is_held (map shown_ref refs.now) name.now) }
+    ensures { map shown_ref refs.new ≡ put byte_cmp name.now object.bytes (map shown_ref refs.old) }
 {
     let Ok(place) = place_of(refs, name) else {
         unreachable!();

@@ -18,7 +18,7 @@ ghost use Rattle.gx_repo.specs.Additions.{IsWriteFault};
 ghost use Rattle.gx_repo.specs.Publishing.{IsAgainstChange, IsAgainstFirst, SetsRefs};
 ghost use Rattle.gx_model.specs.Records.Publishing.{change_fault, changes_fault};
 ghost use Rattle.gx_repo.specs.GivenBytes.{IsInText, bytes_given};
-ghost use Rattle.gx_repo.specs.Refs.{FindsFirst, FindsObject, HasTagParts, TellsOwnRef, asked, bytes_found, kept};
+ghost use Rattle.gx_repo.specs.Refs.{FindsFirst, FindsObject, HasTagParts, TellsOwnRef, shown_update, bytes_found, shown_ref};
 ghost use Rattle.gx_repo.specs.Rooms.{room_below};
 ghost use Rattle.gx_repo.specs.Calls.{AddsAnew, AddsCommit, AddsObject, AddsTag, AddsTree, GainsObject, GainsTree, GainsValue, HasShortPathsBelow, NamesObject, NamesValue, commit_given, tag_given, tree_given};
 ghost use Rattle.gx_repo.specs.Objects.{AreTargets, HoldsEach};
@@ -60,14 +60,14 @@ impl<N: Namer, A: Allocator> Model for Repo<N, A> {
     ghost use Rattle.std.specs.Prelude.{◌≡◌, map};
     ghost use Rattle.gx_model.specs.Histories.{Records};
     ghost use Rattle.gx_model.specs.Records.Sound.{IsSound};
-    ghost use Rattle.gx_repo.specs.Refs.{kept};
+    ghost use Rattle.gx_repo.specs.Refs.{shown_ref};
     ghost use Rattle.gx_repo.specs.Rooms.{IsFront};
 
     ghost Value = { N × Records };
 
-    ghost view = { λ s. (s.store.0, record { records = s.store.1; refs = map kept s.refs.items }) };
+    ghost view = { λ s. (s.store.0, record { records = s.store.1; refs = map shown_ref s.refs.items }) };
 
-    ghost invariant = { λ s. IsSound (N.name_of s.store.0) (record { records = s.store.1; refs = map kept s.refs.items }) × IsFront s.rooms.items s.store.1 };
+    ghost invariant = { λ s. IsSound (N.name_of s.store.0) (record { records = s.store.1; refs = map shown_ref s.refs.items }) × IsFront s.rooms.items s.store.1 };
 }
 
 impl<N: Namer, A: Allocator + Copy> Repo<N, A> {
@@ -438,7 +438,7 @@ impl<N: Namer, A: Allocator + Copy> Repo<N, A> {
 
     /// Answers why the first of these changes that is refused is.
     fn check_all(&self, changes: &[RefChange<'_>]) -> Result<(), PublishFault>
-        ensures ok { OnOk result (changes_fault self.now.1.records (map asked changes.now) ≡ None) }
+        ensures ok { OnOk result (changes_fault self.now.1.records (map shown_update changes.now) ≡ None) }
         ensures fault { IfErr result (IsAgainstFirst self.now.1.records changes.now) }
     {
         for change in changes {
@@ -449,7 +449,7 @@ impl<N: Namer, A: Allocator + Copy> Repo<N, A> {
 
     /// Answers why a change is refused.
     fn check(&self, change: &RefChange<'_>) -> Result<(), PublishFault>
-        ensures ok { OnOk result (change_fault self.now.1.records (asked change.now) ≡ None) }
+        ensures ok { OnOk result (change_fault self.now.1.records (shown_update change.now) ≡ None) }
         ensures fault { IfErr result (IsAgainstChange self.now.1.records change.now) }
     {
         if !is_ref_name(change.name) {

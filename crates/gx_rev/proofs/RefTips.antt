@@ -16,15 +16,11 @@ use Rattle.gx_model.specs.Revisions.Ranges.{reaches}
 use Rattle.gx_model.proofs.HeldValues.{peeled_to}
 use Rattle.gx_model.proofs.PeeledRefs.{target_peels, told}
 use Rattle.gx_rev.specs.Tips.{AddsTips, AreTips}
-use Rattle.gx_rev.proofs.Tips.{same_tips}
+use Rattle.gx_rev.proofs.Tips.{or_assoc, same_tips}
 
 or_false : (b : Bool) → (false || b) ≡ (b || false)
 or_false true = refl
 or_false false = refl
-
-or_assoc : (a b c : Bool) → ((a || b) || c) ≡ (a || (b || c))
-or_assoc true b c = refl
-or_assoc false b c = refl
 
 -- what the refs reach, with one ref more
 one_more : (refs : List (Bytes × Target)) (ref : Bytes × Target) (d : Commit) → (is_reached refs d || reaches (peeled_at ref.1) d) ≡ is_reached (refs ++ ref ∷ []) d

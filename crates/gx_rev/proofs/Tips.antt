@@ -68,7 +68,7 @@ or_false false = refl
 pub none_more : (r : Records) (marks : List Bool) → AddsTips r nothing marks marks
 none_more r marks test a = same_tips r test (λ c. test c || false) marks (λ c. or_false (test c)) a
 
-or_assoc : (a b c : Bool) → ((a || b) || c) ≡ (a || (b || c))
+pub or_assoc : (a b c : Bool) → ((a || b) || c) ≡ (a || (b || c))
 or_assoc true b c = refl
 or_assoc false b c = refl
 

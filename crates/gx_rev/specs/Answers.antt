@@ -35,8 +35,8 @@ IsNamed name repository (Object kind called) = (kind ≡ kind_of name (value_at 
 IsNamed name repository (Submodule called) = IsTrue (is_name called.bytes)
 
 -- a file's mode and bytes
-abbrev pub seen_file : {A : Type 0} → Mode × Vec ℕ A → Leaf Bytes
-seen_file file = (file.0, file.1.items)
+abbrev pub shown_file : {A : Type 0} → Mode × Vec ℕ A → Leaf Bytes
+shown_file file = (file.0, file.1.items)
 
 -- what an entry of this mode and name shows
 abbrev pub shown_as : Mode → Name → Shown

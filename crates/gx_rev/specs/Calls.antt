@@ -20,7 +20,7 @@ use Rattle.gx_model.specs.Revisions as model
 use Rattle.gx_model.specs.Revisions.Denotation.{all_suffixed, base_value, begun_by, commit_denoted, denoted, files_in, full_name, looked_up, nth_ancestor, nth_parent, shown_at, suffixed, the_one, value_denoted}
 use Rattle.gx_model.specs.Revisions.Ranges.{listed}
 use Rattle.gx_object.specs.declared.name.Name.{Name}
-use Rattle.gx_rev.specs.Answers.{revision_with, seen_file, shown_by}
+use Rattle.gx_rev.specs.Answers.{revision_with, shown_file, shown_by}
 use Rattle.gx_rev.specs.Objects.{commit_at, files_at, only, value_at}
 use Rattle.gx_rev.specs.RevFaults.{fault_of}
 use Rattle.gx_rev.specs.Views.{borrowed, shown_suffix}
@@ -72,7 +72,7 @@ ShowsPathOf repository called path result = Gives fault_of (shown_by repository)
 
 -- the mode and the bytes of this file
 abbrev pub ReadsFile : {A : Type 0} → Given (Leaf Bytes) → Result (Mode × Vec ℕ A) RevFault → Type 0
-ReadsFile given result = Gives fault_of seen_file result given
+ReadsFile given result = Gives fault_of shown_file result given
 
 -- ---- what is found in the history
 

@@ -3,13 +3,13 @@
 ghost use Rattle.std.specs.Prelude.{◌≡◌, IfOk};
 ghost use Rattle.gx_model.specs.declared.objects.Kind.TheVariants as kinds;
 ghost use Rattle.gx_model.specs.Revisions.Denotation.{commit_in, files_in};
-ghost use Rattle.gx_model.specs.Records.{kind_of, parts_of_commit};
+ghost use Rattle.gx_model.specs.Records.{body_of, kind_of, parts_of_commit};
 ghost use Rattle.gx_rev.specs.Calls.{GivesCommit, GivesFiles, ancestor_at, parent_at};
-ghost use Rattle.gx_rev.specs.Objects.{IsHeld, IsHeldAs, commit_at, value_at};
+ghost use Rattle.gx_rev.specs.Objects.{IsHeld, IsHeldAs, commit_at, entries_at, entries_given, value_at};
 ghost use Rattle.gx_rev.specs.RevFaults.{NeedsNoMemory};
 
 use crate::RevFault;
-use gx_object::{CommitView, Kind, Name, Namer, decode_commit};
+use gx_object::{CommitView, Kind, Name, Namer, TreeEntries, decode_commit, held_tree};
 use gx_repo::Repo;
 use std::alloc::Allocator;
 
@@ -23,6 +23,20 @@ pub(crate) fn kind_of<N: Namer, A: Allocator + Copy>(repo: &Repo<N, A>, name: &N
         unreachable!();
     };
     kind
+}
+
+/// The body of a held object.
+///
+/// Cost: a look-up. Takes no memory.
+pub fn body_of<'a, N: Namer, A: Allocator + Copy>(repo: &'a Repo<N, A>, name: &Name) -> &'a [u8]
+    requires { IsHeld repo.now.1 name.now }
+    ensures { result.now ≡ body_of (N.name_of repo.now.0) (value_at repo.now.1 name.now) }
+{
+    repo.sound();
+    let Some((_, body)) = repo.store().get(name) else {
+        unreachable!();
+    };
+    body
 }
 
 /// The commit that a held commit is, or that a held tag names.
@@ -53,13 +67,28 @@ pub fn view_of<'a, N: Namer, A: Allocator + Copy>(
     ensures { result ≡ parts_of_commit (N.name_of repo.now.0) (commit_at repo.now.1 commit.now) }
 {
     repo.sound();
-    let Some((_, body)) = repo.store().get(commit) else {
-        unreachable!();
-    };
-    let Ok(view) = decode_commit(body) else {
+    let Ok(view) = decode_commit(body_of(repo, commit)) else {
         unreachable!();
     };
     view
+}
+
+/// The entries of a held tree, in the order of its body.
+///
+/// Cost: a look-up; each entry is read where it is asked for. Takes no memory.
+pub fn entries_of<'a, N: Namer, A: Allocator + Copy>(
+    repo: &'a Repo<N, A>,
+    tree: &Name,
+) -> TreeEntries<'a>
+    requires { IsHeldAs kinds.Tree repo.now.1 tree.now }
+    ensures entries { result ≡ entries_at repo.now.1 tree.now }
+    ensures files { result ≡ entries_given N.name_of repo.now tree.now }
+{
+    repo.sound();
+    let Some((_, body)) = repo.store().get(tree) else {
+        unreachable!();
+    };
+    held_tree(body)
 }
 
 /// The nth parent of a held commit, and the commit where n is 0.

@@ -8,7 +8,8 @@ ghost use Rattle.gx_model.specs.Records.Walks.{entry_at, walked};
 ghost use Rattle.gx_rev.specs.Objects.{IsHeldAs, entries_at};
 ghost use Rattle.gx_rev.specs.Places.{IsHeldPlace, IsOfEntry, shown_place};
 
-use gx_object::{Mode, Name, Namer, TreeEntries, decode_tree};
+use crate::objects::entries_of;
+use gx_object::{Mode, Name, Namer, TreeEntries};
 use gx_repo::Repo;
 use gx_text::TreePath;
 use std::alloc::Allocator;
@@ -51,13 +52,7 @@ fn entry_of<N: Namer, A: Allocator + Copy>(
     ensures held { IfSome result (IsHeldPlace repo.now.1) }
 {
     repo.sound();
-    let Some((_, body)) = repo.store().get(tree) else {
-        unreachable!();
-    };
-    let Ok(entries) = decode_tree(body) else {
-        unreachable!();
-    };
-    find_entry(entries, component)
+    find_entry(entries_of(repo, tree), component)
 }
 
 /// The mode and the name of the entry with this component.

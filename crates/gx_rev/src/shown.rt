@@ -12,7 +12,7 @@ ghost use Rattle.gx_rev.specs.RevFaults.{FaultsComeFirst, NeedsNoMemory};
 ghost use Rattle.gx_rev.specs.Views.{borrowed};
 
 use crate::base::eval_base;
-use crate::objects::{commit_of, kind_of, tree_of, view_of};
+use crate::objects::{body_of, commit_of, kind_of, tree_of, view_of};
 use crate::places::walk_down;
 use crate::suffix::{Suffix, eval_all};
 use crate::{RevFault, Revision};
@@ -237,9 +237,5 @@ fn blob_of<'a, N: Namer, A: Allocator + Copy>(repo: &'a Repo<N, A>, name: &Name)
     requires { IsNamed (N.name_of repo.now.0) repo.now.1 (shown_as modes.File name.now) }
     ensures { result.now ≡ bytes_of_blob (value_at repo.now.1 name.now) }
 {
-    repo.sound();
-    let Some((_, body)) = repo.store().get(name) else {
-        unreachable!();
-    };
-    body
+    body_of(repo, name)
 }

@@ -13,7 +13,7 @@ use Rattle.gx_model.specs.Records.Growth.{record_named}
 use Rattle.gx_object.specs.declared.name.Name.{Name}
 use Rattle.gx_object.specs.contracts.name.NamePartialEq.TheImpl as equality
 use Rattle.gx_store.specs.Bodies.{bytes_of}
-use Rattle.gx_store.specs.Objects.{held}
+use Rattle.gx_store.specs.Objects.{shown_stored}
 use Rattle.gx_store.specs.declared.store.Object.{Object}
 
 pub same_name : (n m : Name) → same_bytes n.bytes m.bytes ≡ true → n ≡ m
@@ -24,16 +24,16 @@ abbrev pub under : {A : Type 0} → Name → Object A → Record
 under n object = record { name = n.bytes; kind = object.kind; body = bytes_of object.body }
 
 -- a look-up in the map finds the record
-pub found : {A : Type 0} (n : Name) (es : List (Name × Object A)) → record_named (map held es) n.bytes ≡ option_map (under n) (lookup ((equality.eq-value).it n) es)
+pub found : {A : Type 0} (n : Name) (es : List (Name × Object A)) → record_named (map shown_stored es) n.bytes ≡ option_map (under n) (lookup ((equality.eq-value).it n) es)
 found n [] = refl
 found {A} n (e ∷ es) = by (same_bytes n.bytes e.0.bytes) refl (found n es)
   where
-    by : (b : Bool) → same_bytes n.bytes e.0.bytes ≡ b → record_named (map held es) n.bytes ≡ option_map (under n) (lookup ((equality.eq-value).it n) es) → cond b (Some (held e)) (record_named (map held es) n.bytes) ≡ option_map (under n) (cond b (Some e.1) (lookup ((equality.eq-value).it n) es))
+    by : (b : Bool) → same_bytes n.bytes e.0.bytes ≡ b → record_named (map shown_stored es) n.bytes ≡ option_map (under n) (lookup ((equality.eq-value).it n) es) → cond b (Some (shown_stored e)) (record_named (map shown_stored es) n.bytes) ≡ option_map (under n) (cond b (Some e.1) (lookup ((equality.eq-value).it n) es))
     by true h rest = ap (λ (m : Name). Some (under m e.1)) (sym (same_name n e.0 h))
     by false h rest = rest
 
 -- where no record has a name, a look-up in the map finds nothing
-pub lookup_free : {A : Type 0} (n : Name) (es : List (Name × Object A)) → record_named (map held es) n.bytes ≡ None → lookup ((equality.eq-value).it n) es ≡ None
+pub lookup_free : {A : Type 0} (n : Name) (es : List (Name × Object A)) → record_named (map shown_stored es) n.bytes ≡ None → lookup ((equality.eq-value).it n) es ≡ None
 lookup_free {A} n es free = none (lookup ((equality.eq-value).it n) es) (sym (found n es) ∙ free)
   where
     none : (o : Option (Object A)) → option_map (under n) o ≡ None → o ≡ None
@@ -47,8 +47,8 @@ position_map : {X Y : Type 0} (view : X → Y) (test : Y → Bool) (xs : List X)
 position_map view test [] = refl
 position_map view test (x ∷ xs) = ap (λ n. cond (not (test (view x))) (1 + n) 0) (position_map view test xs)
 
-pub place_found : {A : Type 0} (n : Name) (es : List (Name × Object A)) → position ((equality.eq-value).it n) (keys_of es) ≡ place_named (map held es) n.bytes
+pub place_found : {A : Type 0} (n : Name) (es : List (Name × Object A)) → position ((equality.eq-value).it n) (keys_of es) ≡ place_named (map shown_stored es) n.bytes
 place_found n es =
-    let e = position_map (λ e. e.0) (λ m. same_bytes n.bytes m.bytes) es ∙ sym (position_map held (λ r. same_bytes n.bytes r.name) es) in
-    let l = length-map es (λ e. e.0) ∙ sym (length-map es held) in
+    let e = position_map (λ e. e.0) (λ m. same_bytes n.bytes m.bytes) es ∙ sym (position_map shown_stored (λ r. same_bytes n.bytes r.name) es) in
+    let l = length-map es (λ e. e.0) ∙ sym (length-map es shown_stored) in
     λ i. cond (nat_lt (e i) (l i)) (Some (e i)) None

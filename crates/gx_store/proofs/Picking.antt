@@ -12,7 +12,7 @@ use Rattle.gx_model.specs.Histories.{Record}
 use Rattle.gx_object.specs.declared.name.Name.{Name}
 use Rattle.gx_store.specs.NameOrder.{is_within}
 use Rattle.gx_store.specs.Chains.{up_to_last}
-use Rattle.gx_store.specs.Objects.{held}
+use Rattle.gx_store.specs.Objects.{shown_stored}
 use Rattle.gx_store.specs.Prefixes.{AreEnds, BeginNone, joined, picked, prefix_of}
 use Rattle.gx_store.specs.declared.prefix.Prefix.{Prefix}
 use Rattle.gx_store.specs.declared.prefix.Prefix.TheVariants.{Unique, Absent, Ambiguous}
@@ -179,18 +179,18 @@ prefix_more r [] = refl
 prefix_more r (s ∷ []) = refl
 prefix_more r (s ∷ t ∷ rs) = refl
 
-pub picks_records : {A : Type 0} (digits : Bytes) (least greatest : Name) → AreEnds digits least greatest → (es : List (Name × Object A)) → list_all (λ r. is_name r.name) (map held es) ≡ true
-    → picked (λ n. is_within least.bytes greatest.bytes n.bytes) (map (λ e. e.0) es) ≡ prefix_of (records_begun_by (map held es) digits)
+pub picks_records : {A : Type 0} (digits : Bytes) (least greatest : Name) → AreEnds digits least greatest → (es : List (Name × Object A)) → list_all (λ r. is_name r.name) (map shown_stored es) ≡ true
+    → picked (λ n. is_within least.bytes greatest.bytes n.bytes) (map (λ e. e.0) es) ≡ prefix_of (records_begun_by (map shown_stored es) digits)
 picks_records digits least greatest ends [] all = refl
 picks_records digits least greatest ends (e ∷ es) all =
     let p = and_parts (is_name e.0.bytes) _ all in
     let rest = picks_records digits least greatest ends es p.1 in
     by (is_within least.bytes greatest.bytes e.0.bytes) (begins_with_digits digits e.0.bytes) (ends e.0.bytes p.0) rest
   where
-    by : (b c : Bool) → b ≡ c → picked (λ n. is_within least.bytes greatest.bytes n.bytes) (map (λ e. e.0) es) ≡ prefix_of (records_begun_by (map held es) digits)
+    by : (b c : Bool) → b ≡ c → picked (λ n. is_within least.bytes greatest.bytes n.bytes) (map (λ e. e.0) es) ≡ prefix_of (records_begun_by (map shown_stored es) digits)
         → cond b (joined (Unique e.0) (picked (λ n. is_within least.bytes greatest.bytes n.bytes) (map (λ e. e.0) es))) (picked (λ n. is_within least.bytes greatest.bytes n.bytes) (map (λ e. e.0) es))
-        ≡ prefix_of (cond c (held e ∷ records_begun_by (map held es) digits) (records_begun_by (map held es) digits))
-    by true true h rest = ap (joined (Unique e.0)) rest ∙ sym (prefix_more (held e) (records_begun_by (map held es) digits))
+        ≡ prefix_of (cond c (shown_stored e ∷ records_begun_by (map shown_stored es) digits) (records_begun_by (map shown_stored es) digits))
+    by true true h rest = ap (joined (Unique e.0)) rest ∙ sym (prefix_more (shown_stored e) (records_begun_by (map shown_stored es) digits))
     by false false h rest = rest
     by true false h rest = absurd (false≢true (sym h))
     by false true h rest = absurd (false≢true h)
@@ -202,6 +202,6 @@ none_begun digits (r ∷ rs) h none =
     let p = and_parts (is_name r.name) _ h in
     ap (λ b. cond b (r ∷ records_begun_by rs digits) (records_begun_by rs digits)) (none r.name p.0) ∙ none_begun digits rs p.1 none
 
-pub names_are : {A : Type 0} (es : List (Name × Object A)) → list_all (λ r. is_name r.name) (map held es) ≡ list_all (λ n. is_name n.bytes) (map (λ e. e.0) es)
+pub names_are : {A : Type 0} (es : List (Name × Object A)) → list_all (λ r. is_name r.name) (map shown_stored es) ≡ list_all (λ n. is_name n.bytes) (map (λ e. e.0) es)
 names_are [] = refl
 names_are (e ∷ es) = ap (λ b. is_name e.0.bytes && b) (names_are es)

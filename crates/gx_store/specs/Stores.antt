@@ -43,8 +43,8 @@ abbrev pub place_named : List Record → Bytes → Option ℕ
 place_named records name = position (λ held. same_bytes name held.name) records
 
 -- what a look-up shows, through the reference that it lends
-abbrev pub seen : Kind × Bor Bytes → Kind × Bytes
-seen o = (o.0, o.1.now)
+abbrev pub shown_object : Kind × Bor Bytes → Kind × Bytes
+shown_object o = (o.0, o.1.now)
 
-abbrev pub seen_at : Name × Kind × Bor Bytes → Record
-seen_at o = record { name = o.0.bytes; kind = o.1; body = o.2.now }
+abbrev pub shown_record : Name × Kind × Bor Bytes → Record
+shown_record o = record { name = o.0.bytes; kind = o.1; body = o.2.now }

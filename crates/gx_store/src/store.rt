@@ -5,11 +5,11 @@ ghost use Rattle.std.specs.List.{slice_range};
 ghost use Rattle.std.specs.Option.{option_map};
 ghost use Rattle.gx_model.specs.Records.Growth.{record_named};
 ghost use Rattle.gx_model.specs.Records.Lookups.{records_begun_by};
-ghost use Rattle.gx_store.specs.Stores.{AreHeld, IsFound, Puts, PutsObject, place_named, record_under, seen, seen_at};
+ghost use Rattle.gx_store.specs.Stores.{AreHeld, IsFound, Puts, PutsObject, place_named, record_under, shown_object, shown_record};
 ghost use Rattle.gx_model.specs.Histories.{object_of};
 ghost use Rattle.gx_store.specs.Bodies.{bytes_of};
 ghost use Rattle.gx_store.specs.Prefixes.{prefix_of};
-ghost use Rattle.gx_store.specs.Objects.{held};
+ghost use Rattle.gx_store.specs.Objects.{shown_stored};
 
 use crate::body::Body;
 use crate::fronts::Fronts;
@@ -47,13 +47,13 @@ impl<N: Namer, A: Allocator> Model for Store<N, A> {
 
     ghost Value = { N × List Record };
 
-    ghost use Rattle.gx_store.specs.Objects.{held};
+    ghost use Rattle.gx_store.specs.Objects.{shown_stored};
     ghost use Rattle.gx_store.specs.Chains.{AreFronts};
     ghost use Rattle.indexmap.specs.IndexMap.{keys};
 
-    ghost view = { λ s. (s.namer, map held s.objects.entries) };
+    ghost view = { λ s. (s.namer, map shown_stored s.objects.entries) };
 
-    ghost invariant = { λ s. AreHeld (N.name_of s.namer) (map held s.objects.entries) × AreFronts s.fronts (keys s.objects) };
+    ghost invariant = { λ s. AreHeld (N.name_of s.namer) (map shown_stored s.objects.entries) × AreFronts s.fronts (keys s.objects) };
 }
 
 impl<N: Namer, A: Allocator + Copy> Store<N, A> {
@@ -152,7 +152,7 @@ impl<N: Namer, A: Allocator + Copy> Store<N, A> {
 
     /// The kind and the body of the object with this name. Cost: constant, as expected of hashes. Takes no memory.
     pub fn get(&self, name: &Name) -> Option<(Kind, &[u8])>
-        ensures { option_map seen result ≡ option_map object_of (record_named self.now.1 name.now.bytes) }
+        ensures { option_map shown_object result ≡ option_map object_of (record_named self.now.1 name.now.bytes) }
     {
         let object = self.objects.get(name)?;
         Some((object.kind, object.body.as_slice()))
@@ -168,7 +168,7 @@ impl<N: Namer, A: Allocator + Copy> Store<N, A> {
 
     /// The object at a place, counted from 0 in the order in which they were put. Cost: constant. Takes no memory.
     pub fn record(&self, place: usize) -> Option<(Name, Kind, &[u8])>
-        ensures { option_map seen_at result ≡ slice_get self.now.1 place }
+        ensures { option_map shown_record result ≡ slice_get self.now.1 place }
     {
         let (name, object) = self.objects.get_index(place)?;
         Some((*name, object.kind, object.body.as_slice()))
@@ -222,7 +222,7 @@ impl<N: Namer, A: Allocator + Copy> Store<N, A> {
         requires named { name.bytes ≡ N.name_of self.now.0 object.kind (bytes_of object.body) }
         requires free { record_named self.now.1 name.bytes ≡ None }
         ensures namer { self.new.0 ≡ self.old.0 }
-        ensures puts { Puts self.old.1 self.new.1 (held (name, object)) result }
+        ensures puts { Puts self.old.1 self.new.1 (shown_stored (name, object)) result }
     {
         let Ok(()) = self.fronts.reserve(self.alloc, &self.objects) else {
             return Err(StoreFault::OutOfMemory);

@@ -10,7 +10,7 @@ use Rattle.gx_model.specs.Streams.Items.{items_of}
 use Rattle.gx_text.specs.Devices.{Coming, past, Pulls}
 use Rattle.gx_text.specs.declared.device.Failed.{Failed}
 use Rattle.gx_stream.specs.Heard.{heard_upto}
-use Rattle.gx_stream.specs.Input.{stream_seen, KeepsStream}
+use Rattle.gx_stream.specs.Input.{shown_stream, KeepsStream}
 use Rattle.gx_stream.specs.declared.input.State.TheVariants.{Open}
 
 heard_upto-short : (room : ℕ) (c : Coming) → length c.bytes ≤ room → heard_upto room c ≡ c
@@ -26,18 +26,18 @@ nothing_left text room c fails none e =
     let short = heard_upto-short room c (omega (arith, ap length none)) in
     sym (ap (λ (h : Coming). items_of (text ++ h.bytes) h.fails) short ∙ ap (λ bs. items_of (text ++ bs) c.fails) none ∙ ap (λ t. items_of t c.fails) (append-nil text) ∙ ap (items_of text) e)
 
-pub Keeps-failed : (room : ℕ) (old new : Option Coming) (text buffer : Bytes) (e : Failed) → Pulls old new buffer (Err e) → KeepsStream (stream_seen Open room old text) (Some (items_of text true))
+pub Keeps-failed : (room : ℕ) (old new : Option Coming) (text buffer : Bytes) (e : Failed) → Pulls old new buffer (Err e) → KeepsStream (shown_stream Open room old text) (Some (items_of text true))
 Keeps-failed room None new text buffer e p = tt
 Keeps-failed room (Some c) new text buffer e p = ap Some (nothing_left text room c true p.0 p.1)
 
-pub Keeps-ended : (room : ℕ) (old new : Option Coming) (text buffer : Bytes) (n : ℕ) → n ≡ 0 → Pulls old new buffer (Ok n) → KeepsStream (stream_seen Open room old text) (Some (items_of text false))
+pub Keeps-ended : (room : ℕ) (old new : Option Coming) (text buffer : Bytes) (n : ℕ) → n ≡ 0 → Pulls old new buffer (Ok n) → KeepsStream (shown_stream Open room old text) (Some (items_of text false))
 Keeps-ended room None new text buffer n zero p = tt
 Keeps-ended room (Some c) new text buffer n zero p =
     let done = p.3 zero in
     ap Some (nothing_left text room c false done.0 done.1)
 
 -- more came than is taken
-pub Keeps-over : (room : ℕ) (old new : Option Coming) (text buffer : Bytes) (n : ℕ) → room < n → Pulls old new buffer (Ok n) → KeepsStream (stream_seen Open room old text) (Some (items_of (text ++ take room buffer) true))
+pub Keeps-over : (room : ℕ) (old new : Option Coming) (text buffer : Bytes) (n : ℕ) → room < n → Pulls old new buffer (Ok n) → KeepsStream (shown_stream Open room old text) (Some (items_of (text ++ take room buffer) true))
 Keeps-over room None new text buffer n over p = tt
 Keeps-over room (Some c) new text buffer n over p =
     let long = heard_upto-long room c (omega (arith, over, p.0)) in
@@ -72,10 +72,10 @@ in_two room n c l m =
     })
     (cases_lt room (length c.bytes))
 
-pub Keeps-more : (room : ℕ) (old new : Option Coming) (text buffer : Bytes) (n : ℕ) → n ≤ room → Pulls old new buffer (Ok n) → KeepsStream (stream_seen Open room old text) (stream_seen Open (room - n) new (text ++ take n buffer))
+pub Keeps-more : (room : ℕ) (old new : Option Coming) (text buffer : Bytes) (n : ℕ) → n ≤ room → Pulls old new buffer (Ok n) → KeepsStream (shown_stream Open room old text) (shown_stream Open (room - n) new (text ++ take n buffer))
 Keeps-more room None new text buffer n l p = tt
 Keeps-more room (Some c) new text buffer n l p =
     let two = in_two room n c l p.0 in
     let rest = heard_upto (room - n) (past n c) in
     let bytes : (text ++ take n buffer) ++ rest.bytes ≡ text ++ (heard_upto room c).bytes = append_assoc text (take n buffer) rest.bytes ∙ ap (λ bs. text ++ (bs ++ rest.bytes)) p.1 ∙ ap (λ bs. text ++ bs) (sym two.bytes) in
-    ap (λ (o : Option Coming). stream_seen Open (room - n) o (text ++ take n buffer)) p.2 ∙ ap Some (ap (λ bs. items_of bs rest.fails) bytes ∙ ap (items_of (text ++ (heard_upto room c).bytes)) (sym two.fails))
+    ap (λ (o : Option Coming). shown_stream Open (room - n) o (text ++ take n buffer)) p.2 ∙ ap Some (ap (λ bs. items_of bs rest.fails) bytes ∙ ap (items_of (text ++ (heard_upto room c).bytes)) (sym two.fails))

@@ -5,7 +5,7 @@ use Rattle.std.proofs.lemmas.List.{length-drop}
 use Rattle.gx_model.specs.Texts.{Bytes}
 use Rattle.gx_model.specs.declared.faults.Fault.TheVariants as faults
 use Rattle.gx_model.specs.Streams.Items.{Item, Line, Data, Failed, First, takes, drops, ends, line_len, has_no_line, end_of, first_line, first_of, after, items_of}
-use Rattle.gx_stream.specs.Faults.{ended, end_seen}
+use Rattle.gx_stream.specs.Faults.{ended, shown_end}
 use Rattle.gx_stream.specs.Places.{IsLine, IsWithin, Begins, Skipped, ComesNext, NoneComes, Finds, GoesOn, bytes_at}
 use Rattle.gx_stream.specs.declared.fault.StreamFault.{StreamFault}
 use Rattle.gx_stream.specs.declared.places.Place.{Place}
@@ -35,11 +35,11 @@ Skipped-more text fails start at line is e s =
       same = λ more then_fails g. s.same more then_fails g ∙ from_first (drop at text) fails (drops (drop line.next text)) more then_fails first tt g;
     }
 
-pub Finds-none : (text : Bytes) (fails : Bool) (at : ℕ) (e : Option StreamFault) → end_seen e ≡ end_of fails → has_no_line (drop at text) fails ≡ true → NoneComes text fails at e
+pub Finds-none : (text : Bytes) (fails : Bool) (at : ℕ) (e : Option StreamFault) → shown_end e ≡ end_of fails → has_no_line (drop at text) fails ≡ true → NoneComes text fails at e
 Finds-none text fails at e is h =
     record {
       end = items_of-first (drop at text) fails ∙ ap (λ v. after v (λ rest. items_of rest fails)) (first_of-none (drop at text) fails h) ∙ ap ended (sym is);
-      stays = λ bad. absurd (no_number fails (ap end_seen (sym bad) ∙ is));
+      stays = λ bad. absurd (no_number fails (ap shown_end (sym bad) ∙ is));
     }
   where
     no_number : (f : Bool) → Failed faults.BadNumber ≡ end_of f → ⊥
@@ -62,5 +62,5 @@ Finds-item text fails at line (found.End e) l is b =
     let first = line_first text fails at line is ∙ b in
     record {
       end = items_of-first (drop at text) fails ∙ ap (λ v. after v (λ rest. items_of rest fails)) first;
-      stays = λ bad more then_fails g. from_first (drop at text) fails (ends (end_seen e)) more then_fails first (ap end_seen bad) g;
+      stays = λ bad more then_fails g. from_first (drop at text) fails (ends (shown_end e)) more then_fails first (ap shown_end bad) g;
     }

@@ -13,9 +13,9 @@ fault_of TruncatedData = model.TruncatedData
 fault_of BadNumber = model.BadNumber
 
 -- an end, or a fault
-abbrev pub end_seen : Option StreamFault → End
-end_seen None = Finished
-end_seen (Some f) = Failed (fault_of f)
+abbrev pub shown_end : Option StreamFault → End
+shown_end None = Finished
+shown_end (Some f) = Failed (fault_of f)
 
 -- nothing to come but an end
 abbrev pub ended : End → Stream

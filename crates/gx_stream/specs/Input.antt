@@ -6,7 +6,7 @@ use Rattle.gx_model.specs.Streams.Items.{Stream, items_of}
 use Rattle.gx_model.specs.Streams.Items as model
 use Rattle.gx_text.specs.Devices.{Coming}
 use Rattle.gx_stream.specs.Heard.{heard_upto}
-use Rattle.gx_stream.specs.Faults.{end_seen, ended}
+use Rattle.gx_stream.specs.Faults.{shown_end, ended}
 use Rattle.gx_stream.specs.Reading.{AnswersAs, Seen}
 use Rattle.gx_stream.specs.Places.{bytes_at, IsWithin, IsScanned, Skipped, Finds}
 use Rattle.gx_stream.specs.declared.fault.StreamFault.{StreamFault}
@@ -19,29 +19,29 @@ use Rattle.gx_stream.specs.declared.input.State.{State}
 use Rattle.gx_stream.specs.declared.input.State.TheVariants.{Open, Ended, Over}
 
 -- the items to come, from what the source still gives, and what came and isn't read yet
-abbrev pub stream_seen : State → ℕ → Option Coming → Bytes → Option Stream
-stream_seen Open room None rest = None
-stream_seen Open room (Some c) rest = Some (items_of (rest ++ (heard_upto room c).bytes) (heard_upto room c).fails)
-stream_seen (Ended fails) room coming rest = Some (items_of rest fails)
-stream_seen (Over last) room coming rest = Some (ended (end_seen last))
+abbrev pub shown_stream : State → ℕ → Option Coming → Bytes → Option Stream
+shown_stream Open room None rest = None
+shown_stream Open room (Some c) rest = Some (items_of (rest ++ (heard_upto room c).bytes) (heard_upto room c).fails)
+shown_stream (Ended fails) room coming rest = Some (items_of rest fails)
+shown_stream (Over last) room coming rest = Some (ended (shown_end last))
 
 -- how many items may come at most
-abbrev pub most_seen : State → ℕ → Bytes → ℕ
-most_seen Open room rest = length rest + room
-most_seen (Ended fails) room rest = length rest
-most_seen (Over last) room rest = 0
+abbrev pub shown_most : State → ℕ → Bytes → ℕ
+shown_most Open room rest = length rest + room
+shown_most (Ended fails) room rest = length rest
+shown_most (Over last) room rest = 0
 
 -- whether the last answer was given, and which
-abbrev pub over_seen : State → Option (Option StreamFault)
-over_seen Open = None
-over_seen (Ended fails) = None
-over_seen (Over last) = Some last
+abbrev pub shown_over : State → Option (Option StreamFault)
+shown_over Open = None
+shown_over (Ended fails) = None
+shown_over (Over last) = Some last
 
-abbrev pub seen : {R A : Type 0} → Input R A → Option Coming → Seen
-seen i coming = record {
-  stream = stream_seen i.state i.room coming (drop i.at i.text.items);
-  most = most_seen i.state i.room (drop i.at i.text.items);
-  over = over_seen i.state;
+abbrev pub shown_input : {R A : Type 0} → Input R A → Option Coming → Seen
+shown_input i coming = record {
+  stream = shown_stream i.state i.room coming (drop i.at i.text.items);
+  most = shown_most i.state i.room (drop i.at i.text.items);
+  over = shown_over i.state;
 }
 
 -- what is known of the item that comes next counts where more of it may come
@@ -65,7 +65,7 @@ answer_at text (End (Some f)) = Err f
 
 -- the next item, the end or a fault is answered, by where it stands in what came
 abbrev pub GivesNext : {R A : Type 0} → (R → Option Coming) → Input R A → Input R A → Found → Type 0
-GivesNext coming old new found = AnswersAs (seen old (coming old.source)) (seen new (coming new.source)) (answer_at new.text.items found)
+GivesNext coming old new found = AnswersAs (shown_input old (coming old.source)) (shown_input new (coming new.source)) (answer_at new.text.items found)
 
 abbrev pub IsFoundWithin : Bytes → Found → Type 0
 IsFoundWithin text (Line p) = IsWithin text p
@@ -119,12 +119,12 @@ Keeps old new = KeepsStream old.stream new.stream × (new.most ≤ old.most) × 
 
 -- the same of what came from a source
 abbrev pub KeepsInput : {R A : Type 0} → (R → Option Coming) → Input R A → Input R A → Type 0
-KeepsInput coming old new = Keeps (seen old (coming old.source)) (seen new (coming new.source))
+KeepsInput coming old new = Keeps (shown_input old (coming old.source)) (shown_input new (coming new.source))
 
 -- one pull from a source, with room for so many bytes and this text before it, keeps the items to come
 abbrev pub KeepsPulled : {R A E : Type 0} → (R → Option Coming) → R × ℕ × Vec ℕ A → R × ℕ × Vec ℕ A → Result State E → Type 0
 KeepsPulled coming old new result =
-    IfOk result (λ state. KeepsStream (stream_seen Open old.1 (coming old.0) old.2.items) (stream_seen state new.1 (coming new.0) new.2.items))
+    IfOk result (λ state. KeepsStream (shown_stream Open old.1 (coming old.0) old.2.items) (shown_stream state new.1 (coming new.0) new.2.items))
 
 -- a text has more bytes at its end
 abbrev pub IsLonger : Bytes → Bytes → Type 0

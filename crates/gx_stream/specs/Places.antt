@@ -3,7 +3,7 @@ use Rattle.std.specs.Prelude.{◌≡◌, ℕ, ◌+◌, ◌-◌, ◌<◌, ◌≤�
 use Rattle.std.specs.Option.{option_map}
 use Rattle.gx_model.specs.Texts.{Bytes}
 use Rattle.gx_model.specs.Streams.Items.{Item, Line, Data, First, first_line, takes, ends, line_len, has_no_line, lines_before, items_of, then_comes}
-use Rattle.gx_stream.specs.Faults.{end_seen, ended}
+use Rattle.gx_stream.specs.Faults.{shown_end, ended}
 use Rattle.gx_stream.specs.declared.fault.StreamFault.{StreamFault}
 use Rattle.gx_stream.specs.declared.fault.StreamFault.TheVariants.{BadNumber}
 use Rattle.gx_stream.specs.declared.places.Place.{Place}
@@ -92,7 +92,7 @@ IsScanned text fails at scan = GoesTo text scan.line scan.seen × ((scan.line �
 abbrev pub Begins : Bytes → First → Found → Type 0
 Begins text first (found.Line p) = IsWithin text p × (first ≡ takes (Line (bytes_at text p)) (drop p.next text))
 Begins text first (found.Data p) = IsWithin text p × (first ≡ takes (Data (bytes_at text p)) (drop p.next text))
-Begins text first (found.End e) = first ≡ ends (end_seen e)
+Begins text first (found.End e) = first ≡ ends (shown_end e)
 
 -- what a line at a place begins, with the text after it
 abbrev pub first_at : Bytes → Place → Bool → First
@@ -116,8 +116,8 @@ pub record ComesNext (text : Bytes) (fails : Bool) (at : ℕ) (item : Item) (p :
 
 -- no item comes, and if the count of a block is none, then however the text goes on
 pub record NoneComes (text : Bytes) (fails : Bool) (at : ℕ) (e : Option StreamFault) : Type 0 where
-  pub end : items_of (drop at text) fails ≡ ended (end_seen e)
-  pub stays : e ≡ Some BadNumber → (more : Bytes) (then_fails : Bool) → GoesOn fails more then_fails → items_of (drop at text ++ more) then_fails ≡ ended (end_seen e)
+  pub end : items_of (drop at text) fails ≡ ended (shown_end e)
+  pub stays : e ≡ Some BadNumber → (more : Bytes) (then_fails : Bool) → GoesOn fails more then_fails → items_of (drop at text ++ more) then_fails ≡ ended (shown_end e)
 
 -- the item that comes next from a place on stands there, or there is none
 abbrev pub Finds : Bytes → Bool → ℕ → Found → Type 0

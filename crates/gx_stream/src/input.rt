@@ -1,7 +1,7 @@
 //! What came from a source, and the items in it.
 
 ghost use Rattle.std.specs.Prelude.{◌≡◌, ◌<◌, ◌≤◌, ◌+◌, length, drop, None, IfOk, OnOk};
-ghost use Rattle.gx_stream.specs.Input.{IsSound, FitsState, IsLonger, IsFoundWithin, GivesNext, Looks, is_whole, Takes, KeepsInput, KeepsPulled, LeavesFewer, over_seen, pulls_left};
+ghost use Rattle.gx_stream.specs.Input.{IsSound, FitsState, IsLonger, IsFoundWithin, GivesNext, Looks, is_whole, Takes, KeepsInput, KeepsPulled, LeavesFewer, shown_over, pulls_left};
 ghost use Rattle.gx_stream.specs.declared.input.State.TheVariants.{Open};
 
 use crate::fault::StreamFault;
@@ -154,7 +154,7 @@ fn append_piece<R: Source, A: Allocator>(
     ensures longer { IsLonger text.old.items text.new.items }
     ensures within { length text.new.items + room.new ≤ length text.old.items + room.old }
     ensures keeps { KeepsPulled R.coming (source.old, room.old, text.old) (source.new, room.new, text.new) result }
-    ensures goes_on { IfOk result (λ state. over_seen state ≡ None) }
+    ensures goes_on { IfOk result (λ state. shown_over state ≡ None) }
     ensures fewer { IfOk result (λ state. pulls_left state room.new < pulls_left Open room.old) }
 {
     match source.pull(buffer) {

@@ -3,7 +3,7 @@
 ghost use Rattle.std.specs.Prelude.{◌≡◌, ◌≤◌, ◌+◌, ℕ, length, drop, nat_eq, nat_lt, ◌||◌, ◌&&◌, codes, true, false};
 ghost use Rattle.std.specs.List.{starts_with};
 ghost use Rattle.gx_model.specs.Streams.Items.{line_len, has_no_line, without_lf, counted_block, delimited, announced, end_of, cut_off};
-ghost use Rattle.gx_stream.specs.Faults.{end_seen};
+ghost use Rattle.gx_stream.specs.Faults.{shown_end};
 ghost use Rattle.gx_stream.specs.Places.{IsLineAt, AreLinesAt, GoesTo, IsSearched, IsScanned, from_line, without, first_seen, past_first, Begins, Skipped, Finds, bytes_at, delimiter_at, first_at};
 
 use crate::fault::StreamFault;
@@ -250,7 +250,7 @@ fn lf_at(text: &[u8], place: usize) -> usize
 
 /// The fault after a text, or its end.
 fn end_of(fails: bool) -> Option<StreamFault>
-    ensures { end_seen result ≡ end_of fails }
+    ensures { shown_end result ≡ end_of fails }
 {
     if fails {
         Some(StreamFault::ReadFailed)
@@ -261,7 +261,7 @@ fn end_of(fails: bool) -> Option<StreamFault>
 
 /// The fault where a block isn't complete.
 fn cut_off(fails: bool) -> StreamFault
-    ensures { end_seen (Some result) ≡ cut_off fails }
+    ensures { shown_end (Some result) ≡ cut_off fails }
 {
     if fails {
         StreamFault::ReadFailed

@@ -24,11 +24,11 @@ pub struct ItemReader<R: Source, A: Allocator> {
 
 impl<R: Source, A: Allocator> Model for ItemReader<R, A> {
     ghost use Rattle.gx_stream.specs.Reading.{Seen};
-    ghost use Rattle.gx_stream.specs.Input.{seen, IsSound};
+    ghost use Rattle.gx_stream.specs.Input.{shown_input, IsSound};
 
     ghost Value = { Seen };
 
-    ghost view = { λ r. seen r.input (R.coming r.input.source) };
+    ghost view = { λ r. shown_input r.input (R.coming r.input.source) };
 
     ghost invariant = { λ r. IsSound r.input };
 }

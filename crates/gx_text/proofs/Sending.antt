@@ -2,7 +2,8 @@
 use Rattle.std.proofs.Common.{◌≡◌, ℕ, zero, suc, ◌<◌, List, [], ◌++◌, length, take, Option, Some, None, Ok, Err, refl, sym, ap, ◌∙◌, append_assoc, append-nil, arith}
 use Rattle.std.proofs.lemmas.Bool.{false≢true}
 use Rattle.std.proofs.lemmas.List.{length-take}
-use Rattle.gx_text.specs.Devices.{Taken, Pushes, Sends}
+use Rattle.gx_model.specs.Texts.Sinks.{Taken, Sends}
+use Rattle.gx_text.specs.Devices.{Pushes}
 use Rattle.gx_text.specs.declared.device.Failed.{Failed}
 
 pub Sends-none : (a : Option Taken) → Sends a a [] (Ok tt)

@@ -1,6 +1,7 @@
 -- What a source will still give, what a sink has taken, and what one call does to them.
-use Rattle.std.specs.Prelude.{◌≡◌, ℕ, ◌<◌, ◌≤◌, [], ◌++◌, length, take, drop, Bool, true, false, Option, Some, None, Result, Ok, Err, ⊤}
+use Rattle.std.specs.Prelude.{◌≡◌, ℕ, ◌≤◌, [], ◌++◌, length, take, drop, Bool, true, false, Option, Some, None, Result, Ok, Err, ⊤}
 use Rattle.gx_model.specs.Texts.{Bytes}
+use Rattle.gx_model.specs.Texts.Sinks.{Taken}
 use Rattle.gx_text.specs.declared.device.Failed.{Failed}
 
 -- ---- sources
@@ -31,11 +32,6 @@ pub record Supply : Type 0 where
 
 -- ---- sinks
 
--- the bytes that a sink holds, and whether it has failed
-pub record Taken : Type 0 where
-  pub bytes : Bytes
-  pub failed : Bool
-
 -- One push takes some bytes from the front, or the sink has failed from then on and takes none.
 abbrev pub PushesTo : Taken → Option Taken → Bytes → Result ℕ Failed → Type 0
 PushesTo old new bytes (Ok n) = (old.failed ≡ false) × (new ≡ Some (record { bytes = old.bytes ++ take n bytes; failed = false }))
@@ -45,29 +41,6 @@ PushesTo old new bytes (Err _) = new ≡ Some (record { bytes = old.bytes; faile
 abbrev pub Pushes : Option Taken → Option Taken → Bytes → Result ℕ Failed → Type 0
 Pushes None new bytes answer = ⊤
 Pushes (Some old) new bytes answer = PushesTo old new bytes answer
-
--- Sending takes all bytes, or those before the place where the sink failed. A sink that had failed before takes none.
-abbrev pub SendsTo : Taken → Option Taken → Bytes → Result (Unit {0}) ℕ → Type 0
-SendsTo old new bytes (Ok _) = (new ≡ Some (record { bytes = old.bytes ++ bytes; failed = old.failed })) × (0 < length bytes → old.failed ≡ false)
-SendsTo old new bytes (Err n) = (n < length bytes) × (new ≡ Some (record { bytes = old.bytes ++ take n bytes; failed = true })) × (old.failed ≡ true → n ≡ 0)
-
-abbrev pub Sends : Option Taken → Option Taken → Bytes → Result (Unit {0}) ℕ → Type 0
-Sends None new bytes answer = ⊤
-Sends (Some old) new bytes answer = SendsTo old new bytes answer
-
--- a sink took this text; of one that tells nothing, nothing is claimed
-abbrev pub Took : Option Taken → Option Taken → Bytes → Type 0
-Took None now text = ⊤
-Took (Some was) now text = now ≡ Some (record { bytes = was.bytes ++ text; failed = was.failed })
-
--- a sink failed within this text, of which it took the front
-abbrev pub FailedWithin : Option Taken → Option Taken → Bytes → Type 0
-FailedWithin None now text = ⊤
-FailedWithin (Some was) now text = (front : Bytes) × (rest : Bytes) × (text ≡ front ++ rest) × (0 < length rest) × (now ≡ Some (record { bytes = was.bytes ++ front; failed = true }))
-
--- a sink took a front of this text
-abbrev pub TookFront : Option Taken → Option Taken → Bytes → Type 0
-TookFront was now text = (front : Bytes) × (rest : Bytes) × (text ≡ front ++ rest) × Took was now front
 
 -- a sink over memory: what it took, and how many bytes it still takes
 pub record Holding : Type 0 where

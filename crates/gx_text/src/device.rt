@@ -1,7 +1,8 @@
 //! What gives bytes and what takes them.
 
 ghost use Rattle.std.specs.Prelude.{◌≡◌, ◌<◌, ◌≤◌, length, Option, IfOk, IfErr};
-ghost use Rattle.gx_text.specs.Devices.{Coming, Pulls, Taken, Pushes, Sends};
+ghost use Rattle.gx_model.specs.Texts.Sinks.{Taken, Sends};
+ghost use Rattle.gx_text.specs.Devices.{Coming, Pulls, Pushes};
 
 /// A device didn't do what it was asked.
 #[derive(Clone, Copy, Debug, PartialEq, Eq, Drop)]

@@ -2,7 +2,8 @@
 
 ghost use Rattle.std.specs.Prelude.{◌≡◌, ◌<◌, ◌≤◌, ◌+◌, length, [], Some, IfOk, false, IsOk};
 ghost use Rattle.std.specs.Vec.{vec_len, vec_capacity};
-ghost use Rattle.gx_text.specs.Devices.{Coming, Supply, Pulls, Taken, Holding, Pushes, holding_nothing};
+ghost use Rattle.gx_model.specs.Texts.Sinks.{Taken};
+ghost use Rattle.gx_text.specs.Devices.{Coming, Supply, Pulls, Holding, Pushes, holding_nothing};
 
 use crate::device::{Failed, Sink, Source};
 use std::alloc::{AllocError, Allocator};

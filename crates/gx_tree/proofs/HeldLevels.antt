@@ -18,7 +18,7 @@ use Rattle.gx_model.proofs.FileMapEdits.{of_parts, parts_of}
 use Rattle.gx_model.proofs.OneTree.{all_left, all_right}
 use Rattle.gx_model.proofs.SubMaps.{sub_parts}
 use Rattle.gx_model.proofs.TreePaths.{name_is_name}
-use Rattle.gx_store.specs.Stores.{seen}
+use Rattle.gx_store.specs.Stores.{shown_object}
 use Rattle.gx_tree.specs.Rooms.{is_within}
 use Rattle.gx_tree.specs.HeldTrees.{IsHeldEntry, IsHeldWithin}
 use Rattle.gx_model.specs.Objects.NameMaps.{IsHeldTree, IsNameMap}
@@ -100,11 +100,11 @@ module _ (name : Kind → Bytes → Bytes) (rs : List Record) where
       ap (record_named rs) h.named
       ∙ (all_right (λ r. record_named rs r.name ≡ Some r) (flat_map (λ e. kept_records name e.1) (level_of g)) (tree_record name g ∷ []) (subst AreHeld (records_of g h.map) h.held)).0
 
-  pub is_there : (n : Bytes) (g : FileMap Bytes) (r : Option (Kind × Bor Bytes)) → IsHeldTree name rs n g → r ≡ None → option_map seen r ≡ option_map object_of (record_named rs n) → ⊥
-  is_there n g r h e s = let clash : None ≡ Some (object_of (tree_record name g)) = ap (option_map seen) (sym e) ∙ s ∙ ap (option_map object_of) (own_record n g h) in cc
+  pub is_there : (n : Bytes) (g : FileMap Bytes) (r : Option (Kind × Bor Bytes)) → IsHeldTree name rs n g → r ≡ None → option_map shown_object r ≡ option_map object_of (record_named rs n) → ⊥
+  is_there n g r h e s = let clash : None ≡ Some (object_of (tree_record name g)) = ap (option_map shown_object) (sym e) ∙ s ∙ ap (option_map object_of) (own_record n g h) in cc
 
-  body_of : (n : Bytes) (g : FileMap Bytes) (r : Option (Kind × Bor Bytes)) (k : Kind) (b : Bor Bytes) → IsHeldTree name rs n g → r ≡ Some (k, b) → option_map seen r ≡ option_map object_of (record_named rs n) → b.now ≡ tree_body name g
-  body_of n g r k b h e s = let f : Some (k, b.now) ≡ Some (object_of (tree_record name g)) = ap (option_map seen) (sym e) ∙ s ∙ ap (option_map object_of) (own_record n g h) in let same : (k, b.now) ≡ object_of (tree_record name g) = cc in ap (λ z. z.1) same
+  body_of : (n : Bytes) (g : FileMap Bytes) (r : Option (Kind × Bor Bytes)) (k : Kind) (b : Bor Bytes) → IsHeldTree name rs n g → r ≡ Some (k, b) → option_map shown_object r ≡ option_map object_of (record_named rs n) → b.now ≡ tree_body name g
+  body_of n g r k b h e s = let f : Some (k, b.now) ≡ Some (object_of (tree_record name g)) = ap (option_map shown_object) (sym e) ∙ s ∙ ap (option_map object_of) (own_record n g h) in let same : (k, b.now) ≡ object_of (tree_record name g) = cc in ap (λ z. z.1) same
 
   each_entry : (g : FileMap Bytes) (room : ℕ) (cs : List Bytes) → IsNameMap g → AreWithin room g → AllByRecursion (λ e. IsKept e.1) (level_on g cs) → AreHeld (flat_map (λ e. kept_records name e.1) (level_on g cs)) → AllByRecursion (IsHeldEntry name rs room) (level_on g cs)
   each_entry g room [] h w k a = tt
@@ -144,7 +144,7 @@ module _ (name : Kind → Bytes → Bytes) (rs : List Record) where
       let e : entries name g ≡ map (kept_entry name) (level_of g) = subst (λ z. entries name z ≡ map (kept_entry name) (level_of g)) (files-level_of g (parts_of g h.file_map)) (entries-files name (level_of g) l) in
       (ap tree_text e, canonical name (level_of g) l, names_on namer g (first_components g) h)
 
-  pub held_text : IsNamer name → (n : Bytes) (g : FileMap Bytes) (r : Option (Kind × Bor Bytes)) (k : Kind) (b : Bor Bytes) → IsHeldTree name rs n g → r ≡ Some (k, b) → option_map seen r ≡ option_map object_of (record_named rs n) → IsTreeText (map (kept_entry name) (level_of g)) b.now
+  pub held_text : IsNamer name → (n : Bytes) (g : FileMap Bytes) (r : Option (Kind × Bor Bytes)) (k : Kind) (b : Bor Bytes) → IsHeldTree name rs n g → r ≡ Some (k, b) → option_map shown_object r ≡ option_map object_of (record_named rs n) → IsTreeText (map (kept_entry name) (level_of g)) b.now
   held_text namer n g r k b h e s = subst (IsTreeText (map (kept_entry name) (level_of g))) (sym (body_of n g r k b h e s)) (body_is namer g h.map)
 
 -- ---- a step of the loop over the entries

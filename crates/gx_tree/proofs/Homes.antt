@@ -11,7 +11,7 @@ use Rattle.gx_tree.specs.Components.{bytes_of}
 use Rattle.gx_tree.specs.Homes.{AreAtHome, IsItemAtHome}
 use Rattle.gx_tree.specs.Named.{NamedTree, IsAtHome, IsHome}
 use Rattle.gx_tree.specs.Nodes.{Level, IsAfter, IsLevel, files, kept_at, map_if}
-use Rattle.gx_tree.specs.Views.{item_names, kept, names_below, names_of, seen, seen_all}
+use Rattle.gx_tree.specs.Views.{item_names, shown_item, names_below, names_of, shown_entry, shown_entries}
 use Rattle.gx_tree.specs.declared.directory.Item.{Item}
 use Rattle.gx_tree.specs.declared.directory.Item.TheVariants.{File, Folder}
 use Rattle.gx_tree.specs.declared.directory.Entry.{Entry}
@@ -68,16 +68,16 @@ module _ (P : Bytes → FileMap Bytes → Type 0) where
   names_from c f g [] s h = tt
   names_from c f g (e ∷ names) s h = (subst (P e.1) (s e.0) h.0, names_from c f g names s h.1)
 
-  below_item : {A : Type 0} (c : Bytes) (i : Item A) (all : Level) → IsLevel all → kept_at c all ≡ Some (kept i) → IsItem i → AreNames (files all) (item_names c i)
+  below_item : {A : Type 0} (c : Bytes) (i : Item A) (all : Level) → IsLevel all → kept_at c all ≡ Some (shown_item i) → IsItem i → AreNames (files all) (item_names c i)
   below_item c (File m n) all l k h = tt
   below_item c (Folder d) all l k h = names_under c d.files (files all) d.names (λ p. sub_map-files c p all l ∙ ap (λ o. sub_map (map_if o) p) k) h
 
-  from_item : {A : Type 0} (c : Bytes) (i : Item A) (all : Level) → IsLevel all → kept_at c all ≡ Some (kept i) → AreNames (files all) (item_names c i) → IsItem i
+  from_item : {A : Type 0} (c : Bytes) (i : Item A) (all : Level) → IsLevel all → kept_at c all ≡ Some (shown_item i) → AreNames (files all) (item_names c i) → IsItem i
   from_item c (File m n) all l k h = tt
   from_item c (Folder d) all l k h = names_from c d.files (files all) d.names (λ p. sub_map-files c p all l ∙ ap (λ o. sub_map (map_if o) p) k) h
 
   abbrev AreKept : {A : Type 0} → Level → List (Entry A) → Type 0
-  AreKept all es = AllByRecursion (λ e. kept_at (bytes_of e.component) all ≡ Some (kept e.item)) es
+  AreKept all es = AllByRecursion (λ e. kept_at (bytes_of e.component) all ≡ Some (shown_item e.item)) es
 
   below_items : {A : Type 0} (all : Level) (es : List (Entry A)) → IsLevel all → AreKept all es → AllByRecursion (λ e. IsItem e.item) es → AreNames (files all) (names_below es)
   below_items all [] l k h = tt
@@ -91,13 +91,13 @@ module _ (P : Bytes → FileMap Bytes → Type 0) where
         from_items all es l k.1 (all_rest Q (item_names (bytes_of e.component) e.item) (names_below es) h),
       )
 
-kept_weaker : {A : Type 0} (e : Entry A) (all : Level) (es : List (Entry A)) → AllByRecursion (IsAfter (seen e)) (seen_all es) → AllByRecursion (λ f. kept_at (bytes_of f.component) all ≡ Some (kept f.item)) es → AllByRecursion (λ f. kept_at (bytes_of f.component) (seen e ∷ all) ≡ Some (kept f.item)) es
+kept_weaker : {A : Type 0} (e : Entry A) (all : Level) (es : List (Entry A)) → AllByRecursion (IsAfter (shown_entry e)) (shown_entries es) → AllByRecursion (λ f. kept_at (bytes_of f.component) all ≡ Some (shown_item f.item)) es → AllByRecursion (λ f. kept_at (bytes_of f.component) (shown_entry e ∷ all) ≡ Some (shown_item f.item)) es
 kept_weaker e all [] a k = tt
 kept_weaker e all (f ∷ es) a k = (rw (same_bytes_flip (bytes_of f.component) (bytes_of e.component), a.0.0) k.0, kept_weaker e all es a.1 k.1)
 
-each_is_kept : {A : Type 0} (es : List (Entry A)) → IsLevel (seen_all es) → AllByRecursion (λ f. kept_at (bytes_of f.component) (seen_all es) ≡ Some (kept f.item)) es
+each_is_kept : {A : Type 0} (es : List (Entry A)) → IsLevel (shown_entries es) → AllByRecursion (λ f. kept_at (bytes_of f.component) (shown_entries es) ≡ Some (shown_item f.item)) es
 each_is_kept [] h = tt
-each_is_kept (e ∷ es) h = (rw (same_itself (bytes_of e.component)) refl, kept_weaker e (seen_all es) es h.2 (each_is_kept es h.3))
+each_is_kept (e ∷ es) h = (rw (same_itself (bytes_of e.component)) refl, kept_weaker e (shown_entries es) es h.2 (each_is_kept es h.3))
 
 -- ---- directories that are at home
 
@@ -119,17 +119,17 @@ module _ (name : Kind → Bytes → Bytes) (rs : List Record) where
   are_items (e ∷ es) h = (is_item e.item h.0, are_items es h.1)
 
   -- a directory without a remembered name
-  pub made_at_home : {A : Type 0} (es : List (Entry A)) → IsLevel (seen_all es) → AreAtHome name rs es → IsAtHome name rs (record { files = files (seen_all es); names = names_below es })
-  made_at_home es l h = below_items (IsHome name rs) (seen_all es) es l (each_is_kept es l) (are_items es h)
+  pub made_at_home : {A : Type 0} (es : List (Entry A)) → IsLevel (shown_entries es) → AreAtHome name rs es → IsAtHome name rs (record { files = files (shown_entries es); names = names_below es })
+  made_at_home es l h = below_items (IsHome name rs) (shown_entries es) es l (each_is_kept es l) (are_items es h)
 
-  below_own : {A : Type 0} (r : Option Name) (es : List (Entry A)) → IsAtHome name rs (record { files = files (seen_all es); names = names_of r es }) → IsAtHome name rs (record { files = files (seen_all es); names = names_below es })
+  below_own : {A : Type 0} (r : Option Name) (es : List (Entry A)) → IsAtHome name rs (record { files = files (shown_entries es); names = names_of r es }) → IsAtHome name rs (record { files = files (shown_entries es); names = names_below es })
   below_own None es h = h
   below_own (Some n) es h = h.1
 
   -- the entries of a directory
-  pub entries_at_home : {A : Type 0} (r : Option Name) (es : List (Entry A)) (t : NamedTree) → record { files = files (seen_all es); names = names_of r es } ≡ t → IsLevel (seen_all es) → IsAtHome name rs t → AreAtHome name rs es
-  entries_at_home r es t view l h = items_are es (from_items (IsHome name rs) (seen_all es) es l (each_is_kept es l) (below_own r es (subst (IsAtHome name rs) (sym view) h)))
+  pub entries_at_home : {A : Type 0} (r : Option Name) (es : List (Entry A)) (t : NamedTree) → record { files = files (shown_entries es); names = names_of r es } ≡ t → IsLevel (shown_entries es) → IsAtHome name rs t → AreAtHome name rs es
+  entries_at_home r es t view l h = items_are es (from_items (IsHome name rs) (shown_entries es) es l (each_is_kept es l) (below_own r es (subst (IsAtHome name rs) (sym view) h)))
 
   -- a directory that remembers its name
-  pub named_at_home : {A : Type 0} (n : Name) (es : List (Entry A)) → IsLevel (seen_all es) → IsHome name rs n.bytes (files (seen_all es)) → AreAtHome name rs es → IsAtHome name rs (record { files = files (seen_all es); names = names_of (Some n) es })
-  named_at_home n es l own h = (subst (IsHome name rs n.bytes) (sym (sub_map-whole (files (seen_all es)))) own, made_at_home es l h)
+  pub named_at_home : {A : Type 0} (n : Name) (es : List (Entry A)) → IsLevel (shown_entries es) → IsHome name rs n.bytes (files (shown_entries es)) → AreAtHome name rs es → IsAtHome name rs (record { files = files (shown_entries es); names = names_of (Some n) es })
+  named_at_home n es l own h = (subst (IsHome name rs n.bytes) (sym (sub_map-whole (files (shown_entries es)))) own, made_at_home es l h)

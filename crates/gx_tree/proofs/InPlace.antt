@@ -10,7 +10,7 @@ use Rattle.gx_tree.specs.Components.{bytes_of}
 use Rattle.gx_tree.specs.Nodes.{Kept, Level, IsAfter, IsKept, IsLevel, comes_before, file, files, inserted, kept_at, kept_map, key, mark, others, precedes, with_kept}
 use Rattle.gx_tree.specs.Searches.{IsEntryAt}
 use Rattle.gx_tree.specs.Steps.{grafted, kept_grafted}
-use Rattle.gx_tree.specs.Views.{kept, seen, seen_all}
+use Rattle.gx_tree.specs.Views.{shown_item, shown_entry, shown_entries}
 use Rattle.gx_tree.specs.declared.directory.Entry.{Entry}
 use Rattle.gx_tree.proofs.Copies.{with_kept_is}
 use Rattle.gx_tree.proofs.EditSteps.{Leaves, grafted_step}
@@ -27,32 +27,32 @@ first_again c j k [] h m = refl
 first_again c j k (e ∷ es) h m = let a : comes_before c k e ≡ true = ap (λ z. precedes (c ++ z) e) m ∙ h.0.1 in rw a refl
 
 -- the entry at i, read as r, gives way to one of the same component and mark
-pub in_place : {A : Type 0} (es : List (Entry A)) (i : ℕ) (r e : Entry A) → IsLevel (seen_all es) → i < length es → r ≡ get_or es i r → (seen e).0 ≡ (seen r).0 → mark (kept e.item) ≡ mark (kept r.item) → seen_all (slice_set es i e) ≡ with_kept (seen r).0 (kept e.item) (seen_all es)
+pub in_place : {A : Type 0} (es : List (Entry A)) (i : ℕ) (r e : Entry A) → IsLevel (shown_entries es) → i < length es → r ≡ get_or es i r → (shown_entry e).0 ≡ (shown_entry r).0 → mark (shown_item e.item) ≡ mark (shown_item r.item) → shown_entries (slice_set es i e) ≡ with_kept (shown_entry r).0 (shown_item e.item) (shown_entries es)
 in_place [] i r e h l ir c m = absurd (omega arith)
 in_place (x ∷ es) zero r e h l ir c m =
-    let t : (seen r).0 ≡ (seen x).0 = ap (λ z. (seen z).0) ir in
-    let same : (seen e).0 ≡ (seen x).0 = c ∙ t in
-    let mx : mark (kept e.item) ≡ mark (kept x.item) = m ∙ ap (λ z. mark (kept z.item)) ir in
-    ap (λ z. (z, kept e.item) ∷ seen_all es) same
-    ∙ sym (ap (λ z. with_kept z (kept e.item) (seen_all (x ∷ es))) t ∙ rw (same_itself (seen x).0) (ap (inserted (seen x).0 (kept e.item)) (others_after (seen x) (seen_all es) h.2) ∙ first_again (seen x).0 (kept x.item) (kept e.item) (seen_all es) h.2 mx))
+    let t : (shown_entry r).0 ≡ (shown_entry x).0 = ap (λ z. (shown_entry z).0) ir in
+    let same : (shown_entry e).0 ≡ (shown_entry x).0 = c ∙ t in
+    let mx : mark (shown_item e.item) ≡ mark (shown_item x.item) = m ∙ ap (λ z. mark (shown_item z.item)) ir in
+    ap (λ z. (z, shown_item e.item) ∷ shown_entries es) same
+    ∙ sym (ap (λ z. with_kept z (shown_item e.item) (shown_entries (x ∷ es))) t ∙ rw (same_itself (shown_entry x).0) (ap (inserted (shown_entry x).0 (shown_item e.item)) (others_after (shown_entry x) (shown_entries es) h.2) ∙ first_again (shown_entry x).0 (shown_item x.item) (shown_item e.item) (shown_entries es) h.2 mx))
 in_place (x ∷ es) (suc i) r e h l ir c m =
-    let a : IsAfter (seen x) (seen r) = subst (λ z. IsAfter (seen x) (seen z)) (sym ir) (after_at (seen x) es i r h.2 (omega arith)) in
-    let n : same_bytes (seen r).0 (seen x).0 ≡ false = same_bytes_flip (seen r).0 (seen x).0 ∙ a.0 in
-    let b : comes_before (seen r).0 (kept e.item) (seen x) ≡ false = elim (cases_Bool (comes_before (seen r).0 (kept e.item) (seen x))) [
-      | inl y ↦ absurd (not_before_itself (key (seen x).0 (seen x).1) (key_trans (key (seen x).0 (seen x).1) (key (seen r).0 (seen r).1) (key (seen x).0 (seen x).1) a.1 (ap (λ z. precedes ((seen r).0 ++ z) (seen x)) (sym m) ∙ y)))
+    let a : IsAfter (shown_entry x) (shown_entry r) = subst (λ z. IsAfter (shown_entry x) (shown_entry z)) (sym ir) (after_at (shown_entry x) es i r h.2 (omega arith)) in
+    let n : same_bytes (shown_entry r).0 (shown_entry x).0 ≡ false = same_bytes_flip (shown_entry r).0 (shown_entry x).0 ∙ a.0 in
+    let b : comes_before (shown_entry r).0 (shown_item e.item) (shown_entry x) ≡ false = elim (cases_Bool (comes_before (shown_entry r).0 (shown_item e.item) (shown_entry x))) [
+      | inl y ↦ absurd (not_before_itself (key (shown_entry x).0 (shown_entry x).1) (key_trans (key (shown_entry x).0 (shown_entry x).1) (key (shown_entry r).0 (shown_entry r).1) (key (shown_entry x).0 (shown_entry x).1) a.1 (ap (λ z. precedes ((shown_entry r).0 ++ z) (shown_entry x)) (sym m) ∙ y)))
       | inr y ↦ y
     ] in
-    rw (n, b) (ap (λ q. seen x ∷ q) (in_place es i r e h.3 (omega arith) ir c m))
+    rw (n, b) (ap (λ q. shown_entry x ∷ q) (in_place es i r e h.3 (omega arith) ir c m))
 
 -- so an edit below it is an edit of the whole
-pub put_at : {A : Type 0} {t : Bytes} (p : Path) (i n : ℕ) (f : Kept) (es xs ys : List (Entry A)) (r e : Entry A) → i < length p → IsKept f → list_all is_component p ≡ true → IsLevel (seen_all es) → xs ≡ es → ys ≡ es → IsEntryAt t xs n → t ≡ get_or p i [] → r ≡ get_or ys n r → (seen e).0 ≡ (seen r).0 → kept e.item ≡ kept_grafted (drop (i + 1) p) f (Some (kept r.item)) → mark (kept e.item) ≡ mark (kept r.item) → Leaves (grafted (drop i p) (kept_map f) (files (seen_all es))) (seen_all (slice_set ys n e))
+pub put_at : {A : Type 0} {t : Bytes} (p : Path) (i n : ℕ) (f : Kept) (es xs ys : List (Entry A)) (r e : Entry A) → i < length p → IsKept f → list_all is_component p ≡ true → IsLevel (shown_entries es) → xs ≡ es → ys ≡ es → IsEntryAt t xs n → t ≡ get_or p i [] → r ≡ get_or ys n r → (shown_entry e).0 ≡ (shown_entry r).0 → shown_item e.item ≡ kept_grafted (drop (i + 1) p) f (Some (shown_item r.item)) → mark (shown_item e.item) ≡ mark (shown_item r.item) → Leaves (grafted (drop i p) (kept_map f) (files (shown_entries es))) (shown_entries (slice_set ys n e))
 put_at p i n f es xs ys r e l hf hp level ex ey at et er ec ek em =
     let within : n < length es = subst (λ z. n < length z) ex at.0 in
     let ir : r ≡ get_or es n r = er ∙ ap (λ z. get_or z n r) ey in
-    let c : (seen r).0 ≡ get_or p i [] = ap (λ z. (seen z).0) ir ∙ ap (λ z. (seen (get_or z n r)).0) (sym ex) ∙ at.1 r ∙ et in
-    let o : kept_at (get_or p i []) (seen_all es) ≡ Some (kept r.item) = kept_at_place (get_or p i []) (seen r).0 es n r level within ir refl (bytes_same _ _ c) in
-    let out : seen_all (slice_set ys n e) ≡ with_kept (seen r).0 (kept e.item) (seen_all es) = ap (λ z. seen_all (slice_set z n e)) ey ∙ in_place es n r e level within ir ec em in
-    grafted_step p i (seen_all es) (seen_all (slice_set ys n e)) f (Some (kept r.item)) l hf hp refl level refl c refl refl o ek out
+    let c : (shown_entry r).0 ≡ get_or p i [] = ap (λ z. (shown_entry z).0) ir ∙ ap (λ z. (shown_entry (get_or z n r)).0) (sym ex) ∙ at.1 r ∙ et in
+    let o : kept_at (get_or p i []) (shown_entries es) ≡ Some (shown_item r.item) = kept_at_place (get_or p i []) (shown_entry r).0 es n r level within ir refl (bytes_same _ _ c) in
+    let out : shown_entries (slice_set ys n e) ≡ with_kept (shown_entry r).0 (shown_item e.item) (shown_entries es) = ap (λ z. shown_entries (slice_set z n e)) ey ∙ in_place es n r e level within ir ec em in
+    grafted_step p i (shown_entries es) (shown_entries (slice_set ys n e)) f (Some (shown_item r.item)) l hf hp refl level refl c refl refl o ek out
 
 pub all_set : {X : Type 0} (P : X → Type 0) (xs : List X) (i : ℕ) (x : X) → AllByRecursion P xs → P x → AllByRecursion P (slice_set xs i x)
 all_set P [] i x h p = tt
@@ -74,9 +74,9 @@ none_found None b e n = refl
 none_found (Some x) b e n = absurd (true≢false (sym e ∙ n))
 
 -- a new file at its place, in the directories that it needs, is an edit of the whole
-pub put_new : {A : Type 0} {c c' m : Bytes} {k : Kept} (p : Path) (i n : ℕ) (x : Leaf Bytes) (new : Entry A) (es ys zs out : List (Entry A)) → i < length p → IsKept (file x) → list_all is_component p ≡ true → IsLevel (seen_all es) → c ≡ get_or p i [] → kept_at c (seen_all es) ≡ None → seen new ≡ (c, k) → k ≡ kept_grafted (drop (i + 1) p) (file x) None → ys ≡ es → zs ≡ ys → c' ≡ (seen new).0 → m ≡ mark (kept new.item) → n ≤ length zs → IsPlace (c' ++ m) zs n → out ≡ insert ys n new → Leaves (grafted (drop i p) (kept_map (file x)) (files (seen_all es))) (seen_all out)
+pub put_new : {A : Type 0} {c c' m : Bytes} {k : Kept} (p : Path) (i n : ℕ) (x : Leaf Bytes) (new : Entry A) (es ys zs out : List (Entry A)) → i < length p → IsKept (file x) → list_all is_component p ≡ true → IsLevel (shown_entries es) → c ≡ get_or p i [] → kept_at c (shown_entries es) ≡ None → shown_entry new ≡ (c, k) → k ≡ kept_grafted (drop (i + 1) p) (file x) None → ys ≡ es → zs ≡ ys → c' ≡ (shown_entry new).0 → m ≡ mark (shown_item new.item) → n ≤ length zs → IsPlace (c' ++ m) zs n → out ≡ insert ys n new → Leaves (grafted (drop i p) (kept_map (file x)) (files (shown_entries es))) (shown_entries out)
 put_new {A} {c} {c'} {m} {k} p i n x new es ys zs out l hx hp level ec none en ek ey ez ec' em within place eo =
     let at : c ≡ bytes_of new.component = ap (λ z. z.0) (sym en) in
-    let others : seen_all ys ≡ others c (seen_all es) = ap seen_all ey ∙ sym (others_same c (seen_all es) none) in
+    let others : shown_entries ys ≡ others c (shown_entries es) = ap shown_entries ey ∙ sym (others_same c (shown_entries es) none) in
     let is = with_kept_is c c' m new es ys zs out n at ec' em ez eo others within place in
-    grafted_step p i (seen_all es) (seen_all out) (file x) None l hx hp refl level ec (sym at) refl refl none (ap (λ z. z.1) en ∙ ek) is
+    grafted_step p i (shown_entries es) (shown_entries out) (file x) None l hx hp refl level ec (sym at) refl refl none (ap (λ z. z.1) en ∙ ek) is

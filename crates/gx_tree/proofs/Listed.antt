@@ -19,8 +19,8 @@ use Rattle.gx_model.specs.Records.HistoryOf.{placed}
 use Rattle.gx_model.proofs.PathTexts.{path_again}
 use Rattle.gx_tree.specs.Components.{bytes_of}
 use Rattle.gx_tree.specs.Nodes.{Kept, Level, IsKept, IsLevel, file, files, folder, kept_map}
-use Rattle.gx_tree.specs.Views.{kept, seen, seen_all}
-use Rattle.gx_tree.specs.Lists.{below, listed}
+use Rattle.gx_tree.specs.Views.{shown_item, shown_entry, shown_entries}
+use Rattle.gx_tree.specs.Lists.{below, shown_listed}
 use Rattle.gx_tree.specs.declared.directory.Entry.{Entry}
 use Rattle.gx_tree.proofs.Copies.{seen_more}
 
@@ -93,26 +93,26 @@ all_at P (x ∷ xs) zero d l h = h.0
 all_at P (x ∷ xs) (suc i) d l h = all_at P xs i d (omega arith) h.1
 
 -- of the entry at i, read as r
-pub listed_at : {A : Type 0} {f : FileMap Bytes} (p : Path) (es xs : List (Entry A)) (i : ℕ) (r : Entry A) → i < length xs → r ≡ get_or xs i r → xs ≡ es → files (seen_all es) ≡ f → IsLevel (seen_all es) → AreShort (below p f) → IsListed p (seen r)
+pub listed_at : {A : Type 0} {f : FileMap Bytes} (p : Path) (es xs : List (Entry A)) (i : ℕ) (r : Entry A) → i < length xs → r ≡ get_or xs i r → xs ≡ es → files (shown_entries es) ≡ f → IsLevel (shown_entries es) → AreShort (below p f) → IsListed p (shown_entry r)
 listed_at {f} p es xs i r l ir ex view h s =
-    let a : AllByRecursion (IsListed p) (seen_all es) = all_listed p (seen_all es) h (ap (λ z. list_all (λ x. is_short x.0) (below p z)) view ∙ s) in
-    let b : AllByRecursion (IsListed p) (seen_all xs) = subst (λ z. AllByRecursion (IsListed p) (seen_all z)) (sym ex) a in
-    subst (λ z. IsListed p (seen z)) (sym ir) (subst (IsListed p) (get_or-map seen xs i r (seen r) l) (all_at (IsListed p) (seen_all xs) i (seen r) (omega (arith, length-map xs seen)) b))
+    let a : AllByRecursion (IsListed p) (shown_entries es) = all_listed p (shown_entries es) h (ap (λ z. list_all (λ x. is_short x.0) (below p z)) view ∙ s) in
+    let b : AllByRecursion (IsListed p) (shown_entries xs) = subst (λ z. AllByRecursion (IsListed p) (shown_entries z)) (sym ex) a in
+    subst (λ z. IsListed p (shown_entry z)) (sym ir) (subst (IsListed p) (get_or-map shown_entry xs i r (shown_entry r) l) (all_at (IsListed p) (shown_entries xs) i (shown_entry r) (omega (arith, length-map xs shown_entry)) b))
 
 -- ---- a step of the loop
 
-pub list_file : (front path : Path) (t c : Bytes) (m : Mode) (n : Name) (out out' : List (Path × Mode × Name)) → path ≡ front ++ t ∷ [] → t ≡ c → out' ≡ out ++ (path, m, n) ∷ [] → map listed out' ≡ map listed out ++ below front (placed c (kept_map (file (m, n.bytes))))
-list_file front path t c m n out out' ep et eo = rw (eo, map-append listed out ((path, m, n) ∷ []), ep, et) refl
+pub list_file : (front path : Path) (t c : Bytes) (m : Mode) (n : Name) (out out' : List (Path × Mode × Name)) → path ≡ front ++ t ∷ [] → t ≡ c → out' ≡ out ++ (path, m, n) ∷ [] → map shown_listed out' ≡ map shown_listed out ++ below front (placed c (kept_map (file (m, n.bytes))))
+list_file front path t c m n out out' ep et eo = rw (eo, map-append shown_listed out ((path, m, n) ∷ []), ep, et) refl
 
-pub list_folder : (front path : Path) (t c : Bytes) (f g : FileMap Bytes) (out out' : List (Path × Mode × Name)) → path ≡ front ++ t ∷ [] → t ≡ c → g ≡ f → map listed out' ≡ map listed out ++ below path g → map listed out' ≡ map listed out ++ below front (placed c (kept_map (folder f)))
+pub list_folder : (front path : Path) (t c : Bytes) (f g : FileMap Bytes) (out out' : List (Path × Mode × Name)) → path ≡ front ++ t ∷ [] → t ≡ c → g ≡ f → map shown_listed out' ≡ map shown_listed out ++ below path g → map shown_listed out' ≡ map shown_listed out ++ below front (placed c (kept_map (folder f)))
 list_folder front path t c f g out out' ep et eg eo = rw (eo, eg, ep, et, below-placed front c f) refl
 
-pub list_more : {A : Type 0} (front : Path) (es : List (Entry A)) (i : ℕ) (r : Entry A) (k : Kept) (total : FileMap Bytes) (out out' : List (Path × Mode × Name)) → i < length es → r ≡ get_or es i r → kept r.item ≡ k → map listed out' ≡ map listed out ++ below front (placed (bytes_of r.component) (kept_map k)) → map listed out ++ below front (files (seen_all (drop i es))) ≡ total → map listed out' ++ below front (files (seen_all (drop (i + 1) es))) ≡ total
+pub list_more : {A : Type 0} (front : Path) (es : List (Entry A)) (i : ℕ) (r : Entry A) (k : Kept) (total : FileMap Bytes) (out out' : List (Path × Mode × Name)) → i < length es → r ≡ get_or es i r → shown_item r.item ≡ k → map shown_listed out' ≡ map shown_listed out ++ below front (placed (bytes_of r.component) (kept_map k)) → map shown_listed out ++ below front (files (shown_entries (drop i es))) ≡ total → map shown_listed out' ++ below front (files (shown_entries (drop (i + 1) es))) ≡ total
 list_more front es i r k total out out' l ir ek eo h =
-    let step : seen_all (drop i es) ≡ (bytes_of r.component, k) ∷ seen_all (drop (i + 1) es) = rw (seen_more es i r l ir, ek) refl in
-    let whole : map listed out ++ (below front (placed (bytes_of r.component) (kept_map k)) ++ below front (files (seen_all (drop (i + 1) es)))) ≡ total =
-    rw (step, below-append front (placed (bytes_of r.component) (kept_map k)) (files (seen_all (drop (i + 1) es)))) at h in
-    rw (eo, append_assoc (map listed out) (below front (placed (bytes_of r.component) (kept_map k))) (below front (files (seen_all (drop (i + 1) es))))) whole
+    let step : shown_entries (drop i es) ≡ (bytes_of r.component, k) ∷ shown_entries (drop (i + 1) es) = rw (seen_more es i r l ir, ek) refl in
+    let whole : map shown_listed out ++ (below front (placed (bytes_of r.component) (kept_map k)) ++ below front (files (shown_entries (drop (i + 1) es)))) ≡ total =
+    rw (step, below-append front (placed (bytes_of r.component) (kept_map k)) (files (shown_entries (drop (i + 1) es)))) at h in
+    rw (eo, append_assoc (map shown_listed out) (below front (placed (bytes_of r.component) (kept_map k))) (below front (files (shown_entries (drop (i + 1) es))))) whole
 
 -- ---- the whole tree
 

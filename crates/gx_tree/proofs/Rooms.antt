@@ -18,7 +18,7 @@ use Rattle.gx_tree.specs.Lists.{below}
 use Rattle.gx_tree.specs.Nodes.{Kept, IsKept, IsLevel, Level, file, files, folder, is_inner_path, kept_map}
 use Rattle.gx_tree.specs.Rooms.{IsReach, is_within, kept_within}
 use Rattle.gx_tree.specs.Steps.{grafted}
-use Rattle.gx_tree.specs.Views.{kept, seen, seen_all}
+use Rattle.gx_tree.specs.Views.{shown_item, shown_entry, shown_entries}
 use Rattle.gx_tree.specs.declared.directory.Entry.{Entry}
 use Rattle.gx_tree.specs.declared.directory.Item.{Item}
 use Rattle.gx_tree.specs.declared.directory.Item.TheVariants.{File}
@@ -73,16 +73,16 @@ each_kept [] h = tt
 each_kept (e ∷ es) h = (h.1, each_kept es h.3)
 
 -- the entry at i, read as r
-pub kept_entry : {A : Type 0} (es xs : List (Entry A)) (i : ℕ) (r : Entry A) → i < length xs → r ≡ get_or xs i r → xs ≡ es → IsLevel (seen_all es) → IsKept (kept r.item)
+pub kept_entry : {A : Type 0} (es xs : List (Entry A)) (i : ℕ) (r : Entry A) → i < length xs → r ≡ get_or xs i r → xs ≡ es → IsLevel (shown_entries es) → IsKept (shown_item r.item)
 kept_entry es xs i r l ir ex h =
-    let a : AllByRecursion (λ e. IsKept e.1) (seen_all xs) = subst (λ z. AllByRecursion (λ e. IsKept e.1) (seen_all z)) (sym ex) (each_kept (seen_all es) h) in
-    subst (λ z. IsKept (kept z.item)) (sym ir) (subst (λ z. IsKept z.1) (get_or-map seen xs i r (seen r) l) (all_at (λ e. IsKept e.1) (seen_all xs) i (seen r) (omega (arith, length-map xs seen)) a))
+    let a : AllByRecursion (λ e. IsKept e.1) (shown_entries xs) = subst (λ z. AllByRecursion (λ e. IsKept e.1) (shown_entries z)) (sym ex) (each_kept (shown_entries es) h) in
+    subst (λ z. IsKept (shown_item z.item)) (sym ir) (subst (λ z. IsKept z.1) (get_or-map shown_entry xs i r (shown_entry r) l) (all_at (λ e. IsKept e.1) (shown_entries xs) i (shown_entry r) (omega (arith, length-map xs shown_entry)) a))
 
-pub rest_within : {A : Type 0} (es xs : List (Entry A)) (i : ℕ) (r : Entry A) (room : ℕ) → i < length xs → r ≡ get_or xs i r → xs ≡ es → IsLevel (seen_all es) → list_all (is_within room) (files (seen_all (drop i xs))) ≡ (kept_within room (length (bytes_of r.component)) (kept r.item) && list_all (is_within room) (files (seen_all (drop (i + 1) xs))))
+pub rest_within : {A : Type 0} (es xs : List (Entry A)) (i : ℕ) (r : Entry A) (room : ℕ) → i < length xs → r ≡ get_or xs i r → xs ≡ es → IsLevel (shown_entries es) → list_all (is_within room) (files (shown_entries (drop i xs))) ≡ (kept_within room (length (bytes_of r.component)) (shown_item r.item) && list_all (is_within room) (files (shown_entries (drop (i + 1) xs))))
 rest_within es xs i r room l ir ex h =
     rw (seen_more xs i r l ir)
-    (list_all-append (is_within room) (placed (bytes_of r.component) (kept_map (kept r.item))) (files (seen_all (drop (i + 1) xs)))
-    ∙ ap (λ b. b && list_all (is_within room) (files (seen_all (drop (i + 1) xs)))) (kept_within-is (bytes_of r.component) (kept r.item) room (kept_entry es xs i r l ir ex h)))
+    (list_all-append (is_within room) (placed (bytes_of r.component) (kept_map (shown_item r.item))) (files (shown_entries (drop (i + 1) xs)))
+    ∙ ap (λ b. b && list_all (is_within room) (files (shown_entries (drop (i + 1) xs)))) (kept_within-is (bytes_of r.component) (shown_item r.item) room (kept_entry es xs i r l ir ex h)))
 
 -- ---- below a path
 
@@ -124,10 +124,10 @@ kept_more m n c (folder f) l h =
     and_from _ _ (lt-ltb c n (omega (arith, short, l))) (within_more (m - c - 1) (n - c - 1) f (omega (arith, l)) (and_parts _ _ h).1)
 
 -- that of an entry: its component's length, and for a directory a slash and the reach below it
-pub file_reach : {A : Type 0} {m : Mode} {n : Name} (i : Item A) (c d : Bytes) → i ≡ File m n → d ≡ c → kept_within (length d) (length c) (kept i) ≡ true
+pub file_reach : {A : Type 0} {m : Mode} {n : Name} (i : Item A) (c d : Bytes) → i ≡ File m n → d ≡ c → kept_within (length d) (length c) (shown_item i) ≡ true
 file_reach i c d e s = rw (e, s) (le-leb (length c) (length c) (omega arith))
 
-pub folder_reach : {A : Type 0} (r : Option ℕ) (P : Type 0) (i : Item A) (b : ℕ) (f : FileMap Bytes) (c d : Bytes) → kept i ≡ folder f → d ≡ c → SomeIff r P (b + (length d + 1)) → list_all (is_within b) f ≡ true → IfSome r (λ n. IsTrue (kept_within n (length c) (kept i)))
+pub folder_reach : {A : Type 0} (r : Option ℕ) (P : Type 0) (i : Item A) (b : ℕ) (f : FileMap Bytes) (c d : Bytes) → shown_item i ≡ folder f → d ≡ c → SomeIff r P (b + (length d + 1)) → list_all (is_within b) f ≡ true → IfSome r (λ n. IsTrue (kept_within n (length c) (shown_item i)))
 folder_reach None P i b f c d e s h k = tt
 folder_reach (Some n) P i b f c d e s h k =
     let sum : n ≡ b + (length c + 1) = h.1 ∙ ap (λ (z : Bytes). b + (length z + 1)) s in
@@ -135,15 +135,15 @@ folder_reach (Some n) P i b f c d e s h k =
     subst (λ j. kept_within n (length c) j ≡ true) (sym e) (and_from _ _ (lt-ltb (length c) n (omega (arith, sum))) (subst (λ z. list_all (is_within z) f ≡ true) left k))
 
 -- one more entry at i, read as r, whose reach is b, beside those before it, whose reach is a
-pub reach_more : {A : Type 0} (es : List (Entry A)) (i : ℕ) (r : Entry A) (a b m : ℕ) → i < length es → r ≡ get_or es i r → IsLevel (seen_all es) → kept_within b (length (bytes_of r.component)) (kept r.item) ≡ true → max a b ≤ m
-    → (a ≤ m → list_all (is_within m) (files (seen_all es)) ≡ list_all (is_within m) (files (seen_all (drop i es))))
-    → list_all (is_within m) (files (seen_all es)) ≡ list_all (is_within m) (files (seen_all (drop (i + 1) es)))
+pub reach_more : {A : Type 0} (es : List (Entry A)) (i : ℕ) (r : Entry A) (a b m : ℕ) → i < length es → r ≡ get_or es i r → IsLevel (shown_entries es) → kept_within b (length (bytes_of r.component)) (shown_item r.item) ≡ true → max a b ≤ m
+    → (a ≤ m → list_all (is_within m) (files (shown_entries es)) ≡ list_all (is_within m) (files (shown_entries (drop i es))))
+    → list_all (is_within m) (files (shown_entries es)) ≡ list_all (is_within m) (files (shown_entries (drop (i + 1) es)))
 reach_more es i r a b m l ir h k le before =
-    let fits = kept_more b m (length (bytes_of r.component)) (kept r.item) (omega (arith, le)) k in
-    before (omega (arith, le)) ∙ rest_within es es i r m l ir refl h ∙ ap (λ t. t && list_all (is_within m) (files (seen_all (drop (i + 1) es)))) fits
+    let fits = kept_more b m (length (bytes_of r.component)) (shown_item r.item) (omega (arith, le)) k in
+    before (omega (arith, le)) ∙ rest_within es es i r m l ir refl h ∙ ap (λ t. t && list_all (is_within m) (files (shown_entries (drop (i + 1) es)))) fits
 
-pub reach_all : {A : Type 0} (es : List (Entry A)) (i m : ℕ) → length es ≤ i → list_all (is_within m) (files (seen_all es)) ≡ list_all (is_within m) (files (seen_all (drop i es))) → list_all (is_within m) (files (seen_all es)) ≡ true
-reach_all es i m l h = h ∙ ap (λ z. list_all (is_within m) (files (seen_all z))) (drop_all i es l)
+pub reach_all : {A : Type 0} (es : List (Entry A)) (i m : ℕ) → length es ≤ i → list_all (is_within m) (files (shown_entries es)) ≡ list_all (is_within m) (files (shown_entries (drop i es))) → list_all (is_within m) (files (shown_entries es)) ≡ true
+reach_all es i m l h = h ∙ ap (λ z. list_all (is_within m) (files (shown_entries z))) (drop_all i es l)
 
 -- a file put at a path of n bytes
 pub put_reach : (old new : Option ℕ) (n : ℕ) (p : Path) (x : Leaf Bytes) (f g : FileMap Bytes) → new ≡ option_map (λ r. max r n) old → g ≡ grafted p (kept_map (file x)) f → n ≡ length (path_text p) → IsReach old f → IsReach new g

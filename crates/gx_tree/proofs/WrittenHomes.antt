@@ -17,7 +17,7 @@ use Rattle.gx_tree.specs.Components.{bytes_of}
 use Rattle.gx_tree.specs.Homes.{AreAtHome, IsItemAtHome}
 use Rattle.gx_tree.specs.Named.{NamedTree, IsAtHome, IsHome, own_name}
 use Rattle.gx_tree.specs.Writes.{kept_leaf, kept_records, level_records}
-use Rattle.gx_tree.specs.Views.{IsNamed, RememberAll, Remembers, item_names, kept, names_below, own_entry, own_leaf, seen_all}
+use Rattle.gx_tree.specs.Views.{IsNamed, RememberAll, Remembers, item_names, shown_item, names_below, own_entry, own_leaf, shown_entries}
 use Rattle.gx_tree.specs.declared.directory.Item.{Item}
 use Rattle.gx_tree.specs.declared.directory.Item.TheVariants.{File, Folder}
 use Rattle.gx_tree.specs.declared.directory.Entry.{Entry}
@@ -132,23 +132,23 @@ module _ (name : Kind → Bytes → Bytes) (rs : List Record) where
   named_by d None e k h = absurd (false≢true k)
   named_by d (Some n) e k h = own_home name rs d n e h
 
-  own_leaf-is : {A : Type 0} (i : Item A) → IsItemAtHome name rs i → Remembers i → own_leaf i ≡ kept_leaf name (kept i)
+  own_leaf-is : {A : Type 0} (i : Item A) → IsItemAtHome name rs i → Remembers i → own_leaf i ≡ kept_leaf name (shown_item i)
   own_leaf-is (File m n) h k = refl
   own_leaf-is (Folder d) h k = ap (λ n. (Dir, n)) (named_by d (own_name d.names) refl k h).named
 
   -- they are the entries of the tree
-  pub own_entries : {A : Type 0} (es : List (Entry A)) → AreAtHome name rs es → RememberAll es → map own_entry es ≡ map (kept_entry name) (seen_all es)
+  pub own_entries : {A : Type 0} (es : List (Entry A)) → AreAtHome name rs es → RememberAll es → map own_entry es ≡ map (kept_entry name) (shown_entries es)
   own_entries [] h k = refl
   own_entries (e ∷ es) h k =
       let leaf = own_leaf-is e.item h.0 k.0 in
       let rest = own_entries es h.1 k.1 in
       λ i. record { mode = (leaf i).0; component = bytes_of e.component; name = (leaf i).1 } ∷ rest i
 
-  records_held : {A : Type 0} (i : Item A) → IsItemAtHome name rs i → Remembers i → AllByRecursion (λ r. record_named rs r.name ≡ Some r) (kept_records name (kept i))
+  records_held : {A : Type 0} (i : Item A) → IsItemAtHome name rs i → Remembers i → AllByRecursion (λ r. record_named rs r.name ≡ Some r) (kept_records name (shown_item i))
   records_held (File m n) h k = tt
   records_held (Folder d) h k = (named_by d (own_name d.names) refl k h).held
 
   -- the trees below them are held
-  pub below_held : {A : Type 0} (es : List (Entry A)) → AreAtHome name rs es → RememberAll es → AllByRecursion (λ r. record_named rs r.name ≡ Some r) (level_records name (seen_all es))
+  pub below_held : {A : Type 0} (es : List (Entry A)) → AreAtHome name rs es → RememberAll es → AllByRecursion (λ r. record_named rs r.name ≡ Some r) (level_records name (shown_entries es))
   below_held [] h k = tt
-  below_held (e ∷ es) h k = all_joined (λ r. record_named rs r.name ≡ Some r) (kept_records name (kept e.item)) (level_records name (seen_all es)) (records_held e.item h.0 k.0) (below_held es h.1 k.1)
+  below_held (e ∷ es) h k = all_joined (λ r. record_named rs r.name ≡ Some r) (kept_records name (shown_item e.item)) (level_records name (shown_entries es)) (records_held e.item h.0 k.0) (below_held es h.1 k.1)

@@ -9,17 +9,17 @@ use Rattle.gx_tree.specs.Nodes.{Kept, file, folder, kept_map}
 use Rattle.gx_tree.specs.declared.copying.Held.{Held}
 use Rattle.gx_tree.specs.declared.copying.Held.TheVariants.{File, Folder}
 
-abbrev pub kept_held : {A : Type 0} → Held A → Kept
-kept_held (File m n) = file (m, n.bytes)
-kept_held (Folder d) = folder d.now.files
+abbrev pub shown_held : {A : Type 0} → Held A → Kept
+shown_held (File m n) = file (m, n.bytes)
+shown_held (Folder d) = folder d.now.files
 
 abbrev pub is_file : Kept → Bool
 is_file (file x) = true
 is_file (folder f) = false
 
-abbrev pub option_held : {A : Type 0} → Option (Held A) → Option Kept
-option_held None = None
-option_held (Some h) = Some (kept_held h)
+abbrev pub shown_held_if : {A : Type 0} → Option (Held A) → Option Kept
+shown_held_if None = None
+shown_held_if (Some h) = Some (shown_held h)
 
 -- why k may not stand at the path
 abbrev pub graft_fault : Kept → Path → Option Fault

@@ -12,7 +12,7 @@ use Rattle.gx_object.specs.declared.name.Name.{Name}
 use Rattle.gx_tree.specs.Named.{NamedTree}
 use Rattle.gx_tree.specs.Nodes.{Kept, Level, file, files, kept_map}
 use Rattle.gx_tree.specs.Steps.{grafted, is_made, kept_grafted, kept_removed, replaced}
-use Rattle.gx_tree.specs.Views.{kept, kept_if, option_kept, seen_all}
+use Rattle.gx_tree.specs.Views.{shown_item, shown_item_if, shown_lent, shown_entries}
 use Rattle.gx_tree.specs.declared.directory.Entry.{Entry}
 use Rattle.gx_tree.specs.declared.directory.Item.{Item}
 
@@ -20,7 +20,7 @@ use Rattle.gx_tree.specs.declared.directory.Item.{Item}
 
 -- what entries that may be shared are seen as
 abbrev pub level_in : {A : Type 0} → Rc (Vec (Entry A) A) A → Level
-level_in entries = seen_all entries.value.items
+level_in entries = shown_entries entries.value.items
 
 -- the files below them
 abbrev pub files_below : {A : Type 0} → Rc (Vec (Entry A) A) A → FileMap Bytes
@@ -28,11 +28,15 @@ files_below entries = files (level_in entries)
 
 -- the old entries, with what is kept at the component, or nothing there
 abbrev pub Replaces : {A : Type 0} → Bytes → Option Kept → List (Entry A) → Vec (Entry A) A → Type 0
-Replaces c k old new = seen_all new.items ≡ replaced c k (seen_all old)
+Replaces c k old new = shown_entries new.items ≡ replaced c k (shown_entries old)
+
+-- the old entries, with this one in place of what stood at its component
+abbrev pub PutsEntry : {A : Type 0} → Bytes × Kept → List (Entry A) → Vec (Entry A) A → Type 0
+PutsEntry put old new = Replaces put.0 (Some put.1) old new
 
 -- the old entries, with more behind them
 abbrev pub AddsEntries : {A : Type 0} → List (Entry A) → Vec (Entry A) A → Vec (Entry A) A → Type 0
-AddsEntries more old new = seen_all new.items ≡ seen_all old.items ++ seen_all more
+AddsEntries more old new = shown_entries new.items ≡ shown_entries old.items ++ shown_entries more
 
 -- ---- what is put
 
@@ -42,7 +46,7 @@ Grafts p k old new = new.files ≡ grafted p (kept_map k) old.files
 
 -- what stands at a component, with an item at the path behind it
 abbrev pub GraftsItem : {A : Type 0} → Path → Item A → Option (Bor (Item A)) → Item A → Type 0
-GraftsItem p item old new = kept new ≡ kept_grafted p (kept item) (option_kept old)
+GraftsItem p item old new = shown_item new ≡ kept_grafted p (shown_item item) (shown_lent old)
 
 -- where it is answered that a file was put, it stands at the path, in place of what is in line with it
 abbrev pub PutsFile : {E : Type 0} → Path → Mode → Name → FileMap Bytes → FileMap Bytes → Result Bool E → Type 0
@@ -54,7 +58,7 @@ PutsFileBelow p mode name old new = PutsFile p mode name (files_below old) (file
 
 -- the same of an item, with the file in its place or at the path below it
 abbrev pub PutsFileAt : {A E : Type 0} → Path → Mode → Name → Item A → Item A → Result Bool E → Type 0
-PutsFileAt p mode name old new result = IsTrue (is_made result) → kept new ≡ kept_grafted p (file (mode, name.bytes)) (Some (kept old))
+PutsFileAt p mode name old new result = IsTrue (is_made result) → shown_item new ≡ kept_grafted p (file (mode, name.bytes)) (Some (shown_item old))
 
 -- ---- what is taken out
 
@@ -64,8 +68,8 @@ TakesBelow p old new taken = IsTrue taken → files_below new ≡ removed (files
 
 -- what is left of an item, if anything, without what stands at or below the path in it
 abbrev pub IsLeftOf : {A : Type 0} → Path → Item A → Option (Item A) → Type 0
-IsLeftOf p old left = kept_if left ≡ kept_removed p (Some (kept old))
+IsLeftOf p old left = shown_item_if left ≡ kept_removed p (Some (shown_item old))
 
 -- the same of an item that is lent, if there is one
 abbrev pub IsLeftOfLent : {A : Type 0} → Path → Option (Bor (Item A)) → Option (Item A) → Type 0
-IsLeftOfLent p old left = kept_if left ≡ kept_removed p (option_kept old)
+IsLeftOfLent p old left = shown_item_if left ≡ kept_removed p (shown_lent old)

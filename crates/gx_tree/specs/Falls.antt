@@ -8,7 +8,7 @@ use Rattle.gx_model.specs.Histories.Files.{FileMap}
 use Rattle.gx_model.specs.Records.HistoryOf.{placed}
 use Rattle.gx_tree.specs.Components.{bytes_of}
 use Rattle.gx_tree.specs.Nodes.{kept_map, files, components, IsKept, IsLevel}
-use Rattle.gx_tree.specs.Views.{kept, seen_all}
+use Rattle.gx_tree.specs.Views.{shown_item, shown_entries}
 use Rattle.gx_tree.specs.declared.directory.Item.{Item}
 use Rattle.gx_tree.specs.declared.directory.Item.TheVariants.{File, Folder}
 use Rattle.gx_tree.specs.declared.directory.Entry.{Entry}
@@ -26,10 +26,10 @@ pub some_length : (f : FileMap Bytes) → f ≢ [] → 1 ≤ length f
 some_length [] n = absurd (n refl)
 some_length (e ∷ f) n = omega arith
 
-item_falls : {A : Type 0} (G : Ghosts A) (c : Bytes) (i : Item A) → IsKept (kept i) → deep-Item A G i ≤ components (placed c (kept_map (kept i)))
+item_falls : {A : Type 0} (G : Ghosts A) (c : Bytes) (i : Item A) → IsKept (shown_item i) → deep-Item A G i ≤ components (placed c (kept_map (shown_item i)))
 item_falls G c (File m n) h = omega arith
 item_falls G c (Folder d) h = omega (arith, components-placed c d.files, some_length d.files h.0)
 
-pub falls : {A : Type 0} (G : Ghosts A) (es : List (Entry A)) → IsLevel (seen_all es) → max (most (λ x. deep-Entry A G x) es) 0 ≤ components (files (seen_all es))
+pub falls : {A : Type 0} (G : Ghosts A) (es : List (Entry A)) → IsLevel (shown_entries es) → max (most (λ x. deep-Entry A G x) es) 0 ≤ components (files (shown_entries es))
 falls G [] h = omega arith
-falls G (e ∷ es) h = omega (arith, item_falls G (bytes_of e.component) e.item h.1, falls G es h.3, components-append (placed (bytes_of e.component) (kept_map (kept e.item))) (files (seen_all es)))
+falls G (e ∷ es) h = omega (arith, item_falls G (bytes_of e.component) e.item h.1, falls G es h.3, components-append (placed (bytes_of e.component) (kept_map (shown_item e.item))) (files (shown_entries es)))

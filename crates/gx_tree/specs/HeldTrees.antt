@@ -11,7 +11,7 @@ use Rattle.gx_object.specs.declared.entry.Entry.{Entry}
 use Rattle.gx_object.specs.declared.name.Name.{Name}
 use Rattle.gx_tree.specs.Nodes.{Kept, file, folder}
 use Rattle.gx_tree.specs.Rooms.{is_within}
-use Rattle.gx_tree.specs.Views.{kept}
+use Rattle.gx_tree.specs.Views.{shown_item}
 use Rattle.gx_tree.specs.Writes.{kept_leaf, map_name}
 use Rattle.gx_tree.specs.declared.directory.Item.{Item}
 
@@ -43,4 +43,4 @@ module _ (name : Kind → Bytes → Bytes) (rs : List Record) where
 
   -- the item is what an entry of a tree stands for, where that is held
   abbrev pub IsItemOf : {A : Type 0} → Entry → Item A → Type 0
-  IsItemOf e i = (k : Kept) (most : ℕ) → IsHeldEntry name rs most (e.component.now, k) → kept_leaf name k ≡ (e.mode, e.name.bytes) → kept i ≡ k
+  IsItemOf e i = (k : Kept) (most : ℕ) → IsHeldEntry name rs most (e.component.now, k) → kept_leaf name k ≡ (e.mode, e.name.bytes) → shown_item i ≡ k

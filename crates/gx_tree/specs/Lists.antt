@@ -8,8 +8,8 @@ use Rattle.gx_model.specs.declared.objects.Mode.{Mode}
 use Rattle.gx_object.specs.declared.name.Name.{Name}
 
 -- a listed file, as an entry of a file map
-abbrev pub listed : Path × Mode × Name → Path × (Mode × Bytes)
-listed t = (t.0, (t.1, t.2.bytes))
+abbrev pub shown_listed : Path × Mode × Name → Path × (Mode × Bytes)
+shown_listed t = (t.0, (t.1, t.2.bytes))
 
 -- the same files below a path
 abbrev pub below : Path → FileMap Bytes → FileMap Bytes
@@ -21,4 +21,4 @@ are_short f = list_all (λ e. is_short e.0) f
 
 -- these files are listed behind those that were
 abbrev pub AppendsFiles : FileMap Bytes → List (Path × Mode × Name) → List (Path × Mode × Name) → Type 0
-AppendsFiles f old new = map listed new ≡ map listed old ++ f
+AppendsFiles f old new = map shown_listed new ≡ map shown_listed old ++ f

@@ -4,7 +4,7 @@ use Rattle.std.specs.List.Sorted.{IsPartitionPoint}
 use Rattle.gx_model.specs.Texts.{Bytes}
 use Rattle.gx_tree.specs.Components.{bytes_of}
 use Rattle.gx_tree.specs.Nodes.{Kept, Level, kept_at, mark, precedes}
-use Rattle.gx_tree.specs.Views.{seen}
+use Rattle.gx_tree.specs.Views.{shown_entry}
 use Rattle.gx_tree.specs.declared.directory.Entry.{Entry}
 
 -- what is kept at c, if it has this mark
@@ -18,4 +18,4 @@ IsEntryAt {A} c es i = (i < length es) × ((d : Entry A) → bytes_of (get_or es
 
 -- n entries don't come after the text, and those behind them do
 abbrev pub IsPlaceOf : {A : Type 0} → Bytes → List (Entry A) → ℕ → Type 0
-IsPlaceOf text es n = IsPartitionPoint (λ e. precedes text (seen e) ≡ false) (λ e. precedes text (seen e) ≡ true) es n
+IsPlaceOf text es n = IsPartitionPoint (λ e. precedes text (shown_entry e) ≡ false) (λ e. precedes text (shown_entry e) ≡ true) es n

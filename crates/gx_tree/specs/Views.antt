@@ -17,28 +17,28 @@ use Rattle.gx_tree.specs.declared.directory.Item.{Item}
 use Rattle.gx_tree.specs.declared.directory.Item.TheVariants.{File, Folder}
 use Rattle.gx_tree.specs.declared.directory.Entry.{Entry}
 
-abbrev pub kept : {A : Type 0} → Item A → Kept
-kept (File m n) = file (m, n.bytes)
-kept (Folder d) = folder d.files
+abbrev pub shown_item : {A : Type 0} → Item A → Kept
+shown_item (File m n) = file (m, n.bytes)
+shown_item (Folder d) = folder d.files
 
-abbrev pub seen : {A : Type 0} → Entry A → Bytes × Kept
-seen e = (bytes_of e.component, kept e.item)
+abbrev pub shown_entry : {A : Type 0} → Entry A → Bytes × Kept
+shown_entry e = (bytes_of e.component, shown_item e.item)
 
-abbrev pub seen_all : {A : Type 0} → List (Entry A) → Level
-seen_all = map seen
+abbrev pub shown_entries : {A : Type 0} → List (Entry A) → Level
+shown_entries = map shown_entry
 
 -- what a reference to an item, if there is one, stands for
-abbrev pub option_kept : {A : Type 0} → Option (Bor (Item A)) → Option Kept
-option_kept None = None
-option_kept (Some i) = Some (kept i.now)
+abbrev pub shown_lent : {A : Type 0} → Option (Bor (Item A)) → Option Kept
+shown_lent None = None
+shown_lent (Some i) = Some (shown_item i.now)
 
 abbrev pub option_files : Option (Bor NamedTree) → FileMap Bytes
 option_files None = []
 option_files (Some d) = d.now.files
 
-abbrev pub kept_if : {A : Type 0} → Option (Item A) → Option Kept
-kept_if None = None
-kept_if (Some i) = Some (kept i)
+abbrev pub shown_item_if : {A : Type 0} → Option (Item A) → Option Kept
+shown_item_if None = None
+shown_item_if (Some i) = Some (shown_item i)
 
 -- the files of a root, with the names that are remembered
 abbrev pub root_tree : Option NamedTree → NamedTree
@@ -65,7 +65,7 @@ names_of (Some n) es = ([], n.bytes) ∷ names_below es
 
 -- the tree of a directory's entries, with its name, where that is remembered
 abbrev pub tree_of : {A : Type 0} → Option Name → List (Entry A) → NamedTree
-tree_of r es = record { files = files (seen_all es); names = names_of r es }
+tree_of r es = record { files = files (shown_entries es); names = names_of r es }
 
 -- a directory remembers the name of its tree
 abbrev pub Remembers : {A : Type 0} → Item A → Type 0
@@ -91,7 +91,7 @@ RemembersBelow (Some n) es = RememberAll es
 
 -- the entries stand in their order, their names are remembered where that of the whole is, and they reach no further than is kept
 abbrev pub IsDirectory : {A : Type 0} → Option Name → Option ℕ → List (Entry A) → Type 0
-IsDirectory remembered reach es = IsLevel (seen_all es) × RemembersBelow remembered es × IsReach reach (files (seen_all es))
+IsDirectory remembered reach es = IsLevel (shown_entries es) × RemembersBelow remembered es × IsReach reach (files (shown_entries es))
 
 -- a file, or a directory with a remembered name, where such names are trusted
 abbrev pub IsNamed : {A : Type 0} → Bool → Item A → Type 0

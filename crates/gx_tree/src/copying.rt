@@ -3,13 +3,13 @@ ghost use Rattle.std.specs.Prelude.{◌≡◌, IfOk, IsTrue};
 ghost use Rattle.std.specs.List.{list_all};
 ghost use Rattle.std.specs.Option.{option_map};
 ghost use Rattle.gx_text.specs.TreePaths.{is_path};
-ghost use Rattle.gx_tree.specs.Copies.{graft_fault, kept_held};
+ghost use Rattle.gx_tree.specs.Copies.{graft_fault, shown_held};
 ghost use Rattle.gx_tree.specs.Faults.{fault_of};
 ghost use Rattle.gx_tree.specs.Homes.{Keeps, IsHeldAtHome, IsItemAtHome};
 ghost use Rattle.gx_tree.specs.Lists.{are_short, below};
 ghost use Rattle.gx_tree.specs.Nodes.{IsKept, folder};
 ghost use Rattle.gx_tree.specs.Rooms.{entry_within, is_within};
-ghost use Rattle.gx_tree.specs.Views.{kept, seen};
+ghost use Rattle.gx_tree.specs.Views.{shown_item, shown_entry};
 
 use crate::directory::{Directory, Entry, Item};
 use crate::fault::TreeFault;
@@ -30,8 +30,8 @@ pub(crate) enum Held<'a, A: Allocator> {
 impl<'a, A: Allocator + Copy> Held<'a, A> {
     /// Why it may not stand at the path: a file isn't the root, and no path gets too long.
     pub(crate) fn refusal(&self, path: &TreePath<A>) -> Option<TreeFault>
-        requires { IsKept (kept_held self.now) }
-        ensures fault { option_map fault_of result ≡ graft_fault (kept_held self.now) path.now }
+        requires { IsKept (shown_held self.now) }
+        ensures fault { option_map fault_of result ≡ graft_fault (shown_held self.now) path.now }
         ensures path { IsTrue (is_path path.now) }
     {
         let length = path.len();
@@ -44,7 +44,7 @@ impl<'a, A: Allocator + Copy> Held<'a, A> {
 
     /// It as an item, where a directory is shared.
     pub(crate) fn item(&self) -> Result<Item<A>, AllocError>
-        ensures kept { IfOk result (λ i. kept i ≡ kept_held self.now) }
+        ensures kept { IfOk result (λ i. shown_item i ≡ shown_held self.now) }
         ensures home { IfOk result (Keeps IsHeldAtHome IsItemAtHome self.now) }
     {
         match self {
@@ -88,7 +88,7 @@ impl<A: Allocator + Copy> Directory<A> {
 impl<A: Allocator + Copy> Entry<A> {
     #[cycle(fits)]
     fn fits(&self, room: usize) -> bool
-        ensures { result ≡ entry_within room (seen self.now) }
+        ensures { result ≡ entry_within room (shown_entry self.now) }
     {
         let used = self.component().len();
         match &self.item {

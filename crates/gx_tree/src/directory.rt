@@ -2,11 +2,11 @@
 //! more than one directory has them, so trees share them.
 ghost use Rattle.std.specs.Prelude.{◌≡◌, ◌≤◌, [], IsTrue, ◌↔◌, IfOk, OnOk, None, Some, drop, length};
 ghost use Rattle.std.specs.Option.{option_map};
-ghost use Rattle.gx_tree.specs.Edits.{AddsEntries, Replaces};
+ghost use Rattle.gx_tree.specs.Edits.{AddsEntries, PutsEntry, Replaces};
 ghost use Rattle.gx_tree.specs.Homes.{Keeps, IfThere, Borrowed, AreAtHome, EntriesKeepHome, IsItemAtHome, IsLentAtHome};
 ghost use Rattle.gx_tree.specs.Named.{IsAtHome, nothing};
 ghost use Rattle.gx_tree.specs.Nodes.{IsInner, IsLevel, mark};
-ghost use Rattle.gx_tree.specs.Views.{RemembersBelow, kept, kept_if, option_kept, option_files, seen, seen_all, tree_of};
+ghost use Rattle.gx_tree.specs.Views.{RemembersBelow, shown_item, shown_item_if, shown_lent, option_files, shown_entry, shown_entries, tree_of};
 ghost use Rattle.gx_tree.specs.Standings.{standing_of, standing_at};
 ghost use Rattle.gx_tree.specs.Steps.{files_of};
 
@@ -77,7 +77,7 @@ impl<A: Allocator + Copy> Directory<A> {
         entries: Vec<Entry<A>, A>,
         remembered: Option<Name>,
     ) -> Result<Directory<A>, AllocError>
-        requires level { IsLevel (seen_all entries.items) }
+        requires level { IsLevel (shown_entries entries.items) }
         requires remembers { RemembersBelow remembered entries.items }
         ensures { IfOk result (λ directory. directory ≡ tree_of remembered entries.items) }
     {
@@ -139,7 +139,7 @@ impl<A: Allocator + Copy> Directory<A> {
 impl<A: Allocator + Copy> Item<A> {
     /// The same once more: a directory is shared.
     pub(crate) fn shared(&self) -> Result<Item<A>, AllocError>
-        ensures kept { IfOk result (λ i. kept i ≡ kept self.now) }
+        ensures kept { IfOk result (λ i. shown_item i ≡ shown_item self.now) }
         ensures home { IfOk result (Keeps IsItemAtHome IsItemAtHome self.now) }
     {
         match self {
@@ -152,7 +152,7 @@ impl<A: Allocator + Copy> Item<A> {
 impl<A: Allocator + Copy> Entry<A> {
     /// An entry of a component's bytes.
     pub(crate) fn new(alloc: A, component: &[u8], item: Item<A>) -> Result<Entry<A>, AllocError>
-        ensures seen { IfOk result (λ e. seen e ≡ (component.now, kept item)) }
+        ensures seen { IfOk result (λ e. shown_entry e ≡ (component.now, shown_item item)) }
         ensures item { IfOk result (λ e. e.item ≡ item) }
     {
         let component = Component::new(alloc, component)?;
@@ -160,7 +160,7 @@ impl<A: Allocator + Copy> Entry<A> {
     }
 
     fn shared(&self) -> Result<Entry<A>, AllocError>
-        ensures seen { IfOk result (λ e. seen e ≡ seen self.now) }
+        ensures seen { IfOk result (λ e. shown_entry e ≡ shown_entry self.now) }
         ensures home { IfOk result (λ e. Keeps IsItemAtHome IsItemAtHome self.now.item e.item) }
     {
         let component = self.component.shared()?;
@@ -169,14 +169,14 @@ impl<A: Allocator + Copy> Entry<A> {
     }
 
     pub(crate) fn component(&self) -> &[u8]
-        ensures { result.now ≡ (seen self.now).0 }
+        ensures { result.now ≡ (shown_entry self.now).0 }
     {
         self.component.as_slice()
     }
 
     /// What follows the component in the text by which entries are ordered.
     pub(crate) fn mark(&self) -> &'static [u8]
-        ensures { result.now ≡ mark (kept self.now.item) }
+        ensures { result.now ≡ mark (shown_item self.now.item) }
     {
         match self.item {
             Item::File(_, _) => b"",
@@ -189,7 +189,7 @@ impl<A: Allocator + Copy> Entry<A> {
 pub(crate) fn folder_in<'a, A: Allocator + Copy>(
     item: Option<&'a Item<A>>,
 ) -> Option<&'a Directory<A>>
-    ensures files { files_of (option_kept item.entry) ≡ option_files result }
+    ensures files { files_of (shown_lent item.entry) ≡ option_files result }
     ensures home { Keeps IsLentAtHome (IfThere (Borrowed IsAtHome)) item.entry result }
 {
     match item {
@@ -204,7 +204,7 @@ fn shared_others<A: Allocator + Copy>(
     entries: &[Entry<A>],
     component: &[u8],
 ) -> Result<Vec<Entry<A>, A>, AllocError>
-    requires { IsLevel (seen_all entries.now) }
+    requires { IsLevel (shown_entries entries.now) }
     ensures others { IfOk result (Replaces component.now None entries.now) }
     ensures home { IfOk result (λ v. Keeps AreAtHome AreAtHome entries.now v.items) }
 {
@@ -242,8 +242,8 @@ pub(crate) fn with_entry<A: Allocator + Copy>(
     entries: &[Entry<A>],
     new: Entry<A>,
 ) -> Result<Vec<Entry<A>, A>, AllocError>
-    requires { IsLevel (seen_all entries.now) }
-    ensures entries { IfOk result (Replaces (seen new).0 (Some (seen new).1) entries.now) }
+    requires { IsLevel (shown_entries entries.now) }
+    ensures entries { IfOk result (PutsEntry (shown_entry new) entries.now) }
     ensures home { IfOk result (EntriesKeepHome IsItemAtHome new.item entries.now) }
 {
     let mut all = shared_others(alloc, entries, new.component())?;
@@ -259,8 +259,8 @@ pub(crate) fn with_item<A: Allocator + Copy>(
     component: &[u8],
     item: Option<Item<A>>,
 ) -> Result<Vec<Entry<A>, A>, AllocError>
-    requires { IsLevel (seen_all entries.now) }
-    ensures entries { IfOk result (Replaces component.now (kept_if item) entries.now) }
+    requires { IsLevel (shown_entries entries.now) }
+    ensures entries { IfOk result (Replaces component.now (shown_item_if item) entries.now) }
     ensures home { IfOk result (EntriesKeepHome (IfThere IsItemAtHome) item entries.now) }
 {
     match item {

@@ -10,7 +10,7 @@ ghost use Rattle.gx_tree.specs.Homes.{Keeps, Both, IfThere, AreAtHome, IsItemAtH
 ghost use Rattle.gx_tree.specs.Named.{IsAtHome, KeepsHome};
 ghost use Rattle.gx_tree.specs.Nodes.{IsKept, IsLevel, map_if, mark, IsKeptAt};
 ghost use Rattle.gx_tree.specs.Steps.{is_made};
-ghost use Rattle.gx_tree.specs.Views.{kept, option_kept};
+ghost use Rattle.gx_tree.specs.Views.{shown_item, shown_lent};
 ghost use Rattle.gx_model.specs.declared.objects.Mode.TheVariants as modes;
 ghost use Rattle.gx_tree.specs.declared.edits.Taken.TheVariants as taken;
 
@@ -26,8 +26,8 @@ impl<A: Allocator + Copy> Directory<A> {
     /// What stands at the rest of the path, which is not the root.
     pub(crate) fn item_at<'a>(&'a self, path: &TreePath<A>, depth: usize) -> Option<&'a Item<A>>
         requires { depth < length path.now }
-        ensures files { sub_map self.entry.now.files (drop depth path.now) ≡ map_if (option_kept result) }
-        ensures kept { IsKeptAt (option_kept result) }
+        ensures files { sub_map self.entry.now.files (drop depth path.now) ≡ map_if (shown_lent result) }
+        ensures kept { IsKeptAt (shown_lent result) }
         ensures home { Keeps IsAtHome IsLentAtHome self.entry.now result }
     {
         let length = path.len();
@@ -51,8 +51,8 @@ impl<A: Allocator + Copy> Directory<A> {
         item: Item<A>,
     ) -> Result<Directory<A>, AllocError>
         requires within { depth < length path.now }
-        requires kept { IsKept (kept item) }
-        ensures files { IfOk result (Grafts (drop depth path.now) (kept item) self.now) }
+        requires kept { IsKept (shown_item item) }
+        ensures files { IfOk result (Grafts (drop depth path.now) (shown_item item) self.now) }
         ensures home { IfOk result (Keeps (Both IsItemAtHome IsAtHome) IsAtHome (item, self.now)) }
     {
         let component = path.component(depth);
@@ -178,7 +178,7 @@ impl<A: Allocator + Copy> Item<A> {
         requires { depth < length path.now }
         ensures whole { result ≡ taken.Whole → IsLeftOf (drop (depth + 1) path.now) self.old None }
         ensures part { result ≡ taken.Part → IsLeftOf (drop (depth + 1) path.now) self.old (Some self.new) }
-        ensures mark { result ≡ taken.Part → mark (kept self.new) ≡ mark (kept self.old) }
+        ensures mark { result ≡ taken.Part → mark (shown_item self.new) ≡ mark (shown_item self.old) }
         ensures unchanged { result ≡ taken.Nothing → self.new ≡ self.old }
         ensures home { Keeps IsItemAtHome IsItemAtHome self.old self.new }
     {
@@ -280,7 +280,7 @@ impl<A: Allocator + Copy> Item<A> {
         requires bytes { bytes ≡ length (path_text (drop depth path.now)) }
         requires mode { mode ≢ modes.Dir }
         ensures kept { PutsFileAt (drop (depth + 1) path.now) mode name self.old self.new result }
-        ensures mark { IsTrue (is_made result) → mark (kept self.new) ≡ mark (kept self.old) }
+        ensures mark { IsTrue (is_made result) → mark (shown_item self.new) ≡ mark (shown_item self.old) }
         ensures unchanged { IsFalse (is_made result) → self.new ≡ self.old }
         ensures home { Keeps IsItemAtHome IsItemAtHome self.old self.new }
     {
@@ -311,7 +311,7 @@ fn new_item<A: Allocator + Copy>(
     item: Item<A>,
 ) -> Result<Item<A>, AllocError>
     requires within { depth < length path.now }
-    requires kept { IsKept (kept item) }
+    requires kept { IsKept (shown_item item) }
     ensures kept { IfOk result (GraftsItem (drop (depth + 1) path.now) item None) }
     ensures home { IfOk result (Keeps IsItemAtHome IsItemAtHome item) }
 {
@@ -342,7 +342,7 @@ fn item_grafted<A: Allocator + Copy>(
     item: Item<A>,
 ) -> Result<Item<A>, AllocError>
     requires within { depth < length path.now }
-    requires kept { IsKept (kept item) }
+    requires kept { IsKept (shown_item item) }
     ensures kept { IfOk result (GraftsItem (drop (depth + 1) path.now) item old.entry) }
     ensures home { IfOk result (Keeps (Both IsItemAtHome IsLentAtHome) IsItemAtHome (item, old.entry)) }
 {

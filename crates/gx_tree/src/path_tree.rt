@@ -6,13 +6,13 @@ ghost use Rattle.gx_model.specs.Faults.{Gives};
 ghost use Rattle.gx_model.specs.Records.Growth.{tree_records};
 ghost use Rattle.gx_model.specs.Objects.{is_name};
 ghost use Rattle.gx_tree.specs.Calls.{Becomes, GivesFiles, LoadsFiles};
-ghost use Rattle.gx_tree.specs.Copies.{graft_fault, kept_held};
+ghost use Rattle.gx_tree.specs.Copies.{graft_fault, shown_held};
 ghost use Rattle.gx_tree.specs.Edits.{Grafts};
 ghost use Rattle.gx_tree.specs.Faults.{fault_of, Refuses};
 ghost use Rattle.gx_model.specs.Objects.NameMaps.{IsNameMap};
 ghost use Rattle.gx_tree.specs.HeldTrees.{HoldsTree, NamesHeldTree};
 ghost use Rattle.gx_tree.specs.Homes.{HoldsIn, Keeps, Both, IsHeldAtHome};
-ghost use Rattle.gx_tree.specs.Lists.{listed};
+ghost use Rattle.gx_tree.specs.Lists.{shown_listed};
 ghost use Rattle.gx_tree.specs.Named.{IsAtHome, KeepsHome, nothing};
 ghost use Rattle.gx_tree.specs.Nodes.{IsKept};
 ghost use Rattle.gx_tree.specs.Writes.{IsTreeName, StoresAll};
@@ -133,7 +133,7 @@ impl<A: Allocator + Copy> PathTree<A> {
     ///
     /// Cost: the bytes of all paths, in time and in memory. Source: gitglossary(7), "tree".
     pub fn list(&self) -> Result<Vec<(TreePath<A>, Mode, Name), A>, TreeFault>
-        ensures { Gives fault_of (λ files. map listed files.items) result (Ok self.now.files) }
+        ensures { Gives fault_of (λ files. map shown_listed files.items) result (Ok self.now.files) }
     {
         let mut files = Vec::new(self.alloc);
         self.root.list_into(self.alloc, &mut files)?;
@@ -321,9 +321,9 @@ fn put_or_placed<A: Allocator + Copy>(
     held: &Held<'_, A>,
     path: &TreePath<A>,
 ) -> Result<Root<A>, AllocError>
-    requires kept { IsKept (kept_held held.now) }
-    requires checked { graft_fault (kept_held held.now) path.now ≡ None }
-    ensures files { IfOk result (Grafts path.now (kept_held held.now) rest) }
+    requires kept { IsKept (shown_held held.now) }
+    requires checked { graft_fault (shown_held held.now) path.now ≡ None }
+    ensures files { IfOk result (Grafts path.now (shown_held held.now) rest) }
     ensures home { IfOk result (Keeps (Both IsHeldAtHome IsAtHome) IsAtHome (held.now, rest)) }
 {
     if let Held::File(mode, name) = held {
@@ -341,9 +341,9 @@ fn placed<A: Allocator + Copy>(
     held: &Held<'_, A>,
     path: &TreePath<A>,
 ) -> Result<Root<A>, AllocError>
-    requires kept { IsKept (kept_held held.now) }
-    requires checked { graft_fault (kept_held held.now) path.now ≡ None }
-    ensures files { IfOk result (Grafts path.now (kept_held held.now) rest.now) }
+    requires kept { IsKept (shown_held held.now) }
+    requires checked { graft_fault (shown_held held.now) path.now ≡ None }
+    ensures files { IfOk result (Grafts path.now (shown_held held.now) rest.now) }
     ensures home { IfOk result (Keeps (Both IsHeldAtHome IsAtHome) IsAtHome (held.now, rest.now)) }
 {
     if path.len() > 0 {

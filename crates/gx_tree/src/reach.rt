@@ -5,7 +5,7 @@ ghost use Rattle.std.specs.List.{list_all};
 ghost use Rattle.std.specs.Option.{option_map};
 ghost use Rattle.gx_tree.specs.Nodes.{IsLevel, files};
 ghost use Rattle.gx_tree.specs.Rooms.{IsReach, entry_within, is_within};
-ghost use Rattle.gx_tree.specs.Views.{seen, seen_all};
+ghost use Rattle.gx_tree.specs.Views.{shown_entry, shown_entries};
 
 use crate::directory::{Directory, Entry, Item};
 use std::alloc::Allocator;
@@ -30,8 +30,8 @@ impl<A: Allocator + Copy> Directory<A> {
 
 /// The reach of the files below these entries, and none where it can't be counted.
 pub(crate) fn reach_of<A: Allocator + Copy>(entries: &[Entry<A>]) -> Option<usize>
-    requires { IsLevel (seen_all entries.now) }
-    ensures { IsReach result (files (seen_all entries.now)) }
+    requires { IsLevel (shown_entries entries.now) }
+    ensures { IsReach result (files (shown_entries entries.now)) }
 {
     let mut longest: usize = 0;
     for entry in entries {
@@ -43,7 +43,7 @@ pub(crate) fn reach_of<A: Allocator + Copy>(entries: &[Entry<A>]) -> Option<usiz
 impl<A: Allocator + Copy> Entry<A> {
     // The reach of its file, or of the files below it.
     fn reach(&self) -> Option<usize>
-        ensures { IfSome result (λ n. IsTrue (entry_within n (seen self.now))) }
+        ensures { IfSome result (λ n. IsTrue (entry_within n (shown_entry self.now))) }
     {
         let used = self.component().len();
         match &self.item {

@@ -6,7 +6,7 @@ ghost use Rattle.gx_model.specs.Histories.Files.{sub_map};
 ghost use Rattle.gx_model.specs.Records.Growth.{tree_records};
 ghost use Rattle.gx_model.specs.Objects.NameMaps.{IsNameMap};
 ghost use Rattle.gx_tree.specs.Calls.{IsMadeOf};
-ghost use Rattle.gx_tree.specs.Copies.{option_held};
+ghost use Rattle.gx_tree.specs.Copies.{shown_held_if};
 ghost use Rattle.gx_tree.specs.Edits.{Grafts, PutsFile};
 ghost use Rattle.gx_tree.specs.Homes.{HoldsIn, Keeps, Both, IfThere, IsHeldAtHome, IsItemAtHome};
 ghost use Rattle.gx_tree.specs.Lists.{AppendsFiles, are_short};
@@ -15,7 +15,7 @@ ghost use Rattle.gx_tree.specs.Nodes.{IsKept, IsKeptAt, map_if};
 ghost use Rattle.gx_model.specs.declared.objects.Mode.TheVariants as modes;
 ghost use Rattle.gx_tree.specs.Standings.{standing_of, standing_at};
 ghost use Rattle.gx_tree.specs.Steps.{is_made};
-ghost use Rattle.gx_tree.specs.Views.{kept};
+ghost use Rattle.gx_tree.specs.Views.{shown_item};
 ghost use Rattle.gx_tree.specs.Writes.{IsTreeName, StoresAll};
 
 use crate::copying::Held;
@@ -103,8 +103,8 @@ impl<A: Allocator + Copy> Root<A> {
 
     /// What stands at a path, to be put at another.
     pub(crate) fn held_at(&self, path: &TreePath<A>) -> Option<Held<'_, A>>
-        ensures held { sub_map self.now.files path.now ≡ map_if (option_held result) }
-        ensures kept { IsKeptAt (option_held result) }
+        ensures held { sub_map self.now.files path.now ≡ map_if (shown_held_if result) }
+        ensures kept { IsKeptAt (shown_held_if result) }
         ensures home { Keeps IsAtHome (IfThere IsHeldAtHome) self.now result }
     {
         let Some(node) = &self.node else {
@@ -128,8 +128,8 @@ impl<A: Allocator + Copy> Root<A> {
         item: Item<A>,
     ) -> Result<Root<A>, AllocError>
         requires within { 0 < length path.now }
-        requires kept { IsKept (kept item) }
-        ensures files { IfOk result (Grafts path.now (kept item) self.now) }
+        requires kept { IsKept (shown_item item) }
+        ensures files { IfOk result (Grafts path.now (shown_item item) self.now) }
         ensures home { IfOk result (Keeps (Both IsItemAtHome IsAtHome) IsAtHome (item, self.now)) }
     {
         match &self.node {

@@ -3,7 +3,7 @@ ghost use Rattle.std.specs.Prelude.{◌≡◌, ◌≤◌, ◌++◌, length, IfSo
 ghost use Rattle.gx_tree.specs.Homes.{Keeps, AreAtHome, IsLentAtHome};
 ghost use Rattle.gx_tree.specs.Nodes.{IsLevel, kept_at, precedes};
 ghost use Rattle.gx_tree.specs.Searches.{Finds, IsEntryAt, IsPlaceOf};
-ghost use Rattle.gx_tree.specs.Views.{option_kept, seen, seen_all};
+ghost use Rattle.gx_tree.specs.Views.{shown_lent, shown_entry, shown_entries};
 
 use crate::directory::{Entry, Item};
 use gx_object::compare_marked;
@@ -14,8 +14,8 @@ pub(crate) fn find<'a, A: Allocator + Copy>(
     entries: &'a [Entry<A>],
     component: &[u8],
 ) -> Option<&'a Item<A>>
-    requires { IsLevel (seen_all entries.now) }
-    ensures kept { kept_at component.now (seen_all entries.now) ≡ option_kept result }
+    requires { IsLevel (shown_entries entries.now) }
+    ensures kept { kept_at component.now (shown_entries entries.now) ≡ shown_lent result }
     ensures home { Keeps AreAtHome IsLentAtHome entries.now result }
 {
     match find_marked(entries, component, b"") {
@@ -30,8 +30,8 @@ fn find_marked<'a, A: Allocator + Copy>(
     component: &[u8],
     mark: &[u8],
 ) -> Option<&'a Item<A>>
-    requires { IsLevel (seen_all entries.now) }
-    ensures kept { Finds component.now mark.now (seen_all entries.now) (option_kept result) }
+    requires { IsLevel (shown_entries entries.now) }
+    ensures kept { Finds component.now mark.now (shown_entries entries.now) (shown_lent result) }
     ensures home { Keeps AreAtHome IsLentAtHome entries.now result }
 {
     let place = place_of(entries, component, mark);
@@ -51,9 +51,9 @@ pub(crate) fn place_marked<A: Allocator + Copy>(
     component: &[u8],
     mark: &[u8],
 ) -> Option<usize>
-    requires { IsLevel (seen_all entries.now) }
+    requires { IsLevel (shown_entries entries.now) }
     ensures found { IfSome result (λ place. IsEntryAt component.now entries.now place) }
-    ensures missing { IsNone result → Finds component.now mark.now (seen_all entries.now) None }
+    ensures missing { IsNone result → Finds component.now mark.now (shown_entries entries.now) None }
 {
     let place = place_of(entries, component, mark);
     if place == 0 {
@@ -67,9 +67,9 @@ pub(crate) fn place_marked<A: Allocator + Copy>(
 
 /// The place of what stands at a component, as a file or as a directory.
 pub(crate) fn place_at<A: Allocator + Copy>(entries: &[Entry<A>], component: &[u8]) -> Option<usize>
-    requires { IsLevel (seen_all entries.now) }
+    requires { IsLevel (shown_entries entries.now) }
     ensures found { IfSome result (λ place. IsEntryAt component.now entries.now place) }
-    ensures missing { IsNone result → kept_at component.now (seen_all entries.now) ≡ None }
+    ensures missing { IsNone result → kept_at component.now (shown_entries entries.now) ≡ None }
 {
     match place_marked(entries, component, b"") {
         Some(place) => Some(place),
@@ -83,7 +83,7 @@ pub(crate) fn place_of<A: Allocator + Copy>(
     component: &[u8],
     mark: &[u8],
 ) -> usize
-    requires { IsLevel (seen_all entries.now) }
+    requires { IsLevel (shown_entries entries.now) }
     ensures within { result ≤ length entries.now }
     ensures place { IsPlaceOf (component.now ++ mark.now) entries.now result }
 {
@@ -93,7 +93,7 @@ pub(crate) fn place_of<A: Allocator + Copy>(
 impl<A: Allocator + Copy> Entry<A> {
     // Whether it comes after a component with what follows it in the order.
     fn is_after(&self, component: &[u8], mark: &[u8]) -> bool
-        ensures { result ≡ precedes (component.now ++ mark.now) (seen self.now) }
+        ensures { result ≡ precedes (component.now ++ mark.now) (shown_entry self.now) }
     {
         compare_marked(component, mark, self.component(), self.mark()).is_lt()
     }

@@ -7,7 +7,7 @@ ghost use Rattle.gx_tree.specs.Edits.{level_in};
 ghost use Rattle.gx_tree.specs.Homes.{HoldsIn, AreAtHome, IsItemAtHome};
 ghost use Rattle.gx_tree.specs.Named.{IsAtHome, is_named, own_name};
 ghost use Rattle.gx_tree.specs.Nodes.{IsLevel};
-ghost use Rattle.gx_tree.specs.Views.{IsNamed, kept, own_entry, seen, RememberAll, Remembers};
+ghost use Rattle.gx_tree.specs.Views.{IsNamed, shown_item, own_entry, shown_entry, RememberAll, Remembers};
 ghost use Rattle.std.specs.List.{AllByRecursion};
 ghost use Rattle.gx_tree.specs.Writes.{IsTreeName, StoresAll, kept_records, level_records};
 
@@ -133,7 +133,7 @@ fn encode_entries<A: Allocator + Copy>(
 impl<A: Allocator + Copy> Entry<A> {
     // The entry with this in place of its item.
     fn with(&self, item: Item<A>) -> Result<Entry<A>, AllocError>
-        ensures seen { IfOk result (λ entry. seen entry ≡ ((seen self.now).0, kept item)) }
+        ensures seen { IfOk result (λ e. shown_entry e ≡ ((shown_entry self.now).0, shown_item item)) }
         ensures item { IfOk result (λ entry. entry.item ≡ item) }
     {
         let component = self.component.shared()?;
@@ -176,9 +176,9 @@ impl<A: Allocator + Copy> Item<A> {
     ) -> Result<Item<A>, TreeFault>
         requires home { IsTrue trusts → HoldsIn N.name_of store.now IsItemAtHome self.now }
         ensures namer { store.new.0 ≡ store.old.0 }
-        ensures puts { StoresAll N.name_of kept_records (kept self.now) store.old store.new result }
+        ensures puts { StoresAll N.name_of kept_records (shown_item self.now) store.old store.new result }
         ensures front { take (length store.old.1) store.new.1 ≡ store.old.1 }
-        ensures kept { IfOk result (λ made. kept made ≡ kept self.now) }
+        ensures kept { IfOk result (λ made. shown_item made ≡ shown_item self.now) }
         ensures home { IfOk result (λ made. IsItemAtHome (N.name_of store.old.0) store.new.1 made) }
         ensures remembers { IfOk result Remembers }
     {

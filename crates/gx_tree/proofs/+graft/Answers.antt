@@ -5,7 +5,7 @@ use Rattle.gx_tree.specs.Homes.{AreAtHome, IsItemAtHome}
 use Rattle.gx_tree.specs.Named.{IsAtHome}
 use Rattle.gx_tree.specs.Nodes.{kept_map, with_kept}
 use Rattle.gx_tree.specs.Steps.{files_of, grafted}
-use Rattle.gx_tree.specs.Views.{kept, option_kept, seen_all}
+use Rattle.gx_tree.specs.Views.{shown_item, shown_lent, shown_entries}
 use Rattle.gx_tree.proofs.Below.{no_root_before}
 use Rattle.gx_tree.proofs.EditSteps.{grafted_step, kept_grafted_folder}
 use Rattle.gx_tree.proofs.Homes.{items_are_those, entries_at_home, files_same, made_at_home}
@@ -15,8 +15,8 @@ use Rattle.gx_tree.proofs.+graft.Goals.{edits::item_grafted-in-Some+in_ok-below-
 pub directory::Directory::grafted-returns : goal.directory::Directory::grafted-returns
 directory::Directory::grafted-returns g t c =
     let es = c.self.inside.entries.value.items in
-    let new = c.in_ok-entries.ensures.entries ∙ ap (λ e. with_kept e.0 e.1 (seen_all c.as_slice-2.result.now)) c.in_ok-new.ensures.seen in
-    let leaves = grafted_step c.args.path.now c.args.depth (seen_all es) (seen_all c.in_ok-entries.entries.items) (kept c.args.item) (option_kept c.find-old.result) c.requires.within c.requires.kept (and_parts _ _ c.component-component.ensures.path).0 (files_same c.self.view_is) c.self.invariant.0 c.component-component.ensures.component refl (ap seen_all (items_are_those c.as_slice.ensures.value c.deref.ensures)) (ap seen_all (items_are_those c.as_slice-2.ensures.value c.deref-2.ensures)) c.find-old.ensures.kept c.in_ok-item.ensures.kept new in
+    let new = c.in_ok-entries.ensures.entries ∙ ap (λ e. with_kept e.0 e.1 (shown_entries c.as_slice-2.result.now)) c.in_ok-new.ensures.seen in
+    let leaves = grafted_step c.args.path.now c.args.depth (shown_entries es) (shown_entries c.in_ok-entries.entries.items) (shown_item c.args.item) (shown_lent c.find-old.result) c.requires.within c.requires.kept (and_parts _ _ c.component-component.ensures.path).0 (files_same c.self.view_is) c.self.invariant.0 c.component-component.ensures.component refl (ap shown_entries (items_are_those c.as_slice.ensures.value c.deref.ensures)) (ap shown_entries (items_are_those c.as_slice-2.ensures.value c.deref-2.ensures)) c.find-old.ensures.kept c.in_ok-item.ensures.kept new in
     record {
       files = IfOk-weaker c.of.result _ _ (λ d e. files_same e ∙ leaves.is) c.of.ensures;
       home = IfOk-weaker c.of.result _ _ (λ d e name rs h.
@@ -28,20 +28,20 @@ directory::Directory::grafted-returns g t c =
 
 pub directory::Directory::grafted-of-requires-clause-level : goal.directory::Directory::grafted-of-requires-clause-level
 directory::Directory::grafted-of-requires-clause-level g t c =
-    let new = c.in_ok-entries.ensures.entries ∙ ap (λ e. with_kept e.0 e.1 (seen_all c.as_slice-2.result.now)) c.in_ok-new.ensures.seen in
-    let leaves = grafted_step c.args.path.now c.args.depth (seen_all c.self.inside.entries.value.items) (seen_all c.in_ok-entries.entries.items) (kept c.args.item) (option_kept c.find-old.result) c.requires.within c.requires.kept (and_parts _ _ c.component-component.ensures.path).0 (files_same c.self.view_is) c.self.invariant.0 c.component-component.ensures.component refl (ap seen_all (items_are_those c.as_slice.ensures.value c.deref.ensures)) (ap seen_all (items_are_those c.as_slice-2.ensures.value c.deref-2.ensures)) c.find-old.ensures.kept c.in_ok-item.ensures.kept new in
+    let new = c.in_ok-entries.ensures.entries ∙ ap (λ e. with_kept e.0 e.1 (shown_entries c.as_slice-2.result.now)) c.in_ok-new.ensures.seen in
+    let leaves = grafted_step c.args.path.now c.args.depth (shown_entries c.self.inside.entries.value.items) (shown_entries c.in_ok-entries.entries.items) (shown_item c.args.item) (shown_lent c.find-old.result) c.requires.within c.requires.kept (and_parts _ _ c.component-component.ensures.path).0 (files_same c.self.view_is) c.self.invariant.0 c.component-component.ensures.component refl (ap shown_entries (items_are_those c.as_slice.ensures.value c.deref.ensures)) (ap shown_entries (items_are_those c.as_slice-2.ensures.value c.deref-2.ensures)) c.find-old.ensures.kept c.in_ok-item.ensures.kept new in
     leaves.level
 
 pub edits::item_grafted-returns : goal.edits::item_grafted-returns
 edits::item_grafted-returns g t c =
     let q = drop (c.args.depth + 1) c.args.path.now in
     let n = no_root_before c.args.path.now (c.args.depth + 1) (omega (arith, c.requires.within)) in
-    let below : c.match-folder_in.below.files ≡ grafted q (kept_map (kept c.args.item)) (files_of (option_kept c.args.old)) = elim c.match-folder_in.branch [
-      | edits::item_grafted-in-Some+in_ok-below-in-Some w ↦ rw w.below-is (w.in_ok-below-in-Some.ensures.files ∙ ap (grafted q (kept_map (kept c.args.item))) (sym w.in-Some.ensures.files))
-      | edits::item_grafted-in-None+in_ok-new-in-None+in_ok-below-in-None w ↦ rw w.below-is (w.in_ok-below-in-None.ensures.files ∙ ap (grafted q (kept_map (kept c.args.item))) (files_same w.in_ok-new-in-None.ensures ∙ sym w.in-None.ensures.files))
+    let below : c.match-folder_in.below.files ≡ grafted q (kept_map (shown_item c.args.item)) (files_of (shown_lent c.args.old)) = elim c.match-folder_in.branch [
+      | edits::item_grafted-in-Some+in_ok-below-in-Some w ↦ rw w.below-is (w.in_ok-below-in-Some.ensures.files ∙ ap (grafted q (kept_map (shown_item c.args.item))) (sym w.in-Some.ensures.files))
+      | edits::item_grafted-in-None+in_ok-new-in-None+in_ok-below-in-None w ↦ rw w.below-is (w.in_ok-below-in-None.ensures.files ∙ ap (grafted q (kept_map (shown_item c.args.item))) (files_same w.in_ok-new-in-None.ensures ∙ sym w.in-None.ensures.files))
     ] in
     record {
-      kept = rw below (kept_grafted_folder q (kept c.args.item) (option_kept c.args.old) n);
+      kept = rw below (kept_grafted_folder q (shown_item c.args.item) (shown_lent c.args.old) n);
       home = λ name rs h. elim c.match-folder_in.branch [
         | edits::item_grafted-in-Some+in_ok-below-in-Some w ↦ rw w.below-is (w.in_ok-below-in-Some.ensures.home name rs (h.0, w.in-Some.ensures.home name rs h.1))
         | edits::item_grafted-in-None+in_ok-new-in-None+in_ok-below-in-None w ↦ rw w.below-is (w.in_ok-below-in-None.ensures.home name rs (h.0, subst (IsAtHome name rs) (sym w.in_ok-new-in-None.ensures) tt))

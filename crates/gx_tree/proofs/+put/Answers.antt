@@ -3,7 +3,7 @@ use Rattle.std.proofs.lemmas.Bool.{and_parts}
 use Rattle.gx_tree.specs.Homes.{AreAtHome, IsItemAtHome}
 use Rattle.gx_tree.specs.Nodes.{file, files, folder, kept_map}
 use Rattle.gx_tree.specs.Steps.{kept_grafted}
-use Rattle.gx_tree.specs.Views.{kept, seen_all}
+use Rattle.gx_tree.specs.Views.{shown_item, shown_entries}
 use Rattle.gx_tree.proofs.Below.{no_root_before}
 use Rattle.gx_tree.proofs.EditSteps.{kept_grafted_folder}
 use Rattle.gx_tree.proofs.Grafts.{grafted_some, kept_some}
@@ -16,7 +16,7 @@ pub directory::Directory::put-invariant_of-self-then-is_put : goal.directory::Di
 directory::Directory::put-invariant_of-self-then-is_put g t c = (
   c.in_ok-is_put.ensures.level c.if-is_put.true,
   tt,
-  put_reach c.self.inside.reach c.longer-self-inside.result c.args.bytes (drop c.args.depth c.args.path.now) (c.args.mode, c.args.name.bytes) (files (seen_all c.self.inside.entries.value.items)) (files (seen_all c.put_in.new.entries.value.items)) c.longer-self-inside.ensures (c.in_ok-is_put.ensures.files c.if-is_put.true) c.requires.bytes c.self.invariant.2,
+  put_reach c.self.inside.reach c.longer-self-inside.result c.args.bytes (drop c.args.depth c.args.path.now) (c.args.mode, c.args.name.bytes) (files (shown_entries c.self.inside.entries.value.items)) (files (shown_entries c.put_in.new.entries.value.items)) c.longer-self-inside.ensures (c.in_ok-is_put.ensures.files c.if-is_put.true) c.requires.bytes c.self.invariant.2,
 )
 
 pub directory::Directory::put-returns-then-is_put-clause-filled : goal.directory::Directory::put-returns-then-is_put-clause-filled
@@ -33,7 +33,7 @@ directory::Item::put-returns-in-Folder-2-clause-kept g t c = λ is.
     let q = drop (c.args.depth + 1) c.args.path.now in
     let f = file (c.args.mode, c.args.name.bytes) in
     let n = no_root_before c.args.path.now (c.args.depth + 1) (omega (arith, c.requires.within)) in
-    ap folder (c.put.ensures.files is) ∙ kept_grafted_folder q f (Some (folder c.in-Folder.field-0.files)) n ∙ ap (λ i. kept_grafted q f (Some (kept i))) (sym c.in-Folder.is)
+    ap folder (c.put.ensures.files is) ∙ kept_grafted_folder q f (Some (folder c.in-Folder.field-0.files)) n ∙ ap (λ i. kept_grafted q f (Some (shown_item i))) (sym c.in-Folder.is)
 
 pub directory::Item::put-returns-in-Folder-2-clause-home : goal.directory::Item::put-returns-in-Folder-2-clause-home
 directory::Item::put-returns-in-Folder-2-clause-home g t c = λ name rs h. c.put.ensures.home name rs (subst (IsItemAtHome name rs) c.in-Folder.is h)

@@ -3,7 +3,7 @@ use Rattle.std.proofs.lemmas.Bool.{and_parts, true≢false}
 use Rattle.gx_tree.specs.Homes.{AreAtHome, IsItemAtHome}
 use Rattle.gx_tree.specs.Nodes.{files}
 use Rattle.gx_tree.specs.Steps.{kept_removed}
-use Rattle.gx_tree.specs.Views.{kept, seen_all}
+use Rattle.gx_tree.specs.Views.{shown_item, shown_entries}
 use Rattle.gx_tree.proofs.Below.{no_root_before}
 use Rattle.gx_tree.proofs.EditSteps.{kept_removed_folder}
 use Rattle.gx_tree.proofs.Homes.{all_at, entries_at_home, items_are_those, made_at_home}
@@ -15,7 +15,7 @@ pub directory::Directory::take-invariant_of-self : goal.directory::Directory::ta
 directory::Directory::take-invariant_of-self g t c = (
   c.take_in-is_taken.ensures.level c.if-is_taken.true,
   tt,
-  removed_reach c.self.inside.reach (drop c.args.depth c.args.path.now) (files (seen_all c.self.inside.entries.value.items)) (files (seen_all c.take_in-is_taken.new.entries.value.items)) (c.take_in-is_taken.ensures.files c.if-is_taken.true) c.self.invariant.2,
+  removed_reach c.self.inside.reach (drop c.args.depth c.args.path.now) (files (shown_entries c.self.inside.entries.value.items)) (files (shown_entries c.take_in-is_taken.new.entries.value.items)) (c.take_in-is_taken.ensures.files c.if-is_taken.true) c.self.invariant.2,
 )
 
 pub directory::Directory::take-returns-then-is_taken-clause-home : goal.directory::Directory::take-returns-then-is_taken-clause-home
@@ -30,7 +30,7 @@ directory::Item::take-returns-else-is_empty-clause-part g t c = λ is.
     let q = drop (c.args.depth + 1) c.args.path.now in
     let n = no_root_before c.args.path.now (c.args.depth + 1) (omega (arith, c.requires)) in
     let some : c.take.new.self.files ≢ [] = λ z. true≢false (sym (c.is_empty.ensures.1 z) ∙ c.if-is_empty.false) in
-    kept_removed_folder q c.in-Folder.below.files c.take.new.self.files n (c.take.ensures.files c.if-not-take.false) some ∙ ap (λ i. kept_removed q (Some (kept i))) (sym c.in-Folder.is)
+    kept_removed_folder q c.in-Folder.below.files c.take.new.self.files n (c.take.ensures.files c.if-not-take.false) some ∙ ap (λ i. kept_removed q (Some (shown_item i))) (sym c.in-Folder.is)
 
 pub directory::Item::take-returns-else-is_empty-clause-home : goal.directory::Item::take-returns-else-is_empty-clause-home
 directory::Item::take-returns-else-is_empty-clause-home g t c = λ name rs h. c.take.ensures.home name rs (subst (IsItemAtHome name rs) c.in-Folder.is h)

@@ -10,7 +10,7 @@ use Rattle.gx_tree.specs.Homes.{AreAtHome, IsItemAtHome}
 use Rattle.gx_tree.specs.Named.{NamedTree, IsHome, own_name}
 use Rattle.gx_tree.specs.Nodes.{IsLevel, components, files}
 use Rattle.gx_tree.specs.StoreFaults.{tree_fault}
-use Rattle.gx_tree.specs.Views.{IsNamed, kept, own_entry, seen, seen_all, RememberAll, Remembers}
+use Rattle.gx_tree.specs.Views.{IsNamed, shown_item, own_entry, shown_entry, shown_entries, RememberAll, Remembers}
 use Rattle.gx_tree.specs.Writes.{PutsAll, kept_records, level_records}
 use Rattle.std.specs.declared.rc.Rc.{Rc}
 use Rattle.gx_tree.specs.declared.directory.Entry.{Entry}
@@ -110,7 +110,7 @@ writing::written_entries-returns-then-shares-clause-puts g t c =
     let es = c.args.entries.now.value.items in
     let named = subst (AllByRecursion (λ e. IsNamed c.args.trusts e.item)) (items_are_those c.as_slice.ensures.value c.deref.ensures) (c.are_named-shares.ensures c.if-shares.true) in
     let home = named_home name c.args.store.now.1 c.args.trusts es named c.requires.home in
-    put_all_again c.args.store.now.1 (level_records name (seen_all es)) (below_held name c.args.store.now.1 es home (named_remember c.args.trusts es named))
+    put_all_again c.args.store.now.1 (level_records name (shown_entries es)) (below_held name c.args.store.now.1 es home (named_remember c.args.trusts es named))
 
 pub writing::written_entries-returns-then-shares-clause-home : goal.writing::written_entries-returns-then-shares-clause-home
 writing::written_entries-returns-then-shares-clause-home g t c =
@@ -158,8 +158,8 @@ writing::written_entries-returns-in_err-item-clause-puts g t c =
     let those = items_are_those c.as_slice-entry-items.ensures.value c.deref-3.ensures in
     let new = c.written.new.store.1 in
     let fault = c.in_err-item.field-0.0 in
-    let p = subst (λ n. PutsAll {Y = Item g.row.A.Denot} (kept_records (g.N.Namer.name_of n) (kept r.item)) mid new (Err fault)) c.loop-entry.invariant.0 c.in_err-item.ensures.puts in
-    passed_on (level_records name (seen_all c.args.entries.now.value.items)) c.args.store.now.1 new c.from_residual-in_err-item.result fault c.from_residual-in_err-item.ensures.0 c.from_residual-in_err-item.ensures.1
+    let p = subst (λ n. PutsAll {Y = Item g.row.A.Denot} (kept_records (g.N.Namer.name_of n) (shown_item r.item)) mid new (Err fault)) c.loop-entry.invariant.0 c.in_err-item.ensures.puts in
+    passed_on (level_records name (shown_entries c.args.entries.now.value.items)) c.args.store.now.1 new c.from_residual-in_err-item.result fault c.from_residual-in_err-item.ensures.0 c.from_residual-in_err-item.ensures.1
     (writing_stops name (Item g.row.A.Denot) (Rc (Vec (Entry g.row.A.Denot) g.row.A.Denot) g.row.A.Denot) c.args.entries.now.value.items xs c.loop-entry.entry-index r c.args.store.now.1 mid new new fault c.loop-entry-test.true c.entry-item.is those p c.loop-entry.invariant.1)
 
 pub writing::written_entries-loop-entry-preserved : goal.writing::written_entries-loop-entry-preserved
@@ -169,13 +169,13 @@ writing::written_entries-loop-entry-preserved g t c =
     let r = c.entry-item.result in
     let mid = c.loop-entry.store.1 in
     let new = c.written.new.store.1 in
-    let k = kept r.item in
+    let k = shown_item r.item in
     let named = c.loop-entry.named.items in
     let puts = subst (λ n. put_all mid (kept_records (g.N.Namer.name_of n) k) ≡ Some new) c.loop-entry.invariant.0 c.in_ok-item.ensures.puts in
     let home = subst (λ n. IsItemAtHome (g.N.Namer.name_of n) new c.in_ok-item.item) c.loop-entry.invariant.0 c.in_ok-item.ensures.home in (
       c.written.ensures.namer ∙ c.loop-entry.invariant.0,
       writing_more name xs c.loop-entry.entry-index r c.args.store.now.1 mid new c.loop-entry-test.true c.entry-item.is puts c.written.ensures.front c.loop-entry.invariant.1,
-      alike_more xs c.loop-entry.entry-index r c.in_ok-with.field-0 named c.push.new.self.items c.loop-entry-test.true c.entry-item.is (c.in_ok-with.ensures.seen ∙ ap (λ j. ((seen r).0, j)) c.in_ok-item.ensures.kept) c.in-Ok.ensures.items c.loop-entry.invariant.2,
+      alike_more xs c.loop-entry.entry-index r c.in_ok-with.field-0 named c.push.new.self.items c.loop-entry-test.true c.entry-item.is (c.in_ok-with.ensures.seen ∙ ap (λ j. ((shown_entry r).0, j)) c.in_ok-item.ensures.kept) c.in-Ok.ensures.items c.loop-entry.invariant.2,
       subst (AreAtHome name new) (sym c.in-Ok.ensures.items) (all_joined (λ e. IsItemAtHome name new e.item) named _ (entries_longer name mid new (λ n s. still_held (kept_records name k) mid new n s puts) named c.loop-entry.invariant.3) (subst (IsItemAtHome name new) (sym c.in_ok-with.ensures.item) home, tt)),
       subst RememberAll (sym c.in-Ok.ensures.items) (all_joined (λ e. Remembers e.item) named _ c.loop-entry.invariant.4 (subst Remembers (sym c.in_ok-with.ensures.item) c.in_ok-item.ensures.remembers, tt)),
     )

@@ -1,7 +1,7 @@
 use Rattle.std.proofs.Common.{◌≡◌, ◌+◌, ◌*◌, ◌++◌, drop}
 use Rattle.gx_tree.specs.Homes.{AreAtHome}
 use Rattle.gx_tree.specs.Nodes.{components, files}
-use Rattle.gx_tree.specs.Views.{seen_all, RememberAll}
+use Rattle.gx_tree.specs.Views.{shown_entries, RememberAll}
 use Rattle.gx_tree.proofs.Measures.{item_measure}
 use Rattle.gx_tree.proofs.WrittenRecords.{IsWriting}
 use Rattle.gx_tree.proofs.+write.Given as goal
@@ -10,7 +10,7 @@ abbrev pub invariant-writing::written_entries-loop-entry : goal.invariant-writin
 invariant-writing::written_entries-loop-entry g l =
     (l.store.0 ≡ l.initial.store.0)
     × IsWriting (g.N.Namer.name_of l.initial.store.0) l.entry-items l.entry-index l.initial.store.1 l.store.1
-    × (seen_all l.named.items ++ seen_all (drop l.entry-index l.entry-items) ≡ seen_all l.entry-items)
+    × (shown_entries l.named.items ++ shown_entries (drop l.entry-index l.entry-items) ≡ shown_entries l.entry-items)
     × AreAtHome (g.N.Namer.name_of l.initial.store.0) l.store.1 l.named.items
     × RememberAll l.named.items
 
@@ -21,7 +21,7 @@ abbrev pub decreases-directory::Item::written : goal.decreases-directory::Item::
 decreases-directory::Item::written g l = item_measure l.self.now
 
 abbrev pub decreases-writing::written_entries : goal.decreases-writing::written_entries
-decreases-writing::written_entries g l = 4 * components (files (seen_all l.entries.now.value.items)) + 1
+decreases-writing::written_entries g l = 4 * components (files (shown_entries l.entries.now.value.items)) + 1
 
 abbrev pub decreases-writing::written_node : goal.decreases-writing::written_node
 decreases-writing::written_node g l = 4 * components l.node.now.files + 3

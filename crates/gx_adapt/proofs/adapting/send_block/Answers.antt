@@ -1,5 +1,5 @@
 use Rattle.std.proofs.Common.{subst, Err}
-use Rattle.gx_text.specs.Devices.{Took}
+use Rattle.gx_model.specs.Texts.Sinks.{Took}
 use Rattle.gx_adapt.specs.Adapting.{Puts}
 use Rattle.gx_adapt.proofs.SentTexts.{announcement, filled, block_first, block_second, block_whole}
 use Rattle.gx_adapt.proofs.adapting.send_block.Goals as goal

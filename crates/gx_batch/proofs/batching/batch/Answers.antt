@@ -2,11 +2,11 @@ use Rattle.std.proofs.Common.{Ok, Err, sym, subst}
 use Rattle.std.specs.Option.{option_map}
 use Rattle.std.proofs.lemmas.Result.{err_from_is_err_and}
 use Rattle.gx_model.specs.Records.HistoryOf.{history_of}
-use Rattle.gx_text.specs.Devices.{Took}
+use Rattle.gx_model.specs.Texts.Sinks.{Took}
 use Rattle.gx_stream.specs.Heard.{heard}
 use Rattle.gx_batch.specs.Answers.{batch_answer}
 use Rattle.gx_batch.specs.Batches.{Sent}
-use Rattle.gx_batch.specs.Reading.{Reads, seen}
+use Rattle.gx_batch.specs.Reading.{Reads, shown_reader}
 use Rattle.gx_batch.proofs.Answering.{Goes, goes_on, not_begun, of_source, starts, unanswered}
 use Rattle.gx_batch.proofs.batching.batch.Goals as goal
 
@@ -32,8 +32,8 @@ pub loop-buffer-preserved : goal.loop-buffer-preserved
 loop-buffer-preserved g c =
     let answer = batch_answer (g.N.Namer.name_of c.args.repo.now.0) c.args.check (history_of c.args.repo.now.1) in
     let start = option_map heard (g.R.Source.coming c.args.source) in
-    let here = seen c.loop-buffer.lines (g.R.Source.coming c.loop-buffer.lines.source) in
-    let next = seen c.next.new.self (g.R.Source.coming c.next.new.self.source) in
+    let here = shown_reader c.loop-buffer.lines (g.R.Source.coming c.loop-buffer.lines.source) in
+    let next = shown_reader c.next.new.self (g.R.Source.coming c.next.new.self.source) in
     let line = c.next.new.line.items in
     let was = g.W.Sink.taken c.args.sink.now in
     let mid = g.W.Sink.taken c.loop-buffer.sink in
@@ -50,8 +50,8 @@ returns-in_err-answer g c =
     let answer = batch_answer (g.N.Namer.name_of c.args.repo.now.0) c.args.check (history_of c.args.repo.now.1) in
     let coming = g.R.Source.coming c.args.source in
     let start = option_map heard coming in
-    let here = seen c.loop-buffer.lines (g.R.Source.coming c.loop-buffer.lines.source) in
-    let next = seen c.next.new.self (g.R.Source.coming c.next.new.self.source) in
+    let here = shown_reader c.loop-buffer.lines (g.R.Source.coming c.loop-buffer.lines.source) in
+    let next = shown_reader c.next.new.self (g.R.Source.coming c.next.new.self.source) in
     let line = c.next.new.line.items in
     let was = g.W.Sink.taken c.args.sink.now in
     let mid = g.W.Sink.taken c.loop-buffer.sink in

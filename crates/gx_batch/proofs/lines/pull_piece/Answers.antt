@@ -1,5 +1,5 @@
 use Rattle.std.proofs.Common.{◌≡◌, ◌-◌, [], take, true, Some, sym, subst, arith}
-use Rattle.gx_batch.specs.Reading.{Passes, coming_seen}
+use Rattle.gx_batch.specs.Reading.{Passes, shown_coming}
 use Rattle.gx_batch.specs.declared.lines.State.TheVariants.{Open}
 use Rattle.gx_batch.proofs.Arrivals.{pulled_failed, pulled_more, pulled_none, pulled_over}
 use Rattle.gx_batch.proofs.lines.pull_piece.Goals as goal
@@ -14,11 +14,11 @@ pub returns-then-taken-count-clause-keeps : goal.returns-then-taken-count-clause
 returns-then-taken-count-clause-keeps g c =
     let room = c.args.room.now in
     let all : c.min-taken.result ≡ room = omega (arith, c.min-taken.ensures, c.if-taken-count.true) in
-    subst (λ k. Passes [] (coming_seen Open room (g.R.Source.coming c.args.source.now) []) (Some (record { bytes = take k c.pull.new.buffer; fails = true }))) (sym all) (pulled_over _ _ _ _ _ (omega (arith, all, c.if-taken-count.true)) c.in-Ok.ensures.bytes)
+    subst (λ k. Passes [] (shown_coming Open room (g.R.Source.coming c.args.source.now) []) (Some (record { bytes = take k c.pull.new.buffer; fails = true }))) (sym all) (pulled_over _ _ _ _ _ (omega (arith, all, c.if-taken-count.true)) c.in-Ok.ensures.bytes)
 
 pub returns-else-taken-count-clause-keeps : goal.returns-else-taken-count-clause-keeps
 returns-else-taken-count-clause-keeps g c =
     let room = c.args.room.now in
     let n = c.in-Ok.count in
     let all : c.min-taken.result ≡ n = omega (arith, c.min-taken.ensures, c.if-taken-count.false) in
-    subst (λ k. Passes [] (coming_seen Open room (g.R.Source.coming c.args.source.now) []) (coming_seen Open (room - k) (g.R.Source.coming c.pull.new.self) (take k c.pull.new.buffer))) (sym all) (pulled_more room (g.R.Source.coming c.args.source.now) (g.R.Source.coming c.pull.new.self) c.pull.new.buffer n (omega (arith, c.min-taken.ensures, c.if-taken-count.false)) c.in-Ok.ensures.bytes)
+    subst (λ k. Passes [] (shown_coming Open room (g.R.Source.coming c.args.source.now) []) (shown_coming Open (room - k) (g.R.Source.coming c.pull.new.self) (take k c.pull.new.buffer))) (sym all) (pulled_more room (g.R.Source.coming c.args.source.now) (g.R.Source.coming c.pull.new.self) c.pull.new.buffer n (omega (arith, c.min-taken.ensures, c.if-taken-count.false)) c.in-Ok.ensures.bytes)

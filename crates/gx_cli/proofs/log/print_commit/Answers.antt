@@ -7,10 +7,12 @@ use Rattle.gx_model.specs.Histories.Values.{commit_value, parents_of}
 use Rattle.gx_model.specs.Records.{name_of, names_of}
 use Rattle.gx_rev.specs.Objects.{commit_at}
 use Rattle.gx_cli.specs.Stored.{log_line}
-use Rattle.gx_text.specs.Devices.{Took}
+use Rattle.gx_model.specs.Texts.Sinks.{Took}
 use Rattle.gx_cli.specs.Sending.{PrintsText}
 use Rattle.gx_cli.proofs.ListedCommits.{commit_called}
-use Rattle.gx_cli.proofs.SentLines.{IsSent, cut_short, last_sent, more_sent, none_sent}
+use Rattle.gx_model.proofs.SentTexts.{IsLeft, all_left, less_left}
+use Rattle.gx_cli.proofs.Pieces.{sent_prints}
+use Rattle.gx_cli.proofs.SentLines.{cut_short, last_sent}
 use Rattle.gx_cli.proofs.log.print_commit.Goals.{then-parents+in_ok-print_parents, else-parents}
 use Rattle.gx_cli.proofs.log.print_commit.Goals as goal
 
@@ -38,8 +40,8 @@ returns-in_err-put_text g c =
     let names = flat_map (λ called. 32 ∷ hex called) (names_of name (parents_of made)) in
     let rest = behind c.args.parents names in
     let first = c.as_slice.ensures ∙ c.hex.ensures.digits ∙ ap hex (commit_called name (g.met.N.Namer.is_namer c.args.repo.now.0) r c.sound.ensures c.args.commit.now.bytes c.requires) in
-    let start = subst (IsSent was was whole) (grouped (hex (name_of name (commit_value made))) c.args.parents names ∙ sym (ap (λ x. x ++ rest) first)) (none_sent was whole) in
-    rw (p.1, p.2) (cut_short was was (g.W.Sink.taken c.put_text.new.sink) whole c.as_slice.result.now rest c.in_err-put_text.field-0.0 start c.in_err-put_text.ensures)
+    let start = subst (IsLeft whole was was) (grouped (hex (name_of name (commit_value made))) c.args.parents names ∙ sym (ap (λ x. x ++ rest) first)) (all_left whole was) in
+    rw (p.1, p.2) (cut_short was was (g.W.Sink.taken c.put_text.new.sink) whole c.as_slice.result.now rest c.in_err-put_text.field-0.0 start (sent_prints c.as_slice.result.now was (g.W.Sink.taken c.put_text.new.sink) (Err c.in_err-put_text.field-0.0) c.in_err-put_text.ensures))
 
 pub returns-in_err-print_parents : goal.returns-in_err-print_parents
 returns-in_err-print_parents g c =
@@ -53,8 +55,8 @@ returns-in_err-print_parents g c =
     let names = flat_map (λ called. 32 ∷ hex called) (names_of name (parents_of made)) in
     let rest = behind c.args.parents names in
     let first = c.as_slice.ensures ∙ c.hex.ensures.digits ∙ ap hex (commit_called name (g.met.N.Namer.is_namer c.args.repo.now.0) r c.sound.ensures c.args.commit.now.bytes c.requires) in
-    let start = subst (IsSent was was whole) (grouped (hex (name_of name (commit_value made))) c.args.parents names ∙ sym (ap (λ x. x ++ rest) first)) (none_sent was whole) in
-    let sent = subst (IsSent was mid whole) (asked c.args.parents names c.if-parents.true) (more_sent was was mid whole c.as_slice.result.now rest start c.in_ok-put_text.ensures) in
+    let start = subst (IsLeft whole was was) (grouped (hex (name_of name (commit_value made))) c.args.parents names ∙ sym (ap (λ x. x ++ rest) first)) (all_left whole was) in
+    let sent = subst (IsLeft whole was mid) (asked c.args.parents names c.if-parents.true) (less_left whole was was mid c.as_slice.result.now rest start c.in_ok-put_text.ensures) in
     rw (p.1, p.2) (cut_short was mid (g.W.Sink.taken c.print_parents.new.sink) whole names (10 ∷ []) c.in_err-print_parents.field-0.0 sent (subst (λ ns. PrintsText (flat_map (λ called. 32 ∷ hex called) ns) mid (g.W.Sink.taken c.print_parents.new.sink) (Err c.in_err-print_parents.field-0.0)) (ap (λ (v : CommitParts). v.parents) c.view_of.ensures) c.in_err-print_parents.ensures))
 
 pub returns : goal.returns
@@ -69,14 +71,14 @@ returns g c =
     let names = flat_map (λ called. 32 ∷ hex called) (names_of name (parents_of made)) in
     let rest = behind c.args.parents names in
     let first = c.as_slice.ensures ∙ c.hex.ensures.digits ∙ ap hex (commit_called name (g.met.N.Namer.is_namer c.args.repo.now.0) r c.sound.ensures c.args.commit.now.bytes c.requires) in
-    let start = subst (IsSent was was whole) (grouped (hex (name_of name (commit_value made))) c.args.parents names ∙ sym (ap (λ x. x ++ rest) first)) (none_sent was whole) in
-    let sent = more_sent was was mid whole c.as_slice.result.now rest start c.in_ok-put_text.ensures in
+    let start = subst (IsLeft whole was was) (grouped (hex (name_of name (commit_value made))) c.args.parents names ∙ sym (ap (λ x. x ++ rest) first)) (all_left whole was) in
+    let sent = less_left whole was was mid c.as_slice.result.now rest start c.in_ok-put_text.ensures in
     elim c.if-parents.branch [
       | then-parents+in_ok-print_parents w ↦
-          let asked_for = subst (IsSent was mid whole) (asked c.args.parents names w.if-parents.true) sent in
-          let later = more_sent was mid (g.W.Sink.taken w.print_parents.new.sink) whole names (10 ∷ []) asked_for (subst (λ ns. Took mid (g.W.Sink.taken w.print_parents.new.sink) (flat_map (λ called. 32 ∷ hex called) ns)) (ap (λ (v : CommitParts). v.parents) w.view_of.ensures) w.in_ok-print_parents.ensures) in
-          last_sent was (g.W.Sink.taken c.if-parents.sink) now whole (10 ∷ []) c.put_text-2.result (subst (λ sink. IsSent was (g.W.Sink.taken sink) whole (10 ∷ [])) (sym w.sink-is) later) c.put_text-2.ensures
+          let asked_for = subst (IsLeft whole was mid) (asked c.args.parents names w.if-parents.true) sent in
+          let later = less_left whole was mid (g.W.Sink.taken w.print_parents.new.sink) names (10 ∷ []) asked_for (subst (λ ns. Took mid (g.W.Sink.taken w.print_parents.new.sink) (flat_map (λ called. 32 ∷ hex called) ns)) (ap (λ (v : CommitParts). v.parents) w.view_of.ensures) w.in_ok-print_parents.ensures) in
+          last_sent was (g.W.Sink.taken c.if-parents.sink) now whole (10 ∷ []) c.put_text-2.result (subst (λ sink. IsLeft whole was (g.W.Sink.taken sink) (10 ∷ [])) (sym w.sink-is) later) (sent_prints (10 ∷ []) (g.W.Sink.taken c.if-parents.sink) now c.put_text-2.result c.put_text-2.ensures)
       | else-parents w ↦
-          let later = subst (IsSent was mid whole) (not_asked c.args.parents names w.if-parents.false) sent in
-          last_sent was (g.W.Sink.taken c.if-parents.sink) now whole (10 ∷ []) c.put_text-2.result (subst (λ sink. IsSent was (g.W.Sink.taken sink) whole (10 ∷ [])) (sym w.sink-is) later) c.put_text-2.ensures
+          let later = subst (IsLeft whole was mid) (not_asked c.args.parents names w.if-parents.false) sent in
+          last_sent was (g.W.Sink.taken c.if-parents.sink) now whole (10 ∷ []) c.put_text-2.result (subst (λ sink. IsLeft whole was (g.W.Sink.taken sink) (10 ∷ [])) (sym w.sink-is) later) (sent_prints (10 ∷ []) (g.W.Sink.taken c.if-parents.sink) now c.put_text-2.result c.put_text-2.ensures)
     ]

@@ -3,7 +3,8 @@ use Rattle.std.specs.List.{flat_map}
 use Rattle.std.proofs.lemmas.Result.{err_from_is_err_and}
 use Rattle.gx_rev.specs.Objects.{commit_at}
 use Rattle.gx_cli.specs.Stored.{log_line}
-use Rattle.gx_cli.proofs.SentLines.{IsSent, cut_short, lines_at, more_sent}
+use Rattle.gx_model.proofs.SentTexts.{IsLeft, less_left}
+use Rattle.gx_cli.proofs.SentLines.{cut_short, lines_at}
 use Rattle.gx_cli.proofs.log.print_commits.Goals as goal
 
 pub returns-in_err-print_commit : goal.returns-in_err-print_commit
@@ -16,7 +17,7 @@ returns-in_err-print_commit g c =
     let was = g.W.Sink.taken c.args.sink.now in
     let mid = g.W.Sink.taken c.loop-name.sink in
     let whole = flat_map line (map at names) in
-    let sent = subst (IsSent was mid whole) (lines_at at line names i (record { bytes = [] }) c.loop-name-test.true) c.loop-name.invariant in
+    let sent = subst (IsLeft whole was mid) (lines_at at line names i (record { bytes = [] }) c.loop-name-test.true) c.loop-name.invariant in
     rw (p.1, p.2) (cut_short was mid (g.W.Sink.taken c.print_commit.new.sink) whole _ (flat_map line (map at (drop (i + 1) names))) c.in_err-print_commit.field-0.0 sent c.in_err-print_commit.ensures)
 
 pub loop-name-preserved : goal.loop-name-preserved
@@ -28,5 +29,5 @@ loop-name-preserved g c =
     let was = g.W.Sink.taken c.args.sink.now in
     let mid = g.W.Sink.taken c.loop-name.sink in
     let whole = flat_map line (map at names) in
-    let sent = subst (IsSent was mid whole) (lines_at at line names i (record { bytes = [] }) c.loop-name-test.true) c.loop-name.invariant in
-    more_sent was mid (g.W.Sink.taken c.print_commit.new.sink) whole _ (flat_map line (map at (drop (i + 1) names))) sent c.in_ok-print_commit.ensures
+    let sent = subst (IsLeft whole was mid) (lines_at at line names i (record { bytes = [] }) c.loop-name-test.true) c.loop-name.invariant in
+    less_left whole was mid (g.W.Sink.taken c.print_commit.new.sink) _ (flat_map line (map at (drop (i + 1) names))) sent c.in_ok-print_commit.ensures

@@ -1,9 +1,11 @@
-use Rattle.std.proofs.Common.{Err, subst}
+use Rattle.std.proofs.Common.{Err, refl, subst, Ok}
 use Rattle.std.specs.List.{flat_map}
 use Rattle.std.proofs.lemmas.Result.{err_from_is_err_and}
 use Rattle.gx_model.specs.Stores.StoreText.{stored_ref}
 use Rattle.gx_cli.specs.Stored.{refs_text}
-use Rattle.gx_cli.proofs.Pieces.{IsLeft, left_fails, left_next, put_printed}
+use Rattle.gx_model.proofs.SentTexts.{IsLeft}
+use Rattle.gx_cli.proofs.SentLines.{given_text}
+use Rattle.gx_cli.proofs.Pieces.{piece_cut, piece_sent}
 use Rattle.gx_cli.proofs.refs.print_refs.Goals as goal
 
 pub loop-name-preserved : goal.loop-name-preserved
@@ -13,7 +15,7 @@ loop-name-preserved g c =
     let mid = g.W.Sink.taken c.loop-name.sink in
     let now = g.W.Sink.taken c.print_ref.new.sink in
     let left = subst (λ refs. IsLeft whole was mid (flat_map stored_ref refs)) c.in-Some.ensures.steps c.loop-name.invariant.2 in
-    (tt, tt, left_next whole was mid now (stored_ref (c.in-Some.name.now, c.in-Some.object.bytes)) (flat_map stored_ref c.next.new.self) c.print_ref.result c.in_ok-print_ref.field-0 c.in_ok-print_ref.was left c.print_ref.ensures)
+    (tt, tt, piece_sent whole was mid now (stored_ref (c.in-Some.name.now, c.in-Some.object.bytes)) (flat_map stored_ref c.next.new.self) c.print_ref.result c.in_ok-print_ref.field-0 c.in_ok-print_ref.was left c.print_ref.ensures)
 
 pub returns-in_err-print_ref : goal.returns-in_err-print_ref
 returns-in_err-print_ref g c =
@@ -23,4 +25,4 @@ returns-in_err-print_ref g c =
     let mid = g.W.Sink.taken c.loop-name.sink in
     let now = g.W.Sink.taken c.print_ref.new.sink in
     let left = subst (λ refs. IsLeft whole was mid (flat_map stored_ref refs)) c.in-Some.ensures.steps c.loop-name.invariant.2 in
-    rw (p.1, p.2) (put_printed whole was now (Err c.in_err-print_ref.field-0.0) (left_fails whole was mid now (stored_ref (c.in-Some.name.now, c.in-Some.object.bytes)) (flat_map stored_ref c.next.new.self) c.print_ref.result c.in_err-print_ref.field-0.0 c.in_err-print_ref.was left c.print_ref.ensures))
+    rw (p.1, p.2) (given_text (Ok whole) whole was now (Err c.in_err-print_ref.field-0.0) refl (piece_cut whole was mid now (stored_ref (c.in-Some.name.now, c.in-Some.object.bytes)) (flat_map stored_ref c.next.new.self) c.print_ref.result c.in_err-print_ref.field-0.0 c.in_err-print_ref.was left c.print_ref.ensures))

@@ -6,8 +6,9 @@ use Rattle.gx_model.specs.declared.store_versions.Version.TheVariants.{Two}
 use Rattle.gx_model.specs.Histories.{Record}
 use Rattle.gx_model.specs.Objects.{line}
 use Rattle.gx_model.specs.Stores.StoreText.{stored_record}
-use Rattle.gx_text.specs.Devices.{FailedWithin}
-use Rattle.gx_file.proofs.SentTexts.{all_from, all_left, from_place, is_within, left_fails, less_left, next_left}
+use Rattle.gx_model.specs.Texts.Sinks.{FailedWithin}
+use Rattle.gx_model.proofs.SentTexts.{all_left, left_fails, less_left}
+use Rattle.gx_file.proofs.SentTexts.{all_from, from_place, is_within, next_left}
 use Rattle.gx_file.proofs.sending.send_records.Goals as goal
 
 pub returns-in_err-send_count-clause-text : goal.returns-in_err-send_count-clause-text

@@ -1,6 +1,6 @@
 use Rattle.std.proofs.Common.{◌≡◌, ◌++◌, map}
 use Rattle.std.specs.List.{filter}
-use Rattle.gx_repo.specs.Refs.{asked}
+use Rattle.gx_repo.specs.Refs.{shown_update}
 use Rattle.gx_import.specs.RefChanges.{is_new, tag_changes}
 use Rattle.gx_import.specs.Rows.{row_of, rows_of}
 use Rattle.gx_import.proofs.new_names.append_tags.Given as goal
@@ -8,5 +8,5 @@ use Rattle.gx_import.proofs.new_names.append_tags.Given as goal
 abbrev pub invariant-loop-name : goal.invariant-loop-name
 invariant-loop-name g l =
     (l.ahead ≡ rows_of l.published)
-    × (map asked l.names.items ++ filter (is_new (rows_of l.published)) (tag_changes (map row_of l.name-iterator))
-    ≡ map asked l.fn.names.items ++ filter (is_new (rows_of l.published)) (tag_changes (rows_of l.tags)))
+    × (map shown_update l.names.items ++ filter (is_new (rows_of l.published)) (tag_changes (map row_of l.name-iterator))
+    ≡ map shown_update l.fn.names.items ++ filter (is_new (rows_of l.published)) (tag_changes (rows_of l.tags)))

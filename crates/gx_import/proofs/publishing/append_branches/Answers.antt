@@ -3,7 +3,7 @@ use Rattle.std.specs.List.{filter}
 use Rattle.std.specs.Map.{lookup}
 use Rattle.gx_model.specs.Texts.{Bytes, same_bytes}
 use Rattle.gx_model.specs.Histories.{History}
-use Rattle.gx_repo.specs.Refs.{asked}
+use Rattle.gx_repo.specs.Refs.{shown_update}
 use Rattle.gx_import.specs.declared.branches.Tip.{Tip}
 use Rattle.gx_import.specs.Objects.{IsCommitOf}
 use Rattle.gx_import.specs.RefChanges.{branch_changes, branch_then, is_moved}
@@ -17,7 +17,7 @@ loop-name-init g c =
     let name = g.N.Namer.name_of c.args.repo.now.0 in
     let refs = c.args.repo.now.1.refs in
     let all : c.into_iter-name-iterator.result ≡ c.args.tables.now.branches.rows.entries = c.into_iter-name-iterator.ensures.into_iter_gives.0 in (
-      ap (λ rows. map asked c.args.changes.now.items ++ filter (is_moved refs) (branch_changes (map row_of rows))) all,
+      ap (λ rows. map shown_update c.args.changes.now.items ++ filter (is_moved refs) (branch_changes (map row_of rows))) all,
       λ s h. subst (λ rows. AreLeft name s (map row_of rows)) (sym all) (all_left name s c.args.repo.now.1 c.args.tables.now h),
     )
 
@@ -50,8 +50,8 @@ pub loop-name-preserved : goal.loop-name-preserved
 loop-name-preserved g c =
     let name = g.N.Namer.name_of c.args.repo.now.0 in
     let r = c.args.repo.now.1 in
-    let was = map asked c.loop-name.changes.items in
-    let now = map asked c.append_branch.new.changes.items in
+    let was = map shown_update c.loop-name.changes.items in
+    let now = map shown_update c.append_branch.new.changes.items in
     let row : Bytes × Tip g.row.A.Denot = (c.in-Some.name.now.items, c.in-Some.tip.now) in
     let others = map row_of c.next.new.self in
     let near = c.ref_near-next.ensures ∙ ap (λ n. lookup (same_bytes n) r.refs) (c.as_slice.ensures.value ∙ sym c.as_slice-in-loop-name.ensures.value) in

@@ -1,8 +1,8 @@
 use Rattle.std.proofs.Common.{◌≡◌, ◌++◌, map}
-use Rattle.gx_repo.specs.Refs.{asked}
+use Rattle.gx_repo.specs.Refs.{shown_update}
 use Rattle.gx_import.specs.RefChanges.{tag_changes}
 use Rattle.gx_import.specs.Rows.{row_of, rows_of}
 use Rattle.gx_import.proofs.publishing.append_tags.Given as goal
 
 abbrev pub invariant-loop-name : goal.invariant-loop-name
-invariant-loop-name g l = map asked l.changes.items ++ tag_changes (map row_of l.name-iterator) ≡ map asked l.fn.changes.items ++ tag_changes (rows_of l.tags)
+invariant-loop-name g l = map shown_update l.changes.items ++ tag_changes (map row_of l.name-iterator) ≡ map shown_update l.fn.changes.items ++ tag_changes (rows_of l.tags)

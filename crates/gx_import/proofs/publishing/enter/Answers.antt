@@ -3,10 +3,10 @@ use Rattle.std.specs.Bool.{passes}
 use Rattle.std.specs.FinMap.Entries.{is_sorted, is_sorted-put, put}
 use Rattle.gx_model.specs.Replay.{byte_cmp}
 use Rattle.gx_model.proofs.PathTests.{is_true}
-use Rattle.gx_repo.specs.Refs.{asked}
+use Rattle.gx_repo.specs.Refs.{shown_update}
 use Rattle.gx_import.specs.Rows.{rows_of}
 use Rattle.gx_import.proofs.PublishedNames.{entered, found_entered}
-use Rattle.gx_import.proofs.SortedRows.{order}
+use Rattle.gx_model.proofs.SortedRefs.{order}
 use Rattle.gx_import.proofs.publishing.enter.Goals as goal
 
 pub returns-in_ok-set-clause-sorted : goal.returns-in_ok-set-clause-sorted
@@ -19,8 +19,8 @@ pub returns-in_ok-set-clause-entered : goal.returns-in_ok-set-clause-entered
 returns-in_ok-set-clause-entered g c =
     let old = rows_of c.args.published.now in
     let target = c.args.change.now.target in
-    entered (asked c.args.change.now) old (rows_of c.set.new.self) target (c.in_ok-set.ensures ∙ ap (λ n. put byte_cmp n target old) c.in_ok-name.ensures.items)
+    entered (shown_update c.args.change.now) old (rows_of c.set.new.self) target (c.in_ok-set.ensures ∙ ap (λ n. put byte_cmp n target old) c.in_ok-name.ensures.items)
 
 pub returns-else-is_none-clause-entered : goal.returns-else-is_none-clause-entered
 returns-else-is_none-clause-entered g c =
-    found_entered (asked c.args.change.now) (rows_of c.args.published.now) (λ x. x.now) c.get.result c.is_none.result c.requires.sorted c.get.ensures c.is_none.ensures c.if-is_none.false
+    found_entered (shown_update c.args.change.now) (rows_of c.args.published.now) (λ x. x.now) c.get.result c.is_none.result c.requires.sorted c.get.ensures c.is_none.ensures c.if-is_none.false

@@ -1,6 +1,6 @@
 use Rattle.std.proofs.Common.{map, ap, subst, ◌∙◌}
 use Rattle.std.proofs.lemmas.Result.{on_ok_weaker}
-use Rattle.gx_repo.specs.Refs.{asked}
+use Rattle.gx_repo.specs.Refs.{shown_update}
 use Rattle.gx_import.specs.Keeping.{Enters}
 use Rattle.gx_import.specs.RefChanges.{changes_of}
 use Rattle.gx_import.specs.Rows.{rows_of}
@@ -20,7 +20,7 @@ pub returns-clause-entered : goal.returns-clause-entered
 returns-clause-entered g c =
     let old = rows_of c.args.published.now in
     let new = rows_of c.enter_all-2.new.published in
-    let names = ap (map asked) c.as_slice.ensures.value ∙ c.in_ok-names.ensures in
+    let names = ap (map shown_update) c.as_slice.ensures.value ∙ c.in_ok-names.ensures in
     on_ok_weaker c.enter_all-2.result
     (λ enters. new_entered old new (changes_of c.args.tables.now) c.requires.sorted (subst (Enters old new) names enters))
     c.enter_all-2.ensures.entered

@@ -1,6 +1,6 @@
 use Rattle.std.proofs.Common.{◌≡◌, IfSome, is_some, map, refl, sym, ap, subst, ◌∙◌}
 use Rattle.gx_model.specs.Records.Publishing.{changes_fault, with_changes}
-use Rattle.gx_repo.specs.Refs.{asked}
+use Rattle.gx_repo.specs.Refs.{shown_update}
 use Rattle.gx_import.specs.Keeping.{AreNames}
 use Rattle.gx_import.specs.RefChanges.{branch_changes, is_moved, moved_of, tag_changes}
 use Rattle.gx_import.specs.Rows.{rows_of}
@@ -13,8 +13,8 @@ pub publish_all-requires : goal.publish_all-requires
 publish_all-requires g c =
     let r = c.args.repo.now.1 in
     let tables = c.args.tables.now in
-    let asked_for = subst (λ o. IfSome o (λ cs. map asked cs.items ≡ moved_of r.refs tables)) c.in-Some.is c.in_ok-changes.ensures.changes in
-    ap (λ cs. changes_fault r.records (map asked cs)) c.as_slice-2.ensures.value ∙ ap (changes_fault r.records) asked_for
+    let asked_for = subst (λ o. IfSome o (λ cs. map shown_update cs.items ≡ moved_of r.refs tables)) c.in-Some.is c.in_ok-changes.ensures.changes in
+    ap (λ cs. changes_fault r.records (map shown_update cs)) c.as_slice-2.ensures.value ∙ ap (changes_fault r.records) asked_for
     ∙ fewer_free (is_moved r.refs) r.records (branch_changes (rows_of tables.branches)) (tag_changes (rows_of tables.tags))
     (changes_free (g.N.Namer.name_of c.args.repo.now.0) (g.met.N.Namer.is_namer c.args.repo.now.0) r c.sound.ensures tables c.requires.stands.0 c.requires.stands.1)
 
@@ -27,8 +27,8 @@ returns-clause-published g c = λ s h.
     let namer = g.met.N.Namer.is_namer c.args.repo.now.0 in
     let r = c.args.repo.now.1 in
     let tables = c.args.tables.now in
-    let asked_for = subst (λ o. IfSome o (λ cs. map asked cs.items ≡ moved_of r.refs tables)) c.in-Some.is c.in_ok-changes.ensures.changes in
-    let moved = c.in_ok-publish_all.ensures.refs ∙ ap (λ cs. with_changes r.refs (map asked cs)) c.as_slice-2.ensures.value ∙ ap (with_changes r.refs) asked_for in
+    let asked_for = subst (λ o. IfSome o (λ cs. map shown_update cs.items ≡ moved_of r.refs tables)) c.in-Some.is c.in_ok-changes.ensures.changes in
+    let moved = c.in_ok-publish_all.ensures.refs ∙ ap (λ cs. with_changes r.refs (map shown_update cs)) c.as_slice-2.ensures.value ∙ ap (with_changes r.refs) asked_for in
     let set = moved ∙ moved_set r.refs (rows_of tables.branches) (tag_changes (rows_of tables.tags)) c.sound.ensures.sorted h.branches_sorted in (
       sym (c.in_ok-changes.ensures.forward s h) ∙ ap is_some c.in-Some.is,
       final_set name namer r c.sound.ensures tables s h (c.histories_of_records.ensures name namer) c.publish_all.new.repo.1 c.in_ok-publish_all.ensures.records set,
@@ -37,8 +37,8 @@ returns-clause-published g c = λ s h.
 pub enter_names-requires : goal.enter_names-requires
 enter_names-requires g c =
     let r = c.args.repo.now.1 in
-    let asked_for = subst (λ o. IfSome o (λ cs. map asked cs.items ≡ moved_of r.refs c.args.tables.now)) c.in-Some.is c.in_ok-changes.ensures.changes in
-    record { sorted = c.requires.sorted; changes = (r.refs, c.requires.has_all, ap (map asked) c.as_slice.ensures.value ∙ asked_for) }
+    let asked_for = subst (λ o. IfSome o (λ cs. map shown_update cs.items ≡ moved_of r.refs c.args.tables.now)) c.in-Some.is c.in_ok-changes.ensures.changes in
+    record { sorted = c.requires.sorted; changes = (r.refs, c.requires.has_all, ap (map shown_update) c.as_slice.ensures.value ∙ asked_for) }
 
 pub returns-clause-entered : goal.returns-clause-entered
 returns-clause-entered g c =
@@ -50,7 +50,7 @@ pub returns-clause-has_all : goal.returns-clause-has_all
 returns-clause-has_all g c = λ all.
     let r = c.args.repo.now.1 in
     let tables = c.args.tables.now in
-    let asked_for = subst (λ o. IfSome o (λ cs. map asked cs.items ≡ moved_of r.refs tables)) c.in-Some.is c.in_ok-changes.ensures.changes in
-    let moved = c.in_ok-publish_all.ensures.refs ∙ ap (λ cs. with_changes r.refs (map asked cs)) c.as_slice-2.ensures.value ∙ ap (with_changes r.refs) asked_for in
+    let asked_for = subst (λ o. IfSome o (λ cs. map shown_update cs.items ≡ moved_of r.refs tables)) c.in-Some.is c.in_ok-changes.ensures.changes in
+    let moved = c.in_ok-publish_all.ensures.refs ∙ ap (λ cs. with_changes r.refs (map shown_update cs)) c.as_slice-2.ensures.value ∙ ap (with_changes r.refs) asked_for in
     let set = moved ∙ moved_set r.refs (rows_of tables.branches) (tag_changes (rows_of tables.tags)) c.sound.ensures.sorted c.requires.stands.1.branches_sorted in
     subst (λ refs. AreNames refs (rows_of c.enter_names.new.published)) (sym set) (c.in_ok-enter_names.ensures.entered r.refs (c.requires.has_all all))

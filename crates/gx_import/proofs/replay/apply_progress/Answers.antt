@@ -1,6 +1,7 @@
 use Rattle.std.proofs.Common.{codes, [], ◌∷◌, ◌++◌, Err}
 use Rattle.std.proofs.lemmas.Result.{err_from_is_err_and}
-use Rattle.gx_import.proofs.ProgressTexts.{took_more, writes_later, writes_sooner}
+use Rattle.gx_model.proofs.SentTexts.{took_both}
+use Rattle.gx_import.proofs.ProgressTexts.{writes_later, writes_sooner}
 use Rattle.gx_import.proofs.replay.apply_progress.Goals as goal
 
 pub returns-in_err-write : goal.returns-in_err-write
@@ -19,5 +20,5 @@ returns-in_err-write-2 g c =
 pub returns : goal.returns
 returns g c =
     let taken = g.W.Sink.taken in
-    let k = took_more (taken c.args.sink.now) (taken c.write.new.sink) (taken c.write-2.new.sink) (codes "progress ") c.args.text.now c.in_ok-write.ensures c.in_ok-write-2.ensures in
+    let k = took_both (taken c.args.sink.now) (taken c.write.new.sink) (taken c.write-2.new.sink) (codes "progress ") c.args.text.now c.in_ok-write.ensures c.in_ok-write-2.ensures in
     writes_later (taken c.args.sink.now) (taken c.write-2.new.sink) (taken c.write-3.new.sink) (codes "progress " ++ c.args.text.now) (10 ∷ []) c.write-3.result k c.write-3.ensures

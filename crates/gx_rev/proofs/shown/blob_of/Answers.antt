@@ -1,10 +1,10 @@
-use Rattle.std.proofs.Common.{ap, ◌∙◌}
+use Rattle.std.proofs.Common.{◌∙◌}
 use Rattle.gx_rev.specs.Objects.{value_at}
-use Rattle.gx_model.proofs.HeldValues.{blob_body, got}
+use Rattle.gx_model.proofs.HeldValues.{blob_body}
 use Rattle.gx_rev.proofs.shown.blob_of.Goals as goal
 
+pub body_of-requires : goal.body_of-requires
+body_of-requires g c = c.requires.2
+
 pub returns : goal.returns
-returns g c =
-    let name = g.N.Namer.name_of c.args.repo.now.0 in
-    let same = got name (g.met.N.Namer.is_namer c.args.repo.now.0) c.args.repo.now.1 c.sound.ensures c.args.name.now.bytes (c.in-Some.field-0-0, c.in-Some.body.now) c.requires.2 (rw c.store.ensures at c.in-Some.ensures) in
-    ap (λ o. o.1) same ∙ blob_body name (value_at c.args.repo.now.1 c.args.name.now) c.requires.0
+returns g c = c.body_of.ensures ∙ blob_body (g.N.Namer.name_of c.args.repo.now.0) (value_at c.args.repo.now.1 c.args.name.now) c.requires.0

@@ -1,7 +1,7 @@
 use Rattle.std.proofs.Common.{◌-◌, length, drop, sym, subst, Ok, arith}
 use Rattle.std.proofs.Math.Seq.{take-add}
 use Rattle.std.proofs.lemmas.List.{take_rest, length-take}
-use Rattle.gx_text.specs.Devices.{Sends}
+use Rattle.gx_model.specs.Texts.Sinks.{Sends}
 use Rattle.gx_text.proofs.Sending.{Sends-more}
 use Rattle.gx_text.proofs.device.send.Goals as goal
 

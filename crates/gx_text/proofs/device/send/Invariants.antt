@@ -1,5 +1,5 @@
 use Rattle.std.proofs.Common.{length, take, ◌-◌, ◌≤◌, Ok}
-use Rattle.gx_text.specs.Devices.{Sends}
+use Rattle.gx_model.specs.Texts.Sinks.{Sends}
 use Rattle.gx_text.proofs.device.send.Given as goal
 
 abbrev pub invariant-loop-sent : goal.invariant-loop-sent

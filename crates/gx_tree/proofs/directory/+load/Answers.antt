@@ -13,7 +13,7 @@ use Rattle.gx_tree.specs.HeldTrees.{IsHeldEntry}
 use Rattle.gx_tree.specs.Loaded.{IsLoaded}
 use Rattle.gx_tree.specs.Nodes.{IsLevel, files}
 use Rattle.gx_tree.specs.Views as views
-use Rattle.gx_tree.specs.Views.{kept, seen_all, Remembers}
+use Rattle.gx_tree.specs.Views.{shown_entries, Remembers}
 use Rattle.gx_tree.proofs.HeldLevels.{entries_held, held_text, loading_all, loading_more, loading_none, is_there, within_all}
 use Rattle.gx_tree.proofs.LevelsOf.{IsLevel-level_of, files-level_of, level_of}
 use Rattle.gx_tree.proofs.TreeRecords.{kept_entry}
@@ -44,7 +44,7 @@ pub Directory::load-load-requires : goal.Directory::load-load-requires
 Directory::load-load-requires g t c =
     let name = g.N.Namer.name_of c.args.store.now.0 in
     let held = entries_held name c.args.store.now.1 c.args.name.now.bytes c.requires.held.0 c.args.room c.requires.held.1 in
-    let next = loading_more name (IsHeldEntry name c.args.store.now.1 c.args.room) (level_of c.requires.held.0) (shown c.in-Some-entry.entry) c.loop-entry.entry-iterator c.next.new.self (seen_all c.loop-entry.entries.items) held c.in-Some-entry.ensures.steps (c.loop-entry.invariant.0 c.requires.held.0 c.requires.held.1.0) in
+    let next = loading_more name (IsHeldEntry name c.args.store.now.1 c.args.room) (level_of c.requires.held.0) (shown c.in-Some-entry.entry) c.loop-entry.entry-iterator c.next.new.self (shown_entries c.loop-entry.entries.items) held c.in-Some-entry.ensures.steps (c.loop-entry.invariant.0 c.requires.held.0 c.requires.held.1.0) in
     let less : 2 * c.args.room < t = omega (arith, c.decreases) in
     λ κs within. (less, (within.0, (within.1, ((next.kept, next.fits, next.leaf), c.loop-entry.invariant.3))))
 
@@ -53,9 +53,9 @@ Directory::load-loop-entry-preserved g t c = (
   λ f h.
       let name = g.N.Namer.name_of c.args.store.now.0 in
       let held = entries_held name c.args.store.now.1 c.args.name.now.bytes f 4095 (h, within_all f h.map) in
-      let next = loading_more name (IsHeldEntry name c.args.store.now.1 4095) (level_of f) (shown c.in-Some-entry.entry) c.loop-entry.entry-iterator c.next.new.self (seen_all c.loop-entry.entries.items) held c.in-Some-entry.ensures.steps (c.loop-entry.invariant.0 f h) in
+      let next = loading_more name (IsHeldEntry name c.args.store.now.1 4095) (level_of f) (shown c.in-Some-entry.entry) c.loop-entry.entry-iterator c.next.new.self (shown_entries c.loop-entry.entries.items) held c.in-Some-entry.ensures.steps (c.loop-entry.invariant.0 f h) in
       let item = c.in_ok-item.ensures.kept next.kept 4095 next.fits next.leaf in
-      rw (c.in_ok-push.ensures.items, map-append views.seen c.loop-entry.entries.items) (next.more _ (c.in_ok-new.ensures.seen ∙ ap (λ k. (c.in-Some-entry.entry.component.now, k)) item)),
+      rw (c.in_ok-push.ensures.items, map-append views.shown_entry c.loop-entry.entries.items) (next.more _ (c.in_ok-new.ensures.seen ∙ ap (λ k. (c.in-Some-entry.entry.component.now, k)) item)),
   let name = g.N.Namer.name_of c.args.store.now.0 in
       subst (AreAtHome name c.args.store.now.1) (sym c.in_ok-push.ensures.items) (all_joined (λ e. IsItemAtHome name c.args.store.now.1 e.item) c.loop-entry.entries.items _ c.loop-entry.invariant.1 (subst (IsItemAtHome name c.args.store.now.1) (sym c.in_ok-new.ensures.item) c.in_ok-item.ensures.home, tt)),
   subst (AllByRecursion (λ e. Remembers e.item)) (sym c.in_ok-push.ensures.items) (all_joined (λ e. Remembers e.item) c.loop-entry.entries.items _ c.loop-entry.invariant.2 (subst Remembers (sym c.in_ok-new.ensures.item) c.in_ok-item.ensures.remembers, tt)),
@@ -66,15 +66,15 @@ pub Directory::load-of-requires : goal.Directory::load-of-requires
 Directory::load-of-requires g t c =
     let name = g.N.Namer.name_of c.args.store.now.0 in
     let f = c.requires.held.0 in
-    let all = loading_all name (level_of f) c.loop-entry.entry-iterator (seen_all c.loop-entry.entries.items) c.in-None.ensures.steps.0 (c.loop-entry.invariant.0 f c.requires.held.1.0) in
+    let all = loading_all name (level_of f) c.loop-entry.entry-iterator (shown_entries c.loop-entry.entries.items) c.in-None.ensures.steps.0 (c.loop-entry.invariant.0 f c.requires.held.1.0) in
     record { level = subst IsLevel (sym all) (IsLevel-level_of f c.requires.held.1.0.map); remembers = c.loop-entry.invariant.2 }
 
 pub Directory::load-returns : goal.Directory::load-returns
 Directory::load-returns g t c =
     let name = g.N.Namer.name_of c.args.store.now.0 in
     let es = c.loop-entry.entries.items in
-    let all : (f : FileMap Bytes) → IsHeldTree name c.args.store.now.1 c.args.name.now.bytes f → seen_all es ≡ level_of f = λ f h. loading_all name (level_of f) c.loop-entry.entry-iterator (seen_all es) c.in-None.ensures.steps.0 (c.loop-entry.invariant.0 f h) in
-    let whole : (f : FileMap Bytes) → IsHeldTree name c.args.store.now.1 c.args.name.now.bytes f → files (seen_all es) ≡ f = λ f h. ap files (all f h) ∙ files-level_of f (parts_of f h.map.file_map) in
+    let all : (f : FileMap Bytes) → IsHeldTree name c.args.store.now.1 c.args.name.now.bytes f → shown_entries es ≡ level_of f = λ f h. loading_all name (level_of f) c.loop-entry.entry-iterator (shown_entries es) c.in-None.ensures.steps.0 (c.loop-entry.invariant.0 f h) in
+    let whole : (f : FileMap Bytes) → IsHeldTree name c.args.store.now.1 c.args.name.now.bytes f → files (shown_entries es) ≡ f = λ f h. ap files (all f h) ∙ files-level_of f (parts_of f h.map.file_map) in
     let f = c.requires.held.0 in
     let held = c.requires.held.1.0 in
     let home = named_at_home name c.args.store.now.1 c.args.name.now es (subst IsLevel (sym (all f held)) (IsLevel-level_of f held.map)) (subst (IsHome name c.args.store.now.1 c.args.name.now.bytes) (sym (whole f held)) (record { named = held.named; held = held.held })) c.loop-entry.invariant.1 in

@@ -1,7 +1,7 @@
 use Rattle.std.proofs.Common.{sym, ap, ◌∙◌, subst}
 use Rattle.gx_tree.specs.Homes.{AreAtHome, IsItemAtHome}
 use Rattle.gx_tree.specs.Nodes.{IsLevel}
-use Rattle.gx_tree.specs.Views.{seen_all}
+use Rattle.gx_tree.specs.Views.{shown_entries}
 use Rattle.gx_tree.proofs.Copies.{with_kept_is}
 use Rattle.gx_tree.proofs.Homes.{all_inserted}
 use Rattle.gx_tree.proofs.Levels.{IsLevel-others}
@@ -9,7 +9,7 @@ use Rattle.gx_tree.proofs.directory.with_entry.Goals as goal
 
 pub place_of-place-requires : goal.place_of-place-requires
 place_of-place-requires g c =
-    subst IsLevel (sym (ap seen_all c.deref.ensures.value ∙ c.in_ok-all.ensures.others)) (IsLevel-others c.component.result.now (seen_all c.args.entries.now) c.requires)
+    subst IsLevel (sym (ap shown_entries c.deref.ensures.value ∙ c.in_ok-all.ensures.others)) (IsLevel-others c.component.result.now (shown_entries c.args.entries.now) c.requires)
 
 pub returns-clause-entries : goal.returns-clause-entries
 returns-clause-entries g c =

@@ -1,6 +1,6 @@
 use Rattle.std.proofs.Common.{sym, ap, ◌∙◌, subst, arith}
 use Rattle.std.proofs.lemmas.Result.{IfOk-weaker}
-use Rattle.gx_tree.specs.Copies.{kept_held}
+use Rattle.gx_tree.specs.Copies.{shown_held}
 use Rattle.gx_tree.specs.Nodes.{IsKept, kept_map}
 use Rattle.gx_tree.specs.Steps.{grafted}
 use Rattle.gx_tree.proofs.CopyLaws.{grafted_at_root}
@@ -9,7 +9,7 @@ use Rattle.gx_tree.proofs.path_tree.placed.Goals as goal
 
 pub returns-clause-files : goal.returns-clause-files
 returns-clause-files g c =
-    let k = ap kept_held c.in-Folder.is in
+    let k = ap shown_held c.in-Folder.is in
     IfOk-weaker c.of_shared.result _ _ (λ d e. files_same e ∙ sym (ap (λ z. grafted c.args.path.now (kept_map z) c.args.rest.now.files) k ∙ grafted_at_root c.args.path.now c.args.rest.now.files c.in-Folder.below.now.files (omega arith) (subst IsKept k c.requires.kept))) c.of_shared.ensures
 
 pub returns-then-len-gt0-clause-home : goal.returns-then-len-gt0-clause-home

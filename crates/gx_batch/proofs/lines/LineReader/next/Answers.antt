@@ -1,5 +1,5 @@
 use Rattle.std.proofs.Common.{◌≡◌, subst, arith, length, slice_range}
-use Rattle.gx_batch.specs.Reading.{TakesPart, rest_of, seen}
+use Rattle.gx_batch.specs.Reading.{TakesPart, rest_of, shown_reader}
 use Rattle.gx_batch.proofs.PassedBytes.{all_passed, ends_so, fails_so, has_none, has_some, passes_still, same_most, still_lacks, whole_line}
 use Rattle.gx_batch.proofs.lines.LineReader.next.Goals as goal
 
@@ -10,7 +10,7 @@ returns-then-branch-clause-reads g c =
     let line = c.loop-self.line.items in
     let now = c.take_part.new.line.items in
     let part = subst (λ t. TakesPart (slice_range t i.at i.end) (slice_range t c.take_part.new.at i.end) line now c.in_ok-take_part.field-0) c.deref.ensures.value c.in_ok-take_part.ensures.takes in
-    whole_line (seen old (g.R.Source.coming old.source)) (g.R.Source.coming i.source) i.room (rest_of i) (slice_range i.piece.items c.take_part.new.at i.end) line now i.state c.loop-self.invariant.line c.loop-self.invariant.passes (subst (TakesPart (rest_of i) (slice_range i.piece.items c.take_part.new.at i.end) line now) c.if-branch.true part)
+    whole_line (shown_reader old (g.R.Source.coming old.source)) (g.R.Source.coming i.source) i.room (rest_of i) (slice_range i.piece.items c.take_part.new.at i.end) line now i.state c.loop-self.invariant.line c.loop-self.invariant.passes (subst (TakesPart (rest_of i) (slice_range i.piece.items c.take_part.new.at i.end) line now) c.if-branch.true part)
 
 pub loop-self-preserved : goal.loop-self-preserved
 loop-self-preserved g c =
@@ -18,7 +18,7 @@ loop-self-preserved g c =
     let i = c.loop-self.self in
     let line = c.loop-self.line.items in
     let now = c.take_part.new.line.items in
-    let was = seen old (g.R.Source.coming old.source) in
+    let was = shown_reader old (g.R.Source.coming old.source) in
     let coming = g.R.Source.coming i.source in
     let left = slice_range i.piece.items c.take_part.new.at i.end in
     let given = subst (λ t. TakesPart (slice_range t i.at i.end) (slice_range t c.take_part.new.at i.end) line now c.in_ok-take_part.field-0) c.deref.ensures.value c.in_ok-take_part.ensures.takes in
@@ -37,7 +37,7 @@ returns-in-Ended-clause-reads g c =
     let i = c.loop-self.self in
     let line = c.loop-self.line.items in
     let now = c.take_part.new.line.items in
-    let was = seen old (g.R.Source.coming old.source) in
+    let was = shown_reader old (g.R.Source.coming old.source) in
     let coming = g.R.Source.coming i.source in
     let left = slice_range i.piece.items c.take_part.new.at i.end in
     let given = subst (λ t. TakesPart (slice_range t i.at i.end) (slice_range t c.take_part.new.at i.end) line now c.in_ok-take_part.field-0) c.deref.ensures.value c.in_ok-take_part.ensures.takes in
@@ -51,7 +51,7 @@ returns-in-Failed-clause-reads g c =
     let i = c.loop-self.self in
     let line = c.loop-self.line.items in
     let now = c.take_part.new.line.items in
-    let was = seen old (g.R.Source.coming old.source) in
+    let was = shown_reader old (g.R.Source.coming old.source) in
     let coming = g.R.Source.coming i.source in
     let left = slice_range i.piece.items c.take_part.new.at i.end in
     let given = subst (λ t. TakesPart (slice_range t i.at i.end) (slice_range t c.take_part.new.at i.end) line now c.in_ok-take_part.field-0) c.deref.ensures.value c.in_ok-take_part.ensures.takes in

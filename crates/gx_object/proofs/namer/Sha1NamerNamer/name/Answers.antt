@@ -16,5 +16,6 @@ returns c =
     let third = c.update-3.ensures _ second in
     let fourth = c.update-4.ensures _ third in
     let fifth = c.update-5.ensures _ fourth in
-    let digits = c.as_bytes.ensures.value ∙ c.format.ensures.text in
-    c.finalize.ensures _ fifth ∙ ap sha1 (joined c.args.kind c.args.body.now _ _ c.word.ensures digits)
+    let word = c.as_bytes.ensures.value ∙ c.word.ensures in
+    let digits = c.as_bytes-2.ensures.value ∙ c.format.ensures.text in
+    c.finalize.ensures _ fifth ∙ ap sha1 (joined c.args.kind c.args.body.now _ _ word digits)

@@ -6,7 +6,7 @@ use Rattle.gx_model.specs.Laws.RepositoryLaws.{values_of}
 use Rattle.gx_model.specs.Records.Sound.{HasShortPaths, Holds, IsSound, Keeps}
 use Rattle.gx_model.proofs.Puts.{front_put}
 use Rattle.gx_repo.specs.Additions.{HasValues}
-use Rattle.gx_repo.specs.Refs.{kept}
+use Rattle.gx_repo.specs.Refs.{shown_ref}
 use Rattle.gx_repo.proofs.Additions.{put_grown, put_is_sound}
 use Rattle.gx_repo.proofs.HeldRecords.{keeps_front, put_holds}
 use Rattle.gx_repo.proofs.RecordRooms.{front_kept}
@@ -17,10 +17,10 @@ invariant_of-self-2 g c =
     let names = g.N.Namer.name_of c.self.inside.store.0 in
     let namer = g.met.N.Namer.is_namer c.self.inside.store.0 in
     let rs = c.self.inside.store.1 in
-    let r : Records = record { records = rs; refs = map kept c.self.inside.refs.items } in
+    let r : Records = record { records = rs; refs = map shown_ref c.self.inside.refs.items } in
     let no_paths : HasShortPaths rs (record_for names kinds.Blob c.args.body.items) = λ es p e t h. absurd (cc e) in
     let front = front_put rs c.put_owned.new.self.1 (record_for names kinds.Blob c.args.body.items) c.in_ok-name.ensures.puts.1 in (
-      subst (λ n. IsSound (g.N.Namer.name_of n) (record { records = c.put_owned.new.self.1; refs = map kept c.self.inside.refs.items })) (sym c.put_owned.ensures.namer)
+      subst (λ n. IsSound (g.N.Namer.name_of n) (record { records = c.put_owned.new.self.1; refs = map shown_ref c.self.inside.refs.items })) (sym c.put_owned.ensures.namer)
           (put_is_sound names (c.links_tell_values.ensures names namer) (c.puts_add_values.ensures names namer) r c.self.invariant.0 kinds.Blob c.args.body.items tt no_paths c.put_owned.new.self.1 c.put_owned.result c.put_owned.ensures.puts),
       front_kept rs c.put_owned.new.self.1 c.self.inside.rooms.items c.self.invariant.1 front,
     )
@@ -39,7 +39,7 @@ pub returns-clause-history : goal.returns-clause-history
 returns-clause-history g c =
     let names = g.N.Namer.name_of c.self.inside.store.0 in
     let namer = g.met.N.Namer.is_namer c.self.inside.store.0 in
-    let r : Records = record { records = c.self.inside.store.1; refs = map kept c.self.inside.refs.items } in
+    let r : Records = record { records = c.self.inside.store.1; refs = map shown_ref c.self.inside.refs.items } in
     let no_paths : HasShortPaths r.records (record_for names kinds.Blob c.args.body.items) = λ es p e t h. absurd (cc e) in
-    subst (λ v. HasValues v.1 (record { records = c.put_owned.new.self.1; refs = map kept c.self.inside.refs.items }) (with_one (values_of v.1) (blob_value c.args.body.items))) c.self.view_is
+    subst (λ v. HasValues v.1 (record { records = c.put_owned.new.self.1; refs = map shown_ref c.self.inside.refs.items }) (with_one (values_of v.1) (blob_value c.args.body.items))) c.self.view_is
     (put_grown names (c.links_tell_values.ensures names namer) (c.puts_add_values.ensures names namer) r c.self.invariant.0 kinds.Blob c.args.body.items tt no_paths c.put_owned.new.self.1 c.in_ok-name.ensures.puts.1).1

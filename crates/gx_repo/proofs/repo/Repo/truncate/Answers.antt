@@ -1,6 +1,6 @@
 use Rattle.std.proofs.Common.{◌≡◌, ℕ, zero, suc, List, [], ◌∷◌, ◌++◌, take, drop, map, refl, sym, ap, subst}
 use Rattle.gx_model.specs.Records.Sound.{IsSound}
-use Rattle.gx_repo.specs.Refs.{kept}
+use Rattle.gx_repo.specs.Refs.{shown_ref}
 use Rattle.gx_repo.specs.Rooms.{IsFront}
 use Rattle.gx_repo.proofs.RecordRooms.{front_taken}
 use Rattle.gx_repo.proofs.repo.Repo.truncate.Goals as goal
@@ -16,7 +16,7 @@ invariant_of-self g c =
     let names = g.N.Namer.name_of c.self.inside.store.0 in
     let namer = g.met.N.Namer.is_namer c.self.inside.store.0 in
     let rs = c.self.inside.store.1 in
-    let refs = map kept c.self.inside.refs.items in
+    let refs = map shown_ref c.self.inside.refs.items in
     let whole = subst (λ z. IsSound names (record { records = z; refs = refs })) (sym (rejoined c.args.len rs)) c.self.invariant.0 in
     let held = rw (sym c.self.view_is) at c.requires.targets in
     let law = ((c.parts_change.ensures names namer).first (take c.args.len rs) (drop c.args.len rs) refs whole held).0 in (

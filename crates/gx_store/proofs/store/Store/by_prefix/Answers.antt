@@ -1,6 +1,6 @@
 use Rattle.std.proofs.Common.{◌≡◌, map, sym, ap, subst, ◌∙◌}
 use Rattle.gx_model.specs.Records.Lookups.{records_begun_by}
-use Rattle.gx_store.specs.Objects.{held}
+use Rattle.gx_store.specs.Objects.{shown_stored}
 use Rattle.gx_store.specs.Prefixes.{prefix_of}
 use Rattle.gx_store.specs.declared.prefix.Prefix.TheVariants.{Absent}
 use Rattle.gx_store.proofs.Picking.{names_are, none_begun, picks_records}
@@ -19,4 +19,4 @@ returns-in-Some g c =
 pub returns-in-None : goal.returns-in-None
 returns-in-None g c =
     subst (λ v. Absent ≡ prefix_of (records_begun_by v.1 c.args.digits.now)) c.self.view_is
-    (ap prefix_of (sym (none_begun c.args.digits.now (map held c.self.inside.objects.entries) c.self.invariant.0.names c.in-None.ensures.none)))
+    (ap prefix_of (sym (none_begun c.args.digits.now (map shown_stored c.self.inside.objects.entries) c.self.invariant.0.names c.in-None.ensures.none)))

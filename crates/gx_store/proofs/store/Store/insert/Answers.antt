@@ -6,7 +6,7 @@ use Rattle.gx_model.specs.Records.Growth.{put}
 use Rattle.gx_object.specs.contracts.name.NamePartialEq.TheImpl as equality
 use Rattle.gx_store.specs.Stores.{AreHeld}
 use Rattle.gx_store.specs.Chains.{AreFronts}
-use Rattle.gx_store.specs.Objects.{held}
+use Rattle.gx_store.specs.Objects.{shown_stored}
 use Rattle.gx_store.proofs.Held.{held_more}
 use Rattle.gx_store.proofs.Keys.{lookup_free, under}
 use Rattle.gx_store.proofs.Putting.{put_free}
@@ -20,7 +20,7 @@ invariant_of-self-2 g c =
     let free = rw (sym c.self.view_is) at c.requires.free in
     let named = rw (sym c.self.view_is) at c.requires.named in
     let last = c.in-Ok-insert.ensures.entries ∙ insert_entry-new (equality.eq-value).it c.self.inside.objects n _ (lookup_free n es free) in
-    let pushed = ap (map held) last ∙ map_push held es _ in
+    let pushed = ap (map shown_stored) last ∙ map_push shown_stored es _ in
     let known = ap (map (λ e. e.0)) last ∙ map_push (λ e. e.0) es _ in (
       subst (AreHeld names) (sym pushed) (held_more names (g.met.N.Namer.is_namer c.self.inside.namer) _ (under n c.args.object) named free c.self.invariant.0),
       subst (AreFronts c.put.new.self) (sym known) (c.put.ensures.fronts (keys c.self.inside.objects) c.reserve.ensures.fronts),
@@ -32,5 +32,5 @@ returns-clause-puts g c =
     let es = c.self.inside.objects.entries in
     let new = under n c.args.object in
     let free = rw (sym c.self.view_is) at c.requires.free in
-    let pushed = ap (map held) (c.in-Ok-insert.ensures.entries ∙ insert_entry-new (equality.eq-value).it c.self.inside.objects n _ (lookup_free n es free)) ∙ map_push held es _ in
-    subst (λ v. (n.bytes ≡ n.bytes) × (put v.1 new ≡ Some (map held c.insert.new.self.entries))) c.self.view_is (refl, put_free (map held es) new free ∙ ap Some (sym pushed))
+    let pushed = ap (map shown_stored) (c.in-Ok-insert.ensures.entries ∙ insert_entry-new (equality.eq-value).it c.self.inside.objects n _ (lookup_free n es free)) ∙ map_push shown_stored es _ in
+    subst (λ v. (n.bytes ≡ n.bytes) × (put v.1 new ≡ Some (map shown_stored c.insert.new.self.entries))) c.self.view_is (refl, put_free (map shown_stored es) new free ∙ ap Some (sym pushed))

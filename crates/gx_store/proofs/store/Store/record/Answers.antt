@@ -1,9 +1,9 @@
 use Rattle.std.proofs.Common.{option_map, slice_get, sym, ap, ◌∙◌}
 use Rattle.std.proofs.lemmas.Option.{slice_get-map}
-use Rattle.gx_store.specs.Objects.{held}
+use Rattle.gx_store.specs.Objects.{shown_stored}
 use Rattle.gx_store.proofs.store.Store.record.Goals as goal
 
 pub returns : goal.returns
 returns g c =
-    rw c.as_slice.ensures (ap (option_map held) c.in_ok-name.ensures.entry ∙ sym (slice_get-map held c.self.inside.objects.entries c.args.place)
+    rw c.as_slice.ensures (ap (option_map shown_stored) c.in_ok-name.ensures.entry ∙ sym (slice_get-map shown_stored c.self.inside.objects.entries c.args.place)
     ∙ ap (λ v. slice_get v.1 c.args.place) c.self.view_is)

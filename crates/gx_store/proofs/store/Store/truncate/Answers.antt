@@ -3,7 +3,7 @@ use Rattle.std.proofs.lemmas.List.{map_push, length-append, length-map, length_p
 use Rattle.indexmap.specs.IndexMap.{keys}
 use Rattle.gx_store.specs.Stores.{AreHeld}
 use Rattle.gx_store.specs.Chains.{AreFronts}
-use Rattle.gx_store.specs.Objects.{held}
+use Rattle.gx_store.specs.Objects.{shown_stored}
 use Rattle.gx_store.proofs.Held.{first_less, held_less}
 use Rattle.gx_store.proofs.Keys.{under}
 use Rattle.gx_store.proofs.store.Store.truncate.Goals as goal
@@ -26,13 +26,13 @@ loop-self-preserved-in-Some g c =
     let n = c.in-Some.name in
     let object = c.in-Some.object in
     let es = c.pop.new.self.entries in
-    let rs = map held es in
-    let popped = ap (map held) c.in-Some.ensures.entries ∙ map_push held es (n, object) in
+    let rs = map shown_stored es in
+    let popped = ap (map shown_stored) c.in-Some.ensures.entries ∙ map_push shown_stored es (n, object) in
     let named = ap (map (λ e. e.0)) c.in-Some.ensures.entries ∙ map_push (λ e. e.0) es (n, object) in
     let kept = c.loop-self.invariant in
     let names = g.N.Namer.name_of c.loop-self.self-inside.namer in
     let all = subst (AreHeld names) popped kept.1 in
-    let within : c.args.len ≤ length rs = omega (arith, c.loop-self-test.true, c.len.ensures.len, c.pop.ensures.len, length-map es held, ap length c.in-Some.ensures.entries, length-append es ((n, object) ∷ [])) in (
+    let within : c.args.len ≤ length rs = omega (arith, c.loop-self-test.true, c.len.ensures.len, c.pop.ensures.len, length-map es shown_stored, ap length c.in-Some.ensures.entries, length-append es ((n, object) ∷ [])) in (
       kept.0,
       held_less names rs (under n object) all,
       c.pop-in-Some.ensures (keys c.pop.new.self) (subst (AreFronts c.loop-self.self-inside.fronts) named kept.2),
@@ -43,5 +43,5 @@ pub returns : goal.returns
 returns g c =
     let es = c.loop-self.self-inside.objects.entries in
     let kept = c.loop-self.invariant in
-    let short : length (map held es) ≤ c.args.len = omega (arith, c.loop-self-test.false, c.len.ensures.len, length-map es held) in
-    subst (λ v. (c.loop-self.self-inside.namer, map held es) ≡ (v.0, take c.args.len v.1)) c.self.view_is (λ i. (kept.0 i, (sym (take_all c.args.len (map held es) short) ∙ kept.3) i))
+    let short : length (map shown_stored es) ≤ c.args.len = omega (arith, c.loop-self-test.false, c.len.ensures.len, length-map es shown_stored) in
+    subst (λ v. (c.loop-self.self-inside.namer, map shown_stored es) ≡ (v.0, take c.args.len v.1)) c.self.view_is (λ i. (kept.0 i, (sym (take_all c.args.len (map shown_stored es) short) ∙ kept.3) i))

@@ -1,11 +1,11 @@
-use Rattle.gx_stream.specs.Input.{seen, IsSound, Keeps, pulls_left}
+use Rattle.gx_stream.specs.Input.{shown_input, IsSound, Keeps, pulls_left}
 use Rattle.gx_stream.proofs.input.Input.take_next.Given as goal
 
 abbrev pub invariant-loop-self : goal.invariant-loop-self
 invariant-loop-self g l =
     record {
       sound : IsSound l.self;
-      keeps : Keeps (seen l.fn.self (g.R.Source.coming l.fn.self.source)) (seen l.self (g.R.Source.coming l.self.source));
+      keeps : Keeps (shown_input l.fn.self (g.R.Source.coming l.fn.self.source)) (shown_input l.self (g.R.Source.coming l.self.source));
     }
 
 abbrev pub decreases-loop-self : goal.decreases-loop-self

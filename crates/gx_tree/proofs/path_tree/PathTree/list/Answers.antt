@@ -1,5 +1,5 @@
 use Rattle.std.proofs.Common.{◌++◌, Ok, sym, ap, ◌∙◌, map}
-use Rattle.gx_tree.specs.Lists.{listed}
+use Rattle.gx_tree.specs.Lists.{shown_listed}
 use Rattle.gx_tree.proofs.Homes.{files_same}
 use Rattle.gx_tree.proofs.Listed.{map_short}
 use Rattle.gx_tree.proofs.path_tree.PathTree.list.Goals as goal
@@ -9,4 +9,4 @@ list_into-requires g c = map_short c.self.inside.root.files c.self.invariant.fil
 
 pub returns : goal.returns
 returns g c =
-    ap Ok (sym (c.in_ok-list_into.ensures ∙ ap (λ xs. map listed xs ++ c.self.inside.root.files) c.new-files.ensures.items ∙ files_same c.self.view_is))
+    ap Ok (sym (c.in_ok-list_into.ensures ∙ ap (λ xs. map shown_listed xs ++ c.self.inside.root.files) c.new-files.ensures.items ∙ files_same c.self.view_is))

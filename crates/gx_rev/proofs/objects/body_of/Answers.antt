@@ -1,6 +1,6 @@
 use Rattle.std.proofs.Common.{ap}
 use Rattle.gx_model.proofs.HeldValues.{got}
-use Rattle.gx_cli.proofs.showing.body_of.Goals as goal
+use Rattle.gx_rev.proofs.objects.body_of.Goals as goal
 
 pub returns : goal.returns
 returns g c =

@@ -1,7 +1,0 @@
-use Rattle.std.proofs.Common.{refl}
-use Rattle.gx_cli.proofs.SentTexts.{failed_within}
-use Rattle.gx_cli.proofs.showing.print.Goals as goal
-
-pub returns-in-Err : goal.returns-in-Err
-returns-in-Err g c =
-    (c.args.text.now, refl, failed_within (g.W.Sink.taken c.args.sink.now) (g.W.Sink.taken c.send.new.sink) c.args.text.now c.in-Err.field-0 c.in-Err.ensures.bytes)

@@ -1,0 +1,56 @@
+//! What commands ask of a store, and what is printed for it.
+
+ghost use Rattle.gx_cli.specs.Parts.{PrintsOfStore};
+
+use crate::log::log;
+use crate::ls::list;
+use crate::names::print_names;
+use crate::opening::{StoreBytes, open};
+use crate::refs::print_refs;
+use crate::showing::show_stored;
+use crate::{CliFault, LogOptions};
+use gx_object::Namer;
+use gx_text::Sink;
+use std::alloc::Allocator;
+use std::hash::RandomState;
+
+/// A question that is asked of a store.
+#[derive(Clone, Copy)]
+pub(crate) enum Question<'a> {
+    /// What a revision gives.
+    Show(&'a str),
+    /// The entries of a revision's tree, or all of its files.
+    List(bool, &'a str),
+    /// The refs.
+    Refs,
+    /// The commits of range words.
+    Log(LogOptions, &'a [&'a str]),
+    /// The names of what revisions give.
+    Names(&'a [&'a str]),
+}
+
+/// Reads a store's text, and prints the answer to a question.
+pub(crate) fn print_stored<N: Namer + Drop, W: Sink, A: Allocator + Copy>(
+    alloc: A,
+    namer: N,
+    question: Question<'_>,
+    store: StoreBytes<'_, A>,
+    sink: &mut W,
+    state: RandomState,
+) -> Result<(), CliFault>
+    ensures { PrintsOfStore N.name_of W.taken namer question.entry store.entry sink.old sink.new result }
+{
+    let repo = match open(alloc, namer, store, state) {
+        Ok(repo) => repo,
+        Err(fault) => return Err(CliFault::Store(fault)),
+    };
+    match question {
+        Question::Show(revision) => show_stored(alloc, &repo, revision.as_bytes(), sink),
+        Question::List(recursive, revision) => {
+            list(alloc, &repo, recursive, revision.as_bytes(), sink)
+        }
+        Question::Refs => print_refs(&repo, sink),
+        Question::Log(options, ranges) => log(alloc, &repo, options, ranges, sink),
+        Question::Names(revisions) => print_names(alloc, &repo, revisions, sink),
+    }
+}

@@ -13,7 +13,7 @@ from collections import defaultdict
 from pathlib import Path
 
 TOP = Path(__file__).resolve().parent.parent
-CLAUSE = re.compile(r"^\s*(?:requires|ensures|ghost \w+ =)\b")
+CLAUSE = re.compile(r"^\s*(?:(?:requires|ensures)\b|ghost \w+ =)")
 DEFINED = re.compile(r"^ *(?:abbrev |unfoldable )?pub (?:record |data )?(?P<name>[^\s:]+) ")
 
 

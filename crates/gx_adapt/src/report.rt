@@ -46,9 +46,9 @@ impl Report {
     }
 
     /// Counts a line, of which this becomes, and which names a blob or a tag for a tag, or doesn't.
-    pub(crate) fn add(&mut self, line: &[u8], lot: Lot<'_>, names_blob_or_tag: bool)
+    pub(crate) fn add(&mut self, line: &[u8], lot: Lot<'_>, of_blob_or_tag: bool)
         requires room { HasRoom self.old }
-        ensures added { self.new ≡ counted (shown_lot lot.entry) names_blob_or_tag (Line line.now) self.old }
+        ensures added { self.new ≡ counted (shown_lot lot.entry) of_blob_or_tag (Line line.now) self.old }
     {
         match lot {
             Lot::Kept => {}
@@ -63,7 +63,7 @@ impl Report {
         if is_early(line) {
             self.early_dates += 1;
         }
-        if names_blob_or_tag {
+        if of_blob_or_tag {
             self.tags_of_blobs_or_tags += 1;
         }
     }

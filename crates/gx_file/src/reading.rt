@@ -1,5 +1,5 @@
 //! Reading a whole store text. Source: this project's own format.
-ghost use Rattle.std.specs.Prelude.{◌≡◌, IfOk};
+ghost use Rattle.std.specs.Prelude.{◌≡◌, [], IfOk};
 ghost use Rattle.gx_model.specs.Stores.StoreReading.{store_of};
 ghost use Rattle.gx_model.specs.Stores.StoreText.{IsStoreText};
 ghost use Rattle.gx_file.specs.Faults.{Reads};
@@ -58,8 +58,7 @@ pub fn read_text<N: Namer + Drop, A: Allocator + Copy>(
     read_store(alloc, namer, &Bodies::Within(&text), text.as_slice(), state)
 }
 
-/// The repository of a store text, line by line.
-#[tactic(auto, unfolding(gx_model::specs::Stores::StoreReading::store_of))]
+/// The repository of a store text.
 fn read_store<N: Namer + Drop, A: Allocator + Copy>(
     alloc: A,
     namer: N,
@@ -71,12 +70,28 @@ fn read_store<N: Namer + Drop, A: Allocator + Copy>(
     ensures namer { IfOk result (λ repo. repo.0 ≡ namer) }
     ensures store { Reads (λ repo. repo.1) result (store_of (N.name_of namer) text.now) }
 {
+    let mut repo = Repo::new(alloc, namer, state);
+    read_into(alloc, &mut repo, bodies, text)?;
+    Ok(repo)
+}
+
+/// Reads a store text into a repository that holds nothing, line by line.
+#[tactic(auto, unfolding(gx_model::specs::Stores::StoreReading::store_of))]
+fn read_into<N: Namer, A: Allocator + Copy>(
+    alloc: A,
+    repo: &mut Repo<N, A>,
+    bodies: &Bodies<'_, A>,
+    text: &[u8],
+) -> Result<(), FileFault>
+    requires left { IsEndOfText bodies.now text.now }
+    requires empty { repo.old.1 ≡ record { records = []; refs = [] } }
+    ensures namer { repo.new.0 ≡ repo.old.0 }
+    ensures store { Reads (λ _. repo.new.1) result (store_of (N.name_of repo.old.0) text.now) }
+{
     let (version, rest) = read_magic(text)?;
     let (objects, rest) = read_count(b"objects", rest)?;
-    let mut repo = Repo::new(alloc, namer, state);
-    let rest = read_records(&mut repo, bodies, version, objects, rest)?;
+    let rest = read_records(repo, bodies, version, objects, rest)?;
     let (refs, rest) = read_count(b"refs", rest)?;
-    let rest = read_refs(alloc, &mut repo, refs, rest)?;
-    read_end(rest)?;
-    Ok(repo)
+    let rest = read_refs(alloc, repo, refs, rest)?;
+    read_end(rest)
 }

@@ -158,8 +158,8 @@ module _ {N : Type 0} (names : N → Kind → Bytes → Bytes) {A : Type 0} wher
   -- ---- what is added
 
   -- a commit with these files and parents, and its trees
-  abbrev pub AddsCommitWithTrees : Repository N → Repository N → NamedTree → List Name → CommitCommand A → Result Name Fault → Type 0
-  AddsCommitWithTrees old new tree parents command answer =
+  abbrev pub AddsWithTrees : Repository N → Repository N → NamedTree → List Name → CommitCommand A → Result Name Fault → Type 0
+  AddsWithTrees old new tree parents command answer =
       (tables : Tables A) (s : State) (files : FileMap Bytes) (made : List Commit) → Stands (names old.0) old.1 tables s
       → AreFiles (names old.0) s.history.values files tree.files → AreAll (IsCommitOf (names old.0) s.history.values) made parents
       → AddsAs (Clash (names old.0) (values_of old.1) (commit_added files (commit_of (commit_parts command) files made)))

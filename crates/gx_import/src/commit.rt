@@ -10,7 +10,7 @@ ghost use Rattle.gx_tree.specs.Named.{IsAtHome};
 ghost use Rattle.gx_import.specs.Objects.{AreHeldCommits, commit_object};
 ghost use Rattle.gx_import.specs.Rows.{IsSorted};
 ghost use Rattle.gx_import.specs.Standing.{Extends, HasTipsAtHome, StandsForSome};
-ghost use Rattle.gx_import.specs.Calls.{AddsCommitWithTrees, AddsCommitAlone, IsOwnCommit, MakesCommit, NamesFirstParent, NamesParents};
+ghost use Rattle.gx_import.specs.Calls.{AddsWithTrees, AddsCommitAlone, IsOwnCommit, MakesCommit, NamesFirstParent, NamesParents};
 
 use crate::ImportKind;
 use crate::branches::Tip;
@@ -141,7 +141,7 @@ fn add<N: Namer, A: Allocator + Copy>(
     ensures refs { repo.new.1.refs ≡ repo.old.1.refs }
     ensures extends { Extends repo.old.1.records repo.new.1.records }
     ensures files { files.new.files ≡ files.old.files }
-    ensures steps { AddsCommitWithTrees N.name_of repo.old repo.new files.old parents.now commit.now result }
+    ensures steps { AddsWithTrees N.name_of repo.old repo.new files.old parents.now commit.now result }
 {
     repo.sound();
     trees_add_file_maps();

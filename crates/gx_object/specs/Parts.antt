@@ -1,11 +1,13 @@
 -- The parts of commits and tags without where they lie in memory.
-use Rattle.std.specs.Prelude.{◌≡◌, Result, IsOkAnd}
+use Rattle.std.specs.Prelude.{◌≡◌, Option, Result, IsOkAnd}
+use Rattle.std.specs.Borrow.{Bor}
 use Rattle.std.specs.Option.{option_map}
 use Rattle.gx_model.specs.Objects.{CommitParts, TagParts}
 use Rattle.gx_model.specs.Texts.{Bytes}
 use Rattle.gx_text.specs.Idents.{ident_bytes}
-use Rattle.gx_object.specs.Commits.{bytes_of_names}
+use Rattle.gx_object.specs.Commits.{bytes_of_names, parents_of}
 use Rattle.gx_object.specs.Lines.{optional_bytes}
+use Rattle.gx_object.specs.declared.name.Name.{Name}
 use Rattle.gx_object.specs.declared.commit.CommitParts.{CommitParts as GivenCommit}
 use Rattle.gx_object.specs.declared.tag.TagParts.{TagParts as GivenTag}
 
@@ -27,3 +29,20 @@ commit_parts p = record {
 
 abbrev pub tag_parts : GivenTag → TagParts
 tag_parts p = record { object = p.object.bytes; name = p.name.now; tagger = option_map ident_bytes p.tagger; message = p.message.now }
+
+-- what a commit's body was cut into, where the parents' lines stand uncut
+abbrev pub shown_commit : Name → Bor Bytes → Bor Bytes → Bor Bytes → Option (Bor Bytes) → Bor Bytes → CommitParts
+shown_commit tree parents author committer encoding message = record {
+  tree = tree.bytes;
+  parents = (parents_of parents.now).0;
+  text = record {
+    author = author.now;
+    committer = committer.now;
+    encoding = optional_bytes encoding;
+    message = message.now;
+  };
+}
+
+-- what a tag's body was cut into
+abbrev pub shown_tag : Name → Bor Bytes → Option (Bor Bytes) → Bor Bytes → TagParts
+shown_tag object name tagger message = record { object = object.bytes; name = name.now; tagger = optional_bytes tagger; message = message.now }

@@ -74,22 +74,13 @@ pub struct CommitView<'a> {
 }
 
 impl<'a> Model for CommitView<'a> {
-    ghost use Rattle.std.specs.Option.{option_map};
     ghost use Rattle.gx_model.specs.Objects.{CommitParts};
-    ghost use Rattle.gx_object.specs.Commits.{AreParents, parents_of};
+    ghost use Rattle.gx_object.specs.Commits.{AreParents};
+    ghost use Rattle.gx_object.specs.Parts.{shown_commit};
 
     ghost Value = { CommitParts };
 
-    ghost view = { λ v. record {
-      tree = v.tree.bytes;
-      parents = (parents_of v.parents.now).0;
-      text = record {
-        author = v.author.now;
-        committer = v.committer.now;
-        encoding = option_map (λ e. e.now) v.encoding;
-        message = v.message.now;
-      };
-    } };
+    ghost view = { λ v. shown_commit v.tree v.parents v.author v.committer v.encoding v.message };
 
     ghost invariant = { λ v. AreParents v.parents.now };
 }

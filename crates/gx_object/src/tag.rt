@@ -53,12 +53,12 @@ pub struct TagView<'a> {
 }
 
 impl<'a> Model for TagView<'a> {
-    ghost use Rattle.std.specs.Option.{option_map};
     ghost use Rattle.gx_model.specs.Objects.{TagParts};
+    ghost use Rattle.gx_object.specs.Parts.{shown_tag};
 
     ghost Value = { TagParts };
 
-    ghost view = { λ v. record { object = v.object.bytes; name = v.name.now; tagger = option_map (λ t. t.now) v.tagger; message = v.message.now } };
+    ghost view = { λ v. shown_tag v.object v.name v.tagger v.message };
 }
 
 impl<'a> TagView<'a> {

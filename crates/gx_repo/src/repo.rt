@@ -57,17 +57,14 @@ pub struct Repo<N: Namer, A: Allocator> {
 }
 
 impl<N: Namer, A: Allocator> Model for Repo<N, A> {
-    ghost use Rattle.std.specs.Prelude.{◌≡◌, map};
     ghost use Rattle.gx_model.specs.Histories.{Records};
-    ghost use Rattle.gx_model.specs.Records.Sound.{IsSound};
-    ghost use Rattle.gx_repo.specs.Refs.{shown_ref};
-    ghost use Rattle.gx_repo.specs.Rooms.{IsFront};
+    ghost use Rattle.gx_repo.specs.Repositories.{IsRepository, held_in};
 
     ghost Value = { N × Records };
 
-    ghost view = { λ s. (s.store.0, record { records = s.store.1; refs = map shown_ref s.refs.items }) };
+    ghost view = { λ s. (s.store.0, held_in s.store.1 s.refs.items) };
 
-    ghost invariant = { λ s. IsSound (N.name_of s.store.0) (record { records = s.store.1; refs = map shown_ref s.refs.items }) × IsFront s.rooms.items s.store.1 };
+    ghost invariant = { λ s. IsRepository N.name_of s.store s.refs.items s.rooms.items };
 }
 
 impl<N: Namer, A: Allocator + Copy> Repo<N, A> {
@@ -91,16 +88,18 @@ impl<N: Namer, A: Allocator + Copy> Repo<N, A> {
         let _ = &self.store;
     }
 
-    /// Its objects. Takes no memory.
+    /// Its objects; they are sound with the refs. Takes no memory.
     pub fn store(&self) -> &Store<N, A>
-        ensures { result.now ≡ (self.now.0, self.now.1.records) }
+        ensures held { result.now ≡ (self.now.0, self.now.1.records) }
+        ensures sound { IsSound (N.name_of self.now.0) self.now.1 }
     {
         &self.store
     }
 
-    /// Its refs, in the byte order of their names. Takes no memory.
+    /// Its refs, in the byte order of their names; they are sound with the objects. Takes no memory.
     pub fn refs(&self) -> Refs<'_, A>
-        ensures { result ≡ self.now.1.refs }
+        ensures held { result ≡ self.now.1.refs }
+        ensures sound { IsSound (N.name_of self.now.0) self.now.1 }
     {
         Refs {
             rest: self.refs.as_slice(),
@@ -111,7 +110,8 @@ impl<N: Namer, A: Allocator + Copy> Repo<N, A> {
     ///
     /// Cost: a look-up for each tag, and its body. Takes no memory. Source: gitrevisions(7), on `^{}`.
     pub fn peel(&self, name: &Name) -> Option<Name>
-        ensures { bytes_found result ≡ commit_named self.now.1.records name.now.bytes }
+        ensures commit { bytes_found result ≡ commit_named self.now.1.records name.now.bytes }
+        ensures sound { IsSound (N.name_of self.now.0) self.now.1 }
     {
         let (kind, body) = self.store.get(name)?;
         match kind {

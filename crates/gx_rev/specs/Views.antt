@@ -1,7 +1,9 @@
 -- Suffixes, range words and what is borrowed, as the model has them, without where they lie in memory.
-use Rattle.std.specs.Prelude.{Option}
+use Rattle.std.specs.Prelude.{List, Option, map}
 use Rattle.std.specs.Borrow.{Bor}
 use Rattle.std.specs.Option.{option_map}
+use Rattle.gx_model.specs.Texts.{Bytes}
+use Rattle.gx_model.specs.Texts.Paths.{Path}
 use Rattle.gx_model.specs.Revisions as model
 use Rattle.gx_rev.specs.declared.suffix.Suffix.{Suffix}
 use Rattle.gx_rev.specs.declared.suffix.Suffix.TheVariants.{Parent, Ancestor, Peeled, Itself, Commit, Blob, Tree, Tag}
@@ -21,6 +23,10 @@ shown_suffix Commit = model.as_commit
 shown_suffix Blob = model.as_blob
 shown_suffix Tree = model.as_tree
 shown_suffix Tag = model.as_tag
+
+-- a base, suffixes and a path as they are held
+abbrev pub shown_revision : Bytes → List Suffix → Option Path → model.Revision
+shown_revision base suffixes path = record { base = base; suffixes = map shown_suffix suffixes; path = path }
 
 abbrev pub shown_range : {A : Type 0} → Range A → model.RangeWord
 shown_range (range.WithAncestors r) = model.WithAncestors r

@@ -26,14 +26,13 @@ pub struct Revision<A: Allocator> {
 }
 
 impl<A: Allocator> Model for Revision<A> {
-    ghost use Rattle.std.specs.Prelude.{map};
     ghost use Rattle.gx_model.specs.Revisions.{Revision};
 
     ghost Value = { Revision };
 
-    ghost use Rattle.gx_rev.specs.Views.{shown_suffix};
+    ghost use Rattle.gx_rev.specs.Views.{shown_revision};
 
-    ghost view = { λ r. record { base = r.base.items; suffixes = map shown_suffix r.suffixes.items; path = r.path } };
+    ghost view = { λ r. shown_revision r.base.items r.suffixes.items r.path };
 }
 
 impl<A: Allocator + Copy> Revision<A> {

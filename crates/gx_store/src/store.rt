@@ -5,8 +5,7 @@ ghost use Rattle.std.specs.List.{slice_range};
 ghost use Rattle.std.specs.Option.{option_map};
 ghost use Rattle.gx_model.specs.Records.Growth.{record_named};
 ghost use Rattle.gx_model.specs.Records.Lookups.{records_begun_by};
-ghost use Rattle.gx_store.specs.Stores.{AreHeld, IsFound, Puts, PutsObject, place_named, record_under, shown_object, shown_record};
-ghost use Rattle.gx_model.specs.Histories.{object_of};
+ghost use Rattle.gx_store.specs.Stores.{AreHeld, IsFound, Puts, PutsObject, named_object, place_named, record_under, shown_object, shown_record};
 ghost use Rattle.gx_store.specs.Bodies.{bytes_of};
 ghost use Rattle.gx_store.specs.Prefixes.{prefix_of};
 ghost use Rattle.gx_store.specs.Objects.{shown_stored};
@@ -43,17 +42,15 @@ pub struct Store<N: Namer, A: Allocator> {
 impl<N: Namer, A: Allocator> Model for Store<N, A> {
     ghost use Rattle.std.specs.Prelude.{List, map};
     ghost use Rattle.gx_model.specs.Histories.{Record};
-    ghost use Rattle.gx_store.specs.Stores.{AreHeld};
 
     ghost Value = { N × List Record };
 
-    ghost use Rattle.gx_store.specs.Objects.{shown_stored};
-    ghost use Rattle.gx_store.specs.Chains.{AreFronts};
+    ghost use Rattle.gx_store.specs.Objects.{AreStored, shown_stored};
     ghost use Rattle.indexmap.specs.IndexMap.{keys};
 
     ghost view = { λ s. (s.namer, map shown_stored s.objects.entries) };
 
-    ghost invariant = { λ s. AreHeld (N.name_of s.namer) (map shown_stored s.objects.entries) × AreFronts s.fronts (keys s.objects) };
+    ghost invariant = { λ s. AreStored (N.name_of s.namer) s.objects.entries s.fronts (keys s.objects) };
 }
 
 impl<N: Namer, A: Allocator + Copy> Store<N, A> {
@@ -152,7 +149,7 @@ impl<N: Namer, A: Allocator + Copy> Store<N, A> {
 
     /// The kind and the body of the object with this name. Cost: constant, as expected of hashes. Takes no memory.
     pub fn get(&self, name: &Name) -> Option<(Kind, &[u8])>
-        ensures { option_map shown_object result ≡ option_map object_of (record_named self.now.1 name.now.bytes) }
+        ensures { option_map shown_object result ≡ named_object self.now.1 name.now.bytes }
     {
         let object = self.objects.get(name)?;
         Some((object.kind, object.body.as_slice()))

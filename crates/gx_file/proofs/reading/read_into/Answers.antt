@@ -1,6 +1,6 @@
 use Rattle.std.proofs.Common.{codes}
 use Rattle.gx_file.proofs.LeftTexts.{left_count, left_magic}
-use Rattle.gx_file.proofs.reading.read_store.Goals as goal
+use Rattle.gx_file.proofs.reading.read_into.Goals as goal
 
 pub read_records-requires : goal.read_records-requires
 read_records-requires g c =

@@ -96,7 +96,6 @@ fn files_of<N: Namer, A: Allocator + Copy>(
     requires { IsHeldAs kinds.Tree repo.now.1 tree.now }
     ensures { IfOk result (λ fs. map shown_listed fs.items ≡ named_files N.name_of repo.now tree.now) }
 {
-    repo.sound();
     let Ok(files) = PathTree::load(alloc, repo.store(), tree) else {
         return Err(AllocError);
     };

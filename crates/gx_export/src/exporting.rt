@@ -39,7 +39,6 @@ pub fn export<N: Namer, A: Allocator + Copy, W: Sink>(
 ) -> Result<(), ExportFault>
     ensures { Exports repo.now.1 (W.taken sink.old) (W.taken sink.new) result }
 {
-    repo.sound();
     let reached = reached_from_refs(alloc, repo)?;
     let mut written = Written::new(alloc, repo.store().len())?;
     write(sink, &mut written.bytes, b"feature done\n")?;

@@ -25,7 +25,6 @@ pub(crate) fn write_refs<N: Namer, A: Allocator + Copy, W: Sink>(
     ensures adds { AddsAllRefs W.taken repo.now.1 written.old written.new sink.old sink.new result }
     ensures memory { NeedsNoMemory result }
 {
-    repo.sound();
     for (name, object) in repo.refs() {
         write_ref(repo, sink, written, name, &object)?;
     }
@@ -45,7 +44,6 @@ fn write_ref<N: Namer, A: Allocator + Copy, W: Sink>(
     ensures adds { AddsOneRef W.taken repo.now.1 name.now object.now written.old written.new sink.old sink.new result }
     ensures memory { NeedsNoMemory result }
 {
-    repo.sound();
     let Some((kind, body)) = repo.store().get(object) else {
         unreachable!();
     };

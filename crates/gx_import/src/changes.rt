@@ -135,7 +135,6 @@ fn held_blob<N: Namer, A: Allocator + Copy>(
 ) -> Result<Name, ImportKind>
     ensures { GivesBlob N.name_of repo.now name result }
 {
-    repo.sound();
     match repo.store().get(&name) {
         Some((kind, _)) => name_of_kind(Object { kind, name }, Kind::Blob),
         None => Err(ImportKind::UnknownObject),

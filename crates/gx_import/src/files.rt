@@ -73,7 +73,6 @@ fn loaded_files<N: Namer, A: Allocator + Copy>(
     ensures home { IfOk result (IsAtHome (N.name_of repo.now.0) repo.now.1.records) }
     ensures fault { IfErr result (λ fault. fault ≡ OutOfMemory) }
 {
-    repo.sound();
     let tree = tree_of(repo, commit);
     Ok(PathTree::load(alloc, repo.store(), &tree)?)
 }

@@ -61,7 +61,6 @@ pub fn import<N: Namer, A: Allocator + Copy, R: Source + Drop, W: Sink>(
     nulls_are_refused();
     exports_are_readable();
     exports_are_imported();
-    repo.sound();
     let mut checkpoints = Checkpoints::new(alloc, repo.store().len(), has_no_refs(repo));
     match replay_and_publish(alloc, repo, &mut checkpoints, source, sink) {
         Ok(report) => {
@@ -101,7 +100,6 @@ fn replay_and_publish<N: Namer, A: Allocator + Copy, R: Source + Drop, W: Sink>(
     ensures gitlinks { KeepsNoNullGitlink repo.old.1 (left_by result checkpoints.new repo.new.1) }
 {
     histories_of_records();
-    repo.sound();
     let held = repo.store().len();
     let mut tables = Tables::new(alloc);
     let commands = replay(repo, &mut tables, checkpoints, source, sink)?;
@@ -112,7 +110,6 @@ fn replay_and_publish<N: Namer, A: Allocator + Copy, R: Source + Drop, W: Sink>(
             checkpoints: checkpoints.count,
         });
     }
-    repo.sound();
     let objects = (repo.store().len() - held) as u64;
     Ok(Report {
         commands,

@@ -23,7 +23,6 @@ pub(crate) fn commit_in<N: Namer, A: Allocator + Copy>(
 ) -> Result<Name, ImportKind>
     ensures { ShowsCommit N.name_of repo.now object result }
 {
-    repo.sound();
     match repo.peel(&object.name) {
         Some(commit) => Ok(commit),
         None => Err(ImportKind::WrongKind),

@@ -133,7 +133,6 @@ fn is_forward<N: Namer, A: Allocator + Copy>(
     requires commit { IsCommitIfAny N.name_of repo.now (Some new) }
     ensures { TellsForward N.name_of repo.now object (Some new) result }
 {
-    repo.sound();
     let Some(object) = object else {
         return Ok(true);
     };

@@ -143,7 +143,6 @@ fn apply_checkpoint<N: Namer, A: Allocator + Copy>(
     ensures has_all { OnOk result (HoldsAll repo.new.1 checkpoints.new) }
 {
     publish(repo, tables, &mut checkpoints.refs, checkpoints.has_all)?;
-    repo.sound();
     checkpoints.count += 1;
     checkpoints.records = repo.store().len();
     Ok(())

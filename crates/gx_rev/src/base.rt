@@ -61,7 +61,6 @@ fn find_name<N: Namer, A: Allocator + Copy>(
     ensures held { IfOk result (IsHeld repo.now.1) }
     ensures memory { NeedsNoMemory result }
 {
-    repo.sound();
     let Some(name) = Name::read(digits) else {
         unreachable!();
     };
@@ -80,7 +79,6 @@ fn find_digits<N: Namer, A: Allocator + Copy>(
     ensures held { IfOk result (IsHeld repo.now.1) }
     ensures memory { NeedsNoMemory result }
 {
-    repo.sound();
     match repo.store().by_prefix(digits) {
         Prefix::Unique(name) => Ok(name),
         Prefix::Absent => Err(RevFault::UnknownRef),

@@ -18,7 +18,6 @@ pub(crate) fn kind_of<N: Namer, A: Allocator + Copy>(repo: &Repo<N, A>, name: &N
     requires { IsHeld repo.now.1 name.now }
     ensures { result ≡ kind_of (N.name_of repo.now.0) (value_at repo.now.1 name.now) }
 {
-    repo.sound();
     let Some((kind, _)) = repo.store().get(name) else {
         unreachable!();
     };
@@ -32,7 +31,6 @@ pub fn body_of<'a, N: Namer, A: Allocator + Copy>(repo: &'a Repo<N, A>, name: &N
     requires { IsHeld repo.now.1 name.now }
     ensures { result.now ≡ body_of (N.name_of repo.now.0) (value_at repo.now.1 name.now) }
 {
-    repo.sound();
     let Some((_, body)) = repo.store().get(name) else {
         unreachable!();
     };
@@ -49,7 +47,6 @@ pub(crate) fn commit_of<N: Namer, A: Allocator + Copy>(
     ensures held { IfOk result (IsHeldAs kinds.Commit repo.now.1) }
     ensures memory { NeedsNoMemory result }
 {
-    repo.sound();
     match repo.peel(name) {
         Some(commit) => Ok(commit),
         None => Err(RevFault::WrongKind),
@@ -84,7 +81,6 @@ pub fn entries_of<'a, N: Namer, A: Allocator + Copy>(
     ensures entries { result ≡ entries_at repo.now.1 tree.now }
     ensures files { result ≡ entries_given N.name_of repo.now tree.now }
 {
-    repo.sound();
     let Some((_, body)) = repo.store().get(tree) else {
         unreachable!();
     };

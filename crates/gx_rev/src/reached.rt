@@ -56,7 +56,6 @@ pub(crate) fn unmarked<N: Namer, A: Allocator + Copy>(
 ) -> Result<Vec<bool, A>, AllocError>
     ensures { IfOk result (λ marks. AreTips repo.now.1 nothing marks.items) }
 {
-    repo.sound();
     let count = repo.store().len();
     let marks = vec![in alloc; false; count]?;
     Ok(marks)
@@ -131,7 +130,6 @@ pub fn place_of<N: Namer, A: Allocator + Copy>(repo: &Repo<N, A>, name: &Name) -
     requires { IsHeld repo.now.1 name.now }
     ensures { slice_get (values_of repo.now.1) result ≡ Some (value_at repo.now.1 name.now) }
 {
-    repo.sound();
     let Some(place) = repo.store().place(name) else {
         unreachable!();
     };
@@ -146,7 +144,6 @@ pub fn name_at<N: Namer, A: Allocator + Copy>(repo: &Repo<N, A>, place: usize) -
     ensures value { slice_get (values_of repo.now.1) place ≡ Some (value_at repo.now.1 result) }
     ensures held { IsHeld repo.now.1 result }
 {
-    repo.sound();
     let Some((name, _, _)) = repo.store().record(place) else {
         unreachable!();
     };

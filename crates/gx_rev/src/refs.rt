@@ -39,7 +39,6 @@ fn mark_refs<N: Namer, A: Allocator + Copy>(repo: &Repo<N, A>, marks: &mut [bool
     requires { AreTips repo.now.1 nothing marks.old }
     ensures { AreTips repo.now.1 (is_wanted repo.now.1) marks.new }
 {
-    repo.sound();
     for (_, object) in repo.refs() {
         if let Some(commit) = repo.peel(&object) {
             mark(repo, marks, &commit);

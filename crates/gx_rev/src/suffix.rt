@@ -147,7 +147,6 @@ fn peeled<N: Namer, A: Allocator + Copy>(repo: &Repo<N, A>, name: &Name) -> Name
     ensures value { value_at repo.now.1 result ≡ peel (value_at repo.now.1 name.now) }
     ensures held { IsHeld repo.now.1 result }
 {
-    repo.sound();
     match repo.peel(name) {
         Some(commit) => commit,
         None => *name,

@@ -14,5 +14,5 @@ abbrev pub shown_stored : {A : Type 0} → Name × Object A → Record
 shown_stored entry = record { name = entry.0.bytes; kind = entry.1.kind; body = bytes_of entry.1.body }
 
 -- objects under the namer's names, which differ, with the fronts of these names
-abbrev pub AreStored : {A : Type 0} → (Kind → Bytes → Bytes) → List (Name × Object A) → Fronts A → List Name → Type 0
-AreStored name entries fronts names = AreHeld name (map shown_stored entries) × AreFronts fronts names
+abbrev pub IsStore : {A : Type 0} → (Kind → Bytes → Bytes) → List (Name × Object A) → Fronts A → List Name → Type 0
+IsStore name entries fronts names = AreHeld name (map shown_stored entries) × AreFronts fronts names

@@ -45,12 +45,12 @@ impl<N: Namer, A: Allocator> Model for Store<N, A> {
 
     ghost Value = { N × List Record };
 
-    ghost use Rattle.gx_store.specs.Objects.{AreStored, shown_stored};
+    ghost use Rattle.gx_store.specs.Objects.{IsStore, shown_stored};
     ghost use Rattle.indexmap.specs.IndexMap.{keys};
 
     ghost view = { λ s. (s.namer, map shown_stored s.objects.entries) };
 
-    ghost invariant = { λ s. AreStored (N.name_of s.namer) s.objects.entries s.fronts (keys s.objects) };
+    ghost invariant = { λ s. IsStore (N.name_of s.namer) s.objects.entries s.fronts (keys s.objects) };
 }
 
 impl<N: Namer, A: Allocator + Copy> Store<N, A> {

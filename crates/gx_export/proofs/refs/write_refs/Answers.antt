@@ -16,10 +16,10 @@ use Rattle.gx_export.proofs.refs.write_refs.Goals as goal
 
 pub loop-name-init : goal.loop-name-init
 loop-name-init g c =
-    let all = c.into_iter-name-iterator.ensures.into_iter_gives ∙ c.refs-name-items.ensures in (
+    let all = c.into_iter-name-iterator.ensures.into_iter_gives ∙ c.refs-name-items.ensures.held in (
       tt,
       ([], sym all, λ ws h. adds_nothing c.args.repo.now.1 ws c.args.written.now (g.W.Sink.taken c.args.sink.now) h),
-      subst (AllByRecursion (λ ref. IsTarget c.args.repo.now.1.records ref.0 ref.1)) (sym all) c.sound.ensures.held,
+      subst (AllByRecursion (λ ref. IsTarget c.args.repo.now.1.records ref.0 ref.1)) (sym all) c.refs-name-items.ensures.sound.held,
     )
 
 pub write_ref-requires-clause-target : goal.write_ref-requires-clause-target

@@ -46,18 +46,18 @@ add_entry-returns g t c = λ ws k h entry leaf kept.
 
 pub add_entries-unreachable-requires : goal.add_entries-unreachable-requires
 add_entries-unreachable-requires g t c =
-    is_there (g.N.Namer.name_of c.args.repo.now.0) c.args.repo.now.1.records c.args.tree.now.bytes c.requires.held.0 c.get.result c.requires.held.1.within.0 c.in_default.is (rw c.store.ensures at c.get.ensures)
+    is_there (g.N.Namer.name_of c.args.repo.now.0) c.args.repo.now.1.records c.args.tree.now.bytes c.requires.held.0 c.get.result c.requires.held.1.within.0 c.in_default.is (rw c.store.ensures.held at c.get.ensures)
 
 pub add_entries-held_tree-entry-items-requires : goal.add_entries-held_tree-entry-items-requires
 add_entries-held_tree-entry-items-requires g t c =
     let name = g.N.Namer.name_of c.args.repo.now.0 in
-    let text = held_text name c.args.repo.now.1.records (g.met.N.Namer.is_namer c.args.repo.now.0) c.args.tree.now.bytes c.requires.held.0 c.get.result c.in-Some.field-0-0 c.in-Some.body c.requires.held.1.within.0 c.in-Some.is (rw c.store.ensures at c.get.ensures) in
+    let text = held_text name c.args.repo.now.1.records (g.met.N.Namer.is_namer c.args.repo.now.0) c.args.tree.now.bytes c.requires.held.0 c.get.result c.in-Some.field-0-0 c.in-Some.body c.requires.held.1.within.0 c.in-Some.is (rw c.store.ensures.held at c.get.ensures) in
     (map (kept_entry name) (level_of c.requires.held.0), text)
 
 pub add_entries-loop-entry-init : goal.add_entries-loop-entry-init
 add_entries-loop-entry-init g t c = λ ws f h kept held.
     let name = g.N.Namer.name_of c.args.repo.now.0 in
-    let text = held_text name c.args.repo.now.1.records (g.met.N.Namer.is_namer c.args.repo.now.0) c.args.tree.now.bytes f c.get.result c.in-Some.field-0-0 c.in-Some.body held c.in-Some.is (rw c.store.ensures at c.get.ensures) in
+    let text = held_text name c.args.repo.now.1.records (g.met.N.Namer.is_namer c.args.repo.now.0) c.args.tree.now.bytes f c.get.result c.in-Some.field-0-0 c.in-Some.body held c.in-Some.is (rw c.store.ensures.held at c.get.ensures) in
     record {
       done = [];
       loading = loading_none name (level_of f) c.held_tree-entry-items.result c.into_iter-entry-iterator.result c.into_iter-entry-iterator.ensures.into_iter_gives (c.held_tree-entry-items.ensures (map (kept_entry name) (level_of f)) text);

@@ -20,7 +20,7 @@ returns-in_err-send_count-clause-text g c =
     let now = g.W.Sink.taken c.send_count.new.sink in
     let counted = subst (λ n. FailedWithin was now (line (codes "objects") (decimal n))) c.len-count.ensures.count c.in_err-send_count.ensures in
     let fails = left_fails (texts rs) was was now (line (codes "objects") (decimal (length rs))) (flat_map (stored_record Two) rs) (all_left (texts rs) was) counted in
-    rw p.1 (subst (λ rs. FailedWithin was now (texts rs)) (ap (λ s. s.1) c.store-store.ensures) fails)
+    rw p.1 (subst (λ rs. FailedWithin was now (texts rs)) (ap (λ s. s.1) c.store-store.ensures.held) fails)
 
 pub unreachable-requires : goal.unreachable-requires
 unreachable-requires g c = is_within c.store-store.result.now.1 c.loop-place.place c.in_default.ensures (rw c.len-count.ensures.count at c.loop-place-test.true)
@@ -37,7 +37,7 @@ returns-in_err-send_record-clause-text g c =
     let now = g.W.Sink.taken c.send_record.new.sink in
     let left = next_left (stored_record Two) (texts rs) was mid rs place r (from_place rs place r c.in-Some.ensures) c.loop-place.invariant.0 in
     let fails = left_fails (texts rs) was mid now (stored_record Two r) (flat_map (stored_record Two) (drop (place + 1) rs)) left c.in_err-send_record.ensures.text in
-    rw p.1 (subst (λ rs. FailedWithin was now (texts rs)) (ap (λ s. s.1) c.store-store.ensures) fails)
+    rw p.1 (subst (λ rs. FailedWithin was now (texts rs)) (ap (λ s. s.1) c.store-store.ensures.held) fails)
 
 pub loop-place-preserved : goal.loop-place-preserved
 loop-place-preserved g c =

@@ -17,7 +17,7 @@ returns-in_err-send_count-clause-text g c =
     let counted = line (codes "refs") (decimal (length refs)) in
     let was = g.W.Sink.taken c.args.sink.now in
     let now = g.W.Sink.taken c.send_count.new.sink in
-    let number = count_from_yields_List c.refs.result c.count.result c.count.ensures.ran (YieldsList-from_rest {shows = shown_lent_ref} refs c.refs.ensures) in
+    let number = count_from_yields_List c.refs.result c.count.result c.count.ensures.ran (YieldsList-from_rest {shows = shown_lent_ref} refs c.refs.ensures.held) in
     let failed = subst (λ n. FailedWithin was now (line (codes "refs") (decimal n))) number c.in_err-send_count.ensures in
     rw p.1 (left_fails (counted ++ flat_map stored_ref refs) was was now counted (flat_map stored_ref refs) (all_left (counted ++ flat_map stored_ref refs) was) failed)
 
@@ -28,9 +28,9 @@ loop-name-init g c =
     let whole = counted ++ flat_map stored_ref refs in
     let was = g.W.Sink.taken c.args.sink.now in
     let now = g.W.Sink.taken c.send_count.new.sink in
-    let number = count_from_yields_List c.refs.result c.count.result c.count.ensures.ran (YieldsList-from_rest {shows = shown_lent_ref} refs c.refs.ensures) in
+    let number = count_from_yields_List c.refs.result c.count.result c.count.ensures.ran (YieldsList-from_rest {shows = shown_lent_ref} refs c.refs.ensures.held) in
     let took = subst (λ n. Took was now (line (codes "refs") (decimal n))) number c.in_ok-send_count.ensures in
-    let all = c.into_iter-name-iterator.ensures.into_iter_gives ∙ c.refs-name-items.ensures in
+    let all = c.into_iter-name-iterator.ensures.into_iter_gives ∙ c.refs-name-items.ensures.held in
     (tt, tt, subst (λ refs. IsLeft whole was now (flat_map stored_ref refs)) (sym all) (less_left whole was was now counted (flat_map stored_ref refs) (all_left whole was) took))
 
 pub loop-name-preserved : goal.loop-name-preserved

@@ -37,7 +37,7 @@ pub returns-in-Err-clause-gitlinks : goal.returns-in-Err-clause-gitlinks
 returns-in-Err-clause-gitlinks g c = λ none.
     let name = g.N.Namer.name_of c.args.repo.now.0 in
     let law = c.histories_of_records.ensures name (g.met.N.Namer.is_namer c.args.repo.now.0) in
-    let left = c.replay.ensures.gitlinks_left (law.stands c.args.repo.now.1 c.sound.ensures).history none in
+    let left = c.replay.ensures.gitlinks_left (law.stands c.args.repo.now.1 c.store.ensures.sound).history none in
     subst (λ (r : g.row.N.Denot × Records). HoldsNoNullGitlink (history_of (left_of c.replay.new.checkpoints r.1))) (sym c.in-Err.ensures.unchanged) left
 
 pub returns-clause-replayed : goal.returns-clause-replayed
@@ -50,12 +50,12 @@ returns-clause-replayed g c =
     let was = g.W.Sink.taken c.args.sink.now in
     let now = g.W.Sink.taken c.replay.new.sink in
     let stands = subst (λ n. Stands (g.N.Namer.name_of n) c.replay.new.repo.1 c.replay.new.tables k.0) {y = c.replay.new.repo.0} (sym {a = c.replay.new.repo.0} c.replay.ensures.namer) k.1 in
-    let sounds = subst (λ n. IsSound (g.N.Namer.name_of n) new) {y = c.args.repo.now.0} (c.publish.ensures.namer ∙ c.replay.ensures.namer) c.sound-2.ensures in
+    let sounds = subst (λ n. IsSound (g.N.Namer.name_of n) new) {y = c.args.repo.now.0} (c.publish.ensures.namer ∙ c.replay.ensures.namer) c.store-2.ensures.sound in
     let law = c.histories_of_records.ensures name (g.met.N.Namer.is_namer c.args.repo.now.0) in
-    let held = c.len-held.ensures.count ∙ ap (λ z. length z.1) c.store.ensures in
+    let held = c.len-held.ensures.count ∙ ap (λ z. length z.1) c.store.ensures.held in
     let counts = c.len-2.ensures.len ∙ sym (length-map c.publish.new.published.rows.entries row_of) ∙ sym (as_many (overwritten k.0 k.0.published) (rows_of c.publish.new.published) (c.in_default.ensures.entered k.0 stands k.2.names)) in
-    let len = c.len.ensures.count ∙ ap (λ z. length z.1) c.store-2.ensures in
-    let all = imports_all name old new c.replay.new.repo.1 coming c.in_ok-commands.commands k.0 was now k.3 law c.sound.ensures sounds c.len-2.result (c.in_default.ensures.published k.0 stands) counts in
+    let len = c.len.ensures.count ∙ ap (λ z. length z.1) c.store-2.ensures.held in
+    let all = imports_all name old new c.replay.new.repo.1 coming c.in_ok-commands.commands k.0 was now k.3 law c.store.ensures.sound sounds c.len-2.result (c.in_default.ensures.published k.0 stands) counts in
     let objects : length new.records - length old.records ≡ c.len.result - c.len-held.result = ap (λ x. x - length old.records) (sym len) ∙ ap (λ x. c.len.result - x) (sym held) in
     subst (λ x. Imports name old new coming was now (Ok (record { commands = c.in_ok-commands.commands; objects = x; refs = c.len-2.result }))) objects all
 
@@ -63,4 +63,4 @@ pub returns-clause-gitlinks : goal.returns-clause-gitlinks
 returns-clause-gitlinks g c = λ none.
     let name = g.N.Namer.name_of c.args.repo.now.0 in
     let law = c.histories_of_records.ensures name (g.met.N.Namer.is_namer c.args.repo.now.0) in
-    same_records_keep c.replay.new.repo.1 c.publish.new.repo.1 c.publish.ensures.records (c.in_ok-commands.ensures.gitlinks (law.stands c.args.repo.now.1 c.sound.ensures).history none)
+    same_records_keep c.replay.new.repo.1 c.publish.new.repo.1 c.publish.ensures.records (c.in_ok-commands.ensures.gitlinks (law.stands c.args.repo.now.1 c.store.ensures.sound).history none)

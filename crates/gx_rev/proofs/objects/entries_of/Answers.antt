@@ -13,9 +13,9 @@ held_tree-requires g c =
     let namer = g.met.N.Namer.is_namer c.args.repo.now.0 in
     let r = c.args.repo.now.1 in
     let n = c.args.tree.now.bytes in
-    let held = kind_held name namer r c.sound.ensures kinds.Tree n c.requires in
-    let same = got name namer r c.sound.ensures n (c.in-Some.field-0-0, c.in-Some.body.now) held.0 (rw c.store.ensures at c.in-Some.ensures) in
-    (paths.entries_of name namer (files_of_tree (value_of_name r.records n)), tree_text_held name namer r c.sound.ensures n c.in-Some.body.now c.requires (ap (λ o. o.1) same))
+    let held = kind_held name namer r c.store.ensures.sound kinds.Tree n c.requires in
+    let same = got name namer r c.store.ensures.sound n (c.in-Some.field-0-0, c.in-Some.body.now) held.0 (rw c.store.ensures.held at c.in-Some.ensures) in
+    (paths.entries_of name namer (files_of_tree (value_of_name r.records n)), tree_text_held name namer r c.store.ensures.sound n c.in-Some.body.now c.requires (ap (λ o. o.1) same))
 
 pub returns-clause-entries : goal.returns-clause-entries
 returns-clause-entries g c =
@@ -23,11 +23,11 @@ returns-clause-entries g c =
     let namer = g.met.N.Namer.is_namer c.args.repo.now.0 in
     let r = c.args.repo.now.1 in
     let n = c.args.tree.now.bytes in
-    let held = kind_held name namer r c.sound.ensures kinds.Tree n c.requires in
-    let same = got name namer r c.sound.ensures n (c.in-Some.field-0-0, c.in-Some.body.now) held.0 (rw c.store.ensures at c.in-Some.ensures) in
+    let held = kind_held name namer r c.store.ensures.sound kinds.Tree n c.requires in
+    let same = got name namer r c.store.ensures.sound n (c.in-Some.field-0-0, c.in-Some.body.now) held.0 (rw c.store.ensures.held at c.in-Some.ensures) in
     let es = paths.entries_of name namer (files_of_tree (value_of_name r.records n)) in
-    let text = tree_text_held name namer r c.sound.ensures n c.in-Some.body.now c.requires (ap (λ o. o.1) same) in
-    c.held_tree.ensures es text ∙ sym (entries_got r.records n c.in-Some.field-0-0 c.in-Some.body.now es (rw c.store.ensures at c.in-Some.ensures) text)
+    let text = tree_text_held name namer r c.store.ensures.sound n c.in-Some.body.now c.requires (ap (λ o. o.1) same) in
+    c.held_tree.ensures es text ∙ sym (entries_got r.records n c.in-Some.field-0-0 c.in-Some.body.now es (rw c.store.ensures.held at c.in-Some.ensures) text)
 
 pub returns-clause-files : goal.returns-clause-files
 returns-clause-files g c =
@@ -35,6 +35,6 @@ returns-clause-files g c =
     let namer = g.met.N.Namer.is_namer c.args.repo.now.0 in
     let r = c.args.repo.now.1 in
     let n = c.args.tree.now.bytes in
-    let held = kind_held name namer r c.sound.ensures kinds.Tree n c.requires in
-    let same = got name namer r c.sound.ensures n (c.in-Some.field-0-0, c.in-Some.body.now) held.0 (rw c.store.ensures at c.in-Some.ensures) in
-    c.held_tree.ensures (paths.entries_of name namer (files_of_tree (value_of_name r.records n))) (tree_text_held name namer r c.sound.ensures n c.in-Some.body.now c.requires (ap (λ o. o.1) same))
+    let held = kind_held name namer r c.store.ensures.sound kinds.Tree n c.requires in
+    let same = got name namer r c.store.ensures.sound n (c.in-Some.field-0-0, c.in-Some.body.now) held.0 (rw c.store.ensures.held at c.in-Some.ensures) in
+    c.held_tree.ensures (paths.entries_of name namer (files_of_tree (value_of_name r.records n))) (tree_text_held name namer r c.store.ensures.sound n c.in-Some.body.now c.requires (ap (λ o. o.1) same))

@@ -12,10 +12,10 @@ use Rattle.gx_rev.proofs.refs.mark_refs.Goals as goal
 
 pub loop-object-init : goal.loop-object-init
 loop-object-init g c =
-    let all = c.into_iter-object-iterator.ensures.into_iter_gives ∙ c.refs-object-items.ensures in (
+    let all = c.into_iter-object-iterator.ensures.into_iter_gives ∙ c.refs-object-items.ensures.held in (
       tt,
       ([], sym all, c.requires),
-      subst (AllByRecursion (λ ref. IsTarget c.args.repo.now.1.records ref.0 ref.1)) (sym all) c.sound.ensures.held,
+      subst (AllByRecursion (λ ref. IsTarget c.args.repo.now.1.records ref.0 ref.1)) (sym all) c.refs-object-items.ensures.sound.held,
     )
 
 pub mark-requires-clause-held : goal.mark-requires-clause-held
@@ -24,7 +24,7 @@ mark-requires-clause-held g c =
     let namer = g.met.N.Namer.is_namer c.args.repo.now.0 in
     let r = c.args.repo.now.1 in
     let target = (subst (AllByRecursion (λ ref. IsTarget r.records ref.0 ref.1)) c.in-Some.ensures.steps c.loop-object.invariant.2).0 in
-    (peeled_to name namer r c.sound.ensures c.in-Some.object.bytes c.in-Some-peel.commit.bytes (target_peels name namer r c.sound.ensures c.in-Some.field-0-0.now c.in-Some.object.bytes target).held c.in-Some-peel.ensures).1
+    (peeled_to name namer r c.refs-object-items.ensures.sound c.in-Some.object.bytes c.in-Some-peel.commit.bytes (target_peels name namer r c.refs-object-items.ensures.sound c.in-Some.field-0-0.now c.in-Some.object.bytes target).held c.in-Some-peel.ensures.commit).1
 
 pub mark-requires-clause-long : goal.mark-requires-clause-long
 mark-requires-clause-long g c = c.loop-object.invariant.1.2.long
@@ -38,7 +38,7 @@ loop-object-preserved-in-Some-peel g c =
     let i = c.loop-object.invariant.1 in (
       tt,
       next_ref r i.0 c.loop-object.object-iterator c.next.new.self (c.in-Some.field-0-0.now, c.in-Some.object.bytes) c.loop-object.marks c.mark.new.marks (commit_at r c.in-Some-peel.commit) i.1 c.in-Some.ensures.steps
-          (tip_is name namer r c.sound.ensures c.in-Some.field-0-0.now c.in-Some.object.bytes c.in-Some-peel.commit.bytes rest.0 c.in-Some-peel.ensures) i.2 c.mark.ensures.tips,
+          (tip_is name namer r c.refs-object-items.ensures.sound c.in-Some.field-0-0.now c.in-Some.object.bytes c.in-Some-peel.commit.bytes rest.0 c.in-Some-peel.ensures.commit) i.2 c.mark.ensures.tips,
       rest.1,
     )
 
@@ -48,7 +48,7 @@ loop-object-preserved g c =
     let namer = g.met.N.Namer.is_namer c.args.repo.now.0 in
     let r = c.args.repo.now.1 in
     let rest = subst (AllByRecursion (λ ref. IsTarget r.records ref.0 ref.1)) c.in-Some.ensures.steps c.loop-object.invariant.2 in
-    absurd (not_unpeeled name namer r c.sound.ensures c.in-Some.field-0-0.now c.in-Some.object.bytes rest.0 c.in_default.ensures)
+    absurd (not_unpeeled name namer r c.refs-object-items.ensures.sound c.in-Some.field-0-0.now c.in-Some.object.bytes rest.0 c.in_default.ensures.commit)
 
 pub returns : goal.returns
 returns g c =

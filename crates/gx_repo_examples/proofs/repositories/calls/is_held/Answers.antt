@@ -7,6 +7,6 @@ pub returns : goal.returns
 returns g c = λ same.
     let rs = c.args.repo.now.1.records in
     let n = c.args.name.now.bytes in
-    let shown = rw c.store.ensures at c.in-Some.ensures in
+    let shown = rw c.store.ensures.held at c.in-Some.ensures in
     let kind : c.in-Some.held ≡ c.args.kind = search rules in
     subst (λ k. Holds rs k n) kind (held_shown rs n c.in-Some.held c.in-Some._body.now (is_shown rs n c.in-Some.held c.in-Some._body.now shown))

@@ -22,14 +22,14 @@ returns-clause-extends g c =
     (front_left c.replay_and_publish.new.checkpoints.records c.args.repo.now.1.records c.replay_and_publish.new.repo.1.records c.in-Err.ensures.left.front c.replay_and_publish.ensures.extends)
 
 pub returns-in-Ok-clause-sound : goal.returns-in-Ok-clause-sound
-returns-in-Ok-clause-sound g c = subst (λ n. IsSound (g.N.Namer.name_of n) c.replay_and_publish.new.repo.1) {y = c.args.repo.now.0} c.replay_and_publish.ensures.namer c.sound-in-Ok.ensures
+returns-in-Ok-clause-sound g c = subst (λ n. IsSound (g.N.Namer.name_of n) c.replay_and_publish.new.repo.1) {y = c.args.repo.now.0} c.replay_and_publish.ensures.namer c.sound.ensures
 
 pub returns-in-Ok-clause-exported : goal.returns-in-Ok-clause-exported
 returns-in-Ok-clause-exported g c =
     let name = g.N.Namer.name_of c.args.repo.now.0 in
     let new = c.replay_and_publish.new.repo.1 in
     let namer = g.met.N.Namer.is_namer c.args.repo.now.0 in
-    let sound = subst (λ n. IsSound (g.N.Namer.name_of n) new) {y = c.args.repo.now.0} c.replay_and_publish.ensures.namer c.sound-in-Ok.ensures in
+    let sound = subst (λ n. IsSound (g.N.Namer.name_of n) new) {y = c.args.repo.now.0} c.replay_and_publish.ensures.namer c.sound.ensures in
     accepted name (c.histories_of_records.ensures name namer) (c.names_tell_values.ensures name namer) c.exports_are_readable.ensures.readable c.exports_are_imported.ensures.imported
     c.args.repo.now.1 new (g.R.Source.coming c.args.source) (g.W.Sink.taken c.args.sink.now) (g.W.Sink.taken c.replay_and_publish.new.sink) c.in-Ok.report sound c.in-Ok.ensures.replayed
 
@@ -37,7 +37,7 @@ pub returns-in-Ok-clause-stands : goal.returns-in-Ok-clause-stands
 returns-in-Ok-clause-stands g c =
     let name = g.N.Namer.name_of c.args.repo.now.0 in
     let new = c.replay_and_publish.new.repo.1 in
-    let sound = subst (λ n. IsSound (g.N.Namer.name_of n) new) {y = c.args.repo.now.0} c.replay_and_publish.ensures.namer c.sound-in-Ok.ensures in
+    let sound = subst (λ n. IsSound (g.N.Namer.name_of n) new) {y = c.args.repo.now.0} c.replay_and_publish.ensures.namer c.sound.ensures in
     stands_replayed name c.args.repo.now.1 new (g.R.Source.coming c.args.source) (g.W.Sink.taken c.args.sink.now) (g.W.Sink.taken c.replay_and_publish.new.sink) c.in-Ok.report
     (c.histories_of_records.ensures name (g.met.N.Namer.is_namer c.args.repo.now.0)) sound c.in-Ok.ensures.replayed
 

@@ -6,15 +6,15 @@ use Rattle.gx_repo.specs.Refs.{shown_ref}
 use Rattle.gx_model.proofs.HeldObjects.{IsShown, commit_peeled, is_shown, tag_peeled}
 use Rattle.gx_repo.proofs.repo.Repo.peel.Goals as goal
 
-pub returns-in-Commit : goal.returns-in-Commit
-returns-in-Commit g c =
+pub returns-in-Commit-clause-commit : goal.returns-in-Commit-clause-commit
+returns-in-Commit-clause-commit g c =
     let rs = c.self.inside.store.1 in
     let shown = is_shown rs c.args.name.now.bytes c.in_ok-kind.kind c.in_ok-kind.body.now c.in_ok-kind.ensures in
     subst (λ v. Some c.args.name.now.bytes ≡ commit_named v.1.records c.args.name.now.bytes) c.self.view_is
     (commit_peeled rs c.args.name.now.bytes c.in_ok-kind.body.now (subst (λ k. IsShown rs c.args.name.now.bytes k c.in_ok-kind.body.now) c.in-Commit.is shown))
 
-pub returns-in-Tag : goal.returns-in-Tag
-returns-in-Tag g c =
+pub returns-in-Tag-clause-commit : goal.returns-in-Tag-clause-commit
+returns-in-Tag-clause-commit g c =
     let rs = c.self.inside.store.1 in
     let r : Records = record { records = rs; refs = map shown_ref c.self.inside.refs.items } in
     let shown = is_shown rs c.args.name.now.bytes c.in_ok-kind.kind c.in_ok-kind.body.now c.in_ok-kind.ensures in

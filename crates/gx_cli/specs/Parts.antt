@@ -133,8 +133,8 @@ module _ {N W : Type 0} (name_of : N → Kind → Bytes → Bytes) (taken : W �
   TriesWord namer coming word old new result = Tries (name_of namer) coming word (taken old) (taken new) result
 
   -- what a question prints of the store of these bytes goes out, or a refusal is answered
-  abbrev pub PrintsStored : {A : Type 0} → N → Question → StoreBytes A → W → W → Result (Unit {0}) CliFault → Type 0
-  PrintsStored namer asked store old new result =
+  abbrev pub PrintsAnswer : {A : Type 0} → N → Question → StoreBytes A → W → W → Result (Unit {0}) CliFault → Type 0
+  PrintsAnswer namer asked store old new result =
       Prints (of_stored (store_of (name_of namer) (bytes_of store)) (printed_by (name_of namer) asked)) (taken old) (taken new) result
 
   -- the same, and how the command ends

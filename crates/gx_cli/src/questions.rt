@@ -1,6 +1,6 @@
 //! What commands ask of a store, and what is printed for it.
 
-ghost use Rattle.gx_cli.specs.Parts.{PrintsStored};
+ghost use Rattle.gx_cli.specs.Parts.{PrintsAnswer};
 
 use crate::log::log;
 use crate::ls::list;
@@ -38,7 +38,7 @@ pub(crate) fn print_stored<N: Namer + Drop, W: Sink, A: Allocator + Copy>(
     sink: &mut W,
     state: RandomState,
 ) -> Result<(), CliFault>
-    ensures { PrintsStored N.name_of W.taken namer question.entry store.entry sink.old sink.new result }
+    ensures { PrintsAnswer N.name_of W.taken namer question.entry store.entry sink.old sink.new result }
 {
     let repo = match open(alloc, namer, store, state) {
         Ok(repo) => repo,

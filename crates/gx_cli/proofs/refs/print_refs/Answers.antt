@@ -1,12 +1,19 @@
-use Rattle.std.proofs.Common.{Err, refl, subst, Ok}
+use Rattle.std.proofs.Common.{Err, refl, subst, sym, Ok, ◌∙◌}
 use Rattle.std.specs.List.{flat_map}
 use Rattle.std.proofs.lemmas.Result.{err_from_is_err_and}
 use Rattle.gx_model.specs.Stores.StoreText.{stored_ref}
 use Rattle.gx_cli.specs.Stored.{refs_text}
-use Rattle.gx_model.proofs.SentTexts.{IsLeft}
+use Rattle.gx_model.proofs.SentTexts.{IsLeft, all_left}
 use Rattle.gx_cli.proofs.SentLines.{given_text}
 use Rattle.gx_cli.proofs.Pieces.{piece_cut, piece_sent}
 use Rattle.gx_cli.proofs.refs.print_refs.Goals as goal
+
+pub loop-name-init : goal.loop-name-init
+loop-name-init g c =
+    let all = c.into_iter-name-iterator.ensures.into_iter_gives ∙ c.refs-name-items.ensures.held in
+    let whole = refs_text c.args.repo.now.1 in
+    let was = g.W.Sink.taken c.args.sink.now in
+    (tt, tt, subst (λ refs. IsLeft whole was was (flat_map stored_ref refs)) (sym all) (all_left whole was))
 
 pub loop-name-preserved : goal.loop-name-preserved
 loop-name-preserved g c =

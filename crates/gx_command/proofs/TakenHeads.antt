@@ -112,3 +112,19 @@ body_reads early head made None mid new h k = tt
 body_reads early head made (Some s) mid new (left, is, e) k =
     let l = subst (λ (m : Option Stream). Reads shown_command (begun head) m new (Ok made)) is k in
     (l.0, l.1, e ∙ ap there l.2)
+
+module _ (A : Type 0) (early : Bool) where
+  pub no_command : (old new : Option Stream) → TakesHead {A = A} early old new (Ok None) → Reads {X = Option (Command A)} (option_map shown_command) (first early) old new (Ok None)
+  no_command None new h = tt
+  no_command (Some s) new h = h
+
+  pub command_refused : (old new new' : Option Stream) (f : CommandFault) → TakesHead {A = A} early old new (Err f) → Reads {X = Option (Command A)} (option_map shown_command) (first early) old new' (Err f)
+  command_refused None new new' f h = tt
+  command_refused (Some s) new new' f h = h
+
+  pub body_fails : (head : Head A) (old mid new new' : Option Stream) (f : CommandFault) → TakesHead early old mid (Ok (Some head)) → Reads {X = Command A} shown_command (begun head) mid new (Err f) → Reads {X = Option (Command A)} (option_map shown_command) (first early) old new' (Err f)
+  body_fails head None mid new new' f h k = tt
+  body_fails head (Some s) mid new new' f (left, is, e) k = by (subst (λ (m : Option Stream). Reads {X = Command A} shown_command (begun head) m new (Err f)) is k) where
+    by : Fails f (begun head left) → Fails f (first early s)
+    by (inl out) = inl out
+    by (inr g) = inr (e ∙ ap there g)

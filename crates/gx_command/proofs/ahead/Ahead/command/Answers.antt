@@ -1,5 +1,19 @@
-use Rattle.gx_command.proofs.TakenHeads.{body_reads}
+use Rattle.std.proofs.lemmas.Result.{err_from_is_err_and}
+use Rattle.gx_command.proofs.TakenHeads.{body_fails, body_reads, command_refused, no_command}
 use Rattle.gx_command.proofs.ahead.Ahead.command.Goals as goal
+
+pub returns-in_err-head-clause-reads : goal.returns-in_err-head-clause-reads
+returns-in_err-head-clause-reads g c =
+    let p = err_from_is_err_and c.from_residual.result c.from_residual.ensures.1 in
+    rw (p.1, p.2) (command_refused g.row.A.Denot c.args.is_early _ _ _ _ c.in_err-head.ensures.takes)
+
+pub returns-in-None-clause-reads : goal.returns-in-None-clause-reads
+returns-in-None-clause-reads g c = no_command g.row.A.Denot c.args.is_early _ _ (rw c.in-None.is at c.in_ok-head.ensures.takes)
+
+pub returns-in_err-body-in-Some-clause-reads : goal.returns-in_err-body-in-Some-clause-reads
+returns-in_err-body-in-Some-clause-reads g c =
+    let p = err_from_is_err_and c.from_residual-in_err-body-in-Some.result c.from_residual-in_err-body-in-Some.ensures.1 in
+    rw (p.1, p.2) (body_fails g.row.A.Denot c.args.is_early c.in-Some.head _ _ _ _ _ (rw c.in-Some.is at c.in_ok-head.ensures.takes) c.in_err-body-in-Some.ensures.reads)
 
 pub returns-in_ok-body-in-Some-clause-reads : goal.returns-in_ok-body-in-Some-clause-reads
 returns-in_ok-body-in-Some-clause-reads g c = body_reads c.args.is_early c.in-Some.head _ _ _ _ (rw c.in-Some.is at c.in_ok-head.ensures.takes) c.in_ok-body-in-Some.ensures.reads

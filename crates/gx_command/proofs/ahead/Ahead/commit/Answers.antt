@@ -4,6 +4,27 @@ use Rattle.gx_command.specs.Views.{shown_commit}
 use Rattle.gx_command.proofs.Sequences.{first_fails, then_reads, all_read}
 use Rattle.gx_command.proofs.ahead.Ahead.commit.Goals as goal
 
+pub returns-in_err-mark-clause-reads : goal.returns-in_err-mark-clause-reads
+unfolding commit_at
+returns-in_err-mark-clause-reads g c =
+    let p = err_from_is_err_and c.from_residual.result c.from_residual.ensures.1 in rw (p.1, p.2)
+    (first_fails _ _ _ _ _ _ _ _ c.in_err-mark.ensures.reads)
+
+pub returns-in_err-skip_oid-clause-reads : goal.returns-in_err-skip_oid-clause-reads
+unfolding commit_at
+returns-in_err-skip_oid-clause-reads g c =
+    let p = err_from_is_err_and c.from_residual-in_err-skip_oid.result c.from_residual-in_err-skip_oid.ensures.1 in rw (p.1, p.2)
+    (then_reads _ _ _ _ _ _ _ _ _ c.in_ok-mark.ensures.reads
+    (first_fails _ _ _ _ _ _ _ _ c.in_err-skip_oid.ensures.reads))
+
+pub returns-in_err-author-clause-reads : goal.returns-in_err-author-clause-reads
+unfolding commit_at
+returns-in_err-author-clause-reads g c =
+    let p = err_from_is_err_and c.from_residual-in_err-author.result c.from_residual-in_err-author.ensures.1 in rw (p.1, p.2)
+    (then_reads _ _ _ _ _ _ _ _ _ c.in_ok-mark.ensures.reads
+    (then_reads _ _ _ _ _ _ _ _ _ c.in_ok-skip_oid.ensures.reads
+    (first_fails _ _ _ _ _ _ _ _ c.in_err-author.ensures.reads)))
+
 pub returns-in_err-committer-clause-reads : goal.returns-in_err-committer-clause-reads
 unfolding commit_at
 returns-in_err-committer-clause-reads g c =

@@ -1,0 +1,6 @@
+use Rattle.std.proofs.Common.{rules}
+use Rattle.gx_command.proofs.TakenLines.{reads_plain_line}
+use Rattle.gx_command.proofs.ahead.Ahead.mark.Goals as goal
+
+pub returns-clause-reads : goal.returns-clause-reads
+returns-clause-reads g c = reads_plain_line _ _ _ _ _ _ (λ rest q h. search rules) c.optional.ensures.takes

@@ -1,0 +1,7 @@
+use Rattle.std.proofs.Common.{rules}
+use Rattle.gx_model.specs.Streams.Grammar.{any_text}
+use Rattle.gx_command.proofs.TakenLines.{reads_plain_line}
+use Rattle.gx_command.proofs.ahead.Ahead.skip_oid.Goals as goal
+
+pub returns-clause-reads : goal.returns-clause-reads
+returns-clause-reads g c = reads_plain_line any_text _ _ _ _ _ (λ rest q h. search rules) c.optional.ensures.takes

@@ -99,6 +99,10 @@ over_of (Open o) = None
 over_of Ended = Some None
 over_of (Failed f) = Some (Some f)
 
+-- a reader in this state, ahead of which these items come, and at most so many
+abbrev pub shown_reader : State → Option Stream → ℕ → Seen
+shown_reader state items bound = record { commands = shown_commands state items; most = most_of state bound; over = over_of state }
+
 -- the command that comes next, after some options
 abbrev pub or_missing : Options → Option model.Command × Stream → Read (Option model.Command)
 or_missing o (None, t) = if o.needs_done then Err faults.MissingDone else Ok (None, t)

@@ -43,15 +43,11 @@ pub struct CommandReader<R: Source, A: Allocator> {
 
 impl<R: Source, A: Allocator> Model for CommandReader<R, A> {
     ghost use Rattle.gx_command.specs.Ahead.{to_come, most};
-    ghost use Rattle.gx_command.specs.Reading.{Seen, shown_commands, most_of, over_of};
+    ghost use Rattle.gx_command.specs.Reading.{Seen, shown_reader};
 
     ghost Value = { Seen };
 
-    ghost view = { λ r. record {
-      commands = shown_commands r.state (to_come r.ahead);
-      most = most_of r.state (most r.ahead);
-      over = over_of r.state;
-    } };
+    ghost view = { λ r. shown_reader r.state (to_come r.ahead) (most r.ahead) };
 }
 
 impl<R: Source, A: Allocator + Copy> CommandReader<R, A> {

@@ -1,9 +1,12 @@
 -- Directories that are at home while trees are written.
-use Rattle.std.proofs.Common.{◌≡◌, ℕ, ◌+◌, ◌<◌, zero, suc, Bool, true, cond, arith, get_or, List, [], ◌∷◌, ◌++◌, map, take, length, Option, Some, None, refl, ap, ◌∙◌, subst}
+use Rattle.std.proofs.Common.{◌≡◌, ℕ, ◌+◌, ◌<◌, zero, suc, Bool, true, cond, arith, get_or, List, [], ◌∷◌, ◌++◌, map, take, length, Option, Some, None, refl, sym, ap, ◌∙◌, subst}
 use Rattle.std.specs.Prelude.{IsTrue}
 use Rattle.std.specs.Option.{is_some, unwrap_or}
 use Rattle.std.specs.List.{AllByRecursion}
 use Rattle.std.proofs.lemmas.Bool.{false≢true}
+use Rattle.std.proofs.lemmas.Grind.{flat_map-append}
+use Rattle.std.proofs.lemmas.List.{append-nil, map_more}
+use Rattle.gx_model.specs.Objects.{entry_text, tree_text}
 use Rattle.gx_model.specs.declared.objects.Kind.{Kind}
 use Rattle.gx_model.specs.declared.objects.Kind.TheVariants.{Blob, Tree, Commit, Tag}
 use Rattle.gx_model.specs.declared.objects.Mode.TheVariants.{Dir}
@@ -15,14 +18,17 @@ use Rattle.gx_model.specs.Histories.{Record}
 use Rattle.gx_model.specs.Records.Growth.{and_some, put, put_all, put_under, record_named, same_kind, same_object, tree_records}
 use Rattle.gx_tree.specs.Components.{bytes_of}
 use Rattle.gx_tree.specs.Homes.{AreAtHome, IsItemAtHome}
-use Rattle.gx_tree.specs.Named.{NamedTree, IsAtHome, IsHome, own_name}
-use Rattle.gx_tree.specs.Writes.{kept_leaf, kept_records, level_records}
-use Rattle.gx_tree.specs.Views.{IsNamed, RememberAll, Remembers, item_names, shown_item, names_below, own_entry, own_leaf, shown_entries}
+use Rattle.gx_tree.specs.Named.{NamedTree, IsAtHome, IsHome, is_named, own_name}
+use Rattle.gx_tree.specs.Nodes.{IsLevel, files}
+use Rattle.gx_object.specs.declared.name.Name.{Name}
+use Rattle.gx_tree.specs.Writes.{kept_leaf, kept_records, level_records, map_name}
+use Rattle.gx_tree.specs.Written.{AreWritten, IsWritten}
+use Rattle.gx_tree.specs.Views.{IsNamed, RememberAll, Remembers, item_names, shown_item, names_below, own_entry, own_leaf, shown_entries, tree_of}
 use Rattle.gx_tree.specs.declared.directory.Item.{Item}
 use Rattle.gx_tree.specs.declared.directory.Item.TheVariants.{File, Folder}
 use Rattle.gx_tree.specs.declared.directory.Entry.{Entry}
 use Rattle.gx_tree.proofs.Below.{sub_map-whole}
-use Rattle.gx_tree.proofs.Homes.{all_joined}
+use Rattle.gx_tree.proofs.Homes.{all_joined, files_same, named_at_home}
 use Rattle.gx_tree.proofs.TreeRecords.{kept_entry}
 use Rattle.gx_tree.proofs.Texts.{same_itself}
 
@@ -114,6 +120,13 @@ module _ (name : Kind → Bytes → Bytes) (rs : List Record) where
 
 -- ---- entries that remember their names
 
+-- the text of one more
+pub text_more : {A : Type 0} (es : List (Entry A)) (i : ℕ) (r : Entry A) → i < length es → r ≡ get_or es i r → tree_text (map own_entry (take (i + 1) es)) ≡ tree_text (map own_entry (take i es)) ++ entry_text (own_entry r)
+text_more es i r l ir =
+    ap tree_text (map_more own_entry es i r l ∙ ap (λ z. map own_entry (take i es) ++ own_entry z ∷ []) (sym ir))
+    ∙ flat_map-append entry_text (map own_entry (take i es)) (own_entry r ∷ [])
+    ∙ ap (λ z. tree_text (map own_entry (take i es)) ++ z) (append-nil (entry_text (own_entry r)))
+
 own_none : (c : Bytes) (names more : List (Path × Bytes)) → own_name more ≡ None → own_name (map (λ e. (c ∷ e.0, e.1)) names ++ more) ≡ None
 own_none c [] more h = h
 own_none c (e ∷ names) more h = refl
@@ -152,3 +165,22 @@ module _ (name : Kind → Bytes → Bytes) (rs : List Record) where
   pub below_held : {A : Type 0} (es : List (Entry A)) → AreAtHome name rs es → RememberAll es → AllByRecursion (λ r. record_named rs r.name ≡ Some r) (level_records name (shown_entries es))
   below_held [] h k = tt
   below_held (e ∷ es) h k = all_joined (λ r. record_named rs r.name ≡ Some r) (kept_records name (shown_item e.item)) (level_records name (shown_entries es)) (records_held e.item h.0 k.0) (below_held es h.1 k.1)
+
+  -- a directory that remembers its name is held whole
+  pub named_held : (d : NamedTree) → IsTrue (is_named d.names) → IsAtHome name rs d → AllByRecursion (λ r. record_named rs r.name ≡ Some r) (tree_records name d.files)
+  named_held d k h = (named_by d (own_name d.names) refl k h).held
+
+  -- the same once more is written too
+  pub shared_written : (d e : NamedTree) → e ≡ d → IsTrue (is_named d.names) → IsAtHome name rs d → IsWritten name rs d.files e
+  shared_written d e same k h = record { files = files_same same; home = subst (IsAtHome name rs) (sym same) h; remembers = ap (λ t. is_named t.names) same ∙ k }
+
+-- a directory of written entries whose own tree is put
+pub directory_written : {A : Type 0} (name : Kind → Bytes → Bytes) (es below : List (Entry A)) (f : FileMap Bytes) (n : Name) (mid new : List Record) → files (shown_entries es) ≡ f → IsLevel (shown_entries es) → AreWritten name mid es below → n.bytes ≡ map_name name f → AllByRecursion (λ r. record_named new r.name ≡ Some r) (tree_records name f) → IsKeptHeld mid new → IsWritten name new f (tree_of (Some n) below)
+directory_written name es below f n mid new view level made named held kept =
+    let same = ap files made.seen ∙ view in
+    let own : IsHome name new n.bytes f = record { named = named; held = held } in
+    record {
+      files = same;
+      home = named_at_home name new n below (subst IsLevel (sym made.seen) level) (subst (IsHome name new n.bytes) (sym same) own) (entries_longer name mid new kept below made.home);
+      remembers = refl;
+    }

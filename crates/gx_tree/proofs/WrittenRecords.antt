@@ -12,28 +12,28 @@ use Rattle.gx_model.specs.Objects.{tree_text}
 use Rattle.gx_model.specs.Records.{tree_body}
 use Rattle.gx_model.specs.Histories.{Record, record_for}
 use Rattle.gx_model.specs.Records.Growth.{put, put_all, tree_record, tree_records}
+use Rattle.gx_object.specs.declared.name.Name.{Name}
 use Rattle.gx_store.specs.Stores.{Puts}
 use Rattle.gx_store.specs.declared.fault.StoreFault.{StoreFault}
 use Rattle.gx_store.specs.declared.fault.StoreFault.TheVariants as store
-use Rattle.gx_tree.specs.Nodes.{IsLevel, files}
+use Rattle.gx_tree.specs.Nodes.{IsLevel, Level, files}
 use Rattle.gx_tree.specs.StoreFaults.{tree_fault}
 use Rattle.gx_tree.specs.Homes.{AreAtHome}
 use Rattle.gx_tree.specs.Views.{shown_item, own_entry, shown_entry, shown_entries, RememberAll}
-use Rattle.gx_tree.specs.Writes.{PutsAll, kept_records, level_records}
+use Rattle.gx_tree.specs.Writes.{Extends, PutsAll, kept_records, level_records, own_record}
 use Rattle.gx_tree.specs.declared.directory.Entry.{Entry}
 use Rattle.gx_tree.specs.declared.fault.TreeFault.{TreeFault}
 use Rattle.gx_tree.specs.declared.fault.TreeFault.TheVariants.{OutOfMemory, NoSuchPath, RootNotTree, PathTooLong, NameHeld}
 use Rattle.gx_tree.proofs.Copies.{seen_more}
 use Rattle.gx_tree.proofs.Levels.{IsInner-files}
-use Rattle.gx_model.proofs.Puts.{front_trans, put_all_more, put_all_stops, put_none, put_one}
+use Rattle.gx_model.proofs.Puts.{front_put, front_same, front_trans, put_all_more, put_all_stops, put_none, put_one}
 use Rattle.gx_tree.proofs.WrittenHomes.{own_entries}
-use Rattle.gx_tree.proofs.TreeRecords.{entries-files, kept_entry, tree_records-files}
+use Rattle.gx_tree.proofs.TreeRecords.{entries-files, tree_records-files}
 
 module _ (name : Kind → Bytes → Bytes) where
   -- the trees below the first i entries are put
-  pub record IsWriting {A : Type 0} (es : List (Entry A)) (i : ℕ) (old new : List Record) : Type 0 where
-    pub puts : put_all old (level_records name (shown_entries (take i es))) ≡ Some new
-    pub front : take (length old) new ≡ old
+  abbrev pub IsWriting : {A : Type 0} → List (Entry A) → ℕ → List Record → List Record → Type 0
+  IsWriting es i old new = put_all old (level_records name (shown_entries (take i es))) ≡ Some new
 
   records_more : {A : Type 0} (es : List (Entry A)) (i : ℕ) (r : Entry A) → i < length es → r ≡ get_or es i r → level_records name (shown_entries (take (i + 1) es)) ≡ level_records name (shown_entries (take i es)) ++ kept_records name (shown_item r.item)
   records_more es i r l ir =
@@ -49,25 +49,23 @@ module _ (name : Kind → Bytes → Bytes) where
       ∙ ap (λ z. level_records name (shown_entries (take i es)) ++ level_records name z) (seen_more es i r l ir)
 
   -- one more
-  pub writing_more : {A : Type 0} (es : List (Entry A)) (i : ℕ) (r : Entry A) (old mid new : List Record) → i < length es → r ≡ get_or es i r → put_all mid (kept_records name (shown_item r.item)) ≡ Some new → take (length mid) new ≡ mid → IsWriting es i old mid → IsWriting es (i + 1) old new
-  writing_more es i r old mid new l ir p f h = record {
-    puts = ap (put_all old) (records_more es i r l ir) ∙ put_all_more old mid new (level_records name (shown_entries (take i es))) (kept_records name (shown_item r.item)) h.puts p;
-    front = front_trans old mid new h.front f;
-  }
+  pub writing_more : {A : Type 0} (es : List (Entry A)) (i : ℕ) (r : Entry A) (old mid new : List Record) → i < length es → r ≡ get_or es i r → put_all mid (kept_records name (shown_item r.item)) ≡ Some new → IsWriting es i old mid → IsWriting es (i + 1) old new
+  writing_more es i r old mid new l ir p h =
+      ap (put_all old) (records_more es i r l ir) ∙ put_all_more old mid new (level_records name (shown_entries (take i es))) (kept_records name (shown_item r.item)) h p
 
   -- an entry that isn't written stops it
-  pub writing_stops : {A : Type 0} (Y Z : Type 0) (es xs : List (Entry A)) (i : ℕ) (r : Entry A) (old mid new new' : List Record) (fault : TreeFault) → i < length xs → r ≡ get_or xs i r → xs ≡ es → PutsAll {Y = Y} (kept_records name (shown_item r.item)) mid new (Err fault) → IsWriting xs i old mid → PutsAll {Y = Z} (level_records name (shown_entries es)) old new' (Err fault)
-  writing_stops Y Z es xs i r old mid new new' OutOfMemory l ir ex p h = tt
-  writing_stops Y Z es xs i r old mid new new' NameHeld l ir ex p h =
-      ap (λ z. put_all old (level_records name (shown_entries z))) (sym ex) ∙ ap (put_all old) (records_split xs i r l ir)
-      ∙ put_all_stops old mid (level_records name (shown_entries (take i xs))) (kept_records name (shown_item r.item)) (level_records name (shown_entries (drop (i + 1) xs))) h.puts p
-  writing_stops Y Z es xs i r old mid new new' NoSuchPath l ir ex p h = absurd p
-  writing_stops Y Z es xs i r old mid new new' RootNotTree l ir ex p h = absurd p
-  writing_stops Y Z es xs i r old mid new new' PathTooLong l ir ex p h = absurd p
+  pub writing_stops : {A : Type 0} (Y Z : Type 0) (es : List (Entry A)) (i : ℕ) (r : Entry A) (old mid new new' : List Record) (fault : TreeFault) → i < length es → r ≡ get_or es i r → PutsAll {Y = Y} (kept_records name (shown_item r.item)) mid new (Err fault) → IsWriting es i old mid → PutsAll {Y = Z} (level_records name (shown_entries es)) old new' (Err fault)
+  writing_stops Y Z es i r old mid new new' OutOfMemory l ir p h = tt
+  writing_stops Y Z es i r old mid new new' NameHeld l ir p h =
+      ap (put_all old) (records_split es i r l ir)
+      ∙ put_all_stops old mid (level_records name (shown_entries (take i es))) (kept_records name (shown_item r.item)) (level_records name (shown_entries (drop (i + 1) es))) h p
+  writing_stops Y Z es i r old mid new new' NoSuchPath l ir p h = absurd p
+  writing_stops Y Z es i r old mid new new' RootNotTree l ir p h = absurd p
+  writing_stops Y Z es i r old mid new new' PathTooLong l ir p h = absurd p
 
   -- the trees below all entries are put
-  pub all_written : {A : Type 0} (es xs : List (Entry A)) (i : ℕ) (old mid : List Record) → length xs ≤ i → xs ≡ es → IsWriting xs i old mid → put_all old (level_records name (shown_entries es)) ≡ Some mid
-  all_written es xs i old mid l ex h = ap (λ z. put_all old (level_records name (shown_entries z))) (sym ex ∙ sym (take_all i xs l)) ∙ h.puts
+  pub all_written : {A : Type 0} (es : List (Entry A)) (i : ℕ) (old mid : List Record) → length es ≤ i → IsWriting es i old mid → put_all old (level_records name (shown_entries es)) ≡ Some mid
+  all_written es i old mid l h = ap (λ z. put_all old (level_records name (shown_entries z))) (sym (take_all i es l)) ∙ h
 
   -- the records of a directory's trees are those of its entries, and then its own
   whole : {A : Type 0} (es : List (Entry A)) → IsLevel (shown_entries es) → tree_records name (files (shown_entries es)) ≡ level_records name (shown_entries es) ++ tree_record name (files (shown_entries es)) ∷ []
@@ -83,31 +81,38 @@ module _ (name : Kind → Bytes → Bytes) where
   below_stops Y Z es old new new' RootNotTree view level p = absurd p
   below_stops Y Z es old new new' PathTooLong view level p = absurd p
 
-  -- the trees below all entries are put, and the body is that of the tree
-  pub record IsWritten {A : Type 0} (es : List (Entry A)) (f : FileMap Bytes) (body : Bytes) (old mid : List Record) : Type 0 where
-    pub text : body ≡ tree_body name f
-    pub puts : put_all old (level_records name (shown_entries es)) ≡ Some mid
-    pub records : tree_records name f ≡ level_records name (shown_entries es) ++ tree_record name f ∷ []
+  -- after the trees below the entries, that of the directory is put
+  pub own_put : {A : Type 0} {f : FileMap Bytes} (es : List (Entry A)) (level : Level) (old mid new : List Record) → level ≡ shown_entries es → files (shown_entries es) ≡ f → IsLevel (shown_entries es) → put_all old (level_records name (shown_entries es)) ≡ Some mid → put_all mid (own_record name (files level)) ≡ Some new → put_all old (tree_records name f) ≡ Some new
+  own_put es level old mid new alike view l below own =
+      ap (λ z. put_all old (tree_records name z)) (sym view) ∙ ap (put_all old) (whole es l)
+      ∙ put_all_more old mid new (level_records name (shown_entries es)) (own_record name (files (shown_entries es))) below (ap (λ z. put_all mid (own_record name (files z))) (sym alike) ∙ own)
 
-  -- by the names that the entries remember
-  pub written : {A : Type 0} {f : FileMap Bytes} (es below : List (Entry A)) (body : Bytes) (old mid : List Record) → shown_entries below ≡ shown_entries es → files (shown_entries es) ≡ f → IsLevel (shown_entries es) → body ≡ tree_text (map own_entry below) → AreAtHome name mid below → RememberAll below → put_all old (level_records name (shown_entries es)) ≡ Some mid → IsWritten es f body old mid
-  written es below body old mid alike view level text home named puts = record {
-    text = text ∙ ap tree_text (own_entries name mid below home named ∙ ap (map (kept_entry name)) alike ∙ sym (entries-files name (shown_entries es) level)) ∙ ap (tree_body name) view;
-    puts = puts;
-    records = subst (λ z. tree_records name z ≡ level_records name (shown_entries es) ++ tree_record name z ∷ []) view (whole es level);
-  }
+  -- or stops
+  pub own_stops : {A : Type 0} {f : FileMap Bytes} (Y Z : Type 0) (es : List (Entry A)) (level : Level) (old mid new new' : List Record) (fault : TreeFault) → level ≡ shown_entries es → files (shown_entries es) ≡ f → IsLevel (shown_entries es) → put_all old (level_records name (shown_entries es)) ≡ Some mid → PutsAll {Y = Y} (own_record name (files level)) mid new (Err fault) → PutsAll {Y = Z} (tree_records name f) old new' (Err fault)
+  own_stops Y Z es level old mid new new' OutOfMemory alike view l below own = tt
+  own_stops Y Z es level old mid new new' NameHeld alike view l below own =
+      ap (λ z. put_all old (tree_records name z)) (sym view) ∙ ap (put_all old) (whole es l)
+      ∙ put_all_stops old mid (level_records name (shown_entries es)) (own_record name (files (shown_entries es))) [] below (ap (λ z. put_all mid (own_record name (files z))) (sym alike) ∙ own)
+  own_stops Y Z es level old mid new new' NoSuchPath alike view l below own = absurd own
+  own_stops Y Z es level old mid new new' RootNotTree alike view l below own = absurd own
+  own_stops Y Z es level old mid new new' PathTooLong alike view l below own = absurd own
 
-  record_is : (f : FileMap Bytes) (body : Bytes) → body ≡ tree_body name f → ◌≡◌ {A = Record} (record { name = name kind.Tree body; kind = kind.Tree; body = body }) (tree_record name f)
+  -- ---- a directory's own tree
+
+  -- its body, by the names that the entries remember
+  pub own_text : {A : Type 0} (es : List (Entry A)) (body : Bytes) (rs : List Record) → IsLevel (shown_entries es) → AreAtHome name rs es → RememberAll es → body ≡ tree_text (map own_entry es) → body ≡ tree_body name (files (shown_entries es))
+  own_text es body rs level home named text = text ∙ ap tree_text (own_entries name rs es home named ∙ sym (entries-files name (shown_entries es) level))
+
+  record_is : (f : FileMap Bytes) (body : Bytes) → body ≡ tree_body name f → ◌≡◌ {A = Record} (record_for name kind.Tree body) (tree_record name f)
   record_is f body e = λ i. record { name = name kind.Tree (e i); kind = kind.Tree; body = e i }
 
-  pub written_ok : {A : Type 0} (es : List (Entry A)) (f : FileMap Bytes) (body : Bytes) (old mid new : List Record) → IsWritten es f body old mid → put mid (record { name = name kind.Tree body; kind = kind.Tree; body = body }) ≡ Some new → put_all old (tree_records name f) ≡ Some new
-  written_ok es f body old mid new h p =
-      ap (put_all old) h.records ∙ put_all_more old mid new (level_records name (shown_entries es)) (tree_record name f ∷ []) h.puts (put_one mid new (tree_record name f) (subst (λ r. put mid r ≡ Some new) (record_is f body h.text) p))
+  -- what the store answers is what the tree answers
+  pub one_put : (f : FileMap Bytes) (body : Bytes) (old new : List Record) → body ≡ tree_body name f → put old (record_for name kind.Tree body) ≡ Some new → put_all old (own_record name f) ≡ Some new
+  one_put f body old new e p = put_one old new (tree_record name f) (subst (λ r. put old r ≡ Some new) (record_is f body e) p)
 
-  pub written_none : {A : Type 0} (es : List (Entry A)) (f : FileMap Bytes) (body : Bytes) (old mid : List Record) → IsWritten es f body old mid → put mid (record { name = name kind.Tree body; kind = kind.Tree; body = body }) ≡ None → put_all old (tree_records name f) ≡ None
-  written_none es f body old mid h p =
-      ap (put_all old) (h.records ∙ ap (λ z. level_records name (shown_entries es) ++ z) (sym (append-nil (tree_record name f ∷ []))))
-      ∙ put_all_stops old mid (level_records name (shown_entries es)) (tree_record name f ∷ []) [] h.puts (put_none mid (tree_record name f) (subst (λ r. put mid r ≡ None) (record_is f body h.text) p))
+  pub one_stops : (Y : Type 0) (f : FileMap Bytes) (body : Bytes) (old new : List Record) (s : StoreFault) → body ≡ tree_body name f → Puts old new (record_for name kind.Tree body) (Err s) → PutsAll {Y = Y} (own_record name f) old new (Err (tree_fault s))
+  one_stops Y f body old new store.OutOfMemory e p = tt
+  one_stops Y f body old new store.NameHeld e p = put_none old (tree_record name f) (subst (λ r. put old r ≡ None) (record_is f body e) p.0)
 
 -- ---- what a call answers that passes a fault on
 
@@ -115,6 +120,13 @@ pub passed_on : {Y : Type 0} (rs old new : List Record) (r : Result Y TreeFault)
 passed_on rs old new (Ok y) f e h p = absurd (false≢true e)
 passed_on {Y} rs old new (Err e) f t h p = subst (λ z. PutsAll {Y = Y} rs old new (Err z)) (sym h) p
 
-pub put_stops : {A : Type 0} (Y : Type 0) (name : Kind → Bytes → Bytes) (es : List (Entry A)) (f : FileMap Bytes) (body : Bytes) (old mid new : List Record) (s : StoreFault) → IsWritten name es f body old mid → Puts mid new (record_for name kind.Tree body) (Err s) → PutsAll {Y = Y} (tree_records name f) old new (Err (tree_fault s))
-put_stops Y name es f body old mid new store.OutOfMemory h p = tt
-put_stops Y name es f body old mid new store.NameHeld h p = written_none name es f body old mid h p.0
+-- ---- stores
+
+pub extends_trans : {N : Type 0} {old mid new : N × List Record} → Extends old mid → Extends mid new → Extends old new
+extends_trans {old = old} {mid = mid} {new = new} h k = record { namer = k.namer ∙ h.namer; front = front_trans old.1 mid.1 new.1 h.front k.front }
+
+-- a put extends a store
+pub put_extends : {N : Type 0} (old new : N × List Record) (r : Record) (a : Result Name StoreFault) → new.0 ≡ old.0 → Puts old.1 new.1 r a → Extends old new
+put_extends old new r (Ok n) k p = record { namer = k; front = front_put old.1 new.1 r p.1 }
+put_extends old new r (Err store.OutOfMemory) k p = record { namer = k; front = front_same old.1 new.1 p.1 }
+put_extends old new r (Err store.NameHeld) k p = record { namer = k; front = front_same old.1 new.1 p.1 }

@@ -15,5 +15,6 @@ pub mod Searches
 pub mod Named
 pub mod Homes
 pub mod Loaded
+pub mod Written
 pub mod Edits
 pub mod Calls

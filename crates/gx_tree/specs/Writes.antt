@@ -1,5 +1,5 @@
 -- What writing a tree puts into a store.
-use Rattle.std.specs.Prelude.{◌≡◌, List, [], Some, None, Result, Ok, Err, ⊤}
+use Rattle.std.specs.Prelude.{◌≡◌, List, [], ◌∷◌, length, take, Some, None, Result, Ok, Err, ⊤}
 use Rattle.std.specs.List.{flat_map}
 use Rattle.gx_model.specs.declared.objects.Kind.{Kind}
 use Rattle.gx_model.specs.declared.objects.Kind.TheVariants as kind
@@ -8,7 +8,7 @@ use Rattle.gx_model.specs.Texts.{Bytes}
 use Rattle.gx_model.specs.Histories.Files.{FileMap, Leaf}
 use Rattle.gx_model.specs.Records.{tree_body}
 use Rattle.gx_model.specs.Histories.{Record}
-use Rattle.gx_model.specs.Records.Growth.{put_all, tree_records}
+use Rattle.gx_model.specs.Records.Growth.{put_all, tree_record, tree_records}
 use Rattle.gx_object.specs.declared.name.Name.{Name}
 use Rattle.gx_tree.specs.Nodes.{Kept, Level, file, folder}
 use Rattle.gx_tree.specs.declared.fault.TreeFault.{TreeFault}
@@ -28,6 +28,10 @@ module _ (name : Kind → Bytes → Bytes) where
   kept_leaf (file x) = x
   kept_leaf (folder g) = (Dir, map_name g)
 
+  -- the record of a map's own tree, without those below it
+  abbrev pub own_record : FileMap Bytes → List Record
+  own_record g = tree_record name g ∷ []
+
   -- the records of a directory's trees, and none of a file
   abbrev pub kept_records : Kept → List Record
   kept_records (file x) = []
@@ -36,6 +40,11 @@ module _ (name : Kind → Bytes → Bytes) where
   -- the records of the trees below a directory's entries
   abbrev pub level_records : Level → List Record
   level_records = flat_map (λ e. kept_records e.1)
+
+-- the namer stays, and the old records stay in front
+pub record Extends {N : Type 0} (old new : N × List Record) : Type 0 where
+  pub namer : new.0 ≡ old.0
+  pub front : take (length old.1) new.1 ≡ old.1
 
 -- these records are put, or one of them has the name of another
 abbrev pub PutsAll : {Y : Type 0} → List Record → List Record → List Record → Result Y TreeFault → Type 0

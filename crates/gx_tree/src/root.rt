@@ -16,13 +16,13 @@ ghost use Rattle.gx_model.specs.declared.objects.Mode.TheVariants as modes;
 ghost use Rattle.gx_tree.specs.Standings.{standing_of, standing_at};
 ghost use Rattle.gx_tree.specs.Steps.{is_made};
 ghost use Rattle.gx_tree.specs.Views.{shown_item};
-ghost use Rattle.gx_tree.specs.Writes.{IsTreeName, StoresAll};
+ghost use Rattle.gx_tree.specs.Writes.{Extends, IsTreeName, StoresAll};
 
 use crate::copying::Held;
-use crate::directory::{Directory, Item};
+use crate::directory::{Directory, Entry, Item};
 use crate::fault::TreeFault;
 use crate::path_tree::Found;
-use crate::writing::written_node;
+use crate::writing::put_tree;
 use gx_object::{Mode, Name, Namer};
 use gx_store::Store;
 use gx_text::TreePath;
@@ -251,13 +251,33 @@ impl<A: Allocator + Copy> Root<A> {
         ensures home { IfOk result (λ made. IsAtHome (N.name_of store.old.0) store.new.1 made.0) }
     {
         let mut body = Vec::new(alloc);
+        self.written_by(alloc, store, &mut body, trusts)
+    }
+
+    // The same, where each body is made in the one buffer.
+    fn written_by<N: Namer>(
+        &self,
+        alloc: A,
+        store: &mut Store<N, A>,
+        body: &mut Vec<u8, A>,
+        trusts: bool,
+    ) -> Result<(Root<A>, Name), TreeFault>
+        requires home { IsTrue trusts → HoldsIn N.name_of store.now IsAtHome self.now }
+        ensures extends { Extends store.old store.new }
+        ensures name { IfOk result (λ made. IsTreeName (N.name_of store.old.0) self.now.files made.1) }
+        ensures puts { StoresAll N.name_of tree_records self.now.files store.old store.new result }
+        ensures files { IfOk result (λ made. made.0.files ≡ self.now.files) }
+        ensures home { IfOk result (λ made. IsAtHome (N.name_of store.old.0) store.new.1 made.0) }
+    {
         match &self.node {
             Some(node) => {
-                let (node, name) = written_node(alloc, node, store, &mut body, trusts)?;
+                let node = node.written(alloc, store, body, trusts)?;
+                let name = *node.tree_name();
                 Ok((Root { node: Some(node) }, name))
             }
             None => {
-                let (_, name) = Directory::new(alloc)?.written(alloc, store, &mut body, trusts)?;
+                let none: Vec<Entry<A>, A> = Vec::new(alloc);
+                let name = put_tree(none.as_slice(), store, body)?;
                 Ok((Root::none(), name))
             }
         }

@@ -1,15 +1,16 @@
 //! Writing a directory's trees: those below it first, in the order of its entries, and then its own. What is written
 //! comes back with the names remembered, and has the old entries where no directory among them gets a name.
-ghost use Rattle.std.specs.Prelude.{◌≡◌, ◌++◌, IfOk, IfSome, IsTrue, OnOk, Some, length, map, take};
+ghost use Rattle.std.specs.Prelude.{◌≡◌, ◌++◌, [], IfOk, IfSome, IsTrue, OnOk, Some, map};
 ghost use Rattle.gx_model.specs.Records.Growth.{tree_records};
 ghost use Rattle.gx_model.specs.Objects.{entry_text, tree_text};
 ghost use Rattle.gx_tree.specs.Edits.{level_in};
 ghost use Rattle.gx_tree.specs.Homes.{HoldsIn, AreAtHome, IsItemAtHome};
 ghost use Rattle.gx_tree.specs.Named.{IsAtHome, is_named, own_name};
 ghost use Rattle.gx_tree.specs.Nodes.{IsLevel};
-ghost use Rattle.gx_tree.specs.Views.{IsNamed, shown_item, own_entry, shown_entry, RememberAll, Remembers};
+ghost use Rattle.gx_tree.specs.Views.{IsNamed, shown_item, own_entry, shown_entries, shown_entry, RememberAll, Remembers};
 ghost use Rattle.std.specs.List.{AllByRecursion};
-ghost use Rattle.gx_tree.specs.Writes.{IsTreeName, StoresAll, kept_records, level_records};
+ghost use Rattle.gx_tree.specs.Writes.{Extends, StoresAll, kept_records, level_records};
+ghost use Rattle.gx_tree.specs.Written.{AreWritten, AreWrittenIn, IsItemWritten, IsNameAbove, IsWritten, Writes, record_above, records_below};
 
 use crate::directory::{Directory, Entry, Item};
 use crate::fault::TreeFault;
@@ -19,8 +20,9 @@ use std::alloc::{AllocError, Allocator};
 use std::rc::Rc;
 
 impl<A: Allocator + Copy> Directory<A> {
-    /// Puts the trees at and below the directory, and answers it with their names, and the name of its own. Each body is
-    /// made in the one buffer straight from the entries, once those below are put.
+    /// Puts the trees at and below the directory, and answers it with their names. Below a name that is remembered and
+    /// trusted nothing is put, since that is held. Each body is made in the one buffer straight from the entries, once those
+    /// below are put.
     #[cycle(write)]
     pub(crate) fn written<N: Namer>(
         &self,
@@ -28,29 +30,26 @@ impl<A: Allocator + Copy> Directory<A> {
         store: &mut Store<N, A>,
         body: &mut Vec<u8, A>,
         trusts: bool,
-    ) -> Result<(Directory<A>, Name), TreeFault>
+    ) -> Result<Directory<A>, TreeFault>
         requires home { IsTrue trusts → HoldsIn N.name_of store.now IsAtHome self.now }
-        ensures namer { store.new.0 ≡ store.old.0 }
-        ensures name { IfOk result (λ made. IsTreeName (N.name_of store.old.0) self.now.files made.1) }
+        ensures extends { Extends store.old store.new }
         ensures puts { StoresAll N.name_of tree_records self.now.files store.old store.new result }
-        ensures front { take (length store.old.1) store.new.1 ≡ store.old.1 }
-        ensures files { IfOk result (λ made. made.0.files ≡ self.now.files) }
-        ensures home { IfOk result (λ made. IsAtHome (N.name_of store.old.0) store.new.1 made.0) }
-        ensures remembers { IfOk result (λ made. IsTrue (is_named made.0.names)) }
+        ensures made { IfOk result (Writes N.name_of IsWritten store.old store.new self.now.files) }
     {
-        let below = written_entries(alloc, &self.entries, store, body, trusts)?;
-        encode_entries(body, below.as_slice())?;
-        let name = store.put(Kind::Tree, body.as_slice())?;
-        let directory = Directory {
-            entries: below,
+        if self.is_trusted(trusts) {
+            return Ok(self.shared()?);
+        }
+        let entries = written_entries(alloc, &self.entries, store, body, trusts)?;
+        let name = put_tree(entries.as_slice(), store, body)?;
+        Ok(Directory {
+            entries,
             remembered: Some(name),
             reach: self.reach,
-        };
-        Ok((directory, name))
+        })
     }
 
-    // The name of its tree, which it remembers.
-    fn tree_name(&self) -> &Name
+    /// The name of its tree, which it remembers.
+    pub(crate) fn tree_name(&self) -> &Name
         requires { IsTrue (is_named self.now.names) }
         ensures { own_name self.now.names ≡ Some result.now.bytes }
     {
@@ -65,6 +64,13 @@ impl<A: Allocator + Copy> Directory<A> {
         ensures { IfSome result (λ name. own_name self.now.names ≡ Some name.bytes) }
     {
         self.remembered
+    }
+
+    // Whether it remembers the name of its tree, and such names are trusted.
+    fn is_trusted(&self, trusts: bool) -> bool
+        ensures { IsTrue result → IsTrue trusts × IsTrue (is_named self.now.names) }
+    {
+        trusts && self.remembered_name().is_some()
     }
 }
 
@@ -91,28 +97,63 @@ fn written_entries<A: Allocator + Copy, N: Namer>(
 ) -> Result<Rc<Vec<Entry<A>, A>, A>, TreeFault>
     requires level { IsLevel (level_in entries.now) }
     requires home { IsTrue trusts → HoldsIn N.name_of store.now AreAtHome entries.now.value.items }
-    ensures namer { store.new.0 ≡ store.old.0 }
+    ensures extends { Extends store.old store.new }
     ensures puts { StoresAll N.name_of level_records (level_in entries.now) store.old store.new result }
-    ensures front { take (length store.old.1) store.new.1 ≡ store.old.1 }
-    ensures seen { IfOk result (λ es. level_in es ≡ level_in entries.now) }
-    ensures home { IfOk result (λ es. AreAtHome (N.name_of store.old.0) store.new.1 es.value.items) }
-    ensures remember { IfOk result (λ es. RememberAll es.value.items) }
+    ensures made { IfOk result (Writes N.name_of AreWrittenIn store.old store.new entries.now) }
 {
     let shares = are_named(entries.as_slice(), trusts);
     if shares {
         return Ok(entries.clone()?);
     }
     let mut named = Vec::with_capacity(alloc, entries.len())?;
-    for entry in entries.as_slice() {
+    write_entries(alloc, entries.as_slice(), &mut named, store, body, trusts)?;
+    let Ok(named) = Rc::new(alloc, named) else {
+        return Err(TreeFault::OutOfMemory);
+    };
+    Ok(named)
+}
+
+// Puts the trees below these entries, and makes `named`, which is empty, the entries with the names.
+#[cycle(write)]
+fn write_entries<A: Allocator + Copy, N: Namer>(
+    alloc: A,
+    entries: &[Entry<A>],
+    named: &mut Vec<Entry<A>, A>,
+    store: &mut Store<N, A>,
+    body: &mut Vec<u8, A>,
+    trusts: bool,
+) -> Result<(), TreeFault>
+    requires level { IsLevel (shown_entries entries.now) }
+    requires home { IsTrue trusts → HoldsIn N.name_of store.now AreAtHome entries.now }
+    requires empty { named.old.items ≡ [] }
+    ensures extends { Extends store.old store.new }
+    ensures puts { StoresAll N.name_of records_below entries.now store.old store.new result }
+    ensures made { OnOk result (Writes N.name_of AreWritten store.old store.new entries.now named.new.items) }
+{
+    for entry in entries {
         let item = entry.item.written(alloc, store, body, trusts)?;
         let Ok(()) = named.push(entry.with(item)?) else {
             return Err(TreeFault::OutOfMemory);
         };
     }
-    let Ok(named) = Rc::new(alloc, named) else {
-        return Err(TreeFault::OutOfMemory);
-    };
-    Ok(named)
+    Ok(())
+}
+
+// Puts the tree of these entries, made in the buffer by the names that they remember, and answers its name.
+pub(crate) fn put_tree<A: Allocator + Copy, N: Namer>(
+    entries: &[Entry<A>],
+    store: &mut Store<N, A>,
+    body: &mut Vec<u8, A>,
+) -> Result<Name, TreeFault>
+    requires level { IsLevel (shown_entries entries.now) }
+    requires home { HoldsIn N.name_of store.now AreAtHome entries.now }
+    requires remember { RememberAll entries.now }
+    ensures extends { Extends store.old store.new }
+    ensures name { IfOk result (IsNameAbove (N.name_of store.old.0) entries.now) }
+    ensures puts { StoresAll N.name_of record_above entries.now store.old store.new result }
+{
+    encode_entries(body, entries)?;
+    Ok(store.put(Kind::Tree, body.as_slice())?)
 }
 
 // Makes the buffer the body of the tree of entries that remember their names.
@@ -161,7 +202,7 @@ impl<A: Allocator + Copy> Item<A> {
     {
         match self {
             Item::File(_, _) => true,
-            Item::Folder(below) => trusts && below.remembered_name().is_some(),
+            Item::Folder(below) => below.is_trusted(trusts),
         }
     }
 
@@ -175,46 +216,16 @@ impl<A: Allocator + Copy> Item<A> {
         trusts: bool,
     ) -> Result<Item<A>, TreeFault>
         requires home { IsTrue trusts → HoldsIn N.name_of store.now IsItemAtHome self.now }
-        ensures namer { store.new.0 ≡ store.old.0 }
+        ensures extends { Extends store.old store.new }
         ensures puts { StoresAll N.name_of kept_records (shown_item self.now) store.old store.new result }
-        ensures front { take (length store.old.1) store.new.1 ≡ store.old.1 }
-        ensures kept { IfOk result (λ made. shown_item made ≡ shown_item self.now) }
-        ensures home { IfOk result (λ made. IsItemAtHome (N.name_of store.old.0) store.new.1 made) }
-        ensures remembers { IfOk result Remembers }
+        ensures made { IfOk result (Writes N.name_of IsItemWritten store.old store.new self.now) }
     {
         match self {
             Item::File(mode, name) => Ok(Item::File(*mode, *name)),
             Item::Folder(below) => {
-                let (node, _name) = written_node(alloc, below, store, body, trusts)?;
-                Ok(Item::Folder(node))
+                let below = below.written(alloc, store, body, trusts)?;
+                Ok(Item::Folder(below))
             }
         }
     }
-}
-
-/// Puts the trees at and below a directory, and answers it with their names, and the name of its own. Below a name that is
-/// remembered and trusted nothing is put, since that is held.
-#[cycle(write)]
-pub(crate) fn written_node<A: Allocator + Copy, N: Namer>(
-    alloc: A,
-    node: &Directory<A>,
-    store: &mut Store<N, A>,
-    body: &mut Vec<u8, A>,
-    trusts: bool,
-) -> Result<(Directory<A>, Name), TreeFault>
-    requires home { IsTrue trusts → HoldsIn N.name_of store.now IsAtHome node.now }
-    ensures namer { store.new.0 ≡ store.old.0 }
-    ensures name { IfOk result (λ made. IsTreeName (N.name_of store.old.0) node.now.files made.1) }
-    ensures puts { StoresAll N.name_of tree_records node.now.files store.old store.new result }
-    ensures front { take (length store.old.1) store.new.1 ≡ store.old.1 }
-    ensures files { IfOk result (λ made. made.0.files ≡ node.now.files) }
-    ensures home { IfOk result (λ made. IsAtHome (N.name_of store.old.0) store.new.1 made.0) }
-    ensures remembers { IfOk result (λ made. IsTrue (is_named made.0.names)) }
-{
-    if trusts {
-        if let Some(name) = node.remembered_name() {
-            return Ok((node.shared()?, name));
-        }
-    }
-    node.written(alloc, store, body, trusts)
 }

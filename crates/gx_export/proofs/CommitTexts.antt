@@ -1,9 +1,10 @@
 -- The items of a commit in their parts, and what is shown of a held commit.
-use Rattle.std.proofs.Common.{◌≡◌, ℕ, zero, suc, ◌+◌, ◌<◌, List, [], ◌∷◌, ◌++◌, map, length, set, Option, Some, Ok, refl, sym, ap, subst, ◌∙◌, arith, append_assoc, codes, IsTrue}
+use Rattle.std.proofs.Common.{◌≡◌, ℕ, zero, suc, ◌+◌, ◌<◌, List, [], ◌∷◌, ◌++◌, map, length, Option, Some, Result, Ok, Err, refl, sym, ap, subst, ◌∙◌, arith, append_assoc, codes, IsTrue}
 use Rattle.std.specs.Bool.{passes}
 use Rattle.std.specs.List.{AllByRecursion, fold, slice_get}
+use Rattle.std.specs.Result.{OnOk}
 use Rattle.std.proofs.lemmas.Grind.{flat_map-append}
-use Rattle.std.proofs.lemmas.List.{append-nil}
+use Rattle.std.proofs.lemmas.List.{append-nil, length-append}
 use Rattle.gx_model.specs.declared.objects.Kind.{Kind}
 use Rattle.gx_model.specs.declared.objects.Kind.TheVariants as kind
 use Rattle.gx_model.specs.Texts.{Bytes}
@@ -23,13 +24,13 @@ use Rattle.gx_model.proofs.PathTests.{is_true}
 use Rattle.gx_model.specs.Texts.Sinks.{Taken}
 use Rattle.gx_model.proofs.HeldValues.{all_whole, commit_stands, names_long, value_held, value_holds}
 use Rattle.gx_model.specs.Records.RecordFaults.{is_held}
-use Rattle.gx_model.proofs.Standing.{at_in}
 use Rattle.gx_model.specs.Objects.NameMaps.{AreFiles}
 use Rattle.gx_model.proofs.FilesByName.{contents_told, files_named}
 use Rattle.gx_export.specs.Marks.{Adds, HasWritten}
 use Rattle.gx_export.specs.Texts.{author_items, change_lines, commit_lines, items_of, items_text, last_items, parent_items, root_items}
+use Rattle.gx_export.specs.declared.fault.ExportFault.{ExportFault}
 use Rattle.gx_export.specs.declared.written.Written.{Written}
-use Rattle.gx_export.proofs.Numbering.{next_marked, only_place, place_marked}
+use Rattle.gx_export.proofs.Writing.{items_append}
 
 -- ---- resets
 
@@ -90,25 +91,37 @@ one_commit_parts ws c =
 lines_some : (ws : List Value) (text : CommitText) (ps : List Commit) (f : FileMap Bytes) → 0 < length (items_text (commit_lines ws text ps f))
 lines_some ws text ps f = omega arith
 
+-- where a commit's items went out, some bytes give no mark
+pub some_unmarked : {A : Type 0} (r : Records) (us : List Value) (n : ℕ) (text : CommitText) (ps : List Commit) (f : FileMap Bytes) (old new : Written A) (was now : Option Taken) (result : Result (Unit {0}) ExportFault)
+    → HasWritten r us old → Adds r us (root_items n ++ commit_lines us text ps f) old new was now result → OnOk result (new.count < new.bytes)
+some_unmarked r us n text ps f old new was now (Ok x) h k =
+    let l = lines_some us text ps f in
+    let long = ap length (items_append (root_items n) (commit_lines us text ps f)) ∙ length-append (items_text (root_items n)) (items_text (commit_lines us text ps f)) in
+    let before = h.count in
+    let each = h.each in
+    let after = k.0.count in
+    let bytes = k.1.0 in
+    omega (arith, l, long)
+some_unmarked r us n text ps f old new was now (Err e) h k = tt
+
 -- ---- a held commit
 
 module _ (name : Kind → Bytes → Bytes) (namer : IsNamer name) (r : Records) (sound : IsSound name r) where
-  -- what is shown of a commit is its texts, the names of its parents, and the names of its files
-  pub record IsShownAs (c : Commit) (view : CommitParts) (names : FileMap Bytes) : Type 0 where
+  -- what is shown of a commit is its texts and the names of its parents
+  pub record IsShownAs (c : Commit) (view : CommitParts) : Type 0 where
     pub text : view.text ≡ text_of c
     pub count : length view.parents ≡ length (list_of (parents_of c))
     pub parents : map (λ n. commit_of_value (value_of_name r.records n)) view.parents ≡ list_of (parents_of c)
     pub holds : AllByRecursion (Holds r.records kind.Commit) view.parents
-    pub files : contents_of (named_values r.records) names ≡ files_of c
-    pub named : IsNamedMap r.records names
 
-  -- its lines
-  pub lines_told : (c : Commit) (view : CommitParts) (names : FileMap Bytes) → IsShownAs c view names → (us : List Value)
-      → commit_lines us view.text (map (λ n. commit_of_value (value_of_name r.records n)) view.parents) (files_of c) ≡ commit_lines us (text_of c) (list_of (parents_of c)) (files_of c)
-  lines_told c view names s us =
+  -- its items behind its blobs
+  pub items_told : (c : Commit) (view : CommitParts) → IsShownAs c view → (us : List Value)
+      → root_items (length view.parents) ++ commit_lines us view.text (map (λ n. commit_of_value (value_of_name r.records n)) view.parents) (files_of c) ≡ root_items (length (list_of (parents_of c))) ++ commit_lines us (text_of c) (list_of (parents_of c)) (files_of c)
+  items_told c view s us =
       let text = s.text in
+      let count = s.count in
       let parents = s.parents in
-      λ i. commit_lines us (text i) (parents i) (files_of c)
+      λ i. root_items (count i) ++ commit_lines us (text i) (parents i) (files_of c)
 
   parents_told : (ps : Commits) → AllByRecursion (IsIn (history_of r).values) (map commit_value (list_of ps)) → map (λ n. commit_of_value (value_of_name r.records n)) (names_of name ps) ≡ list_of ps
   parents_told none h = refl
@@ -146,31 +159,14 @@ module _ (name : Kind → Bytes → Bytes) (namer : IsNamer name) (r : Records) 
       let value : value_of_name r.records n ≡ commit_value c = (let o : Some (value_of_name r.records n) ≡ Some (commit_value c) = sym f ∙ e in cc o) in
       ap commit_of_value value
 
-  -- the commit at a place, by its name
-  pub shown_as : (place : ℕ) (c : Commit) (n : Bytes) (view : CommitParts) (names : FileMap Bytes) → slice_get (values_of r) place ≡ Some (commit_value c) → slice_get (values_of r) place ≡ Some (value_of_name r.records n)
-      → view ≡ parts_of_commit name (commit_of_value (value_of_name r.records n)) → names ≡ named_map name (files_of (commit_of_value (value_of_name r.records n))) → IsShownAs c view names
-  shown_as place c n view names e f v k =
-      let value : value_of_name r.records n ≡ commit_value c = (let o : Some (value_of_name r.records n) ≡ Some (commit_value c) = sym f ∙ e in cc o) in
-      let same = ap commit_of_value value in
-      let i = at_in (values_of r) place (commit_value c) e in
-      let view_is = v ∙ ap (parts_of_commit name) same in
-      let names_is = k ∙ ap (λ d. named_map name (files_of d)) same in
-      let ps = (parts_in (history_of r).values (commit_value c) (all_whole name namer r sound) i).1 in
-      let files = commit_files c i in
+  -- what is shown of the held commit of a name
+  pub shown_as : (n : Bytes) (view : CommitParts) → IsTrue (is_held r.records kind.Commit n) → view ≡ parts_of_commit name (commit_of_value (value_of_name r.records n)) → IsShownAs (commit_of_value (value_of_name r.records n)) view
+  shown_as n view h e =
+      let c = commit_of_value (value_of_name r.records n) in
+      let ps = (parts_in (history_of r).values (commit_value c) (all_whole name namer r sound) (commit_stands name namer r sound n h).1).1 in
       record {
-        text = ap (λ p. p.text) view_is;
-        count = ap (λ p. length p.parents) view_is ∙ names_long name (parents_of c);
-        parents = ap (λ p. map (λ m. commit_of_value (value_of_name r.records m)) p.parents) view_is ∙ parents_told (parents_of c) ps;
-        holds = subst (λ p. AllByRecursion (Holds r.records kind.Commit) p.parents) (sym view_is) (parents_hold (parents_of c) ps);
-        files = ap (contents_of (named_values r.records)) names_is ∙ contents_told name namer r sound (files_of c) (named_map name (files_of c)) files;
-        named = subst (IsNamedMap r.records) (sym names_is) (files_named name namer r sound (files_of c) (named_map name (files_of c)) files);
+        text = ap (λ p. p.text) e;
+        count = ap (λ p. length p.parents) e ∙ names_long name (parents_of c);
+        parents = ap (λ p. map (λ m. commit_of_value (value_of_name r.records m)) p.parents) e ∙ parents_told (parents_of c) ps;
+        holds = subst (λ p. AllByRecursion (Holds r.records kind.Commit) p.parents) (sym e) (parents_hold (parents_of c) ps);
       }
-
-  -- a commit whose lines went out has its mark
-  pub commit_marked : {A : Type 0} (us : List Value) (c : Commit) (place : ℕ) (old mid new : Written A) (was now : Option Taken) → slice_get (values_of r) place ≡ Some (commit_value c) → HasWritten r us old
-      → Adds r us (commit_lines us (text_of c) (list_of (parents_of c)) (files_of c)) old mid was now (Ok tt) → new.bytes ≡ mid.bytes → new.count ≡ mid.count + 1 → new.marks.items ≡ set mid.marks.items place (mid.count + 1)
-      → HasWritten r (commit_value c ∷ us) new
-  commit_marked us c place old mid new was now e h k bytes count marks =
-      let l = lines_some us (text_of c) (list_of (parents_of c)) (files_of c) in
-      let m : mid.count < mid.bytes = (let a = h.count in let b = h.each in let d = k.0.count in let f = k.1.0 in omega (arith, l)) in
-      next_marked r us (commit_value c) place mid new (only_place name namer r sound (commit_value c) place e) (place_marked name namer r sound us mid.marks.items (commit_value c) place k.0.marks e) k.0 m bytes count marks

@@ -8,11 +8,11 @@ use Rattle.gx_model.specs.Records.HistoryOf.{history_of}
 use Rattle.gx_model.specs.Streams.Items.{Item, Line}
 use Rattle.gx_model.specs.Histories.Values.{Value}
 use Rattle.gx_model.specs.Texts.Sinks.{Taken, Took}
-use Rattle.gx_export.specs.Exports.{Exports}
+use Rattle.gx_export.specs.Exports.{Exports, front_items, rest_items}
 use Rattle.gx_export.specs.Faults.{NeedsNoMemory}
 use Rattle.gx_export.specs.Marks.{Adds}
 use Rattle.gx_export.specs.Outputs.{Stops, StopsAt, most}
-use Rattle.gx_export.specs.Texts.{items_of, items_text, last_items}
+use Rattle.gx_export.specs.Texts.{items_of, items_text}
 use Rattle.gx_export.specs.declared.fault.ExportFault.{ExportFault}
 use Rattle.gx_export.specs.declared.fault.ExportFault.TheVariants.{OutOfMemory, WriteFailed}
 use Rattle.gx_export.specs.declared.written.Written.{Written}
@@ -24,16 +24,16 @@ use Rattle.gx_export.proofs.Writing.{items_sooner}
 abbrev pub first_items : List Item
 first_items = Line (codes "feature done") ∷ []
 
--- behind the commits
-abbrev pub refs_items : History → List Item
-refs_items h = items_of (map (ref_command (all_written (reached_commits h))) h.refs)
+-- behind them
+abbrev pub refs_items : History → List Value → List Item
+refs_items h ws = items_of (map (ref_command ws) h.refs)
 
 abbrev pub end_items : List Item
 end_items = Line (codes "done") ∷ []
 
 -- all parts
 abbrev pub all_items : History → List Item
-all_items h = first_items ++ (commits_items [] (reached_commits h) ++ (last_items (length (all_written (reached_commits h))) ++ (refs_items h ++ end_items)))
+all_items h = front_items h ++ rest_items h (all_written (reached_commits h))
 
 parts_of : (h : History) → export_items h ≡ all_items h
 parts_of h =
@@ -51,13 +51,13 @@ stopped r was now OutOfMemory memory h = absurd (memory refl)
 stopped r was now (WriteFailed count) memory h = subst (λ is. StopsAt 0 count was now (items_text is)) (sym (parts_of (history_of r))) h
 
 -- an export that stops among the commits
-pub stopped_at_commits : (r : Records) (n : ℕ) (was now : Option Taken) (e : ExportFault) → n ≡ 0 → Stops n was now (items_text (first_items ++ commits_items [] (reached_commits (history_of r)))) e → Exports r was now (Err e)
+pub stopped_at_commits : (r : Records) (n : ℕ) (was now : Option Taken) (e : ExportFault) → n ≡ 0 → Stops n was now (items_text (front_items (history_of r))) e → Exports r was now (Err e)
 stopped_at_commits r n was now OutOfMemory z h = h
 stopped_at_commits r n was now (WriteFailed count) z h =
-    let cs = reached_commits (history_of r) in
-    let rest = last_items (length (all_written cs)) ++ (refs_items (history_of r) ++ end_items) in
-    let start = subst (λ m. StopsAt m count was now (items_text (first_items ++ commits_items [] cs))) z h in
-    stopped r was now (WriteFailed count) (λ e. absurd cc) (items_sooner 0 was now (first_items ++ commits_items [] cs) rest (WriteFailed count) start)
+    let front = front_items (history_of r) in
+    let rest = rest_items (history_of r) (all_written (reached_commits (history_of r))) in
+    let start = subst (λ m. StopsAt m count was now (items_text front)) z h in
+    stopped r was now (WriteFailed count) (λ e. absurd cc) (items_sooner 0 was now front rest (WriteFailed count) start)
 
 -- what goes out from the start is an export
 pub exports : {A : Type 0} (r : Records) (ws : List Value) (old new : Written A) (was now : Option Taken) (result : Result (Unit {0}) ExportFault) → old.bytes ≡ 0 → NeedsNoMemory result → Adds r ws (all_items (history_of r)) old new was now result → Exports r was now result

@@ -5,9 +5,9 @@ pub mod CommitTexts
 pub mod ExportTexts
 pub mod FileLines
 pub mod Numbering
-pub mod Placing
 pub mod RefLines
 pub mod Writing
 pub mod Gathering
+pub mod HeldEntries
 pub mod Keeping
 pub mod OneMap

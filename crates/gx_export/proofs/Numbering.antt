@@ -1,7 +1,6 @@
 -- The marks of values by their places, and what each text that goes out adds to them.
 use Rattle.std.proofs.Common.{◌≡◌, ◌≢◌, ℕ, zero, suc, ◌+◌, ◌<◌, ◌≤◌, Bool, true, false, cond, List, [], ◌∷◌, ◌++◌, length, replicate, set, Option, Some, Result, Ok, Err, ◌⊎◌, inl, inr, refl, sym, ap, subst, ◌∙◌, arith, get_or-set_same, get_or-set_other, length-set}
 use Rattle.std.specs.Prelude.{◌||◌, IsTrue, slice_index_or}
-use Rattle.std.specs.Option.{option_map}
 use Rattle.std.specs.List.{slice_get}
 use Rattle.std.proofs.Math.Dec.{eqb}
 use Rattle.std.proofs.lemmas.Bool.Decides.{eqb_tells}
@@ -11,23 +10,22 @@ use Rattle.gx_model.specs.declared.objects.Kind.TheVariants as kind
 use Rattle.gx_model.specs.Texts.{Bytes}
 use Rattle.gx_model.specs.Streams.Commands.{Blob}
 use Rattle.gx_model.specs.Export.{blob_commands, command_items, number_in, with_blobs}
-use Rattle.gx_model.specs.Histories.{Records, is_in, object_of}
+use Rattle.gx_model.specs.Histories.{Records, is_in}
 use Rattle.gx_model.specs.Records.HistoryOf.{bytes_of_blob, value_of_name}
-use Rattle.gx_model.specs.Records.Growth.{record_named}
 use Rattle.gx_model.specs.Objects.{IsNamer}
 use Rattle.gx_model.specs.Records.RecordFaults.{is_held}
 use Rattle.gx_model.specs.Records.Sound.{IsSound}
-use Rattle.gx_model.proofs.HeldValues.{got, kind_held}
+use Rattle.gx_model.proofs.HeldValues.{kind_held}
 use Rattle.gx_model.proofs.Standing.{at_within, same_place}
 use Rattle.gx_model.specs.Streams.Items.{Item}
 use Rattle.gx_model.specs.Records.{body_of, kind_of}
 use Rattle.gx_model.specs.Laws.RepositoryLaws.{values_of}
-use Rattle.gx_model.specs.Histories.Values.{Value, blob_value, commit_value, same_value, tag_value, tree_value}
+use Rattle.gx_model.specs.Histories.Values.{CommitText, Value, blob_value, commit_value, same_value, tag_value, tree_value}
 use Rattle.gx_model.proofs.SameValues.{same_value_tells}
 use Rattle.gx_model.specs.Texts.Sinks.{Taken}
 use Rattle.gx_export.specs.Marks.{Adds, AreNumbers, HasWritten}
 use Rattle.gx_export.specs.Outputs.{Stops, Writes, most}
-use Rattle.gx_export.specs.Texts.{command_text, items_of, items_text}
+use Rattle.gx_export.specs.Texts.{command_text, head_items, items_of, items_text, last_items}
 use Rattle.gx_export.specs.declared.fault.ExportFault.{ExportFault}
 use Rattle.gx_export.specs.declared.written.Written.{Written}
 use Rattle.gx_export.proofs.Writing.{items_later, writes_none}
@@ -122,21 +120,28 @@ none_written r n written long bytes count marks =
     }
 
 -- bytes alone go out
-pub same_written : {A : Type 0} (r : Records) (ws : List Value) (old new : Written A) → HasWritten r ws old → new.count ≡ old.count → new.marks.items ≡ old.marks.items → old.bytes ≤ new.bytes → new.bytes ≤ most → HasWritten r ws new
-same_written r ws old new h count marks bytes room = record {
-  count = count ∙ h.count;
-  marks = subst (AreNumbers (values_of r) ws) (sym marks) h.marks;
-  each = (let k = h.each in omega (arith, count, bytes));
-  most = room;
-}
+pub same_written : {A : Type 0} (r : Records) (ws : List Value) (old : Written A) (bytes : ℕ) → HasWritten r ws old → old.bytes ≤ bytes → bytes ≤ most → HasWritten r ws (record old { bytes = bytes })
+same_written r ws old bytes h more room = record { count = h.count; marks = h.marks; each = (let k = h.each in omega (arith, more)); most = room }
 
 -- ---- what goes out one after the other
 
 -- items that give no marks
-pub adds_bytes : {A : Type 0} (r : Records) (ws : List Value) (items : List Item) (old new : Written A) (was now : Option Taken) (result : Result (Unit {0}) ExportFault)
-    → HasWritten r ws old → new.count ≡ old.count → new.marks.items ≡ old.marks.items → Writes old.bytes new.bytes was now (items_text items) result → Adds r ws items old new was now result
-adds_bytes r ws items old new was now (Ok x) h count marks k = (same_written r ws old new h count marks (let l = k.0 in omega arith) k.1, k)
-adds_bytes r ws items old new was now (Err e) h count marks k = k
+pub adds_bytes : {A : Type 0} (r : Records) (ws : List Value) (items : List Item) (old : Written A) (bytes : ℕ) (was now : Option Taken) (result : Result (Unit {0}) ExportFault) → HasWritten r ws old → Writes old.bytes bytes was now (items_text items) result
+    → Adds r ws items old (record old { bytes = bytes }) was now result
+adds_bytes r ws items old bytes was now (Ok x) h k = (same_written r ws old bytes h (let l = k.0 in omega arith) k.1, k)
+adds_bytes r ws items old bytes was now (Err e) h k = k
+
+-- the reset behind the commits
+pub adds_last : {A : Type 0} (r : Records) (ws : List Value) (old : Written A) (bytes : ℕ) (was now : Option Taken) (result : Result (Unit {0}) ExportFault) → HasWritten r ws old → Writes old.bytes bytes was now (items_text (last_items old.count)) result
+    → Adds r ws (last_items (length ws)) old (record old { bytes = bytes }) was now result
+adds_last r ws old bytes was now result h k = adds_bytes r ws (last_items (length ws)) old bytes was now result h (subst (λ n. Writes old.bytes bytes was now (items_text (last_items n)) result) h.count k)
+
+-- a commit's lines up to its message, under the next mark
+pub adds_head : {A : Type 0} (r : Records) (ws : List Value) (text : CommitText) (old : Written A) (bytes : ℕ) (was now : Option Taken) (result : Result (Unit {0}) ExportFault) → HasWritten r ws old
+    → Writes old.bytes bytes was now (items_text (head_items (old.count + 1) text)) result → Adds r ws (head_items (suc (length ws)) text) old (record old { bytes = bytes }) was now result
+adds_head r ws text old bytes was now result h k =
+    let mark : old.count + 1 ≡ suc (length ws) = (let e = h.count in omega arith) in
+    adds_bytes r ws (head_items (suc (length ws)) text) old bytes was now result h (subst (λ n. Writes old.bytes bytes was now (items_text (head_items n text)) result) mark k)
 
 -- items behind others
 pub adds_later : {A : Type 0} (r : Records) (us vs : List Value) (xs ys : List Item) (old mid new : Written A) (was between now : Option Taken) (result : Result (Unit {0}) ExportFault)
@@ -227,5 +232,9 @@ module _ (name : Kind → Bytes → Bytes) (namer : IsNamer name) (r : Records) 
     pub blob_here : value_of_name r.records n ≡ blob_value (bytes_of_blob (value_of_name r.records n))
     blob_here = blob_is name (value_of_name r.records n) (kind_held name namer r sound kind.Blob n h).1
 
-    pub body_here : (k : Kind) (body : Bytes) → Some (k, body) ≡ option_map object_of (record_named r.records n) → body ≡ bytes_of_blob (value_of_name r.records n)
-    body_here k body e = ap (λ o. o.1) (got name namer r sound n (k, body) (kind_held name namer r sound kind.Blob n h).0 e) ∙ ap (body_of name) blob_here
+    pub body_here : (body : Bytes) → body ≡ body_of name (value_of_name r.records n) → body ≡ bytes_of_blob (value_of_name r.records n)
+    body_here body e = e ∙ ap (body_of name) blob_here
+
+    -- its mark, at its place
+    pub mark_of_blob : (ws : List Value) (marks : List ℕ) (i d : ℕ) → AreNumbers (values_of r) ws marks → slice_get (values_of r) i ≡ Some (value_of_name r.records n) → slice_index_or marks i d ≡ number_in ws (blob_value (bytes_of_blob (value_of_name r.records n)))
+    mark_of_blob ws marks i d h e = mark_here ws marks (value_of_name r.records n) i d h e ∙ ap (number_in ws) blob_here

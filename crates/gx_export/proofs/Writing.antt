@@ -1,6 +1,7 @@
 -- Texts that are written one after the other.
 use Rattle.std.proofs.Common.{◌≡◌, ℕ, suc, ◌+◌, ◌<◌, ◌≤◌, List, [], ◌∷◌, ◌++◌, length, take, drop, get_or, true, Option, Some, None, Result, Ok, Err, inl, inr, refl, sym, ap, subst, ◌∙◌, arith, append_assoc}
 use Rattle.std.specs.List.{flat_map}
+use Rattle.std.specs.Result.{OnOk}
 use Rattle.std.proofs.lemmas.Grind.{flat_map-append}
 use Rattle.std.proofs.lemmas.List.{append-nil, length-append, length-drop, length-take, take-append-drop}
 use Rattle.std.proofs.Math.Seq.{take-suc, drop-cons}
@@ -13,6 +14,11 @@ use Rattle.gx_export.specs.Texts.{items_text}
 use Rattle.gx_export.specs.Outputs.{Stops, StopsAfter, StopsAt, Writes, most}
 use Rattle.gx_export.specs.declared.fault.ExportFault.{ExportFault}
 use Rattle.gx_export.specs.declared.fault.ExportFault.TheVariants.{OutOfMemory, WriteFailed}
+
+-- what holds in any case
+pub on_any : {X E : Type 0} (result : Result X E) (P : Type 0) → P → OnOk result P
+on_any (Ok x) P p = p
+on_any (Err e) P p = tt
 
 -- ---- stops
 

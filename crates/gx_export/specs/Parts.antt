@@ -1,5 +1,5 @@
 -- What each part of an export does, whatever was written before it.
-use Rattle.std.specs.Prelude.{◌≡◌, [], ◌∷◌, ℕ, List, map, Option, Result, OnOk}
+use Rattle.std.specs.Prelude.{◌≡◌, [], ◌∷◌, ◌++◌, ℕ, length, List, map, Option, Result, OnOk}
 use Rattle.gx_model.specs.declared.objects.Kind.{Kind}
 use Rattle.gx_model.specs.declared.objects.Mode.{Mode}
 use Rattle.gx_model.specs.Export.{all_written, commit_commands, command_items, contents, one_commit, reached_commits, ref_command, with_blobs, with_commit}
@@ -21,10 +21,11 @@ use Rattle.gx_tree.specs.Lists.{below}
 use Rattle.gx_tree.specs.Nodes.{Kept, kept_map}
 use Rattle.gx_tree.specs.Writes.{kept_leaf}
 use Rattle.gx_rev.specs.Objects.{commit_at, value_at}
+use Rattle.gx_export.specs.Exports.{front_items, rest_items}
 use Rattle.gx_export.specs.FileTexts.{AreKept, Gathers, IsEntryBelow, IsTreeBelow}
 use Rattle.gx_export.specs.Marks.{Adds, AddsBlobs, HasWritten}
 use Rattle.gx_export.specs.Outputs.{Writes}
-use Rattle.gx_export.specs.Texts.{change_lines, commit_lines, file_items, items_of, items_text, parent_items}
+use Rattle.gx_export.specs.Texts.{change_lines, commit_lines, file_items, items_of, items_text, parent_items, root_items}
 use Rattle.gx_export.specs.declared.fault.ExportFault.{ExportFault}
 use Rattle.gx_export.specs.declared.lines.Lines.{Lines}
 use Rattle.gx_export.specs.declared.written.Written.{Written}
@@ -58,6 +59,12 @@ module _ {W : Type 0} (taken : W → Option Taken) where
   AddsCommitLines repository parts lines old new was now result =
       (ws : List Value) (files : FileMap Bytes) → HasWritten repository ws old → lines ≡ items_text (file_items ws files) → Adds repository ws (commit_lines ws parts.text (commits_called repository parts.parents) files) old new (taken was) (taken now) result
 
+  -- the lines of such a commit go out, and before them the reset of one without parents
+  abbrev pub AddsBehindBlobs : {A : Type 0} → Records → CommitParts → Bytes → Written A → Written A → W → W → Result (Unit {0}) ExportFault → Type 0
+  AddsBehindBlobs repository parts lines old new was now result =
+      (ws : List Value) (files : FileMap Bytes) → HasWritten repository ws old → lines ≡ items_text (file_items ws files)
+      → Adds repository ws (root_items (length parts.parents) ++ commit_lines ws parts.text (commits_called repository parts.parents) files) old new (taken was) (taken now) result
+
   -- what stands behind a commit's parents goes out, where these are the lines of its files
   abbrev pub WritesChanges : Bytes → ℕ → ℕ → W → W → Result (Unit {0}) ExportFault → Type 0
   WritesChanges lines before after was now result = (ws : List Value) (files : FileMap Bytes) → lines ≡ items_text (file_items ws files) → Writes before after (taken was) (taken now) (items_text (change_lines ws files)) result
@@ -72,6 +79,14 @@ module _ {W : Type 0} (taken : W → Option Taken) where
   abbrev pub AddsReachedCommits : {A : Type 0} → Records → Written A → Written A → W → W → Result (Unit {0}) ExportFault → Type 0
   AddsReachedCommits repository old new was now result =
       Adds repository (all_written (reached_commits (history_of repository))) (items_of (commit_commands [] (reached_commits (history_of repository)))) old new (taken was) (taken now) result
+
+  -- the text up to the last commit goes out
+  abbrev pub AddsFront : {A : Type 0} → Records → Written A → Written A → W → W → Result (Unit {0}) ExportFault → Type 0
+  AddsFront repository old new was now result = Adds repository (all_written (reached_commits (history_of repository))) (front_items (history_of repository)) old new (taken was) (taken now) result
+
+  -- the text behind the last commit goes out
+  abbrev pub AddsRest : {A : Type 0} → Records → Written A → Written A → W → W → Result (Unit {0}) ExportFault → Type 0
+  AddsRest repository old new was now result = AddsItems repository (rest_items (history_of repository)) old new (taken was) (taken now) result
 
 -- ---- values, and the lines of files
 
@@ -111,6 +126,12 @@ module _ {N W : Type 0} (name_of : N → Kind → Bytes → Bytes) (taken : W �
   abbrev pub AddsOneCommit : {A : Type 0} → ℕ → Written A → Written A → W → W → Lines A → Result (Unit {0}) ExportFault → Type 0
   AddsOneCommit place old new was now lines result =
       (made : Commit) (ws : List Value) → IsAt repo.1 place made → HasWritten repo.1 ws old → AreKept (name_of repo.0) repo.1 ws lines → Adds repo.1 (with_commit ws made) (items_of (one_commit ws made)) old new (taken was) (taken now) result
+
+  -- the commit of this name goes out, behind its blobs, and has no mark yet
+  abbrev pub AddsUnmarked : {A : Type 0} → Name → Written A → Written A → W → W → Lines A → Result (Unit {0}) ExportFault → Type 0
+  AddsUnmarked commit old new was now lines result =
+      (ws : List Value) → HasWritten repo.1 ws old → AreKept (name_of repo.0) repo.1 ws lines
+      → Adds repo.1 (with_blobs ws (contents (files_of (commit_at repo.1 commit)))) (items_of (one_commit ws (commit_at repo.1 commit))) old new (taken was) (taken now) result
 
   -- the blobs of the files of the commit of this name go out
   abbrev pub AddsBlobsOf : {A : Type 0} → Name → Written A → Written A → W → W → Lines A → Result (Unit {0}) ExportFault → Type 0

@@ -1,15 +1,16 @@
 //! One commit, after the blobs of its files that weren't written yet.
 
-ghost use Rattle.std.specs.Prelude.{◌≡◌, ◌≢◌, ◌≤◌, List, codes};
+ghost use Rattle.std.specs.Prelude.{◌≡◌, ◌≢◌, ◌<◌, ◌≤◌, List, OnOk, codes};
 ghost use Rattle.std.specs.List.{AllByRecursion};
 ghost use Rattle.gx_model.specs.declared.objects.Kind.TheVariants as kinds;
 ghost use Rattle.gx_model.specs.Histories.Marks.{IsAt};
 ghost use Rattle.gx_model.specs.Records.Sound.{Holds};
 ghost use Rattle.gx_model.specs.Histories.Values.{Commit, Value};
+ghost use Rattle.gx_rev.specs.Objects.{IsHeldAs};
 ghost use Rattle.gx_export.specs.Faults.{NeedsNoMemory};
 ghost use Rattle.gx_export.specs.Marks.{HasWritten};
 ghost use Rattle.gx_export.specs.Outputs.{most};
-ghost use Rattle.gx_export.specs.Parts.{AddsCommitLines, AddsOneCommit, AddsParentLines, IsUnderWay, KeepsOneCommit, WritesChanges};
+ghost use Rattle.gx_export.specs.Parts.{AddsBehindBlobs, AddsCommitLines, AddsOneCommit, AddsParentLines, AddsUnmarked, IsUnderWay, KeepsLinesOf, KeepsOneCommit, WritesChanges};
 ghost use Rattle.gx_export.specs.Sinks.{WritesRoot};
 
 use crate::ExportFault;
@@ -18,7 +19,7 @@ use crate::lines::Lines;
 use crate::output::write_all;
 use crate::trees::add_files;
 use crate::written::{Written, mark_of};
-use gx_object::{CommitView, Namer};
+use gx_object::{CommitView, Name, Namer};
 use gx_repo::Repo;
 use gx_rev::{name_at, view_of};
 use gx_text::Sink;
@@ -40,12 +41,47 @@ pub(crate) fn write_commit<N: Namer, A: Allocator + Copy, W: Sink>(
 {
     repo.sound();
     let commit = name_at(repo, place);
-    let view = view_of(repo, &commit);
-    add_files(alloc, repo, sink, written, lines, &commit)?;
-    write_root(sink, &mut written.bytes, &view)?;
-    write_lines(repo, sink, written, &view, &lines.text)?;
+    write_unmarked(alloc, repo, sink, written, lines, &commit)?;
     written.mark(place);
     Ok(())
+}
+
+/// Writes a held commit, its blobs first. It has no mark yet.
+fn write_unmarked<N: Namer, A: Allocator + Copy, W: Sink>(
+    alloc: A,
+    repo: &Repo<N, A>,
+    sink: &mut W,
+    written: &mut Written<A>,
+    lines: &mut Lines<A>,
+    commit: &Name,
+) -> Result<(), ExportFault>
+    requires held { IsHeldAs kinds.Commit repo.now.1 commit.now }
+    requires written { IsUnderWay N.name_of repo.now written.old lines.old }
+    ensures adds { AddsUnmarked N.name_of W.taken repo.now commit.now written.old written.new sink.old sink.new lines.old result }
+    ensures kept { KeepsLinesOf N.name_of repo.now commit.now written.old lines.old lines.new result }
+    ensures room { OnOk result (written.new.count < written.new.bytes) }
+{
+    repo.sound();
+    add_files(alloc, repo, sink, written, lines, commit)?;
+    let view = view_of(repo, commit);
+    write_behind_blobs(repo, sink, written, &view, &lines.text)
+}
+
+/// Writes a commit whose blobs were written and whose files have these lines.
+fn write_behind_blobs<N: Namer, A: Allocator + Copy, W: Sink>(
+    repo: &Repo<N, A>,
+    sink: &mut W,
+    written: &mut Written<A>,
+    commit: &CommitView<'_>,
+    lines: &[u8],
+) -> Result<(), ExportFault>
+    requires parents { AllByRecursion (Holds repo.now.1.records kinds.Commit) commit.now.parents }
+    requires written { (ws : List Value) × HasWritten repo.now.1 ws written.old }
+    ensures adds { AddsBehindBlobs W.taken repo.now.1 commit.now lines.now written.old written.new sink.old sink.new result }
+    ensures memory { NeedsNoMemory result }
+{
+    write_root(sink, &mut written.bytes, commit)?;
+    write_lines(repo, sink, written, commit, lines)
 }
 
 /// Writes the reset before a commit without parents.

@@ -1,11 +1,12 @@
 //! Exports of whole repositories. Source: git-fast-export(1).
 
-ghost use Rattle.std.specs.Prelude.{◌≡◌, ◌≤◌, []};
+ghost use Rattle.std.specs.Prelude.{◌≡◌, ◌≤◌, [], List};
+ghost use Rattle.gx_model.specs.Histories.Values.{Value};
 ghost use Rattle.gx_export.specs.Exports.{Exports};
 ghost use Rattle.gx_export.specs.Faults.{NeedsNoMemory};
 ghost use Rattle.gx_export.specs.Marks.{HasWritten};
 ghost use Rattle.gx_export.specs.Outputs.{most};
-ghost use Rattle.gx_export.specs.Parts.{AddsReachedCommits};
+ghost use Rattle.gx_export.specs.Parts.{AddsFront, AddsReachedCommits, AddsRest};
 ghost use Rattle.gx_export.specs.Sinks.{WritesLast};
 ghost use Rattle.gx_rev.specs.Reached.{reached_marks};
 
@@ -41,11 +42,40 @@ pub fn export<N: Namer, A: Allocator + Copy, W: Sink>(
 {
     let reached = reached_from_refs(alloc, repo)?;
     let mut written = Written::new(alloc, repo.store().len())?;
+    write_text(alloc, repo, sink, &mut written, &reached)
+}
+
+/// Writes the whole text, of which nothing was written yet.
+fn write_text<N: Namer, A: Allocator + Copy, W: Sink>(
+    alloc: A,
+    repo: &Repo<N, A>,
+    sink: &mut W,
+    written: &mut Written<A>,
+    reached: &[bool],
+) -> Result<(), ExportFault>
+    requires reached { reached.now ≡ reached_marks repo.now.1 }
+    requires bytes { written.old.bytes ≡ 0 }
+    requires written { HasWritten repo.now.1 [] written.old }
+    ensures { Exports repo.now.1 (W.taken sink.old) (W.taken sink.new) result }
+{
+    write_front(alloc, repo, sink, written, reached)?;
+    write_rest(repo, sink, written)
+}
+
+/// Writes the text up to the last commit.
+fn write_front<N: Namer, A: Allocator + Copy, W: Sink>(
+    alloc: A,
+    repo: &Repo<N, A>,
+    sink: &mut W,
+    written: &mut Written<A>,
+    reached: &[bool],
+) -> Result<(), ExportFault>
+    requires reached { reached.now ≡ reached_marks repo.now.1 }
+    requires written { HasWritten repo.now.1 [] written.old }
+    ensures { AddsFront W.taken repo.now.1 written.old written.new sink.old sink.new result }
+{
     write(sink, &mut written.bytes, b"feature done\n")?;
-    write_commits(alloc, repo, sink, &mut written, &reached)?;
-    write_last(sink, &mut written.bytes, written.count)?;
-    write_refs(repo, sink, &mut written)?;
-    write(sink, &mut written.bytes, b"done\n")
+    write_commits(alloc, repo, sink, written, reached)
 }
 
 /// Writes the commits that are reached.
@@ -67,6 +97,21 @@ fn write_commits<N: Namer, A: Allocator + Copy, W: Sink>(
         }
     }
     Ok(())
+}
+
+/// Writes the text behind the commits.
+fn write_rest<N: Namer, A: Allocator + Copy, W: Sink>(
+    repo: &Repo<N, A>,
+    sink: &mut W,
+    written: &mut Written<A>,
+) -> Result<(), ExportFault>
+    requires written { (ws : List Value) × HasWritten repo.now.1 ws written.old }
+    ensures adds { AddsRest W.taken repo.now.1 written.old written.new sink.old sink.new result }
+    ensures memory { NeedsNoMemory result }
+{
+    write_last(sink, &mut written.bytes, written.count)?;
+    write_refs(repo, sink, written)?;
+    write(sink, &mut written.bytes, b"done\n")
 }
 
 /// Writes the reset behind the commits, where so many marks were given.

@@ -17,9 +17,9 @@ use crate::ExportFault;
 use crate::commands::write_blob;
 use crate::lines::Lines;
 use crate::written::Written;
-use gx_object::{Entry, Mode, Name, Namer, held_tree};
+use gx_object::{Entry, Mode, Name, Namer};
 use gx_repo::Repo;
-use gx_rev::{place_of, view_of};
+use gx_rev::{body_of, entries_of, place_of, view_of};
 use gx_text::{Sink, TextFault, TreePath};
 use std::alloc::{AllocError, Allocator};
 
@@ -100,10 +100,7 @@ fn add_entries<N: Namer, A: Allocator + Copy, W: Sink>(
     requires written { IsUnderWay N.name_of repo.now written.old lines.old }
     ensures { GathersTree N.name_of W.taken repo.now front.now tree.now written.old written.new sink.old sink.new lines.old lines.new result }
 {
-    let Some((_, body)) = repo.store().get(tree) else {
-        unreachable!();
-    };
-    for entry in held_tree(body) {
+    for entry in entries_of(repo, tree) {
         add_entry(alloc, repo, sink, written, lines, front, &entry, room)?;
     }
     Ok(())
@@ -189,9 +186,7 @@ fn write_blob_once<N: Namer, A: Allocator + Copy, W: Sink>(
     if written.marks[place] > 0 {
         return Ok(());
     }
-    let Some((_, _, body)) = repo.store().record(place) else {
-        unreachable!();
-    };
+    let body = body_of(repo, name);
     write_blob(sink, &mut written.bytes, written.count + 1, body)?;
     written.mark(place);
     Ok(())

@@ -62,7 +62,7 @@ loop-number-preserved g c =
           let next = parents_next ws parents c.loop-number.number made (image_at (λ m. commit_of_value (value_of_name r.records m)) c.args.commit.now.parents c.loop-number.number n w.in-Some.ensures) in
           rw (w.written-is, w.sink-is) (subst (λ is. Adds r ws is c.args.written.now now (taken c.args.sink.now) (taken w.write_parent.new.sink) (Ok tt)) (sym next)
           (adds_later r ws ws (parent_items ws (take c.loop-number.number parents)) (parent_line ws c.loop-number.number made ∷ []) c.args.written.now c.loop-number.written now (taken c.args.sink.now) (taken c.loop-number.sink) (taken w.write_parent.new.sink) (Ok tt) i
-          (adds_bytes r ws (parent_line ws c.loop-number.number made ∷ []) c.loop-number.written now (taken c.loop-number.sink) (taken w.write_parent.new.sink) (Ok tt) i.0 (λ _. c.loop-number.written.count) (λ _. c.loop-number.written.marks.items) done)))
+          (adds_bytes r ws (parent_line ws c.loop-number.number made ∷ []) c.loop-number.written now.bytes (taken c.loop-number.sink) (taken w.write_parent.new.sink) (Ok tt) i.0 done)))
       | in_default w ↦
           let within : c.loop-number.number < length c.args.commit.now.parents = omega (arith, c.loop-number-test.true, c.parent_count-number-end.ensures) in
           absurd (none_at c.args.commit.now.parents c.loop-number.number within w.in_default.ensures)

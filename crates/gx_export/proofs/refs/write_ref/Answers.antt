@@ -40,7 +40,7 @@ returns-then-ne-clause-adds g c = λ ws h.
     let o = got name namer r c.store.ensures.sound n (c.in-Some.kind, c.in-Some.body.now) peels.held (rw c.store.ensures.held at c.in-Some.ensures) in
     let other : kind_of name v ≢ kind.Tag = λ e. (let f : true ≡ false = c.if-ne.ensures ∙ ap (λ k. not (sameb the_type k kind.Tag)) (ap (λ p. p.0) o ∙ e) in cc f) in
     let text = ap (λ m. command_text (Reset (record { ref = ref; parent = Some (Marked m) }))) (c.mark_of-mark.ensures ws h.marks) ∙ ap command_text (sym (reset_is name ws ref v other peels.to)) in
-    adds_bytes r ws (command_items (ref_command ws (ref, target_in v))) c.args.written.now _ (taken c.args.sink.now) (taken c.write_reset_to.new.sink) c.write_reset_to.result h (λ _. c.args.written.now.count) (λ _. c.args.written.now.marks.items)
+    adds_bytes r ws (command_items (ref_command ws (ref, target_in v))) c.args.written.now c.write_reset_to.new.written (taken c.args.sink.now) (taken c.write_reset_to.new.sink) c.write_reset_to.result h
     (subst (λ t. Writes c.args.written.now.bytes c.write_reset_to.new.written (taken c.args.sink.now) (taken c.write_reset_to.new.sink) t c.write_reset_to.result) text c.write_reset_to.ensures.text)
 
 pub unreachable-requires-in_default-decode_tag : goal.unreachable-requires-in_default-decode_tag
@@ -81,5 +81,5 @@ returns-clause-adds g c = λ ws h.
     let same = c.in-Ok.ensures.only (parts_of_tag name t.0) t.1.text in
     let mark = c.mark_of-mark-2.ensures ws h.marks ∙ ap (λ m. number_in ws (value_of_name r.records m)) (c.object.ensures ∙ ap (λ p. p.object) same) ∙ ap (number_in ws) t.1.target in
     let text = ap (λ m. command_text (tag_command m c.in-Ok.tag)) mark ∙ ap (λ p. command_text (tag_command (number_in ws (commit_value t.0.target)) p)) same ∙ ap (λ u. command_text (ref_command ws (ref, target_in u))) (sym t.1.value) in
-    adds_bytes r ws (command_items (ref_command ws (ref, target_in v))) c.args.written.now _ (taken c.args.sink.now) (taken c.write_tag.new.sink) c.write_tag.result h (λ _. c.args.written.now.count) (λ _. c.args.written.now.marks.items)
+    adds_bytes r ws (command_items (ref_command ws (ref, target_in v))) c.args.written.now c.write_tag.new.written (taken c.args.sink.now) (taken c.write_tag.new.sink) c.write_tag.result h
     (subst (λ t. Writes c.args.written.now.bytes c.write_tag.new.written (taken c.args.sink.now) (taken c.write_tag.new.sink) t c.write_tag.result) text c.write_tag.ensures.text)

@@ -15,12 +15,12 @@ use Rattle.gx_object.specs.Entries.{shown}
 use Rattle.gx_tree.specs.HeldTrees.{IsHeldEntry}
 use Rattle.gx_tree.specs.Lists.{below}
 use Rattle.gx_tree.specs.Nodes.{files}
-use Rattle.gx_tree.proofs.HeldLevels.{entries_held, held_text, is_there, loading_all, loading_more, loading_none, within_all}
+use Rattle.gx_tree.proofs.HeldLevels.{entries_held, loading_all, loading_more, loading_none, within_all}
 use Rattle.gx_tree.proofs.LevelsOf.{files-level_of, level_of}
-use Rattle.gx_tree.proofs.TreeRecords.{kept_entry}
 use Rattle.gx_export.specs.FileTexts.{Gathers, IsEntryBelow, IsGathered, IsLinesOf, TakesOver, bytes_in, lines_text}
 use Rattle.gx_export.proofs.BlobLists.{denied}
 use Rattle.gx_export.proofs.Gathering.{entries_below, file_below, folder_below, gathered_again, lines_gathered, nothing_gathered, walking_next, walking_stops}
+use Rattle.gx_export.proofs.HeldEntries.{entries_are, is_tree}
 use Rattle.gx_export.proofs.OneMap.{one_map}
 use Rattle.gx_export.proofs.trees.+gather.Goals as goal
 
@@ -44,23 +44,17 @@ add_entry-returns g t c = λ ws k h entry leaf kept.
     let f = folder_below name r c.args.room c.args.front.now e.component.now e.name.bytes e.mode 4095 k entry leaf dir in
     subst (λ fs. Gathers name r ws fs c.args.written.now c.add_tree.new.written (taken c.args.sink.now) (taken c.add_tree.new.sink) c.args.lines.now c.add_tree.new.lines c.add_tree.result) (ap (λ p. below p f.0) c.in_ok-path.ensures ∙ f.2) (c.add_tree.ensures ws f.0 h f.1 kept)
 
-pub add_entries-unreachable-requires : goal.add_entries-unreachable-requires
-add_entries-unreachable-requires g t c =
-    is_there (g.N.Namer.name_of c.args.repo.now.0) c.args.repo.now.1.records c.args.tree.now.bytes c.requires.held.0 c.get.result c.requires.held.1.within.0 c.in_default.is (rw c.store.ensures.held at c.get.ensures)
-
-pub add_entries-held_tree-entry-items-requires : goal.add_entries-held_tree-entry-items-requires
-add_entries-held_tree-entry-items-requires g t c =
-    let name = g.N.Namer.name_of c.args.repo.now.0 in
-    let text = held_text name c.args.repo.now.1.records (g.met.N.Namer.is_namer c.args.repo.now.0) c.args.tree.now.bytes c.requires.held.0 c.get.result c.in-Some.field-0-0 c.in-Some.body c.requires.held.1.within.0 c.in-Some.is (rw c.store.ensures.held at c.get.ensures) in
-    (map (kept_entry name) (level_of c.requires.held.0), text)
+pub add_entries-entries_of-entry-items-requires : goal.add_entries-entries_of-entry-items-requires
+add_entries-entries_of-entry-items-requires g t c = is_tree (g.N.Namer.name_of c.args.repo.now.0) c.args.repo.now.1.records c.args.tree.now.bytes c.requires.held.0 c.requires.held.1.within.0
 
 pub add_entries-loop-entry-init : goal.add_entries-loop-entry-init
 add_entries-loop-entry-init g t c = λ ws f h kept held.
     let name = g.N.Namer.name_of c.args.repo.now.0 in
-    let text = held_text name c.args.repo.now.1.records (g.met.N.Namer.is_namer c.args.repo.now.0) c.args.tree.now.bytes f c.get.result c.in-Some.field-0-0 c.in-Some.body held c.in-Some.is (rw c.store.ensures.held at c.get.ensures) in
+    let namer = g.met.N.Namer.is_namer c.args.repo.now.0 in
+    let entries = c.entries_of-entry-items.ensures.entries ∙ entries_are name c.args.repo.now.1.records namer c.args.tree.now.bytes f held in
     record {
       done = [];
-      loading = loading_none name (level_of f) c.held_tree-entry-items.result c.into_iter-entry-iterator.result c.into_iter-entry-iterator.ensures.into_iter_gives (c.held_tree-entry-items.ensures (map (kept_entry name) (level_of f)) text);
+      loading = loading_none name (level_of f) c.entries_of-entry-items.result c.into_iter-entry-iterator.result c.into_iter-entry-iterator.ensures.into_iter_gives entries;
       gathered = nothing_gathered name c.args.repo.now.1 ws c.args.written.now (g.W.Sink.taken c.args.sink.now) c.args.lines.now h kept;
     }
 
@@ -71,7 +65,7 @@ add_entries-add_entry-requires g t c =
     let tree = c.requires.held.0 in
     let w = c.loop-entry.invariant c.requires.written.0 tree c.requires.written.1 c.requires.written.2 c.requires.held.1.within.0 in
     let held = entries_below name r c.args.room c.args.front.now c.args.tree.now.bytes tree c.requires.held.1 in
-    let next = loading_more name (IsEntryBelow name r c.args.room c.args.front.now) (level_of tree) (shown c.in-Some-entry.entry) c.loop-entry.entry-iterator c.next.new.self w.done held c.in-Some-entry.ensures.steps w.loading in
+    let next = loading_more name (IsEntryBelow name r c.args.room c.args.front.now) (level_of tree) (shown c.in-Some.entry) c.loop-entry.entry-iterator c.next.new.self w.done held c.in-Some.ensures.steps w.loading in
     let less : 3 * c.args.room < t = omega (arith, c.decreases) in
     λ κs within. (less, (within.0, (within.1.0, (within.1.1, ((next.kept, next.fits, next.leaf), (_, w.gathered.adds.0, w.gathered.kept))))))
 
@@ -83,8 +77,8 @@ add_entries-loop-entry-preserved g t c = λ ws f h kept tree.
     let P = IsHeldEntry name r.records 4095 in
     let w = c.loop-entry.invariant ws f h kept tree in
     let held = entries_held name r.records c.args.tree.now.bytes f 4095 (tree, within_all f tree.map) in
-    let next = loading_more name P (level_of f) (shown c.in-Some-entry.entry) c.loop-entry.entry-iterator c.next.new.self w.done held c.in-Some-entry.ensures.steps w.loading in
-    walking_next name r ws c.args.front.now (level_of f) c.loop-entry.entry-iterator c.next.new.self (shown c.in-Some-entry.entry) P c.args.written.now c.loop-entry.written c.add_entry.new.written (taken c.args.sink.now) (taken c.loop-entry.sink) (taken c.add_entry.new.sink) c.args.lines.now c.loop-entry.lines c.add_entry.new.lines w next
+    let next = loading_more name P (level_of f) (shown c.in-Some.entry) c.loop-entry.entry-iterator c.next.new.self w.done held c.in-Some.ensures.steps w.loading in
+    walking_next name r ws c.args.front.now (level_of f) c.loop-entry.entry-iterator c.next.new.self (shown c.in-Some.entry) P c.args.written.now c.loop-entry.written c.add_entry.new.written (taken c.args.sink.now) (taken c.loop-entry.sink) (taken c.add_entry.new.sink) c.args.lines.now c.loop-entry.lines c.add_entry.new.lines w next
     (c.in_ok-add_entry.ensures _ next.kept w.gathered.adds.0 next.fits next.leaf w.gathered.kept)
 
 pub add_entries-returns-in_err-add_entry : goal.add_entries-returns-in_err-add_entry
@@ -95,9 +89,9 @@ add_entries-returns-in_err-add_entry g t c = λ ws f h tree kept.
     let P = IsHeldEntry name r.records 4095 in
     let w = c.loop-entry.invariant ws f h kept tree in
     let held = entries_held name r.records c.args.tree.now.bytes f 4095 (tree, within_all f tree.map) in
-    let next = loading_more name P (level_of f) (shown c.in-Some-entry.entry) c.loop-entry.entry-iterator c.next.new.self w.done held c.in-Some-entry.ensures.steps w.loading in
+    let next = loading_more name P (level_of f) (shown c.in-Some.entry) c.loop-entry.entry-iterator c.next.new.self w.done held c.in-Some.ensures.steps w.loading in
     let p = err_from_is_err_and c.from_residual.result c.from_residual.ensures.1 in
-    rw (p.1, p.2) (walking_stops name r ws c.args.front.now (level_of f) c.loop-entry.entry-iterator c.next.new.self (shown c.in-Some-entry.entry) P c.args.written.now c.loop-entry.written c.loop-entry.written (taken c.args.sink.now) (taken c.loop-entry.sink) (taken c.add_entry.new.sink) c.args.lines.now c.loop-entry.lines c.loop-entry.lines w next
+    rw (p.1, p.2) (walking_stops name r ws c.args.front.now (level_of f) c.loop-entry.entry-iterator c.next.new.self (shown c.in-Some.entry) P c.args.written.now c.loop-entry.written c.loop-entry.written (taken c.args.sink.now) (taken c.loop-entry.sink) (taken c.add_entry.new.sink) c.args.lines.now c.loop-entry.lines c.loop-entry.lines w next
     f c.in_err-add_entry.field-0.0 (files-level_of f (parts_of f tree.map.file_map)) (c.in_err-add_entry.ensures _ next.kept w.gathered.adds.0 next.fits next.leaf w.gathered.kept))
 
 pub add_entries-returns : goal.add_entries-returns

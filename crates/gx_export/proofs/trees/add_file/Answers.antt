@@ -4,7 +4,7 @@ use Rattle.std.proofs.lemmas.Result.{err_from_is_err_and}
 use Rattle.gx_model.specs.contracts.objects.Mode.{the_type}
 use Rattle.gx_model.specs.declared.objects.Kind.TheVariants as kind
 use Rattle.gx_model.specs.declared.objects.Mode.TheVariants.{Gitlink}
-use Rattle.gx_model.specs.Export.{blob_commands, number_in, with_blobs}
+use Rattle.gx_model.specs.Export.{blob_commands, with_blobs}
 use Rattle.gx_model.specs.Records.HistoryOf.{bytes_of_blob}
 use Rattle.gx_rev.specs.Objects.{value_at}
 use Rattle.gx_model.proofs.HeldValues.{holds_held, kind_held}
@@ -12,7 +12,7 @@ use Rattle.gx_export.specs.declared.fault.ExportFault.TheVariants.{OutOfMemory}
 use Rattle.gx_export.specs.Texts.{items_of, items_text}
 use Rattle.gx_export.proofs.CommitLines.{file_held}
 use Rattle.gx_export.proofs.Gathering.{file_stops, gathers_file, gathers_gitlink, stops_last}
-use Rattle.gx_export.proofs.Numbering.{blob_here, mark_here, place_marked}
+use Rattle.gx_export.proofs.Numbering.{mark_of_blob, place_marked}
 use Rattle.gx_export.proofs.trees.add_file.Goals as goal
 
 pub place_of-place-requires : goal.place_of-place-requires
@@ -79,5 +79,5 @@ returns g c = λ ws h kept.
     let held = holds_held name namer r c.sound.ensures kind.Blob n (file_held r.records c.args.mode n other c.requires.file c.requires.held) in
     let us = with_blobs ws (bytes_of_blob v ∷ []) in
     let out = c.in_ok-write_blob_once.ensures.adds ws h in
-    let mark = c.index.ensures ∙ mark_here name namer r c.sound.ensures us c.write_blob_once.new.written.marks.items v c.place_of-place.result c.index.result.now out.0.marks c.place_of-place.ensures ∙ ap (number_in us) (blob_here name namer r c.sound.ensures n held) in
+    let mark = c.index.ensures ∙ mark_of_blob name namer r c.sound.ensures n held us c.write_blob_once.new.written.marks.items c.place_of-place.result c.index.result.now out.0.marks c.place_of-place.ensures in
     gathers_file name r ws c.args.path.now c.args.mode n c.args.written.now c.write_blob_once.new.written (g.W.Sink.taken c.args.sink.now) (g.W.Sink.taken c.write_blob_once.new.sink) c.args.lines.now c.add_file.new.self other c.requires.file c.index.result.now out mark c.in_ok-add_file.ensures.text (c.in_ok-add_file.ensures.kept name r ws kept)

@@ -1,10 +1,10 @@
 //! A store's bytes, and the repository that is read of them.
 
-ghost use Rattle.std.specs.Prelude.{◌≡◌, ◌≢◌, IfErr, IfOk};
+ghost use Rattle.std.specs.Prelude.{◌≡◌, IfOk};
 ghost use Rattle.gx_model.specs.Stores.StoreReading.{store_of};
 ghost use Rattle.gx_model.specs.Stores.StoreText.{IsStoreText};
-ghost use Rattle.gx_model.specs.declared.store_faults.FileFault.TheVariants as fault;
-ghost use Rattle.gx_file.specs.Faults.{IsNoStoreText, Reads};
+ghost use Rattle.gx_file.specs.Faults.{Reads};
+ghost use Rattle.gx_file.specs.Reading.{RefusesOthers};
 ghost use Rattle.gx_cli.specs.Opening.{bytes_of};
 
 use gx_file::{FileFault, Text, read, read_text};
@@ -33,7 +33,7 @@ pub(crate) fn open<N: Namer + Drop, A: Allocator + Copy>(
     ensures namer { IfOk result (λ repo. repo.0 ≡ namer) }
     ensures store { Reads (λ repo. repo.1) result (store_of (N.name_of namer) (bytes_of store.entry)) }
     ensures text { IfOk result (λ repo. IsStoreText (bytes_of store.entry) repo.1) }
-    ensures refused { IfErr result (λ why. why ≢ fault.OutOfMemory → IsNoStoreText (N.name_of namer) (bytes_of store.entry)) }
+    ensures refused { RefusesOthers (N.name_of namer) (bytes_of store.entry) result }
 {
     match store {
         StoreBytes::Borrowed(text) => read(alloc, namer, text, state),

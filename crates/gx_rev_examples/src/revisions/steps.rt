@@ -1,9 +1,10 @@
 //! How a repository is filled, step by step.
 
-ghost use Rattle.std.specs.Prelude.{IsTrue, map};
-ghost use Rattle.std.specs.List.{AllByRecursion};
+ghost use Rattle.std.specs.Prelude.{IsTrue};
 ghost use Rattle.gx_model.specs.declared.objects.Kind.TheVariants as kinds;
 ghost use Rattle.gx_model.specs.Records.Sound.{Holds, IsNamedMap, Keeps};
+ghost use Rattle.gx_object.specs.Commits.{bytes_of_names};
+ghost use Rattle.gx_repo.specs.Objects.{HoldsEach};
 
 use gx_object::{CommitParts, Kind, Mode, Name, Namer, TagParts};
 use gx_repo::{RefChange, Repo};
@@ -47,7 +48,7 @@ pub(super) fn is_held<N: Namer, A: Allocator + Copy>(
 }
 
 fn are_held<N: Namer, A: Allocator + Copy>(repo: &Repo<N, A>, names: &[Name]) -> bool
-    ensures { IsTrue result → AllByRecursion (Holds repo.now.1.records kinds.Commit) (map (λ n. n.bytes) names.now) }
+    ensures { IsTrue result → HoldsEach repo.now.1.records kinds.Commit (bytes_of_names names.now) }
 {
     for name in names {
         if !is_held(repo, Kind::Commit, name) {

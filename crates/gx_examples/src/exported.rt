@@ -2,125 +2,175 @@
 
 pub(crate) mod generated;
 
-use crate::sessions::{Command, INIT, Session, Step, line_of, ran, run_all, source_of, stored};
-use crate::stored::ONE_BLOB;
+use crate::commands::{Task, ran, stored, tried};
+use crate::sessions::run_all;
+use crate::steps::step_of;
+use crate::texts::text;
 use generated::history;
-use gx_cli::LogOptions;
-use gx_text::Held;
-use std::alloc::{AllocError, Global};
+use gx_cli::Line;
+use gx_text::{Bytes, Held};
+use std::alloc::Global;
 use std::hash::RandomState;
 use std::test::Fail;
 
-/// Two branches, one with a submodule, which are merged, and a tag.
-pub(crate) const MERGED: &[u8] =
-    b"commit refs/heads/a\nmark :1\ncommitter A <a@x> 1 +0000\ndata 1\np\nM 100644 inline f\ndata 6\nhello\n\ncommit refs/heads/b\nmark :2\ncommitter A <a@x> 2 +0000\ndata 1\nq\nM 160000 d670460b4b4aece5915caf5c68d12f560a9fe3e4 sub\ncommit refs/heads/a\nmark :3\ncommitter A <a@x> 3 +0000\ndata 1\nm\nmerge :2\ntag t\nfrom :3\ntagger A <a@x> 4 +0000\ndata 1\nt\n";
+/// Stores are exported as streams.
+const EXPORTS: &str = "
+$ init store
+$ import store
+$ export store %%
+feature done
+done
+$ init store
+$ import store % one blob
+$ export store %%
+feature done
+done
+$ init store
+$ import store % two branches
+$ export store %% export of two branches
+";
 
-/// The export of that.
-pub(crate) const MERGED_TEXT: &[u8] =
-    b"feature done\nblob\nmark :1\ndata 6\nhello\n\nreset refs/gx/export\ncommit refs/gx/export\nmark :2\nauthor A <a@x> 1 +0000\ncommitter A <a@x> 1 +0000\ndata 1\np\ndeleteall\nM 100644 :1 f\n\nreset refs/gx/export\ncommit refs/gx/export\nmark :3\nauthor A <a@x> 2 +0000\ncommitter A <a@x> 2 +0000\ndata 1\nq\ndeleteall\nM 160000 d670460b4b4aece5915caf5c68d12f560a9fe3e4 sub\n\ncommit refs/gx/export\nmark :4\nauthor A <a@x> 3 +0000\ncommitter A <a@x> 3 +0000\ndata 1\nm\nfrom :2\nmerge :3\ndeleteall\nM 100644 :1 f\n\nreset refs/gx/export\nreset refs/heads/a\nfrom :4\n\nreset refs/heads/b\nfrom :3\n\ntag t\nfrom :4\ntagger A <a@x> 4 +0000\ndata 1\nt\ndone\n";
+/// An export that is cut before its end is refused.
+const CUT: &str = "
+$ init store
+$ import store % unfinished export of two branches %% gx: command 12: MissingDone
+";
 
-/// The export of a store without refs.
-const NOTHING: &[u8] = b"feature done\ndone\n";
+/// A store whose one commit has a submodule of forty zeros is exported, and the export is not imported.
+const NO_SUBMODULE: &str = "
+$ store %
+gxstore 1
+objects 2
+tree 31
+160000 sub\0\0\0\0\0\0\0\0\0\0\0\0\0\0\0\0\0\0\0\0\0
+commit 97
+tree c1fccce3ec8e1c7c43f2aaca8d18a2487ff30ec1
+author A <a@x> 1 +0000
+committer A <a@x> 1 +0000
 
-const EXPORTS: &[Step<'static>] = &[
-    INIT,
-    Step::Accept(Command::Import(b""), b""),
-    Step::Accept(Command::Export, NOTHING),
-    INIT,
-    Step::Accept(Command::Import(ONE_BLOB), b""),
-    Step::Accept(Command::Export, NOTHING),
-    INIT,
-    Step::Accept(Command::Import(MERGED), b""),
-    Step::Accept(Command::Export, MERGED_TEXT),
-];
-
-const CUT: &[Step<'static>] = &[
-    INIT,
-    Step::Refuse(
-        Command::ImportUnfinished(MERGED_TEXT),
-        "gx: command 12: MissingDone",
-    ),
-];
-
-/// A store whose one commit has a submodule of forty zeros.
-const ZEROS: &[u8] =
-    b"gxstore 1\nobjects 2\ntree 31\n160000 sub\0\0\0\0\0\0\0\0\0\0\0\0\0\0\0\0\0\0\0\0\0\ncommit 97\ntree c1fccce3ec8e1c7c43f2aaca8d18a2487ff30ec1\nauthor A <a@x> 1 +0000\ncommitter A <a@x> 1 +0000\n\nz\nrefs 1\n5dfac797f892439657345e7e310c2ede78520f7c refs/heads/main\nend\n";
-
-/// The export of that.
-const ZEROS_TEXT: &[u8] =
-    b"feature done\nreset refs/gx/export\ncommit refs/gx/export\nmark :1\nauthor A <a@x> 1 +0000\ncommitter A <a@x> 1 +0000\ndata 1\nz\ndeleteall\nM 160000 0000000000000000000000000000000000000000 sub\n\nreset refs/gx/export\nreset refs/heads/main\nfrom :1\n\ndone\n";
-
-const NO_SUBMODULE: &[Step<'static>] = &[
-    Step::Replace(ZEROS),
-    Step::Accept(Command::Export, ZEROS_TEXT),
-    INIT,
-    Step::Refuse(Command::Import(ZEROS_TEXT), "gx: command 3: Unsupported"),
-];
-
-const SESSIONS: &[Session<'static>] = &[
-    ("stores are exported as streams", EXPORTS),
-    ("export that is cut before its end is refused", CUT),
-    (
-        "submodule of zeros is exported and not imported",
-        NO_SUBMODULE,
-    ),
-];
+z
+refs 1
+5dfac797f892439657345e7e310c2ede78520f7c refs/heads/main
+end
+$ export store %% export of zeros
+$ init store
+$ import store % export of zeros %% gx: command 3: Unsupported
+";
 
 #[test]
 fn stores_are_exported_as_streams(rt: HostRuntime) -> Result<(), Fail> {
     let state = RandomState::new(&rt)?;
-    run_all(rt.alloc(), SESSIONS, state)
+    run_all(rt.alloc(), &[EXPORTS, CUT, NO_SUBMODULE], state)
 }
 
-/// What a command prints of a store, where it's accepted.
-fn printed(
-    alloc: Global,
-    command: Command<'_>,
-    store: &[u8],
-    state: RandomState,
-) -> Result<Vec<u8>, AllocError> {
-    let mut held = Held::new(alloc, 100_000)?;
-    let line = line_of(alloc, command)?;
-    if ran(alloc, &line, store, source_of(command), &mut held, state).status == 0 {
-        Vec::from_slice(alloc, held.bytes())
-    } else {
-        Ok(Vec::new(alloc))
-    }
-}
+/// Commands that print the same of two branches, and of their export.
+const OF_BRANCHES: &str = "$ refs store $ log --parents store a b t $ export store";
 
-const WITH_PARENTS: LogOptions = LogOptions {
-    reverse: false,
-    max_count: None,
-    parents: true,
-};
-
-/// Whether the export of a store, imported into an empty one, has the same refs, the same commits with their parents, and
-/// the same export.
-fn is_the_same_again(
-    alloc: Global,
-    stream: &[u8],
-    ranges: &[&str],
-    state: RandomState,
-) -> Result<bool, AllocError> {
-    let store = stored(alloc, stream, state)?;
-    let text = printed(alloc, Command::Export, &store, state)?;
-    let again = stored(alloc, &text, state)?;
-    let log = Command::Log(WITH_PARENTS, ranges);
-    for command in [Command::Refs, log, Command::Export] {
-        let lines = printed(alloc, command, &store, state)?;
-        if lines.is_empty() || printed(alloc, command, &again, state)? != lines {
-            return Ok(false);
-        }
-    }
-    Ok(true)
-}
+/// Commands that print the same of the generated history, and of its export.
+const OF_HISTORY: &str =
+    "$ refs store $ log --parents store zero one two shared old refs/gx/export $ export store";
 
 #[test]
 fn imported_export_has_the_same_refs_commits_and_export(rt: HostRuntime) -> Result<(), Fail> {
     let state = RandomState::new(&rt)?;
+    assert!(rt; comes_again(rt.alloc(), text("two branches"), OF_BRANCHES, state));
     let many = history(rt.alloc())?;
-    let ranges: &[&str] = &["zero", "one", "two", "shared", "old", "refs/gx/export"];
-    assert!(rt; is_the_same_again(rt.alloc(), MERGED, &["a", "b", "t"], state)?);
-    assert!(rt; is_the_same_again(rt.alloc(), &many, ranges, state)?);
+    assert!(rt; comes_again(rt.alloc(), &many, OF_HISTORY, state));
     Ok(())
+}
+
+/// Whether commands print the same of the store of a stream, and of the store that its export makes.
+fn comes_again(alloc: Global, stream: &[u8], script: &str, state: RandomState) -> bool {
+    match stored(alloc, stream, state) {
+        Some(mut store) => match exported(alloc, &store, state) {
+            Some(again) => print_alike(alloc, &mut store, &again, script, state),
+            None => false,
+        },
+        None => false,
+    }
+}
+
+/// The text of the store that the export of a store makes; none where either is refused.
+fn exported(alloc: Global, store: &[u8], state: RandomState) -> Option<Vec<u8>> {
+    let Ok(mut sink) = Held::new(alloc, 100_000) else {
+        return None;
+    };
+    let line = Line::Export { file: "store" };
+    if ran(
+        alloc,
+        &line,
+        store,
+        Bytes::new(b"", 7, false),
+        &mut sink,
+        state,
+    )
+    .status
+        == 0
+    {
+        stored(alloc, sink.bytes(), state)
+    } else {
+        None
+    }
+}
+
+/// Whether commands print the same of two stores.
+fn print_alike(
+    alloc: Global,
+    store: &mut Vec<u8>,
+    other: &[u8],
+    script: &str,
+    state: RandomState,
+) -> bool {
+    for part in script.split('$').skip(1) {
+        if !tried(alloc, &step_of(part), store, Task::Same(other), state) {
+            return false;
+        }
+    }
+    true
+}
+
+/// Whether a command prints the same of two stores, and not nothing.
+pub(crate) fn prints_alike(
+    alloc: Global,
+    line: &Line<'_>,
+    store: &[u8],
+    other: &[u8],
+    state: RandomState,
+) -> bool {
+    match Held::new(alloc, 100_000) {
+        Ok(mut sink) => {
+            prints_into(alloc, line, store, &mut sink, state)
+                && prints(alloc, line, other, sink.bytes(), state)
+        }
+        Err(_) => false,
+    }
+}
+
+/// Whether a command prints this of a store.
+fn prints(
+    alloc: Global,
+    line: &Line<'_>,
+    store: &[u8],
+    printed: &[u8],
+    state: RandomState,
+) -> bool {
+    match Held::new(alloc, 100_000) {
+        Ok(mut sink) => {
+            prints_into(alloc, line, store, &mut sink, state) && sink.bytes() == printed
+        }
+        Err(_) => false,
+    }
+}
+
+/// Whether a command is accepted, and prints something into a sink.
+fn prints_into(
+    alloc: Global,
+    line: &Line<'_>,
+    store: &[u8],
+    sink: &mut Held<Global>,
+    state: RandomState,
+) -> bool {
+    let source = Bytes::new(b"", 7, false);
+    let outcome = ran(alloc, line, store, source, sink, state);
+    outcome.status == 0 && !sink.bytes().is_empty()
 }

@@ -1,73 +1,180 @@
 //! Commands for which memory and room for what they print end at each place.
 
-use crate::exported::{MERGED, MERGED_TEXT};
-use crate::sessions::{Command, has_line, line_of, ran, source_of, stored};
-use crate::stored::{ONE_REF, ROOT, TAGGED};
-use crate::streams::{MENDED, ROUGH};
-use crate::trying::{COMMIT, LINES, STREAM, WIDE};
+use crate::commands::{Task, has_line, ran, stored, tried};
+use crate::steps::{Step, step_of};
 use gx_adapt::AdaptFault;
-use gx_cli::{CliFault, Line};
+use gx_cli::{BlobsFault, BlobsKind, CliFault, Line};
 use gx_export::ExportFault;
-use gx_file::FileFault;
 use gx_import::{ImportFault, ImportKind};
-use gx_refusing::Refusing;
-use gx_text::Held;
-use gx_where::WhereFault;
-use std::alloc::{AllocError, Allocator, Global};
+use gx_text::{Bytes, Held};
+use std::alloc::Global;
 use std::hash::RandomState;
 use std::test::Fail;
 
-/// A commit's name, twice.
-const TWICE: &[u8] =
-    b"02d6adf1689e06135d2b4b4d471f1ae489887b53\n02d6adf1689e06135d2b4b4d471f1ae489887b53\n";
+/// Commands, what they print, how many growths each has at least, and the stream of the store that they are run on.
+const COMMANDS: &str = "
+$ rev-parse store main main %%
+02d6adf1689e06135d2b4b4d471f1ae489887b53
+02d6adf1689e06135d2b4b4d471f1ae489887b53
+% 6 % root
+$ refs store %% ref of first % 4 % root
+$ import store % tagged %% 21 % root
+$ init store %%% 1
+$ export store %% export of two branches % 21 % two branches
+$ adapt % rough % mended % 2
+$ where 2 % mended %
+5:22:commit refs/heads/m
+% 3
+$ batch store %
+main:test.txt%
+83baae61804e65cc73a7201a7252750c76066a30 blob 10
+version 1
 
-/// A command, the stream of the store that it is run on, and what it prints.
-type Given<'a> = (Command<'a>, &'a [u8], &'a [u8]);
+% 6 % root
+$ try main^{tree} % wide % lines of wide % 21
+$ try main % version % commit of version % 1
+$ blobs % three blobs % three names % 5
+";
 
-const NAMES: Given<'static> = (Command::RevParse(&["main", "main"]), ROOT, TWICE);
+/// Tries the commands of a script, each on the store of its step's stream.
+fn try_all(alloc: Global, script: &str, task: Task<'_>, state: RandomState) -> Result<(), Fail> {
+    for part in script.split('$').skip(1) {
+        if !is_right(alloc, &step_of(part), task, state) {
+            return Err(Fail::new(format_args!("{part}")));
+        }
+    }
+    Ok(())
+}
 
-const REFS: Given<'static> = (Command::Refs, ROOT, ONE_REF);
+/// Whether what is to come of a command comes of it, on the store of its step's stream.
+fn is_right(alloc: Global, step: &Step<'_>, task: Task<'_>, state: RandomState) -> bool {
+    match stored(alloc, step.stream, state) {
+        Some(mut store) => tried(alloc, step, &mut store, task, state),
+        None => false,
+    }
+}
 
-const EXPORT: Given<'static> = (Command::Export, MERGED, MERGED_TEXT);
+#[test]
+fn failed_write_keeps_a_front_of_the_output(rt: HostRuntime) -> Result<(), Fail> {
+    let state = RandomState::new(&rt)?;
+    try_all(rt.alloc(), COMMANDS, Task::Stop(Stop::Full), state)
+}
 
-const ADAPTED: Given<'static> = (Command::Adapt(ROUGH), b"", MENDED);
+#[test]
+fn failed_read_is_no_end(rt: HostRuntime) -> Result<(), Fail> {
+    let state = RandomState::new(&rt)?;
+    let script = "$ blobs % three blobs % three names";
+    try_all(rt.alloc(), script, Task::Stop(Stop::Cut), state)
+}
 
-const FOUND: Given<'static> = (
-    Command::Where(2, MENDED),
-    b"",
-    b"5:22:commit refs/heads/m\n",
-);
+#[test]
+fn each_refused_growth_of_a_command_is_out_of_memory(rt: HostRuntime) -> Result<(), Fail> {
+    let state = RandomState::new(&rt)?;
+    try_all(rt.alloc(), COMMANDS, Task::Growths, state)
+}
 
-const ANSWER: Given<'static> = (
-    Command::Batch(false, b"main:test.txt"),
-    ROOT,
-    b"83baae61804e65cc73a7201a7252750c76066a30 blob 10\nversion 1\n\n",
-);
+/// Three bodies are copied of a text that is lent. The owners of one that is given are counted.
+#[test]
+fn no_body_of_a_given_text_is_copied(rt: HostRuntime) -> Result<(), Fail> {
+    let state = RandomState::new(&rt)?;
+    let script = "$ refs store %% ref of first %% root";
+    try_all(rt.alloc(), script, Task::Copies(2), state)
+}
 
-const WRITING: &[Given<'static>] = &[
-    NAMES,
-    REFS,
-    EXPORT,
-    ADAPTED,
-    FOUND,
-    ANSWER,
-    (Command::Try(STREAM, "main"), b"", COMMIT),
-];
+/// Where a command stops.
+#[derive(Clone, Copy)]
+pub(crate) enum Stop {
+    /// Its sink takes no more bytes.
+    Full,
+    /// Its source fails.
+    Cut,
+}
 
-/// Why a command is refused whose sink has room for so many bytes, and the line of that: a try's import prints eleven.
-fn refusal_at(command: Command<'_>, room: usize) -> (CliFault, &'static str) {
-    match command {
-        Command::Export => (
+/// Whether a command stops as it has to at each byte that it prints or reads.
+pub(crate) fn stops_everywhere(
+    alloc: Global,
+    line: &Line<'_>,
+    step: &Step<'_>,
+    store: &[u8],
+    stop: Stop,
+    state: RandomState,
+) -> bool {
+    let count = match stop {
+        Stop::Full => step.printed.len(),
+        Stop::Cut => step.input.len(),
+    };
+    for place in 0..count {
+        if !stops_at(alloc, line, step, store, (stop, place), state) {
+            return false;
+        }
+    }
+    true
+}
+
+/// Whether a command stops as it has to behind so many bytes.
+fn stops_at(
+    alloc: Global,
+    line: &Line<'_>,
+    step: &Step<'_>,
+    store: &[u8],
+    (stop, place): (Stop, usize),
+    state: RandomState,
+) -> bool {
+    let (source, room) = match stop {
+        Stop::Full => (Bytes::new(step.input, 7, false), place),
+        Stop::Cut => (
+            Bytes::new(step.input.get(..place).unwrap_or(b""), 7, true),
+            4096,
+        ),
+    };
+    let Ok(mut sink) = Held::new(alloc, room) else {
+        return false;
+    };
+    let outcome = ran(alloc, line, store, source, &mut sink, state);
+    let is_front = outcome.status == 1 && step.printed.starts_with(sink.bytes());
+    is_front
+        && match stop {
+            Stop::Full => sink.bytes().len() == place
+                && is_full(alloc, line, step, outcome.fault, place),
+            Stop::Cut => is_cut(outcome.fault),
+        }
+}
+
+/// Whether a command whose sink has room for so many bytes is refused for this.
+fn is_full(
+    alloc: Global,
+    line: &Line<'_>,
+    step: &Step<'_>,
+    fault: Option<CliFault>,
+    room: usize,
+) -> bool {
+    let in_progress = room < 11 && step.printed.starts_with(b"progress x\n");
+    let (wanted, text) = refusal_at(line, room, in_progress);
+    fault == Some(wanted) && has_line(alloc, fault, text)
+}
+
+/// Whether the names of blobs end since the source failed.
+fn is_cut(fault: Option<CliFault>) -> bool {
+    match fault {
+        Some(CliFault::Blobs(fault)) => fault.kind == BlobsKind::ReadFailed,
+        _ => false,
+    }
+}
+
+/// Why a command is refused whose sink has room for so many bytes, and the line of that: a try's import may be in its progress.
+fn refusal_at(line: &Line<'_>, room: usize, in_progress: bool) -> (CliFault, &'static str) {
+    match line {
+        Line::Export { file: _ } => (
             CliFault::Export(ExportFault::WriteFailed {
                 written: room as u64,
             }),
             "gx: export: WriteFailed",
         ),
-        Command::Adapt(_) => (
+        Line::Adapt => (
             CliFault::Adapt(AdaptFault::WriteFailed),
             "gx: adapt: WriteFailed",
         ),
-        Command::Try(_, _) if room < 11 => (
+        Line::Try(_) if in_progress => (
             CliFault::Import(ImportFault {
                 command: 1,
                 kind: ImportKind::WriteFailed,
@@ -75,147 +182,18 @@ fn refusal_at(command: Command<'_>, room: usize) -> (CliFault, &'static str) {
             }),
             "gx: command 1: WriteFailed",
         ),
+        Line::Blobs => blobs_refusal_at(room),
         _ => (CliFault::WriteFailed, "gx: write failed"),
     }
 }
 
-/// Whether a sink with room for so many bytes keeps just these of what a command prints.
-fn keeps_front(
-    alloc: Global,
-    (command, store, whole): Given<'_>,
-    room: usize,
-    state: RandomState,
-) -> Result<bool, AllocError> {
-    let mut held = Held::new(alloc, room)?;
-    let words = line_of(alloc, command)?;
-    let outcome = ran(alloc, &words, store, source_of(command), &mut held, state);
-    let (fault, line) = refusal_at(command, room);
-    let is_refused = outcome.status == 1 && outcome.fault == Some(fault);
-    let is_front = held.bytes().len() == room && whole.starts_with(held.bytes());
-    Ok(is_refused && is_front && has_line(alloc, outcome.fault, line)?)
-}
-
-/// The first room at which a sink does not keep just the front of what a command prints.
-fn first_wrong(
-    alloc: Global,
-    (command, stream, whole): Given<'_>,
-    state: RandomState,
-) -> Result<Option<usize>, AllocError> {
-    let store = stored(alloc, stream, state)?;
-    for room in 0..whole.len() {
-        if !keeps_front(alloc, (command, &store, whole), room, state)? {
-            return Ok(Some(room));
-        }
-    }
-    Ok(None)
-}
-
-#[test]
-fn failed_write_keeps_a_front_of_the_output(rt: HostRuntime) -> Result<(), Fail> {
-    let state = RandomState::new(&rt)?;
-    for (place, given) in WRITING.iter().enumerate() {
-        assert!(rt;
-            first_wrong(rt.alloc(), *given, state)?.is_none(),
-            "row {place}"
-        );
-    }
-    Ok(())
-}
-
-/// Commands, and how many growths each has at least.
-const GROWING: &[(Given<'static>, u64)] = &[
-    (NAMES, 6),
-    (REFS, 4),
-    ((Command::Import(TAGGED), ROOT, b""), 21),
-    ((Command::Init, b"", b""), 1),
-    (EXPORT, 21),
-    (ADAPTED, 2),
-    (FOUND, 3),
-    (ANSWER, 6),
-    ((Command::Try(WIDE, "main^{tree}"), b"", LINES), 21),
-];
-
-/// Whether memory ran out, as this command says it.
-fn is_memory(command: Command<'_>, fault: CliFault) -> bool {
-    let is_export = matches!(command, Command::Export);
-    let reads_store = !matches!(
-        command,
-        Command::Try(_, _) | Command::Adapt(_) | Command::Where(_, _)
-    );
-    match fault {
-        CliFault::OutOfMemory => !is_export,
-        CliFault::Import(fault) => !is_export && fault.kind == ImportKind::OutOfMemory,
-        CliFault::Export(fault) => is_export && fault == ExportFault::OutOfMemory,
-        CliFault::Store(fault) => reads_store && fault == FileFault::OutOfMemory,
-        CliFault::Adapt(fault) => fault == AdaptFault::OutOfMemory,
-        CliFault::Where(fault) => fault == WhereFault::OutOfMemory,
-        _ => false,
-    }
-}
-
-/// Whether what is printed is right where memory ran out: a front for an export, a try, an adaption or a batch, and nothing
-/// for others.
-fn is_left(command: Command<'_>, printed: &[u8], whole: &[u8]) -> bool {
-    match command {
-        Command::Export | Command::Try(_, _) | Command::Adapt(_) | Command::Batch(_, _) => {
-            whole.starts_with(printed)
-        }
-        _ => printed.is_empty(),
-    }
-}
-
-/// Whether a command ends as it has to at which a growth is refused: for want of memory, or as it should. None where it is
-/// for want of memory.
-fn ends_well<B: Allocator>(
-    heap: &Refusing<B>,
-    line: &Line<'_>,
-    (command, store, whole): Given<'_>,
-    nth: u64,
-    state: RandomState,
-) -> Result<Option<bool>, AllocError> {
-    let mut held = Held::new(heap, 4096)?;
-    heap.arm(nth);
-    let outcome = ran(heap, line, store, source_of(command), &mut held, state);
-    let is_waiting = heap.is_waiting();
-    heap.arm(0);
-    Ok(match outcome.fault {
-        None => Some(is_waiting && outcome.status == 0 && held.bytes() == whole),
-        Some(fault) => {
-            let is_refused = !is_waiting && is_memory(command, fault);
-            if is_refused && is_left(command, held.bytes(), whole) {
-                None
-            } else {
-                Some(false)
-            }
-        }
-    })
-}
-
-/// How many growths are refused before a command succeeds; none where one is answered otherwise.
-fn refused_growths(
-    alloc: Global,
-    (command, stream, whole): Given<'_>,
-    state: RandomState,
-) -> Result<u64, AllocError> {
-    let store = stored(alloc, stream, state)?;
-    let line = line_of(alloc, command)?;
-    for nth in 1..3000u64 {
-        let heap = Refusing::new(alloc, 0);
-        if let Some(is_well) = ends_well(&heap, &line, (command, &store, whole), nth, state)? {
-            return Ok(if is_well { nth - 1 } else { 0 });
-        }
-    }
-    Ok(0)
-}
-
-#[test]
-fn each_refused_growth_of_a_command_is_out_of_memory(rt: HostRuntime) -> Result<(), Fail> {
-    let state = RandomState::new(&rt)?;
-    for (place, (given, fewest)) in GROWING.iter().enumerate() {
-        assert!(rt;
-            refused_growths(rt.alloc(), *given, state)? >= *fewest,
-            "row {place}"
-        );
-    }
-    Ok(())
+/// Why the names of three blobs end whose sink has room for so many bytes.
+fn blobs_refusal_at(room: usize) -> (CliFault, &'static str) {
+    let (command, text) = match room {
+        0..41 => (1, "gx: command 1: WriteFailed"),
+        41..82 => (2, "gx: command 2: WriteFailed"),
+        _ => (3, "gx: command 3: WriteFailed"),
+    };
+    let kind = BlobsKind::WriteFailed;
+    (CliFault::Blobs(BlobsFault { command, kind }), text)
 }

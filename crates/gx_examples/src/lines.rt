@@ -1,299 +1,174 @@
 //! Words, and the lines that they give.
 
-use gx_cli::{Line, LineFault, LogOptions, read_line};
-use std::alloc::{AllocError, Global};
+use crate::commands::is_text;
+use crate::steps::{halves, words_of};
+use gx_cli::{LineFault, read_line};
+use std::alloc::Global;
+use std::hash::RandomState;
 use std::test::Fail;
 
-/// What comes of words.
-#[derive(Clone, Copy)]
-enum Reading<'a> {
-    /// A line that is printed so for debugging.
-    Line(&'a str),
-    /// A log of these ranges in the file `f`.
-    Log(LogOptions, &'a [&'a str]),
-    /// A log of so many commits of `a` in the file `f`.
-    Count(u64),
-    /// The names of these revisions in the file `f`.
-    RevParse(&'a [&'a str]),
-    /// Status two.
-    Refusal,
-    /// Status zero, and a text in which this stands.
-    Help(&'a str),
-}
+/// Words with bars between them, and the line that they give, as it prints for debugging.
+const LINES: &str = "
+$ blobs % Blobs
+$ try|main % Try(\"main\")
+$ try|--|-x % Try(\"-x\")
+$ adapt % Adapt
+$ where|7 % Where(7)
+$ where|18446744073709551615 % Where(18446744073709551615)
+$ init|f % Init { file: \"f\" }
+$ import|f % Import { file: \"f\" }
+$ show|f|main:a b % Show { file: \"f\", revision: \"main:a b\" }
+$ show|-|x % Show { file: \"-\", revision: \"x\" }
+$ ls|f|x % Ls { recursive: false, file: \"f\", revision: \"x\" }
+$ ls|-r|f|x % Ls { recursive: true, file: \"f\", revision: \"x\" }
+$ ls|f|x|--recursive % Ls { recursive: true, file: \"f\", revision: \"x\" }
+$ batch|f % Batch { check: false, file: \"f\" }
+$ batch|--check|f % Batch { check: true, file: \"f\" }
+$ refs|f % Refs { file: \"f\" }
+";
 
-type Row<'a> = (&'a [&'a str], Reading<'a>);
+/// The same of `log`.
+const LOGS: &str = "
+$ log|f|main % Log { options: LogOptions { reverse: false, max_count: None, parents: false }, file: \"f\", ranges: [\"main\"] }
+$ log|f|^main % Log { options: LogOptions { reverse: false, max_count: None, parents: false }, file: \"f\", ranges: [\"^main\"] }
+$ log|f|b|a..b|r^! % Log { options: LogOptions { reverse: false, max_count: None, parents: false }, file: \"f\", ranges: [\"b\", \"a..b\", \"r^!\"] }
+$ log|f|--|-x|--|^main % Log { options: LogOptions { reverse: false, max_count: None, parents: false }, file: \"f\", ranges: [\"-x\", \"--\", \"^main\"] }
+$ log|--reverse|f|a % Log { options: LogOptions { reverse: true, max_count: None, parents: false }, file: \"f\", ranges: [\"a\"] }
+$ log|f|a|--parents|b % Log { options: LogOptions { reverse: false, max_count: None, parents: true }, file: \"f\", ranges: [\"a\", \"b\"] }
+$ log|--reverse|--max-count|3|--parents|f|a % Log { options: LogOptions { reverse: true, max_count: Some(3), parents: true }, file: \"f\", ranges: [\"a\"] }
+$ log|--max-count=3|f|a|--parents|--reverse % Log { options: LogOptions { reverse: true, max_count: Some(3), parents: true }, file: \"f\", ranges: [\"a\"] }
+$ log|--max-count|0|f|a % Log { options: LogOptions { reverse: false, max_count: Some(0), parents: false }, file: \"f\", ranges: [\"a\"] }
+$ log|--max-count|007|f|a % Log { options: LogOptions { reverse: false, max_count: Some(7), parents: false }, file: \"f\", ranges: [\"a\"] }
+$ log|--max-count|+4|f|a % Log { options: LogOptions { reverse: false, max_count: Some(4), parents: false }, file: \"f\", ranges: [\"a\"] }
+$ log|--max-count|18446744073709551615|f|a % Log { options: LogOptions { reverse: false, max_count: Some(18446744073709551615), parents: false }, file: \"f\", ranges: [\"a\"] }
+";
 
-const PLAIN: LogOptions = LogOptions {
-    reverse: false,
-    max_count: None,
-    parents: false,
-};
+/// The same of `rev-parse`, whose revisions stay in their order.
+const REVISIONS: &str = "
+$ rev-parse|f|main % RevParse { file: \"f\", revisions: [\"main\"] }
+$ rev-parse|f|b|a^{tree}|b % RevParse { file: \"f\", revisions: [\"b\", \"a^{tree}\", \"b\"] }
+$ rev-parse|f|--|-x % RevParse { file: \"f\", revisions: [\"-x\"] }
+";
 
-const ALL: LogOptions = LogOptions {
-    reverse: true,
-    max_count: Some(3),
-    parents: true,
-};
+/// Words that end with status two.
+const REFUSED: &str = "
+$ % refused
+$ blob % refused
+$ blobs|f % refused
+$ --version % refused
+$ try % refused
+$ try|-x % refused
+$ try|a|b % refused
+$ adapt|f % refused
+$ where % refused
+$ where|x % refused
+$ where|18446744073709551616 % refused
+$ where|1|f % refused
+$ init % refused
+$ import % refused
+$ show|f % refused
+$ show|f|a|b % refused
+$ ls|f % refused
+$ ls|-r|f % refused
+$ ls|-x|f|a % refused
+$ ls|-r|-r|f|a % refused
+$ batch % refused
+$ batch|f|main % refused
+$ refs % refused
+$ log|f % refused
+$ log|f|-x % refused
+$ log|--max-count|f|a % refused
+$ log|--max-count|-1|f|a % refused
+$ log|--max-count=-1|f|a % refused
+$ log|--max-count|18446744073709551616|f|a % refused
+$ log|--max-count||f|a % refused
+$ log|--reverse=yes|f|a % refused
+$ rev-parse|f % refused
+$ rev-parse|f|-x % refused
+";
 
-const REVERSED: LogOptions = LogOptions {
-    reverse: true,
-    max_count: None,
-    parents: false,
-};
+/// Words that end with status zero, and what stands in the text that they print.
+const HELP: &str = "
+$ --help % help %
+Usage: gx <COMMAND>
+$ --help % help %
 
-const WITH_PARENTS: LogOptions = LogOptions {
-    reverse: false,
-    max_count: None,
-    parents: true,
-};
+Exit status:
+$ -h % help %
+  rev-parse  Prints the names%
+$ help % help %
+Usage: gx <COMMAND>
+$ help|show % help %
+Usage: gx show <FILE> <REV>
+$ blobs|--help % help %
+Usage: gx blobs
+$ try|--help % help %
+Usage: gx try <REV>
+$ adapt|--help % help %
+Usage: gx adapt
+$ where|--help % help %
+Usage: gx where <N>
+$ init|--help % help %
+Usage: gx init <FILE>
+$ import|--help % help %
+Usage: gx import <FILE>
+$ show|--help % help %
+Usage: gx show <FILE> <REV>
+$ ls|--help % help %
+Usage: gx ls [OPTIONS] <FILE> <REV>
+$ ls|--help % help %
+  -r, --recursive
+$ batch|--help % help %
+Usage: gx batch [OPTIONS] <FILE>
+$ refs|--help % help %
+Usage: gx refs <FILE>
+$ log|--help % help %
+Usage: gx log [OPTIONS] <FILE> <RANGE>...
+$ log|--help % help %
+      --max-count <N>
+$ log|-h % help %
+      --max-count <N>  Lists N commits%
+$ rev-parse|--help % help %
+Usage: gx rev-parse <FILE> <REV>...
+$ rev-parse|--help % help %
 
-const LINES: &[Row<'static>] = &[
-    (&["blobs"], Reading::Line("Blobs")),
-    (&["try", "main"], Reading::Line(r#"Try("main")"#)),
-    (&["try", "--", "-x"], Reading::Line(r#"Try("-x")"#)),
-    (&["adapt"], Reading::Line("Adapt")),
-    (&["where", "7"], Reading::Line("Where(7)")),
-    (
-        &["where", "18446744073709551615"],
-        Reading::Line("Where(18446744073709551615)"),
-    ),
-    (&["init", "f"], Reading::Line(r#"Init { file: "f" }"#)),
-    (&["import", "f"], Reading::Line(r#"Import { file: "f" }"#)),
-    (
-        &["show", "f", "main:a b"],
-        Reading::Line(r#"Show { file: "f", revision: "main:a b" }"#),
-    ),
-    (
-        &["show", "-", "x"],
-        Reading::Line(r#"Show { file: "-", revision: "x" }"#),
-    ),
-    (
-        &["ls", "f", "x"],
-        Reading::Line(r#"Ls { recursive: false, file: "f", revision: "x" }"#),
-    ),
-    (
-        &["ls", "-r", "f", "x"],
-        Reading::Line(r#"Ls { recursive: true, file: "f", revision: "x" }"#),
-    ),
-    (
-        &["ls", "f", "x", "--recursive"],
-        Reading::Line(r#"Ls { recursive: true, file: "f", revision: "x" }"#),
-    ),
-    (
-        &["batch", "f"],
-        Reading::Line(r#"Batch { check: false, file: "f" }"#),
-    ),
-    (
-        &["batch", "--check", "f"],
-        Reading::Line(r#"Batch { check: true, file: "f" }"#),
-    ),
-    (&["refs", "f"], Reading::Line(r#"Refs { file: "f" }"#)),
-];
-
-/// Words of `log`.
-const LOGS: &[Row<'static>] = &[
-    (&["log", "f", "main"], Reading::Log(PLAIN, &["main"])),
-    (&["log", "f", "^main"], Reading::Log(PLAIN, &["^main"])),
-    (
-        &["log", "f", "b", "a..b", "r^!"],
-        Reading::Log(PLAIN, &["b", "a..b", "r^!"]),
-    ),
-    (
-        &["log", "f", "--", "-x", "--", "^main"],
-        Reading::Log(PLAIN, &["-x", "--", "^main"]),
-    ),
-    (
-        &["log", "--reverse", "f", "a"],
-        Reading::Log(REVERSED, &["a"]),
-    ),
-    (
-        &["log", "f", "a", "--parents", "b"],
-        Reading::Log(WITH_PARENTS, &["a", "b"]),
-    ),
-    (
-        &[
-            "log",
-            "--reverse",
-            "--max-count",
-            "3",
-            "--parents",
-            "f",
-            "a",
-        ],
-        Reading::Log(ALL, &["a"]),
-    ),
-    (
-        &["log", "--max-count=3", "f", "a", "--parents", "--reverse"],
-        Reading::Log(ALL, &["a"]),
-    ),
-    (&["log", "--max-count", "0", "f", "a"], Reading::Count(0)),
-    (&["log", "--max-count", "007", "f", "a"], Reading::Count(7)),
-    (&["log", "--max-count", "+4", "f", "a"], Reading::Count(4)),
-    (
-        &["log", "--max-count", "18446744073709551615", "f", "a"],
-        Reading::Count(18446744073709551615),
-    ),
-];
-
-/// Words of `rev-parse`, whose revisions stay in their order.
-const REVISIONS: &[Row<'static>] = &[
-    (&["rev-parse", "f", "main"], Reading::RevParse(&["main"])),
-    (
-        &["rev-parse", "f", "b", "a^{tree}", "b"],
-        Reading::RevParse(&["b", "a^{tree}", "b"]),
-    ),
-    (&["rev-parse", "f", "--", "-x"], Reading::RevParse(&["-x"])),
-];
-
-const REFUSED: &[Row<'static>] = &[
-    (&[], Reading::Refusal),
-    (&["blob"], Reading::Refusal),
-    (&["blobs", "f"], Reading::Refusal),
-    (&["--version"], Reading::Refusal),
-    (&["try"], Reading::Refusal),
-    (&["try", "-x"], Reading::Refusal),
-    (&["try", "a", "b"], Reading::Refusal),
-    (&["adapt", "f"], Reading::Refusal),
-    (&["where"], Reading::Refusal),
-    (&["where", "x"], Reading::Refusal),
-    (&["where", "18446744073709551616"], Reading::Refusal),
-    (&["where", "1", "f"], Reading::Refusal),
-    (&["init"], Reading::Refusal),
-    (&["import"], Reading::Refusal),
-    (&["show", "f"], Reading::Refusal),
-    (&["show", "f", "a", "b"], Reading::Refusal),
-    (&["ls", "f"], Reading::Refusal),
-    (&["ls", "-r", "f"], Reading::Refusal),
-    (&["ls", "-x", "f", "a"], Reading::Refusal),
-    (&["ls", "-r", "-r", "f", "a"], Reading::Refusal),
-    (&["batch"], Reading::Refusal),
-    (&["batch", "f", "main"], Reading::Refusal),
-    (&["refs"], Reading::Refusal),
-    (&["log", "f"], Reading::Refusal),
-    (&["log", "f", "-x"], Reading::Refusal),
-    (&["log", "--max-count", "f", "a"], Reading::Refusal),
-    (&["log", "--max-count", "-1", "f", "a"], Reading::Refusal),
-    (&["log", "--max-count=-1", "f", "a"], Reading::Refusal),
-    (
-        &["log", "--max-count", "18446744073709551616", "f", "a"],
-        Reading::Refusal,
-    ),
-    (&["log", "--max-count", "", "f", "a"], Reading::Refusal),
-    (&["log", "--reverse=yes", "f", "a"], Reading::Refusal),
-    (&["rev-parse", "f"], Reading::Refusal),
-    (&["rev-parse", "f", "-x"], Reading::Refusal),
-];
-
-const HELP: &[Row<'static>] = &[
-    (&["--help"], Reading::Help("Usage: gx <COMMAND>\n")),
-    (&["--help"], Reading::Help("\nExit status:\n")),
-    (&["-h"], Reading::Help("  rev-parse  Prints the names")),
-    (&["help"], Reading::Help("Usage: gx <COMMAND>\n")),
-    (
-        &["help", "show"],
-        Reading::Help("Usage: gx show <FILE> <REV>\n"),
-    ),
-    (&["blobs", "--help"], Reading::Help("Usage: gx blobs\n")),
-    (&["try", "--help"], Reading::Help("Usage: gx try <REV>\n")),
-    (&["adapt", "--help"], Reading::Help("Usage: gx adapt\n")),
-    (&["where", "--help"], Reading::Help("Usage: gx where <N>\n")),
-    (
-        &["init", "--help"],
-        Reading::Help("Usage: gx init <FILE>\n"),
-    ),
-    (
-        &["import", "--help"],
-        Reading::Help("Usage: gx import <FILE>\n"),
-    ),
-    (
-        &["show", "--help"],
-        Reading::Help("Usage: gx show <FILE> <REV>\n"),
-    ),
-    (
-        &["ls", "--help"],
-        Reading::Help("Usage: gx ls [OPTIONS] <FILE> <REV>\n"),
-    ),
-    (&["ls", "--help"], Reading::Help("  -r, --recursive\n")),
-    (
-        &["batch", "--help"],
-        Reading::Help("Usage: gx batch [OPTIONS] <FILE>\n"),
-    ),
-    (
-        &["refs", "--help"],
-        Reading::Help("Usage: gx refs <FILE>\n"),
-    ),
-    (
-        &["log", "--help"],
-        Reading::Help("Usage: gx log [OPTIONS] <FILE> <RANGE>...\n"),
-    ),
-    (&["log", "--help"], Reading::Help("      --max-count <N>\n")),
-    (
-        &["log", "-h"],
-        Reading::Help("      --max-count <N>  Lists N commits"),
-    ),
-    (
-        &["rev-parse", "--help"],
-        Reading::Help("Usage: gx rev-parse <FILE> <REV>...\n"),
-    ),
-    (&["rev-parse", "--help"], Reading::Help("\nRefusals:\n")),
-];
-
-/// Whether a line is a log with these options, of these ranges.
-fn is_log(line: &Line<'_>, wanted: LogOptions, words: &[&str]) -> bool {
-    match line {
-        Line::Log {
-            options,
-            file,
-            ranges,
-        } => *options == wanted && *file == "f" && ranges.as_slice() == words,
-        _ => false,
-    }
-}
-
-/// Whether a line names these revisions.
-fn is_names(line: &Line<'_>, words: &[&str]) -> bool {
-    match line {
-        Line::RevParse { file, revisions } => *file == "f" && revisions.as_slice() == words,
-        _ => false,
-    }
-}
-
-/// Whether a line is the one that is to be read.
-fn is_line(alloc: Global, line: &Line<'_>, reading: Reading<'_>) -> Result<bool, AllocError> {
-    Ok(match reading {
-        Reading::Line(text) => format!(in alloc; "{line:?}")?.as_str() == text,
-        Reading::Log(options, words) => is_log(line, options, words),
-        Reading::Count(count) => is_log(
-            line,
-            LogOptions {
-                max_count: Some(count),
-                ..PLAIN
-            },
-            &["a"],
-        ),
-        Reading::RevParse(words) => is_names(line, words),
-        Reading::Refusal | Reading::Help(_) => false,
-    })
-}
+Refusals:
+";
 
 /// Whether just this comes of words.
-fn is_read(alloc: Global, words: &[&str], reading: Reading<'_>) -> Result<bool, AllocError> {
+fn is_read(alloc: Global, words: &[&str], wanted: &str) -> bool {
     match read_line(alloc, words) {
-        Ok(line) => is_line(alloc, &line, reading),
-        Err(LineFault::Status { status, text }) => Ok(match reading {
-            Reading::Refusal => status == 2,
-            Reading::Help(part) => status == 0 && text.as_str().contains(part),
-            _ => false,
-        }),
-        Err(LineFault::OutOfMemory) => Ok(false),
+        Ok(line) => is_text(format!(in alloc; "{line:?}"), wanted.trim()),
+        Err(LineFault::Status { status, text }) => is_end(status, text.as_str(), wanted),
+        Err(LineFault::OutOfMemory) => false,
+    }
+}
+
+/// Whether words are to end with this status and text.
+fn is_end(status: u8, text: &str, wanted: &str) -> bool {
+    let (end, part) = halves(wanted, '%');
+    let (_, part) = halves(part, '\n');
+    match end.trim() {
+        "refused" => status == 2,
+        "help" => status == 0 && text.contains(halves(part, '%').0),
+        _ => false,
+    }
+}
+
+/// Whether what is to come of words comes of them.
+fn is_right(alloc: Global, row: &str) -> bool {
+    let (words, wanted) = halves(row, '%');
+    match words_of(alloc, words.trim(), '|') {
+        Ok(words) => is_read(alloc, words.as_slice(), wanted),
+        Err(_) => false,
     }
 }
 
 /// Reads words. The first of which something else comes are a failure.
-fn are_read(alloc: Global, rows: &[Row<'_>]) -> Result<(), Fail> {
-    for (words, reading) in rows {
-        if !is_read(alloc, words, *reading)? {
-            return Err(Fail::new(format_args!("{words:?}")));
+fn are_read(alloc: Global, rows: &str) -> Result<(), Fail> {
+    for row in rows.split('$').skip(1) {
+        if !is_right(alloc, row) {
+            return Err(Fail::new(format_args!("{row}")));
         }
     }
     Ok(())
@@ -301,13 +176,16 @@ fn are_read(alloc: Global, rows: &[Row<'_>]) -> Result<(), Fail> {
 
 #[test]
 fn words_give_their_line(rt: HostRuntime) -> Result<(), Fail> {
-    are_read(rt.alloc(), LINES)?;
-    are_read(rt.alloc(), LOGS)?;
-    are_read(rt.alloc(), REVISIONS)
+    for rows in [LINES, LOGS, REVISIONS] {
+        are_read(rt.alloc(), rows)?;
+    }
+    Ok(())
 }
 
 #[test]
 fn other_words_end_with_their_status(rt: HostRuntime) -> Result<(), Fail> {
-    are_read(rt.alloc(), REFUSED)?;
-    are_read(rt.alloc(), HELP)
+    for rows in [REFUSED, HELP] {
+        are_read(rt.alloc(), rows)?;
+    }
+    Ok(())
 }

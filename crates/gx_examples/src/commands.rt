@@ -1,0 +1,155 @@
+//! The command of a step, and what it is tried for.
+
+use crate::exported::prints_alike;
+use crate::growths::{has_growths, refused_growths};
+use crate::limits::{Stop, stops_everywhere};
+use crate::sessions::runs;
+use crate::steps::{Step, words_of};
+use crate::texts::text;
+use gx_cli::{CliFault, Line, Outcome, read_line, serve, serve_owned};
+use gx_object::Sha1Namer;
+use gx_text::{Bytes, Held, Sink, Source};
+use std::alloc::{AllocError, Allocator, Global};
+use std::hash::RandomState;
+
+/// What a command is tried for.
+#[derive(Clone, Copy)]
+pub(crate) enum Task<'a> {
+    /// It does what the step says, on a store's text that it is given, or that is lent to it.
+    Run { is_given: bool },
+    /// It stops where its sink is full, or its source fails.
+    Stop(Stop),
+    /// At least as many growths as the step's line says are refused before it succeeds.
+    Growths,
+    /// On a text that is lent to it so many growths more are refused than on one that it is given.
+    Copies(u64),
+    /// It prints the same of another store's text.
+    Same(&'a [u8]),
+}
+
+/// The words of a command that clap doesn't accept: it wants a revision.
+const NO_REVISION: &str = "rev-parse store";
+
+/// Tries a step's command on a store's text. Answers whether what is to come of it came.
+pub(crate) fn tried(
+    alloc: Global,
+    step: &Step<'_>,
+    store: &mut Vec<u8>,
+    task: Task<'_>,
+    state: RandomState,
+) -> bool {
+    if step.words == NO_REVISION {
+        let line = Line::RevParse {
+            file: "store",
+            revisions: Vec::new(alloc),
+        };
+        return line_tried(alloc, &line, step, store, task, state);
+    }
+    match words_of(alloc, step.words, ' ') {
+        Ok(words) => words_tried(alloc, words.as_slice(), step, store, task, state),
+        Err(_) => false,
+    }
+}
+
+/// The same, where these are the step's words.
+fn words_tried(
+    alloc: Global,
+    words: &[&str],
+    step: &Step<'_>,
+    store: &mut Vec<u8>,
+    task: Task<'_>,
+    state: RandomState,
+) -> bool {
+    match read_line(alloc, words) {
+        Ok(line) => line_tried(alloc, &line, step, store, task, state),
+        Err(_) => false,
+    }
+}
+
+/// The same, where this is its line.
+fn line_tried(
+    alloc: Global,
+    line: &Line<'_>,
+    step: &Step<'_>,
+    store: &mut Vec<u8>,
+    task: Task<'_>,
+    state: RandomState,
+) -> bool {
+    match task {
+        Task::Run { is_given } => runs(alloc, line, step, store, is_given, state),
+        Task::Stop(stop) => stops_everywhere(alloc, line, step, store, stop, state),
+        Task::Growths => has_growths(alloc, line, step, store, state),
+        Task::Copies(count) => {
+            let lent = refused_growths(alloc, line, step, (store.as_slice(), false), state);
+            let given = refused_growths(alloc, line, step, (store.as_slice(), true), state);
+            given > 0 && lent.checked_sub(given) == Some(count)
+        }
+        Task::Same(other) => prints_alike(alloc, line, store, other, state),
+    }
+}
+
+/// What a command does with a store's text, a source and a sink. What the devices tell is left open here, so no caller has
+/// more to prove than that the call is safe.
+pub(crate) fn ran<A: Allocator + Copy, R: Source + Drop, W: Sink>(
+    alloc: A,
+    line: &Line<'_>,
+    store: &[u8],
+    source: R,
+    sink: &mut W,
+    state: RandomState,
+) -> Outcome<A> {
+    serve(alloc, Sha1Namer, line, store, source, sink, state)
+}
+
+/// The same with a text that is given to the command, or lent to it.
+pub(crate) fn ran_on<A: Allocator + Copy, R: Source + Drop, W: Sink>(
+    alloc: A,
+    line: &Line<'_>,
+    store: Vec<u8, A>,
+    is_given: bool,
+    source: R,
+    sink: &mut W,
+    state: RandomState,
+) -> Outcome<A> {
+    if is_given {
+        serve_owned(alloc, Sha1Namer, line, store, source, sink, state)
+    } else {
+        ran(alloc, line, &store, source, sink, state)
+    }
+}
+
+/// Whether a fault prints this line, and none prints an empty one.
+pub(crate) fn has_line(alloc: Global, fault: Option<CliFault>, line: &str) -> bool {
+    match fault {
+        None => line.is_empty(),
+        Some(fault) => is_text(format!(in alloc; "{fault}"), line),
+    }
+}
+
+/// Whether a text that was made is this one.
+pub(crate) fn is_text(made: Result<String, AllocError>, text: &str) -> bool {
+    match made {
+        Ok(made) => made.as_str() == text,
+        Err(_) => false,
+    }
+}
+
+/// The text of a new store with this stream imported; none where the import is refused.
+pub(crate) fn stored(alloc: Global, stream: &[u8], state: RandomState) -> Option<Vec<u8>> {
+    match Held::new(alloc, 64) {
+        Ok(mut sink) => imported(alloc, stream, &mut sink, state),
+        Err(_) => None,
+    }
+}
+
+/// The same, with a sink for what the import prints.
+fn imported(
+    alloc: Global,
+    stream: &[u8],
+    sink: &mut Held<Global>,
+    state: RandomState,
+) -> Option<Vec<u8>> {
+    let line = Line::Import { file: "store" };
+    let source = Bytes::new(stream, 4096, false);
+    ran(alloc, &line, text("empty"), source, sink, state).store
+}

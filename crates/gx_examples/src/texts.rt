@@ -1,0 +1,446 @@
+//! Streams, store texts and what commands print, by the names that the scripts of the examples give them. The names of objects are
+//! those that git gives them.
+
+use gx_text::cut;
+
+/// The text with this name; nothing for a name that none has.
+pub(crate) fn text(name: &str) -> &'static [u8] {
+    for part in TEXTS.split(|byte| *byte == b'%') {
+        if let Some((title, text)) = cut(part, b'\n') {
+            if title == name.as_bytes() {
+                return text;
+            }
+        }
+    }
+    b""
+}
+
+/// Texts, each in the lines behind its name, up to the next `%`.
+const TEXTS: &[u8] = b"
+%root
+commit refs/heads/main
+mark :1
+committer A <a@x> 1 +0000
+data 2
+v1
+M 100644 inline test.txt
+data 10
+version 1
+%branched
+commit refs/heads/main
+mark :1
+committer A <a@x> 1 +0000
+data 2
+v1
+M 100644 inline test.txt
+data 10
+version 1
+
+commit refs/heads/b
+committer A <a@x> 2 +0000
+data 3
+foofrom :1
+%twins
+commit refs/heads/x
+committer A <a@x> 1 +0000
+data 2
+v1
+M 100644 inline test.txt
+data 10
+version 1
+
+commit refs/heads/y
+committer A <a@x> 1 +0000
+data 2
+v1
+M 100644 inline test.txt
+data 10
+version 1
+%merged
+commit refs/heads/p
+mark :1
+committer A <a@x> 1 +0000
+data 1
+p
+commit refs/heads/q
+mark :2
+committer A <a@x> 1 +0000
+data 1
+q
+commit refs/heads/y
+committer A <a@x> 2 +0000
+data 1
+y
+merge :1
+merge :2
+%moved
+commit refs/heads/main
+committer A <a@x> 1 +0000
+data 0
+M 160000 d670460b4b4aece5915caf5c68d12f560a9fe3e4 sub
+M 644 inline a
+data 6
+hello
+M 644 inline a/b
+data 10
+version 1
+
+commit refs/heads/main
+committer A <a@x> 2 +0000
+data 0
+R a a/c
+%tagged
+commit refs/heads/main
+mark :1
+committer A <a@x> 1 +0000
+data 2
+v1
+M 100644 inline test.txt
+data 10
+version 1
+
+tag v1
+from :1
+data 3
+one
+reset refs/tags/v1
+from :1
+%one blob
+blob
+mark :1
+data 13
+test content
+%three blobs
+blob
+mark :1
+data 13
+test content
+
+blob
+data 0
+blob
+original-oid x
+data 16
+what is up, doc?%three names
+d670460b4b4aece5915caf5c68d12f560a9fe3e4
+e69de29bb2d1d6434b8b29ae775ad8c2e48c5391
+bd9dbf5aae1a3862dd1526723246b20206e5fc37
+%ordered
+commit refs/heads/main
+committer A <a@x> 1 +0000
+data 0
+M 100644 inline a/test.txt
+data 10
+version 1
+M 100644 inline a0
+data 6
+hello
+M 100644 inline a.b
+data 6
+hello
+%quoted
+commit refs/heads/main
+committer A <a@x> 1 +0000
+data 0
+M 100644 inline \"a b\\\"\\303\\251\"
+data 6
+hello
+M 755 inline d/e/f
+data 6
+hello
+M 120000 inline l
+data 6
+hello
+M 160000 d670460b4b4aece5915caf5c68d12f560a9fe3e4 sub
+%version
+progress x
+commit refs/heads/main
+mark :1
+committer A <a@x> 1 +0000
+data 2
+v1
+M 100644 inline test.txt
+data 10
+version 1
+
+tag v1
+from :1
+tagger A <a@x> 2 +0000
+data 3
+one%commit of version
+progress x
+tree d8329fc1cc938780ffdd9f94e0d364e0ea74f579
+author A <a@x> 1 +0000
+committer A <a@x> 1 +0000
+
+v1%wide
+commit refs/heads/main
+committer A <a@x> 1 +0000
+data 0
+M 100755 inline a.b
+data 6
+hello
+M 100644 inline a/test.txt
+data 10
+version 1
+M 120000 inline a0
+data 6
+hello
+M 160000 d670460b4b4aece5915caf5c68d12f560a9fe3e4 sub
+M 100644 inline \"a b\\\"\\303\\251\"
+data 6
+hello
+%lines of wide
+100644 blob ce013625030ba8dba906f756967f9e9ca394464a\t\"a b\\\"\\303\\251\"
+100755 blob ce013625030ba8dba906f756967f9e9ca394464a\ta.b
+040000 tree d8329fc1cc938780ffdd9f94e0d364e0ea74f579\ta
+120000 blob ce013625030ba8dba906f756967f9e9ca394464a\ta0
+160000 commit d670460b4b4aece5915caf5c68d12f560a9fe3e4\tsub
+%rough
+feature export-marks=m
+blob
+mark :1
+data 1
+x
+commit refs/heads/m
+mark :2
+committer <a@b> 1 +0000
+data 1
+m
+M 100644 :1 \"a
+
+reset refs/heads/gone
+from 0000000000000000000000000000000000000000
+
+%mended
+blob
+mark :1
+data 1
+x
+commit refs/heads/m
+mark :2
+committer  <a@b> 1 +0000
+data 1
+m
+M 100644 :1 \"\\\"a\"
+
+reset refs/heads/gone
+
+%mixed
+blob
+mark :1
+data 3
+abc
+# note
+
+
+commit refs/heads/main
+committer A <a@x> 1 +0000
+data 0
+M 100644 :1 f
+
+what now
+blob
+data 0
+%two branches
+commit refs/heads/a
+mark :1
+committer A <a@x> 1 +0000
+data 1
+p
+M 100644 inline f
+data 6
+hello
+
+commit refs/heads/b
+mark :2
+committer A <a@x> 2 +0000
+data 1
+q
+M 160000 d670460b4b4aece5915caf5c68d12f560a9fe3e4 sub
+commit refs/heads/a
+mark :3
+committer A <a@x> 3 +0000
+data 1
+m
+merge :2
+tag t
+from :3
+tagger A <a@x> 4 +0000
+data 1
+t
+%export of two branches
+feature done
+blob
+mark :1
+data 6
+hello
+
+reset refs/gx/export
+commit refs/gx/export
+mark :2
+author A <a@x> 1 +0000
+committer A <a@x> 1 +0000
+data 1
+p
+deleteall
+M 100644 :1 f
+
+reset refs/gx/export
+commit refs/gx/export
+mark :3
+author A <a@x> 2 +0000
+committer A <a@x> 2 +0000
+data 1
+q
+deleteall
+M 160000 d670460b4b4aece5915caf5c68d12f560a9fe3e4 sub
+
+commit refs/gx/export
+mark :4
+author A <a@x> 3 +0000
+committer A <a@x> 3 +0000
+data 1
+m
+from :2
+merge :3
+deleteall
+M 100644 :1 f
+
+reset refs/gx/export
+reset refs/heads/a
+from :4
+
+reset refs/heads/b
+from :3
+
+tag t
+from :4
+tagger A <a@x> 4 +0000
+data 1
+t
+done
+%export of zeros
+feature done
+reset refs/gx/export
+commit refs/gx/export
+mark :1
+author A <a@x> 1 +0000
+committer A <a@x> 1 +0000
+data 1
+z
+deleteall
+M 160000 0000000000000000000000000000000000000000 sub
+
+reset refs/gx/export
+reset refs/heads/main
+from :1
+
+done
+%empty
+gxstore 2
+objects 0
+refs 0
+end
+%with blob
+gxstore 2
+objects 1
+blob 13 d670460b4b4aece5915caf5c68d12f560a9fe3e4
+test content
+
+refs 0
+end
+%old with blob
+gxstore 1
+objects 1
+blob 13
+test content
+
+refs 0
+end
+%first
+gxstore 2
+objects 3
+blob 10 83baae61804e65cc73a7201a7252750c76066a30
+version 1
+
+tree 36 d8329fc1cc938780ffdd9f94e0d364e0ea74f579
+100644 test.txt\0\x83\xba\xaea\x80Ne\xccs\xa7 \x1arRu\x0cv\x06j0
+commit 98 02d6adf1689e06135d2b4b4d471f1ae489887b53
+tree d8329fc1cc938780ffdd9f94e0d364e0ea74f579
+author A <a@x> 1 +0000
+committer A <a@x> 1 +0000
+
+v1
+refs 1
+02d6adf1689e06135d2b4b4d471f1ae489887b53 refs/heads/main
+end
+%ref of first
+02d6adf1689e06135d2b4b4d471f1ae489887b53 refs/heads/main
+%odd
+blob
+mark :1
+data 5
+one
+x
+commit refs/heads/main
+mark :2
+author A U Thor <a@x> 1700000000 +0100
+committer C O Mitter <c@x> 1700000001 -0130
+data 6
+first
+M 100644 :1 \"a b\\\"\\303\\244\"
+M 100755 inline dir/sub/run
+data 2
+go
+M 120000 inline dir/link
+data 3
+run
+M 160000 d670460b4b4aece5915caf5c68d12f560a9fe3e4 mod
+
+commit refs/heads/side
+mark :3
+committer A <a@x> 2 +0000
+data 4
+side
+from :2
+R dir \"moved dir\"
+C \"a b\\\"\\303\\244\" copy
+D mod
+
+progress half
+commit refs/heads/main
+mark :4
+committer A <a@x> 3 +0000
+data 5
+other
+M 100644 inline dir.t
+data <<E
+hello
+E
+
+commit refs/heads/main
+mark :5
+committer A <a@x> 4 +0000
+data 5
+merge
+merge :3
+R dir/sub sub
+
+tag v1.0
+from :5
+tagger A <a@x> 5 +0000
+data 3
+one
+tag old/v0
+from :2
+data 0
+reset refs/heads/kept
+from :3
+%refs of odd
+39b12c0f6ae0528020a7712cc5edb4c7ea6262f5 refs/heads/kept
+231e4842e22f542ed2e0473967b3a2678ec20565 refs/heads/main
+39b12c0f6ae0528020a7712cc5edb4c7ea6262f5 refs/heads/side
+b789cd8a41fc3c7613aa26b0428846ad4c6b4665 refs/tags/old/v0
+4d87bc15d31c990120745e4f5e757420064d9e44 refs/tags/v1.0
+%";

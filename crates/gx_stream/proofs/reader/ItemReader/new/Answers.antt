@@ -1,0 +1,8 @@
+use Rattle.std.proofs.Common.{rules}
+use Rattle.gx_stream.proofs.reader.ItemReader.new.Goals as goal
+
+pub returns-clause-stream : goal.returns-clause-stream
+returns-clause-stream g c = search rules
+
+pub returns-clause-most : goal.returns-clause-most
+returns-clause-most g c = search rules

@@ -1,11 +1,12 @@
-use Rattle.std.proofs.Common.{map, sym, subst}
+use Rattle.std.proofs.Common.{◌≡◌, Ok, map, sym, subst}
 use Rattle.gx_model.specs.declared.objects.Kind.TheVariants as kinds
 use Rattle.gx_model.specs.Histories.{Records, record_for, with_one}
 use Rattle.gx_model.specs.Histories.Values.{blob_value}
 use Rattle.gx_model.specs.Laws.RepositoryLaws.{values_of}
 use Rattle.gx_model.specs.Records.Sound.{HasShortPaths, Holds, IsSound, Keeps}
 use Rattle.gx_model.proofs.Puts.{front_put}
-use Rattle.gx_repo.specs.Additions.{HasValues}
+use Rattle.gx_model.specs.Records.{name_of}
+use Rattle.gx_repo.specs.Additions.{Adds, HasValues}
 use Rattle.gx_repo.specs.Refs.{shown_ref}
 use Rattle.gx_repo.proofs.Additions.{put_grown, put_is_sound}
 use Rattle.gx_repo.proofs.HeldRecords.{keeps_front, put_holds}
@@ -43,3 +44,11 @@ returns-clause-history g c =
     let no_paths : HasShortPaths r.records (record_for names kinds.Blob c.args.body.items) = λ es p e t h. absurd (cc e) in
     subst (λ v. HasValues v.1 (record { records = c.put_owned.new.self.1; refs = map shown_ref c.self.inside.refs.items }) (with_one (values_of v.1) (blob_value c.args.body.items))) c.self.view_is
     (put_grown names (c.links_tell_values.ensures names namer) (c.puts_add_values.ensures names namer) r c.self.invariant.0 kinds.Blob c.args.body.items tt no_paths c.put_owned.new.self.1 c.in_ok-name.ensures.puts.1).1
+
+pub returns-clause-adds : goal.returns-clause-adds
+returns-clause-adds g c =
+    subst (λ v. Adds v.1.records c.put_owned.new.self.1 (record_for (g.N.Namer.name_of v.0) kinds.Blob c.args.body.items) (Ok c.in_ok-name.name)) c.self.view_is c.in_ok-name.ensures.puts
+
+pub returns-clause-value : goal.returns-clause-value
+returns-clause-value g c =
+    subst (λ v. c.in_ok-name.name.bytes ≡ name_of (g.N.Namer.name_of v.0) (blob_value c.args.body.items)) c.self.view_is c.in_ok-name.ensures.puts.0

@@ -42,3 +42,6 @@ returns-clause-adds g c =
     let adds = rw c.room_of.ensures.same at c.in-Ok.ensures.adds in
     let last = put_last old new r adds.1 (λ e. c.if-len-held.false (after ∙ e ∙ sym before)) in
     (adds.0, acceptable old r (rw c.as_slice.ensures at c.in_ok-room.ensures.ok) last.1, last.0)
+
+pub returns-then-len-held-clause-history : goal.returns-then-len-held-clause-history
+returns-then-len-held-clause-history g c = tt

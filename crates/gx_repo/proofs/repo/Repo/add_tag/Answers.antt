@@ -1,6 +1,7 @@
 use Rattle.std.proofs.Common.{◌≡◌, sym, subst}
 use Rattle.std.specs.Prelude.{IfOk}
-use Rattle.gx_model.specs.Histories.{with_one}
+use Rattle.gx_model.specs.declared.objects.Kind.TheVariants as kinds
+use Rattle.gx_model.specs.Histories.{record_for, with_one}
 use Rattle.gx_model.specs.Records.HistoryOf.{tag_of_parts, named_values}
 use Rattle.gx_model.specs.Objects.{IsTagText}
 use Rattle.gx_model.specs.Records.{name_of}
@@ -8,11 +9,16 @@ use Rattle.gx_model.specs.Laws.RepositoryLaws.{values_of}
 use Rattle.gx_model.specs.Histories.Values.{tag_value}
 use Rattle.gx_model.proofs.BodiesReadBack.{tag_read}
 use Rattle.gx_object.specs.Parts.{tag_parts}
-use Rattle.gx_repo.specs.Additions.{HasValues}
+use Rattle.gx_repo.specs.Additions.{Adds, HasValues}
 use Rattle.gx_repo.proofs.repo.Repo.add_tag.Goals as goal
 
 pub add-requires-clause-linked : goal.add-requires-clause-linked
 add-requires-clause-linked g c = (tag_parts c.args.parts.now, subst (IsTagText (tag_parts c.args.parts.now)) (sym c.deref.ensures.value) c.in-Ok.ensures, c.requires.object)
+
+pub returns-clause-adds : goal.returns-clause-adds
+returns-clause-adds g c =
+    let text = subst (IsTagText (tag_parts c.args.parts.now)) (sym c.deref.ensures.value) c.in-Ok.ensures in
+    subst (λ body. Adds c.args.self.now.1.records c.add.new.self.1.records (record_for (g.N.Namer.name_of c.args.self.now.0) kinds.Tag body) c.add.result) text.0 c.add.ensures.adds
 
 pub returns-clause-history : goal.returns-clause-history
 returns-clause-history g c =

@@ -1,6 +1,8 @@
-use Rattle.std.proofs.Common.{◌≡◌, ℕ, zero, suc, List, [], ◌∷◌, ◌++◌, take, drop, map, refl, sym, ap, subst}
+use Rattle.std.proofs.Common.{◌≡◌, ℕ, zero, suc, List, [], ◌∷◌, ◌++◌, take, drop, map, refl, sym, ap, subst, ◌∙◌}
 use Rattle.gx_model.specs.Records.Sound.{IsSound}
+use Rattle.gx_model.specs.Laws.RepositoryLaws.{with_records}
 use Rattle.gx_repo.specs.Refs.{shown_ref}
+use Rattle.gx_repo.specs.Repositories.{held_in}
 use Rattle.gx_repo.specs.Rooms.{IsFront}
 use Rattle.gx_repo.proofs.RecordRooms.{front_taken}
 use Rattle.gx_repo.proofs.repo.Repo.truncate.Goals as goal
@@ -23,3 +25,8 @@ invariant_of-self g c =
       subst (λ v. IsSound (g.N.Namer.name_of v.0) (record { records = v.1; refs = refs })) (sym c.truncate.ensures) law,
       subst (λ xs. IsFront xs c.truncate.new.self.1) (sym c.truncate-2.ensures.items) (subst (λ v. IsFront (take c.args.len c.self.inside.rooms.items) v.1) (sym c.truncate.ensures) (front_taken c.args.len rs c.self.inside.rooms.items c.self.invariant.1)),
     )
+
+pub returns : goal.returns
+returns g c =
+    let refs = c.self.inside.refs.items in
+    ap (λ s. (s.0, held_in s.1 refs)) c.truncate.ensures ∙ ap (λ v. (v.0, with_records v.1 (take c.args.len v.1.records))) c.self.view_is

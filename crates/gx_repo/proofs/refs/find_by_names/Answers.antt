@@ -1,0 +1,40 @@
+use Rattle.std.proofs.Common.{◌≡◌, sym, ap, ◌∙◌, map, ◌++◌, append-nil, codes, drop}
+use Rattle.std.specs.Map.{lookup}
+use Rattle.gx_model.specs.Texts.{Bytes, same_bytes}
+use Rattle.gx_model.specs.Records.Lookups.{or_else, first_named}
+use Rattle.gx_model.specs.Revisions.Denotation.{ref_names}
+use Rattle.gx_repo.specs.Refs.{shown_ref}
+use Rattle.gx_repo.proofs.refs.find_by_names.Goals as goal
+
+pub returns-in-Some : goal.returns-in-Some
+returns-in-Some g c =
+    let n = c.args.word.now in
+    let refs = map shown_ref c.args.refs.now in
+    let one = c.in-Some.ensures ∙ ap (λ z. lookup (same_bytes z) refs) (append-nil n) in
+    λ i. or_else (one i) (first_named refs (drop 1 (ref_names n)))
+
+pub returns-in-Some-find : goal.returns-in-Some-find
+returns-in-Some-find g c =
+    let n = c.args.word.now in
+    let refs = map shown_ref c.args.refs.now in
+    let one = c.in_default.ensures ∙ ap (λ z. lookup (same_bytes z) refs) (append-nil n) in
+    let two = c.in-Some-find.ensures ∙ ap (λ z. lookup (same_bytes z) refs) (append-nil (codes "refs/" ++ n)) in
+    λ i. or_else (one i) (or_else (two i) (first_named refs (drop 2 (ref_names n))))
+
+pub returns-in-Some-find-2 : goal.returns-in-Some-find-2
+returns-in-Some-find-2 g c =
+    let n = c.args.word.now in
+    let refs = map shown_ref c.args.refs.now in
+    let one = c.in_default.ensures ∙ ap (λ z. lookup (same_bytes z) refs) (append-nil n) in
+    let two = c.in_default-find.ensures ∙ ap (λ z. lookup (same_bytes z) refs) (append-nil (codes "refs/" ++ n)) in
+    let three = c.in-Some-find-2.ensures ∙ ap (λ z. lookup (same_bytes z) refs) (append-nil (codes "refs/tags/" ++ n)) in
+    λ i. or_else (one i) (or_else (two i) (or_else (three i) (first_named refs (drop 3 (ref_names n)))))
+
+pub returns : goal.returns
+returns g c =
+    let n = c.args.word.now in
+    let refs = map shown_ref c.args.refs.now in
+    let one = c.in_default.ensures ∙ ap (λ z. lookup (same_bytes z) refs) (append-nil n) in
+    let two = c.in_default-find.ensures ∙ ap (λ z. lookup (same_bytes z) refs) (append-nil (codes "refs/" ++ n)) in
+    let three = c.in_default-find-2.ensures ∙ ap (λ z. lookup (same_bytes z) refs) (append-nil (codes "refs/tags/" ++ n)) in
+    c.find_branch.ensures ∙ (λ i. or_else (one i) (or_else (two i) (or_else (three i) (first_named refs (drop 3 (ref_names n))))))

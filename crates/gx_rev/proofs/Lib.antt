@@ -7,6 +7,7 @@ pub mod WordMarks
 pub mod Listings
 pub mod OneAnswer
 pub mod OneKind
+pub mod Bodies
 pub mod Prefixes
 pub mod RefTips
 pub mod Tips

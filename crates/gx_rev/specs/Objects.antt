@@ -1,13 +1,16 @@
 -- Held objects by their names, and the values of the history that they are.
-use Rattle.std.specs.Prelude.{IsTrue, is_some, List, Ok, Err, if◌then◌else◌}
+use Rattle.std.specs.Prelude.{IsTrue, is_some, ℕ, List, Option, Some, None, Ok, Err, if◌then◌else◌}
+use Rattle.std.specs.List.{slice_get}
+use Rattle.std.specs.Option.{option_map}
 use Rattle.gx_model.specs.declared.objects.Kind.{Kind}
 use Rattle.gx_model.specs.Texts.{Bytes}
 use Rattle.gx_model.specs.Faults.{Given}
 use Rattle.gx_model.specs.declared.faults.Fault.TheVariants.{WrongKind}
 use Rattle.gx_model.specs.Histories.Files.{FileMap}
-use Rattle.gx_model.specs.Histories.Values.{Commit, Commits, Value, parents_of}
-use Rattle.gx_model.specs.Objects.{Entry}
-use Rattle.gx_model.specs.Records.{entries, kind_of, named_map}
+use Rattle.gx_model.specs.Histories.Values.{Commit, Commits, Value, blob_value, commit_value, parents_of, tag_value, tree_value}
+use Rattle.gx_model.specs.Laws.RepositoryLaws.{values_of}
+use Rattle.gx_model.specs.Objects.{Entry, TagParts}
+use Rattle.gx_model.specs.Records.{body_of, entries, kind_of, name_of, named_map}
 use Rattle.gx_model.specs.Histories.{Records}
 use Rattle.gx_model.specs.Records.HistoryOf.{commit_of_value, files_of_tree, value_of_name}
 use Rattle.gx_model.specs.Records.Growth.{record_named, same_kind}
@@ -48,3 +51,14 @@ entries_given name_of repo called = entries (name_of repo.0) (named_map (name_of
 -- a value of this kind, and no other
 abbrev pub only : (Kind → Bytes → Bytes) → Kind → Value → Given Value
 only name kind value = if same_kind (kind_of name value) kind then Ok value else Err WrongKind
+
+-- the body of the value at this place among the records
+abbrev pub body_in_place : (Kind → Bytes → Bytes) → Records → ℕ → Option Bytes
+body_in_place name repository place = option_map (body_of name) (slice_get (values_of repository) place)
+
+-- the parts of a tag's body, where a value is a tag
+abbrev pub parts_of_tag_value : (Kind → Bytes → Bytes) → Value → Option TagParts
+parts_of_tag_value name (tag_value tag) = Some (record { object = name_of name (commit_value tag.target); name = tag.name; tagger = tag.tagger; message = tag.message })
+parts_of_tag_value name (blob_value bytes) = None
+parts_of_tag_value name (tree_value files) = None
+parts_of_tag_value name (commit_value made) = None

@@ -15,7 +15,7 @@ mod suffix;
 mod walking;
 
 pub use fault::{RevFault, WalkFault};
-pub use objects::{body_of, entries_of, view_of};
+pub use objects::{body_at, body_of, entries_of, tag_of, view_of};
 pub use range::Range;
 pub use reached::{name_at, place_of, reaches};
 pub use refs::reached_from_refs;

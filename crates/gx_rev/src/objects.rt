@@ -1,15 +1,18 @@
-//! Held objects by their names: their kinds, their commits and parents, and their trees.
+//! Held objects by their names: their kinds and bodies, their commits and parents, their trees, and their tags.
 
-ghost use Rattle.std.specs.Prelude.{◌≡◌, IfOk};
+ghost use Rattle.std.specs.Prelude.{◌≡◌, ◌<◌, IfOk, Some, length};
 ghost use Rattle.gx_model.specs.declared.objects.Kind.TheVariants as kinds;
+ghost use Rattle.gx_model.specs.Laws.RepositoryLaws.{values_of};
 ghost use Rattle.gx_model.specs.Revisions.Denotation.{commit_in, files_in};
 ghost use Rattle.gx_model.specs.Records.{body_of, kind_of, parts_of_commit};
 ghost use Rattle.gx_rev.specs.Calls.{GivesCommit, GivesFiles, ancestor_at, parent_at};
-ghost use Rattle.gx_rev.specs.Objects.{IsHeld, IsHeldAs, commit_at, entries_at, entries_given, value_at};
+ghost use Rattle.gx_rev.specs.Objects.{IsHeld, IsHeldAs, body_in_place, commit_at, entries_at, entries_given, parts_of_tag_value, value_at};
 ghost use Rattle.gx_rev.specs.RevFaults.{NeedsNoMemory};
 
 use crate::RevFault;
-use gx_object::{CommitView, Kind, Name, Namer, TreeEntries, decode_commit, held_tree};
+use gx_object::{
+    CommitView, Kind, Name, Namer, TagView, TreeEntries, decode_commit, decode_tag, held_tree,
+};
 use gx_repo::Repo;
 use std::alloc::Allocator;
 
@@ -35,6 +38,19 @@ pub fn body_of<'a, N: Namer, A: Allocator + Copy>(repo: &'a Repo<N, A>, name: &N
         unreachable!();
     };
     body
+}
+
+/// The body of the object at a place among the records.
+///
+/// Cost: constant. Takes no memory.
+pub fn body_at<N: Namer, A: Allocator + Copy>(repo: &Repo<N, A>, place: usize) -> &[u8]
+    requires { place < length (values_of repo.now.1) }
+    ensures { body_in_place (N.name_of repo.now.0) repo.now.1 place ≡ Some result.now }
+{
+    let Some((_, _, bytes)) = repo.store().record(place) else {
+        unreachable!();
+    };
+    bytes
 }
 
 /// The commit that a held commit is, or that a held tag names.
@@ -85,6 +101,25 @@ pub fn entries_of<'a, N: Namer, A: Allocator + Copy>(
         unreachable!();
     };
     held_tree(body)
+}
+
+/// The parts of a held tag's body. Of an object of another kind, none.
+///
+/// Cost: a look-up, and a tag's length. Takes no memory.
+pub fn tag_of<'a, N: Namer, A: Allocator + Copy>(
+    repo: &'a Repo<N, A>,
+    name: &Name,
+) -> Option<TagView<'a>>
+    requires { IsHeld repo.now.1 name.now }
+    ensures { result ≡ parts_of_tag_value (N.name_of repo.now.0) (value_at repo.now.1 name.now) }
+{
+    let Some((kind, body)) = repo.store().get(name) else {
+        unreachable!();
+    };
+    match kind {
+        Kind::Tag => decode_tag(body).ok(),
+        Kind::Blob | Kind::Tree | Kind::Commit => None,
+    }
 }
 
 /// The nth parent of a held commit, and the commit where n is 0.

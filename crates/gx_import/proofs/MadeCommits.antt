@@ -42,51 +42,60 @@ module _ (name : Kind → Bytes → Bytes) (s : State) (c : CommitParts) where
         (gives_refused clash Be e (all_committed name c.ref s c.merges) (after_others first) (merged_answer name c.ref s c.merges) h)
 
     module _ (others : List Commit) (l : all_committed name c.ref s c.merges ≡ Ok others) where
-      abbrev blobs : List Value
-      blobs = blobs_added name s (starting_files first) c.changes
-
-      abbrev changed_files : Result (State × FileMap Bytes) Fault
-      changed_files = all_changed name s (starting_files first) c.changes
-
-      stepped : step_commit name s c ≡ after_others first others
-      stepped = ap (λ o. and_then o after_first) k ∙ ap (λ o. and_then o (after_others first)) l
-
       adding : added_by_commit name s c ≡ values_made name s c first others
       adding = ap (unless_refused (λ p. unless_refused (values_made name s c p) (all_committed name c.ref s c.merges))) k ∙ ap (unless_refused (values_made name s c first)) l
 
-      -- the changes are
-      pub changes_refused : {X Z : Type 0} (vs : List Value) (Is : State × FileMap Bytes → X → Type 0) (Be : State → Z → Type 0) (e : Fault)
-          → AddsAs (Clash name vs blobs) Is (Err e) changed_files → AddsAs (Clash name vs (added_by_commit name s c)) Be (Err e) (step_commit name s c)
-      changes_refused vs Is Be e h =
-          subst (λ xs. AddsAs (Clash name vs xs) Be (Err e) (step_commit name s c)) (sym adding)
-          (subst (AddsAs (Clash name vs (values_made name s c first others)) Be (Err e)) (sym stepped)
-          (adds_refused (Clash name vs blobs) (Clash name vs (values_made name s c first others)) Is Be
-          (λ q. clash_first name blobs (unless_refused (λ r. commit_added r.1 (commit_made c first others r.1)) changed_files) vs q) e changed_files (after_changes first others) h))
+      -- and what is given
+      pub stepped : step_commit name s c ≡ after_others first others
+      stepped = ap (λ o. and_then o after_first) k ∙ ap (λ o. and_then o (after_others first)) l
 
-      module _ (r : State × FileMap Bytes) (m : changed_files ≡ Ok r) where
-        abbrev pub made : Commit
-        made = commit_made c first others r.1
+      -- what is said of a commit whose parents are known
+      pub parents_known : {X : Type 0} (vs : List Value) (Is : State → X → Type 0) (answer : Result X Fault) → AddsAs (Clash name vs (values_made name s c first others)) Is answer (after_others first others)
+          → AddsAs (Clash name vs (added_by_commit name s c)) Is answer (step_commit name s c)
+      parents_known vs Is answer h =
+          subst (λ xs. AddsAs (Clash name vs xs) Is answer (step_commit name s c)) (sym adding)
+          (subst (AddsAs (Clash name vs (values_made name s c first others)) Is answer) (sym stepped) h)
 
-        -- what the whole gives
-        pub step_made : step_commit name s c ≡ Ok (committed_to c made r.0)
-        step_made = stepped ∙ ap (λ o. and_then o (after_changes first others)) m
+      -- what the whole adds
+      pub adding_made : (r : State × FileMap Bytes) → all_changed name s (starting_files first) c.changes ≡ Ok r
+          → added_by_commit name s c ≡ blobs_added name s (starting_files first) c.changes ++ commit_added r.1 (commit_made c first others r.1)
+      adding_made r m = adding ∙ ap (λ o. blobs_added name s (starting_files first) c.changes ++ unless_refused (λ r. commit_added r.1 (commit_made c first others r.1)) o) m
 
-        -- what the whole adds
-        pub adding_made : added_by_commit name s c ≡ blobs ++ commit_added r.1 made
-        adding_made = adding ∙ ap (λ o. blobs ++ unless_refused (λ r. commit_added r.1 (commit_made c first others r.1)) o) m
+  module _ (first : Option Commit) (others : List Commit) where
+    abbrev blobs : List Value
+    blobs = blobs_added name s (starting_files first) c.changes
 
-        abbrev then_set : State → Result State Fault
-        then_set t = Ok (on_branch c.ref (Some made) (marked c.mark (commit_value made) t))
+    abbrev changed_files : Result (State × FileMap Bytes) Fault
+    changed_files = all_changed name s (starting_files first) c.changes
 
-        -- its trees or itself are
-        pub made_refused : {X Z : Type 0} (vs now : List Value) → vs ≡ s.history.values → now ≡ r.0.history.values → (Is : State → X → Type 0) (Be : State → Z → Type 0) (e : Fault)
-            → AddsAs (Clash name now (commit_added r.1 made)) Is (Err e) (Ok (added (commit_value made) r.0)) → AddsAs (Clash name vs (added_by_commit name s c)) Be (Err e) (step_commit name s c)
-        made_refused vs now old new Is Be e h =
-            let values : now ≡ fold with_one vs blobs = new ∙ changes_after name s (starting_files first) c.changes r m ∙ ap (λ us. fold with_one us blobs) (sym old) in
-            subst (λ xs. AddsAs (Clash name vs xs) Be (Err e) (step_commit name s c)) (sym adding_made)
-            (subst (AddsAs (Clash name vs (blobs ++ commit_added r.1 made)) Be (Err e)) (sym step_made)
-            (adds_refused (Clash name now (commit_added r.1 made)) (Clash name vs (blobs ++ commit_added r.1 made)) Is Be
-            (λ q. clash_after name blobs (commit_added r.1 made) vs (subst (λ us. with_values name us (commit_added r.1 made) ≡ None) values q)) e (Ok (added (commit_value made) r.0)) then_set h))
+    -- the changes are refused
+    pub changes_refused : {X Z : Type 0} (vs : List Value) (Is : State × FileMap Bytes → X → Type 0) (Be : State → Z → Type 0) (e : Fault)
+        → AddsAs (Clash name vs blobs) Is (Err e) changed_files → AddsAs (Clash name vs (values_made name s c first others)) Be (Err e) (after_others first others)
+    changes_refused vs Is Be e h =
+        adds_refused (Clash name vs blobs) (Clash name vs (values_made name s c first others)) Is Be
+        (λ q. clash_first name blobs (unless_refused (λ r. commit_added r.1 (commit_made c first others r.1)) changed_files) vs q) e changed_files (after_changes first others) h
+
+    module _ (r : State × FileMap Bytes) (m : changed_files ≡ Ok r) where
+      abbrev made : Commit
+      made = commit_made c first others r.1
+
+      -- what the whole gives
+      pub step_made : after_others first others ≡ Ok (committed_to c made r.0)
+      step_made = ap (λ o. and_then o (after_changes first others)) m
+
+      abbrev then_set : State → Result State Fault
+      then_set t = Ok (on_branch c.ref (Some made) (marked c.mark (commit_value made) t))
+
+      -- its trees or itself are refused
+      pub made_refused : {X Z : Type 0} (vs now : List Value) → vs ≡ s.history.values → now ≡ r.0.history.values → (Is : State → X → Type 0) (Be : State → Z → Type 0) (e : Fault)
+          → AddsAs (Clash name now (commit_added r.1 made)) Is (Err e) (Ok (added (commit_value made) r.0)) → AddsAs (Clash name vs (values_made name s c first others)) Be (Err e) (after_others first others)
+      made_refused vs now old new Is Be e h =
+          let values : now ≡ fold with_one vs blobs = new ∙ changes_after name s (starting_files first) c.changes r m ∙ ap (λ us. fold with_one us blobs) (sym old) in
+          let adding : values_made name s c first others ≡ blobs ++ commit_added r.1 made = ap (λ o. blobs ++ unless_refused (λ r. commit_added r.1 (commit_made c first others r.1)) o) m in
+          subst (λ xs. AddsAs (Clash name vs xs) Be (Err e) (after_others first others)) (sym adding)
+          (subst (AddsAs (Clash name vs (blobs ++ commit_added r.1 made)) Be (Err e)) (sym step_made)
+          (adds_refused (Clash name now (commit_added r.1 made)) (Clash name vs (blobs ++ commit_added r.1 made)) Is Be
+          (λ q. clash_after name blobs (commit_added r.1 made) vs (subst (λ us. with_values name us (commit_added r.1 made) ≡ None) values q)) e (Ok (added (commit_value made) r.0)) then_set h))
 
 -- the parents stand after the changes, too
 pub parents_after : (name : Kind → Bytes → Bytes) (s : State) (f : FileMap Bytes) (cs : List Change) (r : State × FileMap Bytes) → all_changed name s f cs ≡ Ok r → (ps : List Commit) (ns : List Name)

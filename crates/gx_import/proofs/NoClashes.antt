@@ -20,11 +20,11 @@ use Rattle.gx_model.specs.Replay.{Outcome, Report, State, added, all_changed, al
 use Rattle.gx_model.proofs.GrownRecords.{is_is_in}
 use Rattle.gx_model.proofs.GrownTrees.{trees_fold}
 use Rattle.gx_model.proofs.PathTests.{same_is}
-use Rattle.gx_import.specs.Additions.{Clash, ClashesAt, added_by_commit, added_by_tag, blobs_added, tag_made, unless_refused, values_added}
+use Rattle.gx_import.specs.Additions.{Clash, ClashesAt, added_by_commit, added_by_tag, blobs_added, commit_made, tag_made, unless_refused, values_added}
 use Rattle.gx_import.proofs.AddedAnswers.{both_given}
 use Rattle.gx_import.proofs.KeptCheckpoints.{given_checkpoint}
 use Rattle.gx_import.proofs.GrownStates.{all_keep, changes_after}
-use Rattle.gx_import.proofs.MadeCommits.{adding_made, after_changes, after_first, after_others, made}
+use Rattle.gx_import.proofs.MadeCommits.{adding_made, after_changes, after_first, after_others}
 use Rattle.gx_import.proofs.Standings.{one_has}
 
 -- a step that gives this state gave no other
@@ -49,7 +49,7 @@ module _ (name : Kind → Bytes → Bytes) where
       let p = both_given (first_parent name s c) (after_first name s c) t e in
       let q = both_given (all_committed name c.ref s c.merges) (after_others name s c p.0) t p.2 in
       let r = both_given (all_changed name s (starting_files p.0) c.changes) (after_changes name s c p.0 q.0) t q.2 in
-      let v : Value = commit_value (made name s c p.0 p.1 q.0 q.1 r.0 r.1) in
+      let v : Value = commit_value (commit_made c p.0 q.0 r.0.1) in
       let blobs = blobs_added name s (starting_files p.0) c.changes in
       ap (λ z. z.history.values) (given_is _ t r.2)
       ∙ ap (λ z. z.values) (marked_history c.mark v (added v r.0.0))

@@ -1,6 +1,6 @@
 -- What the calls of an import do, from each state of the replay that the repository and the tables stand for.
 -- Source: git-fast-import(1), "Commands".
-use Rattle.std.specs.Prelude.{◌≡◌, ◌||◌, List, [], ◌∷◌, map, Bool, Option, Result, Ok, IfOk}
+use Rattle.std.specs.Prelude.{◌≡◌, ◌||◌, ℕ, List, [], ◌∷◌, map, Bool, Option, Some, Result, Ok, IfOk}
 use Rattle.std.specs.Map.{lookup}
 use Rattle.std.specs.Option.{option_map}
 use Rattle.std.specs.declared.vec.Vec.{Vec}
@@ -22,7 +22,7 @@ use Rattle.gx_model.specs.Streams.Commands.{Asks, Command, CommitParts, DataRef}
 use Rattle.gx_model.specs.Revisions.{revision_of}
 use Rattle.gx_model.specs.Laws.RepositoryLaws.{values_of}
 use Rattle.gx_model.specs.Replay as replay
-use Rattle.gx_model.specs.Replay.{State, added, all_changed, all_committed, changed, content, first_parent, own_commit, starting_files, step, step_reset, text_made, with_first_parent}
+use Rattle.gx_model.specs.Replay.{State, added, all_changed, all_committed, changed, content, first_parent, marked, on_branch, own_commit, starting_files, step, step_reset, text_made, with_first_parent}
 use Rattle.gx_model.specs.Texts.Sinks.{Taken}
 use Rattle.gx_command.specs.Views.{commit_parts, shown_change, shown_command, shown_commit, shown_commit_ish, shown_data, shown_modify, tag_parts}
 use Rattle.gx_command.specs.declared.commands.Change.{Change}
@@ -34,7 +34,7 @@ use Rattle.gx_command.specs.declared.commands.Modify.{Modify}
 use Rattle.gx_command.specs.declared.commands.Reset.{Reset}
 use Rattle.gx_command.specs.declared.commands.Tag.{Tag as TagCommand}
 use Rattle.gx_object.specs.declared.name.Name.{Name}
-use Rattle.gx_tree.specs.Named.{NamedTree}
+use Rattle.gx_tree.specs.Named.{NamedTree, IsAtHome}
 use Rattle.gx_rev.specs.Objects.{commit_at}
 use Rattle.gx_repo.specs.Repositories.{Repository}
 use Rattle.gx_import.specs.Additions.{Clash, added_alone, blob_added, blobs_added, commit_added, content_added, tag_made, values_added}
@@ -149,6 +149,15 @@ module _ {N : Type 0} (names : N → Kind → Bytes → Bytes) {A : Type 0} wher
   IsSomeCommit repository tables called =
       (s : State) × (made : Option Commit) × Stands (names repository.0) repository.1 tables s × AreBoth (IsCommitOf (names repository.0) s.history.values) made called
 
+  -- the parents of the commit that a command makes: the first, if there is one, and all
+  abbrev pub AreParentsOf : Repository N → Tables A → CommitCommand A → Option Name → List Name → Type 0
+  AreParentsOf repository tables command first called =
+      InEach repository tables (λ s.
+      (made : Option Commit) × (others : List Commit) × (first_parent (names repository.0) s (commit_parts command) ≡ Ok made)
+      × (all_committed (names repository.0) command.branch.bytes.items s (map shown_commit_ish command.merges.items) ≡ Ok others)
+      × AreBoth (IsCommitOf (names repository.0) s.history.values) made first
+      × AreAll (IsCommitOf (names repository.0) s.history.values) (with_first_parent made others) called)
+
   -- the files that a commit with this first parent begins with
   abbrev pub GivesStartingFiles : Repository N → Tables A → Option Name → Result NamedTree Fault → Type 0
   GivesStartingFiles repository tables first answer =
@@ -215,6 +224,14 @@ module _ {N : Type 0} (names : N → Kind → Bytes → Bytes) {A : Type 0} wher
       (λ r _. Follows (names old.0) new.1 tables s r.0 × AreFiles (names old.0) r.0.history.values r.1 now.files)
       answer (all_changed (names old.0) s files (map shown_change changes.items))
 
+  -- those of all changes of the files that a commit with this first parent begins with
+  abbrev pub EditsFrom : Repository N → Repository N → Tables A → Tables A → Option Name → Vec (Change A) A → Result NamedTree Fault → Type 0
+  EditsFrom old new was now first changes answer =
+      (s : State) (made : Option Commit) → Stands (names old.0) old.1 was s → AreBoth (IsCommitOf (names old.0) s.history.values) made first
+      → AddsAs (Clash (names old.0) (values_of old.1) (blobs_added (names old.0) s (starting_files made) (map shown_change changes.items)))
+      (λ r files. Follows (names old.0) new.1 now s r.0 × AreFiles (names old.0) r.0.history.values r.1 files.files)
+      answer (all_changed (names old.0) s (starting_files made) (map shown_change changes.items))
+
   -- ---- what a command does
 
   -- the step of a blob, a commit or a tag, which adds its values
@@ -240,6 +257,18 @@ module _ {N W : Type 0} (names : N → Kind → Bytes → Bytes) (taken : W → 
   abbrev pub AppliesInEach : Repository N → Repository N → Tables A → Tables A → GivenCommand A → W → W → Result (Unit {0}) Fault → Type 0
   AppliesInEach old new was now command before after answer =
       InEach names old was (λ s. Applies (names old.0) old.1 new.1 now s (shown_command command) (taken before) (taken after) answer)
+
+-- a mark and a branch that are set at a commit with these files
+abbrev pub SetsCommit : {A : Type 0} → Tables A → Tables A → Option ℕ → Bytes → Name → NamedTree → Type 0
+SetsCommit was now mark branch called files =
+    (name : Kind → Bytes → Bytes) (repository : Records) (s : State) (made : Commit) → Stands name repository was s
+    → IsCommitOf name s.history.values made called → HasFilesOf name made files
+    → Follows name repository now s (on_branch branch (Some made) (marked mark (commit_value made) s))
+
+-- the files at hand stay at home, where those that come to them are
+abbrev pub KeepsTipsAtHomeWith : {A : Type 0} → Tables A → Tables A → NamedTree → Type 0
+KeepsTipsAtHomeWith was now files =
+    (name : Kind → Bytes → Bytes) (records : List Record) → IsAtHome name records files → AreTipsAtHome name records was → AreTipsAtHome name records now
 
 -- what a feature asks for
 abbrev pub AsksFor : {A : Type 0} → Tables A → Tables A → Feature → Type 0

@@ -1,7 +1,8 @@
 //! Commit commands. Source: git-fast-import(1), "commit".
 
-ghost use Rattle.std.specs.Prelude.{◌≡◌, [], IfOk};
+ghost use Rattle.std.specs.Prelude.{◌≡◌, [], IfErr, IfOk, OnOk};
 ghost use Rattle.std.specs.List.{cons_option};
+ghost use Rattle.gx_model.specs.declared.faults.Fault.TheVariants.{OutOfMemory};
 ghost use Rattle.gx_model.specs.declared.objects.Kind.TheVariants as kinds;
 ghost use Rattle.gx_model.specs.Records.Sound.{Holds, IsNamedMap};
 ghost use Rattle.gx_text.specs.Idents.{ident_bytes};
@@ -10,7 +11,7 @@ ghost use Rattle.gx_tree.specs.Named.{IsAtHome};
 ghost use Rattle.gx_import.specs.Objects.{AreHeldCommits, commit_object};
 ghost use Rattle.gx_import.specs.Rows.{IsSorted};
 ghost use Rattle.gx_import.specs.Standing.{Extends, HasTipsAtHome, StandsForSome};
-ghost use Rattle.gx_import.specs.Calls.{AddsWithTrees, AddsCommitAlone, IsOwnCommit, MakesCommit, NamesFirstParent, NamesParents};
+ghost use Rattle.gx_import.specs.Calls.{AddsWithTrees, AddsCommitAlone, AreParentsOf, EditsFrom, IsOwnCommit, IsSomeCommit, KeepsTipsAtHomeWith, MakesCommit, NamesFirstParent, NamesParents, SetsCommit};
 
 use crate::ImportKind;
 use crate::branches::Tip;
@@ -19,7 +20,7 @@ use crate::commit_ish::committed_for;
 use crate::files::starting_files;
 use crate::object::Object;
 use crate::tables::Tables;
-use gx_command::{Commit, Identity};
+use gx_command::{Change, Commit, Identity, RefName};
 use gx_model::repository_laws::{puts_add_values, trees_add_file_maps};
 use gx_object::{CommitParts, Kind, Name, Namer};
 use gx_repo::Repo;
@@ -32,7 +33,7 @@ use std::mem;
 pub(crate) fn apply_commit<N: Namer, A: Allocator + Copy>(
     repo: &mut Repo<N, A>,
     tables: &mut Tables<A>,
-    mut commit: Commit<A>,
+    commit: Commit<A>,
 ) -> Result<(), ImportKind>
     requires stands { StandsForSome N.name_of repo.now tables.now }
     requires homes { HasTipsAtHome N.name_of repo.now tables.now }
@@ -42,23 +43,81 @@ pub(crate) fn apply_commit<N: Namer, A: Allocator + Copy>(
     ensures extends { Extends repo.old.1.records repo.new.1.records }
     ensures steps { MakesCommit N.name_of repo.old repo.new tables.old tables.new commit result }
 {
-    repo.sound();
-    records_keep_home();
     let first = first_parent(repo, tables, &commit)?;
     let parents = parents(repo, tables, &commit, first)?;
-    let branch = commit.branch.bytes.as_slice();
-    let mut files = starting_files(repo, tables, branch, first)?;
+    make_commit(repo, tables, commit, first, parents.as_slice())
+}
+
+/// Makes a commit whose parents are known: all of them, and the first, if there is one.
+fn make_commit<N: Namer, A: Allocator + Copy>(
+    repo: &mut Repo<N, A>,
+    tables: &mut Tables<A>,
+    mut commit: Commit<A>,
+    first: Option<Name>,
+    parents: &[Name],
+) -> Result<(), ImportKind>
+    requires stands { StandsForSome N.name_of repo.now tables.now }
+    requires parents { AreParentsOf N.name_of repo.now tables.now commit first parents.now }
+    requires homes { HasTipsAtHome N.name_of repo.now tables.now }
+    ensures homes { IfOk result (λ _. HasTipsAtHome N.name_of (repo.old.0, repo.new.1) tables.new) }
+    ensures namer { repo.new.0 ≡ repo.old.0 }
+    ensures refs { repo.new.1.refs ≡ repo.old.1.refs }
+    ensures extends { Extends repo.old.1.records repo.new.1.records }
+    ensures steps { MakesCommit N.name_of repo.old repo.new tables.old tables.new commit result }
+{
+    records_keep_home();
     let changes = mem::replace(&mut commit.changes, Vec::new(tables.alloc));
-    change_all(repo, tables, &mut files, changes)?;
+    let branch = commit.branch.bytes.as_slice();
+    let mut files = changed_files(repo, tables, branch, first, changes)?;
     repo.sound();
-    let name = add(repo, &mut files, parents.as_slice(), &commit)?;
+    let name = add(repo, &mut files, parents, &commit)?;
+    set_mark_and_branch(tables, commit.mark, commit.branch, name, files)
+}
+
+/// The files that a commit with this first parent starts from, with these changes in their order.
+fn changed_files<N: Namer, A: Allocator + Copy>(
+    repo: &mut Repo<N, A>,
+    tables: &mut Tables<A>,
+    branch: &[u8],
+    first: Option<Name>,
+    changes: Vec<Change<A>, A>,
+) -> Result<PathTree<A>, ImportKind>
+    requires stands { IsSomeCommit N.name_of repo.now tables.now first }
+    requires homes { HasTipsAtHome N.name_of repo.now tables.now }
+    ensures homes { IfOk result (λ _. HasTipsAtHome N.name_of (repo.old.0, repo.new.1) tables.new) }
+    ensures home { IfOk result (IsAtHome (N.name_of repo.old.0) repo.new.1.records) }
+    ensures namer { repo.new.0 ≡ repo.old.0 }
+    ensures refs { repo.new.1.refs ≡ repo.old.1.refs }
+    ensures extends { Extends repo.old.1.records repo.new.1.records }
+    ensures steps { EditsFrom N.name_of repo.old repo.new tables.old tables.new first changes result }
+{
+    repo.sound();
+    records_keep_home();
+    let mut files = starting_files(repo, tables, branch, first)?;
+    change_all(repo, tables, &mut files, changes)?;
+    Ok(files)
+}
+
+/// Sets the mark of a commit, and its branch, which has the commit's files at hand.
+fn set_mark_and_branch<A: Allocator + Copy>(
+    tables: &mut Tables<A>,
+    mark: Option<u64>,
+    branch: RefName<A>,
+    name: Name,
+    files: PathTree<A>,
+) -> Result<(), ImportKind>
+    requires sorted { IsSorted tables.now.branches }
+    ensures homes { OnOk result (KeepsTipsAtHomeWith tables.old tables.new files) }
+    ensures steps { OnOk result (SetsCommit tables.old tables.new mark branch.bytes.items name files) }
+    ensures fault { IfErr result (λ fault. fault ≡ OutOfMemory) }
+{
     let kind = Kind::Commit;
-    tables.marks.set(commit.mark, Object { kind, name })?;
+    tables.marks.set(mark, Object { kind, name })?;
     let tip = Tip {
         commit: Some(name),
         files: Some(files),
     };
-    Ok(tables.set_tip(commit.branch.bytes, tip)?)
+    Ok(tables.set_tip(branch.bytes, tip)?)
 }
 
 /// The first parent: that of `from`, or else the branch's own commit.

@@ -1,7 +1,7 @@
 //! What breaks: an answer that doesn't fit the others.
 
 use crate::changed::Text;
-use std::alloc::AllocError;
+use std::alloc::{AllocError, AllocFailed};
 use thiserror::Error;
 
 /// What is wrong with what came of a stream or of a store text.
@@ -33,6 +33,12 @@ pub(crate) enum Breach {
 
 impl From<AllocError> for Breach {
     fn from(_error: AllocError) -> Breach {
+        Breach::OutOfMemory
+    }
+}
+
+impl<T: Drop> From<AllocFailed<T>> for Breach {
+    fn from(_error: AllocFailed<T>) -> Breach {
         Breach::OutOfMemory
     }
 }

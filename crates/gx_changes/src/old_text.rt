@@ -1,6 +1,6 @@
 //! Store texts of version 1, which are read and no longer written.
 
-use gx_object::Sha1Namer;
+use gx_object::{Kind, Name, Sha1Namer};
 use gx_repo::Repo;
 use std::alloc::{AllocError, Allocator};
 
@@ -22,17 +22,25 @@ fn put_objects<A: Allocator + Copy>(
     repo: &Repo<Sha1Namer, A>,
 ) -> Result<(), AllocError> {
     let count = repo.store().len();
-    let line = format!(in alloc; "objects {count}\n")?;
-    text.extend_from_slice(line.as_bytes())?;
+    text.extend_from_slice(format!(in alloc; "objects {count}\n")?.as_bytes())?;
     for place in 0..count {
         if let Some((_, kind, body)) = repo.store().record(place) {
-            let line = format!(in alloc; "{} {}\n", kind.word(), body.len())?;
-            text.extend_from_slice(line.as_bytes())?;
-            text.extend_from_slice(body)?;
-            text.push(b'\n')?;
+            put_object(alloc, text, kind, body)?;
         }
     }
     Ok(())
+}
+
+fn put_object<A: Allocator + Copy>(
+    alloc: A,
+    text: &mut Vec<u8, A>,
+    kind: Kind,
+    body: &[u8],
+) -> Result<(), AllocError> {
+    let (word, size) = (kind.word(), body.len());
+    text.extend_from_slice(format!(in alloc; "{word} {size}\n")?.as_bytes())?;
+    text.extend_from_slice(body)?;
+    text.extend_from_slice(b"\n")
 }
 
 fn put_refs<A: Allocator + Copy>(
@@ -40,13 +48,21 @@ fn put_refs<A: Allocator + Copy>(
     text: &mut Vec<u8, A>,
     repo: &Repo<Sha1Namer, A>,
 ) -> Result<(), AllocError> {
-    let line = format!(in alloc; "refs {}\n", repo.refs().count())?;
-    text.extend_from_slice(line.as_bytes())?;
+    let count = repo.refs().count();
+    text.extend_from_slice(format!(in alloc; "refs {count}\n")?.as_bytes())?;
     for (name, object) in repo.refs() {
-        text.extend_from_slice(object.hex().as_slice())?;
-        text.push(b' ')?;
-        text.extend_from_slice(name)?;
-        text.push(b'\n')?;
+        put_ref(text, name, &object)?;
     }
     Ok(())
+}
+
+fn put_ref<A: Allocator + Copy>(
+    text: &mut Vec<u8, A>,
+    name: &[u8],
+    object: &Name,
+) -> Result<(), AllocError> {
+    text.extend_from_slice(object.hex().as_slice())?;
+    text.push(b' ')?;
+    text.extend_from_slice(name)?;
+    text.extend_from_slice(b"\n")
 }

@@ -15,13 +15,9 @@ pub(crate) fn look_at_text<A: Allocator + Copy>(
     text: &[u8],
     state: RandomState,
 ) -> Result<(), Breach> {
-    match read(alloc, Sha1Namer, text, state) {
-        Ok(repo) => {
-            exported(alloc, &repo)?;
-            is_written_as(alloc, &repo, text)
-        }
-        Err(FileFault::OutOfMemory) => Err(Breach::OutOfMemory),
-        Err(_) => Ok(()),
+    match repository_of(alloc, text, state)? {
+        Some(repo) => look_at_read(alloc, &repo, text),
+        None => Ok(()),
     }
 }
 
@@ -31,18 +27,46 @@ pub(crate) fn look_at_old_text<A: Allocator + Copy>(
     text: &[u8],
     state: RandomState,
 ) -> Result<(), Breach> {
+    match repository_of(alloc, text, state)? {
+        Some(repo) => look_at_old(alloc, &repo, text, state),
+        None => Ok(()),
+    }
+}
+
+/// The repository that a store text is read as; none where it is refused.
+fn repository_of<A: Allocator + Copy>(
+    alloc: A,
+    text: &[u8],
+    state: RandomState,
+) -> Result<Option<Repo<Sha1Namer, A>>, Breach> {
     match read(alloc, Sha1Namer, text, state) {
-        Ok(repo) => {
-            exported(alloc, &repo)?;
-            look_at_written(alloc, &repo, state)?;
-            if old_text_of(alloc, &repo)?.as_slice() == text {
-                Ok(())
-            } else {
-                Err(Breach::OtherText)
-            }
-        }
+        Ok(repo) => Ok(Some(repo)),
         Err(FileFault::OutOfMemory) => Err(Breach::OutOfMemory),
-        Err(_) => Ok(()),
+        Err(_) => Ok(None),
+    }
+}
+
+fn look_at_read<A: Allocator + Copy>(
+    alloc: A,
+    repo: &Repo<Sha1Namer, A>,
+    text: &[u8],
+) -> Result<(), Breach> {
+    exported(alloc, repo)?;
+    is_written_as(alloc, repo, text)
+}
+
+fn look_at_old<A: Allocator + Copy>(
+    alloc: A,
+    repo: &Repo<Sha1Namer, A>,
+    text: &[u8],
+    state: RandomState,
+) -> Result<(), Breach> {
+    exported(alloc, repo)?;
+    look_at_written(alloc, repo, state)?;
+    if old_text_of(alloc, repo)?.as_slice() == text {
+        Ok(())
+    } else {
+        Err(Breach::OtherText)
     }
 }
 
@@ -53,10 +77,9 @@ pub(crate) fn look_at_written<A: Allocator + Copy>(
     state: RandomState,
 ) -> Result<(), Breach> {
     let text = write(alloc, repo)?;
-    match read(alloc, Sha1Namer, text.as_slice(), state) {
-        Ok(again) => is_written_as(alloc, &again, text.as_slice()),
-        Err(FileFault::OutOfMemory) => Err(Breach::OutOfMemory),
-        Err(_) => Err(Breach::NoReading),
+    match repository_of(alloc, text.as_slice(), state)? {
+        Some(again) => is_written_as(alloc, &again, text.as_slice()),
+        None => Err(Breach::NoReading),
     }
 }
 

@@ -37,9 +37,18 @@ pub(crate) fn store_texts_of<A: Allocator + Copy>(
 ) -> Result<(Vec<u8, A>, Vec<u8, A>), Breach> {
     let mut repo = Repo::new(alloc, Sha1Namer, state);
     match imports(alloc, &mut repo, text)? {
-        None => Ok((write(alloc, &repo)?, old_text_of(alloc, &repo)?)),
+        None => texts_of(alloc, &repo),
         Some(_) => Err(Breach::Refused),
     }
+}
+
+fn texts_of<A: Allocator + Copy>(
+    alloc: A,
+    repo: &Repo<Sha1Namer, A>,
+) -> Result<(Vec<u8, A>, Vec<u8, A>), Breach> {
+    let text = write(alloc, repo)?;
+    let old = old_text_of(alloc, repo)?;
+    Ok((text, old))
 }
 
 /// The export of a repository.
@@ -93,10 +102,19 @@ fn look_at_imported<A: Allocator + Copy>(
 ) -> Result<(), Breach> {
     look_at_written(alloc, repo, state)?;
     look_at_walks(alloc, repo)?;
-    let text = exported(alloc, repo)?;
+    look_at_imported_again(alloc, repo, exported(alloc, repo)?.bytes(), state)
+}
+
+/// The export of a repository is imported, into one that has the same export.
+fn look_at_imported_again<A: Allocator + Copy>(
+    alloc: A,
+    repo: &Repo<Sha1Namer, A>,
+    text: &[u8],
+    state: RandomState,
+) -> Result<(), Breach> {
     let mut again = Repo::new(alloc, Sha1Namer, state);
-    match imports(alloc, &mut again, text.bytes())? {
-        None => look_at_export(alloc, repo, &again, text.bytes()),
+    match imports(alloc, &mut again, text)? {
+        None => look_at_export(alloc, repo, &again, text),
         Some(_) => Err(Breach::NoImport),
     }
 }
@@ -133,15 +151,28 @@ fn look_at_walk<A: Allocator + Copy>(
     repo: &Repo<Sha1Namer, A>,
     name: &Name,
 ) -> Result<(), Breach> {
-    let mut words = Vec::new(alloc);
-    let word = Range::read(alloc, &name.hex()).map_err(of_walk)?;
-    if words.push(word).is_err() {
-        return Err(Breach::OutOfMemory);
-    }
+    let words = words_of(alloc, name)?;
     match walk(alloc, repo, words.as_slice()) {
-        Ok(names) if names.first() == Some(name) => Ok(()),
-        Ok(_) => Err(Breach::NoWalk),
+        Ok(names) => is_first(names.as_slice(), name),
         Err(fault) => Err(of_walk(fault.kind)),
+    }
+}
+
+/// The one word that lists what a commit reaches.
+fn words_of<A: Allocator + Copy>(alloc: A, name: &Name) -> Result<Vec<Range<A>, A>, Breach> {
+    let mut words = Vec::new(alloc);
+    match Range::read(alloc, &name.hex()) {
+        Ok(word) => words.push(word)?,
+        Err(fault) => return Err(of_walk(fault)),
+    }
+    Ok(words)
+}
+
+fn is_first(names: &[Name], name: &Name) -> Result<(), Breach> {
+    if names.first() == Some(name) {
+        Ok(())
+    } else {
+        Err(Breach::NoWalk)
     }
 }
 

@@ -45,11 +45,16 @@ read_printed : {N : Type 0} (name_of : N → Kind → Bytes → Bytes) (namer : 
 read_printed name_of namer repository stored given was now answer same read h =
     subst (λ s. Prints (of_stored s (given (name_of namer))) was now answer) (sym read) (subst (λ n. Prints (given (name_of n) repository.1) was now answer) same h)
 
+-- what a question prints of a repository, by the question that it is
+pub asked_printed : (name : Kind → Bytes → Bytes) (records : Records) (given asked : Question) (was now : Option Taken) (answer : Result (Unit {0}) CliFault)
+    → given ≡ asked → Prints (printed_by name asked records) was now answer → Prints (printed_by name given records) was now answer
+asked_printed name records given asked was now answer is h = subst (λ q. Prints (printed_by name q records) was now answer) (sym is) h
+
 -- what a question prints of the store that was read
-pub question_printed : {N : Type 0} (name_of : N → Kind → Bytes → Bytes) (namer : N) (repository : N × Records) (store : Bytes) (given asked : Question) (was now : Option Taken) (answer : Result (Unit {0}) CliFault)
-    → repository.0 ≡ namer → store_of (name_of namer) store ≡ Ok repository.1 → given ≡ asked → Prints (printed_by (name_of repository.0) asked repository.1) was now answer → Prints (of_stored (store_of (name_of namer) store) (printed_by (name_of namer) given)) was now answer
-question_printed name_of namer repository store given asked was now answer same read is h =
-    read_printed name_of namer repository (λ name. store_of name store) (λ name. printed_by name given) was now answer same read (subst (λ q. Prints (printed_by (name_of repository.0) q repository.1) was now answer) (sym is) h)
+pub question_printed : {N : Type 0} (name_of : N → Kind → Bytes → Bytes) (namer : N) (repository : N × Records) (store : Bytes) (asked : Question) (was now : Option Taken) (answer : Result (Unit {0}) CliFault)
+    → repository.0 ≡ namer → store_of (name_of namer) store ≡ Ok repository.1 → Prints (printed_by (name_of repository.0) asked repository.1) was now answer → Prints (of_stored (store_of (name_of namer) store) (printed_by (name_of namer) asked)) was now answer
+question_printed name_of namer repository store asked was now answer same read h =
+    read_printed name_of namer repository (λ name. store_of name store) (λ name. printed_by name asked) was now answer same read h
 
 -- what is written of a new repository
 pub written_new : {N A : Type 0} (name_of : N → Kind → Bytes → Bytes) (repository : N × Records) (namer : N) (outcome : Outcome A) → repository ≡ (namer, nothing) → IsWritten (name_of repository.0) repository.1 outcome → IsWritten (name_of namer) nothing outcome

@@ -20,6 +20,7 @@ use Rattle.gx_model.specs.Records.{named_map}
 use Rattle.gx_model.specs.Revisions.{Revision, range_of, revision_of}
 use Rattle.gx_model.specs.Stores.StoreReading.{store_of}
 use Rattle.gx_model.specs.Stores.StoreText.{store_text}
+use Rattle.gx_model.specs.Streams.Items.{Stream}
 use Rattle.gx_model.specs.Texts.{Bytes}
 use Rattle.gx_model.specs.Texts.Sinks.{Taken}
 use Rattle.gx_text.specs.Devices.{Coming}
@@ -116,9 +117,13 @@ module _ {N : Type 0} (name_of : N → Kind → Bytes → Bytes) where
 -- ---- what goes out to a sink
 
 module _ {N W : Type 0} (name_of : N → Kind → Bytes → Bytes) (taken : W → Option Taken) where
+  -- the names of the blobs of the items that are still to come go out
+  abbrev pub NamesItems : N → Option Stream → W → W → Result ℕ BlobsFault → Type 0
+  NamesItems namer items old new answer = PrintsBlobs (name_of namer) items (taken old) (taken new) answer
+
   -- the names of the blobs of a source's stream go out
   abbrev pub NamesBlobs : N → Option Coming → W → W → Result ℕ BlobsFault → Type 0
-  NamesBlobs namer coming old new answer = PrintsBlobs (name_of namer) (option_map items_from coming) (taken old) (taken new) answer
+  NamesBlobs namer coming old new answer = NamesItems namer (option_map items_from coming) old new answer
 
   -- the same, with the fault among those of the commands
   abbrev pub AnswersBlobs : N → Option Coming → W → W → Result ℕ CliFault → Type 0
@@ -131,6 +136,10 @@ module _ {N W : Type 0} (name_of : N → Kind → Bytes → Bytes) (taken : W �
   -- once a stream was imported into an empty store, a word is shown as a revision
   abbrev pub TriesWord : N → Option Coming → Bytes → W → W → Result (Unit {0}) CliFault → Type 0
   TriesWord namer coming word old new result = Tries (name_of namer) coming word (taken old) (taken new) result
+
+  -- what a question prints of a repository goes out, or a refusal is answered
+  abbrev pub PrintsOf : Question → N × Records → W → W → Result (Unit {0}) CliFault → Type 0
+  PrintsOf asked repository old new result = Prints (printed_by (name_of repository.0) asked repository.1) (taken old) (taken new) result
 
   -- what a question prints of the store of these bytes goes out, or a refusal is answered
   abbrev pub PrintsAnswer : {A : Type 0} → N → Question → StoreBytes A → W → W → Result (Unit {0}) CliFault → Type 0

@@ -1,11 +1,11 @@
 //! The names of a stream's blobs, one a line.
 
-ghost use Rattle.std.specs.Prelude.{◌≡◌, Ok, Err};
+ghost use Rattle.std.specs.Prelude.{◌≡◌, ◌≤◌, ◌-◌, ◌^◌, [], Ok, Err};
 ghost use Rattle.std.specs.Option.{option_map};
 ghost use Rattle.gx_model.specs.Streams.Items.{Line as a_line, Finished};
 ghost use Rattle.gx_model.specs.Streams.Grammar.{mark_of};
 ghost use Rattle.gx_stream.specs.Reading.{item_of};
-ghost use Rattle.gx_cli.specs.Parts.{AddsBlob, NamesBlobs};
+ghost use Rattle.gx_cli.specs.Parts.{AddsBlob, NamesBlobs, NamesItems};
 ghost use Rattle.gx_cli.specs.Steps.{step_of, stop_at, marked_as, marked_by, named_by, command_line, mark_line, oid_line};
 ghost use Rattle.gx_cli.specs.Printing.{shown_step, stop_of, kind_of, name_line};
 
@@ -63,6 +63,19 @@ pub fn blobs<N: Namer + Drop, R: Source + Drop, W: Sink, A: Allocator + Copy>(
 {
     let mut reader = ItemReader::new(alloc, source);
     let mut store = Store::new(alloc, namer, state);
+    name_all(&mut reader, &mut store, sink)
+}
+
+/// Prints the names of the blobs that a reader still gives, by way of a store with nothing in it.
+fn name_all<N: Namer, R: Source, W: Sink, A: Allocator + Copy>(
+    reader: &mut ItemReader<R, A>,
+    store: &mut Store<N, A>,
+    sink: &mut W,
+) -> Result<u64, BlobsFault>
+    requires few { reader.old.most ≤ 2 ^ 63 - 1 }
+    requires empty { store.old.1 ≡ [] }
+    ensures { NamesItems N.name_of W.taken store.old.0 reader.old.stream sink.old sink.new result }
+{
     let mut stage = Stage::Expected;
     let mut count = 0u64;
     loop {
@@ -93,7 +106,7 @@ pub fn blobs<N: Namer + Drop, R: Source + Drop, W: Sink, A: Allocator + Copy>(
             }
             Step::Go(next) => stage = next,
             Step::Body(bytes) => {
-                if let Err(kind) = print_one(&mut store, sink, bytes) {
+                if let Err(kind) = print_one(store, sink, bytes) {
                     return Err(BlobsFault {
                         command: count + 1,
                         kind,

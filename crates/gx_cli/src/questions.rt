@@ -1,6 +1,6 @@
 //! What commands ask of a store, and what is printed for it.
 
-ghost use Rattle.gx_cli.specs.Parts.{PrintsAnswer};
+ghost use Rattle.gx_cli.specs.Parts.{PrintsAnswer, PrintsOf};
 
 use crate::log::log;
 use crate::ls::list;
@@ -10,6 +10,7 @@ use crate::refs::print_refs;
 use crate::showing::show_stored;
 use crate::{CliFault, LogOptions};
 use gx_object::Namer;
+use gx_repo::Repo;
 use gx_text::Sink;
 use std::alloc::Allocator;
 use std::hash::RandomState;
@@ -40,17 +41,28 @@ pub(crate) fn print_stored<N: Namer + Drop, W: Sink, A: Allocator + Copy>(
 ) -> Result<(), CliFault>
     ensures { PrintsAnswer N.name_of W.taken namer question.entry store.entry sink.old sink.new result }
 {
-    let repo = match open(alloc, namer, store, state) {
-        Ok(repo) => repo,
-        Err(fault) => return Err(CliFault::Store(fault)),
-    };
+    match open(alloc, namer, store, state) {
+        Ok(repo) => print_answer(alloc, &repo, question, sink),
+        Err(fault) => Err(CliFault::Store(fault)),
+    }
+}
+
+/// Prints the answer to a question that is asked of a repository.
+fn print_answer<N: Namer, W: Sink, A: Allocator + Copy>(
+    alloc: A,
+    repo: &Repo<N, A>,
+    question: Question<'_>,
+    sink: &mut W,
+) -> Result<(), CliFault>
+    ensures { PrintsOf N.name_of W.taken question.entry repo.now sink.old sink.new result }
+{
     match question {
-        Question::Show(revision) => show_stored(alloc, &repo, revision.as_bytes(), sink),
+        Question::Show(revision) => show_stored(alloc, repo, revision.as_bytes(), sink),
         Question::List(recursive, revision) => {
-            list(alloc, &repo, recursive, revision.as_bytes(), sink)
+            list(alloc, repo, recursive, revision.as_bytes(), sink)
         }
-        Question::Refs => print_refs(&repo, sink),
-        Question::Log(options, ranges) => log(alloc, &repo, options, ranges, sink),
-        Question::Names(revisions) => print_names(alloc, &repo, revisions, sink),
+        Question::Refs => print_refs(repo, sink),
+        Question::Log(options, ranges) => log(alloc, repo, options, ranges, sink),
+        Question::Names(revisions) => print_names(alloc, repo, revisions, sink),
     }
 }

@@ -1,55 +1,18 @@
-use Rattle.std.proofs.Common.{Ok, Err, sym, ap, ◌∙◌, arith}
-use Rattle.gx_cli.proofs.Progress.{Progress-none, Progress-go, Progress-body, Prints-end, Prints-cut, Prints-fault, Prints-stop, Prints-one, PrintsOne-at}
-use Rattle.gx_cli.proofs.blob_names.blobs.Goals.{in-None, in-Some}
+use Rattle.std.proofs.Common.{Option, ap, subst, arith}
+use Rattle.gx_model.specs.Streams.Items.{Stream}
+use Rattle.gx_cli.specs.Printing.{PrintsBlobs}
 use Rattle.gx_cli.proofs.blob_names.blobs.Goals as goal
 
-pub returns-in-Err : goal.returns-in-Err
-returns-in-Err g c =
-    let read = rw c.in-Err.is at c.next.follows.holds-at-none in
-    rw c.kind_of.ensures (Prints-fault _ _ _ _ _ _ _ _ _ c.in-Err.fault c.loop-fault.invariant.progress read.0)
-
-pub returns-in-Ok-None : goal.returns-in-Ok-None
-returns-in-Ok-None g c =
-    let read = rw c.in-Ok-None.field-0-is at (rw c.in-Ok-None.is at c.next.follows.holds-at-none) in
-    elim c.match-kind_at_end.branch [
-      | in-None w ↦ rw w.result-is (Prints-end _ _ _ _ _ _ _ _ _ (sym w.in-None.ensures) c.loop-fault.invariant.progress read.0)
-      | in-Some w ↦ rw w.result-is (Prints-cut _ _ _ _ _ _ _ _ _ w.in-Some.kind (sym w.in-Some.ensures) c.loop-fault.invariant.progress read.0)
-    ]
-
-pub returns-in-Stop : goal.returns-in-Stop
-returns-in-Stop g c =
-    let read = rw c.in-Ok-Some.field-0-is at (rw c.in-Ok-Some.is at c.next.follows.holds-at-none) in
-    (Prints-stop _ _ _ _ _ _ _ _ _ c.in-Ok-Some.item _ (sym c.in-Stop.ensures) c.loop-fault.invariant.progress read.0)
-
-pub loop-fault-preserved-in-Go : goal.loop-fault-preserved-in-Go
-loop-fault-preserved-in-Go g c =
-    let read = rw c.in-Ok-Some.field-0-is at (rw c.in-Ok-Some.is at c.next.follows.holds-at-none) in
-    record {
-      few = omega (arith, read.1, c.loop-fault.invariant.few);
-      namer = c.loop-fault.invariant.namer;
-      progress = Progress-go _ _ _ _ _ _ _ _ _ _ c.in-Ok-Some.item (sym c.in-Go.ensures) c.loop-fault.invariant.progress read.0;
-    }
-
-pub returns-in-Err-print_one : goal.returns-in-Err-print_one
-returns-in-Err-print_one g c =
-    let read = rw c.in-Ok-Some.field-0-is at (rw c.in-Ok-Some.is at c.next.follows.holds-at-none) in
-    let one = PrintsOne-at g.N.Namer.name_of _ _ c.loop-fault.store.1 c.print_one.new.store.1 (g.W.Sink.taken c.loop-fault.sink) (g.W.Sink.taken c.print_one.new.sink) c.in-Body.bytes.now (Err c.in-Err-print_one.kind) c.loop-fault.invariant.namer c.in-Err-print_one.ensures.prints in
-    (Prints-one _ _ _ _ _ _ _ _ _ c.print_one.new.store.1 _ c.in-Ok-Some.item c.in-Body.bytes.now c.in-Err-print_one.kind (sym c.in-Body.ensures) c.loop-fault.invariant.progress read.0 one)
-
-pub loop-fault-preserved : goal.loop-fault-preserved
-loop-fault-preserved g c =
-    let read = rw c.in-Ok-Some.field-0-is at (rw c.in-Ok-Some.is at c.next.follows.holds-at-none) in
-    let one = PrintsOne-at g.N.Namer.name_of _ _ c.loop-fault.store.1 c.print_one.new.store.1 (g.W.Sink.taken c.loop-fault.sink) (g.W.Sink.taken c.print_one.new.sink) c.in-Body.bytes.now (Ok c.in_default.field-0) c.loop-fault.invariant.namer c.in_default.ensures.prints in
-    record {
-      few = omega (arith, read.1, c.loop-fault.invariant.few);
-      namer = c.print_one.ensures.namer ∙ c.loop-fault.invariant.namer;
-      progress = Progress-body _ _ _ _ _ _ _ _ _ _ _ c.in-Ok-Some.item c.in-Body.bytes.now c.in_default.field-0 (sym c.in-Body.ensures) c.loop-fault.invariant.progress read.0 one;
-    }
-
-pub loop-fault-init : goal.loop-fault-init
-loop-fault-init g c =
+pub name_all-requires : goal.name_all-requires
+name_all-requires g c =
     record {
       few = omega (arith, c.new-reader.ensures.most);
-      namer = ap (λ v. v.0) c.new-store.ensures;
-      progress = Progress-none _ _ _ _ _ c.new-reader.ensures.stream (ap (λ v. v.1) c.new-store.ensures);
+      empty = ap (λ v. v.1) c.new-store.ensures;
     }
+
+pub returns : goal.returns
+returns g c =
+    let was = g.W.Sink.taken c.args.sink.now in
+    let now = g.W.Sink.taken c.name_all.new.sink in
+    subst (λ (s : Option Stream). PrintsBlobs (g.N.Namer.name_of c.args.namer) s was now c.name_all.result) c.new-reader.ensures.stream
+    (subst (λ n. PrintsBlobs (g.N.Namer.name_of n) c.new-reader.result.stream was now c.name_all.result) (ap (λ v. v.0) c.new-store.ensures) c.name_all.ensures)

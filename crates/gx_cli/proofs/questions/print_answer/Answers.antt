@@ -1,0 +1,36 @@
+use Rattle.std.proofs.Common.{subst}
+use Rattle.gx_model.specs.Records.HistoryOf.{history_of}
+use Rattle.gx_cli.specs.Answers.{Prints}
+use Rattle.gx_cli.specs.Stored.{list_text, show_text}
+use Rattle.gx_cli.proofs.StoredAnswers.{asked_printed}
+use Rattle.gx_cli.proofs.questions.print_answer.Goals as goal
+
+pub returns-in-Show : goal.returns-in-Show
+returns-in-Show g c =
+    let was = g.W.Sink.taken c.args.sink.now in
+    let now = g.W.Sink.taken c.show_stored.new.sink in
+    let r = c.args.repo.now in
+    let name = g.N.Namer.name_of r.0 in
+    let printed = subst (λ word. Prints (show_text name (history_of r.1) word) was now c.show_stored.result) c.as_bytes.ensures.value c.show_stored.ensures in
+    asked_printed name r.1 c.args.question _ was now c.show_stored.result c.in-Show.is printed
+
+pub returns-in-List : goal.returns-in-List
+returns-in-List g c =
+    let was = g.W.Sink.taken c.args.sink.now in
+    let now = g.W.Sink.taken c.list.new.sink in
+    let r = c.args.repo.now in
+    let name = g.N.Namer.name_of r.0 in
+    let printed = subst (λ word. Prints (list_text name c.in-List.recursive (history_of r.1) word) was now c.list.result) c.as_bytes-in-List.ensures.value c.list.ensures in
+    asked_printed name r.1 c.args.question _ was now c.list.result c.in-List.is printed
+
+pub returns-in-Refs : goal.returns-in-Refs
+returns-in-Refs g c =
+    asked_printed (g.N.Namer.name_of c.args.repo.now.0) c.args.repo.now.1 c.args.question _ (g.W.Sink.taken c.args.sink.now) (g.W.Sink.taken c.print_refs.new.sink) c.print_refs.result c.in-Refs.is c.print_refs.ensures
+
+pub returns-in-Log : goal.returns-in-Log
+returns-in-Log g c =
+    asked_printed (g.N.Namer.name_of c.args.repo.now.0) c.args.repo.now.1 c.args.question _ (g.W.Sink.taken c.args.sink.now) (g.W.Sink.taken c.log.new.sink) c.log.result c.in-Log.is c.log.ensures
+
+pub returns-in-Names : goal.returns-in-Names
+returns-in-Names g c =
+    asked_printed (g.N.Namer.name_of c.args.repo.now.0) c.args.repo.now.1 c.args.question _ (g.W.Sink.taken c.args.sink.now) (g.W.Sink.taken c.print_names.new.sink) c.print_names.result c.in-Names.is c.print_names.ensures

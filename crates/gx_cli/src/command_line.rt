@@ -26,7 +26,7 @@ pub struct LogOptions {
 }
 
 /// A command with its options and words.
-#[derive(Debug, Drop, PartialEq, Eq)]
+#[derive(Debug, Drop)]
 pub enum Line<'a> {
     Blobs,
     /// A stream is tried: the revision is shown once it was imported.
@@ -149,6 +149,22 @@ fn file_line<'a>(
         "import" => Ok(Line::Import { file }),
         "export" => Ok(Line::Export { file }),
         "refs" => Ok(Line::Refs { file }),
+        _ => object_line(alloc, name, matches, file),
+    }
+}
+
+/// The same of the commands that show objects, and of those with a list of words.
+#[tactic(auto, unfolding(crate::specs::CommandLine::Says))]
+fn object_line<'a>(
+    alloc: Global,
+    name: &'a str,
+    matches: &ArgMatches<'a>,
+    file: &'a str,
+) -> Result<Line<'a>, LineFault>
+    requires { first_of (codes "file") (rows_of (found_of matches.now)) ≡ Some file.now }
+    ensures { IfOk result (λ line. say.Says name.now (rows_of (found_of matches.now)) line) }
+{
+    match name {
         "show" => Ok(Line::Show {
             file,
             revision: word_of(alloc, matches, "rev")?,
@@ -162,6 +178,22 @@ fn file_line<'a>(
             check: is_set(matches, "check"),
             file,
         }),
+        _ => list_line(alloc, name, matches, file),
+    }
+}
+
+/// The same of the commands with a list of words.
+#[tactic(auto, unfolding(crate::specs::CommandLine::Says))]
+fn list_line<'a>(
+    alloc: Global,
+    name: &'a str,
+    matches: &ArgMatches<'a>,
+    file: &'a str,
+) -> Result<Line<'a>, LineFault>
+    requires { first_of (codes "file") (rows_of (found_of matches.now)) ≡ Some file.now }
+    ensures { IfOk result (λ line. say.Says name.now (rows_of (found_of matches.now)) line) }
+{
+    match name {
         "log" => Ok(Line::Log {
             options: log_options(matches),
             file,

@@ -1,4 +1,4 @@
-use Rattle.std.proofs.Common.{ap}
+use Rattle.std.proofs.Common.{ap, rules}
 use Rattle.gx_command.specs.Reading.{Seen}
 use Rattle.gx_command.proofs.BroughtGitlinks.{none_brought}
 use Rattle.gx_command.proofs.NextCommands.{reads_some, reads_none, reads_fault, over_some, repeats_none}
@@ -33,3 +33,6 @@ returns-in-Ok-None-clause-repeats g c = repeats_none _ _ _ _ (rw c.in-Open.is at
 
 pub returns-in-Err-clause-repeats : goal.returns-in-Err-clause-repeats
 returns-in-Err-clause-repeats g c = repeats_none _ _ _ _ (rw c.in-Open.is at (ap (λ (v : Seen). v.over) c.self.view_is))
+
+pub returns-in-Failed-clause-repeats : goal.returns-in-Failed-clause-repeats
+returns-in-Failed-clause-repeats g c = search rules

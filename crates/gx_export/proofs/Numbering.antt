@@ -2,6 +2,7 @@
 use Rattle.std.proofs.Common.{◌≡◌, ◌≢◌, ℕ, zero, suc, ◌+◌, ◌<◌, ◌≤◌, Bool, true, false, cond, List, [], ◌∷◌, ◌++◌, length, replicate, set, Option, Some, Result, Ok, Err, ◌⊎◌, inl, inr, refl, sym, ap, subst, ◌∙◌, arith, get_or-set_same, get_or-set_other, length-set}
 use Rattle.std.specs.Prelude.{◌||◌, IsTrue, slice_index_or}
 use Rattle.std.specs.List.{slice_get}
+use Rattle.std.specs.Option.{option_map}
 use Rattle.std.proofs.Math.Dec.{eqb}
 use Rattle.std.proofs.lemmas.Bool.Decides.{eqb_tells}
 use Rattle.std.proofs.lemmas.List.{append-nil, length-replicate}
@@ -23,7 +24,8 @@ use Rattle.gx_model.specs.Laws.RepositoryLaws.{values_of}
 use Rattle.gx_model.specs.Histories.Values.{CommitText, Value, blob_value, commit_value, same_value, tag_value, tree_value}
 use Rattle.gx_model.proofs.SameValues.{same_value_tells}
 use Rattle.gx_model.specs.Texts.Sinks.{Taken}
-use Rattle.gx_export.specs.Marks.{Adds, AreNumbers, HasWritten}
+use Rattle.gx_rev.specs.Objects.{body_in_place}
+use Rattle.gx_export.specs.Marks.{Adds, AreNumbers, HasWritten, IsBlobAt}
 use Rattle.gx_export.specs.Outputs.{Stops, Writes, most}
 use Rattle.gx_export.specs.Texts.{command_text, head_items, items_of, items_text, last_items}
 use Rattle.gx_export.specs.declared.fault.ExportFault.{ExportFault}
@@ -228,12 +230,16 @@ module _ (name : Kind → Bytes → Bytes) (namer : IsNamer name) (r : Records) 
   pub mark_here : (ws : List Value) (marks : List ℕ) (v : Value) (i d : ℕ) → AreNumbers (values_of r) ws marks → slice_get (values_of r) i ≡ Some v → slice_index_or marks i d ≡ number_in ws v
   mark_here ws marks v i d h e = any_default marks i d 0 (place_marked ws marks v i h e) ∙ h.numbers i v e
 
+  -- what a blob's place has for a body are the blob's bytes
+  pub body_here : (i : ℕ) (x body : Bytes) → IsBlobAt r i x → body_in_place name r i ≡ Some body → body ≡ x
+  body_here i x body e f = let o : Some x ≡ Some body = sym (ap (option_map (body_of name)) e) ∙ f in sym (let same : x ≡ body = cc o in same)
+
   module _ (n : Bytes) (h : IsTrue (is_held r.records kind.Blob n)) where
     pub blob_here : value_of_name r.records n ≡ blob_value (bytes_of_blob (value_of_name r.records n))
     blob_here = blob_is name (value_of_name r.records n) (kind_held name namer r sound kind.Blob n h).1
 
-    pub body_here : (body : Bytes) → body ≡ body_of name (value_of_name r.records n) → body ≡ bytes_of_blob (value_of_name r.records n)
-    body_here body e = e ∙ ap (body_of name) blob_here
+    pub blob_place : (i : ℕ) → slice_get (values_of r) i ≡ Some (value_of_name r.records n) → IsBlobAt r i (bytes_of_blob (value_of_name r.records n))
+    blob_place i e = e ∙ ap Some blob_here
 
     -- its mark, at its place
     pub mark_of_blob : (ws : List Value) (marks : List ℕ) (i d : ℕ) → AreNumbers (values_of r) ws marks → slice_get (values_of r) i ≡ Some (value_of_name r.records n) → slice_index_or marks i d ≡ number_in ws (blob_value (bytes_of_blob (value_of_name r.records n)))

@@ -1,31 +1,27 @@
 -- The items of refs: what each ref's object gives, and one ref after the other.
 use Rattle.std.proofs.Common.{◌≡◌, ◌≢◌, List, [], ◌∷◌, ◌++◌, map, Option, Some, None, Ok, refl, subst, ap, ◌∙◌}
 use Rattle.std.specs.Prelude.{IsTrue, is_some}
-use Rattle.std.specs.Bool.{passes}
-use Rattle.std.specs.Option.{option_map}
 use Rattle.std.proofs.lemmas.Grind.{flat_map-append}
 use Rattle.std.proofs.lemmas.List.{append-nil, map-append}
 use Rattle.gx_model.specs.declared.objects.Kind.{Kind}
 use Rattle.gx_model.specs.declared.objects.Kind.TheVariants as kind
 use Rattle.gx_model.specs.Texts.{Bytes}
-use Rattle.gx_model.specs.Texts.RefNames.{is_tag_name}
 use Rattle.gx_model.specs.Streams.Commands.{Marked, Reset}
 use Rattle.gx_model.specs.Revisions.Denotation.{commit_in}
 use Rattle.gx_model.specs.Export.{command_items, number_in, ref_command}
 use Rattle.gx_model.specs.Records.Growth.{record_named}
-use Rattle.gx_model.specs.Histories.{IsIn, Record, Records, object_of}
+use Rattle.gx_model.specs.Histories.{IsIn, Records}
 use Rattle.gx_model.specs.Records.HistoryOf.{history_of, target_in, value_of_name}
 use Rattle.gx_model.specs.Streams.Items.{Item}
-use Rattle.gx_model.specs.Objects.{IsNamer, IsTagText, TagParts}
-use Rattle.gx_model.specs.Records.{body_of, commit_body, kind_of, name_of}
+use Rattle.gx_model.specs.Objects.{IsNamer, TagParts}
+use Rattle.gx_model.specs.Records.{kind_of, name_of}
 use Rattle.gx_model.specs.Replay.{peeled_at}
 use Rattle.gx_model.specs.Records.Sound.{IsSound}
-use Rattle.gx_model.specs.Histories.Values.{Tag, Value, blob_value, commit_value, is_optional_ident, tag_value, tree_value}
-use Rattle.gx_model.proofs.LinkedValues.{parts_in, proper_in}
-use Rattle.gx_model.proofs.PathTests.{first, is_true, second}
-use Rattle.gx_model.proofs.TreePaths.{name_is_name}
-use Rattle.gx_model.proofs.HeldValues.{all_whole, got, held_is, kind_held, value_held}
+use Rattle.gx_model.specs.Histories.Values.{Tag, Value, blob_value, commit_value, tag_value, tree_value}
+use Rattle.gx_model.proofs.LinkedValues.{parts_in}
+use Rattle.gx_model.proofs.HeldValues.{all_whole, held_is, kind_held, value_held}
 use Rattle.gx_model.proofs.PeeledRefs.{told}
+use Rattle.gx_rev.specs.Objects.{parts_of_tag_value}
 use Rattle.gx_export.specs.Texts.{items_of}
 
 -- the items of refs, by the names of their objects
@@ -44,13 +40,12 @@ refs_next r ws xs x = refs_append r ws xs (x ∷ []) ∙ ap (λ is. ref_items r 
 
 -- ---- the object of a ref
 
--- a held name has an object
-pub not_none : (rs : List Record) (n : Bytes) → IsTrue (is_some (record_named rs n)) → None ≡ option_map object_of (record_named rs n) → ⊥
-not_none rs n h e = by (record_named rs n) h e
-  where
-    by : (o : Option Record) → IsTrue (is_some o) → None ≡ option_map object_of o → ⊥
-    by None k f = cc k
-    by (Some s) k f = cc f
+-- what has no parts of a tag is of another kind
+pub other_kind : (name : Kind → Bytes → Bytes) (v : Value) → None ≡ parts_of_tag_value name v → kind_of name v ≢ kind.Tag
+other_kind name (blob_value x) e = λ k. cc k
+other_kind name (tree_value f) e = λ k. cc k
+other_kind name (commit_value c) e = λ k. cc k
+other_kind name (tag_value t) e = absurd (cc e)
 
 -- a ref at what is no tag, and gives a commit, is written as a reset
 pub reset_is : (name : Kind → Bytes → Bytes) (ws : List Value) (ref : Bytes) (v : Value) → kind_of name v ≢ kind.Tag → commit_in v ≡ Ok (peeled_at (target_in v))
@@ -65,31 +60,30 @@ abbrev pub parts_of_tag : (Kind → Bytes → Bytes) → Tag → TagParts
 parts_of_tag name t = record { object = name_of name (commit_value t.target); name = t.name; tagger = t.tagger; message = t.message }
 
 module _ (name : Kind → Bytes → Bytes) (namer : IsNamer name) (r : Records) (sound : IsSound name r) where
-  -- the name is that of a tag with this body, whose commit is held
-  pub record IsTagOf (n body : Bytes) (t : Tag) : Type 0 where
+  -- the name is that of a tag with these parts, whose commit is held
+  pub record IsTagOf (n : Bytes) (parts : TagParts) (t : Tag) : Type 0 where
     pub value : value_of_name r.records n ≡ tag_value t
-    pub text : IsTagText (parts_of_tag name t) body
+    pub told : parts ≡ parts_of_tag name t
     pub held : IsTrue (is_some (record_named r.records (name_of name (commit_value t.target))))
     pub target : value_of_name r.records (name_of name (commit_value t.target)) ≡ commit_value t.target
 
-  -- what is held as a tag is one
-  pub tag_held : (n body : Bytes) → IsTrue (is_some (record_named r.records n)) → Some (kind.Tag, body) ≡ option_map object_of (record_named r.records n) → (t : Tag) × IsTagOf n body t
-  tag_held n body h e = let o = got name namer r sound n (kind.Tag, body) h e in by (value_of_name r.records n) refl (ap (λ p. p.0) o) (ap (λ p. p.1) o)
+  -- what is held and has a tag's parts is one
+  pub tag_held : (n : Bytes) (parts : TagParts) → IsTrue (is_some (record_named r.records n)) → Some parts ≡ parts_of_tag_value name (value_of_name r.records n) → (t : Tag) × IsTagOf n parts t
+  tag_held n parts h e = by (value_of_name r.records n) refl e
     where
-      by : (v : Value) → value_of_name r.records n ≡ v → kind.Tag ≡ kind_of name v → body ≡ body_of name v → (t : Tag) × IsTagOf n body t
-      by (blob_value x) s k b = absurd (cc k)
-      by (tree_value f) s k b = absurd (cc k)
-      by (commit_value c) s k b = absurd (cc k)
-      by (tag_value t) s k b =
+      by : (v : Value) → value_of_name r.records n ≡ v → Some parts ≡ parts_of_tag_value name v → (t : Tag) × IsTagOf n parts t
+      by (blob_value x) s p = absurd (cc p)
+      by (tree_value f) s p = absurd (cc p)
+      by (commit_value c) s p = absurd (cc p)
+      by (tag_value t) s p =
           let vs = (history_of r).values in
           let w = all_whole name namer r sound in
           let i : IsIn vs (tag_value t) = subst (IsIn vs) s (held_is name namer r sound n h).stands in
-          let proper = proper_in vs (tag_value t) (passes _ w.proper) i in
           let v = value_held name namer r sound kind.Commit (commit_value t.target) (name_of name (commit_value t.target)) (parts_in vs (tag_value t) w i).0 refl refl in (
             t,
             record {
               value = s;
-              text = (b, is_true _ (name_is_name name namer kind.Commit (commit_body name t.target)), is_true _ (first (is_tag_name t.name) (is_optional_ident t.tagger) proper), is_true _ (second (is_tag_name t.name) (is_optional_ident t.tagger) proper));
+              told = (let same : parts ≡ parts_of_tag name t = cc p in same);
               held = (kind_held name namer r sound kind.Commit (name_of name (commit_value t.target)) v.0).0;
               target = v.1;
             },

@@ -6,7 +6,7 @@ use Rattle.gx_model.specs.Histories.{Records}
 use Rattle.gx_model.specs.Streams.Items.{Item}
 use Rattle.gx_model.specs.Laws.RepositoryLaws.{values_of}
 use Rattle.gx_model.specs.Texts.{Bytes}
-use Rattle.gx_model.specs.Histories.Values.{Value}
+use Rattle.gx_model.specs.Histories.Values.{Value, blob_value}
 use Rattle.gx_model.specs.Texts.Sinks.{Taken}
 use Rattle.gx_export.specs.Outputs.{Stops, Writes, most}
 use Rattle.gx_export.specs.Texts.{items_of, items_text}
@@ -21,6 +21,10 @@ pub record AreNumbers (values ws : List Value) (marks : List ℕ) : Type 0 where
 -- a value's mark is this number, whatever was written, or it is 0
 abbrev pub IsMarkOf : Records → List ℕ → Value → ℕ → Type 0
 IsMarkOf repository marks value mark = (ws : List Value) → AreNumbers (values_of repository) ws marks → mark ≡ number_in ws value
+
+-- the blob with these bytes stands at this place
+abbrev pub IsBlobAt : Records → ℕ → Bytes → Type 0
+IsBlobAt repository place bytes = slice_get (values_of repository) place ≡ Some (blob_value bytes)
 
 -- these values were written, the newest first, each in some bytes
 pub record HasWritten {A : Type 0} (repository : Records) (ws : List Value) (written : Written A) : Type 0 where

@@ -1,11 +1,14 @@
 -- What each part of an export does, whatever was written before it.
-use Rattle.std.specs.Prelude.{◌≡◌, [], ◌∷◌, ◌++◌, ℕ, length, List, map, Option, Result, OnOk}
+use Rattle.std.specs.Prelude.{◌≡◌, [], ◌∷◌, ◌++◌, ℕ, Bool, length, List, map, Option, Result, OnOk}
+use Rattle.std.specs.List.{AllByRecursion}
 use Rattle.gx_model.specs.declared.objects.Kind.{Kind}
+use Rattle.gx_model.specs.declared.objects.Kind.TheVariants as kinds
 use Rattle.gx_model.specs.declared.objects.Mode.{Mode}
 use Rattle.gx_model.specs.Export.{all_written, commit_commands, command_items, contents, one_commit, reached_commits, ref_command, with_blobs, with_commit}
 use Rattle.gx_model.specs.Histories.Files.{FileMap}
 use Rattle.gx_model.specs.Histories.{Records}
-use Rattle.gx_model.specs.Records.HistoryOf.{bytes_of_blob, commit_of_value, history_of, placed, target_in, value_of_name}
+use Rattle.gx_model.specs.Records.Sound.{Holds}
+use Rattle.gx_model.specs.Records.HistoryOf.{commit_of_value, history_of, placed, target_in, value_of_name}
 use Rattle.gx_model.specs.Streams.Items.{Item}
 use Rattle.gx_model.specs.Histories.Marks.{IsAt}
 use Rattle.gx_model.specs.Objects.NameMaps.{IsHeldTree}
@@ -21,9 +24,10 @@ use Rattle.gx_tree.specs.Lists.{below}
 use Rattle.gx_tree.specs.Nodes.{Kept, kept_map}
 use Rattle.gx_tree.specs.Writes.{kept_leaf}
 use Rattle.gx_rev.specs.Objects.{commit_at, value_at}
+use Rattle.gx_rev.specs.Reached.{reached_marks}
 use Rattle.gx_export.specs.Exports.{front_items, rest_items}
 use Rattle.gx_export.specs.FileTexts.{AreKept, Gathers, IsEntryBelow, IsTreeBelow}
-use Rattle.gx_export.specs.Marks.{Adds, AddsBlobs, HasWritten}
+use Rattle.gx_export.specs.Marks.{Adds, AddsBlobs, HasWritten, IsBlobAt}
 use Rattle.gx_export.specs.Outputs.{Writes}
 use Rattle.gx_export.specs.Texts.{change_lines, commit_lines, file_items, items_of, items_text, parent_items, root_items}
 use Rattle.gx_export.specs.declared.fault.ExportFault.{ExportFault}
@@ -71,9 +75,10 @@ module _ {W : Type 0} (taken : W → Option Taken) where
 
   -- ---- values
 
-  -- the blob of this name goes out, where it wasn't written yet
-  abbrev pub AddsOneBlob : {A : Type 0} → Records → Name → Written A → Written A → W → W → Result (Unit {0}) ExportFault → Type 0
-  AddsOneBlob repository called old new was now result = (ws : List Value) → HasWritten repository ws old → AddsBlobs repository ws (bytes_of_blob (value_at repository called) ∷ []) old new (taken was) (taken now) result
+  -- the blob at this place goes out, where it wasn't written yet
+  abbrev pub AddsOneBlob : {A : Type 0} → Records → ℕ → Written A → Written A → W → W → Result (Unit {0}) ExportFault → Type 0
+  AddsOneBlob repository place old new was now result =
+      (bytes : Bytes) (ws : List Value) → IsBlobAt repository place bytes → HasWritten repository ws old → AddsBlobs repository ws (bytes ∷ []) old new (taken was) (taken now) result
 
   -- the commits that refs reach go out, each behind its blobs
   abbrev pub AddsReachedCommits : {A : Type 0} → Records → Written A → Written A → W → W → Result (Unit {0}) ExportFault → Type 0
@@ -87,6 +92,18 @@ module _ {W : Type 0} (taken : W → Option Taken) where
   -- the text behind the last commit goes out
   abbrev pub AddsRest : {A : Type 0} → Records → Written A → Written A → W → W → Result (Unit {0}) ExportFault → Type 0
   AddsRest repository old new was now result = AddsItems repository (rest_items (history_of repository)) old new (taken was) (taken now) result
+
+-- ---- what is known before a part goes out
+
+-- the commits that refs reach are marked, and no value was written yet
+pub record IsToBegin {A : Type 0} (repository : Records) (marks : List Bool) (state : Written A) : Type 0 where
+  pub reached : marks ≡ reached_marks repository
+  pub written : HasWritten repository [] state
+
+-- some values were written, and these parents of a commit that comes next are held
+pub record IsUnderWayBehind {A : Type 0} (repository : Records) (names : List Bytes) (state : Written A) : Type 0 where
+  pub parents : AllByRecursion (Holds repository.records kinds.Commit) names
+  pub written : (ws : List Value) × HasWritten repository ws state
 
 -- ---- values, and the lines of files
 

@@ -1,16 +1,13 @@
 //! One commit, after the blobs of its files that weren't written yet.
 
-ghost use Rattle.std.specs.Prelude.{◌≡◌, ◌≢◌, ◌<◌, ◌≤◌, List, OnOk, codes};
-ghost use Rattle.std.specs.List.{AllByRecursion};
+ghost use Rattle.std.specs.Prelude.{◌≡◌, ◌≢◌, ◌<◌, ◌≤◌, OnOk, codes};
 ghost use Rattle.gx_model.specs.declared.objects.Kind.TheVariants as kinds;
 ghost use Rattle.gx_model.specs.Histories.Marks.{IsAt};
-ghost use Rattle.gx_model.specs.Records.Sound.{Holds};
-ghost use Rattle.gx_model.specs.Histories.Values.{Commit, Value};
+ghost use Rattle.gx_model.specs.Histories.Values.{Commit};
 ghost use Rattle.gx_rev.specs.Objects.{IsHeldAs};
 ghost use Rattle.gx_export.specs.Faults.{NeedsNoMemory};
-ghost use Rattle.gx_export.specs.Marks.{HasWritten};
 ghost use Rattle.gx_export.specs.Outputs.{most};
-ghost use Rattle.gx_export.specs.Parts.{AddsBehindBlobs, AddsCommitLines, AddsOneCommit, AddsParentLines, AddsUnmarked, IsUnderWay, KeepsLinesOf, KeepsOneCommit, WritesChanges};
+ghost use Rattle.gx_export.specs.Parts.{AddsBehindBlobs, AddsCommitLines, AddsOneCommit, AddsParentLines, AddsUnmarked, IsUnderWay, IsUnderWayBehind, KeepsLinesOf, KeepsOneCommit, WritesChanges};
 ghost use Rattle.gx_export.specs.Sinks.{WritesRoot};
 
 use crate::ExportFault;
@@ -75,8 +72,7 @@ fn write_behind_blobs<N: Namer, A: Allocator + Copy, W: Sink>(
     commit: &CommitView<'_>,
     lines: &[u8],
 ) -> Result<(), ExportFault>
-    requires parents { AllByRecursion (Holds repo.now.1.records kinds.Commit) commit.now.parents }
-    requires written { (ws : List Value) × HasWritten repo.now.1 ws written.old }
+    requires { IsUnderWayBehind repo.now.1 commit.now.parents written.old }
     ensures adds { AddsBehindBlobs W.taken repo.now.1 commit.now lines.now written.old written.new sink.old sink.new result }
     ensures memory { NeedsNoMemory result }
 {
@@ -108,8 +104,7 @@ fn write_lines<N: Namer, A: Allocator + Copy, W: Sink>(
     commit: &CommitView<'_>,
     lines: &[u8],
 ) -> Result<(), ExportFault>
-    requires parents { AllByRecursion (Holds repo.now.1.records kinds.Commit) commit.now.parents }
-    requires written { (ws : List Value) × HasWritten repo.now.1 ws written.old }
+    requires { IsUnderWayBehind repo.now.1 commit.now.parents written.old }
     ensures adds { AddsCommitLines W.taken repo.now.1 commit.now lines.now written.old written.new sink.old sink.new result }
     ensures memory { NeedsNoMemory result }
 {
@@ -125,8 +120,7 @@ fn write_parents<N: Namer, A: Allocator + Copy, W: Sink>(
     written: &mut Written<A>,
     commit: &CommitView<'_>,
 ) -> Result<(), ExportFault>
-    requires parents { AllByRecursion (Holds repo.now.1.records kinds.Commit) commit.now.parents }
-    requires written { (ws : List Value) × HasWritten repo.now.1 ws written.old }
+    requires { IsUnderWayBehind repo.now.1 commit.now.parents written.old }
     ensures adds { AddsParentLines W.taken repo.now.1 commit.now.parents written.old written.new sink.old sink.new result }
     ensures memory { NeedsNoMemory result }
 {

@@ -1,14 +1,13 @@
 //! Exports of whole repositories. Source: git-fast-export(1).
 
-ghost use Rattle.std.specs.Prelude.{◌≡◌, ◌≤◌, [], List};
+ghost use Rattle.std.specs.Prelude.{◌≡◌, ◌≤◌, List};
 ghost use Rattle.gx_model.specs.Histories.Values.{Value};
 ghost use Rattle.gx_export.specs.Exports.{Exports};
 ghost use Rattle.gx_export.specs.Faults.{NeedsNoMemory};
 ghost use Rattle.gx_export.specs.Marks.{HasWritten};
 ghost use Rattle.gx_export.specs.Outputs.{most};
-ghost use Rattle.gx_export.specs.Parts.{AddsFront, AddsReachedCommits, AddsRest};
+ghost use Rattle.gx_export.specs.Parts.{AddsFront, AddsReachedCommits, AddsRest, IsToBegin};
 ghost use Rattle.gx_export.specs.Sinks.{WritesLast};
-ghost use Rattle.gx_rev.specs.Reached.{reached_marks};
 
 use crate::ExportFault;
 use crate::commands::write_reset;
@@ -29,10 +28,10 @@ use std::alloc::Allocator;
 /// WriteFailed where the sink fails, or has taken 2^63 - 1 bytes of a longer text. What went to the sink stays there, and
 /// is a front of the text. So a text that went out whole is no longer than what an import reads.
 ///
-/// Cost: the text's length, for each commit the number of its directories and of those of the commit before, for each entry
-/// of a tree that didn't stand at its path in the commit before its path's length, and for each such entry, parent and ref a
-/// look-up. Memory: nine bytes for each record, and two commits' file lines with the paths of their directories.
-/// Source: git-fast-export(1), `--full-tree`.
+/// Cost: the text's length, the number of records, for each commit the number of its directories and of those of the commit
+/// before, for each entry of a tree that didn't stand at its path in the commit before its path's length and a look-up, and
+/// for each commit, parent and ref up to four look-ups. Memory: nine bytes for each record, and two commits' file lines with
+/// the paths of their directories. Source: git-fast-export(1), `--full-tree`.
 pub fn export<N: Namer, A: Allocator + Copy, W: Sink>(
     alloc: A,
     repo: &Repo<N, A>,
@@ -53,9 +52,8 @@ fn write_text<N: Namer, A: Allocator + Copy, W: Sink>(
     written: &mut Written<A>,
     reached: &[bool],
 ) -> Result<(), ExportFault>
-    requires reached { reached.now ≡ reached_marks repo.now.1 }
+    requires begins { IsToBegin repo.now.1 reached.now written.old }
     requires bytes { written.old.bytes ≡ 0 }
-    requires written { HasWritten repo.now.1 [] written.old }
     ensures { Exports repo.now.1 (W.taken sink.old) (W.taken sink.new) result }
 {
     write_front(alloc, repo, sink, written, reached)?;
@@ -70,8 +68,7 @@ fn write_front<N: Namer, A: Allocator + Copy, W: Sink>(
     written: &mut Written<A>,
     reached: &[bool],
 ) -> Result<(), ExportFault>
-    requires reached { reached.now ≡ reached_marks repo.now.1 }
-    requires written { HasWritten repo.now.1 [] written.old }
+    requires { IsToBegin repo.now.1 reached.now written.old }
     ensures { AddsFront W.taken repo.now.1 written.old written.new sink.old sink.new result }
 {
     write(sink, &mut written.bytes, b"feature done\n")?;
@@ -86,8 +83,7 @@ fn write_commits<N: Namer, A: Allocator + Copy, W: Sink>(
     written: &mut Written<A>,
     reached: &[bool],
 ) -> Result<(), ExportFault>
-    requires reached { reached.now ≡ reached_marks repo.now.1 }
-    requires written { HasWritten repo.now.1 [] written.old }
+    requires { IsToBegin repo.now.1 reached.now written.old }
     ensures { AddsReachedCommits W.taken repo.now.1 written.old written.new sink.old sink.new result }
 {
     let mut lines = Lines::new(alloc);

@@ -10,8 +10,9 @@ ghost use Rattle.gx_export.specs.Parts.{AddsAllRefs, AddsOneRef};
 use crate::ExportFault;
 use crate::commands::{write_reset_to, write_tag};
 use crate::written::{Written, mark_of};
-use gx_object::{Kind, Name, Namer, decode_tag};
+use gx_object::{Name, Namer};
 use gx_repo::Repo;
+use gx_rev::tag_of;
 use gx_text::Sink;
 use std::alloc::Allocator;
 
@@ -44,16 +45,15 @@ fn write_ref<N: Namer, A: Allocator + Copy, W: Sink>(
     ensures adds { AddsOneRef W.taken repo.now.1 name.now object.now written.old written.new sink.old sink.new result }
     ensures memory { NeedsNoMemory result }
 {
-    let Some((kind, body)) = repo.store().get(object) else {
-        unreachable!();
-    };
-    if kind != Kind::Tag {
-        let mark = mark_of(repo, written, object);
-        return write_reset_to(sink, &mut written.bytes, name, mark);
+    repo.sound();
+    match tag_of(repo, object) {
+        None => {
+            let mark = mark_of(repo, written, object);
+            write_reset_to(sink, &mut written.bytes, name, mark)
+        }
+        Some(tag) => {
+            let mark = mark_of(repo, written, &tag.object());
+            write_tag(sink, &mut written.bytes, &tag, mark)
+        }
     }
-    let Ok(tag) = decode_tag(body) else {
-        unreachable!();
-    };
-    let mark = mark_of(repo, written, &tag.object());
-    write_tag(sink, &mut written.bytes, &tag, mark)
 }

@@ -1,16 +1,15 @@
 //! The trees of a commit: the blobs of their files go out, and the files' lines are gathered.
 
-ghost use Rattle.std.specs.Prelude.{◌≡◌, ◌≢◌, ◌++◌, [], ◌∷◌, IfOk, IsTrue, List, Some};
-ghost use Rattle.std.specs.List.{slice_get};
+ghost use Rattle.std.specs.Prelude.{◌≡◌, ◌≢◌, ◌++◌, [], ◌∷◌, IfOk, IsTrue, List};
 ghost use Rattle.gx_model.specs.declared.objects.Kind.TheVariants as kinds;
 ghost use Rattle.gx_model.specs.declared.objects.Mode.TheVariants as modes;
+ghost use Rattle.gx_model.specs.Texts.{Bytes};
 ghost use Rattle.gx_model.specs.Texts.Paths.{is_component, is_short};
-ghost use Rattle.gx_model.specs.Laws.RepositoryLaws.{values_of};
 ghost use Rattle.gx_model.specs.Records.Sound as sound;
 ghost use Rattle.gx_model.specs.Histories.Values.{Value};
-ghost use Rattle.gx_rev.specs.Objects.{IsHeldAs, value_at};
+ghost use Rattle.gx_rev.specs.Objects.{IsHeldAs};
 ghost use Rattle.gx_export.specs.Faults.{NeedsNoMemory};
-ghost use Rattle.gx_export.specs.Marks.{HasWritten};
+ghost use Rattle.gx_export.specs.Marks.{HasWritten, IsBlobAt};
 ghost use Rattle.gx_export.specs.Parts.{AddsBlobsOf, AddsOneBlob, GathersEntry, GathersFile, GathersLinesOf, GathersTree, HasEntryBelow, HasTreeBelow, IsUnderWay, KeepsLinesOf};
 
 use crate::ExportFault;
@@ -19,7 +18,7 @@ use crate::lines::Lines;
 use crate::written::Written;
 use gx_object::{Entry, Mode, Name, Namer};
 use gx_repo::Repo;
-use gx_rev::{body_of, entries_of, place_of, view_of};
+use gx_rev::{body_at, entries_of, place_of, view_of};
 use gx_text::{Sink, TextFault, TreePath};
 use std::alloc::{AllocError, Allocator};
 
@@ -163,30 +162,28 @@ fn add_file<N: Namer, A: Allocator + Copy, W: Sink>(
         return Ok(());
     }
     let place = place_of(repo, name);
-    write_blob_once(repo, sink, written, name, place)?;
+    write_blob_once(repo, sink, written, place)?;
     lines.add_file(mode, written.marks[place], path)?;
     Ok(())
 }
 
-/// Writes a held blob, which stands at this place, where it wasn't written yet.
+/// Writes the blob at a place, where it wasn't written yet.
 fn write_blob_once<N: Namer, A: Allocator + Copy, W: Sink>(
     repo: &Repo<N, A>,
     sink: &mut W,
     written: &mut Written<A>,
-    name: &Name,
     place: usize,
 ) -> Result<(), ExportFault>
-    requires held { IsHeldAs kinds.Blob repo.now.1 name.now }
-    requires place { slice_get (values_of repo.now.1) place ≡ Some (value_at repo.now.1 name.now) }
+    requires blob { (bytes : Bytes) × IsBlobAt repo.now.1 place bytes }
     requires written { (ws : List Value) × HasWritten repo.now.1 ws written.old }
-    ensures adds { AddsOneBlob W.taken repo.now.1 name.now written.old written.new sink.old sink.new result }
+    ensures adds { AddsOneBlob W.taken repo.now.1 place written.old written.new sink.old sink.new result }
     ensures memory { NeedsNoMemory result }
 {
     repo.sound();
     if written.marks[place] > 0 {
         return Ok(());
     }
-    let body = body_of(repo, name);
+    let body = body_at(repo, place);
     write_blob(sink, &mut written.bytes, written.count + 1, body)?;
     written.mark(place);
     Ok(())

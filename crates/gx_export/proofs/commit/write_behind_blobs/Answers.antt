@@ -13,11 +13,11 @@ returns-in_err-write_root-clause-adds g c = λ ws files h e.
     let p = err_from_is_err_and c.from_residual.result c.from_residual.ensures.1 in
     rw (p.1, p.2) (items_sooner c.args.written.now.bytes (g.W.Sink.taken c.args.sink.now) (g.W.Sink.taken c.write_root.new.sink) (root_items (length parts.parents)) lines c.in_err-write_root.field-0.0 c.in_err-write_root.ensures.text)
 
-pub write_lines-requires-clause-written : goal.write_lines-requires-clause-written
-write_lines-requires-clause-written g c =
+pub write_lines-requires : goal.write_lines-requires
+write_lines-requires g c =
     let w = c.requires.written in
     let root = root_items (length c.args.commit.now.parents) in
-    (w.0, (adds_bytes c.args.repo.now.1 w.0 root c.args.written.now c.write_root.new.written (g.W.Sink.taken c.args.sink.now) (g.W.Sink.taken c.write_root.new.sink) (Ok tt) w.1 c.in_ok-write_root.ensures.text).0)
+    record { parents = c.requires.parents; written = (w.0, (adds_bytes c.args.repo.now.1 w.0 root c.args.written.now c.write_root.new.written (g.W.Sink.taken c.args.sink.now) (g.W.Sink.taken c.write_root.new.sink) (Ok tt) w.1 c.in_ok-write_root.ensures.text).0) }
 
 pub returns-clause-adds : goal.returns-clause-adds
 returns-clause-adds g c = λ ws files h e.

@@ -18,11 +18,11 @@ returns-in_err-write_commit_head-clause-adds g c = λ ws files h e.
     let fault = c.in_err-write_commit_head.field-0.0 in
     rw (p.1, p.2) (items_sooner old.bytes was now (head_items (suc (length ws)) parts.text) behind fault (adds_head r ws parts.text old c.write_commit_head.new.written was now (Err fault) h c.in_err-write_commit_head.ensures.text))
 
-pub write_parents-requires-clause-written : goal.write_parents-requires-clause-written
-write_parents-requires-clause-written g c =
+pub write_parents-requires : goal.write_parents-requires
+write_parents-requires g c =
     let w = c.requires.written in
     let taken = g.W.Sink.taken in
-    (w.0, (adds_head c.args.repo.now.1 w.0 c.args.commit.now.text c.args.written.now c.write_commit_head.new.written (taken c.args.sink.now) (taken c.write_commit_head.new.sink) (Ok tt) w.1 c.in_ok-write_commit_head.ensures.text).0)
+    record { parents = c.requires.parents; written = (w.0, (adds_head c.args.repo.now.1 w.0 c.args.commit.now.text c.args.written.now c.write_commit_head.new.written (taken c.args.sink.now) (taken c.write_commit_head.new.sink) (Ok tt) w.1 c.in_ok-write_commit_head.ensures.text).0) }
 
 pub returns-in_err-write_parents-clause-adds : goal.returns-in_err-write_parents-clause-adds
 returns-in_err-write_parents-clause-adds g c = λ ws files h e.

@@ -25,16 +25,15 @@ returns-in_err-add_files-clause-adds g c = λ ws h kept.
     let fault = c.in_err-add_files.field-0.0 in
     rw (p.1, p.2) (subst (λ is. Stops c.args.written.now.bytes was now (items_text is) fault) (sym (one_commit_parts ws made)) (items_sooner c.args.written.now.bytes was now blobs behind fault (c.in_err-add_files.ensures.adds ws h kept)))
 
-pub write_behind_blobs-requires-clause-parents : goal.write_behind_blobs-requires-clause-parents
-write_behind_blobs-requires-clause-parents g c =
+pub write_behind_blobs-requires : goal.write_behind_blobs-requires
+write_behind_blobs-requires g c =
     let name = g.N.Namer.name_of c.args.repo.now.0 in
     let namer = g.met.N.Namer.is_namer c.args.repo.now.0 in
-    (shown_as name namer c.args.repo.now.1 c.sound.ensures c.args.commit.now.bytes c.view_of-view.result c.requires.held c.view_of-view.ensures).holds
-
-pub write_behind_blobs-requires-clause-written : goal.write_behind_blobs-requires-clause-written
-write_behind_blobs-requires-clause-written g c =
     let w = c.requires.written in
-    (with_blobs w.0 (contents (files_of (commit_at c.args.repo.now.1 c.args.commit.now))), (c.in_ok-add_files.ensures.adds w.0 w.1 w.2).0)
+    record {
+      parents = (shown_as name namer c.args.repo.now.1 c.sound.ensures c.args.commit.now.bytes c.view_of-view.result c.requires.held c.view_of-view.ensures).holds;
+      written = (with_blobs w.0 (contents (files_of (commit_at c.args.repo.now.1 c.args.commit.now))), (c.in_ok-add_files.ensures.adds w.0 w.1 w.2).0);
+    }
 
 pub returns-clause-adds : goal.returns-clause-adds
 returns-clause-adds g c = λ ws h kept.

@@ -17,12 +17,9 @@ returns-in_err-written g c =
     let p = err_from_is_err_and c.from_residual-in_err-written.result c.from_residual-in_err-written.ensures.1 in
     rw (p.1, p.2) (stops_first 0 (g.W.Sink.taken c.args.sink.now) (commits_text (history_of c.args.repo.now.1)))
 
-pub write_text-requires-clause-reached : goal.write_text-requires-clause-reached
-write_text-requires-clause-reached g c = c.deref.ensures.value ∙ c.in_ok-reached.ensures
-
-pub write_text-requires-clause-written : goal.write_text-requires-clause-written
-write_text-requires-clause-written g c =
+pub write_text-requires-clause-begins : goal.write_text-requires-clause-begins
+write_text-requires-clause-begins g c =
     let r = c.args.repo.now.1 in
     let new = c.in_ok-written.ensures in
     let long = c.len.ensures.count ∙ ap (λ s. length s.1) c.store.ensures.held ∙ as_many (g.N.Namer.name_of c.args.repo.now.0) (g.met.N.Namer.is_namer c.args.repo.now.0) r c.store.ensures.sound in
-    none_written r c.len.result c.in_ok-written.written long new.bytes new.count new.marks
+    record { reached = c.deref.ensures.value ∙ c.in_ok-reached.ensures; written = none_written r c.len.result c.in_ok-written.written long new.bytes new.count new.marks }

@@ -14,10 +14,11 @@ returns-in_err-write g c =
     let p = err_from_is_err_and c.from_residual.result c.from_residual.ensures.1 in
     rw (p.1, p.2) (items_sooner c.args.written.now.bytes (taken c.args.sink.now) (taken c.write.new.sink) first_items (commits_items [] (reached_commits (history_of c.args.repo.now.1))) c.in_err-write.field-0.0 c.in_err-write.ensures.text)
 
-pub write_commits-requires-clause-written : goal.write_commits-requires-clause-written
-write_commits-requires-clause-written g c =
+pub write_commits-requires : goal.write_commits-requires
+write_commits-requires g c =
     let taken = g.W.Sink.taken in
-    (adds_bytes c.args.repo.now.1 [] first_items c.args.written.now c.write.new.written (taken c.args.sink.now) (taken c.write.new.sink) (Ok tt) c.requires.written c.in_ok-write.ensures.text).0
+    let next = (adds_bytes c.args.repo.now.1 [] first_items c.args.written.now c.write.new.written (taken c.args.sink.now) (taken c.write.new.sink) (Ok tt) c.requires.written c.in_ok-write.ensures.text).0 in
+    record { reached = c.requires.reached; written = next }
 
 pub returns : goal.returns
 returns g c =

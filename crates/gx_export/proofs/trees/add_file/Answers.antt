@@ -12,7 +12,7 @@ use Rattle.gx_export.specs.declared.fault.ExportFault.TheVariants.{OutOfMemory}
 use Rattle.gx_export.specs.Texts.{items_of, items_text}
 use Rattle.gx_export.proofs.CommitLines.{file_held}
 use Rattle.gx_export.proofs.Gathering.{file_stops, gathers_file, gathers_gitlink, stops_last}
-use Rattle.gx_export.proofs.Numbering.{mark_of_blob, place_marked}
+use Rattle.gx_export.proofs.Numbering.{blob_place, mark_of_blob, place_marked}
 use Rattle.gx_export.proofs.trees.add_file.Goals as goal
 
 pub place_of-place-requires : goal.place_of-place-requires
@@ -24,14 +24,15 @@ place_of-place-requires g c =
     let other : c.args.mode ≢ Gitlink = λ e. (let f : false ≡ true = c.if-eq.ensures ∙ ap (λ m. sameb the_type m Gitlink) e in cc f) in
     (kind_held name namer r c.sound.ensures kind.Blob n (holds_held name namer r c.sound.ensures kind.Blob n (file_held r.records c.args.mode n other c.requires.file c.requires.held))).0
 
-pub write_blob_once-requires-clause-held : goal.write_blob_once-requires-clause-held
-write_blob_once-requires-clause-held g c =
+pub write_blob_once-requires-clause-blob : goal.write_blob_once-requires-clause-blob
+write_blob_once-requires-clause-blob g c =
     let name = g.N.Namer.name_of c.args.repo.now.0 in
     let namer = g.met.N.Namer.is_namer c.args.repo.now.0 in
     let r = c.args.repo.now.1 in
     let n = c.args.name.now.bytes in
     let other : c.args.mode ≢ Gitlink = λ e. (let f : false ≡ true = c.if-eq.ensures ∙ ap (λ m. sameb the_type m Gitlink) e in cc f) in
-    holds_held name namer r c.sound.ensures kind.Blob n (file_held r.records c.args.mode n other c.requires.file c.requires.held)
+    let held = holds_held name namer r c.sound.ensures kind.Blob n (file_held r.records c.args.mode n other c.requires.file c.requires.held) in
+    (bytes_of_blob (value_at r c.args.name.now), blob_place name namer r c.sound.ensures n held c.place_of-place.result c.place_of-place.ensures)
 
 pub returns-then-eq : goal.returns-then-eq
 returns-then-eq g c = λ ws h kept.
@@ -42,29 +43,47 @@ returns-then-eq g c = λ ws h kept.
 
 pub returns-in_err-write_blob_once : goal.returns-in_err-write_blob_once
 returns-in_err-write_blob_once g c = λ ws h kept.
+    let name = g.N.Namer.name_of c.args.repo.now.0 in
+    let namer = g.met.N.Namer.is_namer c.args.repo.now.0 in
+    let r = c.args.repo.now.1 in
+    let n = c.args.name.now.bytes in
     let other : c.args.mode ≢ Gitlink = λ e. (let f : false ≡ true = c.if-eq.ensures ∙ ap (λ m. sameb the_type m Gitlink) e in cc f) in
+    let held = holds_held name namer r c.sound.ensures kind.Blob n (file_held r.records c.args.mode n other c.requires.file c.requires.held) in
+    let at = blob_place name namer r c.sound.ensures n held c.place_of-place.result c.place_of-place.ensures in
+    let x = bytes_of_blob (value_at r c.args.name.now) in
     let p = err_from_is_err_and c.from_residual-in_err-write_blob_once.result c.from_residual-in_err-write_blob_once.ensures.1 in
     rw (p.1, p.2) (file_stops (g.N.Namer.name_of c.args.repo.now.0) c.args.repo.now.1 ws c.args.path.now c.args.mode c.args.name.now.bytes c.args.written.now c.args.written.now (g.W.Sink.taken c.args.sink.now) (g.W.Sink.taken c.write_blob_once.new.sink) c.args.lines.now c.args.lines.now other c.requires.file
-    c.in_err-write_blob_once.field-0.0 (c.in_err-write_blob_once.ensures.adds ws h))
+    c.in_err-write_blob_once.field-0.0 (c.in_err-write_blob_once.ensures.adds x ws at h))
 
 pub index-requires : goal.index-requires
 index-requires g c =
     let name = g.N.Namer.name_of c.args.repo.now.0 in
     let namer = g.met.N.Namer.is_namer c.args.repo.now.0 in
     let r = c.args.repo.now.1 in
+    let n = c.args.name.now.bytes in
+    let other : c.args.mode ≢ Gitlink = λ e. (let f : false ≡ true = c.if-eq.ensures ∙ ap (λ m. sameb the_type m Gitlink) e in cc f) in
+    let held = holds_held name namer r c.sound.ensures kind.Blob n (file_held r.records c.args.mode n other c.requires.file c.requires.held) in
+    let at = blob_place name namer r c.sound.ensures n held c.place_of-place.result c.place_of-place.ensures in
+    let x = bytes_of_blob (value_at r c.args.name.now) in
     let ws = c.requires.written.0 in
-    let h = (c.in_ok-write_blob_once.ensures.adds ws c.requires.written.1).0 in
-    let k = place_marked name namer r c.sound.ensures (with_blobs ws (bytes_of_blob (value_at r c.args.name.now) ∷ [])) c.write_blob_once.new.written.marks.items (value_at r c.args.name.now) c.place_of-place.result h.marks c.place_of-place.ensures in
+    let h = (c.in_ok-write_blob_once.ensures.adds x ws at c.requires.written.1).0 in
+    let k = place_marked name namer r c.sound.ensures (with_blobs ws (x ∷ [])) c.write_blob_once.new.written.marks.items (value_at r c.args.name.now) c.place_of-place.result h.marks c.place_of-place.ensures in
     let long = c.write_blob_once.new.written.marks.ok in
     omega (arith, k, long)
 
 pub returns-in_err-add_file : goal.returns-in_err-add_file
 returns-in_err-add_file g c = λ ws h kept.
+    let name = g.N.Namer.name_of c.args.repo.now.0 in
+    let namer = g.met.N.Namer.is_namer c.args.repo.now.0 in
+    let r = c.args.repo.now.1 in
+    let n = c.args.name.now.bytes in
     let taken = g.W.Sink.taken in
     let other : c.args.mode ≢ Gitlink = λ e. (let f : false ≡ true = c.if-eq.ensures ∙ ap (λ m. sameb the_type m Gitlink) e in cc f) in
     let p = err_from_is_err_and c.from_residual-in_err-add_file.result c.from_residual-in_err-add_file.ensures.1 in
-    let x = bytes_of_blob (value_at c.args.repo.now.1 c.args.name.now) in
-    let out = c.in_ok-write_blob_once.ensures.adds ws h in
+    let held = holds_held name namer r c.sound.ensures kind.Blob n (file_held r.records c.args.mode n other c.requires.file c.requires.held) in
+    let at = blob_place name namer r c.sound.ensures n held c.place_of-place.result c.place_of-place.ensures in
+    let x = bytes_of_blob (value_at r c.args.name.now) in
+    let out = c.in_ok-write_blob_once.ensures.adds x ws at h in
     let stop = stops_last c.args.written.now.bytes c.write_blob_once.new.written.bytes (taken c.args.sink.now) (taken c.write_blob_once.new.sink) (items_text (items_of (blob_commands ws (x ∷ [])))) out.1 in
     rw (p.1, p.2) (file_stops (g.N.Namer.name_of c.args.repo.now.0) c.args.repo.now.1 ws c.args.path.now c.args.mode c.args.name.now.bytes c.args.written.now c.args.written.now (taken c.args.sink.now) (taken c.write_blob_once.new.sink) c.args.lines.now c.args.lines.now other c.requires.file OutOfMemory stop)
 
@@ -77,7 +96,8 @@ returns g c = λ ws h kept.
     let v = value_at r c.args.name.now in
     let other : c.args.mode ≢ Gitlink = λ e. (let f : false ≡ true = c.if-eq.ensures ∙ ap (λ m. sameb the_type m Gitlink) e in cc f) in
     let held = holds_held name namer r c.sound.ensures kind.Blob n (file_held r.records c.args.mode n other c.requires.file c.requires.held) in
+    let at = blob_place name namer r c.sound.ensures n held c.place_of-place.result c.place_of-place.ensures in
     let us = with_blobs ws (bytes_of_blob v ∷ []) in
-    let out = c.in_ok-write_blob_once.ensures.adds ws h in
+    let out = c.in_ok-write_blob_once.ensures.adds (bytes_of_blob v) ws at h in
     let mark = c.index.ensures ∙ mark_of_blob name namer r c.sound.ensures n held us c.write_blob_once.new.written.marks.items c.place_of-place.result c.index.result.now out.0.marks c.place_of-place.ensures in
     gathers_file name r ws c.args.path.now c.args.mode n c.args.written.now c.write_blob_once.new.written (g.W.Sink.taken c.args.sink.now) (g.W.Sink.taken c.write_blob_once.new.sink) c.args.lines.now c.add_file.new.self other c.requires.file c.index.result.now out mark c.in_ok-add_file.ensures.text (c.in_ok-add_file.ensures.kept name r ws kept)

@@ -1,4 +1,4 @@
-use Rattle.std.proofs.Common.{◌++◌, ◌∙◌, codes, length, sym, subst}
+use Rattle.std.proofs.Common.{◌++◌, ◌∙◌, arith, codes, length, sym, subst}
 use Rattle.std.specs.List.{flat_map}
 use Rattle.std.specs.Fmt.{decimal}
 use Rattle.std.proofs.lemmas.Iterator.Consumers.{YieldsList-from_rest, count_from_yields_List}
@@ -51,3 +51,18 @@ returns-in_err-send_ref-clause-text g c =
     let mid = g.W.Sink.taken c.loop-name.sink in
     let left = subst (λ refs. IsLeft whole was mid (flat_map stored_ref refs)) c.in-Some.ensures.steps c.loop-name.invariant.2 in
     rw p.1 (left_fails whole was mid (g.W.Sink.taken c.send_ref.new.sink) (stored_ref (c.in-Some.name.now, c.in-Some.object.bytes)) (flat_map stored_ref c.next.new.self) left c.in_err-send_ref.ensures)
+
+pub returns-in_err-send_count-clause-count : goal.returns-in_err-send_count-clause-count
+returns-in_err-send_count-clause-count g c =
+    let number = count_from_yields_List c.refs.result c.count.result c.count.ensures.ran (YieldsList-from_rest {shows = shown_lent_ref} c.args.repo.now.1.refs c.refs.ensures.held) in
+    omega (arith, sym number)
+
+pub returns-in_err-send_ref-clause-count : goal.returns-in_err-send_ref-clause-count
+returns-in_err-send_ref-clause-count g c =
+    let number = count_from_yields_List c.refs.result c.count.result c.count.ensures.ran (YieldsList-from_rest {shows = shown_lent_ref} c.args.repo.now.1.refs c.refs.ensures.held) in
+    omega (arith, sym number)
+
+pub returns-clause-count : goal.returns-clause-count
+returns-clause-count g c =
+    let number = count_from_yields_List c.refs.result c.count.result c.count.ensures.ran (YieldsList-from_rest {shows = shown_lent_ref} c.args.repo.now.1.refs c.refs.ensures.held) in
+    omega (arith, sym number)

@@ -1,12 +1,16 @@
 //! What is asked of a repository, and what it answers.
 
+ghost use Rattle.std.specs.Prelude.{IfOk};
+ghost use Rattle.gx_rev.specs.Answers.{IsNamed};
+ghost use Rattle.gx_rev.specs.Objects.{IsHeld};
+
 use super::steps::{Step, fill, is_held};
 use super::words::{Shape, shape_of};
 use gx_object::{Kind, Mode, Name, Namer};
 use gx_repo::Repo;
 use gx_rev::{
-    Range, RevFault, Revision, Shown, WalkFault, answers_tell_values, commit, look,
-    reached_from_refs, reaches, walk,
+    Range, RevFault, Revision, Shown, WalkFault, answers_tell_values, body_at, body_of, commit,
+    look, place_of, reached_from_refs, reaches, tag_of, walk,
 };
 use gx_text::TreePath;
 use std::alloc::{AllocError, Allocator};
@@ -32,6 +36,10 @@ pub(super) enum Question<'a> {
     Commit(&'a [u8], &'a [u8], usize, &'a [u8]),
     /// A revision shows no commit, for this reason.
     NoCommit(&'a [u8], RevFault),
+    /// A revision shows an object with this body.
+    Body(&'a [u8], &'a [u8]),
+    /// A revision shows a tag with this message, or an object that is no tag.
+    Tag(&'a [u8], Option<&'a [u8]>),
     /// A word of a range has this shape. Its revisions show what these refs do.
     Word(&'a [u8], Shape, &'a [u8], &'a [u8]),
     /// Words list the commits with these names, in this order.
@@ -49,8 +57,11 @@ pub(super) fn shown<N: Namer, A: Allocator + Copy>(
     alloc: A,
     repo: &Repo<N, A>,
     text: &[u8],
-) -> Result<Shown, RevFault> {
-    Revision::read(alloc, text)?.eval(repo)
+) -> Result<Shown, RevFault>
+    ensures { IfOk result (IsNamed (N.name_of repo.now.0) repo.now.1) }
+{
+    let revision = Revision::read(alloc, text)?;
+    revision.eval(repo)
 }
 
 /// Whether a revision shows the object of this kind and name.
@@ -131,6 +142,53 @@ fn shows_commit<N: Namer, A: Allocator + Copy>(
             root.hex().as_slice() == tree && count == parents && is_message
         }
         Err(_) => false,
+    }
+}
+
+/// Whether a held object has this body, by its name and at its place.
+fn has_body<N: Namer, A: Allocator + Copy>(repo: &Repo<N, A>, name: &Name, body: &[u8]) -> bool
+    requires { IsHeld repo.now.1 name.now }
+{
+    body_of(repo, name) == body && body_at(repo, place_of(repo, name)) == body
+}
+
+/// Whether a held object is a tag with this message, or no tag.
+fn has_message<N: Namer, A: Allocator + Copy>(
+    repo: &Repo<N, A>,
+    name: &Name,
+    message: Option<&[u8]>,
+) -> bool
+    requires { IsHeld repo.now.1 name.now }
+{
+    match tag_of(repo, name) {
+        Some(tag) => Some(tag.message()) == message,
+        None => message.is_none(),
+    }
+}
+
+/// Whether a revision shows an object with this body.
+fn shows_body<N: Namer, A: Allocator + Copy>(
+    alloc: A,
+    repo: &Repo<N, A>,
+    text: &[u8],
+    body: &[u8],
+) -> bool {
+    match shown(alloc, repo, text) {
+        Ok(Shown::Object(_, name)) => has_body(repo, &name, body),
+        _ => false,
+    }
+}
+
+/// Whether a revision shows a tag with this message, or an object that is no tag.
+fn shows_tag<N: Namer, A: Allocator + Copy>(
+    alloc: A,
+    repo: &Repo<N, A>,
+    text: &[u8],
+    message: Option<&[u8]>,
+) -> bool {
+    match shown(alloc, repo, text) {
+        Ok(Shown::Object(_, name)) => has_message(repo, &name, message),
+        _ => false,
     }
 }
 
@@ -296,6 +354,8 @@ fn is_answered<N: Namer, A: Allocator + Copy>(
             shows_commit(alloc, repo, text, tree, parents, message)
         }
         Question::NoCommit(text, fault) => commit_of(alloc, repo, text, b"") == Err(fault),
+        Question::Body(text, body) => shows_body(alloc, repo, text, body),
+        Question::Tag(text, message) => shows_tag(alloc, repo, text, message),
         _ => is_history_answered(alloc, repo, question),
     }
 }

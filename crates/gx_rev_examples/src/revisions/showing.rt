@@ -55,6 +55,21 @@ const OBJECTS: &[Question] = &[
     Question::Submodule(b"link:sub", FIRST),
 ];
 
+const BODIES: &[Question] = &[
+    Question::Body(b"main:test.txt", b"version 2\n"),
+    Question::Body(b"main^:test.txt", b"version 1\n"),
+    Question::Body(b"y^{tree}", b""),
+    Question::Tag(b"v1", Some(b"one")),
+    Question::Tag(b"v1^{}", None),
+    Question::Tag(b"main:", None),
+];
+
+#[test]
+fn held_objects_have_their_bodies(rt: HostRuntime) -> Result<(), Fail> {
+    let state = RandomState::new(&rt)?;
+    ask(rt.alloc(), Sha1Namer, state, BRANCHES, BODIES)
+}
+
 #[test]
 fn revisions_show_objects(rt: HostRuntime) -> Result<(), Fail> {
     let state = RandomState::new(&rt)?;

@@ -1,5 +1,5 @@
 -- The items of refs: what each ref's object gives, and one ref after the other.
-use Rattle.std.proofs.Common.{◌≡◌, ◌≢◌, List, [], ◌∷◌, ◌++◌, map, Option, Some, None, Ok, refl, subst, ap, ◌∙◌}
+use Rattle.std.proofs.Common.{◌≡◌, ◌≢◌, List, [], ◌∷◌, ◌++◌, map, Some, None, Ok, refl, subst, ap, ◌∙◌}
 use Rattle.std.specs.Prelude.{IsTrue, is_some}
 use Rattle.std.proofs.lemmas.Grind.{flat_map-append}
 use Rattle.std.proofs.lemmas.List.{append-nil, map-append}

@@ -1,4 +1,4 @@
-use Rattle.std.proofs.Common.{◌≡◌, ◌∙◌, ap, sym, subst, Some}
+use Rattle.std.proofs.Common.{◌∙◌, ap, sym, subst, Some}
 use Rattle.std.specs.Prelude.{IsTrue, is_some}
 use Rattle.gx_model.specs.Streams.Commands.{Marked, Reset}
 use Rattle.gx_model.specs.Export.{command_items, number_in, ref_command}
@@ -9,7 +9,7 @@ use Rattle.gx_model.proofs.PeeledRefs.{target_peels}
 use Rattle.gx_export.specs.Outputs.{Writes}
 use Rattle.gx_export.specs.Texts.{command_text, tag_command}
 use Rattle.gx_export.proofs.Numbering.{adds_bytes}
-use Rattle.gx_export.proofs.RefLines.{other_kind, parts_of_tag, reset_is, tag_held}
+use Rattle.gx_export.proofs.RefLines.{other_kind, reset_is, tag_held}
 use Rattle.gx_export.proofs.refs.write_ref.Goals as goal
 
 pub tag_of-requires : goal.tag_of-requires

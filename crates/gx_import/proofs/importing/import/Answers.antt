@@ -3,10 +3,12 @@ use Rattle.gx_model.specs.Histories.{Records}
 use Rattle.gx_model.specs.Records.Sound.{IsSound}
 use Rattle.gx_import.proofs.ExportedAgain.{accepted, stopped}
 use Rattle.gx_import.proofs.RefusedExports.{null_refused}
+use Rattle.gx_import.specs.Exported.{KeepsNoNullGitlink}
+use Rattle.gx_import.specs.Imports.{Imports}
 use Rattle.gx_import.specs.Keeping.{left_of}
 use Rattle.gx_import.specs.Standing.{Extends}
 use Rattle.gx_import.proofs.KeptCheckpoints.{front_left}
-use Rattle.gx_import.proofs.Publications.{stands_replayed}
+use Rattle.gx_import.proofs.Publications.{as_before, stands_replayed}
 use Rattle.gx_import.proofs.importing.import.Goals as goal
 
 pub replay_and_publish-requires : goal.replay_and_publish-requires
@@ -60,3 +62,22 @@ returns-clause-nulls g c =
     let name = g.N.Namer.name_of c.args.repo.now.0 in
     null_refused name (c.histories_of_records.ensures name (g.met.N.Namer.is_namer c.args.repo.now.0)) c.nulls_are_refused.ensures c.args.repo.now.1 (left_of c.replay_and_publish.new.checkpoints c.replay_and_publish.new.repo.1)
     (g.R.Source.coming c.args.source) (g.W.Sink.taken c.args.sink.now) (g.W.Sink.taken c.replay_and_publish.new.sink) (Err c.in-Err.fault) c.in-Err.ensures.replayed
+
+pub returns-in-Ok-clause-replayed : goal.returns-in-Ok-clause-replayed
+returns-in-Ok-clause-replayed g c = c.in-Ok.ensures.replayed
+
+pub returns-in-Ok-clause-gitlinks : goal.returns-in-Ok-clause-gitlinks
+returns-in-Ok-clause-gitlinks g c = c.in-Ok.ensures.gitlinks
+
+pub returns-clause-replayed : goal.returns-clause-replayed
+returns-clause-replayed g c =
+    let replays : g.row.N.Denot × Records → Type 0 = λ r. Imports (g.N.Namer.name_of c.args.repo.now.0) c.args.repo.now.1 r.1 (g.R.Source.coming c.args.source) (g.W.Sink.taken c.args.sink.now) (g.W.Sink.taken c.replay_and_publish.new.sink) (Err c.in-Err.fault) in
+    subst replays (sym c.truncate.ensures) c.in-Err.ensures.replayed
+
+pub returns-clause-gitlinks : goal.returns-clause-gitlinks
+returns-clause-gitlinks g c = subst (λ (r : g.row.N.Denot × Records). KeepsNoNullGitlink c.args.repo.now.1 r.1) (sym c.truncate.ensures) c.in-Err.ensures.gitlinks
+
+pub returns-clause-unchanged : goal.returns-clause-unchanged
+returns-clause-unchanged g c = λ zero.
+    let none = c.in-Err.ensures.left.none (sym c.in-Err.ensures.counted ∙ zero) in
+    as_before c.args.repo.now.0 c.replay_and_publish.new.repo.0 c.args.repo.now.1 c.replay_and_publish.new.repo.1 c.replay_and_publish.new.checkpoints.records c.truncate.new.self c.truncate.ensures none.0 c.replay_and_publish.ensures.extends c.replay_and_publish.ensures.namer none.1

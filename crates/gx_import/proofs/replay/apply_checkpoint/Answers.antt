@@ -1,0 +1,14 @@
+use Rattle.std.proofs.Common.{length, refl, ap, ◌∙◌}
+use Rattle.gx_import.proofs.replay.apply_checkpoint.Goals as goal
+
+pub publish-requires-clause-stands : goal.publish-requires-clause-stands
+publish-requires-clause-stands g c = c.requires.stands
+
+pub returns-clause-next : goal.returns-clause-next
+returns-clause-next g c = record { count = refl; records = c.len-checkpoints.ensures.count ∙ ap (λ z. length z.1) c.store.ensures.held; targets = c.store.ensures.sound.held }
+
+pub returns-clause-published : goal.returns-clause-published
+returns-clause-published g c = c.in_ok-publish.ensures.published
+
+pub returns-clause-entered : goal.returns-clause-entered
+returns-clause-entered g c = c.in_ok-publish.ensures.entered

@@ -15,6 +15,8 @@ from pathlib import Path
 TOP = Path(__file__).resolve().parent.parent
 CLAUSE = re.compile(r"^\s*(?:(?:requires|ensures)\b|ghost \w+ =)")
 DEFINED = re.compile(r"^ *(?:abbrev |unfoldable )?pub (?:record |data )?(?P<name>[^\s:]+) ")
+# A definition of its own, not a field of a record, a part of a module with parameters, or a module.
+AT_TOP = re.compile(r"^(?:abbrev |unfoldable )?pub (?!mod )(?:record |data )?(?P<name>[^\s:]+) ")
 
 
 def files(pattern):
@@ -36,12 +38,12 @@ def clauses():
             at += 1
 
 
-def defined_twice():
+def defined_twice(pattern=DEFINED):
     """The names that more than one file of specs defines, with the files."""
     found = defaultdict(set)
     for path in files("specs/**/*.antt"):
         for line in path.read_text().splitlines():
-            match = DEFINED.match(line)
+            match = pattern.match(line)
             if match:
                 found[match.group("name")].add(path.relative_to(TOP))
     return {name: paths for name, paths in found.items() if len(paths) > 1}
@@ -62,7 +64,7 @@ def main():
     print(f"clauses: {len(every)}")
     for most in (100, 160):
         print(f"of more than {most} columns: {sum(1 for clause in every if len(clause[2]) > most)}")
-    print(f"names that several files of specs define: {len(defined_twice())}")
+    print(f"names that several files of specs define: {len(defined_twice())}, of definitions at the top of a file: {len(defined_twice(AT_TOP))}")
     for what, pattern in [("code", "src/**/*.rt"), ("definitions", "specs/**/*.antt"), ("proofs", "proofs/**/*.antt")]:
         print(f"lines of {what}: {lines_of(pattern)}")
     print(f"wrong bodies: {len(files('must-fail/*.edit'))}")

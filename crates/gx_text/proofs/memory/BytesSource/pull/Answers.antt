@@ -1,7 +1,7 @@
-use Rattle.std.proofs.Common.{◌≡◌, ℕ, zero, ◌<◌, min, [], length, Bool, true, false, Result, Ok, Err, Some, refl, sym, subst, ap, drop, take, ◌∙◌, arith}
+use Rattle.std.proofs.Common.{◌≡◌, ℕ, ◌<◌, min, [], length, Bool, true, false, Result, Ok, Err, Some, refl, subst, arith}
 use Rattle.std.proofs.lemmas.List.{nil_from_length}
 use Rattle.gx_model.specs.Texts.{Bytes}
-use Rattle.gx_text.specs.Devices.{Coming, Supply, PullsFrom}
+use Rattle.gx_text.specs.Devices.{Supply, PullsFrom}
 use Rattle.gx_text.specs.declared.device.Failed.{Failed}
 use Rattle.gx_text.proofs.memory.BytesSource.pull.Goals as goal
 use Rattle.gx_text.proofs.memory.BytesSource.pull.Goals.{then-self, else-self}

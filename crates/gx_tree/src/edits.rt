@@ -7,7 +7,7 @@ ghost use Rattle.gx_model.specs.Histories.Files.{sub_map};
 ghost use Rattle.gx_model.specs.Texts.Paths.{path_text};
 ghost use Rattle.gx_tree.specs.Edits.{Grafts, GraftsItem, IsLeftOf, IsLeftOfLent, PutsFile, PutsFileAt, PutsFileBelow, TakesBelow, level_in};
 ghost use Rattle.gx_tree.specs.Homes.{Keeps, Both, IfThere, AreAtHome, IsItemAtHome, IsLentAtHome};
-ghost use Rattle.gx_tree.specs.Named.{IsAtHome, KeepsHome};
+ghost use Rattle.gx_tree.specs.Named.{IsAtHome, KeepsHome, nothing};
 ghost use Rattle.gx_tree.specs.Nodes.{IsKept, IsLevel, map_if, mark, IsKeptAt};
 ghost use Rattle.gx_tree.specs.Steps.{is_made};
 ghost use Rattle.gx_tree.specs.Views.{shown_item, shown_lent};
@@ -61,6 +61,23 @@ impl<A: Allocator + Copy> Directory<A> {
         let new = Entry::new(alloc, component, item)?;
         let entries = with_entry(alloc, self.entries.as_slice(), new)?;
         Directory::of(alloc, entries, None)
+    }
+
+    /// The directory of an item at the rest of the path alone.
+    #[cycle(graft)]
+    pub(crate) fn of_item(
+        alloc: A,
+        path: &TreePath<A>,
+        depth: usize,
+        item: Item<A>,
+    ) -> Result<Directory<A>, AllocError>
+        requires within { depth < length path.now }
+        requires kept { IsKept (shown_item item) }
+        ensures files { IfOk result (Grafts (drop depth path.now) (shown_item item) nothing) }
+        ensures home { IfOk result (Keeps IsItemAtHome IsAtHome item) }
+    {
+        let empty = Directory::new(alloc)?;
+        empty.grafted(alloc, path, depth, item)
     }
 
     /// The directory without what stands at or below the rest of the path.
@@ -319,8 +336,7 @@ fn new_item<A: Allocator + Copy>(
     if depth + 1 == length {
         return Ok(item);
     }
-    let below = Directory::new(alloc)?.grafted(alloc, path, depth + 1, item)?;
-    Ok(Item::Folder(below))
+    Ok(Item::Folder(Directory::of_item(alloc, path, depth + 1, item)?))
 }
 
 // The bytes of the path behind the component at `depth`, where the path from it on has `bytes`.
@@ -350,11 +366,10 @@ fn item_grafted<A: Allocator + Copy>(
     if depth + 1 == length {
         return Ok(item);
     }
-    let below = match folder_in(old) {
-        Some(below) => below.grafted(alloc, path, depth + 1, item)?,
-        None => Directory::new(alloc)?.grafted(alloc, path, depth + 1, item)?,
-    };
-    Ok(Item::Folder(below))
+    match folder_in(old) {
+        Some(below) => Ok(Item::Folder(below.grafted(alloc, path, depth + 1, item)?)),
+        None => Ok(Item::Folder(Directory::of_item(alloc, path, depth + 1, item)?)),
+    }
 }
 
 // What is left of an item where what stands below it at the path is removed.

@@ -134,7 +134,7 @@ impl<A: Allocator + Copy> Root<A> {
     {
         match &self.node {
             Some(node) => Ok(Root::of(node.grafted(alloc, path, 0, item)?)),
-            None => Ok(Root::of(Directory::new(alloc)?.grafted(alloc, path, 0, item)?)),
+            None => Ok(Root::of(Directory::of_item(alloc, path, 0, item)?)),
         }
     }
 

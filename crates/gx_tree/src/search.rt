@@ -18,31 +18,10 @@ pub(crate) fn find<'a, A: Allocator + Copy>(
     ensures kept { kept_at component.now (shown_entries entries.now) ≡ shown_lent result }
     ensures home { Keeps AreAtHome IsLentAtHome entries.now result }
 {
-    match find_marked(entries, component, b"") {
-        Some(file) => Some(file),
-        None => find_marked(entries, component, b"/"),
+    match place_at(entries, component) {
+        Some(place) => Some(&entries[place].item),
+        None => None,
     }
-}
-
-// What stands at a component, if this follows it in the order.
-fn find_marked<'a, A: Allocator + Copy>(
-    entries: &'a [Entry<A>],
-    component: &[u8],
-    mark: &[u8],
-) -> Option<&'a Item<A>>
-    requires { IsLevel (shown_entries entries.now) }
-    ensures kept { Finds component.now mark.now (shown_entries entries.now) (shown_lent result) }
-    ensures home { Keeps AreAtHome IsLentAtHome entries.now result }
-{
-    let place = place_of(entries, component, mark);
-    if place == 0 {
-        return None;
-    }
-    let last = &entries[place - 1];
-    if last.component() == component {
-        return Some(&last.item);
-    }
-    None
 }
 
 /// The place of an entry of a component, if this follows it in the order.

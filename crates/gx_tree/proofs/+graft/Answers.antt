@@ -1,16 +1,15 @@
-use Rattle.std.proofs.Common.{◌≡◌, ◌+◌, drop, refl, sym, ap, ◌∙◌, arith, subst}
+use Rattle.std.proofs.Common.{◌+◌, drop, refl, sym, ap, ◌∙◌, arith, subst}
 use Rattle.std.proofs.lemmas.Bool.{and_parts}
 use Rattle.std.proofs.lemmas.Result.{IfOk-weaker}
 use Rattle.gx_tree.specs.Homes.{AreAtHome, IsItemAtHome}
 use Rattle.gx_tree.specs.Named.{IsAtHome}
-use Rattle.gx_tree.specs.Nodes.{kept_map, with_kept}
-use Rattle.gx_tree.specs.Steps.{files_of, grafted}
+use Rattle.gx_tree.specs.Nodes.{folder, kept_map, with_kept}
+use Rattle.gx_tree.specs.Steps.{grafted}
 use Rattle.gx_tree.specs.Views.{shown_item, shown_lent, shown_entries}
 use Rattle.gx_tree.proofs.Below.{no_root_before}
 use Rattle.gx_tree.proofs.EditSteps.{grafted_step, kept_grafted_folder}
 use Rattle.gx_tree.proofs.Homes.{items_are_those, entries_at_home, files_same, made_at_home}
 use Rattle.gx_tree.proofs.+graft.Goals as goal
-use Rattle.gx_tree.proofs.+graft.Goals.{edits::item_grafted-in-Some+in_ok-below-in-Some, edits::item_grafted-in-None+in_ok-new-in-None+in_ok-below-in-None}
 
 pub directory::Directory::grafted-returns : goal.directory::Directory::grafted-returns
 directory::Directory::grafted-returns g t c =
@@ -32,18 +31,28 @@ directory::Directory::grafted-of-requires-clause-level g t c =
     let leaves = grafted_step c.args.path.now c.args.depth (shown_entries c.self.inside.entries.value.items) (shown_entries c.in_ok-entries.entries.items) (shown_item c.args.item) (shown_lent c.find-old.result) c.requires.within c.requires.kept (and_parts _ _ c.component-component.ensures.path).0 (files_same c.self.view_is) c.self.invariant.0 c.component-component.ensures.component refl (ap shown_entries (items_are_those c.as_slice.ensures.value c.deref.ensures)) (ap shown_entries (items_are_those c.as_slice-2.ensures.value c.deref-2.ensures)) c.find-old.ensures.kept c.in_ok-item.ensures.kept new in
     leaves.level
 
-pub edits::item_grafted-returns : goal.edits::item_grafted-returns
-edits::item_grafted-returns g t c =
+pub edits::item_grafted-returns-in_ok-grafted-in-Some : goal.edits::item_grafted-returns-in_ok-grafted-in-Some
+edits::item_grafted-returns-in_ok-grafted-in-Some g t c =
     let q = drop (c.args.depth + 1) c.args.path.now in
     let n = no_root_before c.args.path.now (c.args.depth + 1) (omega (arith, c.requires.within)) in
-    let below : c.match-folder_in.below.files ≡ grafted q (kept_map (shown_item c.args.item)) (files_of (shown_lent c.args.old)) = elim c.match-folder_in.branch [
-      | edits::item_grafted-in-Some+in_ok-below-in-Some w ↦ rw w.below-is (w.in_ok-below-in-Some.ensures.files ∙ ap (grafted q (kept_map (shown_item c.args.item))) (sym w.in-Some.ensures.files))
-      | edits::item_grafted-in-None+in_ok-new-in-None+in_ok-below-in-None w ↦ rw w.below-is (w.in_ok-below-in-None.ensures.files ∙ ap (grafted q (kept_map (shown_item c.args.item))) (files_same w.in_ok-new-in-None.ensures ∙ sym w.in-None.ensures.files))
-    ] in
     record {
-      kept = rw below (kept_grafted_folder q (shown_item c.args.item) (shown_lent c.args.old) n);
-      home = λ name rs h. elim c.match-folder_in.branch [
-        | edits::item_grafted-in-Some+in_ok-below-in-Some w ↦ rw w.below-is (w.in_ok-below-in-Some.ensures.home name rs (h.0, w.in-Some.ensures.home name rs h.1))
-        | edits::item_grafted-in-None+in_ok-new-in-None+in_ok-below-in-None w ↦ rw w.below-is (w.in_ok-below-in-None.ensures.home name rs (h.0, subst (IsAtHome name rs) (sym w.in_ok-new-in-None.ensures) tt))
-      ];
+      kept = ap folder (c.in_ok-grafted-in-Some.ensures.files ∙ ap (grafted q (kept_map (shown_item c.args.item))) (sym c.in-Some.ensures.files)) ∙ kept_grafted_folder q (shown_item c.args.item) (shown_lent c.args.old) n;
+      home = λ name rs h. c.in_ok-grafted-in-Some.ensures.home name rs (h.0, c.in-Some.ensures.home name rs h.1);
+    }
+
+pub edits::item_grafted-returns-in_ok-of_item-in-None : goal.edits::item_grafted-returns-in_ok-of_item-in-None
+edits::item_grafted-returns-in_ok-of_item-in-None g t c =
+    let q = drop (c.args.depth + 1) c.args.path.now in
+    let n = no_root_before c.args.path.now (c.args.depth + 1) (omega (arith, c.requires.within)) in
+    record {
+      kept = ap folder (c.in_ok-of_item-in-None.ensures.files ∙ ap (grafted q (kept_map (shown_item c.args.item))) (sym c.in-None.ensures.files)) ∙ kept_grafted_folder q (shown_item c.args.item) (shown_lent c.args.old) n;
+      home = λ name rs h. c.in_ok-of_item-in-None.ensures.home name rs h.0;
+    }
+
+pub directory::Directory::of_item-returns : goal.directory::Directory::of_item-returns
+directory::Directory::of_item-returns g t c =
+    let none = c.in_ok-empty.ensures in
+    record {
+      files = IfOk-weaker c.grafted.result _ _ (λ d e. e ∙ ap (grafted (drop c.args.depth c.args.path.now) (kept_map (shown_item c.args.item))) (files_same none)) c.grafted.ensures.files;
+      home = IfOk-weaker c.grafted.result _ _ (λ d keeps name rs h. keeps name rs (h, subst (IsAtHome name rs) (sym none) tt)) c.grafted.ensures.home;
     }

@@ -14,7 +14,7 @@ use Rattle.gx_tree.specs.Steps.{kept_removed}
 use Rattle.gx_tree.specs.Views.{shown_item, shown_entry, shown_entries}
 use Rattle.gx_tree.specs.declared.directory.Entry.{Entry}
 use Rattle.gx_tree.proofs.EditSteps.{Leaves, removed_step}
-use Rattle.gx_tree.proofs.Homes.{all_first, all_rest}
+use Rattle.gx_tree.proofs.Homes.{all_first, all_joined, all_rest}
 use Rattle.gx_tree.proofs.InPlace.{in_place, others_after, others_same}
 use Rattle.gx_tree.proofs.Lookups.{all-filter}
 use Rattle.gx_tree.proofs.Searches.{after_at, kept_at_place}
@@ -54,6 +54,10 @@ set_aside : {X : Type 0} (xs : List X) (i : ℕ) (x : X) → remove (slice_set x
 set_aside [] i x = refl
 set_aside (y ∷ xs) zero x = refl
 set_aside (y ∷ xs) (suc i) x = ap (λ r. y ∷ r) (set_aside xs i x)
+
+-- what holds of each element holds of those that are left, once one is changed and goes
+pub all_gone : {X : Type 0} (P : X → Type 0) (xs : List X) (i : ℕ) (x : X) → AllByRecursion P xs → AllByRecursion P (remove (slice_set xs i x) i)
+all_gone P xs i x h = subst (AllByRecursion P) (sym (set_aside xs i x)) (all_joined P (take i xs) (drop (suc i) xs) (all_taken P xs i h) (all_left P xs (suc i) h))
 
 seen_without : {A : Type 0} (c : Bytes) (es : List (Entry A)) (i : ℕ) → IsLevel (shown_entries es) → IsEntryAt c es i → shown_entries (remove es i) ≡ others c (shown_entries es)
 seen_without c es i h at = map-append shown_entry (take i es) (drop (suc i) es) ∙ sym (others_at c es i h at)

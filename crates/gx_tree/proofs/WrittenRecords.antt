@@ -1,6 +1,6 @@
 -- Writing a directory's trees, entry by entry.
 use Rattle.std.proofs.Common.{◌≡◌, ℕ, ◌+◌, ◌<◌, ◌≤◌, List, [], ◌∷◌, ◌++◌, map, length, get_or, drop, take, Some, None, refl, sym, ap, ◌∙◌, subst}
-use Rattle.std.specs.Prelude.{Result, Ok, Err, IsErr, IsErrAnd}
+use Rattle.std.specs.Prelude.{Result, Ok, Err, IfOk, IsErr, IsErrAnd}
 use Rattle.std.proofs.lemmas.List.{append-nil, map_more, take-append-drop, take_all, map-append}
 use Rattle.std.proofs.lemmas.Bool.{false≢true}
 use Rattle.std.proofs.lemmas.Grind.{flat_map-append}
@@ -27,7 +27,7 @@ use Rattle.gx_tree.specs.declared.fault.TreeFault.TheVariants.{OutOfMemory, NoSu
 use Rattle.gx_tree.proofs.Copies.{seen_more}
 use Rattle.gx_tree.proofs.Levels.{IsInner-files}
 use Rattle.gx_model.proofs.Puts.{front_put, front_same, front_trans, put_all_more, put_all_stops, put_none, put_one}
-use Rattle.gx_tree.proofs.WrittenHomes.{own_entries}
+use Rattle.gx_tree.proofs.WrittenHomes.{own_entries, take_whole}
 use Rattle.gx_tree.proofs.TreeRecords.{entries-files, tree_records-files}
 
 module _ (name : Kind → Bytes → Bytes) where
@@ -130,3 +130,12 @@ pub put_extends : {N : Type 0} (old new : N × List Record) (r : Record) (a : Re
 put_extends old new r (Ok n) k p = record { namer = k; front = front_put old.1 new.1 r p.1 }
 put_extends old new r (Err store.OutOfMemory) k p = record { namer = k; front = front_same old.1 new.1 p.1 }
 put_extends old new r (Err store.NameHeld) k p = record { namer = k; front = front_same old.1 new.1 p.1 }
+
+-- where nothing is put, the store is as it was
+pub extends_same : {N : Type 0} (s : N × List Record) → Extends s s
+extends_same s = record { namer = refl; front = take_whole s.1 }
+
+-- where there is a fault, nothing is made
+pub made_of_none : {X Y : Type 0} (P : X → Type 0) (r : Result X Y) → IsErr r → IfOk r P
+made_of_none P (Ok x) e = absurd (false≢true e)
+made_of_none P (Err f) e = tt

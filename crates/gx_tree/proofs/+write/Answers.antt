@@ -1,23 +1,25 @@
-use Rattle.std.proofs.Common.{Vec, ◌≡◌, Err, Some, refl, sym, ap, ◌∙◌, subst, arith}
+use Rattle.std.proofs.Common.{Vec, ◌≡◌, ◌++◌, Err, Some, refl, sym, ap, ◌∙◌, subst, arith}
 use Rattle.std.specs.Prelude.{⊤}
 use Rattle.std.specs.List.{AllByRecursion}
 use Rattle.gx_model.specs.Records.Growth.{put_all, tree_records}
 use Rattle.gx_object.specs.declared.name.Name.{Name}
 use Rattle.gx_tree.specs.Homes.{AreAtHome, IsItemAtHome}
 use Rattle.gx_tree.specs.Named.{NamedTree}
-use Rattle.gx_tree.specs.Nodes.{IsLevel, components, files}
+use Rattle.gx_tree.specs.Nodes.{IsLevel, components, files, folder}
+use Rattle.gx_tree.specs.Rooms.{IsReach}
 use Rattle.gx_tree.specs.Views.{IsNamed, shown_item, shown_entry, shown_entries, RememberAll, Remembers}
 use Rattle.gx_tree.specs.Written.{AreWritten}
 use Rattle.gx_tree.specs.Writes.{PutsAll, kept_records, level_records, map_name, own_record}
 use Rattle.std.specs.declared.rc.Rc.{Rc}
 use Rattle.gx_tree.specs.declared.directory.Entry.{Entry}
 use Rattle.gx_tree.specs.declared.directory.Item.{Item}
+use Rattle.gx_tree.specs.declared.fault.TreeFault.TheVariants.{OutOfMemory}
 use Rattle.gx_tree.proofs.Copies.{alike_all, alike_more}
 use Rattle.gx_tree.proofs.HeldRecords.{all_held, still_held}
 use Rattle.gx_tree.proofs.Homes.{items_are_those, all_at, all_joined, entries_at_home, files_same}
-use Rattle.gx_tree.proofs.Measures.{item_less}
-use Rattle.gx_tree.proofs.WrittenHomes.{below_held, directory_written, entries_longer, item_longer, named_held, named_home, named_remember, put_all_again, shared_written}
-use Rattle.gx_tree.proofs.WrittenRecords.{all_written, below_stops, extends_trans, own_put, own_stops, passed_on, writing_more, writing_stops}
+use Rattle.gx_tree.proofs.Measures.{item_less, item_measure}
+use Rattle.gx_tree.proofs.WrittenHomes.{below_held, directory_written, entries_longer, item_longer, named_held, named_home, named_remember, put_all_again, shared_written, take_whole}
+use Rattle.gx_tree.proofs.WrittenRecords.{all_written, below_stops, extends_same, extends_trans, made_of_none, own_put, own_stops, passed_on, writing_more, writing_stops}
 use Rattle.gx_tree.proofs.+write.Goals as goal
 
 pub directory::Directory::written-returns-then-is_trusted-clause-puts : goal.directory::Directory::written-returns-then-is_trusted-clause-puts
@@ -199,3 +201,115 @@ writing::write_entries-returns-clause-made g t c = record {
   home = c.loop-entry.invariant.3;
   remember = c.loop-entry.invariant.4;
 }
+
+pub directory::Directory::written-invariant_of-result : goal.directory::Directory::written-invariant_of-result
+directory::Directory::written-invariant_of-result g t c =
+    let made = c.in_ok-entries.ensures.made in (
+      subst IsLevel (sym made.seen) c.self.invariant.0,
+      made.remember,
+      subst (λ l. IsReach c.self.inside.reach (files l)) (sym made.seen) c.self.invariant.2,
+    )
+
+pub directory::Directory::written-returns-in_err-shared-clause-extends : goal.directory::Directory::written-returns-in_err-shared-clause-extends
+directory::Directory::written-returns-in_err-shared-clause-extends g t c = extends_same c.args.store.now
+
+pub directory::Directory::written-returns-then-is_trusted-clause-extends : goal.directory::Directory::written-returns-then-is_trusted-clause-extends
+directory::Directory::written-returns-then-is_trusted-clause-extends g t c = extends_same c.args.store.now
+
+pub directory::Item::written-returns-in-File-clause-extends : goal.directory::Item::written-returns-in-File-clause-extends
+directory::Item::written-returns-in-File-clause-extends g t c = extends_same c.args.store.now
+
+pub writing::written_entries-returns-in_err-clone-clause-extends : goal.writing::written_entries-returns-in_err-clone-clause-extends
+writing::written_entries-returns-in_err-clone-clause-extends g t c = extends_same c.args.store.now
+
+pub writing::written_entries-returns-then-shares-clause-extends : goal.writing::written_entries-returns-then-shares-clause-extends
+writing::written_entries-returns-then-shares-clause-extends g t c = extends_same c.args.store.now
+
+pub writing::written_entries-returns-in_err-named-clause-extends : goal.writing::written_entries-returns-in_err-named-clause-extends
+writing::written_entries-returns-in_err-named-clause-extends g t c = extends_same c.args.store.now
+
+pub directory::Directory::written-returns-in_err-shared-clause-puts : goal.directory::Directory::written-returns-in_err-shared-clause-puts
+directory::Directory::written-returns-in_err-shared-clause-puts g t c = passed_on (tree_records (g.N.Namer.name_of c.args.store.now.0) c.args.self.now.files) c.args.store.now.1 c.args.store.now.1 c.from_residual.result OutOfMemory c.from_residual.ensures.0 c.from_residual.ensures.1 tt
+
+pub directory::Directory::written-returns-in_err-shared-clause-made : goal.directory::Directory::written-returns-in_err-shared-clause-made
+directory::Directory::written-returns-in_err-shared-clause-made g t c = made_of_none _ c.from_residual.result c.from_residual.ensures.0
+
+pub directory::Directory::written-returns-in_err-entries-clause-made : goal.directory::Directory::written-returns-in_err-entries-clause-made
+directory::Directory::written-returns-in_err-entries-clause-made g t c = made_of_none _ c.from_residual-in_err-entries.result c.from_residual-in_err-entries.ensures.0
+
+pub directory::Directory::written-returns-in_err-name-clause-made : goal.directory::Directory::written-returns-in_err-name-clause-made
+directory::Directory::written-returns-in_err-name-clause-made g t c = made_of_none _ c.from_residual-in_err-name.result c.from_residual-in_err-name.ensures.0
+
+pub directory::Item::written-written-requires : goal.directory::Item::written-written-requires
+directory::Item::written-written-requires g t c =
+    let name = g.N.Namer.name_of c.args.store.now.0 in
+    λ κs within. (
+      omega (arith, ap item_measure c.in-Folder.is, c.decreases),
+      (within.0, (within.1, λ trusts. subst (IsItemAtHome name c.args.store.now.1) c.in-Folder.is (c.requires.home trusts))),
+    )
+
+pub directory::Item::written-returns-in_err-below-in-Folder-clause-made : goal.directory::Item::written-returns-in_err-below-in-Folder-clause-made
+directory::Item::written-returns-in_err-below-in-Folder-clause-made g t c = made_of_none _ c.from_residual.result c.from_residual.ensures.0
+
+pub directory::Item::written-returns-in_ok-below-in-Folder-clause-puts : goal.directory::Item::written-returns-in_ok-below-in-Folder-clause-puts
+directory::Item::written-returns-in_ok-below-in-Folder-clause-puts g t c =
+    let name = g.N.Namer.name_of c.args.store.now.0 in
+    subst (λ i. put_all c.args.store.now.1 (kept_records name (shown_item i)) ≡ Some c.written.new.store.1) (sym c.in-Folder.is) c.in_ok-below-in-Folder.ensures.puts
+
+pub directory::Item::written-returns-in_ok-below-in-Folder-clause-made : goal.directory::Item::written-returns-in_ok-below-in-Folder-clause-made
+directory::Item::written-returns-in_ok-below-in-Folder-clause-made g t c =
+    let made = c.in_ok-below-in-Folder.ensures.made in
+    record { kept = ap folder made.files ∙ ap shown_item (sym c.in-Folder.is); home = made.home; remembers = made.remembers }
+
+pub writing::write_entries-loop-entry-init : goal.writing::write_entries-loop-entry-init
+writing::write_entries-loop-entry-init g t c =
+    let name = g.N.Namer.name_of c.args.store.now.0 in
+    let none = sym c.requires.empty in (
+      extends_same c.args.store.now,
+      refl,
+      ap (λ z. shown_entries z ++ shown_entries c.args.entries.now) c.requires.empty,
+      subst (AreAtHome name c.args.store.now.1) none tt,
+      subst RememberAll none tt,
+    )
+
+pub writing::write_entries-returns-in_err-with-clause-puts : goal.writing::write_entries-returns-in_err-with-clause-puts
+writing::write_entries-returns-in_err-with-clause-puts g t c = passed_on (level_records (g.N.Namer.name_of c.args.store.now.0) (shown_entries c.args.entries.now)) c.args.store.now.1 c.written.new.store.1 c.from_residual-in_err-with.result OutOfMemory c.from_residual-in_err-with.ensures.0 c.from_residual-in_err-with.ensures.1 tt
+
+pub writing::written_entries-write_entries-requires : goal.writing::written_entries-write_entries-requires
+writing::written_entries-write_entries-requires g t c =
+    let name = g.N.Namer.name_of c.args.store.now.0 in
+    let those = items_are_those c.as_slice-2.ensures.value c.deref-3.ensures in
+    λ κs within. (
+      omega (arith, ap (λ z. components (files (shown_entries z))) those, c.decreases),
+      (
+        within.0,
+        (
+          within.1,
+          (
+            subst (λ z. IsLevel (shown_entries z)) (sym those) c.requires.level,
+            (λ trusts. subst (AreAtHome name c.args.store.now.1) (sym those) (c.requires.home trusts), c.in_ok-named.ensures.items),
+          ),
+        ),
+      ),
+    )
+
+pub writing::written_entries-returns-in_err-clone-clause-puts : goal.writing::written_entries-returns-in_err-clone-clause-puts
+writing::written_entries-returns-in_err-clone-clause-puts g t c = passed_on (level_records (g.N.Namer.name_of c.args.store.now.0) (shown_entries c.args.entries.now.value.items)) c.args.store.now.1 c.args.store.now.1 c.from_residual.result OutOfMemory c.from_residual.ensures.0 c.from_residual.ensures.1 tt
+
+pub writing::written_entries-returns-in_err-clone-clause-made : goal.writing::written_entries-returns-in_err-clone-clause-made
+writing::written_entries-returns-in_err-clone-clause-made g t c = made_of_none _ c.from_residual.result c.from_residual.ensures.0
+
+pub writing::written_entries-returns-in_err-named-clause-puts : goal.writing::written_entries-returns-in_err-named-clause-puts
+writing::written_entries-returns-in_err-named-clause-puts g t c = passed_on (level_records (g.N.Namer.name_of c.args.store.now.0) (shown_entries c.args.entries.now.value.items)) c.args.store.now.1 c.args.store.now.1 c.from_residual-in_err-named.result OutOfMemory c.from_residual-in_err-named.ensures.0 c.from_residual-in_err-named.ensures.1 tt
+
+pub writing::written_entries-returns-in_err-named-clause-made : goal.writing::written_entries-returns-in_err-named-clause-made
+writing::written_entries-returns-in_err-named-clause-made g t c = made_of_none _ c.from_residual-in_err-named.result c.from_residual-in_err-named.ensures.0
+
+pub writing::written_entries-returns-in_err-write_entries-clause-made : goal.writing::written_entries-returns-in_err-write_entries-clause-made
+writing::written_entries-returns-in_err-write_entries-clause-made g t c = made_of_none _ c.from_residual-in_err-write_entries.result c.from_residual-in_err-write_entries.ensures.0
+
+pub writing::written_entries-returns-clause-puts : goal.writing::written_entries-returns-clause-puts
+writing::written_entries-returns-clause-puts g t c =
+    let name = g.N.Namer.name_of c.args.store.now.0 in
+    let those = items_are_those c.as_slice-2.ensures.value c.deref-3.ensures in
+    subst (λ z. put_all c.args.store.now.1 (level_records name (shown_entries z)) ≡ Some c.write_entries.new.store.1) those c.in_ok-write_entries.ensures.puts

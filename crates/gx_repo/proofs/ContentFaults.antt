@@ -1,5 +1,5 @@
 -- What is against a body, by its parts.
-use Rattle.std.proofs.Common.{◌≡◌, Bool, true, false, not, ◌&&◌, ◌||◌, ◌<◌, ◌≤◌, ℕ, max, if◌then◌else◌, List, [], ◌∷◌, Option, Some, None, Result, Ok, Err, IsErrAnd, IfErr, suc, ◌+◌, drop, slice_get, refl, sym, ap, ◌∙◌, add-one, arith}
+use Rattle.std.proofs.Common.{◌≡◌, Bool, true, false, not, ◌&&◌, ◌||◌, ◌<◌, ◌≤◌, ℕ, max, if◌then◌else◌, List, [], ◌∷◌, Option, Some, None, Result, Ok, Err, IsErrAnd, IfErr, suc, ◌+◌, drop, slice_get, inr, refl, sym, ap, subst, ◌∙◌, add-one, arith}
 use Rattle.std.specs.List.{list_all, list_any}
 use Rattle.std.proofs.Math.Seq.{drop-cons}
 use Rattle.std.proofs.lemmas.Bool.{false_from_ne_true, le-leb, lt-leb}
@@ -16,7 +16,7 @@ use Rattle.gx_model.specs.Records.RecordFaults.{are_links_held, content_fault, h
 use Rattle.gx_model.specs.Laws.StoreLaws.{BodiesAreRead, IsBody}
 use Rattle.gx_repo.specs.declared.fault.AddFault.{AddFault}
 use Rattle.gx_repo.specs.declared.fault.AddFault.TheVariants.{Dangling}
-use Rattle.gx_repo.specs.Checking.{entry_room, wider, widest}
+use Rattle.gx_repo.specs.Checking.{IsAgainst, MayRefuse, entry_room, wider, widest}
 use Rattle.gx_repo.specs.Records.{add_fault}
 use Rattle.gx_repo.specs.Rooms.{room}
 use Rattle.gx_repo.proofs.EntryRooms.{room_of_entries}
@@ -74,6 +74,16 @@ pub dangling_passed : {X : Type 0} (rs : List Record) (k : Kind) (body : Bytes) 
     → IfErr answer (λ y. content_fault rs k body ≡ Some (add_fault y))
 dangling_passed rs k body (Ok x) f e is against = tt
 dangling_passed rs k body (Err y) f e is against = against ∙ ap (λ z. Some (add_fault z)) (sym (e ∙ is))
+
+-- what is against a body may refuse it
+pub may_refuse : {X : Type 0} (rs : List Record) (k : Kind) (body : Bytes) (answer : Result X AddFault) → IfErr answer (IsAgainst rs k body) → IfErr answer (MayRefuse rs k body)
+may_refuse rs k body (Ok x) h = tt
+may_refuse rs k body (Err f) h = inr h
+
+-- what refuses it, passed on
+pub refused_by : {X : Type 0} (rs : List Record) (k : Kind) (body : Bytes) (answer : Result X AddFault) (f : AddFault) → IsErrAnd answer (λ y. y ≡ f) → MayRefuse rs k body f → IfErr answer (MayRefuse rs k body)
+refused_by rs k body (Ok x) f e h = tt
+refused_by rs k body (Err y) f e h = subst (MayRefuse rs k body) (sym e) h
 
 -- ---- parents, one by one
 

@@ -1,6 +1,6 @@
 -- Refs by their names: what a binary search tells, and what it is to set the object of a ref that is held.
 use Rattle.std.proofs.Common.{◌≡◌, ℕ, ◌+◌, ◌<◌, Bool, true, false, cond, List, [], ◌∷◌, length, map, drop, get_or, set, arith, Some, None, Result, Ok, Err, IfOk, OnErr, refl, sym, ap, subst, ◌∙◌}
-use Rattle.std.specs.Prelude.{IsTrue, T, is_ok, is_some}
+use Rattle.std.specs.Prelude.{◌&&◌, IsTrue, T, is_ok, is_some}
 use Rattle.std.specs.Bool.{passes}
 use Rattle.std.specs.List.Sorted.{IsBinarySearchResult, IsSearchInRange}
 use Rattle.std.specs.Map.{lookup}
@@ -77,6 +77,17 @@ still_held n object refs (c ∷ cs) h =
         by : (b : Bool) → T (is_some (cond b (Some object) (find byte_cmp c.0 refs)))
         by true = tt
         by false = subst (λ o. T (is_some o)) (sym (found c.0 refs)) t
+
+-- of the changes that are left, the next is looked at first
+pub next_is_held : {A : Type 0} (refs : List (Ref A)) (changes : List RefChange) (i : ℕ) (d : RefChange) (b : Bool) → i < length changes → is_held (map shown_ref refs) (get_or changes i d).name.now ≡ b
+    → are_held (map shown_ref refs) (map shown_update (drop i changes)) ≡ (b && are_held (map shown_ref refs) (map shown_update (drop (i + 1) changes)))
+next_is_held refs changes i d b lt e =
+    ap (λ cs. are_held (map shown_ref refs) (map shown_update cs)) (drop_more changes i d lt) ∙ ap (λ a. a && are_held (map shown_ref refs) (map shown_update (drop (i + 1) changes))) e
+
+-- so a ref of its name is held where those of all that are left are
+pub held_next : {A : Type 0} (refs : List (Ref A)) (changes : List RefChange) (i : ℕ) (d : RefChange) → i < length changes → IsTrue (are_held (map shown_ref refs) (map shown_update (drop i changes)))
+    → IsTrue (is_held (map shown_ref refs) (get_or changes i d).name.now)
+held_next refs changes i d lt h = is_true _ (first _ _ (passes _ (sym (next_is_held refs changes i d _ lt refl) ∙ h)))
 
 -- one change more is made, and the others are left
 module _ {A : Type 0} (changes : List RefChange) (i : ℕ) (d : RefChange) (refs now : List (Ref A)) (lt : i < length changes) (sorted : IsTrue (is_sorted byte_cmp (map shown_ref refs)))

@@ -256,3 +256,11 @@ pub front_taken : (k : ℕ) (rs : List Record) (xs : List ℕ) → IsFront xs rs
 front_taken k rs xs its =
     let all : xs ++ drop (length xs) (rooms_of rs) ≡ rooms_of rs = ap (λ z. z ++ drop (length xs) (rooms_of rs)) its ∙ take-append-drop (length xs) (rooms_of rs) in
     taken_front k xs (drop (length xs) (rooms_of rs)) ∙ ap (λ z. take (length (take k xs)) (take k z)) all ∙ ap (take (length (take k xs))) (sym (rooms_taken k rs))
+
+-- the rooms of the first records are those of all, where there are no others
+pub front_of_all : (rs : List Record) (k : ℕ) (xs : List ℕ) → length rs ≡ k → IsFront xs (take k rs) → IsFront xs rs
+front_of_all rs k xs e its = subst (IsFront xs) (take_all k rs (omega (arith, e))) its
+
+-- so they are among all
+pub front_longer : (rs : List Record) (k : ℕ) (xs : List ℕ) → IsFront xs (take k rs) → length xs ≤ k → IsFront xs rs
+front_longer rs k xs its l = its ∙ ap (take (length xs)) (rooms_taken k rs) ∙ take_within (length xs) k (rooms_of rs) l

@@ -15,6 +15,7 @@ use Rattle.gx_model.specs.Records.Publishing.{with_changes}
 use Rattle.gx_model.proofs.PathTests.{first, second}
 use Rattle.gx_model.proofs.SortedRefs.{order}
 use Rattle.gx_object.specs.declared.name.Name.{Name}
+use Rattle.gx_repo.specs.Publishing.{Enters}
 use Rattle.gx_repo.specs.Refs.{shown_update, shown_ref, ref_of}
 use Rattle.gx_repo.specs.declared.refs.Ref.{Ref}
 use Rattle.gx_repo.specs.declared.publishing.RefChange.{RefChange}
@@ -58,24 +59,24 @@ module _ {A : Type 0} where
       ]
 
   -- what a map inserts at a copy of a name
-  put_copied : (name : Vec ℕ A) (copied : Bytes) (object : Name) (es now : List (Vec ℕ A × Name)) → name.items ≡ copied → now ≡ insert_entry name_cmp es name object → map ref_of now ≡ put byte_cmp copied object.bytes (map ref_of es)
+  pub put_copied : (name : Vec ℕ A) (copied : Bytes) (object : Name) (es now : List (Vec ℕ A × Name)) → name.items ≡ copied → now ≡ insert_entry name_cmp es name object → Enters es now copied object
   put_copied name copied object es now same made = ap (map ref_of) made ∙ put_named name object es ∙ ap (λ n. put byte_cmp n object.bytes (map ref_of es)) same
 
-  -- the next of refs in order, inserted into the map of those before it
-  pub one_more : (refs : List (Ref A)) (i : ℕ) (held : Ref A) (name : Vec ℕ A) (es now : List (Vec ℕ A × Name)) → IsTrue (is_sorted byte_cmp (map shown_ref refs)) → i < length refs → held ≡ get_or refs i held
-      → name.items ≡ held.name.items → now ≡ insert_entry name_cmp es name held.object → map ref_of es ≡ map shown_ref (take i refs) → map ref_of now ≡ map shown_ref (take (i + 1) refs)
+  -- the next of refs in order, entered among those before it
+  pub one_more : (refs : List (Ref A)) (i : ℕ) (held : Ref A) (name : Bytes) (es now : List (Vec ℕ A × Name)) → IsTrue (is_sorted byte_cmp (map shown_ref refs)) → i < length refs → held ≡ get_or refs i held
+      → name ≡ held.name.items → Enters es now name held.object → map ref_of es ≡ map shown_ref (take i refs) → map ref_of now ≡ map shown_ref (take (i + 1) refs)
   one_more refs i held name es now sorted lt is same made e =
-      put_copied name held.name.items held.object es now same made
+      made
+      ∙ ap (λ n. put byte_cmp n held.object.bytes (map ref_of es)) same
       ∙ ap (put byte_cmp held.name.items held.object.bytes) e
       ∙ ap (λ r. put byte_cmp r.name.items r.object.bytes (map shown_ref (take i refs))) is
       ∙ put_next shown_ref refs i held (passes _ sorted) lt
       ∙ ap (λ n. map shown_ref (take n refs)) (let more : suc i ≡ i + 1 = omega arith in more)
 
-  -- one change more is inserted, and the others are left
-  pub one_made : (changes : List RefChange) (i : ℕ) (d : RefChange) (name : Vec ℕ A) (es now : List (Vec ℕ A × Name)) (all : List (Bytes × Bytes)) → i < length changes
-      → name.items ≡ (get_or changes i d).name.now → now ≡ insert_entry name_cmp es name (get_or changes i d).target
+  -- one change more is entered, and the others are left
+  pub one_made : (changes : List RefChange) (i : ℕ) (d : RefChange) (es now : List (Vec ℕ A × Name)) (all : List (Bytes × Bytes)) → i < length changes
+      → Enters es now (get_or changes i d).name.now (get_or changes i d).target
       → with_changes (map ref_of es) (map shown_update (drop i changes)) ≡ all → with_changes (map ref_of now) (map shown_update (drop (i + 1) changes)) ≡ all
-  one_made changes i d name es now all lt same made e =
-      let change = get_or changes i d in
-      ap (λ refs. with_changes refs (map shown_update (drop (i + 1) changes))) (put_copied name change.name.now change.target es now same made)
+  one_made changes i d es now all lt made e =
+      ap (λ refs. with_changes refs (map shown_update (drop (i + 1) changes))) made
       ∙ sym (ap (λ cs. with_changes (map ref_of es) (map shown_update cs)) (drop_more changes i d lt)) ∙ e

@@ -1,11 +1,16 @@
 -- Which refs a list of changes gives, or why it is refused, as a fault of the model.
-use Rattle.std.specs.Prelude.{◌≡◌, List, map, Some, Result}
+use Rattle.std.specs.Prelude.{◌≡◌, ℕ, List, map, Some, Result}
+use Rattle.std.specs.FinMap.Entries.{put}
+use Rattle.std.specs.declared.vec.Vec.{Vec}
 use Rattle.gx_model.specs.declared.faults.Fault.{Fault}
 use Rattle.gx_model.specs.declared.faults.Fault.TheVariants as model
 use Rattle.gx_model.specs.Faults.{Gives}
 use Rattle.gx_model.specs.Histories.{Record, Records}
 use Rattle.gx_model.specs.Records.Publishing.{change_fault, changes_fault, published, with_changes}
-use Rattle.gx_repo.specs.Refs.{shown_update, shown_ref}
+use Rattle.gx_model.specs.Replay.{byte_cmp}
+use Rattle.gx_model.specs.Texts.{Bytes}
+use Rattle.gx_object.specs.declared.name.Name.{Name}
+use Rattle.gx_repo.specs.Refs.{ref_of, shown_update, shown_ref}
 use Rattle.gx_repo.specs.declared.fault.PublishFault.{PublishFault}
 use Rattle.gx_repo.specs.declared.fault.PublishFault.TheVariants.{OutOfMemory, BadRefName, UnknownObject, WrongKind}
 use Rattle.gx_repo.specs.declared.publishing.RefChange.{RefChange}
@@ -33,3 +38,11 @@ SetsRefs old new changes answer = Gives fault_of (λ _. new.refs) answer (publis
 -- the refs with these changes made in turn
 abbrev pub MakesChanges : {A : Type 0} → List (Ref A) → List (Ref A) → List RefChange → Type 0
 MakesChanges old new changes = map shown_ref new ≡ with_changes (map shown_ref old) (map shown_update changes)
+
+-- besides what was entered, an object is under a ref's name, in place of one that was
+abbrev pub Enters : {A : Type 0} → List (Vec ℕ A × Name) → List (Vec ℕ A × Name) → Bytes → Name → Type 0
+Enters old new name object = map ref_of new ≡ put byte_cmp name object.bytes (map ref_of old)
+
+-- what is entered is these refs with the changes made in turn
+abbrev pub EntersChanges : {A : Type 0} → List (Bytes × Bytes) → List (Vec ℕ A × Name) → List RefChange → Type 0
+EntersChanges old new changes = map ref_of new ≡ with_changes old (map shown_update changes)

@@ -1,5 +1,5 @@
 -- How much room the paths below trees take. Source: this project's own limit of 4,095 bytes for a path.
-use Rattle.std.specs.Prelude.{◌≡◌, ℕ, ◌+◌, take, List, [], ◌∷◌, length, map, max}
+use Rattle.std.specs.Prelude.{◌≡◌, ◌≢◌, ℕ, ◌+◌, take, List, [], ◌∷◌, ◌++◌, length, map, max}
 use Rattle.gx_model.specs.declared.objects.Kind.{Kind}
 use Rattle.gx_model.specs.Texts.{Bytes}
 use Rattle.gx_model.specs.Texts.Paths.{path_text}
@@ -35,6 +35,10 @@ rooms_of records = map (λ named. room_of named.1) (named_values records)
 -- the rooms of the first of these records
 abbrev pub IsFront : List ℕ → List Record → Type 0
 IsFront rooms records = rooms ≡ take (length rooms) (rooms_of records)
+
+-- the record that stands behind the first ones, where one does, is the last, and has this room
+abbrev pub IsRoomBehind : List Record → ℕ → ℕ → Type 0
+IsRoomBehind records count last = length records ≢ count → rooms_of records ≡ rooms_of (take count records) ++ last ∷ []
 
 -- the first records, which have these rooms
 abbrev pub entered : List ℕ → List Record → List Record

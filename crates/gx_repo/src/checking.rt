@@ -5,13 +5,14 @@ ghost use Rattle.gx_model.specs.Records.RecordFaults.{content_fault, is_held, is
 ghost use Rattle.gx_object.specs.Entries.{shown};
 ghost use Rattle.gx_store.specs.Stores.{place_named};
 ghost use Rattle.gx_repo.specs.declared.fault.AddFault.TheVariants.{Dangling};
-ghost use Rattle.gx_repo.specs.Checking.{IsAgainst, IsDangling, entry_room, wider};
-ghost use Rattle.gx_repo.specs.Rooms.{room_below, rooms_of};
+ghost use Rattle.gx_repo.specs.Checking.{IsAgainst, IsDangling, MayRefuse, entry_room, wider};
+ghost use Rattle.gx_repo.specs.Rooms.{IsFront, room_below, rooms_of};
 ghost use Rattle.gx_repo.specs.Earlier.{IsThere};
 ghost use Rattle.gx_repo.specs.Repositories.{IsSoundStore};
 
 use crate::earlier::Hints;
 use crate::fault::AddFault;
+use crate::rooms::enter_rooms;
 use gx_model::store_laws::bodies_are_read;
 use gx_object::{Entry, Kind, Mode, Name, Namer, decode_commit, decode_tag, decode_tree};
 use gx_store::Store;
@@ -20,11 +21,35 @@ use std::alloc::Allocator;
 /// The room of the longest path, of 4,095 bytes.
 const MOST_ROOM: usize = 4096;
 
+/// Does what `checked_room` does, once the rooms of all records are entered. Where a growth is refused for these, rooms are
+/// left as they were.
+pub(crate) fn entered_room<N: Namer, A: Allocator + Copy>(
+    store: &Store<N, A>,
+    rooms: &mut Vec<usize, A>,
+    hints: &Hints,
+    kind: Kind,
+    body: &[u8],
+) -> Result<usize, AddFault>
+    requires sound { IsSoundStore N.name_of store.now }
+    requires front { IsFront rooms.old.items store.now.1 }
+    ensures front { IsFront rooms.new.items store.now.1 }
+    ensures ok { IfOk result (λ _. content_fault store.now.1 kind body.now ≡ None) }
+    ensures room { IfOk result (λ room. room ≡ room_below store.now.1 kind body.now) }
+    ensures fault { IfErr result (MayRefuse store.now.1 kind body.now) }
+{
+    let entered = rooms.len();
+    let Ok(()) = enter_rooms(store, rooms) else {
+        rooms.truncate(entered);
+        return Err(AddFault::OutOfMemory);
+    };
+    checked_room(store, rooms.as_slice(), hints, kind, body)
+}
+
 /// The room of what is below an object, or what its body has against it.
 ///
 /// Cost: the body's length, and a look-up for each link, but for those of files that stand in the tree to which the hints
 /// lead; each entry is looked at once. Takes no memory.
-pub(crate) fn checked_room<N: Namer, A: Allocator + Copy>(
+fn checked_room<N: Namer, A: Allocator + Copy>(
     store: &Store<N, A>,
     rooms: &[usize],
     hints: &Hints,

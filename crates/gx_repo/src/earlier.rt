@@ -53,10 +53,12 @@ impl Hints {
         Earlier { next, rest }
     }
 
-    /// Enters the place at which the tree with this body is to stand.
-    pub(crate) fn enter(&mut self, body: &[u8], place: usize) {
-        self.by_first[first_slot(body)] = place;
-        self.by_last[last_slot(body)] = place;
+    /// Enters the place at which a tree with this body is to stand, and nothing for another kind.
+    pub(crate) fn enter(&mut self, kind: Kind, body: &[u8], place: usize) {
+        if kind == Kind::Tree {
+            self.by_first[first_slot(body)] = place;
+            self.by_last[last_slot(body)] = place;
+        }
     }
 }
 

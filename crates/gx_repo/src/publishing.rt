@@ -1,9 +1,9 @@
 //! Changes of refs. Source: git-check-ref-format(1).
-ghost use Rattle.std.specs.Prelude.{◌≡◌, map, IsTrue, IfOk};
+ghost use Rattle.std.specs.Prelude.{◌≡◌, [], map, IsTrue, IfOk, OnOk};
 ghost use Rattle.std.specs.FinMap.Entries.{is_sorted};
 ghost use Rattle.gx_model.specs.Replay.{byte_cmp};
 ghost use Rattle.gx_repo.specs.Refs.{are_held, shown_update, shown_ref, ref_of};
-ghost use Rattle.gx_repo.specs.Publishing.{MakesChanges};
+ghost use Rattle.gx_repo.specs.Publishing.{Enters, EntersChanges, MakesChanges};
 
 use crate::refs::{Ref, is_held, set_object};
 use gx_object::Name;
@@ -50,28 +50,68 @@ pub(crate) fn with_changes<A: Allocator + Copy>(
     requires sorted { IsTrue (is_sorted byte_cmp (map shown_ref refs.now)) }
     ensures { IfOk result (λ made. MakesChanges refs.now made.items changes.now) }
 {
-    let mut objects = by_name(alloc, refs)?;
-    for change in changes {
-        let name = Vec::from_slice(alloc, change.name)?;
-        objects.insert(name, change.target)?;
-    }
+    let mut objects = BTreeMap::new(alloc);
+    enter_changed(alloc, &mut objects, refs, changes)?;
     in_order(alloc, objects)
 }
 
-/// The objects of refs, each by a copy of its ref's name.
-fn by_name<A: Allocator + Copy>(
+/// Enters the objects of refs by their names, with the changes made in turn, where none is entered before.
+fn enter_changed<A: Allocator + Copy>(
     alloc: A,
+    objects: &mut BTreeMap<Vec<u8, A>, Name, A>,
     refs: &[Ref<A>],
-) -> Result<BTreeMap<Vec<u8, A>, Name, A>, AllocError>
+    changes: &[RefChange<'_>],
+) -> Result<(), AllocError>
+    requires none { objects.old.entries ≡ [] }
     requires sorted { IsTrue (is_sorted byte_cmp (map shown_ref refs.now)) }
-    ensures { IfOk result (λ objects. map ref_of objects.entries ≡ map shown_ref refs.now) }
+    ensures { OnOk result (EntersChanges (map shown_ref refs.now) objects.new.entries changes.now) }
 {
-    let mut objects = BTreeMap::new(alloc);
+    enter_refs(alloc, objects, refs)?;
+    enter_changes(alloc, objects, changes)
+}
+
+/// Enters the objects of refs, each by a copy of its ref's name, where none is entered before.
+fn enter_refs<A: Allocator + Copy>(
+    alloc: A,
+    objects: &mut BTreeMap<Vec<u8, A>, Name, A>,
+    refs: &[Ref<A>],
+) -> Result<(), AllocError>
+    requires none { objects.old.entries ≡ [] }
+    requires sorted { IsTrue (is_sorted byte_cmp (map shown_ref refs.now)) }
+    ensures { OnOk result (map ref_of objects.new.entries ≡ map shown_ref refs.now) }
+{
     for held in refs {
-        let name = Vec::from_slice(alloc, held.name.as_slice())?;
-        objects.insert(name, held.object)?;
+        enter(alloc, objects, held.name.as_slice(), held.object)?;
     }
-    Ok(objects)
+    Ok(())
+}
+
+/// Makes the changes in turn.
+fn enter_changes<A: Allocator + Copy>(
+    alloc: A,
+    objects: &mut BTreeMap<Vec<u8, A>, Name, A>,
+    changes: &[RefChange<'_>],
+) -> Result<(), AllocError>
+    ensures { OnOk result (EntersChanges (map ref_of objects.old.entries) objects.new.entries changes.now) }
+{
+    for change in changes {
+        enter(alloc, objects, change.name, change.target)?;
+    }
+    Ok(())
+}
+
+/// Enters an object by a copy of a ref's name.
+fn enter<A: Allocator + Copy>(
+    alloc: A,
+    objects: &mut BTreeMap<Vec<u8, A>, Name, A>,
+    name: &[u8],
+    object: Name,
+) -> Result<(), AllocError>
+    ensures { OnOk result (Enters objects.old.entries objects.new.entries name.now object) }
+{
+    let name = Vec::from_slice(alloc, name)?;
+    objects.insert(name, object)?;
+    Ok(())
 }
 
 /// The refs of objects by their names, in the byte order of names.
@@ -82,8 +122,20 @@ fn in_order<A: Allocator + Copy>(
     ensures { IfOk result (λ refs. map shown_ref refs.items ≡ map ref_of objects.entries) }
 {
     let mut refs = Vec::new(alloc);
+    add_in_order(&mut refs, objects)?;
+    Ok(refs)
+}
+
+/// Adds the refs of objects by their names, in the byte order of names.
+fn add_in_order<A: Allocator + Copy>(
+    refs: &mut Vec<Ref<A>, A>,
+    objects: BTreeMap<Vec<u8, A>, Name, A>,
+) -> Result<(), AllocError>
+    requires { refs.old.items ≡ [] }
+    ensures { OnOk result (map shown_ref refs.new.items ≡ map ref_of objects.entries) }
+{
     for (name, object) in objects {
         refs.push(Ref { name, object })?;
     }
-    Ok(refs)
+    Ok(())
 }

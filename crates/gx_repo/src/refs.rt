@@ -163,6 +163,10 @@ pub(crate) fn set_object<A: Allocator + Copy>(refs: &mut [Ref<A>], name: &[u8], 
 fn compare(text: &[u8], before: &[u8], word: &[u8], after: &[u8]) -> Ordering
     ensures { result ≡ byte_cmp text.now (before.now ++ word.now ++ after.now) }
 {
-    let joined = before.iter().chain(word.iter()).chain(after.iter());
-    text.iter().cmp(joined)
+    let (front, rest) = text.split_at(usize::min(before.len(), text.len()));
+    let (middle, end) = rest.split_at(usize::min(word.len(), rest.len()));
+    front
+        .cmp(before)
+        .then(middle.cmp(word))
+        .then(end.cmp(after))
 }

@@ -24,13 +24,13 @@ ghost use Rattle.gx_repo.specs.Calls.{AddsAnew, AddsCommit, AddsObject, AddsTag,
 ghost use Rattle.gx_repo.specs.Objects.{AreTargets, HoldsEach};
 ghost use Rattle.gx_repo.specs.Checking.{MayRefuse};
 
-use crate::checking::checked_room;
+use crate::checking::entered_room;
 use crate::earlier::Hints;
 use crate::fault::{AddFault, OutOfMemory, PublishFault};
 use crate::given::Given;
 use crate::publishing::{RefChange, are_held, set_objects, with_changes};
 use crate::refs::{Ref, Refs, find_by_names, find_near};
-use crate::rooms::enter_rooms;
+use crate::rooms::enter_room;
 use gx_model::repository_laws::{
     links_tell_values, parts_change, puts_add_values, trees_add_file_maps,
 };
@@ -393,15 +393,8 @@ impl<N: Namer, A: Allocator + Copy> Repo<N, A> {
         ensures fault { IfErr result (MayRefuse self.old.1.records kind body.now) }
     {
         parts_change();
-        let entered = self.rooms.len();
-        let Ok(()) = enter_rooms(&self.store, &mut self.rooms) else {
-            self.rooms.truncate(entered);
-            return Err(AddFault::OutOfMemory);
-        };
-        let room = checked_room(&self.store, self.rooms.as_slice(), &self.hints, kind, body)?;
-        if kind == Kind::Tree {
-            self.hints.enter(body, self.store.len());
-        }
+        let room = entered_room(&self.store, &mut self.rooms, &self.hints, kind, body)?;
+        self.hints.enter(kind, body, self.store.len());
         Ok(room)
     }
 
@@ -423,13 +416,7 @@ impl<N: Namer, A: Allocator + Copy> Repo<N, A> {
         puts_add_values();
         let held = self.store.len();
         let name = given.put(&mut self.store, kind)?;
-        if self.store.len() == held {
-            return Ok(name);
-        }
-        if self.rooms.len() < held {
-            return Ok(name);
-        }
-        let Ok(()) = self.rooms.push(room) else {
+        let Ok(()) = enter_room(&self.store, &mut self.rooms, held, room) else {
             self.store.truncate(held);
             return Err(StoreFault::OutOfMemory);
         };

@@ -4,7 +4,7 @@ ghost use Rattle.gx_model.specs.declared.objects.Kind.TheVariants as kinds;
 ghost use Rattle.gx_model.specs.declared.objects.Mode.TheVariants as modes;
 ghost use Rattle.gx_model.specs.Records.Sound.{IsHeldAs, IsLinked, IsTree};
 ghost use Rattle.gx_repo.specs.Places.{IsPlace};
-ghost use Rattle.gx_repo.specs.Rooms.{entered, room_at, room_below, rooms_of};
+ghost use Rattle.gx_repo.specs.Rooms.{IsFront, IsRoomBehind, entered, room_at, room_below, rooms_of};
 ghost use Rattle.gx_object.specs.Entries.{shown};
 ghost use Rattle.gx_repo.specs.Repositories.{IsSoundStore};
 
@@ -28,6 +28,28 @@ pub(crate) fn enter_rooms<N: Namer, A: Allocator + Copy>(
         let room = room_of(store, rooms.as_slice(), kind, body);
         rooms.push(room)?;
     }
+    Ok(())
+}
+
+/// Enters the room of the record that was added behind those that were held, where one was and all of these have theirs.
+pub(crate) fn enter_room<N: Namer, A: Allocator + Copy>(
+    store: &Store<N, A>,
+    rooms: &mut Vec<usize, A>,
+    held: usize,
+    room: usize,
+) -> Result<(), AllocError>
+    requires front { IsFront rooms.old.items (take held store.now.1) }
+    requires room { IsRoomBehind store.now.1 held room }
+    ensures ok { OnOk result (IsFront rooms.new.items store.now.1) }
+    ensures err { OnErr result (rooms.new.items ≡ rooms.old.items) }
+{
+    if store.len() == held {
+        return Ok(());
+    }
+    if rooms.len() < held {
+        return Ok(());
+    }
+    rooms.push(room)?;
     Ok(())
 }
 

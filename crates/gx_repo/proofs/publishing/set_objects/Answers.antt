@@ -1,5 +1,22 @@
-use Rattle.gx_repo.proofs.NamedRefs.{next_held, next_left, next_sorted}
+use Rattle.std.proofs.Common.{refl, sym, ap, ◌∙◌, map, drop_of_length-le}
+use Rattle.gx_model.specs.Records.Publishing.{with_changes}
+use Rattle.gx_repo.specs.Refs.{shown_update, shown_ref}
+use Rattle.gx_repo.proofs.NamedRefs.{held_next, next_held, next_left, next_sorted}
 use Rattle.gx_repo.proofs.publishing.set_objects.Goals as goal
+
+pub loop-change-init : goal.loop-change-init
+loop-change-init g c = record {
+  sorted = c.requires.sorted;
+  held = c.requires.held;
+  rest = refl;
+}
+
+pub set_object-requires-clause-held : goal.set_object-requires-clause-held
+set_object-requires-clause-held g c = held_next c.loop-change.refs c.args.changes.now c.loop-change.change-index _ c.loop-change-test.true c.loop-change.invariant.held
+
+pub returns : goal.returns
+returns g c =
+    sym (ap (λ cs. with_changes (map shown_ref c.loop-change.refs) (map shown_update cs)) (drop_of_length-le c.args.changes.now c.loop-change-test.false)) ∙ c.loop-change.invariant.rest
 
 pub loop-change-preserved : goal.loop-change-preserved
 loop-change-preserved g c =

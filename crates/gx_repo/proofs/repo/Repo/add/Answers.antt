@@ -9,19 +9,24 @@ use Rattle.gx_repo.specs.GivenBytes.{bytes_given}
 use Rattle.gx_repo.specs.Refs.{shown_ref}
 use Rattle.gx_repo.specs.Rooms.{IsFront, rooms_of}
 use Rattle.gx_repo.proofs.Additions.{put_grown, put_is_sound}
-use Rattle.gx_repo.proofs.HeldRecords.{keeps_front, keeps_same, put_held, put_holds, put_last}
-use Rattle.gx_repo.proofs.RecordRooms.{front_all, front_kept, front_whole, rooms_more}
+use Rattle.gx_repo.proofs.HeldRecords.{keeps_front, keeps_same, put_holds, put_last}
+use Rattle.gx_repo.proofs.RecordRooms.{rooms_more}
 use Rattle.gx_repo.proofs.repo.Repo.add.Goals as goal
 
-pub returns-then-len-held-clause-held : goal.returns-then-len-held-clause-held
-returns-then-len-held-clause-held g c =
-    let r = record_for (g.N.Namer.name_of c.self.inside.store.0) c.args.kind (bytes_given c.args.given.now) in
-    subst (Holds c.put.new.store.1 c.args.kind) (sym c.in_ok-name.ensures.puts.0) (put_holds c.self.inside.store.1 c.put.new.store.1 r c.in_ok-name.ensures.puts.1)
+pub enter_room-requires-clause-front : goal.enter_room-requires-clause-front
+enter_room-requires-clause-front g c =
+    let rs = c.self.inside.store.1 in
+    let r : Record = record_for (g.N.Namer.name_of c.self.inside.store.0) c.args.kind (bytes_given c.args.given.now) in
+    let old = ap (λ k. take k c.put.new.store.1) c.len-held.ensures.count ∙ front_put rs c.put.new.store.1 r c.in_ok-name.ensures.puts.1 in
+    subst (IsFront c.self.inside.rooms.items) (sym old) c.self.invariant.1
 
-pub returns-then-len-held-clause-keeps : goal.returns-then-len-held-clause-keeps
-returns-then-len-held-clause-keeps g c =
-    let r = record_for (g.N.Namer.name_of c.self.inside.store.0) c.args.kind (bytes_given c.args.given.now) in
-    subst (λ v. Keeps v.1.records c.put.new.store.1) c.self.view_is (keeps_front c.self.inside.store.1 c.put.new.store.1 (front_put c.self.inside.store.1 c.put.new.store.1 r c.in_ok-name.ensures.puts.1))
+pub enter_room-requires-clause-room : goal.enter_room-requires-clause-room
+enter_room-requires-clause-room g c =
+    let rs = c.self.inside.store.1 in
+    let r : Record = record_for (g.N.Namer.name_of c.self.inside.store.0) c.args.kind (bytes_given c.args.given.now) in
+    let room = rw (sym c.self.view_is) at c.requires.room in
+    let old = ap (λ k. take k c.put.new.store.1) c.len-held.ensures.count ∙ front_put rs c.put.new.store.1 r c.in_ok-name.ensures.puts.1 in
+    λ more. ap rooms_of (put_last rs c.put.new.store.1 r c.in_ok-name.ensures.puts.1 (λ e. more (e ∙ sym c.len-held.ensures.count))).0 ∙ rooms_more rs r ∙ (λ i. rooms_of (sym old i) ++ sym room i ∷ [])
 
 pub invariant_of-self-in-Ok : goal.invariant_of-self-in-Ok
 invariant_of-self-in-Ok g c =
@@ -29,15 +34,11 @@ invariant_of-self-in-Ok g c =
     let namer = g.met.N.Namer.is_namer c.self.inside.store.0 in
     let rs = c.self.inside.store.1 in
     let r : Records = record { records = rs; refs = map shown_ref c.self.inside.refs.items } in
-    let new : Record = record_for names c.args.kind (bytes_given c.args.given.now) in
     let l = rw (sym c.self.view_is) at c.requires.linked in
-    let s = rw (sym c.self.view_is) at c.requires.short in
-    let room = rw (sym c.self.view_is) at c.requires.room in
-    let last = put_last rs c.put.new.store.1 new c.in_ok-name.ensures.puts.1 (λ e. c.if-len-held.false (c.len.ensures.count ∙ e ∙ sym c.len-held.ensures.count)) in
-    let all = front_all rs c.self.inside.rooms.items c.self.invariant.1 (omega (arith, c.if-len-held-2.false, c.len-2.ensures, c.len-held.ensures.count)) in (
+    let s = rw (sym c.self.view_is) at c.requires.short in (
       subst (λ n. IsSound (g.N.Namer.name_of n) (record { records = c.put.new.store.1; refs = map shown_ref c.self.inside.refs.items })) (sym c.put.ensures.namer)
           (put_is_sound names (c.links_tell_values.ensures names namer) (c.puts_add_values.ensures names namer) r c.self.invariant.0 c.args.kind (bytes_given c.args.given.now) l s c.put.new.store.1 c.put.result c.put.ensures.puts),
-      front_whole c.put.new.store.1 c.push.new.self.items (c.in-Ok.ensures.items ∙ (λ i. all i ++ room i ∷ []) ∙ sym (rooms_more rs new) ∙ ap rooms_of (sym last.0)),
+      c.in-Ok.ensures.ok,
     )
 
 pub invariant_of-self-in_default : goal.invariant_of-self-in_default
@@ -48,7 +49,7 @@ invariant_of-self-in_default g c =
     let namer = ap (λ v. v.0) c.truncate.ensures ∙ c.put.ensures.namer in (
       subst (λ n. IsSound (g.N.Namer.name_of n) (record { records = c.truncate.new.self.1; refs = map shown_ref c.self.inside.refs.items })) (sym namer)
           (subst (λ z. IsSound (g.N.Namer.name_of c.self.inside.store.0) (record { records = z; refs = map shown_ref c.self.inside.refs.items })) (sym old) c.self.invariant.0),
-      subst (λ xs. IsFront xs c.truncate.new.self.1) (sym c.in_default.ensures.items) (subst (IsFront c.self.inside.rooms.items) (sym old) c.self.invariant.1),
+      subst (λ xs. IsFront xs c.truncate.new.self.1) (sym c.in_default.ensures.err) (subst (IsFront c.self.inside.rooms.items) (sym old) c.self.invariant.1),
     )
 
 pub returns-in_default-clause-adds : goal.returns-in_default-clause-adds
@@ -74,30 +75,6 @@ returns-clause-keeps g c =
     let r = record_for (g.N.Namer.name_of c.self.inside.store.0) c.args.kind (bytes_given c.args.given.now) in
     subst (λ v. Keeps v.1.records c.put.new.store.1) c.self.view_is (keeps_front c.self.inside.store.1 c.put.new.store.1 (front_put c.self.inside.store.1 c.put.new.store.1 r c.in_ok-name.ensures.puts.1))
 
-pub invariant_of-self-then-len-held : goal.invariant_of-self-then-len-held
-invariant_of-self-then-len-held g c =
-    let names = g.N.Namer.name_of c.self.inside.store.0 in
-    let namer = g.met.N.Namer.is_namer c.self.inside.store.0 in
-    let rs = c.self.inside.store.1 in
-    let r : Records = record { records = rs; refs = map shown_ref c.self.inside.refs.items } in
-    let l = rw (sym c.self.view_is) at c.requires.linked in
-    let s = rw (sym c.self.view_is) at c.requires.short in
-    let same = put_held rs c.put.new.store.1 (record_for names c.args.kind (bytes_given c.args.given.now)) c.in_ok-name.ensures.puts.1 (sym c.len.ensures.count ∙ c.if-len-held.true ∙ c.len-held.ensures.count) in (
-      subst (λ n. IsSound (g.N.Namer.name_of n) (record { records = c.put.new.store.1; refs = map shown_ref c.self.inside.refs.items })) (sym c.put.ensures.namer)
-          (put_is_sound names (c.links_tell_values.ensures names namer) (c.puts_add_values.ensures names namer) r c.self.invariant.0 c.args.kind (bytes_given c.args.given.now) l s c.put.new.store.1 c.put.result c.put.ensures.puts),
-      subst (IsFront c.self.inside.rooms.items) (sym same.0) c.self.invariant.1,
-    )
-
-pub returns-then-len-held-clause-history : goal.returns-then-len-held-clause-history
-returns-then-len-held-clause-history g c =
-    let names = g.N.Namer.name_of c.self.inside.store.0 in
-    let namer = g.met.N.Namer.is_namer c.self.inside.store.0 in
-    let r : Records = record { records = c.self.inside.store.1; refs = map shown_ref c.self.inside.refs.items } in
-    let l = rw (sym c.self.view_is) at c.requires.linked in
-    let s = rw (sym c.self.view_is) at c.requires.short in
-    subst (λ v. HasValues v.1 (record { records = c.put.new.store.1; refs = map shown_ref c.self.inside.refs.items }) (with_one (values_of v.1) (value_in (named_values v.1.records) c.args.kind (bytes_given c.args.given.now)))) c.self.view_is
-    (put_grown names (c.links_tell_values.ensures names namer) (c.puts_add_values.ensures names namer) r c.self.invariant.0 c.args.kind (bytes_given c.args.given.now) l s c.put.new.store.1 c.in_ok-name.ensures.puts.1).1
-
 pub returns-clause-history : goal.returns-clause-history
 returns-clause-history g c =
     let names = g.N.Namer.name_of c.self.inside.store.0 in
@@ -107,37 +84,3 @@ returns-clause-history g c =
     let s = rw (sym c.self.view_is) at c.requires.short in
     subst (λ v. HasValues v.1 (record { records = c.put.new.store.1; refs = map shown_ref c.self.inside.refs.items }) (with_one (values_of v.1) (value_in (named_values v.1.records) c.args.kind (bytes_given c.args.given.now)))) c.self.view_is
     (put_grown names (c.links_tell_values.ensures names namer) (c.puts_add_values.ensures names namer) r c.self.invariant.0 c.args.kind (bytes_given c.args.given.now) l s c.put.new.store.1 c.in_ok-name.ensures.puts.1).1
-
-pub returns-then-len-held-2-clause-held : goal.returns-then-len-held-2-clause-held
-returns-then-len-held-2-clause-held g c =
-    let r = record_for (g.N.Namer.name_of c.self.inside.store.0) c.args.kind (bytes_given c.args.given.now) in
-    subst (Holds c.put.new.store.1 c.args.kind) (sym c.in_ok-name.ensures.puts.0) (put_holds c.self.inside.store.1 c.put.new.store.1 r c.in_ok-name.ensures.puts.1)
-
-pub returns-then-len-held-2-clause-keeps : goal.returns-then-len-held-2-clause-keeps
-returns-then-len-held-2-clause-keeps g c =
-    let r = record_for (g.N.Namer.name_of c.self.inside.store.0) c.args.kind (bytes_given c.args.given.now) in
-    subst (λ v. Keeps v.1.records c.put.new.store.1) c.self.view_is (keeps_front c.self.inside.store.1 c.put.new.store.1 (front_put c.self.inside.store.1 c.put.new.store.1 r c.in_ok-name.ensures.puts.1))
-
-pub returns-then-len-held-2-clause-history : goal.returns-then-len-held-2-clause-history
-returns-then-len-held-2-clause-history g c =
-    let names = g.N.Namer.name_of c.self.inside.store.0 in
-    let namer = g.met.N.Namer.is_namer c.self.inside.store.0 in
-    let r : Records = record { records = c.self.inside.store.1; refs = map shown_ref c.self.inside.refs.items } in
-    let l = rw (sym c.self.view_is) at c.requires.linked in
-    let s = rw (sym c.self.view_is) at c.requires.short in
-    subst (λ v. HasValues v.1 (record { records = c.put.new.store.1; refs = map shown_ref c.self.inside.refs.items }) (with_one (values_of v.1) (value_in (named_values v.1.records) c.args.kind (bytes_given c.args.given.now)))) c.self.view_is
-    (put_grown names (c.links_tell_values.ensures names namer) (c.puts_add_values.ensures names namer) r c.self.invariant.0 c.args.kind (bytes_given c.args.given.now) l s c.put.new.store.1 c.in_ok-name.ensures.puts.1).1
-
-pub invariant_of-self-then-len-held-2 : goal.invariant_of-self-then-len-held-2
-invariant_of-self-then-len-held-2 g c =
-    let names = g.N.Namer.name_of c.self.inside.store.0 in
-    let namer = g.met.N.Namer.is_namer c.self.inside.store.0 in
-    let rs = c.self.inside.store.1 in
-    let r : Records = record { records = rs; refs = map shown_ref c.self.inside.refs.items } in
-    let l = rw (sym c.self.view_is) at c.requires.linked in
-    let s = rw (sym c.self.view_is) at c.requires.short in
-    let front = front_put rs c.put.new.store.1 (record_for names c.args.kind (bytes_given c.args.given.now)) c.in_ok-name.ensures.puts.1 in (
-      subst (λ n. IsSound (g.N.Namer.name_of n) (record { records = c.put.new.store.1; refs = map shown_ref c.self.inside.refs.items })) (sym c.put.ensures.namer)
-          (put_is_sound names (c.links_tell_values.ensures names namer) (c.puts_add_values.ensures names namer) r c.self.invariant.0 c.args.kind (bytes_given c.args.given.now) l s c.put.new.store.1 c.put.result c.put.ensures.puts),
-      front_kept rs c.put.new.store.1 c.self.inside.rooms.items c.self.invariant.1 front,
-    )

@@ -1,0 +1,37 @@
+use Rattle.std.proofs.Common.{◌≡◌, None, IfErr, [], map, refl, subst}
+use Rattle.gx_model.specs.Histories.{Records}
+use Rattle.gx_model.specs.Records.RecordFaults.{content_fault}
+use Rattle.gx_repo.specs.Checking.{MayRefuse}
+use Rattle.gx_repo.specs.Refs.{shown_ref}
+use Rattle.gx_repo.specs.Rooms.{room_below}
+use Rattle.gx_repo.proofs.ContentFaults.{refused_by}
+use Rattle.gx_repo.proofs.repo.Repo.room_of.Goals as goal
+
+pub entered_room-requires-clause-sound : goal.entered_room-requires-clause-sound
+entered_room-requires-clause-sound g c =
+    let names = g.N.Namer.name_of c.self.inside.store.0 in
+    let r : Records = record { records = c.self.inside.store.1; refs = map shown_ref c.self.inside.refs.items } in
+    ((c.parts_change.ensures names (g.met.N.Namer.is_namer c.self.inside.store.0)).refs r c.self.invariant.0 [] refl refl tt).0
+
+pub returns-in_err-room-clause-same : goal.returns-in_err-room-clause-same
+returns-in_err-room-clause-same g c = c.self.view_is
+
+pub returns-in_err-room-clause-fault : goal.returns-in_err-room-clause-fault
+returns-in_err-room-clause-fault g c =
+    subst (λ v. IfErr c.from_residual.result (MayRefuse v.1.records c.args.kind c.args.body.now)) c.self.view_is
+    (refused_by c.self.inside.store.1 c.args.kind c.args.body.now c.from_residual.result c.in_err-room.field-0.0 c.from_residual.ensures.1 c.in_err-room.ensures.fault)
+
+pub returns-clause-same : goal.returns-clause-same
+returns-clause-same g c = c.self.view_is
+
+pub returns-clause-ok : goal.returns-clause-ok
+returns-clause-ok g c = subst (λ v. content_fault v.1.records c.args.kind c.args.body.now ≡ None) c.self.view_is c.in_ok-room.ensures.ok
+
+pub returns-clause-room : goal.returns-clause-room
+returns-clause-room g c = subst (λ v. c.in_ok-room.room ≡ room_below v.1.records c.args.kind c.args.body.now) c.self.view_is c.in_ok-room.ensures.room
+
+pub invariant_of-self : goal.invariant_of-self
+invariant_of-self g c = (c.self.invariant.0, c.entered_room.ensures.front)
+
+pub invariant_of-self-2 : goal.invariant_of-self-2
+invariant_of-self-2 g c = (c.self.invariant.0, c.entered_room.ensures.front)

@@ -1,5 +1,5 @@
 -- What a put does to a sound repository, and to its history.
-use Rattle.std.proofs.Common.{◌≡◌, List, map, Some, Result, Ok, Err, sym, ap, subst, ◌∙◌}
+use Rattle.std.proofs.Common.{◌≡◌, ℕ, List, map, Some, Result, Ok, Err, IsErrAnd, sym, ap, subst, ◌∙◌}
 use Rattle.gx_model.specs.declared.objects.Kind.{Kind}
 use Rattle.gx_model.specs.Texts.{Bytes}
 use Rattle.gx_model.specs.Histories.Files.{FileMap}
@@ -15,12 +15,26 @@ use Rattle.gx_store.specs.declared.fault.StoreFault.{StoreFault}
 use Rattle.gx_store.specs.declared.fault.StoreFault.TheVariants.{OutOfMemory, NameHeld}
 use Rattle.gx_store.specs.Stores.{Puts}
 use Rattle.gx_tree.specs.Writes.{map_name}
+use Rattle.gx_model.proofs.Puts.{front_put}
 use Rattle.gx_repo.specs.Additions.{Adds, HasValues}
+use Rattle.gx_repo.specs.Rooms.{IsFront}
+use Rattle.gx_repo.proofs.RecordRooms.{front_kept}
 
 pub adds_by_put : (old new : List Record) (r : Record) (answer : Result Name StoreFault) → Puts old new r answer → Adds old new r answer
 adds_by_put old new r (Ok n) p = p
 adds_by_put old new r (Err OutOfMemory) p = p.1
 adds_by_put old new r (Err NameHeld) p = p
+
+-- a fault of a put, passed on
+pub adds_refused : (old new : List Record) (r : Record) (fault : StoreFault) (answer : Result Name StoreFault) → IsErrAnd answer (λ y. y ≡ fault) → Puts old new r (Err fault) → Adds old new r answer
+adds_refused old new r fault (Ok n) e p = absurd e
+adds_refused old new r fault (Err y) e p = subst (λ z. Adds old new r (Err z)) (sym e) (adds_by_put old new r (Err fault) p)
+
+-- the rooms of the first records are those of the first ones after a put
+pub front_after : (old new : List Record) (r : Record) (answer : Result Name StoreFault) → Puts old new r answer → (rooms : List ℕ) → IsFront rooms old → IsFront rooms new
+front_after old new r (Ok n) p rooms its = front_kept old new rooms its (front_put old new r p.1)
+front_after old new r (Err OutOfMemory) p rooms its = subst (IsFront rooms) (sym p.1) its
+front_after old new r (Err NameHeld) p rooms its = subst (IsFront rooms) (sym p.1) its
 
 module _ (name : Kind → Bytes → Bytes) (links : LinksTell name) (puts : PutsGrow name) (r : Records) (sound : IsSound name r)
     (kind : Kind) (body : Bytes) (linked : IsLinked r.records kind body) (short : HasShortPaths r.records (record_for name kind body)) (new : List Record) where

@@ -1,6 +1,6 @@
-use Rattle.std.proofs.Common.{◌≡◌, sym, ap, ◌∙◌, map, ◌++◌, append-nil, codes, drop}
+use Rattle.std.proofs.Common.{ap, ◌∙◌, map, ◌++◌, append-nil, codes, drop}
 use Rattle.std.specs.Map.{lookup}
-use Rattle.gx_model.specs.Texts.{Bytes, same_bytes}
+use Rattle.gx_model.specs.Texts.{same_bytes}
 use Rattle.gx_model.specs.Records.Lookups.{or_else, first_named}
 use Rattle.gx_model.specs.Revisions.Denotation.{ref_names}
 use Rattle.gx_repo.specs.Refs.{shown_ref}

@@ -1,14 +1,14 @@
-use Rattle.std.proofs.Common.{arith, ◌++◌, ◌∷◌, [], map, take, sym, subst, ap, ◌∙◌}
+use Rattle.std.proofs.Common.{◌++◌, ◌∷◌, [], map, take, sym, subst, ap, ◌∙◌}
 use Rattle.gx_model.specs.Histories.{Record, Records, record_for, with_one}
 use Rattle.gx_model.specs.Records.HistoryOf.{named_values, value_in}
 use Rattle.gx_model.specs.Laws.RepositoryLaws.{values_of}
 use Rattle.gx_model.specs.Records.Sound.{Holds, IsSound, Keeps}
 use Rattle.gx_model.proofs.Puts.{front_put}
-use Rattle.gx_repo.specs.Additions.{HasValues}
+use Rattle.gx_repo.specs.Additions.{Adds, HasValues}
 use Rattle.gx_repo.specs.GivenBytes.{bytes_given}
 use Rattle.gx_repo.specs.Refs.{shown_ref}
 use Rattle.gx_repo.specs.Rooms.{IsFront, rooms_of}
-use Rattle.gx_repo.proofs.Additions.{put_grown, put_is_sound}
+use Rattle.gx_repo.proofs.Additions.{adds_refused, front_after, put_grown, put_is_sound}
 use Rattle.gx_repo.proofs.HeldRecords.{keeps_front, keeps_same, put_holds, put_last}
 use Rattle.gx_repo.proofs.RecordRooms.{rooms_more}
 use Rattle.gx_repo.proofs.repo.Repo.add.Goals as goal
@@ -27,6 +27,24 @@ enter_room-requires-clause-room g c =
     let room = rw (sym c.self.view_is) at c.requires.room in
     let old = ap (λ k. take k c.put.new.store.1) c.len-held.ensures.count ∙ front_put rs c.put.new.store.1 r c.in_ok-name.ensures.puts.1 in
     λ more. ap rooms_of (put_last rs c.put.new.store.1 r c.in_ok-name.ensures.puts.1 (λ e. more (e ∙ sym c.len-held.ensures.count))).0 ∙ rooms_more rs r ∙ (λ i. rooms_of (sym old i) ++ sym room i ∷ [])
+
+pub invariant_of-self : goal.invariant_of-self
+invariant_of-self g c =
+    let names = g.N.Namer.name_of c.self.inside.store.0 in
+    let namer = g.met.N.Namer.is_namer c.self.inside.store.0 in
+    let rs = c.self.inside.store.1 in
+    let r : Records = record { records = rs; refs = map shown_ref c.self.inside.refs.items } in
+    let l = rw (sym c.self.view_is) at c.requires.linked in
+    let s = rw (sym c.self.view_is) at c.requires.short in (
+      subst (λ n. IsSound (g.N.Namer.name_of n) (record { records = c.put.new.store.1; refs = map shown_ref c.self.inside.refs.items })) (sym c.put.ensures.namer)
+          (put_is_sound names (c.links_tell_values.ensures names namer) (c.puts_add_values.ensures names namer) r c.self.invariant.0 c.args.kind (bytes_given c.args.given.now) l s c.put.new.store.1 c.put.result c.put.ensures.puts),
+      front_after rs c.put.new.store.1 (record_for names c.args.kind (bytes_given c.args.given.now)) c.put.result c.put.ensures.puts c.self.inside.rooms.items c.self.invariant.1,
+    )
+
+pub returns-in_err-name-clause-adds : goal.returns-in_err-name-clause-adds
+returns-in_err-name-clause-adds g c =
+    subst (λ v. Adds v.1.records c.put.new.store.1 (record_for (g.N.Namer.name_of v.0) c.args.kind (bytes_given c.args.given.now)) c.from_residual.result) c.self.view_is
+    (adds_refused c.self.inside.store.1 c.put.new.store.1 (record_for (g.N.Namer.name_of c.self.inside.store.0) c.args.kind (bytes_given c.args.given.now)) c.in_err-name.field-0.0 c.from_residual.result c.from_residual.ensures.1 c.in_err-name.ensures.puts)
 
 pub invariant_of-self-in-Ok : goal.invariant_of-self-in-Ok
 invariant_of-self-in-Ok g c =

@@ -8,10 +8,27 @@ use Rattle.gx_model.proofs.Puts.{front_put}
 use Rattle.gx_model.specs.Records.{name_of}
 use Rattle.gx_repo.specs.Additions.{Adds, HasValues}
 use Rattle.gx_repo.specs.Refs.{shown_ref}
-use Rattle.gx_repo.proofs.Additions.{put_grown, put_is_sound}
+use Rattle.gx_repo.proofs.Additions.{adds_refused, front_after, put_grown, put_is_sound}
 use Rattle.gx_repo.proofs.HeldRecords.{keeps_front, put_holds}
 use Rattle.gx_repo.proofs.RecordRooms.{front_kept}
 use Rattle.gx_repo.proofs.repo.Repo.add_blob_owned.Goals as goal
+
+pub invariant_of-self : goal.invariant_of-self
+invariant_of-self g c =
+    let names = g.N.Namer.name_of c.self.inside.store.0 in
+    let namer = g.met.N.Namer.is_namer c.self.inside.store.0 in
+    let rs = c.self.inside.store.1 in
+    let r : Records = record { records = rs; refs = map shown_ref c.self.inside.refs.items } in
+    let no_paths : HasShortPaths rs (record_for names kinds.Blob c.args.body.items) = λ es p e t h. absurd (cc e) in (
+      subst (λ n. IsSound (g.N.Namer.name_of n) (record { records = c.put_owned.new.self.1; refs = map shown_ref c.self.inside.refs.items })) (sym c.put_owned.ensures.namer)
+          (put_is_sound names (c.links_tell_values.ensures names namer) (c.puts_add_values.ensures names namer) r c.self.invariant.0 kinds.Blob c.args.body.items tt no_paths c.put_owned.new.self.1 c.put_owned.result c.put_owned.ensures.puts),
+      front_after rs c.put_owned.new.self.1 (record_for names kinds.Blob c.args.body.items) c.put_owned.result c.put_owned.ensures.puts c.self.inside.rooms.items c.self.invariant.1,
+    )
+
+pub returns-in_err-name-clause-adds : goal.returns-in_err-name-clause-adds
+returns-in_err-name-clause-adds g c =
+    subst (λ v. Adds v.1.records c.put_owned.new.self.1 (record_for (g.N.Namer.name_of v.0) kinds.Blob c.args.body.items) c.from_residual.result) c.self.view_is
+    (adds_refused c.self.inside.store.1 c.put_owned.new.self.1 (record_for (g.N.Namer.name_of c.self.inside.store.0) kinds.Blob c.args.body.items) c.in_err-name.field-0.0 c.from_residual.result c.from_residual.ensures.1 c.in_err-name.ensures.puts)
 
 pub invariant_of-self-2 : goal.invariant_of-self-2
 invariant_of-self-2 g c =

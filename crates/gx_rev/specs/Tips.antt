@@ -1,5 +1,5 @@
 -- Tips: marks of commits that stand for all that these commits reach.
-use Rattle.std.specs.Prelude.{◌≡◌, ℕ, Bool, ◌||◌, IsTrue, List, length}
+use Rattle.std.specs.Prelude.{◌≡◌, ℕ, Bool, ◌&&◌, ◌||◌, IsTrue, List, length}
 use Rattle.gx_model.specs.Histories.Values.{Commit}
 use Rattle.gx_model.specs.Histories.{Records}
 use Rattle.gx_model.specs.Histories.Marks.{IsAt, IsMarked, Marks, marks_of}
@@ -39,6 +39,11 @@ TellsReach repository from to answer = answer ≡ reaches (commit_at repository 
 -- the commits that the one of this name reaches are marked, and no other place
 abbrev pub marks_from : Records → Name → List Bool
 marks_from repository from = marks_of (reaches (commit_at repository from)) (values_of repository)
+
+-- the commits that both the one and the other reach are marked, and no other place
+abbrev pub marks_from_both : Records → Name → Name → List Bool
+marks_from_both repository left right =
+    marks_of (λ reached. reaches (commit_at repository left) reached && reaches (commit_at repository right) reached) (values_of repository)
 
 -- besides those that were, the commit of this name is marked
 abbrev pub MarksOne : Records → Name → List Bool → List Bool → Type 0

@@ -1,12 +1,9 @@
 use Rattle.std.proofs.Common.{◌∙◌, refl}
-use Rattle.std.proofs.lemmas.List.{with_items_is}
 use Rattle.gx_model.specs.Revisions.Ranges.{apart, reaches}
-use Rattle.gx_model.specs.Laws.RepositoryLaws.{values_of}
 use Rattle.gx_rev.specs.Objects.{commit_at}
 use Rattle.gx_model.proofs.HeldValues.{commit_held}
 use Rattle.gx_model.proofs.Standing.{commit_at_place, stands_at}
 use Rattle.gx_rev.proofs.Tips.{both_more, common_more}
-use Rattle.gx_rev.proofs.WordMarks.{marks_both}
 use Rattle.gx_rev.proofs.walking.mark_apart.Goals as goal
 
 pub returns : goal.returns
@@ -18,10 +15,9 @@ returns g c =
     let right = commit_at r c.in_ok-right.right in
     let at = stands_at name namer r c.sound.ensures c.in_ok-left.left.bytes (commit_held name namer r c.sound.ensures c.in_ok-left.left.bytes c.in_ok-left.ensures.held) in
     let stands = commit_at_place name namer r c.sound.ensures c.in_ok-left.left.bytes at.0 c.in_ok-left.ensures.held at.1 in
-    let common = c.deref-2.ensures.value ∙ with_items_is c.in_ok-common.common c.keep.new.marks (c.keep.auto.marks ∙ c.deref_mut.ensures.len)
-    ∙ marks_both (values_of r) (reaches left) (reaches right) c.keep.new.marks c.deref_mut.result.now c.deref.result.now (c.deref_mut.ensures.value ∙ c.in_ok-common.ensures) (c.deref.ensures.value ∙ c.in_ok-others.ensures) c.keep.auto.marks c.keep.ensures in (
+    let common = c.deref.ensures.value ∙ c.in_ok-common.ensures in (
       apart left right,
       rw (c.in_ok-left.ensures.commit, c.in_ok-right.ensures.commit) refl,
       both_more r (reaches left) (reaches right) c.args.included.now c.mark.new.marks c.mark-2.new.marks c.mark.ensures.tips c.mark-2.ensures.tips,
-      common_more name namer r c.sound.ensures left right at.0 c.args.excluded.now c.deref-2.result.now c.include.new.marks stands c.include.auto.marks common c.include.ensures,
+      common_more name namer r c.sound.ensures left right at.0 c.args.excluded.now c.deref.result.now c.include.new.marks stands c.include.auto.marks common c.include.ensures,
     )

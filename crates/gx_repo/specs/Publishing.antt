@@ -44,5 +44,5 @@ abbrev pub Enters : {A : Type 0} → List (Vec ℕ A × Name) → List (Vec ℕ 
 Enters old new name object = map ref_of new ≡ put byte_cmp name object.bytes (map ref_of old)
 
 -- what is entered is these refs with the changes made in turn
-abbrev pub EntersChanges : {A : Type 0} → List (Bytes × Bytes) → List (Vec ℕ A × Name) → List RefChange → Type 0
-EntersChanges old new changes = map ref_of new ≡ with_changes old (map shown_update changes)
+abbrev pub EntersAll : {A : Type 0} → List (Bytes × Bytes) → List (Vec ℕ A × Name) → List RefChange → Type 0
+EntersAll old new changes = map ref_of new ≡ with_changes old (map shown_update changes)

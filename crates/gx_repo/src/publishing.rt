@@ -3,7 +3,7 @@ ghost use Rattle.std.specs.Prelude.{◌≡◌, [], map, IsTrue, IfOk, OnOk};
 ghost use Rattle.std.specs.FinMap.Entries.{is_sorted};
 ghost use Rattle.gx_model.specs.Replay.{byte_cmp};
 ghost use Rattle.gx_repo.specs.Refs.{are_held, shown_update, shown_ref, ref_of};
-ghost use Rattle.gx_repo.specs.Publishing.{Enters, EntersChanges, MakesChanges};
+ghost use Rattle.gx_repo.specs.Publishing.{Enters, EntersAll, MakesChanges};
 
 use crate::refs::{Ref, is_held, set_object};
 use gx_object::Name;
@@ -64,7 +64,7 @@ fn enter_changed<A: Allocator + Copy>(
 ) -> Result<(), AllocError>
     requires none { objects.old.entries ≡ [] }
     requires sorted { IsTrue (is_sorted byte_cmp (map shown_ref refs.now)) }
-    ensures { OnOk result (EntersChanges (map shown_ref refs.now) objects.new.entries changes.now) }
+    ensures { OnOk result (EntersAll (map shown_ref refs.now) objects.new.entries changes.now) }
 {
     enter_refs(alloc, objects, refs)?;
     enter_changes(alloc, objects, changes)
@@ -92,7 +92,7 @@ fn enter_changes<A: Allocator + Copy>(
     objects: &mut BTreeMap<Vec<u8, A>, Name, A>,
     changes: &[RefChange<'_>],
 ) -> Result<(), AllocError>
-    ensures { OnOk result (EntersChanges (map ref_of objects.old.entries) objects.new.entries changes.now) }
+    ensures { OnOk result (EntersAll (map ref_of objects.old.entries) objects.new.entries changes.now) }
 {
     for change in changes {
         enter(alloc, objects, change.name, change.target)?;

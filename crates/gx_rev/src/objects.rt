@@ -80,7 +80,8 @@ pub fn view_of<'a, N: Namer, A: Allocator + Copy>(
     ensures { result ≡ parts_of_commit (N.name_of repo.now.0) (commit_at repo.now.1 commit.now) }
 {
     repo.sound();
-    let Ok(view) = decode_commit(body_of(repo, commit)) else {
+    let body = body_of(repo, commit);
+    let Ok(view) = decode_commit(body) else {
         unreachable!();
     };
     view

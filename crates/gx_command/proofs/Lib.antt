@@ -1,7 +1,9 @@
 pub mod TakenLines
 pub mod TakenChanges
 pub mod TakenHeads
+pub mod BegunHeads
 pub mod Sequences
+pub mod WrittenCommits
 pub mod Leaves
 pub mod Unrolled
 pub mod Steps

@@ -1,18 +1,33 @@
 -- The parts of a commit that follow its message, one by one.
 use Rattle.std.specs.Prelude.{◌≡◌, Option, Some, None, Result, Ok, Err, [], ◌∷◌, List, map, if◌then◌else◌, codes}
 use Rattle.std.specs.Option.{option_map}
+use Rattle.gx_model.specs.Texts.{Bytes}
 use Rattle.gx_model.specs.Faults.{Given, ◌>>=◌}
 use Rattle.gx_model.specs.Streams.Items as model
 use Rattle.gx_model.specs.Streams.Items.{Stream, Line, Data}
 use Rattle.gx_model.specs.Streams.Commands as command
 use Rattle.gx_model.specs.declared.faults.Fault.TheVariants as faults
-use Rattle.gx_model.specs.Streams.Grammar.{Read, at_end, after, words_of, is_word, change_at}
+use Rattle.gx_model.specs.Streams.Grammar.{Read, at_end, after, words_of, is_word, change_at, optional, needed, unsigned, block, ident_of, encoding_of}
 use Rattle.gx_command.specs.Ahead.{Fails}
 use Rattle.gx_command.specs.ChangeLines.{BeginsChange, completed}
-use Rattle.gx_command.specs.Views.{shown_commit_ish, shown_change}
+use Rattle.gx_command.specs.Views.{shown_ident, shown_encoding, shown_commit_ish, shown_change}
 use Rattle.gx_command.specs.declared.fault.CommandFault.{CommandFault}
 use Rattle.gx_command.specs.declared.change_lines.ChangeLine.{ChangeLine}
 use Rattle.gx_command.specs.declared.bodies.Links.{Links}
+use Rattle.gx_command.specs.declared.bodies.Written.{Written}
+
+abbrev pub shown_written : {A : Type 0} → Written A → Option Bytes × (Bytes × (Option Bytes × Bytes))
+shown_written w = (option_map shown_ident w.author, (w.committer.bytes.items, (option_map shown_encoding w.encoding, w.message.items)))
+
+-- who wrote a commit, and what: the lines and the block before its parents
+unfoldable pub written_at : Stream → Read (Option Bytes × (Bytes × (Option Bytes × Bytes)))
+written_at s = do
+  author ← optional (codes "author") ident_of s
+  committer ← needed (codes "committer") ident_of author.1
+  plain ← unsigned committer.1
+  encoding ← optional (codes "encoding") encoding_of plain.1
+  message ← block encoding.1
+  Ok ((author.0, (committer.0, (encoding.0, message.0))), message.1)
 
 abbrev pub shown_links : {A : Type 0} → Links A → Option command.CommitIsh × (List command.CommitIsh × List command.Change)
 shown_links l = (option_map shown_commit_ish l.from, (map shown_commit_ish l.merges.items, map shown_change l.changes.items))

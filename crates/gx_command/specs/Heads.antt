@@ -1,15 +1,17 @@
 -- The lines that begin commands, and the command that comes next.
-use Rattle.std.specs.Prelude.{◌≡◌, ◌||◌, codes, Bool, Option, Some, None, Result, Ok, Err, [], ◌∷◌, List}
+use Rattle.std.specs.Prelude.{◌≡◌, ◌||◌, codes, Bool, false, Option, Some, None, Result, Ok, Err, [], ◌∷◌, List}
 use Rattle.gx_model.specs.Faults.{Given, ◌>>=◌}
 use Rattle.gx_model.specs.Streams.Items.{Item, Line, Data, Stream}
 use Rattle.gx_model.specs.Streams.Commands as model
 use Rattle.gx_model.specs.Texts.{Bytes}
 use Rattle.gx_model.specs.declared.faults.Fault.TheVariants as faults
-use Rattle.gx_model.specs.Streams.Grammar.{Read, Words, at_end, after, words_of, is_word, rest_of, if_early, blob_at, commit_at, tag_at, reset_at, command_at}
+use Rattle.gx_model.specs.declared.features.Feature.{Feature}
+use Rattle.gx_model.specs.Streams.Grammar.{Read, Words, at_end, after, words_of, is_word, rest_of, if_early, feature_of, ref_of, tag_of, blob_at, commit_at, tag_at, reset_at, command_at}
 use Rattle.gx_command.specs.Ahead.{Fails}
 use Rattle.gx_command.specs.Views.{shown_command}
 use Rattle.gx_command.specs.declared.fault.CommandFault.{CommandFault}
 use Rattle.gx_command.specs.declared.fault.CommandFault.TheVariants as own
+use Rattle.gx_command.specs.declared.commands.Command.{Command}
 use Rattle.gx_command.specs.declared.heads.Head.{Head}
 use Rattle.gx_command.specs.declared.heads.Head.TheVariants.{Blob, Commit, Tag, Reset, Whole}
 use Rattle.gx_command.specs.declared.heads.Start.{Start}
@@ -27,9 +29,32 @@ abbrev pub Begins : {A : Type 0} → Stream → Result (Head A) CommandFault →
 Begins s (Ok head) read = read ≡ begun head s
 Begins s (Err f) read = Fails f read
 
+-- the ref of a commit or a reset
+abbrev pub ref_at : Words → Given Bytes
+ref_at w = rest_of w >>= ref_of
+
+-- the name of a tag
+abbrev pub name_at : Words → Given Bytes
+name_at w = rest_of w >>= tag_of
+
+-- the words begin none of the commands that go on after their first line
+pub record MayBeWhole (w : Words) : Type 0 where
+  pub blob : is_word w (codes "blob") ≡ false
+  pub commit : is_word w (codes "commit") ≡ false
+  pub tag : is_word w (codes "tag") ≡ false
+  pub reset : is_word w (codes "reset") ≡ false
+
+-- the line is all of the command
+abbrev pub IsWhole : {A : Type 0} → Stream → Result (Command A) CommandFault → Read model.Command → Type 0
+IsWhole s (Ok command) read = read ≡ Ok (shown_command command, s)
+IsWhole s (Err f) read = Fails f read
+
 -- the rest of an option's line, which stands before every other command
 abbrev pub early_rest : Bool → Words → Given Bytes
 early_rest early w = rest_of w >>= λ r. if_early early (Ok r)
+
+abbrev pub early_feature : Bool → Words → Given Feature
+early_feature early w = early_rest early w >>= feature_of
 
 -- the word of a command that git-fast-import(1) has, and this reader has not
 abbrev pub is_left_out : Words → Bool

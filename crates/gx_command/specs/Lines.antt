@@ -7,7 +7,7 @@ use Rattle.gx_model.specs.Faults.{Given, ◌>>=◌}
 use Rattle.gx_model.specs.Streams.Items as model
 use Rattle.gx_model.specs.Streams.Items.{Line, Data}
 use Rattle.gx_model.specs.Streams.Grammar as grammar
-use Rattle.gx_model.specs.Streams.Grammar.{words_of, is_word, rest_of}
+use Rattle.gx_model.specs.Streams.Grammar.{words_of, is_word, rest_of, bare}
 use Rattle.gx_command.specs.declared.lines.Words.{Words}
 
 -- the bytes that are lent
@@ -25,3 +25,7 @@ shown_words w = record { word = w.word.now; rest = shown_rest w.rest }
 abbrev pub rest_in : Bytes → model.Item → Given (Option Bytes)
 rest_in name (Data b) = Ok None
 rest_in name (Line l) = if is_word (words_of l) name then (rest_of (words_of l) >>= λ r. Ok (Some r)) else Ok None
+
+-- what a line stands for that needs no rest
+abbrev pub bare_as : {Y : Type 0} → Y → grammar.Words → Given Y
+bare_as y w = bare w >>= λ u. Ok y

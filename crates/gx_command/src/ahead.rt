@@ -70,21 +70,21 @@ impl<R: Source, A: Allocator + Copy> Ahead<R, A> {
         ensures takes { Takes (F.post read) (to_come self.old) (to_come self.new) result }
         ensures falls { Falls (most self.old) (most self.new) result }
     {
-        if let Some(held) = self.held.take() {
+        if let Some(held) = &self.held {
             let taken = read(held.lent())?;
-            if taken.is_none() {
-                self.held = Some(held);
+            if taken.is_some() {
+                self.held = None;
             }
             return Ok(taken);
         }
         let Some(item) = self.items.next()? else {
             return Ok(None);
         };
-        let taken = read(item)?;
-        if taken.is_none() {
-            self.held = Some(Held::copy(self.alloc, item)?);
+        if let Some(taken) = read(item)? {
+            return Ok(Some(taken));
         }
-        Ok(taken)
+        self.held = Some(Held::copy(self.alloc, item)?);
+        Ok(None)
     }
 
     /// Takes the next line where it has this word, and reads its rest. Otherwise the item stays.

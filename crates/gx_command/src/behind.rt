@@ -41,13 +41,21 @@ pub fn items_behind<R: Source + Drop, A: Allocator + Copy>(
     ensures { TellsBehind commands (option_map items_from (R.coming source)) result }
 {
     let mut ahead = Ahead::new(alloc, source);
-    if !ahead.pass_commands(commands)? {
-        return Ok(None);
-    }
-    Ok(Some(ahead.count_left()?))
+    ahead.count_behind(commands)
 }
 
 impl<R: Source, A: Allocator + Copy> Ahead<R, A> {
+    /// Reads so many commands, and counts the items that are left behind them and the empty lines after them.
+    fn count_behind(&mut self, commands: u64) -> Result<Option<u64>, BehindFault>
+        requires { most self.old ≤ 2 ^ 63 - 1 }
+        ensures { TellsBehind commands (to_come self.old) result }
+    {
+        if !self.pass_commands(commands)? {
+            return Ok(None);
+        }
+        Ok(Some(self.count_left()?))
+    }
+
     /// Reads so many commands from the first on. Answers whether there are so many.
     fn pass_commands(&mut self, commands: u64) -> Result<bool, BehindFault>
         ensures passes { Passes commands (to_come self.old) (to_come self.new) result }

@@ -7,7 +7,7 @@ ghost use Rattle.gx_model.specs.Streams.Items.{Stream};
 ghost use Rattle.gx_stream.specs.Reading.{item_of};
 ghost use Rattle.gx_model.specs.Streams.Grammar.{optional, needed, block, mark_of, any_text, ident_of, encoding_of, commit_ish_of, unsigned, item_after, bytes_from, merges, changes, blob_at, links_at, commit_at, tag_at, reset_at};
 ghost use Rattle.gx_command.specs.Ahead.{ReadsOn, ReadsPlain, ReadsLine, Falls, FallsNot, to_come, most};
-ghost use Rattle.gx_command.specs.Bodies.{next_change, shown_links, ChangeIn, TakesChange, signature_in, empty_line};
+ghost use Rattle.gx_command.specs.Bodies.{next_change, written_at, shown_written, shown_links, ChangeIn, TakesChange, signature_in, empty_line};
 ghost use Rattle.gx_command.specs.CommandFaults.{NeedsNoMemory, fault_of};
 ghost use Rattle.gx_command.specs.ChangeLines.{completed_modify, shown_place};
 ghost use Rattle.gx_command.specs.Places.{IsSuitedAs};
@@ -25,6 +25,15 @@ use gx_stream::Item;
 use gx_text::Source;
 use std::alloc::Allocator;
 
+/// Who wrote a commit, and what.
+#[derive(Drop)]
+struct Written<A: Allocator> {
+    author: Option<Identity<A>>,
+    committer: Identity<A>,
+    encoding: Option<Encoding<A>>,
+    message: Vec<u8, A>,
+}
+
 /// The parents and the changes of a commit.
 #[derive(Drop)]
 struct Links<A: Allocator> {
@@ -34,7 +43,6 @@ struct Links<A: Allocator> {
 }
 
 impl<R: Source, A: Allocator + Copy> Ahead<R, A> {
-    #[tactic(auto, unfolding(gx_model::specs::Streams::Grammar::blob_at))]
     pub(crate) fn blob(&mut self) -> Result<Blob<A>, CommandFault>
         ensures reads { ReadsOn shown_blob blob_at self.old self.new result }
         ensures falls { FallsNot (most self.old) (most self.new) result }
@@ -45,37 +53,44 @@ impl<R: Source, A: Allocator + Copy> Ahead<R, A> {
         Ok(Blob { mark, bytes })
     }
 
-    #[tactic(auto, unfolding(gx_model::specs::Streams::Grammar::commit_at))]
     pub(crate) fn commit(&mut self, branch: RefName<A>) -> Result<Commit<A>, CommandFault>
         ensures reads { ReadsOn shown_commit (commit_at branch.bytes.items) self.old self.new result }
         ensures falls { FallsNot (most self.old) (most self.new) result }
     {
         let mark = self.mark()?;
         self.skip_oid()?;
+        let written = self.written()?;
+        let links = self.links()?;
+        Ok(Commit {
+            branch,
+            mark,
+            author: written.author,
+            committer: written.committer,
+            encoding: written.encoding,
+            message: written.message,
+            from: links.from,
+            merges: links.merges,
+            changes: links.changes,
+        })
+    }
+
+    fn written(&mut self) -> Result<Written<A>, CommandFault>
+        ensures reads { ReadsOn shown_written written_at self.old self.new result }
+        ensures falls { FallsNot (most self.old) (most self.new) result }
+    {
         let author = self.ident(b"author")?;
         let committer = self.needed_ident(b"committer")?;
         self.check_unsigned()?;
         let encoding = self.encoding()?;
         let message = self.block()?;
-        let Links {
-            from,
-            merges,
-            changes,
-        } = self.links()?;
-        Ok(Commit {
-            branch,
-            mark,
+        Ok(Written {
             author,
             committer,
             encoding,
             message,
-            from,
-            merges,
-            changes,
         })
     }
 
-    #[tactic(auto, unfolding(gx_model::specs::Streams::Grammar::links_at))]
     fn links(&mut self) -> Result<Links<A>, CommandFault>
         ensures reads { ReadsOn shown_links links_at self.old self.new result }
         ensures falls { FallsNot (most self.old) (most self.new) result }
@@ -91,7 +106,6 @@ impl<R: Source, A: Allocator + Copy> Ahead<R, A> {
         })
     }
 
-    #[tactic(auto, unfolding(gx_model::specs::Streams::Grammar::tag_at))]
     pub(crate) fn tag(&mut self, name: TagName<A>) -> Result<Tag<A>, CommandFault>
         ensures reads { ReadsOn shown_tag (tag_at name.bytes.items) self.old self.new result }
         ensures falls { FallsNot (most self.old) (most self.new) result }
@@ -110,7 +124,6 @@ impl<R: Source, A: Allocator + Copy> Ahead<R, A> {
         })
     }
 
-    #[tactic(auto, unfolding(gx_model::specs::Streams::Grammar::reset_at))]
     pub(crate) fn reset(&mut self, branch: RefName<A>) -> Result<Reset<A>, CommandFault>
         ensures reads { ReadsOn shown_reset (reset_at branch.bytes.items) self.old self.new result }
         ensures falls { FallsNot (most self.old) (most self.new) result }

@@ -4,11 +4,11 @@ ghost use Rattle.std.specs.Prelude.{◌≡◌};
 ghost use Rattle.std.specs.Option.{option_map};
 ghost use Rattle.gx_model.specs.Faults.{Gives};
 ghost use Rattle.gx_model.specs.Streams.Items.{Stream};
-ghost use Rattle.gx_model.specs.Streams.Grammar.{command_at, feature_of};
+ghost use Rattle.gx_model.specs.Streams.Grammar.{command_at, feature_of, rest_of};
 ghost use Rattle.gx_stream.specs.Reading.{item_of};
 ghost use Rattle.gx_command.specs.Ahead.{ReadsOn, Falls, FallsNot, to_come, most};
 ghost use Rattle.gx_command.specs.CommandFaults.{NeedsNoMemory, fault_of};
-ghost use Rattle.gx_command.specs.Heads.{Begins, BeginsIn, TakesStart, TakesHead, begun, early_rest, first, is_left_out};
+ghost use Rattle.gx_command.specs.Heads.{Begins, BeginsIn, IsWhole, MayBeWhole, TakesStart, TakesHead, begun, early_feature, early_rest, first, is_left_out, name_at, ref_at};
 ghost use Rattle.gx_command.specs.Lines.{lent_bytes, shown_words};
 ghost use Rattle.gx_command.specs.Views.{shown_command};
 
@@ -108,7 +108,6 @@ fn read_start<A: Allocator + Copy>(
 }
 
 /// The command that a line begins with these words.
-#[tactic(auto, unfolding(gx_model::specs::Streams::Grammar::command_at))]
 fn read_head<A: Allocator + Copy>(
     alloc: A,
     is_early: bool,
@@ -117,34 +116,76 @@ fn read_head<A: Allocator + Copy>(
     ensures { (s : Stream) → Begins s result (command_at is_early (shown_words words.entry) s) }
 {
     if words.is(b"blob") {
-        words.check_bare()?;
-        Ok(Head::Blob)
+        words.bare(Head::Blob)
     } else if words.is(b"commit") {
-        Ok(Head::Commit(RefName::read(alloc, words.rest()?)?))
+        Ok(Head::Commit(read_ref(alloc, words)?))
     } else if words.is(b"tag") {
-        Ok(Head::Tag(TagName::read(alloc, words.rest()?)?))
+        Ok(Head::Tag(read_tag(alloc, words)?))
     } else if words.is(b"reset") {
-        Ok(Head::Reset(RefName::read(alloc, words.rest()?)?))
-    } else if words.is(b"checkpoint") {
-        words.check_bare()?;
-        Ok(Head::Whole(Command::Checkpoint))
+        Ok(Head::Reset(read_ref(alloc, words)?))
+    } else {
+        Ok(Head::Whole(read_whole(alloc, is_early, words)?))
+    }
+}
+
+/// The command that a line with these words is, where it is all of one.
+fn read_whole<A: Allocator + Copy>(
+    alloc: A,
+    is_early: bool,
+    words: Words<'_>,
+) -> Result<Command<A>, CommandFault>
+    requires { MayBeWhole (shown_words words) }
+    ensures { (s : Stream) → IsWhole s result (command_at is_early (shown_words words.entry) s) }
+{
+    if words.is(b"checkpoint") {
+        words.bare(Command::Checkpoint)
     } else if words.is(b"progress") {
-        let text = Vec::from_slice(alloc, words.rest()?)?;
-        Ok(Head::Whole(Command::Progress(text)))
+        Ok(Command::Progress(read_text(alloc, words)?))
     } else if words.is(b"feature") {
-        let text = early_rest(is_early, words)?;
-        Ok(Head::Whole(Command::Feature(read_feature(text)?)))
+        Ok(Command::Feature(read_early_feature(is_early, words)?))
     } else if words.is(b"option") {
-        let text = Vec::from_slice(alloc, early_rest(is_early, words)?)?;
-        Ok(Head::Whole(Command::OptionLine(text)))
+        Ok(Command::OptionLine(read_option(alloc, is_early, words)?))
     } else if words.is(b"done") {
-        words.check_bare()?;
-        Ok(Head::Whole(Command::Done))
+        words.bare(Command::Done)
     } else if is_left_out(words) {
         Err(CommandFault::Unsupported)
     } else {
         Err(CommandFault::UnknownCommand)
     }
+}
+
+fn read_ref<A: Allocator + Copy>(alloc: A, words: Words<'_>) -> Result<RefName<A>, CommandFault>
+    ensures { Gives fault_of (λ name. name.bytes.items) result (ref_at (shown_words words.entry)) }
+{
+    RefName::read(alloc, words.rest()?)
+}
+
+fn read_tag<A: Allocator + Copy>(alloc: A, words: Words<'_>) -> Result<TagName<A>, CommandFault>
+    ensures { Gives fault_of (λ name. name.bytes.items) result (name_at (shown_words words.entry)) }
+{
+    TagName::read(alloc, words.rest()?)
+}
+
+fn read_text<A: Allocator + Copy>(alloc: A, words: Words<'_>) -> Result<Vec<u8, A>, CommandFault>
+    ensures { Gives fault_of (λ v. v.items) result (rest_of (shown_words words.entry)) }
+{
+    Ok(Vec::from_slice(alloc, words.rest()?)?)
+}
+
+fn read_option<A: Allocator + Copy>(
+    alloc: A,
+    is_early: bool,
+    words: Words<'_>,
+) -> Result<Vec<u8, A>, CommandFault>
+    ensures { Gives fault_of (λ v. v.items) result (early_rest is_early (shown_words words.entry)) }
+{
+    Ok(Vec::from_slice(alloc, early_rest(is_early, words)?)?)
+}
+
+fn read_early_feature(is_early: bool, words: Words<'_>) -> Result<Feature, CommandFault>
+    ensures { Gives fault_of (λ f. f) result (early_feature is_early (shown_words words.entry)) }
+{
+    read_feature(early_rest(is_early, words)?)
 }
 
 /// The rest of an option, which stands before every other command.

@@ -5,7 +5,7 @@ ghost use Rattle.gx_model.specs.Faults.{Gives};
 ghost use Rattle.gx_model.specs.Streams.Grammar.{words_of, is_word, rest_of, bare};
 ghost use Rattle.gx_stream.specs.Reading.{item_of};
 ghost use Rattle.gx_command.specs.CommandFaults.{NeedsNoMemory, fault_of};
-ghost use Rattle.gx_command.specs.Lines.{lent_bytes, shown_words, shown_rest, rest_in};
+ghost use Rattle.gx_command.specs.Lines.{bare_as, lent_bytes, shown_words, shown_rest, rest_in};
 
 use crate::fault::CommandFault;
 use gx_stream::Item;
@@ -56,6 +56,17 @@ impl<'a> Words<'a> {
         match self.rest {
             Some(_) => Err(CommandFault::BadLine),
             None => Ok(()),
+        }
+    }
+
+    /// The value that a line without a rest stands for. Refuses a line with one.
+    pub(crate) fn bare<T: Drop>(self, value: T) -> Result<T, CommandFault>
+        ensures bare { Gives fault_of (λ x. x) result (bare_as value (shown_words self.entry)) }
+        ensures memory { NeedsNoMemory result }
+    {
+        match self.rest {
+            Some(_) => Err(CommandFault::BadLine),
+            None => Ok(value),
         }
     }
 }

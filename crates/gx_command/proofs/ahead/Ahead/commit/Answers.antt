@@ -2,6 +2,7 @@ use Rattle.std.proofs.lemmas.Result.{err_from_is_err_and}
 use Rattle.gx_model.specs.Streams.Grammar.{commit_at}
 use Rattle.gx_command.specs.Views.{shown_commit}
 use Rattle.gx_command.proofs.Sequences.{first_fails, then_reads, all_read}
+use Rattle.gx_command.proofs.WrittenCommits.{commit_behind, reads_alike, written_first}
 use Rattle.gx_command.proofs.ahead.Ahead.commit.Goals as goal
 
 pub returns-in_err-mark-clause-reads : goal.returns-in_err-mark-clause-reads
@@ -17,78 +18,31 @@ returns-in_err-skip_oid-clause-reads g c =
     (then_reads _ _ _ _ _ _ _ _ _ c.in_ok-mark.ensures.reads
     (first_fails _ _ _ _ _ _ _ _ c.in_err-skip_oid.ensures.reads))
 
-pub returns-in_err-author-clause-reads : goal.returns-in_err-author-clause-reads
+pub returns-in_err-written-clause-reads : goal.returns-in_err-written-clause-reads
 unfolding commit_at
-returns-in_err-author-clause-reads g c =
-    let p = err_from_is_err_and c.from_residual-in_err-author.result c.from_residual-in_err-author.ensures.1 in rw (p.1, p.2)
+returns-in_err-written-clause-reads g c =
+    let p = err_from_is_err_and c.from_residual-in_err-written.result c.from_residual-in_err-written.ensures.1 in rw (p.1, p.2)
     (then_reads _ _ _ _ _ _ _ _ _ c.in_ok-mark.ensures.reads
     (then_reads _ _ _ _ _ _ _ _ _ c.in_ok-skip_oid.ensures.reads
-    (first_fails _ _ _ _ _ _ _ _ c.in_err-author.ensures.reads)))
+    (reads_alike _ _ _ _ _ _ (written_first (commit_behind c.args.branch.bytes.items c.in_ok-mark.mark))
+    (first_fails _ _ _ _ _ _ _ _ c.in_err-written.ensures.reads))))
 
-pub returns-in_err-committer-clause-reads : goal.returns-in_err-committer-clause-reads
+pub returns-in_err-links-clause-reads : goal.returns-in_err-links-clause-reads
 unfolding commit_at
-returns-in_err-committer-clause-reads g c =
-    let p = err_from_is_err_and c.from_residual-in_err-committer.result c.from_residual-in_err-committer.ensures.1 in rw (p.1, p.2)
+returns-in_err-links-clause-reads g c =
+    let p = err_from_is_err_and c.from_residual-in_err-links.result c.from_residual-in_err-links.ensures.1 in rw (p.1, p.2)
     (then_reads _ _ _ _ _ _ _ _ _ c.in_ok-mark.ensures.reads
     (then_reads _ _ _ _ _ _ _ _ _ c.in_ok-skip_oid.ensures.reads
-    (then_reads _ _ _ _ _ _ _ _ _ c.in_ok-author.ensures.reads
-    (first_fails _ _ _ _ _ _ _ _ c.in_err-committer.ensures.reads))))
-
-pub returns-in_err-check_unsigned-clause-reads : goal.returns-in_err-check_unsigned-clause-reads
-unfolding commit_at
-returns-in_err-check_unsigned-clause-reads g c =
-    let p = err_from_is_err_and c.from_residual-in_err-check_unsigned.result c.from_residual-in_err-check_unsigned.ensures.1 in rw (p.1, p.2)
-    (then_reads _ _ _ _ _ _ _ _ _ c.in_ok-mark.ensures.reads
-    (then_reads _ _ _ _ _ _ _ _ _ c.in_ok-skip_oid.ensures.reads
-    (then_reads _ _ _ _ _ _ _ _ _ c.in_ok-author.ensures.reads
-    (then_reads _ _ _ _ _ _ _ _ _ c.in_ok-committer.ensures.reads
-    (first_fails _ _ _ _ _ _ _ _ c.in_err-check_unsigned.ensures.reads)))))
-
-pub returns-in_err-encoding-clause-reads : goal.returns-in_err-encoding-clause-reads
-unfolding commit_at
-returns-in_err-encoding-clause-reads g c =
-    let p = err_from_is_err_and c.from_residual-in_err-encoding.result c.from_residual-in_err-encoding.ensures.1 in rw (p.1, p.2)
-    (then_reads _ _ _ _ _ _ _ _ _ c.in_ok-mark.ensures.reads
-    (then_reads _ _ _ _ _ _ _ _ _ c.in_ok-skip_oid.ensures.reads
-    (then_reads _ _ _ _ _ _ _ _ _ c.in_ok-author.ensures.reads
-    (then_reads _ _ _ _ _ _ _ _ _ c.in_ok-committer.ensures.reads
-    (then_reads _ _ _ _ _ _ _ _ _ c.in_ok-check_unsigned.ensures.reads
-    (first_fails _ _ _ _ _ _ _ _ c.in_err-encoding.ensures.reads))))))
-
-pub returns-in_err-message-clause-reads : goal.returns-in_err-message-clause-reads
-unfolding commit_at
-returns-in_err-message-clause-reads g c =
-    let p = err_from_is_err_and c.from_residual-in_err-message.result c.from_residual-in_err-message.ensures.1 in rw (p.1, p.2)
-    (then_reads _ _ _ _ _ _ _ _ _ c.in_ok-mark.ensures.reads
-    (then_reads _ _ _ _ _ _ _ _ _ c.in_ok-skip_oid.ensures.reads
-    (then_reads _ _ _ _ _ _ _ _ _ c.in_ok-author.ensures.reads
-    (then_reads _ _ _ _ _ _ _ _ _ c.in_ok-committer.ensures.reads
-    (then_reads _ _ _ _ _ _ _ _ _ c.in_ok-check_unsigned.ensures.reads
-    (then_reads _ _ _ _ _ _ _ _ _ c.in_ok-encoding.ensures.reads
-    (first_fails _ _ _ _ _ _ _ _ c.in_err-message.ensures.reads)))))))
-
-pub returns-in_err-from-clause-reads : goal.returns-in_err-from-clause-reads
-unfolding commit_at
-returns-in_err-from-clause-reads g c =
-    let p = err_from_is_err_and c.from_residual-in_err-from.result c.from_residual-in_err-from.ensures.1 in rw (p.1, p.2)
-    (then_reads _ _ _ _ _ _ _ _ _ c.in_ok-mark.ensures.reads
-    (then_reads _ _ _ _ _ _ _ _ _ c.in_ok-skip_oid.ensures.reads
-    (then_reads _ _ _ _ _ _ _ _ _ c.in_ok-author.ensures.reads
-    (then_reads _ _ _ _ _ _ _ _ _ c.in_ok-committer.ensures.reads
-    (then_reads _ _ _ _ _ _ _ _ _ c.in_ok-check_unsigned.ensures.reads
-    (then_reads _ _ _ _ _ _ _ _ _ c.in_ok-encoding.ensures.reads
-    (then_reads _ _ _ _ _ _ _ _ _ c.in_ok-message.ensures.reads
-    (first_fails _ _ _ _ _ _ _ _ c.in_err-from.ensures.reads))))))))
+    (reads_alike _ _ _ _ _ _ (written_first (commit_behind c.args.branch.bytes.items c.in_ok-mark.mark))
+    (then_reads _ _ _ _ _ _ _ _ _ c.in_ok-written.ensures.reads
+    (first_fails _ _ _ _ _ _ _ _ c.in_err-links.ensures.reads)))))
 
 pub returns-clause-reads : goal.returns-clause-reads
 unfolding commit_at
 returns-clause-reads g c =
     (then_reads _ _ _ _ _ _ _ _ _ c.in_ok-mark.ensures.reads
     (then_reads _ _ _ _ _ _ _ _ _ c.in_ok-skip_oid.ensures.reads
-    (then_reads _ _ _ _ _ _ _ _ _ c.in_ok-author.ensures.reads
-    (then_reads _ _ _ _ _ _ _ _ _ c.in_ok-committer.ensures.reads
-    (then_reads _ _ _ _ _ _ _ _ _ c.in_ok-check_unsigned.ensures.reads
-    (then_reads _ _ _ _ _ _ _ _ _ c.in_ok-encoding.ensures.reads
-    (then_reads _ _ _ _ _ _ _ _ _ c.in_ok-message.ensures.reads
-    (then_reads _ _ _ _ _ _ _ _ _ c.in_ok-from.ensures.reads
-    (all_read shown_commit _ _)))))))))
+    (reads_alike _ _ _ _ _ _ (written_first (commit_behind c.args.branch.bytes.items c.in_ok-mark.mark))
+    (then_reads _ _ _ _ _ _ _ _ _ c.in_ok-written.ensures.reads
+    (then_reads _ _ _ _ _ _ _ _ _ c.in_ok-links.ensures.reads
+    (all_read shown_commit _ _))))))

@@ -6,6 +6,27 @@ use Rattle.gx_command.specs.Bodies.{shown_links}
 use Rattle.gx_command.proofs.Sequences.{first_fails, then_reads, all_read, falls_not}
 use Rattle.gx_command.proofs.ahead.Ahead.links.Goals as goal
 
+pub returns-in_err-from-clause-reads : goal.returns-in_err-from-clause-reads
+unfolding links_at
+returns-in_err-from-clause-reads g c =
+    let p = err_from_is_err_and c.from_residual.result c.from_residual.ensures.1 in rw (p.1, p.2)
+    (first_fails _ _ _ _ _ _ _ _ c.in_err-from.ensures.reads)
+
+pub returns-in_err-merges-clause-reads : goal.returns-in_err-merges-clause-reads
+unfolding links_at
+returns-in_err-merges-clause-reads g c =
+    let p = err_from_is_err_and c.from_residual-in_err-merges.result c.from_residual-in_err-merges.ensures.1 in rw (p.1, p.2)
+    (then_reads _ _ _ _ _ _ _ _ _ c.in_ok-from.ensures.reads
+    (first_fails _ _ _ _ _ _ _ _ c.in_err-merges.ensures.reads))
+
+pub returns-in_err-changes-clause-reads : goal.returns-in_err-changes-clause-reads
+unfolding links_at
+returns-in_err-changes-clause-reads g c =
+    let p = err_from_is_err_and c.from_residual-in_err-changes.result c.from_residual-in_err-changes.ensures.1 in rw (p.1, p.2)
+    (then_reads _ _ _ _ _ _ _ _ _ c.in_ok-from.ensures.reads
+    (then_reads _ _ _ _ _ _ _ _ _ c.in_ok-merges.ensures.reads
+    (first_fails _ _ _ _ _ _ _ _ c.in_err-changes.ensures.reads)))
+
 pub returns-in_err-end-clause-reads : goal.returns-in_err-end-clause-reads
 unfolding links_at
 returns-in_err-end-clause-reads g c =

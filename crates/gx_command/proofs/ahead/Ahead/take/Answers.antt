@@ -8,5 +8,4 @@ unfolding to_come
 returns-in_default-2-clause-takes g c =
     let read = rw (c.in_ok-item.was, c.in_default-2.is) at c.next.follows.holds-at-none in
     let before : c.args.self.now.held ≡ None = search rules in
-    let after : c.take.new.self ≡ None = search rules in
-    none_taken _ _ _ _ _ before after read.0
+    none_taken _ _ _ _ _ before before read.0

@@ -13,9 +13,9 @@ pub seen_more : {A : Type 0} (es : List (Entry A)) (i : ℕ) (r : Entry A) → i
 seen_more es i r l ir = rw (drop_more es i r l, ← ir) refl
 
 -- one more that is seen alike
-pub alike_more : {A : Type 0} (es : List (Entry A)) (i : ℕ) (r e : Entry A) (out out' : List (Entry A)) → i < length es → r ≡ get_or es i r → shown_entry e ≡ shown_entry r → out' ≡ out ++ e ∷ [] → shown_entries out ++ shown_entries (drop i es) ≡ shown_entries es → shown_entries out' ++ shown_entries (drop (i + 1) es) ≡ shown_entries es
-alike_more es i r e out out' l ir se so h =
-    rw (so, map-append shown_entry out (e ∷ []), append_assoc (shown_entries out) (shown_entry e ∷ []) (shown_entries (drop (i + 1) es)), se) (rw (seen_more es i r l ir) at h)
+pub alike_more : {A : Type 0} (es : List (Entry A)) (i : ℕ) (r : Entry A) (out out' : List (Entry A)) → i < length es → r ≡ get_or es i r → shown_entries out' ≡ shown_entries out ++ shown_entry r ∷ [] → shown_entries out ++ shown_entries (drop i es) ≡ shown_entries es → shown_entries out' ++ shown_entries (drop (i + 1) es) ≡ shown_entries es
+alike_more es i r out out' l ir so h =
+    rw (so, append_assoc (shown_entries out) (shown_entry r ∷ []) (shown_entries (drop (i + 1) es))) (rw (seen_more es i r l ir) at h)
 
 -- all of them
 pub alike_all : {A : Type 0} (es xs : List (Entry A)) (i : ℕ) (out : List (Entry A)) → length xs ≤ i → xs ≡ es → shown_entries out ++ shown_entries (drop i xs) ≡ shown_entries xs → shown_entries out ≡ shown_entries es

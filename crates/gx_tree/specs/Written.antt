@@ -1,5 +1,5 @@
 -- Parts of trees once they are written: each directory remembers the name of its tree, and what is so named is held.
-use Rattle.std.specs.Prelude.{◌≡◌, List, IsTrue}
+use Rattle.std.specs.Prelude.{◌≡◌, List, [], ◌∷◌, ◌++◌, IsTrue}
 use Rattle.std.specs.declared.rc.Rc.{Rc}
 use Rattle.std.specs.declared.vec.Vec.{Vec}
 use Rattle.gx_model.specs.declared.objects.Kind.{Kind}
@@ -36,6 +36,14 @@ pub record AreWritten {A : Type 0} (name : Kind → Bytes → Bytes) (rs : List 
 -- entries that may be shared, written
 abbrev pub AreWrittenIn : {A : Type 0} → (Kind → Bytes → Bytes) → List Record → Rc (Vec (Entry A) A) A → Rc (Vec (Entry A) A) A → Type 0
 AreWrittenIn name rs old new = AreWritten name rs old.value.items new.value.items
+
+-- the old entries, with an item at a component behind them
+abbrev pub PushesItem : {A : Type 0} → Bytes → Item A → Vec (Entry A) A → Vec (Entry A) A → Type 0
+PushesItem c item old new = shown_entries new.items ≡ shown_entries old.items ++ (c, shown_item item) ∷ []
+
+-- where the item and all old entries remember their names, all new ones do
+abbrev pub RemembersMore : {A : Type 0} → Item A → Vec (Entry A) A → Vec (Entry A) A → Type 0
+RemembersMore item old new = Remembers item → RememberAll old.items → RememberAll new.items
 
 -- the records of the trees below entries
 abbrev pub records_below : {A : Type 0} → (Kind → Bytes → Bytes) → List (Entry A) → List Record

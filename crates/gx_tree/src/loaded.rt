@@ -33,12 +33,17 @@ impl<A: Allocator + Copy> Loaded<A> {
         }
     }
 
-    /// Enters the directory of a tree's name, which it shares. Cost: the logarithm of the number of directories.
-    pub(crate) fn enter(&mut self, name: &Name, directory: &Directory<A>) -> Result<(), AllocError>
-        ensures { OnOk result (EntersLoaded name.now directory.now self.old self.new) }
+    /// Enters the directory of a tree's name, and answers it shared. Cost: the logarithm of the number of directories.
+    pub(crate) fn enter(
+        &mut self,
+        name: &Name,
+        directory: Directory<A>,
+    ) -> Result<Directory<A>, AllocError>
+        ensures directory { IfOk result (λ shared. shared ≡ directory) }
+        ensures entered { OnOk result (EntersLoaded name.now directory self.old self.new) }
     {
-        let directory = directory.shared()?;
+        let shared = directory.shared()?;
         self.directories.insert(*name, directory)?;
-        Ok(())
+        Ok(shared)
     }
 }

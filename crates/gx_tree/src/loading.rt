@@ -39,8 +39,7 @@ impl<A: Allocator + Copy> Directory<A> {
             entries.push(Entry::new(alloc, entry.component, item)?)?;
         }
         let directory = Directory::of(alloc, entries, Some(*name))?;
-        loaded.enter(name, &directory)?;
-        Ok(directory)
+        loaded.enter(name, directory)
     }
 }
 

@@ -4,13 +4,13 @@ ghost use Rattle.std.specs.Prelude.{◌≡◌, ◌++◌, [], IfOk, IfSome, IsTru
 ghost use Rattle.gx_model.specs.Records.Growth.{tree_records};
 ghost use Rattle.gx_model.specs.Objects.{entry_text, tree_text};
 ghost use Rattle.gx_tree.specs.Edits.{level_in};
-ghost use Rattle.gx_tree.specs.Homes.{HoldsIn, AreAtHome, IsItemAtHome};
+ghost use Rattle.gx_tree.specs.Homes.{EntriesKeepHome, HoldsIn, AreAtHome, IsItemAtHome};
 ghost use Rattle.gx_tree.specs.Named.{IsAtHome, is_named, own_name};
 ghost use Rattle.gx_tree.specs.Nodes.{IsLevel};
 ghost use Rattle.gx_tree.specs.Views.{IsNamed, shown_item, own_entry, shown_entries, shown_entry, RememberAll, Remembers};
 ghost use Rattle.std.specs.List.{AllByRecursion};
 ghost use Rattle.gx_tree.specs.Writes.{Extends, StoresAll, kept_records, level_records};
-ghost use Rattle.gx_tree.specs.Written.{AreWritten, AreWrittenIn, IsItemWritten, IsNameAbove, IsWritten, Writes, record_above, records_below};
+ghost use Rattle.gx_tree.specs.Written.{AreWritten, AreWrittenIn, IsItemWritten, IsNameAbove, IsWritten, PushesItem, RemembersMore, Writes, record_above, records_below};
 
 use crate::directory::{Directory, Entry, Item};
 use crate::fault::TreeFault;
@@ -132,9 +132,7 @@ fn write_entries<A: Allocator + Copy, N: Namer>(
 {
     for entry in entries {
         let item = entry.item.written(alloc, store, body, trusts)?;
-        let Ok(()) = named.push(entry.with(item)?) else {
-            return Err(TreeFault::OutOfMemory);
-        };
+        entry.push_with(item, named)?;
     }
     Ok(())
 }
@@ -172,13 +170,15 @@ fn encode_entries<A: Allocator + Copy>(
 }
 
 impl<A: Allocator + Copy> Entry<A> {
-    // The entry with this in place of its item.
-    fn with(&self, item: Item<A>) -> Result<Entry<A>, AllocError>
-        ensures seen { IfOk result (λ e. shown_entry e ≡ ((shown_entry self.now).0, shown_item item)) }
-        ensures item { IfOk result (λ entry. entry.item ≡ item) }
+    // Pushes the entry with this in place of its item.
+    fn push_with(&self, item: Item<A>, named: &mut Vec<Entry<A>, A>) -> Result<(), AllocError>
+        ensures seen { OnOk result (PushesItem (shown_entry self.now).0 item named.old named.new) }
+        ensures home { OnOk result (EntriesKeepHome IsItemAtHome item named.old.items named.new) }
+        ensures remember { OnOk result (RemembersMore item named.old named.new) }
     {
         let component = self.component.shared()?;
-        Ok(Entry { component, item })
+        named.push(Entry { component, item })?;
+        Ok(())
     }
 
     // Appends its text, by the name that it remembers.

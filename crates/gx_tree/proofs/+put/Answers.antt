@@ -1,5 +1,6 @@
-use Rattle.std.proofs.Common.{◌+◌, ◌<◌, drop, length, Some, refl, sym, ap, ◌∙◌, arith, subst}
+use Rattle.std.proofs.Common.{◌+◌, ◌<◌, ◌≤◌, drop, length, Some, refl, sym, ap, ◌∙◌, arith, subst}
 use Rattle.std.proofs.lemmas.Bool.{and_parts}
+use Rattle.std.proofs.lemmas.List.{drop_all}
 use Rattle.gx_tree.specs.Homes.{AreAtHome, IsItemAtHome}
 use Rattle.gx_tree.specs.Nodes.{file, files, folder, kept_map}
 use Rattle.gx_tree.specs.Steps.{kept_grafted}
@@ -53,3 +54,8 @@ edits::put_in-returns-in-Some-get_mut-clause-home g t c = λ name rs h.
     let all : AreAtHome name rs es = subst (λ v. AreAtHome name rs v.items) (sym c.in-Some-get_mut.ensures.value) h in
     let within = subst (λ z. c.in-Some.place < length z) (items_are_those c.as_slice.ensures.value c.deref.ensures ∙ ap (λ v. v.items) (sym c.in-Some-get_mut.ensures.value)) c.in-Some.ensures.found.0 in
     all_set (λ e. IsItemAtHome name rs e.item) es c.in-Some.place _ all (c.put.ensures.home name rs (all_at (λ e. IsItemAtHome name rs e.item) es c.in-Some.place r within c.index_mut.ensures.value all))
+
+pub directory::Item::put-returns-then-is_last-clause-kept : goal.directory::Item::put-returns-then-is_last-clause-kept
+directory::Item::put-returns-then-is_last-clause-kept g t c = λ is.
+    let l : length c.args.path.now ≤ c.args.depth + 1 = omega arith in
+    ap (λ q. kept_grafted q (file (c.args.mode, c.args.name.bytes)) (Some (shown_item c.args.self.now))) (sym (drop_all (c.args.depth + 1) c.args.path.now l))

@@ -1,4 +1,4 @@
-use Rattle.std.proofs.Common.{Vec, ◌≡◌, ◌++◌, Err, Some, refl, sym, ap, ◌∙◌, subst, arith}
+use Rattle.std.proofs.Common.{Vec, ◌≡◌, [], ◌∷◌, ◌++◌, Err, Some, refl, sym, ap, ◌∙◌, subst, arith}
 use Rattle.std.specs.Prelude.{⊤}
 use Rattle.std.specs.List.{AllByRecursion}
 use Rattle.gx_model.specs.Records.Growth.{put_all, tree_records}
@@ -7,7 +7,7 @@ use Rattle.gx_tree.specs.Homes.{AreAtHome, IsItemAtHome}
 use Rattle.gx_tree.specs.Named.{NamedTree}
 use Rattle.gx_tree.specs.Nodes.{IsLevel, components, files, folder}
 use Rattle.gx_tree.specs.Rooms.{IsReach}
-use Rattle.gx_tree.specs.Views.{IsNamed, shown_item, shown_entry, shown_entries, RememberAll, Remembers}
+use Rattle.gx_tree.specs.Views.{IsNamed, shown_item, shown_entry, shown_entries, RememberAll}
 use Rattle.gx_tree.specs.Written.{AreWritten}
 use Rattle.gx_tree.specs.Writes.{PutsAll, kept_records, level_records, map_name, own_record}
 use Rattle.std.specs.declared.rc.Rc.{Rc}
@@ -16,9 +16,9 @@ use Rattle.gx_tree.specs.declared.directory.Item.{Item}
 use Rattle.gx_tree.specs.declared.fault.TreeFault.TheVariants.{OutOfMemory}
 use Rattle.gx_tree.proofs.Copies.{alike_all, alike_more}
 use Rattle.gx_tree.proofs.HeldRecords.{all_held, still_held}
-use Rattle.gx_tree.proofs.Homes.{items_are_those, all_at, all_joined, entries_at_home, files_same}
+use Rattle.gx_tree.proofs.Homes.{items_are_those, all_at, entries_at_home, files_same}
 use Rattle.gx_tree.proofs.Measures.{item_less, item_measure}
-use Rattle.gx_tree.proofs.WrittenHomes.{below_held, directory_written, entries_longer, item_longer, named_held, named_home, named_remember, put_all_again, shared_written, take_whole}
+use Rattle.gx_tree.proofs.WrittenHomes.{below_held, directory_written, entries_longer, item_longer, named_held, named_home, named_remember, put_all_again, shared_written}
 use Rattle.gx_tree.proofs.WrittenRecords.{all_written, below_stops, extends_same, extends_trans, made_of_none, own_put, own_stops, passed_on, writing_more, writing_stops}
 use Rattle.gx_tree.proofs.+write.Goals as goal
 
@@ -170,8 +170,8 @@ writing::write_entries-returns-in_err-item-clause-puts g t c =
     passed_on (level_records name (shown_entries xs)) c.args.store.now.1 new c.from_residual.result fault c.from_residual.ensures.0 c.from_residual.ensures.1
     (writing_stops name (Item g.row.A.Denot) ⊤ xs c.loop-entry.entry-index r c.args.store.now.1 mid new new fault c.loop-entry-test.true c.entry-item.is p c.loop-entry.invariant.1)
 
-pub writing::write_entries-returns-in_err-with-clause-extends : goal.writing::write_entries-returns-in_err-with-clause-extends
-writing::write_entries-returns-in_err-with-clause-extends g t c = extends_trans c.loop-entry.invariant.0 c.written.ensures.extends
+pub writing::write_entries-returns-in_err-push_with-clause-extends : goal.writing::write_entries-returns-in_err-push_with-clause-extends
+writing::write_entries-returns-in_err-push_with-clause-extends g t c = extends_trans c.loop-entry.invariant.0 c.written.ensures.extends
 
 pub writing::write_entries-loop-entry-preserved : goal.writing::write_entries-loop-entry-preserved
 writing::write_entries-loop-entry-preserved g t c =
@@ -187,9 +187,9 @@ writing::write_entries-loop-entry-preserved g t c =
     let home = subst (λ n. IsItemAtHome (g.N.Namer.name_of n) new c.in_ok-item.item) c.loop-entry.invariant.0.namer made.home in (
       extends_trans c.loop-entry.invariant.0 c.written.ensures.extends,
       writing_more name xs c.loop-entry.entry-index r c.args.store.now.1 mid new c.loop-entry-test.true c.entry-item.is puts c.loop-entry.invariant.1,
-      alike_more xs c.loop-entry.entry-index r c.in_ok-with.field-0 named c.push.new.self.items c.loop-entry-test.true c.entry-item.is (c.in_ok-with.ensures.seen ∙ ap (λ j. ((shown_entry r).0, j)) made.kept) c.in-Ok.ensures.items c.loop-entry.invariant.2,
-      subst (AreAtHome name new) (sym c.in-Ok.ensures.items) (all_joined (λ e. IsItemAtHome name new e.item) named _ (entries_longer name mid new (λ n s. still_held (kept_records name k) mid new n s puts) named c.loop-entry.invariant.3) (subst (IsItemAtHome name new) (sym c.in_ok-with.ensures.item) home, tt)),
-      subst RememberAll (sym c.in-Ok.ensures.items) (all_joined (λ e. Remembers e.item) named _ c.loop-entry.invariant.4 (subst Remembers (sym c.in_ok-with.ensures.item) made.remembers, tt)),
+      alike_more xs c.loop-entry.entry-index r named c.push_with.new.named.items c.loop-entry-test.true c.entry-item.is (c.in_ok-push_with.ensures.seen ∙ ap (λ j. shown_entries named ++ ((shown_entry r).0, j) ∷ []) made.kept) c.loop-entry.invariant.2,
+      c.in_ok-push_with.ensures.home name new (home, entries_longer name mid new (λ n s. still_held (kept_records name k) mid new n s puts) named c.loop-entry.invariant.3),
+      c.in_ok-push_with.ensures.remember made.remembers c.loop-entry.invariant.4,
     )
 
 pub writing::write_entries-returns-clause-puts : goal.writing::write_entries-returns-clause-puts
@@ -272,8 +272,8 @@ writing::write_entries-loop-entry-init g t c =
       subst RememberAll none tt,
     )
 
-pub writing::write_entries-returns-in_err-with-clause-puts : goal.writing::write_entries-returns-in_err-with-clause-puts
-writing::write_entries-returns-in_err-with-clause-puts g t c = passed_on (level_records (g.N.Namer.name_of c.args.store.now.0) (shown_entries c.args.entries.now)) c.args.store.now.1 c.written.new.store.1 c.from_residual-in_err-with.result OutOfMemory c.from_residual-in_err-with.ensures.0 c.from_residual-in_err-with.ensures.1 tt
+pub writing::write_entries-returns-in_err-push_with-clause-puts : goal.writing::write_entries-returns-in_err-push_with-clause-puts
+writing::write_entries-returns-in_err-push_with-clause-puts g t c = passed_on (level_records (g.N.Namer.name_of c.args.store.now.0) (shown_entries c.args.entries.now)) c.args.store.now.1 c.written.new.store.1 c.from_residual-in_err-push_with.result OutOfMemory c.from_residual-in_err-push_with.ensures.0 c.from_residual-in_err-push_with.ensures.1 tt
 
 pub writing::written_entries-write_entries-requires : goal.writing::written_entries-write_entries-requires
 writing::written_entries-write_entries-requires g t c =

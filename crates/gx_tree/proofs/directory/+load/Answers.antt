@@ -4,6 +4,7 @@ use Rattle.gx_tree.specs.Named.{IsAtHome, IsHome, NamedTree, is_named}
 use Rattle.gx_tree.proofs.Homes.{all_joined, files_same, named_at_home}
 use Rattle.std.proofs.Common.{refl, ◌≡◌, ◌*◌, ◌<◌, map, sym, ap, ◌∙◌, subst, arith}
 use Rattle.std.proofs.lemmas.List.{map-append}
+use Rattle.std.proofs.lemmas.Result.{IfOk-weaker, on_ok_weaker}
 use Rattle.gx_model.proofs.FileMapEdits.{parts_of}
 use Rattle.gx_object.specs.Entries.{shown}
 use Rattle.gx_model.specs.Histories.Files.{FileMap}
@@ -84,7 +85,7 @@ Directory::load-returns g t c =
       home = subst (IsAtHome name c.args.store.now.1) (sym e) home;
       remembers = ap (λ (t : NamedTree). is_named t.names) e;
     } in
-    record { directory = own; loaded = c.in_ok-enter.ensures name c.args.store.now.1 c.loop-entry.invariant.3 own }
-
-pub Directory::load-same-directory : goal.Directory::load-same-directory
-Directory::load-same-directory g t c = refl
+    record {
+      directory = IfOk-weaker c.enter.result _ _ (λ d same. subst (IsLoaded name c.args.store.now.1 c.args.name.now.bytes) (sym same) own) c.enter.ensures.directory;
+      loaded = on_ok_weaker c.enter.result (λ entered. entered name c.args.store.now.1 c.loop-entry.invariant.3 own) c.enter.ensures.entered;
+    }

@@ -17,7 +17,13 @@ entered P k m d o own others = elim (byte_cmp k m) as (λ b. byte_cmp k m ≡ b 
   | Greater ↦ λ e. others
 ] refl
 
-pub returns : goal.returns
-returns g c = λ of rs loaded own n.
+pub returns-clause-entered : goal.returns-clause-entered
+returns-clause-entered g c = λ of rs loaded own n.
     subst (λ o. IfSome o (IsLoaded of rs n.bytes)) (sym (c.in_ok-insert.ensures.updates.0 n))
-    (entered (IsLoaded of rs) c.args.name.now.bytes n.bytes c.in_ok-directory.directory _ (subst (IsLoaded of rs c.args.name.now.bytes) (sym c.in_ok-directory.ensures) own) (loaded n))
+    (entered (IsLoaded of rs) c.args.name.now.bytes n.bytes c.args.directory _ own (loaded n))
+
+pub same-directory : goal.same-directory
+same-directory g c = refl
+
+pub same-shared : goal.same-shared
+same-shared g c = refl

@@ -5,10 +5,10 @@
 ghost use Rattle.std.specs.Prelude.{◌≤◌, ◌-◌, ◌^◌, IfOk};
 
 use gx_command::{CommandFault, CommandReader};
-use gx_text::{FromRead, Source};
+use gx_text::FromRead;
 use sha1::Sha1;
-use std::alloc::Allocator;
-use std::io::{Read, Write};
+use std::alloc::Global;
+use std::io::{Read, Stdin, Write};
 use std::process::ExitCode;
 use std::{env, io};
 
@@ -46,7 +46,12 @@ fn copy_hashed(rt: &HostRuntime) -> io::Result<ExitCode> {
 /// Prints how many commands the stream on standard input has.
 fn print_count(rt: &HostRuntime) -> io::Result<ExitCode> {
     let mut reader = CommandReader::new(rt.alloc(), FromRead::new(rt.stdin()));
-    match count_commands(&mut reader) {
+    print_answer(rt, count_commands(&mut reader))
+}
+
+/// Prints a count, or why there is none.
+fn print_answer(rt: &HostRuntime, answer: Result<u64, CommandFault>) -> io::Result<ExitCode> {
+    match answer {
         Ok(count) => {
             println!(rt; "{count}")?;
             Ok(ExitCode::from(0))
@@ -59,9 +64,7 @@ fn print_count(rt: &HostRuntime) -> io::Result<ExitCode> {
 }
 
 /// How many commands come, up to the end.
-fn count_commands<R: Source, A: Allocator + Copy>(
-    reader: &mut CommandReader<R, A>,
-) -> Result<u64, CommandFault>
+fn count_commands(reader: &mut CommandReader<FromRead<Stdin>, Global>) -> Result<u64, CommandFault>
     requires { reader.old.most ≤ 2 ^ 63 - 1 }
     ensures { IfOk result (λ count. count ≤ reader.old.most) }
 {

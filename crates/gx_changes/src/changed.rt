@@ -4,7 +4,7 @@ ghost use Rattle.std.specs.Prelude.{◌<◌, length};
 use crate::breach::{Breach, Case};
 use crate::store_text::{look_at_old_text, look_at_text};
 use crate::stream::look_at_stream;
-use std::alloc::Allocator;
+use std::alloc::Global;
 use std::fmt::{self, Display, Formatter, Write};
 use std::hash::RandomState;
 
@@ -28,8 +28,8 @@ impl Display for Text {
 }
 
 /// Changes each byte of a text in turn to other values, of which it takes every `step`th, and looks at what comes of each.
-pub(crate) fn try_changes<A: Allocator + Copy>(
-    alloc: A,
+pub(crate) fn try_changes(
+    alloc: Global,
     kind: Text,
     text: &mut [u8],
     step: usize,
@@ -44,8 +44,8 @@ pub(crate) fn try_changes<A: Allocator + Copy>(
 }
 
 /// Where the values begin depends on the place, so that all come up somewhere.
-fn try_values<A: Allocator + Copy>(
-    alloc: A,
+fn try_values(
+    alloc: Global,
     kind: Text,
     text: &mut [u8],
     place: usize,
@@ -74,12 +74,7 @@ fn try_values<A: Allocator + Copy>(
     Ok(())
 }
 
-fn look_at<A: Allocator + Copy>(
-    alloc: A,
-    kind: Text,
-    text: &[u8],
-    state: RandomState,
-) -> Result<(), Breach> {
+fn look_at(alloc: Global, kind: Text, text: &[u8], state: RandomState) -> Result<(), Breach> {
     match kind {
         Text::Stream => look_at_stream(alloc, text, state),
         Text::StoreText => look_at_text(alloc, text, state),

@@ -20,25 +20,58 @@ use std::process::ExitCode;
 use stream::store_texts_of;
 
 fn main(rt: HostRuntime) -> io::Result<ExitCode> {
-    let Some(step) = step_of(&rt)? else {
-        eprintln!(rt;
-            "usage: gx_changes STEP: every STEPth value of a byte is tried, from 1 to 256"
-        )?;
-        return Ok(ExitCode::from(2));
-    };
+    match step_of(&rt)? {
+        Some(step) => try_input(&rt, step),
+        None => {
+            eprintln!(rt;
+                "usage: gx_changes STEP: every STEPth value of a byte is tried, from 1 to 256"
+            )?;
+            Ok(ExitCode::from(2))
+        }
+    }
+}
+
+/// Tries the stream on standard input.
+fn try_input(rt: &HostRuntime, step: usize) -> io::Result<ExitCode>
+    requires { 0 < step }
+{
     let mut stream = Vec::new(rt.alloc());
     rt.stdin().read_to_end(&mut stream)?;
-    let state = RandomState::new(&rt)?;
-    let (mut text, mut old) = match store_texts_of(rt.alloc(), stream.as_slice(), state) {
-        Ok(texts) => texts,
+    try_stream(rt, &mut stream, step, RandomState::new(rt)?)
+}
+
+/// Tries a stream, and the store texts of what it makes.
+fn try_stream(
+    rt: &HostRuntime,
+    stream: &mut [u8],
+    step: usize,
+    state: RandomState,
+) -> io::Result<ExitCode>
+    requires { 0 < step }
+{
+    match store_texts_of(rt.alloc(), stream, state) {
+        Ok((mut text, mut old)) => try_texts(rt, stream, &mut text, &mut old, step, state),
         Err(breach) => {
             eprintln!(rt; "gx_changes: {breach}")?;
-            return Ok(ExitCode::from(1));
+            Ok(ExitCode::from(1))
         }
-    };
-    let is_fit = try_text(&rt, Text::Stream, stream.as_mut_slice(), step, state)?
-        && try_text(&rt, Text::StoreText, text.as_mut_slice(), step, state)?
-        && try_text(&rt, Text::OldStoreText, old.as_mut_slice(), step, state)?;
+    }
+}
+
+/// Tries a stream and its store texts, up to the first change that breaks something.
+fn try_texts(
+    rt: &HostRuntime,
+    stream: &mut [u8],
+    text: &mut [u8],
+    old: &mut [u8],
+    step: usize,
+    state: RandomState,
+) -> io::Result<ExitCode>
+    requires { 0 < step }
+{
+    let is_fit = try_text(rt, Text::Stream, stream, step, state)?
+        && try_text(rt, Text::StoreText, text, step, state)?
+        && try_text(rt, Text::OldStoreText, old, step, state)?;
     Ok(ExitCode::from(if is_fit { 0 } else { 1 }))
 }
 
@@ -69,11 +102,18 @@ fn step_of(rt: &HostRuntime) -> io::Result<Option<usize>>
     ensures { IfOk result (λ step. IfSome step (λ n. 0 < n)) }
 {
     let args: Vec<String> = env::args(rt)?.collect(rt.alloc())?;
-    let Some(word) = args.get(1) else {
-        return Ok(None);
-    };
-    match decimal(word.as_bytes()) {
-        Some(step) if 1 <= step && step <= 256 => Ok(Some(step as usize)),
-        _ => Ok(None),
+    Ok(match args.get(1) {
+        Some(word) => number_of(word.as_bytes()),
+        None => None,
+    })
+}
+
+/// The number from 1 to 256 that a word is.
+fn number_of(word: &[u8]) -> Option<usize>
+    ensures { IfSome result (λ n. 0 < n) }
+{
+    match decimal(word) {
+        Some(step) if 1 <= step && step <= 256 => Some(step as usize),
+        _ => None,
     }
 }

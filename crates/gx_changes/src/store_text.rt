@@ -6,58 +6,45 @@ use crate::stream::exported;
 use gx_file::{FileFault, read, write};
 use gx_object::Sha1Namer;
 use gx_repo::Repo;
-use std::alloc::Allocator;
+use std::alloc::Global;
 use std::hash::RandomState;
 
 /// A text that is read is written again as it was, and what was read can be exported.
-pub(crate) fn look_at_text<A: Allocator + Copy>(
-    alloc: A,
-    text: &[u8],
-    state: RandomState,
-) -> Result<(), Breach> {
-    match repository_of(alloc, text, state)? {
-        Some(repo) => look_at_read(alloc, &repo, text),
-        None => Ok(()),
+pub(crate) fn look_at_text(alloc: Global, text: &[u8], state: RandomState) -> Result<(), Breach> {
+    match read(alloc, Sha1Namer, text, state) {
+        Ok(repo) => look_at_read(alloc, &repo, text),
+        Err(fault) => look_at_fault(fault),
     }
 }
 
 /// A text of version 1 that is read is the one of what was read, which is written as version 2 and can be exported.
-pub(crate) fn look_at_old_text<A: Allocator + Copy>(
-    alloc: A,
+pub(crate) fn look_at_old_text(
+    alloc: Global,
     text: &[u8],
     state: RandomState,
 ) -> Result<(), Breach> {
-    match repository_of(alloc, text, state)? {
-        Some(repo) => look_at_old(alloc, &repo, text, state),
-        None => Ok(()),
-    }
-}
-
-/// The repository that a store text is read as; none where it is refused.
-fn repository_of<A: Allocator + Copy>(
-    alloc: A,
-    text: &[u8],
-    state: RandomState,
-) -> Result<Option<Repo<Sha1Namer, A>>, Breach> {
     match read(alloc, Sha1Namer, text, state) {
-        Ok(repo) => Ok(Some(repo)),
-        Err(FileFault::OutOfMemory) => Err(Breach::OutOfMemory),
-        Err(_) => Ok(None),
+        Ok(repo) => look_at_old(alloc, &repo, text, state),
+        Err(fault) => look_at_fault(fault),
     }
 }
 
-fn look_at_read<A: Allocator + Copy>(
-    alloc: A,
-    repo: &Repo<Sha1Namer, A>,
-    text: &[u8],
-) -> Result<(), Breach> {
+/// A text may be refused for all but want of memory.
+fn look_at_fault(fault: FileFault) -> Result<(), Breach> {
+    match fault {
+        FileFault::OutOfMemory => Err(Breach::OutOfMemory),
+        _ => Ok(()),
+    }
+}
+
+fn look_at_read(alloc: Global, repo: &Repo<Sha1Namer, Global>, text: &[u8]) -> Result<(), Breach> {
     exported(alloc, repo)?;
     is_written_as(alloc, repo, text)
 }
 
-fn look_at_old<A: Allocator + Copy>(
-    alloc: A,
-    repo: &Repo<Sha1Namer, A>,
+fn look_at_old(
+    alloc: Global,
+    repo: &Repo<Sha1Namer, Global>,
     text: &[u8],
     state: RandomState,
 ) -> Result<(), Breach> {
@@ -71,23 +58,25 @@ fn look_at_old<A: Allocator + Copy>(
 }
 
 /// A repository is written, read again, and written as the same text.
-pub(crate) fn look_at_written<A: Allocator + Copy>(
-    alloc: A,
-    repo: &Repo<Sha1Namer, A>,
+pub(crate) fn look_at_written(
+    alloc: Global,
+    repo: &Repo<Sha1Namer, Global>,
     state: RandomState,
 ) -> Result<(), Breach> {
     let text = write(alloc, repo)?;
-    match repository_of(alloc, text.as_slice(), state)? {
-        Some(again) => is_written_as(alloc, &again, text.as_slice()),
-        None => Err(Breach::NoReading),
+    comes_again(alloc, &text, state)
+}
+
+/// A written text is read, and written as the same text.
+fn comes_again(alloc: Global, text: &[u8], state: RandomState) -> Result<(), Breach> {
+    match read(alloc, Sha1Namer, text, state) {
+        Ok(again) => is_written_as(alloc, &again, text),
+        Err(FileFault::OutOfMemory) => Err(Breach::OutOfMemory),
+        Err(_) => Err(Breach::NoReading),
     }
 }
 
-fn is_written_as<A: Allocator + Copy>(
-    alloc: A,
-    repo: &Repo<Sha1Namer, A>,
-    text: &[u8],
-) -> Result<(), Breach> {
+fn is_written_as(alloc: Global, repo: &Repo<Sha1Namer, Global>, text: &[u8]) -> Result<(), Breach> {
     if write(alloc, repo)?.as_slice() == text {
         Ok(())
     } else {

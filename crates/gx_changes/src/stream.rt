@@ -10,18 +10,14 @@ use gx_object::{Name, Sha1Namer};
 use gx_repo::Repo;
 use gx_rev::{Range, RevFault, walk};
 use gx_text::{Bytes, Held};
-use std::alloc::Allocator;
+use std::alloc::Global;
 use std::hash::RandomState;
 
 /// More than an export of these texts takes.
 const ROOM: usize = 4096;
 
 /// Imports a stream into an empty repository and looks at what it leaves.
-pub(crate) fn look_at_stream<A: Allocator + Copy>(
-    alloc: A,
-    text: &[u8],
-    state: RandomState,
-) -> Result<(), Breach> {
+pub(crate) fn look_at_stream(alloc: Global, text: &[u8], state: RandomState) -> Result<(), Breach> {
     let mut repo = Repo::new(alloc, Sha1Namer, state);
     match imports(alloc, &mut repo, text)? {
         None => look_at_imported(alloc, &repo, state),
@@ -30,11 +26,11 @@ pub(crate) fn look_at_stream<A: Allocator + Copy>(
 }
 
 /// The store text of what a stream makes, and that of version 1.
-pub(crate) fn store_texts_of<A: Allocator + Copy>(
-    alloc: A,
+pub(crate) fn store_texts_of(
+    alloc: Global,
     text: &[u8],
     state: RandomState,
-) -> Result<(Vec<u8, A>, Vec<u8, A>), Breach> {
+) -> Result<(Vec<u8>, Vec<u8>), Breach> {
     let mut repo = Repo::new(alloc, Sha1Namer, state);
     match imports(alloc, &mut repo, text)? {
         None => texts_of(alloc, &repo),
@@ -42,62 +38,67 @@ pub(crate) fn store_texts_of<A: Allocator + Copy>(
     }
 }
 
-fn texts_of<A: Allocator + Copy>(
-    alloc: A,
-    repo: &Repo<Sha1Namer, A>,
-) -> Result<(Vec<u8, A>, Vec<u8, A>), Breach> {
+fn texts_of(alloc: Global, repo: &Repo<Sha1Namer, Global>) -> Result<(Vec<u8>, Vec<u8>), Breach> {
     let text = write(alloc, repo)?;
-    let old = old_text_of(alloc, repo)?;
-    Ok((text, old))
+    Ok((text, old_text_of(alloc, repo)?))
 }
 
 /// The export of a repository.
-pub(crate) fn exported<A: Allocator + Copy>(
-    alloc: A,
-    repo: &Repo<Sha1Namer, A>,
-) -> Result<Held<A>, Breach> {
+pub(crate) fn exported(
+    alloc: Global,
+    repo: &Repo<Sha1Namer, Global>,
+) -> Result<Held<Global>, Breach> {
     let mut sink = Held::new(alloc, ROOM)?;
-    match export(alloc, repo, &mut sink) {
-        Ok(()) => Ok(sink),
+    export_to(alloc, repo, &mut sink)?;
+    Ok(sink)
+}
+
+fn export_to(
+    alloc: Global,
+    repo: &Repo<Sha1Namer, Global>,
+    sink: &mut Held<Global>,
+) -> Result<(), Breach> {
+    match export(alloc, repo, sink) {
+        Ok(()) => Ok(()),
         Err(ExportFault::OutOfMemory) => Err(Breach::OutOfMemory),
         Err(_) => Err(Breach::NoExport),
     }
 }
 
 /// Why an import is refused; none where it isn't.
-fn imports<A: Allocator + Copy>(
-    alloc: A,
-    repo: &mut Repo<Sha1Namer, A>,
+fn imports(
+    alloc: Global,
+    repo: &mut Repo<Sha1Namer, Global>,
     text: &[u8],
 ) -> Result<Option<ImportKind>, Breach> {
     let mut sink = Held::new(alloc, ROOM)?;
-    let answer = import(alloc, repo, Bytes::new(text, 64, false), &mut sink);
-    Ok(answer.err().map(|fault| fault.kind))
+    match import(alloc, repo, Bytes::new(text, 64, false), &mut sink) {
+        Ok(_) => Ok(None),
+        Err(fault) => Ok(Some(fault.kind)),
+    }
 }
 
 /// A refused import has a fault that the stream brings, and leaves nothing.
-fn look_at_refused<A: Allocator + Copy>(
-    repo: &Repo<Sha1Namer, A>,
-    kind: ImportKind,
-) -> Result<(), Breach> {
+fn look_at_refused(repo: &Repo<Sha1Namer, Global>, kind: ImportKind) -> Result<(), Breach> {
     match kind {
-        ImportKind::OutOfMemory => return Err(Breach::OutOfMemory),
+        ImportKind::OutOfMemory => Err(Breach::OutOfMemory),
         ImportKind::ReadFailed | ImportKind::WriteFailed | ImportKind::NameHeld => {
-            return Err(Breach::ForeignFault);
+            Err(Breach::ForeignFault)
         }
-        _ => {}
-    }
-    if repo.store().len() == 0 && repo.refs().next().is_none() {
-        Ok(())
-    } else {
-        Err(Breach::Leaves)
+        _ if is_empty(repo) => Ok(()),
+        _ => Err(Breach::Leaves),
     }
 }
 
+/// Whether a repository has no records and no refs.
+fn is_empty(repo: &Repo<Sha1Namer, Global>) -> bool {
+    repo.store().len() == 0 && repo.refs().next().is_none()
+}
+
 /// What an accepted import leaves is written and read again, walked, and exported, and its export comes back.
-fn look_at_imported<A: Allocator + Copy>(
-    alloc: A,
-    repo: &Repo<Sha1Namer, A>,
+fn look_at_imported(
+    alloc: Global,
+    repo: &Repo<Sha1Namer, Global>,
     state: RandomState,
 ) -> Result<(), Breach> {
     look_at_written(alloc, repo, state)?;
@@ -106,9 +107,9 @@ fn look_at_imported<A: Allocator + Copy>(
 }
 
 /// The export of a repository is imported, into one that has the same export.
-fn look_at_imported_again<A: Allocator + Copy>(
-    alloc: A,
-    repo: &Repo<Sha1Namer, A>,
+fn look_at_imported_again(
+    alloc: Global,
+    repo: &Repo<Sha1Namer, Global>,
     text: &[u8],
     state: RandomState,
 ) -> Result<(), Breach> {
@@ -120,10 +121,10 @@ fn look_at_imported_again<A: Allocator + Copy>(
 }
 
 /// What came of the export has the refs of what was exported, and the same export.
-fn look_at_export<A: Allocator + Copy>(
-    alloc: A,
-    repo: &Repo<Sha1Namer, A>,
-    again: &Repo<Sha1Namer, A>,
+fn look_at_export(
+    alloc: Global,
+    repo: &Repo<Sha1Namer, Global>,
+    again: &Repo<Sha1Namer, Global>,
     text: &[u8],
 ) -> Result<(), Breach> {
     if !repo.refs().eq(again.refs()) {
@@ -137,7 +138,7 @@ fn look_at_export<A: Allocator + Copy>(
 }
 
 /// The history of each ref that holds a commit can be listed.
-fn look_at_walks<A: Allocator + Copy>(alloc: A, repo: &Repo<Sha1Namer, A>) -> Result<(), Breach> {
+fn look_at_walks(alloc: Global, repo: &Repo<Sha1Namer, Global>) -> Result<(), Breach> {
     for (_, name) in repo.refs() {
         if repo.peel(&name) == Some(name) {
             look_at_walk(alloc, repo, &name)?;
@@ -146,11 +147,7 @@ fn look_at_walks<A: Allocator + Copy>(alloc: A, repo: &Repo<Sha1Namer, A>) -> Re
     Ok(())
 }
 
-fn look_at_walk<A: Allocator + Copy>(
-    alloc: A,
-    repo: &Repo<Sha1Namer, A>,
-    name: &Name,
-) -> Result<(), Breach> {
+fn look_at_walk(alloc: Global, repo: &Repo<Sha1Namer, Global>, name: &Name) -> Result<(), Breach> {
     let words = words_of(alloc, name)?;
     match walk(alloc, repo, words.as_slice()) {
         Ok(names) => is_first(names.as_slice(), name),
@@ -159,7 +156,7 @@ fn look_at_walk<A: Allocator + Copy>(
 }
 
 /// The one word that lists what a commit reaches.
-fn words_of<A: Allocator + Copy>(alloc: A, name: &Name) -> Result<Vec<Range<A>, A>, Breach> {
+fn words_of(alloc: Global, name: &Name) -> Result<Vec<Range<Global>>, Breach> {
     let mut words = Vec::new(alloc);
     match Range::read(alloc, &name.hex()) {
         Ok(word) => words.push(word)?,

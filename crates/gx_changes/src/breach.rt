@@ -2,33 +2,41 @@
 
 use crate::changed::Text;
 use std::alloc::{AllocError, AllocFailed};
+use std::fmt::{self, Display, Formatter, Write};
 use thiserror::Error;
 
 /// What is wrong with what came of a stream or of a store text.
-#[derive(Clone, Copy, Debug, Error)]
+#[derive(Clone, Copy, Debug)]
 pub(crate) enum Breach {
-    #[error("memory ran out")]
     OutOfMemory,
-    #[error("the import is refused for what no stream brings")]
     ForeignFault,
-    #[error("the import is refused, and leaves records or refs")]
     Leaves,
-    #[error("the stream on standard input is refused")]
     Refused,
-    #[error("the repository can't be exported")]
     NoExport,
-    #[error("the export can't be imported")]
     NoImport,
-    #[error("the export comes back with other refs")]
     OtherRefs,
-    #[error("the export comes back as another")]
     OtherExport,
-    #[error("a ref's commit can't be walked from")]
     NoWalk,
-    #[error("the written store text can't be read")]
     NoReading,
-    #[error("the store text is written as another")]
     OtherText,
+}
+
+impl Display for Breach {
+    fn fmt<W: Write>(&self, f: &mut Formatter<W>) -> fmt::Result {
+        f.write_str(match self {
+            Breach::OutOfMemory => "memory ran out",
+            Breach::ForeignFault => "the import is refused for what no stream brings",
+            Breach::Leaves => "the import is refused, and leaves records or refs",
+            Breach::Refused => "the stream on standard input is refused",
+            Breach::NoExport => "the repository can't be exported",
+            Breach::NoImport => "the export can't be imported",
+            Breach::OtherRefs => "the export comes back with other refs",
+            Breach::OtherExport => "the export comes back as another",
+            Breach::NoWalk => "a ref's commit can't be walked from",
+            Breach::NoReading => "the written store text can't be read",
+            Breach::OtherText => "the store text is written as another",
+        })
+    }
 }
 
 impl From<AllocError> for Breach {

@@ -19,9 +19,18 @@ const ROOM: usize = 4096;
 /// Imports a stream into an empty repository and looks at what it leaves.
 pub(crate) fn look_at_stream(alloc: Global, text: &[u8], state: RandomState) -> Result<(), Breach> {
     let mut repo = Repo::new(alloc, Sha1Namer, state);
-    match imports(alloc, &mut repo, text)? {
-        None => look_at_imported(alloc, &repo, state),
-        Some(kind) => look_at_refused(&repo, kind),
+    look_at_import(alloc, &mut repo, text, state)
+}
+
+fn look_at_import(
+    alloc: Global,
+    repo: &mut Repo<Sha1Namer, Global>,
+    text: &[u8],
+    state: RandomState,
+) -> Result<(), Breach> {
+    match imports(alloc, repo, text)? {
+        None => look_at_imported(alloc, repo, state),
+        Some(kind) => look_at_refused(repo, kind),
     }
 }
 
@@ -32,8 +41,16 @@ pub(crate) fn store_texts_of(
     state: RandomState,
 ) -> Result<(Vec<u8>, Vec<u8>), Breach> {
     let mut repo = Repo::new(alloc, Sha1Namer, state);
-    match imports(alloc, &mut repo, text)? {
-        None => texts_of(alloc, &repo),
+    texts_of_import(alloc, &mut repo, text)
+}
+
+fn texts_of_import(
+    alloc: Global,
+    repo: &mut Repo<Sha1Namer, Global>,
+    text: &[u8],
+) -> Result<(Vec<u8>, Vec<u8>), Breach> {
+    match imports(alloc, repo, text)? {
+        None => texts_of(alloc, repo),
         Some(_) => Err(Breach::Refused),
     }
 }
@@ -114,8 +131,17 @@ fn look_at_imported_again(
     state: RandomState,
 ) -> Result<(), Breach> {
     let mut again = Repo::new(alloc, Sha1Namer, state);
-    match imports(alloc, &mut again, text)? {
-        None => look_at_export(alloc, repo, &again, text),
+    look_at_reimport(alloc, repo, &mut again, text)
+}
+
+fn look_at_reimport(
+    alloc: Global,
+    repo: &Repo<Sha1Namer, Global>,
+    again: &mut Repo<Sha1Namer, Global>,
+    text: &[u8],
+) -> Result<(), Breach> {
+    match imports(alloc, again, text)? {
+        None => look_at_export(alloc, repo, again, text),
         Some(_) => Err(Breach::NoImport),
     }
 }

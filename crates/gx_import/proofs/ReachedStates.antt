@@ -199,14 +199,13 @@ module _ (name : Kind → Bytes → Bytes) where
   at_start old (Some coming) ahead was e = ([], commands_from coming, e, refl, reached_start name (history_of old) was)
 
   pub at_next : {A : Type 0} (old r new : Records) (tables : Tables A) (coming : Option Coming) (n : ℕ) (s : State) (c : read.Command A) (ahead later : Option Commands) (was mid now : Option Taken)
-      → IsAt old coming n s ahead was mid → Reads ahead later (Ok (Some c)) → Applies name r new tables s (shown_command c) mid now (Ok tt)
-      → (t : State) × (step name s (shown_command c) ≡ Ok t) × Stands name new tables t × IsAt old coming (n + 1) t later was now
+      → IsAt old coming n s ahead was mid → Reads ahead later (Ok (Some c)) → (h : Applies name r new tables s (shown_command c) mid now (Ok tt)) → IsAt old coming (n + 1) h.0 later was now
   at_next old r new tables None n s c ahead later was mid now k reads h =
-      (h.0, h.2, h.3, (k.0 ++ shown_command c ∷ [], reached_next name (history_of old) k.0 n s (shown_command c) was mid now k.1 h.0 h.1 h.2 h.4.progress h.4.held h.5))
+      (k.0 ++ shown_command c ∷ [], reached_next name (history_of old) k.0 n s (shown_command c) was mid now k.1 h.0 h.1 h.2 h.4.progress h.4.held h.5)
   at_next {A} old r new tables (Some coming) n s c ahead later was mid now k reads h =
       let q = subst (λ o. Reads {A = A} o later (Ok (Some c))) k.2 reads in
       let whole = k.3 ∙ ap (behind k.0) q.1 ∙ sym (behind_next k.0 (shown_command c) q.0) in
-      (h.0, h.2, h.3, (k.0 ++ shown_command c ∷ [], q.0, q.2, whole, reached_next name (history_of old) k.0 n s (shown_command c) was mid now k.4 h.0 h.1 h.2 h.4.progress h.4.held h.5))
+      (k.0 ++ shown_command c ∷ [], q.0, q.2, whole, reached_next name (history_of old) k.0 n s (shown_command c) was mid now k.4 h.0 h.1 h.2 h.4.progress h.4.held h.5)
 
   -- what is answered over these commands is answered over those that the source gives
   told : (old last : Records) (coming : Coming) (commands : Commands) (was now : Option Taken) (fault : ImportFault) → commands_from coming ≡ commands

@@ -1,6 +1,7 @@
 -- What reading, applying and writing do on the way through a stream, and where the replay of all commands ends.
 -- Source: git-fast-import(1), "Commands".
 use Rattle.std.specs.Prelude.{◌≡◌, ℕ, ◌+◌, List, length, Option, Some, None, Result, Ok, Err, ⊤}
+use Rattle.std.specs.Option.{option_map}
 use Rattle.gx_model.specs.declared.objects.Kind.{Kind}
 use Rattle.gx_model.specs.Texts.{Bytes}
 use Rattle.gx_model.specs.Histories.{Records}
@@ -66,6 +67,11 @@ module _ {N W : Type 0} (names : N → Kind → Bytes → Bytes) (taken : W → 
   ReplaysTo old new tables checkpoints coming was now (Ok n) =
       (s : State) × Stands (names old.0) new.1 tables s × Keeps new.1 checkpoints s × EndsAs (names old.0) old.1 coming n s (taken was) (taken now)
   ReplaysTo old new tables checkpoints coming was now (Err fault) = Imports (names old.0) old.1 (left_of checkpoints new.1) coming (taken was) (taken now) (Err fault)
+
+  -- the same over each source whose commands a reader has before it gives any
+  abbrev pub ReplaysRead : Repository N → Repository N → Tables A → Checkpoints A → Option Commands → W → W → Result ℕ ImportFault → Type 0
+  ReplaysRead old new tables checkpoints commands was now answer =
+      (coming : Option Coming) → commands ≡ option_map commands_from coming → ReplaysTo old new tables checkpoints coming was now answer
 
   -- an import of a stream, which leaves after a fault what the checkpoints kept
   abbrev pub LeavesImport : Repository N → Repository N → Checkpoints A → Option Coming → W → W → Result Report ImportFault → Type 0

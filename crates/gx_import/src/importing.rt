@@ -5,7 +5,7 @@ ghost use Rattle.gx_import.specs.Exported.{ImportsAnyExport, KeepsNoNullGitlink,
 ghost use Rattle.gx_import.specs.Imports.{ImportsStream, StandsReplayed};
 ghost use Rattle.gx_import.specs.Keeping.{AreNone, IsLeft};
 ghost use Rattle.gx_import.specs.Replaying.{LeavesImport, left_by};
-ghost use Rattle.gx_import.specs.Standing.{Extends};
+ghost use Rattle.gx_import.specs.Standing.{AreEmpty, Extends};
 ghost use Rattle.gx_model.specs.Records.Sound.{IsSound};
 
 use crate::checkpoints::Checkpoints;
@@ -99,11 +99,31 @@ fn replay_and_publish<N: Namer, A: Allocator + Copy, R: Source + Drop, W: Sink>(
     ensures counted { IfErr result (λ fault. fault.checkpoints ≡ checkpoints.new.count) }
     ensures gitlinks { KeepsNoNullGitlink repo.old.1 (left_by result checkpoints.new repo.new.1) }
 {
+    let mut tables = Tables::new(alloc);
+    replay_into(repo, &mut tables, checkpoints, source, sink)
+}
+
+/// Replays a stream's commands into these tables, and publishes what they made.
+fn replay_into<N: Namer, A: Allocator + Copy, R: Source + Drop, W: Sink>(
+    repo: &mut Repo<N, A>,
+    tables: &mut Tables<A>,
+    checkpoints: &mut Checkpoints<A>,
+    source: R,
+    sink: &mut W,
+) -> Result<Report, ImportFault>
+    requires empty { AreEmpty tables.now }
+    requires none { AreNone repo.now.1 checkpoints.now }
+    ensures namer { repo.new.0 ≡ repo.old.0 }
+    ensures extends { Extends repo.old.1.records repo.new.1.records }
+    ensures replayed { LeavesImport N.name_of W.taken repo.old repo.new checkpoints.new (R.coming source) sink.old sink.new result }
+    ensures left { OnErr result (IsLeft repo.old.1 repo.new.1 checkpoints.new) }
+    ensures counted { IfErr result (λ fault. fault.checkpoints ≡ checkpoints.new.count) }
+    ensures gitlinks { KeepsNoNullGitlink repo.old.1 (left_by result checkpoints.new repo.new.1) }
+{
     histories_of_records();
     let held = repo.store().len();
-    let mut tables = Tables::new(alloc);
-    let commands = replay(repo, &mut tables, checkpoints, source, sink)?;
-    if let Err(kind) = publish(repo, &tables, &mut checkpoints.refs, checkpoints.has_all) {
+    let commands = replay(repo, tables, checkpoints, source, sink)?;
+    if let Err(kind) = publish(repo, tables, &mut checkpoints.refs, checkpoints.has_all) {
         return Err(ImportFault {
             command: commands + 1,
             kind,

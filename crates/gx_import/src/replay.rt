@@ -5,7 +5,7 @@ ghost use Rattle.gx_import.specs.Exported.{MakesNoNullGitlink};
 ghost use Rattle.gx_import.specs.Imports.{line_of};
 ghost use Rattle.gx_import.specs.Keeping.{AreNone, AreStill, EntersEach, HoldsAll, IsLeft, IsNext, KeepsInEach, Moves, left_of};
 ghost use Rattle.gx_command.specs.Reading.{ReadsNoNullGitlink};
-ghost use Rattle.gx_import.specs.Replaying.{FallsNext, ReadsNext, ReplaysTo, Writes};
+ghost use Rattle.gx_import.specs.Replaying.{FallsNext, ReadsNext, ReplaysRead, ReplaysTo, Writes};
 ghost use Rattle.gx_import.specs.Publishing.{PublishesInEach};
 ghost use Rattle.gx_import.specs.Rows.{IsSorted};
 ghost use Rattle.gx_import.specs.Standing.{AreEmpty, Extends, HasTipsAtHome, StandsForSome};
@@ -48,9 +48,34 @@ pub(crate) fn replay<N: Namer, A: Allocator + Copy, R: Source + Drop, W: Sink>(
     ensures gitlinks_left { MakesNoNullGitlink repo.old.1 (left_of checkpoints.new repo.new.1) }
 {
     let mut reader = CommandReader::new(tables.alloc, source);
+    replay_commands(repo, tables, checkpoints, &mut reader, sink)
+}
+
+/// Applies the commands of a reader that has given none yet, and answers their number.
+fn replay_commands<N: Namer, A: Allocator + Copy, R: Source, W: Sink>(
+    repo: &mut Repo<N, A>,
+    tables: &mut Tables<A>,
+    checkpoints: &mut Checkpoints<A>,
+    reader: &mut CommandReader<R, A>,
+    sink: &mut W,
+) -> Result<u64, ImportFault>
+    requires empty { AreEmpty tables.now }
+    requires none { AreNone repo.now.1 checkpoints.now }
+    requires most { reader.now.most ≤ 2 ^ 63 - 1 }
+    ensures namer { repo.new.0 ≡ repo.old.0 }
+    ensures extends { Extends repo.old.1.records repo.new.1.records }
+    ensures count { IfOk result (λ commands. commands ≤ 2 ^ 63 - 1) }
+    ensures replayed { ReplaysRead N.name_of W.taken repo.old repo.new tables.new checkpoints.new reader.old.commands sink.old sink.new result }
+    ensures left { IsLeft repo.old.1 repo.new.1 checkpoints.new }
+    ensures sorted { OnOk result (IsSorted checkpoints.new.refs) }
+    ensures has_all { OnOk result (HoldsAll repo.new.1 checkpoints.new) }
+    ensures counted { IfErr result (λ fault. fault.checkpoints ≡ checkpoints.new.count) }
+    ensures gitlinks { OnOk result (MakesNoNullGitlink repo.old.1 repo.new.1) }
+    ensures gitlinks_left { MakesNoNullGitlink repo.old.1 (left_of checkpoints.new repo.new.1) }
+{
     let mut commands = 0;
     repo.sound();
-    while let Some(command) = next_command(&mut reader, commands, checkpoints.count)? {
+    while let Some(command) = next_command(reader, commands, checkpoints.count)? {
         commands += 1;
         if let Err(kind) = apply(repo, tables, checkpoints, sink, command) {
             return Err(ImportFault {

@@ -1,66 +1,7 @@
-use Rattle.std.proofs.Common.{◌≡◌, ◌-◌, length, Ok, sym, ap, subst, ◌∙◌}
-use Rattle.gx_model.specs.Records.Sound.{IsSound}
-use Rattle.gx_import.specs.Imports.{Imports, Leaves}
-use Rattle.gx_model.specs.Streams.Gitlinks.{HoldsNoNullGitlink}
-use Rattle.gx_model.specs.Histories.{Records}
-use Rattle.gx_model.specs.Records.HistoryOf.{history_of}
-use Rattle.gx_model.specs.Replay.{overwritten}
-use Rattle.gx_import.specs.Keeping.{IsLeft, left_of}
-use Rattle.std.proofs.lemmas.List.{length-map}
-use Rattle.gx_import.specs.Rows.{row_of, rows_of}
-use Rattle.gx_import.specs.Standing.{Stands}
-use Rattle.gx_import.proofs.PublishedNames.{as_many}
-use Rattle.gx_import.proofs.Publications.{imports_all, imports_none}
-use Rattle.gx_import.proofs.ReachedStates.{same_records_keep}
 use Rattle.gx_import.proofs.importing.replay_and_publish.Goals as goal
 
-pub publish-requires : goal.publish-requires
-publish-requires g c =
-    let k = c.in_ok-commands.ensures.replayed in
-    record { sorted = c.in_ok-commands.ensures.sorted; has_all = c.in_ok-commands.ensures.has_all; stands = (k.0, subst (λ n. Stands (g.N.Namer.name_of n) c.replay.new.repo.1 c.replay.new.tables k.0) {y = c.replay.new.repo.0} (sym {a = c.replay.new.repo.0} c.replay.ensures.namer) k.1) }
-
-pub returns-in-Err-clause-replayed : goal.returns-in-Err-clause-replayed
-returns-in-Err-clause-replayed g c =
-    let k = c.in_ok-commands.ensures.replayed in
-    let stands = subst (λ n. Stands (g.N.Namer.name_of n) c.replay.new.repo.1 c.replay.new.tables k.0) {y = c.replay.new.repo.0} (sym {a = c.replay.new.repo.0} c.replay.ensures.namer) k.1 in
-    let left = left_of c.replay.new.checkpoints c.publish.new.repo.1 in
-    let leaves = subst (λ (r : g.row.N.Denot × Records). Leaves (left_of c.replay.new.checkpoints r.1) c.replay.new.checkpoints.count k.0.kept) (sym c.in-Err.ensures.unchanged) k.2.leaves in
-    imports_none (g.N.Namer.name_of c.args.repo.now.0) c.args.repo.now.1 left c.replay.new.repo.1 c.publish.new.repo.1 (g.R.Source.coming c.args.source) c.in_ok-commands.commands k.0 (g.W.Sink.taken c.args.sink.now) (g.W.Sink.taken c.replay.new.sink) k.3
-    c.replay.new.checkpoints.count leaves c.in-Err.kind (c.in-Err.ensures.published k.0 stands)
-
-pub returns-in-Err-clause-left : goal.returns-in-Err-clause-left
-returns-in-Err-clause-left g c =
-    let left = subst (λ (r : g.row.N.Denot × Records). IsLeft c.args.repo.now.1 r.1 c.replay.new.checkpoints) (sym c.in-Err.ensures.unchanged) c.replay.ensures.left in
-    record { fits = left.fits; front = left.front; targets = left.targets; none = left.none }
-
-pub returns-in-Err-clause-gitlinks : goal.returns-in-Err-clause-gitlinks
-returns-in-Err-clause-gitlinks g c = λ none.
-    let name = g.N.Namer.name_of c.args.repo.now.0 in
-    let law = c.histories_of_records.ensures name (g.met.N.Namer.is_namer c.args.repo.now.0) in
-    let left = c.replay.ensures.gitlinks_left (law.stands c.args.repo.now.1 c.store.ensures.sound).history none in
-    subst (λ (r : g.row.N.Denot × Records). HoldsNoNullGitlink (history_of (left_of c.replay.new.checkpoints r.1))) (sym c.in-Err.ensures.unchanged) left
+pub replay_into-requires : goal.replay_into-requires
+replay_into-requires g c = record { empty = c.new-tables.ensures; none = c.requires.none }
 
 pub returns-clause-replayed : goal.returns-clause-replayed
-returns-clause-replayed g c =
-    let k = c.in_ok-commands.ensures.replayed in
-    let name = g.N.Namer.name_of c.args.repo.now.0 in
-    let old = c.args.repo.now.1 in
-    let new = c.publish.new.repo.1 in
-    let coming = g.R.Source.coming c.args.source in
-    let was = g.W.Sink.taken c.args.sink.now in
-    let now = g.W.Sink.taken c.replay.new.sink in
-    let stands = subst (λ n. Stands (g.N.Namer.name_of n) c.replay.new.repo.1 c.replay.new.tables k.0) {y = c.replay.new.repo.0} (sym {a = c.replay.new.repo.0} c.replay.ensures.namer) k.1 in
-    let sounds = subst (λ n. IsSound (g.N.Namer.name_of n) new) {y = c.args.repo.now.0} (c.publish.ensures.namer ∙ c.replay.ensures.namer) c.store-2.ensures.sound in
-    let law = c.histories_of_records.ensures name (g.met.N.Namer.is_namer c.args.repo.now.0) in
-    let held = c.len-held.ensures.count ∙ ap (λ z. length z.1) c.store.ensures.held in
-    let counts = c.len-2.ensures.len ∙ sym (length-map c.publish.new.published.rows.entries row_of) ∙ sym (as_many (overwritten k.0 k.0.published) (rows_of c.publish.new.published) (c.in_default.ensures.entered k.0 stands k.2.names)) in
-    let len = c.len.ensures.count ∙ ap (λ z. length z.1) c.store-2.ensures.held in
-    let all = imports_all name old new c.replay.new.repo.1 coming c.in_ok-commands.commands k.0 was now k.3 law c.store.ensures.sound sounds c.len-2.result (c.in_default.ensures.published k.0 stands) counts in
-    let objects : length new.records - length old.records ≡ c.len.result - c.len-held.result = ap (λ x. x - length old.records) (sym len) ∙ ap (λ x. c.len.result - x) (sym held) in
-    subst (λ x. Imports name old new coming was now (Ok (record { commands = c.in_ok-commands.commands; objects = x; refs = c.len-2.result }))) objects all
-
-pub returns-clause-gitlinks : goal.returns-clause-gitlinks
-returns-clause-gitlinks g c = λ none.
-    let name = g.N.Namer.name_of c.args.repo.now.0 in
-    let law = c.histories_of_records.ensures name (g.met.N.Namer.is_namer c.args.repo.now.0) in
-    same_records_keep c.replay.new.repo.1 c.publish.new.repo.1 c.publish.ensures.records (c.in_ok-commands.ensures.gitlinks (law.stands c.args.repo.now.1 c.store.ensures.sound).history none)
+returns-clause-replayed g c = c.replay_into.ensures.replayed

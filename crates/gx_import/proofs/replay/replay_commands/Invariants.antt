@@ -1,19 +1,22 @@
 use Rattle.std.proofs.Common.{◌≡◌, ◌+◌, ◌-◌, ◌^◌, ◌≤◌}
+use Rattle.std.specs.Option.{option_map}
+use Rattle.gx_text.specs.Devices.{Coming}
+use Rattle.gx_command.specs.Reading.{commands_from}
 use Rattle.gx_model.specs.Streams.Gitlinks.{HoldsNoNullGitlink}
 use Rattle.gx_model.specs.Histories.{IsHistory}
 use Rattle.gx_model.specs.Records.HistoryOf.{history_of}
 use Rattle.gx_model.specs.Replay.{State, byte_cmp}
 use Rattle.gx_model.proofs.GitlinkSteps.{IsFreeState}
-use Rattle.std.specs.Prelude.{IsTrue}
+use Rattle.std.specs.Prelude.{IsTrue, Option}
 use Rattle.std.specs.FinMap.Entries.{is_sorted}
 use Rattle.gx_import.specs.Keeping.{HoldsAll, IsLeft, Keeps}
 use Rattle.gx_import.specs.Rows.{rows_of}
 use Rattle.gx_import.specs.Standing.{AreTipsAtHome, Extends, Stands}
 use Rattle.gx_import.proofs.ReachedStates.{IsAt}
-use Rattle.gx_import.proofs.replay.replay.Given as goal
+use Rattle.gx_import.proofs.replay.replay_commands.Given as goal
 
-abbrev pub invariant-loop-reader : goal.invariant-loop-reader
-invariant-loop-reader g l = record {
+abbrev pub invariant-loop-command : goal.invariant-loop-command
+invariant-loop-command g l = record {
   namer : l.repo.0 ≡ l.fn.repo.0;
   extends : Extends l.fn.repo.1.records l.repo.1.records;
   homes : AreTipsAtHome (g.N.Namer.name_of l.repo.0) l.repo.1.records l.tables;
@@ -23,10 +26,11 @@ invariant-loop-reader g l = record {
   sorted : IsTrue (is_sorted byte_cmp (rows_of l.checkpoints.refs));
   has_all : HoldsAll l.repo.1 l.checkpoints;
   stands : (s : State) × Stands (g.N.Namer.name_of l.repo.0) l.repo.1 l.tables s
-      × IsAt (g.N.Namer.name_of l.repo.0) l.fn.repo.1 (g.R.Source.coming l.fn.source) l.commands s l.reader.commands (g.W.Sink.taken l.fn.sink) (g.W.Sink.taken l.sink)
+      × ((coming : Option Coming) → l.fn.reader.commands ≡ option_map commands_from coming
+      → IsAt (g.N.Namer.name_of l.repo.0) l.fn.repo.1 coming l.commands s l.reader.commands (g.W.Sink.taken l.fn.sink) (g.W.Sink.taken l.sink))
       × (IsHistory (history_of l.fn.repo.1) → HoldsNoNullGitlink (history_of l.fn.repo.1) → IsFreeState s)
       × Keeps l.repo.1 l.checkpoints s;
 }
 
-abbrev pub decreases-loop-reader : goal.decreases-loop-reader
-decreases-loop-reader g l = l.reader.most
+abbrev pub decreases-loop-command : goal.decreases-loop-command
+decreases-loop-command g l = l.reader.most

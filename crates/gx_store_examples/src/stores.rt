@@ -3,7 +3,7 @@
 use gx_object::{Kind, Name, ShortNamer};
 use gx_refusing::Refusing;
 use gx_store::{Prefix, Store, StoreFault, Text};
-use std::alloc::{AllocError, Allocator};
+use std::alloc::{AllocError, Allocator, Global};
 use std::hash::RandomState;
 use std::test::Fail;
 
@@ -113,9 +113,9 @@ const PREFIXES: &[Step] = &[
 ];
 
 /// The answer to bytes that are given.
-fn give<A: Allocator + Copy>(
-    alloc: A,
-    store: &mut Store<ShortNamer, A>,
+fn give(
+    alloc: Global,
+    store: &mut Store<ShortNamer, Global>,
     kind: Kind,
     body: &[u8],
 ) -> Result<Name, StoreFault> {
@@ -145,11 +145,7 @@ fn text_of<A: Allocator + Copy>(alloc: A, bytes: &[u8]) -> Result<Text<A>, Alloc
 }
 
 /// Whether an object is held at a place and under its name.
-fn is_held<A: Allocator + Copy>(
-    store: &Store<ShortNamer, A>,
-    place: usize,
-    object: Object,
-) -> bool {
+fn is_held(store: &Store<ShortNamer, Global>, place: usize, object: Object) -> bool {
     let (name, kind, body) = object;
     store.record(place) == Some(object)
         && store.place(&name) == Some(place)
@@ -157,7 +153,7 @@ fn is_held<A: Allocator + Copy>(
 }
 
 /// Whether exactly these objects are held, in this order.
-fn holds<A: Allocator + Copy>(store: &Store<ShortNamer, A>, objects: &[Object]) -> bool {
+fn holds(store: &Store<ShortNamer, Global>, objects: &[Object]) -> bool {
     for (place, object) in objects.iter().enumerate() {
         if !is_held(store, place, *object) {
             return false;
@@ -167,11 +163,7 @@ fn holds<A: Allocator + Copy>(store: &Store<ShortNamer, A>, objects: &[Object]) 
 }
 
 /// Does a step. Answers whether what is to come of it came.
-fn is_done<A: Allocator + Copy>(
-    alloc: A,
-    store: &mut Store<ShortNamer, A>,
-    step: Step<'_>,
-) -> bool {
+fn is_done(alloc: Global, store: &mut Store<ShortNamer, Global>, step: Step<'_>) -> bool {
     match step {
         Step::Copy(kind, body, answer) => store.put(kind, body) == answer,
         Step::Give(kind, body, answer) => give(alloc, store, kind, body) == answer,
@@ -189,49 +181,51 @@ fn is_done<A: Allocator + Copy>(
     }
 }
 
-/// The first step, done to an empty store in this order, of which something else comes.
-fn first_wrong<A: Allocator + Copy>(
-    alloc: A,
-    state: RandomState,
+/// The first step, done to a store in this order, of which something else comes.
+fn first_wrong(
+    alloc: Global,
+    store: &mut Store<ShortNamer, Global>,
     steps: &[Step<'_>],
 ) -> Option<usize> {
-    let mut store = Store::new(alloc, ShortNamer, state);
     for (place, step) in steps.iter().enumerate() {
-        if !is_done(alloc, &mut store, *step) {
+        if !is_done(alloc, store, *step) {
             return Some(place);
         }
     }
     None
 }
 
-/// A failure that names the first step of which something else came.
+/// A failure that names the first place at which something else came.
 fn all_done(wrong: Option<usize>) -> Result<(), Fail> {
     match wrong {
         None => Ok(()),
-        Some(place) => Err(Fail::new(format_args!("step {place}"))),
+        Some(place) => Err(Fail::new(format_args!("at {place}"))),
     }
+}
+
+/// Does the steps to an empty store.
+fn perform(rt: &HostRuntime, steps: &[Step<'_>]) -> Result<(), Fail> {
+    let state = RandomState::new(rt)?;
+    let mut store = Store::new(rt.alloc(), ShortNamer, state);
+    all_done(first_wrong(rt.alloc(), &mut store, steps))
 }
 
 #[test]
 fn other_bytes_under_a_held_name_are_refused(rt: HostRuntime) -> Result<(), Fail> {
-    let state = RandomState::new(&rt)?;
-    all_done(first_wrong(rt.alloc(), state, OTHER_BYTES))
+    perform(&rt, OTHER_BYTES)
 }
 
 #[test]
 fn given_bytes_are_put_as_copied_ones_are(rt: HostRuntime) -> Result<(), Fail> {
-    let state = RandomState::new(&rt)?;
-    all_done(first_wrong(rt.alloc(), state, GIVEN_BYTES))
+    perform(&rt, GIVEN_BYTES)
 }
 
 #[test]
 fn ranges_of_a_text_are_put_as_copies_are(rt: HostRuntime) -> Result<(), Fail> {
-    let state = RandomState::new(&rt)?;
-    all_done(first_wrong(rt.alloc(), state, SHARED_BYTES))
+    perform(&rt, SHARED_BYTES)
 }
 
 #[test]
 fn prefixes_are_of_either_case(rt: HostRuntime) -> Result<(), Fail> {
-    let state = RandomState::new(&rt)?;
-    all_done(first_wrong(rt.alloc(), state, PREFIXES))
+    perform(&rt, PREFIXES)
 }

@@ -1,21 +1,83 @@
 use super::*;
 use gx_object::Sha1Namer;
 
+/// What is done to a store of numbered blobs, and how many of them are found and missed then.
+#[derive(Clone, Copy)]
+struct Stage {
+    /// So many of the first records stay.
+    kept: usize,
+    /// Then the numbers from one up to another are put.
+    put: (u64, u64),
+    /// So many records are held.
+    held: usize,
+    /// Each of them is found by so many digits.
+    digits: usize,
+    /// The numbers from one up to another aren't.
+    missed: (u64, u64),
+}
+
+/// A thousand records, the first of them alone, others that come then, one, none, and two.
+const STAGES: &[Stage] = &[
+    Stage {
+        kept: 0,
+        put: (0, 1000),
+        held: 1000,
+        digits: 2,
+        missed: (0, 0),
+    },
+    Stage {
+        kept: 300,
+        put: (0, 0),
+        held: 300,
+        digits: 1,
+        missed: (300, 1000),
+    },
+    Stage {
+        kept: 300,
+        put: (900, 1300),
+        held: 700,
+        digits: 3,
+        missed: (300, 900),
+    },
+    Stage {
+        kept: 1,
+        put: (0, 0),
+        held: 1,
+        digits: 1,
+        missed: (0, 0),
+    },
+    Stage {
+        kept: 0,
+        put: (0, 0),
+        held: 0,
+        digits: 0,
+        missed: (0, 20),
+    },
+    Stage {
+        kept: 0,
+        put: (7, 9),
+        held: 2,
+        digits: 0,
+        missed: (0, 0),
+    },
+];
+
 /// A body of eight bytes for each number.
 fn body_of(number: u64) -> [u8; 8] {
     number.to_be_bytes()
 }
 
-/// Puts a blob for each number from one up to another.
+/// Puts a blob for each number from one up to another. Answers whether each is put.
 fn put_numbers<A: Allocator + Copy>(
     store: &mut Store<Sha1Namer, A>,
-    from: u64,
-    to: u64,
-) -> Result<(), StoreFault> {
+    (from, to): (u64, u64),
+) -> bool {
     for number in from..to {
-        store.put(Kind::Blob, &body_of(number))?;
+        if store.put(Kind::Blob, &body_of(number)).is_err() {
+            return false;
+        }
     }
-    Ok(())
+    true
 }
 
 /// What digits begin among all records, one after the other.
@@ -52,7 +114,7 @@ fn finds_each<A: Allocator + Copy>(store: &Store<Sha1Namer, A>, digits: usize) -
 }
 
 /// Whether no record with a number from one up to another is found.
-fn misses_each<A: Allocator + Copy>(store: &Store<Sha1Namer, A>, from: u64, to: u64) -> bool {
+fn misses_each(store: &Store<Sha1Namer, Global>, (from, to): (u64, u64)) -> bool {
     for number in from..to {
         let name = store.name(Kind::Blob, &body_of(number));
         if store.by_prefix(&name.hex()) != Prefix::Absent {
@@ -62,78 +124,82 @@ fn misses_each<A: Allocator + Copy>(store: &Store<Sha1Namer, A>, from: u64, to: 
     true
 }
 
-/// Whether digits are found among a thousand records, among the first of them alone, and among others that come then.
-fn finds_among_many<A: Allocator + Copy>(alloc: A, state: RandomState) -> Result<bool, StoreFault> {
-    let mut store = Store::new(alloc, Sha1Namer, state);
-    put_numbers(&mut store, 0, 1000)?;
-    let whole = store.by_prefix(b"") == Prefix::Ambiguous && finds_each(&store, 2);
-    store.truncate(300);
-    let left = finds_each(&store, 1) && misses_each(&store, 300, 1000);
-    put_numbers(&mut store, 900, 1300)?;
-    let more = finds_each(&store, 3) && misses_each(&store, 300, 900);
-    store.truncate(1);
-    let one = store.by_prefix(b"") == begun_of_all(&store, b"") && finds_each(&store, 1);
-    store.truncate(0);
-    let none = store.by_prefix(b"") == Prefix::Absent && misses_each(&store, 0, 20);
-    put_numbers(&mut store, 7, 9)?;
-    Ok(whole && left && more && one && none && finds_each(&store, 0))
+/// Does a stage. Answers whether so many records are held then, and found and missed by their digits.
+fn is_passed(store: &mut Store<Sha1Namer, Global>, stage: Stage) -> bool {
+    store.truncate(stage.kept);
+    put_numbers(store, stage.put)
+        && store.len() == stage.held
+        && store.by_prefix(b"") == begun_of_all(store, b"")
+        && finds_each(store, stage.digits)
+        && misses_each(store, stage.missed)
+}
+
+/// The first stage that isn't passed.
+fn first_failed(store: &mut Store<Sha1Namer, Global>) -> Option<usize> {
+    for (place, stage) in STAGES.iter().enumerate() {
+        if !is_passed(store, *stage) {
+            return Some(place);
+        }
+    }
+    None
 }
 
 #[test]
 fn prefixes_are_found_among_many_records(rt: HostRuntime) -> Result<(), Fail> {
     let state = RandomState::new(&rt)?;
-    assert!(rt; finds_among_many(rt.alloc(), state) == Ok(true));
-    Ok(())
+    let mut store = Store::new(rt.alloc(), Sha1Namer, state);
+    all_done(first_failed(&mut store))
 }
 
-/// Whether a put behind so many records leaves each of them found at each growth that is refused to it, and puts its
-/// blob then. The answer is how many growths were refused.
-fn refusals_behind<B: Allocator + Copy>(
-    alloc: B,
-    state: RandomState,
-    records: u64,
-) -> Result<Option<u64>, StoreFault> {
-    let heap = Refusing::new(alloc, 0);
-    let mut store = Store::new(&heap, Sha1Namer, state);
-    put_numbers(&mut store, 0, records)?;
+/// A store whose heap may be told to refuse a growth.
+type RefusingStore<'a> = Store<Sha1Namer, &'a Refusing<Global>>;
+
+/// Whether a put of one record more leaves each record found at each growth that is refused to it, and puts its blob
+/// then. The answer is how many growths were refused.
+fn refusals(heap: &Refusing<Global>, store: &mut RefusingStore<'_>, records: u64) -> Option<u64> {
     for refused in 0..100u64 {
         heap.arm(refused.saturating_add(1));
         let answer = store.put(Kind::Blob, &body_of(records));
         let was_refused = !heap.is_waiting();
         heap.arm(0);
-        if !finds_each(&store, 1) {
-            return Ok(None);
+        if !finds_each(store, 1) {
+            return None;
         }
         match answer {
             Ok(name) if !was_refused => {
-                return Ok(
-                    (store.by_prefix(&name.hex()) == Prefix::Unique(name)).then_some(refused),
-                );
+                return (store.by_prefix(&name.hex()) == Prefix::Unique(name)).then_some(refused);
             }
             Err(StoreFault::OutOfMemory) if was_refused => {}
-            _ => return Ok(None),
+            _ => return None,
         }
     }
-    Ok(None)
+    None
 }
 
-/// Whether each put that makes the chains anew is refused at its copy's growth and at each of theirs, which are two.
-fn are_refused_at_chains<B: Allocator + Copy>(
-    alloc: B,
-    state: RandomState,
-) -> Result<bool, StoreFault> {
-    for records in [0, 8, 16, 32, 64] {
-        match refusals_behind(alloc, state, records)? {
-            Some(refused) if refused >= 3 => {}
-            _ => return Ok(false),
+/// The refusals to a put behind so many records.
+fn refusals_behind(alloc: Global, state: RandomState, records: u64) -> Option<u64> {
+    let heap = Refusing::new(alloc, 0);
+    let mut store = Store::new(&heap, Sha1Namer, state);
+    if put_numbers(&mut store, (0, records)) {
+        refusals(&heap, &mut store, records)
+    } else {
+        None
+    }
+}
+
+/// The first number of records behind which a put that makes the chains anew isn't refused at its copy's growth and at
+/// each of theirs, which are two.
+fn unrefused_at_chains(alloc: Global, state: RandomState) -> Option<usize> {
+    for records in [0u8, 8, 16, 32, 64] {
+        if refusals_behind(alloc, state, records.into()).unwrap_or(0) < 3 {
+            return Some(records.into());
         }
     }
-    Ok(true)
+    None
 }
 
 #[test]
 fn refused_chains_change_nothing(rt: HostRuntime) -> Result<(), Fail> {
     let state = RandomState::new(&rt)?;
-    assert!(rt; are_refused_at_chains(rt.alloc(), state) == Ok(true));
-    Ok(())
+    all_done(unrefused_at_chains(rt.alloc(), state))
 }

@@ -9,28 +9,28 @@ enum Way {
 }
 
 /// The object's bytes as they are before they are put.
-enum Bytes<A: Allocator> {
-    Copied(Vec<u8, A>),
-    Given(Vec<u8, A>),
-    Shared(Text<A>),
+enum Bytes<'a> {
+    Copied(Vec<u8, &'a Refusing<Global>>),
+    Given(Vec<u8, &'a Refusing<Global>>),
+    Shared(Text<&'a Refusing<Global>>),
 }
+
+/// A store whose heap may be told to refuse a growth.
+type RefusingStore<'a> = Store<ShortNamer, &'a Refusing<Global>>;
 
 const TREE_BYTES: &[u8] = b"bytes of one tree";
 
 /// The bytes of a tree, for this way; those that are shared stand in a text of one byte more on each side.
-fn tree_bytes<A: Allocator + Copy>(alloc: A, way: Way) -> Result<Bytes<A>, AllocError> {
+fn tree_bytes(heap: &Refusing<Global>, way: Way) -> Result<Bytes<'_>, AllocError> {
     match way {
-        Way::Copied => Ok(Bytes::Copied(Vec::from_slice(alloc, TREE_BYTES)?)),
-        Way::Given => Ok(Bytes::Given(Vec::from_slice(alloc, TREE_BYTES)?)),
-        Way::Shared => Ok(Bytes::Shared(text_of(alloc, b"(bytes of one tree)")?)),
+        Way::Copied => Ok(Bytes::Copied(Vec::from_slice(heap, TREE_BYTES)?)),
+        Way::Given => Ok(Bytes::Given(Vec::from_slice(heap, TREE_BYTES)?)),
+        Way::Shared => Ok(Bytes::Shared(text_of(heap, b"(bytes of one tree)")?)),
     }
 }
 
 /// Puts a tree of these bytes, which the store alone owns then.
-fn put<A: Allocator + Copy>(
-    store: &mut Store<ShortNamer, A>,
-    bytes: Bytes<A>,
-) -> Result<Name, StoreFault> {
+fn put<'a>(store: &mut RefusingStore<'a>, bytes: Bytes<'a>) -> Result<Name, StoreFault> {
     match bytes {
         Bytes::Copied(bytes) => store.put(Kind::Tree, &bytes),
         Bytes::Given(bytes) => store.put_owned(Kind::Tree, bytes),
@@ -39,7 +39,7 @@ fn put<A: Allocator + Copy>(
 }
 
 /// Puts a blob of each length below this one.
-fn fill<A: Allocator + Copy>(store: &mut Store<ShortNamer, A>, blobs: usize) {
+fn fill(store: &mut RefusingStore<'_>, blobs: usize) {
     let bytes = [b'x'; 99];
     for len in 0..blobs {
         let _ = store.put(Kind::Blob, &bytes[..len.min(99)]);
@@ -47,11 +47,7 @@ fn fill<A: Allocator + Copy>(store: &mut Store<ShortNamer, A>, blobs: usize) {
 }
 
 /// Whether a store of so many blobs has a tree, too, or else no tree.
-fn has_tree<A: Allocator + Copy>(
-    store: &Store<ShortNamer, A>,
-    blobs: usize,
-    tree: Option<Name>,
-) -> bool {
+fn has_tree(store: &RefusingStore<'_>, blobs: usize, tree: Option<Name>) -> bool {
     let found = store.by_prefix(b"111111111111111111111111111111111111011");
     match tree {
         Some(name) => {
@@ -72,8 +68,8 @@ enum Outcome {
 
 /// What came of a put behind so many blobs: a put that is refused is to leave everything as it was, and one that isn't
 /// is to put its tree.
-fn judged<A: Allocator + Copy>(
-    store: &Store<ShortNamer, A>,
+fn judged(
+    store: &RefusingStore<'_>,
     blobs: usize,
     answer: Result<Name, StoreFault>,
     is_refused: bool,
@@ -87,9 +83,27 @@ fn judged<A: Allocator + Copy>(
     }
 }
 
-/// A put behind some blobs, of bytes that come in this way, at which the growth with this number is refused.
-fn refused_put<B: Allocator>(
-    heap: &Refusing<B>,
+/// Puts a tree of bytes that come in this way, at which the growth with this number is refused.
+fn put_refused<'a>(
+    heap: &'a Refusing<Global>,
+    store: &mut RefusingStore<'a>,
+    blobs: usize,
+    way: Way,
+    growth: u64,
+) -> Outcome {
+    let Ok(bytes) = tree_bytes(heap, way) else {
+        return Outcome::Wrong;
+    };
+    heap.arm(growth);
+    let answer = put(store, bytes);
+    let is_refused = !heap.is_waiting();
+    heap.arm(0);
+    judged(store, blobs, answer, is_refused)
+}
+
+/// The same behind some blobs.
+fn refused_put(
+    heap: &Refusing<Global>,
     state: RandomState,
     blobs: usize,
     way: Way,
@@ -97,23 +111,11 @@ fn refused_put<B: Allocator>(
 ) -> Outcome {
     let mut store = Store::new(heap, ShortNamer, state);
     fill(&mut store, blobs);
-    let Ok(bytes) = tree_bytes(heap, way) else {
-        return Outcome::Wrong;
-    };
-    heap.arm(growth);
-    let answer = put(&mut store, bytes);
-    let is_refused = !heap.is_waiting();
-    heap.arm(0);
-    judged(&store, blobs, answer, is_refused)
+    put_refused(heap, &mut store, blobs, way, growth)
 }
 
 /// How many growths are refused, one after the other, in puts behind so many blobs; none where one changed anything.
-fn refused_behind<B: Allocator + Copy>(
-    alloc: B,
-    state: RandomState,
-    blobs: usize,
-    way: Way,
-) -> Option<u64> {
+fn refused_behind(alloc: Global, state: RandomState, blobs: usize, way: Way) -> Option<u64> {
     for growth in 1..100 {
         let heap = Refusing::new(alloc, 0);
         match refused_put(&heap, state, blobs, way, growth) {
@@ -126,7 +128,7 @@ fn refused_behind<B: Allocator + Copy>(
 }
 
 /// The same in puts behind none, one, .. and 59 blobs.
-fn refused_growths<B: Allocator + Copy>(alloc: B, state: RandomState, way: Way) -> Option<u64> {
+fn refused_growths(alloc: Global, state: RandomState, way: Way) -> Option<u64> {
     let mut refused = 0u64;
     for blobs in 0..60 {
         refused = refused.saturating_add(refused_behind(alloc, state, blobs, way)?);
@@ -135,7 +137,7 @@ fn refused_growths<B: Allocator + Copy>(alloc: B, state: RandomState, way: Way) 
 }
 
 /// Whether the table, the list and the chains grow at some puts alone, and each body that is copied once more.
-fn are_refused<B: Allocator + Copy>(alloc: B, state: RandomState) -> bool {
+fn are_refused(alloc: Global, state: RandomState) -> bool {
     let Some(given) = refused_growths(alloc, state, Way::Given) else {
         return false;
     };

@@ -1,10 +1,10 @@
 //! Commits: their names, their parts read back, and other bodies.
 
 use crate::names::has_name;
+use crate::refused::refused_growths;
 use gx_object::{CommitParts, CommitView, Kind, Name, decode_commit, encode_commit};
-use gx_refusing::Refusing;
 use gx_text::Ident;
-use std::alloc::Allocator;
+use std::alloc::{Allocator, Global};
 
 const FIRST: Name = Name {
     bytes: *b"\xfd\xf4\xfc\x33\x44\xe6\x7a\xb0\x68\xf8\x36\x87\x8b\x6c\x49\x51\xe3\xb1\x5f\x3d",
@@ -81,13 +81,13 @@ const BODIES: &[(&[u8], bool)] = &[
 ];
 
 /// The body of a commit by one author.
-fn one_author<'a, A: Allocator + Copy>(
-    alloc: A,
+fn one_author<'a>(
+    alloc: Global,
     tree: Name,
     parents: &'a [Name],
     author: Ident<'a>,
     message: &'a [u8],
-) -> Option<Vec<u8, A>> {
+) -> Option<Vec<u8>> {
     let parts = CommitParts {
         tree,
         parents,
@@ -100,7 +100,7 @@ fn one_author<'a, A: Allocator + Copy>(
 }
 
 /// Whether the commit of a row has Git's name.
-fn is_named<A: Allocator + Copy>(alloc: A, row: Row) -> bool {
+fn is_named(alloc: Global, row: Row) -> bool {
     let (tree, parents, author, message, digits) = row;
     let (Some(tree), Ok(author)) = (Name::read(tree), Ident::read(author)) else {
         return false;
@@ -119,7 +119,7 @@ fn commits_have_gits_names(rt: HostRuntime) {
 }
 
 /// The body of a commit with two parents and an encoding.
-fn encoded<A: Allocator + Copy>(alloc: A) -> Option<Vec<u8, A>> {
+pub(crate) fn encoded<A: Allocator + Copy>(alloc: A) -> Option<Vec<u8, A>> {
     let (Ok(author), Ok(committer)) = (Ident::read(AUTHOR), Ident::read(COMMITTER)) else {
         return None;
     };
@@ -152,7 +152,7 @@ fn has_texts(commit: &CommitView<'_>) -> bool {
 }
 
 /// Whether that commit is read back from its body.
-fn is_read_back<A: Allocator + Copy>(alloc: A) -> bool {
+fn is_read_back(alloc: Global) -> bool {
     let Some(body) = encoded(alloc) else {
         return false;
     };
@@ -174,23 +174,7 @@ fn other_bodies_are_refused(rt: HostRuntime) {
     }
 }
 
-/// How many growths are refused, one after the other, until the commit is encoded; none where another answer came.
-fn refused_growths<A: Allocator>(alloc: A) -> Option<u64> {
-    let heap = Refusing::new(alloc, 0);
-    for growth in 1..100 {
-        heap.arm(growth);
-        let is_encoded = encoded(&heap).is_some();
-        if is_encoded != heap.is_waiting() {
-            return None;
-        }
-        if is_encoded {
-            return Some(growth - 1);
-        }
-    }
-    None
-}
-
 #[test]
 fn refused_growths_encode_nothing(rt: HostRuntime) {
-    assert!(rt; refused_growths(rt.alloc()).unwrap_or(0) > 0);
+    assert!(rt; refused_growths(rt.alloc(), Kind::Commit).unwrap_or(0) > 0);
 }

@@ -6,6 +6,8 @@ mod commits;
 #[cfg(test)]
 mod names;
 #[cfg(test)]
+mod refused;
+#[cfg(test)]
 mod tags;
 #[cfg(test)]
 mod trees;

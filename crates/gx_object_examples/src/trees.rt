@@ -1,12 +1,12 @@
 //! Trees: their names, their entries read back, and other orders and bodies.
 
 use crate::names::has_name;
+use crate::refused::refused_growths;
 use gx_object::{
     Entry, Kind, Mode, Name, compare_marked, decode_tree, encode_tree, encode_tree_into,
     is_canonical,
 };
-use gx_refusing::Refusing;
-use std::alloc::Allocator;
+use std::alloc::{Allocator, Global};
 
 const VERSION_1: Name = Name {
     bytes: *b"\x83\xba\xae\x61\x80\x4e\x65\xcc\x73\xa7\x20\x1a\x72\x52\x75\x0c\x76\x06\x6a\x30",
@@ -24,7 +24,7 @@ const BAK: Name = Name {
     bytes: *b"\xd8\x32\x9f\xc1\xcc\x93\x87\x80\xff\xdd\x9f\x94\xe0\xd3\x64\xe0\xea\x74\xf5\x79",
 };
 
-const OLD: Entry = Entry {
+pub(crate) const OLD: Entry = Entry {
     mode: Mode::File,
     component: b"test.txt",
     name: VERSION_1,
@@ -42,7 +42,7 @@ const TEST: Entry = Entry {
     name: VERSION_2,
 };
 
-const FOLDER: Entry = Entry {
+pub(crate) const FOLDER: Entry = Entry {
     mode: Mode::Dir,
     component: b"bak",
     name: BAK,
@@ -126,7 +126,7 @@ const BODIES: &[(&[u8], bool)] = &[
 ];
 
 /// The body of the tree with these entries.
-fn encoded<A: Allocator + Copy>(alloc: A, entries: &[Entry<'_>]) -> Option<Vec<u8, A>> {
+pub(crate) fn encoded<A: Allocator + Copy>(alloc: A, entries: &[Entry<'_>]) -> Option<Vec<u8, A>> {
     if !is_canonical(entries) {
         return None;
     }
@@ -147,12 +147,7 @@ fn is_read_back(body: &[u8], entries: &[Entry<'_>]) -> bool {
 }
 
 /// Whether the body of a tree has this length and this name, and is read back.
-fn is_encoded<A: Allocator + Copy>(
-    alloc: A,
-    entries: &[Entry<'_>],
-    len: usize,
-    digits: &[u8],
-) -> bool {
+fn is_encoded(alloc: Global, entries: &[Entry<'_>], len: usize, digits: &[u8]) -> bool {
     match encoded(alloc, entries) {
         Some(body) => {
             body.len() == len && has_name(Kind::Tree, &body, digits) && is_read_back(&body, entries)
@@ -169,12 +164,12 @@ fn trees_have_gits_names_and_are_read_back(rt: HostRuntime) {
 }
 
 /// Makes the body of a tree where that of another stood. Answers whether it is made.
-fn encode_over<A: Allocator + Copy>(body: &mut Vec<u8, A>, entries: &[Entry<'_>]) -> bool {
+fn encode_over(body: &mut Vec<u8>, entries: &[Entry<'_>]) -> bool {
     is_canonical(entries) && encode_tree_into(body, entries).is_ok()
 }
 
 /// Whether a buffer holds the second of two trees alone.
-fn is_second_alone<A: Allocator + Copy>(alloc: A) -> bool {
+fn is_second_alone(alloc: Global) -> bool {
     let mut body = Vec::new(alloc);
     encode_over(&mut body, &[NEW, TEST])
         && encode_over(&mut body, &[OLD])
@@ -210,23 +205,7 @@ fn other_bodies_are_refused(rt: HostRuntime) {
     }
 }
 
-/// How many growths are refused, one after the other, until the tree is encoded; none where another answer came.
-fn refused_growths<A: Allocator>(alloc: A) -> Option<u64> {
-    let heap = Refusing::new(alloc, 0);
-    for growth in 1..100 {
-        heap.arm(growth);
-        let is_encoded = encoded(&heap, &[FOLDER, OLD]).is_some();
-        if is_encoded != heap.is_waiting() {
-            return None;
-        }
-        if is_encoded {
-            return Some(growth - 1);
-        }
-    }
-    None
-}
-
 #[test]
 fn refused_growths_encode_nothing(rt: HostRuntime) {
-    assert!(rt; refused_growths(rt.alloc()).unwrap_or(0) > 0);
+    assert!(rt; refused_growths(rt.alloc(), Kind::Tree).unwrap_or(0) > 0);
 }

@@ -6,7 +6,7 @@ use gx_object::Sha1Namer;
 use gx_refusing::Refusing;
 use gx_repo::Repo;
 use gx_text::Held;
-use std::alloc::{AllocError, Allocator};
+use std::alloc::{AllocError, Allocator, Global};
 use std::hash::RandomState;
 use std::test::Fail;
 
@@ -53,33 +53,39 @@ const SMALL: &[&[u8]] = &[
 const HELLO: &[u8] =
     b"\xce\x01\x36\x25\x03\x0b\xa8\xdb\xa9\x06\xf7\x56\x96\x7f\x9e\x9c\xa3\x94\x46\x4a";
 
-/// These parts, one after the other.
-fn joined<A: Allocator + Copy>(alloc: A, parts: &[&[u8]]) -> Result<Vec<u8, A>, AllocError> {
-    let mut text = Vec::new(alloc);
+/// Appends these parts, one after the other.
+fn append(text: &mut Vec<u8>, parts: &[&[u8]]) -> Result<(), AllocError> {
     for part in parts {
         text.extend_from_slice(part)?;
     }
-    Ok(text)
+    Ok(())
 }
 
-/// The text of these objects and refs.
-fn whole<A: Allocator + Copy>(alloc: A, version: Version) -> Result<Vec<u8, A>, AllocError> {
-    let mut text = Vec::new(alloc);
+/// Appends the objects of the whole text.
+fn append_objects(text: &mut Vec<u8>, version: Version) -> Result<(), AllocError> {
+    for (line, name, body) in OBJECTS {
+        match version {
+            Version::One => append(text, &[line, b"\n", body, b"\n"])?,
+            Version::Two => append(text, &[line, b" ", name, b"\n", body, b"\n"])?,
+        }
+    }
+    Ok(())
+}
+
+/// Appends the text of the objects and refs.
+fn append_whole(text: &mut Vec<u8>, version: Version) -> Result<(), AllocError> {
     text.extend_from_slice(match version {
         Version::One => b"gxstore 1\nobjects 4\n",
         Version::Two => b"gxstore 2\nobjects 4\n",
     })?;
-    for (line, name, body) in OBJECTS {
-        text.extend_from_slice(line)?;
-        if version == Version::Two {
-            text.push(b' ')?;
-            text.extend_from_slice(name)?;
-        }
-        text.push(b'\n')?;
-        text.extend_from_slice(body)?;
-        text.push(b'\n')?;
-    }
-    text.extend_from_slice(HOLDING)?;
+    append_objects(text, version)?;
+    text.extend_from_slice(HOLDING)
+}
+
+/// The text of the objects and refs.
+fn whole(alloc: Global, version: Version) -> Result<Vec<u8>, AllocError> {
+    let mut text = Vec::new(alloc);
+    append_whole(&mut text, version)?;
     Ok(text)
 }
 
@@ -114,8 +120,11 @@ fn fault_in_shared<A: Allocator + Copy>(
     read_shared(alloc, text, state).err()
 }
 
+/// A repository that is held in the memory of the process.
+type HeldRepo = Repo<Sha1Namer, Global>;
+
 /// Whether two repositories have the same objects in the same order, and the same refs.
-fn are_same<A: Allocator + Copy>(one: &Repo<Sha1Namer, A>, other: &Repo<Sha1Namer, A>) -> bool {
+fn are_same(one: &HeldRepo, other: &HeldRepo) -> bool {
     for place in 0..one.store().len() {
         if one.store().record(place) != other.store().record(place) {
             return false;
@@ -126,102 +135,59 @@ fn are_same<A: Allocator + Copy>(one: &Repo<Sha1Namer, A>, other: &Repo<Sha1Name
 
 /// Whether this is the text of version 2 that goes with one of version 1 which was read: it has the digits and a space more
 /// for each object, and is read as the same repository.
-fn is_next_of<A: Allocator + Copy>(
-    alloc: A,
+fn is_next_of(
+    alloc: Global,
     next: &[u8],
     text: &[u8],
-    repo: &Repo<Sha1Namer, A>,
+    repo: &HeldRepo,
     state: RandomState,
 ) -> bool {
-    let Ok(again) = read(alloc, Sha1Namer, next, state) else {
-        return false;
-    };
-    let more = next.len().checked_sub(text.len());
-    next.starts_with(b"gxstore 2\n")
-        && more == repo.store().len().checked_mul(41)
-        && are_same(repo, &again)
-}
-
-/// Whether a text is read, and what was read is written as that text, or as that of version 2 where it is of version 1.
-fn is_written_again<A: Allocator + Copy>(alloc: A, text: &[u8], state: RandomState) -> bool {
-    let Ok(repo) = read(alloc, Sha1Namer, text, state) else {
-        return false;
-    };
-    let Ok(again) = write(alloc, &repo) else {
-        return false;
-    };
-    again.as_slice() == text || is_next_of(alloc, again.as_slice(), text, &repo, state)
-}
-
-#[test]
-fn texts_are_written_again(rt: HostRuntime) -> Result<(), Fail> {
-    let state = RandomState::new(&rt)?;
-    for text in SMALL {
-        assert!(rt; is_written_again(rt.alloc(), text, state));
-    }
-    for version in [Version::One, Version::Two] {
-        let text = whole(rt.alloc(), version)?;
-        assert!(rt; is_written_again(rt.alloc(), text.as_slice(), state));
-    }
-    Ok(())
-}
-
-/// Whether a text is read alike where its bodies are copied and where they stay in it.
-fn is_read_alike<A: Allocator + Copy>(alloc: A, text: &[u8], state: RandomState) -> bool {
-    match (
-        read(alloc, Sha1Namer, text, state),
-        read_shared(alloc, text, state),
-    ) {
-        (Ok(repo), Ok(shared)) => are_same(&repo, &shared),
-        _ => false,
-    }
-}
-
-#[test]
-fn shared_texts_are_read_as_copied_ones_are(rt: HostRuntime) -> Result<(), Fail> {
-    let state = RandomState::new(&rt)?;
-    for text in SMALL {
-        assert!(rt; is_read_alike(rt.alloc(), text, state));
-    }
-    for version in [Version::One, Version::Two] {
-        let text = whole(rt.alloc(), version)?;
-        assert!(rt; is_read_alike(rt.alloc(), text.as_slice(), state));
-    }
-    Ok(())
-}
-
-/// Whether a text is read, and written as another one.
-fn is_written_as<A: Allocator + Copy>(
-    alloc: A,
-    text: &[u8],
-    written: &[u8],
-    state: RandomState,
-) -> bool {
-    let Ok(repo) = read(alloc, Sha1Namer, text, state) else {
-        return false;
-    };
-    match write(alloc, &repo) {
-        Ok(again) => again.as_slice() == written,
+    match read(alloc, Sha1Namer, next, state) {
+        Ok(again) => {
+            next.starts_with(b"gxstore 2\n")
+                && next.len().checked_sub(text.len()) == repo.store().len().checked_mul(41)
+                && are_same(repo, &again)
+        }
         Err(_) => false,
     }
 }
 
-#[test]
-fn version_2_is_written(rt: HostRuntime) -> Result<(), Fail> {
-    let state = RandomState::new(&rt)?;
-    let written = whole(rt.alloc(), Version::Two)?;
-    for version in [Version::One, Version::Two] {
-        let text = whole(rt.alloc(), version)?;
-        assert!(rt; is_written_as(rt.alloc(), text.as_slice(), written.as_slice(), state));
+/// Whether what was read of a text is written as that text, or as that of version 2 where it is of version 1.
+fn goes_with(alloc: Global, repo: &HeldRepo, text: &[u8], state: RandomState) -> bool {
+    match write(alloc, repo) {
+        Ok(again) => {
+            again.as_slice() == text || is_next_of(alloc, again.as_slice(), text, repo, state)
+        }
+        Err(_) => false,
     }
-    Ok(())
 }
 
-/// Whether the objects of a text that is read have Git's names, in this order.
-fn has_names<A: Allocator + Copy>(alloc: A, text: &[u8], state: RandomState) -> bool {
-    let Ok(repo) = read(alloc, Sha1Namer, text, state) else {
-        return false;
-    };
+/// Whether a text is read alike where its bodies are copied, as here, and where they stay in it.
+fn is_shared_alike(alloc: Global, repo: &HeldRepo, text: &[u8], state: RandomState) -> bool {
+    match read_shared(alloc, text, state) {
+        Ok(shared) => are_same(repo, &shared),
+        Err(_) => false,
+    }
+}
+
+/// Whether a repository is written as this text.
+fn is_written_as(alloc: Global, repo: &HeldRepo, text: &[u8]) -> bool {
+    match write(alloc, repo) {
+        Ok(written) => written.as_slice() == text,
+        Err(_) => false,
+    }
+}
+
+/// Whether it is written as the whole text of version 2.
+fn is_written_in_2(alloc: Global, repo: &HeldRepo) -> bool {
+    match whole(alloc, Version::Two) {
+        Ok(text) => is_written_as(alloc, repo, text.as_slice()),
+        Err(_) => false,
+    }
+}
+
+/// Whether the objects have Git's names, in this order.
+fn has_names(repo: &HeldRepo) -> bool {
     for (place, (_, digits, _)) in OBJECTS.iter().enumerate() {
         match repo.store().record(place) {
             Some((name, _, _)) if name.hex().as_slice() == *digits => {}
@@ -231,31 +197,114 @@ fn has_names<A: Allocator + Copy>(alloc: A, text: &[u8], state: RandomState) -> 
     repo.store().len() == OBJECTS.len()
 }
 
+/// What is claimed of a text and of what is read of it.
+#[derive(Clone, Copy)]
+enum Claim {
+    WrittenAgain,
+    SharedAlike,
+    WrittenIn2,
+    Named,
+}
+
+/// Whether a claim holds of what was read of a text.
+fn holds(alloc: Global, repo: &HeldRepo, text: &[u8], claim: Claim, state: RandomState) -> bool {
+    match claim {
+        Claim::WrittenAgain => goes_with(alloc, repo, text, state),
+        Claim::SharedAlike => is_shared_alike(alloc, repo, text, state),
+        Claim::WrittenIn2 => is_written_in_2(alloc, repo),
+        Claim::Named => has_names(repo),
+    }
+}
+
+/// Whether a text is read, and a claim holds.
+fn holds_of(alloc: Global, text: &[u8], claim: Claim, state: RandomState) -> bool {
+    match read(alloc, Sha1Namer, text, state) {
+        Ok(repo) => holds(alloc, &repo, text, claim, state),
+        Err(_) => false,
+    }
+}
+
+/// The first of the small texts of which a claim doesn't hold.
+fn wrong_small(alloc: Global, claim: Claim, state: RandomState) -> Option<usize> {
+    for (place, text) in SMALL.iter().enumerate() {
+        if !holds_of(alloc, text, claim, state) {
+            return Some(place);
+        }
+    }
+    None
+}
+
+/// Whether a claim holds of the whole text of a version.
+fn holds_of_whole(alloc: Global, version: Version, claim: Claim, state: RandomState) -> bool {
+    match whole(alloc, version) {
+        Ok(text) => holds_of(alloc, text.as_slice(), claim, state),
+        Err(_) => false,
+    }
+}
+
+/// The first version of the whole text of which it doesn't hold.
+fn wrong_whole(alloc: Global, claim: Claim, state: RandomState) -> Option<usize> {
+    if !holds_of_whole(alloc, Version::One, claim, state) {
+        Some(1)
+    } else if !holds_of_whole(alloc, Version::Two, claim, state) {
+        Some(2)
+    } else {
+        None
+    }
+}
+
+/// A failure that names the first place at which something else came.
+fn all_hold(wrong: Option<usize>) -> Result<(), Fail> {
+    match wrong {
+        None => Ok(()),
+        Some(place) => Err(Fail::new(format_args!("at {place}"))),
+    }
+}
+
+/// Fails at the first version of the whole text of which a claim doesn't hold.
+fn claim_of_whole(rt: &HostRuntime, claim: Claim) -> Result<(), Fail> {
+    let state = RandomState::new(rt)?;
+    all_hold(wrong_whole(rt.alloc(), claim, state))
+}
+
+/// Fails at the first of the small texts of which a claim doesn't hold.
+fn claim_of_small(rt: &HostRuntime, claim: Claim) -> Result<(), Fail> {
+    let state = RandomState::new(rt)?;
+    all_hold(wrong_small(rt.alloc(), claim, state))
+}
+
+#[test]
+fn texts_are_written_again(rt: HostRuntime) -> Result<(), Fail> {
+    claim_of_small(&rt, Claim::WrittenAgain)?;
+    claim_of_whole(&rt, Claim::WrittenAgain)
+}
+
+#[test]
+fn shared_texts_are_read_as_copied_ones_are(rt: HostRuntime) -> Result<(), Fail> {
+    claim_of_small(&rt, Claim::SharedAlike)?;
+    claim_of_whole(&rt, Claim::SharedAlike)
+}
+
+#[test]
+fn version_2_is_written(rt: HostRuntime) -> Result<(), Fail> {
+    claim_of_whole(&rt, Claim::WrittenIn2)
+}
+
 #[test]
 fn objects_have_gits_names(rt: HostRuntime) -> Result<(), Fail> {
-    let state = RandomState::new(&rt)?;
-    for version in [Version::One, Version::Two] {
-        let text = whole(rt.alloc(), version)?;
-        assert!(rt; has_names(rt.alloc(), text.as_slice(), state));
-    }
-    Ok(())
+    claim_of_whole(&rt, Claim::Named)
 }
 
 /// Whether a text is refused for its own sake, or else goes with what is read of it.
-fn is_told<A: Allocator + Copy>(alloc: A, text: &[u8], state: RandomState) -> bool {
-    match fault_in(alloc, text, state) {
-        None => is_written_again(alloc, text, state),
-        Some(fault) => fault != FileFault::OutOfMemory,
+fn is_told(alloc: Global, text: &[u8], state: RandomState) -> bool {
+    match read(alloc, Sha1Namer, text, state) {
+        Ok(repo) => goes_with(alloc, &repo, text, state),
+        Err(fault) => fault != FileFault::OutOfMemory,
     }
 }
 
 /// Whether a text is told with each bit of the byte at a place flipped in turn.
-fn are_flips_told<A: Allocator + Copy>(
-    alloc: A,
-    text: &mut [u8],
-    place: usize,
-    state: RandomState,
-) -> bool
+fn are_flips_told(alloc: Global, text: &mut [u8], place: usize, state: RandomState) -> bool
     requires { place < length text.now }
 {
     for bit in [1, 2, 4, 8, 16, 32, 64, 128] {
@@ -268,108 +317,151 @@ fn are_flips_told<A: Allocator + Copy>(
     true
 }
 
-/// Whether a text is told with each bit flipped in turn.
-fn are_changes_told<A: Allocator + Copy>(alloc: A, text: &mut [u8], state: RandomState) -> bool {
+/// The first byte of a text that isn't told with each of its bits flipped in turn.
+fn untold_byte(alloc: Global, text: &mut [u8], state: RandomState) -> Option<usize> {
     for place in 0..text.len() {
         if !are_flips_told(alloc, text, place, state) {
-            return false;
+            return Some(place);
         }
     }
-    true
+    None
+}
+
+/// Fails at the first such byte of the whole text of a version.
+fn tell_changes(alloc: Global, version: Version, state: RandomState) -> Result<(), Fail> {
+    let mut text = whole(alloc, version)?;
+    all_hold(untold_byte(alloc, text.as_mut_slice(), state))
 }
 
 #[test]
 fn changed_bits_are_told(rt: HostRuntime) -> Result<(), Fail> {
     let state = RandomState::new(&rt)?;
-    for version in [Version::One, Version::Two] {
-        let mut text = whole(rt.alloc(), version)?;
-        assert!(rt; are_changes_told(rt.alloc(), text.as_mut_slice(), state));
+    tell_changes(rt.alloc(), Version::One, state)?;
+    tell_changes(rt.alloc(), Version::Two, state)
+}
+
+/// Why a text is refused where its bodies are copied, or where they are to stay in it.
+fn fault_in_either<A: Allocator + Copy>(
+    alloc: A,
+    text: &[u8],
+    is_shared: bool,
+    state: RandomState,
+) -> Option<FileFault> {
+    if is_shared {
+        fault_in_shared(alloc, text, state)
+    } else {
+        fault_in(alloc, text, state)
     }
-    Ok(())
 }
 
 /// Refuses each growth of a reading in turn, until the text is read; answers how many were refused, or none where another
 /// answer came.
-fn refused_readings<B: Allocator>(
-    heap: &Refusing<B>,
+fn refused_readings(
+    heap: &Refusing<Global>,
     text: &[u8],
     is_shared: bool,
     state: RandomState,
 ) -> Option<u64> {
     for growth in 1..1000 {
         heap.arm(growth);
-        let fault = if is_shared {
-            fault_in_shared(heap, text, state)
-        } else {
-            fault_in(heap, text, state)
-        };
-        if heap.is_waiting() {
-            heap.arm(0);
-            return if fault.is_none() {
-                Some(growth - 1)
-            } else {
-                None
-            };
+        let fault = fault_in_either(heap, text, is_shared, state);
+        let is_refused = !heap.is_waiting();
+        heap.arm(0);
+        match fault {
+            None if !is_refused => return Some(growth - 1),
+            Some(FileFault::OutOfMemory) if is_refused => {}
+            _ => return None,
         }
-        if fault != Some(FileFault::OutOfMemory) {
+    }
+    None
+}
+
+/// The same of a writing of a repository.
+fn refused_writings_of<'a>(
+    heap: &'a Refusing<Global>,
+    repo: &Repo<Sha1Namer, &'a Refusing<Global>>,
+) -> Option<u64> {
+    for growth in 1..1000 {
+        heap.arm(growth);
+        let is_done = write(heap, repo).is_ok();
+        let is_refused = !heap.is_waiting();
+        heap.arm(0);
+        if is_done == is_refused {
             return None;
+        }
+        if is_done {
+            return Some(growth - 1);
         }
     }
     None
 }
 
 /// The same of a writing of what is read.
-fn refused_writings<B: Allocator>(
-    heap: &Refusing<B>,
+fn refused_writings(heap: &Refusing<Global>, text: &[u8], state: RandomState) -> Option<u64> {
+    match read(heap, Sha1Namer, text, state) {
+        Ok(repo) => refused_writings_of(heap, &repo),
+        Err(_) => None,
+    }
+}
+
+/// How many growths are refused in readings of a text, in those that share it, and in writings.
+fn refused_growths_of(
+    heap: &Refusing<Global>,
     text: &[u8],
     state: RandomState,
-) -> Option<u64> {
-    let repo = read(heap, Sha1Namer, text, state).ok()?;
-    for growth in 1..1000 {
-        heap.arm(growth);
-        let is_done = write(heap, &repo).is_ok();
-        if heap.is_waiting() {
-            heap.arm(0);
-            return if is_done { Some(growth - 1) } else { None };
-        }
-        if is_done {
-            return None;
-        }
+) -> Option<(u64, u64, u64)> {
+    let copied = refused_readings(heap, text, false, state)?;
+    let shared = refused_readings(heap, text, true, state)?;
+    let written = refused_writings(heap, text, state)?;
+    Some((copied, shared, written))
+}
+
+/// The same of the whole text of version 2.
+fn refused_growths(alloc: Global, state: RandomState) -> Option<(u64, u64, u64)> {
+    let heap = Refusing::new(alloc, 0);
+    match whole(alloc, Version::Two) {
+        Ok(text) => refused_growths_of(&heap, text.as_slice(), state),
+        Err(_) => None,
     }
-    None
 }
 
 #[test]
 fn refused_growth_is_out_of_memory(rt: HostRuntime) -> Result<(), Fail> {
     let state = RandomState::new(&rt)?;
-    let whole = whole(rt.alloc(), Version::Two)?;
-    let heap = Refusing::new(rt.alloc(), 0);
-    let readings = refused_readings(&heap, whole.as_slice(), false, state).unwrap_or(0);
-    assert!(rt; readings >= 8);
+    let (copied, shared, written) = refused_growths(rt.alloc(), state).unwrap_or((0, 0, 0));
     // The text and the count of its owners are two growths, and no body of the four is one.
-    let shared = refused_readings(&heap, whole.as_slice(), true, state);
-    assert!(rt; shared == Some(readings.saturating_sub(2)));
-    let writings = refused_writings(&heap, whole.as_slice(), state).unwrap_or(0);
-    assert!(rt; writings >= 4);
+    assert!(rt; copied >= 8 && shared == copied.saturating_sub(2) && written >= 4);
     Ok(())
+}
+
+/// Whether a sink with room for a text takes all of it.
+fn is_sent(alloc: Global, repo: &HeldRepo, text: &[u8]) -> bool {
+    match Held::new(alloc, text.len()) {
+        Ok(mut sink) => write_to(repo, &mut sink).is_ok() && sink.bytes() == text,
+        Err(_) => false,
+    }
+}
+
+/// Whether a sink with room for a byte less takes a front of it, and the writing fails.
+fn is_cut(alloc: Global, repo: &HeldRepo, text: &[u8]) -> bool {
+    match Held::new(alloc, text.len().saturating_sub(1)) {
+        Ok(mut sink) => write_to(repo, &mut sink).is_err() && text.starts_with(sink.bytes()),
+        Err(_) => false,
+    }
+}
+
+/// Whether what is read of a text goes out so.
+fn goes_out(alloc: Global, text: &[u8], state: RandomState) -> bool {
+    match read(alloc, Sha1Namer, text, state) {
+        Ok(repo) => is_sent(alloc, &repo, text) && is_cut(alloc, &repo, text),
+        Err(_) => false,
+    }
 }
 
 #[test]
 fn text_goes_out_as_it_is_written(rt: HostRuntime) -> Result<(), Fail> {
+    let state = RandomState::new(&rt)?;
     let text = whole(rt.alloc(), Version::Two)?;
-    let Ok(repo) = read(
-        rt.alloc(),
-        Sha1Namer,
-        text.as_slice(),
-        RandomState::new(&rt)?,
-    ) else {
-        return Err(Fail::new(format_args!("the text isn't read")));
-    };
-    let mut sink = Held::new(rt.alloc(), text.len())?;
-    assert!(rt; write_to(&repo, &mut sink).is_ok());
-    assert!(rt; sink.bytes() == text.as_slice());
-    let mut short = Held::new(rt.alloc(), text.len().saturating_sub(1))?;
-    assert!(rt; write_to(&repo, &mut short).is_err());
-    assert!(rt; text.starts_with(short.bytes()));
+    assert!(rt; goes_out(rt.alloc(), text.as_slice(), state));
     Ok(())
 }

@@ -385,79 +385,103 @@ const REFS: &[(&[&[u8]], FileFault)] = &[
     ),
 ];
 
+/// Appends parts that stand behind others.
+fn append_behind(text: &mut Vec<u8>, first: &[&[u8]], parts: &[&[u8]]) -> Result<(), AllocError> {
+    append(text, first)?;
+    append(text, parts)
+}
+
+/// The parts that are behind others.
+fn text_behind(alloc: Global, first: &[&[u8]], parts: &[&[u8]]) -> Result<Vec<u8>, AllocError> {
+    let mut text = Vec::new(alloc);
+    append_behind(&mut text, first, parts)?;
+    Ok(text)
+}
+
+/// Whether a text is refused with this fault, where its bodies are copied and where they are to stay in it.
+fn is_refused(alloc: Global, text: &[u8], fault: FileFault, state: RandomState) -> bool {
+    fault_in(alloc, text, state) == Some(fault)
+        && fault_in_shared(alloc, text, state) == Some(fault)
+}
+
+/// Whether these parts behind others are refused so.
+fn is_refused_behind(
+    alloc: Global,
+    first: &[&[u8]],
+    parts: &[&[u8]],
+    fault: FileFault,
+    state: RandomState,
+) -> bool {
+    match text_behind(alloc, first, parts) {
+        Ok(text) => is_refused(alloc, text.as_slice(), fault, state),
+        Err(_) => false,
+    }
+}
+
+/// The first of these lines behind a head that is not refused with its fault.
+fn other_line(
+    alloc: Global,
+    head: &[u8],
+    rows: &[(&[u8], FileFault)],
+    state: RandomState,
+) -> Option<usize> {
+    for (place, (lines, fault)) in rows.iter().enumerate() {
+        if !is_refused_behind(alloc, &[head], &[*lines], *fault, state) {
+            return Some(place);
+        }
+    }
+    None
+}
+
+/// The first row of parts behind others that is not refused with its fault.
+fn other_row(
+    alloc: Global,
+    first: &[&[u8]],
+    rows: &[(&[&[u8]], FileFault)],
+    state: RandomState,
+) -> Option<usize> {
+    for (place, (parts, fault)) in rows.iter().enumerate() {
+        if !is_refused_behind(alloc, first, parts, *fault, state) {
+            return Some(place);
+        }
+    }
+    None
+}
+
 #[test]
 fn lines_are_refused_for_the_first_fault(rt: HostRuntime) -> Result<(), Fail> {
     let state = RandomState::new(&rt)?;
-    for (text, fault) in LINES {
-        assert_eq!(rt; fault_in(rt.alloc(), text, state), Some(*fault));
-        assert_eq!(rt; fault_in_shared(rt.alloc(), text, state), Some(*fault));
-    }
-    Ok(())
+    all_hold(other_line(rt.alloc(), b"", LINES, state))
 }
 
 #[test]
 fn named_objects_are_refused_for_the_first_fault(rt: HostRuntime) -> Result<(), Fail> {
     let state = RandomState::new(&rt)?;
-    for (lines, fault) in NAMED {
-        let text = text_behind(rt.alloc(), &[b"gxstore 2\nobjects 2\n"], &[*lines])?;
-        assert_eq!(rt; fault_in(rt.alloc(), text.as_slice(), state), Some(*fault));
-        assert_eq!(rt;
-            fault_in_shared(rt.alloc(), text.as_slice(), state),
-            Some(*fault)
-        );
-    }
-    Ok(())
+    all_hold(other_line(rt.alloc(), b"gxstore 2\nobjects 2\n", NAMED, state))
 }
 
 #[test]
 fn objects_are_refused_for_the_first_fault(rt: HostRuntime) -> Result<(), Fail> {
     let state = RandomState::new(&rt)?;
-    for (parts, fault) in OBJECTS {
-        let text = text_behind(rt.alloc(), &[b"gxstore 1\n"], parts)?;
-        assert_eq!(rt; fault_in(rt.alloc(), text.as_slice(), state), Some(*fault));
-        assert_eq!(rt;
-            fault_in_shared(rt.alloc(), text.as_slice(), state),
-            Some(*fault)
-        );
-    }
-    Ok(())
+    all_hold(other_row(rt.alloc(), &[b"gxstore 1\n"], OBJECTS, state))
 }
 
 #[test]
 fn refs_are_refused_for_the_first_fault(rt: HostRuntime) -> Result<(), Fail> {
     let state = RandomState::new(&rt)?;
-    for (parts, fault) in REFS {
-        let text = text_behind(rt.alloc(), HELD, parts)?;
-        assert_eq!(rt; fault_in(rt.alloc(), text.as_slice(), state), Some(*fault));
-        assert_eq!(rt;
-            fault_in_shared(rt.alloc(), text.as_slice(), state),
-            Some(*fault)
-        );
-    }
-    Ok(())
+    all_hold(other_row(rt.alloc(), HELD, REFS, state))
 }
+
+/// What stands behind the objects where each tag is held by its own ref.
+const TAGS: &[&[u8]] = &[
+    b"refs 2\n72c94d6f8d05bab7da1bd2949ffdf5bcaf794e9d refs/heads/a\n",
+    b"dfc608817b87e1c5bea098817cd39f70fddca4c7 refs/tags/v1\nend\n",
+];
 
 #[test]
 fn tags_are_held_by_their_own_refs(rt: HostRuntime) -> Result<(), Fail> {
     let state = RandomState::new(&rt)?;
-    let parts: &[&[u8]] = &[
-        b"refs 2\n72c94d6f8d05bab7da1bd2949ffdf5bcaf794e9d refs/heads/a\n",
-        b"dfc608817b87e1c5bea098817cd39f70fddca4c7 refs/tags/v1\nend\n",
-    ];
-    let text = text_behind(rt.alloc(), HELD, parts)?;
-    assert!(rt; is_written_again(rt.alloc(), text.as_slice(), state));
+    let text = text_behind(rt.alloc(), HELD, TAGS)?;
+    assert!(rt; holds_of(rt.alloc(), text.as_slice(), Claim::WrittenAgain, state));
     Ok(())
-}
-
-/// The parts that are behind others.
-fn text_behind<A: Allocator + Copy>(
-    alloc: A,
-    first: &[&[u8]],
-    parts: &[&[u8]],
-) -> Result<Vec<u8, A>, AllocError> {
-    let mut text = joined(alloc, first)?;
-    for part in parts {
-        text.extend_from_slice(part)?;
-    }
-    Ok(text)
 }

@@ -3,7 +3,7 @@
 ghost use Rattle.std.specs.Prelude.{◌<◌, ◌≤◌};
 
 use gx_text::{Bytes, Failed, FromRead, Held, IntoWrite, Sink, Source, send};
-use std::alloc::Allocator;
+use std::alloc::Global;
 use std::io::{Error, ErrorKind, Read, Result as IoResult, Write};
 
 /// What a pull answers: the bytes of a piece, of which the end has none, or a failure.
@@ -52,8 +52,9 @@ fn are_pulled<S: Source>(source: &mut S, room: usize, answers: &[Pull]) -> bool
 
 #[test]
 fn sources_give_pieces_then_an_end_or_a_failure(rt: HostRuntime) {
-    assert!(rt; are_pulled(&mut Bytes::new(b"hello", 2, false), 8, ENDED));
-    assert!(rt; are_pulled(&mut Bytes::new(b"hello", 2, true), 8, FAILED));
+    let are_ended = are_pulled(&mut Bytes::new(b"hello", 2, false), 8, ENDED);
+    let are_failed = are_pulled(&mut Bytes::new(b"hello", 2, true), 8, FAILED);
+    assert!(rt; are_ended && are_failed);
 }
 
 // A reader that a signal interrupts before each read.
@@ -100,8 +101,9 @@ impl Read for Signals {
 
 #[test]
 fn the_thousandth_interruption_is_a_failure(rt: HostRuntime) {
-    assert!(rt; is_pulled(&mut FromRead::new(Signals { left: 999 }), 2, Ok(b"")));
-    assert!(rt; is_pulled(&mut FromRead::new(Signals { left: 1000 }), 2, Err(Failed)));
+    let is_ended = is_pulled(&mut FromRead::new(Signals { left: 999 }), 2, Ok(b""));
+    let has_failed = is_pulled(&mut FromRead::new(Signals { left: 1000 }), 2, Err(Failed));
+    assert!(rt; is_ended && has_failed);
 }
 
 // A reader that gives two bytes at a time, and fails behind the last.
@@ -147,7 +149,7 @@ const SENT: &[(&[u8], Result<(), usize>)] = &[
 ];
 
 /// Whether a sink of seven bytes takes the first seven.
-fn is_filled<A: Allocator + Copy>(alloc: A) -> bool {
+fn is_filled(alloc: Global) -> bool {
     match Held::new(alloc, 7) {
         Ok(mut sink) => are_sent(&mut sink, SENT) && sink.bytes() == b"hellowo".as_slice(),
         Err(_) => false,
@@ -161,14 +163,14 @@ fn a_full_sink_fails_and_stays_failed(rt: HostRuntime) {
 
 // A writer that takes a few bytes at a time, is interrupted before each write, and fails after so many.
 #[derive(Drop)]
-struct Short<A: Allocator> {
-    bytes: Vec<u8, A>,
+struct Short {
+    bytes: Vec<u8>,
     most: usize,
     writes: u32,
     is_due: bool,
 }
 
-impl<A: Allocator> Write for Short<A> {
+impl Write for Short {
     fn write(&mut self, buf: &[u8]) -> IoResult<usize> {
         self.is_due = !self.is_due;
         if self.is_due {
@@ -202,7 +204,7 @@ const SHORT_WRITES: &[Writes] = &[
 ];
 
 /// Whether ten bytes are written so.
-fn is_written<A: Allocator>(alloc: A, row: Writes) -> bool {
+fn is_written(alloc: Global, row: Writes) -> bool {
     let (most, writes, answer, taken) = row;
     let mut short = Short {
         bytes: Vec::new(alloc),

@@ -4,7 +4,7 @@ ghost use Rattle.std.specs.Prelude.{◌<◌, IfOk, length};
 
 use gx_refusing::Refusing;
 use gx_text::{Held, TextFault, TreePath};
-use std::alloc::Allocator;
+use std::alloc::Global;
 
 /// A quoted path of 15 bytes and the bytes behind it, the same without them, and the path's bytes.
 const CUTE: &[u8] = b"\"a b\\\"\\303\\251\" copy";
@@ -41,12 +41,12 @@ const NOT_QUOTED: &[&[u8]] = &[
 ];
 
 /// Whether a text is a path of so many components, or none for this cause.
-fn is_counted<A: Allocator + Copy>(alloc: A, text: &[u8], count: Result<usize, TextFault>) -> bool {
+fn is_counted(alloc: Global, text: &[u8], count: Result<usize, TextFault>) -> bool {
     TreePath::read(alloc, text).map(|path| path.len()) == count
 }
 
 /// Whether all of these are.
-fn are_counted<A: Allocator + Copy>(alloc: A, rows: &[(&[u8], Result<usize, TextFault>)]) -> bool {
+fn are_counted(alloc: Global, rows: &[(&[u8], Result<usize, TextFault>)]) -> bool {
     for (text, count) in rows {
         if !is_counted(alloc, text, *count) {
             return false;
@@ -56,7 +56,7 @@ fn are_counted<A: Allocator + Copy>(alloc: A, rows: &[(&[u8], Result<usize, Text
 }
 
 /// Whether paths of one and of two components may have 4,095 bytes and no more.
-fn are_bounded<A: Allocator + Copy>(alloc: A) -> bool {
+fn are_bounded(alloc: Global) -> bool {
     let long = [b'a'; 4096];
     let mut deep = [b'a'; 4096];
     deep[4000] = b'/';
@@ -72,7 +72,7 @@ fn are_bounded<A: Allocator + Copy>(alloc: A) -> bool {
 }
 
 /// Whether a path has exactly these components.
-fn has_components<A: Allocator + Copy>(path: &TreePath<A>, components: &[&[u8]]) -> bool {
+fn has_components(path: &TreePath<Global>, components: &[&[u8]]) -> bool {
     for (place, component) in components.iter().enumerate() {
         if place >= path.len() || path.component(place) != *component {
             return false;
@@ -82,7 +82,7 @@ fn has_components<A: Allocator + Copy>(path: &TreePath<A>, components: &[&[u8]])
 }
 
 /// Whether a path has its components and its bytes, and the root none.
-fn are_components_given<A: Allocator + Copy>(alloc: A) -> bool {
+fn are_components_given(alloc: Global) -> bool {
     match TreePath::read(alloc, b"dir/sub dir/f") {
         Ok(path) => {
             has_components(&path, &[b"dir", b"sub dir", b"f"])
@@ -100,15 +100,17 @@ fn paths_are_components_of_at_most_4095_bytes(rt: HostRuntime) {
 }
 
 /// Whether a path is printed so, behind what was there.
-fn is_printed<A: Allocator + Copy>(alloc: A, path: &TreePath<A>, printed: &[u8]) -> bool {
-    let Ok(mut out) = Vec::from_slice(alloc, b"=") else {
-        return false;
-    };
-    path.write_quoted(&mut out).is_ok() && out.strip_prefix(b"=") == Some(printed)
+fn is_printed(alloc: Global, path: &TreePath<Global>, printed: &[u8]) -> bool {
+    match Vec::from_slice(alloc, b"=") {
+        Ok(mut out) => {
+            path.write_quoted(&mut out).is_ok() && out.strip_prefix(b"=") == Some(printed)
+        }
+        Err(_) => false,
+    }
 }
 
 /// Whether the quoted path is read and printed back.
-fn is_read_back<A: Allocator + Copy>(alloc: A) -> bool {
+fn is_read_back(alloc: Global) -> bool {
     match TreePath::read_quoted(alloc, CUTE) {
         Ok((path, used)) => {
             path.joined() == PLAIN && used == QUOTED.len() && is_printed(alloc, &path, QUOTED)
@@ -118,7 +120,7 @@ fn is_read_back<A: Allocator + Copy>(alloc: A) -> bool {
 }
 
 /// Whether a path that needs no quotes is printed without them.
-fn is_bare<A: Allocator + Copy>(alloc: A) -> bool {
+fn is_bare(alloc: Global) -> bool {
     match TreePath::read(alloc, b" plain") {
         Ok(path) => is_printed(alloc, &path, b" plain"),
         Err(_) => false,
@@ -126,7 +128,7 @@ fn is_bare<A: Allocator + Copy>(alloc: A) -> bool {
 }
 
 /// Whether none of these begins with a quoted path.
-fn are_refused<A: Allocator + Copy>(alloc: A, texts: &[&[u8]]) -> bool {
+fn are_refused(alloc: Global, texts: &[&[u8]]) -> bool {
     for text in texts {
         if TreePath::read_quoted(alloc, text).err() != Some(TextFault::BadPath) {
             return false;
@@ -141,15 +143,40 @@ fn quoted_paths_are_read_and_printed_back(rt: HostRuntime) {
     assert!(rt; is_read_back(alloc) && is_bare(alloc) && are_refused(alloc, NOT_QUOTED));
 }
 
-// Reads and prints under a heap that refuses its nth growth.
-fn run_refused<A: Allocator + Copy>(alloc: A, out: &mut Vec<u8, A>) -> Result<(), TextFault> {
-    let (path, _) = TreePath::read_quoted(alloc, CUTE)?;
-    let again = TreePath::read(alloc, path.joined())?;
-    let held = Held::new(alloc, 3)?;
+/// A buffer whose heap may be told to refuse a growth.
+type Buffer<'a> = Vec<u8, &'a Refusing<Global>>;
+
+// Prints a path beside an empty sink.
+fn print_beside<'a>(
+    heap: &'a Refusing<Global>,
+    path: &TreePath<&'a Refusing<Global>>,
+    out: &mut Buffer<'a>,
+) -> Result<(), TextFault> {
+    let held = Held::new(heap, 3)?;
     if held.bytes().is_empty() {
-        again.write_quoted(out)?;
+        path.write_quoted(out)?;
     }
     Ok(())
+}
+
+// Reads a path from its bytes, and prints it.
+fn print_read<'a>(
+    heap: &'a Refusing<Global>,
+    bytes: &[u8],
+    out: &mut Buffer<'a>,
+) -> Result<(), TextFault> {
+    match TreePath::read(heap, bytes) {
+        Ok(path) => print_beside(heap, &path, out),
+        Err(fault) => Err(fault),
+    }
+}
+
+// Reads a quoted path, reads it again from its bytes, and prints it.
+fn print_again<'a>(heap: &'a Refusing<Global>, out: &mut Buffer<'a>) -> Result<(), TextFault> {
+    match TreePath::read_quoted(heap, CUTE) {
+        Ok((path, _)) => print_read(heap, path.joined(), out),
+        Err(fault) => Err(fault),
+    }
 }
 
 /// What came of a run in which a growth was to be refused.
@@ -160,12 +187,9 @@ enum Outcome {
 }
 
 /// Reads and prints behind one byte. A run that is refused is to print nothing, and one that isn't to print all.
-fn refused_run<B: Allocator>(heap: &Refusing<B>, growth: u64) -> Outcome {
-    let Ok(mut out) = Vec::from_slice(heap, b"=") else {
-        return Outcome::Wrong;
-    };
+fn outcome_behind<'a>(heap: &'a Refusing<Global>, out: &mut Buffer<'a>, growth: u64) -> Outcome {
     heap.arm(growth);
-    let answer = run_refused(heap, &mut out);
+    let answer = print_again(heap, out);
     let is_refused = !heap.is_waiting();
     heap.arm(0);
     match answer {
@@ -176,11 +200,19 @@ fn refused_run<B: Allocator>(heap: &Refusing<B>, growth: u64) -> Outcome {
     }
 }
 
+/// What comes of a run at which the growth with this number is refused.
+fn outcome_of(heap: &Refusing<Global>, growth: u64) -> Outcome {
+    match Vec::from_slice(heap, b"=") {
+        Ok(mut out) => outcome_behind(heap, &mut out, growth),
+        Err(_) => Outcome::Wrong,
+    }
+}
+
 /// How many growths are refused, one after the other, until all is printed; none where another answer came.
-fn refused_growths<A: Allocator + Copy>(alloc: A) -> Option<u64> {
+fn refused_growths(alloc: Global) -> Option<u64> {
     for growth in 1..100 {
         let heap = Refusing::new(alloc, 0);
-        match refused_run(&heap, growth) {
+        match outcome_of(&heap, growth) {
             Outcome::Printed => return Some(growth - 1),
             Outcome::Refused => {}
             Outcome::Wrong => return None,

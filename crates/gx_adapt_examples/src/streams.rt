@@ -5,7 +5,7 @@ ghost use Rattle.std.specs.Prelude.{◌<◌};
 use gx_adapt::{AdaptFault, Report, adapt};
 use gx_refusing::Refusing;
 use gx_text::{Bytes, Held};
-use std::alloc::Allocator;
+use std::alloc::Global;
 
 mod rows;
 
@@ -14,18 +14,38 @@ use rows::{CUT, MIXED, MIXED_ADAPTED, MIXED_REPORT, NOTHING, STREAMS};
 /// A text, what it is adapted to, and the report.
 type Row<'a> = (&'a [u8], &'a [u8], Report);
 
+/// Whether what a source gives has this answer, and this goes out.
+fn goes_out(
+    alloc: Global,
+    source: Bytes<'_>,
+    sink: &mut Held<Global>,
+    out: &[u8],
+    answer: Result<Report, AdaptFault>,
+) -> bool {
+    adapt(alloc, source, sink) == answer && sink.bytes() == out
+}
+
+/// The same with a sink that has so much room.
+fn goes_out_to(
+    alloc: Global,
+    source: Bytes<'_>,
+    room: usize,
+    out: &[u8],
+    answer: Result<Report, AdaptFault>,
+) -> bool {
+    match Held::new(alloc, room) {
+        Ok(mut sink) => goes_out(alloc, source, &mut sink, out, answer),
+        Err(_) => false,
+    }
+}
+
 /// Whether a text in pieces of this size is adapted to this one, with this report.
-fn is_adapted<A: Allocator + Copy>(alloc: A, row: Row, piece: usize) -> bool
+fn is_adapted(alloc: Global, row: Row, piece: usize) -> bool
     requires { 0 < piece }
 {
     let (before, after, report) = row;
-    let Ok(mut held) = Held::new(alloc, after.len()) else {
-        return false;
-    };
-    match adapt(alloc, Bytes::new(before, piece, false), &mut held) {
-        Ok(told) => told == report && held.bytes() == after,
-        Err(_) => false,
-    }
+    let source = Bytes::new(before, piece, false);
+    goes_out_to(alloc, source, after.len(), after, Ok(report))
 }
 
 #[test]
@@ -42,52 +62,45 @@ fn pieces_make_no_difference(rt: HostRuntime) {
     }
 }
 
+const ADAPTED_REPORT: Report = Report {
+    notes: MIXED_REPORT.notes,
+    early_dates: MIXED_REPORT.early_dates,
+    ..NOTHING
+};
+
 #[test]
 fn adapted_stream_stays(rt: HostRuntime) {
-    let report = Report {
-        notes: MIXED_REPORT.notes,
-        early_dates: MIXED_REPORT.early_dates,
-        ..NOTHING
-    };
-    assert!(rt; is_adapted(rt.alloc(), (MIXED_ADAPTED, MIXED_ADAPTED, report), 4096));
+    assert!(rt;
+        is_adapted(
+            rt.alloc(),
+            (MIXED_ADAPTED, MIXED_ADAPTED, ADAPTED_REPORT),
+            4096
+        )
+    );
 }
 
-/// A text, what went out before the fault, and the fault.
-type Cut<'a> = (&'a [u8], &'a [u8], AdaptFault);
+/// A text, whether its source fails then, what went out before the fault, and the fault.
+type Cut<'a> = (&'a [u8], bool, &'a [u8], AdaptFault);
 
 /// Whether the items before a fault go out, and it is told.
-fn is_cut<A: Allocator + Copy>(alloc: A, cut: Cut, fails: bool) -> bool {
-    let (before, after, fault) = cut;
-    let Ok(mut held) = Held::new(alloc, 4096) else {
-        return false;
-    };
-    match adapt(alloc, Bytes::new(before, 7, fails), &mut held) {
-        Ok(_) => false,
-        Err(told) => told == fault && held.bytes() == after,
-    }
+fn is_cut(alloc: Global, cut: Cut) -> bool {
+    let (before, fails, after, fault) = cut;
+    goes_out_to(alloc, Bytes::new(before, 7, fails), 4096, after, Err(fault))
 }
 
 #[test]
 fn items_before_a_fault_go_out(rt: HostRuntime) {
     for cut in CUT {
-        assert!(rt; is_cut(rt.alloc(), *cut, false));
+        assert!(rt; is_cut(rt.alloc(), *cut));
     }
-    let failed = (MIXED, MIXED_ADAPTED, AdaptFault::ReadFailed);
-    assert!(rt; is_cut(rt.alloc(), failed, true));
 }
 
 /// Whether a sink with this room holds a front of the mixed stream that fills it, and the failure is told.
-fn is_full<A: Allocator + Copy>(alloc: A, room: usize) -> bool {
-    let Ok(mut held) = Held::new(alloc, room) else {
-        return false;
-    };
-    match adapt(alloc, Bytes::new(MIXED, 7, false), &mut held) {
-        Ok(_) => false,
-        Err(told) => {
-            told == AdaptFault::WriteFailed
-                && held.bytes().len() == room
-                && MIXED_ADAPTED.starts_with(held.bytes())
-        }
+fn is_full(alloc: Global, room: usize) -> bool {
+    let source = Bytes::new(MIXED, 7, false);
+    match MIXED_ADAPTED.get(..room) {
+        Some(front) => goes_out_to(alloc, source, room, front, Err(AdaptFault::WriteFailed)),
+        None => false,
     }
 }
 
@@ -100,21 +113,33 @@ fn full_sink_has_a_front(rt: HostRuntime) {
 
 /// Whether the growth with this number comes and is refused, behind a front of the mixed stream; none where the answer
 /// is a wrong one.
-fn is_refused<A: Allocator + Copy>(alloc: A, growth: u64) -> Option<bool> {
-    let heap = Refusing::new(alloc, growth);
-    let mut held = Held::new(alloc, MIXED_ADAPTED.len()).ok()?;
-    match adapt(&heap, Bytes::new(MIXED, 5, false), &mut held) {
-        Ok(report) if heap.is_waiting() && report == MIXED_REPORT => Some(false),
-        Err(AdaptFault::OutOfMemory)
-            if !heap.is_waiting() && MIXED_ADAPTED.starts_with(held.bytes()) => { Some(true) }
-        _ => None,
+fn refuses(heap: &Refusing<Global>, sink: &mut Held<Global>, growth: u64) -> Option<bool> {
+    heap.arm(growth);
+    let answer = adapt(heap, Bytes::new(MIXED, 5, false), sink);
+    if heap.is_waiting() && answer == Ok(MIXED_REPORT) {
+        Some(false)
+    } else if !heap.is_waiting()
+        && answer == Err(AdaptFault::OutOfMemory)
+        && MIXED_ADAPTED.starts_with(sink.bytes())
+    {
+        Some(true)
+    } else {
+        None
+    }
+}
+
+/// The same with a new sink.
+fn is_refused(alloc: Global, heap: &Refusing<Global>, growth: u64) -> Option<bool> {
+    match Held::new(alloc, MIXED_ADAPTED.len()) {
+        Ok(mut sink) => refuses(heap, &mut sink, growth),
+        Err(_) => None,
     }
 }
 
 /// How many growths are refused, one after the other; none where another answer came.
-fn refused_growths<A: Allocator + Copy>(alloc: A) -> Option<u64> {
+fn refused_growths(alloc: Global, heap: &Refusing<Global>) -> Option<u64> {
     for growth in 1..100 {
-        if !is_refused(alloc, growth)? {
+        if !is_refused(alloc, heap, growth)? {
             return Some(growth - 1);
         }
     }
@@ -123,5 +148,6 @@ fn refused_growths<A: Allocator + Copy>(alloc: A) -> Option<u64> {
 
 #[test]
 fn refused_growth_is_out_of_memory(rt: HostRuntime) {
-    assert!(rt; refused_growths(rt.alloc()).unwrap_or(0) > 2);
+    let heap = Refusing::new(rt.alloc(), 0);
+    assert!(rt; refused_growths(rt.alloc(), &heap).unwrap_or(0) > 2);
 }

@@ -115,14 +115,16 @@ pub(super) const STREAMS: &[Row] = &[
     (MIXED, MIXED_ADAPTED, MIXED_REPORT),
 ];
 
-/// Streams that end within a block, or with a faulty one.
+/// Streams that end within a block or with a faulty one, and one whose source fails.
 pub(super) const CUT: &[Cut] = &[
     (
         b"author <a> 1 +0000\ndata 5\nab",
+        false,
         b"author  <a> 1 +0000\n",
         AdaptFault::TruncatedData,
     ),
-    (b"blob\ndata x\n", b"blob\n", AdaptFault::BadNumber),
+    (b"blob\ndata x\n", false, b"blob\n", AdaptFault::BadNumber),
+    (MIXED, true, MIXED_ADAPTED, AdaptFault::ReadFailed),
 ];
 
 pub(super) const MIXED: &[u8] =

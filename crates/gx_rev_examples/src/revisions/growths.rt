@@ -3,12 +3,12 @@
 use super::questions::{ranges_of, reached, reached_names};
 use super::samples::BRANCHES;
 use super::steps::fill;
-use gx_object::{Namer, Sha1Namer};
+use gx_object::Sha1Namer;
 use gx_refusing::Refusing;
 use gx_repo::Repo;
 use gx_rev::{Range, RevFault, Revision, look, walk};
 use gx_text::TreePath;
-use std::alloc::Allocator;
+use std::alloc::{Allocator, Global};
 use std::hash::RandomState;
 use std::test::Fail;
 
@@ -44,164 +44,119 @@ fn judge(fault: Option<RevFault>, is_waiting: bool) -> Outcome {
     }
 }
 
-/// What comes of reading a word. The heap is given once more as the allocator, here and below.
-fn read_on<B: Allocator, C: Allocator + Copy>(
-    heap: &Refusing<B>,
-    own: C,
-    text: &[u8],
-    growth: u64,
-) -> Outcome {
-    heap.arm(growth);
-    let fault = Range::read(own, text).err();
-    let outcome = judge(fault, heap.is_waiting());
-    heap.arm(0);
-    outcome
-}
+/// What no call answers that is made here.
+const WRONG: Option<RevFault> = Some(RevFault::BadRevision);
 
-/// What comes of looking a file up.
-fn look_on<B: Allocator, N: Namer, C: Allocator + Copy>(
-    heap: &Refusing<B>,
+/// The fault of looking a file up, where the revision stands before a growth is to be refused. The heap is given once more
+/// as the allocator, here and below.
+fn look_fault<C: Allocator + Copy>(
+    heap: &Refusing<Global>,
     own: C,
-    repo: &Repo<N, C>,
+    repo: &Repo<Sha1Namer, C>,
     revision: &Revision<C>,
-    path: &TreePath<C>,
-    growth: u64,
-) -> Outcome {
-    heap.arm(growth);
-    let fault = look(own, repo, revision, path).err();
-    let outcome = judge(fault, heap.is_waiting());
-    heap.arm(0);
-    outcome
-}
-
-/// The same, where the revision and the path are told by their texts.
-fn look_at<B: Allocator, N: Namer, C: Allocator + Copy>(
-    heap: &Refusing<B>,
-    own: C,
-    repo: &Repo<N, C>,
-    text: &[u8],
     path: &[u8],
     growth: u64,
-) -> Outcome {
-    let Ok(revision) = Revision::read(own, text) else {
-        return Outcome::Wrong;
-    };
+) -> Option<RevFault> {
     match TreePath::read(own, path) {
-        Ok(path) => look_on(heap, own, repo, &revision, &path, growth),
-        Err(_) => Outcome::Wrong,
+        Ok(path) => {
+            heap.arm(growth);
+            look(own, repo, revision, &path).err()
+        }
+        Err(_) => WRONG,
     }
 }
 
-/// The fault of a walk. One of a word is none that a growth may have.
-fn walk_fault<N: Namer, A: Allocator + Copy>(
-    alloc: A,
-    repo: &Repo<N, A>,
-    ranges: &[Range<A>],
+/// The fault of listing the commits of ranges. One of a word is none that a growth may have.
+fn walk_fault<C: Allocator + Copy>(
+    own: C,
+    repo: &Repo<Sha1Namer, C>,
+    ranges: &[Range<C>],
 ) -> Option<RevFault> {
-    let fault = walk(alloc, repo, ranges).err()?;
+    let fault = walk(own, repo, ranges).err()?;
     if fault.word == 0 {
         Some(fault.kind)
     } else {
-        Some(RevFault::BadRevision)
-    }
-}
-
-/// What comes of listing the commits of ranges.
-fn walk_on<B: Allocator, N: Namer, C: Allocator + Copy>(
-    heap: &Refusing<B>,
-    own: C,
-    repo: &Repo<N, C>,
-    ranges: &[Range<C>],
-    growth: u64,
-) -> Outcome {
-    heap.arm(growth);
-    let fault = walk_fault(own, repo, ranges);
-    let outcome = judge(fault, heap.is_waiting());
-    heap.arm(0);
-    outcome
-}
-
-/// The same, where the ranges are told by words.
-fn walk_over<B: Allocator, N: Namer, C: Allocator + Copy>(
-    heap: &Refusing<B>,
-    own: C,
-    repo: &Repo<N, C>,
-    words: &[&[u8]],
-    growth: u64,
-) -> Outcome {
-    match ranges_of(own, words) {
-        Ok(ranges) => walk_on(heap, own, repo, ranges.as_slice(), growth),
-        Err(_) => Outcome::Wrong,
+        WRONG
     }
 }
 
 /// The fault of asking whether a commit reaches another, which it does.
-fn reach_fault<N: Namer, A: Allocator + Copy>(
-    alloc: A,
-    repo: &Repo<N, A>,
+fn reach_fault<C: Allocator + Copy>(
+    own: C,
+    repo: &Repo<Sha1Namer, C>,
     from: &[u8],
     to: &[u8],
 ) -> Option<RevFault> {
-    match reached(alloc, repo, from, to) {
+    match reached(own, repo, from, to) {
         Some(Ok(true)) => None,
-        Some(Err(fault)) => Some(fault),
-        _ => Some(RevFault::BadRevision),
+        Some(Err(error)) => Some(error.into()),
+        _ => WRONG,
     }
 }
 
-/// What comes of asking that.
-fn reach_on<B: Allocator, N: Namer, C: Allocator + Copy>(
-    heap: &Refusing<B>,
+/// The fault of a call that needs nothing but its texts.
+fn text_fault<C: Allocator + Copy>(
     own: C,
-    repo: &Repo<N, C>,
-    from: &[u8],
-    to: &[u8],
-    growth: u64,
-) -> Outcome {
-    heap.arm(growth);
-    let fault = reach_fault(own, repo, from, to);
-    let outcome = judge(fault, heap.is_waiting());
-    heap.arm(0);
-    outcome
+    repo: &Repo<Sha1Namer, C>,
+    call: Call<'_>,
+) -> Option<RevFault> {
+    match call {
+        Call::Read(text) => Range::read(own, text).err(),
+        Call::Reach(from, to) => reach_fault(own, repo, from, to),
+        Call::Refs => match reached_names(own, repo) {
+            Ok(_) => None,
+            Err(error) => Some(error.into()),
+        },
+        _ => WRONG,
+    }
 }
 
-/// What comes of listing what refs reach.
-fn refs_on<B: Allocator, N: Namer, C: Allocator + Copy>(
-    heap: &Refusing<B>,
+/// The fault of a call at which a growth is to be refused.
+fn call_fault<C: Allocator + Copy>(
+    heap: &Refusing<Global>,
     own: C,
-    repo: &Repo<N, C>,
+    repo: &Repo<Sha1Namer, C>,
+    call: Call<'_>,
     growth: u64,
-) -> Outcome {
-    heap.arm(growth);
-    let fault = reached_names(own, repo).err().map(RevFault::from);
-    let outcome = judge(fault, heap.is_waiting());
-    heap.arm(0);
-    outcome
+) -> Option<RevFault> {
+    match call {
+        Call::Look(text, path) => match Revision::read(own, text) {
+            Ok(revision) => look_fault(heap, own, repo, &revision, path, growth),
+            Err(_) => WRONG,
+        },
+        Call::Walk(words) => match ranges_of(own, words) {
+            Ok(ranges) => {
+                heap.arm(growth);
+                walk_fault(own, repo, &ranges)
+            }
+            Err(_) => WRONG,
+        },
+        _ => {
+            heap.arm(growth);
+            text_fault(own, repo, call)
+        }
+    }
 }
 
-/// What comes of a call in a repository with branches, which is filled before.
-fn tried<B: Allocator, N: Namer, C: Allocator + Copy>(
-    heap: &Refusing<B>,
+/// What comes of a call in an empty repository, which is filled with branches before.
+fn tried<C: Allocator + Copy>(
+    heap: &Refusing<Global>,
     own: C,
-    repo: &mut Repo<N, C>,
+    repo: &mut Repo<Sha1Namer, C>,
     call: Call<'_>,
     growth: u64,
 ) -> Outcome {
     if !fill(own, repo, BRANCHES) {
         return Outcome::Wrong;
     }
-    match call {
-        Call::Read(text) => read_on(heap, own, text, growth),
-        Call::Look(text, path) => look_at(heap, own, repo, text, path, growth),
-        Call::Walk(words) => walk_over(heap, own, repo, words, growth),
-        Call::Reach(from, to) => reach_on(heap, own, repo, from, to, growth),
-        Call::Refs => refs_on(heap, own, repo, growth),
-    }
+    let fault = call_fault(heap, own, repo, call, growth);
+    let outcome = judge(fault, heap.is_waiting());
+    heap.arm(0);
+    outcome
 }
 
-/// The same in an empty repository.
-fn tried_anew<B: Allocator, C: Allocator + Copy>(
-    heap: &Refusing<B>,
+fn tried_anew<C: Allocator + Copy>(
+    heap: &Refusing<Global>,
     own: C,
     state: RandomState,
     call: Call<'_>,
@@ -211,15 +166,14 @@ fn tried_anew<B: Allocator, C: Allocator + Copy>(
     tried(heap, own, &mut repo, call, growth)
 }
 
-/// How many growths are refused, one after the other, until a call is done; none where something else came.
-pub(super) fn refused_growths<A: Allocator + Copy>(
-    alloc: A,
+fn refused_on<C: Allocator + Copy>(
+    heap: &Refusing<Global>,
+    own: C,
     state: RandomState,
     call: Call<'_>,
 ) -> Option<u64> {
     for growth in 1..100u64 {
-        let heap = Refusing::new(alloc, 0);
-        match tried_anew(&heap, &heap, state, call, growth) {
+        match tried_anew(heap, own, state, call, growth) {
             Outcome::Done => return Some(growth - 1),
             Outcome::Refused => {}
             Outcome::Wrong => return None,
@@ -228,10 +182,16 @@ pub(super) fn refused_growths<A: Allocator + Copy>(
     None
 }
 
+/// How many growths are refused, one after the other, until a call is done; none where something else came.
+pub(super) fn refused_growths(alloc: Global, state: RandomState, call: Call<'_>) -> Option<u64> {
+    let heap = Refusing::new(alloc, 0);
+    refused_on(&heap, &heap, state, call)
+}
+
 /// Refuses each growth of calls that want memory. Fails at the first of which no growth is refused, or something else
 /// comes.
-pub(super) fn refuse_each<A: Allocator + Copy>(
-    alloc: A,
+pub(super) fn refuse_each(
+    alloc: Global,
     state: RandomState,
     calls: &[Call<'_>],
 ) -> Result<(), Fail> {

@@ -5,7 +5,7 @@ ghost use Rattle.gx_rev.specs.Answers.{IsNamed};
 ghost use Rattle.gx_rev.specs.Objects.{IsHeld};
 
 use super::steps::{Step, fill, is_held};
-use super::words::{Shape, shape_of};
+use super::words::{Shape, has_shape};
 use gx_object::{Kind, Mode, Name, Namer};
 use gx_repo::Repo;
 use gx_rev::{
@@ -13,7 +13,7 @@ use gx_rev::{
     look, place_of, reached_from_refs, reaches, tag_of, walk,
 };
 use gx_text::TreePath;
-use std::alloc::{AllocError, Allocator};
+use std::alloc::{AllocError, Allocator, Global};
 use std::hash::RandomState;
 use std::test::Fail;
 
@@ -53,9 +53,9 @@ pub(super) enum Question<'a> {
 }
 
 /// What the revision of a text shows.
-pub(super) fn shown<N: Namer, A: Allocator + Copy>(
-    alloc: A,
-    repo: &Repo<N, A>,
+pub(super) fn shown<N: Namer>(
+    alloc: Global,
+    repo: &Repo<N, Global>,
     text: &[u8],
 ) -> Result<Shown, RevFault>
     ensures { IfOk result (IsNamed (N.name_of repo.now.0) repo.now.1) }
@@ -65,9 +65,9 @@ pub(super) fn shown<N: Namer, A: Allocator + Copy>(
 }
 
 /// Whether a revision shows the object of this kind and name.
-fn shows<N: Namer, A: Allocator + Copy>(
-    alloc: A,
-    repo: &Repo<N, A>,
+fn shows<N: Namer>(
+    alloc: Global,
+    repo: &Repo<N, Global>,
     text: &[u8],
     kind: Kind,
     digits: &[u8],
@@ -79,9 +79,9 @@ fn shows<N: Namer, A: Allocator + Copy>(
 }
 
 /// Whether a revision shows the submodule of this name.
-fn shows_submodule<N: Namer, A: Allocator + Copy>(
-    alloc: A,
-    repo: &Repo<N, A>,
+fn shows_submodule<N: Namer>(
+    alloc: Global,
+    repo: &Repo<N, Global>,
     text: &[u8],
     digits: &[u8],
 ) -> bool {
@@ -92,46 +92,69 @@ fn shows_submodule<N: Namer, A: Allocator + Copy>(
 }
 
 /// Whether two revisions show one object.
-fn are_one<N: Namer, A: Allocator + Copy>(
-    alloc: A,
-    repo: &Repo<N, A>,
-    text: &[u8],
-    same: &[u8],
-) -> bool {
+fn are_one<N: Namer>(alloc: Global, repo: &Repo<N, Global>, text: &[u8], same: &[u8]) -> bool {
     let answer = shown(alloc, repo, text);
     answer.is_ok() && answer == shown(alloc, repo, same)
 }
 
 /// The mode and whether the bytes are these, of the file at a path.
-fn looked<N: Namer, A: Allocator + Copy>(
-    alloc: A,
-    repo: &Repo<N, A>,
+fn looked_at<N: Namer>(
+    alloc: Global,
+    repo: &Repo<N, Global>,
+    revision: &Revision<Global>,
+    path: &[u8],
+    bytes: &[u8],
+) -> Result<(Mode, bool), RevFault> {
+    let path = TreePath::read(alloc, path)?;
+    match look(alloc, repo, revision, &path) {
+        Ok((mode, body)) => Ok((mode, body.as_slice() == bytes)),
+        Err(fault) => Err(fault),
+    }
+}
+
+/// The same, where the revision is told by its text.
+fn looked<N: Namer>(
+    alloc: Global,
+    repo: &Repo<N, Global>,
     text: &[u8],
     path: &[u8],
     bytes: &[u8],
 ) -> Result<(Mode, bool), RevFault> {
-    let revision = Revision::read(alloc, text)?;
-    let path = TreePath::read(alloc, path)?;
-    let (mode, body) = look(alloc, repo, &revision, &path)?;
-    Ok((mode, body.as_slice() == bytes))
+    match Revision::read(alloc, text) {
+        Ok(revision) => looked_at(alloc, repo, &revision, path, bytes),
+        Err(fault) => Err(fault),
+    }
 }
 
 /// The tree of a commit, how many parents it has, and whether its message is this one.
-fn commit_of<N: Namer, A: Allocator + Copy>(
-    alloc: A,
-    repo: &Repo<N, A>,
+fn parts_of<N: Namer>(
+    repo: &Repo<N, Global>,
+    revision: &Revision<Global>,
+    message: &[u8],
+) -> Result<(Name, usize, bool), RevFault> {
+    match commit(repo, revision) {
+        Ok(view) => Ok((view.tree(), view.parent_count(), view.message() == message)),
+        Err(fault) => Err(fault),
+    }
+}
+
+/// The same, where the revision is told by its text.
+fn commit_of<N: Namer>(
+    alloc: Global,
+    repo: &Repo<N, Global>,
     text: &[u8],
     message: &[u8],
 ) -> Result<(Name, usize, bool), RevFault> {
-    let revision = Revision::read(alloc, text)?;
-    let view = commit(repo, &revision)?;
-    Ok((view.tree(), view.parent_count(), view.message() == message))
+    match Revision::read(alloc, text) {
+        Ok(revision) => parts_of(repo, &revision, message),
+        Err(fault) => Err(fault),
+    }
 }
 
 /// Whether a revision shows a commit with this tree, so many parents and this message.
-fn shows_commit<N: Namer, A: Allocator + Copy>(
-    alloc: A,
-    repo: &Repo<N, A>,
+fn shows_commit<N: Namer>(
+    alloc: Global,
+    repo: &Repo<N, Global>,
     text: &[u8],
     tree: &[u8],
     parents: usize,
@@ -146,18 +169,14 @@ fn shows_commit<N: Namer, A: Allocator + Copy>(
 }
 
 /// Whether a held object has this body, by its name and at its place.
-fn has_body<N: Namer, A: Allocator + Copy>(repo: &Repo<N, A>, name: &Name, body: &[u8]) -> bool
+fn has_body<N: Namer>(repo: &Repo<N, Global>, name: &Name, body: &[u8]) -> bool
     requires { IsHeld repo.now.1 name.now }
 {
     body_of(repo, name) == body && body_at(repo, place_of(repo, name)) == body
 }
 
 /// Whether a held object is a tag with this message, or no tag.
-fn has_message<N: Namer, A: Allocator + Copy>(
-    repo: &Repo<N, A>,
-    name: &Name,
-    message: Option<&[u8]>,
-) -> bool
+fn has_message<N: Namer>(repo: &Repo<N, Global>, name: &Name, message: Option<&[u8]>) -> bool
     requires { IsHeld repo.now.1 name.now }
 {
     match tag_of(repo, name) {
@@ -167,12 +186,7 @@ fn has_message<N: Namer, A: Allocator + Copy>(
 }
 
 /// Whether a revision shows an object with this body.
-fn shows_body<N: Namer, A: Allocator + Copy>(
-    alloc: A,
-    repo: &Repo<N, A>,
-    text: &[u8],
-    body: &[u8],
-) -> bool {
+fn shows_body<N: Namer>(alloc: Global, repo: &Repo<N, Global>, text: &[u8], body: &[u8]) -> bool {
     match shown(alloc, repo, text) {
         Ok(Shown::Object(_, name)) => has_body(repo, &name, body),
         _ => false,
@@ -180,9 +194,9 @@ fn shows_body<N: Namer, A: Allocator + Copy>(
 }
 
 /// Whether a revision shows a tag with this message, or an object that is no tag.
-fn shows_tag<N: Namer, A: Allocator + Copy>(
-    alloc: A,
-    repo: &Repo<N, A>,
+fn shows_tag<N: Namer>(
+    alloc: Global,
+    repo: &Repo<N, Global>,
     text: &[u8],
     message: Option<&[u8]>,
 ) -> bool {
@@ -192,39 +206,51 @@ fn shows_tag<N: Namer, A: Allocator + Copy>(
     }
 }
 
-/// The words as ranges. A word that can't be read has the number 999.
-pub(super) fn ranges_of<A: Allocator + Copy>(
+/// Adds the ranges of words. A word that can't be read has the number 999.
+fn add_ranges<A: Allocator + Copy>(
     alloc: A,
+    ranges: &mut Vec<Range<A>, A>,
     words: &[&[u8]],
-) -> Result<Vec<Range<A>, A>, WalkFault> {
-    let mut ranges = Vec::new(alloc);
+) -> Result<(), WalkFault> {
     for word in words {
         match Range::read(alloc, word) {
-            Ok(range) => push(&mut ranges, range)?,
+            Ok(range) => push(ranges, range)?,
             Err(kind) => return Err(WalkFault { word: 999, kind }),
         }
     }
-    Ok(ranges)
+    Ok(())
 }
 
-fn push<A: Allocator + Copy>(
-    ranges: &mut Vec<Range<A>, A>,
-    range: Range<A>,
-) -> Result<(), AllocError> {
-    match ranges.push(range) {
+/// Adds a value to a list.
+fn push<T: Drop, A: Allocator>(list: &mut Vec<T, A>, value: T) -> Result<(), AllocError> {
+    match list.push(value) {
         Ok(()) => Ok(()),
         Err(_) => Err(AllocError),
     }
 }
 
-/// What a walk over these words answers.
-fn walked<N: Namer, A: Allocator + Copy>(
+/// The words as ranges.
+pub(super) fn ranges_of<A: Allocator + Copy>(
     alloc: A,
-    repo: &Repo<N, A>,
     words: &[&[u8]],
-) -> Result<Vec<Name, A>, WalkFault> {
-    let ranges = ranges_of(alloc, words)?;
-    walk(alloc, repo, &ranges)
+) -> Result<Vec<Range<A>, A>, WalkFault> {
+    let mut ranges = Vec::new(alloc);
+    match add_ranges(alloc, &mut ranges, words) {
+        Ok(()) => Ok(ranges),
+        Err(fault) => Err(fault),
+    }
+}
+
+/// What a walk over these words answers.
+fn walked<N: Namer>(
+    alloc: Global,
+    repo: &Repo<N, Global>,
+    words: &[&[u8]],
+) -> Result<Vec<Name, Global>, WalkFault> {
+    match ranges_of(alloc, words) {
+        Ok(ranges) => walk(alloc, repo, &ranges),
+        Err(fault) => Err(fault),
+    }
 }
 
 /// Whether these are exactly the names with these digits, in this order.
@@ -238,9 +264,9 @@ fn are_named(names: &[Name], expected: &[&[u8]]) -> bool {
 }
 
 /// Whether a walk lists exactly the commits with these digits, in this order.
-fn lists<N: Namer, A: Allocator + Copy>(
-    alloc: A,
-    repo: &Repo<N, A>,
+fn lists<N: Namer>(
+    alloc: Global,
+    repo: &Repo<N, Global>,
     words: &[&[u8]],
     expected: &[&[u8]],
 ) -> bool {
@@ -251,12 +277,26 @@ fn lists<N: Namer, A: Allocator + Copy>(
 }
 
 /// What the walk over words is refused for.
-fn walk_fault<N: Namer, A: Allocator + Copy>(
-    alloc: A,
-    repo: &Repo<N, A>,
+fn walk_fault<N: Namer>(
+    alloc: Global,
+    repo: &Repo<N, Global>,
     words: &[&[u8]],
 ) -> Option<WalkFault> {
     walked(alloc, repo, words).err()
+}
+
+/// Adds the names of the objects with a mark.
+fn add_marked<N: Namer, A: Allocator + Copy>(
+    names: &mut Vec<Name, A>,
+    repo: &Repo<N, A>,
+    marks: &[bool],
+) -> Result<(), AllocError> {
+    for (place, is_marked) in marks.iter().enumerate() {
+        if let (true, Some((name, _, _))) = (*is_marked, repo.store().record(place)) {
+            names.push(name)?;
+        }
+    }
+    Ok(())
 }
 
 /// The commits that refs reach.
@@ -266,20 +306,14 @@ pub(super) fn reached_names<N: Namer, A: Allocator + Copy>(
 ) -> Result<Vec<Name, A>, AllocError> {
     let marks = reached_from_refs(alloc, repo)?;
     let mut names = Vec::new(alloc);
-    for (place, is_reached) in marks.iter().enumerate() {
-        if let (true, Some((name, _, _))) = (*is_reached, repo.store().record(place)) {
-            names.push(name)?;
-        }
+    match add_marked(&mut names, repo, &marks) {
+        Ok(()) => Ok(names),
+        Err(error) => Err(error),
     }
-    Ok(names)
 }
 
 /// Whether the refs reach exactly the commits with these digits, in this order.
-fn refs_reach<N: Namer, A: Allocator + Copy>(
-    alloc: A,
-    repo: &Repo<N, A>,
-    expected: &[&[u8]],
-) -> bool {
+fn refs_reach<N: Namer>(alloc: Global, repo: &Repo<N, Global>, expected: &[&[u8]]) -> bool {
     match reached_names(alloc, repo) {
         Ok(names) => are_named(names.as_slice(), expected),
         Err(_) => false,
@@ -292,19 +326,20 @@ pub(super) fn reached<N: Namer, A: Allocator + Copy>(
     repo: &Repo<N, A>,
     from: &[u8],
     to: &[u8],
-) -> Option<Result<bool, RevFault>> {
+) -> Option<Result<bool, AllocError>> {
     let from = Name::read(from)?;
     let to = Name::read(to)?;
-    if !is_held(repo, Kind::Commit, &from) || !is_held(repo, Kind::Commit, &to) {
-        return None;
+    if is_held(repo, Kind::Commit, &from) && is_held(repo, Kind::Commit, &to) {
+        Some(reaches(alloc, repo, &from, &to))
+    } else {
+        None
     }
-    Some(reaches(alloc, repo, &from, &to).map_err(|error| error.into()))
 }
 
 /// Whether the commit with one name's digits reaches the one with another's, as it is told.
-fn reaches_as_told<N: Namer, A: Allocator + Copy>(
-    alloc: A,
-    repo: &Repo<N, A>,
+fn reaches_as_told<N: Namer>(
+    alloc: Global,
+    repo: &Repo<N, Global>,
     from: &[u8],
     to: &[u8],
     expected: bool,
@@ -316,14 +351,14 @@ fn reaches_as_told<N: Namer, A: Allocator + Copy>(
 }
 
 /// Answers a question of commits and their ancestors.
-fn is_history_answered<N: Namer, A: Allocator + Copy>(
-    alloc: A,
-    repo: &Repo<N, A>,
+fn is_history_answered<N: Namer>(
+    alloc: Global,
+    repo: &Repo<N, Global>,
     question: Question<'_>,
 ) -> bool {
     match question {
         Question::Word(text, shape, first, second) => {
-            shape_of(alloc, repo, text, (first, second)) == (shape, true)
+            has_shape(alloc, repo, text, shape, (first, second))
         }
         Question::List(words, expected) => lists(alloc, repo, words, expected),
         Question::NoList(words, word, kind) => {
@@ -336,11 +371,7 @@ fn is_history_answered<N: Namer, A: Allocator + Copy>(
 }
 
 /// Whether a question is answered as it is to be.
-fn is_answered<N: Namer, A: Allocator + Copy>(
-    alloc: A,
-    repo: &Repo<N, A>,
-    question: Question<'_>,
-) -> bool {
+fn is_answered<N: Namer>(alloc: Global, repo: &Repo<N, Global>, question: Question<'_>) -> bool {
     match question {
         Question::Show(text, kind, digits) => shows(alloc, repo, text, kind, digits),
         Question::Submodule(text, digits) => shows_submodule(alloc, repo, text, digits),
@@ -361,14 +392,14 @@ fn is_answered<N: Namer, A: Allocator + Copy>(
 }
 
 /// What is shown tells the history of each repository.
-fn tell_values<N: Namer, A: Allocator + Copy>(repo: &Repo<N, A>) {
+fn tell_values<N: Namer>(repo: &Repo<N, Global>) {
     answers_tell_values(repo);
 }
 
 /// The first question to which something else is answered.
-fn wrong_answer<N: Namer, A: Allocator + Copy>(
-    alloc: A,
-    repo: &Repo<N, A>,
+fn wrong_answer<N: Namer>(
+    alloc: Global,
+    repo: &Repo<N, Global>,
     questions: &[Question<'_>],
 ) -> Option<usize> {
     for (place, question) in questions.iter().enumerate() {
@@ -380,9 +411,9 @@ fn wrong_answer<N: Namer, A: Allocator + Copy>(
 }
 
 /// Fills an empty repository with a sample, and asks questions of it.
-fn filled_and_asked<N: Namer, A: Allocator + Copy>(
-    alloc: A,
-    repo: &mut Repo<N, A>,
+fn filled_and_asked<N: Namer>(
+    alloc: Global,
+    repo: &mut Repo<N, Global>,
     sample: &[Step<'_>],
     questions: &[Question<'_>],
 ) -> Result<(), Fail> {
@@ -397,8 +428,8 @@ fn filled_and_asked<N: Namer, A: Allocator + Copy>(
 }
 
 /// Asks questions of a sample.
-pub(super) fn ask<N: Namer + Drop, A: Allocator + Copy>(
-    alloc: A,
+pub(super) fn ask<N: Namer + Drop>(
+    alloc: Global,
     namer: N,
     state: RandomState,
     sample: &[Step<'_>],

@@ -8,7 +8,7 @@ use super::samples::{
 use super::words::Shape;
 use gx_object::{Kind, Sha1Namer};
 use gx_rev::{RevFault, Revision};
-use std::alloc::{AllocError, Allocator};
+use std::alloc::{AllocError, Global};
 use std::hash::RandomState;
 use std::test::Fail;
 
@@ -114,11 +114,7 @@ const FIRST_FAULTS: &[Reading] = &[
 ];
 
 /// A text with `a` put behind it so often.
-fn lengthened<A: Allocator + Copy>(
-    alloc: A,
-    front: &[u8],
-    count: usize,
-) -> Result<Vec<u8, A>, AllocError> {
+fn lengthened(alloc: Global, front: &[u8], count: usize) -> Result<Vec<u8, Global>, AllocError> {
     let mut text = Vec::from_slice(alloc, front)?;
     for _ in 0..count {
         text.push(b'a')?;
@@ -127,12 +123,12 @@ fn lengthened<A: Allocator + Copy>(
 }
 
 /// The fault with which a text is refused as a revision.
-fn fault_of<A: Allocator + Copy>(alloc: A, text: &[u8]) -> Option<RevFault> {
+fn fault_of(alloc: Global, text: &[u8]) -> Option<RevFault> {
     Revision::read(alloc, text).err()
 }
 
 /// Whether a text is read so.
-fn is_read<A: Allocator + Copy>(alloc: A, reading: &Reading<'_>) -> bool {
+fn is_read(alloc: Global, reading: &Reading<'_>) -> bool {
     let (front, count, fault) = reading;
     match lengthened(alloc, front, *count) {
         Ok(text) => fault_of(alloc, &text) == *fault,
@@ -141,7 +137,7 @@ fn is_read<A: Allocator + Copy>(alloc: A, reading: &Reading<'_>) -> bool {
 }
 
 /// Whether all these texts are read so.
-fn are_read<A: Allocator + Copy>(alloc: A, readings: &[Reading<'_>]) -> bool {
+fn are_read(alloc: Global, readings: &[Reading<'_>]) -> bool {
     for reading in readings {
         if !is_read(alloc, reading) {
             return false;

@@ -60,32 +60,27 @@ fn are_held<N: Namer, A: Allocator + Copy>(repo: &Repo<N, A>, names: &[Name]) ->
 
 /// Adds a blob, and puts it at a path of a tree whose files are held.
 fn add_file<N: Namer, A: Allocator + Copy>(
-    alloc: A,
     repo: &mut Repo<N, A>,
     tree: &mut PathTree<A>,
-    path: &[u8],
+    path: &TreePath<A>,
     body: &[u8],
 ) -> bool
     requires { IsNamedMap repo.now.1.records tree.now.files }
     ensures { IsNamedMap repo.new.1.records tree.new.files }
 {
-    let Ok(path) = TreePath::read(alloc, path) else {
-        return false;
-    };
     let Ok(name) = repo.add_blob(body) else {
         return false;
     };
-    let answer = tree.modify(&path, Mode::File, name).is_ok();
+    let answer = tree.modify(path, Mode::File, name).is_ok();
     tree.name_map();
     answer
 }
 
 /// Puts a gitlink at a path of a tree whose files are held.
 fn add_link<N: Namer, A: Allocator + Copy>(
-    alloc: A,
     repo: &Repo<N, A>,
     tree: &mut PathTree<A>,
-    path: &[u8],
+    path: &TreePath<A>,
     digits: &[u8],
 ) -> bool
     requires { IsNamedMap repo.now.1.records tree.now.files }
@@ -94,12 +89,30 @@ fn add_link<N: Namer, A: Allocator + Copy>(
     let Some(name) = Name::read(digits) else {
         return false;
     };
-    let Ok(path) = TreePath::read(alloc, path) else {
-        return false;
-    };
-    let answer = tree.modify(&path, Mode::Gitlink, name).is_ok();
+    let answer = tree.modify(path, Mode::Gitlink, name).is_ok();
     tree.name_map();
     answer
+}
+
+/// Does a step to a path of a tree whose files are held.
+fn is_put<N: Namer, A: Allocator + Copy>(
+    alloc: A,
+    repo: &mut Repo<N, A>,
+    tree: &mut PathTree<A>,
+    path: &[u8],
+    step: Step<'_>,
+) -> bool
+    requires { IsNamedMap repo.now.1.records tree.now.files }
+    ensures { IsNamedMap repo.new.1.records tree.new.files }
+{
+    match TreePath::read(alloc, path) {
+        Ok(path) => match step {
+            Step::File(_, body) => add_file(repo, tree, &path, body),
+            Step::Link(_, commit) => add_link(repo, tree, &path, commit),
+            _ => false,
+        },
+        Err(_) => false,
+    }
 }
 
 /// Adds the commit of a tree whose files are held.
@@ -132,14 +145,18 @@ fn add_commit<'x, N: Namer, A: Allocator + Copy>(
     repo.add_commit(&parts).is_ok()
 }
 
-/// The names with these digits.
-fn names_of<A: Allocator + Copy>(alloc: A, digits: &[&[u8]]) -> Option<Vec<Name, A>> {
-    let mut names = Vec::new(alloc);
+/// Adds the names with these digits, and answers whether they are all names.
+fn add_names<A: Allocator + Copy>(names: &mut Vec<Name, A>, digits: &[&[u8]]) -> bool {
     for name in digits {
-        let name = Name::read(name)?;
-        names.push(name).ok()?;
+        let is_added = match Name::read(name) {
+            Some(name) => names.push(name).is_ok(),
+            None => false,
+        };
+        if !is_added {
+            return false;
+        }
     }
-    Some(names)
+    true
 }
 
 /// Adds the commit of a tree whose files are held, with the parents that have these digits.
@@ -153,10 +170,8 @@ fn add_child<N: Namer, A: Allocator + Copy>(
     requires { IsNamedMap repo.now.1.records tree.now.files }
     ensures { IsNamedMap repo.new.1.records tree.new.files }
 {
-    match names_of(alloc, parents) {
-        Some(names) => add_commit(repo, tree, names.as_slice(), message),
-        None => false,
-    }
+    let mut names = Vec::new(alloc);
+    add_names(&mut names, parents) && add_commit(repo, tree, &names, message)
 }
 
 /// Adds a tag of a commit, `v1`.
@@ -211,8 +226,8 @@ fn is_done<N: Namer, A: Allocator + Copy>(
     ensures { IsNamedMap repo.new.1.records tree.new.files }
 {
     match step {
-        Step::File(path, body) => add_file(alloc, repo, tree, path, body),
-        Step::Link(path, commit) => add_link(alloc, repo, tree, path, commit),
+        Step::File(path, _) => is_put(alloc, repo, tree, path, step),
+        Step::Link(path, _) => is_put(alloc, repo, tree, path, step),
         Step::Commit(parents, message) => add_child(alloc, repo, tree, parents, message),
         Step::Clear => {
             tree.clear();

@@ -12,4 +12,4 @@ returns g c =
     let new = c.add_blob.new.self.1.records in
     let files = c.args.tree.now.files in
     let unchanged = on_err_weaker c.modify.result (ap (λ (tree : NamedTree). tree.files)) c.modify.ensures.unchanged in
-    named_after fault_of new c.in-Ok.path (File, c.in-Ok-add_blob.name.bytes) files c.modify.new.self.files c.modify.result c.modify.ensures.map unchanged c.in-Ok-add_blob.ensures.held (named_kept old new c.add_blob.ensures.keeps files c.requires) c.name_map.ensures
+    named_after fault_of new c.args.path.now (File, c.in-Ok.name.bytes) files c.modify.new.self.files c.modify.result c.modify.ensures.map unchanged c.in-Ok.ensures.held (named_kept old new c.add_blob.ensures.keeps files c.requires) c.name_map.ensures

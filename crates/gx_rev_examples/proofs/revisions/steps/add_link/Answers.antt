@@ -9,4 +9,4 @@ use Rattle.gx_rev_examples.proofs.revisions.steps.add_link.Goals as goal
 pub returns : goal.returns
 returns g c =
     let unchanged = on_err_weaker c.modify.result (ap (λ (tree : NamedTree). tree.files)) c.modify.ensures.unchanged in
-    named_after fault_of c.args.repo.now.1.records c.in-Ok.path (Gitlink, c.in-Some.name.bytes) c.args.tree.now.files c.modify.new.self.files c.modify.result c.modify.ensures.map unchanged tt c.requires c.name_map.ensures
+    named_after fault_of c.args.repo.now.1.records c.args.path.now (Gitlink, c.in-Some.name.bytes) c.args.tree.now.files c.modify.new.self.files c.modify.result c.modify.ensures.map unchanged tt c.requires c.name_map.ensures

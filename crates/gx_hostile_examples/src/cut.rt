@@ -1,17 +1,16 @@
 //! Exports that are cut at each byte, and imported.
 
-use crate::given::{EMPTY, MERGED, MERGED_TEXT, exported, refusal_of, text_of};
+use crate::given::{EMPTY, MERGED, MERGED_TEXT, exported, has_text, refusal_of};
 use gx_object::Sha1Namer;
 use gx_repo::Repo;
-use std::alloc::Allocator;
+use std::alloc::Global;
 use std::hash::RandomState;
 use std::test::Fail;
 
 /// Whether a stream is refused, and the store stays empty.
-fn is_refused<A: Allocator + Copy>(alloc: A, stream: &[u8], state: RandomState) -> bool {
+fn is_refused(alloc: Global, stream: &[u8], state: RandomState) -> bool {
     let mut repo = Repo::new(alloc, Sha1Namer, state);
-    let refused = refusal_of(alloc, &mut repo, stream);
-    refused.is_some() && text_of(alloc, &repo).as_slice() == EMPTY
+    refusal_of(alloc, &mut repo, stream).is_some() && has_text(alloc, &repo, EMPTY)
 }
 
 #[test]
@@ -27,22 +26,19 @@ fn cut_export_is_refused(rt: HostRuntime) -> Result<(), Fail> {
     Ok(())
 }
 
-/// The export of what a stream makes; an empty one where it is refused.
-fn export_of<A: Allocator + Copy>(alloc: A, stream: &[u8], state: RandomState) -> Vec<u8, A> {
+/// Whether the export of what a stream makes is this text.
+fn is_exported(alloc: Global, stream: &[u8], text: &[u8], state: RandomState) -> bool {
     let mut repo = Repo::new(alloc, Sha1Namer, state);
-    match refusal_of(alloc, &mut repo, stream) {
-        None => exported(alloc, &repo, 2000),
-        Some(_) => Vec::new(alloc),
-    }
+    refusal_of(alloc, &mut repo, stream).is_none()
+        && exported(alloc, &repo, 2000).as_slice() == text
 }
 
 /// The last line needs no line feed.
 #[test]
 fn export_without_its_last_byte_is_imported(rt: HostRuntime) -> Result<(), Fail> {
     let state = RandomState::new(&rt)?;
-    let text = export_of(rt.alloc(), MERGED, state);
-    assert_eq!(rt; text.as_slice(), MERGED_TEXT);
+    assert!(rt; is_exported(rt.alloc(), MERGED, MERGED_TEXT, state));
     let (_, front) = MERGED_TEXT.split_last().ok_or("no text")?;
-    assert_eq!(rt; export_of(rt.alloc(), front, state).as_slice(), MERGED_TEXT);
+    assert!(rt; is_exported(rt.alloc(), front, MERGED_TEXT, state));
     Ok(())
 }

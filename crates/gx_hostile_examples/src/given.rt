@@ -1,13 +1,16 @@
 //! Streams that the tests share, and what comes of a stream.
 
 use gx_export::export;
-use gx_file::{read, write};
+use gx_file::{FileFault, read, write};
 use gx_import::{ImportFault, ImportKind, import};
-use gx_object::{Namer, Sha1Namer};
+use gx_object::{Kind, Name, Namer, Sha1Namer};
 use gx_repo::Repo;
+use gx_rev::{Range, Revision, Shown, walk};
 use gx_text::{Bytes, Held, Sink, Source};
-use std::alloc::Allocator;
+use std::alloc::{Allocator, Global};
 use std::hash::RandomState;
+use std::slice::from_ref;
+use std::test::Fail;
 
 /// A commit on main, marked, with one file.
 pub(crate) const FIRST: &[u8] =
@@ -72,47 +75,122 @@ pub(crate) fn text_of<N: Namer, A: Allocator + Copy>(alloc: A, repo: &Repo<N, A>
     }
 }
 
-/// The text of a new store with a stream imported; an empty one where that is refused.
-pub(crate) fn stored<N: Namer + Drop, A: Allocator + Copy>(
-    alloc: A,
-    namer: N,
-    stream: &[u8],
-    state: RandomState,
-) -> Vec<u8, A> {
-    let mut repo = Repo::new(alloc, namer, state);
-    match refusal_of(alloc, &mut repo, stream) {
-        None => text_of(alloc, &repo),
+/// Whether the store text of a repository is this one.
+pub(crate) fn has_text<N: Namer>(alloc: Global, repo: &Repo<N, Global>, text: &[u8]) -> bool {
+    text_of(alloc, repo).as_slice() == text
+}
+
+/// The store text of a repository with a stream imported; an empty one where that is refused.
+pub(crate) fn text_with<N: Namer>(
+    alloc: Global,
+    repo: &mut Repo<N, Global>,
+    source: Bytes<'_>,
+) -> Vec<u8, Global> {
+    match refusal(alloc, repo, source) {
+        None => text_of(alloc, repo),
         Some(_) => Vec::new(alloc),
     }
 }
 
-/// The export of a repository; an empty one where it is refused.
-pub(crate) fn exported<N: Namer, A: Allocator + Copy>(
-    alloc: A,
-    repo: &Repo<N, A>,
-    room: usize,
-) -> Vec<u8, A> {
-    let Ok(mut sink) = Held::new(alloc, room) else {
-        return Vec::new(alloc);
-    };
-    match export(alloc, repo, &mut sink) {
+/// The text of a new store of Git's names with a stream imported; an empty one where that is refused.
+pub(crate) fn stored_from(alloc: Global, source: Bytes<'_>, state: RandomState) -> Vec<u8, Global> {
+    let mut repo = Repo::new(alloc, Sha1Namer, state);
+    text_with(alloc, &mut repo, source)
+}
+
+/// The same of a stream that comes in large pieces.
+pub(crate) fn stored(alloc: Global, stream: &[u8], state: RandomState) -> Vec<u8, Global> {
+    stored_from(alloc, Bytes::new(stream, 4096, false), state)
+}
+
+/// Why a stream is refused behind the first commit, where the store stays as it was; none otherwise.
+pub(crate) fn refusal_behind_first<N: Namer>(
+    alloc: Global,
+    repo: &mut Repo<N, Global>,
+    source: Bytes<'_>,
+) -> Option<ImportFault> {
+    let before = text_with(alloc, repo, Bytes::new(FIRST, 4096, false));
+    let refused = refusal(alloc, repo, source);
+    if !before.is_empty() && has_text(alloc, repo, &before) {
+        refused
+    } else {
+        None
+    }
+}
+
+fn exported_to<N: Namer>(
+    alloc: Global,
+    repo: &Repo<N, Global>,
+    sink: &mut Held<Global>,
+) -> Vec<u8, Global> {
+    match export(alloc, repo, sink) {
         Ok(()) => copied(alloc, sink.bytes()),
         Err(_) => Vec::new(alloc),
     }
 }
 
-fn copied<A: Allocator + Copy>(alloc: A, bytes: &[u8]) -> Vec<u8, A> {
+fn copied(alloc: Global, bytes: &[u8]) -> Vec<u8, Global> {
     match Vec::from_slice(alloc, bytes) {
         Ok(copy) => copy,
         Err(_) => Vec::new(alloc),
     }
 }
 
-/// The repository of a store text, by Git's names; none where the text is refused.
+/// The export of a repository; an empty one where it is refused.
+pub(crate) fn exported<N: Namer>(
+    alloc: Global,
+    repo: &Repo<N, Global>,
+    room: usize,
+) -> Vec<u8, Global> {
+    match Held::new(alloc, room) {
+        Ok(mut sink) => exported_to(alloc, repo, &mut sink),
+        Err(_) => Vec::new(alloc),
+    }
+}
+
+/// The kind and the name of the object that a revision shows.
+pub(crate) fn object_of<N: Namer>(
+    alloc: Global,
+    repo: &Repo<N, Global>,
+    text: &[u8],
+) -> Option<(Kind, Name)> {
+    match Revision::read(alloc, text) {
+        Ok(revision) => match revision.eval(repo) {
+            Ok(Shown::Object(kind, name)) => Some((kind, name)),
+            _ => None,
+        },
+        Err(_) => None,
+    }
+}
+
+/// The commits that a word lists; none where it is refused.
+pub(crate) fn listed<N: Namer>(
+    alloc: Global,
+    repo: &Repo<N, Global>,
+    word: &[u8],
+) -> Vec<Name, Global> {
+    match Range::read(alloc, word) {
+        Ok(range) => match walk(alloc, repo, from_ref(&range)) {
+            Ok(names) => names,
+            Err(_) => Vec::new(alloc),
+        },
+        Err(_) => Vec::new(alloc),
+    }
+}
+
+/// Fails at a place, where one is told.
+pub(crate) fn fail_at(place: Option<usize>) -> Result<(), Fail> {
+    match place {
+        None => Ok(()),
+        Some(place) => Err(Fail::new(format_args!("at {place}"))),
+    }
+}
+
+/// The repository of a store text, by Git's names.
 pub(crate) fn opened<A: Allocator + Copy>(
     alloc: A,
     text: &[u8],
     state: RandomState,
-) -> Option<Repo<Sha1Namer, A>> {
-    read(alloc, Sha1Namer, text, state).ok()
+) -> Result<Repo<Sha1Namer, A>, FileFault> {
+    read(alloc, Sha1Namer, text, state)
 }

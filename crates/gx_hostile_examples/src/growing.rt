@@ -1,16 +1,21 @@
 //! Memory that is refused at each growth in turn: the store stays as it was or as at a checkpoint, or has all.
 
-use crate::given::{FIRST, MERGED, opened, refusal_of, stored, text_of};
+use crate::given::{FIRST, MERGED, opened, refusal_of, stored, text_of, text_with};
 use gx_import::{ImportFault, ImportKind};
 use gx_object::Sha1Namer;
 use gx_refusing::Refusing;
-use std::alloc::Allocator;
+use gx_repo::Repo;
+use gx_text::Bytes;
+use std::alloc::{Allocator, Global};
 use std::hash::RandomState;
 use std::test::Fail;
 
 /// All changes of files and all commands that link to others, behind the first commit.
 const MANY: &[u8] =
     b"feature done\nblob\nmark :1\ndata 3\nabc\ncommit refs/heads/main\nmark :2\nauthor A <a@x> 1 +0000\ncommitter B <b@x> 2 +0000\nencoding x\ndata 3\nfoofrom main^0\nM 644 :1 d/e\nM 755 inline f\ndata 3\nxyz\nC d g\nR f h\nD d/e\nreset refs/heads/b\nfrom :2\ncommit refs/heads/b\ncommitter B <b@x> 3 +0000\ndata 0\nmerge main^0\nM 644 :1 k\ntag v\nmark :3\nfrom :2\ntagger A <a@x> 1 +0000\ndata 0\nreset refs/heads/c\nfrom :3\nprogress x\ndone\n";
+
+/// Streams without a checkpoint.
+const UNCHECKED: &[&[u8]] = &[MERGED, MANY];
 
 /// Two branches that are merged, a checkpoint, and a tag.
 const CHECKED: &[u8] =
@@ -64,29 +69,44 @@ fn left_by(refused: Option<ImportFault>, is_waiting: bool, texts: Texts<'_>, tex
     }
 }
 
-/// What an import leaves at which the growth with this number is refused.
-fn left_without<B: Allocator>(
-    heap: &Refusing<B>,
+/// What an import leaves at which the growth with this number is refused. The heap is given once more as the allocator, here and
+/// below.
+fn left_in<A: Allocator + Copy>(
+    heap: &Refusing<Global>,
+    own: A,
+    repo: &mut Repo<Sha1Namer, A>,
+    texts: Texts<'_>,
+    stream: &[u8],
+    nth: u64,
+) -> Left {
+    heap.arm(nth);
+    let refused = refusal_of(own, repo, stream);
+    let is_waiting = heap.is_waiting();
+    heap.arm(0);
+    let text = text_of(own, repo);
+    left_by(refused, is_waiting, texts, text.as_slice())
+}
+
+/// The same of the store text before.
+fn left_without<A: Allocator + Copy>(
+    heap: &Refusing<Global>,
+    own: A,
     texts: Texts<'_>,
     stream: &[u8],
     nth: u64,
     state: RandomState,
 ) -> Left {
-    let Some(mut repo) = opened(heap, texts.0, state) else {
-        return Left::Wrong;
-    };
-    heap.arm(nth);
-    let refused = refusal_of(heap, &mut repo, stream);
-    let is_waiting = heap.is_waiting();
-    heap.arm(0);
-    let text = text_of(heap, &repo);
-    left_by(refused, is_waiting, texts, text.as_slice())
+    match opened(own, texts.0, state) {
+        Ok(mut repo) => left_in(heap, own, &mut repo, texts, stream, nth),
+        Err(_) => Left::Wrong,
+    }
 }
 
 /// Refuses each growth in turn, until an import is done; answers how many were refused before a checkpoint and how many behind
 /// it, or none where an answer was wrong.
-fn refused_growths<B: Allocator>(
-    heap: &Refusing<B>,
+fn refused_growths<A: Allocator + Copy>(
+    heap: &Refusing<Global>,
+    own: A,
     texts: Texts<'_>,
     stream: &[u8],
     state: RandomState,
@@ -94,7 +114,7 @@ fn refused_growths<B: Allocator>(
     let mut before = 0u64;
     let mut behind = 0u64;
     for nth in 1..2000u64 {
-        match left_without(heap, texts, stream, nth, state) {
+        match left_without(heap, own, texts, stream, nth, state) {
             Left::Before => before = before.saturating_add(1),
             Left::Kept => behind = behind.saturating_add(1),
             Left::All => return Some((before, behind)),
@@ -105,44 +125,36 @@ fn refused_growths<B: Allocator>(
 }
 
 /// The text of a store with a stream imported; an empty one where that is refused.
-fn text_behind<A: Allocator + Copy>(
-    alloc: A,
-    before: &[u8],
-    stream: &[u8],
-    state: RandomState,
-) -> Vec<u8, A> {
-    let Some(mut repo) = opened(alloc, before, state) else {
-        return Vec::new(alloc);
-    };
-    match refusal_of(alloc, &mut repo, stream) {
-        None => text_of(alloc, &repo),
-        Some(_) => Vec::new(alloc),
+fn text_behind(alloc: Global, before: &[u8], stream: &[u8], state: RandomState) -> Vec<u8, Global> {
+    match opened(alloc, before, state) {
+        Ok(mut repo) => text_with(alloc, &mut repo, Bytes::new(stream, 4096, false)),
+        Err(_) => Vec::new(alloc),
     }
 }
 
 /// How many growths of an import behind the first commit are refused, before a checkpoint and behind it; none where an answer
 /// was wrong. Given are the part of the stream before the checkpoint, and the stream.
-fn refused_behind_first<B: Allocator + Copy>(
-    alloc: B,
+fn refused_behind_first(
+    alloc: Global,
     front: &[u8],
     stream: &[u8],
     state: RandomState,
 ) -> Option<(u64, u64)> {
-    let before = stored(alloc, Sha1Namer, FIRST, state);
+    let before = stored(alloc, FIRST, state);
     let kept = text_behind(alloc, &before, front, state);
     let after = text_behind(alloc, &before, stream, state);
     let heap = Refusing::new(alloc, 0);
-    refused_growths(&heap, (&before, &kept, &after), stream, state)
+    refused_growths(&heap, &heap, (&before, &kept, &after), stream, state)
 }
 
 #[test]
 fn refused_growth_leaves_the_store(rt: HostRuntime) -> Result<(), Fail> {
     let state = RandomState::new(&rt)?;
-    for stream in [MERGED, MANY] {
+    for stream in UNCHECKED {
         let refused = refused_behind_first(rt.alloc(), b"", stream, state);
         let (before, behind) = refused.unwrap_or((0, 0));
         assert!(rt; before > 20);
-        assert_eq!(rt; behind, 0);
+        assert!(rt; behind == 0);
     }
     Ok(())
 }
@@ -159,12 +171,12 @@ fn refused_growth_leaves_the_last_checkpoint(rt: HostRuntime) -> Result<(), Fail
 }
 
 /// Whether these are the refs at the checkpoint and at the end, where the store is as without a checkpoint.
-fn are_published<A: Allocator + Copy>(alloc: A, front: &[u8], state: RandomState) -> bool {
-    let before = stored(alloc, Sha1Namer, FIRST, state);
-    let kept = text_behind(alloc, &before, front, state);
+fn are_published(alloc: Global, front: &[u8], state: RandomState) -> bool {
+    let before = stored(alloc, FIRST, state);
     let after = text_behind(alloc, &before, CHECKED, state);
-    let merged = text_behind(alloc, &before, MERGED, state);
-    kept.ends_with(KEPT_REFS) && after.ends_with(ALL_REFS) && after == merged
+    text_behind(alloc, &before, front, state).ends_with(KEPT_REFS)
+        && after.ends_with(ALL_REFS)
+        && text_behind(alloc, &before, MERGED, state) == after
 }
 
 #[test]

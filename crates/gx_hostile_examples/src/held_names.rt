@@ -1,12 +1,14 @@
 //! Namers that give other objects one name: what is held stays, and nothing else is stored under its name.
 
-use crate::given::{EMPTY, FIRST, fault, refusal_of, stored, text_of};
+use crate::given::{
+    EMPTY, FIRST, fault, has_text, object_of, refusal_behind_first, refusal_of, stored,
+};
 use gx_file::{FileFault, read};
 use gx_import::ImportKind;
 use gx_object::{Kind, Name, Namer, Sha1Namer, ShortNamer};
 use gx_repo::Repo;
-use gx_rev::{RevFault, Revision, Shown};
-use std::alloc::Allocator;
+use gx_text::Bytes;
+use std::alloc::Global;
 use std::hash::RandomState;
 use std::test::Fail;
 
@@ -26,19 +28,6 @@ impl Namer for ConstantNamer {
     }
 }
 
-/// The digits of what a revision shows, an object.
-fn digits_of<N: Namer, A: Allocator + Copy>(
-    alloc: A,
-    repo: &Repo<N, A>,
-    text: &[u8],
-) -> Result<[u8; 40], RevFault> {
-    let revision = Revision::read(alloc, text)?;
-    match revision.eval(repo)? {
-        Shown::Object(_, name) => Ok(name.hex()),
-        Shown::Submodule(_) => Err(RevFault::WrongKind),
-    }
-}
-
 /// Revisions of the first commit, and the digits that they have where names are short.
 const SHORT: &[(&[u8], &[u8; 40])] = &[
     (b"main", b"1111111111111111111111111111111111110262"),
@@ -49,13 +38,21 @@ const SHORT: &[(&[u8], &[u8; 40])] = &[
     ),
 ];
 
+/// Whether a revision of the first commit shows an object with these digits.
+fn is_named(alloc: Global, revision: &[u8], digits: &[u8; 40], state: RandomState) -> bool {
+    let mut repo = Repo::new(alloc, ShortNamer, state);
+    let is_first = refusal_of(alloc, &mut repo, FIRST).is_none();
+    match object_of(alloc, &repo, revision) {
+        Some((_, name)) => is_first && name.hex() == *digits,
+        None => false,
+    }
+}
+
 #[test]
 fn short_names_tell_kind_and_length(rt: HostRuntime) -> Result<(), Fail> {
     let state = RandomState::new(&rt)?;
-    let mut repo = Repo::new(rt.alloc(), ShortNamer, state);
-    assert_eq!(rt; refusal_of(rt.alloc(), &mut repo, FIRST), None);
-    for (revision, digits) in SHORT {
-        assert_eq!(rt; digits_of(rt.alloc(), &repo, revision), Ok(**digits));
+    for (place, (revision, digits)) in SHORT.iter().enumerate() {
+        assert!(rt; is_named(rt.alloc(), revision, digits, state), "at {place}");
     }
     Ok(())
 }
@@ -69,13 +66,10 @@ const SECOND: &[&[u8]] = &[
 
 /// Whether the first command of a stream is refused behind the first commit, since a name is held, and the store stays as it
 /// was.
-fn is_held_behind_first<A: Allocator + Copy>(alloc: A, stream: &[u8], state: RandomState) -> bool {
+fn is_held_behind_first(alloc: Global, stream: &[u8], state: RandomState) -> bool {
     let mut repo = Repo::new(alloc, ShortNamer, state);
-    let is_first = refusal_of(alloc, &mut repo, FIRST).is_none();
-    let before = text_of(alloc, &repo);
-    let refused = refusal_of(alloc, &mut repo, stream);
-    let is_held = refused == Some(fault(1, ImportKind::NameHeld));
-    is_first && is_held && text_of(alloc, &repo) == before
+    let source = Bytes::new(stream, 4096, false);
+    refusal_behind_first(alloc, &mut repo, source) == Some(fault(1, ImportKind::NameHeld))
 }
 
 #[test]
@@ -91,35 +85,32 @@ fn other_object_of_a_held_name_is_refused(rt: HostRuntime) -> Result<(), Fail> {
 const RENAMED: &[u8] =
     b"commit refs/heads/main\nmark :1\ncommitter A <a@x> 1 +0000\ndata 2\nv1\nM 100644 inline test.txt\ndata 10\nversion 1\ncommit refs/heads/b\ncommitter A <a@x> 2 +0000\ndata 2\nv2\nfrom :1\nR test.txt text.txt\n";
 
-/// The command at which a stream is refused since a name is held, where the store stays empty.
-fn held_at<N: Namer + Drop, A: Allocator + Copy>(
-    alloc: A,
+/// Whether this command of a stream is refused since a name is held, and the store stays empty.
+fn is_held_at<N: Namer + Drop>(
+    alloc: Global,
     namer: N,
     stream: &[u8],
+    command: u64,
     state: RandomState,
-) -> Option<u64> {
+) -> bool {
     let mut repo = Repo::new(alloc, namer, state);
-    let refused = refusal_of(alloc, &mut repo, stream)?;
-    if refused.kind == ImportKind::NameHeld && text_of(alloc, &repo).as_slice() == EMPTY {
-        Some(refused.command)
-    } else {
-        None
-    }
+    let refused = refusal_of(alloc, &mut repo, stream);
+    refused == Some(fault(command, ImportKind::NameHeld)) && has_text(alloc, &repo, EMPTY)
 }
 
 #[test]
 fn refused_stream_leaves_an_empty_store(rt: HostRuntime) -> Result<(), Fail> {
     let state = RandomState::new(&rt)?;
-    assert_eq!(rt; held_at(rt.alloc(), ShortNamer, RENAMED, state), Some(2));
-    assert_eq!(rt; held_at(rt.alloc(), ConstantNamer, FIRST, state), Some(1));
+    assert!(rt; is_held_at(rt.alloc(), ShortNamer, RENAMED, 2, state));
+    assert!(rt; is_held_at(rt.alloc(), ConstantNamer, FIRST, 1, state));
     let blobs: &[u8] = b"blob\ndata 1\na\nblob\ndata 1\na\nblob\ndata 1\nb\n";
-    assert_eq!(rt; held_at(rt.alloc(), ConstantNamer, blobs, state), Some(3));
+    assert!(rt; is_held_at(rt.alloc(), ConstantNamer, blobs, 3, state));
     Ok(())
 }
 
 /// Why a store text is refused by a namer; none where it is read.
-fn fault_in<N: Namer + Drop, A: Allocator + Copy>(
-    alloc: A,
+fn fault_in<N: Namer + Drop>(
+    alloc: Global,
     namer: N,
     text: &[u8],
     state: RandomState,
@@ -127,16 +118,23 @@ fn fault_in<N: Namer + Drop, A: Allocator + Copy>(
     read(alloc, namer, text, state).err()
 }
 
+/// Why a store text of Git's names is refused where names are short; none where it is refused by Git's names too.
+fn fault_of_short(alloc: Global, text: &[u8], state: RandomState) -> Option<FileFault> {
+    match fault_in(alloc, Sha1Namer, text, state) {
+        None => fault_in(alloc, ShortNamer, text, state),
+        Some(_) => None,
+    }
+}
+
 /// A store text of Git's names has other names than its records where names are short, and one record alone where they are constant.
 #[test]
 fn store_text_of_other_names_is_refused(rt: HostRuntime) -> Result<(), Fail> {
     let state = RandomState::new(&rt)?;
-    let text = stored(rt.alloc(), Sha1Namer, FIRST, state);
-    assert_eq!(rt; fault_in(rt.alloc(), Sha1Namer, &text, state), None);
-    let short = fault_in(rt.alloc(), ShortNamer, &text, state);
-    assert_eq!(rt; short, Some(FileFault::NameMismatch));
     let blobs: &[u8] = b"gxstore 1\nobjects 2\nblob 1\na\nblob 1\nb\nrefs 0\nend\n";
     let constant = fault_in(rt.alloc(), ConstantNamer, blobs, state);
-    assert_eq!(rt; constant, Some(FileFault::DuplicateObject));
+    assert!(rt; constant == Some(FileFault::DuplicateObject));
+    let text = stored(rt.alloc(), FIRST, state);
+    let short = fault_of_short(rt.alloc(), &text, state);
+    assert!(rt; short == Some(FileFault::NameMismatch));
     Ok(())
 }

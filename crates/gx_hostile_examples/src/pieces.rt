@@ -2,12 +2,12 @@
 
 ghost use Rattle.std.specs.Prelude.{◌<◌, None};
 
-use crate::given::{MERGED, fault, refusal, refusal_into, stored, text_of};
+use crate::given::{MERGED, fault, refusal, refusal_into, stored, stored_from};
 use gx_import::ImportKind;
 use gx_object::Sha1Namer;
 use gx_repo::Repo;
 use gx_text::{Bytes, Failed, Held, Source};
-use std::alloc::{AllocError, Allocator};
+use std::alloc::{AllocError, Global};
 use std::cell::Cell;
 use std::hash::RandomState;
 use std::test::Fail;
@@ -20,22 +20,17 @@ const STREAMS: &[&[u8]] = &[
     MERGED,
 ];
 
-/// The text of a new store with a stream imported that comes byte by byte.
-fn stored_bytewise<A: Allocator + Copy>(alloc: A, stream: &[u8], state: RandomState) -> Vec<u8, A> {
-    let mut repo = Repo::new(alloc, Sha1Namer, state);
-    match refusal(alloc, &mut repo, Bytes::new(stream, 1, false)) {
-        None => text_of(alloc, &repo),
-        Some(_) => Vec::new(alloc),
-    }
+/// Whether a stream makes a store, and the same where it comes byte by byte.
+fn is_same_bytewise(alloc: Global, stream: &[u8], state: RandomState) -> bool {
+    let whole = stored(alloc, stream, state);
+    !whole.is_empty() && stored_from(alloc, Bytes::new(stream, 1, false), state) == whole
 }
 
 #[test]
 fn single_bytes_make_the_same_store(rt: HostRuntime) -> Result<(), Fail> {
     let state = RandomState::new(&rt)?;
-    for stream in STREAMS {
-        let whole = stored(rt.alloc(), Sha1Namer, stream, state);
-        assert!(rt; !whole.is_empty());
-        assert!(rt; stored_bytewise(rt.alloc(), stream, state) == whole);
+    for (place, stream) in STREAMS.iter().enumerate() {
+        assert!(rt; is_same_bytewise(rt.alloc(), stream, state), "at {place}");
     }
     Ok(())
 }
@@ -43,19 +38,29 @@ fn single_bytes_make_the_same_store(rt: HostRuntime) -> Result<(), Fail> {
 /// Two lines, which are two commands.
 const LINES: &[u8] = b"progress a\nprogress b\n";
 
+/// Whether the third command finds that the source fails, and both lines are in the sink.
+fn are_out(
+    alloc: Global,
+    repo: &mut Repo<Sha1Namer, Global>,
+    source: Bytes<'_>,
+    sink: &mut Held<Global>,
+) -> bool {
+    refusal_into(alloc, repo, source, sink) == Some(fault(3, ImportKind::ReadFailed))
+        && sink.bytes() == LINES
+}
+
 /// Whether both lines go out, in pieces of this size, before the source fails.
-fn go_out_before_the_failure<A: Allocator + Copy>(
-    alloc: A,
-    piece: usize,
-    state: RandomState,
-) -> Result<bool, AllocError>
+fn go_out_before_the_failure(alloc: Global, piece: usize, state: RandomState) -> bool
     requires { 0 < piece }
 {
-    let mut repo = Repo::new(alloc, Sha1Namer, state);
-    let mut sink = Held::new(alloc, 64)?;
-    let refused = refusal_into(alloc, &mut repo, Bytes::new(LINES, piece, true), &mut sink);
-    let is_third = refused == Some(fault(3, ImportKind::ReadFailed));
-    Ok(is_third && sink.bytes() == LINES)
+    let source = Bytes::new(LINES, piece, true);
+    match Held::new(alloc, 64) {
+        Ok(mut sink) => {
+            let mut repo = Repo::new(alloc, Sha1Namer, state);
+            are_out(alloc, &mut repo, source, &mut sink)
+        }
+        Err(_) => false,
+    }
 }
 
 #[test]
@@ -63,7 +68,7 @@ fn lines_go_out_before_the_source_fails(rt: HostRuntime) -> Result<(), Fail> {
     let state = RandomState::new(&rt)?;
     for piece in 1..30usize {
         assert!(rt;
-            go_out_before_the_failure(rt.alloc(), piece, state)?,
+            go_out_before_the_failure(rt.alloc(), piece, state),
             "at {piece}"
         );
     }
@@ -85,27 +90,32 @@ const LENGTHS: &[&[u8]] = &[
     b"4611686018427387904\nx",
 ];
 
-/// How a command ends whose block has this length.
-fn refusal_of_length<A: Allocator + Copy>(
-    alloc: A,
-    front: &[u8],
-    length: &[u8],
-    state: RandomState,
-) -> Result<Option<ImportKind>, AllocError> {
-    let mut stream = Vec::from_slice(alloc, front)?;
-    stream.extend_from_slice(length)?;
+/// Whether a stream is refused since a block of it is cut.
+fn is_truncated(alloc: Global, stream: &[u8], state: RandomState) -> bool {
     let mut repo = Repo::new(alloc, Sha1Namer, state);
-    let refused = refusal(alloc, &mut repo, Bytes::new(&stream, 5, false));
-    Ok(refused.map(|fault| fault.kind))
+    match refusal(alloc, &mut repo, Bytes::new(stream, 5, false)) {
+        Some(fault) => fault.kind == ImportKind::TruncatedData,
+        None => false,
+    }
+}
+
+/// Whether a command is refused so whose block has this length.
+fn is_length_truncated(alloc: Global, front: &[u8], length: &[u8], state: RandomState) -> bool {
+    let mut stream = Vec::new(alloc);
+    stream.extend_from_slice(front).is_ok()
+        && stream.extend_from_slice(length).is_ok()
+        && is_truncated(alloc, &stream, state)
 }
 
 #[test]
 fn stated_length_takes_no_room(rt: HostRuntime) -> Result<(), Fail> {
     let state = RandomState::new(&rt)?;
     for front in BEFORE_LENGTHS {
-        for length in LENGTHS {
-            let refused = refusal_of_length(rt.alloc(), front, length, state)?;
-            assert_eq!(rt; refused, Some(ImportKind::TruncatedData));
+        for (place, length) in LENGTHS.iter().enumerate() {
+            assert!(rt;
+                is_length_truncated(rt.alloc(), front, length, state),
+                "length {place}"
+            );
         }
     }
     Ok(())
@@ -127,39 +137,53 @@ impl<'a> Source for Counting<'a> {
     }
 }
 
-/// A thousand lines, of eleven bytes each.
-fn thousand_lines<A: Allocator + Copy>(alloc: A) -> Result<Vec<u8, A>, AllocError> {
-    let mut text = Vec::new(alloc);
+/// Adds a thousand lines, of eleven bytes each.
+fn add_lines(text: &mut Vec<u8, Global>) -> Result<(), AllocError> {
     for _ in 0..1000u16 {
         text.extend_from_slice(b"progress a\n")?;
     }
-    Ok(text)
+    Ok(())
 }
 
-/// How many bytes of a thousand lines are read before the first line finds a sink that takes nothing; none where that is not
-/// what refuses the import.
-fn pulls_before_the_sink_fails<A: Allocator + Copy>(
-    alloc: A,
-    state: RandomState,
-) -> Result<Option<u64>, AllocError> {
-    let text = thousand_lines(alloc)?;
+/// How many bytes of a text are read before its first line finds a sink that takes nothing; none where that is not what refuses
+/// the import.
+fn pulls_before_a_failed_write(
+    alloc: Global,
+    repo: &mut Repo<Sha1Namer, Global>,
+    text: &[u8],
+    sink: &mut Held<Global>,
+) -> Option<u64> {
     let pulls = Cell::new(0u64);
     let source = Counting {
-        bytes: Bytes::new(&text, 1, false),
+        bytes: Bytes::new(text, 1, false),
         pulls: &pulls,
     };
-    let mut repo = Repo::new(alloc, Sha1Namer, state);
-    let mut sink = Held::new(alloc, 0)?;
-    let refused = refusal_into(alloc, &mut repo, source, &mut sink);
-    let is_first = refused == Some(fault(1, ImportKind::WriteFailed));
-    Ok(if is_first { Some(pulls.get()) } else { None })
+    let refused = refusal_into(alloc, repo, source, sink);
+    if refused == Some(fault(1, ImportKind::WriteFailed)) {
+        Some(pulls.get())
+    } else {
+        None
+    }
+}
+
+/// The same with a new store and a sink that has no room.
+fn pulls_of(alloc: Global, text: &[u8], state: RandomState) -> Option<u64> {
+    match Held::new(alloc, 0) {
+        Ok(mut sink) => {
+            let mut repo = Repo::new(alloc, Sha1Namer, state);
+            pulls_before_a_failed_write(alloc, &mut repo, text, &mut sink)
+        }
+        Err(_) => None,
+    }
 }
 
 /// A command is known to be over at the line behind it, and nothing is read past that line before the command is applied.
 #[test]
 fn command_is_applied_before_more_is_read(rt: HostRuntime) -> Result<(), Fail> {
     let state = RandomState::new(&rt)?;
-    let pulls = pulls_before_the_sink_fails(rt.alloc(), state)?.ok_or("no failed write")?;
-    assert!(rt; pulls <= 24);
+    let mut text = Vec::new(rt.alloc());
+    add_lines(&mut text)?;
+    let pulls = pulls_of(rt.alloc(), &text, state).unwrap_or(u64::MAX);
+    assert!(rt; pulls <= 24, "{pulls}");
     Ok(())
 }

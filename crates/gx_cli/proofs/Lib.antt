@@ -12,6 +12,7 @@ pub mod Pieces
 pub mod StoredAnswers
 pub mod StoredImports
 pub mod WordsRead
+pub mod ReadStores
 pub mod ExportedStores
 pub mod RoundTrips
 pub mod MadeCommands

@@ -4,6 +4,7 @@ use Rattle.std.proofs.lemmas.Option.{none-some}
 use Rattle.std.proofs.lemmas.List.{length_push}
 use Rattle.std.proofs.lemmas.Grind.{flat_map-append}
 use Rattle.std.specs.Bool.{Decides}
+use Rattle.std.specs.Option.{option_map}
 use Rattle.std.proofs.lemmas.Slice.Eq.{bytes_eq-Decides}
 use Rattle.gx_model.specs.declared.objects.Kind.{Kind}
 use Rattle.gx_model.specs.declared.objects.Kind.TheVariants as kind
@@ -19,7 +20,7 @@ use Rattle.gx_stream.specs.Faults.{fault_of, ended as only}
 use Rattle.gx_stream.specs.Reading.{Reads, item_of}
 use Rattle.gx_cli.specs.Blobs.{BlobRun, refused, blobs_of, behind, first_body}
 use Rattle.gx_cli.specs.Steps.{Step, stop, go, body, run_of, step_of, stepped, stop_at}
-use Rattle.gx_cli.specs.Printing.{blob_line, printed, blob_record, stop_of, Clashes, FailsWithin, Prints, PrintsBlobs, PrintsOne, kind_of}
+use Rattle.gx_cli.specs.Printing.{blob_line, printed, blob_record, stop_of, Clashes, FailsWithin, Prints, PrintsBlobs, PrintsOne, ended_at, kind_of}
 use Rattle.gx_cli.specs.declared.blob_names.Stage.{Stage}
 use Rattle.gx_cli.specs.declared.blob_names.Stage.TheVariants.{Expected}
 use Rattle.gx_cli.specs.declared.blob_names.BlobsKind.{BlobsKind}
@@ -216,6 +217,11 @@ Prints-cut names None now new stage was is held count kind e p r =
 Prints-cut names (Some c) now new stage was is held count kind e p r =
     let t = rw p.goes.1 at r in
     as_blobs names c was is (refused_at count kind) (own_fault names (staged Expected c) p.front was is count kind (at_end c p.goes.0 stage p.front Finished t.0 p.goes.2 ∙ ap (λ k. record { bodies = p.front; stop = k }) e) p.counted p.wrote)
+
+-- the stream ends, and so do its blobs, or one of them isn't whole
+pub Prints-last : (names : Kind → Bytes → Bytes) (start : Option Stream) (now new : Option Stream) (stage : Stage) (was is : Option Taken) (held : List Record) (count : ℕ) (kind : Option BlobsKind) → option_map stop_of kind ≡ stop_at stage Finished → Progress names start now stage was is held count → Reads now new (Ok None) → PrintsBlobs names start was is (ended_at count kind)
+Prints-last names start now new stage was is held count None e p r = Prints-end names start now new stage was is held count (sym e) p r
+Prints-last names start now new stage was is held count (Some kind) e p r = Prints-cut names start now new stage was is held count kind (sym e) p r
 
 no_memory : (names : Kind → Bytes → Bytes) (run next : BlobRun) (front : List Bytes) (was is : Option Taken) (count : ℕ) → run ≡ behind front next → count ≡ length front → Took was is (printed names front) → Prints names run was is (Err (record { command = count + 1; kind = kinds.OutOfMemory }))
 no_memory names run next front was is count e n w =

@@ -28,6 +28,17 @@ pub then_words : {A B : Type 0} (a : Result A WordFault) (x : A) (f : A → Resu
 then_words (Ok y) x f e = let same : y ≡ x = cc e in ap (λ z. all_words (f z)) same
 then_words (Err e) x f k = absurd (cc k)
 
+-- where the first words are refused, so are all
+fails_first : {A B : Type 0} (a : Result A WordFault) (f : A → Result B WordFault) (why : Refusal) → all_words a ≡ Err why → all_words (and_then a f) ≡ Err why
+fails_first (Ok x) f why e = absurd (cc e)
+fails_first (Err g) f why e = let same : of_word g.word g.fault ≡ why = cc e in ap Err same
+
+-- and what is refused is what the first words are refused for
+pub first_refused : {A B : Type 0} (a : Result A WordFault) (f : A → Result B WordFault) (fault : CliFault) → RefusesWord fault (all_words a) → RefusesWord fault (all_words (and_then a f))
+first_refused a f (cli.Revision number why) h = fails_first a f (of_word number (fault_of why)) h
+first_refused a f cli.OutOfMemory h = tt
+first_refused a f fault h = absurd h
+
 nothing_in_front : (given : Printed) → IsFrontOf given []
 nothing_in_front (Ok text) = (text, refl)
 nothing_in_front (Err refusal) = refl

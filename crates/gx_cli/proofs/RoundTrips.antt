@@ -22,8 +22,7 @@ use Rattle.gx_export.specs.Exports.{Exports}
 use Rattle.gx_export.specs.Outputs.{StopsAt, most}
 use Rattle.gx_export.specs.declared.fault.ExportFault.{ExportFault}
 use Rattle.gx_export.specs.declared.fault.ExportFault.TheVariants.{WriteFailed}
-use Rattle.gx_cli.specs.Headline.{ComesBack, ExportsText, RoundTrips}
-use Rattle.gx_cli.specs.Trying.{LooksIn}
+use Rattle.gx_cli.specs.Headline.{ComesBackOr, ExportsText, RoundTrips}
 use Rattle.gx_cli.specs.declared.fault.CliFault.{CliFault}
 use Rattle.gx_cli.specs.declared.fault.CliFault.TheVariants.{Export, Import, OutOfMemory}
 use Rattle.gx_cli.specs.declared.trips.RoundTrip.{RoundTrip}
@@ -103,20 +102,12 @@ module _ {N : Type 0} (name_of : N → Kind → Bytes → Bytes) (namer : N) (re
       by (Some c) (Export f) k s = (history_of new, report_of report, k, s)
       by (Some c) f k s = absurd s
 
-  -- what was imported came back
-  pub trip_ended : {A : Type 0} (coming : Option Coming) (trip : RoundTrip N A) → Imports (name_of old.0) old.1 trip.first.1 coming was now (Ok trip.report)
-      → trip.first.0 ≡ namer → LooksIn (name_of trip.first.0) trip.first.1 revision path trip.file
-      → trip.text.items ≡ export_text (history_of trip.first.1) → IsExported trip.first.1 trip.again.1 → RoundTrips (name_of namer) revision path {N = N} {A = A} coming was now (Ok trip)
-  trip_ended {A} coming trip h same looks text again = by coming (from_nothing name_of namer old trip.first.1 coming was now (Ok trip.report) empty h)
+  -- what was imported came back, or stopped on its way
+  pub trip_came : {A : Type 0} (coming : Option Coming) (new : N × Records) (report : Report) (answer : Result (RoundTrip N A) CliFault) → Imports (name_of old.0) old.1 new.1 coming was now (Ok report)
+      → ComesBackOr (name_of namer) revision path {N = N} {A = A} report new answer → RoundTrips (name_of namer) revision path {N = N} {A = A} coming was now answer
+  trip_came {A} coming new report (Err fault) h k = trip_stopped A coming new.1 report fault h k
+  trip_came {A} coming new report (Ok trip) h k = by coming (from_nothing name_of namer old new.1 coming was now (Ok trip.report) empty (subst (λ told. Imports (name_of old.0) old.1 new.1 coming was now (Ok told)) (sym k.1) h))
     where
-      back : ComesBack (name_of namer) revision path {N = N} {A = A} (history_of trip.first.1) trip
-      back = record {
-        history = refl;
-        file = subst (λ n. LooksIn (name_of n) trip.first.1 revision path trip.file) same looks;
-        text = text;
-        again = again;
-      }
-
-      by : (c : Option Coming) → Imports (name_of namer) nothing trip.first.1 c was now (Ok trip.report) → RoundTrips (name_of namer) revision path {N = N} {A = A} c was now (Ok trip)
-      by None k = (k.0, k.1, (history_of trip.first.1, k.2, back))
-      by (Some c) k = (history_of trip.first.1, k, back)
+      by : (c : Option Coming) → Imports (name_of namer) nothing new.1 c was now (Ok trip.report) → RoundTrips (name_of namer) revision path {N = N} {A = A} c was now (Ok trip)
+      by None m = (m.0, m.1, (history_of new.1, m.2, k.2))
+      by (Some c) m = (history_of new.1, m, k.2)

@@ -1,17 +1,16 @@
 -- Imports into a store that was read, and the repository whose text is the next one.
-use Rattle.std.proofs.Common.{◌≡◌, ℕ, zero, suc, ◌∙◌, refl, sym, ap, subst, inl, inr, Option, Some, None, Ok, Err}
+use Rattle.std.proofs.Common.{◌≡◌, ℕ, zero, suc, ◌∙◌, refl, sym, ap, inl, inr, Option, Some, None, Ok, Err}
 use Rattle.gx_model.specs.declared.objects.Kind.{Kind}
 use Rattle.gx_model.specs.Texts.{Bytes}
 use Rattle.gx_model.specs.Histories.{Records}
 use Rattle.gx_model.specs.Records.Sound.{IsSound}
-use Rattle.gx_model.specs.Stores.StoreReading.{store_of}
 use Rattle.gx_model.specs.Texts.Sinks.{Taken}
 use Rattle.gx_text.specs.Devices.{Coming}
 use Rattle.gx_import.specs.Exported.{ImportsExport, KeepsNoNullGitlink}
 use Rattle.gx_import.specs.Imports.{Imports}
 use Rattle.gx_import.specs.declared.report.Report.{Report}
 use Rattle.gx_import.specs.declared.fault.ImportFault.{ImportFault}
-use Rattle.gx_cli.specs.Storing.{ImportsStore, ImportsStoreAgain, ImportsStored, next_after}
+use Rattle.gx_cli.specs.Storing.{ImportsStored, ImportsStoredAgain, next_after}
 use Rattle.gx_cli.specs.declared.fault.CliFault.TheVariants.{Import}
 
 -- after no checkpoint there is no next text
@@ -23,38 +22,31 @@ pub after_some : {X : Type 0} (n : ℕ) (new : X) → (n ≡ 0 → ⊥) → Some
 after_some zero new some = absurd (some refl)
 after_some (suc n) new some = refl
 
-module _ {N : Type 0} (name_of : N → Kind → Bytes → Bytes) (namer : N) (old new : N × Records) (store : Bytes) (same : old.0 ≡ namer) (kept : new.0 ≡ old.0)
-    (read : store_of (name_of namer) store ≡ Ok old.1) (sound : IsSound (name_of old.0) new.1) where
-  sound_still : IsSound (name_of namer) new.1
-  sound_still = subst (λ n. IsSound (name_of n) new.1) same sound
-
-  is_new : new ≡ (namer, new.1)
-  is_new = ap (λ n. (n, new.1)) (kept ∙ same)
+module _ {N : Type 0} (name_of : N → Kind → Bytes → Bytes) (old new : N × Records) (kept : new.0 ≡ old.0) (sound : IsSound (name_of old.0) new.1) where
+  is_new : new ≡ (old.0, new.1)
+  is_new = ap (λ n. (n, new.1)) kept
 
   -- an accepted import
   pub accepted_store : (report : Report) (coming : Option Coming) (was now : Option Taken) → Imports (name_of old.0) old.1 new.1 coming was now (Ok report) → KeepsNoNullGitlink old.1 new.1
-      → ImportsStore name_of namer store coming was now (Some new, Ok report)
-  accepted_store report coming was now replayed keeps =
-      subst (λ stored. ImportsStored name_of namer stored coming was now (Some new, Ok report)) (sym read)
-      (inr (new.1, Ok report, subst (λ n. Imports (name_of n) old.1 new.1 coming was now (Ok report)) same replayed, keeps, (sound_still, ap (λ x. (Some x, Ok report)) is_new)))
+      → ImportsStored name_of old.0 (Ok old.1) coming was now (Some new, Ok report)
+  accepted_store report coming was now replayed keeps = inr (new.1, Ok report, replayed, keeps, (sound, ap (λ x. (Some x, Ok report)) is_new))
 
   -- a refused one
   pub refused_store : (fault : ImportFault) (next : Option (N × Records)) → next ≡ next_after fault.checkpoints new → (coming : Option Coming) (was now : Option Taken) → Imports (name_of old.0) old.1 new.1 coming was now (Err fault) → KeepsNoNullGitlink old.1 new.1
-      → ImportsStore name_of namer store coming was now (next, Err (Import fault))
+      → ImportsStored name_of old.0 (Ok old.1) coming was now (next, Err (Import fault))
   refused_store fault next left coming was now replayed keeps =
-      subst (λ stored. ImportsStored name_of namer stored coming was now (next, Err (Import fault))) (sym read)
-      (inr (new.1, Err fault, subst (λ n. Imports (name_of n) old.1 new.1 coming was now (Err fault)) same replayed, keeps, (sound_still, ap (λ x. (x, Err (Import fault))) (left ∙ ap (next_after fault.checkpoints) is_new))))
+      inr (new.1, Err fault, replayed, keeps, (sound, ap (λ x. (x, Err (Import fault))) (left ∙ ap (next_after fault.checkpoints) is_new)))
 
   -- an accepted import of an export into the empty store
-  pub accepted_store_again : (report : Report) (coming : Option Coming) → ImportsExport (name_of old.0) old.1 new.1 coming (Ok report) → ImportsStoreAgain name_of namer store coming (Some new, Ok report)
+  pub accepted_store_again : (report : Report) (coming : Option Coming) → ImportsExport (name_of old.0) old.1 new.1 coming (Ok report) → ImportsStoredAgain name_of old.0 (Ok old.1) coming (Some new, Ok report)
   accepted_store_again report None h = tt
   accepted_store_again report (Some coming) h = λ exported is links gives empty.
-      inr (new.1, report, subst (λ n. ImportsExport (name_of n) old.1 new.1 (Some coming) (Ok report)) same h exported is links gives (cc (sym read ∙ empty)), sound_still, ap (λ x. (Some x, Ok report)) is_new)
+      inr (new.1, report, h exported is links gives (cc empty), sound, ap (λ x. (Some x, Ok report)) is_new)
 
   -- a refused one, for want of memory or by the sink
   pub refused_store_again : (fault : ImportFault) (next : Option (N × Records)) → next ≡ next_after fault.checkpoints new → (coming : Option Coming) → ImportsExport (name_of old.0) old.1 new.1 coming (Err fault)
-      → ImportsStoreAgain name_of namer store coming (next, Err (Import fault))
+      → ImportsStoredAgain name_of old.0 (Ok old.1) coming (next, Err (Import fault))
   refused_store_again fault next left None h = tt
   refused_store_again fault next left (Some coming) h = λ exported is links gives empty.
-      let e = subst (λ n. ImportsExport (name_of n) old.1 new.1 (Some coming) (Err fault)) same h exported is links gives (cc (sym read ∙ empty)) in
+      let e = h exported is links gives (cc empty) in
       inl (inr (fault, e.0, ap (λ x. (x, Err (Import fault))) (left ∙ ap (λ n. next_after n new) e.1)))

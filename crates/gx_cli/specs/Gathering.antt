@@ -52,9 +52,18 @@ abbrev pub EndsBadly : Option Coming → Type 0
 EndsBadly None = ⊤
 EndsBadly (Some c) = c.fails ≡ true
 
+-- why there isn't all of a source
+abbrev pub IsUngathered : Option Coming → CliFault → Type 0
+IsUngathered coming ReadFailed = EndsBadly coming
+IsUngathered coming OutOfMemory = ⊤
+IsUngathered coming fault = ⊥
+
 -- all of a source, or why there isn't all of it
 abbrev pub Gathers : {A : Type 0} → Option Coming → Result (Vec ℕ A) CliFault → Type 0
 Gathers coming (Ok text) = IsAllOf coming text.items
-Gathers coming (Err ReadFailed) = EndsBadly coming
-Gathers coming (Err OutOfMemory) = ⊤
-Gathers coming (Err fault) = ⊥
+Gathers coming (Err fault) = IsUngathered coming fault
+
+-- the same, where it is put into a text
+abbrev pub GathersInto : Option Coming → Bytes → Result (Unit {0}) CliFault → Type 0
+GathersInto coming text (Ok done) = IsAllOf coming text
+GathersInto coming text (Err fault) = IsUngathered coming fault

@@ -20,6 +20,7 @@ use Rattle.gx_stream.specs.Heard.{heard}
 use Rattle.gx_command.specs.Reading.{commands_from}
 use Rattle.gx_import.specs.Exported.{IsExported, nothing}
 use Rattle.gx_import.specs.Imports.{AreRead, replayed_on, report_of}
+use Rattle.gx_import.specs.declared.report.Report.{Report}
 use Rattle.gx_import.specs.declared.fault.ImportFault.{ImportFault}
 use Rattle.gx_model.specs.declared.faults.Fault.TheVariants as kind
 use Rattle.gx_export.specs.Outputs.{most}
@@ -44,6 +45,12 @@ abbrev pub ImportsAgainOr : {N : Type 0} → Records → Result (N × Records) I
 ImportsAgainOr exported (Ok again) = IsExported exported again.1
 ImportsAgainOr exported (Err fault) = ((fault.kind ≡ kind.OutOfMemory) ⊎ (fault.kind ≡ kind.WriteFailed)) × (fault.checkpoints ≡ 0)
 
+-- the import of a repository's export makes it again, with the text of the export; or memory ran out, or the export has more
+-- than 2^63 - 1 bytes
+abbrev pub ExportsAgain : {N A : Type 0} → Records → Result ((N × Records) × Vec ℕ A) CliFault → Type 0
+ExportsAgain first (Ok made) = (made.1.items ≡ export_text (history_of first)) × IsExported first made.0.1
+ExportsAgain {N} {A} first (Err fault) = ExportsText {A = A} (history_of first) (Err fault)
+
 module _ (name : Kind → Bytes → Bytes) (revision : Revision) (path : Path) {N A : Type 0} where
   pub record ComesBack (h : History) (trip : RoundTrip N A) : Type 0 where
     -- The first repository stands for this history: its commits with their files, parents and messages, its tags and its refs.
@@ -54,6 +61,11 @@ module _ (name : Kind → Bytes → Bytes) (revision : Revision) (path : Path) {
     pub text : trip.text.items ≡ export_text h
     -- The second repository has the same refs under the same object names, exactly what they reach, and the same export.
     pub again : IsExported trip.first.1 trip.again.1
+
+  -- What an import made comes back, with its report; or memory ran out, or the export has more than 2^63 - 1 bytes.
+  abbrev pub ComesBackOr : Report → N × Records → Result (RoundTrip N A) CliFault → Type 0
+  ComesBackOr report first (Ok trip) = (trip.first ≡ first) × (trip.report ≡ report) × ComesBack (history_of first.1) trip
+  ComesBackOr report first (Err fault) = ExportsText {A = A} (history_of first.1) (Err fault)
 
   -- What the commands give when they are replayed comes back; or the import is refused; or memory ran out after it, or the
   -- export has more than 2^63 - 1 bytes.

@@ -26,6 +26,9 @@ use Rattle.gx_model.specs.Texts.Sinks.{Taken}
 use Rattle.gx_text.specs.Devices.{Coming}
 use Rattle.gx_object.specs.declared.name.Name.{Name}
 use Rattle.gx_stream.specs.Heard.{items_from}
+use Rattle.gx_batch.specs.Calls.{SendsAnswers}
+use Rattle.gx_batch.specs.declared.fault.BatchFault.{BatchFault}
+use Rattle.gx_import.specs.declared.report.Report.{Report}
 use Rattle.gx_rev.specs.Answers.{IsNamed, shown_by}
 use Rattle.gx_rev.specs.Objects.{IsHeldAs, commit_at, files_at, value_at}
 use Rattle.gx_rev.specs.RevFaults.{fault_of}
@@ -34,18 +37,22 @@ use Rattle.gx_rev.specs.declared.fault.RevFault.{RevFault}
 use Rattle.gx_rev.specs.declared.range.Range.{Range}
 use Rattle.gx_rev.specs.declared.shown.Shown.{Shown}
 use Rattle.gx_repo.specs.Repositories.{Repository}
+use Rattle.gx_cli.specs.Again.{ImportsAgain}
 use Rattle.gx_cli.specs.Answers.{Prints}
+use Rattle.gx_cli.specs.Gathering.{batch_answer}
 use Rattle.gx_cli.specs.FileLines.{path_line}
 use Rattle.gx_cli.specs.Listings.{shown_text, text_of_word, tree_lines, value_text}
 use Rattle.gx_cli.specs.Printing.{PrintsBlobs, PrintsOne}
 use Rattle.gx_cli.specs.Sending.{PrintsText}
 use Rattle.gx_cli.specs.Opening.{bytes_of}
-use Rattle.gx_cli.specs.Serving.{PrintsStored, blobs_answer, printed_by}
+use Rattle.gx_cli.specs.Serving.{ImportsIntoStored, PrintsStored, ServesOfStream, blobs_answer, printed_by}
 use Rattle.gx_cli.specs.Stored.{all_words, commits_listed, file_line, files_of_word, line_of_ref, list_lines, list_text, log_line, log_text, names_text, of_stored, show_text, texts_of}
+use Rattle.gx_cli.specs.Storing.{Answer, ImportsStored}
 use Rattle.gx_cli.specs.Trying.{Shows, Tries}
 use Rattle.gx_cli.specs.Words.{GivesWords}
 use Rattle.gx_cli.specs.declared.blob_names.BlobsFault.{BlobsFault}
 use Rattle.gx_cli.specs.declared.blob_names.BlobsKind.{BlobsKind}
+use Rattle.gx_cli.specs.declared.command_line.Line.{Line}
 use Rattle.gx_cli.specs.declared.command_line.LogOptions.{LogOptions}
 use Rattle.gx_cli.specs.declared.fault.CliFault.{CliFault}
 use Rattle.gx_cli.specs.declared.opening.StoreBytes.{StoreBytes}
@@ -58,9 +65,17 @@ use Rattle.gx_cli.specs.declared.serving.Outcome.{Outcome}
 abbrev pub ReadsRevisions : {A : Type 0} → List (Bor Bytes) → Result (Vec Revision A) CliFault → Type 0
 ReadsRevisions {A} words result = GivesWords (λ (revisions : Vec Revision A). revisions.items) result (all_words (each_word revision_of (texts_of words)))
 
+-- the same, where they are put into a list
+abbrev pub ReadsInto : List (Bor Bytes) → List Revision → Result (Unit {0}) CliFault → Type 0
+ReadsInto words revisions result = GivesWords (λ done. revisions) result (all_words (each_word revision_of (texts_of words)))
+
 -- these range words, or the first word that isn't one
 abbrev pub ReadsRanges : {A : Type 0} → List (Bor Bytes) → Result (Vec (Range A) A) CliFault → Type 0
 ReadsRanges {A} words result = GivesWords (λ (ranges : Vec (Range A) A). map shown_range ranges.items) result (all_words (each_word range_of (texts_of words)))
+
+-- the same, where they are put into a list
+abbrev pub ReadsRangesInto : {A : Type 0} → List (Bor Bytes) → List (Range A) → Result (Unit {0}) CliFault → Type 0
+ReadsRangesInto words ranges result = GivesWords (λ done. map shown_range ranges) result (all_words (each_word range_of (texts_of words)))
 
 -- each of these names is that of a held commit
 abbrev pub AreCommits : Records → List Name → Type 0
@@ -88,6 +103,17 @@ module _ {N : Type 0} (name_of : N → Kind → Bytes → Bytes) where
   EvaluatesAll {A} repo revisions result =
       GivesWords (λ (shown : Vec Shown A). map (shown_by repo.1) shown.items) result (all_words (each_word (denoted (name_of repo.0) (history_of repo.1)) revisions))
 
+  -- the same, where they are put into a list
+  abbrev pub EvaluatesInto : Repository N → List Revision → List Shown → Result (Unit {0}) CliFault → Type 0
+  EvaluatesInto repo revisions shown result =
+      GivesWords (λ done. map (shown_by repo.1) shown) result (all_words (each_word (denoted (name_of repo.0) (history_of repo.1)) revisions))
+
+  -- what each of these words shows as a revision, or the first that is refused: all are read, and then all are evaluated
+  abbrev pub EvaluatesWords : {A : Type 0} → Repository N → List (Bor Bytes) → Result (Vec Shown A) CliFault → Type 0
+  EvaluatesWords {A} repo words result =
+      GivesWords (λ (shown : Vec Shown A). map (shown_by repo.1) shown.items) result
+      (all_words (and_then (each_word revision_of (texts_of words)) (each_word (denoted (name_of repo.0) (history_of repo.1)))))
+
   -- each of these is an object that is held under its name, or a submodule's name
   abbrev pub AreAllNamed : Repository N → List Shown → Type 0
   AreAllNamed repo shown = AllByRecursion (IsNamed (name_of repo.0) repo.1) shown
@@ -109,6 +135,10 @@ module _ {N : Type 0} (name_of : N → Kind → Bytes → Bytes) where
   ListsCommits {A} repo words result =
       GivesWords (λ (names : Vec Name A). map (commit_at repo.1) names.items) result
       (all_words (and_then (each_word range_of (texts_of words)) (commits_listed (name_of repo.0) (history_of repo.1))))
+
+  -- the import of a sound repository's export into this one, where it is empty, makes that repository again
+  abbrev pub ImportsToAgain : {A : Type 0} → Repository N → Option Coming → Outcome A → Type 0
+  ImportsToAgain repo coming o = ImportsAgain (name_of repo.0) (Ok repo.1) coming o
 
   -- the store text of a repository is read as that repository
   abbrev pub IsReadBack : Repository N → Type 0
@@ -137,6 +167,10 @@ module _ {N W : Type 0} (name_of : N → Kind → Bytes → Bytes) (taken : W �
   abbrev pub TriesWord : N → Option Coming → Bytes → W → W → Result (Unit {0}) CliFault → Type 0
   TriesWord namer coming word old new result = Tries (name_of namer) coming word (taken old) (taken new) result
 
+  -- what a command does that reads a stream and keeps nothing
+  abbrev pub Runs : {A : Type 0} → N → Line → Option Coming → W → W → Outcome A → Type 0
+  Runs namer line coming old new o = ServesOfStream (name_of namer) line coming (taken old) (taken new) o
+
   -- what a question prints of a repository goes out, or a refusal is answered
   abbrev pub PrintsOf : Question → N × Records → W → W → Result (Unit {0}) CliFault → Type 0
   PrintsOf asked repository old new result = Prints (printed_by (name_of repository.0) asked repository.1) (taken old) (taken new) result
@@ -149,6 +183,19 @@ module _ {N W : Type 0} (name_of : N → Kind → Bytes → Bytes) (taken : W �
   -- the same, and how the command ends
   abbrev pub AsksStore : {A : Type 0} → N → Question → StoreBytes A → W → W → Outcome A → Type 0
   AsksStore namer asked store old new o = PrintsStored (store_of (name_of namer) (bytes_of store)) (printed_by (name_of namer) asked) (taken old) (taken new) o
+
+  -- the answers to the lines of a source go out, with their fault among those of the commands
+  abbrev pub Batches : Repository N → Bool → Option Coming → W → W → Result (Unit {0}) CliFault → Type 0
+  Batches repo check coming old new result =
+      (answer : Result (Unit {0}) BatchFault) × SendsAnswers name_of taken repo check coming old new answer × (result ≡ batch_answer answer)
+
+  -- a stream is imported into a repository, and the next store text is told, and what was imported
+  abbrev pub ImportsTo : {A : Type 0} → Repository N → Option Coming → W → W → Outcome A × Option Report → Type 0
+  ImportsTo repo coming old new o = ImportsIntoStored (name_of repo.0) (Ok repo.1) coming (taken old) (taken new) o
+
+  -- the same, and the repository is told whose text is the next one
+  abbrev pub Publishes : Repository N → Option Coming → W → W → Answer N → Type 0
+  Publishes repo coming old new answer = ImportsStored name_of repo.0 (Ok repo.1) coming (taken old) (taken new) answer
 
   -- ---- one revision
 

@@ -49,6 +49,11 @@ kind_of stream.ReadFailed = kinds.ReadFailed
 kind_of stream.TruncatedData = kinds.TruncatedData
 kind_of stream.BadNumber = kinds.BadNumber
 
+-- how the names end behind so many: with the stream, or for this cause
+abbrev pub ended_at : ℕ → Option BlobsKind → Result ℕ BlobsFault
+ended_at count None = Ok count
+ended_at count (Some kind) = Err (record { command = count + 1; kind = kind })
+
 -- an end as a reader of items tells it: none, or one of its faults
 abbrev pub IsEnd : End → Type 0
 IsEnd Finished = ⊤

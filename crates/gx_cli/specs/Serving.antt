@@ -1,5 +1,6 @@
 -- How the commands end.
-use Rattle.std.specs.Prelude.{◌≡◌, ◌⊎◌, ℕ, zero, suc, Bool, [], Option, Some, None, Result, Ok, Err}
+use Rattle.std.specs.Prelude.{◌≡◌, ◌⊎◌, ⊤, ℕ, zero, suc, Bool, List, [], Option, Some, None, Result, Ok, Err}
+use Rattle.std.specs.Borrow.{Bor}
 use Rattle.std.specs.Option.{option_map}
 use Rattle.std.specs.declared.vec.Vec.{Vec}
 use Rattle.gx_model.specs.declared.objects.Kind.{Kind}
@@ -64,13 +65,17 @@ abbrev pub HasText : {A : Type 0} → (Kind → Bytes → Bytes) → Records →
 HasText {A} name repository o =
     (text : Vec ℕ A) × (o.store ≡ Some text) × (text.items ≡ store_text version.Two repository) × (store_of name text.items ≡ Ok repository)
 
--- the command is accepted with the next store text of this repository, unless memory ran out
+-- the command ends so with the next store text of this repository, unless memory ran out
+abbrev pub EndsWithText : {A : Type 0} → (Kind → Bytes → Bytes) → Records → ℕ → Option CliFault → Outcome A → Type 0
+EndsWithText name repository status fault o = ((o.status ≡ status) × (o.fault ≡ fault) × HasText name repository o) ⊎ IsRefused OutOfMemory o
+
+-- it is accepted with that text, unless memory ran out
 abbrev pub IsWritten : {A : Type 0} → (Kind → Bytes → Bytes) → Records → Outcome A → Type 0
-IsWritten name repository o = ((o.status ≡ 0) × (o.fault ≡ None) × HasText name repository o) ⊎ IsRefused OutOfMemory o
+IsWritten name repository o = EndsWithText name repository 0 None o
 
 -- It is refused with that text, unless memory ran out.
 abbrev pub IsKept : {A : Type 0} → (Kind → Bytes → Bytes) → Records → CliFault → Outcome A → Type 0
-IsKept name repository fault o = ((o.status ≡ 1) × (o.fault ≡ Some fault) × HasText name repository o) ⊎ IsRefused OutOfMemory o
+IsKept name repository fault o = EndsWithText name repository 1 (Some fault) o
 
 -- no memory for what a store's text is read into, and nothing went out
 abbrev pub IsUnopened : {A : Type 0} → Option Taken → Option Taken → Outcome A → Type 0
@@ -79,6 +84,10 @@ IsUnopened was now o = IsRefused (Store file.OutOfMemory) o × (now ≡ was)
 -- a store's text isn't read for this cause, unless there was no memory for it, and nothing went out
 abbrev pub IsUnread : {A : Type 0} → FileFault → Option Taken → Option Taken → Outcome A → Type 0
 IsUnread f was now o = (why : FileFault) × ((why ≡ file.OutOfMemory) ⊎ (f ≡ why)) × IsRefused (Store why) o × (now ≡ was)
+
+-- a repository's export goes out, with its fault among those of the commands
+abbrev pub SendsExport : Records → Option Taken → Option Taken → Result (Unit {0}) CliFault → Type 0
+SendsExport repository was now r = (answer : Result (Unit {0}) ExportFault) × Exports repository was now answer × (r ≡ export_answer answer)
 
 -- the export of the store that a text was read as
 abbrev pub ExportsStored : {A : Type 0} → Stored Records → Option Taken → Option Taken → Outcome A → Type 0
@@ -97,6 +106,32 @@ printed_by name (question.List recursive word) r = list_text name recursive (his
 printed_by name question.Refs r = Ok (refs_text r)
 printed_by name (question.Log options words) r = log_text name options (history_of r) (texts_of words.now)
 printed_by name (question.Names words) r = names_text name (history_of r) (texts_of words.now)
+
+-- a command that reads a stream and keeps nothing
+abbrev pub IsOfStream : Line → Type 0
+IsOfStream line.Blobs = ⊤
+IsOfStream (line.Try word) = ⊤
+IsOfStream line.Adapt = ⊤
+IsOfStream (line.Where command) = ⊤
+IsOfStream given = ⊥
+
+-- a command that asks a question of a store
+abbrev pub IsQuestion : Line → Type 0
+IsQuestion (line.Show file word) = ⊤
+IsQuestion (line.Ls recursive file word) = ⊤
+IsQuestion (line.Refs file) = ⊤
+IsQuestion (line.Log options file words) = ⊤
+IsQuestion (line.RevParse file words) = ⊤
+IsQuestion given = ⊥
+
+-- the question that it asks
+abbrev pub Asks : Line → Question → Type 0
+Asks (line.Show file word) asked = asked ≡ question.Show word
+Asks (line.Ls recursive file word) asked = asked ≡ question.List recursive word
+Asks (line.Refs file) asked = asked ≡ question.Refs
+Asks (line.Log options file words) asked = (given : Bor (List (Bor Bytes))) × (asked ≡ question.Log options given) × (given.now ≡ words.items)
+Asks (line.RevParse file words) asked = (given : Bor (List (Bor Bytes))) × (asked ≡ question.Names given) × (given.now ≡ words.items)
+Asks line asked = ⊥
 
 -- what is printed of a store, and how the command ends
 abbrev pub PrintsStored : {A : Type 0} → Stored Records → (Records → Printed) → Option Taken → Option Taken → Outcome A → Type 0
@@ -135,12 +170,20 @@ module _ (name : Kind → Bytes → Bytes) {A : Type 0} where
   abbrev pub AnswersLines : Bool → Bytes → Option Coming → Option Taken → Option Taken → Outcome A → Type 0
   AnswersLines check text coming was now o = BatchesStored check (store_of name text) coming was now o
 
+  -- what a command does to the sink that reads a stream and keeps nothing, and how it ends
+  abbrev pub ServesOfStream : Line → Option Coming → Option Taken → Option Taken → Outcome A → Type 0
+  ServesOfStream line.Blobs coming was now o = (answer : Result ℕ BlobsFault) × PrintsBlobs name (option_map items_from coming) was now answer × IsOutcome (blobs_answer answer) o
+  ServesOfStream (line.Try word) coming was now o = (answer : Result (Unit {0}) CliFault) × Tries name coming word.now was now answer × IsOutcome answer o
+  ServesOfStream line.Adapt coming was now o = (answer : Result AdaptReport CliFault) × AdaptsStream coming was now answer × IsOutcome answer o
+  ServesOfStream (line.Where command) coming was now o = (answer : Result (Unit {0}) CliFault) × PlacesFrom command coming was now answer × IsOutcome answer o
+  ServesOfStream given coming was now o = ⊥
+
   -- what a command does to the sink, and how it ends
   abbrev pub Serves : Line → Bytes → Option Coming → Option Taken → Option Taken → Outcome A → Type 0
-  Serves line.Blobs store coming was now o = (answer : Result ℕ BlobsFault) × PrintsBlobs name (option_map items_from coming) was now answer × IsOutcome (blobs_answer answer) o
-  Serves (line.Try word) store coming was now o = (answer : Result (Unit {0}) CliFault) × Tries name coming word.now was now answer × IsOutcome answer o
-  Serves line.Adapt store coming was now o = (answer : Result AdaptReport CliFault) × AdaptsStream coming was now answer × IsOutcome answer o
-  Serves (line.Where command) store coming was now o = (answer : Result (Unit {0}) CliFault) × PlacesFrom command coming was now answer × IsOutcome answer o
+  Serves line.Blobs store coming was now o = ServesOfStream line.Blobs coming was now o
+  Serves (line.Try word) store coming was now o = ServesOfStream (line.Try word) coming was now o
+  Serves line.Adapt store coming was now o = ServesOfStream line.Adapt coming was now o
+  Serves (line.Where command) store coming was now o = ServesOfStream (line.Where command) coming was now o
   Serves (line.Batch check file) store coming was now o = AnswersLines check store coming was now o
   Serves (line.Init file) store coming was now o = IsWritten name nothing o × (now ≡ was)
   Serves (line.Import file) store coming was now o = (told : Option Report) × ImportsInto store coming was now (o, told)

@@ -2,6 +2,7 @@
 
 ghost use Rattle.std.specs.Prelude.{◌≡◌};
 ghost use Rattle.gx_cli.specs.Opening.{bytes_of};
+ghost use Rattle.gx_cli.specs.Parts.{Batches};
 ghost use Rattle.gx_cli.specs.Serving.{AnswersLines};
 
 use crate::CliFault;
@@ -9,6 +10,7 @@ use crate::opening::{StoreBytes, open};
 use crate::serving::{Outcome, outcome_of, refused};
 use gx_batch::batch;
 use gx_object::Namer;
+use gx_repo::Repo;
 use gx_text::{Sink, Source};
 use std::alloc::Allocator;
 use std::hash::RandomState;
@@ -27,12 +29,24 @@ pub(crate) fn batch_stored<N: Namer + Drop, R: Source + Drop, W: Sink, A: Alloca
 ) -> Outcome<A>
     ensures { AnswersLines (N.name_of namer) check (bytes_of store.entry) (R.coming source) (W.taken sink.old) (W.taken sink.new) result }
 {
-    let repo = match open(alloc, namer, store, state) {
-        Ok(repo) => repo,
-        Err(fault) => return refused(CliFault::Store(fault)),
-    };
-    match batch(alloc, &repo, check, source, sink) {
-        Ok(()) => outcome_of(Ok(())),
-        Err(fault) => refused(CliFault::from(fault)),
+    match open(alloc, namer, store, state) {
+        Ok(repo) => outcome_of(batch_opened(alloc, &repo, check, source, sink)),
+        Err(fault) => refused(CliFault::Store(fault)),
+    }
+}
+
+/// Answers each line of a source as a revision of a repository.
+fn batch_opened<N: Namer, R: Source + Drop, W: Sink, A: Allocator + Copy>(
+    alloc: A,
+    repo: &Repo<N, A>,
+    check: bool,
+    source: R,
+    sink: &mut W,
+) -> Result<(), CliFault>
+    ensures { Batches N.name_of W.taken repo.now check (R.coming source) sink.old sink.new result }
+{
+    match batch(alloc, repo, check, source, sink) {
+        Ok(()) => Ok(()),
+        Err(fault) => Err(CliFault::from(fault)),
     }
 }

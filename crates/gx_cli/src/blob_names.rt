@@ -1,13 +1,13 @@
 //! The names of a stream's blobs, one a line.
 
-ghost use Rattle.std.specs.Prelude.{◌≡◌, ◌≤◌, ◌-◌, ◌^◌, [], Ok, Err};
+ghost use Rattle.std.specs.Prelude.{◌≡◌, ◌<◌, ◌≤◌, ◌-◌, ◌^◌, [], Ok, Err};
 ghost use Rattle.std.specs.Option.{option_map};
 ghost use Rattle.gx_model.specs.Streams.Items.{Line as a_line, Finished};
 ghost use Rattle.gx_model.specs.Streams.Grammar.{mark_of};
 ghost use Rattle.gx_stream.specs.Reading.{item_of};
 ghost use Rattle.gx_cli.specs.Parts.{AddsBlob, NamesBlobs, NamesItems};
 ghost use Rattle.gx_cli.specs.Steps.{step_of, stop_at, marked_as, marked_by, named_by, command_line, mark_line, oid_line};
-ghost use Rattle.gx_cli.specs.Printing.{shown_step, stop_of, kind_of, name_line};
+ghost use Rattle.gx_cli.specs.Printing.{shown_step, stop_of, kind_of, ended_at, name_line};
 
 use gx_object::{Kind, Name, Namer};
 use gx_store::{Store, StoreFault};
@@ -80,42 +80,35 @@ fn name_all<N: Namer, R: Source, W: Sink, A: Allocator + Copy>(
     let mut count = 0u64;
     loop {
         let item = match reader.next() {
-            Err(fault) => {
-                return Err(BlobsFault {
-                    command: count + 1,
-                    kind: kind_of(fault),
-                });
-            }
-            Ok(None) => {
-                return match kind_at_end(stage) {
-                    None => Ok(count),
-                    Some(kind) => Err(BlobsFault {
-                        command: count + 1,
-                        kind,
-                    }),
-                };
-            }
+            Err(fault) => return ended(count, Some(kind_of(fault))),
+            Ok(None) => return ended(count, kind_at_end(stage)),
             Ok(Some(item)) => item,
         };
         match take_item(stage, item) {
-            Step::Stop(kind) => {
-                return Err(BlobsFault {
-                    command: count + 1,
-                    kind,
-                });
-            }
+            Step::Stop(kind) => return ended(count, Some(kind)),
             Step::Go(next) => stage = next,
             Step::Body(bytes) => {
                 if let Err(kind) = print_one(store, sink, bytes) {
-                    return Err(BlobsFault {
-                        command: count + 1,
-                        kind,
-                    });
+                    return ended(count, Some(kind));
                 }
                 count += 1;
                 stage = Stage::Expected;
             }
         }
+    }
+}
+
+/// How the names end behind so many, and why where the stream doesn't end there.
+fn ended(count: u64, kind: Option<BlobsKind>) -> Result<u64, BlobsFault>
+    requires { count < 2 ^ 64 - 1 }
+    ensures { result ≡ ended_at count kind }
+{
+    match kind {
+        None => Ok(count),
+        Some(kind) => Err(BlobsFault {
+            command: count + 1,
+            kind,
+        }),
     }
 }
 

@@ -2,13 +2,14 @@
 
 ghost use Rattle.std.specs.Prelude.{◌≡◌};
 ghost use Rattle.gx_cli.specs.Opening.{bytes_of};
-ghost use Rattle.gx_cli.specs.Serving.{ExportsStore};
+ghost use Rattle.gx_cli.specs.Serving.{ExportsStore, SendsExport};
 
 use crate::CliFault;
 use crate::opening::{StoreBytes, open};
 use crate::serving::{Outcome, outcome_of, refused};
 use gx_export::export;
 use gx_object::Namer;
+use gx_repo::Repo;
 use gx_text::Sink;
 use std::alloc::Allocator;
 use std::hash::RandomState;
@@ -25,12 +26,22 @@ pub(crate) fn export_stored<N: Namer + Drop, W: Sink, A: Allocator + Copy>(
 ) -> Outcome<A>
     ensures { ExportsStore (N.name_of namer) (bytes_of store.entry) (W.taken sink.old) (W.taken sink.new) result }
 {
-    let repo = match open(alloc, namer, store, state) {
-        Ok(repo) => repo,
-        Err(fault) => return refused(CliFault::Store(fault)),
-    };
-    match export(alloc, &repo, sink) {
-        Ok(()) => outcome_of(Ok(())),
-        Err(fault) => refused(CliFault::Export(fault)),
+    match open(alloc, namer, store, state) {
+        Ok(repo) => outcome_of(export_opened(alloc, &repo, sink)),
+        Err(fault) => refused(CliFault::Store(fault)),
+    }
+}
+
+/// Exports a repository.
+fn export_opened<N: Namer, W: Sink, A: Allocator + Copy>(
+    alloc: A,
+    repo: &Repo<N, A>,
+    sink: &mut W,
+) -> Result<(), CliFault>
+    ensures { SendsExport repo.now.1 (W.taken sink.old) (W.taken sink.new) result }
+{
+    match export(alloc, repo, sink) {
+        Ok(()) => Ok(()),
+        Err(fault) => Err(CliFault::Export(fault)),
     }
 }

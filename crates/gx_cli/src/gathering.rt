@@ -1,7 +1,7 @@
 //! All of a source, in memory.
 
-ghost use Rattle.std.specs.Prelude.{◌≡◌};
-ghost use Rattle.gx_cli.specs.Gathering.{Gathers};
+ghost use Rattle.std.specs.Prelude.{◌≡◌, ◌<◌, [], length};
+ghost use Rattle.gx_cli.specs.Gathering.{Gathers, GathersInto};
 
 use crate::CliFault;
 use gx_text::{Failed, Source};
@@ -19,14 +19,42 @@ pub(crate) fn gather<R: Source + Drop, A: Allocator + Copy>(
 ) -> Result<Vec<u8, A>, CliFault>
     ensures { Gathers (R.coming source) result }
 {
-    let mut source = source;
     let mut text = Vec::new(alloc);
+    match gather_into(alloc, source, &mut text) {
+        Ok(()) => Ok(text),
+        Err(fault) => Err(fault),
+    }
+}
+
+/// Puts all that a source gives into a text.
+fn gather_into<R: Source + Drop, A: Allocator + Copy>(
+    alloc: A,
+    source: R,
+    text: &mut Vec<u8, A>,
+) -> Result<(), CliFault>
+    requires empty { text.old.items ≡ [] }
+    ensures { GathersInto (R.coming source) text.new.items result }
+{
+    let mut source = source;
     let mut piece = Vec::new(alloc);
     piece.resize(PIECE, 0)?;
+    pull_all(&mut source, &mut piece, text)
+}
+
+/// Pulls all that a source gives through a buffer.
+fn pull_all<R: Source, A: Allocator + Copy>(
+    source: &mut R,
+    piece: &mut [u8],
+    text: &mut Vec<u8, A>,
+) -> Result<(), CliFault>
+    requires room { 0 < length piece.old }
+    requires empty { text.old.items ≡ [] }
+    ensures { GathersInto (R.coming source.old) text.new.items result }
+{
     loop {
-        match source.pull(&mut piece) {
+        match source.pull(piece) {
             Err(Failed) => return Err(CliFault::ReadFailed),
-            Ok(0) => return Ok(text),
+            Ok(0) => return Ok(()),
             Ok(count) => text.extend_from_slice(&piece[..count])?,
         }
     }

@@ -3,7 +3,8 @@
 ghost use Rattle.gx_import.specs.Exported.{nothing};
 ghost use Rattle.gx_cli.specs.Again.{IntoAgain};
 ghost use Rattle.gx_cli.specs.Opening.{bytes_of};
-ghost use Rattle.gx_cli.specs.Serving.{ImportsInto, IsLeft, IsWritten};
+ghost use Rattle.gx_cli.specs.Parts.{ImportsTo, ImportsToAgain};
+ghost use Rattle.gx_cli.specs.Serving.{EndsWithText, ImportsInto, IsLeft, IsWritten};
 ghost use Rattle.gx_cli.specs.declared.fault.CliFault.TheVariants.{Import};
 
 use crate::CliFault;
@@ -61,16 +62,28 @@ pub(crate) fn import_stored<N: Namer + Drop, R: Source + Drop, W: Sink, A: Alloc
     ensures imported { ImportsInto (N.name_of namer) (bytes_of store.entry) (R.coming source) (W.taken sink.old) (W.taken sink.new) result }
     ensures again { IntoAgain (N.name_of namer) (bytes_of store.entry) (R.coming source) result.0 }
 {
-    let mut repo = match open(alloc, namer, store, state) {
-        Ok(repo) => repo,
-        Err(fault) => return (refused(CliFault::Store(fault)), None),
-    };
-    match import(alloc, &mut repo, source, sink) {
+    match open(alloc, namer, store, state) {
+        Ok(mut repo) => import_opened(alloc, &mut repo, source, sink),
+        Err(fault) => (refused(CliFault::Store(fault)), None),
+    }
+}
+
+/// Imports a stream into a repository, and makes the text of what that leaves.
+fn import_opened<N: Namer, R: Source + Drop, W: Sink, A: Allocator + Copy>(
+    alloc: A,
+    repo: &mut Repo<N, A>,
+    source: R,
+    sink: &mut W,
+) -> (Outcome<A>, Option<Report>)
+    ensures into { ImportsTo N.name_of W.taken repo.old (R.coming source) sink.old sink.new result }
+    ensures again { ImportsToAgain N.name_of repo.old (R.coming source) result.0 }
+{
+    match import(alloc, repo, source, sink) {
         Ok(report) => {
             repo.sound();
-            (written(alloc, &repo), Some(report))
+            (written(alloc, repo), Some(report))
         }
-        Err(fault) => (left(alloc, &repo, fault), None),
+        Err(fault) => (left(alloc, repo, fault), None),
     }
 }
 
@@ -83,15 +96,9 @@ fn left<N: Namer, A: Allocator + Copy>(
     ensures { IsLeft (N.name_of repo.now.0) fault.checkpoints repo.now.1 (Import fault) result }
 {
     if fault.checkpoints == 0 {
-        return refused(CliFault::Import(fault));
-    }
-    match gx_file::write(alloc, repo) {
-        Ok(text) => Outcome {
-            status: 1,
-            fault: Some(CliFault::Import(fault)),
-            store: Some(text),
-        },
-        Err(_) => refused(CliFault::OutOfMemory),
+        refused(CliFault::Import(fault))
+    } else {
+        with_text(alloc, repo, 1, Some(CliFault::Import(fault)))
     }
 }
 
@@ -99,10 +106,22 @@ fn left<N: Namer, A: Allocator + Copy>(
 fn written<N: Namer, A: Allocator + Copy>(alloc: A, repo: &Repo<N, A>) -> Outcome<A>
     ensures { IsWritten (N.name_of repo.now.0) repo.now.1 result }
 {
+    with_text(alloc, repo, 0, None)
+}
+
+/// How a command ends with the text of a repository.
+fn with_text<N: Namer, A: Allocator + Copy>(
+    alloc: A,
+    repo: &Repo<N, A>,
+    status: u8,
+    fault: Option<CliFault>,
+) -> Outcome<A>
+    ensures { EndsWithText (N.name_of repo.now.0) repo.now.1 status fault result }
+{
     match gx_file::write(alloc, repo) {
         Ok(text) => Outcome {
-            status: 0,
-            fault: None,
+            status,
+            fault,
             store: Some(text),
         },
         Err(_) => refused(CliFault::OutOfMemory),

@@ -1,10 +1,10 @@
 //! The commits that range words list, one a line. Source: git-log(1) and git-rev-list(1).
 
-ghost use Rattle.std.specs.Prelude.{◌≡◌, ◌∷◌, IfOk};
+ghost use Rattle.std.specs.Prelude.{◌≡◌, [], ◌∷◌, IfOk};
 ghost use Rattle.gx_model.specs.declared.objects.Kind.TheVariants as kinds;
 ghost use Rattle.gx_model.specs.Objects.{hex};
 ghost use Rattle.gx_rev.specs.Objects.{IsHeldAs};
-ghost use Rattle.gx_cli.specs.Parts.{AreCommits, ListsCommits, Logs, PrintsCommit, PrintsCommits, ReadsRanges};
+ghost use Rattle.gx_cli.specs.Parts.{AreCommits, ListsCommits, Logs, PrintsCommit, PrintsCommits, ReadsRanges, ReadsRangesInto};
 ghost use Rattle.gx_cli.specs.Sending.{PrintsText};
 ghost use Rattle.gx_cli.specs.Stored.{limited, parent_text, turned};
 
@@ -58,27 +58,52 @@ fn read_ranges<A: Allocator + Copy>(alloc: A, words: &[&str]) -> Result<Vec<Rang
     ensures { ReadsRanges words.now result }
 {
     let mut ranges = Vec::new(alloc);
+    match read_into(alloc, words, &mut ranges) {
+        Ok(()) => Ok(ranges),
+        Err(fault) => Err(fault),
+    }
+}
+
+/// Puts the range words of texts into a list.
+fn read_into<A: Allocator + Copy>(
+    alloc: A,
+    words: &[&str],
+    ranges: &mut Vec<Range<A>, A>,
+) -> Result<(), CliFault>
+    requires empty { ranges.old.items ≡ [] }
+    ensures { ReadsRangesInto words.now ranges.new.items result }
+{
     for (place, word) in words.iter().enumerate() {
         match Range::read(alloc, word.as_bytes()) {
-            Ok(range) => {
-                if ranges.push(range).is_err() {
-                    return Err(CliFault::OutOfMemory);
-                }
-            }
-            Err(kind) => return Err(refused((place + 1) as u64, kind)),
+            Ok(range) => ranges.push(range)?,
+            Err(kind) => return Err(refused(place as u64 + 1, kind)),
         }
     }
-    Ok(ranges)
+    Ok(())
 }
 
 /// Keeps so many names at most, and then turns them round, as the options ask.
 fn arrange<A: Allocator>(names: &mut Vec<Name, A>, options: LogOptions)
     ensures { names.new.items ≡ turned options.reverse (limited options.max_count names.old.items) }
 {
-    if let Some(most) = options.max_count {
+    limit(names, options.max_count);
+    turn(names, options.reverse);
+}
+
+/// Keeps so many of the first names at most.
+fn limit<A: Allocator>(names: &mut Vec<Name, A>, max_count: Option<u64>)
+    ensures { names.new.items ≡ limited max_count names.old.items }
+{
+    if let Some(most) = max_count {
         names.truncate(most as usize);
     }
-    if options.reverse {
+}
+
+/// Turns the names round where that is asked for.
+fn turn<A: Allocator>(names: &mut Vec<Name, A>, reverse: bool)
+    ensures { names.new.items ≡ turned reverse names.old.items }
+{
+    if reverse {
         names.reverse();
     }
 }

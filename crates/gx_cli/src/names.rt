@@ -1,9 +1,9 @@
 //! The names of what revisions give, one a line. Source: git-rev-parse(1).
 
-ghost use Rattle.std.specs.Prelude.{◌≡◌, IfOk, Ok};
+ghost use Rattle.std.specs.Prelude.{◌≡◌, [], IfOk, Ok, OnOk};
 ghost use Rattle.std.specs.List.{flat_map};
 ghost use Rattle.gx_cli.specs.Answers.{Prints, shown_line};
-ghost use Rattle.gx_cli.specs.Parts.{AreAllNamed, EvaluatesAll, PrintsNames, ReadsRevisions};
+ghost use Rattle.gx_cli.specs.Parts.{AreAllNamed, EvaluatesAll, EvaluatesInto, EvaluatesWords, PrintsNames, ReadsInto, ReadsRevisions};
 
 use crate::CliFault;
 use crate::blob_names::name_line;
@@ -28,9 +28,23 @@ pub(crate) fn print_names<N: Namer, A: Allocator + Copy, W: Sink>(
 ) -> Result<(), CliFault>
     ensures { PrintsNames N.name_of W.taken repo.now words.now sink.old sink.new result }
 {
-    let revisions = read_all(alloc, words)?;
-    let shown = eval_all(alloc, repo, revisions.as_slice())?;
-    print_lines(shown.as_slice(), sink)
+    let shown = eval_words(alloc, repo, words)?;
+    print_lines(&shown, sink)
+}
+
+/// What each word shows as a revision. All words are read, then all are evaluated.
+fn eval_words<N: Namer, A: Allocator + Copy>(
+    alloc: A,
+    repo: &Repo<N, A>,
+    words: &[&str],
+) -> Result<Vec<Shown, A>, CliFault>
+    ensures shown { EvaluatesWords N.name_of repo.now words.now result }
+    ensures named { IfOk result (λ shown. AreAllNamed N.name_of repo.now shown.items) }
+{
+    match read_all(alloc, words) {
+        Ok(revisions) => eval_all(alloc, repo, revisions.as_slice()),
+        Err(fault) => Err(fault),
+    }
 }
 
 /// Each word as a revision, or the first that isn't one.
@@ -38,13 +52,28 @@ fn read_all<A: Allocator + Copy>(alloc: A, words: &[&str]) -> Result<Vec<Revisio
     ensures { ReadsRevisions words.now result }
 {
     let mut revisions = Vec::new(alloc);
+    match read_into(alloc, words, &mut revisions) {
+        Ok(()) => Ok(revisions),
+        Err(fault) => Err(fault),
+    }
+}
+
+/// Puts each word as a revision into a list.
+fn read_into<A: Allocator + Copy>(
+    alloc: A,
+    words: &[&str],
+    revisions: &mut Vec<Revision<A>, A>,
+) -> Result<(), CliFault>
+    requires empty { revisions.old.items ≡ [] }
+    ensures { ReadsInto words.now revisions.new.items result }
+{
     for (place, word) in words.iter().enumerate() {
         match Revision::read(alloc, word.as_bytes()) {
             Ok(revision) => revisions.push(revision)?,
             Err(kind) => return Err(refused(place as u64 + 1, kind)),
         }
     }
-    Ok(revisions)
+    Ok(())
 }
 
 /// What each revision shows, or the first that shows nothing.
@@ -57,13 +86,29 @@ fn eval_all<N: Namer, A: Allocator + Copy>(
     ensures named { IfOk result (λ shown. AreAllNamed N.name_of repo.now shown.items) }
 {
     let mut shown = Vec::new(alloc);
+    match eval_into(repo, revisions, &mut shown) {
+        Ok(()) => Ok(shown),
+        Err(fault) => Err(fault),
+    }
+}
+
+/// Puts what each revision shows into a list.
+fn eval_into<N: Namer, A: Allocator + Copy>(
+    repo: &Repo<N, A>,
+    revisions: &[Revision<A>],
+    shown: &mut Vec<Shown, A>,
+) -> Result<(), CliFault>
+    requires empty { shown.old.items ≡ [] }
+    ensures shown { EvaluatesInto N.name_of repo.now revisions.now shown.new.items result }
+    ensures named { OnOk result (AreAllNamed N.name_of repo.now shown.new.items) }
+{
     for (place, revision) in revisions.iter().enumerate() {
         match revision.eval(repo) {
             Ok(object) => shown.push(object)?,
             Err(kind) => return Err(refused(place as u64 + 1, kind)),
         }
     }
-    Ok(shown)
+    Ok(())
 }
 
 /// Prints a line for each.

@@ -1,11 +1,11 @@
 //! An import whose store's next text goes out to a sink. Source: git-fast-import(1).
 
-ghost use Rattle.std.specs.Prelude.{◌≡◌, IfErr, IfOk};
+ghost use Rattle.std.specs.Prelude.{◌≡◌, IfErr, IfOk, Ok};
 ghost use Rattle.gx_model.specs.declared.store_versions.Version.TheVariants.{Two};
 ghost use Rattle.gx_model.specs.Stores.StoreText.{store_text};
-ghost use Rattle.gx_cli.specs.Parts.{IsReadBack};
+ghost use Rattle.gx_cli.specs.Parts.{IsReadBack, Publishes};
 ghost use Rattle.gx_cli.specs.Sending.{PrintsText};
-ghost use Rattle.gx_cli.specs.Storing.{ImportsStore, ImportsStoreAgain, next_after};
+ghost use Rattle.gx_cli.specs.Storing.{ImportsStore, ImportsStoreAgain, ImportsStoredAgain, next_after};
 ghost use Rattle.gx_cli.specs.declared.fault.CliFault.TheVariants.{WriteFailed};
 
 use crate::CliFault;
@@ -36,13 +36,26 @@ pub fn import_store<N: Namer + Drop, R: Source + Drop, W: Sink, A: Allocator + C
     ensures imported { ImportsStore N.name_of namer store.items (R.coming source) (W.taken sink.old) (W.taken sink.new) result }
     ensures again { ImportsStoreAgain N.name_of namer store.items (R.coming source) result }
 {
-    let mut repo = match open(alloc, namer, StoreBytes::Owned(store), state) {
-        Ok(repo) => repo,
-        Err(fault) => return (None, Err(CliFault::Store(fault))),
-    };
-    match import(alloc, &mut repo, source, sink) {
-        Ok(report) => (Some(repo), Ok(report)),
-        Err(fault) => (left(repo, fault.checkpoints), Err(CliFault::Import(fault))),
+    match open(alloc, namer, StoreBytes::Owned(store), state) {
+        Ok(repo) => import_opened(alloc, repo, source, sink),
+        Err(fault) => (None, Err(CliFault::Store(fault))),
+    }
+}
+
+/// Imports a stream into a repository, and answers that whose text is the next one.
+fn import_opened<N: Namer + Drop, R: Source + Drop, W: Sink, A: Allocator + Copy>(
+    alloc: A,
+    repo: Repo<N, A>,
+    source: R,
+    sink: &mut W,
+) -> (Option<Repo<N, A>>, Result<Report, CliFault>)
+    ensures imported { Publishes N.name_of W.taken repo (R.coming source) sink.old sink.new result }
+    ensures again { ImportsStoredAgain N.name_of repo.0 (Ok repo.1) (R.coming source) result }
+{
+    let mut next = repo;
+    match import(alloc, &mut next, source, sink) {
+        Ok(report) => (Some(next), Ok(report)),
+        Err(fault) => (left(next, fault.checkpoints), Err(CliFault::Import(fault))),
     }
 }
 

@@ -5,7 +5,7 @@ ghost use Rattle.gx_model.specs.Export.{export_text};
 ghost use Rattle.gx_model.specs.Streams.Gitlinks.{HoldsNoNullGitlink};
 ghost use Rattle.gx_model.specs.Records.HistoryOf.{history_of};
 ghost use Rattle.gx_export.specs.Outputs.{most};
-ghost use Rattle.gx_cli.specs.Headline.{ExportsText, ImportsAgainOr, RoundTrips};
+ghost use Rattle.gx_cli.specs.Headline.{ComesBackOr, ExportsAgain, ExportsText, ImportsAgainOr, RoundTrips};
 
 use crate::CliFault;
 use crate::growing::Growing;
@@ -54,24 +54,59 @@ pub fn round_trip<N: Namer + Copy + Drop, A: Allocator + Copy, R: Source + Drop,
 {
     replays_keep_none();
     let mut first = Repo::new(alloc, namer, state);
-    let report = match import(alloc, &mut first, source, sink) {
-        Ok(report) => report,
-        Err(fault) => return Err(CliFault::Import(fault)),
-    };
+    match import(alloc, &mut first, source, sink) {
+        Ok(report) => come_back(alloc, namer, report, first, revision, path, state),
+        Err(fault) => Err(CliFault::Import(fault)),
+    }
+}
+
+/// Looks up a file in an imported repository, and brings that back by its export.
+fn come_back<N: Namer + Copy + Drop, A: Allocator + Copy>(
+    alloc: A,
+    namer: N,
+    report: Report,
+    first: Repo<N, A>,
+    revision: &Revision<A>,
+    path: &TreePath<A>,
+    state: RandomState,
+) -> Result<RoundTrip<N, A>, CliFault>
+    requires namer { first.0 ≡ namer }
+    requires gitlinks { HoldsNoNullGitlink (history_of first.1) }
+    ensures namer { IfOk result (λ trip. trip.first.0 ≡ namer) }
+    ensures again { IfOk result (λ trip. trip.again.0 ≡ namer) }
+    ensures back { ComesBackOr (N.name_of namer) revision.now path.now report first result }
+{
     let file = look_in(alloc, &first, revision, path);
-    let text = match exported(alloc, &first) {
-        Ok(text) => text,
-        Err(fault) => return Err(fault),
-    };
-    match import_again(alloc, &first, namer, text.as_slice(), state) {
-        Ok(again) => Ok(RoundTrip {
+    match export_again(alloc, namer, &first, state) {
+        Ok((again, text)) => Ok(RoundTrip {
             report,
             first,
             file,
             text,
             again,
         }),
-        Err(_) => Err(CliFault::OutOfMemory),
+        Err(fault) => Err(fault),
+    }
+}
+
+/// The repository that the import of a repository's export into an empty store makes, and the text of the export.
+fn export_again<N: Namer + Drop, A: Allocator + Copy>(
+    alloc: A,
+    namer: N,
+    first: &Repo<N, A>,
+    state: RandomState,
+) -> Result<(Repo<N, A>, Vec<u8, A>), CliFault>
+    requires namer { first.now.0 ≡ namer }
+    requires gitlinks { HoldsNoNullGitlink (history_of first.now.1) }
+    ensures namer { IfOk result (λ made. made.0.0 ≡ namer) }
+    ensures made { ExportsAgain first.now.1 result }
+{
+    match exported(alloc, first) {
+        Ok(text) => match import_again(alloc, first, namer, text.as_slice(), state) {
+            Ok(again) => Ok((again, text)),
+            Err(_) => Err(CliFault::OutOfMemory),
+        },
+        Err(fault) => Err(fault),
     }
 }
 

@@ -1,26 +1,21 @@
 use Rattle.std.proofs.Common.{Ok, Err, refl, sym, ◌∙◌, arith}
-use Rattle.gx_cli.proofs.Progress.{Progress-none, Progress-go, Progress-body, Prints-end, Prints-cut, Prints-fault, Prints-stop, Prints-one, PrintsOne-at}
+use Rattle.gx_cli.proofs.Progress.{Progress-none, Progress-go, Progress-body, Prints-fault, Prints-last, Prints-stop, Prints-one, PrintsOne-at}
 use Rattle.gx_cli.proofs.blob_names.name_all.Goals as goal
 
 pub returns-in-Err : goal.returns-in-Err
 returns-in-Err g c =
     let read = rw c.in-Err.is at c.next.follows.holds-at-none in
-    rw c.kind_of.ensures (Prints-fault _ _ _ _ _ _ _ _ _ c.in-Err.fault c.loop-fault.invariant.progress read.0)
+    rw (c.ended.ensures, c.kind_of.ensures) (Prints-fault _ _ _ _ _ _ _ _ _ c.in-Err.fault c.loop-fault.invariant.progress read.0)
 
-pub returns-in-None : goal.returns-in-None
-returns-in-None g c =
+pub returns-in-Ok-None : goal.returns-in-Ok-None
+returns-in-Ok-None g c =
     let read = rw c.in-Ok-None.field-0-is at (rw c.in-Ok-None.is at c.next.follows.holds-at-none) in
-    Prints-end _ _ _ _ _ _ _ _ _ (sym c.in-None.ensures) c.loop-fault.invariant.progress read.0
-
-pub returns-in-Some : goal.returns-in-Some
-returns-in-Some g c =
-    let read = rw c.in-Ok-None.field-0-is at (rw c.in-Ok-None.is at c.next.follows.holds-at-none) in
-    Prints-cut _ _ _ _ _ _ _ _ _ c.in-Some.kind (sym c.in-Some.ensures) c.loop-fault.invariant.progress read.0
+    rw c.ended-in-Ok-None.ensures (Prints-last _ _ _ _ _ _ _ _ _ c.kind_at_end.result c.kind_at_end.ensures c.loop-fault.invariant.progress read.0)
 
 pub returns-in-Stop : goal.returns-in-Stop
 returns-in-Stop g c =
     let read = rw c.in-Ok-Some.field-0-is at (rw c.in-Ok-Some.is at c.next.follows.holds-at-none) in
-    (Prints-stop _ _ _ _ _ _ _ _ _ c.in-Ok-Some.item _ (sym c.in-Stop.ensures) c.loop-fault.invariant.progress read.0)
+    rw c.ended-in-Stop.ensures (Prints-stop _ _ _ _ _ _ _ _ _ c.in-Ok-Some.item _ (sym c.in-Stop.ensures) c.loop-fault.invariant.progress read.0)
 
 pub loop-fault-preserved-in-Go : goal.loop-fault-preserved-in-Go
 loop-fault-preserved-in-Go g c =
@@ -35,7 +30,7 @@ pub returns-in-Err-print_one : goal.returns-in-Err-print_one
 returns-in-Err-print_one g c =
     let read = rw c.in-Ok-Some.field-0-is at (rw c.in-Ok-Some.is at c.next.follows.holds-at-none) in
     let one = PrintsOne-at g.N.Namer.name_of _ _ c.loop-fault.store.1 c.print_one.new.store.1 (g.W.Sink.taken c.loop-fault.sink) (g.W.Sink.taken c.print_one.new.sink) c.in-Body.bytes.now (Err c.in-Err-print_one.kind) c.loop-fault.invariant.namer c.in-Err-print_one.ensures.prints in
-    (Prints-one _ _ _ _ _ _ _ _ _ c.print_one.new.store.1 _ c.in-Ok-Some.item c.in-Body.bytes.now c.in-Err-print_one.kind (sym c.in-Body.ensures) c.loop-fault.invariant.progress read.0 one)
+    rw c.ended-in-Err-print_one.ensures (Prints-one _ _ _ _ _ _ _ _ _ c.print_one.new.store.1 _ c.in-Ok-Some.item c.in-Body.bytes.now c.in-Err-print_one.kind (sym c.in-Body.ensures) c.loop-fault.invariant.progress read.0 one)
 
 pub loop-fault-preserved : goal.loop-fault-preserved
 loop-fault-preserved g c =

@@ -1,22 +1,16 @@
-use Rattle.gx_cli.proofs.StoredImports.{accepted_store, accepted_store_again, refused_store, refused_store_again}
+use Rattle.gx_model.specs.Stores.StoreReading.{store_of}
+use Rattle.gx_cli.specs.Storing.{ImportsStored, ImportsStoredAgain}
+use Rattle.gx_cli.proofs.ReadStores.{of_read}
 use Rattle.gx_cli.proofs.storing.import_store.Goals as goal
 
-pub returns-in-Err-import-clause-imported : goal.returns-in-Err-import-clause-imported
-returns-in-Err-import-clause-imported g c =
-    refused_store g.N.Namer.name_of c.args.namer c.in-Ok.repo c.import.new.repo c.args.store.items c.in-Ok.ensures.namer c.import.ensures.namer c.in-Ok.ensures.store c.import.ensures.sound c.in-Err-import.fault c.left.result c.left.ensures
-    (g.R.Source.coming c.args.source) (g.W.Sink.taken c.args.sink.now) (g.W.Sink.taken c.import.new.sink) c.in-Err-import.ensures.replayed c.import.ensures.gitlinks
+pub returns-in-Ok-clause-imported : goal.returns-in-Ok-clause-imported
+returns-in-Ok-clause-imported g c =
+    of_read c.args.namer c.in-Ok.repo (store_of (g.N.Namer.name_of c.args.namer) c.args.store.items)
+    (λ namer stored. ImportsStored g.N.Namer.name_of namer stored (g.R.Source.coming c.args.source) (g.W.Sink.taken c.args.sink.now) (g.W.Sink.taken c.import_opened.new.sink) c.import_opened.result)
+    c.in-Ok.ensures.namer c.in-Ok.ensures.store c.import_opened.ensures.imported
 
-pub returns-in-Err-import-clause-again : goal.returns-in-Err-import-clause-again
-returns-in-Err-import-clause-again g c =
-    refused_store_again g.N.Namer.name_of c.args.namer c.in-Ok.repo c.import.new.repo c.args.store.items c.in-Ok.ensures.namer c.import.ensures.namer c.in-Ok.ensures.store c.import.ensures.sound c.in-Err-import.fault c.left.result c.left.ensures
-    (g.R.Source.coming c.args.source) c.in-Err-import.ensures.exported
-
-pub returns-in-Ok-import-clause-imported : goal.returns-in-Ok-import-clause-imported
-returns-in-Ok-import-clause-imported g c =
-    accepted_store g.N.Namer.name_of c.args.namer c.in-Ok.repo c.import.new.repo c.args.store.items c.in-Ok.ensures.namer c.import.ensures.namer c.in-Ok.ensures.store c.import.ensures.sound c.in-Ok-import.report
-    (g.R.Source.coming c.args.source) (g.W.Sink.taken c.args.sink.now) (g.W.Sink.taken c.import.new.sink) c.in-Ok-import.ensures.replayed c.import.ensures.gitlinks
-
-pub returns-in-Ok-import-clause-again : goal.returns-in-Ok-import-clause-again
-returns-in-Ok-import-clause-again g c =
-    accepted_store_again g.N.Namer.name_of c.args.namer c.in-Ok.repo c.import.new.repo c.args.store.items c.in-Ok.ensures.namer c.import.ensures.namer c.in-Ok.ensures.store c.import.ensures.sound c.in-Ok-import.report
-    (g.R.Source.coming c.args.source) c.in-Ok-import.ensures.exported
+pub returns-in-Ok-clause-again : goal.returns-in-Ok-clause-again
+returns-in-Ok-clause-again g c =
+    of_read c.args.namer c.in-Ok.repo (store_of (g.N.Namer.name_of c.args.namer) c.args.store.items)
+    (λ namer stored. ImportsStoredAgain g.N.Namer.name_of namer stored (g.R.Source.coming c.args.source) c.import_opened.result)
+    c.in-Ok.ensures.namer c.in-Ok.ensures.store c.import_opened.ensures.again

@@ -1,10 +1,10 @@
-use Rattle.std.proofs.Common.{◌≡◌, ◌++◌, [], ◌∷◌, ◌+◌, ap, drop, map, not, refl, subst, sym, ◌∙◌}
+use Rattle.std.proofs.Common.{◌≡◌, ◌++◌, [], ◌∷◌, ◌+◌, ap, drop, map, refl, subst, sym, ◌∙◌}
 use Rattle.std.proofs.lemmas.List.{drop_all, drop_more, map-append}
 use Rattle.gx_model.specs.Revisions.{range_of}
 use Rattle.gx_rev.specs.Views.{shown_range}
 use Rattle.gx_cli.specs.Stored.{all_words, texts_of}
 use Rattle.gx_cli.proofs.ReadWords.{AreRead, all_read, next_read, word_refused}
-use Rattle.gx_cli.proofs.log.read_ranges.Goals as goal
+use Rattle.gx_cli.proofs.log.read_into.Goals as goal
 
 pub returns-in-Err : goal.returns-in-Err
 returns-in-Err g c =
@@ -24,8 +24,7 @@ loop-place-preserved g c =
     let left = texts_of (drop (i + 1) words) in
     let next = ap texts_of (drop_more words i (record { ref_ptr = (0, 0); now = [] }) c.loop-place-test.true) ∙ ap (λ x. x ∷ left) (sym c.as_bytes.ensures.value) in
     let read = subst (λ ts. AreRead range_of (texts_of words) ts i done) next c.loop-place.invariant in
-    let ok = c.is_err.ensures.negation ∙ ap not c.if-is_err.false in
-    let pushed : c.push.new.self.items ≡ c.loop-place.ranges.items ++ c.in-Ok.range ∷ [] = rw ok at c.push.ensures.items in
+    let pushed : c.push.new.self.items ≡ c.loop-place.ranges.items ++ c.in-Ok.range ∷ [] = c.in_ok-push-in-Ok.ensures.items in
     subst (AreRead range_of (texts_of words) left (i + 1)) (sym (ap (map shown_range) pushed ∙ map-append shown_range c.loop-place.ranges.items (c.in-Ok.range ∷ [])))
     (next_read range_of (texts_of words) left c.as_bytes.result.now i done (shown_range c.in-Ok.range) c.in-Ok.ensures read)
 

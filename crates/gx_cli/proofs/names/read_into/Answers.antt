@@ -4,7 +4,7 @@ use Rattle.gx_model.specs.Revisions.{revision_of}
 use Rattle.gx_cli.specs.Stored.{all_words, texts_of}
 use Rattle.gx_cli.proofs.Pieces.{rest_from}
 use Rattle.gx_cli.proofs.ReadWords.{AreRead, all_read, next_read, word_refused}
-use Rattle.gx_cli.proofs.names.read_all.Goals as goal
+use Rattle.gx_cli.proofs.names.read_into.Goals as goal
 
 pub loop-place-preserved : goal.loop-place-preserved
 loop-place-preserved g c =

@@ -4,7 +4,7 @@ use Rattle.gx_model.specs.Revisions.Denotation.{denoted}
 use Rattle.gx_model.specs.Records.HistoryOf.{history_of}
 use Rattle.gx_rev.specs.Answers.{IsNamed, shown_by}
 use Rattle.gx_cli.proofs.ReadWords.{AreRead}
-use Rattle.gx_cli.proofs.names.eval_all.Given as goal
+use Rattle.gx_cli.proofs.names.eval_into.Given as goal
 
 abbrev pub invariant-loop-place : goal.invariant-loop-place
 invariant-loop-place g l = record {

@@ -45,14 +45,13 @@ use Rattle.gx_cli.specs.Listings.{shown_text, text_of_word, tree_lines, value_te
 use Rattle.gx_cli.specs.Printing.{PrintsBlobs, PrintsOne}
 use Rattle.gx_cli.specs.Sending.{PrintsText}
 use Rattle.gx_cli.specs.Opening.{bytes_of}
-use Rattle.gx_cli.specs.Serving.{ImportsIntoStored, PrintsStored, ServesOfStream, blobs_answer, printed_by}
+use Rattle.gx_cli.specs.Serving.{ImportsIntoStored, PrintsStored, blobs_answer, printed_by}
 use Rattle.gx_cli.specs.Stored.{all_words, commits_listed, file_line, files_of_word, line_of_ref, list_lines, list_text, log_line, log_text, names_text, of_stored, show_text, texts_of}
 use Rattle.gx_cli.specs.Storing.{Answer, ImportsStored}
 use Rattle.gx_cli.specs.Trying.{Shows, Tries}
 use Rattle.gx_cli.specs.Words.{GivesWords}
 use Rattle.gx_cli.specs.declared.blob_names.BlobsFault.{BlobsFault}
 use Rattle.gx_cli.specs.declared.blob_names.BlobsKind.{BlobsKind}
-use Rattle.gx_cli.specs.declared.command_line.Line.{Line}
 use Rattle.gx_cli.specs.declared.command_line.LogOptions.{LogOptions}
 use Rattle.gx_cli.specs.declared.fault.CliFault.{CliFault}
 use Rattle.gx_cli.specs.declared.opening.StoreBytes.{StoreBytes}
@@ -166,10 +165,6 @@ module _ {N W : Type 0} (name_of : N → Kind → Bytes → Bytes) (taken : W �
   -- once a stream was imported into an empty store, a word is shown as a revision
   abbrev pub TriesWord : N → Option Coming → Bytes → W → W → Result (Unit {0}) CliFault → Type 0
   TriesWord namer coming word old new result = Tries (name_of namer) coming word (taken old) (taken new) result
-
-  -- what a command does that reads a stream and keeps nothing
-  abbrev pub Runs : {A : Type 0} → N → Line → Option Coming → W → W → Outcome A → Type 0
-  Runs namer line coming old new o = ServesOfStream (name_of namer) line coming (taken old) (taken new) o
 
   -- what a question prints of a repository goes out, or a refusal is answered
   abbrev pub PrintsOf : Question → N × Records → W → W → Result (Unit {0}) CliFault → Type 0

@@ -1,6 +1,5 @@
 -- How the commands end.
-use Rattle.std.specs.Prelude.{◌≡◌, ◌⊎◌, ⊤, ℕ, zero, suc, Bool, List, [], Option, Some, None, Result, Ok, Err}
-use Rattle.std.specs.Borrow.{Bor}
+use Rattle.std.specs.Prelude.{◌≡◌, ◌⊎◌, ℕ, zero, suc, Bool, [], Option, Some, None, Result, Ok, Err}
 use Rattle.std.specs.Option.{option_map}
 use Rattle.std.specs.declared.vec.Vec.{Vec}
 use Rattle.gx_model.specs.declared.objects.Kind.{Kind}
@@ -107,32 +106,6 @@ printed_by name question.Refs r = Ok (refs_text r)
 printed_by name (question.Log options words) r = log_text name options (history_of r) (texts_of words.now)
 printed_by name (question.Names words) r = names_text name (history_of r) (texts_of words.now)
 
--- a command that reads a stream and keeps nothing
-abbrev pub IsOfStream : Line → Type 0
-IsOfStream line.Blobs = ⊤
-IsOfStream (line.Try word) = ⊤
-IsOfStream line.Adapt = ⊤
-IsOfStream (line.Where command) = ⊤
-IsOfStream given = ⊥
-
--- a command that asks a question of a store
-abbrev pub IsQuestion : Line → Type 0
-IsQuestion (line.Show file word) = ⊤
-IsQuestion (line.Ls recursive file word) = ⊤
-IsQuestion (line.Refs file) = ⊤
-IsQuestion (line.Log options file words) = ⊤
-IsQuestion (line.RevParse file words) = ⊤
-IsQuestion given = ⊥
-
--- the question that it asks
-abbrev pub Asks : Line → Question → Type 0
-Asks (line.Show file word) asked = asked ≡ question.Show word
-Asks (line.Ls recursive file word) asked = asked ≡ question.List recursive word
-Asks (line.Refs file) asked = asked ≡ question.Refs
-Asks (line.Log options file words) asked = (given : Bor (List (Bor Bytes))) × (asked ≡ question.Log options given) × (given.now ≡ words.items)
-Asks (line.RevParse file words) asked = (given : Bor (List (Bor Bytes))) × (asked ≡ question.Names given) × (given.now ≡ words.items)
-Asks line asked = ⊥
-
 -- what is printed of a store, and how the command ends
 abbrev pub PrintsStored : {A : Type 0} → Stored Records → (Records → Printed) → Option Taken → Option Taken → Outcome A → Type 0
 PrintsStored stored given was now o = (answer : Result (Unit {0}) CliFault) × Prints (of_stored stored given) was now answer × IsOutcome answer o
@@ -170,20 +143,12 @@ module _ (name : Kind → Bytes → Bytes) {A : Type 0} where
   abbrev pub AnswersLines : Bool → Bytes → Option Coming → Option Taken → Option Taken → Outcome A → Type 0
   AnswersLines check text coming was now o = BatchesStored check (store_of name text) coming was now o
 
-  -- what a command does to the sink that reads a stream and keeps nothing, and how it ends
-  abbrev pub ServesOfStream : Line → Option Coming → Option Taken → Option Taken → Outcome A → Type 0
-  ServesOfStream line.Blobs coming was now o = (answer : Result ℕ BlobsFault) × PrintsBlobs name (option_map items_from coming) was now answer × IsOutcome (blobs_answer answer) o
-  ServesOfStream (line.Try word) coming was now o = (answer : Result (Unit {0}) CliFault) × Tries name coming word.now was now answer × IsOutcome answer o
-  ServesOfStream line.Adapt coming was now o = (answer : Result AdaptReport CliFault) × AdaptsStream coming was now answer × IsOutcome answer o
-  ServesOfStream (line.Where command) coming was now o = (answer : Result (Unit {0}) CliFault) × PlacesFrom command coming was now answer × IsOutcome answer o
-  ServesOfStream given coming was now o = ⊥
-
   -- what a command does to the sink, and how it ends
   abbrev pub Serves : Line → Bytes → Option Coming → Option Taken → Option Taken → Outcome A → Type 0
-  Serves line.Blobs store coming was now o = ServesOfStream line.Blobs coming was now o
-  Serves (line.Try word) store coming was now o = ServesOfStream (line.Try word) coming was now o
-  Serves line.Adapt store coming was now o = ServesOfStream line.Adapt coming was now o
-  Serves (line.Where command) store coming was now o = ServesOfStream (line.Where command) coming was now o
+  Serves line.Blobs store coming was now o = (answer : Result ℕ BlobsFault) × PrintsBlobs name (option_map items_from coming) was now answer × IsOutcome (blobs_answer answer) o
+  Serves (line.Try word) store coming was now o = (answer : Result (Unit {0}) CliFault) × Tries name coming word.now was now answer × IsOutcome answer o
+  Serves line.Adapt store coming was now o = (answer : Result AdaptReport CliFault) × AdaptsStream coming was now answer × IsOutcome answer o
+  Serves (line.Where command) store coming was now o = (answer : Result (Unit {0}) CliFault) × PlacesFrom command coming was now answer × IsOutcome answer o
   Serves (line.Batch check file) store coming was now o = AnswersLines check store coming was now o
   Serves (line.Init file) store coming was now o = IsWritten name nothing o × (now ≡ was)
   Serves (line.Import file) store coming was now o = (told : Option Report) × ImportsInto store coming was now (o, told)

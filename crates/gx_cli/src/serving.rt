@@ -2,8 +2,8 @@
 
 ghost use Rattle.gx_cli.specs.Again.{ServesExported};
 ghost use Rattle.gx_cli.specs.Opening.{bytes_of};
-ghost use Rattle.gx_cli.specs.Parts.{AnswersBlobs, AsksStore, Runs};
-ghost use Rattle.gx_cli.specs.Serving.{Asks, IsOfStream, IsOutcome, IsQuestion, IsRefused, Serves};
+ghost use Rattle.gx_cli.specs.Parts.{AnswersBlobs, AsksStore};
+ghost use Rattle.gx_cli.specs.Serving.{IsOutcome, IsRefused, Serves};
 
 use crate::adapting::adapt_stream;
 use crate::batching::batch_stored;
@@ -89,39 +89,6 @@ fn serve_bytes<N: Namer + Drop, R: Source + Drop, W: Sink, A: Allocator + Copy>(
     ensures again { ServesExported (N.name_of namer) line.now (bytes_of store.entry) (R.coming source) result }
 {
     match line {
-        Line::Blobs | Line::Try(_) | Line::Adapt | Line::Where(_) => {
-            serve_stream(alloc, namer, line, source, sink, state)
-        }
-        Line::Init { file: _ } => init(alloc, namer, state),
-        Line::Import { file: _ } => {
-            let (outcome, _) = import_stored(alloc, namer, store, source, sink, state);
-            outcome
-        }
-        Line::Batch { check, file: _ } => {
-            batch_stored(alloc, namer, *check, store, source, sink, state)
-        }
-        Line::Export { file: _ } => export_stored(alloc, namer, store, sink, state),
-        Line::Show { .. }
-        | Line::Ls { .. }
-        | Line::Refs { .. }
-        | Line::Log { .. }
-        | Line::RevParse { .. } => ask(alloc, namer, question_of(line), store, sink, state),
-    }
-}
-
-/// Runs a command that reads a stream and keeps nothing.
-fn serve_stream<N: Namer + Drop, R: Source + Drop, W: Sink, A: Allocator + Copy>(
-    alloc: A,
-    namer: N,
-    line: &Line<'_>,
-    source: R,
-    sink: &mut W,
-    state: RandomState,
-) -> Outcome<A>
-    requires { IsOfStream line.now }
-    ensures { Runs N.name_of W.taken namer line.now (R.coming source) sink.old sink.new result }
-{
-    match line {
         Line::Blobs => outcome_of(blobs_alone(alloc, namer, source, sink, state)),
         Line::Try(revision) => outcome_of(try_revision(
             alloc,
@@ -133,30 +100,39 @@ fn serve_stream<N: Namer + Drop, R: Source + Drop, W: Sink, A: Allocator + Copy>
         )),
         Line::Adapt => outcome_of(adapt_stream(alloc, source, sink)),
         Line::Where(command) => outcome_of(print_place(alloc, *command, source, sink)),
-        _ => unreachable!(),
-    }
-}
-
-/// The question that a command asks of a store.
-fn question_of<'a>(line: &'a Line<'a>) -> Question<'a>
-    requires { IsQuestion line.now }
-    ensures { Asks line.now result }
-{
-    match line {
-        Line::Show { file: _, revision } => Question::Show(revision),
+        Line::Init { file: _ } => init(alloc, namer, state),
+        Line::Import { file: _ } => {
+            let (outcome, _) = import_stored(alloc, namer, store, source, sink, state);
+            outcome
+        }
+        Line::Batch { check, file: _ } => {
+            batch_stored(alloc, namer, *check, store, source, sink, state)
+        }
+        Line::Export { file: _ } => export_stored(alloc, namer, store, sink, state),
+        Line::Show { file: _, revision } => {
+            ask(alloc, namer, Question::Show(revision), store, sink, state)
+        }
         Line::Ls {
             recursive,
             file: _,
             revision,
-        } => Question::List(*recursive, revision),
-        Line::Refs { file: _ } => Question::Refs,
+        } => {
+            let question = Question::List(*recursive, revision);
+            ask(alloc, namer, question, store, sink, state)
+        }
+        Line::Refs { file: _ } => ask(alloc, namer, Question::Refs, store, sink, state),
         Line::Log {
             options,
             file: _,
             ranges,
-        } => Question::Log(*options, ranges.as_slice()),
-        Line::RevParse { file: _, revisions } => Question::Names(revisions.as_slice()),
-        _ => unreachable!(),
+        } => {
+            let question = Question::Log(*options, ranges.as_slice());
+            ask(alloc, namer, question, store, sink, state)
+        }
+        Line::RevParse { file: _, revisions } => {
+            let question = Question::Names(revisions.as_slice());
+            ask(alloc, namer, question, store, sink, state)
+        }
     }
 }
 

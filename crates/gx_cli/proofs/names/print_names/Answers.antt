@@ -1,4 +1,4 @@
-use Rattle.std.proofs.Common.{Ok, Err, ap, map, subst, sym, ◌∙◌}
+use Rattle.std.proofs.Common.{Ok, Err, ap, subst, sym, ◌∙◌}
 use Rattle.std.specs.List.{flat_map}
 use Rattle.std.proofs.lemmas.Result.{err_from_is_err_and}
 use Rattle.gx_model.specs.Faults.{and_then}

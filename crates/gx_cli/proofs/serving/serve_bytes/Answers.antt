@@ -1,15 +1,40 @@
+use Rattle.std.proofs.Common.{subst, sym}
+use Rattle.gx_model.specs.Records.HistoryOf.{history_of}
+use Rattle.gx_model.specs.Stores.StoreReading.{store_of}
 use Rattle.gx_cli.specs.Opening.{bytes_of}
-use Rattle.gx_cli.proofs.ServedLines.{import_served, question_served, stream_served}
+use Rattle.gx_cli.specs.Serving.{PrintsStored, Serves}
+use Rattle.gx_cli.specs.Stored.{log_text, names_text, texts_of}
+use Rattle.gx_cli.proofs.ServedLines.{import_served}
 use Rattle.gx_cli.proofs.serving.serve_bytes.Goals as goal
 
 pub returns-in-Import-clause-served : goal.returns-in-Import-clause-served
 returns-in-Import-clause-served g c =
     import_served (g.N.Namer.name_of c.args.namer) c.args.line.now c.in-Import.file (bytes_of c.args.store) (g.R.Source.coming c.args.source) (g.W.Sink.taken c.args.sink.now) (g.W.Sink.taken c.import_stored-outcome.new.sink) c.import_stored-outcome.result c.in-Import.is c.import_stored-outcome.ensures.imported
 
-pub returns-in-Blobs-clause-served : goal.returns-in-Blobs-clause-served
-returns-in-Blobs-clause-served g c =
-    stream_served (g.N.Namer.name_of c.args.namer) c.args.line.now (bytes_of c.args.store) (g.R.Source.coming c.args.source) (g.W.Sink.taken c.args.sink.now) (g.W.Sink.taken c.serve_stream.new.sink) c.serve_stream.result c.serve_stream.ensures
-
 pub returns-in-Show-clause-served : goal.returns-in-Show-clause-served
 returns-in-Show-clause-served g c =
-    question_served (g.N.Namer.name_of c.args.namer) c.args.line.now c.question_of.result (bytes_of c.args.store) (g.R.Source.coming c.args.source) (g.W.Sink.taken c.args.sink.now) (g.W.Sink.taken c.ask.new.sink) c.ask.result c.question_of.ensures c.ask.ensures
+    subst (λ l. Serves (g.N.Namer.name_of c.args.namer) l (bytes_of c.args.store) (g.R.Source.coming c.args.source) (g.W.Sink.taken c.args.sink.now) (g.W.Sink.taken c.ask.new.sink) c.ask.result) (sym c.in-Show.is) c.ask.ensures
+
+pub returns-in-Ls-clause-served : goal.returns-in-Ls-clause-served
+returns-in-Ls-clause-served g c =
+    subst (λ l. Serves (g.N.Namer.name_of c.args.namer) l (bytes_of c.args.store) (g.R.Source.coming c.args.source) (g.W.Sink.taken c.args.sink.now) (g.W.Sink.taken c.ask-in-Ls.new.sink) c.ask-in-Ls.result) (sym c.in-Ls.is) c.ask-in-Ls.ensures
+
+pub returns-in-Refs-clause-served : goal.returns-in-Refs-clause-served
+returns-in-Refs-clause-served g c =
+    subst (λ l. Serves (g.N.Namer.name_of c.args.namer) l (bytes_of c.args.store) (g.R.Source.coming c.args.source) (g.W.Sink.taken c.args.sink.now) (g.W.Sink.taken c.ask-in-Refs.new.sink) c.ask-in-Refs.result) (sym c.in-Refs.is) c.ask-in-Refs.ensures
+
+pub returns-in-Log-clause-served : goal.returns-in-Log-clause-served
+returns-in-Log-clause-served g c =
+    let name = g.N.Namer.name_of c.args.namer in
+    let was = g.W.Sink.taken c.args.sink.now in
+    let now = g.W.Sink.taken c.ask-in-Log.new.sink in
+    let asked = subst (λ words. PrintsStored (store_of name (bytes_of c.args.store)) (λ r. log_text name c.in-Log.options (history_of r) (texts_of words)) was now c.ask-in-Log.result) c.as_slice.ensures.value c.ask-in-Log.ensures in
+    subst (λ l. Serves name l (bytes_of c.args.store) (g.R.Source.coming c.args.source) was now c.ask-in-Log.result) (sym c.in-Log.is) asked
+
+pub returns-in-RevParse-clause-served : goal.returns-in-RevParse-clause-served
+returns-in-RevParse-clause-served g c =
+    let name = g.N.Namer.name_of c.args.namer in
+    let was = g.W.Sink.taken c.args.sink.now in
+    let now = g.W.Sink.taken c.ask-in-RevParse.new.sink in
+    let asked = subst (λ words. PrintsStored (store_of name (bytes_of c.args.store)) (λ r. names_text name (history_of r) (texts_of words)) was now c.ask-in-RevParse.result) c.as_slice-in-RevParse.ensures.value c.ask-in-RevParse.ensures in
+    subst (λ l. Serves name l (bytes_of c.args.store) (g.R.Source.coming c.args.source) was now c.ask-in-RevParse.result) (sym c.in-RevParse.is) asked

@@ -4,7 +4,7 @@ ghost use Rattle.std.specs.Prelude.{◌<◌};
 
 use gx_command::{Command, CommandFault, CommandReader};
 use gx_text::Bytes;
-use std::alloc::{AllocError, Allocator};
+use std::alloc::{AllocError, Allocator, Global};
 use std::test::Fail;
 
 mod parents;
@@ -25,12 +25,18 @@ type Answer = (u16, End);
 /// A stream, how many commands come, and what is after them.
 type Row<'a> = (&'a [u8], u16, End);
 
-/// These parts, one after the other.
-fn joined<A: Allocator + Copy>(alloc: A, parts: &[&[u8]]) -> Result<Vec<u8, A>, AllocError> {
-    let mut text = Vec::new(alloc);
+/// Appends these parts, one after the other.
+fn append(text: &mut Vec<u8>, parts: &[&[u8]]) -> Result<(), AllocError> {
     for part in parts {
         text.extend_from_slice(part)?;
     }
+    Ok(())
+}
+
+/// These parts, one after the other.
+fn joined(alloc: Global, parts: &[&[u8]]) -> Result<Vec<u8>, AllocError> {
+    let mut text = Vec::new(alloc);
+    append(&mut text, parts)?;
     Ok(text)
 }
 
@@ -81,18 +87,12 @@ fn answer<A: Allocator + Copy>(reader: &mut CommandReader<Bytes<'_>, A>) -> Answ
 }
 
 /// Whether no command comes but this end, twice.
-fn is_kept<A: Allocator + Copy>(reader: &mut CommandReader<Bytes<'_>, A>, end: End) -> bool {
+fn is_kept(reader: &mut CommandReader<Bytes<'_>, Global>, end: End) -> bool {
     answer(reader) == (0, end) && answer(reader) == (0, end)
 }
 
 /// Whether this comes of a text in pieces of this size, and then its end twice more.
-fn is_answered<A: Allocator + Copy>(
-    alloc: A,
-    text: &[u8],
-    piece: usize,
-    fails: bool,
-    wanted: Answer,
-) -> bool
+fn is_answered(alloc: Global, text: &[u8], piece: usize, fails: bool, wanted: Answer) -> bool
     requires { 0 < piece }
 {
     let mut reader = reader_of(alloc, text, piece, fails);
@@ -102,12 +102,7 @@ fn is_answered<A: Allocator + Copy>(
 }
 
 /// Whether this comes of a text, whole and in small pieces, and its end is repeated.
-fn is_answered_in_pieces<A: Allocator + Copy>(
-    alloc: A,
-    text: &[u8],
-    fails: bool,
-    wanted: Answer,
-) -> bool {
+fn is_answered_in_pieces(alloc: Global, text: &[u8], fails: bool, wanted: Answer) -> bool {
     for piece in 1..6usize {
         if !is_answered(alloc, text, piece, fails, wanted) {
             return false;
@@ -117,7 +112,7 @@ fn is_answered_in_pieces<A: Allocator + Copy>(
 }
 
 /// Whether a row's answer comes of its stream behind this front.
-fn is_right<A: Allocator + Copy>(alloc: A, front: &[u8], row: Row, fails: bool) -> bool {
+fn is_right(alloc: Global, front: &[u8], row: Row, fails: bool) -> bool {
     let (tail, count, end) = row;
     match joined(alloc, &[front, tail]) {
         Ok(text) => is_answered_in_pieces(alloc, &text, fails, (count, end)),
@@ -125,19 +120,27 @@ fn is_right<A: Allocator + Copy>(alloc: A, front: &[u8], row: Row, fails: bool) 
     }
 }
 
-/// A failure at the first row of which, behind this front, something else comes.
-fn check_rows<A: Allocator + Copy>(
-    alloc: A,
-    front: &[u8],
-    rows: &[Row],
-    fails: bool,
-) -> Result<(), Fail> {
+/// The first row of which, behind this front, something else comes.
+fn wrong_row(alloc: Global, front: &[u8], rows: &[Row], fails: bool) -> Option<usize> {
     for (place, row) in rows.iter().enumerate() {
         if !is_right(alloc, front, *row, fails) {
-            return Err(Fail::new(format_args!("row {place}")));
+            return Some(place);
         }
     }
-    Ok(())
+    None
+}
+
+/// A failure that names the first place at which something else comes.
+fn all_right(wrong: Option<usize>) -> Result<(), Fail> {
+    match wrong {
+        None => Ok(()),
+        Some(place) => Err(Fail::new(format_args!("at {place}"))),
+    }
+}
+
+/// A failure at the first row of which, behind this front, something else comes.
+fn check_rows(alloc: Global, front: &[u8], rows: &[Row], fails: bool) -> Result<(), Fail> {
+    all_right(wrong_row(alloc, front, rows, fails))
 }
 
 #[test]
@@ -181,17 +184,24 @@ fn failed_read_is_no_end(rt: HostRuntime) -> Result<(), Fail> {
     check_rows(rt.alloc(), b"", FAILED, true)
 }
 
-/// A commit that modifies a path of this length.
-fn with_path<A: Allocator + Copy>(alloc: A, len: usize) -> Result<Vec<u8, A>, AllocError> {
-    let mut text = joined(alloc, &[HEAD, b"M 100644 :1 "])?;
+/// Appends a commit that modifies a path of this length.
+fn append_path(text: &mut Vec<u8>, len: usize) -> Result<(), AllocError> {
+    append(text, &[HEAD, b"M 100644 :1 "])?;
     for _ in 0..len {
         text.push(b'a')?;
     }
+    Ok(())
+}
+
+/// A commit that modifies a path of this length.
+fn with_path(alloc: Global, len: usize) -> Result<Vec<u8>, AllocError> {
+    let mut text = Vec::new(alloc);
+    append_path(&mut text, len)?;
     Ok(text)
 }
 
 /// Whether this comes of a commit that modifies a path of this length.
-fn is_path_answered<A: Allocator + Copy>(alloc: A, len: usize, wanted: Answer) -> bool {
+fn is_path_answered(alloc: Global, len: usize, wanted: Answer) -> bool {
     match with_path(alloc, len) {
         Ok(text) => is_answered(alloc, &text, 4096, false, wanted),
         Err(_) => false,
@@ -200,7 +210,7 @@ fn is_path_answered<A: Allocator + Copy>(alloc: A, len: usize, wanted: Answer) -
 
 #[test]
 fn paths_have_at_most_4095_bytes(rt: HostRuntime) {
-    let too_long = Some(CommandFault::PathTooLong);
-    assert!(rt; is_path_answered(rt.alloc(), 4095, (1, None)));
-    assert!(rt; is_path_answered(rt.alloc(), 4096, (0, too_long)));
+    let is_read = is_path_answered(rt.alloc(), 4095, (1, None));
+    let too_long = (0, Some(CommandFault::PathTooLong));
+    assert!(rt; is_read && is_path_answered(rt.alloc(), 4096, too_long));
 }

@@ -4,7 +4,7 @@ ghost use Rattle.std.specs.Prelude.{◌<◌};
 
 use gx_stream::{Item, ItemReader, StreamFault};
 use gx_text::{Bytes, Source};
-use std::alloc::{AllocError, Allocator};
+use std::alloc::{AllocError, Allocator, Global};
 
 mod failures;
 mod pulls;
@@ -31,7 +31,7 @@ fn name_of(fault: StreamFault) -> &'static [u8] {
 }
 
 /// Appends an item: a line in brackets, data in angles.
-fn append_item<A: Allocator>(spelled: &mut Vec<u8, A>, item: Item<'_>) -> Result<(), AllocError> {
+fn append_item(spelled: &mut Vec<u8>, item: Item<'_>) -> Result<(), AllocError> {
     let (opening, bytes, closing) = match item {
         Item::Line(line) => (b'[', line, b']'),
         Item::Data(bytes) => (b'<', bytes, b'>'),
@@ -43,8 +43,8 @@ fn append_item<A: Allocator>(spelled: &mut Vec<u8, A>, item: Item<'_>) -> Result
 }
 
 /// Appends the next item, or a dot at the end, or the fault's name. Answers whether it was an item.
-fn append_next<R: Source, A: Allocator + Copy, B: Allocator>(
-    spelled: &mut Vec<u8, B>,
+fn append_next<R: Source, A: Allocator + Copy>(
+    spelled: &mut Vec<u8>,
     reader: &mut ItemReader<R, A>,
 ) -> Result<bool, AllocError> {
     let end = match reader.next() {
@@ -59,23 +59,32 @@ fn append_next<R: Source, A: Allocator + Copy, B: Allocator>(
     Ok(false)
 }
 
-/// The items up to the end or a fault.
-fn spell<R: Source, A: Allocator + Copy, B: Allocator + Copy>(
-    alloc: B,
+/// Appends the items up to the end or a fault.
+fn append_all<R: Source, A: Allocator + Copy>(
+    spelled: &mut Vec<u8>,
     reader: &mut ItemReader<R, A>,
-) -> Result<Vec<u8, B>, AllocError> {
-    let mut spelled = Vec::new(alloc);
+) -> Result<(), AllocError> {
     for _ in 0..100u8 {
-        if !append_next(&mut spelled, reader)? {
+        if !append_next(spelled, reader)? {
             break;
         }
     }
+    Ok(())
+}
+
+/// The items up to the end or a fault.
+fn spell<R: Source, A: Allocator + Copy>(
+    alloc: Global,
+    reader: &mut ItemReader<R, A>,
+) -> Result<Vec<u8>, AllocError> {
+    let mut spelled = Vec::new(alloc);
+    append_all(&mut spelled, reader)?;
     Ok(spelled)
 }
 
 /// Whether a reader gives these items up to the end or a fault.
-fn is_spelled<R: Source, A: Allocator + Copy, B: Allocator + Copy>(
-    alloc: B,
+fn is_spelled<R: Source, A: Allocator + Copy>(
+    alloc: Global,
     reader: &mut ItemReader<R, A>,
     items: &[u8],
 ) -> bool {
@@ -86,8 +95,8 @@ fn is_spelled<R: Source, A: Allocator + Copy, B: Allocator + Copy>(
 }
 
 /// Whether a reader that is over answers so, three times.
-fn stays<R: Source, A: Allocator + Copy, B: Allocator + Copy>(
-    alloc: B,
+fn stays<R: Source, A: Allocator + Copy>(
+    alloc: Global,
     reader: &mut ItemReader<R, A>,
     end: &[u8],
 ) -> bool {
@@ -100,7 +109,7 @@ fn stays<R: Source, A: Allocator + Copy, B: Allocator + Copy>(
 }
 
 /// Whether a text in pieces of this size, behind which the source fails or ends, gives these items.
-fn is_read<A: Allocator + Copy>(alloc: A, row: Row, piece: usize, fails: bool) -> bool
+fn is_read(alloc: Global, row: Row, piece: usize, fails: bool) -> bool
     requires { 0 < piece }
 {
     let (text, items) = row;
@@ -123,7 +132,7 @@ fn pieces_make_no_difference(rt: HostRuntime) {
 }
 
 /// Whether the end or fault of a text is given again and again.
-fn is_end_kept<A: Allocator + Copy>(alloc: A, row: Row) -> bool {
+fn is_end_kept(alloc: Global, row: Row) -> bool {
     let (text, end) = row;
     let mut reader = ItemReader::new(alloc, Bytes::new(text, 1, false));
     spell(alloc, &mut reader).is_ok() && stays(alloc, &mut reader, end)

@@ -2,7 +2,7 @@
 
 ghost use Rattle.std.specs.Prelude.{◌<◌};
 
-use super::{End, answer, end_in, next, reader_of};
+use super::{End, all_right, answer, end_in, next, reader_of};
 use gx_command::{
     Blob, Change, Command, CommandFault, CommandReader, Commit, CommitIsh, DataRef, Feature,
     Modify, Reset, Tag,
@@ -10,7 +10,8 @@ use gx_command::{
 use gx_model::Mode;
 use gx_refusing::Refusing;
 use gx_text::{Bytes, TreePath};
-use std::alloc::Allocator;
+use std::alloc::Global;
+use std::test::Fail;
 
 const STREAM: &[u8] = b"\
 feature done\n\
@@ -80,6 +81,9 @@ M 160000 D670460B4B4AECE5915CAF5C68D12F560A9FE3E4 [sub] D [d/e] C [f g] [h i] R 
 reset refs/heads/b from refs/heads/a^0;reset refs/heads/c;tag v1 :5 from :2 tagger(<c@x> 3 +0) <one>;tag v2 from x <>;\
 commit c committer(B <b@x> 4 +0000) <m>;done;.";
 
+/// A heap that may be told to refuse a growth.
+type Heap = Refusing<Global>;
+
 /// How much of that text commands spell, and whether they spell nothing else.
 #[derive(Clone, Copy)]
 struct Spelling {
@@ -120,11 +124,11 @@ impl Spelling {
         }
     }
 
-    fn put_path<A: Allocator + Copy>(&mut self, path: &TreePath<A>) {
+    fn put_path(&mut self, path: &TreePath<&Heap>) {
         self.put_between(b" [", path.joined(), b"]");
     }
 
-    fn put_commit_ish<A: Allocator>(&mut self, word: &[u8], commit: &CommitIsh<A>) {
+    fn put_commit_ish(&mut self, word: &[u8], commit: &CommitIsh<&Heap>) {
         self.put(word);
         match commit {
             CommitIsh::Mark(mark) => self.put_mark(*mark),
@@ -132,13 +136,13 @@ impl Spelling {
         }
     }
 
-    fn put_blob<A: Allocator>(&mut self, blob: &Blob<A>) {
+    fn put_blob(&mut self, blob: &Blob<&Heap>) {
         self.put(b"blob");
         self.put_any_mark(blob.mark);
         self.put_between(b" <", &blob.bytes, b">");
     }
 
-    fn put_commit<A: Allocator + Copy>(&mut self, commit: &Commit<A>) {
+    fn put_commit(&mut self, commit: &Commit<&Heap>) {
         self.put_between(b"commit ", &commit.branch.bytes, b"");
         self.put_any_mark(commit.mark);
         self.put_head(commit);
@@ -152,7 +156,7 @@ impl Spelling {
         self.put_changes(&commit.changes);
     }
 
-    fn put_head<A: Allocator + Copy>(&mut self, commit: &Commit<A>) {
+    fn put_head(&mut self, commit: &Commit<&Heap>) {
         if let Some(author) = &commit.author {
             self.put_between(b" author(", &author.bytes, b")");
         }
@@ -162,13 +166,13 @@ impl Spelling {
         }
     }
 
-    fn put_changes<A: Allocator + Copy>(&mut self, changes: &[Change<A>]) {
+    fn put_changes(&mut self, changes: &[Change<&Heap>]) {
         for change in changes {
             self.put_change(change);
         }
     }
 
-    fn put_change<A: Allocator + Copy>(&mut self, change: &Change<A>) {
+    fn put_change(&mut self, change: &Change<&Heap>) {
         match change {
             Change::Modify(modify) => self.put_modify(modify),
             Change::Remove(path) => {
@@ -195,7 +199,7 @@ impl Spelling {
         }
     }
 
-    fn put_modify<A: Allocator + Copy>(&mut self, modify: &Modify<A>) {
+    fn put_modify(&mut self, modify: &Modify<&Heap>) {
         self.put(match modify.mode {
             Mode::File => b" M 100644".as_slice(),
             Mode::Exec => b" M 100755".as_slice(),
@@ -211,7 +215,7 @@ impl Spelling {
         self.put_path(&modify.path);
     }
 
-    fn put_tag<A: Allocator>(&mut self, tag: &Tag<A>) {
+    fn put_tag(&mut self, tag: &Tag<&Heap>) {
         self.put_between(b"tag ", &tag.name.bytes, b"");
         self.put_any_mark(tag.mark);
         self.put_commit_ish(b" from", &tag.from);
@@ -221,7 +225,7 @@ impl Spelling {
         self.put_between(b" <", &tag.message, b">");
     }
 
-    fn put_reset<A: Allocator>(&mut self, reset: &Reset<A>) {
+    fn put_reset(&mut self, reset: &Reset<&Heap>) {
         self.put_between(b"reset ", &reset.branch.bytes, b"");
         if let Some(from) = &reset.from {
             self.put_commit_ish(b" from", from);
@@ -236,7 +240,7 @@ impl Spelling {
         });
     }
 
-    fn put_command<A: Allocator + Copy>(&mut self, command: &Command<A>) {
+    fn put_command(&mut self, command: &Command<&Heap>) {
         match command {
             Command::Blob(blob) => self.put_blob(blob),
             Command::Commit(commit) => self.put_commit(commit),
@@ -251,10 +255,7 @@ impl Spelling {
     }
 
     /// Puts a command, or the dot at the end. Answers what is there in place of a command.
-    fn put_in<A: Allocator + Copy>(
-        &mut self,
-        next: &Result<Option<Command<A>>, CommandFault>,
-    ) -> Option<End> {
+    fn put_in(&mut self, next: &Result<Option<Command<&Heap>>, CommandFault>) -> Option<End> {
         match next {
             Ok(Some(command)) => {
                 self.put_command(command);
@@ -267,10 +268,7 @@ impl Spelling {
     }
 
     /// Reads a command, and puts it.
-    fn put_next<A: Allocator + Copy>(
-        &mut self,
-        reader: &mut CommandReader<Bytes<'_>, A>,
-    ) -> Option<End> {
+    fn put_next(&mut self, reader: &mut CommandReader<Bytes<'_>, &Heap>) -> Option<End> {
         let next = next(reader);
         let end = self.put_in(&next);
         drop(next);
@@ -284,7 +282,7 @@ impl Spelling {
 }
 
 /// What comes after commands, where they are those of the text up to there.
-fn end_of<A: Allocator + Copy>(reader: &mut CommandReader<Bytes<'_>, A>) -> Option<End> {
+fn end_of(reader: &mut CommandReader<Bytes<'_>, &Heap>) -> Option<End> {
     let mut spelling = Spelling {
         len: 0,
         is_right: true,
@@ -302,10 +300,10 @@ fn end_of<A: Allocator + Copy>(reader: &mut CommandReader<Bytes<'_>, A>) -> Opti
 }
 
 /// The same of a stream in pieces of this size, where the end comes again.
-fn told_end<A: Allocator + Copy>(alloc: A, text: &[u8], piece: usize, fails: bool) -> Option<End>
+fn told_end(heap: &Heap, text: &[u8], piece: usize, fails: bool) -> Option<End>
     requires { 0 < piece }
 {
-    let mut reader = reader_of(alloc, text, piece, fails);
+    let mut reader = reader_of(heap, text, piece, fails);
     let end = end_of(&mut reader);
     let again = answer(&mut reader);
     drop(reader);
@@ -313,43 +311,52 @@ fn told_end<A: Allocator + Copy>(alloc: A, text: &[u8], piece: usize, fails: boo
 }
 
 /// Whether a stream in pieces of this size, behind which the source fails or ends, gives its commands, and then this.
-fn is_spelled<A: Allocator + Copy>(
-    alloc: A,
-    text: &[u8],
-    piece: usize,
-    fails: bool,
-    end: End,
-) -> bool
+fn is_spelled(heap: &Heap, text: &[u8], piece: usize, fails: bool, end: End) -> bool
     requires { 0 < piece }
 {
-    told_end(alloc, text, piece, fails) == Some(end)
+    told_end(heap, text, piece, fails) == Some(end)
 }
 
-#[test]
-fn commands_have_their_parts_in_pieces_of_any_size(rt: HostRuntime) {
+/// The first size of pieces in which the stream doesn't give its commands.
+fn unspelled_piece(heap: &Heap) -> Option<usize> {
     for piece in 1..33usize {
-        assert!(rt;
-            is_spelled(rt.alloc(), STREAM, piece, false, None),
-            "at {piece}"
-        );
+        if !is_spelled(heap, STREAM, piece, false, None) {
+            return Some(piece);
+        }
     }
-    assert!(rt; is_spelled(rt.alloc(), STREAM, 4096, false, None));
+    if is_spelled(heap, STREAM, 4096, false, None) {
+        None
+    } else {
+        Some(4096)
+    }
 }
 
 #[test]
-fn failed_read_keeps_the_commands_before_it(rt: HostRuntime) {
+fn commands_have_their_parts_in_pieces_of_any_size(rt: HostRuntime) -> Result<(), Fail> {
+    let heap = Refusing::new(rt.alloc(), 0);
+    all_right(unspelled_piece(&heap))
+}
+
+/// The first number of bytes behind which a failed read is told otherwise than behind the commands before it.
+fn untold_failure(heap: &Heap) -> Option<usize> {
     let failed = Some(CommandFault::ReadFailed);
     for count in 0..STREAM.len() - 4 {
-        assert!(rt;
-            is_spelled(rt.alloc(), &STREAM[..count], 7, true, failed),
-            "after {count}"
-        );
+        if !is_spelled(heap, &STREAM[..count], 7, true, failed) {
+            return Some(count);
+        }
     }
+    None
+}
+
+#[test]
+fn failed_read_keeps_the_commands_before_it(rt: HostRuntime) -> Result<(), Fail> {
+    let heap = Refusing::new(rt.alloc(), 0);
+    all_right(untold_failure(&heap))
 }
 
 /// Whether the stream is read before the growth with this number comes. None where another answer than that growth's refusal
 /// came.
-fn is_read_before<B: Allocator>(heap: &Refusing<B>, nth: u64) -> Option<bool> {
+fn is_read_before(heap: &Heap, nth: u64) -> Option<bool> {
     heap.arm(nth);
     let end = told_end(heap, STREAM, 5, false)?;
     let is_waiting = heap.is_waiting();
@@ -366,7 +373,7 @@ fn is_read_before<B: Allocator>(heap: &Refusing<B>, nth: u64) -> Option<bool> {
 }
 
 /// How many growths are refused, one after the other, until the stream is read. None where another answer came.
-fn refused_growths<B: Allocator>(heap: &Refusing<B>) -> Option<u64> {
+fn refused_growths(heap: &Heap) -> Option<u64> {
     for nth in 1..1000u64 {
         if is_read_before(heap, nth)? {
             return Some(nth - 1);
@@ -382,7 +389,7 @@ fn refused_growth_is_out_of_memory(rt: HostRuntime) {
 }
 
 /// Whether a fault prints this name.
-fn is_printed<A: Allocator + Copy>(alloc: A, fault: CommandFault, name: &str) -> bool {
+fn is_printed(alloc: Global, fault: CommandFault, name: &str) -> bool {
     match format!(in alloc; "{fault}") {
         Ok(printed) => printed.as_str() == name,
         Err(_) => false,
@@ -391,6 +398,7 @@ fn is_printed<A: Allocator + Copy>(alloc: A, fault: CommandFault, name: &str) ->
 
 #[test]
 fn faults_print_their_names(rt: HostRuntime) {
-    assert!(rt; is_printed(rt.alloc(), CommandFault::ReadFailed, "ReadFailed"));
-    assert!(rt; is_printed(rt.alloc(), CommandFault::OutOfMemory, "OutOfMemory"));
+    let alloc = rt.alloc();
+    let is_read_failed = is_printed(alloc, CommandFault::ReadFailed, "ReadFailed");
+    assert!(rt; is_read_failed && is_printed(alloc, CommandFault::OutOfMemory, "OutOfMemory"));
 }

@@ -13,11 +13,7 @@ fn is_cut_by(spelled: &[u8], fault: &[u8]) -> bool {
 }
 
 /// Whether a reader gives a front of the mixed items, and this fault behind it, and again and again.
-fn is_cut<R: Source, A: Allocator + Copy, B: Allocator + Copy>(
-    alloc: B,
-    reader: &mut ItemReader<R, A>,
-    fault: &[u8],
-) -> bool {
+fn is_cut(alloc: Global, reader: &mut ItemReader<Bytes<'_>, Global>, fault: &[u8]) -> bool {
     match spell(alloc, reader) {
         Ok(spelled) => is_cut_by(&spelled, fault) && stays(alloc, reader, fault),
         Err(_) => false,
@@ -25,7 +21,7 @@ fn is_cut<R: Source, A: Allocator + Copy, B: Allocator + Copy>(
 }
 
 /// Whether a failure behind each byte of the mixed stream is told behind a front of its items.
-fn are_failures_told<A: Allocator + Copy>(alloc: A) -> bool {
+fn are_failures_told(alloc: Global) -> bool {
     for count in 0..MIXED.len() {
         let mut reader = ItemReader::new(alloc, Bytes::new(&MIXED[..count], 7, true));
         if !is_cut(alloc, &mut reader, b"ReadFailed") {
@@ -79,7 +75,7 @@ const HALVES: &[Halves] = &[
 ];
 
 /// Whether the items before a failure are given, and then the failure alone.
-fn is_failure_kept<A: Allocator + Copy>(alloc: A, halves: Halves) -> bool {
+fn is_failure_kept(alloc: Global, halves: Halves) -> bool {
     let (before, after, items) = halves;
     let source = Faltering {
         before: Bytes::new(before, 7, true),
@@ -98,9 +94,9 @@ fn failure_within_a_stream_stays(rt: HostRuntime) {
 }
 
 /// Whether these are a front of the mixed items and a refusal behind it, which stays, or else all of the items.
-fn is_told<R: Source, A: Allocator + Copy, B: Allocator + Copy>(
-    alloc: B,
-    reader: &mut ItemReader<R, A>,
+fn is_told(
+    alloc: Global,
+    reader: &mut ItemReader<Bytes<'_>, &Refusing<Global>>,
     spelled: &[u8],
     is_refused: bool,
 ) -> bool {
@@ -112,29 +108,27 @@ fn is_told<R: Source, A: Allocator + Copy, B: Allocator + Copy>(
 
 /// Whether the growth with this number comes and is refused, in a reading of the mixed stream; none where the answer is
 /// a wrong one.
-fn is_refused<B: Allocator + Copy, C: Allocator>(
-    alloc: B,
-    heap: &Refusing<C>,
-    growth: u64,
-) -> Option<bool> {
+fn is_refused(alloc: Global, heap: &Refusing<Global>, growth: u64) -> Option<bool> {
     let mut reader = ItemReader::new(heap, Bytes::new(MIXED, 5, false));
     heap.arm(growth);
-    let spelled = spell(alloc, &mut reader).ok()?;
-    let is_refused = !heap.is_waiting();
-    heap.arm(0);
-    if is_told(alloc, &mut reader, &spelled, is_refused) {
-        Some(is_refused)
-    } else {
-        None
+    match spell(alloc, &mut reader) {
+        Ok(spelled) => {
+            let is_refused = !heap.is_waiting();
+            heap.arm(0);
+            is_told(alloc, &mut reader, &spelled, is_refused).then_some(is_refused)
+        }
+        Err(_) => None,
     }
 }
 
 /// How many growths are refused, one after the other; none where another answer came.
-fn refused_growths<A: Allocator + Copy>(alloc: A) -> Option<u64> {
+fn refused_growths(alloc: Global) -> Option<u64> {
     for growth in 1..100 {
         let heap = Refusing::new(alloc, 0);
-        if !is_refused(alloc, &heap, growth)? {
-            return Some(growth - 1);
+        match is_refused(alloc, &heap, growth) {
+            Some(true) => {}
+            Some(false) => return Some(growth - 1),
+            None => return None,
         }
     }
     None

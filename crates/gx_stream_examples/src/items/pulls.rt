@@ -21,29 +21,31 @@ impl<'a> Source for Counting<'a> {
     }
 }
 
-/// These bytes a thousand times.
-fn thousandfold<A: Allocator>(alloc: A, bytes: &[u8]) -> Result<Vec<u8, A>, AllocError> {
-    let mut text = Vec::new(alloc);
+/// Appends these bytes a thousand times.
+fn append_often(text: &mut Vec<u8>, bytes: &[u8]) -> Result<(), AllocError> {
     for _ in 0..1000u16 {
         text.extend_from_slice(bytes)?;
     }
+    Ok(())
+}
+
+/// These bytes a thousand times.
+fn thousandfold(alloc: Global, bytes: &[u8]) -> Result<Vec<u8>, AllocError> {
+    let mut text = Vec::new(alloc);
+    append_often(&mut text, bytes)?;
     Ok(text)
 }
 
+/// A reader of a source that counts its pulls.
+type CountingReader<'a> = ItemReader<Counting<'a>, Global>;
+
 /// Whether a reader answers so.
-fn gives<R: Source, A: Allocator + Copy>(
-    reader: &mut ItemReader<R, A>,
-    answer: Result<Option<Item<'_>>, StreamFault>,
-) -> bool {
+fn gives(reader: &mut CountingReader<'_>, answer: Result<Option<Item<'_>>, StreamFault>) -> bool {
     reader.next() == answer
 }
 
 /// Whether a reader gives these two items a thousand times.
-fn gives_both<R: Source, A: Allocator + Copy>(
-    reader: &mut ItemReader<R, A>,
-    first: Item<'_>,
-    second: Item<'_>,
-) -> bool {
+fn gives_both(reader: &mut CountingReader<'_>, first: Item<'_>, second: Item<'_>) -> bool {
     for _ in 0..1000u16 {
         if !gives(reader, Ok(Some(first))) || !gives(reader, Ok(Some(second))) {
             return false;
@@ -53,7 +55,7 @@ fn gives_both<R: Source, A: Allocator + Copy>(
 }
 
 /// Whether the first line of a text, byte by byte, takes 12 pulls at most.
-fn is_pulled_late<A: Allocator + Copy>(alloc: A, text: &[u8], line: &[u8]) -> bool {
+fn is_pulled_late(alloc: Global, text: &[u8], line: &[u8]) -> bool {
     let pulls = Cell::new(0u64);
     let bytes = Bytes::new(text, 1, false);
     let mut reader = ItemReader::new(
@@ -74,7 +76,7 @@ fn more_is_pulled_only_for_the_next_item(rt: HostRuntime) -> Result<(), Fail> {
 }
 
 /// Whether all items of a text take one pull, and its end another.
-fn is_pulled_once<A: Allocator + Copy>(alloc: A, text: &[u8]) -> bool {
+fn is_pulled_once(alloc: Global, text: &[u8]) -> bool {
     let pulls = Cell::new(0u64);
     let bytes = Bytes::new(text, 0x1_0000, false);
     let mut reader = ItemReader::new(

@@ -1,13 +1,13 @@
 //! Repositories, and the streams that they are written as.
 
 use crate::imports::MERGED;
-use crate::sessions::{Outcome, import_from};
+use crate::sessions::{Outcome, import_text};
 use gx_export::{ExportFault, export};
 use gx_object::Sha1Namer;
 use gx_refusing::Refusing;
 use gx_repo::Repo;
-use gx_text::{Bytes, Held};
-use std::alloc::Allocator;
+use gx_text::Held;
+use std::alloc::{Allocator, Global};
 use std::hash::RandomState;
 use std::test::Fail;
 
@@ -34,18 +34,6 @@ const EXPORTS: &[(&[u8], &[u8])] = &[
 /// A stream that was exported is exported as it is.
 const REPEATED: &[(&[u8], &[u8])] = &[(MERGED_TEXT, MERGED_TEXT), (MODES_TEXT, MODES_TEXT)];
 
-/// What a stream makes.
-fn made<A: Allocator + Copy>(
-    alloc: A,
-    stream: &[u8],
-    state: RandomState,
-) -> Option<Repo<Sha1Namer, A>> {
-    let mut repo = Repo::new(alloc, Sha1Namer, state);
-    let mut sink = Held::new(alloc, 0).ok()?;
-    import_from(alloc, &mut repo, Bytes::new(stream, 64, false), &mut sink).ok()?;
-    Some(repo)
-}
-
 /// Exports a repository. The tests need none of what an export promises.
 fn export_to<A: Allocator + Copy>(
     alloc: A,
@@ -55,20 +43,36 @@ fn export_to<A: Allocator + Copy>(
     export(alloc, repo, sink)
 }
 
-/// Whether the export of what a stream makes is this text.
-fn exports_as<A: Allocator + Copy>(
-    alloc: A,
-    stream: &[u8],
-    text: &[u8],
-    state: RandomState,
+/// Whether an export to a sink has this answer, and the sink these bytes.
+fn goes_out_to(
+    alloc: Global,
+    repo: &Repo<Sha1Namer, Global>,
+    sink: &mut Held<Global>,
+    answer: Result<(), ExportFault>,
+    out: &[u8],
 ) -> bool {
-    let Some(repo) = made(alloc, stream, state) else {
-        return false;
-    };
-    let Ok(mut sink) = Held::new(alloc, text.len()) else {
-        return false;
-    };
-    export_to(alloc, &repo, &mut sink) == Ok(()) && sink.bytes() == text
+    export_to(alloc, repo, sink) == answer && sink.bytes() == out
+}
+
+/// The same with a sink that has so much room.
+fn goes_out(
+    alloc: Global,
+    repo: &Repo<Sha1Namer, Global>,
+    room: usize,
+    answer: Result<(), ExportFault>,
+    out: &[u8],
+) -> bool {
+    match Held::new(alloc, room) {
+        Ok(mut sink) => goes_out_to(alloc, repo, &mut sink, answer, out),
+        Err(_) => false,
+    }
+}
+
+/// Whether the export of what a stream makes is this text.
+fn exports_as(alloc: Global, stream: &[u8], text: &[u8], state: RandomState) -> bool {
+    let mut repo = Repo::new(alloc, Sha1Namer, state);
+    import_text(alloc, &mut repo, stream).is_ok()
+        && goes_out(alloc, &repo, text.len(), Ok(()), text)
 }
 
 #[test]
@@ -90,31 +94,36 @@ fn export_of_an_export_is_the_same(rt: HostRuntime) -> Result<(), Fail> {
 }
 
 /// Whether an export to a sink with so much room stops there, and the sink has the front of the text.
-fn stops_at<A: Allocator + Copy>(
-    alloc: A,
-    repo: &Repo<Sha1Namer, A>,
-    text: &[u8],
-    room: usize,
-) -> bool {
-    let Ok(mut sink) = Held::new(alloc, room) else {
-        return false;
-    };
+fn stops_at(alloc: Global, repo: &Repo<Sha1Namer, Global>, text: &[u8], room: usize) -> bool {
     let stopped = Err(ExportFault::WriteFailed {
         written: room as u64,
     });
-    export_to(alloc, repo, &mut sink) == stopped
-        && text.starts_with(sink.bytes())
-        && sink.bytes().len() == room
+    match text.get(..room) {
+        Some(front) => goes_out(alloc, repo, room, stopped, front),
+        None => false,
+    }
+}
+
+/// The first room below a text's length at which its export doesn't stop so.
+fn wrong_room(alloc: Global, repo: &Repo<Sha1Namer, Global>, text: &[u8]) -> Option<usize> {
+    for room in 0..text.len() {
+        if !stops_at(alloc, repo, text, room) {
+            return Some(room);
+        }
+    }
+    None
 }
 
 #[test]
 fn failed_write_stops_the_export(rt: HostRuntime) -> Result<(), Fail> {
-    let state = RandomState::new(&rt)?;
-    let repo = made(rt.alloc(), MERGED, state).ok_or("an import")?;
-    for room in 0..MERGED_TEXT.len() {
-        assert!(rt; stops_at(rt.alloc(), &repo, MERGED_TEXT, room), "at {room}");
+    let mut repo = Repo::new(rt.alloc(), Sha1Namer, RandomState::new(&rt)?);
+    if import_text(rt.alloc(), &mut repo, MERGED).is_err() {
+        return Err(Fail::new("an import"));
     }
-    Ok(())
+    match wrong_room(rt.alloc(), &repo, MERGED_TEXT) {
+        None => Ok(()),
+        Some(room) => Err(Fail::new(format_args!("at {room}"))),
+    }
 }
 
 /// What came of an export at which a growth was to be refused: one that is refused is to write a front of the text, and
@@ -134,37 +143,46 @@ fn judged(
     }
 }
 
-/// What comes of an export at which the growth with this number is refused.
-fn refused_at<B: Allocator>(
-    heap: &Refusing<B>,
-    stream: &[u8],
+/// What comes of an export at which the growth with this number is refused. The heap is given once more as the allocator, here
+/// and below.
+fn refused_to<A: Allocator + Copy>(
+    heap: &Refusing<Global>,
+    own: A,
+    repo: &Repo<Sha1Namer, A>,
+    sink: &mut Held<A>,
     text: &[u8],
     growth: u64,
-    state: RandomState,
 ) -> Outcome {
-    let Some(repo) = made(heap, stream, state) else {
-        return Outcome::Wrong;
-    };
-    let Ok(mut sink) = Held::new(heap, text.len()) else {
-        return Outcome::Wrong;
-    };
     heap.arm(growth);
-    let answer = export_to(heap, &repo, &mut sink);
+    let answer = export_to(own, repo, sink);
     let is_refused = !heap.is_waiting();
     heap.arm(0);
     judged(answer, sink.bytes(), text, is_refused)
 }
 
-/// How many growths are refused, one after the other, until an export is done; none where an answer was wrong.
-fn refused_growths<B: Allocator + Copy>(
-    alloc: B,
-    stream: &[u8],
+/// The same with a new sink.
+fn refused_at<A: Allocator + Copy>(
+    heap: &Refusing<Global>,
+    own: A,
+    repo: &Repo<Sha1Namer, A>,
     text: &[u8],
-    state: RandomState,
+    growth: u64,
+) -> Outcome {
+    match Held::new(own, text.len()) {
+        Ok(mut sink) => refused_to(heap, own, repo, &mut sink, text, growth),
+        Err(_) => Outcome::Wrong,
+    }
+}
+
+/// How many growths are refused, one after the other, until an export is done; none where an answer was wrong.
+fn refused_by<A: Allocator + Copy>(
+    heap: &Refusing<Global>,
+    own: A,
+    repo: &Repo<Sha1Namer, A>,
+    text: &[u8],
 ) -> Option<u64> {
     for growth in 1..1000u64 {
-        let heap = Refusing::new(alloc, 0);
-        match refused_at(&heap, stream, text, growth, state) {
+        match refused_at(heap, own, repo, text, growth) {
             Outcome::Done => return Some(growth - 1),
             Outcome::Refused => {}
             Outcome::Wrong => return None,
@@ -173,12 +191,31 @@ fn refused_growths<B: Allocator + Copy>(
     None
 }
 
+/// The same of what a stream makes.
+fn refused_of<A: Allocator + Copy>(
+    heap: &Refusing<Global>,
+    own: A,
+    stream: &[u8],
+    text: &[u8],
+    state: RandomState,
+) -> Option<u64> {
+    let mut repo = Repo::new(own, Sha1Namer, state);
+    match import_text(own, &mut repo, stream) {
+        Ok(_) => refused_by(heap, own, &repo, text),
+        Err(_) => None,
+    }
+}
+
+/// The same; 0 where an answer was wrong.
+fn refused_growths(alloc: Global, stream: &[u8], text: &[u8], state: RandomState) -> u64 {
+    let heap = Refusing::new(alloc, 0);
+    refused_of(&heap, &heap, stream, text, state).unwrap_or(0)
+}
+
 #[test]
 fn refused_growths_stop_the_export(rt: HostRuntime) -> Result<(), Fail> {
     let state = RandomState::new(&rt)?;
-    let refused = refused_growths(rt.alloc(), MERGED, MERGED_TEXT, state).ok_or("a wrong answer")?;
-    assert!(rt; refused > 10);
-    let refused = refused_growths(rt.alloc(), MODES, MODES_TEXT, state).ok_or("a wrong answer")?;
-    assert!(rt; refused > 10);
+    assert!(rt; refused_growths(rt.alloc(), MERGED, MERGED_TEXT, state) > 10);
+    assert!(rt; refused_growths(rt.alloc(), MODES, MODES_TEXT, state) > 10);
     Ok(())
 }

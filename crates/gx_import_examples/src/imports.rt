@@ -5,7 +5,7 @@ use gx_import::{ImportFault, ImportKind};
 use gx_object::{Sha1Namer, ShortNamer};
 use gx_repo::Repo;
 use gx_rev::RevFault;
-use std::alloc::Allocator;
+use std::alloc::Global;
 use std::hash::RandomState;
 use std::test::Fail;
 
@@ -149,12 +149,7 @@ fn other_object_of_a_held_name_is_refused(rt: HostRuntime) -> Result<(), Fail> {
 }
 
 /// Whether an empty repository takes a stream, and then has what its report counts.
-fn is_accepted<A: Allocator + Copy>(
-    alloc: A,
-    state: RandomState,
-    text: &[u8],
-    numbers: (u64, u64, u64),
-) -> bool {
+fn is_accepted(alloc: Global, state: RandomState, text: &[u8], numbers: (u64, u64, u64)) -> bool {
     let mut repo = Repo::new(alloc, Sha1Namer, state);
     imports(alloc, &mut repo, &[text], numbers)
         && holds(&repo, numbers.1 as usize, numbers.2 as usize)
@@ -170,15 +165,15 @@ fn reports_count_what_was_done(rt: HostRuntime) -> Result<(), Fail> {
 }
 
 /// Whether an empty repository refuses a stream at this command for this reason, and stays empty.
-fn is_refused<A: Allocator + Copy>(
-    alloc: A,
+fn is_refused(
+    alloc: Global,
     state: RandomState,
     parts: &[&[u8]],
     command: u64,
     kind: ImportKind,
 ) -> bool {
     let mut repo = Repo::new(alloc, Sha1Namer, state);
-    refuses(alloc, &mut repo, parts, command, kind) && holds(&repo, 0, 0)
+    refuses(alloc, &mut repo, parts, command, kind, 0) && holds(&repo, 0, 0)
 }
 
 #[test]

@@ -6,7 +6,7 @@ use gx_object::{Name, Namer, Sha1Namer};
 use gx_repo::Repo;
 use gx_rev::{Range, RevFault, Revision, Shown, commit, look, walk};
 use gx_text::{Bytes, Held, TreePath};
-use std::alloc::{AllocError, Allocator};
+use std::alloc::{AllocError, Allocator, Global};
 use std::hash::RandomState;
 use std::test::Fail;
 
@@ -58,16 +58,12 @@ pub(crate) fn import_from<N: Namer, A: Allocator + Copy>(
     import(alloc, repo, source, sink)
 }
 
-/// The bytes of several parts.
-pub(crate) fn joined<A: Allocator + Copy>(
-    alloc: A,
-    parts: &[&[u8]],
-) -> Result<Vec<u8, A>, AllocError> {
-    let mut text = Vec::new(alloc);
+/// Adds the bytes of several parts.
+pub(crate) fn add_parts(text: &mut Vec<u8, Global>, parts: &[&[u8]]) -> Result<(), AllocError> {
     for part in parts {
         text.extend_from_slice(part)?;
     }
-    Ok(text)
+    Ok(())
 }
 
 /// The answer to a stream's command that is refused, with no checkpoint before it.
@@ -79,30 +75,35 @@ pub(crate) fn refusal(command: u64, kind: ImportKind) -> Result<Report, ImportFa
     })
 }
 
-/// Imports the bytes of several parts, which come as one, in pieces.
-pub(crate) fn imported<N: Namer, A: Allocator + Copy>(
+/// Imports a text, which comes in pieces.
+pub(crate) fn import_text<N: Namer, A: Allocator + Copy>(
     alloc: A,
     repo: &mut Repo<N, A>,
+    text: &[u8],
+) -> Result<Report, ImportFault> {
+    match Held::new(alloc, 100) {
+        Ok(mut sink) => import_from(alloc, repo, Bytes::new(text, 7, false), &mut sink),
+        Err(_) => refusal(0, ImportKind::OutOfMemory),
+    }
+}
+
+/// Imports the bytes of several parts, which come as one, in pieces.
+pub(crate) fn imported<N: Namer>(
+    alloc: Global,
+    repo: &mut Repo<N, Global>,
     parts: &[&[u8]],
 ) -> Result<Report, ImportFault> {
-    let Ok(text) = joined(alloc, parts) else {
-        return refusal(0, ImportKind::OutOfMemory);
-    };
-    let Ok(mut sink) = Held::new(alloc, 100) else {
-        return refusal(0, ImportKind::OutOfMemory);
-    };
-    import_from(
-        alloc,
-        repo,
-        Bytes::new(text.as_slice(), 7, false),
-        &mut sink,
-    )
+    let mut text = Vec::new(alloc);
+    match add_parts(&mut text, parts) {
+        Ok(()) => import_text(alloc, repo, &text),
+        Err(_) => refusal(0, ImportKind::OutOfMemory),
+    }
 }
 
 /// Whether an import of these parts is accepted with these numbers of commands, objects and refs.
-pub(crate) fn imports<N: Namer, A: Allocator + Copy>(
-    alloc: A,
-    repo: &mut Repo<N, A>,
+pub(crate) fn imports<N: Namer>(
+    alloc: Global,
+    repo: &mut Repo<N, Global>,
     parts: &[&[u8]],
     numbers: (u64, u64, u64),
 ) -> bool {
@@ -115,25 +116,21 @@ pub(crate) fn imports<N: Namer, A: Allocator + Copy>(
         })
 }
 
-/// Whether an import of these parts is refused at the command with this number, for this reason.
-pub(crate) fn refuses<N: Namer, A: Allocator + Copy>(
-    alloc: A,
-    repo: &mut Repo<N, A>,
+/// Whether an import of these parts is refused at the command with this number, for this reason, behind so many checkpoints.
+pub(crate) fn refuses<N: Namer>(
+    alloc: Global,
+    repo: &mut Repo<N, Global>,
     parts: &[&[u8]],
     command: u64,
     kind: ImportKind,
+    checkpoints: u64,
 ) -> bool {
-    imported(alloc, repo, parts) == refusal(command, kind)
-}
-
-/// Whether an import of these parts is refused with this fault.
-fn refuses_with<N: Namer, A: Allocator + Copy>(
-    alloc: A,
-    repo: &mut Repo<N, A>,
-    parts: &[&[u8]],
-    fault: ImportFault,
-) -> bool {
-    imported(alloc, repo, parts) == Err(fault)
+    imported(alloc, repo, parts)
+        == Err(ImportFault {
+            command,
+            kind,
+            checkpoints,
+        })
 }
 
 /// Whether a repository has so many objects and refs.
@@ -146,21 +143,25 @@ pub(crate) fn holds<N: Namer, A: Allocator + Copy>(
 }
 
 /// The name of the object that a revision shows.
-pub(crate) fn name_at<N: Namer, A: Allocator + Copy>(
-    alloc: A,
-    repo: &Repo<N, A>,
+pub(crate) fn name_at<N: Namer>(
+    alloc: Global,
+    repo: &Repo<N, Global>,
     revision: &[u8],
 ) -> Result<Name, RevFault> {
-    match Revision::read(alloc, revision)?.eval(repo)? {
-        Shown::Object(_, name) => Ok(name),
-        Shown::Submodule(_) => Err(RevFault::WrongKind),
+    match Revision::read(alloc, revision) {
+        Ok(revision) => match revision.eval(repo) {
+            Ok(Shown::Object(_, name)) => Ok(name),
+            Ok(Shown::Submodule(_)) => Err(RevFault::WrongKind),
+            Err(fault) => Err(fault),
+        },
+        Err(fault) => Err(fault),
     }
 }
 
 /// Whether a revision shows the object whose name has these digits.
-fn shows<N: Namer, A: Allocator + Copy>(
-    alloc: A,
-    repo: &Repo<N, A>,
+fn shows<N: Namer>(
+    alloc: Global,
+    repo: &Repo<N, Global>,
     revision: &[u8],
     digits: &[u8; 40],
 ) -> bool {
@@ -171,9 +172,9 @@ fn shows<N: Namer, A: Allocator + Copy>(
 }
 
 /// Whether a revision shows no object, for this reason.
-fn misses<N: Namer, A: Allocator + Copy>(
-    alloc: A,
-    repo: &Repo<N, A>,
+fn misses<N: Namer>(
+    alloc: Global,
+    repo: &Repo<N, Global>,
     revision: &[u8],
     reason: RevFault,
 ) -> bool {
@@ -184,9 +185,9 @@ fn misses<N: Namer, A: Allocator + Copy>(
 }
 
 /// Whether two revisions show objects, and whether they are one, or none where one of them shows none.
-fn are_one<N: Namer, A: Allocator + Copy>(
-    alloc: A,
-    repo: &Repo<N, A>,
+fn are_one<N: Namer>(
+    alloc: Global,
+    repo: &Repo<N, Global>,
     left: &[u8],
     right: &[u8],
 ) -> Option<bool> {
@@ -196,39 +197,63 @@ fn are_one<N: Namer, A: Allocator + Copy>(
 }
 
 /// Whether a file stands at a path of a revision with these bytes.
-fn has_file<N: Namer, A: Allocator + Copy>(
-    alloc: A,
-    repo: &Repo<N, A>,
-    revision: &[u8],
+fn has_file_at<N: Namer>(
+    alloc: Global,
+    repo: &Repo<N, Global>,
+    revision: &Revision<Global>,
     path: &[u8],
     bytes: &[u8],
 ) -> bool {
-    let Ok(revision) = Revision::read(alloc, revision) else {
-        return false;
-    };
-    let Ok(path) = TreePath::read(alloc, path) else {
-        return false;
-    };
-    match look(alloc, repo, &revision, &path) {
-        Ok((mode, file)) => mode == Mode::File && file.as_slice() == bytes,
+    match TreePath::read(alloc, path) {
+        Ok(path) => match look(alloc, repo, revision, &path) {
+            Ok((mode, file)) => mode == Mode::File && file.as_slice() == bytes,
+            Err(_) => false,
+        },
         Err(_) => false,
     }
 }
 
-/// The ranges of words.
-fn ranges<A: Allocator + Copy>(alloc: A, words: &[&[u8]]) -> Option<Vec<Range<A>, A>> {
-    let mut ranges = Vec::new(alloc);
-    for word in words {
-        let range = Range::read(alloc, word).ok()?;
-        ranges.push(range).ok()?;
+/// The same, where the revision is told by its text.
+fn has_file<N: Namer>(
+    alloc: Global,
+    repo: &Repo<N, Global>,
+    revision: &[u8],
+    path: &[u8],
+    bytes: &[u8],
+) -> bool {
+    match Revision::read(alloc, revision) {
+        Ok(revision) => has_file_at(alloc, repo, &revision, path, bytes),
+        Err(_) => false,
     }
-    Some(ranges)
+}
+
+/// Adds the range of a word, and answers whether that could be done.
+fn add_range(alloc: Global, ranges: &mut Vec<Range<Global>, Global>, word: &[u8]) -> bool {
+    match Range::read(alloc, word) {
+        Ok(range) => is_pushed(ranges, range),
+        Err(_) => false,
+    }
+}
+
+/// Adds a value to a list, and answers whether there is memory for it.
+fn is_pushed<T: Drop, A: Allocator>(list: &mut Vec<T, A>, value: T) -> bool {
+    list.push(value).is_ok()
+}
+
+/// Adds the ranges of words, and answers whether that could be done.
+fn add_ranges(alloc: Global, ranges: &mut Vec<Range<Global>, Global>, words: &[&[u8]]) -> bool {
+    for word in words {
+        if !add_range(alloc, ranges, word) {
+            return false;
+        }
+    }
+    true
 }
 
 /// Whether these are the names of what the revisions show.
-fn are_named<N: Namer, A: Allocator + Copy>(
-    alloc: A,
-    repo: &Repo<N, A>,
+fn are_named<N: Namer>(
+    alloc: Global,
+    repo: &Repo<N, Global>,
     names: &[Name],
     revisions: &[&[u8]],
 ) -> bool {
@@ -243,59 +268,65 @@ fn are_named<N: Namer, A: Allocator + Copy>(
     true
 }
 
-/// Whether words list the commits of these revisions, in this order.
-fn lists<N: Namer, A: Allocator + Copy>(
-    alloc: A,
-    repo: &Repo<N, A>,
-    words: &[&[u8]],
+/// Whether ranges list the commits of these revisions, in this order.
+fn are_listed<N: Namer>(
+    alloc: Global,
+    repo: &Repo<N, Global>,
+    ranges: &[Range<Global>],
     revisions: &[&[u8]],
 ) -> bool {
-    let Some(ranges) = ranges(alloc, words) else {
-        return false;
-    };
-    match walk(alloc, repo, ranges.as_slice()) {
-        Ok(names) => are_named(alloc, repo, names.as_slice(), revisions),
+    match walk(alloc, repo, ranges) {
+        Ok(names) => are_named(alloc, repo, &names, revisions),
         Err(_) => false,
     }
 }
 
+/// The same, where the ranges are told by words.
+fn lists<N: Namer>(
+    alloc: Global,
+    repo: &Repo<N, Global>,
+    words: &[&[u8]],
+    revisions: &[&[u8]],
+) -> bool {
+    let mut ranges = Vec::new(alloc);
+    add_ranges(alloc, &mut ranges, words) && are_listed(alloc, repo, &ranges, revisions)
+}
+
 /// Whether a revision shows a commit without parents, of this author and committer, with this message.
-fn is_root<N: Namer, A: Allocator + Copy>(
-    alloc: A,
-    repo: &Repo<N, A>,
+fn is_root_at<N: Namer>(
+    repo: &Repo<N, Global>,
+    revision: &Revision<Global>,
+    ident: &[u8],
+    message: &[u8],
+) -> bool {
+    match commit(repo, revision) {
+        Ok(view) => {
+            view.parent_count() == 0
+                && view.author() == ident
+                && view.committer() == ident
+                && view.message() == message
+        }
+        Err(_) => false,
+    }
+}
+
+/// The same, where the revision is told by its text.
+fn is_root<N: Namer>(
+    alloc: Global,
+    repo: &Repo<N, Global>,
     revision: &[u8],
     ident: &[u8],
     message: &[u8],
 ) -> bool {
-    let Ok(revision) = Revision::read(alloc, revision) else {
-        return false;
-    };
-    let Ok(view) = commit(repo, &revision) else {
-        return false;
-    };
-    view.parent_count() == 0
-        && view.author() == ident
-        && view.committer() == ident
-        && view.message() == message
+    match Revision::read(alloc, revision) {
+        Ok(revision) => is_root_at(repo, &revision, ident, message),
+        Err(_) => false,
+    }
 }
 
-/// Does a step, and answers whether what is to come of it came.
-fn is_done<N: Namer, A: Allocator + Copy>(
-    alloc: A,
-    repo: &mut Repo<N, A>,
-    step: &Step<'_>,
-) -> bool {
+/// Whether a repository has what a step asks of it.
+fn is_shown<N: Namer>(alloc: Global, repo: &Repo<N, Global>, step: &Step<'_>) -> bool {
     match step {
-        Step::Import(parts, numbers) => imports(alloc, repo, parts, *numbers),
-        Step::Refuse(parts, command, kind) => refuses(alloc, repo, parts, *command, *kind),
-        Step::RefuseBehind(parts, command, kind, checkpoints) => {
-            let fault = ImportFault {
-                command: *command,
-                kind: *kind,
-                checkpoints: *checkpoints,
-            };
-            refuses_with(alloc, repo, parts, fault)
-        }
         Step::Hold(objects, refs) => holds(repo, *objects, *refs),
         Step::Show(revision, digits) => shows(alloc, repo, revision, digits),
         Step::Miss(revision, reason) => misses(alloc, repo, revision, *reason),
@@ -305,13 +336,26 @@ fn is_done<N: Namer, A: Allocator + Copy>(
         Step::Lack(revision, path, bytes) => !has_file(alloc, repo, revision, path, bytes),
         Step::List(words, revisions) => lists(alloc, repo, words, revisions),
         Step::Root(revision, ident, message) => is_root(alloc, repo, revision, ident, message),
+        _ => false,
+    }
+}
+
+/// Does a step, and answers whether what is to come of it came.
+fn is_done<N: Namer>(alloc: Global, repo: &mut Repo<N, Global>, step: &Step<'_>) -> bool {
+    match step {
+        Step::Import(parts, numbers) => imports(alloc, repo, parts, *numbers),
+        Step::Refuse(parts, command, kind) => refuses(alloc, repo, parts, *command, *kind, 0),
+        Step::RefuseBehind(parts, command, kind, checkpoints) => {
+            refuses(alloc, repo, parts, *command, *kind, *checkpoints)
+        }
+        _ => is_shown(alloc, repo, step),
     }
 }
 
 /// Does the steps of a session in their order. Fails at the first one of which something else comes.
-pub(crate) fn follow<N: Namer, A: Allocator + Copy>(
-    alloc: A,
-    repo: &mut Repo<N, A>,
+pub(crate) fn follow<N: Namer>(
+    alloc: Global,
+    repo: &mut Repo<N, Global>,
     session: &Session<'_>,
 ) -> Result<(), Fail> {
     let (name, steps) = session;
@@ -323,15 +367,20 @@ pub(crate) fn follow<N: Namer, A: Allocator + Copy>(
     Ok(())
 }
 
+/// Follows a session that begins with an empty repository.
+fn follow_anew(alloc: Global, state: RandomState, session: &Session<'_>) -> Result<(), Fail> {
+    let mut repo = Repo::new(alloc, Sha1Namer, state);
+    follow(alloc, &mut repo, session)
+}
+
 /// Follows sessions, each of which begins with an empty repository.
-pub(crate) fn follow_all<A: Allocator + Copy>(
-    alloc: A,
+pub(crate) fn follow_all(
+    alloc: Global,
     state: RandomState,
     sessions: &[Session<'_>],
 ) -> Result<(), Fail> {
     for session in sessions {
-        let mut repo = Repo::new(alloc, Sha1Namer, state);
-        follow(alloc, &mut repo, session)?;
+        follow_anew(alloc, state, session)?;
     }
     Ok(())
 }

@@ -3,7 +3,7 @@
 use crate::sessions::{imported, name_at};
 use gx_object::{Kind, Name, Namer, Sha1Namer};
 use gx_repo::Repo;
-use std::alloc::Allocator;
+use std::alloc::Global;
 use std::cell::Cell;
 use std::hash::RandomState;
 use std::test::Fail;
@@ -64,8 +64,22 @@ const OTHER: &[u8] = b"M 644 :2 a/b/c\n";
 const CHANGE: &[u8] = b"M 644 :2 x/y/z\n";
 
 /// How many objects an import names, and the tree of a revision then.
-fn counted<A: Allocator + Copy>(
-    alloc: A,
+fn counted_in(
+    alloc: Global,
+    repo: &mut Repo<Counting<'_, Sha1Namer>, Global>,
+    named: &Cell<u64>,
+    parts: &[&[u8]],
+    revision: &[u8],
+) -> Option<(u64, Name)> {
+    imported(alloc, repo, parts).ok()?;
+    let count = named.get();
+    let tree = name_at(alloc, repo, revision).ok()?;
+    Some((count, tree))
+}
+
+/// The same in an empty repository.
+fn counted(
+    alloc: Global,
     state: RandomState,
     parts: &[&[u8]],
     revision: &[u8],
@@ -76,10 +90,7 @@ fn counted<A: Allocator + Copy>(
         named: &named,
     };
     let mut repo = Repo::new(alloc, namer, state);
-    imported(alloc, &mut repo, parts).ok()?;
-    let count = named.get();
-    let tree = name_at(alloc, &repo, revision).ok()?;
-    Some((count, tree))
+    counted_in(alloc, &mut repo, &named, parts, revision)
 }
 
 /// Streams that come to one tree: what is imported before a commit, then the commit, and the revision of its tree.
@@ -99,12 +110,7 @@ const CHANGED: &[Changed] = &[
 ];
 
 /// Whether a commit names no more than six objects, and has this tree.
-fn is_counted<A: Allocator + Copy>(
-    alloc: A,
-    state: RandomState,
-    changed: &Changed<'_>,
-    tree: Name,
-) -> bool {
+fn is_counted(alloc: Global, state: RandomState, changed: &Changed<'_>, tree: Name) -> bool {
     let (before, whole, revision) = changed;
     let Some((first, _)) = counted(alloc, state, before, b"main^{tree}") else {
         return false;

@@ -1,13 +1,13 @@
 //! Imports with growths that are refused, sources that fail and sinks that fail.
 
 use super::FIRST;
-use crate::sessions::{Outcome, holds, import_from, imports, joined, refusal};
+use crate::sessions::{Outcome, add_parts, holds, import_from, import_text, refusal};
 use gx_import::{ImportFault, ImportKind, Report};
 use gx_object::Sha1Namer;
 use gx_refusing::Refusing;
 use gx_repo::Repo;
 use gx_text::{Bytes, Held};
-use std::alloc::Allocator;
+use std::alloc::{Allocator, Global};
 use std::hash::RandomState;
 use std::test::Fail;
 
@@ -65,15 +65,26 @@ const PROGRESS: &[Progress] = &[
 ];
 
 /// Whether an import of progress lines has this outcome.
-fn goes_out<A: Allocator + Copy>(alloc: A, state: RandomState, progress: &Progress<'_>) -> bool {
-    let (room, command, kind, out) = progress;
-    let Ok(mut sink) = Held::new(alloc, *room) else {
-        return false;
-    };
-    let mut repo = Repo::new(alloc, Sha1Namer, state);
+fn goes_out_to(
+    alloc: Global,
+    repo: &mut Repo<Sha1Namer, Global>,
+    sink: &mut Held<Global>,
+    progress: &Progress<'_>,
+) -> bool {
+    let (_, command, kind, out) = progress;
     let source = Bytes::new(b"progress a b\nprogress \nfoo\n", 4, false);
-    let answer = import_from(alloc, &mut repo, source, &mut sink);
-    answer == refusal(*command, *kind) && sink.bytes() == *out
+    import_from(alloc, repo, source, sink) == refusal(*command, *kind) && sink.bytes() == *out
+}
+
+/// The same in an empty repository with a new sink.
+fn goes_out(alloc: Global, state: RandomState, progress: &Progress<'_>) -> bool {
+    match Held::new(alloc, progress.0) {
+        Ok(mut sink) => {
+            let mut repo = Repo::new(alloc, Sha1Namer, state);
+            goes_out_to(alloc, &mut repo, &mut sink, progress)
+        }
+        Err(_) => false,
+    }
 }
 
 /// Progress lines go out as they come, and stay out.
@@ -86,40 +97,43 @@ fn progress_goes_out(rt: HostRuntime) -> Result<(), Fail> {
     Ok(())
 }
 
-/// A repository with the objects and the ref of the first stream.
-fn begun<A: Allocator + Copy>(alloc: A, state: RandomState) -> Option<Repo<Sha1Namer, A>> {
-    let mut repo = Repo::new(alloc, Sha1Namer, state);
-    if imports(alloc, &mut repo, &[FIRST], (1, 3, 1)) {
-        Some(repo)
-    } else {
-        None
-    }
+/// Gives an empty repository the objects and the ref of the first stream, and answers whether it has them.
+fn begin<A: Allocator + Copy>(alloc: A, repo: &mut Repo<Sha1Namer, A>) -> bool {
+    import_text(alloc, repo, FIRST)
+        == Ok(Report {
+            commands: 1,
+            objects: 3,
+            refs: 1,
+        })
 }
 
-/// The fault of an import behind the first one, to a sink that takes nothing. None where the import is accepted, or where
-/// it changes anything.
-fn fault_of<A: Allocator + Copy>(
-    alloc: A,
-    state: RandomState,
+/// The fault of an import behind the first one. None where the import is accepted, or where it changes anything.
+fn fault_behind_first(
+    alloc: Global,
+    repo: &mut Repo<Sha1Namer, Global>,
     source: Bytes<'_>,
+    sink: &mut Held<Global>,
 ) -> Option<ImportFault> {
-    let mut repo = begun(alloc, state)?;
-    let mut sink = Held::new(alloc, 0).ok()?;
-    let fault = import_from(alloc, &mut repo, source, &mut sink).err()?;
-    if holds(&repo, 3, 1) {
-        Some(fault)
-    } else {
-        None
+    if !begin(alloc, repo) {
+        return None;
+    }
+    let fault = import_from(alloc, repo, source, sink).err()?;
+    if holds(repo, 3, 1) { Some(fault) } else { None }
+}
+
+/// The same with a sink that takes nothing.
+fn fault_of(alloc: Global, state: RandomState, source: Bytes<'_>) -> Option<ImportFault> {
+    match Held::new(alloc, 0) {
+        Ok(mut sink) => {
+            let mut repo = Repo::new(alloc, Sha1Namer, state);
+            fault_behind_first(alloc, &mut repo, source, &mut sink)
+        }
+        Err(_) => None,
     }
 }
 
 /// Whether a source that ends or fails after these bytes refuses the import for this reason.
-fn is_refused<A: Allocator + Copy>(
-    alloc: A,
-    state: RandomState,
-    source: Bytes<'_>,
-    kind: ImportKind,
-) -> bool {
+fn is_refused(alloc: Global, state: RandomState, source: Bytes<'_>, kind: ImportKind) -> bool {
     match fault_of(alloc, state, source) {
         Some(fault) => fault.kind == kind,
         None => false,
@@ -142,19 +156,24 @@ const LINE: &[u8] = b"progress x\n";
 /// Streams, and the command of each at which a sink that takes nothing refuses it.
 const UNWRITTEN: &[(&[&[u8]], u64)] = &[(&[LINE, MERGED], 1), (&[MERGED, LINE], 5)];
 
+/// Whether the joined parts are refused at this command, since the sink takes nothing.
+fn is_unwritten(alloc: Global, state: RandomState, parts: &[&[u8]], command: u64) -> bool {
+    let unwritten = ImportFault {
+        command,
+        kind: ImportKind::WriteFailed,
+        checkpoints: 0,
+    };
+    let mut text = Vec::new(alloc);
+    add_parts(&mut text, parts).is_ok()
+        && fault_of(alloc, state, Bytes::new(&text, 64, false)) == Some(unwritten)
+}
+
 /// A sink that takes nothing refuses the import at its first progress, also where that is its last command.
 #[test]
 fn failed_write_refuses_the_import(rt: HostRuntime) -> Result<(), Fail> {
     let state = RandomState::new(&rt)?;
     for (parts, command) in UNWRITTEN {
-        let text = joined(rt.alloc(), parts)?;
-        let source = Bytes::new(text.as_slice(), 64, false);
-        let fault = ImportFault {
-            command: *command,
-            kind: ImportKind::WriteFailed,
-            checkpoints: 0,
-        };
-        assert!(rt; fault_of(rt.alloc(), state, source) == Some(fault));
+        assert!(rt; is_unwritten(rt.alloc(), state, parts, *command));
     }
     Ok(())
 }
@@ -176,37 +195,55 @@ fn judged<A: Allocator + Copy>(
     }
 }
 
-/// What comes of an import behind the first one, at which the growth with this number is refused.
-fn refused_at<B: Allocator>(
-    heap: &Refusing<B>,
+/// What comes of an import behind the first one, at which the growth with this number is refused. The heap is given once more as
+/// the allocator, here and below.
+fn refused_to<A: Allocator + Copy>(
+    heap: &Refusing<Global>,
+    own: A,
+    repo: &mut Repo<Sha1Namer, A>,
+    sink: &mut Held<A>,
+    text: &[u8],
+    refs: usize,
+    growth: u64,
+) -> Outcome {
+    if !begin(own, repo) {
+        return Outcome::Wrong;
+    }
+    heap.arm(growth);
+    let answer = import_from(own, repo, Bytes::new(text, 11, false), sink);
+    let is_refused = !heap.is_waiting();
+    heap.arm(0);
+    judged(repo, answer, refs, is_refused)
+}
+
+/// The same in an empty repository with a new sink.
+fn refused_at<A: Allocator + Copy>(
+    heap: &Refusing<Global>,
+    own: A,
     text: &[u8],
     refs: usize,
     growth: u64,
     state: RandomState,
 ) -> Outcome {
-    let Ok(mut sink) = Held::new(heap, 100) else {
-        return Outcome::Wrong;
-    };
-    let Some(mut repo) = begun(heap, state) else {
-        return Outcome::Wrong;
-    };
-    heap.arm(growth);
-    let answer = import_from(heap, &mut repo, Bytes::new(text, 11, false), &mut sink);
-    let is_refused = !heap.is_waiting();
-    heap.arm(0);
-    judged(&repo, answer, refs, is_refused)
+    match Held::new(own, 100) {
+        Ok(mut sink) => {
+            let mut repo = Repo::new(own, Sha1Namer, state);
+            refused_to(heap, own, &mut repo, &mut sink, text, refs, growth)
+        }
+        Err(_) => Outcome::Wrong,
+    }
 }
 
 /// How many growths are refused, one after the other, until an import is done; none where one changed anything.
-fn refused_growths<B: Allocator + Copy>(
-    alloc: B,
+fn refused_by<A: Allocator + Copy>(
+    heap: &Refusing<Global>,
+    own: A,
     text: &[u8],
     refs: usize,
     state: RandomState,
 ) -> Option<u64> {
     for growth in 1..1000u64 {
-        let heap = Refusing::new(alloc, 0);
-        match refused_at(&heap, text, refs, growth, state) {
+        match refused_at(heap, own, text, refs, growth, state) {
             Outcome::Done => return Some(growth - 1),
             Outcome::Refused => {}
             Outcome::Wrong => return None,
@@ -215,12 +252,16 @@ fn refused_growths<B: Allocator + Copy>(
     None
 }
 
+/// The same; 0 where one changed anything.
+fn refused_growths(alloc: Global, text: &[u8], refs: usize, state: RandomState) -> u64 {
+    let heap = Refusing::new(alloc, 0);
+    refused_by(&heap, &heap, text, refs, state).unwrap_or(0)
+}
+
 #[test]
 fn refused_growths_refuse_the_import(rt: HostRuntime) -> Result<(), Fail> {
     let state = RandomState::new(&rt)?;
-    let refused = refused_growths(rt.alloc(), ALL, 4, state).ok_or("a wrong answer")?;
-    assert!(rt; refused > 40);
-    let refused = refused_growths(rt.alloc(), MERGED, 4, state).ok_or("a wrong answer")?;
-    assert!(rt; refused > 20);
+    assert!(rt; refused_growths(rt.alloc(), ALL, 4, state) > 40);
+    assert!(rt; refused_growths(rt.alloc(), MERGED, 4, state) > 20);
     Ok(())
 }

@@ -5,7 +5,6 @@ use gx_object::{Kind, Sha1Namer, ShortNamer};
 use gx_repo::RefChange;
 use names::*;
 use sessions::{Session, follow, refuse_each};
-use std::hash::RandomState;
 use std::test::Fail;
 
 mod calls;
@@ -304,68 +303,57 @@ const SHARING: Session = Session {
 
 #[test]
 fn trees_have_gits_names(rt: HostRuntime) -> Result<(), Fail> {
-    let state = RandomState::new(&rt)?;
-    follow(rt.alloc(), Sha1Namer, state, &TREES)
+    follow(&rt, Sha1Namer, &TREES)
 }
 
 #[test]
 fn commits_have_gits_names(rt: HostRuntime) -> Result<(), Fail> {
-    let state = RandomState::new(&rt)?;
-    follow(rt.alloc(), Sha1Namer, state, &COMMITS)
+    follow(&rt, Sha1Namer, &COMMITS)
 }
 
 #[test]
 fn tags_have_gits_names(rt: HostRuntime) -> Result<(), Fail> {
-    let state = RandomState::new(&rt)?;
-    follow(rt.alloc(), Sha1Namer, state, &TAGS)
+    follow(&rt, Sha1Namer, &TAGS)
 }
 
 #[test]
 fn commits_and_tags_are_peeled(rt: HostRuntime) -> Result<(), Fail> {
-    let state = RandomState::new(&rt)?;
-    follow(rt.alloc(), Sha1Namer, state, &PEELED)
+    follow(&rt, Sha1Namer, &PEELED)
 }
 
 #[test]
 fn name_held_for_another_blob_is_refused(rt: HostRuntime) -> Result<(), Fail> {
-    let state = RandomState::new(&rt)?;
-    follow(rt.alloc(), ShortNamer, state, &HELD_BLOB)
+    follow(&rt, ShortNamer, &HELD_BLOB)
 }
 
 #[test]
 fn name_held_for_another_commit_is_refused(rt: HostRuntime) -> Result<(), Fail> {
-    let state = RandomState::new(&rt)?;
-    follow(rt.alloc(), ShortNamer, state, &HELD_COMMIT)
+    follow(&rt, ShortNamer, &HELD_COMMIT)
 }
 
 #[test]
 fn name_held_for_another_tree_is_refused(rt: HostRuntime) -> Result<(), Fail> {
-    let state = RandomState::new(&rt)?;
-    follow(rt.alloc(), ShortNamer, state, &HELD_TREE)
+    follow(&rt, ShortNamer, &HELD_TREE)
 }
 
 #[test]
 fn given_bytes_are_added_as_a_blob(rt: HostRuntime) -> Result<(), Fail> {
-    let state = RandomState::new(&rt)?;
-    follow(rt.alloc(), Sha1Namer, state, &GIVEN)
+    follow(&rt, Sha1Namer, &GIVEN)
 }
 
 #[test]
 fn records_are_added_within_texts(rt: HostRuntime) -> Result<(), Fail> {
-    let state = RandomState::new(&rt)?;
-    follow(rt.alloc(), Sha1Namer, state, &WITHIN)
+    follow(&rt, Sha1Namer, &WITHIN)
 }
 
 #[test]
 fn truncated_repositories_keep_their_first_objects(rt: HostRuntime) -> Result<(), Fail> {
-    let state = RandomState::new(&rt)?;
-    follow(rt.alloc(), Sha1Namer, state, &CUT)
+    follow(&rt, Sha1Namer, &CUT)
 }
 
 #[test]
 fn refused_growths_change_nothing(rt: HostRuntime) -> Result<(), Fail> {
-    let state = RandomState::new(&rt)?;
-    refuse_each(rt.alloc(), state, &GROWING, 1)?;
-    refuse_each(rt.alloc(), state, &GIVING, 2)?;
-    refuse_each(rt.alloc(), state, &SHARING, 2)
+    refuse_each(&rt, &GROWING, 1)?;
+    refuse_each(&rt, &GIVING, 2)?;
+    refuse_each(&rt, &SHARING, 2)
 }

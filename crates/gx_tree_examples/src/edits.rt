@@ -3,7 +3,7 @@
 use gx_object::{Mode, Name};
 use gx_text::TreePath;
 use gx_tree::{Found, PathTree, TreeFault};
-use std::alloc::Allocator;
+use std::alloc::{Allocator, Global};
 
 /// A file: its path, its mode, and the byte that its name has twenty times.
 pub(crate) type File<'a> = (&'a [u8], Mode, u8);
@@ -50,11 +50,7 @@ pub(crate) fn put<A: Allocator + Copy>(
 }
 
 /// Removes what stands at the path of a text.
-fn remove<A: Allocator + Copy>(
-    alloc: A,
-    tree: &mut PathTree<A>,
-    path: &[u8],
-) -> Result<(), TreeFault> {
+fn remove(alloc: Global, tree: &mut PathTree<Global>, path: &[u8]) -> Result<(), TreeFault> {
     match TreePath::read(alloc, path) {
         Ok(path) => tree.remove(&path),
         Err(_) => Err(TreeFault::OutOfMemory),
@@ -62,11 +58,11 @@ fn remove<A: Allocator + Copy>(
 }
 
 /// Copies what stands at a path to the path of a text, or moves it there.
-fn move_from<A: Allocator + Copy>(
-    alloc: A,
-    tree: &mut PathTree<A>,
+fn move_from(
+    alloc: Global,
+    tree: &mut PathTree<Global>,
     is_copy: bool,
-    source: &TreePath<A>,
+    source: &TreePath<Global>,
     destination: &[u8],
 ) -> Result<(), TreeFault> {
     match TreePath::read(alloc, destination) {
@@ -77,9 +73,9 @@ fn move_from<A: Allocator + Copy>(
 }
 
 /// The same between the paths of two texts.
-fn move_between<A: Allocator + Copy>(
-    alloc: A,
-    tree: &mut PathTree<A>,
+fn move_between(
+    alloc: Global,
+    tree: &mut PathTree<Global>,
     is_copy: bool,
     source: &[u8],
     destination: &[u8],
@@ -91,9 +87,9 @@ fn move_between<A: Allocator + Copy>(
 }
 
 /// What an edit answers.
-pub(crate) fn answer_to<A: Allocator + Copy>(
-    alloc: A,
-    tree: &mut PathTree<A>,
+pub(crate) fn answer_to(
+    alloc: Global,
+    tree: &mut PathTree<Global>,
     edit: Edit<'_>,
 ) -> Result<(), TreeFault> {
     match edit {
@@ -120,9 +116,9 @@ pub(crate) fn fill<A: Allocator + Copy>(
 }
 
 /// Whether this stands at the path of a text, or nothing.
-pub(crate) fn stands<A: Allocator + Copy>(
-    alloc: A,
-    tree: &PathTree<A>,
+pub(crate) fn stands(
+    alloc: Global,
+    tree: &PathTree<Global>,
     path: &[u8],
     found: Option<Found>,
 ) -> bool {

@@ -6,22 +6,22 @@ use gx_object::{Mode, Name, Sha1Namer};
 use gx_store::Store;
 use gx_text::TreePath;
 use gx_tree::PathTree;
-use std::alloc::{AllocError, Allocator, Global};
+use std::alloc::{AllocError, Global};
 use std::hash::RandomState;
 use std::test::Fail;
 
 #[derive(Drop)]
-struct PlainFile<A: Allocator> {
-    path: Vec<u8, A>,
+struct PlainFile {
+    path: Vec<u8>,
     mode: Mode,
     name: Name,
 }
 
 /// A list of files in the order of their paths, edited by the plainest code.
 #[derive(Drop)]
-struct Plain<A: Allocator> {
-    files: Vec<PlainFile<A>, A>,
-    alloc: A,
+struct Plain {
+    files: Vec<PlainFile>,
+    alloc: Global,
 }
 
 /// What follows `front` in a path at or below it, without the slash between them.
@@ -36,31 +36,27 @@ fn rest_below<'a>(path: &'a [u8], front: &[u8]) -> Option<&'a [u8]> {
     rest.strip_prefix(b"/")
 }
 
-/// The two paths with a slash between them, where neither is the root.
-fn joined<A: Allocator + Copy>(
-    alloc: A,
-    front: &[u8],
-    rest: &[u8],
-) -> Result<Vec<u8, A>, AllocError> {
-    let mut path = Vec::from_slice(alloc, front)?;
-    if !front.is_empty() && !rest.is_empty() {
+/// Appends the second path to the first, with a slash between them where neither is the root.
+fn append_path(path: &mut Vec<u8>, rest: &[u8]) -> Result<(), AllocError> {
+    if !path.is_empty() && !rest.is_empty() {
         path.push(b'/')?;
     }
-    path.extend_from_slice(rest)?;
+    path.extend_from_slice(rest)
+}
+
+/// The two paths, one after the other.
+fn joined(alloc: Global, front: &[u8], rest: &[u8]) -> Result<Vec<u8>, AllocError> {
+    let mut path = Vec::from_slice(alloc, front)?;
+    append_path(&mut path, rest)?;
     Ok(path)
 }
 
 /// Whether a listed file is this one.
-fn is_same<A: Allocator + Copy>(
-    file: &PlainFile<A>,
-    path: &TreePath<A>,
-    mode: Mode,
-    name: Name,
-) -> bool {
+fn is_same(file: &PlainFile, path: &TreePath<Global>, mode: Mode, name: Name) -> bool {
     file.path.as_slice() == path.joined() && file.mode == mode && file.name == name
 }
 
-impl<A: Allocator + Copy> Plain<A> {
+impl Plain {
     fn place_of(&self, path: &[u8]) -> usize {
         for (place, file) in self.files.iter().enumerate() {
             if path < file.path.as_slice() {
@@ -70,15 +66,17 @@ impl<A: Allocator + Copy> Plain<A> {
         self.files.len()
     }
 
+    /// A file at a path at which none is.
+    fn insert(&mut self, path: Vec<u8>, mode: Mode, name: Name) -> Result<(), AllocError> {
+        let place = self.place_of(path.as_slice()).min(self.files.len());
+        self.files.insert(place, PlainFile { path, mode, name })?;
+        Ok(())
+    }
+
     /// A file at `front`, joined with `rest`.
     fn add(&mut self, front: &[u8], rest: &[u8], mode: Mode, name: Name) -> Result<(), AllocError> {
         let path = joined(self.alloc, front, rest)?;
-        let place = self.place_of(path.as_slice());
-        if place > self.files.len() {
-            return Ok(());
-        }
-        self.files.insert(place, PlainFile { path, mode, name })?;
-        Ok(())
+        self.insert(path, mode, name)
     }
 
     fn remove(&mut self, path: &[u8]) {
@@ -98,21 +96,27 @@ impl<A: Allocator + Copy> Plain<A> {
         self.add(path, b"", mode, name)
     }
 
-    /// The files at or below a path, by what follows it.
-    fn below(&self, path: &[u8]) -> Result<Plain<A>, AllocError> {
-        let mut below = Plain {
-            files: Vec::new(self.alloc),
-            alloc: self.alloc,
-        };
+    /// Adds the files at or below a path to others, by what follows it.
+    fn add_below(&self, path: &[u8], below: &mut Plain) -> Result<(), AllocError> {
         for file in &self.files {
             if let Some(rest) = rest_below(file.path.as_slice(), path) {
                 below.add(b"", rest, file.mode, file.name)?;
             }
         }
+        Ok(())
+    }
+
+    /// The files at or below a path, by what follows it.
+    fn below(&self, path: &[u8]) -> Result<Plain, AllocError> {
+        let mut below = Plain {
+            files: Vec::new(self.alloc),
+            alloc: self.alloc,
+        };
+        self.add_below(path, &mut below)?;
         Ok(below)
     }
 
-    fn add_all(&mut self, front: &[u8], files: &Plain<A>) -> Result<(), AllocError> {
+    fn add_all(&mut self, front: &[u8], files: &Plain) -> Result<(), AllocError> {
         for file in &files.files {
             self.add(front, file.path.as_slice(), file.mode, file.name)?;
         }
@@ -133,14 +137,14 @@ impl<A: Allocator + Copy> Plain<A> {
     }
 
     /// Whether the tree lists these very files.
-    fn is_list_of(&self, tree: &PathTree<A>) -> bool {
-        let Ok(listed) = tree.list() else {
-            return false;
-        };
-        self.are(listed.as_slice())
+    fn is_list_of(&self, tree: &PathTree<Global>) -> bool {
+        match tree.list() {
+            Ok(listed) => self.are(listed.as_slice()),
+            Err(_) => false,
+        }
     }
 
-    fn are(&self, listed: &[(TreePath<A>, Mode, Name)]) -> bool {
+    fn are(&self, listed: &[(TreePath<Global>, Mode, Name)]) -> bool {
         for (file, (path, mode, name)) in self.files.iter().zip(listed) {
             if !is_same(file, path, *mode, *name) {
                 return false;
@@ -158,8 +162,8 @@ enum Step {
     Rename,
 }
 
-fn step_plainly<A: Allocator + Copy>(
-    plain: &mut Plain<A>,
+fn step_plainly(
+    plain: &mut Plain,
     step: Step,
     first: &[u8],
     second: &[u8],
@@ -176,9 +180,9 @@ fn step_plainly<A: Allocator + Copy>(
     }
 }
 
-fn step_in_tree<A: Allocator + Copy>(
-    alloc: A,
-    tree: &mut PathTree<A>,
+fn step_in_tree(
+    alloc: Global,
+    tree: &mut PathTree<Global>,
     step: Step,
     first: &[u8],
     second: &[u8],
@@ -194,14 +198,14 @@ fn step_in_tree<A: Allocator + Copy>(
 
 /// The same files twice.
 #[derive(Drop)]
-struct Both<A: Allocator> {
-    tree: PathTree<A>,
-    plain: Plain<A>,
-    store: Store<Sha1Namer, A>,
+struct Both {
+    tree: PathTree<Global>,
+    plain: Plain,
+    store: Store<Sha1Namer, Global>,
 }
 
-impl<A: Allocator + Copy> Both<A> {
-    fn new(alloc: A, state: RandomState) -> Both<A> {
+impl Both {
+    fn new(alloc: Global, state: RandomState) -> Both {
         Both {
             tree: PathTree::empty(alloc),
             plain: Plain {
@@ -279,8 +283,10 @@ impl<A: Allocator + Copy> Both<A> {
     /// Writes the tree, and answers the digits of its name, and whether the tree that is loaded by it has these files.
     fn write(&mut self) -> Option<([u8; 40], bool)> {
         let name = self.tree.write(&mut self.store).ok()?;
-        let loaded = PathTree::load(self.plain.alloc, &self.store, &name).ok()?;
-        Some((name.hex(), self.plain.is_list_of(&loaded)))
+        match PathTree::load(self.plain.alloc, &self.store, &name) {
+            Ok(loaded) => Some((name.hex(), self.plain.is_list_of(&loaded))),
+            Err(_) => None,
+        }
     }
 
     /// How many files there are, and the same, where both are alike.
@@ -343,12 +349,12 @@ const FILLED: [u8; 40] = *b"ee8b8301830e939aa592b99825253aef6910c1ac";
 const EDITED: [u8; 40] = *b"208624144a2dc19234269d5b31848457af6c4f25";
 
 /// Whether both have so many files, and the tree is written under the name with these digits and loaded again.
-fn are_written(both: &mut Both<Global>, files: usize, digits: [u8; 40]) -> bool {
+fn are_written(both: &mut Both, files: usize, digits: [u8; 40]) -> bool {
     both.written() == Some((files, digits, true))
 }
 
 /// Fills both, and does the steps.
-fn edit_many(both: &mut Both<Global>) -> Result<(), Fail> {
+fn edit_many(both: &mut Both) -> Result<(), Fail> {
     if !both.fill_all() || !are_written(both, 2000, FILLED) {
         return Err(Fail::new(format_args!("filled")));
     }

@@ -6,17 +6,22 @@ use crate::shown::lists;
 use gx_object::Mode;
 use gx_tree::{PathTree, TreeFault};
 use std::alloc::{AllocError, Global};
-use std::hash::RandomState;
 use std::test::Fail;
 
 /// A front, and a byte that stands so many times behind it.
 pub(crate) type Long<'a> = (&'a [u8], u8, u16);
 
-fn text_of(alloc: Global, (front, byte, count): Long<'_>) -> Result<Vec<u8>, AllocError> {
-    let mut text = Vec::from_slice(alloc, front)?;
+/// Appends a byte so many times.
+fn append_often(text: &mut Vec<u8>, byte: u8, count: u16) -> Result<(), AllocError> {
     for _ in 0..count {
         text.push(byte)?;
     }
+    Ok(())
+}
+
+fn text_of(alloc: Global, (front, byte, count): Long<'_>) -> Result<Vec<u8>, AllocError> {
+    let mut text = Vec::from_slice(alloc, front)?;
+    append_often(&mut text, byte, count)?;
     Ok(text)
 }
 
@@ -83,7 +88,7 @@ const RENAMES: &[Step<'static>] = &[
 
 #[test]
 fn no_path_gets_longer_than_4095_bytes(rt: HostRuntime) -> Result<(), Fail> {
-    run(rt.alloc(), RENAMES, RandomState::new(&rt)?)
+    run(&rt, RENAMES)
 }
 
 const LONGEST: &[Step<'static>] = &[
@@ -95,7 +100,7 @@ const LONGEST: &[Step<'static>] = &[
 
 #[test]
 fn a_path_may_have_4095_bytes(rt: HostRuntime) -> Result<(), Fail> {
-    run(rt.alloc(), LONGEST, RandomState::new(&rt)?)
+    run(&rt, LONGEST)
 }
 
 /// Components of 24 bytes, the most that stand in an entry itself, and of 25: alone, copied, and beside another file.
@@ -118,7 +123,7 @@ const KEPT: &[Step<'static>] = &[
 
 #[test]
 fn components_are_kept_short_or_long(rt: HostRuntime) -> Result<(), Fail> {
-    run(rt.alloc(), KEPT, RandomState::new(&rt)?)
+    run(&rt, KEPT)
 }
 
 const DOUBLED: &[Step<'static>] = &[
@@ -129,7 +134,7 @@ const DOUBLED: &[Step<'static>] = &[
 
 #[test]
 fn doubled_files_are_files(rt: HostRuntime) -> Result<(), Fail> {
-    run(rt.alloc(), DOUBLED, RandomState::new(&rt)?)
+    run(&rt, DOUBLED)
 }
 
 /// The directory `a` has 2^40 files, whose paths below it have 81 bytes.
@@ -142,7 +147,7 @@ const MANY: &[Step<'static>] = &[
 
 #[test]
 fn copies_look_at_no_path_of_many(rt: HostRuntime) -> Result<(), Fail> {
-    run(rt.alloc(), MANY, RandomState::new(&rt)?)
+    run(&rt, MANY)
 }
 
 /// A file is put into the directory `a` in place, at a path of 4,000 bytes below it.
@@ -155,5 +160,5 @@ const LONGER: &[Step<'static>] = &[
 
 #[test]
 fn copies_know_of_files_put_in_place(rt: HostRuntime) -> Result<(), Fail> {
-    run(rt.alloc(), LONGER, RandomState::new(&rt)?)
+    run(&rt, LONGER)
 }

@@ -4,7 +4,6 @@ use crate::edits::{Edit, File};
 use crate::sessions::{Step, run};
 use gx_object::Mode;
 use gx_tree::TreeFault;
-use std::hash::RandomState;
 use std::test::Fail;
 
 const A_AND_X: Step<'static> = Step::Fill(&[(b"a", Mode::File, b'1'), (b"d/x", Mode::Exec, b'2')]);
@@ -41,7 +40,7 @@ const MOVES: &[Step<'static>] = &[
 
 #[test]
 fn copies_and_renames_are_of_sets_of_paths(rt: HostRuntime) -> Result<(), Fail> {
-    run(rt.alloc(), MOVES, RandomState::new(&rt)?)
+    run(&rt, MOVES)
 }
 
 const AS_BEFORE: Step<'static> = Step::List(b"a:f1 d/x:x2 ");
@@ -68,7 +67,7 @@ const REFUSED: &[Step<'static>] = &[
 
 #[test]
 fn refused_copies_and_renames_change_nothing(rt: HostRuntime) -> Result<(), Fail> {
-    run(rt.alloc(), REFUSED, RandomState::new(&rt)?)
+    run(&rt, REFUSED)
 }
 
 const NO_FILES: &[Step<'static>] = &[
@@ -84,7 +83,7 @@ const NO_FILES: &[Step<'static>] = &[
 
 #[test]
 fn nothing_stands_at_the_root_of_no_files(rt: HostRuntime) -> Result<(), Fail> {
-    run(rt.alloc(), NO_FILES, RandomState::new(&rt)?)
+    run(&rt, NO_FILES)
 }
 
 /// The file `a/b`, which is put below the file `a`.
@@ -127,7 +126,7 @@ const RENAMES: &[Step<'static>] = &[
 
 #[test]
 fn renames_leave_a_duplicate(rt: HostRuntime) -> Result<(), Fail> {
-    run(rt.alloc(), RENAMES, RandomState::new(&rt)?)
+    run(&rt, RENAMES)
 }
 
 /// Files of each mode, in directories of two levels.
@@ -163,7 +162,7 @@ const COPIES: &[Step<'static>] = &[
 
 #[test]
 fn an_edit_below_one_of_two_copies_leaves_the_other(rt: HostRuntime) -> Result<(), Fail> {
-    run(rt.alloc(), COPIES, RandomState::new(&rt)?)
+    run(&rt, COPIES)
 }
 
 /// Edits of the duplicate, which is the tree for so long.
@@ -196,7 +195,7 @@ const APART: &[Step<'static>] = &[
 
 #[test]
 fn an_edit_of_a_duplicate_leaves_the_tree(rt: HostRuntime) -> Result<(), Fail> {
-    run(rt.alloc(), APART, RandomState::new(&rt)?)
+    run(&rt, APART)
 }
 
 const AROUND: &[Step<'static>] = &[
@@ -222,7 +221,7 @@ const AROUND: &[Step<'static>] = &[
 
 #[test]
 fn duplicates_keep_their_files(rt: HostRuntime) -> Result<(), Fail> {
-    run(rt.alloc(), AROUND, RandomState::new(&rt)?)
+    run(&rt, AROUND)
 }
 
 /// Removals in a tree that shares no directory, and in one that shares some with its duplicate.
@@ -248,7 +247,7 @@ const REMOVALS: &[Step<'static>] = &[
 
 #[test]
 fn removals_leave_the_other_files(rt: HostRuntime) -> Result<(), Fail> {
-    run(rt.alloc(), REMOVALS, RandomState::new(&rt)?)
+    run(&rt, REMOVALS)
 }
 
 /// Files that are copied and moved, beside a duplicate and without one.
@@ -268,5 +267,5 @@ const FILES_MOVED: &[Step<'static>] = &[
 
 #[test]
 fn files_are_copied_and_moved_beside_a_duplicate(rt: HostRuntime) -> Result<(), Fail> {
-    run(rt.alloc(), FILES_MOVED, RandomState::new(&rt)?)
+    run(&rt, FILES_MOVED)
 }

@@ -5,7 +5,6 @@ use crate::moves::{MIXED, MIXED_FILES};
 use crate::sessions::{Step, run};
 use crate::written::Named;
 use gx_object::Mode;
-use std::hash::RandomState;
 use std::test::Fail;
 
 pub(crate) const HELLO: &[u8] = b"ce013625030ba8dba906f756967f9e9ca394464a";
@@ -45,7 +44,7 @@ const NAMES: &[Step<'static>] = &[
 
 #[test]
 fn trees_have_gits_names(rt: HostRuntime) -> Result<(), Fail> {
-    run(rt.alloc(), NAMES, RandomState::new(&rt)?)
+    run(&rt, NAMES)
 }
 
 const EMPTIED: &[Step<'static>] = &[
@@ -56,7 +55,7 @@ const EMPTIED: &[Step<'static>] = &[
 
 #[test]
 fn no_directory_is_left_empty(rt: HostRuntime) -> Result<(), Fail> {
-    run(rt.alloc(), EMPTIED, RandomState::new(&rt)?)
+    run(&rt, EMPTIED)
 }
 
 const X: Named<'static> = (b"a.b", HELLO);
@@ -92,7 +91,7 @@ const ORDERS: &[Step<'static>] = &[
 
 #[test]
 fn the_order_of_insertion_makes_no_difference(rt: HostRuntime) -> Result<(), Fail> {
-    run(rt.alloc(), ORDERS, RandomState::new(&rt)?)
+    run(&rt, ORDERS)
 }
 
 const MIXED_NAME: &[u8; 40] = b"18de5d468d1fd19997749617935aae8af6873ef1";
@@ -107,7 +106,7 @@ const LOADED: &[Step<'static>] = &[
 
 #[test]
 fn a_written_tree_is_loaded_again(rt: HostRuntime) -> Result<(), Fail> {
-    run(rt.alloc(), LOADED, RandomState::new(&rt)?)
+    run(&rt, LOADED)
 }
 
 const ELSEWHERE: &[Step<'static>] = &[
@@ -119,7 +118,7 @@ const ELSEWHERE: &[Step<'static>] = &[
 
 #[test]
 fn a_tree_that_was_written_is_whole_in_an_empty_store(rt: HostRuntime) -> Result<(), Fail> {
-    run(rt.alloc(), ELSEWHERE, RandomState::new(&rt)?)
+    run(&rt, ELSEWHERE)
 }
 
 const REMEMBERED: &[Step<'static>] = &[
@@ -136,5 +135,5 @@ const REMEMBERED: &[Step<'static>] = &[
 
 #[test]
 fn remembered_names_give_the_name_of_the_tree(rt: HostRuntime) -> Result<(), Fail> {
-    run(rt.alloc(), REMEMBERED, RandomState::new(&rt)?)
+    run(&rt, REMEMBERED)
 }

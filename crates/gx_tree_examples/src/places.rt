@@ -5,8 +5,7 @@ use crate::sessions::{Step, run};
 use gx_object::{Mode, Name};
 use gx_text::TreePath;
 use gx_tree::{Found, PathTree, TreeFault};
-use std::alloc::Allocator;
-use std::hash::RandomState;
+use std::alloc::Global;
 use std::test::Fail;
 
 const ONLY_A: Step<'static> = Step::Fill(&[(b"a", Mode::Link, b'1')]);
@@ -29,7 +28,7 @@ const GIVING_WAY: &[Step<'static>] = &[
 
 #[test]
 fn files_and_directories_give_way_to_one_another(rt: HostRuntime) -> Result<(), Fail> {
-    run(rt.alloc(), GIVING_WAY, RandomState::new(&rt)?)
+    run(&rt, GIVING_WAY)
 }
 
 const CLEARED: &[Step<'static>] = &[
@@ -42,11 +41,11 @@ const CLEARED: &[Step<'static>] = &[
 
 #[test]
 fn a_cleared_tree_has_no_files(rt: HostRuntime) -> Result<(), Fail> {
-    run(rt.alloc(), CLEARED, RandomState::new(&rt)?)
+    run(&rt, CLEARED)
 }
 
 /// Whether a directory stands at the root of a tree, where no file can be put.
-fn has_root<A: Allocator + Copy>(tree: &mut PathTree<A>, root: &TreePath<A>) -> bool {
+fn has_root(tree: &mut PathTree<Global>, root: &TreePath<Global>) -> bool {
     let is_directory = tree.entry(root) == Some(Found::Directory);
     let answer = tree.modify(root, Mode::File, name_of(b'1'));
     is_directory && answer == Err(TreeFault::RootNotTree)
@@ -78,7 +77,7 @@ const STANDING: &[Step<'static>] = &[
 
 #[test]
 fn a_path_leads_to_a_file_or_a_directory(rt: HostRuntime) -> Result<(), Fail> {
-    run(rt.alloc(), STANDING, RandomState::new(&rt)?)
+    run(&rt, STANDING)
 }
 
 const NEIGHBOURS: &[File<'static>] = &[
@@ -120,9 +119,8 @@ fn steps_beside<'a>(path: &'a [u8], files: &'a [u8]) -> [Step<'a>; 8] {
 
 #[test]
 fn a_new_file_stands_at_its_place(rt: HostRuntime) -> Result<(), Fail> {
-    let state = RandomState::new(&rt)?;
     for (path, files) in BESIDE {
-        run(rt.alloc(), &steps_beside(path, files), state)?;
+        run(&rt, &steps_beside(path, files))?;
     }
     Ok(())
 }

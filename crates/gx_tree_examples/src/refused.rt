@@ -8,9 +8,12 @@ use gx_refusing::Refusing;
 use gx_store::Store;
 use gx_text::TreePath;
 use gx_tree::{PathTree, TreeFault};
-use std::alloc::Allocator;
+use std::alloc::Global;
 use std::hash::RandomState;
 use std::test::Fail;
+
+/// A heap that may be told to refuse a growth.
+type Heap = Refusing<Global>;
 
 /// A call on the tree of files of each mode.
 #[derive(Clone, Copy, Debug)]
@@ -34,13 +37,13 @@ enum Call {
 type Answer = (Result<(), TreeFault>, bool);
 
 /// The paths of a call.
-type Paths<'a, A> = (&'a TreePath<A>, &'a TreePath<A>);
+type Paths<'p, 'a> = (&'p TreePath<&'a Heap>, &'p TreePath<&'a Heap>);
 
-fn answer_to<A: Allocator + Copy>(
-    tree: &mut PathTree<A>,
-    store: &mut Store<Sha1Namer, A>,
+fn answer_to<'a>(
+    tree: &mut PathTree<&'a Heap>,
+    store: &mut Store<Sha1Namer, &'a Heap>,
     call: Call,
-    (source, destination): Paths<'_, A>,
+    (source, destination): Paths<'_, 'a>,
 ) -> Result<(), TreeFault> {
     match call {
         Call::Modify => tree.modify(destination, Mode::Exec, name_of(b'9')),
@@ -58,12 +61,12 @@ fn answer_to<A: Allocator + Copy>(
 }
 
 /// The call, at which the growth with this number is refused.
-fn refused_call<B: Allocator, C: Allocator + Copy>(
-    heap: &Refusing<B>,
-    tree: &mut PathTree<C>,
-    store: &mut Store<Sha1Namer, C>,
+fn refused_call<'a>(
+    heap: &'a Heap,
+    tree: &mut PathTree<&'a Heap>,
+    store: &mut Store<Sha1Namer, &'a Heap>,
     call: Call,
-    paths: Paths<'_, C>,
+    paths: Paths<'_, 'a>,
     nth: u64,
 ) -> Answer {
     heap.arm(nth);
@@ -74,10 +77,7 @@ fn refused_call<B: Allocator, C: Allocator + Copy>(
 }
 
 /// What a load answers; that nothing is there where it has other files than those that were written.
-fn answer_of<A: Allocator + Copy>(
-    alloc: A,
-    loaded: &Result<PathTree<A>, TreeFault>,
-) -> Result<(), TreeFault> {
+fn answer_of(alloc: Global, loaded: &Result<PathTree<&Heap>, TreeFault>) -> Result<(), TreeFault> {
     match loaded {
         Ok(tree) if lists(alloc, tree, MIXED) => Ok(()),
         Ok(_) => Err(TreeFault::NoSuchPath),
@@ -86,29 +86,29 @@ fn answer_of<A: Allocator + Copy>(
 }
 
 /// A load behind a write, at which the growth with this number is refused.
-fn refused_load<B: Allocator, C: Allocator + Copy>(
-    heap: &Refusing<B>,
-    own: C,
-    tree: &mut PathTree<C>,
-    store: &mut Store<Sha1Namer, C>,
+fn refused_load<'a>(
+    alloc: Global,
+    heap: &'a Heap,
+    tree: &mut PathTree<&'a Heap>,
+    store: &mut Store<Sha1Namer, &'a Heap>,
     nth: u64,
 ) -> Option<Answer> {
     let Ok(name) = tree.write(store) else {
         return None;
     };
     heap.arm(nth);
-    let loaded = PathTree::load(own, store, &name);
+    let loaded = PathTree::load(heap, store, &name);
     let is_waiting = heap.is_waiting();
     heap.arm(0);
-    Some((answer_of(own, &loaded), is_waiting))
+    Some((answer_of(alloc, &loaded), is_waiting))
 }
 
 /// A write by remembered names behind a write and an edit, at which the growth with this number is refused.
-fn refused_write<B: Allocator, C: Allocator + Copy>(
-    heap: &Refusing<B>,
-    tree: &mut PathTree<C>,
-    store: &mut Store<Sha1Namer, C>,
-    path: &TreePath<C>,
+fn refused_write<'a>(
+    heap: &'a Heap,
+    tree: &mut PathTree<&'a Heap>,
+    store: &mut Store<Sha1Namer, &'a Heap>,
+    path: &TreePath<&'a Heap>,
     nth: u64,
 ) -> Option<Answer> {
     let Ok(_) = tree.write(store) else {
@@ -124,20 +124,19 @@ fn refused_write<B: Allocator, C: Allocator + Copy>(
     Some((answer.map(|_| ()), is_waiting))
 }
 
-/// What a call answers at which the growth with this number is refused; none where what stands before it fails. The heap is
-/// given once more as the allocator.
-fn answered<B: Allocator, C: Allocator + Copy>(
-    heap: &Refusing<B>,
-    own: C,
-    tree: &mut PathTree<C>,
+/// What a call answers at which the growth with this number is refused; none where what stands before it fails.
+fn answered<'a>(
+    alloc: Global,
+    heap: &'a Heap,
+    tree: &mut PathTree<&'a Heap>,
     call: Call,
-    paths: Paths<'_, C>,
+    paths: Paths<'_, 'a>,
     nth: u64,
     state: RandomState,
 ) -> Option<Answer> {
-    let mut store = Store::new(own, Sha1Namer, state);
+    let mut store = Store::new(heap, Sha1Namer, state);
     match call {
-        Call::Load => refused_load(heap, own, tree, &mut store, nth),
+        Call::Load => refused_load(alloc, heap, tree, &mut store, nth),
         Call::WriteShared => refused_write(heap, tree, &mut store, paths.1, nth),
         _ => Some(refused_call(heap, tree, &mut store, call, paths, nth)),
     }
@@ -152,18 +151,18 @@ fn destination_of(call: Call) -> &'static [u8] {
 }
 
 /// The same with its paths.
-fn answered_at<B: Allocator, C: Allocator + Copy>(
-    heap: &Refusing<B>,
-    own: C,
-    tree: &mut PathTree<C>,
+fn answered_at<'a>(
+    alloc: Global,
+    heap: &'a Heap,
+    tree: &mut PathTree<&'a Heap>,
     call: Call,
     nth: u64,
     state: RandomState,
 ) -> Option<Answer> {
     let texts: (&[u8], &[u8]) = (b"d/e", destination_of(call));
-    match (TreePath::read(own, texts.0), TreePath::read(own, texts.1)) {
+    match (TreePath::read(heap, texts.0), TreePath::read(heap, texts.1)) {
         (Ok(source), Ok(destination)) => {
-            answered(heap, own, tree, call, (&source, &destination), nth, state)
+            answered(alloc, heap, tree, call, (&source, &destination), nth, state)
         }
         _ => None,
     }
@@ -179,9 +178,9 @@ enum Outcome {
 /// A call, the files where it is refused, and those where it is done.
 type Given<'a> = (Call, &'a [u8], &'a [u8]);
 
-fn judged<A: Allocator + Copy, C: Allocator + Copy>(
-    alloc: A,
-    tree: &PathTree<C>,
+fn judged(
+    alloc: Global,
+    tree: &PathTree<&Heap>,
     answer: Option<Answer>,
     (_, before, after): Given<'_>,
 ) -> Outcome {
@@ -195,17 +194,16 @@ fn judged<A: Allocator + Copy, C: Allocator + Copy>(
 }
 
 /// What comes of a call at which the growth with this number is refused.
-fn outcome_of<A: Allocator + Copy, B: Allocator, C: Allocator + Copy>(
-    alloc: A,
-    heap: &Refusing<B>,
-    own: C,
+fn outcome_of(
+    alloc: Global,
+    heap: &Heap,
     given: Given<'_>,
     nth: u64,
     state: RandomState,
 ) -> Outcome {
-    let mut tree = PathTree::empty(own);
-    if fill(own, &mut tree, MIXED_FILES) {
-        let answer = answered_at(heap, own, &mut tree, given.0, nth, state);
+    let mut tree = PathTree::empty(heap);
+    if fill(heap, &mut tree, MIXED_FILES) {
+        let answer = answered_at(alloc, heap, &mut tree, given.0, nth, state);
         judged(alloc, &tree, answer, given)
     } else {
         Outcome::Wrong
@@ -213,14 +211,10 @@ fn outcome_of<A: Allocator + Copy, B: Allocator, C: Allocator + Copy>(
 }
 
 /// How many growths of a call are refused before it is done; none where one comes out otherwise.
-fn refused_growths<A: Allocator + Copy>(
-    alloc: A,
-    given: Given<'_>,
-    state: RandomState,
-) -> Option<u64> {
+fn refused_growths(alloc: Global, given: Given<'_>, state: RandomState) -> Option<u64> {
     for nth in 1..200u64 {
         let heap = Refusing::new(alloc, 0);
-        match outcome_of(alloc, &heap, &heap, given, nth, state) {
+        match outcome_of(alloc, &heap, given, nth, state) {
             Outcome::Done => return Some(nth - 1),
             Outcome::Refused => {}
             Outcome::Wrong => return None,
@@ -281,10 +275,10 @@ fn a_duplicate_and_a_removal_take_no_memory(rt: HostRuntime) -> Result<(), Fail>
 }
 
 /// What a put of an executable answers at which the growth with this number is refused.
-fn refused_put<B: Allocator, C: Allocator + Copy>(
-    heap: &Refusing<B>,
-    tree: &mut PathTree<C>,
-    path: &TreePath<C>,
+fn refused_put<'a>(
+    heap: &'a Heap,
+    tree: &mut PathTree<&'a Heap>,
+    path: &TreePath<&'a Heap>,
     nth: u64,
 ) -> Result<(), TreeFault> {
     heap.arm(nth);
@@ -294,10 +288,10 @@ fn refused_put<B: Allocator, C: Allocator + Copy>(
 }
 
 /// The same in a tree that has a duplicate.
-fn refused_put_beside<B: Allocator, C: Allocator + Copy>(
-    heap: &Refusing<B>,
-    tree: &mut PathTree<C>,
-    path: &TreePath<C>,
+fn refused_put_beside<'a>(
+    heap: &'a Heap,
+    tree: &mut PathTree<&'a Heap>,
+    path: &TreePath<&'a Heap>,
     nth: u64,
 ) -> Option<Result<(), TreeFault>> {
     match tree.duplicate() {
@@ -307,15 +301,14 @@ fn refused_put_beside<B: Allocator, C: Allocator + Copy>(
 }
 
 /// Whether a put at the first path is done in a tree alone, and one at the second refused in a tree with a duplicate, where
-/// the growth with this number is refused. The heap is given once more as the allocator.
-fn are_put<B: Allocator, C: Allocator + Copy>(
-    heap: &Refusing<B>,
-    own: C,
-    tree: &mut PathTree<C>,
+/// the growth with this number is refused.
+fn are_put<'a>(
+    heap: &'a Heap,
+    tree: &mut PathTree<&'a Heap>,
     (first, second): (&[u8], &[u8]),
     nth: u64,
 ) -> bool {
-    match (TreePath::read(own, first), TreePath::read(own, second)) {
+    match (TreePath::read(heap, first), TreePath::read(heap, second)) {
         (Ok(first), Ok(second)) => {
             let shared = Some(Err(TreeFault::OutOfMemory));
             refused_put(heap, tree, &first, nth) == Ok(())
@@ -326,22 +319,16 @@ fn are_put<B: Allocator, C: Allocator + Copy>(
 }
 
 /// The same in a tree of these files.
-fn are_put_into<B: Allocator, C: Allocator + Copy>(
-    heap: &Refusing<B>,
-    own: C,
-    files: &[File<'_>],
-    paths: (&[u8], &[u8]),
-    nth: u64,
-) -> bool {
-    let mut tree = PathTree::empty(own);
-    fill(own, &mut tree, files) && are_put(heap, own, &mut tree, paths, nth)
+fn are_put_into<'a>(heap: &'a Heap, files: &[File<'_>], paths: (&[u8], &[u8]), nth: u64) -> bool {
+    let mut tree = PathTree::empty(heap);
+    fill(heap, &mut tree, files) && are_put(heap, &mut tree, paths, nth)
 }
 
 #[test]
 fn a_file_that_stands_is_changed_without_memory(rt: HostRuntime) {
     let heap = Refusing::new(rt.alloc(), 0);
     let paths: (&[u8], &[u8]) = (b"d/e/f", b"d/e/f");
-    assert!(rt; are_put_into(&heap, &heap, MIXED_FILES, paths, 1));
+    assert!(rt; are_put_into(&heap, MIXED_FILES, paths, 1));
 }
 
 /// The files of each mode, and one more, so that its directory has room for another.
@@ -358,7 +345,7 @@ const WITH_ROOM: &[File<'static>] = &[
 fn a_new_file_takes_no_memory_for_a_short_component(rt: HostRuntime) {
     let heap = Refusing::new(rt.alloc(), 0);
     let paths: (&[u8], &[u8]) = (b"d/e/h", b"d/e/i");
-    assert!(rt; are_put_into(&heap, &heap, WITH_ROOM, paths, 1));
+    assert!(rt; are_put_into(&heap, WITH_ROOM, paths, 1));
 }
 
 /// A file whose component has 25 bytes, and another one.
@@ -368,14 +355,10 @@ const LONG_TOO: &[u8] = b"d/e/next-of-twenty-five-bytes";
 
 /// What a put of a file with a long component answers in a tree of the files that leave room, where the growth with this
 /// number is refused; nothing where the tree can't be made.
-fn long_put<B: Allocator, C: Allocator + Copy>(
-    heap: &Refusing<B>,
-    own: C,
-    nth: u64,
-) -> Option<Result<(), TreeFault>> {
-    let mut tree = PathTree::empty(own);
-    match TreePath::read(own, LONG) {
-        Ok(path) if fill(own, &mut tree, WITH_ROOM) => {
+fn long_put<'a>(heap: &'a Heap, nth: u64) -> Option<Result<(), TreeFault>> {
+    let mut tree = PathTree::empty(heap);
+    match TreePath::read(heap, LONG) {
+        Ok(path) if fill(heap, &mut tree, WITH_ROOM) => {
             Some(refused_put(heap, &mut tree, &path, nth))
         }
         _ => None,
@@ -385,17 +368,17 @@ fn long_put<B: Allocator, C: Allocator + Copy>(
 #[test]
 fn a_new_file_takes_memory_for_a_long_component(rt: HostRuntime) {
     let heap = Refusing::new(rt.alloc(), 0);
-    assert!(rt; are_put_into(&heap, &heap, WITH_ROOM, (LONG, LONG_TOO), 3));
+    assert!(rt; are_put_into(&heap, WITH_ROOM, (LONG, LONG_TOO), 3));
     let refused = Some(Err(TreeFault::OutOfMemory));
-    assert_eq!(rt; long_put(&heap, &heap, 1), refused);
-    assert_eq!(rt; long_put(&heap, &heap, 2), refused);
+    assert_eq!(rt; long_put(&heap, 1), refused);
+    assert_eq!(rt; long_put(&heap, 2), refused);
 }
 
 /// Whether a tree that was written is written by the names that it remembers while each growth is refused.
-fn is_written_twice<B: Allocator, C: Allocator + Copy>(
-    heap: &Refusing<B>,
-    tree: &mut PathTree<C>,
-    store: &mut Store<Sha1Namer, C>,
+fn is_written_twice<'a>(
+    heap: &'a Heap,
+    tree: &mut PathTree<&'a Heap>,
+    store: &mut Store<Sha1Namer, &'a Heap>,
 ) -> bool {
     let Ok(first) = tree.write(store) else {
         return false;
@@ -406,28 +389,24 @@ fn is_written_twice<B: Allocator, C: Allocator + Copy>(
     second == Ok(first)
 }
 
-/// The same of the tree of files of each mode. The heap is given once more as the allocator.
-fn mixed_is_written_twice<B: Allocator, C: Allocator + Copy>(
-    heap: &Refusing<B>,
-    own: C,
-    state: RandomState,
-) -> bool {
-    let mut tree = PathTree::empty(own);
-    let mut store = Store::new(own, Sha1Namer, state);
-    fill(own, &mut tree, MIXED_FILES) && is_written_twice(heap, &mut tree, &mut store)
+/// The same of the tree of files of each mode.
+fn mixed_is_written_twice<'a>(heap: &'a Heap, state: RandomState) -> bool {
+    let mut tree = PathTree::empty(heap);
+    let mut store = Store::new(heap, Sha1Namer, state);
+    fill(heap, &mut tree, MIXED_FILES) && is_written_twice(heap, &mut tree, &mut store)
 }
 
 #[test]
 fn remembered_names_are_written_without_memory(rt: HostRuntime) -> Result<(), Fail> {
     let heap = Refusing::new(rt.alloc(), 0);
-    assert!(rt; mixed_is_written_twice(&heap, &heap, RandomState::new(&rt)?));
+    assert!(rt; mixed_is_written_twice(&heap, RandomState::new(&rt)?));
     Ok(())
 }
 
 const TWO_DIRECTORIES: &[File<'static>] = &[(b"a/x", Mode::File, b'1'), (b"b/y", Mode::File, b'2')];
 
 /// Whether a write is refused behind a blob, since a tree's name is held, and leaves the blob and one tree.
-fn is_held<A: Allocator + Copy>(tree: &mut PathTree<A>, store: &mut Store<ShortNamer, A>) -> bool {
+fn is_held(tree: &mut PathTree<Global>, store: &mut Store<ShortNamer, Global>) -> bool {
     let Ok(blob) = store.put(Kind::Blob, b"bytes") else {
         return false;
     };
@@ -437,7 +416,7 @@ fn is_held<A: Allocator + Copy>(tree: &mut PathTree<A>, store: &mut Store<ShortN
 }
 
 /// The same of two directories whose trees have one name, and whether the files are as they were.
-fn two_are_held<A: Allocator + Copy>(alloc: A, state: RandomState) -> bool {
+fn two_are_held(alloc: Global, state: RandomState) -> bool {
     let mut tree = PathTree::empty(alloc);
     let mut store = Store::new(alloc, ShortNamer, state);
     fill(alloc, &mut tree, TWO_DIRECTORIES)

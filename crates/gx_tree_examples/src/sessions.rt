@@ -157,14 +157,25 @@ fn first_wrong(
     None
 }
 
-/// Does steps to a tree with no files. The first of which something else comes is a failure.
-pub(crate) fn run(alloc: Global, steps: &[Step<'_>], state: RandomState) -> Result<(), Fail> {
-    let mut desk = Desk {
+/// A tree with no files, a duplicate of it and an empty store.
+fn desk_of(alloc: Global, state: RandomState) -> Desk {
+    Desk {
         tree: PathTree::empty(alloc),
         duplicate: PathTree::empty(alloc),
         store: Store::new(alloc, Sha1Namer, state),
-    };
-    match first_wrong(alloc, &mut desk, steps, state) {
+    }
+}
+
+/// The first step of which something else comes, where a tree with no files stands on the desk before.
+fn first_wrong_anew(alloc: Global, steps: &[Step<'_>], state: RandomState) -> Option<usize> {
+    let mut desk = desk_of(alloc, state);
+    first_wrong(alloc, &mut desk, steps, state)
+}
+
+/// Does steps to a tree with no files. The first of which something else comes is a failure.
+pub(crate) fn run(rt: &HostRuntime, steps: &[Step<'_>]) -> Result<(), Fail> {
+    let state = RandomState::new(rt)?;
+    match first_wrong_anew(rt.alloc(), steps, state) {
         None => Ok(()),
         Some(place) => Err(Fail::new(format_args!("step {place}"))),
     }

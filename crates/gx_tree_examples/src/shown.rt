@@ -2,8 +2,8 @@
 
 use gx_object::{Mode, Name};
 use gx_text::TreePath;
-use gx_tree::{PathTree, TreeFault};
-use std::alloc::{AllocError, Allocator};
+use gx_tree::PathTree;
+use std::alloc::{AllocError, Allocator, Global};
 
 fn letter_of(mode: Mode) -> &'static [u8] {
     match mode {
@@ -16,8 +16,8 @@ fn letter_of(mode: Mode) -> &'static [u8] {
 }
 
 /// Appends a file's path, the letter of its mode, the first byte of its name and a space.
-fn spell_file<A: Allocator + Copy, B: Allocator + Copy>(
-    text: &mut Vec<u8, B>,
+fn spell_file<A: Allocator + Copy>(
+    text: &mut Vec<u8>,
     path: &TreePath<A>,
     mode: Mode,
     name: Name,
@@ -29,26 +29,30 @@ fn spell_file<A: Allocator + Copy, B: Allocator + Copy>(
     Ok(())
 }
 
-/// The listed files as text.
-fn spell<A: Allocator + Copy, B: Allocator + Copy>(
-    alloc: B,
-    tree: &PathTree<A>,
-) -> Result<Vec<u8, B>, TreeFault> {
-    let mut text = Vec::new(alloc);
-    for (path, mode, name) in &tree.list()? {
-        spell_file(&mut text, path, *mode, *name)?;
+/// A file as a tree lists it.
+type Listed<A> = (TreePath<A>, Mode, Name);
+
+/// Appends listed files.
+fn spell_all<A: Allocator + Copy>(
+    text: &mut Vec<u8>,
+    files: &[Listed<A>],
+) -> Result<(), AllocError> {
+    for (path, mode, name) in files {
+        spell_file(text, path, *mode, *name)?;
     }
-    Ok(text)
+    Ok(())
+}
+
+/// Whether listed files are these as text.
+fn are<A: Allocator + Copy>(alloc: Global, listed: &[Listed<A>], files: &[u8]) -> bool {
+    let mut text = Vec::new(alloc);
+    spell_all(&mut text, listed).is_ok() && text.as_slice() == files
 }
 
 /// Whether these are the listed files as text.
-pub(crate) fn lists<A: Allocator + Copy, B: Allocator + Copy>(
-    alloc: B,
-    tree: &PathTree<A>,
-    files: &[u8],
-) -> bool {
-    match spell(alloc, tree) {
-        Ok(text) => text.as_slice() == files,
+pub(crate) fn lists<A: Allocator + Copy>(alloc: Global, tree: &PathTree<A>, files: &[u8]) -> bool {
+    match tree.list() {
+        Ok(listed) => are(alloc, listed.as_slice(), files),
         Err(_) => false,
     }
 }

@@ -6,18 +6,14 @@ use gx_object::{Mode, Name, Sha1Namer};
 use gx_store::Store;
 use gx_text::TreePath;
 use gx_tree::PathTree;
-use std::alloc::Allocator;
+use std::alloc::Global;
 use std::hash::RandomState;
 
 /// A file whose name git knows: its path, and the digits.
 pub(crate) type Named<'a> = (&'a [u8], &'a [u8]);
 
 /// Puts a file under the name with these digits. Answers whether that was done.
-fn put_named<A: Allocator + Copy>(
-    alloc: A,
-    tree: &mut PathTree<A>,
-    (path, digits): Named<'_>,
-) -> bool {
+fn put_named(alloc: Global, tree: &mut PathTree<Global>, (path, digits): Named<'_>) -> bool {
     match Name::read(digits) {
         Some(name) => put(alloc, tree, path, Mode::File, name).is_ok(),
         None => false,
@@ -25,11 +21,7 @@ fn put_named<A: Allocator + Copy>(
 }
 
 /// Gives a tree these files in place of its own. Answers whether that was done.
-pub(crate) fn fill_named<A: Allocator + Copy>(
-    alloc: A,
-    tree: &mut PathTree<A>,
-    files: &[Named<'_>],
-) -> bool {
+pub(crate) fn fill_named(alloc: Global, tree: &mut PathTree<Global>, files: &[Named<'_>]) -> bool {
     tree.clear();
     for file in files {
         if !put_named(alloc, tree, *file) {
@@ -40,11 +32,7 @@ pub(crate) fn fill_named<A: Allocator + Copy>(
 }
 
 /// The name that a tree is written with into an empty store, and how many records are in it then.
-fn named<A: Allocator + Copy>(
-    alloc: A,
-    tree: &mut PathTree<A>,
-    state: RandomState,
-) -> Option<(Name, usize)> {
+fn named(alloc: Global, tree: &mut PathTree<Global>, state: RandomState) -> Option<(Name, usize)> {
     let mut store = Store::new(alloc, Sha1Namer, state);
     match tree.write(&mut store) {
         Ok(name) => Some((name, store.len())),
@@ -53,9 +41,9 @@ fn named<A: Allocator + Copy>(
 }
 
 /// Whether a tree is written into an empty store under the name with these digits, and with so many trees.
-pub(crate) fn has_name<A: Allocator + Copy>(
-    alloc: A,
-    tree: &mut PathTree<A>,
+pub(crate) fn has_name(
+    alloc: Global,
+    tree: &mut PathTree<Global>,
     digits: &[u8; 40],
     trees: usize,
     state: RandomState,
@@ -67,9 +55,9 @@ pub(crate) fn has_name<A: Allocator + Copy>(
 }
 
 /// Whether a tree lists these files, and is written into an empty store under the name with these digits.
-fn is_same<A: Allocator + Copy>(
-    alloc: A,
-    tree: &mut PathTree<A>,
+fn is_same(
+    alloc: Global,
+    tree: &mut PathTree<Global>,
     (digits, files): (&[u8; 40], &[u8]),
     state: RandomState,
 ) -> bool {
@@ -81,10 +69,10 @@ fn is_same<A: Allocator + Copy>(
 
 /// Whether a tree is written into a store under the name with these digits, and the tree that is loaded by that name is
 /// the same.
-pub(crate) fn is_reloaded<A: Allocator + Copy>(
-    alloc: A,
-    tree: &mut PathTree<A>,
-    store: &mut Store<Sha1Namer, A>,
+pub(crate) fn is_reloaded(
+    alloc: Global,
+    tree: &mut PathTree<Global>,
+    store: &mut Store<Sha1Namer, Global>,
     (digits, files): (&[u8; 40], &[u8]),
     state: RandomState,
 ) -> bool {
@@ -100,10 +88,10 @@ pub(crate) fn is_reloaded<A: Allocator + Copy>(
 }
 
 /// The name that a tree is written with by the names that it remembers from before a file was put at this path.
-fn name_again<A: Allocator + Copy>(
-    tree: &mut PathTree<A>,
-    store: &mut Store<Sha1Namer, A>,
-    path: &TreePath<A>,
+fn name_again(
+    tree: &mut PathTree<Global>,
+    store: &mut Store<Sha1Namer, Global>,
+    path: &TreePath<Global>,
 ) -> Option<Name> {
     let Ok(_) = tree.write(store) else {
         return None;
@@ -118,9 +106,9 @@ fn name_again<A: Allocator + Copy>(
 }
 
 /// The same at the path of a text, and in a store that was empty.
-fn name_at<A: Allocator + Copy>(
-    alloc: A,
-    tree: &mut PathTree<A>,
+fn name_at(
+    alloc: Global,
+    tree: &mut PathTree<Global>,
     path: &[u8],
     state: RandomState,
 ) -> Option<Name> {
@@ -133,9 +121,9 @@ fn name_at<A: Allocator + Copy>(
 
 /// Whether a tree that was written, and into which a file is put at a path, is written by the names that it remembers under
 /// the name with these digits.
-pub(crate) fn is_written_again<A: Allocator + Copy>(
-    alloc: A,
-    tree: &mut PathTree<A>,
+pub(crate) fn is_written_again(
+    alloc: Global,
+    tree: &mut PathTree<Global>,
     path: &[u8],
     digits: &[u8; 40],
     state: RandomState,

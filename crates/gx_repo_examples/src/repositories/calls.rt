@@ -8,10 +8,14 @@ ghost use Rattle.gx_repo.specs.Calls.{KeepsAtHome};
 ghost use Rattle.gx_repo.specs.Objects.{HoldsEach};
 
 use gx_object::{CommitParts, Kind, Mode, Name, Namer, TagParts};
+use gx_refusing::Refusing;
 use gx_repo::{AddFault, PublishFault, RefChange, Repo, StoreFault, Text};
 use gx_text::{Ident, TreePath};
 use gx_tree::{PathTree, records_keep_home};
-use std::alloc::{AllocError, Allocator};
+use std::alloc::{AllocError, Global};
+
+/// A heap that may be told to refuse a growth.
+pub(super) type Heap = Refusing<Global>;
 
 /// An author, and a second after 1970.
 pub(super) const IDENT: &[u8] = b"A <a@x> 1 +0000";
@@ -122,43 +126,39 @@ fn told(answer: bool) -> Answer {
 }
 
 /// Adds a blob.
-fn add_blob<N: Namer, A: Allocator + Copy>(repo: &mut Repo<N, A>, body: &[u8]) -> Answer
+fn add_blob<'a, N: Namer>(repo: &mut Repo<N, &'a Heap>, body: &[u8]) -> Answer
     ensures keeps { Keeps repo.old.1.records repo.new.1.records }
 {
     added(repo.add_blob(body))
 }
 
 /// Gives bytes as a blob.
-fn give_blob<N: Namer, A: Allocator + Copy>(alloc: A, repo: &mut Repo<N, A>, body: &[u8]) -> Answer
+fn give_blob<'a, N: Namer>(heap: &'a Heap, repo: &mut Repo<N, &'a Heap>, body: &[u8]) -> Answer
     ensures keeps { Keeps repo.old.1.records repo.new.1.records }
 {
-    match Vec::from_slice(alloc, body) {
+    match Vec::from_slice(heap, body) {
         Ok(bytes) => added(repo.add_blob_owned(bytes)),
         Err(_) => Answer::OutOfMemory,
     }
 }
 
 /// Adds a record.
-fn add_record<N: Namer, A: Allocator + Copy>(
-    repo: &mut Repo<N, A>,
-    kind: Kind,
-    body: &[u8],
-) -> Answer
+fn add_record<'a, N: Namer>(repo: &mut Repo<N, &'a Heap>, kind: Kind, body: &[u8]) -> Answer
     ensures keeps { Keeps repo.old.1.records repo.new.1.records }
 {
     recorded(repo.add_record(kind, body))
 }
 
 /// A text of these bytes.
-fn text_of<A: Allocator + Copy>(alloc: A, bytes: &[u8]) -> Result<Text<A>, AllocError> {
-    Text::new(alloc, Vec::from_slice(alloc, bytes)?)
+fn text_of<'a>(heap: &'a Heap, bytes: &[u8]) -> Result<Text<&'a Heap>, AllocError> {
+    Text::new(heap, Vec::from_slice(heap, bytes)?)
 }
 
 /// Adds a record within a text.
-fn add_range<N: Namer, A: Allocator + Copy>(
-    repo: &mut Repo<N, A>,
+fn add_range<'a, N: Namer>(
+    repo: &mut Repo<N, &'a Heap>,
     kind: Kind,
-    text: &Text<A>,
+    text: &Text<&'a Heap>,
     start: usize,
     end: usize,
 ) -> Answer
@@ -170,10 +170,10 @@ fn add_range<N: Namer, A: Allocator + Copy>(
 }
 
 /// Adds a record within a text, of which the repository is the last owner, where the text has these places.
-fn add_within<N: Namer, A: Allocator + Copy>(
-    repo: &mut Repo<N, A>,
+fn add_within<'a, N: Namer>(
+    repo: &mut Repo<N, &'a Heap>,
     kind: Kind,
-    text: Text<A>,
+    text: Text<&'a Heap>,
     start: usize,
     end: usize,
 ) -> Answer
@@ -187,9 +187,9 @@ fn add_within<N: Namer, A: Allocator + Copy>(
 }
 
 /// Adds a record within a text of these bytes.
-fn share_record<N: Namer, A: Allocator + Copy>(
-    alloc: A,
-    repo: &mut Repo<N, A>,
+fn share_record<'a, N: Namer>(
+    heap: &'a Heap,
+    repo: &mut Repo<N, &'a Heap>,
     kind: Kind,
     bytes: &[u8],
     start: usize,
@@ -197,33 +197,43 @@ fn share_record<N: Namer, A: Allocator + Copy>(
 ) -> Answer
     ensures keeps { Keeps repo.old.1.records repo.new.1.records }
 {
-    match text_of(alloc, bytes) {
+    match text_of(heap, bytes) {
         Ok(text) => add_within(repo, kind, text, start, end),
         Err(_) => Answer::OutOfMemory,
     }
 }
 
-/// The body of a tree with one entry.
-fn body_of_one<A: Allocator + Copy>(
-    alloc: A,
-    mode: &[u8],
+/// Appends a component that repeats a byte, and the name behind it.
+fn append_entry<'a>(
+    body: &mut Vec<u8, &'a Heap>,
     byte: u8,
     length: usize,
     name: &Name,
-) -> Result<Vec<u8, A>, AllocError> {
-    let mut body = Vec::from_slice(alloc, mode)?;
+) -> Result<(), AllocError> {
     for _ in 0..length {
         body.push(byte)?;
     }
     body.push(0)?;
-    body.extend_from_slice(name.bytes.as_slice())?;
+    body.extend_from_slice(name.bytes.as_slice())
+}
+
+/// The body of a tree with one entry.
+fn body_of_one<'a>(
+    heap: &'a Heap,
+    mode: &[u8],
+    byte: u8,
+    length: usize,
+    name: &Name,
+) -> Result<Vec<u8, &'a Heap>, AllocError> {
+    let mut body = Vec::from_slice(heap, mode)?;
+    append_entry(&mut body, byte, length, name)?;
     Ok(body)
 }
 
 /// Adds the record of a tree with one entry.
-fn add_entry<N: Namer, A: Allocator + Copy>(
-    alloc: A,
-    repo: &mut Repo<N, A>,
+fn add_entry<'a, N: Namer>(
+    heap: &'a Heap,
+    repo: &mut Repo<N, &'a Heap>,
     mode: &[u8],
     byte: u8,
     length: usize,
@@ -231,18 +241,14 @@ fn add_entry<N: Namer, A: Allocator + Copy>(
 ) -> Answer
     ensures keeps { Keeps repo.old.1.records repo.new.1.records }
 {
-    match body_of_one(alloc, mode, byte, length, name) {
+    match body_of_one(heap, mode, byte, length, name) {
         Ok(body) => add_record(repo, Kind::Tree, &body),
         Err(_) => Answer::OutOfMemory,
     }
 }
 
 /// Whether an object of this kind is held under this name.
-pub(super) fn is_held<N: Namer, A: Allocator + Copy>(
-    repo: &Repo<N, A>,
-    kind: Kind,
-    name: &Name,
-) -> bool
+pub(super) fn is_held<'a, N: Namer>(repo: &Repo<N, &'a Heap>, kind: Kind, name: &Name) -> bool
     ensures { IsTrue result → Holds repo.now.1.records kind name.now.bytes }
 {
     let Some((held, _body)) = repo.store().get(name) else {
@@ -252,7 +258,7 @@ pub(super) fn is_held<N: Namer, A: Allocator + Copy>(
 }
 
 /// Whether these are the names of commits that are held.
-fn are_held<N: Namer, A: Allocator + Copy>(repo: &Repo<N, A>, names: &[Name]) -> bool
+fn are_held<'a, N: Namer>(repo: &Repo<N, &'a Heap>, names: &[Name]) -> bool
     ensures { IsTrue result → HoldsEach repo.now.1.records kinds.Commit (map (λ n. n.bytes) names.now) }
 {
     for name in names {
@@ -264,11 +270,7 @@ fn are_held<N: Namer, A: Allocator + Copy>(repo: &Repo<N, A>, names: &[Name]) ->
 }
 
 /// Adds a commit in another encoding, with a tree and parents that are held.
-fn add_child<N: Namer, A: Allocator + Copy>(
-    repo: &mut Repo<N, A>,
-    tree: Name,
-    parents: &[Name],
-) -> Answer
+fn add_child<'a, N: Namer>(repo: &mut Repo<N, &'a Heap>, tree: Name, parents: &[Name]) -> Answer
     ensures keeps { Keeps repo.old.1.records repo.new.1.records }
 {
     let Ok(author) = Ident::read(IDENT) else {
@@ -292,8 +294,8 @@ fn tagger_of(text: Option<&[u8]>) -> Option<Ident<'_>> {
 }
 
 /// Adds a tag of a commit that is held.
-fn add_tag<N: Namer, A: Allocator + Copy>(
-    repo: &mut Repo<N, A>,
+fn add_tag<'a, N: Namer>(
+    repo: &mut Repo<N, &'a Heap>,
     object: Name,
     tagger: Option<&[u8]>,
     message: &[u8],
@@ -313,17 +315,14 @@ fn add_tag<N: Namer, A: Allocator + Copy>(
 }
 
 /// Sets refs.
-fn publish<N: Namer, A: Allocator + Copy>(
-    repo: &mut Repo<N, A>,
-    changes: &[RefChange<'_>],
-) -> Answer
+fn publish<'a, N: Namer>(repo: &mut Repo<N, &'a Heap>, changes: &[RefChange<'_>]) -> Answer
     ensures keeps { Keeps repo.old.1.records repo.new.1.records }
 {
     published(repo.publish(changes))
 }
 
 /// Whether these are all the refs of a repository, in this order.
-fn has_refs<N: Namer, A: Allocator + Copy>(repo: &Repo<N, A>, expected: &[RefChange<'_>]) -> bool {
+fn has_refs<'a, N: Namer>(repo: &Repo<N, &'a Heap>, expected: &[RefChange<'_>]) -> bool {
     let mut refs = repo.refs();
     for change in expected {
         if refs.next() != Some((change.name, change.target)) {
@@ -334,7 +333,7 @@ fn has_refs<N: Namer, A: Allocator + Copy>(repo: &Repo<N, A>, expected: &[RefCha
 }
 
 /// The object of the first ref whose name a word stands for.
-pub(super) fn find<N: Namer, A: Allocator + Copy>(repo: &Repo<N, A>, word: &[u8]) -> Answer {
+pub(super) fn find<'a, N: Namer>(repo: &Repo<N, &'a Heap>, word: &[u8]) -> Answer {
     match repo.find_ref(word) {
         Ok(name) => found(name),
         Err(_) => Answer::OutOfMemory,
@@ -342,7 +341,7 @@ pub(super) fn find<N: Namer, A: Allocator + Copy>(repo: &Repo<N, A>, word: &[u8]
 }
 
 /// Answers what is asked of a repository alone.
-fn asked<N: Namer, A: Allocator + Copy>(repo: &Repo<N, A>, call: Call<'_>) -> Answer {
+fn asked<'a, N: Namer>(repo: &Repo<N, &'a Heap>, call: Call<'_>) -> Answer {
     match call {
         Call::Objects => Answer::Counted(repo.store().len()),
         Call::Holds(kind, name) => told(is_held(repo, kind, &name)),
@@ -354,18 +353,18 @@ fn asked<N: Namer, A: Allocator + Copy>(repo: &Repo<N, A>, call: Call<'_>) -> An
 }
 
 /// Does to a repository alone what keeps all that it holds, or answers what is asked of it.
-fn kept<N: Namer, A: Allocator + Copy>(alloc: A, repo: &mut Repo<N, A>, call: Call<'_>) -> Answer
+fn kept<'a, N: Namer>(heap: &'a Heap, repo: &mut Repo<N, &'a Heap>, call: Call<'_>) -> Answer
     ensures keeps { Keeps repo.old.1.records repo.new.1.records }
 {
     match call {
         Call::Blob(body) => add_blob(repo, body),
-        Call::Give(body) => give_blob(alloc, repo, body),
+        Call::Give(body) => give_blob(heap, repo, body),
         Call::Record(kind, body) => add_record(repo, kind, body),
         Call::Within(kind, bytes, start, end) => {
-            share_record(alloc, repo, kind, bytes, start, end)
+            share_record(heap, repo, kind, bytes, start, end)
         }
         Call::Entry(mode, byte, length, name) => {
-            add_entry(alloc, repo, mode, byte, length, &name)
+            add_entry(heap, repo, mode, byte, length, &name)
         }
         Call::Child(tree, parents) => add_child(repo, tree, parents),
         Call::Tag(object, tagger, message) => add_tag(repo, object, tagger, message),
@@ -375,10 +374,10 @@ fn kept<N: Namer, A: Allocator + Copy>(alloc: A, repo: &mut Repo<N, A>, call: Ca
 }
 
 /// Adds a blob, and puts it at a path of a tree whose files are held.
-pub(super) fn add_file<N: Namer, A: Allocator + Copy>(
-    alloc: A,
-    repo: &mut Repo<N, A>,
-    tree: &mut PathTree<A>,
+pub(super) fn add_file<'a, N: Namer>(
+    heap: &'a Heap,
+    repo: &mut Repo<N, &'a Heap>,
+    tree: &mut PathTree<&'a Heap>,
     path: &[u8],
     body: &[u8],
 ) -> bool
@@ -387,7 +386,7 @@ pub(super) fn add_file<N: Namer, A: Allocator + Copy>(
     ensures home { KeepsAtHome N.name_of repo.old repo.new tree.old tree.new }
 {
     records_keep_home();
-    let Ok(path) = TreePath::read(alloc, path) else {
+    let Ok(path) = TreePath::read(heap, path) else {
         return false;
     };
     let Ok(name) = repo.add_blob(body) else {
@@ -399,9 +398,9 @@ pub(super) fn add_file<N: Namer, A: Allocator + Copy>(
 }
 
 /// Adds a tree whose files are held.
-pub(super) fn add_tree<N: Namer, A: Allocator + Copy>(
-    repo: &mut Repo<N, A>,
-    tree: &mut PathTree<A>,
+pub(super) fn add_tree<'a, N: Namer>(
+    repo: &mut Repo<N, &'a Heap>,
+    tree: &mut PathTree<&'a Heap>,
 ) -> Result<Name, StoreFault>
     requires named { IsNamedMap repo.now.1.records tree.now.files }
     ensures named { IsNamedMap repo.new.1.records tree.new.files }
@@ -412,8 +411,8 @@ pub(super) fn add_tree<N: Namer, A: Allocator + Copy>(
 }
 
 /// Adds a commit of a tree that is held.
-fn add_commit<'x, N: Namer, A: Allocator + Copy>(
-    repo: &mut Repo<N, A>,
+fn add_commit<'x, 'a, N: Namer>(
+    repo: &mut Repo<N, &'a Heap>,
     tree: Name,
     parents: &'x [Name],
     ident: &'x [u8],
@@ -443,9 +442,9 @@ fn add_commit<'x, N: Namer, A: Allocator + Copy>(
 }
 
 /// Adds a tree whose files are held, and a commit of it.
-fn add_revision<'x, N: Namer, A: Allocator + Copy>(
-    repo: &mut Repo<N, A>,
-    tree: &mut PathTree<A>,
+fn add_revision<'x, 'a, N: Namer>(
+    repo: &mut Repo<N, &'a Heap>,
+    tree: &mut PathTree<&'a Heap>,
     parents: &'x [Name],
     ident: &'x [u8],
     message: &'x [u8],
@@ -460,7 +459,7 @@ fn add_revision<'x, N: Namer, A: Allocator + Copy>(
 }
 
 /// Keeps the first objects alone, where there are no refs.
-fn truncate<N: Namer, A: Allocator + Copy>(repo: &mut Repo<N, A>, len: usize) -> Answer {
+fn truncate<'a, N: Namer>(repo: &mut Repo<N, &'a Heap>, len: usize) -> Answer {
     if repo.refs().next().is_some() {
         return Answer::NoCall;
     }
@@ -469,9 +468,9 @@ fn truncate<N: Namer, A: Allocator + Copy>(repo: &mut Repo<N, A>, len: usize) ->
 }
 
 /// Keeps the first objects alone, and clears the tree.
-fn begin_anew<N: Namer, A: Allocator + Copy>(
-    repo: &mut Repo<N, A>,
-    tree: &mut PathTree<A>,
+fn begin_anew<'a, N: Namer>(
+    repo: &mut Repo<N, &'a Heap>,
+    tree: &mut PathTree<&'a Heap>,
     len: usize,
 ) -> Answer
     ensures named { IsNamedMap repo.new.1.records tree.new.files }
@@ -482,7 +481,7 @@ fn begin_anew<N: Namer, A: Allocator + Copy>(
 }
 
 /// How many files a tree has.
-fn count_files<A: Allocator + Copy>(tree: &PathTree<A>) -> Answer {
+fn count_files<'a>(tree: &PathTree<&'a Heap>) -> Answer {
     match tree.list() {
         Ok(files) => Answer::Counted(files.len()),
         Err(_) => Answer::OutOfMemory,
@@ -490,17 +489,17 @@ fn count_files<A: Allocator + Copy>(tree: &PathTree<A>) -> Answer {
 }
 
 /// Does what is called for.
-pub(super) fn perform<N: Namer, A: Allocator + Copy>(
-    alloc: A,
-    repo: &mut Repo<N, A>,
-    tree: &mut PathTree<A>,
+pub(super) fn perform<'a, N: Namer>(
+    heap: &'a Heap,
+    repo: &mut Repo<N, &'a Heap>,
+    tree: &mut PathTree<&'a Heap>,
     call: Call<'_>,
 ) -> Answer
     requires named { IsNamedMap repo.now.1.records tree.now.files }
     ensures named { IsNamedMap repo.new.1.records tree.new.files }
 {
     match call {
-        Call::File(path, body) => told(add_file(alloc, repo, tree, path, body)),
+        Call::File(path, body) => told(add_file(heap, repo, tree, path, body)),
         Call::Tree => added(add_tree(repo, tree)),
         Call::Commit(parents, ident, message) => add_revision(repo, tree, parents, ident, message),
         Call::Truncate(len) => begin_anew(repo, tree, len),
@@ -509,6 +508,6 @@ pub(super) fn perform<N: Namer, A: Allocator + Copy>(
             Answer::Done
         }
         Call::Files => count_files(tree),
-        _ => kept(alloc, repo, call),
+        _ => kept(heap, repo, call),
     }
 }

@@ -6,7 +6,6 @@ use super::names::*;
 use super::sessions::{Session, Step, follow, refuse_each};
 use gx_object::{Kind, Sha1Namer, ShortNamer};
 use gx_repo::RefChange;
-use std::hash::RandomState;
 use std::test::Fail;
 
 /// Records with the names that Git gives them, each behind those that it links to, and a ref.
@@ -288,30 +287,25 @@ const ADDITIONS: Session = Session {
 
 #[test]
 fn records_have_gits_names(rt: HostRuntime) -> Result<(), Fail> {
-    let state = RandomState::new(&rt)?;
-    follow(rt.alloc(), Sha1Namer, state, &NAMES)
+    follow(&rt, Sha1Namer, &NAMES)
 }
 
 #[test]
 fn refused_record_changes_nothing(rt: HostRuntime) -> Result<(), Fail> {
-    let state = RandomState::new(&rt)?;
-    follow(rt.alloc(), Sha1Namer, state, &REFUSALS)
+    follow(&rt, Sha1Namer, &REFUSALS)
 }
 
 #[test]
 fn held_name_is_refused_whatever_its_bytes(rt: HostRuntime) -> Result<(), Fail> {
-    let state = RandomState::new(&rt)?;
-    follow(rt.alloc(), ShortNamer, state, &HELD_NAME)
+    follow(&rt, ShortNamer, &HELD_NAME)
 }
 
 #[test]
 fn longest_path_has_4095_bytes(rt: HostRuntime) -> Result<(), Fail> {
-    let state = RandomState::new(&rt)?;
-    follow(rt.alloc(), Sha1Namer, state, &PATHS)
+    follow(&rt, Sha1Namer, &PATHS)
 }
 
 #[test]
 fn refused_growth_adds_no_record(rt: HostRuntime) -> Result<(), Fail> {
-    let state = RandomState::new(&rt)?;
-    refuse_each(rt.alloc(), state, &ADDITIONS, 1)
+    refuse_each(&rt, &ADDITIONS, 1)
 }

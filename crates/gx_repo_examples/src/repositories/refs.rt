@@ -2,14 +2,13 @@
 
 ghost use Rattle.gx_model.specs.Records.Sound.{IsNamedMap};
 
-use super::calls::{Answer, Call, IDENT, find};
+use super::calls::{Answer, Call, Heap, IDENT, find};
 use super::names::*;
 use super::sessions::{Session, Step, are_done, follow};
 use gx_object::{Namer, Sha1Namer};
 use gx_refusing::Refusing;
 use gx_repo::{RefChange, Repo};
 use gx_tree::PathTree;
-use std::alloc::Allocator;
 use std::hash::RandomState;
 use std::test::Fail;
 
@@ -114,8 +113,7 @@ const REFUSED_CHANGES: Session = Session {
 
 #[test]
 fn refused_change_publishes_none(rt: HostRuntime) -> Result<(), Fail> {
-    let state = RandomState::new(&rt)?;
-    follow(rt.alloc(), Sha1Namer, state, &REFUSED_CHANGES)
+    follow(&rt, Sha1Namer, &REFUSED_CHANGES)
 }
 
 /// A tag is published under its own name alone, a commit under that of any tag.
@@ -181,8 +179,7 @@ const TAG_REFS: Session = Session {
 
 #[test]
 fn tags_are_published_under_their_own_names(rt: HostRuntime) -> Result<(), Fail> {
-    let state = RandomState::new(&rt)?;
-    follow(rt.alloc(), Sha1Namer, state, &TAG_REFS)
+    follow(&rt, Sha1Namer, &TAG_REFS)
 }
 
 /// A later change wins, and other refs stay.
@@ -284,8 +281,7 @@ const CHANGES: Session = Session {
 
 #[test]
 fn later_change_wins_and_other_refs_stay(rt: HostRuntime) -> Result<(), Fail> {
-    let state = RandomState::new(&rt)?;
-    follow(rt.alloc(), Sha1Namer, state, &CHANGES)
+    follow(&rt, Sha1Namer, &CHANGES)
 }
 
 /// Each of these refs comes before those that were set earlier. Other words stand for none of them.
@@ -382,8 +378,7 @@ const SIX_NAMES: Session = Session {
 
 #[test]
 fn refs_are_found_by_six_names_in_order(rt: HostRuntime) -> Result<(), Fail> {
-    let state = RandomState::new(&rt)?;
-    follow(rt.alloc(), Sha1Namer, state, &SIX_NAMES)
+    follow(&rt, Sha1Namer, &SIX_NAMES)
 }
 
 /// A published commit.
@@ -401,16 +396,15 @@ const PUBLISHED: &[Step] = &[
     ),
 ];
 
-/// Whether a ref is found with no growth. The heap is given once more as the allocator.
-fn is_found_without_memory<B: Allocator, N: Namer, C: Allocator + Copy>(
-    heap: &Refusing<B>,
-    own: C,
-    repo: &mut Repo<N, C>,
-    tree: &mut PathTree<C>,
+/// Whether a ref is found with no growth.
+fn is_found_without_memory<'a, N: Namer>(
+    heap: &'a Heap,
+    repo: &mut Repo<N, &'a Heap>,
+    tree: &mut PathTree<&'a Heap>,
 ) -> bool
     requires named { IsNamedMap repo.now.1.records tree.now.files }
 {
-    if !are_done(own, repo, tree, PUBLISHED) {
+    if !are_done(heap, repo, tree, PUBLISHED) {
         return false;
     }
     heap.arm(1);
@@ -418,12 +412,17 @@ fn is_found_without_memory<B: Allocator, N: Namer, C: Allocator + Copy>(
     heap.is_waiting() && found == Answer::Named(FIRST)
 }
 
+/// The same in an empty repository.
+fn is_found_anew(heap: &Heap, state: RandomState) -> bool {
+    let mut repo = Repo::new(heap, Sha1Namer, state);
+    let mut tree = PathTree::empty(heap);
+    is_found_without_memory(heap, &mut repo, &mut tree)
+}
+
 #[test]
 fn searches_take_no_memory(rt: HostRuntime) -> Result<(), Fail> {
     let state = RandomState::new(&rt)?;
     let heap = Refusing::new(rt.alloc(), 0);
-    let mut repo = Repo::new(&heap, Sha1Namer, state);
-    let mut tree = PathTree::empty(&heap);
-    assert!(rt; is_found_without_memory(&heap, &heap, &mut repo, &mut tree));
+    assert!(rt; is_found_anew(&heap, state));
     Ok(())
 }

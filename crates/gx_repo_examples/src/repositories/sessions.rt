@@ -2,12 +2,12 @@
 
 ghost use Rattle.gx_model.specs.Records.Sound.{IsNamedMap};
 
-use super::calls::{Answer, Call, perform};
+use super::calls::{Answer, Call, Heap, perform};
 use gx_object::{Namer, Sha1Namer};
 use gx_refusing::Refusing;
 use gx_repo::Repo;
 use gx_tree::PathTree;
-use std::alloc::Allocator;
+use std::alloc::Global;
 use std::hash::RandomState;
 use std::test::Fail;
 
@@ -23,17 +23,17 @@ pub(super) struct Session<'a> {
 }
 
 /// Whether these calls, one after the other, answer what they are to.
-pub(super) fn are_done<N: Namer, A: Allocator + Copy>(
-    alloc: A,
-    repo: &mut Repo<N, A>,
-    tree: &mut PathTree<A>,
+pub(super) fn are_done<'a, N: Namer>(
+    heap: &'a Heap,
+    repo: &mut Repo<N, &'a Heap>,
+    tree: &mut PathTree<&'a Heap>,
     steps: &[Step<'_>],
 ) -> bool
     requires named { IsNamedMap repo.now.1.records tree.now.files }
     ensures named { IsNamedMap repo.new.1.records tree.new.files }
 {
     for step in steps {
-        if perform(alloc, repo, tree, step.0) != step.1 {
+        if perform(heap, repo, tree, step.0) != step.1 {
             return false;
         }
     }
@@ -41,31 +41,31 @@ pub(super) fn are_done<N: Namer, A: Allocator + Copy>(
 }
 
 /// Whether a step is done, and then those that come after it.
-fn is_row_done<N: Namer, A: Allocator + Copy>(
-    alloc: A,
-    repo: &mut Repo<N, A>,
-    tree: &mut PathTree<A>,
+fn is_row_done<'a, N: Namer>(
+    heap: &'a Heap,
+    repo: &mut Repo<N, &'a Heap>,
+    tree: &mut PathTree<&'a Heap>,
     row: &Step<'_>,
     after: &[Step<'_>],
 ) -> bool
     requires named { IsNamedMap repo.now.1.records tree.now.files }
     ensures named { IsNamedMap repo.new.1.records tree.new.files }
 {
-    perform(alloc, repo, tree, row.0) == row.1 && are_done(alloc, repo, tree, after)
+    perform(heap, repo, tree, row.0) == row.1 && are_done(heap, repo, tree, after)
 }
 
 /// The first of the rows that isn't done.
-fn wrong_row<N: Namer, A: Allocator + Copy>(
-    alloc: A,
-    repo: &mut Repo<N, A>,
-    tree: &mut PathTree<A>,
+fn wrong_row<'a, N: Namer>(
+    heap: &'a Heap,
+    repo: &mut Repo<N, &'a Heap>,
+    tree: &mut PathTree<&'a Heap>,
     rows: &[Step<'_>],
     after: &[Step<'_>],
 ) -> Option<usize>
     requires named { IsNamedMap repo.now.1.records tree.now.files }
 {
     for (place, row) in rows.iter().enumerate() {
-        if !is_row_done(alloc, repo, tree, row, after) {
+        if !is_row_done(heap, repo, tree, row, after) {
             return Some(place);
         }
     }
@@ -73,33 +73,44 @@ fn wrong_row<N: Namer, A: Allocator + Copy>(
 }
 
 /// Follows a session. Fails at the first step of which something else comes.
-fn followed<N: Namer, A: Allocator + Copy>(
-    alloc: A,
-    repo: &mut Repo<N, A>,
-    tree: &mut PathTree<A>,
+fn followed<'a, N: Namer>(
+    heap: &'a Heap,
+    repo: &mut Repo<N, &'a Heap>,
+    tree: &mut PathTree<&'a Heap>,
     session: &Session<'_>,
 ) -> Result<(), Fail>
     requires named { IsNamedMap repo.now.1.records tree.now.files }
 {
-    if !are_done(alloc, repo, tree, session.before) {
+    if !are_done(heap, repo, tree, session.before) {
         return Err(Fail::new(format_args!("before the rows")));
     }
-    match wrong_row(alloc, repo, tree, session.rows, session.after) {
+    match wrong_row(heap, repo, tree, session.rows, session.after) {
         None => Ok(()),
         Some(place) => Err(Fail::new(format_args!("row {place}"))),
     }
 }
 
 /// Follows a session in an empty repository with this namer.
-pub(super) fn follow<N: Namer + Drop, A: Allocator + Copy>(
-    alloc: A,
+fn follow_anew<N: Namer + Drop>(
+    heap: &Heap,
     namer: N,
     state: RandomState,
     session: &Session<'_>,
 ) -> Result<(), Fail> {
-    let mut repo = Repo::new(alloc, namer, state);
-    let mut tree = PathTree::empty(alloc);
-    followed(alloc, &mut repo, &mut tree, session)
+    let mut repo = Repo::new(heap, namer, state);
+    let mut tree = PathTree::empty(heap);
+    followed(heap, &mut repo, &mut tree, session)
+}
+
+/// The same with a heap that refuses nothing.
+pub(super) fn follow<N: Namer + Drop>(
+    rt: &HostRuntime,
+    namer: N,
+    session: &Session<'_>,
+) -> Result<(), Fail> {
+    let state = RandomState::new(rt)?;
+    let heap = Refusing::new(rt.alloc(), 0);
+    follow_anew(&heap, namer, state, session)
 }
 
 /// What came of a call at which a growth was to be refused.
@@ -122,54 +133,51 @@ pub(super) fn judge(answer: Answer, done: Answer, is_refused: bool, is_same: boo
     }
 }
 
-/// What comes of a row's call at which the growth with this number is refused, after the steps before. The heap is given
-/// once more as the allocator.
-fn tried<B: Allocator, N: Namer, C: Allocator + Copy>(
-    heap: &Refusing<B>,
-    own: C,
-    repo: &mut Repo<N, C>,
-    tree: &mut PathTree<C>,
+/// What comes of a row's call at which the growth with this number is refused, after the steps before.
+fn tried<'a, N: Namer>(
+    heap: &'a Heap,
+    repo: &mut Repo<N, &'a Heap>,
+    tree: &mut PathTree<&'a Heap>,
     session: &Session<'_>,
     row: &Step<'_>,
     growth: u64,
 ) -> Outcome
     requires named { IsNamedMap repo.now.1.records tree.now.files }
 {
-    if !are_done(own, repo, tree, session.before) {
+    if !are_done(heap, repo, tree, session.before) {
         return Outcome::Wrong;
     }
     heap.arm(growth);
-    let answer = perform(own, repo, tree, row.0);
+    let answer = perform(heap, repo, tree, row.0);
     let is_refused = !heap.is_waiting();
     heap.arm(0);
-    let is_same = are_done(own, repo, tree, session.after);
+    let is_same = are_done(heap, repo, tree, session.after);
     judge(answer, row.1, is_refused, is_same)
 }
 
 /// Does that with an empty repository.
-fn tried_anew<B: Allocator, C: Allocator + Copy>(
-    heap: &Refusing<B>,
-    own: C,
+fn tried_anew<'a>(
+    heap: &'a Heap,
     state: RandomState,
     session: &Session<'_>,
     row: &Step<'_>,
     growth: u64,
 ) -> Outcome {
-    let mut repo = Repo::new(own, Sha1Namer, state);
-    let mut tree = PathTree::empty(own);
-    tried(heap, own, &mut repo, &mut tree, session, row, growth)
+    let mut repo = Repo::new(heap, Sha1Namer, state);
+    let mut tree = PathTree::empty(heap);
+    tried(heap, &mut repo, &mut tree, session, row, growth)
 }
 
 /// How many growths are refused, one after the other, until a row's call is done; none where something else came.
-fn refused_growths<A: Allocator + Copy>(
-    alloc: A,
+fn refused_growths(
+    alloc: Global,
     state: RandomState,
     session: &Session<'_>,
     row: &Step<'_>,
 ) -> Option<u64> {
     for growth in 1..100u64 {
         let heap = Refusing::new(alloc, 0);
-        match tried_anew(&heap, &heap, state, session, row, growth) {
+        match tried_anew(&heap, state, session, row, growth) {
             Outcome::Done => return Some(growth - 1),
             Outcome::Refused => {}
             Outcome::Wrong => return None,
@@ -178,18 +186,27 @@ fn refused_growths<A: Allocator + Copy>(
     None
 }
 
-/// Refuses the growths of each row's call, each time in an empty repository. What comes after a row is answered where
-/// the repository is as it was, and only there. So many growths are refused at least.
-pub(super) fn refuse_each<A: Allocator + Copy>(
-    alloc: A,
+/// The first row at whose call fewer growths are refused.
+fn unrefused_row(
+    alloc: Global,
     state: RandomState,
     session: &Session<'_>,
     least: u64,
-) -> Result<(), Fail> {
+) -> Option<usize> {
     for (place, row) in session.rows.iter().enumerate() {
         if refused_growths(alloc, state, session, row).unwrap_or(0) < least {
-            return Err(Fail::new(format_args!("row {place}")));
+            return Some(place);
         }
     }
-    Ok(())
+    None
+}
+
+/// Refuses the growths of each row's call, each time in an empty repository. What comes after a row is answered where
+/// the repository is as it was, and only there. So many growths are refused at least.
+pub(super) fn refuse_each(rt: &HostRuntime, session: &Session<'_>, least: u64) -> Result<(), Fail> {
+    let state = RandomState::new(rt)?;
+    match unrefused_row(rt.alloc(), state, session, least) {
+        None => Ok(()),
+        Some(place) => Err(Fail::new(format_args!("row {place}"))),
+    }
 }

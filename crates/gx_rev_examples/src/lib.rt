@@ -1,6 +1,9 @@
-//! Revisions and ranges on worked examples: what they are read as, what they show, what a walk lists. There are tests
-//! alone here.
+//! The files of branches, repositories and revisions on worked examples. There are tests alone here.
 #![tactic(auto)]
 
 #[cfg(test)]
+mod repositories;
+#[cfg(test)]
 mod revisions;
+#[cfg(test)]
+mod trees;

@@ -28,6 +28,7 @@ use Rattle.gx_object.specs.declared.name.Name.{Name}
 use Rattle.gx_stream.specs.Heard.{items_from}
 use Rattle.gx_batch.specs.Calls.{SendsAnswers}
 use Rattle.gx_batch.specs.declared.fault.BatchFault.{BatchFault}
+use Rattle.gx_import.specs.declared.fault.ImportFault.{ImportFault}
 use Rattle.gx_import.specs.declared.report.Report.{Report}
 use Rattle.gx_rev.specs.Answers.{IsNamed, shown_by}
 use Rattle.gx_rev.specs.Objects.{IsHeldAs, commit_at, files_at, value_at}
@@ -37,7 +38,7 @@ use Rattle.gx_rev.specs.declared.fault.RevFault.{RevFault}
 use Rattle.gx_rev.specs.declared.range.Range.{Range}
 use Rattle.gx_rev.specs.declared.shown.Shown.{Shown}
 use Rattle.gx_repo.specs.Repositories.{Repository}
-use Rattle.gx_cli.specs.Again.{ImportsAgain}
+use Rattle.gx_cli.specs.Again.{ImportsAgain, ServesExported}
 use Rattle.gx_cli.specs.Answers.{Prints}
 use Rattle.gx_cli.specs.Gathering.{batch_answer}
 use Rattle.gx_cli.specs.FileLines.{path_line}
@@ -45,13 +46,14 @@ use Rattle.gx_cli.specs.Listings.{shown_text, text_of_word, tree_lines, value_te
 use Rattle.gx_cli.specs.Printing.{PrintsBlobs, PrintsOne}
 use Rattle.gx_cli.specs.Sending.{PrintsText}
 use Rattle.gx_cli.specs.Opening.{bytes_of}
-use Rattle.gx_cli.specs.Serving.{ImportsIntoStored, PrintsStored, blobs_answer, printed_by}
+use Rattle.gx_cli.specs.Serving.{AnswersLines, ExportsStore, ImportsInto, ImportsIntoStored, PrintsStored, Serves, blobs_answer, printed_by}
 use Rattle.gx_cli.specs.Stored.{all_words, commits_listed, file_line, files_of_word, line_of_ref, list_lines, list_text, log_line, log_text, names_text, of_stored, show_text, texts_of}
 use Rattle.gx_cli.specs.Storing.{Answer, ImportsStored}
-use Rattle.gx_cli.specs.Trying.{Shows, Tries}
+use Rattle.gx_cli.specs.Trying.{ImportsAlone, Shows, Tries}
 use Rattle.gx_cli.specs.Words.{GivesWords}
 use Rattle.gx_cli.specs.declared.blob_names.BlobsFault.{BlobsFault}
 use Rattle.gx_cli.specs.declared.blob_names.BlobsKind.{BlobsKind}
+use Rattle.gx_cli.specs.declared.command_line.Line.{Line}
 use Rattle.gx_cli.specs.declared.command_line.LogOptions.{LogOptions}
 use Rattle.gx_cli.specs.declared.fault.CliFault.{CliFault}
 use Rattle.gx_cli.specs.declared.opening.StoreBytes.{StoreBytes}
@@ -139,6 +141,10 @@ module _ {N : Type 0} (name_of : N → Kind → Bytes → Bytes) where
   abbrev pub ImportsToAgain : {A : Type 0} → Repository N → Option Coming → Outcome A → Type 0
   ImportsToAgain repo coming o = ImportsAgain (name_of repo.0) (Ok repo.1) coming o
 
+  -- the import of a sound repository's export, served over the empty store of these bytes, makes that repository again
+  abbrev pub ServesAgain : {A : Type 0} → N → Line → StoreBytes A → Option Coming → Outcome A → Type 0
+  ServesAgain namer line store coming o = ServesExported (name_of namer) line (bytes_of store) coming o
+
   -- the store text of a repository is read as that repository
   abbrev pub IsReadBack : Repository N → Type 0
   IsReadBack repo = store_of (name_of repo.0) (store_text version.Two repo.1) ≡ Ok repo.1
@@ -178,6 +184,26 @@ module _ {N W : Type 0} (name_of : N → Kind → Bytes → Bytes) (taken : W �
   -- the same, and how the command ends
   abbrev pub AsksStore : {A : Type 0} → N → Question → StoreBytes A → W → W → Outcome A → Type 0
   AsksStore namer asked store old new o = PrintsStored (store_of (name_of namer) (bytes_of store)) (printed_by (name_of namer) asked) (taken old) (taken new) o
+
+  -- what a command does to the sink over the store of these bytes, and how it ends
+  abbrev pub ServesStored : {A : Type 0} → N → Line → StoreBytes A → Option Coming → W → W → Outcome A → Type 0
+  ServesStored namer line store coming old new o = Serves (name_of namer) line (bytes_of store) coming (taken old) (taken new) o
+
+  -- the export of the store of these bytes goes out, and how the command ends
+  abbrev pub SendsStored : {A : Type 0} → N → StoreBytes A → W → W → Outcome A → Type 0
+  SendsStored namer store old new o = ExportsStore (name_of namer) (bytes_of store) (taken old) (taken new) o
+
+  -- a stream is imported into the store of these bytes, and the next store text is told, and what was imported
+  abbrev pub ImportsToStored : {A : Type 0} → N → StoreBytes A → Option Coming → W → W → Outcome A × Option Report → Type 0
+  ImportsToStored namer store coming old new o = ImportsInto (name_of namer) (bytes_of store) coming (taken old) (taken new) o
+
+  -- a stream is imported into an empty store
+  abbrev pub ImportsFirst : N → Option Coming → W → W → Result (Repository N) ImportFault → Type 0
+  ImportsFirst namer coming old new result = ImportsAlone (name_of namer) coming (taken old) (taken new) result
+
+  -- the answers to the lines of a source over the store of these bytes go out, and how the command ends
+  abbrev pub AnswersStored : {A : Type 0} → N → Bool → StoreBytes A → Option Coming → W → W → Outcome A → Type 0
+  AnswersStored namer check store coming old new o = AnswersLines (name_of namer) check (bytes_of store) coming (taken old) (taken new) o
 
   -- the answers to the lines of a source go out, with their fault among those of the commands
   abbrev pub Batches : Repository N → Bool → Option Coming → W → W → Result (Unit {0}) CliFault → Type 0

@@ -1,9 +1,7 @@
 //! Many revisions of one store. Source: git-cat-file(1), "BATCH OUTPUT".
 
 ghost use Rattle.std.specs.Prelude.{◌≡◌};
-ghost use Rattle.gx_cli.specs.Opening.{bytes_of};
-ghost use Rattle.gx_cli.specs.Parts.{Batches};
-ghost use Rattle.gx_cli.specs.Serving.{AnswersLines};
+ghost use Rattle.gx_cli.specs.Parts.{AnswersStored, Batches};
 
 use crate::CliFault;
 use crate::opening::{StoreBytes, open};
@@ -27,7 +25,7 @@ pub(crate) fn batch_stored<N: Namer + Drop, R: Source + Drop, W: Sink, A: Alloca
     sink: &mut W,
     state: RandomState,
 ) -> Outcome<A>
-    ensures { AnswersLines (N.name_of namer) check (bytes_of store.entry) (R.coming source) (W.taken sink.old) (W.taken sink.new) result }
+    ensures { AnswersStored N.name_of W.taken namer check store.entry (R.coming source) sink.old sink.new result }
 {
     match open(alloc, namer, store, state) {
         Ok(repo) => outcome_of(batch_opened(alloc, &repo, check, source, sink)),

@@ -1,8 +1,8 @@
 //! The export of a store. Source: git-fast-export(1).
 
 ghost use Rattle.std.specs.Prelude.{◌≡◌};
-ghost use Rattle.gx_cli.specs.Opening.{bytes_of};
-ghost use Rattle.gx_cli.specs.Serving.{ExportsStore, SendsExport};
+ghost use Rattle.gx_cli.specs.Parts.{SendsStored};
+ghost use Rattle.gx_cli.specs.Serving.{SendsExport};
 
 use crate::CliFault;
 use crate::opening::{StoreBytes, open};
@@ -24,7 +24,7 @@ pub(crate) fn export_stored<N: Namer + Drop, W: Sink, A: Allocator + Copy>(
     sink: &mut W,
     state: RandomState,
 ) -> Outcome<A>
-    ensures { ExportsStore (N.name_of namer) (bytes_of store.entry) (W.taken sink.old) (W.taken sink.new) result }
+    ensures { SendsStored N.name_of W.taken namer store.entry sink.old sink.new result }
 {
     match open(alloc, namer, store, state) {
         Ok(repo) => outcome_of(export_opened(alloc, &repo, sink)),

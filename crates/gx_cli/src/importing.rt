@@ -3,7 +3,7 @@
 ghost use Rattle.gx_import.specs.Exported.{nothing};
 ghost use Rattle.gx_cli.specs.Again.{IntoAgain};
 ghost use Rattle.gx_cli.specs.Opening.{bytes_of};
-ghost use Rattle.gx_cli.specs.Parts.{ImportsTo, ImportsToAgain};
+ghost use Rattle.gx_cli.specs.Parts.{ImportsTo, ImportsToAgain, ImportsToStored};
 ghost use Rattle.gx_cli.specs.Serving.{EndsWithText, ImportsInto, IsLeft, IsWritten};
 ghost use Rattle.gx_cli.specs.declared.fault.CliFault.TheVariants.{Import};
 
@@ -59,7 +59,7 @@ pub(crate) fn import_stored<N: Namer + Drop, R: Source + Drop, W: Sink, A: Alloc
     sink: &mut W,
     state: RandomState,
 ) -> (Outcome<A>, Option<Report>)
-    ensures imported { ImportsInto (N.name_of namer) (bytes_of store.entry) (R.coming source) (W.taken sink.old) (W.taken sink.new) result }
+    ensures imported { ImportsToStored N.name_of W.taken namer store.entry (R.coming source) sink.old sink.new result }
     ensures again { IntoAgain (N.name_of namer) (bytes_of store.entry) (R.coming source) result.0 }
 {
     match open(alloc, namer, store, state) {

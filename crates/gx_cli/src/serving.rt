@@ -1,8 +1,7 @@
 //! What a command does with the store's bytes, its input and its output.
 
 ghost use Rattle.gx_cli.specs.Again.{ServesExported};
-ghost use Rattle.gx_cli.specs.Opening.{bytes_of};
-ghost use Rattle.gx_cli.specs.Parts.{AnswersBlobs, AsksStore};
+ghost use Rattle.gx_cli.specs.Parts.{AnswersBlobs, AsksStore, ServesAgain, ServesStored};
 ghost use Rattle.gx_cli.specs.Serving.{IsOutcome, IsRefused, Serves};
 
 use crate::adapting::adapt_stream;
@@ -85,8 +84,8 @@ fn serve_bytes<N: Namer + Drop, R: Source + Drop, W: Sink, A: Allocator + Copy>(
     sink: &mut W,
     state: RandomState,
 ) -> Outcome<A>
-    ensures served { Serves (N.name_of namer) line.now (bytes_of store.entry) (R.coming source) (W.taken sink.old) (W.taken sink.new) result }
-    ensures again { ServesExported (N.name_of namer) line.now (bytes_of store.entry) (R.coming source) result }
+    ensures served { ServesStored N.name_of W.taken namer line.now store.entry (R.coming source) sink.old sink.new result }
+    ensures again { ServesAgain N.name_of namer line.now store.entry (R.coming source) result }
 {
     match line {
         Line::Blobs => outcome_of(blobs_alone(alloc, namer, source, sink, state)),

@@ -1,8 +1,8 @@
 //! A stream, imported into an empty store, and what a revision shows there.
 
 ghost use Rattle.std.specs.Prelude.{◌≡◌, IfOk};
-ghost use Rattle.gx_cli.specs.Parts.{TriesWord};
-ghost use Rattle.gx_cli.specs.Trying.{ImportsAlone, LooksIn};
+ghost use Rattle.gx_cli.specs.Parts.{ImportsFirst, TriesWord};
+ghost use Rattle.gx_cli.specs.Trying.{LooksIn};
 
 use crate::CliFault;
 use crate::showing::show;
@@ -46,7 +46,7 @@ pub fn import_alone<N: Namer + Drop, A: Allocator + Copy, R: Source + Drop, W: S
     state: RandomState,
 ) -> Result<Repo<N, A>, ImportFault>
     ensures namer { IfOk result (λ repo. repo.0 ≡ namer) }
-    ensures replayed { ImportsAlone (N.name_of namer) (R.coming source) (W.taken sink.old) (W.taken sink.new) result }
+    ensures replayed { ImportsFirst N.name_of W.taken namer (R.coming source) sink.old sink.new result }
 {
     let mut repo = Repo::new(alloc, namer, state);
     match import(alloc, &mut repo, source, sink) {

@@ -1,19 +1,24 @@
-use Rattle.std.proofs.Common.{◌<◌, length, arith, ◌∙◌, ap, sym, subst, [], ◌∷◌, map, take, Ok, Err}
+use Rattle.std.proofs.Common.{◌<◌, ◌≤◌, length, arith, ◌∙◌, ap, sym, subst, [], ◌∷◌, map, take, Ok, Err}
+use Rattle.std.proofs.lemmas.List.{length-map, take_all}
 use Rattle.std.proofs.lemmas.Result.{err_from_is_err_and}
 use Rattle.gx_model.specs.declared.objects.Kind.TheVariants as kind
 use Rattle.gx_model.specs.Export.{number_in}
 use Rattle.gx_model.specs.Records.HistoryOf.{commit_of_value, value_of_name}
 use Rattle.gx_model.specs.Records.Sound.{Holds}
+use Rattle.gx_model.specs.Texts.{Bytes}
 use Rattle.gx_rev.specs.Objects.{commit_at}
 use Rattle.gx_model.proofs.HeldValues.{commit_stands, holds_held, kind_held}
 use Rattle.gx_export.specs.Outputs.{Stops, Writes}
 use Rattle.gx_export.specs.Texts.{items_text, parent_items}
 use Rattle.gx_export.proofs.CommitLines.{image_at, line_is, none_at, parent_line, parents_next, parents_parts, passes_at}
-use Rattle.gx_export.proofs.Numbering.{adds_bytes, adds_later}
+use Rattle.gx_export.proofs.Numbering.{adds_bytes, adds_later, adds_nothing}
 use Rattle.gx_export.proofs.Writing.{items_sooner}
 use Rattle.gx_export.specs.Marks.{Adds}
 use Rattle.gx_export.proofs.commit.write_parents.Goals as goal
 use Rattle.gx_export.proofs.commit.write_parents.Goals.{in-Some+in_ok-write_parent, in_default}
+
+pub loop-number-init : goal.loop-number-init
+loop-number-init g c = λ ws h. adds_nothing c.args.repo.now.1 ws c.args.written.now (g.W.Sink.taken c.args.sink.now) h
 
 pub mark_of-mark-requires-clause-held : goal.mark_of-mark-requires-clause-held
 mark_of-mark-requires-clause-held g c =
@@ -22,6 +27,12 @@ mark_of-mark-requires-clause-held g c =
     let r = c.args.repo.now.1 in
     let n = c.in-Some.parent.bytes in
     (kind_held name namer r c.sound.ensures kind.Commit n (holds_held name namer r c.sound.ensures kind.Commit n (passes_at (Holds r.records kind.Commit) c.args.commit.now.parents c.loop-number.number n c.requires.parents c.in-Some.ensures))).0
+
+pub mark_of-mark-requires-clause-long : goal.mark_of-mark-requires-clause-long
+mark_of-mark-requires-clause-long g c = let w = c.requires.written in (c.loop-number.invariant w.0 w.1).0.marks.long
+
+pub write_parent-requires : goal.write_parent-requires
+write_parent-requires g c = let w = c.requires.written in (c.loop-number.invariant w.0 w.1).0.most
 
 pub returns-in_err-write_parent-clause-adds : goal.returns-in_err-write_parent-clause-adds
 returns-in_err-write_parent-clause-adds g c = λ ws h.
@@ -67,3 +78,12 @@ loop-number-preserved g c =
           let within : c.loop-number.number < length c.args.commit.now.parents = omega (arith, c.loop-number-test.true, c.parent_count-number-end.ensures) in
           absurd (none_at c.args.commit.now.parents c.loop-number.number within w.in_default.ensures)
     ]
+
+pub returns-clause-adds : goal.returns-clause-adds
+returns-clause-adds g c = λ ws h.
+    let r = c.args.repo.now.1 in
+    let taken = g.W.Sink.taken in
+    let called = λ (m : Bytes). commit_of_value (value_of_name r.records m) in
+    let names = c.args.commit.now.parents in
+    let all : length (map called names) ≤ c.loop-number.number = omega (arith, c.loop-number-test.false, c.parent_count-number-end.ensures, length-map names called) in
+    subst (λ parents. Adds r ws (parent_items ws parents) c.args.written.now c.loop-number.written (taken c.args.sink.now) (taken c.loop-number.sink) (Ok tt)) (take_all c.loop-number.number (map called names) all) (c.loop-number.invariant ws h)

@@ -1,7 +1,7 @@
 use Rattle.std.proofs.Common.{◌≡◌, ◌≢◌, ◌+◌, ◌*◌, ◌<◌, ◌≤◌, ◌∙◌, ◌++◌, [], ◌∷◌, map, length, drop, true, false, not, ap, sym, subst, arith, rules, Ok}
 use Rattle.std.proofs.lemmas.List.{length-append}
-use Rattle.gx_model.specs.Export.{with_blobs}
-use Rattle.gx_model.specs.Records.HistoryOf.{named_values}
+use Rattle.gx_model.specs.Export.{blob_commands, with_blobs}
+use Rattle.gx_model.specs.Records.HistoryOf.{named_values, placed}
 use Rattle.gx_model.specs.Histories.Files.{FileMap}
 use Rattle.gx_model.specs.Objects.NameMaps.{IsHeldTree}
 use Rattle.gx_model.specs.Texts.Paths.{Path, path_of}
@@ -14,15 +14,33 @@ use Rattle.gx_model.proofs.FileMapEdits.{parts_of}
 use Rattle.gx_object.specs.Entries.{shown}
 use Rattle.gx_tree.specs.HeldTrees.{IsHeldEntry}
 use Rattle.gx_tree.specs.Lists.{below}
-use Rattle.gx_tree.specs.Nodes.{files}
+use Rattle.gx_tree.specs.Nodes.{files, kept_map}
 use Rattle.gx_tree.proofs.HeldLevels.{entries_held, loading_all, loading_more, loading_none, within_all}
 use Rattle.gx_tree.proofs.LevelsOf.{files-level_of, level_of}
 use Rattle.gx_export.specs.FileTexts.{Gathers, IsEntryBelow, IsGathered, IsLinesOf, TakesOver, bytes_in, lines_text}
+use Rattle.gx_export.specs.Texts.{items_of, items_text}
 use Rattle.gx_export.proofs.BlobLists.{denied}
-use Rattle.gx_export.proofs.Gathering.{entries_below, file_below, folder_below, gathered_again, lines_gathered, nothing_gathered, walking_next, walking_stops}
+use Rattle.gx_export.proofs.Gathering.{entries_below, file_below, file_leaf, folder_below, gathered_again, lines_gathered, nothing_gathered, walking_next, walking_stops}
 use Rattle.gx_export.proofs.HeldEntries.{entries_are, is_tree}
 use Rattle.gx_export.proofs.OneMap.{one_map}
+use Rattle.gx_export.proofs.Writing.{stops_first}
 use Rattle.gx_export.proofs.trees.+gather.Goals as goal
+
+pub add_entry-returns-in_err-path : goal.add_entry-returns-in_err-path
+add_entry-returns-in_err-path g t c = λ ws k h entry leaf kept.
+    let names = below c.args.front.now (placed c.args.entry.now.component.now (kept_map k)) in
+    let p = err_from_is_err_and c.from_residual.result c.from_residual.ensures.1 in
+    rw (p.1, p.2) (stops_first c.args.written.now.bytes (g.W.Sink.taken c.args.sink.now) (items_text (items_of (blob_commands ws (bytes_in (named_values c.args.repo.now.1.records) names)))))
+
+pub add_entry-add_file-requires-clause-file : goal.add_entry-add_file-requires-clause-file
+add_entry-add_file-requires-clause-file g t c = λ q. (let f : true ≡ false = c.if-ne.ensures ∙ ap (λ m. not (sameb the_type m Dir)) q in cc f)
+
+pub add_entry-add_file-requires-clause-held : goal.add_entry-add_file-requires-clause-held
+add_entry-add_file-requires-clause-held g t c =
+    let e = c.args.entry.now in
+    let held = c.requires.held in
+    let dir : e.mode ≢ Dir = λ q. (let f : true ≡ false = c.if-ne.ensures ∙ ap (λ m. not (sameb the_type m Dir)) q in cc f) in
+    file_leaf (g.N.Namer.name_of c.args.repo.now.0) c.args.repo.now.1 c.args.room c.args.front.now e.component.now e.name.bytes e.mode held.0 held.1 held.2 dir
 
 pub add_entry-returns-then-ne : goal.add_entry-returns-then-ne
 add_entry-returns-then-ne g t c = λ ws k h entry leaf kept.
@@ -102,6 +120,16 @@ add_entries-returns g t c = λ ws f h tree kept.
     let w = c.loop-entry.invariant ws f h kept tree in
     let all = loading_all name (level_of f) c.loop-entry.entry-iterator w.done c.in-None.ensures.steps.0 w.loading in
     subst (λ fs. IsGathered name r ws (below c.args.front.now fs) c.args.written.now c.loop-entry.written (taken c.args.sink.now) (taken c.loop-entry.sink) c.args.lines.now c.loop-entry.lines) (ap files all ∙ files-level_of f (parts_of f tree.map.file_map)) w.gathered
+
+pub add_tree-returns-in_err-take_over : goal.add_tree-returns-in_err-take_over
+add_tree-returns-in_err-take_over g t c = λ ws f h tree kept.
+    let p = err_from_is_err_and c.from_residual.result c.from_residual.ensures.1 in
+    rw (p.1, p.2) (stops_first c.args.written.now.bytes (g.W.Sink.taken c.args.sink.now) (items_text (items_of (blob_commands ws (bytes_in (named_values c.args.repo.now.1.records) (below c.args.front.now f))))))
+
+pub add_tree-returns-in_err-number : goal.add_tree-returns-in_err-number
+add_tree-returns-in_err-number g t c = λ ws f h tree kept.
+    let p = err_from_is_err_and c.from_residual-in_err-number.result c.from_residual-in_err-number.ensures.1 in
+    rw (p.1, p.2) (stops_first c.args.written.now.bytes (g.W.Sink.taken c.args.sink.now) (items_text (items_of (blob_commands ws (bytes_in (named_values c.args.repo.now.1.records) (below c.args.front.now f))))))
 
 pub add_tree-returns-then-branch : goal.add_tree-returns-then-branch
 add_tree-returns-then-branch g t c = λ ws f h tree kept.

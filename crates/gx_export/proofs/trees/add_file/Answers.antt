@@ -5,14 +5,16 @@ use Rattle.gx_model.specs.contracts.objects.Mode.{the_type}
 use Rattle.gx_model.specs.declared.objects.Kind.TheVariants as kind
 use Rattle.gx_model.specs.declared.objects.Mode.TheVariants.{Gitlink}
 use Rattle.gx_model.specs.Export.{blob_commands, with_blobs}
-use Rattle.gx_model.specs.Records.HistoryOf.{bytes_of_blob}
+use Rattle.gx_model.specs.Records.HistoryOf.{bytes_of_blob, named_values}
 use Rattle.gx_rev.specs.Objects.{value_at}
 use Rattle.gx_model.proofs.HeldValues.{holds_held, kind_held}
 use Rattle.gx_export.specs.declared.fault.ExportFault.TheVariants.{OutOfMemory}
+use Rattle.gx_export.specs.FileTexts.{bytes_in}
 use Rattle.gx_export.specs.Texts.{items_of, items_text}
 use Rattle.gx_export.proofs.CommitLines.{file_held}
 use Rattle.gx_export.proofs.Gathering.{file_stops, gathers_file, gathers_gitlink, stops_last}
 use Rattle.gx_export.proofs.Numbering.{blob_place, mark_of_blob, place_marked}
+use Rattle.gx_export.proofs.Writing.{stops_first}
 use Rattle.gx_export.proofs.trees.add_file.Goals as goal
 
 pub place_of-place-requires : goal.place_of-place-requires
@@ -33,6 +35,12 @@ write_blob_once-requires-clause-blob g c =
     let other : c.args.mode ≢ Gitlink = λ e. (let f : false ≡ true = c.if-eq.ensures ∙ ap (λ m. sameb the_type m Gitlink) e in cc f) in
     let held = holds_held name namer r c.sound.ensures kind.Blob n (file_held r.records c.args.mode n other c.requires.file c.requires.held) in
     (bytes_of_blob (value_at r c.args.name.now), blob_place name namer r c.sound.ensures n held c.place_of-place.result c.place_of-place.ensures)
+
+pub returns-in_err-add_gitlink : goal.returns-in_err-add_gitlink
+returns-in_err-add_gitlink g c = λ ws h kept.
+    let here = (c.args.path.now, (c.args.mode, c.args.name.now.bytes)) ∷ [] in
+    let p = err_from_is_err_and c.from_residual.result c.from_residual.ensures.1 in
+    rw (p.1, p.2) (stops_first c.args.written.now.bytes (g.W.Sink.taken c.args.sink.now) (items_text (items_of (blob_commands ws (bytes_in (named_values c.args.repo.now.1.records) here)))))
 
 pub returns-then-eq : goal.returns-then-eq
 returns-then-eq g c = λ ws h kept.

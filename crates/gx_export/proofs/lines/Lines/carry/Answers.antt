@@ -5,6 +5,47 @@ use Rattle.gx_export.specs.declared.lines.Directory.{Directory}
 use Rattle.gx_export.proofs.Keeping.{all_item, all_more, all_set, directory_carried, item_same}
 use Rattle.gx_export.proofs.lines.Lines.carry.Goals as goal
 
+pub loop-self-init : goal.loop-self-init
+loop-self-init g c = record { text = refl; earlier = refl; kept = λ name r ws h before e q. h }
+
+pub overflow_sub-directory : goal.overflow_sub-directory
+overflow_sub-directory g c =
+    let s = c.loop-self.self in
+    let within : s.next < length s.left.items = omega (arith, c.loop-self-test.true, c.len.ensures, s.left.ok) in
+    let same = item_same s.left.items s.next c.index.result.now c.index_mut.result.now within c.index.ensures c.index_mut.ensures.value ∙ sym c.replace-moved.ensures.value in
+    let front = subst (λ d. c.args.start ≤ d.start) same (c.stands_within.ensures.start c.if-stands_within.true) in
+    let order = subst (λ d. d.start ≤ d.end) same (c.stands_within.ensures.order c.if-stands_within.true) in
+    omega (arith, front, order)
+
+pub overflow_add-directory : goal.overflow_add-directory
+overflow_add-directory g c =
+    let s = c.loop-self.self in
+    let within : s.next < length s.left.items = omega (arith, c.loop-self-test.true, c.len.ensures, s.left.ok) in
+    let same = item_same s.left.items s.next c.index.result.now c.index_mut.result.now within c.index.ensures c.index_mut.ensures.value ∙ sym c.replace-moved.ensures.value in
+    let front = subst (λ d. c.args.start ≤ d.start) same (c.stands_within.ensures.start c.if-stands_within.true) in
+    let order = subst (λ d. d.start ≤ d.end) same (c.stands_within.ensures.order c.if-stands_within.true) in
+    let back = subst (λ d. d.end ≤ c.args.end) same (c.stands_within.ensures.end c.if-stands_within.true) in
+    omega (arith, front, order, back, c.requires.room, c.args.self.now.text.ok)
+
+pub overflow_sub-directory-in-loop-self : goal.overflow_sub-directory-in-loop-self
+overflow_sub-directory-in-loop-self g c =
+    let s = c.loop-self.self in
+    let within : s.next < length s.left.items = omega (arith, c.loop-self-test.true, c.len.ensures, s.left.ok) in
+    let same = item_same s.left.items s.next c.index.result.now c.index_mut.result.now within c.index.ensures c.index_mut.ensures.value ∙ sym c.replace-moved.ensures.value in
+    let front = subst (λ d. c.args.start ≤ d.start) same (c.stands_within.ensures.start c.if-stands_within.true) in
+    let order = subst (λ d. d.start ≤ d.end) same (c.stands_within.ensures.order c.if-stands_within.true) in
+    omega (arith, front, order)
+
+pub overflow_add-directory-in-loop-self : goal.overflow_add-directory-in-loop-self
+overflow_add-directory-in-loop-self g c =
+    let s = c.loop-self.self in
+    let within : s.next < length s.left.items = omega (arith, c.loop-self-test.true, c.len.ensures, s.left.ok) in
+    let same = item_same s.left.items s.next c.index.result.now c.index_mut.result.now within c.index.ensures c.index_mut.ensures.value ∙ sym c.replace-moved.ensures.value in
+    let front = subst (λ d. c.args.start ≤ d.start) same (c.stands_within.ensures.start c.if-stands_within.true) in
+    let order = subst (λ d. d.start ≤ d.end) same (c.stands_within.ensures.order c.if-stands_within.true) in
+    let back = subst (λ d. d.end ≤ c.args.end) same (c.stands_within.ensures.end c.if-stands_within.true) in
+    omega (arith, front, order, back, c.requires.room, c.args.self.now.text.ok)
+
 pub loop-self-preserved : goal.loop-self-preserved
 loop-self-preserved g c = record {
   text = c.loop-self.invariant.text;
@@ -35,3 +76,12 @@ returns-else-stands_within-clause-kept g c = λ name r ws before e q h. c.loop-s
 
 pub returns-after-loop-self-clause-kept : goal.returns-after-loop-self-clause-kept
 returns-after-loop-self-clause-kept g c = λ name r ws before e q h. c.loop-self.invariant.kept name r ws h before e q
+
+pub returns-else-stands_within-clause-text : goal.returns-else-stands_within-clause-text
+returns-else-stands_within-clause-text g c = c.loop-self.invariant.text
+
+pub returns-after-loop-self-clause-text : goal.returns-after-loop-self-clause-text
+returns-after-loop-self-clause-text g c = c.loop-self.invariant.text
+
+pub returns-in_err-push-clause-text : goal.returns-in_err-push-clause-text
+returns-in_err-push-clause-text g c = c.loop-self.invariant.text

@@ -1,0 +1,19 @@
+use Rattle.std.proofs.Common.{◌≡◌, List, [], ◌∷◌, ◌++◌, codes, ap, sym, subst, ◌∙◌}
+use Rattle.gx_model.specs.Histories.Files.{FileMap}
+use Rattle.gx_model.specs.Histories.Values.{Value}
+use Rattle.gx_model.specs.Streams.Items.{Line}
+use Rattle.gx_model.specs.Texts.{Bytes}
+use Rattle.gx_export.specs.Outputs.{Writes}
+use Rattle.gx_export.specs.Texts.{change_lines, file_items, items_text}
+use Rattle.gx_export.proofs.Writing.{items_append}
+use Rattle.gx_export.proofs.commit.write_files.Goals as goal
+
+-- the lines of files between the first line and the last
+changes_text : (ws : List Value) (files : FileMap Bytes) (lines : Bytes) → lines ≡ items_text (file_items ws files) → codes "deleteall" ++ (10 ∷ (lines ++ 10 ∷ [])) ≡ items_text (change_lines ws files)
+changes_text ws files lines e = ap (λ (x : Bytes). codes "deleteall" ++ (10 ∷ x)) (ap (λ (x : Bytes). x ++ 10 ∷ []) e ∙ sym (items_append (file_items ws files) (Line [] ∷ [])))
+
+pub returns-clause-text : goal.returns-clause-text
+returns-clause-text g c = λ ws files e.
+    let taken = g.W.Sink.taken in
+    let done = rw c.as_slice.ensures at c.write_all.ensures.text in
+    subst (λ t. Writes c.args.written.now c.write_all.new.written (taken c.args.sink.now) (taken c.write_all.new.sink) t c.write_all.result) (changes_text ws files c.args.lines.now e) done

@@ -5,3 +5,6 @@ pub mod Marked
 pub mod Counts
 pub mod Progress
 pub mod Readable
+pub mod Appended
+pub mod LeftOut
+pub mod SetMarks

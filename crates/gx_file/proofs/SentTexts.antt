@@ -1,8 +1,12 @@
 -- What a sink took of texts that were sent one after the other, and the whole that they make.
-use Rattle.std.proofs.Common.{◌≡◌, ℕ, zero, suc, ◌<◌, ◌≤◌, ◌+◌, sym, ap, subst, arith, List, [], ◌∷◌, ◌++◌, drop, length, append-nil, Option, None, Some, Result, Ok, Err}
+use Rattle.std.proofs.Common.{◌≡◌, ℕ, zero, suc, ◌<◌, ◌≤◌, ◌+◌, sym, ap, subst, arith, List, [], ◌∷◌, ◌++◌, drop, length, append_assoc, append-nil, Option, None, Some, Result, Ok, Err}
 use Rattle.std.specs.Prelude.{IfOk}
+use Rattle.std.specs.Fmt.{decimal}
 use Rattle.std.specs.List.{AllByRecursion, flat_map, slice_get}
 use Rattle.std.proofs.lemmas.List.{drop_all}
+use Rattle.gx_model.specs.declared.store_versions.Version.TheVariants.{Two}
+use Rattle.gx_model.specs.Objects.{hex, line}
+use Rattle.gx_model.specs.Stores.StoreText.{length_text}
 use Rattle.gx_model.specs.Texts.{Bytes}
 use Rattle.gx_model.specs.Texts.Sinks.{Taken, Took}
 use Rattle.gx_model.proofs.SentTexts.{IsLeft, left_fails, none_left, took_both}
@@ -49,3 +53,10 @@ is_within (x ∷ xs) (suc i) e h = is_within xs i e (omega (arith, h))
 pub anyway : {P : Type 0} (answer : Result (Unit {0}) Failed) → P → IfOk answer (λ _. P)
 anyway (Ok u) p = p
 anyway (Err f) p = tt
+
+-- A body goes out behind its line where its parts do, one after the other.
+pub body_sent : (was now : Option Taken) (answer : Result (Unit {0}) Failed) (word number digits name body : Bytes) → number ≡ decimal (length body) → digits ≡ hex name
+    → Sent (word ++ (32 ∷ (number ++ (32 ∷ (digits ++ (10 ∷ (body ++ 10 ∷ []))))))) was now answer → Sent (line word (length_text Two (length body) name) ++ body ++ 10 ∷ []) was now answer
+body_sent was now answer word number digits name body e f h = subst (λ t. Sent t was now answer) (rw (e, f) (parts word (decimal (length body)) (hex name) body)) h where
+  parts : (word number digits body : Bytes) → word ++ (32 ∷ (number ++ (32 ∷ (digits ++ (10 ∷ (body ++ 10 ∷ [])))))) ≡ line word (number ++ 32 ∷ digits) ++ body ++ 10 ∷ []
+  parts word number digits body = simp append_assoc

@@ -1,8 +1,10 @@
-use Rattle.std.proofs.Common.{rules}
+use Rattle.std.proofs.Common.{None}
+use Rattle.gx_file.proofs.StatedNames.{heading_read}
 use Rattle.gx_file.proofs.records.record_line.Goals as goal
 
 pub returns-in_err-length_field : goal.returns-in_err-length_field
-returns-in_err-length_field c = search rules
+returns-in_err-length_field c =
+    rw c.from_residual-in_err-length_field.ensures (heading_read c.args.version c.args.line.now c.in_ok-word.word.now c.in_ok-word.field.now c.in_ok-kind.kind None c.in_ok-word.ensures c.in_ok-kind.ensures c.in_err-length_field.ensures)
 
 pub returns : goal.returns
-returns c = search rules
+returns c = heading_read c.args.version c.args.line.now c.in_ok-word.word.now c.in_ok-word.field.now c.in_ok-kind.kind _ c.in_ok-word.ensures c.in_ok-kind.ensures c.in_ok-length_field.ensures

@@ -1,4 +1,4 @@
-use Rattle.std.proofs.Common.{◌++◌, ◌+◌, ◌<◌, ◌^◌, List, codes, drop, length, ap, subst}
+use Rattle.std.proofs.Common.{◌++◌, ◌+◌, ◌<◌, ◌^◌, List, codes, drop, length, ap, arith, subst}
 use Rattle.std.specs.List.{flat_map}
 use Rattle.std.specs.Fmt.{decimal}
 use Rattle.std.proofs.lemmas.Result.{err_from_is_err_and}
@@ -6,9 +6,10 @@ use Rattle.gx_model.specs.declared.store_versions.Version.TheVariants.{Two}
 use Rattle.gx_model.specs.Histories.{Record}
 use Rattle.gx_model.specs.Objects.{line}
 use Rattle.gx_model.specs.Stores.StoreText.{stored_record}
-use Rattle.gx_model.specs.Texts.Sinks.{FailedWithin}
+use Rattle.gx_file.specs.Sending.{HaveLengths}
+use Rattle.gx_model.specs.Texts.Sinks.{FailedWithin, Took}
 use Rattle.gx_model.proofs.SentTexts.{all_left, left_fails, less_left}
-use Rattle.gx_file.proofs.SentTexts.{all_from, from_place, is_within, next_left}
+use Rattle.gx_file.proofs.SentTexts.{all_from, all_of, from_place, is_within, next_left, took_all}
 use Rattle.gx_file.proofs.sending.send_records.Goals as goal
 
 pub returns-in_err-send_count-clause-text : goal.returns-in_err-send_count-clause-text
@@ -53,3 +54,41 @@ loop-place-preserved g c =
       less_left (texts rs) was mid now (stored_record Two r) (flat_map (stored_record Two) (drop (place + 1) rs)) left c.in_ok-send_record.ensures.text,
       all_from (λ x. length x.body < 2 ^ 64) rs place r here c.in_ok-send_record.ensures.length c.loop-place.invariant.1,
     )
+
+pub loop-place-init : goal.loop-place-init
+loop-place-init g c =
+    let texts = λ (rs : List Record). line (codes "objects") (decimal (length rs)) ++ flat_map (stored_record Two) rs in
+    let rs = c.store-store.result.now.1 in
+    let was = g.W.Sink.taken c.args.sink.now in
+    let now = g.W.Sink.taken c.send_count.new.sink in
+    let counted = subst (λ n. Took was now (line (codes "objects") (decimal n))) c.len-count.ensures.count c.in_ok-send_count.ensures in
+    (less_left (texts rs) was was now (line (codes "objects") (decimal (length rs))) (flat_map (stored_record Two) rs) (all_left (texts rs) was) counted, λ lengths. lengths)
+
+pub returns-clause-text : goal.returns-clause-text
+returns-clause-text g c =
+    let texts = λ (rs : List Record). line (codes "objects") (decimal (length rs)) ++ flat_map (stored_record Two) rs in
+    let rs = c.store-store.result.now.1 in
+    let was = g.W.Sink.taken c.args.sink.now in
+    let now = g.W.Sink.taken c.loop-place.sink in
+    let took = took_all (stored_record Two) (texts rs) was now rs c.loop-place.place (rw c.len-count.ensures.count at c.loop-place-test.false) c.loop-place.invariant.0 in
+    subst (λ rs. Took was now (texts rs)) (ap (λ s. s.1) c.store-store.ensures.held) took
+
+pub returns-clause-lengths : goal.returns-clause-lengths
+returns-clause-lengths g c =
+    let all = all_of (λ x. length x.body < 2 ^ 64) c.store-store.result.now.1 c.loop-place.place (rw c.len-count.ensures.count at c.loop-place-test.false) c.loop-place.invariant.1 in
+    subst HaveLengths (ap (λ s. s.1) c.store-store.ensures.held) all
+
+pub returns-clause-count : goal.returns-clause-count
+returns-clause-count g c =
+    let few : length c.store-store.result.now.1 < 2 ^ 64 = omega (arith, c.len-count.ensures.count) in
+    subst (λ rs. length rs < 2 ^ 64) (ap (λ s. s.1) c.store-store.ensures.held) few
+
+pub returns-in_err-send_count-clause-count : goal.returns-in_err-send_count-clause-count
+returns-in_err-send_count-clause-count g c =
+    let few : length c.store-store.result.now.1 < 2 ^ 64 = omega (arith, c.len-count.ensures.count) in
+    subst (λ rs. length rs < 2 ^ 64) (ap (λ s. s.1) c.store-store.ensures.held) few
+
+pub returns-in_err-send_record-clause-count : goal.returns-in_err-send_record-clause-count
+returns-in_err-send_record-clause-count g c =
+    let few : length c.store-store.result.now.1 < 2 ^ 64 = omega (arith, c.len-count.ensures.count) in
+    subst (λ rs. length rs < 2 ^ 64) (ap (λ s. s.1) c.store-store.ensures.held) few

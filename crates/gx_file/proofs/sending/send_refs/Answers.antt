@@ -1,4 +1,4 @@
-use Rattle.std.proofs.Common.{◌++◌, ◌∙◌, arith, codes, length, sym, subst}
+use Rattle.std.proofs.Common.{◌++◌, ◌∙◌, ap, arith, codes, length, sym, subst}
 use Rattle.std.specs.List.{flat_map}
 use Rattle.std.specs.Fmt.{decimal}
 use Rattle.std.proofs.lemmas.Iterator.Consumers.{YieldsList-from_rest, count_from_yields_List}
@@ -7,7 +7,7 @@ use Rattle.gx_model.specs.Objects.{line}
 use Rattle.gx_model.specs.Stores.StoreText.{stored_ref}
 use Rattle.gx_repo.specs.Refs.{shown_lent_ref}
 use Rattle.gx_model.specs.Texts.Sinks.{FailedWithin, Took}
-use Rattle.gx_model.proofs.SentTexts.{IsLeft, all_left, left_fails, less_left}
+use Rattle.gx_model.proofs.SentTexts.{IsLeft, all_left, left_fails, less_left, none_left}
 use Rattle.gx_file.proofs.sending.send_refs.Goals as goal
 
 pub returns-in_err-send_count-clause-text : goal.returns-in_err-send_count-clause-text
@@ -66,3 +66,10 @@ pub returns-clause-count : goal.returns-clause-count
 returns-clause-count g c =
     let number = count_from_yields_List c.refs.result c.count.result c.count.ensures.ran (YieldsList-from_rest {shows = shown_lent_ref} c.args.repo.now.1.refs c.refs.ensures.held) in
     omega (arith, sym number)
+
+pub returns-clause-text : goal.returns-clause-text
+returns-clause-text g c =
+    let refs = c.args.repo.now.1.refs in
+    let whole = line (codes "refs") (decimal (length refs)) ++ flat_map stored_ref refs in
+    let none = ap (flat_map stored_ref) c.in-None.ensures.steps.0 in
+    none_left whole (g.W.Sink.taken c.args.sink.now) (g.W.Sink.taken c.loop-name.sink) (flat_map stored_ref c.loop-name.name-iterator) none c.loop-name.invariant.2

@@ -76,9 +76,9 @@ module _ {W : Type 0} (taken : W → Option Taken) where
   -- ---- values
 
   -- the blob at this place goes out, where it wasn't written yet
-  abbrev pub AddsOneBlob : {A : Type 0} → Records → ℕ → Written A → Written A → W → W → Result (Unit {0}) ExportFault → Type 0
-  AddsOneBlob repository place old new was now result =
-      (bytes : Bytes) (ws : List Value) → IsBlobAt repository place bytes → HasWritten repository ws old → AddsBlobs repository ws (bytes ∷ []) old new (taken was) (taken now) result
+  abbrev pub AddsOneBlob : {N A : Type 0} → Repository N → ℕ → Written A → Written A → W → W → Result (Unit {0}) ExportFault → Type 0
+  AddsOneBlob repo place old new was now result =
+      (bytes : Bytes) (ws : List Value) → IsBlobAt repo.1 place bytes → HasWritten repo.1 ws old → AddsBlobs repo.1 ws (bytes ∷ []) old new (taken was) (taken now) result
 
   -- the commits that refs reach go out, each behind its blobs
   abbrev pub AddsReachedCommits : {A : Type 0} → Records → Written A → Written A → W → W → Result (Unit {0}) ExportFault → Type 0

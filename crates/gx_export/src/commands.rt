@@ -14,19 +14,19 @@ use itoa::Buffer;
 /// Writes a blob under a mark.
 pub(crate) fn write_blob<W: Sink>(
     sink: &mut W,
-    written: &mut u64,
+    sent: &mut u64,
     mark: u64,
     bytes: &[u8],
 ) -> Result<(), ExportFault>
-    requires { written.old ≤ most }
-    ensures text { WritesBlob W.taken mark bytes.now written.old written.new sink.old sink.new result }
+    requires { sent.old ≤ most }
+    ensures text { WritesBlob W.taken mark bytes.now sent.old sent.new sink.old sink.new result }
     ensures memory { NeedsNoMemory result }
 {
     let mut number = Buffer::new();
     let mut length = Buffer::new();
     write_all(
         sink,
-        written,
+        sent,
         &[
             b"blob\nmark :".as_slice(),
             number.format(mark).as_bytes(),
@@ -40,15 +40,15 @@ pub(crate) fn write_blob<W: Sink>(
 }
 
 /// Writes a block.
-fn write_block<W: Sink>(sink: &mut W, written: &mut u64, bytes: &[u8]) -> Result<(), ExportFault>
-    requires { written.old ≤ most }
-    ensures text { WritesData W.taken bytes.now written.old written.new sink.old sink.new result }
+fn write_block<W: Sink>(sink: &mut W, sent: &mut u64, bytes: &[u8]) -> Result<(), ExportFault>
+    requires { sent.old ≤ most }
+    ensures text { WritesData W.taken bytes.now sent.old sent.new sink.old sink.new result }
     ensures memory { NeedsNoMemory result }
 {
     let mut length = Buffer::new();
     write_all(
         sink,
-        written,
+        sent,
         &[
             b"data ".as_slice(),
             length.format(bytes.len()).as_bytes(),
@@ -62,16 +62,16 @@ fn write_block<W: Sink>(sink: &mut W, written: &mut u64, bytes: &[u8]) -> Result
 /// Writes a line with a word and a text, where there is a text.
 fn write_optional<W: Sink>(
     sink: &mut W,
-    written: &mut u64,
+    sent: &mut u64,
     word: &[u8],
     text: Option<&[u8]>,
 ) -> Result<(), ExportFault>
-    requires { written.old ≤ most }
-    ensures text { WritesIf W.taken word.now text.entry written.old written.new sink.old sink.new result }
+    requires { sent.old ≤ most }
+    ensures text { WritesIf W.taken word.now text.entry sent.old sent.new sink.old sink.new result }
     ensures memory { NeedsNoMemory result }
 {
     match text {
-        Some(text) => write_all(sink, written, &[word, b" ", text, b"\n"]),
+        Some(text) => write_all(sink, sent, &[word, b" ", text, b"\n"]),
         None => Ok(()),
     }
 }
@@ -79,34 +79,34 @@ fn write_optional<W: Sink>(
 /// Writes a commit's lines up to its message, under a mark.
 pub(crate) fn write_commit_head<W: Sink>(
     sink: &mut W,
-    written: &mut u64,
+    sent: &mut u64,
     mark: u64,
     commit: &CommitView<'_>,
 ) -> Result<(), ExportFault>
-    requires { written.old ≤ most }
-    ensures text { WritesHead W.taken mark commit.now written.old written.new sink.old sink.new result }
+    requires { sent.old ≤ most }
+    ensures text { WritesHead W.taken mark commit.now sent.old sent.new sink.old sink.new result }
     ensures memory { NeedsNoMemory result }
 {
-    write_authors(sink, written, mark, commit)?;
-    write_optional(sink, written, b"encoding", commit.encoding())?;
-    write_block(sink, written, commit.message())
+    write_authors(sink, sent, mark, commit)?;
+    write_optional(sink, sent, b"encoding", commit.encoding())?;
+    write_block(sink, sent, commit.message())
 }
 
 /// Writes a commit's lines up to its committer.
 fn write_authors<W: Sink>(
     sink: &mut W,
-    written: &mut u64,
+    sent: &mut u64,
     mark: u64,
     commit: &CommitView<'_>,
 ) -> Result<(), ExportFault>
-    requires { written.old ≤ most }
-    ensures text { WritesAuthors W.taken mark commit.now written.old written.new sink.old sink.new result }
+    requires { sent.old ≤ most }
+    ensures text { WritesAuthors W.taken mark commit.now sent.old sent.new sink.old sink.new result }
     ensures memory { NeedsNoMemory result }
 {
     let mut number = Buffer::new();
     write_all(
         sink,
-        written,
+        sent,
         &[
             b"commit refs/gx/export\nmark :".as_slice(),
             number.format(mark).as_bytes(),
@@ -122,18 +122,18 @@ fn write_authors<W: Sink>(
 /// Writes the line of a parent, `from` or `merge`.
 pub(crate) fn write_parent<W: Sink>(
     sink: &mut W,
-    written: &mut u64,
+    sent: &mut u64,
     word: &[u8],
     mark: u64,
 ) -> Result<(), ExportFault>
-    requires { written.old ≤ most }
-    ensures text { WritesParent W.taken word.now mark written.old written.new sink.old sink.new result }
+    requires { sent.old ≤ most }
+    ensures text { WritesParent W.taken word.now mark sent.old sent.new sink.old sink.new result }
     ensures memory { NeedsNoMemory result }
 {
     let mut number = Buffer::new();
     write_all(
         sink,
-        written,
+        sent,
         &[word, b" :", number.format(mark).as_bytes(), b"\n"],
     )
 }
@@ -141,31 +141,31 @@ pub(crate) fn write_parent<W: Sink>(
 /// Writes a reset to no commit.
 pub(crate) fn write_reset<W: Sink>(
     sink: &mut W,
-    written: &mut u64,
+    sent: &mut u64,
     name: &[u8],
 ) -> Result<(), ExportFault>
-    requires { written.old ≤ most }
-    ensures text { WritesReset W.taken name.now written.old written.new sink.old sink.new result }
+    requires { sent.old ≤ most }
+    ensures text { WritesReset W.taken name.now sent.old sent.new sink.old sink.new result }
     ensures memory { NeedsNoMemory result }
 {
-    write_all(sink, written, &[b"reset ".as_slice(), name, b"\n"])
+    write_all(sink, sent, &[b"reset ".as_slice(), name, b"\n"])
 }
 
 /// Writes a reset to a commit that has a mark.
 pub(crate) fn write_reset_to<W: Sink>(
     sink: &mut W,
-    written: &mut u64,
+    sent: &mut u64,
     name: &[u8],
     mark: u64,
 ) -> Result<(), ExportFault>
-    requires { written.old ≤ most }
-    ensures text { ResetsTo W.taken name.now mark written.old written.new sink.old sink.new result }
+    requires { sent.old ≤ most }
+    ensures text { ResetsTo W.taken name.now mark sent.old sent.new sink.old sink.new result }
     ensures memory { NeedsNoMemory result }
 {
     let mut number = Buffer::new();
     write_all(
         sink,
-        written,
+        sent,
         &[
             b"reset ".as_slice(),
             name,
@@ -179,34 +179,34 @@ pub(crate) fn write_reset_to<W: Sink>(
 /// Writes a tag of a commit that has a mark.
 pub(crate) fn write_tag<W: Sink>(
     sink: &mut W,
-    written: &mut u64,
+    sent: &mut u64,
     tag: &TagView<'_>,
     mark: u64,
 ) -> Result<(), ExportFault>
-    requires { written.old ≤ most }
-    ensures text { WritesTag W.taken mark tag.now written.old written.new sink.old sink.new result }
+    requires { sent.old ≤ most }
+    ensures text { WritesTag W.taken mark tag.now sent.old sent.new sink.old sink.new result }
     ensures memory { NeedsNoMemory result }
 {
-    write_target(sink, written, tag, mark)?;
-    write_optional(sink, written, b"tagger", tag.tagger())?;
-    write_block(sink, written, tag.message())
+    write_target(sink, sent, tag, mark)?;
+    write_optional(sink, sent, b"tagger", tag.tagger())?;
+    write_block(sink, sent, tag.message())
 }
 
 /// Writes a tag's lines up to its commit.
 fn write_target<W: Sink>(
     sink: &mut W,
-    written: &mut u64,
+    sent: &mut u64,
     tag: &TagView<'_>,
     mark: u64,
 ) -> Result<(), ExportFault>
-    requires { written.old ≤ most }
-    ensures text { WritesTarget W.taken mark tag.now written.old written.new sink.old sink.new result }
+    requires { sent.old ≤ most }
+    ensures text { WritesTarget W.taken mark tag.now sent.old sent.new sink.old sink.new result }
     ensures memory { NeedsNoMemory result }
 {
     let mut number = Buffer::new();
     write_all(
         sink,
-        written,
+        sent,
         &[
             b"tag ".as_slice(),
             tag.name(),

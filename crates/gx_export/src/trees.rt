@@ -176,7 +176,7 @@ fn write_blob_once<N: Namer, A: Allocator + Copy, W: Sink>(
 ) -> Result<(), ExportFault>
     requires blob { (bytes : Bytes) × IsBlobAt repo.now.1 place bytes }
     requires written { (ws : List Value) × HasWritten repo.now.1 ws written.old }
-    ensures adds { AddsOneBlob W.taken repo.now.1 place written.old written.new sink.old sink.new result }
+    ensures adds { AddsOneBlob W.taken repo.now place written.old written.new sink.old sink.new result }
     ensures memory { NeedsNoMemory result }
 {
     repo.sound();

@@ -16,20 +16,20 @@ returns-in_err-write_commit_head-clause-adds g c = λ ws files h e.
     let behind = parent_items ws (commits_called r parts.parents) ++ change_lines ws files in
     let p = err_from_is_err_and c.from_residual.result c.from_residual.ensures.1 in
     let fault = c.in_err-write_commit_head.field-0.0 in
-    rw (p.1, p.2) (items_sooner old.bytes was now (head_items (suc (length ws)) parts.text) behind fault (adds_head r ws parts.text old c.write_commit_head.new.written was now (Err fault) h c.in_err-write_commit_head.ensures.text))
+    rw (p.1, p.2) (items_sooner old.bytes was now (head_items (suc (length ws)) parts.text) behind fault (adds_head r ws parts.text old c.write_commit_head.new.sent was now (Err fault) h c.in_err-write_commit_head.ensures.text))
 
 pub write_parents-requires : goal.write_parents-requires
 write_parents-requires g c =
     let w = c.requires.written in
     let taken = g.W.Sink.taken in
-    record { parents = c.requires.parents; written = (w.0, (adds_head c.args.repo.now.1 w.0 c.args.commit.now.text c.args.written.now c.write_commit_head.new.written (taken c.args.sink.now) (taken c.write_commit_head.new.sink) (Ok tt) w.1 c.in_ok-write_commit_head.ensures.text).0) }
+    record { parents = c.requires.parents; written = (w.0, (adds_head c.args.repo.now.1 w.0 c.args.commit.now.text c.args.written.now c.write_commit_head.new.sent (taken c.args.sink.now) (taken c.write_commit_head.new.sink) (Ok tt) w.1 c.in_ok-write_commit_head.ensures.text).0) }
 
 pub returns-in_err-write_parents-clause-adds : goal.returns-in_err-write_parents-clause-adds
 returns-in_err-write_parents-clause-adds g c = λ ws files h e.
     let r = c.args.repo.now.1 in
     let parts = c.args.commit.now in
     let old = c.args.written.now in
-    let mid = record old { bytes = c.write_commit_head.new.written } in
+    let mid = record old { bytes = c.write_commit_head.new.sent } in
     let was = g.W.Sink.taken c.args.sink.now in
     let between = g.W.Sink.taken c.write_commit_head.new.sink in
     let now = g.W.Sink.taken c.write_parents.new.sink in
@@ -44,7 +44,7 @@ pub write_files-requires : goal.write_files-requires
 write_files-requires g c =
     let w = c.requires.written in
     let taken = g.W.Sink.taken in
-    let head = adds_head c.args.repo.now.1 w.0 c.args.commit.now.text c.args.written.now c.write_commit_head.new.written (taken c.args.sink.now) (taken c.write_commit_head.new.sink) (Ok tt) w.1 c.in_ok-write_commit_head.ensures.text in
+    let head = adds_head c.args.repo.now.1 w.0 c.args.commit.now.text c.args.written.now c.write_commit_head.new.sent (taken c.args.sink.now) (taken c.write_commit_head.new.sink) (Ok tt) w.1 c.in_ok-write_commit_head.ensures.text in
     (c.in_ok-write_parents.ensures.adds w.0 head.0).0.most
 
 pub returns-clause-adds : goal.returns-clause-adds
@@ -52,7 +52,7 @@ returns-clause-adds g c = λ ws files h e.
     let r = c.args.repo.now.1 in
     let parts = c.args.commit.now in
     let old = c.args.written.now in
-    let mid = record old { bytes = c.write_commit_head.new.written } in
+    let mid = record old { bytes = c.write_commit_head.new.sent } in
     let last = c.write_parents.new.written in
     let new = record last { bytes = c.write_files.new.written } in
     let was = g.W.Sink.taken c.args.sink.now in

@@ -54,7 +54,7 @@ returns-clause-adds g c = λ x ws e h.
     let mark = c.index.ensures ∙ mark_here name namer r sound ws old.marks.items v c.args.place c.index.result.now h.marks e in
     let none : number_in ws (blob_value x) ≡ 0 = omega (arith, mark, c.if-index-gt0.false) in
     let body = body_here name namer r sound c.args.place x c.body_at-body.result.now e c.body_at-body.ensures in
-    let done = subst (λ y. Writes old.bytes c.write_blob.new.written was now (command_text (Blob (record { mark = Some (old.count + 1); bytes = y }))) (Ok tt)) body c.in_ok-write_blob.ensures.text in
+    let done = subst (λ y. Writes old.bytes c.write_blob.new.sent was now (command_text (Blob (record { mark = Some (old.count + 1); bytes = y }))) (Ok tt)) body c.in_ok-write_blob.ensures.text in
     let same = subst (λ bytes. Writes old.bytes bytes was now (command_text (Blob (record { mark = Some (old.count + 1); bytes = x }))) (Ok tt)) (sym c.mark.ensures.bytes) done in
     let only = only_place name namer r sound v c.args.place e in
     adds_new_blob ws x r old h was c.mark.new.self c.args.place now none only (place_marked name namer r sound ws old.marks.items v c.args.place h.marks e) c.mark.ensures.count c.mark.ensures.marks same

@@ -36,6 +36,11 @@ pub(crate) fn read_store(rt: &HostRuntime, file: &str) -> Result<Vec<u8>, CliFau
 fn read_whole(rt: &HostRuntime, file: &str) -> io::Result<Vec<u8>> {
     let mut opened = File::open(rt, file)?;
     let size = opened.metadata()?.len();
+    read_to_end(rt, &mut opened, size)
+}
+
+/// The bytes of an open file of this size.
+fn read_to_end(rt: &HostRuntime, opened: &mut File, size: u64) -> io::Result<Vec<u8>> {
     let mut bytes = Vec::with_capacity(rt.alloc(), size.saturating_add(1) as usize)?;
     opened.read_to_end(&mut bytes)?;
     Ok(bytes)
@@ -52,17 +57,31 @@ fn read_fault(error: io::Error) -> CliFault {
 /// The path behind the symbolic links at the end of a path. Nothing needs to be there.
 pub(crate) fn follow_links(rt: &HostRuntime, file: &str) -> Result<String, RunFault> {
     let mut path = PathBuf::from_str(rt.alloc(), file)?;
+    follow_to_end(rt, &mut path)?;
+    Ok(path.into_string())
+}
+
+/// Follows the symbolic links at the end of a path, of which there may be so many.
+fn follow_to_end(rt: &HostRuntime, path: &mut PathBuf) -> Result<(), RunFault> {
     for _ in 0..MOST_LINKS {
-        match fs::read_link(rt, &path) {
-            Ok(target) => {
-                path.pop();
-                path.push(target)?;
-            }
-            Err(error) if is_no_link(&error) => return Ok(path.into_string()),
-            Err(error) => return Err(read_fault(error).into()),
+        if !follow_link(rt, path)? {
+            return Ok(());
         }
     }
     Err(CliFault::ReadFailed.into())
+}
+
+/// Follows the symbolic link at the end of a path. Answers whether there was one.
+fn follow_link(rt: &HostRuntime, path: &mut PathBuf) -> Result<bool, RunFault> {
+    match fs::read_link(rt, &*path) {
+        Ok(target) => {
+            path.pop();
+            path.push(target)?;
+            Ok(true)
+        }
+        Err(error) if is_no_link(&error) => Ok(false),
+        Err(error) => Err(read_fault(error).into()),
+    }
 }
 
 /// Whether a path can't be read as a link since it is none, or nothing.

@@ -11,36 +11,54 @@ mod reports;
 use fault::RunFault;
 use files::{read_store, want_no_store, want_store};
 use gx_cli::{
-    CliFault, ImportReport, Line, LineFault, Outcome, Repo, adapt_stream, import_store, read_line,
-    serve, serve_owned,
+    AdaptReport, CliFault, ImportReport, Line, LineFault, Outcome, Repo, adapt_stream,
+    import_store, read_line, serve, serve_owned,
 };
 use gx_object::Sha1Namer;
 use gx_text::{FromRead, IntoWrite};
 use next_text::NextText;
 use progress::{Beside, Metered, ProgressLine};
 use reports::{tell_adaption, tell_import};
-use std::alloc::Global;
+use std::alloc::{AllocError, Global};
+use std::env::{self, Args};
 use std::hash::RandomState;
-use std::io::{BufWriter, ErrorKind, Write};
+use std::io::{self, BufWriter, ErrorKind, Stdout, Write};
 use std::process::ExitCode;
-use std::{env, io};
 
 fn main(rt: HostRuntime) -> io::Result<ExitCode> {
-    let alloc = rt.alloc();
-    let args = match env::args(&rt) {
-        Ok(args) => args,
-        Err(error) => return refuse_arguments(&rt, error),
-    };
-    let args: Vec<String> = args.collect(alloc)?;
-    let mut words = Vec::new(alloc);
+    match env::args(&rt) {
+        Ok(args) => run_arguments(&rt, args),
+        Err(error) => refuse_arguments(&rt, error),
+    }
+}
+
+/// Runs the command of the arguments behind the program's name.
+fn run_arguments(rt: &HostRuntime, args: Args) -> io::Result<ExitCode> {
+    let args: Vec<String> = args.collect(rt.alloc())?;
+    let mut words = Vec::new(rt.alloc());
+    put_words(&mut words, &args)?;
+    run_words(rt, &words)
+}
+
+/// Puts the arguments behind the first one.
+fn put_words<'a>(words: &mut Vec<&'a str>, args: &'a [String]) -> Result<(), AllocError> {
     for arg in args.iter().skip(1) {
         words.push(arg.as_str())?;
     }
-    let line = match read_line(alloc, words.as_slice()) {
-        Ok(line) => line,
-        Err(fault) => return refuse_line(&rt, &fault),
-    };
-    match run(&rt, &line, RandomState::new(&rt)?) {
+    Ok(())
+}
+
+/// Runs the command of a line's words.
+fn run_words(rt: &HostRuntime, words: &[&str]) -> io::Result<ExitCode> {
+    match read_line(rt.alloc(), words) {
+        Ok(line) => run_line(rt, &line),
+        Err(fault) => refuse_line(rt, &fault),
+    }
+}
+
+/// Runs a command, and prints why it is refused.
+fn run_line(rt: &HostRuntime, line: &Line<'_>) -> io::Result<ExitCode> {
+    match run(rt, line, RandomState::new(rt)?) {
         Ok(()) => Ok(ExitCode::SUCCESS),
         Err(fault) => {
             eprintln!(rt; "{fault}")?;
@@ -51,14 +69,14 @@ fn main(rt: HostRuntime) -> io::Result<ExitCode> {
 
 /// Runs a command on its file and on the standard streams.
 fn run(rt: &HostRuntime, line: &Line<'_>, state: RandomState) -> Result<(), RunFault> {
-    match line {
+    let answer = match line {
         Line::Init { file } => return init(rt, line, file, state),
         Line::Import { file } => return import(rt, file, state),
-        Line::Blobs | Line::Where(_) => refusal(&stream(rt, line, state))?,
-        Line::Try(_) => refusal(&try_stream(rt, line, state))?,
-        Line::Adapt => adapt(rt)?,
-        Line::Batch { check: _, file } => batch(rt, line, file, state)?,
-        Line::Export { file } => export(rt, line, file, state)?,
+        Line::Blobs | Line::Where(_) => refusal(&stream(rt, line, state)),
+        Line::Try(_) => refusal(&try_stream(rt, line, state)),
+        Line::Adapt => adapt(rt),
+        Line::Batch { check: _, file } => batch(rt, line, file, state),
+        Line::Export { file } => export(rt, line, file, state),
         Line::Show { file, revision: _ }
         | Line::Ls {
             recursive: _,
@@ -71,9 +89,9 @@ fn run(rt: &HostRuntime, line: &Line<'_>, state: RandomState) -> Result<(), RunF
             file,
             ranges: _,
         }
-        | Line::RevParse { file, revisions: _ } => print(rt, line, file, state)?,
-    }
-    Ok(())
+        | Line::RevParse { file, revisions: _ } => print(rt, line, file, state),
+    };
+    Ok(answer?)
 }
 
 /// Makes a store file where there is none.
@@ -115,7 +133,17 @@ fn import_locked(
 ) -> Result<ImportReport, RunFault> {
     let store = read_store(rt, next.store())?;
     let (repo, answer) = import_shown(rt, store, state);
-    if let Some(repo) = &repo {
+    publish_import(rt, next, repo.as_ref(), answer)
+}
+
+/// Puts the text of what an import left in its place, where it left anything, also where it is refused.
+fn publish_import(
+    rt: &HostRuntime,
+    next: &mut NextText,
+    repo: Option<&Repo<Sha1Namer, Global>>,
+    answer: Result<ImportReport, CliFault>,
+) -> Result<ImportReport, RunFault> {
+    if let Some(repo) = repo {
         next.publish_store(rt, repo)?;
     }
     Ok(answer?)
@@ -196,19 +224,26 @@ fn batch(
 
 /// Adapts standard input, through a buffer, and tells what was changed.
 fn adapt(rt: &HostRuntime) -> Result<(), CliFault> {
-    let Ok(mut out) = BufWriter::new(rt.alloc(), rt.stdout()) else {
-        return Err(CliFault::OutOfMemory);
-    };
-    let answer = {
-        let source = FromRead::new(rt.stdin());
-        let mut sink = IntoWrite::new(&mut out);
-        adapt_stream(rt.alloc(), source, &mut sink)
-    };
-    let flushed = out.flush();
+    match BufWriter::new(rt.alloc(), rt.stdout()) {
+        Ok(mut out) => {
+            tell_adaption(rt, &adapt_to(rt, &mut out)?);
+            Ok(())
+        }
+        Err(_) => Err(CliFault::OutOfMemory),
+    }
+}
+
+/// Adapts standard input, and flushes what was written also where it is refused.
+fn adapt_to(rt: &HostRuntime, out: &mut BufWriter<Stdout>) -> Result<AdaptReport, CliFault> {
+    let source = FromRead::new(rt.stdin());
+    let answer = adapt_stream(rt.alloc(), source, &mut IntoWrite::new(&mut *out));
+    let is_flushed = out.flush().is_ok();
     let report = answer?;
-    flushed.map_err(|_| CliFault::WriteFailed)?;
-    tell_adaption(rt, &report);
-    Ok(())
+    if is_flushed {
+        Ok(report)
+    } else {
+        Err(CliFault::WriteFailed)
+    }
 }
 
 /// Serves a command that prints of a store.
@@ -244,19 +279,40 @@ fn print_to<W: Write + Drop>(
     output: W,
     state: RandomState,
 ) -> Result<(), CliFault> {
-    let Ok(mut out) = BufWriter::new(rt.alloc(), output) else {
-        return Err(CliFault::OutOfMemory);
-    };
-    let outcome = {
-        let source = FromRead::new(rt.stdin());
-        let mut sink = IntoWrite::new(&mut out);
-        serve_owned(rt.alloc(), Sha1Namer, line, store, source, &mut sink, state)
-    };
-    let flushed = out.flush();
-    let outcome: Outcome<Global> = outcome;
-    match outcome.fault {
+    match BufWriter::new(rt.alloc(), output) {
+        Ok(mut out) => serve_to(rt, line, store, &mut out, state),
+        Err(_) => Err(CliFault::OutOfMemory),
+    }
+}
+
+/// Serves a command, and flushes what was written also where it is refused.
+fn serve_to<W: Write + Drop>(
+    rt: &HostRuntime,
+    line: &Line<'_>,
+    store: Vec<u8>,
+    out: &mut BufWriter<W>,
+    state: RandomState,
+) -> Result<(), CliFault> {
+    let source = FromRead::new(rt.stdin());
+    let mut sink = IntoWrite::new(&mut *out);
+    let outcome: Outcome<Global> = serve_owned(
+        rt.alloc(),
+        Sha1Namer,
+        line,
+        store,
+        source,
+        &mut sink,
+        state,
+    );
+    written(outcome.fault, out.flush().is_ok())
+}
+
+/// Why what a command prints didn't go out whole, if it didn't: its own fault comes first.
+fn written(fault: Option<CliFault>, is_flushed: bool) -> Result<(), CliFault> {
+    match fault {
         Some(fault) => Err(fault),
-        None => flushed.map_err(|_| CliFault::WriteFailed),
+        None if is_flushed => Ok(()),
+        None => Err(CliFault::WriteFailed),
     }
 }
 
@@ -277,12 +333,12 @@ fn refuse_line(rt: &HostRuntime, fault: &LineFault) -> io::Result<ExitCode> {
             eprintln!(rt; "{fault}")?;
             Ok(ExitCode::from(1))
         }
+        LineFault::Status { status: 0, text } => {
+            print!(rt; "{text}")?;
+            Ok(ExitCode::SUCCESS)
+        }
         LineFault::Status { status, text } => {
-            if *status == 0 {
-                print!(rt; "{text}")?;
-            } else {
-                eprint!(rt; "{text}")?;
-            }
+            eprint!(rt; "{text}")?;
             Ok(ExitCode::from(*status))
         }
     }

@@ -34,17 +34,13 @@ impl NextText {
         let store = follow_links(rt, file)?;
         let folder = open_folder(rt, &store)?;
         let path = format!(in rt.alloc(); "{store}.new")?;
-        for _ in 0..u64::MAX {
-            if let Some(held) = try_claim(rt, &path)? {
-                return Ok(NextText {
-                    store,
-                    path,
-                    folder,
-                    held,
-                });
-            }
-        }
-        Err(RunFault::LockFailed)
+        let held = make_held(rt, &path)?;
+        Ok(NextText {
+            store,
+            path,
+            folder,
+            held,
+        })
     }
 
     /// The path of the store file behind its symbolic links.
@@ -97,16 +93,10 @@ impl NextText {
         rt: &HostRuntime,
         repo: &Repo<Sha1Namer, Global>,
     ) -> Result<(), CliFault> {
-        let Ok(mut out) = BufWriter::with_capacity(rt.alloc(), BUFFER, &mut self.held) else {
-            return Err(CliFault::OutOfMemory);
-        };
-        let sent = {
-            let mut sink = IntoWrite::new(&mut out);
-            send_store(repo, &mut sink)
-        };
-        let flushed = out.flush();
-        sent?;
-        flushed.map_err(|_| CliFault::WriteFailed)
+        match BufWriter::with_capacity(rt.alloc(), BUFFER, &mut self.held) {
+            Ok(mut out) => send_flushed(repo, &mut out),
+            Err(_) => Err(CliFault::OutOfMemory),
+        }
     }
 
     /// Makes what was written durable, and puts it into the store file's place.
@@ -129,6 +119,31 @@ impl NextText {
     }
 }
 
+/// Sends a repository's text, and flushes what was written also where not all is sent.
+fn send_flushed(
+    repo: &Repo<Sha1Namer, Global>,
+    out: &mut BufWriter<&mut File>,
+) -> Result<(), CliFault> {
+    let sent = send_store(repo, &mut IntoWrite::new(&mut *out));
+    let is_flushed = out.flush().is_ok();
+    sent?;
+    if is_flushed {
+        Ok(())
+    } else {
+        Err(CliFault::WriteFailed)
+    }
+}
+
+/// Makes and locks the file, in as many turns as that takes.
+fn make_held(rt: &HostRuntime, path: &str) -> Result<File, RunFault> {
+    for _ in 0..u64::MAX {
+        if let Some(held) = try_claim(rt, path)? {
+            return Ok(held);
+        }
+    }
+    Err(RunFault::LockFailed)
+}
+
 /// One turn: makes and locks the file where there is none, or waits for whoever holds it. `None` asks for another turn.
 fn try_claim(rt: &HostRuntime, path: &str) -> Result<Option<File>, RunFault> {
     match fs::symlink_metadata(rt, path) {
@@ -143,33 +158,45 @@ fn try_claim(rt: &HostRuntime, path: &str) -> Result<Option<File>, RunFault> {
 
 /// Another run may get the new file's lock first, and remove it as a left-over: then this one asks for another turn.
 fn make_locked(rt: &HostRuntime, path: &str) -> Result<Option<File>, RunFault> {
-    let made = match File::create_new(rt, path) {
-        Ok(made) => made,
-        Err(error) if error.kind() == ErrorKind::AlreadyExists => return Ok(None),
-        Err(_) => return Err(CliFault::WriteFailed.into()),
-    };
-    let locked = made.lock();
-    if !names(rt, path, &made) {
-        return Ok(None);
+    match File::create_new(rt, path) {
+        Ok(made) => Ok(if lock_made(rt, path, &made)? {
+            Some(made)
+        } else {
+            None
+        }),
+        Err(error) if error.kind() == ErrorKind::AlreadyExists => Ok(None),
+        Err(_) => Err(CliFault::WriteFailed.into()),
     }
-    if locked.is_err() {
+}
+
+/// Locks a new file. Answers whether it has its name still.
+fn lock_made(rt: &HostRuntime, path: &str, made: &File) -> Result<bool, RunFault> {
+    let is_locked = made.lock().is_ok();
+    if !names(rt, path, made) {
+        return Ok(false);
+    }
+    if !is_locked {
         let _ = fs::remove_file(rt, path);
         return Err(RunFault::LockFailed);
     }
-    Ok(Some(made))
+    Ok(true)
 }
 
 /// Waits for the lock. A file that has its name still was left by a run that is gone.
 fn remove_left_over(rt: &HostRuntime, path: &str) -> Result<(), RunFault> {
-    let found = match open_found(rt, path) {
-        Ok(found) => found,
-        Err(error) if error.kind() == ErrorKind::NotFound => return Ok(()),
-        Err(_) => return Err(RunFault::LockFailed),
-    };
+    match open_found(rt, path) {
+        Ok(found) => remove_found(rt, path, &found),
+        Err(error) if error.kind() == ErrorKind::NotFound => Ok(()),
+        Err(_) => Err(RunFault::LockFailed),
+    }
+}
+
+/// The same of the open file.
+fn remove_found(rt: &HostRuntime, path: &str, found: &File) -> Result<(), RunFault> {
     if found.lock().is_err() {
         return Err(RunFault::LockFailed);
     }
-    if names(rt, path, &found) && fs::remove_file(rt, path).is_err() {
+    if names(rt, path, found) && fs::remove_file(rt, path).is_err() {
         return Err(CliFault::WriteFailed.into());
     }
     Ok(())

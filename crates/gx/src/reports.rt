@@ -13,24 +13,20 @@ pub(crate) fn tell_import(rt: &HostRuntime, report: &ImportReport) {
 
 /// Tells what was changed in a stream, and what stays that an import refuses.
 pub(crate) fn tell_adaption(rt: &HostRuntime, report: &AdaptReport) {
-    let counts = [
-        ("identities that got a space", report.identities),
-        ("deletions left out", report.deletions),
-        ("paths put in quotes", report.paths),
-        ("lines of marks left out", report.marks),
-        ("notes that an import refuses", report.notes),
-        (
-            "dates before 1970 that an import refuses",
-            report.early_dates,
-        ),
-        (
-            "tags of blobs and tags that an import refuses",
-            report.tags_of_blobs_or_tags,
-        ),
-    ];
-    for (what, count) in counts.iter() {
-        if *count > 0 {
-            let _ = eprintln!(rt; "gx: {what}: {count}");
-        }
+    tell_count(rt, "identities that got a space", report.identities);
+    tell_count(rt, "deletions left out", report.deletions);
+    tell_count(rt, "paths put in quotes", report.paths);
+    tell_count(rt, "lines of marks left out", report.marks);
+    tell_count(rt, "notes that an import refuses", report.notes);
+    let early_dates = report.early_dates;
+    tell_count(rt, "dates before 1970 that an import refuses", early_dates);
+    let tags = report.tags_of_blobs_or_tags;
+    tell_count(rt, "tags of blobs and tags that an import refuses", tags);
+}
+
+/// Tells how many there are of what was changed or stays, if there are any.
+fn tell_count(rt: &HostRuntime, what: &str, count: u64) {
+    if count > 0 {
+        let _ = eprintln!(rt; "gx: {what}: {count}");
     }
 }

@@ -19,8 +19,16 @@ returns-then-index-gt0-clause-adds g c = λ x ws e h.
     let some : 0 < number_in ws (blob_value x) = omega (arith, mark, c.if-index-gt0.true) in
     adds_old_blob ws x r c.args.written.now h (g.W.Sink.taken c.args.sink.now) some
 
+pub index-requires : goal.index-requires
+index-requires g c =
+    let within = place_marked (g.N.Namer.name_of c.args.repo.now.0) (g.met.N.Namer.is_namer c.args.repo.now.0) c.args.repo.now.1 c.sound.ensures c.requires.written.0 c.args.written.now.marks.items (blob_value c.requires.blob.0) c.args.place c.requires.written.1.marks c.requires.blob.1 in
+    omega (arith, within, c.args.written.now.marks.ok)
+
 pub body_at-body-requires : goal.body_at-body-requires
 body_at-body-requires g c = at_within (values_of c.args.repo.now.1) c.args.place (blob_value c.requires.blob.0) c.requires.blob.1
+
+pub write_blob-requires : goal.write_blob-requires
+write_blob-requires g c = c.requires.written.1.most
 
 pub returns-in_err-write_blob-clause-adds : goal.returns-in_err-write_blob-clause-adds
 returns-in_err-write_blob-clause-adds g c = λ x ws e h.
@@ -40,6 +48,12 @@ returns-in_err-write_blob-clause-adds g c = λ x ws e h.
 pub mark-requires-clause-place : goal.mark-requires-clause-place
 mark-requires-clause-place g c =
     place_marked (g.N.Namer.name_of c.args.repo.now.0) (g.met.N.Namer.is_namer c.args.repo.now.0) c.args.repo.now.1 c.sound.ensures c.requires.written.0 c.args.written.now.marks.items (blob_value c.requires.blob.0) c.args.place c.requires.written.1.marks c.requires.blob.1
+
+pub mark-requires-clause-room : goal.mark-requires-clause-room
+mark-requires-clause-room g c =
+    let each = c.requires.written.1.each in
+    let room = c.requires.written.1.most in
+    omega arith
 
 pub returns-clause-adds : goal.returns-clause-adds
 returns-clause-adds g c = λ x ws e h.

@@ -29,3 +29,12 @@ returns-then-end-len g c = λ name r ws h.
             (stands.lines front g (ap path_of (c.is_of.ensures.path c.if-is_of.true) ∙ p) t)),
       ),
     )
+
+pub returns-then-self-len : goal.returns-then-self-len
+returns-then-self-len g c = λ name r ws h. (subst (AreKept name r ws) (sym c.pass.ensures) (record { now = h.now; earlier = h.earlier }), ap (λ x. x.text) c.pass.ensures)
+
+pub returns-else-is_of : goal.returns-else-is_of
+returns-else-is_of g c = λ name r ws h. (subst (AreKept name r ws) (sym c.pass.ensures) (record { now = h.now; earlier = h.earlier }), ap (λ x. x.text) c.pass.ensures)
+
+pub returns-else-start-end : goal.returns-else-start-end
+returns-else-start-end g c = λ name r ws h. (subst (AreKept name r ws) (sym c.pass.ensures) (record { now = h.now; earlier = h.earlier }), ap (λ x. x.text) c.pass.ensures)

@@ -23,6 +23,7 @@ use Rattle.gx_tree.specs.HeldTrees.{IsHeldEntry}
 use Rattle.gx_tree.specs.Lists.{below}
 use Rattle.gx_tree.specs.Nodes.{Kept, kept_map}
 use Rattle.gx_tree.specs.Writes.{kept_leaf}
+use Rattle.gx_repo.specs.Repositories.{Repository}
 use Rattle.gx_rev.specs.Objects.{commit_at, value_at}
 use Rattle.gx_rev.specs.Reached.{reached_marks}
 use Rattle.gx_export.specs.Exports.{front_items, rest_items}

@@ -68,8 +68,8 @@ loop-number-preserved g c =
           let mark = w.mark_of-mark.ensures ws i.0.marks ∙ ap (number_in ws) (commit_stands name namer r c.sound.ensures n held).0 in
           let made = commit_at r w.in-Some.parent in
           let line = line_is ws c.loop-number.number made w.parent_word.result.now w.mark_of-mark.result w.parent_word.ensures.first w.parent_word.ensures.other mark in
-          let now = record c.loop-number.written { bytes = w.write_parent.new.written } in
-          let done = subst (λ l. Writes c.loop-number.written.bytes w.write_parent.new.written (taken c.loop-number.sink) (taken w.write_parent.new.sink) (items_text (l ∷ [])) (Ok tt)) line w.in_ok-write_parent.ensures.text in
+          let now = record c.loop-number.written { bytes = w.write_parent.new.sent } in
+          let done = subst (λ l. Writes c.loop-number.written.bytes w.write_parent.new.sent (taken c.loop-number.sink) (taken w.write_parent.new.sink) (items_text (l ∷ [])) (Ok tt)) line w.in_ok-write_parent.ensures.text in
           let next = parents_next ws parents c.loop-number.number made (image_at (λ m. commit_of_value (value_of_name r.records m)) c.args.commit.now.parents c.loop-number.number n w.in-Some.ensures) in
           rw (w.written-is, w.sink-is) (subst (λ is. Adds r ws is c.args.written.now now (taken c.args.sink.now) (taken w.write_parent.new.sink) (Ok tt)) (sym next)
           (adds_later r ws ws (parent_items ws (take c.loop-number.number parents)) (parent_line ws c.loop-number.number made ∷ []) c.args.written.now c.loop-number.written now (taken c.args.sink.now) (taken c.loop-number.sink) (taken w.write_parent.new.sink) (Ok tt) i

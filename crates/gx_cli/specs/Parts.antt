@@ -215,8 +215,8 @@ module _ {N W : Type 0} (name_of : N → Kind → Bytes → Bytes) (taken : W �
   ImportsTo repo coming old new o = ImportsIntoStored (name_of repo.0) (Ok repo.1) coming (taken old) (taken new) o
 
   -- the same, and the repository is told whose text is the next one
-  abbrev pub Publishes : Repository N → Option Coming → W → W → Answer N → Type 0
-  Publishes repo coming old new answer = ImportsStored name_of repo.0 (Ok repo.1) coming (taken old) (taken new) answer
+  abbrev pub LeavesNext : Repository N → Option Coming → W → W → Answer N → Type 0
+  LeavesNext repo coming old new answer = ImportsStored name_of repo.0 (Ok repo.1) coming (taken old) (taken new) answer
 
   -- ---- one revision
 

@@ -3,7 +3,7 @@
 ghost use Rattle.std.specs.Prelude.{◌≡◌, IfErr, IfOk, Ok};
 ghost use Rattle.gx_model.specs.declared.store_versions.Version.TheVariants.{Two};
 ghost use Rattle.gx_model.specs.Stores.StoreText.{store_text};
-ghost use Rattle.gx_cli.specs.Parts.{IsReadBack, Publishes};
+ghost use Rattle.gx_cli.specs.Parts.{IsReadBack, LeavesNext};
 ghost use Rattle.gx_cli.specs.Sending.{PrintsText};
 ghost use Rattle.gx_cli.specs.Storing.{ImportsStore, ImportsStoreAgain, ImportsStoredAgain, next_after};
 ghost use Rattle.gx_cli.specs.declared.fault.CliFault.TheVariants.{WriteFailed};
@@ -49,7 +49,7 @@ fn import_opened<N: Namer + Drop, R: Source + Drop, W: Sink, A: Allocator + Copy
     source: R,
     sink: &mut W,
 ) -> (Option<Repo<N, A>>, Result<Report, CliFault>)
-    ensures imported { Publishes N.name_of W.taken repo (R.coming source) sink.old sink.new result }
+    ensures imported { LeavesNext N.name_of W.taken repo (R.coming source) sink.old sink.new result }
     ensures again { ImportsStoredAgain N.name_of repo.0 (Ok repo.1) (R.coming source) result }
 {
     let mut next = repo;

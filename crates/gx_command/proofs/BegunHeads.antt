@@ -8,7 +8,7 @@ use Rattle.gx_model.specs.Streams.Commands as commands
 use Rattle.gx_model.specs.Streams.Grammar.{Words, bare, command_at, commit_at, feature_of, if_early, is_word, ref_of, reset_at, rest_of, tag_at, tag_of}
 use Rattle.gx_command.specs.Ahead.{Fails}
 use Rattle.gx_command.specs.CommandFaults.{fault_of}
-use Rattle.gx_command.specs.Heads.{Begins, IsWhole, MayBeWhole, begun, early_feature, early_rest, is_left_out, name_at, ref_at}
+use Rattle.gx_command.specs.Heads.{Begins, BeginsWhole, MayBeWhole, begun, early_feature, early_rest, is_left_out, name_at, ref_named}
 use Rattle.gx_command.specs.Lines.{bare_as}
 use Rattle.gx_command.specs.Views.{shown_command}
 use Rattle.gx_command.specs.declared.commands.Command.{Command}
@@ -42,7 +42,7 @@ begins first s (Ok h) g = rw g refl
 begins first s (Err f) g = fails_first f first (λ h. begun h s) g
 
 -- the answer is all of a command
-pub is_whole : {A : Type 0} (first : Given (Command A)) (s : Stream) (q : Result (Command A) CommandFault) → Gives fault_of (λ x. x) q first → IsWhole s q (first >>= λ x. Ok (shown_command x, s))
+pub is_whole : {A : Type 0} (first : Given (Command A)) (s : Stream) (q : Result (Command A) CommandFault) → Gives fault_of (λ x. x) q first → BeginsWhole s q (first >>= λ x. Ok (shown_command x, s))
 is_whole first s (Ok x) g = rw g refl
 is_whole first s (Err f) g = fails_first f first (λ x. Ok (shown_command x, s)) g
 
@@ -53,7 +53,7 @@ module _ (A : Type 0) (early : Bool) (w : Words) (s : Stream) where
   unfolding command_at
   at_blob blob = rw blob (sym (regrouped (bare w) (λ u. Ok heads.Blob) (λ h. begun h s)))
 
-  pub at_commit : is_word w (codes "blob") ≡ false → is_word w (codes "commit") ≡ true → command_at early w s ≡ (ref_at w >>= λ ref. commit_at ref s)
+  pub at_commit : is_word w (codes "blob") ≡ false → is_word w (codes "commit") ≡ true → command_at early w s ≡ (ref_named w >>= λ ref. commit_at ref s)
   unfolding command_at
   at_commit blob commit = rw (blob, commit) (sym (regrouped (rest_of w) ref_of (λ ref. commit_at ref s)))
 
@@ -61,35 +61,35 @@ module _ (A : Type 0) (early : Bool) (w : Words) (s : Stream) where
   unfolding command_at
   at_tag blob commit tag = rw (blob, commit, tag) (sym (regrouped (rest_of w) tag_of (λ name. tag_at name s)))
 
-  pub at_reset : is_word w (codes "blob") ≡ false → is_word w (codes "commit") ≡ false → is_word w (codes "tag") ≡ false → is_word w (codes "reset") ≡ true → command_at early w s ≡ (ref_at w >>= λ ref. reset_at ref s)
+  pub at_reset : is_word w (codes "blob") ≡ false → is_word w (codes "commit") ≡ false → is_word w (codes "tag") ≡ false → is_word w (codes "reset") ≡ true → command_at early w s ≡ (ref_named w >>= λ ref. reset_at ref s)
   unfolding command_at
   at_reset blob commit tag reset = rw (blob, commit, tag, reset) (sym (regrouped (rest_of w) ref_of (λ ref. reset_at ref s)))
 
   module _ (o : MayBeWhole w) where
     pub at_checkpoint : is_word w (codes "checkpoint") ≡ true → command_at early w s ≡ (bare_as {Y = Command A} own.Checkpoint w >>= λ x. Ok (shown_command x, s))
     unfolding command_at
-    at_checkpoint checkpoint = rw (o.blob, o.commit, o.tag, o.reset, checkpoint) (sym (regrouped (bare w) (λ u. Ok own.Checkpoint) (λ x. Ok (shown_command x, s))))
+    at_checkpoint checkpoint = rw (o.no_blob, o.no_commit, o.no_tag, o.no_reset, checkpoint) (sym (regrouped (bare w) (λ u. Ok own.Checkpoint) (λ x. Ok (shown_command x, s))))
 
     pub at_progress : is_word w (codes "checkpoint") ≡ false → is_word w (codes "progress") ≡ true → command_at early w s ≡ (rest_of w >>= λ r. Ok (commands.Progress r, s))
     unfolding command_at
-    at_progress checkpoint progress = rw (o.blob, o.commit, o.tag, o.reset, checkpoint, progress) refl
+    at_progress checkpoint progress = rw (o.no_blob, o.no_commit, o.no_tag, o.no_reset, checkpoint, progress) refl
 
     pub at_feature : is_word w (codes "checkpoint") ≡ false → is_word w (codes "progress") ≡ false → is_word w (codes "feature") ≡ true → command_at early w s ≡ (early_feature early w >>= λ f. Ok (commands.Asks f, s))
     unfolding command_at
-    at_feature checkpoint progress feature = rw (o.blob, o.commit, o.tag, o.reset, checkpoint, progress, feature) (sym (regrouped (early_rest early w) feature_of (λ f. Ok (commands.Asks f, s)) ∙ early_first early (rest_of w) (λ r. feature_of r >>= λ f. Ok (commands.Asks f, s))))
+    at_feature checkpoint progress feature = rw (o.no_blob, o.no_commit, o.no_tag, o.no_reset, checkpoint, progress, feature) (sym (regrouped (early_rest early w) feature_of (λ f. Ok (commands.Asks f, s)) ∙ early_first early (rest_of w) (λ r. feature_of r >>= λ f. Ok (commands.Asks f, s))))
 
     pub at_option : is_word w (codes "checkpoint") ≡ false → is_word w (codes "progress") ≡ false → is_word w (codes "feature") ≡ false → is_word w (codes "option") ≡ true → command_at early w s ≡ (early_rest early w >>= λ r. Ok (commands.OptionLine r, s))
     unfolding command_at
-    at_option checkpoint progress feature option = rw (o.blob, o.commit, o.tag, o.reset, checkpoint, progress, feature, option) (sym (early_first early (rest_of w) (λ r. Ok (commands.OptionLine r, s))))
+    at_option checkpoint progress feature option = rw (o.no_blob, o.no_commit, o.no_tag, o.no_reset, checkpoint, progress, feature, option) (sym (early_first early (rest_of w) (λ r. Ok (commands.OptionLine r, s))))
 
     pub at_done : is_word w (codes "checkpoint") ≡ false → is_word w (codes "progress") ≡ false → is_word w (codes "feature") ≡ false → is_word w (codes "option") ≡ false → is_word w (codes "done") ≡ true → command_at early w s ≡ (bare_as {Y = Command A} own.Done w >>= λ x. Ok (shown_command x, s))
     unfolding command_at
-    at_done checkpoint progress feature option done = rw (o.blob, o.commit, o.tag, o.reset, checkpoint, progress, feature, option, done) (sym (regrouped (bare w) (λ u. Ok own.Done) (λ x. Ok (shown_command x, s))))
+    at_done checkpoint progress feature option done = rw (o.no_blob, o.no_commit, o.no_tag, o.no_reset, checkpoint, progress, feature, option, done) (sym (regrouped (bare w) (λ u. Ok own.Done) (λ x. Ok (shown_command x, s))))
 
     pub at_left_out : is_word w (codes "checkpoint") ≡ false → is_word w (codes "progress") ≡ false → is_word w (codes "feature") ≡ false → is_word w (codes "option") ≡ false → is_word w (codes "done") ≡ false → is_left_out w ≡ true → command_at early w s ≡ Err model.Unsupported
     unfolding command_at
-    at_left_out checkpoint progress feature option done left = rw (o.blob, o.commit, o.tag, o.reset, checkpoint, progress, feature, option, done, left) refl
+    at_left_out checkpoint progress feature option done left = rw (o.no_blob, o.no_commit, o.no_tag, o.no_reset, checkpoint, progress, feature, option, done, left) refl
 
     pub at_unknown : is_word w (codes "checkpoint") ≡ false → is_word w (codes "progress") ≡ false → is_word w (codes "feature") ≡ false → is_word w (codes "option") ≡ false → is_word w (codes "done") ≡ false → is_left_out w ≡ false → command_at early w s ≡ Err model.UnknownCommand
     unfolding command_at
-    at_unknown checkpoint progress feature option done known = rw (o.blob, o.commit, o.tag, o.reset, checkpoint, progress, feature, option, done, known) refl
+    at_unknown checkpoint progress feature option done known = rw (o.no_blob, o.no_commit, o.no_tag, o.no_reset, checkpoint, progress, feature, option, done, known) refl

@@ -30,8 +30,8 @@ Begins s (Ok head) read = read ≡ begun head s
 Begins s (Err f) read = Fails f read
 
 -- the ref of a commit or a reset
-abbrev pub ref_at : Words → Given Bytes
-ref_at w = rest_of w >>= ref_of
+abbrev pub ref_named : Words → Given Bytes
+ref_named w = rest_of w >>= ref_of
 
 -- the name of a tag
 abbrev pub name_at : Words → Given Bytes
@@ -39,15 +39,15 @@ name_at w = rest_of w >>= tag_of
 
 -- the words begin none of the commands that go on after their first line
 pub record MayBeWhole (w : Words) : Type 0 where
-  pub blob : is_word w (codes "blob") ≡ false
-  pub commit : is_word w (codes "commit") ≡ false
-  pub tag : is_word w (codes "tag") ≡ false
-  pub reset : is_word w (codes "reset") ≡ false
+  pub no_blob : is_word w (codes "blob") ≡ false
+  pub no_commit : is_word w (codes "commit") ≡ false
+  pub no_tag : is_word w (codes "tag") ≡ false
+  pub no_reset : is_word w (codes "reset") ≡ false
 
 -- the line is all of the command
-abbrev pub IsWhole : {A : Type 0} → Stream → Result (Command A) CommandFault → Read model.Command → Type 0
-IsWhole s (Ok command) read = read ≡ Ok (shown_command command, s)
-IsWhole s (Err f) read = Fails f read
+abbrev pub BeginsWhole : {A : Type 0} → Stream → Result (Command A) CommandFault → Read model.Command → Type 0
+BeginsWhole s (Ok command) read = read ≡ Ok (shown_command command, s)
+BeginsWhole s (Err f) read = Fails f read
 
 -- the rest of an option's line, which stands before every other command
 abbrev pub early_rest : Bool → Words → Given Bytes

@@ -8,7 +8,7 @@ ghost use Rattle.gx_model.specs.Streams.Grammar.{command_at, feature_of, rest_of
 ghost use Rattle.gx_stream.specs.Reading.{item_of};
 ghost use Rattle.gx_command.specs.Ahead.{ReadsOn, Falls, FallsNot, to_come, most};
 ghost use Rattle.gx_command.specs.CommandFaults.{NeedsNoMemory, fault_of};
-ghost use Rattle.gx_command.specs.Heads.{Begins, BeginsIn, IsWhole, MayBeWhole, TakesStart, TakesHead, begun, early_feature, early_rest, first, is_left_out, name_at, ref_at};
+ghost use Rattle.gx_command.specs.Heads.{Begins, BeginsIn, BeginsWhole, MayBeWhole, TakesStart, TakesHead, begun, early_feature, early_rest, first, is_left_out, name_at, ref_named};
 ghost use Rattle.gx_command.specs.Lines.{lent_bytes, shown_words};
 ghost use Rattle.gx_command.specs.Views.{shown_command};
 
@@ -135,7 +135,7 @@ fn read_whole<A: Allocator + Copy>(
     words: Words<'_>,
 ) -> Result<Command<A>, CommandFault>
     requires { MayBeWhole (shown_words words) }
-    ensures { (s : Stream) → IsWhole s result (command_at is_early (shown_words words.entry) s) }
+    ensures { (s : Stream) → BeginsWhole s result (command_at is_early (shown_words words.entry) s) }
 {
     if words.is(b"checkpoint") {
         words.bare(Command::Checkpoint)
@@ -155,7 +155,7 @@ fn read_whole<A: Allocator + Copy>(
 }
 
 fn read_ref<A: Allocator + Copy>(alloc: A, words: Words<'_>) -> Result<RefName<A>, CommandFault>
-    ensures { Gives fault_of (λ name. name.bytes.items) result (ref_at (shown_words words.entry)) }
+    ensures { Gives fault_of (λ name. name.bytes.items) result (ref_named (shown_words words.entry)) }
 {
     RefName::read(alloc, words.rest()?)
 }

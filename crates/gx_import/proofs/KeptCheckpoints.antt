@@ -14,7 +14,7 @@ use Rattle.gx_model.specs.Replay.{State, checkpointed, final, is_fast_forward, s
 use Rattle.gx_model.specs.Records.Sound.{IsTarget}
 use Rattle.gx_model.specs.Texts.Sinks.{Taken}
 use Rattle.gx_import.specs.Applying.{Applies}
-use Rattle.gx_import.specs.Keeping.{AreNames, AreNone, AreStill, EntersAll, HoldsAll, IsLeft, IsNext, Keeps, KeepsAfter, KeepsFromEach, Moves, left_of}
+use Rattle.gx_import.specs.Keeping.{AreNames, AreNone, AreStill, EntersTables, HoldsAll, IsLeft, IsNext, Keeps, KeepsAfter, KeepsFromEach, Moves, left_of}
 use Rattle.gx_import.specs.Publishing.{Publishes}
 use Rattle.gx_import.specs.Rows.{rows_of}
 use Rattle.gx_import.specs.Standing.{Extends, Stands}
@@ -126,7 +126,7 @@ module _ (name : Kind → Bytes → Bytes) {A : Type 0} where
 
   -- and what it published is kept from then on
   pub kept_anew : (old new : Records) (tables : Tables A) (was now : Checkpoints A) (r : Result (Unit {0}) Fault) → new.records ≡ old.records
-      → OnOk r (IsNext new was now) → OnErr r (AreStill old new was now) → ((s : State) → Stands name old tables s → Publishes s old new r) → OnOk r (EntersAll name old tables (rows_of was.refs) (rows_of now.refs))
+      → OnOk r (IsNext new was now) → OnErr r (AreStill old new was now) → ((s : State) → Stands name old tables s → Publishes s old new r) → OnOk r (EntersTables name old tables (rows_of was.refs) (rows_of now.refs))
       → KeepsFromEach name old new tables was now Checkpoint r
   kept_anew old new tables was now (Ok x) same next still published entered = λ s h k t e.
       let whole : left_of now new ≡ new = λ i. with_refs ((ap (λ n. take n new.records) next.records ∙ take-length new.records) i) new.refs in

@@ -19,7 +19,7 @@ use Rattle.gx_model.specs.Records.Publishing.{Change, Ref, with_changes}
 use Rattle.gx_model.specs.Replay.{byte_cmp, overwritten}
 use Rattle.gx_model.proofs.PathTests.{is_true}
 use Rattle.gx_object.specs.declared.name.Name.{Name}
-use Rattle.gx_import.specs.Keeping.{AreNames, Enters, EntersAll}
+use Rattle.gx_import.specs.Keeping.{AreNames, EntersChanges, EntersTables}
 use Rattle.gx_import.specs.RefChanges.{branch_changes, changes_of, is_at, is_moved, is_new, moved_of, tag_changes}
 use Rattle.gx_import.specs.Rows.{AreBoth, rows_of}
 use Rattle.gx_import.specs.declared.tables.Tables.{Tables}
@@ -61,16 +61,16 @@ pub names_there : {X Y : Type 0} (n : Bytes) (x : X) (y : Y) (xs : List (Bytes �
 names_there n x y xs ys s e h = subst (AreNames (put byte_cmp n x xs)) (put_there n y ys (passes _ s) e) (names_put n x y xs ys h)
 
 -- one name is entered
-pub entered : (change : Change) (old new : List (Bytes × Name)) (called : Name) → new ≡ put byte_cmp change.0 called old → Enters old new (change ∷ [])
+pub entered : (change : Change) (old new : List (Bytes × Name)) (called : Name) → new ≡ put byte_cmp change.0 called old → EntersChanges old new (change ∷ [])
 entered change old new called e = λ refs h. subst (AreNames (put byte_cmp change.0 change.1 refs)) (sym e) (names_put change.0 change.1 called refs old h)
 
 -- or it is there
-pub not_entered : (change : Change) (rows : List (Bytes × Name)) (called : Name) → IsTrue (is_sorted byte_cmp rows) → lookup (same_bytes change.0) rows ≡ Some called → Enters rows rows (change ∷ [])
+pub not_entered : (change : Change) (rows : List (Bytes × Name)) (called : Name) → IsTrue (is_sorted byte_cmp rows) → lookup (same_bytes change.0) rows ≡ Some called → EntersChanges rows rows (change ∷ [])
 not_entered change rows called s e = λ refs h. names_there change.0 change.1 called refs rows s e h
 
 -- where it is found
 pub found_entered : {X : Type 0} (change : Change) (rows : List (Bytes × Name)) (f : X → Name) (o : Option X) (b : Bool) → IsTrue (is_sorted byte_cmp rows)
-    → option_map f o ≡ lookup (same_bytes change.0) rows → is_some o ≡ not b → b ≡ false → Enters rows rows (change ∷ [])
+    → option_map f o ≡ lookup (same_bytes change.0) rows → is_some o ≡ not b → b ≡ false → EntersChanges rows rows (change ∷ [])
 found_entered change rows f None b s e q n = absurd (false≢true (q ∙ ap not n))
 found_entered change rows f (Some x) b s e q n = not_entered change rows (f x) s (sym e)
 
@@ -129,7 +129,7 @@ module _ (test : Change → Bool) (old : List (Bytes × Name)) (left_out : (c : 
       ] refl
 
   -- where the others are entered, all are
-  pub others_entered : (new : List (Bytes × Name)) (changes more : List Change) → IsTrue (is_sorted byte_cmp old) → Enters old new (filter test changes ++ more) → Enters old new (changes ++ more)
+  pub others_entered : (new : List (Bytes × Name)) (changes more : List Change) → IsTrue (is_sorted byte_cmp old) → EntersChanges old new (filter test changes ++ more) → EntersChanges old new (changes ++ more)
   others_entered new changes more sorted enters = λ refs h.
       let rising = passes _ (sorted_same (λ x y. Unit {0}) refs old h ∙ sorted) in
       let there = λ (n : Bytes) (t : IsThere old n). there_in_both (lookup (same_bytes n) refs) (lookup (same_bytes n) old) (related_found (λ x y. Unit {0}) (same_bytes n) refs old h) t in
@@ -137,13 +137,13 @@ module _ (test : Change → Bool) (old : List (Bytes × Name)) (left_out : (c : 
       (same_names changes more refs refs rising (related_itself (λ x y. Unit {0}) (λ x. tt) refs) there) (enters refs h)
 
 -- so they are where the new ones are
-pub new_entered : (old new : List (Bytes × Name)) (changes : List Change) → IsTrue (is_sorted byte_cmp old) → Enters old new (filter (is_new old) changes) → Enters old new changes
+pub new_entered : (old new : List (Bytes × Name)) (changes : List Change) → IsTrue (is_sorted byte_cmp old) → EntersChanges old new (filter (is_new old) changes) → EntersChanges old new changes
 new_entered old new changes sorted enters =
-    subst (Enters old new) (append-nil changes)
-    (others_entered (is_new old) old (λ c e. not_true _ e) new changes [] sorted (subst (Enters old new) (sym (append-nil (filter (is_new old) changes))) enters))
+    subst (EntersChanges old new) (append-nil changes)
+    (others_entered (is_new old) old (λ c e. not_true _ e) new changes [] sorted (subst (EntersChanges old new) (sym (append-nil (filter (is_new old) changes))) enters))
 
 -- and where the moved ones are, beside refs whose names are all there
-pub moved_entered : {A : Type 0} (refs : List Ref) (old new : List (Bytes × Name)) (tables : Tables A) → IsTrue (is_sorted byte_cmp old) → AreNames refs old → Enters old new (moved_of refs tables) → Enters old new (changes_of tables)
+pub moved_entered : {A : Type 0} (refs : List Ref) (old new : List (Bytes × Name)) (tables : Tables A) → IsTrue (is_sorted byte_cmp old) → AreNames refs old → EntersChanges old new (moved_of refs tables) → EntersChanges old new (changes_of tables)
 moved_entered refs old new tables sorted all enters =
     others_entered (is_moved refs) old
     (λ c e. there_in_other (lookup (same_bytes c.0) refs) (lookup (same_bytes c.0) old) (related_found (λ x y. Unit {0}) (same_bytes c.0) refs old all) (some_at c.1 (lookup (same_bytes c.0) refs) e))
@@ -172,7 +172,7 @@ as_many (x ∷ xs) [] h = absurd h
 as_many (x ∷ xs) (y ∷ ys) h = ap suc (as_many xs ys h.2)
 
 -- the names of all that a state publishes
-pub all_entered : (name : Kind → Bytes → Bytes) {A : Type 0} (r : Records) (tables : Tables A) (old new : List (Bytes × Name)) → Enters old new (changes_of tables) → EntersAll name r tables old new
+pub all_entered : (name : Kind → Bytes → Bytes) {A : Type 0} (r : Records) (tables : Tables A) (old new : List (Bytes × Name)) → EntersChanges old new (changes_of tables) → EntersTables name r tables old new
 all_entered name r tables old new enters = λ s h names.
     let all = enters (map (seen name) s.published) (names_mapped (λ t. name_of name (value_at t)) s.published old names) in
     let same : with_changes (map (seen name) s.published) (changes_of tables) ≡ map (seen name) (overwritten s s.published) =

@@ -29,12 +29,12 @@ abbrev pub AreNames : {X Y : Type 0} → List (Bytes × X) → List (Bytes × Y)
 AreNames xs ys = AreRows (λ x y. ⊤) xs ys
 
 -- the names of changes entered among others
-abbrev pub Enters : List (Bytes × Name) → List (Bytes × Name) → List Change → Type 0
-Enters old new changes = (refs : List Ref) → AreNames refs old → AreNames (with_changes refs changes) new
+abbrev pub EntersChanges : List (Bytes × Name) → List (Bytes × Name) → List Change → Type 0
+EntersChanges old new changes = (refs : List Ref) → AreNames refs old → AreNames (with_changes refs changes) new
 
 -- the names of changes entered among those of a table
 abbrev pub EntersNames : {A : Type 0} → Table Name A → Table Name A → List Change → Type 0
-EntersNames old new = Enters (rows_of old) (rows_of new)
+EntersNames old new = EntersChanges (rows_of old) (rows_of new)
 
 -- the refs that these changes name are entered
 abbrev pub EntersUpdates : {A : Type 0} → Table Name A → Table Name A → List RefChange → Type 0
@@ -93,8 +93,8 @@ Moves old new was now = AreStill old new was now ⊎ IsNext new was now
 
 module _ (name : Kind → Bytes → Bytes) {A : Type 0} where
   -- the names that each state publishes are entered
-  abbrev pub EntersAll : Records → Tables A → List (Bytes × Name) → List (Bytes × Name) → Type 0
-  EntersAll repository tables old new =
+  abbrev pub EntersTables : Records → Tables A → List (Bytes × Name) → List (Bytes × Name) → Type 0
+  EntersTables repository tables old new =
       (s : State) → Stands name repository tables s → AreNames s.published old → AreNames (overwritten s s.published) new
 
   -- what is kept after a command is what the model keeps; where the command is refused, it is what was kept before
@@ -109,7 +109,7 @@ module _ (name : Kind → Bytes → Bytes) {A : Type 0} where
 module _ {N : Type 0} (names : N → Kind → Bytes → Bytes) {A : Type 0} where
   -- where a call is accepted, the names that each state publishes are entered among those of a table
   abbrev pub EntersInEach : {X E : Type 0} → Repository N → Tables A → Table Name A → Table Name A → Result X E → Type 0
-  EntersInEach repository tables old new answer = OnOk answer (EntersAll (names repository.0) repository.1 tables (rows_of old) (rows_of new))
+  EntersInEach repository tables old new answer = OnOk answer (EntersTables (names repository.0) repository.1 tables (rows_of old) (rows_of new))
 
   -- the same of the published names that an import holds of its checkpoints
   abbrev pub EntersEach : {X E : Type 0} → Repository N → Tables A → Checkpoints A → Checkpoints A → Result X E → Type 0

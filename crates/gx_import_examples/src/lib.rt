@@ -1,10 +1,12 @@
-//! Imports, exports, store texts and batches on worked examples. There are tests alone here.
+//! Imports, exports, store texts, batches and hostile use on worked examples. There are tests alone here.
 #![tactic(auto)]
 
 #[cfg(test)]
 mod batches;
 #[cfg(test)]
 mod exports;
+#[cfg(test)]
+mod hostile;
 #[cfg(test)]
 mod imports;
 #[cfg(test)]

@@ -1,6 +1,6 @@
 //! Memory that is refused at each growth of an encoder in turn.
 
-use crate::{commits, tags, trees};
+use crate::objects::{commits, tags, trees};
 use gx_object::Kind;
 use gx_refusing::Refusing;
 use gx_text::Ident;

@@ -1,6 +1,6 @@
 //! Exports that are cut at each byte, and imported.
 
-use crate::given::{EMPTY, MERGED, MERGED_TEXT, exported, has_text, refusal_of};
+use crate::hostile::given::{EMPTY, MERGED, MERGED_TEXT, exported, has_text, refusal_of};
 use gx_object::Sha1Namer;
 use gx_repo::Repo;
 use std::alloc::Global;

@@ -1,6 +1,8 @@
 //! Repositories of odd shapes: few trees with very many paths, a very deep path, and a long line of commits.
 
-use crate::given::{exported, has_text, listed, object_of, opened, refusal_of, stored, text_of};
+use crate::hostile::given::{
+    exported, has_text, listed, object_of, opened, refusal_of, stored, text_of,
+};
 use gx_object::{Kind, Mode, Name, Sha1Namer, decode_tree};
 use gx_repo::{RefChange, Repo};
 use gx_rev::{Revision, look, tree};

@@ -1,7 +1,7 @@
 //! Commits: their names, their parts read back, and other bodies.
 
-use crate::names::has_name;
-use crate::refused::refused_growths;
+use crate::objects::names::has_name;
+use crate::objects::refused::refused_growths;
 use gx_object::{CommitParts, CommitView, Kind, Name, decode_commit, encode_commit};
 use gx_text::Ident;
 use std::alloc::{Allocator, Global};

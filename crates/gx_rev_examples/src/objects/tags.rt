@@ -1,7 +1,7 @@
 //! Tags: their names, their parts read back, and other bodies.
 
-use crate::names::has_name;
-use crate::refused::refused_growths;
+use crate::objects::names::has_name;
+use crate::objects::refused::refused_growths;
 use gx_object::{Kind, Name, TagParts, TagView, decode_tag, encode_tag};
 use gx_text::Ident;
 use std::alloc::{Allocator, Global};

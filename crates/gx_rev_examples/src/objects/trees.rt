@@ -1,7 +1,7 @@
 //! Trees: their names, their entries read back, and other orders and bodies.
 
-use crate::names::has_name;
-use crate::refused::refused_growths;
+use crate::objects::names::has_name;
+use crate::objects::refused::refused_growths;
 use gx_object::{
     Entry, Kind, Mode, Name, compare_marked, decode_tree, encode_tree, encode_tree_into,
     is_canonical,

@@ -10,19 +10,18 @@ pub(crate) fn old_text_of(
     repo: &Repo<Sha1Namer, Global>,
 ) -> Result<Vec<u8>, AllocError> {
     let mut text = Vec::new(alloc);
-    put_repository(alloc, &mut text, repo)?;
+    text.extend_from_slice(b"gxstore 1\n")?;
+    put_objects(alloc, &mut text, repo)?;
+    put_refs(alloc, &mut text, repo)?;
     Ok(text)
 }
 
-fn put_repository(
-    alloc: Global,
-    text: &mut Vec<u8>,
-    repo: &Repo<Sha1Namer, Global>,
-) -> Result<(), AllocError> {
-    text.extend_from_slice(b"gxstore 1\n")?;
-    put_objects(alloc, text, repo)?;
-    put_refs(alloc, text, repo)?;
-    text.extend_from_slice(b"end\n")
+/// Whether this is the text of version 1 of a repository.
+pub(crate) fn has_old_text(alloc: Global, repo: &Repo<Sha1Namer, Global>, text: &[u8]) -> bool {
+    match old_text_of(alloc, repo) {
+        Ok(old) => old.as_slice() == text,
+        Err(_) => false,
+    }
 }
 
 fn put_objects(
@@ -35,7 +34,8 @@ fn put_objects(
     for place in 0..count {
         if let Some((_, kind, body)) = repo.store().record(place) {
             put_number(alloc, text, kind.word(), body.len())?;
-            put_line(text, body)?;
+            text.extend_from_slice(body)?;
+            text.extend_from_slice(b"\n")?;
         }
     }
     Ok(())
@@ -50,13 +50,14 @@ fn put_refs(
     for (name, object) in repo.refs() {
         put_ref(text, name, &object)?;
     }
-    Ok(())
+    text.extend_from_slice(b"end\n")
 }
 
 fn put_ref(text: &mut Vec<u8>, name: &[u8], object: &Name) -> Result<(), AllocError> {
     text.extend_from_slice(object.hex().as_slice())?;
-    text.push(b' ')?;
-    put_line(text, name)
+    text.extend_from_slice(b" ")?;
+    text.extend_from_slice(name)?;
+    text.extend_from_slice(b"\n")
 }
 
 /// Puts a word and a number as a line.
@@ -67,9 +68,4 @@ fn put_number(
     number: usize,
 ) -> Result<(), AllocError> {
     text.extend_from_slice(format!(in alloc; "{word} {number}\n")?.as_bytes())
-}
-
-fn put_line(text: &mut Vec<u8>, bytes: &[u8]) -> Result<(), AllocError> {
-    text.extend_from_slice(bytes)?;
-    text.extend_from_slice(b"\n")
 }

@@ -1,6 +1,6 @@
 //! Sources that fail at each byte of a stream, and at its end.
 
-use crate::given::{MERGED, refusal_behind_first};
+use crate::hostile::given::{MERGED, refusal_behind_first};
 use gx_import::ImportKind;
 use gx_object::Sha1Namer;
 use gx_repo::Repo;

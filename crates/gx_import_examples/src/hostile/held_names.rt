@@ -1,6 +1,6 @@
 //! Namers that give other objects one name: what is held stays, and nothing else is stored under its name.
 
-use crate::given::{
+use crate::hostile::given::{
     EMPTY, FIRST, fault, has_text, object_of, refusal_behind_first, refusal_of, stored,
 };
 use gx_file::{FileFault, read};

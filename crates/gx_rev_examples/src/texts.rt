@@ -1,0 +1,5 @@
+//! Texts and devices on worked examples.
+
+mod devices;
+mod numbers;
+mod paths;

@@ -1,6 +1,6 @@
 //! Repositories, and the streams that they are written as.
 
-use crate::imports::MERGED;
+use crate::given::{MERGED, MERGED_TEXT, fail_at};
 use crate::sessions::{Outcome, import_text};
 use gx_export::{ExportFault, export};
 use gx_object::Sha1Namer;
@@ -10,10 +10,6 @@ use gx_text::Held;
 use std::alloc::{Allocator, Global};
 use std::hash::RandomState;
 use std::test::Fail;
-
-/// The export of two branches that are merged.
-const MERGED_TEXT: &[u8] =
-    b"feature done\nblob\nmark :1\ndata 6\nhello\n\nreset refs/gx/export\ncommit refs/gx/export\nmark :2\nauthor A <a@x> 1 +0000\ncommitter A <a@x> 1 +0000\ndata 1\np\ndeleteall\nM 100644 :1 f\n\nreset refs/gx/export\ncommit refs/gx/export\nmark :3\nauthor A <a@x> 2 +0000\ncommitter A <a@x> 2 +0000\ndata 1\nq\ndeleteall\nM 160000 d670460b4b4aece5915caf5c68d12f560a9fe3e4 sub\n\ncommit refs/gx/export\nmark :4\nauthor A <a@x> 3 +0000\ncommitter A <a@x> 3 +0000\ndata 1\nm\nfrom :2\nmerge :3\ndeleteall\nM 100644 :1 f\n\nreset refs/gx/export\nreset refs/heads/a\nfrom :4\n\nreset refs/heads/b\nfrom :3\n\ntag t\nfrom :4\ntagger A <a@x> 4 +0000\ndata 1\nt\ndone\n";
 
 /// All modes, an encoding, a quoted path, a blob that is used twice, and one that no ref reaches.
 const MODES: &[u8] =
@@ -69,7 +65,7 @@ fn goes_out(
 }
 
 /// Whether the export of what a stream makes is this text.
-fn exports_as(alloc: Global, stream: &[u8], text: &[u8], state: RandomState) -> bool {
+pub(crate) fn exports_as(alloc: Global, stream: &[u8], text: &[u8], state: RandomState) -> bool {
     let mut repo = Repo::new(alloc, Sha1Namer, state);
     import_text(alloc, &mut repo, stream).is_ok()
         && goes_out(alloc, &repo, text.len(), Ok(()), text)
@@ -120,10 +116,7 @@ fn failed_write_stops_the_export(rt: HostRuntime) -> Result<(), Fail> {
     if import_text(rt.alloc(), &mut repo, MERGED).is_err() {
         return Err(Fail::new("an import"));
     }
-    match wrong_room(rt.alloc(), &repo, MERGED_TEXT) {
-        None => Ok(()),
-        Some(room) => Err(Fail::new(format_args!("at {room}"))),
-    }
+    fail_at(wrong_room(rt.alloc(), &repo, MERGED_TEXT))
 }
 
 /// What came of an export at which a growth was to be refused: one that is refused is to write a front of the text, and

@@ -4,7 +4,6 @@
 mod changed;
 mod cut;
 mod failing;
-mod given;
 mod growing;
 mod held_names;
 mod old_texts;

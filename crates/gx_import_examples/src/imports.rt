@@ -1,8 +1,9 @@
 //! Streams, imported one after the other into a repository. The names are those that git gives these objects.
 
-use crate::sessions::{Session, Step, follow, follow_all, holds, imports, refuses};
+use crate::given::FIRST;
+use crate::sessions::{Session, Step, follow_all, holds, imports, refuses};
 use gx_import::{ImportFault, ImportKind};
-use gx_object::{Sha1Namer, ShortNamer};
+use gx_object::Sha1Namer;
 use gx_repo::Repo;
 use gx_rev::RevFault;
 use std::alloc::Global;
@@ -15,12 +16,7 @@ mod devices;
 mod rows;
 mod shown;
 
-pub(crate) use devices::MERGED;
 use rows::{ACCEPTED, HEAD, REFUSED, REFUSED_CHANGES};
-
-/// A commit on main, marked, with one file.
-const FIRST: &[u8] =
-    b"commit refs/heads/main\nmark :1\ncommitter A <a@x> 1 +0000\ndata 2\nv1\nM 100644 inline test.txt\ndata 10\nversion 1\n";
 
 /// A second commit on main, with a copy of the first one's files in a directory.
 const SECOND: &[u8] =
@@ -107,24 +103,6 @@ const OWN_FILES: &[Step] = &[
     Step::Same(b"b~1", b"main~1"),
 ];
 
-/// Bytes of one length have one name here.
-const HELD_NAMES: &[Step] = &[
-    Step::Import(&[b"blob\ndata 1\na"], (1, 1, 0)),
-    Step::Refuse(
-        &[b"blob\ndata 2\nxy\nblob\ndata 1\nb"],
-        2,
-        ImportKind::NameHeld,
-    ),
-    Step::Hold(1, 0),
-    Step::Refuse(
-        &[b"blob\ndata 2\nxy\nblob\ndata 2\nzy"],
-        2,
-        ImportKind::NameHeld,
-    ),
-    Step::Hold(1, 0),
-    Step::Import(&[b"blob\ndata 1\na"], (1, 0, 0)),
-];
-
 const SESSIONS: &[Session] = &[
     ("commits have their names", NAMES),
     ("a second import is fast-forward", FAST_FORWARD),
@@ -136,16 +114,6 @@ const SESSIONS: &[Session] = &[
 fn streams_follow_one_another(rt: HostRuntime) -> Result<(), Fail> {
     let state = RandomState::new(&rt)?;
     follow_all(rt.alloc(), state, SESSIONS)
-}
-
-#[test]
-fn other_object_of_a_held_name_is_refused(rt: HostRuntime) -> Result<(), Fail> {
-    let mut repo = Repo::new(rt.alloc(), ShortNamer, RandomState::new(&rt)?);
-    follow(
-        rt.alloc(),
-        &mut repo,
-        &("another object of a held name", HELD_NAMES),
-    )
 }
 
 /// Whether an empty repository takes a stream, and then has what its report counts.

@@ -6,6 +6,8 @@ mod batches;
 #[cfg(test)]
 mod exports;
 #[cfg(test)]
+mod given;
+#[cfg(test)]
 mod hostile;
 #[cfg(test)]
 mod imports;

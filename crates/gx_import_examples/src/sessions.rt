@@ -101,9 +101,9 @@ pub(crate) fn imported<N: Namer>(
 }
 
 /// Whether an import of these parts is accepted with these numbers of commands, objects and refs.
-pub(crate) fn imports<N: Namer>(
+pub(crate) fn imports(
     alloc: Global,
-    repo: &mut Repo<N, Global>,
+    repo: &mut Repo<Sha1Namer, Global>,
     parts: &[&[u8]],
     numbers: (u64, u64, u64),
 ) -> bool {
@@ -117,9 +117,9 @@ pub(crate) fn imports<N: Namer>(
 }
 
 /// Whether an import of these parts is refused at the command with this number, for this reason, behind so many checkpoints.
-pub(crate) fn refuses<N: Namer>(
+pub(crate) fn refuses(
     alloc: Global,
-    repo: &mut Repo<N, Global>,
+    repo: &mut Repo<Sha1Namer, Global>,
     parts: &[&[u8]],
     command: u64,
     kind: ImportKind,
@@ -159,9 +159,9 @@ pub(crate) fn name_at<N: Namer>(
 }
 
 /// Whether a revision shows the object whose name has these digits.
-fn shows<N: Namer>(
+fn shows(
     alloc: Global,
-    repo: &Repo<N, Global>,
+    repo: &Repo<Sha1Namer, Global>,
     revision: &[u8],
     digits: &[u8; 40],
 ) -> bool {
@@ -172,9 +172,9 @@ fn shows<N: Namer>(
 }
 
 /// Whether a revision shows no object, for this reason.
-fn misses<N: Namer>(
+fn misses(
     alloc: Global,
-    repo: &Repo<N, Global>,
+    repo: &Repo<Sha1Namer, Global>,
     revision: &[u8],
     reason: RevFault,
 ) -> bool {
@@ -185,9 +185,9 @@ fn misses<N: Namer>(
 }
 
 /// Whether two revisions show objects, and whether they are one, or none where one of them shows none.
-fn are_one<N: Namer>(
+fn are_one(
     alloc: Global,
-    repo: &Repo<N, Global>,
+    repo: &Repo<Sha1Namer, Global>,
     left: &[u8],
     right: &[u8],
 ) -> Option<bool> {
@@ -197,9 +197,9 @@ fn are_one<N: Namer>(
 }
 
 /// Whether a file stands at a path of a revision with these bytes.
-fn has_file_at<N: Namer>(
+fn has_file_at(
     alloc: Global,
-    repo: &Repo<N, Global>,
+    repo: &Repo<Sha1Namer, Global>,
     revision: &Revision<Global>,
     path: &[u8],
     bytes: &[u8],
@@ -214,9 +214,9 @@ fn has_file_at<N: Namer>(
 }
 
 /// The same, where the revision is told by its text.
-fn has_file<N: Namer>(
+pub(crate) fn has_file(
     alloc: Global,
-    repo: &Repo<N, Global>,
+    repo: &Repo<Sha1Namer, Global>,
     revision: &[u8],
     path: &[u8],
     bytes: &[u8],
@@ -251,9 +251,9 @@ fn add_ranges(alloc: Global, ranges: &mut Vec<Range<Global>, Global>, words: &[&
 }
 
 /// Whether these are the names of what the revisions show.
-fn are_named<N: Namer>(
+fn are_named(
     alloc: Global,
-    repo: &Repo<N, Global>,
+    repo: &Repo<Sha1Namer, Global>,
     names: &[Name],
     revisions: &[&[u8]],
 ) -> bool {
@@ -269,9 +269,9 @@ fn are_named<N: Namer>(
 }
 
 /// Whether ranges list the commits of these revisions, in this order.
-fn are_listed<N: Namer>(
+fn are_listed(
     alloc: Global,
-    repo: &Repo<N, Global>,
+    repo: &Repo<Sha1Namer, Global>,
     ranges: &[Range<Global>],
     revisions: &[&[u8]],
 ) -> bool {
@@ -282,9 +282,9 @@ fn are_listed<N: Namer>(
 }
 
 /// The same, where the ranges are told by words.
-fn lists<N: Namer>(
+fn lists(
     alloc: Global,
-    repo: &Repo<N, Global>,
+    repo: &Repo<Sha1Namer, Global>,
     words: &[&[u8]],
     revisions: &[&[u8]],
 ) -> bool {
@@ -293,8 +293,8 @@ fn lists<N: Namer>(
 }
 
 /// Whether a revision shows a commit without parents, of this author and committer, with this message.
-fn is_root_at<N: Namer>(
-    repo: &Repo<N, Global>,
+fn is_root_at(
+    repo: &Repo<Sha1Namer, Global>,
     revision: &Revision<Global>,
     ident: &[u8],
     message: &[u8],
@@ -311,9 +311,9 @@ fn is_root_at<N: Namer>(
 }
 
 /// The same, where the revision is told by its text.
-fn is_root<N: Namer>(
+fn is_root(
     alloc: Global,
-    repo: &Repo<N, Global>,
+    repo: &Repo<Sha1Namer, Global>,
     revision: &[u8],
     ident: &[u8],
     message: &[u8],
@@ -325,7 +325,7 @@ fn is_root<N: Namer>(
 }
 
 /// Whether a repository has what a step asks of it.
-fn is_shown<N: Namer>(alloc: Global, repo: &Repo<N, Global>, step: &Step<'_>) -> bool {
+fn is_shown(alloc: Global, repo: &Repo<Sha1Namer, Global>, step: &Step<'_>) -> bool {
     match step {
         Step::Hold(objects, refs) => holds(repo, *objects, *refs),
         Step::Show(revision, digits) => shows(alloc, repo, revision, digits),
@@ -341,7 +341,7 @@ fn is_shown<N: Namer>(alloc: Global, repo: &Repo<N, Global>, step: &Step<'_>) ->
 }
 
 /// Does a step, and answers whether what is to come of it came.
-fn is_done<N: Namer>(alloc: Global, repo: &mut Repo<N, Global>, step: &Step<'_>) -> bool {
+fn is_done(alloc: Global, repo: &mut Repo<Sha1Namer, Global>, step: &Step<'_>) -> bool {
     match step {
         Step::Import(parts, numbers) => imports(alloc, repo, parts, *numbers),
         Step::Refuse(parts, command, kind) => refuses(alloc, repo, parts, *command, *kind, 0),
@@ -353,9 +353,9 @@ fn is_done<N: Namer>(alloc: Global, repo: &mut Repo<N, Global>, step: &Step<'_>)
 }
 
 /// Does the steps of a session in their order. Fails at the first one of which something else comes.
-pub(crate) fn follow<N: Namer>(
+fn follow(
     alloc: Global,
-    repo: &mut Repo<N, Global>,
+    repo: &mut Repo<Sha1Namer, Global>,
     session: &Session<'_>,
 ) -> Result<(), Fail> {
     let (name, steps) = session;

@@ -1,5 +1,4 @@
-ghost use Rattle.std.specs.Prelude.{◌<◌, length};
-
+use crate::given::fail_at;
 use gx_file::{FileFault, OutOfMemory, Text, read, read_text, write, write_to};
 use gx_model::Version;
 use gx_object::Sha1Namer;
@@ -253,24 +252,16 @@ fn wrong_whole(alloc: Global, claim: Claim, state: RandomState) -> Option<usize>
     }
 }
 
-/// A failure that names the first place at which something else came.
-fn all_hold(wrong: Option<usize>) -> Result<(), Fail> {
-    match wrong {
-        None => Ok(()),
-        Some(place) => Err(Fail::new(format_args!("at {place}"))),
-    }
-}
-
 /// Fails at the first version of the whole text of which a claim doesn't hold.
 fn claim_of_whole(rt: &HostRuntime, claim: Claim) -> Result<(), Fail> {
     let state = RandomState::new(rt)?;
-    all_hold(wrong_whole(rt.alloc(), claim, state))
+    fail_at(wrong_whole(rt.alloc(), claim, state))
 }
 
 /// Fails at the first of the small texts of which a claim doesn't hold.
 fn claim_of_small(rt: &HostRuntime, claim: Claim) -> Result<(), Fail> {
     let state = RandomState::new(rt)?;
-    all_hold(wrong_small(rt.alloc(), claim, state))
+    fail_at(wrong_small(rt.alloc(), claim, state))
 }
 
 #[test]
@@ -293,51 +284,6 @@ fn version_2_is_written(rt: HostRuntime) -> Result<(), Fail> {
 #[test]
 fn objects_have_gits_names(rt: HostRuntime) -> Result<(), Fail> {
     claim_of_whole(&rt, Claim::Named)
-}
-
-/// Whether a text is refused for its own sake, or else goes with what is read of it.
-fn is_told(alloc: Global, text: &[u8], state: RandomState) -> bool {
-    match read(alloc, Sha1Namer, text, state) {
-        Ok(repo) => goes_with(alloc, &repo, text, state),
-        Err(fault) => fault != FileFault::OutOfMemory,
-    }
-}
-
-/// Whether a text is told with each bit of the byte at a place flipped in turn.
-fn are_flips_told(alloc: Global, text: &mut [u8], place: usize, state: RandomState) -> bool
-    requires { place < length text.now }
-{
-    for bit in [1, 2, 4, 8, 16, 32, 64, 128] {
-        text[place] ^= bit;
-        if !is_told(alloc, text, state) {
-            return false;
-        }
-        text[place] ^= bit;
-    }
-    true
-}
-
-/// The first byte of a text that isn't told with each of its bits flipped in turn.
-fn untold_byte(alloc: Global, text: &mut [u8], state: RandomState) -> Option<usize> {
-    for place in 0..text.len() {
-        if !are_flips_told(alloc, text, place, state) {
-            return Some(place);
-        }
-    }
-    None
-}
-
-/// Fails at the first such byte of the whole text of a version.
-fn tell_changes(alloc: Global, version: Version, state: RandomState) -> Result<(), Fail> {
-    let mut text = whole(alloc, version)?;
-    all_hold(untold_byte(alloc, text.as_mut_slice(), state))
-}
-
-#[test]
-fn changed_bits_are_told(rt: HostRuntime) -> Result<(), Fail> {
-    let state = RandomState::new(&rt)?;
-    tell_changes(rt.alloc(), Version::One, state)?;
-    tell_changes(rt.alloc(), Version::Two, state)
 }
 
 /// Why a text is refused where its bodies are copied, or where they are to stay in it.

@@ -1,7 +1,7 @@
 //! Streams and store texts with one byte changed to each other value: each is refused for its own sake, or is imported or read whole.
 ghost use Rattle.std.specs.Prelude.{◌<◌, length};
 
-use crate::hostile::given::{
+use crate::given::{
     EMPTY, MERGED, exported, fail_at, has_text, listed, opened, refusal_of, stored, text_of,
 };
 use crate::hostile::old_texts::{has_old_text, old_text_of};

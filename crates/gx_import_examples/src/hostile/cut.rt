@@ -1,6 +1,7 @@
 //! Exports that are cut at each byte, and imported.
 
-use crate::hostile::given::{EMPTY, MERGED, MERGED_TEXT, exported, has_text, refusal_of};
+use crate::exports::exports_as;
+use crate::given::{EMPTY, MERGED_TEXT, has_text, refusal_of};
 use gx_object::Sha1Namer;
 use gx_repo::Repo;
 use std::alloc::Global;
@@ -26,19 +27,11 @@ fn cut_export_is_refused(rt: HostRuntime) -> Result<(), Fail> {
     Ok(())
 }
 
-/// Whether the export of what a stream makes is this text.
-fn is_exported(alloc: Global, stream: &[u8], text: &[u8], state: RandomState) -> bool {
-    let mut repo = Repo::new(alloc, Sha1Namer, state);
-    refusal_of(alloc, &mut repo, stream).is_none()
-        && exported(alloc, &repo, 2000).as_slice() == text
-}
-
 /// The last line needs no line feed.
 #[test]
 fn export_without_its_last_byte_is_imported(rt: HostRuntime) -> Result<(), Fail> {
     let state = RandomState::new(&rt)?;
-    assert!(rt; is_exported(rt.alloc(), MERGED, MERGED_TEXT, state));
     let (_, front) = MERGED_TEXT.split_last().ok_or("no text")?;
-    assert!(rt; is_exported(rt.alloc(), front, MERGED_TEXT, state));
+    assert!(rt; exports_as(rt.alloc(), front, MERGED_TEXT, state));
     Ok(())
 }

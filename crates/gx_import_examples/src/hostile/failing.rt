@@ -1,6 +1,6 @@
 //! Sources that fail at each byte of a stream, and at its end.
 
-use crate::hostile::given::{MERGED, refusal_behind_first};
+use crate::given::{FIRST, MERGED, refusal_behind};
 use gx_import::ImportKind;
 use gx_object::Sha1Namer;
 use gx_repo::Repo;
@@ -12,7 +12,7 @@ use std::test::Fail;
 /// Whether an import whose source fails behind these bytes answers that, and leaves the store as it was.
 fn is_refused(alloc: Global, bytes: &[u8], state: RandomState) -> bool {
     let mut repo = Repo::new(alloc, Sha1Namer, state);
-    match refusal_behind_first(alloc, &mut repo, Bytes::new(bytes, 1, true)) {
+    match refusal_behind(alloc, &mut repo, FIRST, Bytes::new(bytes, 1, true)) {
         Some(fault) => fault.kind == ImportKind::ReadFailed,
         None => false,
     }

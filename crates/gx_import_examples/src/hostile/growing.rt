@@ -1,6 +1,6 @@
 //! Memory that is refused at each growth in turn: the store stays as it was or as at a checkpoint, or has all.
 
-use crate::hostile::given::{FIRST, MERGED, opened, refusal_of, stored, text_of, text_with};
+use crate::given::{FIRST, MERGED, opened, refusal_of, stored, text_of, text_with};
 use gx_import::{ImportFault, ImportKind};
 use gx_object::Sha1Namer;
 use gx_refusing::Refusing;

@@ -1,8 +1,6 @@
 //! Namers that give other objects one name: what is held stays, and nothing else is stored under its name.
 
-use crate::hostile::given::{
-    EMPTY, FIRST, fault, has_text, object_of, refusal_behind_first, refusal_of, stored,
-};
+use crate::given::{EMPTY, FIRST, fault, has_text, object_of, refusal_behind, refusal_of, stored};
 use gx_file::{FileFault, read};
 use gx_import::ImportKind;
 use gx_object::{Kind, Name, Namer, Sha1Namer, ShortNamer};
@@ -57,26 +55,41 @@ fn short_names_tell_kind_and_length(rt: HostRuntime) -> Result<(), Fail> {
     Ok(())
 }
 
-/// Streams for the second import into one store, each with a kind of object under a held name.
-const SECOND: &[&[u8]] = &[
-    b"blob\ndata 10\nversion 2\n",
-    b"commit refs/heads/b\ncommitter A <a@x> 2 +0000\ndata 2\nv2\nfrom main^0\nR test.txt text.txt\n",
-    b"commit refs/heads/b\ncommitter A <a@x> 2 +0000\ndata 2\nv1\nM 644 inline test.txt\ndata 10\nversion 1\n",
+/// Streams, others that are imported behind them, each with a kind of object under a held name, and the commands that are refused.
+const SECOND: &[(&[u8], &[u8], u64)] = &[
+    (FIRST, b"blob\ndata 10\nversion 2\n", 1),
+    (
+        FIRST,
+        b"commit refs/heads/b\ncommitter A <a@x> 2 +0000\ndata 2\nv2\nfrom main^0\nR test.txt text.txt\n",
+        1,
+    ),
+    (
+        FIRST,
+        b"commit refs/heads/b\ncommitter A <a@x> 2 +0000\ndata 2\nv1\nM 644 inline test.txt\ndata 10\nversion 1\n",
+        1,
+    ),
+    (BLOB, b"blob\ndata 2\nxy\nblob\ndata 1\nb", 2),
+    (BLOB, b"blob\ndata 2\nxy\nblob\ndata 2\nzy", 2),
 ];
 
-/// Whether the first command of a stream is refused behind the first commit, since a name is held, and the store stays as it
-/// was.
-fn is_held_behind_first(alloc: Global, stream: &[u8], state: RandomState) -> bool {
+/// A blob of one byte.
+const BLOB: &[u8] = b"blob\ndata 1\na";
+
+/// Whether a command of the second stream is refused, since a name is held the store stays as it was, and takes
+/// the first stream once more.
+fn is_held_behind(alloc: Global, streams: &(&[u8], &[u8], u64), state: RandomState) -> bool {
+    let (first, second, command) = streams;
     let mut repo = Repo::new(alloc, ShortNamer, state);
-    let source = Bytes::new(stream, 4096, false);
-    refusal_behind_first(alloc, &mut repo, source) == Some(fault(1, ImportKind::NameHeld))
+    let source = Bytes::new(second, 4096, false);
+    refusal_behind(alloc, &mut repo, first, source) == Some(fault(*command, ImportKind::NameHeld))
+        && refusal_of(alloc, &mut repo, first).is_none()
 }
 
 #[test]
 fn other_object_of_a_held_name_is_refused(rt: HostRuntime) -> Result<(), Fail> {
     let state = RandomState::new(&rt)?;
-    for stream in SECOND {
-        assert!(rt; is_held_behind_first(rt.alloc(), stream, state));
+    for (place, streams) in SECOND.iter().enumerate() {
+        assert!(rt; is_held_behind(rt.alloc(), streams, state), "at {place}");
     }
     Ok(())
 }

@@ -2,7 +2,7 @@
 
 ghost use Rattle.std.specs.Prelude.{◌<◌, None};
 
-use crate::hostile::given::{MERGED, fault, refusal, refusal_into, stored, stored_from};
+use crate::given::{MERGED, fault, refusal, refusal_into, stored, stored_from};
 use gx_import::ImportKind;
 use gx_object::Sha1Namer;
 use gx_repo::Repo;

@@ -1,12 +1,10 @@
 //! Repositories of odd shapes: few trees with very many paths, a very deep path, and a long line of commits.
 
-use crate::hostile::given::{
-    exported, has_text, listed, object_of, opened, refusal_of, stored, text_of,
-};
+use crate::given::{exported, has_text, listed, object_of, opened, refusal_of, stored};
+use crate::sessions::has_file;
 use gx_object::{Kind, Mode, Name, Sha1Namer, decode_tree};
-use gx_repo::{RefChange, Repo};
-use gx_rev::{Revision, look, tree};
-use gx_text::TreePath;
+use gx_repo::Repo;
+use gx_rev::{Revision, tree};
 use std::alloc::{AllocError, Global};
 use std::hash::RandomState;
 use std::test::Fail;
@@ -14,100 +12,29 @@ use std::test::Fail;
 /// A repository of Git's names.
 type Records = Repo<Sha1Namer, Global>;
 
-/// Adds entries to the body of a tree, each of which, a mode and a component, names one object.
-fn add_entries(
-    body: &mut Vec<u8, Global>,
-    entries: &[&[u8]],
-    name: &Name,
-) -> Result<(), AllocError> {
-    for entry in entries {
-        body.extend_from_slice(entry)?;
-        body.extend_from_slice(name.bytes.as_slice())?;
+/// Adds a commit whose root has a directory twice, which has another one twice, and so on, 2^40 paths of one file in all.
+fn add_doubled(stream: &mut Vec<u8, Global>) -> Result<(), AllocError> {
+    let front: &[u8] =
+        b"commit refs/heads/main\ncommitter A <a@x> 1 +0000\ndata 1\nm\nM 100644 inline a/f\ndata 6\nhello\n";
+    stream.extend_from_slice(front)?;
+    for _ in 0..39u8 {
+        stream.extend_from_slice(b"R a c/a\nC c/a c/b\nR c a\n")?;
     }
-    Ok(())
+    stream.extend_from_slice(b"C a b\n")
 }
 
-/// Adds such a tree.
-fn add_tree(alloc: Global, repo: &mut Records, entries: &[&[u8]], name: &Name) -> Option<Name> {
-    let mut body = Vec::new(alloc);
-    match add_entries(&mut body, entries, name) {
-        Ok(()) => repo.add_record(Kind::Tree, &body).ok(),
-        Err(_) => None,
-    }
-}
-
-/// Adds a tree with one file, and then many that each name the one before twice; answers the name of the last.
-fn add_doubled(alloc: Global, repo: &mut Records) -> Option<Name> {
-    let blob = repo.add_record(Kind::Blob, b"hello\n").ok()?;
-    let mut name = add_tree(alloc, repo, &[b"100644 f\0"], &blob)?;
-    for _ in 0..40u8 {
-        name = add_tree(alloc, repo, &[b"40000 a\0", b"40000 b\0"], &name)?;
-    }
-    Some(name)
-}
-
-/// Adds the bytes of a tree's commit.
-fn add_parts(body: &mut Vec<u8, Global>, tree: &Name) -> Result<(), AllocError> {
-    let rest: &[u8] = b"\nauthor A <a@x> 1 +0000\ncommitter A <a@x> 1 +0000\n\nm";
-    body.extend_from_slice(b"tree ")?;
-    body.extend_from_slice(&tree.hex())?;
-    body.extend_from_slice(rest)
-}
-
-/// Adds a commit of a tree.
-fn add_commit(alloc: Global, repo: &mut Records, tree: &Name) -> Option<Name> {
-    let mut body = Vec::new(alloc);
-    match add_parts(&mut body, tree) {
-        Ok(()) => repo.add_record(Kind::Commit, &body).ok(),
-        Err(_) => None,
-    }
-}
-
-/// Adds the commit of such trees, and publishes it as main.
-fn publish_doubled(alloc: Global, repo: &mut Records) -> Option<()> {
-    let root = add_doubled(alloc, repo)?;
-    let target = add_commit(alloc, repo, &root)?;
-    let name = b"refs/heads/main";
-    repo.publish(&[RefChange { name, target }]).ok()
-}
-
-/// The store text of a commit whose trees have 2^40 paths; an empty one where it can't be made.
+/// The store text of such a commit; an empty one where it can't be made.
 fn doubled_text(alloc: Global, state: RandomState) -> Vec<u8, Global> {
-    let mut repo = Repo::new(alloc, Sha1Namer, state);
-    match publish_doubled(alloc, &mut repo) {
-        Some(()) => text_of(alloc, &repo),
-        None => Vec::new(alloc),
+    let mut stream = Vec::new(alloc);
+    match add_doubled(&mut stream) {
+        Ok(()) => stored(alloc, &stream, state),
+        Err(_) => Vec::new(alloc),
     }
 }
 
 /// The path of a file in forty directories.
 const DEEP: &[u8] =
     b"a/a/a/a/a/a/a/a/a/a/a/a/a/a/a/a/a/a/a/a/a/a/a/a/a/a/a/a/a/a/a/a/a/a/a/a/a/a/a/a/f";
-
-/// Whether the file at a path of a revision has these bytes.
-fn has_file(
-    alloc: Global,
-    repo: &Records,
-    revision: &Revision<Global>,
-    path: &[u8],
-    bytes: &[u8],
-) -> bool {
-    match TreePath::read(alloc, path) {
-        Ok(path) => match look(alloc, repo, revision, &path) {
-            Ok((mode, file)) => mode == Mode::File && file.as_slice() == bytes,
-            Err(_) => false,
-        },
-        Err(_) => false,
-    }
-}
-
-/// The same, where the revision is told by its text.
-fn shows(alloc: Global, repo: &Records, revision: &[u8], path: &[u8], bytes: &[u8]) -> bool {
-    match Revision::read(alloc, revision) {
-        Ok(revision) => has_file(alloc, repo, &revision, path, bytes),
-        Err(_) => false,
-    }
-}
 
 /// Whether a tree has two entries, and both are directories.
 fn are_directories(body: &[u8]) -> Option<bool> {
@@ -137,7 +64,7 @@ fn check_doubled(alloc: Global, repo: &Records, text: &[u8]) -> Result<(), &'sta
         Err("the count of the objects")
     } else if !has_main_directories(alloc, repo) {
         Err("the modes of main")
-    } else if !shows(alloc, repo, b"main", DEEP, b"hello\n") {
+    } else if !has_file(alloc, repo, b"main", DEEP, b"hello\n") {
         Err("the file")
     } else if !has_text(alloc, repo, text) {
         Err("the text")
@@ -170,9 +97,9 @@ const AGAIN: &[u8] =
 fn check_again(alloc: Global, repo: &mut Records) -> Result<(), &'static str> {
     if refusal_of(alloc, repo, AGAIN).is_some() {
         Err("a refused stream")
-    } else if !shows(alloc, repo, b"again", DEEP, b"hello\n") {
+    } else if !has_file(alloc, repo, b"again", DEEP, b"hello\n") {
         Err("the file before")
-    } else if !shows(alloc, repo, b"again", b"g", b"again") {
+    } else if !has_file(alloc, repo, b"again", b"g", b"again") {
         Err("the file")
     } else {
         Ok(())
@@ -220,7 +147,7 @@ fn check_exported(
     text: &[u8],
     state: RandomState,
 ) -> Result<(), &'static str> {
-    if !shows(alloc, repo, b"main", path, b"hello\n") {
+    if !has_file(alloc, repo, b"main", path, b"hello\n") {
         return Err("the file");
     }
     let again = exported(alloc, repo, 5000);

@@ -451,25 +451,25 @@ fn other_row(
 #[test]
 fn lines_are_refused_for_the_first_fault(rt: HostRuntime) -> Result<(), Fail> {
     let state = RandomState::new(&rt)?;
-    all_hold(other_line(rt.alloc(), b"", LINES, state))
+    fail_at(other_line(rt.alloc(), b"", LINES, state))
 }
 
 #[test]
 fn named_objects_are_refused_for_the_first_fault(rt: HostRuntime) -> Result<(), Fail> {
     let state = RandomState::new(&rt)?;
-    all_hold(other_line(rt.alloc(), b"gxstore 2\nobjects 2\n", NAMED, state))
+    fail_at(other_line(rt.alloc(), b"gxstore 2\nobjects 2\n", NAMED, state))
 }
 
 #[test]
 fn objects_are_refused_for_the_first_fault(rt: HostRuntime) -> Result<(), Fail> {
     let state = RandomState::new(&rt)?;
-    all_hold(other_row(rt.alloc(), &[b"gxstore 1\n"], OBJECTS, state))
+    fail_at(other_row(rt.alloc(), &[b"gxstore 1\n"], OBJECTS, state))
 }
 
 #[test]
 fn refs_are_refused_for_the_first_fault(rt: HostRuntime) -> Result<(), Fail> {
     let state = RandomState::new(&rt)?;
-    all_hold(other_row(rt.alloc(), HELD, REFS, state))
+    fail_at(other_row(rt.alloc(), HELD, REFS, state))
 }
 
 /// What stands behind the objects where each tag is held by its own ref.

@@ -103,13 +103,14 @@ pub(crate) fn stored(alloc: Global, stream: &[u8], state: RandomState) -> Vec<u8
     stored_from(alloc, Bytes::new(stream, 4096, false), state)
 }
 
-/// Why a stream is refused behind the first commit, where the store stays as it was; none otherwise.
-pub(crate) fn refusal_behind_first<N: Namer>(
+/// Why a stream is refused behind another one, where the store stays as it was; none otherwise.
+pub(crate) fn refusal_behind<N: Namer>(
     alloc: Global,
     repo: &mut Repo<N, Global>,
+    first: &[u8],
     source: Bytes<'_>,
 ) -> Option<ImportFault> {
-    let before = text_with(alloc, repo, Bytes::new(FIRST, 4096, false));
+    let before = text_with(alloc, repo, Bytes::new(first, 4096, false));
     let refused = refusal(alloc, repo, source);
     if !before.is_empty() && has_text(alloc, repo, &before) {
         refused

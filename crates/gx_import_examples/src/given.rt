@@ -165,16 +165,24 @@ pub(crate) fn object_of<N: Namer>(
 }
 
 /// The commits that a word lists; none where it is refused.
-pub(crate) fn listed<N: Namer>(
+pub(crate) fn listed(
     alloc: Global,
-    repo: &Repo<N, Global>,
+    repo: &Repo<Sha1Namer, Global>,
     word: &[u8],
 ) -> Vec<Name, Global> {
     match Range::read(alloc, word) {
-        Ok(range) => match walk(alloc, repo, from_ref(&range)) {
-            Ok(names) => names,
-            Err(_) => Vec::new(alloc),
-        },
+        Ok(range) => walked(alloc, repo, &range),
+        Err(_) => Vec::new(alloc),
+    }
+}
+
+fn walked(
+    alloc: Global,
+    repo: &Repo<Sha1Namer, Global>,
+    range: &Range<Global>,
+) -> Vec<Name, Global> {
+    match walk(alloc, repo, from_ref(range)) {
+        Ok(names) => names,
         Err(_) => Vec::new(alloc),
     }
 }

@@ -1,9 +1,9 @@
 //! Repositories of odd shapes: few trees with very many paths, a very deep path, and a long line of commits.
 
-use crate::given::{exported, has_text, listed, object_of, opened, refusal_of, stored};
+use crate::given::{exported, has_text, listed, object_of, opened, refusal_of, stored, text_of};
 use crate::sessions::has_file;
 use gx_object::{Kind, Mode, Name, Sha1Namer, decode_tree};
-use gx_repo::Repo;
+use gx_repo::{RefChange, Repo};
 use gx_rev::{Revision, tree};
 use std::alloc::{AllocError, Global};
 use std::hash::RandomState;
@@ -12,23 +12,69 @@ use std::test::Fail;
 /// A repository of Git's names.
 type Records = Repo<Sha1Namer, Global>;
 
-/// Adds a commit whose root has a directory twice, which has another one twice, and so on, 2^40 paths of one file in all.
-fn add_doubled(stream: &mut Vec<u8, Global>) -> Result<(), AllocError> {
-    let front: &[u8] =
-        b"commit refs/heads/main\ncommitter A <a@x> 1 +0000\ndata 1\nm\nM 100644 inline a/f\ndata 6\nhello\n";
-    stream.extend_from_slice(front)?;
-    for _ in 0..39u8 {
-        stream.extend_from_slice(b"R a c/a\nC c/a c/b\nR c a\n")?;
+/// Adds entries to the body of a tree, each of which, a mode and a component, names one object.
+fn add_entries(
+    body: &mut Vec<u8, Global>,
+    entries: &[&[u8]],
+    name: &Name,
+) -> Result<(), AllocError> {
+    for entry in entries {
+        body.extend_from_slice(entry)?;
+        body.extend_from_slice(name.bytes.as_slice())?;
     }
-    stream.extend_from_slice(b"C a b\n")
+    Ok(())
 }
 
-/// The store text of such a commit; an empty one where it can't be made.
+/// Adds such a tree.
+fn add_tree(alloc: Global, repo: &mut Records, entries: &[&[u8]], name: &Name) -> Option<Name> {
+    let mut body = Vec::new(alloc);
+    match add_entries(&mut body, entries, name) {
+        Ok(()) => repo.add_record(Kind::Tree, &body).ok(),
+        Err(_) => None,
+    }
+}
+
+/// Adds a tree with one file, and then many that each name the one before twice; answers the name of the last.
+fn add_doubled(alloc: Global, repo: &mut Records) -> Option<Name> {
+    let blob = repo.add_record(Kind::Blob, b"hello\n").ok()?;
+    let mut name = add_tree(alloc, repo, &[b"100644 f\0"], &blob)?;
+    for _ in 0..40u8 {
+        name = add_tree(alloc, repo, &[b"40000 a\0", b"40000 b\0"], &name)?;
+    }
+    Some(name)
+}
+
+/// Adds the bytes of a tree's commit.
+fn add_parts(body: &mut Vec<u8, Global>, tree: &Name) -> Result<(), AllocError> {
+    let rest: &[u8] = b"\nauthor A <a@x> 1 +0000\ncommitter A <a@x> 1 +0000\n\nm";
+    body.extend_from_slice(b"tree ")?;
+    body.extend_from_slice(&tree.hex())?;
+    body.extend_from_slice(rest)
+}
+
+/// Adds a commit of a tree.
+fn add_commit(alloc: Global, repo: &mut Records, tree: &Name) -> Option<Name> {
+    let mut body = Vec::new(alloc);
+    match add_parts(&mut body, tree) {
+        Ok(()) => repo.add_record(Kind::Commit, &body).ok(),
+        Err(_) => None,
+    }
+}
+
+/// Adds the commit of such trees, and publishes it as main.
+fn publish_doubled(alloc: Global, repo: &mut Records) -> Option<()> {
+    let root = add_doubled(alloc, repo)?;
+    let target = add_commit(alloc, repo, &root)?;
+    let name = b"refs/heads/main";
+    repo.publish(&[RefChange { name, target }]).ok()
+}
+
+/// The store text of a commit whose trees have 2^40 paths; an empty one where it can't be made.
 fn doubled_text(alloc: Global, state: RandomState) -> Vec<u8, Global> {
-    let mut stream = Vec::new(alloc);
-    match add_doubled(&mut stream) {
-        Ok(()) => stored(alloc, &stream, state),
-        Err(_) => Vec::new(alloc),
+    let mut repo = Repo::new(alloc, Sha1Namer, state);
+    match publish_doubled(alloc, &mut repo) {
+        Some(()) => text_of(alloc, &repo),
+        None => Vec::new(alloc),
     }
 }
 

@@ -1,5 +1,5 @@
 -- Why changes of refs are refused.
-use Rattle.std.proofs.Common.{◌≡◌, List, Some, None, Ok, ap}
+use Rattle.std.proofs.Common.{◌≡◌, List, Some, None, Result, Ok, Err, OnErr, ap}
 use Rattle.gx_model.specs.Histories.{Records}
 use Rattle.gx_model.specs.Faults.{IsFaultOf}
 use Rattle.gx_repo.specs.declared.fault.PublishFault.{PublishFault}
@@ -20,3 +20,8 @@ refused r changes faults.WrongKind e = ap (λ f. unless f (with_changes r.refs c
 pub not_refused : (r : Records) (changes : List Change) → changes_fault r.records changes ≡ None → published r changes ≡ Ok (with_changes r.refs changes)
 unfolding published
 not_refused r changes e = ap (λ f. unless f (with_changes r.refs changes)) e
+
+-- what holds anyhow holds where a call is refused
+pub if_refused : {X E P : Type 0} (answer : Result X E) → P → OnErr answer P
+if_refused (Ok x) p = tt
+if_refused (Err e) p = p

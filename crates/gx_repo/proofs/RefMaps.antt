@@ -1,5 +1,5 @@
 -- A map from names to objects, seen as refs.
-use Rattle.std.proofs.Common.{◌≡◌, ℕ, zero, suc, ◌+◌, ◌<◌, List, [], ◌∷◌, length, map, take, drop, get_or, refl, sym, ap, ◌∙◌, arith}
+use Rattle.std.proofs.Common.{◌≡◌, ℕ, zero, suc, ◌+◌, ◌<◌, List, [], ◌∷◌, ◌++◌, append_assoc, length, map, take, drop, get_or, refl, sym, ap, ◌∙◌, arith}
 use Rattle.std.specs.Prelude.{T, IsTrue}
 use Rattle.std.specs.Bool.{passes}
 use Rattle.std.specs.BTreeMap.{insert_entry}
@@ -8,7 +8,7 @@ use Rattle.std.specs.declared.cmp.Ordering.{Ordering}
 use Rattle.std.specs.declared.cmp.Ordering.TheVariants.{Less, Equal, Greater}
 use Rattle.std.specs.declared.vec.Vec.{Vec}
 use Rattle.std.specs.FinMap.Entries.{below_all, by_order, is_sorted, put}
-use Rattle.std.proofs.lemmas.List.{drop_more}
+use Rattle.std.proofs.lemmas.List.{drop_more, map-append}
 use Rattle.gx_model.specs.Texts.{Bytes}
 use Rattle.gx_model.specs.Replay.{byte_cmp}
 use Rattle.gx_model.specs.Records.Publishing.{with_changes}
@@ -80,3 +80,13 @@ module _ {A : Type 0} where
   one_made changes i d es now all lt made e =
       ap (λ refs. with_changes refs (map shown_update (drop (i + 1) changes))) made
       ∙ sym (ap (λ cs. with_changes (map ref_of es) (map shown_update cs)) (drop_more changes i d lt)) ∙ e
+
+  -- the next of a map's refs, behind those before it
+  pub next_added : (refs now : List (Ref A)) (ref : Ref A) (entry : Vec ℕ A × Name) (left more : List (Vec ℕ A × Name)) (all : List (Bytes × Bytes)) → now ≡ refs ++ ref ∷ []
+      → left ≡ entry ∷ more → shown_ref ref ≡ ref_of entry → map shown_ref refs ++ map ref_of left ≡ all → map shown_ref now ++ map ref_of more ≡ all
+  next_added refs now ref entry left more all made s same h =
+      ap (λ rs. map shown_ref rs ++ map ref_of more) made
+      ∙ ap (λ rs. rs ++ map ref_of more) (map-append shown_ref refs (ref ∷ []))
+      ∙ append_assoc (map shown_ref refs) (shown_ref ref ∷ []) (map ref_of more)
+      ∙ ap (λ r. map shown_ref refs ++ r ∷ map ref_of more) same
+      ∙ sym (ap (λ es. map shown_ref refs ++ map ref_of es) s) ∙ h

@@ -143,20 +143,12 @@ fn tree_at<N: Namer, A: Allocator + Copy>(store: &Store<N, A>, place: usize) -> 
 fn nearer<'a>(len: usize, first: &'a [u8], last: &'a [u8]) -> &'a [u8]
     ensures { IsHeldWithBoth first.now last.now result.now }
 {
-    let near = if distance(first.len(), len) <= distance(last.len(), len) {
+    let near = if first.len().abs_diff(len) <= last.len().abs_diff(len) {
         first
     } else {
         last
     };
     if near.len() / 2 > len { b"" } else { near }
-}
-
-fn distance(len: usize, other: usize) -> usize {
-    if len < other {
-        other - len
-    } else {
-        len - other
-    }
 }
 
 /// The slot of the first entry's name, in what may be a tree's body.

@@ -1,5 +1,5 @@
 //! Changes of refs. Source: git-check-ref-format(1).
-ghost use Rattle.std.specs.Prelude.{◌≡◌, [], map, IsTrue, IfOk, OnOk};
+ghost use Rattle.std.specs.Prelude.{◌≡◌, [], map, IsTrue, IfOk, OnErr, OnOk};
 ghost use Rattle.std.specs.FinMap.Entries.{is_sorted};
 ghost use Rattle.gx_model.specs.Replay.{byte_cmp};
 ghost use Rattle.gx_repo.specs.Refs.{are_held, shown_update, shown_ref, ref_of};
@@ -17,8 +17,26 @@ pub struct RefChange<'a> {
     pub target: Name,
 }
 
+/// Makes the changes in turn. Where a growth is refused the refs are as they were; none is needed where all are held.
+pub(crate) fn set_refs<A: Allocator + Copy>(
+    alloc: A,
+    refs: &mut Vec<Ref<A>, A>,
+    changes: &[RefChange<'_>],
+) -> Result<(), AllocError>
+    requires sorted { IsTrue (is_sorted byte_cmp (map shown_ref refs.now.items)) }
+    ensures set { OnOk result (MakesChanges refs.old.items refs.new.items changes.now) }
+    ensures unchanged { OnErr result (refs.new ≡ refs.old) }
+{
+    if are_held(refs.as_slice(), changes) {
+        set_objects(refs.as_mut_slice(), changes);
+        return Ok(());
+    }
+    *refs = with_changes(alloc, refs.as_slice(), changes)?;
+    Ok(())
+}
+
 /// Whether each of these changes is one of a ref that is held.
-pub(crate) fn are_held<A: Allocator + Copy>(refs: &[Ref<A>], changes: &[RefChange<'_>]) -> bool
+fn are_held<A: Allocator + Copy>(refs: &[Ref<A>], changes: &[RefChange<'_>]) -> bool
     requires sorted { IsTrue (is_sorted byte_cmp (map shown_ref refs.now)) }
     ensures { result ≡ are_held (map shown_ref refs.now) (map shown_update changes.now) }
 {
@@ -31,7 +49,7 @@ pub(crate) fn are_held<A: Allocator + Copy>(refs: &[Ref<A>], changes: &[RefChang
 }
 
 /// Makes the changes in turn, which are of refs that are held. Takes no memory.
-pub(crate) fn set_objects<A: Allocator + Copy>(refs: &mut [Ref<A>], changes: &[RefChange<'_>])
+fn set_objects<A: Allocator + Copy>(refs: &mut [Ref<A>], changes: &[RefChange<'_>])
     requires sorted { IsTrue (is_sorted byte_cmp (map shown_ref refs.now)) }
     requires held { IsTrue (are_held (map shown_ref refs.now) (map shown_update changes.now)) }
     ensures { MakesChanges refs.old refs.new changes.now }
@@ -42,7 +60,7 @@ pub(crate) fn set_objects<A: Allocator + Copy>(refs: &mut [Ref<A>], changes: &[R
 }
 
 /// Copies of these refs, with the changes made in turn.
-pub(crate) fn with_changes<A: Allocator + Copy>(
+fn with_changes<A: Allocator + Copy>(
     alloc: A,
     refs: &[Ref<A>],
     changes: &[RefChange<'_>],
@@ -67,7 +85,10 @@ fn enter_changed<A: Allocator + Copy>(
     ensures { OnOk result (EntersAll (map shown_ref refs.now) objects.new.entries changes.now) }
 {
     enter_refs(alloc, objects, refs)?;
-    enter_changes(alloc, objects, changes)
+    for change in changes {
+        enter(alloc, objects, change.name, change.target)?;
+    }
+    Ok(())
 }
 
 /// Enters the objects of refs, each by a copy of its ref's name, where none is entered before.
@@ -82,20 +103,6 @@ fn enter_refs<A: Allocator + Copy>(
 {
     for held in refs {
         enter(alloc, objects, held.name.as_slice(), held.object)?;
-    }
-    Ok(())
-}
-
-/// Makes the changes in turn.
-fn enter_changes<A: Allocator + Copy>(
-    alloc: A,
-    objects: &mut BTreeMap<Vec<u8, A>, Name, A>,
-    changes: &[RefChange<'_>],
-) -> Result<(), AllocError>
-    ensures { OnOk result (EntersAll (map ref_of objects.old.entries) objects.new.entries changes.now) }
-{
-    for change in changes {
-        enter(alloc, objects, change.name, change.target)?;
     }
     Ok(())
 }

@@ -28,7 +28,7 @@ use crate::checking::entered_room;
 use crate::earlier::Hints;
 use crate::fault::{AddFault, OutOfMemory, PublishFault};
 use crate::given::Given;
-use crate::publishing::{RefChange, are_held, set_objects, with_changes};
+use crate::publishing::{RefChange, set_refs};
 use crate::refs::{Ref, Refs, find_by_names, find_near};
 use crate::rooms::enter_room;
 use gx_model::repository_laws::{
@@ -342,11 +342,7 @@ impl<N: Namer, A: Allocator + Copy> Repo<N, A> {
     {
         parts_change();
         self.check_all(changes)?;
-        if are_held(self.refs.as_slice(), changes) {
-            set_objects(self.refs.as_mut_slice(), changes);
-            return Ok(());
-        }
-        self.refs = with_changes(self.alloc, self.refs.as_slice(), changes)?;
+        set_refs(self.alloc, &mut self.refs, changes)?;
         Ok(())
     }
 

@@ -14,9 +14,11 @@ use Rattle.gx_object.specs.declared.name.Name.{Name}
 use Rattle.gx_store.specs.declared.fault.StoreFault.{StoreFault}
 use Rattle.gx_store.specs.declared.fault.StoreFault.TheVariants.{OutOfMemory, NameHeld}
 use Rattle.gx_store.specs.Stores.{Puts}
-use Rattle.gx_tree.specs.Writes.{map_name}
+use Rattle.gx_tree.specs.declared.fault.TreeFault.{TreeFault}
+use Rattle.gx_tree.specs.StoreFaults.{tree_fault}
+use Rattle.gx_tree.specs.Writes.{PutsAll, map_name}
 use Rattle.gx_model.proofs.Puts.{front_put}
-use Rattle.gx_repo.specs.Additions.{Adds, HasValues}
+use Rattle.gx_repo.specs.Additions.{Adds, AddsAll, HasValues}
 use Rattle.gx_repo.specs.Rooms.{IsFront}
 use Rattle.gx_repo.proofs.RecordRooms.{front_kept}
 
@@ -29,6 +31,11 @@ adds_by_put old new r (Err NameHeld) p = p
 pub adds_refused : (old new : List Record) (r : Record) (fault : StoreFault) (answer : Result Name StoreFault) → IsErrAnd answer (λ y. y ≡ fault) → Puts old new r (Err fault) → Adds old new r answer
 adds_refused old new r fault (Ok n) e p = absurd e
 adds_refused old new r fault (Err y) e p = subst (λ z. Adds old new r (Err z)) (sym e) (adds_by_put old new r (Err fault) p)
+
+-- a fault of a write of trees, passed on where the records are those of before
+pub writes_refused : (old now wrote rs : List Record) (called : Bytes) (fault : StoreFault) (given : TreeFault) → tree_fault fault ≡ given → PutsAll {Y = Name} rs old wrote (Err given) → now ≡ old → AddsAll old now rs called (Err fault)
+writes_refused old now wrote rs called OutOfMemory given e p same = same
+writes_refused old now wrote rs called NameHeld given e p same = (subst (λ f. PutsAll {Y = Name} rs old wrote (Err f)) (sym e) p, same)
 
 -- the rooms of the first records are those of the first ones after a put
 pub front_after : (old new : List Record) (r : Record) (answer : Result Name StoreFault) → Puts old new r answer → (rooms : List ℕ) → IsFront rooms old → IsFront rooms new

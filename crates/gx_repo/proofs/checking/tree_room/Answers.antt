@@ -60,3 +60,6 @@ returns-clause-room g c =
     let body = c.args.body.now in
     let all = widest_at_end rs body c.loop-entry.widest c.loop-entry.entry-iterator c.in-None.ensures.steps.0 c.loop-entry.invariant.1 in
     widest_room rs body c.in-Some-widest.room (sym c.in-Some-widest.is ∙ all)
+
+pub entry_room-requires-clause-known : goal.entry_room-requires-clause-known
+entry_room-requires-clause-known g c = λ known. c.takes-is_known.ensures.held known c.args.store.now.1 c.loop-entry.invariant.2

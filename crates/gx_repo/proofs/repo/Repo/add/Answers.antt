@@ -1,4 +1,4 @@
-use Rattle.std.proofs.Common.{◌++◌, ◌∷◌, [], map, take, sym, subst, ap, ◌∙◌}
+use Rattle.std.proofs.Common.{Ok, ◌++◌, ◌∷◌, [], map, take, sym, subst, ap, ◌∙◌}
 use Rattle.gx_model.specs.Histories.{Record, Records, record_for, with_one}
 use Rattle.gx_model.specs.Records.HistoryOf.{named_values, value_in}
 use Rattle.gx_model.specs.Laws.RepositoryLaws.{values_of}
@@ -102,3 +102,26 @@ returns-clause-history g c =
     let s = rw (sym c.self.view_is) at c.requires.short in
     subst (λ v. HasValues v.1 (record { records = c.put.new.store.1; refs = map shown_ref c.self.inside.refs.items }) (with_one (values_of v.1) (value_in (named_values v.1.records) c.args.kind (bytes_given c.args.given.now)))) c.self.view_is
     (put_grown names (c.links_tell_values.ensures names namer) (c.puts_add_values.ensures names namer) r c.self.invariant.0 c.args.kind (bytes_given c.args.given.now) l s c.put.new.store.1 c.in_ok-name.ensures.puts.1).1
+
+pub returns-in_err-name-clause-namer : goal.returns-in_err-name-clause-namer
+returns-in_err-name-clause-namer g c = c.put.ensures.namer ∙ ap (λ v. v.0) c.self.view_is
+
+pub returns-in_err-name-clause-refs : goal.returns-in_err-name-clause-refs
+returns-in_err-name-clause-refs g c = ap (λ v. v.1.refs) c.self.view_is
+
+pub returns-in_default-clause-namer : goal.returns-in_default-clause-namer
+returns-in_default-clause-namer g c = ap (λ v. v.0) c.truncate.ensures ∙ c.put.ensures.namer ∙ ap (λ v. v.0) c.self.view_is
+
+pub returns-in_default-clause-refs : goal.returns-in_default-clause-refs
+returns-in_default-clause-refs g c = ap (λ v. v.1.refs) c.self.view_is
+
+pub returns-clause-namer : goal.returns-clause-namer
+returns-clause-namer g c = c.put.ensures.namer ∙ ap (λ v. v.0) c.self.view_is
+
+pub returns-clause-adds : goal.returns-clause-adds
+returns-clause-adds g c =
+    let body = bytes_given c.args.given.now in
+    subst (λ v. Adds v.1.records c.put.new.store.1 (record_for (g.N.Namer.name_of v.0) c.args.kind body) (Ok c.in_ok-name.name)) c.self.view_is c.in_ok-name.ensures.puts
+
+pub returns-clause-refs : goal.returns-clause-refs
+returns-clause-refs g c = ap (λ v. v.1.refs) c.self.view_is

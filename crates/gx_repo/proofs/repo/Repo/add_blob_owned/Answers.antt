@@ -1,4 +1,4 @@
-use Rattle.std.proofs.Common.{◌≡◌, Ok, map, sym, subst}
+use Rattle.std.proofs.Common.{◌≡◌, Ok, ap, map, sym, subst, ◌∙◌}
 use Rattle.gx_model.specs.declared.objects.Kind.TheVariants as kinds
 use Rattle.gx_model.specs.Histories.{Records, record_for, with_one}
 use Rattle.gx_model.specs.Histories.Values.{blob_value}
@@ -69,3 +69,15 @@ returns-clause-adds g c =
 pub returns-clause-value : goal.returns-clause-value
 returns-clause-value g c =
     subst (λ v. c.in_ok-name.name.bytes ≡ name_of (g.N.Namer.name_of v.0) (blob_value c.args.body.items)) c.self.view_is c.in_ok-name.ensures.puts.0
+
+pub returns-in_err-name-clause-namer : goal.returns-in_err-name-clause-namer
+returns-in_err-name-clause-namer g c = c.put_owned.ensures.namer ∙ ap (λ v. v.0) c.self.view_is
+
+pub returns-in_err-name-clause-refs : goal.returns-in_err-name-clause-refs
+returns-in_err-name-clause-refs g c = ap (λ v. v.1.refs) c.self.view_is
+
+pub returns-clause-namer : goal.returns-clause-namer
+returns-clause-namer g c = c.put_owned.ensures.namer ∙ ap (λ v. v.0) c.self.view_is
+
+pub returns-clause-refs : goal.returns-clause-refs
+returns-clause-refs g c = ap (λ v. v.1.refs) c.self.view_is

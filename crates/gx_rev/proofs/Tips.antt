@@ -20,7 +20,8 @@ use Rattle.gx_model.proofs.PathTests.{both, first, is_true, left_or, one_of, rig
 use Rattle.gx_model.proofs.ReachedCommits.{closed, itself}
 use Rattle.gx_model.proofs.Standing.{parent_before, same_place}
 use Rattle.gx_rev.specs.Tips.{AddsTips, AreTips}
-use Rattle.gx_rev.specs.Walking.{AreEither}
+use Rattle.gx_rev.specs.Walking.{HaveBoth}
+use Rattle.gx_rev.proofs.WordMarks.{marks_both}
 
 -- ---- what is reached
 
@@ -107,14 +108,20 @@ or_true : (a b : Bool) → b ≡ true → (a || b) ≡ true
 or_true true b h = refl
 or_true false b h = h
 
-marks_either : (r : Records) (Q : Commit → Bool) (old others new : List Bool) → others ≡ marks_of Q (values_of r) → AreEither new old others → Marks r (λ c. T (Q c)) old new
-marks_either r Q old others new e h = record {
-  keeps = λ i k. h i ∙ ap (λ b. b || slice_index_or others i false) k;
-  only = λ i k. one_of (slice_index_or old i false) (slice_index_or others i false) (passes _ (sym (h i) ∙ k))
+marks_joined : (r : Records) (P Q : Commit → Bool) (old new : List Bool) → HaveBoth new old (marks_of P (values_of r)) (marks_of Q (values_of r)) → Marks r (λ c. T (P c && Q c)) old new
+marks_joined r P Q old new h = record {
+  keeps = λ i k. has i ∙ ap (λ b. b || slice_index_or both_marked i false) k;
+  only = λ i k. one_of (slice_index_or old i false) (slice_index_or both_marked i false) (passes _ (sym (has i) ∙ k))
       (λ l. inl (is_true _ l))
-      (λ l. inr (marked_there (values_of r) Q i (ap (λ ms. slice_index_or ms i false) (sym e) ∙ is_true _ l)));
-  all = λ c q i k. h i ∙ or_true (slice_index_or old i false) (slice_index_or others i false) (ap (λ ms. slice_index_or ms i false) e ∙ mark_tells (values_of r) Q i (commit_value c) false k ∙ is_true _ q);
+      (λ l. inr (marked_there (values_of r) (λ c. P c && Q c) i (is_true _ l)));
+  all = λ c q i k. has i ∙ or_true (slice_index_or old i false) (slice_index_or both_marked i false) (mark_tells (values_of r) (λ c. P c && Q c) i (commit_value c) false k ∙ is_true _ q);
 }
+  where
+    both_marked : List Bool
+    both_marked = marks_of (λ c. P c && Q c) (values_of r)
+
+    has : (i : ℕ) → slice_index_or new i false ≡ (slice_index_or old i false || slice_index_or both_marked i false)
+    has i = h i ∙ ap (λ b. slice_index_or old i false || b) (sym (marks_both (values_of r) P Q i))
 
 -- what is marked is what the tips reach, so far: marked commits from a place on have their parents marked
 pub record AreSpread (r : Records) (tips marks : List Bool) (left : ℕ) : Type 0 where
@@ -144,9 +151,9 @@ module _ (name : Kind → List ℕ → List ℕ) (namer : IsNamer name) (r : Rec
   reached_place c d i e h = least (λ b. (j : ℕ) × IsAt r j b) (λ b p q k. let w = parent_before name namer r sound b p q.0 q.1 k in (w.0, w.2)) c d (i, e) h
 
   -- what both of two commits reach
-  pub common_more : (a b : Commit) (i : ℕ) (old others new : List Bool) → IsAt r i a → length new ≡ length old → others ≡ marks_of (λ c. reaches a c && reaches b c) (values_of r) → AreEither new old others → AddsTips r (λ c. reaches a c && reaches b c) old new
-  common_more a b i old others new e l o h =
-      marks_more r (λ c. T (reaches a c && reaches b c)) (λ c. reaches a c && reaches b c) old new l (marks_either r (λ c. reaches a c && reaches b c) old others new o h)
+  pub common_more : (a b : Commit) (i : ℕ) (old new : List Bool) → IsAt r i a → length new ≡ length old → HaveBoth new old (marks_of (reaches a) (values_of r)) (marks_of (reaches b) (values_of r)) → AddsTips r (λ c. reaches a c && reaches b c) old new
+  common_more a b i old new e l h =
+      marks_more r (λ c. T (reaches a c && reaches b c)) (λ c. reaches a c && reaches b c) old new l (marks_joined r (reaches a) (reaches b) old new h)
       (λ s d q k. both (reaches a d) (reaches b d) (reaches_on a s d (first (reaches a s) (reaches b s) q) k) (reaches_on b s d (second (reaches a s) (reaches b s) q) k))
       (λ d k. (d, reached_place a d i e (first (reaches a d) (reaches b d) k), k, itself d))
 

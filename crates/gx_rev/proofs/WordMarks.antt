@@ -11,8 +11,7 @@ use Rattle.gx_model.specs.Histories.Values.{Commit, Value, blob_value, commit_va
 use Rattle.gx_model.specs.Records.{name_of}
 use Rattle.gx_model.specs.Revisions.Ranges.{commit_of}
 use Rattle.gx_model.specs.Histories.Marks.{holds, marks_of}
-use Rattle.gx_rev.specs.Walking.{AreBoth, AreWithout, names_back}
-use Rattle.gx_model.proofs.Marking.{mark_tells, marks_are}
+use Rattle.gx_rev.specs.Walking.{AreWithout, names_back}
 
 holds_both : (P Q : Commit → Bool) (v : Value) → (holds P v && holds Q v) ≡ holds (λ c. P c && Q c) v
 holds_both P Q (blob_value x) = refl
@@ -29,18 +28,19 @@ holds_without P Q (tag_value t) = refl
 pub marks_long : (vs : List Value) (P : Commit → Bool) → length (marks_of P vs) ≡ length vs
 marks_long vs P = length-map vs (holds P)
 
-as_long : (vs : List Value) (P : Commit → Bool) (new marks : List Bool) → marks ≡ marks_of P vs → length new ≡ length marks → length new ≡ length vs
-as_long vs P new marks e l = l ∙ ap length e ∙ marks_long vs P
+-- the places that the commits of one kind have and those of the other don't
+pub marks_without : (vs : List Value) (P Q : Commit → Bool) → AreWithout (marks_of (λ c. P c && not (Q c)) vs) (marks_of P vs) (marks_of Q vs)
+marks_without [] P Q zero = refl
+marks_without [] P Q (suc i) = refl
+marks_without (v ∷ vs) P Q zero = sym (holds_without P Q v)
+marks_without (v ∷ vs) P Q (suc i) = marks_without vs P Q i
 
-pub marks_both : (vs : List Value) (P Q : Commit → Bool) (new marks others : List Bool) → marks ≡ marks_of P vs → others ≡ marks_of Q vs → length new ≡ length marks → AreBoth new marks others → new ≡ marks_of (λ c. P c && Q c) vs
-marks_both vs P Q new marks others e f l h =
-    marks_are new vs (λ c. P c && Q c) (as_long vs P new marks e l)
-    (λ i v k. h i ∙ (λ j. (ap (λ ms. slice_index_or ms i false) e ∙ mark_tells vs P i v false k) j && (ap (λ ms. slice_index_or ms i false) f ∙ mark_tells vs Q i v false k) j) ∙ holds_both P Q v)
-
-pub marks_without : (vs : List Value) (P Q : Commit → Bool) (new marks others : List Bool) → marks ≡ marks_of P vs → others ≡ marks_of Q vs → length new ≡ length marks → AreWithout new marks others → new ≡ marks_of (λ c. P c && not (Q c)) vs
-marks_without vs P Q new marks others e f l h =
-    marks_are new vs (λ c. P c && not (Q c)) (as_long vs P new marks e l)
-    (λ i v k. h i ∙ (λ j. (ap (λ ms. slice_index_or ms i false) e ∙ mark_tells vs P i v false k) j && not ((ap (λ ms. slice_index_or ms i false) f ∙ mark_tells vs Q i v false k) j)) ∙ holds_without P Q v)
+pub marks_both : (vs : List Value) (P Q : Commit → Bool) (i : ℕ)
+    → slice_index_or (marks_of (λ c. P c && Q c) vs) i false ≡ (slice_index_or (marks_of P vs) i false && slice_index_or (marks_of Q vs) i false)
+marks_both [] P Q zero = refl
+marks_both [] P Q (suc i) = refl
+marks_both (v ∷ vs) P Q zero = sym (holds_both P Q v)
+marks_both (v ∷ vs) P Q (suc i) = marks_both vs P Q i
 
 -- ---- what is listed
 

@@ -1,6 +1,6 @@
 -- What the calls answer of a repository: an object by a name under which it is held, or the fault. A value is told by the history of
 -- the repository, which is read under the names that its namer gives.
-use Rattle.std.specs.Prelude.{◌≡◌, ℕ, Bool, List, map, Option, Result, Ok}
+use Rattle.std.specs.Prelude.{◌≡◌, ℕ, Bool, List, length, map, Option, Result, Ok}
 use Rattle.std.specs.Borrow.{Bor}
 use Rattle.std.specs.declared.vec.Vec.{Vec}
 use Rattle.gx_model.specs.declared.objects.Kind.{Kind}
@@ -24,7 +24,7 @@ use Rattle.gx_rev.specs.Answers.{revision_with, shown_file, shown_by}
 use Rattle.gx_rev.specs.Objects.{commit_at, files_at, only, value_at}
 use Rattle.gx_rev.specs.RevFaults.{fault_of}
 use Rattle.gx_rev.specs.Views.{borrowed, shown_suffix}
-use Rattle.gx_rev.specs.Walking.{GivesNames, MarksWord, names_back}
+use Rattle.gx_rev.specs.Walking.{AreWithout, GivesNames, MarksWord, names_back}
 use Rattle.gx_rev.specs.declared.fault.RevFault.{RevFault}
 use Rattle.gx_rev.specs.declared.fault.WalkFault.{WalkFault}
 use Rattle.gx_rev.specs.declared.shown.Shown.{Shown}
@@ -139,6 +139,7 @@ module _ {N : Type 0} (name_of : N → Kind → Bytes → Bytes) (repo : N × Re
   abbrev pub MarksRange : RangeWord → List Bool × List Bool → List Bool × List Bool → Result (Unit {0}) RevFault → Type 0
   MarksRange word old new result = MarksWord (name_of repo.0) repo.1 word old new result
 
-  -- these are the names of the marked objects, the last one first
-  abbrev pub AreMarked : {A : Type 0} → List Bool → Vec Name A → Type 0
-  AreMarked marks names = map (λ n. n.bytes) names.items ≡ names_back (name_of repo.0) (values_of repo.1) marks
+  -- these are the names of the objects that the one list marks and the other doesn't, the last one first
+  abbrev pub AreMarkedAlone : {A : Type 0} → List Bool → List Bool → Vec Name A → Type 0
+  AreMarkedAlone included excluded names = (marks : List Bool) → length marks ≡ length included → AreWithout marks included excluded
+      → map (λ n. n.bytes) names.items ≡ names_back (name_of repo.0) (values_of repo.1) marks

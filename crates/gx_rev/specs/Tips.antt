@@ -40,11 +40,6 @@ TellsReach repository from to answer = answer ≡ reaches (commit_at repository 
 abbrev pub marks_from : Records → Name → List Bool
 marks_from repository from = marks_of (reaches (commit_at repository from)) (values_of repository)
 
--- the commits that both the one and the other reach are marked, and no other place
-abbrev pub marks_from_both : Records → Name → Name → List Bool
-marks_from_both repository left right =
-    marks_of (λ reached. reaches (commit_at repository left) reached && reaches (commit_at repository right) reached) (values_of repository)
-
 -- besides those that were, the commit of this name is marked
 abbrev pub MarksOne : Records → Name → List Bool → List Bool → Type 0
 MarksOne repository called old new = Marks repository (λ marked. marked ≡ commit_at repository called) old new
@@ -56,3 +51,8 @@ MarksParentsOf repository called old new = Marks repository (λ parent. IsParent
 -- the tips reach besides what its parents reach
 abbrev pub AddsParentsOf : Records → Name → List Bool → List Bool → Type 0
 AddsParentsOf repository called old new = AddsTips repository (some_reaches (parents_at repository called)) old new
+
+-- the tips reach besides what both the one and the other reach
+abbrev pub AddsCommon : Records → Name → Name → List Bool → List Bool → Type 0
+AddsCommon repository left right old new =
+    AddsTips repository (λ reached. reaches (commit_at repository left) reached && reaches (commit_at repository right) reached) old new

@@ -27,13 +27,12 @@ MarksWord name repository asked old new (Ok _) = (word : Word) × (word_denoted 
     × AddsTips repository (span word).included old.0 new.0 × AddsTips repository (span word).excluded old.1 new.1
 MarksWord name repository asked old new (Err e) = IsFaultOf (fault_of e) (word_denoted name (history_of repository) asked)
 
--- each place is marked that is in the one list or in the other; or in the one and not in the other
-abbrev pub AreEither : List Bool → List Bool → List Bool → Type 0
-AreEither new marks others = (place : ℕ) → slice_index_or new place false ≡ (slice_index_or marks place false || slice_index_or others place false)
+-- besides those that were, each place is marked that both the one list and the other mark
+abbrev pub HaveBoth : List Bool → List Bool → List Bool → List Bool → Type 0
+HaveBoth new marks left right =
+    (place : ℕ) → slice_index_or new place false ≡ (slice_index_or marks place false || (slice_index_or left place false && slice_index_or right place false))
 
-abbrev pub AreBoth : List Bool → List Bool → List Bool → Type 0
-AreBoth new marks others = (place : ℕ) → slice_index_or new place false ≡ (slice_index_or marks place false && slice_index_or others place false)
-
+-- the places that the one list marks and the other doesn't
 abbrev pub AreWithout : List Bool → List Bool → List Bool → Type 0
 AreWithout new marks others = (place : ℕ) → slice_index_or new place false ≡ (slice_index_or marks place false && not (slice_index_or others place false))
 

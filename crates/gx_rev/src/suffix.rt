@@ -21,7 +21,7 @@ use gx_text::decimal;
 use std::alloc::Allocator;
 
 /// A suffix of a revision. Source: gitrevisions(7), "Specifying Revisions".
-#[derive(Clone, Copy, Debug, PartialEq, Eq, Drop)]
+#[derive(Clone, Copy, Drop)]
 pub(crate) enum Suffix {
     /// `^n`: the nth parent, or the commit where n is 0.
     Parent(u64),

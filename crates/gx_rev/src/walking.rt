@@ -1,17 +1,17 @@
 //! The commits that range words list. Each word marks the tips of what it includes and of what it excludes; one pass then
 //! serves what all words include, and one what they exclude.
 
-ghost use Rattle.std.specs.Prelude.{◌≡◌, Bool, IfOk, List, length, map};
+ghost use Rattle.std.specs.Prelude.{◌≡◌, Bool, IfOk, List, OnOk, length, map};
 ghost use Rattle.gx_model.specs.declared.objects.Kind.TheVariants as kinds;
 ghost use Rattle.gx_model.specs.Revisions as words;
 ghost use Rattle.gx_model.specs.Revisions.Ranges.{nothing};
 ghost use Rattle.gx_model.specs.Laws.RepositoryLaws.{values_of};
-ghost use Rattle.gx_rev.specs.Calls.{AreMarked, ListsWords, MarksRange};
+ghost use Rattle.gx_rev.specs.Calls.{AreMarkedAlone, ListsWords, MarksRange};
 ghost use Rattle.gx_rev.specs.Objects.{IsHeldAs};
 ghost use Rattle.gx_rev.specs.RevFaults.{NeedsNoMemory};
 ghost use Rattle.gx_rev.specs.Views.{shown_range};
-ghost use Rattle.gx_rev.specs.Tips.{AreTips, HasTips, marks_from_both};
-ghost use Rattle.gx_rev.specs.Walking.{AreBoth, AreEither, AreListed, AreWithout, refused_at};
+ghost use Rattle.gx_rev.specs.Tips.{AddsCommon, AreTips, HasTips};
+ghost use Rattle.gx_rev.specs.Walking.{AreListed, HaveBoth, refused_at};
 
 use crate::objects::parent_of;
 use crate::reached::{mark, mark_parents, name_at, reached, spread, unmarked};
@@ -206,52 +206,42 @@ fn mark_apart<N: Namer, A: Allocator + Copy>(
     ensures { MarksRange N.name_of repo.now (words.Apart left.now right.now)
         (included.old, excluded.old) (included.new, excluded.new) result }
 {
-    repo.sound();
     let left = eval_commit(repo, left)?;
     let right = eval_commit(repo, right)?;
-    let common = reached_by_both(alloc, repo, &left, &right)?;
+    mark_common(alloc, repo, &left, &right, excluded)?;
     mark(repo, included, &left);
     mark(repo, included, &right);
-    include(excluded, &common);
     Ok(())
 }
 
-/// Marks of the commits that both of two held ones reach, by place.
-fn reached_by_both<N: Namer, A: Allocator + Copy>(
+/// Marks what both of two held commits reach.
+fn mark_common<N: Namer, A: Allocator + Copy>(
     alloc: A,
     repo: &Repo<N, A>,
     left: &Name,
     right: &Name,
-) -> Result<Vec<bool, A>, AllocError>
+    marks: &mut [bool],
+) -> Result<(), AllocError>
     requires left { IsHeldAs kinds.Commit repo.now.1 left.now }
     requires right { IsHeldAs kinds.Commit repo.now.1 right.now }
-    ensures { IfOk result (λ marks. marks.items ≡ marks_from_both repo.now.1 left.now right.now) }
+    requires long { length marks.old ≡ length (values_of repo.now.1) }
+    ensures { OnOk result (AddsCommon repo.now.1 left.now right.now marks.old marks.new) }
 {
-    let mut common = reached(alloc, repo, left)?;
-    let others = reached(alloc, repo, right)?;
-    keep(&mut common, &others);
-    Ok(common)
+    repo.sound();
+    let from_left = reached(alloc, repo, left)?;
+    let from_right = reached(alloc, repo, right)?;
+    mark_both(marks, &from_left, &from_right);
+    Ok(())
 }
 
-/// Keeps the marks that the others have.
-fn keep(marks: &mut [bool], kept: &[bool])
-    requires { length marks.old ≡ length kept.now }
-    ensures { AreBoth marks.new marks.old kept.now }
+/// Marks what both of these mark.
+fn mark_both(marks: &mut [bool], left: &[bool], right: &[bool])
+    requires left { length marks.old ≡ length left.now }
+    requires right { length marks.old ≡ length right.now }
+    ensures { HaveBoth marks.new marks.old left.now right.now }
 {
     for place in 0..marks.len() {
-        if !kept[place] {
-            marks[place] = false;
-        }
-    }
-}
-
-/// Marks what the others mark.
-fn include(marks: &mut [bool], others: &[bool])
-    requires { length marks.old ≡ length others.now }
-    ensures { AreEither marks.new marks.old others.now }
-{
-    for place in 0..marks.len() {
-        if others[place] {
+        if left[place] && right[place] {
             marks[place] = true;
         }
     }
@@ -270,38 +260,27 @@ fn names_listed<N: Namer, A: Allocator + Copy>(
 {
     spread(repo, included);
     spread(repo, excluded);
-    exclude(included, excluded);
-    let names = names_marked(alloc, repo, included)?;
+    let names = names_marked(alloc, repo, included, excluded)?;
     Ok(names)
 }
 
-/// Takes away the marks that the others have.
-fn exclude(marks: &mut [bool], removed: &[bool])
-    requires { length marks.old ≡ length removed.now }
-    ensures { AreWithout marks.new marks.old removed.now }
-{
-    for place in 0..marks.len() {
-        if removed[place] {
-            marks[place] = false;
-        }
-    }
-}
-
-/// The names of the marked objects, the last one first.
+/// The names of the objects that are marked as included and not as excluded, the last one first.
 fn names_marked<N: Namer, A: Allocator + Copy>(
     alloc: A,
     repo: &Repo<N, A>,
-    marks: &[bool],
+    included: &[bool],
+    excluded: &[bool],
 ) -> Result<Vec<Name, A>, AllocError>
-    requires { length marks.now ≡ length (values_of repo.now.1) }
-    ensures { IfOk result (AreMarked N.name_of repo.now marks.now) }
+    requires included { length included.now ≡ length (values_of repo.now.1) }
+    requires excluded { length excluded.now ≡ length (values_of repo.now.1) }
+    ensures { IfOk result (AreMarkedAlone N.name_of repo.now included.now excluded.now) }
 {
     repo.sound();
     let mut names = Vec::new(alloc);
-    let mut left = marks.len();
+    let mut left = included.len();
     while left > 0 {
         left -= 1;
-        if marks[left] {
+        if included[left] && !excluded[left] {
             names.push(name_at(repo, left))?;
         }
     }

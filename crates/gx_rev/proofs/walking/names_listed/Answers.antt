@@ -1,17 +1,16 @@
-use Rattle.std.proofs.Common.{◌∙◌, ap, sym}
+use Rattle.std.proofs.Common.{◌∙◌, sym}
+use Rattle.std.specs.Prelude.{◌&&◌, not, slice_index_or, false}
+use Rattle.gx_model.specs.Histories.Marks.{marks_of}
 use Rattle.gx_model.specs.Laws.RepositoryLaws.{values_of}
-use Rattle.gx_rev.specs.Walking.{names_back}
-use Rattle.gx_rev.proofs.WordMarks.{marks_without}
+use Rattle.gx_rev.proofs.WordMarks.{marks_long, marks_without}
 use Rattle.gx_rev.proofs.walking.names_listed.Goals as goal
 
-pub exclude-requires : goal.exclude-requires
-exclude-requires g c = c.spread.auto.marks ∙ c.requires.included.1.long ∙ sym (c.spread-2.auto.marks ∙ c.requires.excluded.1.long)
-
-pub names_marked-requires : goal.names_marked-requires
-names_marked-requires g c = c.exclude.auto.marks ∙ c.spread.auto.marks ∙ c.requires.included.1.long
+pub names_marked-requires-clause-included : goal.names_marked-requires-clause-included
+names_marked-requires-clause-included g c = c.spread.auto.marks ∙ c.requires.included.1.long
 
 pub returns : goal.returns
 returns g c =
     let vs = values_of c.args.repo.now.1 in
-    λ wanted unwanted starts others. c.in_ok-names.ensures ∙ ap (names_back (g.N.Namer.name_of c.args.repo.now.0) vs)
-    (marks_without vs wanted unwanted c.exclude.new.marks c.spread.new.marks c.spread-2.new.marks (c.spread.ensures wanted starts) (c.spread-2.ensures unwanted others) c.exclude.auto.marks c.exclude.ensures)
+    λ wanted unwanted starts others. c.in_ok-names.ensures (marks_of (λ made. wanted made && not (unwanted made)) vs)
+    (marks_long vs (λ made. wanted made && not (unwanted made)) ∙ sym (c.spread.auto.marks ∙ c.requires.included.1.long))
+    (λ i. marks_without vs wanted unwanted i ∙ sym (λ j. slice_index_or (c.spread.ensures wanted starts j) i false && not (slice_index_or (c.spread-2.ensures unwanted others j) i false)))

@@ -4,6 +4,7 @@ pub mod Answers
 pub mod PathSteps
 pub mod ShownPaths
 pub mod WordMarks
+pub mod WordShapes
 pub mod Listings
 pub mod OneAnswer
 pub mod OneKind

@@ -1,15 +1,27 @@
 -- The parts of range words that a word has in common with another.
-use Rattle.std.specs.Prelude.{◌==◌, ◌&&◌, length, Ok, Err, if◌then◌else◌}
+use Rattle.std.specs.Prelude.{Bool, true, false, Ok}
 use Rattle.gx_model.specs.Texts.{Bytes}
 use Rattle.gx_model.specs.Faults.{Given, ◌>>=◌}
-use Rattle.gx_model.specs.Revisions.{RangeWord, Revision, number_or_one, revision_of, side_of, without_parent}
-use Rattle.gx_model.specs.declared.faults.Fault.TheVariants.{BadRevision}
+use Rattle.gx_model.specs.Revisions.{RangeWord, Revision, number_or_one, revision_of, without_parent}
+use Rattle.gx_model.specs.Revisions as word
+use Rattle.gx_rev.specs.declared.range.Shape.{Shape}
+use Rattle.gx_rev.specs.declared.range.Shape.TheVariants.{WithAncestors, WithoutAncestors, AllParents, Alone}
 
--- both sides of the dots, of which one may be left out
-abbrev pub sides_of : Bytes → Bytes → Given (Revision × Revision)
-sides_of left right =
-    if length left == 0 && length right == 0 then Err BadRevision
-    else side_of left >>= λ a. side_of right >>= λ b. Ok (a, b)
+-- the word of two revisions, with three dots or with two
+abbrev pub two_sided : Bool → Revision → Revision → RangeWord
+two_sided true left right = word.Apart left right
+two_sided false left right = word.Between left right
+
+-- the word of one revision that has this shape
+abbrev pub one_sided : Shape → Revision → RangeWord
+one_sided WithAncestors revision = word.WithAncestors revision
+one_sided WithoutAncestors revision = word.WithoutAncestors revision
+one_sided AllParents revision = word.AllParents revision
+one_sided Alone revision = word.Alone revision
+
+-- that word of the revision that a text gives
+abbrev pub alone_of : Shape → Bytes → Given RangeWord
+alone_of shape text = revision_of text >>= λ r. Ok (one_sided shape r)
 
 -- the word r^-n of what stands before the `^-` and of the digits behind it
 abbrev pub without_one_of : Bytes → Bytes → Given RangeWord

@@ -3,9 +3,9 @@
 ghost use Rattle.std.specs.Prelude.{◌≡◌, ◌≤◌, ◌-◌, length};
 ghost use Rattle.std.specs.Option.{option_map};
 ghost use Rattle.gx_model.specs.Faults.{Gives};
-ghost use Rattle.gx_model.specs.Revisions.{cut_dots, digits_last, dotted, minus_of, minus_or_alone, range_of, side_of, undotted};
+ghost use Rattle.gx_model.specs.Revisions.{cut_dots, digits_last, dotted, minus_of, minus_or_alone, pair_of, range_of, side_of, undotted};
 ghost use Rattle.gx_rev.specs.RevFaults.{fault_of};
-ghost use Rattle.gx_rev.specs.Ranges.{sides_of, without_one_of};
+ghost use Rattle.gx_rev.specs.Ranges.{alone_of, two_sided, without_one_of};
 ghost use Rattle.gx_rev.specs.Views.{shown_range};
 
 use crate::suffix::number_or_one;
@@ -66,32 +66,31 @@ fn read_dotted<A: Allocator + Copy>(
 ) -> Result<Range<A>, RevFault>
     ensures { Gives fault_of shown_range result (dotted left.now right.now) }
 {
-    match right.split_first() {
-        Some((b'.', right)) => {
-            let (a, b) = read_sides(alloc, left, right)?;
-            Ok(Range::Apart(a, b))
-        }
-        _ => {
-            let (a, b) = read_sides(alloc, left, right)?;
-            Ok(Range::Between(a, b))
-        }
+    match right.strip_prefix(b".") {
+        Some(right) => read_pair(alloc, left, right, true),
+        None => read_pair(alloc, left, right, false),
     }
 }
 
-/// Two revisions, of which one may be left out.
-fn read_sides<A: Allocator + Copy>(
+/// The pair of two revisions, of which one may be left out: `a...b` where it is apart, and otherwise `a..b`.
+fn read_pair<A: Allocator + Copy>(
     alloc: A,
     left: &[u8],
     right: &[u8],
-) -> Result<(Revision<A>, Revision<A>), RevFault>
-    ensures { Gives fault_of (λ sides. sides) result (sides_of left.now right.now) }
+    is_apart: bool,
+) -> Result<Range<A>, RevFault>
+    ensures { Gives fault_of shown_range result (pair_of (two_sided is_apart) left.now right.now) }
 {
     if left.is_empty() && right.is_empty() {
         return Err(RevFault::BadRevision);
     }
     let a = read_side(alloc, left)?;
     let b = read_side(alloc, right)?;
-    Ok((a, b))
+    if is_apart {
+        Ok(Range::Apart(a, b))
+    } else {
+        Ok(Range::Between(a, b))
+    }
 }
 
 /// A revision, and HEAD where it is left out.
@@ -110,13 +109,13 @@ fn read_undotted<A: Allocator + Copy>(alloc: A, text: &[u8]) -> Result<Range<A>,
     ensures { Gives fault_of shown_range result (undotted text.now) }
 {
     if let Some(text) = text.strip_prefix(b"^") {
-        return Ok(Range::WithoutAncestors(Revision::read(alloc, text)?));
+        return read_alone(alloc, text, Shape::WithoutAncestors);
     }
     if let Some(text) = text.strip_suffix(b"^@") {
-        return Ok(Range::AllParents(Revision::read(alloc, text)?));
+        return read_alone(alloc, text, Shape::AllParents);
     }
     if let Some(text) = text.strip_suffix(b"^!") {
-        return Ok(Range::Alone(Revision::read(alloc, text)?));
+        return read_alone(alloc, text, Shape::Alone);
     }
     read_last(alloc, text)
 }
@@ -127,7 +126,33 @@ fn read_last<A: Allocator + Copy>(alloc: A, text: &[u8]) -> Result<Range<A>, Rev
 {
     match cut_minus(text) {
         Some((text, digits)) => read_without_one(alloc, text, digits),
-        None => Ok(Range::WithAncestors(Revision::read(alloc, text)?)),
+        None => read_alone(alloc, text, Shape::WithAncestors),
+    }
+}
+
+/// The shape of a word of one revision and nothing else.
+#[derive(Drop)]
+enum Shape {
+    WithAncestors,
+    WithoutAncestors,
+    AllParents,
+    Alone,
+}
+
+/// The word of this shape, of the revision that a text gives.
+fn read_alone<A: Allocator + Copy>(
+    alloc: A,
+    text: &[u8],
+    shape: Shape,
+) -> Result<Range<A>, RevFault>
+    ensures { Gives fault_of shown_range result (alone_of shape text.now) }
+{
+    let revision = Revision::read(alloc, text)?;
+    match shape {
+        Shape::WithAncestors => Ok(Range::WithAncestors(revision)),
+        Shape::WithoutAncestors => Ok(Range::WithoutAncestors(revision)),
+        Shape::AllParents => Ok(Range::AllParents(revision)),
+        Shape::Alone => Ok(Range::Alone(revision)),
     }
 }
 

@@ -74,7 +74,10 @@ impl Suffix {
             Suffix::Itself => Ok(*name),
             Suffix::Commit => of_kind(repo, &peeled(repo, name), Kind::Commit),
             Suffix::Blob => of_kind(repo, &peeled(repo, name), Kind::Blob),
-            Suffix::Tree => tree(repo, name),
+            Suffix::Tree => {
+                repo.sound();
+                tree_of(repo, name)
+            }
             Suffix::Tag => of_kind(repo, name, Kind::Tag),
         }
     }
@@ -128,17 +131,6 @@ fn ancestor<N: Namer, A: Allocator + Copy>(
     let commit = commit_of(repo, name)?;
     let ancestor = ancestor_of(repo, &commit, number)?;
     Ok(ancestor)
-}
-
-fn tree<N: Namer, A: Allocator + Copy>(repo: &Repo<N, A>, name: &Name) -> Result<Name, RevFault>
-    requires { IsHeld repo.now.1 name.now }
-    ensures value { GivesSuffixed repo.now.1 name.now model.as_tree result }
-    ensures held { IfOk result (IsHeld repo.now.1) }
-    ensures memory { NeedsNoMemory result }
-{
-    repo.sound();
-    let tree = tree_of(repo, name)?;
-    Ok(tree)
 }
 
 /// The object with tags peeled.

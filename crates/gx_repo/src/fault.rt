@@ -3,6 +3,7 @@ ghost use Rattle.gx_repo.specs.declared.fault.PublishFault.TheVariants as fault;
 
 use gx_model::FileFault;
 use std::alloc::AllocError;
+use std::fmt;
 use thiserror::Error;
 
 /// A growth was refused.
@@ -12,35 +13,49 @@ pub type OutOfMemory = AllocError;
 #[derive(Clone, Copy, Debug, Error, PartialEq, Eq)]
 pub enum AddFault {
     /// A growth was refused.
-    #[error("OutOfMemory")]
     OutOfMemory,
     /// The body isn't a canonical one of its kind. Or an entry names a tree without entries, or a path below the tree has
     /// more than 4,095 bytes.
-    #[error("BadObject")]
     BadObject,
     /// A link isn't held, or is held as another kind.
-    #[error("Dangling")]
     Dangling,
     /// The name is held, whatever its bytes.
-    #[error("DuplicateObject")]
     DuplicateObject,
+}
+
+impl fmt::Display for AddFault {
+    fn fmt<W: fmt::Write>(&self, f: &mut fmt::Formatter<W>) -> fmt::Result {
+        f.write_str(match self {
+            AddFault::OutOfMemory => "OutOfMemory",
+            AddFault::BadObject => "BadObject",
+            AddFault::Dangling => "Dangling",
+            AddFault::DuplicateObject => "DuplicateObject",
+        })
+    }
 }
 
 /// Why changes of refs are refused: what the first change that is refused has against it.
 #[derive(Clone, Copy, Debug, Error, PartialEq, Eq)]
 pub enum PublishFault {
     /// A growth was refused.
-    #[error("OutOfMemory")]
     OutOfMemory,
     /// The name isn't that of a ref.
-    #[error("BadRefName")]
     BadRefName,
     /// The object isn't held.
-    #[error("UnknownObject")]
     UnknownObject,
     /// The object is neither a commit nor a tag whose own name makes the ref's.
-    #[error("WrongKind")]
     WrongKind,
+}
+
+impl fmt::Display for PublishFault {
+    fn fmt<W: fmt::Write>(&self, f: &mut fmt::Formatter<W>) -> fmt::Result {
+        f.write_str(match self {
+            PublishFault::OutOfMemory => "OutOfMemory",
+            PublishFault::BadRefName => "BadRefName",
+            PublishFault::UnknownObject => "UnknownObject",
+            PublishFault::WrongKind => "WrongKind",
+        })
+    }
 }
 
 impl From<AllocError> for PublishFault {

@@ -43,9 +43,13 @@ impl<'a, A: Allocator + Copy> Iterator for Refs<'a, A> {
     ghost remaining = { item_count (λ rest. rest) };
 
     fn next(&mut self) -> Option<(&'a [u8], Name)> {
-        let (first, rest) = self.rest.split_first()?;
-        self.rest = rest;
-        Some((first.name.as_slice(), first.object))
+        match self.rest.split_first() {
+            Some((first, rest)) => {
+                self.rest = rest;
+                Some((first.name.as_slice(), first.object))
+            }
+            None => None,
+        }
     }
 }
 

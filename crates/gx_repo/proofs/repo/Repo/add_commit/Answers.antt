@@ -33,3 +33,15 @@ returns-clause-value g c =
     let text = subst (IsCommitText (commit_parts c.args.parts.now)) (sym c.deref.ensures.value) c.in-Ok.ensures in
     subst (λ p. IfOk c.add.result (λ name. name.bytes ≡ name_of (g.N.Namer.name_of c.args.self.now.0) (commit_value (commit_of_parts (named_values rs) p))))
     (commit_read (commit_parts c.args.parts.now) c.deref.result.now text) c.add.ensures.value
+
+pub returns-clause-namer : goal.returns-clause-namer
+returns-clause-namer g c = c.add.ensures.namer
+
+pub returns-clause-refs : goal.returns-clause-refs
+returns-clause-refs g c = c.add.ensures.refs
+
+pub returns-clause-held : goal.returns-clause-held
+returns-clause-held g c = c.add.ensures.held
+
+pub returns-clause-keeps : goal.returns-clause-keeps
+returns-clause-keeps g c = c.add.ensures.keeps

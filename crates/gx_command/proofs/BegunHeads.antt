@@ -1,16 +1,18 @@
 -- What a line's words begin, by the first of them.
-use Rattle.std.proofs.Common.{◌≡◌, Bool, true, false, Result, Ok, Err, refl, sym, ◌∙◌, codes, inl, inr}
+use Rattle.std.proofs.Common.{◌≡◌, Bool, true, false, Result, Ok, Err, refl, sym, ap, ◌∙◌, codes, inl, inr}
 use Rattle.gx_model.specs.Texts.{Bytes}
 use Rattle.gx_model.specs.Faults.{Given, Gives, IsFaultOf, ◌>>=◌}
 use Rattle.gx_model.specs.declared.faults.Fault.TheVariants as model
 use Rattle.gx_model.specs.Streams.Items.{Stream}
 use Rattle.gx_model.specs.Streams.Commands as commands
-use Rattle.gx_model.specs.Streams.Grammar.{Words, bare, command_at, commit_at, feature_of, if_early, is_word, ref_of, reset_at, rest_of, tag_at, tag_of}
+use Rattle.gx_model.specs.Streams.Grammar.{Read, Words, bare, command_at, commit_at, feature_of, if_early, is_word, ref_of, reset_at, rest_of, tag_at, tag_of}
 use Rattle.gx_command.specs.Ahead.{Fails}
 use Rattle.gx_command.specs.CommandFaults.{fault_of}
 use Rattle.gx_command.specs.Heads.{Begins, BeginsWhole, MayBeWhole, begun, early_feature, early_rest, is_left_out, name_at, ref_named}
 use Rattle.gx_command.specs.Lines.{bare_as}
-use Rattle.gx_command.specs.Views.{shown_command}
+use Rattle.gx_command.specs.Views.{shown_change, shown_command}
+use Rattle.gx_command.specs.declared.commands.Change.{Change}
+use Rattle.gx_command.specs.declared.commands.Change.TheVariants as changes
 use Rattle.gx_command.specs.declared.commands.Command.{Command}
 use Rattle.gx_command.specs.declared.commands.Command.TheVariants as own
 use Rattle.gx_command.specs.declared.fault.CommandFault.{CommandFault}
@@ -45,6 +47,15 @@ begins first s (Err f) g = fails_first f first (λ h. begun h s) g
 pub is_whole : {A : Type 0} (first : Given (Command A)) (s : Stream) (q : Result (Command A) CommandFault) → Gives fault_of (λ x. x) q first → BeginsWhole s q (first >>= λ x. Ok (shown_command x, s))
 is_whole first s (Ok x) g = rw g refl
 is_whole first s (Err f) g = fails_first f first (λ x. Ok (shown_command x, s)) g
+
+-- a change, with what is left
+abbrev made : commands.Change → Stream → Read commands.Change
+made change s = Ok (change, s)
+
+-- a line that clears all files has no rest
+pub cleared : {A : Type 0} (w : Words) (s : Stream) (x : Change A) → bare_as {Y = Change A} changes.Clear w ≡ Ok x → (bare w >>= λ u. made commands.Clear s) ≡ made (shown_change x) s
+cleared {A} w s x h =
+    sym (regrouped {B = Change A} (bare w) (λ u. Ok changes.Clear) (λ x. made (shown_change x) s)) ∙ ap (λ (g : Given (Change A)). g >>= λ x. made (shown_change x) s) h
 
 -- ---- the first words
 

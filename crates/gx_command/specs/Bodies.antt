@@ -16,6 +16,7 @@ use Rattle.gx_command.specs.declared.change_lines.ChangeLine.{ChangeLine}
 use Rattle.gx_command.specs.declared.bodies.Links.{Links}
 use Rattle.gx_command.specs.declared.bodies.Written.{Written}
 
+-- who wrote a commit, and what, as the model has them
 abbrev pub shown_written : {A : Type 0} → Written A → Option Bytes × (Bytes × (Option Bytes × Bytes))
 shown_written w = (option_map shown_ident w.author, (w.committer.bytes.items, (option_map shown_encoding w.encoding, w.message.items)))
 
@@ -29,6 +30,7 @@ written_at s = do
   message ← block encoding.1
   Ok ((author.0, (committer.0, (encoding.0, message.0))), message.1)
 
+-- the parents and the changes of a commit, as the model has them
 abbrev pub shown_links : {A : Type 0} → Links A → Option command.CommitIsh × (List command.CommitIsh × List command.Change)
 shown_links l = (option_map shown_commit_ish l.from, (map shown_commit_ish l.merges.items, map shown_change l.changes.items))
 

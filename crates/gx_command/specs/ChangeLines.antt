@@ -13,13 +13,14 @@ use Rattle.gx_command.specs.declared.change_lines.ChangeLine.{ChangeLine}
 use Rattle.gx_command.specs.declared.change_lines.ChangeLine.TheVariants.{Whole, Modify}
 use Rattle.gx_command.specs.declared.modify_line.ModifyLine.{ModifyLine}
 
-abbrev pub shown_place : Place → Where
-shown_place (place.Mark n) = AtMark n
-shown_place (place.Name d) = AtName d.digits
-shown_place place.Block = AtBlock
+-- where a modify's bytes are, as the model has it
+abbrev pub shown_where : Place → Where
+shown_where (place.Mark n) = AtMark n
+shown_where (place.Name d) = AtName d.digits
+shown_where place.Block = AtBlock
 
 abbrev pub completed_modify : {A : Type 0} → ModifyLine A → Stream → Read model.Change
-completed_modify m s = bytes_from (shown_place m.place) s >>= λ b. Ok (model.Modify m.mode b.0 m.path, b.1)
+completed_modify m s = bytes_from (shown_where m.place) s >>= λ b. Ok (model.Modify m.mode b.0 m.path, b.1)
 
 -- the change of a line, with the items after the line
 abbrev pub completed : {A : Type 0} → ChangeLine A → Stream → Read model.Change

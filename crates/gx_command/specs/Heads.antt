@@ -53,6 +53,7 @@ BeginsWhole s (Err f) read = Fails f read
 abbrev pub early_rest : Bool → Words → Given Bytes
 early_rest early w = rest_of w >>= λ r. if_early early (Ok r)
 
+-- the feature of a line, which stands before every other command
 abbrev pub early_feature : Bool → Words → Given Feature
 early_feature early w = early_rest early w >>= feature_of
 

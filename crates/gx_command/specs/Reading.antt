@@ -100,8 +100,8 @@ over_of Ended = Some None
 over_of (Failed f) = Some (Some f)
 
 -- a reader in this state, ahead of which these items come, and at most so many
-abbrev pub shown_reader : State → Option Stream → ℕ → Seen
-shown_reader state items bound = record { commands = shown_commands state items; most = most_of state bound; over = over_of state }
+abbrev pub seen_commands : State → Option Stream → ℕ → Seen
+seen_commands state items bound = record { commands = shown_commands state items; most = most_of state bound; over = over_of state }
 
 -- the command that comes next, after some options
 abbrev pub or_missing : Options → Option model.Command × Stream → Read (Option model.Command)

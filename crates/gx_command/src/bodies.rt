@@ -9,7 +9,7 @@ ghost use Rattle.gx_model.specs.Streams.Grammar.{optional, needed, block, mark_o
 ghost use Rattle.gx_command.specs.Ahead.{ReadsOn, ReadsPlain, ReadsLine, Falls, FallsNot, to_come, most};
 ghost use Rattle.gx_command.specs.Bodies.{next_change, written_at, shown_written, shown_links, ChangeIn, TakesChange, signature_in, empty_line};
 ghost use Rattle.gx_command.specs.CommandFaults.{NeedsNoMemory, fault_of};
-ghost use Rattle.gx_command.specs.ChangeLines.{completed_modify, shown_place};
+ghost use Rattle.gx_command.specs.ChangeLines.{completed_modify, shown_where};
 ghost use Rattle.gx_command.specs.Places.{IsSuitedAs};
 ghost use Rattle.gx_command.specs.Views.{shown_ident, shown_encoding, shown_commit_ish, shown_data, shown_modify, shown_change, shown_blob, shown_commit, shown_tag, shown_reset};
 
@@ -137,7 +137,7 @@ impl<R: Source, A: Allocator + Copy> Ahead<R, A> {
         ensures reads { ReadsPlain (optional (codes "mark") mark_of) self.old self.new result }
         ensures falls { FallsNot (most self.old) (most self.new) result }
     {
-        self.optional(b"mark", |text| read_mark(text))
+        self.optional(b"mark", read_mark)
     }
 
     fn skip_oid(&mut self) -> Result<Option<()>, CommandFault>
@@ -235,7 +235,7 @@ impl<R: Source, A: Allocator + Copy> Ahead<R, A> {
     }
 
     fn data_ref(&mut self, place: Place) -> Result<DataRef<A>, CommandFault>
-        ensures reads { ReadsOn shown_data (bytes_from (shown_place place)) self.old self.new result }
+        ensures reads { ReadsOn shown_data (bytes_from (shown_where place)) self.old self.new result }
         ensures suits { IfOk result (IsSuitedAs place) }
         ensures falls { FallsNot (most self.old) (most self.new) result }
     {
@@ -277,7 +277,7 @@ impl<R: Source, A: Allocator + Copy> Ahead<R, A> {
         ensures reads { ReadsPlain unsigned self.old self.new result }
         ensures falls { FallsNot (most self.old) (most self.new) result }
     {
-        let _none = self.take(|item| refuse_signature(item))?;
+        let _none = self.take(refuse_signature)?;
         Ok(())
     }
 

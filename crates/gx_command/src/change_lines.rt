@@ -7,7 +7,7 @@ ghost use Rattle.gx_model.specs.Streams.Items.{Stream};
 ghost use Rattle.gx_model.specs.Texts.Paths.{is_quoted};
 ghost use Rattle.gx_model.specs.Streams.Grammar.{mode_of, where_of, suits, last_path, source_path, two_paths, modify_at, change_at, words_of};
 ghost use Rattle.gx_command.specs.CommandFaults.{NeedsNoMemory, fault_of};
-ghost use Rattle.gx_command.specs.ChangeLines.{shown_place, BeginsModify, BeginsChange};
+ghost use Rattle.gx_command.specs.ChangeLines.{shown_where, BeginsModify, BeginsChange};
 
 use crate::commands::Change;
 use crate::fault::CommandFault;
@@ -53,8 +53,7 @@ pub(crate) fn read_change<A: Allocator + Copy>(
             destination,
         }
     } else if words.is(b"deleteall") {
-        words.check_bare()?;
-        Change::Clear
+        words.bare(Change::Clear)?
     } else if words.is(b"N") {
         return Err(CommandFault::Unsupported);
     } else {
@@ -98,7 +97,7 @@ fn read_mode(text: &[u8]) -> Result<Mode, CommandFault>
 }
 
 fn read_place(text: &[u8]) -> Result<Place, CommandFault>
-    ensures place { Gives fault_of shown_place result (where_of text.now) }
+    ensures place { Gives fault_of shown_where result (where_of text.now) }
     ensures memory { NeedsNoMemory result }
 {
     if let Some((b':', digits)) = text.split_first() {
@@ -121,7 +120,7 @@ fn read_place(text: &[u8]) -> Result<Place, CommandFault>
 /// A gitlink is given by its digits alone.
 fn check_suits(mode: Mode, place: Place) -> Result<(), CommandFault>
     requires { IsTrue (is_file_mode mode) }
-    ensures suits { Gives fault_of (λ u. u) result (suits mode (shown_place place)) }
+    ensures suits { Gives fault_of (λ u. u) result (suits mode (shown_where place)) }
     ensures suited { OnOk result (IsTrue (is_suited_place mode place)) }
     ensures memory { NeedsNoMemory result }
 {

@@ -4,11 +4,11 @@ ghost use Rattle.std.specs.Prelude.{◌≡◌};
 ghost use Rattle.std.specs.Option.{option_map};
 ghost use Rattle.gx_model.specs.Faults.{Gives};
 ghost use Rattle.gx_model.specs.Streams.Items.{Stream};
-ghost use Rattle.gx_model.specs.Streams.Grammar.{command_at, feature_of, rest_of};
+ghost use Rattle.gx_model.specs.Streams.Grammar.{command_at, rest_of};
 ghost use Rattle.gx_stream.specs.Reading.{item_of};
 ghost use Rattle.gx_command.specs.Ahead.{ReadsOn, Falls, FallsNot, to_come, most};
 ghost use Rattle.gx_command.specs.CommandFaults.{NeedsNoMemory, fault_of};
-ghost use Rattle.gx_command.specs.Heads.{Begins, BeginsIn, BeginsWhole, MayBeWhole, TakesStart, TakesHead, begun, early_feature, early_rest, first, is_left_out, name_at, ref_named};
+ghost use Rattle.gx_command.specs.Heads.{Begins, BeginsIn, BeginsWhole, MayBeWhole, TakesStart, TakesHead, begun, early_feature, early_rest, first, is_left_out};
 ghost use Rattle.gx_command.specs.Lines.{lent_bytes, shown_words};
 ghost use Rattle.gx_command.specs.Views.{shown_command};
 
@@ -118,11 +118,11 @@ fn read_head<A: Allocator + Copy>(
     if words.is(b"blob") {
         words.bare(Head::Blob)
     } else if words.is(b"commit") {
-        Ok(Head::Commit(read_ref(alloc, words)?))
+        Ok(Head::Commit(RefName::read(alloc, words)?))
     } else if words.is(b"tag") {
-        Ok(Head::Tag(read_tag(alloc, words)?))
+        Ok(Head::Tag(TagName::read(alloc, words)?))
     } else if words.is(b"reset") {
-        Ok(Head::Reset(read_ref(alloc, words)?))
+        Ok(Head::Reset(RefName::read(alloc, words)?))
     } else {
         Ok(Head::Whole(read_whole(alloc, is_early, words)?))
     }
@@ -142,7 +142,7 @@ fn read_whole<A: Allocator + Copy>(
     } else if words.is(b"progress") {
         Ok(Command::Progress(read_text(alloc, words)?))
     } else if words.is(b"feature") {
-        Ok(Command::Feature(read_early_feature(is_early, words)?))
+        Ok(Command::Feature(read_feature(is_early, words)?))
     } else if words.is(b"option") {
         Ok(Command::OptionLine(read_option(alloc, is_early, words)?))
     } else if words.is(b"done") {
@@ -152,18 +152,6 @@ fn read_whole<A: Allocator + Copy>(
     } else {
         Err(CommandFault::UnknownCommand)
     }
-}
-
-fn read_ref<A: Allocator + Copy>(alloc: A, words: Words<'_>) -> Result<RefName<A>, CommandFault>
-    ensures { Gives fault_of (λ name. name.bytes.items) result (ref_named (shown_words words.entry)) }
-{
-    RefName::read(alloc, words.rest()?)
-}
-
-fn read_tag<A: Allocator + Copy>(alloc: A, words: Words<'_>) -> Result<TagName<A>, CommandFault>
-    ensures { Gives fault_of (λ name. name.bytes.items) result (name_at (shown_words words.entry)) }
-{
-    TagName::read(alloc, words.rest()?)
 }
 
 fn read_text<A: Allocator + Copy>(alloc: A, words: Words<'_>) -> Result<Vec<u8, A>, CommandFault>
@@ -180,12 +168,6 @@ fn read_option<A: Allocator + Copy>(
     ensures { Gives fault_of (λ v. v.items) result (early_rest is_early (shown_words words.entry)) }
 {
     Ok(Vec::from_slice(alloc, early_rest(is_early, words)?)?)
-}
-
-fn read_early_feature(is_early: bool, words: Words<'_>) -> Result<Feature, CommandFault>
-    ensures { Gives fault_of (λ f. f) result (early_feature is_early (shown_words words.entry)) }
-{
-    read_feature(early_rest(is_early, words)?)
 }
 
 /// The rest of an option, which stands before every other command.
@@ -208,10 +190,11 @@ fn is_left_out(words: Words<'_>) -> bool
     words.is(b"ls") || words.is(b"cat-blob") || words.is(b"get-mark") || words.is(b"alias")
 }
 
-fn read_feature(text: &[u8]) -> Result<Feature, CommandFault>
-    ensures feature { Gives fault_of (λ f. f) result (feature_of text.now) }
+fn read_feature(is_early: bool, words: Words<'_>) -> Result<Feature, CommandFault>
+    ensures feature { Gives fault_of (λ f. f) result (early_feature is_early (shown_words words.entry)) }
     ensures memory { NeedsNoMemory result }
 {
+    let text = early_rest(is_early, words)?;
     if text == b"done".as_slice() {
         Ok(Feature::Done)
     } else if text == b"date-format=raw".as_slice() {

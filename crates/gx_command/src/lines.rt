@@ -2,7 +2,7 @@
 
 ghost use Rattle.std.specs.Prelude.{◌≡◌};
 ghost use Rattle.gx_model.specs.Faults.{Gives};
-ghost use Rattle.gx_model.specs.Streams.Grammar.{words_of, is_word, rest_of, bare};
+ghost use Rattle.gx_model.specs.Streams.Grammar.{words_of, is_word, rest_of};
 ghost use Rattle.gx_stream.specs.Reading.{item_of};
 ghost use Rattle.gx_command.specs.CommandFaults.{NeedsNoMemory, fault_of};
 ghost use Rattle.gx_command.specs.Lines.{bare_as, lent_bytes, shown_words, shown_rest, rest_in};
@@ -46,17 +46,6 @@ impl<'a> Words<'a> {
         ensures memory { NeedsNoMemory result }
     {
         self.rest.ok_or(CommandFault::BadLine)
-    }
-
-    /// Refuses a line with a rest.
-    pub(crate) fn check_bare(self) -> Result<(), CommandFault>
-        ensures bare { Gives fault_of (λ u. u) result (bare (shown_words self.entry)) }
-        ensures memory { NeedsNoMemory result }
-    {
-        match self.rest {
-            Some(_) => Err(CommandFault::BadLine),
-            None => Ok(()),
-        }
     }
 
     /// The value that a line without a rest stands for. Refuses a line with one.

@@ -18,7 +18,7 @@ pub(crate) struct ModifyLine<A: Allocator> {
 }
 
 /// Where a modify's bytes are.
-#[derive(Clone, Copy, Drop)]
+#[derive(Clone, Copy)]
 pub(crate) enum Place {
     Mark(u64),
     Name(Digits),

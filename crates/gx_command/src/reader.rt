@@ -1,8 +1,7 @@
 //! The reader of commands.
 
-ghost use Rattle.std.specs.Prelude.{◌≡◌, ◌-◌, ◌^◌, ◌&&◌, ◌||◌, None};
+ghost use Rattle.std.specs.Prelude.{◌≡◌, ◌-◌, ◌^◌, None};
 ghost use Rattle.std.specs.Option.{option_map};
-ghost use Rattle.gx_model.specs.Streams.Grammar.{is_option, asks_done, is_done};
 ghost use Rattle.gx_command.specs.Ahead.{most, ReadsOn, Falls as FallsAhead};
 ghost use Rattle.gx_command.specs.Behind.{at_start};
 ghost use Rattle.gx_command.specs.Reading.{Reads, ReadsNoNullGitlink, Finishes, Falls, Repeats, commands_from, next_after, over_after, state_after};
@@ -17,7 +16,7 @@ use std::alloc::Allocator;
 use std::marker::Model;
 
 /// What options came so far.
-#[derive(Clone, Copy, Drop)]
+#[derive(Clone, Copy)]
 pub(crate) struct Options {
     /// No other command came.
     are_all: bool,
@@ -26,7 +25,7 @@ pub(crate) struct Options {
 }
 
 /// How far a reader has come: commands may come, none comes any more, or each call answers a fault.
-#[derive(Clone, Copy, Drop)]
+#[derive(Clone, Copy)]
 pub(crate) enum State {
     Open(Options),
     Ended,
@@ -43,11 +42,11 @@ pub struct CommandReader<R: Source, A: Allocator> {
 
 impl<R: Source, A: Allocator> Model for CommandReader<R, A> {
     ghost use Rattle.gx_command.specs.Ahead.{to_come, most};
-    ghost use Rattle.gx_command.specs.Reading.{Seen, shown_reader};
+    ghost use Rattle.gx_command.specs.Reading.{Seen, seen_commands};
 
     ghost Value = { Seen };
 
-    ghost view = { λ r. shown_reader r.state (to_come r.ahead) (most r.ahead) };
+    ghost view = { λ r. seen_commands r.state (to_come r.ahead) (most r.ahead) };
 }
 
 impl<R: Source, A: Allocator + Copy> CommandReader<R, A> {
@@ -136,30 +135,17 @@ impl Options {
     pub(crate) fn after<A: Allocator>(self, command: &Command<A>) -> State
         ensures { result ≡ state_after self (shown_command command.now) }
     {
-        if is_done(command) {
-            return State::Ended;
+        match command {
+            Command::Done => State::Ended,
+            Command::Feature(Feature::Done) => State::Open(Options {
+                needs_done: true,
+                ..self
+            }),
+            Command::Feature(_) | Command::OptionLine(_) => State::Open(self),
+            _ => State::Open(Options {
+                are_all: false,
+                ..self
+            }),
         }
-        State::Open(Options {
-            are_all: self.are_all && is_option(command),
-            needs_done: self.needs_done || asks_done(command),
-        })
     }
-}
-
-fn is_done<A: Allocator>(command: &Command<A>) -> bool
-    ensures { result ≡ is_done (shown_command command.now) }
-{
-    matches!(command, Command::Done)
-}
-
-fn is_option<A: Allocator>(command: &Command<A>) -> bool
-    ensures { result ≡ is_option (shown_command command.now) }
-{
-    matches!(command, Command::Feature(_) | Command::OptionLine(_))
-}
-
-fn asks_done<A: Allocator>(command: &Command<A>) -> bool
-    ensures { result ≡ asks_done (shown_command command.now) }
-{
-    matches!(command, Command::Feature(Feature::Done))
 }

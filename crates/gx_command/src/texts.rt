@@ -7,11 +7,13 @@ ghost use Rattle.gx_model.specs.Texts.Idents.{is_ident};
 ghost use Rattle.gx_model.specs.Texts.{is_line};
 ghost use Rattle.gx_model.specs.Histories.Values.{is_optional_encoding};
 ghost use Rattle.gx_model.specs.Texts.RefNames.{is_ref_name, is_tag_name};
-ghost use Rattle.gx_model.specs.Streams.Grammar.{ident_of, ref_of, tag_of, encoding_of, is_null, is_hex_digit, is_name};
+ghost use Rattle.gx_model.specs.Streams.Grammar.{ident_of, encoding_of, is_null, is_hex_digit, is_name};
 ghost use Rattle.gx_command.specs.CommandFaults.{fault_of};
+ghost use Rattle.gx_command.specs.Lines.{shown_words};
 ghost use Rattle.gx_command.specs.declared.fault.CommandFault.TheVariants.{OutOfMemory};
 
 use crate::fault::CommandFault;
+use crate::lines::Words;
 use gx_text::Ident;
 use std::alloc::Allocator;
 
@@ -53,10 +55,14 @@ pub struct Digits {
 }
 
 impl<A: Allocator + Copy> RefName<A> {
-    pub(crate) fn read(alloc: A, text: &[u8]) -> Result<RefName<A>, CommandFault>
-        ensures name { Gives fault_of (λ name. name.bytes.items) result (ref_of text.now) }
-        ensures memory { IsErrOf result OutOfMemory → IsOk (ref_of text.now) }
+    ghost use Rattle.gx_command.specs.Heads.{ref_named};
+
+    /// The ref that a line with these words names.
+    pub(crate) fn read(alloc: A, words: Words<'_>) -> Result<RefName<A>, CommandFault>
+        ensures name { Gives fault_of (λ name. name.bytes.items) result (ref_named (shown_words words.entry)) }
+        ensures memory { IsErrOf result OutOfMemory → IsOk (ref_named (shown_words words.entry)) }
     {
+        let text = words.rest()?;
         if !gx_text::is_ref_name(text) {
             return Err(CommandFault::BadRefName);
         }
@@ -66,9 +72,13 @@ impl<A: Allocator + Copy> RefName<A> {
 }
 
 impl<A: Allocator + Copy> TagName<A> {
-    pub(crate) fn read(alloc: A, text: &[u8]) -> Result<TagName<A>, CommandFault>
-        ensures { Gives fault_of (λ name. name.bytes.items) result (tag_of text.now) }
+    ghost use Rattle.gx_command.specs.Heads.{name_at};
+
+    /// The name of a tag that a line with these words names.
+    pub(crate) fn read(alloc: A, words: Words<'_>) -> Result<TagName<A>, CommandFault>
+        ensures { Gives fault_of (λ name. name.bytes.items) result (name_at (shown_words words.entry)) }
     {
+        let text = words.rest()?;
         let mut ref_name = Vec::from_slice(alloc, b"refs/tags/")?;
         ref_name.extend_from_slice(text)?;
         if !gx_text::is_ref_name(&ref_name) {

@@ -7,26 +7,26 @@ use Rattle.gx_command.proofs.heads.read_head.Goals as goal
 pub returns-then-is : goal.returns-then-is
 returns-then-is g c = λ s. rw (at_blob g.row.A.Denot c.args.is_early (shown_words c.args.words) s (sym c.is.ensures ∙ c.if-is.true)) (begins _ s _ c.bare.ensures.bare)
 
-pub returns-in_err-read_ref : goal.returns-in_err-read_ref
-returns-in_err-read_ref g c = λ s.
+pub returns-in_err-read : goal.returns-in_err-read
+returns-in_err-read g c = λ s.
     let p = err_from_is_err_and c.from_residual.result c.from_residual.ensures.1 in
-    rw (p.1, p.2, at_commit g.row.A.Denot c.args.is_early (shown_words c.args.words) s (sym c.is.ensures ∙ c.if-is.false) (sym c.is-else-is.ensures ∙ c.if-is-2.true)) (fails_first _ _ _ c.in_err-read_ref.ensures)
+    rw (p.1, p.2, at_commit g.row.A.Denot c.args.is_early (shown_words c.args.words) s (sym c.is.ensures ∙ c.if-is.false) (sym c.is-else-is.ensures ∙ c.if-is-2.true)) (fails_first _ _ _ c.in_err-read.ensures.name)
 
-pub returns-in_ok-read_ref : goal.returns-in_ok-read_ref
-returns-in_ok-read_ref g c = λ s. rw (at_commit g.row.A.Denot c.args.is_early (shown_words c.args.words) s (sym c.is.ensures ∙ c.if-is.false) (sym c.is-else-is.ensures ∙ c.if-is-2.true), c.in_ok-read_ref.ensures) refl
+pub returns-in_ok-read : goal.returns-in_ok-read
+returns-in_ok-read g c = λ s. rw (at_commit g.row.A.Denot c.args.is_early (shown_words c.args.words) s (sym c.is.ensures ∙ c.if-is.false) (sym c.is-else-is.ensures ∙ c.if-is-2.true), c.in_ok-read.ensures.name) refl
 
-pub returns-in_err-read_tag : goal.returns-in_err-read_tag
-returns-in_err-read_tag g c = λ s.
-    let p = err_from_is_err_and c.from_residual-in_err-read_tag.result c.from_residual-in_err-read_tag.ensures.1 in
-    rw (p.1, p.2, at_tag g.row.A.Denot c.args.is_early (shown_words c.args.words) s (sym c.is.ensures ∙ c.if-is.false) (sym c.is-else-is.ensures ∙ c.if-is-2.false) (sym c.is-else-is-2.ensures ∙ c.if-is-3.true)) (fails_first _ _ _ c.in_err-read_tag.ensures)
+pub returns-in_err-read-2 : goal.returns-in_err-read-2
+returns-in_err-read-2 g c = λ s.
+    let p = err_from_is_err_and c.from_residual-in_err-read-2.result c.from_residual-in_err-read-2.ensures.1 in
+    rw (p.1, p.2, at_tag g.row.A.Denot c.args.is_early (shown_words c.args.words) s (sym c.is.ensures ∙ c.if-is.false) (sym c.is-else-is.ensures ∙ c.if-is-2.false) (sym c.is-else-is-2.ensures ∙ c.if-is-3.true)) (fails_first _ _ _ c.in_err-read-2.ensures)
 
-pub returns-in_ok-read_tag : goal.returns-in_ok-read_tag
-returns-in_ok-read_tag g c = λ s. rw (at_tag g.row.A.Denot c.args.is_early (shown_words c.args.words) s (sym c.is.ensures ∙ c.if-is.false) (sym c.is-else-is.ensures ∙ c.if-is-2.false) (sym c.is-else-is-2.ensures ∙ c.if-is-3.true), c.in_ok-read_tag.ensures) refl
+pub returns-in_ok-read-2 : goal.returns-in_ok-read-2
+returns-in_ok-read-2 g c = λ s. rw (at_tag g.row.A.Denot c.args.is_early (shown_words c.args.words) s (sym c.is.ensures ∙ c.if-is.false) (sym c.is-else-is.ensures ∙ c.if-is-2.false) (sym c.is-else-is-2.ensures ∙ c.if-is-3.true), c.in_ok-read-2.ensures) refl
 
-pub returns-in_err-read_ref-2 : goal.returns-in_err-read_ref-2
-returns-in_err-read_ref-2 g c = λ s.
-    let p = err_from_is_err_and c.from_residual-in_err-read_ref-2.result c.from_residual-in_err-read_ref-2.ensures.1 in
-    rw (p.1, p.2, at_reset g.row.A.Denot c.args.is_early (shown_words c.args.words) s (sym c.is.ensures ∙ c.if-is.false) (sym c.is-else-is.ensures ∙ c.if-is-2.false) (sym c.is-else-is-2.ensures ∙ c.if-is-3.false) (sym c.is-else-is-3.ensures ∙ c.if-is-4.true)) (fails_first _ _ _ c.in_err-read_ref-2.ensures)
+pub returns-in_err-read-3 : goal.returns-in_err-read-3
+returns-in_err-read-3 g c = λ s.
+    let p = err_from_is_err_and c.from_residual-in_err-read-3.result c.from_residual-in_err-read-3.ensures.1 in
+    rw (p.1, p.2, at_reset g.row.A.Denot c.args.is_early (shown_words c.args.words) s (sym c.is.ensures ∙ c.if-is.false) (sym c.is-else-is.ensures ∙ c.if-is-2.false) (sym c.is-else-is-2.ensures ∙ c.if-is-3.false) (sym c.is-else-is-3.ensures ∙ c.if-is-4.true)) (fails_first _ _ _ c.in_err-read-3.ensures.name)
 
-pub returns-in_ok-read_ref-2 : goal.returns-in_ok-read_ref-2
-returns-in_ok-read_ref-2 g c = λ s. rw (at_reset g.row.A.Denot c.args.is_early (shown_words c.args.words) s (sym c.is.ensures ∙ c.if-is.false) (sym c.is-else-is.ensures ∙ c.if-is-2.false) (sym c.is-else-is-2.ensures ∙ c.if-is-3.false) (sym c.is-else-is-3.ensures ∙ c.if-is-4.true), c.in_ok-read_ref-2.ensures) refl
+pub returns-in_ok-read-3 : goal.returns-in_ok-read-3
+returns-in_ok-read-3 g c = λ s. rw (at_reset g.row.A.Denot c.args.is_early (shown_words c.args.words) s (sym c.is.ensures ∙ c.if-is.false) (sym c.is-else-is.ensures ∙ c.if-is-2.false) (sym c.is-else-is-2.ensures ∙ c.if-is-3.false) (sym c.is-else-is-3.ensures ∙ c.if-is-4.true), c.in_ok-read-3.ensures.name) refl

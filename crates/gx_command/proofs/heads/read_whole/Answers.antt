@@ -14,13 +14,13 @@ returns-in_err-read_text g c = λ s.
 pub returns-in_ok-read_text : goal.returns-in_ok-read_text
 returns-in_ok-read_text g c = λ s. rw (at_progress g.row.A.Denot c.args.is_early _ s c.requires (sym c.is.ensures ∙ c.if-is.false) (sym c.is-else-is.ensures ∙ c.if-is-2.true), c.in_ok-read_text.ensures) refl
 
-pub returns-in_err-read_early_feature : goal.returns-in_err-read_early_feature
-returns-in_err-read_early_feature g c = λ s.
-    let p = err_from_is_err_and c.from_residual-in_err-read_early_feature.result c.from_residual-in_err-read_early_feature.ensures.1 in
-    rw (p.1, p.2, at_feature g.row.A.Denot c.args.is_early _ s c.requires (sym c.is.ensures ∙ c.if-is.false) (sym c.is-else-is.ensures ∙ c.if-is-2.false) (sym c.is-else-is-2.ensures ∙ c.if-is-3.true)) (fails_first _ _ _ c.in_err-read_early_feature.ensures)
+pub returns-in_err-read_feature : goal.returns-in_err-read_feature
+returns-in_err-read_feature g c = λ s.
+    let p = err_from_is_err_and c.from_residual-in_err-read_feature.result c.from_residual-in_err-read_feature.ensures.1 in
+    rw (p.1, p.2, at_feature g.row.A.Denot c.args.is_early _ s c.requires (sym c.is.ensures ∙ c.if-is.false) (sym c.is-else-is.ensures ∙ c.if-is-2.false) (sym c.is-else-is-2.ensures ∙ c.if-is-3.true)) (fails_first _ _ _ c.in_err-read_feature.ensures.feature)
 
-pub returns-in_ok-read_early_feature : goal.returns-in_ok-read_early_feature
-returns-in_ok-read_early_feature g c = λ s. rw (at_feature g.row.A.Denot c.args.is_early _ s c.requires (sym c.is.ensures ∙ c.if-is.false) (sym c.is-else-is.ensures ∙ c.if-is-2.false) (sym c.is-else-is-2.ensures ∙ c.if-is-3.true), c.in_ok-read_early_feature.ensures) refl
+pub returns-in_ok-read_feature : goal.returns-in_ok-read_feature
+returns-in_ok-read_feature g c = λ s. rw (at_feature g.row.A.Denot c.args.is_early _ s c.requires (sym c.is.ensures ∙ c.if-is.false) (sym c.is-else-is.ensures ∙ c.if-is-2.false) (sym c.is-else-is-2.ensures ∙ c.if-is-3.true), c.in_ok-read_feature.ensures.feature) refl
 
 pub returns-in_err-read_option : goal.returns-in_err-read_option
 returns-in_err-read_option g c = λ s.

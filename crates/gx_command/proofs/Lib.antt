@@ -1,4 +1,5 @@
 pub mod TakenLines
+pub mod NeededLines
 pub mod TakenChanges
 pub mod TakenHeads
 pub mod BegunHeads

@@ -127,3 +127,18 @@ over_some o c = by (is_done (shown_command c)) where
 pub repeats_none : {A : Type 0} (over : Option (Option CommandFault)) (old new : Seen) (answer : Result (Option (Command A)) CommandFault) → None ≡ over → Repeats over old new answer
 repeats_none None old new answer e = tt
 repeats_none (Some last) old new answer e = absurd cc
+
+-- ---- the command that comes next, by the first that comes
+
+pub next_there : {A : Type 0} (o : Options) (c : Command A) (old new : Option Stream) → ahead.Reads (option_map shown_command) (first o.are_all) old new (Ok (Some c)) → ahead.Reads (option_map shown_command) (next_after o) old new (Ok (Some c))
+next_there o c None new h = tt
+next_there o c (Some s) new (t, is, e) = (t, is, ap (λ r. r >>= or_missing o) e)
+
+module _ (A : Type 0) (o : Options) where
+  pub next_none : (old new : Option Stream) → o.needs_done ≡ false → ahead.Reads {X = Option (Command A)} (option_map shown_command) (first o.are_all) old new (Ok None) → ahead.Reads {X = Option (Command A)} (option_map shown_command) (next_after o) old new (Ok None)
+  next_none None new plain h = tt
+  next_none (Some s) new plain (t, is, e) = (t, is, rw e (rw plain refl))
+
+  pub next_missing : (old new new' : Option Stream) → o.needs_done ≡ true → ahead.Reads {X = Option (Command A)} (option_map shown_command) (first o.are_all) old new (Ok None) → ahead.Reads {X = Option (Command A)} (option_map shown_command) (next_after o) old new' (Err own.MissingDone)
+  next_missing None new new' asks h = tt
+  next_missing (Some s) new new' asks (t, is, e) = inr (rw e (rw asks refl))

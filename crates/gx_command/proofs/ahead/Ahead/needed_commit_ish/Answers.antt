@@ -1,0 +1,13 @@
+use Rattle.std.proofs.lemmas.Result.{err_from_is_err_and}
+use Rattle.gx_model.specs.Streams.Grammar.{commit_ish_of}
+use Rattle.gx_command.specs.Views.{shown_commit_ish}
+use Rattle.gx_command.proofs.NeededLines.{needed_fails, needed_reads}
+use Rattle.gx_command.proofs.ahead.Ahead.needed_commit_ish.Goals as goal
+
+pub returns-in_err-commit_ish-clause-reads : goal.returns-in_err-commit_ish-clause-reads
+returns-in_err-commit_ish-clause-reads g c =
+    let p = err_from_is_err_and c.from_residual.result c.from_residual.ensures.1 in
+    rw (p.1, p.2) (needed_fails shown_commit_ish c.args.word.now commit_ish_of _ _ _ _ c.in_err-commit_ish.ensures.reads)
+
+pub returns-clause-reads : goal.returns-clause-reads
+returns-clause-reads g c = needed_reads shown_commit_ish c.args.word.now commit_ish_of _ _ _ _ c.ok_or.ensures.value c.in_ok-commit_ish.ensures.reads

@@ -8,7 +8,7 @@ use Rattle.gx_model.specs.Streams.Commands as commands
 use Rattle.gx_model.specs.Streams.Grammar.{Read, Words, bare, command_at, commit_at, feature_of, if_early, is_word, ref_of, reset_at, rest_of, tag_at, tag_of}
 use Rattle.gx_command.specs.Ahead.{Fails}
 use Rattle.gx_command.specs.CommandFaults.{fault_of}
-use Rattle.gx_command.specs.Heads.{Begins, BeginsWhole, MayBeWhole, begun, early_feature, early_rest, is_left_out, name_at, ref_named}
+use Rattle.gx_command.specs.Heads.{Begins, BeginsWhole, MayBeWhole, begun, early_feature, early_rest, is_left_out, name_at, option_of, progress_of, ref_named}
 use Rattle.gx_command.specs.Lines.{bare_as}
 use Rattle.gx_command.specs.Views.{shown_change, shown_command}
 use Rattle.gx_command.specs.declared.commands.Change.{Change}
@@ -48,6 +48,15 @@ pub is_whole : {A : Type 0} (first : Given (Command A)) (s : Stream) (q : Result
 is_whole first s (Ok x) g = rw g refl
 is_whole first s (Err f) g = fails_first f first (λ x. Ok (shown_command x, s)) g
 
+-- the command, with what is left
+abbrev pub whole : Stream → commands.Command → Read commands.Command
+whole s command = Ok (command, s)
+
+-- the answer is all of a command, seen as the model has it
+pub is_whole_of : {A : Type 0} (first : Given commands.Command) (s : Stream) (q : Result (Command A) CommandFault) → Gives fault_of shown_command q first → BeginsWhole s q (first >>= whole s)
+is_whole_of first s (Ok x) g = rw g refl
+is_whole_of first s (Err f) g = fails_first f first (whole s) g
+
 -- a change, with what is left
 abbrev made : commands.Change → Stream → Read commands.Change
 made change s = Ok (change, s)
@@ -81,17 +90,17 @@ module _ (A : Type 0) (early : Bool) (w : Words) (s : Stream) where
     unfolding command_at
     at_checkpoint checkpoint = rw (o.no_blob, o.no_commit, o.no_tag, o.no_reset, checkpoint) (sym (regrouped (bare w) (λ u. Ok own.Checkpoint) (λ x. Ok (shown_command x, s))))
 
-    pub at_progress : is_word w (codes "checkpoint") ≡ false → is_word w (codes "progress") ≡ true → command_at early w s ≡ (rest_of w >>= λ r. Ok (commands.Progress r, s))
+    pub at_progress : is_word w (codes "checkpoint") ≡ false → is_word w (codes "progress") ≡ true → command_at early w s ≡ (progress_of w >>= whole s)
     unfolding command_at
-    at_progress checkpoint progress = rw (o.no_blob, o.no_commit, o.no_tag, o.no_reset, checkpoint, progress) refl
+    at_progress checkpoint progress = rw (o.no_blob, o.no_commit, o.no_tag, o.no_reset, checkpoint, progress) (sym (regrouped (rest_of w) (λ r. Ok (commands.Progress r)) (whole s)))
 
     pub at_feature : is_word w (codes "checkpoint") ≡ false → is_word w (codes "progress") ≡ false → is_word w (codes "feature") ≡ true → command_at early w s ≡ (early_feature early w >>= λ f. Ok (commands.Asks f, s))
     unfolding command_at
     at_feature checkpoint progress feature = rw (o.no_blob, o.no_commit, o.no_tag, o.no_reset, checkpoint, progress, feature) (sym (regrouped (early_rest early w) feature_of (λ f. Ok (commands.Asks f, s)) ∙ early_first early (rest_of w) (λ r. feature_of r >>= λ f. Ok (commands.Asks f, s))))
 
-    pub at_option : is_word w (codes "checkpoint") ≡ false → is_word w (codes "progress") ≡ false → is_word w (codes "feature") ≡ false → is_word w (codes "option") ≡ true → command_at early w s ≡ (early_rest early w >>= λ r. Ok (commands.OptionLine r, s))
+    pub at_option : is_word w (codes "checkpoint") ≡ false → is_word w (codes "progress") ≡ false → is_word w (codes "feature") ≡ false → is_word w (codes "option") ≡ true → command_at early w s ≡ (option_of early w >>= whole s)
     unfolding command_at
-    at_option checkpoint progress feature option = rw (o.no_blob, o.no_commit, o.no_tag, o.no_reset, checkpoint, progress, feature, option) (sym (early_first early (rest_of w) (λ r. Ok (commands.OptionLine r, s))))
+    at_option checkpoint progress feature option = rw (o.no_blob, o.no_commit, o.no_tag, o.no_reset, checkpoint, progress, feature, option) (sym (regrouped (early_rest early w) (λ r. Ok (commands.OptionLine r)) (whole s) ∙ early_first early (rest_of w) (λ r. whole s (commands.OptionLine r))))
 
     pub at_done : is_word w (codes "checkpoint") ≡ false → is_word w (codes "progress") ≡ false → is_word w (codes "feature") ≡ false → is_word w (codes "option") ≡ false → is_word w (codes "done") ≡ true → command_at early w s ≡ (bare_as {Y = Command A} own.Done w >>= λ x. Ok (shown_command x, s))
     unfolding command_at

@@ -53,6 +53,14 @@ BeginsWhole s (Err f) read = Fails f read
 abbrev pub early_rest : Bool → Words → Given Bytes
 early_rest early w = rest_of w >>= λ r. if_early early (Ok r)
 
+-- progress, with the text after it
+abbrev pub progress_of : Words → Given model.Command
+progress_of w = rest_of w >>= λ r. Ok (model.Progress r)
+
+-- an option, with the text after it
+abbrev pub option_of : Bool → Words → Given model.Command
+option_of early w = early_rest early w >>= λ r. Ok (model.OptionLine r)
+
 -- the feature of a line, which stands before every other command
 abbrev pub early_feature : Bool → Words → Given Feature
 early_feature early w = early_rest early w >>= feature_of

@@ -4,11 +4,11 @@ ghost use Rattle.std.specs.Prelude.{◌≡◌};
 ghost use Rattle.std.specs.Option.{option_map};
 ghost use Rattle.gx_model.specs.Faults.{Gives};
 ghost use Rattle.gx_model.specs.Streams.Items.{Stream};
-ghost use Rattle.gx_model.specs.Streams.Grammar.{command_at, rest_of};
+ghost use Rattle.gx_model.specs.Streams.Grammar.{command_at};
 ghost use Rattle.gx_stream.specs.Reading.{item_of};
 ghost use Rattle.gx_command.specs.Ahead.{ReadsOn, Falls, FallsNot, to_come, most};
 ghost use Rattle.gx_command.specs.CommandFaults.{NeedsNoMemory, fault_of};
-ghost use Rattle.gx_command.specs.Heads.{Begins, BeginsIn, BeginsWhole, MayBeWhole, TakesStart, TakesHead, begun, early_feature, early_rest, first, is_left_out};
+ghost use Rattle.gx_command.specs.Heads.{Begins, BeginsIn, BeginsWhole, MayBeWhole, TakesStart, TakesHead, begun, early_feature, early_rest, first, is_left_out, option_of, progress_of};
 ghost use Rattle.gx_command.specs.Lines.{lent_bytes, shown_words};
 ghost use Rattle.gx_command.specs.Views.{shown_command};
 
@@ -140,11 +140,11 @@ fn read_whole<A: Allocator + Copy>(
     if words.is(b"checkpoint") {
         words.bare(Command::Checkpoint)
     } else if words.is(b"progress") {
-        Ok(Command::Progress(read_text(alloc, words)?))
+        read_progress(alloc, words)
     } else if words.is(b"feature") {
         Ok(Command::Feature(read_feature(is_early, words)?))
     } else if words.is(b"option") {
-        Ok(Command::OptionLine(read_option(alloc, is_early, words)?))
+        read_option(alloc, is_early, words)
     } else if words.is(b"done") {
         words.bare(Command::Done)
     } else if is_left_out(words) {
@@ -154,20 +154,25 @@ fn read_whole<A: Allocator + Copy>(
     }
 }
 
-fn read_text<A: Allocator + Copy>(alloc: A, words: Words<'_>) -> Result<Vec<u8, A>, CommandFault>
-    ensures { Gives fault_of (λ v. v.items) result (rest_of (shown_words words.entry)) }
+fn read_progress<A: Allocator + Copy>(
+    alloc: A,
+    words: Words<'_>,
+) -> Result<Command<A>, CommandFault>
+    ensures { Gives fault_of shown_command result (progress_of (shown_words words.entry)) }
 {
-    Ok(Vec::from_slice(alloc, words.rest()?)?)
+    let text = words.rest()?;
+    Ok(Command::Progress(Vec::from_slice(alloc, text)?))
 }
 
 fn read_option<A: Allocator + Copy>(
     alloc: A,
     is_early: bool,
     words: Words<'_>,
-) -> Result<Vec<u8, A>, CommandFault>
-    ensures { Gives fault_of (λ v. v.items) result (early_rest is_early (shown_words words.entry)) }
+) -> Result<Command<A>, CommandFault>
+    ensures { Gives fault_of shown_command result (option_of is_early (shown_words words.entry)) }
 {
-    Ok(Vec::from_slice(alloc, early_rest(is_early, words)?)?)
+    let text = early_rest(is_early, words)?;
+    Ok(Command::OptionLine(Vec::from_slice(alloc, text)?))
 }
 
 /// The rest of an option, which stands before every other command.

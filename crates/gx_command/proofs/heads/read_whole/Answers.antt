@@ -1,34 +1,24 @@
 use Rattle.std.proofs.Common.{sym, ◌∙◌, refl, inr}
 use Rattle.std.proofs.lemmas.Result.{err_from_is_err_and}
-use Rattle.gx_command.proofs.BegunHeads.{at_checkpoint, at_done, at_feature, at_left_out, at_option, at_progress, at_unknown, fails_first, is_whole}
+use Rattle.gx_command.proofs.BegunHeads.{at_checkpoint, at_done, at_feature, at_left_out, at_option, at_progress, at_unknown, fails_first, is_whole, is_whole_of}
 use Rattle.gx_command.proofs.heads.read_whole.Goals as goal
 
 pub returns-then-is : goal.returns-then-is
 returns-then-is g c = λ s. rw (at_checkpoint g.row.A.Denot c.args.is_early _ s c.requires (sym c.is.ensures ∙ c.if-is.true)) (is_whole _ s _ c.bare.ensures.bare)
 
-pub returns-in_err-read_text : goal.returns-in_err-read_text
-returns-in_err-read_text g c = λ s.
-    let p = err_from_is_err_and c.from_residual.result c.from_residual.ensures.1 in
-    rw (p.1, p.2, at_progress g.row.A.Denot c.args.is_early _ s c.requires (sym c.is.ensures ∙ c.if-is.false) (sym c.is-else-is.ensures ∙ c.if-is-2.true)) (fails_first _ _ _ c.in_err-read_text.ensures)
-
-pub returns-in_ok-read_text : goal.returns-in_ok-read_text
-returns-in_ok-read_text g c = λ s. rw (at_progress g.row.A.Denot c.args.is_early _ s c.requires (sym c.is.ensures ∙ c.if-is.false) (sym c.is-else-is.ensures ∙ c.if-is-2.true), c.in_ok-read_text.ensures) refl
+pub returns-then-is-2 : goal.returns-then-is-2
+returns-then-is-2 g c = λ s. rw (at_progress g.row.A.Denot c.args.is_early _ s c.requires (sym c.is.ensures ∙ c.if-is.false) (sym c.is-else-is.ensures ∙ c.if-is-2.true)) (is_whole_of _ s _ c.read_progress.ensures)
 
 pub returns-in_err-read_feature : goal.returns-in_err-read_feature
 returns-in_err-read_feature g c = λ s.
-    let p = err_from_is_err_and c.from_residual-in_err-read_feature.result c.from_residual-in_err-read_feature.ensures.1 in
+    let p = err_from_is_err_and c.from_residual.result c.from_residual.ensures.1 in
     rw (p.1, p.2, at_feature g.row.A.Denot c.args.is_early _ s c.requires (sym c.is.ensures ∙ c.if-is.false) (sym c.is-else-is.ensures ∙ c.if-is-2.false) (sym c.is-else-is-2.ensures ∙ c.if-is-3.true)) (fails_first _ _ _ c.in_err-read_feature.ensures.feature)
 
 pub returns-in_ok-read_feature : goal.returns-in_ok-read_feature
 returns-in_ok-read_feature g c = λ s. rw (at_feature g.row.A.Denot c.args.is_early _ s c.requires (sym c.is.ensures ∙ c.if-is.false) (sym c.is-else-is.ensures ∙ c.if-is-2.false) (sym c.is-else-is-2.ensures ∙ c.if-is-3.true), c.in_ok-read_feature.ensures.feature) refl
 
-pub returns-in_err-read_option : goal.returns-in_err-read_option
-returns-in_err-read_option g c = λ s.
-    let p = err_from_is_err_and c.from_residual-in_err-read_option.result c.from_residual-in_err-read_option.ensures.1 in
-    rw (p.1, p.2, at_option g.row.A.Denot c.args.is_early _ s c.requires (sym c.is.ensures ∙ c.if-is.false) (sym c.is-else-is.ensures ∙ c.if-is-2.false) (sym c.is-else-is-2.ensures ∙ c.if-is-3.false) (sym c.is-else-is-3.ensures ∙ c.if-is-4.true)) (fails_first _ _ _ c.in_err-read_option.ensures)
-
-pub returns-in_ok-read_option : goal.returns-in_ok-read_option
-returns-in_ok-read_option g c = λ s. rw (at_option g.row.A.Denot c.args.is_early _ s c.requires (sym c.is.ensures ∙ c.if-is.false) (sym c.is-else-is.ensures ∙ c.if-is-2.false) (sym c.is-else-is-2.ensures ∙ c.if-is-3.false) (sym c.is-else-is-3.ensures ∙ c.if-is-4.true), c.in_ok-read_option.ensures) refl
+pub returns-then-is-4 : goal.returns-then-is-4
+returns-then-is-4 g c = λ s. rw (at_option g.row.A.Denot c.args.is_early _ s c.requires (sym c.is.ensures ∙ c.if-is.false) (sym c.is-else-is.ensures ∙ c.if-is-2.false) (sym c.is-else-is-2.ensures ∙ c.if-is-3.false) (sym c.is-else-is-3.ensures ∙ c.if-is-4.true)) (is_whole_of _ s _ c.read_option.ensures)
 
 pub returns-then-is-5 : goal.returns-then-is-5
 returns-then-is-5 g c = λ s. rw (at_done g.row.A.Denot c.args.is_early _ s c.requires (sym c.is.ensures ∙ c.if-is.false) (sym c.is-else-is.ensures ∙ c.if-is-2.false) (sym c.is-else-is-2.ensures ∙ c.if-is-3.false) (sym c.is-else-is-3.ensures ∙ c.if-is-4.false) (sym c.is-else-is-4.ensures ∙ c.if-is-5.true)) (is_whole _ s _ c.bare-then-is-5.ensures.bare)

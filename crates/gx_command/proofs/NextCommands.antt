@@ -142,3 +142,8 @@ module _ (A : Type 0) (o : Options) where
   pub next_missing : (old new new' : Option Stream) → o.needs_done ≡ true → ahead.Reads {X = Option (Command A)} (option_map shown_command) (first o.are_all) old new (Ok None) → ahead.Reads {X = Option (Command A)} (option_map shown_command) (next_after o) old new' (Err own.MissingDone)
   next_missing None new new' asks h = tt
   next_missing (Some s) new new' asks (t, is, e) = inr (rw e (rw asks refl))
+
+-- ---- a reader that failed
+
+pub repeats_failed : (A : Type 0) (f : CommandFault) (last : Option (Option CommandFault)) (old new : Seen) → Some (Some f) ≡ last → new ≡ old → Repeats {A = A} last old new (Err f)
+repeats_failed A f last old new e same = subst (λ l. Repeats {A = A} l old new (Err f)) e (refl, same)

@@ -1,7 +1,7 @@
-use Rattle.std.proofs.Common.{ap, rules}
+use Rattle.std.proofs.Common.{ap, refl}
 use Rattle.gx_command.specs.Reading.{Seen}
 use Rattle.gx_command.proofs.BroughtGitlinks.{none_brought}
-use Rattle.gx_command.proofs.NextCommands.{reads_some, reads_none, reads_fault, over_some, repeats_none}
+use Rattle.gx_command.proofs.NextCommands.{reads_some, reads_none, reads_fault, over_some, repeats_failed, repeats_none}
 use Rattle.gx_command.proofs.reader.CommandReader.next.Goals as goal
 
 pub returns-in-Ok-Some-clause-reads : goal.returns-in-Ok-Some-clause-reads
@@ -35,4 +35,4 @@ pub returns-in-Err-clause-repeats : goal.returns-in-Err-clause-repeats
 returns-in-Err-clause-repeats g c = repeats_none _ _ _ _ (rw c.in-Open.is at (ap (λ (v : Seen). v.over) c.self.view_is))
 
 pub returns-in-Failed-clause-repeats : goal.returns-in-Failed-clause-repeats
-returns-in-Failed-clause-repeats g c = search rules
+returns-in-Failed-clause-repeats g c = repeats_failed g.row.A.Denot _ _ _ _ (rw c.in-Failed.is at (ap (λ (v : Seen). v.over) c.self.view_is)) refl

@@ -9,7 +9,7 @@ use std::alloc::Global;
 
 mod rows;
 
-use rows::{CUT, MIXED, MIXED_ADAPTED, MIXED_REPORT, NOTHING, STREAMS};
+use rows::{CUT, MIXED, MIXED_ADAPTED, MIXED_REPORT, STREAMS};
 
 /// A text, what it is adapted to, and the report.
 type Row<'a> = (&'a [u8], &'a [u8], Report);
@@ -60,23 +60,6 @@ fn pieces_make_no_difference(rt: HostRuntime) {
     for piece in 1..65usize {
         assert!(rt; is_adapted(rt.alloc(), (MIXED, MIXED_ADAPTED, MIXED_REPORT), piece));
     }
-}
-
-const ADAPTED_REPORT: Report = Report {
-    notes: MIXED_REPORT.notes,
-    early_dates: MIXED_REPORT.early_dates,
-    ..NOTHING
-};
-
-#[test]
-fn adapted_stream_stays(rt: HostRuntime) {
-    assert!(rt;
-        is_adapted(
-            rt.alloc(),
-            (MIXED_ADAPTED, MIXED_ADAPTED, ADAPTED_REPORT),
-            4096
-        )
-    );
 }
 
 /// A text, whether its source fails then, what went out before the fault, and the fault.

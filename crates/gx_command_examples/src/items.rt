@@ -42,12 +42,12 @@ fn append_item(spelled: &mut Vec<u8>, item: Item<'_>) -> Result<(), AllocError> 
     Ok(())
 }
 
-/// Appends the next item, or a dot at the end, or the fault's name. Answers whether it was an item.
-fn append_next<R: Source, A: Allocator + Copy>(
+/// Appends an item, or a dot at the end, or the fault's name. Answers whether it was an item.
+fn append_told(
     spelled: &mut Vec<u8>,
-    reader: &mut ItemReader<R, A>,
+    told: Result<Option<Item<'_>>, StreamFault>,
 ) -> Result<bool, AllocError> {
-    let end = match reader.next() {
+    let end = match told {
         Ok(Some(item)) => {
             append_item(spelled, item)?;
             return Ok(true);
@@ -65,7 +65,7 @@ fn append_all<R: Source, A: Allocator + Copy>(
     reader: &mut ItemReader<R, A>,
 ) -> Result<(), AllocError> {
     for _ in 0..100u8 {
-        if !append_next(spelled, reader)? {
+        if !append_told(spelled, reader.next())? {
             break;
         }
     }

@@ -2,7 +2,7 @@
 
 use gx_command::CommandFault;
 use gx_where::{Place, WhereFault, place_of_command};
-use std::alloc::Allocator;
+use std::alloc::Global;
 
 /// A stream of a blob, a comment, empty lines, a commit and a line that is no command.
 const MIXED: &[u8] =
@@ -61,7 +61,7 @@ const REFUSALS: &[(&[u8], u64, WhereFault)] = &[
     ),
 ];
 
-fn is_told<A: Allocator + Copy>(alloc: A, row: Row) -> bool {
+fn is_told(alloc: Global, row: Row) -> bool {
     let (text, command, byte, line, first) = row;
     place_of_command(alloc, text, command) == Ok(Place { byte, line, first })
 }

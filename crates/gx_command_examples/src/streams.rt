@@ -25,21 +25,6 @@ type Answer = (u16, End);
 /// A stream, how many commands come, and what is after them.
 type Row<'a> = (&'a [u8], u16, End);
 
-/// Appends these parts, one after the other.
-fn append(text: &mut Vec<u8>, parts: &[&[u8]]) -> Result<(), AllocError> {
-    for part in parts {
-        text.extend_from_slice(part)?;
-    }
-    Ok(())
-}
-
-/// These parts, one after the other.
-fn joined(alloc: Global, parts: &[&[u8]]) -> Result<Vec<u8>, AllocError> {
-    let mut text = Vec::new(alloc);
-    append(&mut text, parts)?;
-    Ok(text)
-}
-
 /// A reader of a text in pieces of this size, behind which the source fails or ends.
 fn reader_of<'a, A: Allocator + Copy>(
     alloc: A,
@@ -114,7 +99,7 @@ fn is_answered_in_pieces(alloc: Global, text: &[u8], fails: bool, wanted: Answer
 /// Whether a row's answer comes of its stream behind this front.
 fn is_right(alloc: Global, front: &[u8], row: Row, fails: bool) -> bool {
     let (tail, count, end) = row;
-    match joined(alloc, &[front, tail]) {
+    match [front, tail].concat(alloc) {
         Ok(text) => is_answered_in_pieces(alloc, &text, fails, (count, end)),
         Err(_) => false,
     }
@@ -184,20 +169,10 @@ fn failed_read_is_no_end(rt: HostRuntime) -> Result<(), Fail> {
     check_rows(rt.alloc(), b"", FAILED, true)
 }
 
-/// Appends a commit that modifies a path of this length.
-fn append_path(text: &mut Vec<u8>, len: usize) -> Result<(), AllocError> {
-    append(text, &[HEAD, b"M 100644 :1 "])?;
-    for _ in 0..len {
-        text.push(b'a')?;
-    }
-    Ok(())
-}
-
 /// A commit that modifies a path of this length.
 fn with_path(alloc: Global, len: usize) -> Result<Vec<u8>, AllocError> {
-    let mut text = Vec::new(alloc);
-    append_path(&mut text, len)?;
-    Ok(text)
+    let path = b"a".as_slice().repeat(alloc, len)?;
+    [HEAD, b"M 100644 :1 ".as_slice(), path.as_slice()].concat(alloc)
 }
 
 /// Whether this comes of a commit that modifies a path of this length.

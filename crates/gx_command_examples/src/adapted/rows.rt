@@ -113,6 +113,16 @@ pub(super) const STREAMS: &[Row] = &[
         NOTHING,
     ),
     (MIXED, MIXED_ADAPTED, MIXED_REPORT),
+    // what is adapted already stays
+    (
+        MIXED_ADAPTED,
+        MIXED_ADAPTED,
+        Report {
+            notes: MIXED_REPORT.notes,
+            early_dates: MIXED_REPORT.early_dates,
+            ..NOTHING
+        },
+    ),
 ];
 
 /// Streams that end within a block or with a faulty one, and one whose source fails.

@@ -21,21 +21,6 @@ impl<'a> Source for Counting<'a> {
     }
 }
 
-/// Appends these bytes a thousand times.
-fn append_often(text: &mut Vec<u8>, bytes: &[u8]) -> Result<(), AllocError> {
-    for _ in 0..1000u16 {
-        text.extend_from_slice(bytes)?;
-    }
-    Ok(())
-}
-
-/// These bytes a thousand times.
-fn thousandfold(alloc: Global, bytes: &[u8]) -> Result<Vec<u8>, AllocError> {
-    let mut text = Vec::new(alloc);
-    append_often(&mut text, bytes)?;
-    Ok(text)
-}
-
 /// A reader of a source that counts its pulls.
 type CountingReader<'a> = ItemReader<Counting<'a>, Global>;
 
@@ -70,7 +55,7 @@ fn is_pulled_late(alloc: Global, text: &[u8], line: &[u8]) -> bool {
 
 #[test]
 fn more_is_pulled_only_for_the_next_item(rt: HostRuntime) -> Result<(), Fail> {
-    let text = thousandfold(rt.alloc(), b"progress a\n")?;
+    let text = b"progress a\n".as_slice().repeat(rt.alloc(), 1000)?;
     assert!(rt; is_pulled_late(rt.alloc(), &text, b"progress a"));
     Ok(())
 }
@@ -94,7 +79,7 @@ fn is_pulled_once(alloc: Global, text: &[u8]) -> bool {
 
 #[test]
 fn one_pull_serves_all_items_in_it(rt: HostRuntime) -> Result<(), Fail> {
-    let text = thousandfold(rt.alloc(), b"blob\ndata 3\na\nb\n")?;
+    let text = b"blob\ndata 3\na\nb\n".as_slice().repeat(rt.alloc(), 1000)?;
     assert!(rt; is_pulled_once(rt.alloc(), &text));
     Ok(())
 }

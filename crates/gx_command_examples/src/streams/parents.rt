@@ -1,6 +1,6 @@
 //! Commits with many parents.
 
-use super::{HEAD, answer, append, next, reader_of};
+use super::{HEAD, answer, next, reader_of};
 use gx_command::{Command, CommandFault, CommandReader, Commit, CommitIsh};
 use gx_text::Bytes;
 use std::alloc::{AllocError, Global};
@@ -22,18 +22,17 @@ fn append_merges(alloc: Global, text: &mut Vec<u8>, merges: usize) -> Result<(),
     Ok(())
 }
 
-/// Appends a commit from mark 1 that merges as many marks as asked for, from 2 on, and removes a file.
-fn append_merging(alloc: Global, text: &mut Vec<u8>, merges: usize) -> Result<(), AllocError> {
-    append(text, &[HEAD, b"from :1\n"])?;
-    append_merges(alloc, text, merges)?;
-    text.extend_from_slice(b"D a\n")
-}
-
-/// Such a commit.
+/// A commit from mark 1 that merges as many marks as asked for, from 2 on, and removes a file.
 fn merging(alloc: Global, merges: usize) -> Result<Vec<u8>, AllocError> {
-    let mut text = Vec::new(alloc);
-    append_merging(alloc, &mut text, merges)?;
-    Ok(text)
+    let mut lines = Vec::new(alloc);
+    append_merges(alloc, &mut lines, merges)?;
+    [
+        HEAD,
+        b"from :1\n".as_slice(),
+        lines.as_slice(),
+        b"D a\n".as_slice(),
+    ]
+    .concat(alloc)
 }
 
 /// Whether these are the marks from 2 on, as many as asked for.

@@ -1,10 +1,9 @@
 -- Going over a directory's entries: a step of each loop.
-use Rattle.std.proofs.Common.{◌≡◌, ℕ, ◌+◌, ◌<◌, ◌≤◌, List, [], ◌∷◌, ◌++◌, length, get_or, drop, take, refl, sym, ap, ◌∙◌, append_assoc}
+use Rattle.std.proofs.Common.{◌≡◌, ℕ, ◌+◌, ◌<◌, ◌≤◌, List, [], ◌∷◌, ◌++◌, length, get_or, drop, take, refl, sym, ap, ◌∙◌, append_assoc, subst}
 use Rattle.std.proofs.lemmas.List.{append-nil, drop_all, drop_more, map-append}
 use Rattle.std.specs.List.{insert}
 use Rattle.gx_model.specs.Texts.{Bytes}
-use Rattle.gx_tree.specs.Components.{bytes_of}
-use Rattle.gx_tree.specs.Nodes.{inserted, key, mark, others, with_kept}
+use Rattle.gx_tree.specs.Nodes.{Kept, inserted, mark}
 use Rattle.gx_tree.specs.Views.{shown_item, shown_entry, shown_entries}
 use Rattle.gx_tree.specs.declared.directory.Entry.{Entry}
 use Rattle.gx_tree.proofs.Searches.{IsPlace, inserted_at}
@@ -29,12 +28,10 @@ alike_more_behind es i r e out out' front l ir se so h =
 pub alike_all_behind : {A : Type 0} (es : List (Entry A)) (i : ℕ) (out front : List (Entry A)) → length es ≤ i → shown_entries out ++ shown_entries (drop i es) ≡ shown_entries front ++ shown_entries es → shown_entries out ≡ shown_entries front ++ shown_entries es
 alike_all_behind es i out front l h = sym (append-nil (shown_entries out)) ∙ ap (λ r. shown_entries out ++ shown_entries r) (sym (drop_all i es l)) ∙ h
 
--- an entry inserted at its place among the others
-pub with_kept_is : {A : Type 0} (t t' m : Bytes) (new : Entry A) (es copies copies' out : List (Entry A)) (i : ℕ) → t ≡ bytes_of new.component → t' ≡ bytes_of new.component → m ≡ mark (shown_item new.item) → copies' ≡ copies → out ≡ insert copies i new → shown_entries copies ≡ others t (shown_entries es) → i ≤ length copies' → IsPlace (t' ++ m) copies' i → shown_entries out ≡ with_kept (bytes_of new.component) (shown_item new.item) (shown_entries es)
-with_kept_is t t' m new es copies copies' out i et et' em es' eo h l p =
-    let place : IsPlace (key (bytes_of new.component) (shown_item new.item)) copies i = rw (et', em, es') at p in
-    let within : i ≤ length copies = rw es' at l in
-    let a : shown_entries out ≡ shown_entries (take i copies) ++ shown_entry new ∷ shown_entries (drop i copies) = rw eo (map-append shown_entry (take i copies) (new ∷ drop i copies)) in
-    let b = inserted_at (bytes_of new.component) (shown_item new.item) copies i within place in
-    let d : shown_entries copies ≡ others (bytes_of new.component) (shown_entries es) = rw et at h in
-    a ∙ sym b ∙ ap (inserted (bytes_of new.component) (shown_item new.item)) d
+-- an entry inserted at its place
+pub inserted_is : {A : Type 0} {c m : Bytes} {k : Kept} (new : Entry A) (es es' out : List (Entry A)) (i : ℕ) → shown_entry new ≡ (c, k) → m ≡ mark (shown_item new.item) → es' ≡ es → out ≡ insert es i new → i ≤ length es' → IsPlace (c ++ m) es' i → shown_entries out ≡ inserted c k (shown_entries es)
+inserted_is {c = c} {m = m} {k = k} new es es' out i en em ee eo l p =
+    let place : IsPlace (c ++ mark (shown_item new.item)) es i = rw (em, ee) at p in
+    let within : i ≤ length es = rw ee at l in
+    let is : shown_entries out ≡ shown_entries (take i es) ++ shown_entry new ∷ shown_entries (drop i es) = rw eo (map-append shown_entry (take i es) (new ∷ drop i es)) in
+    is ∙ ap (λ z. shown_entries (take i es) ++ z ∷ shown_entries (drop i es)) en ∙ sym (inserted_at c k es i within (subst (λ z. IsPlace (c ++ mark z.1) es i) en place))

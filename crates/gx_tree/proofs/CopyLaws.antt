@@ -1,6 +1,6 @@
 -- Copies and renames, by what stands at their source.
 use Rattle.std.proofs.Common.{◌≡◌, ◌≢◌, ◌<◌, ◌≤◌, true, false, cond, not, ◌&&◌, [], ◌∷◌, ◌++◌, map, length, drop, Option, Some, None, Result, inl, inr, refl, sym, ap, ◌∙◌, subst, arith, append-nil}
-use Rattle.std.specs.Prelude.{is_some, Err, IfErr, Ok}
+use Rattle.std.specs.Prelude.{is_some, Err, IfErr, IsErr, IsErrAnd, Ok}
 use Rattle.std.specs.List.{list_all}
 use Rattle.std.proofs.lemmas.Bool.{and_parts, cases_Bool, false≢true}
 use Rattle.gx_model.specs.declared.faults.Fault.{Fault}
@@ -10,8 +10,10 @@ use Rattle.gx_model.specs.Texts.Paths.{Path, begins, is_short, path_cmp}
 use Rattle.gx_model.specs.Histories.Files.{FileMap, Leaf, file_at, sub_map, under}
 use Rattle.gx_model.specs.Histories.Edits.{copied, copy_fault, moved, removed, renamed, with_all, without, without_line, unless}
 use Rattle.gx_model.proofs.FoundFiles.{at_moved}
+use Rattle.gx_tree.specs.Calls.{GivesFiles}
 use Rattle.gx_tree.specs.Copies.{graft_fault, is_file}
 use Rattle.gx_tree.specs.Lists.{below}
+use Rattle.gx_tree.specs.Named.{NamedTree}
 use Rattle.gx_tree.specs.Nodes.{Kept, IsInner, IsKept, file, folder, kept_map}
 use Rattle.gx_tree.specs.Steps.{grafted}
 use Rattle.gx_tree.specs.Faults.{fault_of, Refuses}
@@ -57,7 +59,7 @@ kept_file (folder f) h = ap is_some (no_root f h.1.paths)
 
 -- ---- what is kept at the source is put at the destination, unless it may not stand there
 
-copy_fault_is : (f : FileMap Bytes) (s d : Path) (k : Kept) → sub_map f s ≡ kept_map k → IsKept k → copy_fault f s d ≡ graft_fault k d
+pub copy_fault_is : (f : FileMap Bytes) (s d : Path) (k : Kept) → sub_map f s ≡ kept_map k → IsKept k → copy_fault f s d ≡ graft_fault k d
 copy_fault_is f s d k e h =
     let a = some_under s f (λ n. kept_some k h (sym e ∙ n)) in
     let b : is_some (file_at f s) ≡ is_file k = ap is_some (sym (file_there f s)) ∙ ap (λ m. is_some (file_at m [])) e ∙ kept_file k h in
@@ -94,30 +96,32 @@ if_refused P (Err e) h = h
 pub copied_there : (f : FileMap Bytes) (s d : Path) (k : Kept) → sub_map f s ≡ kept_map k → IsKept k → graft_fault k d ≡ None → copied f s d ≡ Ok (grafted d (kept_map k) f)
 copied_there f s d k e h fits = copied_is f s d k e h ∙ ap (λ o. unless o (grafted d (kept_map k) f)) fits
 
-pub refused_by : (o : Option Fault) (x : TreeFault) (g : FileMap Bytes) → Some (fault_of x) ≡ o → IsFaultOf (fault_of x) (unless o g)
-refused_by o x g e = subst (λ r. IsFaultOf (fault_of x) (unless r g)) e (itself (fault_of x) g)
-  where
-    itself : (f : Fault) (g : FileMap Bytes) → IsFaultOf f (unless (Some f) g)
-    itself model.OutOfMemory g = tt
-    itself model.NoSuchPath g = refl
-    itself model.RootNotTree g = refl
-    itself model.PathTooLong g = refl
-    itself _ g = refl
+pub renamed_there : (f : FileMap Bytes) (s d : Path) (k : Kept) → sub_map f s ≡ kept_map k → IsKept k → graft_fault k d ≡ None → renamed f s d ≡ Ok (grafted d (kept_map k) (removed f s))
+renamed_there f s d k e h fits = renamed_is f s d k e h ∙ ap (λ o. unless o (grafted d (kept_map k) (removed f s))) fits
 
--- a refusal is told whatever memory there is
-pub refuses_by : (Y : Type 0) (o : Option Fault) (x : TreeFault) (g : FileMap Bytes) → Some (fault_of x) ≡ o → Refuses {Y = Y} (unless o g) (Err x)
-refuses_by Y o x g e = subst (λ r. Refuses {Y = Y} (unless r g) (Err x)) e refl
+-- what is refused is refused for its cause, whatever memory there is, and the fault is passed on
+module _ (o : Option Fault) (g : FileMap Bytes) where
+  fault_told : (x : TreeFault) → o ≡ Some (fault_of x) → IsFaultOf (fault_of x) (unless o g)
+  fault_told x h = rw h (itself (fault_of x))
+    where
+      itself : (f : Fault) → IsFaultOf f (unless (Some f) g)
+      itself model.OutOfMemory = tt
+      itself model.NoSuchPath = refl
+      itself model.RootNotTree = refl
+      itself model.PathTooLong = refl
+      itself _ = refl
 
--- and where there is none, nothing is said
-pub refuses_none : (Y : Type 0) (o : Option Fault) (g : FileMap Bytes) (answer : Result Y TreeFault) → None ≡ o → Refuses {Y = Y} (unless o g) answer
-refuses_none Y o g answer e = subst (λ r. Refuses {Y = Y} (unless r g) answer) e tt
+  pub fault_passed : (r : Result NamedTree TreeFault) (x : TreeFault) → IsErr r → IsErrAnd r (λ e. e ≡ x) → o ≡ Some (fault_of x) → GivesFiles r (unless o g)
+  fault_passed (Ok t) x e i h = absurd (false≢true e)
+  fault_passed (Err y) x e i h = subst (λ z. IsFaultOf (fault_of z) (unless o g)) (sym i) (fault_told x h)
+
+  pub refusal_passed : (r : Result NamedTree TreeFault) (x : TreeFault) → IsErr r → IsErrAnd r (λ e. e ≡ x) → o ≡ Some (fault_of x) → Refuses (unless o g) r
+  refusal_passed (Ok t) x e i h = absurd (false≢true e)
+  refusal_passed (Err y) x e i h = rw h (ap fault_of i)
 
 -- nothing is at the source
-pub copied_none : (f : FileMap Bytes) (s d : Path) → sub_map f s ≡ [] → copied f s d ≡ Err model.NoSuchPath
-copied_none f s d e = rw (nothing_under s f e) refl
-
-pub renamed_none : (f : FileMap Bytes) (s d : Path) → sub_map f s ≡ [] → renamed f s d ≡ Err model.NoSuchPath
-renamed_none f s d e = rw (nothing_under s f e) refl
+pub fault_none : (f : FileMap Bytes) (s d : Path) → sub_map f s ≡ [] → copy_fault f s d ≡ Some model.NoSuchPath
+fault_none f s d e = rw (nothing_under s f e) refl
 
 -- ---- the root as destination takes what is kept whole
 

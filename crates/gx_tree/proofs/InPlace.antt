@@ -1,21 +1,19 @@
 -- A directory's entries where one takes the place of another.
-use Rattle.std.proofs.Common.{◌≡◌, ℕ, ◌+◌, ◌<◌, zero, suc, Bool, true, false, List, [], ◌∷◌, ◌++◌, length, get_or, drop, slice_set, Option, Some, None, ◌≤◌, inl, inr, refl, sym, ap, ◌∙◌, arith, subst}
-use Rattle.std.specs.List.{insert, list_all, AllByRecursion}
+use Rattle.std.proofs.Common.{◌≡◌, ℕ, ◌+◌, ◌<◌, zero, suc, Bool, true, false, List, [], ◌∷◌, ◌++◌, length, get_or, drop, slice_set, Option, Some, None, inl, inr, refl, sym, ap, ◌∙◌, arith, subst}
+use Rattle.std.specs.List.{list_all, AllByRecursion}
 use Rattle.std.specs.Prelude.{IsNone, is_some}
 use Rattle.std.proofs.lemmas.Bool.{cases_Bool, true≢false}
 use Rattle.gx_model.specs.Texts.{Bytes, same_bytes}
 use Rattle.gx_model.specs.Texts.Paths.{Path, is_component}
 use Rattle.gx_model.specs.Histories.Files.{Leaf}
-use Rattle.gx_tree.specs.Components.{bytes_of}
 use Rattle.gx_tree.specs.Nodes.{Kept, Level, IsAfter, IsKept, IsLevel, comes_before, file, files, inserted, kept_at, kept_map, key, mark, others, precedes, with_kept}
 use Rattle.gx_tree.specs.Searches.{IsEntryAt}
 use Rattle.gx_tree.specs.Steps.{grafted, kept_grafted}
 use Rattle.gx_tree.specs.Views.{shown_item, shown_entry, shown_entries}
 use Rattle.gx_tree.specs.declared.directory.Entry.{Entry}
-use Rattle.gx_tree.proofs.Copies.{with_kept_is}
 use Rattle.gx_tree.proofs.EditSteps.{Leaves, grafted_step}
 use Rattle.gx_tree.proofs.Levels.{key_trans}
-use Rattle.gx_tree.proofs.Searches.{IsPlace, after_at, kept_at_place, not_before_itself}
+use Rattle.gx_tree.proofs.Searches.{after_at, kept_at_place, not_before_itself}
 use Rattle.gx_tree.proofs.Texts.{bytes_same, cases_bytes, same_bytes_flip, same_itself}
 
 pub others_after : (a : Bytes × Kept) (es : Level) → AllByRecursion (IsAfter a) es → others a.0 es ≡ es
@@ -74,9 +72,7 @@ none_found None b e n = refl
 none_found (Some x) b e n = absurd (true≢false (sym e ∙ n))
 
 -- a new file at its place, in the directories that it needs, is an edit of the whole
-pub put_new : {A : Type 0} {c c' m : Bytes} {k : Kept} (p : Path) (i n : ℕ) (x : Leaf Bytes) (new : Entry A) (es ys zs out : List (Entry A)) → i < length p → IsKept (file x) → list_all is_component p ≡ true → IsLevel (shown_entries es) → c ≡ get_or p i [] → kept_at c (shown_entries es) ≡ None → shown_entry new ≡ (c, k) → k ≡ kept_grafted (drop (i + 1) p) (file x) None → ys ≡ es → zs ≡ ys → c' ≡ (shown_entry new).0 → m ≡ mark (shown_item new.item) → n ≤ length zs → IsPlace (c' ++ m) zs n → out ≡ insert ys n new → Leaves (grafted (drop i p) (kept_map (file x)) (files (shown_entries es))) (shown_entries out)
-put_new {A} {c} {c'} {m} {k} p i n x new es ys zs out l hx hp level ec none en ek ey ez ec' em within place eo =
-    let at : c ≡ bytes_of new.component = ap (λ z. z.0) (sym en) in
-    let others : shown_entries ys ≡ others c (shown_entries es) = ap shown_entries ey ∙ sym (others_same c (shown_entries es) none) in
-    let is = with_kept_is c c' m new es ys zs out n at ec' em ez eo others within place in
-    grafted_step p i (shown_entries es) (shown_entries out) (file x) None l hx hp refl level ec (sym at) refl refl none (ap (λ z. z.1) en ∙ ek) is
+pub put_new : {A : Type 0} {c : Bytes} {k : Kept} (p : Path) (i : ℕ) (x : Leaf Bytes) (es ys out : List (Entry A)) → i < length p → IsKept (file x) → list_all is_component p ≡ true → IsLevel (shown_entries es) → c ≡ get_or p i [] → kept_at c (shown_entries es) ≡ None → k ≡ kept_grafted (drop (i + 1) p) (file x) None → ys ≡ es → shown_entries out ≡ inserted c k (shown_entries ys) → Leaves (grafted (drop i p) (kept_map (file x)) (files (shown_entries es))) (shown_entries out)
+put_new {c = c} {k = k} p i x es ys out l hx hp level ec none ek ey eo =
+    let is : shown_entries out ≡ with_kept c k (shown_entries es) = eo ∙ ap (inserted c k) (ap shown_entries ey ∙ sym (others_same c (shown_entries es) none)) in
+    grafted_step p i (shown_entries es) (shown_entries out) (file x) None l hx hp refl level ec refl refl refl none ek is

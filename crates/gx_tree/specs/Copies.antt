@@ -1,17 +1,23 @@
 -- What a copy takes, and whether it may stand at a path.
-use Rattle.std.specs.Prelude.{Bool, ◌&&◌, true, false, if◌then◌else◌, Option, Some, None}
+use Rattle.std.specs.Prelude.{◌≡◌, Bool, ◌&&◌, true, false, if◌then◌else◌, Option, Some, None}
 use Rattle.gx_model.specs.declared.faults.Fault.{Fault}
 use Rattle.gx_model.specs.declared.faults.Fault.TheVariants as model
 use Rattle.gx_model.specs.Histories.Edits.{is_root}
+use Rattle.gx_model.specs.Histories.Files.{FileMap, sub_map}
+use Rattle.gx_model.specs.Texts.{Bytes}
 use Rattle.gx_model.specs.Texts.Paths.{Path}
 use Rattle.gx_tree.specs.Lists.{are_short, below}
-use Rattle.gx_tree.specs.Nodes.{Kept, file, folder, kept_map}
+use Rattle.gx_tree.specs.Nodes.{IsKept, Kept, file, folder, kept_map}
 use Rattle.gx_tree.specs.declared.copying.Held.{Held}
 use Rattle.gx_tree.specs.declared.copying.Held.TheVariants.{File, Folder}
 
 abbrev pub shown_held : {A : Type 0} → Held A → Kept
 shown_held (File m n) = file (m, n.bytes)
 shown_held (Folder d) = folder d.now.files
+
+-- k stands at or below the path
+abbrev pub IsHeldAt : FileMap Bytes → Path → Kept → Type 0
+IsHeldAt f p k = (sub_map f p ≡ kept_map k) × IsKept k
 
 abbrev pub is_file : Kept → Bool
 is_file (file x) = true

@@ -10,7 +10,7 @@ use Rattle.gx_model.specs.Texts.{Bytes}
 use Rattle.gx_model.specs.Texts.Paths.{Path}
 use Rattle.gx_object.specs.declared.name.Name.{Name}
 use Rattle.gx_tree.specs.Named.{NamedTree}
-use Rattle.gx_tree.specs.Nodes.{Kept, Level, file, files, kept_map}
+use Rattle.gx_tree.specs.Nodes.{Kept, Level, file, files, inserted, kept_map}
 use Rattle.gx_tree.specs.Steps.{grafted, is_made, kept_grafted, kept_removed, replaced}
 use Rattle.gx_tree.specs.Views.{shown_item, shown_item_if, shown_lent, shown_entries}
 use Rattle.gx_tree.specs.declared.directory.Entry.{Entry}
@@ -30,9 +30,9 @@ files_below entries = files (level_in entries)
 abbrev pub Replaces : {A : Type 0} → Bytes → Option Kept → List (Entry A) → Vec (Entry A) A → Type 0
 Replaces c k old new = shown_entries new.items ≡ replaced c k (shown_entries old)
 
--- the old entries, with this one in place of what stood at its component
-abbrev pub PutsEntry : {A : Type 0} → Bytes × Kept → List (Entry A) → Vec (Entry A) A → Type 0
-PutsEntry put old new = Replaces put.0 (Some put.1) old new
+-- the old entries, with the item at the component, at its place in the order
+abbrev pub InsertsItem : {A : Type 0} → Bytes → Item A → Vec (Entry A) A → Vec (Entry A) A → Type 0
+InsertsItem c item old new = shown_entries new.items ≡ inserted c (shown_item item) (shown_entries old.items)
 
 -- the old entries, with more behind them
 abbrev pub AddsEntries : {A : Type 0} → List (Entry A) → Vec (Entry A) A → Vec (Entry A) A → Type 0

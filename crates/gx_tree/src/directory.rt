@@ -1,8 +1,8 @@
 //! Directories: their entries in the order of Git's trees, each a file or a directory below. Entries never change while
 //! more than one directory has them, so trees share them.
-ghost use Rattle.std.specs.Prelude.{◌≡◌, ◌≤◌, [], IsTrue, ◌↔◌, IfOk, OnOk, None, Some, drop, length};
+ghost use Rattle.std.specs.Prelude.{◌≡◌, ◌≤◌, [], IsTrue, ◌↔◌, IfOk, OnErr, OnOk, None, Some, drop, length};
 ghost use Rattle.std.specs.Option.{option_map};
-ghost use Rattle.gx_tree.specs.Edits.{AddsEntries, PutsEntry, Replaces};
+ghost use Rattle.gx_tree.specs.Edits.{AddsEntries, InsertsItem, Replaces};
 ghost use Rattle.gx_tree.specs.Homes.{Keeps, IfThere, Borrowed, AreAtHome, EntriesKeepHome, IsItemAtHome, IsLentAtHome};
 ghost use Rattle.gx_tree.specs.Named.{IsAtHome, nothing};
 ghost use Rattle.gx_tree.specs.Nodes.{IsInner, IsLevel, mark};
@@ -236,22 +236,6 @@ fn share_into<A: Allocator + Copy>(
     Ok(())
 }
 
-/// The entries, with `new` in place of what stood at its component.
-pub(crate) fn with_entry<A: Allocator + Copy>(
-    alloc: A,
-    entries: &[Entry<A>],
-    new: Entry<A>,
-) -> Result<Vec<Entry<A>, A>, AllocError>
-    requires { IsLevel (shown_entries entries.now) }
-    ensures entries { IfOk result (PutsEntry (shown_entry new) entries.now) }
-    ensures home { IfOk result (EntriesKeepHome IsItemAtHome new.item entries.now) }
-{
-    let mut all = shared_others(alloc, entries, new.component())?;
-    let place = place_of(&all, new.component(), new.mark());
-    all.insert(place, new)?;
-    Ok(all)
-}
-
 /// The entries, with `item` at the component, or nothing there.
 pub(crate) fn with_item<A: Allocator + Copy>(
     alloc: A,
@@ -263,11 +247,30 @@ pub(crate) fn with_item<A: Allocator + Copy>(
     ensures entries { IfOk result (Replaces component.now (shown_item_if item) entries.now) }
     ensures home { IfOk result (EntriesKeepHome (IfThere IsItemAtHome) item entries.now) }
 {
+    let mut all = shared_others(alloc, entries, component)?;
     match item {
-        None => shared_others(alloc, entries, component),
+        None => Ok(all),
         Some(item) => {
-            let new = Entry::new(alloc, component, item)?;
-            with_entry(alloc, entries, new)
+            insert_entry(alloc, &mut all, component, item)?;
+            Ok(all)
         }
     }
+}
+
+/// Inserts an entry of a component where it stands in the order.
+pub(crate) fn insert_entry<A: Allocator + Copy>(
+    alloc: A,
+    entries: &mut Vec<Entry<A>, A>,
+    component: &[u8],
+    item: Item<A>,
+) -> Result<(), AllocError>
+    requires { IsLevel (shown_entries entries.now.items) }
+    ensures entries { OnOk result (InsertsItem component.now item entries.old entries.new) }
+    ensures unchanged { OnErr result (entries.new.items ≡ entries.old.items) }
+    ensures home { OnOk result (EntriesKeepHome IsItemAtHome item entries.old.items entries.new) }
+{
+    let new = Entry::new(alloc, component, item)?;
+    let place = place_of(entries, component, new.mark());
+    entries.insert(place, new)?;
+    Ok(())
 }

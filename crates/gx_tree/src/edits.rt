@@ -14,9 +14,9 @@ ghost use Rattle.gx_tree.specs.Views.{shown_item, shown_lent};
 ghost use Rattle.gx_model.specs.declared.objects.Mode.TheVariants as modes;
 ghost use Rattle.gx_tree.specs.declared.edits.Taken.TheVariants as taken;
 
-use crate::directory::{Directory, Entry, Item, folder_in, with_entry, with_item};
+use crate::directory::{Directory, Entry, Item, folder_in, insert_entry, with_item};
 use crate::reach::longer;
-use crate::search::{find, place_at, place_marked, place_of};
+use crate::search::{find, place_at, place_marked};
 use gx_object::{Mode, Name};
 use gx_text::TreePath;
 use std::alloc::{AllocError, Allocator};
@@ -58,8 +58,7 @@ impl<A: Allocator + Copy> Directory<A> {
         let component = path.component(depth);
         let old = find(self.entries.as_slice(), component);
         let item = item_grafted(alloc, old, path, depth, item)?;
-        let new = Entry::new(alloc, component, item)?;
-        let entries = with_entry(alloc, self.entries.as_slice(), new)?;
+        let entries = with_item(alloc, self.entries.as_slice(), component, Some(item))?;
         Directory::of(alloc, entries, None)
     }
 
@@ -275,9 +274,7 @@ fn insert_in<A: Allocator + Copy>(
         return Ok(false);
     };
     let item = new_item(alloc, path, depth, Item::File(mode, name))?;
-    let new = Entry::new(alloc, component, item)?;
-    let place = place_of(owned, new.component(), new.mark());
-    owned.insert(place, new)?;
+    insert_entry(alloc, owned, component, item)?;
     Ok(true)
 }
 

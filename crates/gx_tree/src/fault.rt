@@ -1,29 +1,35 @@
 //! Why a tree refuses a call.
-ghost use Rattle.std.specs.Prelude.{◌≡◌};
+ghost use Rattle.std.specs.Prelude.{◌≡◌, Some};
+ghost use Rattle.gx_model.specs.Faults.FaultWords.{word_of};
+ghost use Rattle.gx_tree.specs.Faults.{fault_of};
 
 use gx_model::Fault;
 use gx_store::StoreFault;
 use std::alloc::AllocError;
+use std::fmt;
 use thiserror::Error;
 
 /// Why an edit of a tree, its writing or its loading is refused.
 #[derive(Clone, Copy, Debug, Error, PartialEq, Eq)]
 pub enum TreeFault {
     /// A growth was refused.
-    #[error("OutOfMemory")]
     OutOfMemory,
     /// Nothing stands at or below the source of a copy or a rename.
-    #[error("NoSuchPath")]
     NoSuchPath,
     /// A file would be the root.
-    #[error("RootNotTree")]
     RootNotTree,
     /// A new path has more than 4,095 bytes.
-    #[error("PathTooLong")]
     PathTooLong,
     /// A tree to be stored has the name of another object.
-    #[error("NameHeld")]
     NameHeld,
+}
+
+impl fmt::Display for TreeFault {
+    ghost output = { λ fault. Some (word_of (fault_of fault)) };
+
+    fn fmt<W: fmt::Write>(&self, f: &mut fmt::Formatter<W>) -> fmt::Result {
+        f.write_str(Fault::from(*self).word())
+    }
 }
 
 impl From<AllocError> for TreeFault {

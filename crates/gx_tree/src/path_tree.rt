@@ -1,26 +1,23 @@
 //! Trees of files by their paths.
-ghost use Rattle.std.specs.Prelude.{◌≡◌, ◌≢◌, [], length, map, take, None, Ok, Err, IfOk, IsOk, OnErr, IsTrue};
+ghost use Rattle.std.specs.Prelude.{◌≡◌, ◌≢◌, [], length, map, take, Ok, Err, IfOk, IsOk, OnErr, IsTrue};
 ghost use Rattle.std.specs.Option.{option_map};
 ghost use Rattle.gx_model.specs.Histories.Edits.{copied, modified, removed, renamed};
 ghost use Rattle.gx_model.specs.Faults.{Gives};
 ghost use Rattle.gx_model.specs.Records.Growth.{tree_records};
 ghost use Rattle.gx_model.specs.Objects.{is_name};
-ghost use Rattle.gx_tree.specs.Calls.{Becomes, GivesFiles, LoadsFiles};
-ghost use Rattle.gx_tree.specs.Copies.{graft_fault, shown_held};
-ghost use Rattle.gx_tree.specs.Edits.{Grafts};
+ghost use Rattle.gx_tree.specs.Calls.{Becomes, LoadsFiles};
 ghost use Rattle.gx_tree.specs.Faults.{fault_of, Refuses};
 ghost use Rattle.gx_model.specs.Objects.NameMaps.{IsNameMap};
 ghost use Rattle.gx_tree.specs.HeldTrees.{HoldsTree, NamesHeldTree};
-ghost use Rattle.gx_tree.specs.Homes.{HoldsIn, Keeps, Both, IsHeldAtHome};
+ghost use Rattle.gx_tree.specs.Homes.{HoldsIn};
 ghost use Rattle.gx_tree.specs.Lists.{shown_listed};
 ghost use Rattle.gx_tree.specs.Named.{IsAtHome, KeepsHome, nothing};
-ghost use Rattle.gx_tree.specs.Nodes.{IsKept};
 ghost use Rattle.gx_tree.specs.Writes.{IsTreeName, StoresAll};
 ghost use Rattle.gx_tree.specs.Standings.{standing_of, standing_at};
 ghost use Rattle.gx_model.specs.declared.objects.Mode.TheVariants as modes;
 ghost use Rattle.gx_tree.specs.declared.fault.TreeFault.TheVariants as faults;
 
-use crate::copying::{Held, MOST_BYTES};
+use crate::copying::MOST_BYTES;
 use crate::directory::{Directory, Item};
 use crate::fault::TreeFault;
 use crate::loaded::Loaded;
@@ -28,7 +25,7 @@ use crate::root::Root;
 use gx_object::{Mode, Name, Namer};
 use gx_store::Store;
 use gx_text::TreePath;
-use std::alloc::{AllocError, Allocator};
+use std::alloc::Allocator;
 use std::marker::Model;
 
 /// What a path leads to.
@@ -204,7 +201,7 @@ impl<A: Allocator + Copy> PathTree<A> {
         if self.root.put_copy(self.alloc, source, destination)? {
             return Ok(());
         }
-        self.root = self.copied_root(source, destination)?;
+        self.root = self.root.copied(self.alloc, source, destination)?;
         Ok(())
     }
 
@@ -225,7 +222,7 @@ impl<A: Allocator + Copy> PathTree<A> {
         ensures unchanged { OnErr result (self.new ≡ self.old) }
         ensures home { KeepsHome self.old self.new }
     {
-        self.root = self.renamed_root(source, destination)?;
+        self.root = self.root.renamed(self.alloc, source, destination)?;
         Ok(())
     }
 
@@ -271,87 +268,6 @@ impl<A: Allocator + Copy> PathTree<A> {
         let (root, name) = self.root.written(self.alloc, store, true)?;
         self.root = root;
         Ok(name)
-    }
-
-    fn copied_root(
-        &self,
-        source: &TreePath<A>,
-        destination: &TreePath<A>,
-    ) -> Result<Root<A>, TreeFault>
-        ensures files { GivesFiles result (copied self.now.files source.now destination.now) }
-        ensures refused { Refuses (copied self.now.files source.now destination.now) result }
-        ensures names { IfOk result (λ root. IsNameMap root.files) }
-        ensures home { IfOk result (KeepsHome self.now) }
-    {
-        let Some(held) = self.root.held_at(source) else {
-            return Err(TreeFault::NoSuchPath);
-        };
-        if let Some(fault) = held.refusal(destination) {
-            return Err(fault);
-        }
-        Ok(placed(self.alloc, &self.root, &held, destination)?)
-    }
-
-    fn renamed_root(
-        &self,
-        source: &TreePath<A>,
-        destination: &TreePath<A>,
-    ) -> Result<Root<A>, TreeFault>
-        ensures files { GivesFiles result (renamed self.now.files source.now destination.now) }
-        ensures refused { Refuses (renamed self.now.files source.now destination.now) result }
-        ensures names { IfOk result (λ root. IsNameMap root.files) }
-        ensures home { IfOk result (KeepsHome self.now) }
-    {
-        let Some(held) = self.root.held_at(source) else {
-            return Err(TreeFault::NoSuchPath);
-        };
-        if let Some(fault) = held.refusal(destination) {
-            return Err(fault);
-        }
-        let rest = self.root.removed(self.alloc, source)?;
-        Ok(put_or_placed(self.alloc, rest, &held, destination)?)
-    }
-}
-
-// What `placed` answers, for a root that is given away: where no other tree has the directories on the path, a file is put
-// in them as they are.
-fn put_or_placed<A: Allocator + Copy>(
-    alloc: A,
-    mut rest: Root<A>,
-    held: &Held<'_, A>,
-    path: &TreePath<A>,
-) -> Result<Root<A>, AllocError>
-    requires kept { IsKept (shown_held held.now) }
-    requires checked { graft_fault (shown_held held.now) path.now ≡ None }
-    ensures files { IfOk result (Grafts path.now (shown_held held.now) rest) }
-    ensures home { IfOk result (Keeps (Both IsHeldAtHome IsAtHome) IsAtHome (held.now, rest)) }
-{
-    if let Held::File(mode, name) = held {
-        if rest.put(alloc, path, *mode, *name)? {
-            return Ok(rest);
-        }
-    }
-    placed(alloc, &rest, held, path)
-}
-
-// The root with what is held at a path, in place of what stands there, above it or below it.
-fn placed<A: Allocator + Copy>(
-    alloc: A,
-    rest: &Root<A>,
-    held: &Held<'_, A>,
-    path: &TreePath<A>,
-) -> Result<Root<A>, AllocError>
-    requires kept { IsKept (shown_held held.now) }
-    requires checked { graft_fault (shown_held held.now) path.now ≡ None }
-    ensures files { IfOk result (Grafts path.now (shown_held held.now) rest.now) }
-    ensures home { IfOk result (Keeps (Both IsHeldAtHome IsAtHome) IsAtHome (held.now, rest.now)) }
-{
-    if path.len() > 0 {
-        return rest.grafted(alloc, path, held.item()?);
-    }
-    match held {
-        Held::Folder(below) => Root::of_shared(below),
-        Held::File(_, _) => unreachable!(),
     }
 }
 

@@ -1,13 +1,15 @@
 //! The root of a tree: a directory, and none where there are no files.
-ghost use Rattle.std.specs.Prelude.{◌≡◌, ◌≢◌, ◌<◌, [], IfErr, IfOk, IsFalse, IsOk, IsTrue, OnOk, length, take};
+ghost use Rattle.std.specs.Prelude.{◌≡◌, ◌≢◌, ◌<◌, [], IfErr, IfOk, IsFalse, IsOk, IsTrue, None, OnOk, Some, length, take};
 ghost use Rattle.std.specs.Option.{option_map};
-ghost use Rattle.gx_model.specs.Histories.Edits.{copied, removed};
+ghost use Rattle.gx_model.specs.Histories.Edits.{copied, copy_fault, removed, renamed};
 ghost use Rattle.gx_model.specs.Histories.Files.{sub_map};
 ghost use Rattle.gx_model.specs.Records.Growth.{tree_records};
 ghost use Rattle.gx_model.specs.Objects.NameMaps.{IsNameMap};
-ghost use Rattle.gx_tree.specs.Calls.{IsMadeOf};
-ghost use Rattle.gx_tree.specs.Copies.{shown_held_if};
+ghost use Rattle.gx_text.specs.TreePaths.{is_path};
+ghost use Rattle.gx_tree.specs.Calls.{GivesFiles, IsMadeOf};
+ghost use Rattle.gx_tree.specs.Copies.{IsHeldAt, graft_fault, shown_held, shown_held_if};
 ghost use Rattle.gx_tree.specs.Edits.{Grafts, PutsFile};
+ghost use Rattle.gx_tree.specs.Faults.{Refuses, fault_of};
 ghost use Rattle.gx_tree.specs.Homes.{HoldsIn, Keeps, Both, IfThere, IsHeldAtHome, IsItemAtHome};
 ghost use Rattle.gx_tree.specs.Lists.{AppendsFiles, are_short};
 ghost use Rattle.gx_tree.specs.Named.{IsAtHome, KeepsHome, nothing};
@@ -180,6 +182,102 @@ impl<A: Allocator + Copy> Root<A> {
             return Ok(false);
         }
         self.put(alloc, destination, mode, name)
+    }
+
+    /// What stands at a path, if it may be put at another.
+    fn held_for(
+        &self,
+        source: &TreePath<A>,
+        destination: &TreePath<A>,
+    ) -> Result<Held<'_, A>, TreeFault>
+        ensures held { IfOk result (λ held. IsHeldAt self.now.files source.now (shown_held held)) }
+        ensures fits { IfOk result (λ held. graft_fault (shown_held held) destination.now ≡ None) }
+        ensures refused { IfErr result (λ fault. copy_fault self.now.files source.now destination.now ≡ Some (fault_of fault)) }
+        ensures path { IfOk result (λ _. IsTrue (is_path destination.now)) }
+        ensures home { IfOk result (Keeps IsAtHome IsHeldAtHome self.now) }
+    {
+        let Some(held) = self.held_at(source) else {
+            return Err(TreeFault::NoSuchPath);
+        };
+        match held.refusal(destination) {
+            Some(fault) => Err(fault),
+            None => Ok(held),
+        }
+    }
+
+    /// That with what stands at the source at the destination too.
+    pub(crate) fn copied(
+        &self,
+        alloc: A,
+        source: &TreePath<A>,
+        destination: &TreePath<A>,
+    ) -> Result<Root<A>, TreeFault>
+        ensures files { GivesFiles result (copied self.now.files source.now destination.now) }
+        ensures refused { Refuses (copied self.now.files source.now destination.now) result }
+        ensures names { IfOk result (λ root. IsNameMap self.now.files → IsNameMap root.files) }
+        ensures home { IfOk result (KeepsHome self.now) }
+    {
+        let held = self.held_for(source, destination)?;
+        Ok(self.placed(alloc, &held, destination)?)
+    }
+
+    /// That with what stood at the source at the destination instead.
+    pub(crate) fn renamed(
+        &self,
+        alloc: A,
+        source: &TreePath<A>,
+        destination: &TreePath<A>,
+    ) -> Result<Root<A>, TreeFault>
+        ensures files { GivesFiles result (renamed self.now.files source.now destination.now) }
+        ensures refused { Refuses (renamed self.now.files source.now destination.now) result }
+        ensures names { IfOk result (λ root. IsNameMap self.now.files → IsNameMap root.files) }
+        ensures home { IfOk result (KeepsHome self.now) }
+    {
+        let held = self.held_for(source, destination)?;
+        let rest = self.removed(alloc, source)?;
+        Ok(rest.put_or_placed(alloc, &held, destination)?)
+    }
+
+    // What `placed` answers, for a root that is given away: where no other tree has the directories on the path, a file is put
+    // in them as they are.
+    fn put_or_placed(
+        mut self,
+        alloc: A,
+        held: &Held<'_, A>,
+        path: &TreePath<A>,
+    ) -> Result<Root<A>, AllocError>
+        requires kept { IsKept (shown_held held.now) }
+        requires fits { graft_fault (shown_held held.now) path.now ≡ None }
+        ensures files { IfOk result (Grafts path.now (shown_held held.now) self) }
+        ensures home { IfOk result (Keeps (Both IsHeldAtHome IsAtHome) IsAtHome (held.now, self)) }
+    {
+        if let Held::File(mode, name) = held {
+            if self.put(alloc, path, *mode, *name)? {
+                return Ok(self);
+            }
+        }
+        self.placed(alloc, held, path)
+    }
+
+    // That with what is held at a path, in place of what stands there, above it or below it.
+    fn placed(
+        &self,
+        alloc: A,
+        held: &Held<'_, A>,
+        path: &TreePath<A>,
+    ) -> Result<Root<A>, AllocError>
+        requires kept { IsKept (shown_held held.now) }
+        requires fits { graft_fault (shown_held held.now) path.now ≡ None }
+        ensures files { IfOk result (Grafts path.now (shown_held held.now) self.now) }
+        ensures home { IfOk result (Keeps (Both IsHeldAtHome IsAtHome) IsAtHome (held.now, self.now)) }
+    {
+        if path.len() > 0 {
+            return self.grafted(alloc, path, held.item()?);
+        }
+        match held {
+            Held::Folder(below) => Root::of_shared(below),
+            Held::File(_, _) => unreachable!(),
+        }
     }
 
     /// That without what stands at or below a path.

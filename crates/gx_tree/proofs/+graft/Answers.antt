@@ -1,9 +1,9 @@
 use Rattle.std.proofs.Common.{◌+◌, drop, refl, sym, ap, ◌∙◌, arith, subst}
 use Rattle.std.proofs.lemmas.Bool.{and_parts}
 use Rattle.std.proofs.lemmas.Result.{IfOk-weaker}
-use Rattle.gx_tree.specs.Homes.{AreAtHome, IsItemAtHome}
+use Rattle.gx_tree.specs.Homes.{AreAtHome}
 use Rattle.gx_tree.specs.Named.{IsAtHome}
-use Rattle.gx_tree.specs.Nodes.{folder, kept_map, with_kept}
+use Rattle.gx_tree.specs.Nodes.{folder, kept_map}
 use Rattle.gx_tree.specs.Steps.{grafted}
 use Rattle.gx_tree.specs.Views.{shown_item, shown_lent, shown_entries}
 use Rattle.gx_tree.proofs.Below.{no_root_before}
@@ -14,21 +14,19 @@ use Rattle.gx_tree.proofs.+graft.Goals as goal
 pub directory::Directory::grafted-returns : goal.directory::Directory::grafted-returns
 directory::Directory::grafted-returns g t c =
     let es = c.self.inside.entries.value.items in
-    let new = c.in_ok-entries.ensures.entries ∙ ap (λ e. with_kept e.0 e.1 (shown_entries c.as_slice-2.result.now)) c.in_ok-new.ensures.seen in
-    let leaves = grafted_step c.args.path.now c.args.depth (shown_entries es) (shown_entries c.in_ok-entries.entries.items) (shown_item c.args.item) (shown_lent c.find-old.result) c.requires.within c.requires.kept (and_parts _ _ c.component-component.ensures.path).0 (files_same c.self.view_is) c.self.invariant.0 c.component-component.ensures.component refl (ap shown_entries (items_are_those c.as_slice.ensures.value c.deref.ensures)) (ap shown_entries (items_are_those c.as_slice-2.ensures.value c.deref-2.ensures)) c.find-old.ensures.kept c.in_ok-item.ensures.kept new in
+    let leaves = grafted_step c.args.path.now c.args.depth (shown_entries es) (shown_entries c.in_ok-entries.entries.items) (shown_item c.args.item) (shown_lent c.find-old.result) c.requires.within c.requires.kept (and_parts _ _ c.component-component.ensures.path).0 (files_same c.self.view_is) c.self.invariant.0 c.component-component.ensures.component refl (ap shown_entries (items_are_those c.as_slice.ensures.value c.deref.ensures)) (ap shown_entries (items_are_those c.as_slice-2.ensures.value c.deref-2.ensures)) c.find-old.ensures.kept c.in_ok-item.ensures.kept c.in_ok-entries.ensures.entries in
     record {
       files = IfOk-weaker c.of.result _ _ (λ d e. files_same e ∙ leaves.is) c.of.ensures;
       home = IfOk-weaker c.of.result _ _ (λ d e name rs h.
           let all : AreAtHome name rs es = entries_at_home name rs c.self.inside.remembered es c.args.self.now c.self.view_is c.self.invariant.0 h.1 in
           let old = c.find-old.ensures.home name rs (subst (AreAtHome name rs) (sym (items_are_those c.as_slice.ensures.value c.deref.ensures)) all) in
-          let item = subst (IsItemAtHome name rs) (sym c.in_ok-new.ensures.item) (c.in_ok-item.ensures.home name rs (h.0, old)) in
+          let item = c.in_ok-item.ensures.home name rs (h.0, old) in
           subst (IsAtHome name rs) (sym e) (made_at_home name rs c.in_ok-entries.entries.items leaves.level (c.in_ok-entries.ensures.home name rs (item, subst (AreAtHome name rs) (sym (items_are_those c.as_slice-2.ensures.value c.deref-2.ensures)) all)))) c.of.ensures;
     }
 
 pub directory::Directory::grafted-of-requires-clause-level : goal.directory::Directory::grafted-of-requires-clause-level
 directory::Directory::grafted-of-requires-clause-level g t c =
-    let new = c.in_ok-entries.ensures.entries ∙ ap (λ e. with_kept e.0 e.1 (shown_entries c.as_slice-2.result.now)) c.in_ok-new.ensures.seen in
-    let leaves = grafted_step c.args.path.now c.args.depth (shown_entries c.self.inside.entries.value.items) (shown_entries c.in_ok-entries.entries.items) (shown_item c.args.item) (shown_lent c.find-old.result) c.requires.within c.requires.kept (and_parts _ _ c.component-component.ensures.path).0 (files_same c.self.view_is) c.self.invariant.0 c.component-component.ensures.component refl (ap shown_entries (items_are_those c.as_slice.ensures.value c.deref.ensures)) (ap shown_entries (items_are_those c.as_slice-2.ensures.value c.deref-2.ensures)) c.find-old.ensures.kept c.in_ok-item.ensures.kept new in
+    let leaves = grafted_step c.args.path.now c.args.depth (shown_entries c.self.inside.entries.value.items) (shown_entries c.in_ok-entries.entries.items) (shown_item c.args.item) (shown_lent c.find-old.result) c.requires.within c.requires.kept (and_parts _ _ c.component-component.ensures.path).0 (files_same c.self.view_is) c.self.invariant.0 c.component-component.ensures.component refl (ap shown_entries (items_are_those c.as_slice.ensures.value c.deref.ensures)) (ap shown_entries (items_are_those c.as_slice-2.ensures.value c.deref-2.ensures)) c.find-old.ensures.kept c.in_ok-item.ensures.kept c.in_ok-entries.ensures.entries in
     leaves.level
 
 pub edits::item_grafted-returns-in_ok-grafted-in-Some : goal.edits::item_grafted-returns-in_ok-grafted-in-Some

@@ -2,7 +2,7 @@ use Rattle.std.specs.List.{AllByRecursion}
 use Rattle.gx_tree.specs.Homes.{AreAtHome, IsItemAtHome}
 use Rattle.gx_tree.specs.Named.{IsAtHome, IsHome, NamedTree, is_named}
 use Rattle.gx_tree.proofs.Homes.{all_joined, files_same, named_at_home}
-use Rattle.std.proofs.Common.{refl, ◌≡◌, ◌*◌, ◌<◌, map, sym, ap, ◌∙◌, subst, arith}
+use Rattle.std.proofs.Common.{◌≡◌, ◌*◌, ◌<◌, map, sym, ap, ◌∙◌, subst, arith}
 use Rattle.std.proofs.lemmas.List.{map-append}
 use Rattle.std.proofs.lemmas.Result.{IfOk-weaker, on_ok_weaker}
 use Rattle.gx_model.proofs.FileMapEdits.{parts_of}

@@ -1,15 +1,15 @@
 //! The root of a tree: a directory, and none where there are no files.
 ghost use Rattle.std.specs.Prelude.{◌≡◌, ◌≢◌, ◌<◌, [], IfErr, IfOk, IsFalse, IsOk, IsTrue, None, OnOk, Some, length, take};
 ghost use Rattle.std.specs.Option.{option_map};
-ghost use Rattle.gx_model.specs.Histories.Edits.{copied, copy_fault, removed, renamed};
+ghost use Rattle.gx_model.specs.Histories.Edits.{copied, removed, renamed};
 ghost use Rattle.gx_model.specs.Histories.Files.{sub_map};
 ghost use Rattle.gx_model.specs.Records.Growth.{tree_records};
 ghost use Rattle.gx_model.specs.Objects.NameMaps.{IsNameMap};
 ghost use Rattle.gx_text.specs.TreePaths.{is_path};
 ghost use Rattle.gx_tree.specs.Calls.{GivesFiles, IsMadeOf};
-ghost use Rattle.gx_tree.specs.Copies.{IsHeldAt, graft_fault, shown_held, shown_held_if};
+ghost use Rattle.gx_tree.specs.Copies.{IsCopyFault, IsHeldAt, graft_fault, shown_held, shown_held_if};
 ghost use Rattle.gx_tree.specs.Edits.{Grafts, PutsFile};
-ghost use Rattle.gx_tree.specs.Faults.{Refuses, fault_of};
+ghost use Rattle.gx_tree.specs.Faults.{Refuses};
 ghost use Rattle.gx_tree.specs.Homes.{HoldsIn, Keeps, Both, IfThere, IsHeldAtHome, IsItemAtHome};
 ghost use Rattle.gx_tree.specs.Lists.{AppendsFiles, are_short};
 ghost use Rattle.gx_tree.specs.Named.{IsAtHome, KeepsHome, nothing};
@@ -192,7 +192,7 @@ impl<A: Allocator + Copy> Root<A> {
     ) -> Result<Held<'_, A>, TreeFault>
         ensures held { IfOk result (λ held. IsHeldAt self.now.files source.now (shown_held held)) }
         ensures fits { IfOk result (λ held. graft_fault (shown_held held) destination.now ≡ None) }
-        ensures refused { IfErr result (λ fault. copy_fault self.now.files source.now destination.now ≡ Some (fault_of fault)) }
+        ensures refused { IfErr result (IsCopyFault self.now.files source.now destination.now) }
         ensures path { IfOk result (λ _. IsTrue (is_path destination.now)) }
         ensures home { IfOk result (Keeps IsAtHome IsHeldAtHome self.now) }
     {

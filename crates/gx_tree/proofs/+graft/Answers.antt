@@ -54,3 +54,9 @@ directory::Directory::of_item-returns g t c =
       files = IfOk-weaker c.grafted.result _ _ (λ d e. e ∙ ap (grafted (drop c.args.depth c.args.path.now) (kept_map (shown_item c.args.item))) (files_same none)) c.grafted.ensures.files;
       home = IfOk-weaker c.grafted.result _ _ (λ d keeps name rs h. keeps name rs (h, subst (IsAtHome name rs) (sym none) tt)) c.grafted.ensures.home;
     }
+
+pub edits::item_grafted-grafted-requires : goal.edits::item_grafted-grafted-requires
+edits::item_grafted-grafted-requires g t c κs within = (omega (arith, c.requires.within, c.decreases), (within, (omega (arith, c.requires.within, c.if-depth-length.false, c.len-length.ensures.length), c.requires.kept)))
+
+pub edits::item_grafted-of_item-requires : goal.edits::item_grafted-of_item-requires
+edits::item_grafted-of_item-requires g t c κs within = (omega (arith, c.requires.within, c.decreases), (within, (omega (arith, c.requires.within, c.if-depth-length.false, c.len-length.ensures.length), c.requires.kept)))

@@ -1,4 +1,4 @@
-use Rattle.std.proofs.Common.{◌+◌, ◌<◌, ◌≤◌, drop, length, Some, refl, sym, ap, ◌∙◌, arith, subst}
+use Rattle.std.proofs.Common.{◌+◌, ◌<◌, ◌≤◌, drop, length, Some, refl, sym, ap, ◌∙◌, arith, rules, subst}
 use Rattle.std.proofs.lemmas.Bool.{and_parts}
 use Rattle.std.proofs.lemmas.List.{drop_all}
 use Rattle.gx_tree.specs.Homes.{AreAtHome, IsItemAtHome}
@@ -59,3 +59,6 @@ pub directory::Item::put-returns-then-is_last-clause-kept : goal.directory::Item
 directory::Item::put-returns-then-is_last-clause-kept g t c = λ is.
     let l : length c.args.path.now ≤ c.args.depth + 1 = omega arith in
     ap (λ q. kept_grafted q (file (c.args.mode, c.args.name.bytes)) (Some (shown_item c.args.self.now))) (sym (drop_all (c.args.depth + 1) c.args.path.now l))
+
+pub directory::Item::put-put-requires : goal.directory::Item::put-put-requires
+directory::Item::put-put-requires g t c κs within = (search rules, (within, (omega arith, (c.bytes_behind-behind.ensures, c.requires.mode))))

@@ -57,3 +57,6 @@ edits::item_removed-returns-then-is_empty-clause-kept g t c =
     let n = no_root_before c.args.path.now (c.args.depth + 1) (omega (arith, c.requires)) in
     let is : c.in_ok-below-in-Folder.below.files ≡ removed c.in-Folder.below.files q = c.in_ok-below-in-Folder.ensures.files in
     kept_removed_none q c.in-Folder.below.files c.in_ok-below-in-Folder.below.files n is (c.is_empty.ensures.0 c.if-is_empty.true) ∙ ap (kept_removed q) (ap (λ i. Some (shown_item i)) (sym c.in-Folder.is) ∙ ap shown_lent (sym c.in-Some.is))
+
+pub edits::item_removed-removed-requires : goal.edits::item_removed-removed-requires
+edits::item_removed-removed-requires g t c κs within = (omega (arith, c.requires, c.decreases), (within, omega (arith, c.requires, c.if-depth-length.false, c.len-length.ensures.length)))

@@ -1,4 +1,4 @@
-use Rattle.std.proofs.Common.{◌≢◌, [], ◌+◌, ◌<◌, drop, length, Some, refl, sym, ap, ◌∙◌, arith, subst}
+use Rattle.std.proofs.Common.{◌≢◌, [], ◌+◌, ◌<◌, drop, length, Some, refl, sym, ap, ◌∙◌, arith, rules, subst}
 use Rattle.std.proofs.lemmas.Bool.{and_parts, true≢false}
 use Rattle.std.proofs.lemmas.List.{drop_all}
 use Rattle.gx_tree.specs.Homes.{AreAtHome, IsItemAtHome}
@@ -74,3 +74,6 @@ edits::take_in-returns-in-Whole-clause-home g t c = λ name rs h.
     let es = c.in-Some-get_mut.owned.now.items in
     let all : AreAtHome name rs es = subst (λ v. AreAtHome name rs v.items) (sym c.in-Some-get_mut.ensures.value) h in
     subst (AreAtHome name rs) (sym c.remove.ensures.items) (all_gone (λ e. IsItemAtHome name rs e.item) es c.in-Some.place _ all)
+
+pub directory::Item::take-take-requires : goal.directory::Item::take-take-requires
+directory::Item::take-take-requires g t c κs within = (search rules, (within, omega (arith, c.requires, c.if-depth-length.false, c.len-length.ensures.length)))

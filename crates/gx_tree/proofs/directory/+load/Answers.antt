@@ -2,10 +2,11 @@ use Rattle.std.specs.List.{AllByRecursion}
 use Rattle.gx_tree.specs.Homes.{AreAtHome, IsItemAtHome}
 use Rattle.gx_tree.specs.Named.{IsAtHome, IsHome, NamedTree, is_named}
 use Rattle.gx_tree.proofs.Homes.{all_joined, files_same, named_at_home}
-use Rattle.std.proofs.Common.{◌≡◌, ◌*◌, ◌<◌, map, sym, ap, ◌∙◌, subst, arith}
+use Rattle.std.proofs.Common.{rules, ◌≡◌, ◌*◌, ◌<◌, map, sym, ap, ◌∙◌, subst, arith}
 use Rattle.std.proofs.lemmas.List.{map-append}
 use Rattle.std.proofs.lemmas.Result.{IfOk-weaker, on_ok_weaker}
 use Rattle.gx_model.proofs.FileMapEdits.{parts_of}
+use Rattle.gx_model.specs.declared.objects.Mode.TheVariants.{Dir}
 use Rattle.gx_object.specs.Entries.{shown}
 use Rattle.gx_model.specs.Histories.Files.{FileMap}
 use Rattle.gx_model.specs.Texts.{Bytes}
@@ -15,6 +16,7 @@ use Rattle.gx_tree.specs.Loaded.{IsLoaded}
 use Rattle.gx_tree.specs.Nodes.{IsLevel, files}
 use Rattle.gx_tree.specs.Views as views
 use Rattle.gx_tree.specs.Views.{shown_entries, Remembers}
+use Rattle.gx_tree.proofs.HeldItems.{file_is, folder_is, tree_named}
 use Rattle.gx_tree.proofs.HeldLevels.{entries_held, held_text, loading_all, loading_more, loading_none, is_there, within_all}
 use Rattle.gx_tree.proofs.LevelsOf.{IsLevel-level_of, files-level_of, level_of}
 use Rattle.gx_tree.proofs.TreeRecords.{kept_entry}
@@ -89,3 +91,23 @@ Directory::load-returns g t c =
       directory = IfOk-weaker c.enter.result _ _ (λ d same. subst (IsLoaded name c.args.store.now.1 c.args.name.now.bytes) (sym same) own) c.enter.ensures.directory;
       loaded = on_ok_weaker c.enter.result (λ entered. entered name c.args.store.now.1 c.loop-entry.invariant.3 own) c.enter.ensures.entered;
     }
+
+pub Item::load-load-requires : goal.Item::load-load-requires
+Item::load-load-requires g t c κs within =
+    let m : c.args.entry.now.mode ≡ Dir = search rules in
+    let tree = tree_named (g.N.Namer.name_of c.args.store.now.0) c.args.store.now.1 c.args.entry.now m c.requires.held in
+    (omega (arith, tree.0, c.decreases), (within.0, (within.1, (tree.1, c.requires.loaded))))
+
+pub Item::load-unreachable-requires : goal.Item::load-unreachable-requires
+Item::load-unreachable-requires g t c =
+    let m : c.args.entry.now.mode ≡ Dir = search rules in
+    let tree = tree_named (g.N.Namer.name_of c.args.store.now.0) c.args.store.now.1 c.args.entry.now m c.requires.held in
+    omega (arith, tree.0, c.if-used-room.true)
+
+pub Item::load-returns-clause-kept : goal.Item::load-returns-clause-kept
+Item::load-returns-clause-kept g t c =
+    let m : c.args.entry.now.mode ≡ Dir = search rules in
+    folder_is (g.N.Namer.name_of c.args.store.now.0) c.args.store.now.1 c.args.entry.now g.row.A.Denot m c.in_ok-below.ensures.directory
+
+pub Item::load-returns-then-ne-clause-kept : goal.Item::load-returns-then-ne-clause-kept
+Item::load-returns-then-ne-clause-kept g t c = file_is (g.N.Namer.name_of c.args.store.now.0) c.args.store.now.1 c.args.entry.now g.row.A.Denot (search rules)

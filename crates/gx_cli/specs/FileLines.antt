@@ -10,9 +10,13 @@ use Rattle.gx_object.specs.declared.name.Name.{Name}
 use Rattle.gx_tree.specs.Lists.{shown_listed}
 use Rattle.gx_cli.specs.Listings.{entry_line, kind_word, mode_digits}
 
+-- a mode and the kind of what an entry of it names, each with a space behind it
+abbrev pub mode_and_kind : Mode → Bytes
+mode_and_kind mode = mode_digits mode ++ 32 ∷ kind_word mode ++ 32 ∷ []
+
 -- what stands before the path in a line
 abbrev pub line_head : Mode → Bytes → Bytes
-line_head mode name = mode_digits mode ++ 32 ∷ kind_word mode ++ 32 ∷ hex name ++ 9 ∷ []
+line_head mode name = mode_and_kind mode ++ hex name ++ 9 ∷ []
 
 -- the line of a file of a map of names
 abbrev pub named_line : Path × Leaf Bytes → Bytes

@@ -31,7 +31,7 @@ use Rattle.gx_batch.specs.declared.fault.BatchFault.{BatchFault}
 use Rattle.gx_import.specs.declared.fault.ImportFault.{ImportFault}
 use Rattle.gx_import.specs.declared.report.Report.{Report}
 use Rattle.gx_rev.specs.Answers.{IsNamed, shown_by}
-use Rattle.gx_rev.specs.Objects.{IsHeldAs, commit_at, files_at, value_at}
+use Rattle.gx_rev.specs.Objects.{IsHeldAs, commit_at, files_at}
 use Rattle.gx_rev.specs.RevFaults.{fault_of}
 use Rattle.gx_rev.specs.Views.{shown_range}
 use Rattle.gx_rev.specs.declared.fault.RevFault.{RevFault}
@@ -42,12 +42,12 @@ use Rattle.gx_cli.specs.Again.{ImportsAgain, ServesExported}
 use Rattle.gx_cli.specs.Answers.{Prints}
 use Rattle.gx_cli.specs.Gathering.{batch_answer}
 use Rattle.gx_cli.specs.FileLines.{path_line}
-use Rattle.gx_cli.specs.Listings.{shown_text, text_of_word, tree_lines, value_text}
+use Rattle.gx_cli.specs.Listings.{shown_text, text_of_word, tree_lines}
 use Rattle.gx_cli.specs.Printing.{PrintsBlobs, PrintsOne}
 use Rattle.gx_cli.specs.Sending.{PrintsText}
 use Rattle.gx_cli.specs.Opening.{bytes_of}
 use Rattle.gx_cli.specs.Serving.{AnswersLines, ExportsStore, ImportsInto, ImportsIntoStored, PrintsStored, Serves, blobs_answer, printed_by}
-use Rattle.gx_cli.specs.Stored.{all_words, commits_listed, file_line, files_of_word, line_of_ref, list_lines, list_text, log_line, log_text, names_text, of_stored, show_text, texts_of}
+use Rattle.gx_cli.specs.Stored.{all_words, commits_listed, file_line, files_of_word, line_of_ref, list_text, log_line, log_text, names_text, texts_of}
 use Rattle.gx_cli.specs.Storing.{Answer, ImportsStored}
 use Rattle.gx_cli.specs.Trying.{ImportsAlone, Shows, Tries}
 use Rattle.gx_cli.specs.Words.{GivesWords}
@@ -62,19 +62,11 @@ use Rattle.gx_cli.specs.declared.serving.Outcome.{Outcome}
 
 -- ---- words
 
--- the revisions of these words, or the first word that isn't one
-abbrev pub ReadsRevisions : {A : Type 0} → List (Bor Bytes) → Result (Vec Revision A) CliFault → Type 0
-ReadsRevisions {A} words result = GivesWords (λ (revisions : Vec Revision A). revisions.items) result (all_words (each_word revision_of (texts_of words)))
-
--- the same, where they are put into a list
+-- the revisions of these words, put into a list, or the first word that isn't one
 abbrev pub ReadsInto : List (Bor Bytes) → List Revision → Result (Unit {0}) CliFault → Type 0
 ReadsInto words revisions result = GivesWords (λ done. revisions) result (all_words (each_word revision_of (texts_of words)))
 
--- these range words, or the first word that isn't one
-abbrev pub ReadsRanges : {A : Type 0} → List (Bor Bytes) → Result (Vec (Range A) A) CliFault → Type 0
-ReadsRanges {A} words result = GivesWords (λ (ranges : Vec (Range A) A). map shown_range ranges.items) result (all_words (each_word range_of (texts_of words)))
-
--- the same, where they are put into a list
+-- these range words, put into a list, or the first word that isn't one
 abbrev pub ReadsRangesInto : {A : Type 0} → List (Bor Bytes) → List (Range A) → Result (Unit {0}) CliFault → Type 0
 ReadsRangesInto words ranges result = GivesWords (λ done. map shown_range ranges) result (all_words (each_word range_of (texts_of words)))
 
@@ -99,21 +91,10 @@ module _ {N : Type 0} (name_of : N → Kind → Bytes → Bytes) where
   abbrev pub Evaluates : Repository N → Bytes → Result Shown RevFault → Type 0
   Evaluates repo word result = Gives fault_of (shown_by repo.1) result (and_then (revision_of word) (denoted (name_of repo.0) (history_of repo.1)))
 
-  -- what each of these revisions shows, or the first that shows nothing
-  abbrev pub EvaluatesAll : {A : Type 0} → Repository N → List Revision → Result (Vec Shown A) CliFault → Type 0
-  EvaluatesAll {A} repo revisions result =
-      GivesWords (λ (shown : Vec Shown A). map (shown_by repo.1) shown.items) result (all_words (each_word (denoted (name_of repo.0) (history_of repo.1)) revisions))
-
-  -- the same, where they are put into a list
+  -- what each of these revisions shows, put into a list, or the first that shows nothing
   abbrev pub EvaluatesInto : Repository N → List Revision → List Shown → Result (Unit {0}) CliFault → Type 0
   EvaluatesInto repo revisions shown result =
       GivesWords (λ done. map (shown_by repo.1) shown) result (all_words (each_word (denoted (name_of repo.0) (history_of repo.1)) revisions))
-
-  -- what each of these words shows as a revision, or the first that is refused: all are read, and then all are evaluated
-  abbrev pub EvaluatesWords : {A : Type 0} → Repository N → List (Bor Bytes) → Result (Vec Shown A) CliFault → Type 0
-  EvaluatesWords {A} repo words result =
-      GivesWords (λ (shown : Vec Shown A). map (shown_by repo.1) shown.items) result
-      (all_words (and_then (each_word revision_of (texts_of words)) (each_word (denoted (name_of repo.0) (history_of repo.1)))))
 
   -- each of these is an object that is held under its name, or a submodule's name
   abbrev pub AreAllNamed : Repository N → List Shown → Type 0
@@ -126,10 +107,6 @@ module _ {N : Type 0} (name_of : N → Kind → Bytes → Bytes) where
   -- the files of the tree of this name, by the names of their contents
   abbrev pub named_files : Repository N → Name → FileMap Bytes
   named_files repo tree = named_map (name_of repo.0) (files_at repo.1 tree)
-
-  -- the lines of the entries of the tree of this name
-  abbrev pub entries_text : Repository N → Name → Bytes
-  entries_text repo tree = tree_lines (name_of repo.0) (files_at repo.1 tree)
 
   -- the names of the commits that range words list, the last made first, or the first word that is refused
   abbrev pub ListsCommits : {A : Type 0} → Repository N → List (Bor Bytes) → Result (Vec Name A) CliFault → Type 0
@@ -176,12 +153,7 @@ module _ {N W : Type 0} (name_of : N → Kind → Bytes → Bytes) (taken : W �
   abbrev pub PrintsOf : Question → N × Records → W → W → Result (Unit {0}) CliFault → Type 0
   PrintsOf asked repository old new result = Prints (printed_by (name_of repository.0) asked repository.1) (taken old) (taken new) result
 
-  -- what a question prints of the store of these bytes goes out, or a refusal is answered
-  abbrev pub PrintsAnswer : {A : Type 0} → N → Question → StoreBytes A → W → W → Result (Unit {0}) CliFault → Type 0
-  PrintsAnswer namer asked store old new result =
-      Prints (of_stored (store_of (name_of namer) (bytes_of store)) (printed_by (name_of namer) asked)) (taken old) (taken new) result
-
-  -- the same, and how the command ends
+  -- what a question prints of the store of these bytes goes out, or a refusal is answered, and how the command ends
   abbrev pub AsksStore : {A : Type 0} → N → Question → StoreBytes A → W → W → Outcome A → Type 0
   AsksStore namer asked store old new o = PrintsStored (store_of (name_of namer) (bytes_of store)) (printed_by (name_of namer) asked) (taken old) (taken new) o
 
@@ -224,31 +196,19 @@ module _ {N W : Type 0} (name_of : N → Kind → Bytes → Bytes) (taken : W �
   abbrev pub ShowsWord : Repository N → Bytes → W → W → Result (Unit {0}) CliFault → Type 0
   ShowsWord repo word old new result = Shows [] (text_of_word (name_of repo.0) (history_of repo.1) word) (taken old) (taken new) result
 
-  -- the same, as what a command prints of a store
-  abbrev pub PrintsWord : Repository N → Bytes → W → W → Result (Unit {0}) CliFault → Type 0
-  PrintsWord repo word old new result = Prints (show_text (name_of repo.0) (history_of repo.1) word) (taken old) (taken new) result
-
   -- the text of what is shown goes out
   abbrev pub PrintsShown : Repository N → Shown → W → W → Result (Unit {0}) CliFault → Type 0
   PrintsShown repo shown old new result = Shows [] (Ok (shown_text (name_of repo.0) (shown_by repo.1 shown))) (taken old) (taken new) result
-
-  -- the text of the object of this name goes out
-  abbrev pub PrintsObject : Repository N → Name → W → W → Result (Unit {0}) CliFault → Type 0
-  PrintsObject repo called old new result = Shows [] (Ok (value_text (name_of repo.0) (value_at repo.1 called))) (taken old) (taken new) result
 
   -- ---- trees
 
   -- the lines of the entries of the tree of this name go out, all of them made before
   abbrev pub ShowsEntries : Repository N → Name → W → W → Result (Unit {0}) CliFault → Type 0
-  ShowsEntries repo tree old new result = Shows [] (Ok (entries_text name_of repo tree)) (taken old) (taken new) result
+  ShowsEntries repo tree old new result = Shows [] (Ok (tree_lines (name_of repo.0) (files_at repo.1 tree))) (taken old) (taken new) result
 
   -- the lines of the tree that a word gives as a revision go out, or why it gives none is answered
   abbrev pub ListsWord : Repository N → Bool → Bytes → W → W → Result (Unit {0}) CliFault → Type 0
   ListsWord repo recursive word old new result = Prints (list_text (name_of repo.0) recursive (history_of repo.1) word) (taken old) (taken new) result
-
-  -- the lines of the tree of this name go out: those of its entries, or of all its files
-  abbrev pub ListsTree : Repository N → Bool → Name → W → W → Result (Unit {0}) CliFault → Type 0
-  ListsTree repo recursive tree old new result = PrintsText (list_lines (name_of repo.0) recursive (files_at repo.1 tree)) (taken old) (taken new) result
 
   -- the lines of all files of the tree of this name go out
   abbrev pub ListsFiles : Repository N → Name → W → W → Result (Unit {0}) CliFault → Type 0

@@ -2,7 +2,7 @@
 
 ghost use Rattle.std.specs.Prelude.{◌≡◌, ◌<◌, ◌≤◌, ◌-◌, ◌^◌, [], Ok, Err};
 ghost use Rattle.std.specs.Option.{option_map};
-ghost use Rattle.gx_model.specs.Streams.Items.{Line as a_line, Finished};
+ghost use Rattle.gx_model.specs.Streams.Items.{Finished};
 ghost use Rattle.gx_model.specs.Streams.Grammar.{mark_of};
 ghost use Rattle.gx_stream.specs.Reading.{item_of};
 ghost use Rattle.gx_cli.specs.Parts.{AddsBlob, NamesBlobs, NamesItems};
@@ -158,18 +158,12 @@ fn take_item(stage: Stage, item: Item<'_>) -> Step<'_>
             Stage::Expected => Step::Stop(BlobsKind::NotABlob),
             Stage::Started | Stage::Marked | Stage::Named => Step::Body(bytes),
         },
-        Item::Line(line) => take_line(stage, line),
-    }
-}
-
-fn take_line<'a>(stage: Stage, line: &[u8]) -> Step<'a>
-    ensures { shown_step result ≡ step_of stage (a_line line.now) }
-{
-    match stage {
-        Stage::Expected => command_line(line),
-        Stage::Started => mark_line(line),
-        Stage::Marked => oid_line(line),
-        Stage::Named => Step::Stop(BlobsKind::BadLine),
+        Item::Line(line) => match stage {
+            Stage::Expected => command_line(line),
+            Stage::Started => mark_line(line),
+            Stage::Marked => oid_line(line),
+            Stage::Named => Step::Stop(BlobsKind::BadLine),
+        },
     }
 }
 

@@ -149,22 +149,6 @@ fn file_line<'a>(
         "import" => Ok(Line::Import { file }),
         "export" => Ok(Line::Export { file }),
         "refs" => Ok(Line::Refs { file }),
-        _ => object_line(alloc, name, matches, file),
-    }
-}
-
-/// The same of the commands that show objects, and of those with a list of words.
-#[tactic(auto, unfolding(crate::specs::CommandLine::Says))]
-fn object_line<'a>(
-    alloc: Global,
-    name: &'a str,
-    matches: &ArgMatches<'a>,
-    file: &'a str,
-) -> Result<Line<'a>, LineFault>
-    requires { first_of (codes "file") (rows_of (found_of matches.now)) ≡ Some file.now }
-    ensures { IfOk result (λ line. say.Says name.now (rows_of (found_of matches.now)) line) }
-{
-    match name {
         "show" => Ok(Line::Show {
             file,
             revision: word_of(alloc, matches, "rev")?,
@@ -195,7 +179,11 @@ fn list_line<'a>(
 {
     match name {
         "log" => Ok(Line::Log {
-            options: log_options(matches),
+            options: LogOptions {
+                reverse: is_set(matches, "reverse"),
+                max_count: number_of(matches, "max-count"),
+                parents: is_set(matches, "parents"),
+            },
             file,
             ranges: words_of(alloc, matches, "range")?,
         }),
@@ -204,17 +192,6 @@ fn list_line<'a>(
             revisions: words_of(alloc, matches, "rev")?,
         }),
         _ => Err(unknown(alloc)),
-    }
-}
-
-/// The options that clap found for `log`.
-fn log_options(matches: &ArgMatches<'_>) -> LogOptions
-    ensures { say.AreLogOptions (rows_of (found_of matches.now)) result }
-{
-    LogOptions {
-        reverse: is_set(matches, "reverse"),
-        max_count: number_of(matches, "max-count"),
-        parents: is_set(matches, "parents"),
     }
 }
 

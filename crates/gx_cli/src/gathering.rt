@@ -19,26 +19,14 @@ pub(crate) fn gather<R: Source + Drop, A: Allocator + Copy>(
 ) -> Result<Vec<u8, A>, CliFault>
     ensures { Gathers (R.coming source) result }
 {
+    let mut source = source;
     let mut text = Vec::new(alloc);
-    match gather_into(alloc, source, &mut text) {
+    let mut piece = Vec::new(alloc);
+    piece.resize(PIECE, 0)?;
+    match pull_all(&mut source, &mut piece, &mut text) {
         Ok(()) => Ok(text),
         Err(fault) => Err(fault),
     }
-}
-
-/// Puts all that a source gives into a text.
-fn gather_into<R: Source + Drop, A: Allocator + Copy>(
-    alloc: A,
-    source: R,
-    text: &mut Vec<u8, A>,
-) -> Result<(), CliFault>
-    requires empty { text.old.items ≡ [] }
-    ensures { GathersInto (R.coming source) text.new.items result }
-{
-    let mut source = source;
-    let mut piece = Vec::new(alloc);
-    piece.resize(PIECE, 0)?;
-    pull_all(&mut source, &mut piece, text)
 }
 
 /// Pulls all that a source gives through a buffer.

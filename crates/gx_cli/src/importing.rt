@@ -26,7 +26,7 @@ pub(crate) fn init<N: Namer + Drop, A: Allocator + Copy>(
     ensures { IsWritten (N.name_of namer) nothing result }
 {
     let repo = Repo::new(alloc, namer, state);
-    written(alloc, &repo)
+    with_text(alloc, &repo, 0, None)
 }
 
 /// Imports a stream into the store of a text, as the command `import` of [`serve`](crate::serve) does, and tells what was
@@ -81,7 +81,7 @@ fn import_opened<N: Namer, R: Source + Drop, W: Sink, A: Allocator + Copy>(
     match import(alloc, repo, source, sink) {
         Ok(report) => {
             repo.sound();
-            (written(alloc, repo), Some(report))
+            (with_text(alloc, repo, 0, None), Some(report))
         }
         Err(fault) => (left(alloc, repo, fault), None),
     }
@@ -100,13 +100,6 @@ fn left<N: Namer, A: Allocator + Copy>(
     } else {
         with_text(alloc, repo, 1, Some(CliFault::Import(fault)))
     }
-}
-
-/// The text of a repository as the store's next one.
-fn written<N: Namer, A: Allocator + Copy>(alloc: A, repo: &Repo<N, A>) -> Outcome<A>
-    ensures { IsWritten (N.name_of repo.now.0) repo.now.1 result }
-{
-    with_text(alloc, repo, 0, None)
 }
 
 /// How a command ends with the text of a repository.

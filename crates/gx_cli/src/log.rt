@@ -4,7 +4,7 @@ ghost use Rattle.std.specs.Prelude.{◌≡◌, [], ◌∷◌, IfOk};
 ghost use Rattle.gx_model.specs.declared.objects.Kind.TheVariants as kinds;
 ghost use Rattle.gx_model.specs.Objects.{hex};
 ghost use Rattle.gx_rev.specs.Objects.{IsHeldAs};
-ghost use Rattle.gx_cli.specs.Parts.{AreCommits, ListsCommits, Logs, PrintsCommit, PrintsCommits, ReadsRanges, ReadsRangesInto};
+ghost use Rattle.gx_cli.specs.Parts.{AreCommits, ListsCommits, Logs, PrintsCommit, PrintsCommits, ReadsRangesInto};
 ghost use Rattle.gx_cli.specs.Sending.{PrintsText};
 ghost use Rattle.gx_cli.specs.Stored.{limited, parent_text, turned};
 
@@ -46,25 +46,15 @@ fn names_listed<N: Namer, A: Allocator + Copy>(
     ensures held { IfOk result (λ names. AreCommits repo.now.1 names.items) }
 {
     repo.sound();
-    let ranges = read_ranges(alloc, words)?;
+    let mut ranges = Vec::new(alloc);
+    read_into(alloc, words, &mut ranges)?;
     match walk(alloc, repo, ranges.as_slice()) {
         Ok(names) => Ok(names),
         Err(fault) => Err(refused(fault.word as u64, fault.kind)),
     }
 }
 
-/// The range words of texts.
-fn read_ranges<A: Allocator + Copy>(alloc: A, words: &[&str]) -> Result<Vec<Range<A>, A>, CliFault>
-    ensures { ReadsRanges words.now result }
-{
-    let mut ranges = Vec::new(alloc);
-    match read_into(alloc, words, &mut ranges) {
-        Ok(()) => Ok(ranges),
-        Err(fault) => Err(fault),
-    }
-}
-
-/// Puts the range words of texts into a list.
+/// Puts the range words of texts into a list, or tells the first that is none.
 fn read_into<A: Allocator + Copy>(
     alloc: A,
     words: &[&str],
@@ -87,7 +77,9 @@ fn arrange<A: Allocator>(names: &mut Vec<Name, A>, options: LogOptions)
     ensures { names.new.items ≡ turned options.reverse (limited options.max_count names.old.items) }
 {
     limit(names, options.max_count);
-    turn(names, options.reverse);
+    if options.reverse {
+        names.reverse();
+    }
 }
 
 /// Keeps so many of the first names at most.
@@ -96,15 +88,6 @@ fn limit<A: Allocator>(names: &mut Vec<Name, A>, max_count: Option<u64>)
 {
     if let Some(most) = max_count {
         names.truncate(most as usize);
-    }
-}
-
-/// Turns the names round where that is asked for.
-fn turn<A: Allocator>(names: &mut Vec<Name, A>, reverse: bool)
-    ensures { names.new.items ≡ turned reverse names.old.items }
-{
-    if reverse {
-        names.reverse();
     }
 }
 

@@ -5,7 +5,7 @@ ghost use Rattle.gx_model.specs.declared.objects.Kind.TheVariants as kinds;
 ghost use Rattle.gx_tree.specs.Lists.{shown_listed};
 ghost use Rattle.gx_rev.specs.Objects.{IsHeldAs};
 ghost use Rattle.gx_cli.specs.FileLines.{listed_lines};
-ghost use Rattle.gx_cli.specs.Parts.{GivesTree, ListsFiles, ListsTree, ListsWord, PrintsFile, named_files};
+ghost use Rattle.gx_cli.specs.Parts.{GivesTree, ListsFiles, ListsWord, PrintsFile, named_files};
 ghost use Rattle.gx_cli.specs.Sending.{PrintsText};
 
 use crate::CliFault;
@@ -35,7 +35,13 @@ pub(crate) fn list<N: Namer, A: Allocator + Copy, W: Sink>(
     ensures { ListsWord N.name_of W.taken repo.now recursive word.now sink.old sink.new result }
 {
     match tree_of_word(alloc, repo, word) {
-        Ok(tree) => print_tree(alloc, repo, recursive, &tree, sink),
+        Ok(tree) => {
+            if recursive {
+                print_files(alloc, repo, &tree, sink)
+            } else {
+                print_entries(alloc, repo, &tree, sink)
+            }
+        }
         Err(kind) => Err(refused(1, kind)),
     }
 }
@@ -51,24 +57,6 @@ fn tree_of_word<N: Namer, A: Allocator + Copy>(
 {
     let revision = Revision::read(alloc, word)?;
     tree(repo, &revision)
-}
-
-/// Prints the lines of a held tree.
-fn print_tree<N: Namer, A: Allocator + Copy, W: Sink>(
-    alloc: A,
-    repo: &Repo<N, A>,
-    recursive: bool,
-    tree: &Name,
-    sink: &mut W,
-) -> Result<(), CliFault>
-    requires { IsHeldAs kinds.Tree repo.now.1 tree.now }
-    ensures { ListsTree N.name_of W.taken repo.now recursive tree.now sink.old sink.new result }
-{
-    if recursive {
-        print_files(alloc, repo, tree, sink)
-    } else {
-        print_entries(alloc, repo, tree, sink)
-    }
 }
 
 /// Prints the lines of all files of a held tree.

@@ -1,9 +1,9 @@
 //! The names of what revisions give, one a line. Source: git-rev-parse(1).
 
-ghost use Rattle.std.specs.Prelude.{◌≡◌, [], IfOk, Ok, OnOk};
+ghost use Rattle.std.specs.Prelude.{◌≡◌, [], Ok, OnOk};
 ghost use Rattle.std.specs.List.{flat_map};
 ghost use Rattle.gx_cli.specs.Answers.{Prints, shown_line};
-ghost use Rattle.gx_cli.specs.Parts.{AreAllNamed, EvaluatesAll, EvaluatesInto, EvaluatesWords, PrintsNames, ReadsInto, ReadsRevisions};
+ghost use Rattle.gx_cli.specs.Parts.{AreAllNamed, EvaluatesInto, PrintsNames, ReadsInto};
 
 use crate::CliFault;
 use crate::blob_names::name_line;
@@ -28,37 +28,14 @@ pub(crate) fn print_names<N: Namer, A: Allocator + Copy, W: Sink>(
 ) -> Result<(), CliFault>
     ensures { PrintsNames N.name_of W.taken repo.now words.now sink.old sink.new result }
 {
-    let shown = eval_words(alloc, repo, words)?;
+    let mut revisions = Vec::new(alloc);
+    read_into(alloc, words, &mut revisions)?;
+    let mut shown = Vec::new(alloc);
+    eval_into(repo, &revisions, &mut shown)?;
     print_lines(&shown, sink)
 }
 
-/// What each word shows as a revision. All words are read, then all are evaluated.
-fn eval_words<N: Namer, A: Allocator + Copy>(
-    alloc: A,
-    repo: &Repo<N, A>,
-    words: &[&str],
-) -> Result<Vec<Shown, A>, CliFault>
-    ensures shown { EvaluatesWords N.name_of repo.now words.now result }
-    ensures named { IfOk result (λ shown. AreAllNamed N.name_of repo.now shown.items) }
-{
-    match read_all(alloc, words) {
-        Ok(revisions) => eval_all(alloc, repo, revisions.as_slice()),
-        Err(fault) => Err(fault),
-    }
-}
-
-/// Each word as a revision, or the first that isn't one.
-fn read_all<A: Allocator + Copy>(alloc: A, words: &[&str]) -> Result<Vec<Revision<A>, A>, CliFault>
-    ensures { ReadsRevisions words.now result }
-{
-    let mut revisions = Vec::new(alloc);
-    match read_into(alloc, words, &mut revisions) {
-        Ok(()) => Ok(revisions),
-        Err(fault) => Err(fault),
-    }
-}
-
-/// Puts each word as a revision into a list.
+/// Puts each word as a revision into a list, or tells the first that is none.
 fn read_into<A: Allocator + Copy>(
     alloc: A,
     words: &[&str],
@@ -76,23 +53,7 @@ fn read_into<A: Allocator + Copy>(
     Ok(())
 }
 
-/// What each revision shows, or the first that shows nothing.
-fn eval_all<N: Namer, A: Allocator + Copy>(
-    alloc: A,
-    repo: &Repo<N, A>,
-    revisions: &[Revision<A>],
-) -> Result<Vec<Shown, A>, CliFault>
-    ensures shown { EvaluatesAll N.name_of repo.now revisions.now result }
-    ensures named { IfOk result (λ shown. AreAllNamed N.name_of repo.now shown.items) }
-{
-    let mut shown = Vec::new(alloc);
-    match eval_into(repo, revisions, &mut shown) {
-        Ok(()) => Ok(shown),
-        Err(fault) => Err(fault),
-    }
-}
-
-/// Puts what each revision shows into a list.
+/// Puts what each revision shows into a list, or tells the first that shows nothing.
 fn eval_into<N: Namer, A: Allocator + Copy>(
     repo: &Repo<N, A>,
     revisions: &[Revision<A>],

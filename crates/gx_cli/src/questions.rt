@@ -1,13 +1,14 @@
 //! What commands ask of a store, and what is printed for it.
 
-ghost use Rattle.gx_cli.specs.Parts.{PrintsAnswer, PrintsOf};
+ghost use Rattle.gx_cli.specs.Parts.{AsksStore, PrintsOf};
 
 use crate::log::log;
 use crate::ls::list;
 use crate::names::print_names;
 use crate::opening::{StoreBytes, open};
 use crate::refs::print_refs;
-use crate::showing::show_stored;
+use crate::serving::{Outcome, outcome_of, refused};
+use crate::showing::show;
 use crate::{CliFault, LogOptions};
 use gx_object::Namer;
 use gx_repo::Repo;
@@ -30,7 +31,7 @@ pub(crate) enum Question<'a> {
     Names(&'a [&'a str]),
 }
 
-/// Reads a store's text, and prints the answer to a question.
+/// Reads a store's text, and prints the answer to a question. The command ends with it.
 pub(crate) fn print_stored<N: Namer + Drop, W: Sink, A: Allocator + Copy>(
     alloc: A,
     namer: N,
@@ -38,12 +39,12 @@ pub(crate) fn print_stored<N: Namer + Drop, W: Sink, A: Allocator + Copy>(
     store: StoreBytes<'_, A>,
     sink: &mut W,
     state: RandomState,
-) -> Result<(), CliFault>
-    ensures { PrintsAnswer N.name_of W.taken namer question.entry store.entry sink.old sink.new result }
+) -> Outcome<A>
+    ensures { AsksStore N.name_of W.taken namer question.entry store.entry sink.old sink.new result }
 {
     match open(alloc, namer, store, state) {
-        Ok(repo) => print_answer(alloc, &repo, question, sink),
-        Err(fault) => Err(CliFault::Store(fault)),
+        Ok(repo) => outcome_of(print_answer(alloc, &repo, question, sink)),
+        Err(fault) => refused(CliFault::Store(fault)),
     }
 }
 
@@ -57,7 +58,7 @@ fn print_answer<N: Namer, W: Sink, A: Allocator + Copy>(
     ensures { PrintsOf N.name_of W.taken question.entry repo.now sink.old sink.new result }
 {
     match question {
-        Question::Show(revision) => show_stored(alloc, repo, revision.as_bytes(), sink),
+        Question::Show(revision) => show(alloc, repo, revision.as_bytes(), sink),
         Question::List(recursive, revision) => {
             list(alloc, repo, recursive, revision.as_bytes(), sink)
         }

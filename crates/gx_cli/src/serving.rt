@@ -1,7 +1,7 @@
 //! What a command does with the store's bytes, its input and its output.
 
 ghost use Rattle.gx_cli.specs.Again.{ServesExported};
-ghost use Rattle.gx_cli.specs.Parts.{AnswersBlobs, AsksStore, ServesAgain, ServesStored};
+ghost use Rattle.gx_cli.specs.Parts.{AnswersBlobs, ServesAgain, ServesStored};
 ghost use Rattle.gx_cli.specs.Serving.{IsOutcome, IsRefused, Serves};
 
 use crate::adapting::adapt_stream;
@@ -109,7 +109,7 @@ fn serve_bytes<N: Namer + Drop, R: Source + Drop, W: Sink, A: Allocator + Copy>(
         }
         Line::Export { file: _ } => export_stored(alloc, namer, store, sink, state),
         Line::Show { file: _, revision } => {
-            ask(alloc, namer, Question::Show(revision), store, sink, state)
+            print_stored(alloc, namer, Question::Show(revision), store, sink, state)
         }
         Line::Ls {
             recursive,
@@ -117,36 +117,22 @@ fn serve_bytes<N: Namer + Drop, R: Source + Drop, W: Sink, A: Allocator + Copy>(
             revision,
         } => {
             let question = Question::List(*recursive, revision);
-            ask(alloc, namer, question, store, sink, state)
+            print_stored(alloc, namer, question, store, sink, state)
         }
-        Line::Refs { file: _ } => ask(alloc, namer, Question::Refs, store, sink, state),
+        Line::Refs { file: _ } => print_stored(alloc, namer, Question::Refs, store, sink, state),
         Line::Log {
             options,
             file: _,
             ranges,
         } => {
             let question = Question::Log(*options, ranges.as_slice());
-            ask(alloc, namer, question, store, sink, state)
+            print_stored(alloc, namer, question, store, sink, state)
         }
         Line::RevParse { file: _, revisions } => {
             let question = Question::Names(revisions.as_slice());
-            ask(alloc, namer, question, store, sink, state)
+            print_stored(alloc, namer, question, store, sink, state)
         }
     }
-}
-
-/// How a command ends that asks a question of a store.
-fn ask<N: Namer + Drop, W: Sink, A: Allocator + Copy>(
-    alloc: A,
-    namer: N,
-    question: Question<'_>,
-    store: StoreBytes<'_, A>,
-    sink: &mut W,
-    state: RandomState,
-) -> Outcome<A>
-    ensures { AsksStore N.name_of W.taken namer question.entry store.entry sink.old sink.new result }
-{
-    outcome_of(print_stored(alloc, namer, question, store, sink, state))
 }
 
 /// What `blobs` answers, with its fault among those of the commands.

@@ -3,9 +3,8 @@
 ghost use Rattle.std.specs.Prelude.{◌≡◌, IfOk};
 ghost use Rattle.gx_model.specs.declared.objects.Kind.TheVariants as kinds;
 ghost use Rattle.gx_rev.specs.Answers.{IsNamed};
-ghost use Rattle.gx_rev.specs.declared.shown.Shown.TheVariants.{Object};
 ghost use Rattle.gx_rev.specs.Objects.{IsHeldAs};
-ghost use Rattle.gx_cli.specs.Parts.{Evaluates, PrintsObject, PrintsShown, PrintsWord, ShowsEntries, ShowsWord, entries_text};
+ghost use Rattle.gx_cli.specs.Parts.{Evaluates, PrintsShown, ShowsEntries, ShowsWord};
 
 use crate::CliFault;
 use crate::listing::listing;
@@ -14,19 +13,7 @@ use gx_object::{Kind, Name, Namer};
 use gx_repo::Repo;
 use gx_rev::{RevFault, Revision, Shown, body_of, entries_of};
 use gx_text::Sink;
-use std::alloc::{AllocError, Allocator};
-
-/// Shows a word as a revision of a store.
-pub(crate) fn show_stored<N: Namer, A: Allocator + Copy, W: Sink>(
-    alloc: A,
-    repo: &Repo<N, A>,
-    word: &[u8],
-    sink: &mut W,
-) -> Result<(), CliFault>
-    ensures { PrintsWord N.name_of W.taken repo.now word.now sink.old sink.new result }
-{
-    show(alloc, repo, word, sink)
-}
+use std::alloc::Allocator;
 
 /// Shows a word as a revision: a blob's bytes, a submodule's digits, the body of a commit or a tag, a tree's entries.
 ///
@@ -70,27 +57,13 @@ fn print_shown<N: Namer, A: Allocator + Copy, W: Sink>(
     requires { IsNamed (N.name_of repo.now.0) repo.now.1 shown }
     ensures { PrintsShown N.name_of W.taken repo.now shown sink.old sink.new result }
 {
-    match shown {
-        Shown::Object(kind, name) => print_object(alloc, repo, kind, &name, sink),
-        Shown::Submodule(name) => put_text(sink, name.hex().as_slice()),
-    }
-}
-
-/// Prints a held object of this kind.
-fn print_object<N: Namer, A: Allocator + Copy, W: Sink>(
-    alloc: A,
-    repo: &Repo<N, A>,
-    kind: Kind,
-    name: &Name,
-    sink: &mut W,
-) -> Result<(), CliFault>
-    requires { IsNamed (N.name_of repo.now.0) repo.now.1 (Object kind name.now) }
-    ensures { PrintsObject N.name_of W.taken repo.now name.now sink.old sink.new result }
-{
     repo.sound();
-    match kind {
-        Kind::Tree => print_entries(alloc, repo, name, sink),
-        Kind::Blob | Kind::Commit | Kind::Tag => put_text(sink, body_of(repo, name)),
+    match shown {
+        Shown::Object(kind, name) => match kind {
+            Kind::Tree => print_entries(alloc, repo, &name, sink),
+            Kind::Blob | Kind::Commit | Kind::Tag => put_text(sink, body_of(repo, &name)),
+        },
+        Shown::Submodule(name) => put_text(sink, name.hex().as_slice()),
     }
 }
 
@@ -104,21 +77,9 @@ pub(crate) fn print_entries<N: Namer, A: Allocator + Copy, W: Sink>(
     requires { IsHeldAs kinds.Tree repo.now.1 tree.now }
     ensures { ShowsEntries N.name_of W.taken repo.now tree.now sink.old sink.new result }
 {
-    match tree_listing(alloc, repo, tree) {
+    repo.sound();
+    match listing(alloc, entries_of(repo, tree)) {
         Ok(text) => put_text(sink, text.as_slice()),
         Err(_) => Err(CliFault::OutOfMemory),
     }
-}
-
-/// The lines of a held tree's entries.
-fn tree_listing<N: Namer, A: Allocator + Copy>(
-    alloc: A,
-    repo: &Repo<N, A>,
-    tree: &Name,
-) -> Result<Vec<u8, A>, AllocError>
-    requires { IsHeldAs kinds.Tree repo.now.1 tree.now }
-    ensures { IfOk result (λ text. text.items ≡ entries_text N.name_of repo.now tree.now) }
-{
-    repo.sound();
-    listing(alloc, entries_of(repo, tree))
 }

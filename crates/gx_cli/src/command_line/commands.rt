@@ -6,9 +6,7 @@ ghost use Rattle.clap.specs.Words.{App, app_of, new_app, rule_of};
 ghost use Rattle.clap.specs.declared.builder.command.Command.TheViews.{out-Command as fields_of};
 ghost use Rattle.gx_cli.specs.CommandLine as say;
 
-use super::arguments::{
-    check, file, max_count, needed_number, parents, recursive, reverse, revision, words,
-};
+use super::arguments::{flag, letter_flag, needed_number, number, one_word, revision, words};
 use super::manual::{self, Page};
 use clap::{Arg, Command};
 use std::alloc::{AllocError, Global};
@@ -41,22 +39,12 @@ fn with_stream_commands<'a>(
     ensures { (a : App) → say.Makes gx.entry a → say.Makes result (say.with_stream_commands a) }
 {
     let gx = with_command(gx, Ok(command(alloc, "blobs", manual::BLOBS)));
-    let gx = with_command(gx, try_command(alloc));
+    let try_command = with_argument(Ok(command(alloc, "try", manual::TRY)), revision(alloc));
+    let gx = with_command(gx, try_command);
     let gx = with_command(gx, Ok(command(alloc, "adapt", manual::ADAPT)));
-    with_command(gx, where_command(alloc))
-}
-
-fn try_command<'a>(alloc: Global) -> Result<Command<'a>, AllocError>
-    ensures { say.Makes result say.try_command }
-{
-    with_argument(Ok(command(alloc, "try", manual::TRY)), revision(alloc))
-}
-
-fn where_command<'a>(alloc: Global) -> Result<Command<'a>, AllocError>
-    ensures { say.Makes result say.where_command }
-{
     let number = needed_number(alloc, "number", "The number of a command, from 1");
-    with_argument(Ok(command(alloc, "where", manual::WHERE)), number)
+    let where_command = with_argument(Ok(command(alloc, "where", manual::WHERE)), number);
+    with_command(gx, where_command)
 }
 
 /// The commands on a store as a whole.
@@ -79,31 +67,30 @@ fn with_tree_commands<'a>(
 ) -> Result<Command<'a>, AllocError>
     ensures { (a : App) → say.Makes gx.entry a → say.Makes result (say.with_tree_commands a) }
 {
-    let gx = with_command(gx, show_command(alloc));
+    let show = with_argument(file_command(alloc, "show", manual::SHOW), revision(alloc));
+    let gx = with_command(gx, show);
     let gx = with_command(gx, ls_command(alloc));
-    with_command(gx, batch_command(alloc))
-}
-
-fn show_command<'a>(alloc: Global) -> Result<Command<'a>, AllocError>
-    ensures { say.Makes result say.show_command }
-{
-    let show = file_command(alloc, "show", manual::SHOW);
-    with_argument(show, revision(alloc))
+    let check = flag(
+        alloc,
+        "check",
+        "Leaves out the bytes of each object and the line feed behind them",
+    );
+    let batch = with_argument(file_command(alloc, "batch", manual::BATCH), check);
+    with_command(gx, batch)
 }
 
 fn ls_command<'a>(alloc: Global) -> Result<Command<'a>, AllocError>
     ensures { say.Makes result say.ls_command }
 {
+    let recursive = letter_flag(
+        alloc,
+        "recursive",
+        'r',
+        "Lists all files below the tree by their paths, and no trees",
+    );
     let ls = file_command(alloc, "ls", manual::LS);
     let ls = with_argument(ls, revision(alloc));
-    with_argument(ls, recursive(alloc))
-}
-
-fn batch_command<'a>(alloc: Global) -> Result<Command<'a>, AllocError>
-    ensures { say.Makes result say.batch_command }
-{
-    let batch = file_command(alloc, "batch", manual::BATCH);
-    with_argument(batch, check(alloc))
+    with_argument(ls, recursive)
 }
 
 /// The commands with a list of words.
@@ -114,40 +101,43 @@ fn with_commit_commands<'a>(
     ensures { (a : App) → say.Makes gx.entry a → say.Makes result (say.with_commit_commands a) }
 {
     let gx = with_command(gx, log_command(alloc));
-    with_command(gx, rev_parse_command(alloc))
+    let revisions = words(alloc, "rev", "REV", "Revisions, as gx --help has it");
+    let rev_parse = file_command(alloc, "rev-parse", manual::REV_PARSE);
+    let rev_parse = with_argument(rev_parse, revisions);
+    with_command(gx, rev_parse)
 }
 
 fn log_command<'a>(alloc: Global) -> Result<Command<'a>, AllocError>
     ensures { say.Makes result say.log_command }
 {
-    let log = with_argument(ranges_command(alloc), reverse(alloc));
-    let log = with_argument(log, max_count(alloc));
-    with_argument(log, parents(alloc))
-}
-
-/// The command `log` with its ranges, and with none of its options.
-fn ranges_command<'a>(alloc: Global) -> Result<Command<'a>, AllocError>
-    ensures { say.Makes result say.ranges_command }
-{
     let ranges = words(alloc, "range", "RANGE", "Commits, as gx --help has it");
-    with_argument(file_command(alloc, "log", manual::LOG), ranges)
-}
-
-fn rev_parse_command<'a>(alloc: Global) -> Result<Command<'a>, AllocError>
-    ensures { say.Makes result say.rev_parse_command }
-{
-    let revisions = words(alloc, "rev", "REV", "Revisions, as gx --help has it");
-    with_argument(
-        file_command(alloc, "rev-parse", manual::REV_PARSE),
-        revisions,
-    )
+    let reverse = flag(
+        alloc,
+        "reverse",
+        "Turns the list, so that the oldest commit comes first",
+    );
+    let max_count = number(
+        alloc,
+        "max-count",
+        "Lists N commits at most, counted before --reverse turns them",
+    );
+    let parents = flag(
+        alloc,
+        "parents",
+        "Prints the names of its parents behind each commit",
+    );
+    let log = with_argument(file_command(alloc, "log", manual::LOG), ranges);
+    let log = with_argument(log, reverse);
+    let log = with_argument(log, max_count);
+    with_argument(log, parents)
 }
 
 /// A command whose first word is the store file.
 fn file_command<'a>(alloc: Global, name: &'a str, page: Page) -> Result<Command<'a>, AllocError>
     ensures { say.Makes result (say.file_command name.entry.now) }
 {
-    with_argument(Ok(command(alloc, name, page)), file(alloc))
+    let file = one_word(alloc, "file", "FILE", "The store");
+    with_argument(Ok(command(alloc, name, page)), file)
 }
 
 /// A command with its page of the manual.

@@ -3,12 +3,12 @@ use Rattle.gx_cli.proofs.importing.import_opened.Goals as goal
 
 pub returns-in-Ok-clause-into : goal.returns-in-Ok-clause-into
 returns-in-Ok-clause-into g c =
-    accepted_into g.N.Namer.name_of c.args.repo.now c.import.new.repo c.written.result c.import.ensures.namer c.in-Ok.report c.sound.ensures c.written.ensures
+    accepted_into g.N.Namer.name_of c.args.repo.now c.import.new.repo c.with_text.result c.import.ensures.namer c.in-Ok.report c.sound.ensures c.with_text.ensures
     (g.R.Source.coming c.args.source) (g.W.Sink.taken c.args.sink.now) (g.W.Sink.taken c.import.new.sink) c.in-Ok.ensures.replayed c.import.ensures.gitlinks
 
 pub returns-in-Ok-clause-again : goal.returns-in-Ok-clause-again
 returns-in-Ok-clause-again g c =
-    accepted_again g.N.Namer.name_of c.args.repo.now c.import.new.repo c.written.result c.import.ensures.namer c.in-Ok.report c.sound.ensures c.written.ensures (g.R.Source.coming c.args.source) c.in-Ok.ensures.exported
+    accepted_again g.N.Namer.name_of c.args.repo.now c.import.new.repo c.with_text.result c.import.ensures.namer c.in-Ok.report c.sound.ensures c.with_text.ensures (g.R.Source.coming c.args.source) c.in-Ok.ensures.exported
 
 pub returns-in-Err-clause-into : goal.returns-in-Err-clause-into
 returns-in-Err-clause-into g c =

@@ -1,18 +1,20 @@
 use Rattle.std.proofs.Common.{subst}
 use Rattle.gx_model.specs.Records.HistoryOf.{history_of}
 use Rattle.gx_cli.specs.Answers.{Prints}
+use Rattle.gx_cli.specs.Listings.{text_of_word}
 use Rattle.gx_cli.specs.Stored.{list_text, show_text}
-use Rattle.gx_cli.proofs.StoredAnswers.{asked_printed}
+use Rattle.gx_cli.proofs.StoredAnswers.{asked_printed, shows_printed}
 use Rattle.gx_cli.proofs.questions.print_answer.Goals as goal
 
 pub returns-in-Show : goal.returns-in-Show
 returns-in-Show g c =
     let was = g.W.Sink.taken c.args.sink.now in
-    let now = g.W.Sink.taken c.show_stored.new.sink in
+    let now = g.W.Sink.taken c.show.new.sink in
     let r = c.args.repo.now in
     let name = g.N.Namer.name_of r.0 in
-    let printed = subst (λ word. Prints (show_text name (history_of r.1) word) was now c.show_stored.result) c.as_bytes.ensures.value c.show_stored.ensures in
-    asked_printed name r.1 c.args.question _ was now c.show_stored.result c.in-Show.is printed
+    let shown = shows_printed (text_of_word name (history_of r.1) c.as_bytes.result.now) was now c.show.result c.show.ensures in
+    let printed = subst (λ word. Prints (show_text name (history_of r.1) word) was now c.show.result) c.as_bytes.ensures.value shown in
+    asked_printed name r.1 c.args.question _ was now c.show.result c.in-Show.is printed
 
 pub returns-in-List : goal.returns-in-List
 returns-in-List g c =

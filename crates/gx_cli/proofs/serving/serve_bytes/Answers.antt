@@ -13,28 +13,28 @@ returns-in-Import-clause-served g c =
 
 pub returns-in-Show-clause-served : goal.returns-in-Show-clause-served
 returns-in-Show-clause-served g c =
-    subst (λ l. Serves (g.N.Namer.name_of c.args.namer) l (bytes_of c.args.store) (g.R.Source.coming c.args.source) (g.W.Sink.taken c.args.sink.now) (g.W.Sink.taken c.ask.new.sink) c.ask.result) (sym c.in-Show.is) c.ask.ensures
+    subst (λ l. Serves (g.N.Namer.name_of c.args.namer) l (bytes_of c.args.store) (g.R.Source.coming c.args.source) (g.W.Sink.taken c.args.sink.now) (g.W.Sink.taken c.print_stored.new.sink) c.print_stored.result) (sym c.in-Show.is) c.print_stored.ensures
 
 pub returns-in-Ls-clause-served : goal.returns-in-Ls-clause-served
 returns-in-Ls-clause-served g c =
-    subst (λ l. Serves (g.N.Namer.name_of c.args.namer) l (bytes_of c.args.store) (g.R.Source.coming c.args.source) (g.W.Sink.taken c.args.sink.now) (g.W.Sink.taken c.ask-in-Ls.new.sink) c.ask-in-Ls.result) (sym c.in-Ls.is) c.ask-in-Ls.ensures
+    subst (λ l. Serves (g.N.Namer.name_of c.args.namer) l (bytes_of c.args.store) (g.R.Source.coming c.args.source) (g.W.Sink.taken c.args.sink.now) (g.W.Sink.taken c.print_stored-in-Ls.new.sink) c.print_stored-in-Ls.result) (sym c.in-Ls.is) c.print_stored-in-Ls.ensures
 
 pub returns-in-Refs-clause-served : goal.returns-in-Refs-clause-served
 returns-in-Refs-clause-served g c =
-    subst (λ l. Serves (g.N.Namer.name_of c.args.namer) l (bytes_of c.args.store) (g.R.Source.coming c.args.source) (g.W.Sink.taken c.args.sink.now) (g.W.Sink.taken c.ask-in-Refs.new.sink) c.ask-in-Refs.result) (sym c.in-Refs.is) c.ask-in-Refs.ensures
+    subst (λ l. Serves (g.N.Namer.name_of c.args.namer) l (bytes_of c.args.store) (g.R.Source.coming c.args.source) (g.W.Sink.taken c.args.sink.now) (g.W.Sink.taken c.print_stored-in-Refs.new.sink) c.print_stored-in-Refs.result) (sym c.in-Refs.is) c.print_stored-in-Refs.ensures
 
 pub returns-in-Log-clause-served : goal.returns-in-Log-clause-served
 returns-in-Log-clause-served g c =
     let name = g.N.Namer.name_of c.args.namer in
     let was = g.W.Sink.taken c.args.sink.now in
-    let now = g.W.Sink.taken c.ask-in-Log.new.sink in
-    let asked = subst (λ words. PrintsStored (store_of name (bytes_of c.args.store)) (λ r. log_text name c.in-Log.options (history_of r) (texts_of words)) was now c.ask-in-Log.result) c.as_slice.ensures.value c.ask-in-Log.ensures in
-    subst (λ l. Serves name l (bytes_of c.args.store) (g.R.Source.coming c.args.source) was now c.ask-in-Log.result) (sym c.in-Log.is) asked
+    let now = g.W.Sink.taken c.print_stored-in-Log.new.sink in
+    let asked = subst (λ words. PrintsStored (store_of name (bytes_of c.args.store)) (λ r. log_text name c.in-Log.options (history_of r) (texts_of words)) was now c.print_stored-in-Log.result) c.as_slice.ensures.value c.print_stored-in-Log.ensures in
+    subst (λ l. Serves name l (bytes_of c.args.store) (g.R.Source.coming c.args.source) was now c.print_stored-in-Log.result) (sym c.in-Log.is) asked
 
 pub returns-in-RevParse-clause-served : goal.returns-in-RevParse-clause-served
 returns-in-RevParse-clause-served g c =
     let name = g.N.Namer.name_of c.args.namer in
     let was = g.W.Sink.taken c.args.sink.now in
-    let now = g.W.Sink.taken c.ask-in-RevParse.new.sink in
-    let asked = subst (λ words. PrintsStored (store_of name (bytes_of c.args.store)) (λ r. names_text name (history_of r) (texts_of words)) was now c.ask-in-RevParse.result) c.as_slice-in-RevParse.ensures.value c.ask-in-RevParse.ensures in
-    subst (λ l. Serves name l (bytes_of c.args.store) (g.R.Source.coming c.args.source) was now c.ask-in-RevParse.result) (sym c.in-RevParse.is) asked
+    let now = g.W.Sink.taken c.print_stored-in-RevParse.new.sink in
+    let asked = subst (λ words. PrintsStored (store_of name (bytes_of c.args.store)) (λ r. names_text name (history_of r) (texts_of words)) was now c.print_stored-in-RevParse.result) c.as_slice-in-RevParse.ensures.value c.print_stored-in-RevParse.ensures in
+    subst (λ l. Serves name l (bytes_of c.args.store) (g.R.Source.coming c.args.source) was now c.print_stored-in-RevParse.result) (sym c.in-RevParse.is) asked

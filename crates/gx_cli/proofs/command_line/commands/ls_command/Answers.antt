@@ -7,4 +7,4 @@ pub returns : goal.returns
 returns c =
     let ls = file_command (codes "ls") in
     let of_revision = subst (λ r. Makes c.with_argument-ls.result (with_rule ls r)) c.revision.ensures.rule (c.with_argument-ls.ensures ls c.file_command-ls.ensures) in
-    subst (λ r. Makes c.with_argument.result (with_rule (with_rule ls revision) r)) c.recursive.ensures.rule (c.with_argument.ensures (with_rule ls revision) of_revision)
+    subst (λ r. Makes c.with_argument.result (with_rule (with_rule ls revision) r)) c.letter_flag-recursive.ensures.rule (c.with_argument.ensures (with_rule ls revision) of_revision)

@@ -1,7 +1,0 @@
-use Rattle.std.proofs.Common.{codes, subst}
-use Rattle.clap.specs.Words.{with_rule}
-use Rattle.gx_cli.specs.CommandLine.{Makes, file_command}
-use Rattle.gx_cli.proofs.command_line.commands.rev_parse_command.Goals as goal
-
-pub returns : goal.returns
-returns c = subst (λ r. Makes c.with_argument.result (with_rule (file_command (codes "rev-parse")) r)) c.words-revisions.ensures.rule (c.with_argument.ensures (file_command (codes "rev-parse")) c.file_command.ensures)

@@ -1,4 +1,0 @@
-use Rattle.gx_cli.proofs.importing.written.Goals as goal
-
-pub returns : goal.returns
-returns g c = c.with_text.ensures

@@ -4,7 +4,6 @@ use Rattle.std.specs.List.{flat_map}
 use Rattle.gx_model.specs.Texts.{Bytes}
 use Rattle.gx_model.specs.Objects.{line}
 use Rattle.gx_model.specs.Texts.Sinks.{FailedWithin, Taken, Took}
-use Rattle.gx_cli.specs.Answers.{Prints}
 use Rattle.gx_cli.specs.Sending.{PrintsText, Sent}
 use Rattle.gx_cli.specs.Trying.{Shows}
 use Rattle.gx_cli.specs.declared.fault.CliFault.{CliFault}
@@ -56,3 +55,11 @@ rest_from (y ∷ ys) (suc i) x d h e = let s : suc i + 1 ≡ suc (i + 1) = omega
 -- the line of what comes next, and what is left then
 pub left_from : {X : Type 0} (line_of : X → Bytes) (whole : Bytes) (was now : Option Taken) (xs : List X) (i : ℕ) (x d : X) → i < length xs → x ≡ get_or xs i d → IsLeft whole was now (flat_map line_of (drop i xs)) → IsLeft whole was now (line_of x ++ flat_map line_of (drop (i + 1) xs))
 left_from line_of whole was now xs i x d h e k = subst (λ left. IsLeft whole was now (flat_map line_of left)) (rest_from xs i x d h e) k
+
+-- the parts of a line, each behind what was written before
+pub in_parts : (first second third : Bytes) → ((((first ++ 58 ∷ []) ++ second) ++ 58 ∷ []) ++ third) ++ 10 ∷ [] ≡ first ++ 58 ∷ (second ++ 58 ∷ (third ++ 10 ∷ []))
+in_parts first second third =
+    let front = (first ++ 58 ∷ []) ++ second in
+    let last = third ++ 10 ∷ [] in
+    let later = second ++ 58 ∷ last in
+    append_assoc (front ++ 58 ∷ []) third (10 ∷ []) ∙ append_assoc front (58 ∷ []) last ∙ append_assoc (first ++ 58 ∷ []) second (58 ∷ last) ∙ append_assoc first (58 ∷ []) later

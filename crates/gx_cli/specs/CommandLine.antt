@@ -39,17 +39,17 @@ flag id = record (new_rule id) { long = Some id; action = Some SetTrue }
 abbrev pub letter_flag : Text → ℕ → Rule
 letter_flag id letter = record (flag id) { short = Some letter }
 
+-- a whole number below 2^64
+abbrev pub whole_number : Text → Rule
+whole_number id = record (new_rule id) { value_names = 1; parser = Some (parser.Unsigned 0 18446744073709551615) }
+
 -- --ID and a whole number below 2^64
 abbrev pub number : Text → Rule
-number id = record (new_rule id) {
-  long = Some id;
-  value_names = 1;
-  parser = Some (parser.Unsigned 0 18446744073709551615);
-}
+number id = record (whole_number id) { long = Some id }
 
 -- a positional whole number below 2^64 that isn't left out
 abbrev pub needed_number : Text → Rule
-needed_number id = record (one_word id) { parser = Some (parser.Unsigned 0 18446744073709551615) }
+needed_number id = record (whole_number id) { required = true }
 
 abbrev pub file : Rule
 file = one_word (codes "file")
@@ -124,10 +124,6 @@ AddsArgument made rule result = (a : App) → Makes made a → Makes result (wit
 -- one more command under what was made so far, unless there was no memory for it
 abbrev pub AddsCommand : {E : Type 0} → Result Command E → Result Command E → Result Command E → Type 0
 AddsCommand made sub result = (a b : App) → Makes made a → Makes sub b → Makes result (under a b)
-
--- the same of a command that is there
-abbrev pub AddsToMade : {E : Type 0} → Command → Result Command E → Result Command E → Type 0
-AddsToMade made sub result = (a b : App) → IsMade made a → Makes sub b → Makes result (under a b)
 
 -- the commands that read a stream and keep nothing
 abbrev pub with_stream_commands : App → App

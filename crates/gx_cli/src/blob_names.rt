@@ -14,29 +14,40 @@ use gx_store::{Store, StoreFault};
 use gx_stream::{Item, ItemReader, StreamFault};
 use gx_text::{Sink, Source, cut, decimal, send};
 use std::alloc::Allocator;
+use std::fmt;
 use std::hash::RandomState;
 use thiserror::Error;
 
-/// Why the names of a stream's blobs end before the stream does.
-#[derive(Clone, Copy, Debug, PartialEq, Eq, Error)]
+/// Why the names of a stream's blobs end before the stream does. Each prints its word.
+#[derive(Clone, Copy, Debug, PartialEq, Eq)]
 pub enum BlobsKind {
-    #[error("OutOfMemory")]
     OutOfMemory,
-    #[error("ReadFailed")]
     ReadFailed,
-    #[error("WriteFailed")]
     WriteFailed,
-    #[error("BadLine")]
     BadLine,
-    #[error("BadNumber")]
     BadNumber,
-    #[error("TruncatedData")]
     TruncatedData,
-    #[error("NameHeld")]
     NameHeld,
-    #[error("NotABlob")]
     NotABlob,
 }
+
+impl fmt::Display for BlobsKind {
+    fn fmt<W: fmt::Write>(&self, f: &mut fmt::Formatter<W>) -> fmt::Result {
+        let word = match self {
+            BlobsKind::OutOfMemory => "OutOfMemory",
+            BlobsKind::ReadFailed => "ReadFailed",
+            BlobsKind::WriteFailed => "WriteFailed",
+            BlobsKind::BadLine => "BadLine",
+            BlobsKind::BadNumber => "BadNumber",
+            BlobsKind::TruncatedData => "TruncatedData",
+            BlobsKind::NameHeld => "NameHeld",
+            BlobsKind::NotABlob => "NotABlob",
+        };
+        f.write_str(word)
+    }
+}
+
+impl std::error::Error for BlobsKind {}
 
 /// The number of the command, from 1, at which the names end, and why.
 #[derive(Clone, Copy, Debug, PartialEq, Eq, Error)]

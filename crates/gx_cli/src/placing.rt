@@ -1,6 +1,6 @@
 //! Where a command of a stream begins, printed. Source: git-fast-import(1), and grep(1), "Output Line Prefix Control".
 
-ghost use Rattle.std.specs.Prelude.{◌≡◌, IfOk};
+ghost use Rattle.std.specs.Prelude.{◌≡◌, [], OnOk};
 ghost use Rattle.gx_cli.specs.Placing.{PlacesFrom, PutsPlace, place_line};
 
 use crate::CliFault;
@@ -38,24 +38,25 @@ fn put_place<W: Sink, A: Allocator + Copy>(
 ) -> Result<(), CliFault>
     ensures { PutsPlace place.entry (W.taken sink.old) (W.taken sink.new) result }
 {
-    let line = place_line(alloc, place)?;
+    let mut line = Vec::new(alloc);
+    write_place(&mut line, place)?;
     match send(sink, &line) {
         Ok(()) => Ok(()),
         Err(_) => Err(CliFault::WriteFailed),
     }
 }
 
-/// The line of a place.
-fn place_line<A: Allocator + Copy>(alloc: A, place: Place<'_>) -> Result<Vec<u8, A>, AllocError>
-    ensures { IfOk result (λ line. line.items ≡ place_line place.entry) }
+/// Writes the line of a place.
+fn write_place<A: Allocator>(line: &mut Vec<u8, A>, place: Place<'_>) -> Result<(), AllocError>
+    requires empty { line.old.items ≡ [] }
+    ensures { OnOk result (line.new.items ≡ place_line place.entry) }
 {
     let mut digits = Buffer::new();
-    let mut line = Vec::new(alloc);
     line.extend_from_slice(digits.format(place.line).as_bytes())?;
     line.push(b':')?;
     line.extend_from_slice(digits.format(place.byte).as_bytes())?;
     line.push(b':')?;
     line.extend_from_slice(place.first)?;
     line.push(b'\n')?;
-    Ok(line)
+    Ok(())
 }

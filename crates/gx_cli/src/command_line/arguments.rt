@@ -27,28 +27,12 @@ pub(super) fn one_word<'a>(alloc: Global, id: &'a str, shown: &'a str, help: &'a
         .help(help)
 }
 
-/// A positional argument that isn't left out, and is a whole number below 2^64. Help shows it by `N`.
-pub(super) fn needed_number<'a>(alloc: Global, id: &'a str, help: &'a str) -> Arg<'a>
-    ensures rule { rule_of result ≡ say.needed_number id.entry.now }
-    ensures local { result.global ≡ false }
-{
-    Arg::new(alloc, id)
-        .required(true)
-        .value_name("N")
-        .value_parser(ValueParser::unsigned(0, u64::MAX))
-        .help(help)
-}
-
 /// A positional argument that stands at least once. Help shows it by `shown`.
 pub(super) fn words<'a>(alloc: Global, id: &'a str, shown: &'a str, help: &'a str) -> Arg<'a>
     ensures rule { rule_of result ≡ say.words id.entry.now }
     ensures local { result.global ≡ false }
 {
-    Arg::new(alloc, id)
-        .required(true)
-        .num_args(1..)
-        .value_name(shown)
-        .help(help)
+    one_word(alloc, id, shown, help).num_args(1..)
 }
 
 /// A flag that is given by its id.
@@ -62,25 +46,12 @@ pub(super) fn flag<'a>(alloc: Global, id: &'a str, help: &'a str) -> Arg<'a>
         .help(help)
 }
 
-/// A flag that is given by its id or by a letter.
-pub(super) fn letter_flag<'a>(alloc: Global, id: &'a str, letter: char, help: &'a str) -> Arg<'a>
-    ensures rule { rule_of result ≡ say.letter_flag id.entry.now letter }
-    ensures local { result.global ≡ false }
-{
-    Arg::new(alloc, id)
-        .long(id)
-        .short(letter)
-        .action(ArgAction::SetTrue)
-        .help(help)
-}
-
-/// An option with a whole number below 2^64.
+/// A whole number below 2^64. Help shows it by `N`.
 pub(super) fn number<'a>(alloc: Global, id: &'a str, help: &'a str) -> Arg<'a>
-    ensures rule { rule_of result ≡ say.number id.entry.now }
+    ensures rule { rule_of result ≡ say.whole_number id.entry.now }
     ensures local { result.global ≡ false }
 {
     Arg::new(alloc, id)
-        .long(id)
         .value_name("N")
         .value_parser(ValueParser::unsigned(0, u64::MAX))
         .help(help)

@@ -6,7 +6,7 @@ ghost use Rattle.clap.specs.Words.{App, app_of, new_app, rule_of};
 ghost use Rattle.clap.specs.declared.builder.command.Command.TheViews.{out-Command as fields_of};
 ghost use Rattle.gx_cli.specs.CommandLine as say;
 
-use super::arguments::{flag, letter_flag, needed_number, number, one_word, revision, words};
+use super::arguments::{flag, number, one_word, revision, words};
 use super::manual::{self, Page};
 use clap::{Arg, Command};
 use std::alloc::{AllocError, Global};
@@ -42,7 +42,7 @@ fn with_stream_commands<'a>(
     let try_command = with_argument(Ok(command(alloc, "try", manual::TRY)), revision(alloc));
     let gx = with_command(gx, try_command);
     let gx = with_command(gx, Ok(command(alloc, "adapt", manual::ADAPT)));
-    let number = needed_number(alloc, "number", "The number of a command, from 1");
+    let number = number(alloc, "number", "The number of a command, from 1").required(true);
     let where_command = with_argument(Ok(command(alloc, "where", manual::WHERE)), number);
     with_command(gx, where_command)
 }
@@ -82,12 +82,12 @@ fn with_tree_commands<'a>(
 fn ls_command<'a>(alloc: Global) -> Result<Command<'a>, AllocError>
     ensures { say.Makes result say.ls_command }
 {
-    let recursive = letter_flag(
+    let recursive = flag(
         alloc,
         "recursive",
-        'r',
         "Lists all files below the tree by their paths, and no trees",
-    );
+    )
+    .short('r');
     let ls = file_command(alloc, "ls", manual::LS);
     let ls = with_argument(ls, revision(alloc));
     with_argument(ls, recursive)
@@ -120,7 +120,8 @@ fn log_command<'a>(alloc: Global) -> Result<Command<'a>, AllocError>
         alloc,
         "max-count",
         "Lists N commits at most, counted before --reverse turns them",
-    );
+    )
+    .long("max-count");
     let parents = flag(
         alloc,
         "parents",
@@ -173,20 +174,10 @@ fn with_command<'a>(
     ensures { say.AddsCommand command.entry sub.entry result }
 {
     match command {
-        Ok(command) => with_made(command, sub),
-        Err(error) => Err(error),
-    }
-}
-
-/// The same of a command that is there.
-fn with_made<'a>(
-    command: Command<'a>,
-    sub: Result<Command<'a>, AllocError>,
-) -> Result<Command<'a>, AllocError>
-    ensures { say.AddsToMade command.entry sub.entry result }
-{
-    match sub {
-        Ok(sub) => command.subcommand(sub),
+        Ok(command) => match sub {
+            Ok(sub) => command.subcommand(sub),
+            Err(error) => Err(error),
+        },
         Err(error) => Err(error),
     }
 }

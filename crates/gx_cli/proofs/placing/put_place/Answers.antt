@@ -9,4 +9,4 @@ returns g c =
     let was = g.W.Sink.taken c.args.sink.now in
     let now = g.W.Sink.taken c.send.new.sink in
     let count = c.in-Err.field-0 in
-    failed_within was now (place_line c.args.place) count (subst (λ text. Sends was now text (Err count)) (c.deref.ensures.value ∙ c.in_ok-line.ensures) c.in-Err.ensures.bytes)
+    failed_within was now (place_line c.args.place) count (subst (λ text. Sends was now text (Err count)) (c.deref.ensures.value ∙ c.in_ok-write_place.ensures) c.in-Err.ensures.bytes)

@@ -77,9 +77,7 @@ fn arrange<A: Allocator>(names: &mut Vec<Name, A>, options: LogOptions)
     ensures { names.new.items ≡ turned options.reverse (limited options.max_count names.old.items) }
 {
     limit(names, options.max_count);
-    if options.reverse {
-        names.reverse();
-    }
+    turn(names, options.reverse);
 }
 
 /// Keeps so many of the first names at most.
@@ -88,6 +86,15 @@ fn limit<A: Allocator>(names: &mut Vec<Name, A>, max_count: Option<u64>)
 {
     if let Some(most) = max_count {
         names.truncate(most as usize);
+    }
+}
+
+/// Turns the names round where that is asked for.
+fn turn<A: Allocator>(names: &mut Vec<Name, A>, reverse: bool)
+    ensures { names.new.items ≡ turned reverse names.old.items }
+{
+    if reverse {
+        names.reverse();
     }
 }
 

@@ -1,8 +1,6 @@
-use Rattle.std.proofs.Common.{ap, reverse, ◌∙◌}
+use Rattle.std.proofs.Common.{ap, ◌∙◌}
+use Rattle.gx_cli.specs.Stored.{turned}
 use Rattle.gx_cli.proofs.log.arrange.Goals as goal
 
-pub returns-then-options : goal.returns-then-options
-returns-then-options g c = rw c.if-options.true (c.reverse.ensures.items ∙ ap reverse c.limit.ensures)
-
-pub returns-else-options : goal.returns-else-options
-returns-else-options g c = rw c.if-options.false c.limit.ensures
+pub returns : goal.returns
+returns g c = c.turn.ensures ∙ ap (turned c.args.options.reverse) c.limit.ensures

@@ -63,6 +63,10 @@ pub when_ok : {X E P : Type 0} (r : Result X E) → P → OnOk r P
 when_ok (Ok x) p = p
 when_ok (Err e) p = tt
 
+pub when_refused : {X E P : Type 0} (r : Result X E) → P → OnErr r P
+when_refused (Ok x) p = tt
+when_refused (Err e) p = p
+
 -- ---- a checkpoint
 
 -- a checkpoint that isn't refused

@@ -178,11 +178,11 @@ fn first_alone<A: Allocator + Copy>(
 ) -> Result<Vec<Name, A>, AllocError>
     ensures { IfOk result (λ names. names.items ≡ cons_option first []) }
 {
-    let mut parents = Vec::new(alloc);
+    let mut alone = Vec::new(alloc);
     if let Some(name) = first {
-        parents.push(name)?;
+        alone.push(name)?;
     }
-    Ok(parents)
+    Ok(alone)
 }
 
 /// Adds the trees of these files, and then the commit with them and with these parents.

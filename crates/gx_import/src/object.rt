@@ -10,7 +10,7 @@ use gx_repo::Repo;
 use std::alloc::Allocator;
 
 /// An object that is held.
-#[derive(Clone, Copy, Debug)]
+#[derive(Clone, Copy)]
 pub(crate) struct Object {
     pub(crate) kind: Kind,
     pub(crate) name: Name,

@@ -1,6 +1,17 @@
+use Rattle.std.proofs.Common.{Ok}
+use Rattle.std.proofs.lemmas.Result.{err_from_is_err_and}
+use Rattle.gx_model.specs.Faults.{and_then}
+use Rattle.gx_model.specs.Histories.Edits.{modified}
+use Rattle.gx_model.specs.Histories.Files.{FileMap}
+use Rattle.gx_model.specs.Laws.RepositoryLaws.{values_of}
+use Rattle.gx_model.specs.Replay.{State, content}
+use Rattle.gx_model.specs.Texts.{Bytes}
 use Rattle.gx_command.specs.Views.{shown_data}
+use Rattle.gx_object.specs.declared.name.Name.{Name}
+use Rattle.gx_import.specs.Additions.{Clash, content_added}
 use Rattle.gx_import.proofs.TipHomes.{home_longer}
 use Rattle.gx_import.proofs.EditedFiles.{modify_done}
+use Rattle.gx_import.proofs.PartAnswers.{adds_refused}
 use Rattle.gx_import.proofs.changes.modify_files.Goals as goal
 
 pub returns-clause-steps : goal.returns-clause-steps
@@ -14,3 +25,13 @@ pub returns-clause-home : goal.returns-clause-home
 returns-clause-home g c = λ h.
     let name = g.N.Namer.name_of c.args.repo.now.0 in
     c.modify.ensures.home name c.content.new.repo.1.records (home_longer c.records_keep_home.ensures name c.args.repo.now.1.records c.content.new.repo.1.records c.args.files.now c.content.ensures.extends h)
+
+pub returns-in_err-name-clause-steps : goal.returns-in_err-name-clause-steps
+returns-in_err-name-clause-steps g c = λ s f h are.
+    let name = g.N.Namer.name_of c.args.repo.now.0 in
+    let p = err_from_is_err_and c.from_residual.result c.from_residual.ensures.1 in
+    let m = c.args.modify in
+    let d = shown_data m.data_ref in
+    let clash = Clash name (values_of c.args.repo.now.1) (content_added d) in
+    rw (p.1, p.2) (adds_refused {X = Name} {Y = State × Bytes} {Z = Unit {0}} {W = State × FileMap Bytes} clash clash (λ u x. Unit {0}) (λ u x. Unit {0}) (λ q. q) c.in_err-name.field-0.0 (content name s m.mode d)
+    (λ r. and_then (modified f m.path (m.mode, r.1)) (λ z. Ok (r.0, z))) (c.in_err-name.ensures.steps s h))

@@ -63,6 +63,9 @@ returns-clause-nulls g c =
     null_refused name (c.histories_of_records.ensures name (g.met.N.Namer.is_namer c.args.repo.now.0)) c.nulls_are_refused.ensures c.args.repo.now.1 (left_of c.replay_and_publish.new.checkpoints c.replay_and_publish.new.repo.1)
     (g.R.Source.coming c.args.source) (g.W.Sink.taken c.args.sink.now) (g.W.Sink.taken c.replay_and_publish.new.sink) (Err c.in-Err.fault) c.in-Err.ensures.replayed
 
+pub returns-in-Ok-clause-extends : goal.returns-in-Ok-clause-extends
+returns-in-Ok-clause-extends g c = c.replay_and_publish.ensures.extends
+
 pub returns-in-Ok-clause-replayed : goal.returns-in-Ok-clause-replayed
 returns-in-Ok-clause-replayed g c = c.in-Ok.ensures.replayed
 

@@ -7,6 +7,7 @@ use Rattle.gx_model.specs.Records.HistoryOf.{history_of}
 use Rattle.gx_model.specs.Replay.{overwritten}
 use Rattle.gx_import.specs.Keeping.{IsLeft, left_of}
 use Rattle.std.proofs.lemmas.List.{length-map}
+use Rattle.std.proofs.lemmas.Result.{err_from_is_err_and}
 use Rattle.gx_import.specs.Rows.{row_of, rows_of}
 use Rattle.gx_import.specs.Standing.{Stands}
 use Rattle.gx_import.proofs.PublishedNames.{as_many}
@@ -64,3 +65,8 @@ returns-clause-gitlinks g c = λ none.
     let name = g.N.Namer.name_of c.args.repo.now.0 in
     let law = c.histories_of_records.ensures name (g.met.N.Namer.is_namer c.args.repo.now.0) in
     same_records_keep c.replay.new.repo.1 c.publish.new.repo.1 c.publish.ensures.records (c.in_ok-commands.ensures.gitlinks (law.stands c.args.repo.now.1 c.store.ensures.sound).history none)
+
+pub returns-in_err-commands-clause-replayed : goal.returns-in_err-commands-clause-replayed
+returns-in_err-commands-clause-replayed g c =
+    let p = err_from_is_err_and c.from_residual.result c.from_residual.ensures.1 in
+    rw (p.1, p.2) c.in_err-commands.ensures.replayed

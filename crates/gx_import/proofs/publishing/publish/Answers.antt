@@ -4,6 +4,7 @@ use Rattle.gx_repo.specs.Refs.{shown_update}
 use Rattle.gx_import.specs.Keeping.{AreNames}
 use Rattle.gx_import.specs.RefChanges.{branch_changes, is_moved, moved_of, tag_changes}
 use Rattle.gx_import.specs.Rows.{rows_of}
+use Rattle.gx_import.proofs.KeptCheckpoints.{when_refused}
 use Rattle.gx_import.proofs.MovedChanges.{fewer_free, moved_set}
 use Rattle.gx_import.proofs.PublishedNames.{all_entered}
 use Rattle.gx_import.proofs.SetRefs.{changes_free, final_set}
@@ -54,3 +55,6 @@ returns-clause-has_all g c = λ all.
     let moved = c.in_ok-publish_all.ensures.refs ∙ ap (λ cs. with_changes r.refs (map shown_update cs)) c.as_slice-2.ensures.value ∙ ap (with_changes r.refs) asked_for in
     let set = moved ∙ moved_set r.refs (rows_of tables.branches) (tag_changes (rows_of tables.tags)) c.sound.ensures.sorted c.requires.stands.1.branches_sorted in
     subst (λ refs. AreNames refs (rows_of c.enter_names.new.published)) (sym set) (c.in_ok-enter_names.ensures.entered r.refs (c.requires.has_all all))
+
+pub returns-in_err-enter_names-clause-unchanged : goal.returns-in_err-enter_names-clause-unchanged
+returns-in_err-enter_names-clause-unchanged g c = when_refused c.from_residual-in_err-enter_names.result refl

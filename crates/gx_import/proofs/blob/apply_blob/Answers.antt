@@ -26,3 +26,8 @@ returns-clause-steps g c = λ s h.
           (marked_one name c.add_blob_owned.new.self.1 c.args.tables.now c.set.new.self (added v s) (added_one name c.args.repo.now.1 c.add_blob_owned.new.self.1 c.args.tables.now s h v refl c.in_ok-name.ensures.history) v _
           (record { stands = one_has s.history.values v; kind = refl; named = c.in_ok-name.ensures.value }) c.args.blob.mark c.in_ok-set.ensures),
     )
+
+pub returns-in_err-set-clause-steps : goal.returns-in_err-set-clause-steps
+returns-in_err-set-clause-steps g c = λ s h.
+    let p = err_from_is_err_and c.from_residual-in_err-set.result c.from_residual-in_err-set.ensures.1 in
+    rw (p.1, p.2) tt

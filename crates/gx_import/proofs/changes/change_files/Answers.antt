@@ -80,3 +80,8 @@ returns-clause-home g c = λ h.
       | in-Rename+in_ok-rename-in-Rename w ↦ rw (w.repo-is, w.files-is) (w.rename.ensures.home name rs h)
       | in-Clear w ↦ rw (w.repo-is, w.files-is) (subst (IsAtHome name rs) (sym w.clear.ensures) tt)
     ]
+
+pub returns-in_err-modify_files-in-Modify-clause-steps : goal.returns-in_err-modify_files-in-Modify-clause-steps
+returns-in_err-modify_files-in-Modify-clause-steps g c = λ s f h are.
+    let p = err_from_is_err_and c.from_residual.result c.from_residual.ensures.1 in
+    rw (c.in-Modify.is, p.1, p.2) (c.in_err-modify_files-in-Modify.ensures.steps s f h are)

@@ -24,3 +24,8 @@ returns-clause-home g c = c.in_ok-change_all.ensures.home (c.in_ok-files.ensures
 pub returns-clause-homes : goal.returns-clause-homes
 returns-clause-homes g c =
     homes_longer (g.N.Namer.name_of c.args.repo.now.0) c.records_keep_home.ensures c.args.repo.now.1.records c.change_all.new.repo.1.records (rows_of c.starting_files.new.tables.branches) c.change_all.ensures.extends (c.starting_files.ensures.homes c.requires.homes)
+
+pub returns-in_err-files-clause-steps : goal.returns-in_err-files-clause-steps
+returns-in_err-files-clause-steps g c = λ s made h both.
+    let p = err_from_is_err_and c.from_residual.result c.from_residual.ensures.1 in
+    rw (p.1, p.2, c.in_err-files.ensures.fault) tt

@@ -1,4 +1,5 @@
 use Rattle.std.proofs.Common.{◌≡◌, IfSome, is_some, map, refl, sym, ap, subst, ◌∙◌}
+use Rattle.std.proofs.lemmas.Result.{err_from_is_err_and}
 use Rattle.gx_model.specs.Records.Publishing.{changes_fault, with_changes}
 use Rattle.gx_repo.specs.Refs.{shown_update}
 use Rattle.gx_import.specs.Keeping.{AreNames}
@@ -58,3 +59,8 @@ returns-clause-has_all g c = λ all.
 
 pub returns-in_err-enter_names-clause-unchanged : goal.returns-in_err-enter_names-clause-unchanged
 returns-in_err-enter_names-clause-unchanged g c = when_refused c.from_residual-in_err-enter_names.result refl
+
+pub returns-in_err-enter_names-clause-published : goal.returns-in_err-enter_names-clause-published
+returns-in_err-enter_names-clause-published g c = λ s h.
+    let p = err_from_is_err_and c.from_residual-in_err-enter_names.result c.from_residual-in_err-enter_names.ensures.1 in
+    rw (p.1, p.2) refl

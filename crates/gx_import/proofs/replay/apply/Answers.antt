@@ -183,3 +183,8 @@ returns-in-Tag-clause-homes g c =
 
 pub returns-in-Reset-clause-homes : goal.returns-in-Reset-clause-homes
 returns-in-Reset-clause-homes g c = c.apply_reset.ensures.homes (g.N.Namer.name_of c.args.repo.now.0) c.args.repo.now.1.records c.requires.homes
+
+pub returns-in-Feature-clause-steps : goal.returns-in-Feature-clause-steps
+returns-in-Feature-clause-steps g c = λ s h.
+    let name = g.N.Namer.name_of c.args.repo.now.0 in
+    rw c.in-Feature.is (given_as name c.args.repo.now.1 c.args.repo.now.1 c.apply_feature.new.tables s (Asks c.in-Feature.feature) (g.W.Sink.taken c.args.sink.now) (Ok tt) (c.apply_feature.ensures.steps name c.args.repo.now.1 s h))

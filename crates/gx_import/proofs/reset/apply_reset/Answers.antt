@@ -32,3 +32,8 @@ returns-clause-steps g c = λ s h.
 
 pub returns-clause-homes : goal.returns-clause-homes
 returns-clause-homes g c = λ name records h. subst (AreHome name records) (sym c.in_ok-set_tip.ensures.branches) (homes_put name records _ _ _ tt h)
+
+pub returns-in_err-set_tip-clause-steps : goal.returns-in_err-set_tip-clause-steps
+returns-in_err-set_tip-clause-steps g c = λ s h.
+    let p = err_from_is_err_and c.from_residual-in_err-set_tip.result c.from_residual-in_err-set_tip.ensures.1 in
+    rw (p.1, p.2) tt

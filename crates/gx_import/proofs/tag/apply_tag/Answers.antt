@@ -75,3 +75,18 @@ returns-clause-steps g c = λ s h.
       tag_set name c.add.new.repo.1 c.args.tables.now s (added (tag_value v) s) f v called (one_has s.history.values (tag_value v)) a.2.1 t.mark c.set.new.self _ refl refl c.in_ok-set.ensures _ refl refl refl
           (c.in_ok-set-2.ensures ∙ ap (λ n. put byte_cmp n called (rows_of c.args.tables.now.tags)) ref),
     )
+
+pub returns-in_err-set-clause-steps : goal.returns-in_err-set-clause-steps
+returns-in_err-set-clause-steps g c = λ s h.
+    let p = err_from_is_err_and c.from_residual-in_err-set.result c.from_residual-in_err-set.ensures.1 in
+    rw (p.1, p.2) tt
+
+pub returns-in_err-tag_ref-clause-steps : goal.returns-in_err-tag_ref-clause-steps
+returns-in_err-tag_ref-clause-steps g c = λ s h.
+    let p = err_from_is_err_and c.from_residual-in_err-tag_ref.result c.from_residual-in_err-tag_ref.ensures.1 in
+    rw (p.1, p.2) tt
+
+pub returns-in_err-set-2-clause-steps : goal.returns-in_err-set-2-clause-steps
+returns-in_err-set-2-clause-steps g c = λ s h.
+    let p = err_from_is_err_and c.from_residual-in_err-set-2.result c.from_residual-in_err-set-2.ensures.1 in
+    rw (p.1, p.2) tt

@@ -1,6 +1,12 @@
-use Rattle.std.proofs.Common.{OnOk, subst, ◌∙◌}
-use Rattle.gx_import.specs.Rows.{SetsRow}
+use Rattle.std.proofs.Common.{OnOk, sym, subst, ◌∙◌}
+use Rattle.gx_import.specs.declared.branches.Tip.{Tip}
+use Rattle.gx_import.specs.declared.table.Table.{Table}
+use Rattle.gx_import.specs.Rows.{IsSorted, SetsRow}
 use Rattle.gx_import.proofs.tables.Tables.set_tip.Goals as goal
+
+pub set-requires : goal.set-requires
+set-requires g c =
+    record { sorted = subst (λ (branches : Table (Tip g.row.A.Denot) g.row.A.Denot). IsSorted branches) (sym (c.enter_tip.ensures.branches ∙ c.forget_tip.ensures.branches)) c.requires.sorted }
 
 pub returns-clause-branches : goal.returns-clause-branches
 returns-clause-branches g c =

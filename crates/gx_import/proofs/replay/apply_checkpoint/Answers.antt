@@ -1,4 +1,5 @@
 use Rattle.std.proofs.Common.{length, refl, ap, ◌∙◌}
+use Rattle.std.proofs.lemmas.Result.{err_from_is_err_and}
 use Rattle.gx_import.proofs.replay.apply_checkpoint.Goals as goal
 
 pub publish-requires-clause-stands : goal.publish-requires-clause-stands
@@ -12,3 +13,8 @@ returns-clause-published g c = c.in_ok-publish.ensures.published
 
 pub returns-clause-entered : goal.returns-clause-entered
 returns-clause-entered g c = c.in_ok-publish.ensures.entered
+
+pub returns-in_err-publish-clause-published : goal.returns-in_err-publish-clause-published
+returns-in_err-publish-clause-published g c =
+    let p = err_from_is_err_and c.from_residual.result c.from_residual.ensures.1 in
+    rw (p.1, p.2) c.in_err-publish.ensures.published

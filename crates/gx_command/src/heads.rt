@@ -196,7 +196,7 @@ fn is_left_out(words: Words<'_>) -> bool
 }
 
 fn read_feature(is_early: bool, words: Words<'_>) -> Result<Feature, CommandFault>
-    ensures feature { Gives fault_of (λ f. f) result (early_feature is_early (shown_words words.entry)) }
+    ensures reads { Gives fault_of (λ f. f) result (early_feature is_early (shown_words words.entry)) }
     ensures memory { NeedsNoMemory result }
 {
     let text = early_rest(is_early, words)?;

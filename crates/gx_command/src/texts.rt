@@ -59,7 +59,7 @@ impl<A: Allocator + Copy> RefName<A> {
 
     /// The ref that a line with these words names.
     pub(crate) fn read(alloc: A, words: Words<'_>) -> Result<RefName<A>, CommandFault>
-        ensures name { Gives fault_of (λ name. name.bytes.items) result (ref_named (shown_words words.entry)) }
+        ensures name { Gives fault_of (λ it. it.bytes.items) result (ref_named (shown_words words.entry)) }
         ensures memory { IsErrOf result OutOfMemory → IsOk (ref_named (shown_words words.entry)) }
     {
         let text = words.rest()?;

@@ -12,10 +12,10 @@ returns-then-is-2 g c = λ s. rw (at_progress g.row.A.Denot c.args.is_early _ s 
 pub returns-in_err-read_feature : goal.returns-in_err-read_feature
 returns-in_err-read_feature g c = λ s.
     let p = err_from_is_err_and c.from_residual.result c.from_residual.ensures.1 in
-    rw (p.1, p.2, at_feature g.row.A.Denot c.args.is_early _ s c.requires (sym c.is.ensures ∙ c.if-is.false) (sym c.is-else-is.ensures ∙ c.if-is-2.false) (sym c.is-else-is-2.ensures ∙ c.if-is-3.true)) (fails_first _ _ _ c.in_err-read_feature.ensures.feature)
+    rw (p.1, p.2, at_feature g.row.A.Denot c.args.is_early _ s c.requires (sym c.is.ensures ∙ c.if-is.false) (sym c.is-else-is.ensures ∙ c.if-is-2.false) (sym c.is-else-is-2.ensures ∙ c.if-is-3.true)) (fails_first _ _ _ c.in_err-read_feature.ensures.reads)
 
 pub returns-in_ok-read_feature : goal.returns-in_ok-read_feature
-returns-in_ok-read_feature g c = λ s. rw (at_feature g.row.A.Denot c.args.is_early _ s c.requires (sym c.is.ensures ∙ c.if-is.false) (sym c.is-else-is.ensures ∙ c.if-is-2.false) (sym c.is-else-is-2.ensures ∙ c.if-is-3.true), c.in_ok-read_feature.ensures.feature) refl
+returns-in_ok-read_feature g c = λ s. rw (at_feature g.row.A.Denot c.args.is_early _ s c.requires (sym c.is.ensures ∙ c.if-is.false) (sym c.is-else-is.ensures ∙ c.if-is-2.false) (sym c.is-else-is-2.ensures ∙ c.if-is-3.true), c.in_ok-read_feature.ensures.reads) refl
 
 pub returns-then-is-4 : goal.returns-then-is-4
 returns-then-is-4 g c = λ s. rw (at_option g.row.A.Denot c.args.is_early _ s c.requires (sym c.is.ensures ∙ c.if-is.false) (sym c.is-else-is.ensures ∙ c.if-is-2.false) (sym c.is-else-is-2.ensures ∙ c.if-is-3.false) (sym c.is-else-is-3.ensures ∙ c.if-is-4.true)) (is_whole_of _ s _ c.read_option.ensures)

@@ -7,7 +7,7 @@ use crate::sessions::runs;
 use crate::steps::{Step, words_of};
 use crate::texts::text;
 use gx_cli::{CliFault, Line, Outcome, read_line, serve, serve_owned};
-use gx_object::Sha1Namer;
+use gx_object::{Sha1Namer, ShortNamer};
 use gx_text::{Bytes, Held, Sink, Source};
 use std::alloc::{AllocError, Allocator, Global};
 use std::hash::RandomState;
@@ -116,6 +116,18 @@ pub(crate) fn ran_on<A: Allocator + Copy, R: Source + Drop, W: Sink>(
     } else {
         ran(alloc, line, &store, source, sink, state)
     }
+}
+
+/// What a command does under short names with a text that is given to it.
+pub(crate) fn ran_shortly<R: Source + Drop, W: Sink>(
+    alloc: Global,
+    line: &Line<'_>,
+    store: Vec<u8>,
+    source: R,
+    sink: &mut W,
+    state: RandomState,
+) -> Outcome<Global> {
+    serve_owned(alloc, ShortNamer, line, store, source, sink, state)
 }
 
 /// Whether a fault prints this line, and none prints an empty one.

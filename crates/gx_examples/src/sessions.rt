@@ -1,7 +1,7 @@
 //! Scripts whose commands are run on a store one after the other. Each is run twice: on texts that are lent to the commands, and on
 //! texts that are given to them.
 
-use crate::commands::{Task, has_line, ran_on, tried};
+use crate::commands::{Task, has_line, ran_on, ran_shortly, tried};
 use crate::steps::{Step, step_of};
 use gx_cli::{Line, Outcome};
 use gx_text::{Bytes, Held};
@@ -102,7 +102,11 @@ fn runs_into(
     };
     match Vec::from_slice(alloc, store) {
         Ok(text) => {
-            let outcome = ran_on(alloc, line, text, is_given, source, sink, state);
+            let outcome = if step.has_short_names {
+                ran_shortly(alloc, line, text, source, sink, state)
+            } else {
+                ran_on(alloc, line, text, is_given, source, sink, state)
+            };
             sink.bytes() == step.printed && ends_so(alloc, line, step, outcome, store)
         }
         Err(_) => false,

@@ -15,6 +15,8 @@ pub(crate) struct Step<'a> {
     pub(crate) fails: bool,
     /// There is a next store text, even where the step is refused. The words have a `+` before them.
     pub(crate) keeps: bool,
+    /// Objects have the names that `ShortNamer` gives them, which many have in common. The words have a `~` before them.
+    pub(crate) has_short_names: bool,
     pub(crate) input: &'a [u8],
     pub(crate) printed: &'a [u8],
     pub(crate) line: &'a str,
@@ -28,9 +30,14 @@ pub(crate) fn step_of(part: &str) -> Step<'_> {
     let (printed, rest) = halves(rest, '%');
     let (line, stream) = halves(rest, '%');
     Step {
-        words: words.trim_start_matches('!').trim_start_matches('+').trim(),
+        words: words
+            .trim_start_matches('!')
+            .trim_start_matches('+')
+            .trim_start_matches('~')
+            .trim(),
         fails: words.starts_with('!'),
         keeps: words.starts_with('+'),
+        has_short_names: words.starts_with('~'),
         input: bytes_of(input),
         printed: bytes_of(printed),
         line: line.trim(),

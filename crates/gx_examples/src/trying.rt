@@ -70,58 +70,6 @@ progress x
 % gx: command 2: ReadFailed
 ";
 
-/// Texts of stores before each command, and behind it.
-const STORES: &str = "
-$ store %
-not read%
-$ init store
-$ holds % empty
-$ store % empty
-$ import store % root
-$ holds % first
-$ store % first
-$ import store
-$ holds % first
-$ store % first
-$ refs store %% ref of first
-$ holds % first
-$ store % first
-$ show store main:test.txt %%
-version 1
-$ holds % first
-$ store % first
-$ batch store %
-main:test.txt
-nope
-%
-83baae61804e65cc73a7201a7252750c76066a30 blob 10
-version 1
-
-nope missing
-$ holds % first
-$ store % empty
-$ export store %%
-feature done
-done
-$ holds % empty
-$ store
-$ refs store %%% gx: store: Truncated
-$ holds
-$ store %
-gitstore 1
-$ export store %%% gx: store: BadMagic
-$ holds %
-gitstore 1
-$ store % first
-$ show store nope %%% gx: revision 1: UnknownRef
-$ holds % first
-$ store % first
-$ import store %
-foo
-%% gx: command 1: UnknownCommand
-$ holds % first
-";
-
 #[test]
 fn tries_show_the_progress_and_then_the_revision(rt: HostRuntime) -> Result<(), Fail> {
     let state = RandomState::new(&rt)?;

@@ -6,7 +6,6 @@ pub mod ListedCommits
 pub mod ListedFiles
 pub mod Staged
 pub mod Progress
-pub mod Weaker
 pub mod Trials
 pub mod Pieces
 pub mod StoredAnswers
@@ -15,6 +14,5 @@ pub mod WordsRead
 pub mod ReadStores
 pub mod ExportedStores
 pub mod RoundTrips
-pub mod MadeCommands
 pub mod Gathered
 pub mod ServedLines

@@ -6,8 +6,8 @@ use Rattle.gx_model.specs.Texts.Sinks.{Taken}
 use Rattle.gx_text.specs.Devices.{Coming}
 use Rattle.gx_import.specs.declared.report.Report.{Report}
 use Rattle.gx_cli.specs.Serving.{ImportsInto, Serves}
-use Rattle.gx_cli.specs.declared.command_line.Line.{Line}
-use Rattle.gx_cli.specs.declared.command_line.Line.TheVariants as line
+use Rattle.gx_line.specs.declared.command_line.Line.{Line}
+use Rattle.gx_line.specs.declared.command_line.Line.TheVariants as line
 use Rattle.gx_cli.specs.declared.serving.Outcome.{Outcome}
 
 -- an import, as it is served

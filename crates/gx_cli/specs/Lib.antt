@@ -16,4 +16,3 @@ pub mod Opening
 pub mod Serving
 pub mod Again
 pub mod Parts
-pub mod CommandLine

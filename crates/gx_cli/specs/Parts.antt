@@ -53,8 +53,8 @@ use Rattle.gx_cli.specs.Trying.{ImportsAlone, Shows, Tries}
 use Rattle.gx_cli.specs.Words.{GivesWords}
 use Rattle.gx_cli.specs.declared.blob_names.BlobsFault.{BlobsFault}
 use Rattle.gx_cli.specs.declared.blob_names.BlobsKind.{BlobsKind}
-use Rattle.gx_cli.specs.declared.command_line.Line.{Line}
-use Rattle.gx_cli.specs.declared.command_line.LogOptions.{LogOptions}
+use Rattle.gx_line.specs.declared.command_line.Line.{Line}
+use Rattle.gx_line.specs.declared.command_line.LogOptions.{LogOptions}
 use Rattle.gx_cli.specs.declared.fault.CliFault.{CliFault}
 use Rattle.gx_cli.specs.declared.opening.StoreBytes.{StoreBytes}
 use Rattle.gx_cli.specs.declared.questions.Question.{Question}

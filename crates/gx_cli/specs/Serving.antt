@@ -26,8 +26,8 @@ use Rattle.gx_export.specs.declared.fault.ExportFault.{ExportFault}
 use Rattle.gx_model.specs.declared.store_faults.FileFault.{FileFault}
 use Rattle.gx_model.specs.declared.store_faults.FileFault.TheVariants as file
 use Rattle.gx_cli.specs.declared.blob_names.BlobsFault.{BlobsFault}
-use Rattle.gx_cli.specs.declared.command_line.Line.{Line}
-use Rattle.gx_cli.specs.declared.command_line.Line.TheVariants as line
+use Rattle.gx_line.specs.declared.command_line.Line.{Line}
+use Rattle.gx_line.specs.declared.command_line.Line.TheVariants as line
 use Rattle.gx_cli.specs.declared.fault.CliFault.{CliFault}
 use Rattle.gx_cli.specs.declared.questions.Question.{Question}
 use Rattle.gx_cli.specs.declared.questions.Question.TheVariants as question

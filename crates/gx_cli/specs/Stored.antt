@@ -21,7 +21,7 @@ use Rattle.gx_model.specs.Stores.StoreText.{stored_ref}
 use Rattle.gx_model.specs.Stores.StoreReading.{Stored}
 use Rattle.gx_object.specs.declared.name.Name.{Name}
 use Rattle.gx_cli.specs.Listings.{entry_line, text_of_word, tree_lines}
-use Rattle.gx_cli.specs.declared.command_line.LogOptions.{LogOptions}
+use Rattle.gx_line.specs.declared.command_line.LogOptions.{LogOptions}
 
 -- ---- refusals
 

@@ -5,7 +5,6 @@
 mod adapting;
 mod batching;
 mod blob_names;
-mod command_line;
 mod exporting;
 mod fault;
 mod gathering;
@@ -29,10 +28,10 @@ mod words;
 
 pub use adapting::adapt_stream;
 pub use blob_names::{BlobsFault, BlobsKind, blobs};
-pub use command_line::{Line, LineFault, LogOptions, read_line};
 pub use fault::CliFault;
 pub use gx_adapt::Report as AdaptReport;
 pub use gx_import::Report as ImportReport;
+pub use gx_line::{Line, LineFault, LogOptions, read_line};
 pub use gx_repo::Repo;
 pub use importing::import_into;
 pub use serving::{Outcome, serve, serve_owned};

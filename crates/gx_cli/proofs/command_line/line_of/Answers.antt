@@ -1,6 +1,0 @@
-use Rattle.gx_cli.specs.CommandLine.{Says}
-use Rattle.gx_cli.proofs.command_line.line_of.Goals as goal
-
-pub returns-in_ok-word_of-in-try : goal.returns-in_ok-word_of-in-try
-unfolding Says
-returns-in_ok-word_of-in-try c = (c.in-try.is, c.in_ok-word_of-in-try.ensures)

@@ -1,0 +1,2 @@
+pub mod Weaker
+pub mod MadeCommands

@@ -1,0 +1,206 @@
+-- The command line of gx: what clap is told of it, and what a line says of the words that clap took.
+use Rattle.std.specs.Prelude.{◌≡◌, ⊤, ℕ, Bool, true, false, List, [], map, Option, Some, None, Result, IfOk, codes, IsSomeAnd}
+use Rattle.std.specs.Borrow.{Bor}
+use Rattle.std.specs.Str.Parse.{ParsesUnsigned}
+use Rattle.std.specs.declared.num.ParseIntError.{ParseIntError}
+use Rattle.clap.specs.Lexer.{usize_max}
+use Rattle.clap.specs.Words.{App, ReadsOne, Row, Rule, Text, all_of, app_of, first_of, new_app, new_rule, one_of, subcommand_of, with_rule, with_subcommand}
+use Rattle.clap.specs.declared.builder.command.Command.{Command}
+use Rattle.clap.specs.declared.builder.command.Command.TheViews.{out-Command as fields_of}
+use Rattle.clap.specs.declared.builder.action.ArgAction.TheVariants.{SetTrue}
+use Rattle.clap.specs.declared.builder.value_parser.ValueParser.TheVariants as parser
+use Rattle.clap.specs.declared.error.kind.ErrorKind.{ErrorKind}
+use Rattle.clap.specs.declared.error.kind.ErrorKind.TheVariants.{DisplayHelp, DisplayVersion}
+use Rattle.gx_line.specs.declared.command_line.Line.{Line}
+use Rattle.gx_line.specs.declared.command_line.Line.TheVariants.{Blobs, Try, Adapt, Where, Init, Import, Export, Show, Ls, Batch, Refs, Log, RevParse}
+use Rattle.gx_line.specs.declared.command_line.LineFault.{LineFault}
+use Rattle.gx_line.specs.declared.command_line.LineFault.TheVariants.{OutOfMemory, Status}
+use Rattle.gx_line.specs.declared.command_line.LogOptions.{LogOptions}
+
+-- ---- arguments
+
+-- a positional argument that isn't left out
+abbrev pub one_word : Text → Rule
+one_word id = record (new_rule id) { value_names = 1; required = true }
+
+-- a positional argument that stands at least once
+abbrev pub words : Text → Rule
+words id = record (new_rule id) {
+  range = Some (record { start_inclusive = 1; end_inclusive = usize_max });
+  value_names = 1;
+  required = true;
+}
+
+-- --ID
+abbrev pub flag : Text → Rule
+flag id = record (new_rule id) { long = Some id; action = Some SetTrue }
+
+-- --ID, or a hyphen and the letter
+abbrev pub letter_flag : Text → ℕ → Rule
+letter_flag id letter = record (flag id) { short = Some letter }
+
+-- a whole number below 2^64
+abbrev pub whole_number : Text → Rule
+whole_number id = record (new_rule id) { value_names = 1; parser = Some (parser.Unsigned 0 18446744073709551615) }
+
+-- --ID and a whole number below 2^64
+abbrev pub number : Text → Rule
+number id = record (whole_number id) { long = Some id }
+
+-- a positional whole number below 2^64 that isn't left out
+abbrev pub needed_number : Text → Rule
+needed_number id = record (whole_number id) { required = true }
+
+abbrev pub file : Rule
+file = one_word (codes "file")
+
+abbrev pub revision : Rule
+revision = one_word (codes "rev")
+
+abbrev pub recursive : Rule
+recursive = letter_flag (codes "recursive") 114
+
+abbrev pub check : Rule
+check = flag (codes "check")
+
+abbrev pub reverse : Rule
+reverse = flag (codes "reverse")
+
+abbrev pub max_count : Rule
+max_count = number (codes "max-count")
+
+abbrev pub parents : Rule
+parents = flag (codes "parents")
+
+-- ---- commands
+
+-- a command with one more command under it
+abbrev pub under : App → App → App
+under a b = with_subcommand a b.top
+
+abbrev pub top : App
+top = record { top = record (new_app (codes "gx")).top { no_binary_name = true; subcommand_required = true }; subs = [] }
+
+-- a command whose first word is the store file
+abbrev pub file_command : Text → App
+file_command name = with_rule (new_app name) file
+
+abbrev pub try_command : App
+try_command = with_rule (new_app (codes "try")) revision
+
+abbrev pub where_command : App
+where_command = with_rule (new_app (codes "where")) (needed_number (codes "number"))
+
+abbrev pub show_command : App
+show_command = with_rule (file_command (codes "show")) revision
+
+abbrev pub ls_command : App
+ls_command = with_rule (with_rule (file_command (codes "ls")) revision) recursive
+
+abbrev pub batch_command : App
+batch_command = with_rule (file_command (codes "batch")) check
+
+abbrev pub ranges_command : App
+ranges_command = with_rule (file_command (codes "log")) (words (codes "range"))
+
+abbrev pub log_command : App
+log_command = with_rule (with_rule (with_rule ranges_command reverse) max_count) parents
+
+abbrev pub rev_parse_command : App
+rev_parse_command = with_rule (file_command (codes "rev-parse")) (words (codes "rev"))
+
+-- what clap was told of a command, none of whose arguments are for the commands below it, too
+abbrev pub IsMade : Command → App → Type 0
+IsMade made a = (app_of made ≡ a) × ((fields_of made).has_globals ≡ false)
+
+-- the same, unless there was no memory for it
+abbrev pub Makes : {E : Type 0} → Result Command E → App → Type 0
+Makes result a = IfOk result (λ made. IsMade made a)
+
+-- an argument more for what was made so far, unless there was no memory for it
+abbrev pub AddsArgument : {E : Type 0} → Result Command E → Rule → Result Command E → Type 0
+AddsArgument made rule result = (a : App) → Makes made a → Makes result (with_rule a rule)
+
+-- one more command under what was made so far, unless there was no memory for it
+abbrev pub AddsCommand : {E : Type 0} → Result Command E → Result Command E → Result Command E → Type 0
+AddsCommand made sub result = (a b : App) → Makes made a → Makes sub b → Makes result (under a b)
+
+-- the commands that read a stream and keep nothing
+abbrev pub with_stream_commands : App → App
+with_stream_commands a = under (under (under (under a (new_app (codes "blobs"))) try_command) (new_app (codes "adapt"))) where_command
+
+-- the commands on a store as a whole
+abbrev pub with_store_commands : App → App
+with_store_commands a =
+    under (under (under (under a (file_command (codes "init"))) (file_command (codes "import"))) (file_command (codes "export"))) (file_command (codes "refs"))
+
+-- the commands that show objects
+abbrev pub with_tree_commands : App → App
+with_tree_commands a = under (under (under a show_command) ls_command) batch_command
+
+-- the commands with a list of words
+abbrev pub with_commit_commands : App → App
+with_commit_commands a = under (under a log_command) rev_parse_command
+
+-- the whole command line of gx, as clap is told of it
+abbrev pub gx : App
+gx = with_commit_commands (with_tree_commands (with_store_commands (with_stream_commands top)))
+
+-- ---- what a line says
+
+abbrev pub IsWord : Text → List Row → Bor Text → Type 0
+IsWord id rows word = first_of id rows ≡ Some word.now
+
+abbrev pub AreWords : Text → List Row → List (Bor Text) → Type 0
+AreWords id rows words = all_of id rows ≡ Some (map (λ s. s.now) words)
+
+-- clap has "true" for a flag that is given, and "false" for one that isn't
+abbrev pub IsFlag : Text → List Row → Bool → Type 0
+IsFlag id rows set = (one_of id rows ≡ Some (codes "true") → set ≡ true)
+    × ((one_of id rows ≡ Some (codes "false") → set ≡ false) × (one_of id rows ≡ None → set ≡ false))
+
+-- no number where none is given, and otherwise the one that is written
+abbrev pub IsNumber : Text → List Row → Option ℕ → Type 0
+IsNumber id rows number = (one_of id rows ≡ None → number ≡ None)
+    × ((text : Text) → one_of id rows ≡ Some text → ReadsOne {E = ParseIntError} (λ bytes read. ParsesUnsigned 64 10 bytes read) text number)
+
+abbrev pub AreLogOptions : List Row → LogOptions → Type 0
+AreLogOptions rows options = IsFlag (codes "reverse") rows options.reverse
+    × (IsNumber (codes "max-count") rows options.max_count × IsFlag (codes "parents") rows options.parents)
+
+-- the line is the command `name` with the options and words that clap found for it
+unfoldable pub Says : Text → List Row → Line → Type 0
+Says name rows Blobs = name ≡ codes "blobs"
+Says name rows (Try revision) = (name ≡ codes "try") × IsWord (codes "rev") rows revision
+Says name rows Adapt = name ≡ codes "adapt"
+Says name rows (Where command) = (name ≡ codes "where") × IsNumber (codes "number") rows (Some command)
+Says name rows (Init file) = (name ≡ codes "init") × IsWord (codes "file") rows file
+Says name rows (Import file) = (name ≡ codes "import") × IsWord (codes "file") rows file
+Says name rows (Export file) = (name ≡ codes "export") × IsWord (codes "file") rows file
+Says name rows (Show file revision) = (name ≡ codes "show")
+    × (IsWord (codes "file") rows file × IsWord (codes "rev") rows revision)
+Says name rows (Ls recursive file revision) = (name ≡ codes "ls") × (IsFlag (codes "recursive") rows recursive
+    × (IsWord (codes "file") rows file × IsWord (codes "rev") rows revision))
+Says name rows (Batch check file) = (name ≡ codes "batch") × (IsFlag (codes "check") rows check × IsWord (codes "file") rows file)
+Says name rows (Refs file) = (name ≡ codes "refs") × IsWord (codes "file") rows file
+Says name rows (Log options file ranges) = (name ≡ codes "log") × (AreLogOptions rows options
+    × (IsWord (codes "file") rows file × AreWords (codes "range") rows ranges.items))
+Says name rows (RevParse file revisions) = (name ≡ codes "rev-parse")
+    × (IsWord (codes "file") rows file × AreWords (codes "rev") rows revisions.items)
+
+-- the line is what clap reads from the words
+abbrev pub IsReadFrom : List Text → Line → Type 0
+IsReadFrom ws line = IsSomeAnd (subcommand_of gx ws) (λ p. Says p.0 p.1 line)
+
+-- ---- why there is no line
+
+-- help and the version were asked for, and all else is a line that isn't accepted
+abbrev pub status_of : ErrorKind → ℕ
+status_of DisplayHelp = 0
+status_of DisplayVersion = 0
+status_of _ = 2
+
+-- the fault tells of an error of this kind
+abbrev pub IsAnswer : ErrorKind → LineFault → Type 0
+IsAnswer why OutOfMemory = ⊤
+IsAnswer why (Status status text) = status ≡ status_of why

@@ -1,0 +1,258 @@
+//! The command line of `gx`, read by `clap`.
+
+ghost use Rattle.std.specs.Prelude.{◌≡◌, IfOk, Some, codes, map};
+ghost use Rattle.clap.specs.Words.{first_of, found_of, kind_of, rows_of};
+ghost use Rattle.gx_line.specs.CommandLine as say;
+
+mod arguments;
+mod commands;
+mod manual;
+
+use clap::error::ErrorKind;
+use clap::{ArgMatches, Error};
+use commands::command_line;
+use std::alloc::{AllocError, Global};
+use thiserror::Error as Fault;
+
+/// The options of `log`.
+#[derive(Clone, Copy, Debug, PartialEq, Eq)]
+pub struct LogOptions {
+    /// The last commit of the list comes first.
+    pub reverse: bool,
+    /// So many commits at most, counted before the list is reversed.
+    pub max_count: Option<u64>,
+    /// The names of a commit's parents stand behind its own.
+    pub parents: bool,
+}
+
+/// A command with its options and words.
+#[derive(Debug, Drop)]
+pub enum Line<'a> {
+    Blobs,
+    /// A stream is tried: the revision is shown once it was imported.
+    Try(&'a str),
+    /// A stream's lines are mended that an import refuses.
+    Adapt,
+    /// It is told where the command with this number begins in a stream, counted from 1.
+    Where(u64),
+    /// A new store is made.
+    Init {
+        file: &'a str,
+    },
+    /// A stream is imported into a store.
+    Import {
+        file: &'a str,
+    },
+    /// A store is exported as a stream.
+    Export {
+        file: &'a str,
+    },
+    /// What a revision gives is shown.
+    Show {
+        file: &'a str,
+        revision: &'a str,
+    },
+    /// The entries of a revision's tree are listed, or all of its files.
+    Ls {
+        recursive: bool,
+        file: &'a str,
+        revision: &'a str,
+    },
+    /// What the revisions on standard input give is shown, or with `check` no more than its name, kind and size.
+    Batch {
+        check: bool,
+        file: &'a str,
+    },
+    /// The refs are listed.
+    Refs {
+        file: &'a str,
+    },
+    /// The commits of range words are listed.
+    Log {
+        options: LogOptions,
+        file: &'a str,
+        ranges: Vec<&'a str>,
+    },
+    /// The names of what revisions give are printed.
+    RevParse {
+        file: &'a str,
+        revisions: Vec<&'a str>,
+    },
+}
+
+/// Why there is no line: no memory, or the status to end with and the text to print, which are clap's.
+/// Status 0 is a request for help, 2 a command line that isn't accepted.
+#[derive(Debug, Drop, Fault)]
+pub enum LineFault {
+    #[error("gx: out of memory")]
+    OutOfMemory,
+    #[error("{text}")]
+    Status { status: u8, text: String },
+}
+
+impl From<AllocError> for LineFault {
+    fn from(_error: AllocError) -> LineFault {
+        LineFault::OutOfMemory
+    }
+}
+
+/// The line that the words after the program's name give.
+///
+/// Takes memory in proportion to the words.
+pub fn read_line<'a>(alloc: Global, words: &'a [&'a str]) -> Result<Line<'a>, LineFault>
+    ensures { IfOk result (λ line. say.IsReadFrom (map (λ s. s.now) words.entry.now) line) }
+{
+    let matches = match command_line(alloc)?.try_get_matches_from(words) {
+        Ok(matches) => matches,
+        Err(error) => return Err(fault_of(alloc, &error)),
+    };
+    match matches.subcommand() {
+        Some((name, found)) => line_of(alloc, name, found),
+        None => Err(unknown(alloc)),
+    }
+}
+
+/// The line that a command and what clap found for it give.
+#[tactic(auto, unfolding(crate::specs::CommandLine::Says))]
+fn line_of<'a>(
+    alloc: Global,
+    name: &'a str,
+    matches: &ArgMatches<'a>,
+) -> Result<Line<'a>, LineFault>
+    ensures { IfOk result (λ line. say.Says name.now (rows_of (found_of matches.now)) line) }
+{
+    match name {
+        "blobs" => Ok(Line::Blobs),
+        "try" => Ok(Line::Try(word_of(alloc, matches, "rev")?)),
+        "adapt" => Ok(Line::Adapt),
+        "where" => match number_of(matches, "number") {
+            Some(command) => Ok(Line::Where(command)),
+            None => Err(unknown(alloc)),
+        },
+        _ => file_line(alloc, name, matches, word_of(alloc, matches, "file")?),
+    }
+}
+
+/// The line that a command on a store file gives.
+#[tactic(auto, unfolding(crate::specs::CommandLine::Says))]
+fn file_line<'a>(
+    alloc: Global,
+    name: &'a str,
+    matches: &ArgMatches<'a>,
+    file: &'a str,
+) -> Result<Line<'a>, LineFault>
+    requires { first_of (codes "file") (rows_of (found_of matches.now)) ≡ Some file.now }
+    ensures { IfOk result (λ line. say.Says name.now (rows_of (found_of matches.now)) line) }
+{
+    match name {
+        "init" => Ok(Line::Init { file }),
+        "import" => Ok(Line::Import { file }),
+        "export" => Ok(Line::Export { file }),
+        "refs" => Ok(Line::Refs { file }),
+        "show" => Ok(Line::Show {
+            file,
+            revision: word_of(alloc, matches, "rev")?,
+        }),
+        "ls" => Ok(Line::Ls {
+            recursive: is_set(matches, "recursive"),
+            file,
+            revision: word_of(alloc, matches, "rev")?,
+        }),
+        "batch" => Ok(Line::Batch {
+            check: is_set(matches, "check"),
+            file,
+        }),
+        _ => list_line(alloc, name, matches, file),
+    }
+}
+
+/// The same of the commands with a list of words.
+#[tactic(auto, unfolding(crate::specs::CommandLine::Says))]
+fn list_line<'a>(
+    alloc: Global,
+    name: &'a str,
+    matches: &ArgMatches<'a>,
+    file: &'a str,
+) -> Result<Line<'a>, LineFault>
+    requires { first_of (codes "file") (rows_of (found_of matches.now)) ≡ Some file.now }
+    ensures { IfOk result (λ line. say.Says name.now (rows_of (found_of matches.now)) line) }
+{
+    match name {
+        "log" => Ok(Line::Log {
+            options: LogOptions {
+                reverse: is_set(matches, "reverse"),
+                max_count: number_of(matches, "max-count"),
+                parents: is_set(matches, "parents"),
+            },
+            file,
+            ranges: words_of(alloc, matches, "range")?,
+        }),
+        "rev-parse" => Ok(Line::RevParse {
+            file,
+            revisions: words_of(alloc, matches, "rev")?,
+        }),
+        _ => Err(unknown(alloc)),
+    }
+}
+
+/// The word of a positional argument, which clap makes sure of.
+fn word_of<'a>(alloc: Global, matches: &ArgMatches<'a>, id: &str) -> Result<&'a str, LineFault>
+    ensures { IfOk result (λ word. first_of id.now (rows_of (found_of matches.now)) ≡ Some word.now) }
+{
+    match matches.get_str(id) {
+        Some(word) => Ok(word),
+        None => Err(unknown(alloc)),
+    }
+}
+
+/// The words of a positional argument that takes several, which clap makes sure of.
+fn words_of<'a>(
+    alloc: Global,
+    matches: &ArgMatches<'a>,
+    id: &str,
+) -> Result<Vec<&'a str>, LineFault>
+    ensures { IfOk result (λ words. say.AreWords id.now (rows_of (found_of matches.now)) words.items) }
+{
+    match matches.get_strs(id) {
+        Some(words) => Ok(Vec::from_slice(alloc, words)?),
+        None => Err(unknown(alloc)),
+    }
+}
+
+/// Whether a flag is given.
+fn is_set(matches: &ArgMatches<'_>, id: &str) -> bool
+    ensures { say.IsFlag id.now (rows_of (found_of matches.now)) result }
+{
+    matches.get_flag(id)
+}
+
+/// The number of an option, which clap has checked.
+fn number_of(matches: &ArgMatches<'_>, id: &str) -> Option<u64>
+    ensures { say.IsNumber id.now (rows_of (found_of matches.now)) result }
+{
+    matches.get_one(id)
+}
+
+/// Clap took the words for a command that it wasn't told of, which it never does.
+fn unknown(alloc: Global) -> LineFault {
+    LineFault::Status {
+        status: 2,
+        text: String::new(alloc),
+    }
+}
+
+/// What clap answered, as a fault.
+fn fault_of(alloc: Global, error: &Error) -> LineFault
+    ensures { say.IsAnswer (kind_of error.now) result }
+{
+    if matches!(error.kind(), ErrorKind::OutOfMemory) {
+        return LineFault::OutOfMemory;
+    }
+    match format!(in alloc; "{error}") {
+        Ok(text) => LineFault::Status {
+            status: if error.use_stderr() { 2 } else { 0 },
+            text,
+        },
+        Err(_) => LineFault::OutOfMemory,
+    }
+}

@@ -1,0 +1,58 @@
+//! The arguments of the commands, as clap is told of them.
+
+ghost use Rattle.std.specs.Prelude.{◌≡◌, false};
+ghost use Rattle.clap.specs.Words.{rule_of};
+ghost use Rattle.gx_line.specs.CommandLine as say;
+
+use clap::builder::ValueParser;
+use clap::{Arg, ArgAction};
+use std::alloc::Global;
+
+/// The revision of a command.
+pub(super) fn revision<'a>(alloc: Global) -> Arg<'a>
+    ensures rule { rule_of result ≡ say.revision }
+    ensures local { result.global ≡ false }
+{
+    one_word(alloc, "rev", "REV", "A revision, as gx --help has it")
+}
+
+/// A positional argument that isn't left out. Help shows it by `shown`.
+pub(super) fn one_word<'a>(alloc: Global, id: &'a str, shown: &'a str, help: &'a str) -> Arg<'a>
+    ensures rule { rule_of result ≡ say.one_word id.entry.now }
+    ensures local { result.global ≡ false }
+{
+    Arg::new(alloc, id)
+        .required(true)
+        .value_name(shown)
+        .help(help)
+}
+
+/// A positional argument that stands at least once. Help shows it by `shown`.
+pub(super) fn words<'a>(alloc: Global, id: &'a str, shown: &'a str, help: &'a str) -> Arg<'a>
+    ensures rule { rule_of result ≡ say.words id.entry.now }
+    ensures local { result.global ≡ false }
+{
+    one_word(alloc, id, shown, help).num_args(1..)
+}
+
+/// A flag that is given by its id.
+pub(super) fn flag<'a>(alloc: Global, id: &'a str, help: &'a str) -> Arg<'a>
+    ensures rule { rule_of result ≡ say.flag id.entry.now }
+    ensures local { result.global ≡ false }
+{
+    Arg::new(alloc, id)
+        .long(id)
+        .action(ArgAction::SetTrue)
+        .help(help)
+}
+
+/// A whole number below 2^64. Help shows it by `N`.
+pub(super) fn number<'a>(alloc: Global, id: &'a str, help: &'a str) -> Arg<'a>
+    ensures rule { rule_of result ≡ say.whole_number id.entry.now }
+    ensures local { result.global ≡ false }
+{
+    Arg::new(alloc, id)
+        .value_name("N")
+        .value_parser(ValueParser::unsigned(0, u64::MAX))
+        .help(help)
+}

@@ -1,0 +1,183 @@
+//! The commands of `gx`, as clap is told of them. What was made so far is handed on as a result: `with_argument` and
+//! `with_command` alone see whether memory ran out.
+
+ghost use Rattle.std.specs.Prelude.{◌≡◌, IfOk, false};
+ghost use Rattle.clap.specs.Words.{App, app_of, new_app, rule_of};
+ghost use Rattle.clap.specs.declared.builder.command.Command.TheViews.{out-Command as fields_of};
+ghost use Rattle.gx_line.specs.CommandLine as say;
+
+use super::arguments::{flag, number, one_word, revision, words};
+use super::manual::{self, Page};
+use clap::{Arg, Command};
+use std::alloc::{AllocError, Global};
+
+/// The command line of `gx`, as clap is told of it.
+pub(super) fn command_line<'a>(alloc: Global) -> Result<Command<'a>, AllocError>
+    ensures app { IfOk result (λ c. app_of c ≡ say.gx) }
+{
+    let gx = with_stream_commands(alloc, top(alloc));
+    let gx = with_store_commands(alloc, gx);
+    let gx = with_tree_commands(alloc, gx);
+    with_commit_commands(alloc, gx)
+}
+
+/// What stands above the commands.
+fn top<'a>(alloc: Global) -> Result<Command<'a>, AllocError>
+    ensures { say.Makes result say.top }
+{
+    command(alloc, "gx", manual::GX)
+        .no_binary_name(true)
+        .subcommand_required(true)
+        .bin_name("gx")
+}
+
+/// The commands that read a stream and keep nothing.
+fn with_stream_commands<'a>(
+    alloc: Global,
+    gx: Result<Command<'a>, AllocError>,
+) -> Result<Command<'a>, AllocError>
+    ensures { (a : App) → say.Makes gx.entry a → say.Makes result (say.with_stream_commands a) }
+{
+    let gx = with_command(gx, Ok(command(alloc, "blobs", manual::BLOBS)));
+    let try_command = with_argument(Ok(command(alloc, "try", manual::TRY)), revision(alloc));
+    let gx = with_command(gx, try_command);
+    let gx = with_command(gx, Ok(command(alloc, "adapt", manual::ADAPT)));
+    let number = number(alloc, "number", "The number of a command, from 1").required(true);
+    let where_command = with_argument(Ok(command(alloc, "where", manual::WHERE)), number);
+    with_command(gx, where_command)
+}
+
+/// The commands on a store as a whole.
+fn with_store_commands<'a>(
+    alloc: Global,
+    gx: Result<Command<'a>, AllocError>,
+) -> Result<Command<'a>, AllocError>
+    ensures { (a : App) → say.Makes gx.entry a → say.Makes result (say.with_store_commands a) }
+{
+    let gx = with_command(gx, file_command(alloc, "init", manual::INIT));
+    let gx = with_command(gx, file_command(alloc, "import", manual::IMPORT));
+    let gx = with_command(gx, file_command(alloc, "export", manual::EXPORT));
+    with_command(gx, file_command(alloc, "refs", manual::REFS))
+}
+
+/// The commands that show objects.
+fn with_tree_commands<'a>(
+    alloc: Global,
+    gx: Result<Command<'a>, AllocError>,
+) -> Result<Command<'a>, AllocError>
+    ensures { (a : App) → say.Makes gx.entry a → say.Makes result (say.with_tree_commands a) }
+{
+    let show = with_argument(file_command(alloc, "show", manual::SHOW), revision(alloc));
+    let gx = with_command(gx, show);
+    let gx = with_command(gx, ls_command(alloc));
+    let check = flag(
+        alloc,
+        "check",
+        "Leaves out the bytes of each object and the line feed behind them",
+    );
+    let batch = with_argument(file_command(alloc, "batch", manual::BATCH), check);
+    with_command(gx, batch)
+}
+
+fn ls_command<'a>(alloc: Global) -> Result<Command<'a>, AllocError>
+    ensures { say.Makes result say.ls_command }
+{
+    let recursive = flag(
+        alloc,
+        "recursive",
+        "Lists all files below the tree by their paths, and no trees",
+    )
+    .short('r');
+    let ls = file_command(alloc, "ls", manual::LS);
+    let ls = with_argument(ls, revision(alloc));
+    with_argument(ls, recursive)
+}
+
+/// The commands with a list of words.
+fn with_commit_commands<'a>(
+    alloc: Global,
+    gx: Result<Command<'a>, AllocError>,
+) -> Result<Command<'a>, AllocError>
+    ensures { (a : App) → say.Makes gx.entry a → say.Makes result (say.with_commit_commands a) }
+{
+    let gx = with_command(gx, log_command(alloc));
+    let revisions = words(alloc, "rev", "REV", "Revisions, as gx --help has it");
+    let rev_parse = file_command(alloc, "rev-parse", manual::REV_PARSE);
+    let rev_parse = with_argument(rev_parse, revisions);
+    with_command(gx, rev_parse)
+}
+
+fn log_command<'a>(alloc: Global) -> Result<Command<'a>, AllocError>
+    ensures { say.Makes result say.log_command }
+{
+    let ranges = words(alloc, "range", "RANGE", "Commits, as gx --help has it");
+    let reverse = flag(
+        alloc,
+        "reverse",
+        "Turns the list, so that the oldest commit comes first",
+    );
+    let max_count = number(
+        alloc,
+        "max-count",
+        "Lists N commits at most, counted before --reverse turns them",
+    )
+    .long("max-count");
+    let parents = flag(
+        alloc,
+        "parents",
+        "Prints the names of its parents behind each commit",
+    );
+    let log = with_argument(file_command(alloc, "log", manual::LOG), ranges);
+    let log = with_argument(log, reverse);
+    let log = with_argument(log, max_count);
+    with_argument(log, parents)
+}
+
+/// A command whose first word is the store file.
+fn file_command<'a>(alloc: Global, name: &'a str, page: Page) -> Result<Command<'a>, AllocError>
+    ensures { say.Makes result (say.file_command name.entry.now) }
+{
+    let file = one_word(alloc, "file", "FILE", "The store");
+    with_argument(Ok(command(alloc, name, page)), file)
+}
+
+/// A command with its page of the manual.
+fn command<'a>(alloc: Global, name: &'a str, page: Page) -> Command<'a>
+    ensures app { app_of result ≡ new_app name.entry.now }
+    ensures local { (fields_of result).has_globals ≡ false }
+{
+    Command::new(alloc, name)
+        .about(page.about)
+        .long_about(page.description)
+        .after_long_help(page.details)
+}
+
+/// A command with one argument more, where there was memory for the command.
+fn with_argument<'a>(
+    command: Result<Command<'a>, AllocError>,
+    argument: Arg<'a>,
+) -> Result<Command<'a>, AllocError>
+    requires { argument.global ≡ false }
+    ensures { say.AddsArgument command.entry (rule_of argument.entry) result }
+{
+    match command {
+        Ok(command) => command.arg(argument),
+        Err(error) => Err(error),
+    }
+}
+
+/// A command with one more command under it, where there was memory for both.
+fn with_command<'a>(
+    command: Result<Command<'a>, AllocError>,
+    sub: Result<Command<'a>, AllocError>,
+) -> Result<Command<'a>, AllocError>
+    ensures { say.AddsCommand command.entry sub.entry result }
+{
+    match command {
+        Ok(command) => match sub {
+            Ok(sub) => command.subcommand(sub),
+            Err(error) => Err(error),
+        },
+        Err(error) => Err(error),
+    }
+}

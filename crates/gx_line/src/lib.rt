@@ -1,0 +1,6 @@
+//! The command line of the program `gx`: the words behind its name, and the command that they give.
+#![tactic(auto)]
+
+mod command_line;
+
+pub use command_line::{Line, LineFault, LogOptions, read_line};

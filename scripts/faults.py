@@ -14,7 +14,7 @@ PAGE = TOP / "docs" / "FAULTS.md"
 
 # the enums whose words each part explains
 ENUMS = {
-    "Names of blobs": ["gx_cli/src/blob_names.rt BlobsKind"],
+    "Names of blobs": ["gx_blobs/src/blob_names.rt BlobsKind"],
     "Imports": [
         "gx_model/src/faults.rt Fault",
         "gx_command/src/fault.rt CommandFault",

@@ -127,8 +127,12 @@ class Layers:
         way, it goes down beside them."""
         top, foot = self.place(upper)[1] + BOX, self.place(lower)[1]
         narrow = min((upper, lower), key=lambda name: self.place(name)[2])
-        if self.is_over(upper, self.middle(narrow)) and self.is_over(lower, self.middle(narrow)):
-            return line([(self.middle(narrow), top), (self.middle(narrow), foot)])
+        middle = self.middle(narrow)
+        if self.is_over(upper, middle) and self.is_over(lower, middle):
+            if not self.stands_between(upper, lower, middle):
+                return line([(middle, top), (middle, foot)])
+            beside, last = self.place(narrow)[0] - ROOM // 2, foot - GAP // 2
+            return line([(beside, top), (beside, last), (middle, last), (middle, foot)])
         way = 1 if self.middle(upper) < self.middle(lower) else -1
         start, end = self.aside(upper, way), self.aside(lower, -way)
         turn = top + GAP // 2

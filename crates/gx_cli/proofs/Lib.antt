@@ -4,8 +4,6 @@ pub mod ReadWords
 pub mod RefusedWords
 pub mod ListedCommits
 pub mod ListedFiles
-pub mod Staged
-pub mod Progress
 pub mod Trials
 pub mod Pieces
 pub mod StoredAnswers

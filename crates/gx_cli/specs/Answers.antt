@@ -6,7 +6,7 @@ use Rattle.gx_model.specs.declared.store_faults.FileFault.TheVariants as file_ki
 use Rattle.gx_rev.specs.RevFaults as rev
 use Rattle.gx_rev.specs.declared.shown.Shown.{Shown}
 use Rattle.gx_rev.specs.declared.shown.Shown.TheVariants.{Object, Submodule}
-use Rattle.gx_cli.specs.Printing.{name_line}
+use Rattle.gx_blobs.specs.Printing.{name_line}
 use Rattle.gx_cli.specs.Stored.{Printed, Refusal, of_store, of_word}
 use Rattle.gx_cli.specs.declared.fault.CliFault.{CliFault}
 use Rattle.gx_cli.specs.declared.fault.CliFault.TheVariants.{OutOfMemory, Revision, Store, WriteFailed}

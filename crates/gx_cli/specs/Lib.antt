@@ -1,6 +1,3 @@
-pub mod Blobs
-pub mod Steps
-pub mod Printing
 pub mod Listings
 pub mod Trying
 pub mod Headline

@@ -3,7 +3,6 @@
 use Rattle.std.specs.Prelude.{◌≡◌, ℕ, Bool, List, [], map, Option, Result, Ok}
 use Rattle.std.specs.Borrow.{Bor}
 use Rattle.std.specs.List.{AllByRecursion, flat_map}
-use Rattle.std.specs.Option.{option_map}
 use Rattle.std.specs.declared.vec.Vec.{Vec}
 use Rattle.gx_model.specs.declared.objects.Kind.{Kind}
 use Rattle.gx_model.specs.declared.objects.Kind.TheVariants as kinds
@@ -12,7 +11,7 @@ use Rattle.gx_model.specs.declared.store_versions.Version.TheVariants as version
 use Rattle.gx_model.specs.Revisions.Denotation.{denoted}
 use Rattle.gx_model.specs.Faults.{Gives, and_then}
 use Rattle.gx_model.specs.Histories.Files.{FileMap}
-use Rattle.gx_model.specs.Histories.{Record, Records}
+use Rattle.gx_model.specs.Histories.{Records}
 use Rattle.gx_model.specs.Records.HistoryOf.{history_of}
 use Rattle.gx_model.specs.Texts.Paths.{Path}
 use Rattle.gx_model.specs.Revisions.Ranges.{each_word}
@@ -20,12 +19,10 @@ use Rattle.gx_model.specs.Records.{named_map}
 use Rattle.gx_model.specs.Revisions.{Revision, range_of, revision_of}
 use Rattle.gx_model.specs.Stores.StoreReading.{store_of}
 use Rattle.gx_model.specs.Stores.StoreText.{store_text}
-use Rattle.gx_model.specs.Streams.Items.{Stream}
 use Rattle.gx_model.specs.Texts.{Bytes}
 use Rattle.gx_model.specs.Texts.Sinks.{Taken}
 use Rattle.gx_text.specs.Devices.{Coming}
 use Rattle.gx_object.specs.declared.name.Name.{Name}
-use Rattle.gx_stream.specs.Heard.{items_from}
 use Rattle.gx_batch.specs.Calls.{SendsAnswers}
 use Rattle.gx_batch.specs.declared.fault.BatchFault.{BatchFault}
 use Rattle.gx_import.specs.declared.fault.ImportFault.{ImportFault}
@@ -43,7 +40,7 @@ use Rattle.gx_cli.specs.Answers.{Prints}
 use Rattle.gx_cli.specs.Gathering.{batch_answer}
 use Rattle.gx_cli.specs.FileLines.{path_line}
 use Rattle.gx_cli.specs.Listings.{shown_text, text_of_word, tree_lines}
-use Rattle.gx_cli.specs.Printing.{PrintsBlobs, PrintsOne}
+use Rattle.gx_blobs.specs.Naming.{NamesBlobs}
 use Rattle.gx_cli.specs.Sending.{PrintsText}
 use Rattle.gx_cli.specs.Opening.{bytes_of}
 use Rattle.gx_cli.specs.Serving.{AnswersLines, ExportsStore, ImportsInto, ImportsIntoStored, PrintsStored, Serves, blobs_answer, printed_by}
@@ -51,8 +48,7 @@ use Rattle.gx_cli.specs.Stored.{all_words, commits_listed, file_line, files_of_w
 use Rattle.gx_cli.specs.Storing.{Answer, ImportsStored}
 use Rattle.gx_cli.specs.Trying.{ImportsAlone, Shows, Tries}
 use Rattle.gx_cli.specs.Words.{GivesWords}
-use Rattle.gx_cli.specs.declared.blob_names.BlobsFault.{BlobsFault}
-use Rattle.gx_cli.specs.declared.blob_names.BlobsKind.{BlobsKind}
+use Rattle.gx_blobs.specs.declared.blob_names.BlobsFault.{BlobsFault}
 use Rattle.gx_line.specs.declared.command_line.Line.{Line}
 use Rattle.gx_line.specs.declared.command_line.LogOptions.{LogOptions}
 use Rattle.gx_cli.specs.declared.fault.CliFault.{CliFault}
@@ -129,21 +125,9 @@ module _ {N : Type 0} (name_of : N → Kind → Bytes → Bytes) where
 -- ---- what goes out to a sink
 
 module _ {N W : Type 0} (name_of : N → Kind → Bytes → Bytes) (taken : W → Option Taken) where
-  -- the names of the blobs of the items that are still to come go out
-  abbrev pub NamesItems : N → Option Stream → W → W → Result ℕ BlobsFault → Type 0
-  NamesItems namer items old new answer = PrintsBlobs (name_of namer) items (taken old) (taken new) answer
-
-  -- the names of the blobs of a source's stream go out
-  abbrev pub NamesBlobs : N → Option Coming → W → W → Result ℕ BlobsFault → Type 0
-  NamesBlobs namer coming old new answer = NamesItems namer (option_map items_from coming) old new answer
-
-  -- the same, with the fault among those of the commands
+  -- the names of the blobs of a source's stream go out, and a fault among those of the commands is answered
   abbrev pub AnswersBlobs : N → Option Coming → W → W → Result ℕ CliFault → Type 0
-  AnswersBlobs namer coming old new result = (answer : Result ℕ BlobsFault) × NamesBlobs namer coming old new answer × (result ≡ blobs_answer answer)
-
-  -- a blob is put into a store, and its name goes out
-  abbrev pub AddsBlob : N × List Record → N × List Record → Bytes → W → W → Result (Unit {0}) BlobsKind → Type 0
-  AddsBlob before after bytes old new result = PrintsOne (name_of before.0) before.1 after.1 (taken old) (taken new) bytes result
+  AnswersBlobs namer coming old new result = (answer : Result ℕ BlobsFault) × NamesBlobs name_of taken namer coming old new answer × (result ≡ blobs_answer answer)
 
   -- once a stream was imported into an empty store, a word is shown as a revision
   abbrev pub TriesWord : N → Option Coming → Bytes → W → W → Result (Unit {0}) CliFault → Type 0

@@ -25,7 +25,7 @@ use Rattle.gx_export.specs.Exports.{Exports}
 use Rattle.gx_export.specs.declared.fault.ExportFault.{ExportFault}
 use Rattle.gx_model.specs.declared.store_faults.FileFault.{FileFault}
 use Rattle.gx_model.specs.declared.store_faults.FileFault.TheVariants as file
-use Rattle.gx_cli.specs.declared.blob_names.BlobsFault.{BlobsFault}
+use Rattle.gx_blobs.specs.declared.blob_names.BlobsFault.{BlobsFault}
 use Rattle.gx_line.specs.declared.command_line.Line.{Line}
 use Rattle.gx_line.specs.declared.command_line.Line.TheVariants as line
 use Rattle.gx_cli.specs.declared.fault.CliFault.{CliFault}
@@ -36,7 +36,7 @@ use Rattle.gx_cli.specs.declared.serving.Outcome.{Outcome}
 use Rattle.gx_cli.specs.Answers.{Prints}
 use Rattle.gx_cli.specs.Gathering.{AdaptsStream, batch_answer}
 use Rattle.gx_cli.specs.Placing.{PlacesFrom}
-use Rattle.gx_cli.specs.Printing.{PrintsBlobs}
+use Rattle.gx_blobs.specs.Printing.{PrintsBlobs}
 use Rattle.gx_cli.specs.Stored.{Printed, list_text, log_text, names_text, of_stored, refs_text, show_text, texts_of}
 use Rattle.gx_cli.specs.Trying.{Tries}
 

@@ -4,7 +4,6 @@
 
 mod adapting;
 mod batching;
-mod blob_names;
 mod exporting;
 mod fault;
 mod gathering;
@@ -27,9 +26,9 @@ mod trying;
 mod words;
 
 pub use adapting::adapt_stream;
-pub use blob_names::{BlobsFault, BlobsKind, blobs};
 pub use fault::CliFault;
 pub use gx_adapt::Report as AdaptReport;
+pub use gx_blobs::{BlobsFault, BlobsKind, blobs};
 pub use gx_import::Report as ImportReport;
 pub use gx_line::{Line, LineFault, LogOptions, read_line};
 pub use gx_repo::Repo;

@@ -6,7 +6,6 @@ ghost use Rattle.gx_cli.specs.Answers.{Prints, shown_line};
 ghost use Rattle.gx_cli.specs.Parts.{AreAllNamed, EvaluatesInto, PrintsNames, ReadsInto};
 
 use crate::CliFault;
-use crate::blob_names::name_line;
 use crate::sending::put_text;
 use crate::words::refused;
 use gx_object::Namer;
@@ -86,7 +85,11 @@ fn print_lines<W: Sink>(all: &[Shown], sink: &mut W) -> Result<(), CliFault>
 fn shown_line(shown: Shown) -> [u8; 41]
     ensures { result ≡ shown_line shown }
 {
+    let mut line = [b'\n'; 41];
     match shown {
-        Shown::Object(_, name) | Shown::Submodule(name) => name_line(&name),
+        Shown::Object(_, name) | Shown::Submodule(name) => {
+            line[..40].copy_from_slice(name.hex().as_slice());
+        }
     }
+    line
 }

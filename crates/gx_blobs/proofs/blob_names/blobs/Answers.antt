@@ -1,7 +1,7 @@
 use Rattle.std.proofs.Common.{Option, ap, subst, arith}
 use Rattle.gx_model.specs.Streams.Items.{Stream}
-use Rattle.gx_cli.specs.Printing.{PrintsBlobs}
-use Rattle.gx_cli.proofs.blob_names.blobs.Goals as goal
+use Rattle.gx_blobs.specs.Printing.{PrintsBlobs}
+use Rattle.gx_blobs.proofs.blob_names.blobs.Goals as goal
 
 pub name_all-requires : goal.name_all-requires
 name_all-requires g c =

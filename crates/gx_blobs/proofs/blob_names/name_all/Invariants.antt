@@ -1,6 +1,6 @@
 use Rattle.std.proofs.Common.{◌≡◌, ◌+◌, ◌-◌, ◌≤◌, ◌^◌}
-use Rattle.gx_cli.proofs.Progress.{Progress}
-use Rattle.gx_cli.proofs.blob_names.name_all.Given as goal
+use Rattle.gx_blobs.proofs.Progress.{Progress}
+use Rattle.gx_blobs.proofs.blob_names.name_all.Given as goal
 
 abbrev pub invariant-loop-fault : goal.invariant-loop-fault
 invariant-loop-fault g l =

@@ -5,9 +5,9 @@ ghost use Rattle.std.specs.Option.{option_map};
 ghost use Rattle.gx_model.specs.Streams.Items.{Finished};
 ghost use Rattle.gx_model.specs.Streams.Grammar.{mark_of};
 ghost use Rattle.gx_stream.specs.Reading.{item_of};
-ghost use Rattle.gx_cli.specs.Parts.{AddsBlob, NamesBlobs, NamesItems};
-ghost use Rattle.gx_cli.specs.Steps.{step_of, stop_at, marked_as, marked_by, named_by, command_line, mark_line, oid_line};
-ghost use Rattle.gx_cli.specs.Printing.{shown_step, stop_of, kind_of, ended_at, name_line};
+ghost use Rattle.gx_blobs.specs.Naming.{AddsBlob, NamesBlobs, NamesItems};
+ghost use Rattle.gx_blobs.specs.Steps.{step_of, stop_at, marked_as, marked_by, named_by, command_line, mark_line, oid_line};
+ghost use Rattle.gx_blobs.specs.Printing.{shown_step, stop_of, kind_of, ended_at, name_line};
 
 use gx_object::{Kind, Name, Namer};
 use gx_store::{Store, StoreFault};
@@ -125,7 +125,7 @@ fn ended(count: u64, kind: Option<BlobsKind>) -> Result<u64, BlobsFault>
 
 /// How much of a blob command has come: nothing, its first line, its mark, or its original object name.
 #[derive(Clone, Copy)]
-pub(crate) enum Stage {
+enum Stage {
     Expected,
     Started,
     Marked,
@@ -134,7 +134,7 @@ pub(crate) enum Stage {
 
 /// What an item does: the names end, the command goes on, or the item's bytes are the blob.
 #[derive(Clone, Copy)]
-pub(crate) enum Step<'a> {
+enum Step<'a> {
     Stop(BlobsKind),
     Go(Stage),
     Body(&'a [u8]),
@@ -247,7 +247,7 @@ fn print_one<N: Namer, W: Sink, A: Allocator + Copy>(
 }
 
 /// A name's digits, and a line feed.
-pub(crate) fn name_line(name: &Name) -> [u8; 41]
+fn name_line(name: &Name) -> [u8; 41]
     ensures { result ≡ name_line name.now.bytes }
 {
     let mut line = [b'\n'; 41];

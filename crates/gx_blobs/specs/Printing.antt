@@ -13,13 +13,13 @@ use Rattle.gx_model.specs.Texts.Sinks.{Sends, Taken, Took}
 use Rattle.gx_stream.specs.Faults.{fault_of}
 use Rattle.gx_stream.specs.declared.fault.StreamFault.{StreamFault}
 use Rattle.gx_stream.specs.declared.fault.StreamFault.TheVariants as stream
-use Rattle.gx_cli.specs.Blobs.{Stop, refused, not_a_blob, BlobRun, blobs_of}
-use Rattle.gx_cli.specs.Steps as model
-use Rattle.gx_cli.specs.declared.blob_names.Step.{Step}
-use Rattle.gx_cli.specs.declared.blob_names.Step.TheVariants.{Stop as Halt, Go, Body}
-use Rattle.gx_cli.specs.declared.blob_names.BlobsKind.{BlobsKind}
-use Rattle.gx_cli.specs.declared.blob_names.BlobsKind.TheVariants as kinds
-use Rattle.gx_cli.specs.declared.blob_names.BlobsFault.{BlobsFault}
+use Rattle.gx_blobs.specs.Blobs.{Stop, refused, not_a_blob, BlobRun, blobs_of}
+use Rattle.gx_blobs.specs.Steps as model
+use Rattle.gx_blobs.specs.declared.blob_names.Step.{Step}
+use Rattle.gx_blobs.specs.declared.blob_names.Step.TheVariants.{Stop as Halt, Go, Body}
+use Rattle.gx_blobs.specs.declared.blob_names.BlobsKind.{BlobsKind}
+use Rattle.gx_blobs.specs.declared.blob_names.BlobsKind.TheVariants as kinds
+use Rattle.gx_blobs.specs.declared.blob_names.BlobsFault.{BlobsFault}
 
 -- a name's digits and LF
 abbrev pub name_line : Bytes → Bytes

@@ -18,16 +18,16 @@ use Rattle.gx_stream.specs.declared.fault.StreamFault.{StreamFault}
 use Rattle.gx_stream.specs.declared.fault.StreamFault.TheVariants as stream
 use Rattle.gx_stream.specs.Faults.{fault_of, ended as only}
 use Rattle.gx_stream.specs.Reading.{Reads, item_of}
-use Rattle.gx_cli.specs.Blobs.{BlobRun, refused, blobs_of, behind, first_body}
-use Rattle.gx_cli.specs.Steps.{Step, stop, go, body, run_of, step_of, stepped, stop_at}
-use Rattle.gx_cli.specs.Printing.{blob_line, printed, blob_record, stop_of, Clashes, FailsWithin, Prints, PrintsBlobs, PrintsOne, ended_at, kind_of}
-use Rattle.gx_cli.specs.declared.blob_names.Stage.{Stage}
-use Rattle.gx_cli.specs.declared.blob_names.Stage.TheVariants.{Expected}
-use Rattle.gx_cli.specs.declared.blob_names.BlobsKind.{BlobsKind}
-use Rattle.gx_cli.specs.declared.blob_names.BlobsKind.TheVariants as kinds
-use Rattle.gx_cli.specs.declared.blob_names.BlobsFault.{BlobsFault}
+use Rattle.gx_blobs.specs.Blobs.{BlobRun, refused, blobs_of, behind, first_body}
+use Rattle.gx_blobs.specs.Steps.{Step, stop, go, body, run_of, step_of, stepped, stop_at}
+use Rattle.gx_blobs.specs.Printing.{blob_line, printed, blob_record, stop_of, Clashes, FailsWithin, Prints, PrintsBlobs, PrintsOne, ended_at, kind_of}
+use Rattle.gx_blobs.specs.declared.blob_names.Stage.{Stage}
+use Rattle.gx_blobs.specs.declared.blob_names.Stage.TheVariants.{Expected}
+use Rattle.gx_blobs.specs.declared.blob_names.BlobsKind.{BlobsKind}
+use Rattle.gx_blobs.specs.declared.blob_names.BlobsKind.TheVariants as kinds
+use Rattle.gx_blobs.specs.declared.blob_names.BlobsFault.{BlobsFault}
 use Rattle.gx_model.proofs.SentTexts.{took_nothing}
-use Rattle.gx_cli.proofs.Staged.{blobs_of-run}
+use Rattle.gx_blobs.proofs.Staged.{blobs_of-run}
 
 -- the blobs of items, from a stage on
 abbrev pub staged : Stage → Stream → BlobRun

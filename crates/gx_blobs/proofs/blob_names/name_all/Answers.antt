@@ -1,6 +1,6 @@
 use Rattle.std.proofs.Common.{Ok, Err, refl, sym, ◌∙◌, arith}
-use Rattle.gx_cli.proofs.Progress.{Progress-none, Progress-go, Progress-body, Prints-fault, Prints-last, Prints-stop, Prints-one, PrintsOne-at}
-use Rattle.gx_cli.proofs.blob_names.name_all.Goals as goal
+use Rattle.gx_blobs.proofs.Progress.{Progress-none, Progress-go, Progress-body, Prints-fault, Prints-last, Prints-stop, Prints-one, PrintsOne-at}
+use Rattle.gx_blobs.proofs.blob_names.name_all.Goals as goal
 
 pub returns-in-Err : goal.returns-in-Err
 returns-in-Err g c =

@@ -1,0 +1,2 @@
+pub mod Staged
+pub mod Progress

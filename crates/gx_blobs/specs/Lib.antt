@@ -1,0 +1,4 @@
+pub mod Blobs
+pub mod Steps
+pub mod Printing
+pub mod Naming

@@ -1,11 +1,9 @@
-//! Items, adapted streams, commands and their places on worked examples. There are tests alone here.
+//! Items and commands of streams, with their parts, in pieces of any size and up to failures. There are tests alone here.
 #![tactic(auto)]
 
 #[cfg(test)]
-mod adapted;
+mod commands;
 #[cfg(test)]
 mod items;
 #[cfg(test)]
-mod places;
-#[cfg(test)]
-mod streams;
+mod spelling;

@@ -6,61 +6,11 @@ use crate::commands::has_line;
 use crate::sessions::run_all;
 use crate::steps::{Step, step_of};
 use gx_cli::{BlobsFault, CliFault, blobs};
-use gx_object::{Namer, Sha1Namer, ShortNamer};
+use gx_object::Sha1Namer;
 use gx_text::{Bytes, Held};
 use std::alloc::Global;
 use std::hash::RandomState;
 use std::test::Fail;
-
-/// Prints the names of a stream's blobs. What the devices tell is left open here, so no caller has more to prove than that
-/// the call is safe.
-fn named<N: Namer + Drop>(
-    alloc: Global,
-    namer: N,
-    source: Bytes<'_>,
-    sink: &mut Held<Global>,
-    state: RandomState,
-) -> Result<u64, BlobsFault> {
-    blobs(alloc, namer, source, sink, state)
-}
-
-/// Whether a stream is answered as a step says, in pieces of this size: a name of 41 bytes is printed for each blob that is counted.
-fn is_named<N: Namer + Drop>(
-    alloc: Global,
-    namer: N,
-    step: &Step<'_>,
-    piece: usize,
-    state: RandomState,
-) -> bool
-    requires { 0 < piece }
-{
-    let Ok(mut sink) = Held::new(alloc, 123) else {
-        return false;
-    };
-    let source = Bytes::new(step.input, piece, false);
-    let answer = named(alloc, namer, source, &mut sink, state);
-    sink.bytes() == step.printed && is_answer(alloc, answer, step)
-}
-
-/// Whether a step says that its blobs are counted so, or refused so.
-fn is_answer(alloc: Global, answer: Result<u64, BlobsFault>, step: &Step<'_>) -> bool {
-    match answer {
-        Ok(count) => {
-            step.line.is_empty() && count.checked_mul(41) == Some(step.printed.len() as u64)
-        }
-        Err(fault) => has_line(alloc, Some(CliFault::Blobs(fault)), step.line),
-    }
-}
-
-#[test]
-fn names_are_those_of_git_in_pieces_of_any_size(rt: HostRuntime) -> Result<(), Fail> {
-    let state = RandomState::new(&rt)?;
-    let step = step_of("blobs % three blobs % three names");
-    for piece in 1..65usize {
-        assert!(rt; is_named(rt.alloc(), Sha1Namer, &step, piece, state));
-    }
-    Ok(())
-}
 
 /// Streams, with the line that refuses them, if any, and the names that are printed. Comments and delimited data are read.
 const BLOBS: &str = "
@@ -154,10 +104,18 @@ data 0
 blob
 data 0
 %% gx: command 1: NotABlob
+$! blobs %
+blob
+data 1
+a
+%
+2e65efe2a145dda7ee51d1741299f848e5bf752e
+% gx: command 2: ReadFailed
 ";
 
 /// Blobs of which the third one has the first one's name, and other bytes.
-const OTHER_BYTES: &str = "blobs %
+const OTHER_BYTES: &str = "
+$~ blobs %
 blob
 data 1
 a
@@ -173,17 +131,56 @@ b
 % gx: command 3: NameHeld
 ";
 
-#[test]
-fn refusals_have_their_command_and_cause(rt: HostRuntime) -> Result<(), Fail> {
-    let state = RandomState::new(&rt)?;
-    run_all(rt.alloc(), &[BLOBS], state)?;
-    for part in BLOBS.split('$').skip(1) {
-        assert!(rt;
-            is_named(rt.alloc(), Sha1Namer, &step_of(part), 4096, state),
-            "{part}"
-        );
+/// Whether this is what a step says: a name of 41 bytes is printed for each blob that is counted.
+fn is_answer(alloc: Global, step: &Step<'_>, answer: Result<u64, BlobsFault>) -> bool {
+    match answer {
+        Ok(count) => {
+            step.line.is_empty() && count.checked_mul(41) == Some(step.printed.len() as u64)
+        }
+        Err(fault) => has_line(alloc, Some(CliFault::Blobs(fault)), step.line),
     }
-    let step = step_of(OTHER_BYTES);
-    assert!(rt; is_named(rt.alloc(), ShortNamer, &step, 4096, state));
+}
+
+/// Whether a stream is answered as a step says, in pieces of this size.
+fn is_named(alloc: Global, step: &Step<'_>, piece: usize, state: RandomState) -> bool
+    requires { 0 < piece }
+{
+    let Ok(mut sink) = Held::new(alloc, 123) else {
+        return false;
+    };
+    let source = Bytes::new(step.input, piece, step.fails);
+    let answer = blobs(alloc, Sha1Namer, source, &mut sink, state);
+    is_answer(alloc, step, answer) && sink.bytes() == step.printed
+}
+
+/// The first step that isn't answered as it says.
+fn wrong_step(alloc: Global, state: RandomState) -> Option<&'static str> {
+    for part in BLOBS.split('$').skip(1) {
+        if !is_named(alloc, &step_of(part), 4096, state) {
+            return Some(part);
+        }
+    }
+    None
+}
+
+/// Whether the names of three blobs are printed in pieces of each size.
+fn are_named_in_pieces(alloc: Global, state: RandomState) -> bool {
+    let step = step_of("blobs % three blobs % three names");
+    for piece in 1..65usize {
+        if !is_named(alloc, &step, piece, state) {
+            return false;
+        }
+    }
+    true
+}
+
+#[test]
+fn names_are_those_of_git_in_pieces_of_any_size(rt: HostRuntime) -> Result<(), Fail> {
+    let state = RandomState::new(&rt)?;
+    run_all(rt.alloc(), &[BLOBS, OTHER_BYTES], state)?;
+    if let Some(part) = wrong_step(rt.alloc(), state) {
+        return Err(Fail::new(format_args!("{part}")));
+    }
+    assert!(rt; are_named_in_pieces(rt.alloc(), state));
     Ok(())
 }

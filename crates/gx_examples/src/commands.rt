@@ -1,7 +1,7 @@
 //! The command of a step, and what it is tried for.
 
 use crate::exported::prints_alike;
-use crate::growths::{has_growths, refused_growths};
+use crate::growths::refused_growths;
 use crate::limits::{Stop, stops_everywhere};
 use crate::sessions::runs;
 use crate::steps::{Step, words_of};
@@ -46,22 +46,10 @@ pub(crate) fn tried(
         return line_tried(alloc, &line, step, store, task, state);
     }
     match words_of(alloc, step.words, ' ') {
-        Ok(words) => words_tried(alloc, words.as_slice(), step, store, task, state),
-        Err(_) => false,
-    }
-}
-
-/// The same, where these are the step's words.
-fn words_tried(
-    alloc: Global,
-    words: &[&str],
-    step: &Step<'_>,
-    store: &mut Vec<u8>,
-    task: Task<'_>,
-    state: RandomState,
-) -> bool {
-    match read_line(alloc, words) {
-        Ok(line) => line_tried(alloc, &line, step, store, task, state),
+        Ok(words) => match read_line(alloc, words.as_slice()) {
+            Ok(line) => line_tried(alloc, &line, step, store, task, state),
+            Err(_) => false,
+        },
         Err(_) => false,
     }
 }
@@ -78,7 +66,12 @@ fn line_tried(
     match task {
         Task::Run { is_given } => runs(alloc, line, step, store, is_given, state),
         Task::Stop(stop) => stops_everywhere(alloc, line, step, store, stop, state),
-        Task::Growths => has_growths(alloc, line, step, store, state),
+        Task::Growths => match step.line.parse::<u64>() {
+            Ok(fewest) => {
+                refused_growths(alloc, line, step, (store.as_slice(), false), state) >= fewest
+            }
+            Err(_) => false,
+        },
         Task::Copies(count) => {
             let lent = refused_growths(alloc, line, step, (store.as_slice(), false), state);
             let given = refused_growths(alloc, line, step, (store.as_slice(), true), state);
@@ -148,20 +141,10 @@ pub(crate) fn is_text(made: Result<String, AllocError>, text: &str) -> bool {
 
 /// The text of a new store with this stream imported; none where the import is refused.
 pub(crate) fn stored(alloc: Global, stream: &[u8], state: RandomState) -> Option<Vec<u8>> {
-    match Held::new(alloc, 64) {
-        Ok(mut sink) => imported(alloc, stream, &mut sink, state),
-        Err(_) => None,
-    }
-}
-
-/// The same, with a sink for what the import prints.
-fn imported(
-    alloc: Global,
-    stream: &[u8],
-    sink: &mut Held<Global>,
-    state: RandomState,
-) -> Option<Vec<u8>> {
+    let Ok(mut sink) = Held::new(alloc, 64) else {
+        return None;
+    };
     let line = Line::Import { file: "store" };
     let source = Bytes::new(stream, 4096, false);
-    ran(alloc, &line, text("empty"), source, sink, state).store
+    ran(alloc, &line, text("empty"), source, &mut sink, state).store
 }

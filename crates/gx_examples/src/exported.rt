@@ -1,9 +1,8 @@
-//! Stores that are exported, and exports that are imported again.
+//! Exports that are imported again.
 
 pub(crate) mod generated;
 
 use crate::commands::{Task, ran, stored, tried};
-use crate::sessions::run_all;
 use crate::steps::step_of;
 use crate::texts::text;
 use generated::history;
@@ -12,56 +11,6 @@ use gx_text::{Bytes, Held};
 use std::alloc::Global;
 use std::hash::RandomState;
 use std::test::Fail;
-
-/// Stores are exported as streams.
-const EXPORTS: &str = "
-$ init store
-$ import store
-$ export store %%
-feature done
-done
-$ init store
-$ import store % one blob
-$ export store %%
-feature done
-done
-$ init store
-$ import store % two branches
-$ export store %% export of two branches
-";
-
-/// An export that is cut before its end is refused.
-const CUT: &str = "
-$ init store
-$ import store % unfinished export of two branches %% gx: command 12: MissingDone
-";
-
-/// A store whose one commit has a submodule of forty zeros is exported, and the export is not imported.
-const NO_SUBMODULE: &str = "
-$ store %
-gxstore 1
-objects 2
-tree 31
-160000 sub\0\0\0\0\0\0\0\0\0\0\0\0\0\0\0\0\0\0\0\0\0
-commit 97
-tree c1fccce3ec8e1c7c43f2aaca8d18a2487ff30ec1
-author A <a@x> 1 +0000
-committer A <a@x> 1 +0000
-
-z
-refs 1
-5dfac797f892439657345e7e310c2ede78520f7c refs/heads/main
-end
-$ export store %% export of zeros
-$ init store
-$ import store % export of zeros %% gx: command 3: Unsupported
-";
-
-#[test]
-fn stores_are_exported_as_streams(rt: HostRuntime) -> Result<(), Fail> {
-    let state = RandomState::new(&rt)?;
-    run_all(rt.alloc(), &[EXPORTS, CUT, NO_SUBMODULE], state)
-}
 
 /// Commands that print the same of two branches, and of their export.
 const OF_BRANCHES: &str = "$ refs store $ log --parents store a b t $ export store";

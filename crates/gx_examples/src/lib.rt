@@ -29,8 +29,6 @@ mod stored;
 #[cfg(test)]
 mod storing;
 #[cfg(test)]
-mod streams;
-#[cfg(test)]
 mod texts;
 #[cfg(test)]
 mod trying;

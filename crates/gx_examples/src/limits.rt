@@ -1,6 +1,6 @@
 //! Commands for which memory and room for what they print end at each place.
 
-use crate::commands::{Task, has_line, ran, stored, tried};
+use crate::commands::{Task, ran, stored, tried};
 use crate::steps::{Step, step_of};
 use gx_adapt::AdaptFault;
 use gx_cli::{BlobsFault, BlobsKind, CliFault, Line};
@@ -18,9 +18,12 @@ $ rev-parse store main main %%
 02d6adf1689e06135d2b4b4d471f1ae489887b53
 % 6 % root
 $ refs store %% ref of first % 4 % root
+$ refs store %% refs of version % 8 % version
 $ import store % tagged %% 21 % root
+$ import store %%% 12 % version
 $ init store %%% 1
 $ export store %% export of two branches % 21 % two branches
+$ export store %% export of modes % 21 % modes
 $ adapt % rough % mended % 2
 $ where 2 % mended %
 5:22:commit refs/heads/m
@@ -31,27 +34,34 @@ main:test.txt%
 version 1
 
 % 6 % root
+$ batch --check store %
+main:test.txt
+main:test.txt
+%
+83baae61804e65cc73a7201a7252750c76066a30 blob 10
+83baae61804e65cc73a7201a7252750c76066a30 blob 10
+% 6 % root
 $ try main^{tree} % wide % lines of wide % 21
 $ try main % version % commit of version % 1
 $ blobs % three blobs % three names % 5
 ";
 
+/// The same of a stream with lines of many kinds.
+const ROUGH_LINES: &str = "$ adapt % rough lines % mended lines % 3";
+
 /// Tries the commands of a script, each on the store of its step's stream.
 fn try_all(alloc: Global, script: &str, task: Task<'_>, state: RandomState) -> Result<(), Fail> {
     for part in script.split('$').skip(1) {
-        if !is_right(alloc, &step_of(part), task, state) {
+        let step = step_of(part);
+        let is_right = match stored(alloc, step.stream, state) {
+            Some(mut store) => tried(alloc, &step, &mut store, task, state),
+            None => false,
+        };
+        if !is_right {
             return Err(Fail::new(format_args!("{part}")));
         }
     }
     Ok(())
-}
-
-/// Whether what is to come of a command comes of it, on the store of its step's stream.
-fn is_right(alloc: Global, step: &Step<'_>, task: Task<'_>, state: RandomState) -> bool {
-    match stored(alloc, step.stream, state) {
-        Some(mut store) => tried(alloc, step, &mut store, task, state),
-        None => false,
-    }
 }
 
 #[test]
@@ -61,24 +71,23 @@ fn failed_write_keeps_a_front_of_the_output(rt: HostRuntime) -> Result<(), Fail>
 }
 
 #[test]
-fn failed_read_is_no_end(rt: HostRuntime) -> Result<(), Fail> {
+fn failed_device_is_no_end(rt: HostRuntime) -> Result<(), Fail> {
     let state = RandomState::new(&rt)?;
+    try_all(rt.alloc(), ROUGH_LINES, Task::Stop(Stop::Full), state)?;
     let script = "$ blobs % three blobs % three names";
     try_all(rt.alloc(), script, Task::Stop(Stop::Cut), state)
 }
 
+/// Three and four bodies are copied of texts that are lent, and none of one that is given, of which the owners are counted.
 #[test]
 fn each_refused_growth_of_a_command_is_out_of_memory(rt: HostRuntime) -> Result<(), Fail> {
     let state = RandomState::new(&rt)?;
-    try_all(rt.alloc(), COMMANDS, Task::Growths, state)
-}
-
-/// Three bodies are copied of a text that is lent. The owners of one that is given are counted.
-#[test]
-fn no_body_of_a_given_text_is_copied(rt: HostRuntime) -> Result<(), Fail> {
-    let state = RandomState::new(&rt)?;
+    try_all(rt.alloc(), COMMANDS, Task::Growths, state)?;
+    try_all(rt.alloc(), ROUGH_LINES, Task::Growths, state)?;
     let script = "$ refs store %% ref of first %% root";
-    try_all(rt.alloc(), script, Task::Copies(2), state)
+    try_all(rt.alloc(), script, Task::Copies(2), state)?;
+    let script = "$ refs store %% refs of version %% version";
+    try_all(rt.alloc(), script, Task::Copies(3), state)
 }
 
 /// Where a command stops.
@@ -131,69 +140,37 @@ fn stops_at(
         return false;
     };
     let outcome = ran(alloc, line, store, source, &mut sink, state);
-    let is_front = outcome.status == 1 && step.printed.starts_with(sink.bytes());
-    is_front
-        && match stop {
-            Stop::Full => sink.bytes().len() == place
-                && is_full(alloc, line, step, outcome.fault, place),
-            Stop::Cut => is_cut(outcome.fault),
+    let has_fault = match stop {
+        Stop::Full => {
+            let wanted = refusal_at(line, step.printed, place);
+            sink.bytes().len() == place && outcome.fault == Some(wanted)
         }
+        Stop::Cut => matches!(
+            outcome.fault,
+            Some(CliFault::Blobs(fault)) if fault.kind == BlobsKind::ReadFailed
+        ),
+    };
+    has_fault && outcome.status == 1 && step.printed.starts_with(sink.bytes())
 }
 
-/// Whether a command whose sink has room for so many bytes is refused for this.
-fn is_full(
-    alloc: Global,
-    line: &Line<'_>,
-    step: &Step<'_>,
-    fault: Option<CliFault>,
-    room: usize,
-) -> bool {
-    let in_progress = room < 11 && step.printed.starts_with(b"progress x\n");
-    let (wanted, text) = refusal_at(line, room, in_progress);
-    fault == Some(wanted) && has_line(alloc, fault, text)
-}
-
-/// Whether the names of blobs end since the source failed.
-fn is_cut(fault: Option<CliFault>) -> bool {
-    match fault {
-        Some(CliFault::Blobs(fault)) => fault.kind == BlobsKind::ReadFailed,
-        _ => false,
-    }
-}
-
-/// Why a command is refused whose sink has room for so many bytes, and the line of that: a try's import may be in its progress.
-fn refusal_at(line: &Line<'_>, room: usize, in_progress: bool) -> (CliFault, &'static str) {
+/// Why a command that prints this is refused whose sink has room for so many bytes: a try's import may be in its progress.
+fn refusal_at(line: &Line<'_>, printed: &[u8], room: usize) -> CliFault {
     match line {
-        Line::Export { file: _ } => (
-            CliFault::Export(ExportFault::WriteFailed {
-                written: room as u64,
-            }),
-            "gx: export: WriteFailed",
-        ),
-        Line::Adapt => (
-            CliFault::Adapt(AdaptFault::WriteFailed),
-            "gx: adapt: WriteFailed",
-        ),
-        Line::Try(_) if in_progress => (
+        Line::Export { file: _ } => CliFault::Export(ExportFault::WriteFailed {
+            written: room as u64,
+        }),
+        Line::Adapt => CliFault::Adapt(AdaptFault::WriteFailed),
+        Line::Try(_) if room < 11 && printed.starts_with(b"progress x\n") => {
             CliFault::Import(ImportFault {
                 command: 1,
                 kind: ImportKind::WriteFailed,
                 checkpoints: 0,
-            }),
-            "gx: command 1: WriteFailed",
-        ),
-        Line::Blobs => blobs_refusal_at(room),
-        _ => (CliFault::WriteFailed, "gx: write failed"),
+            })
+        }
+        Line::Blobs => CliFault::Blobs(BlobsFault {
+            command: (room as u64 / 41).saturating_add(1),
+            kind: BlobsKind::WriteFailed,
+        }),
+        _ => CliFault::WriteFailed,
     }
-}
-
-/// Why the names of three blobs end whose sink has room for so many bytes.
-fn blobs_refusal_at(room: usize) -> (CliFault, &'static str) {
-    let (command, text) = match room {
-        0..41 => (1, "gx: command 1: WriteFailed"),
-        41..82 => (2, "gx: command 2: WriteFailed"),
-        _ => (3, "gx: command 3: WriteFailed"),
-    };
-    let kind = BlobsKind::WriteFailed;
-    (CliFault::Blobs(BlobsFault { command, kind }), text)
 }

@@ -4,8 +4,6 @@ use crate::commands::is_text;
 use crate::steps::{halves, words_of};
 use gx_cli::{LineFault, read_line};
 use std::alloc::Global;
-use std::hash::RandomState;
-use std::test::Fail;
 
 /// Words with bars between them, and the line that they give, as it prints for debugging.
 const LINES: &str = "
@@ -135,12 +133,16 @@ $ rev-parse|--help % help %
 Refusals:
 ";
 
-/// Whether just this comes of words.
-fn is_read(alloc: Global, words: &[&str], wanted: &str) -> bool {
-    match read_line(alloc, words) {
-        Ok(line) => is_text(format!(in alloc; "{line:?}"), wanted.trim()),
-        Err(LineFault::Status { status, text }) => is_end(status, text.as_str(), wanted),
-        Err(LineFault::OutOfMemory) => false,
+/// Whether what is to come of words comes of them.
+fn is_right(alloc: Global, row: &str) -> bool {
+    let (words, wanted) = halves(row, '%');
+    match words_of(alloc, words.trim(), '|') {
+        Ok(words) => match read_line(alloc, words.as_slice()) {
+            Ok(line) => is_text(format!(in alloc; "{line:?}"), wanted.trim()),
+            Err(LineFault::Status { status, text }) => is_end(status, text.as_str(), wanted),
+            Err(LineFault::OutOfMemory) => false,
+        },
+        Err(_) => false,
     }
 }
 
@@ -155,37 +157,11 @@ fn is_end(status: u8, text: &str, wanted: &str) -> bool {
     }
 }
 
-/// Whether what is to come of words comes of them.
-fn is_right(alloc: Global, row: &str) -> bool {
-    let (words, wanted) = halves(row, '%');
-    match words_of(alloc, words.trim(), '|') {
-        Ok(words) => is_read(alloc, words.as_slice(), wanted),
-        Err(_) => false,
-    }
-}
-
-/// Reads words. The first of which something else comes are a failure.
-fn are_read(alloc: Global, rows: &str) -> Result<(), Fail> {
-    for row in rows.split('$').skip(1) {
-        if !is_right(alloc, row) {
-            return Err(Fail::new(format_args!("{row}")));
+#[test]
+fn words_give_their_line_or_end_with_their_status(rt: HostRuntime) {
+    for rows in [LINES, LOGS, REVISIONS, REFUSED, HELP] {
+        for row in rows.split('$').skip(1) {
+            assert!(rt; is_right(rt.alloc(), row), "{row}");
         }
     }
-    Ok(())
-}
-
-#[test]
-fn words_give_their_line(rt: HostRuntime) -> Result<(), Fail> {
-    for rows in [LINES, LOGS, REVISIONS] {
-        are_read(rt.alloc(), rows)?;
-    }
-    Ok(())
-}
-
-#[test]
-fn other_words_end_with_their_status(rt: HostRuntime) -> Result<(), Fail> {
-    for rows in [REFUSED, HELP] {
-        are_read(rt.alloc(), rows)?;
-    }
-    Ok(())
 }

@@ -2,8 +2,16 @@
 
 mod batches;
 mod checkpoints;
+mod exports;
+mod imports;
 mod listed;
+mod records;
+mod repositories;
+mod revisions;
 mod rows;
+mod store_texts;
+mod streams;
+mod trees;
 
 use crate::sessions::run_all;
 use std::alloc::Global;
@@ -20,6 +28,26 @@ const ACCEPTED: &[&str] = &[
     listed::TREES,
     listed::LOGS,
     batches::ANSWERS,
+    revisions::SHOWN,
+    revisions::LISTED,
+    trees::MOVES,
+    trees::WAYS,
+    trees::EDITS,
+    trees::PLACES,
+    trees::NAMES,
+    repositories::OBJECTS,
+    repositories::FOUND_REFS,
+    repositories::SET_REFS,
+    records::RECORDS,
+    imports::SHOWN,
+    imports::EXPORTS,
+    imports::ANSWERS,
+    imports::STORES,
+    exports::EXPORTS,
+    streams::READ,
+    streams::ITEMS,
+    streams::ADAPTED,
+    streams::FOUND,
 ];
 
 #[test]
@@ -36,6 +64,22 @@ const REFUSED: &[&str] = &[
     listed::REFUSED_RANGES,
     batches::REFUSED,
     checkpoints::SESSIONS,
+    revisions::MISSED,
+    revisions::DIGITS,
+    revisions::NO_RANGES,
+    trees::REFUSED_EDITS,
+    repositories::HELD_NAMES,
+    records::REFUSED_RECORDS,
+    imports::PUBLISHED,
+    imports::SHORT_NAMES,
+    store_texts::REFUSED,
+    streams::REFUSED,
+    streams::CUT,
+    streams::NO_ITEMS,
+    streams::NOT_ADAPTED,
+    streams::NOT_FOUND,
+    exports::CUT,
+    exports::NO_SUBMODULE,
 ];
 
 #[test]

@@ -1,22 +1,32 @@
 //! Streams, store texts and what commands print, by the names that the scripts of the examples give them. The names of objects are
 //! those that git gives them.
 
+mod stores;
+
 use gx_text::cut;
+use stores::STORES;
 
 /// The text with this name; nothing for a name that none has.
 pub(crate) fn text(name: &str) -> &'static [u8] {
-    for part in TEXTS.split(|byte| *byte == b'%') {
+    match text_among(STREAMS, name) {
+        Some(text) => text,
+        None => text_among(STORES, name).unwrap_or(b""),
+    }
+}
+
+fn text_among(texts: &'static [u8], name: &str) -> Option<&'static [u8]> {
+    for part in texts.split(|byte| *byte == b'%') {
         if let Some((title, text)) = cut(part, b'\n') {
             if title == name.as_bytes() {
-                return text;
+                return Some(text);
             }
         }
     }
-    b""
+    None
 }
 
-/// Texts, each in the lines behind its name, up to the next `%`.
-const TEXTS: &[u8] = b"
+/// Streams and what comes of them, each text in the lines behind its name, up to the next `%`.
+const STREAMS: &[u8] = b"
 %root
 commit refs/heads/main
 mark :1
@@ -226,6 +236,37 @@ M 100644 :1 \"\\\"a\"
 
 reset refs/heads/gone
 
+%rough lines
+feature export-marks=m
+blob
+mark :1
+data 19
+author <a> 1 +0000
+commit refs/heads/a
+author <a> -1 +0000
+committer A <a> 1 +0000
+data 2
+\"a
+M 100644 :1 \"a
+
+reset refs/heads/b
+from 0000000000000000000000000000000000000000
+
+%mended lines
+blob
+mark :1
+data 19
+author <a> 1 +0000
+
+commit refs/heads/a
+author  <a> -1 +0000
+committer A <a> 1 +0000
+data 2
+\"a
+M 100644 :1 \"\\\"a\"
+
+reset refs/heads/b
+
 %mixed
 blob
 mark :1
@@ -337,110 +378,4 @@ reset refs/heads/main
 from :1
 
 done
-%empty
-gxstore 2
-objects 0
-refs 0
-end
-%with blob
-gxstore 2
-objects 1
-blob 13 d670460b4b4aece5915caf5c68d12f560a9fe3e4
-test content
-
-refs 0
-end
-%old with blob
-gxstore 1
-objects 1
-blob 13
-test content
-
-refs 0
-end
-%first
-gxstore 2
-objects 3
-blob 10 83baae61804e65cc73a7201a7252750c76066a30
-version 1
-
-tree 36 d8329fc1cc938780ffdd9f94e0d364e0ea74f579
-100644 test.txt\0\x83\xba\xaea\x80Ne\xccs\xa7 \x1arRu\x0cv\x06j0
-commit 98 02d6adf1689e06135d2b4b4d471f1ae489887b53
-tree d8329fc1cc938780ffdd9f94e0d364e0ea74f579
-author A <a@x> 1 +0000
-committer A <a@x> 1 +0000
-
-v1
-refs 1
-02d6adf1689e06135d2b4b4d471f1ae489887b53 refs/heads/main
-end
-%ref of first
-02d6adf1689e06135d2b4b4d471f1ae489887b53 refs/heads/main
-%odd
-blob
-mark :1
-data 5
-one
-x
-commit refs/heads/main
-mark :2
-author A U Thor <a@x> 1700000000 +0100
-committer C O Mitter <c@x> 1700000001 -0130
-data 6
-first
-M 100644 :1 \"a b\\\"\\303\\244\"
-M 100755 inline dir/sub/run
-data 2
-go
-M 120000 inline dir/link
-data 3
-run
-M 160000 d670460b4b4aece5915caf5c68d12f560a9fe3e4 mod
-
-commit refs/heads/side
-mark :3
-committer A <a@x> 2 +0000
-data 4
-side
-from :2
-R dir \"moved dir\"
-C \"a b\\\"\\303\\244\" copy
-D mod
-
-progress half
-commit refs/heads/main
-mark :4
-committer A <a@x> 3 +0000
-data 5
-other
-M 100644 inline dir.t
-data <<E
-hello
-E
-
-commit refs/heads/main
-mark :5
-committer A <a@x> 4 +0000
-data 5
-merge
-merge :3
-R dir/sub sub
-
-tag v1.0
-from :5
-tagger A <a@x> 5 +0000
-data 3
-one
-tag old/v0
-from :2
-data 0
-reset refs/heads/kept
-from :3
-%refs of odd
-39b12c0f6ae0528020a7712cc5edb4c7ea6262f5 refs/heads/kept
-231e4842e22f542ed2e0473967b3a2678ec20565 refs/heads/main
-39b12c0f6ae0528020a7712cc5edb4c7ea6262f5 refs/heads/side
-b789cd8a41fc3c7613aa26b0428846ad4c6b4665 refs/tags/old/v0
-4d87bc15d31c990120745e4f5e757420064d9e44 refs/tags/v1.0
 %";

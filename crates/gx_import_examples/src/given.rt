@@ -3,10 +3,11 @@
 use gx_export::export;
 use gx_file::{FileFault, read, write};
 use gx_import::{ImportFault, ImportKind, import};
+use gx_model::Mode;
 use gx_object::{Kind, Name, Namer, Sha1Namer};
 use gx_repo::Repo;
-use gx_rev::{Range, Revision, Shown, walk};
-use gx_text::{Bytes, Held, Sink, Source};
+use gx_rev::{Range, Revision, Shown, look, walk};
+use gx_text::{Bytes, Held, Sink, Source, TreePath};
 use std::alloc::{Allocator, Global};
 use std::hash::RandomState;
 use std::slice::from_ref;
@@ -24,11 +25,8 @@ pub(crate) const MERGED: &[u8] =
 pub(crate) const MERGED_TEXT: &[u8] =
     b"feature done\nblob\nmark :1\ndata 6\nhello\n\nreset refs/gx/export\ncommit refs/gx/export\nmark :2\nauthor A <a@x> 1 +0000\ncommitter A <a@x> 1 +0000\ndata 1\np\ndeleteall\nM 100644 :1 f\n\nreset refs/gx/export\ncommit refs/gx/export\nmark :3\nauthor A <a@x> 2 +0000\ncommitter A <a@x> 2 +0000\ndata 1\nq\ndeleteall\nM 160000 d670460b4b4aece5915caf5c68d12f560a9fe3e4 sub\n\ncommit refs/gx/export\nmark :4\nauthor A <a@x> 3 +0000\ncommitter A <a@x> 3 +0000\ndata 1\nm\nfrom :2\nmerge :3\ndeleteall\nM 100644 :1 f\n\nreset refs/gx/export\nreset refs/heads/a\nfrom :4\n\nreset refs/heads/b\nfrom :3\n\ntag t\nfrom :4\ntagger A <a@x> 4 +0000\ndata 1\nt\ndone\n";
 
-/// The text of an empty store.
-pub(crate) const EMPTY: &[u8] = b"gxstore 2\nobjects 0\nrefs 0\nend\n";
-
-/// Why what a source gives is refused; none where it is imported. What the devices tell is left open here, so no caller has
-/// more to prove than that the call is safe.
+/// Why what a source gives is refused; none where it is imported. What the devices tell is left open here, so no caller
+/// has more to prove than that the call is safe.
 pub(crate) fn refusal_into<N: Namer, A: Allocator + Copy, R: Source + Drop, W: Sink>(
     alloc: A,
     repo: &mut Repo<N, A>,
@@ -46,7 +44,11 @@ pub(crate) fn refusal<N: Namer, A: Allocator + Copy>(
 ) -> Option<ImportFault> {
     match Held::new(alloc, 64) {
         Ok(mut sink) => refusal_into(alloc, repo, source, &mut sink),
-        Err(_) => Some(fault(0, ImportKind::OutOfMemory)),
+        Err(_) => Some(ImportFault {
+            command: 0,
+            kind: ImportKind::OutOfMemory,
+            checkpoints: 0,
+        }),
     }
 }
 
@@ -59,14 +61,6 @@ pub(crate) fn refusal_of<N: Namer, A: Allocator + Copy>(
     refusal(alloc, repo, Bytes::new(stream, 4096, false))
 }
 
-pub(crate) fn fault(command: u64, kind: ImportKind) -> ImportFault {
-    ImportFault {
-        command,
-        kind,
-        checkpoints: 0,
-    }
-}
-
 /// The store text of a repository; an empty one where there is no memory.
 pub(crate) fn text_of<N: Namer, A: Allocator + Copy>(alloc: A, repo: &Repo<N, A>) -> Vec<u8, A> {
     match write(alloc, repo) {
@@ -75,76 +69,43 @@ pub(crate) fn text_of<N: Namer, A: Allocator + Copy>(alloc: A, repo: &Repo<N, A>
     }
 }
 
-/// Whether the store text of a repository is this one.
-pub(crate) fn has_text<N: Namer>(alloc: Global, repo: &Repo<N, Global>, text: &[u8]) -> bool {
-    text_of(alloc, repo).as_slice() == text
-}
-
-/// The store text of a repository with a stream imported; an empty one where that is refused.
-pub(crate) fn text_with<N: Namer>(
+/// The text of a store with a stream imported; an empty one where that is refused.
+pub(crate) fn text_with(
     alloc: Global,
-    repo: &mut Repo<N, Global>,
-    source: Bytes<'_>,
-) -> Vec<u8, Global> {
-    match refusal(alloc, repo, source) {
+    repo: &mut Repo<Sha1Namer, Global>,
+    stream: &[u8],
+) -> Vec<u8> {
+    match refusal_of(alloc, repo, stream) {
         None => text_of(alloc, repo),
         Some(_) => Vec::new(alloc),
     }
 }
 
-/// The text of a new store of Git's names with a stream imported; an empty one where that is refused.
-pub(crate) fn stored_from(alloc: Global, source: Bytes<'_>, state: RandomState) -> Vec<u8, Global> {
+/// The text of a new store with a stream imported; an empty one where that is refused.
+pub(crate) fn stored(alloc: Global, stream: &[u8], state: RandomState) -> Vec<u8> {
     let mut repo = Repo::new(alloc, Sha1Namer, state);
-    text_with(alloc, &mut repo, source)
+    text_with(alloc, &mut repo, stream)
 }
 
-/// The same of a stream that comes in large pieces.
-pub(crate) fn stored(alloc: Global, stream: &[u8], state: RandomState) -> Vec<u8, Global> {
-    stored_from(alloc, Bytes::new(stream, 4096, false), state)
-}
-
-/// Why a stream is refused behind another one, where the store stays as it was; none otherwise.
-pub(crate) fn refusal_behind<N: Namer>(
-    alloc: Global,
-    repo: &mut Repo<N, Global>,
-    first: &[u8],
-    source: Bytes<'_>,
-) -> Option<ImportFault> {
-    let before = text_with(alloc, repo, Bytes::new(first, 4096, false));
-    let refused = refusal(alloc, repo, source);
-    if !before.is_empty() && has_text(alloc, repo, &before) {
-        refused
-    } else {
-        None
-    }
-}
-
-fn exported_to<N: Namer>(
-    alloc: Global,
-    repo: &Repo<N, Global>,
-    sink: &mut Held<Global>,
-) -> Vec<u8, Global> {
-    match export(alloc, repo, sink) {
-        Ok(()) => copied(alloc, sink.bytes()),
-        Err(_) => Vec::new(alloc),
-    }
-}
-
-fn copied(alloc: Global, bytes: &[u8]) -> Vec<u8, Global> {
-    match Vec::from_slice(alloc, bytes) {
-        Ok(copy) => copy,
-        Err(_) => Vec::new(alloc),
-    }
+/// The repository of a store text, by Git's names.
+pub(crate) fn opened<A: Allocator + Copy>(
+    alloc: A,
+    text: &[u8],
+    state: RandomState,
+) -> Result<Repo<Sha1Namer, A>, FileFault> {
+    read(alloc, Sha1Namer, text, state)
 }
 
 /// The export of a repository; an empty one where it is refused.
-pub(crate) fn exported<N: Namer>(
-    alloc: Global,
-    repo: &Repo<N, Global>,
-    room: usize,
-) -> Vec<u8, Global> {
-    match Held::new(alloc, room) {
-        Ok(mut sink) => exported_to(alloc, repo, &mut sink),
+pub(crate) fn exported(alloc: Global, repo: &Repo<Sha1Namer, Global>, room: usize) -> Vec<u8> {
+    let Ok(mut sink) = Held::new(alloc, room) else {
+        return Vec::new(alloc);
+    };
+    match export(alloc, repo, &mut sink) {
+        Ok(()) => match Vec::from_slice(alloc, sink.bytes()) {
+            Ok(text) => text,
+            Err(_) => Vec::new(alloc),
+        },
         Err(_) => Vec::new(alloc),
     }
 }
@@ -164,23 +125,35 @@ pub(crate) fn object_of<N: Namer>(
     }
 }
 
-/// The commits that a word lists; none where it is refused.
-pub(crate) fn listed(
+/// Whether a file stands at a path of a revision with these bytes.
+pub(crate) fn has_file(
     alloc: Global,
     repo: &Repo<Sha1Namer, Global>,
-    word: &[u8],
-) -> Vec<Name, Global> {
+    revision: &[u8],
+    path: &[u8],
+    bytes: &[u8],
+) -> bool {
+    let Ok(revision) = Revision::read(alloc, revision) else {
+        return false;
+    };
+    let Ok(path) = TreePath::read(alloc, path) else {
+        return false;
+    };
+    match look(alloc, repo, &revision, &path) {
+        Ok((mode, file)) => mode == Mode::File && file.as_slice() == bytes,
+        Err(_) => false,
+    }
+}
+
+/// The commits that a word lists; none where it is refused.
+pub(crate) fn listed(alloc: Global, repo: &Repo<Sha1Namer, Global>, word: &[u8]) -> Vec<Name> {
     match Range::read(alloc, word) {
         Ok(range) => walked(alloc, repo, &range),
         Err(_) => Vec::new(alloc),
     }
 }
 
-fn walked(
-    alloc: Global,
-    repo: &Repo<Sha1Namer, Global>,
-    range: &Range<Global>,
-) -> Vec<Name, Global> {
+fn walked(alloc: Global, repo: &Repo<Sha1Namer, Global>, range: &Range<Global>) -> Vec<Name> {
     match walk(alloc, repo, from_ref(range)) {
         Ok(names) => names,
         Err(_) => Vec::new(alloc),
@@ -193,13 +166,4 @@ pub(crate) fn fail_at(place: Option<usize>) -> Result<(), Fail> {
         None => Ok(()),
         Some(place) => Err(Fail::new(format_args!("at {place}"))),
     }
-}
-
-/// The repository of a store text, by Git's names.
-pub(crate) fn opened<A: Allocator + Copy>(
-    alloc: A,
-    text: &[u8],
-    state: RandomState,
-) -> Result<Repo<Sha1Namer, A>, FileFault> {
-    read(alloc, Sha1Namer, text, state)
 }

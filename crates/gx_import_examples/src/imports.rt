@@ -1,176 +1,223 @@
-//! Streams, imported one after the other into a repository. The names are those that git gives these objects.
+//! Sessions: streams that are imported into a repository one after the other, and what comes of each.
+//!
+//! A script is a list of sessions, each behind a `&`, and a session a list of steps, each behind a `$`. A step has up
+//! to four fields, with `%` between them: what comes of an import, its stream, what it prints, and how many bytes it
+//! may print. A field of bytes has them behind a line feed. A step with a `#` says what the next ones show.
+//!
+//! What comes of an import is the numbers of its commands, of new objects and of published refs, or its fault and the
+//! number of checkpoints before that; and behind a comma how many objects and refs are held then. A `!` before it says
+//! that the source fails behind the stream.
 
-use crate::given::FIRST;
-use crate::sessions::{Session, Step, follow_all, holds, imports, refuses};
-use gx_import::{ImportFault, ImportKind};
-use gx_object::Sha1Namer;
+ghost use Rattle.std.specs.Prelude.{◌<◌};
+ghost use Rattle.std.specs.Prelude.{◌<◌};
+
+use crate::given::text_of;
+use gx_file::write_to;
+use gx_import::{ImportFault, Report, import};
+use gx_object::{Kind, Name, Namer, Sha1Namer, ShortNamer};
 use gx_repo::Repo;
-use gx_rev::RevFault;
+use gx_text::{Bytes, Held};
 use std::alloc::Global;
 use std::hash::RandomState;
 use std::test::Fail;
 
+mod accepted;
 mod checkpoints;
 mod counting;
-mod devices;
-mod rows;
-mod shown;
+mod held_names;
+mod refused;
 
-use rows::{ACCEPTED, HEAD, REFUSED, REFUSED_CHANGES};
-
-/// A second commit on main, with a copy of the first one's files in a directory.
-const SECOND: &[u8] =
-    b"commit refs/heads/main\ncommitter A <a@x> 2 +0000\ndata 2\nv2\nC test.txt bak/test.txt\nM 100644 inline test.txt\ndata 10\nversion 2\nM 100644 inline new.txt\ndata 9\nnew file\n";
-
-/// The names are Git's own.
-const NAMES: &[Step] = &[
-    Step::Import(&[FIRST, SECOND], (2, 7, 1)),
-    Step::Show(
-        b"main~1^{tree}",
-        b"d8329fc1cc938780ffdd9f94e0d364e0ea74f579",
-    ),
-    Step::Show(
-        b"main~1:test.txt",
-        b"83baae61804e65cc73a7201a7252750c76066a30",
-    ),
-    Step::Show(b"main^{tree}", b"3c4e9cd789d88d8d89c1073707c3585e41b0e614"),
-    Step::Show(b"main:bak", b"d8329fc1cc938780ffdd9f94e0d364e0ea74f579"),
-    Step::Show(
-        b"main:test.txt",
-        b"1f7a7a472abf3dd9643fd615f6da379c4acb3e3a",
-    ),
-    Step::Show(b"main:new.txt", b"fa49b077972391ad58037050f2a75f74e3671e92"),
-];
-
-/// The name of the first stream's commit.
-const FIRST_NAME: &[u8; 40] = b"02d6adf1689e06135d2b4b4d471f1ae489887b53";
-
-/// A second commit on main, and a commit on another branch.
-const NEXT: &[u8] = b"commit refs/heads/main\ncommitter A <a@x> 2 +0000\ndata 2\nv2\n";
-
-const OTHER: &[u8] = b"commit refs/heads/b\ncommitter A <a@x> 3 +0000\ndata 0\nfrom main\n";
-
-/// A published branch may not lose a commit, unless `force` is asked for.
-const FAST_FORWARD: &[Step] = &[
-    Step::Import(&[FIRST], (1, 3, 1)),
-    Step::Show(b"main", FIRST_NAME),
-    Step::Refuse(&[NEXT], 2, ImportKind::NotFastForward),
-    Step::Hold(3, 1),
-    Step::Show(b"main", FIRST_NAME),
-    Step::Refuse(
-        &[NEXT, b"from refs/heads/main\n"],
-        1,
-        ImportKind::FromItself,
-    ),
-    Step::Import(&[NEXT, b"from refs/heads/main^0\n"], (1, 1, 1)),
-    Step::Show(b"main~1", FIRST_NAME),
-    Step::Same(b"main:test.txt", b"main~1:test.txt"),
-    Step::Import(&[b"feature force\n", NEXT], (2, 2, 1)),
-    Step::Miss(b"main~1", RevFault::NoParent),
-    // another branch leaves this one as it is
-    Step::Import(&[OTHER], (1, 1, 1)),
-    Step::Hold(7, 2),
-    Step::Same(b"b~1", b"main"),
-];
-
-/// Commits with the parents of `from` and of `merge`.
-const PARENTS: &[u8] =
-    b"commit p\nmark :1\ncommitter A <a@x> 1 +0000\ndata 1\np\ncommit q\nmark :2\ncommitter A <a@x> 1 +0000\ndata 1\nq\ncommit x\ncommitter A <a@x> 1 +0000\ndata 0\nmerge :2\nmerge :1\ncommit y\ncommitter A <a@x> 1 +0000\ndata 0\nfrom :2\nmerge :1\ncommit y\ncommitter A <a@x> 1 +0000\ndata 0\nmerge :1\n";
-
-/// A commit's first parent is that of `from`, before those that are merged, in their order.
-const PARENT_ORDER: &[Step] = &[
-    Step::Import(&[PARENTS], (5, 5, 4)),
-    Step::Differ(b"p", b"q"),
-    Step::Same(b"x^1", b"q"),
-    Step::Same(b"x^2", b"p"),
-    Step::Miss(b"x^3", RevFault::NoParent),
-    Step::Same(b"y~1^1", b"q"),
-    Step::Same(b"y~1^2", b"p"),
-    Step::Same(b"y^2", b"p"),
-];
-
-/// Two branches that begin with the same files.
-const BRANCHES: &[u8] =
-    b"reset refs/heads/b\nfrom :1\ncommit refs/heads/b\ncommitter A <a@x> 2 +0000\ndata 0\nD test.txt\nM 644 inline f\ndata 0\ncommit refs/heads/main\ncommitter A <a@x> 3 +0000\ndata 0\nM 644 inline g\ndata 0\n";
-
-/// Each branch has files of its own, also where two began with the same ones.
-const OWN_FILES: &[Step] = &[
-    Step::Import(&[FIRST, BRANCHES], (4, 8, 2)),
-    Step::Miss(b"b:test.txt", RevFault::NoSuchPath),
-    Step::Miss(b"main:f", RevFault::NoSuchPath),
-    Step::Same(b"b:f", b"main:g"),
-    Step::Same(b"main:test.txt", b"main~1:test.txt"),
-    Step::Same(b"b~1", b"main~1"),
-];
-
-const SESSIONS: &[Session] = &[
-    ("commits have their names", NAMES),
-    ("a second import is fast-forward", FAST_FORWARD),
-    ("parents keep their order", PARENT_ORDER),
-    ("branches have their own files", OWN_FILES),
-];
-
-#[test]
-fn streams_follow_one_another(rt: HostRuntime) -> Result<(), Fail> {
-    let state = RandomState::new(&rt)?;
-    follow_all(rt.alloc(), state, SESSIONS)
+/// A step of a session.
+#[derive(Clone, Copy)]
+struct Step<'a> {
+    answer: &'a str,
+    /// The source fails behind the stream.
+    fails: bool,
+    stream: &'a [u8],
+    printed: &'a [u8],
+    /// How many bytes the sink takes.
+    room: usize,
 }
 
-/// Whether an empty repository takes a stream, and then has what its report counts.
-fn is_accepted(alloc: Global, state: RandomState, text: &[u8], numbers: (u64, u64, u64)) -> bool {
-    let mut repo = Repo::new(alloc, Sha1Namer, state);
-    imports(alloc, &mut repo, &[text], numbers)
-        && holds(&repo, numbers.1 as usize, numbers.2 as usize)
-}
-
-#[test]
-fn reports_count_what_was_done(rt: HostRuntime) -> Result<(), Fail> {
-    let state = RandomState::new(&rt)?;
-    for (text, numbers) in ACCEPTED {
-        assert!(rt; is_accepted(rt.alloc(), state, text, *numbers));
+/// The step in a part of a session.
+fn step_of(part: &str) -> Step<'_> {
+    let mut fields = part.split('%');
+    let answer = fields.next().unwrap_or("");
+    let stream = fields.next().unwrap_or("");
+    let printed = fields.next().unwrap_or("");
+    let room = fields.next().unwrap_or("");
+    Step {
+        answer: answer.trim_start_matches('!').trim(),
+        fails: answer.starts_with('!'),
+        stream: stream.strip_prefix('\n').unwrap_or("").as_bytes(),
+        printed: printed.strip_prefix('\n').unwrap_or("").as_bytes(),
+        room: room.trim().parse::<usize>().unwrap_or(100),
     }
-    Ok(())
 }
 
-/// Whether an empty repository refuses a stream at this command for this reason, and stays empty.
-fn is_refused(
+/// Whether what is to come of an import came of it.
+fn is_answered<N: Namer>(
     alloc: Global,
-    state: RandomState,
-    parts: &[&[u8]],
-    command: u64,
-    kind: ImportKind,
+    repo: &Repo<N, Global>,
+    answered: Result<Report, ImportFault>,
+    answer: &str,
 ) -> bool {
-    let mut repo = Repo::new(alloc, Sha1Namer, state);
-    refuses(alloc, &mut repo, parts, command, kind, 0) && holds(&repo, 0, 0)
-}
-
-#[test]
-fn refused_imports_leave_nothing(rt: HostRuntime) -> Result<(), Fail> {
-    let state = RandomState::new(&rt)?;
-    for (text, command, kind) in REFUSED {
-        assert!(rt; is_refused(rt.alloc(), state, &[text], *command, *kind));
-    }
-    Ok(())
-}
-
-#[test]
-fn refused_changes_leave_nothing(rt: HostRuntime) -> Result<(), Fail> {
-    let state = RandomState::new(&rt)?;
-    for (lines, kind) in REFUSED_CHANGES {
-        let parts: [&[u8]; 4] = [FIRST, b"blob\ndata 3\nabc\n", HEAD, lines];
-        assert!(rt; is_refused(rt.alloc(), state, &parts, 3, *kind));
-    }
-    Ok(())
-}
-
-#[test]
-fn faults_print_their_command_and_kind(rt: HostRuntime) -> Result<(), Fail> {
-    let fault = ImportFault {
-        command: 7,
-        kind: ImportKind::NotFastForward,
-        checkpoints: 0,
+    let objects = repo.store().len();
+    let refs = repo.refs().count();
+    let made = match answered {
+        Ok(report) => format!(in alloc;
+            "{} {} {}, {objects} {refs}",
+            report.commands, report.objects, report.refs
+        ),
+        Err(fault) => format!(in alloc; "{fault} {}, {objects} {refs}", fault.checkpoints),
     };
-    let text = format!(in rt.alloc(); "{fault}")?;
-    assert_eq!(rt; text.as_bytes(), b"command 7: NotFastForward".as_slice());
+    match made {
+        Ok(made) => made.as_str() == answer,
+        Err(_) => false,
+    }
+}
+
+/// Does a step, whose stream comes in such pieces. Answers whether what is to come of it came; an import that is
+/// refused before a checkpoint leaves the store's text as it was.
+fn is_done<N: Namer>(
+    alloc: Global,
+    repo: &mut Repo<N, Global>,
+    step: &Step<'_>,
+    piece: usize,
+) -> bool
+    requires { 0 < piece }
+{
+    let Ok(mut sink) = Held::new(alloc, step.room) else {
+        return false;
+    };
+    let before = text_of(alloc, repo);
+    let result = import(
+        alloc,
+        repo,
+        Bytes::new(step.stream, piece, step.fails),
+        &mut sink,
+    );
+    let is_left = match result {
+        Err(fault) if fault.checkpoints == 0 => text_of(alloc, repo) == before,
+        _ => true,
+    };
+    is_left && sink.bytes() == step.printed && is_answered(alloc, repo, result, step.answer)
+}
+
+/// Does the steps of a session in their order. Fails at the first one of which something else comes.
+fn follow<N: Namer>(
+    alloc: Global,
+    repo: &mut Repo<N, Global>,
+    session: &str,
+    piece: usize,
+) -> Result<(), Fail>
+    requires { 0 < piece }
+{
+    for part in session.split('$').skip(1) {
+        if !part.starts_with(" #") && !is_done(alloc, repo, &step_of(part), piece) {
+            return Err(Fail::new(format_args!("pieces of {piece}: {part}")));
+        }
+    }
     Ok(())
+}
+
+/// Whether a sink with so much room gets a front of a repository's text, and all of it just where it has room.
+fn goes_out<N: Namer>(alloc: Global, repo: &Repo<N, Global>, text: &[u8], room: usize) -> bool {
+    let Ok(mut sink) = Held::new(alloc, room) else {
+        return false;
+    };
+    let is_sent = write_to(repo, &mut sink).is_ok();
+    text.starts_with(sink.bytes()) && is_sent == (sink.bytes() == text)
+}
+
+/// The store text that a session leaves of an empty repository.
+fn text_behind<N: Namer + Copy>(
+    alloc: Global,
+    namer: N,
+    session: &str,
+    piece: usize,
+    state: RandomState,
+) -> Result<Vec<u8>, Fail>
+    requires { 0 < piece }
+{
+    let mut repo = Repo::new(alloc, namer, state);
+    follow(alloc, &mut repo, session, piece)?;
+    let text = text_of(alloc, &repo);
+    let short = text.len().saturating_sub(1);
+    if goes_out(alloc, &repo, &text, text.len()) && goes_out(alloc, &repo, &text, short) {
+        Ok(text)
+    } else {
+        Err(Fail::new(format_args!("the text behind {session}")))
+    }
+}
+
+/// Follows the sessions of a script, with streams that come whole, and in pieces of each size below this one. Each
+/// session leaves one text.
+fn follow_all<N: Namer + Copy>(
+    alloc: Global,
+    namer: N,
+    script: &str,
+    most: usize,
+    state: RandomState,
+) -> Result<(), Fail> {
+    for session in script.split('&').skip(1) {
+        let whole = text_behind(alloc, namer, session, 4096, state)?;
+        for piece in 1..most {
+            if text_behind(alloc, namer, session, piece, state)? != whole {
+                return Err(Fail::new(format_args!("pieces of {piece}: {session}")));
+            }
+        }
+    }
+    Ok(())
+}
+
+#[test]
+fn imports_are_answered_and_counted(rt: HostRuntime) -> Result<(), Fail> {
+    let state = RandomState::new(&rt)?;
+    follow_all(rt.alloc(), Sha1Namer, accepted::ROWS, 2, state)?;
+    follow_all(rt.alloc(), Sha1Namer, accepted::SESSIONS, 2, state)
+}
+
+#[test]
+fn checkpoints_publish_and_are_kept(rt: HostRuntime) -> Result<(), Fail> {
+    let state = RandomState::new(&rt)?;
+    follow_all(rt.alloc(), Sha1Namer, checkpoints::SESSIONS, 2, state)
+}
+
+#[test]
+fn refused_imports_leave_the_store(rt: HostRuntime) -> Result<(), Fail> {
+    let state = RandomState::new(&rt)?;
+    follow_all(rt.alloc(), Sha1Namer, refused::STREAMS, 2, state)?;
+    follow_all(rt.alloc(), Sha1Namer, refused::CHANGES, 2, state)
+}
+
+#[test]
+fn lines_go_out_as_they_come_and_lengths_take_no_room(rt: HostRuntime) -> Result<(), Fail> {
+    let state = RandomState::new(&rt)?;
+    follow_all(rt.alloc(), Sha1Namer, refused::DEVICES, 2, state)?;
+    follow_all(rt.alloc(), Sha1Namer, refused::PROGRESS, 30, state)?;
+    follow_all(rt.alloc(), Sha1Namer, refused::LENGTHS, 6, state)
+}
+
+/// Gives all objects one name.
+#[derive(Clone, Copy, Debug)]
+struct ConstantNamer;
+
+impl Namer for ConstantNamer {
+    ghost use Rattle.std.specs.Prelude.{refl, replicate};
+
+    ghost name_of = { λ _ _ _. replicate 20 17 };
+
+    ghost is_namer = { λ _. record { long = λ _ _. refl; bytes = λ _ _. refl } };
+
+    fn name(&self, _kind: Kind, _body: &[u8]) -> Name {
+        Name { bytes: [17; 20] }
+    }
+}
+
+#[test]
+fn other_object_of_a_held_name_is_refused(rt: HostRuntime) -> Result<(), Fail> {
+    let state = RandomState::new(&rt)?;
+    follow_all(rt.alloc(), ShortNamer, held_names::SHORT, 2, state)?;
+    follow_all(rt.alloc(), ConstantNamer, held_names::CONSTANT, 2, state)
 }

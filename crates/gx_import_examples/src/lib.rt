@@ -2,16 +2,12 @@
 #![tactic(auto)]
 
 #[cfg(test)]
-mod batches;
+mod asking;
 #[cfg(test)]
-mod exports;
+mod batches;
 #[cfg(test)]
 mod given;
 #[cfg(test)]
 mod hostile;
 #[cfg(test)]
 mod imports;
-#[cfg(test)]
-mod sessions;
-#[cfg(test)]
-mod store_texts;

@@ -1,359 +1,462 @@
 //! Repositories: what is added, refused, found and published. The names are those that git gives these objects.
 
-use calls::{Answer, Call, IDENT};
-use gx_object::{Kind, Sha1Namer, ShortNamer};
-use gx_repo::RefChange;
-use names::*;
-use sessions::{Session, follow, refuse_each};
+use sessions::follow_each;
+use std::hash::RandomState;
 use std::test::Fail;
 
 mod calls;
-mod names;
-mod records;
-mod refs;
 mod sessions;
 mod trees;
 
-/// The identities of Pro Git's example.
-const CHACON: &[u8] = b"Scott Chacon <schacon@gmail.com> 1243040974 -0700";
+/// Objects that are added, and names that are held for others.
+const OBJECTS: &[u8] = b"
+#0 0 each file makes another tree
+$ file test.txt%version 1
+%done
+$ tree%%d8329fc1cc938780ffdd9f94e0d364e0ea74f579
+$ commit d8329fc1cc938780ffdd9f94e0d364e0ea74f579%version 1
+%25344a33f56c09bb711806fc7f57b59438e92479
+$ file test.txt%version 2
+%done
+$ tree%%2f39845a4a2c3ad86adebb00b1ddabd959c131c4
+$ commit 2f39845a4a2c3ad86adebb00b1ddabd959c131c4%version 2
+%594e2c192f5a3d35cad0ca172283bfa4ffe4697e
+$ file new.txt%new file
+%done
+$ tree%%0155eb4229851634a0f03eb265b69f5a2d56f341
+$ commit 0155eb4229851634a0f03eb265b69f5a2d56f341%new file
+%8aa22b744ddb0b89143636cf211619f2c9a2644d
+$ file bak/test.txt%version 1
+%done
+$ tree%%3c4e9cd789d88d8d89c1073707c3585e41b0e614
+$ commit 3c4e9cd789d88d8d89c1073707c3585e41b0e614%version 1
+%68679d6dbebf2018b93bcff20e9abd1ad57604b3
+$ objects%%11
+#0 0 the first objects alone are kept
+$ blob%a%2e65efe2a145dda7ee51d1741299f848e5bf752e
+$ blob%b%63d8dbd40c23542e740659a7168a0ce3138ea748
+$ truncate 5%%done
+$ objects%%2
+$ truncate 1%%done
+$ holds blob 2e65efe2a145dda7ee51d1741299f848e5bf752e%%done
+$ holds blob 63d8dbd40c23542e740659a7168a0ce3138ea748%%nothing
+$ blob%b%63d8dbd40c23542e740659a7168a0ce3138ea748
+$ objects%%2
+$ truncate 0%%done
+$ objects%%0
+#~0 0 another blob under a held name is refused
+$ blob%1%1111111111111111111111111111111111110001
+$ blob%2%NameHeld
+$ objects%%1
+#~0 0 another commit is
+$ tree%%1111111111111111111111111111111111110100
+$ commit 1111111111111111111111111111111111110100%1%1111111111111111111111111111111111110261
+$ commit 1111111111111111111111111111111111110100%2%NameHeld
+$ commit 1111111111111111111111111111111111110100%1%1111111111111111111111111111111111110261
+$ objects%%2
+#~0 0 another tree is
+$ file d/f%1%done
+$ tree%%111111111111111111111111111111111111011c
+$ clear%%done
+$ file e/ff%1%done
+$ tree%%NameHeld
+$ objects%%3
+$ files%%1
+";
 
-const CHACON_LATER: &[u8] = b"Scott Chacon <schacon@gmail.com> 1243041269 -0700";
+/// Records of which nothing is known, and what is against them first.
+const RECORDS: &[u8] = b"
+#0 0 records have the names that git gives them, and a refused one changes nothing
+$ record blob%version 1
+%83baae61804e65cc73a7201a7252750c76066a30
+$ record tree%%4b825dc642cb6eb9a060e54bf8d69288fbee4904
+$ record tree%100644 test.txt\0\x83\xba\xaea\x80Ne\xccs\xa7 \x1arRu\x0cv\x06j0%d8329fc1cc938780ffdd9f94e0d364e0ea74f579
+$ record commit%tree d8329fc1cc938780ffdd9f94e0d364e0ea74f579
+author Scott Chacon <schacon@gmail.com> 1243040974 -0700
+committer Scott Chacon <schacon@gmail.com> 1243040974 -0700
 
-/// A ref to a commit.
-const MAIN: &[RefChange] = &[RefChange {
-    name: b"refs/heads/main",
-    target: FIRST_COMMIT,
-}];
+first commit
+%fdf4fc3344e67ab068f836878b6c4951e3b15f3d
+$ record tag%object fdf4fc3344e67ab068f836878b6c4951e3b15f3d
+type commit
+tag v1
+tagger A <a@x> 1 +0000
 
-/// Each file makes another tree.
-const TREES: Session = Session {
-    before: &[],
-    rows: &[
-        (Call::File(b"test.txt", b"version 1\n"), Answer::Yes),
-        (
-            Call::Commit(&[], IDENT, b"version 1\n"),
-            Answer::Committed(FIRST_TREE, FIRST_ROOT),
-        ),
-        (Call::File(b"test.txt", b"version 2\n"), Answer::Yes),
-        (
-            Call::Commit(&[], IDENT, b"version 2\n"),
-            Answer::Committed(SECOND_TREE, SECOND_ROOT),
-        ),
-        (Call::File(b"new.txt", b"new file\n"), Answer::Yes),
-        (
-            Call::Commit(&[], IDENT, b"new file\n"),
-            Answer::Committed(THIRD_TREE, THIRD_ROOT),
-        ),
-        (Call::File(b"bak/test.txt", b"version 1\n"), Answer::Yes),
-        (
-            Call::Commit(&[], IDENT, b"version 1\n"),
-            Answer::Committed(FOURTH_TREE, FOURTH_ROOT),
-        ),
-        (Call::Objects, Answer::Counted(11)),
-    ],
-    after: &[],
-};
+one
+%e07ffd2be85f726620d6b9f1134a3d8bb599d332
+$ record tree%40000 bak\0\xd82\x9f\xc1\xcc\x93\x87\x80\xff\xdd\x9f\x94\xe0\xd3d\xe0\xeat\xf5y%d3768f26137cee49678da775c7c7e79a9ce14150
+$ record tree%160000 lib\0zzzzzzzzzzzzzzzzzzzz%731905130ce1d8af39bc97304e8ca74242186f13
+$ record commit%tree d8329fc1cc938780ffdd9f94e0d364e0ea74f579
+parent fdf4fc3344e67ab068f836878b6c4951e3b15f3d
+author A <a@x> 1 +0000
+committer A <a@x> 1 +0000
 
-/// Two commits, one after the other.
-const COMMITS: Session = Session {
-    before: &[],
-    rows: &[
-        (Call::File(b"test.txt", b"version 1\n"), Answer::Yes),
-        (
-            Call::Commit(&[], CHACON, b"first commit\n"),
-            Answer::Committed(FIRST_TREE, FIRST_COMMIT),
-        ),
-        (Call::File(b"test.txt", b"version 2\n"), Answer::Yes),
-        (Call::File(b"new.txt", b"new file\n"), Answer::Yes),
-        (
-            Call::Commit(&[FIRST_COMMIT], CHACON_LATER, b"second commit\n"),
-            Answer::Committed(THIRD_TREE, SECOND_COMMIT),
-        ),
-    ],
-    after: &[],
-};
+m%5206f51ddd4f35e0c5da1e4a12d02232d1ebe687
+$ publish%fdf4fc3344e67ab068f836878b6c4951e3b15f3d refs/heads/main%done
+$ holds blob 83baae61804e65cc73a7201a7252750c76066a30%%done
+$ holds tree 4b825dc642cb6eb9a060e54bf8d69288fbee4904%%done
+$ holds tree d8329fc1cc938780ffdd9f94e0d364e0ea74f579%%done
+$ holds commit fdf4fc3344e67ab068f836878b6c4951e3b15f3d%%done
+$ holds tag e07ffd2be85f726620d6b9f1134a3d8bb599d332%%done
+$ holds tree d3768f26137cee49678da775c7c7e79a9ce14150%%done
+$ holds tree 731905130ce1d8af39bc97304e8ca74242186f13%%done
+$ holds commit 5206f51ddd4f35e0c5da1e4a12d02232d1ebe687%%done
+$ objects%%8
+$ record tree%100644 a%BadObject
+$ objects%%8
+$ refs%fdf4fc3344e67ab068f836878b6c4951e3b15f3d refs/heads/main%done
+$ record tree%100644 b\0zzzzzzzzzzzzzzzzzzzz100644 a\0zzzzzzzzzzzzzzzzzzzz%BadObject
+$ objects%%8
+$ refs%fdf4fc3344e67ab068f836878b6c4951e3b15f3d refs/heads/main%done
+$ record commit%tree 7a7a7a7a7a7a7a7a7a7a7a7a7a7a7a7a7a7a7a7a
+%BadObject
+$ objects%%8
+$ refs%fdf4fc3344e67ab068f836878b6c4951e3b15f3d refs/heads/main%done
+$ record tag%object 7a7a7a7a7a7a7a7a7a7a7a7a7a7a7a7a7a7a7a7a
+type tree
+tag v2
 
-/// A tag with a tagger.
-const TAGS: Session = Session {
-    before: &[],
-    rows: &[
-        (Call::File(b"test.txt", b"version 1\n"), Answer::Yes),
-        (
-            Call::Commit(&[], CHACON, b"first commit\n"),
-            Answer::Committed(FIRST_TREE, FIRST_COMMIT),
-        ),
-        (
-            Call::Tag(FIRST_COMMIT, Some(IDENT), b"one\n"),
-            Answer::Named(FIRST_TAG),
-        ),
-    ],
-    after: &[],
-};
+%BadObject
+$ objects%%8
+$ refs%fdf4fc3344e67ab068f836878b6c4951e3b15f3d refs/heads/main%done
+$ record tree%100644 a\0zzzzzzzzzzzzzzzzzzzz%Dangling
+$ objects%%8
+$ refs%fdf4fc3344e67ab068f836878b6c4951e3b15f3d refs/heads/main%done
+$ record tree%40000 d\0zzzzzzzzzzzzzzzzzzzz%Dangling
+$ objects%%8
+$ refs%fdf4fc3344e67ab068f836878b6c4951e3b15f3d refs/heads/main%done
+$ record commit%tree 7a7a7a7a7a7a7a7a7a7a7a7a7a7a7a7a7a7a7a7a
+author A <a@x> 1 +0000
+committer A <a@x> 1 +0000
 
-/// A commit and its tag are peeled to the commit, and nothing else is to one.
-const PEELED: Session = Session {
-    before: &[],
-    rows: &[
-        (
-            Call::Commit(&[], IDENT, b"m"),
-            Answer::Committed(EMPTY_TREE, M),
-        ),
-        (Call::Tag(M, None, b""), Answer::Named(M_TAG)),
-        (Call::Blob(b"blob"), Answer::Named(BLOB)),
-        (Call::Peel(M), Answer::Named(M)),
-        (Call::Peel(M_TAG), Answer::Named(M)),
-        (Call::Peel(BLOB), Answer::Nothing),
-        (Call::Peel(EMPTY_TREE), Answer::Nothing),
-        (Call::Peel(ABSENT), Answer::Nothing),
-    ],
-    after: &[],
-};
+m%Dangling
+$ objects%%8
+$ refs%fdf4fc3344e67ab068f836878b6c4951e3b15f3d refs/heads/main%done
+$ record commit%tree d8329fc1cc938780ffdd9f94e0d364e0ea74f579
+parent fdf4fc3344e67ab068f836878b6c4951e3b15f3d
+parent 7a7a7a7a7a7a7a7a7a7a7a7a7a7a7a7a7a7a7a7a
+author A <a@x> 1 +0000
+committer A <a@x> 1 +0000
 
-/// Another blob under a held name.
-const HELD_BLOB: Session = Session {
-    before: &[],
-    rows: &[
-        (Call::Blob(b"1"), Answer::Named(SHORT_BLOB)),
-        (Call::Blob(b"2"), Answer::NameHeld),
-        (Call::Objects, Answer::Counted(1)),
-    ],
-    after: &[],
-};
+m%Dangling
+$ objects%%8
+$ refs%fdf4fc3344e67ab068f836878b6c4951e3b15f3d refs/heads/main%done
+$ record tag%object 7a7a7a7a7a7a7a7a7a7a7a7a7a7a7a7a7a7a7a7a
+type commit
+tag v2
 
-/// Another commit under a held name.
-const HELD_COMMIT: Session = Session {
-    before: &[],
-    rows: &[
-        (
-            Call::Commit(&[], IDENT, b"1"),
-            Answer::Committed(SHORT_EMPTY_TREE, SHORT_COMMIT),
-        ),
-        (Call::Commit(&[], IDENT, b"2"), Answer::NameHeld),
-        (
-            Call::Commit(&[], IDENT, b"1"),
-            Answer::Committed(SHORT_EMPTY_TREE, SHORT_COMMIT),
-        ),
-        (Call::Objects, Answer::Counted(2)),
-    ],
-    after: &[],
-};
+%Dangling
+$ objects%%8
+$ refs%fdf4fc3344e67ab068f836878b6c4951e3b15f3d refs/heads/main%done
+$ record tree%100644 a\0\xd82\x9f\xc1\xcc\x93\x87\x80\xff\xdd\x9f\x94\xe0\xd3d\xe0\xeat\xf5y%Dangling
+$ objects%%8
+$ refs%fdf4fc3344e67ab068f836878b6c4951e3b15f3d refs/heads/main%done
+$ record tree%40000 d\0\x83\xba\xaea\x80Ne\xccs\xa7 \x1arRu\x0cv\x06j0%Dangling
+$ objects%%8
+$ refs%fdf4fc3344e67ab068f836878b6c4951e3b15f3d refs/heads/main%done
+$ record commit%tree 83baae61804e65cc73a7201a7252750c76066a30
+author A <a@x> 1 +0000
+committer A <a@x> 1 +0000
 
-/// Another tree under a held name.
-const HELD_TREE: Session = Session {
-    before: &[],
-    rows: &[
-        (Call::File(b"d/f", b"1"), Answer::Yes),
-        (Call::Tree, Answer::Named(SHORT_ROOT)),
-        (Call::Clear, Answer::Done),
-        (Call::File(b"e/ff", b"1"), Answer::Yes),
-        (Call::Tree, Answer::NameHeld),
-        (Call::Objects, Answer::Counted(3)),
-        (Call::Files, Answer::Counted(1)),
-    ],
-    after: &[],
-};
+m%Dangling
+$ objects%%8
+$ refs%fdf4fc3344e67ab068f836878b6c4951e3b15f3d refs/heads/main%done
+$ record commit%tree d8329fc1cc938780ffdd9f94e0d364e0ea74f579
+parent e07ffd2be85f726620d6b9f1134a3d8bb599d332
+author A <a@x> 1 +0000
+committer A <a@x> 1 +0000
 
-/// The tree that names the blob is added as a record, which asks for the rooms of all before it.
-const GIVEN: Session = Session {
-    before: &[],
-    rows: &[
-        (Call::Give(b"version 1\n"), Answer::Named(VERSION_1)),
-        (Call::Blob(b"version 1\n"), Answer::Named(VERSION_1)),
-        (Call::Objects, Answer::Counted(1)),
-        (
-            Call::Record(
-                Kind::Tree,
-                b"100644 test.txt\0\x83\xba\xaea\x80Ne\xccs\xa7 \x1arRu\x0cv\x06j0",
-            ),
-            Answer::Named(FIRST_TREE),
-        ),
-    ],
-    after: &[],
-};
+m%Dangling
+$ objects%%8
+$ refs%fdf4fc3344e67ab068f836878b6c4951e3b15f3d refs/heads/main%done
+$ record tag%object d8329fc1cc938780ffdd9f94e0d364e0ea74f579
+type commit
+tag v2
 
-/// Records are added within texts, of which the repository is the last owner.
-const WITHIN: Session = Session {
-    before: &[],
-    rows: &[
-        (
-            Call::Within(
-                Kind::Tree,
-                b"100644 test.txt\0\x83\xba\xaea\x80Ne\xccs\xa7 \x1arRu\x0cv\x06j0",
-                0,
-                36,
-            ),
-            Answer::Dangling,
-        ),
-        (
-            Call::Within(Kind::Blob, b"(version 1\n)", 1, 11),
-            Answer::Named(VERSION_1),
-        ),
-        (
-            Call::Within(Kind::Blob, b"version 1\n", 0, 10),
-            Answer::DuplicateObject,
-        ),
-        (Call::Blob(b"version 1\n"), Answer::Named(VERSION_1)),
-        (Call::Within(Kind::Tree, b"tree", 0, 4), Answer::BadObject),
-        (
-            Call::Within(
-                Kind::Tree,
-                b"\n100644 test.txt\0\x83\xba\xaea\x80Ne\xccs\xa7 \x1arRu\x0cv\x06j0\n",
-                1,
-                37,
-            ),
-            Answer::Named(FIRST_TREE),
-        ),
-        (Call::Objects, Answer::Counted(2)),
-    ],
-    after: &[],
-};
+%Dangling
+$ objects%%8
+$ refs%fdf4fc3344e67ab068f836878b6c4951e3b15f3d refs/heads/main%done
+$ record tree%40000 d\0K\x82]\xc6B\xcbn\xb9\xa0`\xe5K\xf8\xd6\x92\x88\xfb\xeeI\x04100644 z\0zzzzzzzzzzzzzzzzzzzz%Dangling
+$ objects%%8
+$ refs%fdf4fc3344e67ab068f836878b6c4951e3b15f3d refs/heads/main%done
+$ record tree%40000 d\0K\x82]\xc6B\xcbn\xb9\xa0`\xe5K\xf8\xd6\x92\x88\xfb\xeeI\x04%BadObject
+$ objects%%8
+$ refs%fdf4fc3344e67ab068f836878b6c4951e3b15f3d refs/heads/main%done
+$ record tree%100644 a\0\x83\xba\xaea\x80Ne\xccs\xa7 \x1arRu\x0cv\x06j040000 d\0K\x82]\xc6B\xcbn\xb9\xa0`\xe5K\xf8\xd6\x92\x88\xfb\xeeI\x04%BadObject
+$ objects%%8
+$ refs%fdf4fc3344e67ab068f836878b6c4951e3b15f3d refs/heads/main%done
+$ record tag%object fdf4fc3344e67ab068f836878b6c4951e3b15f3d
+type commit
+tag v1
+tagger A <a@x> 1 +0000
 
-/// The first objects alone are kept.
-const CUT: Session = Session {
-    before: &[],
-    rows: &[
-        (Call::Blob(b"a"), Answer::Named(BLOB_A)),
-        (Call::Blob(b"b"), Answer::Named(BLOB_B)),
-        (Call::Truncate(5), Answer::Done),
-        (Call::Objects, Answer::Counted(2)),
-        (Call::Truncate(1), Answer::Done),
-        (Call::Holds(Kind::Blob, BLOB_A), Answer::Yes),
-        (Call::Holds(Kind::Blob, BLOB_B), Answer::No),
-        (Call::Blob(b"b"), Answer::Named(BLOB_B)),
-        (Call::Objects, Answer::Counted(2)),
-        (Call::Truncate(0), Answer::Done),
-        (Call::Objects, Answer::Counted(0)),
-    ],
-    after: &[],
-};
+one
+%DuplicateObject
+$ objects%%8
+$ refs%fdf4fc3344e67ab068f836878b6c4951e3b15f3d refs/heads/main%done
+#0 0 records are added within texts, of which the repository is the last owner
+$ within tree 0 36%100644 test.txt\0\x83\xba\xaea\x80Ne\xccs\xa7 \x1arRu\x0cv\x06j0%Dangling
+$ within blob 1 11%(version 1
+)%83baae61804e65cc73a7201a7252750c76066a30
+$ within blob 0 10%version 1
+%DuplicateObject
+$ blob%version 1
+%83baae61804e65cc73a7201a7252750c76066a30
+$ within tree 0 4%tree%BadObject
+$ within tree 1 37%
+100644 test.txt\0\x83\xba\xaea\x80Ne\xccs\xa7 \x1arRu\x0cv\x06j0
+%d8329fc1cc938780ffdd9f94e0d364e0ea74f579
+$ objects%%2
+#0 0 bytes are given as a blob; the record behind it asks for the rooms of all before it
+$ give%version 1
+%83baae61804e65cc73a7201a7252750c76066a30
+$ blob%version 1
+%83baae61804e65cc73a7201a7252750c76066a30
+$ objects%%1
+$ record tree%100644 test.txt\0\x83\xba\xaea\x80Ne\xccs\xa7 \x1arRu\x0cv\x06j0%d8329fc1cc938780ffdd9f94e0d364e0ea74f579
+#0 0 the longest path has 4,095 bytes
+$ record blob%%e69de29bb2d1d6434b8b29ae775ad8c2e48c5391
+$ entry 100644 a 4090%e69de29bb2d1d6434b8b29ae775ad8c2e48c5391%02348ae51f1a12c52580c9e73679d373ae60abd2
+$ entry 40000 b 5%02348ae51f1a12c52580c9e73679d373ae60abd2%BadObject
+$ entry 40000 b 4%02348ae51f1a12c52580c9e73679d373ae60abd2%69f77efa82cd6b8f0b75cfaf5f745422798d0e2f
+$ entry 40000 c 1%69f77efa82cd6b8f0b75cfaf5f745422798d0e2f%BadObject
+$ entry 100755 a 4095%e69de29bb2d1d6434b8b29ae775ad8c2e48c5391%625be3194c8600223f88babaafda7406ab1ee2ba
+$ entry 100755 a 4096%e69de29bb2d1d6434b8b29ae775ad8c2e48c5391%BadObject
+$ objects%%4
+#~0 0 a held name is refused whatever its bytes
+$ record blob%1%1111111111111111111111111111111111110001
+$ record blob%1%DuplicateObject
+$ record blob%2%DuplicateObject
+$ objects%%1
+";
 
-/// Calls that want memory. Where a growth is refused they change nothing.
-const GROWING: Session = Session {
-    before: &[
-        (
-            Call::Commit(&[], IDENT, b"old"),
-            Answer::Committed(EMPTY_TREE, OLD),
-        ),
-        (
-            Call::Publish(&[RefChange {
-                name: b"refs/heads/main",
-                target: OLD,
-            }]),
-            Answer::Done,
-        ),
-        (Call::File(b"d/f", b"file"), Answer::Yes),
-    ],
-    rows: &[
-        (Call::Blob(b"blob"), Answer::Named(BLOB)),
-        (Call::Tree, Answer::Named(FILE_TREE)),
-        (Call::Child(EMPTY_TREE, &[OLD]), Answer::Named(CHILD)),
-        (Call::Tag(OLD, None, b"tag"), Answer::Named(OLD_TAG)),
-        (
-            Call::Publish(&[
-                RefChange {
-                    name: b"refs/heads/main",
-                    target: OLD,
-                },
-                RefChange {
-                    name: b"refs/heads/a",
-                    target: OLD,
-                },
-                RefChange {
-                    name: b"refs/tags/z",
-                    target: OLD,
-                },
-            ]),
-            Answer::Done,
-        ),
-    ],
-    after: &[
-        (Call::Objects, Answer::Counted(3)),
-        (
-            Call::Refs(&[RefChange {
-                name: b"refs/heads/main",
-                target: OLD,
-            }]),
-            Answer::Yes,
-        ),
-    ],
-};
+/// Refs that are set, refused and found.
+const REFS: &[u8] = b"
+#0 0 a change that is refused, between one that is not and one that is, sets no ref
+$ tree%%4b825dc642cb6eb9a060e54bf8d69288fbee4904
+$ commit 4b825dc642cb6eb9a060e54bf8d69288fbee4904%m%72c94d6f8d05bab7da1bd2949ffdf5bcaf794e9d
+$ blob%blob%43ae31d836edd668d12fb87a494e340c2c5a8698
+$ publish%72c94d6f8d05bab7da1bd2949ffdf5bcaf794e9d refs/heads/a
+72c94d6f8d05bab7da1bd2949ffdf5bcaf794e9d refs/heads/a..b
+0000000000000000000000000000000000000000 refs/heads/b..c%BadRefName
+$ refs%%done
+$ publish%72c94d6f8d05bab7da1bd2949ffdf5bcaf794e9d refs/heads/a
+0000000000000000000000000000000000000000 refs/heads/a..b
+0000000000000000000000000000000000000000 refs/heads/b..c%BadRefName
+$ refs%%done
+$ publish%72c94d6f8d05bab7da1bd2949ffdf5bcaf794e9d refs/heads/a
+0000000000000000000000000000000000000000 refs/heads/b
+0000000000000000000000000000000000000000 refs/heads/b..c%UnknownObject
+$ refs%%done
+$ publish%72c94d6f8d05bab7da1bd2949ffdf5bcaf794e9d refs/heads/a
+43ae31d836edd668d12fb87a494e340c2c5a8698 refs/heads/b
+0000000000000000000000000000000000000000 refs/heads/b..c%WrongKind
+$ refs%%done
+$ publish%72c94d6f8d05bab7da1bd2949ffdf5bcaf794e9d refs/heads/a
+43ae31d836edd668d12fb87a494e340c2c5a8698 refs/tags/blob
+0000000000000000000000000000000000000000 refs/heads/b..c%WrongKind
+$ refs%%done
+#0 0 a tag is published under its own name alone, a commit under that of any tag
+$ tree%%4b825dc642cb6eb9a060e54bf8d69288fbee4904
+$ commit 4b825dc642cb6eb9a060e54bf8d69288fbee4904%m%72c94d6f8d05bab7da1bd2949ffdf5bcaf794e9d
+$ tag 72c94d6f8d05bab7da1bd2949ffdf5bcaf794e9d%%dfc608817b87e1c5bea098817cd39f70fddca4c7
+$ publish%dfc608817b87e1c5bea098817cd39f70fddca4c7 refs/tags/v2%WrongKind
+$ publish%dfc608817b87e1c5bea098817cd39f70fddca4c7 refs/heads/v1%WrongKind
+$ publish%dfc608817b87e1c5bea098817cd39f70fddca4c7 v1%WrongKind
+$ publish%dfc608817b87e1c5bea098817cd39f70fddca4c7 refs/tags/v1%done
+$ publish%72c94d6f8d05bab7da1bd2949ffdf5bcaf794e9d refs/tags/v2%done
+$ refs%dfc608817b87e1c5bea098817cd39f70fddca4c7 refs/tags/v1
+72c94d6f8d05bab7da1bd2949ffdf5bcaf794e9d refs/tags/v2%done
+#0 0 a later change wins, and other refs stay
+$ tree%%4b825dc642cb6eb9a060e54bf8d69288fbee4904
+$ commit 4b825dc642cb6eb9a060e54bf8d69288fbee4904%first%7404774c3cc006fcbaaf429d9e56d7e55bb01810
+$ commit 4b825dc642cb6eb9a060e54bf8d69288fbee4904%second%768676b3201ab8c9c8bb9d7ad61973d713a1c145
+$ commit 4b825dc642cb6eb9a060e54bf8d69288fbee4904%third%93f21e91854b5858822207e73a86539cccaac87f
+$ publish%7404774c3cc006fcbaaf429d9e56d7e55bb01810 refs/heads/b
+7404774c3cc006fcbaaf429d9e56d7e55bb01810 refs/heads/a/b
+768676b3201ab8c9c8bb9d7ad61973d713a1c145 refs/heads/b%done
+$ refs%7404774c3cc006fcbaaf429d9e56d7e55bb01810 refs/heads/a/b
+768676b3201ab8c9c8bb9d7ad61973d713a1c145 refs/heads/b%done
+$ publish%93f21e91854b5858822207e73a86539cccaac87f refs/heads/a
+93f21e91854b5858822207e73a86539cccaac87f refs/heads/b
+93f21e91854b5858822207e73a86539cccaac87f refs/heads/\xff
+768676b3201ab8c9c8bb9d7ad61973d713a1c145 refs/heads/a.b%done
+$ publish%%done
+$ refs%93f21e91854b5858822207e73a86539cccaac87f refs/heads/a
+768676b3201ab8c9c8bb9d7ad61973d713a1c145 refs/heads/a.b
+7404774c3cc006fcbaaf429d9e56d7e55bb01810 refs/heads/a/b
+93f21e91854b5858822207e73a86539cccaac87f refs/heads/b
+93f21e91854b5858822207e73a86539cccaac87f refs/heads/\xff%done
+#0 0 each of these refs is found before those that were set earlier, and other words stand for none
+$ find m%%nothing
+$ tree%%4b825dc642cb6eb9a060e54bf8d69288fbee4904
+$ commit 4b825dc642cb6eb9a060e54bf8d69288fbee4904%refs/remotes/m/HEAD%a8564d6fbf3c8397c1735cb2f48cc4ee9de300fc
+$ find%%nothing
+$ find mm%%nothing
+$ publish%a8564d6fbf3c8397c1735cb2f48cc4ee9de300fc refs/remotes/m/HEAD%done
+$ find%%nothing
+$ find mm%%nothing
+$ find m%%a8564d6fbf3c8397c1735cb2f48cc4ee9de300fc
+$ find%%nothing
+$ find mm%%nothing
+$ find refs/remotes/m/HEAD%%a8564d6fbf3c8397c1735cb2f48cc4ee9de300fc
+$ find%%nothing
+$ find mm%%nothing
+$ commit 4b825dc642cb6eb9a060e54bf8d69288fbee4904%refs/remotes/m%8687b9689dbdc8d8f0cb526395bc234896bd9f46
+$ find%%nothing
+$ find mm%%nothing
+$ publish%8687b9689dbdc8d8f0cb526395bc234896bd9f46 refs/remotes/m%done
+$ find%%nothing
+$ find mm%%nothing
+$ find m%%8687b9689dbdc8d8f0cb526395bc234896bd9f46
+$ find%%nothing
+$ find mm%%nothing
+$ find refs/remotes/m%%8687b9689dbdc8d8f0cb526395bc234896bd9f46
+$ find%%nothing
+$ find mm%%nothing
+$ commit 4b825dc642cb6eb9a060e54bf8d69288fbee4904%refs/heads/m%1ef39e478425f43d904e2a7e8018eba98a1c207a
+$ find%%nothing
+$ find mm%%nothing
+$ publish%1ef39e478425f43d904e2a7e8018eba98a1c207a refs/heads/m%done
+$ find%%nothing
+$ find mm%%nothing
+$ find m%%1ef39e478425f43d904e2a7e8018eba98a1c207a
+$ find%%nothing
+$ find mm%%nothing
+$ find refs/heads/m%%1ef39e478425f43d904e2a7e8018eba98a1c207a
+$ find%%nothing
+$ find mm%%nothing
+$ commit 4b825dc642cb6eb9a060e54bf8d69288fbee4904%refs/tags/m%97c36748b4e8e1ec69c6561bc78c2965dd97f6c5
+$ find%%nothing
+$ find mm%%nothing
+$ publish%97c36748b4e8e1ec69c6561bc78c2965dd97f6c5 refs/tags/m%done
+$ find%%nothing
+$ find mm%%nothing
+$ find m%%97c36748b4e8e1ec69c6561bc78c2965dd97f6c5
+$ find%%nothing
+$ find mm%%nothing
+$ find refs/tags/m%%97c36748b4e8e1ec69c6561bc78c2965dd97f6c5
+$ find%%nothing
+$ find mm%%nothing
+$ commit 4b825dc642cb6eb9a060e54bf8d69288fbee4904%refs/m%66b02220ceddde2422fa8eab57eacb48ddc25092
+$ find%%nothing
+$ find mm%%nothing
+$ publish%66b02220ceddde2422fa8eab57eacb48ddc25092 refs/m%done
+$ find%%nothing
+$ find mm%%nothing
+$ find m%%66b02220ceddde2422fa8eab57eacb48ddc25092
+$ find%%nothing
+$ find mm%%nothing
+$ find refs/m%%66b02220ceddde2422fa8eab57eacb48ddc25092
+$ find%%nothing
+$ find mm%%nothing
+$ commit 4b825dc642cb6eb9a060e54bf8d69288fbee4904%m%72c94d6f8d05bab7da1bd2949ffdf5bcaf794e9d
+$ find%%nothing
+$ find mm%%nothing
+$ publish%72c94d6f8d05bab7da1bd2949ffdf5bcaf794e9d m%done
+$ find%%nothing
+$ find mm%%nothing
+$ find m%%72c94d6f8d05bab7da1bd2949ffdf5bcaf794e9d
+$ find%%nothing
+$ find mm%%nothing
+#0 0 searches take no memory
+$ tree%%4b825dc642cb6eb9a060e54bf8d69288fbee4904
+$ commit 4b825dc642cb6eb9a060e54bf8d69288fbee4904%first%7404774c3cc006fcbaaf429d9e56d7e55bb01810
+$ publish%7404774c3cc006fcbaaf429d9e56d7e55bb01810 refs/heads/main%done
+$?find main%%7404774c3cc006fcbaaf429d9e56d7e55bb01810
+";
 
-/// A copy of the bytes is given.
-const GIVING: Session = Session {
-    before: &[],
-    rows: &[(Call::Give(b"blob"), Answer::Named(BLOB))],
-    after: &[
-        (Call::Objects, Answer::Counted(0)),
-        (Call::Refs(&[]), Answer::Yes),
-    ],
-};
+/// Calls that want memory.
+const GROWTHS: &[u8] = b"
+#1 99 calls change nothing where a growth is refused
+$ tree%%4b825dc642cb6eb9a060e54bf8d69288fbee4904
+$ commit 4b825dc642cb6eb9a060e54bf8d69288fbee4904%old%ca3641b99425b902db257ec82b922211b9e6c5b3
+$ publish%ca3641b99425b902db257ec82b922211b9e6c5b3 refs/heads/main%done
+$ file d/f%file%done
+$?blob%blob%43ae31d836edd668d12fb87a494e340c2c5a8698
+$+objects%%4
+$+refs%ca3641b99425b902db257ec82b922211b9e6c5b3 refs/heads/main%done
+$?tree%%bfca770ff8698b4c1d9c2f09dbf0df330571ac5a
+$+objects%%5
+$?child 4b825dc642cb6eb9a060e54bf8d69288fbee4904 ca3641b99425b902db257ec82b922211b9e6c5b3%child%4be61dad159c4d491d4f6549f3b7c09280106c15
+$+objects%%4
+$?tag ca3641b99425b902db257ec82b922211b9e6c5b3%tag%6a7930592a27db15a6731d115989cf7c7e058f9a
+$+objects%%4
+$?publish%ca3641b99425b902db257ec82b922211b9e6c5b3 refs/heads/main
+ca3641b99425b902db257ec82b922211b9e6c5b3 refs/heads/a
+ca3641b99425b902db257ec82b922211b9e6c5b3 refs/tags/z%done
+$+objects%%3
+$+refs%ca3641b99425b902db257ec82b922211b9e6c5b3 refs/heads/a
+ca3641b99425b902db257ec82b922211b9e6c5b3 refs/heads/main
+ca3641b99425b902db257ec82b922211b9e6c5b3 refs/tags/z%done
+$-objects%%3
+$-refs%ca3641b99425b902db257ec82b922211b9e6c5b3 refs/heads/main%done
+#2 99 a copy of the bytes is given, or a text is shared
+$?give%blob%43ae31d836edd668d12fb87a494e340c2c5a8698
+$+objects%%1
+$?within blob 1 5%(blob)%43ae31d836edd668d12fb87a494e340c2c5a8698
+$+objects%%1
+$-objects%%0
+$-refs%%done
+#1 99 a record more of each kind
+$ record blob%version 1
+%83baae61804e65cc73a7201a7252750c76066a30
+$ record tree%%4b825dc642cb6eb9a060e54bf8d69288fbee4904
+$ record tree%100644 test.txt\0\x83\xba\xaea\x80Ne\xccs\xa7 \x1arRu\x0cv\x06j0%d8329fc1cc938780ffdd9f94e0d364e0ea74f579
+$ record commit%tree d8329fc1cc938780ffdd9f94e0d364e0ea74f579
+author Scott Chacon <schacon@gmail.com> 1243040974 -0700
+committer Scott Chacon <schacon@gmail.com> 1243040974 -0700
 
-/// A text is shared.
-const SHARING: Session = Session {
-    before: &[],
-    rows: &[(
-        Call::Within(Kind::Blob, b"(blob)", 1, 5),
-        Answer::Named(BLOB),
-    )],
-    after: &[
-        (Call::Objects, Answer::Counted(0)),
-        (Call::Refs(&[]), Answer::Yes),
-    ],
-};
+first commit
+%fdf4fc3344e67ab068f836878b6c4951e3b15f3d
+$ record tag%object fdf4fc3344e67ab068f836878b6c4951e3b15f3d
+type commit
+tag v1
+tagger A <a@x> 1 +0000
+
+one
+%e07ffd2be85f726620d6b9f1134a3d8bb599d332
+$ record tree%40000 bak\0\xd82\x9f\xc1\xcc\x93\x87\x80\xff\xdd\x9f\x94\xe0\xd3d\xe0\xeat\xf5y%d3768f26137cee49678da775c7c7e79a9ce14150
+$ record tree%160000 lib\0zzzzzzzzzzzzzzzzzzzz%731905130ce1d8af39bc97304e8ca74242186f13
+$ record commit%tree d8329fc1cc938780ffdd9f94e0d364e0ea74f579
+parent fdf4fc3344e67ab068f836878b6c4951e3b15f3d
+author A <a@x> 1 +0000
+committer A <a@x> 1 +0000
+
+m%5206f51ddd4f35e0c5da1e4a12d02232d1ebe687
+$ publish%fdf4fc3344e67ab068f836878b6c4951e3b15f3d refs/heads/main%done
+$?record blob%new%3e5126c4e761fd09582fc517918a1601b218dff0
+$+objects%%9
+$?record tree%100755 run\0\x83\xba\xaea\x80Ne\xccs\xa7 \x1arRu\x0cv\x06j0%034aa77f53c1a96b7407dbe988fcf1ad2c40cb83
+$+objects%%9
+$?record commit%tree 4b825dc642cb6eb9a060e54bf8d69288fbee4904
+author A <a@x> 1 +0000
+committer A <a@x> 1 +0000
+
+m%72c94d6f8d05bab7da1bd2949ffdf5bcaf794e9d
+$+objects%%9
+$?record tag%object fdf4fc3344e67ab068f836878b6c4951e3b15f3d
+type commit
+tag v2
+
+%442861aa4044ef5814b9b1bcf264dd51dc6aafb5
+$+objects%%9
+$-objects%%8
+$-refs%fdf4fc3344e67ab068f836878b6c4951e3b15f3d refs/heads/main%done
+#7 99 three directories of a shared tree are changed, each with a body, a record and an entry made anew
+$?shared%%724ac8b5b60629de77f832427630d74b4a030ded
+$+objects%%8
+$-objects%%5
+$-refs%%done
+";
 
 #[test]
-fn trees_have_gits_names(rt: HostRuntime) -> Result<(), Fail> {
-    follow(&rt, Sha1Namer, &TREES)
-}
-
-#[test]
-fn commits_have_gits_names(rt: HostRuntime) -> Result<(), Fail> {
-    follow(&rt, Sha1Namer, &COMMITS)
-}
-
-#[test]
-fn tags_have_gits_names(rt: HostRuntime) -> Result<(), Fail> {
-    follow(&rt, Sha1Namer, &TAGS)
-}
-
-#[test]
-fn commits_and_tags_are_peeled(rt: HostRuntime) -> Result<(), Fail> {
-    follow(&rt, Sha1Namer, &PEELED)
-}
-
-#[test]
-fn name_held_for_another_blob_is_refused(rt: HostRuntime) -> Result<(), Fail> {
-    follow(&rt, ShortNamer, &HELD_BLOB)
-}
-
-#[test]
-fn name_held_for_another_commit_is_refused(rt: HostRuntime) -> Result<(), Fail> {
-    follow(&rt, ShortNamer, &HELD_COMMIT)
-}
-
-#[test]
-fn name_held_for_another_tree_is_refused(rt: HostRuntime) -> Result<(), Fail> {
-    follow(&rt, ShortNamer, &HELD_TREE)
-}
-
-#[test]
-fn given_bytes_are_added_as_a_blob(rt: HostRuntime) -> Result<(), Fail> {
-    follow(&rt, Sha1Namer, &GIVEN)
-}
-
-#[test]
-fn records_are_added_within_texts(rt: HostRuntime) -> Result<(), Fail> {
-    follow(&rt, Sha1Namer, &WITHIN)
-}
-
-#[test]
-fn truncated_repositories_keep_their_first_objects(rt: HostRuntime) -> Result<(), Fail> {
-    follow(&rt, Sha1Namer, &CUT)
-}
-
-#[test]
-fn refused_growths_change_nothing(rt: HostRuntime) -> Result<(), Fail> {
-    refuse_each(&rt, &GROWING, 1)?;
-    refuse_each(&rt, &GIVING, 2)?;
-    refuse_each(&rt, &SHARING, 2)
+fn repositories_answer_as_scripts_say(rt: HostRuntime) -> Result<(), Fail> {
+    let state = RandomState::new(&rt)?;
+    for scripts in [OBJECTS, RECORDS, REFS, GROWTHS] {
+        for script in scripts.split(|byte| *byte == b'#').skip(1) {
+            follow_each(rt.alloc(), script, state)?;
+        }
+    }
+    Ok(())
 }

@@ -1,12 +1,5 @@
 //! The files of branches on worked examples: edits, trees that are written and loaded, memory that is refused.
 
-mod edits;
+pub(crate) mod desk;
 mod large;
-mod long;
-mod moves;
-mod names;
-mod places;
-mod refused;
-mod sessions;
-mod shown;
-mod written;
+mod scripts;

@@ -1,7 +1,8 @@
-ghost use Rattle.std.specs.Prelude.{None};
+ghost use Rattle.std.specs.Prelude.{◌<◌, None};
 
 use super::*;
 use gx_text::Failed;
+use std::alloc::Global;
 use std::cell::Cell;
 use std::test::Fail;
 
@@ -21,65 +22,48 @@ impl<'a> Source for Counting<'a> {
     }
 }
 
-/// A reader of a source that counts its pulls.
-type CountingReader<'a> = ItemReader<Counting<'a>, Global>;
-
-/// Whether a reader answers so.
-fn gives(reader: &mut CountingReader<'_>, answer: Result<Option<Item<'_>>, StreamFault>) -> bool {
-    reader.next() == answer
-}
-
-/// Whether a reader gives these two items a thousand times.
-fn gives_both(reader: &mut CountingReader<'_>, first: Item<'_>, second: Item<'_>) -> bool {
-    for _ in 0..1000u16 {
-        if !gives(reader, Ok(Some(first))) || !gives(reader, Ok(Some(second))) {
-            return false;
+/// How many pulls are made for these items, which a text in pieces of this size gives so many times, how many with what is behind
+/// them, and whether that is the end; none where it gives others.
+fn pulls_of(
+    alloc: Global,
+    text: &[u8],
+    piece: usize,
+    items: &[Item<'_>],
+    times: u16,
+) -> Option<(u64, u64, bool)>
+    requires { 0 < piece }
+{
+    let pulls = Cell::new(0u64);
+    let source = Counting {
+        bytes: Bytes::new(text, piece, false),
+        pulls: &pulls,
+    };
+    let mut reader = ItemReader::new(alloc, source);
+    for _ in 0..times {
+        for item in items {
+            if reader.next() != Ok(Some(*item)) {
+                return None;
+            }
         }
     }
-    true
-}
-
-/// Whether the first line of a text, byte by byte, takes 12 pulls at most.
-fn is_pulled_late(alloc: Global, text: &[u8], line: &[u8]) -> bool {
-    let pulls = Cell::new(0u64);
-    let bytes = Bytes::new(text, 1, false);
-    let mut reader = ItemReader::new(
-        alloc,
-        Counting {
-            bytes,
-            pulls: &pulls,
-        },
-    );
-    gives(&mut reader, Ok(Some(Item::Line(line)))) && pulls.get() <= 12
+    let count = pulls.get();
+    let is_end = reader.next() == Ok(None);
+    Some((count, pulls.get(), is_end))
 }
 
 #[test]
 fn more_is_pulled_only_for_the_next_item(rt: HostRuntime) -> Result<(), Fail> {
     let text = b"progress a\n".as_slice().repeat(rt.alloc(), 1000)?;
-    assert!(rt; is_pulled_late(rt.alloc(), &text, b"progress a"));
+    let pulls = pulls_of(rt.alloc(), &text, 1, &[Item::Line(b"progress a")], 1);
+    assert!(rt; matches!(pulls, Some((0..13, _, false))));
     Ok(())
-}
-
-/// Whether all items of a text take one pull, and its end another.
-fn is_pulled_once(alloc: Global, text: &[u8]) -> bool {
-    let pulls = Cell::new(0u64);
-    let bytes = Bytes::new(text, 0x1_0000, false);
-    let mut reader = ItemReader::new(
-        alloc,
-        Counting {
-            bytes,
-            pulls: &pulls,
-        },
-    );
-    gives_both(&mut reader, Item::Line(b"blob"), Item::Data(b"a\nb"))
-        && pulls.get() == 1
-        && gives(&mut reader, Ok(None))
-        && pulls.get() == 2
 }
 
 #[test]
 fn one_pull_serves_all_items_in_it(rt: HostRuntime) -> Result<(), Fail> {
     let text = b"blob\ndata 3\na\nb\n".as_slice().repeat(rt.alloc(), 1000)?;
-    assert!(rt; is_pulled_once(rt.alloc(), &text));
+    let items = [Item::Line(b"blob"), Item::Data(b"a\nb")];
+    let pulls = pulls_of(rt.alloc(), &text, 0x1_0000, &items, 1000);
+    assert!(rt; pulls == Some((1, 2, true)));
     Ok(())
 }

@@ -1,90 +1,84 @@
-//! Streams and store texts with one byte changed to each other value: each is refused for its own sake, or is imported or read whole.
+//! Streams and store texts with one byte changed to each other value: each is refused for its own sake, or is imported
+//! or read whole.
 ghost use Rattle.std.specs.Prelude.{◌<◌, length};
 
-use crate::given::{
-    EMPTY, MERGED, exported, fail_at, has_text, listed, opened, refusal_of, stored, text_of,
-};
-use crate::hostile::old_texts::{has_old_text, old_text_of};
+use crate::given::{MERGED, exported, fail_at, listed, opened, refusal_of, stored, text_of};
+use crate::hostile::old_texts::old_text_of;
 use gx_file::FileFault;
 use gx_import::ImportKind;
-use gx_object::{Kind, Name, Sha1Namer};
+use gx_object::{Kind, Sha1Namer};
 use gx_repo::Repo;
-use std::alloc::Global;
+use std::alloc::{AllocError, Global};
 use std::hash::RandomState;
 use std::test::Fail;
 
 /// More than an export of these texts takes.
 const ROOM: usize = 4096;
 
+/// The text of an empty store.
+const EMPTY: &[u8] = b"gxstore 2\nobjects 0\nrefs 0\nend\n";
+
 /// What a text is read as.
 #[derive(Clone, Copy)]
-enum Text {
+pub(super) enum Text {
     Stream,
     StoreText,
     /// A store text of version 1.
     OldStoreText,
 }
 
-/// Whether a walk lists the commit with this name, and its ancestors.
-fn is_walked(alloc: Global, repo: &Repo<Sha1Namer, Global>, commit: &Name) -> bool {
-    listed(alloc, repo, commit.hex().as_slice()).first() == Some(commit)
-}
-
-/// Whether each commit that a ref holds is walked from.
+/// Whether each commit that a ref holds is walked from: the walk lists it first.
 fn are_walked(alloc: Global, repo: &Repo<Sha1Namer, Global>) -> bool {
     for (_, target) in repo.refs() {
         let is_commit = matches!(repo.store().get(&target), Some((Kind::Commit, _)));
-        if is_commit && !is_walked(alloc, repo, &target) {
+        if is_commit && listed(alloc, repo, target.hex().as_slice()).first() != Some(&target) {
             return false;
         }
     }
     true
 }
 
-/// Whether a fault is one of the stream itself.
-fn is_of_the_stream(kind: ImportKind) -> bool {
-    kind != ImportKind::OutOfMemory
-        && kind != ImportKind::ReadFailed
-        && kind != ImportKind::WriteFailed
-        && kind != ImportKind::NameHeld
-}
-
 /// Whether a store text is read, and what is read has this text.
 fn comes_again(alloc: Global, text: &[u8], state: RandomState) -> bool {
     match opened(alloc, text, state) {
-        Ok(repo) => has_text(alloc, &repo, text),
+        Ok(repo) => text_of(alloc, &repo).as_slice() == text,
         Err(_) => false,
     }
 }
 
-/// Whether an export is that of a repository, and is imported into one with the same refs and the same export.
-fn is_imported_again(
-    alloc: Global,
-    repo: &Repo<Sha1Namer, Global>,
-    text: &[u8],
-    state: RandomState,
-) -> bool {
-    let mut again = Repo::new(alloc, Sha1Namer, state);
-    !text.is_empty()
-        && refusal_of(alloc, &mut again, text).is_none()
-        && repo.refs().eq(again.refs())
-        && exported(alloc, &again, ROOM).as_slice() == text
-}
-
-/// Whether a repository is written and read again, walked, and exported and imported again.
+/// Whether a repository is written and read again, and walked, and its export is imported into one with the same refs
+/// and the same export.
 fn is_whole(alloc: Global, repo: &Repo<Sha1Namer, Global>, state: RandomState) -> bool {
+    let text = exported(alloc, repo, ROOM);
+    let mut again = Repo::new(alloc, Sha1Namer, state);
     comes_again(alloc, &text_of(alloc, repo), state)
         && are_walked(alloc, repo)
-        && is_imported_again(alloc, repo, &exported(alloc, repo, ROOM), state)
+        && !text.is_empty()
+        && refusal_of(alloc, &mut again, &text).is_none()
+        && repo.refs().eq(again.refs())
+        && exported(alloc, &again, ROOM) == text
+}
+
+/// Whether what a stream is refused for, if it is, is its own, and leaves nothing; or else the repository is whole.
+fn is_import_told(
+    alloc: Global,
+    repo: &Repo<Sha1Namer, Global>,
+    refused: Option<ImportKind>,
+    state: RandomState,
+) -> bool {
+    match refused {
+        None => is_whole(alloc, repo, state),
+        Some(ImportKind::OutOfMemory | ImportKind::ReadFailed) => false,
+        Some(ImportKind::WriteFailed | ImportKind::NameHeld) => false,
+        Some(_) => text_of(alloc, repo).as_slice() == EMPTY,
+    }
 }
 
 /// Whether a stream is refused for its own sake and leaves nothing, or else makes a repository that is whole.
 fn is_stream_told(alloc: Global, stream: &[u8], state: RandomState) -> bool {
     let mut repo = Repo::new(alloc, Sha1Namer, state);
-    match refusal_of(alloc, &mut repo, stream) {
-        Some(fault) => is_of_the_stream(fault.kind) && has_text(alloc, &repo, EMPTY),
-        None => is_whole(alloc, &repo, state),
-    }
+    let refused = refusal_of(alloc, &mut repo, stream).map(|fault| fault.kind);
+    is_import_told(alloc, &repo, refused, state)
 }
 
 /// Whether what is read of a text has that text, and can be exported; one of version 1 is written as version 2, too.
@@ -97,15 +91,18 @@ fn is_read_whole(
 ) -> bool {
     !exported(alloc, repo, ROOM).is_empty()
         && match kind {
-            Text::OldStoreText => {
-                has_old_text(alloc, repo, text) && comes_again(alloc, &text_of(alloc, repo), state)
-            }
-            _ => has_text(alloc, repo, text),
+            Text::OldStoreText => match old_text_of(alloc, repo) {
+                Ok(old) => {
+                    old.as_slice() == text && comes_again(alloc, &text_of(alloc, repo), state)
+                }
+                Err(_) => false,
+            },
+            _ => text_of(alloc, repo).as_slice() == text,
         }
 }
 
 /// Whether a text is told: refused for its own sake, or else imported or read whole.
-fn is_told(alloc: Global, kind: Text, text: &[u8], state: RandomState) -> bool {
+pub(super) fn is_told(alloc: Global, kind: Text, text: &[u8], state: RandomState) -> bool {
     match kind {
         Text::Stream => is_stream_told(alloc, text, state),
         _ => match opened(alloc, text, state) {
@@ -163,11 +160,18 @@ fn changed_store_text_is_told(rt: HostRuntime) -> Result<(), Fail> {
     fail_at(wrong_place(rt.alloc(), Text::StoreText, &mut text, state))
 }
 
+/// The text of version 1 of the store with a stream imported; an empty one where that is refused.
+fn stored_before(alloc: Global, stream: &[u8], state: RandomState) -> Result<Vec<u8>, AllocError> {
+    let mut repo = Repo::new(alloc, Sha1Namer, state);
+    match refusal_of(alloc, &mut repo, stream) {
+        None => old_text_of(alloc, &repo),
+        Some(_) => Ok(Vec::new(alloc)),
+    }
+}
+
 #[test]
 fn changed_store_text_of_version_1_is_told(rt: HostRuntime) -> Result<(), Fail> {
     let state = RandomState::new(&rt)?;
-    let mut repo = Repo::new(rt.alloc(), Sha1Namer, state);
-    assert!(rt; refusal_of(rt.alloc(), &mut repo, MERGED).is_none());
-    let mut text = old_text_of(rt.alloc(), &repo)?;
+    let mut text = stored_before(rt.alloc(), MERGED, state)?;
     fail_at(wrong_place(rt.alloc(), Text::OldStoreText, &mut text, state))
 }

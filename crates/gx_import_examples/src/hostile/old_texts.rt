@@ -16,14 +16,6 @@ pub(crate) fn old_text_of(
     Ok(text)
 }
 
-/// Whether this is the text of version 1 of a repository.
-pub(crate) fn has_old_text(alloc: Global, repo: &Repo<Sha1Namer, Global>, text: &[u8]) -> bool {
-    match old_text_of(alloc, repo) {
-        Ok(old) => old.as_slice() == text,
-        Err(_) => false,
-    }
-}
-
 fn put_objects(
     alloc: Global,
     text: &mut Vec<u8>,

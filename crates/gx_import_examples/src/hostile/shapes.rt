@@ -1,10 +1,10 @@
-//! Repositories of odd shapes: few trees with very many paths, a very deep path, and a long line of commits.
+//! Repositories of odd shapes: few trees with very many paths, very deep and long paths, and a long line of commits.
 
-use crate::given::{exported, has_text, listed, object_of, opened, refusal_of, stored, text_of};
-use crate::sessions::has_file;
-use gx_object::{Kind, Mode, Name, Sha1Namer, decode_tree};
+use crate::given::{exported, has_file, listed, object_of, opened, refusal_of, stored, text_of};
+use crate::hostile::changed::{Text, is_told};
+use gx_file::FileFault;
+use gx_object::{Kind, Name, Sha1Namer};
 use gx_repo::{RefChange, Repo};
-use gx_rev::{Revision, tree};
 use std::alloc::{AllocError, Global};
 use std::hash::RandomState;
 use std::test::Fail;
@@ -82,38 +82,42 @@ fn doubled_text(alloc: Global, state: RandomState) -> Vec<u8, Global> {
 const DEEP: &[u8] =
     b"a/a/a/a/a/a/a/a/a/a/a/a/a/a/a/a/a/a/a/a/a/a/a/a/a/a/a/a/a/a/a/a/a/a/a/a/a/a/a/a/f";
 
-/// Whether a tree has two entries, and both are directories.
-fn are_directories(body: &[u8]) -> Option<bool> {
-    let mut entries = decode_tree(body).ok()?;
-    let modes = (entries.next()?.mode, entries.next()?.mode);
-    Some(modes == (Mode::Dir, Mode::Dir) && entries.next().is_none())
-}
-
-/// The same of the tree of a revision.
-fn has_directories(repo: &Records, revision: &Revision<Global>) -> Option<bool> {
-    let name = tree(repo, revision).ok()?;
-    let (_, body) = repo.store().get(&name)?;
-    are_directories(body)
-}
-
-/// The same of main.
-fn has_main_directories(alloc: Global, repo: &Records) -> bool {
-    match Revision::read(alloc, b"main") {
-        Ok(main) => has_directories(repo, &main) == Some(true),
-        Err(_) => false,
+/// Whether the tree of main has two entries, and both are directories.
+fn has_directories(alloc: Global, repo: &Records) -> bool {
+    let Some((Kind::Tree, name)) = object_of(alloc, repo, b"main^{tree}") else {
+        return false;
+    };
+    match repo.store().get(&name) {
+        Some((_, body)) => {
+            body.len() == 56
+                && body.starts_with(b"40000 a\0")
+                && body.get(28..36) == Some(b"40000 b\0".as_slice())
+        }
+        None => false,
     }
 }
 
-/// Why a repository isn't that of such trees, which has this text.
-fn check_doubled(alloc: Global, repo: &Records, text: &[u8]) -> Result<(), &'static str> {
+/// A commit that adds a file to those of main, at which no branch of the stream stands.
+const AGAIN: &[u8] =
+    b"commit refs/heads/again\ncommitter A <a@x> 2 +0000\ndata 0\nfrom main\nM 100644 inline g\ndata 5\nagain\n";
+
+/// Why a repository isn't that of such trees, which has this text, or why that commit behind it isn't one of these
+/// files.
+fn check_doubled(alloc: Global, repo: &mut Records, text: &[u8]) -> Result<(), &'static str> {
     if !text.starts_with(b"gxstore 2\nobjects 43\n") {
         Err("the count of the objects")
-    } else if !has_main_directories(alloc, repo) {
+    } else if !has_directories(alloc, repo) {
         Err("the modes of main")
     } else if !has_file(alloc, repo, b"main", DEEP, b"hello\n") {
         Err("the file")
-    } else if !has_text(alloc, repo, text) {
+    } else if text_of(alloc, repo).as_slice() != text {
         Err("the text")
+    } else if refusal_of(alloc, repo, AGAIN).is_some() {
+        Err("a refused stream")
+    } else if !has_file(alloc, repo, b"again", DEEP, b"hello\n") {
+        Err("the file before")
+    } else if !has_file(alloc, repo, b"again", b"g", b"again") {
+        Err("the next file")
     } else {
         Ok(())
     }
@@ -122,49 +126,16 @@ fn check_doubled(alloc: Global, repo: &Records, text: &[u8]) -> Result<(), &'sta
 /// The same of the repository of a text.
 fn check_opened(alloc: Global, text: &[u8], state: RandomState) -> Result<(), &'static str> {
     match opened(alloc, text, state) {
-        Ok(repo) => check_doubled(alloc, &repo, text),
+        Ok(mut repo) => check_doubled(alloc, &mut repo, text),
         Err(_) => Err("a refusal"),
     }
 }
 
 #[test]
-fn trees_with_very_many_paths_are_opened(rt: HostRuntime) -> Result<(), Fail> {
+fn trees_with_very_many_paths_are_opened_and_loaded(rt: HostRuntime) -> Result<(), Fail> {
     let state = RandomState::new(&rt)?;
     let text = doubled_text(rt.alloc(), state);
     check_opened(rt.alloc(), &text, state)?;
-    Ok(())
-}
-
-/// A commit that adds a file to those of main, at which no branch of the stream stands.
-const AGAIN: &[u8] =
-    b"commit refs/heads/again\ncommitter A <a@x> 2 +0000\ndata 0\nfrom main\nM 100644 inline g\ndata 5\nagain\n";
-
-/// Why that commit isn't one of these files behind such trees.
-fn check_again(alloc: Global, repo: &mut Records) -> Result<(), &'static str> {
-    if refusal_of(alloc, repo, AGAIN).is_some() {
-        Err("a refused stream")
-    } else if !has_file(alloc, repo, b"again", DEEP, b"hello\n") {
-        Err("the file before")
-    } else if !has_file(alloc, repo, b"again", b"g", b"again") {
-        Err("the file")
-    } else {
-        Ok(())
-    }
-}
-
-/// The same of the repository of a text.
-fn check_loaded(alloc: Global, text: &[u8], state: RandomState) -> Result<(), &'static str> {
-    match opened(alloc, text, state) {
-        Ok(mut repo) => check_again(alloc, &mut repo),
-        Err(_) => Err("a refusal"),
-    }
-}
-
-#[test]
-fn trees_with_very_many_paths_are_loaded(rt: HostRuntime) -> Result<(), Fail> {
-    let state = RandomState::new(&rt)?;
-    let text = doubled_text(rt.alloc(), state);
-    check_loaded(rt.alloc(), &text, state)?;
     Ok(())
 }
 
@@ -294,5 +265,63 @@ fn line_of_many_commits_is_walked(rt: HostRuntime) -> Result<(), Fail> {
     let mut stream = Vec::new(rt.alloc());
     add_lines(rt.alloc(), &mut stream, 10000)?;
     check_line(rt.alloc(), &stream, state)?;
+    Ok(())
+}
+
+/// The bytes of Git's name of the blob `hello` LF.
+const HELLO: &[u8] =
+    b"\xce\x01\x36\x25\x03\x0b\xa8\xdb\xa9\x06\xf7\x56\x96\x7f\x9e\x9c\xa3\x94\x46\x4a";
+
+/// That of a tree in which 4,090 times `a` names it.
+const LONG_TREE: &[u8] =
+    b"\xff\xd5\x1f\xe8\xb8\xa2\xb8\xbf\x51\x78\x72\x81\x3a\x14\xa2\xfe\x2a\xc5\xa3\xe3";
+
+/// A store text in which a directory names that tree. The directory's line has its length and its component.
+fn long_text(alloc: Global, length: &[u8], directory: &[u8]) -> Result<Vec<u8>, AllocError> {
+    let front = "gxstore 1\nobjects 3\nblob 6\nhello\n\ntree 4118\n100644 ";
+    let text = format!(in alloc; "{front:a<4141}\0")?;
+    let mut text = Vec::from_slice(alloc, text.as_bytes())?;
+    let parts: [&[u8]; 8] = [
+        HELLO,
+        b"\ntree ",
+        length,
+        b"\n40000 ",
+        directory,
+        b"\0",
+        LONG_TREE,
+        b"\nrefs 0\nend\n",
+    ];
+    for part in parts {
+        text.extend_from_slice(part)?;
+    }
+    Ok(text)
+}
+
+/// Why a store text isn't read.
+fn fault_of(alloc: Global, text: &[u8], state: RandomState) -> Option<FileFault> {
+    match opened(alloc, text, state) {
+        Ok(_) => None,
+        Err(fault) => Some(fault),
+    }
+}
+
+/// Whether a path of 4,095 bytes is read and written.
+fn is_longest_read(alloc: Global, state: RandomState) -> Result<bool, AllocError> {
+    let text = long_text(alloc, b"31", b"bbbb")?;
+    Ok(fault_of(alloc, &text, state).is_none() && is_told(alloc, Text::OldStoreText, &text, state))
+}
+
+/// Why one of a byte more isn't read.
+fn fault_of_longer(alloc: Global, state: RandomState) -> Result<Option<FileFault>, AllocError> {
+    let text = long_text(alloc, b"32", b"bbbbb")?;
+    Ok(fault_of(alloc, &text, state))
+}
+
+#[test]
+fn paths_of_store_texts_have_4095_bytes_at_most(rt: HostRuntime) -> Result<(), Fail> {
+    let state = RandomState::new(&rt)?;
+    let is_read = is_longest_read(rt.alloc(), state)?;
+    let fault = fault_of_longer(rt.alloc(), state)?;
+    assert!(rt; is_read && fault == Some(FileFault::BadObject));
     Ok(())
 }

@@ -1,184 +1,250 @@
-//! Sessions: calls that follow one another, and trials, where each growth of a call is refused in turn.
+//! Scripts of steps that are done to a repository and a tree, one after the other.
+//!
+//! A step stands behind a `$`: the words of a call, its bytes, and what is to be answered, with `%` between them. At a
+//! step with a `?` before it each growth is refused in turn, until it is done; the script is followed anew each time,
+//! and other such steps are left out. Steps with a `-` are of a repository that refused a growth, and those with a `+`
+//! of one where the step with a `?` before them was done.
 
 ghost use Rattle.gx_model.specs.Records.Sound.{IsNamedMap};
 
-use super::calls::{Answer, Call, Heap, perform};
-use gx_object::{Namer, Sha1Namer};
+use super::calls::{Answer, Call, add_shared, perform};
+use crate::trees::desk::{Heap, Outcome, halves};
+use gx_object::{Kind, Name, Namer, Sha1Namer, ShortNamer};
 use gx_refusing::Refusing;
-use gx_repo::Repo;
+use gx_repo::{RefChange, Repo};
+use gx_text::cut;
 use gx_tree::PathTree;
-use std::alloc::Global;
+use std::alloc::{AllocError, Global};
 use std::hash::RandomState;
+use std::str;
 use std::test::Fail;
 
-/// A call, and what it is to answer.
-pub(super) type Step<'a> = (Call<'a>, Answer);
-
-/// Steps that begin with an empty repository and an empty tree.
-pub(super) struct Session<'a> {
-    pub(super) before: &'a [Step<'a>],
-    pub(super) rows: &'a [Step<'a>],
-    /// What is done behind each row.
-    pub(super) after: &'a [Step<'a>],
+/// A step of a script.
+#[derive(Drop)]
+struct Step<'a> {
+    /// The word of the call, and the three behind it.
+    words: [&'a str; 4],
+    /// The names that the second and the third are.
+    names: [Name; 2],
+    bytes: &'a [u8],
+    /// The refs that the bytes say.
+    changes: Vec<RefChange<'a>>,
+    answer: Option<Answer>,
 }
 
-/// Whether these calls, one after the other, answer what they are to.
-pub(super) fn are_done<'a, N: Namer>(
+/// The step of a part of a script.
+fn step_of(alloc: Global, part: &[u8]) -> Step<'_> {
+    let (words, rest) = cut(part, b'%').unwrap_or((part, b""));
+    let (bytes, answer) = cut(rest, b'%').unwrap_or((rest, b""));
+    let (word, rest) = halves(str::from_utf8(words).unwrap_or("").trim(), ' ');
+    let (first, rest) = halves(rest, ' ');
+    let (second, third) = halves(rest, ' ');
+    Step {
+        words: [word, first, second, third],
+        names: [name_in(first), name_in(second)],
+        bytes,
+        changes: match changes_in(alloc, bytes) {
+            Ok(changes) => changes,
+            Err(_) => Vec::new(alloc),
+        },
+        answer: answer_in(str::from_utf8(answer).unwrap_or("").trim()),
+    }
+}
+
+/// The name that digits are, and one of zeros where they are none.
+fn name_in(digits: &str) -> Name {
+    Name::read(digits.as_bytes()).unwrap_or(Name { bytes: [0; 20] })
+}
+
+/// The refs of lines, each with its object's digits before it.
+fn changes_in(alloc: Global, lines: &[u8]) -> Result<Vec<RefChange<'_>>, AllocError> {
+    let mut changes = Vec::new(alloc);
+    for line in lines.split(|byte| *byte == b'\n') {
+        if let Some((digits, name)) = cut(line, b' ') {
+            if let Some(target) = Name::read(digits) {
+                changes.push(RefChange { name, target })?;
+            }
+        }
+    }
+    Ok(changes)
+}
+
+/// What a word says of an answer.
+fn answer_in(word: &str) -> Option<Answer> {
+    if let Some(name) = Name::read(word.as_bytes()) {
+        return Some(Answer::Named(name));
+    }
+    match word {
+        "done" => Some(Answer::Done),
+        "nothing" => Some(Answer::Nothing),
+        "NameHeld" => Some(Answer::NameHeld),
+        "BadObject" => Some(Answer::BadObject),
+        "Dangling" => Some(Answer::Dangling),
+        "DuplicateObject" => Some(Answer::DuplicateObject),
+        "BadRefName" => Some(Answer::BadRefName),
+        "UnknownObject" => Some(Answer::UnknownObject),
+        "WrongKind" => Some(Answer::WrongKind),
+        _ => Some(Answer::Counted(word.parse::<usize>().ok()?)),
+    }
+}
+
+/// The kind of a word.
+fn kind_in(word: &str) -> Kind {
+    match word {
+        "tree" => Kind::Tree,
+        "commit" => Kind::Commit,
+        "tag" => Kind::Tag,
+        _ => Kind::Blob,
+    }
+}
+
+/// The call of a step.
+fn call_of<'a>(step: &'a Step<'a>) -> Call<'a> {
+    let (first, second, third) = (step.words[1], step.words[2], step.words[3]);
+    let kind = kind_in(first);
+    let number = second.parse::<usize>().unwrap_or(0);
+    let end = third.parse::<usize>().unwrap_or(0);
+    let parents = if second.is_empty() {
+        &step.names[2..]
+    } else {
+        &step.names[1..]
+    };
+    match step.words[0] {
+        "blob" => Call::Blob(step.bytes),
+        "give" => Call::Give(step.bytes),
+        "record" => Call::Record(kind, step.bytes),
+        "within" => Call::Within(kind, step.bytes, number, end),
+        "entry" => Call::Entry(
+            first,
+            *second.as_bytes().first().unwrap_or(&0),
+            end,
+            Name::read(step.bytes).unwrap_or(Name { bytes: [0; 20] }),
+        ),
+        "commit" => Call::Commit(step.names[0], parents, false, step.bytes),
+        "child" => Call::Commit(step.names[0], parents, true, step.bytes),
+        "tag" => Call::Tag(step.names[0], step.bytes),
+        "publish" => Call::Publish(step.changes.as_slice()),
+        "truncate" => Call::Truncate(first.parse::<usize>().unwrap_or(0)),
+        "file" => Call::File(first.as_bytes(), step.bytes),
+        "tree" => Call::Tree,
+        "clear" => Call::Clear,
+        "files" => Call::Files,
+        "objects" => Call::Objects,
+        "holds" => Call::Holds(kind, step.names[1]),
+        "refs" => Call::Refs(step.changes.as_slice()),
+        "find" => Call::Find(first.as_bytes()),
+        _ => Call::Unknown,
+    }
+}
+
+/// What comes of a step, at whose call the growth with this number is refused.
+fn tried<'a, N: Namer>(
     heap: &'a Heap,
     repo: &mut Repo<N, &'a Heap>,
     tree: &mut PathTree<&'a Heap>,
-    steps: &[Step<'_>],
-) -> bool
+    step: &Step<'_>,
+    nth: u64,
+) -> Outcome
     requires named { IsNamedMap repo.now.1.records tree.now.files }
     ensures named { IsNamedMap repo.new.1.records tree.new.files }
 {
-    for step in steps {
-        if perform(heap, repo, tree, step.0) != step.1 {
-            return false;
-        }
+    if step.words[0] == "shared" {
+        let (answer, is_refused) = add_shared(heap, repo, tree, nth);
+        return judged(step, answer, is_refused);
     }
-    true
+    heap.arm(nth);
+    let answer = perform(heap, repo, tree, call_of(step));
+    let is_refused = nth > 0 && !heap.is_waiting();
+    heap.arm(0);
+    judged(step, answer, is_refused)
 }
 
-/// Whether a step is done, and then those that come after it.
-fn is_row_done<'a, N: Namer>(
-    heap: &'a Heap,
-    repo: &mut Repo<N, &'a Heap>,
-    tree: &mut PathTree<&'a Heap>,
-    row: &Step<'_>,
-    after: &[Step<'_>],
-) -> bool
-    requires named { IsNamedMap repo.now.1.records tree.now.files }
-    ensures named { IsNamedMap repo.new.1.records tree.new.files }
-{
-    perform(heap, repo, tree, row.0) == row.1 && are_done(heap, repo, tree, after)
-}
-
-/// The first of the rows that isn't done.
-fn wrong_row<'a, N: Namer>(
-    heap: &'a Heap,
-    repo: &mut Repo<N, &'a Heap>,
-    tree: &mut PathTree<&'a Heap>,
-    rows: &[Step<'_>],
-    after: &[Step<'_>],
-) -> Option<usize>
-    requires named { IsNamedMap repo.now.1.records tree.now.files }
-{
-    for (place, row) in rows.iter().enumerate() {
-        if !is_row_done(heap, repo, tree, row, after) {
-            return Some(place);
-        }
-    }
-    None
-}
-
-/// Follows a session. Fails at the first step of which something else comes.
-fn followed<'a, N: Namer>(
-    heap: &'a Heap,
-    repo: &mut Repo<N, &'a Heap>,
-    tree: &mut PathTree<&'a Heap>,
-    session: &Session<'_>,
-) -> Result<(), Fail>
-    requires named { IsNamedMap repo.now.1.records tree.now.files }
-{
-    if !are_done(heap, repo, tree, session.before) {
-        return Err(Fail::new(format_args!("before the rows")));
-    }
-    match wrong_row(heap, repo, tree, session.rows, session.after) {
-        None => Ok(()),
-        Some(place) => Err(Fail::new(format_args!("row {place}"))),
-    }
-}
-
-/// Follows a session in an empty repository with this namer.
-fn follow_anew<N: Namer + Drop>(
-    heap: &Heap,
-    namer: N,
-    state: RandomState,
-    session: &Session<'_>,
-) -> Result<(), Fail> {
-    let mut repo = Repo::new(heap, namer, state);
-    let mut tree = PathTree::empty(heap);
-    followed(heap, &mut repo, &mut tree, session)
-}
-
-/// The same with a heap that refuses nothing.
-pub(super) fn follow<N: Namer + Drop>(
-    rt: &HostRuntime,
-    namer: N,
-    session: &Session<'_>,
-) -> Result<(), Fail> {
-    let state = RandomState::new(rt)?;
-    let heap = Refusing::new(rt.alloc(), 0);
-    follow_anew(&heap, namer, state, session)
-}
-
-/// What came of a call at which a growth was to be refused.
-#[derive(Clone, Copy)]
-pub(super) enum Outcome {
-    Done,
-    Refused,
-    Wrong,
-}
-
-/// What came of a call. A growth that is refused is to be answered, and to leave all as it was; where none is, the call
-/// is to be done.
-pub(super) fn judge(answer: Answer, done: Answer, is_refused: bool, is_same: bool) -> Outcome {
-    if is_refused && is_same && answer == Answer::OutOfMemory {
+/// What came of a step with this answer, at which a growth was refused or not.
+fn judged(step: &Step<'_>, answer: Answer, is_refused: bool) -> Outcome {
+    if is_refused && answer == Answer::OutOfMemory {
         Outcome::Refused
-    } else if !is_refused && !is_same && answer == done {
+    } else if !is_refused && Some(answer) == step.answer {
         Outcome::Done
     } else {
         Outcome::Wrong
     }
 }
 
-/// What comes of a row's call at which the growth with this number is refused, after the steps before.
-fn tried<'a, N: Namer>(
+/// Does the steps of a script, of those with a `?` the one at this place alone. The growth with this number is refused
+/// at it.
+fn follow<'a, N: Namer>(
+    alloc: Global,
     heap: &'a Heap,
     repo: &mut Repo<N, &'a Heap>,
     tree: &mut PathTree<&'a Heap>,
-    session: &Session<'_>,
-    row: &Step<'_>,
-    growth: u64,
+    steps: &[&[u8]],
+    tried_place: usize,
+    nth: u64,
 ) -> Outcome
     requires named { IsNamedMap repo.now.1.records tree.now.files }
 {
-    if !are_done(heap, repo, tree, session.before) {
-        return Outcome::Wrong;
+    let mut outcome = Outcome::Done;
+    let mut is_behind = true;
+    for (place, step) in steps.iter().enumerate() {
+        let Some((mark, call)) = step.split_first() else {
+            return Outcome::Wrong;
+        };
+        let is_wanted = match *mark {
+            b'?' => {
+                is_behind = place == tried_place;
+                is_behind
+            }
+            b'-' => outcome == Outcome::Refused,
+            b'+' => is_behind && outcome == Outcome::Done,
+            _ => true,
+        };
+        if is_wanted {
+            let refused = if *mark == b'?' { nth } else { 0 };
+            let came = tried(heap, repo, tree, &step_of(alloc, call), refused);
+            if came == Outcome::Wrong || refused == 0 && came != Outcome::Done {
+                return Outcome::Wrong;
+            }
+            if refused > 0 {
+                outcome = came;
+            }
+        }
     }
-    heap.arm(growth);
-    let answer = perform(heap, repo, tree, row.0);
-    let is_refused = !heap.is_waiting();
-    heap.arm(0);
-    let is_same = are_done(heap, repo, tree, session.after);
-    judge(answer, row.1, is_refused, is_same)
+    outcome
 }
 
-/// Does that with an empty repository.
-fn tried_anew<'a>(
-    heap: &'a Heap,
+/// Follows a script in an empty repository with this namer.
+fn follow_anew<N: Namer + Drop>(
+    alloc: Global,
+    heap: &Heap,
+    namer: N,
     state: RandomState,
-    session: &Session<'_>,
-    row: &Step<'_>,
-    growth: u64,
+    steps: &[&[u8]],
+    place: usize,
+    nth: u64,
 ) -> Outcome {
-    let mut repo = Repo::new(heap, Sha1Namer, state);
+    let mut repo = Repo::new(heap, namer, state);
     let mut tree = PathTree::empty(heap);
-    tried(heap, &mut repo, &mut tree, session, row, growth)
+    follow(alloc, heap, &mut repo, &mut tree, steps, place, nth)
 }
 
-/// How many growths are refused, one after the other, until a row's call is done; none where something else came.
+/// How many growths are refused, one after the other, until the step at a place is done; none where something else
+/// comes.
 fn refused_growths(
     alloc: Global,
+    steps: &[&[u8]],
+    place: usize,
+    has_short_names: bool,
     state: RandomState,
-    session: &Session<'_>,
-    row: &Step<'_>,
 ) -> Option<u64> {
-    for growth in 1..100u64 {
+    for nth in 1..100u64 {
         let heap = Refusing::new(alloc, 0);
-        match tried_anew(&heap, state, session, row, growth) {
-            Outcome::Done => return Some(growth - 1),
+        let outcome = if has_short_names {
+            follow_anew(alloc, &heap, ShortNamer, state, steps, place, nth)
+        } else {
+            follow_anew(alloc, &heap, Sha1Namer, state, steps, place, nth)
+        };
+        match outcome {
+            Outcome::Done => return Some(nth - 1),
             Outcome::Refused => {}
             Outcome::Wrong => return None,
         }
@@ -186,27 +252,27 @@ fn refused_growths(
     None
 }
 
-/// The first row at whose call fewer growths are refused.
-fn unrefused_row(
-    alloc: Global,
-    state: RandomState,
-    session: &Session<'_>,
-    least: u64,
-) -> Option<usize> {
-    for (place, row) in session.rows.iter().enumerate() {
-        if refused_growths(alloc, state, session, row).unwrap_or(0) < least {
-            return Some(place);
+/// Follows a script with no step that has a `?`, and with each of them alone. Its first line has the least and the most
+/// growths that are refused there, and a `~` before them where objects have the names of `ShortNamer`.
+pub(super) fn follow_each(alloc: Global, script: &[u8], state: RandomState) -> Result<(), Fail> {
+    let (head, _) = cut(script, b'\n').unwrap_or((script, b""));
+    let head = str::from_utf8(head).unwrap_or("");
+    let (least, rest) = halves(head.trim_start_matches('~'), ' ');
+    let least = least.parse::<u64>().unwrap_or(0);
+    let most = halves(rest, ' ').0.parse::<u64>().unwrap_or(0);
+    let mut steps = Vec::new(alloc);
+    for step in script.split(|byte| *byte == b'$').skip(1) {
+        steps.push(step)?;
+    }
+    for (place, step) in steps.as_slice().iter().enumerate() {
+        let is_tried = step.starts_with(b"?");
+        if is_tried || place == 0 {
+            let has_short_names = head.starts_with('~');
+            match refused_growths(alloc, steps.as_slice(), place, has_short_names, state) {
+                Some(refused) if !is_tried || (least <= refused && refused <= most) => {}
+                _ => return Err(Fail::new(format_args!("step {place} of {head}"))),
+            }
         }
     }
-    None
-}
-
-/// Refuses the growths of each row's call, each time in an empty repository. What comes after a row is answered where
-/// the repository is as it was, and only there. So many growths are refused at least.
-pub(super) fn refuse_each(rt: &HostRuntime, session: &Session<'_>, least: u64) -> Result<(), Fail> {
-    let state = RandomState::new(rt)?;
-    match unrefused_row(rt.alloc(), state, session, least) {
-        None => Ok(()),
-        Some(place) => Err(Fail::new(format_args!("row {place}"))),
-    }
+    Ok(())
 }

@@ -202,12 +202,7 @@ fn have_same_refs<A: Allocator + Copy>(
 /// How many growths are refused before a trip succeeds; none where one is answered otherwise.
 fn refused_growths(alloc: Global, state: RandomState) -> u64 {
     for nth in 1..3000u64 {
-        let heap = Refusing::new(alloc, 0);
-        let is_refused = match Held::new(&heap, 64) {
-            Ok(mut sink) => is_refused_at(&heap, &mut sink, nth, state),
-            Err(_) => None,
-        };
-        match is_refused {
+        match is_refused_at(alloc, nth, state) {
             Some(true) => {}
             Some(false) => return nth - 1,
             None => return 0,
@@ -217,8 +212,17 @@ fn refused_growths(alloc: Global, state: RandomState) -> u64 {
 }
 
 /// Whether a trip, or its file alone, is refused for want of memory of which this growth is to be refused; none where it is
-/// answered otherwise. One that succeeds has its file, and the same refs twice.
-fn is_refused_at<'a, B: Allocator>(
+/// answered otherwise.
+fn is_refused_at(alloc: Global, nth: u64, state: RandomState) -> Option<bool> {
+    let heap = Refusing::new(alloc, 0);
+    match Held::new(&heap, 64) {
+        Ok(mut sink) => is_trip_refused(&heap, &mut sink, nth, state),
+        Err(_) => None,
+    }
+}
+
+/// The same, with a sink for what it prints.
+fn is_trip_refused<'a, B: Allocator>(
     heap: &'a Refusing<B>,
     sink: &mut Held<&'a Refusing<B>>,
     nth: u64,
@@ -228,12 +232,21 @@ fn is_refused_at<'a, B: Allocator>(
     let trip = tripped(heap, text("two branches"), "a f", sink, state);
     let is_waiting = heap.is_waiting();
     heap.arm(0);
-    let is_right = match &trip {
+    is_refused(&trip, is_waiting)
+}
+
+/// Whether a trip, or its file alone, is refused for want of memory; none where it is answered otherwise. One that succeeds, at
+/// which a growth is still waited for, has its file, and the same refs twice.
+fn is_refused<A: Allocator + Copy>(
+    trip: &Result<RoundTrip<Sha1Namer, A>, CliFault>,
+    is_waiting: bool,
+) -> Option<bool> {
+    let is_right = match trip {
         Ok(trip) if is_waiting => trip.file.is_ok() && have_same_refs(&trip.first, &trip.again),
         Ok(trip) => matches!(trip.file, Err(CliFault::OutOfMemory)),
         Err(CliFault::OutOfMemory) => !is_waiting,
         Err(CliFault::Import(fault)) => !is_waiting && fault.kind == ImportKind::OutOfMemory,
         Err(_) => false,
     };
-    is_right.then_some(!is_waiting)
+    if is_right { Some(!is_waiting) } else { None }
 }

@@ -18,74 +18,126 @@ use std::alloc::Global;
 use std::hash::RandomState;
 use std::test::Fail;
 
-const ACCEPTED: &[&str] = &[
-    rows::TEXTS,
-    rows::NAMES,
-    rows::SHOWN,
-    rows::REFS,
-    rows::IMPORTS,
-    rows::STORES,
-    listed::TREES,
-    listed::LOGS,
-    batches::ANSWERS,
-    revisions::SHOWN,
-    revisions::LISTED,
-    trees::MOVES,
-    trees::WAYS,
-    trees::EDITS,
-    trees::PLACES,
-    trees::NAMES,
-    repositories::OBJECTS,
-    repositories::FOUND_REFS,
-    repositories::SET_REFS,
-    records::RECORDS,
-    imports::SHOWN,
-    imports::EXPORTS,
-    imports::ANSWERS,
-    imports::STORES,
-    exports::EXPORTS,
-    streams::READ,
-    streams::ITEMS,
-    streams::ADAPTED,
-    streams::FOUND,
-];
-
 #[test]
 fn commands_print_and_make_store_texts(rt: HostRuntime) -> Result<(), Fail> {
     let state = RandomState::new(&rt)?;
-    run_all(rt.alloc(), ACCEPTED, state)
+    let scripts: &[&str] = &[
+        rows::TEXTS,
+        rows::NAMES,
+        rows::SHOWN,
+        rows::REFS,
+        rows::IMPORTS,
+        rows::STORES,
+        listed::TREES,
+        listed::LOGS,
+        batches::ANSWERS,
+    ];
+    run_all(rt.alloc(), scripts, state)
 }
-
-const REFUSED: &[&str] = &[
-    rows::REFUSED_WORDS,
-    rows::REFUSED_IMPORTS,
-    rows::REFUSED_TEXTS,
-    listed::NO_TREES,
-    listed::REFUSED_RANGES,
-    batches::REFUSED,
-    checkpoints::SESSIONS,
-    revisions::MISSED,
-    revisions::DIGITS,
-    revisions::NO_RANGES,
-    trees::REFUSED_EDITS,
-    repositories::HELD_NAMES,
-    records::REFUSED_RECORDS,
-    imports::PUBLISHED,
-    imports::SHORT_NAMES,
-    store_texts::REFUSED,
-    streams::REFUSED,
-    streams::CUT,
-    streams::NO_ITEMS,
-    streams::NOT_ADAPTED,
-    streams::NOT_FOUND,
-    exports::CUT,
-    exports::NO_SUBMODULE,
-];
 
 #[test]
 fn refused_commands_keep_what_was_published(rt: HostRuntime) -> Result<(), Fail> {
     let state = RandomState::new(&rt)?;
-    run_all(rt.alloc(), REFUSED, state)
+    let scripts: &[&str] = &[
+        rows::REFUSED_WORDS,
+        rows::REFUSED_IMPORTS,
+        rows::REFUSED_TEXTS,
+        listed::NO_TREES,
+        listed::REFUSED_RANGES,
+        batches::REFUSED,
+        checkpoints::SESSIONS,
+    ];
+    run_all(rt.alloc(), scripts, state)
+}
+
+#[test]
+fn revisions_and_ranges_are_answered(rt: HostRuntime) -> Result<(), Fail> {
+    let state = RandomState::new(&rt)?;
+    let scripts: &[&str] = &[
+        revisions::SHOWN,
+        revisions::LISTED,
+        revisions::MISSED,
+        revisions::DIGITS,
+        revisions::NO_RANGES,
+    ];
+    run_all(rt.alloc(), scripts, state)
+}
+
+#[test]
+fn copies_and_renames_make_room(rt: HostRuntime) -> Result<(), Fail> {
+    let state = RandomState::new(&rt)?;
+    let scripts: &[&str] = &[trees::MOVES, trees::WAYS, trees::EDITS];
+    run_all(rt.alloc(), scripts, state)
+}
+
+#[test]
+fn trees_have_their_order_and_names(rt: HostRuntime) -> Result<(), Fail> {
+    let state = RandomState::new(&rt)?;
+    let scripts: &[&str] = &[trees::PLACES, trees::NAMES, trees::REFUSED_EDITS];
+    run_all(rt.alloc(), scripts, state)
+}
+
+#[test]
+fn objects_and_refs_have_their_names(rt: HostRuntime) -> Result<(), Fail> {
+    let state = RandomState::new(&rt)?;
+    let scripts: &[&str] = &[
+        repositories::OBJECTS,
+        repositories::FOUND_REFS,
+        repositories::SET_REFS,
+        repositories::HELD_NAMES,
+    ];
+    run_all(rt.alloc(), scripts, state)
+}
+
+#[test]
+fn records_are_read_or_refused(rt: HostRuntime) -> Result<(), Fail> {
+    let state = RandomState::new(&rt)?;
+    let scripts: &[&str] = &[
+        records::RECORDS,
+        records::REFUSED_RECORDS,
+        store_texts::REFUSED,
+    ];
+    run_all(rt.alloc(), scripts, state)
+}
+
+#[test]
+fn imports_and_exports_are_shown(rt: HostRuntime) -> Result<(), Fail> {
+    let state = RandomState::new(&rt)?;
+    let scripts: &[&str] = &[
+        imports::SHOWN,
+        imports::EXPORTS,
+        imports::ANSWERS,
+        imports::STORES,
+        imports::PUBLISHED,
+        imports::SHORT_NAMES,
+        exports::EXPORTS,
+        exports::CUT,
+        exports::NO_SUBMODULE,
+    ];
+    run_all(rt.alloc(), scripts, state)
+}
+
+#[test]
+fn streams_are_read_adapted_and_searched(rt: HostRuntime) -> Result<(), Fail> {
+    let state = RandomState::new(&rt)?;
+    let scripts: &[&str] = &[
+        streams::READ,
+        streams::ITEMS,
+        streams::ADAPTED,
+        streams::FOUND,
+        streams::CUT,
+        streams::NO_ITEMS,
+        streams::NOT_ADAPTED,
+        streams::NOT_FOUND,
+    ];
+    run_all(rt.alloc(), scripts, state)
+}
+
+#[test]
+fn refused_streams_have_their_command_and_cause(rt: HostRuntime) -> Result<(), Fail> {
+    let state = RandomState::new(&rt)?;
+    let scripts: &[&str] = &[streams::REFUSED];
+    run_all(rt.alloc(), scripts, state)
 }
 
 /// Fronts of paths that are filled up with `a` to so many bytes, the line behind them, and the line that refuses them, if any.

@@ -4,6 +4,7 @@ ghost use Rattle.std.specs.Prelude.{IsTrue};
 ghost use Rattle.gx_model.specs.declared.objects.Kind.TheVariants as kinds;
 ghost use Rattle.gx_model.specs.Records.Sound.{Holds};
 
+use crate::trees::desk::Heap;
 use gx_object::{Kind, Name, Namer, Sha1Namer};
 use gx_refusing::Refusing;
 use gx_repo::{RefChange, Repo};
@@ -14,6 +15,9 @@ use gx_text::{TreePath, cut};
 use std::alloc::{AllocError, Allocator, Global};
 use std::hash::RandomState;
 use std::test::Fail;
+
+/// A repository of Git's names, on a heap that may be told to refuse a growth.
+type Records<'a> = Repo<Sha1Namer, &'a Heap>;
 
 /// The objects of a repository. Each has its kind in a line of its own, with the name of the ref that holds it, if any,
 /// and its body behind that, up to the next `%`. `main` has two commits, `v1` is at the first, `link` has a gitlink,
@@ -144,24 +148,18 @@ fn calls_that_no_command_makes_are_answered(rt: HostRuntime) -> Result<(), Fail>
 fn make_all(alloc: Global, state: RandomState, calls: &str) -> Result<(), Fail> {
     let heap = Refusing::new(alloc, 0);
     let mut repo = Repo::new(&heap, Sha1Namer, state);
-    make(&heap, &heap, &mut repo, calls)
+    make(&heap, &mut repo, calls)
 }
 
-/// Fills a repository, and makes the calls. The first that is answered otherwise is a failure. The heap is given once
-/// more as the allocator, here and below.
-fn make<C: Allocator + Copy>(
-    heap: &Refusing<Global>,
-    own: C,
-    repo: &mut Repo<Sha1Namer, C>,
-    calls: &str,
-) -> Result<(), Fail> {
+/// Fills a repository, and makes the calls. The first that is answered otherwise is a failure.
+fn make<'a>(heap: &'a Heap, repo: &mut Records<'a>, calls: &str) -> Result<(), Fail> {
     for part in RECORDS.split(|byte| *byte == b'%') {
         if !is_added(repo, part) {
             return Err(Fail::new(format_args!("the records")));
         }
     }
     for line in calls.trim().split('\n') {
-        if !is_right(heap, own, repo, line) {
+        if !is_right(heap, repo, line) {
             return Err(Fail::new(format_args!("{line}")));
         }
     }
@@ -169,7 +167,7 @@ fn make<C: Allocator + Copy>(
 }
 
 /// Adds an object, and sets the ref that holds it. Answers whether that is done.
-fn is_added<C: Allocator + Copy>(repo: &mut Repo<Sha1Namer, C>, part: &[u8]) -> bool {
+fn is_added<'a>(repo: &mut Records<'a>, part: &[u8]) -> bool {
     let (head, body) = cut(part, b'\n').unwrap_or((part, b""));
     let (word, name) = cut(head, b' ').unwrap_or((head, b""));
     let kind = if word == b"blob".as_slice() {
@@ -189,17 +187,12 @@ fn is_added<C: Allocator + Copy>(repo: &mut Repo<Sha1Namer, C>, part: &[u8]) -> 
 }
 
 /// Whether what the first word of a line says comes of the call behind it.
-fn is_right<C: Allocator + Copy>(
-    heap: &Refusing<Global>,
-    own: C,
-    repo: &Repo<Sha1Namer, C>,
-    line: &str,
-) -> bool {
+fn is_right<'a>(heap: &'a Heap, repo: &Records<'a>, line: &str) -> bool {
     let (word, call) = line.split_once(' ').unwrap_or((line, ""));
     match word {
-        "once" => refused_growths(heap, own, repo, call) == 1,
-        "grows" => refused_growths(heap, own, repo, call) > 0,
-        _ => match answered(heap, own, repo, call, 0) {
+        "once" => refused_growths(heap, repo, call) == 1,
+        "grows" => refused_growths(heap, repo, call) > 0,
+        _ => match answered(heap, repo, call, 0) {
             Ok(number) => word.parse::<usize>().ok() == Some(number),
             Err(fault) => fault.word() == word,
         },
@@ -207,14 +200,9 @@ fn is_right<C: Allocator + Copy>(
 }
 
 /// How many growths of a call are refused, one after the other, until it is answered; none where something else came.
-fn refused_growths<C: Allocator + Copy>(
-    heap: &Refusing<Global>,
-    own: C,
-    repo: &Repo<Sha1Namer, C>,
-    call: &str,
-) -> u64 {
+fn refused_growths<'a>(heap: &'a Heap, repo: &Records<'a>, call: &str) -> u64 {
     for growth in 1..100u64 {
-        let answer = answered(heap, own, repo, call, growth);
+        let answer = answered(heap, repo, call, growth);
         let is_waiting = heap.is_waiting();
         heap.arm(0);
         match answer {
@@ -230,82 +218,116 @@ fn refused_growths<C: Allocator + Copy>(
 const NO_CALL: RevFault = RevFault::Ambiguous;
 
 /// What a call answers. A growth is refused once the revisions stand that it is given; none is with 0.
-fn answered<C: Allocator + Copy>(
-    heap: &Refusing<Global>,
-    own: C,
-    repo: &Repo<Sha1Namer, C>,
+fn answered<'a>(
+    heap: &'a Heap,
+    repo: &Records<'a>,
     call: &str,
     growth: u64,
 ) -> Result<usize, RevFault> {
     let (call, words) = call.split_once(' ').unwrap_or((call, ""));
-    let (first, second) = words.split_once(' ').unwrap_or((words, ""));
     match call {
-        "look" | "commit" => match Revision::read(own, first.as_bytes()) {
-            Ok(revision) => told_of(heap, own, repo, (call, &revision, second), growth),
-            Err(_) => Err(NO_CALL),
-        },
-        "walk" => match ranges_of(own, words) {
-            Some(ranges) => {
-                heap.arm(growth);
-                walked(own, repo, &ranges)
-            }
-            None => Err(NO_CALL),
-        },
+        "look" => looked(heap, repo, words, growth),
+        "commit" => counted(heap, repo, words),
+        "walk" => listed(heap, repo, words, growth),
         _ => {
             heap.arm(growth);
-            told(own, repo, call, words)
+            told(heap, repo, call, words)
         }
     }
 }
 
-/// The range of a word; none for an empty one.
-fn ranges_of<C: Allocator + Copy>(own: C, word: &str) -> Option<Vec<Range<C>, C>> {
-    let mut ranges = Vec::new(own);
-    if word.is_empty() {
-        return Some(ranges);
-    }
-    match Range::read(own, word.as_bytes()) {
-        Ok(range) => match ranges.push(range) {
-            Ok(()) => Some(ranges),
-            Err(_) => None,
-        },
-        Err(_) => None,
-    }
-}
-
-/// How many parents a revision's commit has, or how many bytes the file at a path.
-fn told_of<C: Allocator + Copy>(
-    heap: &Refusing<Global>,
-    own: C,
-    repo: &Repo<Sha1Namer, C>,
-    (call, revision, path): (&str, &Revision<C>, &str),
+/// How many bytes the file at a path of a revision has.
+fn looked<'a>(
+    heap: &'a Heap,
+    repo: &Records<'a>,
+    words: &str,
     growth: u64,
 ) -> Result<usize, RevFault> {
-    if call == "commit" {
-        return match commit(repo, revision) {
-            Ok(view) => Ok(view.parent_count()),
-            Err(fault) => Err(fault),
-        };
-    }
-    match TreePath::read(own, path.as_bytes()) {
-        Ok(path) => {
-            heap.arm(growth);
-            match look(own, repo, revision, &path) {
-                Ok((_, bytes)) => Ok(bytes.len()),
-                Err(fault) => Err(fault),
-            }
-        }
+    let (revision, path) = words.split_once(' ').unwrap_or((words, ""));
+    match Revision::read(heap, revision.as_bytes()) {
+        Ok(revision) => looked_at(heap, repo, &revision, path, growth),
         Err(_) => Err(NO_CALL),
     }
 }
 
-/// How many commits ranges list. Want of memory is of no word.
-fn walked<C: Allocator + Copy>(
-    own: C,
-    repo: &Repo<Sha1Namer, C>,
-    ranges: &[Range<C>],
+/// The same of a revision.
+fn looked_at<'a>(
+    heap: &'a Heap,
+    repo: &Records<'a>,
+    revision: &Revision<&'a Heap>,
+    path: &str,
+    growth: u64,
 ) -> Result<usize, RevFault> {
-    match walk(own, repo, ranges) {
+    match TreePath::read(heap, path.as_bytes()) {
+        Ok(path) => looked_in(heap, repo, revision, &path, growth),
+        Err(_) => Err(NO_CALL),
+    }
+}
+
+/// The same of a path.
+fn looked_in<'a>(
+    heap: &'a Heap,
+    repo: &Records<'a>,
+    revision: &Revision<&'a Heap>,
+    path: &TreePath<&'a Heap>,
+    growth: u64,
+) -> Result<usize, RevFault> {
+    heap.arm(growth);
+    match look(heap, repo, revision, path) {
+        Ok((_, bytes)) => Ok(bytes.len()),
+        Err(fault) => Err(fault),
+    }
+}
+
+/// How many parents a revision's commit has.
+fn counted<'a>(heap: &'a Heap, repo: &Records<'a>, word: &str) -> Result<usize, RevFault> {
+    match Revision::read(heap, word.as_bytes()) {
+        Ok(revision) => match commit(repo, &revision) {
+            Ok(view) => Ok(view.parent_count()),
+            Err(fault) => Err(fault),
+        },
+        Err(_) => Err(NO_CALL),
+    }
+}
+
+/// How many commits a word lists; none where it is empty.
+fn listed<'a>(
+    heap: &'a Heap,
+    repo: &Records<'a>,
+    word: &str,
+    growth: u64,
+) -> Result<usize, RevFault> {
+    let mut ranges = Vec::new(heap);
+    if is_range_put(heap, &mut ranges, word) {
+        heap.arm(growth);
+        walked(heap, repo, &ranges)
+    } else {
+        Err(NO_CALL)
+    }
+}
+
+/// Puts the range of a word into a list, if the word isn't empty. Answers whether that was done.
+fn is_range_put<'a>(
+    heap: &'a Heap,
+    ranges: &mut Vec<Range<&'a Heap>, &'a Heap>,
+    word: &str,
+) -> bool {
+    if word.is_empty() {
+        return true;
+    }
+    match Range::read(heap, word.as_bytes()) {
+        Ok(range) => ranges.push(range).is_ok(),
+        Err(_) => false,
+    }
+}
+
+/// How many commits ranges list. Want of memory is of no word.
+fn walked<'a>(
+    heap: &'a Heap,
+    repo: &Records<'a>,
+    ranges: &[Range<&'a Heap>],
+) -> Result<usize, RevFault> {
+    match walk(heap, repo, ranges) {
         Ok(names) => Ok(names.len()),
         Err(fault) if fault.word == 0 => Err(fault.kind),
         Err(_) => Err(NO_CALL),
@@ -313,35 +335,48 @@ fn walked<C: Allocator + Copy>(
 }
 
 /// What a call answers that is given texts alone.
-fn told<C: Allocator + Copy>(
-    own: C,
-    repo: &Repo<Sha1Namer, C>,
+fn told<'a>(
+    heap: &'a Heap,
+    repo: &Records<'a>,
     call: &str,
     words: &str,
 ) -> Result<usize, RevFault> {
     match call {
-        "read" => match Range::read(own, words.as_bytes()) {
-            Ok(_) => Ok(0),
-            Err(fault) => Err(fault),
-        },
-        "revision" => match Revision::read(own, words.as_bytes()) {
-            Ok(_) => Ok(0),
-            Err(fault) => Err(fault),
-        },
-        "refs" => match reached_from_refs(own, repo) {
-            Ok(marks) => Ok(marks.iter().filter(|mark| **mark).count()),
-            Err(error) => Err(error.into()),
-        },
+        "read" => read_as_range(heap, words),
+        "revision" => read_as_revision(heap, words),
+        "refs" => counted_marks(heap, repo),
         "tell" => {
             answers_tell_values(repo);
             Ok(0)
         }
-        "reach" => match reached(own, repo, words) {
+        "reach" => match reached(heap, repo, words) {
             Some(Ok(answer)) => Ok(if answer { 1 } else { 0 }),
             Some(Err(error)) => Err(error.into()),
             None => Err(NO_CALL),
         },
         _ => Err(NO_CALL),
+    }
+}
+
+fn read_as_range(heap: &Heap, word: &str) -> Result<usize, RevFault> {
+    match Range::read(heap, word.as_bytes()) {
+        Ok(_) => Ok(0),
+        Err(fault) => Err(fault),
+    }
+}
+
+fn read_as_revision(heap: &Heap, word: &str) -> Result<usize, RevFault> {
+    match Revision::read(heap, word.as_bytes()) {
+        Ok(_) => Ok(0),
+        Err(fault) => Err(fault),
+    }
+}
+
+/// How many objects the refs reach.
+fn counted_marks<'a>(heap: &'a Heap, repo: &Records<'a>) -> Result<usize, RevFault> {
+    match reached_from_refs(heap, repo) {
+        Ok(marks) => Ok(marks.iter().filter(|mark| **mark).count()),
+        Err(error) => Err(error.into()),
     }
 }
 

@@ -221,6 +221,25 @@ remove all/d22
 copy d23/f00 d24/f00
 rename d25 d25";
 
+/// Fills both, and does the edits.
+fn edit_many<'a>(heap: &'a Heap, both: &mut Both<'a>) -> Result<(), Fail> {
+    let filled = "named ee8b8301830e939aa592b99825253aef6910c1ac";
+    if !both.fill(heap) || !both.are_written(heap, 2000, filled) {
+        return Err(Fail::new(format_args!("filled")));
+    }
+    for line in EDITS.split('\n') {
+        if !both.step(heap, line) || !both.plain.is_list_of(&both.desk.tree) {
+            return Err(Fail::new(format_args!("{line}")));
+        }
+    }
+    let edited = "named 208624144a2dc19234269d5b31848457af6c4f25";
+    if both.are_written(heap, 3768, edited) {
+        Ok(())
+    } else {
+        Err(Fail::new(format_args!("edited")))
+    }
+}
+
 #[test]
 fn many_files_are_edited_as_a_plain_list_is(rt: HostRuntime) -> Result<(), Fail> {
     let heap = Refusing::new(rt.alloc(), 0);
@@ -233,26 +252,5 @@ fn many_files_are_edited_as_a_plain_list_is(rt: HostRuntime) -> Result<(), Fail>
         },
         state,
     };
-    assert!(rt; both.fill(&heap));
-    assert!(rt;
-        both.are_written(
-            &heap,
-            2000,
-            "named ee8b8301830e939aa592b99825253aef6910c1ac"
-        )
-    );
-    for line in EDITS.split('\n') {
-        assert!(rt;
-            both.step(&heap, line) && both.plain.is_list_of(&both.desk.tree),
-            "{line}"
-        );
-    }
-    assert!(rt;
-        both.are_written(
-            &heap,
-            3768,
-            "named 208624144a2dc19234269d5b31848457af6c4f25"
-        )
-    );
-    Ok(())
+    edit_many(&heap, &mut both)
 }

@@ -520,16 +520,25 @@ fn is_held<'a>(tree: &mut PathTree<&'a Heap>, store: &mut Store<ShortNamer, &'a 
     answer == Err(TreeFault::NameHeld) && store.len() == 2 && store.record(0) == first
 }
 
-/// The trees of the two directories have one name.
+/// The same of the tree of a desk with two directories, whose trees have one name, and whether the files are as they were.
+fn two_are_held<'a>(
+    alloc: Global,
+    heap: &'a Heap,
+    desk: &mut Desk<'a>,
+    store: &mut Store<ShortNamer, &'a Heap>,
+    state: RandomState,
+) -> bool {
+    follow(alloc, heap, desk, "fill a/x:f1 b/y:f2", 0, state) == Outcome::Done
+        && is_held(&mut desk.tree, store)
+        && follow(alloc, heap, desk, "is a/x:f1 b/y:f2", 0, state) == Outcome::Done
+}
+
 #[test]
 fn a_tree_with_a_held_name_is_not_written(rt: HostRuntime) -> Result<(), Fail> {
     let state = RandomState::new(&rt)?;
     let heap = Refusing::new(rt.alloc(), 0);
     let mut desk = desk_of(&heap, state);
     let mut store = Store::new(&heap, ShortNamer, state);
-    let filled = follow(rt.alloc(), &heap, &mut desk, "fill a/x:f1 b/y:f2", 0, state);
-    let is_refused = is_held(&mut desk.tree, &mut store);
-    let files = follow(rt.alloc(), &heap, &mut desk, "is a/x:f1 b/y:f2", 0, state);
-    assert!(rt; filled == Outcome::Done && is_refused && files == Outcome::Done);
+    assert!(rt; two_are_held(rt.alloc(), &heap, &mut desk, &mut store, state));
     Ok(())
 }

@@ -85,7 +85,7 @@ pub(crate) fn runs(
     }
 }
 
-/// The same, with a sink for what it prints. A store's text that is given goes with a source that gives small pieces.
+/// The same, with a sink for what it prints. A store's text that is given goes with a source that gives single bytes.
 fn runs_into(
     alloc: Global,
     line: &Line<'_>,
@@ -96,7 +96,7 @@ fn runs_into(
     state: RandomState,
 ) -> bool {
     let source = if is_given {
-        Bytes::new(step.input, 7, step.fails)
+        Bytes::new(step.input, 1, step.fails)
     } else {
         Bytes::new(step.input, 4096, step.fails)
     };

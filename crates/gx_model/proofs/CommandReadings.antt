@@ -4,12 +4,13 @@ use Rattle.std.specs.List.{list_all, list_any}
 use Rattle.gx_model.specs.declared.faults.Fault.{Fault}
 use Rattle.gx_model.specs.declared.faults.Fault.TheVariants as faults
 use Rattle.gx_model.specs.declared.features.Feature.{Feature}
+use Rattle.gx_model.specs.declared.features.Features.{Features}
 use Rattle.gx_model.specs.Texts.{Bytes, cut_at}
 use Rattle.gx_model.specs.Faults.{Given}
 use Rattle.gx_model.specs.Streams.Items.{Item, Line, Data, End, Finished, Failed, Stream}
 use Rattle.gx_model.specs.Streams.Commands as command
 use Rattle.gx_model.specs.Streams.Commands.{CommitIsh, Change, Command, Commands}
-use Rattle.gx_model.specs.Streams.Grammar.{words_of, mark_of, any_text, ident_of, encoding_of, commit_ish_of, optional, needed, blob_at, links_at, commit_at, tag_at, reset_at, command_at, commands_within, commands_of, is_option, asks_done, is_done, stops, with_first}
+use Rattle.gx_model.specs.Streams.Grammar.{words_of, mark_of, any_text, ident_of, encoding_of, commit_ish_of, optional, needed, blob_at, links_at, commit_at, tag_at, reset_at, command_at, commands_within, asked, commands_asked, is_option, asks_done, is_done, stops, with_first}
 use Rattle.gx_model.specs.Streams.LineShapes.{line_of, IsOfNone, IsOfOne, IsRefText, IsTagText, IsFeatureText, IsIdentText, IsEncodingText, IsAnyText, IsMarkText, IsCommitIshText}
 use Rattle.gx_model.specs.Streams.CommandShapes.{words_of_text, words_alone, unsupported_words, Taken, Optional, Needed, both, first_fault, second_fault, IsChange, mark_line, oid_line, blob_lines, commit_links, commit_lines, tag_lines, reset_lines, AreOptions, IsCommand, BlobLines, CommitLinks, CommitLines, TagLines, ResetLines, blob_command, commit_command, tag_command, reset_command, made, refused, of_text, text_fault, blob, commit, commit_of_bad_ref, tag, tag_of_bad_name, reset, reset_of_bad_ref, checkpoint, progress, feature, late_feature, option, late_option, done, command_without_text, command_of_text, unsupported, unknown_line, unknown_block, AskDone, AreCommands, skipped, taken, at_done, at_fault, at_end, at_missing_done, at_failure}
 use Rattle.gx_model.proofs.Readings.{refuted}
@@ -377,10 +378,10 @@ commands_there (suc n) end before (Line (b ∷ bs) ∷ more) l = let o = command
   by again (Err f) h = (stops (Some f), at_fault h)
   by again (Ok (c, rest)) h = go_on again c rest h (is_last c)
 
-pub one_commands : (s : Stream) (cs : Commands) → AreCommands s.end [] s.items cs → commands_of s ≡ cs
-one_commands s cs h = commands_in (length s.items) s.end [] s.items cs (omega arith) h
+pub one_commands : (f : Features) (s : Stream) (cs : Commands) → AreCommands s.end (asked f) s.items cs → commands_asked f s ≡ cs
+one_commands f s cs h = commands_in (length s.items) s.end (asked f) s.items cs (omega arith) h
 
-pub some_commands : (s : Stream) → AreCommands s.end [] s.items (commands_of s)
-some_commands s =
-    let c = commands_there (suc (length s.items)) s.end [] s.items (omega arith) in
-    subst (AreCommands s.end [] s.items) (sym (one_commands s c.0 c.1)) c.1
+pub some_commands : (f : Features) (s : Stream) → AreCommands s.end (asked f) s.items (commands_asked f s)
+some_commands f s =
+    let c = commands_there (suc (length s.items)) s.end (asked f) s.items (omega arith) in
+    subst (AreCommands s.end (asked f) s.items) (sym (one_commands f s c.0 c.1)) c.1

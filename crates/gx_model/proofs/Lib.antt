@@ -84,6 +84,7 @@ pub mod PathShapes
 pub mod PartShapes
 pub mod ChangeShapes
 pub mod CommandReadings
+pub mod AskedFeatures
 pub mod ReadCommands
 pub mod HistorySteps
 pub mod RefusedExports

@@ -28,7 +28,7 @@ use Rattle.gx_model.specs.Records.Walks.{place_in, place_of, walked}
 use Rattle.gx_model.specs.Records.Lookups.{first_named, or_else}
 use Rattle.gx_model.specs.Revisions.{Revision}
 use Rattle.gx_model.specs.Revisions.Denotation.{Shown, denoted, file_shown, files_in, first_ref, looked_up, object, of_file, or_ref, ref_names, shown_value, submodule}
-use Rattle.gx_model.specs.Replay.{imported}
+use Rattle.gx_model.specs.Replay.{imported_asked}
 use Rattle.gx_model.specs.Laws.ExportLaws.{AnyReaches, IsAgain, nothing}
 use Rattle.gx_model.specs.Laws.Headline.{ComesBack, Headline, Shows, body_named, file_held, leaf_held, object_denoted, tree_in, tree_named}
 use Rattle.gx_model.proofs.PathTests.{same_is}
@@ -226,7 +226,7 @@ module _ (name : Kind → Bytes → Bytes) (namer : IsNamer name) where
       }
 
   pub headline : Headline name
-  unfolding imported
+  unfolding imported_asked
   headline given fails h progress report r e has =
       let is = texts_give name nothing h given fails progress report nothing_is e in
       let s : StandsFor name r h = record { history = is; records = has.records; distinct = has.distinct; refs = has.refs } in (

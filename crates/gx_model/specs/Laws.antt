@@ -1,6 +1,7 @@
 -- What holds of the definitions: each law is the contract of a public function with an empty body.
 pub mod CommandLaws
 pub mod ExportLaws
+pub mod FeatureLaws
 pub mod FileMapLaws
 pub mod Headline
 pub mod HistoryLaws

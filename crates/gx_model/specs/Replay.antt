@@ -15,14 +15,15 @@ use Rattle.gx_model.specs.declared.objects.Mode.TheVariants.{Gitlink}
 use Rattle.gx_model.specs.declared.faults.Fault.{Fault}
 use Rattle.gx_model.specs.declared.faults.Fault.TheVariants as fault
 use Rattle.gx_model.specs.declared.features.Feature.TheVariants as features
+use Rattle.gx_model.specs.declared.features.Features.{Features}
 use Rattle.gx_model.specs.Streams.Commands as command
 use Rattle.gx_model.specs.Texts.{Bytes, same_bytes}
 use Rattle.gx_model.specs.Texts.RefNames.{tag_ref}
 use Rattle.gx_model.specs.Faults.{and_then, ◌>>=◌}
 use Rattle.gx_model.specs.Revisions.{revision_of}
 use Rattle.gx_model.specs.Streams.Items.{items_of}
-use Rattle.gx_model.specs.Streams.Commands.{Asks, Blob, Change, Checkpoint, Clear, Command, Commands, CommitIsh, CommitParts, Copy, DataRef, Done, Inline, Mark, Marked, Modify, Named, Object, OptionLine, Progress, Remove, Rename, Reset, TagParts}
-use Rattle.gx_model.specs.Streams.Grammar.{commands_of}
+use Rattle.gx_model.specs.Streams.Commands.{Asks, Blob, Change, Checkpoint, Clear, Command, Commands, CommitIsh, CommitParts, Copy, DataRef, Done, Inline, Mark, Marked, Modify, Named, Object, OptionLine, Progress, Remove, Rename, Reset, TagParts, no_features}
+use Rattle.gx_model.specs.Streams.Grammar.{commands_asked}
 use Rattle.gx_model.specs.Histories.Files.{FileMap}
 use Rattle.gx_model.specs.Histories.Edits.{copied, modified, removed, renamed}
 use Rattle.gx_model.specs.Histories.Values.{Commit, CommitText, Tag, Value, blob_value, commit, commit_value, commits_of, files_of, tag_value}
@@ -73,6 +74,10 @@ start h = record {
   progress = [];
   held = length h.values;
 }
+
+-- a replay that begins with this history, where these features are asked for
+abbrev pub begun : Features → History → State
+begun f h = record (start h) { is_forced = f.force }
 
 -- the byte order of texts
 abbrev pub byte_cmp : Bytes → Bytes → Ordering
@@ -311,14 +316,26 @@ module _ (name : Kind → Bytes → Bytes) where
   replayed n s [] end = ended n s end
   replayed n s (c ∷ cs) end = elim (step s c) [ Ok t ↦ replayed (n + 1) t cs end | Err e ↦ refused (n + 1) e s.progress s.kept ]
 
-  -- the commands of a text that an end follows, or a failure, from a history on
-  abbrev pub replayed_commands : History → Commands → Outcome
-  replayed_commands h cs = replayed 0 (start h) cs.list cs.fault
+  -- commands, from a history on, where these features are asked for
+  abbrev pub replayed_asked : Features → History → Commands → Outcome
+  replayed_asked f h cs = replayed 0 (begun f h) cs.list cs.fault
 
-  -- what the commands of a text give
+  -- the commands of a text that an end follows, or a failure, where these features are asked for
+  abbrev pub replayed_text_asked : Features → History → Bytes → Bool → Outcome
+  replayed_text_asked f h text fails = replayed_asked f h (commands_asked f (items_of text fails))
+
+  -- the same with no features: commands
+  abbrev pub replayed_commands : History → Commands → Outcome
+  replayed_commands = replayed_asked no_features
+
+  -- and the commands of a text
   abbrev pub replayed_text : History → Bytes → Bool → Outcome
-  replayed_text h text fails = replayed_commands h (commands_of (items_of text fails))
+  replayed_text = replayed_text_asked no_features
+
+-- what the import of a text gives, where these features are asked for as if it began with them
+unfoldable pub imported_asked : Features → (Kind → Bytes → Bytes) → History → Bytes → Bool → Outcome
+imported_asked f name h text fails = replayed_text_asked name f h text fails
 
 -- what the import of a text gives
-unfoldable pub imported : (Kind → Bytes → Bytes) → History → Bytes → Bool → Outcome
-imported name h text fails = replayed_text name h text fails
+abbrev pub imported : (Kind → Bytes → Bytes) → History → Bytes → Bool → Outcome
+imported = imported_asked no_features

@@ -1,6 +1,7 @@
 -- Worked rows: what the definitions give for texts that are spelled out. Each holds by computing.
 pub mod CommandShapeRows
 pub mod ExportRows
+pub mod FeatureRows
 pub mod ImportRows
 pub mod RevisionRows
 pub mod RowTexts

@@ -20,7 +20,7 @@ pub mod stream_laws;
 pub mod text_laws;
 
 pub use faults::Fault;
-pub use features::Feature;
+pub use features::{Feature, Features};
 pub use objects::{Kind, Mode};
 pub use store_faults::FileFault;
 pub use store_versions::Version;

@@ -1,5 +1,6 @@
 //! Laws of replays: what commands make of a history is a history.
 ghost use Rattle.gx_model.specs.Laws.ExportLaws.{nothing};
+ghost use Rattle.gx_model.specs.Laws.FeatureLaws.{CommandsAreAsked, ReplaysAreAsked};
 ghost use Rattle.gx_model.specs.Histories.{IsHistory};
 ghost use Rattle.gx_model.specs.Replay.ProperReplays.{RefusalsKeepHistories, ReplaysGiveHistories, StreamsAreProper, TextsGiveHistories};
 
@@ -18,4 +19,13 @@ pub fn replays_give_histories()
     ensures replays { ReplaysGiveHistories }
     ensures refused { RefusalsKeepHistories }
     ensures texts { TextsGiveHistories }
+{}
+
+/// Features that are asked for are those of a stream that begins with their lines: its commands behind these are the same, and
+/// what they make of a history, too. Only the numbers of commands count no such lines.
+/// Source: git-fast-import(1), "--done" and "--force".
+#[tactic(auto, using(crate::proofs::AskedFeatures::commands_are_asked, crate::proofs::AskedFeatures::replays_are_asked))]
+pub fn features_are_asked()
+    ensures commands { CommandsAreAsked }
+    ensures replays { ReplaysAreAsked }
 {}

@@ -13,7 +13,7 @@ use Rattle.gx_model.specs.Streams.Spelling.{text_of_lines}
 use Rattle.gx_model.specs.Histories.Values.{Commit, commit, commit_value, none}
 use Rattle.gx_model.specs.Histories.{History, at_commit, with_value}
 use Rattle.gx_model.specs.Objects.Naming.{short_name}
-use Rattle.gx_model.specs.Replay.{imported}
+use Rattle.gx_model.specs.Replay.{imported_asked}
 use Rattle.gx_model.specs.Export.{export_text}
 use Rattle.gx_model.specs.Rows.RowTexts.{nothing, imported_lines, history_of_lines, refusal}
 
@@ -148,5 +148,5 @@ pub record ExportRows : Type 0 where
   pub null_refused : refusal (imported_lines null_export) ≡ Some (3, fault.Unsupported)
 
 pub export_rows : ExportRows
-unfolding char_at unsigned_in item_after_in rest_line_in block_in cut_at is_ident unquote_within quoted_of mark_of commit_ish_of last_path source_path modify_at two_paths change_at changes_within merges_within blob_at commit_at links_at tag_at reset_at command_at commands_within counted_block lines_before delimited first_line first_of read_upto items_of digits revision_of imported short_name
+unfolding char_at unsigned_in item_after_in rest_line_in block_in cut_at is_ident unquote_within quoted_of mark_of commit_ish_of last_path source_path modify_at two_paths change_at changes_within merges_within blob_at commit_at links_at tag_at reset_at command_at commands_within counted_block lines_before delimited first_line first_of read_upto items_of digits revision_of imported_asked short_name
 export_rows = record { exported = refl; same_refs = refl; exported_again = refl; cut_off = refl; empty = refl; unreached = refl; null_exported = refl; null_refused = refl }

@@ -21,7 +21,7 @@ use Rattle.gx_model.specs.Records.{body_of, entries, named_map}
 use Rattle.gx_model.specs.Histories.{History}
 use Rattle.gx_model.specs.Revisions.Denotation.{Shown, denoted, object}
 use Rattle.gx_model.specs.Objects.Naming.{short_name}
-use Rattle.gx_model.specs.Replay.{Kept, Outcome, finished, imported, refused}
+use Rattle.gx_model.specs.Replay.{Kept, Outcome, finished, imported_asked, refused}
 use Rattle.gx_model.specs.Rows.RowTexts.{acceptance, history_after, history_of_lines, imported_lines, imported_to, kept_after, nothing, refusal, shown}
 
 -- one commit on main with these changes
@@ -109,7 +109,7 @@ pub record TreeRows : Type 0 where
   pub empty_tree : body_of short_name (tree_value []) ≡ []
 
 pub tree_rows : TreeRows
-unfolding char_at unsigned_in item_after_in rest_line_in block_in cut_at is_ident unquote_within quoted_of mark_of commit_ish_of last_path source_path modify_at two_paths change_at changes_within merges_within blob_at commit_at links_at tag_at reset_at command_at commands_within counted_block lines_before delimited first_line first_of read_upto items_of digits revision_of imported denoted short_name
+unfolding char_at unsigned_in item_after_in rest_line_in block_in cut_at is_ident unquote_within quoted_of mark_of commit_ish_of last_path source_path modify_at two_paths change_at changes_within merges_within blob_at commit_at links_at tag_at reset_at command_at commands_within counted_block lines_before delimited first_line first_of read_upto items_of digits revision_of imported_asked denoted short_name
 tree_rows = record { any_order = refl; slash_order = refl; canonical = refl; below_first = refl; no_empty_directory = refl; empty_tree = refl }
 
 -- ---- copies and renames
@@ -168,7 +168,7 @@ pub record CopyRows : Type 0 where
   pub long_move : map (λ c. renamed long_below_e (codes "e" ∷ []) (c ∷ [])) (codes "d" ∷ codes "dd" ∷ []) ≡ Ok long_below_d ∷ Err fault.PathTooLong ∷ []
 
 pub copy_rows : CopyRows
-unfolding char_at unsigned_in item_after_in rest_line_in block_in cut_at is_ident unquote_within quoted_of mark_of commit_ish_of last_path source_path modify_at two_paths change_at changes_within merges_within blob_at commit_at links_at tag_at reset_at command_at commands_within counted_block lines_before delimited first_line first_of read_upto items_of digits revision_of imported denoted short_name
+unfolding char_at unsigned_in item_after_in rest_line_in block_in cut_at is_ident unquote_within quoted_of mark_of commit_ish_of last_path source_path modify_at two_paths change_at changes_within merges_within blob_at commit_at links_at tag_at reset_at command_at commands_within counted_block lines_before delimited first_line first_of read_upto items_of digits revision_of imported_asked denoted short_name
 copy_rows = record { table = refl; no_root = refl; file_gives_way = refl; moved = refl; before = refl; renamed_to_itself = refl; long_path = refl; long_move = refl }
 
 -- ---- the end of an import
@@ -204,7 +204,7 @@ pub record EndRows : Type 0 where
   pub progress_so_far : imported_lines (codes "progress half" ∷ codes "foo" ∷ []) ≡ refused 2 fault.UnknownCommand (codes "progress half" ++ 10 ∷ []) (at_checkpoint nothing 0)
 
 pub end_rows : EndRows
-unfolding char_at unsigned_in item_after_in rest_line_in block_in cut_at is_ident unquote_within quoted_of mark_of commit_ish_of last_path source_path modify_at two_paths change_at changes_within merges_within blob_at commit_at links_at tag_at reset_at command_at commands_within counted_block lines_before delimited first_line first_of read_upto items_of digits revision_of imported denoted short_name
+unfolding char_at unsigned_in item_after_in rest_line_in block_in cut_at is_ident unquote_within quoted_of mark_of commit_ish_of last_path source_path modify_at two_paths change_at changes_within merges_within blob_at commit_at links_at tag_at reset_at command_at commands_within counted_block lines_before delimited first_line first_of read_upto items_of digits revision_of imported_asked denoted short_name
 end_rows = record { not_forward = refl; forward = refl; from_itself = refl; merge_of_itself = refl; forced = refl; missing_done = refl; late_option = refl; progress = refl; one_commit = refl; progress_so_far = refl }
 
 -- ---- checkpoints
@@ -264,7 +264,7 @@ pub record CheckpointRows : Type 0 where
   pub both_hold : option_map count_and_main (kept_after (imported_lines (codes "feature force" ∷ two_checkpoints))) ≡ Some (2, shown (history_of_lines (from_anew [])) (codes "main"))
 
 pub checkpoint_rows : CheckpointRows
-unfolding char_at unsigned_in item_after_in rest_line_in block_in cut_at is_ident unquote_within quoted_of mark_of commit_ish_of last_path source_path modify_at two_paths change_at changes_within merges_within blob_at commit_at links_at tag_at reset_at command_at commands_within counted_block lines_before delimited first_line first_of read_upto items_of digits revision_of imported denoted short_name
+unfolding char_at unsigned_in item_after_in rest_line_in block_in cut_at is_ident unquote_within quoted_of mark_of commit_ish_of last_path source_path modify_at two_paths change_at changes_within merges_within blob_at commit_at links_at tag_at reset_at command_at commands_within counted_block lines_before delimited first_line first_of read_upto items_of digits revision_of imported_asked denoted short_name
 checkpoint_rows = record {
   unknown_command = refl;
   missing_done = refl;
@@ -303,5 +303,5 @@ refusals =
     ∷ []
 
 pub refused_so : map (λ r. refusal (imported_lines r.0)) refusals ≡ map (λ r. Some r.1) refusals
-unfolding char_at unsigned_in item_after_in rest_line_in block_in cut_at is_ident unquote_within quoted_of mark_of commit_ish_of last_path source_path modify_at two_paths change_at changes_within merges_within blob_at commit_at links_at tag_at reset_at command_at commands_within counted_block lines_before delimited first_line first_of read_upto items_of digits revision_of imported denoted short_name
+unfolding char_at unsigned_in item_after_in rest_line_in block_in cut_at is_ident unquote_within quoted_of mark_of commit_ish_of last_path source_path modify_at two_paths change_at changes_within merges_within blob_at commit_at links_at tag_at reset_at command_at commands_within counted_block lines_before delimited first_line first_of read_upto items_of digits revision_of imported_asked denoted short_name
 refused_so = refl

@@ -17,7 +17,7 @@ use Rattle.gx_model.specs.Histories.{History, at_commit, at_tag}
 use Rattle.gx_model.specs.Revisions.Denotation.{Shown, denoted, object}
 use Rattle.gx_model.specs.Revisions.Ranges.{WordFault, listed}
 use Rattle.gx_model.specs.Objects.Naming.{short_name}
-use Rattle.gx_model.specs.Replay.{imported}
+use Rattle.gx_model.specs.Replay.{imported_asked}
 use Rattle.gx_model.specs.Rows.RowTexts.{history_of_lines, log, shown}
 
 -- ---- how they are read
@@ -108,7 +108,7 @@ pub record TwiceRows : Type 0 where
   pub both : log twice (codes "x" ∷ codes "y" ∷ []) ≡ Ok (root ∷ [])
 
 pub twice_rows : TwiceRows
-unfolding char_at unsigned_in item_after_in rest_line_in block_in cut_at is_ident unquote_within quoted_of mark_of commit_ish_of last_path source_path modify_at two_paths change_at changes_within merges_within blob_at commit_at links_at tag_at reset_at command_at commands_within counted_block lines_before delimited first_line first_of read_upto items_of digits revision_of imported denoted range_of listed short_name
+unfolding char_at unsigned_in item_after_in rest_line_in block_in cut_at is_ident unquote_within quoted_of mark_of commit_ish_of last_path source_path modify_at two_paths change_at changes_within merges_within blob_at commit_at links_at tag_at reset_at command_at commands_within counted_block lines_before delimited first_line first_of read_upto items_of digits revision_of imported_asked denoted range_of listed short_name
 twice_rows = record { one = refl; same = refl; between = refl; apart = refl; both = refl }
 
 -- ---- two roots and their merge
@@ -183,7 +183,7 @@ pub record MergeRows : Type 0 where
   pub names : listed short_name merged (WithAncestors (plain (codes "y")) ∷ []) ≡ Ok (map (λ c. name_of short_name (commit_value c)) (y ∷ q ∷ p ∷ []))
 
 pub merge_rows : MergeRows
-unfolding char_at unsigned_in item_after_in rest_line_in block_in cut_at is_ident unquote_within quoted_of mark_of commit_ish_of last_path source_path modify_at two_paths change_at changes_within merges_within blob_at commit_at links_at tag_at reset_at command_at commands_within counted_block lines_before delimited first_line first_of read_upto items_of digits revision_of imported denoted range_of listed short_name
+unfolding char_at unsigned_in item_after_in rest_line_in block_in cut_at is_ident unquote_within quoted_of mark_of commit_ish_of last_path source_path modify_at two_paths change_at changes_within merges_within blob_at commit_at links_at tag_at reset_at command_at commands_within counted_block lines_before delimited first_line first_of read_upto items_of digits revision_of imported_asked denoted range_of listed short_name
 merge_rows = record { revisions = refl; ranges = refl; from_first = refl; names = refl }
 
 -- ---- a tag
@@ -236,7 +236,7 @@ pub record TagRows : Type 0 where
   pub revisions : map (λ r. shown tagged r.0) tag_revisions ≡ map (λ r. r.1) tag_revisions
 
 pub tag_rows : TagRows
-unfolding char_at unsigned_in item_after_in rest_line_in block_in cut_at is_ident unquote_within quoted_of mark_of commit_ish_of last_path source_path modify_at two_paths change_at changes_within merges_within blob_at commit_at links_at tag_at reset_at command_at commands_within counted_block lines_before delimited first_line first_of read_upto items_of digits revision_of imported denoted range_of listed short_name
+unfolding char_at unsigned_in item_after_in rest_line_in block_in cut_at is_ident unquote_within quoted_of mark_of commit_ish_of last_path source_path modify_at two_paths change_at changes_within merges_within blob_at commit_at links_at tag_at reset_at command_at commands_within counted_block lines_before delimited first_line first_of read_upto items_of digits revision_of imported_asked denoted range_of listed short_name
 tag_rows = record { refs = refl; revisions = refl }
 
 -- ---- names by their digits
@@ -270,5 +270,5 @@ pub record DigitRows : Type 0 where
   pub either_case : map (shown long_blob) lettered ≡ replicate 3 (Ok (object (blob_value (replicate 171 97))))
 
 pub digit_rows : DigitRows
-unfolding char_at unsigned_in item_after_in rest_line_in block_in cut_at is_ident unquote_within quoted_of mark_of commit_ish_of last_path source_path modify_at two_paths change_at changes_within merges_within blob_at commit_at links_at tag_at reset_at command_at commands_within counted_block lines_before delimited first_line first_of read_upto items_of digits revision_of imported denoted range_of listed short_name
+unfolding char_at unsigned_in item_after_in rest_line_in block_in cut_at is_ident unquote_within quoted_of mark_of commit_ish_of last_path source_path modify_at two_paths change_at changes_within merges_within blob_at commit_at links_at tag_at reset_at command_at commands_within counted_block lines_before delimited first_line first_of read_upto items_of digits revision_of imported_asked denoted range_of listed short_name
 digit_rows = record { table = refl; either_case = refl }

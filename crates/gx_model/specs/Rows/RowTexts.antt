@@ -3,16 +3,18 @@ use Rattle.std.specs.Prelude.{ℕ, ◌%◌, false, List, [], ◌∷◌, ◌++◌
 use Rattle.std.specs.List.{fold}
 use Rattle.gx_model.specs.declared.objects.Kind.{Kind}
 use Rattle.gx_model.specs.declared.faults.Fault.{Fault}
+use Rattle.gx_model.specs.declared.features.Features.{Features}
 use Rattle.gx_model.specs.Texts.{Bytes}
 use Rattle.gx_model.specs.Faults.{Given, and_then, ◌>>=◌}
 use Rattle.gx_model.specs.Streams.Spelling.{text_of_lines}
+use Rattle.gx_model.specs.Streams.Commands.{no_features}
 use Rattle.gx_model.specs.Revisions.{revision_of, range_of}
 use Rattle.gx_model.specs.Histories.Values.{Commit}
 use Rattle.gx_model.specs.Histories.{History}
 use Rattle.gx_model.specs.Revisions.Denotation.{Shown, denoted}
 use Rattle.gx_model.specs.Objects.Naming.{kind_number, short_name}
 use Rattle.gx_model.specs.Revisions.Ranges.{WordFault, each_word, listing, words_denoted}
-use Rattle.gx_model.specs.Replay.{Kept, Outcome, Report, finished, imported, refused}
+use Rattle.gx_model.specs.Replay.{Kept, Outcome, Report, finished, imported_asked, refused}
 
 -- a name as short names are, that also tells bodies apart by their last byte
 abbrev pub last_byte_name : Kind → Bytes → Bytes
@@ -23,9 +25,13 @@ last_byte_name k body = replicate 17 17 ++ kind_number k ∷ length body % 256 �
 abbrev pub nothing : History
 nothing = record { values = []; refs = [] }
 
--- the import of these lines
+-- the import of these lines, where these features are asked for
+abbrev pub imported_asking : Features → History → List Bytes → Outcome
+imported_asking f h ls = imported_asked f short_name h (text_of_lines ls) false
+
+-- where none are
 abbrev pub imported_to : History → List Bytes → Outcome
-imported_to h ls = imported short_name h (text_of_lines ls) false
+imported_to = imported_asking no_features
 
 -- into an empty repository
 abbrev pub imported_lines : List Bytes → Outcome

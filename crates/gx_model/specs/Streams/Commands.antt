@@ -1,10 +1,15 @@
 -- The commands of a stream. Source: git-fast-import(1), "Commands".
-use Rattle.std.specs.Prelude.{ℕ, suc, List, length, Option}
+use Rattle.std.specs.Prelude.{ℕ, suc, false, List, length, Option}
 use Rattle.gx_model.specs.declared.faults.Fault.{Fault}
 use Rattle.gx_model.specs.declared.objects.Mode.{Mode}
 use Rattle.gx_model.specs.Texts.{Bytes}
 use Rattle.gx_model.specs.Texts.Paths.{Path}
 use Rattle.gx_model.specs.declared.features.Feature.{Feature}
+use Rattle.gx_model.specs.declared.features.Features.{Features}
+
+-- no feature is asked for as if a stream began with it
+abbrev pub no_features : Features
+no_features = record { done = false; force = false }
 
 -- what names a commit: a mark, or a text that is read when the command is applied
 pub data CommitIsh : Type 0 where

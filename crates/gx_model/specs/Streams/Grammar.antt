@@ -17,7 +17,8 @@ use Rattle.gx_model.specs.declared.objects.Mode.{Mode}
 use Rattle.gx_model.specs.declared.objects.Mode.TheVariants as modes
 use Rattle.gx_model.specs.declared.features.Feature.{Feature}
 use Rattle.gx_model.specs.declared.features.Feature.TheVariants as features
-use Rattle.gx_model.specs.Streams.Commands.{CommitIsh, Marked, Named, DataRef, Mark, Object, Inline, Change, Modify, Remove, Copy, Rename, Clear, Command, Blob, Commit, Tag, Reset, Checkpoint, Progress, Asks, OptionLine, Done, Commands}
+use Rattle.gx_model.specs.declared.features.Features.{Features}
+use Rattle.gx_model.specs.Streams.Commands.{CommitIsh, Marked, Named, DataRef, Mark, Object, Inline, Change, Modify, Remove, Copy, Rename, Clear, Command, Blob, Commit, Tag, Reset, Checkpoint, Progress, Asks, OptionLine, Done, Commands, no_features}
 
 -- what some first items give, with the items after them, or the first fault
 abbrev pub Read : Type 0 → Type 0
@@ -449,6 +450,14 @@ commands_within (suc n) before (Line (b ∷ bs) ∷ more) end =
       by (Err f) again = stops (Some f)
       by (Ok x) again = if is_done x.0 then with_first x.0 (stops None) else with_first x.0 (again x.0 x.1)
 
+-- the commands that ask for these features
+abbrev pub asked : Features → List Command
+asked f = (if f.done then Asks features.Done ∷ [] else []) ++ (if f.force then Asks features.Force ∷ [] else [])
+
+-- the commands of items with their end, where these features are asked for as if commands before them had asked
+abbrev pub commands_asked : Features → Stream → Commands
+commands_asked f s = commands_within (length s.items) (asked f) s.items s.end
+
 -- the commands of items with their end
 abbrev pub commands_of : Stream → Commands
-commands_of s = commands_within (length s.items) [] s.items s.end
+commands_of = commands_asked no_features

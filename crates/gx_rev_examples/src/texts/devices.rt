@@ -125,6 +125,52 @@ impl<'a> Read for Broken<'a> {
     }
 }
 
+// A reader or a writer that fails at once, and works from then on.
+#[derive(Drop)]
+struct Mended {
+    has_failed: bool,
+}
+
+impl Mended {
+    fn answer(&mut self, count: usize) -> IoResult<usize> {
+        if self.has_failed {
+            return Ok(count);
+        }
+        self.has_failed = true;
+        Err(Error::from(ErrorKind::StorageFull))
+    }
+}
+
+impl Read for Mended {
+    fn read(&mut self, buf: &mut [u8]) -> IoResult<usize> {
+        self.answer(buf.len())
+    }
+}
+
+impl Write for Mended {
+    fn write(&mut self, buf: &[u8]) -> IoResult<usize> {
+        self.answer(buf.len())
+    }
+
+    fn flush(&mut self) -> IoResult<()> {
+        Ok(())
+    }
+}
+
+const MENDED: &[Pull] = &[Err(Failed), Err(Failed)];
+
+#[test]
+fn a_failed_source_stays_failed(rt: HostRuntime) {
+    let mut source = FromRead::new(Mended { has_failed: false });
+    assert!(rt; are_pulled(&mut source, 8, MENDED));
+}
+
+#[test]
+fn a_failed_sink_of_the_system_stays_failed(rt: HostRuntime) {
+    let mut sink = IntoWrite::new(Mended { has_failed: false });
+    assert!(rt; are_sent(&mut sink, &[(b"ab", Err(0)), (b"c", Err(0))]));
+}
+
 #[test]
 fn failing_read_is_no_end(rt: HostRuntime) {
     let mut source = FromRead::new(Broken { bytes: b"abcde" });

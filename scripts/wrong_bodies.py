@@ -1,50 +1,86 @@
 #!/usr/bin/env python3
-"""Compares the wrong bodies that docs/ASSURANCE.md names with the edits in crates/*/must-fail/.
+"""Counts the wrong bodies, and tries those that the gate leaves out.
 
-    scripts/wrong_bodies.py           prints how many stand in each crate
-    scripts/wrong_bodies.py --check   ends with 1 where a name stands on one side alone
+A wrong body is an edit of the code that the proof of its crate has to refuse. Those in crates/NAME/must-fail/ are tried by
+`rt ci`; the others stand beside them in crates/NAME/wrong/.
+
+    scripts/wrong_bodies.py                   prints how many stand in each folder, a crate a line
+    scripts/wrong_bodies.py --check           ends with 1 where docs/ASSURANCE.md tells other numbers
+    scripts/wrong_bodies.py --all [CRATE..]   tries those in wrong/, over what `rt check` proved; ends with 1 where one isn't refused
 """
 
+import os
 import re
+import shutil
+import subprocess
 import sys
+import tempfile
 from pathlib import Path
 
 TOP = Path(__file__).resolve().parent.parent
 PAGE = TOP / "docs" / "ASSURANCE.md"
-
-
-def section(text, heading):
-    """The text below a heading, up to the next one of its rank."""
-    return re.split(r"^## ", text.split(f"\n## {heading}\n", 1)[1], maxsplit=1, flags=re.M)[0]
-
-
-def named():
-    """The names on the page, as pairs of a crate and a wrong body: those behind the colon of each entry of a list."""
-    names = set()
-    for block in section(PAGE.read_text(), "Wrong bodies").split("\n### ")[1:]:
-        crate = block.split("\n", 1)[0]
-        for entry in re.findall(r"^- (.*(?:\n  .*)*)", block, re.M):
-            names |= {(crate, name) for name in re.findall(r"`(\w+)`", entry.split(": ", 1)[1])}
-    return names
+FOLDERS = ("must-fail", "wrong")
+# as many are tried at once as the machine has processors, and at most so many
+MOST_AT_ONCE = 4
 
 
 def standing():
-    """The edits that the gate tries."""
-    return {(file.parts[-3], file.stem) for file in TOP.glob("crates/*/must-fail/*.edit")}
+    """For each crate that has any, how many wrong bodies stand in either folder."""
+    counts = {}
+    for crate in sorted((TOP / "crates").iterdir()):
+        found = tuple(len(list((crate / folder).glob("*.edit"))) for folder in FOLDERS)
+        if any(found):
+            counts[crate.name] = found
+    return counts
 
 
-def main():
-    page, tree = named(), standing()
-    if "--check" not in sys.argv[1:]:
-        for crate in sorted({crate for crate, _ in tree}):
-            print(crate, sum(1 for other, _ in tree if other == crate))
-        return
-    for crate, name in sorted(page - tree):
-        print(f"named in docs/ASSURANCE.md, and no edit of {crate}: {name}", file=sys.stderr)
-    for crate, name in sorted(tree - page):
-        print(f"an edit of {crate}, and not named in docs/ASSURANCE.md: {name}", file=sys.stderr)
-    sys.exit(0 if page == tree else 1)
+def told():
+    """The same, as the table of the page has it."""
+    section = PAGE.read_text().split("\n## Wrong bodies\n", 1)[1].split("\n## ", 1)[0]
+    rows = re.findall(r"^\| `(\w+)` \| (\d+) \| (\d+) \|$", section, re.M)
+    return {crate: (int(tried), int(left)) for crate, tried, left in rows}
+
+
+def check():
+    page, tree = told(), standing()
+    for crate in sorted(page.keys() | tree.keys()):
+        if page.get(crate) != tree.get(crate):
+            print(f"{crate}: docs/ASSURANCE.md tells {page.get(crate)}, and {tree.get(crate)} stand", file=sys.stderr)
+    return 0 if page == tree else 1
+
+
+def copy_for_trying(room):
+    """A copy of the sources in which the bodies of wrong/ stand in the place of those that the gate tries."""
+    for name in ("crates.txt", "HANDLES"):
+        shutil.copy2(TOP / name, room / name)
+    leave = shutil.ignore_patterns("out", "must-fail")
+    shutil.copytree(TOP / "crates", room / "crates", ignore=leave, symlinks=True)
+    for folder in room.glob("crates/*/wrong"):
+        folder.rename(folder.with_name("must-fail"))
+
+
+def try_all(names):
+    crates = [name for name, (_, left) in standing().items() if left and (not names or name in names)]
+    for name in set(names) - set(crates):
+        sys.exit(f"no wrong bodies in crates/{name}/wrong/")
+    at_once = str(min(MOST_AT_ONCE, len(os.sched_getaffinity(0))))
+    with tempfile.TemporaryDirectory(prefix="wrong-bodies-") as room:
+        copy_for_trying(Path(room))
+        environment = {**os.environ, "RT_JOBS": os.environ.get("RT_JOBS", at_once)}
+        return subprocess.run(["rt", "must-fail", *crates], cwd=room, env=environment).returncode
+
+
+def main(words):
+    if words[:1] == ["--all"]:
+        return try_all(words[1:])
+    if words == ["--check"]:
+        return check()
+    if words:
+        sys.exit(__doc__)
+    for crate, (tried, left) in standing().items():
+        print(crate, tried, left)
+    return 0
 
 
 if __name__ == "__main__":
-    main()
+    sys.exit(main(sys.argv[1:]))

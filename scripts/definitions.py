@@ -1,10 +1,12 @@
 #!/usr/bin/env python3
-"""Makes docs/DEFINITIONS.md from the crates' definitions.
+"""Lists the definitions of the crates, and looks after the index of those to read first.
 
-    scripts/definitions.py           writes the page
-    scripts/definitions.py --check   ends with 1 where the page isn't what it would write
+    scripts/definitions.py           prints every definition, by crate and file, as Markdown
+    scripts/definitions.py --check   ends with 1 where docs/DEFINITIONS.md names one that isn't there
 
-What stands above the line `MADE_FROM_HERE` on the page is written by hand, and kept.
+A row has the name, its type or what it stands for (`= List Path`), or the fields of a `record` or the
+constructors of a `data`, and the comment above it in the file. Rows under `Given` take what is named
+there as their first arguments. Where a file names no source, its definitions are this project's own.
 """
 
 import re
@@ -13,7 +15,7 @@ from pathlib import Path
 
 TOP = Path(__file__).resolve().parent.parent
 PAGE = TOP / "docs" / "DEFINITIONS.md"
-MADE_FROM_HERE = "<!-- What follows is made by scripts/definitions.py. -->"
+ENTRY = re.compile(r"^\d+\. `([^`]+)`, `([^`]+)`: ", re.M)
 
 HEAD = re.compile(r"^ *(?:abbrev |unfoldable )?pub (?P<what>record |data )?(?P<name>[^\s:]+)(?P<rest>.*)$")
 BLOCK = re.compile(r"^ *(?:abbrev |unfoldable )?mutual$")
@@ -173,14 +175,25 @@ def made():
     return "\n".join(text) + "\n"
 
 
+def missing():
+    """The entries of the index that name no definition of their file."""
+    for name, file in ENTRY.findall(PAGE.read_text()):
+        path = TOP / "crates" / file
+        names = [row[1] for row in rows_of(path.read_text().splitlines())] if path.exists() else []
+        if name not in names:
+            yield f"{name}, {file}"
+
+
 def main():
-    old = PAGE.read_text()
-    new = old[: old.index(MADE_FROM_HERE)] + MADE_FROM_HERE + "\n" + made()
     if "--check" not in sys.argv[1:]:
-        PAGE.write_text(new)
-    elif old != new:
-        print("docs/DEFINITIONS.md isn't what scripts/definitions.py makes", file=sys.stderr)
-        sys.exit(1)
+        print(made(), end="")
+        return
+    found = list(missing())
+    for entry in found:
+        print(f"in docs/DEFINITIONS.md, and not in the sources: {entry}", file=sys.stderr)
+    if not ENTRY.search(PAGE.read_text()):
+        sys.exit("docs/DEFINITIONS.md has no entry")
+    sys.exit(1 if found else 0)
 
 
 if __name__ == "__main__":

@@ -34,7 +34,7 @@ import tempfile
 from pathlib import Path
 
 TOP = Path(__file__).resolve().parent.parent
-PAGES = ["README.md", "docs/CONVERTING.md", "docs/FAULTS.md", "docs/gx.1"]
+PAGES = ["README.md", "docs/CONVERTING.md", "docs/FAULTS.md", "docs/STORE.md", "docs/gx.1"]
 END = "\036"
 MAIN = """commit refs/heads/main
 committer A <a@x> 1 +0000

@@ -15,6 +15,7 @@ more of it:
     <!-- file: NAME -->     the block is put into a file of this name
     <!-- needs: PROGRAM --> it is run only where this program is installed
     <!-- not run: WHY -->   it isn't run here
+    <!-- at the top of the repository -->  it is run there
 
 The manual has such comments, too. The folder `project` is there: a git repository with four commits
 on main, of README.md and other files, and a tag v1.0.
@@ -34,7 +35,14 @@ import tempfile
 from pathlib import Path
 
 TOP = Path(__file__).resolve().parent.parent
-PAGES = ["README.md", "docs/CONVERTING.md", "docs/FAULTS.md", "docs/STORE.md", "docs/gx.1"]
+PAGES = [
+    "README.md",
+    "docs/ASSURANCE.md",
+    "docs/CONVERTING.md",
+    "docs/FAULTS.md",
+    "docs/STORE.md",
+    "docs/gx.1",
+]
 END = "\036"
 MAIN = """commit refs/heads/main
 committer A <a@x> 1 +0000
@@ -167,6 +175,8 @@ def session_of(page, text):
         elif word == "file":
             session.put(rest, block)
         else:
+            if comment == "at the top of the repository":
+                session.add(first, 'cd "$GINLARCH"', [])
             for command, shown in commands_of(block):
                 session.add(first, command, shown)
     return session, left_out

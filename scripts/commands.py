@@ -46,6 +46,12 @@ def synopsis():
     return found
 
 
+def of_all_commands():
+    """The options that stand before each command, without their hyphens."""
+    heads = re.findall(r"^\.TP\n(.*)$", shown(section("OPTIONS")), re.M)
+    return {name for head in heads for name in re.findall(r"--([\w-]+)", head)}
+
+
 def told_below():
     """The commands that the manual's part COMMANDS tells of, each with the options told there."""
     found = {}
@@ -127,7 +133,16 @@ def differences():
         yield f"options of {name}: synopsis, its part", options[name], long_names(below[name])
     sources, flags = named_by_sources()
     yield "commands: the manual, the sources of the help", names, set(sources)
+    top = of_all_commands()
+    flags -= {f"--{name}" for name in top}
     yield "options: the manual, the sources of the help", set().union(*options.values()), flags
+    for what, text in (
+        ("the sources of the help", COMMANDS + PAGES),
+        ("bash", BASH.split("\n_gx() {")[1]),
+        ("zsh", ZSH.split("\n_gx() {")[1]),
+    ):
+        found = {name for name in top - {"help"} if re.search(rf"\b{name}\b", text)}
+        yield f"options before a command: the manual, {what}", top - {"help"}, found
     for shell, (listed, found) in (("bash", completed_by_bash()), ("zsh", completed_by_zsh())):
         yield f"commands: the manual, {shell}", names, set(listed) - {"help"}
         for name in names:

@@ -57,6 +57,9 @@ line() {
 }
 
 line 'gx ' blobs try adapt where init import export show ls batch refs log rev-parse help --help
+line 'gx -' --help --explain --version
+line 'gx --explain im' import
+line 'gx --explain import st' store
 line 'gx r' refs rev-parse
 line 'gx x'
 line 'gx help l' ls log
@@ -67,6 +70,11 @@ line 'gx adapt '
 line 'gx w' where
 line 'gx where '
 line 'gx where -' --help
+line 'gx import -' --done --force --help
+line 'gx try -' --done --force --help
+line 'gx import --done st' store
+line 'gx import store < st'
+line 'gx export store > st'
 line 'gx ls -' -r --recursive --help
 line 'gx batch -' --check --help
 line 'gx batch --check st' store

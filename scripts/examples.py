@@ -44,6 +44,8 @@ PAGES = [
     "docs/gx.1",
 ]
 END = "\036"
+# a line of standard error that tells what was done
+REPORT = re.compile(r"gx: (adapt: the stream ended with|[a-zA-Z0-9 ]+: \d+$)")
 MAIN = """commit refs/heads/main
 committer A <a@x> 1 +0000
 data 2
@@ -154,7 +156,7 @@ class Session:
         return failed + missing
 
     def holds(self, first, command, shown, printed, status):
-        refused = any(line.startswith("gx: ") for line in shown)
+        refused = any(line.startswith("gx: ") and not REPORT.match(line) for line in shown)
         while shown and not shown[-1]:
             shown.pop()
         good = refused or not status.replace("0", "").strip()

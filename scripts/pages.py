@@ -6,7 +6,7 @@
     scripts/pages.py --twice   prints these runs
     scripts/pages.py --long    prints the sentences of more than 30 words
     scripts/pages.py --check   ends with 1 where a page is too long, a line or a sentence is, or a
-                               link leads nowhere
+                               link or the name of a file leads nowhere
 """
 
 import re
@@ -17,6 +17,7 @@ from pathlib import Path
 TOP = Path(__file__).resolve().parent.parent
 LINES = {"README.md": 150, "docs/BENCHMARKS.md": 150}
 COLUMNS, WORDS, RUN = 100, 30, 10
+KIT = {"START-HERE.md", "CONTRACTS.md"}
 
 
 def pages():
@@ -140,6 +141,15 @@ def dead_links(page):
             yield link
 
 
+def missing_files(page):
+    """The files that a page names in code, and that aren't there. The kit's guides are elsewhere."""
+    for name in re.findall(r"`([\w./-]+\.(?:rt|antt|sh|py|md|dot|gp|tsv|svg))`", page.read_text()):
+        places = (TOP / name, TOP / "docs" / name, TOP / "crates" / name)
+        deep = [*TOP.glob(f"crates/*/{name}"), *TOP.glob(f"crates/*/*/**/{name}"), *TOP.glob(f"bench/{name}")]
+        if name not in KIT and not deep and not any(place.exists() for place in places):
+            yield name
+
+
 def faults_of(page):
     lines, name = page.read_text().splitlines(), name_of(page)
     if len(lines) > LINES.get(name, len(lines)):
@@ -153,6 +163,8 @@ def faults_of(page):
     if page.suffix == ".md":
         for link in dead_links(page):
             yield f"{name}: a link that leads nowhere: {link}"
+        for file in missing_files(page):
+            yield f"{name}: a file that isn't there: {file}"
 
 
 def tell():

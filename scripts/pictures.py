@@ -62,7 +62,7 @@ def faults():
             yield f"docs/{picture} is of other sources: run scripts/pictures.py"
     stands = crates()
     drawn, beside = drawn_crates()
-    for name in sorted(set(stands) ^ (set(drawn) | beside)):
+    for name in sorted((set(stands) - beside) ^ set(drawn)):
         yield f"in crates.txt or in docs/layers.dot alone: {name}"
     for name in sorted(set(drawn) & set(stands)):
         for other in sorted(drawn[name] ^ stands[name]):

@@ -26,6 +26,7 @@ Its examples of each heading are run with this text as `stream`, and with FILE, 
 on main; one below a refused revision has to be refused so.
 """
 
+import atexit
 import os
 import re
 import shutil
@@ -270,6 +271,7 @@ def environment_of(gx, folder):
 
 def made_without_proofs():
     folder = tempfile.mkdtemp(prefix="examples-gx-")
+    atexit.register(shutil.rmtree, folder)
     subprocess.run([TOP / "scripts" / "unproved.sh", folder], check=True)
     return f"{folder}/gx"
 

@@ -93,9 +93,11 @@ def completed_by_bash():
 
 def completed_by_zsh():
     body = ZSH.split("_gx_operands_of_command() {", 1)[1].split("\n}", 1)[0]
+    for name, words in re.findall(r"^  local -a (\w+)=\((.*?)\)$", body, re.M | re.S):
+        body = re.sub(rf"\${name}\b", lambda _, words=words: words, body)
     found = {}
     for names, answers in re.findall(r"^    ([\w| -]+)\)\s(.*?);;$", body, re.M | re.S):
-        options = set(re.findall(r"(?<![\w-])--?[a-z][\w-]*(?=[\[,} )])", answers))
+        options = set(re.findall(r"(?<![\w-])--?[a-z][\w-]*(?=[\[,} )])", answers)) - {"--help"}
         for name in names.split("|"):
             found[name.strip()] = options
     listed = ZSH.split("local -a commands=(", 1)[1].split("\n  )", 1)[0]

@@ -9,6 +9,7 @@ pub mod Leaves
 pub mod Unrolled
 pub mod Steps
 pub mod NextCommands
+pub mod AskedCommands
 pub mod TakenItems
 pub mod BroughtGitlinks
 pub mod PassedCommands

@@ -91,7 +91,7 @@ abbrev pub ArePassed : ℕ → State → Option Stream → Option Stream → Typ
 ArePassed passed state None now = Unit {0}
 ArePassed passed state (Some s) now = (before : List model.Command) × (t : Stream) × (now ≡ Some t) × StandsAfter before state × ((n : ℕ) → left_behind (passed + n) [] s ≡ left_behind n before t)
 
-pub passed_none : (old : Option Stream) → ArePassed 0 at_start old old
+pub passed_none : (old : Option Stream) → ArePassed 0 (at_start model.no_features) old old
 passed_none None = tt
 passed_none (Some s) = ([], s, refl, (refl, refl, refl), λ n. ap (λ k. left_behind k [] s) (omega arith))
 

@@ -4,6 +4,7 @@ use Rattle.std.specs.List.{list_all, list_any}
 use Rattle.gx_model.specs.Faults.{Given, ◌>>=◌}
 use Rattle.gx_model.specs.Streams.Items.{Item, Line, Data, Stream}
 use Rattle.gx_model.specs.declared.faults.Fault.TheVariants as model
+use Rattle.gx_model.specs.declared.features.Features.{Features}
 use Rattle.gx_model.specs.Streams.Commands.{Command, Commands}
 use Rattle.gx_model.specs.Streams.Grammar.{Read, asks_done, commands_of, commands_within, is_done, is_option, stops}
 use Rattle.gx_command.specs.CommandFaults.{fault_of}
@@ -78,9 +79,9 @@ TellsBehind n (Some s) (Err (AtCommand command f)) = FailsAt n command f s
 
 -- ---- the steps
 
--- a reader that has read no command yet
-abbrev pub at_start : State
-at_start = Open (record { are_all = true; needs_done = false })
+-- a reader that has read no command yet, where these features are asked for
+abbrev pub at_start : Features → State
+at_start f = Open (record { are_all = true; needs_done = f.done })
 
 -- n commands were read, or there are fewer
 abbrev pub Passes : ℕ → Option Stream → Option Stream → Result Bool BehindFault → Type 0

@@ -2,13 +2,14 @@
 use Rattle.std.specs.Prelude.{◌≡◌, ℕ, ◌<◌, ◌≤◌, ◌⊎◌, IsTrue, IfOk, IfSome, ◌&&◌, ◌||◌, if◌then◌else◌, List, [], ◌∷◌, ◌++◌, length, Option, Some, None, Result, Ok, Err}
 use Rattle.std.specs.Option.{option_map}
 use Rattle.gx_model.specs.declared.features.Feature.TheVariants as features
+use Rattle.gx_model.specs.declared.features.Features.{Features}
 use Rattle.gx_model.specs.declared.faults.Fault.TheVariants as faults
 use Rattle.gx_model.specs.Faults.{◌>>=◌}
 use Rattle.gx_model.specs.Streams.Gitlinks.{BringsNoNullGitlink}
 use Rattle.gx_model.specs.Streams.Items.{Stream}
 use Rattle.gx_model.specs.Streams.Commands as model
-use Rattle.gx_model.specs.Streams.Commands.{Commands}
-use Rattle.gx_model.specs.Streams.Grammar.{Read, commands_of, commands_within, is_done, is_option, asks_done, stops, with_first}
+use Rattle.gx_model.specs.Streams.Commands.{Commands, no_features}
+use Rattle.gx_model.specs.Streams.Grammar.{Read, commands_asked, commands_within, is_done, is_option, asks_done, stops, with_first}
 use Rattle.gx_text.specs.Devices.{Coming}
 use Rattle.gx_stream.specs.Heard.{items_from}
 use Rattle.gx_command.specs.CommandFaults.{fault_of}
@@ -28,9 +29,13 @@ pub record Seen : Type 0 where
   pub most : ℕ
   pub over : Option (Option CommandFault)
 
--- the commands of all that a source gives
+-- the commands of all that a source gives, where these features are asked for as if it began with them
+abbrev pub commands_asked_from : Features → Coming → Commands
+commands_asked_from f c = commands_asked f (items_from c)
+
+-- where none are
 abbrev pub commands_from : Coming → Commands
-commands_from c = commands_of (items_from c)
+commands_from = commands_asked_from no_features
 
 -- Where the commands to come are known, the first is answered and the others are left. A fault other than want of memory
 -- is answered only where it is the end that comes next, and it is all that is left then. So is the end.

@@ -10,6 +10,7 @@ ghost use Rattle.gx_command.specs.Behind.{TellsBehind, Passes, CountsLeft, is_em
 use crate::ahead::Ahead;
 use crate::fault::CommandFault;
 use crate::reader::{State, next_command};
+use gx_model::Features;
 use gx_stream::Item;
 use gx_text::Source;
 use std::alloc::Allocator;
@@ -61,7 +62,7 @@ impl<R: Source, A: Allocator + Copy> Ahead<R, A> {
         ensures passes { Passes commands (to_come self.old) (to_come self.new) result }
         ensures falls { OnOk result (most self.new ≤ most self.old) }
     {
-        let mut state = State::at_start();
+        let mut state = State::at_start(Features::none());
         let mut passed = 0;
         while passed < commands {
             let State::Open(options) = state else {

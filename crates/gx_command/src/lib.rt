@@ -18,6 +18,6 @@ mod texts;
 pub use behind::{BehindFault, items_behind};
 pub use commands::{Blob, Change, Command, Commit, CommitIsh, DataRef, Modify, Reset, Tag};
 pub use fault::CommandFault;
-pub use gx_model::Feature;
+pub use gx_model::{Feature, Features};
 pub use reader::CommandReader;
 pub use texts::{Digits, Encoding, Identity, RefName, TagName};

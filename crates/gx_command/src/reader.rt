@@ -4,13 +4,13 @@ ghost use Rattle.std.specs.Prelude.{◌≡◌, ◌-◌, ◌^◌, None};
 ghost use Rattle.std.specs.Option.{option_map};
 ghost use Rattle.gx_command.specs.Ahead.{most, ReadsOn, Falls as FallsAhead};
 ghost use Rattle.gx_command.specs.Behind.{at_start};
-ghost use Rattle.gx_command.specs.Reading.{Reads, ReadsNoNullGitlink, Finishes, Falls, Repeats, commands_from, next_after, over_after, state_after};
+ghost use Rattle.gx_command.specs.Reading.{Reads, ReadsNoNullGitlink, Finishes, Falls, Repeats, commands_asked_from, commands_from, next_after, over_after, state_after};
 ghost use Rattle.gx_command.specs.Views.{shown_command};
 
 use crate::ahead::Ahead;
 use crate::commands::Command;
 use crate::fault::CommandFault;
-use gx_model::Feature;
+use gx_model::{Feature, Features};
 use gx_text::Source;
 use std::alloc::Allocator;
 use std::marker::Model;
@@ -20,7 +20,7 @@ use std::marker::Model;
 pub(crate) struct Options {
     /// No other command came.
     are_all: bool,
-    /// `feature done` is among them.
+    /// `feature done` is among them, or was asked for as if it were.
     needs_done: bool,
 }
 
@@ -56,9 +56,20 @@ impl<R: Source, A: Allocator + Copy> CommandReader<R, A> {
         ensures most { result.most ≡ 2 ^ 63 - 1 }
         ensures over { result.over ≡ None }
     {
+        CommandReader::asking(alloc, source, Features::none())
+    }
+
+    /// A reader of all the commands of a source, where these features are asked for as if it began with them. Options that
+    /// come first are early, and no command is added. Takes no memory and constant time, and nothing is pulled yet.
+    /// Source: git-fast-import(1), "--done".
+    pub fn asking(alloc: A, source: R, features: Features) -> CommandReader<R, A>
+        ensures commands { result.commands ≡ option_map (commands_asked_from features) (R.coming source) }
+        ensures most { result.most ≡ 2 ^ 63 - 1 }
+        ensures over { result.over ≡ None }
+    {
         CommandReader {
             ahead: Ahead::new(alloc, source),
-            state: State::at_start(),
+            state: State::at_start(features),
         }
     }
 
@@ -119,13 +130,13 @@ pub(crate) fn next_command<R: Source, A: Allocator + Copy>(
 }
 
 impl State {
-    /// No command came yet.
-    pub(crate) fn at_start() -> State
-        ensures { result ≡ at_start }
+    /// No command came yet, and these features are asked for.
+    pub(crate) fn at_start(features: Features) -> State
+        ensures { result ≡ at_start features }
     {
         State::Open(Options {
             are_all: true,
-            needs_done: false,
+            needs_done: features.done,
         })
     }
 }

@@ -31,4 +31,4 @@ pub returns-clause-passes : goal.returns-clause-passes
 returns-clause-passes g c = passes_all _ _ _ _ _ (omega (arith, c.loop-passed.invariant.within, c.loop-passed-test.false)) c.loop-passed.invariant.passed
 
 pub loop-passed-init : goal.loop-passed-init
-loop-passed-init g c = record { passed = rw c.at_start-state.ensures (passed_none _); within = omega arith; falls = omega arith }
+loop-passed-init g c = record { passed = rw (c.at_start-state.ensures, c.none.ensures) (passed_none _); within = omega arith; falls = omega arith }

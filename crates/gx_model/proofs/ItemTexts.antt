@@ -24,7 +24,7 @@ no_delimiter : (ds : Bytes) → AreDigits ds → IsNot delimiter_text ds
 no_delimiter ds h x is = false≢true (sym (ap (list_all is_ascii_digit) is) ∙ h)
 
 -- an item's text begins with this item
-item_spelled : (i : Item) (rest : Bytes) → IsItem i → Spells (item_text i ++ rest) false i rest
+pub item_spelled : (i : Item) (rest : Bytes) → IsItem i → Spells (item_text i ++ rest) false i rest
 item_spelled (Line l) rest h =
     ((no_lf l h.line, inl (append_assoc l (10 ∷ []) rest)), not_form (codes "#") l h.no_comment, not_form (codes "data ") l h.no_data)
 item_spelled (Data x) rest h =

@@ -2,7 +2,6 @@
 use Rattle.std.proofs.Common.{◌≡◌, ℕ, zero, suc, ◌≤◌, Bool, List, [], ◌∷◌, ◌++◌, length, Option, Some, None, Ok, Err, refl, sym, ap, subst, ◌∙◌, arith}
 use Rattle.std.specs.Prelude.{◌&&◌, ◌||◌, if◌then◌else◌}
 use Rattle.std.specs.List.{list_any, list_all}
-use Rattle.std.proofs.lemmas.Grind.{common_steps}
 use Rattle.gx_model.specs.Texts.{Bytes}
 use Rattle.gx_model.specs.Streams.Items.{Item, Line, Data, End, Finished, Failed, Stream}
 use Rattle.gx_model.specs.Streams.Commands.{Command, Commands}
@@ -31,28 +30,6 @@ enough_commands (suc n) (suc m) before (Line (b ∷ bs) ∷ more) end p q = by (
   by (Ok x) e again =
       let left = command_left (list_all is_option before) (b ∷ bs) (record { items = more; end = end }) x e in
       rw e (ap (λ cs. if is_done x.0 then with_first x.0 (stops None) else with_first x.0 cs) (again x.0 x.1 (omega arith) (omega arith)))
-
--- ---- of the commands before, two things play a part
-
-pub all_more : (p : Command → Bool) (before : List Command) (c : Command) → list_all p (before ++ c ∷ []) ≡ (list_all p before && p c)
-all_more p before c = grind (arith, common_steps)
-
-pub any_more : (p : Command → Bool) (before : List Command) (c : Command) → list_any p (before ++ c ∷ []) ≡ (list_any p before || p c)
-any_more p before c = grind (arith, common_steps)
-
-pub same_before : (n : ℕ) (front before : List Command) (items : List Item) (end : End) → list_all is_option front ≡ list_all is_option before → list_any asks_done front ≡ list_any asks_done before → commands_within n front items end ≡ commands_within n before items end
-unfolding commands_within
-same_before n front before [] Finished p q = rw q refl
-same_before n front before [] (Failed f) p q = refl
-same_before zero front before (i ∷ more) end p q = refl
-same_before (suc n) front before (Data b ∷ more) end p q = refl
-same_before (suc n) front before (Line [] ∷ more) end p q = same_before n front before more end p q
-same_before (suc n) front before (Line (b ∷ bs) ∷ more) end p q = by (command_at (list_all is_option before) (words_of (b ∷ bs)) (record { items = more; end = end })) refl (λ c t. same_before n (front ++ c ∷ []) (before ++ c ∷ []) t.items t.end (all_more is_option front c ∙ ap (λ a. a && is_option c) p ∙ sym (all_more is_option before c)) (any_more asks_done front c ∙ ap (λ a. a || asks_done c) q ∙ sym (any_more asks_done before c))) where
-  by : (r : Read Command) → command_at (list_all is_option before) (words_of (b ∷ bs)) (record { items = more; end = end }) ≡ r
-      → ((c : Command) (t : Stream) → commands_within n (front ++ c ∷ []) t.items t.end ≡ commands_within n (before ++ c ∷ []) t.items t.end)
-      → commands_within (suc n) front (Line (b ∷ bs) ∷ more) end ≡ commands_within (suc n) before (Line (b ∷ bs) ∷ more) end
-  by (Err f) e again = rw (p, e) refl
-  by (Ok x) e again = rw (p, e) (ap (λ cs. if is_done x.0 then with_first x.0 (stops None) else with_first x.0 cs) (again x.0 x.1))
 
 -- ---- the first command
 

@@ -1,5 +1,5 @@
 -- A body is read once: each entry is tested against the next one and the bytes behind that.
-use Rattle.std.proofs.Common.{◌≡◌, ◌<◌, Bool, true, false, cond, not, eqb, List, [], ◌∷◌, length, Option, Some, None, refl, sym, ap, ◌∙◌, arith}
+use Rattle.std.proofs.Common.{◌≡◌, ℕ, ◌<◌, Bool, true, false, cond, not, eqb, List, [], ◌∷◌, length, Option, Some, None, refl, sym, ap, ◌∙◌, arith}
 use Rattle.std.specs.Prelude.{◌&&◌, nat_eq}
 use Rattle.std.specs.List.{starts_with}
 use Rattle.std.specs.Option.{is_some, option_map, unwrap_or}
@@ -8,9 +8,10 @@ use Rattle.std.proofs.lemmas.Bool.Decides.{nat_tests}
 use Rattle.gx_model.specs.Texts.{Bytes, same_bytes}
 use Rattle.gx_model.specs.Texts.Paths.{is_component}
 use Rattle.gx_model.specs.Objects.{Entry, is_canonical, is_dir}
-use Rattle.gx_object.specs.Order.{are_ordered, leads, meets}
-use Rattle.gx_object.specs.Trees.{◌>>=◌, entry_at, entries_within, entries_of, entries_left, goes_on, is_tree}
+use Rattle.gx_object.specs.Order.{are_ordered, leads, meets, meets_any}
+use Rattle.gx_object.specs.Trees.{◌>>=◌, entry_at, entries_within, entries_of, entries_left, goes_on_past, is_tree}
 use Rattle.gx_object.proofs.Bodies.{entries_step, entries_stop}
+use Rattle.gx_object.proofs.MetFiles.{meets_nothing}
 use Rattle.gx_object.proofs.Orders.{ordered_is}
 
 -- a test of the entries that were read, where there are any
@@ -27,11 +28,16 @@ tree_is body = shows (entries_of body) where
   shows None = refl
   shows (Some es) = guarded (is_canonical es) es ∙ sym (ordered_is es)
 
-pub tree_first : (body : Bytes) (x : Entry × Bytes) → entry_at body ≡ Some x → goes_on x.0 x.1 ≡ is_tree body
-tree_first body x e = sym (tree_is body ∙ ap (holds are_ordered) (entries_step body x e) ∙ shows (entries_of x.1)) where
-  shows : (o : Option (List Entry)) → holds are_ordered (o >>= λ es. Some (x.0 ∷ es)) ≡ holds (λ es. are_ordered (x.0 ∷ es)) o
+pub tree_first : (body : Bytes) (is_file : List Bool) (x : Entry × Bytes) → entry_at body ≡ Some x → goes_on_past 0 is_file x.0 x.1 ≡ is_tree body
+unfolding meets_any
+tree_first body is_file x e = sym (tree_is body ∙ ap (holds are_ordered) (entries_step body x e) ∙ shows (entries_of x.1)) where
+  none : (b : Bool) → b ≡ (b && true)
+  none true = refl
+  none false = refl
+
+  shows : (o : Option (List Entry)) → holds are_ordered (o >>= λ es. Some (x.0 ∷ es)) ≡ holds (λ es. are_ordered (x.0 ∷ es) && not (meets_any 0 is_file x.0.component es)) o
   shows None = refl
-  shows (Some es) = refl
+  shows (Some es) = none (are_ordered (x.0 ∷ es))
 
 some_left : (bytes : Bytes) → eqb (length bytes) 0 ≡ false → 0 < length bytes
 some_left [] h = absurd (false≢true (sym h))
@@ -47,33 +53,52 @@ tree_none (b ∷ body) e =
     let some : eqb (length (b ∷ body)) 0 ≡ false = grind (arith, nat_tests) in
     some ∙ sym (tree_is (b ∷ body) ∙ none_left are_ordered (b ∷ body) e some)
 
-pub goes_more : (e : Entry) (bytes : Bytes) (x : Entry × Bytes) → entry_at bytes ≡ Some x → (is_some (entries_of x.1) ≡ true → true ≡ leads e (x.0 ∷ entries_left x.1)) → goes_on x.0 x.1 ≡ goes_on e bytes
-unfolding are_ordered
-goes_more e bytes x is h = sym (ap (holds (λ es. are_ordered (e ∷ es))) (entries_step bytes x is) ∙ shows (entries_of x.1) h) where
-  shows : (o : Option (List Entry)) → (is_some o ≡ true → true ≡ leads e (x.0 ∷ unwrap_or o [])) → holds (λ es. are_ordered (e ∷ es)) (o >>= λ es. Some (x.0 ∷ es)) ≡ holds (λ es. are_ordered (x.0 ∷ es)) o
-  shows None h = refl
-  shows (Some es) h = ap (λ b. b && are_ordered (x.0 ∷ es)) (sym (h refl))
+-- the test of an entry before these, where these files stood before it
+abbrev past : ℕ → List Bool → Entry → List Entry → Bool
+past above is_file e es = are_ordered (e ∷ es) && not (meets_any above is_file e.component es)
 
-pub goes_not : (e : Entry) (bytes : Bytes) (x : Entry × Bytes) → entry_at bytes ≡ Some x → (is_some (entries_of x.1) ≡ true → false ≡ leads e (x.0 ∷ entries_left x.1)) → goes_on e bytes ≡ false
+pub goes_more : (above rest : ℕ) (old new : List Bool) (e : Entry) (bytes : Bytes) (x : Entry × Bytes) → entry_at bytes ≡ Some x
+    → (is_some (entries_of x.1) ≡ true → (leads e (x.0 ∷ entries_left x.1) && not (meets_any above old e.component (x.0 ∷ entries_left x.1))) ≡ (true && not (meets_any rest new x.0.component (entries_left x.1))))
+    → goes_on_past rest new x.0 x.1 ≡ goes_on_past above old e bytes
 unfolding are_ordered
-goes_not e bytes x is h = ap (holds (λ es. are_ordered (e ∷ es))) (entries_step bytes x is) ∙ shows (entries_of x.1) h where
-  shows : (o : Option (List Entry)) → (is_some o ≡ true → false ≡ leads e (x.0 ∷ unwrap_or o [])) → holds (λ es. are_ordered (e ∷ es)) (o >>= λ es. Some (x.0 ∷ es)) ≡ false
-  shows None h = refl
-  shows (Some es) h = ap (λ b. b && are_ordered (x.0 ∷ es)) (sym (h refl))
+goes_more above rest old new e bytes x is h = sym (ap (holds (past above old e)) (entries_step bytes x is) ∙ shows (entries_of x.1) h) where
+  joined : (l o n m : Bool) → (l && m) ≡ (true && n) → ((l && o) && m) ≡ (o && n)
+  joined true true n m h = h
+  joined true false n m h = refl
+  joined false true n m h = h
+  joined false false n m h = refl
 
-alone : (b d : Bool) → (((b && true) && not (d && false)) && true) ≡ b
+  shows : (o : Option (List Entry)) → (is_some o ≡ true → (leads e (x.0 ∷ unwrap_or o []) && not (meets_any above old e.component (x.0 ∷ unwrap_or o []))) ≡ (true && not (meets_any rest new x.0.component (unwrap_or o [])))) → holds (past above old e) (o >>= λ es. Some (x.0 ∷ es)) ≡ holds (past rest new x.0) o
+  shows None h = refl
+  shows (Some es) h = joined (leads e (x.0 ∷ es)) (are_ordered (x.0 ∷ es)) _ _ (h refl)
+
+pub goes_not : (above rest : ℕ) (old new : List Bool) (e : Entry) (bytes : Bytes) (x : Entry × Bytes) → entry_at bytes ≡ Some x
+    → (is_some (entries_of x.1) ≡ true → (leads e (x.0 ∷ entries_left x.1) && not (meets_any above old e.component (x.0 ∷ entries_left x.1))) ≡ (false && not (meets_any rest new x.0.component (entries_left x.1))))
+    → goes_on_past above old e bytes ≡ false
+unfolding are_ordered
+goes_not above rest old new e bytes x is h = ap (holds (past above old e)) (entries_step bytes x is) ∙ shows (entries_of x.1) h where
+  joined : (l o m : Bool) → (l && m) ≡ false → ((l && o) && m) ≡ false
+  joined true true m h = h
+  joined true false m h = refl
+  joined false o m h = refl
+
+  shows : (o : Option (List Entry)) → (is_some o ≡ true → (leads e (x.0 ∷ unwrap_or o []) && not (meets_any above old e.component (x.0 ∷ unwrap_or o []))) ≡ (false && not (meets_any rest new x.0.component (unwrap_or o [])))) → holds (past above old e) (o >>= λ es. Some (x.0 ∷ es)) ≡ false
+  shows None h = refl
+  shows (Some es) h = joined (leads e (x.0 ∷ es)) (are_ordered (x.0 ∷ es)) _ (h refl)
+
+alone : (b d : Bool) → ((((b && true) && not (d && false)) && true) && true) ≡ b
 alone true true = refl
 alone true false = refl
 alone false true = refl
 alone false false = refl
 
-pub goes_end : (e : Entry) (bytes : Bytes) → eqb (length bytes) 0 ≡ true → goes_on e bytes ≡ is_component e.component
+pub goes_end : (above : ℕ) (is_file : List Bool) (e : Entry) (bytes : Bytes) → eqb (length bytes) 0 ≡ true → goes_on_past above is_file e bytes ≡ is_component e.component
 unfolding entries_within are_ordered
-goes_end e [] h = alone (is_component e.component) (not (is_dir e.mode))
-goes_end e (b ∷ bytes) h = absurd (omega (arith, eqb-true _ _ h))
+goes_end above is_file e [] h = rw (meets_nothing above is_file e.component) (alone (is_component e.component) (not (is_dir e.mode)))
+goes_end above is_file e (b ∷ bytes) h = absurd (omega (arith, eqb-true _ _ h))
 
-pub goes_stop : (e : Entry) (bytes : Bytes) → entry_at bytes ≡ None → eqb (length bytes) 0 ≡ false → goes_on e bytes ≡ false
-goes_stop e bytes is h = none_left (λ es. are_ordered (e ∷ es)) bytes is h
+pub goes_stop : (above : ℕ) (is_file : List Bool) (e : Entry) (bytes : Bytes) → entry_at bytes ≡ None → eqb (length bytes) 0 ≡ false → goes_on_past above is_file e bytes ≡ false
+goes_stop above is_file e bytes is h = none_left (past above is_file e) bytes is h
 
 -- ---- looking ahead
 

@@ -1,5 +1,5 @@
 -- An entry without where its component lies in memory, and what its mode adds to the component in the order.
-use Rattle.std.specs.Prelude.{Bool, ◌||◌, [], ◌∷◌, codes}
+use Rattle.std.specs.Prelude.{Bool, not, ◌&&◌, ◌||◌, nat_lt, [], ◌∷◌, length, codes}
 use Rattle.gx_model.specs.declared.objects.Mode.{Mode}
 use Rattle.gx_model.specs.declared.objects.Mode.TheVariants.{Dir}
 use Rattle.gx_model.specs.Texts.{Bytes, same_bytes}
@@ -16,9 +16,10 @@ shown e = record { mode = e.mode; component = e.component.now; name = e.name.byt
 abbrev pub leads_from : Entry → Entry → Bytes → Bool
 leads_from first next after = leads (shown first) (shown next ∷ entries_left after)
 
--- a file's component stands again in the next entry, or in one of those
-abbrev pub is_repeated_from : Entry → Entry → Bytes → Bool
-is_repeated_from first next after = is_repeated (shown first) (shown next ∷ entries_left after)
+-- a file's component of 4,096 bytes or more stands again in the next entry, or in one of those
+abbrev pub is_long_repeated_from : Entry → Entry → Bytes → Bool
+is_long_repeated_from first next after =
+    not (nat_lt (length (shown first).component) 4096) && is_repeated (shown first) (shown next ∷ entries_left after)
 
 -- the next entry has this component, or one of the first of those, whose components begin with it
 abbrev pub meets_from : Bytes → Entry → Bytes → Bool

@@ -6,3 +6,4 @@ pub mod Lines
 pub mod Commits
 pub mod Tags
 pub mod Parts
+pub mod Passing

@@ -1,11 +1,11 @@
 -- The body of a tree, read from the left.
-use Rattle.std.specs.Prelude.{Bool, false, ℕ, zero, suc, nat_lt, IsTrue, List, [], ◌∷◌, length, take, drop, Option, Some, None, if◌then◌else◌}
+use Rattle.std.specs.Prelude.{Bool, false, not, ◌&&◌, ℕ, zero, suc, nat_lt, IsTrue, List, [], ◌∷◌, length, take, drop, Option, Some, None, if◌then◌else◌}
 use Rattle.std.specs.Option.{is_some, option_and_then, option_map, unwrap_or}
 use Rattle.gx_model.specs.declared.objects.Mode.{Mode}
 use Rattle.gx_model.specs.declared.objects.Mode.TheVariants.{File, Exec, Link, Gitlink, Dir}
 use Rattle.gx_model.specs.Texts.{Bytes, cut_at, same_bytes}
 use Rattle.gx_model.specs.Objects.{Entry, is_canonical, mode_text}
-use Rattle.gx_object.specs.Order.{are_ordered}
+use Rattle.gx_object.specs.Order.{are_ordered, meets_any}
 
 infixl 10 ◌>>=◌
 abbrev pub ◌>>=◌ : {A B : Type 0} → Option A → (A → Option B) → Option B
@@ -57,6 +57,8 @@ tree_of body = do
 abbrev pub is_tree : Bytes → Bool
 is_tree body = is_some (tree_of body)
 
--- with an entry before them, the bytes are entries in a tree's order
-abbrev pub goes_on : Entry → Bytes → Bool
-goes_on e bytes = unwrap_or (option_map (λ es. are_ordered (e ∷ es)) (entries_of bytes)) false
+-- with an entry before them, the bytes are entries in a tree's order, and none has the component of a file that stood
+-- before that entry
+abbrev pub goes_on_past : ℕ → List Bool → Entry → Bytes → Bool
+goes_on_past above is_file e bytes =
+    unwrap_or (option_map (λ es. are_ordered (e ∷ es) && not (meets_any above is_file e.component es)) (entries_of bytes)) false

@@ -3,6 +3,7 @@
 #![tactic(auto)]
 
 mod commit;
+mod earlier_files;
 mod entry;
 mod fault;
 mod line;

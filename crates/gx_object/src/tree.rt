@@ -1,15 +1,17 @@
 //! The bodies of trees. Source: Pro Git, "Git Objects".
 
-ghost use Rattle.std.specs.Prelude.{◌≡◌, List, map, IsTrue, IfOk, OnOk};
+ghost use Rattle.std.specs.Prelude.{◌≡◌, ◌≤◌, List, length, map, true, IsTrue, IfOk, OnOk};
 ghost use Rattle.std.specs.Result.{result_ok};
 ghost use Rattle.std.specs.Iterator.{item_count};
 ghost use Rattle.std.specs.Map.Iter.{TakesFirst};
 ghost use Rattle.gx_model.specs.Objects.{Entry as TreeEntry, IsTreeText, is_canonical};
 ghost use Rattle.gx_object.specs.Order.{meets};
 ghost use Rattle.gx_object.specs.Trees.{AreEntries, entries_left, is_tree, tree_of};
-ghost use Rattle.gx_object.specs.Entries.{is_repeated_from, leads_from, meets_from, shown};
+ghost use Rattle.gx_object.specs.Entries.{is_long_repeated_from, meets_from, shown};
+ghost use Rattle.gx_object.specs.Passing.{LeadsPast};
 ghost use Rattle.gx_object.specs.Parts.{FindsEach};
 
+use crate::earlier_files::{EarlierFiles, MOST, is_front};
 use crate::entry::{append_entry, first_entry};
 use crate::order::{comes_before, is_component};
 use crate::{BadObject, Entry, Mode};
@@ -82,8 +84,8 @@ impl<'a> Iterator for TreeEntries<'a> {
 
 /// The entries of a tree's body, or `BadObject` where it isn't the body of a canonical list of entries.
 ///
-/// Cost: the length of the body and, for each file, of the entries after it whose components begin with its own.
-/// Takes no memory.
+/// Cost: the body's length and, for each file whose component has 4,096 bytes or more, which no path leads to, the
+/// length of the entries after it whose components begin with its own. Takes no memory.
 pub fn decode_tree(body: &[u8]) -> Result<TreeEntries<'_>, BadObject>
     ensures found { IfOk result (λ entries. IsTreeText entries body.now) }
     ensures only { FindsEach IsTreeText body.now result }
@@ -111,16 +113,17 @@ fn read_tree(body: &[u8]) -> Result<TreeEntries<'_>, BadObject>
     }
 }
 
-/// Whether the bytes are the body of a canonical list of entries. Each entry is read once, and those behind a file once
-/// more if the next one's component begins with the file's, up to the first whose component doesn't.
+/// Whether the bytes are the body of a canonical list of entries. Each entry is read once, and those behind a file of a
+/// very long component once more if they begin with it.
 fn is_tree(body: &[u8]) -> bool
     ensures { result ≡ is_tree body.now }
 {
     let Some((mut before, mut rest)) = first_entry(body) else {
         return body.is_empty();
     };
+    let mut files = EarlierFiles::none();
     while let Some((next, after)) = first_entry(rest) {
-        if !leads(&before, &next, after) {
+        if !leads(&mut files, &before, &next, after) {
             return false;
         }
         before = next;
@@ -129,19 +132,24 @@ fn is_tree(body: &[u8]) -> bool
     rest.is_empty() && is_component(before.component)
 }
 
-/// Whether an entry may stand before the next one and the entries after that.
-fn leads(first: &Entry<'_>, next: &Entry<'_>, after: &[u8]) -> bool
-    ensures { AreEntries after.now → result ≡ leads_from first.now next.now after.now }
+/// Whether an entry may stand before the next one and the entries after that, and none of them has an earlier file's
+/// component as far as the next one tells.
+fn leads(files: &mut EarlierFiles, first: &Entry<'_>, next: &Entry<'_>, after: &[u8]) -> bool
+    requires { files.old.above ≤ length first.now.component.now }
+    ensures within { result ≡ true → files.new.above ≤ length next.now.component.now }
+    ensures leads { LeadsPast files.old files.new first.now next.now after.now result }
 {
-    is_component(first.component) && comes_before(first, next) && !is_repeated(first, next, after)
+    is_component(first.component)
+        && comes_before(first, next)
+        && !is_long_repeated(first, next, after)
+        && !files.meet(first, next)
 }
 
-fn is_repeated(first: &Entry<'_>, next: &Entry<'_>, after: &[u8]) -> bool
-    ensures { AreEntries after.now → result ≡ is_repeated_from first.now next.now after.now }
+/// Whether a file whose component is too long to be remembered stands again behind itself.
+fn is_long_repeated(first: &Entry<'_>, next: &Entry<'_>, after: &[u8]) -> bool
+    ensures { AreEntries after.now → result ≡ is_long_repeated_from first.now next.now after.now }
 {
-    first.mode != Mode::Dir
-        && next.component.starts_with(first.component)
-        && meets(first.component, next, after)
+    first.component.len() >= MOST && is_front(first, next) && meets(first.component, next, after)
 }
 
 /// Whether the next entry, or one of those after it whose components begin with this one, has it.

@@ -1,12 +1,12 @@
 -- What looks at an item that isn't whole yet have shown of it.
 use Rattle.std.proofs.Common.{◌≡◌, ℕ, ◌+◌, ◌-◌, ◌<◌, ◌≤◌, ◌⊎◌, inl, inr, Bool, true, false, eqb, cond, not, ◌++◌, length, take, drop, slice_range, refl, sym, ap, subst, ◌∙◌, arith, append_assoc}
-use Rattle.std.proofs.lemmas.Bool.{eqb-true, false≢true}
+use Rattle.std.proofs.lemmas.Bool.{false≢true}
 use Rattle.std.proofs.lemmas.Bool.Decides.{nat_tests}
 use Rattle.std.proofs.lemmas.List.Sums.{prefix_len-le-length}
-use Rattle.std.proofs.lemmas.List.{drop-drop, drop-append-le, take-append-le, length-append, length-drop}
+use Rattle.std.proofs.lemmas.List.{drop-drop, drop-append-le, take-append-le, length-append, length-drop, length-take}
 use Rattle.gx_model.specs.Texts.{Bytes}
 use Rattle.gx_model.specs.Streams.Items.{is_lf, line_len, has_no_line}
-use Rattle.gx_stream.specs.Places.{IsLine, GoesTo, Searched, IsSearched, IsPast, IsScanned, before, behind, bytes_at, from_line, without, first_seen, past_first}
+use Rattle.gx_stream.specs.Places.{IsLine, GoesTo, Searched, IsSearched, IsPast, IsScanned, before, behind, bytes_at, from_line, without, at_line, past_first}
 use Rattle.gx_stream.specs.Input.{FitsState, IsLonger}
 use Rattle.gx_stream.specs.declared.input.State.{State}
 use Rattle.gx_stream.specs.declared.input.State.TheVariants.{Open, Ended, Over}
@@ -19,12 +19,14 @@ use Rattle.gx_stream.proofs.Delimiters.{Searched-none}
 pub scanned_none : (text : Bytes) (fails : Bool) (at : ℕ) → at ≤ length text → IsScanned text fails at (from_line at)
 scanned_none text fails at l = (GoesTo-start text at l, inl refl)
 
--- the first line goes on as far as was seen
-pub first_seen-goes : (text : Bytes) (fails : Bool) (at : ℕ) (scan : Scan) → at ≤ length text → IsScanned text fails at scan → GoesTo text at (first_seen scan at)
-first_seen-goes text fails at scan l s = by (eqb scan.line at) refl where
-  by : (t : Bool) → eqb scan.line at ≡ t → GoesTo text at (cond t scan.seen at)
-  by true e = subst (λ k. GoesTo text k scan.seen) (eqb-true scan.line at e) s.0
-  by false e = GoesTo-start text at l
+-- the line at a place has no LF before its end
+pub first_goes : (text : Bytes) (fails : Bool) (at : ℕ) (line : Place) → at ≤ length text → IsLine text fails at line → GoesTo text at line.end
+first_goes text fails at line l is =
+    let long : line.end - line.start ≡ length (take (line_len (drop at text)) (drop at text)) = sym (length-range text line.start line.end (omega (arith, is.within))) ∙ ap length is.bytes in
+    (omega (arith, is.within, is.start), omega (arith, is.within), omega (arith, long, is.start, is.within, length-take (line_len (drop at text)) (drop at text)))
+  where
+    length-range : (text : Bytes) (s e : ℕ) → e ≤ length text → length (slice_range text s e) ≡ e - s
+    length-range text s e le = omega (arith, length-take (e - s) (drop s text), length-drop s text)
 
 -- where the first line came whole, its end is where the next one begins
 whole_next : (text : Bytes) (at : ℕ) (line : Place) → at ≤ length text → IsLine text true at line → line.next ≡ at + line_len (drop at text) + 1
@@ -49,7 +51,7 @@ past_searched text true at scan line l is f past =
 
 pub past_first-searched : (text : Bytes) (fails : Bool) (at : ℕ) (scan : Scan) (line : Place) → at ≤ length text → IsLine text fails at line → IsScanned text fails at scan → IsSearched text (delimiter_in (bytes_at text line)) fails line.next (past_first scan at line.next)
 past_first-searched text fails at scan line l is s = by (eqb scan.line at) refl s.1 where
-  by : (t : Bool) → eqb scan.line at ≡ t → (scan.line ≡ at) ⊎ ((fails ≡ true) × IsPast text at scan.line) → IsSearched text (delimiter_in (bytes_at text line)) fails line.next (cond t (from_line line.next) scan)
+  by : (t : Bool) → eqb scan.line at ≡ t → (scan.line ≡ at) ⊎ ((fails ≡ true) × IsPast text at scan.line) → IsSearched text (delimiter_in (bytes_at text line)) fails line.next (cond t (at_line line.next scan) scan)
   by true e h = (GoesTo-start text line.next is.within.2, Searched-none text (delimiter_in (bytes_at text line)) fails line.next is.within.2)
   by false e (inl same) = absurd (unequal scan.line at e same)
   by false e (inr (f, past)) = (s.0, past_searched text fails at scan line l is f past)
@@ -142,13 +144,17 @@ IsScanned-shorter text at scan (g, inr (f, past)) =
 -- ---- at a state
 
 pub fits_none : (text : Bytes) (state : State) (at : ℕ) → at ≤ length text → FitsState text state at (from_line at)
-fits_none text Open at l = scanned_none text true at l
+fits_none text Open at l = (scanned_none text true at l, GoesTo-start text at l)
 fits_none text (Ended fails) at l = tt
 fits_none text (Over last) at l = tt
 
 -- after a pull
-pub fits_after : (old new : Bytes) (state : State) (at : ℕ) (scan : Scan) → IsScanned old true at scan → IsLonger (drop at old) new → FitsState new state 0 (without at scan)
-fits_after old new Open at scan s (more, e) =
-    subst (λ t. IsScanned t true 0 (without at scan)) (sym e) (IsScanned-longer (drop at old) more 0 (without at scan) (omega arith) (IsScanned-shorter old at scan s))
-fits_after old new (Ended fails) at scan s l = tt
-fits_after old new (Over last) at scan s l = tt
+pub fits_after : (old new : Bytes) (state : State) (at : ℕ) (scan : Scan) → IsScanned old true at scan → GoesTo old at scan.first → IsLonger (drop at old) new → FitsState new state 0 (without at scan)
+fits_after old new Open at scan s f (more, e) =
+    let start : at - at ≡ 0 = omega arith in
+    let first : GoesTo (drop at old) 0 (scan.first - at) = subst (λ k. GoesTo (drop at old) k (scan.first - at)) start (GoesTo-shorter old at at scan.first (omega arith) f) in (
+      subst (λ t. IsScanned t true 0 (without at scan)) (sym e) (IsScanned-longer (drop at old) more 0 (without at scan) (omega arith) (IsScanned-shorter old at scan s)),
+      subst (λ t. GoesTo t 0 (scan.first - at)) (sym e) (GoesTo-longer (drop at old) more 0 (scan.first - at) first),
+    )
+fits_after old new (Ended fails) at scan s f l = tt
+fits_after old new (Over last) at scan s f l = tt

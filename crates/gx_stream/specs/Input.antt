@@ -8,7 +8,7 @@ use Rattle.gx_text.specs.Devices.{Coming}
 use Rattle.gx_stream.specs.Heard.{heard_upto}
 use Rattle.gx_stream.specs.Faults.{shown_end, ended}
 use Rattle.gx_stream.specs.Reading.{AnswersAs, Seen}
-use Rattle.gx_stream.specs.Places.{bytes_at, IsWithin, IsScanned, Skipped, Finds}
+use Rattle.gx_stream.specs.Places.{bytes_at, GoesTo, IsWithin, IsScanned, Skipped, Finds}
 use Rattle.gx_stream.specs.declared.fault.StreamFault.{StreamFault}
 use Rattle.gx_stream.specs.declared.fault.StreamFault.TheVariants.{OutOfMemory, ReadFailed, TruncatedData, BadNumber}
 use Rattle.gx_stream.specs.declared.places.Scan.{Scan}
@@ -46,7 +46,7 @@ shown_input i coming = record {
 
 -- what is known of the item that comes next counts where more of it may come
 abbrev pub FitsState : Bytes → State → ℕ → Scan → Type 0
-FitsState text Open at scan = IsScanned text true at scan
+FitsState text Open at scan = IsScanned text true at scan × GoesTo text at scan.first
 FitsState text (Ended fails) at scan = Unit {0}
 FitsState text (Over last) at scan = Unit {0}
 

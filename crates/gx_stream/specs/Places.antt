@@ -70,19 +70,19 @@ pub record IsPast (text : Bytes) (at line : ℕ) : Type 0 where
 
 -- what is known where a line begins
 abbrev pub from_line : ℕ → Scan
-from_line line = record { line = line; seen = line }
+from_line line = record { first = line; line = line; seen = line }
 
 -- where n bytes before the places are gone
 abbrev pub without : ℕ → Scan → Scan
-without n scan = record { line = scan.line - n; seen = scan.seen - n }
+without n scan = record { first = scan.first - n; line = scan.line - n; seen = scan.seen - n }
 
--- what is known of the first line
-abbrev pub first_seen : Scan → ℕ → ℕ
-first_seen scan at = if nat_eq scan.line at then scan.seen else at
+-- where the last line begins at another place
+abbrev pub at_line : ℕ → Scan → Scan
+at_line line scan = record { first = scan.first; line = line; seen = line }
 
--- and where it came whole
+-- where the first line came whole
 abbrev pub past_first : Scan → ℕ → ℕ → Scan
-past_first scan at next = if nat_eq scan.line at then from_line next else scan
+past_first scan at next = if nat_eq scan.line at then at_line next scan else scan
 
 -- what is known of the item that begins at a place. Where the text doesn't fail, that is its first line alone
 abbrev pub IsScanned : Bytes → Bool → ℕ → Scan → Type 0

@@ -4,7 +4,7 @@ ghost use Rattle.std.specs.Prelude.{◌≡◌, ◌≤◌, ◌+◌, ℕ, length, 
 ghost use Rattle.std.specs.List.{starts_with};
 ghost use Rattle.gx_model.specs.Streams.Items.{line_len, has_no_line, without_lf, counted_block, delimited, announced, end_of, cut_off};
 ghost use Rattle.gx_stream.specs.Faults.{shown_end};
-ghost use Rattle.gx_stream.specs.Places.{IsLineAt, AreLinesAt, GoesTo, IsSearched, IsScanned, from_line, without, first_seen, past_first, Begins, Skipped, Finds, bytes_at, delimiter_at, first_at};
+ghost use Rattle.gx_stream.specs.Places.{IsLineAt, AreLinesAt, GoesTo, IsSearched, IsScanned, from_line, without, at_line, past_first, Begins, Skipped, Finds, bytes_at, delimiter_at, first_at};
 
 use crate::fault::StreamFault;
 use gx_text::decimal;
@@ -26,38 +26,49 @@ pub(crate) enum Found {
     End(Option<StreamFault>),
 }
 
-/// What the looks at an item that isn't whole yet have shown, so that none of it is looked through again: the last line
-/// begins at `line` and has no LF before `seen`. Where it isn't the item's first, those before it don't end the block.
+/// What the looks at an item that isn't whole yet have shown, so that none of it is looked through again: its first line
+/// has no LF before `first`, and the last line begins at `line` and has none before `seen`. Where that isn't the item's
+/// first, those before it don't end the block.
 #[derive(Clone, Copy, Drop)]
 pub(crate) struct Scan {
+    pub(crate) first: usize,
     pub(crate) line: usize,
     pub(crate) seen: usize,
 }
 
 impl Scan {
-    /// Nothing is known but where the line begins.
+    /// Nothing is known but where the item begins.
     pub(crate) fn from_line(line: usize) -> Scan
         ensures { result ≡ from_line line }
     {
-        Scan { line, seen: line }
+        Scan {
+            first: line,
+            line,
+            seen: line,
+        }
     }
 
     /// The same, where so many bytes before them are gone.
     pub(crate) fn without(self, count: usize) -> Scan
-        requires { (count ≤ self.line) × (self.line ≤ self.seen) }
+        requires { (count ≤ self.line) × (self.line ≤ self.seen) × (count ≤ self.first) }
         ensures { result ≡ without count self }
     {
         Scan {
+            first: self.first - count,
             line: self.line - count,
             seen: self.seen - count,
         }
     }
 
-    /// Before which place the item's first line has no LF.
-    fn first_seen(self, at: usize) -> usize
-        ensures { result ≡ first_seen self at }
+    /// The same, where the last line begins at another place.
+    fn at_line(self, line: usize) -> Scan
+        ensures { result ≡ at_line line self }
     {
-        if self.line == at { self.seen } else { at }
+        Scan {
+            first: self.first,
+            line,
+            seen: line,
+        }
     }
 
     /// The same, where the item's first line came whole.
@@ -65,7 +76,7 @@ impl Scan {
         ensures { result ≡ past_first self at next }
     {
         if self.line == at {
-            Scan::from_line(next)
+            self.at_line(next)
         } else {
             self
         }
@@ -76,13 +87,16 @@ impl Scan {
 pub(crate) fn find_item(text: &[u8], at: &mut usize, scan: &mut Scan, fails: bool) -> Found
     requires within { at.old ≤ length text.now }
     requires scan { IsScanned text.now fails at.old scan.old }
+    requires first { GoesTo text.now at.old scan.old.first }
     ensures skipped { Skipped text.now fails at.old at.new }
     ensures found { Finds text.now fails at.new result }
     ensures scanned { fails ≡ true → IsScanned text.now true at.new scan.new }
+    ensures first { fails ≡ true → GoesTo text.now at.new scan.new.first }
 {
     loop {
-        let Some(line) = find_line(text, *at, scan.first_seen(*at), fails) else {
+        let Some(line) = find_line(text, *at, scan.first, fails) else {
             *scan = Scan {
+                first: text.len(),
                 line: *at,
                 seen: text.len(),
             };
@@ -90,6 +104,7 @@ pub(crate) fn find_item(text: &[u8], at: &mut usize, scan: &mut Scan, fails: boo
         };
         *scan = scan.past_first(*at, line.next);
         if !text[line.start..line.end].starts_with(b"#") {
+            scan.first = line.end;
             return find_from(text, line, scan, fails);
         }
         *at = line.next;
@@ -105,6 +120,7 @@ pub(crate) fn find_from(text: &[u8], line: Place, scan: &mut Scan, fails: bool) 
     requires scan { IsSearched text.now (delimiter_at text.now line) fails line.next scan.old }
     ensures begins { Begins text.now (first_at text.now line fails) result }
     ensures scan { IsSearched text.now (delimiter_at text.now line) fails line.next scan.new }
+    ensures first { scan.new.first ≡ scan.old.first }
 {
     let bytes = &text[line.start..line.end];
     if bytes.starts_with(b"data ") {
@@ -120,6 +136,7 @@ fn find_block(text: &[u8], size: &[u8], start: usize, scan: &mut Scan, fails: bo
     requires scan { IsSearched text.now (drop 2 size.now) fails start scan.old }
     ensures begins { Begins text.now (announced size.now (drop start text.now) fails) result }
     ensures scan { IsSearched text.now (drop 2 size.now) fails start scan.new }
+    ensures first { scan.new.first ≡ scan.old.first }
 {
     if size.starts_with(b"<<") {
         return find_delimited(text, &size[2..], start, scan, fails);
@@ -160,6 +177,7 @@ fn find_delimited(
     requires scan { IsSearched text.now delimiter.now fails start scan.old }
     ensures begins { Begins text.now (delimited delimiter.now (drop start text.now) fails) result }
     ensures scan { IsSearched text.now delimiter.now fails start scan.new }
+    ensures first { scan.new.first ≡ scan.old.first }
 {
     match find_lines(text, delimiter, start, scan, fails) {
         Some(lines) if !(fails && lines.next == text.len()) => Found::Data(Place {
@@ -181,6 +199,7 @@ fn find_lines(
     requires { IsSearched text.now delimiter.now fails start scan.old }
     ensures found { AreLinesAt text.now delimiter.now fails start result }
     ensures scan { IsSearched text.now delimiter.now fails start scan.new }
+    ensures first { scan.new.first ≡ scan.old.first }
 {
     loop {
         let Some(line) = find_line(text, scan.line, scan.seen, fails) else {
@@ -194,7 +213,7 @@ fn find_lines(
                 next: line.next,
             });
         }
-        *scan = Scan::from_line(line.next);
+        *scan = scan.at_line(line.next);
     }
 }
 

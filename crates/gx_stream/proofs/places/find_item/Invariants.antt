@@ -1,5 +1,5 @@
 use Rattle.std.proofs.Common.{◌-◌, length}
-use Rattle.gx_stream.specs.Places.{Skipped, IsScanned}
+use Rattle.gx_stream.specs.Places.{GoesTo, Skipped, IsScanned}
 use Rattle.gx_stream.proofs.places.find_item.Given as goal
 
 abbrev pub invariant-loop-line : goal.invariant-loop-line
@@ -7,6 +7,7 @@ invariant-loop-line l =
     record {
       skipped : Skipped l.text l.fails l.fn.at l.at;
       scanned : IsScanned l.text l.fails l.at l.scan;
+      first : GoesTo l.text l.at l.scan.first;
     }
 
 abbrev pub decreases-loop-line : goal.decreases-loop-line

@@ -11,7 +11,7 @@ pub(crate) fn tell_import(rt: &HostRuntime, report: &ImportReport) {
     }
 }
 
-/// Tells what was changed in a stream, and what stays that an import refuses.
+/// Tells what was changed in a stream, what stays that an import refuses, and whether `done` ended it.
 pub(crate) fn tell_adaption(rt: &HostRuntime, report: &AdaptReport) {
     tell_count(rt, "identities that got a space", report.identities);
     tell_count(rt, "deletions left out", report.deletions);
@@ -22,6 +22,12 @@ pub(crate) fn tell_adaption(rt: &HostRuntime, report: &AdaptReport) {
     tell_count(rt, "dates before 1970 that an import refuses", early_dates);
     let tags = report.tags_of_blobs_or_tags;
     tell_count(rt, "tags of blobs and tags that an import refuses", tags);
+    let end = if report.ended_with_done {
+        "with"
+    } else {
+        "without"
+    };
+    let _ = eprintln!(rt; "gx: adapt: the stream ended {end} done");
 }
 
 /// Tells how many there are of what was changed or stays, if there are any.

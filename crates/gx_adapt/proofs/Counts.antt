@@ -7,7 +7,7 @@ use Rattle.gx_model.specs.Export.{item_text}
 use Rattle.gx_adapt.specs.Lines as lines
 use Rattle.gx_adapt.specs.Lines.{lines_for, lot_of, is_reset_line}
 use Rattle.gx_adapt.specs.Laws.{BlocksAreKept, blocks_of}
-use Rattle.gx_adapt.specs.Streams.{Placed, is_reset, placed_from, placed, lot_in, lot_at, items_in, items_for, adapted, stream_text, is_spaced, is_deletion, is_requoted, is_marks, on_line, how_many, report_of}
+use Rattle.gx_adapt.specs.Streams.{Placed, is_reset, placed_from, placed, lot_in, lot_at, items_in, items_for, adapted, stream_text, is_spaced, is_deletion, is_requoted, is_marks, on_line, is_done, ends_with_done, how_many, report_of}
 use Rattle.gx_adapt.specs.Adapting.{text_for, one_if, counted}
 use Rattle.gx_adapt.specs.Marks.{names_blob_or_tag}
 use Rattle.gx_adapt.proofs.Marked.{tags-push}
@@ -74,16 +74,22 @@ count-few test b (i ∷ is) = by (test (record { after_reset = b; item = i })) (
 pub many-few : (test : Placed → Bool) (is : List Item) → how_many test is ≤ length is
 many-few test is = count-few test false is
 
-abbrev report : ℕ → ℕ → ℕ → ℕ → ℕ → ℕ → ℕ → Report
-report a b c d e f g = record { identities = a; deletions = b; paths = c; marks = d; notes = e; early_dates = f; tags_of_blobs_or_tags = g }
+abbrev report : ℕ → ℕ → ℕ → ℕ → ℕ → ℕ → ℕ → Bool → Report
+report a b c d e f g q = record { identities = a; deletions = b; paths = c; marks = d; notes = e; early_dates = f; tags_of_blobs_or_tags = g; ended_with_done = q }
 
-same_report : {a b c d e f g t u v w x y z : ℕ} → a ≡ t → b ≡ u → c ≡ v → d ≡ w → e ≡ x → f ≡ y → g ≡ z → report a b c d e f g ≡ report t u v w x y z
-same_report h k l m n o p = rw (h, k, l, m, n, o, p) refl
+same_report : {a b c d e f g t u v w x y z : ℕ} {q r : Bool} → a ≡ t → b ≡ u → c ≡ v → d ≡ w → e ≡ x → f ≡ y → g ≡ z → q ≡ r → report a b c d e f g q ≡ report t u v w x y z r
+same_report h k l m n o p q = rw (h, k, l, m, n, o, p, q) refl
+
+-- the last item decides
+done-push : (xs : List Item) (i : Item) → ends_with_done (xs ++ i ∷ []) ≡ on_line is_done i
+done-push [] i = refl
+done-push (x ∷ []) i = refl
+done-push (x ∷ y ∷ xs) i = done-push (y ∷ xs) i
 
 pub report-push : (xs : List Item) (i : Item) → report_of (xs ++ i ∷ []) ≡ counted (lot_in (after_of false xs) i) (names_blob_or_tag (reverse xs) i) i (report_of xs)
 report-push xs i =
     same_report (many-push (λ p. is_spaced (lot_at p)) xs i) (many-push (λ p. is_deletion (lot_at p)) xs i) (many-push (λ p. is_requoted (lot_at p)) xs i)
-    (many-push (λ p. is_marks (lot_at p)) xs i) (many-push (λ p. on_line lines.is_note p.item) xs i) (many-push (λ p. on_line lines.is_early p.item) xs i) (tags-push xs i)
+    (many-push (λ p. is_marks (lot_at p)) xs i) (many-push (λ p. on_line lines.is_note p.item) xs i) (many-push (λ p. on_line lines.is_early p.item) xs i) (tags-push xs i) (done-push xs i)
 
 -- ---- blocks
 

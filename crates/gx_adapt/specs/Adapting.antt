@@ -14,7 +14,7 @@ use Rattle.gx_stream.specs.declared.fault.StreamFault.{StreamFault}
 use Rattle.gx_stream.specs.declared.fault.StreamFault.TheVariants as stream
 use Rattle.gx_adapt.specs.Lines as lines
 use Rattle.gx_adapt.specs.Marks.{command_begun, command_of, mark_behind, is_blob_or_tag, is_tag, sets_mark, is_of_blob_or_tag}
-use Rattle.gx_adapt.specs.Streams.{items_in, lot_in, adapted, stream_text, is_spaced, is_deletion, is_requoted, is_marks, on_line, report_of}
+use Rattle.gx_adapt.specs.Streams.{items_in, lot_in, adapted, stream_text, is_spaced, is_deletion, is_requoted, is_marks, is_done, on_line, report_of}
 use Rattle.gx_adapt.specs.Laws.{IsReadAdapted}
 use Rattle.gx_adapt.specs.declared.fault.AdaptFault.{AdaptFault}
 use Rattle.gx_adapt.specs.declared.fault.AdaptFault.TheVariants.{OutOfMemory, ReadFailed, WriteFailed, TruncatedData, BadNumber}
@@ -129,6 +129,7 @@ counted lot names item r = record {
   notes = one_if (on_line lines.is_note item) r.notes;
   early_dates = one_if (on_line lines.is_early item) r.early_dates;
   tags_of_blobs_or_tags = one_if names r.tags_of_blobs_or_tags;
+  ended_with_done = on_line is_done item;
 }
 
 -- the same by what stands before it

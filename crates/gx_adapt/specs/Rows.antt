@@ -7,7 +7,7 @@ use Rattle.gx_model.specs.Streams.Items.{Item, Line, Data}
 use Rattle.gx_adapt.specs.Paths.{quoted, is_open, source_of}
 use Rattle.gx_adapt.specs.Lines.{Lot, kept, deletion, marks, spaced, requoted, ident_lot, path_lot, modify_lot, move_lot, word_lot, lot_of, is_early}
 use Rattle.gx_adapt.specs.Marks.{command_begun, mark_behind, tags_of_blobs_or_tags}
-use Rattle.gx_adapt.specs.Streams.{adapted, report_of}
+use Rattle.gx_adapt.specs.Streams.{adapted, ends_with_done, report_of}
 
 -- ---- lines
 
@@ -112,9 +112,26 @@ stream_adapted : adapted before ≡ after
 unfolding cut_at char_at unquote_within is_open source_of ident_lot path_lot modify_lot move_lot word_lot lot_of
 stream_adapted = refl
 
-stream_counted : report_of before ≡ record { identities = 1; deletions = 1; paths = 1; marks = 1; notes = 1; early_dates = 1; tags_of_blobs_or_tags = 0 }
+stream_counted : report_of before ≡ record { identities = 1; deletions = 1; paths = 1; marks = 1; notes = 1; early_dates = 1; tags_of_blobs_or_tags = 0; ended_with_done = true }
 unfolding cut_at char_at unquote_within is_open source_of ident_lot path_lot modify_lot move_lot word_lot lot_of is_early command_begun mark_of mark_behind
 stream_counted = refl
+
+-- streams, and whether `done` ends them
+abbrev pub end_rows : List (List Item × Bool)
+end_rows =
+    ([], false)
+    ∷ (Line (codes "done") ∷ [], true)
+    -- a block of these bytes, and one that ends with them
+    ∷ (Line (codes "blob") ∷ Data (codes "done") ∷ [], false)
+    ∷ (Line (codes "blob") ∷ Data (codes "x" ++ 10 ∷ codes "done") ∷ [], false)
+    -- a line behind it, and a line that begins so
+    ∷ (Line (codes "done") ∷ Line (codes "reset refs/heads/a") ∷ [], false)
+    ∷ (Line (codes "done ") ∷ [], false)
+    ∷ (Line (codes "feature done") ∷ [], false)
+    ∷ []
+
+ends_told : map (λ r. ends_with_done r.0) end_rows ≡ map (λ r. r.1) end_rows
+ends_told = refl
 
 -- ---- tags
 

@@ -1,8 +1,8 @@
 -- The items that stand in the place of a stream's, and how many of each kind were changed.
 -- Source: git-fast-import(1) and git-fast-export(1).
-use Rattle.std.specs.Prelude.{ℕ, Bool, true, false, List, [], ◌∷◌, length}
+use Rattle.std.specs.Prelude.{ℕ, Bool, true, false, List, [], ◌∷◌, length, codes}
 use Rattle.std.specs.List.{flat_map, filter}
-use Rattle.gx_model.specs.Texts.{Bytes}
+use Rattle.gx_model.specs.Texts.{Bytes, same_bytes}
 use Rattle.gx_model.specs.Streams.Items.{Item, Line, Data}
 use Rattle.gx_model.specs.Export.{item_text}
 use Rattle.gx_adapt.specs.Lines.{Lot, kept, deletion, marks, spaced, requoted, is_reset_line, lot_of, lines_for, is_note, is_early}
@@ -90,9 +90,19 @@ on_line test (Data x) = false
 abbrev pub how_many : (Placed → Bool) → List Item → ℕ
 how_many test is = length (filter test (placed is))
 
+-- a line that ends a stream
+abbrev pub is_done : Bytes → Bool
+is_done l = same_bytes l (codes "done")
+
+-- whether the last item is the line `done`
+abbrev pub ends_with_done : List Item → Bool
+ends_with_done [] = false
+ends_with_done (i ∷ []) = on_line is_done i
+ends_with_done (i ∷ j ∷ is) = ends_with_done (j ∷ is)
+
 -- nothing was changed or seen yet
 abbrev pub nothing_counted : Report
-nothing_counted = record { identities = 0; deletions = 0; paths = 0; marks = 0; notes = 0; early_dates = 0; tags_of_blobs_or_tags = 0 }
+nothing_counted = record { identities = 0; deletions = 0; paths = 0; marks = 0; notes = 0; early_dates = 0; tags_of_blobs_or_tags = 0; ended_with_done = false }
 
 -- what was changed in a stream, and what was seen
 abbrev pub report_of : List Item → Report
@@ -104,4 +114,5 @@ report_of is = record {
   notes = how_many (λ p. on_line is_note p.item) is;
   early_dates = how_many (λ p. on_line is_early p.item) is;
   tags_of_blobs_or_tags = tags_of_blobs_or_tags is;
+  ended_with_done = ends_with_done is;
 }

@@ -24,9 +24,9 @@ use std::alloc::Allocator;
 /// - lines that ask for files of marks, and `get-mark`, are left out.
 ///
 /// No byte of a block changes. Comments go, a block is announced by its length, and an LF ends each line and each block.
-/// Tags of blobs and of tags are counted, by the marks. Each item goes out as soon as it has come. Memory: the longest item,
-/// the longest line once more, and the marks of blobs and of tags. Cost: the bytes of the stream, and for each line with a mark
-/// the logarithm of the number of marks.
+/// Tags of blobs and of tags are counted, by the marks. The report tells whether `done` is the last line, too.
+/// Each item goes out as soon as it has come. Memory: the longest item, the longest line once more, and the marks of blobs and
+/// of tags. Cost: the bytes of the stream, and for each line with a mark the logarithm of the number of marks.
 /// Source: git-fast-import(1).
 pub fn adapt<R: Source + Drop, W: Sink, A: Allocator + Copy>(
     alloc: A,
@@ -77,7 +77,10 @@ fn send_item<W: Sink, A: Allocator + Copy>(
             }
         }
         Item::Data(bytes) => match send_block(text, sink, bytes) {
-            Ok(()) => Ok(false),
+            Ok(()) => {
+                report.add_block(bytes);
+                Ok(false)
+            }
             Err(fault) => Err(fault),
         },
     }

@@ -1,16 +1,17 @@
 //! What was changed in a stream.
 
-ghost use Rattle.std.specs.Prelude.{◌≡◌};
+ghost use Rattle.std.specs.Prelude.{◌≡◌, false};
 ghost use Rattle.gx_model.specs.Texts.{cut_at};
-ghost use Rattle.gx_model.specs.Streams.Items.{Line};
-ghost use Rattle.gx_adapt.specs.Lines.{is_early, has_minus};
+ghost use Rattle.gx_model.specs.Streams.Items.{Line, Data};
+ghost use Rattle.gx_adapt.specs.Lines.{is_early, has_minus, kept};
 ghost use Rattle.gx_adapt.specs.Streams.{nothing_counted};
 ghost use Rattle.gx_adapt.specs.Adapting.{shown_lot, counted, HasRoom};
 
 use crate::lot::{Lot, is_ident_word};
 use gx_text::cut;
 
-/// How many lines were changed or left out, by what they are, and how many stay that are refused later.
+/// How many lines were changed or left out, by what they are, and how many stay that are refused later; and how the stream
+/// ended.
 #[derive(Clone, Copy, Debug, PartialEq, Eq)]
 pub struct Report {
     /// Identities that began with `<`, and have a space before it now, as git writes them.
@@ -27,6 +28,8 @@ pub struct Report {
     pub early_dates: u64,
     /// Tags whose `from` is the mark of a blob or of a tag. They stay as they are.
     pub tags_of_blobs_or_tags: u64,
+    /// Whether the last line is `done`, behind all blocks. A stream whose exporter died has none.
+    pub ended_with_done: bool,
 }
 
 impl Report {
@@ -42,6 +45,7 @@ impl Report {
             notes: 0,
             early_dates: 0,
             tags_of_blobs_or_tags: 0,
+            ended_with_done: false,
         }
     }
 
@@ -66,6 +70,14 @@ impl Report {
         if of_blob_or_tag {
             self.tags_of_blobs_or_tags += 1;
         }
+        self.ended_with_done = line == b"done".as_slice();
+    }
+
+    /// Counts a block, which isn't changed.
+    pub(crate) fn add_block(&mut self, bytes: &[u8])
+        ensures { self.new ≡ counted kept false (Data bytes.now) self.old }
+    {
+        self.ended_with_done = false;
     }
 }
 

@@ -45,14 +45,14 @@ foo
 
 /// What is told of a stream with lines of many kinds, and what it is adapted to.
 const ROUGH_LINES: &str =
-    "Report { identities: 1, deletions: 1, paths: 1, marks: 1, notes: 0, early_dates: 1, tags_of_blobs_or_tags: 0 } % rough lines % mended lines";
+    "Report { identities: 1, deletions: 1, paths: 1, marks: 1, notes: 0, early_dates: 1, tags_of_blobs_or_tags: 0, ended_with_done: false } % rough lines % mended lines";
 
 /// The same of other streams.
 const ADAPTED: &str = "
-$ Report { identities: 1, deletions: 1, paths: 1, marks: 1, notes: 0, early_dates: 0, tags_of_blobs_or_tags: 0 } % rough % mended
-$ Report { identities: 0, deletions: 0, paths: 0, marks: 0, notes: 0, early_dates: 0, tags_of_blobs_or_tags: 0 } % mended % mended
-$ Report { identities: 0, deletions: 0, paths: 0, marks: 0, notes: 0, early_dates: 1, tags_of_blobs_or_tags: 0 } % mended lines % mended lines
-$ Report { identities: 0, deletions: 0, paths: 0, marks: 0, notes: 2, early_dates: 1, tags_of_blobs_or_tags: 0 } %
+$ Report { identities: 1, deletions: 1, paths: 1, marks: 1, notes: 0, early_dates: 0, tags_of_blobs_or_tags: 0, ended_with_done: false } % rough % mended
+$ Report { identities: 0, deletions: 0, paths: 0, marks: 0, notes: 0, early_dates: 0, tags_of_blobs_or_tags: 0, ended_with_done: false } % mended % mended
+$ Report { identities: 0, deletions: 0, paths: 0, marks: 0, notes: 0, early_dates: 1, tags_of_blobs_or_tags: 0, ended_with_done: false } % mended lines % mended lines
+$ Report { identities: 0, deletions: 0, paths: 0, marks: 0, notes: 2, early_dates: 1, tags_of_blobs_or_tags: 0, ended_with_done: false } %
 commit refs/notes/commits
 committer A <a@b> -1 +0000
 data 0
@@ -65,7 +65,7 @@ data 0
 
 N :1 :2
 N :1 :3
-$ Report { identities: 0, deletions: 0, paths: 0, marks: 0, notes: 0, early_dates: 0, tags_of_blobs_or_tags: 2 } %
+$ Report { identities: 0, deletions: 0, paths: 0, marks: 0, notes: 0, early_dates: 0, tags_of_blobs_or_tags: 2, ended_with_done: false } %
 blob
 mark :1
 data 0
@@ -90,7 +90,7 @@ tag tag
 from :2
 data 0
 
-$ Report { identities: 3, deletions: 0, paths: 0, marks: 0, notes: 0, early_dates: 0, tags_of_blobs_or_tags: 0 } %
+$ Report { identities: 3, deletions: 0, paths: 0, marks: 0, notes: 0, early_dates: 0, tags_of_blobs_or_tags: 0, ended_with_done: false } %
 author <a> 1 +0000
 committer <a> 1 +0000
 tagger <a> 1 +0000
@@ -100,7 +100,7 @@ author  <a> 1 +0000
 committer  <a> 1 +0000
 tagger  <a> 1 +0000
 committer  <a> 1 +0000
-$ Report { identities: 0, deletions: 1, paths: 0, marks: 0, notes: 0, early_dates: 0, tags_of_blobs_or_tags: 0 } %
+$ Report { identities: 0, deletions: 1, paths: 0, marks: 0, notes: 0, early_dates: 0, tags_of_blobs_or_tags: 0, ended_with_done: false } %
 reset refs/heads/a
 # deleted
 from 0000000000000000000000000000000000000000
@@ -112,13 +112,13 @@ reset refs/heads/a
 
 reset refs/heads/b
 from :1
-$ Report { identities: 0, deletions: 0, paths: 0, marks: 0, notes: 0, early_dates: 0, tags_of_blobs_or_tags: 0 } %
+$ Report { identities: 0, deletions: 0, paths: 0, marks: 0, notes: 0, early_dates: 0, tags_of_blobs_or_tags: 0, ended_with_done: false } %
 commit refs/heads/a
 from 0000000000000000000000000000000000000000
 %
 commit refs/heads/a
 from 0000000000000000000000000000000000000000
-$ Report { identities: 0, deletions: 0, paths: 3, marks: 0, notes: 0, early_dates: 0, tags_of_blobs_or_tags: 0 } %
+$ Report { identities: 0, deletions: 0, paths: 3, marks: 0, notes: 0, early_dates: 0, tags_of_blobs_or_tags: 0, ended_with_done: false } %
 M 100644 :1 \"a
 M 100644 :1 \"a\" b
 M 100644 :1 \"\\351\"
@@ -130,7 +130,7 @@ M 100644 :1 \"\\\"a\\\" b\"
 M 100644 :1 \"\\351\"
 D \"\\\"a\\\\\"
 D a\"
-$ Report { identities: 0, deletions: 0, paths: 3, marks: 0, notes: 0, early_dates: 0, tags_of_blobs_or_tags: 0 } %
+$ Report { identities: 0, deletions: 0, paths: 3, marks: 0, notes: 0, early_dates: 0, tags_of_blobs_or_tags: 0, ended_with_done: false } %
 R \"a \"b c
 C \"a b\" \"c
 R \"a b\" c
@@ -140,7 +140,7 @@ R \"\\\"a\" \"\\\"b c\"
 C \"a b\" \"\\\"c\"
 R \"a b\" c
 C a \"\\\"b\"
-$ Report { identities: 0, deletions: 0, paths: 0, marks: 4, notes: 0, early_dates: 0, tags_of_blobs_or_tags: 0 } %
+$ Report { identities: 0, deletions: 0, paths: 0, marks: 4, notes: 0, early_dates: 0, tags_of_blobs_or_tags: 0, ended_with_done: true } %
 feature import-marks=m
 feature export-marks=m
 feature relative-marks
@@ -150,12 +150,12 @@ done
 %
 feature done
 done
-$ Report { identities: 1, deletions: 0, paths: 0, marks: 0, notes: 1, early_dates: 1, tags_of_blobs_or_tags: 0 } %
+$ Report { identities: 1, deletions: 0, paths: 0, marks: 0, notes: 1, early_dates: 1, tags_of_blobs_or_tags: 0, ended_with_done: false } %
 N :1 refs/heads/a
 committer <a> -1 +0000%
 N :1 refs/heads/a
 committer  <a> -1 +0000
-$ Report { identities: 0, deletions: 0, paths: 0, marks: 0, notes: 0, early_dates: 0, tags_of_blobs_or_tags: 0 } %
+$ Report { identities: 0, deletions: 0, paths: 0, marks: 0, notes: 0, early_dates: 0, tags_of_blobs_or_tags: 0, ended_with_done: false } %
 data 19
 author <a> 1 +0000
 data <<END
@@ -168,8 +168,8 @@ author <a> 1 +0000
 data 5
 D \"a
 
-$ Report { identities: 0, deletions: 0, paths: 0, marks: 0, notes: 0, early_dates: 0, tags_of_blobs_or_tags: 0 } %%
-$ Report { identities: 1, deletions: 1, paths: 7, marks: 0, notes: 0, early_dates: 0, tags_of_blobs_or_tags: 0 } %
+$ Report { identities: 0, deletions: 0, paths: 0, marks: 0, notes: 0, early_dates: 0, tags_of_blobs_or_tags: 0, ended_with_done: false } %%
+$ Report { identities: 1, deletions: 1, paths: 7, marks: 0, notes: 0, early_dates: 0, tags_of_blobs_or_tags: 0, ended_with_done: false } %
 blob
 mark :1
 data 1
@@ -226,7 +226,7 @@ D \"\\\"q\\\\\"
 
 reset refs/heads/gone
 
-$ Report { identities: 0, deletions: 0, paths: 0, marks: 0, notes: 0, early_dates: 0, tags_of_blobs_or_tags: 1 } %
+$ Report { identities: 0, deletions: 0, paths: 0, marks: 0, notes: 0, early_dates: 0, tags_of_blobs_or_tags: 1, ended_with_done: false } %
 blob
 mark :1
 data 1
@@ -246,7 +246,7 @@ mark :2
 from :1
 data 1
 a
-$ Report { identities: 0, deletions: 0, paths: 0, marks: 0, notes: 0, early_dates: 0, tags_of_blobs_or_tags: 0 } %
+$ Report { identities: 0, deletions: 0, paths: 0, marks: 0, notes: 0, early_dates: 0, tags_of_blobs_or_tags: 0, ended_with_done: false } %
 commit refs/heads/m
 mark :1
 data 1
@@ -264,7 +264,7 @@ tag a
 from :1
 data 1
 a
-$ Report { identities: 0, deletions: 0, paths: 0, marks: 0, notes: 0, early_dates: 0, tags_of_blobs_or_tags: 1 } %
+$ Report { identities: 0, deletions: 0, paths: 0, marks: 0, notes: 0, early_dates: 0, tags_of_blobs_or_tags: 1, ended_with_done: false } %
 commit refs/heads/m
 mark :1
 data 1
@@ -292,7 +292,7 @@ tag b
 from :2
 data 1
 b
-$ Report { identities: 0, deletions: 0, paths: 0, marks: 0, notes: 0, early_dates: 0, tags_of_blobs_or_tags: 0 } %
+$ Report { identities: 0, deletions: 0, paths: 0, marks: 0, notes: 0, early_dates: 0, tags_of_blobs_or_tags: 0, ended_with_done: false } %
 blob
 mark :1
 data 8

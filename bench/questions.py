@@ -4,7 +4,8 @@
   questions.py REPOSITORY COUNT    COUNT revisions of a bare repository of git's
 
 They are object names, whole, cut short and ambiguous, in either case of digits; refs by whole and by short names; steps to parents, commits and trees; paths of
-files, directories and submodules of any commit, as their own bytes; and of each kind some that give nothing. The same repository gives the same lines.
+files, directories and submodules of any commit, as their own bytes, some with a slash behind; and of each kind some that give nothing. Some lines end with CR LF.
+The same repository gives the same lines.
 """
 import subprocess
 import sys
@@ -58,6 +59,10 @@ class Questions:
         commit = self.random.choice(list(self.paths))
         return commit + b":" + (self.random.choice(self.paths[commit]) if self.paths[commit] else b"")
 
+    def a_slashed_path(self):
+        """A path with a slash behind it, which only a directory may have, and only one."""
+        return self.a_path() + self.random.choice([b"/", b"/", b"/", b"//", b"/."])
+
     def a_name(self):
         name = self.random.choice(self.objects)
         return name if self.random.random() < 0.9 else name.upper()
@@ -78,9 +83,10 @@ class Questions:
         return self.random.choice(self.ambiguous) if self.ambiguous else self.nothing()
 
     def one(self):
-        kinds = [self.a_path] * 9 + [self.a_name] * 4 + [self.a_step] * 3 + [self.a_ref, self.a_cut_name, self.nothing, self.some_ambiguous]
+        kinds = [self.a_path] * 8 + [self.a_slashed_path] + [self.a_name] * 4 + [self.a_step] * 3 + [self.a_ref, self.a_cut_name, self.nothing, self.some_ambiguous]
         asked = self.random.choice(kinds)()
-        return self.nothing() if b"\n" in asked else asked
+        asked = self.nothing() if b"\n" in asked else asked
+        return asked + self.random.choice([b"\r", b"\r", b"\r\r"]) if self.random.random() < 0.05 else asked
 
 
 repository, count = sys.argv[1].encode(), int(sys.argv[2])

@@ -1,14 +1,16 @@
 -- What came and was passed, and what is to come then.
 use Rattle.std.proofs.Common.{◌≡◌, ℕ, ◌<◌, ◌+◌, Bool, true, false, not, eqb, [], ◌∷◌, ◌++◌, Option, Some, None, Ok, Err, refl, sym, ap, subst, ◌∙◌, arith, length, length-append, append_assoc, append-nil}
 use Rattle.std.proofs.lemmas.Bool.Decides.{nat_tests}
+use Rattle.std.specs.Io.BufRead.{strip_last}
 use Rattle.gx_model.specs.Texts.{Bytes, lacks}
 use Rattle.gx_text.specs.Devices.{Coming}
-use Rattle.gx_batch.specs.Lines.{lines_from, lines_of}
+use Rattle.gx_batch.specs.Lines.{lines_from, lines_of, without_crs}
 use Rattle.gx_batch.specs.Reading.{Passes, Reads, TakesPart, behind, shown_coming, shown_most}
 use Rattle.gx_batch.specs.declared.fault.BatchFault.TheVariants.{ReadFailed}
 use Rattle.gx_batch.specs.declared.lines.State.{State}
 use Rattle.gx_batch.specs.declared.lines.State.TheVariants.{Open, Ended, Failed}
 use Rattle.gx_batch.proofs.CutLines.{lacks_both, line_cut, line_first, line_last, no_lines}
+use Rattle.gx_batch.proofs.LeftOutCrs.{crs_first, crs_kept, crs_none, strip_lacks}
 
 -- bytes behind bytes
 behind_both : (a b : Bytes) (c : Coming) → behind (a ++ b) c ≡ behind a (behind b c)
@@ -41,15 +43,24 @@ passes_both a b (Some c) (Some d) z p q =
 pub passes_still : (a : Bytes) (x y z : Option Coming) → Passes a x y → Passes [] y z → Passes a x z
 passes_still a x y z p q = subst (λ bs. Passes bs x z) (append-nil a) (passes_both a [] x y z p q)
 
-lines_left : (was left : Coming) (front : Bytes) → was ≡ behind front left → lines_from was ≡ lines_of (front ++ left.bytes) left.fails
+lines_left : (was left : Coming) (front : Bytes) → was ≡ behind front left → lines_from was ≡ lines_of (without_crs (front ++ left.bytes)) left.fails
 lines_left was left front e = ap lines_from e
 
+-- nothing has no lines
+none_left : (fails : Bool) → lines_of (without_crs []) fails ≡ []
+none_left fails = ap (λ bs. lines_of bs fails) crs_none ∙ no_lines fails
+
 -- a line and its LF were passed
-pub reads_line : (line : Bytes) (was now : Option Coming) → lacks 10 line ≡ true → Passes (line ++ 10 ∷ []) was now → Reads was now line (Ok true)
+pub reads_line : (line : Bytes) (was now : Option Coming) → lacks 10 line ≡ true → Passes (line ++ 10 ∷ []) was now → Reads was now (strip_last 13 line) (Ok true)
 reads_line line None now h p = tt
 reads_line line (Some c) now h p =
-    let left = p.0 in
-    (left, p.1, lines_left c left (line ++ 10 ∷ []) p.2 ∙ ap (λ bs. lines_of bs left.fails) (append_assoc line (10 ∷ []) left.bytes) ∙ line_first line left.bytes left.fails h, sym (ap (λ (d : Coming). d.fails) p.2))
+    let left = p.0 in (
+      left,
+      p.1,
+      lines_left c left (line ++ 10 ∷ []) p.2 ∙ ap (λ bs. lines_of (without_crs bs) left.fails) (append_assoc line (10 ∷ []) left.bytes)
+          ∙ ap (λ bs. lines_of bs left.fails) (crs_first line left.bytes h) ∙ line_first (strip_last 13 line) (without_crs left.bytes) left.fails (strip_lacks line h),
+      sym (ap (λ (d : Coming). d.fails) p.2),
+    )
 
 -- a text that is tested for bytes
 pub has_some : (line : Bytes) (n : ℕ) (empty : Bool) → n ≡ length line → empty ≡ eqb n 0 → not empty ≡ true → 0 < length line
@@ -66,13 +77,18 @@ reads_end room coming line None false h p some none = tt
 reads_end room coming line (Some c) true h p some none =
     let left = p.0 in
     let same = some_same (record { bytes = []; fails = false }) left p.1 in
-    let whole = p.2 ∙ ap (behind line) (sym same) in
-    (left, p.1, lines_left c (record { bytes = []; fails = false }) line whole ∙ ap (λ bs. lines_of bs false) (append-nil line) ∙ line_last line (some refl) h ∙ ap (λ ls. line ∷ ls) (sym (ap lines_from (sym same) ∙ no_lines false)), sym (ap (λ (d : Coming). d.fails) p.2))
+    let whole = p.2 ∙ ap (behind line) (sym same) in (
+      left,
+      p.1,
+      lines_left c (record { bytes = []; fails = false }) line whole ∙ ap (λ bs. lines_of (without_crs bs) false) (append-nil line) ∙ ap (λ bs. lines_of bs false) (crs_kept line h)
+          ∙ line_last line (some refl) h ∙ ap (λ ls. line ∷ ls) (sym (ap lines_from (sym same) ∙ none_left false)),
+      sym (ap (λ (d : Coming). d.fails) p.2),
+    )
 reads_end room coming line (Some c) false h p some none =
     let left = p.0 in
     let same = some_same (record { bytes = []; fails = false }) left p.1 in
     let whole = p.2 ∙ ap (behind line) (sym same) in
-    (lines_left c (record { bytes = []; fails = false }) line whole ∙ ap (λ bs. lines_of bs false) (append-nil line ∙ none refl) ∙ no_lines false, ap (λ (d : Coming). d.fails) whole)
+    (lines_left c (record { bytes = []; fails = false }) line whole ∙ ap (λ bs. lines_of (without_crs bs) false) (append-nil line ∙ none refl) ∙ none_left false, ap (λ (d : Coming). d.fails) whole)
 
 -- all was passed, and the source failed
 pub reads_failure : (room : ℕ) (coming : Option Coming) (line : Bytes) (was : Option Coming) → lacks 10 line ≡ true → Passes line was (shown_coming Failed room coming []) → Reads was (shown_coming Failed room coming []) line (Err ReadFailed)
@@ -81,7 +97,7 @@ reads_failure room coming line (Some c) h p =
     let left = p.0 in
     let same = some_same (record { bytes = []; fails = true }) left p.1 in
     let whole = p.2 ∙ ap (behind line) (sym same) in
-    (lines_left c (record { bytes = []; fails = true }) line whole ∙ ap (λ bs. lines_of bs true) (append-nil line) ∙ line_cut line h, ap (λ (d : Coming). d.fails) whole)
+    (lines_left c (record { bytes = []; fails = true }) line whole ∙ ap (λ bs. lines_of (without_crs bs) true) (append-nil line) ∙ ap (λ bs. lines_of bs true) (crs_kept line h) ∙ line_cut line h, ap (λ (d : Coming). d.fails) whole)
 
 -- ---- what one part changes
 
@@ -93,7 +109,7 @@ most_less Failed room front rest = length-append front rest
 
 module _ (was coming : Option Coming) (room : ℕ) (rest left line now : Bytes) where
   -- a line came whole
-  pub whole_line : (state : State) → lacks 10 line ≡ true → Passes line was (shown_coming state room coming rest) → TakesPart rest left line now true → Reads was (shown_coming state room coming left) now (Ok true)
+  pub whole_line : (state : State) → lacks 10 line ≡ true → Passes line was (shown_coming state room coming rest) → TakesPart rest left line now true → Reads was (shown_coming state room coming left) (strip_last 13 now) (Ok true)
   whole_line state h p t =
       let front = t.0 in
       let ended = front ++ 10 ∷ [] in

@@ -1,20 +1,48 @@
 -- What is answered to a line: the object that it names as a revision, or why there is none.
--- Source: git-cat-file(1), "BATCH OUTPUT".
-use Rattle.std.specs.Prelude.{ℕ, Bool, if◌then◌else◌, List, [], ◌∷◌, ◌++◌, length, codes, Ok, Err}
-use Rattle.std.specs.List.{flat_map}
+-- Source: git-cat-file(1), "BATCH OUTPUT", and what git 2.39 does with a `/` behind a path.
+use Rattle.std.specs.Prelude.{ℕ, Bool, nat_eq, if◌then◌else◌, List, [], ◌∷◌, ◌++◌, length, codes, Option, Some, None, Ok, Err}
+use Rattle.std.specs.List.{ends_with, flat_map}
 use Rattle.std.specs.Fmt.{decimal}
 use Rattle.gx_model.specs.declared.objects.Kind.{Kind}
 use Rattle.gx_model.specs.declared.faults.Fault.{Fault}
-use Rattle.gx_model.specs.declared.faults.Fault.TheVariants.{Ambiguous}
-use Rattle.gx_model.specs.Texts.{Bytes}
+use Rattle.gx_model.specs.declared.faults.Fault.TheVariants.{Ambiguous, WrongKind}
+use Rattle.gx_model.specs.Texts.{Bytes, cut_at, same_bytes}
 use Rattle.gx_model.specs.Faults.{Given, and_then}
-use Rattle.gx_model.specs.Histories.Values.{Value}
+use Rattle.gx_model.specs.Histories.Values.{Value, blob_value, commit_value, tag_value, tree_value}
 use Rattle.gx_model.specs.Objects.{hex, line}
 use Rattle.gx_model.specs.Records.{body_of, kind_of, name_of}
 use Rattle.gx_model.specs.Histories.{History}
 use Rattle.gx_model.specs.Objects.Naming.{kind_word}
-use Rattle.gx_model.specs.Revisions.{revision_of}
+use Rattle.gx_model.specs.Revisions.{revision_of, without_last}
 use Rattle.gx_model.specs.Revisions.Denotation.{Shown, denoted, object, submodule}
+
+-- ---- what a line asks for
+
+-- the slash that may end a path, alone
+abbrev pub slash : Bytes
+slash = codes "/"
+
+-- a text without the slash at its end, where there is one
+abbrev pub without_slash : Bytes → Option Bytes
+without_slash text = if ends_with nat_eq text slash then Some (without_last 1 text) else None
+
+-- a line's revision with the path of a directory: what stands before the slash at the end of its path, which isn't a slash alone
+abbrev pub directory_in : Bytes → Option (Bytes × Bytes) → Option Bytes
+directory_in asked None = None
+directory_in asked (Some p) = if same_bytes p.1 slash then None else without_slash asked
+
+abbrev pub directory_of : Bytes → Option Bytes
+directory_of asked = directory_in asked (cut_at 58 asked)
+
+-- a tree alone
+abbrev pub only_tree : Shown → Given Shown
+only_tree (object (tree_value files)) = Ok (object (tree_value files))
+only_tree (object (blob_value bytes)) = Err WrongKind
+only_tree (object (commit_value revision)) = Err WrongKind
+only_tree (object (tag_value tag)) = Err WrongKind
+only_tree (submodule digits) = Err WrongKind
+
+-- ---- what is answered
 
 -- why a line gives no object
 abbrev pub reason : Fault → Bytes
@@ -26,6 +54,18 @@ abbrev pub line_of_parts : Bytes → Kind → ℕ → Bytes
 line_of_parts called kind size = line (hex called) (kind_word kind ++ 32 ∷ decimal size)
 
 module _ (name : Kind → Bytes → Bytes) where
+  -- what a text gives as a revision in a history
+  abbrev pub given_by : History → Bytes → Given Shown
+  given_by h text = and_then (revision_of text) (denoted name h)
+
+  -- what a line asks for: a revision, or the tree of one with a slash behind its path
+  abbrev pub asked_by : History → Bytes → Option Bytes → Given Shown
+  asked_by h asked None = given_by h asked
+  asked_by h asked (Some front) = and_then (given_by h front) only_tree
+
+  abbrev pub asked_for : History → Bytes → Given Shown
+  asked_for h asked = asked_by h asked (directory_of asked)
+
   -- an object's name, kind and length
   abbrev pub object_line : Value → Bytes
   object_line value = line_of_parts (name_of name value) (kind_of name value) (length (body_of name value))
@@ -42,7 +82,7 @@ module _ (name : Kind → Bytes → Bytes) where
 
   -- what is answered to a line in a history
   abbrev pub batch_answer : Bool → History → Bytes → Bytes
-  batch_answer check h asked = answer_by check asked (and_then (revision_of asked) (denoted name h))
+  batch_answer check h asked = answer_by check asked (asked_for h asked)
 
   -- what is answered to lines
   abbrev pub batch_text : Bool → History → List Bytes → Bytes

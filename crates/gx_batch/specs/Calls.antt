@@ -3,15 +3,24 @@
 use Rattle.std.specs.Prelude.{Bool, Option, Result}
 use Rattle.gx_model.specs.declared.objects.Kind.{Kind}
 use Rattle.gx_model.specs.Texts.{Bytes}
+use Rattle.gx_model.specs.Faults.{Gives}
 use Rattle.gx_model.specs.Histories.{Records}
 use Rattle.gx_model.specs.Records.HistoryOf.{history_of}
 use Rattle.gx_model.specs.Texts.Sinks.{Taken}
 use Rattle.gx_text.specs.Devices.{Coming}
 use Rattle.gx_object.specs.declared.name.Name.{Name}
+use Rattle.gx_rev.specs.Answers.{shown_by}
 use Rattle.gx_rev.specs.Objects.{value_at}
-use Rattle.gx_batch.specs.Answers.{batch_answer, object_text}
+use Rattle.gx_rev.specs.RevFaults.{fault_of}
+use Rattle.gx_rev.specs.declared.fault.RevFault.{RevFault}
+use Rattle.gx_rev.specs.declared.shown.Shown.{Shown}
+use Rattle.gx_batch.specs.Answers.{asked_for, batch_answer, object_text}
 use Rattle.gx_batch.specs.Batches.{Answers, Sent}
 use Rattle.gx_batch.specs.declared.fault.BatchFault.{BatchFault}
+
+-- what a line asks for
+abbrev pub GivesAsked : {N : Type 0} → (N → Kind → Bytes → Bytes) → N × Records → Bytes → Result Shown RevFault → Type 0
+GivesAsked name_of repo asked result = Gives fault_of (shown_by repo.1) result (asked_for (name_of repo.0) (history_of repo.1) asked)
 
 module _ {N W : Type 0} (name_of : N → Kind → Bytes → Bytes) (taken : W → Option Taken) (repo : N × Records) (check : Bool) where
   -- the answer to a line

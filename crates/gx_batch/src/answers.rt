@@ -5,17 +5,18 @@ ghost use Rattle.gx_model.specs.Objects.Naming.{kind_word};
 ghost use Rattle.gx_model.specs.Objects.{line};
 ghost use Rattle.gx_rev.specs.Answers.{IsNamed};
 ghost use Rattle.gx_rev.specs.Calls.{DenotesText};
+ghost use Rattle.gx_rev.specs.Views.{borrowed};
 ghost use Rattle.gx_rev.specs.declared.shown.Shown.TheVariants.{Object};
-ghost use Rattle.gx_batch.specs.Answers.{line_of_parts};
+ghost use Rattle.gx_batch.specs.Answers.{directory_of, line_of_parts};
 ghost use Rattle.gx_batch.specs.Batches.{Sent};
-ghost use Rattle.gx_batch.specs.Calls.{SendsAnswer, SendsObject};
+ghost use Rattle.gx_batch.specs.Calls.{GivesAsked, SendsAnswer, SendsObject};
 ghost use Rattle.gx_batch.specs.declared.fault.BatchFault.TheVariants.{WriteFailed};
 
 use crate::BatchFault;
 use gx_object::{Kind, Name, Namer};
 use gx_repo::Repo;
 use gx_rev::{RevFault, Revision, Shown, body_of};
-use gx_text::{Sink, send};
+use gx_text::{Sink, cut, send};
 use itoa::Buffer;
 use std::alloc::{AllocError, Allocator};
 
@@ -33,7 +34,7 @@ pub(crate) fn answer<N: Namer, W: Sink, A: Allocator + Copy>(
 ) -> Result<(), BatchFault>
     ensures { SendsAnswer N.name_of W.taken repo.now check asked.now sink.old sink.new result }
 {
-    match eval(alloc, repo, asked) {
+    match eval_line(alloc, repo, asked) {
         Ok(Shown::Object(kind, name)) => answer_object(repo, check, kind, &name, buffer, sink),
         Ok(Shown::Submodule(_)) => answer_refusal(asked, b"missing", buffer, sink),
         Err(RevFault::OutOfMemory) => Err(BatchFault::OutOfMemory),
@@ -42,7 +43,36 @@ pub(crate) fn answer<N: Namer, W: Sink, A: Allocator + Copy>(
     }
 }
 
-/// What a line shows as a revision.
+/// What a line asks for: a revision, or the tree of one that has a slash behind its path.
+fn eval_line<N: Namer, A: Allocator + Copy>(
+    alloc: A,
+    repo: &Repo<N, A>,
+    asked: &[u8],
+) -> Result<Shown, RevFault>
+    ensures shown { GivesAsked N.name_of repo.now asked.now result }
+    ensures named { IfOk result (IsNamed (N.name_of repo.now.0) repo.now.1) }
+{
+    let Some(front) = directory_of(asked) else {
+        return eval(alloc, repo, asked);
+    };
+    match eval(alloc, repo, front)? {
+        Shown::Object(Kind::Tree, name) => Ok(Shown::Object(Kind::Tree, name)),
+        _ => Err(RevFault::WrongKind),
+    }
+}
+
+/// What stands before the slash at the end of a line's path, which isn't a slash alone.
+fn directory_of(asked: &[u8]) -> Option<&[u8]>
+    ensures { borrowed result ≡ directory_of asked.now }
+{
+    let (_, path) = cut(asked, b':')?;
+    if path == b"/".as_slice() {
+        return None;
+    }
+    asked.strip_suffix(b"/")
+}
+
+/// What a text shows as a revision.
 fn eval<N: Namer, A: Allocator + Copy>(
     alloc: A,
     repo: &Repo<N, A>,

@@ -1,6 +1,7 @@
 //! The lines that a source gives.
 
 ghost use Rattle.std.specs.Prelude.{◌≡◌, ◌<◌, ◌≤◌, ◌+◌, [], length, IfOk};
+ghost use Rattle.std.specs.Io.BufRead.{strip_last};
 ghost use Rattle.gx_batch.specs.Reading.{Falls, IsReaderOf, IsSound, KeepsComing, Passes, ReadsLine, TakesPartOf, most, pulls_left, rest_of, shown_from};
 ghost use Rattle.gx_batch.specs.declared.lines.State.TheVariants.{Open};
 
@@ -52,8 +53,8 @@ impl<R: Source + Drop, A: Allocator + Copy> LineReader<R, A> {
         })
     }
 
-    /// Reads the next line, without its LF. Answers whether there is one: what stands behind the last LF is one where the
-    /// source ends, unless it is empty. After `false` and after a fault it is over.
+    /// Reads the next line, without its LF, and without a CR directly before that. Answers whether there is one: what stands
+    /// behind the last LF is one where the source ends, unless it is empty. After `false` and after a fault it is over.
     ///
     /// Cost: the line's bytes. Memory: the longest line.
     pub(crate) fn next(&mut self, line: &mut Vec<u8, A>) -> Result<bool, BatchFault>
@@ -65,6 +66,7 @@ impl<R: Source + Drop, A: Allocator + Copy> LineReader<R, A> {
         line.clear();
         loop {
             if take_part(&self.piece, &mut self.at, self.end, line)? {
+                drop_cr(line);
                 return Ok(true);
             }
             match self.state {
@@ -115,6 +117,16 @@ fn take_part<A: Allocator>(
             *at = end;
             Ok(false)
         }
+    }
+}
+
+/// Takes a CR from a line's end.
+fn drop_cr<A: Allocator>(line: &mut Vec<u8, A>)
+    ensures { line.new.items ≡ strip_last 13 line.old.items }
+{
+    let count = line.len();
+    if count > 0 && line[count - 1] == b'\r' {
+        line.truncate(count - 1);
     }
 }
 

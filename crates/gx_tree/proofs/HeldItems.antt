@@ -4,6 +4,7 @@ use Rattle.gx_model.specs.declared.objects.Kind.{Kind}
 use Rattle.gx_model.specs.declared.objects.Mode.TheVariants.{Dir}
 use Rattle.gx_model.specs.Texts.{Bytes}
 use Rattle.gx_model.specs.Histories.{Record}
+use Rattle.gx_model.specs.Objects.{IsNamer}
 use Rattle.gx_model.specs.Objects.NameMaps.{IsHeldTree}
 use Rattle.gx_object.specs.declared.entry.Entry.{Entry}
 use Rattle.gx_tree.specs.HeldTrees.{IsItemOf, NamesKeptWithin, NamesTreeWithin}
@@ -11,6 +12,7 @@ use Rattle.gx_tree.specs.Loaded.{IsLoaded}
 use Rattle.gx_tree.specs.Named.{NamedTree}
 use Rattle.gx_tree.specs.Nodes.{file, folder}
 use Rattle.gx_tree.specs.declared.directory.Item.TheVariants.{File, Folder}
+use Rattle.gx_tree.proofs.OneMap.{one_map}
 
 module _ (name : Kind → Bytes → Bytes) (rs : List Record) (e : Entry) where
   -- a file is that of its entry
@@ -24,6 +26,6 @@ module _ (name : Kind → Bytes → Bytes) (rs : List Record) (e : Entry) where
   tree_named m (folder g, h, l) = (h.0, (g, (subst (λ n. IsHeldTree name rs n g) (ap (λ x. x.1) l) h.1.0, h.1.1)))
 
   -- and stands for it, once it is loaded
-  pub folder_is : (A : Type 0) {d : NamedTree} → e.mode ≡ Dir → IsLoaded name rs e.name.bytes d → IsItemOf name rs {A = A} e (Folder d)
-  folder_is A m d (file x) most h l = absurd (h (ap (λ x. x.0) l ∙ m))
-  folder_is A m d (folder g) most h l = ap folder (d.files g (subst (λ n. IsHeldTree name rs n g) (ap (λ x. x.1) l) h.1.0))
+  pub folder_is : (A : Type 0) {d : NamedTree} → IsNamer name → e.mode ≡ Dir → IsLoaded name rs e.name.bytes d → IsItemOf name rs {A = A} e (Folder d)
+  folder_is A i m loaded (file x) most h l = absurd (h (ap (λ x. x.0) l ∙ m))
+  folder_is A {d} i m loaded (folder g) most h l = ap folder (one_map name rs i e.name.bytes d.files g loaded.held (subst (λ n. IsHeldTree name rs n g) (ap (λ x. x.1) l) h.1.0))

@@ -95,7 +95,7 @@ module _ (name : Kind → Bytes → Bytes) (rs : List Record) where
       let l = IsLevel-level_of g h in
       subst (λ z. tree_records name z ≡ flat_map (λ e. kept_records name e.1) (level_of g) ++ tree_record name z ∷ []) (files-level_of g (parts_of g h.file_map)) (tree_records-files name (level_of g) l (IsInner-files (level_of g) l).paths)
 
-  own_record : (n : Bytes) (g : FileMap Bytes) → IsHeldTree name rs n g → record_named rs n ≡ Some (tree_record name g)
+  pub own_record : (n : Bytes) (g : FileMap Bytes) → IsHeldTree name rs n g → record_named rs n ≡ Some (tree_record name g)
   own_record n g h =
       ap (record_named rs) h.named
       ∙ (all_right (λ r. record_named rs r.name ≡ Some r) (flat_map (λ e. kept_records name e.1) (level_of g)) (tree_record name g ∷ []) (subst AreHeld (records_of g h.map) h.held)).0

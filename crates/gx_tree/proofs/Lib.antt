@@ -18,6 +18,7 @@ pub mod TreeRecords
 pub mod WrittenRecords
 pub mod LevelsOf
 pub mod HeldLevels
+pub mod OneMap
 pub mod HeldItems
 pub mod HeldRecords
 pub mod WrittenHomes

@@ -38,7 +38,7 @@ use Rattle.gx_tree.proofs.Texts.{same_itself}
 abbrev pub IsKeptHeld : List Record → List Record → Type 0
 IsKeptHeld old new = (n : Bytes) (s : Record) → record_named old n ≡ Some s → record_named new n ≡ Some s
 
-held_longer : (old new rs : List Record) → IsKeptHeld old new → AllByRecursion (λ r. record_named old r.name ≡ Some r) rs → AllByRecursion (λ r. record_named new r.name ≡ Some r) rs
+pub held_longer : (old new rs : List Record) → IsKeptHeld old new → AllByRecursion (λ r. record_named old r.name ≡ Some r) rs → AllByRecursion (λ r. record_named new r.name ≡ Some r) rs
 held_longer old new [] k h = tt
 held_longer old new (r ∷ rs) k h = (k r.name r h.0, held_longer old new rs k h.1)
 

@@ -18,5 +18,6 @@ mod search;
 mod writing;
 
 pub use fault::TreeFault;
-pub use laws::records_keep_home;
+pub use laws::{records_keep_home, records_keep_loaded};
+pub use loaded::LoadedTrees;
 pub use path_tree::{Found, PathTree};

@@ -1,12 +1,12 @@
 //! Making a directory from the records of its trees.
-ghost use Rattle.std.specs.Prelude.{IfOk, OnOk};
+ghost use Rattle.std.specs.Prelude.{IfOk};
 ghost use Rattle.gx_tree.specs.HeldTrees.{IsItemOf, NamesKeptWithin, NamesTreeWithin};
 ghost use Rattle.gx_tree.specs.Homes.{HoldsIn, IsItemAtHome};
 ghost use Rattle.gx_tree.specs.Loaded.{AreLoaded, IsLoaded};
 ghost use Rattle.gx_tree.specs.Views.{Remembers};
 
 use crate::directory::{Directory, Entry, Item};
-use crate::loaded::Loaded;
+use crate::loaded::LoadedTrees;
 use gx_object::{Mode, Name, Namer, held_tree};
 use gx_store::Store;
 use std::alloc::{AllocError, Allocator};
@@ -20,12 +20,12 @@ impl<A: Allocator + Copy> Directory<A> {
         store: &Store<N, A>,
         name: &Name,
         room: usize,
-        loaded: &mut Loaded<A>,
+        loaded: &mut LoadedTrees<A>,
     ) -> Result<Directory<A>, AllocError>
         requires held { NamesTreeWithin (N.name_of store.now.0) store.now.1 room name.now }
         requires loaded { HoldsIn N.name_of store.now AreLoaded loaded.old }
         ensures directory { IfOk result (IsLoaded (N.name_of store.now.0) store.now.1 name.now.bytes) }
-        ensures loaded { OnOk result (HoldsIn N.name_of store.now AreLoaded loaded.new) }
+        ensures loaded { HoldsIn N.name_of store.now AreLoaded loaded.new }
     {
         if let Some(known) = loaded.of_tree(name)? {
             return Ok(known);
@@ -51,14 +51,14 @@ impl<A: Allocator + Copy> Item<A> {
         store: &Store<N, A>,
         entry: &gx_object::Entry<'_>,
         room: usize,
-        loaded: &mut Loaded<A>,
+        loaded: &mut LoadedTrees<A>,
     ) -> Result<Item<A>, AllocError>
         requires held { NamesKeptWithin (N.name_of store.now.0) store.now.1 room entry.now }
         requires loaded { HoldsIn N.name_of store.now AreLoaded loaded.old }
         ensures home { IfOk result (HoldsIn N.name_of store.now IsItemAtHome) }
         ensures remembers { IfOk result Remembers }
         ensures kept { IfOk result (IsItemOf (N.name_of store.now.0) store.now.1 entry.now) }
-        ensures loaded { OnOk result (HoldsIn N.name_of store.now AreLoaded loaded.new) }
+        ensures loaded { HoldsIn N.name_of store.now AreLoaded loaded.new }
     {
         if entry.mode != Mode::Dir {
             return Ok(Item::File(entry.mode, entry.name));

@@ -11,6 +11,7 @@ ghost use Rattle.gx_model.specs.Objects.NameMaps.{IsNameMap};
 ghost use Rattle.gx_tree.specs.HeldTrees.{HoldsTree, NamesHeldTree};
 ghost use Rattle.gx_tree.specs.Homes.{HoldsIn};
 ghost use Rattle.gx_tree.specs.Lists.{shown_listed};
+ghost use Rattle.gx_tree.specs.Loaded.{AreLoaded};
 ghost use Rattle.gx_tree.specs.Named.{IsAtHome, KeepsHome, nothing};
 ghost use Rattle.gx_tree.specs.Writes.{IsTreeName, StoresAll};
 ghost use Rattle.gx_tree.specs.Standings.{standing_of, standing_at};
@@ -20,7 +21,7 @@ ghost use Rattle.gx_tree.specs.declared.fault.TreeFault.TheVariants as faults;
 use crate::copying::MOST_BYTES;
 use crate::directory::{Directory, Item};
 use crate::fault::TreeFault;
-use crate::loaded::Loaded;
+use crate::loaded::LoadedTrees;
 use crate::root::Root;
 use gx_object::{Mode, Name, Namer};
 use gx_store::Store;
@@ -82,8 +83,31 @@ impl<A: Allocator + Copy> PathTree<A> {
         ensures files { LoadsFiles (N.name_of store.now.0) store.now.1 name.now result }
         ensures home { IfOk result (HoldsIn N.name_of store.now IsAtHome) }
     {
-        let mut loaded = Loaded::new(alloc);
-        let directory = Directory::load(alloc, store, name, MOST_BYTES, &mut loaded)?;
+        let mut loaded = LoadedTrees::new(alloc);
+        PathTree::load_among(alloc, store, name, &mut loaded)
+    }
+
+    /// The files that `load` gives, where some trees are loaded from the store already: they are shared, and not read again.
+    /// Each tree that is read is from then on among them, until they have many more entries than one tree: then they are let
+    /// go, and read again where they are asked for. The one error is `OutOfMemory`.
+    ///
+    /// Cost: that of `load`, for the trees that are not among those that are loaded. Takes memory for at most 65,536 entries
+    /// and those of three trees as large as the largest that was loaded. Source: git-fast-import(1), "from", on a commit at
+    /// which no branch stands.
+    pub fn load_among<N: Namer>(
+        alloc: A,
+        store: &Store<N, A>,
+        name: &Name,
+        loaded: &mut LoadedTrees<A>,
+    ) -> Result<PathTree<A>, TreeFault>
+        requires held { NamesHeldTree (N.name_of store.now.0) store.now.1 name.now }
+        requires loaded { HoldsIn N.name_of store.now AreLoaded loaded.old }
+        ensures files { LoadsFiles (N.name_of store.now.0) store.now.1 name.now result }
+        ensures home { IfOk result (HoldsIn N.name_of store.now IsAtHome) }
+        ensures loaded { HoldsIn N.name_of store.now AreLoaded loaded.new }
+    {
+        loaded.make_room();
+        let directory = Directory::load(alloc, store, name, MOST_BYTES, loaded)?;
         let root = Root::of(directory);
         Ok(PathTree { root, alloc })
     }

@@ -4,7 +4,7 @@ use Rattle.gx_tree.specs.Named.{IsAtHome, IsHome, NamedTree, is_named}
 use Rattle.gx_tree.proofs.Homes.{all_joined, files_same, named_at_home}
 use Rattle.std.proofs.Common.{rules, ◌≡◌, ◌*◌, ◌<◌, map, sym, ap, ◌∙◌, subst, arith}
 use Rattle.std.proofs.lemmas.List.{map-append}
-use Rattle.std.proofs.lemmas.Result.{IfOk-weaker, on_ok_weaker}
+use Rattle.std.proofs.lemmas.Result.{IfOk-weaker}
 use Rattle.gx_model.proofs.FileMapEdits.{parts_of}
 use Rattle.gx_model.specs.declared.objects.Mode.TheVariants.{Dir}
 use Rattle.gx_object.specs.Entries.{shown}
@@ -83,13 +83,13 @@ Directory::load-returns g t c =
     let home = named_at_home name c.args.store.now.1 c.args.name.now es (subst IsLevel (sym (all f held)) (IsLevel-level_of f held.map)) (subst (IsHome name c.args.store.now.1 c.args.name.now.bytes) (sym (whole f held)) (record { named = held.named; held = held.held })) c.loop-entry.invariant.1 in
     let e = c.in_ok-directory.ensures in
     let own : IsLoaded name c.args.store.now.1 c.args.name.now.bytes c.in_ok-directory.directory = record {
-      files = λ f h. files_same e ∙ whole f h;
+      held = subst (IsHeldTree name c.args.store.now.1 c.args.name.now.bytes) (sym (files_same e ∙ whole f held)) held;
       home = subst (IsAtHome name c.args.store.now.1) (sym e) home;
       remembers = ap (λ (t : NamedTree). is_named t.names) e;
     } in
     record {
       directory = IfOk-weaker c.enter.result _ _ (λ d same. subst (IsLoaded name c.args.store.now.1 c.args.name.now.bytes) (sym same) own) c.enter.ensures.directory;
-      loaded = on_ok_weaker c.enter.result (λ entered. entered name c.args.store.now.1 c.loop-entry.invariant.3 own) c.enter.ensures.entered;
+      loaded = c.enter.ensures.entered name c.args.store.now.1 c.loop-entry.invariant.3 own;
     }
 
 pub Item::load-load-requires : goal.Item::load-load-requires
@@ -107,7 +107,7 @@ Item::load-unreachable-requires g t c =
 pub Item::load-returns-clause-kept : goal.Item::load-returns-clause-kept
 Item::load-returns-clause-kept g t c =
     let m : c.args.entry.now.mode ≡ Dir = search rules in
-    folder_is (g.N.Namer.name_of c.args.store.now.0) c.args.store.now.1 c.args.entry.now g.row.A.Denot m c.in_ok-below.ensures.directory
+    folder_is (g.N.Namer.name_of c.args.store.now.0) c.args.store.now.1 c.args.entry.now g.row.A.Denot (g.met.N.Namer.is_namer c.args.store.now.0) m c.in_ok-below.ensures.directory
 
 pub Item::load-returns-then-ne-clause-kept : goal.Item::load-returns-then-ne-clause-kept
 Item::load-returns-then-ne-clause-kept g t c = file_is (g.N.Namer.name_of c.args.store.now.0) c.args.store.now.1 c.args.entry.now g.row.A.Denot (search rules)

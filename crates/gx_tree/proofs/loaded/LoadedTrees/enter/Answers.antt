@@ -7,7 +7,7 @@ use Rattle.gx_model.specs.Replay.{byte_cmp}
 use Rattle.gx_model.proofs.SortedRefs.{same_text}
 use Rattle.gx_tree.specs.Named.{NamedTree}
 use Rattle.gx_tree.specs.Loaded.{IsLoaded}
-use Rattle.gx_tree.proofs.loaded.Loaded.enter.Goals as goal
+use Rattle.gx_tree.proofs.loaded.LoadedTrees.enter.Goals as goal
 
 -- what is found at m once d is entered for k
 entered : (P : Bytes → NamedTree → Type 0) (k m : Bytes) (d : NamedTree) (o : Option NamedTree) → P k d → IfSome o (P m) → IfSome (cond (is_eq (byte_cmp k m)) (Some d) o) (P m)

@@ -1,12 +1,12 @@
 #!/usr/bin/env bash
 # Measures inputs whose size is meant to hurt (bench/hostile.py), each at a size and at its double. Beside each stand the blobs of
-# 1 KB that have as many bytes together, and `git fast-import` of the doubled stream. Then the deepest inputs are run on small
-# stacks. A row of a Markdown table goes out for each; the exit status is 1 where one misses its bound.
+# 1 KB that have as many bytes together, and `git fast-import` of the doubled stream. Then the least stack is found
+# on which the deepest inputs work. A row of a Markdown table goes out for each; the exit status is 1 where one misses its bound.
 #   bench/hostile.sh [KIND..]      all kinds, and then `stack`, if none is named
 # The bounds: twice the size takes at most MOST times the time and the memory (2.4), where what is below FLOOR seconds (0.1) or
 # 32 MB counts as that; or, of `directory`, no more time than git takes. Each run takes at most LIMIT seconds (300) and prints
-# what it should. Every deep input is read on a stack of 8,192 KB, and on one of 1,024 KB it ends in an answer, or the row says
-# which stack it needs.
+# what it should. Of the deepest inputs the least stack is found that works, by halving; half of the 8,192 KB that a system gives
+# a program has to do.
 # GX: the built program, crates/gx/out/gx if it isn't set. RUNS, GIT_RUNS: of how many runs the best is taken, 3 and 1; with
 # GIT_RUNS=0 git isn't run. DIVIDE: divides all sizes, for a quick look. It builds crates/gx, and needs rt, git, python3 and GNU time.
 set -euo pipefail
@@ -169,35 +169,44 @@ on_stack() {
   echo "$status"
 }
 
-# the least of these stacks on which a run ends in an answer: stack_row NAME PREPARE COMMAND..
-stack_row() {
-  local name=$1 prepare=$2 size status small=''
+# Whether a run does what it should on a stack of so many KB: works_on KB PREPARE COMMAND..
+works_on() {
+  local size=$1 prepare=$2
   shift 2
-  for size in 1024 2048 4096 8192; do
-    "$prepare"
-    status=$(on_stack "$size" "$@")
-    [ "$size" != 1024 ] || small=$status
-    [ "$status" -ge 124 ] || break
-  done
-  if [ "$size" -lt 8192 ] && [ "$status" -lt 124 ]; then
-    "$prepare"
-    local enough
-    enough=$(on_stack 8192 "$@")
-    [ "$enough" = 0 ] || status=$enough
-  fi
-  local word="answers on $size KB" ends="status $small"
-  [ "$small" -lt 124 ] || ends="signal or limit ($small)"
-  if [ "$status" -ge 124 ] || { [ "$size" = 8192 ] && [ "$status" != 0 ]; }; then
-    word=missed
+  "$prepare"
+  [ "$(on_stack "$size" "$@")" = 0 ]
+}
+
+# the least stack on which a run does what it should, by halving, to 16 KB: stack_row NAME PREPARE COMMAND..
+stack_row() {
+  local name=$1 fails=0 works=8192 middle
+  shift
+  if ! works_on "$works" "$@"; then
     missed=1
+    echo "| $name | more than $works KB | missed |"
+    return
   fi
-  echo "| $name | $ends | $word |"
+  while [ "$((works - fails))" -gt 16 ]; do
+    middle=$(((fails + works) / 2))
+    if works_on "$middle" "$@"; then works=$middle; else fails=$middle; fi
+  done
+  echo "| $name | $works KB | $(stack_word "$works") |"
+}
+
+# twice the least stack is to be within what systems give a program
+stack_word() {
+  if [ "$(($1 * 2))" -le 8192 ]; then
+    echo kept
+  else
+    missed=1
+    echo missed
+  fi
 }
 
 measure_stack() {
   local deep=$folder/deepest
   echo
-  echo '| On a small stack | With 1,024 KB | Bound |'
+  echo '| What is run | The least stack that works | At most 4,096 KB |'
   echo '|---|---|---|'
   python3 bench/hostile.py deep 3 > "$folder/stream"
   input=$folder/stream

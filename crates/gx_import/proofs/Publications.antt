@@ -4,18 +4,19 @@ use Rattle.std.proofs.Math.Seq.{take-append_seam}
 use Rattle.std.proofs.lemmas.List.{append-nil, length-map}
 use Rattle.gx_model.specs.declared.objects.Kind.{Kind}
 use Rattle.gx_model.specs.declared.faults.Fault.TheVariants as fault
+use Rattle.gx_model.specs.declared.features.Features.{Features}
 use Rattle.gx_model.specs.Texts.{Bytes}
 use Rattle.gx_model.specs.Histories.{Record, Records, record_of}
 use Rattle.gx_model.specs.Records.HistoryOf.{history_of}
 use Rattle.gx_model.specs.Streams.Commands.{Commands}
 use Rattle.gx_model.specs.Laws.RepositoryLaws.{HistoriesOf}
 use Rattle.gx_model.specs.Replay as model
-use Rattle.gx_model.specs.Replay.{Outcome, State, final, finished, imported, is_fast_forward, overwritten, refused, replayed_commands, report}
+use Rattle.gx_model.specs.Replay.{Outcome, State, final, finished, imported_asked, is_fast_forward, overwritten, refused, replayed_asked, report}
 use Rattle.gx_model.specs.Records.Sound.{IsSound}
 use Rattle.gx_model.specs.Texts.Sinks.{Taken}
 use Rattle.gx_text.specs.Devices.{Coming}
 use Rattle.gx_stream.specs.Heard.{heard}
-use Rattle.gx_command.specs.Reading.{commands_from}
+use Rattle.gx_command.specs.Reading.{commands_asked_from}
 use Rattle.gx_import.specs.Imports.{Imports, Leaves, Replays, StandsForIts, StandsForReplay, last_number, only, progress_of, replayed_on, report_of}
 use Rattle.gx_import.specs.Publishing.{Publishes}
 use Rattle.gx_import.specs.Replaying.{EndsAs, IsLast}
@@ -30,10 +31,10 @@ use Rattle.gx_import.proofs.ReachedStates.{from_one, imported_is}
 pub counted : (name : Kind → Bytes → Bytes) → HistoriesOf name → (r : Records) → IsSound name r → length r.records ≡ length (history_of r).values
 counted name law r sound = ap length (law.stands r sound).records ∙ length-map (history_of r).values (record_of name)
 
-module _ (name : Kind → Bytes → Bytes) where
-  forward : (old new : Records) (commands : Commands) (n : ℕ) (s : State) (was now : Option Taken) → IsLast name old commands n s was now → (objects count : ℕ) → is_fast_forward s ≡ true → history_of new ≡ final s
+module _ (asks : Features) (name : Kind → Bytes → Bytes) where
+  forward : (old new : Records) (commands : Commands) (n : ℕ) (s : State) (was now : Option Taken) → IsLast asks name old commands n s was now → (objects count : ℕ) → is_fast_forward s ≡ true → history_of new ≡ final s
       → count ≡ length (overwritten s s.published) → objects ≡ length s.history.values - s.held
-      → Replays name old new commands (replayed_commands name (history_of old) commands) was now (Ok (record { commands = n; objects = objects; refs = count }))
+      → Replays asks name old new commands (replayed_asked name asks (history_of old) commands) was now (Ok (record { commands = n; objects = objects; refs = count }))
   forward old new commands n s was now k objects count is made counts adds = (
     s.progress,
     k.outcome
@@ -44,15 +45,15 @@ module _ (name : Kind → Bytes → Bytes) where
     k.progress,
   )
 
-  backward : (old new : Records) (commands : Commands) (n : ℕ) (s : State) (was now : Option Taken) → IsLast name old commands n s was now → is_fast_forward s ≡ false
+  backward : (old new : Records) (commands : Commands) (n : ℕ) (s : State) (was now : Option Taken) → IsLast asks name old commands n s was now → is_fast_forward s ≡ false
       → (count : ℕ) → Leaves new count s.kept
-      → Replays name old new commands (replayed_commands name (history_of old) commands) was now (Err (record { command = n + 1; kind = NotFastForward; checkpoints = count }))
+      → Replays asks name old new commands (replayed_asked name asks (history_of old) commands) was now (Err (record { command = n + 1; kind = NotFastForward; checkpoints = count }))
   backward old new commands n s was now k is count leaves =
       inl (s.progress, s.kept, k.outcome ∙ ap (λ b. cond b (finished (final s) s.progress (report n s)) (refused (n + 1) fault.NotFastForward s.progress s.kept)) is, k.progress, leaves)
 
-  no_memory : (old new : Records) (commands : Commands) (n : ℕ) (s : State) (was now : Option Taken) → IsLast name old commands n s was now
+  no_memory : (old new : Records) (commands : Commands) (n : ℕ) (s : State) (was now : Option Taken) → IsLast asks name old commands n s was now
       → (count : ℕ) → Leaves new count s.kept
-      → Replays name old new commands (replayed_commands name (history_of old) commands) was now (Err (record { command = n + 1; kind = OutOfMemory; checkpoints = count }))
+      → Replays asks name old new commands (replayed_asked name asks (history_of old) commands) was now (Err (record { command = n + 1; kind = OutOfMemory; checkpoints = count }))
   no_memory old new commands n s was now k count leaves =
       let b = begins_outcome name n s [] None in
       inr (
@@ -62,8 +63,8 @@ module _ (name : Kind → Bytes → Bytes) where
         (commands.list, [], sym (append-nil commands.list), sym (ap (λ m. m + 1) k.count), s.progress, s.kept, k.cut, leaves),
       )
 
-  not_published : (old new mid last : Records) (commands : Commands) (n : ℕ) (s : State) (was now : Option Taken) → IsLast name old commands n s was now → (count : ℕ) → Leaves new count s.kept → (e : Fault)
-      → Publishes s mid last (Err e) → Replays name old new commands (replayed_commands name (history_of old) commands) was now (Err (record { command = n + 1; kind = e; checkpoints = count }))
+  not_published : (old new mid last : Records) (commands : Commands) (n : ℕ) (s : State) (was now : Option Taken) → IsLast asks name old commands n s was now → (count : ℕ) → Leaves new count s.kept → (e : Fault)
+      → Publishes s mid last (Err e) → Replays asks name old new commands (replayed_asked name asks (history_of old) commands) was now (Err (record { command = n + 1; kind = e; checkpoints = count }))
   not_published old new mid last commands n s was now k count leaves OutOfMemory h = no_memory old new commands n s was now k count leaves
   not_published old new mid last commands n s was now k count leaves ReadFailed h = absurd h
   not_published old new mid last commands n s was now k count leaves WriteFailed h = absurd h
@@ -94,40 +95,40 @@ module _ (name : Kind → Bytes → Bytes) where
   not_published old new mid last commands n s was now k count leaves NoParent h = absurd h
 
   -- an import that is accepted
-  pub imports_all : (old new mid : Records) (coming : Option Coming) (n : ℕ) (s : State) (was now : Option Taken) → EndsAs name old coming n s was now → HistoriesOf name → IsSound name old → IsSound name new
+  pub imports_all : (old new mid : Records) (coming : Option Coming) (n : ℕ) (s : State) (was now : Option Taken) → EndsAs asks name old coming n s was now → HistoriesOf name → IsSound name old → IsSound name new
       → (count : ℕ) → Publishes s mid new (Ok tt) → count ≡ length (overwritten s s.published)
-      → Imports name old new coming was now (Ok (record { commands = n; objects = length new.records - length old.records; refs = count }))
+      → Imports asks name old new coming was now (Ok (record { commands = n; objects = length new.records - length old.records; refs = count }))
   imports_all old new mid coming n s was now k law sound sounds count h counts = by coming k
     where
-      adds : (commands : Commands) → IsLast name old commands n s was now → length new.records - length old.records ≡ length s.history.values - s.held
+      adds : (commands : Commands) → IsLast asks name old commands n s was now → length new.records - length old.records ≡ length s.history.values - s.held
       adds commands last =
           let now_held = counted name law new sounds ∙ ap (λ x. length x.values) h.1 in
           let was_held = counted name law old sound ∙ sym last.held in
           ap (λ x. x - length old.records) now_held ∙ ap (λ x. length s.history.values - x) was_held
 
-      replays : (commands : Commands) → IsLast name old commands n s was now → Replays name old new commands (replayed_on name old commands) was now (Ok (record { commands = n; objects = length new.records - length old.records; refs = count }))
+      replays : (commands : Commands) → IsLast asks name old commands n s was now → Replays asks name old new commands (replayed_on asks name old commands) was now (Ok (record { commands = n; objects = length new.records - length old.records; refs = count }))
       replays commands last = forward old new commands n s was now last (length new.records - length old.records) count h.0 h.1 counts (adds commands last)
 
-      by : (c : Option Coming) → EndsAs name old c n s was now → Imports name old new c was now (Ok (record { commands = n; objects = length new.records - length old.records; refs = count }))
+      by : (c : Option Coming) → EndsAs asks name old c n s was now → Imports asks name old new c was now (Ok (record { commands = n; objects = length new.records - length old.records; refs = count }))
       by None last = (only last.0, tt, replays (only last.0) last.1)
-      by (Some c) last = subst (λ o. Replays name old new (commands_from c) o was now (Ok (record { commands = n; objects = length new.records - length old.records; refs = count }))) (sym (imported_is name (history_of old) c)) (replays (commands_from c) last)
+      by (Some c) last = subst (λ o. Replays asks name old new (commands_asked_from asks c) o was now (Ok (record { commands = n; objects = length new.records - length old.records; refs = count }))) (sym (imported_is asks name (history_of old) c)) (replays (commands_asked_from asks c) last)
 
   -- one that isn't published
-  pub imports_none : (old new mid last : Records) (coming : Option Coming) (n : ℕ) (s : State) (was now : Option Taken) → EndsAs name old coming n s was now → (count : ℕ) → Leaves new count s.kept → (e : Fault) → Publishes s mid last (Err e)
-      → Imports name old new coming was now (Err (record { command = n + 1; kind = e; checkpoints = count }))
+  pub imports_none : (old new mid last : Records) (coming : Option Coming) (n : ℕ) (s : State) (was now : Option Taken) → EndsAs asks name old coming n s was now → (count : ℕ) → Leaves new count s.kept → (e : Fault) → Publishes s mid last (Err e)
+      → Imports asks name old new coming was now (Err (record { command = n + 1; kind = e; checkpoints = count }))
   imports_none old new mid last None n s was now k count leaves e h = (only k.0, tt, not_published old new mid last (only k.0) n s was now k.1 count leaves e h)
   imports_none old new mid last (Some coming) n s was now k count leaves e h =
-      subst (λ o. Replays name old new (commands_from coming) o was now (Err (record { command = n + 1; kind = e; checkpoints = count }))) (sym (imported_is name (history_of old) coming))
-      (not_published old new mid last (commands_from coming) n s was now k count leaves e h)
+      subst (λ o. Replays asks name old new (commands_asked_from asks coming) o was now (Err (record { command = n + 1; kind = e; checkpoints = count }))) (sym (imported_is asks name (history_of old) coming))
+      (not_published old new mid last (commands_asked_from asks coming) n s was now k count leaves e h)
 
   -- the new repository stands for the history of the replay
   stands_for : (new : Records) (outcome : Outcome) (text : Bytes) (report : model.Report) → HistoriesOf name → IsSound name new → outcome ≡ finished (history_of new) text report → StandsForIts name outcome new
   stands_for new outcome text report law sound e = subst (λ o. StandsForIts name o new) (sym e) (sound, law.stands new sound)
 
-  pub stands_replayed : (old new : Records) (coming : Option Coming) (was now : Option Taken) (report : Report) → HistoriesOf name → IsSound name new → Imports name old new coming was now (Ok report)
-      → StandsForReplay name old new coming
-  stands_replayed old new None was now report law sound h = (h.0, h.1, stands_for new (replayed_on name old h.0) h.2.0 (report_of report) law sound h.2.1)
-  stands_replayed old new (Some coming) was now report law sound h = stands_for new (imported name (history_of old) (heard coming).bytes (heard coming).fails) h.0 (report_of report) law sound h.1
+  pub stands_replayed : (old new : Records) (coming : Option Coming) (was now : Option Taken) (report : Report) → HistoriesOf name → IsSound name new → Imports asks name old new coming was now (Ok report)
+      → StandsForReplay asks name old new coming
+  stands_replayed old new None was now report law sound h = (h.0, h.1, stands_for new (replayed_on asks name old h.0) h.2.0 (report_of report) law sound h.2.1)
+  stands_replayed old new (Some coming) was now report law sound h = stands_for new (imported_asked asks name (history_of old) (heard coming).bytes (heard coming).fails) h.0 (report_of report) law sound h.1
 
 -- ---- the records that stay
 

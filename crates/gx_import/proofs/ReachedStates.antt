@@ -1,5 +1,5 @@
 -- How far a replay has come: what was replayed of the commands, and what follows from the next answer of the reader or of a command.
-use Rattle.std.proofs.Common.{◌≡◌, ℕ, ◌+◌, ◌≤◌, List, [], ◌∷◌, ◌++◌, length, Option, Some, None, Ok, Err, refl, sym, ap, subst, ◌∙◌, inl, inr, append_assoc, arith}
+use Rattle.std.proofs.Common.{◌≡◌, ℕ, ◌+◌, ◌≤◌, Bool, List, [], ◌∷◌, ◌++◌, length, Option, Some, None, Ok, Err, refl, sym, ap, subst, ◌∙◌, inl, inr, append_assoc, arith}
 use Rattle.std.specs.Prelude.{IfOk, IsTrue}
 use Rattle.std.proofs.lemmas.List.{append-nil, length-append}
 use Rattle.std.specs.FinMap.Entries.{is_sorted}
@@ -7,18 +7,19 @@ use Rattle.std.specs.Option.{option_map}
 use Rattle.gx_model.specs.declared.objects.Kind.{Kind}
 use Rattle.gx_model.specs.declared.faults.Fault.{Fault}
 use Rattle.gx_model.specs.declared.faults.Fault.TheVariants as fault
+use Rattle.gx_model.specs.declared.features.Features.{Features}
 use Rattle.gx_model.specs.Texts.{Bytes}
 use Rattle.gx_model.specs.Streams.Grammar.{stops, with_first}
 use Rattle.gx_model.specs.Streams.Gitlinks.{BringsNoNullGitlink, HoldsNoNullGitlink}
-use Rattle.gx_model.specs.Histories.{History, Record, Records}
+use Rattle.gx_model.specs.Histories.{History, IsHistory, Record, Records}
 use Rattle.gx_model.specs.Records.HistoryOf.{history_of}
 use Rattle.gx_model.specs.Streams.Commands.{Command, Commands, Progress}
-use Rattle.gx_model.specs.Replay.{Outcome, State, byte_cmp, imported, refused, replayed, replayed_commands, start, step}
-use Rattle.gx_model.proofs.GitlinkSteps.{IsFreeState, step_free}
+use Rattle.gx_model.specs.Replay.{Outcome, State, byte_cmp, begun, imported_asked, refused, replayed, replayed_asked, start, step}
+use Rattle.gx_model.proofs.GitlinkSteps.{IsFreeState, start_free, step_free}
 use Rattle.gx_model.specs.Texts.Sinks.{FailedWithin, Taken, Took, TookFront}
 use Rattle.gx_text.specs.Devices.{Coming}
 use Rattle.gx_stream.specs.Heard.{heard}
-use Rattle.gx_command.specs.Reading.{Reads, commands_from}
+use Rattle.gx_command.specs.Reading.{Reads, commands_asked_from}
 use Rattle.gx_command.specs.Views.{shown_command}
 use Rattle.gx_command.specs.declared.commands.Command as read
 use Rattle.gx_command.specs.declared.fault.CommandFault.{CommandFault}
@@ -48,32 +49,36 @@ behind before left = record { list = before ++ left.list; fault = left.fault }
 behind_next : (before : List Command) (c : Command) (left : Commands) → behind (before ++ c ∷ []) left ≡ behind before (with_first c left)
 behind_next before c left = ap (λ l. record { list = l; fault = left.fault }) (append_assoc before (c ∷ []) left.list)
 
-module _ (name : Kind → Bytes → Bytes) where
+-- a replay that begins with this history, and whether its branches may lose commits
+abbrev pub starting : Bool → History → State
+starting is_forced h = record (start h) { is_forced = is_forced }
+
+module _ (asks : Features) (name : Kind → Bytes → Bytes) where
   -- the outcome of an import is that of its commands
-  pub imported_is : (h : History) (c : Coming) → imported name h (heard c).bytes (heard c).fails ≡ replayed_commands name h (commands_from c)
-  unfolding imported
+  pub imported_is : (h : History) (c : Coming) → imported_asked asks name h (heard c).bytes (heard c).fails ≡ replayed_asked name asks h (commands_asked_from asks c)
+  unfolding imported_asked
   imported_is h c = refl
 
   -- these commands, n in number, were replayed to this state, and the sink has the progress text
   pub record HasReached (h : History) (before : List Command) (n : ℕ) (s : State) (was now : Option Taken) : Type 0 where
-    pub outcome : (left : Commands) → replayed_commands name h (behind before left) ≡ replayed name n s left.list left.fault
-    pub clashes : (left : List Command) (number : ℕ) → ClashesAt name n s left number → ClashesAt name 0 (start h) (before ++ left) number
+    pub outcome : (left : Commands) → replayed_asked name asks h (behind before left) ≡ replayed name n s left.list left.fault
+    pub clashes : (left : List Command) (number : ℕ) → ClashesAt name n s left number → ClashesAt name 0 (begun asks h) (before ++ left) number
     pub count : length before ≡ n
     pub progress : Took was now s.progress
     pub held : s.held ≡ length h.values
 
-  reached_start : (h : History) (was : Option Taken) → HasReached h [] 0 (start h) was was
+  reached_start : (h : History) (was : Option Taken) → HasReached h [] 0 (begun asks h) was was
   reached_start h was = record { outcome = λ left. refl; clashes = λ left number k. k; count = refl; progress = took_nothing was; held = refl }
 
   -- the state after one command more
   reached_next : (h : History) (before : List Command) (n : ℕ) (s : State) (c : Command) (was mid now : Option Taken) → HasReached h before n s was mid
       → (t : State) (text : Bytes) → step name s c ≡ Ok t → t.progress ≡ s.progress ++ text → t.held ≡ s.held → Took mid now text → HasReached h (before ++ c ∷ []) (n + 1) t was now
   reached_next h before n s c was mid now k t text e p held took = record {
-    outcome = λ left. ap (replayed_commands name h) (behind_next before c left) ∙ k.outcome (with_first c left)
+    outcome = λ left. ap (replayed_asked name asks h) (behind_next before c left) ∙ k.outcome (with_first c left)
         ∙ ap (λ r. elim r as (λ _. Outcome) [ Ok u ↦ replayed name (n + 1) u left.list left.fault | Err f ↦ refused (n + 1) f s.progress s.kept ]) e;
     clashes = λ left number i.
         let next = subst (λ r. elim r as (λ _. Type 0) [ Ok u ↦ ClashesAt name (n + 1) u left number | Err f ↦ ⊥ ]) (sym e) i in
-        subst (λ l. ClashesAt name 0 (start h) l number) (sym (append_assoc before (c ∷ []) left)) (k.clashes (c ∷ left) number (inr next));
+        subst (λ l. ClashesAt name 0 (begun asks h) l number) (sym (append_assoc before (c ∷ []) left)) (k.clashes (c ∷ left) number (inr next));
     count = length-append before (c ∷ []) ∙ ap (λ m. m + 1) k.count;
     progress = subst (Took was now) (sym p) (took_both was mid now s.progress text k.progress took);
     held = held ∙ k.held;
@@ -81,13 +86,13 @@ module _ (name : Kind → Bytes → Bytes) where
 
   -- where the stream is cut off behind these commands, what the state keeps is kept
   cut_here : (old : Records) (before : List Command) (n : ℕ) (s : State) (was now : Option Taken) → HasReached (history_of old) before n s was now
-      → replayed_on name old (cut_off before) ≡ refused (n + 1) fault.ReadFailed s.progress s.kept
-  cut_here old before n s was now k = ap (λ l. replayed_on name old (cut_off l)) (sym (append-nil before)) ∙ k.outcome (stops (Some fault.ReadFailed))
+      → replayed_on asks name old (cut_off before) ≡ refused (n + 1) fault.ReadFailed s.progress s.kept
+  cut_here old before n s was now k = ap (λ l. replayed_on asks name old (cut_off l)) (sym (append-nil before)) ∙ k.outcome (stops (Some fault.ReadFailed))
 
   -- these commands alone end with the state
-  reached_last : (old : Records) (before : List Command) (n : ℕ) (s : State) (was now : Option Taken) → HasReached (history_of old) before n s was now → IsLast name old (only before) n s was now
+  reached_last : (old : Records) (before : List Command) (n : ℕ) (s : State) (was now : Option Taken) → HasReached (history_of old) before n s was now → IsLast asks name old (only before) n s was now
   reached_last old before n s was now k = record {
-    outcome = ap (λ l. replayed_on name old (only l)) (sym (append-nil before)) ∙ k.outcome (only []);
+    outcome = ap (λ l. replayed_on asks name old (only l)) (sym (append-nil before)) ∙ k.outcome (only []);
     cut = cut_here old before n s was now k;
     count = k.count;
     progress = k.progress;
@@ -96,20 +101,20 @@ module _ (name : Kind → Bytes → Bytes) where
 
   module _ (old new : Records) (before : List Command) (n : ℕ) (s : State) (was mid : Option Taken) (k : HasReached (history_of old) before n s was mid) (count : ℕ) (leaves : Leaves new count s.kept) where
     -- what the sink has is a front of the outcome's text
-    took_front : (left : Commands) → TookFront was mid (progress_of (replayed_on name old (behind before left)))
+    took_front : (left : Commands) → TookFront was mid (progress_of (replayed_on asks name old (behind before left)))
     took_front left =
         let b = begins_outcome name n s left.list left.fault in
         (s.progress, b.0, ap progress_of (k.outcome left) ∙ b.1, k.progress)
 
-    number_within : (left : Commands) → n + 1 ≤ last_number (replayed_on name old (behind before left))
+    number_within : (left : Commands) → n + 1 ≤ last_number (replayed_on asks name old (behind before left))
     number_within left = subst (λ o. n + 1 ≤ last_number o) (sym (k.outcome left)) (numbers_outcome name n s left.list left.fault)
 
     -- what the import answers at the next command, where this is left
     abbrev Stops : Commands → Option Taken → Fault → Type 0
-    Stops left now kind = Replays name old new (behind before left) (replayed_on name old (behind before left)) was now (Err (record { command = n + 1; kind = kind; checkpoints = count }))
+    Stops left now kind = Replays asks name old new (behind before left) (replayed_on asks name old (behind before left)) was now (Err (record { command = n + 1; kind = kind; checkpoints = count }))
 
     -- what is left is what was kept before the next command
-    left_before : (kind : Fault) (cs : List Command) → LeavesBefore name old new (before ++ cs) (record { command = n + 1; kind = kind; checkpoints = count })
+    left_before : (kind : Fault) (cs : List Command) → LeavesBefore asks name old new (before ++ cs) (record { command = n + 1; kind = kind; checkpoints = count })
     left_before kind cs = (before, cs, refl, sym (ap (λ m. m + 1) k.count), s.progress, s.kept, cut_here old before n s was mid k, leaves)
 
     -- memory ran out
@@ -123,7 +128,7 @@ module _ (name : Kind → Bytes → Bytes) where
 
     module _ (c : Command) (left : Commands) (now : Option Taken) where
       -- the step that is refused ends the outcome
-      refused_here : (f : Fault) → step name s c ≡ Err f → replayed_on name old (behind before (with_first c left)) ≡ refused (n + 1) f s.progress s.kept
+      refused_here : (f : Fault) → step name s c ≡ Err f → replayed_on asks name old (behind before (with_first c left)) ≡ refused (n + 1) f s.progress s.kept
       refused_here f e = k.outcome (with_first c left) ∙ ap (λ r. elim r as (λ _. Outcome) [ Ok u ↦ replayed name (n + 1) u left.list left.fault | Err g ↦ refused (n + 1) g s.progress s.kept ]) e
 
       -- and the sink is as it was
@@ -132,7 +137,7 @@ module _ (name : Kind → Bytes → Bytes) where
 
       -- the sink failed within the text of a step
       failed_here : (t : State) (text : Bytes) → step name s c ≡ Ok t → t.progress ≡ s.progress ++ text → FailedWithin mid now text
-          → FailedWithin was now (progress_of (replayed_on name old (behind before (with_first c left))))
+          → FailedWithin was now (progress_of (replayed_on asks name old (behind before (with_first c left))))
       failed_here t text e p failed =
           let b = begins_outcome name (n + 1) t left.list left.fault in
           let o = k.outcome (with_first c left) ∙ ap (λ r. elim r as (λ _. Outcome) [ Ok u ↦ replayed name (n + 1) u left.list left.fault | Err f ↦ refused (n + 1) f s.progress s.kept ]) e in
@@ -140,7 +145,7 @@ module _ (name : Kind → Bytes → Bytes) where
           subst (FailedWithin was now) (sym whole) (failed_longer was now (s.progress ++ text) b.0 (failed_after was mid now s.progress text k.progress failed))
 
       -- the line of a progress is cut, behind those of the commands before
-      line_cut : (text : Bytes) → c ≡ Progress text → FailedWithin mid now (line_of text) → IsCutAt name old (before ++ c ∷ left.list) (n + 1) was now
+      line_cut : (text : Bytes) → c ≡ Progress text → FailedWithin mid now (line_of text) → IsCutAt asks name old (before ++ c ∷ left.list) (n + 1) was now
       line_cut text e failed =
           let last = reached_last old before n s was mid k in
           let said = ap progress_of last.outcome ∙ last_progress name n s None in
@@ -158,7 +163,7 @@ module _ (name : Kind → Bytes → Bytes) where
           elim h.0 as (λ _. Stops (with_first c left) now NameHeld) [
             | inl e ↦ refused_as NameHeld (e, h.1)
             | inr e ↦
-                let front = subst (λ m. TookFront was m (progress_of (replayed_on name old (behind before (with_first c left))))) (sym h.1) (took_front (with_first c left)) in
+                let front = subst (λ m. TookFront was m (progress_of (replayed_on asks name old (behind before (with_first c left))))) (sym h.1) (took_front (with_first c left)) in
                 inr (from_one n, number_within (with_first c left), inr (inl (refl, k.clashes (c ∷ left.list) (n + 1) (inl (refl, e)), front)), left_before NameHeld (c ∷ left.list))
           ]
       stopped r now_r tables ReadFailed h = refused_as ReadFailed h
@@ -188,75 +193,78 @@ module _ (name : Kind → Bytes → Bytes) where
       stopped r now_r tables NoParent h = refused_as NoParent h
 
 -- where a replay is in the commands that a source gives, or, where it tells nothing, in those that were answered so far
-module _ (name : Kind → Bytes → Bytes) where
+module _ (asks : Features) (name : Kind → Bytes → Bytes) where
   abbrev pub IsAt : Records → Option Coming → ℕ → State → Option Commands → Option Taken → Option Taken → Type 0
-  IsAt old None n s ahead was now = (before : List Command) × HasReached name (history_of old) before n s was now
+  IsAt old None n s ahead was now = (before : List Command) × HasReached asks name (history_of old) before n s was now
   IsAt old (Some coming) n s ahead was now =
-      (before : List Command) × (left : Commands) × (ahead ≡ Some left) × (commands_from coming ≡ behind before left) × HasReached name (history_of old) before n s was now
+      (before : List Command) × (left : Commands) × (ahead ≡ Some left) × (commands_asked_from asks coming ≡ behind before left) × HasReached asks name (history_of old) before n s was now
 
-  pub at_start : (old : Records) (coming : Option Coming) (ahead : Option Commands) (was : Option Taken) → ahead ≡ option_map commands_from coming → IsAt old coming 0 (start (history_of old)) ahead was was
-  at_start old None ahead was e = ([], reached_start name (history_of old) was)
-  at_start old (Some coming) ahead was e = ([], commands_from coming, e, refl, reached_start name (history_of old) was)
+  pub at_start : (is_forced : Bool) (old : Records) (coming : Option Coming) (ahead : Option Commands) (was : Option Taken) → asks.force ≡ is_forced → ahead ≡ option_map (commands_asked_from asks) coming
+      → IsAt old coming 0 (starting is_forced (history_of old)) ahead was was
+  at_start is_forced old coming ahead was same e = subst (λ b. IsAt old coming 0 (starting b (history_of old)) ahead was was) same (by coming e) where
+    by : (c : Option Coming) → ahead ≡ option_map (commands_asked_from asks) c → IsAt old c 0 (begun asks (history_of old)) ahead was was
+    by None e = ([], reached_start asks name (history_of old) was)
+    by (Some c) e = ([], commands_asked_from asks c, e, refl, reached_start asks name (history_of old) was)
 
   pub at_next : {A : Type 0} (old r new : Records) (tables : Tables A) (coming : Option Coming) (n : ℕ) (s : State) (c : read.Command A) (ahead later : Option Commands) (was mid now : Option Taken)
       → IsAt old coming n s ahead was mid → Reads ahead later (Ok (Some c)) → (h : Applies name r new tables s (shown_command c) mid now (Ok tt)) → IsAt old coming (n + 1) h.0 later was now
   at_next old r new tables None n s c ahead later was mid now k reads h =
-      (k.0 ++ shown_command c ∷ [], reached_next name (history_of old) k.0 n s (shown_command c) was mid now k.1 h.0 h.1 h.2 h.4.progress h.4.held h.5)
+      (k.0 ++ shown_command c ∷ [], reached_next asks name (history_of old) k.0 n s (shown_command c) was mid now k.1 h.0 h.1 h.2 h.4.progress h.4.held h.5)
   at_next {A} old r new tables (Some coming) n s c ahead later was mid now k reads h =
       let q = subst (λ o. Reads {A = A} o later (Ok (Some c))) k.2 reads in
       let whole = k.3 ∙ ap (behind k.0) q.1 ∙ sym (behind_next k.0 (shown_command c) q.0) in
-      (k.0 ++ shown_command c ∷ [], q.0, q.2, whole, reached_next name (history_of old) k.0 n s (shown_command c) was mid now k.4 h.0 h.1 h.2 h.4.progress h.4.held h.5)
+      (k.0 ++ shown_command c ∷ [], q.0, q.2, whole, reached_next asks name (history_of old) k.0 n s (shown_command c) was mid now k.4 h.0 h.1 h.2 h.4.progress h.4.held h.5)
 
   -- what is answered over these commands is answered over those that the source gives
-  told : (old last : Records) (coming : Coming) (commands : Commands) (was now : Option Taken) (fault : ImportFault) → commands_from coming ≡ commands
-      → Replays name old last commands (replayed_on name old commands) was now (Err fault) → Imports name old last (Some coming) was now (Err fault)
+  told : (old last : Records) (coming : Coming) (commands : Commands) (was now : Option Taken) (fault : ImportFault) → commands_asked_from asks coming ≡ commands
+      → Replays asks name old last commands (replayed_on asks name old commands) was now (Err fault) → Imports asks name old last (Some coming) was now (Err fault)
   told old last coming commands was now fault e h =
-      subst (λ o. Replays name old last (commands_from coming) o was now (Err fault)) (sym (imported_is name (history_of old) coming))
-      (subst (λ cs. Replays name old last cs (replayed_on name old cs) was now (Err fault)) (sym e) h)
+      subst (λ o. Replays asks name old last (commands_asked_from asks coming) o was now (Err fault)) (sym (imported_is asks name (history_of old) coming))
+      (subst (λ cs. Replays asks name old last cs (replayed_on asks name old cs) was now (Err fault)) (sym e) h)
 
   pub at_stopped : {A : Type 0} (old last r new : Records) (tables : Tables A) (coming : Option Coming) (n : ℕ) (s : State) (c : read.Command A) (ahead later : Option Commands) (was mid now : Option Taken)
       → IsAt old coming n s ahead was mid → Reads ahead later (Ok (Some c)) → (e : Fault) → Applies name r new tables s (shown_command c) mid now (Err e)
-      → (count : ℕ) → Leaves last count s.kept → Imports name old last coming was now (Err (record { command = n + 1; kind = e; checkpoints = count }))
+      → (count : ℕ) → Leaves last count s.kept → Imports asks name old last coming was now (Err (record { command = n + 1; kind = e; checkpoints = count }))
   at_stopped old last r new tables None n s c ahead later was mid now k reads e h count leaves =
       let left = stops None in
-      (behind k.0 (with_first (shown_command c) left), tt, stopped name old last k.0 n s was mid k.1 count leaves (shown_command c) left now r new tables e h)
+      (behind k.0 (with_first (shown_command c) left), tt, stopped asks name old last k.0 n s was mid k.1 count leaves (shown_command c) left now r new tables e h)
   at_stopped {A} old last r new tables (Some coming) n s c ahead later was mid now k reads e h count leaves =
       let q = subst (λ o. Reads {A = A} o later (Ok (Some c))) k.2 reads in
       told old last coming (behind k.0 (with_first (shown_command c) q.0)) was now (record { command = n + 1; kind = e; checkpoints = count }) (k.3 ∙ ap (behind k.0) q.1)
-      (stopped name old last k.0 n s was mid k.4 count leaves (shown_command c) q.0 now r new tables e h)
+      (stopped asks name old last k.0 n s was mid k.4 count leaves (shown_command c) q.0 now r new tables e h)
 
   pub at_refused : (A : Type 0) (old last : Records) (coming : Option Coming) (n : ℕ) (s : State) (ahead later : Option Commands) (was now : Option Taken) → IsAt old coming n s ahead was now
       → (f : CommandFault) → Reads {A = A} ahead later (Err f) → (count : ℕ) → Leaves last count s.kept
-      → Imports name old last coming was now (Err (record { command = n + 1; kind = of_command f; checkpoints = count }))
+      → Imports asks name old last coming was now (Err (record { command = n + 1; kind = of_command f; checkpoints = count }))
   at_refused A old last None n s ahead later was now k f reads count leaves =
       let left = stops (Some (of_command f)) in
-      (behind k.0 left, (f, refl), fault_read name old last k.0 n s was now k.1 count leaves left f refl)
+      (behind k.0 left, (f, refl), fault_read asks name old last k.0 n s was now k.1 count leaves left f refl)
   at_refused A old last (Some coming) n s ahead later was now k f reads count leaves =
       let q = subst (λ o. Reads {A = A} o later (Err f)) k.2 reads in
-      let goal : Fault → Type 0 = λ kind. Imports name old last (Some coming) was now (Err (record { command = n + 1; kind = kind; checkpoints = count })) in
+      let goal : Fault → Type 0 = λ kind. Imports asks name old last (Some coming) was now (Err (record { command = n + 1; kind = kind; checkpoints = count })) in
       elim q.1 as (λ _. goal (of_command f)) [
         | inl e ↦
-            let answer = told old last coming (behind k.0 k.1) was now (record { command = n + 1; kind = OutOfMemory; checkpoints = count }) k.3 (out_of_memory name old last k.0 n s was now k.4 count leaves k.1) in
+            let answer = told old last coming (behind k.0 k.1) was now (record { command = n + 1; kind = OutOfMemory; checkpoints = count }) k.3 (out_of_memory asks name old last k.0 n s was now k.4 count leaves k.1) in
             subst (λ g. goal (of_command g)) (sym e) answer
-        | inr e ↦ told old last coming (behind k.0 k.1) was now (record { command = n + 1; kind = of_command f; checkpoints = count }) k.3 (fault_read name old last k.0 n s was now k.4 count leaves k.1 f e)
+        | inr e ↦ told old last coming (behind k.0 k.1) was now (record { command = n + 1; kind = of_command f; checkpoints = count }) k.3 (fault_read asks name old last k.0 n s was now k.4 count leaves k.1 f e)
       ]
 
   pub at_end : (A : Type 0) (old : Records) (coming : Option Coming) (n : ℕ) (s : State) (ahead later : Option Commands) (was now : Option Taken) → IsAt old coming n s ahead was now
-      → Reads {A = A} ahead later (Ok None) → EndsAs name old coming n s was now
-  at_end A old None n s ahead later was now k reads = (k.0, reached_last name old k.0 n s was now k.1)
+      → Reads {A = A} ahead later (Ok None) → EndsAs asks name old coming n s was now
+  at_end A old None n s ahead later was now k reads = (k.0, reached_last asks name old k.0 n s was now k.1)
   at_end A old (Some coming) n s ahead later was now k reads =
       let q = subst (λ o. Reads {A = A} o later (Ok None)) k.2 reads in
       let all = k.3 ∙ ap (behind k.0) q.0 in
       record {
-        outcome = ap (replayed_on name old) all ∙ k.4.outcome (stops None);
-        cut = ap (λ cs. replayed_on name old (cut_off cs.list)) all ∙ k.4.outcome (stops (Some fault.ReadFailed));
+        outcome = ap (replayed_on asks name old) all ∙ k.4.outcome (stops None);
+        cut = ap (λ cs. replayed_on asks name old (cut_off cs.list)) all ∙ k.4.outcome (stops (Some fault.ReadFailed));
         count = ap (λ cs. length cs.list) all ∙ ap length (append-nil k.0) ∙ k.4.count;
         progress = k.4.progress;
         held = k.4.held;
       }
 
 -- where nothing was replayed, tables that are empty stand
-pub stand_empty : (name : Kind → Bytes → Bytes) {A : Type 0} (r : Records) (tables : Tables A) → AreEmpty tables → Stands name r tables (start (history_of r))
+pub stand_empty : (name : Kind → Bytes → Bytes) {A : Type 0} (r : Records) (tables : Tables A) → AreEmpty tables → Stands name r tables (starting tables.is_forced (history_of r))
 stand_empty name {A} r tables h = record {
   history = refl;
   marks = λ n. subst (AreBoth (IsOf name (history_of r).values) None) (sym (h.marks n)) tt;
@@ -266,8 +274,14 @@ stand_empty name {A} r tables h = record {
   tags_sorted = subst (λ rows. IsTrue (is_sorted byte_cmp rows)) (sym h.tags) refl;
   ref_names = refl;
   own = tt;
-  forced = sym h.forced;
+  forced = refl;
 }
+
+-- a replay that begins so has no commit with a gitlink of forty zeros, where its history has none
+pub starting_free : (is_forced : Bool) (h : History) → IsHistory h → HoldsNoNullGitlink h → IsFreeState (starting is_forced h)
+starting_free is_forced h is none =
+    let s = start_free h is none in
+    record { values = s.values; refs = s.refs; marks = s.marks; branches = s.branches; tags = s.tags; kept = s.kept }
 
 -- a step keeps a state without gitlinks of forty zeros
 pub step_keeps : (name : Kind → Bytes → Bytes) (s t : State) (c : Command) → step name s c ≡ Ok t → IsFreeState s → BringsNoNullGitlink c → IsFreeState t

@@ -8,6 +8,7 @@ use Rattle.gx_model.specs.Histories.{IsHistory, Records}
 use Rattle.gx_model.specs.Records.HistoryOf.{history_of}
 use Rattle.gx_model.specs.Records.Sound.{AnyByRecursion, IsSound}
 use Rattle.gx_model.specs.Export.{export_text}
+use Rattle.gx_model.specs.declared.features.Features.{Features}
 use Rattle.gx_model.specs.Laws.ExportLaws.{HasNoNullGitlink, IsAgain}
 use Rattle.gx_model.specs.Streams.Gitlinks.{HoldsNoNullGitlink}
 use Rattle.gx_text.specs.Devices.{Coming}
@@ -28,6 +29,10 @@ KeepsNoNullGitlink old new = HoldsNoNullGitlink (history_of old) → HoldsNoNull
 -- the same, where the old repository has the history that its records and refs tell
 abbrev pub MakesNoNullGitlink : Records → Records → Type 0
 MakesNoNullGitlink old new = IsHistory (history_of old) → KeepsNoNullGitlink old new
+
+-- features that leave the import of an export as it is, which asks for `done` itself
+abbrev pub LeaveExports : Features → Type 0
+LeaveExports features = features.force ≡ false
 
 -- a source that gives the export text of this repository, and then ends
 abbrev pub GivesExport : Records → Coming → Type 0

@@ -7,14 +7,15 @@ use Rattle.gx_model.specs.Texts.{Bytes}
 use Rattle.gx_model.specs.Histories.{Records, StandsFor}
 use Rattle.gx_model.specs.Records.HistoryOf.{history_of}
 use Rattle.gx_model.specs.Records.Sound.{IsSound}
-use Rattle.gx_model.specs.Streams.Commands.{Command, Commands, Progress}
+use Rattle.gx_model.specs.declared.features.Features.{Features}
+use Rattle.gx_model.specs.Streams.Commands.{Command, Commands, Progress, no_features}
 use Rattle.gx_model.specs.Replay as model
-use Rattle.gx_model.specs.Replay.{Kept, Outcome, finished, refused, imported, replayed_commands, start}
+use Rattle.gx_model.specs.Replay.{Kept, Outcome, finished, begun, refused, imported_asked, replayed_asked}
 use Rattle.gx_model.specs.Texts.Sinks.{FailedWithin, Taken, Took, TookFront}
 use Rattle.gx_text.specs.Devices.{Coming}
 use Rattle.gx_stream.specs.Heard.{heard}
 use Rattle.gx_command.specs.CommandFaults as reader
-use Rattle.gx_command.specs.Reading.{commands_from}
+use Rattle.gx_command.specs.Reading.{commands_asked_from}
 use Rattle.gx_command.specs.declared.fault.CommandFault.{CommandFault}
 use Rattle.gx_repo.specs.Repositories.{Repository}
 use Rattle.gx_import.specs.Additions.{ClashesAt}
@@ -61,10 +62,16 @@ line_of text = codes "progress " ++ text ++ 10 ∷ []
 abbrev pub FailedBehind : Option Taken → Option Taken → Bytes → Bytes → Type 0
 FailedBehind was now before text = (mid : Option Taken) × Took was mid before × FailedWithin mid now text
 
-module _ (name : Kind → Bytes → Bytes) where
+-- the replay is accepted, and a sound repository stands for its history
+abbrev pub StandsForIts : (Kind → Bytes → Bytes) → Outcome → Records → Type 0
+StandsForIts name (finished h text report) new = IsSound name new × StandsFor name new h
+StandsForIts name (refused number fault text kept) new = ⊥
+
+-- where these features are asked for
+module _ (asks : Features) (name : Kind → Bytes → Bytes) where
   -- what the replay of commands gives, from the history of a repository on
   abbrev pub replayed_on : Records → Commands → Outcome
-  replayed_on old commands = replayed_commands name (history_of old) commands
+  replayed_on old commands = replayed_asked name asks (history_of old) commands
 
   -- the command with this number is a progress, and within its line the sink failed, behind the lines of those before it
   abbrev pub IsCutAt : Records → List Command → ℕ → Option Taken → Option Taken → Type 0
@@ -85,7 +92,7 @@ module _ (name : Kind → Bytes → Bytes) where
   Interrupts old new commands outcome was now fault =
       (1 ≤ fault.command) × (fault.command ≤ last_number outcome)
       × (((fault.kind ≡ OutOfMemory) × TookFront was now (progress_of outcome))
-      ⊎ (((fault.kind ≡ NameHeld) × ClashesAt name 0 (start (history_of old)) commands.list fault.command × TookFront was now (progress_of outcome))
+      ⊎ (((fault.kind ≡ NameHeld) × ClashesAt name 0 (begun asks (history_of old)) commands.list fault.command × TookFront was now (progress_of outcome))
       ⊎ ((fault.kind ≡ WriteFailed) × IsCutAt old commands.list fault.command was now × FailedWithin was now (progress_of outcome))))
       × LeavesBefore old new commands.list fault
 
@@ -102,23 +109,26 @@ module _ (name : Kind → Bytes → Bytes) where
   abbrev pub Imports : Records → Records → Option Coming → Option Taken → Option Taken → Result Report ImportFault → Type 0
   Imports old new None was now result = (commands : Commands) × AreRead commands × Replays old new commands (replayed_on old commands) was now result
   Imports old new (Some coming) was now result =
-      Replays old new (commands_from coming) (imported name (history_of old) (heard coming).bytes (heard coming).fails) was now result
-
-  -- the replay is accepted, and a sound repository stands for its history
-  abbrev pub StandsForIts : Outcome → Records → Type 0
-  StandsForIts (finished h text report) new = IsSound name new × StandsFor name new h
-  StandsForIts (refused number fault text kept) new = ⊥
+      Replays old new (commands_asked_from asks coming) (imported_asked asks name (history_of old) (heard coming).bytes (heard coming).fails) was now result
 
   -- the new repository stands for the history that the replay of what the source gives makes of the old one's
   abbrev pub StandsForReplay : Records → Records → Option Coming → Type 0
-  StandsForReplay old new None = (commands : Commands) × AreRead commands × StandsForIts (replayed_on old commands) new
-  StandsForReplay old new (Some coming) = StandsForIts (imported name (history_of old) (heard coming).bytes (heard coming).fails) new
+  StandsForReplay old new None = (commands : Commands) × AreRead commands × StandsForIts name (replayed_on old commands) new
+  StandsForReplay old new (Some coming) = StandsForIts name (imported_asked asks name (history_of old) (heard coming).bytes (heard coming).fails) new
 
 -- the new repository stands for the history of that replay
+abbrev pub StandsAsked : {N : Type 0} → Features → (N → Kind → Bytes → Bytes) → Repository N → Repository N → Option Coming → Type 0
+StandsAsked asks names old new = StandsForReplay asks (names old.0) old.1 new.1
+
+-- where no features are asked for
 abbrev pub StandsReplayed : {N : Type 0} → (N → Kind → Bytes → Bytes) → Repository N → Repository N → Option Coming → Type 0
-StandsReplayed names old new = StandsForReplay (names old.0) old.1 new.1
+StandsReplayed = StandsAsked no_features
 
 module _ {N W : Type 0} (names : N → Kind → Bytes → Bytes) (taken : W → Option Taken) where
-  -- what an import does to a repository and a sink, and what it answers
+  -- what an import does to a repository and a sink, and what it answers, where these features are asked for
+  abbrev pub ImportsAsked : Features → Repository N → Repository N → Option Coming → W → W → Result Report ImportFault → Type 0
+  ImportsAsked asks old new coming was now = Imports asks (names old.0) old.1 new.1 coming (taken was) (taken now)
+
+  -- where none are
   abbrev pub ImportsStream : Repository N → Repository N → Option Coming → W → W → Result Report ImportFault → Type 0
-  ImportsStream old new coming was now = Imports (names old.0) old.1 new.1 coming (taken was) (taken now)
+  ImportsStream = ImportsAsked no_features

@@ -1,17 +1,18 @@
 -- What reading, applying and writing do on the way through a stream, and where the replay of all commands ends.
 -- Source: git-fast-import(1), "Commands".
-use Rattle.std.specs.Prelude.{◌≡◌, ℕ, ◌+◌, List, length, Option, Some, None, Result, Ok, Err, ⊤}
+use Rattle.std.specs.Prelude.{◌≡◌, ℕ, ◌+◌, Bool, List, length, Option, Some, None, Result, Ok, Err, ⊤}
 use Rattle.std.specs.Option.{option_map}
 use Rattle.gx_model.specs.declared.objects.Kind.{Kind}
 use Rattle.gx_model.specs.Texts.{Bytes}
 use Rattle.gx_model.specs.Histories.{Records}
 use Rattle.gx_model.specs.Records.HistoryOf.{history_of}
+use Rattle.gx_model.specs.declared.features.Features.{Features}
 use Rattle.gx_model.specs.Streams.Commands as model
 use Rattle.gx_model.specs.Streams.Commands.{Commands}
-use Rattle.gx_model.specs.Replay.{State, ended, refused, replayed_commands}
+use Rattle.gx_model.specs.Replay.{State, ended, refused, replayed_asked}
 use Rattle.gx_model.specs.Texts.Sinks.{FailedWithin, Taken, Took}
 use Rattle.gx_text.specs.Devices.{Coming}
-use Rattle.gx_command.specs.Reading.{Falls, Reads, commands_from}
+use Rattle.gx_command.specs.Reading.{Falls, Reads, commands_asked_from}
 use Rattle.gx_command.specs.declared.commands.Command.{Command}
 use Rattle.gx_command.specs.declared.fault.CommandFault.{CommandFault}
 use Rattle.gx_repo.specs.Repositories.{Repository}
@@ -42,11 +43,11 @@ abbrev pub FallsNext : {A : Type 0} → ℕ → ℕ → Result (Option (Command 
 FallsNext old new (Ok c) = Falls old new (Ok c)
 FallsNext old new (Err fault) = ⊤
 
-module _ (name : Kind → Bytes → Bytes) where
+module _ (asks : Features) (name : Kind → Bytes → Bytes) where
   -- the last state of the replay of these commands, n in number, and the sink has its progress text
   pub record IsLast (old : Records) (commands : Commands) (n : ℕ) (s : State) (was now : Option Taken) : Type 0 where
-    pub outcome : replayed_commands name (history_of old) commands ≡ ended n s None
-    pub cut : replayed_commands name (history_of old) (cut_off commands.list) ≡ refused (n + 1) ReadFailed s.progress s.kept
+    pub outcome : replayed_asked name asks (history_of old) commands ≡ ended n s None
+    pub cut : replayed_asked name asks (history_of old) (cut_off commands.list) ≡ refused (n + 1) ReadFailed s.progress s.kept
     pub count : length commands.list ≡ n
     pub progress : Took was now s.progress
     pub held : s.held ≡ length (history_of old).values
@@ -54,7 +55,7 @@ module _ (name : Kind → Bytes → Bytes) where
   -- the same of the commands that the source gives, or of some commands where it tells nothing
   abbrev pub EndsAs : Records → Option Coming → ℕ → State → Option Taken → Option Taken → Type 0
   EndsAs old None n s was now = (commands : List model.Command) × IsLast old (only commands) n s was now
-  EndsAs old (Some coming) n s was now = IsLast old (commands_from coming) n s was now
+  EndsAs old (Some coming) n s was now = IsLast old (commands_asked_from asks coming) n s was now
 
 -- the new repository, or after a fault what it leaves
 abbrev pub left_by : {A X E : Type 0} → Result X E → Checkpoints A → Records → Records
@@ -63,16 +64,18 @@ left_by (Err _) checkpoints new = left_of checkpoints new
 
 module _ {N W : Type 0} (names : N → Kind → Bytes → Bytes) (taken : W → Option Taken) {A : Type 0} where
   -- all commands are replayed, and the repository and the tables stand for the last state; or the import is refused, or interrupted
-  abbrev pub ReplaysTo : Repository N → Repository N → Tables A → Checkpoints A → Option Coming → W → W → Result ℕ ImportFault → Type 0
-  ReplaysTo old new tables checkpoints coming was now (Ok n) =
-      (s : State) × Stands (names old.0) new.1 tables s × Keeps new.1 checkpoints s × EndsAs (names old.0) old.1 coming n s (taken was) (taken now)
-  ReplaysTo old new tables checkpoints coming was now (Err fault) = Imports (names old.0) old.1 (left_of checkpoints new.1) coming (taken was) (taken now) (Err fault)
+  abbrev pub ReplaysTo : Features → Repository N → Repository N → Tables A → Checkpoints A → Option Coming → W → W → Result ℕ ImportFault → Type 0
+  ReplaysTo asks old new tables checkpoints coming was now (Ok n) =
+      (s : State) × Stands (names old.0) new.1 tables s × Keeps new.1 checkpoints s × EndsAs asks (names old.0) old.1 coming n s (taken was) (taken now)
+  ReplaysTo asks old new tables checkpoints coming was now (Err fault) = Imports asks (names old.0) old.1 (left_of checkpoints new.1) coming (taken was) (taken now) (Err fault)
 
-  -- the same over each source whose commands a reader has before it gives any
-  abbrev pub ReplaysRead : Repository N → Repository N → Tables A → Checkpoints A → Option Commands → W → W → Result ℕ ImportFault → Type 0
-  ReplaysRead old new tables checkpoints commands was now answer =
-      (coming : Option Coming) → commands ≡ option_map commands_from coming → ReplaysTo old new tables checkpoints coming was now answer
+  -- The same over each source whose commands a reader has before it gives any, and with each features that ask for these and
+  -- let branches lose commits just where the tables do at the start.
+  abbrev pub ReplaysRead : Repository N → Repository N → Bool → Tables A → Checkpoints A → Option Commands → W → W → Result ℕ ImportFault → Type 0
+  ReplaysRead old new is_forced tables checkpoints commands was now answer =
+      (asks : Features) (coming : Option Coming) → asks.force ≡ is_forced → commands ≡ option_map (commands_asked_from asks) coming
+      → ReplaysTo asks old new tables checkpoints coming was now answer
 
   -- an import of a stream, which leaves after a fault what the checkpoints kept
-  abbrev pub LeavesImport : Repository N → Repository N → Checkpoints A → Option Coming → W → W → Result Report ImportFault → Type 0
-  LeavesImport old new checkpoints coming was now answer = Imports (names old.0) old.1 (left_by answer checkpoints new.1) coming (taken was) (taken now) answer
+  abbrev pub LeavesImport : Features → Repository N → Repository N → Checkpoints A → Option Coming → W → W → Result Report ImportFault → Type 0
+  LeavesImport asks old new checkpoints coming was now answer = Imports asks (names old.0) old.1 (left_by answer checkpoints new.1) coming (taken was) (taken now) answer

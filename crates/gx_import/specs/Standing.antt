@@ -1,5 +1,5 @@
 -- How what an import holds stands to the state of its replay: names in place of values that stand in the history.
-use Rattle.std.specs.Prelude.{◌≡◌, ◌⊎◌, ℕ, nat_eq, false, List, [], ◌++◌, Option, Some, None, Result, IsTrue, IfOk, IfSome, ⊤}
+use Rattle.std.specs.Prelude.{◌≡◌, ◌⊎◌, ℕ, nat_eq, List, [], ◌++◌, Option, Some, None, Result, IsTrue, IfOk, IfSome, ⊤}
 use Rattle.std.specs.List.{AllByRecursion, list_all}
 use Rattle.std.specs.Map.{lookup}
 use Rattle.std.specs.FinMap.Entries.{is_sorted}
@@ -117,9 +117,8 @@ module _ {N : Type 0} (names : N → Kind → Bytes → Bytes) (repository : Rep
 abbrev pub StayAtHome : {N : Type 0} → (N → Kind → Bytes → Bytes) → Repository N → Repository N → NamedTree → NamedTree → Type 0
 StayAtHome names old new was now = IsAtHome (names old.0) old.1.records was → IsAtHome (names old.0) new.1.records now
 
--- no marks, no branches, no tags, and nothing asked for
+-- no marks, no branches and no tags
 pub record AreEmpty {A : Type 0} (tables : Tables A) : Type 0 where
   pub marks : (number : ℕ) → object_at tables.marks number ≡ None
   pub branches : rows_of tables.branches ≡ []
   pub tags : rows_of tables.tags ≡ []
-  pub forced : tables.is_forced ≡ false

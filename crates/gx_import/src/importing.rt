@@ -1,8 +1,8 @@
 //! Imports of whole streams. Source: git-fast-import(1).
 
 ghost use Rattle.std.specs.Prelude.{◌≡◌, [], IfErr, IsTrue, OnErr, OnOk};
-ghost use Rattle.gx_import.specs.Exported.{ImportsAnyExport, KeepsNoNullGitlink, RefusesNullGitlink};
-ghost use Rattle.gx_import.specs.Imports.{ImportsStream, StandsReplayed};
+ghost use Rattle.gx_import.specs.Exported.{ImportsAnyExport, KeepsNoNullGitlink, LeaveExports, RefusesNullGitlink};
+ghost use Rattle.gx_import.specs.Imports.{ImportsAsked, ImportsStream, StandsAsked, StandsReplayed};
 ghost use Rattle.gx_import.specs.Keeping.{AreNone, IsLeft};
 ghost use Rattle.gx_import.specs.Replaying.{LeavesImport, left_by};
 ghost use Rattle.gx_import.specs.Standing.{AreEmpty, Extends};
@@ -13,8 +13,10 @@ use crate::publishing::publish;
 use crate::replay::replay;
 use crate::tables::Tables;
 use crate::{ImportFault, Report};
+use gx_command::Features;
 use gx_model::export_laws::{exports_are_imported, exports_are_readable};
 use gx_model::gitlink_laws::nulls_are_refused;
+use gx_model::replay_laws::features_are_asked;
 use gx_model::repository_laws::{histories_of_records, names_tell_values};
 use gx_object::Namer;
 use gx_repo::Repo;
@@ -56,13 +58,39 @@ pub fn import<N: Namer, A: Allocator + Copy, R: Source + Drop, W: Sink>(
     ensures gitlinks { KeepsNoNullGitlink repo.old.1 repo.new.1 }
     ensures nulls { RefusesNullGitlink N.name_of repo.old (R.coming source) result }
 {
+    import_asking(alloc, repo, source, sink, Features::none())
+}
+
+/// Imports a stream as `import` does, as if it began with the commands that ask for these features: with `done` it has to end
+/// with the command `done`, and with `force` a published branch may lose commits, in this import alone. No command is added:
+/// the numbers of commands and the count of the report are the stream's, and its options are early where they come first.
+///
+/// Errors and cost: those of `import`. Source: git-fast-import(1), "--done" and "--force".
+pub fn import_asking<N: Namer, A: Allocator + Copy, R: Source + Drop, W: Sink>(
+    alloc: A,
+    repo: &mut Repo<N, A>,
+    source: R,
+    sink: &mut W,
+    features: Features,
+) -> Result<Report, ImportFault>
+    ensures namer { repo.new.0 ≡ repo.old.0 }
+    ensures replayed { ImportsAsked N.name_of W.taken features repo.old repo.new (R.coming source) sink.old sink.new result }
+    ensures stands { OnOk result (StandsAsked features N.name_of repo.old repo.new (R.coming source)) }
+    ensures extends { Extends repo.old.1.records repo.new.1.records }
+    ensures sound { IsSound (N.name_of repo.old.0) repo.new.1 }
+    ensures unchanged { IfErr result (λ fault. fault.checkpoints ≡ 0 → repo.new ≡ repo.old) }
+    ensures exported { LeaveExports features → ImportsAnyExport N.name_of repo.old repo.new (R.coming source) result }
+    ensures gitlinks { KeepsNoNullGitlink repo.old.1 repo.new.1 }
+    ensures nulls { LeaveExports features → RefusesNullGitlink N.name_of repo.old (R.coming source) result }
+{
     histories_of_records();
     names_tell_values();
     nulls_are_refused();
     exports_are_readable();
     exports_are_imported();
+    features_are_asked();
     let mut checkpoints = Checkpoints::new(alloc, repo.store().len(), has_no_refs(repo));
-    match replay_and_publish(alloc, repo, &mut checkpoints, source, sink) {
+    match replay_and_publish(alloc, repo, &mut checkpoints, source, sink, features) {
         Ok(report) => {
             repo.sound();
             Ok(report)
@@ -82,25 +110,26 @@ fn has_no_refs<N: Namer, A: Allocator + Copy>(repo: &Repo<N, A>) -> bool
     repo.refs().next().is_none()
 }
 
-/// Replays a stream's commands, and publishes what they made. A refused import leaves the refs of the last checkpoint, and
-/// its objects in front of those that were added.
+/// Replays a stream's commands, where these features are asked for, and publishes what they made. A refused import leaves
+/// the refs of the last checkpoint, and its objects in front of those that were added.
 fn replay_and_publish<N: Namer, A: Allocator + Copy, R: Source + Drop, W: Sink>(
     alloc: A,
     repo: &mut Repo<N, A>,
     checkpoints: &mut Checkpoints<A>,
     source: R,
     sink: &mut W,
+    features: Features,
 ) -> Result<Report, ImportFault>
     requires none { AreNone repo.now.1 checkpoints.now }
     ensures namer { repo.new.0 ≡ repo.old.0 }
     ensures extends { Extends repo.old.1.records repo.new.1.records }
-    ensures replayed { LeavesImport N.name_of W.taken repo.old repo.new checkpoints.new (R.coming source) sink.old sink.new result }
+    ensures replayed { LeavesImport N.name_of W.taken features repo.old repo.new checkpoints.new (R.coming source) sink.old sink.new result }
     ensures left { OnErr result (IsLeft repo.old.1 repo.new.1 checkpoints.new) }
     ensures counted { IfErr result (λ fault. fault.checkpoints ≡ checkpoints.new.count) }
     ensures gitlinks { KeepsNoNullGitlink repo.old.1 (left_by result checkpoints.new repo.new.1) }
 {
-    let mut tables = Tables::new(alloc);
-    replay_into(repo, &mut tables, checkpoints, source, sink)
+    let mut tables = Tables::new(alloc, features.force);
+    replay_into(repo, &mut tables, checkpoints, source, sink, features)
 }
 
 /// Replays a stream's commands into these tables, and publishes what they made.
@@ -110,19 +139,21 @@ fn replay_into<N: Namer, A: Allocator + Copy, R: Source + Drop, W: Sink>(
     checkpoints: &mut Checkpoints<A>,
     source: R,
     sink: &mut W,
+    features: Features,
 ) -> Result<Report, ImportFault>
     requires empty { AreEmpty tables.now }
+    requires forced { tables.now.is_forced ≡ features.force }
     requires none { AreNone repo.now.1 checkpoints.now }
     ensures namer { repo.new.0 ≡ repo.old.0 }
     ensures extends { Extends repo.old.1.records repo.new.1.records }
-    ensures replayed { LeavesImport N.name_of W.taken repo.old repo.new checkpoints.new (R.coming source) sink.old sink.new result }
+    ensures replayed { LeavesImport N.name_of W.taken features repo.old repo.new checkpoints.new (R.coming source) sink.old sink.new result }
     ensures left { OnErr result (IsLeft repo.old.1 repo.new.1 checkpoints.new) }
     ensures counted { IfErr result (λ fault. fault.checkpoints ≡ checkpoints.new.count) }
     ensures gitlinks { KeepsNoNullGitlink repo.old.1 (left_by result checkpoints.new repo.new.1) }
 {
     histories_of_records();
     let held = repo.store().len();
-    let commands = replay(repo, tables, checkpoints, source, sink)?;
+    let commands = replay(repo, tables, checkpoints, source, sink, features)?;
     if let Err(kind) = publish(repo, tables, &mut checkpoints.refs, checkpoints.has_all) {
         return Err(ImportFault {
             command: commands + 1,

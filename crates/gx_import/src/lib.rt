@@ -26,5 +26,5 @@ mod tables;
 mod tag;
 
 pub use fault::{ImportFault, ImportKind};
-pub use importing::import;
+pub use importing::{import, import_asking};
 pub use report::Report;

@@ -19,27 +19,29 @@ use crate::reset::apply_reset;
 use crate::tables::Tables;
 use crate::tag::apply_tag;
 use crate::{ImportFault, ImportKind};
-use gx_command::{Command, CommandReader, Feature};
+use gx_command::{Command, CommandReader, Feature, Features};
 use gx_object::Namer;
 use gx_repo::Repo;
 use gx_text::{Sink, Source, send};
 use gx_tree::records_keep_home;
 use std::alloc::Allocator;
 
-/// Applies all commands of a source, and answers their number.
+/// Applies all commands of a source, where these features are asked for, and answers their number.
 pub(crate) fn replay<N: Namer, A: Allocator + Copy, R: Source + Drop, W: Sink>(
     repo: &mut Repo<N, A>,
     tables: &mut Tables<A>,
     checkpoints: &mut Checkpoints<A>,
     source: R,
     sink: &mut W,
+    features: Features,
 ) -> Result<u64, ImportFault>
     requires empty { AreEmpty tables.now }
+    requires forced { tables.now.is_forced ≡ features.force }
     requires none { AreNone repo.now.1 checkpoints.now }
     ensures namer { repo.new.0 ≡ repo.old.0 }
     ensures extends { Extends repo.old.1.records repo.new.1.records }
     ensures count { IfOk result (λ commands. commands ≤ 2 ^ 63 - 1) }
-    ensures replayed { ReplaysTo N.name_of W.taken repo.old repo.new tables.new checkpoints.new (R.coming source) sink.old sink.new result }
+    ensures replayed { ReplaysTo N.name_of W.taken features repo.old repo.new tables.new checkpoints.new (R.coming source) sink.old sink.new result }
     ensures left { IsLeft repo.old.1 repo.new.1 checkpoints.new }
     ensures sorted { OnOk result (IsSorted checkpoints.new.refs) }
     ensures has_all { OnOk result (HoldsAll repo.new.1 checkpoints.new) }
@@ -47,7 +49,7 @@ pub(crate) fn replay<N: Namer, A: Allocator + Copy, R: Source + Drop, W: Sink>(
     ensures gitlinks { OnOk result (MakesNoNullGitlink repo.old.1 repo.new.1) }
     ensures gitlinks_left { MakesNoNullGitlink repo.old.1 (left_of checkpoints.new repo.new.1) }
 {
-    let mut reader = CommandReader::new(tables.alloc, source);
+    let mut reader = CommandReader::asking(tables.alloc, source, features);
     replay_commands(repo, tables, checkpoints, &mut reader, sink)
 }
 
@@ -65,7 +67,7 @@ fn replay_commands<N: Namer, A: Allocator + Copy, R: Source, W: Sink>(
     ensures namer { repo.new.0 ≡ repo.old.0 }
     ensures extends { Extends repo.old.1.records repo.new.1.records }
     ensures count { IfOk result (λ commands. commands ≤ 2 ^ 63 - 1) }
-    ensures replayed { ReplaysRead N.name_of W.taken repo.old repo.new tables.new checkpoints.new reader.old.commands sink.old sink.new result }
+    ensures replayed { ReplaysRead N.name_of W.taken repo.old repo.new tables.old.is_forced tables.new checkpoints.new reader.old.commands sink.old sink.new result }
     ensures left { IsLeft repo.old.1 repo.new.1 checkpoints.new }
     ensures sorted { OnOk result (IsSorted checkpoints.new.refs) }
     ensures has_all { OnOk result (HoldsAll repo.new.1 checkpoints.new) }

@@ -26,9 +26,10 @@ pub(crate) struct Tables<A: Allocator> {
 }
 
 impl<A: Allocator + Copy> Tables<A> {
-    /// Nothing. Takes no memory.
-    pub(crate) fn new(alloc: A) -> Tables<A>
-        ensures { AreEmpty result }
+    /// Nothing yet, and whether branches may lose commits. Takes no memory.
+    pub(crate) fn new(alloc: A, is_forced: bool) -> Tables<A>
+        ensures empty { AreEmpty result }
+        ensures forced { result.is_forced ≡ is_forced }
     {
         Tables {
             alloc,
@@ -36,7 +37,7 @@ impl<A: Allocator + Copy> Tables<A> {
             branches: Table::new(alloc),
             at_hand: AtHand::new(alloc),
             tags: Table::new(alloc),
-            is_forced: false,
+            is_forced,
         }
     }
 

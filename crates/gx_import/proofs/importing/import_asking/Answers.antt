@@ -9,7 +9,7 @@ use Rattle.gx_import.specs.Keeping.{left_of}
 use Rattle.gx_import.specs.Standing.{Extends}
 use Rattle.gx_import.proofs.KeptCheckpoints.{front_left}
 use Rattle.gx_import.proofs.Publications.{as_before, stands_replayed}
-use Rattle.gx_import.proofs.importing.import.Goals as goal
+use Rattle.gx_import.proofs.importing.import_asking.Goals as goal
 
 pub replay_and_publish-requires : goal.replay_and_publish-requires
 replay_and_publish-requires g c =
@@ -27,41 +27,56 @@ pub returns-in-Ok-clause-sound : goal.returns-in-Ok-clause-sound
 returns-in-Ok-clause-sound g c = subst (λ n. IsSound (g.N.Namer.name_of n) c.replay_and_publish.new.repo.1) {y = c.args.repo.now.0} c.replay_and_publish.ensures.namer c.sound.ensures
 
 pub returns-in-Ok-clause-exported : goal.returns-in-Ok-clause-exported
-returns-in-Ok-clause-exported g c =
+returns-in-Ok-clause-exported g c = λ leaves.
     let name = g.N.Namer.name_of c.args.repo.now.0 in
     let new = c.replay_and_publish.new.repo.1 in
     let namer = g.met.N.Namer.is_namer c.args.repo.now.0 in
     let sound = subst (λ n. IsSound (g.N.Namer.name_of n) new) {y = c.args.repo.now.0} c.replay_and_publish.ensures.namer c.sound.ensures in
-    accepted name (c.histories_of_records.ensures name namer) (c.names_tell_values.ensures name namer) c.exports_are_readable.ensures.readable c.exports_are_imported.ensures.imported
-    c.args.repo.now.1 new (g.R.Source.coming c.args.source) (g.W.Sink.taken c.args.sink.now) (g.W.Sink.taken c.replay_and_publish.new.sink) c.in-Ok.report sound c.in-Ok.ensures.replayed
+    let coming = g.R.Source.coming c.args.source in
+    let was = g.W.Sink.taken c.args.sink.now in
+    let now = g.W.Sink.taken c.replay_and_publish.new.sink in
+    accepted name (c.histories_of_records.ensures name namer) (c.names_tell_values.ensures name namer) c.exports_are_readable.ensures.readable c.exports_are_imported.ensures.imported c.features_are_asked.ensures.exports c.args.features leaves
+    c.args.repo.now.1 new coming was now c.in-Ok.report sound c.in-Ok.ensures.replayed
 
 pub returns-in-Ok-clause-stands : goal.returns-in-Ok-clause-stands
 returns-in-Ok-clause-stands g c =
     let name = g.N.Namer.name_of c.args.repo.now.0 in
     let new = c.replay_and_publish.new.repo.1 in
     let sound = subst (λ n. IsSound (g.N.Namer.name_of n) new) {y = c.args.repo.now.0} c.replay_and_publish.ensures.namer c.sound.ensures in
-    stands_replayed name c.args.repo.now.1 new (g.R.Source.coming c.args.source) (g.W.Sink.taken c.args.sink.now) (g.W.Sink.taken c.replay_and_publish.new.sink) c.in-Ok.report
+    stands_replayed c.args.features name c.args.repo.now.1 new (g.R.Source.coming c.args.source) (g.W.Sink.taken c.args.sink.now) (g.W.Sink.taken c.replay_and_publish.new.sink) c.in-Ok.report
     (c.histories_of_records.ensures name (g.met.N.Namer.is_namer c.args.repo.now.0)) sound c.in-Ok.ensures.replayed
 
 pub returns-clause-exported : goal.returns-clause-exported
-returns-clause-exported g c =
+returns-clause-exported g c = λ leaves.
     let name = g.N.Namer.name_of c.args.repo.now.0 in
     let namer = g.met.N.Namer.is_namer c.args.repo.now.0 in
-    stopped name (c.histories_of_records.ensures name namer) (c.names_tell_values.ensures name namer) c.exports_are_readable.ensures.readable c.exports_are_imported.ensures.imported
-    c.args.repo.now.1 (left_of c.replay_and_publish.new.checkpoints c.replay_and_publish.new.repo.1) c.truncate.new.self.1 (g.R.Source.coming c.args.source) (g.W.Sink.taken c.args.sink.now) (g.W.Sink.taken c.replay_and_publish.new.sink) c.in-Err.fault
+    let last = left_of c.replay_and_publish.new.checkpoints c.replay_and_publish.new.repo.1 in
+    let coming = g.R.Source.coming c.args.source in
+    let was = g.W.Sink.taken c.args.sink.now in
+    let now = g.W.Sink.taken c.replay_and_publish.new.sink in
+    stopped name (c.histories_of_records.ensures name namer) (c.names_tell_values.ensures name namer) c.exports_are_readable.ensures.readable c.exports_are_imported.ensures.imported c.features_are_asked.ensures.exports c.args.features leaves
+    c.args.repo.now.1 last c.truncate.new.self.1 coming was now c.in-Err.fault
     c.in-Err.ensures.replayed
 
 pub returns-in-Ok-clause-nulls : goal.returns-in-Ok-clause-nulls
-returns-in-Ok-clause-nulls g c =
+returns-in-Ok-clause-nulls g c = λ leaves.
     let name = g.N.Namer.name_of c.args.repo.now.0 in
-    null_refused name (c.histories_of_records.ensures name (g.met.N.Namer.is_namer c.args.repo.now.0)) c.nulls_are_refused.ensures c.args.repo.now.1 c.replay_and_publish.new.repo.1
-    (g.R.Source.coming c.args.source) (g.W.Sink.taken c.args.sink.now) (g.W.Sink.taken c.replay_and_publish.new.sink) (Ok c.in-Ok.report) c.in-Ok.ensures.replayed
+    let new = c.replay_and_publish.new.repo.1 in
+    let coming = g.R.Source.coming c.args.source in
+    let was = g.W.Sink.taken c.args.sink.now in
+    let now = g.W.Sink.taken c.replay_and_publish.new.sink in
+    null_refused name (c.histories_of_records.ensures name (g.met.N.Namer.is_namer c.args.repo.now.0)) c.nulls_are_refused.ensures c.features_are_asked.ensures.exports c.args.features leaves c.args.repo.now.1 new coming was now (Ok c.in-Ok.report)
+    c.in-Ok.ensures.replayed
 
 pub returns-clause-nulls : goal.returns-clause-nulls
-returns-clause-nulls g c =
+returns-clause-nulls g c = λ leaves.
     let name = g.N.Namer.name_of c.args.repo.now.0 in
-    null_refused name (c.histories_of_records.ensures name (g.met.N.Namer.is_namer c.args.repo.now.0)) c.nulls_are_refused.ensures c.args.repo.now.1 (left_of c.replay_and_publish.new.checkpoints c.replay_and_publish.new.repo.1)
-    (g.R.Source.coming c.args.source) (g.W.Sink.taken c.args.sink.now) (g.W.Sink.taken c.replay_and_publish.new.sink) (Err c.in-Err.fault) c.in-Err.ensures.replayed
+    let last = left_of c.replay_and_publish.new.checkpoints c.replay_and_publish.new.repo.1 in
+    let coming = g.R.Source.coming c.args.source in
+    let was = g.W.Sink.taken c.args.sink.now in
+    let now = g.W.Sink.taken c.replay_and_publish.new.sink in
+    null_refused name (c.histories_of_records.ensures name (g.met.N.Namer.is_namer c.args.repo.now.0)) c.nulls_are_refused.ensures c.features_are_asked.ensures.exports c.args.features leaves c.args.repo.now.1 last coming was now (Err c.in-Err.fault)
+    c.in-Err.ensures.replayed
 
 pub returns-in-Ok-clause-extends : goal.returns-in-Ok-clause-extends
 returns-in-Ok-clause-extends g c = c.replay_and_publish.ensures.extends
@@ -74,7 +89,7 @@ returns-in-Ok-clause-gitlinks g c = c.in-Ok.ensures.gitlinks
 
 pub returns-clause-replayed : goal.returns-clause-replayed
 returns-clause-replayed g c =
-    let replays : g.row.N.Denot × Records → Type 0 = λ r. Imports (g.N.Namer.name_of c.args.repo.now.0) c.args.repo.now.1 r.1 (g.R.Source.coming c.args.source) (g.W.Sink.taken c.args.sink.now) (g.W.Sink.taken c.replay_and_publish.new.sink) (Err c.in-Err.fault) in
+    let replays : g.row.N.Denot × Records → Type 0 = λ r. Imports c.args.features (g.N.Namer.name_of c.args.repo.now.0) c.args.repo.now.1 r.1 (g.R.Source.coming c.args.source) (g.W.Sink.taken c.args.sink.now) (g.W.Sink.taken c.replay_and_publish.new.sink) (Err c.in-Err.fault) in
     subst replays (sym c.truncate.ensures) c.in-Err.ensures.replayed
 
 pub returns-clause-gitlinks : goal.returns-clause-gitlinks

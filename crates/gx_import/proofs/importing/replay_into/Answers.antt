@@ -26,7 +26,7 @@ returns-in-Err-clause-replayed g c =
     let stands = subst (λ n. Stands (g.N.Namer.name_of n) c.replay.new.repo.1 c.replay.new.tables k.0) {y = c.replay.new.repo.0} (sym {a = c.replay.new.repo.0} c.replay.ensures.namer) k.1 in
     let left = left_of c.replay.new.checkpoints c.publish.new.repo.1 in
     let leaves = subst (λ (r : g.row.N.Denot × Records). Leaves (left_of c.replay.new.checkpoints r.1) c.replay.new.checkpoints.count k.0.kept) (sym c.in-Err.ensures.unchanged) k.2.leaves in
-    imports_none (g.N.Namer.name_of c.args.repo.now.0) c.args.repo.now.1 left c.replay.new.repo.1 c.publish.new.repo.1 (g.R.Source.coming c.args.source) c.in_ok-commands.commands k.0 (g.W.Sink.taken c.args.sink.now) (g.W.Sink.taken c.replay.new.sink) k.3
+    imports_none c.args.features (g.N.Namer.name_of c.args.repo.now.0) c.args.repo.now.1 left c.replay.new.repo.1 c.publish.new.repo.1 (g.R.Source.coming c.args.source) c.in_ok-commands.commands k.0 (g.W.Sink.taken c.args.sink.now) (g.W.Sink.taken c.replay.new.sink) k.3
     c.replay.new.checkpoints.count leaves c.in-Err.kind (c.in-Err.ensures.published k.0 stands)
 
 pub returns-in-Err-clause-left : goal.returns-in-Err-clause-left
@@ -56,9 +56,9 @@ returns-clause-replayed g c =
     let held = c.len-held.ensures.count ∙ ap (λ z. length z.1) c.store.ensures.held in
     let counts = c.len-2.ensures.len ∙ sym (length-map c.publish.new.published.rows.entries row_of) ∙ sym (as_many (overwritten k.0 k.0.published) (rows_of c.publish.new.published) (c.in_default.ensures.entered k.0 stands k.2.names)) in
     let len = c.len.ensures.count ∙ ap (λ z. length z.1) c.store-2.ensures.held in
-    let all = imports_all name old new c.replay.new.repo.1 coming c.in_ok-commands.commands k.0 was now k.3 law c.store.ensures.sound sounds c.len-2.result (c.in_default.ensures.published k.0 stands) counts in
+    let all = imports_all c.args.features name old new c.replay.new.repo.1 coming c.in_ok-commands.commands k.0 was now k.3 law c.store.ensures.sound sounds c.len-2.result (c.in_default.ensures.published k.0 stands) counts in
     let objects : length new.records - length old.records ≡ c.len.result - c.len-held.result = ap (λ x. x - length old.records) (sym len) ∙ ap (λ x. c.len.result - x) (sym held) in
-    subst (λ x. Imports name old new coming was now (Ok (record { commands = c.in_ok-commands.commands; objects = x; refs = c.len-2.result }))) objects all
+    subst (λ x. Imports c.args.features name old new coming was now (Ok (record { commands = c.in_ok-commands.commands; objects = x; refs = c.len-2.result }))) objects all
 
 pub returns-clause-gitlinks : goal.returns-clause-gitlinks
 returns-clause-gitlinks g c = λ none.

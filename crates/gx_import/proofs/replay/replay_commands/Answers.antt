@@ -3,8 +3,8 @@ use Rattle.std.proofs.lemmas.List.{append-nil}
 use Rattle.std.proofs.lemmas.Result.{err_from_is_err_and}
 use Rattle.gx_model.specs.Streams.Gitlinks.{HoldsNoNullGitlink}
 use Rattle.gx_model.specs.Records.HistoryOf.{history_of}
-use Rattle.gx_model.specs.Replay.{State, byte_cmp, start}
-use Rattle.gx_model.proofs.GitlinkSteps.{none_held, start_free}
+use Rattle.gx_model.specs.Replay.{State, byte_cmp}
+use Rattle.gx_model.proofs.GitlinkSteps.{none_held}
 use Rattle.gx_command.specs.Views.{shown_command}
 use Rattle.gx_command.specs.CommandFaults.{fault_of as of_command}
 use Rattle.gx_import.specs.Applying.{Applies}
@@ -15,13 +15,14 @@ use Rattle.gx_import.specs.Keeping.{Keeps, left_of}
 use Rattle.gx_import.specs.Replaying.{EndsAs}
 use Rattle.gx_import.proofs.KeptCheckpoints.{all_none, counted_next, kept_start, left_next, left_start}
 use Rattle.gx_import.specs.Standing.{AreTipsAtHome, Stands}
-use Rattle.gx_import.proofs.ReachedStates.{IsAt, at_end, at_next, at_refused, at_start, at_stopped, extends_more, stand_empty, step_keeps}
+use Rattle.gx_import.proofs.ReachedStates.{IsAt, at_end, at_next, at_refused, at_start, at_stopped, extends_more, stand_empty, starting, starting_free, step_keeps}
 use Rattle.gx_import.proofs.TipHomes.{AreHome}
 use Rattle.gx_import.proofs.replay.replay_commands.Goals as goal
 
 pub loop-command-init : goal.loop-command-init
 loop-command-init g c =
     let name = g.N.Namer.name_of c.args.repo.now.0 in
+    let kept = kept_start name c.args.repo.now.1 c.args.checkpoints.now c.requires.none in
     record {
       namer = refl;
       extends = ([], sym (append-nil c.args.repo.now.1.records));
@@ -32,11 +33,11 @@ loop-command-init g c =
       sorted = subst (λ rows. IsTrue (is_sorted byte_cmp rows)) (sym c.requires.none.refs) refl;
       has_all = all_none c.args.repo.now.1 c.args.checkpoints.now c.requires.none;
       stands = (
-        start (history_of c.args.repo.now.1),
+        starting c.args.tables.now.is_forced (history_of c.args.repo.now.1),
         stand_empty name c.args.repo.now.1 c.args.tables.now c.requires.empty,
-        λ coming is. at_start name c.args.repo.now.1 coming c.args.reader.now.commands (g.W.Sink.taken c.args.sink.now) is,
-        λ is none. start_free (history_of c.args.repo.now.1) is none,
-        kept_start name c.args.repo.now.1 c.args.checkpoints.now c.requires.none,
+        λ asks coming same is. at_start asks name c.args.tables.now.is_forced c.args.repo.now.1 coming c.args.reader.now.commands (g.W.Sink.taken c.args.sink.now) same is,
+        λ is none. starting_free c.args.tables.now.is_forced (history_of c.args.repo.now.1) is none,
+        record { leaves = kept.leaves; names = kept.names },
       );
     }
 
@@ -50,7 +51,7 @@ pub returns-in_err-command-clause-extends : goal.returns-in_err-command-clause-e
 returns-in_err-command-clause-extends g c = c.loop-command.invariant.extends
 
 pub returns-in_err-command-clause-replayed : goal.returns-in_err-command-clause-replayed
-returns-in_err-command-clause-replayed g c = λ coming is.
+returns-in_err-command-clause-replayed g c = λ asks coming same is.
     let p = err_from_is_err_and c.from_residual.result c.from_residual.ensures.1 in
     let inv = c.loop-command.invariant in
     let old = c.args.repo.now.1 in
@@ -58,8 +59,8 @@ returns-in_err-command-clause-replayed g c = λ coming is.
     let was = g.W.Sink.taken c.args.sink.now in
     let now = g.W.Sink.taken c.loop-command.sink in
     let q = c.in_err-command.ensures.reads in
-    let h = at_refused (g.N.Namer.name_of c.loop-command.repo.0) g.row.A.Denot old last coming c.loop-command.commands inv.stands.0 c.loop-command.reader.commands c.next_command.new.reader.commands was now (inv.stands.2 coming is) q.0 q.2 c.loop-command.checkpoints.count inv.stands.4.leaves in
-    rw (p.1, p.2) (subst (λ f. Imports (g.N.Namer.name_of c.args.repo.now.0) old last coming was now (Err f)) (sym q.1) (subst (λ n. Imports (g.N.Namer.name_of n) old last coming was now (Err (record { command = c.loop-command.commands + 1; kind = of_command q.0; checkpoints = c.loop-command.checkpoints.count }))) inv.namer h))
+    let h = at_refused asks (g.N.Namer.name_of c.loop-command.repo.0) g.row.A.Denot old last coming c.loop-command.commands inv.stands.0 c.loop-command.reader.commands c.next_command.new.reader.commands was now (inv.stands.2 asks coming same is) q.0 q.2 c.loop-command.checkpoints.count inv.stands.4.leaves in
+    rw (p.1, p.2) (subst (λ f. Imports asks (g.N.Namer.name_of c.args.repo.now.0) old last coming was now (Err f)) (sym q.1) (subst (λ n. Imports asks (g.N.Namer.name_of n) old last coming was now (Err (record { command = c.loop-command.commands + 1; kind = of_command q.0; checkpoints = c.loop-command.checkpoints.count }))) inv.namer h))
 
 pub overflow_add-commands : goal.overflow_add-commands
 overflow_add-commands g c = omega (arith, c.loop-command.invariant.room)
@@ -74,7 +75,7 @@ pub returns-in-Err-clause-extends : goal.returns-in-Err-clause-extends
 returns-in-Err-clause-extends g c = extends_more c.args.repo.now.1.records c.loop-command.repo.1.records c.apply.new.repo.1.records c.loop-command.invariant.extends c.apply.ensures.extends
 
 pub returns-in-Err-clause-replayed : goal.returns-in-Err-clause-replayed
-returns-in-Err-clause-replayed g c = λ coming is.
+returns-in-Err-clause-replayed g c = λ asks coming same is.
     let inv = c.loop-command.invariant in
     let old = c.args.repo.now.1 in
     let last = left_of c.apply.new.checkpoints c.apply.new.repo.1 in
@@ -83,8 +84,8 @@ returns-in-Err-clause-replayed g c = λ coming is.
     let now = g.W.Sink.taken c.apply.new.sink in
     let name = g.N.Namer.name_of c.loop-command.repo.0 in
     let reads = rw c.in-Some.is at c.in_ok-command.ensures.reads in
-    let h = at_stopped name old last c.loop-command.repo.1 c.apply.new.repo.1 c.apply.new.tables coming c.loop-command.commands inv.stands.0 c.in-Some.command c.loop-command.reader.commands c.next_command.new.reader.commands was mid now (inv.stands.2 coming is) reads c.in-Err.kind (c.in-Err.ensures.steps inv.stands.0 inv.stands.1) c.apply.new.checkpoints.count (c.in-Err.ensures.keeps inv.stands.0 inv.stands.1 inv.stands.4) in
-    subst (λ n. Imports (g.N.Namer.name_of n) old last coming was now (Err (record { command = c.loop-command.commands + 1; kind = c.in-Err.kind; checkpoints = c.apply.new.checkpoints.count }))) inv.namer h
+    let h = at_stopped asks name old last c.loop-command.repo.1 c.apply.new.repo.1 c.apply.new.tables coming c.loop-command.commands inv.stands.0 c.in-Some.command c.loop-command.reader.commands c.next_command.new.reader.commands was mid now (inv.stands.2 asks coming same is) reads c.in-Err.kind (c.in-Err.ensures.steps inv.stands.0 inv.stands.1) c.apply.new.checkpoints.count (c.in-Err.ensures.keeps inv.stands.0 inv.stands.1 inv.stands.4) in
+    subst (λ n. Imports asks (g.N.Namer.name_of n) old last coming was now (Err (record { command = c.loop-command.commands + 1; kind = c.in-Err.kind; checkpoints = c.apply.new.checkpoints.count }))) inv.namer h
 
 pub loop-command-preserved : goal.loop-command-preserved
 loop-command-preserved g c =
@@ -110,8 +111,8 @@ loop-command-preserved g c =
       stands = (
         h.0,
         subst (λ n. Stands (g.N.Namer.name_of n) c.apply.new.repo.1 c.apply.new.tables h.0) (sym c.apply.ensures.namer) h.3,
-        λ coming is. subst (λ n. IsAt (g.N.Namer.name_of n) old coming (c.loop-command.commands + 1) h.0 c.next_command.new.reader.commands was now) (sym c.apply.ensures.namer)
-            (at_next name old c.loop-command.repo.1 c.apply.new.repo.1 c.apply.new.tables coming c.loop-command.commands inv.stands.0 c.in-Some.command c.loop-command.reader.commands c.next_command.new.reader.commands was mid now (inv.stands.2 coming is) reads h),
+        λ asks coming same is. subst (λ n. IsAt asks (g.N.Namer.name_of n) old coming (c.loop-command.commands + 1) h.0 c.next_command.new.reader.commands was now) (sym c.apply.ensures.namer)
+            (at_next asks name old c.loop-command.repo.1 c.apply.new.repo.1 c.apply.new.tables coming c.loop-command.commands inv.stands.0 c.in-Some.command c.loop-command.reader.commands c.next_command.new.reader.commands was mid now (inv.stands.2 asks coming same is) reads h),
         λ is none. step_keeps name inv.stands.0 h.0 (shown_command c.in-Some.command) h.2 (inv.stands.3 is none) brings,
         c.in_default-apply.ensures.keeps inv.stands.0 inv.stands.1 inv.stands.4 h.0 h.2,
       );
@@ -127,14 +128,14 @@ pub returns-clause-count : goal.returns-clause-count
 returns-clause-count g c = omega (arith, c.loop-command.invariant.room)
 
 pub returns-clause-replayed : goal.returns-clause-replayed
-returns-clause-replayed g c = λ coming is.
+returns-clause-replayed g c = λ asks coming same is.
     let inv = c.loop-command.invariant in
     let old = c.args.repo.now.1 in
     let was = g.W.Sink.taken c.args.sink.now in
     let now = g.W.Sink.taken c.loop-command.sink in
     let reads = rw c.in_default.is at c.in_ok-command.ensures.reads in
-    let h = at_end (g.N.Namer.name_of c.loop-command.repo.0) g.row.A.Denot old coming c.loop-command.commands inv.stands.0 c.loop-command.reader.commands c.next_command.new.reader.commands was now (inv.stands.2 coming is) reads in
-    subst (λ n. (s : State) × Stands (g.N.Namer.name_of n) c.loop-command.repo.1 c.loop-command.tables s × Keeps c.loop-command.repo.1 c.loop-command.checkpoints s × EndsAs (g.N.Namer.name_of n) old coming c.loop-command.commands s was now) inv.namer (inv.stands.0, inv.stands.1, inv.stands.4, h)
+    let h = at_end asks (g.N.Namer.name_of c.loop-command.repo.0) g.row.A.Denot old coming c.loop-command.commands inv.stands.0 c.loop-command.reader.commands c.next_command.new.reader.commands was now (inv.stands.2 asks coming same is) reads in
+    subst (λ n. (s : State) × Stands (g.N.Namer.name_of n) c.loop-command.repo.1 c.loop-command.tables s × Keeps c.loop-command.repo.1 c.loop-command.checkpoints s × EndsAs asks (g.N.Namer.name_of n) old coming c.loop-command.commands s was now) inv.namer (inv.stands.0, inv.stands.1, inv.stands.4, h)
 
 pub returns-clause-gitlinks : goal.returns-clause-gitlinks
 returns-clause-gitlinks g c = λ is none.

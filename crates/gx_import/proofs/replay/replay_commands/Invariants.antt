@@ -1,7 +1,8 @@
 use Rattle.std.proofs.Common.{◌≡◌, ◌+◌, ◌-◌, ◌^◌, ◌≤◌}
 use Rattle.std.specs.Option.{option_map}
 use Rattle.gx_text.specs.Devices.{Coming}
-use Rattle.gx_command.specs.Reading.{commands_from}
+use Rattle.gx_command.specs.Reading.{commands_asked_from}
+use Rattle.gx_model.specs.declared.features.Features.{Features}
 use Rattle.gx_model.specs.Streams.Gitlinks.{HoldsNoNullGitlink}
 use Rattle.gx_model.specs.Histories.{IsHistory}
 use Rattle.gx_model.specs.Records.HistoryOf.{history_of}
@@ -26,8 +27,8 @@ invariant-loop-command g l = record {
   sorted : IsTrue (is_sorted byte_cmp (rows_of l.checkpoints.refs));
   has_all : HoldsAll l.repo.1 l.checkpoints;
   stands : (s : State) × Stands (g.N.Namer.name_of l.repo.0) l.repo.1 l.tables s
-      × ((coming : Option Coming) → l.fn.reader.commands ≡ option_map commands_from coming
-      → IsAt (g.N.Namer.name_of l.repo.0) l.fn.repo.1 coming l.commands s l.reader.commands (g.W.Sink.taken l.fn.sink) (g.W.Sink.taken l.sink))
+      × ((asks : Features) (coming : Option Coming) → asks.force ≡ l.fn.tables.is_forced → l.fn.reader.commands ≡ option_map (commands_asked_from asks) coming
+      → IsAt asks (g.N.Namer.name_of l.repo.0) l.fn.repo.1 coming l.commands s l.reader.commands (g.W.Sink.taken l.fn.sink) (g.W.Sink.taken l.sink))
       × (IsHistory (history_of l.fn.repo.1) → HoldsNoNullGitlink (history_of l.fn.repo.1) → IsFreeState s)
       × Keeps l.repo.1 l.checkpoints s;
 }

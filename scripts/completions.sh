@@ -65,6 +65,8 @@ line 'gx x'
 line 'gx help l' ls log
 line 'gx blobs '
 line 'gx try '
+line 'gx try -' --done --force --help
+line 'gx import --f' --force
 line 'gx a' adapt
 line 'gx adapt '
 line 'gx w' where

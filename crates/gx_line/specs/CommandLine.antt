@@ -63,6 +63,12 @@ recursive = letter_flag (codes "recursive") 114
 abbrev pub check : Rule
 check = flag (codes "check")
 
+abbrev pub done : Rule
+done = flag (codes "done")
+
+abbrev pub force : Rule
+force = flag (codes "force")
+
 abbrev pub reverse : Rule
 reverse = flag (codes "reverse")
 
@@ -85,8 +91,15 @@ top = record { top = record (new_app (codes "gx")).top { no_binary_name = true; 
 abbrev pub file_command : Text → App
 file_command name = with_rule (new_app name) file
 
+-- a command with the features that can be asked for as if its stream began with them
+abbrev pub with_features : App → App
+with_features a = with_rule (with_rule a done) force
+
 abbrev pub try_command : App
-try_command = with_rule (new_app (codes "try")) revision
+try_command = with_features (with_rule (new_app (codes "try")) revision)
+
+abbrev pub import_command : App
+import_command = with_features (file_command (codes "import"))
 
 abbrev pub where_command : App
 where_command = with_rule (new_app (codes "where")) (needed_number (codes "number"))
@@ -132,7 +145,7 @@ with_stream_commands a = under (under (under (under a (new_app (codes "blobs")))
 -- the commands on a store as a whole
 abbrev pub with_store_commands : App → App
 with_store_commands a =
-    under (under (under (under a (file_command (codes "init"))) (file_command (codes "import"))) (file_command (codes "export"))) (file_command (codes "refs"))
+    under (under (under (under a (file_command (codes "init"))) import_command) (file_command (codes "export"))) (file_command (codes "refs"))
 
 -- the commands that show objects
 abbrev pub with_tree_commands : App → App
@@ -168,14 +181,17 @@ abbrev pub AreLogOptions : List Row → LogOptions → Type 0
 AreLogOptions rows options = IsFlag (codes "reverse") rows options.reverse
     × (IsNumber (codes "max-count") rows options.max_count × IsFlag (codes "parents") rows options.parents)
 
+abbrev pub AreFeatures : List Row → Bool → Bool → Type 0
+AreFeatures rows done force = IsFlag (codes "done") rows done × IsFlag (codes "force") rows force
+
 -- the line is the command `name` with the options and words that clap found for it
 unfoldable pub Says : Text → List Row → Line → Type 0
 Says name rows Blobs = name ≡ codes "blobs"
-Says name rows (Try revision) = (name ≡ codes "try") × IsWord (codes "rev") rows revision
+Says name rows (Try revision done force) = (name ≡ codes "try") × (AreFeatures rows done force × IsWord (codes "rev") rows revision)
 Says name rows Adapt = name ≡ codes "adapt"
 Says name rows (Where command) = (name ≡ codes "where") × IsNumber (codes "number") rows (Some command)
 Says name rows (Init file) = (name ≡ codes "init") × IsWord (codes "file") rows file
-Says name rows (Import file) = (name ≡ codes "import") × IsWord (codes "file") rows file
+Says name rows (Import file done force) = (name ≡ codes "import") × (AreFeatures rows done force × IsWord (codes "file") rows file)
 Says name rows (Export file) = (name ≡ codes "export") × IsWord (codes "file") rows file
 Says name rows (Show file revision) = (name ≡ codes "show")
     × (IsWord (codes "file") rows file × IsWord (codes "rev") rows revision)

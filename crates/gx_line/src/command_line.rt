@@ -29,8 +29,12 @@ pub struct LogOptions {
 #[derive(Debug, Drop)]
 pub enum Line<'a> {
     Blobs,
-    /// A stream is tried: the revision is shown once it was imported.
-    Try(&'a str),
+    /// A stream is tried: the revision is shown once it was imported. `done` and `force` are as in an import.
+    Try {
+        revision: &'a str,
+        done: bool,
+        force: bool,
+    },
     /// A stream's lines are mended that an import refuses.
     Adapt,
     /// It is told where the command with this number begins in a stream, counted from 1.
@@ -39,9 +43,12 @@ pub enum Line<'a> {
     Init {
         file: &'a str,
     },
-    /// A stream is imported into a store.
+    /// A stream is imported into a store. With `done` it has to end with that command, and with `force` branches may
+    /// lose commits.
     Import {
         file: &'a str,
+        done: bool,
+        force: bool,
     },
     /// A store is exported as a stream.
     Export {
@@ -123,7 +130,11 @@ fn line_of<'a>(
 {
     match name {
         "blobs" => Ok(Line::Blobs),
-        "try" => Ok(Line::Try(word_of(alloc, matches, "rev")?)),
+        "try" => Ok(Line::Try {
+            revision: word_of(alloc, matches, "rev")?,
+            done: is_set(matches, "done"),
+            force: is_set(matches, "force"),
+        }),
         "adapt" => Ok(Line::Adapt),
         "where" => match number_of(matches, "number") {
             Some(command) => Ok(Line::Where(command)),
@@ -146,7 +157,11 @@ fn file_line<'a>(
 {
     match name {
         "init" => Ok(Line::Init { file }),
-        "import" => Ok(Line::Import { file }),
+        "import" => Ok(Line::Import {
+            file,
+            done: is_set(matches, "done"),
+            force: is_set(matches, "force"),
+        }),
         "export" => Ok(Line::Export { file }),
         "refs" => Ok(Line::Refs { file }),
         "show" => Ok(Line::Show {

@@ -39,12 +39,36 @@ fn with_stream_commands<'a>(
     ensures { (a : App) → say.Makes gx.entry a → say.Makes result (say.with_stream_commands a) }
 {
     let gx = with_command(gx, Ok(command(alloc, "blobs", manual::BLOBS)));
-    let try_command = with_argument(Ok(command(alloc, "try", manual::TRY)), revision(alloc));
+    let tried = with_argument(Ok(command(alloc, "try", manual::TRY)), revision(alloc));
+    let try_command = with_features(alloc, tried);
     let gx = with_command(gx, try_command);
     let gx = with_command(gx, Ok(command(alloc, "adapt", manual::ADAPT)));
     let number = number(alloc, "number", "The number of a command, from 1").required(true);
     let where_command = with_argument(Ok(command(alloc, "where", manual::WHERE)), number);
     with_command(gx, where_command)
+}
+
+/// What a command that imports can be asked for, as if its stream began with it.
+fn with_features<'a>(
+    alloc: Global,
+    command: Result<Command<'a>, AllocError>,
+) -> Result<Command<'a>, AllocError>
+    ensures { (a : App) → say.Makes command.entry a → say.Makes result (say.with_features a) }
+{
+    let done = flag(
+        alloc,
+        "done",
+        "The stream has to end with the command 'done', as if it began\n\
+         with 'feature done'",
+    );
+    let force = flag(
+        alloc,
+        "force",
+        "Branches may lose commits, as if the stream began\n\
+         with 'feature force'",
+    );
+    let with_done = with_argument(command, done);
+    with_argument(with_done, force)
 }
 
 /// The commands on a store as a whole.
@@ -55,7 +79,8 @@ fn with_store_commands<'a>(
     ensures { (a : App) → say.Makes gx.entry a → say.Makes result (say.with_store_commands a) }
 {
     let gx = with_command(gx, file_command(alloc, "init", manual::INIT));
-    let gx = with_command(gx, file_command(alloc, "import", manual::IMPORT));
+    let import_command = with_features(alloc, file_command(alloc, "import", manual::IMPORT));
+    let gx = with_command(gx, import_command);
     let gx = with_command(gx, file_command(alloc, "export", manual::EXPORT));
     with_command(gx, file_command(alloc, "refs", manual::REFS))
 }

@@ -45,6 +45,11 @@ Operands:
 
   Each word behind -- is an operand, also where it begins with a hyphen.
 
+Options before the command:
+  --explain  tells the file and the system's cause of gx: read failed,
+             gx: write failed and gx: lock failed in a second line
+  --version  prints the version, where it stands alone
+
 Exit status:
   0  the command was done, or help was asked for
   1  it was refused, for what standard error says in one line
@@ -66,6 +71,8 @@ Refusals:
   gx: store exists      FILE is there, where a store is to be made
   gx: read failed       FILE or standard input can't be read
   gx: write failed      FILE or standard output can't be written
+  gx: lock failed       FILE.new, where the next store is written, can't be
+                        locked
   gx: out of memory",
 };
 
@@ -93,7 +100,8 @@ pub(super) const TRY: Page = Page {
     description: "\
 Imports the stream on standard input into an empty store, and shows a revision.
 
-The revision is read once the import was accepted, and nothing is kept.",
+The revision is read once the import was accepted, and nothing is kept. Where
+the stream comes from a pipe, --done shows an end that came too early.",
     details: "\
 Output:
   The lines of the stream's progress commands, as they come, and then what
@@ -169,6 +177,7 @@ Refusals:
   gx: store exists      FILE is there, and stays as it is
   gx: read failed       whether FILE is there can't be told
   gx: write failed
+  gx: lock failed       as gx --help has it
   gx: out of memory",
 };
 
@@ -178,17 +187,22 @@ pub(super) const IMPORT: Page = Page {
     description: "\
 Imports the stream on standard input into a store.
 
-All of the stream is imported, or nothing. A branch that the store has already
-only moves forward: its new commit has to be the old one or a descendant of it,
-unless the stream has the line 'feature force'. The next store is written to
+Where a command is refused, what the checkpoints before it published is kept
+and nothing else: without a checkpoint FILE stays as it was. Where the stream
+comes from a pipe, --done shows an end that came too early.
+
+A branch that the store has already only moves forward: its new commit has to be
+the old one or a descendant of it, unless --force is given or the stream has the
+line 'feature force'. Neither outlives the import. The next store is written to
 FILE.new, which then takes the place of FILE.",
     details: "\
 Output:
   The lines of the stream's progress commands, as they come. What was printed
   stays where a later command is refused.
 
-Refusals, each of which leaves FILE as it was:
+Refusals, each of which leaves FILE as it was but for those checkpoints:
   gx: read failed
+  gx: lock failed       as gx --help has it
   gx: store: KIND       as gx --help has it
   gx: command N: KIND   the Nth command, or the one that would follow the last.
                         KIND is OutOfMemory, ReadFailed, WriteFailed,

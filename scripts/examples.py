@@ -261,7 +261,7 @@ def run_faults(gx, text, folder, environment):
 def environment_of(gx, folder):
     """A shell's environment with the program as `gx`, and with a git that has no settings."""
     (folder / "bin").mkdir()
-    (folder / "bin" / "gx").symlink_to(Path(gx).resolve())
+    (folder / "bin" / "gx").symlink_to(gx)
     names = {"NAME": "A", "EMAIL": "a@x", "DATE": "@1 +0000"}
     git = {f"GIT_{who}_{what}": value for who in ("AUTHOR", "COMMITTER") for what, value in names.items()}
     kept = {"HOME": str(folder), "GIT_CONFIG_NOSYSTEM": "1", "TZ": "UTC", "LC_ALL": "C.UTF-8"}
@@ -277,7 +277,7 @@ def made_without_proofs():
 
 
 def main():
-    gx = os.environ.get("GX") or made_without_proofs()
+    gx = str(Path(os.environ.get("GX") or made_without_proofs()).resolve())
     commands = failures = 0
     for page in sys.argv[1:] or PAGES:
         text = (TOP / page).read_text()

@@ -73,8 +73,6 @@ line 'gx w' where
 line 'gx where '
 line 'gx where -' --help
 line 'gx import -' --done --force --help
-line 'gx try -' --done --force --help
-line 'gx import --f' --force
 line 'gx import --done st' store
 line 'gx import store < st'
 line 'gx export store > st'

@@ -1,6 +1,6 @@
--- Changes of branches that their refs hold already are left out: the others give the same refs, and are refused no sooner.
+-- Changes of branches and tags that their refs hold already are left out: the others give the same refs, and are refused no sooner.
 use Rattle.std.proofs.Common.{◌≡◌, Bool, true, false, cond, List, [], ◌∷◌, ◌++◌, append-nil, append_assoc, Option, Some, None, refl, sym, ap, ◌∙◌}
-use Rattle.std.specs.Prelude.{IsTrue, T, not}
+use Rattle.std.specs.Prelude.{IsTrue, T, is_some, not, ◌||◌}
 use Rattle.std.specs.Bool.{passes}
 use Rattle.std.specs.List.{AllByRecursion, filter, fold}
 use Rattle.std.specs.Map.{lookup}
@@ -8,6 +8,7 @@ use Rattle.std.specs.Ordering.{is_lt}
 use Rattle.std.specs.FinMap.Entries.{below_all, find, find-put, is_sorted, is_sorted-put, put}
 use Rattle.std.proofs.lemmas.Bool.{true≢false}
 use Rattle.std.proofs.lemmas.List.Sums.{fold-append}
+use Rattle.std.proofs.lemmas.Map.Text.{is_eq-slice_cmp}
 use Rattle.gx_model.specs.declared.faults.Fault.{Fault}
 use Rattle.gx_model.specs.Texts.{Bytes, same_bytes}
 use Rattle.gx_model.specs.Histories.{Record}
@@ -16,7 +17,9 @@ use Rattle.gx_model.specs.Replay.{byte_cmp}
 use Rattle.gx_model.proofs.PathTests.{both, first, second, same_is}
 use Rattle.gx_object.specs.declared.name.Name.{Name}
 use Rattle.gx_import.specs.declared.branches.Tip.{Tip}
-use Rattle.gx_import.specs.RefChanges.{branch_changes, branch_then, is_at, is_moved}
+use Rattle.gx_import.specs.declared.tables.Tables.{Tables}
+use Rattle.gx_import.specs.RefChanges.{branch_changes, branch_then, changes_of, is_at, is_due, is_moved, moved_of, tag_changes}
+use Rattle.gx_import.specs.Rows.{IsSorted, rows_of}
 use Rattle.gx_import.proofs.FoundRows.{name_apart}
 use Rattle.gx_import.proofs.PublishedNames.{found, put_there}
 use Rattle.gx_model.proofs.SortedRefs.{order}
@@ -93,13 +96,92 @@ others_set refs now (c ∷ cs) s t h =
       | false ↦ λ e. ap (λ rs. with_changes rs cs) (put_there c.0 c.1 now s (h.0 ∙ stands_so c.1 (lookup (same_bytes c.0) refs) e)) ∙ others_set refs now cs s rising h.1
     ] refl
 
--- the moved branches and the tags give what all branches and the tags give
-pub moved_set : {A : Type 0} (refs : List Ref) (rows : List (Bytes × Tip A)) (tags : List Change) → IsTrue (is_sorted byte_cmp refs) → IsTrue (is_sorted byte_cmp rows)
-    → with_changes refs (filter (is_moved refs) (branch_changes rows) ++ tags) ≡ with_changes refs (branch_changes rows ++ tags)
-moved_set refs rows tags s t =
-    fold-append with_change refs (filter (is_moved refs) (branch_changes rows)) tags
-    ∙ ap (λ rs. fold with_change rs tags) (sym (others_set refs refs (branch_changes rows) (passes _ s) (sorted_changes rows (passes _ t)) (hold_same refs (branch_changes rows))))
-    ∙ sym (fold-append with_change refs (branch_changes rows) tags)
+-- ---- the refs that the tags give behind the branches
+
+-- what is left out of these changes stands
+abbrev LeftStand : (Change → Bool) → List Ref → List Change → Type 0
+LeftStand test now changes = AllByRecursion (λ c. test c ≡ false → lookup (same_bytes c.0) now ≡ Some c.1) changes
+
+-- so it does where a smaller name is set
+stand_after : (test : Change → Bool) (n object : Bytes) (now : List Ref) (changes : List Change) → T (below_all byte_cmp n changes) → LeftStand test now changes → LeftStand test (put byte_cmp n object now) changes
+stand_after test n object now [] b h = tt
+stand_after test n object now (c ∷ cs) b h = (
+  λ e. sym (found c.0 (put byte_cmp n object now)) ∙ find-put byte_cmp order c.0 n object now
+      ∙ ap (λ t. cond t (Some object) (find byte_cmp c.0 now)) (name_apart n c.0 (first _ _ b))
+      ∙ found c.0 now ∙ h.0 e,
+  stand_after test n object now cs (second (is_lt (byte_cmp n c.0)) _ b) h.1,
+)
+
+left_set : (test : Change → Bool) (now : List Ref) (changes : List Change) → T (is_sorted byte_cmp now) → T (is_sorted byte_cmp changes) → LeftStand test now changes
+    → with_changes now changes ≡ with_changes now (filter test changes)
+left_set test now [] s t h = refl
+left_set test now (c ∷ cs) s t h =
+    let rising = second (below_all byte_cmp c.0 cs) _ t in
+    elim (test c) as (λ b. test c ≡ b → with_changes now (c ∷ cs) ≡ with_changes now (cond b (c ∷ filter test cs) (filter test cs))) [
+      | true ↦ λ e. left_set test (put byte_cmp c.0 c.1 now) cs (is_sorted-put byte_cmp order c.0 c.1 now s) rising (stand_after test c.0 c.1 now cs (first _ _ t) h.1)
+      | false ↦ λ e. ap (λ rs. with_changes rs cs) (put_there c.0 c.1 now s (h.0 e)) ∙ left_set test now cs s rising h.1
+    ] refl
+
+-- changes that are set leave refs sorted
+sorted_with : (refs : List Ref) (changes : List Change) → T (is_sorted byte_cmp refs) → T (is_sorted byte_cmp (with_changes refs changes))
+sorted_with refs [] s = s
+sorted_with refs (c ∷ cs) s = sorted_with (put byte_cmp c.0 c.1 refs) cs (is_sorted-put byte_cmp order c.0 c.1 refs s)
+
+not_some : {X : Type 0} (o : Option X) → is_some o ≡ false → o ≡ None
+not_some None e = refl
+not_some (Some x) e = absurd (true≢false e)
+
+neither : (a b : Bool) → (not a || b) ≡ false → (not a ≡ false) × (b ≡ false)
+neither true b e = (refl, e)
+neither false b e = absurd (true≢false e)
+
+-- a row more at the front is none of this name, nor are those behind it
+apart : {X : Type 0} (t : Bool) (x : X) (rest : Option X) → cond t (Some x) rest ≡ None → (t ≡ false) × (rest ≡ None)
+apart true x rest e = absurd (cc)
+apart false x rest e = (refl, e)
+
+-- branches leave a ref as it is where none of them has its name
+past_branches : {A : Type 0} (n : Bytes) (rows : List (Bytes × Tip A)) (refs : List Ref) → lookup (same_bytes n) rows ≡ None
+    → lookup (same_bytes n) (with_changes refs (branch_changes rows)) ≡ lookup (same_bytes n) refs
+past_branches n [] refs e = refl
+past_branches n (row ∷ rows) refs e =
+    let none = apart (same_bytes n row.0) row.1 (lookup (same_bytes n) rows) e in
+    elim row.1.commit as (λ o. lookup (same_bytes n) (with_changes refs (branch_then row.0 o (branch_changes rows))) ≡ lookup (same_bytes n) refs) [
+      | None ↦ past_branches n rows refs none.1
+      | Some called ↦
+          past_branches n rows (put byte_cmp row.0 called.bytes refs) none.1
+          ∙ sym (found n (put byte_cmp row.0 called.bytes refs)) ∙ find-put byte_cmp order n row.0 called.bytes refs
+          ∙ ap (λ t. cond t (Some called.bytes) (find byte_cmp n refs)) (is_eq-slice_cmp n row.0 ∙ none.0)
+          ∙ found n refs
+    ]
+
+-- what is left out of the tags stands behind the branches
+tags_stand : {A : Type 0} (branches : List (Bytes × Tip A)) (refs : List Ref) (tags : List Change) → LeftStand (is_due branches refs) (with_changes refs (branch_changes branches)) tags
+tags_stand branches refs [] = tt
+tags_stand branches refs (c ∷ cs) = (
+  λ e.
+      let neither = neither (is_at (lookup (same_bytes c.0) refs) c.1) (is_some (lookup (same_bytes c.0) branches)) e in
+      past_branches c.0 branches refs (not_some _ neither.1) ∙ stands_so c.1 (lookup (same_bytes c.0) refs) neither.0,
+  tags_stand branches refs cs,
+)
+
+below_tags : (n : Bytes) (rows : List (Bytes × Name)) → T (below_all byte_cmp n rows) → T (below_all byte_cmp n (tag_changes rows))
+below_tags n [] h = tt
+below_tags n (row ∷ rows) h = both _ _ (first (is_lt (byte_cmp n row.0)) _ h) (below_tags n rows (second (is_lt (byte_cmp n row.0)) _ h))
+
+sorted_tags : (rows : List (Bytes × Name)) → T (is_sorted byte_cmp rows) → T (is_sorted byte_cmp (tag_changes rows))
+sorted_tags [] h = tt
+sorted_tags (row ∷ rows) h = both _ _ (below_tags row.0 rows (first (below_all byte_cmp row.0 rows) _ h)) (sorted_tags rows (second (below_all byte_cmp row.0 rows) _ h))
+
+-- the moved branches and the tags that are to be set give what all branches and tags give
+pub moved_set : {A : Type 0} (refs : List Ref) (tables : Tables A) → IsTrue (is_sorted byte_cmp refs) → IsSorted tables.branches → IsSorted tables.tags → with_changes refs (moved_of refs tables) ≡ with_changes refs (changes_of tables)
+moved_set refs tables s t u =
+    let branches = branch_changes (rows_of tables.branches) in
+    let tags = tag_changes (rows_of tables.tags) in
+    let due = is_due (rows_of tables.branches) refs in
+    let set = sym (others_set refs refs branches (passes _ s) (sorted_changes (rows_of tables.branches) (passes _ t)) (hold_same refs branches)) in
+    let rest = left_set due (with_changes refs branches) tags (sorted_with refs branches (passes _ s)) (sorted_tags (rows_of tables.tags) (passes _ u)) (tags_stand (rows_of tables.branches) refs tags) in
+    fold-append with_change refs (filter (is_moved refs) branches) (filter due tags) ∙ ap (λ rs. fold with_change rs (filter due tags)) set ∙ sym rest ∙ sym (fold-append with_change refs branches tags)
 
 -- ---- changes that are refused
 
@@ -117,3 +199,10 @@ fewer_free test records (c ∷ cs) others e =
       | true ↦ ap (λ why. first_fault why (changes_fault records (filter test cs ++ others))) free.0 ∙ rest
       | false ↦ rest
     ]
+
+-- nor behind others
+pub fewer_behind : (test : Change → Bool) (records : List Record) (front changes : List Change) → changes_fault records (front ++ changes) ≡ None → changes_fault records (front ++ filter test changes) ≡ None
+fewer_behind test records [] changes e = ap (changes_fault records) (sym (append-nil (filter test changes))) ∙ fewer_free test records changes [] (ap (changes_fault records) (append-nil changes) ∙ e)
+fewer_behind test records (c ∷ cs) changes e =
+    let free = none_of (change_fault records c) (changes_fault records (cs ++ changes)) e in
+    ap (λ why. first_fault why (changes_fault records (cs ++ filter test changes))) free.0 ∙ fewer_behind test records cs changes free.1

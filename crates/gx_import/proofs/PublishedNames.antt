@@ -1,6 +1,6 @@
 -- The names that were published: those of more refs are entered, and there are as many as the refs that a state published.
 use Rattle.std.proofs.Common.{◌≡◌, suc, Bool, true, false, cond, List, [], ◌∷◌, ◌++◌, append-nil, length, map, Option, Some, None, refl, sym, ap, subst, ◌∙◌}
-use Rattle.std.specs.Prelude.{IsTrue, T, is_some, not}
+use Rattle.std.specs.Prelude.{IsTrue, T, is_some, not, ◌||◌}
 use Rattle.std.specs.Bool.{passes}
 use Rattle.std.specs.List.{filter}
 use Rattle.std.specs.Map.{lookup}
@@ -20,7 +20,7 @@ use Rattle.gx_model.specs.Replay.{byte_cmp, overwritten}
 use Rattle.gx_model.proofs.PathTests.{is_true}
 use Rattle.gx_object.specs.declared.name.Name.{Name}
 use Rattle.gx_import.specs.Keeping.{AreNames, EntersChanges, EntersTables}
-use Rattle.gx_import.specs.RefChanges.{branch_changes, changes_of, is_at, is_moved, is_new, moved_of, tag_changes}
+use Rattle.gx_import.specs.RefChanges.{branch_changes, changes_of, is_at, is_due, is_moved, is_new, moved_of, tag_changes}
 use Rattle.gx_import.specs.Rows.{AreBoth, rows_of}
 use Rattle.gx_import.specs.declared.tables.Tables.{Tables}
 use Rattle.gx_import.proofs.RelatedRows.{related_found, related_itself, related_put, related_through, sorted_same}
@@ -136,18 +136,43 @@ module _ (test : Change → Bool) (old : List (Bytes × Name)) (left_out : (c : 
       related_through (λ x y. Unit {0}) (λ x y. Unit {0}) (λ x y. Unit {0}) (λ x y z _ _. tt) (with_changes refs (changes ++ more)) (with_changes refs (filter test changes ++ more)) new
       (same_names changes more refs refs rising (related_itself (λ x y. Unit {0}) (λ x. tt) refs) there) (enters refs h)
 
+  same_behind : (front changes : List Change) (xs ys : List Ref) → T (is_sorted byte_cmp ys) → AreNames xs ys → ((n : Bytes) → IsThere old n → IsThere ys n)
+      → AreNames (with_changes xs (front ++ changes)) (with_changes ys (front ++ filter test changes))
+  same_behind [] changes xs ys s h there =
+      subst (λ cs. AreNames (with_changes xs changes) (with_changes ys cs)) (append-nil (filter test changes))
+      (subst (λ cs. AreNames (with_changes xs cs) (with_changes ys (filter test changes ++ []))) (append-nil changes) (same_names changes [] xs ys s h there))
+  same_behind (c ∷ cs) changes xs ys s h there =
+      same_behind cs changes (put byte_cmp c.0 c.1 xs) (put byte_cmp c.0 c.1 ys) (is_sorted-put byte_cmp order c.0 c.1 ys s) (names_put c.0 c.1 c.1 xs ys h) (λ n t. there_put c.0 c.1 ys n (there n t))
+
+  -- the same behind others
+  pub others_behind : (new : List (Bytes × Name)) (front changes : List Change) → IsTrue (is_sorted byte_cmp old) → EntersChanges old new (front ++ filter test changes) → EntersChanges old new (front ++ changes)
+  others_behind new front changes sorted enters = λ refs h.
+      let rising = passes _ (sorted_same (λ x y. Unit {0}) refs old h ∙ sorted) in
+      let there = λ (n : Bytes) (t : IsThere old n). there_in_both (lookup (same_bytes n) refs) (lookup (same_bytes n) old) (related_found (λ x y. Unit {0}) (same_bytes n) refs old h) t in
+      related_through (λ x y. Unit {0}) (λ x y. Unit {0}) (λ x y. Unit {0}) (λ x y z _ _. tt) (with_changes refs (front ++ changes)) (with_changes refs (front ++ filter test changes)) new
+      (same_behind front changes refs refs rising (related_itself (λ x y. Unit {0}) (λ x. tt) refs) there) (enters refs h)
+
 -- so they are where the new ones are
 pub new_entered : (old new : List (Bytes × Name)) (changes : List Change) → IsTrue (is_sorted byte_cmp old) → EntersChanges old new (filter (is_new old) changes) → EntersChanges old new changes
 new_entered old new changes sorted enters =
     subst (EntersChanges old new) (append-nil changes)
     (others_entered (is_new old) old (λ c e. not_true _ e) new changes [] sorted (subst (EntersChanges old new) (sym (append-nil (filter (is_new old) changes))) enters))
 
+-- what is no change holds its object
+not_due : (a b : Bool) → (not a || b) ≡ false → not a ≡ false
+not_due true b e = refl
+not_due false b e = absurd (false≢true (sym e))
+
 -- and where the moved ones are, beside refs whose names are all there
 pub moved_entered : {A : Type 0} (refs : List Ref) (old new : List (Bytes × Name)) (tables : Tables A) → IsTrue (is_sorted byte_cmp old) → AreNames refs old → EntersChanges old new (moved_of refs tables) → EntersChanges old new (changes_of tables)
 moved_entered refs old new tables sorted all enters =
-    others_entered (is_moved refs) old
-    (λ c e. there_in_other (lookup (same_bytes c.0) refs) (lookup (same_bytes c.0) old) (related_found (λ x y. Unit {0}) (same_bytes c.0) refs old all) (some_at c.1 (lookup (same_bytes c.0) refs) e))
-    new (branch_changes (rows_of tables.branches)) (tag_changes (rows_of tables.tags)) sorted enters
+    let branches = branch_changes (rows_of tables.branches) in
+    let tags = tag_changes (rows_of tables.tags) in
+    let due = is_due (rows_of tables.branches) refs in
+    let there = λ (c : Change) (e : is_moved refs c ≡ false).
+    there_in_other (lookup (same_bytes c.0) refs) (lookup (same_bytes c.0) old) (related_found (λ x y. Unit {0}) (same_bytes c.0) refs old all) (some_at c.1 (lookup (same_bytes c.0) refs) e) in
+    others_behind due old (λ c e. there c (not_due (is_at (lookup (same_bytes c.0) refs) c.1) _ e)) new branches tags sorted
+    (others_entered (is_moved refs) old there new branches (filter due tags) sorted enters)
 
 -- ---- all names of a state
 

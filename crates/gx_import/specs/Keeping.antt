@@ -44,7 +44,7 @@ EntersUpdates old new changes = EntersNames old new (map shown_update changes)
 abbrev pub HasAll : Bool → List Ref → List (Bytes × Name) → Type 0
 HasAll has_all refs rows = IsTrue has_all → AreNames refs rows
 
--- changes are the branches moved from some refs, and then the tags; where each ref is a published one, those have the published names
+-- changes are the branches moved from some refs, and then the tags to be set; where each ref is a published one, those have the published names
 abbrev pub AreMoved : {A : Type 0} → Bool → Table Name A → Tables A → List Change → Type 0
 AreMoved has_all published tables changes = (refs : List Ref) × HasAll has_all refs (rows_of published) × (changes ≡ moved_of refs tables)
 

@@ -1,6 +1,6 @@
 -- The refs that an import sets: those of the branches with a commit, and then those of the tags.
 -- Source: git-fast-import(1), "commit", "reset" and "tag".
-use Rattle.std.specs.Prelude.{◌≡◌, Bool, false, not, is_some, List, [], ◌∷◌, ◌++◌, map, Option, Some, None, Result, IfOk, IfSome, IsTrue}
+use Rattle.std.specs.Prelude.{◌≡◌, ◌||◌, Bool, false, not, is_some, List, [], ◌∷◌, ◌++◌, map, Option, Some, None, Result, IfOk, IfSome, IsTrue}
 use Rattle.std.specs.List.{filter}
 use Rattle.std.specs.Map.{lookup}
 use Rattle.std.specs.Option.{option_map}
@@ -44,9 +44,21 @@ is_at (Some held) object = same_bytes held object
 abbrev pub is_moved : List Ref → Change → Bool
 is_moved refs change = not (is_at (lookup (same_bytes change.0) refs) change.1)
 
--- the branches that are moved, and then the tags
+-- a tag is to be set where its ref, which holds this, doesn't hold it, or where a branch of its name is set before it
+abbrev pub is_due_by : {A : Type 0} → List (Bytes × Tip A) → Option Bytes → Change → Bool
+is_due_by branches held change = not (is_at held change.1) || is_some (lookup (same_bytes change.0) branches)
+
+-- the same by the refs
+abbrev pub is_due : {A : Type 0} → List (Bytes × Tip A) → List Ref → Change → Bool
+is_due branches refs change = is_due_by branches (lookup (same_bytes change.0) refs) change
+
+-- the tags that are to be set
+abbrev pub due_tags : {A : Type 0} → List Ref → Tables A → List Change
+due_tags refs tables = filter (is_due (rows_of tables.branches) refs) (tag_changes (rows_of tables.tags))
+
+-- the branches that are moved, and then the tags that are to be set
 abbrev pub moved_of : {A : Type 0} → List Ref → Tables A → List Change
-moved_of refs tables = filter (is_moved refs) (branch_changes (rows_of tables.branches)) ++ tag_changes (rows_of tables.tags)
+moved_of refs tables = filter (is_moved refs) (branch_changes (rows_of tables.branches)) ++ due_tags refs tables
 
 -- a change sets a ref whose name is not among these rows
 abbrev pub is_new : List (Bytes × Name) → Change → Bool
@@ -102,6 +114,14 @@ module _ {A : Type 0} where
   abbrev pub AppendsBranches : {E : Type 0} → List Ref → Tables A → Vec RefChange A → Vec RefChange A → Result Bool E → Type 0
   AppendsBranches refs tables = AppendsMoved refs (branch_changes (rows_of tables.branches))
 
-  -- changes that are given are the branches that are moved, and then the tags
+  -- a tag is appended where it is to be set
+  abbrev pub AppendsTag : List (Bytes × Tip A) → Option Name → Change → Vec RefChange A → Vec RefChange A → Type 0
+  AppendsTag branches held change = Appends (filter (is_due_by branches (option_map (λ n. n.bytes) held)) (change ∷ []))
+
+  -- the tags that are to be set are appended
+  abbrev pub AppendsTags : List Ref → Tables A → Vec RefChange A → Vec RefChange A → Type 0
+  AppendsTags refs tables = Appends (due_tags refs tables)
+
+  -- changes that are given are the branches that are moved, and then the tags that are to be set
   abbrev pub GivesMoved : {E : Type 0} → List Ref → Tables A → Result (Option (Vec RefChange A)) E → Type 0
   GivesMoved refs tables answer = IfOk answer (λ changes. IfSome changes (AreChanges (moved_of refs tables)))

@@ -7,13 +7,14 @@ ghost use Rattle.gx_repo.specs.Refs.{shown_update};
 ghost use Rattle.gx_import.specs.Calls.{IsCommitIfAny, TellsForward, TellsMovable};
 ghost use Rattle.gx_import.specs.Keeping.{AreMoved, EntersInEach, EntersNames, EntersUpdates, HasAll};
 ghost use Rattle.gx_import.specs.Publishing.{PublishesInEach, TellsFastForward};
-ghost use Rattle.gx_import.specs.RefChanges.{Appends, AppendsBranch, AppendsBranches, ChangesRefs, GivesMoved, IsHeldByRef, changes_of, is_at, tag_changes};
+ghost use Rattle.gx_import.specs.RefChanges.{Appends, AppendsBranch, AppendsBranches, AppendsTag, AppendsTags, ChangesRefs, GivesMoved, IsHeldByRef, changes_of, is_at, is_due_by};
 ghost use Rattle.gx_import.specs.Rows.{IsSorted, rows_of};
 ghost use Rattle.gx_import.specs.Standing.{StandsForSome};
 ghost use Rattle.gx_model.specs.declared.faults.Fault.TheVariants.{OutOfMemory};
 
 use crate::ImportKind;
 use crate::ancestors::is_ancestor;
+use crate::branches::Tip;
 use crate::new_names::new_names;
 use crate::table::Table;
 use crate::tables::Tables;
@@ -51,8 +52,8 @@ pub(crate) fn publish<N: Namer, A: Allocator + Copy>(
     Ok(())
 }
 
-/// The refs to be set: the branches with a commit that their refs don't hold already, and then the tags. None where a
-/// published branch loses a commit, and `force` was not asked for.
+/// The refs to be set: the branches with a commit that their refs don't hold already, and then the tags that are to be set
+/// behind them. None where a published branch loses a commit, and `force` was not asked for.
 fn changes<'a, N: Namer, A: Allocator + Copy>(
     repo: &Repo<N, A>,
     tables: &'a Tables<A>,
@@ -65,7 +66,7 @@ fn changes<'a, N: Namer, A: Allocator + Copy>(
     if !append_branches(&mut changes, repo, tables)? {
         return Ok(None);
     }
-    append_tags(&mut changes, &tables.tags)?;
+    append_tags(&mut changes, repo, tables)?;
     Ok(Some(changes))
 }
 
@@ -152,19 +153,56 @@ fn is_at(held: Option<Name>, object: Name) -> bool
     }
 }
 
-/// Appends the tags.
-fn append_tags<'a, A: Allocator + Copy>(
+/// Appends the tags that are to be set behind the branches.
+fn append_tags<'a, N: Namer, A: Allocator + Copy>(
     changes: &mut Vec<RefChange<'a>, A>,
-    tags: &'a Table<Name, A>,
+    repo: &Repo<N, A>,
+    tables: &'a Tables<A>,
 ) -> Result<(), AllocError>
-    ensures { OnOk result (Appends (tag_changes (rows_of tags.now)) changes.old changes.new) }
+    requires sorted { IsSorted tables.now.branches }
+    ensures { OnOk result (AppendsTags repo.now.1.refs tables.now changes.old changes.new) }
 {
-    for (name, object) in &tags.rows {
-        let name = name.as_slice();
-        let target = *object;
+    let mut place = 0;
+    for (name, object) in &tables.tags.rows {
+        let (next, held) = repo.ref_near(place, name.as_slice());
+        place = next;
+        append_tag(changes, &tables.branches, name.as_slice(), held, *object)?;
+    }
+    Ok(())
+}
+
+/// Appends a tag, where it is to be set.
+fn append_tag<'a, A: Allocator + Copy>(
+    changes: &mut Vec<RefChange<'a>, A>,
+    branches: &Table<Tip<A>, A>,
+    name: &'a [u8],
+    held: Option<Name>,
+    target: Name,
+) -> Result<(), AllocError>
+    requires sorted { IsSorted branches.now }
+    ensures { OnOk result (AppendsTag (rows_of branches.now) held (name.now, target.bytes) changes.old changes.new) }
+{
+    if is_due(branches, name, held, target) {
         changes.push(RefChange { name, target })?;
     }
     Ok(())
+}
+
+/// Whether a tag is to be set: its ref doesn't hold it already, or a branch of its name is set before it.
+fn is_due<A: Allocator + Copy>(
+    branches: &Table<Tip<A>, A>,
+    name: &[u8],
+    held: Option<Name>,
+    target: Name,
+) -> bool
+    requires sorted { IsSorted branches.now }
+    ensures { result ≡ is_due_by (rows_of branches.now) (option_map (λ n. n.bytes) held) (name.now, target.bytes) }
+{
+    // most tags stand still between two checkpoints
+    if !is_at(held, target) {
+        return true;
+    }
+    branches.get(name).is_some()
 }
 
 /// Sets these refs, whose names and objects are good.

@@ -1,12 +1,13 @@
 use Rattle.std.proofs.Common.{◌≡◌, IfSome, is_some, map, refl, sym, ap, subst, ◌∙◌}
 use Rattle.std.proofs.lemmas.Result.{err_from_is_err_and}
+use Rattle.std.specs.List.{filter}
 use Rattle.gx_model.specs.Records.Publishing.{changes_fault, with_changes}
 use Rattle.gx_repo.specs.Refs.{shown_update}
 use Rattle.gx_import.specs.Keeping.{AreNames}
-use Rattle.gx_import.specs.RefChanges.{branch_changes, is_moved, moved_of, tag_changes}
+use Rattle.gx_import.specs.RefChanges.{branch_changes, is_due, is_moved, moved_of, tag_changes}
 use Rattle.gx_import.specs.Rows.{rows_of}
 use Rattle.gx_import.proofs.KeptCheckpoints.{when_refused}
-use Rattle.gx_import.proofs.MovedChanges.{fewer_free, moved_set}
+use Rattle.gx_import.proofs.MovedChanges.{fewer_behind, fewer_free, moved_set}
 use Rattle.gx_import.proofs.PublishedNames.{all_entered}
 use Rattle.gx_import.proofs.SetRefs.{changes_free, final_set}
 use Rattle.gx_import.proofs.publishing.publish.Goals as goal
@@ -17,8 +18,9 @@ publish_all-requires g c =
     let tables = c.args.tables.now in
     let asked_for = subst (λ o. IfSome o (λ cs. map shown_update cs.items ≡ moved_of r.refs tables)) c.in-Some.is c.in_ok-changes.ensures.changes in
     ap (λ cs. changes_fault r.records (map shown_update cs)) c.as_slice-2.ensures.value ∙ ap (changes_fault r.records) asked_for
-    ∙ fewer_free (is_moved r.refs) r.records (branch_changes (rows_of tables.branches)) (tag_changes (rows_of tables.tags))
-    (changes_free (g.N.Namer.name_of c.args.repo.now.0) (g.met.N.Namer.is_namer c.args.repo.now.0) r c.sound.ensures tables c.requires.stands.0 c.requires.stands.1)
+    ∙ fewer_behind (is_due (rows_of tables.branches) r.refs) r.records (filter (is_moved r.refs) (branch_changes (rows_of tables.branches))) (tag_changes (rows_of tables.tags))
+    (fewer_free (is_moved r.refs) r.records (branch_changes (rows_of tables.branches)) (tag_changes (rows_of tables.tags))
+    (changes_free (g.N.Namer.name_of c.args.repo.now.0) (g.met.N.Namer.is_namer c.args.repo.now.0) r c.sound.ensures tables c.requires.stands.0 c.requires.stands.1))
 
 pub returns-in_default-clause-published : goal.returns-in_default-clause-published
 returns-in_default-clause-published g c = λ s h. (sym (c.in_ok-changes.ensures.forward s h) ∙ ap is_some c.in_default.is, refl)
@@ -31,7 +33,7 @@ returns-clause-published g c = λ s h.
     let tables = c.args.tables.now in
     let asked_for = subst (λ o. IfSome o (λ cs. map shown_update cs.items ≡ moved_of r.refs tables)) c.in-Some.is c.in_ok-changes.ensures.changes in
     let moved = c.in_ok-publish_all.ensures.refs ∙ ap (λ cs. with_changes r.refs (map shown_update cs)) c.as_slice-2.ensures.value ∙ ap (with_changes r.refs) asked_for in
-    let set = moved ∙ moved_set r.refs (rows_of tables.branches) (tag_changes (rows_of tables.tags)) c.sound.ensures.sorted h.branches_sorted in (
+    let set = moved ∙ moved_set r.refs tables c.sound.ensures.sorted h.branches_sorted h.tags_sorted in (
       sym (c.in_ok-changes.ensures.forward s h) ∙ ap is_some c.in-Some.is,
       final_set name namer r c.sound.ensures tables s h (c.histories_of_records.ensures name namer) c.publish_all.new.repo.1 c.in_ok-publish_all.ensures.records set,
     )
@@ -54,7 +56,7 @@ returns-clause-has_all g c = λ all.
     let tables = c.args.tables.now in
     let asked_for = subst (λ o. IfSome o (λ cs. map shown_update cs.items ≡ moved_of r.refs tables)) c.in-Some.is c.in_ok-changes.ensures.changes in
     let moved = c.in_ok-publish_all.ensures.refs ∙ ap (λ cs. with_changes r.refs (map shown_update cs)) c.as_slice-2.ensures.value ∙ ap (with_changes r.refs) asked_for in
-    let set = moved ∙ moved_set r.refs (rows_of tables.branches) (tag_changes (rows_of tables.tags)) c.sound.ensures.sorted c.requires.stands.1.branches_sorted in
+    let set = moved ∙ moved_set r.refs tables c.sound.ensures.sorted c.requires.stands.1.branches_sorted c.requires.stands.1.tags_sorted in
     subst (λ refs. AreNames refs (rows_of c.enter_names.new.published)) (sym set) (c.in_ok-enter_names.ensures.entered r.refs (c.requires.has_all all))
 
 pub returns-in_err-enter_names-clause-unchanged : goal.returns-in_err-enter_names-clause-unchanged

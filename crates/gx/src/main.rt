@@ -11,7 +11,7 @@ mod reports;
 use fault::RunFault;
 use files::{read_store, want_no_store, want_store};
 use gx_cli::{
-    AdaptReport, CliFault, ImportReport, Line, LineFault, Outcome, Repo, adapt_stream,
+    AdaptReport, CliFault, Features, ImportReport, Line, LineFault, Outcome, Repo, adapt_stream,
     import_store, read_line, serve, serve_owned,
 };
 use gx_object::Sha1Namer;
@@ -71,9 +71,19 @@ fn run_line(rt: &HostRuntime, line: &Line<'_>) -> io::Result<ExitCode> {
 fn run(rt: &HostRuntime, line: &Line<'_>, state: RandomState) -> Result<(), RunFault> {
     let answer = match line {
         Line::Init { file } => return init(rt, line, file, state),
-        Line::Import { file } => return import(rt, file, state),
+        Line::Import { file, done, force } => {
+            let features = Features {
+                done: *done,
+                force: *force,
+            };
+            return import(rt, file, features, state);
+        }
         Line::Blobs | Line::Where(_) => refusal(&stream(rt, line, state)),
-        Line::Try(_) => refusal(&try_stream(rt, line, state)),
+        Line::Try {
+            revision: _,
+            done: _,
+            force: _,
+        } => refusal(&try_stream(rt, line, state)),
         Line::Adapt => adapt(rt),
         Line::Batch { check: _, file } => batch(rt, line, file, state),
         Line::Export { file } => export(rt, line, file, state),
@@ -116,10 +126,15 @@ fn init_locked(
 }
 
 /// Imports standard input into a store file, which a refused import leaves as the last checkpoint made it.
-fn import(rt: &HostRuntime, file: &str, state: RandomState) -> Result<(), RunFault> {
+fn import(
+    rt: &HostRuntime,
+    file: &str,
+    features: Features,
+    state: RandomState,
+) -> Result<(), RunFault> {
     want_store(rt, file)?;
     let mut next = NextText::claim(rt, file)?;
-    let answer = import_locked(rt, &mut next, state);
+    let answer = import_locked(rt, &mut next, features, state);
     next.release(rt);
     tell_import(rt, &answer?);
     Ok(())
@@ -129,10 +144,11 @@ fn import(rt: &HostRuntime, file: &str, state: RandomState) -> Result<(), RunFau
 fn import_locked(
     rt: &HostRuntime,
     next: &mut NextText,
+    features: Features,
     state: RandomState,
 ) -> Result<ImportReport, RunFault> {
     let store = read_store(rt, next.store())?;
-    let (repo, answer) = import_shown(rt, store, state);
+    let (repo, answer) = import_shown(rt, store, features, state);
     publish_import(rt, next, repo.as_ref(), answer)
 }
 
@@ -153,6 +169,7 @@ fn publish_import(
 fn import_shown(
     rt: &HostRuntime,
     store: Vec<u8>,
+    features: Features,
     state: RandomState,
 ) -> (
     Option<Repo<Sha1Namer, Global>>,
@@ -161,7 +178,15 @@ fn import_shown(
     let progress = ProgressLine::new(rt);
     let source = FromRead::new(Metered::input(&progress));
     let mut sink = IntoWrite::new(Beside::new(&progress));
-    let imported = import_store(rt.alloc(), Sha1Namer, store, source, &mut sink, state);
+    let imported = import_store(
+        rt.alloc(),
+        Sha1Namer,
+        store,
+        source,
+        &mut sink,
+        features,
+        state,
+    );
     progress.clear();
     imported
 }

@@ -1,6 +1,7 @@
 -- Imports into a store that was read, and what is written of what they leave.
 use Rattle.std.proofs.Common.{◌≡◌, ℕ, zero, suc, refl, sym, subst, inl, inr, Option, Some, None, Ok, Err}
 use Rattle.gx_model.specs.declared.objects.Kind.{Kind}
+use Rattle.gx_model.specs.declared.features.Features.{Features}
 use Rattle.gx_model.specs.Texts.{Bytes}
 use Rattle.gx_model.specs.Histories.{Records}
 use Rattle.gx_model.specs.Records.Sound.{IsSound}
@@ -25,11 +26,11 @@ pub left_some : (name : Kind → Bytes → Bytes) {A : Type 0} (n : ℕ) (new : 
 left_some name zero new fault o some k = absurd (some refl)
 left_some name (suc n) new fault o some k = k
 
-module _ {N A : Type 0} (name_of : N → Kind → Bytes → Bytes) (old new : N × Records) (outcome : Outcome A) (kept : new.0 ≡ old.0) where
+module _ {N A : Type 0} (asks : Features) (name_of : N → Kind → Bytes → Bytes) (old new : N × Records) (outcome : Outcome A) (kept : new.0 ≡ old.0) where
   -- a refused import: what it left was written, where there was a checkpoint
   pub refused_into : (fault : ImportFault) → IsSound (name_of old.0) new.1 → IsLeft (name_of new.0) fault.checkpoints new.1 (Import fault) outcome
-      → (coming : Option Coming) (was now : Option Taken) → Imports (name_of old.0) old.1 new.1 coming was now (Err fault) → KeepsNoNullGitlink old.1 new.1
-      → ImportsIntoStored (name_of old.0) (Ok old.1) coming was now (outcome, None)
+      → (coming : Option Coming) (was now : Option Taken) → Imports asks (name_of old.0) old.1 new.1 coming was now (Err fault) → KeepsNoNullGitlink old.1 new.1
+      → ImportsIntoStored (name_of old.0) asks (Ok old.1) coming was now (outcome, None)
   refused_into fault sound left coming was now replayed keeps =
       inr (new.1, Err fault, replayed, keeps, (sound, subst (λ n. IsLeft (name_of n) fault.checkpoints new.1 (Import fault) outcome) kept left, refl))
 
@@ -49,8 +50,8 @@ module _ {N A : Type 0} (name_of : N → Kind → Bytes → Bytes) (old new : N 
     written_still : IsWritten (name_of old.0) new.1 outcome
     written_still = subst (λ n. IsWritten (name_of n) new.1 outcome) kept written
 
-    pub accepted_into : (coming : Option Coming) (was now : Option Taken) → Imports (name_of old.0) old.1 new.1 coming was now (Ok report) → KeepsNoNullGitlink old.1 new.1
-        → ImportsIntoStored (name_of old.0) (Ok old.1) coming was now (outcome, Some report)
+    pub accepted_into : (coming : Option Coming) (was now : Option Taken) → Imports asks (name_of old.0) old.1 new.1 coming was now (Ok report) → KeepsNoNullGitlink old.1 new.1
+        → ImportsIntoStored (name_of old.0) asks (Ok old.1) coming was now (outcome, Some report)
     accepted_into coming was now replayed keeps = inr (new.1, Ok report, replayed, keeps, (sound_still, written_still, refl))
 
     pub accepted_again : (coming : Option Coming) → ImportsExport (name_of old.0) old.1 new.1 coming (Ok report) → ImportsAgain (name_of old.0) (Ok old.1) coming outcome

@@ -5,6 +5,7 @@ use Rattle.std.proofs.lemmas.Bool.Decides.{nat_tests}
 use Rattle.gx_model.specs.declared.objects.Kind.{Kind}
 use Rattle.gx_model.specs.Texts.{Bytes}
 use Rattle.gx_model.specs.Histories.{Records}
+use Rattle.gx_model.specs.Streams.Commands.{no_features}
 use Rattle.gx_model.specs.Records.HistoryOf.{history_of}
 use Rattle.gx_model.specs.Texts.Paths.{Path}
 use Rattle.gx_model.specs.Revisions.{Revision}
@@ -77,24 +78,24 @@ module _ {N : Type 0} (name_of : N → Kind → Bytes → Bytes) (namer : N) whe
 
 -- an import into a repository with nothing
 from_nothing : {N : Type 0} (name_of : N → Kind → Bytes → Bytes) (namer : N) (old : N × Records) (new : Records) (coming : Option Coming) (was now : Option Taken) (answer : Result Report ImportFault)
-    → old ≡ (namer, nothing) → Imports (name_of old.0) old.1 new coming was now answer → Imports (name_of namer) nothing new coming was now answer
-from_nothing {N} name_of namer old new coming was now answer empty h = subst (λ (o : N × Records). Imports (name_of o.0) o.1 new coming was now answer) empty h
+    → old ≡ (namer, nothing) → Imports no_features (name_of old.0) old.1 new coming was now answer → Imports no_features (name_of namer) nothing new coming was now answer
+from_nothing {N} name_of namer old new coming was now answer empty h = subst (λ (o : N × Records). Imports no_features (name_of o.0) o.1 new coming was now answer) empty h
 
 -- an import into an empty store, and what came after it
 module _ {N : Type 0} (name_of : N → Kind → Bytes → Bytes) (namer : N) (revision : Revision) (path : Path) (old : N × Records) (empty : old ≡ (namer, nothing)) (was now : Option Taken) where
   -- it was refused
-  pub trip_refused : (A : Type 0) (coming : Option Coming) (new : Records) (fault : ImportFault) → Imports (name_of old.0) old.1 new coming was now (Err fault) → RoundTrips (name_of namer) revision path {N = N} {A = A} coming was now (Err (Import fault))
+  pub trip_refused : (A : Type 0) (coming : Option Coming) (new : Records) (fault : ImportFault) → Imports no_features (name_of old.0) old.1 new coming was now (Err fault) → RoundTrips (name_of namer) revision path {N = N} {A = A} coming was now (Err (Import fault))
   trip_refused A coming new fault h = by coming (from_nothing name_of namer old new coming was now (Err fault) empty h)
     where
-      by : (c : Option Coming) → Imports (name_of namer) nothing new c was now (Err fault) → RoundTrips (name_of namer) revision path {N = N} {A = A} c was now (Err (Import fault))
+      by : (c : Option Coming) → Imports no_features (name_of namer) nothing new c was now (Err fault) → RoundTrips (name_of namer) revision path {N = N} {A = A} c was now (Err (Import fault))
       by None k = (k.0, k.1, (new, k.2))
       by (Some c) k = (new, k)
 
   -- there was no memory for the export, or it is too long
-  pub trip_stopped : (A : Type 0) (coming : Option Coming) (new : Records) (report : Report) (fault : CliFault) → Imports (name_of old.0) old.1 new coming was now (Ok report) → ExportsText {A = A} (history_of new) (Err fault) → RoundTrips (name_of namer) revision path {N = N} {A = A} coming was now (Err fault)
+  pub trip_stopped : (A : Type 0) (coming : Option Coming) (new : Records) (report : Report) (fault : CliFault) → Imports no_features (name_of old.0) old.1 new coming was now (Ok report) → ExportsText {A = A} (history_of new) (Err fault) → RoundTrips (name_of namer) revision path {N = N} {A = A} coming was now (Err fault)
   trip_stopped A coming new report fault h stops = by coming fault (from_nothing name_of namer old new coming was now (Ok report) empty h) stops
     where
-      by : (c : Option Coming) (f : CliFault) → Imports (name_of namer) nothing new c was now (Ok report) → ExportsText {A = A} (history_of new) (Err f) → RoundTrips (name_of namer) revision path {N = N} {A = A} c was now (Err f)
+      by : (c : Option Coming) (f : CliFault) → Imports no_features (name_of namer) nothing new c was now (Ok report) → ExportsText {A = A} (history_of new) (Err f) → RoundTrips (name_of namer) revision path {N = N} {A = A} c was now (Err f)
       by None OutOfMemory k s = (k.0, k.1, (history_of new, report_of report, k.2))
       by None (Export f) k s = (k.0, k.1, (history_of new, report_of report, k.2, s))
       by None f k s = absurd s
@@ -103,11 +104,11 @@ module _ {N : Type 0} (name_of : N → Kind → Bytes → Bytes) (namer : N) (re
       by (Some c) f k s = absurd s
 
   -- what was imported came back, or stopped on its way
-  pub trip_came : {A : Type 0} (coming : Option Coming) (new : N × Records) (report : Report) (answer : Result (RoundTrip N A) CliFault) → Imports (name_of old.0) old.1 new.1 coming was now (Ok report)
+  pub trip_came : {A : Type 0} (coming : Option Coming) (new : N × Records) (report : Report) (answer : Result (RoundTrip N A) CliFault) → Imports no_features (name_of old.0) old.1 new.1 coming was now (Ok report)
       → ComesBackOr (name_of namer) revision path {N = N} {A = A} report new answer → RoundTrips (name_of namer) revision path {N = N} {A = A} coming was now answer
   trip_came {A} coming new report (Err fault) h k = trip_stopped A coming new.1 report fault h k
-  trip_came {A} coming new report (Ok trip) h k = by coming (from_nothing name_of namer old new.1 coming was now (Ok trip.report) empty (subst (λ told. Imports (name_of old.0) old.1 new.1 coming was now (Ok told)) (sym k.1) h))
+  trip_came {A} coming new report (Ok trip) h k = by coming (from_nothing name_of namer old new.1 coming was now (Ok trip.report) empty (subst (λ told. Imports no_features (name_of old.0) old.1 new.1 coming was now (Ok told)) (sym k.1) h))
     where
-      by : (c : Option Coming) → Imports (name_of namer) nothing new.1 c was now (Ok trip.report) → RoundTrips (name_of namer) revision path {N = N} {A = A} c was now (Ok trip)
+      by : (c : Option Coming) → Imports no_features (name_of namer) nothing new.1 c was now (Ok trip.report) → RoundTrips (name_of namer) revision path {N = N} {A = A} c was now (Ok trip)
       by None m = (m.0, m.1, (history_of new.1, m.2, k.2))
       by (Some c) m = (history_of new.1, m, k.2)

@@ -1,6 +1,7 @@
 -- Imports into a store that was read, and the repository whose text is the next one.
 use Rattle.std.proofs.Common.{◌≡◌, ℕ, zero, suc, ◌∙◌, refl, sym, ap, inl, inr, Option, Some, None, Ok, Err}
 use Rattle.gx_model.specs.declared.objects.Kind.{Kind}
+use Rattle.gx_model.specs.declared.features.Features.{Features}
 use Rattle.gx_model.specs.Texts.{Bytes}
 use Rattle.gx_model.specs.Histories.{Records}
 use Rattle.gx_model.specs.Records.Sound.{IsSound}
@@ -22,18 +23,18 @@ pub after_some : {X : Type 0} (n : ℕ) (new : X) → (n ≡ 0 → ⊥) → Some
 after_some zero new some = absurd (some refl)
 after_some (suc n) new some = refl
 
-module _ {N : Type 0} (name_of : N → Kind → Bytes → Bytes) (old new : N × Records) (kept : new.0 ≡ old.0) (sound : IsSound (name_of old.0) new.1) where
+module _ {N : Type 0} (asks : Features) (name_of : N → Kind → Bytes → Bytes) (old new : N × Records) (kept : new.0 ≡ old.0) (sound : IsSound (name_of old.0) new.1) where
   is_new : new ≡ (old.0, new.1)
   is_new = ap (λ n. (n, new.1)) kept
 
   -- an accepted import
-  pub accepted_store : (report : Report) (coming : Option Coming) (was now : Option Taken) → Imports (name_of old.0) old.1 new.1 coming was now (Ok report) → KeepsNoNullGitlink old.1 new.1
-      → ImportsStored name_of old.0 (Ok old.1) coming was now (Some new, Ok report)
+  pub accepted_store : (report : Report) (coming : Option Coming) (was now : Option Taken) → Imports asks (name_of old.0) old.1 new.1 coming was now (Ok report) → KeepsNoNullGitlink old.1 new.1
+      → ImportsStored name_of old.0 asks (Ok old.1) coming was now (Some new, Ok report)
   accepted_store report coming was now replayed keeps = inr (new.1, Ok report, replayed, keeps, (sound, ap (λ x. (Some x, Ok report)) is_new))
 
   -- a refused one
-  pub refused_store : (fault : ImportFault) (next : Option (N × Records)) → next ≡ next_after fault.checkpoints new → (coming : Option Coming) (was now : Option Taken) → Imports (name_of old.0) old.1 new.1 coming was now (Err fault) → KeepsNoNullGitlink old.1 new.1
-      → ImportsStored name_of old.0 (Ok old.1) coming was now (next, Err (Import fault))
+  pub refused_store : (fault : ImportFault) (next : Option (N × Records)) → next ≡ next_after fault.checkpoints new → (coming : Option Coming) (was now : Option Taken) → Imports asks (name_of old.0) old.1 new.1 coming was now (Err fault) → KeepsNoNullGitlink old.1 new.1
+      → ImportsStored name_of old.0 asks (Ok old.1) coming was now (next, Err (Import fault))
   refused_store fault next left coming was now replayed keeps =
       inr (new.1, Err fault, replayed, keeps, (sound, ap (λ x. (x, Err (Import fault))) (left ∙ ap (next_after fault.checkpoints) is_new)))
 

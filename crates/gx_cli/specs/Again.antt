@@ -9,7 +9,7 @@ use Rattle.gx_model.specs.Records.HistoryOf.{history_of}
 use Rattle.gx_model.specs.Records.Sound.{IsSound}
 use Rattle.gx_model.specs.Stores.StoreReading.{Stored, store_of}
 use Rattle.gx_text.specs.Devices.{Coming}
-use Rattle.gx_import.specs.Exported.{GivesExport, IsExported, nothing}
+use Rattle.gx_import.specs.Exported.{GivesExport, IsExported, LeaveExports, nothing}
 use Rattle.gx_import.specs.declared.fault.ImportFault.{ImportFault}
 use Rattle.gx_model.specs.declared.faults.Fault.TheVariants as kind
 use Rattle.gx_model.specs.declared.store_faults.FileFault.TheVariants as file
@@ -17,7 +17,7 @@ use Rattle.gx_line.specs.declared.command_line.Line.{Line}
 use Rattle.gx_line.specs.declared.command_line.Line.TheVariants as line
 use Rattle.gx_cli.specs.declared.fault.CliFault.TheVariants.{Import, Store}
 use Rattle.gx_cli.specs.declared.serving.Outcome.{Outcome}
-use Rattle.gx_cli.specs.Serving.{IsRefused, IsWritten}
+use Rattle.gx_cli.specs.Serving.{IsRefused, IsWritten, features_of}
 
 -- memory ran out, while the store was read or while the stream was imported, or the sink of progress texts failed
 abbrev pub IsInterrupted : {A : Type 0} → Outcome A → Type 0
@@ -42,7 +42,7 @@ module _ (name : Kind → Bytes → Bytes) {A : Type 0} where
   abbrev pub IntoAgain : Bytes → Option Coming → Outcome A → Type 0
   IntoAgain text coming o = ImportsAgain (store_of name text) coming o
 
-  -- the same of the command
+  -- the same of the command, with features that leave it so
   abbrev pub ServesExported : Line → Bytes → Option Coming → Outcome A → Type 0
-  ServesExported (line.Import file) store coming o = IntoAgain store coming o
+  ServesExported (line.Import file done force) store coming o = LeaveExports (features_of done force) → IntoAgain store coming o
   ServesExported line store coming o = ⊤

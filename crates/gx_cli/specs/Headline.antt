@@ -6,7 +6,7 @@ use Rattle.std.specs.declared.vec.Vec.{Vec}
 use Rattle.gx_model.specs.declared.objects.Kind.{Kind}
 use Rattle.gx_model.specs.Texts.{Bytes}
 use Rattle.gx_model.specs.Texts.Paths.{Path}
-use Rattle.gx_model.specs.Streams.Commands.{Commands}
+use Rattle.gx_model.specs.Streams.Commands.{Commands, no_features}
 use Rattle.gx_model.specs.Histories.{History, Records}
 use Rattle.gx_model.specs.Records.HistoryOf.{history_of}
 use Rattle.gx_model.specs.Revisions.{Revision}
@@ -71,7 +71,7 @@ module _ (name : Kind → Bytes → Bytes) (revision : Revision) (path : Path) {
   -- export has more than 2^63 - 1 bytes.
   abbrev pub ComesBackFrom : Commands → Outcome → Option Taken → Option Taken → Result (RoundTrip N A) CliFault → Type 0
   ComesBackFrom commands replay was now (Ok trip) = (h : History) × Accepts replay was now h (report_of trip.report) × ComesBack h trip
-  ComesBackFrom commands replay was now (Err (Import fault)) = Refuses name commands replay was now fault
+  ComesBackFrom commands replay was now (Err (Import fault)) = Refuses name no_features commands replay was now fault
   ComesBackFrom commands replay was now (Err OutOfMemory) = (h : History) × (report : model.Report) × Accepts replay was now h report
   ComesBackFrom commands replay was now (Err (Export fault)) =
       (h : History) × (report : model.Report) × Accepts replay was now h report × (most < length (export_text h))
@@ -79,6 +79,6 @@ module _ (name : Kind → Bytes → Bytes) (revision : Revision) (path : Path) {
 
   -- The same of the commands of a source. Where it tells nothing, there are commands that a reader gives.
   abbrev pub RoundTrips : Option Coming → Option Taken → Option Taken → Result (RoundTrip N A) CliFault → Type 0
-  RoundTrips None was now answer = (commands : Commands) × AreRead commands × ComesBackFrom commands (replayed_on name nothing commands) was now answer
+  RoundTrips None was now answer = (commands : Commands) × AreRead commands × ComesBackFrom commands (replayed_on no_features name nothing commands) was now answer
   RoundTrips (Some coming) was now answer =
       ComesBackFrom (commands_from coming) (imported name no_history (heard coming).bytes (heard coming).fails) was now answer

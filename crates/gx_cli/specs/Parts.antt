@@ -19,6 +19,7 @@ use Rattle.gx_model.specs.Records.{named_map}
 use Rattle.gx_model.specs.Revisions.{Revision, range_of, revision_of}
 use Rattle.gx_model.specs.Stores.StoreReading.{store_of}
 use Rattle.gx_model.specs.Stores.StoreText.{store_text}
+use Rattle.gx_model.specs.declared.features.Features.{Features}
 use Rattle.gx_model.specs.Texts.{Bytes}
 use Rattle.gx_model.specs.Texts.Sinks.{Taken}
 use Rattle.gx_text.specs.Devices.{Coming}
@@ -130,8 +131,8 @@ module _ {N W : Type 0} (name_of : N → Kind → Bytes → Bytes) (taken : W �
   AnswersBlobs namer coming old new result = (answer : Result ℕ BlobsFault) × NamesBlobs name_of taken namer coming old new answer × (result ≡ blobs_answer answer)
 
   -- once a stream was imported into an empty store, a word is shown as a revision
-  abbrev pub TriesWord : N → Option Coming → Bytes → W → W → Result (Unit {0}) CliFault → Type 0
-  TriesWord namer coming word old new result = Tries (name_of namer) coming word (taken old) (taken new) result
+  abbrev pub TriesWord : N → Features → Option Coming → Bytes → W → W → Result (Unit {0}) CliFault → Type 0
+  TriesWord namer asks coming word old new result = Tries (name_of namer) asks coming word (taken old) (taken new) result
 
   -- what a question prints of a repository goes out, or a refusal is answered
   abbrev pub PrintsOf : Question → N × Records → W → W → Result (Unit {0}) CliFault → Type 0
@@ -150,12 +151,12 @@ module _ {N W : Type 0} (name_of : N → Kind → Bytes → Bytes) (taken : W �
   SendsStored namer store old new o = ExportsStore (name_of namer) (bytes_of store) (taken old) (taken new) o
 
   -- a stream is imported into the store of these bytes, and the next store text is told, and what was imported
-  abbrev pub ImportsToStored : {A : Type 0} → N → StoreBytes A → Option Coming → W → W → Outcome A × Option Report → Type 0
-  ImportsToStored namer store coming old new o = ImportsInto (name_of namer) (bytes_of store) coming (taken old) (taken new) o
+  abbrev pub ImportsToStored : {A : Type 0} → N → Features → StoreBytes A → Option Coming → W → W → Outcome A × Option Report → Type 0
+  ImportsToStored namer asks store coming old new o = ImportsInto (name_of namer) asks (bytes_of store) coming (taken old) (taken new) o
 
   -- a stream is imported into an empty store
-  abbrev pub ImportsFirst : N → Option Coming → W → W → Result (Repository N) ImportFault → Type 0
-  ImportsFirst namer coming old new result = ImportsAlone (name_of namer) coming (taken old) (taken new) result
+  abbrev pub ImportsFirst : N → Features → Option Coming → W → W → Result (Repository N) ImportFault → Type 0
+  ImportsFirst namer asks coming old new result = ImportsAlone (name_of namer) asks coming (taken old) (taken new) result
 
   -- the answers to the lines of a source over the store of these bytes go out, and how the command ends
   abbrev pub AnswersStored : {A : Type 0} → N → Bool → StoreBytes A → Option Coming → W → W → Outcome A → Type 0
@@ -167,12 +168,12 @@ module _ {N W : Type 0} (name_of : N → Kind → Bytes → Bytes) (taken : W �
       (answer : Result (Unit {0}) BatchFault) × SendsAnswers name_of taken repo check coming old new answer × (result ≡ batch_answer answer)
 
   -- a stream is imported into a repository, and the next store text is told, and what was imported
-  abbrev pub ImportsTo : {A : Type 0} → Repository N → Option Coming → W → W → Outcome A × Option Report → Type 0
-  ImportsTo repo coming old new o = ImportsIntoStored (name_of repo.0) (Ok repo.1) coming (taken old) (taken new) o
+  abbrev pub ImportsTo : {A : Type 0} → Repository N → Features → Option Coming → W → W → Outcome A × Option Report → Type 0
+  ImportsTo repo asks coming old new o = ImportsIntoStored (name_of repo.0) asks (Ok repo.1) coming (taken old) (taken new) o
 
   -- the same, and the repository is told whose text is the next one
-  abbrev pub LeavesNext : Repository N → Option Coming → W → W → Answer N → Type 0
-  LeavesNext repo coming old new answer = ImportsStored name_of repo.0 (Ok repo.1) coming (taken old) (taken new) answer
+  abbrev pub LeavesNext : Repository N → Features → Option Coming → W → W → Answer N → Type 0
+  LeavesNext repo asks coming old new answer = ImportsStored name_of repo.0 asks (Ok repo.1) coming (taken old) (taken new) answer
 
   -- ---- one revision
 

@@ -3,6 +3,7 @@ use Rattle.std.specs.Prelude.{◌≡◌, ◌⊎◌, ℕ, zero, suc, Bool, Option
 use Rattle.std.specs.Option.{option_map}
 use Rattle.std.specs.declared.vec.Vec.{Vec}
 use Rattle.gx_model.specs.declared.objects.Kind.{Kind}
+use Rattle.gx_model.specs.declared.features.Features.{Features}
 use Rattle.gx_model.specs.Texts.{Bytes}
 use Rattle.gx_model.specs.Histories.{Records}
 use Rattle.gx_model.specs.Records.HistoryOf.{history_of}
@@ -39,6 +40,10 @@ use Rattle.gx_cli.specs.Placing.{PlacesFrom}
 use Rattle.gx_blobs.specs.Printing.{PrintsBlobs}
 use Rattle.gx_cli.specs.Stored.{Printed, list_text, log_text, names_text, of_stored, refs_text, show_text, texts_of}
 use Rattle.gx_cli.specs.Trying.{Tries}
+
+-- the features that a line asks for
+abbrev pub features_of : Bool → Bool → Features
+features_of done force = record { done = done; force = force }
 
 -- what `blobs` answers, with its fault among those of the commands
 abbrev pub blobs_answer : Result ℕ BlobsFault → Result ℕ CliFault
@@ -121,16 +126,17 @@ module _ (name : Kind → Bytes → Bytes) {A : Type 0} where
   IsImported new (Ok report) o = IsSound name new × IsWritten name new o.0 × (o.1 ≡ Some report)
   IsImported new (Err fault) o = IsSound name new × IsLeft fault.checkpoints new (Import fault) o.0 × (o.1 ≡ None)
 
-  -- The import of a stream into the store that a text was read as. It brings no gitlink of forty zeros.
-  abbrev pub ImportsIntoStored : Stored Records → Option Coming → Option Taken → Option Taken → Outcome A × Option Report → Type 0
-  ImportsIntoStored (Ok old) coming was now o =
+  -- The import of a stream into the store that a text was read as, where these features are asked for. It brings no gitlink of
+  -- forty zeros.
+  abbrev pub ImportsIntoStored : Features → Stored Records → Option Coming → Option Taken → Option Taken → Outcome A × Option Report → Type 0
+  ImportsIntoStored asks (Ok old) coming was now o =
       (IsUnopened was now o.0 × (o.1 ≡ None))
-      ⊎ ((new : Records) × (answer : Result Report ImportFault) × Imports name old new coming was now answer × KeepsNoNullGitlink old new × IsImported new answer o)
-  ImportsIntoStored (Err f) coming was now o = IsUnread f was now o.0 × (o.1 ≡ None)
+      ⊎ ((new : Records) × (answer : Result Report ImportFault) × Imports asks name old new coming was now answer × KeepsNoNullGitlink old new × IsImported new answer o)
+  ImportsIntoStored asks (Err f) coming was now o = IsUnread f was now o.0 × (o.1 ≡ None)
 
   -- the same of the store of a text, which is read first
-  abbrev pub ImportsInto : Bytes → Option Coming → Option Taken → Option Taken → Outcome A × Option Report → Type 0
-  ImportsInto text coming was now o = ImportsIntoStored (store_of name text) coming was now o
+  abbrev pub ImportsInto : Features → Bytes → Option Coming → Option Taken → Option Taken → Outcome A × Option Report → Type 0
+  ImportsInto asks text coming was now o = ImportsIntoStored asks (store_of name text) coming was now o
 
   -- the answers to the lines of a source, of the store that a text was read as
   abbrev pub BatchesStored : Bool → Stored Records → Option Coming → Option Taken → Option Taken → Outcome A → Type 0
@@ -146,12 +152,13 @@ module _ (name : Kind → Bytes → Bytes) {A : Type 0} where
   -- what a command does to the sink, and how it ends
   abbrev pub Serves : Line → Bytes → Option Coming → Option Taken → Option Taken → Outcome A → Type 0
   Serves line.Blobs store coming was now o = (answer : Result ℕ BlobsFault) × PrintsBlobs name (option_map items_from coming) was now answer × IsOutcome (blobs_answer answer) o
-  Serves (line.Try word) store coming was now o = (answer : Result (Unit {0}) CliFault) × Tries name coming word.now was now answer × IsOutcome answer o
+  Serves (line.Try word done force) store coming was now o =
+      (answer : Result (Unit {0}) CliFault) × Tries name (features_of done force) coming word.now was now answer × IsOutcome answer o
   Serves line.Adapt store coming was now o = (answer : Result AdaptReport CliFault) × AdaptsStream coming was now answer × IsOutcome answer o
   Serves (line.Where command) store coming was now o = (answer : Result (Unit {0}) CliFault) × PlacesFrom command coming was now answer × IsOutcome answer o
   Serves (line.Batch check file) store coming was now o = AnswersLines check store coming was now o
   Serves (line.Init file) store coming was now o = IsWritten name nothing o × (now ≡ was)
-  Serves (line.Import file) store coming was now o = (told : Option Report) × ImportsInto store coming was now (o, told)
+  Serves (line.Import file done force) store coming was now o = (told : Option Report) × ImportsInto (features_of done force) store coming was now (o, told)
   Serves (line.Export file) store coming was now o = ExportsStore name store was now o
   Serves (line.Show file word) store coming was now o = PrintsStored (store_of name store) (λ r. show_text name (history_of r) word.now) was now o
   Serves (line.Ls recursive file word) store coming was now o = PrintsStored (store_of name store) (λ r. list_text name recursive (history_of r) word.now) was now o

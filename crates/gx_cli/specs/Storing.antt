@@ -2,6 +2,7 @@
 -- Source: git-fast-import(1).
 use Rattle.std.specs.Prelude.{◌≡◌, ◌⊎◌, ℕ, zero, suc, Option, Some, None, Result, Ok, Err, ⊤}
 use Rattle.gx_model.specs.declared.objects.Kind.{Kind}
+use Rattle.gx_model.specs.declared.features.Features.{Features}
 use Rattle.gx_model.specs.Texts.{Bytes}
 use Rattle.gx_model.specs.Histories.{Records}
 use Rattle.gx_model.specs.Records.HistoryOf.{history_of}
@@ -41,12 +42,13 @@ module _ {N : Type 0} (name_of : N → Kind → Bytes → Bytes) (namer : N) whe
   IsAnswer new (Ok report) answer = IsSound (name_of namer) new × (answer ≡ (Some (namer, new), Ok report))
   IsAnswer new (Err fault) answer = IsSound (name_of namer) new × (answer ≡ (next_after fault.checkpoints (namer, new), Err (Import fault)))
 
-  -- The import of a stream into the store that a text was read as. It brings no gitlink of forty zeros.
-  abbrev pub ImportsStored : Stored Records → Option Coming → Option Taken → Option Taken → Answer N → Type 0
-  ImportsStored (Ok old) coming was now answer =
+  -- The import of a stream into the store that a text was read as, where these features are asked for. It brings no gitlink of
+  -- forty zeros.
+  abbrev pub ImportsStored : Features → Stored Records → Option Coming → Option Taken → Option Taken → Answer N → Type 0
+  ImportsStored asks (Ok old) coming was now answer =
       ((answer ≡ (None, Err (Store file.OutOfMemory))) × (now ≡ was))
-      ⊎ ((new : Records) × (given : Result Report ImportFault) × Imports (name_of namer) old new coming was now given × KeepsNoNullGitlink old new × IsAnswer new given answer)
-  ImportsStored (Err f) coming was now answer =
+      ⊎ ((new : Records) × (given : Result Report ImportFault) × Imports asks (name_of namer) old new coming was now given × KeepsNoNullGitlink old new × IsAnswer new given answer)
+  ImportsStored asks (Err f) coming was now answer =
       (why : FileFault) × ((why ≡ file.OutOfMemory) ⊎ (f ≡ why)) × (answer ≡ (None, Err (Store why))) × (now ≡ was)
 
   -- The import of a sound repository's export into an empty store makes that repository again, as far as its refs reach. A
@@ -59,8 +61,8 @@ module _ {N : Type 0} (name_of : N → Kind → Bytes → Bytes) (namer : N) whe
       → IsInterrupted answer ⊎ ((new : Records) × (report : Report) × IsExported exported new × IsSound (name_of namer) new × (answer ≡ (Some (namer, new), Ok report)))
 
   -- the import of a stream into the store of a text, which is read first
-  abbrev pub ImportsStore : Bytes → Option Coming → Option Taken → Option Taken → Answer N → Type 0
-  ImportsStore text coming was now answer = ImportsStored (store_of (name_of namer) text) coming was now answer
+  abbrev pub ImportsStore : Features → Bytes → Option Coming → Option Taken → Option Taken → Answer N → Type 0
+  ImportsStore asks text coming was now answer = ImportsStored asks (store_of (name_of namer) text) coming was now answer
 
   -- the import of a sound repository's export into the store of a text, where that is an empty store
   abbrev pub ImportsStoreAgain : Bytes → Option Coming → Answer N → Type 0

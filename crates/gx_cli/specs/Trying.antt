@@ -4,6 +4,7 @@ use Rattle.std.specs.Prelude.{◌≡◌, ℕ, [], ◌++◌, Option, Some, None, 
 use Rattle.std.specs.declared.vec.Vec.{Vec}
 use Rattle.gx_model.specs.declared.objects.Kind.{Kind}
 use Rattle.gx_model.specs.declared.objects.Mode.{Mode}
+use Rattle.gx_model.specs.declared.features.Features.{Features}
 use Rattle.gx_model.specs.Texts.{Bytes}
 use Rattle.gx_model.specs.Faults.{Given}
 use Rattle.gx_model.specs.Texts.Paths.{Path}
@@ -14,11 +15,11 @@ use Rattle.gx_model.specs.Records.HistoryOf.{history_of}
 use Rattle.gx_model.specs.Revisions.{Revision}
 use Rattle.gx_model.specs.Revisions.Denotation.{looked_up}
 use Rattle.gx_model.specs.Replay as model
-use Rattle.gx_model.specs.Replay.{Outcome, finished, imported}
+use Rattle.gx_model.specs.Replay.{Outcome, finished, imported_asked}
 use Rattle.gx_model.specs.Texts.Sinks.{FailedWithin, Taken, Took}
 use Rattle.gx_text.specs.Devices.{Coming}
 use Rattle.gx_stream.specs.Heard.{heard}
-use Rattle.gx_command.specs.Reading.{commands_from}
+use Rattle.gx_command.specs.Reading.{commands_asked_from}
 use Rattle.gx_rev.specs.Answers.{shown_file}
 use Rattle.gx_rev.specs.RevFaults.{fault_of}
 use Rattle.gx_import.specs.Exported.{nothing}
@@ -58,26 +59,28 @@ module _ (name : Kind → Bytes → Bytes) where
   abbrev pub LooksIn : {A : Type 0} → Records → Revision → Path → Result (Mode × Vec ℕ A) CliFault → Type 0
   LooksIn repository revision path answer = LooksAs (looked_up name (history_of repository) revision path) answer
 
-  -- a refused import into an empty store, or one that was interrupted, which leaves some repository
-  abbrev pub Refuses : Commands → Outcome → Option Taken → Option Taken → ImportFault → Type 0
-  Refuses commands outcome was now fault = (left : Records) × Replays name nothing left commands outcome was now (Err fault)
+  -- a refused import into an empty store, where these features are asked for, or one that was interrupted, which leaves some repository
+  abbrev pub Refuses : Features → Commands → Outcome → Option Taken → Option Taken → ImportFault → Type 0
+  Refuses asks commands outcome was now fault = (left : Records) × Replays asks name nothing left commands outcome was now (Err fault)
 
   -- Once the replay is accepted, its progress text went out, and then the word is shown in its history.
-  abbrev pub ShowsReplayed : Commands → Outcome → Bytes → Option Taken → Option Taken → Result (Unit {0}) CliFault → Type 0
-  ShowsReplayed commands outcome word was now (Err (Import fault)) = Refuses commands outcome was now fault
-  ShowsReplayed commands outcome word was now answer = (h : History) × (text : Bytes) × Replayed outcome h text × Shows text (text_of_word name h word) was now answer
+  abbrev pub ShowsReplayed : Features → Commands → Outcome → Bytes → Option Taken → Option Taken → Result (Unit {0}) CliFault → Type 0
+  ShowsReplayed asks commands outcome word was now (Err (Import fault)) = Refuses asks commands outcome was now fault
+  ShowsReplayed asks commands outcome word was now answer = (h : History) × (text : Bytes) × Replayed outcome h text × Shows text (text_of_word name h word) was now answer
 
   -- The same of the commands of a source. Where it tells nothing, there are commands that a reader gives.
-  abbrev pub Tries : Option Coming → Bytes → Option Taken → Option Taken → Result (Unit {0}) CliFault → Type 0
-  Tries None word was now answer = (commands : Commands) × AreRead commands × ShowsReplayed commands (replayed_on name nothing commands) word was now answer
-  Tries (Some coming) word was now answer = ShowsReplayed (commands_from coming) (imported name no_history (heard coming).bytes (heard coming).fails) word was now answer
+  abbrev pub Tries : Features → Option Coming → Bytes → Option Taken → Option Taken → Result (Unit {0}) CliFault → Type 0
+  Tries asks None word was now answer = (commands : Commands) × AreRead commands × ShowsReplayed asks commands (replayed_on asks name nothing commands) word was now answer
+  Tries asks (Some coming) word was now answer =
+      ShowsReplayed asks (commands_asked_from asks coming) (imported_asked asks name no_history (heard coming).bytes (heard coming).fails) word was now answer
 
   -- an import into an empty store is accepted as the replay is, with its history and its progress text, or refused
-  abbrev pub StandsAlone : {N : Type 0} → Commands → Outcome → Option Taken → Option Taken → Result (N × Records) ImportFault → Type 0
-  StandsAlone commands outcome was now (Ok repository) = (text : Bytes) × Replayed outcome (history_of repository.1) text × Took was now text
-  StandsAlone commands outcome was now (Err fault) = Refuses commands outcome was now fault
+  abbrev pub StandsAlone : {N : Type 0} → Features → Commands → Outcome → Option Taken → Option Taken → Result (N × Records) ImportFault → Type 0
+  StandsAlone asks commands outcome was now (Ok repository) = (text : Bytes) × Replayed outcome (history_of repository.1) text × Took was now text
+  StandsAlone asks commands outcome was now (Err fault) = Refuses asks commands outcome was now fault
 
   -- The same of the commands of a source. Where it tells nothing, there are commands that a reader gives.
-  abbrev pub ImportsAlone : {N : Type 0} → Option Coming → Option Taken → Option Taken → Result (N × Records) ImportFault → Type 0
-  ImportsAlone None was now answer = (commands : Commands) × AreRead commands × StandsAlone commands (replayed_on name nothing commands) was now answer
-  ImportsAlone (Some coming) was now answer = StandsAlone (commands_from coming) (imported name no_history (heard coming).bytes (heard coming).fails) was now answer
+  abbrev pub ImportsAlone : {N : Type 0} → Features → Option Coming → Option Taken → Option Taken → Result (N × Records) ImportFault → Type 0
+  ImportsAlone asks None was now answer = (commands : Commands) × AreRead commands × StandsAlone asks commands (replayed_on asks name nothing commands) was now answer
+  ImportsAlone asks (Some coming) was now answer =
+      StandsAlone asks (commands_asked_from asks coming) (imported_asked asks name no_history (heard coming).bytes (heard coming).fails) was now answer

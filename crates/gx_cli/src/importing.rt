@@ -1,6 +1,6 @@
 //! The commands that make a store's next text. Source: git-init(1) and git-fast-import(1).
 
-ghost use Rattle.gx_import.specs.Exported.{nothing};
+ghost use Rattle.gx_import.specs.Exported.{LeaveExports, nothing};
 ghost use Rattle.gx_cli.specs.Again.{IntoAgain};
 ghost use Rattle.gx_cli.specs.Opening.{bytes_of};
 ghost use Rattle.gx_cli.specs.Parts.{ImportsTo, ImportsToAgain, ImportsToStored};
@@ -10,7 +10,8 @@ ghost use Rattle.gx_cli.specs.declared.fault.CliFault.TheVariants.{Import};
 use crate::CliFault;
 use crate::opening::{StoreBytes, open};
 use crate::serving::{Outcome, refused};
-use gx_import::{ImportFault, Report, import};
+use gx_import::{ImportFault, Report, import_asking};
+use gx_model::Features;
 use gx_object::Namer;
 use gx_repo::Repo;
 use gx_text::{Sink, Source};
@@ -30,7 +31,7 @@ pub(crate) fn init<N: Namer + Drop, A: Allocator + Copy>(
 }
 
 /// Imports a stream into the store of a text, as the command `import` of [`serve`](crate::serve) does, and tells what was
-/// imported. Lines of `progress` go out as they come.
+/// imported, where these features are asked for as if the stream began with them. Lines of `progress` go out as they come.
 ///
 /// The store's text is read first. After a refused import the text is that of the last checkpoint; where there was none,
 /// there is no text. There is a report where the import isn't refused, also where there is no memory for the next text.
@@ -41,13 +42,14 @@ pub fn import_into<N: Namer + Drop, R: Source + Drop, W: Sink, A: Allocator + Co
     store: &[u8],
     source: R,
     sink: &mut W,
+    features: Features,
     state: RandomState,
 ) -> (Outcome<A>, Option<Report>)
-    ensures imported { ImportsInto (N.name_of namer) store.now (R.coming source) (W.taken sink.old) (W.taken sink.new) result }
-    ensures again { IntoAgain (N.name_of namer) store.now (R.coming source) result.0 }
+    ensures imported { ImportsInto (N.name_of namer) features store.now (R.coming source) (W.taken sink.old) (W.taken sink.new) result }
+    ensures again { LeaveExports features → IntoAgain (N.name_of namer) store.now (R.coming source) result.0 }
 {
     let store = StoreBytes::Borrowed(store);
-    import_stored(alloc, namer, store, source, sink, state)
+    import_stored(alloc, namer, store, source, sink, features, state)
 }
 
 /// Does what [`import_into`] does, with bytes that are borrowed or owned.
@@ -57,13 +59,14 @@ pub(crate) fn import_stored<N: Namer + Drop, R: Source + Drop, W: Sink, A: Alloc
     store: StoreBytes<'_, A>,
     source: R,
     sink: &mut W,
+    features: Features,
     state: RandomState,
 ) -> (Outcome<A>, Option<Report>)
-    ensures imported { ImportsToStored N.name_of W.taken namer store.entry (R.coming source) sink.old sink.new result }
-    ensures again { IntoAgain (N.name_of namer) (bytes_of store.entry) (R.coming source) result.0 }
+    ensures imported { ImportsToStored N.name_of W.taken namer features store.entry (R.coming source) sink.old sink.new result }
+    ensures again { LeaveExports features → IntoAgain (N.name_of namer) (bytes_of store.entry) (R.coming source) result.0 }
 {
     match open(alloc, namer, store, state) {
-        Ok(mut repo) => import_opened(alloc, &mut repo, source, sink),
+        Ok(mut repo) => import_opened(alloc, &mut repo, source, sink, features),
         Err(fault) => (refused(CliFault::Store(fault)), None),
     }
 }
@@ -74,11 +77,12 @@ fn import_opened<N: Namer, R: Source + Drop, W: Sink, A: Allocator + Copy>(
     repo: &mut Repo<N, A>,
     source: R,
     sink: &mut W,
+    features: Features,
 ) -> (Outcome<A>, Option<Report>)
-    ensures into { ImportsTo N.name_of W.taken repo.old (R.coming source) sink.old sink.new result }
-    ensures again { ImportsToAgain N.name_of repo.old (R.coming source) result.0 }
+    ensures into { ImportsTo N.name_of W.taken repo.old features (R.coming source) sink.old sink.new result }
+    ensures again { LeaveExports features → ImportsToAgain N.name_of repo.old (R.coming source) result.0 }
 {
-    match import(alloc, repo, source, sink) {
+    match import_asking(alloc, repo, source, sink, features) {
         Ok(report) => {
             repo.sound();
             (with_text(alloc, repo, 0, None), Some(report))

@@ -31,6 +31,7 @@ pub use gx_adapt::Report as AdaptReport;
 pub use gx_blobs::{BlobsFault, BlobsKind, blobs};
 pub use gx_import::Report as ImportReport;
 pub use gx_line::{Line, LineFault, LogOptions, read_line};
+pub use gx_model::Features;
 pub use gx_repo::Repo;
 pub use importing::import_into;
 pub use serving::{Outcome, serve, serve_owned};

@@ -2,7 +2,8 @@
 
 ghost use Rattle.gx_cli.specs.Again.{ServesExported};
 ghost use Rattle.gx_cli.specs.Parts.{AnswersBlobs, ServesAgain, ServesStored};
-ghost use Rattle.gx_cli.specs.Serving.{IsOutcome, IsRefused, Serves};
+ghost use Rattle.std.specs.Prelude.{◌≡◌};
+ghost use Rattle.gx_cli.specs.Serving.{IsOutcome, IsRefused, Serves, features_of};
 
 use crate::adapting::adapt_stream;
 use crate::batching::batch_stored;
@@ -12,6 +13,7 @@ use crate::opening::StoreBytes;
 use crate::placing::print_place;
 use crate::questions::{Question, print_stored};
 use crate::{CliFault, Line, blobs, try_revision};
+use gx_model::Features;
 use gx_object::Namer;
 use gx_text::{Sink, Source};
 use std::alloc::Allocator;
@@ -89,19 +91,25 @@ fn serve_bytes<N: Namer + Drop, R: Source + Drop, W: Sink, A: Allocator + Copy>(
 {
     match line {
         Line::Blobs => outcome_of(blobs_alone(alloc, namer, source, sink, state)),
-        Line::Try(revision) => outcome_of(try_revision(
-            alloc,
-            namer,
-            revision.as_bytes(),
-            source,
-            sink,
-            state,
-        )),
+        Line::Try {
+            revision,
+            done,
+            force,
+        } => {
+            let features = features_of(*done, *force);
+            let word = revision.as_bytes();
+            outcome_of(try_revision(alloc, namer, word, source, sink, features, state))
+        }
         Line::Adapt => outcome_of(adapt_stream(alloc, source, sink)),
         Line::Where(command) => outcome_of(print_place(alloc, *command, source, sink)),
         Line::Init { file: _ } => init(alloc, namer, state),
-        Line::Import { file: _ } => {
-            let (outcome, _) = import_stored(alloc, namer, store, source, sink, state);
+        Line::Import {
+            file: _,
+            done,
+            force,
+        } => {
+            let features = features_of(*done, *force);
+            let (outcome, _) = import_stored(alloc, namer, store, source, sink, features, state);
             outcome
         }
         Line::Batch { check, file: _ } => {
@@ -133,6 +141,13 @@ fn serve_bytes<N: Namer + Drop, R: Source + Drop, W: Sink, A: Allocator + Copy>(
             print_stored(alloc, namer, question, store, sink, state)
         }
     }
+}
+
+/// The features that a line asks for.
+fn features_of(done: bool, force: bool) -> Features
+    ensures { result ≡ features_of done force }
+{
+    Features { done, force }
 }
 
 /// What `blobs` answers, with its fault among those of the commands.

@@ -3,6 +3,7 @@
 ghost use Rattle.std.specs.Prelude.{◌≡◌, IfErr, IfOk, Ok};
 ghost use Rattle.gx_model.specs.declared.store_versions.Version.TheVariants.{Two};
 ghost use Rattle.gx_model.specs.Stores.StoreText.{store_text};
+ghost use Rattle.gx_import.specs.Exported.{LeaveExports};
 ghost use Rattle.gx_cli.specs.Parts.{IsReadBack, LeavesNext};
 ghost use Rattle.gx_cli.specs.Sending.{PrintsText};
 ghost use Rattle.gx_cli.specs.Storing.{ImportsStore, ImportsStoreAgain, ImportsStoredAgain, next_after};
@@ -11,7 +12,8 @@ ghost use Rattle.gx_cli.specs.declared.fault.CliFault.TheVariants.{WriteFailed};
 use crate::CliFault;
 use crate::opening::{StoreBytes, open};
 use gx_file::write_to;
-use gx_import::{Report, import};
+use gx_import::{Report, import_asking};
+use gx_model::Features;
 use gx_object::Namer;
 use gx_repo::Repo;
 use gx_text::{Sink, Source};
@@ -31,13 +33,14 @@ pub fn import_store<N: Namer + Drop, R: Source + Drop, W: Sink, A: Allocator + C
     store: Vec<u8, A>,
     source: R,
     sink: &mut W,
+    features: Features,
     state: RandomState,
 ) -> (Option<Repo<N, A>>, Result<Report, CliFault>)
-    ensures imported { ImportsStore N.name_of namer store.items (R.coming source) (W.taken sink.old) (W.taken sink.new) result }
-    ensures again { ImportsStoreAgain N.name_of namer store.items (R.coming source) result }
+    ensures imported { ImportsStore N.name_of namer features store.items (R.coming source) (W.taken sink.old) (W.taken sink.new) result }
+    ensures again { LeaveExports features → ImportsStoreAgain N.name_of namer store.items (R.coming source) result }
 {
     match open(alloc, namer, StoreBytes::Owned(store), state) {
-        Ok(repo) => import_opened(alloc, repo, source, sink),
+        Ok(repo) => import_opened(alloc, repo, source, sink, features),
         Err(fault) => (None, Err(CliFault::Store(fault))),
     }
 }
@@ -48,12 +51,13 @@ fn import_opened<N: Namer + Drop, R: Source + Drop, W: Sink, A: Allocator + Copy
     repo: Repo<N, A>,
     source: R,
     sink: &mut W,
+    features: Features,
 ) -> (Option<Repo<N, A>>, Result<Report, CliFault>)
-    ensures imported { LeavesNext N.name_of W.taken repo (R.coming source) sink.old sink.new result }
-    ensures again { ImportsStoredAgain N.name_of repo.0 (Ok repo.1) (R.coming source) result }
+    ensures imported { LeavesNext N.name_of W.taken repo features (R.coming source) sink.old sink.new result }
+    ensures again { LeaveExports features → ImportsStoredAgain N.name_of repo.0 (Ok repo.1) (R.coming source) result }
 {
     let mut next = repo;
-    match import(alloc, &mut next, source, sink) {
+    match import_asking(alloc, &mut next, source, sink, features) {
         Ok(report) => (Some(next), Ok(report)),
         Err(fault) => (left(next, fault.checkpoints), Err(CliFault::Import(fault))),
     }

@@ -6,7 +6,8 @@ ghost use Rattle.gx_cli.specs.Trying.{LooksIn};
 
 use crate::CliFault;
 use crate::showing::show;
-use gx_import::{ImportFault, import};
+use gx_import::{ImportFault, import_asking};
+use gx_model::Features;
 use gx_object::{Mode, Namer};
 use gx_repo::Repo;
 use gx_rev::{RevFault, Revision, look};
@@ -14,7 +15,8 @@ use gx_text::{Sink, Source, TreePath};
 use std::alloc::Allocator;
 use std::hash::RandomState;
 
-/// Imports a stream into an empty store, and then shows a word as a revision. Lines of `progress` go out first.
+/// Imports a stream into an empty store, and then shows a word as a revision. Lines of `progress` go out first. These features
+/// are asked for as if the stream began with them.
 ///
 /// `Import`: the import is refused, and nothing is shown. `Revision`: the word isn't a revision, or the revision gives
 /// nothing. `WriteFailed`: the sink didn't take all that is shown. `OutOfMemory`: a growth was refused after the import.
@@ -25,17 +27,19 @@ pub fn try_revision<N: Namer + Drop, A: Allocator + Copy, R: Source + Drop, W: S
     word: &[u8],
     source: R,
     sink: &mut W,
+    features: Features,
     state: RandomState,
 ) -> Result<(), CliFault>
-    ensures { TriesWord N.name_of W.taken namer (R.coming source) word.now sink.old sink.new result }
+    ensures { TriesWord N.name_of W.taken namer features (R.coming source) word.now sink.old sink.new result }
 {
-    match import_alone(alloc, namer, source, sink, state) {
+    match import_alone(alloc, namer, source, sink, features, state) {
         Ok(repo) => show(alloc, &repo, word, sink),
         Err(fault) => Err(CliFault::Import(fault)),
     }
 }
 
-/// The repository that a stream's import into an empty store leaves. Its history is that of the stream's commands, replayed.
+/// The repository that a stream's import into an empty store leaves, where these features are asked for. Its history is that of
+/// the stream's commands, replayed.
 ///
 /// The faults and the cost are those of `import`.
 pub fn import_alone<N: Namer + Drop, A: Allocator + Copy, R: Source + Drop, W: Sink>(
@@ -43,13 +47,14 @@ pub fn import_alone<N: Namer + Drop, A: Allocator + Copy, R: Source + Drop, W: S
     namer: N,
     source: R,
     sink: &mut W,
+    features: Features,
     state: RandomState,
 ) -> Result<Repo<N, A>, ImportFault>
     ensures namer { IfOk result (λ repo. repo.0 ≡ namer) }
-    ensures replayed { ImportsFirst N.name_of W.taken namer (R.coming source) sink.old sink.new result }
+    ensures replayed { ImportsFirst N.name_of W.taken namer features (R.coming source) sink.old sink.new result }
 {
     let mut repo = Repo::new(alloc, namer, state);
-    match import(alloc, &mut repo, source, sink) {
+    match import_asking(alloc, &mut repo, source, sink, features) {
         Ok(_) => Ok(repo),
         Err(fault) => Err(fault),
     }

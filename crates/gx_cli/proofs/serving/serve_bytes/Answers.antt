@@ -2,14 +2,19 @@ use Rattle.std.proofs.Common.{subst, sym}
 use Rattle.gx_model.specs.Records.HistoryOf.{history_of}
 use Rattle.gx_model.specs.Stores.StoreReading.{store_of}
 use Rattle.gx_cli.specs.Opening.{bytes_of}
-use Rattle.gx_cli.specs.Serving.{PrintsStored, Serves}
+use Rattle.gx_cli.specs.Serving.{ImportsInto, PrintsStored, Serves}
 use Rattle.gx_cli.specs.Stored.{log_text, names_text, texts_of}
 use Rattle.gx_cli.proofs.ServedLines.{import_served}
 use Rattle.gx_cli.proofs.serving.serve_bytes.Goals as goal
 
 pub returns-in-Import-clause-served : goal.returns-in-Import-clause-served
 returns-in-Import-clause-served g c =
-    import_served (g.N.Namer.name_of c.args.namer) c.args.line.now c.in-Import.file (bytes_of c.args.store) (g.R.Source.coming c.args.source) (g.W.Sink.taken c.args.sink.now) (g.W.Sink.taken c.import_stored-outcome.new.sink) c.import_stored-outcome.result c.in-Import.is c.import_stored-outcome.ensures.imported
+    let name = g.N.Namer.name_of c.args.namer in
+    let coming = g.R.Source.coming c.args.source in
+    let was = g.W.Sink.taken c.args.sink.now in
+    let now = g.W.Sink.taken c.import_stored-outcome.new.sink in
+    let imported = subst (λ asks. ImportsInto name asks (bytes_of c.args.store) coming was now c.import_stored-outcome.result) c.features_of-features.ensures c.import_stored-outcome.ensures.imported in
+    import_served name c.args.line.now c.in-Import.file c.in-Import.done c.in-Import.force (bytes_of c.args.store) coming was now c.import_stored-outcome.result c.in-Import.is imported
 
 pub returns-in-Show-clause-served : goal.returns-in-Show-clause-served
 returns-in-Show-clause-served g c =

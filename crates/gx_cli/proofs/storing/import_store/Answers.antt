@@ -6,11 +6,11 @@ use Rattle.gx_cli.proofs.storing.import_store.Goals as goal
 pub returns-in-Ok-clause-imported : goal.returns-in-Ok-clause-imported
 returns-in-Ok-clause-imported g c =
     of_read c.args.namer c.in-Ok.repo (store_of (g.N.Namer.name_of c.args.namer) c.args.store.items)
-    (λ namer stored. ImportsStored g.N.Namer.name_of namer stored (g.R.Source.coming c.args.source) (g.W.Sink.taken c.args.sink.now) (g.W.Sink.taken c.import_opened.new.sink) c.import_opened.result)
+    (λ namer stored. ImportsStored g.N.Namer.name_of namer c.args.features stored (g.R.Source.coming c.args.source) (g.W.Sink.taken c.args.sink.now) (g.W.Sink.taken c.import_opened.new.sink) c.import_opened.result)
     c.in-Ok.ensures.namer c.in-Ok.ensures.store c.import_opened.ensures.imported
 
 pub returns-in-Ok-clause-again : goal.returns-in-Ok-clause-again
-returns-in-Ok-clause-again g c =
+returns-in-Ok-clause-again g c = λ leaves.
     of_read c.args.namer c.in-Ok.repo (store_of (g.N.Namer.name_of c.args.namer) c.args.store.items)
     (λ namer stored. ImportsStoredAgain g.N.Namer.name_of namer stored (g.R.Source.coming c.args.source) c.import_opened.result)
-    c.in-Ok.ensures.namer c.in-Ok.ensures.store c.import_opened.ensures.again
+    c.in-Ok.ensures.namer c.in-Ok.ensures.store (c.import_opened.ensures.again leaves)

@@ -3,8 +3,8 @@ use Rattle.gx_cli.proofs.trying.import_alone.Goals as goal
 
 pub returns-in-Ok-clause-replayed : goal.returns-in-Ok-clause-replayed
 returns-in-Ok-clause-replayed g c =
-    accepted_alone g.N.Namer.name_of c.args.namer c.new-repo.result c.import.new.repo (g.R.Source.coming c.args.source) (g.W.Sink.taken c.args.sink.now) (g.W.Sink.taken c.import.new.sink) c.in-Ok.field-0 c.new-repo.ensures c.in-Ok.ensures.replayed
+    accepted_alone c.args.features g.N.Namer.name_of c.args.namer c.new-repo.result c.import_asking.new.repo (g.R.Source.coming c.args.source) (g.W.Sink.taken c.args.sink.now) (g.W.Sink.taken c.import_asking.new.sink) c.in-Ok.field-0 c.new-repo.ensures c.in-Ok.ensures.replayed
 
 pub returns-in-Err-clause-replayed : goal.returns-in-Err-clause-replayed
 returns-in-Err-clause-replayed g c =
-    refused_alone g.N.Namer.name_of c.args.namer c.new-repo.result c.import.new.repo.1 (g.R.Source.coming c.args.source) (g.W.Sink.taken c.args.sink.now) (g.W.Sink.taken c.import.new.sink) c.in-Err.fault c.new-repo.ensures c.in-Err.ensures.replayed
+    refused_alone c.args.features g.N.Namer.name_of c.args.namer c.new-repo.result c.import_asking.new.repo.1 (g.R.Source.coming c.args.source) (g.W.Sink.taken c.args.sink.now) (g.W.Sink.taken c.import_asking.new.sink) c.in-Err.fault c.new-repo.ensures c.in-Err.ensures.replayed

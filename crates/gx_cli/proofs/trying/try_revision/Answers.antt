@@ -10,4 +10,4 @@ returns-in-Ok g c =
     let mid = g.W.Sink.taken c.import_alone.new.sink in
     let now = g.W.Sink.taken c.show.new.sink in
     let shown = subst (λ namer. Shows [] (text_of_word (g.N.Namer.name_of namer) (history_of c.in-Ok.repo.1) c.args.word.now) mid now c.show.result) c.in-Ok.ensures.namer c.show.ensures in
-    tried (g.N.Namer.name_of c.args.namer) c.in-Ok.repo c.args.word.now (g.W.Sink.taken c.args.sink.now) mid now (g.R.Source.coming c.args.source) c.show.result c.in-Ok.ensures.replayed shown
+    tried c.args.features (g.N.Namer.name_of c.args.namer) c.in-Ok.repo c.args.word.now (g.W.Sink.taken c.args.sink.now) mid now (g.R.Source.coming c.args.source) c.show.result c.in-Ok.ensures.replayed shown

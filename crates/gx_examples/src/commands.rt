@@ -144,7 +144,11 @@ pub(crate) fn stored(alloc: Global, stream: &[u8], state: RandomState) -> Option
     let Ok(mut sink) = Held::new(alloc, 64) else {
         return None;
     };
-    let line = Line::Import { file: "store" };
+    let line = Line::Import {
+        file: "store",
+        done: false,
+        force: false,
+    };
     let source = Bytes::new(stream, 4096, false);
     ran(alloc, &line, text("empty"), source, &mut sink, state).store
 }

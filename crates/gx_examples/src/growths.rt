@@ -72,7 +72,14 @@ fn is_memory(line: &Line<'_>, fault: CliFault) -> bool {
     let is_refs = matches!(line, Line::Refs { file: _ });
     let has_store = !matches!(
         line,
-        Line::Blobs | Line::Try(_) | Line::Adapt | Line::Where(_)
+        Line::Blobs
+            | Line::Try {
+                revision: _,
+                done: _,
+                force: _
+            }
+            | Line::Adapt
+            | Line::Where(_)
     );
     match fault {
         CliFault::OutOfMemory => !is_export && !is_refs,
@@ -90,7 +97,13 @@ fn is_memory(line: &Line<'_>, fault: CliFault) -> bool {
 /// batch, and nothing for others.
 fn is_left(line: &Line<'_>, printed: &[u8], whole: &[u8]) -> bool {
     match line {
-        Line::Blobs | Line::Try(_) | Line::Adapt => whole.starts_with(printed),
+        Line::Blobs
+        | Line::Try {
+            revision: _,
+            done: _,
+            force: _,
+        }
+        | Line::Adapt => whole.starts_with(printed),
         Line::Export { file: _ } | Line::Batch { check: _, file: _ } => whole.starts_with(printed),
         _ => printed.is_empty(),
     }

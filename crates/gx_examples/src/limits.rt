@@ -160,7 +160,11 @@ fn refusal_at(line: &Line<'_>, printed: &[u8], room: usize) -> CliFault {
             written: room as u64,
         }),
         Line::Adapt => CliFault::Adapt(AdaptFault::WriteFailed),
-        Line::Try(_) if room < 11 && printed.starts_with(b"progress x\n") => {
+        Line::Try {
+            revision: _,
+            done: _,
+            force: _,
+        } if room < 11 && printed.starts_with(b"progress x\n") => {
             CliFault::Import(ImportFault {
                 command: 1,
                 kind: ImportKind::WriteFailed,

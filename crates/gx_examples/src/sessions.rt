@@ -134,5 +134,13 @@ fn ends_so(
 
 /// Whether a command that is accepted makes a store's next text.
 fn makes_text(line: &Line<'_>) -> bool {
-    matches!(line, Line::Init { file: _ } | Line::Import { file: _ })
+    matches!(
+        line,
+        Line::Init { file: _ }
+            | Line::Import {
+                file: _,
+                done: _,
+                force: _
+            }
+    )
 }

@@ -5,7 +5,7 @@ ghost use Rattle.std.specs.Prelude.{◌<◌};
 use crate::commands::{has_line, is_text};
 use crate::steps::{Step, step_of};
 use crate::texts::text;
-use gx_cli::{Repo, adapt_stream, import_into, import_store, send_store};
+use gx_cli::{Features, Repo, adapt_stream, import_into, import_store, send_store};
 use gx_object::Sha1Namer;
 use gx_text::{Bytes, Held};
 use std::alloc::Global;
@@ -347,7 +347,9 @@ fn is_told(alloc: Global, step: &Step<'_>, state: RandomState) -> bool {
         return false;
     };
     let source = Bytes::new(step.input, 4096, false);
-    let (outcome, told) = import_into(alloc, Sha1Namer, text("empty"), source, &mut sink, state);
+    let store = text("empty");
+    let none = Features::none();
+    let (outcome, told) = import_into(alloc, Sha1Namer, store, source, &mut sink, none, state);
     let is_report = match told {
         Some(report) => is_text(format!(in alloc; "{report:?}"), step.words),
         None => step.words.is_empty(),
@@ -364,7 +366,8 @@ fn is_stored(alloc: Global, step: &Step<'_>, state: RandomState) -> bool {
         return false;
     };
     let source = Bytes::new(step.input, 7, false);
-    let (repo, told) = import_store(alloc, Sha1Namer, store, source, &mut sink, state);
+    let none = Features::none();
+    let (repo, told) = import_store(alloc, Sha1Namer, store, source, &mut sink, none, state);
     is_next(alloc, repo.as_ref(), step.printed) && has_line(alloc, told.err(), step.line)
 }
 

@@ -13,7 +13,7 @@ returns-in-Import-clause-served g c =
     let coming = g.R.Source.coming c.args.source in
     let was = g.W.Sink.taken c.args.sink.now in
     let now = g.W.Sink.taken c.import_stored-outcome.new.sink in
-    let imported = subst (λ asks. ImportsInto name asks (bytes_of c.args.store) coming was now c.import_stored-outcome.result) c.features_of-features.ensures c.import_stored-outcome.ensures.imported in
+    let imported = subst (λ asks. ImportsInto name asks (bytes_of c.args.store) coming was now c.import_stored-outcome.result) c.features_of-features-in-Import.ensures c.import_stored-outcome.ensures.imported in
     import_served name c.args.line.now c.in-Import.file c.in-Import.done c.in-Import.force (bytes_of c.args.store) coming was now c.import_stored-outcome.result c.in-Import.is imported
 
 pub returns-in-Show-clause-served : goal.returns-in-Show-clause-served

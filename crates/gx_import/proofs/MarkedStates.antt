@@ -9,13 +9,12 @@ use Rattle.gx_model.specs.declared.objects.Kind.{Kind}
 use Rattle.gx_model.specs.declared.objects.Kind.TheVariants as kinds
 use Rattle.gx_model.specs.Texts.{Bytes}
 use Rattle.gx_model.specs.Texts.RefNames.{is_ref_name, tag_ref}
-use Rattle.gx_model.specs.Histories.Values.{Commit, Tag, Value, commit_value, files_of, tag_value}
-use Rattle.gx_model.specs.Records.{name_of, named_map}
+use Rattle.gx_model.specs.Histories.Values.{Commit, Tag, Value, commit_value, tag_value}
+use Rattle.gx_model.specs.Records.{name_of}
 use Rattle.gx_model.specs.Histories.{IsIn, Records}
 use Rattle.gx_model.specs.Replay.{State, byte_cmp, marked, on_branch}
 use Rattle.gx_model.proofs.PathTests.{is_true}
 use Rattle.gx_object.specs.declared.name.Name.{Name}
-use Rattle.gx_tree.specs.Named.{NamedTree}
 use Rattle.gx_import.specs.declared.object.Object.{Object}
 use Rattle.gx_import.specs.declared.marks.Marks.{Marks}
 use Rattle.gx_import.specs.declared.branches.Tip.{Tip}
@@ -96,15 +95,15 @@ module _ (name : Kind → Bytes → Bytes) {A : Type 0} where
   -- a commit that was added is marked and put on its branch
   pub commit_set : (r : Records) (tables : Tables A) (before s : State) → Follows name r tables before s → (c : Commit) (called : Name) → IsIn s.history.values (commit_value c) → called.bytes ≡ name_of name (commit_value c)
       → (mark : Option ℕ) (marks : Marks A) (object : Object) → object.kind ≡ kinds.Commit → object.name ≡ called → ((n : ℕ) → object_at marks n ≡ marked_object mark object n (object_at tables.marks n))
-      → (ref : Bytes) → IsTrue (is_ref_name ref) → (tip : Tip A) (files : NamedTree) → tip.commit ≡ Some called → tip.files ≡ Some files → files.files ≡ named_map name (files_of c)
+      → (ref : Bytes) → IsTrue (is_ref_name ref) → (tip : Tip A) → tip.commit ≡ Some called → AreTipFiles name (Some c) tip.files
       → (now : Tables A) → now.marks ≡ marks → now.tags ≡ tables.tags → now.is_forced ≡ tables.is_forced → rows_of now.branches ≡ put byte_cmp ref tip (rows_of tables.branches)
       → Follows name r now before (on_branch ref (Some c) (marked mark (commit_value c) s))
-  commit_set r tables before s f c called i named mark marks object kind same set ref proper tip files at_commit at_files are now at_marks at_tags at_forced at_branches =
+  commit_set r tables before s f c called i named mark marks object kind same set ref proper tip at_commit are now at_marks at_tags at_forced at_branches =
       let t = marked mark (commit_value c) s in
       let held : IsOf name s.history.values (commit_value c) object = record { stands = i; kind = kind; named = ap (λ n. n.bytes) same ∙ named } in
       let one = marked_one name r tables marks s f.stands (commit_value c) object held mark set in
       let is = subst (λ h. IsCommitOf name h.values c called) (sym (marked_history mark (commit_value c) s)) (record { stands = i; named = named }) in
-      let of_tip : IsTip name t.history.values (Some c) tip = record { commit = subst (AreBoth (IsCommitOf name t.history.values) (Some c)) (sym at_commit) is; files = subst (AreTipFiles name (Some c)) (sym at_files) are } in
+      let of_tip : IsTip name t.history.values (Some c) tip = record { commit = subst (AreBoth (IsCommitOf name t.history.values) (Some c)) (sym at_commit) is; files = are } in
       record {
         stands = moved_branch name r (record tables { marks = marks }) now t one ref proper (Some c) tip of_tip at_marks at_tags at_forced at_branches;
         progress = marked_progress mark (commit_value c) s ∙ f.progress;

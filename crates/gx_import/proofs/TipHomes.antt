@@ -1,6 +1,6 @@
 -- The files at hand at the branches, and where what they remember is held.
-use Rattle.std.proofs.Common.{◌≡◌, ◌⊎◌, List, [], ◌∷◌, ◌++◌, Option, Some, None, Result, Ok, Err, inl, inr, sym, subst}
-use Rattle.std.specs.Prelude.{IfOk}
+use Rattle.std.proofs.Common.{◌≡◌, ◌⊎◌, List, [], ◌∷◌, ◌++◌, Option, Some, None, Result, Ok, Err, inl, inr, refl, sym, subst}
+use Rattle.std.specs.Prelude.{IfOk, IfSome}
 use Rattle.std.specs.List.{AllByRecursion}
 use Rattle.std.specs.Map.{lookup}
 use Rattle.std.specs.declared.cmp.Ordering.TheVariants.{Less, Equal, Greater}
@@ -9,17 +9,28 @@ use Rattle.std.proofs.lemmas.Bool.{cases_Bool}
 use Rattle.gx_model.specs.declared.objects.Kind.{Kind}
 use Rattle.gx_model.specs.Texts.{Bytes, same_bytes}
 use Rattle.gx_model.specs.Histories.{Record}
+use Rattle.gx_model.specs.Histories.Values.{Commit}
 use Rattle.gx_model.specs.Replay.{byte_cmp}
 use Rattle.gx_object.specs.declared.name.Name.{Name}
 use Rattle.gx_tree.specs.Homes.{IfThere}
+use Rattle.gx_tree.specs.Loaded.{AreLoaded, IsLoaded, directory_at}
 use Rattle.gx_tree.specs.Named.{NamedTree, IsAtHome}
-use Rattle.gx_import.specs.Rows.{AreRows}
-use Rattle.gx_import.specs.Standing.{Extends, IsTaken, WereFiles}
+use Rattle.gx_import.specs.Rows.{AreRows, rows_of}
+use Rattle.gx_import.specs.Standing.{AreTipFiles, AreTipsAtHome, Extends, HasFilesOf, IsTaken, WereFiles}
 use Rattle.gx_import.specs.declared.branches.Tip.{Tip}
+use Rattle.gx_import.specs.declared.tables.Tables.{Tables}
 
 -- more records keep a tree at home
 abbrev pub KeepHome : Type 0
 KeepHome = (name : Kind → Bytes → Bytes) (old more : List Record) (tree : NamedTree) → IsAtHome name old tree → IsAtHome name (old ++ more) tree
+
+-- more records keep a directory loaded
+abbrev pub KeepLoaded : Type 0
+KeepLoaded = (name : Kind → Bytes → Bytes) (old more : List Record) (n : Bytes) (tree : NamedTree) → IsLoaded name old n tree → IsLoaded name (old ++ more) n tree
+
+loaded_if : KeepLoaded → (name : Kind → Bytes → Bytes) (old more : List Record) (n : Bytes) (o : Option NamedTree) → IfSome o (IsLoaded name old n) → IfSome o (IsLoaded name (old ++ more) n)
+loaded_if loads name old more n None h = tt
+loaded_if loads name old more n (Some tree) h = loads name old more n tree h
 
 pub always : {X E : Type 0} (P : Type 0) (r : Result X E) → P → IfOk r (λ x. P)
 always P (Ok x) h = h
@@ -32,6 +43,20 @@ there_longer : KeepHome → (name : Kind → Bytes → Bytes) (old new : List Re
 there_longer law name old new None e h = tt
 there_longer law name old new (Some tree) e h = home_longer law name old new tree e h
 
+-- no files need be taken
+pub none_taken : {A : Type 0} (rows : List (Bytes × Tip A)) → AreRows IsTaken rows rows
+none_taken [] = tt
+none_taken (row ∷ rows) = (refl, (refl, inl refl), none_taken rows)
+
+-- files that are kept, if they are, are those of the commit, and at home where those that are given are
+pub kept_files : (name : Kind → Bytes → Bytes) (made : Commit) (files : NamedTree) (o : Option NamedTree) → IfSome o (λ kept. kept ≡ files) → HasFilesOf name made files → AreTipFiles name (Some made) o
+kept_files name made files None k h = tt
+kept_files name made files (Some kept) k h = subst (HasFilesOf name made) (sym k) h
+
+pub kept_home : (name : Kind → Bytes → Bytes) (rs : List Record) (files : NamedTree) (o : Option NamedTree) → IfSome o (λ kept. kept ≡ files) → IsAtHome name rs files → IfThere IsAtHome name rs o
+kept_home name rs files None k h = tt
+kept_home name rs files (Some kept) k h = subst (IsAtHome name rs) (sym k) h
+
 module _ {A : Type 0} (name : Kind → Bytes → Bytes) where
   abbrev pub AreHome : List Record → List (Bytes × Tip A) → Type 0
   AreHome rs = AllByRecursion (λ row. IfThere IsAtHome name rs row.1.files)
@@ -39,6 +64,16 @@ module _ {A : Type 0} (name : Kind → Bytes → Bytes) where
   pub homes_longer : KeepHome → (old new : List Record) (rows : List (Bytes × Tip A)) → Extends old new → AreHome old rows → AreHome new rows
   homes_longer law old new [] e h = tt
   homes_longer law old new (row ∷ rows) e h = (there_longer law name old new row.1.files e h.0, homes_longer law old new rows e h.1)
+
+  pub tips_longer : KeepHome → KeepLoaded → (old new : List Record) (tables : Tables A) → Extends old new → AreTipsAtHome name old tables → AreTipsAtHome name new tables
+  tips_longer law loads old new tables e h = record {
+    tips = homes_longer law old new (rows_of tables.branches) e h.tips;
+    loaded = subst (λ rs. AreLoaded name rs tables.loaded) (sym e.1) (λ n. loaded_if loads name old e.0 n.bytes (directory_at tables.loaded n) (h.loaded n));
+  }
+
+  -- tables with these branches, where the trees that are loaded stay
+  pub tips_with : (rs : List Record) (old new : Tables A) → AreTipsAtHome name rs old → new.loaded ≡ old.loaded → AreHome rs (rows_of new.branches) → AreTipsAtHome name rs new
+  tips_with rs old new h e tips = record { tips = tips; loaded = subst (AreLoaded name rs) (sym e) h.loaded }
 
   module _ (rs : List Record) where
     tip_taken : (old new : Tip A) → IsTaken old new → IfThere IsAtHome name rs old.files → IfThere IsAtHome name rs new.files
@@ -53,6 +88,10 @@ module _ {A : Type 0} (name : Kind → Bytes → Bytes) where
     homes_taken [] (y ∷ ys) t h = absurd t
     homes_taken (x ∷ xs) [] t h = absurd t
     homes_taken (x ∷ xs) (y ∷ ys) t h = (tip_taken x.1 y.1 t.1 h.0, homes_taken xs ys t.2 h.1)
+
+    -- and so are tables where files were taken
+    pub tips_taken : (old new : Tables A) → AreTipsAtHome name rs old → new.loaded ≡ old.loaded → AreRows IsTaken (rows_of old.branches) (rows_of new.branches) → AreTipsAtHome name rs new
+    tips_taken old new h e taken = tips_with rs old new h e (homes_taken (rows_of old.branches) (rows_of new.branches) taken h.tips)
 
     tip_home : (branch : Bytes) (rows : List (Bytes × Tip A)) (tip : Tip A) → lookup (same_bytes branch) rows ≡ Some tip → AreHome rs rows → IfThere IsAtHome name rs tip.files
     tip_home branch [] tip e h = absurd (cc)

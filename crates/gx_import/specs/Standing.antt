@@ -14,6 +14,7 @@ use Rattle.gx_model.specs.Records.HistoryOf.{history_of}
 use Rattle.gx_model.specs.Replay.{State, byte_cmp}
 use Rattle.gx_object.specs.declared.name.Name.{Name}
 use Rattle.gx_tree.specs.Homes.{IfThere}
+use Rattle.gx_tree.specs.Loaded.{AreLoaded, AreLoadedAnywhere}
 use Rattle.gx_tree.specs.Named.{NamedTree, IsAtHome}
 use Rattle.gx_repo.specs.Repositories.{Repository}
 use Rattle.gx_import.specs.Marks.{object_at}
@@ -88,9 +89,10 @@ WereFiles {A} branches branch called files = (tip : Tip A) × (lookup (same_byte
 abbrev pub AreAtSomeBranch : {A : Type 0} → List (Bytes × Tip A) → Name → NamedTree → Type 0
 AreAtSomeBranch branches called files = (branch : Bytes) × WereFiles branches branch called files
 
--- the files at hand at each branch are at home among these records
-abbrev pub AreTipsAtHome : {A : Type 0} → (Kind → Bytes → Bytes) → List Record → Tables A → Type 0
-AreTipsAtHome name rs tables = AllByRecursion (λ row. IfThere IsAtHome name rs row.1.files) (rows_of tables.branches)
+-- the files at hand at each branch are at home among these records, and the trees that are loaded are loaded from them
+pub record AreTipsAtHome {A : Type 0} (name : Kind → Bytes → Bytes) (rs : List Record) (tables : Tables A) : Type 0 where
+  pub tips : AllByRecursion (λ row. IfThere IsAtHome name rs row.1.files) (rows_of tables.branches)
+  pub loaded : AreLoaded name rs tables.loaded
 
 module _ {N : Type 0} (names : N → Kind → Bytes → Bytes) (repository : Repository N) {A : Type 0} where
   -- the repository and the tables stand for some state of a replay
@@ -101,7 +103,7 @@ module _ {N : Type 0} (names : N → Kind → Bytes → Bytes) (repository : Rep
   abbrev pub KeepsStanding : Tables A → Tables A → Type 0
   KeepsStanding old new = (s : State) → Stands (names repository.0) repository.1 old s → Stands (names repository.0) repository.1 new s
 
-  -- the files at hand at each branch are at home in the repository
+  -- what is at hand at the branches, and what is loaded, is at home in the repository
   abbrev pub HasTipsAtHome : Tables A → Type 0
   HasTipsAtHome tables = AreTipsAtHome (names repository.0) repository.1.records tables
 
@@ -117,8 +119,9 @@ module _ {N : Type 0} (names : N → Kind → Bytes → Bytes) (repository : Rep
 abbrev pub StayAtHome : {N : Type 0} → (N → Kind → Bytes → Bytes) → Repository N → Repository N → NamedTree → NamedTree → Type 0
 StayAtHome names old new was now = IsAtHome (names old.0) old.1.records was → IsAtHome (names old.0) new.1.records now
 
--- no marks, no branches and no tags
+-- no marks, no branches, no tags, and nothing loaded but what stands in any repository
 pub record AreEmpty {A : Type 0} (tables : Tables A) : Type 0 where
   pub marks : (number : ℕ) → object_at tables.marks number ≡ None
   pub branches : rows_of tables.branches ≡ []
   pub tags : rows_of tables.tags ≡ []
+  pub loaded : AreLoadedAnywhere tables.loaded

@@ -1,15 +1,19 @@
 //! Where the files of a commit may be at hand.
 
-ghost use Rattle.std.specs.Prelude.{◌≡◌, None, Some, OnOk, ◌≢◌};
+ghost use Rattle.std.specs.Prelude.{◌≡◌, None, Some, IfSome, OnOk, ◌≢◌};
 ghost use Rattle.std.specs.Option.{option_map};
 ghost use Rattle.gx_object.specs.declared.name.Name.{Name};
 ghost use Rattle.gx_import.specs.AtHand.{branch_of};
 
 use gx_object::Name;
+use gx_tree::PathTree;
 use std::alloc::{AllocError, Allocator};
 use std::collections::BTreeMap;
 
-/// Commits whose files are at hand, each with the branch that has them. There are no more of them than branches.
+/// The files of at most so many commits are at hand.
+const MOST: usize = 256;
+
+/// Commits whose files are at hand, each with the branch that has them. There are at most 256 of them.
 ///
 /// This is a hint: whoever takes it looks whether the branch stands at the commit and has the files.
 #[derive(Drop)]
@@ -44,6 +48,30 @@ impl<A: Allocator + Copy> AtHand<A> {
         let branch = Vec::from_slice(alloc, branch)?;
         self.branches.insert(commit, branch)?;
         Ok(())
+    }
+
+    /// The files of a commit, unless a branch has them at hand already: they are not kept twice.
+    ///
+    /// Cost: the logarithm of the number of branches. Takes no memory.
+    pub(crate) fn unless_held(&self, commit: &Name, files: PathTree<A>) -> Option<PathTree<A>>
+        ensures { IfSome result (λ kept. kept ≡ files) }
+    {
+        match self.branch(commit) {
+            Some(_) => None,
+            None => Some(files),
+        }
+    }
+
+    /// Takes out the first commit by its name, with its branch, where there are as many as may be.
+    ///
+    /// Cost: the logarithm of the number of branches. Takes no memory.
+    pub(crate) fn pop_if_full(&mut self) -> Option<(Name, Vec<u8, A>)>
+        ensures { IfSome result (λ row. branch_of self.old row.0 ≡ Some row.1.items) }
+    {
+        if self.branches.len() < MOST {
+            return None;
+        }
+        self.branches.pop_first()
     }
 
     /// Forgets that a branch has the files of a commit. Cost: the logarithm of the number of branches.

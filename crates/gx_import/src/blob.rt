@@ -21,6 +21,7 @@ pub(crate) fn apply_blob<N: Namer, A: Allocator + Copy>(
     blob: Blob<A>,
 ) -> Result<(), ImportKind>
     ensures branches { tables.new.branches ≡ tables.old.branches }
+    ensures loaded { tables.new.loaded ≡ tables.old.loaded }
     ensures namer { repo.new.0 ≡ repo.old.0 }
     ensures refs { repo.new.1.refs ≡ repo.old.1.refs }
     ensures extends { Extends repo.old.1.records repo.new.1.records }

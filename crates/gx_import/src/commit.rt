@@ -25,7 +25,7 @@ use gx_model::repository_laws::{puts_add_values, trees_add_file_maps};
 use gx_object::{CommitParts, Kind, Name, Namer};
 use gx_repo::Repo;
 use gx_text::Ident;
-use gx_tree::{PathTree, records_keep_home};
+use gx_tree::{PathTree, records_keep_home, records_keep_loaded};
 use std::alloc::{AllocError, Allocator};
 use std::mem;
 
@@ -66,6 +66,7 @@ fn make_commit<N: Namer, A: Allocator + Copy>(
     ensures steps { MakesCommit N.name_of repo.old repo.new tables.old tables.new commit result }
 {
     records_keep_home();
+    records_keep_loaded();
     let changes = mem::replace(&mut commit.changes, Vec::new(tables.alloc));
     let branch = commit.branch.bytes.as_slice();
     let mut files = changed_files(repo, tables, branch, first, changes)?;
@@ -93,6 +94,8 @@ fn changed_files<N: Namer, A: Allocator + Copy>(
 {
     repo.sound();
     records_keep_home();
+    records_keep_loaded();
+    tables.make_room();
     let mut files = starting_files(repo, tables, branch, first)?;
     change_all(repo, tables, &mut files, changes)?;
     Ok(files)
@@ -113,9 +116,10 @@ fn set_mark_and_branch<A: Allocator + Copy>(
 {
     let kind = Kind::Commit;
     tables.marks.set(mark, Object { kind, name })?;
+    let files = tables.at_hand.unless_held(&name, files);
     let tip = Tip {
         commit: Some(name),
-        files: Some(files),
+        files,
     };
     Ok(tables.set_tip(branch.bytes, tip)?)
 }

@@ -2,10 +2,11 @@
 
 ghost use Rattle.std.specs.Prelude.{◌≡◌, Some, IfOk, IfErr};
 ghost use Rattle.gx_model.specs.declared.objects.Kind.TheVariants as kinds;
+ghost use Rattle.gx_tree.specs.Loaded.{AreLoaded};
 ghost use Rattle.gx_tree.specs.Named.{IsAtHome};
 ghost use Rattle.gx_rev.specs.Objects.{IsHeldAs};
 ghost use Rattle.gx_model.specs.declared.faults.Fault.TheVariants.{OutOfMemory};
-ghost use Rattle.gx_import.specs.Standing.{GivesFilesAtHome, KeepsStanding, TipsStayAtHome};
+ghost use Rattle.gx_import.specs.Standing.{GivesFilesAtHome, HasTipsAtHome, KeepsStanding, TipsStayAtHome};
 ghost use Rattle.gx_import.specs.Calls.{GivesStartingFiles, HasFilesAt, IsSomeCommit, tree_at};
 
 use crate::ImportKind;
@@ -14,13 +15,13 @@ use crate::tables::Tables;
 use gx_object::{Name, Namer};
 use gx_repo::Repo;
 use gx_rev::view_of;
-use gx_tree::PathTree;
+use gx_tree::{LoadedTrees, PathTree};
 use std::alloc::Allocator;
 
 /// The files of the first parent: those at hand where its branch or another stands there, and otherwise those of its
 /// tree. There are none without a first parent.
 ///
-/// Cost: the logarithm of the number of branches; or else the size of the tree.
+/// Cost: the logarithm of the number of branches; or else that of the directories that were not loaded before.
 pub(crate) fn starting_files<N: Namer, A: Allocator + Copy>(
     repo: &Repo<N, A>,
     tables: &mut Tables<A>,
@@ -28,6 +29,7 @@ pub(crate) fn starting_files<N: Namer, A: Allocator + Copy>(
     first: Option<Name>,
 ) -> Result<PathTree<A>, ImportKind>
     requires stands { IsSomeCommit N.name_of repo.now tables.now first }
+    requires homes { HasTipsAtHome N.name_of repo.now tables.now }
     ensures tables { KeepsStanding N.name_of repo.now tables.old tables.new }
     ensures files { GivesStartingFiles N.name_of repo.now tables.old first result }
     ensures homes { TipsStayAtHome N.name_of repo.now tables.old tables.new }
@@ -47,34 +49,40 @@ pub(crate) fn starting_files<N: Namer, A: Allocator + Copy>(
 /// The files of a commit: those at hand where another branch has them, which are shared, and otherwise those of its tree.
 fn other_files<N: Namer, A: Allocator + Copy>(
     repo: &Repo<N, A>,
-    tables: &Tables<A>,
+    tables: &mut Tables<A>,
     commit: &Name,
 ) -> Result<PathTree<A>, ImportKind>
     requires stands { IsSomeCommit N.name_of repo.now tables.now (Some commit.now) }
-    ensures files { GivesStartingFiles N.name_of repo.now tables.now (Some commit.now) result }
-    ensures home { GivesFilesAtHome N.name_of repo.now tables.now result }
+    requires homes { HasTipsAtHome N.name_of repo.now tables.now }
+    ensures tables { KeepsStanding N.name_of repo.now tables.old tables.new }
+    ensures files { GivesStartingFiles N.name_of repo.now tables.old (Some commit.now) result }
+    ensures homes { TipsStayAtHome N.name_of repo.now tables.old tables.new }
+    ensures home { GivesFilesAtHome N.name_of repo.now tables.old result }
     ensures fault { IfErr result (λ fault. fault ≡ OutOfMemory) }
 {
     repo.sound();
     match files_at(&tables.branches, &tables.at_hand, commit) {
         Some(files) => Ok(files.duplicate()?),
-        None => loaded_files(tables.alloc, repo, commit),
+        None => loaded_files(tables.alloc, repo, commit, &mut tables.loaded),
     }
 }
 
-/// The files of a commit, from its tree.
+/// The files of a commit, from its tree. Trees that are loaded already are shared.
 fn loaded_files<N: Namer, A: Allocator + Copy>(
     alloc: A,
     repo: &Repo<N, A>,
     commit: &Name,
+    loaded: &mut LoadedTrees<A>,
 ) -> Result<PathTree<A>, ImportKind>
-    requires { IsHeldAs kinds.Commit repo.now.1 commit.now }
+    requires commit { IsHeldAs kinds.Commit repo.now.1 commit.now }
+    requires loaded { AreLoaded (N.name_of repo.now.0) repo.now.1.records loaded.old }
     ensures files { IfOk result (HasFilesAt N.name_of repo.now commit.now) }
     ensures home { IfOk result (IsAtHome (N.name_of repo.now.0) repo.now.1.records) }
+    ensures loaded { AreLoaded (N.name_of repo.now.0) repo.now.1.records loaded.new }
     ensures fault { IfErr result (λ fault. fault ≡ OutOfMemory) }
 {
     let tree = tree_of(repo, commit);
-    Ok(PathTree::load(alloc, repo.store(), &tree)?)
+    Ok(PathTree::load_among(alloc, repo.store(), &tree, loaded)?)
 }
 
 /// The tree of a held commit.

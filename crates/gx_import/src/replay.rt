@@ -23,7 +23,7 @@ use gx_command::{Command, CommandReader, Feature, Features};
 use gx_object::Namer;
 use gx_repo::Repo;
 use gx_text::{Sink, Source, send};
-use gx_tree::records_keep_home;
+use gx_tree::{records_keep_home, records_keep_loaded};
 use std::alloc::Allocator;
 
 /// Applies all commands of a source, where these features are asked for, and answers their number.
@@ -135,6 +135,7 @@ fn apply<N: Namer, A: Allocator + Copy, W: Sink>(
     ensures steps { AppliesInEach N.name_of W.taken repo.old repo.new tables.old tables.new command sink.old sink.new result }
 {
     records_keep_home();
+    records_keep_loaded();
     match command {
         Command::Blob(blob) => apply_blob(repo, tables, blob),
         Command::Commit(commit) => apply_commit(repo, tables, commit),
@@ -197,6 +198,7 @@ fn write<W: Sink>(sink: &mut W, bytes: &[u8]) -> Result<(), ImportKind>
 /// The feature `force` lets branches lose commits.
 fn apply_feature<A: Allocator + Copy>(tables: &mut Tables<A>, feature: Feature)
     ensures branches { tables.new.branches ≡ tables.old.branches }
+    ensures loaded { tables.new.loaded ≡ tables.old.loaded }
     ensures steps { AsksFor tables.old tables.new feature }
 {
     match feature {

@@ -29,6 +29,7 @@ pub(crate) fn apply_tag<N: Namer, A: Allocator + Copy>(
 ) -> Result<(), ImportKind>
     requires stands { StandsForSome N.name_of repo.now tables.now }
     ensures branches { tables.new.branches ≡ tables.old.branches }
+    ensures loaded { tables.new.loaded ≡ tables.old.loaded }
     ensures namer { repo.new.0 ≡ repo.old.0 }
     ensures refs { repo.new.1.refs ≡ repo.old.1.refs }
     ensures extends { Extends repo.old.1.records repo.new.1.records }

@@ -3,12 +3,11 @@ use Rattle.std.proofs.lemmas.Result.{err_from_is_err_and}
 use Rattle.gx_command.specs.Views.{commit_parts}
 use Rattle.gx_tree.specs.Named.{NamedTree, IsAtHome}
 use Rattle.gx_import.specs.Calls.{EditsFrom}
-use Rattle.gx_import.specs.Rows.{rows_of}
 use Rattle.gx_import.specs.Standing.{Follows}
 use Rattle.gx_model.specs.Objects.NameMaps.{AreFiles}
 use Rattle.gx_import.proofs.CommitRuns.{AddGives, add_fails, changes_fail, commit_done, named_after, on_ok, parents_held, set_or_full}
 use Rattle.gx_import.proofs.Extended.{extended_more}
-use Rattle.gx_import.proofs.TipHomes.{homes_longer}
+use Rattle.gx_import.proofs.TipHomes.{tips_longer}
 use Rattle.gx_import.proofs.commit.make_commit.Goals as goal
 
 pub changed_files-requires-clause-stands : goal.changed_files-requires-clause-stands
@@ -76,7 +75,7 @@ pub returns-clause-homes : goal.returns-clause-homes
 returns-clause-homes g c =
     let name = g.N.Namer.name_of c.args.repo.now.0 in
     let new = c.add.new.repo.1.records in
-    let homes = homes_longer name c.records_keep_home.ensures c.changed_files.new.repo.1.records new (rows_of c.changed_files.new.tables.branches) c.add.ensures.extends c.in_ok-files.ensures.homes in
+    let homes = tips_longer name c.records_keep_home.ensures c.records_keep_loaded.ensures c.changed_files.new.repo.1.records new c.changed_files.new.tables c.add.ensures.extends c.in_ok-files.ensures.homes in
     let home = rw c.changed_files.ensures.namer at c.in_ok-name.ensures.home in
     on_ok c.set_mark_and_branch.result c.set_mark_and_branch.ensures.homes (λ keeps. keeps name new home homes)
 

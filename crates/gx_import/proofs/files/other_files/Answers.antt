@@ -12,7 +12,8 @@ use Rattle.gx_import.proofs.files.other_files.Goals as goal
 pub loaded_files-requires : goal.loaded_files-requires
 loaded_files-requires g c =
     let given = c.requires.stands in
-    parent_held (g.N.Namer.name_of c.args.repo.now.0) (g.met.N.Namer.is_namer c.args.repo.now.0) c.args.repo.now.1 c.sound.ensures given.0 given.2.history given.1 c.args.commit.now given.3
+    let held = parent_held (g.N.Namer.name_of c.args.repo.now.0) (g.met.N.Namer.is_namer c.args.repo.now.0) c.args.repo.now.1 c.sound.ensures given.0 given.2.history given.1 c.args.commit.now given.3 in
+    record { commit = held; loaded = c.requires.homes.loaded }
 
 pub returns-in_err-duplicate-in-Some-clause-fault : goal.returns-in_err-duplicate-in-Some-clause-fault
 returns-in_err-duplicate-in-Some-clause-fault g c =
@@ -31,10 +32,26 @@ returns-in_ok-duplicate-in-Some-clause-home g c = λ h.
     let name = g.N.Namer.name_of c.args.repo.now.0 in
     let same : c.in-Some.files.now ≡ c.in_ok-duplicate-in-Some.field-0 = cc c.in_ok-duplicate-in-Some.ensures in
     let were = c.in-Some.ensures in
-    subst (IsAtHome name c.args.repo.now.1.records) same (taken_home name c.args.repo.now.1.records were.0 (rows_of c.args.tables.now.branches) c.args.commit.now c.in-Some.files.now were.1 h)
+    subst (IsAtHome name c.args.repo.now.1.records) same (taken_home name c.args.repo.now.1.records were.0 (rows_of c.args.tables.now.branches) c.args.commit.now c.in-Some.files.now were.1 h.tips)
 
 pub returns-in-None-clause-files : goal.returns-in-None-clause-files
 returns-in-None-clause-files g c = λ s made h first.
     let name = g.N.Namer.name_of c.args.repo.now.0 in
     subst (λ f. IfOk c.loaded_files.result (λ files. files.files ≡ named_map name f))
     (parent_files name (g.met.N.Namer.is_namer c.args.repo.now.0) c.args.repo.now.1 c.sound.ensures s h.history made c.args.commit.now first) c.loaded_files.ensures.files
+
+pub returns-in-None-clause-tables : goal.returns-in-None-clause-tables
+returns-in-None-clause-tables g c = λ s h. record {
+  history = h.history;
+  marks = h.marks;
+  branches = h.branches;
+  tags = h.tags;
+  branches_sorted = h.branches_sorted;
+  tags_sorted = h.tags_sorted;
+  ref_names = h.ref_names;
+  own = h.own;
+  forced = h.forced;
+}
+
+pub returns-in-None-clause-homes : goal.returns-in-None-clause-homes
+returns-in-None-clause-homes g c = λ h. record { tips = h.tips; loaded = c.loaded_files.ensures.loaded }

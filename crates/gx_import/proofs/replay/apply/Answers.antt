@@ -10,7 +10,8 @@ use Rattle.gx_model.specs.Streams.Commands.{Asks, Progress}
 use Rattle.gx_import.specs.Rows.{rows_of}
 use Rattle.gx_import.proofs.KeptCheckpoints.{all_still, checkpoint_as, kept_anew, kept_here, kept_on, moved, same_records, when_ok}
 use Rattle.gx_import.proofs.ProgressTexts.{IsOther}
-use Rattle.gx_import.proofs.TipHomes.{AreHome, always, homes_longer}
+use Rattle.gx_import.specs.Standing.{AreTipsAtHome}
+use Rattle.gx_import.proofs.TipHomes.{AreHome, always, tips_longer, tips_with}
 use Rattle.gx_import.proofs.replay.apply.Goals as goal
 
 pub returns-in-Blob-clause-steps : goal.returns-in-Blob-clause-steps
@@ -169,17 +170,21 @@ returns-in-Checkpoint-clause-extends g c = same_records c.args.repo.now.1.record
 pub returns-in-Checkpoint-clause-homes : goal.returns-in-Checkpoint-clause-homes
 returns-in-Checkpoint-clause-homes g c =
     let name = g.N.Namer.name_of c.args.repo.now.0 in
-    always _ c.apply_checkpoint.result (subst (λ records. AreHome name records (rows_of c.args.tables.now.branches)) (sym c.apply_checkpoint.ensures.records) c.requires.homes)
+    always _ c.apply_checkpoint.result (subst (λ records. AreTipsAtHome name records c.args.tables.now) (sym c.apply_checkpoint.ensures.records) c.requires.homes)
 
 pub returns-in-Blob-clause-homes : goal.returns-in-Blob-clause-homes
 returns-in-Blob-clause-homes g c =
     let name = g.N.Namer.name_of c.args.repo.now.0 in
-    always _ c.apply_blob.result (subst (λ b. AreHome name c.apply_blob.new.repo.1.records (rows_of b)) (sym c.apply_blob.ensures.branches) (homes_longer name c.records_keep_home.ensures c.args.repo.now.1.records c.apply_blob.new.repo.1.records (rows_of c.args.tables.now.branches) c.apply_blob.ensures.extends c.requires.homes))
+    let new = c.apply_blob.new.repo.1.records in
+    let homes = tips_longer name c.records_keep_home.ensures c.records_keep_loaded.ensures c.args.repo.now.1.records new c.args.tables.now c.apply_blob.ensures.extends c.requires.homes in
+    always _ c.apply_blob.result (tips_with name new c.args.tables.now c.apply_blob.new.tables homes c.apply_blob.ensures.loaded (subst (λ b. AreHome name new (rows_of b)) (sym c.apply_blob.ensures.branches) homes.tips))
 
 pub returns-in-Tag-clause-homes : goal.returns-in-Tag-clause-homes
 returns-in-Tag-clause-homes g c =
     let name = g.N.Namer.name_of c.args.repo.now.0 in
-    always _ c.apply_tag.result (subst (λ b. AreHome name c.apply_tag.new.repo.1.records (rows_of b)) (sym c.apply_tag.ensures.branches) (homes_longer name c.records_keep_home.ensures c.args.repo.now.1.records c.apply_tag.new.repo.1.records (rows_of c.args.tables.now.branches) c.apply_tag.ensures.extends c.requires.homes))
+    let new = c.apply_tag.new.repo.1.records in
+    let homes = tips_longer name c.records_keep_home.ensures c.records_keep_loaded.ensures c.args.repo.now.1.records new c.args.tables.now c.apply_tag.ensures.extends c.requires.homes in
+    always _ c.apply_tag.result (tips_with name new c.args.tables.now c.apply_tag.new.tables homes c.apply_tag.ensures.loaded (subst (λ b. AreHome name new (rows_of b)) (sym c.apply_tag.ensures.branches) homes.tips))
 
 pub returns-in-Reset-clause-homes : goal.returns-in-Reset-clause-homes
 returns-in-Reset-clause-homes g c = c.apply_reset.ensures.homes (g.N.Namer.name_of c.args.repo.now.0) c.args.repo.now.1.records c.requires.homes
@@ -188,3 +193,9 @@ pub returns-in-Feature-clause-steps : goal.returns-in-Feature-clause-steps
 returns-in-Feature-clause-steps g c = λ s h.
     let name = g.N.Namer.name_of c.args.repo.now.0 in
     rw c.in-Feature.is (given_as name c.args.repo.now.1 c.args.repo.now.1 c.apply_feature.new.tables s (Asks c.in-Feature.feature) (g.W.Sink.taken c.args.sink.now) (Ok tt) (c.apply_feature.ensures.steps name c.args.repo.now.1 s h))
+
+pub returns-in-Feature-clause-homes : goal.returns-in-Feature-clause-homes
+returns-in-Feature-clause-homes g c =
+    let name = g.N.Namer.name_of c.args.repo.now.0 in
+    let records = c.args.repo.now.1.records in
+    tips_with name records c.args.tables.now c.apply_feature.new.tables c.requires.homes c.apply_feature.ensures.loaded (subst (λ b. AreHome name records (rows_of b)) (sym c.apply_feature.ensures.branches) c.requires.homes.tips)

@@ -26,7 +26,7 @@ loop-command-init g c =
     record {
       namer = refl;
       extends = ([], sym (append-nil c.args.repo.now.1.records));
-      homes = subst (AreHome name c.args.repo.now.1.records) (sym c.requires.empty.branches) tt;
+      homes = record { tips = subst (AreHome name c.args.repo.now.1.records) (sym c.requires.empty.branches) tt; loaded = c.requires.empty.loaded name c.args.repo.now.1.records };
       room = omega (arith, c.requires.most);
       counted = omega (arith, c.requires.none.count);
       left = left_start c.args.repo.now.1 c.args.checkpoints.now c.requires.none c.sound.ensures.held;

@@ -7,7 +7,7 @@ use Rattle.gx_command.specs.Views.{shown_commit_ish}
 use Rattle.gx_import.proofs.FaultSteps.{fault_then}
 use Rattle.gx_import.proofs.Resets.{reset_by}
 use Rattle.gx_import.proofs.Standings.{moved_branch}
-use Rattle.gx_import.proofs.TipHomes.{AreHome, homes_put}
+use Rattle.gx_import.proofs.TipHomes.{AreHome, homes_put, tips_with}
 use Rattle.gx_import.proofs.reset.apply_reset.Goals as goal
 
 pub returns-in_err-commit-clause-steps : goal.returns-in_err-commit-clause-steps
@@ -31,7 +31,8 @@ returns-clause-steps g c = λ s h.
     )
 
 pub returns-clause-homes : goal.returns-clause-homes
-returns-clause-homes g c = λ name records h. subst (AreHome name records) (sym c.in_ok-set_tip.ensures.branches) (homes_put name records _ _ _ tt h)
+returns-clause-homes g c = λ name records h.
+    tips_with name records c.args.tables.now c.set_tip.new.self h c.set_tip.ensures.loaded (subst (AreHome name records) (sym c.in_ok-set_tip.ensures.branches) (homes_put name records _ _ _ tt h.tips))
 
 pub returns-in_err-set_tip-clause-steps : goal.returns-in_err-set_tip-clause-steps
 returns-in_err-set_tip-clause-steps g c = λ s h.

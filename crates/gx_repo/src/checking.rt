@@ -26,7 +26,7 @@ const MOST_ROOM: usize = 4096;
 pub(crate) fn entered_room<N: Namer, A: Allocator + Copy>(
     store: &Store<N, A>,
     rooms: &mut Vec<usize, A>,
-    hints: &Hints,
+    hints: &Hints<A>,
     kind: Kind,
     body: &[u8],
 ) -> Result<usize, AddFault>
@@ -52,7 +52,7 @@ pub(crate) fn entered_room<N: Namer, A: Allocator + Copy>(
 fn checked_room<N: Namer, A: Allocator + Copy>(
     store: &Store<N, A>,
     rooms: &[usize],
-    hints: &Hints,
+    hints: &Hints<A>,
     kind: Kind,
     body: &[u8],
 ) -> Result<usize, AddFault>
@@ -74,7 +74,7 @@ fn checked_room<N: Namer, A: Allocator + Copy>(
 fn tree_room<N: Namer, A: Allocator + Copy>(
     store: &Store<N, A>,
     rooms: &[usize],
-    hints: &Hints,
+    hints: &Hints<A>,
     body: &[u8],
 ) -> Result<usize, AddFault>
     requires sound { IsSoundStore N.name_of store.now }

@@ -6,7 +6,7 @@ ghost use Rattle.gx_repo.specs.Repositories.{IsSoundStore};
 use gx_object::{Entry, Kind, Namer, TreeEntries, held_tree};
 use gx_store::Store;
 use gx_text::cut;
-use std::alloc::Allocator;
+use std::alloc::{AllocError, Allocator};
 
 /// How many hints there are by the first entries of trees, and as many by the last.
 const SLOTS: usize = 1024;
@@ -18,19 +18,39 @@ const NOWHERE: usize = usize::MAX;
 /// begins so, and for each end of one the last tree whose last entry has a name that ends so.
 ///
 /// A hint is any number, since what stands at its place is looked at where it is used. So hints are left as they are when
-/// records are dropped. They are not on the heap, so that no growth is needed for them.
+/// records are dropped. They are on the heap, since a repository is moved about.
 #[derive(Drop)]
-pub(crate) struct Hints {
-    by_first: [usize; SLOTS],
-    by_last: [usize; SLOTS],
+pub(crate) struct Hints<A: Allocator> {
+    /// Those by the first entries, and behind them those by the last; or none, before there is a tree.
+    places: Vec<usize, A>,
 }
 
-impl Hints {
-    /// Hints that lead to no tree.
-    pub(crate) fn new() -> Hints {
+impl<A: Allocator + Copy> Hints<A> {
+    /// Hints that lead to no tree. Takes no memory.
+    pub(crate) fn new(alloc: A) -> Hints<A> {
         Hints {
-            by_first: [NOWHERE; SLOTS],
-            by_last: [NOWHERE; SLOTS],
+            places: Vec::new(alloc),
+        }
+    }
+
+    /// Takes the room for the hints, before the first tree is entered.
+    pub(crate) fn make_room(&mut self, kind: Kind) -> Result<(), AllocError> {
+        if kind == Kind::Tree && self.places.is_empty() {
+            self.places.resize(2 * SLOTS, NOWHERE)?;
+        }
+        Ok(())
+    }
+
+    fn place(&self, slot: usize) -> usize {
+        match self.places.get(slot) {
+            Some(place) => *place,
+            None => NOWHERE,
+        }
+    }
+
+    fn set(&mut self, slot: usize, place: usize) {
+        if let Some(hint) = self.places.get_mut(slot) {
+            *hint = place;
         }
     }
 
@@ -38,16 +58,12 @@ impl Hints {
     /// entries where they lead to none, or to longer ones than twice the body.
     ///
     /// Cost: the length of the first component, and two looks at records. Takes no memory.
-    pub(crate) fn earlier<'a, N: Namer, A: Allocator + Copy>(
-        &self,
-        store: &'a Store<N, A>,
-        body: &[u8],
-    ) -> Earlier<'a>
+    pub(crate) fn earlier<'a, N: Namer>(&self, store: &'a Store<N, A>, body: &[u8]) -> Earlier<'a>
         requires sound { IsSoundStore N.name_of store.now }
         ensures { AreLeftHeld store.now.1 result }
     {
-        let first = tree_at(store, self.by_first[first_slot(body)]);
-        let last = tree_at(store, self.by_last[last_slot(body)]);
+        let first = tree_at(store, self.place(first_slot(body)));
+        let last = tree_at(store, self.place(SLOTS + last_slot(body)));
         let mut rest = held_tree(nearer(body.len(), first, last));
         let next = rest.next();
         Earlier { next, rest }
@@ -56,8 +72,8 @@ impl Hints {
     /// Enters the place at which a tree with this body is to stand, and nothing for another kind.
     pub(crate) fn enter(&mut self, kind: Kind, body: &[u8], place: usize) {
         if kind == Kind::Tree {
-            self.by_first[first_slot(body)] = place;
-            self.by_last[last_slot(body)] = place;
+            self.set(first_slot(body), place);
+            self.set(SLOTS + last_slot(body), place);
         }
     }
 }

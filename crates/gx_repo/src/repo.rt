@@ -51,7 +51,7 @@ pub struct Repo<N: Namer, A: Allocator> {
     store: Store<N, A>,
     /// Of each record, by its place.
     rooms: Vec<usize, A>,
-    hints: Hints,
+    hints: Hints<A>,
     refs: Vec<Ref<A>, A>,
     alloc: A,
 }
@@ -75,7 +75,7 @@ impl<N: Namer, A: Allocator + Copy> Repo<N, A> {
         Repo {
             store: Store::new(alloc, namer, state),
             rooms: Vec::new(alloc),
-            hints: Hints::new(),
+            hints: Hints::new(alloc),
             refs: Vec::new(alloc),
             alloc,
         }
@@ -389,6 +389,9 @@ impl<N: Namer, A: Allocator + Copy> Repo<N, A> {
         ensures fault { IfErr result (MayRefuse self.old.1.records kind body.now) }
     {
         parts_change();
+        if self.hints.make_room(kind).is_err() {
+            return Err(AddFault::OutOfMemory);
+        }
         let room = entered_room(&self.store, &mut self.rooms, &self.hints, kind, body)?;
         self.hints.enter(kind, body, self.store.len());
         Ok(room)

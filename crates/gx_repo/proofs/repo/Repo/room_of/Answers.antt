@@ -31,7 +31,7 @@ pub returns-clause-room : goal.returns-clause-room
 returns-clause-room g c = subst (λ v. c.in_ok-room.room ≡ room_below v.1.records c.args.kind c.args.body.now) c.self.view_is c.in_ok-room.ensures.room
 
 pub invariant_of-self : goal.invariant_of-self
-invariant_of-self g c = (c.self.invariant.0, c.entered_room.ensures.front)
+invariant_of-self g c = c.self.invariant
 
 pub invariant_of-self-2 : goal.invariant_of-self-2
 invariant_of-self-2 g c = (c.self.invariant.0, c.entered_room.ensures.front)

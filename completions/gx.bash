@@ -109,9 +109,14 @@ __gx_words_of_command() {
 _gx() {
   local -a words commands=(blobs try adapt where init import export show ls batch refs log rev-parse)
   COMPREPLY=()
+  # behind < and > bash completes files by itself
+  [[ ${COMP_WORDS[COMP_CWORD - 1]} != *[\<\>]* ]] || return 0
   __gx_words
+  [[ ${words[1]} != --explain || ${#words[@]} -eq 2 ]] || words=("${words[0]}" "${words[@]:2}")
   local last=${words[-1]}
-  if [[ ${#words[@]} -eq 2 ]]; then
+  if [[ ${#words[@]} -eq 2 && $last == -* ]]; then
+    __gx_answer '' "$last" --help --explain --version
+  elif [[ ${#words[@]} -eq 2 ]]; then
     __gx_answer '' "$last" "${commands[@]}" help --help
   elif [[ ${words[1]} == help ]]; then
     __gx_answer '' "$last" "${commands[@]}"
@@ -125,4 +130,4 @@ _gx() {
   __gx_cut "$last"
 }
 
-complete -F _gx gx
+complete -o default -F _gx gx

@@ -405,6 +405,7 @@ import_behind() {
     "$gx" import "$file" < "$1" > "$folder/out" 2> "$folder/err" &
     echo $! > "$folder/pid"
     wait $! 2> /dev/null
+    echo $? > "$folder/import.status"
     : > "$folder/ended"
   } &
   until [ -s "$folder/pid" ]; do :; done
@@ -688,6 +689,389 @@ check_inits_at_once() {
   done
 }
 
+# ---- whose a store is, and who may read it
+
+# the mode, the owner and the group of a file
+rights() { stat -c '%a %u:%g' "$1"; }
+
+has_rights() { [ "$(rights "$1")" = "$2" ]; }
+
+# as a user with a group, and with further ones: as_user USER GROUP GROUPS COMMAND..
+as_user() {
+  user=$1
+  group=$2
+  groups=$3
+  shift 3
+  setpriv --reuid="$user" --regid="$group" --groups="$groups" "$@"
+}
+
+has_users() { [ "$(id -u)" = 0 ] && command -v setpriv > "$folder/found"; }
+
+# a store with these rights: owned NAME MODE OWNER:GROUP
+owned() {
+  fresh "$1"
+  chown "$3" "$file"
+  chmod "$2" "$file"
+}
+
+# imports under a umask: import_under UMASK
+import_under() {
+  (
+    umask "$1"
+    "$gx" import "$file" < "$folder/stream" > "$folder/out" 2> "$folder/err"
+  )
+  status=$?
+}
+
+check_modes() {
+  for umask in 0 002 022 077; do
+    for mode in 600 644 444 400; do
+      fresh "mode.$umask.$mode"
+      chmod "$mode" "$file"
+      import_under "$umask"
+      check "a store of mode $mode, umask $umask: is imported into" makes new
+      check 'and keeps its mode' [ "$(stat -c %a "$file")" = "$mode" ]
+    done
+    (
+      umask "$umask"
+      "$gx" init "$folder/mode.$umask.600/made" 2> "$folder/err"
+    )
+    status=$?
+    made=$(stat -c %a "$folder/mode.$umask.600/made")
+    check "init follows the umask $umask" [ "$made" = "$(printf '%o' $((0666 & ~0$umask)))" ]
+  done
+  fresh mode.set
+  chmod 6755 "$file"
+  import_under 022
+  check 'a store loses its set-user and set-group bits' [ "$(stat -c %a "$file")" = 755 ]
+}
+
+# The group of new files, which nobody chose: its bits may be the mask of an access control list.
+check_group_bits() {
+  fresh group
+  chmod 660 "$file"
+  import_under 022
+  check 'group bits that may be a mask are left out' [ "$(stat -c %a "$file")" = 600 ]
+  chmod 664 "$file"
+  import_under 022
+  check 'but for those that others have, too' [ "$(stat -c %a "$file")" = 644 ]
+  chmod 664 "$file"
+  import_under 002
+  check 'they stay under a umask that leaves the group all' [ "$(stat -c %a "$file")" = 664 ]
+  chmod 660 "$file"
+  chmod g+s "$folder/group"
+  import_under 022
+  check 'and in a folder with the set-group-ID bit' [ "$(stat -c %a "$file")" = 660 ]
+  chmod g-s "$folder/group"
+  "$gx" --explain import "$file" < "$folder/stream" > "$folder/out" 2> "$folder/err"
+  check 'which --explain tells' [ "$(cat "$folder/err")" = "gx: $file: permissions of the group were left out" ]
+}
+
+check_lists() {
+  fresh list
+  chmod 600 "$file"
+  # user::rw- user:65534:rw- group::--- mask::rw- other::---
+  if ! python3 - "$file" 2> "$folder/err" << 'END'
+import os, struct, sys
+entries = ((1, 6, -1), (2, 6, 65534), (4, 0, -1), (16, 6, -1), (32, 0, -1))
+packed = struct.pack("<I", 2) + b"".join(struct.pack("<HHi", *entry) for entry in entries)
+os.setxattr(sys.argv[1], "system.posix_acl_access", packed)
+END
+  then
+    echo 'skipped: access control lists, since none can be made here'
+    return
+  fi
+  check 'a list shows its mask as the group bits' [ "$(stat -c %a "$file")" = 660 ]
+  import_under 022
+  check "a list's mask isn't handed to the group" [ "$(stat -c %a "$file")" = 600 ]
+}
+
+check_owners() {
+  if ! has_users; then
+    echo 'skipped: several users, since only root can be them, by setpriv'
+    return
+  fi
+  for mode in 600 640 660 664 604; do
+    owned "root.$mode" "$mode" 1001:2001
+    import_under 077
+    check "root keeps whose a store of mode $mode is" has_rights "$file" "$mode 1001:2001"
+  done
+  owned shared 660 1001:2001
+  chmod 777 "$folder/shared"
+  as_user 1002 3000 2001 "$gx" import "$file" < "$folder/stream" > "$folder/out" 2> "$folder/err"
+  status=$?
+  check "a member of a store's group imports" makes new
+  check 'and the group stays, with its permissions' has_rights "$file" '660 1002:2001'
+  for change in '664 644' '604 600' '646 644' '644 644'; do
+    owned "other.${change% *}" "${change% *}" 1001:2001
+    chmod 777 "$folder/other.${change% *}"
+    as_user 1002 3000 3000 "$gx" import "$file" < "$folder/stream" > "$folder/out" 2> "$folder/err"
+    status=$?
+    check "another user imports into mode ${change% *}" makes new
+    check 'and opens it to nobody' has_rights "$file" "${change#* } 1002:3000"
+  done
+}
+
+# an import that waits for its input, with the text beside: begin_slow UMASK
+begin_slow() {
+  rm -f "$folder/slow.input"
+  mkfifo "$folder/slow.input"
+  umask=$(umask)
+  umask "$1"
+  import_behind "$folder/slow.input"
+  umask "$umask"
+  exec 9> "$folder/slow.input"
+  { cat "$folder/stream" && printf 'progress half\n'; } >&9
+  wait_for "$folder/out"
+}
+
+end_slow() {
+  exec 9>&-
+  wait
+  running=''
+  status=$(cat "$folder/import.status")
+}
+
+check_meanwhile() {
+  for umask in 0 002 022 077; do
+    fresh "meanwhile.$umask"
+    chmod 777 "$folder/meanwhile.$umask"
+    chmod 600 "$file"
+    begin_slow "$umask"
+    check "umask $umask: what is written is its user's alone" [ "$(stat -c %a "$file.new")" = 600 ]
+    check 'another user can read none of it' is_unreadable "$file.new"
+    check 'and can lock nothing' is_unlocked "$file.new"
+    end_slow
+    check 'the import is done' makes new
+  done
+}
+
+is_unreadable() { [ "$(id -u)" != 0 ] || ! as_other cat "$1" > "$folder/seen" 2>&1; }
+
+is_unlocked() { [ "$(id -u)" != 0 ] || ! as_other flock -n "$1" true 2> "$folder/seen"; }
+
+# the file is its user's alone from the call that makes it
+check_made_private() {
+  fresh private
+  chmod 600 "$file"
+  if ! strace -qq -o "$folder/trace" -e trace=openat "$gx" import "$file" < "$folder/stream" 2> "$folder/err"; then
+    echo 'skipped: the call that makes a file, since strace cannot show it here'
+    return
+  fi
+  check 'the next text is made for its user alone' grep -q '"[^"]*store.new", .*O_CREAT|O_EXCL.*, 0600) = ' "$folder/trace"
+}
+
+# Somebody who may not read a store can't hold up a run.
+check_barred() {
+  if ! has_users; then
+    echo 'skipped: a run that is barred, since only root can be two users'
+    return
+  fi
+  owned barred 600 1001:2001
+  chmod 1777 "$folder/barred"
+  as_user 1002 3000 3000 sh -c ': > "$1" && exec flock "$1" sleep 20' sh "$file.new" &
+  holder=$!
+  wait_for_name "$file.new"
+  sleep 0.3
+  as_user 1001 2001 2001 timeout 10 "$gx" --explain import "$file" < "$folder/stream" > "$folder/out" 2> "$folder/err"
+  status=$?
+  kill "$holder"
+  check 'a stranger holds up no run' [ "$status" = 1 ]
+  check 'which is told' [ "$(cat "$folder/err")" = "gx: lock failed
+gx: $file.new: made by a user who has no rights on the store" ]
+  check 'and leaves the store' holds old
+  wait "$holder" 2> "$folder/seen"
+}
+
+wait_for_name() {
+  tries=0
+  until [ -e "$1" ] || [ "$tries" -ge 100 ]; do
+    sleep 0.1
+    tries=$((tries + 1))
+  done
+}
+
+# ---- a store that changes while an import runs
+
+# changes the store while an import waits, which is then refused: check_change NAME COMMAND..
+check_change() {
+  fresh "changed.$1"
+  shown=$1
+  shift
+  begin_slow 022
+  "$@"
+  cp "$file" "$folder/kept" 2> "$folder/seen" || rm -f "$folder/kept"
+  end_slow
+  check "a store that was $shown refuses the import" is_refused 'write failed'
+  if [ -e "$folder/kept" ]; then
+    check 'and stays' holds kept
+  else
+    check 'and stays away' [ ! -e "$file" ]
+  fi
+  check 'the new text stays beside it' cmp -s "$folder/new" "$file.new"
+}
+
+replace_store() {
+  cp "$folder/empty" "$folder/other.store"
+  mv "$folder/other.store" "$file"
+}
+
+rewrite_store() { cp "$folder/empty" "$file"; }
+
+touch_store() { touch -d '2001-01-01' "$file"; }
+
+remove_store() { rm "$file"; }
+
+check_changed() {
+  check_change replaced replace_store
+  check_change rewritten rewrite_store
+  check_change touched touch_store
+  check_change removed remove_store
+}
+
+# ---- what is no file, and links
+
+refuses_to_read() {
+  timeout 5 "$gx" "$@" < "$folder/stream" > "$folder/out" 2> "$folder/err"
+  status=$?
+  is_refused_in_silence 'read failed'
+}
+
+check_no_files() {
+  mkdir "$folder/no.files"
+  mkfifo "$folder/no.files/pipe"
+  for file in "$folder/no.files/pipe" /dev/zero "$folder/no.files"; do
+    for command in refs import export batch; do
+      check "$command: $file is no store" refuses_to_read "$command" "$file"
+    done
+    check "show: $file is no store" refuses_to_read show "$file" main
+  done
+}
+
+check_chains() {
+  fresh chain
+  before=store
+  for number in $(seq 41); do
+    ln -s "$before" "$folder/chain/link$number"
+    before=link$number
+  done
+  run /dev/null refs "$folder/chain/link40"
+  check 'refs follows forty links' is_done
+  run "$folder/stream" import "$folder/chain/link40"
+  check 'so does import' is_done
+  check 'into the store' holds new
+  check 'refs follows no more' refuses_to_read refs "$folder/chain/link41"
+  check 'nor does import' refuses_to_read import "$folder/chain/link41"
+  odd=$(printf 'odd\377')
+  ln "$file" "$folder/chain/$odd"
+  ln -s "$odd" "$folder/chain/odd.link"
+  check "refs follows no link that isn't UTF-8" refuses_to_read refs "$folder/chain/odd.link"
+  check 'nor does import' refuses_to_read import "$folder/chain/odd.link"
+}
+
+# ---- the size that a file may have
+
+check_size() {
+  fresh size
+  (
+    ulimit -f 8
+    "$gx" --explain import "$file" < "$folder/large" > "$folder/out" 2> "$folder/err"
+  )
+  status=$?
+  check 'a text beyond the size of a file is a failed write' [ "$status" = 1 ]
+  check 'whose cause is told' [ "$(cat "$folder/err")" = "gx: write failed
+gx: $file.new: File too large (os error 27)" ]
+  check 'and leaves the store alone' holds_alone old
+}
+
+# ---- causes
+
+# a run tells this line below its own: explains FAULT CAUSE WORD..
+explains() {
+  fault=$1
+  cause=$2
+  shift 2
+  "$gx" --explain "$@" < "$folder/stream" > "$folder/out" 2> "$folder/err"
+  status=$?
+  [ "$status" = 1 ] && printf 'gx: %s\ngx: %s\n' "$fault" "$cause" | cmp -s - "$folder/err"
+}
+
+check_causes() {
+  fresh causes
+  absent='No such file or directory (os error 2)'
+  check 'why a file is not read' explains 'read failed' "$folder/nothing: $absent" refs "$folder/nothing"
+  check 'why it is not imported into' explains 'read failed' "$folder/nothing: $absent" import "$folder/nothing"
+  check 'why nothing is made' explains 'write failed' "the folder of $folder/no/store: $absent" init "$folder/no/store"
+  check 'what is no file' explains 'read failed' '/dev/zero: not a regular file' refs /dev/zero
+  "$gx" --explain refs "$file" > /dev/full 2> "$folder/err"
+  status=$?
+  check 'why output is not taken' [ "$(cat "$folder/err")" = 'gx: write failed
+gx: standard output: No space left on device (os error 28)' ]
+  "$gx" --help > /dev/full 2> "$folder/err"
+  status=$?
+  check 'help that is not taken is a failed write' is_refused 'write failed'
+  "$gx" --version > "$folder/out" 2> "$folder/err"
+  status=$?
+  # a kit that proves another program proves it anew
+  kit=$(rt version 2> "$folder/seen" | cut -d ' ' -f 1)
+  [ -z "$kit" ] || check 'the version names the kit' grep -qF "($kit, " "$folder/out"
+  check 'the version is told' grep -Eqx 'gx [0-9.]+ \(rattle-kit-[0-9a-z]+, commit (unknown|[0-9a-f]{40})\)' "$folder/out"
+}
+
+# the reader goes after a line: is_quiet WORD..
+is_quiet() {
+  { "$gx" "$@" < "$folder/large" 2> "$folder/err" && echo 0 || echo $? > "$folder/status"; } | head -c 1 > "$folder/out"
+  [ ! -s "$folder/err" ]
+}
+
+check_closed_pipe() {
+  fresh pipes
+  run "$folder/large" import "$file"
+  check 'an import of large blobs is done' is_done
+  for command in "export $file" adapt; do
+    # shellcheck disable=SC2086  # the command and its word
+    check "$command: a closed pipe ends quietly" is_quiet $command
+    check 'with status 1' [ "$(cat "$folder/status")" = 1 ]
+  done
+}
+
+# ---- each place at which a system call fails
+
+# no more is open to anybody than was, whatever the run came to
+is_sound_after_failure() {
+  case $status in
+    0) holds new ;;
+    1) holds old || holds new ;;
+    *) false ;;
+  esac && [ "$(stat -c %a "$file")" = 600 ] && { [ ! -e "$file.new" ] || [ "$(stat -c %a "$file.new")" = 600 ]; }
+}
+
+check_failing_calls() {
+  if ! strace -qq -o "$folder/trace" -e inject=flock:error=EINTR:when=1 true 2> "$folder/err"; then
+    echo 'skipped: each place at which a call fails, since strace cannot change calls here'
+    return
+  fi
+  places=0
+  for call in openat statx fstat readlink flock fchmod fchown read write fsync rename unlink prlimit64 getrandom; do
+    number=1
+    while [ "$number" -le 60 ]; do
+      rm -rf "$folder/failing"
+      fresh failing
+      chmod 600 "$file"
+      run_injected "$call:error=EIO:when=$number"
+      grep -q INJECTED "$folder/trace" || break
+      check "$call fails at its place $number" is_sound_after_failure
+      places=$((places + 1))
+      number=$((number + 1))
+    done
+  done
+  rm -rf "$folder/failing"
+  fresh failing
+  run_injected getrandom:error=ENOSYS
+  check 'without random bytes there is a line' is_refused 'random bytes failed'
+  echo "imports with a call that fails at each of $places places: FILE is its user's alone, and old or new"
+}
+
 # ---- stores, by the checker that knows nothing of gx
 
 is_taken() { python3 "$scripts/check_store.py" "$1" 2> "$folder/err"; }
@@ -742,5 +1126,19 @@ check_waiting
 check_refused_at_once
 check_imports_at_once
 check_inits_at_once
+check_modes
+check_group_bits
+check_lists
+check_owners
+check_meanwhile
+check_made_private
+check_barred
+check_changed
+check_no_files
+check_chains
+check_size
+check_causes
+check_closed_pipe
+check_failing_calls
 echo "$passed passed, $failed failed"
 [ "$failed" -eq 0 ]

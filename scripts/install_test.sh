@@ -4,7 +4,7 @@
 #   scripts/install_test.sh
 set -uo pipefail
 cd "$(dirname "$0")/.." || exit 1
-unset PREFIX BINDIR MANDIR BASHCOMPLETIONDIR ZSHCOMPLETIONDIR
+unset PREFIX BINDIR MANDIR BASHCOMPLETIONDIR ZSHCOMPLETIONDIR COMMIT
 folder=$(mktemp -d)
 trap 'rm -rf "$folder"' EXIT
 export GX=$folder/program DESTDIR=$folder/to
@@ -36,5 +36,9 @@ same 'folders by themselves' "$(BINDIR=/b ZSHCOMPLETIONDIR=/z run)$(found f)" \
 same 'uninstall from them' "$(BINDIR=/b ZSHCOMPLETIONDIR=/z run --uninstall)$(found f)" ''
 same 'the other two' "$(MANDIR=/m BASHCOMPLETIONDIR=/c run)$(found f)" \
   'c/gx:644 m/man1/gx.1:644 p/bin/gx:755 p/share/zsh/site-functions/_gx:644'
+printf 'a\0\n%s\0b' "not installed: a commit's name goes here" > "$GX"
+commit=0123456789abcdef0123456789abcdef01234567
+same 'a commit' "$(COMMIT=$commit run)$(tr '\0' ' ' < "$DESTDIR/p/bin/gx")" "$(printf 'a \n%s b' "$commit")"
+same 'no commit' "$(COMMIT=main run)" 'status 1: install.sh: no commit: main'
 echo "$passed passed, $failed failed"
 [ "$failed" -eq 0 ]

@@ -162,6 +162,7 @@ def try_typed_import():
         os.write(ours, line)
     seen = bytearray()
     read_all(ours, seen)
+    want("an import says that a stream is to be typed", seen.startswith(b"gx: reading a stream from standard input\r\n"), seen)
     want("no line stands where a stream is typed", child.wait() == 0 and b"MB" not in seen and seen.endswith(b"gx: commands: 1, objects: 1, refs: 0\r\n"), seen)
 
 
@@ -227,10 +228,56 @@ def try_export():
     want("an export to the terminal shows no line", status == 0 and seen == plain[2].replace(b"\n", b"\r\n"), seen[-80:])
 
 
+def try_causes():
+    fresh()
+    cause = b"nothing: No such file or directory (os error 2)"
+    want("a terminal is told a cause", run(["refs", "nothing"], [])[:2] == (1, b"gx: read failed\r\ngx: " + cause + b"\r\n"))
+    want("a file is told none", run_plain(["refs", "nothing"], b"")[:2] == (1, b"gx: read failed\n"))
+    want("a file is told one that is asked for", run_plain(["--explain", "refs", "nothing"], b"")[:2] == (1, b"gx: read failed\ngx: " + cause + b"\n"))
+
+
+def try_waiting():
+    """A run says after a second that it waits for another one, and ends after it."""
+    fresh()
+    first = subprocess.Popen([GX, "import", "store"], stdin=subprocess.PIPE, stdout=subprocess.PIPE)
+    first.stdin.write(b"progress a\n")
+    first.stdin.flush()
+    first.stdout.readline()
+    ours, theirs = pty.openpty()
+    second = subprocess.Popen([GX, "import", "store"], stdin=subprocess.DEVNULL, stdout=subprocess.DEVNULL, stderr=theirs)
+    os.close(theirs)
+    seen = bytearray()
+    reader = threading.Thread(target=read_all, args=(ours, seen))
+    reader.start()
+    time.sleep(0.5)
+    want("nothing is told of a short wait", seen == b"", seen)
+    wait = time.monotonic() + 10
+    while b"\n" not in seen and time.monotonic() < wait:
+        time.sleep(0.05)
+    want("a wait is told", seen == b"gx: waiting for another run on store\r\n", seen)
+    first.stdin.close()
+    want("the first run ends", first.wait() == 0)
+    want("and the second", second.wait() == 0)
+    reader.join()
+
+
+def try_closed_pipe():
+    fresh()
+    run_plain(["import", "store"], STREAM)
+    ours, theirs = pty.openpty()
+    child = subprocess.Popen([GX, "export", "store"], stdin=subprocess.DEVNULL, stdout=subprocess.PIPE, stderr=theirs)
+    os.close(theirs)
+    child.stdout.read(1)
+    child.stdout.close()
+    seen = bytearray()
+    read_all(ours, seen)
+    want("a closed pipe ends without a line", child.wait() == 1 and LINE.sub(b"", bytes(seen)).replace(CLEAR, b"") == b"", seen)
+
+
 def main():
     with tempfile.TemporaryDirectory() as folder:
         os.chdir(folder)
-        for trial in (try_import, try_refused_import, try_one_terminal, try_short_import, try_typed_import, try_try, try_adapt, try_batch, try_export):
+        for trial in (try_import, try_refused_import, try_one_terminal, try_short_import, try_typed_import, try_try, try_adapt, try_batch, try_export, try_causes, try_waiting, try_closed_pipe):
             trial()
         os.chdir("/")
     failed = results.count(False)

@@ -1,6 +1,8 @@
 //! Why a run of the program is refused.
 
-use gx_cli::CliFault;
+use gx_adapt::AdaptFault;
+use gx_cli::{BlobsKind, CliFault};
+use gx_export::ExportFault;
 use std::alloc::AllocError;
 use thiserror::Error;
 
@@ -13,6 +15,22 @@ pub(crate) enum RunFault {
     /// The file of the next text can't be locked.
     #[error("gx: lock failed")]
     LockFailed,
+    /// The system gives no random bytes.
+    #[error("gx: random bytes failed")]
+    RandomFailed,
+}
+
+impl RunFault {
+    /// Whether standard output didn't take what a command is there to print.
+    pub(crate) fn is_failed_output(&self) -> bool {
+        match self {
+            RunFault::Command(CliFault::Blobs(fault)) => fault.kind == BlobsKind::WriteFailed,
+            RunFault::Command(CliFault::Export(ExportFault::WriteFailed { written: _ })) => true,
+            RunFault::Command(CliFault::Adapt(AdaptFault::WriteFailed)) => true,
+            RunFault::Command(CliFault::WriteFailed) => true,
+            _ => false,
+        }
+    }
 }
 
 impl From<CliFault> for RunFault {

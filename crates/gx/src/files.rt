@@ -1,86 +1,143 @@
 //! Store files: found through symbolic links, and read as a whole.
 
 use crate::fault::RunFault;
+use crate::run::{Run, Subject};
 use gx_cli::CliFault;
-use std::fs::{self, File};
+use std::fs::{self, File, Metadata};
 use std::io::{self, ErrorKind, Read};
+use std::os::unix::fs::MetadataExt;
 use std::path::{Path, PathBuf};
 
 /// As many symbolic links as Linux follows in a path.
 const MOST_LINKS: u32 = 40;
 
+/// Which file it was, and as of when.
+#[derive(Clone, Copy, PartialEq, Eq)]
+pub(crate) struct Stamp {
+    device: u64,
+    inode: u64,
+    size: u64,
+    seconds: i64,
+    nanoseconds: i64,
+}
+
+impl Stamp {
+    /// That of the file that was looked at.
+    pub(crate) fn new(found: &Metadata) -> Stamp {
+        Stamp {
+            device: found.dev(),
+            inode: found.ino(),
+            size: found.size(),
+            seconds: found.mtime(),
+            nanoseconds: found.mtime_nsec(),
+        }
+    }
+}
+
 /// Refuses a place where there is something.
-pub(crate) fn want_no_store(rt: &HostRuntime, file: &str) -> Result<(), CliFault> {
-    match Path::new(file).try_exists(rt) {
+pub(crate) fn want_no_store(run: &Run<'_>, file: &str) -> Result<(), CliFault> {
+    match Path::new(file).try_exists(run.rt) {
         Ok(false) => Ok(()),
         Ok(true) => Err(CliFault::StoreExists),
-        Err(_) => Err(CliFault::ReadFailed),
+        Err(error) => Err(read_fault(run, error)),
     }
 }
 
 /// Refuses what is no file that can be read. Nothing is read yet.
-pub(crate) fn want_store(rt: &HostRuntime, file: &str) -> Result<(), CliFault> {
-    // a look first, since to open a pipe would wait
-    if !Path::new(file).is_file(rt) || File::open(rt, file).is_err() {
-        return Err(CliFault::ReadFailed);
+pub(crate) fn want_store(run: &Run<'_>, file: &str) -> Result<(), CliFault> {
+    match open_store(run, file) {
+        Ok(_opened) => Ok(()),
+        Err(error) => Err(read_fault(run, error)),
     }
-    Ok(())
 }
 
 /// The bytes of a store file.
-pub(crate) fn read_store(rt: &HostRuntime, file: &str) -> Result<Vec<u8>, CliFault> {
-    read_whole(rt, file).map_err(read_fault)
+pub(crate) fn read_store(run: &Run<'_>, file: &str) -> Result<Vec<u8>, CliFault> {
+    let path = follow_links(run, file)?;
+    let (bytes, _stamp) = read_stamped(run, path.as_str())?;
+    Ok(bytes)
+}
+
+/// The bytes of a store file that is no link, and which file it was.
+pub(crate) fn read_stamped(run: &Run<'_>, path: &str) -> Result<(Vec<u8>, Stamp), CliFault> {
+    match read_whole(run, path) {
+        Ok(read) => Ok(read),
+        Err(error) => Err(read_fault(run, error)),
+    }
 }
 
 /// The room for all bytes is taken at once, so that it needn't grow.
-fn read_whole(rt: &HostRuntime, file: &str) -> io::Result<Vec<u8>> {
-    let mut opened = File::open(rt, file)?;
-    let size = opened.metadata()?.len();
-    read_to_end(rt, &mut opened, size)
+fn read_whole(run: &Run<'_>, path: &str) -> io::Result<(Vec<u8>, Stamp)> {
+    let mut opened = open_store(run, path)?;
+    let found = opened.metadata()?;
+    let bytes = read_to_end(run, &mut opened, found.size())?;
+    Ok((bytes, Stamp::new(&found)))
 }
 
 /// The bytes of an open file of this size.
-fn read_to_end(rt: &HostRuntime, opened: &mut File, size: u64) -> io::Result<Vec<u8>> {
-    let mut bytes = Vec::with_capacity(rt.alloc(), size.saturating_add(1) as usize)?;
+fn read_to_end(run: &Run<'_>, opened: &mut File, size: u64) -> io::Result<Vec<u8>> {
+    let mut bytes = Vec::with_capacity(run.rt.alloc(), size.saturating_add(1) as usize)?;
     opened.read_to_end(&mut bytes)?;
     Ok(bytes)
 }
 
-fn read_fault(error: io::Error) -> CliFault {
-    if error.kind() == ErrorKind::OutOfMemory {
-        CliFault::OutOfMemory
-    } else {
-        CliFault::ReadFailed
+/// Opens what is a file. A look comes first, since to open a pipe would wait.
+fn open_store(run: &Run<'_>, path: &str) -> io::Result<File> {
+    want_file(&fs::metadata(run.rt, path)?)?;
+    let opened = File::open(run.rt, path)?;
+    want_file(&opened.metadata()?)?;
+    Ok(opened)
+}
+
+/// Refuses a folder, a pipe, a device and the like.
+pub(crate) fn want_file(found: &Metadata) -> io::Result<()> {
+    if found.is_file() {
+        return Ok(());
     }
+    if found.is_dir() {
+        return Err(io::Error::from_raw_os_error(libc::EISDIR));
+    }
+    Err(io::Error::other("not a regular file"))
+}
+
+/// The fault of a store that isn't read, whose cause is kept.
+pub(crate) fn read_fault(run: &Run<'_>, error: io::Error) -> CliFault {
+    if error.kind() == ErrorKind::OutOfMemory {
+        return CliFault::OutOfMemory;
+    }
+    run.note(Subject::Store, error);
+    CliFault::ReadFailed
 }
 
 /// The path behind the symbolic links at the end of a path. Nothing needs to be there.
-pub(crate) fn follow_links(rt: &HostRuntime, file: &str) -> Result<String, RunFault> {
-    let mut path = PathBuf::from_str(rt.alloc(), file)?;
-    follow_to_end(rt, &mut path)?;
-    Ok(path.into_string())
+pub(crate) fn follow_links(run: &Run<'_>, file: &str) -> Result<String, CliFault> {
+    match links_end(run, file) {
+        Ok(path) => Ok(path.into_string()),
+        Err(error) => Err(read_fault(run, error)),
+    }
 }
 
 /// Follows the symbolic links at the end of a path, of which there may be so many.
-fn follow_to_end(rt: &HostRuntime, path: &mut PathBuf) -> Result<(), RunFault> {
-    for _ in 0..MOST_LINKS {
-        if !follow_link(rt, path)? {
-            return Ok(());
+fn links_end(run: &Run<'_>, file: &str) -> io::Result<PathBuf> {
+    let mut path = PathBuf::from_str(run.rt.alloc(), file)?;
+    for _ in 0..=MOST_LINKS {
+        if !follow_link(run, &mut path)? {
+            return Ok(path);
         }
     }
-    Err(CliFault::ReadFailed.into())
+    Err(io::Error::from_raw_os_error(libc::ELOOP))
 }
 
 /// Follows the symbolic link at the end of a path. Answers whether there was one.
-fn follow_link(rt: &HostRuntime, path: &mut PathBuf) -> Result<bool, RunFault> {
-    match fs::read_link(rt, &*path) {
+fn follow_link(run: &Run<'_>, path: &mut PathBuf) -> io::Result<bool> {
+    match fs::read_link(run.rt, &*path) {
         Ok(target) => {
             path.pop();
             path.push(target)?;
             Ok(true)
         }
         Err(error) if is_no_link(&error) => Ok(false),
-        Err(error) => Err(read_fault(error).into()),
+        Err(error) => Err(error),
     }
 }
 

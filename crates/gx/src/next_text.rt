@@ -3,20 +3,32 @@
 //! A run makes the file and locks it before it reads FILE, and keeps it until it has renamed it over FILE. Only a run that has
 //! a file's lock, and sees that `FILE.new` names this file still, takes the name away from it, by renaming or removing it. So one
 //! run at a time stands between its lock and its rename. A killed run's lock ends with it.
+//!
+//! Until it has FILE's owner, group and permissions, it is its maker's alone. So who may not read FILE can't open it, and can't hold
+//! its lock.
 
+use crate::claiming::{Place, make_held, names};
 use crate::fault::RunFault;
-use crate::files::follow_links;
+use crate::files::{Stamp, follow_links, read_fault, read_stamped, want_file};
+use crate::limit::Limited;
+use crate::rights::{NewFiles, give_rights};
+use crate::run::{Run, Subject};
 use gx_cli::{CliFault, Repo, send_store};
 use gx_object::Sha1Namer;
 use gx_text::IntoWrite;
 use std::alloc::Global;
-use std::fs::{self, File};
+use std::fs::{self, File, Metadata};
 use std::io::{self, BufWriter, ErrorKind, Write};
-use std::os::unix::fs::MetadataExt;
 use std::path::Path;
 
 /// So many bytes are written at once.
 const BUFFER: usize = 1 << 16;
+
+/// The mode of what is its maker's alone.
+const PRIVATE: u32 = 0o600;
+
+/// The mode that programs ask for, of which the umask takes some.
+const COMMON: u32 = 0o666;
 
 /// The locked file of a next text, which this run has made.
 #[derive(Drop)]
@@ -25,22 +37,73 @@ pub(crate) struct NextText {
     path: String,
     folder: File,
     held: File,
+    replaced: Option<Replaced>,
+    is_narrowed: bool,
+    stays: bool,
+}
+
+/// What is known of the store file that is replaced: what new files beside it get, and which file was read, once it was.
+#[derive(Clone, Copy)]
+struct Replaced {
+    new_files: NewFiles,
+    read: Option<Stamp>,
 }
 
 impl NextText {
-    /// Makes the file for a store file and locks it. Another run that holds it is waited for, and what a killed one left is
-    /// removed. What was read of the store file before isn't to be relied on.
-    pub(crate) fn claim(rt: &HostRuntime, file: &str) -> Result<NextText, RunFault> {
-        let store = follow_links(rt, file)?;
-        let folder = open_folder(rt, &store)?;
-        let path = format!(in rt.alloc(); "{store}.new")?;
-        let held = make_held(rt, &path)?;
+    /// Makes and locks the file for a store file that is made, with the permissions that the umask leaves.
+    pub(crate) fn claim_new(run: &Run<'_>, file: &str) -> Result<NextText, RunFault> {
+        NextText::claim(run, file, COMMON)
+    }
+
+    /// Makes and locks the file for a store file that is replaced, and gives it that one's owner, group and permissions. What was
+    /// read of the store file before isn't to be relied on.
+    pub(crate) fn claim_next(run: &Run<'_>, file: &str) -> Result<NextText, RunFault> {
+        let mut next = NextText::claim(run, file, PRIVATE)?;
+        match next.begin_replacing(run) {
+            Ok(()) => Ok(next),
+            Err(fault) => {
+                next.release(run);
+                Err(fault.into())
+            }
+        }
+    }
+
+    /// Another run that holds the file is waited for, and what a killed one left is removed.
+    fn claim(run: &Run<'_>, file: &str, mode: u32) -> Result<NextText, RunFault> {
+        let store = follow_links(run, file)?;
+        let folder = open_folder(run, &store)?;
+        let path = format!(in run.rt.alloc(); "{store}.new")?;
+        let held = make_held(
+            run,
+            &Place {
+                path: path.as_str(),
+                store: store.as_str(),
+                file,
+                mode,
+            },
+        )?;
         Ok(NextText {
             store,
             path,
             folder,
             held,
+            replaced: None,
+            is_narrowed: false,
+            stays: false,
         })
+    }
+
+    fn begin_replacing(&mut self, run: &Run<'_>) -> Result<(), CliFault> {
+        match NewFiles::new(run, &self.folder, &self.held) {
+            Ok(new_files) => {
+                self.replaced = Some(Replaced {
+                    new_files,
+                    read: None,
+                });
+                self.take_rights(run)
+            }
+            Err(error) => Err(write_fault(run, Subject::NextText, error)),
+        }
     }
 
     /// The path of the store file behind its symbolic links.
@@ -48,81 +111,135 @@ impl NextText {
         self.store.as_str()
     }
 
+    /// The bytes of the store file, which has to be the same one still when the next text takes its place.
+    pub(crate) fn read_store(&mut self, run: &Run<'_>) -> Result<Vec<u8>, CliFault> {
+        let (bytes, stamp) = read_stamped(run, self.store.as_str())?;
+        if let Some(replaced) = &mut self.replaced {
+            replaced.read = Some(stamp);
+        }
+        Ok(bytes)
+    }
+
     /// Writes the next text, makes it durable, and puts it into the store file's place. After a failure the store file is as it
     /// was, unless it was the folder's sync that failed.
-    pub(crate) fn publish(&mut self, rt: &HostRuntime, text: &[u8]) -> Result<(), CliFault> {
-        match self.write_and_rename(rt, text) {
-            Ok(()) => Ok(()),
-            Err(_) => Err(CliFault::WriteFailed),
+    pub(crate) fn publish(&mut self, run: &Run<'_>, text: &[u8]) -> Result<(), CliFault> {
+        self.take_rights(run)?;
+        if let Err(error) = self.held.write_all(text) {
+            return Err(write_fault(run, Subject::NextText, error));
         }
+        self.rename(run)
     }
 
     /// The same of a repository's text, which goes out as it is made.
     pub(crate) fn publish_store(
         &mut self,
-        rt: &HostRuntime,
+        run: &Run<'_>,
         repo: &Repo<Sha1Namer, Global>,
     ) -> Result<(), CliFault> {
-        if self.take_permissions(rt).is_err() {
-            return Err(CliFault::WriteFailed);
-        }
-        self.write_store(rt, repo)?;
-        match self.rename(rt) {
-            Ok(()) => Ok(()),
-            Err(_) => Err(CliFault::WriteFailed),
-        }
+        self.take_rights(run)?;
+        self.write_store(run, repo)?;
+        self.rename(run)
     }
 
-    fn write_and_rename(&mut self, rt: &HostRuntime, text: &[u8]) -> io::Result<()> {
-        self.take_permissions(rt)?;
-        self.held.write_all(text)?;
-        self.rename(rt)
-    }
-
-    /// The text has the permissions of the file that it replaces before it has a byte.
-    fn take_permissions(&mut self, rt: &HostRuntime) -> io::Result<()> {
-        if let Ok(replaced) = fs::metadata(rt, &self.store) {
-            self.held.set_permissions(replaced.permissions())?;
+    /// The text has the rights of the file that it replaces before it has a byte.
+    fn take_rights(&mut self, run: &Run<'_>) -> Result<(), CliFault> {
+        let Some(replaced) = &self.replaced else {
+            return Ok(());
+        };
+        match look_at(run, self.store.as_str()) {
+            Ok(found) => match give_rights(&self.held, &found, &replaced.new_files) {
+                Ok(is_narrowed) => {
+                    self.is_narrowed = is_narrowed;
+                    Ok(())
+                }
+                Err(error) => Err(write_fault(run, Subject::NextText, error)),
+            },
+            Err(error) => Err(read_fault(run, error)),
         }
-        Ok(())
     }
 
     /// A repository's text goes out through a buffer.
     fn write_store(
         &mut self,
-        rt: &HostRuntime,
+        run: &Run<'_>,
         repo: &Repo<Sha1Namer, Global>,
     ) -> Result<(), CliFault> {
-        match BufWriter::with_capacity(rt.alloc(), BUFFER, &mut self.held) {
+        let file = Limited::new(run, &mut self.held);
+        match BufWriter::with_capacity(run.rt.alloc(), BUFFER, file) {
             Ok(mut out) => send_flushed(repo, &mut out),
             Err(_) => Err(CliFault::OutOfMemory),
         }
     }
 
     /// Makes what was written durable, and puts it into the store file's place.
-    fn rename(&mut self, rt: &HostRuntime) -> io::Result<()> {
-        self.held.sync_all()?;
-        if !names(rt, &self.path, &self.held) {
-            // somebody took the file away by hand
-            return Err(io::Error::from(ErrorKind::NotFound));
+    fn rename(&mut self, run: &Run<'_>) -> Result<(), CliFault> {
+        if let Err(error) = self.held.sync_all() {
+            return Err(write_fault(run, Subject::NextText, error));
         }
-        fs::rename(rt, &self.path, &self.store)?;
-        sync_folder(&self.folder)
+        if !names(run, self.path.as_str(), &self.held) {
+            // somebody took the file away by hand
+            let error = io::Error::from_raw_os_error(libc::ENOENT);
+            return Err(write_fault(run, Subject::NextText, error));
+        }
+        self.want_unchanged(run)?;
+        if let Err(error) = fs::rename(run.rt, &self.path, &self.store) {
+            return Err(write_fault(run, Subject::Store, error));
+        }
+        if self.is_narrowed {
+            run.tell_narrowed(self.store.as_str());
+        }
+        match sync_folder(&self.folder) {
+            Ok(()) => Ok(()),
+            Err(error) => Err(write_fault(run, Subject::Folder, error)),
+        }
     }
 
-    /// Removes the file, unless it was renamed, and lets its lock go.
-    pub(crate) fn release(self, rt: &HostRuntime) {
-        if names(rt, &self.path, &self.held) {
-            // there is nothing that could be done further
-            let _ = fs::remove_file(rt, &self.path);
+    /// Refuses to replace another file than the one that was read. The next text then stays beside it.
+    fn want_unchanged(&mut self, run: &Run<'_>) -> Result<(), CliFault> {
+        let found = fs::metadata(run.rt, &self.store);
+        match (&self.replaced, found) {
+            (None, Err(error)) if error.kind() == ErrorKind::NotFound => Ok(()),
+            (None, Err(error)) => Err(write_fault(run, Subject::Store, error)),
+            (None, Ok(_)) => {
+                let error = io::Error::from_raw_os_error(libc::EEXIST);
+                Err(write_fault(run, Subject::Store, error))
+            }
+            (Some(replaced), Ok(found)) if replaced.read == Some(Stamp::new(&found)) => Ok(()),
+            (Some(_), answer) => {
+                self.stays = true;
+                Err(write_fault(run, Subject::Store, changed(answer)))
+            }
         }
+    }
+
+    /// Removes the file, unless it was renamed or stays, and lets its lock go.
+    pub(crate) fn release(self, run: &Run<'_>) {
+        if !self.stays && names(run, self.path.as_str(), &self.held) {
+            // there is nothing that could be done further
+            let _ = fs::remove_file(run.rt, &self.path);
+        }
+    }
+}
+
+/// Looks at a store file, which is a file.
+fn look_at(run: &Run<'_>, store: &str) -> io::Result<Metadata> {
+    let found = fs::metadata(run.rt, store)?;
+    want_file(&found)?;
+    Ok(found)
+}
+
+/// Why a store file isn't the one that was read.
+fn changed(answer: io::Result<Metadata>) -> io::Error {
+    match answer {
+        Ok(_) => io::Error::other("changed since it was read; the new text stays in FILE.new"),
+        Err(error) => error,
     }
 }
 
 /// Sends a repository's text, and flushes what was written also where not all is sent.
 fn send_flushed(
     repo: &Repo<Sha1Namer, Global>,
-    out: &mut BufWriter<&mut File>,
+    out: &mut BufWriter<Limited<'_>>,
 ) -> Result<(), CliFault> {
     let sent = send_store(repo, &mut IntoWrite::new(&mut *out));
     let is_flushed = out.flush().is_ok();
@@ -134,97 +251,16 @@ fn send_flushed(
     }
 }
 
-/// Makes and locks the file, in as many turns as that takes.
-fn make_held(rt: &HostRuntime, path: &str) -> Result<File, RunFault> {
-    for _ in 0..u64::MAX {
-        if let Some(held) = try_claim(rt, path)? {
-            return Ok(held);
-        }
-    }
-    Err(RunFault::LockFailed)
-}
-
-/// One turn: makes and locks the file where there is none, or waits for whoever holds it. `None` asks for another turn.
-fn try_claim(rt: &HostRuntime, path: &str) -> Result<Option<File>, RunFault> {
-    match fs::symlink_metadata(rt, path) {
-        Ok(found) if found.is_file() => {
-            remove_left_over(rt, path)?;
-            Ok(None)
-        }
-        Err(error) if error.kind() == ErrorKind::NotFound => make_locked(rt, path),
-        _ => Err(CliFault::WriteFailed.into()),
-    }
-}
-
-/// Another run may get the new file's lock first, and remove it as a left-over: then this one asks for another turn.
-fn make_locked(rt: &HostRuntime, path: &str) -> Result<Option<File>, RunFault> {
-    match File::create_new(rt, path) {
-        Ok(made) => Ok(if lock_made(rt, path, &made)? {
-            Some(made)
-        } else {
-            None
-        }),
-        Err(error) if error.kind() == ErrorKind::AlreadyExists => Ok(None),
-        Err(_) => Err(CliFault::WriteFailed.into()),
-    }
-}
-
-/// Locks a new file. Answers whether it has its name still.
-fn lock_made(rt: &HostRuntime, path: &str, made: &File) -> Result<bool, RunFault> {
-    let is_locked = made.lock().is_ok();
-    if !names(rt, path, made) {
-        return Ok(false);
-    }
-    if !is_locked {
-        let _ = fs::remove_file(rt, path);
-        return Err(RunFault::LockFailed);
-    }
-    Ok(true)
-}
-
-/// Waits for the lock. A file that has its name still was left by a run that is gone.
-fn remove_left_over(rt: &HostRuntime, path: &str) -> Result<(), RunFault> {
-    match open_found(rt, path) {
-        Ok(found) => remove_found(rt, path, &found),
-        Err(error) if error.kind() == ErrorKind::NotFound => Ok(()),
-        Err(_) => Err(RunFault::LockFailed),
-    }
-}
-
-/// The same of the open file.
-fn remove_found(rt: &HostRuntime, path: &str, found: &File) -> Result<(), RunFault> {
-    if found.lock().is_err() {
-        return Err(RunFault::LockFailed);
-    }
-    if names(rt, path, found) && fs::remove_file(rt, path).is_err() {
-        return Err(CliFault::WriteFailed.into());
-    }
-    Ok(())
-}
-
-/// Some file systems lock only what may be written, and a left-over may be one that may only be read.
-fn open_found(rt: &HostRuntime, path: &str) -> io::Result<File> {
-    match File::options().read(true).write(true).open(rt, path) {
-        Ok(found) => Ok(found),
-        Err(_) => File::open(rt, path),
-    }
-}
-
-/// Whether a path, with no link followed, names an open file.
-fn names(rt: &HostRuntime, path: &str, opened: &File) -> bool {
-    match (fs::symlink_metadata(rt, path), opened.metadata()) {
-        (Ok(named), Ok(opened)) => named.dev() == opened.dev() && named.ino() == opened.ino(),
-        _ => false,
-    }
-}
-
 /// The folder is opened before anything is made, so that it can be synced once it matters.
-fn open_folder(rt: &HostRuntime, store: &str) -> Result<File, CliFault> {
+fn open_folder(run: &Run<'_>, store: &str) -> Result<File, CliFault> {
     let folder = match Path::new(store).parent() {
         Some(folder) if !folder.as_str().is_empty() => folder.as_str(),
         _ => ".",
     };
-    File::open(rt, folder).map_err(|_| CliFault::WriteFailed)
+    match File::open(run.rt, folder) {
+        Ok(opened) => Ok(opened),
+        Err(error) => Err(write_fault(run, Subject::Folder, error)),
+    }
 }
 
 /// A file system that has no sync of folders says that this is no valid request.
@@ -233,4 +269,10 @@ fn sync_folder(folder: &File) -> io::Result<()> {
         Err(error) if error.kind() == ErrorKind::InvalidInput => Ok(()),
         answer => answer,
     }
+}
+
+/// The fault of what isn't written, whose cause is kept.
+fn write_fault(run: &Run<'_>, subject: Subject, error: io::Error) -> CliFault {
+    run.note(subject, error);
+    CliFault::WriteFailed
 }

@@ -1,6 +1,8 @@
 //! How far a long command is, on a terminal: one line of standard error, which is written anew as bytes go by.
 
 use crate::command_count::CommandCount;
+use crate::devices::Noted;
+use crate::run::Run;
 use std::cell::Cell;
 use std::io::{self, IsTerminal, Read, Stdin, Stdout, Write};
 use std::time::Instant;
@@ -11,14 +13,14 @@ const PERIOD: u128 = 100;
 /// The line, which is there or isn't. Nothing hangs on whether the terminal takes it.
 #[derive(Drop)]
 pub(crate) struct ProgressLine<'a> {
-    rt: &'a HostRuntime,
+    run: &'a Run<'a>,
     is_shown: Cell<bool>,
 }
 
 impl<'a> ProgressLine<'a> {
-    pub(crate) fn new(rt: &'a HostRuntime) -> ProgressLine<'a> {
+    pub(crate) fn new(run: &'a Run<'a>) -> ProgressLine<'a> {
         ProgressLine {
-            rt,
+            run,
             is_shown: Cell::new(false),
         }
     }
@@ -26,14 +28,14 @@ impl<'a> ProgressLine<'a> {
     fn show(&self, bytes: u64, commands: u64) {
         let tenths = bytes / 100_000;
         let (whole, tenth) = (tenths / 10, tenths % 10);
-        let _ = eprint!(self.rt; "\rgx: {whole}.{tenth} MB, {commands} commands\x1b[K");
+        let _ = eprint!(self.run.rt; "\rgx: {whole}.{tenth} MB, {commands} commands\x1b[K");
         self.is_shown.set(true);
     }
 
     /// Takes the line away, if it is there.
     pub(crate) fn clear(&self) {
         if self.is_shown.get() {
-            let _ = eprint!(self.rt; "\r\x1b[K");
+            let _ = eprint!(self.run.rt; "\r\x1b[K");
             self.is_shown.set(false);
         }
     }
@@ -51,10 +53,10 @@ struct Progress<'a> {
 impl<'a> Progress<'a> {
     /// That of nothing, where standard error is a terminal. Without a clock nothing is shown.
     fn new(line: &'a ProgressLine<'a>) -> Option<Progress<'a>> {
-        if !is_terminal(line.rt) {
+        if !line.run.is_watched() {
             return None;
         }
-        let last = Instant::now(line.rt).ok()?;
+        let last = Instant::now(line.run.rt).ok()?;
         Some(Progress {
             line,
             bytes: 0,
@@ -67,7 +69,7 @@ impl<'a> Progress<'a> {
     fn add(&mut self, bytes: &[u8]) {
         self.bytes = self.bytes.saturating_add(bytes.len() as u64);
         self.commands.add(bytes);
-        if let Ok(now) = Instant::now(self.line.rt) {
+        if let Ok(now) = Instant::now(self.line.run.rt) {
             if now.duration_since(self.last).as_millis() >= PERIOD {
                 self.last = now;
                 self.line.show(self.bytes, self.commands.commands());
@@ -83,29 +85,33 @@ pub(crate) struct Metered<'a, D> {
     progress: Option<Progress<'a>>,
 }
 
-impl<'a> Metered<'a, Stdin> {
+impl<'a> Metered<'a, Noted<'a, Stdin>> {
     /// Standard input. It isn't shown how far it is where somebody types the stream.
-    pub(crate) fn input(line: &'a ProgressLine<'a>) -> Metered<'a, Stdin> {
-        let device = line.rt.stdin();
-        let progress = if device.is_terminal() {
+    pub(crate) fn input(line: &'a ProgressLine<'a>) -> Metered<'a, Noted<'a, Stdin>> {
+        let progress = if line.run.rt.stdin().is_terminal() {
             None
         } else {
             Progress::new(line)
         };
-        Metered { device, progress }
+        Metered {
+            device: Noted::input(line.run),
+            progress,
+        }
     }
 }
 
-impl<'a> Metered<'a, Stdout> {
+impl<'a> Metered<'a, Noted<'a, Stdout>> {
     /// Standard output. It isn't shown how far it is where the stream itself is seen.
-    pub(crate) fn output(line: &'a ProgressLine<'a>) -> Metered<'a, Stdout> {
-        let device = line.rt.stdout();
-        let progress = if device.is_terminal() {
+    pub(crate) fn output(line: &'a ProgressLine<'a>) -> Metered<'a, Noted<'a, Stdout>> {
+        let progress = if line.run.rt.stdout().is_terminal() {
             None
         } else {
             Progress::new(line)
         };
-        Metered { device, progress }
+        Metered {
+            device: Noted::output(line.run),
+            progress,
+        }
     }
 }
 
@@ -137,17 +143,16 @@ impl<D: Write> Write for Metered<'_, D> {
 #[derive(Drop)]
 pub(crate) struct Beside<'a> {
     line: &'a ProgressLine<'a>,
-    output: Stdout,
+    output: Noted<'a, Stdout>,
     is_terminal: bool,
 }
 
 impl<'a> Beside<'a> {
     pub(crate) fn new(line: &'a ProgressLine<'a>) -> Beside<'a> {
-        let output = line.rt.stdout();
         Beside {
             line,
-            output,
-            is_terminal: output.is_terminal(),
+            output: Noted::output(line.run),
+            is_terminal: line.run.rt.stdout().is_terminal(),
         }
     }
 }
@@ -163,9 +168,4 @@ impl Write for Beside<'_> {
     fn flush(&mut self) -> io::Result<()> {
         self.output.flush()
     }
-}
-
-/// Whether somebody reads standard error as it comes.
-pub(crate) fn is_terminal(rt: &HostRuntime) -> bool {
-    rt.stderr().is_terminal()
 }

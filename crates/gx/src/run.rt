@@ -1,0 +1,106 @@
+//! One run of the program: the system that it runs on, and why it couldn't do what it was asked.
+
+use crate::fault::RunFault;
+use std::cell::Cell;
+use std::io::{self, ErrorKind, IsTerminal};
+
+/// What a call of the system was about.
+#[derive(Clone, Copy, PartialEq, Eq)]
+pub(crate) enum Subject {
+    Store,
+    NextText,
+    Folder,
+    Input,
+    Output,
+}
+
+/// Why a call of the system failed.
+#[derive(Clone, Copy)]
+struct Cause {
+    subject: Subject,
+    error: io::Error,
+}
+
+/// The system, and the last failure of its calls.
+#[derive(Drop)]
+pub(crate) struct Run<'a> {
+    pub(crate) rt: &'a HostRuntime,
+    explains: bool,
+    cause: Cell<Option<Cause>>,
+    has_told_wait: Cell<bool>,
+}
+
+impl<'a> Run<'a> {
+    /// A run of which nothing has failed. It tells the causes of failures where it is asked to, or where somebody reads them as they
+    /// come.
+    pub(crate) fn new(rt: &'a HostRuntime, explains: bool) -> Run<'a> {
+        Run {
+            rt,
+            explains: explains || rt.stderr().is_terminal(),
+            cause: Cell::new(None),
+            has_told_wait: Cell::new(false),
+        }
+    }
+
+    /// Whether somebody reads standard error as it comes.
+    pub(crate) fn is_watched(&self) -> bool {
+        self.rt.stderr().is_terminal()
+    }
+
+    /// Keeps why a call failed, in place of what was kept before.
+    pub(crate) fn note(&self, subject: Subject, error: io::Error) {
+        self.cause.set(Some(Cause { subject, error }));
+    }
+
+    /// Tells, once, that another run is waited for, where somebody reads it.
+    pub(crate) fn tell_wait(&self, file: &str) {
+        if self.is_watched() && !self.has_told_wait.get() {
+            self.has_told_wait.set(true);
+            let _ = eprintln!(self.rt; "gx: waiting for another run on {file}");
+        }
+    }
+
+    /// Tells that a file that was replaced has fewer permissions than before, where causes are told.
+    pub(crate) fn tell_narrowed(&self, file: &str) {
+        if self.explains {
+            let _ = eprintln!(self.rt; "gx: {file}: permissions of the group were left out");
+        }
+    }
+
+    /// Tells why the run is refused, in a line. A second one tells the file and the system's cause of what couldn't be read, written
+    /// or locked. Whoever closed the pipe that is written into isn't told.
+    pub(crate) fn tell(&self, fault: &RunFault, file: Option<&str>) {
+        let cause = self.cause.get();
+        let is_cut_off = has_closed_pipe(&cause);
+        if is_cut_off && fault.is_failed_output() {
+            return;
+        }
+        let _ = eprintln!(self.rt; "{fault}");
+        if let Some(cause) = &cause {
+            if self.explains && !is_cut_off {
+                self.tell_cause(cause, file.unwrap_or("-"));
+            }
+        }
+    }
+
+    fn tell_cause(&self, cause: &Cause, file: &str) {
+        let error = cause.error;
+        let _ = match cause.subject {
+            Subject::Store => eprintln!(self.rt; "gx: {file}: {error}"),
+            Subject::NextText => eprintln!(self.rt; "gx: {file}.new: {error}"),
+            Subject::Folder => eprintln!(self.rt; "gx: the folder of {file}: {error}"),
+            Subject::Input => eprintln!(self.rt; "gx: standard input: {error}"),
+            Subject::Output => eprintln!(self.rt; "gx: standard output: {error}"),
+        };
+    }
+}
+
+/// Whether nobody takes standard output any more.
+fn has_closed_pipe(cause: &Option<Cause>) -> bool {
+    match cause {
+        Some(cause) => {
+            cause.subject == Subject::Output && cause.error.kind() == ErrorKind::BrokenPipe
+        }
+        None => false,
+    }
+}

@@ -1042,6 +1042,8 @@ is_sound_after_failure() {
   case $status in
     0) holds new ;;
     1) holds old || holds new ;;
+    # the program wasn't loaded
+    127) holds old ;;
     *) false ;;
   esac && [ "$(stat -c %a "$file")" = 600 ] && { [ ! -e "$file.new" ] || [ "$(stat -c %a "$file.new")" = 600 ]; }
 }

@@ -182,14 +182,19 @@ def try_adapt():
         b"gx: lines of marks left out: 2",
         b"gx: notes that an import refuses: 1",
         b"gx: dates before 1970 that an import refuses: 1",
+        b"gx: adapt: the stream ended without done",
     ]
     plain = run_plain(["adapt"], stream)
     want("adapt tells what it did in a file, too", plain[0] == 0 and plain[1].splitlines() == told, plain)
     adapted = b"commit refs/heads/m\ncommitter  <a@b> -1 +0000\ndata 0\n\nM 100644 :1 \"\\\"a\"\nN :1 :2\n"
     want("adapt prints the stream alone", plain[2] == adapted, plain)
     tags = b"blob\nmark :1\ndata 1\nx\ntag a\nmark :2\nfrom :1\ndata 1\na\ntag b\nfrom :2\ndata 1\nb\n"
-    want("adapt counts tags of blobs and of tags", run_plain(["adapt"], tags) == (0, b"gx: tags of blobs and tags that an import refuses: 2\n", tags))
-    want("adapt of an adapted stream", run_plain(["adapt"], b"blob\ndata 1\nx\n") == (0, b"", b"blob\ndata 1\nx\n"))
+    refused = b"gx: tags of blobs and tags that an import refuses: 2\n"
+    open_end = b"gx: adapt: the stream ended without done\n"
+    want("adapt counts tags of blobs and of tags", run_plain(["adapt"], tags) == (0, refused + open_end, tags))
+    want("adapt of an adapted stream", run_plain(["adapt"], b"blob\ndata 1\nx\n") == (0, open_end, b"blob\ndata 1\nx\n"))
+    done = b"blob\ndata 1\nx\ndone\n"
+    want("adapt of a stream that is ended", run_plain(["adapt"], done) == (0, b"gx: adapt: the stream ended with done\n", done))
     want("adapt of a cut stream", run_plain(["adapt"], b"blob\ndata 9\nx") == (1, b"gx: adapt: TruncatedData\n", b"blob\n"))
 
 

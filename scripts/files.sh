@@ -816,10 +816,11 @@ check_owners() {
 begin_slow() {
   rm -f "$folder/slow.input"
   mkfifo "$folder/slow.input"
-  umask=$(umask)
+  : > "$folder/out"
+  before=$(umask)
   umask "$1"
   import_behind "$folder/slow.input"
-  umask "$umask"
+  umask "$before"
   exec 9> "$folder/slow.input"
   { cat "$folder/stream" && printf 'progress half\n'; } >&9
   wait_for "$folder/out"

@@ -17,8 +17,9 @@ use gx_cli::{CliFault, Repo, send_store};
 use gx_object::Sha1Namer;
 use gx_text::IntoWrite;
 use std::alloc::Global;
-use std::fs::{self, File, Metadata};
+use std::fs::{self, File, Metadata, Permissions};
 use std::io::{self, BufWriter, ErrorKind, Write};
+use std::os::unix::fs::PermissionsExt;
 use std::path::Path;
 
 /// So many bytes are written at once.
@@ -123,7 +124,7 @@ impl NextText {
     /// Writes the next text, makes it durable, and puts it into the store file's place. After a failure the store file is as it
     /// was, unless it was the folder's sync that failed.
     pub(crate) fn publish(&mut self, run: &Run<'_>, text: &[u8]) -> Result<(), CliFault> {
-        self.take_rights(run)?;
+        self.renew_rights(run)?;
         if let Err(error) = self.held.write_all(text) {
             return Err(write_fault(run, Subject::NextText, error));
         }
@@ -136,25 +137,45 @@ impl NextText {
         run: &Run<'_>,
         repo: &Repo<Sha1Namer, Global>,
     ) -> Result<(), CliFault> {
-        self.take_rights(run)?;
+        self.renew_rights(run)?;
         self.write_store(run, repo)?;
         self.rename(run)
     }
 
     /// The text has the rights of the file that it replaces before it has a byte.
     fn take_rights(&mut self, run: &Run<'_>) -> Result<(), CliFault> {
+        match look_at(run, self.store.as_str()) {
+            Ok(found) => self.take_rights_of(run, &found),
+            Err(error) => Err(read_fault(run, error)),
+        }
+    }
+
+    /// The same once more, since the rights may be others by now. A file that is gone is refused once the text is written, which
+    /// stays its owner's alone.
+    fn renew_rights(&mut self, run: &Run<'_>) -> Result<(), CliFault> {
+        if self.replaced.is_none() {
+            return Ok(());
+        }
+        if let Ok(found) = look_at(run, self.store.as_str()) {
+            return self.take_rights_of(run, &found);
+        }
+        self.is_narrowed = true;
+        match self.held.set_permissions(Permissions::from_mode(PRIVATE)) {
+            Ok(()) => Ok(()),
+            Err(error) => Err(write_fault(run, Subject::NextText, error)),
+        }
+    }
+
+    fn take_rights_of(&mut self, run: &Run<'_>, found: &Metadata) -> Result<(), CliFault> {
         let Some(replaced) = &self.replaced else {
             return Ok(());
         };
-        match look_at(run, self.store.as_str()) {
-            Ok(found) => match give_rights(&self.held, &found, &replaced.new_files) {
-                Ok(is_narrowed) => {
-                    self.is_narrowed = is_narrowed;
-                    Ok(())
-                }
-                Err(error) => Err(write_fault(run, Subject::NextText, error)),
-            },
-            Err(error) => Err(read_fault(run, error)),
+        match give_rights(&self.held, found, &replaced.new_files) {
+            Ok(is_narrowed) => {
+                self.is_narrowed = is_narrowed;
+                Ok(())
+            }
+            Err(error) => Err(write_fault(run, Subject::NextText, error)),
         }
     }
 

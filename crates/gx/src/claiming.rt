@@ -2,6 +2,7 @@
 
 use crate::fault::RunFault;
 use crate::run::{Run, Subject};
+use crate::system::own_user;
 use gx_cli::CliFault;
 use std::fs::{self, File, Metadata, OpenOptions, TryLockError};
 use std::io::{self, ErrorKind};
@@ -125,7 +126,7 @@ fn may_be_a_runs(run: &Run<'_>, place: &Place<'_>, found: &Metadata) -> bool {
     match fs::metadata(run.rt, place.store) {
         Ok(store) => {
             let maker = found.uid();
-            let is_trusted = maker == 0 || maker == libc::geteuid() || maker == store.uid();
+            let is_trusted = maker == 0 || Some(maker) == own_user(run) || maker == store.uid();
             let is_in_group = store.mode() & 0o040 != 0 && found.gid() == store.gid();
             is_trusted || is_in_group || store.mode() & 0o004 != 0
         }

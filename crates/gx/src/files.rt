@@ -2,6 +2,7 @@
 
 use crate::fault::RunFault;
 use crate::run::{Run, Subject};
+use crate::system;
 use gx_cli::CliFault;
 use std::fs::{self, File, Metadata};
 use std::io::{self, ErrorKind, Read};
@@ -95,7 +96,7 @@ pub(crate) fn want_file(found: &Metadata) -> io::Result<()> {
         return Ok(());
     }
     if found.is_dir() {
-        return Err(io::Error::from_raw_os_error(libc::EISDIR));
+        return Err(io::Error::from_raw_os_error(system::IS_A_DIRECTORY));
     }
     Err(io::Error::other("not a regular file"))
 }
@@ -125,7 +126,7 @@ fn links_end(run: &Run<'_>, file: &str) -> io::Result<PathBuf> {
             return Ok(path);
         }
     }
-    Err(io::Error::from_raw_os_error(libc::ELOOP))
+    Err(io::Error::from_raw_os_error(system::TOO_MANY_LINKS))
 }
 
 /// Follows the symbolic link at the end of a path. Answers whether there was one.

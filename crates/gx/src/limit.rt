@@ -1,11 +1,9 @@
 //! Writing up to the size that the system lets a file have, since a write beyond ends the program by a signal.
 
 use crate::run::{Run, Subject};
+use crate::system;
 use std::fs::File;
 use std::io::{self, ErrorKind, Write};
-
-/// The number of the limit of a file's size. Source: setrlimit(2), RLIMIT_FSIZE, on Linux.
-const FILE_SIZE: i32 = 1;
 
 /// An empty file, which takes so many bytes and then fails. What it couldn't do is kept.
 #[derive(Drop)]
@@ -21,7 +19,7 @@ impl<'a> Limited<'a> {
         Limited {
             run,
             file,
-            left: most_bytes(),
+            left: system::most_bytes_of_a_file(run),
         }
     }
 
@@ -37,7 +35,7 @@ impl Write for Limited<'_> {
     fn write(&mut self, buf: &[u8]) -> io::Result<usize> {
         let room = self.left.min(buf.len());
         if room == 0 && !buf.is_empty() {
-            let error = io::Error::from_raw_os_error(libc::EFBIG);
+            let error = io::Error::from_raw_os_error(system::FILE_TOO_LARGE);
             self.note(error);
             return Err(error);
         }
@@ -55,18 +53,5 @@ impl Write for Limited<'_> {
 
     fn flush(&mut self) -> io::Result<()> {
         self.file.flush()
-    }
-}
-
-/// The limit on a file's size. Where the system doesn't tell it there is none.
-fn most_bytes() -> usize {
-    let mut limit = libc::types::rlimit {
-        rlim_cur: u64::MAX,
-        rlim_max: u64::MAX,
-    };
-    if libc::getrlimit(FILE_SIZE, &mut limit) == 0 {
-        usize::try_from(limit.rlim_cur).unwrap_or(usize::MAX)
-    } else {
-        usize::MAX
     }
 }

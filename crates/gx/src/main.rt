@@ -13,6 +13,7 @@ mod progress;
 mod reports;
 mod rights;
 mod run;
+mod system;
 mod version;
 mod words;
 

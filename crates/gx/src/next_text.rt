@@ -13,6 +13,7 @@ use crate::files::{Stamp, follow_links, read_fault, read_stamped, want_file};
 use crate::limit::Limited;
 use crate::rights::{NewFiles, give_rights};
 use crate::run::{Run, Subject};
+use crate::system;
 use gx_cli::{CliFault, Repo, send_store};
 use gx_object::Sha1Namer;
 use gx_text::IntoWrite;
@@ -199,7 +200,7 @@ impl NextText {
         }
         if !names(run, self.path.as_str(), &self.held) {
             // somebody took the file away by hand
-            let error = io::Error::from_raw_os_error(libc::ENOENT);
+            let error = io::Error::from_raw_os_error(system::NO_SUCH_FILE);
             return Err(write_fault(run, Subject::NextText, error));
         }
         self.want_unchanged(run)?;
@@ -222,7 +223,7 @@ impl NextText {
             (None, Err(error)) if error.kind() == ErrorKind::NotFound => Ok(()),
             (None, Err(error)) => Err(write_fault(run, Subject::Store, error)),
             (None, Ok(_)) => {
-                let error = io::Error::from_raw_os_error(libc::EEXIST);
+                let error = io::Error::from_raw_os_error(system::FILE_EXISTS);
                 Err(write_fault(run, Subject::Store, error))
             }
             (Some(replaced), Ok(found)) if replaced.read == Some(Stamp::new(&found)) => Ok(()),

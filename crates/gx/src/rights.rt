@@ -4,7 +4,8 @@
 //! the group has and others have not are handed on only where the group is known to be meant.
 
 use crate::run::Run;
-use std::fs::{self, File, Metadata, Permissions};
+use crate::system::leaves_group_bits;
+use std::fs::{File, Metadata, Permissions};
 use std::io;
 use std::os::unix::fs::{MetadataExt, PermissionsExt, fchown};
 
@@ -70,21 +71,5 @@ fn narrowed(mode: u32, has_group: bool, is_meant: bool) -> u32 {
         owner | group | others
     } else {
         owner | both << 3 | others
-    }
-}
-
-/// Whether the umask leaves the group all that a program asks for. Where the system doesn't tell the umask, it doesn't.
-fn leaves_group_bits(run: &Run<'_>) -> bool {
-    match fs::read_to_string(run.rt, "/proc/self/status") {
-        Ok(status) => status.lines().any(is_open_umask),
-        Err(_) => false,
-    }
-}
-
-/// Whether a line tells a umask, in octal digits, whose digit for the group is 0.
-fn is_open_umask(line: &str) -> bool {
-    match line.strip_prefix("Umask:") {
-        Some(digits) => digits.as_bytes().iter().rev().nth(1) == Some(&b'0'),
-        None => false,
     }
 }

@@ -3,7 +3,7 @@
 # `gx import` makes of what comes out with what `git fast-import` makes of it: all refs, all commits with their parents, the name of each path of each ref,
 # the files of each commit, and the bytes of each object. Tells what was adapted, what gx makes of the stream as it was, and whether git gives its refs
 # the same names as those of the adapted one. At the end it says which converters ran, and which were left out.
-#   bench/real.sh [FOLDER [CONVERTER..]]      FOLDER: where to keep repositories and streams; one of its own, dropped at the end, if it is left out
+#   bench/real.sh [FOLDER [CONVERTER..]]      CONVERTER: also rounds, of a repository that grows; FOLDER: where to keep repositories and streams; one of its own, dropped at the end, if it is left out
 # GX names the program; without it crates/gx is built, which needs rt. A converter is left out, and named, where one of its programs is missing. Debian's
 # packages have the programs' names, but for hg (mercurial), hggit (mercurial-git), svn and svnadmin (subversion), src (simple-revision-control),
 # fastimport (python3-fastimport), public-inbox-mda (public-inbox), and import-tars.perl, which is in git's package.
@@ -310,6 +310,65 @@ try_story() {
   printf '%-20s %-7s %s\n' "$name" "$story" "$told"
 }
 
+# A repository that grows is followed in rounds: each import brings what the store's refs don't reach. Light tags and new branches come,
+# also on old commits; git's export drops an annotated tag of a commit that it leaves out.
+bring() {
+  local -a known
+  mapfile -t known < <("$gx" refs store | sed 's/ .*//; s/^/^/')
+  git -C repo fast-export --use-done-feature --reference-excluded-parents --tag-of-filtered-object=drop \
+    --signed-tags=verbatim --reencode=no --all "${known[@]}" | "$gx" import --done store
+}
+
+grow() {
+  cd repo
+  case $1 in
+    0)
+      first_files
+      for name in One Two Three; do
+        echo $name >> README
+        git add -A
+        git commit -q -m $name
+      done
+      git tag light
+      git tag -a v1 -m 'The first version'
+      ;;
+    1) echo three >> README; git commit -q -am More; git tag -a v2 -m 'The second version'; git branch old HEAD~2 ;;
+    2) git checkout -q old; echo old > old; git add old; git commit -q -m Old; git tag earlier HEAD~1 ;;
+    3) git checkout -q main; git merge -q --no-ff -m 'Merge old' old; git rm -q -r src; git commit -q -m 'No sources' ;;
+    4) ;;
+  esac
+}
+
+follow() {
+  local round story=plain
+  git init -q -b main repo
+  rm -f store && "$gx" init store
+  for round in 0 1 2 3 4; do
+    (set -e; grow $round)
+    bring
+    rm -rf git && git clone -q --mirror repo git
+    same
+  done
+}
+
+try_rounds() {
+  local here=$folder/rounds status
+  rm -rf "$here" && mkdir -p "$here" && cd "$here"
+  set +e
+  (
+    set -e
+    follow
+  ) > log 2>&1
+  status=$?
+  set -e
+  if [ $status -eq 0 ]; then
+    echo 'rounds of a repository that grows: same'
+  else
+    failed=$((failed + 1))
+    echo "FAIL rounds of a repository that grows: $(tail -n 1 log)"
+  fi
+}
+
 ran=()
 left_out=()
 while read -r name programs stories; do
@@ -328,6 +387,7 @@ while read -r name programs stories; do
     try_story "$name" "${word%%=*}" "$expected" < /dev/null
   done
 done < <(sed '/^$/d' <<< "$table")
+[[ ${#chosen[@]} -gt 0 && " ${chosen[*]} " != *' rounds '* ]] || try_rounds
 echo "ran: ${ran[*]-}"
 echo "left out: ${left_out[*]-}"
 [ $failed -eq 0 ]

@@ -184,8 +184,9 @@ def run_gx(gx, folder, step, words, source):
 
 
 def is_refusal(told):
-    """Whether lines on standard error end with a refusal. Those of a report end with a number."""
-    return told != b"" and not told[-2:-1].isdigit()
+    """Whether lines on standard error end with a refusal. Those of a report end with a number, or with how a stream ended."""
+    last = told[:-1].rpartition(b"\n")[2]
+    return told != b"" and not last[-1:].isdigit() and not last.startswith(b"gx: adapt: the stream ended ")
 
 
 def store_of(folder, words):

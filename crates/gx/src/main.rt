@@ -29,13 +29,27 @@ use progress::{Beside, Metered, ProgressLine};
 use reports::{tell_import, tell_typed_stream};
 use run::Run;
 use std::alloc::Global;
-use std::env;
+use std::fs::File;
 use std::hash::RandomState;
 use std::process::ExitCode;
+use std::{env, io};
 use words::run_arguments;
 
 fn main(rt: HostRuntime) -> ExitCode {
-    run_arguments(&rt, env::args(&rt))
+    let held = hold_standard_streams(&rt);
+    let status = run_arguments(&rt, env::args(&rt));
+    drop(held);
+    status
+}
+
+/// A run that begins with a standard stream closed would give its number to the first file that it opens, and print into that.
+/// So the three numbers are taken before: where the streams are open, these are three others.
+fn hold_standard_streams(rt: &HostRuntime) -> [io::Result<File>; 3] {
+    [open_nothing(rt), open_nothing(rt), open_nothing(rt)]
+}
+
+fn open_nothing(rt: &HostRuntime) -> io::Result<File> {
+    File::options().read(true).write(true).open(rt, "/dev/null")
 }
 
 /// Runs a command, and prints why it is refused.

@@ -60,11 +60,9 @@ impl<'a> Run<'a> {
         }
     }
 
-    /// Tells that a file that was replaced has fewer permissions than before, where causes are told.
+    /// Tells that a file that was replaced has fewer permissions than before.
     pub(crate) fn tell_narrowed(&self, file: &str) {
-        if self.explains {
-            let _ = eprintln!(self.rt; "gx: {file}: permissions of the group were left out");
-        }
+        let _ = eprintln!(self.rt; "gx: {file}: permissions of the group were left out");
     }
 
     /// Tells why the run is refused, in a line. A second one tells the file and the system's cause of what couldn't be read, written

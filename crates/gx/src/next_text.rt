@@ -129,6 +129,7 @@ impl NextText {
         if let Err(error) = self.held.write_all(text) {
             return Err(write_fault(run, Subject::NextText, error));
         }
+        self.want_places(run)?;
         self.rename(run)
     }
 
@@ -140,6 +141,7 @@ impl NextText {
     ) -> Result<(), CliFault> {
         self.renew_rights(run)?;
         self.write_store(run, repo)?;
+        self.want_places(run)?;
         self.rename(run)
     }
 
@@ -193,17 +195,8 @@ impl NextText {
         }
     }
 
-    /// Makes what was written durable, and puts it into the store file's place.
+    /// Puts the durable text into the store file's place, and makes that durable, too.
     fn rename(&mut self, run: &Run<'_>) -> Result<(), CliFault> {
-        if let Err(error) = self.held.sync_all() {
-            return Err(write_fault(run, Subject::NextText, error));
-        }
-        if !names(run, self.path.as_str(), &self.held) {
-            // somebody took the file away by hand
-            let error = io::Error::from_raw_os_error(system::NO_SUCH_FILE);
-            return Err(write_fault(run, Subject::NextText, error));
-        }
-        self.want_unchanged(run)?;
         if let Err(error) = fs::rename(run.rt, &self.path, &self.store) {
             return Err(write_fault(run, Subject::Store, error));
         }
@@ -214,6 +207,19 @@ impl NextText {
             Ok(()) => Ok(()),
             Err(error) => Err(write_fault(run, Subject::Folder, error)),
         }
+    }
+
+    /// Makes what was written durable, and refuses to go on where either file is another one by now.
+    fn want_places(&mut self, run: &Run<'_>) -> Result<(), CliFault> {
+        if let Err(error) = self.held.sync_all() {
+            return Err(write_fault(run, Subject::NextText, error));
+        }
+        if !names(run, self.path.as_str(), &self.held) {
+            // somebody took the file away by hand
+            let error = io::Error::from_raw_os_error(system::NO_SUCH_FILE);
+            return Err(write_fault(run, Subject::NextText, error));
+        }
+        self.want_unchanged(run)
     }
 
     /// Refuses to replace another file than the one that was read. The next text then stays beside it.

@@ -8,13 +8,14 @@ use std::alloc::Global;
 /// Words with bars between them, and the line that they give, as it prints for debugging.
 const LINES: &str = "
 $ blobs % Blobs
-$ try|main % Try(\"main\")
-$ try|--|-x % Try(\"-x\")
+$ try|main % Try { revision: \"main\", done: false, force: false }
+$ try|--done|--|-x % Try { revision: \"-x\", done: true, force: false }
 $ adapt % Adapt
 $ where|7 % Where(7)
 $ where|18446744073709551615 % Where(18446744073709551615)
 $ init|f % Init { file: \"f\" }
-$ import|f % Import { file: \"f\" }
+$ import|f % Import { file: \"f\", done: false, force: false }
+$ import|--force|f|--done % Import { file: \"f\", done: true, force: true }
 $ show|f|main:a b % Show { file: \"f\", revision: \"main:a b\" }
 $ show|-|x % Show { file: \"-\", revision: \"x\" }
 $ ls|f|x % Ls { recursive: false, file: \"f\", revision: \"x\" }

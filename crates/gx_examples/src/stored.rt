@@ -1,6 +1,5 @@
 //! Scripts of commands on the text of a store. The names are those that git gives these objects.
 
-mod asked;
 mod batches;
 mod checkpoints;
 mod exports;
@@ -48,13 +47,6 @@ fn refused_commands_keep_what_was_published(rt: HostRuntime) -> Result<(), Fail>
         batches::REFUSED,
         checkpoints::SESSIONS,
     ];
-    run_all(rt.alloc(), scripts, state)
-}
-
-#[test]
-fn lines_ask_for_what_streams_do_not(rt: HostRuntime) -> Result<(), Fail> {
-    let state = RandomState::new(&rt)?;
-    let scripts: &[&str] = &[asked::DONE, asked::FORCE];
     run_all(rt.alloc(), scripts, state)
 }
 

@@ -1,6 +1,6 @@
 //! Devices: pieces that come and go, ends, failures and interruptions.
 
-ghost use Rattle.std.specs.Prelude.{◌<◌, ◌≤◌};
+ghost use Rattle.std.specs.Prelude.{◌<◌, ◌≤◌, IfOk};
 
 use gx_text::{Bytes, Failed, FromRead, Held, IntoWrite, Sink, Source, send};
 use std::alloc::Global;
@@ -132,7 +132,9 @@ struct Mended {
 }
 
 impl Mended {
-    fn answer(&mut self, count: usize) -> IoResult<usize> {
+    fn answer(&mut self, count: usize) -> IoResult<usize>
+        ensures { IfOk result (λ n. n ≤ count) }
+    {
         if self.has_failed {
             return Ok(count);
         }

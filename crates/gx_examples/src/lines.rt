@@ -102,7 +102,7 @@ Usage: gx show <FILE> <REV>
 $ blobs|--help % help %
 Usage: gx blobs
 $ try|--help % help %
-Usage: gx try <REV>
+Usage: gx try [OPTIONS] <REV>
 $ adapt|--help % help %
 Usage: gx adapt
 $ where|--help % help %
@@ -110,7 +110,7 @@ Usage: gx where <N>
 $ init|--help % help %
 Usage: gx init <FILE>
 $ import|--help % help %
-Usage: gx import <FILE>
+Usage: gx import [OPTIONS] <FILE>
 $ show|--help % help %
 Usage: gx show <FILE> <REV>
 $ ls|--help % help %

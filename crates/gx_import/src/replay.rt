@@ -67,7 +67,8 @@ fn replay_commands<N: Namer, A: Allocator + Copy, R: Source, W: Sink>(
     ensures namer { repo.new.0 ≡ repo.old.0 }
     ensures extends { Extends repo.old.1.records repo.new.1.records }
     ensures count { IfOk result (λ commands. commands ≤ 2 ^ 63 - 1) }
-    ensures replayed { ReplaysRead N.name_of W.taken repo.old repo.new tables.old.is_forced tables.new checkpoints.new reader.old.commands sink.old sink.new result }
+    ensures replayed { ReplaysRead N.name_of W.taken repo.old repo.new tables.old.is_forced tables.new checkpoints.new
+        reader.old.commands sink.old sink.new result }
     ensures left { IsLeft repo.old.1 repo.new.1 checkpoints.new }
     ensures sorted { OnOk result (IsSorted checkpoints.new.refs) }
     ensures has_all { OnOk result (HoldsAll repo.new.1 checkpoints.new) }

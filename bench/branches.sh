@@ -4,6 +4,7 @@
 # and how many times as fast as git. Then refs, and the names, kinds and sizes of all objects that they reach, are compared with
 # git's.
 #   bench/branches.sh [KIND FILES COUNT]     all kinds, if none is named
+# ROWS: a file that gets a row of each import, as those of bench/all.sh are.
 # `exported FILES COUNT` is what `git fast-export --all` writes of the repository of `project FILES COUNT`. The exit status is 1
 # where names differ, or a bound is missed: git's time over LEAST (3; of `topics` 5), and 1.5 times the store and 100 MB.
 # GX: the program, crates/gx/out/gx if it isn't set. It needs git, python3 and GNU time.
@@ -60,12 +61,26 @@ bound() {
   }
 }
 
+# row STREAM PROGRAM FILE: the best of the runs that were timed last, and the size of what was made
+row() {
+  [ -z "${ROWS:-}" ] || sort -g "$folder/runs" | head -n 1 | awk -v OFS='\t' -v stream="$1" -v program="$2" -v bytes="$(du -bs "$3" | cut -f 1)" \
+    -v commits="$(grep -ac '^commit ' "$input")" -v runs="${RUNS:-3}" '{ print stream, commits, "import", program, $1, $2, sprintf("%.1f", $3 / 1024), runs, bytes }' >> "$ROWS"
+}
+
+# as `best`, with the runs kept
+best_kept() {
+  timed "$@" > "$folder/runs"
+  sort -g "$folder/runs" | head -n 1 | awk '{ printf "%s s, %.1f MB", $1, $3 / 1024 }'
+}
+
 measure() {
   stream_of "$@"
   local ours theirs store memory least=${LEAST:-3}
   [ "$1" != topics ] || least=5
-  theirs=$(best git -C "$folder/repo" "${uncompressed[@]}" fast-import --quiet)
-  ours=$(best "$gx" import "$folder/store")
+  theirs=$(best_kept git -C "$folder/repo" "${uncompressed[@]}" fast-import --quiet)
+  row "$*" 'git fast-import, compression 0' "$folder/repo/objects"
+  ours=$(best_kept "$gx" import "$folder/store")
+  row "$*" gx "$folder/store"
   git_import
   store=$(stat -c %s "$folder/store")
   memory=${ours#*, }

@@ -19,7 +19,7 @@ use Rattle.gx_model.specs.Texts.Paths.{Path, path_text, printed}
 use Rattle.gx_model.specs.Streams.Items.{Item, Line, Data, Finished, Stream}
 use Rattle.gx_model.specs.Streams.Commands.{CommitIsh, Marked, Named, DataRef, Mark, Object, Inline, Change, Modify, Remove, Copy, Rename, Clear, Command}
 use Rattle.gx_model.specs.Streams.Commands as command
-use Rattle.gx_model.specs.Streams.Grammar.{words_of, words_by, is_word, rest_line_in, optional, block_in, commit_ish_of, modify_at, change_at, changes_within, merges_within, item_after_in, unsigned_in, blob_at, commit_at, links_at, read_some, ident_of, encoding_of, ref_of, tag_of, item_after, tag_at, reset_at, command_at, commands_within, commands_of, is_option, is_done, with_first}
+use Rattle.gx_model.specs.Streams.Grammar.{last_path, words_of, words_by, is_word, rest_line_in, optional, block_in, commit_ish_of, modify_at, change_at, changes_within, merges_within, item_after_in, unsigned_in, blob_at, commit_at, links_at, read_some, ident_of, encoding_of, ref_of, tag_of, item_after, tag_at, reset_at, command_at, commands_within, commands_of, is_option, is_done, with_first}
 use Rattle.gx_model.specs.Histories.Values.{is_optional_encoding, is_optional_ident}
 use Rattle.gx_model.specs.Replay.{or_else}
 use Rattle.gx_model.specs.Export.{mode_digits, dataref_text, dataref_block, reset_items, commit_ish_text, change_items, command_items, from_line, optional_line}
@@ -78,6 +78,10 @@ pub modify_line : (r : Bytes) (t : Stream) → change_at (words_of (codes "M" ++
 unfolding change_at cut_at
 modify_line r t = refl
 
+pub remove_line : (r : Bytes) (t : Stream) → change_at (words_of (codes "D" ++ 32 ∷ r)) t ≡ Some (last_path r >>= λ p. Ok (Remove p, t))
+unfolding change_at cut_at
+remove_line r t = refl
+
 pub clear_line : (t : Stream) → change_at (words_of (codes "deleteall")) t ≡ Some (Ok (Clear, t))
 unfolding change_at cut_at
 clear_line t = refl
@@ -108,7 +112,9 @@ changes_read (suc n) (Clear ∷ cs) rest lt h =
 changes_read (suc n) (Modify m s p ∷ cs) rest lt h =
     let again = changes_read n cs rest (omega arith) h.1 in
     rw (no_block m s h.0.0, modify_line, modify_read m s p _ h.0.0 h.0.1, again) refl
-changes_read (suc n) (Remove p ∷ cs) rest lt h = absurd h.0
+changes_read (suc n) (Remove p ∷ cs) rest lt h =
+    let again = changes_read n cs rest (omega arith) h.1 in
+    rw (remove_line, path_read p h.0, again) refl
 changes_read (suc n) (Copy p q ∷ cs) rest lt h = absurd h.0
 changes_read (suc n) (Rename p q ∷ cs) rest lt h = absurd h.0
 
@@ -152,7 +158,7 @@ unfolding cut_at
 no_merge [] rest h = refl
 no_merge (Clear ∷ cs) rest h = refl
 no_merge (Modify m s p ∷ cs) rest h = refl
-no_merge (Remove p ∷ cs) rest h = absurd h.0
+no_merge (Remove p ∷ cs) rest h = refl
 no_merge (Copy p q ∷ cs) rest h = absurd h.0
 no_merge (Rename p q ∷ cs) rest h = absurd h.0
 
@@ -162,7 +168,7 @@ no_from (c ∷ ms) cs rest h = refl
 no_from [] [] rest h = refl
 no_from [] (Clear ∷ cs) rest h = refl
 no_from [] (Modify m s p ∷ cs) rest h = refl
-no_from [] (Remove p ∷ cs) rest h = absurd h.0
+no_from [] (Remove p ∷ cs) rest h = refl
 no_from [] (Copy p q ∷ cs) rest h = absurd h.0
 no_from [] (Rename p q ∷ cs) rest h = absurd h.0
 
@@ -170,7 +176,7 @@ all_changes : (cs : List Change) (rest : List Item) → AllByRecursion IsSpelled
 all_changes [] rest h = omega arith
 all_changes (Clear ∷ cs) rest h = omega (arith, all_changes cs rest h.1)
 all_changes (Modify m s p ∷ cs) rest h = rw (no_block m s h.0.0) (omega (arith, all_changes cs rest h.1))
-all_changes (Remove p ∷ cs) rest h = absurd h.0
+all_changes (Remove p ∷ cs) rest h = omega (arith, all_changes cs rest h.1)
 all_changes (Copy p q ∷ cs) rest h = absurd h.0
 all_changes (Rename p q ∷ cs) rest h = absurd h.0
 

@@ -32,8 +32,8 @@ use Rattle.gx_model.proofs.FileMapEdits.{parts_of}
 use Rattle.gx_model.proofs.KeptCommits.{FollowsAll, each_one, one_of_all, snoc_all}
 use Rattle.gx_model.proofs.LineTexts.{line_append, line_by, printed_is_line}
 use Rattle.gx_model.proofs.ItemTexts.{items_read}
-use Rattle.gx_model.proofs.CommandFields.{all_hex, hex_no_colon, link_no_space, mark_read, not_inline}
-use Rattle.gx_model.proofs.CommandItems.{Starts, all_items, asks_first, clear_line, commit_first, commit_regroup, encoding_read, from_read, ident_read, merge_item, merges_read, mode_words, modify_line, modify_read, next_is, no_block, read_first, starts_command, stream, words_at}
+use Rattle.gx_model.proofs.CommandFields.{all_hex, hex_no_colon, link_no_space, mark_read, not_inline, path_read}
+use Rattle.gx_model.proofs.CommandItems.{Starts, all_items, asks_first, clear_line, commit_first, commit_regroup, encoding_read, from_read, ident_read, merge_item, merges_read, mode_words, modify_line, modify_read, next_is, no_block, read_first, remove_line, starts_command, stream, words_at}
 use Rattle.gx_model.proofs.CommandItems as items
 use Rattle.gx_model.proofs.SpelledItems.{AreItems, all_spelled, author_spelled, change_spelled, encoding_spelled, from_spelled, items_append, mark_spelled, merges_spelled, plain_line}
 use Rattle.gx_model.proofs.LineTexts.{ident_is_line, ref_is_line}
@@ -268,7 +268,9 @@ changes_fail (suc n) (Clear ∷ cs) line more e lt h =
 changes_fail (suc n) (Modify m s p ∷ cs) line more e lt h =
     let again = changes_fail n cs line more e (omega arith) h.1 in
     rw (no_block m s h.0.0, modify_line, modify_read m s p _ h.0.0 h.0.1, again) refl
-changes_fail (suc n) (Remove p ∷ cs) line more e lt h = absurd h.0
+changes_fail (suc n) (Remove p ∷ cs) line more e lt h =
+    let again = changes_fail n cs line more e (omega arith) h.1 in
+    rw (remove_line, path_read p h.0, again) refl
 changes_fail (suc n) (Copy p q ∷ cs) line more e lt h = absurd h.0
 changes_fail (suc n) (Rename p q ∷ cs) line more e lt h = absurd h.0
 
@@ -276,7 +278,7 @@ all_lines : (cs : List Change) (line : Bytes) (more : List Item) → AllByRecurs
 all_lines [] line more h = omega arith
 all_lines (Clear ∷ cs) line more h = omega (arith, all_lines cs line more h.1)
 all_lines (Modify m s p ∷ cs) line more h = rw (no_block m s h.0.0) (omega (arith, all_lines cs line more h.1))
-all_lines (Remove p ∷ cs) line more h = absurd h.0
+all_lines (Remove p ∷ cs) line more h = omega (arith, all_lines cs line more h.1)
 all_lines (Copy p q ∷ cs) line more h = absurd h.0
 all_lines (Rename p q ∷ cs) line more h = absurd h.0
 

@@ -69,7 +69,7 @@ items_append (i ∷ is) js h g = (h.0, items_append is js h.1 g)
 pub change_spelled : (c : Change) → IsSpelledChange c → AreItems (change_items c)
 change_spelled (Modify m s p) h = rw (no_block m s h.0) (record { line = modify_is_line m s p h.0; no_comment = refl; no_data = refl }, tt)
 change_spelled Clear h = (record { line = refl; no_comment = refl; no_data = refl }, tt)
-change_spelled (Remove p) h = absurd h
+change_spelled (Remove p) h = (record { line = printed_is_line (path_text p); no_comment = refl; no_data = refl }, tt)
 change_spelled (Copy p q) h = absurd h
 change_spelled (Rename p q) h = absurd h
 

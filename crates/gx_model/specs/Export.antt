@@ -69,20 +69,32 @@ carrier = codes "refs/gx/export"
 abbrev pub to_nothing : Bytes → Command
 to_nothing r = command.Reset (record { ref = r; parent = None })
 
--- the reset before a commit without parents
+-- the reset of its ref before a commit without parents
+abbrev pub reset_before : Bytes → List Commit → List Command
+reset_before r [] = to_nothing r ∷ []
+reset_before r (p ∷ ps) = []
+
+-- the reset of the carrier before such a commit
 abbrev pub root_reset : List Commit → List Command
-root_reset [] = to_nothing carrier ∷ []
-root_reset (p ∷ ps) = []
+root_reset ps = reset_before carrier ps
+
+-- what names the first parent
+abbrev pub first_by : (Commit → CommitIsh) → List Commit → Option CommitIsh
+first_by names [] = None
+first_by names (p ∷ ps) = Some (names p)
+
+-- what names the other parents
+abbrev pub others_by : (Commit → CommitIsh) → List Commit → List CommitIsh
+others_by names [] = []
+others_by names (p ∷ ps) = map names ps
 
 -- the mark of the first parent
 abbrev pub first_parent : List Value → List Commit → Option CommitIsh
-first_parent ws [] = None
-first_parent ws (p ∷ ps) = Some (marked_in ws (commit_value p))
+first_parent ws ps = first_by (λ p. marked_in ws (commit_value p)) ps
 
 -- the marks of the other parents
 abbrev pub other_parents : List Value → List Commit → List CommitIsh
-other_parents ws [] = []
-other_parents ws (p ∷ ps) = map (λ q. marked_in ws (commit_value q)) ps
+other_parents ws ps = others_by (λ q. marked_in ws (commit_value q)) ps
 
 -- what a file's line names: a mark, or a gitlink's digits
 abbrev pub dataref_in : List Value → Mode → Bytes → DataRef
@@ -93,19 +105,24 @@ dataref_in ws _ x = Mark (number_in ws (blob_value x))
 abbrev pub file_change : List Value → Path × Leaf Bytes → Change
 file_change ws e = Modify e.1.0 (dataref_in ws e.1.0 e.1.1) e.0
 
--- the command of a commit
-abbrev pub commit_command : List Value → Commit → Command
-commit_command ws c = command.Commit (record {
-  ref = carrier;
+-- a commit on a ref, by what names its parents, with these changes
+abbrev pub commit_on : Bytes → (Commit → CommitIsh) → List Change → List Value → Commit → Command
+commit_on r names changes ws c = command.Commit (record {
+  ref = r;
   mark = Some (suc (length ws));
   author = Some (text_of c).author;
   committer = (text_of c).committer;
   encoding = (text_of c).encoding;
   message = (text_of c).message;
-  parent = first_parent ws (list_of (parents_of c));
-  merges = other_parents ws (list_of (parents_of c));
-  changes = Clear ∷ map (file_change ws) (files_of c);
+  parent = first_by names (list_of (parents_of c));
+  merges = others_by names (list_of (parents_of c));
+  changes = changes;
 })
+
+-- the command of a commit
+abbrev pub commit_command : List Value → Commit → Command
+commit_command ws c =
+    commit_on carrier (λ p. marked_in ws (commit_value p)) (Clear ∷ map (file_change ws) (files_of c)) ws c
 
 -- its blobs, then itself
 abbrev pub with_commit : List Value → Commit → List Value
@@ -132,10 +149,14 @@ abbrev pub last_reset : List Commit → List Command
 last_reset [] = []
 last_reset (c ∷ cs) = to_nothing carrier ∷ []
 
+-- the command of a ref, by what names its commit
+abbrev pub ref_by : (Commit → CommitIsh) → Bytes × Target → Command
+ref_by names (r, at_commit c) = command.Reset (record { ref = r; parent = Some (names c) })
+ref_by names (r, at_tag t) = command.Tag (record { name = t.name; mark = None; target = names t.target; tagger = t.tagger; message = t.message })
+
 -- the command of a ref
 abbrev pub ref_command : List Value → Bytes × Target → Command
-ref_command ws (r, at_commit c) = command.Reset (record { ref = r; parent = Some (marked_in ws (commit_value c)) })
-ref_command ws (r, at_tag t) = command.Tag (record { name = t.name; mark = None; target = marked_in ws (commit_value t.target); tagger = t.tagger; message = t.message })
+ref_command ws r = ref_by (λ c. marked_in ws (commit_value c)) r
 
 -- the commands between `feature done` and `done`
 abbrev pub inner_commands : List Commit → List (Bytes × Target) → List Command
@@ -198,8 +219,8 @@ dataref_block (Inline x) = Data x ∷ []
 -- an export has no other changes
 abbrev pub change_items : Change → List Item
 change_items (Modify m s p) = word_line (codes "M") (mode_digits m ++ 32 ∷ dataref_text s ++ 32 ∷ printed (path_text p)) ∷ dataref_block s
+change_items (Remove p) = word_line (codes "D") (printed (path_text p)) ∷ []
 change_items Clear = Line (codes "deleteall") ∷ []
-change_items (Remove p) = []
 change_items (Copy p q) = []
 change_items (Rename p q) = []
 

@@ -1,3 +1,4 @@
+pub mod Changes
 pub mod Export
 pub mod Faults
 pub mod Histories

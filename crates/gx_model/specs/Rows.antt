@@ -1,4 +1,5 @@
 -- Worked rows: what the definitions give for texts that are spelled out. Each holds by computing.
+pub mod ChangesRows
 pub mod CommandShapeRows
 pub mod ExportRows
 pub mod FeatureRows

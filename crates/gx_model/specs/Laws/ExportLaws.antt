@@ -73,8 +73,8 @@ IsPath p = IsTrue (is_file_path p)
 -- a change that an export has
 abbrev pub IsSpelledChange : Change → Type 0
 IsSpelledChange (Modify m s p) = IsDataRef m s × IsPath p
+IsSpelledChange (Remove p) = IsPath p
 IsSpelledChange Clear = Unit {0}
-IsSpelledChange (Remove p) = ⊥
 IsSpelledChange (Copy p q) = ⊥
 IsSpelledChange (Rename p q) = ⊥
 

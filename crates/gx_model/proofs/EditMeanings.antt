@@ -93,10 +93,10 @@ rejoined [] p h = refl
 rejoined (c ∷ s) [] h = absurd h
 rejoined (c ∷ s) (d ∷ p) h = λ i. same_is c d (first _ _ h) i ∷ rejoined s p (second _ _ h) i
 
-found_first : (e : Path × Leaf Bytes) (es : FileMap Bytes) (p : Path) → p ≡ e.0 → is_some (file_at (e ∷ es) p) ≡ true
+pub found_first : (e : Path × Leaf Bytes) (es : FileMap Bytes) (p : Path) → p ≡ e.0 → is_some (file_at (e ∷ es) p) ≡ true
 found_first e es p h = ap (λ b. is_some (cond b (Some e.1) (file_at es p))) (is_true _ (subst (λ (q : Path). T (same_path p q)) h (path_same p)))
 
-found_later : (e : Path × Leaf Bytes) (es : FileMap Bytes) (p : Path) → is_some (file_at es p) ≡ true → is_some (file_at (e ∷ es) p) ≡ true
+pub found_later : (e : Path × Leaf Bytes) (es : FileMap Bytes) (p : Path) → is_some (file_at es p) ≡ true → is_some (file_at (e ∷ es) p) ≡ true
 found_later e es p h = elim (same_path p e.0) as (λ b. is_some (cond b (Some e.1) (file_at es p)) ≡ true) [ true ↦ refl | false ↦ h ]
 
 module _ (s d : Path) where

@@ -82,6 +82,7 @@ pub mod WordShapes
 pub mod TextShapes
 pub mod PathShapes
 pub mod PartShapes
+pub mod ChangedFiles
 pub mod ChangeShapes
 pub mod CommandReadings
 pub mod AskedFeatures

@@ -22,7 +22,7 @@ module _ {X : Type 0} where
       (below_chain p q es l (second (is_lt (path_cmp q e.0)) (below_all path_cmp q es) h))
 
   -- a path before all the others is none of them
-  none_below : (p : Path) (es : List (Path × X)) → T (below_all path_cmp p es) → file_at es p ≡ None
+  pub none_below : (p : Path) (es : List (Path × X)) → T (below_all path_cmp p es) → file_at es p ≡ None
   none_below p [] h = refl
   none_below p (e ∷ es) h =
       elim (same_path p e.0) as (λ b. same_path p e.0 ≡ b → cond b (Some e.1) (file_at es p) ≡ None) [

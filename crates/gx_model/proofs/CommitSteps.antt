@@ -8,17 +8,18 @@ use Rattle.std.specs.Map.{lookup}
 use Rattle.std.specs.Ordering.{ordering_reverse, is_lt}
 use Rattle.std.specs.Prelude.{IsTrue, T}
 use Rattle.std.specs.declared.cmp.Ordering.TheVariants.{Greater}
-use Rattle.gx_model.specs.Streams.Commands.{Command}
+use Rattle.gx_model.specs.Streams.Commands.{Change, Clear, Command, CommitIsh}
 use Rattle.gx_model.specs.Histories.Edits.{modified}
-use Rattle.gx_model.specs.Export.{blob_commands, carrier, commit_command, content_in, contents, dataref_in, file_change, marked_in, number_in, one_commit, root_reset, with_blobs, with_commit}
-use Rattle.gx_model.specs.Laws.ExportLaws.{numbered, state_at, steps, values_with_blobs, values_with_commit}
+use Rattle.gx_model.specs.Changes.{base_files}
+use Rattle.gx_model.specs.Export.{blob_commands, carrier, commit_on, content_in, contents, dataref_in, file_change, marked_in, number_in, one_commit, reset_before, with_blobs, with_commit}
+use Rattle.gx_model.specs.Laws.ExportLaws.{carried, nothing, numbered, state_at, steps, values_with_blobs, values_with_commit}
 use Rattle.gx_model.specs.Faults.{and_then}
 use Rattle.gx_model.specs.Histories.Files.{FileMap, are_apart, is_file_map}
-use Rattle.gx_model.specs.Histories.{IsIn, is_in, with_one, with_value}
+use Rattle.gx_model.specs.Histories.{History, IsIn, is_in, with_one, with_value}
 use Rattle.gx_model.specs.Texts.Paths.{Path, are_in_line, begins, is_file_path, path_cmp}
-use Rattle.gx_model.specs.Replay.{State, all_changed, all_committed, at, committed_for, content, ok_or_mark, step}
-use Rattle.gx_model.specs.Texts.{Bytes}
-use Rattle.gx_model.specs.Histories.Values.{Commit, Commits, Value, blob_value, commit, commit_value, commits_of, files_of, is_content, is_hex_digit, is_leaf, list_of, more, none, parents_of, same_value}
+use Rattle.gx_model.specs.Replay.{State, all_changed, all_committed, at, byte_cmp, committed_for, content, ok_or_mark, own_commit, step}
+use Rattle.gx_model.specs.Texts.{Bytes, same_bytes}
+use Rattle.gx_model.specs.Histories.Values.{Commit, Commits, Tag, Value, blob_value, commit, commit_value, commits_of, files_of, is_content, is_hex_digit, is_leaf, list_of, more, none, parents_of, same_value}
 use Rattle.gx_model.specs.declared.faults.Fault.{Fault}
 use Rattle.gx_model.specs.declared.objects.Kind.{Kind}
 use Rattle.gx_model.specs.declared.objects.Mode.{Mode}
@@ -29,6 +30,7 @@ use Rattle.gx_model.proofs.LowerDigits.{lower_again}
 use Rattle.gx_model.proofs.PathRuns.{less_is}
 use Rattle.gx_model.proofs.PathTests.{first, is_true, second}
 use Rattle.gx_model.proofs.SameValues.{value_is, value_same}
+use Rattle.gx_model.proofs.TextMaps.{lookup_put}
 use Rattle.gx_model.specs.Streams.Commands as command
 
 -- ---- numbers
@@ -127,6 +129,37 @@ module _ {X : Type 0} where
       let k = parts_of (before ++ ((c ∷ p), x) ∷ es) h in
       ap Ok (ap (put path_cmp (c ∷ p) x) (apart_from before ((c ∷ p), x) es k.apart) ∙ put_last before ((c ∷ p), x) es k.sorted)
 
+-- a branch's commit, or none
+abbrev pub Branches : Type 0
+Branches = List (Bytes × Option Commit)
+
+-- tags by their refs
+abbrev pub Tags : Type 0
+Tags = List (Bytes × Tag)
+
+-- A replay that began with a history: these were written, and these are its values, its branches and its tags.
+abbrev pub state_with : History → List Value → List Value → Branches → Tags → State
+state_with h ws vs bs ts = record {
+  history = record { values = vs; refs = h.refs };
+  kept = record { history = h; checkpoints = 0 };
+  published = [];
+  marks = numbered ws;
+  branches = bs;
+  tags = ts;
+  is_forced = false;
+  progress = [];
+  held = length h.values;
+}
+
+-- the branches after the reset before a commit with these parents
+abbrev pub begun_on : Bytes → List Commit → Branches → Branches
+begun_on r [] bs = put byte_cmp r None bs
+begun_on r (p ∷ ps) bs = bs
+
+-- and after the commit
+abbrev pub committed_on : Bytes → Commit → Branches → Branches
+committed_on r c bs = put byte_cmp r (Some c) (begun_on r (list_of (parents_of c)) bs)
+
 module _ (name : Kind → Bytes → Bytes) where
   pub steps-append : (s : State) (xs ys : List Command) → steps name s (xs ++ ys) ≡ and_then (steps name s xs) (λ t. steps name t ys)
   steps-append s [] ys = refl
@@ -135,81 +168,116 @@ module _ (name : Kind → Bytes → Bytes) where
     by again (Ok t) = again t
     by again (Err e) = refl
 
-  pub blobs_replayed : (ws vs : List Value) (b : Option (Option Commit)) (xs : List Bytes) → steps name (state_at ws vs b) (blob_commands ws xs) ≡ Ok (state_at (with_blobs ws xs) (values_with_blobs ws vs xs) b)
-  blobs_replayed ws vs b [] = refl
-  blobs_replayed ws vs b (x ∷ xs) =
-      let held = blobs_replayed ws vs b xs in
-      let new = blobs_replayed (blob_value x ∷ ws) (with_one vs (blob_value x)) b xs in
-      elim (is_in ws (blob_value x)) as (λ t. steps name (state_at ws vs b) (cond t (blob_commands ws xs) (command.Blob (record { mark = Some (suc (length ws)); bytes = x }) ∷ blob_commands (blob_value x ∷ ws) xs))
-      ≡ Ok (state_at (with_blobs (cond t ws (blob_value x ∷ ws)) xs) (cond t (values_with_blobs ws vs xs) (values_with_blobs (blob_value x ∷ ws) (with_one vs (blob_value x)) xs)) b)) [ true ↦ held | false ↦ new ]
+  pub steps_after : (s t : State) (xs ys : List Command) → steps name s xs ≡ Ok t → steps name s (xs ++ ys) ≡ steps name t ys
+  steps_after s t xs ys e = steps-append s xs ys ∙ ap (λ r. and_then r (λ u. steps name u ys)) e
+
+module _ (name : Kind → Bytes → Bytes) (h : History) (ts : Tags) where
+  -- the state of such a replay
+  abbrev at_now : List Value → List Value → Branches → State
+  at_now ws vs bs = state_with h ws vs bs ts
+
+  pub blobs_replayed : (ws vs : List Value) (bs : Branches) (xs : List Bytes) → steps name (at_now ws vs bs) (blob_commands ws xs) ≡ Ok (at_now (with_blobs ws xs) (values_with_blobs ws vs xs) bs)
+  blobs_replayed ws vs bs [] = refl
+  blobs_replayed ws vs bs (x ∷ xs) =
+      let held = blobs_replayed ws vs bs xs in
+      let new = blobs_replayed (blob_value x ∷ ws) (with_one vs (blob_value x)) bs xs in
+      elim (is_in ws (blob_value x)) as (λ t. steps name (at_now ws vs bs) (cond t (blob_commands ws xs) (command.Blob (record { mark = Some (suc (length ws)); bytes = x }) ∷ blob_commands (blob_value x ∷ ws) xs))
+      ≡ Ok (at_now (with_blobs (cond t ws (blob_value x ∷ ws)) xs) (cond t (values_with_blobs ws vs xs) (values_with_blobs (blob_value x ∷ ws) (with_one vs (blob_value x)) xs)) bs)) [ true ↦ held | false ↦ new ]
 
   -- ---- parents
 
-  mark_gives : (ws vs : List Value) (b : Option (Option Commit)) (v : Value) → IsIn ws v → at (state_at ws vs b) (number_in ws v) ≡ Ok v
-  mark_gives ws vs b v h = ap ok_or_mark (number_found ws v h)
+  mark_gives : (ws vs : List Value) (bs : Branches) (v : Value) → IsIn ws v → at (at_now ws vs bs) (number_in ws v) ≡ Ok v
+  mark_gives ws vs bs v k = ap ok_or_mark (number_found ws v k)
 
-  parent_given : (ws vs : List Value) (b : Option (Option Commit)) (p : Commit) → IsIn ws (commit_value p) → committed_for name carrier (state_at ws vs b) (marked_in ws (commit_value p)) ≡ Ok p
-  parent_given ws vs b p h = rw (mark_gives ws vs b (commit_value p) h) refl
+  -- these texts name these commits, for a command of a branch
+  abbrev pub AreNamed : Bytes → (Commit → CommitIsh) → State → List Commit → Type 0
+  AreNamed r names s ps = AllByRecursion (λ p. committed_for name r s (names p) ≡ Ok p) ps
 
-  others_given : (ws vs : List Value) (b : Option (Option Commit)) (ps : List Commit) → AllByRecursion (λ p. IsIn ws (commit_value p)) ps → all_committed name carrier (state_at ws vs b) (map (λ q. marked_in ws (commit_value q)) ps) ≡ Ok ps
-  others_given ws vs b [] h = refl
-  others_given ws vs b (p ∷ ps) h = rw (parent_given ws vs b p h.0, others_given ws vs b ps h.1) refl
+  -- marks name what was written
+  pub marks_name : (r : Bytes) (ws vs : List Value) (bs : Branches) (ps : List Commit) → AllByRecursion (λ p. IsIn ws (commit_value p)) ps → AreNamed r (λ p. marked_in ws (commit_value p)) (at_now ws vs bs) ps
+  marks_name r ws vs bs [] k = tt
+  marks_name r ws vs bs (p ∷ ps) k = (rw (mark_gives ws vs bs (commit_value p) k.0) refl, marks_name r ws vs bs ps k.1)
+
+  others_given : (r : Bytes) (names : Commit → CommitIsh) (s : State) (ps : List Commit) → AreNamed r names s ps → all_committed name r s (map names ps) ≡ Ok ps
+  others_given r names s [] k = refl
+  others_given r names s (p ∷ ps) k = rw (k.0, others_given r names s ps k.1) refl
 
   -- ---- files
 
-  content_given : (ws vs : List Value) (b : Option (Option Commit)) (m : Mode) (x : Bytes) → T (is_leaf m x) → AllByRecursion (λ y. IsIn ws (blob_value y)) (cons_option (content_in m x) []) → content name (state_at ws vs b) m (dataref_in ws m x) ≡ Ok (state_at ws vs b, x)
-  content_given ws vs b File x l h = rw (mark_gives ws vs b (blob_value x) h.0) refl
-  content_given ws vs b Exec x l h = rw (mark_gives ws vs b (blob_value x) h.0) refl
-  content_given ws vs b Link x l h = rw (mark_gives ws vs b (blob_value x) h.0) refl
-  content_given ws vs b Dir x l h = absurd l
-  content_given ws vs b Gitlink x l h = ap (λ d. Ok (state_at ws vs b, d)) (lower_again x (second (nat_eq (length x) 40) (list_all is_hex_digit x) l))
+  pub content_given : (ws vs : List Value) (bs : Branches) (m : Mode) (x : Bytes) → T (is_leaf m x) → AllByRecursion (λ y. IsIn ws (blob_value y)) (cons_option (content_in m x) []) → content name (at_now ws vs bs) m (dataref_in ws m x) ≡ Ok (at_now ws vs bs, x)
+  content_given ws vs bs File x l k = rw (mark_gives ws vs bs (blob_value x) k.0) refl
+  content_given ws vs bs Exec x l k = rw (mark_gives ws vs bs (blob_value x) k.0) refl
+  content_given ws vs bs Link x l k = rw (mark_gives ws vs bs (blob_value x) k.0) refl
+  content_given ws vs bs Dir x l k = absurd l
+  content_given ws vs bs Gitlink x l k = ap (λ d. Ok (at_now ws vs bs, d)) (lower_again x (second (nat_eq (length x) 40) (list_all is_hex_digit x) l))
 
-  files_given : (ws vs : List Value) (b : Option (Option Commit)) (before es : FileMap Bytes) → is_file_map (before ++ es) ≡ true → T (are_leaves es) → AllByRecursion (λ y. IsIn ws (blob_value y)) (contents es)
-      → all_changed name (state_at ws vs b) before (map (file_change ws) es) ≡ Ok (state_at ws vs b, before ++ es)
-  files_given ws vs b before [] h l k = ap (λ f. Ok (state_at ws vs b, f)) (sym (append-nil before))
-  files_given ws vs b before (e ∷ es) h l k =
-      let again = files_given ws vs b (before ++ e ∷ []) es (ap is_file_map (append_assoc before (e ∷ []) es) ∙ h) (second (is_leaf e.1.0 e.1.1) _ l) (rest_of (λ y. IsIn ws (blob_value y)) (content_in e.1.0 e.1.1) (contents es) k) in
-      let given = content_given ws vs b e.1.0 e.1.1 (first (is_leaf e.1.0 e.1.1) _ l) (front_of (λ y. IsIn ws (blob_value y)) (content_in e.1.0 e.1.1) (contents es) k) in
-      rw given (rw (placed before e es h) again) ∙ ap (λ f. Ok (state_at ws vs b, f)) (append_assoc before (e ∷ []) es)
+  files_given : (ws vs : List Value) (bs : Branches) (before es : FileMap Bytes) → is_file_map (before ++ es) ≡ true → T (are_leaves es) → AllByRecursion (λ y. IsIn ws (blob_value y)) (contents es)
+      → all_changed name (at_now ws vs bs) before (map (file_change ws) es) ≡ Ok (at_now ws vs bs, before ++ es)
+  files_given ws vs bs before [] f l k = ap (λ g. Ok (at_now ws vs bs, g)) (sym (append-nil before))
+  files_given ws vs bs before (e ∷ es) f l k =
+      let again = files_given ws vs bs (before ++ e ∷ []) es (ap is_file_map (append_assoc before (e ∷ []) es) ∙ f) (second (is_leaf e.1.0 e.1.1) _ l) (rest_of (λ y. IsIn ws (blob_value y)) (content_in e.1.0 e.1.1) (contents es) k) in
+      let given = content_given ws vs bs e.1.0 e.1.1 (first (is_leaf e.1.0 e.1.1) _ l) (front_of (λ y. IsIn ws (blob_value y)) (content_in e.1.0 e.1.1) (contents es) k) in
+      rw given (rw (placed before e es f) again) ∙ ap (λ g. Ok (at_now ws vs bs, g)) (append_assoc before (e ∷ []) es)
 
   -- ---- the commit
 
-  abbrev AllIn : List Value → List Commit → Type 0
-  AllIn ws ps = AllByRecursion (λ p. IsIn ws (commit_value p)) ps
-
-  commit_replayed : (ws vs : List Value) (b : Option (Option Commit)) (c : Commit) → T (is_content (files_of c)) → AllIn ws (list_of (parents_of c)) → AllByRecursion (λ y. IsIn ws (blob_value y)) (contents (files_of c))
-      → (list_of (parents_of c) ≡ [] → b ≡ Some None)
-      → step name (state_at ws vs b) (commit_command ws c) ≡ Ok (state_at (commit_value c ∷ ws) (with_value vs (commit_value c)) (Some (Some c)))
-  commit_replayed ws vs b (commit f none t) h k g r =
-      subst (λ b. step name (state_at ws vs b) (commit_command ws (commit f none t)) ≡ Ok (state_at (commit_value (commit f none t) ∷ ws) (with_value vs (commit_value (commit f none t))) (Some (Some (commit f none t))))) (sym (r refl))
-      (rw (files_given ws vs (Some None) [] f (map_of f h) (leaves_of f h) g) refl)
-  commit_replayed ws vs None (commit f (more p ps) t) h k g r =
-      rw (parent_given ws vs None p k.0, others_given ws vs None (list_of ps) k.1, files_given ws vs None [] f (map_of f h) (leaves_of f h) g, commits_again ps) refl
-  commit_replayed ws vs (Some x) (commit f (more p ps) t) h k g r =
-      rw (parent_given ws vs (Some x) p k.0, others_given ws vs (Some x) (list_of ps) k.1, files_given ws vs (Some x) [] f (map_of f h) (leaves_of f h) g, commits_again ps) refl
+  -- A commit whose parents are named, whose changes make its files of its first parent's, and whose branch has no commit if it has no parent.
+  pub commit_replayed : (r : Bytes) (names : Commit → CommitIsh) (changes : List Change) (ws vs : List Value) (bs : Branches) (c : Commit) → AreNamed r names (at_now ws vs bs) (list_of (parents_of c))
+      → all_changed name (at_now ws vs bs) (base_files (list_of (parents_of c))) changes ≡ Ok (at_now ws vs bs, files_of c) → (list_of (parents_of c) ≡ [] → own_commit (lookup (same_bytes r) bs) ≡ None)
+      → step name (at_now ws vs bs) (commit_on r names changes ws c) ≡ Ok (at_now (commit_value c ∷ ws) (with_value vs (commit_value c)) (put byte_cmp r (Some c) bs))
+  commit_replayed r names changes ws vs bs (commit f none t) k g n = rw (n refl, g) refl
+  commit_replayed r names changes ws vs bs (commit f (more p ps) t) k g n = rw (k.0, others_given r names (at_now ws vs bs) (list_of ps) k.1, g, commits_again ps) refl
 
   alone : (r : Result State Fault) → and_then r (λ t. steps name t []) ≡ r
   alone (Ok t) = refl
   alone (Err e) = refl
 
-  reset_replayed : (ws vs : List Value) (b : Option (Option Commit)) (rest : List Command) → steps name (state_at ws vs b) (root_reset [] ++ rest) ≡ steps name (state_at ws vs (Some None)) rest
-  reset_replayed ws vs None rest = refl
-  reset_replayed ws vs (Some x) rest = refl
+  reset_replayed : (r : Bytes) (ps : List Commit) (ws vs : List Value) (bs : Branches) (rest : List Command) → steps name (at_now ws vs bs) (reset_before r ps ++ rest) ≡ steps name (at_now ws vs (begun_on r ps bs)) rest
+  reset_replayed r [] ws vs bs rest = refl
+  reset_replayed r (p ∷ ps) ws vs bs rest = refl
 
-  all_still : (ws : List Value) (xs : List Bytes) (ps : List Commit) → AllIn ws ps → AllIn (with_blobs ws xs) ps
+  none_begun : (r : Bytes) (ps : List Commit) (bs : Branches) → ps ≡ [] → own_commit (lookup (same_bytes r) (begun_on r ps bs)) ≡ None
+  none_begun r [] bs e = ap own_commit (lookup_put r None bs)
+  none_begun r (p ∷ ps) bs e = absurd cc
+
+  -- The blobs of a commit, the reset before it, and itself.
+  pub block_replayed : (r : Bytes) (names : Commit → CommitIsh) (changes : List Change) (ws vs : List Value) (bs : Branches) (xs : List Bytes) (c : Commit)
+      → (let us = with_blobs ws xs in let s = at_now us (values_with_blobs ws vs xs) (begun_on r (list_of (parents_of c)) bs) in
+      AreNamed r names s (list_of (parents_of c)) × (all_changed name s (base_files (list_of (parents_of c))) changes ≡ Ok (s, files_of c)))
+      → steps name (at_now ws vs bs) (blob_commands ws xs ++ (reset_before r (list_of (parents_of c)) ++ (commit_on r names changes (with_blobs ws xs) c ∷ [])))
+      ≡ Ok (at_now (commit_value c ∷ with_blobs ws xs) (with_value (values_with_blobs ws vs xs) (commit_value c)) (committed_on r c bs))
+  block_replayed r names changes ws vs bs xs c k =
+      let us = with_blobs ws xs in
+      let ps = list_of (parents_of c) in
+      let end = reset_before r ps ++ (commit_on r names changes us c ∷ []) in
+      steps_after name (at_now ws vs bs) (at_now us (values_with_blobs ws vs xs) bs) (blob_commands ws xs) end (blobs_replayed ws vs bs xs)
+      ∙ reset_replayed r ps us (values_with_blobs ws vs xs) bs (commit_on r names changes us c ∷ []) ∙ alone _
+      ∙ commit_replayed r names changes us (values_with_blobs ws vs xs) (begun_on r ps bs) c k.0 k.1 (λ e. none_begun r ps bs e)
+
+module _ (name : Kind → Bytes → Bytes) where
+  abbrev AllIn : List Value → List Commit → Type 0
+  AllIn ws ps = AllByRecursion (λ p. IsIn ws (commit_value p)) ps
+
+  pub all_still : (ws : List Value) (xs : List Bytes) (ps : List Commit) → AllIn ws ps → AllIn (with_blobs ws xs) ps
   all_still ws xs [] h = tt
   all_still ws xs (p ∷ ps) h = (blobs_keep ws xs (commit_value p) h.0, all_still ws xs ps h.1)
 
-  last_replayed : (ws vs : List Value) (b : Option (Option Commit)) (c : Commit) → T (is_content (files_of c)) → AllIn ws (list_of (parents_of c)) → AllByRecursion (λ y. IsIn ws (blob_value y)) (contents (files_of c))
-      → steps name (state_at ws vs b) (root_reset (list_of (parents_of c)) ++ (commit_command ws c ∷ [])) ≡ Ok (state_at (commit_value c ∷ ws) (with_value vs (commit_value c)) (Some (Some c)))
-  last_replayed ws vs b (commit f none t) h k g =
-      reset_replayed ws vs b (commit_command ws (commit f none t) ∷ []) ∙ alone _ ∙ commit_replayed ws vs (Some None) (commit f none t) h k g (λ _. refl)
-  last_replayed ws vs b (commit f (more p ps) t) h k g = alone _ ∙ commit_replayed ws vs b (commit f (more p ps) t) h k g (λ e. absurd cc)
+  one_carried : (b : Option (Option Commit)) (c : Commit) → committed_on carrier c (carried b) ≡ carried (Some (Some c))
+  one_carried None (commit f none t) = refl
+  one_carried (Some x) (commit f none t) = refl
+  one_carried None (commit f (more p ps) t) = refl
+  one_carried (Some x) (commit f (more p ps) t) = refl
 
   pub one_commit_replayed : (ws vs : List Value) (b : Option (Option Commit)) (c : Commit) → IsTrue (is_content (files_of c)) → AllByRecursion (λ p. IsIn ws (commit_value p)) (list_of (parents_of c))
       → steps name (state_at ws vs b) (one_commit ws c) ≡ Ok (state_at (with_commit ws c) (values_with_commit ws vs c) (Some (Some c)))
   one_commit_replayed ws vs b c h k =
       let xs = contents (files_of c) in
-      let end = root_reset (list_of (parents_of c)) ++ (commit_command (with_blobs ws xs) c ∷ []) in
-      steps-append (state_at ws vs b) (blob_commands ws xs) end ∙ ap (λ r. and_then r (λ t. steps name t end)) (blobs_replayed ws vs b xs)
-      ∙ last_replayed (with_blobs ws xs) (values_with_blobs ws vs xs) b c (passes _ h) (all_still ws xs (list_of (parents_of c)) k) (blobs_have ws xs)
+      let ps = list_of (parents_of c) in
+      let us = with_blobs ws xs in
+      let now = values_with_blobs ws vs xs in
+      let bs = begun_on carrier ps (carried b) in
+      block_replayed name nothing [] carrier (λ p. marked_in us (commit_value p)) (Clear ∷ map (file_change us) (files_of c)) ws vs (carried b) xs c (
+        marks_name name nothing [] carrier us now bs ps (all_still ws xs ps k),
+        files_given name nothing [] us now bs [] (files_of c) (map_of (files_of c) (passes _ h)) (leaves_of (files_of c) (passes _ h)) (blobs_have ws xs),
+      )
+      ∙ ap (λ cs. Ok (state_with nothing (with_commit ws c) (values_with_commit ws vs c) cs [])) (one_carried b c)

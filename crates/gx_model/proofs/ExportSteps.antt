@@ -1,7 +1,7 @@
 -- The commands of an export are replayed without a fault, and what they give.
 use Rattle.std.proofs.Common.{◌≡◌, ℕ, suc, ◌+◌, true, false, cond, Option, Some, None, Result, Ok, Err, List, [], ◌∷◌, ◌++◌, length, map, refl, sym, ap, subst, ◌∙◌, arith, append-nil, append_assoc, inl, inr, ◌-◌}
 use Rattle.std.specs.Bool.{passes}
-use Rattle.std.specs.FinMap.Entries.{is_sorted}
+use Rattle.std.specs.FinMap.Entries.{find, is_sorted}
 use Rattle.std.specs.List.{list_all, filter_map, fold, AllByRecursion}
 use Rattle.std.specs.Ordering.{eq_by_cmp}
 use Rattle.std.specs.Prelude.{T}
@@ -17,11 +17,11 @@ use Rattle.gx_model.specs.Texts.{Bytes}
 use Rattle.gx_model.specs.Histories.Values.{Commit, Value, commit_value, files_of, is_content, is_proper, is_proper_text, list_of, parents_of, text_of}
 use Rattle.gx_model.specs.declared.faults.Fault.{Fault}
 use Rattle.gx_model.specs.declared.objects.Kind.{Kind}
-use Rattle.gx_model.proofs.CommitSteps.{one_commit_replayed, steps-append}
+use Rattle.gx_model.proofs.CommitSteps.{Branches, one_commit_replayed, state_with, steps-append, steps_after}
 use Rattle.gx_model.proofs.KeptCommits.{FollowsAll, all_in, among, any_from, commit_keeps, each_one, one_of_all, reached_held}
 use Rattle.gx_model.proofs.LinkedValues.{proper_in}
 use Rattle.gx_model.proofs.PathTests.{first, is_true}
-use Rattle.gx_model.proofs.PublishedRefs.{ArePeeled, Branches, Refs, all_peeled, at_branch, looked, ref_branches, ref_tags, ref_values, refs_held, refs_replayed, same_refs, state_with}
+use Rattle.gx_model.proofs.PublishedRefs.{ArePeeled, HasNoOther, Refs, all_peeled, at_branch, ref_branches, ref_tags, ref_values, refs_held, refs_replayed, same_refs}
 use Rattle.gx_model.proofs.ReachedValues.{all_pass, all_reached, commits_reached, follows, one_filter, target_held}
 use Rattle.gx_model.specs.Streams.Commands as command
 use Rattle.gx_model.specs.declared.faults.Fault.TheVariants as faults
@@ -77,7 +77,7 @@ abbrev after_reset : List Commit → Option (Option Commit)
 after_reset [] = None
 after_reset (c ∷ cs) = Some None
 
-no_branch : (q : Bytes) (cs : List Commit) → looked q (carried (after_reset cs)) [] ≡ None
+no_branch : (q : Bytes) (cs : List Commit) → at_branch (find byte_cmp q (carried (after_reset cs))) ≡ None
 no_branch q [] = refl
 no_branch q (c ∷ cs) = elim (eq_by_cmp byte_cmp q carrier) as (λ t. at_branch (cond t (Some None) None) ≡ None) [ true ↦ refl | false ↦ refl ]
 
@@ -118,32 +118,28 @@ module _ (name : Kind → Bytes → Bytes) where
   last_reset_replayed ws vs [] rest = refl
   last_reset_replayed ws vs (c ∷ cs) rest = any_reset ws vs (last_carried (Some (Some c)) cs) rest
 
-  pub export_replayed : (h : History) → IsHistory h → (k : History) × IsAgain h k × (replayed name 0 (start nothing) (export_commands h) None ≡ finished k [] (exported_report h k))
-  export_replayed h x =
+  -- what stands after the commits and the refs of an export, where these were the branches after the commits
+  abbrev pub after_refs : History → Branches → State
+  after_refs h bs = let cs = reached_commits h in state_with nothing (all_written cs) (ref_values (values_after [] [] cs) h.refs) (ref_branches bs h.refs) (ref_tags [] h.refs)
+
+  -- Commands that lead to that state end with the refs of the history and all that they reach.
+  pub ends_again : (h : History) → IsHistory h → (bs : Branches) → T (is_sorted byte_cmp bs) → HasNoOther bs h.refs → (commands : List Command) → steps name (start nothing) commands ≡ Ok (after_refs h bs)
+      → (k : History) × IsAgain h k × (replayed name 0 (start nothing) commands None ≡ finished k [] (record { commands = length commands; objects = length k.values; refs = length h.refs }))
+  ends_again h x bs sorted others commands all =
       let cs = reached_commits h in
-      let f = all_follow h x in
       let ws = all_written cs in
       let vs = values_after [] [] cs in
-      let held = commits_keep [] [] [] cs none_held f in
-      let peeled = peeled_ones h x in
-      let after = refs_held vs h.refs held.whole (all_peeled ws vs held.written h.refs peeled) (proper_refs h x) in
+      let held = commits_keep [] [] [] cs none_held (all_follow h x) in
+      let after = refs_held vs h.refs held.whole (all_peeled ws vs held.written h.refs (peeled_ones h x)) (proper_refs h x) in
       let us = ref_values vs h.refs in
-      let first_branches = carried (after_reset cs) in
-      let t = state_with ws us (ref_branches first_branches h.refs) (ref_tags [] h.refs) in
-      let ref_part = map (ref_command ws) h.refs in
-      let inner : steps name (state_at [] [] None) (inner_commands cs h.refs) ≡ Ok t =
-      steps-append name (state_at [] [] None) (commit_commands [] cs) (last_reset cs ++ ref_part)
-      ∙ ap (λ r. and_then r (λ u. steps name u (last_reset cs ++ ref_part))) (commits_replayed name [] [] None [] cs none_held f)
-      ∙ last_reset_replayed ws vs cs ref_part ∙ refs_replayed name ws vs first_branches [] h.refs x.own peeled in
-      let all : steps name (start nothing) (export_commands h) ≡ Ok t =
-      steps-append name (state_at [] [] None) (inner_commands cs h.refs) (command.Done ∷ []) ∙ ap (λ r. and_then r (λ u. steps name u (command.Done ∷ []))) inner in
-      let forward : is_fast_forward t ≡ true = all_forward us (ref_branches first_branches h.refs) in
+      let t = after_refs h bs in
+      let forward : is_fast_forward t ≡ true = all_forward us (ref_branches bs h.refs) in
       let whole : IsWhole h.values = record { closed = x.closed; proper = x.proper } in
       let only : (u : Value) → IsIn us u → IsReached h u = λ u j. elim (after.only u j) [ inl k ↦ commits_reached h.refs cs u (all_pass (is_reached h.refs) (filter_map commit_of h.values)) (held.only u k) | inr r ↦ r ] in
-      let same : final_refs t ≡ h.refs = same_refs h.refs first_branches (passes _ x.sorted) (carried_sorted cs) (λ q. no_branch q cs) in
-      let n : 0 + length (export_commands h) ≡ length (export_commands h) = omega arith in
+      let same : final_refs t ≡ h.refs = same_refs h.refs bs (passes _ x.sorted) sorted others in
+      let n : 0 + length commands ≡ length commands = omega arith in
       let made : length us - 0 ≡ length us = omega arith in
-      let told : report (0 + length (export_commands h)) t ≡ exported_report h (final t) = λ i. record { commands = n i; objects = made i; refs = length (same i) } in (
+      let told : report (0 + length commands) t ≡ record { commands = length commands; objects = length us; refs = length h.refs } = λ i. record { commands = n i; objects = made i; refs = length (same i) } in (
         final t,
         record {
           refs = same;
@@ -153,7 +149,7 @@ module _ (name : Kind → Bytes → Bytes) where
           all = λ u r. let a = any_from (map (λ r. value_at r.1) h.refs) u r in reached_held us after.whole a.0 u a.2 (all_in (IsIn us) (map (λ r. value_at r.1) h.refs) a.0 (targets (IsIn us) h.refs after.has) a.1);
           whole = after.whole;
         },
-        all_replayed name 0 (start nothing) t (export_commands h) all ∙ ap (λ b. cond b (finished (final t) [] (report (0 + length (export_commands h)) t)) (refused (0 + length (export_commands h) + 1) faults.NotFastForward [] t.kept)) forward ∙ ap (finished (final t) []) told,
+        all_replayed name 0 (start nothing) t commands all ∙ ap (λ b. cond b (finished (final t) [] (report (0 + length commands) t)) (refused (0 + length commands + 1) faults.NotFastForward [] t.kept)) forward ∙ ap (finished (final t) []) told,
       )
     where
       targets : (P : Value → Type 0) (rs : Refs) → AllByRecursion (λ r. P (value_at r.1)) rs → AllByRecursion P (map (λ r. value_at r.1) rs)
@@ -161,3 +157,15 @@ module _ (name : Kind → Bytes → Bytes) where
         by : (rs : Refs) → AllByRecursion (λ r. P (value_at r.1)) rs → AllByRecursion P (map (λ r. value_at r.1) rs)
         by [] g = tt
         by (r ∷ rs) g = (g.0, by rs g.1)
+
+  pub export_replayed : (h : History) → IsHistory h → (k : History) × IsAgain h k × (replayed name 0 (start nothing) (export_commands h) None ≡ finished k [] (exported_report h k))
+  export_replayed h x =
+      let cs = reached_commits h in
+      let ws = all_written cs in
+      let vs = values_after [] [] cs in
+      let bs = carried (after_reset cs) in
+      let ref_part = map (ref_command ws) h.refs in
+      let inner : steps name (state_at [] [] None) (inner_commands cs h.refs) ≡ Ok (after_refs h bs) =
+      steps_after name (state_at [] [] None) (state_at ws vs (last_carried None cs)) (commit_commands [] cs) (last_reset cs ++ ref_part) (commits_replayed name [] [] None [] cs none_held (all_follow h x))
+      ∙ last_reset_replayed ws vs cs ref_part ∙ refs_replayed name nothing ws vs bs [] h.refs x.own (peeled_ones h x) in
+      ends_again h x bs (carried_sorted cs) (λ q _. no_branch q cs) (export_commands h) (steps_after name (state_at [] [] None) (after_refs h bs) (inner_commands cs h.refs) (command.Done ∷ []) inner)

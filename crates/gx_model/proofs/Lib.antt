@@ -53,6 +53,7 @@ pub mod CommandFields
 pub mod CommandItems
 pub mod SpelledItems
 pub mod LowerDigits
+pub mod TextMaps
 pub mod CommitSteps
 pub mod KeptCommits
 pub mod PublishedRefs

@@ -1,43 +1,23 @@
 -- The commands of an export's refs are replayed, and the refs are what they were.
-use Rattle.std.proofs.Common.{◌≡◌, true, false, cond, Option, Some, None, Ok, List, [], ◌∷◌, ◌++◌, map, refl, sym, ap, subst, ◌∙◌, append-nil, append_assoc, inl, inr}
-use Rattle.std.proofs.lemmas.Map.Text.{is_eq-slice_cmp}
-use Rattle.std.proofs.lemmas.Slice.Eq.{bytes_eq-Decides}
-use Rattle.std.specs.Cmp.{IsTotalOrder}
-use Rattle.std.specs.Cmp.Lexicographic.{nat_list_cmp_total}
-use Rattle.std.specs.FinMap.Entries.{put, find, is_sorted, below_all, is_sorted-put, find-put, find_tied, find-append, same_entries}
+use Rattle.std.proofs.Common.{◌≡◌, true, false, cond, Option, Some, None, Ok, List, [], ◌∷◌, ◌++◌, map, refl, sym, ap, subst, ◌∙◌, inl, inr}
+use Rattle.std.specs.FinMap.Entries.{put, find, is_sorted, below_all, is_sorted-put, find-put, find_tied, same_entries}
 use Rattle.std.specs.List.{filter_map, fold, AllByRecursion}
-use Rattle.std.specs.Ordering.{ordering_reverse, is_lt, is_eq, eq_by_cmp}
+use Rattle.std.specs.Ordering.{eq_by_cmp}
 use Rattle.std.specs.Prelude.{T, ◌⊎◌}
-use Rattle.std.specs.declared.cmp.Ordering.TheVariants.{Less, Equal, Greater}
 use Rattle.gx_model.specs.Export.{ref_command}
-use Rattle.gx_model.specs.Laws.ExportLaws.{AnyReaches, numbered, steps}
-use Rattle.gx_model.specs.Histories.{IsIn, IsRefOf, IsWhole, Reaches, Target, at_commit, at_tag, itself, value_at, with_one}
+use Rattle.gx_model.specs.Laws.ExportLaws.{AnyReaches, steps}
+use Rattle.gx_model.specs.Histories.{History, IsIn, IsRefOf, IsWhole, Reaches, Target, at_commit, at_tag, itself, value_at, with_one}
 use Rattle.gx_model.specs.Laws.HistoryLaws.{IsAdded}
 use Rattle.gx_model.specs.Revisions.Ranges.{commit_of}
-use Rattle.gx_model.specs.Replay.{State, byte_cmp, peeled_at, with_branch}
+use Rattle.gx_model.specs.Replay.{byte_cmp, peeled_at, with_branch}
 use Rattle.gx_model.specs.Texts.{Bytes}
 use Rattle.gx_model.specs.Histories.Values.{Commit, Tag, Value, commit_value, is_proper, tag_value}
 use Rattle.gx_model.specs.declared.objects.Kind.{Kind}
 use Rattle.gx_model.proofs.AddedValues.{keeps, one_added}
-use Rattle.gx_model.proofs.CommitSteps.{number_found}
+use Rattle.gx_model.proofs.CommitSteps.{Branches, Tags, number_found, state_with}
 use Rattle.gx_model.proofs.KeptCommits.{one_only, order_one}
-use Rattle.gx_model.proofs.PathRuns.{less_is}
-use Rattle.gx_model.proofs.PathTests.{first, is_true, second}
-
-same_text : (x y : Bytes) → byte_cmp x y ≡ Equal → x ≡ y
-same_text x y e = (bytes_eq-Decides x y).0 (sym (is_eq-slice_cmp x y) ∙ ap is_eq e)
-
-order : IsTotalOrder byte_cmp
-order = nat_list_cmp_total
-
-less_apart : (o : _) → is_lt o ≡ true → is_eq o ≡ false
-less_apart Less e = refl
-less_apart Equal e = absurd cc
-less_apart Greater e = absurd cc
-
-none_below : {X : Type 0} (q : Bytes) (es : List (Bytes × X)) → T (below_all byte_cmp q es) → find byte_cmp q es ≡ None
-none_below q [] h = refl
-none_below q (e ∷ es) h = ap (λ t. cond t (Some e.1) (find byte_cmp q es)) (less_apart (byte_cmp q e.0) (is_true _ (first _ _ h))) ∙ none_below q es (second _ _ h)
+use Rattle.gx_model.proofs.PathTests.{first, second}
+use Rattle.gx_model.proofs.TextMaps.{none_below, order, same_text, tied}
 
 abbrev pub at_branch : Option (Option Commit) → Option Target
 at_branch None = None
@@ -48,42 +28,12 @@ abbrev at_either : Option Tag → Option Target → Option Target
 at_either None o = o
 at_either (Some t) o = Some (at_tag t)
 
-abbrev pub Branches : Type 0
-Branches = List (Bytes × Option Commit)
-
-abbrev pub Tags : Type 0
-Tags = List (Bytes × Tag)
-
 abbrev pub Refs : Type 0
 Refs = List (Bytes × Target)
 
 -- what ref q gets from these branches and tags
 abbrev pub looked : Bytes → Branches → Tags → Option Target
 looked q bs ts = at_either (find byte_cmp q ts) (at_branch (find byte_cmp q bs))
-
-tied : (q n : Bytes) → eq_by_cmp byte_cmp q n ≡ true → byte_cmp q n ≡ Equal
-tied q n e = by (byte_cmp q n) e where
-  by : (r : _) → is_eq r ≡ true → r ≡ Equal
-  by Equal e = refl
-  by Less e = absurd cc
-  by Greater e = absurd cc
-
-no_tag : (o : Option Tag) (p : Option Target) → at_either o p ≡ None → o ≡ None
-no_tag None p e = refl
-no_tag (Some t) p e = absurd cc
-
-looked_branch : (q n : Bytes) (c : Commit) (bs : Branches) (ts : Tags) → looked n bs ts ≡ None → looked q (put byte_cmp n (Some c) bs) ts ≡ cond (eq_by_cmp byte_cmp q n) (Some (at_commit c)) (looked q bs ts)
-looked_branch q n c bs ts e =
-    ap (λ o. at_either (find byte_cmp q ts) (at_branch o)) (find-put byte_cmp order q n (Some c) bs)
-    ∙ elim (eq_by_cmp byte_cmp q n) as (λ t. eq_by_cmp byte_cmp q n ≡ t → at_either (find byte_cmp q ts) (at_branch (cond t (Some (Some c)) (find byte_cmp q bs))) ≡ cond t (Some (at_commit c)) (looked q bs ts)) [
-      | true ↦ λ t. ap (λ o. at_either o (Some (at_commit c))) (sym (find_tied byte_cmp order q n (tied q n t) ts) ∙ no_tag (find byte_cmp n ts) (at_branch (find byte_cmp n bs)) e)
-      | false ↦ λ t. refl
-    ] refl
-
-looked_tag : (q n : Bytes) (v : Tag) (bs : Branches) (ts : Tags) → looked q bs (put byte_cmp n v ts) ≡ cond (eq_by_cmp byte_cmp q n) (Some (at_tag v)) (looked q bs ts)
-looked_tag q n v bs ts =
-    ap (λ o. at_either o (at_branch (find byte_cmp q bs))) (find-put byte_cmp order q n v ts)
-    ∙ elim (eq_by_cmp byte_cmp q n) as (λ t. at_either (cond t (Some v) (find byte_cmp q ts)) (at_branch (find byte_cmp q bs)) ≡ cond t (Some (at_tag v)) (looked q bs ts)) [ true ↦ refl | false ↦ refl ]
 
 tags_found : (q : Bytes) (rs : Refs) (ts : Tags) → T (is_sorted byte_cmp ts) → find byte_cmp q (fold (λ rs t. put byte_cmp t.0 (at_tag t.1) rs) rs ts) ≡ at_either (find byte_cmp q ts) (find byte_cmp q rs)
 tags_found q rs [] h = refl
@@ -122,34 +72,7 @@ tags_sorted : (rs : Refs) (ts : Tags) → T (is_sorted byte_cmp rs) → T (is_so
 tags_sorted rs [] h = h
 tags_sorted rs (t ∷ ts) h = tags_sorted (put byte_cmp t.0 (at_tag t.1) rs) ts (is_sorted-put byte_cmp order t.0 (at_tag t.1) rs h)
 
-not_there : (before : Refs) (n : Bytes) (x : Target) (rest : Refs) → T (is_sorted byte_cmp (before ++ (n, x) ∷ rest)) → find byte_cmp n before ≡ None
-not_there [] n x rest h = refl
-not_there (r ∷ before) n x rest h =
-    let later = not_there before n x rest (second _ _ h) in
-    let less = below_at before (first _ _ h) in
-    let apart : eq_by_cmp byte_cmp n r.0 ≡ false = ap is_eq (order.antisymm n r.0 ∙ ap ordering_reverse (less_is (byte_cmp r.0 n) less)) in
-    ap (λ t. cond t (Some r.1) (find byte_cmp n before)) apart ∙ later
-  where
-    below_at : (xs : Refs) → T (below_all byte_cmp r.0 (xs ++ (n, x) ∷ rest)) → T (is_lt (byte_cmp r.0 n))
-    below_at xs k = by xs k where
-      by : (xs : Refs) → T (below_all byte_cmp r.0 (xs ++ (n, x) ∷ rest)) → T (is_lt (byte_cmp r.0 n))
-      by [] k = first _ _ k
-      by (y ∷ ys) k = by ys (second _ _ k)
-
 -- ---- the refs' commands
-
-abbrev pub state_with : List Value → List Value → Branches → Tags → State
-state_with ws vs bs ts = record {
-  history = record { values = vs; refs = [] };
-  kept = record { history = record { values = []; refs = [] }; checkpoints = 0 };
-  published = [];
-  marks = numbered ws;
-  branches = bs;
-  tags = ts;
-  is_forced = false;
-  progress = [];
-  held = 0;
-}
 
 abbrev pub ref_values : List Value → Refs → List Value
 ref_values vs [] = vs
@@ -169,28 +92,78 @@ ref_tags ts ((n, at_tag t) ∷ rs) = ref_tags (put byte_cmp n t ts) rs
 abbrev pub ArePeeled : List Value → Refs → Type 0
 ArePeeled ws rs = AllByRecursion (λ r. IsIn ws (commit_value (peeled_at r.1))) rs
 
-module _ (name : Kind → Bytes → Bytes) where
-  pub refs_replayed : (ws vs : List Value) (bs : Branches) (ts : Tags) (rs : Refs) → AllByRecursion (λ r. IsRefOf r.0 r.1) rs → ArePeeled ws rs → steps name (state_with ws vs bs ts) (map (ref_command ws) rs) ≡ Ok (state_with ws (ref_values vs rs) (ref_branches bs rs) (ref_tags ts rs))
-  refs_replayed ws vs bs ts [] o h = refl
-  refs_replayed ws vs bs ts ((n, at_commit c) ∷ rs) o h =
-      let again = refs_replayed ws vs (put byte_cmp n (Some c) bs) ts rs o.1 h.1 in
-      rw (number_found ws (commit_value c) h.0) again
-  refs_replayed ws vs bs ts ((n, at_tag t) ∷ rs) o h =
-      let again = refs_replayed ws (with_one vs (tag_value t)) bs (put byte_cmp n t ts) rs o.1 h.1 in
-      rw (number_found ws (commit_value t.target) h.0) (rw (← o.0) again)
+module _ (name : Kind → Bytes → Bytes) (h : History) where
+  pub refs_replayed : (ws vs : List Value) (bs : Branches) (ts : Tags) (rs : Refs) → AllByRecursion (λ r. IsRefOf r.0 r.1) rs → ArePeeled ws rs → steps name (state_with h ws vs bs ts) (map (ref_command ws) rs) ≡ Ok (state_with h ws (ref_values vs rs) (ref_branches bs rs) (ref_tags ts rs))
+  refs_replayed ws vs bs ts [] o k = refl
+  refs_replayed ws vs bs ts ((n, at_commit c) ∷ rs) o k =
+      let again = refs_replayed ws vs (put byte_cmp n (Some c) bs) ts rs o.1 k.1 in
+      rw (number_found ws (commit_value c) k.0) again
+  refs_replayed ws vs bs ts ((n, at_tag t) ∷ rs) o k =
+      let again = refs_replayed ws (with_one vs (tag_value t)) bs (put byte_cmp n t ts) rs o.1 k.1 in
+      rw (number_found ws (commit_value t.target) k.0) (rw (← o.0) again)
 
-refs_set : (before rs : Refs) (bs : Branches) (ts : Tags) → T (is_sorted byte_cmp (before ++ rs)) → ((q : Bytes) → looked q bs ts ≡ find byte_cmp q before) → (q : Bytes) → looked q (ref_branches bs rs) (ref_tags ts rs) ≡ find byte_cmp q (before ++ rs)
-refs_set before [] bs ts h same q = same q ∙ ap (find byte_cmp q) (sym (append-nil before))
-refs_set before ((n, at_commit c) ∷ rs) bs ts h same q =
-    let e = append_assoc before ((n, at_commit c) ∷ []) rs in
-    let absent = not_there before n (at_commit c) rs h in
-    refs_set (before ++ (n, at_commit c) ∷ []) rs (put byte_cmp n (Some c) bs) ts (subst (λ x. T (is_sorted byte_cmp x)) (sym e) h)
-    (λ p. looked_branch p n c bs ts (same n ∙ absent) ∙ ap (cond (eq_by_cmp byte_cmp p n) (Some (at_commit c))) (same p) ∙ sym (find-append byte_cmp order before n (at_commit c) p absent)) q ∙ ap (find byte_cmp q) e
-refs_set before ((n, at_tag t) ∷ rs) bs ts h same q =
-    let e = append_assoc before ((n, at_tag t) ∷ []) rs in
-    let absent = not_there before n (at_tag t) rs h in
-    refs_set (before ++ (n, at_tag t) ∷ []) rs bs (put byte_cmp n t ts) (subst (λ x. T (is_sorted byte_cmp x)) (sym e) h)
-    (λ p. looked_tag p n t bs ts ∙ ap (cond (eq_by_cmp byte_cmp p n) (Some (at_tag t))) (same p) ∙ sym (find-append byte_cmp order before n (at_tag t) p absent)) q ∙ ap (find byte_cmp q) e
+-- ---- what the refs' commands set
+
+-- a branch by the ref that is set, or else as it was
+abbrev set_branch : Option Target → Option (Option Commit) → Option (Option Commit)
+set_branch (Some (at_commit c)) o = Some (Some c)
+set_branch (Some (at_tag t)) o = o
+set_branch None o = o
+
+-- a tag by the ref that is set, or else as it was
+abbrev set_tag : Option Target → Option Tag → Option Tag
+set_tag (Some (at_tag t)) o = Some t
+set_tag (Some (at_commit c)) o = o
+set_tag None o = o
+
+-- a ref stands once
+only_once : (q n : Bytes) (rs : Refs) → T (below_all byte_cmp n rs) → eq_by_cmp byte_cmp q n ≡ true → find byte_cmp q rs ≡ None
+only_once q n rs h e = sym (find_tied byte_cmp order q n (tied q n e) rs) ∙ none_below n rs h
+
+branch_set : (bs : Branches) (rs : Refs) (q : Bytes) → T (is_sorted byte_cmp rs) → find byte_cmp q (ref_branches bs rs) ≡ set_branch (find byte_cmp q rs) (find byte_cmp q bs)
+branch_set bs [] q h = refl
+branch_set bs ((n, at_commit c) ∷ rs) q h =
+    branch_set (put byte_cmp n (Some c) bs) rs q (second _ _ h) ∙ ap (set_branch (find byte_cmp q rs)) (find-put byte_cmp order q n (Some c) bs)
+    ∙ elim (eq_by_cmp byte_cmp q n) as (λ t. eq_by_cmp byte_cmp q n ≡ t → set_branch (find byte_cmp q rs) (cond t (Some (Some c)) (find byte_cmp q bs)) ≡ set_branch (cond t (Some (at_commit c)) (find byte_cmp q rs)) (find byte_cmp q bs)) [
+      | true ↦ λ t. ap (λ o. set_branch o (Some (Some c))) (only_once q n rs (first _ _ h) t)
+      | false ↦ λ t. refl
+    ] refl
+branch_set bs ((n, at_tag u) ∷ rs) q h =
+    branch_set bs rs q (second _ _ h)
+    ∙ elim (eq_by_cmp byte_cmp q n) as (λ t. eq_by_cmp byte_cmp q n ≡ t → set_branch (find byte_cmp q rs) (find byte_cmp q bs) ≡ set_branch (cond t (Some (at_tag u)) (find byte_cmp q rs)) (find byte_cmp q bs)) [
+      | true ↦ λ t. ap (λ o. set_branch o (find byte_cmp q bs)) (only_once q n rs (first _ _ h) t)
+      | false ↦ λ t. refl
+    ] refl
+
+tag_set : (ts : Tags) (rs : Refs) (q : Bytes) → T (is_sorted byte_cmp rs) → find byte_cmp q (ref_tags ts rs) ≡ set_tag (find byte_cmp q rs) (find byte_cmp q ts)
+tag_set ts [] q h = refl
+tag_set ts ((n, at_tag u) ∷ rs) q h =
+    tag_set (put byte_cmp n u ts) rs q (second _ _ h) ∙ ap (set_tag (find byte_cmp q rs)) (find-put byte_cmp order q n u ts)
+    ∙ elim (eq_by_cmp byte_cmp q n) as (λ t. eq_by_cmp byte_cmp q n ≡ t → set_tag (find byte_cmp q rs) (cond t (Some u) (find byte_cmp q ts)) ≡ set_tag (cond t (Some (at_tag u)) (find byte_cmp q rs)) (find byte_cmp q ts)) [
+      | true ↦ λ t. ap (λ o. set_tag o (Some u)) (only_once q n rs (first _ _ h) t)
+      | false ↦ λ t. refl
+    ] refl
+tag_set ts ((n, at_commit c) ∷ rs) q h =
+    tag_set ts rs q (second _ _ h)
+    ∙ elim (eq_by_cmp byte_cmp q n) as (λ t. eq_by_cmp byte_cmp q n ≡ t → set_tag (find byte_cmp q rs) (find byte_cmp q ts) ≡ set_tag (cond t (Some (at_commit c)) (find byte_cmp q rs)) (find byte_cmp q ts)) [
+      | true ↦ λ t. ap (λ o. set_tag o (find byte_cmp q ts)) (only_once q n rs (first _ _ h) t)
+      | false ↦ λ t. refl
+    ] refl
+
+-- a branch that is no ref of these has no commit
+abbrev pub HasNoOther : Branches → Refs → Type 0
+HasNoOther bs rs = (q : Bytes) → find byte_cmp q rs ≡ None → at_branch (find byte_cmp q bs) ≡ None
+
+-- the branches and the tags give the refs that are set, and no other
+all_set : (bs : Branches) (rs : Refs) → T (is_sorted byte_cmp rs) → HasNoOther bs rs → (q : Bytes) → looked q (ref_branches bs rs) (ref_tags [] rs) ≡ find byte_cmp q rs
+all_set bs rs h n q =
+    (λ i. at_either (tag_set [] rs q h i) (at_branch (branch_set bs rs q h i)))
+    ∙ by (find byte_cmp q rs) refl
+  where
+    by : (o : Option Target) → find byte_cmp q rs ≡ o → at_either (set_tag o None) (at_branch (set_branch o (find byte_cmp q bs))) ≡ o
+    by None e = n q e
+    by (Some (at_commit c)) e = refl
+    by (Some (at_tag t)) e = refl
 
 ref_branches_sorted : (bs : Branches) (rs : Refs) → T (is_sorted byte_cmp bs) → T (is_sorted byte_cmp (ref_branches bs rs))
 ref_branches_sorted bs [] h = h
@@ -207,15 +180,15 @@ or_nothing None = refl
 or_nothing (Some t) = refl
 
 -- the refs after the end
-pub same_refs : (rs : Refs) (bs : Branches) → T (is_sorted byte_cmp rs) → T (is_sorted byte_cmp bs) → ((q : Bytes) → looked q bs [] ≡ None)
+pub same_refs : (rs : Refs) (bs : Branches) → T (is_sorted byte_cmp rs) → T (is_sorted byte_cmp bs) → HasNoOther bs rs
     → fold (λ rs t. put byte_cmp t.0 (at_tag t.1) rs) (fold with_branch [] (ref_branches bs rs)) (ref_tags [] rs) ≡ rs
-same_refs rs bs h g empty =
+same_refs rs bs h g others =
     let sb = ref_branches_sorted bs rs g in
     let st = ref_tags_sorted [] rs tt in
     let after = fold with_branch [] (ref_branches bs rs) in
     same_entries byte_cmp order same_text (fold (λ rs t. put byte_cmp t.0 (at_tag t.1) rs) after (ref_tags [] rs)) rs
     (tags_sorted after (ref_tags [] rs) (branches_sorted [] (ref_branches bs rs) tt)) h
-    (λ q. tags_found q after (ref_tags [] rs) st ∙ ap (at_either (find byte_cmp q (ref_tags [] rs))) (branches_found q [] (ref_branches bs rs) sb ∙ or_nothing (at_branch (find byte_cmp q (ref_branches bs rs)))) ∙ refs_set [] rs bs [] h empty q)
+    (λ q. tags_found q after (ref_tags [] rs) st ∙ ap (at_either (find byte_cmp q (ref_tags [] rs))) (branches_found q [] (ref_branches bs rs) sb ∙ or_nothing (at_branch (find byte_cmp q (ref_branches bs rs)))) ∙ all_set bs rs h others q)
 
 -- ---- the values of the refs
 

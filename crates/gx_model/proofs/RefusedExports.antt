@@ -24,7 +24,7 @@ use Rattle.gx_model.specs.Streams.Commands as command
 use Rattle.gx_model.specs.Streams.Commands.{Change, Clear, Command, CommitIsh, CommitParts, Copy, Modify, Object, Remove, Rename}
 use Rattle.gx_model.specs.Streams.Grammar.{block_in, change_at, changes_within, command_at, commands_of, commands_within, commit_at, is_null, is_option, item_after_in, links_at, mark_number, modify_at, rest_line_in, stops, unsigned_in, where_by, where_of, with_first, words_of}
 use Rattle.gx_model.specs.Export.{all_written, blob_commands, carrier, change_items, command_items, commit_command, commit_commands, contents, export_text, file_change, first_parent, from_line, inner_commands, item_text, last_reset, mode_digits, one_commit, optional_line, other_parents, reached_commits, ref_command, root_reset, with_blobs, with_commit}
-use Rattle.gx_model.specs.Laws.ExportLaws.{HaveNoNullGitlink, IsMark, IsNamedByMark, IsNamedByMarkIf, IsNotNull, IsOne, IsSpelledChange, IsSpelledCommit, between, nothing, state_at, steps, values_with_blobs}
+use Rattle.gx_model.specs.Laws.ExportLaws.{carried, HaveNoNullGitlink, IsMark, IsNamedByMark, IsNamedByMarkIf, IsNotNull, IsOne, IsSpelledChange, IsSpelledCommit, between, nothing, state_at, steps, values_with_blobs}
 use Rattle.gx_model.specs.Streams.Gitlinks.{NullGitlinksAreRefused}
 use Rattle.gx_model.specs.Replay.{Outcome, State, refused, replayed, replayed_text, start, step}
 use Rattle.gx_model.proofs.PathTests.{first, is_true, second}
@@ -413,7 +413,7 @@ module _ (name : Kind → Bytes → Bytes) where
         steps-append name (state_at [] [] None) (commit_commands [] before) rest
             ∙ ap (λ r. and_then r (λ u. steps name u rest)) (commits_replayed name [] [] None [] before none_held f)
             ∙ steps-append name (state_at ws vs b) (blob_commands ws xs) (root_reset ps)
-            ∙ ap (λ r. and_then r (λ u. steps name u (root_reset ps))) (blobs_replayed name ws vs b xs)
+            ∙ ap (λ r. and_then r (λ u. steps name u (root_reset ps))) (blobs_replayed name nothing [] ws vs (carried b) xs)
             ∙ root_replayed (with_blobs ws xs) us b ps,
       )
 

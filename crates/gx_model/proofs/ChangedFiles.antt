@@ -164,10 +164,10 @@ module _ (new : FileMap Bytes) (h : Parts new) where
       let parts = subst (λ r. IfOk r Parts) m.1 (modified_parts f e.0 e.1 path hf) in
       let at = one_put f s e.0 e.1 now there m.2 in
       let below : IsBelow now = λ q i.
-          elim (same_path q e.0) as (λ b. same_path q e.0 ≡ b → T (is_some (cond b (Some e.1) (file_at f q))) → T (is_some (file_at new q))) [
-            | true ↦ λ j _. subst (λ (r : Path). T (is_some (file_at new r))) (sym (path_is q e.0 (passes _ j))) there
-            | false ↦ λ j n. s q n
-          ] refl (subst (λ (o : Option (Leaf Bytes)). T (is_some o)) (at q) i) in
+      elim (same_path q e.0) as (λ b. same_path q e.0 ≡ b → T (is_some (cond b (Some e.1) (file_at f q))) → T (is_some (file_at new q))) [
+        | true ↦ λ j _. subst (λ (r : Path). T (is_some (file_at new r))) (sym (path_is q e.0 (passes _ j))) there
+        | false ↦ λ j n. s q n
+      ] refl (subst (λ (o : Option (Leaf Bytes)). T (is_some o)) (at q) i) in
       let rest = all_are_put es k.1 (second (is_file_path e.0) _ p) now parts below in (
         rest.0,
         record {
@@ -188,11 +188,13 @@ module _ (new : FileMap Bytes) (h : Parts new) where
 
 of_more : (e : Path × Leaf Bytes) (all es : FileMap Bytes) → file_at all e.0 ≡ None → AreOf all es → AreOf (e ∷ all) es
 of_more e all [] n k = tt
-of_more e all (f ∷ es) n k =
-    (elim (same_path f.0 e.0) as (λ b. same_path f.0 e.0 ≡ b → cond b (Some e.1) (file_at all f.0) ≡ Some f.1) [
-      | true ↦ λ i. let never = sym n ∙ ap (file_at all) (sym (path_is f.0 e.0 (passes _ i))) ∙ k.0 in absurd cc
-      | false ↦ λ i. k.0
-    ] refl, of_more e all es n k.1)
+of_more e all (f ∷ es) n k = (
+  elim (same_path f.0 e.0) as (λ b. same_path f.0 e.0 ≡ b → cond b (Some e.1) (file_at all f.0) ≡ Some f.1) [
+    | true ↦ λ i. let never = sym n ∙ ap (file_at all) (sym (path_is f.0 e.0 (passes _ i))) ∙ k.0 in absurd cc
+    | false ↦ λ i. k.0
+  ] refl,
+  of_more e all es n k.1,
+)
 
 missing : (e : Path × Leaf Bytes) (es : FileMap Bytes) → Parts (e ∷ es) → file_at es e.0 ≡ None
 missing e es h = none_below e.0 es (first (below_all path_cmp e.0 es) (is_sorted path_cmp es) h.sorted)
@@ -209,7 +211,7 @@ of_filter new t (e ∷ es) k =
     let rest = of_filter new t es k.1 in
     elim (t e) as (λ b. AreOf new (cond b (e ∷ filter t es) (filter t es))) [ true ↦ (k.0, rest) | false ↦ rest ]
 
-same_leaf : (o : Option (Leaf Bytes)) (x : Leaf Bytes) → is_this_leaf o x ≡ true → o ≡ Some x
+pub same_leaf : (o : Option (Leaf Bytes)) (x : Leaf Bytes) → is_this_leaf o x ≡ true → o ≡ Some x
 same_leaf None x h = absurd cc
 same_leaf (Some y) x h =
     let t = passes _ h in
@@ -256,6 +258,6 @@ changes_make old new h k =
     let kept = all_removed old (gone_paths old new) in
     let es = changed_files old new in
     let made = all_are_put new k es (of_filter new (λ e. not (is_this_leaf (file_at old e.0) e.1)) new (of_itself new k)) (all_filter (λ e. is_file_path e.0) (λ e. not (is_this_leaf (file_at old e.0) e.1)) new k.paths)
-      kept (all_removed_parts old (gone_paths old new) h) (λ q i. some_or_none (is_some (file_at new q)) (file_at old q) (subst (λ (o : Option (Leaf Bytes)). T (is_some o)) (kept_at new old h q) i)) in
+    kept (all_removed_parts old (gone_paths old new) h) (λ q i. some_or_none (is_some (file_at new q)) (file_at old q) (subst (λ (o : Option (Leaf Bytes)). T (is_some o)) (kept_at new old h q) i)) in
     let same = same_maps made.0 new made.1.parts k (λ q. made.1.at q ∙ (λ i. or_else (at_changed old new k q i) (kept_at new old h q i)) ∙ both_together (file_at old q) (file_at new q)) in
     made.1.put ∙ ap (λ g. Ok g) same

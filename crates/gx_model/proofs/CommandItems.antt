@@ -1,5 +1,5 @@
 -- The items of an export's commands are read as these commands.
-use Rattle.std.proofs.Common.{◌≡◌, ℕ, zero, suc, ◌<◌, ◌≤◌, ◌^◌, Bool, true, false, Option, Some, None, Ok, List, [], ◌∷◌, ◌++◌, length, map, codes, refl, sym, ap, subst, ◌∙◌, arith, append_assoc}
+use Rattle.std.proofs.Common.{◌≡◌, ℕ, zero, suc, ◌+◌, ◌-◌, ◌<◌, ◌≤◌, ◌^◌, Bool, true, false, Option, Some, None, Ok, List, [], ◌∷◌, ◌++◌, length, map, codes, refl, sym, ap, subst, ◌∙◌, arith, append-nil, append_assoc}
 use Rattle.std.specs.Prelude.{is_some}
 use Rattle.std.specs.List.{list_all, flat_map, AllByRecursion}
 use Rattle.std.specs.Fmt.{decimal}
@@ -17,7 +17,7 @@ use Rattle.gx_model.specs.Texts.Idents.{is_ident}
 use Rattle.gx_model.specs.Faults.{Given, ◌>>=◌}
 use Rattle.gx_model.specs.Texts.Paths.{Path, path_text, printed}
 use Rattle.gx_model.specs.Streams.Items.{Item, Line, Data, Finished, Stream}
-use Rattle.gx_model.specs.Streams.Commands.{CommitIsh, Marked, Named, DataRef, Mark, Object, Inline, Change, Modify, Remove, Copy, Rename, Clear, Command}
+use Rattle.gx_model.specs.Streams.Commands.{CommitIsh, Marked, Named, DataRef, Mark, Object, Inline, Change, Modify, Remove, Copy, Rename, Clear, Command, Commands}
 use Rattle.gx_model.specs.Streams.Commands as command
 use Rattle.gx_model.specs.Streams.Grammar.{last_path, words_of, words_by, is_word, rest_line_in, optional, block_in, commit_ish_of, modify_at, change_at, changes_within, merges_within, item_after_in, unsigned_in, blob_at, commit_at, links_at, read_some, ident_of, encoding_of, ref_of, tag_of, item_after, tag_at, reset_at, command_at, commands_within, commands_of, is_option, is_done, with_first}
 use Rattle.gx_model.specs.Histories.Values.{is_optional_encoding, is_optional_ident}
@@ -351,23 +351,40 @@ starts_command (command.OptionLine x) rest h = absurd h
 abbrev ends_here : List Item
 ends_here = Line (codes "done") ∷ []
 
-starts_rest : (cs : List Command) → AllByRecursion IsSpelled cs → Starts (flat_map command_items cs ++ ends_here)
+starts_rest : (last : List Item) → Starts last → (cs : List Command) → AllByRecursion IsSpelled cs → Starts (flat_map command_items cs ++ last)
+starts_rest last s [] h = s
+starts_rest last s (c ∷ cs) h = subst Starts (sym (append_assoc (command_items c) (flat_map command_items cs) last)) (starts_command c (flat_map command_items cs ++ last) h.0)
+
+-- these commands, and then those
+abbrev pub with_all : List Command → Commands → Commands
+with_all [] after = after
+with_all (c ∷ cs) after = with_first c (with_all cs after)
+
+-- commands are read, and then what stands behind them
+pub read_before : (last : List Item) → Starts last → (n m : ℕ) (before cs : List Command) → m ≡ length cs + n → AllByRecursion IsSpelled cs
+    → commands_within m before (flat_map command_items cs ++ last) Finished ≡ with_all cs (commands_within n (before ++ cs) last Finished)
+read_before last s n m before [] e h =
+    let same : m ≡ n = omega (arith, e) in
+    λ i. commands_within (same i) (sym (append-nil before) i) last Finished
+read_before last s n zero before (c ∷ cs) e h = absurd (omega (arith, e))
+read_before last s n (suc m) before (c ∷ cs) e h =
+    let rest = flat_map command_items cs ++ last in
+    let fewer : m ≡ length cs + n = omega (arith, e) in
+    ap (λ is. commands_within (suc m) before is Finished) (append_assoc (command_items c) (flat_map command_items cs) last)
+    ∙ step m before c rest (read_first c rest h.0 (starts_rest last s cs h.1))
+    ∙ ap (with_first c) (read_before last s n m (before ++ c ∷ []) cs fewer h.1 ∙ ap (λ b. with_all cs (commands_within n b last Finished)) (append_assoc before (c ∷ []) cs))
+
+pub all_listed : (cs ds : List Command) → with_all cs (record { list = ds; fault = None }) ≡ record { list = cs ++ ds; fault = None }
+all_listed [] ds = refl
+all_listed (c ∷ cs) ds = ap (with_first c) (all_listed cs ds)
+
+done_starts : Starts ends_here
 unfolding item_after_in cut_at
-starts_rest [] h = record { no_from = refl; stays = refl }
-starts_rest (c ∷ cs) h = subst Starts (sym (append_assoc (command_items c) (flat_map command_items cs) ends_here)) (starts_command c (flat_map command_items cs ++ ends_here) h.0)
+done_starts = record { no_from = refl; stays = refl }
 
 done_last : (n : ℕ) (before : List Command) → commands_within (suc n) before ends_here Finished ≡ record { list = command.Done ∷ []; fault = None }
 unfolding commands_within command_at cut_at
 done_last n before = refl
-
-all_read : (n : ℕ) (before cs : List Command) → length cs < n → AllByRecursion IsSpelled cs → commands_within n before (flat_map command_items cs ++ ends_here) Finished ≡ record { list = cs ++ command.Done ∷ []; fault = None }
-all_read zero before cs lt h = absurd (omega arith)
-all_read (suc n) before [] lt h = done_last n before
-all_read (suc n) before (c ∷ cs) lt h =
-    let rest = flat_map command_items cs ++ ends_here in
-    ap (λ is. commands_within (suc n) before is Finished) (append_assoc (command_items c) (flat_map command_items cs) ends_here)
-    ∙ step n before c rest (read_first c rest h.0 (starts_rest cs h.1))
-    ∙ ap (with_first c) (all_read n (before ++ c ∷ []) cs (omega arith) h.1)
 
 some_items : (c : Command) → IsSpelled c → 1 ≤ length (command_items c)
 some_items (command.Blob b) h = omega arith
@@ -394,6 +411,8 @@ between_items cs = ap (λ is. Line (codes "feature done") ∷ is) (flat_map-appe
 pub commands_read : (cs : List Command) → AllByRecursion IsSpelled cs → commands_of (stream (flat_map command_items (between cs))) ≡ record { list = between cs; fault = None }
 commands_read cs h =
     let rest = flat_map command_items cs ++ ends_here in
-    let enough : length cs < length rest = omega (arith, all_items cs h, length-append (flat_map command_items cs) ends_here) in
+    let asks = command.Asks features.Done in
+    let n = length rest - suc (length cs) in
+    let enough : length rest ≡ length cs + suc n = omega (arith, all_items cs h, length-append (flat_map command_items cs) ends_here) in
     ap (λ is. commands_of (stream is)) (between_items cs) ∙ asks_first (length rest) rest
-    ∙ ap (with_first (command.Asks features.Done)) (all_read (length rest) (command.Asks features.Done ∷ []) cs enough h)
+    ∙ ap (with_first asks) (read_before ends_here done_starts (suc n) (length rest) (asks ∷ []) cs enough h ∙ ap (with_all cs) (done_last n (asks ∷ cs)) ∙ all_listed cs (command.Done ∷ []))

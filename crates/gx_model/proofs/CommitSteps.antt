@@ -254,20 +254,20 @@ module _ (name : Kind → Bytes → Bytes) (h : History) (ts : Tags) where
       ∙ reset_replayed r ps us (values_with_blobs ws vs xs) bs (commit_on r names changes us c ∷ []) ∙ alone _
       ∙ commit_replayed r names changes us (values_with_blobs ws vs xs) (begun_on r ps bs) c k.0 k.1 (λ e. none_begun r ps bs e)
 
+abbrev AllIn : List Value → List Commit → Type 0
+AllIn ws ps = AllByRecursion (λ p. IsIn ws (commit_value p)) ps
+
+pub all_still : (ws : List Value) (xs : List Bytes) (ps : List Commit) → AllIn ws ps → AllIn (with_blobs ws xs) ps
+all_still ws xs [] h = tt
+all_still ws xs (p ∷ ps) h = (blobs_keep ws xs (commit_value p) h.0, all_still ws xs ps h.1)
+
+one_carried : (b : Option (Option Commit)) (c : Commit) → committed_on carrier c (carried b) ≡ carried (Some (Some c))
+one_carried None (commit f none t) = refl
+one_carried (Some x) (commit f none t) = refl
+one_carried None (commit f (more p ps) t) = refl
+one_carried (Some x) (commit f (more p ps) t) = refl
+
 module _ (name : Kind → Bytes → Bytes) where
-  abbrev AllIn : List Value → List Commit → Type 0
-  AllIn ws ps = AllByRecursion (λ p. IsIn ws (commit_value p)) ps
-
-  pub all_still : (ws : List Value) (xs : List Bytes) (ps : List Commit) → AllIn ws ps → AllIn (with_blobs ws xs) ps
-  all_still ws xs [] h = tt
-  all_still ws xs (p ∷ ps) h = (blobs_keep ws xs (commit_value p) h.0, all_still ws xs ps h.1)
-
-  one_carried : (b : Option (Option Commit)) (c : Commit) → committed_on carrier c (carried b) ≡ carried (Some (Some c))
-  one_carried None (commit f none t) = refl
-  one_carried (Some x) (commit f none t) = refl
-  one_carried None (commit f (more p ps) t) = refl
-  one_carried (Some x) (commit f (more p ps) t) = refl
-
   pub one_commit_replayed : (ws vs : List Value) (b : Option (Option Commit)) (c : Commit) → IsTrue (is_content (files_of c)) → AllByRecursion (λ p. IsIn ws (commit_value p)) (list_of (parents_of c))
       → steps name (state_at ws vs b) (one_commit ws c) ≡ Ok (state_at (with_commit ws c) (values_with_commit ws vs c) (Some (Some c)))
   one_commit_replayed ws vs b c h k =

@@ -84,6 +84,9 @@ pub mod TextShapes
 pub mod PathShapes
 pub mod PartShapes
 pub mod ChangedFiles
+pub mod CommandEnds
+pub mod ChangeSteps
+pub mod ChangeReplays
 pub mod ChangeShapes
 pub mod CommandReadings
 pub mod AskedFeatures

@@ -1,4 +1,5 @@
 -- What holds of the definitions: each law is the contract of a public function with an empty body.
+pub mod ChangesLaws
 pub mod CommandLaws
 pub mod ExportLaws
 pub mod FeatureLaws

@@ -2,6 +2,7 @@
 //! No program logic stands here: a law is the contract of a public function with an empty body.
 #![tactic(auto)]
 
+pub mod changes_laws;
 pub mod export_laws;
 mod faults;
 mod features;

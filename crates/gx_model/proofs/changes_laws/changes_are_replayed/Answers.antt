@@ -1,0 +1,5 @@
+use Rattle.gx_model.proofs.ChangeReplays.{all_changes_replayed}
+use Rattle.gx_model.proofs.changes_laws.changes_are_replayed.Goals as goal
+
+pub returns : goal.returns
+returns c = record { replayed = all_changes_replayed }

@@ -40,10 +40,10 @@ no_files : Parts {X = Leaf Bytes} []
 no_files = parts_of [] refl
 
 module _ (ws vs : List Value) (before : List Commit) (c : Commit) (h : HoldsWhat ws vs before) (parents : AllByRecursion (IsOne before) (list_of (parents_of c))) where
-  parents_written : AllByRecursion (λ p. IsIn ws (commit_value p)) (list_of (parents_of c))
+  pub parents_written : AllByRecursion (λ p. IsIn ws (commit_value p)) (list_of (parents_of c))
   parents_written = each_one (IsOne before) (λ p. IsIn ws (commit_value p)) (λ p i. one_of_all (λ d. IsIn ws (commit_value d)) before p h.commits i) (list_of (parents_of c)) parents
 
-  base_parts : Parts (base_files (list_of (parents_of c)))
+  pub base_parts : Parts (base_files (list_of (parents_of c)))
   base_parts = by (list_of (parents_of c)) parents_written where
     by : (ps : List Commit) → AllByRecursion (λ p. IsIn ws (commit_value p)) ps → Parts (base_files ps)
     by [] k = no_files
@@ -75,7 +75,7 @@ module _ (name : Kind → Bytes → Bytes) (refs : Refs) where
 -- ---- the branches
 
 -- a ref's name finds it
-abbrev IsFound : Refs → Bytes → Type 0
+abbrev pub IsFound : Refs → Bytes → Type 0
 IsFound refs n = T (is_some (find byte_cmp n refs))
 
 found_more : (x : Bytes × Target) (refs : Refs) (n : Bytes) → IsFound refs n → IsFound (x ∷ refs) n

@@ -87,6 +87,8 @@ pub mod ChangedFiles
 pub mod CommandEnds
 pub mod ChangeSteps
 pub mod ChangeReplays
+pub mod SpelledChanges
+pub mod ReadableChanges
 pub mod ChangeShapes
 pub mod CommandReadings
 pub mod AskedFeatures

@@ -8,8 +8,8 @@ use Rattle.std.specs.Bool.{passes}
 use Rattle.std.specs.Fmt.{decimal}
 use Rattle.std.specs.List.{flat_map, fold, AllByRecursion, cons_option}
 use Rattle.std.specs.Prelude.{T}
-use Rattle.gx_model.specs.Streams.Commands.{Command}
-use Rattle.gx_model.specs.Export.{all_written, blob_commands, command_items, commit_command, commit_commands, content_in, contents, export_items, export_text, inner_commands, item_text, last_reset, one_commit, optional_line, reached_commits, ref_command, root_reset, with_blobs, with_commit}
+use Rattle.gx_model.specs.Streams.Commands.{Change, Clear, Command, CommitIsh}
+use Rattle.gx_model.specs.Export.{all_written, blob_commands, carrier, command_items, commit_command, commit_commands, commit_on, content_in, contents, export_items, file_change, export_text, inner_commands, item_text, last_reset, marked_in, one_commit, optional_line, reached_commits, ref_command, root_reset, with_blobs, with_commit}
 use Rattle.gx_model.specs.Laws.ExportLaws.{HasNoNullGitlink, HaveNoNullGitlink, IsNotNull, IsReadable, IsReadableCommit, IsReadableFile, IsReadableTarget}
 use Rattle.gx_model.specs.Histories.Files.{FileMap}
 use Rattle.gx_model.specs.Histories.{History, IsHistory, IsIn, Target, at_commit, at_tag, is_in}
@@ -95,8 +95,11 @@ blobs_fit ws (x ∷ xs) h f =
       | false ↦ λ e g. let r = blobs_fit (blob_value x ∷ ws) xs (with_blob ws x g.1.1.0 h) g.1.1.1 in record { now = (g.1.1.0, r.now); later = r.later }
     ] refl f
 
+pub message_in_fits : (r : Bytes) (names : Commit → CommitIsh) (changes : List Change) (ws : List Value) (c : Commit) → AllFit (command_items (commit_on r names changes ws c)) → length (text_of c).message < 2 ^ 64
+message_in_fits r names changes ws c h = (fit_right (optional_line (codes "encoding") (text_of c).encoding) _ h.1.1.1.1).0
+
 pub message_fits : (ws : List Value) (c : Commit) → AllFit (command_items (commit_command ws c)) → length (text_of c).message < 2 ^ 64
-message_fits ws c h = (fit_right (optional_line (codes "encoding") (text_of c).encoding) _ h.1.1.1.1).0
+message_fits ws c h = message_in_fits carrier (λ p. marked_in ws (commit_value p)) (Clear ∷ map (file_change ws) (files_of c)) ws c h
 
 link_fits : (x : Bytes) → T (is_leaf Gitlink x) → length x < 2 ^ 64
 link_fits x h = let k = (Decides-eqb (length x) 40).0 (is_true _ (first (nat_eq (length x) 40) _ h)) in omega (arith, k)
@@ -108,7 +111,7 @@ file_fits p Link x xs l h k = ((h, k.0), k.1)
 file_fits p Dir x xs l h k = absurd l
 file_fits p Gitlink x xs l h k = ((h, link_fits x l), k)
 
-files_fit : (f : FileMap Bytes) → T (are_leaves f) → AllByRecursion (λ file. IsNotNull file.1.0 file.1.1) f → AllByRecursion (λ x. length x < 2 ^ 64) (contents f) → AllByRecursion IsReadableFile f
+pub files_fit : (f : FileMap Bytes) → T (are_leaves f) → AllByRecursion (λ file. IsNotNull file.1.0 file.1.1) f → AllByRecursion (λ x. length x < 2 ^ 64) (contents f) → AllByRecursion IsReadableFile f
 files_fit [] l h k = tt
 files_fit ((p, (m, x)) ∷ f) l h k = let r = file_fits p m x (contents f) (first (is_leaf m x) _ l) h.0 k in (r.0, files_fit f (second (is_leaf m x) _ l) h.1 r.1)
 
@@ -139,7 +142,7 @@ refs_fit ws ((n, at_tag t) ∷ rs) g =
 
 -- ---- marks
 
-blobs_count : (ws : List Value) (xs : List Bytes) → length (with_blobs ws xs) ≤ length ws + length (flat_map command_items (blob_commands ws xs))
+pub blobs_count : (ws : List Value) (xs : List Bytes) → length (with_blobs ws xs) ≤ length ws + length (flat_map command_items (blob_commands ws xs))
 blobs_count ws [] = omega arith
 blobs_count ws (x ∷ xs) =
     let held = blobs_count ws xs in

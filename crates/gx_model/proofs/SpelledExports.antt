@@ -3,8 +3,8 @@ use Rattle.std.proofs.Common.{◌≡◌, suc, ◌<◌, ◌≤◌, ◌^◌, Bool,
 use Rattle.std.specs.Bool.{passes}
 use Rattle.std.specs.List.{list_all, fold, AllByRecursion, cons_option}
 use Rattle.std.specs.Prelude.{T, ◌⊎◌}
-use Rattle.gx_model.specs.Streams.Commands.{Command}
-use Rattle.gx_model.specs.Export.{all_written, blob_commands, carrier, commit_command, commit_commands, content_in, contents, dataref_in, export_items, export_text, file_change, first_parent, inner_commands, last_reset, marked_in, number_in, one_commit, other_parents, reached_commits, ref_command, root_reset, with_blobs, with_commit}
+use Rattle.gx_model.specs.Streams.Commands.{Change, Clear, Command, CommitIsh}
+use Rattle.gx_model.specs.Export.{all_written, blob_commands, carrier, commit_command, commit_commands, commit_on, content_in, contents, dataref_in, export_items, export_text, file_change, first_by, first_parent, inner_commands, last_reset, marked_in, number_in, one_commit, other_parents, others_by, reached_commits, ref_command, reset_before, root_reset, with_blobs, with_commit}
 use Rattle.gx_model.specs.Laws.ExportLaws.{IsAgain, IsDataRef, IsMark, IsNamedByMark, IsNamedByMarkIf, IsNotNull, IsOne, IsReadable, IsReadableCommit, IsReadableFile, IsReadableTarget, IsSpelled, IsSpelledChange, exported_report, nothing}
 use Rattle.gx_model.specs.Histories.Files.{FileMap, are_file_paths}
 use Rattle.gx_model.specs.Streams.Grammar.{commands_of}
@@ -38,7 +38,7 @@ number_some (w ∷ ws) v h = by (same_value w v) refl h (λ k. number_some ws v 
   by true e k again = omega arith
   by false e k again = elim k [ inl is ↦ absurd (subst T (ap (same_value w) (sym is) ∙ ap (same_value w) is ∙ e) (subst T (ap (same_value w) is) (value_same w))) | inr i ↦ again i ]
 
-is_mark : (ws : List Value) (v : Value) → IsIn ws v → length ws < 2 ^ 64 → IsMark (number_in ws v)
+pub is_mark : (ws : List Value) (v : Value) → IsIn ws v → length ws < 2 ^ 64 → IsMark (number_in ws v)
 is_mark ws v h lt = (number_some ws v h, omega (arith, number_small ws v))
 
 pub more_blobs : (ws : List Value) (xs : List Bytes) → length ws ≤ length (with_blobs ws xs)
@@ -76,51 +76,70 @@ dataref_spelled ws Link x lt l n h = is_mark ws (blob_value x) h.0 lt
 dataref_spelled ws Gitlink x lt l n h = (is_true _ l, n)
 dataref_spelled ws Dir x lt l n h = absurd l
 
-changes_spelled : (ws : List Value) (f : FileMap Bytes) → length ws < 2 ^ 64 → T (are_file_paths f) → T (list_all (λ e. is_leaf e.1.0 e.1.1) f) → AllByRecursion IsReadableFile f → AllByRecursion (λ y. IsIn ws (blob_value y)) (contents f) → AllByRecursion IsSpelledChange (map (file_change ws) f)
+pub changes_spelled : (ws : List Value) (f : FileMap Bytes) → length ws < 2 ^ 64 → T (are_file_paths f) → T (list_all (λ e. is_leaf e.1.0 e.1.1) f) → AllByRecursion IsReadableFile f → AllByRecursion (λ y. IsIn ws (blob_value y)) (contents f) → AllByRecursion IsSpelledChange (map (file_change ws) f)
 changes_spelled ws [] lt p l r h = tt
 changes_spelled ws (e ∷ f) lt p l r h =
     let o = content_in e.1.0 e.1.1 in
     let P = λ (y : Bytes). IsIn ws (blob_value y) in
     ((dataref_spelled ws e.1.0 e.1.1 lt (first _ _ l) r.0.0 (front_of P o (contents f) h), is_true _ (first _ _ p)), changes_spelled ws f lt (second (is_file_path e.0) _ p) (second (is_leaf e.1.0 e.1.1) _ l) r.1 (rest_of P o (contents f) h))
 
-pub parent_spelled : (ws : List Value) (ps : List Commit) → length ws < 2 ^ 64 → AllByRecursion (λ p. IsIn ws (commit_value p)) ps → IsNamedByMarkIf (first_parent ws ps)
-parent_spelled ws [] lt h = tt
-parent_spelled ws (p ∷ ps) lt h = is_mark ws (commit_value p) h.0 lt
+pub first_named : (names : Commit → CommitIsh) (ps : List Commit) → AllByRecursion (λ p. IsNamedByMark (names p)) ps → IsNamedByMarkIf (first_by names ps)
+first_named names [] h = tt
+first_named names (p ∷ ps) h = h.0
 
-all_marked : (ws : List Value) (ps : List Commit) → length ws < 2 ^ 64 → AllByRecursion (λ p. IsIn ws (commit_value p)) ps → AllByRecursion IsNamedByMark (map (λ q. marked_in ws (commit_value q)) ps)
-all_marked ws [] lt h = tt
-all_marked ws (p ∷ ps) lt h = (is_mark ws (commit_value p) h.0 lt, all_marked ws ps lt h.1)
+pub others_named : (names : Commit → CommitIsh) (ps : List Commit) → AllByRecursion (λ p. IsNamedByMark (names p)) ps → AllByRecursion IsNamedByMark (others_by names ps)
+others_named names [] h = tt
+others_named names (p ∷ ps) h = by ps h.1 where
+  by : (ps : List Commit) → AllByRecursion (λ p. IsNamedByMark (names p)) ps → AllByRecursion IsNamedByMark (map names ps)
+  by [] h = tt
+  by (p ∷ ps) h = (h.0, by ps h.1)
+
+pub all_marks : (ws : List Value) (ps : List Commit) → length ws < 2 ^ 64 → AllByRecursion (λ p. IsIn ws (commit_value p)) ps → AllByRecursion (λ p. IsNamedByMark (marked_in ws (commit_value p))) ps
+all_marks ws [] lt h = tt
+all_marks ws (p ∷ ps) lt h = (is_mark ws (commit_value p) h.0 lt, all_marks ws ps lt h.1)
+
+pub parent_spelled : (ws : List Value) (ps : List Commit) → length ws < 2 ^ 64 → AllByRecursion (λ p. IsIn ws (commit_value p)) ps → IsNamedByMarkIf (first_parent ws ps)
+parent_spelled ws ps lt h = first_named (λ p. marked_in ws (commit_value p)) ps (all_marks ws ps lt h)
 
 pub others_spelled : (ws : List Value) (ps : List Commit) → length ws < 2 ^ 64 → AllByRecursion (λ p. IsIn ws (commit_value p)) ps → AllByRecursion IsNamedByMark (other_parents ws ps)
-others_spelled ws [] lt h = tt
-others_spelled ws (p ∷ ps) lt h = all_marked ws ps lt h.1
+others_spelled ws ps lt h = others_named (λ p. marked_in ws (commit_value p)) ps (all_marks ws ps lt h)
 
 pub carrier_is_ref : is_ref_name carrier ≡ true
 carrier_is_ref = refl
 
+pub reset_spelled : (r : Bytes) (ps : List Commit) → is_ref_name r ≡ true → AreSpelled (reset_before r ps)
+reset_spelled r [] e = ((e, tt), tt)
+reset_spelled r (p ∷ ps) e = tt
+
 pub root_spelled : (ps : List Commit) → AreSpelled (root_reset ps)
-root_spelled [] = ((carrier_is_ref, tt), tt)
-root_spelled (p ∷ ps) = tt
+root_spelled ps = reset_spelled carrier ps carrier_is_ref
 
-commit_spelled : (ws : List Value) (c : Commit) → suc (length ws) < 2 ^ 64 → IsReadableCommit c → T (is_proper (commit_value c)) → AllByRecursion (λ p. IsIn ws (commit_value p)) (list_of (parents_of c)) → AllByRecursion (λ y. IsIn ws (blob_value y)) (contents (files_of c)) → IsSpelled (commit_command ws c)
-commit_spelled ws c lt r p h g =
+-- a commit whose ref is a ref name, whose parents are named by marks, and whose changes can be spelled
+pub commit_spelled : (r : Bytes) (names : Commit → CommitIsh) (changes : List Change) (ws : List Value) (c : Commit) → is_ref_name r ≡ true → suc (length ws) < 2 ^ 64 → IsReadableCommit c → T (is_proper_text (text_of c))
+    → AllByRecursion (λ p. IsNamedByMark (names p)) (list_of (parents_of c)) → AllByRecursion IsSpelledChange changes → IsSpelled (commit_on r names changes ws c)
+commit_spelled r names changes ws c e lt read text named spelled = record {
+  ref = e;
+  mark = (omega arith, lt);
+  author = is_true _ (first _ _ (first _ _ text));
+  has_author = refl;
+  committer = is_true _ (second (is_ident (text_of c).author) _ (first _ _ text));
+  encoding = is_true _ (second (is_ident (text_of c).author && is_ident (text_of c).committer) _ text);
+  message = read.message;
+  parent = first_named names (list_of (parents_of c)) named;
+  merges = others_named names (list_of (parents_of c)) named;
+  changes = spelled;
+}
+
+-- the command of an export's commit
+own_commit_spelled : (ws : List Value) (c : Commit) → suc (length ws) < 2 ^ 64 → IsReadableCommit c → T (is_proper (commit_value c)) → AllByRecursion (λ p. IsIn ws (commit_value p)) (list_of (parents_of c)) → AllByRecursion (λ y. IsIn ws (blob_value y)) (contents (files_of c)) → IsSpelled (commit_command ws c)
+own_commit_spelled ws c lt r p h g =
     let content = first (is_content (files_of c)) (is_proper_text (text_of c)) p in
-    let text = second (is_content (files_of c)) (is_proper_text (text_of c)) p in
     let paths = (parts_of (files_of c) (map_of (files_of c) content)).paths in
-    record {
-      ref = carrier_is_ref;
-      mark = (omega arith, lt);
-      author = is_true _ (first _ _ (first _ _ text));
-      has_author = refl;
-      committer = is_true _ (second (is_ident (text_of c).author) _ (first _ _ text));
-      encoding = is_true _ (second (is_ident (text_of c).author && is_ident (text_of c).committer) _ text);
-      message = r.message;
-      parent = parent_spelled ws (list_of (parents_of c)) (omega arith) h;
-      merges = others_spelled ws (list_of (parents_of c)) (omega arith) h;
-      changes = (tt, changes_spelled ws (files_of c) (omega arith) paths (leaves_of (files_of c) content) r.files g);
-    }
+    commit_spelled carrier (λ p. marked_in ws (commit_value p)) (Clear ∷ map (file_change ws) (files_of c)) ws c carrier_is_ref lt r (second (is_content (files_of c)) (is_proper_text (text_of c)) p)
+    (all_marks ws (list_of (parents_of c)) (omega arith) h)
+    (tt, changes_spelled ws (files_of c) (omega arith) paths (leaves_of (files_of c) content) r.files g)
 
-contents_fit : (f : FileMap Bytes) → AllByRecursion IsReadableFile f → AllByRecursion (λ x. length x < 2 ^ 64) (contents f)
+pub contents_fit : (f : FileMap Bytes) → AllByRecursion IsReadableFile f → AllByRecursion (λ x. length x < 2 ^ 64) (contents f)
 contents_fit [] h = tt
 contents_fit ((p, (m, x)) ∷ f) h = by m (contents_fit f h.1) where
   by : (m : Mode) → AllByRecursion (λ x. length x < 2 ^ 64) (contents f) → AllByRecursion (λ x. length x < 2 ^ 64) (cons_option (content_in m x) (contents f))
@@ -140,7 +159,7 @@ commits_spelled ws before (c ∷ cs) h f r lt =
     let now = snoc_all (λ d. IsIn (with_commit ws c) (commit_value d)) before c (each_one (λ d. IsIn ws (commit_value d)) (λ d. IsIn (with_commit ws c) (commit_value d)) (λ d i. inr (blobs_keep ws xs (commit_value d) i)) before h) (inl refl) in
     spelled_append (one_commit ws c) (commit_commands (with_commit ws c) cs)
     (spelled_append (blob_commands ws xs) _ (blobs_spelled ws xs (contents_fit (files_of c) r.0.files) (omega arith))
-    (spelled_append (root_reset (list_of (parents_of c))) _ (root_spelled (list_of (parents_of c))) (commit_spelled us c fits r.0 (passes _ f.0) parents (blobs_have ws xs), tt)))
+    (spelled_append (root_reset (list_of (parents_of c))) _ (root_spelled (list_of (parents_of c))) (own_commit_spelled us c fits r.0 (passes _ f.0) parents (blobs_have ws xs), tt)))
     (commits_spelled (with_commit ws c) (before ++ c ∷ []) cs now f.3 r.1 lt)
 
 pub last_spelled : (cs : List Commit) → AreSpelled (last_reset cs)

@@ -1,5 +1,5 @@
 //! Laws of the export of changes.
-ghost use Rattle.gx_model.specs.Laws.ChangesLaws.{ChangesAreReplayed, ClosedCommandsAreItems, ClosedCommandsAreRead};
+ghost use Rattle.gx_model.specs.Laws.ChangesLaws.{ChangesAreImported, ChangesAreReplayed, ChangesAreSpelled, ClosedCommandsAreItems, ClosedCommandsAreRead, ShortChangesAreReadable};
 
 /// The items of an export's commands can be spelled and are read as these commands, with and without `feature done` and `done`.
 #[tactic(auto, using(crate::proofs::CommandEnds::closed_spelled, crate::proofs::CommandEnds::closed_read))]
@@ -12,4 +12,16 @@ pub fn closed_commands_are_read()
 /// these reach, and the commits in their order.
 pub fn changes_are_replayed()
     ensures replayed { ChangesAreReplayed }
+{}
+
+/// A history that has no gitlink of forty zeros has an export of changes of commands that can be spelled, if the text's length is
+/// below 2^64.
+pub fn changes_are_readable()
+    ensures readable { ShortChangesAreReadable }
+    ensures spelled { ChangesAreSpelled }
+{}
+
+/// The import of such an export's text into nothing gives the same refs, exactly what these reach, and the commits in their order.
+pub fn changes_are_imported()
+    ensures imported { ChangesAreImported }
 {}

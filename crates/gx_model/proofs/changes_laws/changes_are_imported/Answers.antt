@@ -1,0 +1,5 @@
+use Rattle.gx_model.proofs.SpelledChanges.{changes_imported}
+use Rattle.gx_model.proofs.changes_laws.changes_are_imported.Goals as goal
+
+pub returns : goal.returns
+returns c = record { imported = changes_imported }

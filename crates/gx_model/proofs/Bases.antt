@@ -29,7 +29,7 @@ use Rattle.gx_model.proofs.FoundRecords.{first_found}
 use Rattle.gx_model.proofs.HeldValues.{held_is, kind_held, value_held}
 
 -- what a filter leaves
-in_filtered : (t : Value → Bool) (vs : List Value) (v : Value) → IsIn (filter t vs) v → IsIn vs v × (t v ≡ true)
+pub in_filtered : (t : Value → Bool) (vs : List Value) (v : Value) → IsIn (filter t vs) v → IsIn vs v × (t v ≡ true)
 in_filtered t [] v i = absurd i
 in_filtered t (w ∷ vs) v i =
     elim (t w) as (λ b. t w ≡ b → IsIn (cond b (w ∷ filter t vs) (filter t vs)) v → IsIn (w ∷ vs) v × (t v ≡ true)) [
@@ -37,7 +37,7 @@ in_filtered t (w ∷ vs) v i =
       | false ↦ λ k j. (inr (in_filtered t vs v j).0, (in_filtered t vs v j).1)
     ] refl i
 
-filtered_in : (t : Value → Bool) (vs : List Value) (v : Value) → IsIn vs v → t v ≡ true → IsIn (filter t vs) v
+pub filtered_in : (t : Value → Bool) (vs : List Value) (v : Value) → IsIn vs v → t v ≡ true → IsIn (filter t vs) v
 filtered_in t [] v i e = absurd i
 filtered_in t (w ∷ vs) v i e =
     elim (t w) as (λ b. t w ≡ b → IsIn (cond b (w ∷ filter t vs) (filter t vs)) v) [
@@ -69,10 +69,10 @@ module _ (name : Kind → Bytes → Bytes) (namer : IsNamer name) where
       let b : length (hex (name k body)) ≡ 40 = hex_long (name k body) ∙ ap (λ n. 2 * n) (namer.long k body) in
       grind (arith, take_all)
 
-  own_begins : (x : Bytes) (k : Kind) (body : Bytes) → length x ≡ 40 → list_all is_any_digit x ≡ true → name k body ≡ unhex (map lower x) → begins_with_digits x (name k body) ≡ true
+  pub own_begins : (x : Bytes) (k : Kind) (body : Bytes) → length x ≡ 40 → list_all is_any_digit x ≡ true → name k body ≡ unhex (map lower x) → begins_with_digits x (name k body) ≡ true
   own_begins x k body l h e = rw (long x k body l, e, hex_own x l h) (is_true _ (is_same (map lower x) (map lower x) refl))
 
-  begins_own : (x : Bytes) (k : Kind) (body : Bytes) → length x ≡ 40 → list_all is_any_digit x ≡ true → begins_with_digits x (name k body) ≡ true → name k body ≡ unhex (map lower x)
+  pub begins_own : (x : Bytes) (k : Kind) (body : Bytes) → length x ≡ 40 → list_all is_any_digit x ≡ true → begins_with_digits x (name k body) ≡ true → name k body ≡ unhex (map lower x)
   begins_own x k body l h b =
       let same : map lower x ≡ hex (name k body) = same_is (map lower x) (hex (name k body)) (passes _ (rw (long x k body l) at b)) in
       sym (unhex_hex (name k body) (passes _ (namer.bytes k body))) ∙ ap unhex (sym same)

@@ -97,3 +97,4 @@ pub mod HistorySteps
 pub mod RefusedExports
 pub mod ComingBack
 pub mod ShownImports
+pub mod NamedByDigits

@@ -33,7 +33,7 @@ use Rattle.gx_model.proofs.TextMaps.{order, tied, tied_with_itself}
 -- ---- all commits
 
 -- the branches after these commits
-abbrev branches_after : Refs → Branches → List Commit → Branches
+abbrev pub branches_after : Refs → Branches → List Commit → Branches
 branches_after refs bs cs = fold (λ bs c. committed_on (commit_ref refs c) c bs) bs cs
 
 no_files : Parts {X = Leaf Bytes} []
@@ -85,7 +85,7 @@ found_first : (x : Bytes × Target) (refs : Refs) → IsFound (x ∷ refs) x.0
 found_first x refs = subst (λ t. T (is_some (cond t (Some x.1) (find byte_cmp x.0 refs)))) (sym (tied_with_itself x.0)) tt
 
 module _ (P : Bytes → Type 0) where
-  first_holds : (x : Bytes) (xs : List Bytes) → AllByRecursion P (x ∷ xs) → P (first_or_carrier (filter is_branch (x ∷ xs) ++ x ∷ xs))
+  pub first_holds : (x : Bytes) (xs : List Bytes) → AllByRecursion P (x ∷ xs) → P (first_or_carrier (filter is_branch (x ∷ xs) ++ x ∷ xs))
   first_holds x xs h = by (filter is_branch (x ∷ xs)) (filtered (x ∷ xs) h) where
     filtered : (ys : List Bytes) → AllByRecursion P ys → AllByRecursion P (filter is_branch ys)
     filtered [] g = tt

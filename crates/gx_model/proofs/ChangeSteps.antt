@@ -40,7 +40,7 @@ use Rattle.gx_model.proofs.TextMaps.{order, tied}
 -- ---- blobs that were written
 
 -- the bytes of a file were written
-abbrev IsWritten : List Value → Leaf Bytes → Type 0
+abbrev pub IsWritten : List Value → Leaf Bytes → Type 0
 IsWritten ws leaf = AllByRecursion (λ x. IsIn ws (blob_value x)) (cons_option (content_in leaf.0 leaf.1) [])
 
 -- those of all files were
@@ -71,8 +71,12 @@ not_again ws vs x xs ys i same =
       values = same.values ∙ ap (λ t. cond t (values_with_blobs ws vs ys) (values_with_blobs (blob_value x ∷ ws) (with_one vs (blob_value x)) ys)) (sym e);
     }
 
+-- whether a file differs from that of the first parent
+abbrev pub differs : Commit → Path × Leaf Bytes → Bool
+differs c e = not (is_this_leaf (file_at (base_files (list_of (parents_of c))) e.0) e.1)
+
 module _ (t : Path × Leaf Bytes → Bool) where
-  abbrev OthersWritten : List Value → FileMap Bytes → Type 0
+  abbrev pub OthersWritten : List Value → FileMap Bytes → Type 0
   OthersWritten ws f = AllByRecursion (λ e. t e ≡ false → IsWritten ws e.1) f
 
   still_written : (ws : List Value) (v : Value) (f : FileMap Bytes) → OthersWritten ws f → OthersWritten (v ∷ ws) f
@@ -136,19 +140,20 @@ base_written : (ws : List Value) (ps : List Commit) → HaveBlobs ws → AllByRe
 base_written ws [] h k = tt
 base_written ws (p ∷ ps) h k = h p k.0
 
+-- the bytes of the files of a commit that don't differ are those of its first parent
+pub others_written : (ws : List Value) (c : Commit) → AreWritten ws (base_files (list_of (parents_of c))) → OthersWritten (differs c) ws (files_of c)
+others_written ws c h = by (files_of c) where
+  kept : (b : Bool) → not b ≡ false → b ≡ true
+  kept true e = refl
+  kept false e = absurd cc
+
+  by : (f : FileMap Bytes) → OthersWritten (differs c) ws f
+  by [] = tt
+  by (e ∷ f) = let old = base_files (list_of (parents_of c)) in (λ n. written_at ws old e.0 e.1 h (same_leaf (file_at old e.0) e.1 (kept (is_this_leaf (file_at old e.0) e.1) n)), by f)
+
 -- what a commit's own files write is what all its files write
 same_commit_blobs : (ws vs : List Value) (c : Commit) → HaveBlobs ws → AllByRecursion (λ p. IsIn ws (commit_value p)) (list_of (parents_of c)) → SameBlobs ws vs (contents (own_files c)) (contents (files_of c))
-same_commit_blobs ws vs c h k =
-    let old = base_files (list_of (parents_of c)) in
-    same_blobs (λ e. not (is_this_leaf (file_at old e.0) e.1)) (files_of c) ws vs (each (files_of c))
-  where
-    kept : (b : Bool) → not b ≡ false → b ≡ true
-    kept true e = refl
-    kept false e = absurd cc
-
-    each : (f : FileMap Bytes) → OthersWritten (λ e. not (is_this_leaf (file_at (base_files (list_of (parents_of c))) e.0) e.1)) ws f
-    each [] = tt
-    each (e ∷ f) = let old = base_files (list_of (parents_of c)) in (λ n. written_at ws old e.0 e.1 (base_written ws (list_of (parents_of c)) h k) (same_leaf (file_at old e.0) e.1 (kept (is_this_leaf (file_at old e.0) e.1) n)), each f)
+same_commit_blobs ws vs c h k = same_blobs (differs c) (files_of c) ws vs (others_written ws c (base_written ws (list_of (parents_of c)) h k))
 
 -- ---- the changes of a commit
 

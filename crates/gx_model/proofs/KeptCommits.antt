@@ -54,7 +54,7 @@ one_only vs w u = elim (is_in vs w) as (λ t. IsIn (cond t vs (vs ++ w ∷ [])) 
   last [] i = elim i [ inl e ↦ inr e | inr k ↦ absurd k ]
   last (x ∷ xs) i = elim i [ inl e ↦ inl (inl e) | inr k ↦ elim (last xs k) [ inl j ↦ inl (inr j) | inr e ↦ inr e ] ]
 
-blobs_only : (ws vs : List Value) (xs : List Bytes) (u : Value) → IsIn (values_with_blobs ws vs xs) u → IsIn vs u ⊎ IsIn (map blob_value xs) u
+pub blobs_only : (ws vs : List Value) (xs : List Bytes) (u : Value) → IsIn (values_with_blobs ws vs xs) u → IsIn vs u ⊎ IsIn (map blob_value xs) u
 blobs_only ws vs [] u i = inl i
 blobs_only ws vs (x ∷ xs) u i =
     let held = λ (k : IsIn (values_with_blobs ws vs xs) u). blobs_only ws vs xs u k in
@@ -77,7 +77,7 @@ contents_are ((p, (m, x)) ∷ f) = by m (contents_are f) where
   by Dir e = ap (λ t. blob_value x ∷ t) e
   by Gitlink e = e
 
-blob_reached : (c : Commit) (u : Value) → IsIn (map blob_value (contents (files_of c))) u → Reaches (commit_value c) u
+pub blob_reached : (c : Commit) (u : Value) → IsIn (map blob_value (contents (files_of c))) u → Reaches (commit_value c) u
 blob_reached c u i =
     let f = files_of c in
     let part = in_left (blobs_of f) (map tree_value (sub_maps f)) u (subst (λ (zs : List Value). IsIn zs u) (sym (contents_are f)) i) in
@@ -85,7 +85,7 @@ blob_reached c u i =
 
 -- ---- blobs keep a history
 
-record WithBlobs (ws vs us : List Value) : Type 0 where
+pub record WithBlobs (ws vs us : List Value) : Type 0 where
   pub whole : IsWhole us
   pub written : (v : Value) → IsIn ws v → IsIn us v
   pub keeps : (v : Value) → IsIn vs v → IsIn us v
@@ -93,7 +93,7 @@ record WithBlobs (ws vs us : List Value) : Type 0 where
 with_new : (ws vs us : List Value) (x : Bytes) → ((v : Value) → IsIn ws v → IsIn us v) → IsIn us (blob_value x) → (v : Value) → IsIn (blob_value x ∷ ws) v → IsIn us v
 with_new ws vs us x f h v i = elim i [ inl e ↦ subst (IsIn us) e h | inr k ↦ f v k ]
 
-blobs_whole : (ws vs : List Value) (xs : List Bytes) → IsWhole vs → ((v : Value) → IsIn ws v → IsIn vs v) → WithBlobs (with_blobs ws xs) vs (values_with_blobs ws vs xs)
+pub blobs_whole : (ws vs : List Value) (xs : List Bytes) → IsWhole vs → ((v : Value) → IsIn ws v → IsIn vs v) → WithBlobs (with_blobs ws xs) vs (values_with_blobs ws vs xs)
 blobs_whole ws vs [] h f = record { whole = h; written = f; keeps = λ v i. i }
 blobs_whole ws vs (x ∷ xs) h f =
     let held = blobs_whole ws vs xs h f in
@@ -158,11 +158,11 @@ pub each_one : (P Q : Commit → Type 0) → ((c : Commit) → P c → Q c) → 
 each_one P Q f [] h = tt
 each_one P Q f (c ∷ cs) h = (f c h.0, each_one P Q f cs h.1)
 
-all_map_commits : (P : Value → Type 0) (cs : List Commit) → AllByRecursion (λ c. P (commit_value c)) cs → AllByRecursion P (map commit_value cs)
+pub all_map_commits : (P : Value → Type 0) (cs : List Commit) → AllByRecursion (λ c. P (commit_value c)) cs → AllByRecursion P (map commit_value cs)
 all_map_commits P [] h = tt
 all_map_commits P (c ∷ cs) h = (h.0, all_map_commits P cs h.1)
 
-all_map_blobs : (P : Value → Type 0) (xs : List Bytes) → AllByRecursion (λ x. P (blob_value x)) xs → AllByRecursion P (map blob_value xs)
+pub all_map_blobs : (P : Value → Type 0) (xs : List Bytes) → AllByRecursion (λ x. P (blob_value x)) xs → AllByRecursion P (map blob_value xs)
 all_map_blobs P [] h = tt
 all_map_blobs P (x ∷ xs) h = (h.0, all_map_blobs P xs h.1)
 
@@ -170,11 +170,11 @@ pub snoc_all : (P : Commit → Type 0) (cs : List Commit) (c : Commit) → AllBy
 snoc_all P [] c h p = (p, tt)
 snoc_all P (d ∷ cs) c h p = (h.0, snoc_all P cs c h.1 p)
 
-any_left : (cs ds : List Commit) (u : Value) → AnyReaches (map commit_value cs) u → AnyReaches (map commit_value (cs ++ ds)) u
+pub any_left : (cs ds : List Commit) (u : Value) → AnyReaches (map commit_value cs) u → AnyReaches (map commit_value (cs ++ ds)) u
 any_left [] ds u h = absurd h
 any_left (c ∷ cs) ds u h = elim h [ inl r ↦ inl r | inr k ↦ inr (any_left cs ds u k) ]
 
-any_last : (cs : List Commit) (c : Commit) (u : Value) → Reaches (commit_value c) u → AnyReaches (map commit_value (cs ++ c ∷ [])) u
+pub any_last : (cs : List Commit) (c : Commit) (u : Value) → Reaches (commit_value c) u → AnyReaches (map commit_value (cs ++ c ∷ [])) u
 any_last [] c u r = inl r
 any_last (d ∷ cs) c u r = inr (any_last cs c u r)
 

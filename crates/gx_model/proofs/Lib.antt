@@ -98,3 +98,5 @@ pub mod RefusedExports
 pub mod ComingBack
 pub mod ShownImports
 pub mod NamedByDigits
+pub mod ReceivedValues
+pub mod RangeSteps

@@ -18,6 +18,7 @@ use Rattle.gx_model.specs.Histories.Values.{Commit, Value, commit_value, is_hex_
 use Rattle.gx_model.specs.Histories.{History, IsIn, Target}
 use Rattle.gx_model.specs.Objects.{IsNamer, hex, unhex}
 use Rattle.gx_model.specs.Records.{body_of, kind_of, name_of}
+use Rattle.gx_model.specs.Laws.RangeLaws.{AreToldByName}
 use Rattle.gx_model.specs.Revisions.{Revision, base_and_suffixes, base_of, revision_of}
 use Rattle.gx_model.specs.Revisions.Denotation.{base_value, begins_with_digits, begun_by, denoted, full_name, is_any_digit, lower, value_denoted}
 use Rattle.gx_model.proofs.Bases.{begins_own, filtered_in, in_filtered, own_begins}
@@ -142,12 +143,8 @@ module _ (name : Kind → Bytes → Bytes) (namer : IsNamer name) where
       let long : length (hex (name_of name v)) ≡ 40 = hex_long (name_of name v) ∙ ap (λ n. 2 * n) (namer.long (kind_of name v) (body_of name v)) in
       and_from _ _ (eq-eqb (length (hex (name_of name v))) 40 long) (hex_lower (name_of name v) (namer.bytes (kind_of name v) (body_of name v)))
 
-  -- names tell these values apart
-  abbrev pub AreTold : List Value → Type 0
-  AreTold held = (v w : Value) → IsIn held v → IsIn held w → name_of name v ≡ name_of name w → v ≡ w
-
   -- the digits of a value's name give it, where these values stand first
-  pub digits_give : (held new : List Value) (refs : List (Bytes × Target)) (v : Value) → AreTold held → IsIn held v → base_value name (record { values = held ++ new; refs = refs }) (hex (name_of name v)) ≡ Ok v
+  pub digits_give : (held new : List Value) (refs : List (Bytes × Target)) (v : Value) → AreToldByName name held → IsIn held v → base_value name (record { values = held ++ new; refs = refs }) (hex (name_of name v)) ≡ Ok v
   digits_give held new refs v told i =
       let x = hex (name_of name v) in
       let p = parts_of_name x (name_is_text v) in
@@ -165,6 +162,6 @@ module _ (name : Kind → Bytes → Bytes) (namer : IsNamer name) where
       by [] f j = absurd j
       by (w ∷ ws) f j = ap Ok (f w (inl refl))
 
-  pub digits_denote : (held new : List Value) (refs : List (Bytes × Target)) (v : Value) → AreTold held → IsIn held v → value_denoted name (record { values = held ++ new; refs = refs }) (record { base = hex (name_of name v); suffixes = []; path = None }) ≡ Ok v
+  pub digits_denote : (held new : List Value) (refs : List (Bytes × Target)) (v : Value) → AreToldByName name held → IsIn held v → value_denoted name (record { values = held ++ new; refs = refs }) (record { base = hex (name_of name v); suffixes = []; path = None }) ≡ Ok v
   unfolding denoted
   digits_denote held new refs v told i = rw (digits_give held new refs v told i) refl

@@ -1,0 +1,60 @@
+-- What the law of exports of ranges supposes and says: a repository that holds what a range excludes receives the rest.
+-- Source: git-fast-export(1) and git-fast-import(1).
+use Rattle.std.specs.Prelude.{◌≡◌, ◌⊎◌, ◌-◌, Bool, true, false, List, [], ◌∷◌, ◌++◌, length, map, reverse, None, Some}
+use Rattle.std.specs.FinMap.Entries.{put}
+use Rattle.std.specs.List.{AllByRecursion, fold, list_any}
+use Rattle.gx_model.specs.declared.objects.Kind.{Kind}
+use Rattle.gx_model.specs.Texts.{Bytes}
+use Rattle.gx_model.specs.Histories.Values.{Commit, Value, commit_value, is_name_text}
+use Rattle.gx_model.specs.Histories.{History, IsHistory, IsIn, IsWhole, Target, at_commit, at_tag, value_at}
+use Rattle.gx_model.specs.Objects.{IsNamer}
+use Rattle.gx_model.specs.Records.{name_of}
+use Rattle.gx_model.specs.Revisions.Denotation.{ref_at}
+use Rattle.gx_model.specs.Revisions.Ranges.{Word, listing, span}
+use Rattle.gx_model.specs.Replay.{Report, byte_cmp, finished, is_forward, replayed, start}
+use Rattle.gx_model.specs.Changes.{range_commands, set_refs}
+use Rattle.gx_model.specs.Laws.ExportLaws.{AnyReaches}
+
+-- whether a range word excludes a commit
+abbrev pub is_excluded : List Word → Commit → Bool
+is_excluded words c = list_any (λ w. (span w).excluded c) words
+
+-- names tell these values apart
+abbrev pub AreToldByName : (Kind → Bytes → Bytes) → List Value → Type 0
+AreToldByName name values = (v w : Value) → IsIn values v → IsIn values w → name_of name v ≡ name_of name w → v ≡ w
+
+-- The commit of a ref that is there already is an ancestor of the one that it is set to; a tag is new, or its commit is excluded.
+abbrev pub IsForwardRef : History → List Word → Bytes → Target → Type 0
+IsForwardRef target words ref (at_commit c) = is_forward (ref_at target ref) (Some c) ≡ true
+IsForwardRef target words ref (at_tag t) = (ref_at target ref ≡ None) ⊎ (is_excluded words t.target ≡ true)
+
+-- What a history has that receives what range words list of another: it holds each commit that they exclude, under its name, and the
+-- refs that are set are forward. No ref is named by forty digits, which would be read as an object's name.
+pub record CanReceive (name : Kind → Bytes → Bytes) (h : History) (words : List Word) (target : History) : Type 0 where
+  pub history : IsHistory target
+  pub told : AreToldByName name target.values
+  pub holds : (c : Commit) → IsIn h.values (commit_value c) → is_excluded words c ≡ true → IsIn target.values (commit_value c)
+  pub forward : AllByRecursion (λ r. IsForwardRef target words r.0 r.1) (set_refs h words)
+  pub named : AllByRecursion (λ r. is_name_text r.0 ≡ false) (set_refs h words)
+
+-- what the commits that are sent and the refs that are set reach
+abbrev pub IsSent : History → List Word → Value → Type 0
+IsSent h words u = AnyReaches (map commit_value (reverse (listing h words)) ++ map (λ r. value_at r.1) (set_refs h words)) u
+
+-- Beside what was there, exactly what was sent; and the refs are set.
+pub record IsReceived (h : History) (words : List Word) (target k : History) : Type 0 where
+  pub refs : k.refs ≡ fold (λ rs r. put byte_cmp r.0 r.1 rs) target.refs (set_refs h words)
+  pub front : (new : List Value) × (k.values ≡ target.values ++ new)
+  pub only : (u : Value) → IsIn k.values u → IsIn target.values u ⊎ IsSent h words u
+  pub all : (u : Value) → IsSent h words u → IsIn k.values u
+  pub whole : IsWhole k.values
+
+-- each command was read, and each ref was set
+abbrev pub range_report : (Kind → Bytes → Bytes) → Bool → History → List Word → History → History → Report
+range_report name closed h words target k = record { commands = length (range_commands name closed h words); objects = length k.values - length target.values; refs = length (set_refs h words) }
+
+-- the commands of a range's export are replayed without a fault in a history that can receive them
+abbrev pub RangesAreReplayed : Type 0
+RangesAreReplayed =
+    (name : Kind → Bytes → Bytes) → IsNamer name → (closed : Bool) (h : History) → IsHistory h → (words : List Word) (target : History) → CanReceive name h words target
+    → (k : History) × IsReceived h words target k × (replayed name 0 (start target) (range_commands name closed h words) None ≡ finished k [] (range_report name closed h words target k))

@@ -151,6 +151,11 @@ module _ (refs : Refs) where
 
 -- ---- the whole
 
+-- `feature done` and `done` change nothing
+pub closed_steps : (name : Kind → Bytes → Bytes) (closed : Bool) (commands : List Command) (s t : State) → steps name s commands ≡ Ok t → steps name s (closed_by closed commands) ≡ Ok t
+closed_steps name true commands s t e = steps_after name s t commands (command.Done ∷ []) e
+closed_steps name false commands s t e = e
+
 module _ (name : Kind → Bytes → Bytes) where
   refs_by_mark : (ws : List Value) (rs : Refs) → ArePeeled ws rs → map (ref_by (named_in name ws)) rs ≡ map (ref_command ws) rs
   refs_by_mark ws [] k = refl
@@ -186,8 +191,4 @@ module _ (name : Kind → Bytes → Bytes) where
       ap (steps name (start nothing)) (all_by_mark h x)
       ∙ steps_after name (start nothing) (state_with nothing ws vs bs []) (commits_with_changes name h.refs [] cs) ref_part done.steps
       ∙ refs_replayed name nothing ws vs bs [] h.refs x.own (peeled_ones h x) in
-      ends_again name h x bs are.sorted (λ q n. ap at_branch (are.others q n)) (changes_commands name closed h) (closed_steps closed (sending_commands name cs h.refs) (after_refs name h bs) inner)
-    where
-      closed_steps : (closed : Bool) (commands : List Command) (t : State) → steps name (start nothing) commands ≡ Ok t → steps name (start nothing) (closed_by closed commands) ≡ Ok t
-      closed_steps true commands t e = steps_after name (start nothing) t commands (command.Done ∷ []) e
-      closed_steps false commands t e = e
+      ends_again name h x bs are.sorted (λ q n. ap at_branch (are.others q n)) (changes_commands name closed h) (closed_steps name closed (sending_commands name cs h.refs) (start nothing) (after_refs name h bs) inner)

@@ -100,3 +100,4 @@ pub mod ShownImports
 pub mod NamedByDigits
 pub mod ReceivedValues
 pub mod RangeSteps
+pub mod SentCommits

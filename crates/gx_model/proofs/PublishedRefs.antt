@@ -24,7 +24,7 @@ at_branch None = None
 at_branch (Some None) = None
 at_branch (Some (Some c)) = Some (at_commit c)
 
-abbrev at_either : Option Tag → Option Target → Option Target
+abbrev pub at_either : Option Tag → Option Target → Option Target
 at_either None o = o
 at_either (Some t) o = Some (at_tag t)
 
@@ -35,7 +35,7 @@ Refs = List (Bytes × Target)
 abbrev pub looked : Bytes → Branches → Tags → Option Target
 looked q bs ts = at_either (find byte_cmp q ts) (at_branch (find byte_cmp q bs))
 
-tags_found : (q : Bytes) (rs : Refs) (ts : Tags) → T (is_sorted byte_cmp ts) → find byte_cmp q (fold (λ rs t. put byte_cmp t.0 (at_tag t.1) rs) rs ts) ≡ at_either (find byte_cmp q ts) (find byte_cmp q rs)
+pub tags_found : (q : Bytes) (rs : Refs) (ts : Tags) → T (is_sorted byte_cmp ts) → find byte_cmp q (fold (λ rs t. put byte_cmp t.0 (at_tag t.1) rs) rs ts) ≡ at_either (find byte_cmp q ts) (find byte_cmp q rs)
 tags_found q rs [] h = refl
 tags_found q rs (e ∷ es) h =
     tags_found q (put byte_cmp e.0 (at_tag e.1) rs) es (second _ _ h) ∙ ap (at_either (find byte_cmp q es)) (find-put byte_cmp order q e.0 (at_tag e.1) rs)
@@ -44,11 +44,11 @@ tags_found q rs (e ∷ es) h =
       | false ↦ λ t. refl
     ] refl
 
-abbrev or_before : Option Target → Option Target → Option Target
+abbrev pub or_before : Option Target → Option Target → Option Target
 or_before None o = o
 or_before (Some t) o = Some t
 
-branches_found : (q : Bytes) (rs : Refs) (bs : Branches) → T (is_sorted byte_cmp bs) → find byte_cmp q (fold with_branch rs bs) ≡ or_before (at_branch (find byte_cmp q bs)) (find byte_cmp q rs)
+pub branches_found : (q : Bytes) (rs : Refs) (bs : Branches) → T (is_sorted byte_cmp bs) → find byte_cmp q (fold with_branch rs bs) ≡ or_before (at_branch (find byte_cmp q bs)) (find byte_cmp q rs)
 branches_found q rs [] h = refl
 branches_found q rs ((n, None) ∷ bs) h =
     branches_found q rs bs (second _ _ h)
@@ -63,12 +63,12 @@ branches_found q rs ((n, Some c) ∷ bs) h =
       | false ↦ λ t. refl
     ] refl
 
-branches_sorted : (rs : Refs) (bs : Branches) → T (is_sorted byte_cmp rs) → T (is_sorted byte_cmp (fold with_branch rs bs))
+pub branches_sorted : (rs : Refs) (bs : Branches) → T (is_sorted byte_cmp rs) → T (is_sorted byte_cmp (fold with_branch rs bs))
 branches_sorted rs [] h = h
 branches_sorted rs ((n, None) ∷ bs) h = branches_sorted rs bs h
 branches_sorted rs ((n, Some c) ∷ bs) h = branches_sorted (put byte_cmp n (at_commit c) rs) bs (is_sorted-put byte_cmp order n (at_commit c) rs h)
 
-tags_sorted : (rs : Refs) (ts : Tags) → T (is_sorted byte_cmp rs) → T (is_sorted byte_cmp (fold (λ rs t. put byte_cmp t.0 (at_tag t.1) rs) rs ts))
+pub tags_sorted : (rs : Refs) (ts : Tags) → T (is_sorted byte_cmp rs) → T (is_sorted byte_cmp (fold (λ rs t. put byte_cmp t.0 (at_tag t.1) rs) rs ts))
 tags_sorted rs [] h = h
 tags_sorted rs (t ∷ ts) h = tags_sorted (put byte_cmp t.0 (at_tag t.1) rs) ts (is_sorted-put byte_cmp order t.0 (at_tag t.1) rs h)
 
@@ -105,22 +105,22 @@ module _ (name : Kind → Bytes → Bytes) (h : History) where
 -- ---- what the refs' commands set
 
 -- a branch by the ref that is set, or else as it was
-abbrev set_branch : Option Target → Option (Option Commit) → Option (Option Commit)
+abbrev pub set_branch : Option Target → Option (Option Commit) → Option (Option Commit)
 set_branch (Some (at_commit c)) o = Some (Some c)
 set_branch (Some (at_tag t)) o = o
 set_branch None o = o
 
 -- a tag by the ref that is set, or else as it was
-abbrev set_tag : Option Target → Option Tag → Option Tag
+abbrev pub set_tag : Option Target → Option Tag → Option Tag
 set_tag (Some (at_tag t)) o = Some t
 set_tag (Some (at_commit c)) o = o
 set_tag None o = o
 
 -- a ref stands once
-only_once : (q n : Bytes) (rs : Refs) → T (below_all byte_cmp n rs) → eq_by_cmp byte_cmp q n ≡ true → find byte_cmp q rs ≡ None
+pub only_once : (q n : Bytes) (rs : Refs) → T (below_all byte_cmp n rs) → eq_by_cmp byte_cmp q n ≡ true → find byte_cmp q rs ≡ None
 only_once q n rs h e = sym (find_tied byte_cmp order q n (tied q n e) rs) ∙ none_below n rs h
 
-branch_set : (bs : Branches) (rs : Refs) (q : Bytes) → T (is_sorted byte_cmp rs) → find byte_cmp q (ref_branches bs rs) ≡ set_branch (find byte_cmp q rs) (find byte_cmp q bs)
+pub branch_set : (bs : Branches) (rs : Refs) (q : Bytes) → T (is_sorted byte_cmp rs) → find byte_cmp q (ref_branches bs rs) ≡ set_branch (find byte_cmp q rs) (find byte_cmp q bs)
 branch_set bs [] q h = refl
 branch_set bs ((n, at_commit c) ∷ rs) q h =
     branch_set (put byte_cmp n (Some c) bs) rs q (second _ _ h) ∙ ap (set_branch (find byte_cmp q rs)) (find-put byte_cmp order q n (Some c) bs)
@@ -135,7 +135,7 @@ branch_set bs ((n, at_tag u) ∷ rs) q h =
       | false ↦ λ t. refl
     ] refl
 
-tag_set : (ts : Tags) (rs : Refs) (q : Bytes) → T (is_sorted byte_cmp rs) → find byte_cmp q (ref_tags ts rs) ≡ set_tag (find byte_cmp q rs) (find byte_cmp q ts)
+pub tag_set : (ts : Tags) (rs : Refs) (q : Bytes) → T (is_sorted byte_cmp rs) → find byte_cmp q (ref_tags ts rs) ≡ set_tag (find byte_cmp q rs) (find byte_cmp q ts)
 tag_set ts [] q h = refl
 tag_set ts ((n, at_tag u) ∷ rs) q h =
     tag_set (put byte_cmp n u ts) rs q (second _ _ h) ∙ ap (set_tag (find byte_cmp q rs)) (find-put byte_cmp order q n u ts)
@@ -165,12 +165,12 @@ all_set bs rs h n q =
     by (Some (at_commit c)) e = refl
     by (Some (at_tag t)) e = refl
 
-ref_branches_sorted : (bs : Branches) (rs : Refs) → T (is_sorted byte_cmp bs) → T (is_sorted byte_cmp (ref_branches bs rs))
+pub ref_branches_sorted : (bs : Branches) (rs : Refs) → T (is_sorted byte_cmp bs) → T (is_sorted byte_cmp (ref_branches bs rs))
 ref_branches_sorted bs [] h = h
 ref_branches_sorted bs ((n, at_commit c) ∷ rs) h = ref_branches_sorted (put byte_cmp n (Some c) bs) rs (is_sorted-put byte_cmp order n (Some c) bs h)
 ref_branches_sorted bs ((n, at_tag t) ∷ rs) h = ref_branches_sorted bs rs h
 
-ref_tags_sorted : (ts : Tags) (rs : Refs) → T (is_sorted byte_cmp ts) → T (is_sorted byte_cmp (ref_tags ts rs))
+pub ref_tags_sorted : (ts : Tags) (rs : Refs) → T (is_sorted byte_cmp ts) → T (is_sorted byte_cmp (ref_tags ts rs))
 ref_tags_sorted ts [] h = h
 ref_tags_sorted ts ((n, at_commit c) ∷ rs) h = ref_tags_sorted ts rs h
 ref_tags_sorted ts ((n, at_tag t) ∷ rs) h = ref_tags_sorted (put byte_cmp n t ts) rs (is_sorted-put byte_cmp order n t ts h)

@@ -20,7 +20,7 @@ use Rattle.gx_model.proofs.PublishedRefs.{Refs}
 use Rattle.gx_model.proofs.SameValues.{commit_is}
 use Rattle.gx_model.proofs.ReachedCommits as reached
 
-one_in : (vs : List Value) (c : Commit) → IsOne (filter_map commit_of vs) c → IsIn vs (commit_value c)
+pub one_in : (vs : List Value) (c : Commit) → IsOne (filter_map commit_of vs) c → IsIn vs (commit_value c)
 one_in [] c h = absurd h
 one_in (blob_value x ∷ vs) c h = inr (one_in vs c h)
 one_in (tree_value f ∷ vs) c h = inr (one_in vs c h)
@@ -34,14 +34,14 @@ one_filter R (d ∷ cs) c h r = by (R d) refl h (λ k. one_filter R cs c k r) wh
   by true e k again = elim k [ inl is ↦ inl is | inr i ↦ inr (again i) ]
   by false e k again = elim k [ inl is ↦ absurd (subst T (sym (ap R is) ∙ e) r) | inr i ↦ again i ]
 
-filter_one : (R : Commit → Bool) (cs : List Commit) (c : Commit) → IsOne (filter R cs) c → IsOne cs c
+pub filter_one : (R : Commit → Bool) (cs : List Commit) (c : Commit) → IsOne (filter R cs) c → IsOne cs c
 filter_one R [] c h = absurd h
 filter_one R (d ∷ cs) c h = by (R d) h (λ k. filter_one R cs c k) where
   by : (t : Bool) → IsOne (cond t (d ∷ filter R cs) (filter R cs)) c → (IsOne (filter R cs) c → IsOne cs c) → (d ≡ c) ⊎ IsOne cs c
   by true k again = elim k [ inl is ↦ inl is | inr i ↦ inr (again i) ]
   by false k again = inr (again k)
 
-parents_all : (P : Commit → Type 0) (ps : Commits) → ((p : Commit) → IsParent p ps → P p) → AllByRecursion P (list_of ps)
+pub parents_all : (P : Commit → Type 0) (ps : Commits) → ((p : Commit) → IsParent p ps → P p) → AllByRecursion P (list_of ps)
 parents_all P none f = tt
 parents_all P (more p ps) f = (f p (inl refl), parents_all P ps (λ q i. f q (inr i)))
 
@@ -53,25 +53,29 @@ reached_parent : (refs : Refs) (c p : Commit) → T (is_reached refs c) → IsPa
 reached_parent [] c p h i = absurd h
 reached_parent (r ∷ refs) c p h i = one_of (reaches (peeled_at r.1) c) (is_reached refs c) h (λ k. left_or _ _ (reached.closed (peeled_at r.1) c p k i)) (λ k. right_or (reaches (peeled_at r.1) p) _ (reached_parent refs c p k i))
 
-parents_of_commit : (before : List Value) (c : Commit) → AllByRecursion (IsIn before) (parts (commit_value c)) → (p : Commit) → IsParent p (parents_of c) → IsIn before (commit_value p)
+pub parents_of_commit : (before : List Value) (c : Commit) → AllByRecursion (IsIn before) (parts (commit_value c)) → (p : Commit) → IsParent p (parents_of c) → IsIn before (commit_value p)
 parents_of_commit before c h p i = parent_in (IsIn before) (parents_of c) h.1 p i
 
+-- the commits among these values that pass
+abbrev pub passing : (Commit → Bool) → List Value → List Commit
+passing R vs = filter R (filter_map commit_of vs)
+
+pub not_a_commit : (R : Commit → Bool) (before : List Value) (v : Value) → commit_of v ≡ None → passing R (before ++ v ∷ []) ≡ passing R before
+not_a_commit R before v e = ap (filter R) (filter_map-append commit_of before (v ∷ []) ∙ ap (λ (o : Option Commit). filter_map commit_of before ++ cons_option o []) e ∙ append-nil (filter_map commit_of before))
+
+pub a_commit : (R : Commit → Bool) (before : List Value) (c : Commit) (t : Bool) → R c ≡ t → passing R (before ++ commit_value c ∷ []) ≡ passing R before ++ cond t (c ∷ []) []
+a_commit R before c t e =
+    ap (filter R) (filter_map-append commit_of before (commit_value c ∷ [])) ∙ filter-append R (filter_map commit_of before) (c ∷ [])
+    ∙ ap (λ b. passing R before ++ cond b (c ∷ []) []) e
+
 abbrev reached_in : Refs → List Value → List Commit
-reached_in refs vs = filter (is_reached refs) (filter_map commit_of vs)
-
-not_a_commit : (refs : Refs) (before : List Value) (v : Value) → commit_of v ≡ None → reached_in refs (before ++ v ∷ []) ≡ reached_in refs before
-not_a_commit refs before v e = ap (filter (is_reached refs)) (filter_map-append commit_of before (v ∷ []) ∙ ap (λ (o : Option Commit). filter_map commit_of before ++ cons_option o []) e ∙ append-nil (filter_map commit_of before))
-
-a_commit : (refs : Refs) (before : List Value) (c : Commit) (t : Bool) → is_reached refs c ≡ t → reached_in refs (before ++ commit_value c ∷ []) ≡ reached_in refs before ++ cond t (c ∷ []) []
-a_commit refs before c t e =
-    ap (filter (is_reached refs)) (filter_map-append commit_of before (commit_value c ∷ [])) ∙ filter-append (is_reached refs) (filter_map commit_of before) (c ∷ [])
-    ∙ ap (λ b. reached_in refs before ++ cond b (c ∷ []) []) e
+reached_in refs vs = passing (is_reached refs) vs
 
 pub follows : (refs : Refs) (before vs : List Value) → IsClosedAfter before vs → T (list_all is_proper vs) → FollowsAll (reached_in refs before) (reached_in refs vs)
 follows refs before [] h p = tt
-follows refs before (blob_value x ∷ vs) h p = subst (λ b. FollowsAll b (reached_in refs vs)) (not_a_commit refs before (blob_value x) refl) (follows refs (before ++ blob_value x ∷ []) vs h.2 p)
-follows refs before (tree_value f ∷ vs) h p = subst (λ b. FollowsAll b (reached_in refs vs)) (not_a_commit refs before (tree_value f) refl) (follows refs (before ++ tree_value f ∷ []) vs h.2 (second (is_proper (tree_value f)) _ p))
-follows refs before (tag_value t ∷ vs) h p = subst (λ b. FollowsAll b (reached_in refs vs)) (not_a_commit refs before (tag_value t) refl) (follows refs (before ++ tag_value t ∷ []) vs h.2 (second (is_proper (tag_value t)) _ p))
+follows refs before (blob_value x ∷ vs) h p = subst (λ b. FollowsAll b (reached_in refs vs)) (not_a_commit (is_reached refs) before (blob_value x) refl) (follows refs (before ++ blob_value x ∷ []) vs h.2 p)
+follows refs before (tree_value f ∷ vs) h p = subst (λ b. FollowsAll b (reached_in refs vs)) (not_a_commit (is_reached refs) before (tree_value f) refl) (follows refs (before ++ tree_value f ∷ []) vs h.2 (second (is_proper (tree_value f)) _ p))
+follows refs before (tag_value t ∷ vs) h p = subst (λ b. FollowsAll b (reached_in refs vs)) (not_a_commit (is_reached refs) before (tag_value t) refl) (follows refs (before ++ tag_value t ∷ []) vs h.2 (second (is_proper (tag_value t)) _ p))
 follows refs before (commit_value c ∷ vs) h p =
     let rest = follows refs (before ++ commit_value c ∷ []) vs h.2 (second (is_proper (commit_value c)) _ p) in
     elim (is_reached refs c) as (λ t. is_reached refs c ≡ t → FollowsAll (reached_in refs before) (cond t (c ∷ reached_in refs vs) (reached_in refs vs))) [
@@ -79,9 +83,9 @@ follows refs before (commit_value c ∷ vs) h p =
         is_true _ (first (is_proper (commit_value c)) _ p),
         parents_all (IsOne (reached_in refs before)) (parents_of c) (λ q i. one_filter (is_reached refs) (filter_map commit_of before) q (among before q (parents_of_commit before c h.1 q i)) (reached_parent refs c q (subst T (sym e) tt) i)),
         λ i. false≢true (sym h.0 ∙ is_is_in before (commit_value c) (one_in before c (filter_one (is_reached refs) (filter_map commit_of before) c i))),
-        subst (λ b. FollowsAll b (reached_in refs vs)) (a_commit refs before c true e) rest,
+        subst (λ b. FollowsAll b (reached_in refs vs)) (a_commit (is_reached refs) before c true e) rest,
       )
-      | false ↦ λ e. subst (λ b. FollowsAll b (reached_in refs vs)) (a_commit refs before c false e ∙ append-nil (reached_in refs before)) rest
+      | false ↦ λ e. subst (λ b. FollowsAll b (reached_in refs vs)) (a_commit (is_reached refs) before c false e ∙ append-nil (reached_in refs before)) rest
     ] refl
 
 -- ---- what the refs reach

@@ -101,3 +101,4 @@ pub mod NamedByDigits
 pub mod ReceivedValues
 pub mod RangeSteps
 pub mod SentCommits
+pub mod SetBranches

@@ -59,7 +59,7 @@ module _ (name : Kind → Bytes → Bytes) where
 
   -- ---- the end, from the steps
 
-  all_replayed : (n : ℕ) (s t : State) (cs : List Command) → steps name s cs ≡ Ok t → replayed name n s cs None ≡ replayed name (n + length cs) t [] None
+  pub all_replayed : (n : ℕ) (s t : State) (cs : List Command) → steps name s cs ≡ Ok t → replayed name n s cs None ≡ replayed name (n + length cs) t [] None
   all_replayed n s t [] e = let k : n + 0 ≡ n = omega arith in ap (λ u. ended n u None) (same_ok s t e) ∙ ap (λ m. ended m t None) (sym k)
   all_replayed n s t (c ∷ cs) e = by (step name s c) (λ u. all_replayed (n + 1) u t cs) e where
     by : (r : Result State Fault) → ((u : State) → steps name u cs ≡ Ok t → replayed name (n + 1) u cs None ≡ replayed name (n + 1 + length cs) t [] None) → and_then r (λ u. steps name u cs) ≡ Ok t

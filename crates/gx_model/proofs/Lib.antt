@@ -102,3 +102,4 @@ pub mod ReceivedValues
 pub mod RangeSteps
 pub mod SentCommits
 pub mod SetBranches
+pub mod RangeReplays

@@ -11,7 +11,7 @@ use Rattle.std.proofs.lemmas.Slice.Eq.{bytes_eq-Decides}
 use Rattle.gx_model.specs.Texts.{Bytes, lacks}
 use Rattle.gx_model.specs.Texts.Paths.{Path, is_component, path_text, printed}
 use Rattle.gx_model.specs.Histories.Values.{is_name_text, is_hex_digit}
-use Rattle.gx_model.specs.Streams.Commands.{Marked}
+use Rattle.gx_model.specs.Streams.Commands.{Marked, Named}
 use Rattle.gx_model.specs.Streams.Grammar as read
 use Rattle.gx_model.specs.Streams.Grammar.{mark_of, of_mark, mark_number, commit_ish_of, commit_ish_by, last_path, is_name, AtMark, AtName, where_of, where_by}
 use Rattle.gx_model.specs.Laws.ExportLaws.{IsMark, IsLink, IsPath}
@@ -82,6 +82,15 @@ where_link [] h = absurd (false≢true h.0)
 where_link (b ∷ bs) h =
     let c = hex_no_colon b (and_one (is_hex_digit b) _ (all_hex (b ∷ bs) h.0)) in
     ap (λ t. where_by (b ∷ bs) (cond t (Some (mark_number bs)) None)) c ∙ rw (not_inline (b ∷ bs) h.0, h.1, is_name_is (b ∷ bs) h.0) refl
+
+-- ---- a commit's digits
+
+pub commit_ish_digits : (x : Bytes) → IsLink x → commit_ish_of x ≡ Ok (Named x)
+unfolding commit_ish_of
+commit_ish_digits [] h = absurd (false≢true h.0)
+commit_ish_digits (b ∷ bs) h =
+    let c = hex_no_colon b (and_one (is_hex_digit b) _ (all_hex (b ∷ bs) h.0)) in
+    ap (λ t. commit_ish_by (b ∷ bs) (cond t (Some (mark_number bs)) None)) c ∙ rw h.1 refl
 
 -- ---- paths
 

@@ -23,9 +23,9 @@ use Rattle.gx_model.specs.Streams.Grammar.{last_path, words_of, words_by, is_wor
 use Rattle.gx_model.specs.Histories.Values.{is_optional_encoding, is_optional_ident}
 use Rattle.gx_model.specs.Replay.{or_else}
 use Rattle.gx_model.specs.Export.{mode_digits, dataref_text, dataref_block, reset_items, commit_ish_text, change_items, command_items, from_line, optional_line}
-use Rattle.gx_model.specs.Laws.ExportLaws.{IsMark, IsLink, IsPath, IsDataRef, IsNamedByMark, IsNamedByMarkIf, IsSpelledChange, IsSpelled, HasMark, between}
+use Rattle.gx_model.specs.Laws.ExportLaws.{IsMark, IsLink, IsPath, IsDataRef, IsNamedCommit, IsNamedCommitIf, IsSpelledChange, IsSpelled, HasMark, between}
 use Rattle.gx_model.proofs.Cuts.{cut_after}
-use Rattle.gx_model.proofs.CommandFields.{mark_read, commit_ish_read, where_mark, where_link, mark_no_space, link_no_space, path_read}
+use Rattle.gx_model.proofs.CommandFields.{mark_read, commit_ish_digits, commit_ish_read, where_mark, where_link, mark_no_space, link_no_space, path_read}
 
 -- the next item is a line with this word
 abbrev pub next_is : Bytes → List Item → Bool
@@ -140,11 +140,11 @@ optional_there name x read y more e is =
 abbrev pub merge_item : CommitIsh → Item
 merge_item p = Line (codes "merge" ++ 32 ∷ commit_ish_text p)
 
-marked_read : (c : CommitIsh) → IsNamedByMark c → commit_ish_of (commit_ish_text c) ≡ Ok c
+marked_read : (c : CommitIsh) → IsNamedCommit c → commit_ish_of (commit_ish_text c) ≡ Ok c
 marked_read (Marked n) h = commit_ish_read n h
-marked_read (Named x) h = absurd h
+marked_read (Named x) h = commit_ish_digits x h
 
-pub merges_read : (n : ℕ) (ms : List CommitIsh) (more : List Item) → length ms ≤ n → AllByRecursion IsNamedByMark ms → next_is (codes "merge") more ≡ false → merges_within n (stream (map merge_item ms ++ more)) ≡ Ok (ms, stream more)
+pub merges_read : (n : ℕ) (ms : List CommitIsh) (more : List Item) → length ms ≤ n → AllByRecursion IsNamedCommit ms → next_is (codes "merge") more ≡ false → merges_within n (stream (map merge_item ms ++ more)) ≡ Ok (ms, stream more)
 unfolding merges_within
 merges_read zero [] more lt h e = refl
 merges_read (suc n) [] more lt h e = rw (optional_absent (codes "merge") commit_ish_of more e) refl
@@ -180,11 +180,11 @@ all_changes (Remove p ∷ cs) rest h = omega (arith, all_changes cs rest h.1)
 all_changes (Copy p q ∷ cs) rest h = absurd h.0
 all_changes (Rename p q ∷ cs) rest h = absurd h.0
 
-pub from_read : (parent : Option CommitIsh) (more : List Item) → IsNamedByMarkIf parent → next_is (codes "from") more ≡ false → optional (codes "from") commit_ish_of (stream (from_line parent ++ more)) ≡ Ok (parent, stream more)
+pub from_read : (parent : Option CommitIsh) (more : List Item) → IsNamedCommitIf parent → next_is (codes "from") more ≡ false → optional (codes "from") commit_ish_of (stream (from_line parent ++ more)) ≡ Ok (parent, stream more)
 from_read None more h e = optional_absent (codes "from") commit_ish_of more e
 from_read (Some c) more h e = optional_there (codes "from") (commit_ish_text c) commit_ish_of c more refl (marked_read c h)
 
-pub links_read : (parent : Option CommitIsh) (ms : List CommitIsh) (cs : List Change) (rest : List Item) → IsNamedByMarkIf parent → AllByRecursion IsNamedByMark ms → AllByRecursion IsSpelledChange cs
+pub links_read : (parent : Option CommitIsh) (ms : List CommitIsh) (cs : List Change) (rest : List Item) → IsNamedCommitIf parent → AllByRecursion IsNamedCommit ms → AllByRecursion IsSpelledChange cs
     → links_at (stream (from_line parent ++ (map merge_item ms ++ (flat_map change_items cs ++ Line [] ∷ rest)))) ≡ Ok ((parent, (ms, cs)), stream rest)
 unfolding links_at item_after_in
 links_read parent ms cs rest h k g =
@@ -209,7 +209,7 @@ abbrev commit_end : Bytes → Option CommitIsh → List CommitIsh → List Chang
 commit_end message parent ms cs rest = Data message ∷ (from_line parent ++ (map merge_item ms ++ (flat_map change_items cs ++ Line [] ∷ rest)))
 
 commit_read : (ref : Bytes) (n : ℕ) (author committer : Bytes) (encoding : Option Bytes) (message : Bytes) (parent : Option CommitIsh) (ms : List CommitIsh) (cs : List Change) (rest : List Item)
-    → IsMark n → is_ident author ≡ true → is_ident committer ≡ true → is_optional_encoding encoding ≡ true → IsNamedByMarkIf parent → AllByRecursion IsNamedByMark ms → AllByRecursion IsSpelledChange cs
+    → IsMark n → is_ident author ≡ true → is_ident committer ≡ true → is_optional_encoding encoding ≡ true → IsNamedCommitIf parent → AllByRecursion IsNamedCommit ms → AllByRecursion IsSpelledChange cs
     → commit_at ref (stream (Line (codes "mark" ++ 32 ∷ 58 ∷ decimal n) ∷ Line (codes "author" ++ 32 ∷ author) ∷ Line (codes "committer" ++ 32 ∷ committer) ∷ (optional_line (codes "encoding") encoding ++ commit_end message parent ms cs rest)))
     ≡ Ok (command.Commit (record { ref = ref; mark = Some n; author = Some author; committer = committer; encoding = encoding; message = message; parent = parent; merges = ms; changes = cs }), stream rest)
 unfolding commit_at rest_line_in block_in unsigned_in cut_at
@@ -218,7 +218,7 @@ commit_read ref n author committer None message parent ms cs rest a b c d e f g 
 commit_read ref n author committer (Some x) message parent ms cs rest a b c d e f g =
     rw (mark_read n a, ident_read author b, ident_read committer c, encoding_read x d, links_read parent ms cs rest e f g) refl
 
-tag_read : (name : Bytes) (target : CommitIsh) (tagger : Option Bytes) (message : Bytes) (rest : List Item) → IsNamedByMark target → is_optional_ident tagger ≡ true
+tag_read : (name : Bytes) (target : CommitIsh) (tagger : Option Bytes) (message : Bytes) (rest : List Item) → IsNamedCommit target → is_optional_ident tagger ≡ true
     → tag_at name (stream (Line (codes "from" ++ 32 ∷ commit_ish_text target) ∷ (optional_line (codes "tagger") tagger ++ Data message ∷ rest)))
     ≡ Ok (command.Tag (record { name = name; mark = None; target = target; tagger = tagger; message = message }), stream rest)
 unfolding tag_at rest_line_in block_in cut_at
@@ -234,7 +234,7 @@ takes_empty : (rest : List Item) → item_after (stream (Line [] ∷ rest)) ≡ 
 unfolding item_after_in
 takes_empty rest = refl
 
-reset_read : (ref : Bytes) (parent : Option CommitIsh) (rest : List Item) → IsNamedByMarkIf parent → Starts rest → reset_at ref (stream (reset_items parent ++ rest)) ≡ Ok (command.Reset (record { ref = ref; parent = parent }), stream rest)
+reset_read : (ref : Bytes) (parent : Option CommitIsh) (rest : List Item) → IsNamedCommitIf parent → Starts rest → reset_at ref (stream (reset_items parent ++ rest)) ≡ Ok (command.Reset (record { ref = ref; parent = parent }), stream rest)
 unfolding reset_at
 reset_read ref None rest h k = rw (optional_absent (codes "from") commit_ish_of rest k.no_from, k.stays) refl
 reset_read ref (Some c) rest h k = rw (optional_there (codes "from") (commit_ish_text c) commit_ish_of c (Line [] ∷ rest) refl (marked_read c h), takes_empty rest) refl

@@ -24,7 +24,7 @@ use Rattle.gx_model.specs.Streams.Commands as command
 use Rattle.gx_model.specs.Streams.Commands.{Change, Clear, Command, CommitIsh, CommitParts, Copy, Modify, Object, Remove, Rename}
 use Rattle.gx_model.specs.Streams.Grammar.{block_in, change_at, changes_within, command_at, commands_of, commands_within, commit_at, is_null, is_option, item_after_in, links_at, mark_number, modify_at, rest_line_in, stops, unsigned_in, where_by, where_of, with_first, words_of}
 use Rattle.gx_model.specs.Export.{all_written, blob_commands, carrier, change_items, command_items, commit_command, commit_commands, contents, export_text, file_change, first_parent, from_line, inner_commands, item_text, last_reset, mode_digits, one_commit, optional_line, other_parents, reached_commits, ref_command, root_reset, with_blobs, with_commit}
-use Rattle.gx_model.specs.Laws.ExportLaws.{carried, HaveNoNullGitlink, IsMark, IsNamedByMark, IsNamedByMarkIf, IsNotNull, IsOne, IsSpelledChange, IsSpelledCommit, between, nothing, state_at, steps, values_with_blobs}
+use Rattle.gx_model.specs.Laws.ExportLaws.{carried, HaveNoNullGitlink, IsMark, IsNamedCommit, IsNamedCommitIf, IsNotNull, IsOne, IsSpelledChange, IsSpelledCommit, between, nothing, state_at, steps, values_with_blobs}
 use Rattle.gx_model.specs.Streams.Gitlinks.{NullGitlinksAreRefused}
 use Rattle.gx_model.specs.Replay.{Outcome, State, refused, replayed, replayed_text, start, step}
 use Rattle.gx_model.proofs.PathTests.{first, is_true, second}
@@ -296,7 +296,7 @@ no_from (c ∷ ms) cs line more = refl
 no_from [] cs line more = refl
 
 links_fail : (parent : Option CommitIsh) (ms : List CommitIsh) (cs : List Change) (line : Bytes) (more : List Item) → ((t : Stream) → change_at (words_of line) t ≡ Some (Err faults.Unsupported))
-    → IsNamedByMarkIf parent → AllByRecursion IsNamedByMark ms → AllByRecursion IsSpelledChange (Clear ∷ cs)
+    → IsNamedCommitIf parent → AllByRecursion IsNamedCommit ms → AllByRecursion IsSpelledChange (Clear ∷ cs)
     → links_at (stream (from_line parent ++ (map merge_item ms ++ cut_changes cs line more))) ≡ Err faults.Unsupported
 unfolding links_at
 links_fail parent ms cs line more e h k g =

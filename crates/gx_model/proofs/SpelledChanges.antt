@@ -18,7 +18,7 @@ use Rattle.gx_model.specs.Revisions.Ranges.{commit_of}
 use Rattle.gx_model.specs.Replay.{byte_cmp, finished, replayed, replayed_text, start}
 use Rattle.gx_model.specs.Export.{all_written, blob_commands, command_items, contents, file_change, is_reached, marked_in, reached_commits, ref_command, reset_before, with_blobs, with_commit}
 use Rattle.gx_model.specs.Changes.{base_files, changed_files, changes_commands, changes_text, commit_changes, commit_ref, commit_with_changes, commits_with_changes, gone_paths, is_this_leaf, named_in, own_files, sending_commands, with_changes}
-use Rattle.gx_model.specs.Laws.ExportLaws.{HoldsWhat, IsAgain, IsNamedByMark, IsReadable, IsReadableCommit, IsReadableFile, IsSpelledChange, nothing, values_with_commit}
+use Rattle.gx_model.specs.Laws.ExportLaws.{HoldsWhat, IsAgain, IsNamedCommit, IsReadable, IsReadableCommit, IsReadableFile, IsSpelledChange, nothing, values_with_commit}
 use Rattle.gx_model.specs.Laws.ChangesLaws.{changes_report}
 use Rattle.gx_model.proofs.AddedValues.{paths_of}
 use Rattle.gx_model.proofs.ChangeReplays.{all_by_mark, all_changes_replayed, base_parts, goes_on_ref, IsFound, parents_written}
@@ -72,11 +72,11 @@ own_spelled ws c lt old new read written paths =
     (changes_spelled ws (own_files c) lt (all_filter (λ e. is_file_path e.0) t (files_of c) paths) (all_filter (λ e. is_leaf e.1.0 e.1.1) t (files_of c) (leaves_of (files_of c) new)) (all_left IsReadableFile t (files_of c) read) written)
 
 module _ (name : Kind → Bytes → Bytes) where
-  all_named : (ws : List Value) (ps : List Commit) → length ws < 2 ^ 64 → AllByRecursion (λ p. IsIn ws (commit_value p)) ps → AllByRecursion (λ p. IsNamedByMark (named_in name ws p)) ps
+  all_named : (ws : List Value) (ps : List Commit) → length ws < 2 ^ 64 → AllByRecursion (λ p. IsIn ws (commit_value p)) ps → AllByRecursion (λ p. IsNamedCommit (named_in name ws p)) ps
   all_named ws ps lt k = by ps k (all_marks ws ps lt k) where
-    by : (ps : List Commit) → AllByRecursion (λ p. IsIn ws (commit_value p)) ps → AllByRecursion (λ p. IsNamedByMark (marked_in ws (commit_value p))) ps → AllByRecursion (λ p. IsNamedByMark (named_in name ws p)) ps
+    by : (ps : List Commit) → AllByRecursion (λ p. IsIn ws (commit_value p)) ps → AllByRecursion (λ p. IsNamedCommit (marked_in ws (commit_value p))) ps → AllByRecursion (λ p. IsNamedCommit (named_in name ws p)) ps
     by [] k g = tt
-    by (p ∷ ps) k g = (subst IsNamedByMark (sym (named_by_mark name ws p k.0)) g.0, by ps k.1 g.1)
+    by (p ∷ ps) k g = (subst IsNamedCommit (sym (named_by_mark name ws p k.0)) g.0, by ps k.1 g.1)
 
   commits_spelled : (refs : Refs) → T (list_all (λ r. is_ref_name r.0) refs) → (ws vs : List Value) (before cs : List Commit) → HoldsWhat ws vs before → FollowsAll before cs → HaveBlobs ws → T (list_all (is_reached refs) cs)
       → AllByRecursion IsReadableCommit cs → length (fold with_commit ws cs) < 2 ^ 64 → AreSpelled (commits_with_changes name refs ws cs)

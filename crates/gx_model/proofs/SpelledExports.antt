@@ -5,7 +5,7 @@ use Rattle.std.specs.List.{list_all, fold, AllByRecursion, cons_option}
 use Rattle.std.specs.Prelude.{T, ◌⊎◌}
 use Rattle.gx_model.specs.Streams.Commands.{Change, Clear, Command, CommitIsh}
 use Rattle.gx_model.specs.Export.{all_written, blob_commands, carrier, commit_command, commit_commands, commit_on, content_in, contents, dataref_in, export_items, export_text, file_change, first_by, first_parent, inner_commands, last_reset, marked_in, number_in, one_commit, other_parents, others_by, reached_commits, ref_command, reset_before, root_reset, with_blobs, with_commit}
-use Rattle.gx_model.specs.Laws.ExportLaws.{IsAgain, IsDataRef, IsMark, IsNamedByMark, IsNamedByMarkIf, IsNotNull, IsOne, IsReadable, IsReadableCommit, IsReadableFile, IsReadableTarget, IsSpelled, IsSpelledChange, exported_report, nothing}
+use Rattle.gx_model.specs.Laws.ExportLaws.{IsAgain, IsDataRef, IsMark, IsNamedCommit, IsNamedCommitIf, IsNotNull, IsOne, IsReadable, IsReadableCommit, IsReadableFile, IsReadableTarget, IsSpelled, IsSpelledChange, exported_report, nothing}
 use Rattle.gx_model.specs.Histories.Files.{FileMap, are_file_paths}
 use Rattle.gx_model.specs.Streams.Grammar.{commands_of}
 use Rattle.gx_model.specs.Histories.{History, IsHistory, IsIn, Target, at_commit, at_tag, is_in, value_at}
@@ -83,25 +83,25 @@ changes_spelled ws (e ∷ f) lt p l r h =
     let P = λ (y : Bytes). IsIn ws (blob_value y) in
     ((dataref_spelled ws e.1.0 e.1.1 lt (first _ _ l) r.0.0 (front_of P o (contents f) h), is_true _ (first _ _ p)), changes_spelled ws f lt (second (is_file_path e.0) _ p) (second (is_leaf e.1.0 e.1.1) _ l) r.1 (rest_of P o (contents f) h))
 
-pub first_named : (names : Commit → CommitIsh) (ps : List Commit) → AllByRecursion (λ p. IsNamedByMark (names p)) ps → IsNamedByMarkIf (first_by names ps)
+pub first_named : (names : Commit → CommitIsh) (ps : List Commit) → AllByRecursion (λ p. IsNamedCommit (names p)) ps → IsNamedCommitIf (first_by names ps)
 first_named names [] h = tt
 first_named names (p ∷ ps) h = h.0
 
-pub others_named : (names : Commit → CommitIsh) (ps : List Commit) → AllByRecursion (λ p. IsNamedByMark (names p)) ps → AllByRecursion IsNamedByMark (others_by names ps)
+pub others_named : (names : Commit → CommitIsh) (ps : List Commit) → AllByRecursion (λ p. IsNamedCommit (names p)) ps → AllByRecursion IsNamedCommit (others_by names ps)
 others_named names [] h = tt
 others_named names (p ∷ ps) h = by ps h.1 where
-  by : (ps : List Commit) → AllByRecursion (λ p. IsNamedByMark (names p)) ps → AllByRecursion IsNamedByMark (map names ps)
+  by : (ps : List Commit) → AllByRecursion (λ p. IsNamedCommit (names p)) ps → AllByRecursion IsNamedCommit (map names ps)
   by [] h = tt
   by (p ∷ ps) h = (h.0, by ps h.1)
 
-pub all_marks : (ws : List Value) (ps : List Commit) → length ws < 2 ^ 64 → AllByRecursion (λ p. IsIn ws (commit_value p)) ps → AllByRecursion (λ p. IsNamedByMark (marked_in ws (commit_value p))) ps
+pub all_marks : (ws : List Value) (ps : List Commit) → length ws < 2 ^ 64 → AllByRecursion (λ p. IsIn ws (commit_value p)) ps → AllByRecursion (λ p. IsNamedCommit (marked_in ws (commit_value p))) ps
 all_marks ws [] lt h = tt
 all_marks ws (p ∷ ps) lt h = (is_mark ws (commit_value p) h.0 lt, all_marks ws ps lt h.1)
 
-pub parent_spelled : (ws : List Value) (ps : List Commit) → length ws < 2 ^ 64 → AllByRecursion (λ p. IsIn ws (commit_value p)) ps → IsNamedByMarkIf (first_parent ws ps)
+pub parent_spelled : (ws : List Value) (ps : List Commit) → length ws < 2 ^ 64 → AllByRecursion (λ p. IsIn ws (commit_value p)) ps → IsNamedCommitIf (first_parent ws ps)
 parent_spelled ws ps lt h = first_named (λ p. marked_in ws (commit_value p)) ps (all_marks ws ps lt h)
 
-pub others_spelled : (ws : List Value) (ps : List Commit) → length ws < 2 ^ 64 → AllByRecursion (λ p. IsIn ws (commit_value p)) ps → AllByRecursion IsNamedByMark (other_parents ws ps)
+pub others_spelled : (ws : List Value) (ps : List Commit) → length ws < 2 ^ 64 → AllByRecursion (λ p. IsIn ws (commit_value p)) ps → AllByRecursion IsNamedCommit (other_parents ws ps)
 others_spelled ws ps lt h = others_named (λ p. marked_in ws (commit_value p)) ps (all_marks ws ps lt h)
 
 pub carrier_is_ref : is_ref_name carrier ≡ true
@@ -116,7 +116,7 @@ root_spelled ps = reset_spelled carrier ps carrier_is_ref
 
 -- a commit whose ref is a ref name, whose parents are named by marks, and whose changes can be spelled
 pub commit_spelled : (r : Bytes) (names : Commit → CommitIsh) (changes : List Change) (ws : List Value) (c : Commit) → is_ref_name r ≡ true → suc (length ws) < 2 ^ 64 → IsReadableCommit c → T (is_proper_text (text_of c))
-    → AllByRecursion (λ p. IsNamedByMark (names p)) (list_of (parents_of c)) → AllByRecursion IsSpelledChange changes → IsSpelled (commit_on r names changes ws c)
+    → AllByRecursion (λ p. IsNamedCommit (names p)) (list_of (parents_of c)) → AllByRecursion IsSpelledChange changes → IsSpelled (commit_on r names changes ws c)
 commit_spelled r names changes ws c e lt read text named spelled = record {
   ref = e;
   mark = (omega arith, lt);

@@ -16,7 +16,7 @@ use Rattle.gx_model.specs.Streams.Commands as command
 use Rattle.gx_model.specs.Histories.Values.{is_hex_digit, is_optional_encoding, is_optional_ident}
 use Rattle.gx_model.specs.Replay.{or_else}
 use Rattle.gx_model.specs.Export.{mode_digits, dataref_text, commit_ish_text, change_items, command_items, from_line, optional_line, mark_line, reset_items}
-use Rattle.gx_model.specs.Laws.ExportLaws.{IsItemLine, IsItem, IsMark, IsLink, IsDataRef, IsNamedByMark, IsNamedByMarkIf, IsSpelledChange, IsSpelled, HasMark, between}
+use Rattle.gx_model.specs.Laws.ExportLaws.{IsItemLine, IsItem, IsMark, IsLink, IsDataRef, IsNamedCommit, IsNamedCommitIf, IsSpelledChange, IsSpelled, HasMark, between}
 use Rattle.gx_model.proofs.Idents.{and_two}
 use Rattle.gx_model.proofs.Decimals.{decimal_digits}
 use Rattle.gx_model.proofs.LineTexts.{line_by, line_append, digits_are_line, ref_is_line, tag_is_line, ident_is_line, printed_is_line}
@@ -27,12 +27,12 @@ use Rattle.gx_model.proofs.CommandItems.{no_block, merge_item}
 mark_is_line : (n : ℕ) → IsMark n → is_line (58 ∷ decimal n) ≡ true
 mark_is_line n h = digits_are_line (decimal n) (decimal_digits n h.1)
 
-commit_ish_is_line : (c : CommitIsh) → IsNamedByMark c → is_line (commit_ish_text c) ≡ true
-commit_ish_is_line (Marked n) h = mark_is_line n h
-commit_ish_is_line (Named x) h = absurd h
-
 link_is_line : (x : Bytes) → IsLink x → is_line x ≡ true
 link_is_line x h = line_by is_hex_digit refl x (and_two _ (list_all is_hex_digit x) h.0)
+
+commit_ish_is_line : (c : CommitIsh) → IsNamedCommit c → is_line (commit_ish_text c) ≡ true
+commit_ish_is_line (Marked n) h = mark_is_line n h
+commit_ish_is_line (Named x) h = link_is_line x h
 
 dataref_is_line : (m : Mode) (s : DataRef) → IsDataRef m s → is_line (dataref_text s) ≡ true
 dataref_is_line File (Mark n) h = mark_is_line n h
@@ -77,7 +77,7 @@ changes_spelled : (cs : List Change) → AllByRecursion IsSpelledChange cs → A
 changes_spelled [] h = tt
 changes_spelled (c ∷ cs) h = items_append (change_items c) (flat_map change_items cs) (change_spelled c h.0) (changes_spelled cs h.1)
 
-pub merges_spelled : (ms : List CommitIsh) → AllByRecursion IsNamedByMark ms → AreItems (map merge_item ms)
+pub merges_spelled : (ms : List CommitIsh) → AllByRecursion IsNamedCommit ms → AreItems (map merge_item ms)
 merges_spelled [] h = tt
 merges_spelled (c ∷ ms) h = (record { line = commit_ish_is_line c h.0; no_comment = refl; no_data = refl }, merges_spelled ms h.1)
 
@@ -98,14 +98,14 @@ encoding_spelled None h = tt
 encoding_spelled (Some []) h = absurd (false≢true h)
 encoding_spelled (Some (b ∷ x)) h = (record { line = h; no_comment = refl; no_data = refl }, tt)
 
-pub from_spelled : (c : Option CommitIsh) → IsNamedByMarkIf c → AreItems (from_line c)
+pub from_spelled : (c : Option CommitIsh) → IsNamedCommitIf c → AreItems (from_line c)
 from_spelled None h = tt
 from_spelled (Some c) h = (record { line = commit_ish_is_line c h; no_comment = refl; no_data = refl }, tt)
 
 pub plain_line : IsItemLine []
 plain_line = record { line = refl; no_comment = refl; no_data = refl }
 
-reset_spelled : (c : Option CommitIsh) → IsNamedByMarkIf c → AreItems (reset_items c)
+reset_spelled : (c : Option CommitIsh) → IsNamedCommitIf c → AreItems (reset_items c)
 reset_spelled None h = tt
 reset_spelled (Some c) h = (record { line = commit_ish_is_line c h; no_comment = refl; no_data = refl }, (plain_line, tt))
 

@@ -44,19 +44,19 @@ ItemsAreRead = (is : List Item) → AllByRecursion IsItem is → items_of (flat_
 abbrev pub IsMark : ℕ → Type 0
 IsMark n = (0 < n) × (n < 2 ^ 64)
 
--- a commit that is named by its mark
-abbrev pub IsNamedByMark : CommitIsh → Type 0
-IsNamedByMark (Marked n) = IsMark n
-IsNamedByMark (Named x) = ⊥
-
--- the same, or none
-abbrev pub IsNamedByMarkIf : Option CommitIsh → Type 0
-IsNamedByMarkIf None = Unit {0}
-IsNamedByMarkIf (Some c) = IsNamedByMark c
-
--- a gitlink's digits, which aren't forty zeros
+-- forty digits, which aren't all zeros
 abbrev pub IsLink : Bytes → Type 0
 IsLink x = IsTrue (is_name_text x) × (is_null x ≡ false)
+
+-- a commit that is named by its mark, or by the digits of its name
+abbrev pub IsNamedCommit : CommitIsh → Type 0
+IsNamedCommit (Marked n) = IsMark n
+IsNamedCommit (Named x) = IsLink x
+
+-- the same, or none
+abbrev pub IsNamedCommitIf : Option CommitIsh → Type 0
+IsNamedCommitIf None = Unit {0}
+IsNamedCommitIf (Some c) = IsNamedCommit c
 
 -- a mark, or a gitlink's digits
 abbrev pub IsDataRef : Mode → DataRef → Type 0
@@ -92,15 +92,15 @@ pub record IsSpelledCommit (c : CommitParts) : Type 0 where
   pub committer : is_ident c.committer ≡ true
   pub encoding : is_optional_encoding c.encoding ≡ true
   pub message : length c.message < 2 ^ 64
-  pub parent : IsNamedByMarkIf c.parent
-  pub merges : AllByRecursion IsNamedByMark c.merges
+  pub parent : IsNamedCommitIf c.parent
+  pub merges : AllByRecursion IsNamedCommit c.merges
   pub changes : AllByRecursion IsSpelledChange c.changes
 
 -- a tag command whose parts have their forms
 pub record IsSpelledTag (t : TagParts) : Type 0 where
   pub name : is_tag_name t.name ≡ true
   pub mark : t.mark ≡ None
-  pub target : IsNamedByMark t.target
+  pub target : IsNamedCommit t.target
   pub tagger : is_optional_ident t.tagger ≡ true
   pub message : length t.message < 2 ^ 64
 
@@ -109,7 +109,7 @@ abbrev pub IsSpelled : Command → Type 0
 IsSpelled (command.Blob b) = HasMark b.mark × (length b.bytes < 2 ^ 64)
 IsSpelled (command.Commit c) = IsSpelledCommit c
 IsSpelled (command.Tag t) = IsSpelledTag t
-IsSpelled (command.Reset r) = (is_ref_name r.ref ≡ true) × IsNamedByMarkIf r.parent
+IsSpelled (command.Reset r) = (is_ref_name r.ref ≡ true) × IsNamedCommitIf r.parent
 IsSpelled _ = ⊥
 
 -- commands between `feature done` and `done`

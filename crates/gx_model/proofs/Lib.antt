@@ -103,3 +103,4 @@ pub mod RangeSteps
 pub mod SentCommits
 pub mod SetBranches
 pub mod RangeReplays
+pub mod SpelledRanges

@@ -60,19 +60,23 @@ plain_begun r (p ∷ ps) bs n h = h
 abbrev pub HaveNames : Refs → Type 0
 HaveNames refs = AllByRecursion (λ r. is_name_text r.0 ≡ false) refs
 
--- and so no commit goes out on such a name
-pub plain_ref : (refs : Refs) (c : Commit) → HaveNames refs → is_name_text (commit_ref refs c) ≡ false
-plain_ref refs c h = by (reaching refs c) (all refs h) where
-  all : (rs : Refs) → HaveNames rs → AllByRecursion (λ n. is_name_text n ≡ false) (reaching rs c)
+-- what the carrier and the names of refs pass is passed by the ref that a commit goes out on
+pub ref_passes : (t : Bytes → Bool) (b : Bool) (refs : Refs) (c : Commit) → t carrier ≡ b → AllByRecursion (λ r. t r.0 ≡ b) refs → t (commit_ref refs c) ≡ b
+ref_passes t b refs c e h = by (reaching refs c) (all refs h) where
+  all : (rs : Refs) → AllByRecursion (λ r. t r.0 ≡ b) rs → AllByRecursion (λ n. t n ≡ b) (reaching rs c)
   all [] h = tt
   all (x ∷ rs) h =
       let rest = all rs h.1 in
       let left = filter (λ r. reaches (peeled_at r.1) c) rs in
-      elim (reaches (peeled_at x.1) c) as (λ t. AllByRecursion (λ n. is_name_text n ≡ false) (map (λ r. r.0) (cond t (x ∷ left) left))) [ true ↦ (h.0, rest) | false ↦ rest ]
+      elim (reaches (peeled_at x.1) c) as (λ k. AllByRecursion (λ n. t n ≡ b) (map (λ r. r.0) (cond k (x ∷ left) left))) [ true ↦ (h.0, rest) | false ↦ rest ]
 
-  by : (ns : List Bytes) → AllByRecursion (λ n. is_name_text n ≡ false) ns → is_name_text (first_or_carrier (filter is_branch ns ++ ns)) ≡ false
-  by [] g = refl
-  by (x ∷ ns) g = first_holds (λ n. is_name_text n ≡ false) x ns g
+  by : (ns : List Bytes) → AllByRecursion (λ n. t n ≡ b) ns → t (first_or_carrier (filter is_branch ns ++ ns)) ≡ b
+  by [] g = e
+  by (x ∷ ns) g = first_holds (λ n. t n ≡ b) x ns g
+
+-- and so no commit goes out on a name of forty digits
+pub plain_ref : (refs : Refs) (c : Commit) → HaveNames refs → is_name_text (commit_ref refs c) ≡ false
+plain_ref refs c h = ref_passes is_name_text false refs c refl h
 
 apart_text : (x y : Bytes) → is_name_text x ≡ false → is_name_text y ≡ true → same_bytes x y ≡ false
 apart_text x y n t = false_from_ne_true _ (λ e. false≢true (sym n ∙ ap is_name_text ((bytes_eq-Decides x y).0 e) ∙ t))

@@ -22,7 +22,7 @@ use Rattle.gx_model.specs.Laws.ExportLaws.{HoldsWhat, IsAgain, IsNamedCommit, Is
 use Rattle.gx_model.specs.Laws.ChangesLaws.{changes_report}
 use Rattle.gx_model.proofs.AddedValues.{paths_of}
 use Rattle.gx_model.proofs.ChangeReplays.{all_by_mark, all_changes_replayed, base_parts, goes_on_ref, IsFound, parents_written}
-use Rattle.gx_model.proofs.ChangeSteps.{HaveBlobs, have_blobs, named_by_mark, same_written}
+use Rattle.gx_model.proofs.ChangeSteps.{HaveBlobs, differs, have_blobs, named_by_mark, same_written}
 use Rattle.gx_model.proofs.CommandEnds.{closed_read, closed_spelled}
 use Rattle.gx_model.proofs.CommitSteps.{all_still, are_leaves, blobs_have, leaves_of}
 use Rattle.gx_model.proofs.ExportSteps.{all_follow, none_held, peeled_ones, proper_refs}
@@ -63,13 +63,13 @@ all_append : (xs ys : List Change) → AllByRecursion IsSpelledChange xs → All
 all_append [] ys h k = k
 all_append (x ∷ xs) ys h k = (h.0, all_append xs ys h.1 k)
 
-own_spelled : (ws : List Value) (c : Commit) → length ws < 2 ^ 64 → Parts (base_files (list_of (parents_of c))) → T (is_content (files_of c)) → AllByRecursion IsReadableFile (files_of c) → AllByRecursion (λ y. IsIn ws (blob_value y)) (contents (own_files c))
-    → T (are_file_paths (files_of c)) → AllByRecursion IsSpelledChange (commit_changes ws c)
-own_spelled ws c lt old new read written paths =
+-- the changes of a commit, where its own files can be read and their bytes were written
+pub own_spelled : (ws : List Value) (c : Commit) → length ws < 2 ^ 64 → Parts (base_files (list_of (parents_of c))) → T (is_content (files_of c)) → AllByRecursion IsReadableFile (own_files c) → AllByRecursion (λ y. IsIn ws (blob_value y)) (contents (own_files c))
+    → AllByRecursion IsSpelledChange (commit_changes ws c)
+own_spelled ws c lt old new read written =
     let base = base_files (list_of (parents_of c)) in
-    let t = λ (e : Path × Leaf Bytes). not (is_this_leaf (file_at base e.0) e.1) in
     all_append (map Remove (gone_paths base (files_of c))) (map (file_change ws) (own_files c)) (gone_spelled (files_of c) base old.paths)
-    (changes_spelled ws (own_files c) lt (all_filter (λ e. is_file_path e.0) t (files_of c) paths) (all_filter (λ e. is_leaf e.1.0 e.1.1) t (files_of c) (leaves_of (files_of c) new)) (all_left IsReadableFile t (files_of c) read) written)
+    (changes_spelled ws (own_files c) lt (all_filter (λ e. is_file_path e.0) (differs c) (files_of c) (paths_of (files_of c) new)) (all_filter (λ e. is_leaf e.1.0 e.1.1) (differs c) (files_of c) (leaves_of (files_of c) new)) read written)
 
 module _ (name : Kind → Bytes → Bytes) where
   all_named : (ws : List Value) (ps : List Commit) → length ws < 2 ^ 64 → AllByRecursion (λ p. IsIn ws (commit_value p)) ps → AllByRecursion (λ p. IsNamedCommit (named_in name ws p)) ps
@@ -93,13 +93,13 @@ module _ (name : Kind → Bytes → Bytes) where
       let fits : suc (length us) < 2 ^ 64 = omega (arith, long, more_commits (with_commit ws c) cs) in
       let on = commit_ref refs c in
       let ref = is_true _ (found_passes is_ref_name refs on n (goes_on_ref refs c (first (is_reached refs c) _ g))) in
-      let t = λ (e : Path × Leaf Bytes). not (is_this_leaf (file_at (base_files ps) e.0) e.1) in
+      let read = all_left IsReadableFile (differs c) (files_of c) r.0.files in
       let rest = commits_spelled refs n (with_commit ws c) (values_with_commit ws vs c) (before ++ c ∷ []) cs (commit_keeps ws vs before c h f.0 f.1 f.2) f.3 (have_blobs ws c b) (second (is_reached refs c) _ g) r.1 lt in
       spelled_append (commit_with_changes name refs ws c) (commits_with_changes name refs (with_changes ws c) cs)
-      (spelled_append (blob_commands ws xs) _ (blobs_spelled ws xs (contents_fit (own_files c) (all_left IsReadableFile t (files_of c) r.0.files)) (omega arith))
+      (spelled_append (blob_commands ws xs) _ (blobs_spelled ws xs (contents_fit (own_files c) read) (omega arith))
       (spelled_append (reset_before on ps) _ (reset_spelled on ps ref) (
-        commit_spelled on (named_in name us) (commit_changes us c) us c ref fits r.0 text (all_named us ps (omega arith) (all_still ws xs ps k))
-            (own_spelled us c (omega arith) (base_parts ws vs before c h f.1) content r.0.files (blobs_have ws xs) (paths_of (files_of c) content)),
+        commit_spelled on (named_in name us) (commit_changes us c) us c ref fits r.0.message text (all_named us ps (omega arith) (all_still ws xs ps k))
+            (own_spelled us c (omega arith) (base_parts ws vs before c h f.1) content read (blobs_have ws xs)),
         tt,
       )))
       (subst (λ ws. AreSpelled (commits_with_changes name refs ws cs)) (sym same) rest)

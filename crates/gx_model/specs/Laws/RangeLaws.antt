@@ -1,19 +1,20 @@
 -- What the law of exports of ranges supposes and says: a repository that holds what a range excludes receives the rest.
 -- Source: git-fast-export(1) and git-fast-import(1).
-use Rattle.std.specs.Prelude.{◌≡◌, ◌⊎◌, ◌-◌, Bool, true, false, List, [], ◌∷◌, ◌++◌, length, map, reverse, None, Some}
+use Rattle.std.specs.Prelude.{◌≡◌, ◌⊎◌, ◌-◌, ◌<◌, ◌^◌, Bool, true, false, List, [], ◌∷◌, ◌++◌, length, map, reverse, None, Some}
 use Rattle.std.specs.FinMap.Entries.{put}
 use Rattle.std.specs.List.{AllByRecursion, fold, list_any}
 use Rattle.gx_model.specs.declared.objects.Kind.{Kind}
 use Rattle.gx_model.specs.Texts.{Bytes}
-use Rattle.gx_model.specs.Histories.Values.{Commit, Value, commit_value, is_name_text}
+use Rattle.gx_model.specs.Histories.Values.{Commit, Value, commit_value, is_name_text, text_of}
 use Rattle.gx_model.specs.Histories.{History, IsHistory, IsIn, IsWhole, Target, at_commit, at_tag, value_at}
-use Rattle.gx_model.specs.Objects.{IsNamer}
+use Rattle.gx_model.specs.Streams.Grammar.{is_null}
+use Rattle.gx_model.specs.Objects.{IsNamer, hex}
 use Rattle.gx_model.specs.Records.{name_of}
 use Rattle.gx_model.specs.Revisions.Denotation.{ref_at}
 use Rattle.gx_model.specs.Revisions.Ranges.{Word, listing, span}
-use Rattle.gx_model.specs.Replay.{Report, byte_cmp, finished, is_forward, replayed, start}
-use Rattle.gx_model.specs.Changes.{range_commands, set_refs}
-use Rattle.gx_model.specs.Laws.ExportLaws.{AnyReaches}
+use Rattle.gx_model.specs.Replay.{Report, byte_cmp, finished, is_forward, replayed, replayed_text, start}
+use Rattle.gx_model.specs.Changes.{all_changes, own_files, range_commands, range_text, sending_commands, set_refs}
+use Rattle.gx_model.specs.Laws.ExportLaws.{AnyReaches, HaveNoNullGitlink, IsReadableFile, IsReadableTarget, IsSpelled}
 
 -- whether a range word excludes a commit
 abbrev pub is_excluded : List Word → Commit → Bool
@@ -58,3 +59,39 @@ abbrev pub RangesAreReplayed : Type 0
 RangesAreReplayed =
     (name : Kind → Bytes → Bytes) → IsNamer name → (closed : Bool) (h : History) → IsHistory h → (words : List Word) (target : History) → CanReceive name h words target
     → (k : History) × IsReceived h words target k × (replayed name 0 (start target) (range_commands name closed h words) None ≡ finished k [] (range_report name closed h words target k))
+
+-- ---- what a range's text can be read of
+
+-- a commit whose text and own files can be read again
+pub record IsReadableChange (c : Commit) : Type 0 where
+  pub message : length (text_of c).message < 2 ^ 64
+  pub files : AllByRecursion IsReadableFile (own_files c)
+
+-- no commit has the name of forty zeros, which names none
+abbrev pub HasNoNullName : (Kind → Bytes → Bytes) → History → Type 0
+HasNoNullName name h = (c : Commit) → IsIn h.values (commit_value c) → is_null (hex (name_of name (commit_value c))) ≡ false
+
+-- What a range sends can be read again: it has no gitlink and no name of forty zeros, and lengths and marks are below 2 ^ 64.
+pub record IsReadableRange (name : Kind → Bytes → Bytes) (h : History) (words : List Word) : Type 0 where
+  pub commits : AllByRecursion IsReadableChange (reverse (listing h words))
+  pub refs : AllByRecursion (λ r. IsReadableTarget r.1) (set_refs h words)
+  pub marks : length (all_changes (reverse (listing h words))) < 2 ^ 64
+  pub names : HasNoNullName name h
+
+-- lengths and marks fit where the text does
+abbrev pub ShortRangesAreReadable : Type 0
+ShortRangesAreReadable =
+    (name : Kind → Bytes → Bytes) (closed : Bool) (h : History) (words : List Word) → IsHistory h → HasNoNullName name h → HaveNoNullGitlink (reverse (listing h words))
+    → length (range_text name closed h words) < 2 ^ 64 → IsReadableRange name h words
+
+-- the commands of a range that can be read can be spelled
+abbrev pub RangesAreSpelled : Type 0
+RangesAreSpelled =
+    (name : Kind → Bytes → Bytes) → IsNamer name → (h : History) (words : List Word) → IsHistory h → IsReadableRange name h words
+    → AllByRecursion IsSpelled (sending_commands name (reverse (listing h words)) (set_refs h words))
+
+-- importing a range's text brings what is sent, and sets the refs
+abbrev pub RangesAreImported : Type 0
+RangesAreImported =
+    (name : Kind → Bytes → Bytes) → IsNamer name → (closed : Bool) (h : History) → IsHistory h → (words : List Word) (target : History) → CanReceive name h words target → IsReadableRange name h words
+    → (k : History) × IsReceived h words target k × (replayed_text name target (range_text name closed h words) false ≡ finished k [] (range_report name closed h words target k))

@@ -1,0 +1,85 @@
+-- The commands of a range's export can be spelled, and its text is imported where it can be received.
+use Rattle.std.proofs.Common.{◌≡◌, ℕ, suc, ◌+◌, ◌<◌, ◌≤◌, ◌^◌, Bool, true, false, cond, List, [], ◌∷◌, ◌++◌, length, map, refl, sym, ap, subst, ◌∙◌, arith, inl, inr}
+use Rattle.std.specs.Bool.{passes}
+use Rattle.std.specs.List.{filter, filter_map, flat_map, fold, list_all, AllByRecursion}
+use Rattle.std.specs.Prelude.{reverse, T, ◌⊎◌}
+use Rattle.gx_model.specs.declared.objects.Kind.{Kind}
+use Rattle.gx_model.specs.Texts.{Bytes}
+use Rattle.gx_model.specs.Texts.RefNames.{is_ref_name, is_tag_name}
+use Rattle.gx_model.specs.Streams.Commands.{Command, Named}
+use Rattle.gx_model.specs.Streams.Commands as command
+use Rattle.gx_model.specs.Streams.Grammar.{commands_of, is_null}
+use Rattle.gx_model.specs.Histories.Values.{Commit, Value, blob_value, commit_value, files_of, is_content, is_proper, is_proper_text, list_of, parents_of, text_of}
+use Rattle.gx_model.specs.Histories.{History, IsHistory, IsIn, IsWhole, Target, at_commit, at_tag, is_in, value_at}
+use Rattle.gx_model.specs.Objects.{IsNamer, hex}
+use Rattle.gx_model.specs.Records.{name_of}
+use Rattle.gx_model.specs.Revisions.Ranges.{Word, commit_of, listing}
+use Rattle.gx_model.specs.Replay.{finished, peeled_at, replayed, replayed_text, start}
+use Rattle.gx_model.specs.Export.{blob_commands, carrier, command_items, commit_on, contents, is_reached, marked_in, ref_by, reset_before, to_nothing, with_blobs}
+use Rattle.gx_model.specs.Changes.{all_changes, base_files, carrier_reset, closed_by, commit_changes, commit_ref, commit_with_changes, commits_with_changes, is_in_range, named_in, own_files, range_commands, range_text, sending_commands, set_refs, with_changes}
+use Rattle.gx_model.specs.Laws.ExportLaws.{HaveNoNullGitlink, IsNamedCommit, IsOne, IsReadableTarget, IsSpelled}
+use Rattle.gx_model.specs.Laws.RangeLaws.{CanReceive, HasNoNullName, IsReadableChange, IsReadableRange, IsReceived, range_report}
+use Rattle.gx_model.proofs.AddedValues.{is_in_is}
+use Rattle.gx_model.proofs.ChangeSteps.{differs}
+use Rattle.gx_model.proofs.CommandEnds.{closed_read, closed_spelled}
+use Rattle.gx_model.proofs.CommitSteps.{blobs_have}
+use Rattle.gx_model.proofs.ExportSteps.{proper_refs}
+use Rattle.gx_model.proofs.FileMapEdits.{Parts}
+use Rattle.gx_model.proofs.ItemTexts.{items_read}
+use Rattle.gx_model.proofs.LinkedValues.{parts_in, proper_in}
+use Rattle.gx_model.proofs.NamedByDigits.{name_is_text}
+use Rattle.gx_model.proofs.PathTests.{first, is_true, second}
+use Rattle.gx_model.proofs.PublishedRefs.{Refs}
+use Rattle.gx_model.proofs.RangeReplays.{range_replayed}
+use Rattle.gx_model.proofs.RangeSteps.{ref_passes}
+use Rattle.gx_model.proofs.ReachedValues.{filter_one, one_in, passing, target_held}
+use Rattle.gx_model.proofs.ReceivedValues.{held_parts}
+use Rattle.gx_model.proofs.SentCommits.{is_sent, refs_left, sent_are}
+use Rattle.gx_model.proofs.SpelledChanges.{own_spelled}
+use Rattle.gx_model.proofs.SpelledExports.{AreSpelled, blobs_spelled, carrier_is_ref, commit_spelled, contents_fit, is_mark, more_blobs, reset_spelled, spelled_append}
+
+more_changes : (ws : List Value) (cs : List Commit) → length ws ≤ length (fold with_changes ws cs)
+more_changes ws [] = omega arith
+more_changes ws (c ∷ cs) = omega (arith, more_blobs ws (contents (own_files c)), more_changes (with_changes ws c) cs)
+
+module _ (name : Kind → Bytes → Bytes) (namer : IsNamer name) where
+  -- a commit whose name isn't forty zeros
+  abbrev HasName : Commit → Type 0
+  HasName c = is_null (hex (name_of name (commit_value c))) ≡ false
+
+  -- such a commit is named by its mark or its digits
+  is_named : (ws : List Value) (c : Commit) → length ws < 2 ^ 64 → HasName c → IsNamedCommit (named_in name ws c)
+  is_named ws c lt n =
+      elim (is_in ws (commit_value c)) as (λ t. is_in ws (commit_value c) ≡ t → IsNamedCommit (cond t (marked_in ws (commit_value c)) (Named (hex (name_of name (commit_value c)))))) [
+        | true ↦ λ e. is_mark ws (commit_value c) (is_in_is ws (commit_value c) (passes _ e)) lt
+        | false ↦ λ e. (name_is_text name namer (commit_value c), n)
+      ] refl
+
+  all_named : (ws : List Value) (ps : List Commit) → length ws < 2 ^ 64 → AllByRecursion HasName ps → AllByRecursion (λ p. IsNamedCommit (named_in name ws p)) ps
+  all_named ws [] lt h = tt
+  all_named ws (p ∷ ps) lt h = (is_named ws p lt h.0, all_named ws ps lt h.1)
+
+  -- what the parents of a commit are, and that it is proper
+  record IsSendable (c : Commit) : Type 0 where
+    pub proper : T (is_proper (commit_value c))
+    pub base : Parts (base_files (list_of (parents_of c)))
+    pub names : AllByRecursion HasName (list_of (parents_of c))
+
+  commits_spelled : (refs : Refs) → AllByRecursion (λ r. is_ref_name r.0 ≡ true) refs → (ws : List Value) (cs : List Commit) → AllByRecursion IsSendable cs → AllByRecursion IsReadableChange cs → length (fold with_changes ws cs) < 2 ^ 64
+      → AreSpelled (commits_with_changes name refs ws cs)
+  commits_spelled refs n ws [] s r lt = tt
+  commits_spelled refs n ws (c ∷ cs) s r lt =
+      let xs = contents (own_files c) in
+      let us = with_blobs ws xs in
+      let ps = list_of (parents_of c) in
+      let content = first (is_content (files_of c)) (is_proper_text (text_of c)) s.0.proper in
+      let text = second (is_content (files_of c)) (is_proper_text (text_of c)) s.0.proper in
+      let fits : suc (length us) < 2 ^ 64 = omega (arith, more_changes (with_changes ws c) cs) in
+      let on = commit_ref refs c in
+      let ref = ref_passes is_ref_name true refs c carrier_is_ref n in
+      spelled_append (commit_with_changes name refs ws c) (commits_with_changes name refs (with_changes ws c) cs)
+      (spelled_append (blob_commands ws xs) _ (blobs_spelled ws xs (contents_fit (own_files c) r.0.files) (omega arith))
+      (spelled_append (reset_before on ps) _ (reset_spelled on ps ref)
+      (commit_spelled on (named_in name us) (commit_changes us c) us c ref fits r.0.message text (all_named us ps (omega arith) s.0.names)
+      (own_spelled us c (omega arith) s.0.base content r.0.files (blobs_have ws xs)), tt)))
+      (commits_spelled refs n (with_changes ws c) cs s.1 r.1 lt)

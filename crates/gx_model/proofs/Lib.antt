@@ -104,3 +104,4 @@ pub mod SentCommits
 pub mod SetBranches
 pub mod RangeReplays
 pub mod SpelledRanges
+pub mod ReadableRanges

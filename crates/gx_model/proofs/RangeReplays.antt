@@ -194,7 +194,7 @@ module _ (name : Kind → Bytes → Bytes) (namer : IsNamer name) (closed : Bool
       let told : report (0 + length commands) t ≡ range_report name closed h words target (final t) = λ i. record { commands = n i; objects = length us - length target.values; refs = length (published i) } in
       let list = map commit_value sent ++ map (λ r. value_at r.1) set in
       let there : AllByRecursion (IsIn us) list = all_together (IsIn us) (map commit_value sent) (map (λ r. value_at r.1) set)
-        (commits_in (IsIn us) sent (each_commit (IsIn ws) (IsIn us) (λ v i. after.keeps v (held.written v i)) sent held.commits)) (targets_in (IsIn us) set after.has) in (
+      (commits_in (IsIn us) sent (each_commit (IsIn ws) (IsIn us) (λ v i. after.keeps v (held.written v i)) sent held.commits)) (targets_in (IsIn us) set after.has) in (
         final t,
         record {
           refs = same;

@@ -22,7 +22,7 @@ use Rattle.gx_model.proofs.PublishedRefs.{Refs}
 use Rattle.gx_model.proofs.ReadableExports.{BlobsFit, CommandsFit, all_fit, all_text, blobs_count, blobs_fit, commands_left, commands_right, count_append, files_fit, fit_left, later_commit, message_in_fits, refs_fit}
 
 -- the blobs of these bytes were written, and fit
-all_in_fit : (ws : List Value) (xs : List Bytes) → BlobsFit ws → AllByRecursion (λ x. IsIn ws (blob_value x)) xs → AllByRecursion (λ x. length x < 2 ^ 64) xs
+pub all_in_fit : (ws : List Value) (xs : List Bytes) → BlobsFit ws → AllByRecursion (λ x. IsIn ws (blob_value x)) xs → AllByRecursion (λ x. length x < 2 ^ 64) xs
 all_in_fit ws [] h k = tt
 all_in_fit ws (x ∷ xs) h k = (h x k.0, all_in_fit ws xs h k.1)
 
@@ -69,11 +69,11 @@ module _ (name : Kind → Bytes → Bytes) (refs : Refs) where
       }
 
 module _ (name : Kind → Bytes → Bytes) where
-  inner_fits : (closed : Bool) (cs : List Command) → CommandsFit (closed_by closed cs) → CommandsFit cs
+  pub inner_fits : (closed : Bool) (cs : List Command) → CommandsFit (closed_by closed cs) → CommandsFit cs
   inner_fits true cs g = commands_left cs (command.Done ∷ []) g.1
   inner_fits false cs g = g
 
-  inner_count : (closed : Bool) (cs : List Command) → length (flat_map command_items cs) ≤ length (flat_map command_items (closed_by closed cs))
+  pub inner_count : (closed : Bool) (cs : List Command) → length (flat_map command_items cs) ≤ length (flat_map command_items (closed_by closed cs))
   inner_count true cs = omega (arith, count_append cs (command.Done ∷ []))
   inner_count false cs = omega arith
 

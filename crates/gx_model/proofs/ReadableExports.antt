@@ -9,7 +9,7 @@ use Rattle.std.specs.Fmt.{decimal}
 use Rattle.std.specs.List.{flat_map, fold, AllByRecursion, cons_option}
 use Rattle.std.specs.Prelude.{T}
 use Rattle.gx_model.specs.Streams.Commands.{Change, Clear, Command, CommitIsh}
-use Rattle.gx_model.specs.Export.{all_written, blob_commands, carrier, command_items, commit_command, commit_commands, commit_on, content_in, contents, export_items, file_change, export_text, inner_commands, item_text, last_reset, marked_in, one_commit, optional_line, reached_commits, ref_command, root_reset, with_blobs, with_commit}
+use Rattle.gx_model.specs.Export.{all_written, blob_commands, carrier, command_items, commit_command, commit_commands, commit_on, content_in, contents, export_items, file_change, export_text, inner_commands, item_text, last_reset, marked_in, one_commit, optional_line, reached_commits, ref_by, ref_command, root_reset, with_blobs, with_commit}
 use Rattle.gx_model.specs.Laws.ExportLaws.{HasNoNullGitlink, HaveNoNullGitlink, IsNotNull, IsReadable, IsReadableCommit, IsReadableFile, IsReadableTarget}
 use Rattle.gx_model.specs.Histories.Files.{FileMap}
 use Rattle.gx_model.specs.Histories.{History, IsHistory, IsIn, Target, at_commit, at_tag, is_in}
@@ -26,11 +26,11 @@ use Rattle.gx_model.proofs.KeptCommits.{FollowsAll}
 use Rattle.gx_model.proofs.PathTests.{first, is_true, second}
 use Rattle.gx_model.specs.Streams.Commands as command
 
-abbrev Fits : Item → Type 0
+abbrev pub Fits : Item → Type 0
 Fits (Line l) = Unit {0}
 Fits (Data x) = length x < 2 ^ 64
 
-abbrev AllFit : List Item → Type 0
+abbrev pub AllFit : List Item → Type 0
 AllFit is = AllByRecursion Fits is
 
 pub fit_left : (is js : List Item) → AllFit (is ++ js) → AllFit is
@@ -133,12 +133,15 @@ commits_fit ws before (c ∷ cs) h f r g =
       commits_fit (with_commit ws c) (before ++ c ∷ []) cs (later_commit us c b.later) f.3 r.1 (commands_right (one_commit ws c) (commit_commands (with_commit ws c) cs) g),
     )
 
+pub targets_fit : (names : Commit → CommitIsh) (rs : List (Bytes × Target)) → CommandsFit (map (ref_by names) rs) → AllByRecursion (λ r. IsReadableTarget r.1) rs
+targets_fit names [] g = tt
+targets_fit names ((n, at_commit c) ∷ rs) g = (tt, targets_fit names rs (commands_right (ref_by names (n, at_commit c) ∷ []) (map (ref_by names) rs) g))
+targets_fit names ((n, at_tag t) ∷ rs) g =
+    let mine = commands_left (ref_by names (n, at_tag t) ∷ []) (map (ref_by names) rs) g in
+    ((fit_right (optional_line (codes "tagger") t.tagger) _ (fit_left (command_items (ref_by names (n, at_tag t))) [] mine).1.1).0, targets_fit names rs (commands_right (ref_by names (n, at_tag t) ∷ []) (map (ref_by names) rs) g))
+
 pub refs_fit : (ws : List Value) (rs : List (Bytes × Target)) → CommandsFit (map (ref_command ws) rs) → AllByRecursion (λ r. IsReadableTarget r.1) rs
-refs_fit ws [] g = tt
-refs_fit ws ((n, at_commit c) ∷ rs) g = (tt, refs_fit ws rs (commands_right (ref_command ws (n, at_commit c) ∷ []) (map (ref_command ws) rs) g))
-refs_fit ws ((n, at_tag t) ∷ rs) g =
-    let mine = commands_left (ref_command ws (n, at_tag t) ∷ []) (map (ref_command ws) rs) g in
-    ((fit_right (optional_line (codes "tagger") t.tagger) _ (fit_left (command_items (ref_command ws (n, at_tag t))) [] mine).1.1).0, refs_fit ws rs (commands_right (ref_command ws (n, at_tag t) ∷ []) (map (ref_command ws) rs) g))
+refs_fit ws rs g = targets_fit (λ c. marked_in ws (commit_value c)) rs g
 
 -- ---- marks
 

@@ -48,7 +48,7 @@ found_passes t (x ∷ refs) n h f =
 
 -- ---- the changes
 
-all_left : (P : Path × Leaf Bytes → Type 0) (t : Path × Leaf Bytes → Bool) (f : FileMap Bytes) → AllByRecursion P f → AllByRecursion P (filter t f)
+pub all_left : (P : Path × Leaf Bytes → Type 0) (t : Path × Leaf Bytes → Bool) (f : FileMap Bytes) → AllByRecursion P f → AllByRecursion P (filter t f)
 all_left P t [] h = tt
 all_left P t (e ∷ f) h = elim (t e) as (λ b. AllByRecursion P (cond b (e ∷ filter t f) (filter t f))) [ true ↦ (h.0, all_left P t f h.1) | false ↦ all_left P t f h.1 ]
 

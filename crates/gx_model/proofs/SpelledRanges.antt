@@ -79,7 +79,88 @@ module _ (name : Kind → Bytes → Bytes) (namer : IsNamer name) where
       let ref = ref_passes is_ref_name true refs c carrier_is_ref n in
       spelled_append (commit_with_changes name refs ws c) (commits_with_changes name refs (with_changes ws c) cs)
       (spelled_append (blob_commands ws xs) _ (blobs_spelled ws xs (contents_fit (own_files c) r.0.files) (omega arith))
-      (spelled_append (reset_before on ps) _ (reset_spelled on ps ref)
-      (commit_spelled on (named_in name us) (commit_changes us c) us c ref fits r.0.message text (all_named us ps (omega arith) s.0.names)
-      (own_spelled us c (omega arith) s.0.base content r.0.files (blobs_have ws xs)), tt)))
+      (spelled_append (reset_before on ps) _ (reset_spelled on ps ref) (
+        commit_spelled on (named_in name us) (commit_changes us c) us c ref fits r.0.message text (all_named us ps (omega arith) s.0.names)
+            (own_spelled us c (omega arith) s.0.base content r.0.files (blobs_have ws xs)),
+        tt,
+      )))
       (commits_spelled refs n (with_changes ws c) cs s.1 r.1 lt)
+
+  refs_spelled : (ws : List Value) (rs : Refs) → length ws < 2 ^ 64 → AllByRecursion (λ r. HasName (peeled_at r.1)) rs → AllByRecursion (λ r. is_ref_name r.0 ≡ true) rs → AllByRecursion (λ r. T (is_proper (value_at r.1))) rs → AllByRecursion (λ r. IsReadableTarget r.1) rs
+      → AreSpelled (map (ref_by (named_in name ws)) rs)
+  refs_spelled ws [] lt h n p r = tt
+  refs_spelled ws ((q, at_commit c) ∷ rs) lt h n p r = ((n.0, is_named ws c lt h.0), refs_spelled ws rs lt h.1 n.1 p.1 r.1)
+  refs_spelled ws ((q, at_tag t) ∷ rs) lt h n p r = (
+    record { name = is_true _ (first (is_tag_name t.name) _ p.0); mark = refl; target = is_named ws t.target lt h.0; tagger = is_true _ (second (is_tag_name t.name) _ p.0); message = r.0 },
+    refs_spelled ws rs lt h.1 n.1 p.1 r.1,
+  )
+
+-- ---- what a range sends stands in the history
+
+pub each_one_of : (P : Commit → Type 0) (cs : List Commit) → ((c : Commit) → IsOne cs c → P c) → AllByRecursion P cs
+each_one_of P [] f = tt
+each_one_of P (c ∷ cs) f = (f c (inl refl), each_one_of P cs (λ d i. f d (inr i)))
+
+unmapped : (P : Value → Type 0) (ps : List Commit) → AllByRecursion P (map commit_value ps) → AllByRecursion (λ p. P (commit_value p)) ps
+unmapped P [] h = tt
+unmapped P (p ∷ ps) h = (h.0, unmapped P ps h.1)
+
+each_commit : (P Q : Commit → Type 0) → ((c : Commit) → P c → Q c) → (cs : List Commit) → AllByRecursion P cs → AllByRecursion Q cs
+each_commit P Q f [] h = tt
+each_commit P Q f (c ∷ cs) h = (f c h.0, each_commit P Q f cs h.1)
+
+named_refs : (rs : Refs) → T (list_all (λ r. is_ref_name r.0) rs) → AllByRecursion (λ r. is_ref_name r.0 ≡ true) rs
+named_refs [] h = tt
+named_refs (r ∷ rs) h = (is_true _ (first (is_ref_name r.0) _ h), named_refs rs (second (is_ref_name r.0) _ h))
+
+pub carrier_spelled : (refs : Refs) (cs : List Commit) → AreSpelled (carrier_reset refs cs)
+carrier_spelled refs cs = elim (list_all (is_reached refs) cs) as (λ t. AreSpelled (cond t [] (to_nothing carrier ∷ []))) [ true ↦ tt | false ↦ ((carrier_is_ref, tt), tt) ]
+
+module _ (h : History) (x : IsHistory h) (words : List Word) where
+  whole : IsWhole h.values
+  whole = record { closed = x.closed; proper = x.proper }
+
+  -- a commit that is sent stands in the history
+  pub sent_stands : (c : Commit) → IsOne (reverse (listing h words)) c → IsIn h.values (commit_value c)
+  sent_stands c i = one_in h.values c (filter_one (is_sent words) (filter_map commit_of h.values) c (subst (λ cs. IsOne cs c) (sent_are h words) i))
+
+  -- and so do its parents
+  pub parents_stand : (c : Commit) → IsIn h.values (commit_value c) → AllByRecursion (λ p. IsIn h.values (commit_value p)) (list_of (parents_of c))
+  parents_stand c i = unmapped (IsIn h.values) (list_of (parents_of c)) (parts_in h.values (commit_value c) whole i).1
+
+  module _ (name : Kind → Bytes → Bytes) (namer : IsNamer name) where
+    sendable : HasNoNullName name h → AllByRecursion (IsSendable name namer) (reverse (listing h words))
+    sendable n = each_one_of (IsSendable name namer) (reverse (listing h words)) (λ c i.
+        let there = sent_stands c i in
+        let parents = parents_stand c there in
+        record {
+          proper = proper_in h.values (commit_value c) (passes _ x.proper) there;
+          base = held_parts h.values (list_of (parents_of c)) whole parents;
+          names = each_commit (λ p. IsIn h.values (commit_value p)) (HasName name namer) n (list_of (parents_of c)) parents;
+        })
+
+    pub range_spelled : IsReadableRange name h words → AreSpelled (sending_commands name (reverse (listing h words)) (set_refs h words))
+    range_spelled r =
+        let cs = reverse (listing h words) in
+        let refs = set_refs h words in
+        let t = λ (r : Bytes × Target). is_in_range words (peeled_at r.1) in
+        let names = refs_left (λ r. is_ref_name r.0 ≡ true) (λ r. is_ref_name r.0 ≡ true) t (λ r e _. e) h.refs (named_refs h.refs (passes _ x.ref_names)) in
+        let proper = refs_left (λ r. T (is_proper (value_at r.1))) (λ r. T (is_proper (value_at r.1))) t (λ r p _. p) h.refs (proper_refs h x) in
+        let have = refs_left (λ r. IsIn h.values (value_at r.1)) (λ r. HasName name namer (peeled_at r.1)) t (λ r i _. r_names r.1 i) h.refs x.held in
+        spelled_append (commits_with_changes name refs [] cs) _ (commits_spelled name namer refs names [] cs (sendable r.names) r.commits r.marks)
+        (spelled_append (carrier_reset refs cs) _ (carrier_spelled refs cs) (refs_spelled name namer (all_changes cs) refs r.marks have names proper r.refs))
+      where
+        r_names : (y : Target) → IsIn h.values (value_at y) → HasName name namer (peeled_at y)
+        r_names y i = r.names (peeled_at y) (target_held h.values whole y i)
+
+    -- ---- the import
+
+    pub range_imported : (closed : Bool) (target : History) → CanReceive name h words target → IsReadableRange name h words
+        → (k : History) × IsReceived h words target k × (replayed_text name target (range_text name closed h words) false ≡ finished k [] (range_report name closed h words target k))
+    range_imported closed target receive r =
+        let inner = sending_commands name (reverse (listing h words)) (set_refs h words) in
+        let s = range_spelled r in
+        let items = items_read (flat_map command_items (range_commands name closed h words)) (closed_spelled closed inner s) in
+        let commands = ap commands_of items ∙ closed_read closed inner s in
+        let brought = range_replayed name namer closed h x words target receive in
+        (brought.0, brought.1, ap (λ cs. replayed name 0 (start target) cs.list cs.fault) commands ∙ brought.2)

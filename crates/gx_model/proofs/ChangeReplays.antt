@@ -108,7 +108,7 @@ all_found (x ∷ refs) c =
     more [] h = tt
     more (n ∷ ns) h = (found_more x refs n h.0, more ns h.1)
 
-some_reach : (refs : Refs) (c : Commit) → T (is_reached refs c) → reaching refs c ≡ [] → ⊥
+pub some_reach : (refs : Refs) (c : Commit) → T (is_reached refs c) → reaching refs c ≡ [] → ⊥
 some_reach [] c h e = absurd h
 some_reach (x ∷ refs) c h e = by (reaches (peeled_at x.1) c) h e (some_reach refs c) where
   by : (t : Bool) → T (t || is_reached refs c) → map (λ r. r.0) (cond t (x ∷ filter (λ r. reaches (peeled_at r.1) c) refs) (filter (λ r. reaches (peeled_at r.1) c) refs)) ≡ []

@@ -101,6 +101,7 @@ pub mod NamedByDigits
 pub mod ReceivedValues
 pub mod RangeSteps
 pub mod SentCommits
+pub mod CommitRefs
 pub mod SetBranches
 pub mod RangeReplays
 pub mod SpelledRanges

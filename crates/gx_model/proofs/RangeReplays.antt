@@ -21,6 +21,7 @@ use Rattle.gx_model.specs.Changes.{all_changes, carrier_reset, closed_by, commit
 use Rattle.gx_model.specs.Laws.ExportLaws.{AnyReaches, IsOne, steps}
 use Rattle.gx_model.specs.Laws.RangeLaws.{CanReceive, IsForwardRef, IsReceived, IsSent, is_excluded, range_report}
 use Rattle.gx_model.proofs.ChangeReplays.{branches_after, closed_steps}
+use Rattle.gx_model.proofs.CommitRefs.{own_ref}
 use Rattle.gx_model.proofs.CommitSteps.{Branches, Tags, state_with, steps_after}
 use Rattle.gx_model.proofs.ExportSteps.{all_replayed, proper_refs}
 use Rattle.gx_model.proofs.KeptCommits.{all_in, any_from, one_of_all, reached_held}
@@ -60,16 +61,16 @@ one_passes R (d ∷ cs) c i = by (R d) refl i (one_passes R cs c) where
 
 -- ---- the refs are forward
 
-module _ (target : History) (words : List Word) (refs : Refs) (sorted : T (is_sorted byte_cmp refs)) (cs : List Commit) (apart : (d : Commit) → IsOne cs d → T (is_excluded words d) → ⊥)
-    (forward : AllByRecursion (λ r. IsForwardRef target words r.0 r.1) refs) (bs : Branches) (g : GoOnRefs refs bs cs) where
-  found_forward : (rs : Refs) → AllByRecursion (λ r. IsForwardRef target words r.0 r.1) rs → (q : Bytes) (x : Target) → lookup (same_bytes q) rs ≡ Some x → IsForwardRef target words q x
+module _ (h target : History) (words : List Word) (sorted : T (is_sorted byte_cmp (set_refs h words))) (cs : List Commit) (apart : (d : Commit) → IsOne cs d → T (is_excluded words d) → ⊥)
+    (forward : AllByRecursion (λ r. IsForwardRef h target words r.0 r.1) (set_refs h words)) (bs : Branches) (g : GoOnRefs (set_refs h words) bs cs) where
+  found_forward : (rs : Refs) → AllByRecursion (λ r. IsForwardRef h target words r.0 r.1) rs → (q : Bytes) (x : Target) → lookup (same_bytes q) rs ≡ Some x → IsForwardRef h target words q x
   found_forward [] f q x e = absurd cc
   found_forward (r ∷ rs) f q x e = by (same_bytes q r.0) refl e (found_forward rs f.1 q x) where
-    by : (t : Bool) → same_bytes q r.0 ≡ t → cond t (Some r.1) (lookup (same_bytes q) rs) ≡ Some x → (lookup (same_bytes q) rs ≡ Some x → IsForwardRef target words q x) → IsForwardRef target words q x
+    by : (t : Bool) → same_bytes q r.0 ≡ t → cond t (Some r.1) (lookup (same_bytes q) rs) ≡ Some x → (lookup (same_bytes q) rs ≡ Some x → IsForwardRef h target words q x) → IsForwardRef h target words q x
     by true t k again =
         let same : q ≡ r.0 = same_is q r.0 (passes _ t) in
         let is : r.1 ≡ x = cc in
-        subst (λ y. IsForwardRef target words q y) is (subst (λ n. IsForwardRef target words n r.1) (sym same) f.0)
+        subst (λ y. IsForwardRef h target words q y) is (subst (λ n. IsForwardRef h target words n r.1) (sym same) f.0)
     by false t k again = again k
 
   no_old : (o : Option Target) (x : Option Commit) → o ≡ None → T (is_forward o x)
@@ -80,25 +81,28 @@ module _ (target : History) (words : List Word) (refs : Refs) (sorted : T (is_so
   no_new None = tt
   no_new (Some x) = tt
 
-  one_forward : (q : Bytes) (x : Option Commit) → find byte_cmp q (ref_branches bs refs) ≡ Some x → T (is_forward (ref_at target q) x)
+  one_forward : (q : Bytes) (x : Option Commit) → find byte_cmp q (ref_branches bs (set_refs h words)) ≡ Some x → T (is_forward (ref_at target q) x)
   one_forward q None e = no_new (ref_at target q)
-  one_forward q (Some d) e = by (find byte_cmp q refs) refl (sym (branch_set bs refs q sorted) ∙ e) where
-    by : (o : Option Target) → find byte_cmp q refs ≡ o → set_branch o (find byte_cmp q bs) ≡ Some (Some d) → T (is_forward (ref_at target q) (Some d))
-    by None n k = let none = no_other refs bs cs g q n in let never = sym (ap at_branch k) ∙ none in absurd cc
+  one_forward q (Some d) e = by (find byte_cmp q (set_refs h words)) refl (sym (branch_set bs (set_refs h words) q sorted) ∙ e) where
+    by : (o : Option Target) → find byte_cmp q (set_refs h words) ≡ o → set_branch o (find byte_cmp q bs) ≡ Some (Some d) → T (is_forward (ref_at target q) (Some d))
+    by None n k = let none = no_other (set_refs h words) bs cs g q n in let never = sym (ap at_branch k) ∙ none in absurd cc
     by (Some (at_commit c)) n k =
         let same : c ≡ d = cc in
-        subst (λ y. T (is_forward (ref_at target q) (Some y))) same (passes _ (found_forward refs forward q (at_commit c) (lookup_is q refs ∙ n)))
+        subst (λ y. T (is_forward (ref_at target q) (Some y))) same (passes _ (found_forward (set_refs h words) forward q (at_commit c) (lookup_is q (set_refs h words) ∙ n)))
     by (Some (at_tag t)) n k =
         let out = g.on q d k in
-        elim (found_forward refs forward q (at_tag t) (lookup_is q refs ∙ n)) [
+        let found = ap (λ r. find byte_cmp r (set_refs h words)) out.1 ∙ n in
+        let reach = ref_reaches (set_refs h words) d (at_tag t) sorted found out.2 in
+        elim (found_forward (set_refs h words) forward q (at_tag t) (lookup_is q (set_refs h words) ∙ n)) [
           | inl none ↦ no_old (ref_at target q) (Some d) none
-          | inr gone ↦
-              let reach = ref_reaches refs d (at_tag t) sorted (ap (λ r. find byte_cmp r refs) out.1 ∙ n) out.2 in
-              absurd (apart d out.0 (excluded_below words t.target d (passes _ gone) reach))
+          | inr rest ↦ elim rest [
+            | inl gone ↦ absurd (apart d out.0 (excluded_below words t.target d (passes _ gone) reach))
+            | inr other ↦ absurd (other (own_ref (set_refs h words) d (at_tag t) reach out.2 found ∙ out.1))
+          ]
         ]
 
-  pub all_forward : T (list_all (λ b. is_forward (ref_at target b.0) b.1) (ref_branches bs refs))
-  all_forward = all_entries (λ b. is_forward (ref_at target b.0) b.1) (ref_branches bs refs) (ref_branches_sorted bs refs g.sorted) one_forward
+  pub all_forward : T (list_all (λ b. is_forward (ref_at target b.0) b.1) (ref_branches bs (set_refs h words)))
+  all_forward = all_entries (λ b. is_forward (ref_at target b.0) b.1) (ref_branches bs (set_refs h words)) (ref_branches_sorted bs (set_refs h words) g.sorted) one_forward
 
 -- ---- the whole
 
@@ -187,7 +191,7 @@ module _ (name : Kind → Bytes → Bytes) (namer : IsNamer name) (closed : Bool
       ∙ carrier_replayed ws vs (branches_after set [] sent) ref_part
       ∙ refs_replayed name namer target receive.told ws vs bs [] set own known receive.named held.front (carrier_plain (branches_after set [] sent) done.plain) in
       let all = closed_steps name closed (sending_commands name sent set) (start target) t inner in
-      let forward : is_fast_forward t ≡ true = is_true _ (all_forward target words set sorted_set sent apart_sent receive.forward bs g) in
+      let forward : is_fast_forward t ≡ true = is_true _ (all_forward h target words sorted_set sent apart_sent receive.forward bs g) in
       let same : final_refs t ≡ fold (λ rs r. put byte_cmp r.0 r.1 rs) target.refs set = refs_after target.refs set bs (passes _ receive.history.sorted) sorted_set g.sorted others in
       let published : overwritten t [] ≡ set = same_refs set bs sorted_set g.sorted others in
       let n : 0 + length commands ≡ length commands = omega arith in

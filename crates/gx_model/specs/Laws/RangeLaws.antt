@@ -1,6 +1,6 @@
 -- What the law of exports of ranges supposes and says: a repository that holds what a range excludes receives the rest.
 -- Source: git-fast-export(1) and git-fast-import(1).
-use Rattle.std.specs.Prelude.{◌≡◌, ◌⊎◌, ◌-◌, ◌<◌, ◌^◌, Bool, true, false, List, [], ◌∷◌, ◌++◌, length, map, reverse, None, Some}
+use Rattle.std.specs.Prelude.{◌≡◌, ◌≢◌, ◌⊎◌, ◌-◌, ◌<◌, ◌^◌, Bool, true, false, List, [], ◌∷◌, ◌++◌, length, map, reverse, None, Some}
 use Rattle.std.specs.FinMap.Entries.{put}
 use Rattle.std.specs.List.{AllByRecursion, fold, list_any}
 use Rattle.gx_model.specs.declared.objects.Kind.{Kind}
@@ -13,7 +13,7 @@ use Rattle.gx_model.specs.Records.{name_of}
 use Rattle.gx_model.specs.Revisions.Denotation.{ref_at}
 use Rattle.gx_model.specs.Revisions.Ranges.{Word, listing, span}
 use Rattle.gx_model.specs.Replay.{Report, byte_cmp, finished, is_forward, replayed, replayed_text, start}
-use Rattle.gx_model.specs.Changes.{all_changes, own_files, range_commands, range_text, sending_commands, set_refs}
+use Rattle.gx_model.specs.Changes.{all_changes, commit_ref, own_files, range_commands, range_text, sending_commands, set_refs}
 use Rattle.gx_model.specs.Laws.ExportLaws.{AnyReaches, HaveNoNullGitlink, IsReadableFile, IsReadableTarget, IsSpelled}
 
 -- whether a range word excludes a commit
@@ -24,10 +24,12 @@ is_excluded words c = list_any (λ w. (span w).excluded c) words
 abbrev pub AreToldByName : (Kind → Bytes → Bytes) → List Value → Type 0
 AreToldByName name values = (v w : Value) → IsIn values v → IsIn values w → name_of name v ≡ name_of name w → v ≡ w
 
--- The commit of a ref that is there already is an ancestor of the one that it is set to; a tag is new, or its commit is excluded.
-abbrev pub IsForwardRef : History → List Word → Bytes → Target → Type 0
-IsForwardRef target words ref (at_commit c) = is_forward (ref_at target ref) (Some c) ≡ true
-IsForwardRef target words ref (at_tag t) = (ref_at target ref ≡ None) ⊎ (is_excluded words t.target ≡ true)
+-- The commit of a ref that is there already is an ancestor of the one that it is set to. A tag that is there already is on an
+-- excluded commit, or on one that goes out on another ref.
+abbrev pub IsForwardRef : History → History → List Word → Bytes → Target → Type 0
+IsForwardRef h target words ref (at_commit c) = is_forward (ref_at target ref) (Some c) ≡ true
+IsForwardRef h target words ref (at_tag t) =
+    (ref_at target ref ≡ None) ⊎ (is_excluded words t.target ≡ true) ⊎ (commit_ref (set_refs h words) t.target ≢ ref)
 
 -- What a history has that receives what range words list of another: it holds each commit that they exclude, under its name, and the
 -- refs that are set are forward. No ref is named by forty digits, which would be read as an object's name.
@@ -35,7 +37,7 @@ pub record CanReceive (name : Kind → Bytes → Bytes) (h : History) (words : L
   pub history : IsHistory target
   pub told : AreToldByName name target.values
   pub holds : (c : Commit) → IsIn h.values (commit_value c) → is_excluded words c ≡ true → IsIn target.values (commit_value c)
-  pub forward : AllByRecursion (λ r. IsForwardRef target words r.0 r.1) (set_refs h words)
+  pub forward : AllByRecursion (λ r. IsForwardRef h target words r.0 r.1) (set_refs h words)
   pub named : AllByRecursion (λ r. is_name_text r.0 ≡ false) (set_refs h words)
 
 -- what the commits that are sent and the refs that are set reach

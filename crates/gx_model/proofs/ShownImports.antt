@@ -29,6 +29,7 @@ use Rattle.gx_model.specs.Records.Lookups.{first_named, or_else}
 use Rattle.gx_model.specs.Revisions.{Revision}
 use Rattle.gx_model.specs.Revisions.Denotation.{Shown, denoted, file_shown, files_in, first_ref, looked_up, object, of_file, or_ref, ref_names, shown_value, submodule}
 use Rattle.gx_model.specs.Replay.{imported_asked}
+use Rattle.gx_model.specs.Laws.ChangesLaws.{RepositoriesComeBackByChanges}
 use Rattle.gx_model.specs.Laws.ExportLaws.{AnyReaches, IsAgain, nothing}
 use Rattle.gx_model.specs.Laws.Headline.{ComesBack, Headline, Shows, body_named, file_held, leaf_held, object_denoted, tree_in, tree_named}
 use Rattle.gx_model.proofs.PathTests.{same_is}
@@ -46,7 +47,7 @@ use Rattle.gx_model.proofs.HeldValues.{proper_text, text_is}
 use Rattle.gx_model.proofs.ShownValues.{file_stands, files_stand, held_value}
 use Rattle.gx_model.proofs.RecordLines.{hex_unhex}
 use Rattle.gx_model.proofs.HistorySteps.{nothing_is, texts_give}
-use Rattle.gx_model.proofs.ComingBack.{texts_back}
+use Rattle.gx_model.proofs.ComingBack.{changes_back, texts_back}
 
 -- ---- refs
 
@@ -234,3 +235,11 @@ module _ (name : Kind → Bytes → Bytes) (namer : IsNamer name) where
         shown name namer r h s,
         λ short. let q = texts_back name h given fails progress report e short in (q.0, of_history q.0, q.2, comes_back r h q.0 s q.1),
       )
+
+  pub changes_come_back : RepositoriesComeBackByChanges name
+  unfolding imported_asked
+  changes_come_back closed given fails h progress report r e has short =
+      let is = texts_give name nothing h given fails progress report nothing_is e in
+      let s : StandsFor name r h = record { history = is; records = has.records; distinct = has.distinct; refs = has.refs } in
+      let q = changes_back name closed h given fails progress report e short in
+      (q.0, of_history q.0, q.2, comes_back r h q.0 s q.1)

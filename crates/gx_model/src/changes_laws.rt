@@ -1,5 +1,6 @@
 //! Laws of the export of changes.
-ghost use Rattle.gx_model.specs.Laws.ChangesLaws.{ChangesAreImported, ChangesAreReplayed, ChangesAreSpelled, ClosedCommandsAreItems, ClosedCommandsAreRead, ShortChangesAreReadable};
+ghost use Rattle.gx_model.specs.Laws.ChangesLaws.{ChangesAreImported, ChangesAreReplayed, ChangesAreSpelled, ClosedCommandsAreItems, ClosedCommandsAreRead, RepositoriesComeBackByChanges, ShortChangesAreReadable, TextsComeBackByChanges};
+ghost use Rattle.gx_model.specs.Objects.{ForEachNamer};
 
 /// The items of an export's commands can be spelled and are read as these commands, with and without `feature done` and `done`.
 #[tactic(auto, using(crate::proofs::CommandEnds::closed_spelled, crate::proofs::CommandEnds::closed_read))]
@@ -24,4 +25,11 @@ pub fn changes_are_readable()
 /// The import of such an export's text into nothing gives the same refs, exactly what these reach, and the commits in their order.
 pub fn changes_are_imported()
     ensures imported { ChangesAreImported }
+{}
+
+/// What any text gives from nothing comes back from its export of changes, if that text's length is below 2^64: the same refs,
+/// exactly what these reach, and the commits in their order. So does each repository that has the records of what it gave.
+pub fn texts_come_back_by_changes()
+    ensures texts { TextsComeBackByChanges }
+    ensures repositories { ForEachNamer RepositoriesComeBackByChanges }
 {}

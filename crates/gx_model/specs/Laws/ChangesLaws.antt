@@ -7,10 +7,11 @@ use Rattle.gx_model.specs.Texts.{Bytes}
 use Rattle.gx_model.specs.Streams.Items.{Finished}
 use Rattle.gx_model.specs.Streams.Commands.{Command}
 use Rattle.gx_model.specs.Streams.Grammar.{commands_of}
-use Rattle.gx_model.specs.Histories.{History, IsHistory}
-use Rattle.gx_model.specs.Replay.{Report, finished, replayed, replayed_text, start}
+use Rattle.gx_model.specs.Histories.{History, IsHistory, Records}
+use Rattle.gx_model.specs.Replay.{Report, finished, imported, replayed, replayed_text, start}
 use Rattle.gx_model.specs.Export.{command_items, reached_commits}
 use Rattle.gx_model.specs.Changes.{changes_commands, changes_text, closed_by, sending_commands}
+use Rattle.gx_model.specs.Laws.Headline.{ComesBack, HasRecordsOf}
 use Rattle.gx_model.specs.Laws.ExportLaws.{HasNoNullGitlink, IsAgain, IsItem, IsReadable, IsSpelled, nothing}
 
 -- commands that can be spelled have items that can be, with and without `feature done` and `done`
@@ -46,3 +47,19 @@ abbrev pub ChangesAreImported : Type 0
 ChangesAreImported =
     (name : Kind → Bytes → Bytes) (closed : Bool) (h : History) → IsHistory h → IsReadable h
     → (k : History) × IsAgain h k × (replayed_text name nothing (changes_text name closed h) false ≡ finished k [] (changes_report name closed h k))
+
+-- Whatever text gives a history from nothing: the history's export of changes, read and replayed from nothing, gives the same refs,
+-- exactly what these reach, and the commits in their order.
+abbrev pub TextsComeBackByChanges : Type 0
+TextsComeBackByChanges =
+    (name : Kind → Bytes → Bytes) (closed : Bool) (h : History) (given : Bytes) (fails : Bool) (text : Bytes) (report : Report)
+    → replayed_text name nothing given fails ≡ finished h text report → length (changes_text name closed h) < 2 ^ 64
+    → (k : History) × IsAgain h k × (replayed_text name nothing (changes_text name closed h) false ≡ finished k [] (changes_report name closed h k))
+
+-- And each repository that has the records of what the text gave comes back: exactly the objects that refs reach, under their names.
+abbrev pub RepositoriesComeBackByChanges : (Kind → Bytes → Bytes) → Type 0
+RepositoriesComeBackByChanges name =
+    (closed : Bool) (given : Bytes) (fails : Bool) (h : History) (progress : Bytes) (report : Report) (repository : Records)
+    → imported name nothing given fails ≡ finished h progress report → HasRecordsOf name repository h → length (changes_text name closed h) < 2 ^ 64
+    → (k : History) × (new : Records)
+    × (imported name nothing (changes_text name closed h) false ≡ finished k [] (changes_report name closed h k)) × ComesBack name repository h new k

@@ -1,32 +1,31 @@
 -- The commands of an export of changes are replayed without a fault, and give what an export gives.
-use Rattle.std.proofs.Common.{◌≡◌, Bool, true, false, cond, ◌||◌, Option, Some, None, Ok, List, [], ◌∷◌, ◌++◌, length, map, refl, sym, ap, subst, ◌∙◌, inl, inr}
+use Rattle.std.proofs.Common.{◌≡◌, Bool, true, false, cond, ◌||◌, Option, Some, None, Ok, List, [], ◌∷◌, ◌++◌, map, refl, sym, ap, subst, ◌∙◌}
 use Rattle.std.specs.Bool.{passes}
 use Rattle.std.specs.FinMap.Entries.{find, find-put, find_tied, is_sorted, is_sorted-put, put}
-use Rattle.std.specs.List.{filter, filter_map, fold, list_all, list_any, AllByRecursion}
+use Rattle.std.specs.List.{filter, filter_map, fold, list_all, AllByRecursion}
 use Rattle.std.specs.Ordering.{eq_by_cmp}
 use Rattle.std.specs.Prelude.{T, is_some}
-use Rattle.gx_model.specs.declared.features.Feature.TheVariants as features
 use Rattle.gx_model.specs.declared.objects.Kind.{Kind}
 use Rattle.gx_model.specs.Texts.{Bytes}
 use Rattle.gx_model.specs.Streams.Commands.{Command}
 use Rattle.gx_model.specs.Streams.Commands as command
 use Rattle.gx_model.specs.Histories.Files.{Leaf}
-use Rattle.gx_model.specs.Histories.Values.{Commit, Value, commit_value, files_of, is_content, is_proper, is_proper_text, list_of, parents_of, text_of}
+use Rattle.gx_model.specs.Histories.Values.{Commit, Value, commit_value, files_of, is_content, is_proper_text, list_of, parents_of, text_of}
 use Rattle.gx_model.specs.Histories.{History, IsHistory, IsIn, Target, at_commit, at_tag}
 use Rattle.gx_model.specs.Revisions.Ranges.{commit_of, reaches}
 use Rattle.gx_model.specs.Replay.{State, byte_cmp, finished, peeled_at, replayed, start}
 use Rattle.gx_model.specs.Export.{all_written, carrier, is_reached, reached_commits, ref_by, ref_command, to_nothing, with_commit}
-use Rattle.gx_model.specs.Changes.{all_changes, base_files, carrier_reset, changes_commands, closed_by, commit_ref, commit_with_changes, commits_with_changes, first_or_carrier, is_branch, named_in, reaching, sending_commands, with_changes}
+use Rattle.gx_model.specs.Changes.{all_changes, base_files, changes_commands, closed_by, commit_ref, commit_with_changes, commits_with_changes, first_or_carrier, is_branch, named_in, reaching, sending_commands, with_changes}
 use Rattle.gx_model.specs.Laws.ExportLaws.{HoldsWhat, IsAgain, IsOne, nothing, steps, values_with_commit}
 use Rattle.gx_model.specs.Laws.ChangesLaws.{changes_report}
 use Rattle.gx_model.proofs.ChangeSteps.{HaveBlobs, commit_changes_replayed, have_blobs, named_by_mark, same_written}
 use Rattle.gx_model.proofs.CommitSteps.{Branches, committed_on, begun_on, map_of, state_with, steps_after}
-use Rattle.gx_model.proofs.ExportSteps.{after_refs, all_follow, commits_keep, ends_again, none_held, peeled_ones, values_after}
+use Rattle.gx_model.proofs.ExportSteps.{after_refs, all_follow, ends_again, none_held, peeled_ones, values_after}
 use Rattle.gx_model.proofs.FileMapEdits.{Parts, parts_of}
 use Rattle.gx_model.proofs.KeptCommits.{FollowsAll, commit_keeps, each_one, one_of_all}
 use Rattle.gx_model.proofs.LinkedValues.{proper_in}
 use Rattle.gx_model.proofs.PathTests.{first, is_true, second}
-use Rattle.gx_model.proofs.PublishedRefs.{ArePeeled, HasNoOther, Refs, at_branch, ref_branches, ref_tags, ref_values, refs_replayed}
+use Rattle.gx_model.proofs.PublishedRefs.{ArePeeled, Refs, at_branch, refs_replayed}
 use Rattle.gx_model.proofs.ReachedValues.{all_pass}
 use Rattle.gx_model.proofs.TextMaps.{order, tied, tied_with_itself}
 

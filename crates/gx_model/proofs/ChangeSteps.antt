@@ -1,41 +1,29 @@
 -- The commands of an export of changes are replayed without a fault, and write what an export writes.
 use Rattle.std.proofs.Common.{◌≡◌, Bool, true, false, cond, not, Option, Some, None, Result, Ok, Err, List, [], ◌∷◌, ◌++◌, map, refl, sym, ap, subst, ◌∙◌, inl, inr}
-use Rattle.std.specs.Bool.{passes}
-use Rattle.std.specs.FinMap.Entries.{find, find-put, find_tied, is_sorted, is_sorted-put, put}
-use Rattle.std.specs.List.{filter, filter_map, fold, list_all, list_any, AllByRecursion, cons_option}
-use Rattle.std.specs.Ordering.{eq_by_cmp}
-use Rattle.std.specs.Prelude.{T, is_some}
+use Rattle.std.specs.List.{filter, AllByRecursion, cons_option}
+use Rattle.std.specs.Prelude.{T}
 use Rattle.gx_model.specs.declared.faults.Fault.{Fault}
-use Rattle.gx_model.specs.declared.features.Feature.TheVariants as features
 use Rattle.gx_model.specs.declared.objects.Kind.{Kind}
-use Rattle.gx_model.specs.declared.objects.Mode.{Mode}
 use Rattle.gx_model.specs.Texts.{Bytes}
 use Rattle.gx_model.specs.Texts.Paths.{Path, same_path}
 use Rattle.gx_model.specs.Faults.{and_then}
 use Rattle.gx_model.specs.Streams.Commands.{Change, Named, Remove}
-use Rattle.gx_model.specs.Streams.Commands as command
 use Rattle.gx_model.specs.Histories.Files.{FileMap, Leaf, file_at}
 use Rattle.gx_model.specs.Histories.Edits.{modified, removed}
-use Rattle.gx_model.specs.Histories.Values.{Commit, Value, blob_value, commit_value, files_of, is_content, is_leaf, is_proper, is_proper_text, list_of, parents_of, text_of}
-use Rattle.gx_model.specs.Histories.{History, IsHistory, IsIn, Target, is_in, with_one, with_value}
-use Rattle.gx_model.specs.Revisions.Ranges.{commit_of, reaches}
+use Rattle.gx_model.specs.Histories.Values.{Commit, Value, blob_value, commit_value, files_of, is_content, is_leaf, list_of, parents_of}
+use Rattle.gx_model.specs.Histories.{History, IsIn, is_in, with_one, with_value}
 use Rattle.gx_model.specs.Replay.{State, all_changed, committed_for}
 use Rattle.gx_model.specs.Objects.{hex}
 use Rattle.gx_model.specs.Records.{name_of}
-use Rattle.gx_model.specs.Export.{all_written, blob_commands, content_in, contents, file_change, is_reached, marked_in, reached_commits, ref_by, ref_command, with_blobs, with_commit}
-use Rattle.gx_model.specs.Changes.{all_changes, base_files, carrier_reset, changed_files, changes_commands, closed_by, commit_changes, commit_ref, commit_with_changes, commits_with_changes, first_or_carrier, gone_paths, is_branch, is_this_leaf, named_in, own_files, reaching, sending_commands, with_changes}
-use Rattle.gx_model.specs.Laws.ExportLaws.{HoldsWhat, IsAgain, IsOne, nothing, steps, values_with_blobs, values_with_commit}
+use Rattle.gx_model.specs.Export.{content_in, contents, file_change, marked_in, with_blobs, with_commit}
+use Rattle.gx_model.specs.Changes.{base_files, commit_changes, commit_ref, commit_with_changes, gone_paths, is_this_leaf, named_in, own_files, with_changes}
+use Rattle.gx_model.specs.Laws.ExportLaws.{nothing, steps, values_with_blobs, values_with_commit}
 use Rattle.gx_model.proofs.ChangedFiles.{all_put, all_removed, changes_make, same_leaf}
-use Rattle.gx_model.proofs.CommitSteps.{AreNamed, Branches, Tags, all_still, are_leaves, begun_on, block_replayed, blobs_have, blobs_keep, committed_on, content_given, front_of, leaves_of, map_of, marks_name, rest_of, state_with, steps_after}
-use Rattle.gx_model.proofs.ExportSteps.{after_refs, all_follow, commits_keep, ends_again, none_held, peeled_ones, values_after}
+use Rattle.gx_model.proofs.CommitSteps.{AreNamed, Branches, Tags, all_still, are_leaves, begun_on, block_replayed, blobs_have, blobs_keep, committed_on, content_given, front_of, leaves_of, map_of, marks_name, rest_of, state_with}
 use Rattle.gx_model.proofs.FileMapEdits.{Parts, parts_of}
 use Rattle.gx_model.proofs.GrownRecords.{is_is_in}
-use Rattle.gx_model.proofs.KeptCommits.{FollowsAll, commit_keeps, each_one, one_of_all}
-use Rattle.gx_model.proofs.LinkedValues.{proper_in}
-use Rattle.gx_model.proofs.PathTests.{all_filter, first, is_true, left_or, one_of, path_is, right_or, second}
-use Rattle.gx_model.proofs.PublishedRefs.{ArePeeled, HasNoOther, Refs, at_branch, ref_branches, ref_tags, ref_values, refs_replayed}
-use Rattle.gx_model.proofs.ReachedValues.{all_pass}
-use Rattle.gx_model.proofs.TextMaps.{order, tied}
+use Rattle.gx_model.proofs.PathTests.{all_filter, first, second}
+use Rattle.gx_model.proofs.PublishedRefs.{Refs}
 
 -- ---- blobs that were written
 

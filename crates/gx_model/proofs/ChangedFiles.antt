@@ -1,7 +1,7 @@
 -- What is gone and what differs between two file maps makes the one of the other.
-use Rattle.std.proofs.Common.{◌≡◌, Bool, true, false, cond, not, ◌||◌, Option, None, Some, Result, Ok, Err, List, [], ◌∷◌, ◌++◌, map, refl, sym, ap, subst, ◌∙◌}
+use Rattle.std.proofs.Common.{◌≡◌, Bool, true, false, cond, not, ◌||◌, Option, None, Some, Result, Ok, List, [], ◌∷◌, map, refl, sym, ap, subst, ◌∙◌}
 use Rattle.std.specs.Prelude.{T, is_some, IfOk}
-use Rattle.std.specs.List.{filter, list_all, list_any, AllByRecursion}
+use Rattle.std.specs.List.{filter, list_any, AllByRecursion}
 use Rattle.std.specs.Bool.{passes}
 use Rattle.std.specs.FinMap.Entries.{below_all, is_sorted}
 use Rattle.gx_model.specs.declared.faults.Fault.{Fault}

@@ -1,15 +1,16 @@
 -- Commands are read up to an end, with and without `feature done` and `done`.
-use Rattle.std.proofs.Common.{◌≡◌, ℕ, ◌+◌, ◌-◌, Bool, true, false, cond, None, Some, List, [], ◌∷◌, ◌++◌, length, refl, sym, ap, ◌∙◌, arith, append-nil}
+use Rattle.std.proofs.Common.{◌≡◌, ℕ, ◌+◌, ◌-◌, Bool, true, false, cond, None, Some, List, [], ◌∷◌, length, refl, sym, ap, ◌∙◌, arith, append-nil}
 use Rattle.std.specs.List.{flat_map, list_any, AllByRecursion}
 use Rattle.gx_model.specs.declared.faults.Fault.TheVariants as faults
-use Rattle.gx_model.specs.Streams.Items.{Finished, Item}
+use Rattle.gx_model.specs.Streams.Items.{Finished}
 use Rattle.gx_model.specs.Streams.Commands.{Command, Commands}
 use Rattle.gx_model.specs.Streams.Commands as command
 use Rattle.gx_model.specs.Streams.Grammar.{asks_done, commands_of, commands_within, fault_at_end, item_after_in, stops}
 use Rattle.gx_model.specs.Export.{command_items}
 use Rattle.gx_model.specs.Changes.{closed_by}
 use Rattle.gx_model.specs.Laws.ExportLaws.{IsSpelled}
-use Rattle.gx_model.proofs.CommandItems.{Starts, all_items, all_listed, commands_read, read_before, stream, with_all}
+use Rattle.gx_model.proofs.ChangeItems.{stream}
+use Rattle.gx_model.proofs.CommandItems.{Starts, all_items, all_listed, commands_read, read_before, with_all}
 use Rattle.gx_model.proofs.SpelledItems.{AreItems, all_spelled, between_spelled}
 
 none_asks : (cs : List Command) → AllByRecursion IsSpelled cs → list_any asks_done cs ≡ false

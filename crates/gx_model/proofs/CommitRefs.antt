@@ -11,9 +11,9 @@ use Rattle.gx_model.specs.Histories.{Target}
 use Rattle.gx_model.specs.Revisions.Ranges.{reaches}
 use Rattle.gx_model.specs.Replay.{byte_cmp, peeled_at}
 use Rattle.gx_model.specs.Export.{is_reached}
-use Rattle.gx_model.specs.Changes.{commit_ref, first_or_carrier, is_branch, reaching}
+use Rattle.gx_model.specs.Changes.{commit_ref, first_or_carrier, is_branch}
 use Rattle.gx_model.proofs.ChangeReplays.{some_reach}
-use Rattle.gx_model.proofs.PathTests.{both, first, is_true, second}
+use Rattle.gx_model.proofs.PathTests.{both, first, second}
 use Rattle.gx_model.proofs.PublishedRefs.{Refs}
 use Rattle.gx_model.proofs.ReachedCommits as reached
 use Rattle.gx_model.proofs.TextMaps.{same_text, tied, tied_with_itself}

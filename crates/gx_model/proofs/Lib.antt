@@ -50,6 +50,7 @@ pub mod StoredRefs
 pub mod ReadStores
 pub mod ItemTexts
 pub mod CommandFields
+pub mod ChangeItems
 pub mod CommandItems
 pub mod SpelledItems
 pub mod LowerDigits

@@ -1,32 +1,30 @@
 -- A commit is named by the digits of its name, where its value is held.
-use Rattle.std.proofs.Common.{◌≡◌, ℕ, ◌*◌, ◌-◌, Bool, true, false, cond, eqb, not, Option, Some, None, Result, Ok, Err, List, [], ◌∷◌, ◌++◌, length, drop, map, codes, refl, sym, ap, subst, ◌∙◌, arith, inl, inr}
-use Rattle.std.specs.Prelude.{T, ◌&&◌, ◌||◌, ◌==◌, nat_eq}
+use Rattle.std.proofs.Common.{◌≡◌, ℕ, ◌*◌, ◌-◌, Bool, true, false, None, Ok, List, [], ◌∷◌, ◌++◌, length, drop, map, codes, refl, sym, ap, ◌∙◌, arith, inl}
+use Rattle.std.specs.Prelude.{◌||◌, ◌==◌, nat_eq}
 use Rattle.std.specs.Bool.{passes}
 use Rattle.std.specs.List.{filter, onto_first, list_all, ends_with, starts_with, slice_split}
 use Rattle.std.specs.Cmp.Lexicographic.{pointwise}
-use Rattle.std.specs.Str.{bytes_eq}
 use Rattle.std.proofs.lemmas.Bool.{and_from, and_parts, eq-eqb, eqb-true, false≢true, false_from_ne_true}
 use Rattle.std.proofs.lemmas.Bool.Decides.{nat_tests}
 use Rattle.std.proofs.lemmas.List.Elements.{filter-append}
 use Rattle.std.proofs.lemmas.List.Splits.{slice_split-cons_no}
 use Rattle.std.proofs.lemmas.Slice.Eq.{bytes_eq-Decides}
-use Rattle.gx_model.specs.declared.faults.Fault.{Fault}
 use Rattle.gx_model.specs.declared.objects.Kind.{Kind}
 use Rattle.gx_model.specs.Texts.{Bytes, cut_at, has_pair, lacks, same_bytes}
 use Rattle.gx_model.specs.Texts.RefNames.{is_ref_byte, is_ref_component, is_ref_name, ref_components}
-use Rattle.gx_model.specs.Histories.Values.{Commit, Value, commit_value, is_hex_digit, is_name_text}
-use Rattle.gx_model.specs.Histories.{History, IsIn, Target}
+use Rattle.gx_model.specs.Histories.Values.{Value, is_hex_digit, is_name_text}
+use Rattle.gx_model.specs.Histories.{IsIn, Target}
 use Rattle.gx_model.specs.Objects.{IsNamer, hex, unhex}
 use Rattle.gx_model.specs.Records.{body_of, kind_of, name_of}
 use Rattle.gx_model.specs.Laws.RangeLaws.{AreToldByName}
-use Rattle.gx_model.specs.Revisions.{Revision, base_and_suffixes, base_of, revision_of}
-use Rattle.gx_model.specs.Revisions.Denotation.{base_value, begins_with_digits, begun_by, denoted, full_name, is_any_digit, lower, value_denoted}
+use Rattle.gx_model.specs.Revisions.{base_and_suffixes, base_of, revision_of}
+use Rattle.gx_model.specs.Revisions.Denotation.{base_value, begins_with_digits, denoted, full_name, is_any_digit, lower, value_denoted}
 use Rattle.gx_model.proofs.Bases.{begins_own, filtered_in, in_filtered, own_begins}
 use Rattle.gx_model.proofs.BodiesReadBack.{unhex_hex}
-use Rattle.gx_model.proofs.Cuts.{cut_past, lacks-cons}
+use Rattle.gx_model.proofs.Cuts.{lacks-cons}
 use Rattle.gx_model.proofs.LowerDigits.{lower_again}
 use Rattle.gx_model.proofs.NameDigits.{hex_long, hex_lower}
-use Rattle.gx_model.proofs.PathTests.{all_drop, is_true, second}
+use Rattle.gx_model.proofs.PathTests.{all_drop, is_true}
 
 -- ---- forty digits as a text
 

@@ -1,5 +1,5 @@
 -- The commands of an export's refs are replayed, and the refs are what they were.
-use Rattle.std.proofs.Common.{◌≡◌, true, false, cond, Option, Some, None, Ok, List, [], ◌∷◌, ◌++◌, map, refl, sym, ap, subst, ◌∙◌, inl, inr}
+use Rattle.std.proofs.Common.{◌≡◌, true, false, cond, Option, Some, None, Ok, List, [], ◌∷◌, map, refl, sym, ap, subst, ◌∙◌, inl, inr}
 use Rattle.std.specs.FinMap.Entries.{put, find, is_sorted, below_all, is_sorted-put, find-put, find_tied, same_entries}
 use Rattle.std.specs.List.{filter_map, fold, AllByRecursion}
 use Rattle.std.specs.Ordering.{eq_by_cmp}

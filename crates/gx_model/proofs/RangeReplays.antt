@@ -1,11 +1,10 @@
 -- The commands of a range's export are replayed without a fault where it can be received, and what they give.
-use Rattle.std.proofs.Common.{◌≡◌, ℕ, ◌+◌, ◌-◌, Bool, true, false, cond, ◌||◌, Option, Some, None, Ok, List, [], ◌∷◌, ◌++◌, length, map, refl, sym, ap, subst, ◌∙◌, arith, append-nil, inl, inr}
+use Rattle.std.proofs.Common.{◌≡◌, ◌+◌, ◌-◌, Bool, true, false, cond, Option, Some, None, Ok, List, [], ◌∷◌, ◌++◌, length, map, refl, sym, ap, subst, ◌∙◌, arith, append-nil, inl, inr}
 use Rattle.std.specs.Bool.{passes}
 use Rattle.std.specs.FinMap.Entries.{find, is_sorted, put}
 use Rattle.std.specs.List.{filter, fold, list_all, AllByRecursion}
 use Rattle.std.specs.Map.{lookup}
 use Rattle.std.specs.Prelude.{reverse, T, ◌⊎◌}
-use Rattle.std.proofs.lemmas.Bool.{false≢true}
 use Rattle.gx_model.specs.declared.faults.Fault.TheVariants as faults
 use Rattle.gx_model.specs.declared.objects.Kind.{Kind}
 use Rattle.gx_model.specs.Texts.{Bytes, same_bytes}
@@ -15,20 +14,20 @@ use Rattle.gx_model.specs.Histories.{History, IsHistory, IsIn, IsRefOf, IsWhole,
 use Rattle.gx_model.specs.Objects.{IsNamer}
 use Rattle.gx_model.specs.Revisions.Denotation.{ref_at}
 use Rattle.gx_model.specs.Revisions.Ranges.{Word, listing}
-use Rattle.gx_model.specs.Replay.{State, byte_cmp, final, final_refs, finished, is_fast_forward, is_forward, overwritten, peeled_at, refused, replayed, report, start}
+use Rattle.gx_model.specs.Replay.{byte_cmp, final, final_refs, finished, is_fast_forward, is_forward, overwritten, peeled_at, refused, replayed, report, start}
 use Rattle.gx_model.specs.Export.{carrier, is_reached, ref_by, to_nothing}
-use Rattle.gx_model.specs.Changes.{all_changes, carrier_reset, closed_by, commits_with_changes, is_in_range, named_in, range_commands, sending_commands, set_refs}
+use Rattle.gx_model.specs.Changes.{all_changes, carrier_reset, commits_with_changes, is_in_range, named_in, range_commands, sending_commands, set_refs}
 use Rattle.gx_model.specs.Laws.ExportLaws.{AnyReaches, IsOne, steps}
-use Rattle.gx_model.specs.Laws.RangeLaws.{CanReceive, IsForwardRef, IsReceived, IsSent, is_excluded, range_report}
+use Rattle.gx_model.specs.Laws.RangeLaws.{CanReceive, IsForwardRef, IsReceived, is_excluded, range_report}
 use Rattle.gx_model.proofs.ChangeReplays.{branches_after, closed_steps}
 use Rattle.gx_model.proofs.CommitRefs.{own_ref}
-use Rattle.gx_model.proofs.CommitSteps.{Branches, Tags, state_with, steps_after}
+use Rattle.gx_model.proofs.CommitSteps.{Branches, state_with, steps_after}
 use Rattle.gx_model.proofs.ExportSteps.{all_replayed, proper_refs}
 use Rattle.gx_model.proofs.KeptCommits.{all_in, any_from, one_of_all, reached_held}
 use Rattle.gx_model.proofs.PathTests.{is_true, same_is}
-use Rattle.gx_model.proofs.PublishedRefs.{HasNoOther, RefsHeld, Refs, at_branch, branch_set, ref_branches, ref_branches_sorted, ref_tags, ref_values, refs_held, same_refs, set_branch}
-use Rattle.gx_model.proofs.RangeSteps.{AreSent, ArePlain, HaveNames, IsWrittenOrHeld, commits_replayed, plain_put, refs_replayed, values_sent}
-use Rattle.gx_model.proofs.ReachedValues.{filter_one, target_held}
+use Rattle.gx_model.proofs.PublishedRefs.{Refs, at_branch, branch_set, ref_branches, ref_branches_sorted, ref_tags, ref_values, refs_held, same_refs, set_branch}
+use Rattle.gx_model.proofs.RangeSteps.{ArePlain, IsWrittenOrHeld, commits_replayed, plain_put, refs_replayed, values_sent}
+use Rattle.gx_model.proofs.ReachedValues.{target_held}
 use Rattle.gx_model.proofs.ReceivedValues.{FollowsSent, HoldsSent, IsFront, front_one, held_there}
 use Rattle.gx_model.proofs.SentCommits.{excluded_below, follows_sent, is_sent, not_excluded, refs_left, sent_are, sent_or_excluded}
 use Rattle.gx_model.proofs.SetBranches.{GoOnRefs, all_entries, all_go, go_on_refs, no_other, ref_reaches, refs_after, sorted_filter, without_carrier}

@@ -3,7 +3,6 @@ use Rattle.std.proofs.Common.{◌≡◌, Bool, true, false, cond, Option, Some, 
 use Rattle.std.specs.Bool.{passes}
 use Rattle.std.specs.FinMap.Entries.{find, find-put, put}
 use Rattle.std.specs.List.{filter, fold, AllByRecursion}
-use Rattle.std.specs.Map.{lookup}
 use Rattle.std.specs.Ordering.{eq_by_cmp}
 use Rattle.std.specs.Prelude.{T, ◌⊎◌}
 use Rattle.std.proofs.lemmas.Bool.{false≢true, false_from_ne_true}
@@ -13,18 +12,18 @@ use Rattle.gx_model.specs.declared.faults.Fault.TheVariants as faults
 use Rattle.gx_model.specs.declared.objects.Kind.{Kind}
 use Rattle.gx_model.specs.Texts.{Bytes, same_bytes}
 use Rattle.gx_model.specs.Faults.{and_then}
-use Rattle.gx_model.specs.Streams.Commands.{CommitIsh, Named}
+use Rattle.gx_model.specs.Streams.Commands.{Named}
 use Rattle.gx_model.specs.Histories.Values.{Commit, Value, commit_value, files_of, is_content, is_name_text, is_proper_text, list_of, parents_of, tag_value, text_of}
-use Rattle.gx_model.specs.Histories.{History, IsIn, IsRefOf, Target, at_commit, at_tag, is_in, with_one}
+use Rattle.gx_model.specs.Histories.{History, IsIn, IsRefOf, at_commit, at_tag, is_in, with_one}
 use Rattle.gx_model.specs.Objects.{IsNamer, hex}
 use Rattle.gx_model.specs.Records.{name_of}
 use Rattle.gx_model.specs.Revisions.{revision_of}
 use Rattle.gx_model.specs.Revisions.Denotation.{commit_in, value_denoted}
 use Rattle.gx_model.specs.Revisions.Ranges.{reaches}
-use Rattle.gx_model.specs.Replay.{State, byte_cmp, commit_alone, committed, committed_for, is_itself, ok_or_mark, or_branch, peeled_at}
+use Rattle.gx_model.specs.Replay.{byte_cmp, commit_alone, committed, committed_for, is_itself, ok_or_mark, or_branch, peeled_at}
 use Rattle.gx_model.specs.Export.{carrier, contents, marked_in, ref_by, with_blobs}
 use Rattle.gx_model.specs.Changes.{commit_changes, commit_ref, commit_with_changes, commits_with_changes, first_or_carrier, is_branch, named_in, own_files, reaching, with_changes}
-use Rattle.gx_model.specs.Laws.ExportLaws.{IsOne, steps, values_with_blobs}
+use Rattle.gx_model.specs.Laws.ExportLaws.{steps, values_with_blobs}
 use Rattle.gx_model.specs.Laws.RangeLaws.{AreToldByName}
 use Rattle.gx_model.proofs.AddedValues.{is_in_is}
 use Rattle.gx_model.proofs.ChangeReplays.{branches_after, first_holds}

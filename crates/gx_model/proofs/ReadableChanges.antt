@@ -1,20 +1,19 @@
 -- Lengths and marks are below 2 ^ 64 where the length of the text of an export of changes is.
-use Rattle.std.proofs.Common.{◌≡◌, ℕ, suc, ◌+◌, ◌<◌, ◌≤◌, ◌^◌, Bool, true, false, cond, List, [], ◌∷◌, ◌++◌, length, map, refl, sym, ap, subst, ◌∙◌, arith, inl, inr}
+use Rattle.std.proofs.Common.{◌≡◌, suc, ◌+◌, ◌<◌, ◌≤◌, ◌^◌, Bool, true, false, List, [], ◌∷◌, ◌++◌, length, map, refl, ap, subst, arith, inl}
 use Rattle.std.specs.Bool.{passes}
-use Rattle.std.specs.List.{filter_map, flat_map, fold, AllByRecursion}
-use Rattle.std.specs.Prelude.{T}
+use Rattle.std.specs.List.{flat_map, fold, AllByRecursion}
 use Rattle.gx_model.specs.declared.objects.Kind.{Kind}
 use Rattle.gx_model.specs.Texts.{Bytes}
 use Rattle.gx_model.specs.Streams.Commands.{Command}
 use Rattle.gx_model.specs.Streams.Commands as command
-use Rattle.gx_model.specs.Histories.Values.{Commit, Value, blob_value, commit_value, files_of, is_content, is_proper_text, list_of, parents_of, text_of}
+use Rattle.gx_model.specs.Histories.Values.{Commit, Value, blob_value, files_of, is_content, is_proper_text, list_of, parents_of, text_of}
 use Rattle.gx_model.specs.Histories.{History, IsHistory, IsIn}
 use Rattle.gx_model.specs.Export.{all_written, blob_commands, command_items, commit_on, contents, reached_commits, ref_command, reset_before, with_blobs, with_commit}
 use Rattle.gx_model.specs.Changes.{changes_commands, changes_text, closed_by, commit_changes, commit_ref, commit_with_changes, commits_with_changes, named_in, own_files, sending_commands, with_changes}
 use Rattle.gx_model.specs.Laws.ExportLaws.{HasNoNullGitlink, HaveNoNullGitlink, HoldsWhat, IsReadable, IsReadableCommit, values_with_commit}
 use Rattle.gx_model.proofs.ChangeReplays.{all_by_mark, parents_written}
 use Rattle.gx_model.proofs.ChangeSteps.{HaveBlobs, have_blobs, same_written}
-use Rattle.gx_model.proofs.CommitSteps.{blobs_have, leaves_of}
+use Rattle.gx_model.proofs.CommitSteps.{leaves_of}
 use Rattle.gx_model.proofs.ExportSteps.{all_follow, none_held}
 use Rattle.gx_model.proofs.KeptCommits.{FollowsAll, commit_keeps}
 use Rattle.gx_model.proofs.PathTests.{first}

@@ -1,27 +1,24 @@
 -- Lengths and marks are below 2 ^ 64 where the length of the text of a range's export is.
-use Rattle.std.proofs.Common.{◌≡◌, ℕ, suc, ◌+◌, ◌<◌, ◌≤◌, ◌^◌, Bool, true, false, cond, not, List, [], ◌∷◌, ◌++◌, length, map, refl, sym, ap, subst, ◌∙◌, arith, inl, inr}
+use Rattle.std.proofs.Common.{◌+◌, ◌<◌, ◌≤◌, ◌^◌, Bool, List, [], ◌∷◌, ◌++◌, length, map, arith}
 use Rattle.std.specs.Bool.{passes}
-use Rattle.std.specs.List.{filter, flat_map, fold, AllByRecursion, cons_option}
+use Rattle.std.specs.List.{flat_map, fold, AllByRecursion}
 use Rattle.std.specs.Prelude.{reverse, T}
 use Rattle.gx_model.specs.declared.objects.Kind.{Kind}
-use Rattle.gx_model.specs.declared.objects.Mode.{Mode}
 use Rattle.gx_model.specs.Texts.{Bytes}
-use Rattle.gx_model.specs.Texts.Paths.{Path}
-use Rattle.gx_model.specs.Histories.Files.{FileMap, Leaf}
-use Rattle.gx_model.specs.Histories.Values.{Commit, Value, blob_value, commit_value, files_of, is_content, is_leaf, is_proper, is_proper_text, list_of, parents_of, text_of}
-use Rattle.gx_model.specs.Histories.{History, IsHistory, IsIn, Target, at_commit, at_tag}
+use Rattle.gx_model.specs.Histories.Values.{Commit, Value, commit_value, files_of, is_content, is_leaf, is_proper, is_proper_text, list_of, parents_of, text_of}
+use Rattle.gx_model.specs.Histories.{History, IsHistory}
 use Rattle.gx_model.specs.Revisions.Ranges.{Word, listing}
-use Rattle.gx_model.specs.Export.{blob_commands, carrier, command_items, commit_on, contents, ref_by, reset_before, with_blobs}
+use Rattle.gx_model.specs.Export.{blob_commands, command_items, commit_on, contents, ref_by, reset_before, with_blobs}
 use Rattle.gx_model.specs.Changes.{all_changes, carrier_reset, commit_changes, commit_ref, commit_with_changes, commits_with_changes, named_in, own_files, range_commands, range_text, sending_commands, set_refs, with_changes}
-use Rattle.gx_model.specs.Laws.ExportLaws.{HaveNoNullGitlink, IsNotNull, IsOne, IsReadableFile, IsReadableTarget}
+use Rattle.gx_model.specs.Laws.ExportLaws.{HaveNoNullGitlink, IsNotNull, IsReadableTarget}
 use Rattle.gx_model.specs.Laws.RangeLaws.{HasNoNullName, IsReadableChange, IsReadableRange}
 use Rattle.gx_model.proofs.ChangeSteps.{differs}
-use Rattle.gx_model.proofs.CommitSteps.{are_leaves, blobs_have, leaves_of}
+use Rattle.gx_model.proofs.CommitSteps.{leaves_of}
 use Rattle.gx_model.proofs.LinkedValues.{proper_in}
 use Rattle.gx_model.proofs.PathTests.{all_filter, first}
 use Rattle.gx_model.proofs.PublishedRefs.{Refs}
-use Rattle.gx_model.proofs.ReadableChanges.{all_in_fit, inner_count, inner_fits}
-use Rattle.gx_model.proofs.ReadableExports.{AllFit, BlobsFit, CommandsFit, all_fit, all_text, blobs_count, blobs_fit, commands_left, commands_right, count_append, files_fit, fit_left, later_commit, message_in_fits, targets_fit}
+use Rattle.gx_model.proofs.ReadableChanges.{inner_count, inner_fits}
+use Rattle.gx_model.proofs.ReadableExports.{BlobsFit, CommandsFit, all_fit, all_text, blobs_count, blobs_fit, commands_left, commands_right, count_append, files_fit, fit_left, later_commit, message_in_fits, targets_fit}
 use Rattle.gx_model.proofs.SpelledChanges.{all_left}
 use Rattle.gx_model.proofs.SpelledRanges.{each_one_of, sent_stands}
 

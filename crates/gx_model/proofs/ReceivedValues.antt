@@ -1,19 +1,19 @@
 -- What the commands of commits that are sent add to the values that were there.
-use Rattle.std.proofs.Common.{◌≡◌, Bool, true, false, cond, Option, Some, None, List, [], ◌∷◌, ◌++◌, map, refl, sym, ap, subst, ◌∙◌, append-nil, append_assoc, inl, inr}
+use Rattle.std.proofs.Common.{◌≡◌, Bool, true, false, cond, Option, Some, None, List, [], ◌∷◌, ◌++◌, map, refl, sym, ap, subst, ◌∙◌, append_assoc, inl, inr}
 use Rattle.std.specs.Bool.{passes}
-use Rattle.std.specs.List.{filter, fold, AllByRecursion, cons_option}
-use Rattle.std.specs.Prelude.{IsTrue, T, ◌⊎◌}
+use Rattle.std.specs.List.{filter, AllByRecursion, cons_option}
+use Rattle.std.specs.Prelude.{IsTrue, ◌⊎◌}
 use Rattle.gx_model.specs.Texts.{Bytes}
 use Rattle.gx_model.specs.Texts.Paths.{Path}
 use Rattle.gx_model.specs.Histories.Files.{FileMap, Leaf}
-use Rattle.gx_model.specs.Histories.Values.{Commit, Value, blob_value, blobs_of, commit_value, files_of, is_content, is_proper, is_proper_text, list_of, parents_of, parts, sub_maps, text_of, tree_value}
-use Rattle.gx_model.specs.Histories.{IsIn, IsWhole, Reaches, is_in, with_one, with_value}
+use Rattle.gx_model.specs.Histories.Values.{Commit, Value, blob_value, blobs_of, commit_value, files_of, is_content, is_proper, is_proper_text, list_of, parents_of, sub_maps, text_of, tree_value}
+use Rattle.gx_model.specs.Histories.{IsIn, IsWhole, is_in, with_one, with_value}
 use Rattle.gx_model.specs.Export.{content_in, contents, with_blobs}
 use Rattle.gx_model.specs.Changes.{base_files, own_files, with_changes}
 use Rattle.gx_model.specs.Laws.ExportLaws.{AnyReaches, IsOne, values_with_blobs}
 use Rattle.gx_model.specs.Laws.HistoryLaws.{IsAdded}
-use Rattle.gx_model.proofs.AddedValues.{all_join, all_keep, in_left, in_some, keeps, value_added}
-use Rattle.gx_model.proofs.ChangeSteps.{AreWritten, IsWritten, OthersWritten, differs, others_written}
+use Rattle.gx_model.proofs.AddedValues.{all_join, in_left, in_some, keeps, value_added}
+use Rattle.gx_model.proofs.ChangeSteps.{AreWritten, differs, others_written}
 use Rattle.gx_model.proofs.CommitSteps.{blobs_have, blobs_keep, map_of}
 use Rattle.gx_model.proofs.FileMapEdits.{Parts, parts_of}
 use Rattle.gx_model.proofs.KeptCommits.{all_map_blobs, all_map_commits, any_last, any_left, blob_reached, blobs_only, blobs_whole, contents_are, each_one, one_of_all, snoc_all}

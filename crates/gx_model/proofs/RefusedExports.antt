@@ -33,7 +33,8 @@ use Rattle.gx_model.proofs.KeptCommits.{FollowsAll, each_one, one_of_all, snoc_a
 use Rattle.gx_model.proofs.LineTexts.{line_append, line_by, printed_is_line}
 use Rattle.gx_model.proofs.ItemTexts.{items_read}
 use Rattle.gx_model.proofs.CommandFields.{all_hex, hex_no_colon, link_no_space, mark_read, not_inline, path_read}
-use Rattle.gx_model.proofs.CommandItems.{Starts, all_items, asks_first, clear_line, commit_first, commit_regroup, encoding_read, from_read, ident_read, merge_item, merges_read, mode_words, modify_line, modify_read, next_is, no_block, read_first, remove_line, starts_command, stream, words_at}
+use Rattle.gx_model.proofs.ChangeItems.{clear_line, mode_words, modify_line, modify_read, no_block, remove_line, stream, words_at}
+use Rattle.gx_model.proofs.CommandItems.{Starts, all_items, asks_first, commit_first, commit_regroup, encoding_read, from_read, ident_read, merge_item, merges_read, next_is, read_first, starts_command}
 use Rattle.gx_model.proofs.CommandItems as items
 use Rattle.gx_model.proofs.SpelledItems.{AreItems, all_spelled, author_spelled, change_spelled, encoding_spelled, from_spelled, items_append, mark_spelled, merges_spelled, plain_line}
 use Rattle.gx_model.proofs.LineTexts.{ident_is_line, ref_is_line}

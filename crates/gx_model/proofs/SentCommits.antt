@@ -1,16 +1,14 @@
 -- Which commits and refs a range sends.
-use Rattle.std.proofs.Common.{◌≡◌, Bool, true, false, cond, not, ◌&&◌, ◌||◌, Option, None, Some, List, [], ◌∷◌, ◌++◌, map, refl, sym, ap, subst, ◌∙◌, append-nil, append_assoc, inl, inr}
+use Rattle.std.proofs.Common.{◌≡◌, Bool, true, false, cond, not, ◌&&◌, ◌||◌, List, [], ◌∷◌, ◌++◌, refl, sym, ap, subst, ◌∙◌, append-nil, append_assoc, inl, inr}
 use Rattle.std.proofs.lemmas.List.{reverse-append, reverse-reverse}
 use Rattle.std.proofs.lemmas.List.Elements.{filter-append}
-use Rattle.std.specs.Bool.{passes}
 use Rattle.std.specs.List.{filter, filter_map, list_all, list_any, AllByRecursion}
 use Rattle.std.specs.Prelude.{reverse, T, ◌⊎◌}
 use Rattle.gx_model.specs.Texts.{Bytes}
-use Rattle.gx_model.specs.Histories.Values.{Commit, Commits, Value, blob_value, commit_value, is_proper, list_of, parents_of, parts, tag_value, tree_value}
-use Rattle.gx_model.specs.Histories.{History, IsClosedAfter, IsHistory, IsIn, IsWhole, Target, value_at}
-use Rattle.gx_model.specs.Revisions.Ranges.{Word, all_parents, alone, apart, between, commit_of, listing, reaches, some_reaches, span, with_ancestors, without_ancestors, without_one}
-use Rattle.gx_model.specs.Replay.{peeled_at}
-use Rattle.gx_model.specs.Changes.{is_in_range, set_refs}
+use Rattle.gx_model.specs.Histories.Values.{Commit, Value, blob_value, commit_value, is_proper, parents_of, tag_value, tree_value}
+use Rattle.gx_model.specs.Histories.{History, IsClosedAfter, IsIn, Target}
+use Rattle.gx_model.specs.Revisions.Ranges.{Word, all_parents, alone, apart, between, commit_of, listing, reaches, span, with_ancestors, without_ancestors, without_one}
+use Rattle.gx_model.specs.Changes.{is_in_range}
 use Rattle.gx_model.specs.Laws.ExportLaws.{IsOne}
 use Rattle.gx_model.specs.Laws.HistoryLaws.{IsParent}
 use Rattle.gx_model.specs.Laws.RangeLaws.{is_excluded}
@@ -19,7 +17,7 @@ use Rattle.gx_model.proofs.KeptCommits.{among}
 use Rattle.gx_model.proofs.PathTests.{both, first, is_true, left_or, not_both, one_of, right_or, second}
 use Rattle.gx_model.proofs.PublishedRefs.{Refs}
 use Rattle.gx_model.proofs.ReachedCommits as reached
-use Rattle.gx_model.proofs.ReachedValues.{a_commit, not_a_commit, one_filter, parents_all, parents_of_commit, passing, target_held}
+use Rattle.gx_model.proofs.ReachedValues.{a_commit, not_a_commit, one_filter, parents_all, parents_of_commit, passing}
 use Rattle.gx_model.proofs.ReceivedValues.{FollowsSent, IsKnown}
 
 -- ---- words

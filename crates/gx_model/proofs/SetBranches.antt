@@ -1,5 +1,5 @@
 -- The branches and the refs after the commits and the refs that are sent.
-use Rattle.std.proofs.Common.{◌≡◌, Bool, true, false, cond, ◌||◌, Option, Some, None, List, [], ◌∷◌, ◌++◌, length, map, refl, sym, ap, subst, ◌∙◌, append_assoc, inl, inr}
+use Rattle.std.proofs.Common.{◌≡◌, Bool, true, false, cond, ◌||◌, Option, Some, None, List, [], ◌∷◌, ◌++◌, map, refl, sym, ap, subst, ◌∙◌, append_assoc, inl, inr}
 use Rattle.std.specs.Bool.{passes}
 use Rattle.std.specs.FinMap.Entries.{below_all, find, find-put, find_tied, is_sorted, is_sorted-put, put, same_entries}
 use Rattle.std.specs.List.{filter, fold, list_all, AllByRecursion}
@@ -16,7 +16,6 @@ use Rattle.gx_model.specs.Changes.{commit_ref, first_or_carrier, is_branch, reac
 use Rattle.gx_model.specs.Laws.ExportLaws.{IsOne}
 use Rattle.gx_model.proofs.ChangeReplays.{IsFound, branches_after, first_holds, goes_on_ref}
 use Rattle.gx_model.proofs.CommitSteps.{Branches, begun_on, committed_on}
-use Rattle.gx_model.proofs.KeptCommits.{each_one}
 use Rattle.gx_model.proofs.PathTests.{both, first, is_true, second}
 use Rattle.gx_model.proofs.PublishedRefs.{HasNoOther, Refs, at_branch, at_either, branch_set, branches_found, branches_sorted, only_once, or_before, ref_branches, ref_branches_sorted, ref_tags, ref_tags_sorted, set_branch, set_tag, tag_set, tags_found, tags_sorted}
 use Rattle.gx_model.proofs.TextMaps.{none_below, order, same_text, tied, tied_with_itself}

@@ -1,5 +1,5 @@
 -- The commands of an export of changes can be spelled, and its text is imported.
-use Rattle.std.proofs.Common.{◌≡◌, suc, ◌<◌, ◌≤◌, ◌^◌, Bool, true, false, cond, not, Some, None, List, [], ◌∷◌, ◌++◌, length, map, refl, sym, ap, subst, ◌∙◌, arith}
+use Rattle.std.proofs.Common.{◌≡◌, suc, ◌<◌, ◌^◌, Bool, true, false, cond, not, Some, List, [], ◌∷◌, ◌++◌, length, map, refl, sym, ap, subst, ◌∙◌, arith}
 use Rattle.std.specs.Bool.{passes}
 use Rattle.std.specs.FinMap.Entries.{find}
 use Rattle.std.specs.List.{filter, flat_map, filter_map, fold, list_all, AllByRecursion}
@@ -17,14 +17,14 @@ use Rattle.gx_model.specs.Histories.{History, IsHistory, IsIn}
 use Rattle.gx_model.specs.Revisions.Ranges.{commit_of}
 use Rattle.gx_model.specs.Replay.{byte_cmp, finished, replayed, replayed_text, start}
 use Rattle.gx_model.specs.Export.{all_written, blob_commands, command_items, contents, file_change, is_reached, marked_in, reached_commits, ref_command, reset_before, with_blobs, with_commit}
-use Rattle.gx_model.specs.Changes.{base_files, changed_files, changes_commands, changes_text, commit_changes, commit_ref, commit_with_changes, commits_with_changes, gone_paths, is_this_leaf, named_in, own_files, sending_commands, with_changes}
+use Rattle.gx_model.specs.Changes.{base_files, changes_commands, changes_text, commit_changes, commit_ref, commit_with_changes, commits_with_changes, gone_paths, named_in, own_files, sending_commands, with_changes}
 use Rattle.gx_model.specs.Laws.ExportLaws.{HoldsWhat, IsAgain, IsNamedCommit, IsReadable, IsReadableCommit, IsReadableFile, IsSpelledChange, nothing, values_with_commit}
 use Rattle.gx_model.specs.Laws.ChangesLaws.{changes_report}
 use Rattle.gx_model.proofs.AddedValues.{paths_of}
 use Rattle.gx_model.proofs.ChangeReplays.{all_by_mark, all_changes_replayed, base_parts, goes_on_ref, IsFound, parents_written}
 use Rattle.gx_model.proofs.ChangeSteps.{HaveBlobs, differs, have_blobs, named_by_mark, same_written}
 use Rattle.gx_model.proofs.CommandEnds.{closed_read, closed_spelled}
-use Rattle.gx_model.proofs.CommitSteps.{all_still, are_leaves, blobs_have, leaves_of}
+use Rattle.gx_model.proofs.CommitSteps.{all_still, blobs_have, leaves_of}
 use Rattle.gx_model.proofs.ExportSteps.{all_follow, none_held, peeled_ones, proper_refs}
 use Rattle.gx_model.proofs.FileMapEdits.{Parts}
 use Rattle.gx_model.proofs.ItemTexts.{items_read}

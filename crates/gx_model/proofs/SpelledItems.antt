@@ -20,7 +20,8 @@ use Rattle.gx_model.specs.Laws.ExportLaws.{IsItemLine, IsItem, IsMark, IsLink, I
 use Rattle.gx_model.proofs.Idents.{and_two}
 use Rattle.gx_model.proofs.Decimals.{decimal_digits}
 use Rattle.gx_model.proofs.LineTexts.{line_by, line_append, digits_are_line, ref_is_line, tag_is_line, ident_is_line, printed_is_line}
-use Rattle.gx_model.proofs.CommandItems.{no_block, merge_item}
+use Rattle.gx_model.proofs.ChangeItems.{no_block}
+use Rattle.gx_model.proofs.CommandItems.{merge_item}
 
 -- ---- no LF stands in the parts of a line
 

@@ -1,26 +1,24 @@
 -- The commands of a range's export can be spelled, and its text is imported where it can be received.
-use Rattle.std.proofs.Common.{◌≡◌, ℕ, suc, ◌+◌, ◌<◌, ◌≤◌, ◌^◌, Bool, true, false, cond, List, [], ◌∷◌, ◌++◌, length, map, refl, sym, ap, subst, ◌∙◌, arith, inl, inr}
+use Rattle.std.proofs.Common.{◌≡◌, suc, ◌<◌, ◌≤◌, ◌^◌, Bool, true, false, cond, List, [], ◌∷◌, length, map, refl, ap, subst, ◌∙◌, arith, inl, inr}
 use Rattle.std.specs.Bool.{passes}
-use Rattle.std.specs.List.{filter, filter_map, flat_map, fold, list_all, AllByRecursion}
-use Rattle.std.specs.Prelude.{reverse, T, ◌⊎◌}
+use Rattle.std.specs.List.{filter_map, flat_map, fold, list_all, AllByRecursion}
+use Rattle.std.specs.Prelude.{reverse, T}
 use Rattle.gx_model.specs.declared.objects.Kind.{Kind}
 use Rattle.gx_model.specs.Texts.{Bytes}
 use Rattle.gx_model.specs.Texts.RefNames.{is_ref_name, is_tag_name}
-use Rattle.gx_model.specs.Streams.Commands.{Command, Named}
-use Rattle.gx_model.specs.Streams.Commands as command
+use Rattle.gx_model.specs.Streams.Commands.{Named}
 use Rattle.gx_model.specs.Streams.Grammar.{commands_of, is_null}
-use Rattle.gx_model.specs.Histories.Values.{Commit, Value, blob_value, commit_value, files_of, is_content, is_proper, is_proper_text, list_of, parents_of, text_of}
+use Rattle.gx_model.specs.Histories.Values.{Commit, Value, commit_value, files_of, is_content, is_proper, is_proper_text, list_of, parents_of, text_of}
 use Rattle.gx_model.specs.Histories.{History, IsHistory, IsIn, IsWhole, Target, at_commit, at_tag, is_in, value_at}
 use Rattle.gx_model.specs.Objects.{IsNamer, hex}
 use Rattle.gx_model.specs.Records.{name_of}
 use Rattle.gx_model.specs.Revisions.Ranges.{Word, commit_of, listing}
 use Rattle.gx_model.specs.Replay.{finished, peeled_at, replayed, replayed_text, start}
-use Rattle.gx_model.specs.Export.{blob_commands, carrier, command_items, commit_on, contents, is_reached, marked_in, ref_by, reset_before, to_nothing, with_blobs}
-use Rattle.gx_model.specs.Changes.{all_changes, base_files, carrier_reset, closed_by, commit_changes, commit_ref, commit_with_changes, commits_with_changes, is_in_range, named_in, own_files, range_commands, range_text, sending_commands, set_refs, with_changes}
-use Rattle.gx_model.specs.Laws.ExportLaws.{HaveNoNullGitlink, IsNamedCommit, IsOne, IsReadableTarget, IsSpelled}
+use Rattle.gx_model.specs.Export.{blob_commands, carrier, command_items, contents, is_reached, marked_in, ref_by, reset_before, to_nothing, with_blobs}
+use Rattle.gx_model.specs.Changes.{all_changes, base_files, carrier_reset, commit_changes, commit_ref, commit_with_changes, commits_with_changes, is_in_range, named_in, own_files, range_commands, range_text, sending_commands, set_refs, with_changes}
+use Rattle.gx_model.specs.Laws.ExportLaws.{IsNamedCommit, IsOne, IsReadableTarget}
 use Rattle.gx_model.specs.Laws.RangeLaws.{CanReceive, HasNoNullName, IsReadableChange, IsReadableRange, IsReceived, range_report}
 use Rattle.gx_model.proofs.AddedValues.{is_in_is}
-use Rattle.gx_model.proofs.ChangeSteps.{differs}
 use Rattle.gx_model.proofs.CommandEnds.{closed_read, closed_spelled}
 use Rattle.gx_model.proofs.CommitSteps.{blobs_have}
 use Rattle.gx_model.proofs.ExportSteps.{proper_refs}
@@ -32,7 +30,7 @@ use Rattle.gx_model.proofs.PathTests.{first, is_true, second}
 use Rattle.gx_model.proofs.PublishedRefs.{Refs}
 use Rattle.gx_model.proofs.RangeReplays.{range_replayed}
 use Rattle.gx_model.proofs.RangeSteps.{ref_passes}
-use Rattle.gx_model.proofs.ReachedValues.{filter_one, one_in, passing, target_held}
+use Rattle.gx_model.proofs.ReachedValues.{filter_one, one_in, target_held}
 use Rattle.gx_model.proofs.ReceivedValues.{held_parts}
 use Rattle.gx_model.proofs.SentCommits.{is_sent, refs_left, sent_are}
 use Rattle.gx_model.proofs.SpelledChanges.{own_spelled}

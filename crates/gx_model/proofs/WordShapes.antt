@@ -10,7 +10,7 @@ use Rattle.gx_model.specs.Streams.Grammar.{words_of, words_by, is_word}
 use Rattle.gx_model.specs.Streams.LineShapes.{line_of, IsOf, IsOfNone, IsOfOne, IsOneOf, BeginsPart}
 use Rattle.gx_model.proofs.Idents.{and_one, and_two}
 use Rattle.gx_model.proofs.Cuts.{lacks-cons}
-use Rattle.gx_model.proofs.CommandItems.{words_at}
+use Rattle.gx_model.proofs.ChangeItems.{words_at}
 use Rattle.gx_model.proofs.Readings.{refuted}
 
 -- two texts are equal or differ

@@ -6,7 +6,6 @@ use Rattle.gx_model.specs.declared.objects.Kind.{Kind}
 use Rattle.gx_model.specs.declared.features.Feature.TheVariants as features
 use Rattle.gx_model.specs.Texts.{Bytes, same_bytes}
 use Rattle.gx_model.specs.Texts.Paths.{Path}
-use Rattle.gx_model.specs.Streams.Items.{Item}
 use Rattle.gx_model.specs.Streams.Commands.{Asks, Change, Command, CommitIsh, Done, Named, Remove}
 use Rattle.gx_model.specs.Histories.Files.{FileMap, Leaf, file_at}
 use Rattle.gx_model.specs.Histories.Values.{Commit, Value, commit_value, files_of, list_of, parents_of, same_mode}

@@ -1,6 +1,6 @@
 -- What the law of exports of ranges supposes and says: a repository that holds what a range excludes receives the rest.
 -- Source: git-fast-export(1) and git-fast-import(1).
-use Rattle.std.specs.Prelude.{◌≡◌, ◌≢◌, ◌⊎◌, ◌-◌, ◌<◌, ◌^◌, Bool, true, false, List, [], ◌∷◌, ◌++◌, length, map, reverse, None, Some}
+use Rattle.std.specs.Prelude.{◌≡◌, ◌≢◌, ◌⊎◌, ◌-◌, ◌<◌, ◌^◌, Bool, true, false, List, [], ◌++◌, length, map, reverse, None, Some}
 use Rattle.std.specs.FinMap.Entries.{put}
 use Rattle.std.specs.List.{AllByRecursion, fold, list_any}
 use Rattle.gx_model.specs.declared.objects.Kind.{Kind}

@@ -14,7 +14,6 @@ use Rattle.gx_model.specs.Streams.Spelling.{text_of_lines}
 use Rattle.gx_model.specs.Histories.{History}
 use Rattle.gx_model.specs.Objects.Naming.{lower_name_in, name_in, short_name}
 use Rattle.gx_model.specs.Replay.{imported_asked}
-use Rattle.gx_model.specs.Export.{export_text}
 use Rattle.gx_model.specs.Changes.{changes_text, range_text}
 use Rattle.gx_model.specs.Rows.RowTexts.{history_after, history_of_lines, imported_to, nothing}
 

@@ -116,7 +116,7 @@ module _ (name : Kind → Bytes → Bytes) (namer : IsNamer name) (closed : Bool
   whole_target = record { closed = receive.history.closed; proper = receive.history.proper }
 
   follows : FollowsSent target.values [] sent
-  follows = subst (FollowsSent target.values []) (sym (sent_are h words)) (follows_sent words target.values [] h.values x.closed (passes _ x.proper) receive.holds)
+  follows = subst (FollowsSent target.values []) (sym (sent_are h words)) (follows_sent words target.values [] h.values x.closed (passes _ x.proper) receive.rest.holds)
 
   -- the commit of each ref that is set is sent, or is held
   known_refs : AllByRecursion (λ r. IsOne sent (peeled_at r.1) ⊎ IsIn target.values (commit_value (peeled_at r.1))) set
@@ -126,7 +126,7 @@ module _ (name : Kind → Bytes → Bytes) (namer : IsNamer name) (closed : Bool
       let there = target_held h.values whole r.1 i in
       elim (sent_or_excluded h.values words (peeled_at r.1) there t) [
         | inl one ↦ inl (subst (λ cs. IsOne cs (peeled_at r.1)) (sym (sent_are h words)) one)
-        | inr gone ↦ inr (receive.holds (peeled_at r.1) there gone)
+        | inr gone ↦ inr (receive.rest.holds (peeled_at r.1) there gone)
       ]) h.refs x.held
 
   sorted_set : T (is_sorted byte_cmp set)
@@ -166,7 +166,7 @@ module _ (name : Kind → Bytes → Bytes) (namer : IsNamer name) (closed : Bool
       let commands = range_commands name closed h words in
       let ws = all_changes sent in
       let vs = values_sent [] target.values sent in
-      let done = commits_replayed name namer target receive.told set receive.named [] target.values [] [] sent begun_held follows (λ t e. refl) in
+      let done = commits_replayed name namer target receive.told set receive.rest.named [] target.values [] [] sent begun_held follows (λ t e. refl) in
       let held = done.held in
       let bs = without_carrier set sent (branches_after set [] sent) in
       let g = go_on_refs set (branches_after set [] sent) sent (all_go set [] [] sent (record { sorted = tt; on = λ q d e. absurd cc })) in
@@ -188,9 +188,9 @@ module _ (name : Kind → Bytes → Bytes) (namer : IsNamer name) (closed : Bool
       let inner : steps name (start target) (sending_commands name sent set) ≡ Ok t =
       steps_after name (start target) (state_with target ws vs (branches_after set [] sent) []) (commits_with_changes name set [] sent) (carrier_reset set sent ++ ref_part) done.steps
       ∙ carrier_replayed ws vs (branches_after set [] sent) ref_part
-      ∙ refs_replayed name namer target receive.told ws vs bs [] set own known receive.named held.front (carrier_plain (branches_after set [] sent) done.plain) in
+      ∙ refs_replayed name namer target receive.told ws vs bs [] set own known receive.rest.named held.front (carrier_plain (branches_after set [] sent) done.plain) in
       let all = closed_steps name closed (sending_commands name sent set) (start target) t inner in
-      let forward : is_fast_forward t ≡ true = is_true _ (all_forward h target words sorted_set sent apart_sent receive.forward bs g) in
+      let forward : is_fast_forward t ≡ true = is_true _ (all_forward h target words sorted_set sent apart_sent receive.rest.forward bs g) in
       let same : final_refs t ≡ fold (λ rs r. put byte_cmp r.0 r.1 rs) target.refs set = refs_after target.refs set bs (passes _ receive.history.sorted) sorted_set g.sorted others in
       let published : overwritten t [] ≡ set = same_refs set bs sorted_set g.sorted others in
       let n : 0 + length commands ≡ length commands = omega arith in

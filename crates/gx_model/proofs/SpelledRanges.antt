@@ -9,23 +9,28 @@ use Rattle.gx_model.specs.Texts.RefNames.{is_ref_name, is_tag_name}
 use Rattle.gx_model.specs.Streams.Commands.{Named}
 use Rattle.gx_model.specs.Streams.Grammar.{commands_of, is_null}
 use Rattle.gx_model.specs.Histories.Values.{Commit, Value, commit_value, files_of, is_content, is_proper, is_proper_text, list_of, parents_of, text_of}
-use Rattle.gx_model.specs.Histories.{History, IsHistory, IsIn, IsWhole, Target, at_commit, at_tag, is_in, value_at}
+use Rattle.gx_model.specs.Histories.{History, IsHistory, IsIn, IsWhole, Records, Target, at_commit, at_tag, is_in, value_at}
 use Rattle.gx_model.specs.Objects.{IsNamer, hex}
 use Rattle.gx_model.specs.Records.{name_of}
+use Rattle.gx_model.specs.Records.HistoryOf.{history_of}
+use Rattle.gx_model.specs.Records.Sound.{IsSound}
 use Rattle.gx_model.specs.Revisions.Ranges.{Word, commit_of, listing}
 use Rattle.gx_model.specs.Replay.{finished, peeled_at, replayed, replayed_text, start}
 use Rattle.gx_model.specs.Export.{blob_commands, carrier, command_items, contents, is_reached, marked_in, ref_by, reset_before, to_nothing, with_blobs}
 use Rattle.gx_model.specs.Changes.{all_changes, base_files, carrier_reset, commit_changes, commit_ref, commit_with_changes, commits_with_changes, is_in_range, named_in, own_files, range_commands, range_text, sending_commands, set_refs, with_changes}
 use Rattle.gx_model.specs.Laws.ExportLaws.{IsNamedCommit, IsOne, IsReadableTarget}
-use Rattle.gx_model.specs.Laws.RangeLaws.{CanReceive, HasNoNullName, IsReadableChange, IsReadableRange, IsReceived, range_report}
+use Rattle.gx_model.specs.Laws.RangeLaws.{CanReceive, HasNoNullName, HoldsRest, IsReadableChange, IsReadableRange, IsReceived, SoundRepositoriesReceive, range_report}
 use Rattle.gx_model.proofs.AddedValues.{is_in_is}
 use Rattle.gx_model.proofs.CommandEnds.{closed_read, closed_spelled}
 use Rattle.gx_model.proofs.CommitSteps.{blobs_have}
 use Rattle.gx_model.proofs.ExportSteps.{proper_refs}
 use Rattle.gx_model.proofs.FileMapEdits.{Parts}
+use Rattle.gx_model.proofs.GrownRecords.{distinct_of}
+use Rattle.gx_model.proofs.HistoriesExist.{stands}
 use Rattle.gx_model.proofs.ItemTexts.{items_read}
 use Rattle.gx_model.proofs.LinkedValues.{parts_in, proper_in}
 use Rattle.gx_model.proofs.NamedByDigits.{name_is_text}
+use Rattle.gx_model.proofs.OneHistory.{told_by_name}
 use Rattle.gx_model.proofs.PathTests.{first, is_true, second}
 use Rattle.gx_model.proofs.PublishedRefs.{Refs}
 use Rattle.gx_model.proofs.RangeReplays.{range_replayed}
@@ -162,3 +167,16 @@ module _ (h : History) (x : IsHistory h) (words : List Word) where
         let commands = ap commands_of items ∙ closed_read closed inner s in
         let brought = range_replayed name namer closed h x words target receive in
         (brought.0, brought.1, ap (λ cs. replayed name 0 (start target) cs.list cs.fault) commands ∙ brought.2)
+
+-- a sound repository's history can receive what it holds the rest of
+sound_receives : (name : Kind → Bytes → Bytes) → IsNamer name → (h : History) (words : List Word) (target : Records) → IsSound name target → HoldsRest h words (history_of target) → CanReceive name h words (history_of target)
+sound_receives name namer h words target sound rest =
+    let s = stands name namer target sound in
+    record {
+      history = s.history;
+      told = told_by_name name namer (history_of target).values (distinct_of name namer target (history_of target) s);
+      rest = rest;
+    }
+
+pub sound_imported : SoundRepositoriesReceive
+sound_imported name namer closed h x words target sound rest r = range_imported h x words name namer closed (history_of target) (sound_receives name namer h words target sound rest) r

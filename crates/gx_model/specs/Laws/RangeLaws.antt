@@ -6,10 +6,12 @@ use Rattle.std.specs.List.{AllByRecursion, fold, list_any}
 use Rattle.gx_model.specs.declared.objects.Kind.{Kind}
 use Rattle.gx_model.specs.Texts.{Bytes}
 use Rattle.gx_model.specs.Histories.Values.{Commit, Value, commit_value, is_name_text, text_of}
-use Rattle.gx_model.specs.Histories.{History, IsHistory, IsIn, IsWhole, Target, at_commit, at_tag, value_at}
+use Rattle.gx_model.specs.Histories.{History, IsHistory, IsIn, IsWhole, Records, Target, at_commit, at_tag, value_at}
 use Rattle.gx_model.specs.Streams.Grammar.{is_null}
 use Rattle.gx_model.specs.Objects.{IsNamer, hex}
 use Rattle.gx_model.specs.Records.{name_of}
+use Rattle.gx_model.specs.Records.HistoryOf.{history_of}
+use Rattle.gx_model.specs.Records.Sound.{IsSound}
 use Rattle.gx_model.specs.Revisions.Denotation.{ref_at}
 use Rattle.gx_model.specs.Revisions.Ranges.{Word, listing, span}
 use Rattle.gx_model.specs.Replay.{Report, byte_cmp, finished, is_forward, replayed, replayed_text, start}
@@ -31,14 +33,18 @@ IsForwardRef h target words ref (at_commit c) = is_forward (ref_at target ref) (
 IsForwardRef h target words ref (at_tag t) =
     (ref_at target ref ≡ None) ⊎ (is_excluded words t.target ≡ true) ⊎ (commit_ref (set_refs h words) t.target ≢ ref)
 
--- What a history has that receives what range words list of another: it holds each commit that they exclude, under its name, and the
--- refs that are set are forward. No ref is named by forty digits, which would be read as an object's name.
-pub record CanReceive (name : Kind → Bytes → Bytes) (h : History) (words : List Word) (target : History) : Type 0 where
-  pub history : IsHistory target
-  pub told : AreToldByName name target.values
+-- What a history holds that receives what range words list of another: each commit that they exclude; and the refs that are set are
+-- forward. No ref is named by forty digits, which would be read as an object's name.
+pub record HoldsRest (h : History) (words : List Word) (target : History) : Type 0 where
   pub holds : (c : Commit) → IsIn h.values (commit_value c) → is_excluded words c ≡ true → IsIn target.values (commit_value c)
   pub forward : AllByRecursion (λ r. IsForwardRef h target words r.0 r.1) (set_refs h words)
   pub named : AllByRecursion (λ r. is_name_text r.0 ≡ false) (set_refs h words)
+
+-- the same of a history whose values are told by their names
+pub record CanReceive (name : Kind → Bytes → Bytes) (h : History) (words : List Word) (target : History) : Type 0 where
+  pub history : IsHistory target
+  pub told : AreToldByName name target.values
+  pub rest : HoldsRest h words target
 
 -- what the commits that are sent and the refs that are set reach
 abbrev pub IsSent : History → List Word → Value → Type 0
@@ -97,3 +103,11 @@ abbrev pub RangesAreImported : Type 0
 RangesAreImported =
     (name : Kind → Bytes → Bytes) → IsNamer name → (closed : Bool) (h : History) → IsHistory h → (words : List Word) (target : History) → CanReceive name h words target → IsReadableRange name h words
     → (k : History) × IsReceived h words target k × (replayed_text name target (range_text name closed h words) false ≡ finished k [] (range_report name closed h words target k))
+
+-- so does a sound repository that holds what the range excludes
+abbrev pub SoundRepositoriesReceive : Type 0
+SoundRepositoriesReceive =
+    (name : Kind → Bytes → Bytes) → IsNamer name → (closed : Bool) (h : History) → IsHistory h → (words : List Word) (target : Records) → IsSound name target
+    → HoldsRest h words (history_of target) → IsReadableRange name h words
+    → (k : History) × IsReceived h words (history_of target) k
+    × (replayed_text name (history_of target) (range_text name closed h words) false ≡ finished k [] (range_report name closed h words (history_of target) k))

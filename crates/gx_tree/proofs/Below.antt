@@ -1,15 +1,17 @@
 -- What stands at and below a path, by one directory's entries.
 use Rattle.std.proofs.Common.{◌≡◌, ◌≢◌, ℕ, ◌+◌, ◌<◌, zero, suc, true, false, cond, [], ◌∷◌, ◌++◌, map, length, get_or, drop, Option, Some, None, inl, inr, refl, sym, ap, ◌∙◌, arith, add-one}
 use Rattle.std.proofs.Math.Seq.{drop-cons}
+use Rattle.std.specs.Prelude.{IsNone}
+use Rattle.std.specs.Option.{option_map}
 use Rattle.std.specs.List.{AllByRecursion}
-use Rattle.std.proofs.lemmas.Bool.{false≢true, true≢false}
+use Rattle.std.proofs.lemmas.Bool.{cases_Bool, false≢true, true≢false}
 use Rattle.std.proofs.lemmas.List.{append-nil, map-append}
 use Rattle.std.proofs.lemmas.List.Elements.{filter-append}
 use Rattle.gx_model.specs.Texts.{Bytes, same_bytes}
 use Rattle.gx_model.specs.Texts.Paths.{Path, begins, same_path}
-use Rattle.gx_model.specs.Histories.Files.{FileMap, file_at, sub_map, under}
+use Rattle.gx_model.specs.Histories.Files.{FileMap, Leaf, file_at, sub_map, under}
 use Rattle.gx_model.specs.Records.HistoryOf.{placed}
-use Rattle.gx_model.specs.Histories.Edits.{is_root}
+use Rattle.gx_model.specs.Histories.Edits.{is_root, removed}
 use Rattle.gx_tree.specs.Nodes.{Kept, Level, IsAfter, IsKeptAt, IsLevel, file, files, folder, kept_at, kept_map, map_if}
 use Rattle.gx_tree.specs.Steps.{files_of}
 use Rattle.gx_tree.specs.Standings.{Standing, a_directory, a_file, standing_at, standing_by}
@@ -169,3 +171,27 @@ kept_step c es o level ex eo = rw (← eo, ex) (IsKeptAt-kept_at c es level)
 pub sub_map-none : (p : Path) (f : FileMap Bytes) → length p ≡ 0 → sub_map f p ≡ f
 sub_map-none [] f l = sub_map-whole f
 sub_map-none (c ∷ p) f l = absurd (omega arith)
+
+-- ---- where nothing stands
+
+nothing_below : (o : Option (Leaf Bytes)) (g : FileMap Bytes) → standing_by o g ≡ None → g ≡ []
+nothing_below (Some x) g h = cc
+nothing_below None [] h = refl
+nothing_below None (e ∷ g) h = cc
+
+nothing_gone : (p : Path) (f : FileMap Bytes) → sub_map f p ≡ [] → removed f p ≡ f
+nothing_gone p [] h = refl
+nothing_gone p (e ∷ f) h = elim (cases_Bool (begins p e.0)) [
+  | inl b ↦ let clash : (drop (length p) e.0, e.1) ∷ sub_map f p ≡ [] = rw b at h in cc
+  | inr b ↦ rw b (ap (λ r. e ∷ r) (nothing_gone p f (rw b at h)))
+]
+
+-- a removal changes nothing
+pub removed_missing : (p : Path) (f : FileMap Bytes) → standing_at f p ≡ None → removed f p ≡ f
+removed_missing [] f h = cc
+removed_missing (c ∷ p) f h = nothing_gone (c ∷ p) f (nothing_below (file_at f (c ∷ p)) (sub_map f (c ∷ p)) h)
+
+-- a look-up finds nothing
+pub nothing_found : {X Y : Type 0} (f : X → Y) (o : Option X) (s : Option Y) → IsNone o → option_map f o ≡ s → s ≡ None
+nothing_found f None s h e = sym e
+nothing_found f (Some x) s h e = absurd (true≢false h)

@@ -10,7 +10,7 @@ use Rattle.gx_model.specs.Texts.Paths.{Path, begins, is_short, path_cmp}
 use Rattle.gx_model.specs.Histories.Files.{FileMap, Leaf, file_at, sub_map, under}
 use Rattle.gx_model.specs.Histories.Edits.{copied, copy_fault, moved, removed, renamed, with_all, without, without_line, unless}
 use Rattle.gx_model.proofs.FoundFiles.{at_moved}
-use Rattle.gx_tree.specs.Calls.{GivesFiles}
+use Rattle.gx_tree.specs.Calls.{Becomes}
 use Rattle.gx_tree.specs.Copies.{graft_fault, is_file}
 use Rattle.gx_tree.specs.Lists.{below}
 use Rattle.gx_tree.specs.Named.{NamedTree}
@@ -111,11 +111,11 @@ module _ (o : Option Fault) (g : FileMap Bytes) where
       itself model.PathTooLong = refl
       itself _ = refl
 
-  pub fault_passed : (r : Result NamedTree TreeFault) (x : TreeFault) → IsErr r → IsErrAnd r (λ e. e ≡ x) → o ≡ Some (fault_of x) → GivesFiles r (unless o g)
-  fault_passed (Ok t) x e i h = absurd (false≢true e)
-  fault_passed (Err y) x e i h = subst (λ z. IsFaultOf (fault_of z) (unless o g)) (sym i) (fault_told x h)
+  pub fault_passed : {X : Type 0} (t : NamedTree) (r : Result X TreeFault) (x : TreeFault) → IsErr r → IsErrAnd r (λ e. e ≡ x) → o ≡ Some (fault_of x) → Becomes t r (unless o g)
+  fault_passed t (Ok y) x e i h = absurd (false≢true e)
+  fault_passed t (Err y) x e i h = subst (λ z. IsFaultOf (fault_of z) (unless o g)) (sym i) (fault_told x h)
 
-  pub refusal_passed : (r : Result NamedTree TreeFault) (x : TreeFault) → IsErr r → IsErrAnd r (λ e. e ≡ x) → o ≡ Some (fault_of x) → Refuses (unless o g) r
+  pub refusal_passed : {X : Type 0} (r : Result X TreeFault) (x : TreeFault) → IsErr r → IsErrAnd r (λ e. e ≡ x) → o ≡ Some (fault_of x) → Refuses (unless o g) r
   refusal_passed (Ok t) x e i h = absurd (false≢true e)
   refusal_passed (Err y) x e i h = rw h (ap fault_of i)
 

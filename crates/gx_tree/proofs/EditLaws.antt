@@ -62,7 +62,7 @@ pub IsLevel-replaced : (c : Bytes) (o : Option Kept) (es : Level) → is_compone
 IsLevel-replaced c None es hc hk h = IsLevel-others c es h
 IsLevel-replaced c (Some k) es hc hk h = IsLevel-with_kept c k es hc hk h
 
-kept_at-replaced : (c d : Bytes) (o : Option Kept) (es : Level) → kept_at d (replaced c o es) ≡ cond (same_bytes d c) o (kept_at d es)
+pub kept_at-replaced : (c d : Bytes) (o : Option Kept) (es : Level) → kept_at d (replaced c o es) ≡ cond (same_bytes d c) o (kept_at d es)
 kept_at-replaced c d None es = kept_at-others c d es
 kept_at-replaced c d (Some k) es = kept_at-with_kept c d k es
 

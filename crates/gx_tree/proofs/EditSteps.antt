@@ -7,6 +7,7 @@ use Rattle.gx_model.specs.Texts.Paths.{Path, is_component}
 use Rattle.gx_model.specs.Histories.Files.{FileMap, Leaf}
 use Rattle.gx_model.specs.Records.HistoryOf.{placed}
 use Rattle.gx_model.specs.Histories.Edits.{is_root, removed}
+use Rattle.gx_tree.specs.Edits.{with_grafted, without_path}
 use Rattle.gx_tree.specs.Nodes.{Kept, Level, IsKept, IsLevel, file, files, folder, is_inner_path, kept_at, kept_map, with_kept}
 use Rattle.gx_tree.specs.Steps.{files_of, folder_if_any, grafted, kept_grafted, kept_removed, replaced}
 use Rattle.gx_tree.proofs.Below.{at_component}
@@ -26,31 +27,43 @@ pub record Leaves (f : FileMap Bytes) (out : Level) : Type 0 where
   pub level : IsLevel out
   pub is : files out ≡ f
 
-pub grafted_step : {f : FileMap Bytes} {c c' : Bytes} {xs ys : Level} {k : Kept} (p : Path) (i : ℕ) (es out : Level) (j : Kept) (o : Option Kept) → i < length p → IsKept j → list_all is_component p ≡ true → files es ≡ f → IsLevel es → c ≡ get_or p i [] → c' ≡ c → xs ≡ es → ys ≡ es → kept_at c xs ≡ o → k ≡ kept_grafted (drop (i + 1) p) j o → out ≡ with_kept c' k ys → Leaves (grafted (drop i p) (kept_map j) f) out
-grafted_step {f} {c} {c'} {xs} {ys} {k} p i es out j o l hj hp view level ec ec' ex ey eo ek eout =
-    let at = at_component p i l ec in
-    let q = inner_at p i l ec hp in
-    let old : kept_at c es ≡ o = ap (kept_at c) (sym ex) ∙ eo in
-    let new : out ≡ with_kept c (kept_grafted (drop (i + 1) p) j (kept_at c es)) es = rw (eout, ec', ek, ey, old) refl in
+-- to put k at a path is to change the entry of its first component
+pub grafted_whole : (p : Path) (i : ℕ) (k : Kept) (es out : Level) → i < length p → list_all is_component p ≡ true → IsKept k → IsLevel es → out ≡ with_grafted (drop i p) k es → Leaves (grafted (drop i p) (kept_map k) (files es)) out
+grafted_whole p i k es out l hp hk h e =
+    let c : Bytes = get_or p i [] in
+    let at : drop i p ≡ c ∷ drop (i + 1) p = at_component p i l refl in
+    let q = inner_at p i l refl hp in
+    let new : out ≡ with_kept c (kept_grafted (drop (i + 1) p) k (kept_at c es)) es = e ∙ ap (λ z. with_grafted z k es) at in
     record {
-      level = rw new (IsLevel-grafted c (drop (i + 1) p) j es q hj level);
-      is = rw (new, at, ← view) (sym (grafted_files c (drop (i + 1) p) j es q hj level));
+      level = subst IsLevel (sym new) (IsLevel-grafted c (drop (i + 1) p) k es q hk h);
+      is = ap files new ∙ sym (grafted_files c (drop (i + 1) p) k es q hk h) ∙ ap (λ z. grafted z (kept_map k) (files es)) (sym at);
     }
+
+-- the entry of the component at i, where o is kept, becomes j
+pub grafted_from : {o : Option Kept} {j : Kept} (c : Bytes) (p : Path) (i : ℕ) (k : Kept) (es out : Level) → i < length p → c ≡ get_or p i [] → kept_at c es ≡ o → j ≡ kept_grafted (drop (i + 1) p) k o → out ≡ with_kept c j es → out ≡ with_grafted (drop i p) k es
+grafted_from c p i k es out l ec eo ej e =
+    e ∙ ap (λ z. with_kept c z es) (ej ∙ ap (kept_grafted (drop (i + 1) p) k) (sym eo)) ∙ ap (λ z. with_grafted z k es) (sym (at_component p i l ec))
 
 pub kept_grafted_folder : (q : Path) (j : Kept) (o : Option Kept) → is_root q ≡ false → folder (grafted q (kept_map j) (files_of o)) ≡ kept_grafted q j o
 kept_grafted_folder [] j o h = absurd (true≢false h)
 kept_grafted_folder (d ∷ q) j o h = refl
 
-pub removed_step : {f : FileMap Bytes} {c : Bytes} {xs ys : Level} (p : Path) (i : ℕ) (es out : Level) (o k : Option Kept) → i < length p → list_all is_component p ≡ true → files es ≡ f → IsLevel es → c ≡ get_or p i [] → xs ≡ es → ys ≡ es → kept_at c xs ≡ o → k ≡ kept_removed (drop (i + 1) p) o → out ≡ replaced c k ys → Leaves (removed f (drop i p)) out
-removed_step {f} {c} {xs} {ys} p i es out o k l hp view level ec ex ey eo ek eout =
-    let at = at_component p i l ec in
-    let q = inner_at p i l ec hp in
-    let old : kept_at c es ≡ o = ap (kept_at c) (sym ex) ∙ eo in
-    let new : out ≡ replaced c (kept_removed (drop (i + 1) p) (kept_at c es)) es = rw (eout, ek, ey, old) refl in
+-- to remove a path is to change the entry of its first component, or to take it out
+pub removed_whole : (p : Path) (i : ℕ) (es out : Level) → i < length p → list_all is_component p ≡ true → IsLevel es → out ≡ without_path (drop i p) es → Leaves (removed (files es) (drop i p)) out
+removed_whole p i es out l hp h e =
+    let c : Bytes = get_or p i [] in
+    let at : drop i p ≡ c ∷ drop (i + 1) p = at_component p i l refl in
+    let q = inner_at p i l refl hp in
+    let new : out ≡ replaced c (kept_removed (drop (i + 1) p) (kept_at c es)) es = e ∙ ap (λ z. without_path z es) at in
     record {
-      level = rw new (IsLevel-removed c (drop (i + 1) p) es (and_parts _ _ q).0 level);
-      is = rw (new, at, ← view) (sym (removed_files c (drop (i + 1) p) es (and_parts _ _ q).0 level));
+      level = subst IsLevel (sym new) (IsLevel-removed c (drop (i + 1) p) es (and_parts _ _ q).0 h);
+      is = ap files new ∙ sym (removed_files c (drop (i + 1) p) es (and_parts _ _ q).0 h) ∙ ap (removed (files es)) (sym at);
     }
+
+-- of the entry of the component at i, where o is kept, j is left, if anything
+pub removed_from : {o j : Option Kept} (c : Bytes) (p : Path) (i : ℕ) (es out : Level) → i < length p → c ≡ get_or p i [] → kept_at c es ≡ o → j ≡ kept_removed (drop (i + 1) p) o → out ≡ replaced c j es → out ≡ without_path (drop i p) es
+removed_from c p i es out l ec eo ej e =
+    e ∙ ap (λ z. replaced c z es) (ej ∙ ap (kept_removed (drop (i + 1) p)) (sym eo)) ∙ ap (λ z. without_path z es) (sym (at_component p i l ec))
 
 pub kept_removed_file : (q : Path) (x : Leaf Bytes) → is_root q ≡ false → Some (file x) ≡ kept_removed q (Some (file x))
 kept_removed_file [] x h = absurd (true≢false h)

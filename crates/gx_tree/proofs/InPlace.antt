@@ -1,17 +1,12 @@
 -- A directory's entries where one takes the place of another.
-use Rattle.std.proofs.Common.{◌≡◌, ℕ, ◌+◌, ◌<◌, zero, suc, Bool, true, false, List, [], ◌∷◌, ◌++◌, length, get_or, drop, slice_set, Option, Some, None, inl, inr, refl, sym, ap, ◌∙◌, arith, subst}
-use Rattle.std.specs.List.{list_all, AllByRecursion}
-use Rattle.std.specs.Prelude.{IsNone, is_some}
-use Rattle.std.proofs.lemmas.Bool.{cases_Bool, true≢false}
+use Rattle.std.proofs.Common.{◌≡◌, ℕ, ◌<◌, zero, suc, true, false, List, [], ◌∷◌, ◌++◌, length, get_or, slice_set, Some, None, inl, inr, refl, sym, ap, ◌∙◌, arith, subst}
+use Rattle.std.specs.List.{AllByRecursion}
+use Rattle.std.proofs.lemmas.Bool.{cases_Bool}
 use Rattle.gx_model.specs.Texts.{Bytes, same_bytes}
-use Rattle.gx_model.specs.Texts.Paths.{Path, is_component}
-use Rattle.gx_model.specs.Histories.Files.{Leaf}
-use Rattle.gx_tree.specs.Nodes.{Kept, Level, IsAfter, IsKept, IsLevel, comes_before, file, files, inserted, kept_at, kept_map, key, mark, others, precedes, with_kept}
+use Rattle.gx_tree.specs.Nodes.{Kept, Level, IsAfter, IsLevel, comes_before, inserted, kept_at, key, mark, others, precedes, with_kept}
 use Rattle.gx_tree.specs.Searches.{IsEntryAt}
-use Rattle.gx_tree.specs.Steps.{grafted, kept_grafted}
 use Rattle.gx_tree.specs.Views.{shown_item, shown_entry, shown_entries}
 use Rattle.gx_tree.specs.declared.directory.Entry.{Entry}
-use Rattle.gx_tree.proofs.EditSteps.{Leaves, grafted_step}
 use Rattle.gx_tree.proofs.Levels.{key_trans}
 use Rattle.gx_tree.proofs.Searches.{after_at, kept_at_place, not_before_itself}
 use Rattle.gx_tree.proofs.Texts.{bytes_same, cases_bytes, same_bytes_flip, same_itself}
@@ -42,22 +37,24 @@ in_place (x ∷ es) (suc i) r e h l ir c m =
     ] in
     rw (n, b) (ap (λ q. shown_entry x ∷ q) (in_place es i r e h.3 (omega arith) ir c m))
 
--- so an edit below it is an edit of the whole
-pub put_at : {A : Type 0} {t : Bytes} (p : Path) (i n : ℕ) (f : Kept) (es xs ys : List (Entry A)) (r e : Entry A) → i < length p → IsKept f → list_all is_component p ≡ true → IsLevel (shown_entries es) → xs ≡ es → ys ≡ es → IsEntryAt t xs n → t ≡ get_or p i [] → r ≡ get_or ys n r → (shown_entry e).0 ≡ (shown_entry r).0 → shown_item e.item ≡ kept_grafted (drop (i + 1) p) f (Some (shown_item r.item)) → mark (shown_item e.item) ≡ mark (shown_item r.item) → Leaves (grafted (drop i p) (kept_map f) (files (shown_entries es))) (shown_entries (slice_set ys n e))
-put_at p i n f es xs ys r e l hf hp level ex ey at et er ec ek em =
-    let within : n < length es = subst (λ z. n < length z) ex at.0 in
-    let ir : r ≡ get_or es n r = er ∙ ap (λ z. get_or z n r) ey in
-    let c : (shown_entry r).0 ≡ get_or p i [] = ap (λ z. (shown_entry z).0) ir ∙ ap (λ z. (shown_entry (get_or z n r)).0) (sym ex) ∙ at.1 r ∙ et in
-    let o : kept_at (get_or p i []) (shown_entries es) ≡ Some (shown_item r.item) = kept_at_place (get_or p i []) (shown_entry r).0 es n r level within ir refl (bytes_same _ _ c) in
-    let out : shown_entries (slice_set ys n e) ≡ with_kept (shown_entry r).0 (shown_item e.item) (shown_entries es) = ap (λ z. shown_entries (slice_set z n e)) ey ∙ in_place es n r e level within ir ec em in
-    grafted_step p i (shown_entries es) (shown_entries (slice_set ys n e)) f (Some (shown_item r.item)) l hf hp refl level refl c refl refl o ek out
+-- what stands at the component of the entry at n, read as r
+pub standing : {A : Type 0} (c : Bytes) (es : List (Entry A)) (n : ℕ) (r : Entry A) → IsLevel (shown_entries es) → IsEntryAt c es n → r ≡ get_or es n r → kept_at c (shown_entries es) ≡ Some (shown_item r.item)
+standing c es n r h at ir =
+    let is : (shown_entry r).0 ≡ c = ap (λ z. (shown_entry z).0) ir ∙ at.1 r in
+    kept_at_place c (shown_entry r).0 es n r h at.0 ir refl (bytes_same (shown_entry r).0 c is)
+
+-- another takes its place
+pub set_at : {A : Type 0} (c : Bytes) (es : List (Entry A)) (n : ℕ) (r e : Entry A) → IsLevel (shown_entries es) → IsEntryAt c es n → r ≡ get_or es n r → (shown_entry e).0 ≡ (shown_entry r).0 → mark (shown_item e.item) ≡ mark (shown_item r.item) → shown_entries (slice_set es n e) ≡ with_kept c (shown_item e.item) (shown_entries es)
+set_at c es n r e h at ir ec em =
+    let is : (shown_entry r).0 ≡ c = ap (λ z. (shown_entry z).0) ir ∙ at.1 r in
+    in_place es n r e h at.0 ir ec em ∙ ap (λ z. with_kept z (shown_item e.item) (shown_entries es)) is
 
 pub all_set : {X : Type 0} (P : X → Type 0) (xs : List X) (i : ℕ) (x : X) → AllByRecursion P xs → P x → AllByRecursion P (slice_set xs i x)
 all_set P [] i x h p = tt
 all_set P (y ∷ xs) zero x h p = (p, h.1)
 all_set P (y ∷ xs) (suc i) x h p = (h.0, all_set P xs i x h.1 p)
 
--- ---- a new entry
+-- ---- no entry
 
 pub others_same : (c : Bytes) (es : Level) → kept_at c es ≡ None → others c es ≡ es
 others_same c [] h = refl
@@ -65,14 +62,3 @@ others_same c (e ∷ es) h = elim (cases_bytes c e.0) [
   | inl s ↦ let clash : Some e.1 ≡ None = rw (bytes_same c e.0 s) at h in cc
   | inr n ↦ rw n (ap (λ r. e ∷ r) (others_same c es (rw n at h)))
 ]
-
--- what a search answers that finds nothing
-pub none_found : {X : Type 0} (o : Option X) (b : Bool) → b ≡ is_some o → b ≡ false → IsNone o
-none_found None b e n = refl
-none_found (Some x) b e n = absurd (true≢false (sym e ∙ n))
-
--- a new file at its place, in the directories that it needs, is an edit of the whole
-pub put_new : {A : Type 0} {c : Bytes} {k : Kept} (p : Path) (i : ℕ) (x : Leaf Bytes) (es ys out : List (Entry A)) → i < length p → IsKept (file x) → list_all is_component p ≡ true → IsLevel (shown_entries es) → c ≡ get_or p i [] → kept_at c (shown_entries es) ≡ None → k ≡ kept_grafted (drop (i + 1) p) (file x) None → ys ≡ es → shown_entries out ≡ inserted c k (shown_entries ys) → Leaves (grafted (drop i p) (kept_map (file x)) (files (shown_entries es))) (shown_entries out)
-put_new {c = c} {k = k} p i x es ys out l hx hp level ec none ek ey eo =
-    let is : shown_entries out ≡ with_kept c k (shown_entries es) = eo ∙ ap (inserted c k) (ap shown_entries ey ∙ sym (others_same c (shown_entries es) none)) in
-    grafted_step p i (shown_entries es) (shown_entries out) (file x) None l hx hp refl level ec refl refl refl none ek is

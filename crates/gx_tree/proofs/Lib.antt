@@ -24,3 +24,5 @@ pub mod HeldRecords
 pub mod WrittenHomes
 pub mod InPlace
 pub mod TakenOut
+pub mod Changed
+pub mod Renamed

@@ -1,31 +1,31 @@
 -- How long the paths of a directory's files are, by its entries.
-use Rattle.std.proofs.Common.{◌≡◌, ◌≢◌, ℕ, ◌+◌, ◌-◌, ◌<◌, ◌≤◌, max, Bool, true, false, not, ◌&&◌, List, [], ◌∷◌, ◌++◌, append-nil, length, get_or, drop, Option, Some, None, IfSome, IsTrue, SomeIff, option_map, inl, inr, refl, sym, ap, ◌∙◌, subst, arith, length-append}
+use Rattle.std.proofs.Common.{◌≡◌, ◌≢◌, ℕ, ◌+◌, ◌-◌, ◌^◌, ◌<◌, ◌≤◌, max, min, true, false, cond, ◌&&◌, List, [], ◌∷◌, ◌++◌, length, get_or, drop, take, Some, None, inl, inr, refl, sym, ap, ◌∙◌, subst, arith, length-append}
 use Rattle.std.specs.Prelude.{nat_le}
 use Rattle.std.specs.List.{list_all, AllByRecursion}
-use Rattle.std.proofs.lemmas.Bool.{and_from, and_parts, le-leb, le-ltb, leb-true, lt-leb, lt-ltb, ltb-true, cases_lt, false≢true}
+use Rattle.std.proofs.lemmas.Bool.{and_parts, le-leb, lt-leb, false≢true}
 use Rattle.std.proofs.lemmas.Bool.Decides.{leb_tells}
-use Rattle.std.proofs.lemmas.List.{drop_all, get_or-map, length-drop, length-map}
-use Rattle.std.proofs.lemmas.List.Folds.{list_all-append}
+use Rattle.std.proofs.lemmas.Grind.{flat_map-append}
+use Rattle.std.proofs.lemmas.List.{get_or-map, length-map, map-append, map_more, take-append-drop}
 use Rattle.gx_model.specs.Texts.{Bytes}
-use Rattle.gx_model.specs.Texts.Paths.{Path, are_in_line, is_short, path_text}
-use Rattle.gx_model.specs.Histories.Edits.{without_line}
-use Rattle.gx_model.specs.Histories.Files.{FileMap, Leaf}
+use Rattle.gx_model.specs.Texts.Paths.{Path, is_short, path_text}
+use Rattle.gx_model.specs.Histories.Files.{FileMap}
 use Rattle.gx_model.specs.Records.HistoryOf.{placed}
 use Rattle.gx_model.specs.declared.objects.Mode.{Mode}
 use Rattle.gx_object.specs.declared.name.Name.{Name}
 use Rattle.gx_tree.specs.Components.{bytes_of}
 use Rattle.gx_tree.specs.Lists.{below}
-use Rattle.gx_tree.specs.Nodes.{Kept, IsKept, IsLevel, Level, file, files, folder, is_inner_path, kept_map}
-use Rattle.gx_tree.specs.Rooms.{IsReach, is_within, kept_within}
-use Rattle.gx_tree.specs.Steps.{grafted}
+use Rattle.gx_tree.specs.Nodes.{Kept, IsKept, IsKeptAt, IsLevel, Level, comes_before, file, files, folder, inserted, is_inner_path, kept_at, kept_map, others, with_kept}
+use Rattle.gx_tree.specs.Rooms.{Changes, IsReach, counted, is_within, kept_reach, longest}
 use Rattle.gx_tree.specs.Views.{shown_item, shown_entry, shown_entries}
 use Rattle.gx_tree.specs.declared.directory.Entry.{Entry}
 use Rattle.gx_tree.specs.declared.directory.Item.{Item}
 use Rattle.gx_tree.specs.declared.directory.Item.TheVariants.{File}
-use Rattle.gx_tree.proofs.Below.{at_component}
-use Rattle.gx_tree.proofs.Copies.{seen_more}
-use Rattle.gx_tree.proofs.Lookups.{AreInner, all-filter, all-put}
+use Rattle.gx_tree.proofs.Below.{IsKeptAt-kept_at}
+use Rattle.gx_tree.proofs.InPlace.{others_after}
+use Rattle.gx_tree.proofs.Levels.{kept_at-inserted, kept_at-with_kept}
+use Rattle.gx_tree.proofs.Lookups.{AreInner}
 use Rattle.gx_tree.proofs.Listed.{all_at, below_root}
+use Rattle.gx_tree.proofs.Texts.{bytes_same, cases_bytes, same_itself}
 
 same_test : (a b m n : ℕ) → (a ≤ m → b ≤ n) → (b ≤ n → a ≤ m) → nat_le a m ≡ nat_le b n
 same_test a b m n f g = elim (leb_tells a m) [
@@ -44,28 +44,6 @@ pub child_length : (c : Bytes) (q : Path) → is_inner_path q ≡ true → lengt
 child_length c [] h = absurd (false≢true h)
 child_length c (d ∷ q) h = omega (arith, length-append c (47 ∷ path_text (d ∷ q)))
 
-placed_within : (c : Bytes) (f : FileMap Bytes) (room : ℕ) → AreInner f → length c < room → list_all (is_within room) (placed c f) ≡ list_all (is_within (room - length c - 1)) f
-placed_within c [] room h l = refl
-placed_within c (e ∷ f) room h l =
-    let a = text_after (c ∷ e.0) e.0 (length c) room (child_length c e.0 (and_parts _ _ h).0) l in
-    let r = placed_within c f room (and_parts _ _ h).1 l in
-    λ i. a i && r i
-
-placed_beyond : (c : Bytes) (f : FileMap Bytes) (room : ℕ) → (f ≢ []) → AreInner f → room ≤ length c → list_all (is_within room) (placed c f) ≡ false
-placed_beyond c [] room n h l = absurd (n refl)
-placed_beyond c (e ∷ f) room n h l = rw (lt-leb (length (path_text (c ∷ e.0))) room (omega (arith, child_length c e.0 (and_parts _ _ h).0, l))) refl
-
-and_alone : (b : Bool) → (b && true) ≡ b
-and_alone true = refl
-and_alone false = refl
-
-pub kept_within-is : (c : Bytes) (k : Kept) (room : ℕ) → IsKept k → list_all (is_within room) (placed c (kept_map k)) ≡ kept_within room (length c) k
-kept_within-is c (file x) room h = and_alone (nat_le (length c) room)
-kept_within-is c (folder f) room h = elim (cases_lt (length c) room) [
-  | inl l ↦ rw (lt-ltb (length c) room l) (placed_within c f room h.1.paths l)
-  | inr l ↦ rw (le-ltb (length c) room l) (placed_beyond c f room h.0 h.1.paths l)
-]
-
 -- ---- the loop over the entries
 
 each_kept : (es : Level) → IsLevel es → AllByRecursion (λ e. IsKept e.1) es
@@ -77,12 +55,6 @@ pub kept_entry : {A : Type 0} (es xs : List (Entry A)) (i : ℕ) (r : Entry A) �
 kept_entry es xs i r l ir ex h =
     let a : AllByRecursion (λ e. IsKept e.1) (shown_entries xs) = subst (λ z. AllByRecursion (λ e. IsKept e.1) (shown_entries z)) (sym ex) (each_kept (shown_entries es) h) in
     subst (λ z. IsKept (shown_item z.item)) (sym ir) (subst (λ z. IsKept z.1) (get_or-map shown_entry xs i r (shown_entry r) l) (all_at (λ e. IsKept e.1) (shown_entries xs) i (shown_entry r) (omega (arith, length-map xs shown_entry)) a))
-
-pub rest_within : {A : Type 0} (es xs : List (Entry A)) (i : ℕ) (r : Entry A) (room : ℕ) → i < length xs → r ≡ get_or xs i r → xs ≡ es → IsLevel (shown_entries es) → list_all (is_within room) (files (shown_entries (drop i xs))) ≡ (kept_within room (length (bytes_of r.component)) (shown_item r.item) && list_all (is_within room) (files (shown_entries (drop (i + 1) xs))))
-rest_within es xs i r room l ir ex h =
-    rw (seen_more xs i r l ir)
-    (list_all-append (is_within room) (placed (bytes_of r.component) (kept_map (shown_item r.item))) (files (shown_entries (drop (i + 1) xs)))
-    ∙ ap (λ b. b && list_all (is_within room) (files (shown_entries (drop (i + 1) xs)))) (kept_within-is (bytes_of r.component) (shown_item r.item) room (kept_entry es xs i r l ir ex h)))
 
 -- ---- below a path
 
@@ -106,59 +78,137 @@ pub root_within : (p : Path) (f : FileMap Bytes) → length p ≡ 0 → list_all
 root_within [] f e = ap (list_all (is_within 4095)) (sym (below_root f))
 root_within (c ∷ p) f e = absurd (omega arith)
 
--- ---- a reach
+-- ---- the longest path
 
--- what fits somewhere fits where there is more room
-pub within_more : (m n : ℕ) (f : FileMap Bytes) → m ≤ n → list_all (is_within m) f ≡ true → list_all (is_within n) f ≡ true
-within_more m n [] l h = refl
-within_more m n (e ∷ f) l h =
-    let short : length (path_text e.0) ≤ m = leb-true (length (path_text e.0)) m (and_parts _ _ h).0 in
-    and_from _ _ (le-leb (length (path_text e.0)) n (omega (arith, short, l))) (within_more m n f l (and_parts _ _ h).1)
+-- whether all fit is told by the longest
+pub fits_longest : (room : ℕ) (f : FileMap Bytes) → nat_le (longest f) room ≡ list_all (is_within room) f
+fits_longest room [] = le-leb 0 room (omega arith)
+fits_longest room (e ∷ f) = elim (leb_tells (length (path_text e.0)) room) [
+  | inl h ↦ same_test (max (length (path_text e.0)) (longest f)) (longest f) room room (λ l. omega (arith, l)) (λ l. omega (arith, l, h.1)) ∙ fits_longest room f ∙ ap (λ b. b && list_all (is_within room) f) (sym h.0)
+  | inr h ↦ lt-leb (max (length (path_text e.0)) (longest f)) room (omega (arith, h.1)) ∙ ap (λ b. b && list_all (is_within room) f) (sym h.0)
+]
 
-kept_more : (m n c : ℕ) (k : Kept) → m ≤ n → kept_within m c k ≡ true → kept_within n c k ≡ true
-kept_more m n c (file x) l h =
-    let short : c ≤ m = leb-true c m h in
-    le-leb c n (omega (arith, short, l))
-kept_more m n c (folder f) l h =
-    let short : c < m = ltb-true c m (and_parts _ _ h).0 in
-    and_from _ _ (lt-ltb c n (omega (arith, short, l))) (within_more (m - c - 1) (n - c - 1) f (omega (arith, l)) (and_parts _ _ h).1)
+-- so it is by a reach, where there is room for less than is counted
+pub fits_reach : (reach room : ℕ) (f : FileMap Bytes) → room ≤ 4095 → IsReach reach f → nat_le reach room ≡ list_all (is_within room) f
+fits_reach reach room f l h = same_test reach (longest f) room room (λ k. omega (arith, k, l, h)) (λ k. omega (arith, k, l, h)) ∙ fits_longest room f
 
--- that of an entry: its component's length, and for a directory a slash and the reach below it
-pub file_reach : {A : Type 0} {m : Mode} {n : Name} (i : Item A) (c d : Bytes) → i ≡ File m n → d ≡ c → kept_within (length d) (length c) (shown_item i) ≡ true
-file_reach i c d e s = rw (e, s) (le-leb (length c) (length c) (omega arith))
+pub longest-append : (f g : FileMap Bytes) → longest (f ++ g) ≡ max (longest f) (longest g)
+longest-append [] g = omega arith
+longest-append (e ∷ f) g = omega (arith, longest-append f g)
 
-pub folder_reach : {A : Type 0} (r : Option ℕ) (P : Type 0) (i : Item A) (b : ℕ) (f : FileMap Bytes) (c d : Bytes) → shown_item i ≡ folder f → d ≡ c → SomeIff r P (b + (length d + 1)) → list_all (is_within b) f ≡ true → IfSome r (λ n. IsTrue (kept_within n (length c) (shown_item i)))
-folder_reach None P i b f c d e s h k = tt
-folder_reach (Some n) P i b f c d e s h k =
-    let sum : n ≡ b + (length c + 1) = h.1 ∙ ap (λ (z : Bytes). b + (length z + 1)) s in
-    let left : b ≡ n - length c - 1 = omega (arith, sum) in
-    subst (λ j. kept_within n (length c) j ≡ true) (sym e) (and_from _ _ (lt-ltb (length c) n (omega (arith, sum))) (subst (λ z. list_all (is_within z) f ≡ true) left k))
+placed_longest : (c : Bytes) (f : FileMap Bytes) → (f ≢ []) → AreInner f → longest (placed c f) ≡ length c + 1 + longest f
+placed_longest c [] n h = absurd (n refl)
+placed_longest c (e ∷ []) n h = omega (arith, child_length c e.0 (and_parts _ _ h).0)
+placed_longest c (e ∷ d ∷ f) n h = omega (arith, child_length c e.0 (and_parts _ _ h).0, placed_longest c (d ∷ f) (λ k. cc) (and_parts _ _ h).1)
 
--- one more entry at i, read as r, whose reach is b, beside those before it, whose reach is a
-pub reach_more : {A : Type 0} (es : List (Entry A)) (i : ℕ) (r : Entry A) (a b m : ℕ) → i < length es → r ≡ get_or es i r → IsLevel (shown_entries es) → kept_within b (length (bytes_of r.component)) (shown_item r.item) ≡ true → max a b ≤ m
-    → (a ≤ m → list_all (is_within m) (files (shown_entries es)) ≡ list_all (is_within m) (files (shown_entries (drop i es))))
-    → list_all (is_within m) (files (shown_entries es)) ≡ list_all (is_within m) (files (shown_entries (drop (i + 1) es)))
-reach_more es i r a b m l ir h k le before =
-    let fits = kept_more b m (length (bytes_of r.component)) (shown_item r.item) (omega (arith, le)) k in
-    before (omega (arith, le)) ∙ rest_within es es i r m l ir refl h ∙ ap (λ t. t && list_all (is_within m) (files (shown_entries (drop (i + 1) es)))) fits
+alone : (n : ℕ) → max n 0 ≡ n
+alone n = omega arith
 
-pub reach_all : {A : Type 0} (es : List (Entry A)) (i m : ℕ) → length es ≤ i → list_all (is_within m) (files (shown_entries es)) ≡ list_all (is_within m) (files (shown_entries (drop i es))) → list_all (is_within m) (files (shown_entries es)) ≡ true
-reach_all es i m l h = h ∙ ap (λ z. list_all (is_within m) (files (shown_entries z))) (drop_all i es l)
+-- below a component
+pub kept_longest : (c : Bytes) (k : Kept) → IsKept k → longest (placed c (kept_map k)) ≡ kept_reach (c, k)
+kept_longest c (file x) h = alone (length c)
+kept_longest c (folder f) h = placed_longest c f h.0 h.1.paths
 
--- a file put at a path of n bytes
-pub put_reach : (old new : Option ℕ) (n : ℕ) (p : Path) (x : Leaf Bytes) (f g : FileMap Bytes) → new ≡ option_map (λ r. max r n) old → g ≡ grafted p (kept_map (file x)) f → n ≡ length (path_text p) → IsReach old f → IsReach new g
-put_reach None new n p x f g e eg en h = subst (λ z. IsReach z g) (sym e) tt
-put_reach (Some r) new n p x f g e eg en h =
-    let long : length (path_text (p ++ [])) ≡ n = ap (λ q. length (path_text q)) (append-nil p) ∙ sym en in
-    let others : list_all (is_within (max r n)) (without_line p f) ≡ true = all-filter (is_within (max r n)) (λ e. not (are_in_line p e.0)) f (within_more r (max r n) f (omega arith) h) in
-    let all : list_all (is_within (max r n)) (grafted p (kept_map (file x)) f) ≡ true = all-put (λ q. nat_le (length (path_text q)) (max r n)) (p ++ []) x (without_line p f) (le-leb (length (path_text (p ++ []))) (max r n) (omega (arith, long))) others in
-    subst (λ z. IsReach z g) (sym e) (subst (λ z. list_all (is_within (max r n)) z ≡ true) (sym eg) all)
+-- with one more entry
+pub longest-inserted : (c : Bytes) (k : Kept) (es : Level) → IsKept k → longest (files (inserted c k es)) ≡ max (kept_reach (c, k)) (longest (files es))
+longest-inserted c k [] h = omega (arith, kept_longest c k h, longest-append (placed c (kept_map k)) [])
+longest-inserted c k (e ∷ es) h = elim (comes_before c k e) as (λ b. longest (files (cond b ((c, k) ∷ e ∷ es) (e ∷ inserted c k es))) ≡ max (kept_reach (c, k)) (longest (files (e ∷ es)))) [
+  | true ↦ omega (arith, kept_longest c k h, longest-append (placed c (kept_map k)) (files (e ∷ es)))
+  | false ↦ omega (arith, longest-inserted c k es h, longest-append (placed e.0 (kept_map e.1)) (files (inserted c k es)), longest-append (placed e.0 (kept_map e.1)) (files es))
+]
 
-before_last : (q : Path) (c : Bytes) → (0 < length q) → length (path_text (c ∷ q)) ≡ length c + 1 + length (path_text q)
-before_last [] c l = absurd (omega arith)
-before_last (d ∷ q) c l = omega (arith, length-append c (47 ∷ path_text (d ∷ q)))
+-- by one entry and the others
+pub longest-others : (c : Bytes) (k : Kept) (es : Level) → IsLevel es → kept_at c es ≡ Some k → longest (files es) ≡ max (kept_reach (c, k)) (longest (files (others c es)))
+longest-others c k [] h e = cc
+longest-others c k (x ∷ es) h e = elim (cases_bytes c x.0) [
+  | inl s ↦
+      let is : Some x.1 ≡ Some k = rw (bytes_same c x.0 s) at e in
+      let same : x.1 ≡ k = cc in
+      let rest : others c (x ∷ es) ≡ es = rw (bytes_same c x.0 s) (ap (λ z. others z es) s ∙ others_after x es h.2) in
+      let first : longest (placed x.0 (kept_map x.1)) ≡ kept_reach (c, k) = kept_longest x.0 x.1 h.1 ∙ ap (λ z. kept_reach (z, x.1)) (sym s) ∙ ap (λ z. kept_reach (c, z)) same in
+      omega (arith, first, longest-append (placed x.0 (kept_map x.1)) (files es), ap (λ z. longest (files z)) rest)
+  | inr n ↦
+      let r = longest-others c k es h.3 (rw n at e) in
+      let rest : others c (x ∷ es) ≡ x ∷ others c es = rw n refl in
+      omega (arith, r, longest-append (placed x.0 (kept_map x.1)) (files es), longest-append (placed x.0 (kept_map x.1)) (files (others c es)), ap (λ z. longest (files z)) rest)
+]
 
--- a path from its component at i on, which is not the last
-pub rest_length : (p : Path) (i : ℕ) (c : Bytes) → i + 1 < length p → c ≡ get_or p i [] → length (path_text (drop i p)) ≡ length c + 1 + length (path_text (drop (i + 1) p))
-rest_length p i c l e =
-    ap (λ q. length (path_text q)) (at_component p i (omega (arith, l)) e) ∙ before_last (drop (i + 1) p) c (omega (arith, l, length-drop (i + 1) p))
+-- ---- how far an entry reaches
+
+pub file_reach : {A : Type 0} {m : Mode} {n : Name} (i : Item A) (c d : Bytes) → i ≡ File m n → d ≡ c → length d < 2 ^ 64 → length d ≡ counted (kept_reach (c, shown_item i))
+file_reach i c d e s l = omega (arith, l, ap length s, ap (λ z. kept_reach (c, shown_item z)) e)
+
+pub folder_reach : {A : Type 0} (i : Item A) (f : FileMap Bytes) (c d : Bytes) (b r : ℕ) → shown_item i ≡ folder f → d ≡ c → b ≡ counted (longest f) → r ≡ min (b + (length d + 1)) (2 ^ 64 - 1) → r ≡ counted (kept_reach (c, shown_item i))
+folder_reach i f c d b r e s eb er = omega (arith, eb, er, ap length s, ap (λ z. kept_reach (c, z)) e)
+
+-- ---- entries, one after the other
+
+pub taken_more : {A : Type 0} (es : List (Entry A)) (i : ℕ) (r : Entry A) → i < length es → r ≡ get_or es i r → IsLevel (shown_entries es) → longest (files (shown_entries (take (i + 1) es))) ≡ max (longest (files (shown_entries (take i es)))) (kept_reach (shown_entry r))
+taken_more es i r l ir h =
+    let one = kept_longest (bytes_of r.component) (shown_item r.item) (kept_entry es es i r l ir refl h) in
+    let all : shown_entries (take (i + 1) es) ≡ shown_entries (take i es) ++ shown_entry r ∷ [] = map_more shown_entry es i r l ∙ ap (λ z. shown_entries (take i es) ++ shown_entry z ∷ []) (sym ir) in
+    let joined : files (shown_entries (take i es) ++ shown_entry r ∷ []) ≡ files (shown_entries (take i es)) ++ files (shown_entry r ∷ []) = flat_map-append (λ e. placed e.0 (kept_map e.1)) (shown_entries (take i es)) (shown_entry r ∷ []) in
+    omega (arith, one, ap (λ z. longest (files z)) all, ap longest joined, longest-append (files (shown_entries (take i es))) (files (shown_entry r ∷ [])), longest-append (placed (bytes_of r.component) (kept_map (shown_item r.item))) [])
+
+-- the first reach no further than all
+pub taken_less : {A : Type 0} (es : List (Entry A)) (i : ℕ) → longest (files (shown_entries (take i es))) ≤ longest (files (shown_entries es))
+taken_less es i =
+    let whole : shown_entries es ≡ shown_entries (take i es) ++ shown_entries (drop i es) = ap shown_entries (sym (take-append-drop i es)) ∙ map-append shown_entry (take i es) (drop i es) in
+    let joined : files (shown_entries (take i es) ++ shown_entries (drop i es)) ≡ files (shown_entries (take i es)) ++ files (shown_entries (drop i es)) = flat_map-append (λ e. placed e.0 (kept_map e.1)) (shown_entries (take i es)) (shown_entries (drop i es)) in
+    omega (arith, ap (λ z. longest (files z)) whole, ap longest joined, longest-append (files (shown_entries (take i es))) (files (shown_entries (drop i es))))
+
+-- ---- one entry changes
+
+-- what stands where another took its place
+put_kept : (c : Bytes) (j : Kept) (es : Level) → IsLevel (with_kept c j es) → IsKept j
+put_kept c j es h =
+    let is : kept_at c (with_kept c j es) ≡ Some j = kept_at-with_kept c c j es ∙ rw (same_itself c) refl in
+    subst IsKeptAt is (IsKeptAt-kept_at c (with_kept c j es) h)
+
+new_kept : (c : Bytes) (j : Kept) (es : Level) → kept_at c es ≡ None → IsLevel (inserted c j es) → IsKept j
+new_kept c j es e h =
+    let is : kept_at c (inserted c j es) ≡ Some j = kept_at-inserted c c j es e ∙ rw (same_itself c) refl in
+    subst IsKeptAt is (IsKeptAt-kept_at c (inserted c j es) h)
+
+-- another takes its place
+pub changed : {before after : ℕ} (c : Bytes) (k j : Kept) (reach : ℕ) (es out : Level) → IsLevel es → IsLevel out → kept_at c es ≡ Some k → out ≡ with_kept c j es → IsReach reach (files es) → before ≡ counted (kept_reach (c, k)) → after ≡ counted (kept_reach (c, j)) → Changes reach before after (files out)
+changed c k j reach es out h ho e eo r eb ea = (
+  kept_reach (c, k),
+  kept_reach (c, j),
+  longest (files (others c es)),
+  record {
+    was = eb;
+    is = ea;
+    old = r ∙ ap counted (longest-others c k es h e);
+    new = ap (λ z. longest (files z)) eo ∙ longest-inserted c j (others c es) (put_kept c j es (subst IsLevel eo ho));
+  },
+)
+
+-- it goes
+pub gone : {before : ℕ} (c : Bytes) (k : Kept) (reach : ℕ) (es out : Level) → IsLevel es → kept_at c es ≡ Some k → out ≡ others c es → IsReach reach (files es) → before ≡ counted (kept_reach (c, k)) → Changes reach before 0 (files out)
+gone c k reach es out h e eo r eb = (
+  kept_reach (c, k),
+  0,
+  longest (files (others c es)),
+  record {
+    was = eb;
+    is = omega arith;
+    old = r ∙ ap counted (longest-others c k es h e);
+    new = omega (arith, ap (λ z. longest (files z)) eo);
+  },
+)
+
+-- a new one comes
+pub come : {far : ℕ} (c : Bytes) (j : Kept) (reach : ℕ) (es out : Level) → IsLevel out → kept_at c es ≡ None → out ≡ inserted c j es → IsReach reach (files es) → far ≡ counted (kept_reach (c, j)) → IsReach (max reach far) (files out)
+come c j reach es out ho e eo r ef = omega (arith, r, ef, ap (λ z. longest (files z)) eo, longest-inserted c j es (new_kept c j es e (subst IsLevel eo ho)))
+
+-- ---- the reach once one entry's is another
+
+pub no_less : (reach before after : ℕ) (f : FileMap Bytes) → before ≤ after → Changes reach before after f → IsReach (max reach after) f
+no_less reach before after f l h = omega (arith, l, h.3.was, h.3.is, h.3.old, h.3.new)
+
+pub not_longest : (reach before after : ℕ) (f : FileMap Bytes) → after < before → before < reach → Changes reach before after f → IsReach reach f
+not_longest reach before after f l m h = omega (arith, l, m, h.3.was, h.3.is, h.3.old, h.3.new)
+
+pub at_most : (reach before after : ℕ) (f : FileMap Bytes) → after < before → Changes reach before after f → counted (longest f) ≤ reach
+at_most reach before after f l h = omega (arith, l, h.3.was, h.3.is, h.3.old, h.3.new)

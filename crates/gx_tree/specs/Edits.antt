@@ -1,18 +1,15 @@
 -- What an edit makes of a directory's entries, of what stands at one of them, and of the files below.
-use Rattle.std.specs.Prelude.{◌≡◌, Bool, List, ◌++◌, Option, Some, Result, IsTrue}
-use Rattle.std.specs.Borrow.{Bor}
+use Rattle.std.specs.Prelude.{◌≡◌, ℕ, Bool, IsTrue, drop, false, not, ◌&&◌, List, [], ◌∷◌, ◌++◌, Option, Some}
 use Rattle.std.specs.declared.rc.Rc.{Rc}
 use Rattle.std.specs.declared.vec.Vec.{Vec}
-use Rattle.gx_model.specs.declared.objects.Mode.{Mode}
 use Rattle.gx_model.specs.Histories.Edits.{removed}
 use Rattle.gx_model.specs.Histories.Files.{FileMap}
-use Rattle.gx_model.specs.Texts.{Bytes}
+use Rattle.gx_model.specs.Texts.{Bytes, same_bytes}
 use Rattle.gx_model.specs.Texts.Paths.{Path}
-use Rattle.gx_object.specs.declared.name.Name.{Name}
 use Rattle.gx_tree.specs.Named.{NamedTree}
-use Rattle.gx_tree.specs.Nodes.{Kept, Level, file, files, inserted, kept_map}
-use Rattle.gx_tree.specs.Steps.{grafted, is_made, kept_grafted, kept_removed, replaced}
-use Rattle.gx_tree.specs.Views.{shown_item, shown_item_if, shown_lent, shown_entries}
+use Rattle.gx_tree.specs.Nodes.{Kept, Level, files, inserted, kept_at, kept_map, with_kept}
+use Rattle.gx_tree.specs.Steps.{grafted, kept_grafted, kept_removed, replaced}
+use Rattle.gx_tree.specs.Views.{shown_item, shown_item_if, shown_entries}
 use Rattle.gx_tree.specs.declared.directory.Entry.{Entry}
 use Rattle.gx_tree.specs.declared.directory.Item.{Item}
 
@@ -26,9 +23,9 @@ level_in entries = shown_entries entries.value.items
 abbrev pub files_below : {A : Type 0} → Rc (Vec (Entry A) A) A → FileMap Bytes
 files_below entries = files (level_in entries)
 
--- the old entries, with what is kept at the component, or nothing there
-abbrev pub Replaces : {A : Type 0} → Bytes → Option Kept → List (Entry A) → Vec (Entry A) A → Type 0
-Replaces c k old new = shown_entries new.items ≡ replaced c k (shown_entries old)
+-- the old entries, with the item at the component, in place of what stood there
+abbrev pub ReplacesItem : {A : Type 0} → Bytes → Item A → List (Entry A) → Vec (Entry A) A → Type 0
+ReplacesItem c item old new = shown_entries new.items ≡ with_kept c (shown_item item) (shown_entries old)
 
 -- the old entries, with the item at the component, at its place in the order
 abbrev pub InsertsItem : {A : Type 0} → Bytes → Item A → Vec (Entry A) A → Vec (Entry A) A → Type 0
@@ -45,31 +42,76 @@ abbrev pub Grafts : Path → Kept → NamedTree → NamedTree → Type 0
 Grafts p k old new = new.files ≡ grafted p (kept_map k) old.files
 
 -- what stands at a component, with an item at the path behind it
-abbrev pub GraftsItem : {A : Type 0} → Path → Item A → Option (Bor (Item A)) → Item A → Type 0
-GraftsItem p item old new = shown_item new ≡ kept_grafted p (shown_item item) (shown_lent old)
+abbrev pub GraftsItem : {A : Type 0} → Path → Item A → Option Kept → Item A → Type 0
+GraftsItem p item old new = shown_item new ≡ kept_grafted p (shown_item item) old
 
--- where it is answered that a file was put, it stands at the path, in place of what is in line with it
-abbrev pub PutsFile : {E : Type 0} → Path → Mode → Name → FileMap Bytes → FileMap Bytes → Result Bool E → Type 0
-PutsFile p mode name old new result = IsTrue (is_made result) → new ≡ grafted p (kept_map (file (mode, name.bytes))) old
+-- the same of an item that stands there
+abbrev pub GraftsBelow : {A : Type 0} → Path → Item A → Item A → Item A → Type 0
+GraftsBelow p item old new = GraftsItem p item (Some (shown_item old)) new
 
--- the same of the files below entries that may be shared
-abbrev pub PutsFileBelow : {A E : Type 0} → Path → Mode → Name → Rc (Vec (Entry A) A) A → Rc (Vec (Entry A) A) A → Result Bool E → Type 0
-PutsFileBelow p mode name old new = PutsFile p mode name (files_below old) (files_below new)
+-- entries, with k at the path: what stands at its first component is another
+abbrev pub with_grafted : Path → Kept → Level → Level
+with_grafted [] k es = es
+with_grafted (c ∷ p) k es = with_kept c (kept_grafted p k (kept_at c es)) es
 
--- the same of an item, with the file in its place or at the path below it
-abbrev pub PutsFileAt : {A E : Type 0} → Path → Mode → Name → Item A → Item A → Result Bool E → Type 0
-PutsFileAt p mode name old new result = IsTrue (is_made result) → shown_item new ≡ kept_grafted p (file (mode, name.bytes)) (Some (shown_item old))
+-- the files below the entries are the old ones, with an item at the path, in place of what is in line with it
+abbrev pub GraftsFiles : {A : Type 0} → Path → Item A → List (Entry A) → Vec (Entry A) A → Type 0
+GraftsFiles p item old new = files (shown_entries new.items) ≡ grafted p (kept_map (shown_item item)) (files (shown_entries old))
 
--- ---- what is taken out
+-- the same of entries that may be shared
+abbrev pub GraftsIn : {A : Type 0} → Path → Item A → Rc (Vec (Entry A) A) A → Rc (Vec (Entry A) A) A → Type 0
+GraftsIn p item old new = GraftsFiles p item old.value.items new.value
 
--- where it is answered that something was taken out, the files are those without what stood at or below the path
-abbrev pub TakesBelow : {A : Type 0} → Path → Rc (Vec (Entry A) A) A → Rc (Vec (Entry A) A) A → Bool → Type 0
-TakesBelow p old new taken = IsTrue taken → files_below new ≡ removed (files_below old) p
+-- ---- what is removed
 
 -- what is left of an item, if anything, without what stands at or below the path in it
 abbrev pub IsLeftOf : {A : Type 0} → Path → Item A → Option (Item A) → Type 0
 IsLeftOf p old left = shown_item_if left ≡ kept_removed p (Some (shown_item old))
 
--- the same of an item that is lent, if there is one
-abbrev pub IsLeftOfLent : {A : Type 0} → Path → Option (Bor (Item A)) → Option (Item A) → Type 0
-IsLeftOfLent p old left = shown_item_if left ≡ kept_removed p (shown_lent old)
+-- entries without what stands at or below the path: what stands at its first component is another, or nothing
+abbrev pub without_path : Path → Level → Level
+without_path [] es = es
+without_path (c ∷ p) es = replaced c (kept_removed p (kept_at c es)) es
+
+-- the files below the entries are the old ones, but for what stood at or below the path
+abbrev pub RemovesFiles : {A : Type 0} → Path → List (Entry A) → Vec (Entry A) A → Type 0
+RemovesFiles p old new = files (shown_entries new.items) ≡ removed (files (shown_entries old)) p
+
+-- the same of entries that may be shared
+abbrev pub RemovesIn : {A : Type 0} → Path → Rc (Vec (Entry A) A) A → Rc (Vec (Entry A) A) A → Type 0
+RemovesIn p old new = RemovesFiles p old.value.items new.value
+
+-- ---- what is renamed
+
+-- two paths differ in their last component alone
+abbrev pub are_siblings : Path → Path → Bool
+are_siblings [] q = false
+are_siblings (c ∷ p) [] = false
+are_siblings (c ∷ []) (d ∷ []) = not (same_bytes c d)
+are_siblings (c ∷ []) (d ∷ y ∷ q) = false
+are_siblings (c ∷ x ∷ p) (d ∷ []) = false
+are_siblings (c ∷ x ∷ p) (d ∷ y ∷ q) = same_bytes c d && are_siblings (x ∷ p) (y ∷ q)
+
+-- what is left of the paths from the component at i on are siblings
+abbrev pub AreBeside : ℕ → Path → Path → Type 0
+AreBeside i s d = IsTrue (are_siblings (drop i s) (drop i d))
+
+-- the files without what stood at or below s, and with an item's at d, in place of what is in line with it
+abbrev pub carried : {A : Type 0} → ℕ → Path → Path → Item A → FileMap Bytes → FileMap Bytes
+carried i s d item f = grafted (drop i d) (kept_map (shown_item item)) (removed f (drop i s))
+
+-- a tree has become one with these files, by the paths from the component at i on
+abbrev pub Carries : {A : Type 0} → ℕ → Path → Path → Item A → NamedTree → NamedTree → Type 0
+Carries i s d item old new = new.files ≡ carried i s d item old.files
+
+-- the same of an item that stands there
+abbrev pub CarriesBelow : {A : Type 0} → ℕ → Path → Path → Item A → Item A → Item A → Type 0
+CarriesBelow i s d item old new = shown_item new ≡ kept_grafted (drop i d) (shown_item item) (kept_removed (drop i s) (Some (shown_item old)))
+
+-- of entries
+abbrev pub CarriesAt : {A : Type 0} → ℕ → Path → Path → Item A → Vec (Entry A) A → Vec (Entry A) A → Type 0
+CarriesAt i s d item old new = files (shown_entries new.items) ≡ carried i s d item (files (shown_entries old.items))
+
+-- and of entries that may be shared
+abbrev pub CarriesIn : {A : Type 0} → ℕ → Path → Path → Item A → Rc (Vec (Entry A) A) A → Rc (Vec (Entry A) A) A → Type 0
+CarriesIn i s d item old new = CarriesAt i s d item old.value new.value

@@ -2,11 +2,12 @@
 use Rattle.std.specs.Prelude.{List, Option, None, Some, ⊤}
 use Rattle.std.specs.Borrow.{Bor}
 use Rattle.std.specs.List.{AllByRecursion}
+use Rattle.std.specs.declared.rc.Rc.{Rc}
 use Rattle.std.specs.declared.vec.Vec.{Vec}
 use Rattle.gx_model.specs.declared.objects.Kind.{Kind}
 use Rattle.gx_model.specs.Texts.{Bytes}
 use Rattle.gx_model.specs.Histories.{Record}
-use Rattle.gx_tree.specs.Named.{IsAtHome}
+use Rattle.gx_tree.specs.Named.{NamedTree, IsAtHome}
 use Rattle.gx_tree.specs.declared.copying.Held.{Held}
 use Rattle.gx_tree.specs.declared.copying.Held.TheVariants as held
 use Rattle.gx_tree.specs.declared.directory.Item.{Item}
@@ -56,3 +57,15 @@ IsHeldAtHome name rs (held.Folder d) = IsAtHome name rs d.now
 -- entries that are made of x and of old entries are at home wherever both are
 abbrev pub EntriesKeepHome : {A X : Type 0} → InStore X → X → List (Entry A) → Vec (Entry A) A → Type 0
 EntriesKeepHome P x old new = Keeps (Both P AreAtHome) AreAtHome (x, old) new.items
+
+-- a tree that is made of an item and of another tree is at home wherever both are
+abbrev pub GraftKeepsHome : {A : Type 0} → Item A → NamedTree → NamedTree → Type 0
+GraftKeepsHome item old new = Keeps (Both IsItemAtHome IsAtHome) IsAtHome (item, old) new
+
+-- the same of an item that is made of two
+abbrev pub ItemKeepsHome : {A : Type 0} → Item A → Item A → Item A → Type 0
+ItemKeepsHome item old new = Keeps (Both IsItemAtHome IsItemAtHome) IsItemAtHome (item, old) new
+
+-- and of entries that may be shared
+abbrev pub BelowKeepHome : {A : Type 0} → Item A → Rc (Vec (Entry A) A) A → Rc (Vec (Entry A) A) A → Type 0
+BelowKeepHome item old new = EntriesKeepHome IsItemAtHome item old.value.items new.value

@@ -1,5 +1,5 @@
 -- What a directory keeps, one level at a time: at each component a file, or a directory by its file map.
-use Rattle.std.specs.Prelude.{◌≡◌, ◌≢◌, ℕ, ◌+◌, Bool, false, not, if◌then◌else◌, List, [], ◌∷◌, ◌++◌, length, IsTrue, ⊤, Option, None, Some}
+use Rattle.std.specs.Prelude.{◌≡◌, ◌≢◌, ℕ, ◌+◌, Bool, false, true, not, if◌then◌else◌, List, [], ◌∷◌, ◌++◌, length, IsTrue, ⊤, Option, None, Some}
 use Rattle.std.specs.List.{filter, flat_map, list_all, AllByRecursion}
 use Rattle.std.specs.Map.{lookup}
 use Rattle.std.specs.Ordering.{nat_cmp, is_lt}
@@ -41,6 +41,10 @@ kept_at c = lookup (same_bytes c)
 abbrev pub mark : Kept → Bytes
 mark (file x) = []
 mark (folder f) = 47 ∷ []
+
+abbrev pub is_folder : Kept → Bool
+is_folder (file x) = false
+is_folder (folder f) = true
 
 -- the text by which entries are ordered
 abbrev pub key : Bytes → Kept → Bytes

@@ -1,5 +1,5 @@
 -- What stands at a component after an edit below it.
-use Rattle.std.specs.Prelude.{Bool, false, [], ◌∷◌, Option, Some, None, Result, Ok, Err}
+use Rattle.std.specs.Prelude.{[], ◌∷◌, Option, Some, None}
 use Rattle.gx_model.specs.Texts.{Bytes}
 use Rattle.gx_model.specs.Texts.Paths.{Path}
 use Rattle.gx_model.specs.Histories.Files.{FileMap}
@@ -36,8 +36,3 @@ kept_removed (c ∷ p) (Some (folder f)) = folder_if_any (removed f (c ∷ p))
 abbrev pub replaced : Bytes → Option Kept → Level → Level
 replaced c None es = others c es
 replaced c (Some k) es = with_kept c k es
-
--- whether an edit in place was made
-abbrev pub is_made : {E : Type 0} → Result Bool E → Bool
-is_made (Ok made) = made
-is_made (Err e) = false

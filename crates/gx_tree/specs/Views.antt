@@ -89,8 +89,8 @@ abbrev pub RemembersBelow : {A : Type 0} → Option Name → List (Entry A) → 
 RemembersBelow None es = ⊤
 RemembersBelow (Some n) es = RememberAll es
 
--- the entries stand in their order, their names are remembered where that of the whole is, and they reach no further than is kept
-abbrev pub IsDirectory : {A : Type 0} → Option Name → Option ℕ → List (Entry A) → Type 0
+-- the entries stand in their order, their names are remembered where that of the whole is, and they reach as far as is kept
+abbrev pub IsDirectory : {A : Type 0} → Option Name → ℕ → List (Entry A) → Type 0
 IsDirectory remembered reach es = IsLevel (shown_entries es) × RemembersBelow remembered es × IsReach reach (files (shown_entries es))
 
 -- a file, or a directory with a remembered name, where such names are trusted

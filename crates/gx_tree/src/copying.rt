@@ -1,5 +1,5 @@
 //! What a copy or a rename takes from one path to another.
-ghost use Rattle.std.specs.Prelude.{◌≡◌, IfOk, IsTrue};
+ghost use Rattle.std.specs.Prelude.{◌≡◌, ◌≤◌, IfOk, IsTrue};
 ghost use Rattle.std.specs.List.{list_all};
 ghost use Rattle.std.specs.Option.{option_map};
 ghost use Rattle.gx_text.specs.TreePaths.{is_path};
@@ -8,10 +8,10 @@ ghost use Rattle.gx_tree.specs.Faults.{fault_of};
 ghost use Rattle.gx_tree.specs.Homes.{Keeps, IsHeldAtHome, IsItemAtHome};
 ghost use Rattle.gx_tree.specs.Lists.{are_short, below};
 ghost use Rattle.gx_tree.specs.Nodes.{IsKept, folder};
-ghost use Rattle.gx_tree.specs.Rooms.{entry_within, is_within};
-ghost use Rattle.gx_tree.specs.Views.{shown_item, shown_entry};
+ghost use Rattle.gx_tree.specs.Rooms.{is_within};
+ghost use Rattle.gx_tree.specs.Views.{shown_item};
 
-use crate::directory::{Directory, Entry, Item};
+use crate::directory::{Directory, Item};
 use crate::fault::TreeFault;
 use gx_object::{Mode, Name};
 use gx_text::TreePath;
@@ -67,33 +67,11 @@ impl<A: Allocator + Copy> Directory<A> {
         used < MOST_BYTES && self.fits(MOST_BYTES - used - 1)
     }
 
-    // Whether the paths of the files have at most `room` bytes. Only a directory that reaches further is gone through, on the
-    // way to a path that doesn't fit.
-    #[cycle(fits)]
+    // Whether the paths of the files have at most `room` bytes, which are at most those of the longest path.
     fn fits(&self, room: usize) -> bool
+        requires { room ≤ 4095 }
         ensures { result ≡ list_all (is_within room) self.now.files }
     {
-        if self.reaches_within(room) {
-            return true;
-        }
-        for entry in self.entries.as_slice() {
-            if !entry.fits(room) {
-                return false;
-            }
-        }
-        true
-    }
-}
-
-impl<A: Allocator + Copy> Entry<A> {
-    #[cycle(fits)]
-    fn fits(&self, room: usize) -> bool
-        ensures { result ≡ entry_within room (shown_entry self.now) }
-    {
-        let used = self.component().len();
-        match &self.item {
-            Item::File(_, _) => used <= room,
-            Item::Folder(below) => used < room && below.fits(room - used - 1),
-        }
+        self.reach() <= room
     }
 }

@@ -1,12 +1,14 @@
 //! Directories: their entries in the order of Git's trees, each a file or a directory below. Entries never change while
 //! more than one directory has them, so trees share them.
-ghost use Rattle.std.specs.Prelude.{◌≡◌, ◌≤◌, [], IsTrue, ◌↔◌, IfOk, OnErr, OnOk, None, Some, drop, length};
+ghost use Rattle.std.specs.Prelude.{◌≡◌, ◌<◌, ◌≤◌, [], IsTrue, ◌↔◌, IfOk, OnErr, OnOk, drop, length};
 ghost use Rattle.std.specs.Option.{option_map};
-ghost use Rattle.gx_tree.specs.Edits.{AddsEntries, InsertsItem, Replaces};
-ghost use Rattle.gx_tree.specs.Homes.{Keeps, IfThere, Borrowed, AreAtHome, EntriesKeepHome, IsItemAtHome, IsLentAtHome};
+ghost use Rattle.gx_model.specs.Histories.Files.{sub_map};
+ghost use Rattle.gx_tree.specs.Edits.{AddsEntries, InsertsItem, ReplacesItem};
+ghost use Rattle.gx_tree.specs.Homes.{Keeps, Both, IfThere, Borrowed, AreAtHome, EntriesKeepHome, IsItemAtHome, IsLentAtHome};
 ghost use Rattle.gx_tree.specs.Named.{IsAtHome, nothing};
-ghost use Rattle.gx_tree.specs.Nodes.{IsInner, IsLevel, mark};
-ghost use Rattle.gx_tree.specs.Views.{RemembersBelow, shown_item, shown_item_if, shown_lent, option_files, shown_entry, shown_entries, tree_of};
+ghost use Rattle.gx_tree.specs.Nodes.{IsInner, IsKeptAt, IsLevel, is_folder, map_if, mark, others};
+ghost use Rattle.gx_tree.specs.Rooms.{counted, kept_reach};
+ghost use Rattle.gx_tree.specs.Views.{RemembersBelow, shown_item, shown_lent, option_files, shown_entry, shown_entries, tree_of};
 ghost use Rattle.gx_tree.specs.Standings.{standing_of, standing_at};
 ghost use Rattle.gx_tree.specs.Steps.{files_of};
 
@@ -20,14 +22,14 @@ use std::alloc::{AllocError, Allocator};
 use std::marker::Model;
 use std::rc::Rc;
 
-/// The files below a directory, by its entries, and its tree's name, where that is remembered. No path has more bytes than
-/// its reach, if that is known; it is made as the least such number.
+/// The files below a directory, by its entries, and its tree's name, where that is remembered. Its reach is the bytes of the
+/// longest of their paths, or the greatest number where there are more.
 #[cycle(tree)]
 #[derive(Drop)]
 pub(crate) struct Directory<A: Allocator> {
     pub(crate) entries: Rc<Vec<Entry<A>, A>, A>,
     pub(crate) remembered: Option<Name>,
-    pub(crate) reach: Option<usize>,
+    pub(crate) reach: usize,
 }
 
 /// What stands at one component.
@@ -65,10 +67,11 @@ impl<A: Allocator> Model for Directory<A> {
 }
 
 impl<A: Allocator + Copy> Directory<A> {
+    /// That of no files, with room for one entry.
     pub(crate) fn new(alloc: A) -> Result<Directory<A>, AllocError>
         ensures { IfOk result (λ directory. directory ≡ nothing) }
     {
-        Directory::of(alloc, Vec::new(alloc), None)
+        Directory::of(alloc, Vec::with_capacity(alloc, 1)?, None)
     }
 
     /// That of these entries, with the name of its tree, where that is known.
@@ -134,6 +137,24 @@ impl<A: Allocator + Copy> Directory<A> {
             Some(Item::Folder(below)) => below.entry(path, depth + 1),
         }
     }
+
+    /// What stands at the rest of the path, which is not the root.
+    pub(crate) fn item_at<'a>(&'a self, path: &TreePath<A>, depth: usize) -> Option<&'a Item<A>>
+        requires { depth < length path.now }
+        ensures files { sub_map self.entry.now.files (drop depth path.now) ≡ map_if (shown_lent result) }
+        ensures kept { IsKeptAt (shown_lent result) }
+        ensures home { Keeps IsAtHome IsLentAtHome self.entry.now result }
+    {
+        let length = path.len();
+        let item = find(self.entries.as_slice(), path.component(depth));
+        if depth + 1 == length {
+            return item;
+        }
+        match folder_in(item) {
+            Some(below) => below.item_at(path, depth + 1),
+            None => None,
+        }
+    }
 }
 
 impl<A: Allocator + Copy> Item<A> {
@@ -145,6 +166,15 @@ impl<A: Allocator + Copy> Item<A> {
         match self {
             Item::File(mode, name) => Ok(Item::File(*mode, *name)),
             Item::Folder(below) => Ok(Item::Folder(below.shared()?)),
+        }
+    }
+
+    pub(crate) fn is_folder(&self) -> bool
+        ensures { result ≡ is_folder (shown_item self.now) }
+    {
+        match self {
+            Item::File(_, _) => false,
+            Item::Folder(_) => true,
         }
     }
 }
@@ -198,6 +228,19 @@ pub(crate) fn folder_in<'a, A: Allocator + Copy>(
     }
 }
 
+/// The same entries, with room for one more.
+pub(crate) fn shared_entries<A: Allocator + Copy>(
+    alloc: A,
+    entries: &[Entry<A>],
+) -> Result<Vec<Entry<A>, A>, AllocError>
+    ensures seen { IfOk result (λ v. shown_entries v.items ≡ shown_entries entries.now) }
+    ensures home { IfOk result (λ v. Keeps AreAtHome AreAtHome entries.now v.items) }
+{
+    let mut shared = Vec::with_capacity(alloc, entries.len() + 1)?;
+    share_into(&mut shared, entries)?;
+    Ok(shared)
+}
+
 // The entries but for that of a component. It is looked for, and the others are not looked at.
 fn shared_others<A: Allocator + Copy>(
     alloc: A,
@@ -205,7 +248,7 @@ fn shared_others<A: Allocator + Copy>(
     component: &[u8],
 ) -> Result<Vec<Entry<A>, A>, AllocError>
     requires { IsLevel (shown_entries entries.now) }
-    ensures others { IfOk result (Replaces component.now None entries.now) }
+    ensures others { IfOk result (λ v. shown_entries v.items ≡ others component.now (shown_entries entries.now)) }
     ensures home { IfOk result (λ v. Keeps AreAtHome AreAtHome entries.now v.items) }
 {
     let mut others = Vec::with_capacity(alloc, entries.len() + 1)?;
@@ -236,41 +279,38 @@ fn share_into<A: Allocator + Copy>(
     Ok(())
 }
 
-/// The entries, with `item` at the component, or nothing there.
+/// The entries, with an item at the component, in place of what stands there.
 pub(crate) fn with_item<A: Allocator + Copy>(
     alloc: A,
     entries: &[Entry<A>],
     component: &[u8],
-    item: Option<Item<A>>,
+    item: Item<A>,
 ) -> Result<Vec<Entry<A>, A>, AllocError>
     requires { IsLevel (shown_entries entries.now) }
-    ensures entries { IfOk result (Replaces component.now (shown_item_if item) entries.now) }
-    ensures home { IfOk result (EntriesKeepHome (IfThere IsItemAtHome) item entries.now) }
+    ensures entries { IfOk result (ReplacesItem component.now item entries.now) }
+    ensures home { IfOk result (EntriesKeepHome IsItemAtHome item entries.now) }
 {
     let mut all = shared_others(alloc, entries, component)?;
-    match item {
-        None => Ok(all),
-        Some(item) => {
-            insert_entry(alloc, &mut all, component, item)?;
-            Ok(all)
-        }
-    }
+    insert_entry(alloc, &mut all, component, item)?;
+    Ok(all)
 }
 
-/// Inserts an entry of a component where it stands in the order.
+/// Inserts an entry of a component where it stands in the order, and answers its reach.
 pub(crate) fn insert_entry<A: Allocator + Copy>(
     alloc: A,
     entries: &mut Vec<Entry<A>, A>,
     component: &[u8],
     item: Item<A>,
-) -> Result<(), AllocError>
+) -> Result<usize, AllocError>
     requires { IsLevel (shown_entries entries.now.items) }
+    ensures reach { IfOk result (λ n. n ≡ counted (kept_reach (component.now, shown_item item))) }
     ensures entries { OnOk result (InsertsItem component.now item entries.old entries.new) }
     ensures unchanged { OnErr result (entries.new.items ≡ entries.old.items) }
     ensures home { OnOk result (EntriesKeepHome IsItemAtHome item entries.old.items entries.new) }
 {
     let new = Entry::new(alloc, component, item)?;
+    let reach = new.reach();
     let place = place_of(entries, component, new.mark());
     entries.insert(place, new)?;
-    Ok(())
+    Ok(reach)
 }

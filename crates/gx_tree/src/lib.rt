@@ -5,14 +5,16 @@
 mod component;
 mod copying;
 mod directory;
-mod edits;
 mod fault;
+mod grafting;
 mod laws;
 mod listing;
 mod loaded;
 mod loading;
 mod path_tree;
 mod reach;
+mod removing;
+mod renaming;
 mod root;
 mod search;
 mod writing;

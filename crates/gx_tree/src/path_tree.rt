@@ -164,11 +164,11 @@ impl<A: Allocator + Copy> PathTree<A> {
     /// Puts a file at a path, in place of what stands there or below it, and of a file above it.
     /// `RootNotTree` where the path is the root; then `OutOfMemory`. Both leave the tree as it was.
     ///
-    /// Cost: where no other tree shares the directories on the path, and a file stands at it, or nothing at its next component
-    /// in the last of them, searches by halves in each of these directories: they change in place. A file that stands takes
-    /// no memory. A new one moves the entries behind its place, and takes memory for each of its components of more than 24
-    /// bytes, for the directories that it needs and where the entries have no room. Otherwise the directories are made anew,
-    /// with their entries; those beside the path are shared, and the bytes of long components too.
+    /// Cost: for each directory on the path, searches by halves among its entries. One that no other tree shares changes in
+    /// place: a file that stands takes no memory, and a new one moves the entries behind its place, and takes memory for each
+    /// of its components of more than 24 bytes, for the directories that it needs and where the entries have no room. Of one
+    /// that is shared, or where a file and a directory change places, the entries are made anew; what stands beside the path
+    /// is shared. Where what reached furthest goes, the entries are gone through once, to the first that reaches as far.
     /// Source: git-fast-import(1), "filemodify".
     pub fn modify(&mut self, path: &TreePath<A>, mode: Mode, name: Name) -> Result<(), TreeFault>
         requires { mode ≢ modes.Dir }
@@ -181,29 +181,24 @@ impl<A: Allocator + Copy> PathTree<A> {
             return Err(TreeFault::RootNotTree);
         }
         is_name(name.bytes.as_slice());
-        if self.root.put(self.alloc, path, mode, name)? {
-            return Ok(());
-        }
-        self.root = self.root.grafted(self.alloc, path, Item::File(mode, name))?;
+        self.root.graft(self.alloc, path, &Item::File(mode, name))?;
         Ok(())
     }
 
     /// Removes what stands at or below a path, and the directories that are left with no file. The root stands above all
     /// files, and where nothing stands nothing changes. The one error is `OutOfMemory`, which leaves the tree as it was.
     ///
-    /// Cost: where no other tree shares the directories on the path, searches by halves in each of these directories, and a
-    /// move of the entries behind the one that goes; it takes no memory. Otherwise the directories are made anew, as by
-    /// `modify`; at the root it takes no memory. Source: git-fast-import(1), "filedelete".
+    /// Cost: a look for what stands there, and then as for `modify`, with a move of the entries behind the one that goes. Where
+    /// no other tree shares the directories on the path, and where nothing stands, it takes no memory.
+    /// Source: git-fast-import(1), "filedelete".
     pub fn remove(&mut self, path: &TreePath<A>) -> Result<(), TreeFault>
         ensures map { Becomes self.new result (Ok (removed self.old.files path.now)) }
         ensures root { path.now ≡ [] → IsOk result }
+        ensures missing { standing_at self.old.files path.now ≡ None → self.new ≡ self.old }
         ensures unchanged { OnErr result (self.new ≡ self.old) }
         ensures home { KeepsHome self.old self.new }
     {
-        if self.root.take(path) {
-            return Ok(());
-        }
-        self.root = self.root.removed(self.alloc, path)?;
+        self.root.remove(self.alloc, path)?;
         Ok(())
     }
 
@@ -213,8 +208,8 @@ impl<A: Allocator + Copy> PathTree<A> {
     ///
     /// `NoSuchPath` where no file stands at or below the source; then `RootNotTree` where a file would be the root; then
     /// `PathTooLong` where a path would have more than 4,095 bytes; then `OutOfMemory`. Each leaves the tree as it was.
-    /// Cost: for a file as for `modify`; for a directory those on the destination's path are made anew. It is shared, and
-    /// none of its paths is looked at, since each directory knows the bytes of the longest below it. Source:
+    /// Cost: as for `modify`. A directory is shared, and none of its paths is looked at, since each directory knows the bytes of
+    /// the longest below it. Source:
     /// git-fast-import(1), "filecopy".
     pub fn copy(&mut self, source: &TreePath<A>, destination: &TreePath<A>) -> Result<(), TreeFault>
         ensures map { Becomes self.new result (copied self.old.files source.now destination.now) }
@@ -222,11 +217,7 @@ impl<A: Allocator + Copy> PathTree<A> {
         ensures unchanged { OnErr result (self.new ≡ self.old) }
         ensures home { KeepsHome self.old self.new }
     {
-        if self.root.put_copy(self.alloc, source, destination)? {
-            return Ok(());
-        }
-        self.root = self.root.copied(self.alloc, source, destination)?;
-        Ok(())
+        self.root.copy(self.alloc, source, destination)
     }
 
     /// Takes out what stands at or below the source, and puts it at the destination, in place of what then stands there
@@ -234,8 +225,9 @@ impl<A: Allocator + Copy> PathTree<A> {
     /// nothing.
     ///
     /// The errors are those of `copy`, in their order, and each leaves the tree as it was.
-    /// Cost: the directories on the source's path are made anew, and then it is put as by `copy`, where no path below the
-    /// source is looked at. Source: git-fast-import(1), "filerename".
+    /// Cost: where both paths are in one directory, as for `modify`, with a move of the entries behind the one that goes.
+    /// Otherwise the entries of the directories on both paths are made anew. No path below the source is looked at. Source:
+    /// git-fast-import(1), "filerename".
     pub fn rename(
         &mut self,
         source: &TreePath<A>,
@@ -246,8 +238,7 @@ impl<A: Allocator + Copy> PathTree<A> {
         ensures unchanged { OnErr result (self.new ≡ self.old) }
         ensures home { KeepsHome self.old self.new }
     {
-        self.root = self.root.renamed(self.alloc, source, destination)?;
-        Ok(())
+        self.root.rename(self.alloc, source, destination)
     }
 
     /// Puts the tree of each directory into the store, those below a directory before its own, and answers the name of

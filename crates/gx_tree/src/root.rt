@@ -1,22 +1,20 @@
 //! The root of a tree: a directory, and none where there are no files.
-ghost use Rattle.std.specs.Prelude.{◌≡◌, ◌≢◌, ◌<◌, [], IfErr, IfOk, IsFalse, IsOk, IsTrue, None, OnOk, Some, length, take};
+ghost use Rattle.std.specs.Prelude.{◌≡◌, ◌≢◌, ◌<◌, [], IfErr, IfOk, IsOk, IsTrue, None, OnErr, OnOk, length, take};
 ghost use Rattle.std.specs.Option.{option_map};
 ghost use Rattle.gx_model.specs.Histories.Edits.{copied, removed, renamed};
 ghost use Rattle.gx_model.specs.Histories.Files.{sub_map};
 ghost use Rattle.gx_model.specs.Records.Growth.{tree_records};
 ghost use Rattle.gx_model.specs.Objects.NameMaps.{IsNameMap};
 ghost use Rattle.gx_text.specs.TreePaths.{is_path};
-ghost use Rattle.gx_tree.specs.Calls.{GivesFiles, IsMadeOf};
+ghost use Rattle.gx_tree.specs.Calls.{Becomes};
 ghost use Rattle.gx_tree.specs.Copies.{IsCopyFault, IsHeldAt, graft_fault, shown_held, shown_held_if};
-ghost use Rattle.gx_tree.specs.Edits.{Grafts, PutsFile};
+ghost use Rattle.gx_tree.specs.Edits.{AreBeside, Carries, Grafts};
 ghost use Rattle.gx_tree.specs.Faults.{Refuses};
-ghost use Rattle.gx_tree.specs.Homes.{HoldsIn, Keeps, Both, IfThere, IsHeldAtHome, IsItemAtHome};
+ghost use Rattle.gx_tree.specs.Homes.{GraftKeepsHome, HoldsIn, IfThere, IsHeldAtHome, Keeps};
 ghost use Rattle.gx_tree.specs.Lists.{AppendsFiles, are_short};
 ghost use Rattle.gx_tree.specs.Named.{IsAtHome, KeepsHome, nothing};
 ghost use Rattle.gx_tree.specs.Nodes.{IsKept, IsKeptAt, map_if};
-ghost use Rattle.gx_model.specs.declared.objects.Mode.TheVariants as modes;
 ghost use Rattle.gx_tree.specs.Standings.{standing_of, standing_at};
-ghost use Rattle.gx_tree.specs.Steps.{is_made};
 ghost use Rattle.gx_tree.specs.Views.{shown_item};
 ghost use Rattle.gx_tree.specs.Writes.{Extends, IsTreeName, StoresAll};
 
@@ -24,6 +22,7 @@ use crate::copying::Held;
 use crate::directory::{Directory, Entry, Item};
 use crate::fault::TreeFault;
 use crate::path_tree::Found;
+use crate::renaming::are_siblings;
 use crate::writing::put_tree;
 use gx_object::{Mode, Name, Namer};
 use gx_store::Store;
@@ -70,16 +69,6 @@ impl<A: Allocator + Copy> Root<A> {
         }
     }
 
-    /// That of a shared directory's files.
-    pub(crate) fn of_shared(node: &Directory<A>) -> Result<Root<A>, AllocError>
-        requires { node.now.files ≢ [] }
-        ensures { IfOk result (λ root. root ≡ node.now) }
-    {
-        Ok(Root {
-            node: Some(node.shared()?),
-        })
-    }
-
     /// The same once more.
     pub(crate) fn shared(&self) -> Result<Root<A>, AllocError>
         ensures { IfOk result (λ root. root ≡ self.now) }
@@ -122,66 +111,24 @@ impl<A: Allocator + Copy> Root<A> {
         }
     }
 
-    /// That with an item at a path, in place of what stands there, above it or below it.
-    pub(crate) fn grafted(
-        &self,
-        alloc: A,
-        path: &TreePath<A>,
-        item: Item<A>,
-    ) -> Result<Root<A>, AllocError>
-        requires within { 0 < length path.now }
-        requires kept { IsKept (shown_item item) }
-        ensures files { IfOk result (Grafts path.now (shown_item item) self.now) }
-        ensures home { IfOk result (Keeps (Both IsItemAtHome IsAtHome) IsAtHome (item, self.now)) }
-    {
-        match &self.node {
-            Some(node) => Ok(Root::of(node.grafted(alloc, path, 0, item)?)),
-            None => Ok(Root::of(Directory::of_item(alloc, path, 0, item)?)),
-        }
-    }
-
-    /// Puts a file in place of the one at a path, or where nothing stands at its next component in the last directory that is
-    /// there, and answers whether it did: only where no other tree has the directories on the path. Takes memory for a new
-    /// file alone.
-    pub(crate) fn put(
+    /// Puts an item at a path, in place of what stands there, above it or below it.
+    pub(crate) fn graft(
         &mut self,
         alloc: A,
         path: &TreePath<A>,
-        mode: Mode,
-        name: Name,
-    ) -> Result<bool, AllocError>
+        item: &Item<A>,
+    ) -> Result<(), AllocError>
         requires within { 0 < length path.now }
-        requires mode { mode ≢ modes.Dir }
-        ensures files { PutsFile path.now mode name self.old.files self.new.files result }
-        ensures unchanged { IsFalse (is_made result) → self.new ≡ self.old }
-        ensures home { KeepsHome self.old self.new }
+        requires kept { IsKept (shown_item item.now) }
+        ensures files { OnOk result (Grafts path.now (shown_item item.now) self.old self.new) }
+        ensures unchanged { OnErr result (self.new ≡ self.old) }
+        ensures home { OnOk result (GraftKeepsHome item.now self.old self.new) }
     {
-        match &mut self.node {
-            Some(node) => node.put(alloc, path, 0, path.joined().len(), mode, name),
-            None => Ok(false),
-        }
-    }
-
-    /// Puts the file at one path at another too, as `put` does, and answers whether it did.
-    pub(crate) fn put_copy(
-        &mut self,
-        alloc: A,
-        source: &TreePath<A>,
-        destination: &TreePath<A>,
-    ) -> Result<bool, AllocError>
-        ensures files { IsMadeOf (copied self.old.files source.now destination.now) self.new result }
-        ensures names { IsTrue (is_made result) → IsNameMap self.old.files → IsNameMap self.new.files }
-        ensures unchanged { IsFalse (is_made result) → self.new ≡ self.old }
-        ensures allowed { IfErr result (λ _. IsOk (copied self.old.files source.now destination.now)) }
-        ensures home { KeepsHome self.old self.new }
-    {
-        let Some(Held::File(mode, name)) = self.held_at(source) else {
-            return Ok(false);
+        let Some(node) = &mut self.node else {
+            self.node = Some(Directory::of_item(alloc, path, 0, item)?);
+            return Ok(());
         };
-        if destination.len() == 0 {
-            return Ok(false);
-        }
-        self.put(alloc, destination, mode, name)
+        node.graft(alloc, path, 0, item)
     }
 
     /// What stands at a path, if it may be put at another.
@@ -205,117 +152,131 @@ impl<A: Allocator + Copy> Root<A> {
         }
     }
 
-    /// That with what stands at the source at the destination too.
-    pub(crate) fn copied(
-        &self,
+    /// Puts what stands at the source at the destination too.
+    pub(crate) fn copy(
+        &mut self,
         alloc: A,
         source: &TreePath<A>,
         destination: &TreePath<A>,
-    ) -> Result<Root<A>, TreeFault>
-        ensures files { GivesFiles result (copied self.now.files source.now destination.now) }
-        ensures refused { Refuses (copied self.now.files source.now destination.now) result }
-        ensures names { IfOk result (λ root. IsNameMap self.now.files → IsNameMap root.files) }
-        ensures home { IfOk result (KeepsHome self.now) }
-    {
-        let held = self.held_for(source, destination)?;
-        Ok(self.placed(alloc, &held, destination)?)
-    }
-
-    /// That with what stood at the source at the destination instead.
-    pub(crate) fn renamed(
-        &self,
-        alloc: A,
-        source: &TreePath<A>,
-        destination: &TreePath<A>,
-    ) -> Result<Root<A>, TreeFault>
-        ensures files { GivesFiles result (renamed self.now.files source.now destination.now) }
-        ensures refused { Refuses (renamed self.now.files source.now destination.now) result }
-        ensures names { IfOk result (λ root. IsNameMap self.now.files → IsNameMap root.files) }
-        ensures home { IfOk result (KeepsHome self.now) }
-    {
-        let held = self.held_for(source, destination)?;
-        let rest = self.removed(alloc, source)?;
-        Ok(rest.put_or_placed(alloc, &held, destination)?)
-    }
-
-    // What `placed` answers, for a root that is given away: where no other tree has the directories on the path, a file is put
-    // in them as they are.
-    fn put_or_placed(
-        mut self,
-        alloc: A,
-        held: &Held<'_, A>,
-        path: &TreePath<A>,
-    ) -> Result<Root<A>, AllocError>
-        requires kept { IsKept (shown_held held.now) }
-        requires fits { graft_fault (shown_held held.now) path.now ≡ None }
-        ensures files { IfOk result (Grafts path.now (shown_held held.now) self) }
-        ensures home { IfOk result (Keeps (Both IsHeldAtHome IsAtHome) IsAtHome (held.now, self)) }
-    {
-        if let Held::File(mode, name) = held {
-            if self.put(alloc, path, *mode, *name)? {
-                return Ok(self);
-            }
-        }
-        self.placed(alloc, held, path)
-    }
-
-    // That with what is held at a path, in place of what stands there, above it or below it.
-    fn placed(
-        &self,
-        alloc: A,
-        held: &Held<'_, A>,
-        path: &TreePath<A>,
-    ) -> Result<Root<A>, AllocError>
-        requires kept { IsKept (shown_held held.now) }
-        requires fits { graft_fault (shown_held held.now) path.now ≡ None }
-        ensures files { IfOk result (Grafts path.now (shown_held held.now) self.now) }
-        ensures home { IfOk result (Keeps (Both IsHeldAtHome IsAtHome) IsAtHome (held.now, self.now)) }
-    {
-        if path.len() > 0 {
-            return self.grafted(alloc, path, held.item()?);
-        }
-        match held {
-            Held::Folder(below) => Root::of_shared(below),
-            Held::File(_, _) => unreachable!(),
-        }
-    }
-
-    /// That without what stands at or below a path.
-    pub(crate) fn removed(&self, alloc: A, path: &TreePath<A>) -> Result<Root<A>, AllocError>
-        ensures files { IfOk result (λ root. root.files ≡ removed self.now.files path.now) }
-        ensures root { path.now ≡ [] → IsOk result }
-        ensures home { IfOk result (Keeps IsAtHome IsAtHome self.now) }
-    {
-        let Some(node) = &self.node else {
-            return Ok(Root::none());
-        };
-        if path.len() == 0 {
-            return Ok(Root::none());
-        }
-        Ok(Root::of(node.removed(alloc, path, 0)?))
-    }
-
-    /// Takes out what stands at or below a path, and answers whether it did: only where something stands there, and no other
-    /// tree has the directories on the path. Takes no memory.
-    pub(crate) fn take(&mut self, path: &TreePath<A>) -> bool
-        ensures files { IsTrue result → self.new.files ≡ removed self.old.files path.now }
-        ensures unchanged { IsFalse result → self.new ≡ self.old }
+    ) -> Result<(), TreeFault>
+        ensures files { Becomes self.new result (copied self.old.files source.now destination.now) }
+        ensures refused { Refuses (copied self.old.files source.now destination.now) result }
+        ensures names { OnOk result (IsNameMap self.old.files → IsNameMap self.new.files) }
+        ensures unchanged { OnErr result (self.new ≡ self.old) }
         ensures home { KeepsHome self.old self.new }
     {
+        let held = self.held_for(source, destination)?;
+        let item = held.item()?;
+        self.place(alloc, destination, item)?;
+        Ok(())
+    }
+
+    /// Takes out what stands at the source, and puts it at the destination.
+    pub(crate) fn rename(
+        &mut self,
+        alloc: A,
+        source: &TreePath<A>,
+        destination: &TreePath<A>,
+    ) -> Result<(), TreeFault>
+        ensures files { Becomes self.new result (renamed self.old.files source.now destination.now) }
+        ensures refused { Refuses (renamed self.old.files source.now destination.now) result }
+        ensures names { OnOk result (IsNameMap self.old.files → IsNameMap self.new.files) }
+        ensures unchanged { OnErr result (self.new ≡ self.old) }
+        ensures home { KeepsHome self.old self.new }
+    {
+        let held = self.held_for(source, destination)?;
+        let item = held.item()?;
+        self.carry(alloc, source, destination, item)?;
+        Ok(())
+    }
+
+    // Takes out what stands at one path, and puts an item at another: in place where both are in one directory.
+    fn carry(
+        &mut self,
+        alloc: A,
+        from: &TreePath<A>,
+        to: &TreePath<A>,
+        item: Item<A>,
+    ) -> Result<(), AllocError>
+        requires kept { IsKept (shown_item item) }
+        requires fits { graft_fault (shown_item item) to.now ≡ None }
+        ensures files { OnOk result (Carries 0 from.now to.now item self.old self.new) }
+        ensures unchanged { OnErr result (self.new ≡ self.old) }
+        ensures home { OnOk result (GraftKeepsHome item self.old self.new) }
+    {
+        if are_siblings(from, to, 0) {
+            return self.carry_within(alloc, from, to, &item);
+        }
+        let mut root = self.shared()?;
+        root.remove(alloc, from)?;
+        root.place(alloc, to, item)?;
+        *self = root;
+        Ok(())
+    }
+
+    // The same within one directory.
+    fn carry_within(
+        &mut self,
+        alloc: A,
+        from: &TreePath<A>,
+        to: &TreePath<A>,
+        item: &Item<A>,
+    ) -> Result<(), AllocError>
+        requires beside { AreBeside 0 from.now to.now }
+        requires kept { IsKept (shown_item item.now) }
+        ensures files { OnOk result (Carries 0 from.now to.now item.now self.old self.new) }
+        ensures unchanged { OnErr result (self.new ≡ self.old) }
+        ensures home { OnOk result (GraftKeepsHome item.now self.old self.new) }
+    {
+        let Some(node) = &mut self.node else {
+            return self.graft(alloc, to, item);
+        };
+        node.rename(alloc, from, to, 0, item)
+    }
+
+    // Puts an item at a path that may be the root, in place of what stands there, above it or below it.
+    fn place(&mut self, alloc: A, path: &TreePath<A>, item: Item<A>) -> Result<(), AllocError>
+        requires kept { IsKept (shown_item item) }
+        requires fits { graft_fault (shown_item item) path.now ≡ None }
+        ensures files { OnOk result (Grafts path.now (shown_item item) self.old self.new) }
+        ensures unchanged { OnErr result (self.new ≡ self.old) }
+        ensures home { OnOk result (GraftKeepsHome item self.old self.new) }
+    {
+        if path.len() > 0 {
+            return self.graft(alloc, path, &item);
+        }
+        match item {
+            Item::Folder(below) => {
+                self.node = Some(below);
+                Ok(())
+            }
+            Item::File(_, _) => unreachable!(),
+        }
+    }
+
+    /// Removes what stands at or below a path. Where nothing stands nothing changes, and no name is forgotten.
+    pub(crate) fn remove(&mut self, alloc: A, path: &TreePath<A>) -> Result<(), AllocError>
+        ensures files { OnOk result (self.new.files ≡ removed self.old.files path.now) }
+        ensures root { path.now ≡ [] → IsOk result }
+        ensures missing { standing_at self.old.files path.now ≡ None → self.new ≡ self.old }
+        ensures unchanged { OnErr result (self.new ≡ self.old) }
+        ensures home { KeepsHome self.old self.new }
+    {
+        if self.entry(path).is_none() {
+            return Ok(());
+        }
         if path.len() == 0 {
             self.node = None;
-            return true;
+            return Ok(());
         }
         let Some(node) = &mut self.node else {
-            return false;
+            return Ok(());
         };
-        if !node.take(path, 0) {
-            return false;
-        }
+        node.remove(alloc, path, 0)?;
         if node.is_empty() {
             self.node = None;
         }
-        true
+        Ok(())
     }
 
     /// Appends the files, each by its path.

@@ -56,6 +56,24 @@ pub(crate) fn place_at<A: Allocator + Copy>(entries: &[Entry<A>], component: &[u
     }
 }
 
+/// The place of what stands at a component, which is looked for first as a directory or as a file.
+pub(crate) fn place_by<A: Allocator + Copy>(
+    entries: &[Entry<A>],
+    component: &[u8],
+    is_folder: bool,
+) -> Option<usize>
+    requires { IsLevel (shown_entries entries.now) }
+    ensures found { IfSome result (λ place. IsEntryAt component.now entries.now place) }
+    ensures missing { IsNone result → kept_at component.now (shown_entries entries.now) ≡ None }
+{
+    if is_folder {
+        if let Some(place) = place_marked(entries, component, b"/") {
+            return Some(place);
+        }
+    }
+    place_at(entries, component)
+}
+
 /// How many entries don't come after a component with what follows it in the order.
 pub(crate) fn place_of<A: Allocator + Copy>(
     entries: &[Entry<A>],

@@ -1,62 +1,86 @@
-use Rattle.std.proofs.Common.{◌≡◌, ◌≢◌, [], ◌+◌, drop, Some, sym, ap, ◌∙◌, arith, subst}
+use Rattle.std.proofs.Common.{◌≡◌, ◌≢◌, [], None, Ok, Some, drop, get_or, not, refl, sym, ap, ◌∙◌, arith, false, subst}
 use Rattle.std.proofs.lemmas.Bool.{and_parts, true≢false}
-use Rattle.std.proofs.lemmas.Result.{IfOk-weaker}
-use Rattle.gx_model.specs.Histories.Edits.{removed}
-use Rattle.gx_tree.specs.Homes.{AreAtHome, Borrowed, IfThere, IsItemAtHome}
-use Rattle.gx_tree.specs.Named.{IsAtHome}
-use Rattle.gx_tree.specs.Nodes.{folder}
+use Rattle.gx_tree.specs.Homes.{AreAtHome, IsItemAtHome}
+use Rattle.gx_tree.specs.Nodes.{IsLevel, files, kept_at}
+use Rattle.gx_tree.specs.Rooms.{Changes}
 use Rattle.gx_tree.specs.Steps.{kept_removed}
-use Rattle.gx_tree.specs.Views.{shown_item, shown_item_if, shown_lent, shown_entries}
+use Rattle.gx_tree.specs.Views.{shown_entries, shown_item}
 use Rattle.gx_tree.proofs.Below.{no_root_before}
-use Rattle.gx_tree.proofs.EditSteps.{removed_step, kept_removed_file, kept_removed_folder, kept_removed_none}
-use Rattle.gx_tree.proofs.Homes.{items_are_those, entries_at_home, files_same, made_at_home}
+use Rattle.gx_tree.proofs.Changed.{changed_at, gone_at, gone_reach, left_at, none_gone}
+use Rattle.gx_tree.proofs.EditSteps.{kept_removed_file, kept_removed_folder}
+use Rattle.gx_tree.proofs.Homes.{all_at, entries_at_home, items_are_those, made_at_home}
+use Rattle.gx_tree.proofs.InPlace.{all_set}
 use Rattle.gx_tree.proofs.+remove.Goals as goal
 
-pub directory::Directory::removed-returns : goal.directory::Directory::removed-returns
-directory::Directory::removed-returns g t c =
-    let es = c.self.inside.entries.value.items in
-    let leaves = removed_step c.args.path.now c.args.depth (shown_entries es) (shown_entries c.in_ok-entries.entries.items) (shown_lent c.find-old.result) (shown_item_if c.in_ok-left.left) c.requires (and_parts _ _ c.component-component.ensures.path).0 (files_same c.self.view_is) c.self.invariant.0 c.component-component.ensures.component (ap shown_entries (items_are_those c.as_slice.ensures.value c.deref.ensures)) (ap shown_entries (items_are_those c.as_slice-2.ensures.value c.deref-2.ensures)) c.find-old.ensures.kept c.in_ok-left.ensures.kept c.in_ok-entries.ensures.entries in
-    record {
-      files = IfOk-weaker c.of.result _ _ (λ d e. files_same e ∙ leaves.is) c.of.ensures;
-      home = IfOk-weaker c.of.result _ _ (λ d e name rs h.
-          let all : AreAtHome name rs es = entries_at_home name rs c.self.inside.remembered es c.args.self.now c.self.view_is c.self.invariant.0 h in
-          let old = c.find-old.ensures.home name rs (subst (AreAtHome name rs) (sym (items_are_those c.as_slice.ensures.value c.deref.ensures)) all) in
-          let left = c.in_ok-left.ensures.home name rs old in
-          subst (IsAtHome name rs) (sym e) (made_at_home name rs c.in_ok-entries.entries.items leaves.level (c.in_ok-entries.ensures.home name rs (left, subst (AreAtHome name rs) (sym (items_are_those c.as_slice-2.ensures.value c.deref-2.ensures)) all)))) c.of.ensures;
-    }
+pub directory::Directory::remove-returns-clause-home : goal.directory::Directory::remove-returns-clause-home
+directory::Directory::remove-returns-clause-home g t c = λ name rs h.
+    made_at_home name rs c.remove_in.new.entries.value.items c.in_ok-reach.ensures.level (c.remove_in.ensures.home name rs (entries_at_home name rs c.self.inside.remembered c.self.inside.entries.value.items c.args.self.now c.self.view_is c.self.invariant.0 h))
 
-pub directory::Directory::removed-of-requires-clause-level : goal.directory::Directory::removed-of-requires-clause-level
-directory::Directory::removed-of-requires-clause-level g t c =
-    (removed_step c.args.path.now c.args.depth (shown_entries c.self.inside.entries.value.items) (shown_entries c.in_ok-entries.entries.items) (shown_lent c.find-old.result) (shown_item_if c.in_ok-left.left) c.requires (and_parts _ _ c.component-component.ensures.path).0 (files_same c.self.view_is) c.self.invariant.0 c.component-component.ensures.component (ap shown_entries (items_are_those c.as_slice.ensures.value c.deref.ensures)) (ap shown_entries (items_are_those c.as_slice-2.ensures.value c.deref-2.ensures)) c.find-old.ensures.kept c.in_ok-left.ensures.kept c.in_ok-entries.ensures.entries).level
+pub directory::Item::remove-returns-in-File-clause-left : goal.directory::Item::remove-returns-in-File-clause-left
+directory::Item::remove-returns-in-File-clause-left g t c = λ is.
+    let q = drop c.args.depth c.args.path.now in
+    let n = no_root_before c.args.path.now c.args.depth (omega (arith, c.requires, c.if-depth-len.false, c.len.ensures.length)) in
+    subst (λ i. Some (shown_item i) ≡ kept_removed q (Some (shown_item i))) (sym c.in-File.is) (kept_removed_file q (c.in-File.field-0, c.in-File.field-1.bytes) n)
 
-pub edits::item_removed-returns-in-File-clause-kept : goal.edits::item_removed-returns-in-File-clause-kept
-edits::item_removed-returns-in-File-clause-kept g t c =
-    let q = drop (c.args.depth + 1) c.args.path.now in
-    let n = no_root_before c.args.path.now (c.args.depth + 1) (omega (arith, c.requires)) in
-    kept_removed_file q (c.in-File.mode, c.in-File.name.bytes) n ∙ ap (kept_removed q) (ap (λ i. Some (shown_item i)) (sym c.in-File.is) ∙ ap shown_lent (sym c.in-Some.is))
+pub directory::Item::remove-returns-in_ok-remove-in-Folder-clause-left : goal.directory::Item::remove-returns-in_ok-remove-in-Folder-clause-left
+directory::Item::remove-returns-in_ok-remove-in-Folder-clause-left g t c = λ is.
+    let q = drop c.args.depth c.args.path.now in
+    let n = no_root_before c.args.path.now c.args.depth (omega (arith, c.requires, c.if-depth-len.false, c.len.ensures.length)) in
+    let e : not c.is_empty.result ≡ not false = cc in
+    let some : c.remove.new.self.files ≢ [] = λ z. true≢false (sym e ∙ ap not (c.is_empty.ensures.1 z)) in
+    kept_removed_folder q c.in-Folder.below.files c.remove.new.self.files n c.in_ok-remove-in-Folder.ensures.files some ∙ ap (λ i. kept_removed q (Some (shown_item i))) (sym c.in-Folder.is)
 
-pub edits::item_removed-returns-else-is_empty : goal.edits::item_removed-returns-else-is_empty
-edits::item_removed-returns-else-is_empty g t c =
-    let q = drop (c.args.depth + 1) c.args.path.now in
-    let n = no_root_before c.args.path.now (c.args.depth + 1) (omega (arith, c.requires)) in
-    let b = c.in-Folder.below in
-    let r = c.in_ok-below-in-Folder.below in
-    let is : r.files ≡ removed b.files q = c.in_ok-below-in-Folder.ensures.files in
-    let some : r.files ≢ [] = λ z. true≢false (sym (c.is_empty.ensures.1 z) ∙ c.if-is_empty.false) in
-    let step : Some (folder r.files) ≡ kept_removed q (Some (folder b.files)) = kept_removed_folder q b.files r.files n is some in
-    record {
-      kept = step ∙ ap (kept_removed q) (ap (λ i. Some (shown_item i)) (sym c.in-Folder.is) ∙ ap shown_lent (sym c.in-Some.is));
-      home = λ name rs h.
-          let old = subst (IsItemAtHome name rs) c.in-Folder.is (subst (IfThere (Borrowed IsItemAtHome) name rs) c.in-Some.is h) in
-          c.in_ok-below-in-Folder.ensures.home name rs old;
-    }
+pub directory::Item::remove-returns-in_ok-remove-in-Folder-clause-home : goal.directory::Item::remove-returns-in_ok-remove-in-Folder-clause-home
+directory::Item::remove-returns-in_ok-remove-in-Folder-clause-home g t c = λ name rs h. c.remove.ensures.home name rs (subst (IsItemAtHome name rs) c.in-Folder.is h)
 
-pub edits::item_removed-returns-then-is_empty-clause-kept : goal.edits::item_removed-returns-then-is_empty-clause-kept
-edits::item_removed-returns-then-is_empty-clause-kept g t c =
-    let q = drop (c.args.depth + 1) c.args.path.now in
-    let n = no_root_before c.args.path.now (c.args.depth + 1) (omega (arith, c.requires)) in
-    let is : c.in_ok-below-in-Folder.below.files ≡ removed c.in-Folder.below.files q = c.in_ok-below-in-Folder.ensures.files in
-    kept_removed_none q c.in-Folder.below.files c.in_ok-below-in-Folder.below.files n is (c.is_empty.ensures.0 c.if-is_empty.true) ∙ ap (kept_removed q) (ap (λ i. Some (shown_item i)) (sym c.in-Folder.is) ∙ ap shown_lent (sym c.in-Some.is))
+pub removing::remove_among-returns-in-None-clause-files : goal.removing::remove_among-returns-in-None-clause-files
+removing::remove_among-returns-in-None-clause-files g t c =
+    (none_gone c.component.result.now c.args.path.now c.args.depth c.args.entries.now.items c.requires.within (and_parts _ _ c.component.ensures.path).0 c.requires.level c.component.ensures.component (subst (λ z. kept_at c.component.result.now (shown_entries z) ≡ None) c.deref.ensures.value (c.in-None.ensures.missing refl))).is
 
-pub edits::item_removed-removed-requires : goal.edits::item_removed-removed-requires
-edits::item_removed-removed-requires g t c κs within = (omega (arith, c.requires, c.decreases), (within, omega (arith, c.requires, c.if-depth-length.false, c.len-length.ensures.length)))
+pub removing::remove_at-reach_after-requires-clause-level : goal.removing::remove_at-reach_after-requires-clause-level
+removing::remove_at-reach_after-requires-clause-level g t c =
+    let r = c.index_mut.result.now in
+    subst (λ z. IsLevel (shown_entries z)) (sym c.deref.ensures.value) (left_at (get_or c.args.path.now c.args.depth []) c.args.path.now c.args.depth c.args.place c.args.entries.now.items r _ c.requires.within (and_parts _ _ c.len.ensures.path).0 c.requires.level refl c.requires.place c.index_mut.ensures.value refl (c.in_ok-remove.ensures.mark (ap Ok c.if-branch.true)) (c.in_ok-remove.ensures.left (ap Ok c.if-branch.true))).level
+
+pub removing::remove_at-reach_after-requires-clause-changes : goal.removing::remove_at-reach_after-requires-clause-changes
+removing::remove_at-reach_after-requires-clause-changes g t c =
+    let r = c.index_mut.result.now in
+    let level = (left_at (get_or c.args.path.now c.args.depth []) c.args.path.now c.args.depth c.args.place c.args.entries.now.items r _ c.requires.within (and_parts _ _ c.len.ensures.path).0 c.requires.level refl c.requires.place c.index_mut.ensures.value refl (c.in_ok-remove.ensures.mark (ap Ok c.if-branch.true)) (c.in_ok-remove.ensures.left (ap Ok c.if-branch.true))).level in
+    subst (λ z. Changes c.args.reach c.reach-before.result c.reach-after.result (files (shown_entries z))) (sym c.deref.ensures.value) (changed_at (get_or c.args.path.now c.args.depth []) c.args.entries.now.items c.args.place r c.index.result.now _ c.index-then-branch.result.now c.args.reach c.requires.level level c.requires.place c.index_mut.ensures.value c.index.ensures refl (c.in_ok-remove.ensures.mark (ap Ok c.if-branch.true)) c.requires.reach c.reach-before.ensures c.index-then-branch.ensures c.reach-after.ensures)
+
+pub removing::remove_at-returns-then-branch-clause-level : goal.removing::remove_at-returns-then-branch-clause-level
+removing::remove_at-returns-then-branch-clause-level g t c =
+    (left_at (get_or c.args.path.now c.args.depth []) c.args.path.now c.args.depth c.args.place c.args.entries.now.items c.index_mut.result.now _ c.requires.within (and_parts _ _ c.len.ensures.path).0 c.requires.level refl c.requires.place c.index_mut.ensures.value refl (c.in_ok-remove.ensures.mark (ap Ok c.if-branch.true)) (c.in_ok-remove.ensures.left (ap Ok c.if-branch.true))).level
+
+pub removing::remove_at-returns-then-branch-clause-files : goal.removing::remove_at-returns-then-branch-clause-files
+removing::remove_at-returns-then-branch-clause-files g t c =
+    (left_at (get_or c.args.path.now c.args.depth []) c.args.path.now c.args.depth c.args.place c.args.entries.now.items c.index_mut.result.now _ c.requires.within (and_parts _ _ c.len.ensures.path).0 c.requires.level refl c.requires.place c.index_mut.ensures.value refl (c.in_ok-remove.ensures.mark (ap Ok c.if-branch.true)) (c.in_ok-remove.ensures.left (ap Ok c.if-branch.true))).is
+
+pub removing::remove_at-returns-then-branch-clause-home : goal.removing::remove_at-returns-then-branch-clause-home
+removing::remove_at-returns-then-branch-clause-home g t c = λ name rs h.
+    let es = c.args.entries.now.items in
+    let r = c.index_mut.result.now in
+    all_set (λ e. IsItemAtHome name rs e.item) es c.args.place _ h (c.remove.ensures.home name rs (all_at (λ e. IsItemAtHome name rs e.item) es c.args.place r c.requires.place.0 c.index_mut.ensures.value h))
+
+pub removing::remove_at-reach_after-requires-2-clause-level : goal.removing::remove_at-reach_after-requires-2-clause-level
+removing::remove_at-reach_after-requires-2-clause-level g t c =
+    subst (λ z. IsLevel (shown_entries z)) (sym c.deref-2.ensures.value) (gone_at (get_or c.args.path.now c.args.depth []) c.args.path.now c.args.depth c.args.place c.args.entries.now.items c.remove-2.new.self.items c.index_mut.result.now _ c.requires.within (and_parts _ _ c.len.ensures.path).0 c.requires.level refl c.requires.place c.index_mut.ensures.value (c.in_ok-remove.ensures.gone (ap Ok c.if-branch.false)) c.remove-2.ensures.items).level
+
+pub removing::remove_at-reach_after-requires-2-clause-changes : goal.removing::remove_at-reach_after-requires-2-clause-changes
+removing::remove_at-reach_after-requires-2-clause-changes g t c =
+    subst (λ z. Changes c.args.reach c.reach-before.result 0 (files (shown_entries z))) (sym c.deref-2.ensures.value) (gone_reach (get_or c.args.path.now c.args.depth []) c.args.entries.now.items c.remove-2.new.self.items c.args.place c.index_mut.result.now c.index.result.now _ c.args.reach c.requires.level c.requires.place c.index_mut.ensures.value c.index.ensures c.remove-2.ensures.items c.requires.reach c.reach-before.ensures)
+
+pub removing::remove_at-returns-clause-level : goal.removing::remove_at-returns-clause-level
+removing::remove_at-returns-clause-level g t c =
+    (gone_at (get_or c.args.path.now c.args.depth []) c.args.path.now c.args.depth c.args.place c.args.entries.now.items c.remove-2.new.self.items c.index_mut.result.now _ c.requires.within (and_parts _ _ c.len.ensures.path).0 c.requires.level refl c.requires.place c.index_mut.ensures.value (c.in_ok-remove.ensures.gone (ap Ok c.if-branch.false)) c.remove-2.ensures.items).level
+
+pub removing::remove_at-returns-clause-files : goal.removing::remove_at-returns-clause-files
+removing::remove_at-returns-clause-files g t c =
+    (gone_at (get_or c.args.path.now c.args.depth []) c.args.path.now c.args.depth c.args.place c.args.entries.now.items c.remove-2.new.self.items c.index_mut.result.now _ c.requires.within (and_parts _ _ c.len.ensures.path).0 c.requires.level refl c.requires.place c.index_mut.ensures.value (c.in_ok-remove.ensures.gone (ap Ok c.if-branch.false)) c.remove-2.ensures.items).is
+
+pub removing::remove_in-returns-in-Some-clause-home : goal.removing::remove_in-returns-in-Some-clause-home
+removing::remove_in-returns-in-Some-clause-home g t c = λ name rs h. c.remove_among.ensures.home name rs (subst (λ v. AreAtHome name rs v.items) (sym c.in-Some.ensures.value) h)
+
+pub removing::remove_in-returns-in_ok-entries-in-None-clause-home : goal.removing::remove_in-returns-in_ok-entries-in-None-clause-home
+removing::remove_in-returns-in_ok-entries-in-None-clause-home g t c = λ name rs h.
+    subst (λ v. AreAtHome name rs v.items) (sym c.in_ok-entries-in-None.ensures.ok) (c.remove_among-in-None.ensures.home name rs (c.in_ok-copy-in-None.ensures.home name rs (subst (AreAtHome name rs) (sym (items_are_those c.as_slice.ensures.value c.deref.ensures)) h)))

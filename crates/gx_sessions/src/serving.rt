@@ -1,0 +1,192 @@
+//! The commands of `gx_cli`, with what they tell of their work.
+
+use crate::pass::Pass;
+use gx_cli::{
+    AdaptReport, CliFault, Features, ImportReport, Line, Outcome, adapt_stream, import_into, serve,
+    serve_owned,
+};
+use gx_object::{Namer, Sha1Namer, ShortNamer};
+use gx_text::{Held, Sink, Source};
+use std::alloc::{AllocError, Global};
+use std::hash::RandomState;
+
+/// Commands print fewer bytes.
+const ROOM: usize = 0x1_0000;
+
+/// How a command ended.
+#[derive(Drop)]
+pub(crate) struct Ending {
+    pub(crate) printed: Vec<u8>,
+    pub(crate) told: Option<String>,
+    pub(crate) is_refused: bool,
+    /// The command makes a next text where it is accepted.
+    pub(crate) makes_text: bool,
+    pub(crate) store: Option<Vec<u8>>,
+}
+
+/// Runs a command on a store's text and an input, behind which the source may fail.
+pub(crate) fn serve_line(
+    alloc: Global,
+    line: &Line<'_>,
+    store: Vec<u8>,
+    (input, fails): (&[u8], bool),
+    pass: Pass,
+) -> Result<Ending, AllocError> {
+    let mut sink = Held::new(alloc, ROOM)?;
+    let source = pass.source(input, fails);
+    let (outcome, report) = if pass.has_short_names {
+        ended(alloc, ShortNamer, line, store, source, &mut sink, pass)
+    } else {
+        ended(alloc, Sha1Namer, line, store, source, &mut sink, pass)
+    };
+    let is_refused = outcome.status != 0;
+    Ok(Ending {
+        printed: Vec::from_slice(alloc, sink.bytes())?,
+        told: told_text(alloc, outcome.fault, report)?,
+        is_refused,
+        makes_text: makes_text(line),
+        store: outcome.store,
+    })
+}
+
+/// Whether a command that is accepted makes a next text.
+fn makes_text(line: &Line<'_>) -> bool {
+    matches!(
+        line,
+        Line::Init { file: _ }
+            | Line::Import {
+                file: _,
+                done: _,
+                force: _
+            }
+    )
+}
+
+/// What a command tells of its work.
+#[derive(Drop)]
+enum Report {
+    /// It tells nothing, or this way of running it doesn't say.
+    Unknown,
+    Import(ImportReport),
+    Adapt(AdaptReport),
+}
+
+/// How a command ends. What the devices tell is left open here, so no caller has more to prove than that the call is safe.
+fn ended<N: Namer + Drop, R: Source + Drop, W: Sink>(
+    alloc: Global,
+    namer: N,
+    line: &Line<'_>,
+    store: Vec<u8>,
+    source: R,
+    sink: &mut W,
+    pass: Pass,
+) -> (Outcome<Global>, Report) {
+    if pass.is_given {
+        let outcome = serve_owned(alloc, namer, line, store, source, sink, pass.state);
+        return (outcome, Report::Unknown);
+    }
+    match line {
+        Line::Import {
+            file: _,
+            done,
+            force,
+        } => {
+            let features = Features {
+                done: *done,
+                force: *force,
+            };
+            imported(alloc, namer, &store, source, sink, features, pass.state)
+        }
+        Line::Adapt => adapted(alloc, source, sink),
+        _ => {
+            let outcome = serve(alloc, namer, line, &store, source, sink, pass.state);
+            (outcome, Report::Unknown)
+        }
+    }
+}
+
+fn imported<N: Namer + Drop, R: Source + Drop, W: Sink>(
+    alloc: Global,
+    namer: N,
+    store: &[u8],
+    source: R,
+    sink: &mut W,
+    features: Features,
+    state: RandomState,
+) -> (Outcome<Global>, Report) {
+    let (outcome, report) = import_into(alloc, namer, store, source, sink, features, state);
+    match report {
+        Some(report) => (outcome, Report::Import(report)),
+        None => (outcome, Report::Unknown),
+    }
+}
+
+fn adapted<R: Source + Drop, W: Sink>(
+    alloc: Global,
+    source: R,
+    sink: &mut W,
+) -> (Outcome<Global>, Report) {
+    let (status, fault, report) = match adapt_stream(alloc, source, sink) {
+        Ok(report) => (0, None, Report::Adapt(report)),
+        Err(fault) => (1, Some(fault), Report::Unknown),
+    };
+    let outcome = Outcome {
+        status,
+        fault,
+        store: None,
+    };
+    (outcome, report)
+}
+
+/// What standard error gets; none where it isn't known.
+fn told_text(
+    alloc: Global,
+    fault: Option<CliFault>,
+    report: Report,
+) -> Result<Option<String>, AllocError> {
+    let told = match (fault, report) {
+        (Some(fault), _) => format!(in alloc; "{fault}\n")?,
+        (None, Report::Import(report)) => import_text(alloc, &report)?,
+        (None, Report::Adapt(report)) => adapt_text(alloc, &report)?,
+        (None, Report::Unknown) => return Ok(None),
+    };
+    Ok(Some(told))
+}
+
+/// What a terminal shows of an import.
+fn import_text(alloc: Global, report: &ImportReport) -> Result<String, AllocError> {
+    let (commands, objects, refs) = (report.commands, report.objects, report.refs);
+    format!(in alloc; "gx: commands: {commands}, objects: {objects}, refs: {refs}\n")
+}
+
+/// What is told of an adapted stream: each count that isn't 0, and how the stream ended.
+fn adapt_text(alloc: Global, report: &AdaptReport) -> Result<String, AllocError> {
+    let counts = [
+        ("identities that got a space", report.identities),
+        ("deletions left out", report.deletions),
+        ("paths put in quotes", report.paths),
+        ("lines of marks left out", report.marks),
+        ("notes that an import refuses", report.notes),
+        (
+            "dates before 1970 that an import refuses",
+            report.early_dates,
+        ),
+        (
+            "tags of blobs and tags that an import refuses",
+            report.tags_of_blobs_or_tags,
+        ),
+    ];
+    let mut text = String::new(alloc);
+    for (what, count) in counts {
+        if count > 0 {
+            text.push_str(format!(in alloc; "gx: {what}: {count}\n")?.as_str())?;
+        }
+    }
+    let end = if report.ended_with_done {
+        "with"
+    } else {
+        "without"
+    };
+    text.push_str(format!(in alloc; "gx: adapt: the stream ended {end} done\n")?.as_str())?;
+    Ok(text)
+}

@@ -14,14 +14,13 @@ ghost use Rattle.std.specs.Prelude.{◌<◌};
 use crate::given::text_of;
 use gx_file::write_to;
 use gx_import::{ImportFault, Report, import};
-use gx_object::{Kind, Name, Namer, Sha1Namer, ShortNamer};
+use gx_object::{Kind, Name, Namer, Sha1Namer};
 use gx_repo::Repo;
 use gx_text::{Bytes, Held};
 use std::alloc::Global;
 use std::hash::RandomState;
 use std::test::Fail;
 
-mod accepted;
 mod checkpoints;
 mod counting;
 mod held_names;
@@ -172,22 +171,14 @@ fn follow_all<N: Namer + Copy>(
 }
 
 #[test]
-fn imports_are_answered_and_counted(rt: HostRuntime) -> Result<(), Fail> {
-    let state = RandomState::new(&rt)?;
-    follow_all(rt.alloc(), Sha1Namer, accepted::ROWS, 2, state)?;
-    follow_all(rt.alloc(), Sha1Namer, accepted::SESSIONS, 2, state)
-}
-
-#[test]
-fn checkpoints_publish_and_are_kept(rt: HostRuntime) -> Result<(), Fail> {
+fn checkpoints_are_counted_and_kept(rt: HostRuntime) -> Result<(), Fail> {
     let state = RandomState::new(&rt)?;
     follow_all(rt.alloc(), Sha1Namer, checkpoints::SESSIONS, 2, state)
 }
 
 #[test]
-fn refused_imports_leave_the_store(rt: HostRuntime) -> Result<(), Fail> {
+fn refused_change_leaves_nothing_of_its_stream(rt: HostRuntime) -> Result<(), Fail> {
     let state = RandomState::new(&rt)?;
-    follow_all(rt.alloc(), Sha1Namer, refused::STREAMS, 2, state)?;
     follow_all(rt.alloc(), Sha1Namer, refused::CHANGES, 2, state)
 }
 
@@ -216,8 +207,7 @@ impl Namer for ConstantNamer {
 }
 
 #[test]
-fn other_object_of_a_held_name_is_refused(rt: HostRuntime) -> Result<(), Fail> {
+fn second_object_of_the_only_name_is_refused(rt: HostRuntime) -> Result<(), Fail> {
     let state = RandomState::new(&rt)?;
-    follow_all(rt.alloc(), ShortNamer, held_names::SHORT, 2, state)?;
     follow_all(rt.alloc(), ConstantNamer, held_names::CONSTANT, 2, state)
 }

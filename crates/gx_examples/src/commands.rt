@@ -3,11 +3,10 @@
 use crate::exported::prints_alike;
 use crate::growths::refused_growths;
 use crate::limits::{Stop, stops_everywhere};
-use crate::sessions::runs;
 use crate::steps::{Step, words_of};
 use crate::texts::text;
 use gx_cli::{CliFault, Line, Outcome, read_line, serve, serve_owned};
-use gx_object::{Sha1Namer, ShortNamer};
+use gx_object::Sha1Namer;
 use gx_text::{Bytes, Held, Sink, Source};
 use std::alloc::{AllocError, Allocator, Global};
 use std::hash::RandomState;
@@ -15,8 +14,6 @@ use std::hash::RandomState;
 /// What a command is tried for.
 #[derive(Clone, Copy)]
 pub(crate) enum Task<'a> {
-    /// It does what the step says, on a store's text that it is given, or that is lent to it.
-    Run { is_given: bool },
     /// It stops where its sink is full, or its source fails.
     Stop(Stop),
     /// At least as many growths as the step's line says are refused before it succeeds.
@@ -34,7 +31,7 @@ const NO_REVISION: &str = "rev-parse store";
 pub(crate) fn tried(
     alloc: Global,
     step: &Step<'_>,
-    store: &mut Vec<u8>,
+    store: &[u8],
     task: Task<'_>,
     state: RandomState,
 ) -> bool {
@@ -59,22 +56,19 @@ fn line_tried(
     alloc: Global,
     line: &Line<'_>,
     step: &Step<'_>,
-    store: &mut Vec<u8>,
+    store: &[u8],
     task: Task<'_>,
     state: RandomState,
 ) -> bool {
     match task {
-        Task::Run { is_given } => runs(alloc, line, step, store, is_given, state),
         Task::Stop(stop) => stops_everywhere(alloc, line, step, store, stop, state),
         Task::Growths => match step.line.parse::<u64>() {
-            Ok(fewest) => {
-                refused_growths(alloc, line, step, (store.as_slice(), false), state) >= fewest
-            }
+            Ok(fewest) => { refused_growths(alloc, line, step, (store, false), state) >= fewest }
             Err(_) => false,
         },
         Task::Copies(count) => {
-            let lent = refused_growths(alloc, line, step, (store.as_slice(), false), state);
-            let given = refused_growths(alloc, line, step, (store.as_slice(), true), state);
+            let lent = refused_growths(alloc, line, step, (store, false), state);
+            let given = refused_growths(alloc, line, step, (store, true), state);
             given > 0 && lent.checked_sub(given) == Some(count)
         }
         Task::Same(other) => prints_alike(alloc, line, store, other, state),
@@ -109,18 +103,6 @@ pub(crate) fn ran_on<A: Allocator + Copy, R: Source + Drop, W: Sink>(
     } else {
         ran(alloc, line, &store, source, sink, state)
     }
-}
-
-/// What a command does under short names with a text that is given to it.
-pub(crate) fn ran_shortly<R: Source + Drop, W: Sink>(
-    alloc: Global,
-    line: &Line<'_>,
-    store: Vec<u8>,
-    source: R,
-    sink: &mut W,
-    state: RandomState,
-) -> Outcome<Global> {
-    serve_owned(alloc, ShortNamer, line, store, source, sink, state)
 }
 
 /// Whether a fault prints this line, and none prints an empty one.

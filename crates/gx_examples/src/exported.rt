@@ -31,8 +31,8 @@ fn imported_export_has_the_same_refs_commits_and_export(rt: HostRuntime) -> Resu
 /// Whether commands print the same of the store of a stream, and of the store that its export makes.
 fn comes_again(alloc: Global, stream: &[u8], script: &str, state: RandomState) -> bool {
     match stored(alloc, stream, state) {
-        Some(mut store) => match exported(alloc, &store, state) {
-            Some(again) => print_alike(alloc, &mut store, &again, script, state),
+        Some(store) => match exported(alloc, &store, state) {
+            Some(again) => print_alike(alloc, &store, &again, script, state),
             None => false,
         },
         None => false,
@@ -65,7 +65,7 @@ fn exported(alloc: Global, store: &[u8], state: RandomState) -> Option<Vec<u8>> 
 /// Whether commands print the same of two stores.
 fn print_alike(
     alloc: Global,
-    store: &mut Vec<u8>,
+    store: &[u8],
     other: &[u8],
     script: &str,
     state: RandomState,

@@ -1,5 +1,5 @@
-//! The commands of `gx` on worked examples: streams, store texts and words, with what comes out. There are tests alone here.
-//! Most are scripts (`steps`), which one runner walks.
+//! The commands of `gx` where memory or a device ends, and what no command prints. There are tests alone here. What commands print
+//! is shown by the sessions of `gx_sessions`.
 #![tactic(auto)]
 
 #[cfg(test)]
@@ -21,14 +21,8 @@ mod lines;
 #[cfg(test)]
 mod round_trips;
 #[cfg(test)]
-mod sessions;
-#[cfg(test)]
 mod steps;
-#[cfg(test)]
-mod stored;
 #[cfg(test)]
 mod storing;
 #[cfg(test)]
 mod texts;
-#[cfg(test)]
-mod trying;

@@ -17,6 +17,7 @@ $ rev-parse store main main %%
 02d6adf1689e06135d2b4b4d471f1ae489887b53
 02d6adf1689e06135d2b4b4d471f1ae489887b53
 % 6 % root
+$ rev-parse store %%% 1 % root
 $ refs store %% ref of first % 4 % root
 $ refs store %% refs of version % 8 % version
 $ import store % tagged %% 21 % root
@@ -54,7 +55,7 @@ fn try_all(alloc: Global, script: &str, task: Task<'_>, state: RandomState) -> R
     for part in script.split('$').skip(1) {
         let step = step_of(part);
         let is_right = match stored(alloc, step.stream, state) {
-            Some(mut store) => tried(alloc, &step, &mut store, task, state),
+            Some(store) => tried(alloc, &step, &store, task, state),
             None => false,
         };
         if !is_right {

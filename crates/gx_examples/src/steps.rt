@@ -11,12 +11,6 @@ use std::alloc::{AllocError, Global};
 #[derive(Clone, Copy)]
 pub(crate) struct Step<'a> {
     pub(crate) words: &'a str,
-    /// The source fails behind the input. The words have a `!` before them.
-    pub(crate) fails: bool,
-    /// There is a next store text, even where the step is refused. The words have a `+` before them.
-    pub(crate) keeps: bool,
-    /// Objects have the names that `ShortNamer` gives them, which many have in common. The words have a `~` before them.
-    pub(crate) has_short_names: bool,
     pub(crate) input: &'a [u8],
     pub(crate) printed: &'a [u8],
     pub(crate) line: &'a str,
@@ -30,14 +24,7 @@ pub(crate) fn step_of(part: &str) -> Step<'_> {
     let (printed, rest) = halves(rest, '%');
     let (line, stream) = halves(rest, '%');
     Step {
-        words: words
-            .trim_start_matches('!')
-            .trim_start_matches('+')
-            .trim_start_matches('~')
-            .trim(),
-        fails: words.starts_with('!'),
-        keeps: words.starts_with('+'),
-        has_short_names: words.starts_with('~'),
+        words: words.trim(),
         input: bytes_of(input),
         printed: bytes_of(printed),
         line: line.trim(),
@@ -57,15 +44,7 @@ pub(crate) fn halves(text: &str, mark: char) -> (&str, &str) {
 fn bytes_of(field: &str) -> &[u8] {
     match field.strip_prefix('\n') {
         Some(bytes) => bytes.as_bytes(),
-        None => named(field.trim()),
-    }
-}
-
-/// The text with this name, or what is left of it without the line `done`, its last.
-fn named(name: &str) -> &'static [u8] {
-    match name.strip_prefix("unfinished ") {
-        Some(name) => text(name).strip_suffix(b"done\n").unwrap_or(b""),
-        None => text(name),
+        None => text(field.trim()),
     }
 }
 

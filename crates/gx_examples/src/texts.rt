@@ -36,69 +36,6 @@ v1
 M 100644 inline test.txt
 data 10
 version 1
-%branched
-commit refs/heads/main
-mark :1
-committer A <a@x> 1 +0000
-data 2
-v1
-M 100644 inline test.txt
-data 10
-version 1
-
-commit refs/heads/b
-committer A <a@x> 2 +0000
-data 3
-foofrom :1
-%twins
-commit refs/heads/x
-committer A <a@x> 1 +0000
-data 2
-v1
-M 100644 inline test.txt
-data 10
-version 1
-
-commit refs/heads/y
-committer A <a@x> 1 +0000
-data 2
-v1
-M 100644 inline test.txt
-data 10
-version 1
-%merged
-commit refs/heads/p
-mark :1
-committer A <a@x> 1 +0000
-data 1
-p
-commit refs/heads/q
-mark :2
-committer A <a@x> 1 +0000
-data 1
-q
-commit refs/heads/y
-committer A <a@x> 2 +0000
-data 1
-y
-merge :1
-merge :2
-%moved
-commit refs/heads/main
-committer A <a@x> 1 +0000
-data 0
-M 160000 d670460b4b4aece5915caf5c68d12f560a9fe3e4 sub
-M 644 inline a
-data 6
-hello
-M 644 inline a/b
-data 10
-version 1
-
-commit refs/heads/main
-committer A <a@x> 2 +0000
-data 0
-R a a/c
 %tagged
 commit refs/heads/main
 mark :1
@@ -135,33 +72,6 @@ what is up, doc?%three names
 d670460b4b4aece5915caf5c68d12f560a9fe3e4
 e69de29bb2d1d6434b8b29ae775ad8c2e48c5391
 bd9dbf5aae1a3862dd1526723246b20206e5fc37
-%ordered
-commit refs/heads/main
-committer A <a@x> 1 +0000
-data 0
-M 100644 inline a/test.txt
-data 10
-version 1
-M 100644 inline a0
-data 6
-hello
-M 100644 inline a.b
-data 6
-hello
-%quoted
-commit refs/heads/main
-committer A <a@x> 1 +0000
-data 0
-M 100644 inline \"a b\\\"\\303\\251\"
-data 6
-hello
-M 755 inline d/e/f
-data 6
-hello
-M 120000 inline l
-data 6
-hello
-M 160000 d670460b4b4aece5915caf5c68d12f560a9fe3e4 sub
 %version
 progress x
 commit refs/heads/main
@@ -267,22 +177,6 @@ M 100644 :1 \"\\\"a\"
 
 reset refs/heads/b
 
-%mixed
-blob
-mark :1
-data 3
-abc
-# note
-
-
-commit refs/heads/main
-committer A <a@x> 1 +0000
-data 0
-M 100644 :1 f
-
-what now
-blob
-data 0
 %two branches
 commit refs/heads/a
 mark :1
@@ -361,21 +255,4 @@ tagger A <a@x> 4 +0000
 data 1
 t
 done
-%export of zeros
-feature done
-reset refs/gx/export
-commit refs/gx/export
-mark :1
-author A <a@x> 1 +0000
-committer A <a@x> 1 +0000
-data 1
-z
-deleteall
-M 160000 0000000000000000000000000000000000000000 sub
-
-reset refs/gx/export
-reset refs/heads/main
-from :1
-
-done
-%";
+";

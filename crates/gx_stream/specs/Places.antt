@@ -70,15 +70,15 @@ pub record IsPast (text : Bytes) (at line : ℕ) : Type 0 where
 
 -- what is known where a line begins
 abbrev pub from_line : ℕ → Scan
-from_line line = record { first = line; line = line; seen = line }
+from_line line = record { first = line; line = line; seen = line; wanted = 0 }
 
 -- where n bytes before the places are gone
 abbrev pub without : ℕ → Scan → Scan
-without n scan = record { first = scan.first - n; line = scan.line - n; seen = scan.seen - n }
+without n scan = record { first = scan.first - n; line = scan.line - n; seen = scan.seen - n; wanted = scan.wanted - n }
 
 -- where the last line begins at another place
 abbrev pub at_line : ℕ → Scan → Scan
-at_line line scan = record { first = scan.first; line = line; seen = line }
+at_line line scan = record { first = scan.first; line = line; seen = line; wanted = scan.wanted }
 
 -- where the first line came whole
 abbrev pub past_first : Scan → ℕ → ℕ → Scan

@@ -1,6 +1,6 @@
 //! What came from a source, and the items in it.
 
-ghost use Rattle.std.specs.Prelude.{◌≡◌, ◌<◌, ◌≤◌, ◌+◌, length, drop, None, IfOk, OnOk};
+ghost use Rattle.std.specs.Prelude.{◌≡◌, ◌<◌, ◌≤◌, ◌+◌, length, drop, None, IfOk, IsTrue, OnOk};
 ghost use Rattle.gx_stream.specs.Input.{IsSound, FitsState, IsLonger, IsFoundWithin, GivesNext, Looks, is_whole, Takes, KeepsInput, KeepsPulled, LeavesFewer, shown_over, pulls_left};
 ghost use Rattle.gx_stream.specs.declared.input.State.TheVariants.{Open};
 
@@ -52,11 +52,26 @@ impl<R: Source, A: Allocator + Copy> Input<R, A> {
                 self.scan = Scan::from_line(self.at);
                 return found;
             }
-            if self.pull().is_err() {
+            if self.pull_wanted().is_err() {
                 self.state = State::Over(Some(StreamFault::OutOfMemory));
                 return Found::End(Some(StreamFault::OutOfMemory));
             }
         }
+    }
+
+    /// Pulls one piece, and more of them while a block is known to have more bytes than came.
+    fn pull_wanted(&mut self) -> Result<(), AllocError>
+        requires sound { IsSound self.old }
+        requires open { self.old.state ≡ Open }
+        ensures sound { IsSound self.new }
+        ensures keeps { OnOk result (KeepsInput R.coming self.old self.new) }
+        ensures fewer { OnOk result (LeavesFewer self.old self.new) }
+    {
+        self.pull()?;
+        while is_open(self.state) && self.text.len() <= self.scan.wanted {
+            self.pull()?;
+        }
+        Ok(())
     }
 
     /// Pulls one piece, behind what isn't read yet.
@@ -96,6 +111,13 @@ fn look(text: &[u8], at: &mut usize, scan: &mut Scan, state: State) -> Found
         }
         State::Over(last) => Found::End(last),
     }
+}
+
+/// Whether more of the text may come.
+fn is_open(state: State) -> bool
+    ensures { IsTrue result → state ≡ Open }
+{
+    matches!(state, State::Open)
 }
 
 /// Whether nothing that may still come plays a part in it.

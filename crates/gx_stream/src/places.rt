@@ -28,12 +28,14 @@ pub(crate) enum Found {
 
 /// What the looks at an item that isn't whole yet have shown, so that none of it is looked through again: its first line
 /// has no LF before `first`, and the last line begins at `line` and has none before `seen`. Where that isn't the item's
-/// first, those before it don't end the block.
+/// first, those before it don't end the block. The block that a count announces ends at `wanted`, which is 0 before that
+/// was seen: up to there another look is of no use. No answer hangs on it.
 #[derive(Clone, Copy, Drop)]
 pub(crate) struct Scan {
     pub(crate) first: usize,
     pub(crate) line: usize,
     pub(crate) seen: usize,
+    pub(crate) wanted: usize,
 }
 
 impl Scan {
@@ -45,6 +47,7 @@ impl Scan {
             first: line,
             line,
             seen: line,
+            wanted: 0,
         }
     }
 
@@ -57,6 +60,7 @@ impl Scan {
             first: self.first - count,
             line: self.line - count,
             seen: self.seen - count,
+            wanted: self.wanted.saturating_sub(count),
         }
     }
 
@@ -68,6 +72,7 @@ impl Scan {
             first: self.first,
             line,
             seen: line,
+            wanted: self.wanted,
         }
     }
 
@@ -99,6 +104,7 @@ pub(crate) fn find_item(text: &[u8], at: &mut usize, scan: &mut Scan, fails: boo
                 first: text.len(),
                 line: *at,
                 seen: text.len(),
+                wanted: 0,
             };
             return Found::End(end_of(fails));
         };
@@ -143,17 +149,19 @@ fn find_block(text: &[u8], size: &[u8], start: usize, scan: &mut Scan, fails: bo
     }
     match decimal(size) {
         None => Found::End(Some(StreamFault::BadNumber)),
-        Some(count) => find_counted(text, count, start, fails),
+        Some(count) => find_counted(text, count, start, scan, fails),
     }
 }
 
 /// The block of so many bytes that begins at a place.
 #[tactic(auto, unfolding(gx_model::specs::Streams::Items::counted_block))]
-fn find_counted(text: &[u8], count: u64, start: usize, fails: bool) -> Found
+fn find_counted(text: &[u8], count: u64, start: usize, scan: &mut Scan, fails: bool) -> Found
     requires { start ≤ length text.now }
-    ensures { Begins text.now (counted_block count (drop start text.now) fails) result }
+    ensures begins { Begins text.now (counted_block count (drop start text.now) fails) result }
+    ensures scan { scan.new ≡ record scan.old { wanted = scan.new.wanted } }
 {
     if is_short(text.len() - start, count, fails) {
+        scan.wanted = start.saturating_add(count as usize);
         return Found::End(Some(cut_off(fails)));
     }
     let end = start + count as usize;

@@ -3,6 +3,6 @@ use Rattle.std.proofs.lemmas.Grind.{common_steps}
 use Rattle.gx_model.specs.Streams.Items.{counted_block}
 use Rattle.gx_stream.proofs.places.find_counted.Goals as goal
 
-pub returns : goal.returns
+pub returns-clause-begins : goal.returns-clause-begins
 unfolding counted_block
-returns c = grind (arith, common_steps)
+returns-clause-begins c = grind (arith, common_steps)

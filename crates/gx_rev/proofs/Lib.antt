@@ -12,3 +12,4 @@ pub mod Bodies
 pub mod Prefixes
 pub mod RefTips
 pub mod Tips
+pub mod ParentPlaces

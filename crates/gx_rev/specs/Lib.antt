@@ -4,6 +4,7 @@ pub mod Bases
 pub mod Ranges
 pub mod Reached
 pub mod Objects
+pub mod Parents
 pub mod Places
 pub mod Answers
 pub mod Tips

@@ -5,6 +5,7 @@
 mod base;
 mod fault;
 mod objects;
+mod parents;
 mod places;
 mod range;
 mod reached;
@@ -16,6 +17,7 @@ mod walking;
 
 pub use fault::{RevFault, WalkFault};
 pub use objects::{body_at, body_of, entries_of, tag_of, view_of};
+pub use parents::Parents;
 pub use range::Range;
 pub use reached::{name_at, place_of, reaches};
 pub use refs::reached_from_refs;

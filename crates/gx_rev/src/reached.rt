@@ -1,15 +1,17 @@
 //! What commits reach: themselves and their ancestors. The commits that a walk starts from are marked by their places, as
 //! tips, and one pass from the newest record on spreads the marks: a commit's parents stand before it.
 
-ghost use Rattle.std.specs.Prelude.{◌≡◌, ◌<◌, IfOk, Some, length};
+ghost use Rattle.std.specs.Prelude.{◌≡◌, ◌<◌, IfOk, OnOk, Some, length};
 ghost use Rattle.std.specs.List.{slice_get};
 ghost use Rattle.gx_model.specs.declared.objects.Kind.TheVariants as kinds;
 ghost use Rattle.gx_model.specs.Revisions.Ranges.{nothing, reaches};
 ghost use Rattle.gx_model.specs.Laws.RepositoryLaws.{values_of};
 ghost use Rattle.gx_model.specs.Records.Sound.{Holds};
 ghost use Rattle.gx_rev.specs.Objects.{IsHeld, IsHeldAs, commit_at, value_at};
+ghost use Rattle.gx_rev.specs.Parents.{AreCommitPlaces, HoldsParents, MarksPlaces};
 ghost use Rattle.gx_rev.specs.Tips.{AddsParentsOf, AddsTips, AreTips, HasTips, MarksOne, MarksParentsOf, Spreads, TellsReach, marks_from};
 
+use crate::Parents;
 use crate::objects::view_of;
 use gx_object::{Name, Namer};
 use gx_repo::Repo;
@@ -49,6 +51,40 @@ pub(crate) fn reached<N: Namer, A: Allocator + Copy>(
     Ok(marks)
 }
 
+/// The same, where each commit is decoded once for all walks with the same `parents`.
+pub(crate) fn reached_by<N: Namer, A: Allocator + Copy>(
+    alloc: A,
+    repo: &Repo<N, A>,
+    parents: &mut Parents<A>,
+    from: &Name,
+) -> Result<Vec<bool, A>, AllocError>
+    requires held { IsHeldAs kinds.Commit repo.now.1 from.now }
+    requires holds { HoldsParents repo.now.1 parents.old }
+    ensures holds { HoldsParents repo.now.1 parents.new }
+    ensures marks { IfOk result (λ marks. marks.items ≡ marks_from repo.now.1 from.now) }
+{
+    let mut marks = unmarked(alloc, repo)?;
+    mark_reached_by(repo, parents, &mut marks, from)?;
+    Ok(marks)
+}
+
+fn mark_reached_by<N: Namer, A: Allocator + Copy>(
+    repo: &Repo<N, A>,
+    parents: &mut Parents<A>,
+    marks: &mut [bool],
+    from: &Name,
+) -> Result<(), AllocError>
+    requires held { IsHeldAs kinds.Commit repo.now.1 from.now }
+    requires none { AreTips repo.now.1 nothing marks.old }
+    requires holds { HoldsParents repo.now.1 parents.old }
+    ensures holds { HoldsParents repo.now.1 parents.new }
+    ensures marks { OnOk result (marks.new ≡ marks_from repo.now.1 from.now) }
+{
+    mark(repo, marks, from);
+    spread_by(repo, parents, marks)?;
+    Ok(())
+}
+
 /// No marks.
 pub(crate) fn unmarked<N: Namer, A: Allocator + Copy>(
     alloc: A,
@@ -84,6 +120,43 @@ pub(crate) fn spread<N: Namer, A: Allocator + Copy>(repo: &Repo<N, A>, marks: &m
         if marks[left] {
             mark_parents(repo, marks, &name_at(repo, left));
         }
+    }
+}
+
+/// Does what `spread` does, where each commit is decoded once for all walks with the same `parents`.
+///
+/// Cost: the number of records, and what `Parents::learn` costs for each commit that is reached.
+pub(crate) fn spread_by<N: Namer, A: Allocator + Copy>(
+    repo: &Repo<N, A>,
+    parents: &mut Parents<A>,
+    marks: &mut [bool],
+) -> Result<(), AllocError>
+    requires tips { HasTips repo.now.1 marks.old }
+    requires holds { HoldsParents repo.now.1 parents.old }
+    ensures holds { HoldsParents repo.now.1 parents.new }
+    ensures spread { OnOk result (Spreads repo.now.1 marks.old marks.new) }
+{
+    repo.sound();
+    let mut left = marks.len();
+    while left > 0 {
+        left -= 1;
+        if marks[left] {
+            parents.learn(repo, left)?;
+            mark_at(repo, marks, parents.of(repo, left));
+        }
+    }
+    Ok(())
+}
+
+/// Marks the commits at these places.
+fn mark_at<N: Namer, A: Allocator + Copy>(repo: &Repo<N, A>, marks: &mut [bool], places: &[usize])
+    requires long { length marks.old ≡ length (values_of repo.now.1) }
+    requires commits { AreCommitPlaces repo.now.1 places.now }
+    ensures { MarksPlaces repo.now.1 places.now marks.old marks.new }
+{
+    repo.sound();
+    for place in places {
+        marks[*place] = true;
     }
 }
 

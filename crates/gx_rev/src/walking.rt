@@ -8,15 +8,16 @@ ghost use Rattle.gx_model.specs.Revisions.Ranges.{nothing};
 ghost use Rattle.gx_model.specs.Laws.RepositoryLaws.{values_of};
 ghost use Rattle.gx_rev.specs.Calls.{AreMarkedAlone, ListsWords, MarksRange};
 ghost use Rattle.gx_rev.specs.Objects.{IsHeldAs};
+ghost use Rattle.gx_rev.specs.Parents.{HoldsParents};
 ghost use Rattle.gx_rev.specs.RevFaults.{NeedsNoMemory};
 ghost use Rattle.gx_rev.specs.Views.{shown_range};
 ghost use Rattle.gx_rev.specs.Tips.{AddsCommon, AreTips, HasTips};
 ghost use Rattle.gx_rev.specs.Walking.{AreListed, HaveBoth, refused_at};
 
 use crate::objects::parent_of;
-use crate::reached::{mark, mark_parents, name_at, reached, spread, unmarked};
+use crate::reached::{mark, mark_parents, name_at, reached_by, spread_by, unmarked};
 use crate::shown::eval_commit;
-use crate::{Range, RevFault, Revision, WalkFault};
+use crate::{Parents, Range, RevFault, Revision, WalkFault};
 use gx_object::{Name, Namer};
 use gx_repo::Repo;
 use std::alloc::{AllocError, Allocator};
@@ -25,8 +26,9 @@ use std::alloc::{AllocError, Allocator};
 ///
 /// The first word that is refused is answered with its number and the fault of its revisions, or NoParent of `r^-n`.
 /// Cost: for each word what its revisions cost. All words share one pass over the records for what they include and one for
-/// what they exclude, and each `a...b` takes two of its own; a pass costs, besides, for each commit that it reaches its body
-/// and its parents, a look-up each. Takes a byte for each record and each of up to four sets.
+/// what they exclude, and each `a...b` takes two of its own. Each commit that is reached is decoded once, and its parents are
+/// looked up then. Takes a byte for each record and each of up to four sets, two numbers for each record, and one for each
+/// parent.
 /// Source: gitrevisions(7), "Specifying Ranges".
 pub fn walk<N: Namer, A: Allocator + Copy>(
     alloc: A,
@@ -37,7 +39,15 @@ pub fn walk<N: Namer, A: Allocator + Copy>(
 {
     let mut included = unmarked(alloc, repo)?;
     let mut excluded = unmarked(alloc, repo)?;
-    walk_marking(alloc, repo, words, &mut included, &mut excluded)
+    let mut parents = Parents::new(alloc);
+    walk_marking(
+        alloc,
+        repo,
+        &mut parents,
+        words,
+        &mut included,
+        &mut excluded,
+    )
 }
 
 /// Does what `walk` does with two lists of marks, one for what the words include and one for what they exclude, in which
@@ -46,21 +56,23 @@ pub fn walk<N: Namer, A: Allocator + Copy>(
 fn walk_marking<N: Namer, A: Allocator + Copy>(
     alloc: A,
     repo: &Repo<N, A>,
+    parents: &mut Parents<A>,
     words: &[Range<A>],
     included: &mut [bool],
     excluded: &mut [bool],
 ) -> Result<Vec<Name, A>, WalkFault>
+    requires holds { HoldsParents repo.now.1 parents.old }
     requires included { AreTips repo.now.1 nothing included.old }
     requires excluded { AreTips repo.now.1 nothing excluded.old }
     ensures { ListsWords N.name_of repo.now (map shown_range words.now) result }
 {
     for (place, word) in words.iter().enumerate() {
-        match mark_word(alloc, repo, word, included, excluded) {
+        match mark_word(alloc, repo, parents, word, included, excluded) {
             Ok(()) => {}
             Err(kind) => return Err(refused(place + 1, kind)),
         }
     }
-    let names = names_listed(alloc, repo, included, excluded)?;
+    let names = names_listed(alloc, repo, parents, included, excluded)?;
     Ok(names)
 }
 
@@ -78,20 +90,25 @@ fn refused(word: usize, kind: RevFault) -> WalkFault
 fn mark_word<N: Namer, A: Allocator + Copy>(
     alloc: A,
     repo: &Repo<N, A>,
+    parents: &mut Parents<A>,
     word: &Range<A>,
     included: &mut [bool],
     excluded: &mut [bool],
 ) -> Result<(), RevFault>
     requires included { length included.old ≡ length (values_of repo.now.1) }
     requires excluded { length excluded.old ≡ length (values_of repo.now.1) }
-    ensures { MarksRange N.name_of repo.now (shown_range word.now)
+    requires holds { HoldsParents repo.now.1 parents.old }
+    ensures holds { HoldsParents repo.now.1 parents.new }
+    ensures marks { MarksRange N.name_of repo.now (shown_range word.now)
         (included.old, excluded.old) (included.new, excluded.new) result }
 {
     match word {
         Range::WithAncestors(revision) => mark_revision(repo, revision, included),
         Range::WithoutAncestors(revision) => mark_revision(repo, revision, excluded),
         Range::Between(left, right) => mark_between(repo, left, right, included, excluded),
-        Range::Apart(left, right) => mark_apart(alloc, repo, left, right, included, excluded),
+        Range::Apart(left, right) => mark_apart(
+            alloc, repo, parents, left, right, included, excluded,
+        ),
         Range::AllParents(revision) => mark_all_parents(repo, revision, included),
         Range::Alone(revision) => mark_alone(repo, revision, included, excluded),
         Range::WithoutOne(revision, number) => mark_without_one(
@@ -196,6 +213,7 @@ fn mark_without_one<N: Namer, A: Allocator + Copy>(
 fn mark_apart<N: Namer, A: Allocator + Copy>(
     alloc: A,
     repo: &Repo<N, A>,
+    parents: &mut Parents<A>,
     left: &Revision<A>,
     right: &Revision<A>,
     included: &mut [bool],
@@ -203,12 +221,14 @@ fn mark_apart<N: Namer, A: Allocator + Copy>(
 ) -> Result<(), RevFault>
     requires included { length included.old ≡ length (values_of repo.now.1) }
     requires excluded { length excluded.old ≡ length (values_of repo.now.1) }
-    ensures { MarksRange N.name_of repo.now (words.Apart left.now right.now)
+    requires holds { HoldsParents repo.now.1 parents.old }
+    ensures holds { HoldsParents repo.now.1 parents.new }
+    ensures marks { MarksRange N.name_of repo.now (words.Apart left.now right.now)
         (included.old, excluded.old) (included.new, excluded.new) result }
 {
     let left = eval_commit(repo, left)?;
     let right = eval_commit(repo, right)?;
-    mark_common(alloc, repo, &left, &right, excluded)?;
+    mark_common(alloc, repo, parents, &left, &right, excluded)?;
     mark(repo, included, &left);
     mark(repo, included, &right);
     Ok(())
@@ -218,6 +238,7 @@ fn mark_apart<N: Namer, A: Allocator + Copy>(
 fn mark_common<N: Namer, A: Allocator + Copy>(
     alloc: A,
     repo: &Repo<N, A>,
+    parents: &mut Parents<A>,
     left: &Name,
     right: &Name,
     marks: &mut [bool],
@@ -225,11 +246,13 @@ fn mark_common<N: Namer, A: Allocator + Copy>(
     requires left { IsHeldAs kinds.Commit repo.now.1 left.now }
     requires right { IsHeldAs kinds.Commit repo.now.1 right.now }
     requires long { length marks.old ≡ length (values_of repo.now.1) }
-    ensures { OnOk result (AddsCommon repo.now.1 left.now right.now marks.old marks.new) }
+    requires holds { HoldsParents repo.now.1 parents.old }
+    ensures holds { HoldsParents repo.now.1 parents.new }
+    ensures marks { OnOk result (AddsCommon repo.now.1 left.now right.now marks.old marks.new) }
 {
     repo.sound();
-    let from_left = reached(alloc, repo, left)?;
-    let from_right = reached(alloc, repo, right)?;
+    let from_left = reached_by(alloc, repo, parents, left)?;
+    let from_right = reached_by(alloc, repo, parents, right)?;
     mark_both(marks, &from_left, &from_right);
     Ok(())
 }
@@ -251,15 +274,17 @@ fn mark_both(marks: &mut [bool], left: &[bool], right: &[bool])
 fn names_listed<N: Namer, A: Allocator + Copy>(
     alloc: A,
     repo: &Repo<N, A>,
+    parents: &mut Parents<A>,
     included: &mut [bool],
     excluded: &mut [bool],
 ) -> Result<Vec<Name, A>, AllocError>
     requires included { HasTips repo.now.1 included.old }
     requires excluded { HasTips repo.now.1 excluded.old }
+    requires holds { HoldsParents repo.now.1 parents.old }
     ensures { IfOk result (AreListed (N.name_of repo.now.0) repo.now.1 included.old excluded.old) }
 {
-    spread(repo, included);
-    spread(repo, excluded);
+    spread_by(repo, parents, included)?;
+    spread_by(repo, parents, excluded)?;
     let names = names_marked(alloc, repo, included, excluded)?;
     Ok(names)
 }

@@ -13,15 +13,15 @@ use Rattle.gx_rev.proofs.walking.mark_common.Goals as goal
 pub mark_both-requires-clause-left : goal.mark_both-requires-clause-left
 mark_both-requires-clause-left g c =
     let r = c.args.repo.now.1 in
-    c.requires.long ∙ sym (ap length (c.deref.ensures.value ∙ c.in_ok-from_left.ensures) ∙ marks_long (values_of r) (reaches (commit_at r c.args.left.now)))
+    c.requires.long ∙ sym (ap length (c.deref.ensures.value ∙ c.in_ok-from_left.ensures.marks) ∙ marks_long (values_of r) (reaches (commit_at r c.args.left.now)))
 
 pub mark_both-requires-clause-right : goal.mark_both-requires-clause-right
 mark_both-requires-clause-right g c =
     let r = c.args.repo.now.1 in
-    c.requires.long ∙ sym (ap length (c.deref-2.ensures.value ∙ c.in_ok-from_right.ensures) ∙ marks_long (values_of r) (reaches (commit_at r c.args.right.now)))
+    c.requires.long ∙ sym (ap length (c.deref-2.ensures.value ∙ c.in_ok-from_right.ensures.marks) ∙ marks_long (values_of r) (reaches (commit_at r c.args.right.now)))
 
-pub returns : goal.returns
-returns g c =
+pub returns-clause-marks : goal.returns-clause-marks
+returns-clause-marks g c =
     let name = g.N.Namer.name_of c.args.repo.now.0 in
     let namer = g.met.N.Namer.is_namer c.args.repo.now.0 in
     let r = c.args.repo.now.1 in
@@ -30,6 +30,6 @@ returns g c =
     let at = stands_at name namer r c.sound.ensures c.args.left.now.bytes (commit_held name namer r c.sound.ensures c.args.left.now.bytes c.requires.left) in
     let stands = commit_at_place name namer r c.sound.ensures c.args.left.now.bytes at.0 c.requires.left at.1 in
     let new = c.mark_both.new.marks in
-    let others = subst (λ ms. HaveBoth new c.args.marks.now ms c.deref-2.result.now) (c.deref.ensures.value ∙ c.in_ok-from_left.ensures) c.mark_both.ensures in
-    let both = subst (λ ms. HaveBoth new c.args.marks.now (marks_of (reaches left) (values_of r)) ms) (c.deref-2.ensures.value ∙ c.in_ok-from_right.ensures) others in
+    let others = subst (λ ms. HaveBoth new c.args.marks.now ms c.deref-2.result.now) (c.deref.ensures.value ∙ c.in_ok-from_left.ensures.marks) c.mark_both.ensures in
+    let both = subst (λ ms. HaveBoth new c.args.marks.now (marks_of (reaches left) (values_of r)) ms) (c.deref-2.ensures.value ∙ c.in_ok-from_right.ensures.marks) others in
     common_more name namer r c.sound.ensures left right at.0 c.args.marks.now new stands c.mark_both.auto.marks both

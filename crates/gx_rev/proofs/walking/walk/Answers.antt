@@ -9,5 +9,8 @@ walk_marking-requires-clause-included g c = subst (AreTips c.args.repo.now.1 not
 pub walk_marking-requires-clause-excluded : goal.walk_marking-requires-clause-excluded
 walk_marking-requires-clause-excluded g c = subst (AreTips c.args.repo.now.1 nothing) (sym c.deref_mut-2.ensures.value) c.in_ok-excluded.ensures
 
+pub walk_marking-requires-clause-holds : goal.walk_marking-requires-clause-holds
+walk_marking-requires-clause-holds g c = c.new-parents.ensures c.args.repo.now.1
+
 pub returns : goal.returns
 returns g c = c.walk_marking.ensures

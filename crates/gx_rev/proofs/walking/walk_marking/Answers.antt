@@ -7,15 +7,15 @@ use Rattle.gx_rev.proofs.walking.walk_marking.Goals as goal
 
 pub loop-place-init : goal.loop-place-init
 loop-place-init g c = (
-  [],
-  none_done (word_denoted (g.N.Namer.name_of c.args.repo.now.0) (history_of c.args.repo.now.1)) c.args.repo.now.1 (map shown_range c.args.words.now) c.args.included.now c.args.excluded.now c.requires.included c.requires.excluded,
+  ([], none_done (word_denoted (g.N.Namer.name_of c.args.repo.now.0) (history_of c.args.repo.now.1)) c.args.repo.now.1 (map shown_range c.args.words.now) c.args.included.now c.args.excluded.now c.requires.included c.requires.excluded),
+  c.requires.holds,
 )
 
 pub mark_word-requires-clause-included : goal.mark_word-requires-clause-included
-mark_word-requires-clause-included g c = c.loop-place.invariant.1.included.long
+mark_word-requires-clause-included g c = c.loop-place.invariant.0.1.included.long
 
 pub mark_word-requires-clause-excluded : goal.mark_word-requires-clause-excluded
-mark_word-requires-clause-excluded g c = c.loop-place.invariant.1.excluded.long
+mark_word-requires-clause-excluded g c = c.loop-place.invariant.0.1.excluded.long
 
 pub returns-in-Err : goal.returns-in-Err
 returns-in-Err g c =
@@ -25,10 +25,10 @@ returns-in-Err g c =
     let all = map shown_range c.args.words.now in
     let x = c.index-words-place.result in
     let left = map shown_range (drop (c.loop-place.place + 1) c.args.words.now) in
-    let inv = c.loop-place.invariant in
+    let inv = c.loop-place.invariant.0 in
     let from = ap (map shown_range) (words_from c.args.words.now c.loop-place.place x c.loop-place-test.true c.index-words-place.is) in
     let now = subst (λ ws. AreDone f c.args.repo.now.1 all ws c.loop-place.place c.loop-place.included c.loop-place.excluded inv.0) from inv.1 in
-    rw c.refused.ensures (word_fails name h all c.loop-place.place c.in-Err.kind (shown_range x) c.in-Err.ensures
+    rw c.refused.ensures (word_fails name h all c.loop-place.place c.in-Err.kind (shown_range x) c.in-Err.ensures.marks
     (λ k e. next_fails f c.args.repo.now.1 all left (shown_range x) c.loop-place.place c.loop-place.included c.loop-place.excluded inv.0 k e now) (c.loop-place.place + 1) (omega arith))
 
 pub loop-place-preserved : goal.loop-place-preserved
@@ -40,19 +40,19 @@ loop-place-preserved g c =
     let all = map shown_range c.args.words.now in
     let x = c.index-words-place.result in
     let left = map shown_range (drop (c.loop-place.place + 1) c.args.words.now) in
-    let inv = c.loop-place.invariant in
+    let inv = c.loop-place.invariant.0 in
     let from = ap (map shown_range) (words_from c.args.words.now c.loop-place.place x c.loop-place-test.true c.index-words-place.is) in
     let now = subst (λ ws. AreDone f r all ws c.loop-place.place c.loop-place.included c.loop-place.excluded inv.0) from inv.1 in
-    let word = c.in-Ok.ensures in (
-      inv.0 ++ word.0 ∷ [],
-      next_done f r all left (shown_range x) c.loop-place.place c.loop-place.included c.loop-place.excluded c.mark_word.new.included c.mark_word.new.excluded inv.0 word.0 word.1 word.2 word.3 now,
+    let word = c.in-Ok.ensures.marks in (
+      (inv.0 ++ word.0 ∷ [], next_done f r all left (shown_range x) c.loop-place.place c.loop-place.included c.loop-place.excluded c.mark_word.new.included c.mark_word.new.excluded inv.0 word.0 word.1 word.2 word.3 now),
+      c.in-Ok.ensures.holds,
     )
 
 pub names_listed-requires-clause-included : goal.names_listed-requires-clause-included
-names_listed-requires-clause-included g c = (some_includes c.loop-place.invariant.0, c.loop-place.invariant.1.included)
+names_listed-requires-clause-included g c = (some_includes c.loop-place.invariant.0.0, c.loop-place.invariant.0.1.included)
 
 pub names_listed-requires-clause-excluded : goal.names_listed-requires-clause-excluded
-names_listed-requires-clause-excluded g c = (some_excludes c.loop-place.invariant.0, c.loop-place.invariant.1.excluded)
+names_listed-requires-clause-excluded g c = (some_excludes c.loop-place.invariant.0.0, c.loop-place.invariant.0.1.excluded)
 
 pub returns : goal.returns
 returns g c =
@@ -61,7 +61,7 @@ returns g c =
     let r = c.args.repo.now.1 in
     let f = word_denoted name h in
     let all = map shown_range c.args.words.now in
-    let inv = c.loop-place.invariant in
+    let inv = c.loop-place.invariant.0 in
     let past : length c.args.words.now ≤ c.loop-place.place = omega arith in
     let over = ap (map shown_range) (words_end c.args.words.now c.loop-place.place past) in
     let now = subst (λ ws. AreDone f r all ws c.loop-place.place c.loop-place.included c.loop-place.excluded inv.0) over inv.1 in

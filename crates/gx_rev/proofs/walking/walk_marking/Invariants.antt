@@ -1,10 +1,11 @@
 use Rattle.std.proofs.Common.{List, drop, map}
 use Rattle.gx_model.specs.Records.HistoryOf.{history_of}
 use Rattle.gx_model.specs.Revisions.Ranges.{Word, word_denoted}
+use Rattle.gx_rev.specs.Parents.{HoldsParents}
 use Rattle.gx_rev.specs.Views.{shown_range}
 use Rattle.gx_rev.proofs.Listings.{AreDone}
 use Rattle.gx_rev.proofs.walking.walk_marking.Given as goal
 
 abbrev pub invariant-loop-place : goal.invariant-loop-place
 invariant-loop-place g l =
-    (done : List Word) × AreDone (word_denoted (g.N.Namer.name_of l.repo.0) (history_of l.repo.1)) l.repo.1 (map shown_range l.words) (map shown_range (drop l.place l.words)) l.place l.included l.excluded done
+    ((done : List Word) × AreDone (word_denoted (g.N.Namer.name_of l.repo.0) (history_of l.repo.1)) l.repo.1 (map shown_range l.words) (map shown_range (drop l.place l.words)) l.place l.included l.excluded done) × HoldsParents l.repo.1 l.parents

@@ -1,5 +1,5 @@
 -- Lists of places in order: what the commits at them reach, and a walk that goes down by them.
-use Rattle.std.proofs.Common.{◌≡◌, ◌≢◌, ℕ, zero, suc, ◌+◌, ◌<◌, ◌≤◌, Bool, true, false, refl, sym, ap, subst, ◌∙◌, arith, List, [], ◌∷◌, ◌++◌, length, Some, None, ◌⊎◌, inl, inr}
+use Rattle.std.proofs.Common.{◌≡◌, ◌≢◌, ℕ, zero, suc, ◌+◌, ◌<◌, ◌≤◌, Bool, true, false, refl, sym, ap, subst, ◌∙◌, arith, List, [], ◌∷◌, ◌++◌, get_or, length, Some, None, ◌⊎◌, inl, inr}
 use Rattle.std.specs.Prelude.{T, IsTrue, ◌↔◌, ◌==◌, Result, Ok, Err, IfOk}
 use Rattle.std.specs.Bool.{passes}
 use Rattle.std.specs.List.{AllByRecursion, slice_get}
@@ -7,6 +7,7 @@ use Rattle.std.specs.Ordering.{nat_cmp, match_ordering}
 use Rattle.std.specs.declared.cmp.Ordering.TheVariants.{Less, Equal, Greater}
 use Rattle.std.specs.BTreeSet.{insert_key}
 use Rattle.std.specs.BTreeMap.Range.{IsLtBy}
+use Rattle.std.proofs.lemmas.List.{length-map}
 use Rattle.std.proofs.Math.Dec.{eqb}
 use Rattle.std.proofs.lemmas.Bool.Decides.{Decides-eqb, eqb_tells, nat_tests}
 use Rattle.gx_model.specs.declared.objects.Kind.{Kind}
@@ -15,6 +16,7 @@ use Rattle.gx_model.specs.Objects.{IsNamer}
 use Rattle.gx_model.specs.Histories.{Records}
 use Rattle.gx_model.specs.Laws.HistoryLaws.{IsParent}
 use Rattle.gx_model.specs.Histories.Marks.{IsAt}
+use Rattle.gx_model.specs.Laws.RepositoryLaws.{values_of}
 use Rattle.gx_model.specs.Revisions.Ranges.{reaches, some_reaches}
 use Rattle.gx_model.specs.Records.Sound.{AnyByRecursion, IsSound}
 use Rattle.gx_model.proofs.Marking.{IsBefore, least}
@@ -22,7 +24,8 @@ use Rattle.gx_model.proofs.PathTests.{is_true, left_or, one_of, right_or}
 use Rattle.gx_model.proofs.ReachedCommits.{itself}
 use Rattle.gx_model.proofs.SameValues.{commit_is}
 use Rattle.gx_model.proofs.Standing.{parent_before, same_place}
-use Rattle.gx_import.specs.Places.{AddsParents, IsCommitBefore, IsCommitPlace, ReachesFrom, SomeReaches}
+use Rattle.gx_rev.specs.Parents.{IsCommitPlace, StandAt}
+use Rattle.gx_import.specs.Places.{AddsParents, IsCommitBefore, ReachesFrom, SomeReaches, TellsReached}
 
 -- ---- a place more, and the last one
 
@@ -275,3 +278,23 @@ one_reaches r new old place keys (Ok is) k at h =
           subst (λ c. reaches c old ≡ true) same p.2
       | inr z ↦ absurd z
     ]
+
+-- what is told of places that reach the same
+pub told_later : {E : Type 0} (r : Records) (old new : List ℕ) (last : ℕ) (answer : Result Bool E) → ((made : Commit) → IsAt r last made → SomeReaches r new made ↔ SomeReaches r old made) → TellsReached r new last answer → TellsReached r old last answer
+told_later r old new last (Err e) same told made at = tt
+told_later r old new last (Ok is) same told made at =
+    let s = same made at in
+    let t = told made at in
+    ((λ h. s.0 (t.0 h)), (λ h. t.1 (s.1 h)))
+
+-- ---- places of commits
+
+pub as_many_places : (r : Records) (cs : List Commit) (places : List ℕ) → StandAt r cs places → length places ≡ length cs
+as_many_places r cs places h = sym (length-map places (slice_get (values_of r))) ∙ ap length h ∙ length-map cs (λ (made : Commit). Some (commit_value made))
+
+-- the commit at one of them
+pub stands_there : (r : Records) (cs : List Commit) (places : List ℕ) (i : ℕ) → StandAt r cs places → i < length places → (c : Commit) × (slice_get cs i ≡ Some c) × IsAt r (get_or places i 0) c
+stands_there r cs [] i h l = absurd (omega (arith, l))
+stands_there r [] (q ∷ ps) i h l = absurd cc
+stands_there r (c ∷ cs) (q ∷ ps) zero h l = let first : slice_get (values_of r) q ≡ Some (commit_value c) = cc in (c, refl, first)
+stands_there r (c ∷ cs) (q ∷ ps) (suc i) h l = let rest : StandAt r cs ps = cc in stands_there r cs ps i rest (omega (arith, l))

@@ -1,5 +1,5 @@
 -- Places of commits, and what the commits at some places reach.
-use Rattle.std.specs.Prelude.{◌<◌, ◌⊎◌, ◌↔◌, ℕ, Bool, IsTrue, List, Result, IfOk}
+use Rattle.std.specs.Prelude.{◌<◌, ◌⊎◌, ◌↔◌, ℕ, Bool, IsTrue, List, Option, Some, None, Result, IfOk}
 use Rattle.gx_model.specs.Histories.Values.{Commit, Commits, parents_of}
 use Rattle.gx_model.specs.Histories.{Records}
 use Rattle.gx_model.specs.Histories.Marks.{IsAt}
@@ -7,16 +7,13 @@ use Rattle.gx_model.specs.Revisions.Ranges.{reaches, some_reaches}
 use Rattle.gx_model.specs.Records.Sound.{AnyByRecursion}
 use Rattle.gx_object.specs.declared.name.Name.{Name}
 use Rattle.gx_rev.specs.Objects.{commit_at}
+use Rattle.gx_rev.specs.Parents.{IsCommitPlace}
 
 -- the commit of the first name is that of the second, or a descendant of it
 abbrev pub reaches_at : Records → Name → Name → Bool
 reaches_at repository new old = reaches (commit_at repository new) (commit_at repository old)
 
--- a commit stands at a place
-abbrev pub IsCommitPlace : Records → ℕ → Type 0
-IsCommitPlace repository place = (commit : Commit) × IsAt repository place commit
-
--- and that is before another place
+-- a commit stands at a place before another one
 abbrev pub IsCommitBefore : Records → ℕ → ℕ → Type 0
 IsCommitBefore repository limit place = (place < limit) × IsCommitPlace repository place
 
@@ -41,3 +38,12 @@ AddsParentsAt repository place old new = (commit : Commit) → IsAt repository p
 abbrev pub TellsReached : {E : Type 0} → Records → List ℕ → ℕ → Result Bool E → Type 0
 TellsReached repository places last answer =
     (commit : Commit) → IsAt repository last commit → IfOk answer (λ is_reached. IsTrue is_reached ↔ SomeReaches repository places commit)
+
+-- Either that is answered, or it is the same of other places.
+abbrev pub TellsSoon : Records → List ℕ → List ℕ → Commit → Option Bool → Type 0
+TellsSoon repository old new reached (Some is_reached) = IsTrue is_reached ↔ SomeReaches repository old reached
+TellsSoon repository old new reached None = SomeReaches repository new reached ↔ SomeReaches repository old reached
+
+abbrev pub TellsReachedSoon : {E : Type 0} → Records → List ℕ → List ℕ → ℕ → Result (Option Bool) E → Type 0
+TellsReachedSoon repository old new last answer =
+    (commit : Commit) → IsAt repository last commit → IfOk answer (TellsSoon repository old new commit)

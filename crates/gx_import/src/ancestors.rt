@@ -5,28 +5,39 @@ ghost use Rattle.std.specs.List.{AllByRecursion};
 ghost use Rattle.gx_model.specs.declared.objects.Kind.TheVariants as kinds;
 ghost use Rattle.gx_model.specs.Records.Sound.{Holds};
 ghost use Rattle.gx_rev.specs.Objects.{IsHeldAs};
-ghost use Rattle.gx_import.specs.Places.{AddsParentsAt, IsCommitBefore, IsCommitPlace, TellsReached, reaches_at};
+ghost use Rattle.gx_rev.specs.Parents.{AreParentPlaces, HoldsParents, IsCommitPlace};
+ghost use Rattle.gx_import.specs.Places.{AddsParentsAt, IsCommitBefore, TellsReached, TellsReachedSoon, reaches_at};
 
 use gx_object::{Name, Namer};
 use gx_repo::Repo;
-use gx_rev::{name_at, place_of, view_of};
+use gx_rev::{Parents, name_at, place_of, view_of};
 use std::alloc::{AllocError, Allocator};
 use std::collections::BTreeSet;
 
-/// Whether the first of two held commits is the second or one of its ancestors.
+/// A walk that visits at most so many commits decodes each itself, also in a small repository.
+const FEW: usize = 64;
+
+/// For so many records it may visit one commit more.
+const RECORDS: usize = 1024;
+
+/// Whether the first of two held commits is the second or one of its ancestors. The commits that long walks visit are decoded
+/// once for all calls with the same `parents`.
 ///
 /// Cost: a look-up, where it is the first parent of the second. Otherwise, for each commit behind the first one that the
-/// second reaches, its body and a look-up for each of its parents. Memory: the places that are still to be visited, and
-/// none in the first case.
+/// second reaches, its body and a look-up for each of its parents; once a walk is long, where these aren't known. Memory: the
+/// places that are still to be visited, none in the first case; and for long walks that of `Parents::learn`.
 pub(crate) fn is_ancestor<N: Namer, A: Allocator + Copy>(
     alloc: A,
     repo: &Repo<N, A>,
+    parents: &mut Parents<A>,
     old: &Name,
     new: &Name,
 ) -> Result<bool, AllocError>
     requires old { Holds repo.now.1.records kinds.Commit old.now.bytes }
     requires new { Holds repo.now.1.records kinds.Commit new.now.bytes }
-    ensures { IfOk result (λ is_ancestor. is_ancestor ≡ reaches_at repo.now.1 new.now old.now) }
+    requires holds { HoldsParents repo.now.1 parents.old }
+    ensures holds { HoldsParents repo.now.1 parents.new }
+    ensures answer { IfOk result (λ is_ancestor. is_ancestor ≡ reaches_at repo.now.1 new.now old.now) }
 {
     repo.sound();
     // a branch that moved by one commit needs no walk
@@ -37,7 +48,7 @@ pub(crate) fn is_ancestor<N: Namer, A: Allocator + Copy>(
     let first = place_of(repo, new);
     let mut places = BTreeSet::new(alloc);
     places.insert(first)?;
-    is_reached(repo, &mut places, last)
+    is_reached(repo, parents, &mut places, last)
 }
 
 /// Whether the first of two commits is the first parent of the second.
@@ -53,23 +64,88 @@ fn is_first_parent<N: Namer, A: Allocator + Copy>(repo: &Repo<N, A>, old: &Name,
     }
 }
 
-/// Whether the commit at the last place is reached from one of these. They are visited from the newest one on, down to it.
+/// Whether the commit at the last place is reached from one of these.
 fn is_reached<N: Namer, A: Allocator + Copy>(
     repo: &Repo<N, A>,
+    parents: &mut Parents<A>,
     places: &mut BTreeSet<usize, A>,
     last: usize,
 ) -> Result<bool, AllocError>
-    requires { AllByRecursion (IsCommitPlace repo.now.1) places.now.keys }
-    ensures { TellsReached repo.now.1 places.old.keys last result }
+    requires commits { AllByRecursion (IsCommitPlace repo.now.1) places.now.keys }
+    requires holds { HoldsParents repo.now.1 parents.old }
+    ensures holds { HoldsParents repo.now.1 parents.new }
+    ensures told { TellsReached repo.now.1 places.old.keys last result }
+{
+    match is_reached_soon(repo, places, last)? {
+        Some(is_reached) => Ok(is_reached),
+        None => is_reached_later(repo, parents, places, last),
+    }
+}
+
+/// The same, where few commits have to be visited for it. They are visited from the newest one on, down to the last place.
+fn is_reached_soon<N: Namer, A: Allocator + Copy>(
+    repo: &Repo<N, A>,
+    places: &mut BTreeSet<usize, A>,
+    last: usize,
+) -> Result<Option<bool>, AllocError>
+    requires commits { AllByRecursion (IsCommitPlace repo.now.1) places.old.keys }
+    ensures commits { OnOk result (AllByRecursion (IsCommitPlace repo.now.1) places.new.keys) }
+    ensures told { TellsReachedSoon repo.now.1 places.old.keys places.new.keys last result }
+{
+    repo.sound();
+    for _visit in 0..(repo.store().len() / RECORDS).max(FEW) {
+        let Some(place) = places.pop_last() else {
+            return Ok(Some(false));
+        };
+        if place <= last {
+            return Ok(Some(place == last));
+        }
+        insert_parents(repo, places, place)?;
+    }
+    Ok(None)
+}
+
+/// The same, where each commit that is visited may be known already.
+fn is_reached_later<N: Namer, A: Allocator + Copy>(
+    repo: &Repo<N, A>,
+    parents: &mut Parents<A>,
+    places: &mut BTreeSet<usize, A>,
+    last: usize,
+) -> Result<bool, AllocError>
+    requires commits { AllByRecursion (IsCommitPlace repo.now.1) places.now.keys }
+    requires holds { HoldsParents repo.now.1 parents.old }
+    ensures holds { HoldsParents repo.now.1 parents.new }
+    ensures told { TellsReached repo.now.1 places.old.keys last result }
 {
     repo.sound();
     while let Some(place) = places.pop_last() {
         if place <= last {
             return Ok(place == last);
         }
-        insert_parents(repo, places, place)?;
+        parents.learn(repo, place)?;
+        insert_places(repo, places, place, parents.of(repo, place))?;
     }
     Ok(false)
+}
+
+/// Adds these places of the parents of the commit at a place.
+fn insert_places<N: Namer, A: Allocator + Copy>(
+    repo: &Repo<N, A>,
+    places: &mut BTreeSet<usize, A>,
+    place: usize,
+    parents: &[usize],
+) -> Result<(), AllocError>
+    requires commit { IsCommitPlace repo.now.1 place }
+    requires parents { AreParentPlaces repo.now.1 place parents.now }
+    requires before { AllByRecursion (IsCommitBefore repo.now.1 place) places.now.keys }
+    ensures before { OnOk result (AllByRecursion (IsCommitBefore repo.now.1 place) places.new.keys) }
+    ensures parents { OnOk result (AddsParentsAt repo.now.1 place places.old.keys places.new.keys) }
+{
+    repo.sound();
+    for parent in parents {
+        places.insert(*parent)?;
+    }
+    Ok(())
 }
 
 /// Adds the places of the parents of the commit at a place, which stand before it.

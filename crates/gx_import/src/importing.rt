@@ -41,8 +41,9 @@ use std::alloc::Allocator;
 /// the marks, the files of the 256 commits used last and their shared directories, the directories that were read, up to a bound
 /// by the largest tree, and one command. A checkpoint, as the end, costs a comparison or two for each branch, and
 /// where there were refs before the import a few more for each branch, tag and published name; for each branch that moved
-/// the commits that it reaches behind its old one; for each such branch and each tag a look-up of its object and searches
-/// among the refs and the published names; and where a ref is new, copies of all refs. Source: git-fast-import(1).
+/// the commits that it reaches behind its old one, each decoded once where there are many; for each such branch and each tag
+/// a look-up of its object and searches among the refs and the published names; and where a ref is new, copies of all refs.
+/// Source: git-fast-import(1).
 pub fn import<N: Namer, A: Allocator + Copy, R: Source + Drop, W: Sink>(
     alloc: A,
     repo: &mut Repo<N, A>,

@@ -4,6 +4,7 @@ ghost use Rattle.std.specs.Prelude.{◌≡◌, [], ◌∷◌, map, is_some, Some
 ghost use Rattle.std.specs.Option.{option_map};
 ghost use Rattle.gx_model.specs.Records.Publishing.{changes_fault};
 ghost use Rattle.gx_repo.specs.Refs.{shown_update};
+ghost use Rattle.gx_rev.specs.Parents.{HoldsParents};
 ghost use Rattle.gx_import.specs.Calls.{IsCommitIfAny, TellsForward, TellsMovable};
 ghost use Rattle.gx_import.specs.Keeping.{AreMoved, EntersInEach, EntersNames, EntersUpdates, HasAll};
 ghost use Rattle.gx_import.specs.Publishing.{PublishesInEach, TellsFastForward};
@@ -21,6 +22,7 @@ use crate::tables::Tables;
 use gx_model::repository_laws::histories_of_records;
 use gx_object::{Name, Namer};
 use gx_repo::{PublishFault, RefChange, Repo};
+use gx_rev::Parents;
 use std::alloc::{AllocError, Allocator};
 
 /// Publishes the branches with a commit, and then the tags, and enters their names among those that were published, which
@@ -83,10 +85,19 @@ fn append_branches<'a, N: Namer, A: Allocator + Copy>(
 {
     repo.sound();
     let mut place = 0;
+    let mut parents = Parents::new(tables.alloc);
     for (name, tip) in &tables.branches.rows {
         let (next, object) = repo.ref_near(place, name.as_slice());
         place = next;
-        if !append_branch(changes, repo, tables, name.as_slice(), object, tip.commit)? {
+        if !append_branch(
+            changes,
+            repo,
+            tables,
+            &mut parents,
+            name.as_slice(),
+            object,
+            tip.commit,
+        )? {
             return Ok(false);
         }
     }
@@ -99,12 +110,15 @@ fn append_branch<'a, N: Namer, A: Allocator + Copy>(
     changes: &mut Vec<RefChange<'a>, A>,
     repo: &Repo<N, A>,
     tables: &Tables<A>,
+    parents: &mut Parents<A>,
     name: &'a [u8],
     object: Option<Name>,
     commit: Option<Name>,
 ) -> Result<bool, AllocError>
+    requires holds { HoldsParents repo.now.1 parents.old }
     requires target { IfSome object (IsHeldByRef repo.now.1) }
     requires commit { IsCommitIfAny N.name_of repo.now commit }
+    ensures holds { HoldsParents repo.now.1 parents.new }
     ensures forward { TellsMovable N.name_of repo.now tables.now.is_forced object commit result }
     ensures appended { AppendsBranch name.now object commit changes.old changes.new result }
 {
@@ -116,7 +130,7 @@ fn append_branch<'a, N: Namer, A: Allocator + Copy>(
     if is_at(object, target) {
         return Ok(true);
     }
-    if !tables.is_forced && !is_forward(tables.alloc, repo, object, target)? {
+    if !tables.is_forced && !is_forward(tables.alloc, repo, parents, object, target)? {
         return Ok(false);
     }
     changes.push(RefChange { name, target })?;
@@ -127,12 +141,15 @@ fn append_branch<'a, N: Namer, A: Allocator + Copy>(
 fn is_forward<N: Namer, A: Allocator + Copy>(
     alloc: A,
     repo: &Repo<N, A>,
+    parents: &mut Parents<A>,
     object: Option<Name>,
     new: Name,
 ) -> Result<bool, AllocError>
+    requires holds { HoldsParents repo.now.1 parents.old }
     requires target { IfSome object (IsHeldByRef repo.now.1) }
     requires commit { IsCommitIfAny N.name_of repo.now (Some new) }
-    ensures { TellsForward N.name_of repo.now object (Some new) result }
+    ensures holds { HoldsParents repo.now.1 parents.new }
+    ensures forward { TellsForward N.name_of repo.now object (Some new) result }
 {
     let Some(object) = object else {
         return Ok(true);
@@ -140,7 +157,7 @@ fn is_forward<N: Namer, A: Allocator + Copy>(
     let Some(old) = repo.peel(&object) else {
         unreachable!();
     };
-    is_ancestor(alloc, repo, &old, &new)
+    is_ancestor(alloc, repo, parents, &old, &new)
 }
 
 /// Whether what a ref holds is this object.

@@ -1,61 +1,14 @@
-use Rattle.std.proofs.Common.{◌≡◌, false, true, [], ap, sym, subst, arith, ◌∙◌}
-use Rattle.std.specs.List.{AllByRecursion}
-use Rattle.std.specs.Ordering.{nat_cmp}
-use Rattle.std.specs.BTreeMap.Range.{IsLtBy}
-use Rattle.std.proofs.lemmas.List.Elements.{recursion_from_All}
-use Rattle.gx_import.specs.Places.{IsCommitPlace, SomeReaches}
-use Rattle.gx_import.proofs.PlaceLists.{all_before, all_last, all_places, at_last, behind_before, behind_end, behind_last, none_left, stepped}
+use Rattle.std.proofs.Common.{subst}
+use Rattle.gx_import.specs.Places.{TellsSoon}
+use Rattle.gx_import.proofs.PlaceLists.{told_later}
 use Rattle.gx_import.proofs.ancestors.is_reached.Goals as goal
 
-pub loop-place-init : goal.loop-place-init
-loop-place-init g c = record { commits = c.requires; same = λ made e. ((λ h. h), (λ h. h)) }
+pub returns-in-Some-clause-told : goal.returns-in-Some-clause-told
+returns-in-Some-clause-told g c = λ made e. subst (TellsSoon c.args.repo.now.1 c.args.places.now.keys c.is_reached_soon.new.places.keys made) c.in-Some.is (c.in_ok-is_reached.ensures.told made e)
 
-pub returns-then-place-last : goal.returns-then-place-last
-returns-then-place-last g c = λ made e.
+pub returns-in-None-clause-told : goal.returns-in-None-clause-told
+returns-in-None-clause-told g c =
     let r = c.args.repo.now.1 in
-    let keys = c.pop_last.new.self.keys in
-    let was = c.in-Some.ensures.removal in
-    let all = all_last (IsCommitPlace r) keys c.in-Some.place (subst (AllByRecursion (IsCommitPlace r)) was c.loop-place.invariant.commits) in
-    let before = all_before r c.in-Some.place keys all.0 (recursion_from_All (λ q. IsLtBy nat_cmp q c.in-Some.place) keys c.in-Some.ensures.all_below) in
-    let told = at_last (g.N.Namer.name_of c.args.repo.now.0) (g.met.N.Namer.is_namer c.args.repo.now.0) r c.sound.ensures c.args.last made e keys c.in-Some.place c.if-place-last.true before in
-    let same = c.loop-place.invariant.same made e in
-    ((λ h. same.0 (subst (λ ks. SomeReaches r ks made) (sym was) (told.0 h))), (λ h. told.1 (subst (λ ks. SomeReaches r ks made) was (same.1 h))))
-
-pub insert_parents-requires : goal.insert_parents-requires
-insert_parents-requires g c =
-    let r = c.args.repo.now.1 in
-    let keys = c.pop_last.new.self.keys in
-    let all = all_last (IsCommitPlace r) keys c.in-Some.place (subst (AllByRecursion (IsCommitPlace r)) c.in-Some.ensures.removal c.loop-place.invariant.commits) in
-    record {
-      commit = all.1;
-      before = all_before r c.in-Some.place keys all.0 (recursion_from_All (λ q. IsLtBy nat_cmp q c.in-Some.place) keys c.in-Some.ensures.all_below);
-    }
-
-pub loop-place-preserved : goal.loop-place-preserved
-loop-place-preserved g c =
-    let r = c.args.repo.now.1 in
-    let keys = c.pop_last.new.self.keys in
-    let was = c.in-Some.ensures.removal in
-    let new = c.insert_parents.new.places.keys in
-    let all = all_last (IsCommitPlace r) keys c.in-Some.place (subst (AllByRecursion (IsCommitPlace r)) was c.loop-place.invariant.commits) in
-    record {
-      commits = all_places r c.in-Some.place new c.in_ok-insert_parents.ensures.before;
-      same = λ made e.
-          let step = stepped (g.N.Namer.name_of c.args.repo.now.0) (g.met.N.Namer.is_namer c.args.repo.now.0) r c.sound.ensures c.args.last made e keys new c.in-Some.place all.1.0 c.if-place-last.false all.1.1 (c.in_ok-insert_parents.ensures.parents all.1.0 all.1.1) in
-          let same = c.loop-place.invariant.same made e in
-          ((λ h. same.0 (subst (λ ks. SomeReaches r ks made) (sym was) (step.0 h))), (λ h. step.1 (subst (λ ks. SomeReaches r ks made) was (same.1 h))));
-    }
-
-pub loop-place-smaller : goal.loop-place-smaller
-loop-place-smaller g c =
-    let r = c.args.repo.now.1 in
-    let low = behind_before r c.in-Some.place c.insert_parents.new.places.keys c.in_ok-insert_parents.ensures.before in
-    let high = ap behind_last c.in-Some.ensures.removal ∙ behind_end c.pop_last.new.self.keys c.in-Some.place in
-    omega (arith, low, high)
-
-pub returns : goal.returns
-returns g c = λ made e.
-    let r = c.args.repo.now.1 in
-    let same = c.loop-place.invariant.same made e in
-    let none : c.loop-place.places.keys ≡ [] = none_left c.loop-place.places.keys (λ l. let f : false ≡ true = c.in_default.ensures.variant.1 l in cc f) in
-    ((λ h. absurd (let f : false ≡ true = h in cc f)), (λ h. absurd (subst (λ ks. SomeReaches r ks made) none (same.1 h))))
+    let old = c.args.places.now.keys in
+    let new = c.is_reached_soon.new.places.keys in
+    told_later r old new c.args.last c.is_reached_later.result (λ made e. subst (TellsSoon r old new made) c.in-None.is (c.in_ok-is_reached.ensures.told made e)) c.is_reached_later.ensures.told

@@ -19,6 +19,7 @@ loop-name-init g c =
     let all : c.into_iter-name-iterator.result ≡ c.args.tables.now.branches.rows.entries = c.into_iter-name-iterator.ensures.into_iter_gives.0 in (
       ap (λ rows. map shown_update c.args.changes.now.items ++ filter (is_moved refs) (branch_changes (map row_of rows))) all,
       λ s h. subst (λ rows. AreLeft name s (map row_of rows)) (sym all) (all_left name s c.args.repo.now.1 c.args.tables.now h),
+      c.new-parents.ensures c.args.repo.now.1,
     )
 
 pub append_branch-requires-clause-target : goal.append_branch-requires-clause-target
@@ -65,6 +66,7 @@ loop-name-preserved g c =
           let asked = first_asked name s row others left in
           let is = c.in_ok-append_branch.ensures.forward asked.made (subst (λ (z : History). AreBoth (IsCommitOf name z.values) asked.made row.1.commit) (sym h.history) asked.is_made) in
           others_left name s row others asked (movable_is r row.0 s h.history c.args.tables.now.is_forced h.forced c.ref_near-next.result.1 held asked.made ∙ sym is ∙ c.if-not-branch.false),
+      c.in_ok-append_branch.ensures.holds,
     )
 
 pub returns-clause-forward : goal.returns-clause-forward

@@ -2,14 +2,16 @@ use Rattle.std.specs.Prelude.{◌↔◌}
 use Rattle.std.specs.List.{AllByRecursion}
 use Rattle.gx_model.specs.Histories.Marks.{IsAt}
 use Rattle.gx_model.specs.Histories.Values.{Commit}
-use Rattle.gx_import.specs.Places.{IsCommitPlace, SomeReaches}
+use Rattle.gx_rev.specs.Parents.{HoldsParents, IsCommitPlace}
+use Rattle.gx_import.specs.Places.{SomeReaches}
 use Rattle.gx_import.proofs.PlaceLists.{behind_last}
-use Rattle.gx_import.proofs.ancestors.is_reached.Given as goal
+use Rattle.gx_import.proofs.ancestors.is_reached_later.Given as goal
 
 abbrev pub invariant-loop-place : goal.invariant-loop-place
 invariant-loop-place g l = record {
   commits : AllByRecursion (IsCommitPlace l.repo.1) l.places.keys;
   same : (made : Commit) → IsAt l.repo.1 l.last made → SomeReaches l.repo.1 l.places.keys made ↔ SomeReaches l.repo.1 l.fn.places.keys made;
+  holds : HoldsParents l.repo.1 l.parents;
 }
 
 abbrev pub decreases-loop-place : goal.decreases-loop-place

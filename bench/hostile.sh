@@ -1,10 +1,11 @@
 #!/usr/bin/env bash
-# Measures inputs whose size is meant to hurt (bench/hostile.py), each at a size and at its double. Beside each stand the blobs of
-# 1 KB that have as many bytes together, and `git fast-import` of the doubled stream. Then the least stack is found
-# on which the deepest inputs work. A row of a Markdown table goes out for each; the exit status is 1 where one misses its bound.
+# Measures inputs whose size is meant to hurt (bench/hostile.py), each at a size, at its double and at four times the size. Beside
+# each stand the blobs of 1 KB that have as many bytes together as the first, and `git fast-import` of the last. Then the least
+# stack is found on which the deepest inputs work. A row of a Markdown table goes out for each; the exit status is 1 where one
+# misses its bound.
 #   bench/hostile.sh [KIND..]      all kinds, and then `stack`, if none is named
-# The bounds: twice the size takes at most MOST times the time and the memory (2.4), where what is below FLOOR seconds (0.1) or
-# 32 MB counts as that; or, of `directory`, no more time than git takes. Each run takes at most LIMIT seconds (300) and prints
+# The bounds: each doubling takes at most MOST times the time and the memory (2.4), where what is below FLOOR seconds (0.1) or
+# 32 MB counts as that; or the last takes no more time than git does. Each run takes at most LIMIT seconds (300) and prints
 # what it should. Of the deepest inputs the least stack is found that works, by halving; half of the 8,192 KB that a system gives
 # a program has to do.
 # GX: the built program, crates/gx/out/gx if it isn't set. RUNS, GIT_RUNS: of how many runs the best is taken, 3 and 1; with
@@ -23,9 +24,15 @@ missed=0
 
 declare -A sizes=(
   [line]=100000000 [progress]=10000000 [marks]=1000000 [changes]=1000000 [directory]=100000 [deep]=1000 [swap]=10000
-  [resets]=100000 [parents]=10000 [tags]=100000 [rename]=1000 [copies]=20 [reload]=20 [walk]=10000 [claimed]=1000000
+  [resets]=100000 [parents]=10000 [tags]=100000 [rename]=1000 [copies]=10 [reload]=10 [walk]=10000 [claimed]=1000000
+  [nothing]=10000 [renames]=5000 [folders]=5000 [copied]=5000 [random]=25000 [emptied]=10000 [changed]=2000 [shared]=2000
+  [old]=1000 [tagged]=1000 [standing]=1000 [new]=1000 [moved]=500 [back]=500 [merges]=500 [zeros]=2500000 [delimiter]=5000000
+  [stale]=8 [fronts]=500 [apart]=250 [listed]=5
 )
-all=(line progress marks changes directory deep swap resets parents tags rename copies reload walk claimed stack)
+all=(
+  line progress marks changes directory deep swap resets parents tags rename copies reload walk claimed nothing renames folders
+  copied random emptied changed shared old tagged standing new moved back merges zeros delimiter stale fronts apart listed stack
+)
 
 # before each run: an empty store, and a new repository of git's
 # shellcheck disable=SC2317  # called by their names
@@ -74,16 +81,21 @@ bytes_of() { stat -c %s "$1" | awk '{ if ($1 < 1000000) printf "%.1f KB", $1 / 1
 ratio() { echo "$1 $2 $3" | awk '{ if ($1 < $3) $1 = $3; if ($2 < $3) $2 = $3; printf "%.1f", $2 / $1 }'; }
 at_most() { awk -v a="$1" -v b="$2" 'BEGIN { exit !(a <= b) }'; }
 
-# the word for a bound, after the times of both sizes and git's: verdict KIND ONCE TWICE GIT
+# whether one run takes at most so many times the memory of another, and so many times its time
+keeps_memory() { at_most "$(ratio "${1#* }" "${2#* }" "$memory_floor")" "$most"; }
+keeps_time() { at_most "$(ratio "${1% *}" "${2% *}" "$floor")" "$most"; }
+
+# the word for a bound, after git's time and those of three sizes: verdict GIT ONCE TWICE FOUR
 verdict() {
-  local once=$2 twice=$3 git=$4
-  if [ "$once" = over ] || [ "$twice" = over ]; then
+  local git=$1
+  shift
+  if [[ " $* " == *' over '* ]]; then
     echo missed
-  elif ! at_most "$(ratio "${once#* }" "${twice#* }" "$memory_floor")" "$most"; then
+  elif ! keeps_memory "$1" "$2" || ! keeps_memory "$2" "$3"; then
     echo missed
-  elif at_most "$(ratio "${once% *}" "${twice% *}" "$floor")" "$most"; then
+  elif keeps_time "$1" "$2" && keeps_time "$2" "$3"; then
     echo kept
-  elif [ "$1" = directory ] && [ -n "$git" ] && { [ "$git" = over ] || at_most "${twice% *}" "${git% *}"; }; then
+  elif [ -n "$git" ] && { [ "$git" = over ] || at_most "${3% *}" "${git% *}"; }; then
     echo "kept, by git's time"
   else
     echo missed
@@ -91,8 +103,8 @@ verdict() {
 }
 
 ratios() {
-  if [ "$1" = over ] || [ "$2" = over ]; then echo '|'; return; fi
-  echo "$(ratio "${1% *}" "${2% *}" "$floor") | $(ratio "${1#* }" "${2#* }" "$memory_floor")"
+  if [ "$1" = over ] || [ "$2" = over ]; then echo '-'; return; fi
+  echo "$(ratio "${1% *}" "${2% *}" "$floor"), $(ratio "${1#* }" "${2#* }" "$memory_floor")"
 }
 
 # blobs of 1 KB that have as many bytes as a file: plain FILE
@@ -103,12 +115,12 @@ plain() {
   input=/dev/null
 }
 
-# row KIND SIZE BYTES ONCE TWICE PLAIN GIT
+# row KIND SIZE BYTES PLAIN GIT ONCE TWICE FOUR
 row() {
   local word
-  word=$(verdict "$1" "$4" "$5" "$7")
+  word=$(verdict "${@:5}")
   [ "$word" != missed ] || missed=1
-  echo "| $1 $2, $3 | $(shown "$4") | $(shown "$5") | $(ratios "$4" "$5") | $(shown "$6") | $(shown "$7") | $word |"
+  echo "| $1 $2, $3 | $(shown "$6") | $(shown "$7") | $(shown "$8") | $(ratios "$6" "$7"); $(ratios "$7" "$8") | $(shown "$4") | $(shown "$5") | $word |"
 }
 
 # both programs have the same refs, where git came to its end: same_refs GIT
@@ -118,19 +130,21 @@ same_refs() {
 }
 
 measure_stream() {
-  local kind=$1 size=$((${sizes[$1]} / divide)) once twice='' beside git=''
-  python3 bench/hostile.py "$kind" "$size" > "$folder/stream"
-  python3 bench/hostile.py "$kind" "$((2 * size))" > "$folder/stream2"
-  beside=$(plain "$folder/stream")
-  input=$folder/stream
-  once=$(best "${RUNS:-3}" prepare_import 0 "$gx" import "$folder/store")
-  input=$folder/stream2
-  twice=$(best "${RUNS:-3}" prepare_import 0 "$gx" import "$folder/store")
-  if [ "${GIT_RUNS:-1}" -gt 0 ] && [ "$twice" != over ]; then
+  local kind=$1 size=$((${sizes[$1]} / divide)) times=() bytes='' beside='' git='' times_size
+  for times_size in 1 2 4; do
+    python3 bench/hostile.py "$kind" "$((times_size * size))" > "$folder/stream"
+    if [ -z "$bytes" ]; then
+      bytes=$(bytes_of "$folder/stream")
+      beside=$(plain "$folder/stream")
+    fi
+    input=$folder/stream
+    times+=("$(best "${RUNS:-3}" prepare_import 0 "$gx" import "$folder/store")")
+  done
+  if [ "${GIT_RUNS:-1}" -gt 0 ] && [ "${times[2]}" != over ]; then
     git=$(best "${GIT_RUNS:-1}" prepare_git 0 git -C "$folder/repo" fast-import --quiet)
     same_refs "$git"
   fi
-  row "$kind" "$size" "$(bytes_of "$folder/stream")" "$once" "$twice" "$beside" "$git"
+  row "$kind" "$size" "$bytes" "$beside" "$git" "${times[@]}"
   input=/dev/null
 }
 
@@ -144,22 +158,54 @@ words() {
 
 measure_walk() {
   local size=$((sizes[walk] / divide)) at times=()
-  for at in "$size" "$((2 * size))"; do
+  for at in "$size" "$((2 * size))" "$((4 * size))"; do
     words "$at" "$folder/walked"
     mapfile -t range < "$folder/walked.words"
     times+=("$(best "${RUNS:-3}" : 0 "$gx" log "$folder/walked" -- "${range[@]}")")
   done
-  row walk "$size" "$(bytes_of "$folder/walked")" "${times[@]}" "$(best "${RUNS:-3}" : 0 "$gx" refs "$folder/walked")" ''
+  row walk "$size" "$(bytes_of "$folder/walked")" "$(best "${RUNS:-3}" : 0 "$gx" refs "$folder/walked")" '' "${times[@]}"
+}
+
+# `log` of so many words `a...b`, each of two commits, over a line of twenty times as many
+measure_apart() {
+  local size=$((sizes[apart] / divide)) at times=() git
+  for at in "$size" "$((2 * size))" "$((4 * size))"; do
+    rm -f "$folder/walked"
+    "$gx" init "$folder/walked"
+    python3 bench/hostile.py chain "$((20 * at))" > "$folder/stream"
+    "$gx" import "$folder/walked" < "$folder/stream"
+    mapfile -t range < <("$gx" log "$folder/walked" main | head -n "$((2 * at))" | paste -d . - /dev/null /dev/null - | head -n "$at")
+    times+=("$(best "${RUNS:-3}" : 0 "$gx" log "$folder/walked" -- "${range[@]}")")
+  done
+  prepare_git
+  git -C "$folder/repo" fast-import --quiet < "$folder/stream"
+  git=$(best "${GIT_RUNS:-1}" : 0 git -C "$folder/repo" rev-list "${range[@]}")
+  row apart "$size" "$(bytes_of "$folder/walked")" '' "$git" "${times[@]}"
+}
+
+# `ls -r` of a tree with two paths to the power of twice a size and five, and of twice and four times as many
+measure_listed() {
+  local size=$((sizes[listed] / divide)) at times=() git
+  for at in "$((2 * size + 5))" "$((2 * size + 6))" "$((2 * size + 7))"; do
+    prepare_import
+    prepare_git
+    python3 bench/hostile.py copies "$at" > "$folder/stream"
+    "$gx" import "$folder/store" < "$folder/stream"
+    times+=("$(best "${RUNS:-3}" : 0 "$gx" ls -r "$folder/store" main)")
+  done
+  git -C "$folder/repo" fast-import --quiet < "$folder/stream"
+  git=$(best "${GIT_RUNS:-1}" : 0 git -C "$folder/repo" ls-tree -r refs/heads/main)
+  row listed "$((2 ** (2 * size + 5)))" "$(bytes_of "$folder/store")" '' "$git" "${times[@]}"
 }
 
 measure_claimed() {
   local size=$((sizes[claimed] / divide)) at times=()
-  for at in "$size" "$((2 * size))"; do
+  for at in "$size" "$((2 * size))" "$((4 * size))"; do
     python3 bench/hostile.py claimed "$at" > "$folder/claiming"
     times+=("$(best "${RUNS:-3}" : 1 "$gx" refs "$folder/claiming")")
     [ "$(cat "$folder/fault")" = 'gx: store: Truncated' ] || { cat "$folder/fault" >&2; missed=1; }
   done
-  row claimed "$size" "$(bytes_of "$folder/claiming")" "${times[@]}" '' ''
+  row claimed "$size" "$(bytes_of "$folder/claiming")" '' '' "${times[@]}"
 }
 
 # the status of a run on a stack of so many KB: on_stack KB COMMAND..
@@ -212,8 +258,7 @@ measure_stack() {
   input=$folder/stream
   stack_row 'import, 2,048 components' prepare_import "$gx" import "$folder/store"
   cp "$folder/store" "$deep"
-  python3 bench/hostile.py rename 2000 > "$folder/stream2"
-  input=$folder/stream2
+  python3 bench/hostile.py rename 2000 > "$folder/stream"
   stack_row 'import, 2,000 renames' prepare_import "$gx" import "$folder/store"
   input=/dev/null
   stack_row 'ls -r, 2,048 components' : "$gx" ls -r "$deep" main
@@ -225,12 +270,14 @@ measure_stack() {
 [ $# -gt 0 ] || set -- "${all[@]}"
 echo "load average before: $(cut -d ' ' -f 1 /proc/loadavg)"
 # shellcheck disable=SC2016  # a table's head
-echo '| Input | `gx` | Twice the size | Times the time | Times the memory | Blobs, as many bytes | Twice the size, `git fast-import` | Bound |'
+echo '| Input | `gx` | Twice the size | Four times | Times the time and the memory, of each doubling | Blobs, as many bytes | Four times, git | Bound |'
 echo '|---|---|---|---|---|---|---|---|'
 for kind in "$@"; do
   case $kind in
     walk) measure_walk ;;
     claimed) measure_claimed ;;
+    apart) measure_apart ;;
+    listed) measure_listed ;;
     stack) measure_stack ;;
     *) [ -n "${sizes[$kind]:-}" ] || { echo "there is no kind $kind: ${all[*]}" >&2; exit 2; }
       measure_stream "$kind" ;;

@@ -4,7 +4,7 @@ use Rattle.std.specs.Prelude.{slice_index_or}
 use Rattle.std.specs.List.{AllByRecursion, slice_get}
 use Rattle.std.proofs.Math.Dec.{eqb}
 use Rattle.std.proofs.lemmas.Bool.Decides.{eqb_tells}
-use Rattle.std.proofs.lemmas.List.{drop-append-le, take-append-le, length-drop, length-map, length-replicate, map-append}
+use Rattle.std.proofs.lemmas.List.{drop-append-le, take-append-le, length-drop, length-map, map-append}
 use Rattle.gx_model.specs.Histories.Values.{Commit, commit_value, list_of, parents_of}
 use Rattle.gx_model.specs.Histories.{Records}
 use Rattle.gx_model.specs.Histories.Marks.{IsAt}

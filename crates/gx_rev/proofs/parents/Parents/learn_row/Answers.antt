@@ -1,7 +1,5 @@
-use Rattle.std.proofs.Common.{◌∙◌, arith, length-set}
-use Rattle.gx_model.specs.Histories.Values.{commit_value}
-use Rattle.gx_model.specs.Laws.RepositoryLaws.{values_of}
-use Rattle.gx_model.proofs.Standing.{at_within, commit_at_place, commit_name_there}
+use Rattle.std.proofs.Common.{arith}
+use Rattle.gx_model.proofs.Standing.{commit_at_place, commit_name_there}
 use Rattle.gx_rev.specs.Objects.{commit_at}
 use Rattle.gx_rev.specs.declared.parents.Row.{Row}
 use Rattle.gx_rev.proofs.ParentPlaces.{known_there, learned, rows_stay}

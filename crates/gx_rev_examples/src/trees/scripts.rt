@@ -214,6 +214,29 @@ duplicate
 put z:x6
 is ab.c:f2 ab/x:f1 m:l3 z:x6
 other ab.c:f2 ab/x:f1 m:l3
+$ 0 0 a copy keeps its files where those of the other change
+fill d/e/f:f1 d/g:x2 m:l3
+copy d n
+put d/e/f:f4
+is d/e/f:f4 d/g:x2 m:l3 n/e/f:f1 n/g:x2
+put n/e/h:f5
+remove d/g
+is d/e/f:f4 m:l3 n/e/f:f1 n/e/h:f5 n/g:x2
+rename n/e/f n/e/i
+copy n/e d/e
+is d/e/h:f5 d/e/i:f1 m:l3 n/e/h:f5 n/e/i:f1 n/g:x2
+$ 0 0 renames within a directory, of a file and of a directory, leave a duplicate
+fill d/e/f:f1 d/g:x2 m:l3
+duplicate
+rename d/g d/h
+is d/e/f:f1 d/h:x2 m:l3
+rename d/e d/i
+is d/h:x2 d/i/f:f1 m:l3
+rename d/h d/i
+is d/i:x2 m:l3
+rename m d
+is d:l3
+other d/e/f:f1 d/g:x2 m:l3
 ";
 
 /// Trees that are written into stores, and loaded.
@@ -370,6 +393,13 @@ fill a/f:f1
 put a/*4002:f1
 copy a *95 = PathTooLong
 copy a *94
+$ 0 0 and of files that are gone: the directory has 2^40 files again
+fill a/f:f1
+put a/*4002:f1
+remove a/*4002
+double 40
+copy a *4014 = PathTooLong
+copy a *4013
 ";
 
 /// Growths that are refused. They leave the files.
@@ -421,6 +451,20 @@ $ 0 0 a removal takes none where no directory is shared
 fill d/e/f:f1 d/e.x:x2 d/l:l3 m:g4 n/m:g5
 ?remove d/e
 is d/e.x:x2 d/l:l3 m:g4 n/m:g5
+$ 0 0 nor does one of nothing, with a duplicate too
+fill d/e/f:f1 d/e.x:x2 d/l:l3 m:g4 n/m:g5
+duplicate
+?remove d/e/g
+is d/e.x:x2 d/e/f:f1 d/l:l3 m:g4 n/m:g5
+$ 1 199 a rename within a directory
+fill d/e/f:f1 d/e.x:x2 d/l:l3 m:g4 n/m:g5
+?rename d/e/f d/e/left-of-twenty-five-bytes
+-is d/e.x:x2 d/e/f:f1 d/l:l3 m:g4 n/m:g5
++is d/e.x:x2 d/e/left-of-twenty-five-bytes:f1 d/l:l3 m:g4 n/m:g5
+$ 0 0 takes none onto a file
+fill d/e/f:f1 d/e/g:x2 m:g4
+?rename d/e/f d/e/g
+is d/e/g:f1 m:g4
 $ 0 0 a file that stands is changed without memory
 fill d/e/f:f1 d/e.x:x2 d/l:l3 m:g4 n/m:g5
 ?put d/e/f:x7

@@ -8,10 +8,11 @@ use Rattle.gx_model.specs.Texts.{Bytes}
 use Rattle.gx_model.specs.Export.{commit_ish_text, dataref_in, dataref_text, mark_text, marked_in, number_in, word_line}
 use Rattle.gx_model.specs.Histories.{Record}
 use Rattle.gx_model.specs.Records.HistoryOf.{Named, bytes_of_blob, content_of, value_named}
+use Rattle.gx_model.specs.Streams.Commands.{CommitIsh}
 use Rattle.gx_model.specs.Streams.Items.{Item}
 use Rattle.gx_model.specs.Records.Sound.{Holds, IsHeldAs}
 use Rattle.gx_model.specs.Histories.Values.{Commit, Value, blob_value, commit_value}
-use Rattle.gx_export.specs.Texts.{parent_items}
+use Rattle.gx_export.specs.Texts.{parents_by}
 
 -- ---- files
 
@@ -33,10 +34,14 @@ file_dataref named ws Dir n g d = absurd (d refl)
 
 -- ---- parents
 
+-- commits are named by their marks
+abbrev pub by_marks : List Value → Commit → CommitIsh
+by_marks ws p = marked_in ws (commit_value p)
+
 -- the line of the parent with this number, from 0
-abbrev pub parent_line : List Value → ℕ → Commit → Item
-parent_line ws zero p = word_line (codes "from") (commit_ish_text (marked_in ws (commit_value p)))
-parent_line ws (suc n) p = word_line (codes "merge") (commit_ish_text (marked_in ws (commit_value p)))
+abbrev pub parent_line : (Commit → CommitIsh) → ℕ → Commit → Item
+parent_line names zero p = word_line (codes "from") (commit_ish_text (names p))
+parent_line names (suc n) p = word_line (codes "merge") (commit_ish_text (names p))
 
 -- what stands at a place passes what all pass
 pub passes_at : {X : Type 0} (P : X → Type 0) (xs : List X) (i : ℕ) (x : X) → AllByRecursion P xs → Some x ≡ slice_get xs i → P x
@@ -56,35 +61,35 @@ image_at f [] i x e = absurd cc
 image_at f (y ∷ ys) zero x e = let same : y ≡ x = cc in ap (λ z. Some (f z)) same
 image_at f (y ∷ ys) (suc i) x e = image_at f ys i x e
 
--- the line, by its word and the parent's mark
-pub line_is : (ws : List Value) (n : ℕ) (p : Commit) (word : Bytes) (mark : ℕ) → (n ≡ 0 → word ≡ codes "from") → (n ≢ 0 → word ≡ codes "merge") → mark ≡ number_in ws (commit_value p) → word_line word (mark_text mark) ≡ parent_line ws n p
-line_is ws zero p word mark first other e = let w = first refl in λ i. word_line (w i) (mark_text (e i))
-line_is ws (suc n) p word mark first other e = let w = other (λ k. omega (arith, k)) in λ i. word_line (w i) (mark_text (e i))
+-- the line, by its word and what names the parent
+pub line_is : (names : Commit → CommitIsh) (n : ℕ) (p : Commit) (word : Bytes) (named : CommitIsh) → (n ≡ 0 → word ≡ codes "from") → (n ≢ 0 → word ≡ codes "merge") → named ≡ names p → word_line word (commit_ish_text named) ≡ parent_line names n p
+line_is names zero p word named first other e = let w = first refl in λ i. word_line (w i) (commit_ish_text (e i))
+line_is names (suc n) p word named first other e = let w = other (λ k. omega (arith, k)) in λ i. word_line (w i) (commit_ish_text (e i))
 
-abbrev merges : List Value → List Commit → List Item
-merges ws ps = map (λ p. word_line (codes "merge") (commit_ish_text p)) (map (λ q. marked_in ws (commit_value q)) ps)
+abbrev merges : (Commit → CommitIsh) → List Commit → List Item
+merges names ps = map (λ p. word_line (codes "merge") (commit_ish_text p)) (map names ps)
 
-merges_next : (ws : List Value) (ps : List Commit) (i : ℕ) (p : Commit) → slice_get ps i ≡ Some p → merges ws (take (suc i) ps) ≡ merges ws (take i ps) ++ (parent_line ws 1 p ∷ [])
-merges_next ws [] i p e = absurd cc
-merges_next ws (q ∷ ps) zero p e = let same : q ≡ p = cc in ap (λ z. parent_line ws 1 z ∷ []) same
-merges_next ws (q ∷ ps) (suc i) p e = ap (λ z. parent_line ws 1 q ∷ z) (merges_next ws ps i p e)
+merges_next : (names : Commit → CommitIsh) (ps : List Commit) (i : ℕ) (p : Commit) → slice_get ps i ≡ Some p → merges names (take (suc i) ps) ≡ merges names (take i ps) ++ (parent_line names 1 p ∷ [])
+merges_next names [] i p e = absurd cc
+merges_next names (q ∷ ps) zero p e = let same : q ≡ p = cc in ap (λ z. parent_line names 1 z ∷ []) same
+merges_next names (q ∷ ps) (suc i) p e = ap (λ z. parent_line names 1 q ∷ z) (merges_next names ps i p e)
 
-merges_parts : (ws : List Value) (ps : List Commit) (i : ℕ) (p : Commit) → slice_get ps i ≡ Some p → merges ws ps ≡ merges ws (take i ps) ++ (parent_line ws 1 p ∷ merges ws (drop (suc i) ps))
-merges_parts ws [] i p e = absurd cc
-merges_parts ws (q ∷ ps) zero p e = let same : q ≡ p = cc in ap (λ z. parent_line ws 1 z ∷ merges ws ps) same
-merges_parts ws (q ∷ ps) (suc i) p e = ap (λ z. parent_line ws 1 q ∷ z) (merges_parts ws ps i p e)
+merges_parts : (names : Commit → CommitIsh) (ps : List Commit) (i : ℕ) (p : Commit) → slice_get ps i ≡ Some p → merges names ps ≡ merges names (take i ps) ++ (parent_line names 1 p ∷ merges names (drop (suc i) ps))
+merges_parts names [] i p e = absurd cc
+merges_parts names (q ∷ ps) zero p e = let same : q ≡ p = cc in ap (λ z. parent_line names 1 z ∷ merges names ps) same
+merges_parts names (q ∷ ps) (suc i) p e = ap (λ z. parent_line names 1 q ∷ z) (merges_parts names ps i p e)
 
-next_parent : (ws : List Value) (ps : List Commit) (i : ℕ) (p : Commit) → slice_get ps i ≡ Some p → parent_items ws (take (suc i) ps) ≡ parent_items ws (take i ps) ++ (parent_line ws i p ∷ [])
-next_parent ws [] i p e = absurd cc
-next_parent ws (q ∷ ps) zero p e = let same : q ≡ p = cc in ap (λ z. parent_line ws 0 z ∷ []) same
-next_parent ws (q ∷ ps) (suc i) p e = ap (λ z. parent_line ws 0 q ∷ z) (merges_next ws ps i p e)
+next_parent : (names : Commit → CommitIsh) (ps : List Commit) (i : ℕ) (p : Commit) → slice_get ps i ≡ Some p → parents_by names (take (suc i) ps) ≡ parents_by names (take i ps) ++ (parent_line names i p ∷ [])
+next_parent names [] i p e = absurd cc
+next_parent names (q ∷ ps) zero p e = let same : q ≡ p = cc in ap (λ z. parent_line names 0 z ∷ []) same
+next_parent names (q ∷ ps) (suc i) p e = ap (λ z. parent_line names 0 q ∷ z) (merges_next names ps i p e)
 
 -- the lines of one parent more
-pub parents_next : (ws : List Value) (ps : List Commit) (i : ℕ) (p : Commit) → slice_get ps i ≡ Some p → parent_items ws (take (i + 1) ps) ≡ parent_items ws (take i ps) ++ (parent_line ws i p ∷ [])
-parents_next ws ps i p e = let step : i + 1 ≡ suc i = omega arith in ap (λ n. parent_items ws (take n ps)) step ∙ next_parent ws ps i p e
+pub parents_next : (names : Commit → CommitIsh) (ps : List Commit) (i : ℕ) (p : Commit) → slice_get ps i ≡ Some p → parents_by names (take (i + 1) ps) ≡ parents_by names (take i ps) ++ (parent_line names i p ∷ [])
+parents_next names ps i p e = let step : i + 1 ≡ suc i = omega arith in ap (λ n. parents_by names (take n ps)) step ∙ next_parent names ps i p e
 
 -- those before, this one's, and those behind it
-pub parents_parts : (ws : List Value) (ps : List Commit) (i : ℕ) (p : Commit) → slice_get ps i ≡ Some p → (rest : List Item) × (parent_items ws ps ≡ parent_items ws (take i ps) ++ (parent_line ws i p ∷ rest))
-parents_parts ws [] i p e = absurd cc
-parents_parts ws (q ∷ ps) zero p e = let same : q ≡ p = cc in (merges ws ps, ap (λ z. parent_line ws 0 z ∷ merges ws ps) same)
-parents_parts ws (q ∷ ps) (suc i) p e = (merges ws (drop (suc i) ps), ap (λ z. parent_line ws 0 q ∷ z) (merges_parts ws ps i p e))
+pub parents_parts : (names : Commit → CommitIsh) (ps : List Commit) (i : ℕ) (p : Commit) → slice_get ps i ≡ Some p → (rest : List Item) × (parents_by names ps ≡ parents_by names (take i ps) ++ (parent_line names i p ∷ rest))
+parents_parts names [] i p e = absurd cc
+parents_parts names (q ∷ ps) zero p e = let same : q ≡ p = cc in (merges names ps, ap (λ z. parent_line names 0 z ∷ merges names ps) same)
+parents_parts names (q ∷ ps) (suc i) p e = (merges names (drop (suc i) ps), ap (λ z. parent_line names 0 q ∷ z) (merges_parts names ps i p e))

@@ -1,5 +1,5 @@
 -- The items of a commit in their parts, and what is shown of a held commit.
-use Rattle.std.proofs.Common.{◌≡◌, ℕ, zero, suc, ◌+◌, ◌<◌, List, [], ◌∷◌, ◌++◌, map, length, Option, Some, Result, Ok, Err, refl, sym, ap, subst, ◌∙◌, arith, append_assoc, codes, IsTrue}
+use Rattle.std.proofs.Common.{◌≡◌, ℕ, zero, suc, ◌<◌, List, [], ◌∷◌, ◌++◌, map, length, Option, Some, Result, Ok, Err, refl, sym, ap, subst, ◌∙◌, arith, append_assoc, codes, IsTrue}
 use Rattle.std.specs.Bool.{passes}
 use Rattle.std.specs.List.{AllByRecursion, fold, slice_get}
 use Rattle.std.specs.Result.{OnOk}
@@ -8,7 +8,7 @@ use Rattle.std.proofs.lemmas.List.{append-nil, length-append}
 use Rattle.gx_model.specs.declared.objects.Kind.{Kind}
 use Rattle.gx_model.specs.declared.objects.Kind.TheVariants as kind
 use Rattle.gx_model.specs.Texts.{Bytes}
-use Rattle.gx_model.specs.Export.{all_written, blob_commands, command_items, commit_command, commit_ish_text, contents, first_parent, from_line, last_reset, one_commit, optional_line, other_parents, root_reset, to_nothing, carrier, with_blobs, with_commit, word_line}
+use Rattle.gx_model.specs.Export.{all_written, blob_commands, command_items, commit_command, commit_ish_text, contents, first_parent, from_line, last_reset, one_commit, optional_line, other_parents, reset_before, root_reset, to_nothing, carrier, with_blobs, with_commit, word_line}
 use Rattle.gx_model.specs.Histories.Files.{FileMap}
 use Rattle.gx_model.specs.Histories.{IsIn, Records}
 use Rattle.gx_model.specs.Records.HistoryOf.{commit_of_value, contents_of, history_of, named_values, value_of_name}
@@ -34,15 +34,15 @@ use Rattle.gx_export.proofs.Writing.{items_append}
 
 -- ---- resets
 
--- the reset before a commit
-pub root_is : (ps : List Commit) → root_items (length ps) ≡ items_of (root_reset ps)
-root_is [] = refl
-root_is (p ∷ ps) = refl
+-- the reset of its ref before a commit
+pub root_is : (ref : Bytes) (ps : List Commit) → root_items ref (length ps) ≡ items_of (reset_before ref ps)
+root_is ref [] = refl
+root_is ref (p ∷ ps) = refl
 
 -- a commit with parents has none
-pub no_root : (n : ℕ) → (n ≡ 0 → ⊥) → [] ≡ root_items n
-no_root zero h = absurd (h refl)
-no_root (suc n) h = refl
+pub no_root : (ref : Bytes) (n : ℕ) → (n ≡ 0 → ⊥) → [] ≡ root_items ref n
+no_root ref zero h = absurd (h refl)
+no_root ref (suc n) h = refl
 
 last_some : (n : ℕ) → 0 < n → last_items n ≡ command_items (to_nothing carrier)
 last_some zero h = absurd (omega arith)
@@ -71,21 +71,21 @@ commit_parts ws c =
     let others = map (λ p. word_line (codes "merge") (commit_ish_text p)) (other_parents ws ps) in
     let changes = change_lines ws (files_of c) in
     let line = optional_line (codes "encoding") text.encoding in
-    ap (λ (is : List Item). author_items (suc (length ws)) text ++ is)
+    ap (λ (is : List Item). author_items carrier (suc (length ws)) text ++ is)
     (ap (λ (is : List Item). line ++ (Data text.message ∷ is)) (sym (append_assoc front others changes)) ∙ sym (append_assoc line (Data text.message ∷ []) (parent_items ws ps ++ changes)))
 
 -- the blobs of a commit, the reset before it, and its lines
 pub one_commit_parts : (ws : List Value) (c : Commit)
-    → items_of (one_commit ws c) ≡ items_of (blob_commands ws (contents (files_of c))) ++ (root_items (length (list_of (parents_of c))) ++ commit_lines (with_blobs ws (contents (files_of c))) (text_of c) (list_of (parents_of c)) (files_of c))
+    → items_of (one_commit ws c) ≡ items_of (blob_commands ws (contents (files_of c))) ++ (root_items carrier (length (list_of (parents_of c))) ++ commit_lines (with_blobs ws (contents (files_of c))) (text_of c) (list_of (parents_of c)) (files_of c))
 one_commit_parts ws c =
     let us = with_blobs ws (contents (files_of c)) in
     let ps = list_of (parents_of c) in
     let blobs = blob_commands ws (contents (files_of c)) in
-    let root = sym (root_is ps) in
+    let root = sym (root_is carrier ps) in
     let lines = append-nil (command_items (commit_command us c)) ∙ commit_parts us c in
     flat_map-append command_items blobs (root_reset ps ++ (commit_command us c ∷ []))
     ∙ ap (λ (is : List Item). items_of blobs ++ is) (flat_map-append command_items (root_reset ps) (commit_command us c ∷ [])
-    ∙ ap (λ (is : List Item). is ++ items_of (commit_command us c ∷ [])) root ∙ ap (λ (is : List Item). root_items (length ps) ++ is) lines)
+    ∙ ap (λ (is : List Item). is ++ items_of (commit_command us c ∷ [])) root ∙ ap (λ (is : List Item). root_items carrier (length ps) ++ is) lines)
 
 -- a commit's lines are no empty text
 lines_some : (ws : List Value) (text : CommitText) (ps : List Commit) (f : FileMap Bytes) → 0 < length (items_text (commit_lines ws text ps f))
@@ -93,10 +93,10 @@ lines_some ws text ps f = omega arith
 
 -- where a commit's items went out, some bytes give no mark
 pub some_unmarked : {A : Type 0} (r : Records) (us : List Value) (n : ℕ) (text : CommitText) (ps : List Commit) (f : FileMap Bytes) (old new : Written A) (was now : Option Taken) (result : Result (Unit {0}) ExportFault)
-    → HasWritten r us old → Adds r us (root_items n ++ commit_lines us text ps f) old new was now result → OnOk result (new.count < new.bytes)
+    → HasWritten r us old → Adds r us (root_items carrier n ++ commit_lines us text ps f) old new was now result → OnOk result (new.count < new.bytes)
 some_unmarked r us n text ps f old new was now (Ok x) h k =
     let l = lines_some us text ps f in
-    let long = ap length (items_append (root_items n) (commit_lines us text ps f)) ∙ length-append (items_text (root_items n)) (items_text (commit_lines us text ps f)) in
+    let long = ap length (items_append (root_items carrier n) (commit_lines us text ps f)) ∙ length-append (items_text (root_items carrier n)) (items_text (commit_lines us text ps f)) in
     let before = h.count in
     let each = h.each in
     let after = k.0.count in
@@ -116,12 +116,12 @@ module _ (name : Kind → Bytes → Bytes) (namer : IsNamer name) (r : Records) 
 
   -- its items behind its blobs
   pub items_told : (c : Commit) (view : CommitParts) → IsShownAs c view → (us : List Value)
-      → root_items (length view.parents) ++ commit_lines us view.text (map (λ n. commit_of_value (value_of_name r.records n)) view.parents) (files_of c) ≡ root_items (length (list_of (parents_of c))) ++ commit_lines us (text_of c) (list_of (parents_of c)) (files_of c)
+      → root_items carrier (length view.parents) ++ commit_lines us view.text (map (λ n. commit_of_value (value_of_name r.records n)) view.parents) (files_of c) ≡ root_items carrier (length (list_of (parents_of c))) ++ commit_lines us (text_of c) (list_of (parents_of c)) (files_of c)
   items_told c view s us =
       let text = s.text in
       let count = s.count in
       let parents = s.parents in
-      λ i. root_items (count i) ++ commit_lines us (text i) (parents i) (files_of c)
+      λ i. root_items carrier (count i) ++ commit_lines us (text i) (parents i) (files_of c)
 
   parents_told : (ps : Commits) → AllByRecursion (IsIn (history_of r).values) (map commit_value (list_of ps)) → map (λ n. commit_of_value (value_of_name r.records n)) (names_of name ps) ≡ list_of ps
   parents_told none h = refl

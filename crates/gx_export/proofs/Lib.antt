@@ -1,3 +1,4 @@
+pub mod ApartMaps
 pub mod BlobLists
 pub mod CommitLines
 pub mod CommitLists
@@ -11,3 +12,13 @@ pub mod Gathering
 pub mod HeldEntries
 pub mod Keeping
 pub mod OneMap
+pub mod SideBySide
+pub mod PassedPairs
+pub mod Pairing
+pub mod RankedRefs
+pub mod CommitNames
+pub mod NamedChanges
+pub mod ChangedTexts
+pub mod ChangesTexts
+pub mod ChangedLists
+pub mod BaseFiles

@@ -139,11 +139,11 @@ pub adds_last : {A : Type 0} (r : Records) (ws : List Value) (old : Written A) (
 adds_last r ws old bytes was now result h k = adds_bytes r ws (last_items (length ws)) old bytes was now result h (subst (λ n. Writes old.bytes bytes was now (items_text (last_items n)) result) h.count k)
 
 -- a commit's lines up to its message, under the next mark
-pub adds_head : {A : Type 0} (r : Records) (ws : List Value) (text : CommitText) (old : Written A) (bytes : ℕ) (was now : Option Taken) (result : Result (Unit {0}) ExportFault) → HasWritten r ws old
-    → Writes old.bytes bytes was now (items_text (head_items (old.count + 1) text)) result → Adds r ws (head_items (suc (length ws)) text) old (record old { bytes = bytes }) was now result
-adds_head r ws text old bytes was now result h k =
+pub adds_head : {A : Type 0} (r : Records) (ws : List Value) (ref : Bytes) (text : CommitText) (old : Written A) (bytes : ℕ) (was now : Option Taken) (result : Result (Unit {0}) ExportFault) → HasWritten r ws old
+    → Writes old.bytes bytes was now (items_text (head_items ref (old.count + 1) text)) result → Adds r ws (head_items ref (suc (length ws)) text) old (record old { bytes = bytes }) was now result
+adds_head r ws ref text old bytes was now result h k =
     let mark : old.count + 1 ≡ suc (length ws) = (let e = h.count in omega arith) in
-    adds_bytes r ws (head_items (suc (length ws)) text) old bytes was now result h (subst (λ n. Writes old.bytes bytes was now (items_text (head_items n text)) result) mark k)
+    adds_bytes r ws (head_items ref (suc (length ws)) text) old bytes was now result h (subst (λ n. Writes old.bytes bytes was now (items_text (head_items ref n text)) result) mark k)
 
 -- items behind others
 pub adds_later : {A : Type 0} (r : Records) (us vs : List Value) (xs ys : List Item) (old mid new : Written A) (was between now : Option Taken) (result : Result (Unit {0}) ExportFault)

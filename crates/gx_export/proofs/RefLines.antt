@@ -6,9 +6,9 @@ use Rattle.std.proofs.lemmas.List.{append-nil, map-append}
 use Rattle.gx_model.specs.declared.objects.Kind.{Kind}
 use Rattle.gx_model.specs.declared.objects.Kind.TheVariants as kind
 use Rattle.gx_model.specs.Texts.{Bytes}
-use Rattle.gx_model.specs.Streams.Commands.{Marked, Reset}
+use Rattle.gx_model.specs.Streams.Commands.{CommitIsh, Marked, Reset}
 use Rattle.gx_model.specs.Revisions.Denotation.{commit_in}
-use Rattle.gx_model.specs.Export.{command_items, number_in, ref_command}
+use Rattle.gx_model.specs.Export.{command_items, number_in, ref_by, ref_command}
 use Rattle.gx_model.specs.Records.Growth.{record_named}
 use Rattle.gx_model.specs.Histories.{IsIn, Records}
 use Rattle.gx_model.specs.Records.HistoryOf.{history_of, target_in, value_of_name}
@@ -17,26 +17,26 @@ use Rattle.gx_model.specs.Objects.{IsNamer, TagParts}
 use Rattle.gx_model.specs.Records.{kind_of, name_of}
 use Rattle.gx_model.specs.Replay.{peeled_at}
 use Rattle.gx_model.specs.Records.Sound.{IsSound}
-use Rattle.gx_model.specs.Histories.Values.{Tag, Value, blob_value, commit_value, tag_value, tree_value}
+use Rattle.gx_model.specs.Histories.Values.{Commit, Tag, Value, blob_value, commit_value, tag_value, tree_value}
 use Rattle.gx_model.proofs.LinkedValues.{parts_in}
 use Rattle.gx_model.proofs.HeldValues.{all_whole, held_is, kind_held, value_held}
 use Rattle.gx_model.proofs.PeeledRefs.{told}
 use Rattle.gx_rev.specs.Objects.{parts_of_tag_value}
 use Rattle.gx_export.specs.Texts.{items_of}
 
--- the items of refs, by the names of their objects
-abbrev pub ref_items : Records → List Value → List (Bytes × Bytes) → List Item
-ref_items r ws refs = items_of (map (ref_command ws) (map (told r) refs))
+-- the items of refs, by the names of their objects and what names their commits
+abbrev pub ref_items : Records → (Commit → CommitIsh) → List (Bytes × Bytes) → List Item
+ref_items r names refs = items_of (map (ref_by names) (map (told r) refs))
 
 -- the items of refs behind others
-pub refs_append : (r : Records) (ws : List Value) (xs ys : List (Bytes × Bytes)) → ref_items r ws (xs ++ ys) ≡ ref_items r ws xs ++ ref_items r ws ys
-refs_append r ws xs ys =
-    ap (λ refs. items_of (map (ref_command ws) refs)) (map-append (told r) xs ys) ∙ ap items_of (map-append (ref_command ws) (map (told r) xs) (map (told r) ys))
-    ∙ flat_map-append command_items (map (ref_command ws) (map (told r) xs)) (map (ref_command ws) (map (told r) ys))
+pub refs_append : (r : Records) (names : Commit → CommitIsh) (xs ys : List (Bytes × Bytes)) → ref_items r names (xs ++ ys) ≡ ref_items r names xs ++ ref_items r names ys
+refs_append r names xs ys =
+    ap (λ refs. items_of (map (ref_by names) refs)) (map-append (told r) xs ys) ∙ ap items_of (map-append (ref_by names) (map (told r) xs) (map (told r) ys))
+    ∙ flat_map-append command_items (map (ref_by names) (map (told r) xs)) (map (ref_by names) (map (told r) ys))
 
 -- the items of one ref more
-pub refs_next : (r : Records) (ws : List Value) (xs : List (Bytes × Bytes)) (x : Bytes × Bytes) → ref_items r ws (xs ++ x ∷ []) ≡ ref_items r ws xs ++ command_items (ref_command ws (told r x))
-refs_next r ws xs x = refs_append r ws xs (x ∷ []) ∙ ap (λ is. ref_items r ws xs ++ is) (append-nil (command_items (ref_command ws (told r x))))
+pub refs_next : (r : Records) (names : Commit → CommitIsh) (xs : List (Bytes × Bytes)) (x : Bytes × Bytes) → ref_items r names (xs ++ x ∷ []) ≡ ref_items r names xs ++ command_items (ref_by names (told r x))
+refs_next r names xs x = refs_append r names xs (x ∷ []) ∙ ap (λ is. ref_items r names xs ++ is) (append-nil (command_items (ref_by names (told r x))))
 
 -- ---- the object of a ref
 
@@ -54,6 +54,13 @@ reset_is name ws ref (blob_value x) h e = absurd (cc e)
 reset_is name ws ref (tree_value f) h e = absurd (cc e)
 reset_is name ws ref (commit_value c) h e = refl
 reset_is name ws ref (tag_value t) h e = absurd (h refl)
+
+-- what is no tag, and gives a commit, is one
+pub commit_kind : (name : Kind → Bytes → Bytes) (v : Value) → kind_of name v ≢ kind.Tag → commit_in v ≡ Ok (peeled_at (target_in v)) → kind_of name v ≡ kind.Commit
+commit_kind name (blob_value x) h e = absurd (cc e)
+commit_kind name (tree_value f) h e = absurd (cc e)
+commit_kind name (commit_value c) h e = refl
+commit_kind name (tag_value t) h e = absurd (h refl)
 
 -- the parts of a tag's body
 abbrev pub parts_of_tag : (Kind → Bytes → Bytes) → Tag → TagParts

@@ -1,8 +1,13 @@
+pub mod Branches
+pub mod ChangedParts
+pub mod Compared
 pub mod Exports
 pub mod Faults
 pub mod FileTexts
 pub mod Marks
+pub mod Naming
 pub mod Outputs
+pub mod Pairs
 pub mod Parts
 pub mod Sinks
 pub mod Texts

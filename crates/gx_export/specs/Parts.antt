@@ -4,7 +4,7 @@ use Rattle.std.specs.List.{AllByRecursion}
 use Rattle.gx_model.specs.declared.objects.Kind.{Kind}
 use Rattle.gx_model.specs.declared.objects.Kind.TheVariants as kinds
 use Rattle.gx_model.specs.declared.objects.Mode.{Mode}
-use Rattle.gx_model.specs.Export.{all_written, commit_commands, command_items, contents, one_commit, reached_commits, ref_command, with_blobs, with_commit}
+use Rattle.gx_model.specs.Export.{all_written, carrier, commit_commands, command_items, contents, one_commit, reached_commits, ref_command, with_blobs, with_commit}
 use Rattle.gx_model.specs.Histories.Files.{FileMap}
 use Rattle.gx_model.specs.Histories.{Records}
 use Rattle.gx_model.specs.Records.Sound.{Holds}
@@ -68,7 +68,7 @@ module _ {W : Type 0} (taken : W → Option Taken) where
   abbrev pub AddsBehindBlobs : {A : Type 0} → Records → CommitParts → Bytes → Written A → Written A → W → W → Result (Unit {0}) ExportFault → Type 0
   AddsBehindBlobs repository parts lines old new was now result =
       (ws : List Value) (files : FileMap Bytes) → HasWritten repository ws old → lines ≡ items_text (file_items ws files)
-      → Adds repository ws (root_items (length parts.parents) ++ commit_lines ws parts.text (commits_called repository parts.parents) files) old new (taken was) (taken now) result
+      → Adds repository ws (root_items carrier (length parts.parents) ++ commit_lines ws parts.text (commits_called repository parts.parents) files) old new (taken was) (taken now) result
 
   -- what stands behind a commit's parents goes out, where these are the lines of its files
   abbrev pub WritesChanges : Bytes → ℕ → ℕ → W → W → Result (Unit {0}) ExportFault → Type 0

@@ -7,11 +7,11 @@ use Rattle.gx_model.specs.declared.objects.Mode.{Mode}
 use Rattle.gx_model.specs.Texts.{Bytes}
 use Rattle.gx_model.specs.Streams.Items.{Data, Item, Line}
 use Rattle.gx_model.specs.Histories.Files.{FileMap}
-use Rattle.gx_model.specs.Streams.Commands.{Blob, Command, Marked, Reset, Tag}
+use Rattle.gx_model.specs.Streams.Commands.{Blob, Command, CommitIsh, Reset, Tag}
 use Rattle.gx_model.specs.Objects.{TagParts}
 use Rattle.gx_model.specs.Texts.Paths.{Path, path_text, printed}
-use Rattle.gx_model.specs.Histories.Values.{Commit, CommitText, Value}
-use Rattle.gx_model.specs.Export.{carrier, change_items, command_items, commit_ish_text, file_change, first_parent, from_line, item_text, mark_line, mark_text, mode_digits, optional_line, other_parents, to_nothing, word_line}
+use Rattle.gx_model.specs.Histories.Values.{Commit, CommitText, Value, commit_value}
+use Rattle.gx_model.specs.Export.{carrier, change_items, command_items, commit_ish_text, file_change, first_by, from_line, item_text, mark_line, marked_in, mode_digits, optional_line, others_by, to_nothing, word_line}
 
 -- the bytes of parts, one after the other
 abbrev pub parts_text : List (Bor Bytes) → Bytes
@@ -29,30 +29,30 @@ items_text items = flat_map item_text items
 abbrev pub command_text : Command → Bytes
 command_text command = items_text (command_items command)
 
--- a commit's items up to its committer, under a mark
-abbrev pub author_items : ℕ → CommitText → List Item
-author_items mark text =
-    word_line (codes "commit") carrier ∷ mark_line (Some mark) ++ (optional_line (codes "author") (Some text.author) ++ word_line (codes "committer") text.committer ∷ [])
+-- the items of a commit on a ref up to its committer, under a mark
+abbrev pub author_items : Bytes → ℕ → CommitText → List Item
+author_items ref mark text =
+    word_line (codes "commit") ref ∷ mark_line (Some mark) ++ (optional_line (codes "author") (Some text.author) ++ word_line (codes "committer") text.committer ∷ [])
 
--- a commit's items up to its message
-abbrev pub head_items : ℕ → CommitText → List Item
-head_items mark text = author_items mark text ++ (optional_line (codes "encoding") text.encoding ++ Data text.message ∷ [])
+-- the items of a commit on a ref up to its message
+abbrev pub head_items : Bytes → ℕ → CommitText → List Item
+head_items ref mark text = author_items ref mark text ++ (optional_line (codes "encoding") text.encoding ++ Data text.message ∷ [])
 
 -- a blob under a mark
 abbrev pub blob_under : ℕ → Bytes → Command
 blob_under mark bytes = Blob (record { mark = Some mark; bytes = bytes })
 
--- a reset to a commit that has a mark
-abbrev pub to_marked : Bytes → ℕ → Command
-to_marked name mark = Reset (record { ref = name; parent = Some (Marked mark) })
+-- a reset to a commit
+abbrev pub to_commit : Bytes → CommitIsh → Command
+to_commit name commit = Reset (record { ref = name; parent = Some commit })
 
--- a tag's items up to its commit, by the commit's mark
-abbrev pub target_items : ℕ → Bytes → List Item
-target_items mark name = word_line (codes "tag") name ∷ word_line (codes "from") (mark_text mark) ∷ []
+-- a tag's items up to its commit
+abbrev pub target_items : CommitIsh → Bytes → List Item
+target_items commit name = word_line (codes "tag") name ∷ word_line (codes "from") (commit_ish_text commit) ∷ []
 
--- the tag of a commit that has a mark
-abbrev pub tag_command : ℕ → TagParts → Command
-tag_command mark parts = Tag (record { name = parts.name; mark = None; target = Marked mark; tagger = parts.tagger; message = parts.message })
+-- the tag of a commit
+abbrev pub tag_command : CommitIsh → TagParts → Command
+tag_command commit parts = Tag (record { name = parts.name; mark = None; target = commit; tagger = parts.tagger; message = parts.message })
 
 -- the line of a file, with what it names and its path as texts
 abbrev pub file_line : Mode → Bytes → Bytes → Item
@@ -66,9 +66,13 @@ line_end path = printed (path_text path) ++ 10 ∷ []
 abbrev pub items_of : List Command → List Item
 items_of commands = flat_map command_items commands
 
--- the lines of a commit's parents
+-- the lines of a commit's parents, by what names them
+abbrev pub parents_by : (Commit → CommitIsh) → List Commit → List Item
+parents_by names parents = from_line (first_by names parents) ++ map (λ p. word_line (codes "merge") (commit_ish_text p)) (others_by names parents)
+
+-- by their marks
 abbrev pub parent_items : List Value → List Commit → List Item
-parent_items ws parents = from_line (first_parent ws parents) ++ map (λ p. word_line (codes "merge") (commit_ish_text p)) (other_parents ws parents)
+parent_items ws parents = parents_by (λ p. marked_in ws (commit_value p)) parents
 
 -- the lines of a commit's files
 abbrev pub file_items : List Value → FileMap Bytes → List Item
@@ -78,10 +82,10 @@ file_items ws files = flat_map change_items (map (file_change ws) files)
 abbrev pub change_lines : List Value → FileMap Bytes → List Item
 change_lines ws files = Line (codes "deleteall") ∷ (file_items ws files ++ Line [] ∷ [])
 
--- the reset before a commit with so many parents
-abbrev pub root_items : ℕ → List Item
-root_items zero = command_items (to_nothing carrier)
-root_items (suc parents) = []
+-- the reset of its ref before a commit with so many parents
+abbrev pub root_items : Bytes → ℕ → List Item
+root_items ref zero = command_items (to_nothing ref)
+root_items ref (suc parents) = []
 
 -- the reset behind the commits, where so many marks were given
 abbrev pub last_items : ℕ → List Item
@@ -90,4 +94,4 @@ last_items (suc marks) = command_items (to_nothing carrier)
 
 -- the lines of a commit with these parents and files, which has the next mark
 abbrev pub commit_lines : List Value → CommitText → List Commit → FileMap Bytes → List Item
-commit_lines ws text parents files = head_items (suc (length ws)) text ++ (parent_items ws parents ++ change_lines ws files)
+commit_lines ws text parents files = head_items carrier (suc (length ws)) text ++ (parent_items ws parents ++ change_lines ws files)

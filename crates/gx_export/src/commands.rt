@@ -2,11 +2,13 @@
 
 ghost use Rattle.std.specs.Prelude.{◌≤◌};
 ghost use Rattle.gx_export.specs.Faults.{NeedsNoMemory};
+ghost use Rattle.gx_export.specs.Naming.{shown_commit};
 ghost use Rattle.gx_export.specs.Outputs.{most};
-ghost use Rattle.gx_export.specs.Sinks.{ResetsTo, WritesAuthors, WritesBlob, WritesData, WritesHead, WritesIf, WritesParent, WritesReset, WritesTag, WritesTarget};
+ghost use Rattle.gx_export.specs.Sinks.{ResetsTo, WritesAuthors, WritesBlob, WritesData, WritesHead, WritesIf, WritesLine, WritesParent, WritesReset, WritesTag, WritesTarget};
 
 use crate::ExportFault;
-use crate::output::write_all;
+use crate::naming::CommitIsh;
+use crate::output::{write, write_all};
 use gx_object::{CommitView, TagView};
 use gx_text::Sink;
 use itoa::Buffer;
@@ -59,7 +61,21 @@ fn write_block<W: Sink>(sink: &mut W, sent: &mut u64, bytes: &[u8]) -> Result<()
     )
 }
 
-/// Writes a line with a word and a text, where there is a text.
+/// Writes a line with a word and a text.
+fn write_line<W: Sink>(
+    sink: &mut W,
+    sent: &mut u64,
+    word: &[u8],
+    text: &[u8],
+) -> Result<(), ExportFault>
+    requires { sent.old ≤ most }
+    ensures text { WritesLine W.taken word.now text.now sent.old sent.new sink.old sink.new result }
+    ensures memory { NeedsNoMemory result }
+{
+    write_all(sink, sent, &[word, b" ", text, b"\n"])
+}
+
+/// Writes such a line, where there is a text.
 fn write_optional<W: Sink>(
     sink: &mut W,
     sent: &mut u64,
@@ -71,36 +87,38 @@ fn write_optional<W: Sink>(
     ensures memory { NeedsNoMemory result }
 {
     match text {
-        Some(text) => write_all(sink, sent, &[word, b" ", text, b"\n"]),
+        Some(text) => write_line(sink, sent, word, text),
         None => Ok(()),
     }
 }
 
-/// Writes a commit's lines up to its message, under a mark.
+/// Writes the lines of a branch's next commit up to its message, under a mark.
 pub(crate) fn write_commit_head<W: Sink>(
     sink: &mut W,
     sent: &mut u64,
+    branch: &[u8],
     mark: u64,
     commit: &CommitView<'_>,
 ) -> Result<(), ExportFault>
     requires { sent.old ≤ most }
-    ensures text { WritesHead W.taken mark commit.now sent.old sent.new sink.old sink.new result }
+    ensures text { WritesHead W.taken branch.now mark commit.now sent.old sent.new sink.old sink.new result }
     ensures memory { NeedsNoMemory result }
 {
-    write_authors(sink, sent, mark, commit)?;
+    write_authors(sink, sent, branch, mark, commit)?;
     write_optional(sink, sent, b"encoding", commit.encoding())?;
     write_block(sink, sent, commit.message())
 }
 
-/// Writes a commit's lines up to its committer.
+/// Writes these lines up to its committer.
 fn write_authors<W: Sink>(
     sink: &mut W,
     sent: &mut u64,
+    branch: &[u8],
     mark: u64,
     commit: &CommitView<'_>,
 ) -> Result<(), ExportFault>
     requires { sent.old ≤ most }
-    ensures text { WritesAuthors W.taken mark commit.now sent.old sent.new sink.old sink.new result }
+    ensures text { WritesAuthors W.taken branch.now mark commit.now sent.old sent.new sink.old sink.new result }
     ensures memory { NeedsNoMemory result }
 {
     let mut number = Buffer::new();
@@ -108,7 +126,9 @@ fn write_authors<W: Sink>(
         sink,
         sent,
         &[
-            b"commit refs/gx/export\nmark :".as_slice(),
+            b"commit ".as_slice(),
+            branch,
+            b"\nmark :",
             number.format(mark).as_bytes(),
             b"\nauthor ",
             commit.author(),
@@ -119,23 +139,31 @@ fn write_authors<W: Sink>(
     )
 }
 
-/// Writes the line of a parent, `from` or `merge`.
+/// Writes the line of a parent, with its word.
 pub(crate) fn write_parent<W: Sink>(
     sink: &mut W,
     sent: &mut u64,
     word: &[u8],
-    mark: u64,
+    parent: CommitIsh,
 ) -> Result<(), ExportFault>
     requires { sent.old ≤ most }
-    ensures text { WritesParent W.taken word.now mark sent.old sent.new sink.old sink.new result }
+    ensures text { WritesParent W.taken word.now (shown_commit parent) sent.old sent.new sink.old sink.new result }
     ensures memory { NeedsNoMemory result }
 {
-    let mut number = Buffer::new();
-    write_all(
-        sink,
-        sent,
-        &[word, b" :", number.format(mark).as_bytes(), b"\n"],
-    )
+    match parent {
+        CommitIsh::Marked(mark) => {
+            let mut number = Buffer::new();
+            write_all(
+                sink,
+                sent,
+                &[word, b" :", number.format(mark).as_bytes(), b"\n"],
+            )
+        }
+        CommitIsh::Named(name) => {
+            let digits = name.hex();
+            write_all(sink, sent, &[word, b" ", digits.as_slice(), b"\n"])
+        }
+    }
 }
 
 /// Writes a reset to no commit.
@@ -148,46 +176,37 @@ pub(crate) fn write_reset<W: Sink>(
     ensures text { WritesReset W.taken name.now sent.old sent.new sink.old sink.new result }
     ensures memory { NeedsNoMemory result }
 {
-    write_all(sink, sent, &[b"reset ".as_slice(), name, b"\n"])
+    write_line(sink, sent, b"reset", name)
 }
 
-/// Writes a reset to a commit that has a mark.
+/// Writes a reset to a commit.
 pub(crate) fn write_reset_to<W: Sink>(
     sink: &mut W,
     sent: &mut u64,
     name: &[u8],
-    mark: u64,
+    commit: CommitIsh,
 ) -> Result<(), ExportFault>
     requires { sent.old ≤ most }
-    ensures text { ResetsTo W.taken name.now mark sent.old sent.new sink.old sink.new result }
+    ensures text { ResetsTo W.taken name.now (shown_commit commit) sent.old sent.new sink.old sink.new result }
     ensures memory { NeedsNoMemory result }
 {
-    let mut number = Buffer::new();
-    write_all(
-        sink,
-        sent,
-        &[
-            b"reset ".as_slice(),
-            name,
-            b"\nfrom :",
-            number.format(mark).as_bytes(),
-            b"\n\n",
-        ],
-    )
+    write_reset(sink, sent, name)?;
+    write_parent(sink, sent, b"from", commit)?;
+    write(sink, sent, b"\n")
 }
 
-/// Writes a tag of a commit that has a mark.
+/// Writes a tag of a commit.
 pub(crate) fn write_tag<W: Sink>(
     sink: &mut W,
     sent: &mut u64,
     tag: &TagView<'_>,
-    mark: u64,
+    commit: CommitIsh,
 ) -> Result<(), ExportFault>
     requires { sent.old ≤ most }
-    ensures text { WritesTag W.taken mark tag.now sent.old sent.new sink.old sink.new result }
+    ensures text { WritesTag W.taken (shown_commit commit) tag.now sent.old sent.new sink.old sink.new result }
     ensures memory { NeedsNoMemory result }
 {
-    write_target(sink, sent, tag, mark)?;
+    write_target(sink, sent, tag, commit)?;
     write_optional(sink, sent, b"tagger", tag.tagger())?;
     write_block(sink, sent, tag.message())
 }
@@ -197,22 +216,12 @@ fn write_target<W: Sink>(
     sink: &mut W,
     sent: &mut u64,
     tag: &TagView<'_>,
-    mark: u64,
+    commit: CommitIsh,
 ) -> Result<(), ExportFault>
     requires { sent.old ≤ most }
-    ensures text { WritesTarget W.taken mark tag.now sent.old sent.new sink.old sink.new result }
+    ensures text { WritesTarget W.taken (shown_commit commit) tag.now sent.old sent.new sink.old sink.new result }
     ensures memory { NeedsNoMemory result }
 {
-    let mut number = Buffer::new();
-    write_all(
-        sink,
-        sent,
-        &[
-            b"tag ".as_slice(),
-            tag.name(),
-            b"\nfrom :",
-            number.format(mark).as_bytes(),
-            b"\n",
-        ],
-    )
+    write_line(sink, sent, b"tag", tag.name())?;
+    write_parent(sink, sent, b"from", commit)
 }

@@ -13,6 +13,7 @@ ghost use Rattle.gx_export.specs.Sinks.{WritesRoot};
 use crate::ExportFault;
 use crate::commands::{write_commit_head, write_parent, write_reset};
 use crate::lines::Lines;
+use crate::naming::CommitIsh;
 use crate::output::write_all;
 use crate::trees::add_files;
 use crate::written::{Written, mark_of};
@@ -76,22 +77,23 @@ fn write_behind_blobs<N: Namer, A: Allocator + Copy, W: Sink>(
     ensures adds { AddsBehindBlobs W.taken repo.now.1 commit.now lines.now written.old written.new sink.old sink.new result }
     ensures memory { NeedsNoMemory result }
 {
-    write_root(sink, &mut written.bytes, commit)?;
+    write_root(sink, &mut written.bytes, b"refs/gx/export", commit)?;
     write_lines(repo, sink, written, commit, lines)
 }
 
-/// Writes the reset before a commit without parents.
-fn write_root<W: Sink>(
+/// Writes the reset of a branch before a commit without parents.
+pub(crate) fn write_root<W: Sink>(
     sink: &mut W,
     written: &mut u64,
+    branch: &[u8],
     commit: &CommitView<'_>,
 ) -> Result<(), ExportFault>
     requires { written.old ≤ most }
-    ensures text { WritesRoot W.taken commit.now written.old written.new sink.old sink.new result }
+    ensures text { WritesRoot W.taken branch.now commit.now written.old written.new sink.old sink.new result }
     ensures memory { NeedsNoMemory result }
 {
     if commit.parent_count() == 0 {
-        return write_reset(sink, written, b"refs/gx/export");
+        return write_reset(sink, written, branch);
     }
     Ok(())
 }
@@ -108,7 +110,13 @@ fn write_lines<N: Namer, A: Allocator + Copy, W: Sink>(
     ensures adds { AddsCommitLines W.taken repo.now.1 commit.now lines.now written.old written.new sink.old sink.new result }
     ensures memory { NeedsNoMemory result }
 {
-    write_commit_head(sink, &mut written.bytes, written.count + 1, commit)?;
+    write_commit_head(
+        sink,
+        &mut written.bytes,
+        b"refs/gx/export",
+        written.count + 1,
+        commit,
+    )?;
     write_parents(repo, sink, written, commit)?;
     write_files(sink, &mut written.bytes, lines)
 }
@@ -128,14 +136,19 @@ fn write_parents<N: Namer, A: Allocator + Copy, W: Sink>(
     for number in 0..commit.parent_count() {
         if let Some(parent) = commit.parent(number) {
             let mark = mark_of(repo, written, &parent);
-            write_parent(sink, &mut written.bytes, parent_word(number), mark)?;
+            write_parent(
+                sink,
+                &mut written.bytes,
+                parent_word(number),
+                CommitIsh::Marked(mark),
+            )?;
         }
     }
     Ok(())
 }
 
 /// The word of the line of the parent with this number, from 0.
-fn parent_word(number: usize) -> &'static [u8]
+pub(crate) fn parent_word(number: usize) -> &'static [u8]
     ensures first { number ≡ 0 → result.now ≡ codes "from" }
     ensures other { number ≢ 0 → result.now ≡ codes "merge" }
 {

@@ -2,15 +2,23 @@
 //! The text is that of the repository's history, and goes out as it is made.
 #![tactic(auto)]
 
+mod branches;
+mod changed_commit;
+mod changes;
 mod commands;
 mod commit;
+mod comparing;
 mod exporting;
+mod exporting_changes;
 mod fault;
 mod lines;
+mod naming;
 mod output;
+mod pairs;
 mod refs;
 mod trees;
 mod written;
 
 pub use exporting::export;
+pub use exporting_changes::export_changes;
 pub use fault::ExportFault;

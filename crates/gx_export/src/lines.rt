@@ -236,7 +236,7 @@ fn comes_before(path: &[u8], other: &[u8]) -> bool {
 }
 
 /// Appends a path, as it is printed, and the end of its line.
-fn end_line<A: Allocator + Copy>(
+pub(crate) fn end_line<A: Allocator + Copy>(
     text: &mut Vec<u8, A>,
     path: &TreePath<A>,
 ) -> Result<(), AllocError>
@@ -250,7 +250,10 @@ fn end_line<A: Allocator + Copy>(
 }
 
 /// Appends the bytes of all parts.
-fn append_all<A: Allocator + Copy>(text: &mut Vec<u8, A>, parts: &[&[u8]]) -> Result<(), AllocError>
+pub(crate) fn append_all<A: Allocator + Copy>(
+    text: &mut Vec<u8, A>,
+    parts: &[&[u8]],
+) -> Result<(), AllocError>
     ensures { OnOk result (text.new.items ≡ text.old.items ++ parts_text parts.now) }
 {
     for part in parts {

@@ -9,6 +9,7 @@ ghost use Rattle.gx_export.specs.Parts.{AddsAllRefs, AddsOneRef};
 
 use crate::ExportFault;
 use crate::commands::{write_reset_to, write_tag};
+use crate::naming::CommitIsh;
 use crate::written::{Written, mark_of};
 use gx_object::{Name, Namer};
 use gx_repo::Repo;
@@ -49,11 +50,11 @@ fn write_ref<N: Namer, A: Allocator + Copy, W: Sink>(
     match tag_of(repo, object) {
         None => {
             let mark = mark_of(repo, written, object);
-            write_reset_to(sink, &mut written.bytes, name, mark)
+            write_reset_to(sink, &mut written.bytes, name, CommitIsh::Marked(mark))
         }
         Some(tag) => {
             let mark = mark_of(repo, written, &tag.object());
-            write_tag(sink, &mut written.bytes, &tag, mark)
+            write_tag(sink, &mut written.bytes, &tag, CommitIsh::Marked(mark))
         }
     }
 }

@@ -23,7 +23,7 @@ use gx_text::{Sink, TextFault, TreePath};
 use std::alloc::{AllocError, Allocator};
 
 /// The bytes of the longest path.
-const MOST_BYTES: usize = 4095;
+pub(crate) const MOST_BYTES: usize = 4095;
 
 /// Writes the blobs of a held commit's files that weren't written yet, and gathers the files' lines.
 pub(crate) fn add_files<N: Namer, A: Allocator + Copy, W: Sink>(
@@ -142,7 +142,7 @@ fn add_entry<N: Namer, A: Allocator + Copy, W: Sink>(
 }
 
 /// Writes a file's blob, where it wasn't written yet, and gathers the file's line.
-fn add_file<N: Namer, A: Allocator + Copy, W: Sink>(
+pub(crate) fn add_file<N: Namer, A: Allocator + Copy, W: Sink>(
     repo: &Repo<N, A>,
     sink: &mut W,
     written: &mut Written<A>,
@@ -190,7 +190,7 @@ fn write_blob_once<N: Namer, A: Allocator + Copy, W: Sink>(
 }
 
 /// The path with one more component.
-fn child<A: Allocator + Copy>(
+pub(crate) fn child<A: Allocator + Copy>(
     alloc: A,
     front: &TreePath<A>,
     component: &[u8],

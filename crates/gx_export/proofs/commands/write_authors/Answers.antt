@@ -12,15 +12,17 @@ ended : (line rest : Bytes) → (line ++ 10 ∷ []) ++ rest ≡ line ++ (10 ∷ 
 ended line rest = append_assoc line (10 ∷ []) rest
 
 -- the lines in their pieces
-author_text : (mark : ℕ) (text : CommitText) → codes "commit refs/gx/export" ++ (10 ∷ (codes "mark :" ++ (decimal mark ++ (10 ∷ (codes "author " ++ (text.author ++ (10 ∷ (codes "committer " ++ (text.committer ++ 10 ∷ []))))))))) ≡ items_text (author_items mark text)
-author_text mark text =
+author_text : (ref : Bytes) (mark : ℕ) (text : CommitText) → codes "commit " ++ (ref ++ (10 ∷ (codes "mark :" ++ (decimal mark ++ (10 ∷ (codes "author " ++ (text.author ++ (10 ∷ (codes "committer " ++ (text.committer ++ 10 ∷ [])))))))))) ≡ items_text (author_items ref mark text)
+author_text ref mark text =
     let last = append-nil (text.committer ++ 10 ∷ []) in
     let committer = ended text.author (codes "committer " ++ ((text.committer ++ 10 ∷ []) ++ [])) ∙ ap (λ (x : Bytes). text.author ++ (10 ∷ (codes "committer " ++ x))) last in
     let author = ended (decimal mark) (codes "author " ++ ((text.author ++ 10 ∷ []) ++ (codes "committer " ++ ((text.committer ++ 10 ∷ []) ++ [])))) ∙ ap (λ (x : Bytes). decimal mark ++ (10 ∷ (codes "author " ++ x))) committer in
-    ap (λ (x : Bytes). codes "commit refs/gx/export" ++ (10 ∷ (codes "mark :" ++ x))) (sym author)
+    let lines = codes "mark :" ++ ((decimal mark ++ 10 ∷ []) ++ (codes "author " ++ ((text.author ++ 10 ∷ []) ++ (codes "committer " ++ ((text.committer ++ 10 ∷ []) ++ []))))) in
+    let first = ended ref lines ∙ ap (λ (x : Bytes). ref ++ (10 ∷ (codes "mark :" ++ x))) author in
+    ap (λ (x : Bytes). codes "commit " ++ x) (sym first)
 
 pub returns-clause-text : goal.returns-clause-text
 returns-clause-text g c =
     let taken = g.W.Sink.taken in
     let done = rw (c.as_slice.ensures, c.as_bytes.ensures.value, c.format.ensures.text, c.author.ensures, c.committer.ensures) at c.write_all.ensures.text in
-    subst (λ t. Writes c.args.sent.now c.write_all.new.written (taken c.args.sink.now) (taken c.write_all.new.sink) t c.write_all.result) (author_text c.args.mark c.args.commit.now.text) done
+    subst (λ t. Writes c.args.sent.now c.write_all.new.written (taken c.args.sink.now) (taken c.write_all.new.sink) t c.write_all.result) (author_text c.args.branch.now c.args.mark c.args.commit.now.text) done

@@ -3,6 +3,7 @@ use Rattle.std.proofs.lemmas.List.{length-map, take_all}
 use Rattle.std.proofs.lemmas.Result.{err_from_is_err_and}
 use Rattle.gx_model.specs.declared.objects.Kind.TheVariants as kind
 use Rattle.gx_model.specs.Export.{number_in}
+use Rattle.gx_model.specs.Streams.Commands.{Marked}
 use Rattle.gx_model.specs.Records.HistoryOf.{commit_of_value, value_of_name}
 use Rattle.gx_model.specs.Records.Sound.{Holds}
 use Rattle.gx_model.specs.Texts.{Bytes}
@@ -10,7 +11,7 @@ use Rattle.gx_rev.specs.Objects.{commit_at}
 use Rattle.gx_model.proofs.HeldValues.{commit_stands, holds_held, kind_held}
 use Rattle.gx_export.specs.Outputs.{Stops, Writes}
 use Rattle.gx_export.specs.Texts.{items_text, parent_items}
-use Rattle.gx_export.proofs.CommitLines.{image_at, line_is, none_at, parent_line, parents_next, parents_parts, passes_at}
+use Rattle.gx_export.proofs.CommitLines.{by_marks, image_at, line_is, none_at, parent_line, parents_next, parents_parts, passes_at}
 use Rattle.gx_export.proofs.Numbering.{adds_bytes, adds_later, adds_nothing}
 use Rattle.gx_export.proofs.Writing.{items_sooner}
 use Rattle.gx_export.specs.Marks.{Adds}
@@ -46,11 +47,11 @@ returns-in_err-write_parent-clause-adds g c = λ ws h.
     let held = holds_held name namer r c.sound.ensures kind.Commit n (passes_at (Holds r.records kind.Commit) c.args.commit.now.parents c.loop-number.number n c.requires.parents c.in-Some.ensures) in
     let i = c.loop-number.invariant ws h in
     let mark = c.mark_of-mark.ensures ws i.0.marks ∙ ap (number_in ws) (commit_stands name namer r c.sound.ensures n held).0 in
-    let line = line_is ws c.loop-number.number (commit_at r c.in-Some.parent) c.parent_word.result.now c.mark_of-mark.result c.parent_word.ensures.first c.parent_word.ensures.other mark in
-    let parts = parents_parts ws parents c.loop-number.number (commit_at r c.in-Some.parent) (image_at (λ m. commit_of_value (value_of_name r.records m)) c.args.commit.now.parents c.loop-number.number n c.in-Some.ensures) in
+    let line = line_is (by_marks ws) c.loop-number.number (commit_at r c.in-Some.parent) c.parent_word.result.now (Marked c.mark_of-mark.result) c.parent_word.ensures.first c.parent_word.ensures.other (ap Marked mark) in
+    let parts = parents_parts (by_marks ws) parents c.loop-number.number (commit_at r c.in-Some.parent) (image_at (λ m. commit_of_value (value_of_name r.records m)) c.args.commit.now.parents c.loop-number.number n c.in-Some.ensures) in
     let stop = subst (λ l. Stops c.loop-number.written.bytes (taken c.loop-number.sink) (taken c.write_parent.new.sink) (items_text (l ∷ [])) c.in_err-write_parent.field-0.0) line c.in_err-write_parent.ensures.text in
-    let later = adds_later r ws ws (parent_items ws (take c.loop-number.number parents)) (parent_line ws c.loop-number.number (commit_at r c.in-Some.parent) ∷ parts.0) c.args.written.now c.loop-number.written c.loop-number.written (taken c.args.sink.now) (taken c.loop-number.sink) (taken c.write_parent.new.sink) (Err c.in_err-write_parent.field-0.0) i
-    (items_sooner c.loop-number.written.bytes (taken c.loop-number.sink) (taken c.write_parent.new.sink) (parent_line ws c.loop-number.number (commit_at r c.in-Some.parent) ∷ []) parts.0 c.in_err-write_parent.field-0.0 stop) in
+    let later = adds_later r ws ws (parent_items ws (take c.loop-number.number parents)) (parent_line (by_marks ws) c.loop-number.number (commit_at r c.in-Some.parent) ∷ parts.0) c.args.written.now c.loop-number.written c.loop-number.written (taken c.args.sink.now) (taken c.loop-number.sink) (taken c.write_parent.new.sink) (Err c.in_err-write_parent.field-0.0) i
+    (items_sooner c.loop-number.written.bytes (taken c.loop-number.sink) (taken c.write_parent.new.sink) (parent_line (by_marks ws) c.loop-number.number (commit_at r c.in-Some.parent) ∷ []) parts.0 c.in_err-write_parent.field-0.0 stop) in
     rw (p.1, p.2) (subst (λ is. Stops c.args.written.now.bytes (taken c.args.sink.now) (taken c.write_parent.new.sink) (items_text is) c.in_err-write_parent.field-0.0) (sym parts.1) later)
 
 pub loop-number-preserved : goal.loop-number-preserved
@@ -67,13 +68,13 @@ loop-number-preserved g c =
           let i = c.loop-number.invariant ws h in
           let mark = w.mark_of-mark.ensures ws i.0.marks ∙ ap (number_in ws) (commit_stands name namer r c.sound.ensures n held).0 in
           let made = commit_at r w.in-Some.parent in
-          let line = line_is ws c.loop-number.number made w.parent_word.result.now w.mark_of-mark.result w.parent_word.ensures.first w.parent_word.ensures.other mark in
+          let line = line_is (by_marks ws) c.loop-number.number made w.parent_word.result.now (Marked w.mark_of-mark.result) w.parent_word.ensures.first w.parent_word.ensures.other (ap Marked mark) in
           let now = record c.loop-number.written { bytes = w.write_parent.new.sent } in
           let done = subst (λ l. Writes c.loop-number.written.bytes w.write_parent.new.sent (taken c.loop-number.sink) (taken w.write_parent.new.sink) (items_text (l ∷ [])) (Ok tt)) line w.in_ok-write_parent.ensures.text in
-          let next = parents_next ws parents c.loop-number.number made (image_at (λ m. commit_of_value (value_of_name r.records m)) c.args.commit.now.parents c.loop-number.number n w.in-Some.ensures) in
+          let next = parents_next (by_marks ws) parents c.loop-number.number made (image_at (λ m. commit_of_value (value_of_name r.records m)) c.args.commit.now.parents c.loop-number.number n w.in-Some.ensures) in
           rw (w.written-is, w.sink-is) (subst (λ is. Adds r ws is c.args.written.now now (taken c.args.sink.now) (taken w.write_parent.new.sink) (Ok tt)) (sym next)
-          (adds_later r ws ws (parent_items ws (take c.loop-number.number parents)) (parent_line ws c.loop-number.number made ∷ []) c.args.written.now c.loop-number.written now (taken c.args.sink.now) (taken c.loop-number.sink) (taken w.write_parent.new.sink) (Ok tt) i
-          (adds_bytes r ws (parent_line ws c.loop-number.number made ∷ []) c.loop-number.written now.bytes (taken c.loop-number.sink) (taken w.write_parent.new.sink) (Ok tt) i.0 done)))
+          (adds_later r ws ws (parent_items ws (take c.loop-number.number parents)) (parent_line (by_marks ws) c.loop-number.number made ∷ []) c.args.written.now c.loop-number.written now (taken c.args.sink.now) (taken c.loop-number.sink) (taken w.write_parent.new.sink) (Ok tt) i
+          (adds_bytes r ws (parent_line (by_marks ws) c.loop-number.number made ∷ []) c.loop-number.written now.bytes (taken c.loop-number.sink) (taken w.write_parent.new.sink) (Ok tt) i.0 done)))
       | in_default w ↦
           let within : c.loop-number.number < length c.args.commit.now.parents = omega (arith, c.loop-number-test.true, c.parent_count-number-end.ensures) in
           absurd (none_at c.args.commit.now.parents c.loop-number.number within w.in_default.ensures)

@@ -1,6 +1,6 @@
 use Rattle.std.proofs.Common.{◌∙◌, ◌++◌, length, sym, subst}
 use Rattle.std.proofs.lemmas.Result.{err_from_is_err_and}
-use Rattle.gx_model.specs.Export.{blob_commands, contents, with_blobs}
+use Rattle.gx_model.specs.Export.{carrier, blob_commands, contents, with_blobs}
 use Rattle.gx_model.specs.Histories.Values.{files_of, list_of, parents_of, text_of}
 use Rattle.gx_rev.specs.Objects.{commit_at}
 use Rattle.gx_export.specs.Marks.{Adds}
@@ -20,7 +20,7 @@ returns-in_err-add_files-clause-adds g c = λ ws h kept.
     let ps = list_of (parents_of made) in
     let us = with_blobs ws (contents (files_of made)) in
     let blobs = items_of (blob_commands ws (contents (files_of made))) in
-    let behind = root_items (length ps) ++ commit_lines us (text_of made) ps (files_of made) in
+    let behind = root_items carrier (length ps) ++ commit_lines us (text_of made) ps (files_of made) in
     let p = err_from_is_err_and c.from_residual.result c.from_residual.ensures.1 in
     let fault = c.in_err-add_files.field-0.0 in
     rw (p.1, p.2) (subst (λ is. Stops c.args.written.now.bytes was now (items_text is) fault) (sym (one_commit_parts ws made)) (items_sooner c.args.written.now.bytes was now blobs behind fault (c.in_err-add_files.ensures.adds ws h kept)))
@@ -50,7 +50,7 @@ returns-clause-adds g c = λ ws h kept.
     let result = c.write_behind_blobs.result in
     let ps = list_of (parents_of made) in
     let us = with_blobs ws (contents (files_of made)) in
-    let behind = root_items (length ps) ++ commit_lines us (text_of made) ps (files_of made) in
+    let behind = root_items carrier (length ps) ++ commit_lines us (text_of made) ps (files_of made) in
     let s = shown_as name namer r c.sound.ensures c.args.commit.now.bytes c.view_of-view.result c.requires.held c.view_of-view.ensures in
     let first = c.in_ok-add_files.ensures.adds ws h kept in
     let text = c.deref.ensures.value ∙ c.in_ok-add_files.ensures.text ws h kept in

@@ -55,6 +55,6 @@ returns-in-Some-clause-adds g c = λ ws h.
     let peels = target_peels name namer r c.sound.ensures ref n c.requires.target in
     let t = tag_held name namer r c.sound.ensures n c.in-Some.tag peels.held c.in-Some.ensures in
     let mark = c.mark_of-mark-in-Some.ensures ws h.marks ∙ ap (λ m. number_in ws (value_of_name r.records m)) (c.object.ensures ∙ ap (λ p. p.object) t.1.told) ∙ ap (number_in ws) t.1.target in
-    let text = ap (λ m. command_text (tag_command m c.in-Some.tag)) mark ∙ ap (λ p. command_text (tag_command (number_in ws (commit_value t.0.target)) p)) t.1.told ∙ ap (λ u. command_text (ref_command ws (ref, target_in u))) (sym t.1.value) in
+    let text = ap (λ m. command_text (tag_command (Marked m) c.in-Some.tag)) mark ∙ ap (λ p. command_text (tag_command (Marked (number_in ws (commit_value t.0.target))) p)) t.1.told ∙ ap (λ u. command_text (ref_command ws (ref, target_in u))) (sym t.1.value) in
     adds_bytes r ws (command_items (ref_command ws (ref, target_in v))) c.args.written.now c.write_tag.new.sent (taken c.args.sink.now) (taken c.write_tag.new.sink) c.write_tag.result h
     (subst (λ t. Writes c.args.written.now.bytes c.write_tag.new.sent (taken c.args.sink.now) (taken c.write_tag.new.sink) t c.write_tag.result) text c.write_tag.ensures.text)

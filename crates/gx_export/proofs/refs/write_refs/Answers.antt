@@ -9,6 +9,7 @@ use Rattle.gx_model.proofs.PeeledRefs.{told}
 use Rattle.gx_export.specs.Marks.{Adds}
 use Rattle.gx_export.specs.Outputs.{Stops}
 use Rattle.gx_export.specs.Texts.{items_text}
+use Rattle.gx_export.proofs.CommitLines.{by_marks}
 use Rattle.gx_export.proofs.Numbering.{adds_later, adds_nothing}
 use Rattle.gx_export.proofs.RefLines.{ref_items, refs_append, refs_next}
 use Rattle.gx_export.proofs.Writing.{items_sooner}
@@ -38,9 +39,9 @@ returns-in_err-write_ref-clause-adds g c = λ ws h.
     let done = i.2 ws h in
     let stop = c.in_err-write_ref.ensures.adds ws done.0 in
     let items = command_items (ref_command ws (told r ref)) in
-    let all = ap (ref_items r ws) (i.1 ∙ ap (λ x. i.0 ++ x) c.in-Some.ensures.steps) ∙ refs_append r ws i.0 (ref ∷ c.next.new.self) in
-    let later = adds_later r ws ws (ref_items r ws i.0) (items ++ ref_items r ws c.next.new.self) c.args.written.now c.loop-name.written c.loop-name.written (taken c.args.sink.now) (taken c.loop-name.sink) (taken c.write_ref.new.sink) (Err c.in_err-write_ref.field-0.0) done
-    (items_sooner c.loop-name.written.bytes (taken c.loop-name.sink) (taken c.write_ref.new.sink) items (ref_items r ws c.next.new.self) c.in_err-write_ref.field-0.0 stop) in
+    let all = ap (ref_items r (by_marks ws)) (i.1 ∙ ap (λ x. i.0 ++ x) c.in-Some.ensures.steps) ∙ refs_append r (by_marks ws) i.0 (ref ∷ c.next.new.self) in
+    let later = adds_later r ws ws (ref_items r (by_marks ws) i.0) (items ++ ref_items r (by_marks ws) c.next.new.self) c.args.written.now c.loop-name.written c.loop-name.written (taken c.args.sink.now) (taken c.loop-name.sink) (taken c.write_ref.new.sink) (Err c.in_err-write_ref.field-0.0) done
+    (items_sooner c.loop-name.written.bytes (taken c.loop-name.sink) (taken c.write_ref.new.sink) items (ref_items r (by_marks ws) c.next.new.self) c.in_err-write_ref.field-0.0 stop) in
     rw (p.1, p.2) (subst (λ is. Stops c.args.written.now.bytes (taken c.args.sink.now) (taken c.write_ref.new.sink) (items_text is) c.in_err-write_ref.field-0.0) (sym all) later)
 
 pub loop-name-preserved : goal.loop-name-preserved
@@ -56,8 +57,8 @@ loop-name-preserved g c =
         i.1 ∙ ap (λ x. i.0 ++ x) c.in-Some.ensures.steps ∙ sym (append_assoc i.0 (ref ∷ []) c.next.new.self),
         λ ws h.
             let done = i.2 ws h in
-            subst (λ is. Adds r ws is c.args.written.now c.write_ref.new.written (taken c.args.sink.now) (taken c.write_ref.new.sink) (Ok tt)) (sym (refs_next r ws i.0 ref))
-            (adds_later r ws ws (ref_items r ws i.0) (command_items (ref_command ws (told r ref))) c.args.written.now c.loop-name.written c.write_ref.new.written (taken c.args.sink.now) (taken c.loop-name.sink) (taken c.write_ref.new.sink) (Ok tt) done (c.in_ok-write_ref.ensures.adds ws done.0)),
+            subst (λ is. Adds r ws is c.args.written.now c.write_ref.new.written (taken c.args.sink.now) (taken c.write_ref.new.sink) (Ok tt)) (sym (refs_next r (by_marks ws) i.0 ref))
+            (adds_later r ws ws (ref_items r (by_marks ws) i.0) (command_items (ref_command ws (told r ref))) c.args.written.now c.loop-name.written c.write_ref.new.written (taken c.args.sink.now) (taken c.loop-name.sink) (taken c.write_ref.new.sink) (Ok tt) done (c.in_ok-write_ref.ensures.adds ws done.0)),
       ),
       rest.1,
     )
@@ -68,4 +69,4 @@ returns-clause-adds g c = λ ws h.
     let taken = g.W.Sink.taken in
     let i = c.loop-name.invariant.1 in
     let all = i.1 ∙ ap (λ x. i.0 ++ x) c.in-None.ensures.steps.0 ∙ append-nil i.0 in
-    subst (λ refs. Adds r ws (ref_items r ws refs) c.args.written.now c.loop-name.written (taken c.args.sink.now) (taken c.loop-name.sink) (Ok tt)) (sym all) (i.2 ws h)
+    subst (λ refs. Adds r ws (ref_items r (by_marks ws) refs) c.args.written.now c.loop-name.written (taken c.args.sink.now) (taken c.loop-name.sink) (Ok tt)) (sym all) (i.2 ws h)

@@ -1,4 +1,4 @@
-use Rattle.std.proofs.Common.{◌≡◌, ◌≢◌, ◌+◌, ◌*◌, ◌<◌, ◌≤◌, ◌∙◌, ◌++◌, [], ◌∷◌, map, length, drop, true, false, not, ap, sym, subst, arith, rules, Ok}
+use Rattle.std.proofs.Common.{◌≡◌, ◌≢◌, ◌+◌, ◌*◌, ◌<◌, ◌≤◌, ◌∙◌, ◌++◌, [], ◌∷◌, length, drop, true, false, not, ap, sym, subst, arith, rules, Ok}
 use Rattle.std.proofs.lemmas.List.{length-append}
 use Rattle.gx_model.specs.Export.{blob_commands, with_blobs}
 use Rattle.gx_model.specs.Records.HistoryOf.{named_values, placed}

@@ -1,0 +1,186 @@
+//! What differs between the trees of two commits: the blobs of new files go out, and the lines of changes are gathered.
+
+ghost use Rattle.std.specs.Prelude.{◌≡◌, false, IfSome};
+ghost use Rattle.gx_model.specs.declared.objects.Kind.TheVariants as kinds;
+ghost use Rattle.gx_rev.specs.Objects.{IsHeldAs};
+ghost use Rattle.gx_export.specs.Compared.{ComparesCommit, ComparesFile, ComparesPair, ComparesTrees, HasFileIf, HasPairBelow, HasTreesBelow, IsComparing, IsOneOf, IsTreeIf, entries_if, tree_if};
+ghost use Rattle.gx_export.specs.Pairs.{bytes_if, is_same, shown_pair};
+
+use crate::ExportFault;
+use crate::changes::Changes;
+use crate::pairs::{Pair, Pairs, is_same, name_in};
+use crate::trees::{MOST_BYTES, add_file, child};
+use crate::written::Written;
+use gx_object::{Entry, Mode, Name, Namer, TreeEntries, held_tree};
+use gx_repo::Repo;
+use gx_rev::{entries_of, view_of};
+use gx_text::{Sink, TreePath};
+use std::alloc::Allocator;
+
+/// Writes the blobs of a held commit's files that differ from its first parent's and weren't written yet, and gathers the
+/// lines of all that differs.
+pub(crate) fn add_changes<N: Namer, A: Allocator + Copy, W: Sink>(
+    alloc: A,
+    repo: &Repo<N, A>,
+    sink: &mut W,
+    written: &mut Written<A>,
+    changes: &mut Changes<A>,
+    commit: &Name,
+) -> Result<(), ExportFault>
+    requires held { IsHeldAs kinds.Commit repo.now.1 commit.now }
+    requires written { IsComparing N.name_of repo.now written.old changes.old }
+    ensures { ComparesCommit N.name_of W.taken repo.now commit.now written.old written.new sink.old
+        sink.new changes.old changes.new result }
+{
+    repo.sound();
+    let view = view_of(repo, commit);
+    let base = tree_of(repo, view.parent(0));
+    let root = TreePath::root(alloc);
+    changes.begin();
+    compare_trees(
+        alloc,
+        repo,
+        sink,
+        written,
+        changes,
+        &root,
+        base,
+        Some(view.tree()),
+        MOST_BYTES,
+    )
+}
+
+/// The tree of a held commit, where there is one.
+fn tree_of<N: Namer, A: Allocator + Copy>(repo: &Repo<N, A>, commit: Option<Name>) -> Option<Name>
+    requires { IfSome commit (IsHeldAs kinds.Commit repo.now.1) }
+    ensures { bytes_if result ≡ tree_if (N.name_of repo.now.0) repo.now.1 commit }
+{
+    match commit {
+        None => None,
+        Some(commit) => Some(view_of(repo, &commit).tree()),
+    }
+}
+
+/// Writes the blobs of what is new below `front`, and gathers the lines of what differs there. No tree has no files. The
+/// paths have at most `room` bytes there.
+#[cycle(compare)]
+fn compare_trees<N: Namer, A: Allocator + Copy, W: Sink>(
+    alloc: A,
+    repo: &Repo<N, A>,
+    sink: &mut W,
+    written: &mut Written<A>,
+    changes: &mut Changes<A>,
+    front: &TreePath<A>,
+    old: Option<Name>,
+    new: Option<Name>,
+    room: usize,
+) -> Result<(), ExportFault>
+    requires held { HasTreesBelow N.name_of repo.now room front.now old new }
+    requires written { IsComparing N.name_of repo.now written.old changes.old }
+    ensures { ComparesTrees N.name_of W.taken repo.now room front.now old new written.old
+        written.new sink.old sink.new changes.old changes.new result }
+{
+    for pair in Pairs::new(entries_in(repo, old), entries_in(repo, new)) {
+        if !is_same(&pair) {
+            compare_pair(alloc, repo, sink, written, changes, front, &pair, room)?;
+        }
+    }
+    Ok(())
+}
+
+/// Does so for what two trees have at one component, which differs.
+#[cycle(compare)]
+fn compare_pair<N: Namer, A: Allocator + Copy, W: Sink>(
+    alloc: A,
+    repo: &Repo<N, A>,
+    sink: &mut W,
+    written: &mut Written<A>,
+    changes: &mut Changes<A>,
+    front: &TreePath<A>,
+    pair: &Pair<'_>,
+    room: usize,
+) -> Result<(), ExportFault>
+    requires held { HasPairBelow N.name_of repo.now room front.now pair.now }
+    requires written { IsComparing N.name_of repo.now written.old changes.old }
+    requires other { is_same (shown_pair pair.now) ≡ false }
+    ensures { ComparesPair N.name_of W.taken repo.now room front.now pair.now written.old
+        written.new sink.old sink.new changes.old changes.new result }
+{
+    let Some(entry) = one_of(pair) else {
+        unreachable!();
+    };
+    let path = child(alloc, front, entry.component)?;
+    if entry.mode != Mode::Dir {
+        return compare_files(repo, sink, written, changes, &path, &pair.new);
+    }
+    let used = entry.component.len();
+    if used >= room {
+        unreachable!();
+    }
+    compare_trees(
+        alloc,
+        repo,
+        sink,
+        written,
+        changes,
+        &path,
+        name_in(&pair.old),
+        name_in(&pair.new),
+        room - used - 1,
+    )
+}
+
+/// Gathers the line of a file that is gone, or writes the blob of one that is new or another and gathers its line.
+fn compare_files<N: Namer, A: Allocator + Copy, W: Sink>(
+    repo: &Repo<N, A>,
+    sink: &mut W,
+    written: &mut Written<A>,
+    changes: &mut Changes<A>,
+    path: &TreePath<A>,
+    new: &Option<Entry<'_>>,
+) -> Result<(), ExportFault>
+    requires held { HasFileIf repo.now.1 new.now }
+    requires written { IsComparing N.name_of repo.now written.old changes.old }
+    ensures { ComparesFile N.name_of W.taken repo.now path.now new.now written.old written.new
+        sink.old sink.new changes.old changes.new result }
+{
+    match new {
+        None => {
+            changes.add_gone(path)?;
+            Ok(())
+        }
+        Some(new) => add_file(
+            repo,
+            sink,
+            written,
+            &mut changes.files,
+            path,
+            new.mode,
+            &new.name,
+        ),
+    }
+}
+
+/// An entry of a pair: both are at one component, and both are directories or none is.
+fn one_of<'a>(pair: &Pair<'a>) -> Option<Entry<'a>>
+    ensures { IsOneOf pair.now result }
+{
+    match pair.old {
+        Some(old) => Some(old),
+        None => pair.new,
+    }
+}
+
+/// The entries of a held tree. No tree has none.
+fn entries_in<'a, N: Namer, A: Allocator + Copy>(
+    repo: &'a Repo<N, A>,
+    tree: Option<Name>,
+) -> TreeEntries<'a>
+    requires { IsTreeIf repo.now.1 tree }
+    ensures { result ≡ entries_if repo.now.1 tree }
+{
+    match tree {
+        None => held_tree(b""),
+        Some(tree) => entries_of(repo, &tree),
+    }
+}

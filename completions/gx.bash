@@ -90,6 +90,7 @@ __gx_options() {
   case ${words[1]} in
     ls) __gx_answer '' "$1" -r --recursive --help ;;
     batch) __gx_answer '' "$1" --check --help ;;
+    adapt) __gx_answer '' "$1" --drop-signatures --help ;;
     import | try) __gx_answer '' "$1" --done --force --help ;;
     log) __gx_answer '' "$1" --reverse --max-count --parents --help ;;
     *) __gx_answer '' "$1" --help ;;

@@ -69,6 +69,7 @@ line 'gx try -' --done --force --help
 line 'gx import --f' --force
 line 'gx a' adapt
 line 'gx adapt '
+line 'gx adapt -' --drop-signatures --help
 line 'gx w' where
 line 'gx where '
 line 'gx where -' --help

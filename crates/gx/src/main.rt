@@ -83,7 +83,7 @@ fn file_of<'a>(line: &Line<'a>) -> Option<&'a str> {
         | Line::Refs { file }
         | Line::Log { file, .. }
         | Line::RevParse { file, .. } => Some(*file),
-        Line::Blobs | Line::Where(_) | Line::Try { .. } | Line::Adapt => None,
+        Line::Blobs | Line::Where(_) | Line::Try { .. } | Line::Adapt { .. } => None,
     }
 }
 
@@ -104,7 +104,7 @@ fn run_command(run: &Run<'_>, line: &Line<'_>, state: RandomState) -> Result<(),
             done: _,
             force: _,
         } => refusal(&try_stream(run, line, state)),
-        Line::Adapt => adapt(run),
+        Line::Adapt { drop_signatures } => adapt(run, *drop_signatures),
         Line::Batch { check: _, file } => batch(run, line, file, state),
         Line::Export { file } => export(run, line, file, state),
         Line::Show { file, revision: _ }

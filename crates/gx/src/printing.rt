@@ -36,10 +36,11 @@ pub(crate) fn batch(
 }
 
 /// Adapts standard input, through a buffer, and tells what was changed.
-pub(crate) fn adapt(run: &Run<'_>) -> Result<(), CliFault> {
+pub(crate) fn adapt(run: &Run<'_>, drop_signatures: bool) -> Result<(), CliFault> {
     match BufWriter::new(run.rt.alloc(), Noted::output(run)) {
         Ok(mut out) => {
-            tell_adaption(run, &adapt_to(run, &mut out)?);
+            let report = adapt_to(run, &mut out, drop_signatures)?;
+            tell_adaption(run, &report, drop_signatures);
             Ok(())
         }
         Err(_) => Err(CliFault::OutOfMemory),
@@ -50,9 +51,11 @@ pub(crate) fn adapt(run: &Run<'_>) -> Result<(), CliFault> {
 fn adapt_to(
     run: &Run<'_>,
     out: &mut BufWriter<Noted<'_, Stdout>>,
+    drop_signatures: bool,
 ) -> Result<AdaptReport, CliFault> {
     let source = FromRead::new(Noted::input(run));
-    let answer = adapt_stream(run.rt.alloc(), source, &mut IntoWrite::new(&mut *out));
+    let mut sink = IntoWrite::new(&mut *out);
+    let answer = adapt_stream(run.rt.alloc(), source, &mut sink, drop_signatures);
     let is_flushed = out.flush().is_ok();
     let report = answer?;
     if is_flushed {

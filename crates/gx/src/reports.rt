@@ -13,11 +13,24 @@ pub(crate) fn tell_import(run: &Run<'_>, report: &ImportReport) {
 }
 
 /// Tells what was changed in a stream, what stays that an import refuses, and whether `done` ended it.
-pub(crate) fn tell_adaption(run: &Run<'_>, report: &AdaptReport) {
+pub(crate) fn tell_adaption(run: &Run<'_>, report: &AdaptReport, drop_signatures: bool) {
     tell_count(run, "identities that got a space", report.identities);
     tell_count(run, "deletions left out", report.deletions);
     tell_count(run, "paths put in quotes", report.paths);
     tell_count(run, "lines of marks left out", report.marks);
+    tell_count(run, "lines of features left out", report.features);
+    let signatures = if drop_signatures {
+        "signatures left out, so that names differ from those of git"
+    } else {
+        "signatures that an import refuses"
+    };
+    tell_count(run, signatures, report.signatures);
+    let refused_names = report.refused_names;
+    tell_count(
+        run,
+        "lines with branch names that git refuses",
+        refused_names,
+    );
     tell_count(run, "notes that an import refuses", report.notes);
     let early_dates = report.early_dates;
     tell_count(run, "dates before 1970 that an import refuses", early_dates);

@@ -5,44 +5,46 @@ use Rattle.std.proofs.lemmas.Grind.{flat_map-append}
 use Rattle.gx_model.specs.Streams.Items.{Item, Line, Data}
 use Rattle.gx_model.specs.Export.{item_text}
 use Rattle.gx_adapt.specs.Lines as lines
-use Rattle.gx_adapt.specs.Lines.{lines_for, lot_of, is_reset_line}
-use Rattle.gx_adapt.specs.Laws.{BlocksAreKept, blocks_of}
-use Rattle.gx_adapt.specs.Streams.{Placed, is_reset, placed_from, placed, lot_in, lot_at, items_in, items_for, adapted, stream_text, is_spaced, is_deletion, is_requoted, is_marks, on_line, is_done, ends_with_done, how_many, report_of}
+use Rattle.gx_adapt.specs.Lines.{lines_for, lot_of, behind_line}
+use Rattle.gx_adapt.specs.Laws.{BlocksAreKept, OtherBlocksAreKept, blocks_of, other_blocks}
+use Rattle.gx_adapt.specs.Streams.{Placed, behind_of, placed_from, placed, lot_in, lot_at, items_in, items_at, adapted, stream_text, is_spaced, is_deletion, is_requoted, is_marks, is_asking, on_line, is_done, ends_with_done, how_many, report_of}
 use Rattle.gx_adapt.specs.Adapting.{text_for, one_if, counted}
 use Rattle.gx_adapt.specs.Marks.{names_blob_or_tag}
 use Rattle.gx_adapt.proofs.Marked.{tags-push}
+use Rattle.gx_adapt.specs.declared.lot.Behind.{Behind}
+use Rattle.gx_adapt.specs.declared.lot.Behind.TheVariants.{Reset, Signature, Other}
 use Rattle.gx_adapt.specs.declared.report.Report.{Report}
 
--- whether a reset stands last
-abbrev pub after_of : Bool → List Item → Bool
-after_of after_reset [] = after_reset
-after_of after_reset (i ∷ is) = after_of (is_reset i) is
+-- what stands behind these items
+abbrev pub after_of : Behind → List Item → Behind
+after_of behind [] = behind
+after_of behind (i ∷ is) = after_of (behind_of i) is
 
-pub after-push : (b : Bool) (xs : List Item) (i : Item) → after_of b (xs ++ i ∷ []) ≡ is_reset i
+pub after-push : (b : Behind) (xs : List Item) (i : Item) → after_of b (xs ++ i ∷ []) ≡ behind_of i
 after-push b [] i = refl
-after-push b (x ∷ xs) i = after-push (is_reset x) xs i
+after-push b (x ∷ xs) i = after-push (behind_of x) xs i
 
-placed-append : (b : Bool) (xs ys : List Item) → placed_from b (xs ++ ys) ≡ placed_from b xs ++ placed_from (after_of b xs) ys
+placed-append : (b : Behind) (xs ys : List Item) → placed_from b (xs ++ ys) ≡ placed_from b xs ++ placed_from (after_of b xs) ys
 placed-append b [] ys = refl
-placed-append b (x ∷ xs) ys = ap (λ ps. record { after_reset = b; item = x } ∷ ps) (placed-append (is_reset x) xs ys)
+placed-append b (x ∷ xs) ys = ap (λ ps. record { behind = b; item = x } ∷ ps) (placed-append (behind_of x) xs ys)
 
 -- ---- texts
 
 -- what stands in the place of items behind others
-abbrev pub text_behind : Bool → List Item → List ℕ
-text_behind after_reset is = stream_text (flat_map items_for (placed_from after_reset is))
+abbrev pub text_behind : Bool → Behind → List Item → List ℕ
+text_behind drops behind is = stream_text (flat_map (items_at drops) (placed_from behind is))
 
-text-append : (xs ys : List Item) → text_for (xs ++ ys) ≡ text_for xs ++ text_behind (after_of false xs) ys
-text-append xs ys =
-    ap (λ ps. stream_text (flat_map items_for ps)) (placed-append false xs ys)
-    ∙ ap stream_text (flat_map-append items_for (placed xs) (placed_from (after_of false xs) ys))
-    ∙ flat_map-append item_text (adapted xs) (flat_map items_for (placed_from (after_of false xs) ys))
+text-append : (drops : Bool) (xs ys : List Item) → text_for drops (xs ++ ys) ≡ text_for drops xs ++ text_behind drops (after_of Other xs) ys
+text-append drops xs ys =
+    ap (λ ps. stream_text (flat_map (items_at drops) ps)) (placed-append Other xs ys)
+    ∙ ap stream_text (flat_map-append (items_at drops) (placed xs) (placed_from (after_of Other xs) ys))
+    ∙ flat_map-append item_text (adapted drops xs) (flat_map (items_at drops) (placed_from (after_of Other xs) ys))
 
-pub text-push : (xs : List Item) (i : Item) → text_for (xs ++ i ∷ []) ≡ text_for xs ++ stream_text (items_in (after_of false xs) i)
-text-push xs i = text-append xs (i ∷ []) ∙ ap (λ is. text_for xs ++ stream_text is) (append-nil (items_in (after_of false xs) i))
+pub text-push : (drops : Bool) (xs : List Item) (i : Item) → text_for drops (xs ++ i ∷ []) ≡ text_for drops xs ++ stream_text (items_in drops (after_of Other xs) i)
+text-push drops xs i = text-append drops xs (i ∷ []) ∙ ap (λ is. text_for drops xs ++ stream_text is) (append-nil (items_in drops (after_of Other xs) i))
 
-pub text-within : (xs : List Item) (i : Item) (ys : List Item) → text_for (xs ++ i ∷ ys) ≡ text_for xs ++ (stream_text (items_in (after_of false xs) i) ++ text_behind (is_reset i) ys)
-text-within xs i ys = text-append xs (i ∷ ys) ∙ ap (λ t. text_for xs ++ t) (flat_map-append item_text (items_in (after_of false xs) i) (flat_map items_for (placed_from (is_reset i) ys)))
+pub text-within : (drops : Bool) (xs : List Item) (i : Item) (ys : List Item) → text_for drops (xs ++ i ∷ ys) ≡ text_for drops xs ++ (stream_text (items_in drops (after_of Other xs) i) ++ text_behind drops (behind_of i) ys)
+text-within drops xs i ys = text-append drops xs (i ∷ ys) ∙ ap (λ t. text_for drops xs ++ t) (flat_map-append item_text (items_in drops (after_of Other xs) i) (flat_map (items_at drops) (placed_from (behind_of i) ys)))
 
 -- ---- counts
 
@@ -60,25 +62,26 @@ count-push test q (p ∷ ps) = by (test p) (count-push test q ps) where
   by true e = ap suc e ∙ sym (one_if-suc (test q) (length (filter test ps)))
   by false e = e
 
-many-push : (test : Placed → Bool) (xs : List Item) (i : Item) → how_many test (xs ++ i ∷ []) ≡ one_if (test (record { after_reset = after_of false xs; item = i })) (how_many test xs)
-many-push test xs i = ap (λ ps. length (filter test ps)) (placed-append false xs (i ∷ [])) ∙ count-push test (record { after_reset = after_of false xs; item = i }) (placed xs)
+many-push : (test : Placed → Bool) (xs : List Item) (i : Item) → how_many test (xs ++ i ∷ []) ≡ one_if (test (record { behind = after_of Other xs; item = i })) (how_many test xs)
+many-push test xs i = ap (λ ps. length (filter test ps)) (placed-append Other xs (i ∷ [])) ∙ count-push test (record { behind = after_of Other xs; item = i }) (placed xs)
 
-count-few : (test : Placed → Bool) (b : Bool) (is : List Item) → length (filter test (placed_from b is)) ≤ length is
+count-few : (test : Placed → Bool) (b : Behind) (is : List Item) → length (filter test (placed_from b is)) ≤ length is
 count-few test b [] = omega arith
-count-few test b (i ∷ is) = by (test (record { after_reset = b; item = i })) (count-few test (is_reset i) is) where
-  by : (t : Bool) → length (filter test (placed_from (is_reset i) is)) ≤ length is
-      → length (if t then (record { after_reset = b; item = i }) ∷ filter test (placed_from (is_reset i) is) else filter test (placed_from (is_reset i) is)) ≤ suc (length is)
+count-few test b (i ∷ is) = by (test (record { behind = b; item = i })) (count-few test (behind_of i) is) where
+  by : (t : Bool) → length (filter test (placed_from (behind_of i) is)) ≤ length is
+      → length (if t then (record { behind = b; item = i }) ∷ filter test (placed_from (behind_of i) is) else filter test (placed_from (behind_of i) is)) ≤ suc (length is)
   by true h = omega (arith, h)
   by false h = omega (arith, h)
 
 pub many-few : (test : Placed → Bool) (is : List Item) → how_many test is ≤ length is
-many-few test is = count-few test false is
+many-few test is = count-few test Other is
 
-abbrev report : ℕ → ℕ → ℕ → ℕ → ℕ → ℕ → ℕ → Bool → Report
-report a b c d e f g q = record { identities = a; deletions = b; paths = c; marks = d; notes = e; early_dates = f; tags_of_blobs_or_tags = g; ended_with_done = q }
+abbrev report : ℕ → ℕ → ℕ → ℕ → ℕ → ℕ → ℕ → ℕ → ℕ → ℕ → Bool → Report
+report a b c d e f g h i j q =
+    record { identities = a; deletions = b; paths = c; marks = d; features = e; signatures = f; refused_names = g; notes = h; early_dates = i; tags_of_blobs_or_tags = j; ended_with_done = q }
 
-same_report : {a b c d e f g t u v w x y z : ℕ} {q r : Bool} → a ≡ t → b ≡ u → c ≡ v → d ≡ w → e ≡ x → f ≡ y → g ≡ z → q ≡ r → report a b c d e f g q ≡ report t u v w x y z r
-same_report h k l m n o p q = rw (h, k, l, m, n, o, p, q) refl
+same_report : {a b c d e f g h i j k l m n o p q r s t : ℕ} {y z : Bool} → a ≡ k → b ≡ l → c ≡ m → d ≡ n → e ≡ o → f ≡ p → g ≡ q → h ≡ r → i ≡ s → j ≡ t → y ≡ z → report a b c d e f g h i j y ≡ report k l m n o p q r s t z
+same_report aa bb cc dd ee ff gg hh ii jj yy = rw (aa, bb, cc, dd, ee, ff, gg, hh, ii, jj, yy) refl
 
 -- the last item decides
 done-push : (xs : List Item) (i : Item) → ends_with_done (xs ++ i ∷ []) ≡ on_line is_done i
@@ -86,10 +89,11 @@ done-push [] i = refl
 done-push (x ∷ []) i = refl
 done-push (x ∷ y ∷ xs) i = done-push (y ∷ xs) i
 
-pub report-push : (xs : List Item) (i : Item) → report_of (xs ++ i ∷ []) ≡ counted (lot_in (after_of false xs) i) (names_blob_or_tag (reverse xs) i) i (report_of xs)
-report-push xs i =
-    same_report (many-push (λ p. is_spaced (lot_at p)) xs i) (many-push (λ p. is_deletion (lot_at p)) xs i) (many-push (λ p. is_requoted (lot_at p)) xs i)
-    (many-push (λ p. is_marks (lot_at p)) xs i) (many-push (λ p. on_line lines.is_note p.item) xs i) (many-push (λ p. on_line lines.is_early p.item) xs i) (tags-push xs i) (done-push xs i)
+pub report-push : (drops : Bool) (xs : List Item) (i : Item) → report_of drops (xs ++ i ∷ []) ≡ counted (lot_in drops (after_of Other xs) i) (names_blob_or_tag (reverse xs) i) i (report_of drops xs)
+report-push drops xs i =
+    same_report (many-push (λ p. is_spaced (lot_at drops p)) xs i) (many-push (λ p. is_deletion (lot_at drops p)) xs i) (many-push (λ p. is_requoted (lot_at drops p)) xs i)
+    (many-push (λ p. is_marks (lot_at drops p)) xs i) (many-push (λ p. is_asking (lot_at drops p)) xs i) (many-push (λ p. on_line lines.is_signature_line p.item) xs i)
+    (many-push (λ p. on_line lines.is_refused p.item) xs i) (many-push (λ p. on_line lines.is_note p.item) xs i) (many-push (λ p. on_line lines.is_early p.item) xs i) (tags-push xs i) (done-push xs i)
 
 -- ---- blocks
 
@@ -97,13 +101,25 @@ lines_without : (l : List ℕ) (lot : lines.Lot) (is : List Item) → blocks_of 
 lines_without l lines.kept is = refl
 lines_without l lines.deletion is = refl
 lines_without l lines.marks is = refl
+lines_without l lines.feature is = refl
+lines_without l lines.signature is = refl
 lines_without l (lines.spaced new) is = refl
 lines_without l (lines.requoted new) is = refl
 
-blocks_from : (b : Bool) (is : List Item) → blocks_of (flat_map items_for (placed_from b is)) ≡ blocks_of is
+blocks_from : (b : Behind) (is : List Item) → blocks_of (flat_map (items_at false) (placed_from b is)) ≡ blocks_of is
 blocks_from b [] = refl
-blocks_from b (Line l ∷ is) = lines_without l (lot_of b l) (flat_map items_for (placed_from (is_reset_line l) is)) ∙ blocks_from (is_reset_line l) is
-blocks_from b (Data x ∷ is) = ap (λ xs. x ∷ xs) (blocks_from false is)
+blocks_from b (Line l ∷ is) = lines_without l (lot_of false b l) (flat_map (items_at false) (placed_from (behind_line l) is)) ∙ blocks_from (behind_line l) is
+blocks_from b (Data x ∷ is) = ap (λ xs. x ∷ xs) (blocks_from Other is)
 
 pub blocks_kept : BlocksAreKept
-blocks_kept is = blocks_from false is
+blocks_kept is = blocks_from Other is
+
+others_from : (b : Behind) (is : List Item) → blocks_of (flat_map (items_at true) (placed_from b is)) ≡ other_blocks b is
+others_from b [] = refl
+others_from b (Line l ∷ is) = lines_without l (lot_of true b l) (flat_map (items_at true) (placed_from (behind_line l) is)) ∙ others_from (behind_line l) is
+others_from Signature (Data x ∷ is) = others_from Other is
+others_from Reset (Data x ∷ is) = ap (λ xs. x ∷ xs) (others_from Other is)
+others_from Other (Data x ∷ is) = ap (λ xs. x ∷ xs) (others_from Other is)
+
+pub others_kept : OtherBlocksAreKept
+others_kept is = others_from Other is

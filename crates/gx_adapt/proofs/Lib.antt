@@ -6,5 +6,4 @@ pub mod Counts
 pub mod Progress
 pub mod Readable
 pub mod Appended
-pub mod LeftOut
 pub mod SetMarks

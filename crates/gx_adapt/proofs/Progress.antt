@@ -1,5 +1,5 @@
 -- Adapting a stream, so far.
-use Rattle.std.proofs.Common.{◌≡◌, ℕ, ◌+◌, ◌-◌, ◌<◌, ◌≤◌, ◌^◌, Bool, false, ◌⊎◌, inl, inr, Option, Some, None, Ok, Err, List, [], ◌∷◌, ◌++◌, length, reverse, refl, sym, ap, subst, ◌∙◌, arith, append_assoc, append-nil}
+use Rattle.std.proofs.Common.{◌≡◌, ℕ, ◌+◌, ◌-◌, ◌<◌, ◌≤◌, ◌^◌, Bool, ◌⊎◌, inl, inr, Option, Some, None, Ok, Err, List, [], ◌∷◌, ◌++◌, length, reverse, refl, sym, ap, subst, ◌∙◌, arith, append_assoc, append-nil}
 use Rattle.std.proofs.lemmas.List.{length_push}
 use Rattle.gx_model.specs.Streams.Items.{Item as ModelItem, Stream, End, Finished, Failed, then_comes}
 use Rattle.gx_model.specs.Texts.Sinks.{Taken, Took, FailedWithin}
@@ -9,9 +9,12 @@ use Rattle.gx_stream.specs.declared.fault.StreamFault.TheVariants as stream
 use Rattle.gx_stream.specs.Faults.{fault_of, ended}
 use Rattle.gx_stream.specs.Reading.{Reads, item_of}
 use Rattle.gx_adapt.specs.Lines as lines
-use Rattle.gx_adapt.specs.Streams.{lot_in, lot_at, is_reset, items_in, stream_text, is_spaced, is_deletion, is_requoted, is_marks, on_line, report_of}
+use Rattle.gx_adapt.specs.Lines.{items_for}
+use Rattle.gx_adapt.specs.Streams.{lot_in, lot_at, behind_of, items_in, stream_text, is_spaced, is_deletion, is_requoted, is_marks, is_asking, on_line, report_of}
 use Rattle.gx_adapt.specs.Adapting.{text_for, Adapts, AdaptsFrom, HasRoom, PutsIf, of_stream, counted, StandsBehind, names_held, Passes}
 use Rattle.gx_adapt.specs.Marks.{names_blob_or_tag}
+use Rattle.gx_adapt.specs.declared.lot.Behind.{Behind}
+use Rattle.gx_adapt.specs.declared.lot.Behind.TheVariants.{Other}
 use Rattle.gx_adapt.specs.declared.marks.Marks.{Marks}
 use Rattle.gx_adapt.specs.declared.fault.AdaptFault.{AdaptFault}
 use Rattle.gx_adapt.specs.declared.fault.AdaptFault.TheVariants as faults
@@ -29,22 +32,22 @@ abbrev pub Goes : Option Stream → Option Stream → List ModelItem → Type 0
 Goes None now front = Unit {0}
 Goes (Some r) now front = (left : Stream) × (now ≡ Some left) × (r ≡ after front left)
 
-pub record Progress {A : Type 0} (start now : Option Stream) (after_reset : Bool) (marks : Marks A) (was is : Option Taken) (report : Report) (most : ℕ) : Type 0 where
+pub record Progress {A : Type 0} (drops : Bool) (start now : Option Stream) (behind : Behind) (marks : Marks A) (was is : Option Taken) (report : Report) (most : ℕ) : Type 0 where
   pub front : List ModelItem
   pub goes : Goes start now front
-  pub reset : after_reset ≡ after_of false front
+  pub behind_is : behind ≡ after_of Other front
   pub stands : StandsBehind (reverse front) marks
-  pub wrote : Took was is (text_for front)
-  pub counted : report ≡ report_of front
+  pub wrote : Took was is (text_for drops front)
+  pub counted : report ≡ report_of drops front
   pub few : length front + most ≤ 2 ^ 63 - 1
 
 Goes-none : (start now : Option Stream) → now ≡ start → Goes start now []
 Goes-none None now e = tt
 Goes-none (Some r) now e = (r, e, refl)
 
-pub Progress-none : {A : Type 0} (start now : Option Stream) (marks : Marks A) (was : Option Taken) (report : Report) (most : ℕ) → now ≡ start → StandsBehind [] marks → report ≡ report_of [] → most ≤ 2 ^ 63 - 1 → Progress start now false marks was was report most
-Progress-none start now marks was report most e b r m =
-    record { front = []; goes = Goes-none start now e; reset = refl; stands = b; wrote = took_nothing was; counted = r; few = omega (arith, m) }
+pub Progress-none : {A : Type 0} (drops : Bool) (start now : Option Stream) (marks : Marks A) (was : Option Taken) (report : Report) (most : ℕ) → now ≡ start → StandsBehind [] marks → report ≡ report_of drops [] → most ≤ 2 ^ 63 - 1 → Progress drops start now Other marks was was report most
+Progress-none drops start now marks was report most e b r m =
+    record { front = []; goes = Goes-none start now e; behind_is = refl; stands = b; wrote = took_nothing was; counted = r; few = omega (arith, m) }
 
 Goes-item : (start now new : Option Stream) (front : List ModelItem) (item : Item) → Goes start now front → Reads now new (Ok (Some item)) → Goes start new (front ++ item_of item ∷ [])
 Goes-item None now new front item g r = tt
@@ -52,32 +55,36 @@ Goes-item (Some s) now new front item g r =
     let t = rw g.1 at r in
     (t.0, t.2, g.2 ∙ ap (after front) t.1 ∙ ap (λ is. record { items = is; end = t.0.end }) (sym (append_assoc front (item_of item ∷ []) t.0.items)))
 
-pub Progress-item : {A : Type 0} (start now new : Option Stream) (after_reset resets : Bool) (marks passed : Marks A) (was is out : Option Taken) (report new_report : Report) (most left : ℕ) (item : Item) → resets ≡ is_reset (item_of item) → Passes (item_of item) marks passed
-    → new_report ≡ counted (lot_in after_reset (item_of item)) (names_held marks (item_of item)) (item_of item) report → left < most
-    → Took is out (stream_text (items_in after_reset (item_of item))) → Progress start now after_reset marks was is report most → Reads now new (Ok (Some item)) → Progress start new resets passed was out new_report left
-Progress-item start now new after_reset resets marks passed was is out report new_report most left item e b c m s p r =
+pub Progress-item : {A : Type 0} (drops : Bool) (start now new : Option Stream) (behind next : Behind) (marks passed : Marks A) (was is out : Option Taken) (report new_report : Report) (most left : ℕ) (item : Item) (lot : lines.Lot) → next ≡ behind_of (item_of item) → Passes (item_of item) marks passed
+    → lot ≡ lot_in drops behind (item_of item) → new_report ≡ counted lot (names_held marks (item_of item)) (item_of item) report → left < most
+    → Took is out (stream_text (items_for (item_of item) lot)) → Progress drops start now behind marks was is report most → Reads now new (Ok (Some item)) → Progress drops start new next passed was out new_report left
+Progress-item drops start now new behind next marks passed was is out report new_report most left item lot e b l c m s p r =
     let i = item_of item in
-    let sent = subst (λ b. Took is out (stream_text (items_in b i))) p.reset s in
+    let here = l ∙ ap (λ b. lot_in drops b i) p.behind_is in
+    let sent = subst (λ l. Took is out (stream_text (items_for i l))) here s in
     let names = names_blob_or_tag (reverse p.front) i in
-    let count = c ∙ ap (λ b. counted (lot_in b i) (names_held marks i) i report) p.reset ∙ ap (λ n. counted (lot_in (after_of false p.front) i) n i report) (names-same marks (reverse p.front) i p.stands) ∙ ap (counted (lot_in (after_of false p.front) i) names i) p.counted in
+    let count = c ∙ ap (λ l. counted l (names_held marks i) i report) here ∙ ap (λ n. counted (lot_in drops (after_of Other p.front) i) n i report) (names-same marks (reverse p.front) i p.stands) ∙ ap (counted (lot_in drops (after_of Other p.front) i) names i) p.counted in
     record {
       front = p.front ++ i ∷ [];
       goes = Goes-item start now new p.front item p.goes r;
-      reset = e ∙ sym (after-push false p.front i);
+      behind_is = e ∙ sym (after-push Other p.front i);
       stands = subst (λ is. StandsBehind is passed) (sym (reverse-push p.front i)) (stands-push marks passed (reverse p.front) i p.stands b);
-      wrote = subst (Took was out) (sym (text-push p.front i)) (took_both was is out (text_for p.front) (stream_text (items_in (after_of false p.front) i)) p.wrote sent);
-      counted = count ∙ sym (report-push p.front i);
+      wrote = subst (Took was out) (sym (text-push drops p.front i)) (took_both was is out (text_for drops p.front) (stream_text (items_in drops (after_of Other p.front) i)) p.wrote sent);
+      counted = count ∙ sym (report-push drops p.front i);
       few = omega (arith, m, p.few, length_push p.front i);
     }
 
 -- ---- there is room
 
-pub Progress-room : {A : Type 0} (start now : Option Stream) (after_reset : Bool) (marks : Marks A) (was is : Option Taken) (report : Report) (most : ℕ) → Progress start now after_reset marks was is report most → HasRoom report
-Progress-room start now after_reset marks was is report most p = subst HasRoom (sym p.counted) (record {
-  identities = omega (arith, p.few, many-few (λ q. is_spaced (lot_at q)) p.front);
-  deletions = omega (arith, p.few, many-few (λ q. is_deletion (lot_at q)) p.front);
-  paths = omega (arith, p.few, many-few (λ q. is_requoted (lot_at q)) p.front);
-  marks = omega (arith, p.few, many-few (λ q. is_marks (lot_at q)) p.front);
+pub Progress-room : {A : Type 0} (drops : Bool) (start now : Option Stream) (behind : Behind) (marks : Marks A) (was is : Option Taken) (report : Report) (most : ℕ) → Progress drops start now behind marks was is report most → HasRoom report
+Progress-room drops start now behind marks was is report most p = subst HasRoom (sym p.counted) (record {
+  identities = omega (arith, p.few, many-few (λ q. is_spaced (lot_at drops q)) p.front);
+  deletions = omega (arith, p.few, many-few (λ q. is_deletion (lot_at drops q)) p.front);
+  paths = omega (arith, p.few, many-few (λ q. is_requoted (lot_at drops q)) p.front);
+  marks = omega (arith, p.few, many-few (λ q. is_marks (lot_at drops q)) p.front);
+  features = omega (arith, p.few, many-few (λ q. is_asking (lot_at drops q)) p.front);
+  signatures = omega (arith, p.few, many-few (λ q. on_line lines.is_signature_line q.item) p.front);
+  refused_names = omega (arith, p.few, many-few (λ q. on_line lines.is_refused q.item) p.front);
   notes = omega (arith, p.few, many-few (λ q. on_line lines.is_note q.item) p.front);
   early_dates = omega (arith, p.few, many-few (λ q. on_line lines.is_early q.item) p.front);
   tags_of_blobs_or_tags = omega (arith, p.few, tags-few p.front);
@@ -89,53 +96,53 @@ Progress-room start now after_reset marks was is report most p = subst HasRoom (
 whole : (s left : Stream) (front : List ModelItem) (e : End) → s ≡ after front left → left ≡ ended e → s ≡ record { items = front; end = e }
 whole s left front e g h = g ∙ ap (after front) h ∙ ap (λ is. record { items = is; end = e }) (append-nil front)
 
-pub Adapts-end : {A : Type 0} (start now new : Option Stream) (after_reset : Bool) (marks : Marks A) (was is : Option Taken) (report : Report) (most : ℕ) → Progress start now after_reset marks was is report most → Reads now new (Ok None) → AdaptsFrom start was is (Ok report)
-Adapts-end None now new after_reset marks was is report most p r = (record { items = p.front; end = Finished }, tt, (p.counted, (refl, p.wrote)))
-Adapts-end (Some s) now new after_reset marks was is report most p r =
+pub Adapts-end : {A : Type 0} (drops : Bool) (start now new : Option Stream) (behind : Behind) (marks : Marks A) (was is : Option Taken) (report : Report) (most : ℕ) → Progress drops start now behind marks was is report most → Reads now new (Ok None) → AdaptsFrom drops start was is (Ok report)
+Adapts-end drops None now new behind marks was is report most p r = (record { items = p.front; end = Finished }, tt, (p.counted, (refl, p.wrote)))
+Adapts-end drops (Some s) now new behind marks was is report most p r =
     let t = rw p.goes.1 at r in
-    subst (λ s. Adapts s was is (Ok report)) (sym (whole s p.goes.0 p.front Finished p.goes.2 t.0)) (p.counted, (refl, p.wrote))
+    subst (λ s. Adapts drops s was is (Ok report)) (sym (whole s p.goes.0 p.front Finished p.goes.2 t.0)) (p.counted, (refl, p.wrote))
 
-fault_at : (front : List ModelItem) (was is : Option Taken) (f : StreamFault) → Took was is (text_for front) → Adapts (record { items = front; end = Failed (fault_of f) }) was is (Err (of_stream f))
-fault_at front was is stream.OutOfMemory w = (front, [], sym (append-nil front), w)
-fault_at front was is stream.ReadFailed w = (refl, w)
-fault_at front was is stream.TruncatedData w = (refl, w)
-fault_at front was is stream.BadNumber w = (refl, w)
+fault_at : (drops : Bool) (front : List ModelItem) (was is : Option Taken) (f : StreamFault) → Took was is (text_for drops front) → Adapts drops (record { items = front; end = Failed (fault_of f) }) was is (Err (of_stream f))
+fault_at drops front was is stream.OutOfMemory w = (front, [], sym (append-nil front), w)
+fault_at drops front was is stream.ReadFailed w = (refl, w)
+fault_at drops front was is stream.TruncatedData w = (refl, w)
+fault_at drops front was is stream.BadNumber w = (refl, w)
 
-no_memory : (s left : Stream) (front : List ModelItem) (was is : Option Taken) → s ≡ after front left → Took was is (text_for front) → Adapts s was is (Err faults.OutOfMemory)
-no_memory s left front was is g w = (front, left.items, ap (λ (t : Stream). t.items) g, w)
+no_memory : (drops : Bool) (s left : Stream) (front : List ModelItem) (was is : Option Taken) → s ≡ after front left → Took was is (text_for drops front) → Adapts drops s was is (Err faults.OutOfMemory)
+no_memory drops s left front was is g w = (front, left.items, ap (λ (t : Stream). t.items) g, w)
 
-fault_case : (s left : Stream) (front : List ModelItem) (was is : Option Taken) (f : StreamFault) → s ≡ after front left → Took was is (text_for front) → (f ≡ stream.OutOfMemory) ⊎ (left ≡ ended (Failed (fault_of f))) → Adapts s was is (Err (of_stream f))
-fault_case s left front was is f g w (inl e) = subst (λ f. Adapts s was is (Err (of_stream f))) (sym e) (no_memory s left front was is g w)
-fault_case s left front was is f g w (inr e) = subst (λ s. Adapts s was is (Err (of_stream f))) (sym (whole s left front (Failed (fault_of f)) g e)) (fault_at front was is f w)
+fault_case : (drops : Bool) (s left : Stream) (front : List ModelItem) (was is : Option Taken) (f : StreamFault) → s ≡ after front left → Took was is (text_for drops front) → (f ≡ stream.OutOfMemory) ⊎ (left ≡ ended (Failed (fault_of f))) → Adapts drops s was is (Err (of_stream f))
+fault_case drops s left front was is f g w (inl e) = subst (λ f. Adapts drops s was is (Err (of_stream f))) (sym e) (no_memory drops s left front was is g w)
+fault_case drops s left front was is f g w (inr e) = subst (λ s. Adapts drops s was is (Err (of_stream f))) (sym (whole s left front (Failed (fault_of f)) g e)) (fault_at drops front was is f w)
 
-pub Adapts-fault : {A : Type 0} (start now new : Option Stream) (after_reset : Bool) (marks : Marks A) (was is : Option Taken) (report : Report) (most : ℕ) (f : StreamFault) → Progress start now after_reset marks was is report most → Reads now new (Err f) → AdaptsFrom start was is (Err (of_stream f))
-Adapts-fault None now new after_reset marks was is report most f p r = (record { items = p.front; end = Failed (fault_of f) }, (f, refl), fault_at p.front was is f p.wrote)
-Adapts-fault (Some s) now new after_reset marks was is report most f p r =
+pub Adapts-fault : {A : Type 0} (drops : Bool) (start now new : Option Stream) (behind : Behind) (marks : Marks A) (was is : Option Taken) (report : Report) (most : ℕ) (f : StreamFault) → Progress drops start now behind marks was is report most → Reads now new (Err f) → AdaptsFrom drops start was is (Err (of_stream f))
+Adapts-fault drops None now new behind marks was is report most f p r = (record { items = p.front; end = Failed (fault_of f) }, (f, refl), fault_at drops p.front was is f p.wrote)
+Adapts-fault drops (Some s) now new behind marks was is report most f p r =
     let t = rw p.goes.1 at r in
-    fault_case s p.goes.0 p.front was is f p.goes.2 p.wrote t.1
+    fault_case drops s p.goes.0 p.front was is f p.goes.2 p.wrote t.1
 
 -- ---- an item that isn't sent
 
-failed_at : (was is out : Option Taken) (front : List ModelItem) (i : ModelItem) (more : List ModelItem) → Took was is (text_for front) → FailedWithin is out (stream_text (items_in (after_of false front) i)) → FailedWithin was out (text_for (front ++ i ∷ more))
-failed_at was is out front i more w f =
-    let here = stream_text (items_in (after_of false front) i) in
-    subst (FailedWithin was out) (sym (text-within front i more)) (failed_after was is out (text_for front) (here ++ text_behind (is_reset i) more) w (failed_longer is out here (text_behind (is_reset i) more) f))
+failed_at : (drops : Bool) (was is out : Option Taken) (front : List ModelItem) (i : ModelItem) (more : List ModelItem) → Took was is (text_for drops front) → FailedWithin is out (stream_text (items_in drops (after_of Other front) i)) → FailedWithin was out (text_for drops (front ++ i ∷ more))
+failed_at drops was is out front i more w f =
+    let here = stream_text (items_in drops (after_of Other front) i) in
+    subst (FailedWithin was out) (sym (text-within drops front i more)) (failed_after was is out (text_for drops front) (here ++ text_behind drops (behind_of i) more) w (failed_longer is out here (text_behind drops (behind_of i) more) f))
 
 -- where the item comes from
-unsent : (s left : Stream) (front : List ModelItem) (i : ModelItem) (was is out : Option Taken) (fault : AdaptFault) → s ≡ after front (then_comes i left) → Took was is (text_for front) → PutsIf {A = Bool} (stream_text (items_in (after_of false front) i)) is out (Err fault) → Adapts s was out (Err fault)
-unsent s left front i was is out faults.OutOfMemory g w f = (front, i ∷ left.items, ap (λ (t : Stream). t.items) g, subst (λ o. Took was o (text_for front)) (sym f) w)
-unsent s left front i was is out faults.WriteFailed g w f = subst (λ is. FailedWithin was out (text_for is)) (sym (ap (λ (t : Stream). t.items) g)) (failed_at was is out front i left.items w f)
-unsent s left front i was is out faults.ReadFailed g w f = absurd f
-unsent s left front i was is out faults.TruncatedData g w f = absurd f
-unsent s left front i was is out faults.BadNumber g w f = absurd f
+unsent : (drops : Bool) (s left : Stream) (front : List ModelItem) (i : ModelItem) (was is out : Option Taken) (fault : AdaptFault) → s ≡ after front (then_comes i left) → Took was is (text_for drops front) → PutsIf {A = Unit {0}} (stream_text (items_in drops (after_of Other front) i)) is out (Err fault) → Adapts drops s was out (Err fault)
+unsent drops s left front i was is out faults.OutOfMemory g w f = (front, i ∷ left.items, ap (λ (t : Stream). t.items) g, subst (λ o. Took was o (text_for drops front)) (sym f) w)
+unsent drops s left front i was is out faults.WriteFailed g w f = subst (λ is. FailedWithin was out (text_for drops is)) (sym (ap (λ (t : Stream). t.items) g)) (failed_at drops was is out front i left.items w f)
+unsent drops s left front i was is out faults.ReadFailed g w f = absurd f
+unsent drops s left front i was is out faults.TruncatedData g w f = absurd f
+unsent drops s left front i was is out faults.BadNumber g w f = absurd f
 
-pub Adapts-unsent : {A : Type 0} (start now new : Option Stream) (after_reset : Bool) (marks : Marks A) (was is out : Option Taken) (report : Report) (most : ℕ) (item : Item) (fault : AdaptFault) → PutsIf {A = Bool} (stream_text (items_in after_reset (item_of item))) is out (Err fault) → Progress start now after_reset marks was is report most → Reads now new (Ok (Some item))
-    → AdaptsFrom start was out (Err fault)
-Adapts-unsent None now new after_reset marks was is out report most item fault f p r =
+pub Adapts-unsent : {A : Type 0} (drops : Bool) (start now new : Option Stream) (behind : Behind) (marks : Marks A) (was is out : Option Taken) (report : Report) (most : ℕ) (item : Item) (lot : lines.Lot) (fault : AdaptFault) → lot ≡ lot_in drops behind (item_of item) → PutsIf {A = Unit {0}} (stream_text (items_for (item_of item) lot)) is out (Err fault) → Progress drops start now behind marks was is report most → Reads now new (Ok (Some item))
+    → AdaptsFrom drops start was out (Err fault)
+Adapts-unsent drops None now new behind marks was is out report most item lot fault l f p r =
     let i = item_of item in
     let s = after p.front (then_comes i (ended Finished)) in
-    (s, tt, unsent s (ended Finished) p.front i was is out fault refl p.wrote (subst (λ b. PutsIf {A = Bool} (stream_text (items_in b i)) is out (Err fault)) p.reset f))
-Adapts-unsent (Some s) now new after_reset marks was is out report most item fault f p r =
+    (s, tt, unsent drops s (ended Finished) p.front i was is out fault refl p.wrote (subst (λ l. PutsIf {A = Unit {0}} (stream_text (items_for i l)) is out (Err fault)) (l ∙ ap (λ b. lot_in drops b i) p.behind_is) f))
+Adapts-unsent drops (Some s) now new behind marks was is out report most item lot fault l f p r =
     let i = item_of item in
     let t = rw p.goes.1 at r in
-    unsent s t.0 p.front i was is out fault (p.goes.2 ∙ ap (after p.front) t.1) p.wrote (subst (λ b. PutsIf {A = Bool} (stream_text (items_in b i)) is out (Err fault)) p.reset f)
+    unsent drops s t.0 p.front i was is out fault (p.goes.2 ∙ ap (after p.front) t.1) p.wrote (subst (λ l. PutsIf {A = Unit {0}} (stream_text (items_for i l)) is out (Err fault)) (l ∙ ap (λ b. lot_in drops b i) p.behind_is) f)

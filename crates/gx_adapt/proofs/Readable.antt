@@ -24,9 +24,11 @@ use Rattle.gx_model.specs.Texts.Paths.{unquote}
 use Rattle.gx_text.specs.Devices.{Coming}
 use Rattle.gx_stream.specs.Heard.{heard_upto, heard, items_from}
 use Rattle.gx_adapt.specs.Paths.{escaped, quoted, after_quoted, is_open, anew, source_before, source_of}
-use Rattle.gx_adapt.specs.Lines.{Lot, kept, deletion, marks, spaced, requoted, begins, is_ident_word, is_move_word, ident_lot, path_lot, dataref_lot, mode_lot, modify_lot, paths_lot, move_lot, word_lot, words_lot, lot_of, lines_for, is_of_marks, is_null_from}
-use Rattle.gx_adapt.specs.Streams.{is_reset, placed_from, items_in, items_for, adapted}
+use Rattle.gx_adapt.specs.Lines.{Lot, kept, deletion, marks, feature, signature, spaced, requoted, begins, is_ident_word, is_move_word, ident_lot, path_lot, dataref_lot, mode_lot, modify_lot, paths_lot, move_lot, word_lot, words_lot, lot_of, lines_for, items_for, is_of_marks, is_feature, is_signature_line, is_reset, is_signature, is_null_from}
+use Rattle.gx_adapt.specs.Streams.{behind_of, placed_from, items_in, items_at, adapted}
 use Rattle.gx_adapt.specs.Laws.{IsReadAdapted}
+use Rattle.gx_adapt.specs.declared.lot.Behind.{Behind}
+use Rattle.gx_adapt.specs.declared.lot.Behind.TheVariants.{Other}
 use Rattle.gx_adapt.specs.Adapting.{IsReadAgain}
 
 -- ---- what is read can be spelled
@@ -121,6 +123,8 @@ abbrev IsSpelled : Lot → Type 0
 IsSpelled kept = Unit {0}
 IsSpelled deletion = Unit {0}
 IsSpelled marks = Unit {0}
+IsSpelled feature = Unit {0}
+IsSpelled signature = Unit {0}
 IsSpelled (spaced new) = IsItemLine new
 IsSpelled (requoted new) = IsItemLine new
 
@@ -195,30 +199,37 @@ word_spelled word rest h = by (is_ident_word word) refl (bytes_eq word (codes "M
   by false e false false true f = move_spelled word rest f h
   by false e false false false f = tt
 
-lot_spelled : (after_reset : Bool) (l : Bytes) → is_line l ≡ true → IsSpelled (lot_of after_reset l)
+lot_spelled : (drops : Bool) (behind : Behind) (l : Bytes) → is_line l ≡ true → IsSpelled (lot_of drops behind l)
 unfolding lot_of
-lot_spelled after_reset l h = by (is_of_marks l) (after_reset && is_null_from l) (cut_at 32 l) refl where
-  by : (a b : Bool) (o : Option (Bytes × Bytes)) → cut_at 32 l ≡ o → IsSpelled (cond a marks (cond b deletion (words_lot o)))
-  by true b o e = tt
-  by false true o e = tt
-  by false false None e = tt
-  by false false (Some p) e = word_spelled p.0 p.1 (cut_lines l p e h).1
+lot_spelled drops behind l h = by (is_of_marks l) (is_feature l) (drops && is_signature_line l) (is_reset behind && is_null_from l) (cut_at 32 l) refl where
+  by : (a b c d : Bool) (o : Option (Bytes × Bytes)) → cut_at 32 l ≡ o → IsSpelled (cond a marks (cond b feature (cond c signature (cond d deletion (words_lot o)))))
+  by true b c d o e = tt
+  by false true c d o e = tt
+  by false false true d o e = tt
+  by false false false true o e = tt
+  by false false false false None e = tt
+  by false false false false (Some p) e = word_spelled p.0 p.1 (cut_lines l p e h).1
 
 -- ---- the whole stream
 
-items_spelled : (after_reset : Bool) (i : Item) → IsItem i → AreItems (items_in after_reset i)
-items_spelled after_reset (Data x) h = (h, tt)
-items_spelled after_reset (Line l) h = by (lot_of after_reset l) (lot_spelled after_reset l h.line) where
+items_spelled : (drops : Bool) (behind : Behind) (i : Item) → IsItem i → AreItems (items_in drops behind i)
+items_spelled drops behind (Data x) h = by (drops && is_signature behind) where
+  by : (t : Bool) → AreItems (items_for (Data x) (cond t signature kept))
+  by true = tt
+  by false = (h, tt)
+items_spelled drops behind (Line l) h = by (lot_of drops behind l) (lot_spelled drops behind l h.line) where
   by : (lot : Lot) → IsSpelled lot → AreItems (lines_for l lot)
   by kept k = (h, tt)
   by deletion k = tt
   by marks k = tt
+  by feature k = tt
+  by signature k = tt
   by (spaced new) k = (k, tt)
   by (requoted new) k = (k, tt)
 
-all_spelled : (after_reset : Bool) (is : List Item) → AreItems is → AreItems (flat_map items_for (placed_from after_reset is))
-all_spelled after_reset [] h = tt
-all_spelled after_reset (i ∷ is) h = items_append (items_in after_reset i) (flat_map items_for (placed_from (is_reset i) is)) (items_spelled after_reset i h.0) (all_spelled (is_reset i) is h.1)
+all_spelled : (drops : Bool) (behind : Behind) (is : List Item) → AreItems is → AreItems (flat_map (items_at drops) (placed_from behind is))
+all_spelled drops behind [] h = tt
+all_spelled drops behind (i ∷ is) h = items_append (items_in drops behind i) (flat_map (items_at drops) (placed_from (behind_of i) is)) (items_spelled drops behind i h.0) (all_spelled drops (behind_of i) is h.1)
 
 heard_short : (room : ℕ) (c : Coming) → length (heard_upto room c).bytes ≤ room
 unfolding heard_upto
@@ -227,11 +238,11 @@ heard_short room c = by (nat_le (length c.bytes) room) refl where
   by true e = grind (arith, nat_tests)
   by false e = let k = length-take room c.bytes in grind (arith, nat_tests)
 
-read_again : (c : Coming) → IsReadAdapted c
-read_again c =
+read_again : (drops : Bool) (c : Coming) → IsReadAdapted drops c
+read_again drops c =
     let short = heard_short (2 ^ 63 - 1) c in
-    items_read (adapted (items_from c).items) (all_spelled false (items_from c).items (all_read (heard c).fails (heard c).bytes (items_from c).items (items_from c).end (has_reading (heard c).bytes (heard c).fails) (omega (arith, short))))
+    items_read (adapted drops (items_from c).items) (all_spelled drops Other (items_from c).items (all_read (heard c).fails (heard c).bytes (items_from c).items (items_from c).end (has_reading (heard c).bytes (heard c).fails) (omega (arith, short))))
 
-pub again : (o : Option Coming) → IsReadAgain o
-again None = tt
-again (Some c) = read_again c
+pub again : (drops : Bool) (o : Option Coming) → IsReadAgain drops o
+again drops None = tt
+again drops (Some c) = read_again drops c

@@ -14,12 +14,12 @@ use Rattle.gx_stream.specs.declared.fault.StreamFault.{StreamFault}
 use Rattle.gx_stream.specs.declared.fault.StreamFault.TheVariants as stream
 use Rattle.gx_adapt.specs.Lines as lines
 use Rattle.gx_adapt.specs.Marks.{command_begun, command_of, mark_behind, is_blob_or_tag, is_tag, sets_mark, is_of_blob_or_tag}
-use Rattle.gx_adapt.specs.Streams.{items_in, lot_in, adapted, stream_text, is_spaced, is_deletion, is_requoted, is_marks, is_done, on_line, report_of}
+use Rattle.gx_adapt.specs.Streams.{adapted, stream_text, is_spaced, is_deletion, is_requoted, is_marks, is_asking, is_done, on_line, report_of}
 use Rattle.gx_adapt.specs.Laws.{IsReadAdapted}
 use Rattle.gx_adapt.specs.declared.fault.AdaptFault.{AdaptFault}
 use Rattle.gx_adapt.specs.declared.fault.AdaptFault.TheVariants.{OutOfMemory, ReadFailed, WriteFailed, TruncatedData, BadNumber}
 use Rattle.gx_adapt.specs.declared.lot.Lot.{Lot}
-use Rattle.gx_adapt.specs.declared.lot.Lot.TheVariants.{Kept, Deletion, Marks, Ident, Modify, Remove, Move}
+use Rattle.gx_adapt.specs.declared.lot.Lot.TheVariants.{Kept, Deletion, Marks, Feature, Signature, Ident, Modify, Remove, Move}
 use Rattle.gx_adapt.specs.declared.marks.Command.{Command}
 use Rattle.gx_adapt.specs.declared.marks.Marks as held
 use Rattle.gx_adapt.specs.declared.report.Report.{Report}
@@ -36,37 +36,37 @@ abbrev pub IsEnd : End → Type 0
 IsEnd Finished = ⊤
 IsEnd (Failed f) = (why : StreamFault) × (f ≡ fault_of why)
 
--- the text of what stands in the place of some items
-abbrev pub text_for : List Item → Bytes
-text_for is = stream_text (adapted is)
+-- the text of what stands in the place of some items, by whether signatures are dropped
+abbrev pub text_for : Bool → List Item → Bytes
+text_for drops is = stream_text (adapted drops is)
 
 -- all that came went out adapted, and this is the end
-abbrev pub EndsWith : Stream → End → Option Taken → Option Taken → Type 0
-EndsWith s end was is = (s.end ≡ end) × Took was is (text_for s.items)
+abbrev pub EndsWith : Bool → Stream → End → Option Taken → Option Taken → Type 0
+EndsWith drops s end was is = (s.end ≡ end) × Took was is (text_for drops s.items)
 
 -- All items went out adapted, and the report counts them. Or those went out that came before the stream's fault. For want
 -- of memory some first items went out. Where the sink failed, a front of the adapted text did.
-abbrev pub Adapts : Stream → Option Taken → Option Taken → Result Report AdaptFault → Type 0
-Adapts s was is (Ok report) = (report ≡ report_of s.items) × EndsWith s Finished was is
-Adapts s was is (Err ReadFailed) = EndsWith s (Failed model.ReadFailed) was is
-Adapts s was is (Err TruncatedData) = EndsWith s (Failed model.TruncatedData) was is
-Adapts s was is (Err BadNumber) = EndsWith s (Failed model.BadNumber) was is
-Adapts s was is (Err OutOfMemory) = (front : List Item) × (rest : List Item) × (s.items ≡ front ++ rest) × Took was is (text_for front)
-Adapts s was is (Err WriteFailed) = FailedWithin was is (text_for s.items)
+abbrev pub Adapts : Bool → Stream → Option Taken → Option Taken → Result Report AdaptFault → Type 0
+Adapts drops s was is (Ok report) = (report ≡ report_of drops s.items) × EndsWith drops s Finished was is
+Adapts drops s was is (Err ReadFailed) = EndsWith drops s (Failed model.ReadFailed) was is
+Adapts drops s was is (Err TruncatedData) = EndsWith drops s (Failed model.TruncatedData) was is
+Adapts drops s was is (Err BadNumber) = EndsWith drops s (Failed model.BadNumber) was is
+Adapts drops s was is (Err OutOfMemory) = (front : List Item) × (rest : List Item) × (s.items ≡ front ++ rest) × Took was is (text_for drops front)
+Adapts drops s was is (Err WriteFailed) = FailedWithin was is (text_for drops s.items)
 
 -- the same of a source's items; where it tells nothing, of some items with their end
-abbrev pub AdaptsFrom : Option Stream → Option Taken → Option Taken → Result Report AdaptFault → Type 0
-AdaptsFrom None was is r = (s : Stream) × IsEnd s.end × Adapts s was is r
-AdaptsFrom (Some s) was is r = Adapts s was is r
+abbrev pub AdaptsFrom : Bool → Option Stream → Option Taken → Option Taken → Result Report AdaptFault → Type 0
+AdaptsFrom drops None was is r = (s : Stream) × IsEnd s.end × Adapts drops s was is r
+AdaptsFrom drops (Some s) was is r = Adapts drops s was is r
 
 -- the stream of a source goes out adapted
-abbrev pub AdaptsSource : Option Coming → Option Taken → Option Taken → Result Report AdaptFault → Type 0
-AdaptsSource coming was is r = AdaptsFrom (option_map items_from coming) was is r
+abbrev pub AdaptsSource : Bool → Option Coming → Option Taken → Option Taken → Result Report AdaptFault → Type 0
+AdaptsSource drops coming was is r = AdaptsFrom drops (option_map items_from coming) was is r
 
 -- what went out is read as these items again
-abbrev pub IsReadAgain : Option Coming → Type 0
-IsReadAgain None = Unit {0}
-IsReadAgain (Some c) = IsReadAdapted c
+abbrev pub IsReadAgain : Bool → Option Coming → Type 0
+IsReadAgain drops None = Unit {0}
+IsReadAgain drops (Some c) = IsReadAdapted drops c
 
 -- ---- marks
 
@@ -105,11 +105,13 @@ pub record Passes {A : Type 0} (item : Item) (was is : held.Marks A) : Type 0 wh
 
 -- ---- one item
 
--- what becomes of a line, as the code tells it
+-- what becomes of an item, as the code tells it
 abbrev pub shown_lot : Lot → lines.Lot
 shown_lot Kept = lines.kept
 shown_lot Deletion = lines.deletion
 shown_lot Marks = lines.marks
+shown_lot Feature = lines.feature
+shown_lot Signature = lines.signature
 shown_lot (Ident word ident) = lines.spaced (lines.spaced_line word.now ident.now)
 shown_lot (Modify mode dataref path) = lines.requoted (lines.modified_line mode.now dataref.now path.now)
 shown_lot (Remove path) = lines.requoted (lines.quoted_line (codes "D") path.now)
@@ -119,6 +121,16 @@ shown_lot (Move word source destination) = lines.requoted (lines.moved_line word
 abbrev pub one_if : Bool → ℕ → ℕ
 one_if holds n = if holds then n + 1 else n
 
+-- what becomes of an item counted
+abbrev pub changed : lines.Lot → Report → Report
+changed lot r = record r {
+  identities = one_if (is_spaced lot) r.identities;
+  deletions = one_if (is_deletion lot) r.deletions;
+  paths = one_if (is_requoted lot) r.paths;
+  marks = one_if (is_marks lot) r.marks;
+  features = one_if (is_asking lot) r.features;
+}
+
 -- an item counted, of which this becomes, and which names a blob or a tag for a tag, or doesn't
 abbrev pub counted : lines.Lot → Bool → Item → Report → Report
 counted lot names item r = record {
@@ -126,19 +138,22 @@ counted lot names item r = record {
   deletions = one_if (is_deletion lot) r.deletions;
   paths = one_if (is_requoted lot) r.paths;
   marks = one_if (is_marks lot) r.marks;
+  features = one_if (is_asking lot) r.features;
+  signatures = one_if (on_line lines.is_signature_line item) r.signatures;
+  refused_names = one_if (on_line lines.is_refused item) r.refused_names;
   notes = one_if (on_line lines.is_note item) r.notes;
   early_dates = one_if (on_line lines.is_early item) r.early_dates;
   tags_of_blobs_or_tags = one_if names r.tags_of_blobs_or_tags;
   ended_with_done = on_line is_done item;
 }
 
--- the same by what stands before it
-abbrev pub with_item : {A : Type 0} → Bool → held.Marks A → Item → Report → Report
-with_item after_reset marks item r = counted (lot_in after_reset item) (names_held marks item) item r
+-- the same by the marks that are held
+abbrev pub with_item : {A : Type 0} → lines.Lot → held.Marks A → Item → Report → Report
+with_item lot marks item r = counted lot (names_held marks item) item r
 
--- an item is counted in a report, unless a fault is answered
-abbrev pub Counts : {A T : Type 0} → Bool → Item → held.Marks A → Report → Report → Result T AdaptFault → Type 0
-Counts after_reset item marks was is r = OnOk r (is ≡ with_item after_reset marks item was)
+-- an item of which this becomes is counted in a report, unless a fault is answered
+abbrev pub Counts : {A T : Type 0} → Lot → Item → held.Marks A → Report → Report → Result T AdaptFault → Type 0
+Counts lot item marks was is r = OnOk r (is ≡ with_item (shown_lot lot) marks item was)
 
 -- each count has room for one more
 pub record HasRoom (r : Report) : Type 0 where
@@ -146,6 +161,9 @@ pub record HasRoom (r : Report) : Type 0 where
   pub deletions : r.deletions < 2 ^ 63
   pub paths : r.paths < 2 ^ 63
   pub marks : r.marks < 2 ^ 63
+  pub features : r.features < 2 ^ 63
+  pub signatures : r.signatures < 2 ^ 63
+  pub refused_names : r.refused_names < 2 ^ 63
   pub notes : r.notes < 2 ^ 63
   pub early_dates : r.early_dates < 2 ^ 63
   pub tags_of_blobs_or_tags : r.tags_of_blobs_or_tags < 2 ^ 63
@@ -161,10 +179,10 @@ abbrev pub PutsIf : {A : Type 0} → Bytes → Option Taken → Option Taken →
 PutsIf text was is (Err OutOfMemory) = is ≡ was
 PutsIf text was is r = Puts text was is r
 
--- the same of what stands in an item's place
-abbrev pub SendsFor : {A : Type 0} → Bool → Item → Option Taken → Option Taken → Result A AdaptFault → Type 0
-SendsFor after_reset item was is r = PutsIf (stream_text (items_in after_reset item)) was is r
+-- the same of what stands in an item's place, of which this becomes
+abbrev pub SendsFor : {A : Type 0} → Lot → Item → Option Taken → Option Taken → Result A AdaptFault → Type 0
+SendsFor lot item was is r = PutsIf (stream_text (lines.items_for item (shown_lot lot))) was is r
 
 -- the same of a sink, by what it tells
-abbrev pub SendsItem : {A W : Type 0} → (W → Option Taken) → Bool → Item → W → W → Result A AdaptFault → Type 0
-SendsItem taken after_reset item was is r = SendsFor after_reset item (taken was) (taken is) r
+abbrev pub SendsItem : {A W : Type 0} → (W → Option Taken) → Lot → Item → W → W → Result A AdaptFault → Type 0
+SendsItem taken lot item was is r = SendsFor lot item (taken was) (taken is) r

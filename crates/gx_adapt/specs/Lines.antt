@@ -1,18 +1,23 @@
 -- What becomes of a line.
--- Source: git-fast-import(1), "author", "committer", "tagger", "from", "filemodify", "filedelete", "filecopy", "filerename", "feature" and "get-mark".
-use Rattle.std.specs.Prelude.{Bool, false, ◌&&◌, ◌||◌, nat_eq, List, [], ◌∷◌, ◌++◌, codes, Option, Some, None, if◌then◌else◌}
+-- Source: git-fast-import(1), "author", "committer", "tagger", "gpgsig", "from", "filemodify", "filedelete", "filecopy", "filerename", "feature" and "get-mark".
+use Rattle.std.specs.Prelude.{Bool, true, false, not, ◌&&◌, ◌||◌, nat_eq, List, [], ◌∷◌, ◌++◌, codes, Option, Some, None, if◌then◌else◌}
 use Rattle.std.specs.List.{starts_with}
 use Rattle.std.specs.Str.{bytes_eq}
 use Rattle.gx_model.specs.Texts.{Bytes, cut_at}
-use Rattle.gx_model.specs.Streams.Items.{Item, Line}
+use Rattle.gx_model.specs.Texts.RefNames.{is_ref_name}
+use Rattle.gx_model.specs.Streams.Items.{Item, Line, Data}
 use Rattle.gx_adapt.specs.Paths.{quoted, is_open, anew, source_of}
+use Rattle.gx_adapt.specs.declared.lot.Behind.{Behind}
+use Rattle.gx_adapt.specs.declared.lot.Behind.TheVariants.{Reset, Signature, Other}
 
--- A line stays, or is left out since it deletes a branch or is about marks, or is another line: one whose identity has a
--- space before its `<`, or one with a path in quotes.
+-- An item stays, or is left out since it deletes a branch, is about marks, asks for a feature or is of a signature, or is
+-- another line: one whose identity has a space before its `<`, or one with a path in quotes.
 pub data Lot : Type 0 where
   kept : Lot
   deletion : Lot
   marks : Lot
+  feature : Lot
+  signature : Lot
   spaced : Bytes → Lot
   requoted : Bytes → Lot
 
@@ -35,6 +40,28 @@ abbrev pub is_of_marks : Bytes → Bool
 is_of_marks l =
     begins (codes "feature import-marks=") l || begins (codes "feature import-marks-if-exists=") l || begins (codes "feature export-marks=") l
     || bytes_eq l (codes "feature relative-marks") || bytes_eq l (codes "feature no-relative-marks") || begins (codes "get-mark :") l
+
+-- a feature that only asks whether the reader knows a command. git knows them all, so that the line does nothing there
+abbrev pub is_feature : Bytes → Bool
+is_feature l = bytes_eq l (codes "feature notes") || bytes_eq l (codes "feature ls") || bytes_eq l (codes "feature cat-blob") || bytes_eq l (codes "feature get-mark")
+
+-- the line of a commit's signature, whose block follows
+abbrev pub is_signature_line : Bytes → Bool
+is_signature_line l = begins (codes "gpgsig ") l
+
+-- what an item stands behind, by the line directly before it
+abbrev pub behind_line : Bytes → Behind
+behind_line l = if is_reset_line l then Reset else (if is_signature_line l then Signature else Other)
+
+abbrev pub is_reset : Behind → Bool
+is_reset Reset = true
+is_reset Signature = false
+is_reset Other = false
+
+abbrev pub is_signature : Behind → Bool
+is_signature Reset = false
+is_signature Signature = true
+is_signature Other = false
 
 -- the word of a line with an identity
 abbrev pub is_ident_word : Bytes → Bool
@@ -109,25 +136,60 @@ abbrev pub words_lot : Option (Bytes × Bytes) → Lot
 words_lot None = kept
 words_lot (Some p) = word_lot p.0 p.1
 
--- what becomes of a line, by whether it stands directly behind a reset
-unfoldable pub lot_of : Bool → Bytes → Lot
-lot_of after_reset l =
+-- what becomes of a line, by whether signatures are dropped, and by what it stands behind
+unfoldable pub lot_of : Bool → Behind → Bytes → Lot
+lot_of drops behind l =
     if is_of_marks l then marks
-    else (if after_reset && is_null_from l then deletion else words_lot (cut_at 32 l))
+    else (if is_feature l then feature
+    else (if drops && is_signature_line l then signature
+    else (if is_reset behind && is_null_from l then deletion else words_lot (cut_at 32 l))))
 
--- the lines that stand in its place
+-- what becomes of a block: it stays, unless it is a signature and these are dropped
+abbrev pub block_lot : Bool → Behind → Lot
+block_lot drops behind = if drops && is_signature behind then signature else kept
+
+-- the lines that stand in a line's place
 abbrev pub lines_for : Bytes → Lot → List Item
 lines_for l kept = Line l ∷ []
 lines_for l deletion = []
 lines_for l marks = []
+lines_for l feature = []
+lines_for l signature = []
 lines_for l (spaced new) = Line new ∷ []
 lines_for l (requoted new) = Line new ∷ []
+
+-- a block is left out, as a signature
+abbrev pub is_dropped : Lot → Bool
+is_dropped kept = false
+is_dropped deletion = false
+is_dropped marks = false
+is_dropped feature = false
+is_dropped signature = true
+is_dropped (spaced new) = false
+is_dropped (requoted new) = false
+
+-- the items that stand in an item's place
+abbrev pub items_for : Item → Lot → List Item
+items_for (Line l) lot = lines_for l lot
+items_for (Data x) lot = if is_dropped lot then [] else Data x ∷ []
 
 -- ---- what is seen and stays
 
 -- a note
 abbrev pub is_note : Bytes → Bool
 is_note l = begins (codes "N ") l
+
+-- a commit or a reset, and what it names as its branch
+abbrev pub is_branch_word : Bytes → Bool
+is_branch_word word = bytes_eq word (codes "commit") || bytes_eq word (codes "reset")
+
+abbrev pub has_refused_name : Option (Bytes × Bytes) → Bool
+has_refused_name None = false
+has_refused_name (Some p) = is_branch_word p.0 && not (is_ref_name p.1)
+
+-- a commit or a reset of a branch whose name no ref can have
+unfoldable pub is_refused : Bytes → Bool
+is_refused l = has_refused_name (cut_at 32 l)
 
 -- the date behind an email's `>`, with its sign
 abbrev pub has_minus : Option (Bytes × Bytes) → Bool

@@ -5,20 +5,22 @@ use Rattle.gx_model.specs.Texts.Paths.{char_at, unquote_within, path_of, quoted_
 use Rattle.gx_model.specs.Streams.Grammar.{last_path, mark_of}
 use Rattle.gx_model.specs.Streams.Items.{Item, Line, Data}
 use Rattle.gx_adapt.specs.Paths.{quoted, is_open, source_of}
-use Rattle.gx_adapt.specs.Lines.{Lot, kept, deletion, marks, spaced, requoted, ident_lot, path_lot, modify_lot, move_lot, word_lot, lot_of, is_early}
+use Rattle.gx_adapt.specs.Lines.{Lot, kept, deletion, marks, feature, signature, spaced, requoted, ident_lot, path_lot, modify_lot, move_lot, word_lot, lot_of, is_early, is_refused}
 use Rattle.gx_adapt.specs.Marks.{command_begun, mark_behind, tags_of_blobs_or_tags}
 use Rattle.gx_adapt.specs.Streams.{adapted, ends_with_done, report_of}
+use Rattle.gx_adapt.specs.declared.lot.Behind.{Behind}
+use Rattle.gx_adapt.specs.declared.lot.Behind.TheVariants.{Reset, Signature, Other}
 
 -- ---- lines
 
--- a line, whether a reset stands directly before it, and what becomes of it
+-- a line, what it stands behind, and what becomes of it where signatures stay
 pub record LineRow : Type 0 where
-  pub after_reset : Bool
+  pub behind : Behind
   pub line : Bytes
   pub lot : Lot
 
 abbrev row : Bytes → Lot → LineRow
-row line lot = record { after_reset = false; line = line; lot = lot }
+row line lot = record { behind = Other; line = line; lot = lot }
 
 abbrev null_from : Bytes
 null_from = codes "from 0000000000000000000000000000000000000000"
@@ -32,10 +34,11 @@ line_rows =
     ∷ row (codes "committer A <a> 1 +0000") kept
     ∷ row (codes "merge <a") kept
     -- a branch's deletion
-    ∷ record { after_reset = true; line = null_from; lot = deletion }
+    ∷ record { behind = Reset; line = null_from; lot = deletion }
+    ∷ record { behind = Signature; line = null_from; lot = kept }
     ∷ row null_from kept
-    ∷ record { after_reset = true; line = codes "from :1"; lot = kept }
-    ∷ record { after_reset = true; line = null_from ++ codes "0"; lot = kept }
+    ∷ record { behind = Reset; line = codes "from :1"; lot = kept }
+    ∷ record { behind = Reset; line = null_from ++ codes "0"; lot = kept }
     -- paths
     ∷ row (codes "M 100644 :1 \"a") (requoted (codes "M 100644 :1 \"\\\"a\""))
     ∷ row (codes "M 100644 inline \"a\" b") (requoted (codes "M 100644 inline \"\\\"a\\\" b\""))
@@ -60,15 +63,56 @@ line_rows =
     ∷ row (codes "feature relative-marks") marks
     ∷ row (codes "feature no-relative-marks") marks
     ∷ row (codes "get-mark :1") marks
+    -- features
+    ∷ row (codes "feature notes") feature
+    ∷ row (codes "feature ls") feature
+    ∷ row (codes "feature cat-blob") feature
+    ∷ row (codes "feature get-mark") feature
+    ∷ row (codes "feature notes ") kept
+    ∷ row (codes "feature force") kept
     ∷ row (codes "feature done") kept
     ∷ row (codes "feature date-format=raw") kept
     ∷ row (codes "mark :1") kept
+    -- signatures, which stay
+    ∷ row (codes "gpgsig sha1") kept
     ∷ row [] kept
     ∷ []
 
-lines_adapted : map (λ r. lot_of r.after_reset r.line) line_rows ≡ map (λ r. r.lot) line_rows
+lines_adapted : map (λ r. lot_of false r.behind r.line) line_rows ≡ map (λ r. r.lot) line_rows
 unfolding cut_at char_at unquote_within is_open source_of ident_lot path_lot modify_lot move_lot word_lot lot_of
 lines_adapted = refl
+
+-- lines, and whether they go with a signature that is dropped. git wrote its kind alone first, and then its format, too
+abbrev pub signature_rows : List (Bytes × Lot)
+signature_rows =
+    (codes "gpgsig sha1", signature)
+    ∷ (codes "gpgsig sha1 openpgp", signature)
+    ∷ (codes "gpgsig sha256 ssh", signature)
+    ∷ (codes "gpgsig", kept)
+    ∷ (codes "gpgsig-sha256 x", kept)
+    ∷ (codes "encoding gpgsig x", kept)
+    ∷ (codes "author <a> 1 +0000", spaced (codes "author  <a> 1 +0000"))
+    ∷ []
+
+signatures_dropped : map (λ r. lot_of true Other r.0) signature_rows ≡ map (λ r. r.1) signature_rows
+unfolding cut_at ident_lot word_lot lot_of
+signatures_dropped = refl
+
+-- lines, and whether no ref can have the name of their branch
+abbrev pub refused_rows : List (Bytes × Bool)
+refused_rows =
+    (codes "commit refs/heads/feature x", true)
+    ∷ (codes "reset refs/heads/a..b", true)
+    ∷ (codes "commit refs/heads/a.lock", true)
+    ∷ (codes "commit refs/heads/main", false)
+    ∷ (codes "reset main", false)
+    ∷ (codes "tag feature x", false)
+    ∷ (codes "commit", false)
+    ∷ []
+
+refusals_told : map (λ r. is_refused r.0) refused_rows ≡ map (λ r. r.1) refused_rows
+unfolding cut_at is_refused
+refusals_told = refl
 
 -- identities, and whether they are dated before 1970
 abbrev pub dates : List (Bytes × Bool)
@@ -108,13 +152,40 @@ after =
     ∷ Line (codes "commit refs/heads/main") ∷ Line (codes "author  <a> -1 +0000") ∷ Line (codes "committer A <a> 1 +0000") ∷ Data (codes "M 100644 :1 \"a") ∷ Line null_from
     ∷ Line (codes "N :1 refs/heads/main") ∷ Line (codes "M 100644 :1 \"\\\"a\"") ∷ Line [] ∷ Line (codes "reset refs/heads/side") ∷ Line [] ∷ Line (codes "done") ∷ []
 
-stream_adapted : adapted before ≡ after
+stream_adapted : adapted false before ≡ after
 unfolding cut_at char_at unquote_within is_open source_of ident_lot path_lot modify_lot move_lot word_lot lot_of
 stream_adapted = refl
 
-stream_counted : report_of before ≡ record { identities = 1; deletions = 1; paths = 1; marks = 1; notes = 1; early_dates = 1; tags_of_blobs_or_tags = 0; ended_with_done = true }
-unfolding cut_at char_at unquote_within is_open source_of ident_lot path_lot modify_lot move_lot word_lot lot_of is_early command_begun mark_of mark_behind
+stream_counted : report_of false before ≡ record { identities = 1; deletions = 1; paths = 1; marks = 1; features = 0; signatures = 0; refused_names = 0; notes = 1; early_dates = 1; tags_of_blobs_or_tags = 0; ended_with_done = true }
+unfolding cut_at char_at unquote_within is_open source_of ident_lot path_lot modify_lot move_lot word_lot lot_of is_early is_refused command_begun mark_of mark_behind
 stream_counted = refl
+
+-- a signed commit with two signatures, of which each has its block
+abbrev signed : List Item
+signed =
+    Line (codes "feature notes") ∷ Line (codes "commit refs/heads/feature x") ∷ Line (codes "committer <a> 1 +0000") ∷ Line (codes "gpgsig sha1 openpgp") ∷ Data (codes "gpgsig sha1")
+    ∷ Line (codes "gpgsig sha256 openpgp") ∷ Data (codes "sign") ∷ Line (codes "encoding latin1") ∷ Data (codes "signed") ∷ Line (codes "reset refs/heads/b") ∷ Line null_from ∷ []
+
+abbrev with_signatures : List Item
+with_signatures =
+    Line (codes "commit refs/heads/feature x") ∷ Line (codes "committer  <a> 1 +0000") ∷ Line (codes "gpgsig sha1 openpgp") ∷ Data (codes "gpgsig sha1")
+    ∷ Line (codes "gpgsig sha256 openpgp") ∷ Data (codes "sign") ∷ Line (codes "encoding latin1") ∷ Data (codes "signed") ∷ Line (codes "reset refs/heads/b") ∷ []
+
+abbrev without_signatures : List Item
+without_signatures =
+    Line (codes "commit refs/heads/feature x") ∷ Line (codes "committer  <a> 1 +0000") ∷ Line (codes "encoding latin1") ∷ Data (codes "signed") ∷ Line (codes "reset refs/heads/b") ∷ []
+
+signatures_kept : adapted false signed ≡ with_signatures
+unfolding cut_at char_at unquote_within is_open source_of ident_lot path_lot modify_lot move_lot word_lot lot_of
+signatures_kept = refl
+
+signatures_left_out : adapted true signed ≡ without_signatures
+unfolding cut_at char_at unquote_within is_open source_of ident_lot path_lot modify_lot move_lot word_lot lot_of
+signatures_left_out = refl
+
+signatures_counted : report_of true signed ≡ record { identities = 1; deletions = 1; paths = 0; marks = 0; features = 1; signatures = 2; refused_names = 1; notes = 0; early_dates = 0; tags_of_blobs_or_tags = 0; ended_with_done = false }
+unfolding cut_at char_at unquote_within is_open source_of ident_lot path_lot modify_lot move_lot word_lot lot_of is_early is_refused command_begun mark_of mark_behind
+signatures_counted = refl
 
 -- streams, and whether `done` ends them
 abbrev pub end_rows : List (List Item × Bool)

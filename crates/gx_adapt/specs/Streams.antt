@@ -5,47 +5,49 @@ use Rattle.std.specs.List.{flat_map, filter}
 use Rattle.gx_model.specs.Texts.{Bytes, same_bytes}
 use Rattle.gx_model.specs.Streams.Items.{Item, Line, Data}
 use Rattle.gx_model.specs.Export.{item_text}
-use Rattle.gx_adapt.specs.Lines.{Lot, kept, deletion, marks, spaced, requoted, is_reset_line, lot_of, lines_for, is_note, is_early}
+use Rattle.gx_adapt.specs.Lines.{Lot, kept, deletion, marks, feature, signature, spaced, requoted, behind_line, is_signature_line, lot_of, block_lot, items_for, is_refused, is_note, is_early}
 use Rattle.gx_adapt.specs.Marks.{tags_of_blobs_or_tags}
+use Rattle.gx_adapt.specs.declared.lot.Behind.{Behind}
+use Rattle.gx_adapt.specs.declared.lot.Behind.TheVariants.{Other}
 use Rattle.gx_adapt.specs.declared.report.Report.{Report}
 
--- an item, and whether a reset stands directly before it
+-- an item, and what it stands behind
 pub record Placed : Type 0 where
-  pub after_reset : Bool
+  pub behind : Behind
   pub item : Item
 
-abbrev pub is_reset : Item → Bool
-is_reset (Line l) = is_reset_line l
-is_reset (Data x) = false
+-- what the next item stands behind
+abbrev pub behind_of : Item → Behind
+behind_of (Line l) = behind_line l
+behind_of (Data x) = Other
 
--- items behind a reset or behind anything else
-abbrev pub placed_from : Bool → List Item → List Placed
-placed_from after_reset [] = []
-placed_from after_reset (i ∷ is) = record { after_reset = after_reset; item = i } ∷ placed_from (is_reset i) is
+-- items of which the first stands behind this
+abbrev pub placed_from : Behind → List Item → List Placed
+placed_from behind [] = []
+placed_from behind (i ∷ is) = record { behind = behind; item = i } ∷ placed_from (behind_of i) is
 
 -- the items of a stream
 abbrev pub placed : List Item → List Placed
-placed is = placed_from false is
+placed is = placed_from Other is
 
--- what becomes of an item. A block stays
-abbrev pub lot_in : Bool → Item → Lot
-lot_in after_reset (Line l) = lot_of after_reset l
-lot_in after_reset (Data x) = kept
+-- what becomes of an item, by whether signatures are dropped
+abbrev pub lot_in : Bool → Behind → Item → Lot
+lot_in drops behind (Line l) = lot_of drops behind l
+lot_in drops behind (Data x) = block_lot drops behind
 
-abbrev pub lot_at : Placed → Lot
-lot_at p = lot_in p.after_reset p.item
+abbrev pub lot_at : Bool → Placed → Lot
+lot_at drops p = lot_in drops p.behind p.item
 
 -- the items that stand in its place
-abbrev pub items_in : Bool → Item → List Item
-items_in after_reset (Line l) = lines_for l (lot_of after_reset l)
-items_in after_reset (Data x) = Data x ∷ []
+abbrev pub items_in : Bool → Behind → Item → List Item
+items_in drops behind i = items_for i (lot_in drops behind i)
 
-abbrev pub items_for : Placed → List Item
-items_for p = items_in p.after_reset p.item
+abbrev pub items_at : Bool → Placed → List Item
+items_at drops p = items_in drops p.behind p.item
 
 -- the items that stand in the place of these
-abbrev pub adapted : List Item → List Item
-adapted is = flat_map items_for (placed is)
+abbrev pub adapted : Bool → List Item → List Item
+adapted drops is = flat_map (items_at drops) (placed is)
 
 -- their text: each line with an LF, each block behind its length
 abbrev pub stream_text : List Item → Bytes
@@ -57,6 +59,8 @@ abbrev pub is_spaced : Lot → Bool
 is_spaced kept = false
 is_spaced deletion = false
 is_spaced marks = false
+is_spaced feature = false
+is_spaced signature = false
 is_spaced (spaced new) = true
 is_spaced (requoted new) = false
 
@@ -64,6 +68,8 @@ abbrev pub is_deletion : Lot → Bool
 is_deletion kept = false
 is_deletion deletion = true
 is_deletion marks = false
+is_deletion feature = false
+is_deletion signature = false
 is_deletion (spaced new) = false
 is_deletion (requoted new) = false
 
@@ -71,13 +77,26 @@ abbrev pub is_marks : Lot → Bool
 is_marks kept = false
 is_marks deletion = false
 is_marks marks = true
+is_marks feature = false
+is_marks signature = false
 is_marks (spaced new) = false
 is_marks (requoted new) = false
+
+abbrev pub is_asking : Lot → Bool
+is_asking kept = false
+is_asking deletion = false
+is_asking marks = false
+is_asking feature = true
+is_asking signature = false
+is_asking (spaced new) = false
+is_asking (requoted new) = false
 
 abbrev pub is_requoted : Lot → Bool
 is_requoted kept = false
 is_requoted deletion = false
 is_requoted marks = false
+is_requoted feature = false
+is_requoted signature = false
 is_requoted (spaced new) = false
 is_requoted (requoted new) = true
 
@@ -102,15 +121,18 @@ ends_with_done (i ∷ j ∷ is) = ends_with_done (j ∷ is)
 
 -- nothing was changed or seen yet
 abbrev pub nothing_counted : Report
-nothing_counted = record { identities = 0; deletions = 0; paths = 0; marks = 0; notes = 0; early_dates = 0; tags_of_blobs_or_tags = 0; ended_with_done = false }
+nothing_counted = record { identities = 0; deletions = 0; paths = 0; marks = 0; features = 0; signatures = 0; refused_names = 0; notes = 0; early_dates = 0; tags_of_blobs_or_tags = 0; ended_with_done = false }
 
 -- what was changed in a stream, and what was seen
-abbrev pub report_of : List Item → Report
-report_of is = record {
-  identities = how_many (λ p. is_spaced (lot_at p)) is;
-  deletions = how_many (λ p. is_deletion (lot_at p)) is;
-  paths = how_many (λ p. is_requoted (lot_at p)) is;
-  marks = how_many (λ p. is_marks (lot_at p)) is;
+abbrev pub report_of : Bool → List Item → Report
+report_of drops is = record {
+  identities = how_many (λ p. is_spaced (lot_at drops p)) is;
+  deletions = how_many (λ p. is_deletion (lot_at drops p)) is;
+  paths = how_many (λ p. is_requoted (lot_at drops p)) is;
+  marks = how_many (λ p. is_marks (lot_at drops p)) is;
+  features = how_many (λ p. is_asking (lot_at drops p)) is;
+  signatures = how_many (λ p. on_line is_signature_line p.item) is;
+  refused_names = how_many (λ p. on_line is_refused p.item) is;
   notes = how_many (λ p. on_line is_note p.item) is;
   early_dates = how_many (λ p. on_line is_early p.item) is;
   tags_of_blobs_or_tags = tags_of_blobs_or_tags is;

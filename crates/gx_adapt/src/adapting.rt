@@ -1,14 +1,13 @@
 //! A stream, adapted.
 
-ghost use Rattle.std.specs.Prelude.{◌≡◌, IfOk, OnOk};
+ghost use Rattle.std.specs.Prelude.{OnOk};
 ghost use Rattle.gx_model.specs.Streams.Items.{Line, Data};
 ghost use Rattle.gx_model.specs.Export.{item_text};
 ghost use Rattle.gx_stream.specs.Reading.{item_of};
-ghost use Rattle.gx_adapt.specs.Streams.{is_reset};
 ghost use Rattle.gx_adapt.specs.Adapting.{AdaptsSource, Counts, IsReadAgain, HasRoom, Passes, Puts, PutsIf, SendsItem};
 
 use crate::fault::AdaptFault;
-use crate::lot::{is_reset_line, lot_of};
+use crate::lot::{Behind, Lot, behind_of, lot_in};
 use crate::marks::Marks;
 use crate::report::Report;
 use crate::text::{put_announcement, put_line};
@@ -21,25 +20,29 @@ use std::alloc::Allocator;
 /// - an identity that begins with `<` gets a space before it, as git writes it,
 /// - `from` with forty zeros directly behind a `reset` is left out,
 /// - a path that begins with a quote and isn't a quoted text is put in quotes, so that it is the name that git takes,
-/// - lines that ask for files of marks, and `get-mark`, are left out.
+/// - lines that ask for files of marks, and `get-mark`, are left out,
+/// - a `feature` that only asks whether a command is known, as `feature notes`, is left out,
+/// - where signatures are to be dropped, a line `gpgsig` is left out with the block directly behind it.
 ///
-/// No byte of a block changes. Comments go, a block is announced by its length, and an LF ends each line and each block.
-/// Tags of blobs and of tags are counted, by the marks. The report tells whether `done` is the last line, too.
+/// No byte of another block changes. Comments go, a block is announced by its length, and an LF ends each line and each block.
+/// Tags of blobs and of tags are counted, by the marks; signatures, and names that git refuses for a branch, by their lines.
+/// The report tells whether `done` is the last line, too.
 /// Each item goes out as soon as it has come. Memory: the longest item, the longest line once more, and the marks of blobs and
 /// of tags. Cost: the bytes of the stream, and for each line with a mark the logarithm of the number of marks.
-/// Source: git-fast-import(1).
+/// Source: git-fast-import(1), and of signatures git-fast-export(1), `--signed-commits`.
 pub fn adapt<R: Source + Drop, W: Sink, A: Allocator + Copy>(
     alloc: A,
     source: R,
     sink: &mut W,
+    drop_signatures: bool,
 ) -> Result<Report, AdaptFault>
-    ensures adapts { AdaptsSource (R.coming source) (W.taken sink.old) (W.taken sink.new) result }
-    ensures again { OnOk result (IsReadAgain (R.coming source)) }
+    ensures adapts { AdaptsSource drop_signatures (R.coming source) (W.taken sink.old) (W.taken sink.new) result }
+    ensures again { OnOk result (IsReadAgain drop_signatures (R.coming source)) }
 {
     let mut reader = ItemReader::new(alloc, source);
     let mut text = Vec::new(alloc);
     let mut report = Report::new();
-    let mut after_reset = false;
+    let mut behind = Behind::Other;
     let mut marks = Marks::new(alloc);
     loop {
         let item = match reader.next() {
@@ -47,39 +50,34 @@ pub fn adapt<R: Source + Drop, W: Sink, A: Allocator + Copy>(
             Ok(None) => return Ok(report),
             Ok(Some(item)) => item,
         };
-        match send_item(&mut text, sink, &mut report, &mut marks, after_reset, item) {
-            Err(fault) => return Err(fault),
-            Ok(resets) => after_reset = resets,
+        let lot = lot_in(drop_signatures, behind, item);
+        if let Err(fault) = send_item(&mut text, sink, &mut report, &mut marks, item, lot) {
+            return Err(fault);
         }
+        behind = behind_of(item);
     }
 }
 
-/// Sends what stands in the place of an item, and counts that. Answers whether the item is a reset.
+/// Sends what stands in the place of an item, of which this becomes, and counts that.
 fn send_item<W: Sink, A: Allocator + Copy>(
     text: &mut Vec<u8, A>,
     sink: &mut W,
     report: &mut Report,
     marks: &mut Marks<A>,
-    after_reset: bool,
     item: Item<'_>,
-) -> Result<bool, AdaptFault>
+    lot: Lot<'_>,
+) -> Result<(), AdaptFault>
     requires room { HasRoom report.old }
-    ensures reset { IfOk result (λ resets. resets ≡ is_reset (item_of item.entry)) }
-    ensures sends { SendsItem W.taken after_reset (item_of item.entry) sink.old sink.new result }
+    ensures sends { SendsItem W.taken lot.entry (item_of item.entry) sink.old sink.new result }
     ensures passes { OnOk result (Passes (item_of item.entry) marks.old marks.new) }
-    ensures counts { Counts after_reset (item_of item.entry) marks.old report.old report.new result }
+    ensures counts { Counts lot.entry (item_of item.entry) marks.old report.old report.new result }
 {
     match item {
-        Item::Line(line) => {
-            match send_line(text, sink, report, marks, after_reset, line) {
-                Ok(()) => Ok(is_reset_line(line)),
-                Err(fault) => Err(fault),
-            }
-        }
-        Item::Data(bytes) => match send_block(text, sink, bytes) {
+        Item::Line(line) => send_line(text, sink, report, marks, line, lot),
+        Item::Data(bytes) => match send_block(text, sink, bytes, lot) {
             Ok(()) => {
-                report.add_block(bytes);
-                Ok(false)
+                report.add_block(bytes, lot);
+                Ok(())
             }
             Err(fault) => Err(fault),
         },
@@ -92,27 +90,41 @@ fn send_line<W: Sink, A: Allocator + Copy>(
     sink: &mut W,
     report: &mut Report,
     marks: &mut Marks<A>,
-    after_reset: bool,
     line: &[u8],
+    lot: Lot<'_>,
 ) -> Result<(), AdaptFault>
     requires room { HasRoom report.old }
-    ensures sends { SendsItem W.taken after_reset (Line line.now) sink.old sink.new result }
+    ensures sends { SendsItem W.taken lot.entry (Line line.now) sink.old sink.new result }
     ensures passes { OnOk result (Passes (Line line.now) marks.old marks.new) }
-    ensures counts { Counts after_reset (Line line.now) marks.old report.old report.new result }
+    ensures counts { Counts lot.entry (Line line.now) marks.old report.old report.new result }
 {
-    let lot = lot_of(after_reset, line);
     let names_blob_or_tag = marks.pass(line)?;
     text.clear();
     put_line(text, line, lot)?;
     if let Err(fault) = send_all(sink, text) {
         return Err(fault);
     }
-    report.add(line, lot, names_blob_or_tag);
+    report.add_line(line, lot, names_blob_or_tag);
     Ok(())
 }
 
-/// Sends a block, behind its length.
+/// Sends a block, or nothing where it is left out.
 fn send_block<W: Sink, A: Allocator + Copy>(
+    text: &mut Vec<u8, A>,
+    sink: &mut W,
+    bytes: &[u8],
+    lot: Lot<'_>,
+) -> Result<(), AdaptFault>
+    ensures sends { SendsItem W.taken lot.entry (Data bytes.now) sink.old sink.new result }
+{
+    match lot {
+        Lot::Signature => Ok(()),
+        _ => send_kept_block(text, sink, bytes),
+    }
+}
+
+/// Sends a block, behind its length.
+fn send_kept_block<W: Sink, A: Allocator + Copy>(
     text: &mut Vec<u8, A>,
     sink: &mut W,
     bytes: &[u8],

@@ -1,11 +1,12 @@
 //! Laws of adapted streams.
 
-ghost use Rattle.gx_adapt.specs.Laws.{BlocksAreKept, QuotedPathsAreKept, QuotedSourcesAreKept};
+ghost use Rattle.gx_adapt.specs.Laws.{BlocksAreKept, OtherBlocksAreKept, QuotedPathsAreKept, QuotedSourcesAreKept};
 
-/// The blocks of an adapted stream are those of the stream.
-#[tactic(auto, using(crate::proofs::Counts::blocks_kept))]
+/// The blocks of an adapted stream are those of the stream; where signatures are dropped, those that aren't signatures.
+#[tactic(auto, using(crate::proofs::Counts::blocks_kept, crate::proofs::Counts::others_kept))]
 pub fn blocks_are_kept()
     ensures blocks { BlocksAreKept }
+    ensures others { OtherBlocksAreKept }
 {}
 
 /// A path that was put in quotes is read as the path of the bytes that stood there. No NUL may be in it, as in any path.

@@ -1,5 +1,6 @@
 //! Streams of other converters, with the lines changed that are read otherwise here than by git: identities without a name,
-//! deleted branches, paths that begin with a quote, and lines about marks. Blocks stay as they are.
+//! deleted branches, paths that begin with a quote, and lines about marks and features. Blocks stay as they are, but for
+//! signatures that are to be dropped.
 #![tactic(auto)]
 
 mod adapting;

@@ -1,14 +1,26 @@
-//! What becomes of a line.
+//! What becomes of an item.
 
-ghost use Rattle.std.specs.Prelude.{◌≡◌, codes};
+ghost use Rattle.std.specs.Prelude.{◌≡◌, ◌&&◌, codes};
 ghost use Rattle.gx_model.specs.Texts.{cut_at};
-ghost use Rattle.gx_adapt.specs.Lines.{is_reset_line, is_null_from, is_of_marks, is_ident_word, is_move_word, ident_lot, path_lot, dataref_lot, modify_lot, move_lot, word_lot, lot_of};
+ghost use Rattle.gx_stream.specs.Reading.{item_of};
+ghost use Rattle.gx_adapt.specs.Lines.{is_reset_line, is_signature_line, behind_line, is_reset, is_signature, is_null_from, is_of_marks, is_feature, is_ident_word, is_move_word, ident_lot, path_lot, dataref_lot, modify_lot, move_lot, word_lot, lot_of, block_lot};
+ghost use Rattle.gx_adapt.specs.Streams.{behind_of, lot_in};
 ghost use Rattle.gx_adapt.specs.Adapting.{shown_lot};
 
 use crate::path::{is_open, source_of};
+use gx_stream::Item;
 use gx_text::cut;
 
-/// What becomes of a line: it stays, or is left out, or is written anew.
+/// What an item stands directly behind.
+#[derive(Clone, Copy)]
+pub(crate) enum Behind {
+    Reset,
+    /// The line of a signature, whose block comes next.
+    Signature,
+    Other,
+}
+
+/// What becomes of an item: it stays, or is left out, or is written anew.
 #[derive(Clone, Copy)]
 pub(crate) enum Lot<'a> {
     Kept,
@@ -16,6 +28,10 @@ pub(crate) enum Lot<'a> {
     Deletion,
     /// Left out: it asks for files of marks, or for a mark's name.
     Marks,
+    /// Left out: it asks whether a command is known.
+    Feature,
+    /// Left out: it is the line of a signature, or the signature.
+    Signature,
     /// A word, and an identity that begins with `<`.
     Ident(&'a [u8], &'a [u8]),
     /// A mode, a dataref, and a path that needs quotes.
@@ -26,15 +42,64 @@ pub(crate) enum Lot<'a> {
     Move(&'a [u8], &'a [u8], &'a [u8]),
 }
 
-/// What becomes of a line, by whether it stands directly behind a reset.
+/// What becomes of an item, by whether signatures are dropped, and by what it stands behind.
+pub(crate) fn lot_in(drops: bool, behind: Behind, item: Item<'_>) -> Lot<'_>
+    ensures { shown_lot result ≡ lot_in drops behind (item_of item.entry) }
+{
+    match item {
+        Item::Line(line) => lot_of(drops, behind, line),
+        Item::Data(_) => block_lot(drops, behind),
+    }
+}
+
+/// What the item behind one stands behind.
+pub(crate) fn behind_of(item: Item<'_>) -> Behind
+    ensures { result ≡ behind_of (item_of item.entry) }
+{
+    match item {
+        Item::Line(line) => behind_line(line),
+        Item::Data(_) => Behind::Other,
+    }
+}
+
+fn behind_line(line: &[u8]) -> Behind
+    ensures { result ≡ behind_line line.now }
+{
+    if is_reset_line(line) {
+        Behind::Reset
+    } else if is_signature_line(line) {
+        Behind::Signature
+    } else {
+        Behind::Other
+    }
+}
+
+/// What becomes of a block.
+fn block_lot<'a>(drops: bool, behind: Behind) -> Lot<'a>
+    ensures { shown_lot result ≡ block_lot drops behind }
+{
+    if drops && is_signature(behind) {
+        Lot::Signature
+    } else {
+        Lot::Kept
+    }
+}
+
+/// What becomes of a line.
 #[tactic(auto, unfolding(crate::specs::Lines::lot_of))]
-pub(crate) fn lot_of(after_reset: bool, line: &[u8]) -> Lot<'_>
-    ensures { shown_lot result ≡ lot_of after_reset line.now }
+fn lot_of(drops: bool, behind: Behind, line: &[u8]) -> Lot<'_>
+    ensures { shown_lot result ≡ lot_of drops behind line.now }
 {
     if is_of_marks(line) {
         return Lot::Marks;
     }
-    if after_reset && is_null_from(line) {
+    if is_feature(line) {
+        return Lot::Feature;
+    }
+    if is_dropped(drops, line) {
+        return Lot::Signature;
+    }
+    if is_deletion(behind, line) {
         return Lot::Deletion;
     }
     match cut(line, b' ') {
@@ -48,6 +113,38 @@ pub(crate) fn is_reset_line(line: &[u8]) -> bool
     ensures { result ≡ is_reset_line line.now }
 {
     line.starts_with(b"reset ")
+}
+
+/// Whether a line is that of a signature, which is the block behind it.
+pub(crate) fn is_signature_line(line: &[u8]) -> bool
+    ensures { result ≡ is_signature_line line.now }
+{
+    line.starts_with(b"gpgsig ")
+}
+
+/// Whether a line goes with the signature that it announces.
+fn is_dropped(drops: bool, line: &[u8]) -> bool
+    ensures { result ≡ (drops && is_signature_line line.now) }
+{
+    drops && is_signature_line(line)
+}
+
+fn is_deletion(behind: Behind, line: &[u8]) -> bool
+    ensures { result ≡ (is_reset behind && is_null_from line.now) }
+{
+    is_reset(behind) && is_null_from(line)
+}
+
+fn is_reset(behind: Behind) -> bool
+    ensures { result ≡ is_reset behind }
+{
+    matches!(behind, Behind::Reset)
+}
+
+fn is_signature(behind: Behind) -> bool
+    ensures { result ≡ is_signature behind }
+{
+    matches!(behind, Behind::Signature)
 }
 
 fn is_null_from(line: &[u8]) -> bool
@@ -65,6 +162,16 @@ fn is_of_marks(line: &[u8]) -> bool
         || line == b"feature relative-marks".as_slice()
         || line == b"feature no-relative-marks".as_slice()
         || line.starts_with(b"get-mark :")
+}
+
+/// Whether a line does no more than ask whether a command is known.
+fn is_feature(line: &[u8]) -> bool
+    ensures { result ≡ is_feature line.now }
+{
+    line == b"feature notes".as_slice()
+        || line == b"feature ls".as_slice()
+        || line == b"feature cat-blob".as_slice()
+        || line == b"feature get-mark".as_slice()
 }
 
 /// Whether a line of this word has an identity.

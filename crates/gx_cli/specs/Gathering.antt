@@ -1,5 +1,5 @@
 -- What the commands answer that read a source alone, with their faults among those of the commands.
-use Rattle.std.specs.Prelude.{◌≡◌, true, false, Option, Some, None, Result, Ok, Err, ⊤}
+use Rattle.std.specs.Prelude.{◌≡◌, Bool, true, false, Option, Some, None, Result, Ok, Err, ⊤}
 use Rattle.std.specs.Option.{option_map}
 use Rattle.std.specs.declared.vec.Vec.{Vec}
 use Rattle.std.specs.Prelude.{ℕ}
@@ -22,10 +22,10 @@ abbrev pub adapt_answer : Result Report AdaptFault → Result Report CliFault
 adapt_answer (Ok report) = Ok report
 adapt_answer (Err f) = Err (Adapt f)
 
--- a source's stream goes out adapted
-abbrev pub AdaptsStream : Option Coming → Option Taken → Option Taken → Result Report CliFault → Type 0
-AdaptsStream coming was now r =
-    (answer : Result Report AdaptFault) × AdaptsFrom (option_map items_from coming) was now answer × (r ≡ adapt_answer answer)
+-- a source's stream goes out adapted, by whether signatures are dropped
+abbrev pub AdaptsStream : Bool → Option Coming → Option Taken → Option Taken → Result Report CliFault → Type 0
+AdaptsStream drops coming was now r =
+    (answer : Result Report AdaptFault) × AdaptsFrom drops (option_map items_from coming) was now answer × (r ≡ adapt_answer answer)
 
 -- ---- batch
 

@@ -154,7 +154,7 @@ module _ (name : Kind → Bytes → Bytes) {A : Type 0} where
   Serves line.Blobs store coming was now o = (answer : Result ℕ BlobsFault) × PrintsBlobs name (option_map items_from coming) was now answer × IsOutcome (blobs_answer answer) o
   Serves (line.Try word done force) store coming was now o =
       (answer : Result (Unit {0}) CliFault) × Tries name (features_of done force) coming word.now was now answer × IsOutcome answer o
-  Serves line.Adapt store coming was now o = (answer : Result AdaptReport CliFault) × AdaptsStream coming was now answer × IsOutcome answer o
+  Serves (line.Adapt drops) store coming was now o = (answer : Result AdaptReport CliFault) × AdaptsStream drops coming was now answer × IsOutcome answer o
   Serves (line.Where command) store coming was now o = (answer : Result (Unit {0}) CliFault) × PlacesFrom command coming was now answer × IsOutcome answer o
   Serves (line.Batch check file) store coming was now o = AnswersLines check store coming was now o
   Serves (line.Init file) store coming was now o = IsWritten name nothing o × (now ≡ was)

@@ -100,7 +100,9 @@ fn serve_bytes<N: Namer + Drop, R: Source + Drop, W: Sink, A: Allocator + Copy>(
             let word = revision.as_bytes();
             outcome_of(try_revision(alloc, namer, word, source, sink, features, state))
         }
-        Line::Adapt => outcome_of(adapt_stream(alloc, source, sink)),
+        Line::Adapt { drop_signatures } => {
+            outcome_of(adapt_stream(alloc, source, sink, *drop_signatures))
+        }
         Line::Where(command) => outcome_of(print_place(alloc, *command, source, sink)),
         Line::Init { file: _ } => init(alloc, namer, state),
         Line::Import {

@@ -78,7 +78,7 @@ fn is_memory(line: &Line<'_>, fault: CliFault) -> bool {
                 done: _,
                 force: _
             }
-            | Line::Adapt
+            | Line::Adapt { drop_signatures: _ }
             | Line::Where(_)
     );
     match fault {
@@ -103,7 +103,7 @@ fn is_left(line: &Line<'_>, printed: &[u8], whole: &[u8]) -> bool {
             done: _,
             force: _,
         }
-        | Line::Adapt => whole.starts_with(printed),
+        | Line::Adapt { drop_signatures: _ } => whole.starts_with(printed),
         Line::Export { file: _ } | Line::Batch { check: _, file: _ } => whole.starts_with(printed),
         _ => printed.is_empty(),
     }

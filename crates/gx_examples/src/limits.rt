@@ -160,7 +160,7 @@ fn refusal_at(line: &Line<'_>, printed: &[u8], room: usize) -> CliFault {
         Line::Export { file: _ } => CliFault::Export(ExportFault::WriteFailed {
             written: room as u64,
         }),
-        Line::Adapt => CliFault::Adapt(AdaptFault::WriteFailed),
+        Line::Adapt { drop_signatures: _ } => CliFault::Adapt(AdaptFault::WriteFailed),
         Line::Try {
             revision: _,
             done: _,

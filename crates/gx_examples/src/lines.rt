@@ -10,7 +10,8 @@ const LINES: &str = "
 $ blobs % Blobs
 $ try|main % Try { revision: \"main\", done: false, force: false }
 $ try|--done|--|-x % Try { revision: \"-x\", done: true, force: false }
-$ adapt % Adapt
+$ adapt % Adapt { drop_signatures: false }
+$ adapt|--drop-signatures % Adapt { drop_signatures: true }
 $ where|7 % Where(7)
 $ where|18446744073709551615 % Where(18446744073709551615)
 $ init|f % Init { file: \"f\" }
@@ -104,7 +105,7 @@ Usage: gx blobs
 $ try|--help % help %
 Usage: gx try [OPTIONS] <REV>
 $ adapt|--help % help %
-Usage: gx adapt
+Usage: gx adapt [OPTIONS]
 $ where|--help % help %
 Usage: gx where <N>
 $ init|--help % help %

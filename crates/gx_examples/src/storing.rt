@@ -108,6 +108,9 @@ const ROUGH_REPORT: AdaptReport = AdaptReport {
     deletions: 1,
     paths: 1,
     marks: 1,
+    features: 0,
+    signatures: 0,
+    refused_names: 0,
     notes: 0,
     early_dates: 1,
     tags_of_blobs_or_tags: 0,
@@ -122,7 +125,7 @@ fn is_adapted(alloc: Global, piece: usize) -> bool
         return false;
     };
     let source = Bytes::new(text("rough lines"), piece, false);
-    match adapt_stream(alloc, source, &mut sink) {
+    match adapt_stream(alloc, source, &mut sink, false) {
         Ok(report) => report == ROUGH_REPORT && sink.bytes() == text("mended lines"),
         Err(_) => false,
     }

@@ -69,6 +69,9 @@ done = flag (codes "done")
 abbrev pub force : Rule
 force = flag (codes "force")
 
+abbrev pub drop_signatures : Rule
+drop_signatures = flag (codes "drop-signatures")
+
 abbrev pub reverse : Rule
 reverse = flag (codes "reverse")
 
@@ -97,6 +100,9 @@ with_features a = with_rule (with_rule a done) force
 
 abbrev pub try_command : App
 try_command = with_features (with_rule (new_app (codes "try")) revision)
+
+abbrev pub adapt_command : App
+adapt_command = with_rule (new_app (codes "adapt")) drop_signatures
 
 abbrev pub import_command : App
 import_command = with_features (file_command (codes "import"))
@@ -140,7 +146,7 @@ AddsCommand made sub result = (a b : App) → Makes made a → Makes sub b → M
 
 -- the commands that read a stream and keep nothing
 abbrev pub with_stream_commands : App → App
-with_stream_commands a = under (under (under (under a (new_app (codes "blobs"))) try_command) (new_app (codes "adapt"))) where_command
+with_stream_commands a = under (under (under (under a (new_app (codes "blobs"))) try_command) adapt_command) where_command
 
 -- the commands on a store as a whole
 abbrev pub with_store_commands : App → App
@@ -188,7 +194,7 @@ AreFeatures rows done force = IsFlag (codes "done") rows done × IsFlag (codes "
 unfoldable pub Says : Text → List Row → Line → Type 0
 Says name rows Blobs = name ≡ codes "blobs"
 Says name rows (Try revision done force) = (name ≡ codes "try") × (AreFeatures rows done force × IsWord (codes "rev") rows revision)
-Says name rows Adapt = name ≡ codes "adapt"
+Says name rows (Adapt drop_signatures) = (name ≡ codes "adapt") × IsFlag (codes "drop-signatures") rows drop_signatures
 Says name rows (Where command) = (name ≡ codes "where") × IsNumber (codes "number") rows (Some command)
 Says name rows (Init file) = (name ≡ codes "init") × IsWord (codes "file") rows file
 Says name rows (Import file done force) = (name ≡ codes "import") × (AreFeatures rows done force × IsWord (codes "file") rows file)

@@ -35,8 +35,10 @@ pub enum Line<'a> {
         done: bool,
         force: bool,
     },
-    /// A stream's lines are mended that an import refuses.
-    Adapt,
+    /// A stream's lines are mended that an import refuses. With `drop_signatures` those of signatures go.
+    Adapt {
+        drop_signatures: bool,
+    },
     /// It is told where the command with this number begins in a stream, counted from 1.
     Where(u64),
     /// A new store is made.
@@ -135,7 +137,9 @@ fn line_of<'a>(
             done: is_set(matches, "done"),
             force: is_set(matches, "force"),
         }),
-        "adapt" => Ok(Line::Adapt),
+        "adapt" => Ok(Line::Adapt {
+            drop_signatures: is_set(matches, "drop-signatures"),
+        }),
         "where" => match number_of(matches, "number") {
             Some(command) => Ok(Line::Where(command)),
             None => Err(unknown(alloc)),

@@ -195,7 +195,7 @@ fn file_of<'a>(line: &Line<'a>) -> Option<&'a str> {
             done: _,
             force: _,
         }
-        | Line::Adapt
+        | Line::Adapt { drop_signatures: _ }
         | Line::Where(_) => None,
         Line::Init { file }
         | Line::Import {

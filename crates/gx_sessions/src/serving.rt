@@ -68,7 +68,7 @@ enum Report {
     /// It tells nothing, or this way of running it doesn't say.
     Unknown,
     Import(ImportReport),
-    Adapt(AdaptReport),
+    Adapt(AdaptReport, bool),
 }
 
 /// How a command ends. What the devices tell is left open here, so no caller has more to prove than that the call is safe.
@@ -97,7 +97,7 @@ fn ended<N: Namer + Drop, R: Source + Drop, W: Sink>(
             };
             imported(alloc, namer, &store, source, sink, features, pass.state)
         }
-        Line::Adapt => adapted(alloc, source, sink),
+        Line::Adapt { drop_signatures } => adapted(alloc, source, sink, *drop_signatures),
         _ => {
             let outcome = serve(alloc, namer, line, &store, source, sink, pass.state);
             (outcome, Report::Unknown)
@@ -125,9 +125,10 @@ fn adapted<R: Source + Drop, W: Sink>(
     alloc: Global,
     source: R,
     sink: &mut W,
+    drop_signatures: bool,
 ) -> (Outcome<Global>, Report) {
-    let (status, fault, report) = match adapt_stream(alloc, source, sink) {
-        Ok(report) => (0, None, Report::Adapt(report)),
+    let (status, fault, report) = match adapt_stream(alloc, source, sink, drop_signatures) {
+        Ok(report) => (0, None, Report::Adapt(report, drop_signatures)),
         Err(fault) => (1, Some(fault), Report::Unknown),
     };
     let outcome = Outcome {
@@ -147,7 +148,9 @@ fn told_text(
     let told = match (fault, report) {
         (Some(fault), _) => format!(in alloc; "{fault}\n")?,
         (None, Report::Import(report)) => import_text(alloc, &report)?,
-        (None, Report::Adapt(report)) => adapt_text(alloc, &report)?,
+        (None, Report::Adapt(report, drop_signatures)) => {
+            adapt_text(alloc, &report, drop_signatures)?
+        }
         (None, Report::Unknown) => return Ok(None),
     };
     Ok(Some(told))
@@ -160,12 +163,22 @@ fn import_text(alloc: Global, report: &ImportReport) -> Result<String, AllocErro
 }
 
 /// What is told of an adapted stream: each count that isn't 0, and how the stream ended.
-fn adapt_text(alloc: Global, report: &AdaptReport) -> Result<String, AllocError> {
+fn adapt_text(
+    alloc: Global,
+    report: &AdaptReport,
+    drop_signatures: bool,
+) -> Result<String, AllocError> {
     let counts = [
         ("identities that got a space", report.identities),
         ("deletions left out", report.deletions),
         ("paths put in quotes", report.paths),
         ("lines of marks left out", report.marks),
+        ("lines of features left out", report.features),
+        (signatures_text(drop_signatures), report.signatures),
+        (
+            "lines with branch names that git refuses",
+            report.refused_names,
+        ),
         ("notes that an import refuses", report.notes),
         (
             "dates before 1970 that an import refuses",
@@ -189,4 +202,13 @@ fn adapt_text(alloc: Global, report: &AdaptReport) -> Result<String, AllocError>
     };
     text.push_str(format!(in alloc; "gx: adapt: the stream ended {end} done\n")?.as_str())?;
     Ok(text)
+}
+
+/// What is told of signatures.
+fn signatures_text(drop_signatures: bool) -> &'static str {
+    if drop_signatures {
+        "signatures left out, so that names differ from those of git"
+    } else {
+        "signatures that an import refuses"
+    }
 }

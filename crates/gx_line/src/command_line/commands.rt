@@ -42,10 +42,22 @@ fn with_stream_commands<'a>(
     let tried = with_argument(Ok(command(alloc, "try", manual::TRY)), revision(alloc));
     let try_command = with_features(alloc, tried);
     let gx = with_command(gx, try_command);
-    let gx = with_command(gx, Ok(command(alloc, "adapt", manual::ADAPT)));
+    let gx = with_command(gx, adapt_command(alloc));
     let number = number(alloc, "number", "The number of a command, from 1").required(true);
     let where_command = with_argument(Ok(command(alloc, "where", manual::WHERE)), number);
     with_command(gx, where_command)
+}
+
+fn adapt_command<'a>(alloc: Global) -> Result<Command<'a>, AllocError>
+    ensures { say.Makes result say.adapt_command }
+{
+    let drop_signatures = flag(
+        alloc,
+        "drop-signatures",
+        "Leaves out the signatures of commits, which then have other\n\
+         names than in git",
+    );
+    with_argument(Ok(command(alloc, "adapt", manual::ADAPT)), drop_signatures)
 }
 
 /// What a command that imports can be asked for, as if its stream began with it.

@@ -122,7 +122,8 @@ Copies a stream from standard input to standard output, and mends lines of
 commands that converters write and gx import refuses, or takes under other
 names than git fast-import.
 
-No byte of data is changed.",
+No byte of data is changed. With --drop-signatures the signatures of commits
+are left out.",
     details: "\
 Output:
   The stream, but for these lines of its commands:
@@ -131,7 +132,11 @@ Output:
     from                       forty zeros behind a reset: the line is left out
     M, D, C, R                 a path with an opening quote and no closing one
                                is quoted
-    feature                    a line of marks or of get-mark is left out
+    feature                    a line of marks, or that only asks for notes,
+                               ls, cat-blob or get-mark, is left out
+    get-mark                   the line is left out
+    gpgsig                     with --drop-signatures the line is left out,
+                               and the data behind it
   Comments go, and each block of data is announced by its length. Standard
   error tells how many lines of each kind were mended, and what stays that is
   refused later.

@@ -2,7 +2,7 @@ use Rattle.std.proofs.Common.{subst, Err}
 use Rattle.gx_model.specs.Texts.Sinks.{Took}
 use Rattle.gx_adapt.specs.Adapting.{Puts}
 use Rattle.gx_adapt.proofs.SentTexts.{announcement, filled, block_first, block_second, block_whole}
-use Rattle.gx_adapt.proofs.adapting.send_block.Goals as goal
+use Rattle.gx_adapt.proofs.adapting.send_kept_block.Goals as goal
 
 pub returns-in-Err : goal.returns-in-Err
 returns-in-Err g c =

@@ -6,6 +6,8 @@ mod asking;
 #[cfg(test)]
 mod batches;
 #[cfg(test)]
+mod changes;
+#[cfg(test)]
 mod features;
 #[cfg(test)]
 mod given;

@@ -38,8 +38,8 @@ use std::alloc::Allocator;
 ///
 /// Cost: each command's bytes; for a commit the directories on its changed paths, and once for a branch the size of the
 /// tree that it starts from, where that isn't at hand; and for each object to be put or found a look-up. Memory: the objects,
-/// the marks, the files of the 256 commits used last and their shared directories, the directories that were read, up to a bound
-/// by the largest tree, and one command. A checkpoint, as the end, costs a comparison or two for each branch, and
+/// the marks, the files of at most 256 commits with their shared directories, the directories that were read, up to a bound by
+/// the largest tree, and one command. A checkpoint, as the end, costs a comparison or two for each branch, and
 /// where there were refs before the import a few more for each branch, tag and published name; for each branch that moved
 /// the commits that it reaches behind its old one, each decoded once where there are many; for each such branch and each tag
 /// a look-up of its object and searches among the refs and the published names; and where a ref is new, copies of all refs.

@@ -57,7 +57,8 @@ __gx_files() {
   compopt -o filenames 2> /dev/null
 }
 
-# Answers the refs of the store, by their whole names and by the shorter ones that find them. After ^ or .. a new revision begins.
+# Answers the refs of the store, by their whole names and by the shorter ones that find them, which `drop` doesn't take. After ^ or
+# .. a new revision begins.
 __gx_revisions() {
   local file last=$1 front='' name
   local -a names=()
@@ -69,6 +70,7 @@ __gx_revisions() {
   fi
   while read -r _ name; do
     names+=("$name")
+    [[ ${words[1]} != drop ]] || continue
     case $name in
       refs/heads/* | refs/tags/* | refs/remotes/*) names+=("${name#refs/*/}") ;;
     esac
@@ -102,13 +104,13 @@ __gx_words_of_command() {
   local -a operands
   __gx_operands
   case ${words[1]}:${#operands[@]} in
-    init:0 | import:0 | export:0 | show:0 | ls:0 | batch:0 | refs:0 | log:0 | rev-parse:0) __gx_files "$last" ;;
-    show:1 | ls:1 | log:[1-9]* | rev-parse:[1-9]*) __gx_revisions "$last" ;;
+    init:0 | import:0 | drop:0 | export:0 | show:0 | ls:0 | batch:0 | refs:0 | log:0 | rev-parse:0) __gx_files "$last" ;;
+    show:1 | ls:1 | drop:[1-9]* | log:[1-9]* | rev-parse:[1-9]*) __gx_revisions "$last" ;;
   esac
 }
 
 _gx() {
-  local -a words commands=(blobs try adapt where init import export show ls batch refs log rev-parse)
+  local -a words commands=(blobs try adapt where init import drop export show ls batch refs log rev-parse)
   COMPREPLY=()
   # behind < and > bash completes files by itself
   [[ ${COMP_WORDS[COMP_CWORD - 1]} != *[\<\>]* ]] || return 0

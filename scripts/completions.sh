@@ -56,7 +56,7 @@ line() {
   fi
 }
 
-line 'gx ' blobs try adapt where init import export show ls batch refs log rev-parse help --help
+line 'gx ' blobs try adapt where init import drop export show ls batch refs log rev-parse help --help
 line 'gx -' --help --explain --version
 line 'gx --explain im' import
 line 'gx --explain import st' store
@@ -90,6 +90,11 @@ line 'gx log --max-count 3 --reverse st' store
 line 'gx log --max-count=3 st' store
 line 'gx init su' sub
 line 'gx ex' export
+line 'gx d' drop
+line 'gx drop su' sub
+line 'gx drop store m'
+line 'gx drop store refs/h' refs/heads/main refs/heads/topic
+line 'gx drop store refs/heads/main refs/ta' 'refs/tags/\$\(\>ran\)' refs/tags/v1
 line 'gx export su' sub
 line 'gx export store '
 line 'gx init store '

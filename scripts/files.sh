@@ -325,6 +325,8 @@ check_refusals() {
   check 'also after a good command' refuses_and_keeps 'command 2: UnknownCommand'
   run /dev/null show "$file" nope
   check 'a refused revision leaves it' refuses_and_keeps 'revision 1: UnknownRef'
+  run /dev/null drop "$file" refs/heads/main refs/heads/nope
+  check 'a refused drop leaves it' refuses_and_keeps 'revision 2: UnknownRef'
   printf 'gitstore 1\n' > "$file"
   run "$folder/stream" import "$file"
   check 'a file that is no store is refused' is_refused_in_silence 'store: BadMagic'

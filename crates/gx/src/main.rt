@@ -20,7 +20,9 @@ mod words;
 use devices::Noted;
 use fault::RunFault;
 use files::{want_no_store, want_store};
-use gx_cli::{CliFault, Features, ImportReport, Line, Outcome, Repo, import_store, serve};
+use gx_cli::{
+    CliFault, Features, ImportReport, Line, Outcome, Repo, import_store, serve, serve_owned,
+};
 use gx_object::Sha1Namer;
 use gx_text::{FromRead, IntoWrite};
 use next_text::NextText;
@@ -77,6 +79,7 @@ fn file_of<'a>(line: &Line<'a>) -> Option<&'a str> {
         Line::Init { file }
         | Line::Import { file, .. }
         | Line::Batch { file, .. }
+        | Line::Drop { file, .. }
         | Line::Export { file }
         | Line::Show { file, .. }
         | Line::Ls { file, .. }
@@ -98,6 +101,7 @@ fn run_command(run: &Run<'_>, line: &Line<'_>, state: RandomState) -> Result<(),
             };
             return import(run, file, features, state);
         }
+        Line::Drop { file, refs: _ } => return drop_refs(run, line, file, state),
         Line::Blobs | Line::Where(_) => refusal(&stream(run, line, state)),
         Line::Try {
             revision: _,
@@ -143,6 +147,52 @@ fn init_locked(
     want_no_store(run, next.store())?;
     let outcome = stream(run, line, state);
     end(run, next, &outcome)
+}
+
+/// Drops refs from a store file, which stays as it was where that is refused.
+fn drop_refs(
+    run: &Run<'_>,
+    line: &Line<'_>,
+    file: &str,
+    state: RandomState,
+) -> Result<(), RunFault> {
+    want_store(run, file)?;
+    let mut next = NextText::claim_next(run, file)?;
+    let answer = drop_locked(run, line, &mut next, state);
+    next.release(run);
+    answer
+}
+
+/// What another run left while this one waited is what refs are dropped from.
+fn drop_locked(
+    run: &Run<'_>,
+    line: &Line<'_>,
+    next: &mut NextText,
+    state: RandomState,
+) -> Result<(), RunFault> {
+    let store = next.read_store(run)?;
+    let outcome = serve_given(run, line, store, state);
+    end(run, next, &outcome)
+}
+
+/// Serves a command that makes a next text of a store's, and reads and prints nothing.
+fn serve_given(
+    run: &Run<'_>,
+    line: &Line<'_>,
+    store: Vec<u8>,
+    state: RandomState,
+) -> Outcome<Global> {
+    let source = FromRead::new(Noted::input(run));
+    let mut sink = IntoWrite::new(Noted::output(run));
+    serve_owned(
+        run.rt.alloc(),
+        Sha1Namer,
+        line,
+        store,
+        source,
+        &mut sink,
+        state,
+    )
 }
 
 /// Imports standard input into a store file, which a refused import leaves as the last checkpoint made it.

@@ -14,3 +14,4 @@ pub mod ExportedStores
 pub mod RoundTrips
 pub mod Gathered
 pub mod ServedLines
+pub mod DroppedStores

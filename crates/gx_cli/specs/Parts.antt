@@ -1,6 +1,6 @@
 -- What each part of a command does. A repository is seen by the names that its namer gives, and a sink by what it took before the
 -- call and after it. What holds where memory runs out or the sink fails, is told by Answers, Sending, Trying and Words.
-use Rattle.std.specs.Prelude.{◌≡◌, ℕ, Bool, List, [], map, Option, Result, Ok}
+use Rattle.std.specs.Prelude.{◌≡◌, ℕ, Bool, List, [], map, Option, Result, Ok, Err, ⊤}
 use Rattle.std.specs.Borrow.{Bor}
 use Rattle.std.specs.List.{AllByRecursion, flat_map}
 use Rattle.std.specs.declared.vec.Vec.{Vec}
@@ -12,6 +12,7 @@ use Rattle.gx_model.specs.Revisions.Denotation.{denoted}
 use Rattle.gx_model.specs.Faults.{Gives, and_then}
 use Rattle.gx_model.specs.Histories.Files.{FileMap}
 use Rattle.gx_model.specs.Histories.{Records}
+use Rattle.gx_model.specs.Laws.RepositoryLaws.{with_refs}
 use Rattle.gx_model.specs.Records.HistoryOf.{history_of}
 use Rattle.gx_model.specs.Texts.Paths.{Path}
 use Rattle.gx_model.specs.Revisions.Ranges.{each_word}
@@ -35,6 +36,7 @@ use Rattle.gx_rev.specs.Views.{shown_range}
 use Rattle.gx_rev.specs.declared.fault.RevFault.{RevFault}
 use Rattle.gx_rev.specs.declared.range.Range.{Range}
 use Rattle.gx_rev.specs.declared.shown.Shown.{Shown}
+use Rattle.gx_repo.specs.Dropping.{dropped}
 use Rattle.gx_repo.specs.Repositories.{Repository}
 use Rattle.gx_cli.specs.Again.{ImportsAgain, ServesExported}
 use Rattle.gx_cli.specs.Answers.{Prints}
@@ -44,7 +46,7 @@ use Rattle.gx_cli.specs.Listings.{shown_text, text_of_word, tree_lines}
 use Rattle.gx_blobs.specs.Naming.{NamesBlobs}
 use Rattle.gx_cli.specs.Sending.{PrintsText}
 use Rattle.gx_cli.specs.Opening.{bytes_of}
-use Rattle.gx_cli.specs.Serving.{AnswersLines, ExportsStore, ImportsInto, ImportsIntoStored, PrintsStored, Serves, blobs_answer, printed_by}
+use Rattle.gx_cli.specs.Serving.{AnswersLines, DropsRefs, ExportsStore, ImportsInto, ImportsIntoStored, IsDropped, PrintsStored, Serves, blobs_answer, printed_by, unknown_at}
 use Rattle.gx_cli.specs.Stored.{all_words, commits_listed, file_line, files_of_word, line_of_ref, list_text, log_line, log_text, names_text, texts_of}
 use Rattle.gx_cli.specs.Storing.{Answer, ImportsStored}
 use Rattle.gx_cli.specs.Trying.{ImportsAlone, Shows, Tries}
@@ -53,6 +55,7 @@ use Rattle.gx_blobs.specs.declared.blob_names.BlobsFault.{BlobsFault}
 use Rattle.gx_line.specs.declared.command_line.Line.{Line}
 use Rattle.gx_line.specs.declared.command_line.LogOptions.{LogOptions}
 use Rattle.gx_cli.specs.declared.fault.CliFault.{CliFault}
+use Rattle.gx_cli.specs.declared.fault.CliFault.TheVariants.{OutOfMemory}
 use Rattle.gx_cli.specs.declared.opening.StoreBytes.{StoreBytes}
 use Rattle.gx_cli.specs.declared.questions.Question.{Question}
 use Rattle.gx_cli.specs.declared.serving.Outcome.{Outcome}
@@ -81,6 +84,14 @@ PrintsRef taken name object old new result = PrintsText (line_of_ref name object
 abbrev pub PrintsFile : {W : Type 0} → (W → Option Taken) → Path → Mode → Name → W → W → Result (Unit {0}) CliFault → Type 0
 PrintsFile taken path mode called old new result = PrintsText (path_line path mode called) (taken old) (taken new) result
 
+-- ---- refs
+
+-- the refs with these names leave a repository, or this word is refused
+abbrev pub DropsWords : {N : Type 0} → Repository N → Repository N → List (Bor Bytes) → Result (Unit {0}) CliFault → Type 0
+DropsWords old new words (Ok done) = (dropped (texts_of words) old.1.refs ≡ Ok new.1.refs) × (new ≡ (old.0, with_refs old.1 new.1.refs))
+DropsWords old new words (Err OutOfMemory) = ⊤
+DropsWords old new words (Err fault) = (number : ℕ) × (fault ≡ unknown_at number) × (dropped (texts_of words) old.1.refs ≡ Err number)
+
 -- ---- what is found in a repository
 
 module _ {N : Type 0} (name_of : N → Kind → Bytes → Bytes) where
@@ -104,6 +115,14 @@ module _ {N : Type 0} (name_of : N → Kind → Bytes → Bytes) where
   -- the files of the tree of this name, by the names of their contents
   abbrev pub named_files : Repository N → Name → FileMap Bytes
   named_files repo tree = named_map (name_of repo.0) (files_at repo.1 tree)
+
+  -- the refs with these names leave a repository, and the next store text is that of what is left
+  abbrev pub DropsOpened : {A : Type 0} → Repository N → List (Bor Bytes) → Outcome A → Type 0
+  DropsOpened repo words o = IsDropped (name_of repo.0) repo.1 (dropped (texts_of words) repo.1.refs) o
+
+  -- the same of the store of these bytes
+  abbrev pub DropsStored : {A : Type 0} → N → StoreBytes A → List (Bor Bytes) → Outcome A → Type 0
+  DropsStored namer store words o = DropsRefs (name_of namer) (store_of (name_of namer) (bytes_of store)) (texts_of words) o
 
   -- the names of the commits that range words list, the last made first, or the first word that is refused
   abbrev pub ListsCommits : {A : Type 0} → Repository N → List (Bor Bytes) → Result (Vec Name A) CliFault → Type 0

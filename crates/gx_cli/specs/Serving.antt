@@ -1,12 +1,14 @@
 -- How the commands end.
-use Rattle.std.specs.Prelude.{◌≡◌, ◌⊎◌, ℕ, zero, suc, Bool, Option, Some, None, Result, Ok, Err}
+use Rattle.std.specs.Prelude.{◌≡◌, ◌⊎◌, ℕ, zero, suc, Bool, List, Option, Some, None, Result, Ok, Err}
 use Rattle.std.specs.Option.{option_map}
 use Rattle.std.specs.declared.vec.Vec.{Vec}
 use Rattle.gx_model.specs.declared.objects.Kind.{Kind}
 use Rattle.gx_model.specs.declared.features.Features.{Features}
 use Rattle.gx_model.specs.Texts.{Bytes}
 use Rattle.gx_model.specs.Histories.{Records}
+use Rattle.gx_model.specs.Laws.RepositoryLaws.{with_refs}
 use Rattle.gx_model.specs.Records.HistoryOf.{history_of}
+use Rattle.gx_model.specs.Records.Publishing.{Ref}
 use Rattle.gx_model.specs.Records.Sound.{IsSound}
 use Rattle.gx_model.specs.declared.store_versions.Version.TheVariants as version
 use Rattle.gx_model.specs.Stores.StoreText.{store_text}
@@ -23,6 +25,8 @@ use Rattle.gx_batch.specs.Answers.{batch_answer as answered_by}
 use Rattle.gx_batch.specs.Batches.{Answers}
 use Rattle.gx_batch.specs.declared.fault.BatchFault.{BatchFault}
 use Rattle.gx_export.specs.Exports.{Exports}
+use Rattle.gx_repo.specs.Dropping.{dropped}
+use Rattle.gx_rev.specs.declared.fault.RevFault.TheVariants.{UnknownRef}
 use Rattle.gx_export.specs.declared.fault.ExportFault.{ExportFault}
 use Rattle.gx_model.specs.declared.store_faults.FileFault.{FileFault}
 use Rattle.gx_model.specs.declared.store_faults.FileFault.TheVariants as file
@@ -32,7 +36,7 @@ use Rattle.gx_line.specs.declared.command_line.Line.TheVariants as line
 use Rattle.gx_cli.specs.declared.fault.CliFault.{CliFault}
 use Rattle.gx_cli.specs.declared.questions.Question.{Question}
 use Rattle.gx_cli.specs.declared.questions.Question.TheVariants as question
-use Rattle.gx_cli.specs.declared.fault.CliFault.TheVariants.{Blobs, Export, Import, OutOfMemory, Store}
+use Rattle.gx_cli.specs.declared.fault.CliFault.TheVariants.{Blobs, Export, Import, OutOfMemory, Revision, Store}
 use Rattle.gx_cli.specs.declared.serving.Outcome.{Outcome}
 use Rattle.gx_cli.specs.Answers.{Prints}
 use Rattle.gx_cli.specs.Gathering.{AdaptsStream, batch_answer}
@@ -80,6 +84,14 @@ IsWritten name repository o = EndsWithText name repository 0 None o
 -- It is refused with that text, unless memory ran out.
 abbrev pub IsKept : {A : Type 0} → (Kind → Bytes → Bytes) → Records → CliFault → Outcome A → Type 0
 IsKept name repository fault o = EndsWithText name repository 1 (Some fault) o
+
+-- a store's text isn't read for this cause, unless there was no memory for it
+abbrev pub IsNoStore : {A : Type 0} → FileFault → Outcome A → Type 0
+IsNoStore f o = (why : FileFault) × ((why ≡ file.OutOfMemory) ⊎ (f ≡ why)) × IsRefused (Store why) o
+
+-- the refusal of the word with this number, which is no ref's name, or is given before
+abbrev pub unknown_at : ℕ → CliFault
+unknown_at number = Revision number UnknownRef
 
 -- no memory for what a store's text is read into, and nothing went out
 abbrev pub IsUnopened : {A : Type 0} → Option Taken → Option Taken → Outcome A → Type 0
@@ -138,6 +150,17 @@ module _ (name : Kind → Bytes → Bytes) {A : Type 0} where
   abbrev pub ImportsInto : Features → Bytes → Option Coming → Option Taken → Option Taken → Outcome A × Option Report → Type 0
   ImportsInto asks text coming was now o = ImportsIntoStored asks (store_of name text) coming was now o
 
+  -- What is left of a repository where these refs are, is sound, and the next store text is its own. Or the word with
+  -- this number is refused, and there is no next text.
+  abbrev pub IsDropped : Records → Result (List Ref) ℕ → Outcome A → Type 0
+  IsDropped old (Ok refs) o = (IsSound name (with_refs old refs) × IsWritten name (with_refs old refs) o) ⊎ IsRefused OutOfMemory o
+  IsDropped old (Err number) o = IsRefused (unknown_at number) o ⊎ IsRefused OutOfMemory o
+
+  -- the refs with these names leave the store that a text was read as, all of them or none
+  abbrev pub DropsRefs : Stored Records → List Bytes → Outcome A → Type 0
+  DropsRefs (Ok old) words o = IsRefused (Store file.OutOfMemory) o ⊎ IsDropped old (dropped words old.refs) o
+  DropsRefs (Err f) words o = IsNoStore f o
+
   -- the answers to the lines of a source, of the store that a text was read as
   abbrev pub BatchesStored : Bool → Stored Records → Option Coming → Option Taken → Option Taken → Outcome A → Type 0
   BatchesStored check (Ok repository) coming was now o =
@@ -159,6 +182,7 @@ module _ (name : Kind → Bytes → Bytes) {A : Type 0} where
   Serves (line.Batch check file) store coming was now o = AnswersLines check store coming was now o
   Serves (line.Init file) store coming was now o = IsWritten name nothing o × (now ≡ was)
   Serves (line.Import file done force) store coming was now o = (told : Option Report) × ImportsInto (features_of done force) store coming was now (o, told)
+  Serves (line.Drop file words) store coming was now o = DropsRefs (store_of name store) (texts_of words.items) o × (now ≡ was)
   Serves (line.Export file) store coming was now o = ExportsStore name store was now o
   Serves (line.Show file word) store coming was now o = PrintsStored (store_of name store) (λ r. show_text name (history_of r) word.now) was now o
   Serves (line.Ls recursive file word) store coming was now o = PrintsStored (store_of name store) (λ r. list_text name recursive (history_of r) word.now) was now o

@@ -107,7 +107,7 @@ fn left<N: Namer, A: Allocator + Copy>(
 }
 
 /// How a command ends with the text of a repository.
-fn with_text<N: Namer, A: Allocator + Copy>(
+pub(crate) fn with_text<N: Namer, A: Allocator + Copy>(
     alloc: A,
     repo: &Repo<N, A>,
     status: u8,

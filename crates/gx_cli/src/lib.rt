@@ -4,6 +4,7 @@
 
 mod adapting;
 mod batching;
+mod dropping;
 mod exporting;
 mod fault;
 mod gathering;

@@ -7,6 +7,7 @@ ghost use Rattle.gx_cli.specs.Serving.{IsOutcome, IsRefused, Serves, features_of
 
 use crate::adapting::adapt_stream;
 use crate::batching::batch_stored;
+use crate::dropping::drop_stored;
 use crate::exporting::export_stored;
 use crate::importing::{import_stored, init};
 use crate::opening::StoreBytes;
@@ -32,8 +33,8 @@ pub struct Outcome<A: Allocator> {
 /// `blobs` reads the source as [`blobs`] does, `adapt` as [`adapt_stream`] does, and `try` as [`try_revision`] does: the source
 /// is read before the revision. `where` reads it whole, and tells where a command begins. These, and `init`, have no use for the
 /// store's bytes. The other commands read the store's text first, then all words, and then evaluate each in its order; `import`
-/// and `batch` read their source then. Only `init` and `import` answer a next store text: `init`
-/// where it is accepted, and `import` also where it is refused after a checkpoint.
+/// and `batch` read their source then. Only `init`, `import` and `drop` answer a next store text: where they are accepted, and
+/// `import` also where it is refused after a checkpoint.
 ///
 /// Importing what was exported makes the repository again, as far as its refs reach: the same refs and object names.
 ///
@@ -118,6 +119,7 @@ fn serve_bytes<N: Namer + Drop, R: Source + Drop, W: Sink, A: Allocator + Copy>(
             batch_stored(alloc, namer, *check, store, source, sink, state)
         }
         Line::Export { file: _ } => export_stored(alloc, namer, store, sink, state),
+        Line::Drop { file: _, refs } => drop_stored(alloc, namer, store, refs.as_slice(), state),
         Line::Show { file: _, revision } => {
             print_stored(alloc, namer, Question::Show(revision), store, sink, state)
         }

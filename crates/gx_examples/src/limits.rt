@@ -25,6 +25,7 @@ $ import store %%% 12 % version
 $ init store %%% 1
 $ export store %% export of two branches % 21 % two branches
 $ export store %% export of modes % 21 % modes
+$ drop store refs/heads/main %%% 9 % root
 $ adapt % rough % mended % 2
 $ where 2 % mended %
 5:22:commit refs/heads/m

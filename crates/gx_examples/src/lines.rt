@@ -17,6 +17,7 @@ $ where|18446744073709551615 % Where(18446744073709551615)
 $ init|f % Init { file: \"f\" }
 $ import|f % Import { file: \"f\", done: false, force: false }
 $ import|--force|f|--done % Import { file: \"f\", done: true, force: true }
+$ drop|f|refs/heads/a|b % Drop { file: \"f\", refs: [\"refs/heads/a\", \"b\"] }
 $ show|f|main:a b % Show { file: \"f\", revision: \"main:a b\" }
 $ show|-|x % Show { file: \"-\", revision: \"x\" }
 $ ls|f|x % Ls { recursive: false, file: \"f\", revision: \"x\" }
@@ -66,6 +67,7 @@ $ where|18446744073709551616 % refused
 $ where|1|f % refused
 $ init % refused
 $ import % refused
+$ drop|f % refused
 $ show|f % refused
 $ show|f|a|b % refused
 $ ls|f % refused
@@ -110,6 +112,8 @@ $ where|--help % help %
 Usage: gx where <N>
 $ init|--help % help %
 Usage: gx init <FILE>
+$ drop|--help % help %
+Usage: gx drop <FILE> <REF>...
 $ import|--help % help %
 Usage: gx import [OPTIONS] <FILE>
 $ show|--help % help %

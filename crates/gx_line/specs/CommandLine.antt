@@ -12,7 +12,7 @@ use Rattle.clap.specs.declared.builder.value_parser.ValueParser.TheVariants as p
 use Rattle.clap.specs.declared.error.kind.ErrorKind.{ErrorKind}
 use Rattle.clap.specs.declared.error.kind.ErrorKind.TheVariants.{DisplayHelp, DisplayVersion}
 use Rattle.gx_line.specs.declared.command_line.Line.{Line}
-use Rattle.gx_line.specs.declared.command_line.Line.TheVariants.{Blobs, Try, Adapt, Where, Init, Import, Export, Show, Ls, Batch, Refs, Log, RevParse}
+use Rattle.gx_line.specs.declared.command_line.Line.TheVariants.{Blobs, Try, Adapt, Where, Init, Import, Drop, Export, Show, Ls, Batch, Refs, Log, RevParse}
 use Rattle.gx_line.specs.declared.command_line.LineFault.{LineFault}
 use Rattle.gx_line.specs.declared.command_line.LineFault.TheVariants.{OutOfMemory, Status}
 use Rattle.gx_line.specs.declared.command_line.LogOptions.{LogOptions}
@@ -107,6 +107,9 @@ adapt_command = with_rule (new_app (codes "adapt")) drop_signatures
 abbrev pub import_command : App
 import_command = with_features (file_command (codes "import"))
 
+abbrev pub drop_command : App
+drop_command = with_rule (file_command (codes "drop")) (words (codes "ref"))
+
 abbrev pub where_command : App
 where_command = with_rule (new_app (codes "where")) (needed_number (codes "number"))
 
@@ -151,7 +154,7 @@ with_stream_commands a = under (under (under (under a (new_app (codes "blobs")))
 -- the commands on a store as a whole
 abbrev pub with_store_commands : App → App
 with_store_commands a =
-    under (under (under (under a (file_command (codes "init"))) import_command) (file_command (codes "export"))) (file_command (codes "refs"))
+    under (under (under (under (under a (file_command (codes "init"))) import_command) drop_command) (file_command (codes "export"))) (file_command (codes "refs"))
 
 -- the commands that show objects
 abbrev pub with_tree_commands : App → App
@@ -198,6 +201,7 @@ Says name rows (Adapt drop_signatures) = (name ≡ codes "adapt") × IsFlag (cod
 Says name rows (Where command) = (name ≡ codes "where") × IsNumber (codes "number") rows (Some command)
 Says name rows (Init file) = (name ≡ codes "init") × IsWord (codes "file") rows file
 Says name rows (Import file done force) = (name ≡ codes "import") × (AreFeatures rows done force × IsWord (codes "file") rows file)
+Says name rows (Drop file refs) = (name ≡ codes "drop") × (IsWord (codes "file") rows file × AreWords (codes "ref") rows refs.items)
 Says name rows (Export file) = (name ≡ codes "export") × IsWord (codes "file") rows file
 Says name rows (Show file revision) = (name ≡ codes "show")
     × (IsWord (codes "file") rows file × IsWord (codes "rev") rows revision)

@@ -52,6 +52,11 @@ pub enum Line<'a> {
         done: bool,
         force: bool,
     },
+    /// Refs are dropped from a store.
+    Drop {
+        file: &'a str,
+        refs: Vec<&'a str>,
+    },
     /// A store is exported as a stream.
     Export {
         file: &'a str,
@@ -205,6 +210,10 @@ fn list_line<'a>(
             },
             file,
             ranges: words_of(alloc, matches, "range")?,
+        }),
+        "drop" => Ok(Line::Drop {
+            file,
+            refs: words_of(alloc, matches, "ref")?,
         }),
         "rev-parse" => Ok(Line::RevParse {
             file,

@@ -1,5 +1,6 @@
 pub mod Additions
 pub mod PublishedRefs
+pub mod DroppedRefs
 pub mod NamedRefs
 pub mod RefMaps
 pub mod HeldRecords

@@ -3,6 +3,7 @@ pub mod Additions
 pub mod Calls
 pub mod Objects
 pub mod Publishing
+pub mod Dropping
 pub mod Refs
 pub mod Rooms
 pub mod Places

@@ -2,7 +2,7 @@
 ghost use Rattle.gx_repo.specs.declared.fault.PublishFault.TheVariants as fault;
 
 use gx_model::FileFault;
-use std::alloc::AllocError;
+use std::alloc::{AllocError, AllocFailed};
 use std::fmt;
 use thiserror::Error;
 
@@ -66,6 +66,28 @@ impl From<AllocError> for PublishFault {
 
     fn from(_error: AllocError) -> PublishFault {
         PublishFault::OutOfMemory
+    }
+}
+
+/// Why refs aren't dropped.
+#[derive(Clone, Copy, Debug, Error, PartialEq, Eq)]
+pub enum DropFault {
+    /// A growth was refused.
+    #[error("OutOfMemory")]
+    OutOfMemory,
+    /// No ref has the name with this number, counted from 1, or it is given before.
+    #[error("UnknownRef")]
+    UnknownRef { number: u64 },
+}
+
+impl<T: Drop> From<AllocFailed<T>> for DropFault {
+    ghost use Rattle.std.specs.Prelude.{◌≡◌};
+    ghost use Rattle.gx_repo.specs.declared.fault.DropFault.TheVariants.{OutOfMemory};
+
+    ghost from_gives = { λ _ fault. fault ≡ OutOfMemory };
+
+    fn from(_error: AllocFailed<T>) -> DropFault {
+        DropFault::OutOfMemory
     }
 }
 

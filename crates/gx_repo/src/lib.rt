@@ -1,8 +1,9 @@
 //! A repository: objects under their names, and refs.
-//! Whatever is called, each object's links are held, and a list of refs is published whole or not at all.
+//! Whatever is called, each object's links are held, and a list of refs is published or dropped whole or not at all.
 #![tactic(auto)]
 
 mod checking;
+mod dropping;
 mod earlier;
 mod fault;
 mod given;
@@ -11,7 +12,7 @@ mod refs;
 mod repo;
 mod rooms;
 
-pub use fault::{AddFault, OutOfMemory, PublishFault};
+pub use fault::{AddFault, DropFault, OutOfMemory, PublishFault};
 pub use gx_store::{StoreFault, Text};
 pub use publishing::RefChange;
 pub use refs::Refs;

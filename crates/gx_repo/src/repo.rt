@@ -16,6 +16,7 @@ ghost use Rattle.gx_tree.specs.Named.{IsAtHome};
 ghost use Rattle.gx_tree.specs.StoreFaults.{tree_fault};
 ghost use Rattle.gx_repo.specs.Additions.{IsWriteFault};
 ghost use Rattle.gx_repo.specs.Publishing.{IsAgainstChange, IsAgainstFirst, SetsRefs};
+ghost use Rattle.gx_repo.specs.Dropping.{DropsRefs, KeepsValues};
 ghost use Rattle.gx_model.specs.Records.Publishing.{change_fault, changes_fault};
 ghost use Rattle.gx_repo.specs.GivenBytes.{IsInText, bytes_given};
 ghost use Rattle.gx_repo.specs.Refs.{FindsFirst, FindsObject, HasTagParts, TellsOwnRef, shown_update, bytes_found, shown_ref};
@@ -25,8 +26,9 @@ ghost use Rattle.gx_repo.specs.Objects.{AreTargets, HoldsEach};
 ghost use Rattle.gx_repo.specs.Checking.{MayRefuse};
 
 use crate::checking::entered_room;
+use crate::dropping::drop_refs;
 use crate::earlier::Hints;
-use crate::fault::{AddFault, OutOfMemory, PublishFault};
+use crate::fault::{AddFault, DropFault, OutOfMemory, PublishFault};
 use crate::given::Given;
 use crate::publishing::{RefChange, set_refs};
 use crate::refs::{Ref, Refs, find_by_names, find_near};
@@ -343,6 +345,24 @@ impl<N: Namer, A: Allocator + Copy> Repo<N, A> {
         parts_change();
         self.check_all(changes)?;
         set_refs(self.alloc, &mut self.refs, changes)?;
+        Ok(())
+    }
+
+    /// Drops the refs of all of these names, or none. Other refs stay, and so do all objects.
+    ///
+    /// `UnknownRef`: the first name that no ref has, or that is given before. `OutOfMemory`: a growth was refused. After a fault
+    /// the repository is as it was.
+    /// Cost: for each name a binary search among the refs, and for each ref a look-up among the names. Memory: the places of the
+    /// names. Source: git-update-ref(1), "delete", and gitglossary(7), "ref".
+    pub fn drop_refs(&mut self, names: &[&[u8]]) -> Result<(), DropFault>
+        ensures namer { self.new.0 ≡ self.old.0 }
+        ensures records { self.new.1.records ≡ self.old.1.records }
+        ensures refs { DropsRefs self.old.1 self.new.1 names.now result }
+        ensures values { KeepsValues self.old.1 self.new.1 }
+        ensures unchanged { OnErr result (self.new ≡ self.old) }
+    {
+        parts_change();
+        drop_refs(self.alloc, &mut self.refs, names)?;
         Ok(())
     }
 

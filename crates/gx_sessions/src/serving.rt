@@ -59,6 +59,7 @@ fn makes_text(line: &Line<'_>) -> bool {
                 done: _,
                 force: _
             }
+            | Line::Drop { file: _, refs: _ }
     )
 }
 

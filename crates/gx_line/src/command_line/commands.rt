@@ -93,8 +93,16 @@ fn with_store_commands<'a>(
     let gx = with_command(gx, file_command(alloc, "init", manual::INIT));
     let import_command = with_features(alloc, file_command(alloc, "import", manual::IMPORT));
     let gx = with_command(gx, import_command);
+    let gx = with_command(gx, drop_command(alloc));
     let gx = with_command(gx, file_command(alloc, "export", manual::EXPORT));
     with_command(gx, file_command(alloc, "refs", manual::REFS))
+}
+
+fn drop_command<'a>(alloc: Global) -> Result<Command<'a>, AllocError>
+    ensures { say.Makes result say.drop_command }
+{
+    let refs = words(alloc, "ref", "REF", "Names of refs, as gx refs prints them");
+    with_argument(file_command(alloc, "drop", manual::DROP), refs)
 }
 
 /// The commands that show objects.

@@ -57,7 +57,7 @@ Exit status:
 
 Refusals:
   gx: command N: KIND   the Nth command of the stream, from 1
-  gx: revision N: KIND  the Nth REV or RANGE, from 1. KIND is BadRevision,
+  gx: revision N: KIND  the Nth REV, RANGE or REF, from 1. KIND is BadRevision,
                         BadPath, PathTooLong, UnknownRef, UnknownObject,
                         Ambiguous, NoParent, WrongKind or NoSuchPath
   gx: store: KIND       the text of FILE. KIND is OutOfMemory, BadMagic,
@@ -217,6 +217,29 @@ Refusals, each of which leaves FILE as it was but for those checkpoints:
                         RootNotTree, FromItself, EmptyBranch, Unsupported,
                         LateOption, MissingDone, NotFastForward, NameHeld,
                         BadRevision, UnknownRef, Ambiguous or NoParent
+  gx: write failed
+  gx: out of memory",
+};
+
+/// The page of `drop`.
+pub(super) const DROP: Page = Page {
+    about: "Drops refs from a store",
+    description: "\
+Drops refs from a store: all of these, or none.
+
+Each REF is a whole name, as gx refs prints it. The other refs stay, and so do
+all objects. The next store is written to FILE.new, which then takes the place
+of FILE.",
+    details: "\
+Output:
+  None.
+
+Refusals, each of which leaves FILE as it was:
+  gx: read failed
+  gx: lock failed       as gx --help has it
+  gx: store: KIND       as gx --help has it
+  gx: revision N: UnknownRef
+                        the Nth REF is no ref's name, or is given before
   gx: write failed
   gx: out of memory",
 };

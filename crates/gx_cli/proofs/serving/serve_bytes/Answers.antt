@@ -1,8 +1,8 @@
-use Rattle.std.proofs.Common.{subst, sym}
+use Rattle.std.proofs.Common.{refl, subst, sym}
 use Rattle.gx_model.specs.Records.HistoryOf.{history_of}
 use Rattle.gx_model.specs.Stores.StoreReading.{store_of}
 use Rattle.gx_cli.specs.Opening.{bytes_of}
-use Rattle.gx_cli.specs.Serving.{ImportsInto, PrintsStored, Serves}
+use Rattle.gx_cli.specs.Serving.{DropsRefs, ImportsInto, PrintsStored, Serves}
 use Rattle.gx_cli.specs.Stored.{log_text, names_text, texts_of}
 use Rattle.gx_cli.proofs.ServedLines.{import_served}
 use Rattle.gx_cli.proofs.serving.serve_bytes.Goals as goal
@@ -15,6 +15,13 @@ returns-in-Import-clause-served g c =
     let now = g.W.Sink.taken c.import_stored-outcome.new.sink in
     let imported = subst (λ asks. ImportsInto name asks (bytes_of c.args.store) coming was now c.import_stored-outcome.result) c.features_of-features-in-Import.ensures c.import_stored-outcome.ensures.imported in
     import_served name c.args.line.now c.in-Import.file c.in-Import.done c.in-Import.force (bytes_of c.args.store) coming was now c.import_stored-outcome.result c.in-Import.is imported
+
+pub returns-in-Drop-clause-served : goal.returns-in-Drop-clause-served
+returns-in-Drop-clause-served g c =
+    let name = g.N.Namer.name_of c.args.namer in
+    let was = g.W.Sink.taken c.args.sink.now in
+    let dropped = subst (λ words. DropsRefs name (store_of name (bytes_of c.args.store)) (texts_of words) c.drop_stored.result) c.as_slice.ensures.value c.drop_stored.ensures in
+    subst (λ l. Serves name l (bytes_of c.args.store) (g.R.Source.coming c.args.source) was was c.drop_stored.result) (sym c.in-Drop.is) (dropped, refl)
 
 pub returns-in-Show-clause-served : goal.returns-in-Show-clause-served
 returns-in-Show-clause-served g c =
@@ -33,7 +40,7 @@ returns-in-Log-clause-served g c =
     let name = g.N.Namer.name_of c.args.namer in
     let was = g.W.Sink.taken c.args.sink.now in
     let now = g.W.Sink.taken c.print_stored-in-Log.new.sink in
-    let asked = subst (λ words. PrintsStored (store_of name (bytes_of c.args.store)) (λ r. log_text name c.in-Log.options (history_of r) (texts_of words)) was now c.print_stored-in-Log.result) c.as_slice.ensures.value c.print_stored-in-Log.ensures in
+    let asked = subst (λ words. PrintsStored (store_of name (bytes_of c.args.store)) (λ r. log_text name c.in-Log.options (history_of r) (texts_of words)) was now c.print_stored-in-Log.result) c.as_slice-in-Log.ensures.value c.print_stored-in-Log.ensures in
     subst (λ l. Serves name l (bytes_of c.args.store) (g.R.Source.coming c.args.source) was now c.print_stored-in-Log.result) (sym c.in-Log.is) asked
 
 pub returns-in-RevParse-clause-served : goal.returns-in-RevParse-clause-served

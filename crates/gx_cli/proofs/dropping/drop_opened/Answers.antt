@@ -1,0 +1,8 @@
+use Rattle.gx_cli.proofs.DroppedStores.{all_dropped, none_dropped}
+use Rattle.gx_cli.proofs.dropping.drop_opened.Goals as goal
+
+pub returns-in-Ok : goal.returns-in-Ok
+returns-in-Ok g c = all_dropped g.N.Namer.name_of c.args.repo.now c.drop_words.new.repo c.args.words.now c.with_text.result c.in-Ok.ensures c.sound.ensures c.with_text.ensures
+
+pub returns-in-Err : goal.returns-in-Err
+returns-in-Err g c = none_dropped g.N.Namer.name_of c.args.repo.now c.drop_words.new.repo c.args.words.now c.in-Err.fault c.refused.result c.in-Err.ensures c.refused.ensures

@@ -1,0 +1,18 @@
+use Rattle.std.proofs.Common.{◌≡◌, rules}
+use Rattle.std.specs.Prelude.{not}
+use Rattle.std.specs.List.{filter}
+use Rattle.std.proofs.lemmas.Fn.{filter_same}
+use Rattle.std.proofs.lemmas.Result.{err_from_is_err_and}
+use Rattle.gx_repo.specs.Dropping.{is_in}
+use Rattle.gx_repo.proofs.DroppedRefs.{all_dropped, none_dropped}
+use Rattle.gx_repo.proofs.dropping.drop_refs.Goals as goal
+
+pub returns-in_err-enter_names-clause-dropped : goal.returns-in_err-enter_names-clause-dropped
+returns-in_err-enter_names-clause-dropped g c =
+    let p = err_from_is_err_and c.from_residual.result c.from_residual.ensures.1 in
+    rw (p.1, p.2) (none_dropped c.as_slice.result.now c.args.refs.now.items c.args.refs.now.items c.enter_names.new.entered c.args.names.now c.as_slice.ensures.value c.in_err-enter_names.field-0.0 c.in_err-enter_names.ensures)
+
+pub returns-clause-dropped : goal.returns-clause-dropped
+returns-clause-dropped g c =
+    let left : c.retain.new.self.items ≡ filter (λ ref. not (is_in c.enter_names.new.entered ref.name.items)) c.args.refs.now.items = filter_same _ _ _ (λ x b f' k. search rules) _ _ c.retain.ensures.filtered in
+    all_dropped c.as_slice.result.now c.args.refs.now.items c.retain.new.self.items c.enter_names.new.entered c.args.names.now c.as_slice.ensures.value c.in_ok-enter_names.ensures left

@@ -1,0 +1,66 @@
+//! Refs that are dropped. Source: git-update-ref(1), "delete".
+ghost use Rattle.std.specs.Prelude.{◌≡◌, ◌+◌, ◌<◌, ◌^◌, [], map, IsTrue, OnErr};
+ghost use Rattle.std.specs.FinMap.Entries.{is_sorted};
+ghost use Rattle.gx_model.specs.Replay.{byte_cmp};
+ghost use Rattle.gx_repo.specs.Dropping.{DropsFrom, EntersNames, is_in};
+ghost use Rattle.gx_repo.specs.Refs.{shown_ref};
+ghost use Rattle.gx_repo.specs.declared.fault.DropFault.TheVariants.{UnknownRef};
+
+use crate::fault::DropFault;
+use crate::refs::{Ref, is_held};
+use std::alloc::Allocator;
+use std::collections::BTreeSet;
+
+/// Drops the refs of these names, or tells the first name that is unknown. After a fault the refs are as they were.
+pub(crate) fn drop_refs<A: Allocator + Copy>(
+    alloc: A,
+    refs: &mut Vec<Ref<A>, A>,
+    names: &[&[u8]],
+) -> Result<(), DropFault>
+    requires sorted { IsTrue (is_sorted byte_cmp (map shown_ref refs.now.items)) }
+    ensures dropped { DropsFrom refs.old.items refs.new.items names.now result }
+    ensures unchanged { OnErr result (refs.new ≡ refs.old) }
+{
+    let mut dropped = BTreeSet::new(alloc);
+    enter_names(&mut dropped, refs.as_slice(), names)?;
+    refs.retain(|held| !is_in(&dropped, held.name.as_slice()));
+    Ok(())
+}
+
+/// Enters these names, or tells the first that no ref has, or that was entered before.
+fn enter_names<'a, A: Allocator + Copy>(
+    entered: &mut BTreeSet<&'a [u8], A>,
+    refs: &[Ref<A>],
+    names: &[&'a [u8]],
+) -> Result<(), DropFault>
+    requires none { entered.old.keys ≡ [] }
+    requires sorted { IsTrue (is_sorted byte_cmp (map shown_ref refs.now)) }
+    ensures { EntersNames (map shown_ref refs.now) entered.new names.now result }
+{
+    for (place, name) in names.iter().enumerate() {
+        if !is_held(refs, name) {
+            return Err(unknown(place));
+        }
+        if !entered.insert(*name)? {
+            return Err(unknown(place));
+        }
+    }
+    Ok(())
+}
+
+/// The fault of the name at this place.
+fn unknown(place: usize) -> DropFault
+    requires { place < 2 ^ 63 }
+    ensures { result ≡ UnknownRef (place + 1) }
+{
+    DropFault::UnknownRef {
+        number: place as u64 + 1,
+    }
+}
+
+/// Whether a name was entered.
+fn is_in<A: Allocator + Copy>(entered: &BTreeSet<&[u8], A>, name: &[u8]) -> bool
+    ensures { result ≡ is_in entered.now name.now }
+{
+    entered.contains(name)
+}

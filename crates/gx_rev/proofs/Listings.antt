@@ -15,24 +15,18 @@ use Rattle.gx_model.specs.Revisions.Ranges.{Word, WordFault, at_word, each_from,
 use Rattle.gx_rev.specs.declared.fault.RevFault.{RevFault}
 use Rattle.gx_rev.specs.declared.fault.RevFault.TheVariants.{OutOfMemory}
 use Rattle.gx_model.specs.Histories.Marks.{marks_of}
+use Rattle.gx_model.specs.Laws.RangeLaws.{is_excluded}
 use Rattle.gx_rev.specs.RevFaults.{fault_of}
-use Rattle.gx_rev.specs.Walking.{IsWordFault, names_back, refused_at}
+use Rattle.gx_rev.specs.Walking.{IsWordFault, is_included, names_back, refused_at}
 use Rattle.gx_rev.specs.Tips.{AddsTips, AreTips}
 use Rattle.gx_rev.proofs.Tips.{same_tips}
 use Rattle.gx_rev.proofs.WordMarks.{names_listed}
 
--- whether one of these words includes a commit, and whether one excludes it
-abbrev pub some_includes : List Word → Commit → Bool
-some_includes ws c = list_any (λ w. (span w).included c) ws
-
-abbrev pub some_excludes : List Word → Commit → Bool
-some_excludes ws c = list_any (λ w. (span w).excluded c) ws
-
 -- the first words are these, and their tips are marked
 pub record AreDone (f : RangeWord → Given Word) (repository : Records) (all left : List RangeWord) (count : ℕ) (ins outs : List Bool) (done : List Word) : Type 0 where
   pub words : each_from 1 f all ≡ and_then (each_from (1 + count) f left) (λ ws. Ok (done ++ ws))
-  pub included : AreTips repository (some_includes done) ins
-  pub excluded : AreTips repository (some_excludes done) outs
+  pub included : AreTips repository (is_included done) ins
+  pub excluded : AreTips repository (is_excluded done) outs
 
 module _ {X : Type 0} where
   -- the words from a place on
@@ -73,8 +67,8 @@ module _ (f : RangeWord → Given Word) where
   next_done r all left x count included excluded joined apart done w e i k d = record {
     words = d.words ∙ ap (λ r. and_then (and_then (at_word (1 + count) r) (λ y. and_then (each_from (1 + count + 1) f left) (λ ys. Ok (y ∷ ys)))) (λ ws. Ok (done ++ ws))) e
         ∙ then_next done w (each_from (1 + count + 1) f left) ∙ ap (λ n. and_then (each_from n f left) (λ ws. Ok ((done ++ w ∷ []) ++ ws))) (let s : 1 + count + 1 ≡ 1 + (count + 1) = omega arith in s);
-    included = same_tips r (λ c. some_includes done c || (span w).included c) (some_includes (done ++ w ∷ [])) joined (λ c. some_next (λ x c. (span x).included c) done w c) (i (some_includes done) d.included);
-    excluded = same_tips r (λ c. some_excludes done c || (span w).excluded c) (some_excludes (done ++ w ∷ [])) apart (λ c. some_next (λ x c. (span x).excluded c) done w c) (k (some_excludes done) d.excluded);
+    included = same_tips r (λ c. is_included done c || (span w).included c) (is_included (done ++ w ∷ [])) joined (λ c. some_next (λ x c. (span x).included c) done w c) (i (is_included done) d.included);
+    excluded = same_tips r (λ c. is_excluded done c || (span w).excluded c) (is_excluded (done ++ w ∷ [])) apart (λ c. some_next (λ x c. (span x).excluded c) done w c) (k (is_excluded done) d.excluded);
   }
 
   -- the next word is refused, and so are all
@@ -97,8 +91,8 @@ module _ (name : Kind → Bytes → Bytes) (h : History) where
 
   -- the names of the marks that are left are those that are listed
   pub names_are : (ws : List RangeWord) (done : List Word) (names : List Bytes) → each_from 1 (word_denoted name h) ws ≡ Ok done
-      → names ≡ names_back name h.values (marks_of (λ c. some_includes done c && not (some_excludes done c)) h.values) → listed name h ws ≡ Ok names
-  names_are ws done names k n = listed_is ws done k ∙ ap Ok (sym (n ∙ names_listed name h.values (λ c. some_includes done c && not (some_excludes done c))))
+      → names ≡ names_back name h.values (marks_of (λ c. is_included done c && not (is_excluded done c)) h.values) → listed name h ws ≡ Ok names
+  names_are ws done names k n = listed_is ws done k ∙ ap Ok (sym (n ∙ names_listed name h.values (λ c. is_included done c && not (is_excluded done c))))
 
   -- a word's fault, or want of memory
   pub word_fails : (ws : List RangeWord) (count : ℕ) (kind : RevFault) (x : RangeWord) → IsFaultOf (fault_of kind) (word_denoted name h x)

@@ -207,31 +207,38 @@ module _ (name : Kind → List ℕ → List ℕ) (namer : IsNamer name) (r : Rec
             let n = w.1 in omega arith)
       ]
 
+  -- from a place on, what is marked is what the tips reach
+  pub spread_above : (test : Commit → Bool) (tips marks : List Bool) (left : ℕ) → AreTips r test tips → AreSpread r tips marks left → (i : ℕ) (d : Commit) → left ≤ i → IsAt r i d → slice_index_or marks i false ≡ test d
+  spread_above test tips marks left t a i d h e = by (slice_index_or marks i false) refl (test d) refl
+    where
+      reached_there : T (test d) → (j : ℕ) × IsAt r j d × (left ≤ j → IsMarked marks j)
+      reached_there k =
+          let s = (a.kept test t).all d (is_true _ k) in
+          least (λ c. (j : ℕ) × IsAt r j c × (left ≤ j → IsMarked marks j))
+          (λ c p q k. let w = parent_before name namer r sound c p q.0 q.1 k in (w.0, w.2, λ l. let n = w.1 in a.parents q.0 c p (omega (arith, l, n)) (q.2 (omega (arith, l, n))) q.1 k w.0 w.2)) s.0 d (s.1, s.2, λ l. s.3) (passes _ s.4)
+
+      by : (b : Bool) → slice_index_or marks i false ≡ b → (c : Bool) → test d ≡ c → slice_index_or marks i false ≡ test d
+      by true f true g = f ∙ sym g
+      by false f false g = f ∙ sym g
+      by true f false g = absurd (
+          let w = (a.kept test t).only i f in
+          let same : w.0 ≡ d = (let o : Some (commit_value w.0) ≡ Some (commit_value d) = sym w.1 ∙ e in cc o) in
+          let o : true ≡ false = sym (w.2 d (is_true _ (subst (λ c. T (reaches c d)) (sym same) (itself d)))) ∙ g in cc o)
+      by false f true g = absurd (
+          let w = reached_there (passes _ g) in
+          let s = same_place name namer r sound (commit_value d) w.0 i w.1 e in
+          let o : true ≡ false = sym (w.2 (omega (arith, h, s))) ∙ ap (λ n. slice_index_or marks n false) s ∙ f in cc o)
+
   -- in the end all that the tips reach is marked
   pub all_spread : (test : Commit → Bool) (tips marks : List Bool) → AreTips r test tips → AreSpread r tips marks 0 → marks ≡ marks_of test (values_of r)
-  all_spread test tips marks t a = marks_are marks (values_of r) test (a.kept test t).long (λ i v e. by i v e (slice_index_or marks i false) refl)
+  all_spread test tips marks t a = marks_are marks (values_of r) test (a.kept test t).long by
     where
-      reached_there : (d : Commit) → T (test d) → (j : ℕ) × IsAt r j d × IsMarked marks j
-      reached_there d h =
-          let s = (a.kept test t).all d (is_true _ h) in
-          least (λ c. (j : ℕ) × IsAt r j c × IsMarked marks j) (λ c p q k. let w = parent_before name namer r sound c p q.0 q.1 k in (w.0, w.2, a.parents q.0 c p (omega arith) q.2 q.1 k w.0 w.2)) s.0 d (s.1, s.2, s.3) (passes _ s.4)
+      other : (i : ℕ) (v : Value) → slice_get (values_of r) i ≡ Some v → ((c : Commit) → Some v ≡ Some (commit_value c) → ⊥) → (b : Bool) → slice_index_or marks i false ≡ b → slice_index_or marks i false ≡ false
+      other i v e n false f = f
+      other i v e n true f = let w = (a.kept test t).only i f in absurd (n w.0 (sym e ∙ w.1))
 
-      no_commit : (i : ℕ) (v : Value) → slice_get (values_of r) i ≡ Some v → slice_index_or marks i false ≡ false → false ≡ holds test v
-      no_commit i (blob_value x) k f = refl
-      no_commit i (tree_value x) k f = refl
-      no_commit i (tag_value x) k f = refl
-      no_commit i (commit_value d) k f = not_reached (test d) refl
-        where
-          not_reached : (b : Bool) → test d ≡ b → false ≡ test d
-          not_reached false l = sym l
-          not_reached true l = absurd (
-              let w = reached_there d (passes _ l) in
-              let s = same_place name namer r sound (commit_value d) w.0 i w.1 k in
-              let o : true ≡ false = sym w.2 ∙ ap (λ n. slice_index_or marks n false) s ∙ f in cc o)
-
-      by : (i : ℕ) (v : Value) → slice_get (values_of r) i ≡ Some v → (b : Bool) → slice_index_or marks i false ≡ b → slice_index_or marks i false ≡ holds test v
-      by i v e false f = f ∙ no_commit i v e f
-      by i v e true f =
-          let w = (a.kept test t).only i f in
-          let same : v ≡ commit_value w.0 = (let o : Some v ≡ Some (commit_value w.0) = sym e ∙ w.1 in cc o) in
-          f ∙ sym (ap (holds test) same ∙ w.2 w.0 (is_true _ (itself w.0)))
+      by : (i : ℕ) (v : Value) → slice_get (values_of r) i ≡ Some v → slice_index_or marks i false ≡ holds test v
+      by i (blob_value x) e = other i (blob_value x) e (λ c k. cc k) (slice_index_or marks i false) refl
+      by i (tree_value x) e = other i (tree_value x) e (λ c k. cc k) (slice_index_or marks i false) refl
+      by i (tag_value x) e = other i (tag_value x) e (λ c k. cc k) (slice_index_or marks i false) refl
+      by i (commit_value d) e = spread_above test tips marks 0 t a i d (omega arith) e

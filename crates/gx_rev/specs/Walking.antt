@@ -1,5 +1,6 @@
 -- What range words include and exclude, as marks, and what a walk answers.
 use Rattle.std.specs.Prelude.{◌≡◌, ℕ, Bool, not, ◌||◌, ◌&&◌, if◌then◌else◌, List, [], ◌∷◌, ◌++◌, map, Result, Ok, Err, slice_index_or, false}
+use Rattle.std.specs.List.{list_any}
 use Rattle.std.specs.declared.vec.Vec.{Vec}
 use Rattle.gx_model.specs.declared.faults.Fault.{Fault}
 use Rattle.gx_model.specs.declared.faults.Fault.TheVariants as model
@@ -12,8 +13,9 @@ use Rattle.gx_model.specs.Records.{name_of}
 use Rattle.gx_model.specs.Revisions.{RangeWord}
 use Rattle.gx_model.specs.Histories.{Records}
 use Rattle.gx_model.specs.Histories.Marks.{marks_of}
+use Rattle.gx_model.specs.Laws.RangeLaws.{is_excluded}
 use Rattle.gx_model.specs.Laws.RepositoryLaws.{values_of}
-use Rattle.gx_model.specs.Revisions.Ranges.{Word, WordFault, span, word_denoted}
+use Rattle.gx_model.specs.Revisions.Ranges.{Word, WordFault, listed, span, word_denoted, words_denoted}
 use Rattle.gx_object.specs.declared.name.Name.{Name}
 use Rattle.gx_rev.specs.declared.fault.RevFault.{RevFault}
 use Rattle.gx_rev.specs.declared.fault.RevFault.TheVariants.{OutOfMemory}
@@ -63,3 +65,25 @@ GivesNames (Err e) given = IsWordFault e.word (fault_of e.kind) given
 abbrev pub refused_at : ℕ → RevFault → WalkFault
 refused_at word OutOfMemory = record { word = 0; kind = OutOfMemory }
 refused_at word kind = record { word = word; kind = kind }
+
+-- whether some word includes a commit
+abbrev pub is_included : List Word → Commit → Bool
+is_included words made = list_any (λ word. (span word).included made) words
+
+module _ (name : Kind → Bytes → Bytes) (repository : Records) (asked : List RangeWord) where
+  -- the commits that words include and those that they exclude are marked; or the first word that is refused
+  abbrev pub MarksOfWords : List Bool → List Bool → Result (Unit {0}) WalkFault → Type 0
+  MarksOfWords included excluded (Ok _) = (words : List Word) × (words_denoted name (history_of repository) asked ≡ Ok words)
+      × (included ≡ marks_of (is_included words) (values_of repository)) × (excluded ≡ marks_of (is_excluded words) (values_of repository))
+  MarksOfWords included excluded (Err e) = IsWordFault e.word (fault_of e.kind) (listed name (history_of repository) asked)
+
+  -- the same marks as they are answered
+  abbrev pub MarksWords : {A : Type 0} → Result (Vec Bool A × Vec Bool A) WalkFault → Type 0
+  MarksWords (Ok marks) = MarksOfWords marks.0.items marks.1.items (Ok tt)
+  MarksWords (Err e) = MarksOfWords [] [] (Err e)
+
+  -- the same, by tips
+  abbrev pub TipsOfWords : List Bool → List Bool → Result (Unit {0}) WalkFault → Type 0
+  TipsOfWords included excluded (Ok _) = (words : List Word) × (words_denoted name (history_of repository) asked ≡ Ok words)
+      × AreTips repository (is_included words) included × AreTips repository (is_excluded words) excluded
+  TipsOfWords included excluded (Err e) = IsWordFault e.word (fault_of e.kind) (listed name (history_of repository) asked)

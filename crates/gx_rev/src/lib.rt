@@ -23,4 +23,4 @@ pub use reached::{name_at, place_of, reaches};
 pub use refs::reached_from_refs;
 pub use revision::Revision;
 pub use shown::{Shown, answers_tell_values, commit, look, tree};
-pub use walking::walk;
+pub use walking::{walk, walked};

@@ -12,7 +12,7 @@ ghost use Rattle.gx_rev.specs.Parents.{HoldsParents};
 ghost use Rattle.gx_rev.specs.RevFaults.{NeedsNoMemory};
 ghost use Rattle.gx_rev.specs.Views.{shown_range};
 ghost use Rattle.gx_rev.specs.Tips.{AddsCommon, AreTips, HasTips};
-ghost use Rattle.gx_rev.specs.Walking.{AreListed, HaveBoth, refused_at};
+ghost use Rattle.gx_rev.specs.Walking.{AreListed, HaveBoth, MarksOfWords, MarksWords, TipsOfWords, refused_at};
 
 use crate::objects::parent_of;
 use crate::reached::{mark, mark_parents, name_at, reached_by, spread_by, unmarked};
@@ -50,9 +50,80 @@ pub fn walk<N: Namer, A: Allocator + Copy>(
     )
 }
 
+/// Marks, by the places of the records, of the commits that some word includes, and of those that some word excludes.
+///
+/// What is refused, and the cost: as of `walk`, without the names.
+/// Source: gitrevisions(7), "Specifying Ranges".
+pub fn walked<N: Namer, A: Allocator + Copy>(
+    alloc: A,
+    repo: &Repo<N, A>,
+    words: &[Range<A>],
+) -> Result<(Vec<bool, A>, Vec<bool, A>), WalkFault>
+    ensures { MarksWords (N.name_of repo.now.0) repo.now.1 (map shown_range words.now) result }
+{
+    let mut included = unmarked(alloc, repo)?;
+    let mut excluded = unmarked(alloc, repo)?;
+    let mut parents = Parents::new(alloc);
+    mark_walked(
+        alloc,
+        repo,
+        &mut parents,
+        words,
+        &mut included,
+        &mut excluded,
+    )?;
+    Ok((included, excluded))
+}
+
+/// Marks all that words include and all that they exclude. Nothing is marked yet.
+fn mark_walked<N: Namer, A: Allocator + Copy>(
+    alloc: A,
+    repo: &Repo<N, A>,
+    parents: &mut Parents<A>,
+    words: &[Range<A>],
+    wanted: &mut [bool],
+    unwanted: &mut [bool],
+) -> Result<(), WalkFault>
+    requires holds { HoldsParents repo.now.1 parents.old }
+    requires wanted { AreTips repo.now.1 nothing wanted.old }
+    requires unwanted { AreTips repo.now.1 nothing unwanted.old }
+    ensures { MarksOfWords (N.name_of repo.now.0) repo.now.1 (map shown_range words.now)
+        wanted.new unwanted.new result }
+{
+    mark_words(alloc, repo, parents, words, wanted, unwanted)?;
+    spread_by(repo, parents, wanted)?;
+    spread_by(repo, parents, unwanted)?;
+    Ok(())
+}
+
+/// Marks what words include and what they exclude, by their tips. Nothing is marked yet.
+#[tactic(auto, unfolding(gx_model::specs::Revisions::Ranges::listed))]
+fn mark_words<N: Namer, A: Allocator + Copy>(
+    alloc: A,
+    repo: &Repo<N, A>,
+    parents: &mut Parents<A>,
+    words: &[Range<A>],
+    included: &mut [bool],
+    excluded: &mut [bool],
+) -> Result<(), WalkFault>
+    requires holds { HoldsParents repo.now.1 parents.old }
+    requires included { AreTips repo.now.1 nothing included.old }
+    requires excluded { AreTips repo.now.1 nothing excluded.old }
+    ensures holds { HoldsParents repo.now.1 parents.new }
+    ensures tips { TipsOfWords (N.name_of repo.now.0) repo.now.1 (map shown_range words.now)
+        included.new excluded.new result }
+{
+    for (place, word) in words.iter().enumerate() {
+        match mark_word(alloc, repo, parents, word, included, excluded) {
+            Ok(()) => {}
+            Err(kind) => return Err(refused(place + 1, kind)),
+        }
+    }
+    Ok(())
+}
+
 /// Does what `walk` does with two lists of marks, one for what the words include and one for what they exclude, in which
 /// nothing is marked yet.
-#[tactic(auto, unfolding(gx_model::specs::Revisions::Ranges::listed))]
 fn walk_marking<N: Namer, A: Allocator + Copy>(
     alloc: A,
     repo: &Repo<N, A>,
@@ -66,12 +137,7 @@ fn walk_marking<N: Namer, A: Allocator + Copy>(
     requires excluded { AreTips repo.now.1 nothing excluded.old }
     ensures { ListsWords N.name_of repo.now (map shown_range words.now) result }
 {
-    for (place, word) in words.iter().enumerate() {
-        match mark_word(alloc, repo, parents, word, included, excluded) {
-            Ok(()) => {}
-            Err(kind) => return Err(refused(place + 1, kind)),
-        }
-    }
+    mark_words(alloc, repo, parents, words, included, excluded)?;
     let names = names_listed(alloc, repo, parents, included, excluded)?;
     Ok(names)
 }

@@ -1,69 +1,18 @@
-use Rattle.std.proofs.Common.{◌+◌, ◌≤◌, ◌++◌, ◌∷◌, [], ap, subst, arith, drop, length, map}
+use Rattle.std.proofs.Common.{map}
+use Rattle.gx_model.specs.Laws.RangeLaws.{is_excluded}
 use Rattle.gx_model.specs.Records.HistoryOf.{history_of}
-use Rattle.gx_model.specs.Revisions.Ranges.{word_denoted}
 use Rattle.gx_rev.specs.Views.{shown_range}
-use Rattle.gx_rev.proofs.Listings.{AreDone, all_done, names_are, next_done, next_fails, none_done, some_excludes, some_includes, word_fails, words_end, words_from}
+use Rattle.gx_rev.specs.Walking.{is_included}
+use Rattle.gx_rev.proofs.Listings.{names_are}
 use Rattle.gx_rev.proofs.walking.walk_marking.Goals as goal
 
-pub loop-place-init : goal.loop-place-init
-loop-place-init g c = (
-  ([], none_done (word_denoted (g.N.Namer.name_of c.args.repo.now.0) (history_of c.args.repo.now.1)) c.args.repo.now.1 (map shown_range c.args.words.now) c.args.included.now c.args.excluded.now c.requires.included c.requires.excluded),
-  c.requires.holds,
-)
-
-pub mark_word-requires-clause-included : goal.mark_word-requires-clause-included
-mark_word-requires-clause-included g c = c.loop-place.invariant.0.1.included.long
-
-pub mark_word-requires-clause-excluded : goal.mark_word-requires-clause-excluded
-mark_word-requires-clause-excluded g c = c.loop-place.invariant.0.1.excluded.long
-
-pub returns-in-Err : goal.returns-in-Err
-returns-in-Err g c =
-    let name = g.N.Namer.name_of c.args.repo.now.0 in
-    let h = history_of c.args.repo.now.1 in
-    let f = word_denoted name h in
-    let all = map shown_range c.args.words.now in
-    let x = c.index-words-place.result in
-    let left = map shown_range (drop (c.loop-place.place + 1) c.args.words.now) in
-    let inv = c.loop-place.invariant.0 in
-    let from = ap (map shown_range) (words_from c.args.words.now c.loop-place.place x c.loop-place-test.true c.index-words-place.is) in
-    let now = subst (λ ws. AreDone f c.args.repo.now.1 all ws c.loop-place.place c.loop-place.included c.loop-place.excluded inv.0) from inv.1 in
-    rw c.refused.ensures (word_fails name h all c.loop-place.place c.in-Err.kind (shown_range x) c.in-Err.ensures.marks
-    (λ k e. next_fails f c.args.repo.now.1 all left (shown_range x) c.loop-place.place c.loop-place.included c.loop-place.excluded inv.0 k e now) (c.loop-place.place + 1) (omega arith))
-
-pub loop-place-preserved : goal.loop-place-preserved
-loop-place-preserved g c =
-    let name = g.N.Namer.name_of c.args.repo.now.0 in
-    let h = history_of c.args.repo.now.1 in
-    let r = c.args.repo.now.1 in
-    let f = word_denoted name h in
-    let all = map shown_range c.args.words.now in
-    let x = c.index-words-place.result in
-    let left = map shown_range (drop (c.loop-place.place + 1) c.args.words.now) in
-    let inv = c.loop-place.invariant.0 in
-    let from = ap (map shown_range) (words_from c.args.words.now c.loop-place.place x c.loop-place-test.true c.index-words-place.is) in
-    let now = subst (λ ws. AreDone f r all ws c.loop-place.place c.loop-place.included c.loop-place.excluded inv.0) from inv.1 in
-    let word = c.in-Ok.ensures.marks in (
-      (inv.0 ++ word.0 ∷ [], next_done f r all left (shown_range x) c.loop-place.place c.loop-place.included c.loop-place.excluded c.mark_word.new.included c.mark_word.new.excluded inv.0 word.0 word.1 word.2 word.3 now),
-      c.in-Ok.ensures.holds,
-    )
-
 pub names_listed-requires-clause-included : goal.names_listed-requires-clause-included
-names_listed-requires-clause-included g c = (some_includes c.loop-place.invariant.0.0, c.loop-place.invariant.0.1.included)
+names_listed-requires-clause-included g c = let w = c.in_ok-mark_words.ensures.tips in (is_included w.0, w.2)
 
 pub names_listed-requires-clause-excluded : goal.names_listed-requires-clause-excluded
-names_listed-requires-clause-excluded g c = (some_excludes c.loop-place.invariant.0.0, c.loop-place.invariant.0.1.excluded)
+names_listed-requires-clause-excluded g c = let w = c.in_ok-mark_words.ensures.tips in (is_excluded w.0, w.3)
 
 pub returns : goal.returns
 returns g c =
-    let name = g.N.Namer.name_of c.args.repo.now.0 in
-    let h = history_of c.args.repo.now.1 in
-    let r = c.args.repo.now.1 in
-    let f = word_denoted name h in
-    let all = map shown_range c.args.words.now in
-    let inv = c.loop-place.invariant.0 in
-    let past : length c.args.words.now ≤ c.loop-place.place = omega arith in
-    let over = ap (map shown_range) (words_end c.args.words.now c.loop-place.place past) in
-    let now = subst (λ ws. AreDone f r all ws c.loop-place.place c.loop-place.included c.loop-place.excluded inv.0) over inv.1 in
-    names_are name h all inv.0 (map (λ n. n.bytes) c.in_ok-names.names.items) (all_done f r all c.loop-place.place c.loop-place.included c.loop-place.excluded inv.0 now)
-    (c.in_ok-names.ensures (some_includes inv.0) (some_excludes inv.0) inv.1.included inv.1.excluded)
+    let w = c.in_ok-mark_words.ensures.tips in
+    names_are (g.N.Namer.name_of c.args.repo.now.0) (history_of c.args.repo.now.1) (map shown_range c.args.words.now) w.0 (map (λ n. n.bytes) c.in_ok-names.names.items) w.1 (c.in_ok-names.ensures (is_included w.0) (is_excluded w.0) w.2 w.3)

@@ -4,7 +4,7 @@ use Rattle.gx_model.specs.Revisions.Ranges.{Word, word_denoted}
 use Rattle.gx_rev.specs.Parents.{HoldsParents}
 use Rattle.gx_rev.specs.Views.{shown_range}
 use Rattle.gx_rev.proofs.Listings.{AreDone}
-use Rattle.gx_rev.proofs.walking.walk_marking.Given as goal
+use Rattle.gx_rev.proofs.walking.mark_words.Given as goal
 
 abbrev pub invariant-loop-place : goal.invariant-loop-place
 invariant-loop-place g l =

@@ -1,19 +1,15 @@
 -- The commits of a history that pass a test, up to a place, and their commands.
 use Rattle.std.proofs.Common.{◌≡◌, ℕ, zero, suc, ◌+◌, Bool, true, false, cond, List, [], ◌∷◌, ◌++◌, take, Some, refl, sym, ap, ◌∙◌, arith, append_assoc}
 use Rattle.std.specs.Prelude.{slice_index_or}
-use Rattle.std.specs.List.{filter, filter_map, fold, slice_get}
+use Rattle.std.specs.List.{fold, slice_get}
 use Rattle.std.proofs.lemmas.Grind.{flat_map-append}
 use Rattle.std.proofs.lemmas.List.{append-nil}
 use Rattle.gx_model.specs.Export.{all_written, command_items, commit_commands, one_commit, with_commit}
 use Rattle.gx_model.specs.Streams.Items.{Item}
-use Rattle.gx_model.specs.Revisions.Ranges.{commit_of}
 use Rattle.gx_model.specs.Histories.Values.{Commit, Value, blob_value, commit_value, tag_value, tree_value}
 use Rattle.gx_model.specs.Histories.Marks.{holds, marks_of}
+use Rattle.gx_export.specs.Branches.{picked}
 use Rattle.gx_export.specs.Texts.{items_of}
-
--- the commits among these values that pass
-abbrev pub picked : (Commit → Bool) → List Value → List Commit
-picked test vs = filter test (filter_map commit_of vs)
 
 module _ (test : Commit → Bool) where
   picked_cons : (v : Value) (vs : List Value) → picked test (v ∷ vs) ≡ picked test (v ∷ []) ++ picked test vs

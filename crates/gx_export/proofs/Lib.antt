@@ -16,6 +16,8 @@ pub mod SideBySide
 pub mod PassedPairs
 pub mod Pairing
 pub mod RankedRefs
+pub mod FoundBranches
+pub mod SentMarks
 pub mod CommitNames
 pub mod NamedChanges
 pub mod ChangedTexts

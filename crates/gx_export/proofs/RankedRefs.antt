@@ -1,33 +1,26 @@
 -- Ranks of refs, one list of marks for each rank: what is marked for a rank is what the refs up to it reach.
-use Rattle.std.proofs.Common.{◌≡◌, ◌∙◌, ℕ, zero, suc, ◌+◌, ◌<◌, ◌≤◌, Bool, true, false, cond, List, [], ◌∷◌, ◌++◌, map, length, take, get_or, replicate, Option, Some, None, refl, append-nil, sym, ap, subst, arith, set, length-set, append_assoc}
+use Rattle.std.proofs.Common.{◌≡◌, ◌∙◌, ℕ, zero, suc, ◌+◌, ◌<◌, ◌≤◌, Bool, true, false, List, [], ◌∷◌, ◌++◌, length, take, get_or, replicate, None, Some, refl, sym, ap, subst, arith, set, length-set}
 use Rattle.std.specs.Prelude.{min, nat_le, slice_index_or, ◌||◌}
-use Rattle.std.specs.Borrow.{Bor}
-use Rattle.std.specs.List.{filter, slice_get, AllByRecursion}
-use Rattle.std.proofs.lemmas.List.{length-map, map-append, take_all}
+use Rattle.std.specs.List.{slice_get}
+use Rattle.std.proofs.lemmas.List.{length-map, take_all}
 use Rattle.std.proofs.Math.Nat.{lt_of_not-le}
-use Rattle.std.proofs.lemmas.List.Elements.{filter-append}
 use Rattle.std.proofs.lemmas.Bool.{leb-true, le-leb, true≢false}
 use Rattle.gx_model.specs.declared.objects.Kind.{Kind}
-use Rattle.gx_model.specs.Changes.{commit_ref, first_or_carrier, is_branch, reaching}
-use Rattle.gx_model.specs.Export.{carrier, is_reached}
+use Rattle.gx_model.specs.Export.{is_reached}
 use Rattle.gx_model.specs.Histories.Marks.{IsAt, IsMarked, Marks}
-use Rattle.gx_model.specs.Histories.Values.{Commit, Commits, commit_value, list_of, parents_of}
+use Rattle.gx_model.specs.Histories.Values.{Commit, Commits, list_of, parents_of}
 use Rattle.gx_model.specs.Histories.{Records, Target}
 use Rattle.gx_model.specs.Laws.HistoryLaws.{IsParent}
 use Rattle.gx_model.specs.Laws.RepositoryLaws.{values_of}
 use Rattle.gx_model.specs.Objects.{IsNamer}
-use Rattle.gx_model.specs.Records.HistoryOf.{history_of, target_in, value_of_name}
 use Rattle.gx_model.specs.Records.Sound.{IsSound}
 use Rattle.gx_model.specs.Replay.{peeled_at}
 use Rattle.gx_model.specs.Revisions.Ranges.{reaches}
 use Rattle.gx_model.specs.Texts.{Bytes}
-use Rattle.gx_model.proofs.Marking.{IsBefore, all_parents, mark_tells, mark_there, next_marked, no_next, same_marked}
-use Rattle.gx_model.proofs.Standing.{at_within}
-use Rattle.gx_object.specs.declared.name.Name.{Name}
-use Rattle.gx_repo.specs.Refs.{shown_lent_ref}
+use Rattle.gx_model.proofs.Marking.{IsBefore, all_parents, mark_there, next_marked, no_next, same_marked}
 use Rattle.gx_rev.specs.Tips.{AreTips}
-use Rattle.gx_rev.proofs.Tips.{AreSpread, all_spread, commit_more, no_tips, none_spread, or_assoc, passed, same_tips, spread_one}
-use Rattle.gx_export.specs.Branches.{AppendsTips, AreRanked, HaveTips, IsLowered, at_most, candidates, name_at_rank, name_or_carrier, shown_tips, targets}
+use Rattle.gx_rev.proofs.Tips.{AreSpread, commit_more, no_tips, none_spread, or_assoc, passed, same_tips, spread_above, spread_one}
+use Rattle.gx_export.specs.Branches.{AreRanked, HaveTips, IsLowered, at_most}
 
 -- ---- one rank
 
@@ -39,7 +32,8 @@ at_set k [] i v = refl
 at_set k (r ∷ ranks) zero v = refl
 at_set k (r ∷ ranks) (suc i) v = ap (λ rs. nat_le r k ∷ rs) (at_set k ranks i v)
 
-at_place : (k : ℕ) (ranks : List ℕ) (i : ℕ) → i < length ranks → slice_index_or (at_most k ranks) i false ≡ nat_le (get_or ranks i 0) k
+-- the mark for one rank
+pub at_place : (k : ℕ) (ranks : List ℕ) (i : ℕ) → i < length ranks → slice_index_or (at_most k ranks) i false ≡ nat_le (get_or ranks i 0) k
 at_place k [] i h = absurd (omega (arith, h))
 at_place k (r ∷ ranks) zero h = refl
 at_place k (r ∷ ranks) (suc i) h = at_place k ranks i (omega (arith, h))
@@ -244,153 +238,8 @@ module _ (name : Kind → List ℕ → List ℕ) (namer : IsNamer name) (r : Rec
       let s = ((a.spread k h).kept (is_reached (take (k + 1) refs)) (t.tips k h)).only at marked in
       (s.0, s.1)
 
-  pub all_handed : (refs : List (Bytes × Target)) (tips ranks : List ℕ) → HaveTips r refs tips → AreHanded r (length refs) tips ranks 0 → AreRanked r refs ranks
-  all_handed refs tips ranks t a = record {
+  pub all_handed : (refs : List (Bytes × Target)) (tips ranks : List ℕ) (left first : ℕ) → left ≤ first → HaveTips r refs tips → AreHanded r (length refs) tips ranks left → AreRanked r refs first ranks
+  all_handed refs tips ranks left first f t a = record {
     long = a.long ∙ t.long;
-    marks = λ k h. all_spread name namer r sound (is_reached (take (k + 1) refs)) (at_most k tips) (at_most k ranks) (t.tips k h) (a.spread k h);
+    marks = λ k h place made l at. spread_above name namer r sound (is_reached (take (k + 1) refs)) (at_most k tips) (at_most k ranks) left (t.tips k h) (a.spread k h) place made (omega (arith, f, l)) at;
   }
-
--- ---- the ref that a rank gives
-
-le_suc : (m k : ℕ) → nat_le m k ≡ nat_le (suc m) (suc k)
-le_suc m k = by (nat_le m k) refl (nat_le (suc m) (suc k)) refl
-  where
-    by : (a : Bool) → nat_le m k ≡ a → (b : Bool) → nat_le (suc m) (suc k) ≡ b → nat_le m k ≡ nat_le (suc m) (suc k)
-    by true i true j = i ∙ sym j
-    by false i false j = i ∙ sym j
-    by true i false j = absurd (let l = leb-true m k i in true≢false (sym (le-leb (suc m) (suc k) (omega (arith, l))) ∙ j))
-    by false i true j = absurd (let l = leb-true (suc m) (suc k) j in true≢false (sym (le-leb m k (omega (arith, l))) ∙ i))
-
--- the name of what stands at a place, or the carrier
-abbrev ref_or_carrier : Option (Bytes × Target) → Bytes
-ref_or_carrier None = carrier
-ref_or_carrier (Some ref) = ref.0
-
-abbrev reaches_from : Commit → Bytes × Target → Bool
-reaches_from c ref = reaches (peeled_at ref.1) c
-
-abbrev found_first : Commit → Bytes × Target → List (Bytes × Target) → Bool → Bytes
-found_first c x refs b = first_or_carrier (map (λ r. r.0) (cond b (x ∷ filter (reaches_from c) refs) (filter (reaches_from c) refs)))
-
-first_found : (refs : List (Bytes × Target)) (c : Commit) (n : ℕ) → ((k : ℕ) → k < length refs → nat_le n k ≡ is_reached (take (k + 1) refs) c) → ref_or_carrier (slice_get refs n) ≡ first_or_carrier (map (λ r. r.0) (filter (reaches_from c) refs))
-first_found [] c n h = refl
-first_found (x ∷ refs) c n h = by (first_found refs c) (reaches_from c x) refl n (h 0 (omega arith)) later
-  where
-    later : (k : ℕ) → k < length refs → nat_le n (suc k) ≡ (reaches_from c x || is_reached (take (k + 1) refs) c)
-    later k l = let step : suc k + 1 ≡ suc (k + 1) = omega arith in h (suc k) (omega (arith, l)) ∙ ap (λ i. is_reached (take i (x ∷ refs)) c) step
-
-    by : ((m : ℕ) → ((k : ℕ) → k < length refs → nat_le m k ≡ is_reached (take (k + 1) refs) c) → ref_or_carrier (slice_get refs m) ≡ first_or_carrier (map (λ r. r.0) (filter (reaches_from c) refs)))
-        → (b : Bool) → reaches_from c x ≡ b → (m : ℕ) → nat_le m 0 ≡ (reaches_from c x || false) → ((k : ℕ) → k < length refs → nat_le m (suc k) ≡ (reaches_from c x || is_reached (take (k + 1) refs) c)) → ref_or_carrier (slice_get (x ∷ refs) m) ≡ found_first c x refs (reaches_from c x)
-    by ih true e zero z l = sym (ap (found_first c x refs) e)
-    by ih true e (suc m) z l = absurd (let l = leb-true (suc m) 0 (z ∙ ap (λ b. b || false) e) in omega (arith, l))
-    by ih false e zero z l = absurd (true≢false (sym (le-leb zero 0 (omega arith)) ∙ z ∙ ap (λ b. b || false) e))
-    by ih false e (suc m) z l = ih m (λ k i. le_suc m k ∙ l k i ∙ ap (λ b. b || is_reached (take (k + 1) refs) c) e) ∙ sym (ap (found_first c x refs) e)
-
-branches_first : (refs : List (Bytes × Target)) (c : Commit) → filter is_branch (reaching refs c) ≡ map (λ r. r.0) (filter (reaches_from c) (filter (λ ref. is_branch ref.0) refs))
-branches_first [] c = refl
-branches_first (x ∷ refs) c =
-    let rest = branches_first refs c in
-    elim (reaches_from c x) as (λ a. reaches_from c x ≡ a → filter is_branch (map (λ r. r.0) (cond a (x ∷ filter (reaches_from c) refs) (filter (reaches_from c) refs))) ≡ map (λ r. r.0) (filter (reaches_from c) (cond (is_branch x.0) (x ∷ filter (λ ref. is_branch ref.0) refs) (filter (λ ref. is_branch ref.0) refs)))) [
-      | true ↦ λ e. elim (is_branch x.0) as (λ b. cond b (x.0 ∷ filter is_branch (reaching refs c)) (filter is_branch (reaching refs c)) ≡ map (λ r. r.0) (filter (reaches_from c) (cond b (x ∷ filter (λ ref. is_branch ref.0) refs) (filter (λ ref. is_branch ref.0) refs)))) [
-        | true ↦ ap (λ ns. x.0 ∷ ns) rest ∙ sym (ap (λ a. map (λ r. r.0) (cond a (x ∷ filter (reaches_from c) (filter (λ ref. is_branch ref.0) refs)) (filter (reaches_from c) (filter (λ ref. is_branch ref.0) refs)))) e)
-        | false ↦ rest
-      ]
-      | false ↦ λ e. elim (is_branch x.0) as (λ b. filter is_branch (reaching refs c) ≡ map (λ r. r.0) (filter (reaches_from c) (cond b (x ∷ filter (λ ref. is_branch ref.0) refs) (filter (λ ref. is_branch ref.0) refs)))) [
-        | true ↦ rest ∙ sym (ap (λ a. map (λ r. r.0) (cond a (x ∷ filter (reaches_from c) (filter (λ ref. is_branch ref.0) refs)) (filter (reaches_from c) (filter (λ ref. is_branch ref.0) refs)))) e)
-        | false ↦ rest
-      ]
-    ] refl
-
--- the ref of a commit is the first candidate's that reaches it
-candidate_is : (refs : List (Bytes × Target)) (c : Commit) → first_or_carrier (map (λ r. r.0) (filter (reaches_from c) (candidates refs))) ≡ commit_ref refs c
-candidate_is refs c =
-    ap first_or_carrier (ap (map (λ r. r.0)) (filter-append (reaches_from c) (filter (λ ref. is_branch ref.0) refs) refs) ∙ map-append (λ r. r.0) (filter (reaches_from c) (filter (λ ref. is_branch ref.0) refs)) (filter (reaches_from c) refs)
-    ∙ ap (λ ns. ns ++ reaching refs c) (sym (branches_first refs c)))
-
-targets_filter : (r : Records) (refs : List (Bytes × Bytes)) → targets r (filter (λ ref. is_branch ref.0) refs) ≡ filter (λ ref. is_branch ref.0) (targets r refs)
-targets_filter r [] = refl
-targets_filter r (x ∷ refs) =
-    let rest = targets_filter r refs in
-    elim (is_branch x.0) as (λ b. targets r (cond b (x ∷ filter (λ ref. is_branch ref.0) refs) (filter (λ ref. is_branch ref.0) refs)) ≡ cond b ((x.0, target_in (value_of_name r.records x.1)) ∷ filter (λ ref. is_branch ref.0) (targets r refs)) (filter (λ ref. is_branch ref.0) (targets r refs))) [
-      | true ↦ ap (λ rs. (x.0, target_in (value_of_name r.records x.1)) ∷ rs) rest
-      | false ↦ rest
-    ]
-
-targets_are : (r : Records) (refs : List (Bytes × Bytes)) → targets r (candidates refs) ≡ candidates (targets r refs)
-targets_are r refs = map-append (λ ref. (ref.0, target_in (value_of_name r.records ref.1))) (filter (λ ref. is_branch ref.0) refs) refs ∙ ap (λ rs. rs ++ targets r refs) (targets_filter r refs)
-
-names_are : (r : Records) (tips : List (Bor Bytes × Name)) (n : ℕ) → name_or_carrier (slice_get tips n) ≡ ref_or_carrier (slice_get (targets r (shown_tips tips)) n)
-names_are r [] n = refl
-names_are r (t ∷ tips) zero = refl
-names_are r (t ∷ tips) (suc n) = names_are r tips n
-
-rank_there : (ranks : List ℕ) (place : ℕ) → place < length ranks → slice_get ranks place ≡ Some (get_or ranks place 0)
-rank_there [] place h = absurd (omega (arith, h))
-rank_there (x ∷ ranks) zero h = refl
-rank_there (x ∷ ranks) (suc place) h = rank_there ranks place (omega (arith, h))
-
--- by ranks, the ref that the commit at a place goes out on is found
-pub branch_found : (r : Records) (tips : List (Bor Bytes × Name)) (ranks : List ℕ) → shown_tips tips ≡ candidates r.refs → AreRanked r (targets r (shown_tips tips)) ranks → (place : ℕ) (made : Commit) → IsAt r place made → name_at_rank tips (slice_get ranks place) ≡ commit_ref (history_of r).refs made
-branch_found r tips ranks e a place made at =
-    let within : place < length ranks = (let w = at_within (values_of r) place (commit_value made) at in omega (arith, w, a.long)) in
-    let rank = get_or ranks place 0 in
-    let refs = targets r (shown_tips tips) in
-    let first = first_found refs made rank (λ k h. sym (at_place k ranks place within) ∙ ap (λ ms. slice_index_or ms place false) (a.marks k h) ∙ mark_tells (values_of r) (is_reached (take (k + 1) refs)) place (commit_value made) false at) in
-    let all = ap (targets r) e ∙ targets_are r r.refs in
-    ap (name_at_rank tips) (rank_there ranks place within) ∙ names_are r tips rank ∙ first
-    ∙ ap (λ rs. first_or_carrier (map (λ ref. ref.0) (filter (reaches_from made) rs))) all ∙ candidate_is (targets r r.refs) made
-
--- as many targets as tips
-pub tips_long : (r : Records) (tips : List (Bor Bytes × Name)) → length (targets r (shown_tips tips)) ≡ length tips
-tips_long r [] = refl
-tips_long r (t ∷ tips) = let rest = tips_long r tips in omega (arith, rest)
-
-pub tip_there : (r : Records) (tips : List (Bor Bytes × Name)) (i : ℕ) (tip : Bor Bytes × Name) → slice_get tips i ≡ Some tip → slice_get (targets r (shown_tips tips)) i ≡ Some (tip.0.now, target_in (value_of_name r.records tip.1.bytes))
-tip_there r [] i tip e = absurd (cc e)
-tip_there r (t ∷ tips) zero tip e = let same : t ≡ tip = cc e in ap (λ x. Some (x.0.now, target_in (value_of_name r.records x.1.bytes))) same
-tip_there r (t ∷ tips) (suc i) tip e = tip_there r tips i tip e
-
--- ---- refs that are listed
-
--- one ref more
-pub appended_more : (refs : List (Bytes × Bytes)) (old mid new : List (Bor Bytes × Name)) (tip : Bor Bytes × Name) → new ≡ mid ++ tip ∷ [] → AppendsTips refs old mid → AppendsTips (refs ++ shown_lent_ref tip ∷ []) old new
-appended_more refs old mid new tip e h =
-    ap shown_tips e ∙ map-append shown_lent_ref mid (tip ∷ []) ∙ ap (λ rs. rs ++ shown_lent_ref tip ∷ []) h ∙ append_assoc (shown_tips old) refs (shown_lent_ref tip ∷ [])
-
-abbrev only_branches : List (Bytes × Bytes) → List (Bytes × Bytes)
-only_branches refs = filter (λ ref. is_branch ref.0) refs
-
--- one ref more that is a branch, and one that is none
-pub branch_more : (refs : List (Bytes × Bytes)) (ref : Bytes × Bytes) → is_branch ref.0 ≡ true → only_branches (refs ++ ref ∷ []) ≡ only_branches refs ++ ref ∷ []
-branch_more refs ref e = filter-append (λ x. is_branch x.0) refs (ref ∷ []) ∙ ap (λ b. only_branches refs ++ cond b (ref ∷ []) []) e
-
-pub no_branch_more : (refs : List (Bytes × Bytes)) (ref : Bytes × Bytes) → is_branch ref.0 ≡ false → only_branches (refs ++ ref ∷ []) ≡ only_branches refs
-no_branch_more refs ref e = filter-append (λ x. is_branch x.0) refs (ref ∷ []) ∙ ap (λ b. only_branches refs ++ cond b (ref ∷ []) []) e ∙ append-nil (only_branches refs)
-
--- what holds of all refs holds of the candidates
-pub candidates_hold : (P : Bytes × Bytes → Type 0) (refs : List (Bytes × Bytes)) → AllByRecursion P refs → AllByRecursion P (candidates refs)
-candidates_hold P refs h = both (only_branches refs) (kept refs h)
-  where
-    kept : (xs : List (Bytes × Bytes)) → AllByRecursion P xs → AllByRecursion P (only_branches xs)
-    kept [] a = tt
-    kept (x ∷ xs) a = let rest = kept xs a.1 in elim (is_branch x.0) as (λ b. AllByRecursion P (cond b (x ∷ only_branches xs) (only_branches xs))) [ true ↦ (a.0, rest) | false ↦ rest ]
-
-    both : (xs : List (Bytes × Bytes)) → AllByRecursion P xs → AllByRecursion P (xs ++ refs)
-    both [] a = h
-    both (x ∷ xs) a = (a.0, both xs a.1)
-
--- the element within a list
-pub got_there : {X : Type 0} (xs : List X) (i : ℕ) (d : X) → i < length xs → slice_get xs i ≡ Some (get_or xs i d)
-got_there [] i d h = absurd (omega (arith, h))
-got_there (x ∷ xs) zero d h = refl
-got_there (x ∷ xs) (suc i) d h = got_there xs i d (omega (arith, h))
-
-pub held_there : {X : Type 0} (P : X → Type 0) (xs : List X) (i : ℕ) (x : X) → slice_get xs i ≡ Some x → AllByRecursion P xs → P x
-held_there P [] i x e h = absurd (cc e)
-held_there P (y ∷ xs) zero x e h = let same : y ≡ x = cc e in subst P same h.0
-held_there P (y ∷ xs) (suc i) x e h = held_there P xs i x e h.1
-
-pub shown_there : (tips : List (Bor Bytes × Name)) (i : ℕ) (tip : Bor Bytes × Name) → slice_get tips i ≡ Some tip → slice_get (shown_tips tips) i ≡ Some (shown_lent_ref tip)
-shown_there [] i tip e = absurd (cc e)
-shown_there (t ∷ tips) zero tip e = let same : t ≡ tip = cc e in ap (λ x. Some (shown_lent_ref x)) same
-shown_there (t ∷ tips) (suc i) tip e = shown_there tips i tip e

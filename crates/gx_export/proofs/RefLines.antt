@@ -1,5 +1,7 @@
 -- The items of refs: what each ref's object gives, and one ref after the other.
 use Rattle.std.proofs.Common.{◌≡◌, ◌≢◌, List, [], ◌∷◌, ◌++◌, map, Some, None, Ok, refl, subst, ap, ◌∙◌}
+use Rattle.std.specs.Borrow.{Bor}
+use Rattle.std.specs.List.{flat_map}
 use Rattle.std.specs.Prelude.{IsTrue, is_some}
 use Rattle.std.proofs.lemmas.Grind.{flat_map-append}
 use Rattle.std.proofs.lemmas.List.{append-nil, map-append}
@@ -21,7 +23,10 @@ use Rattle.gx_model.specs.Histories.Values.{Commit, Tag, Value, blob_value, comm
 use Rattle.gx_model.proofs.LinkedValues.{parts_in}
 use Rattle.gx_model.proofs.HeldValues.{all_whole, held_is, kind_held, value_held}
 use Rattle.gx_model.proofs.PeeledRefs.{told}
+use Rattle.gx_object.specs.declared.name.Name.{Name}
+use Rattle.gx_repo.specs.Refs.{shown_lent_ref}
 use Rattle.gx_rev.specs.Objects.{parts_of_tag_value}
+use Rattle.gx_export.specs.Branches.{shown_tips}
 use Rattle.gx_export.specs.Texts.{items_of}
 
 -- the items of refs, by the names of their objects and what names their commits
@@ -37,6 +42,14 @@ refs_append r names xs ys =
 -- the items of one ref more
 pub refs_next : (r : Records) (names : Commit → CommitIsh) (xs : List (Bytes × Bytes)) (x : Bytes × Bytes) → ref_items r names (xs ++ x ∷ []) ≡ ref_items r names xs ++ command_items (ref_by names (told r x))
 refs_next r names xs x = refs_append r names xs (x ∷ []) ∙ ap (λ is. ref_items r names xs ++ is) (append-nil (command_items (ref_by names (told r x))))
+
+-- the items of a ref that is lent, and of all of them
+abbrev pub tip_items : Records → (Commit → CommitIsh) → Bor Bytes × Name → List Item
+tip_items r names tip = command_items (ref_by names (told r (shown_lent_ref tip)))
+
+pub tips_items : (r : Records) (names : Commit → CommitIsh) (tips : List (Bor Bytes × Name)) → flat_map (tip_items r names) tips ≡ ref_items r names (shown_tips tips)
+tips_items r names [] = refl
+tips_items r names (t ∷ tips) = ap (λ (is : List Item). tip_items r names t ++ is) (tips_items r names tips)
 
 -- ---- the object of a ref
 

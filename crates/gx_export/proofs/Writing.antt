@@ -115,7 +115,7 @@ front_sent before count was now text h m k = (take count text, drop count text, 
 
 -- ---- the texts of a list
 
-module _ {X : Type 0} (f : X → Bytes) (xs : List X) (i : ℕ) (d : X) (h : i < length xs) where
+module _ {X Y : Type 0} (f : X → List Y) (xs : List X) (i : ℕ) (d : X) (h : i < length xs) where
   -- one more
   pub text_next : flat_map f (take (i + 1) xs) ≡ flat_map f (take i xs) ++ f (get_or xs i d)
   text_next =
@@ -127,12 +127,13 @@ module _ {X : Type 0} (f : X → Bytes) (xs : List X) (i : ℕ) (d : X) (h : i <
   text_parts =
       ap (flat_map f) (sym (take-append-drop i xs)) ∙ flat_map-append f (take i xs) (drop i xs) ∙ ap (λ t. flat_map f (take i xs) ++ flat_map f t) (drop-cons xs i d h)
 
+module _ {X : Type 0} (f : X → Bytes) (xs : List X) (i : ℕ) (d : X) (h : i < length xs) where
   -- what stops within one text stops within all
   pub stops_within : (before mid : ℕ) (was between now : Option Taken) (e : ExportFault) → Writes before mid was between (flat_map f (take i xs)) (Ok tt) → Stops mid between now (f (get_or xs i d)) e → Stops before was now (flat_map f xs) e
   stops_within before mid was between now e k s =
-      subst (λ t. Stops before was now t e) (sym text_parts)
+      subst (λ t. Stops before was now t e) (sym (text_parts f xs i d h))
       (stops_later before mid was between now (flat_map f (take i xs)) (f (get_or xs i d) ++ flat_map f (drop (suc i) xs)) e k.0 k.2 (stops_sooner mid between now (f (get_or xs i d)) (flat_map f (drop (suc i) xs)) e s))
 
   -- one text more is written
   pub writes_next : (before mid after : ℕ) (was between now : Option Taken) → Writes before mid was between (flat_map f (take i xs)) (Ok tt) → Writes mid after between now (f (get_or xs i d)) (Ok tt) → Writes before after was now (flat_map f (take (i + 1) xs)) (Ok tt)
-  writes_next before mid after was between now k s = subst (λ t. Writes before after was now t (Ok tt)) (sym text_next) (writes_later before mid after was between now (flat_map f (take i xs)) (f (get_or xs i d)) (Ok tt) k s)
+  writes_next before mid after was between now k s = subst (λ t. Writes before after was now t (Ok tt)) (sym (text_next f xs i d h)) (writes_later before mid after was between now (flat_map f (take i xs)) (f (get_or xs i d)) (Ok tt) k s)

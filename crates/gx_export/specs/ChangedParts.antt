@@ -1,33 +1,43 @@
 -- What each part of an export of changes does, whatever was written before it.
-use Rattle.std.specs.Prelude.{◌≡◌, ◌≤◌, [], ◌∷◌, ◌++◌, ℕ, suc, Bool, true, false, length, List, map, Option, Result, Ok, Err, OnOk}
+use Rattle.std.specs.Prelude.{◌≡◌, [], ◌∷◌, ◌++◌, ◌||◌, ℕ, suc, Bool, true, false, length, List, map, reverse, Option, Result, Ok, Err, OnOk, slice_index_or}
+use Rattle.std.specs.Borrow.{Bor}
+use Rattle.std.specs.List.{filter}
 use Rattle.gx_model.specs.declared.objects.Kind.{Kind}
 use Rattle.gx_model.specs.declared.features.Feature.TheVariants as features
-use Rattle.gx_model.specs.Changes.{all_changes, changes_text, commit_changes, commits_with_changes, named_in, own_files, with_changes}
+use Rattle.gx_model.specs.Changes.{all_changes, carrier_reset, changes_text, closed_by, commit_changes, commits_with_changes, named_in, own_files, range_text, sending_commands, set_refs, with_changes}
 use Rattle.gx_model.specs.Export.{blob_commands, command_items, commit_on, contents, reached_commits, ref_by, reset_before, with_blobs}
 use Rattle.gx_model.specs.Histories.Files.{FileMap}
-use Rattle.gx_model.specs.Histories.Marks.{IsAt}
+use Rattle.gx_model.specs.Histories.Marks.{IsAt, marks_of}
 use Rattle.gx_model.specs.Histories.Values.{Commit, CommitText, Value, list_of, parents_of}
-use Rattle.gx_model.specs.Histories.{History, Records}
+use Rattle.gx_model.specs.Histories.{History, Records, Target}
 use Rattle.gx_model.specs.Laws.RepositoryLaws.{values_of}
 use Rattle.gx_model.specs.Objects.{CommitParts}
 use Rattle.gx_model.specs.Records.HistoryOf.{history_of, target_in}
+use Rattle.gx_model.specs.Replay.{peeled_at}
+use Rattle.gx_model.specs.Revisions.{RangeWord}
+use Rattle.gx_model.specs.Revisions.Ranges.{Word, listed, listing, words_denoted}
 use Rattle.gx_model.specs.Streams.Commands.{Asks, Command, CommitIsh, Done}
 use Rattle.gx_model.specs.Streams.Items.{Item, Line}
 use Rattle.gx_model.specs.Texts.{Bytes}
 use Rattle.gx_model.specs.Texts.Paths.{Path}
-use Rattle.gx_model.specs.Texts.Sinks.{Taken, Took, TookFront}
+use Rattle.gx_model.specs.Texts.Sinks.{Taken}
 use Rattle.gx_object.specs.declared.name.Name.{Name}
 use Rattle.gx_rev.specs.Objects.{commit_at, value_at}
+use Rattle.gx_rev.specs.RevFaults.{fault_of}
+use Rattle.gx_rev.specs.Walking.{IsWordFault}
+use Rattle.gx_export.specs.Branches.{FindsBranches, picked, refs_of, shown_tips, targets}
 use Rattle.gx_export.specs.Compared.{gone_items, gone_text}
 use Rattle.gx_export.specs.FileTexts.{AreKept}
 use Rattle.gx_export.specs.Marks.{Adds, AreNumbers, HasWritten}
 use Rattle.gx_export.specs.Naming.{shown_commit}
-use Rattle.gx_export.specs.Outputs.{StopsAt, Writes, most}
+use Rattle.gx_export.specs.Outputs.{Delivers, Writes}
 use Rattle.gx_export.specs.Parts.{AddsItems, commits_called}
 use Rattle.gx_export.specs.Texts.{file_items, head_items, items_of, items_text, parents_by, root_items}
+use Rattle.gx_export.specs.declared.branches.Branches.{Branches}
 use Rattle.gx_export.specs.declared.changes.Changes.{Changes}
 use Rattle.gx_export.specs.declared.fault.ExportFault.{ExportFault}
-use Rattle.gx_export.specs.declared.fault.ExportFault.TheVariants.{OutOfMemory, WriteFailed}
+use Rattle.gx_export.specs.declared.fault.RangeFault.{RangeFault}
+use Rattle.gx_export.specs.declared.fault.RangeFault.TheVariants.{Export, Walk}
 use Rattle.gx_export.specs.declared.naming.CommitIsh.{CommitIsh as Naming}
 use Rattle.gx_export.specs.declared.written.Written.{Written}
 
@@ -46,6 +56,16 @@ pub record AreLinesOf {A : Type 0} (ws : List Value) (paths : List Path) (own : 
   pub gone : changes.gone.items ≡ gone_text paths
   pub files : changes.files.text.items ≡ items_text (file_items ws own)
 
+-- ---- marks
+
+-- the marks are of commits
+abbrev pub AreCommitMarks : Records → List Bool → Type 0
+AreCommitMarks repository marks = (test : Commit → Bool) × (marks ≡ marks_of test (values_of repository))
+
+-- the places that the one list or the other marks
+abbrev pub AreEither : List Bool → List Bool → List Bool → Type 0
+AreEither new marks others = (place : ℕ) → slice_index_or new place false ≡ (slice_index_or marks place false || slice_index_or others place false)
+
 -- ---- all items
 
 -- before the commits and behind the refs
@@ -58,21 +78,38 @@ closing true = command_items Done
 closing false = []
 
 module _ (name : Kind → Bytes → Bytes) where
-  -- an export's items up to its last commit
-  abbrev pub changes_front : Bool → History → List Item
-  changes_front closed h = opening closed ++ items_of (commits_with_changes name h.refs [] (reached_commits h))
+  -- the items up to the last of some commits, which go out on these refs
+  abbrev pub sending_front : Bool → List Commit → List (Bytes × Target) → List Item
+  sending_front closed sent refs = opening closed ++ items_of (commits_with_changes name refs [] sent)
 
-  -- an export's items behind its last commit, by the values that were written
-  abbrev pub changes_rest : Bool → History → List Value → List Item
-  changes_rest closed h ws = items_of (map (ref_by (named_in name ws)) h.refs) ++ closing closed
+  -- the items behind it, where the refs are set, by the values that were written
+  abbrev pub sending_rest : Bool → List Commit → List (Bytes × Target) → List Value → List Item
+  sending_rest closed sent refs ws = items_of (carrier_reset refs sent) ++ (items_of (map (ref_by (named_in name ws)) refs) ++ closing closed)
 
-  -- The sink took the text of the repository's changes, and its length is at most 2^63 - 1; or memory ran out among the
-  -- commits; or the sink didn't take all of the text.
+  -- The text of these commits and of these refs goes out.
+  abbrev pub SendsText : Bool → List Commit → List (Bytes × Target) → Option Taken → Option Taken → Result (Unit {0}) ExportFault → Type 0
+  SendsText closed sent refs was now result =
+      Delivers (items_text (sending_front closed sent refs)) (items_text (items_of (closed_by closed (sending_commands name sent refs)))) was now result
+
+  -- The text of the changes of a repository goes out: all of it, or a front of it where the export stops.
   abbrev pub ExportsChanges : Bool → Records → Option Taken → Option Taken → Result (Unit {0}) ExportFault → Type 0
-  ExportsChanges closed repository was now (Ok _) =
-      Took was now (changes_text name closed (history_of repository)) × (length (changes_text name closed (history_of repository)) ≤ most)
-  ExportsChanges closed repository was now (Err OutOfMemory) = TookFront was now (items_text (changes_front closed (history_of repository)))
-  ExportsChanges closed repository was now (Err (WriteFailed count)) = StopsAt 0 count was now (changes_text name closed (history_of repository))
+  ExportsChanges closed repository was now result =
+      let h = history_of repository in
+      Delivers (items_text (sending_front closed (reached_commits h) h.refs)) (changes_text name closed h) was now result
+
+  -- the same of the text of what range words give
+  abbrev pub DeliversRange : Bool → History → List Word → Option Taken → Option Taken → Result (Unit {0}) ExportFault → Type 0
+  DeliversRange closed h words was now result = Delivers (items_text (sending_front closed (reverse (listing h words)) (set_refs h words))) (range_text name closed h words) was now result
+
+  -- the words have a meaning, whose text it is
+  abbrev pub DeliversWords : Bool → History → List RangeWord → Option Taken → Option Taken → Result (Unit {0}) ExportFault → Type 0
+  DeliversWords closed h asked was now result = (words : List Word) × (words_denoted name h asked ≡ Ok words) × DeliversRange closed h words was now result
+
+  -- The text of what range words give goes out, as above; or a word is refused, and the sink took nothing.
+  abbrev pub ExportsRange : Bool → Records → List RangeWord → Option Taken → Option Taken → Result (Unit {0}) RangeFault → Type 0
+  ExportsRange closed repository asked was now (Ok _) = DeliversWords closed (history_of repository) asked was now (Ok tt)
+  ExportsRange closed repository asked was now (Err (Export fault)) = DeliversWords closed (history_of repository) asked was now (Err fault)
+  ExportsRange closed repository asked was now (Err (Walk e)) = (now ≡ was) × IsWordFault e.word (fault_of e.kind) (listed name (history_of repository) asked)
 
   -- whatever was written, this names a commit
   abbrev pub NamesCommit : Records → List ℕ → Commit → Naming → Type 0
@@ -128,23 +165,34 @@ module _ {N W : Type 0} (name_of : N → Kind → Bytes → Bytes) (taken : W �
       (made : Commit) (ws : List Value) → IsAt repo.1 place made → HasWritten repo.1 ws old → AreKept (name_of repo.0) repo.1 ws changes.files
       → Adds repo.1 (with_changes ws made) (items_of (one_on (name_of repo.0) branch ws made)) old new (taken was) (taken now) result
 
-  -- the commits that refs reach go out
-  abbrev pub AddsChangedCommits : {A : Type 0} → Written A → Written A → W → W → Result (Unit {0}) ExportFault → Type 0
-  AddsChangedCommits old new was now result =
-      Adds repo.1 (all_changes (reached_commits (history_of repo.1))) (items_of (commits_with_changes (name_of repo.0) (history_of repo.1).refs [] (reached_commits (history_of repo.1)))) old new (taken was) (taken now) result
+  -- the commits that are marked go out, on the refs that are found
+  abbrev pub AddsSentCommits : {A B : Type 0} → Branches B → List Bool → Written A → Written A → W → W → Result (Unit {0}) ExportFault → Type 0
+  AddsSentCommits branches sent old new was now result = (test : Commit → Bool) → sent ≡ marks_of test (values_of repo.1)
+      → Adds repo.1 (all_changes (picked test (values_of repo.1))) (items_of (commits_with_changes (name_of repo.0) (refs_of repo.1 branches) [] (picked test (values_of repo.1)))) old new (taken was) (taken now) result
 
-  -- the text up to the last commit goes out
-  abbrev pub AddsChangesFront : {A : Type 0} → Bool → Written A → Written A → W → W → Result (Unit {0}) ExportFault → Type 0
-  AddsChangesFront closed old new was now result =
-      Adds repo.1 (all_changes (reached_commits (history_of repo.1))) (changes_front (name_of repo.0) closed (history_of repo.1)) old new (taken was) (taken now) result
+  -- the text up to the last of them goes out
+  abbrev pub AddsSendingFront : {A B : Type 0} → Bool → Branches B → List Bool → Written A → Written A → W → W → Result (Unit {0}) ExportFault → Type 0
+  AddsSendingFront closed branches sent old new was now result = (test : Commit → Bool) → sent ≡ marks_of test (values_of repo.1)
+      → Adds repo.1 (all_changes (picked test (values_of repo.1))) (sending_front (name_of repo.0) closed (picked test (values_of repo.1)) (refs_of repo.1 branches)) old new (taken was) (taken now) result
 
-  -- the text behind the last commit goes out
-  abbrev pub AddsChangesRest : {A : Type 0} → Bool → Written A → Written A → W → W → Result (Unit {0}) ExportFault → Type 0
-  AddsChangesRest closed old new was now result = AddsItems repo.1 (changes_rest (name_of repo.0) closed (history_of repo.1)) old new (taken was) (taken now) result
+  -- the text behind it goes out
+  abbrev pub AddsSendingRest : {A B : Type 0} → Bool → Branches B → List Bool → Written A → Written A → W → W → Result (Unit {0}) ExportFault → Type 0
+  AddsSendingRest closed branches sent old new was now result = (test : Commit → Bool) → sent ≡ marks_of test (values_of repo.1)
+      → AddsItems repo.1 (sending_rest (name_of repo.0) closed (picked test (values_of repo.1)) (refs_of repo.1 branches)) old new (taken was) (taken now) result
 
-  -- the items of all refs go out
-  abbrev pub AddsNamedRefs : {A : Type 0} → Written A → Written A → W → W → Result (Unit {0}) ExportFault → Type 0
-  AddsNamedRefs old new was now result = AddsItems repo.1 (λ ws. items_of (map (ref_by (named_in (name_of repo.0) ws)) (history_of repo.1).refs)) old new (taken was) (taken now) result
+  -- the commits that are marked are sent, and the refs that were found
+  abbrev pub SendsOn : {B : Type 0} → Bool → Branches B → List Bool → W → W → Result (Unit {0}) ExportFault → Type 0
+  SendsOn closed branches sent was now result = (test : Commit → Bool) → sent ≡ marks_of test (values_of repo.1)
+      → SendsText (name_of repo.0) closed (picked test (values_of repo.1)) (refs_of repo.1 branches) (taken was) (taken now) result
+
+  -- the commits that are marked are sent, and the refs whose commits are
+  abbrev pub SendsMarked : Bool → List Bool → List Bool → W → W → Result (Unit {0}) ExportFault → Type 0
+  SendsMarked closed sent set was now result = (test wanted : Commit → Bool) → sent ≡ marks_of test (values_of repo.1) → set ≡ marks_of wanted (values_of repo.1)
+      → SendsText (name_of repo.0) closed (picked test (values_of repo.1)) (filter (λ ref. wanted (peeled_at ref.1)) (history_of repo.1).refs) (taken was) (taken now) result
+
+  -- the items of these refs go out
+  abbrev pub AddsNamedRefs : {A : Type 0} → List (Bor Bytes × Name) → Written A → Written A → W → W → Result (Unit {0}) ExportFault → Type 0
+  AddsNamedRefs refs old new was now result = AddsItems repo.1 (λ ws. items_of (map (ref_by (named_in (name_of repo.0) ws)) (targets repo.1 (shown_tips refs)))) old new (taken was) (taken now) result
 
   -- the items of a ref go out
   abbrev pub AddsNamedRef : {A : Type 0} → Bytes → Name → Written A → Written A → W → W → Result (Unit {0}) ExportFault → Type 0
@@ -154,6 +202,12 @@ module _ {N W : Type 0} (name_of : N → Kind → Bytes → Bytes) (taken : W �
 module _ {W : Type 0} (taken : W → Option Taken) where
   abbrev pub WritesItems : List Item → ℕ → ℕ → W → W → Result (Unit {0}) ExportFault → Type 0
   WritesItems items before after was now result = Writes before after (taken was) (taken now) (items_text items) result
+
+  -- the reset behind the commits that are marked, where one is reached by none of the refs
+  abbrev pub WritesCarrier : {A : Type 0} → Branches A → List Bool → ℕ → ℕ → W → W → Result (Unit {0}) ExportFault → Type 0
+  WritesCarrier branches sent before after was now result = (repository : Records) (test : Commit → Bool)
+      → FindsBranches repository sent branches → sent ≡ marks_of test (values_of repository)
+      → WritesItems (items_of (carrier_reset (refs_of repository branches) (picked test (values_of repository)))) before after was now result
 
   abbrev pub WritesDiffering : {A : Type 0} → Changes A → ℕ → ℕ → W → W → Result (Unit {0}) ExportFault → Type 0
   WritesDiffering changes before after was now result =

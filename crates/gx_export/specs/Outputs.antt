@@ -31,3 +31,10 @@ Stops before was now text (WriteFailed count) = StopsAt before count was now tex
 abbrev pub Writes : ℕ → ℕ → Option Taken → Option Taken → Bytes → Result (Unit {0}) ExportFault → Type 0
 Writes before after was now text (Ok _) = (after ≡ before + length text) × (after ≤ most) × Took was now text
 Writes before after was now text (Err fault) = Stops before was now text fault
+
+-- The sink took a text of at most 2^63 - 1 bytes; or memory ran out within this front of the text; or the sink didn't take
+-- all of it.
+abbrev pub Delivers : Bytes → Bytes → Option Taken → Option Taken → Result (Unit {0}) ExportFault → Type 0
+Delivers front text was now (Ok _) = Took was now text × (length text ≤ most)
+Delivers front text was now (Err OutOfMemory) = TookFront was now front
+Delivers front text was now (Err (WriteFailed count)) = StopsAt 0 count was now text

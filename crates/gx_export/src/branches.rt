@@ -1,41 +1,50 @@
 //! The refs that commits go out on: a branch that reaches the commit, where there is one.
 
-ghost use Rattle.std.specs.Prelude.{◌≡◌, IfOk, OnOk, length, replicate};
-ghost use Rattle.std.specs.List.{filter};
+ghost use Rattle.std.specs.Prelude.{◌≡◌, IfOk, length, replicate};
 ghost use Rattle.gx_model.specs.declared.objects.Kind.TheVariants as kinds;
 ghost use Rattle.gx_model.specs.Changes.{is_branch};
 ghost use Rattle.gx_model.specs.Laws.RepositoryLaws.{values_of};
+ghost use Rattle.gx_model.specs.Records.Sound.{IsTarget};
+ghost use Rattle.gx_model.specs.Texts.{Bytes};
 ghost use Rattle.gx_rev.specs.Objects.{IsHeldAs};
-ghost use Rattle.gx_export.specs.Branches.{AppendsTips, AreRankedBy, AreTargets, FindsBranches, HaveTipsOf, LowersOne, LowersParents, branch_at, candidates, shown_tips};
+ghost use Rattle.gx_export.specs.Branches.{AreRankedBy, AreSet, AreTargets, FindsBranches, HaveTipsOf, IsBeforeMarks, IsSetAt, LowersOne, LowersParents, ReachAll, branch_at, candidates, is_ranked, shown_tips};
 
 use gx_object::{Name, Namer};
 use gx_repo::Repo;
 use gx_rev::{name_at, place_of, view_of};
 use std::alloc::{AllocError, Allocator};
 
-/// The refs under `refs/heads/` and then all refs, each in byte order. For each record of a commit that a ref reaches its
-/// rank is the number of the first of these that does, and for each other record it is how many they are.
+/// The refs that an export sets; and of these those under `refs/heads/` and then all, each in byte order. For the record of
+/// each commit that is sent its rank is the number of the first of the latter that reaches it, or how many they are where
+/// none does.
 #[derive(Drop)]
 pub(crate) struct Branches<'a, A: Allocator> {
+    pub(crate) refs: Vec<(&'a [u8], Name), A>,
     tips: Vec<(&'a [u8], Name), A>,
     ranks: Vec<usize, A>,
 }
 
 impl<'a, A: Allocator + Copy> Branches<'a, A> {
-    /// The refs of a repository.
+    /// The refs of a repository whose commits are marked in `set`, for the commits that are marked in `sent`.
     ///
-    /// Cost: the number of records and of refs, and for each commit that is reached its body and a look-up for each of its
-    /// parents. Takes a number for each record, and two names for each ref.
+    /// Cost: the number of records, for each ref a look-up, and for each commit that a ref reaches and that isn't older than
+    /// all that are sent its body and a look-up for each of its parents. Takes a number for each record, and three names for
+    /// each ref.
     pub(crate) fn new<N: Namer>(
         alloc: A,
         repo: &'a Repo<N, A>,
+        sent: &[bool],
+        set: &[bool],
     ) -> Result<Branches<'a, A>, AllocError>
-        ensures { IfOk result (FindsBranches repo.now.1) }
+        requires { length set.now ≡ length (values_of repo.now.1) }
+        ensures found { IfOk result (FindsBranches repo.now.1 sent.now) }
+        ensures refs { IfOk result (λ branches. AreSet repo.now.1 set.now branches.refs.items) }
     {
-        let tips = candidates(alloc, repo)?;
+        let refs = set_refs(alloc, repo, set)?;
+        let tips = candidates(alloc, &refs)?;
         let mut ranks = vec![in alloc; tips.len(); repo.store().len()]?;
-        rank_commits(repo, &mut ranks, &tips);
-        Ok(Branches { tips, ranks })
+        rank_commits(repo, &mut ranks, &tips, first_marked(sent));
+        Ok(Branches { refs, tips, ranks })
     }
 
     /// The ref that the commit at a place goes out on: that of an export's own where no ref reaches it. Takes no memory.
@@ -50,48 +59,78 @@ impl<'a, A: Allocator + Copy> Branches<'a, A> {
             },
         }
     }
-}
 
-/// The branches of a repository, and then all of its refs.
-fn candidates<'a, N: Namer, A: Allocator + Copy>(
-    alloc: A,
-    repo: &'a Repo<N, A>,
-) -> Result<Vec<(&'a [u8], Name), A>, AllocError>
-    ensures { IfOk result (λ tips. shown_tips tips.items ≡ candidates repo.now.1.refs) }
-{
-    let mut tips = Vec::new(alloc);
-    add_branches(repo, &mut tips)?;
-    add_all(repo, &mut tips)?;
-    Ok(tips)
-}
+    /// Whether the refs reach all commits that are sent. Takes no memory.
+    pub(crate) fn reach_all(&self, sent: &[bool]) -> bool
+        ensures { ReachAll self.now sent.now result }
+    {
+        for place in 0..sent.len() {
+            if sent[place] && !self.reach(place) {
+                return false;
+            }
+        }
+        true
+    }
 
-/// Appends the refs that are branches.
-fn add_branches<'a, N: Namer, A: Allocator + Copy>(
-    repo: &'a Repo<N, A>,
-    tips: &mut Vec<(&'a [u8], Name), A>,
-) -> Result<(), AllocError>
-    ensures { OnOk result (AppendsTips (filter (λ ref. is_branch ref.0) repo.now.1.refs)
-        tips.old.items tips.new.items) }
-{
-    for (name, object) in repo.refs() {
-        if is_branch(name) {
-            tips.push((name, object))?;
+    /// Whether the refs reach the commit at a place.
+    fn reach(&self, place: usize) -> bool
+        ensures { result ≡ is_ranked self.now place }
+    {
+        match self.ranks.get(place) {
+            None => false,
+            Some(rank) => *rank < self.tips.len(),
         }
     }
-    Ok(())
 }
 
-/// Appends all refs.
-fn add_all<'a, N: Namer, A: Allocator + Copy>(
+/// The refs whose commits are marked.
+fn set_refs<'a, N: Namer, A: Allocator + Copy>(
+    alloc: A,
     repo: &'a Repo<N, A>,
-    tips: &mut Vec<(&'a [u8], Name), A>,
-) -> Result<(), AllocError>
-    ensures { OnOk result (AppendsTips repo.now.1.refs tips.old.items tips.new.items) }
+    set: &[bool],
+) -> Result<Vec<(&'a [u8], Name), A>, AllocError>
+    requires { length set.now ≡ length (values_of repo.now.1) }
+    ensures set { IfOk result (λ refs. AreSet repo.now.1 set.now refs.items) }
+    ensures targets { IfOk result (λ refs. AreTargets repo.now.1 refs.items) }
 {
+    let mut refs = Vec::new(alloc);
     for (name, object) in repo.refs() {
-        tips.push((name, object))?;
+        if is_set(repo, set, &object) {
+            refs.push((name, object))?;
+        }
     }
-    Ok(())
+    Ok(refs)
+}
+
+/// Whether the commit of a ref's object is marked.
+fn is_set<N: Namer, A: Allocator + Copy>(repo: &Repo<N, A>, set: &[bool], object: &Name) -> bool
+    requires target { (ref : Bytes) × IsTarget repo.now.1.records ref object.now.bytes }
+    requires long { length set.now ≡ length (values_of repo.now.1) }
+    ensures { IsSetAt repo.now.1 set.now object.now result }
+{
+    repo.sound();
+    let Some(commit) = repo.peel(object) else {
+        return false;
+    };
+    let place = place_of(repo, &commit);
+    set[place]
+}
+
+/// Those refs that are branches, and then all.
+fn candidates<'a, A: Allocator + Copy>(
+    alloc: A,
+    refs: &[(&'a [u8], Name)],
+) -> Result<Vec<(&'a [u8], Name), A>, AllocError>
+    ensures { IfOk result (λ tips. shown_tips tips.items ≡ candidates (shown_tips refs.now)) }
+{
+    let mut tips = Vec::new(alloc);
+    for tip in refs {
+        if is_branch(tip.0) {
+            tips.push(*tip)?;
+        }
+    }
+    tips.extend_from_slice(refs)?;
+    Ok(tips)
 }
 
 /// Whether a ref is a branch.
@@ -101,18 +140,31 @@ fn is_branch(name: &[u8]) -> bool
     name.starts_with(b"refs/heads/")
 }
 
-/// Gives each commit the number of the first tip that reaches it. No rank was given yet.
+/// The first place that is marked, or behind all where none is.
+fn first_marked(marks: &[bool]) -> usize
+    ensures { IsBeforeMarks marks.now result }
+{
+    for place in 0..marks.len() {
+        if marks[place] {
+            return place;
+        }
+    }
+    marks.len()
+}
+
+/// Gives each commit from a place on the number of the first tip that reaches it. No rank was given yet.
 fn rank_commits<N: Namer, A: Allocator + Copy>(
     repo: &Repo<N, A>,
     ranks: &mut [usize],
     tips: &[(&[u8], Name)],
+    first: usize,
 )
     requires tips { AreTargets repo.now.1 tips.now }
     requires none { ranks.old ≡ replicate (length (values_of repo.now.1)) (length tips.now) }
-    ensures { AreRankedBy repo.now.1 tips.now ranks.new }
+    ensures { AreRankedBy repo.now.1 tips.now first ranks.new }
 {
     rank_tips(repo, ranks, tips);
-    hand_down(repo, ranks, tips);
+    hand_down(repo, ranks, tips, first);
 }
 
 /// Gives each commit that tips hold the number of the first one that does.
@@ -133,18 +185,19 @@ fn rank_tips<N: Namer, A: Allocator + Copy>(
     }
 }
 
-/// Hands the ranks of commits down to their ancestors. A commit's parents stand before it.
+/// Hands the ranks of commits from a place on down to their ancestors. A commit's parents stand before it.
 fn hand_down<N: Namer, A: Allocator + Copy>(
     repo: &Repo<N, A>,
     ranks: &mut [usize],
     tips: &[(&[u8], Name)],
+    first: usize,
 )
     requires { HaveTipsOf repo.now.1 tips.now ranks.old }
-    ensures { AreRankedBy repo.now.1 tips.now ranks.new }
+    ensures { AreRankedBy repo.now.1 tips.now first ranks.new }
 {
     repo.sound();
     let mut left = ranks.len();
-    while left > 0 {
+    while left > first {
         left -= 1;
         let rank = ranks[left];
         if rank < tips.len() {

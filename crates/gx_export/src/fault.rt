@@ -2,7 +2,9 @@
 
 ghost use Rattle.std.specs.Prelude.{◌≡◌};
 ghost use Rattle.gx_export.specs.declared.fault.ExportFault.TheVariants.{OutOfMemory};
+ghost use Rattle.gx_export.specs.declared.fault.RangeFault.TheVariants.{Export, Walk};
 
+use gx_rev::WalkFault;
 use std::alloc::AllocError;
 use std::error::Error;
 use std::fmt;
@@ -48,5 +50,30 @@ impl From<AllocError> for ExportFault {
 
     fn from(_error: AllocError) -> ExportFault {
         ExportFault::OutOfMemory
+    }
+}
+
+/// Why an export of a range stops.
+#[derive(Clone, Copy, Debug, PartialEq, Eq)]
+pub enum RangeFault {
+    /// A word is refused, and nothing went out.
+    Walk(WalkFault),
+    /// The export stops.
+    Export(ExportFault),
+}
+
+impl From<WalkFault> for RangeFault {
+    ghost from_gives = { λ walk fault. fault ≡ Walk walk };
+
+    fn from(fault: WalkFault) -> RangeFault {
+        RangeFault::Walk(fault)
+    }
+}
+
+impl From<ExportFault> for RangeFault {
+    ghost from_gives = { λ stop fault. fault ≡ Export stop };
+
+    fn from(fault: ExportFault) -> RangeFault {
+        RangeFault::Export(fault)
     }
 }

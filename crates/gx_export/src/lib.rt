@@ -20,5 +20,5 @@ mod trees;
 mod written;
 
 pub use exporting::export;
-pub use exporting_changes::export_changes;
-pub use fault::ExportFault;
+pub use exporting_changes::{export_changes, export_range};
+pub use fault::{ExportFault, RangeFault};

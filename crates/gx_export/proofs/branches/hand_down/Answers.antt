@@ -3,7 +3,8 @@ use Rattle.gx_model.specs.Laws.RepositoryLaws.{values_of}
 use Rattle.gx_model.proofs.Standing.{commit_at_place, commit_name_there}
 use Rattle.gx_rev.specs.Objects.{commit_at}
 use Rattle.gx_export.specs.Branches.{shown_tips, targets}
-use Rattle.gx_export.proofs.RankedRefs.{AreHanded, all_handed, handed_down, handed_past, none_handed, ranked_commit, tips_long}
+use Rattle.gx_export.proofs.FoundBranches.{tips_long}
+use Rattle.gx_export.proofs.RankedRefs.{AreHanded, all_handed, handed_down, handed_past, none_handed, ranked_commit}
 use Rattle.gx_export.proofs.branches.hand_down.Goals as goal
 
 pub loop-left-init : goal.loop-left-init
@@ -65,6 +66,4 @@ returns g c =
     let name = g.N.Namer.name_of c.args.repo.now.0 in
     let namer = g.met.N.Namer.is_namer c.args.repo.now.0 in
     let r = c.args.repo.now.1 in
-    let n = length (targets r (shown_tips c.args.tips.now)) in
-    let none : c.loop-left.left ≡ 0 = omega arith in
-    all_handed name namer r c.sound.ensures (targets r (shown_tips c.args.tips.now)) c.args.ranks.now c.loop-left.ranks c.requires (subst (AreHanded r n c.args.ranks.now c.loop-left.ranks) none c.loop-left.invariant.handed)
+    all_handed name namer r c.sound.ensures (targets r (shown_tips c.args.tips.now)) c.args.ranks.now c.loop-left.ranks c.loop-left.left c.args.first (omega (arith, c.loop-left-test.false)) c.requires c.loop-left.invariant.handed

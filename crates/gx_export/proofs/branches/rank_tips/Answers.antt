@@ -12,7 +12,8 @@ use Rattle.gx_repo.specs.Refs.{shown_lent_ref}
 use Rattle.gx_rev.specs.Objects.{commit_at}
 use Rattle.gx_rev.proofs.RefTips.{tip_is}
 use Rattle.gx_export.specs.Branches.{shown_tips, targets}
-use Rattle.gx_export.proofs.RankedRefs.{all_ranked, got_there, held_there, next_ranked, none_passed, shown_there, tip_there, tips_long}
+use Rattle.gx_export.proofs.FoundBranches.{got_there, held_there, shown_there, tip_there, tips_long}
+use Rattle.gx_export.proofs.RankedRefs.{all_ranked, next_ranked, none_passed}
 use Rattle.gx_export.proofs.branches.rank_tips.Goals as goal
 use Rattle.gx_export.proofs.branches.rank_tips.Goals.{in-Some, in_default}
 

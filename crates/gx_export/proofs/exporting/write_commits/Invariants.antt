@@ -2,10 +2,10 @@ use Rattle.std.proofs.Common.{take, [], Ok}
 use Rattle.gx_model.specs.Export.{all_written, commit_commands}
 use Rattle.gx_model.specs.Laws.RepositoryLaws.{values_of}
 use Rattle.gx_export.specs.FileTexts.{AreKept}
+use Rattle.gx_export.specs.Branches.{picked}
 use Rattle.gx_export.specs.Marks.{Adds}
 use Rattle.gx_rev.specs.Reached.{is_wanted}
 use Rattle.gx_export.specs.Texts.{items_of}
-use Rattle.gx_export.proofs.CommitLists.{picked}
 use Rattle.gx_export.proofs.exporting.write_commits.Given as goal
 
 abbrev pub invariant-loop-place : goal.invariant-loop-place

@@ -1,31 +1,28 @@
-use Rattle.std.proofs.Common.{◌∙◌, ap, length}
+use Rattle.std.proofs.Common.{◌∙◌}
 use Rattle.std.proofs.lemmas.Result.{err_from_is_err_and}
+use Rattle.gx_model.specs.Export.{reached_commits}
 use Rattle.gx_model.specs.Records.HistoryOf.{history_of}
-use Rattle.gx_model.proofs.Standing.{as_many}
-use Rattle.gx_export.specs.ChangedParts.{changes_front}
+use Rattle.gx_rev.specs.Reached.{is_wanted}
+use Rattle.gx_export.specs.ChangedParts.{sending_front}
 use Rattle.gx_export.specs.Texts.{items_text}
-use Rattle.gx_export.proofs.Numbering.{none_written}
+use Rattle.gx_export.proofs.ChangesTexts.{whole_sent}
 use Rattle.gx_export.proofs.Writing.{stops_first}
 use Rattle.gx_export.proofs.exporting_changes.export_changes.Goals as goal
 
 pub returns-in_err-reached : goal.returns-in_err-reached
 returns-in_err-reached g c =
     let p = err_from_is_err_and c.from_residual.result c.from_residual.ensures.1 in
-    rw (p.1, p.2) (stops_first 0 (g.W.Sink.taken c.args.sink.now) (items_text (changes_front (g.N.Namer.name_of c.args.repo.now.0) c.args.closed (history_of c.args.repo.now.1))))
+    let h = history_of c.args.repo.now.1 in
+    rw (p.1, p.2) (stops_first 0 (g.W.Sink.taken c.args.sink.now) (items_text (sending_front (g.N.Namer.name_of c.args.repo.now.0) c.args.closed (reached_commits h) h.refs)))
 
-pub returns-in_err-branches : goal.returns-in_err-branches
-returns-in_err-branches g c =
-    let p = err_from_is_err_and c.from_residual-in_err-branches.result c.from_residual-in_err-branches.ensures.1 in
-    rw (p.1, p.2) (stops_first 0 (g.W.Sink.taken c.args.sink.now) (items_text (changes_front (g.N.Namer.name_of c.args.repo.now.0) c.args.closed (history_of c.args.repo.now.1))))
+pub write_sent-requires-clause-sent : goal.write_sent-requires-clause-sent
+write_sent-requires-clause-sent g c = (is_wanted c.args.repo.now.1, c.deref.ensures.value ∙ c.in_ok-reached.ensures)
 
-pub returns-in_err-written : goal.returns-in_err-written
-returns-in_err-written g c =
-    let p = err_from_is_err_and c.from_residual-in_err-written.result c.from_residual-in_err-written.ensures.1 in
-    rw (p.1, p.2) (stops_first 0 (g.W.Sink.taken c.args.sink.now) (items_text (changes_front (g.N.Namer.name_of c.args.repo.now.0) c.args.closed (history_of c.args.repo.now.1))))
+pub write_sent-requires-clause-set : goal.write_sent-requires-clause-set
+write_sent-requires-clause-set g c = (is_wanted c.args.repo.now.1, c.deref-2.ensures.value ∙ c.in_ok-reached.ensures)
 
-pub write_text-requires-clause-begins : goal.write_text-requires-clause-begins
-write_text-requires-clause-begins g c =
+pub returns : goal.returns
+returns g c =
     let r = c.args.repo.now.1 in
-    let new = c.in_ok-written.ensures in
-    let long = c.len.ensures.count ∙ ap (λ s. length s.1) c.store.ensures.held ∙ as_many (g.N.Namer.name_of c.args.repo.now.0) (g.met.N.Namer.is_namer c.args.repo.now.0) r c.store.ensures.sound in
-    record { reached = c.deref.ensures.value ∙ c.in_ok-reached.ensures; written = none_written r c.len.result c.in_ok-written.written long new.bytes new.count new.marks }
+    whole_sent (g.N.Namer.name_of c.args.repo.now.0) c.args.closed r (g.W.Sink.taken c.args.sink.now) (g.W.Sink.taken c.write_sent.new.sink) c.write_sent.result
+    (c.write_sent.ensures (is_wanted r) (is_wanted r) (c.deref.ensures.value ∙ c.in_ok-reached.ensures) (c.deref-2.ensures.value ∙ c.in_ok-reached.ensures))

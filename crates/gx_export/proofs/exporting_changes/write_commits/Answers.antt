@@ -3,104 +3,101 @@ use Rattle.std.specs.Prelude.{slice_index_or}
 use Rattle.std.proofs.lemmas.Result.{err_from_is_err_and}
 use Rattle.std.proofs.lemmas.List.{length-map, take_all}
 use Rattle.gx_model.specs.Changes.{all_changes, with_changes}
-use Rattle.gx_model.specs.Records.HistoryOf.{history_of}
 use Rattle.gx_model.specs.Laws.RepositoryLaws.{values_of}
 use Rattle.gx_model.specs.Histories.Marks.{holds}
+use Rattle.gx_export.specs.Branches.{picked, refs_of}
 use Rattle.gx_export.specs.ChangedParts.{one_on}
 use Rattle.gx_export.specs.FileTexts.{AreKept}
 use Rattle.gx_export.specs.Marks.{Adds}
 use Rattle.gx_export.specs.Outputs.{Stops}
-use Rattle.gx_rev.specs.Reached.{is_wanted}
 use Rattle.gx_export.specs.Texts.{items_of, items_text}
 use Rattle.gx_export.proofs.ChangedLists.{changed_first, changed_items, changed_last, changed_parted, changes_append, one_items}
-use Rattle.gx_export.proofs.CommitLists.{marked_commit, picked, picked_next, picked_parts, picked_passed}
+use Rattle.gx_export.proofs.CommitLists.{marked_commit, picked_next, picked_parts, picked_passed}
 use Rattle.gx_export.proofs.Numbering.{adds_later, adds_nothing}
 use Rattle.gx_export.proofs.Writing.{items_sooner}
 use Rattle.gx_export.proofs.exporting_changes.write_commits.Goals as goal
-use Rattle.gx_export.proofs.exporting_changes.write_commits.Goals.{then-reached-place+in_ok-write_changed_commit, else-reached-place}
+use Rattle.gx_export.proofs.exporting_changes.write_commits.Goals.{then-sent-place+in_ok-write_changed_commit, else-sent-place}
 
 pub loop-place-init : goal.loop-place-init
-loop-place-init g c = record {
-  adds = adds_nothing c.args.repo.now.1 [] c.args.written.now (g.W.Sink.taken c.args.sink.now) c.requires.begins.written;
-  kept = c.new-changes.ensures (g.N.Namer.name_of c.args.repo.now.0) c.args.repo.now.1 [];
-}
+loop-place-init g c = λ test e. (
+  adds_nothing c.args.repo.now.1 [] c.args.written.now (g.W.Sink.taken c.args.sink.now) c.requires.written,
+  c.new-changes.ensures (g.N.Namer.name_of c.args.repo.now.0) c.args.repo.now.1 [],
+)
 
 pub write_changed_commit-requires-clause-commit : goal.write_changed_commit-requires-clause-commit
 write_changed_commit-requires-clause-commit g c =
-    let name = g.N.Namer.name_of c.args.repo.now.0 in
-    let r = c.args.repo.now.1 in
-    let vs = values_of r in
-    let test = is_wanted r in
-    let refs = (history_of r).refs in
-    let taken = g.W.Sink.taken in
-    let m = marked_commit test vs c.loop-place.place (sym (ap (λ ms. slice_index_or ms c.loop-place.place false) c.requires.begins.reached) ∙ c.if-reached-place.true) in
+    let t = c.requires.sent in
+    let m = marked_commit t.0 (values_of c.args.repo.now.1) c.loop-place.place (sym (ap (λ ms. slice_index_or ms c.loop-place.place false) t.1) ∙ c.if-sent-place.true) in
     (m.0, m.1)
 
 pub write_changed_commit-requires-clause-written : goal.write_changed_commit-requires-clause-written
-write_changed_commit-requires-clause-written g c = (all_changes (picked (is_wanted c.args.repo.now.1) (take c.loop-place.place (values_of c.args.repo.now.1))), c.loop-place.invariant.adds.0, c.loop-place.invariant.kept)
+write_changed_commit-requires-clause-written g c =
+    let t = c.requires.sent in
+    let i = c.loop-place.invariant t.0 t.1 in
+    (all_changes (picked t.0 (take c.loop-place.place (values_of c.args.repo.now.1))), i.0.0, i.1)
 
 pub returns-in_err-write_changed_commit : goal.returns-in_err-write_changed_commit
 returns-in_err-write_changed_commit g c =
     let name = g.N.Namer.name_of c.args.repo.now.0 in
     let r = c.args.repo.now.1 in
     let vs = values_of r in
-    let test = is_wanted r in
-    let refs = (history_of r).refs in
+    let refs = refs_of r c.args.branches.now in
     let taken = g.W.Sink.taken in
+    let fault = c.in_err-write_changed_commit.field-0.0 in
     let p = err_from_is_err_and c.from_residual.result c.from_residual.ensures.1 in
-    let m = marked_commit test vs c.loop-place.place (sym (ap (λ ms. slice_index_or ms c.loop-place.place false) c.requires.begins.reached) ∙ c.if-reached-place.true) in
+    rw (p.1, p.2) (λ test e.
+    let m = marked_commit test vs c.loop-place.place (sym (ap (λ ms. slice_index_or ms c.loop-place.place false) e) ∙ c.if-sent-place.true) in
     let cs = picked test (take c.loop-place.place vs) in
-    let i = c.loop-place.invariant.adds in
-    let branch = c.of-branch.ensures ∙ c.requires.branches c.loop-place.place m.0 m.1 in
-    let stop = subst (λ b. Stops c.loop-place.written.bytes (taken c.loop-place.sink) (taken c.write_changed_commit.new.sink) (items_text (items_of (one_on name b (all_changes cs) m.0))) c.in_err-write_changed_commit.field-0.0) branch
-    (c.in_err-write_changed_commit.ensures.adds m.0 (all_changes cs) m.1 i.0 c.loop-place.invariant.kept) in
+    let i = c.loop-place.invariant test e in
+    let branch = c.of-branch.ensures ∙ c.requires.branches.found c.loop-place.place m.0 c.if-sent-place.true m.1 in
+    let stop = subst (λ b. Stops c.loop-place.written.bytes (taken c.loop-place.sink) (taken c.write_changed_commit.new.sink) (items_text (items_of (one_on name b (all_changes cs) m.0))) fault) branch (c.in_err-write_changed_commit.ensures.adds m.0 (all_changes cs) m.1 i.0.0 i.1) in
     let parts = picked_parts test vs c.loop-place.place m.0 m.1 m.2 in
     let rest = changed_items name refs (with_changes (all_changes cs) m.0) parts.0 in
     let all = ap (changed_items name refs []) parts.1 ∙ changed_parted name refs [] cs (m.0 ∷ parts.0) ∙ ap (λ is. changed_items name refs [] cs ++ is) (changed_first name refs (all_changes cs) m.0 parts.0) in
-    let later = adds_later r (all_changes cs) (all_changes cs) (changed_items name refs [] cs) (one_items name refs (all_changes cs) m.0 ++ rest) c.args.written.now c.loop-place.written c.loop-place.written (taken c.args.sink.now) (taken c.loop-place.sink) (taken c.write_changed_commit.new.sink) (Err c.in_err-write_changed_commit.field-0.0) i
-    (items_sooner c.loop-place.written.bytes (taken c.loop-place.sink) (taken c.write_changed_commit.new.sink) (one_items name refs (all_changes cs) m.0) rest c.in_err-write_changed_commit.field-0.0 stop) in
-    rw (p.1, p.2) (subst (λ is. Stops c.args.written.now.bytes (taken c.args.sink.now) (taken c.write_changed_commit.new.sink) (items_text is) c.in_err-write_changed_commit.field-0.0) (sym all) later)
+    let later = adds_later r (all_changes cs) (all_changes cs) (changed_items name refs [] cs) (one_items name refs (all_changes cs) m.0 ++ rest) c.args.written.now c.loop-place.written c.loop-place.written (taken c.args.sink.now) (taken c.loop-place.sink) (taken c.write_changed_commit.new.sink) (Err fault) i.0
+    (items_sooner c.loop-place.written.bytes (taken c.loop-place.sink) (taken c.write_changed_commit.new.sink) (one_items name refs (all_changes cs) m.0) rest fault stop) in
+    subst (λ is. Stops c.args.written.now.bytes (taken c.args.sink.now) (taken c.write_changed_commit.new.sink) (items_text is) fault) (sym all) later)
 
 pub loop-place-preserved : goal.loop-place-preserved
 loop-place-preserved g c =
     let name = g.N.Namer.name_of c.args.repo.now.0 in
     let r = c.args.repo.now.1 in
     let vs = values_of r in
-    let test = is_wanted r in
-    let refs = (history_of r).refs in
+    let refs = refs_of r c.args.branches.now in
     let taken = g.W.Sink.taken in
-    let cs = picked test (take c.loop-place.place vs) in
-    let i = c.loop-place.invariant.adds in
-    elim c.if-reached-place.branch [
-      | then-reached-place+in_ok-write_changed_commit w ↦
-          let m = marked_commit test vs c.loop-place.place (sym (ap (λ ms. slice_index_or ms c.loop-place.place false) c.requires.begins.reached) ∙ w.if-reached-place.true) in
-          let branch = w.of-branch.ensures ∙ c.requires.branches c.loop-place.place m.0 m.1 in
+    elim c.if-sent-place.branch [
+      | then-sent-place+in_ok-write_changed_commit w ↦
+          rw (w.written-is, w.sink-is, w.changes-is) (λ test e.
+          let cs = picked test (take c.loop-place.place vs) in
+          let i = c.loop-place.invariant test e in
+          let m = marked_commit test vs c.loop-place.place (sym (ap (λ ms. slice_index_or ms c.loop-place.place false) e) ∙ w.if-sent-place.true) in
+          let branch = w.of-branch.ensures ∙ c.requires.branches.found c.loop-place.place m.0 w.if-sent-place.true m.1 in
           let done = subst (λ b. Adds r (with_changes (all_changes cs) m.0) (items_of (one_on name b (all_changes cs) m.0)) c.loop-place.written w.write_changed_commit.new.written (taken c.loop-place.sink) (taken w.write_changed_commit.new.sink) (Ok tt)) branch
-          (w.in_ok-write_changed_commit.ensures.adds m.0 (all_changes cs) m.1 i.0 c.loop-place.invariant.kept) in
-          let later = adds_later r (all_changes cs) (with_changes (all_changes cs) m.0) (changed_items name refs [] cs) (one_items name refs (all_changes cs) m.0) c.args.written.now c.loop-place.written w.write_changed_commit.new.written (taken c.args.sink.now) (taken c.loop-place.sink) (taken w.write_changed_commit.new.sink) (Ok tt) i done in
-          let next = picked_next test vs c.loop-place.place m.0 m.1 m.2 in
-          rw (w.written-is, w.sink-is, w.changes-is) (record {
-            adds = subst (λ ds. Adds r (all_changes ds) (changed_items name refs [] ds) c.args.written.now w.write_changed_commit.new.written (taken c.args.sink.now) (taken w.write_changed_commit.new.sink) (Ok tt)) (sym next)
+          (w.in_ok-write_changed_commit.ensures.adds m.0 (all_changes cs) m.1 i.0.0 i.1) in
+          let later = adds_later r (all_changes cs) (with_changes (all_changes cs) m.0) (changed_items name refs [] cs) (one_items name refs (all_changes cs) m.0) c.args.written.now c.loop-place.written w.write_changed_commit.new.written (taken c.args.sink.now) (taken c.loop-place.sink) (taken w.write_changed_commit.new.sink) (Ok tt) i.0 done in
+          let next = picked_next test vs c.loop-place.place m.0 m.1 m.2 in (
+            subst (λ ds. Adds r (all_changes ds) (changed_items name refs [] ds) c.args.written.now w.write_changed_commit.new.written (taken c.args.sink.now) (taken w.write_changed_commit.new.sink) (Ok tt)) (sym next)
                 (subst (λ ws. Adds r ws (changed_items name refs [] (cs ++ m.0 ∷ [])) c.args.written.now w.write_changed_commit.new.written (taken c.args.sink.now) (taken w.write_changed_commit.new.sink) (Ok tt)) (sym (changes_append [] cs (m.0 ∷ [])))
-                (subst (λ is. Adds r (with_changes (all_changes cs) m.0) is c.args.written.now w.write_changed_commit.new.written (taken c.args.sink.now) (taken w.write_changed_commit.new.sink) (Ok tt)) (sym (changed_last name refs cs m.0)) later));
-            kept = subst (λ ds. AreKept name r (all_changes ds) w.write_changed_commit.new.changes.files) (sym next) (subst (λ ws. AreKept name r ws w.write_changed_commit.new.changes.files) (sym (changes_append [] cs (m.0 ∷ []))) (w.in_ok-write_changed_commit.ensures.kept m.0 (all_changes cs) m.1 i.0 c.loop-place.invariant.kept));
-          })
-      | else-reached-place w ↦
-          let next = picked_passed test vs c.loop-place.place (sym (ap (λ ms. slice_index_or ms c.loop-place.place false) c.requires.begins.reached) ∙ w.if-reached-place.false) in
-          rw (w.written-is, w.sink-is, w.changes-is) (record {
-            adds = subst (λ ds. Adds r (all_changes ds) (changed_items name refs [] ds) c.args.written.now c.loop-place.written (taken c.args.sink.now) (taken c.loop-place.sink) (Ok tt)) (sym next) i;
-            kept = subst (λ ds. AreKept name r (all_changes ds) c.loop-place.changes.files) (sym next) c.loop-place.invariant.kept;
-          })
+                (subst (λ is. Adds r (with_changes (all_changes cs) m.0) is c.args.written.now w.write_changed_commit.new.written (taken c.args.sink.now) (taken w.write_changed_commit.new.sink) (Ok tt)) (sym (changed_last name refs cs m.0)) later)),
+            subst (λ ds. AreKept name r (all_changes ds) w.write_changed_commit.new.changes.files) (sym next)
+                (subst (λ ws. AreKept name r ws w.write_changed_commit.new.changes.files) (sym (changes_append [] cs (m.0 ∷ []))) (w.in_ok-write_changed_commit.ensures.kept m.0 (all_changes cs) m.1 i.0.0 i.1)),
+          ))
+      | else-sent-place w ↦
+          rw (w.written-is, w.sink-is, w.changes-is) (λ test e.
+          let i = c.loop-place.invariant test e in
+          let next = picked_passed test vs c.loop-place.place (sym (ap (λ ms. slice_index_or ms c.loop-place.place false) e) ∙ w.if-sent-place.false) in (
+            subst (λ ds. Adds r (all_changes ds) (changed_items name refs [] ds) c.args.written.now c.loop-place.written (taken c.args.sink.now) (taken c.loop-place.sink) (Ok tt)) (sym next) i.0,
+            subst (λ ds. AreKept name r (all_changes ds) c.loop-place.changes.files) (sym next) i.1,
+          ))
     ]
 
 pub returns : goal.returns
-returns g c =
+returns g c = λ test e.
     let name = g.N.Namer.name_of c.args.repo.now.0 in
     let r = c.args.repo.now.1 in
     let vs = values_of r in
-    let test = is_wanted r in
-    let refs = (history_of r).refs in
+    let refs = refs_of r c.args.branches.now in
     let taken = g.W.Sink.taken in
-    let long : length c.args.reached.now ≡ length vs = ap length c.requires.begins.reached ∙ length-map vs (holds test) in
+    let long : length c.args.sent.now ≡ length vs = ap length e ∙ length-map vs (holds test) in
     let all : length vs ≤ c.loop-place.place = omega (arith, long, c.loop-place-test.false) in
-    subst (λ us. Adds r (all_changes (picked test us)) (changed_items name refs [] (picked test us)) c.args.written.now c.loop-place.written (taken c.args.sink.now) (taken c.loop-place.sink) (Ok tt)) (take_all c.loop-place.place vs all) c.loop-place.invariant.adds
+    subst (λ us. Adds r (all_changes (picked test us)) (changed_items name refs [] (picked test us)) c.args.written.now c.loop-place.written (taken c.args.sink.now) (taken c.loop-place.sink) (Ok tt)) (take_all c.loop-place.place vs all) (c.loop-place.invariant test e).0

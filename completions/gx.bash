@@ -94,6 +94,7 @@ __gx_options() {
     batch) __gx_answer '' "$1" --check --help ;;
     adapt) __gx_answer '' "$1" --drop-signatures --help ;;
     import | try) __gx_answer '' "$1" --done --force --help ;;
+    export) __gx_answer '' "$1" --changes --no-done --help ;;
     log) __gx_answer '' "$1" --reverse --max-count --parents --help ;;
     *) __gx_answer '' "$1" --help ;;
   esac

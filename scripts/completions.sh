@@ -96,6 +96,8 @@ line 'gx drop store m'
 line 'gx drop store refs/h' refs/heads/main refs/heads/topic
 line 'gx drop store refs/heads/main refs/ta' 'refs/tags/\$\(\>ran\)' refs/tags/v1
 line 'gx export su' sub
+line 'gx export --' --changes --no-done --help
+line 'gx export --changes st' store
 line 'gx export store '
 line 'gx init store '
 line 'gx show store m' main

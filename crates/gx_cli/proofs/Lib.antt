@@ -12,6 +12,7 @@ pub mod WordsRead
 pub mod ReadStores
 pub mod ExportedStores
 pub mod RoundTrips
+pub mod ChangesTrips
 pub mod Gathered
 pub mod ServedLines
 pub mod DroppedStores

@@ -33,12 +33,12 @@ use Rattle.gx_cli.specs.declared.trips.RoundTrip.{RoundTrip}
 abbrev pub Accepts : Outcome → Option Taken → Option Taken → History → model.Report → Type 0
 Accepts replay was now h report = (text : Bytes) × (replay ≡ finished h text report) × Took was now text
 
--- the text of a history's export is given, unless memory ran out or it has more than 2^63 - 1 bytes
-abbrev pub ExportsText : {A : Type 0} → History → Result (Vec ℕ A) CliFault → Type 0
-ExportsText h (Ok text) = (text.items ≡ export_text h) × (length text.items ≤ most)
-ExportsText h (Err OutOfMemory) = ⊤
-ExportsText h (Err (Export fault)) = most < length (export_text h)
-ExportsText h (Err fault) = ⊥
+-- this text is given, unless memory ran out or it has more than 2^63 - 1 bytes
+abbrev pub GivesText : {A : Type 0} → Bytes → Result (Vec ℕ A) CliFault → Type 0
+GivesText text (Ok given) = (given.items ≡ text) × (length given.items ≤ most)
+GivesText text (Err OutOfMemory) = ⊤
+GivesText text (Err (Export fault)) = most < length text
+GivesText text (Err fault) = ⊥
 
 -- the import of an export into an empty store makes that repository again, unless memory ran out or the sink failed
 abbrev pub ImportsAgainOr : {N : Type 0} → Records → Result (N × Records) ImportFault → Type 0
@@ -49,7 +49,25 @@ ImportsAgainOr exported (Err fault) = ((fault.kind ≡ kind.OutOfMemory) ⊎ (fa
 -- than 2^63 - 1 bytes
 abbrev pub ExportsAgain : {N A : Type 0} → Records → Result ((N × Records) × Vec ℕ A) CliFault → Type 0
 ExportsAgain first (Ok made) = (made.1.items ≡ export_text (history_of first)) × IsExported first made.0.1
-ExportsAgain {N} {A} first (Err fault) = ExportsText {A = A} (history_of first) (Err fault)
+ExportsAgain {N} {A} first (Err fault) = GivesText {A = A} (export_text (history_of first)) (Err fault)
+
+-- A trip has this report, and such a history comes back by it, whose export is this text.
+module _ (name : Kind → Bytes → Bytes) {T : Type 0} (told : T → Report) (IsBack : History → T → Type 0) (text_of : History → Bytes) where
+  -- What the commands give when they are replayed comes back; or the import is refused; or memory ran out after it, or the
+  -- export has more than 2^63 - 1 bytes.
+  abbrev pub ReturnsFrom : Commands → Outcome → Option Taken → Option Taken → Result T CliFault → Type 0
+  ReturnsFrom commands replay was now (Ok trip) = (h : History) × Accepts replay was now h (report_of (told trip)) × IsBack h trip
+  ReturnsFrom commands replay was now (Err (Import fault)) = Refuses name no_features commands replay was now fault
+  ReturnsFrom commands replay was now (Err OutOfMemory) = (h : History) × (report : model.Report) × Accepts replay was now h report
+  ReturnsFrom commands replay was now (Err (Export fault)) =
+      (h : History) × (report : model.Report) × Accepts replay was now h report × (most < length (text_of h))
+  ReturnsFrom commands replay was now (Err fault) = ⊥
+
+  -- The same of the commands of a source. Where it tells nothing, there are commands that a reader gives.
+  abbrev pub Returns : Option Coming → Option Taken → Option Taken → Result T CliFault → Type 0
+  Returns None was now answer = (commands : Commands) × AreRead commands × ReturnsFrom commands (replayed_on no_features name nothing commands) was now answer
+  Returns (Some coming) was now answer =
+      ReturnsFrom (commands_from coming) (imported name no_history (heard coming).bytes (heard coming).fails) was now answer
 
 module _ (name : Kind → Bytes → Bytes) (revision : Revision) (path : Path) {N A : Type 0} where
   pub record ComesBack (h : History) (trip : RoundTrip N A) : Type 0 where
@@ -65,20 +83,9 @@ module _ (name : Kind → Bytes → Bytes) (revision : Revision) (path : Path) {
   -- What an import made comes back, with its report; or memory ran out, or the export has more than 2^63 - 1 bytes.
   abbrev pub ComesBackOr : Report → N × Records → Result (RoundTrip N A) CliFault → Type 0
   ComesBackOr report first (Ok trip) = (trip.first ≡ first) × (trip.report ≡ report) × ComesBack (history_of first.1) trip
-  ComesBackOr report first (Err fault) = ExportsText {A = A} (history_of first.1) (Err fault)
+  ComesBackOr report first (Err fault) = GivesText {A = A} (export_text (history_of first.1)) (Err fault)
 
-  -- What the commands give when they are replayed comes back; or the import is refused; or memory ran out after it, or the
-  -- export has more than 2^63 - 1 bytes.
-  abbrev pub ComesBackFrom : Commands → Outcome → Option Taken → Option Taken → Result (RoundTrip N A) CliFault → Type 0
-  ComesBackFrom commands replay was now (Ok trip) = (h : History) × Accepts replay was now h (report_of trip.report) × ComesBack h trip
-  ComesBackFrom commands replay was now (Err (Import fault)) = Refuses name no_features commands replay was now fault
-  ComesBackFrom commands replay was now (Err OutOfMemory) = (h : History) × (report : model.Report) × Accepts replay was now h report
-  ComesBackFrom commands replay was now (Err (Export fault)) =
-      (h : History) × (report : model.Report) × Accepts replay was now h report × (most < length (export_text h))
-  ComesBackFrom commands replay was now (Err fault) = ⊥
-
-  -- The same of the commands of a source. Where it tells nothing, there are commands that a reader gives.
+  -- What the commands of a source give when they are replayed comes back; or the import is refused; or memory ran out after
+  -- it, or the export has more than 2^63 - 1 bytes.
   abbrev pub RoundTrips : Option Coming → Option Taken → Option Taken → Result (RoundTrip N A) CliFault → Type 0
-  RoundTrips None was now answer = (commands : Commands) × AreRead commands × ComesBackFrom commands (replayed_on no_features name nothing commands) was now answer
-  RoundTrips (Some coming) was now answer =
-      ComesBackFrom (commands_from coming) (imported name no_history (heard coming).bytes (heard coming).fails) was now answer
+  RoundTrips = Returns name (λ (trip : RoundTrip N A). trip.report) ComesBack export_text

@@ -1,6 +1,7 @@
 pub mod Listings
 pub mod Trying
 pub mod Headline
+pub mod ChangesTrips
 pub mod Stored
 pub mod Storing
 pub mod FileLines
@@ -10,6 +11,7 @@ pub mod Answers
 pub mod Gathering
 pub mod Placing
 pub mod Opening
+pub mod Forms
 pub mod Serving
 pub mod Again
 pub mod Parts

@@ -52,6 +52,7 @@ use Rattle.gx_cli.specs.Storing.{Answer, ImportsStored}
 use Rattle.gx_cli.specs.Trying.{ImportsAlone, Shows, Tries}
 use Rattle.gx_cli.specs.Words.{GivesWords}
 use Rattle.gx_blobs.specs.declared.blob_names.BlobsFault.{BlobsFault}
+use Rattle.gx_line.specs.declared.command_line.ExportForm.{ExportForm}
 use Rattle.gx_line.specs.declared.command_line.Line.{Line}
 use Rattle.gx_line.specs.declared.command_line.LogOptions.{LogOptions}
 use Rattle.gx_cli.specs.declared.fault.CliFault.{CliFault}
@@ -165,9 +166,9 @@ module _ {N W : Type 0} (name_of : N → Kind → Bytes → Bytes) (taken : W �
   abbrev pub ServesStored : {A : Type 0} → N → Line → StoreBytes A → Option Coming → W → W → Outcome A → Type 0
   ServesStored namer line store coming old new o = Serves (name_of namer) line (bytes_of store) coming (taken old) (taken new) o
 
-  -- the export of the store of these bytes goes out, and how the command ends
-  abbrev pub SendsStored : {A : Type 0} → N → StoreBytes A → W → W → Outcome A → Type 0
-  SendsStored namer store old new o = ExportsStore (name_of namer) (bytes_of store) (taken old) (taken new) o
+  -- the export in a form of the store of these bytes goes out, and how the command ends
+  abbrev pub SendsStored : {A : Type 0} → N → ExportForm → StoreBytes A → W → W → Outcome A → Type 0
+  SendsStored namer form store old new o = ExportsStore (name_of namer) form (bytes_of store) (taken old) (taken new) o
 
   -- a stream is imported into the store of these bytes, and the next store text is told, and what was imported
   abbrev pub ImportsToStored : {A : Type 0} → N → Features → StoreBytes A → Option Coming → W → W → Outcome A × Option Report → Type 0

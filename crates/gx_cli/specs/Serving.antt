@@ -24,13 +24,13 @@ use Rattle.gx_adapt.specs.declared.report.Report.{Report as AdaptReport}
 use Rattle.gx_batch.specs.Answers.{batch_answer as answered_by}
 use Rattle.gx_batch.specs.Batches.{Answers}
 use Rattle.gx_batch.specs.declared.fault.BatchFault.{BatchFault}
-use Rattle.gx_export.specs.Exports.{Exports}
 use Rattle.gx_repo.specs.Dropping.{dropped}
 use Rattle.gx_rev.specs.declared.fault.RevFault.TheVariants.{UnknownRef}
 use Rattle.gx_export.specs.declared.fault.ExportFault.{ExportFault}
 use Rattle.gx_model.specs.declared.store_faults.FileFault.{FileFault}
 use Rattle.gx_model.specs.declared.store_faults.FileFault.TheVariants as file
 use Rattle.gx_blobs.specs.declared.blob_names.BlobsFault.{BlobsFault}
+use Rattle.gx_line.specs.declared.command_line.ExportForm.{ExportForm}
 use Rattle.gx_line.specs.declared.command_line.Line.{Line}
 use Rattle.gx_line.specs.declared.command_line.Line.TheVariants as line
 use Rattle.gx_cli.specs.declared.fault.CliFault.{CliFault}
@@ -39,6 +39,7 @@ use Rattle.gx_cli.specs.declared.questions.Question.TheVariants as question
 use Rattle.gx_cli.specs.declared.fault.CliFault.TheVariants.{Blobs, Export, Import, OutOfMemory, Revision, Store}
 use Rattle.gx_cli.specs.declared.serving.Outcome.{Outcome}
 use Rattle.gx_cli.specs.Answers.{Prints}
+use Rattle.gx_cli.specs.Forms.{ExportsAs}
 use Rattle.gx_cli.specs.Gathering.{AdaptsStream, batch_answer}
 use Rattle.gx_cli.specs.Placing.{PlacesFrom}
 use Rattle.gx_blobs.specs.Printing.{PrintsBlobs}
@@ -101,19 +102,21 @@ IsUnopened was now o = IsRefused (Store file.OutOfMemory) o × (now ≡ was)
 abbrev pub IsUnread : {A : Type 0} → FileFault → Option Taken → Option Taken → Outcome A → Type 0
 IsUnread f was now o = (why : FileFault) × ((why ≡ file.OutOfMemory) ⊎ (f ≡ why)) × IsRefused (Store why) o × (now ≡ was)
 
--- a repository's export goes out, with its fault among those of the commands
-abbrev pub SendsExport : Records → Option Taken → Option Taken → Result (Unit {0}) CliFault → Type 0
-SendsExport repository was now r = (answer : Result (Unit {0}) ExportFault) × Exports repository was now answer × (r ≡ export_answer answer)
+-- a repository's export in a form goes out, with its fault among those of the commands
+abbrev pub SendsExport : (Kind → Bytes → Bytes) → ExportForm → Records → Option Taken → Option Taken → Result (Unit {0}) CliFault → Type 0
+SendsExport name form repository was now r =
+    (answer : Result (Unit {0}) ExportFault) × ExportsAs name form repository was now answer × (r ≡ export_answer answer)
 
--- the export of the store that a text was read as
-abbrev pub ExportsStored : {A : Type 0} → Stored Records → Option Taken → Option Taken → Outcome A → Type 0
-ExportsStored (Ok repository) was now o =
-    IsUnopened was now o ⊎ ((answer : Result (Unit {0}) ExportFault) × Exports repository was now answer × IsOutcome (export_answer answer) o)
-ExportsStored (Err f) was now o = IsUnread f was now o
+-- the export in a form of the store that a text was read as
+abbrev pub ExportsStored : {A : Type 0} → (Kind → Bytes → Bytes) → ExportForm → Stored Records → Option Taken → Option Taken → Outcome A → Type 0
+ExportsStored name form (Ok repository) was now o =
+    IsUnopened was now o
+    ⊎ ((answer : Result (Unit {0}) ExportFault) × ExportsAs name form repository was now answer × IsOutcome (export_answer answer) o)
+ExportsStored name form (Err f) was now o = IsUnread f was now o
 
--- the export of the store of a text, which is read first
-abbrev pub ExportsStore : {A : Type 0} → (Kind → Bytes → Bytes) → Bytes → Option Taken → Option Taken → Outcome A → Type 0
-ExportsStore name text was now o = ExportsStored (store_of name text) was now o
+-- the export in a form of the store of a text, which is read first
+abbrev pub ExportsStore : {A : Type 0} → (Kind → Bytes → Bytes) → ExportForm → Bytes → Option Taken → Option Taken → Outcome A → Type 0
+ExportsStore name form text was now o = ExportsStored name form (store_of name text) was now o
 
 -- what a question prints of a store
 abbrev pub printed_by : (Kind → Bytes → Bytes) → Question → Records → Printed
@@ -183,7 +186,7 @@ module _ (name : Kind → Bytes → Bytes) {A : Type 0} where
   Serves (line.Init file) store coming was now o = IsWritten name nothing o × (now ≡ was)
   Serves (line.Import file done force) store coming was now o = (told : Option Report) × ImportsInto (features_of done force) store coming was now (o, told)
   Serves (line.Drop file words) store coming was now o = DropsRefs (store_of name store) (texts_of words.items) o × (now ≡ was)
-  Serves (line.Export file) store coming was now o = ExportsStore name store was now o
+  Serves (line.Export form file) store coming was now o = ExportsStore name form store was now o
   Serves (line.Show file word) store coming was now o = PrintsStored (store_of name store) (λ r. show_text name (history_of r) word.now) was now o
   Serves (line.Ls recursive file word) store coming was now o = PrintsStored (store_of name store) (λ r. list_text name recursive (history_of r) word.now) was now o
   Serves (line.Refs file) store coming was now o = PrintsStored (store_of name store) (λ r. Ok (refs_text r)) was now o

@@ -4,6 +4,7 @@
 
 mod adapting;
 mod batching;
+mod changes_trips;
 mod dropping;
 mod exporting;
 mod fault;
@@ -27,11 +28,12 @@ mod trying;
 mod words;
 
 pub use adapting::adapt_stream;
+pub use changes_trips::{ChangesTrip, trip_by_changes};
 pub use fault::CliFault;
 pub use gx_adapt::Report as AdaptReport;
 pub use gx_blobs::{BlobsFault, BlobsKind, blobs};
 pub use gx_import::Report as ImportReport;
-pub use gx_line::{Line, LineFault, LogOptions, read_line};
+pub use gx_line::{ExportForm, Line, LineFault, LogOptions, read_line};
 pub use gx_model::Features;
 pub use gx_repo::Repo;
 pub use importing::import_into;

@@ -36,7 +36,8 @@ pub struct Outcome<A: Allocator> {
 /// and `batch` read their source then. Only `init`, `import` and `drop` answer a next store text: where they are accepted, and
 /// `import` also where it is refused after a checkpoint.
 ///
-/// Importing what was exported makes the repository again, as far as its refs reach: the same refs and object names.
+/// Importing what was exported with all files makes the repository again, as far as its refs reach: the same refs and object
+/// names. What was exported by its changes does so, too, as [`trip_by_changes`](crate::trip_by_changes) has it.
 ///
 /// Cost: that of reading the store's text, where one is read; for `import` also that of the import and the next text, and for
 /// `export` that of the export.
@@ -118,7 +119,7 @@ fn serve_bytes<N: Namer + Drop, R: Source + Drop, W: Sink, A: Allocator + Copy>(
         Line::Batch { check, file: _ } => {
             batch_stored(alloc, namer, *check, store, source, sink, state)
         }
-        Line::Export { file: _ } => export_stored(alloc, namer, store, sink, state),
+        Line::Export { form, file: _ } => { export_stored(alloc, namer, *form, store, sink, state) }
         Line::Drop { file: _, refs } => drop_stored(alloc, namer, store, refs.as_slice(), state),
         Line::Show { file: _, revision } => {
             print_stored(alloc, namer, Question::Show(revision), store, sink, state)

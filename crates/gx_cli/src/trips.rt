@@ -5,12 +5,14 @@ ghost use Rattle.gx_model.specs.Export.{export_text};
 ghost use Rattle.gx_model.specs.Streams.Gitlinks.{HoldsNoNullGitlink};
 ghost use Rattle.gx_model.specs.Records.HistoryOf.{history_of};
 ghost use Rattle.gx_export.specs.Outputs.{most};
-ghost use Rattle.gx_cli.specs.Headline.{ComesBackOr, ExportsAgain, ExportsText, ImportsAgainOr, RoundTrips};
+ghost use Rattle.gx_cli.specs.Forms.{text_as};
+ghost use Rattle.gx_cli.specs.Headline.{ComesBackOr, ExportsAgain, GivesText, ImportsAgainOr, RoundTrips};
 
-use crate::CliFault;
+use crate::exporting::export_as;
 use crate::growing::Growing;
 use crate::trying::look_in;
-use gx_export::{ExportFault, export};
+use crate::{CliFault, ExportForm};
+use gx_export::ExportFault;
 use gx_import::{ImportFault, Report, import};
 use gx_model::gitlink_laws::replays_keep_none;
 use gx_object::{Mode, Namer};
@@ -101,7 +103,7 @@ fn export_again<N: Namer + Drop, A: Allocator + Copy>(
     ensures namer { IfOk result (λ made. made.0.0 ≡ namer) }
     ensures made { ExportsAgain first.now.1 result }
 {
-    match exported(alloc, first) {
+    match exported(alloc, first, ExportForm::FullTree) {
         Ok(text) => match import_again(alloc, first, namer, text.as_slice(), state) {
             Ok(again) => Ok((again, text)),
             Err(_) => Err(CliFault::OutOfMemory),
@@ -110,15 +112,16 @@ fn export_again<N: Namer + Drop, A: Allocator + Copy>(
     }
 }
 
-/// The text that a repository is exported as.
-fn exported<N: Namer, A: Allocator + Copy>(
+/// The text that a repository is exported as in this form.
+pub(crate) fn exported<N: Namer, A: Allocator + Copy>(
     alloc: A,
     repo: &Repo<N, A>,
+    form: ExportForm,
 ) -> Result<Vec<u8, A>, CliFault>
-    ensures { ExportsText (history_of repo.now.1) result }
+    ensures { GivesText (text_as (N.name_of repo.now.0) form (history_of repo.now.1)) result }
 {
     let mut sink = Growing::new(alloc);
-    match export(alloc, repo, &mut sink) {
+    match export_as(alloc, repo, form, &mut sink) {
         Ok(()) => Ok(sink.into_bytes()),
         Err(ExportFault::WriteFailed { written }) => {
             if sink.has_failed() {

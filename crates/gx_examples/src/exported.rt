@@ -6,7 +6,7 @@ use crate::commands::{Task, ran, stored, tried};
 use crate::steps::step_of;
 use crate::texts::text;
 use generated::history;
-use gx_cli::Line;
+use gx_cli::{ExportForm, Line};
 use gx_text::{Bytes, Held};
 use std::alloc::Global;
 use std::hash::RandomState;
@@ -22,16 +22,28 @@ const OF_HISTORY: &str =
 #[test]
 fn imported_export_has_the_same_refs_commits_and_export(rt: HostRuntime) -> Result<(), Fail> {
     let state = RandomState::new(&rt)?;
-    assert!(rt; comes_again(rt.alloc(), text("two branches"), OF_BRANCHES, state));
     let many = history(rt.alloc())?;
-    assert!(rt; comes_again(rt.alloc(), &many, OF_HISTORY, state));
+    for form in [
+        ExportForm::FullTree,
+        ExportForm::Changes { done: true },
+        ExportForm::Changes { done: false },
+    ] {
+        assert!(rt; comes_again(rt.alloc(), text("two branches"), OF_BRANCHES, form, state));
+        assert!(rt; comes_again(rt.alloc(), &many, OF_HISTORY, form, state));
+    }
     Ok(())
 }
 
-/// Whether commands print the same of the store of a stream, and of the store that its export makes.
-fn comes_again(alloc: Global, stream: &[u8], script: &str, state: RandomState) -> bool {
+/// Whether commands print the same of the store of a stream, and of the store that its export in this form makes.
+fn comes_again(
+    alloc: Global,
+    stream: &[u8],
+    script: &str,
+    form: ExportForm,
+    state: RandomState,
+) -> bool {
     match stored(alloc, stream, state) {
-        Some(store) => match exported(alloc, &store, state) {
+        Some(store) => match exported(alloc, &store, form, state) {
             Some(again) => print_alike(alloc, &store, &again, script, state),
             None => false,
         },
@@ -39,12 +51,15 @@ fn comes_again(alloc: Global, stream: &[u8], script: &str, state: RandomState) -
     }
 }
 
-/// The text of the store that the export of a store makes; none where either is refused.
-fn exported(alloc: Global, store: &[u8], state: RandomState) -> Option<Vec<u8>> {
+/// The text of the store that the export of a store in this form makes; none where either is refused.
+fn exported(alloc: Global, store: &[u8], form: ExportForm, state: RandomState) -> Option<Vec<u8>> {
     let Ok(mut sink) = Held::new(alloc, 100_000) else {
         return None;
     };
-    let line = Line::Export { file: "store" };
+    let line = Line::Export {
+        form,
+        file: "store",
+    };
     if ran(
         alloc,
         &line,

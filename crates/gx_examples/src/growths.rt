@@ -68,7 +68,7 @@ fn is_refused_at<'a, B: Allocator>(
 
 /// Whether memory ran out, as this command says it.
 fn is_memory(line: &Line<'_>, fault: CliFault) -> bool {
-    let is_export = matches!(line, Line::Export { file: _ });
+    let is_export = matches!(line, Line::Export { form: _, file: _ });
     let is_refs = matches!(line, Line::Refs { file: _ });
     let has_store = !matches!(
         line,
@@ -104,7 +104,8 @@ fn is_left(line: &Line<'_>, printed: &[u8], whole: &[u8]) -> bool {
             force: _,
         }
         | Line::Adapt { drop_signatures: _ } => whole.starts_with(printed),
-        Line::Export { file: _ } | Line::Batch { check: _, file: _ } => whole.starts_with(printed),
+        Line::Export { form: _, file: _ } => whole.starts_with(printed),
+        Line::Batch { check: _, file: _ } => whole.starts_with(printed),
         _ => printed.is_empty(),
     }
 }

@@ -5,6 +5,8 @@
 #[cfg(test)]
 mod blob_names;
 #[cfg(test)]
+mod changes_trips;
+#[cfg(test)]
 mod commands;
 #[cfg(test)]
 mod exported;

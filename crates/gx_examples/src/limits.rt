@@ -25,6 +25,7 @@ $ import store %%% 12 % version
 $ init store %%% 1
 $ export store %% export of two branches % 21 % two branches
 $ export store %% export of modes % 21 % modes
+$ export --changes store %% changes of two branches % 21 % two branches
 $ drop store refs/heads/main %%% 9 % root
 $ adapt % rough % mended % 2
 $ where 2 % mended %
@@ -158,7 +159,7 @@ fn stops_at(
 /// Why a command that prints this is refused whose sink has room for so many bytes: a try's import may be in its progress.
 fn refusal_at(line: &Line<'_>, printed: &[u8], room: usize) -> CliFault {
     match line {
-        Line::Export { file: _ } => CliFault::Export(ExportFault::WriteFailed {
+        Line::Export { form: _, file: _ } => CliFault::Export(ExportFault::WriteFailed {
             written: room as u64,
         }),
         Line::Adapt { drop_signatures: _ } => CliFault::Adapt(AdaptFault::WriteFailed),

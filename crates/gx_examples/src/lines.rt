@@ -18,6 +18,9 @@ $ init|f % Init { file: \"f\" }
 $ import|f % Import { file: \"f\", done: false, force: false }
 $ import|--force|f|--done % Import { file: \"f\", done: true, force: true }
 $ drop|f|refs/heads/a|b % Drop { file: \"f\", refs: [\"refs/heads/a\", \"b\"] }
+$ export|f % Export { form: FullTree, file: \"f\" }
+$ export|--changes|f % Export { form: Changes { done: true }, file: \"f\" }
+$ export|f|--no-done|--changes % Export { form: Changes { done: false }, file: \"f\" }
 $ show|f|main:a b % Show { file: \"f\", revision: \"main:a b\" }
 $ show|-|x % Show { file: \"-\", revision: \"x\" }
 $ ls|f|x % Ls { recursive: false, file: \"f\", revision: \"x\" }
@@ -68,6 +71,10 @@ $ where|1|f % refused
 $ init % refused
 $ import % refused
 $ drop|f % refused
+$ export % refused
+$ export|--no-done|f % refused
+$ export|--changes|--changes|f % refused
+$ export|--changes=yes|f % refused
 $ show|f % refused
 $ show|f|a|b % refused
 $ ls|f % refused
@@ -114,6 +121,8 @@ $ init|--help % help %
 Usage: gx init <FILE>
 $ drop|--help % help %
 Usage: gx drop <FILE> <REF>...
+$ export|--help % help %
+Usage: gx export [OPTIONS] <FILE>
 $ import|--help % help %
 Usage: gx import [OPTIONS] <FILE>
 $ show|--help % help %

@@ -187,7 +187,7 @@ fn comes_back(
 }
 
 /// Whether two repositories have the same refs.
-fn have_same_refs<A: Allocator + Copy>(
+pub(crate) fn have_same_refs<A: Allocator + Copy>(
     one: &Repo<Sha1Namer, A>,
     other: &Repo<Sha1Namer, A>,
 ) -> bool {

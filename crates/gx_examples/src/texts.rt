@@ -255,4 +255,50 @@ tagger A <a@x> 4 +0000
 data 1
 t
 done
+%changes of two branches
+feature done
+blob
+mark :1
+data 6
+hello
+
+reset refs/heads/a
+commit refs/heads/a
+mark :2
+author A <a@x> 1 +0000
+committer A <a@x> 1 +0000
+data 1
+p
+M 100644 :1 f
+
+reset refs/heads/a
+commit refs/heads/a
+mark :3
+author A <a@x> 2 +0000
+committer A <a@x> 2 +0000
+data 1
+q
+M 160000 d670460b4b4aece5915caf5c68d12f560a9fe3e4 sub
+
+commit refs/heads/a
+mark :4
+author A <a@x> 3 +0000
+committer A <a@x> 3 +0000
+data 1
+m
+from :2
+merge :3
+
+reset refs/heads/a
+from :4
+
+reset refs/heads/b
+from :3
+
+tag t
+from :4
+tagger A <a@x> 4 +0000
+data 1
+t
+done
 ";

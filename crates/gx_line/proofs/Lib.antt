@@ -1,2 +1,3 @@
 pub mod Weaker
 pub mod MadeCommands
+pub mod NeededArguments

@@ -1,5 +1,5 @@
 -- The command line of gx: what clap is told of it, and what a line says of the words that clap took.
-use Rattle.std.specs.Prelude.{◌≡◌, ⊤, ℕ, Bool, true, false, List, [], map, Option, Some, None, Result, IfOk, codes, IsSomeAnd}
+use Rattle.std.specs.Prelude.{◌≡◌, ⊤, ℕ, Bool, true, false, not, List, [], map, Option, Some, None, Result, IfOk, codes, IsSomeAnd}
 use Rattle.std.specs.Borrow.{Bor}
 use Rattle.std.specs.Str.Parse.{ParsesUnsigned}
 use Rattle.std.specs.declared.num.ParseIntError.{ParseIntError}
@@ -11,6 +11,8 @@ use Rattle.clap.specs.declared.builder.action.ArgAction.TheVariants.{SetTrue}
 use Rattle.clap.specs.declared.builder.value_parser.ValueParser.TheVariants as parser
 use Rattle.clap.specs.declared.error.kind.ErrorKind.{ErrorKind}
 use Rattle.clap.specs.declared.error.kind.ErrorKind.TheVariants.{DisplayHelp, DisplayVersion}
+use Rattle.gx_line.specs.declared.command_line.ExportForm.{ExportForm}
+use Rattle.gx_line.specs.declared.command_line.ExportForm.TheVariants.{Changes, FullTree}
 use Rattle.gx_line.specs.declared.command_line.Line.{Line}
 use Rattle.gx_line.specs.declared.command_line.Line.TheVariants.{Blobs, Try, Adapt, Where, Init, Import, Drop, Export, Show, Ls, Batch, Refs, Log, RevParse}
 use Rattle.gx_line.specs.declared.command_line.LineFault.{LineFault}
@@ -72,6 +74,13 @@ force = flag (codes "force")
 abbrev pub drop_signatures : Rule
 drop_signatures = flag (codes "drop-signatures")
 
+abbrev pub changes : Rule
+changes = flag (codes "changes")
+
+-- a flag that is refused where it stands without --changes
+abbrev pub no_done : Rule
+no_done = record (flag (codes "no-done")) { is_free = false }
+
 abbrev pub reverse : Rule
 reverse = flag (codes "reverse")
 
@@ -109,6 +118,9 @@ import_command = with_features (file_command (codes "import"))
 
 abbrev pub drop_command : App
 drop_command = with_rule (file_command (codes "drop")) (words (codes "ref"))
+
+abbrev pub export_command : App
+export_command = with_rule (with_rule (file_command (codes "export")) changes) no_done
 
 abbrev pub where_command : App
 where_command = with_rule (new_app (codes "where")) (needed_number (codes "number"))
@@ -154,7 +166,7 @@ with_stream_commands a = under (under (under (under a (new_app (codes "blobs")))
 -- the commands on a store as a whole
 abbrev pub with_store_commands : App → App
 with_store_commands a =
-    under (under (under (under (under a (file_command (codes "init"))) import_command) drop_command) (file_command (codes "export"))) (file_command (codes "refs"))
+    under (under (under (under (under a (file_command (codes "init"))) import_command) drop_command) export_command) (file_command (codes "refs"))
 
 -- the commands that show objects
 abbrev pub with_tree_commands : App → App
@@ -193,6 +205,10 @@ AreLogOptions rows options = IsFlag (codes "reverse") rows options.reverse
 abbrev pub AreFeatures : List Row → Bool → Bool → Type 0
 AreFeatures rows done force = IsFlag (codes "done") rows done × IsFlag (codes "force") rows force
 
+abbrev pub IsForm : List Row → ExportForm → Type 0
+IsForm rows FullTree = IsFlag (codes "changes") rows false × IsFlag (codes "no-done") rows false
+IsForm rows (Changes done) = IsFlag (codes "changes") rows true × IsFlag (codes "no-done") rows (not done)
+
 -- the line is the command `name` with the options and words that clap found for it
 unfoldable pub Says : Text → List Row → Line → Type 0
 Says name rows Blobs = name ≡ codes "blobs"
@@ -202,7 +218,7 @@ Says name rows (Where command) = (name ≡ codes "where") × IsNumber (codes "nu
 Says name rows (Init file) = (name ≡ codes "init") × IsWord (codes "file") rows file
 Says name rows (Import file done force) = (name ≡ codes "import") × (AreFeatures rows done force × IsWord (codes "file") rows file)
 Says name rows (Drop file refs) = (name ≡ codes "drop") × (IsWord (codes "file") rows file × AreWords (codes "ref") rows refs.items)
-Says name rows (Export file) = (name ≡ codes "export") × IsWord (codes "file") rows file
+Says name rows (Export form file) = (name ≡ codes "export") × (IsForm rows form × IsWord (codes "file") rows file)
 Says name rows (Show file revision) = (name ≡ codes "show")
     × (IsWord (codes "file") rows file × IsWord (codes "rev") rows revision)
 Says name rows (Ls recursive file revision) = (name ≡ codes "ls") × (IsFlag (codes "recursive") rows recursive

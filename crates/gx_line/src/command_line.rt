@@ -1,6 +1,6 @@
 //! The command line of `gx`, read by `clap`.
 
-ghost use Rattle.std.specs.Prelude.{◌≡◌, IfOk, Some, codes, map};
+ghost use Rattle.std.specs.Prelude.{◌≡◌, IfOk, IfSome, Some, codes, map};
 ghost use Rattle.clap.specs.Words.{first_of, found_of, kind_of, rows_of};
 ghost use Rattle.gx_line.specs.CommandLine as say;
 
@@ -23,6 +23,15 @@ pub struct LogOptions {
     pub max_count: Option<u64>,
     /// The names of a commit's parents stand behind its own.
     pub parents: bool,
+}
+
+/// What an export writes of each commit.
+#[derive(Clone, Copy, Debug, PartialEq, Eq)]
+pub enum ExportForm {
+    /// All of its files.
+    FullTree,
+    /// What differs from its first parent. With `done` the stream begins with `feature done` and ends with `done`.
+    Changes { done: bool },
 }
 
 /// A command with its options and words.
@@ -59,6 +68,7 @@ pub enum Line<'a> {
     },
     /// A store is exported as a stream.
     Export {
+        form: ExportForm,
         file: &'a str,
     },
     /// What a revision gives is shown.
@@ -171,7 +181,10 @@ fn file_line<'a>(
             done: is_set(matches, "done"),
             force: is_set(matches, "force"),
         }),
-        "export" => Ok(Line::Export { file }),
+        "export" => match form_of(matches) {
+            Some(form) => Ok(Line::Export { form, file }),
+            None => Err(unknown(alloc)),
+        },
         "refs" => Ok(Line::Refs { file }),
         "show" => Ok(Line::Show {
             file,
@@ -244,6 +257,20 @@ fn words_of<'a>(
     match matches.get_strs(id) {
         Some(words) => Ok(Vec::from_slice(alloc, words)?),
         None => Err(unknown(alloc)),
+    }
+}
+
+/// The form that an export is asked for in. There is none where `--no-done` stands alone, of which clap makes sure.
+fn form_of(matches: &ArgMatches<'_>) -> Option<ExportForm>
+    ensures { IfSome result (λ form. say.IsForm (rows_of (found_of matches.now)) form) }
+{
+    let no_done = is_set(matches, "no-done");
+    if is_set(matches, "changes") {
+        Some(ExportForm::Changes { done: !no_done })
+    } else if no_done {
+        None
+    } else {
+        Some(ExportForm::FullTree)
     }
 }
 

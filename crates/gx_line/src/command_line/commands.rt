@@ -94,7 +94,7 @@ fn with_store_commands<'a>(
     let import_command = with_features(alloc, file_command(alloc, "import", manual::IMPORT));
     let gx = with_command(gx, import_command);
     let gx = with_command(gx, drop_command(alloc));
-    let gx = with_command(gx, file_command(alloc, "export", manual::EXPORT));
+    let gx = with_command(gx, export_command(alloc));
     with_command(gx, file_command(alloc, "refs", manual::REFS))
 }
 
@@ -103,6 +103,26 @@ fn drop_command<'a>(alloc: Global) -> Result<Command<'a>, AllocError>
 {
     let refs = words(alloc, "ref", "REF", "Names of refs, as gx refs prints them");
     with_argument(file_command(alloc, "drop", manual::DROP), refs)
+}
+
+fn export_command<'a>(alloc: Global) -> Result<Command<'a>, AllocError>
+    ensures { say.Makes result say.export_command }
+{
+    let changes = flag(
+        alloc,
+        "changes",
+        "Writes of each commit what differs from its first parent, on a\n\
+         ref that reaches it",
+    );
+    let no_done = flag(
+        alloc,
+        "no-done",
+        "Leaves out 'feature done' and 'done', for readers that don't\n\
+         know them",
+    )
+    .requires_arg("changes")?;
+    let export = with_argument(file_command(alloc, "export", manual::EXPORT), changes);
+    with_argument(export, no_done)
 }
 
 /// The commands that show objects.

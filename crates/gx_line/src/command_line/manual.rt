@@ -251,6 +251,7 @@ pub(super) const EXPORT: Page = Page {
 Writes a store as a stream that gx import and git fast-import take.
 
 It has the commits that refs reach, each with all of its files, and the refs.
+With --changes it is as long as what changed, and other readers see branches.
 Importing it into an empty store gives the same refs and object names. A store
 that holds a submodule of forty zeros is written, too, but no import takes it.",
     details: "\
@@ -258,7 +259,9 @@ Output:
   The stream, in the manner of git fast-export --full-tree: first
   feature done, then the commits in the order in which they were first made,
   each behind the blobs of its files that weren't written yet, then the refs
-  in the order of their names' bytes, and done.
+  in the order of their names' bytes, and done. With --changes a commit is on
+  the first branch that reaches it, else on the first such ref, and has D and a
+  path for each file that is gone, and then M for each that is new or another.
 
 Refusals:
   gx: read failed

@@ -3,9 +3,9 @@ use Rattle.gx_cli.proofs.trips.exported.Goals as goal
 
 pub returns-in-Ok : goal.returns-in-Ok
 returns-in-Ok g c =
-    exported_whole c.args.repo.now.1 c.new-sink.result c.export.new.sink c.into_bytes.result.items c.in-Ok.field-0 c.new-sink.ensures c.into_bytes.ensures c.in-Ok.ensures
+    exported_whole (g.N.Namer.name_of c.args.repo.now.0) c.args.form c.args.repo.now.1 c.new-sink.result c.export_as.new.sink c.into_bytes.result.items c.in-Ok.field-0 c.new-sink.ensures c.into_bytes.ensures c.in-Ok.ensures
 
 pub returns-in-Err-WriteFailed : goal.returns-in-Err-WriteFailed
 returns-in-Err-WriteFailed g c =
-    exported_too_long c.args.repo.now.1 c.new-sink.result c.export.new.sink c.has_failed.result c.export.result c.in-Err-WriteFailed.field-0 _ c.new-sink.ensures c.has_failed.ensures c.if-has_failed.false
-    c.in-Err-WriteFailed.is c.in-Err-WriteFailed.field-0-is c.export.ensures
+    exported_too_long (g.N.Namer.name_of c.args.repo.now.0) c.args.form c.args.repo.now.1 c.new-sink.result c.export_as.new.sink c.has_failed.result c.export_as.result c.in-Err-WriteFailed.field-0 _ c.new-sink.ensures c.has_failed.ensures c.if-has_failed.false
+    c.in-Err-WriteFailed.is c.in-Err-WriteFailed.field-0-is c.export_as.ensures

@@ -18,7 +18,7 @@ more of it:
     <!-- at the top of the repository -->  it is run there
 
 The manual has such comments, too. The folder `project` is there: a git repository with four commits
-on main, of README.md and other files, and a tag v1.0.
+on main, of README.md and other files, and a tag v1.0. `scripts` are those of this repository.
 
 docs/FAULTS.md has streams and store texts below its headings: each is given to the command of its
 part, into an empty store or one with a commit on main, and has to be refused by the line above it.
@@ -285,6 +285,7 @@ def main():
             folder = Path(name)
             environment = environment_of(gx, folder)
             (folder / "session").mkdir()
+            (folder / "session" / "scripts").symlink_to(TOP / "scripts")
             if page.endswith("FAULTS.md"):
                 count, failed = run_faults(gx, text, folder, environment)
             else:

@@ -1,0 +1,287 @@
+#!/usr/bin/env python3
+"""Compares exports of changes with git.
+
+    scripts/changes.py [STREAM..]      of each stream, and of this repository's history where none is named
+    scripts/changes.py --random N      of N histories made at random, each of twenty steps (--steps)
+
+A stream goes into git and into a store, and the store goes out by `gx export --changes`, with and
+without `done`. The text is read here, line by line: each commit has to go out behind the blobs that
+it is the first to need, on the first branch that reaches it, and its `D` and `M` lines have to be
+what `git diff-tree -r` tells between its tree and that of its first parent, in order and as git
+prints paths. Then git reads the text, and so does gx: refs, and the name, kind and size of each
+object have to be the same everywhere, commits in their order, and the same text has to go out again.
+
+A history made at random deletes and moves refs, too. After each step the whole store goes out, and
+what is new goes out by range words into a repository of git and a store that hold the steps before.
+--seed N gives the seed of the first history, which is printed; the others count on from it.
+
+GX: the program, crates/gx/out/gx if it isn't set. It needs git. The status is 1 where something differs.
+"""
+
+import argparse
+import random
+import shutil
+import subprocess
+import tempfile
+import time
+from pathlib import Path
+
+from changes_text import read_text
+from histories import MODULE, History
+from places import GX, Differs, Repository, Store, print_of, same
+
+TOP = Path(__file__).resolve().parent.parent
+EMPTY_TREE = b"4b825dc642cb6eb9a060e54bf8d69288fbee4904"
+
+
+def git_export(repository, *words):
+    """What `git fast-export` writes of a repository."""
+    kept = ["--signed-tags=verbatim", "--reencode=no", "--use-done-feature", "--all", *words]
+    return repository.git("fast-export", *kept)
+
+
+# ---- the text
+
+
+def branches_of(refs, peeled, parents):
+    """The ref of each commit: the first branch that reaches it, or else the first ref that does."""
+    heads = [ref for ref in refs if ref.startswith(b"refs/heads/")]
+    found = {}
+    for ref in heads + refs:
+        left = [peeled[ref]]
+        while left:
+            commit = left.pop()
+            if commit not in found:
+                found[commit] = ref
+                left += parents[commit]
+    return found
+
+
+def differences(repository, trees, parents):
+    """What git tells that each commit changes, as the lines of a text have it: what is gone first."""
+    bases = {commit: trees[of[0]] if of else EMPTY_TREE for commit, of in parents.items()}
+    asked = b"".join(b"%s %s\n" % (bases[commit], trees[commit]) for commit in bases)
+    told = repository.git("diff-tree", "--stdin", "-r", "-z", "--no-renames", given=asked)
+    found = {}
+    for commit in bases:
+        gone, other = [], []
+        told = told[82:]
+        while told.startswith(b":"):
+            row, path, told = told.split(b"\0", 2)
+            _, mode, _, name, status = row.split()
+            (gone if status == b"D" else other).append(path if status == b"D" else (path, mode, name))
+        found[commit] = [(None, None, path) for path in sorted(gone)]
+        found[commit] += [(mode, name, path) for path, mode, name in sorted(other)]
+    same(told, b"", "what is left of what diff-tree tells")
+    return found
+
+
+class Check:
+    """What a text tells, command by command, beside what git has of it. `marks` are the names that it gave."""
+
+    def __init__(self, copy, marks, what):
+        self.what, self.marks, self.here = what, marks, what
+        self.parents, self.trees = copy.commits()
+        self.refs, self.peeled = copy.peeled()
+        self.branches = branches_of(self.refs, self.peeled, self.parents)
+        self.differences = differences(copy, self.trees, self.parents)
+        self.order, self.tail, self.fresh = [], [], []
+        self.seen, self.reset = set(), None
+
+    def same(self, found, wanted, what):
+        same(found, wanted, f"{self.here}: {what}")
+
+    def name(self, given):
+        """The name that a mark has, or that is written as digits."""
+        return self.marks.get(given, given)
+
+    def read(self, command):
+        if command.word == b"blob":
+            self.fresh.append(self.marks[command.mark])
+        elif command.word == b"commit":
+            self.read_commit(command)
+        elif command.start is None:
+            self.reset = command.ref
+        else:
+            self.tail.append((command.ref, self.name(command.start)))
+
+    def read_commit(self, command):
+        commit = self.marks[command.mark]
+        parents = self.parents[commit]
+        self.here = f"{self.what}, commit {commit.decode()}"
+        self.same(self.tail, [], "refs set before it")
+        self.same(command.ref, self.branches[commit], "its ref")
+        self.same(self.reset, None if parents else command.ref, "the reset before it")
+        self.same([self.name(parent) for parent in command.parents], parents, "its parents")
+        changes = [(mode, self.name(given), path) for mode, given, path in command.changes]
+        self.same(changes, self.differences[commit], "its changes")
+        needed = [name for mode, name, _ in changes if mode not in (None, MODULE) and name not in self.seen]
+        self.same(self.fresh, list(dict.fromkeys(needed)), "the blobs before it")
+        self.seen.update(self.fresh)
+        self.order.append(commit)
+        self.fresh, self.reset = [], None
+
+    def end(self):
+        self.here = self.what
+        self.same(self.fresh, [], "blobs behind the commits")
+        self.same(self.tail, [(ref, self.peeled[ref]) for ref in self.refs], "the refs at the end")
+        return self.order
+
+
+def check_text(text, copy, marks, what):
+    """Each command of a text is what it has to be; the commits in their order."""
+    check = Check(copy, marks, what)
+    for command in read_text(text):
+        check.read(command)
+    return check.end()
+
+
+def check_paths(text, git_text, what):
+    """Paths are printed as git prints them."""
+    shown = dict(pair for command in read_text(git_text) for pair in command.shown)
+    for command in read_text(text):
+        for path, printed in command.shown:
+            same(printed, shown.get(path, printed), f"{what}: how {path!r} is printed")
+
+
+# ---- whole stores
+
+
+def whole(origin, store, folder, what):
+    """The whole store goes out, with and without its end, into git and into a new store."""
+    refs, objects = origin.refs(), origin.objects()
+    text = store.changes()
+    inner = store.changes("--no-done")
+    same(text, b"feature done\n" + inner + b"done\n", f"{what}: the text and the one without done")
+    copy, again = Repository(folder / "copy.git"), Store(folder / "copy.gx")
+    marks = copy.take(text, "--done")
+    again.take(inner)
+    order = check_text(text, copy, marks, what)
+    check_paths(text, git_export(origin), what)
+    same(copy.refs(), refs, f"{what}: refs of git")
+    same(copy.all_objects(), objects, f"{what}: objects of git")
+    same(again.refs(), refs, f"{what}: refs of the store")
+    same(again.all_objects(), objects, f"{what}: objects of the store")
+    same(order, store.commits(set(order)), f"{what}: the order of the commits")
+    same(again.commits(), order, f"{what}: the order of the commits in the store")
+    same(again.changes() == text, True, f"{what}: the text that goes out again")
+    again.drop_file()
+    again.take(text, "--done")
+    same(again.refs(), refs, f"{what}: refs of the store, with done")
+    same(again.all_objects(), objects, f"{what}: objects of the store, with done")
+    copy.drop_file()
+    again.drop_file()
+    return len(order)
+
+
+def try_stream(name, stream, folder):
+    """What a stream makes goes out."""
+    origin, store = Repository(folder / "origin.git"), Store(folder / "origin.gx")
+    origin.take(stream)
+    store.take(stream)
+    same(store.refs(), origin.refs(), f"{name}: refs before")
+    count = whole(origin, store, folder, name)
+    print(f"{name}: {count} commits, the same", flush=True)
+
+
+# ---- histories made at random
+
+
+def takes_ranges(folder):
+    """Whether the program takes range words behind the file."""
+    store = Store(folder / "empty.gx")
+    done = subprocess.run([GX, "export", "--changes", store.path, "--", "^none"], capture_output=True)
+    store.drop_file()
+    return done.returncode != 2
+
+
+class Mirror:
+    """A repository of git and a store that are brought up to date by ranges."""
+
+    def __init__(self, folder, chance):
+        self.repository, self.store = Repository(folder / "mirror.git"), Store(folder / "mirror.gx")
+        self.chance = chance
+        self.told = {}
+
+    def words(self, refs):
+        """What is new: of a ref that moved by `OLD..NEW` or by two words, and without all that was told before."""
+        known = sorted(set(self.told.values()))
+        words = [b"^" + name for name in known]
+        for ref, name in refs.items():
+            old = self.told.get(ref)
+            dots = old and self.chance.random() < 0.5
+            words.append(old + b".." + ref if dots else ref)
+        return words
+
+    def bring(self, store, refs, what):
+        gone = sorted(set(self.told) - set(refs))
+        self.repository.drop(gone)
+        self.store.drop(gone)
+        text = store.changes("--", *self.words(refs)) if refs else b""
+        self.repository.take(text, "--force")
+        self.store.take(text, "--force")
+        self.told = refs
+        return text.count(b"\ncommit ")
+
+
+def follow(seed, steps, folder, ranges):
+    """One history, with each of its steps."""
+    chance = random.Random(seed)
+    history = History(chance)
+    origin, store = Repository(folder / "origin.git", folder / "marks"), Store(folder / "origin.gx")
+    mirror = Mirror(folder, chance)
+    for number in range(1, steps + 1):
+        what = f"seed {seed}, step {number}"
+        gone, text = history.step()
+        origin.drop(gone)
+        origin.take(text, "--force")
+        store.drop(gone)
+        store.take(git_export(origin, "--full-tree"), "--done", "--force")
+        same(store.refs(), origin.refs(), f"{what}: refs before")
+        count = whole(origin, store, folder, what)
+        if ranges:
+            mirror.bring(store, origin.named(), what)
+            for place in (mirror.repository, mirror.store):
+                same(place.refs(), origin.refs(), f"{what}: refs of {place.path.name}")
+                same(place.holds(origin.objects()), True, f"{what}: objects of {place.path.name}")
+    return count
+
+
+def try_random(count, steps, seed, folder):
+    ranges = takes_ranges(folder)
+    if not ranges:
+        print("ranges are left out, since this program takes no range words")
+    commits = 0
+    for number in range(seed, seed + count):
+        below = folder / str(number)
+        below.mkdir()
+        commits += follow(number, steps, below, ranges)
+        shutil.rmtree(below)
+    print(f"{count} histories of {steps} steps from seed {seed}, {commits} commits at their ends: the same")
+
+
+def main():
+    words = argparse.ArgumentParser(description=__doc__, formatter_class=argparse.RawTextHelpFormatter)
+    words.add_argument("--random", type=int, metavar="N")
+    words.add_argument("--steps", type=int, default=20, metavar="N")
+    words.add_argument("--seed", type=int, default=time.time_ns() % 1000000, metavar="N")
+    words.add_argument("streams", nargs="*", type=Path, metavar="STREAM")
+    given = words.parse_args()
+    with tempfile.TemporaryDirectory(prefix="changes-") as name:
+        folder = Path(name)
+        try:
+            if given.random is not None:
+                print(f"seed {given.seed}", flush=True)
+                try_random(given.random, given.steps, given.seed, folder)
+            elif not given.streams:
+                try_stream("this repository", print_of(["git", "-C", TOP, "fast-export", "--all"]), folder)
+            for number, stream in enumerate(given.streams):
+                below = folder / str(number)
+                below.mkdir()
+                try_stream(f"{stream.parent.name}/{stream.name}", stream.read_bytes(), below)
+        except Differs as fault:
+            raise SystemExit(str(fault)) from None
+
+
+if __name__ == "__main__":
+    main()

@@ -87,6 +87,7 @@ class Check:
         self.differences = differences(copy, self.trees, self.parents)
         self.order, self.tail, self.fresh = [], [], []
         self.seen, self.reset = set(), None
+        self.given = {}  # the mark of each commit so far
 
     def same(self, found, wanted, what):
         same(found, wanted, f"{self.here}: {what}")
@@ -112,13 +113,16 @@ class Check:
         self.same(self.tail, [], "refs set before it")
         self.same(command.ref, self.branches[commit], "its ref")
         self.same(self.reset, None if parents else command.ref, "the reset before it")
-        self.same([self.name(parent) for parent in command.parents], parents, "its parents")
+        named = [parent if parent.startswith(b":") else self.name(parent) for parent in command.parents]
+        wanted = [self.given.get(parent, parent) for parent in parents]
+        self.same(named, wanted, "its parents, by mark where they were sent")
         changes = [(mode, self.name(given), path) for mode, given, path in command.changes]
         self.same(changes, self.differences[commit], "its changes")
         needed = [name for mode, name, _ in changes if mode not in (None, MODULE) and name not in self.seen]
         self.same(self.fresh, list(dict.fromkeys(needed)), "the blobs before it")
         self.seen.update(self.fresh)
         self.order.append(commit)
+        self.given[commit] = command.mark
         self.fresh, self.reset = [], None
 
     def end(self):
@@ -137,11 +141,14 @@ def check_text(text, copy, marks, what):
 
 
 def check_paths(text, git_text, what):
-    """Paths are printed as git prints them."""
+    """Paths are printed as git prints them, which has quotes also around one with a space, where none are needed."""
     shown = dict(pair for command in read_text(git_text) for pair in command.shown)
     for command in read_text(text):
         for path, printed in command.shown:
-            same(printed, shown.get(path, printed), f"{what}: how {path!r} is printed")
+            wanted = shown.get(path, printed)
+            if wanted == b'"' + path + b'"':
+                wanted = path
+            same(printed, wanted, f"{what}: how {path!r} is printed")
 
 
 # ---- whole stores
@@ -166,6 +173,7 @@ def whole(origin, store, folder, what):
     same(again.commits(), order, f"{what}: the order of the commits in the store")
     same(again.changes() == text, True, f"{what}: the text that goes out again")
     again.drop_file()
+    again = Store(folder / "copy.gx")
     again.take(text, "--done")
     same(again.refs(), refs, f"{what}: refs of the store, with done")
     same(again.all_objects(), objects, f"{what}: objects of the store, with done")
@@ -213,15 +221,38 @@ class Mirror:
             words.append(old + b".." + ref if dots else ref)
         return words
 
-    def bring(self, store, refs, what):
+    def forget(self, refs):
+        """Refs that are no more go first."""
         gone = sorted(set(self.told) - set(refs))
         self.repository.drop(gone)
         self.store.drop(gone)
-        text = store.changes("--", *self.words(refs)) if refs else b""
-        self.repository.take(text, "--force")
-        self.store.take(text, "--force")
+        self.told = {ref: self.told[ref] for ref in self.told if ref in refs}
+
+    def bring(self, store, refs, what):
+        """All that is new."""
+        text = store.changes("--", *self.words(refs))
+        marks = self.repository.take(text, "--done", "--force")
+        self.store.take(text, "--done", "--force")
+        check_text(text, self.repository, marks, f"{what}, what is new")
         self.told = refs
-        return text.count(b"\ncommit ")
+
+    def bring_part(self, origin, store, refs, what):
+        """Some refs alone, without some of what was told before, into copies."""
+        wanted = self.chance.sample(sorted(refs), self.chance.randrange(1, len(refs) + 1))
+        known = sorted(set(self.told.values()))
+        known = self.chance.sample(known, self.chance.randrange(len(known) + 1))
+        text = store.changes("--no-done", "--", *wanted, *[b"^" + name for name in known])
+        copy, again = self.repository.copy("part.git"), self.store.copy("part.gx")
+        for place in (copy, again):
+            place.take(text, "--force")
+        reached = set(origin.git("rev-list", *wanted, *known).split())
+        peeled = origin.peeled()[1]
+        wanted = {**self.told, **{ref: name for ref, name in refs.items() if peeled[ref] in reached}}
+        same(copy.named(), wanted, f"{what}, a part: refs of git")
+        same(again.refs(), copy.refs(), f"{what}, a part: refs of the store")
+        same(again.holds(copy.objects()), True, f"{what}, a part: objects of the store")
+        copy.drop_file()
+        again.drop_file()
 
 
 def follow(seed, steps, folder, ranges):
@@ -229,7 +260,7 @@ def follow(seed, steps, folder, ranges):
     chance = random.Random(seed)
     history = History(chance)
     origin, store = Repository(folder / "origin.git", folder / "marks"), Store(folder / "origin.gx")
-    mirror = Mirror(folder, chance)
+    mirror = Mirror(folder, random.Random(f"{seed}, ranges"))
     for number in range(1, steps + 1):
         what = f"seed {seed}, step {number}"
         gone, text = history.step()
@@ -239,8 +270,12 @@ def follow(seed, steps, folder, ranges):
         store.take(git_export(origin, "--full-tree"), "--done", "--force")
         same(store.refs(), origin.refs(), f"{what}: refs before")
         count = whole(origin, store, folder, what)
+        refs = origin.named()
         if ranges:
-            mirror.bring(store, origin.named(), what)
+            mirror.forget(refs)
+        if ranges and refs:
+            mirror.bring_part(origin, store, refs, what)
+            mirror.bring(store, refs, what)
             for place in (mirror.repository, mirror.store):
                 same(place.refs(), origin.refs(), f"{what}: refs of {place.path.name}")
                 same(place.holds(origin.objects()), True, f"{what}: objects of {place.path.name}")

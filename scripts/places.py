@@ -35,6 +35,11 @@ class Repository:
         self.path, self.kept = path, kept
         print_of([*GIT, "init", "-q", "--bare", "-b", "none", path])
 
+    def copy(self, name):
+        """A copy beside it."""
+        shutil.copytree(self.path, self.path.with_name(name))
+        return Repository(self.path.with_name(name))
+
     def git(self, *words, given=b""):
         return print_of([*GIT, "-C", self.path, *words], given)
 
@@ -95,9 +100,15 @@ class Store:
     def __init__(self, path):
         self.path = path
 
+        if not path.exists():
+            print_of([GX, "init", path])
+
+    def copy(self, name):
+        """A copy beside it."""
+        shutil.copy(self.path, self.path.with_name(name))
+        return Store(self.path.with_name(name))
+
     def take(self, text, *words):
-        if not self.path.exists():
-            print_of([GX, "init", self.path])
         print_of([GX, "import", *words, self.path], text)
 
     def drop(self, refs):
@@ -106,7 +117,7 @@ class Store:
 
     def changes(self, *words):
         """The export of changes: range words stand behind `--`."""
-        front = [word for word in words if word == "--no-done"]
+        front = list(words[:1]) if words[:1] == ("--no-done",) else []
         return print_of([GX, "export", "--changes", *front, self.path, *words[len(front) :]])
 
     def refs(self):

@@ -98,6 +98,7 @@ if [ $# -gt 0 ]; then
   measure "$@"
 else
   for files in 1000 20000 80000; do measure topics "$files" 350; done
+  measure named 20000 2000
   measure lines 20000 1000
   measure branches 20000 1000
   measure rebased 20000 100

@@ -4,6 +4,7 @@ each directory, and each later commit changes one.
 
   branching.py topics FILES COUNT       so many topics of five commits, each merged, all on one ref, as `git fast-export --all` writes
                                         topics whose branches are gone
+  branching.py named FILES COUNT        the same, each topic on a branch of its own, which stays
   branching.py lines FILES COUNT        two lines of development on one ref, so many commits in turn
   branching.py branches FILES COUNT     so many branches from the first commit, and then a commit more on each
   branching.py rebased FILES COUNT      so many branches of three commits, each made anew ten times on a base that moves on
@@ -63,12 +64,16 @@ class Stream:
         sys.stdout.buffer.write(b'tag %s\nfrom :%d\ntagger T <t@example.com> 1700000000 +0000\n' % (name, mark) + block(name))
 
 
-def topics(files, count):
+def topics(files, count, ref=MAIN):
     stream = Stream(files)
     main = stream.first
-    for _ in range(count):
-        topic = stream.commits(MAIN, main, 5)
+    for number in range(count):
+        topic = stream.commits(ref.replace(b'*', b'%05d' % number), main, 5)
         main = stream.commit(MAIN, (main, topic))
+
+
+def named(files, count):
+    topics(files, count, b'refs/heads/topic*')
 
 
 def lines(files, count):
@@ -140,5 +145,5 @@ def project(files, count):
 
 
 kind, *sizes = sys.argv[1:]
-shapes = (topics, lines, branches, rebased, octopus, tags, project)
+shapes = (topics, named, lines, branches, rebased, octopus, tags, project)
 {shape.__name__: shape for shape in shapes}[kind](*map(int, sizes))

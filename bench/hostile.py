@@ -21,6 +21,7 @@ Streams:
   nothing COUNT        so many removals of paths at which nothing is, in a directory of as many files
   renames COUNT        each of so many files renamed within its directory
   folders COUNT        each of so many directories renamed within the root
+  between COUNT        each of so many files renamed from one directory to another
   copied COUNT         one directory copied to so many names
   random COUNT         so many files in one directory, in random order
   emptied COUNT        so many files in one directory, removed from the first on
@@ -184,6 +185,10 @@ def folders(size):
     return one_commit(root_files(size, b'%07d/f'), (b'R %07d n%07d\n' % (number, number) for number in numbers(size)))
 
 
+def between(size):
+    return one_commit(root_files(size, b'd/%07d'), (b'R d/%07d e/%07d\n' % (number, number) for number in numbers(size)))
+
+
 def copied(size):
     return one_commit(root_files(1, b'd/%d'), (b'C d/1 e/n%07d/f\nC e/n%07d m%07d\n' % (number, number, number) for number in numbers(size)))
 
@@ -298,7 +303,7 @@ def claimed(size):
 
 KINDS = [
     line, progress, marks, changes, directory, deep, swap, resets, parents, tags, rename, copies, reload, chain, nothing, renames, folders,
-    copied, random, emptied, changed, shared, old, tagged, standing, new, moved, back, merges, zeros, delimiter, stale, fronts, claimed,
+    between, copied, random, emptied, changed, shared, old, tagged, standing, new, moved, back, merges, zeros, delimiter, stale, fronts, claimed,
 ]
 
 kind, size = sys.argv[1:]

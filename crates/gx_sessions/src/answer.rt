@@ -203,6 +203,7 @@ fn file_of<'a>(line: &Line<'a>) -> Option<&'a str> {
             done: _,
             force: _,
         }
+        | Line::Drop { file, refs: _ }
         | Line::Export { form: _, file }
         | Line::Refs { file }
         | Line::Batch { check: _, file }

@@ -266,7 +266,9 @@ def environment_of(gx, folder):
     git = {f"GIT_{who}_{what}": value for who in ("AUTHOR", "COMMITTER") for what, value in names.items()}
     kept = {"HOME": str(folder), "GIT_CONFIG_NOSYSTEM": "1", "TZ": "UTC", "LC_ALL": "C.UTF-8"}
     path = f"{folder / 'bin'}:{os.environ['PATH']}"
-    return {**os.environ, **git, **kept, "PATH": path, "GINLARCH": str(TOP)}
+    # scripts take the program from GX, and a page's reader hasn't set it
+    others = {name: value for name, value in os.environ.items() if name != "GX"}
+    return {**others, **git, **kept, "PATH": path, "GINLARCH": str(TOP)}
 
 
 def made_without_proofs():

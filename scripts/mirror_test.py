@@ -6,7 +6,9 @@
 Each step makes commits, merges, roots and tags, moves branches and tags to any commit, and deletes
 some, of which a new branch may make a directory; now and then git forgets what no ref reaches. After
 each the store has to have the refs of git, and each object that they reach, and to be a store for
-scripts/check_store.py. At the end git takes what `gx export` writes of it. The seed is printed.
+scripts/check_store.py. At the end git takes what `gx export` writes of it. Then the repository has
+a HEAD of its own commit, a symbolic ref and a commit that is replaced, and then it can't be read:
+the store keeps its refs. The seed is printed.
 
 GX: the program, crates/gx/out/gx if it isn't set. It needs git. The status is 1 where something differs.
 """
@@ -53,7 +55,33 @@ def follow(steps, seed, folder):
     copy = Repository(folder / "copy.git")
     copy.take(print_of([GX, "export", store.path]), "--done")
     same(copy.refs(), repository.refs(), f"seed {seed}: refs of git at the end")
+    try_odd(repository, store)
     return repository
+
+
+def try_odd(repository, store):
+    """What is no ref of a stream, or isn't shown as it is, and then a repository that is away."""
+    commits = sorted(repository.commits()[0])
+    repository.git("update-ref", "refs/heads/last", commits[0])
+    repository.git("update-ref", "--no-deref", "HEAD", commits[-1])
+    repository.git("symbolic-ref", "refs/remotes/origin/HEAD", "refs/heads/last")
+    if commits[0] != commits[-1]:
+        repository.git("replace", commits[0], commits[-1])
+    mirror(repository, store)
+    wanted = repository.named()
+    del wanted[b"refs/remotes/origin/HEAD"]
+    found = {line.split()[1]: line.split()[0] for line in store.refs().splitlines()}
+    same(found, wanted, "refs beside what is no ref of a stream")
+    away, refs = repository.path.with_name("away.git"), store.refs()
+    repository.path.rename(away)
+    try:
+        mirror(repository, store)
+    except Differs:
+        same(store.refs(), refs, "refs of a store whose repository is away")
+    else:
+        raise Differs("FAIL a repository that is away was mirrored")
+    finally:
+        away.rename(repository.path)
 
 
 def main():

@@ -71,10 +71,12 @@ class History:
         return self.tag(self.chance.choice(marks))
 
     def branch_at(self, ref):
-        """A ref that is free, or of which no directory is one: this one or one beside it."""
-        while any(ref != other and (is_at_or_below(ref, other) or is_at_or_below(other, ref)) for other in self.branches):
-            ref += b"x"
-        return ref
+        """A ref that is free, and neither a directory of a branch nor below one: this one or one beside it."""
+        others = self.branches.keys() - {ref}
+        above = next((other for other in sorted(others) if is_at_or_below(ref, other)), None)
+        if above:
+            return self.branch_at(above + b"x")
+        return self.branch_at(ref + b"x") if any(is_at_or_below(other, ref) for other in others) else ref
 
     def old_branch(self):
         return self.chance.choice(sorted(self.branches)) if self.branches else self.branch_at(b"refs/heads/main")

@@ -1,13 +1,12 @@
 -- The order as it is tested is the canonical one.
-use Rattle.std.proofs.Common.{◌≡◌, ℕ, zero, suc, ◌+◌, ◌-◌, ◌<◌, ◌≤◌, get_or, drop, add-one, true, false, not, List, [], ◌∷◌, ◌++◌, map, length, take, refl, sym, ap, subst, ◌∙◌, arith, Ordering, inl, inr}
+use Rattle.std.proofs.Common.{◌≡◌, ℕ, true, not, List, [], ◌∷◌, ◌++◌, map, refl, sym, ap, subst, ◌∙◌, arith, Ordering, inl, inr}
 use Rattle.std.specs.Prelude.{◌&&◌, nat_eq}
 use Rattle.std.specs.List.{list_all, list_any, starts_with}
 use Rattle.std.specs.Ordering.{is_lt, nat_cmp, ordering_then}
 use Rattle.std.specs.declared.cmp.Ordering.TheVariants.{Less, Equal, Greater}
 use Rattle.std.specs.Cmp.Lexicographic.{slice_cmp, bytes_decides}
 use Rattle.std.specs.FinMap.Entries.{is_sorted, below_all}
-use Rattle.std.proofs.Math.ListN.{drop_of_length-le}
-use Rattle.std.proofs.lemmas.List.{append-nil, take_rest}
+use Rattle.std.proofs.lemmas.List.{append-nil}
 use Rattle.std.proofs.lemmas.Cmp.{nat_list_cmp_total, tied_itself}
 use Rattle.std.proofs.lemmas.Bool.{false≢true, and_from, and_parts, or_cases, or_left, or_right, false_from_ne_true, not-true, not_from_false, both_ways}
 use Rattle.std.proofs.lemmas.Bool.Decides.{nat_tests, same_from_decides}
@@ -16,8 +15,7 @@ use Rattle.gx_model.specs.declared.objects.Mode.TheVariants.{File, Exec, Link, G
 use Rattle.gx_model.specs.Texts.{Bytes, same_bytes}
 use Rattle.gx_model.specs.Texts.Paths.{is_component}
 use Rattle.gx_model.specs.Objects.{Entry, are_different, entry_key, is_canonical, is_dir}
-use Rattle.gx_object.specs.declared.entry.Entry.{Entry as Read}
-use Rattle.gx_object.specs.Entries.{mark_of, shown}
+use Rattle.gx_object.specs.Entries.{mark_of}
 use Rattle.gx_object.specs.Order.{are_ordered, is_repeated, leads, meets, precedes}
 
 abbrev order : Bytes → Bytes → Ordering
@@ -241,29 +239,3 @@ key_is e = by e.mode e.component
     by Link c = append-nil c
     by Gitlink c = append-nil c
     by Dir c = refl
-
--- the step over the entries of a slice
-ordered_at : (es : List Read) (i : ℕ) (d : Read) → i < length es
-    → are_ordered (map shown (drop i es)) ≡ (leads (shown (get_or es i d)) (map shown (drop (suc i) es)) && are_ordered (map shown (drop (suc i) es)))
-unfolding are_ordered
-ordered_at [] i d lt = absurd (omega arith)
-ordered_at (x ∷ es) zero d lt = refl
-ordered_at (x ∷ es) (suc i) d lt = ordered_at es i d (omega arith)
-
-pub ordered_more : (es : List Read) (i : ℕ) (d : Read) → i < length es → leads (shown (get_or es i d)) (map shown (take (length es - (i + 1)) (drop (i + 1) es))) ≡ true
-    → are_ordered (map shown (drop (i + 1) es)) ≡ are_ordered (map shown (drop i es))
-ordered_more es i d lt h =
-    let whole = take_rest es (i + 1) in
-    let t : leads (shown (get_or es i d)) (map shown (drop (suc i) es)) ≡ true = rw (← add-one i, ← whole) h in
-    rw (ordered_at es i d lt, t, add-one i) refl
-
-pub ordered_stops : (es : List Read) (i : ℕ) (d : Read) → i < length es → leads (shown (get_or es i d)) (map shown (take (length es - (i + 1)) (drop (i + 1) es))) ≡ false
-    → are_ordered (map shown (drop i es)) ≡ false
-ordered_stops es i d lt h =
-    let whole = take_rest es (i + 1) in
-    let t : leads (shown (get_or es i d)) (map shown (drop (suc i) es)) ≡ false = rw (← add-one i, ← whole) h in
-    rw (ordered_at es i d lt, t) refl
-
-pub ordered_end : (es : List Read) (i : ℕ) → length es ≤ i → are_ordered (map shown (drop i es)) ≡ true
-unfolding are_ordered
-ordered_end es i le = rw (drop_of_length-le es {i = i} le) refl

@@ -28,16 +28,56 @@ tree_is body = shows (entries_of body) where
   shows None = refl
   shows (Some es) = guarded (is_canonical es) es ∙ sym (ordered_is es)
 
-pub tree_first : (body : Bytes) (is_file : List Bool) (x : Entry × Bytes) → entry_at body ≡ Some x → goes_on_past 0 is_file x.0 x.1 ≡ is_tree body
+-- the test of an entry before these, where these files stood before it
+abbrev pub past : ℕ → List Bool → Entry → List Entry → Bool
+past above is_file e es = are_ordered (e ∷ es) && not (meets_any above is_file e.component es)
+
+-- ---- over a list of entries
+
+pub past_first : (is_file : List Bool) (e : Entry) (es : List Entry) → past 0 is_file e es ≡ are_ordered (e ∷ es)
 unfolding meets_any
-tree_first body is_file x e = sym (tree_is body ∙ ap (holds are_ordered) (entries_step body x e) ∙ shows (entries_of x.1)) where
-  none : (b : Bool) → b ≡ (b && true)
+past_first is_file e es = none (are_ordered (e ∷ es)) where
+  none : (b : Bool) → (b && true) ≡ b
   none true = refl
   none false = refl
 
-  shows : (o : Option (List Entry)) → holds are_ordered (o >>= λ es. Some (x.0 ∷ es)) ≡ holds (λ es. are_ordered (x.0 ∷ es) && not (meets_any 0 is_file x.0.component es)) o
+pub past_more : (above rest : ℕ) (old new : List Bool) (e f : Entry) (fs : List Entry)
+    → (leads e (f ∷ fs) && not (meets_any above old e.component (f ∷ fs))) ≡ (true && not (meets_any rest new f.component fs))
+    → past rest new f fs ≡ past above old e (f ∷ fs)
+unfolding are_ordered
+past_more above rest old new e f fs h = sym (joined (leads e (f ∷ fs)) (are_ordered (f ∷ fs)) _ _ h) where
+  joined : (l o n m : Bool) → (l && m) ≡ (true && n) → ((l && o) && m) ≡ (o && n)
+  joined true true n m h = h
+  joined true false n m h = refl
+  joined false true n m h = h
+  joined false false n m h = refl
+
+pub past_not : (above rest : ℕ) (old new : List Bool) (e f : Entry) (fs : List Entry)
+    → (leads e (f ∷ fs) && not (meets_any above old e.component (f ∷ fs))) ≡ (false && not (meets_any rest new f.component fs))
+    → past above old e (f ∷ fs) ≡ false
+unfolding are_ordered
+past_not above rest old new e f fs h = joined (leads e (f ∷ fs)) (are_ordered (f ∷ fs)) _ h where
+  joined : (l o m : Bool) → (l && m) ≡ false → ((l && o) && m) ≡ false
+  joined true true m h = h
+  joined true false m h = refl
+  joined false o m h = refl
+
+pub past_end : (above : ℕ) (is_file : List Bool) (e : Entry) → past above is_file e [] ≡ is_component e.component
+unfolding are_ordered
+past_end above is_file e = rw (meets_nothing above is_file e.component) (alone (is_component e.component) (not (is_dir e.mode))) where
+  alone : (b d : Bool) → ((((b && true) && not (d && false)) && true) && true) ≡ b
+  alone true true = refl
+  alone true false = refl
+  alone false true = refl
+  alone false false = refl
+
+-- ---- over a body
+
+pub tree_first : (body : Bytes) (is_file : List Bool) (x : Entry × Bytes) → entry_at body ≡ Some x → goes_on_past 0 is_file x.0 x.1 ≡ is_tree body
+tree_first body is_file x e = sym (tree_is body ∙ ap (holds are_ordered) (entries_step body x e) ∙ shows (entries_of x.1)) where
+  shows : (o : Option (List Entry)) → holds are_ordered (o >>= λ es. Some (x.0 ∷ es)) ≡ holds (past 0 is_file x.0) o
   shows None = refl
-  shows (Some es) = none (are_ordered (x.0 ∷ es))
+  shows (Some es) = sym (past_first is_file x.0 es)
 
 some_left : (bytes : Bytes) → eqb (length bytes) 0 ≡ false → 0 < length bytes
 some_left [] h = absurd (false≢true (sym h))
@@ -53,48 +93,25 @@ tree_none (b ∷ body) e =
     let some : eqb (length (b ∷ body)) 0 ≡ false = grind (arith, nat_tests) in
     some ∙ sym (tree_is (b ∷ body) ∙ none_left are_ordered (b ∷ body) e some)
 
--- the test of an entry before these, where these files stood before it
-abbrev past : ℕ → List Bool → Entry → List Entry → Bool
-past above is_file e es = are_ordered (e ∷ es) && not (meets_any above is_file e.component es)
-
 pub goes_more : (above rest : ℕ) (old new : List Bool) (e : Entry) (bytes : Bytes) (x : Entry × Bytes) → entry_at bytes ≡ Some x
     → (is_some (entries_of x.1) ≡ true → (leads e (x.0 ∷ entries_left x.1) && not (meets_any above old e.component (x.0 ∷ entries_left x.1))) ≡ (true && not (meets_any rest new x.0.component (entries_left x.1))))
     → goes_on_past rest new x.0 x.1 ≡ goes_on_past above old e bytes
-unfolding are_ordered
 goes_more above rest old new e bytes x is h = sym (ap (holds (past above old e)) (entries_step bytes x is) ∙ shows (entries_of x.1) h) where
-  joined : (l o n m : Bool) → (l && m) ≡ (true && n) → ((l && o) && m) ≡ (o && n)
-  joined true true n m h = h
-  joined true false n m h = refl
-  joined false true n m h = h
-  joined false false n m h = refl
-
   shows : (o : Option (List Entry)) → (is_some o ≡ true → (leads e (x.0 ∷ unwrap_or o []) && not (meets_any above old e.component (x.0 ∷ unwrap_or o []))) ≡ (true && not (meets_any rest new x.0.component (unwrap_or o [])))) → holds (past above old e) (o >>= λ es. Some (x.0 ∷ es)) ≡ holds (past rest new x.0) o
   shows None h = refl
-  shows (Some es) h = joined (leads e (x.0 ∷ es)) (are_ordered (x.0 ∷ es)) _ _ (h refl)
+  shows (Some es) h = sym (past_more above rest old new e x.0 es (h refl))
 
 pub goes_not : (above rest : ℕ) (old new : List Bool) (e : Entry) (bytes : Bytes) (x : Entry × Bytes) → entry_at bytes ≡ Some x
     → (is_some (entries_of x.1) ≡ true → (leads e (x.0 ∷ entries_left x.1) && not (meets_any above old e.component (x.0 ∷ entries_left x.1))) ≡ (false && not (meets_any rest new x.0.component (entries_left x.1))))
     → goes_on_past above old e bytes ≡ false
-unfolding are_ordered
 goes_not above rest old new e bytes x is h = ap (holds (past above old e)) (entries_step bytes x is) ∙ shows (entries_of x.1) h where
-  joined : (l o m : Bool) → (l && m) ≡ false → ((l && o) && m) ≡ false
-  joined true true m h = h
-  joined true false m h = refl
-  joined false o m h = refl
-
   shows : (o : Option (List Entry)) → (is_some o ≡ true → (leads e (x.0 ∷ unwrap_or o []) && not (meets_any above old e.component (x.0 ∷ unwrap_or o []))) ≡ (false && not (meets_any rest new x.0.component (unwrap_or o [])))) → holds (past above old e) (o >>= λ es. Some (x.0 ∷ es)) ≡ false
   shows None h = refl
-  shows (Some es) h = joined (leads e (x.0 ∷ es)) (are_ordered (x.0 ∷ es)) _ (h refl)
-
-alone : (b d : Bool) → ((((b && true) && not (d && false)) && true) && true) ≡ b
-alone true true = refl
-alone true false = refl
-alone false true = refl
-alone false false = refl
+  shows (Some es) h = past_not above rest old new e x.0 es (h refl)
 
 pub goes_end : (above : ℕ) (is_file : List Bool) (e : Entry) (bytes : Bytes) → eqb (length bytes) 0 ≡ true → goes_on_past above is_file e bytes ≡ is_component e.component
-unfolding entries_within are_ordered
-goes_end above is_file e [] h = rw (meets_nothing above is_file e.component) (alone (is_component e.component) (not (is_dir e.mode)))
+unfolding entries_within
+goes_end above is_file e [] h = past_end above is_file e
 goes_end above is_file e (b ∷ bytes) h = absurd (omega (arith, eqb-true _ _ h))
 
 pub goes_stop : (above : ℕ) (is_file : List Bool) (e : Entry) (bytes : Bytes) → entry_at bytes ≡ None → eqb (length bytes) 0 ≡ false → goes_on_past above is_file e bytes ≡ false

@@ -1,25 +1,20 @@
 -- An entry without where its component lies in memory, and what its mode adds to the component in the order.
-use Rattle.std.specs.Prelude.{Bool, not, ◌&&◌, ◌||◌, nat_lt, [], ◌∷◌, length, codes}
+use Rattle.std.specs.Prelude.{Bool, ◌||◌, [], ◌∷◌, codes}
 use Rattle.gx_model.specs.declared.objects.Mode.{Mode}
 use Rattle.gx_model.specs.declared.objects.Mode.TheVariants.{Dir}
 use Rattle.gx_model.specs.Texts.{Bytes, same_bytes}
 use Rattle.gx_model.specs.Objects.{Entry as TreeEntry, entry_text}
 use Rattle.gx_object.specs.declared.entry.Entry.{Entry}
 use Rattle.gx_object.specs.declared.name.Name.{Name}
-use Rattle.gx_object.specs.Order.{is_repeated, leads, meets}
+use Rattle.gx_object.specs.Order.{is_long_repeated, meets}
 use Rattle.gx_object.specs.Trees.{entries_left}
 
 abbrev pub shown : Entry → TreeEntry
 shown e = record { mode = e.mode; component = e.component.now; name = e.name.bytes }
 
--- an entry may stand before the next one and those that the bytes behind that are
-abbrev pub leads_from : Entry → Entry → Bytes → Bool
-leads_from first next after = leads (shown first) (shown next ∷ entries_left after)
-
--- a file's component of 4,096 bytes or more stands again in the next entry, or in one of those
+-- a file's component of 4,096 bytes or more stands again in the next entry, or in one of those that the bytes behind that are
 abbrev pub is_long_repeated_from : Entry → Entry → Bytes → Bool
-is_long_repeated_from first next after =
-    not (nat_lt (length (shown first).component) 4096) && is_repeated (shown first) (shown next ∷ entries_left after)
+is_long_repeated_from first next after = is_long_repeated (shown first) (shown next ∷ entries_left after)
 
 -- the next entry has this component, or one of the first of those, whose components begin with it
 abbrev pub meets_from : Bytes → Entry → Bytes → Bool

@@ -27,11 +27,15 @@ is_repeated e es = not (is_dir e.mode) && meets e.component es
 abbrev pub is_kept : Entry → Entry → Bool
 is_kept e f = not (is_dir e.mode) && starts_with nat_eq f.component e.component
 
--- the same of a file whose component has fewer than 4,096 bytes
+-- a file whose component has fewer than 4,096 bytes is repeated
 abbrev pub is_short : Entry → List Entry → Bool
 is_short e es = nat_lt (length e.component) 4096 && is_repeated e es
 
--- an entry is such a file, of a component that can be remembered
+-- and of one whose component has 4,096 bytes or more
+abbrev pub is_long_repeated : Entry → List Entry → Bool
+is_long_repeated e es = not (nat_lt (length e.component) 4096) && is_repeated e es
+
+-- an entry is a file that the next one begins with, of a component that can be remembered
 abbrev pub is_added : Entry → Entry → Bool
 is_added e f = nat_lt (length e.component) 4096 && is_kept e f
 

@@ -4,8 +4,8 @@ use Rattle.gx_model.specs.Objects.{Entry as TreeEntry}
 use Rattle.gx_model.specs.Texts.{Bytes}
 use Rattle.gx_object.specs.declared.earlier_files.EarlierFiles.{EarlierFiles}
 use Rattle.gx_object.specs.declared.entry.Entry.{Entry}
-use Rattle.gx_object.specs.Entries.{leads_from, shown}
-use Rattle.gx_object.specs.Order.{is_short, meets_any}
+use Rattle.gx_object.specs.Entries.{shown}
+use Rattle.gx_object.specs.Order.{is_short, leads, meets_any}
 use Rattle.gx_object.specs.Trees.{AreEntries, entries_left}
 
 -- one of these, which stand behind an entry, has the component of one of the files before it
@@ -18,8 +18,12 @@ abbrev pub MeetsPast : EarlierFiles → EarlierFiles → Entry → Entry → Boo
 MeetsPast old new first next answer =
     (others : List TreeEntry) → (is_short (shown first) (shown next ∷ others) || is_met old first (shown next ∷ others)) ≡ (answer || is_met new next others)
 
--- an entry may stand before the others, and none of those has the component of a file before it: so it is where the answer
--- is true and none behind the next has one
-abbrev pub LeadsPast : EarlierFiles → EarlierFiles → Entry → Entry → Bytes → Bool → Type 0
-LeadsPast old new first next after answer =
-    AreEntries after → (leads_from first next after && not (is_met old first (shown next ∷ entries_left after))) ≡ (answer && not (is_met new next (entries_left after)))
+-- an entry may stand before the next one and the others, and none of those has the component of a file before it: so it is
+-- where the answer is true and none behind the next has one
+abbrev pub LeadsPast : EarlierFiles → EarlierFiles → Entry → Entry → List TreeEntry → Bool → Type 0
+LeadsPast old new first next others answer =
+    (leads (shown first) (shown next ∷ others) && not (is_met old first (shown next ∷ others))) ≡ (answer && not (is_met new next others))
+
+-- the same of the entries that the bytes behind the next one are
+abbrev pub LeadsPastFrom : EarlierFiles → EarlierFiles → Entry → Entry → Bytes → Bool → Type 0
+LeadsPastFrom old new first next after answer = AreEntries after → LeadsPast old new first next (entries_left after) answer

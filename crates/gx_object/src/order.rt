@@ -1,58 +1,66 @@
 //! Which lists of entries are a tree's: the components are proper and differ, and a directory is sorted as if its
 //! component ended in a slash.
 
-ghost use Rattle.std.specs.Prelude.{◌≡◌, ◌++◌, true, map, nat_lt};
+ghost use Rattle.std.specs.Prelude.{◌≡◌, ◌≤◌, ◌++◌, ◌∷◌, true, length, map, nat_lt};
 ghost use Rattle.std.specs.List.{list_all};
 ghost use Rattle.std.specs.Ordering.{nat_cmp};
 ghost use Rattle.std.specs.Cmp.Lexicographic.{slice_cmp};
 ghost use Rattle.gx_model.specs.Texts.Paths.{is_component};
 ghost use Rattle.gx_model.specs.Objects.{entry_key, is_canonical};
-ghost use Rattle.gx_object.specs.Order.{are_ordered, comes_before, is_repeated, leads, meets, precedes};
+ghost use Rattle.gx_object.specs.Order.{comes_before, is_long_repeated, meets};
 ghost use Rattle.gx_object.specs.Entries.{mark_of, shown};
+ghost use Rattle.gx_object.specs.Passing.{LeadsPast};
 
+use crate::earlier_files::{EarlierFiles, MOST, is_front};
 use crate::{Entry, Mode};
 use std::cmp::Ordering;
 
 /// Whether the entries are those of a tree, in its order: each component is proper and no two are equal, and the
 /// components, with a slash after that of a directory, stand in byte order. The empty list is canonical.
 ///
-/// Cost: the length of the entries and, for each file, of the entries after it whose components begin with its own.
-/// Takes no memory. Source: Pro Git, "Git Objects".
+/// Cost: the length of the entries and, for each file whose component has 4,096 bytes or more, which no path leads to, the
+/// length of the entries after it whose components begin with its own. Takes no memory. Source: Pro Git, "Git Objects".
 pub fn is_canonical(entries: &[Entry<'_>]) -> bool
     ensures { result ≡ is_canonical (map shown entries.now) }
 {
-    for i in 0..entries.len() {
-        if !leads(&entries[i], &entries[i + 1..]) {
+    let Some((mut before, mut rest)) = entries.split_first() else {
+        return true;
+    };
+    let mut files = EarlierFiles::none();
+    while let Some((next, after)) = rest.split_first() {
+        if !leads(&mut files, before, next, after) {
             return false;
         }
+        before = next;
+        rest = after;
     }
-    true
+    is_component(before.component)
 }
 
-/// Whether an entry may stand before these.
-fn leads(first: &Entry<'_>, others: &[Entry<'_>]) -> bool
-    ensures { result ≡ leads (shown first.now) (map shown others.now) }
+/// Whether an entry may stand before the next one and the entries after that, and none of them has an earlier file's
+/// component as far as the next one tells.
+fn leads(files: &mut EarlierFiles, first: &Entry<'_>, next: &Entry<'_>, after: &[Entry<'_>]) -> bool
+    requires { files.old.above ≤ length first.now.component.now }
+    ensures within { result ≡ true → files.new.above ≤ length next.now.component.now }
+    ensures leads { LeadsPast files.old files.new first.now next.now (map shown after.now) result }
 {
-    is_component(first.component) && precedes(first, others) && !is_repeated(first, others)
+    is_component(first.component)
+        && comes_before(first, next)
+        && !is_long_repeated(first, next, after)
+        && !files.meet(first, next)
 }
 
-fn precedes(first: &Entry<'_>, others: &[Entry<'_>]) -> bool
-    ensures { result ≡ precedes (shown first.now) (map shown others.now) }
+/// Whether a file whose component is too long to be remembered stands again behind itself. The order leaves that to a
+/// directory after a file, and lets only entries stand between them whose components begin with the file's.
+fn is_long_repeated(first: &Entry<'_>, next: &Entry<'_>, after: &[Entry<'_>]) -> bool
+    ensures { result ≡ is_long_repeated (shown first.now) (shown next.now ∷ map shown after.now) }
 {
-    match others.first() {
-        Some(next) => comes_before(first, next),
-        None => true,
-    }
+    first.component.len() >= MOST
+        && is_front(first, next)
+        && (next.component == first.component || meets(first.component, after))
 }
 
-/// Whether a later entry has this one's component. The order leaves that to a directory after a file, and lets only
-/// entries stand between them whose components begin with the file's.
-fn is_repeated(first: &Entry<'_>, others: &[Entry<'_>]) -> bool
-    ensures { result ≡ is_repeated (shown first.now) (map shown others.now) }
-{
-    first.mode != Mode::Dir && meets(first.component, others)
-}
-
+/// Whether one of the first entries, whose components begin with this one, has it.
 fn meets(component: &[u8], others: &[Entry<'_>]) -> bool
     ensures { result ≡ meets component.now (map shown others.now) }
 {

@@ -8,7 +8,7 @@ ghost use Rattle.gx_model.specs.Objects.{Entry as TreeEntry, IsTreeText, is_cano
 ghost use Rattle.gx_object.specs.Order.{meets};
 ghost use Rattle.gx_object.specs.Trees.{AreEntries, entries_left, is_tree, tree_of};
 ghost use Rattle.gx_object.specs.Entries.{is_long_repeated_from, meets_from, shown};
-ghost use Rattle.gx_object.specs.Passing.{LeadsPast};
+ghost use Rattle.gx_object.specs.Passing.{LeadsPastFrom};
 ghost use Rattle.gx_object.specs.Parts.{FindsEach};
 
 use crate::earlier_files::{EarlierFiles, MOST, is_front};
@@ -137,7 +137,7 @@ fn is_tree(body: &[u8]) -> bool
 fn leads(files: &mut EarlierFiles, first: &Entry<'_>, next: &Entry<'_>, after: &[u8]) -> bool
     requires { files.old.above ≤ length first.now.component.now }
     ensures within { result ≡ true → files.new.above ≤ length next.now.component.now }
-    ensures leads { LeadsPast files.old files.new first.now next.now after.now result }
+    ensures leads { LeadsPastFrom files.old files.new first.now next.now after.now result }
 {
     is_component(first.component)
         && comes_before(first, next)

@@ -107,3 +107,6 @@ pub mod SetBranches
 pub mod RangeReplays
 pub mod SpelledRanges
 pub mod ReadableRanges
+pub mod ReachableObjects
+pub mod PrunedHistories
+pub mod PrunedAnswers

@@ -138,11 +138,13 @@ below_cross c p k d l (x ∷ xs) kc kd n e i h =
 
 -- ---- contents
 
-blobs_placed : (c : Bytes) (f : FileMap Bytes) → blobs_of (placed c f) ≡ blobs_of f
+-- a component before each path changes no bytes
+pub blobs_placed : (c : Bytes) (f : FileMap Bytes) → blobs_of (placed c f) ≡ blobs_of f
 blobs_placed c [] = refl
 blobs_placed c (e ∷ es) = ap (cons_option (blob_of e.1.0 e.1.1)) (blobs_placed c es)
 
-blobs_append : (xs ys : FileMap Bytes) → blobs_of (xs ++ ys) ≡ blobs_of xs ++ blobs_of ys
+-- the bytes of two lists in a row
+pub blobs_append : (xs ys : FileMap Bytes) → blobs_of (xs ++ ys) ≡ blobs_of xs ++ blobs_of ys
 blobs_append [] ys = refl
 blobs_append (e ∷ xs) ys = ap (cons_option (blob_of e.1.0 e.1.1)) (blobs_append xs ys) ∙ by (blob_of e.1.0 e.1.1)
   where

@@ -7,6 +7,7 @@ pub mod FileMapLaws
 pub mod Headline
 pub mod HistoryLaws
 pub mod ObjectLaws
+pub mod PruningLaws
 pub mod RangeLaws
 pub mod RepositoryLaws
 pub mod StoreLaws

@@ -4,6 +4,7 @@ pub mod Faults
 pub mod Histories
 pub mod Laws
 pub mod Objects
+pub mod Pruning
 pub mod Records
 pub mod Replay
 pub mod Revisions

@@ -4,6 +4,7 @@ pub mod CommandShapeRows
 pub mod ExportRows
 pub mod FeatureRows
 pub mod ImportRows
+pub mod PruningRows
 pub mod RevisionRows
 pub mod RowTexts
 pub mod StoreRows

@@ -12,6 +12,7 @@ pub mod headline;
 pub mod history_laws;
 pub mod object_laws;
 mod objects;
+pub mod pruning_laws;
 pub mod range_laws;
 pub mod replay_laws;
 pub mod repository_laws;

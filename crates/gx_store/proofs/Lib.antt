@@ -7,3 +7,4 @@ pub mod Chained
 pub mod Picking
 pub mod FrontOrder
 pub mod Between
+pub mod Retained

@@ -5,3 +5,4 @@ pub mod Objects
 pub mod NameOrder
 pub mod Chains
 pub mod StoreFaults
+pub mod Marked

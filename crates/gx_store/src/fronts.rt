@@ -78,6 +78,22 @@ impl<A: Allocator + Copy> Fronts<A> {
         }
     }
 
+    /// Puts these names in place of all, into the chains that there are. Cost: the chains and the names. Takes no memory.
+    pub(crate) fn refill<V>(&mut self, names: &IndexMap<Name, V, RandomState, A>)
+        requires chains { index_map_len names.now ≤ vec_len self.old.heads }
+        requires room { vec_len self.old.heads ≤ vec_capacity self.old.next }
+        ensures { AreFronts self.new (keys names.now) }
+    {
+        self.heads.fill(0);
+        self.next.clear();
+        for place in 0..names.len() {
+            let Some((name, _)) = names.get_index(place) else {
+                unreachable!()
+            };
+            self.put(name);
+        }
+    }
+
     /// What lies between two names, both included.
     ///
     /// Cost: the chains from the first one's to the second's and the names in them, up to the second name that is found.

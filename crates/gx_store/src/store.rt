@@ -1,12 +1,13 @@
 //! The records of a repository, by their names and by their places.
 
-ghost use Rattle.std.specs.Prelude.{◌≡◌, ◌≤◌, ◌↔◌, length, [], map, slice_get, take, None, IsTrue};
+ghost use Rattle.std.specs.Prelude.{◌≡◌, ◌≤◌, ◌↔◌, length, [], drop, map, slice_get, take, None, IsTrue};
 ghost use Rattle.std.specs.List.{slice_range};
 ghost use Rattle.std.specs.Option.{option_map};
 ghost use Rattle.gx_model.specs.Records.Growth.{record_named};
 ghost use Rattle.gx_model.specs.Records.Lookups.{records_begun_by};
 ghost use Rattle.gx_store.specs.Stores.{AreHeld, IsFound, Puts, PutsObject, named_object, place_named, record_under, shown_object, shown_record};
 ghost use Rattle.gx_store.specs.Bodies.{bytes_of};
+ghost use Rattle.gx_store.specs.Marked.{first_mark, marked};
 ghost use Rattle.gx_store.specs.Prefixes.{prefix_of};
 ghost use Rattle.gx_store.specs.Objects.{shown_stored};
 
@@ -183,6 +184,30 @@ impl<N: Namer, A: Allocator + Copy> Store<N, A> {
                 drop(object);
             }
         }
+    }
+
+    /// Keeps the objects alone at whose places a mark stands, in their order.
+    ///
+    /// Cost: the number of objects, and what is dropped. No body is read, and no name is hashed. Takes no memory. Source:
+    /// git-prune(1).
+    pub fn retain(&mut self, marks: &[bool])
+        ensures { self.new ≡ (self.old.0, marked marks.now self.old.1) }
+    {
+        let mut rest = marks;
+        self.objects.retain(
+            move |_name: &Name, object: &mut Object<A>| -> bool
+                ensures mark { result ≡ first_mark rest.entry.now }
+                ensures rest { rest.exit.now ≡ drop 1 rest.entry.now }
+                ensures same { object.new ≡ object.old }
+            {
+                let Some((mark, behind)) = rest.split_first() else {
+                    return false;
+                };
+                rest = behind;
+                *mark
+            },
+        );
+        self.fronts.refill(&self.objects);
     }
 
     /// The name that begins with these digits, of either case. An empty prefix begins every name, while more than 40

@@ -12,3 +12,5 @@ pub mod EntryRooms
 pub mod CheckedEntries
 pub mod ContentFaults
 pub mod AddedRecords
+pub mod PrunedRecords
+pub mod ReportedRefs

@@ -12,3 +12,5 @@ pub mod GivenBytes
 pub mod Checking
 pub mod Earlier
 pub mod FileFaults
+pub mod Pruning
+pub mod Reporting

@@ -39,6 +39,8 @@ pub(super) enum Call<'a> {
     Publish(&'a [RefChange<'a>]),
     /// The first objects alone are kept, and the tree has no files any more.
     Truncate(usize),
+    /// What no ref reaches goes, with so many bytes, and the tree has no files any more. How many objects are that?
+    Prune(u128),
     /// A blob is added, and put at a path of the tree.
     File(&'a [u8], &'a [u8]),
     /// The tree is added.
@@ -374,6 +376,22 @@ fn truncate<'a, N: Namer>(
     Answer::Done
 }
 
+/// Lets go what no ref reaches, and clears the tree. Answers how many objects go, where they have so many bytes.
+fn prune<'a, N: Namer>(
+    repo: &mut Repo<N, &'a Heap>,
+    tree: &mut PathTree<&'a Heap>,
+    bytes: u128,
+) -> Answer
+    ensures named { IsNamedMap repo.new.1.records tree.new.files }
+{
+    tree.clear();
+    match repo.prune() {
+        Ok(gone) if gone.bytes == bytes => Answer::Counted(gone.objects),
+        Ok(_) => Answer::Nothing,
+        Err(_) => Answer::OutOfMemory,
+    }
+}
+
 /// Does what is called for.
 pub(super) fn perform<'a, N: Namer>(
     heap: &'a Heap,
@@ -394,6 +412,7 @@ pub(super) fn perform<'a, N: Namer>(
         }
         Call::Tree => added(add_tree(repo, tree)),
         Call::Truncate(len) => truncate(repo, tree, len),
+        Call::Prune(bytes) => prune(repo, tree, bytes),
         Call::Clear => {
             tree.clear();
             Answer::Done

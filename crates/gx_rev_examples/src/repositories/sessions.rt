@@ -125,6 +125,7 @@ fn call_of<'a>(step: &'a Step<'a>) -> Call<'a> {
         "tag" => Call::Tag(step.names[0], step.bytes),
         "publish" => Call::Publish(step.changes.as_slice()),
         "truncate" => Call::Truncate(first.parse::<usize>().unwrap_or(0)),
+        "prune" => Call::Prune(first.parse::<u128>().unwrap_or(0)),
         "file" => Call::File(first.as_bytes(), step.bytes),
         "tree" => Call::Tree,
         "clear" => Call::Clear,

@@ -151,6 +151,25 @@ fn prefixes_are_found_among_many_records(rt: HostRuntime) -> Result<(), Fail> {
     all_done(first_failed(&mut store))
 }
 
+#[test]
+fn prefixes_are_found_among_the_records_that_stay(rt: HostRuntime) -> Result<(), Fail> {
+    let state = RandomState::new(&rt)?;
+    let mut store = Store::new(rt.alloc(), Sha1Namer, state);
+    let mut marks = Vec::new(rt.alloc());
+    for number in 0..300u64 {
+        marks.push(number % 3 == 1)?;
+    }
+    assert!(rt; put_numbers(&mut store, (0, 300)));
+    store.retain(&marks);
+    assert_eq!(rt; store.len(), 100);
+    assert!(rt; finds_each(&store, 3));
+    assert!(rt; misses_each(&store, (299, 301)));
+    assert!(rt; put_numbers(&mut store, (0, 300)));
+    assert_eq!(rt; store.len(), 300);
+    assert!(rt; finds_each(&store, 3));
+    Ok(())
+}
+
 /// A store whose heap may be told to refuse a growth.
 type RefusingStore<'a> = Store<Sha1Namer, &'a Refusing<Global>>;
 

@@ -1,0 +1,185 @@
+-- The refs that differ between two times, one after the other.
+use Rattle.std.proofs.Common.{◌≡◌, ◌<◌, ◌+◌, Bool, true, false, cond, List, [], ◌∷◌, ◌++◌, append_assoc, append-nil, length, map, Option, Some, None, inl, inr, refl, sym, ap, subst, ◌∙◌, arith}
+use Rattle.std.specs.Prelude.{T, ◌⊎◌, ◌&&◌, is_some, IsTrue}
+use Rattle.std.specs.Bool.{passes}
+use Rattle.std.specs.FinMap.Entries.{below_all, find, is_sorted}
+use Rattle.std.specs.List.{flat_map}
+use Rattle.std.specs.Map.{lookup}
+use Rattle.std.specs.Option.{option_eq}
+use Rattle.std.specs.Ordering.{is_lt}
+use Rattle.std.specs.declared.cmp.Ordering.{Ordering}
+use Rattle.std.specs.declared.cmp.Ordering.TheVariants.{Less, Equal, Greater}
+use Rattle.std.proofs.lemmas.Bool.{false≢true}
+use Rattle.gx_model.specs.Records.Publishing.{Ref}
+use Rattle.gx_model.specs.Replay.{byte_cmp}
+use Rattle.gx_model.specs.Texts.{Bytes, same_bytes}
+use Rattle.gx_model.proofs.PathTests.{both, first, is_same, is_true, same_is, second}
+use Rattle.gx_model.proofs.TextMaps.{lookup_is, none_below, order}
+use Rattle.gx_repo.specs.Refs.{object_named}
+use Rattle.gx_repo.specs.Reporting.{AreChanges, IsFrom, IsNextName, IsReport, Objects, behind, change_line, line_where_they_differ, object_first, where_they_differ}
+
+-- ---- in order
+
+is_less : (o : Ordering) → T (is_lt o) → o ≡ Less
+is_less Less h = refl
+is_less Equal h = absurd h
+is_less Greater h = absurd h
+
+-- what is before a name is before all that are behind it
+below_further : (n m : Bytes) (rs : List Ref) → T (is_lt (byte_cmp n m)) → T (below_all byte_cmp m rs) → T (below_all byte_cmp n rs)
+below_further n m [] l h = tt
+below_further n m (r ∷ rs) l h =
+    both (is_lt (byte_cmp n r.0)) (below_all byte_cmp n rs) (subst (λ o. T (is_lt o)) (sym (order.trans n m r.0 (is_less _ l) (is_less _ (first _ _ h)))) tt)
+    (below_further n m rs l (second (is_lt (byte_cmp m r.0)) (below_all byte_cmp m rs) h))
+
+-- the refs behind a name that none is before are later
+later : (n : Bytes) (rs : List Ref) → T (is_sorted byte_cmp rs) → IsFrom n rs → T (below_all byte_cmp n (behind rs n))
+later n [] s f = tt
+later n (r ∷ rs) s f = by (same_bytes r.0 n) refl f where
+  by : (b : Bool) → same_bytes r.0 n ≡ b → (n ≡ r.0) ⊎ IsTrue (is_lt (byte_cmp n r.0)) → T (below_all byte_cmp n (cond b rs (r ∷ rs)))
+  by true e g = subst (λ m. T (below_all byte_cmp m rs)) (same_is r.0 n (passes _ e)) (first (below_all byte_cmp r.0 rs) _ s)
+  by false e (inl g) = absurd (false≢true (sym e ∙ is_true _ (is_same r.0 n (sym g))))
+  by false e (inr g) = both (is_lt (byte_cmp n r.0)) (below_all byte_cmp n rs) (passes _ g) (below_further n r.0 rs (passes _ g) (first (below_all byte_cmp r.0 rs) _ s))
+
+pub behind_sorted : (n : Bytes) (rs : List Ref) → T (is_sorted byte_cmp rs) → T (is_sorted byte_cmp (behind rs n))
+behind_sorted n [] s = tt
+behind_sorted n (r ∷ rs) s = by (same_bytes r.0 n) where
+  by : (b : Bool) → T (is_sorted byte_cmp (cond b rs (r ∷ rs)))
+  by true = second (below_all byte_cmp r.0 rs) _ s
+  by false = s
+
+-- a later name isn't found
+none_later : {X : Type 0} (n : Bytes) (es : List (Bytes × X)) → T (below_all byte_cmp n es) → lookup (same_bytes n) es ≡ None
+none_later n es h = lookup_is n es ∙ none_below n es h
+
+-- what is found is later
+found_later : {X : Type 0} (n m : Bytes) (es : List (Bytes × X)) → T (below_all byte_cmp n es) → T (is_some (lookup (same_bytes m) es)) → T (is_lt (byte_cmp n m))
+found_later n m [] h k = absurd k
+found_later {X} n m (e ∷ es) h k = by (same_bytes m e.0) refl k (found_later n m es (second (is_lt (byte_cmp n e.0)) (below_all byte_cmp n es) h)) where
+  by : (b : Bool) → same_bytes m e.0 ≡ b → T (is_some (cond b (Some e.1) (lookup (same_bytes m) es))) → (T (is_some (lookup (same_bytes m) es)) → T (is_lt (byte_cmp n m))) → T (is_lt (byte_cmp n m))
+  by true e2 j again = subst (λ x. T (is_lt (byte_cmp n x))) (sym (same_is m e.0 (passes _ e2))) (first (is_lt (byte_cmp n e.0)) _ h)
+  by false e2 j again = again j
+
+-- where all that is found is later, all is
+all_later : {X : Type 0} (n : Bytes) (es : List (Bytes × X)) → ((m : Bytes) → T (is_some (lookup (same_bytes m) es)) → T (is_lt (byte_cmp n m))) → T (below_all byte_cmp n es)
+all_later n [] f = tt
+all_later {X} n (e ∷ es) f = both (is_lt (byte_cmp n e.0)) (below_all byte_cmp n es) (f e.0 own) (all_later n es (λ m k. f m (more m k))) where
+  own : T (is_some (lookup (same_bytes e.0) (e ∷ es)))
+  own = subst (λ b. T (is_some (cond b (Some e.1) (lookup (same_bytes e.0) es)))) (sym (is_true _ (is_same e.0 e.0 refl))) tt
+
+  more : (m : Bytes) → T (is_some (lookup (same_bytes m) es)) → T (is_some (lookup (same_bytes m) (e ∷ es)))
+  more m k = by (same_bytes m e.0) where
+    by : (b : Bool) → T (is_some (cond b (Some e.1) (lookup (same_bytes m) es)))
+    by true = tt
+    by false = k
+
+-- ---- one name
+
+-- where no ref is before a name, the first has it, or none does
+first_is : (n : Bytes) (rs : List Ref) → T (is_sorted byte_cmp rs) → IsFrom n rs → object_named rs n ≡ object_first rs n
+first_is n [] s f = refl
+first_is n (r ∷ rs) s f = by (same_bytes r.0 n) refl f where
+  by : (b : Bool) → same_bytes r.0 n ≡ b → (n ≡ r.0) ⊎ IsTrue (is_lt (byte_cmp n r.0)) → lookup (same_bytes n) (r ∷ rs) ≡ cond b (Some r.1) None
+  by true e g = ap (λ b. cond b (Some r.1) (lookup (same_bytes n) rs)) (is_true _ (is_same n r.0 (sym (same_is r.0 n (passes _ e)))))
+  by false e (inl g) = absurd (false≢true (sym e ∙ is_true _ (is_same r.0 n (sym g))))
+  by false e (inr g) = none_later n (r ∷ rs) (both (is_lt (byte_cmp n r.0)) (below_all byte_cmp n rs) (passes _ g) (below_further n r.0 rs (passes _ g) (first (below_all byte_cmp r.0 rs) _ s)))
+
+-- another name is found behind it
+other_is : (n m : Bytes) (rs : List Ref) → same_bytes m n ≡ false → object_named rs m ≡ object_named (behind rs n) m
+other_is n m [] e = refl
+other_is n m (r ∷ rs) e = by (same_bytes r.0 n) refl where
+  by : (b : Bool) → same_bytes r.0 n ≡ b → lookup (same_bytes m) (r ∷ rs) ≡ lookup (same_bytes m) (cond b rs (r ∷ rs))
+  by true k = ap (λ b. cond b (Some r.1) (lookup (same_bytes m) rs)) (ap (same_bytes m) (same_is r.0 n (passes _ k)) ∙ e)
+  by false k = refl
+
+some_side : (old new : Option Bytes) → T (is_some (where_they_differ old new)) → T (is_some old) ⊎ T (is_some new)
+some_side (Some x) new h = inl tt
+some_side None (Some y) h = inr tt
+some_side None None h = absurd h
+
+abbrev one : Bytes → Option Objects → List (Bytes × Objects)
+one n None = []
+one n (Some objects) = (n, objects) ∷ []
+
+module _ (n : Bytes) (os ns : List Ref) (os_sorted : T (is_sorted byte_cmp os)) (ns_sorted : T (is_sorted byte_cmp ns)) (os_from : IsFrom n os) (ns_from : IsFrom n ns) (cs : List (Bytes × Objects)) (are : AreChanges (behind os n) (behind ns n) cs) where
+  abbrev here : Option Objects
+  here = where_they_differ (object_first os n) (object_first ns n)
+
+  old_later : T (below_all byte_cmp n (behind os n))
+  old_later = later n os os_sorted os_from
+
+  new_later : T (below_all byte_cmp n (behind ns n))
+  new_later = later n ns ns_sorted ns_from
+
+  rest_later : T (below_all byte_cmp n cs)
+  rest_later = all_later n cs (λ m k.
+      elim (some_side (object_named (behind os n) m) (object_named (behind ns n) m) (subst (λ o. T (is_some o)) (are.objects m) k)) [
+        | inl j ↦ found_later n m (behind os n) old_later j
+        | inr j ↦ found_later n m (behind ns n) new_later j
+      ])
+
+  all_sorted : (o : Option Objects) → IsTrue (is_sorted byte_cmp (one n o ++ cs))
+  all_sorted None = are.sorted
+  all_sorted (Some objects) = is_true _ (both (below_all byte_cmp n cs) (is_sorted byte_cmp cs) rest_later (passes _ are.sorted))
+
+  at_name : (m : Bytes) (b : Bool) → same_bytes m n ≡ b → (o : Option Objects) → here ≡ o → lookup (same_bytes m) (one n o ++ cs) ≡ where_they_differ (object_named os m) (object_named ns m)
+  at_name m true e (Some objects) h =
+      let is : m ≡ n = same_is m n (passes _ e) in
+      ap (λ b. cond b (Some objects) (lookup (same_bytes m) cs)) e ∙ sym h
+      ∙ (λ i. where_they_differ (sym (first_is n os os_sorted os_from) i) (sym (first_is n ns ns_sorted ns_from) i))
+      ∙ ap (λ x. where_they_differ (object_named os x) (object_named ns x)) (sym is)
+  at_name m true e None h =
+      let is : m ≡ n = same_is m n (passes _ e) in
+      ap (λ x. lookup (same_bytes x) cs) is ∙ none_later n cs rest_later ∙ sym h
+      ∙ (λ i. where_they_differ (sym (first_is n os os_sorted os_from) i) (sym (first_is n ns ns_sorted ns_from) i))
+      ∙ ap (λ x. where_they_differ (object_named os x) (object_named ns x)) (sym is)
+  at_name m false e (Some objects) h =
+      ap (λ b. cond b (Some objects) (lookup (same_bytes m) cs)) e ∙ are.objects m ∙ (λ i. where_they_differ (sym (other_is n m os e) i) (sym (other_is n m ns e) i))
+  at_name m false e None h = are.objects m ∙ (λ i. where_they_differ (sym (other_is n m os e) i) (sym (other_is n m ns e) i))
+
+  -- the changes behind a name that none is before, with its own
+  pub with_next : AreChanges os ns (one n here ++ cs)
+  with_next = record { sorted = all_sorted here; objects = λ m. at_name m (same_bytes m n) refl here refl }
+
+-- ---- all names
+
+pub no_changes : AreChanges [] [] []
+no_changes = record { sorted = refl; objects = λ m. refl }
+
+-- these lines are written, and the changes of those refs are left
+pub record IsReportedTo (old new before after : List Ref) (report : Bytes) : Type 0 where
+  pub before_sorted : T (is_sorted byte_cmp before)
+  pub after_sorted : T (is_sorted byte_cmp after)
+  pub done : List (Bytes × Objects)
+  pub text : report ≡ flat_map change_line done
+  pub rest : (cs : List (Bytes × Objects)) → AreChanges before after cs → AreChanges old new (done ++ cs)
+
+pub reported_none : (old new : List Ref) (report : Bytes) → IsTrue (is_sorted byte_cmp old) → IsTrue (is_sorted byte_cmp new) → report ≡ [] → IsReportedTo old new old new report
+reported_none old new report s t e = record { before_sorted = passes _ s; after_sorted = passes _ t; done = []; text = e; rest = λ cs h. h }
+
+lines_both : (xs ys : List (Bytes × Objects)) → flat_map change_line (xs ++ ys) ≡ flat_map change_line xs ++ flat_map change_line ys
+lines_both [] ys = refl
+lines_both (x ∷ xs) ys = ap (λ t. change_line x ++ t) (lines_both xs ys) ∙ sym (append_assoc (change_line x) (flat_map change_line xs) (flat_map change_line ys))
+
+line_of_one : (n : Bytes) (o : Option Objects) → line_where_they_differ n o ≡ flat_map change_line (one n o)
+line_of_one n None = refl
+line_of_one n (Some objects) = sym (append-nil (change_line (n, objects)))
+
+pub reported_next : (old new before after : List Ref) (report more : Bytes) (n : Bytes) → IsReportedTo old new before after report → IsNextName before after n
+    → more ≡ report ++ line_where_they_differ n (where_they_differ (object_first before n) (object_first after n)) → IsReportedTo old new (behind before n) (behind after n) more
+reported_next old new before after report more n h next e =
+    let o = where_they_differ (object_first before n) (object_first after n) in
+    record {
+      before_sorted = behind_sorted n before h.before_sorted;
+      after_sorted = behind_sorted n after h.after_sorted;
+      done = h.done ++ one n o;
+      text = e ∙ (λ i. h.text i ++ line_of_one n o i) ∙ sym (lines_both h.done (one n o));
+      rest = λ cs are. subst (AreChanges old new) (sym (append_assoc h.done (one n o) cs)) (h.rest (one n o ++ cs) (with_next n before after h.before_sorted h.after_sorted next.0 next.1 cs are));
+    }
+
+pub reported_all : (old new before after : List Ref) (report : Bytes) → IsReportedTo old new before after report → before ≡ [] → after ≡ [] → IsReport old new report
+reported_all old new before after report h e f = record {
+  changes = h.done;
+  are = subst (AreChanges old new) (append-nil h.done) (h.rest [] (subst (λ x. AreChanges x after []) (sym e) (subst (λ x. AreChanges [] x []) (sym f) no_changes)));
+  text = h.text;
+}

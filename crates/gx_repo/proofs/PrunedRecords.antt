@@ -1,5 +1,5 @@
 -- Marks of the records that refs reach.
-use Rattle.std.proofs.Common.{◌≡◌, ℕ, zero, suc, ◌+◌, ◌<◌, ◌≤◌, Bool, true, false, cond, List, [], ◌∷◌, ◌++◌, append_assoc, append-nil, drop, drop_of_length-le, get_or, length, map, set, take, Some, None, refl, sym, ap, subst, ◌∙◌, arith}
+use Rattle.std.proofs.Common.{◌≡◌, ℕ, zero, suc, ◌+◌, ◌<◌, ◌≤◌, Bool, true, false, cond, List, [], ◌∷◌, ◌++◌, append_assoc, append-nil, drop, drop_of_length-le, get_or, length, map, replicate, set, take, Some, None, refl, sym, ap, subst, ◌∙◌, arith}
 use Rattle.std.specs.Prelude.{◌||◌, ◌&&◌}
 use Rattle.std.specs.List.{filter, filter_map, list_any, slice_get}
 use Rattle.std.specs.Bool.{passes}
@@ -239,3 +239,12 @@ module _ (refs : List Ref) (all : List Record) (k : ℕ) (old : List Bool) (was 
 -- before any record is gone through, what refs hold is marked
 pub spread_none : (refs : List Ref) (all : List Record) (k : ℕ) (marks : List Bool) → length all ≤ k → marks ≡ marks_by (is_tip refs) all → marks ≡ marks_by (is_reachable refs (drop k all)) all
 spread_none refs all k marks l e = e ∙ ap (λ rs. marks_by (is_reachable refs rs) all) (sym (drop_of_length-le all l))
+
+-- the next of a commit's parents
+pub next_parent : (ns : List Bytes) (i : ℕ) (n : Bytes) → Some n ≡ slice_get ns i → drop i ns ≡ n ∷ drop (i + 1) ns
+next_parent ns i n e = drop_more ns i n (slice_get_within ns i n (sym e)) ∙ ap (λ x. x ∷ drop (i + 1) ns) (get_or_from_slice_get ns i n n (sym e))
+
+-- no record is marked
+pub none_marked : (rs : List Record) → replicate (length rs) false ≡ marks_by (λ n. false) rs
+none_marked [] = refl
+none_marked (r ∷ rs) = ap (λ ms. false ∷ ms) (none_marked rs)

@@ -1,6 +1,6 @@
 //! Objects that no ref reaches. The objects that refs hold are marked by their places, and one pass from the newest record on
 //! spreads the marks: what an object names stands before it. Source: git-prune(1), and gitglossary(7), "reachable".
-ghost use Rattle.std.specs.Prelude.{◌≡◌, [], ◌∷◌, length, map, IfOk};
+ghost use Rattle.std.specs.Prelude.{◌≡◌, [], ◌∷◌, false, length, map, replicate, IfOk};
 ghost use Rattle.gx_model.specs.declared.objects.Kind.TheVariants as kinds;
 ghost use Rattle.gx_model.specs.Laws.StoreLaws.{IsBody};
 ghost use Rattle.gx_model.specs.Pruning.{is_reachable, links_of};
@@ -36,9 +36,22 @@ pub(crate) fn reachable_marks<N: Namer, A: Allocator + Copy>(
 {
     let count = store.len();
     let mut marks = vec![in alloc; false; count]?;
-    mark_tips(store, &mut marks, refs);
-    spread(store, &mut marks);
+    mark_reachable(store, &mut marks, refs);
     Ok(marks)
+}
+
+/// Marks what refs reach, where nothing is marked.
+fn mark_reachable<N: Namer, A: Allocator + Copy>(
+    store: &Store<N, A>,
+    marks: &mut [bool],
+    refs: &[Ref<A>],
+)
+    requires sound { IsSoundStore N.name_of store.now }
+    requires none { marks.old ≡ replicate (length store.now.1) false }
+    ensures { marks.new ≡ marks_by (is_reachable (map shown_ref refs.now) store.now.1) store.now.1 }
+{
+    mark_tips(store, marks, refs);
+    spread(store, marks);
 }
 
 /// The number of bytes in the bodies of all objects. Takes no memory.

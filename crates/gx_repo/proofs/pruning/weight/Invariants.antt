@@ -3,4 +3,4 @@ use Rattle.gx_repo.specs.Pruning.{weight}
 use Rattle.gx_repo.proofs.pruning.weight.Given as goal
 
 abbrev pub invariant-loop-place : goal.invariant-loop-place
-invariant-loop-place g l = (l.bytes ≡ weight (take l.place l.store.1)) × (l.bytes ≤ l.place * 9223372036854775808)
+invariant-loop-place g l = (l.bytes ≡ weight (take l.place l.store.1)) × (l.bytes ≤ l.place * 18446744073709551616)

@@ -12,11 +12,13 @@ use Rattle.gx_model.specs.declared.objects.Mode.{Mode}
 use Rattle.gx_model.specs.declared.objects.Mode.TheVariants.{Dir, Exec, File, Gitlink, Link}
 use Rattle.gx_model.specs.Texts.{Bytes, same_bytes}
 use Rattle.gx_model.specs.Histories.{AreDistinct, Record, Records}
+use Rattle.gx_model.specs.Laws.PruningLaws.{PrunedStands}
+use Rattle.gx_model.specs.Laws.RepositoryLaws.{with_records}
 use Rattle.gx_model.specs.Laws.StoreLaws.{IsBody}
 use Rattle.gx_model.specs.Objects.{Entry}
 use Rattle.gx_model.specs.Pruning.{is_reachable, is_tip, link_of, links_of, links_to, pruned}
 use Rattle.gx_model.specs.Records.Publishing.{Ref}
-use Rattle.gx_model.specs.Records.Sound.{IsLinked, IsLinkedAfter}
+use Rattle.gx_model.specs.Records.Sound.{IsLinked, IsLinkedAfter, IsSound}
 use Rattle.gx_model.proofs.PathTests.{is_same, is_true, same_is}
 use Rattle.gx_store.specs.Marked.{first_mark, marked}
 use Rattle.gx_store.specs.Stores.{place_named}
@@ -195,6 +197,27 @@ marked_left test (r ∷ rs) = ap (λ left. cond (test r.name) (r ∷ left) left)
 pub pruned_left : (r : Records) (marks : List Bool) → marks ≡ marks_by (is_reachable r.refs r.records) r.records → marked marks r.records ≡ (pruned r).records
 unfolding pruned
 pruned_left r marks e = ap (λ ms. marked ms r.records) e ∙ marked_left (is_reachable r.refs r.records) r.records
+
+-- what a repository holds is sound without its refs
+pub store_sound : (name : Kind → Bytes → Bytes) (r : Records) → IsSound name r → IsSound name (record { records = r.records; refs = [] })
+store_sound name r s = record { named = s.named; distinct = s.distinct; linked = s.linked; paths = s.paths; sorted = refl; ref_names = refl; held = tt }
+
+-- with those that are left it is the repository that is wanted
+pub pruned_is : (r : Records) (marks : List Bool) → marks ≡ marks_by (is_reachable r.refs r.records) r.records → with_records r (marked marks r.records) ≡ pruned r
+unfolding pruned
+pruned_is r marks e = ap (with_records r) (pruned_left r marks e)
+
+-- which is sound
+pub pruned_sound : (name : Kind → Bytes → Bytes) → PrunedStands name → (r : Records) (marks : List Bool) → IsSound name r → marks ≡ marks_by (is_reachable r.refs r.records) r.records → IsSound name (with_records r (marked marks r.records))
+pruned_sound name law r marks s e = subst (IsSound name) (sym (pruned_is r marks e)) (law.sound r s)
+
+-- no more are left than there were
+pub marked_less : {X : Type 0} (marks : List Bool) (xs : List X) → length (marked marks xs) ≤ length xs
+marked_less marks [] = omega arith
+marked_less {X} marks (x ∷ xs) = by (first_mark marks) (marked_less (drop 1 marks) xs) where
+  by : (b : Bool) → length (marked (drop 1 marks) xs) ≤ length xs → length (cond b (x ∷ marked (drop 1 marks) xs) (marked (drop 1 marks) xs)) ≤ length (x ∷ xs)
+  by true l = omega (arith, l)
+  by false l = omega (arith, l)
 
 -- ---- bodies' bytes
 

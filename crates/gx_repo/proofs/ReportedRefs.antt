@@ -1,12 +1,13 @@
 -- The refs that differ between two times, one after the other.
-use Rattle.std.proofs.Common.{◌≡◌, ◌<◌, ◌+◌, Bool, true, false, cond, List, [], ◌∷◌, ◌++◌, append_assoc, append-nil, length, map, Option, Some, None, inl, inr, refl, sym, ap, subst, ◌∙◌, arith}
+use Rattle.std.proofs.Common.{◌≡◌, ◌<◌, ◌≤◌, ◌+◌, Bool, true, false, cond, List, [], ◌∷◌, ◌++◌, append_assoc, append-nil, length, map, Option, Some, None, inl, inr, refl, sym, ap, subst, ◌∙◌, arith}
 use Rattle.std.specs.Prelude.{T, ◌⊎◌, ◌&&◌, is_some, IsTrue}
 use Rattle.std.specs.Bool.{passes}
 use Rattle.std.specs.FinMap.Entries.{below_all, find, is_sorted}
-use Rattle.std.specs.List.{flat_map}
+use Rattle.std.specs.List.{flat_map, slice_get}
 use Rattle.std.specs.Map.{lookup}
 use Rattle.std.specs.Option.{option_eq}
-use Rattle.std.specs.Ordering.{is_lt}
+use Rattle.std.specs.Ordering.{is_lt, is_some_and, nat_cmp, ordering_reverse, partial_lt}
+use Rattle.std.specs.Cmp.Lexicographic.{lists_agrees, slice_partial_cmp}
 use Rattle.std.specs.declared.cmp.Ordering.{Ordering}
 use Rattle.std.specs.declared.cmp.Ordering.TheVariants.{Less, Equal, Greater}
 use Rattle.std.proofs.lemmas.Bool.{false≢true}
@@ -14,8 +15,9 @@ use Rattle.gx_model.specs.Records.Publishing.{Ref}
 use Rattle.gx_model.specs.Replay.{byte_cmp}
 use Rattle.gx_model.specs.Texts.{Bytes, same_bytes}
 use Rattle.gx_model.proofs.PathTests.{both, first, is_same, is_true, same_is, second}
-use Rattle.gx_model.proofs.TextMaps.{lookup_is, none_below, order}
-use Rattle.gx_repo.specs.Refs.{object_named}
+use Rattle.gx_model.proofs.TextMaps.{lookup_is, none_below, order, same_text}
+use Rattle.gx_repo.specs.Refs.{object_named, shown_ref}
+use Rattle.gx_repo.specs.declared.refs.Ref.{Ref as HeldRef}
 use Rattle.gx_repo.specs.Reporting.{AreChanges, IsFrom, IsNextName, IsReport, Objects, behind, change_line, line_where_they_differ, object_first, where_they_differ}
 
 -- ---- in order
@@ -140,6 +142,85 @@ module _ (n : Bytes) (os ns : List Ref) (os_sorted : T (is_sorted byte_cmp os)) 
   -- the changes behind a name that none is before, with its own
   pub with_next : AreChanges os ns (one n here ++ cs)
   with_next = record { sorted = all_sorted here; objects = λ m. at_name m (same_bytes m n) refl here refl }
+
+-- ---- the next name
+
+behind_own : (r : Ref) (rs : List Ref) (n : Bytes) → n ≡ r.0 → length (behind (r ∷ rs) n) ≡ length rs
+behind_own r rs n e = ap (λ b. length (cond b rs (r ∷ rs))) (is_true _ (is_same r.0 n (sym e)))
+
+behind_within : (n : Bytes) (rs : List Ref) → length (behind rs n) ≤ length rs
+behind_within n [] = omega arith
+behind_within n (r ∷ rs) = by (same_bytes r.0 n) where
+  by : (b : Bool) → length (cond b rs (r ∷ rs)) ≤ length (r ∷ rs)
+  by true = omega arith
+  by false = omega arith
+
+-- the first ref of the earlier time has the next name
+next_before : (r : Ref) (rs after : List Ref) (n : Bytes) → n ≡ r.0 → IsFrom n after → IsNextName (r ∷ rs) after n
+next_before r rs after n e f =
+    let own : length (behind (r ∷ rs) n) ≡ length rs = behind_own r rs n e in
+    let within : length (behind after n) ≤ length after = behind_within n after in
+    (inl e, f, omega (arith, own, within))
+
+-- and that of the later time
+next_after : (before : List Ref) (r : Ref) (rs : List Ref) (n : Bytes) → n ≡ r.0 → IsFrom n before → IsNextName before (r ∷ rs) n
+next_after before r rs n e f =
+    let own : length (behind (r ∷ rs) n) ≡ length rs = behind_own r rs n e in
+    let within : length (behind before n) ≤ length before = behind_within n before in
+    (f, inl e, omega (arith, own, within))
+
+-- what no other is less than is before it, or is it
+not_less : (n m : Bytes) → is_lt (byte_cmp m n) ≡ false → (n ≡ m) ⊎ IsTrue (is_lt (byte_cmp n m))
+not_less n m e = by (byte_cmp m n) refl e where
+  by : (o : Ordering) → byte_cmp m n ≡ o → is_lt o ≡ false → (n ≡ m) ⊎ IsTrue (is_lt (byte_cmp n m))
+  by Less h k = absurd (false≢true (sym k))
+  by Equal h k = inl (sym (same_text m n h))
+  by Greater h k = inr (ap is_lt (order.antisymm n m ∙ ap ordering_reverse h))
+
+-- the test of two slices is that of the byte order
+less_is : (x y : Bytes) → partial_lt (slice_partial_cmp (λ a b. Some (nat_cmp a b))) x y ≡ is_lt (byte_cmp x y)
+less_is x y = ap (is_some_and is_lt) (lists_agrees (λ a b. refl) x y)
+
+some_same : {X : Type 0} (x y : X) → Some x ≡ Some y → x ≡ y
+some_same x y e = cc
+
+module _ {A : Type 0} where
+  pub next_if_none_before : (before after : List (HeldRef A)) (r : HeldRef A) (n : Bytes) → None ≡ slice_get before 0 → Some r ≡ slice_get after 0 → n ≡ r.name.items → IsNextName (map shown_ref before) (map shown_ref after) n
+  next_if_none_before (q ∷ before) after r n none some e = absurd (cc)
+  next_if_none_before [] [] r n none some e = absurd (cc)
+  next_if_none_before [] (q ∷ after) r n none some e =
+      let same : r ≡ q = cc in
+      next_after [] (shown_ref q) (map shown_ref after) n (e ∙ ap (λ (x : HeldRef A). x.name.items) same) tt
+
+  pub next_if_none_after : (before after : List (HeldRef A)) (r : HeldRef A) (n : Bytes) → Some r ≡ slice_get before 0 → None ≡ slice_get after 0 → n ≡ r.name.items → IsNextName (map shown_ref before) (map shown_ref after) n
+  next_if_none_after before (q ∷ after) r n some none e = absurd (cc)
+  next_if_none_after [] [] r n some none e = absurd (cc)
+  next_if_none_after (q ∷ before) [] r n some none e =
+      let same : r ≡ q = cc in
+      next_before (shown_ref q) (map shown_ref before) [] n (e ∙ ap (λ (x : HeldRef A). x.name.items) same) tt
+
+  -- the first refs have these names, which were compared
+  module _ (p q : HeldRef A) (n x y : Bytes) (b : Bool) (x_is : x ≡ q.name.items) (y_is : y ≡ p.name.items) (test : b ≡ partial_lt (slice_partial_cmp (λ a c. Some (nat_cmp a c))) x y) where
+    tested : is_lt (byte_cmp q.name.items p.name.items) ≡ b
+    tested = (λ i. is_lt (byte_cmp (sym x_is i) (sym y_is i))) ∙ sym (less_is x y) ∙ sym test
+
+    pub next_if_less : (before after : List (HeldRef A)) → Some p ≡ slice_get before 0 → Some q ≡ slice_get after 0 → n ≡ q.name.items → b ≡ true → IsNextName (map shown_ref before) (map shown_ref after) n
+    next_if_less [] after first second e t = absurd (cc first)
+    next_if_less (s ∷ before) [] first second e t = absurd (cc second)
+    next_if_less (s ∷ before) (r ∷ after) first second e t =
+        let held : p ≡ s = some_same p s first in
+        let holds : q ≡ r = some_same q r second in
+        let less : is_lt (byte_cmp n s.name.items) ≡ true = (λ i. is_lt (byte_cmp (e i) (ap (λ (z : HeldRef A). z.name.items) (sym held) i))) ∙ tested ∙ t in
+        next_after (shown_ref s ∷ map shown_ref before) (shown_ref r) (map shown_ref after) n (e ∙ ap (λ (z : HeldRef A). z.name.items) holds) (inr less)
+
+    pub next_if_not_less : (before after : List (HeldRef A)) → Some p ≡ slice_get before 0 → Some q ≡ slice_get after 0 → n ≡ p.name.items → b ≡ false → IsNextName (map shown_ref before) (map shown_ref after) n
+    next_if_not_less [] after first second e t = absurd (cc first)
+    next_if_not_less (s ∷ before) [] first second e t = absurd (cc second)
+    next_if_not_less (s ∷ before) (r ∷ after) first second e t =
+        let held : p ≡ s = some_same p s first in
+        let holds : q ≡ r = some_same q r second in
+        let not : is_lt (byte_cmp r.name.items n) ≡ false = (λ i. is_lt (byte_cmp (ap (λ (z : HeldRef A). z.name.items) (sym holds) i) (e i))) ∙ tested ∙ t in
+        next_before (shown_ref s) (map shown_ref before) (shown_ref r ∷ map shown_ref after) n (e ∙ ap (λ (z : HeldRef A). z.name.items) held) (not_less n r.name.items not)
 
 -- ---- all names
 

@@ -2,14 +2,37 @@
 ghost use Rattle.std.specs.Prelude.{◌≡◌, ◌+◌, ◌<◌, ◌^◌, [], map, IsTrue, OnErr};
 ghost use Rattle.std.specs.FinMap.Entries.{is_sorted};
 ghost use Rattle.gx_model.specs.Replay.{byte_cmp};
-ghost use Rattle.gx_repo.specs.Dropping.{DropsFrom, EntersNames, is_in};
+ghost use Rattle.gx_repo.specs.Dropping.{DropsFrom, DropsRefs, EntersNames, KeepsValues, is_in};
 ghost use Rattle.gx_repo.specs.Refs.{shown_ref};
 ghost use Rattle.gx_repo.specs.declared.fault.DropFault.TheVariants.{UnknownRef};
 
 use crate::fault::DropFault;
 use crate::refs::{Ref, is_held};
+use crate::repo::Repo;
+use gx_model::repository_laws::parts_change;
+use gx_object::Namer;
 use std::alloc::Allocator;
 use std::collections::BTreeSet;
+
+impl<N: Namer, A: Allocator + Copy> Repo<N, A> {
+    /// Drops the refs of all of these names, or none. Other refs stay, and so do all objects.
+    ///
+    /// `UnknownRef`: the first name that no ref has, or that is given before. `OutOfMemory`: a growth was refused. After a fault
+    /// the repository is as it was.
+    /// Cost: for each name a binary search among the refs, and for each ref a look-up among the names. Memory: the places of the
+    /// names. Source: git-update-ref(1), "delete", and gitglossary(7), "ref".
+    pub fn drop_refs(&mut self, names: &[&[u8]]) -> Result<(), DropFault>
+        ensures namer { self.new.0 ≡ self.old.0 }
+        ensures records { self.new.1.records ≡ self.old.1.records }
+        ensures refs { DropsRefs self.old.1 self.new.1 names.now result }
+        ensures values { KeepsValues self.old.1 self.new.1 }
+        ensures unchanged { OnErr result (self.new ≡ self.old) }
+    {
+        parts_change();
+        drop_refs(self.alloc, &mut self.refs, names)?;
+        Ok(())
+    }
+}
 
 /// Drops the refs of these names, or tells the first name that is unknown. After a fault the refs are as they were.
 pub(crate) fn drop_refs<A: Allocator + Copy>(

@@ -1,14 +1,17 @@
 //! Objects that no ref reaches. The objects that refs hold are marked by their places, and one pass from the newest record on
 //! spreads the marks: what an object names stands before it. Source: git-prune(1), and gitglossary(7), "reachable".
-ghost use Rattle.std.specs.Prelude.{◌≡◌, [], ◌∷◌, false, length, map, replicate, IfOk};
+ghost use Rattle.std.specs.Prelude.{◌≡◌, ◌+◌, [], ◌∷◌, false, length, map, replicate, IfOk, OnErr, OnOk};
 ghost use Rattle.gx_model.specs.declared.objects.Kind.TheVariants as kinds;
 ghost use Rattle.gx_model.specs.Laws.StoreLaws.{IsBody};
-ghost use Rattle.gx_model.specs.Pruning.{is_reachable, links_of};
+ghost use Rattle.gx_model.specs.Pruning.{is_reachable, links_of, pruned};
 ghost use Rattle.gx_repo.specs.Pruning.{MarksNames, Spreads, marks_by, objects_held, weight};
 ghost use Rattle.gx_repo.specs.Refs.{shown_ref};
 ghost use Rattle.gx_repo.specs.Repositories.{IsSoundStore};
 
+use crate::fault::OutOfMemory;
 use crate::refs::Ref;
+use crate::repo::Repo;
+use gx_model::pruning_laws::pruned_stands;
 use gx_object::{Kind, Mode, Name, Namer, decode_commit, decode_tag, held_tree};
 use gx_store::Store;
 use std::alloc::{AllocError, Allocator};
@@ -22,11 +25,38 @@ pub struct Pruned {
     pub bytes: u128,
 }
 
+impl<N: Namer, A: Allocator + Copy> Repo<N, A> {
+    /// Lets all objects go that no ref reaches, and answers how much that is. The others keep their order, and the refs stay.
+    ///
+    /// `OutOfMemory`: a growth was refused; the repository is as it was.
+    /// Cost: the number of objects and of refs, and for each object that is reached its body, and a look-up for each object
+    /// that it names. Nothing is named or hashed anew. Memory: a byte for each object. Source: git-prune(1), and
+    /// gitglossary(7), "reachable".
+    pub fn prune(&mut self) -> Result<Pruned, OutOfMemory>
+        ensures namer { self.new.0 ≡ self.old.0 }
+        ensures pruned { OnOk result (self.new.1 ≡ pruned self.old.1) }
+        ensures objects { IfOk result (λ gone. gone.objects + length self.new.1.records ≡ length self.old.1.records) }
+        ensures bytes { IfOk result (λ gone. gone.bytes + weight self.new.1.records ≡ weight self.old.1.records) }
+        ensures unchanged { OnErr result (self.new ≡ self.old) }
+    {
+        pruned_stands();
+        let marks = reachable_marks(self.alloc, &self.store, self.refs.as_slice())?;
+        let objects = self.store.len();
+        let bytes = weight(&self.store);
+        self.store.retain(&marks);
+        self.rooms.clear();
+        Ok(Pruned {
+            objects: objects - self.store.len(),
+            bytes: bytes - weight(&self.store),
+        })
+    }
+}
+
 /// Marks of the objects that refs reach, by place.
 ///
 /// Cost: the number of objects and of refs, and for each object that is reached its body, and a look-up for each object that it
 /// names. Takes a byte for each object.
-pub(crate) fn reachable_marks<N: Namer, A: Allocator + Copy>(
+fn reachable_marks<N: Namer, A: Allocator + Copy>(
     alloc: A,
     store: &Store<N, A>,
     refs: &[Ref<A>],
@@ -55,7 +85,7 @@ fn mark_reachable<N: Namer, A: Allocator + Copy>(
 }
 
 /// The number of bytes in the bodies of all objects. Takes no memory.
-pub(crate) fn weight<N: Namer, A: Allocator + Copy>(store: &Store<N, A>) -> u128
+fn weight<N: Namer, A: Allocator + Copy>(store: &Store<N, A>) -> u128
     ensures { result ≡ weight store.now.1 }
 {
     let mut bytes = 0;

@@ -4,7 +4,10 @@ ghost use Rattle.std.specs.FinMap.Entries.{is_sorted};
 ghost use Rattle.gx_model.specs.Replay.{byte_cmp};
 ghost use Rattle.gx_repo.specs.Refs.{shown_ref};
 
+use crate::fault::OutOfMemory;
 use crate::refs::{Ref, Refs};
+use crate::repo::Repo;
+use gx_object::Namer;
 use std::alloc::{AllocError, Allocator};
 use std::marker::Model;
 
@@ -31,7 +34,7 @@ impl<A: Allocator + Copy> RefList<A> {
     /// The refs, in the byte order of their names. Takes no memory.
     pub fn refs(&self) -> Refs<'_, A>
         ensures held { result ≡ self.now }
-        ensures sorted { IsTrue (is_sorted byte_cmp self.now) }
+        ensures sorted { IsTrue (is_sorted byte_cmp result) }
     {
         Refs {
             rest: self.refs.as_slice(),
@@ -39,11 +42,20 @@ impl<A: Allocator + Copy> RefList<A> {
     }
 }
 
+impl<N: Namer, A: Allocator + Copy> Repo<N, A> {
+    /// Copies of its refs.
+    ///
+    /// `OutOfMemory`: a growth was refused. Cost and memory: the refs. Source: gitglossary(7), "ref".
+    pub fn copy_refs(&self) -> Result<RefList<A>, OutOfMemory>
+        ensures { IfOk result (λ refs. refs ≡ self.now.1.refs) }
+    {
+        let refs = copied(self.alloc, self.refs.as_slice())?;
+        Ok(RefList { refs })
+    }
+}
+
 /// Copies of these refs.
-pub(crate) fn copied<A: Allocator + Copy>(
-    alloc: A,
-    refs: &[Ref<A>],
-) -> Result<Vec<Ref<A>, A>, AllocError>
+fn copied<A: Allocator + Copy>(alloc: A, refs: &[Ref<A>]) -> Result<Vec<Ref<A>, A>, AllocError>
     ensures { IfOk result (λ copies. map shown_ref copies.items ≡ map shown_ref refs.now) }
 {
     let mut copies = Vec::new(alloc);

@@ -1,7 +1,9 @@
 //! Repositories: a store of objects, and refs that hold some of them.
-ghost use Rattle.std.specs.Prelude.{◌≡◌, ◌+◌, ◌≤◌, [], length, map, take, Some, None, IsTrue, IfOk, IfErr, IsOkAnd, OnOk, OnErr};
+ghost use Rattle.std.specs.Prelude.{◌≡◌, ◌≤◌, [], length, map, take, Some, None, IsTrue, IfOk, IfErr, IsOkAnd, OnOk, OnErr};
+ghost use Rattle.std.specs.FinMap.Entries.{is_sorted};
 ghost use Rattle.std.specs.List.{slice_range};
 ghost use Rattle.gx_model.specs.declared.objects.Kind.TheVariants as kinds;
+ghost use Rattle.gx_model.specs.Replay.{byte_cmp};
 ghost use Rattle.gx_model.specs.Revisions.Denotation.{ref_names};
 ghost use Rattle.gx_model.specs.Objects.{IsTagText, TagParts as Parts};
 ghost use Rattle.gx_model.specs.Stores.StoreReading.{is_target_of_kind};
@@ -16,9 +18,6 @@ ghost use Rattle.gx_tree.specs.Named.{IsAtHome};
 ghost use Rattle.gx_tree.specs.StoreFaults.{tree_fault};
 ghost use Rattle.gx_repo.specs.Additions.{IsWriteFault};
 ghost use Rattle.gx_repo.specs.Publishing.{IsAgainstChange, IsAgainstFirst, SetsRefs};
-ghost use Rattle.gx_repo.specs.Dropping.{DropsRefs, KeepsValues};
-ghost use Rattle.gx_model.specs.Pruning.{pruned};
-ghost use Rattle.gx_repo.specs.Pruning.{weight};
 ghost use Rattle.gx_model.specs.Records.Publishing.{change_fault, changes_fault};
 ghost use Rattle.gx_repo.specs.GivenBytes.{IsInText, bytes_given};
 ghost use Rattle.gx_repo.specs.Refs.{FindsFirst, FindsObject, HasTagParts, TellsOwnRef, shown_update, bytes_found, shown_ref};
@@ -28,16 +27,12 @@ ghost use Rattle.gx_repo.specs.Objects.{AreTargets, HoldsEach};
 ghost use Rattle.gx_repo.specs.Checking.{MayRefuse};
 
 use crate::checking::entered_room;
-use crate::dropping::drop_refs;
 use crate::earlier::Hints;
-use crate::fault::{AddFault, DropFault, OutOfMemory, PublishFault};
+use crate::fault::{AddFault, OutOfMemory, PublishFault};
 use crate::given::Given;
-use crate::pruning::{Pruned, reachable_marks, weight};
 use crate::publishing::{RefChange, set_refs};
-use crate::ref_list::{RefList, copied};
 use crate::refs::{Ref, Refs, find_by_names, find_near};
 use crate::rooms::enter_room;
-use gx_model::pruning_laws::pruned_stands;
 use gx_model::repository_laws::{
     links_tell_values, parts_change, puts_add_values, trees_add_file_maps,
 };
@@ -55,12 +50,12 @@ use std::marker::Model;
 /// It is seen as the namer, and its records and refs, which are sound.
 #[derive(Drop)]
 pub struct Repo<N: Namer, A: Allocator> {
-    store: Store<N, A>,
+    pub(crate) store: Store<N, A>,
     /// Of each record, by its place.
-    rooms: Vec<usize, A>,
+    pub(crate) rooms: Vec<usize, A>,
     hints: Hints<A>,
-    refs: Vec<Ref<A>, A>,
-    alloc: A,
+    pub(crate) refs: Vec<Ref<A>, A>,
+    pub(crate) alloc: A,
 }
 
 impl<N: Namer, A: Allocator> Model for Repo<N, A> {
@@ -106,6 +101,7 @@ impl<N: Namer, A: Allocator + Copy> Repo<N, A> {
     /// Its refs, in the byte order of their names; they are sound with the objects. Takes no memory.
     pub fn refs(&self) -> Refs<'_, A>
         ensures held { result ≡ self.now.1.refs }
+        ensures sorted { IsTrue (is_sorted byte_cmp result) }
         ensures sound { IsSound (N.name_of self.now.0) self.now.1 }
     {
         Refs {
@@ -137,16 +133,6 @@ impl<N: Namer, A: Allocator + Copy> Repo<N, A> {
         ensures { IsOkAnd result (FindsFirst self.now.1.refs (ref_names name.now)) }
     {
         Ok(find_by_names(self.refs.as_slice(), name))
-    }
-
-    /// Copies of its refs.
-    ///
-    /// `OutOfMemory`: a growth was refused. Cost and memory: the refs. Source: gitglossary(7), "ref".
-    pub fn copy_refs(&self) -> Result<RefList<A>, OutOfMemory>
-        ensures { IfOk result (λ refs. refs ≡ self.now.1.refs) }
-    {
-        let refs = copied(self.alloc, self.refs.as_slice())?;
-        Ok(RefList { refs })
     }
 
     /// The object of the ref of this name, and the place behind the ref's own among all refs.
@@ -361,49 +347,6 @@ impl<N: Namer, A: Allocator + Copy> Repo<N, A> {
         self.check_all(changes)?;
         set_refs(self.alloc, &mut self.refs, changes)?;
         Ok(())
-    }
-
-    /// Drops the refs of all of these names, or none. Other refs stay, and so do all objects.
-    ///
-    /// `UnknownRef`: the first name that no ref has, or that is given before. `OutOfMemory`: a growth was refused. After a fault
-    /// the repository is as it was.
-    /// Cost: for each name a binary search among the refs, and for each ref a look-up among the names. Memory: the places of the
-    /// names. Source: git-update-ref(1), "delete", and gitglossary(7), "ref".
-    pub fn drop_refs(&mut self, names: &[&[u8]]) -> Result<(), DropFault>
-        ensures namer { self.new.0 ≡ self.old.0 }
-        ensures records { self.new.1.records ≡ self.old.1.records }
-        ensures refs { DropsRefs self.old.1 self.new.1 names.now result }
-        ensures values { KeepsValues self.old.1 self.new.1 }
-        ensures unchanged { OnErr result (self.new ≡ self.old) }
-    {
-        parts_change();
-        drop_refs(self.alloc, &mut self.refs, names)?;
-        Ok(())
-    }
-
-    /// Lets all objects go that no ref reaches, and answers how much that is. The others keep their order, and the refs stay.
-    ///
-    /// `OutOfMemory`: a growth was refused; the repository is as it was.
-    /// Cost: the number of objects and of refs, and for each object that is reached its body, and a look-up for each object
-    /// that it names. Nothing is named or hashed anew. Memory: a byte for each object. Source: git-prune(1), and
-    /// gitglossary(7), "reachable".
-    pub fn prune(&mut self) -> Result<Pruned, OutOfMemory>
-        ensures namer { self.new.0 ≡ self.old.0 }
-        ensures pruned { OnOk result (self.new.1 ≡ pruned self.old.1) }
-        ensures objects { IfOk result (λ gone. gone.objects + length self.new.1.records ≡ length self.old.1.records) }
-        ensures bytes { IfOk result (λ gone. gone.bytes + weight self.new.1.records ≡ weight self.old.1.records) }
-        ensures unchanged { OnErr result (self.new ≡ self.old) }
-    {
-        pruned_stands();
-        let marks = reachable_marks(self.alloc, &self.store, self.refs.as_slice())?;
-        let objects = self.store.len();
-        let bytes = weight(&self.store);
-        self.store.retain(&marks);
-        self.rooms.clear();
-        Ok(Pruned {
-            objects: objects - self.store.len(),
-            bytes: bytes - weight(&self.store),
-        })
     }
 
     /// Keeps the first `len` objects alone, and all where there are no more. The refs' objects are among these.

@@ -41,14 +41,13 @@ impl<N: Namer, A: Allocator + Copy> Repo<N, A> {
     {
         pruned_stands();
         let marks = reachable_marks(self.alloc, &self.store, self.refs.as_slice())?;
-        let objects = self.store.len();
-        let bytes = weight(&self.store);
+        let held = self.store.len();
+        let weighed = weight(&self.store);
         self.store.retain(&marks);
         self.rooms.clear();
-        Ok(Pruned {
-            objects: objects - self.store.len(),
-            bytes: bytes - weight(&self.store),
-        })
+        let objects = held - self.store.len();
+        let bytes = weighed - weight(&self.store);
+        Ok(Pruned { objects, bytes })
     }
 }
 

@@ -1,8 +1,11 @@
 use Rattle.std.proofs.Common.{◌++◌, ◌∙◌, map, sym, subst}
 use Rattle.gx_repo.specs.Refs.{shown_ref}
 use Rattle.gx_repo.specs.Reporting.{behind, line_where_they_differ, where_they_differ}
-use Rattle.gx_repo.proofs.ReportedRefs.{IsReportedTo, reported_all, reported_next}
+use Rattle.gx_repo.proofs.ReportedRefs.{IsReportedTo, reported_all, reported_next, reported_none}
 use Rattle.gx_repo.proofs.reporting.put_changes.Goals as goal
+
+pub loop-name-init : goal.loop-name-init
+loop-name-init g c = reported_none (map shown_ref c.args.before.now) (map shown_ref c.args.after.now) c.args.report.now.items c.requires.before c.requires.after c.requires.empty
 
 pub loop-name-preserved : goal.loop-name-preserved
 loop-name-preserved g c =

@@ -29,13 +29,13 @@ pub overflow_sub-objects : goal.overflow_sub-objects
 overflow_sub-objects g c =
     let rs = c.self.inside.store.1 in
     let left : length c.retain.new.self.1 ≡ length (marked c.deref.result.now rs) = ap (λ v. length v.1) c.retain.ensures in
-    omega (arith, c.len.ensures.count, c.len-objects.ensures.count, left, marked_less c.deref.result.now rs)
+    omega (arith, c.len.ensures.count, c.len-held.ensures.count, left, marked_less c.deref.result.now rs)
 
 pub overflow_sub-bytes : goal.overflow_sub-bytes
 overflow_sub-bytes g c =
     let rs = c.self.inside.store.1 in
     let left : weight c.retain.new.self.1 ≡ weight (marked c.deref.result.now rs) = ap (λ v. weight v.1) c.retain.ensures in
-    omega (arith, c.weight.ensures, c.weight-bytes.ensures, left, weight_less c.deref.result.now rs)
+    omega (arith, c.weight.ensures, c.weight-weighed.ensures, left, weight_less c.deref.result.now rs)
 
 pub invariant_of-self-2 : goal.invariant_of-self-2
 invariant_of-self-2 g c =
@@ -64,11 +64,11 @@ returns-clause-objects g c =
     let rs = c.self.inside.store.1 in
     let left : length c.retain.new.self.1 ≡ length (marked c.deref.result.now rs) = ap (λ v. length v.1) c.retain.ensures in
     let old : length rs ≡ length c.args.self.now.1.records = ap (λ v. length v.1.records) c.self.view_is in
-    omega (arith, c.len.ensures.count, c.len-objects.ensures.count, left, old, marked_less c.deref.result.now rs)
+    omega (arith, c.len.ensures.count, c.len-held.ensures.count, left, old, marked_less c.deref.result.now rs)
 
 pub returns-clause-bytes : goal.returns-clause-bytes
 returns-clause-bytes g c =
     let rs = c.self.inside.store.1 in
     let left : weight c.retain.new.self.1 ≡ weight (marked c.deref.result.now rs) = ap (λ v. weight v.1) c.retain.ensures in
     let old : weight rs ≡ weight c.args.self.now.1.records = ap (λ v. weight v.1.records) c.self.view_is in
-    omega (arith, c.weight.ensures, c.weight-bytes.ensures, left, old, weight_less c.deref.result.now rs)
+    omega (arith, c.weight.ensures, c.weight-weighed.ensures, left, old, weight_less c.deref.result.now rs)

@@ -22,7 +22,7 @@ pub fn report_changes<A: Allocator + Copy>(
 ) -> Result<Vec<u8, A>, OutOfMemory>
     requires before { IsTrue (is_sorted byte_cmp before) }
     requires after { IsTrue (is_sorted byte_cmp after) }
-    ensures { IfOk result (λ report. IsReport before after report.items) }
+    ensures { IfOk result (λ report. IsReport before.entry after.entry report.items) }
 {
     let mut report = Vec::new(alloc);
     put_changes(&mut report, before.rest, after.rest)?;

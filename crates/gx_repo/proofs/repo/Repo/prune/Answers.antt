@@ -8,22 +8,12 @@ use Rattle.gx_repo.specs.Refs.{shown_ref}
 use Rattle.gx_repo.specs.Repositories.{held_in}
 use Rattle.gx_repo.specs.Rooms.{IsFront}
 use Rattle.gx_repo.proofs.PrunedRecords.{marked_less, pruned_is, pruned_sound, store_sound, weight_less}
-use Rattle.gx_repo.proofs.PublishedRefs.{if_refused}
 use Rattle.gx_repo.proofs.repo.Repo.prune.Goals as goal
 
 pub reachable_marks-requires : goal.reachable_marks-requires
 reachable_marks-requires g c =
     let r : Records = record { records = c.self.inside.store.1; refs = map shown_ref c.self.inside.refs.items } in
     store_sound (g.N.Namer.name_of c.self.inside.store.0) r c.self.invariant.0
-
-pub invariant_of-self : goal.invariant_of-self
-invariant_of-self g c = c.self.invariant
-
-pub returns-in_err-marks-clause-namer : goal.returns-in_err-marks-clause-namer
-returns-in_err-marks-clause-namer g c = ap (λ v. v.0) c.self.view_is
-
-pub returns-in_err-marks-clause-unchanged : goal.returns-in_err-marks-clause-unchanged
-returns-in_err-marks-clause-unchanged g c = if_refused c.from_residual.result c.self.view_is
 
 pub overflow_sub-objects : goal.overflow_sub-objects
 overflow_sub-objects g c =
@@ -37,8 +27,8 @@ overflow_sub-bytes g c =
     let left : weight c.retain.new.self.1 ≡ weight (marked c.deref.result.now rs) = ap (λ v. weight v.1) c.retain.ensures in
     omega (arith, c.weight.ensures, c.weight-weighed.ensures, left, weight_less c.deref.result.now rs)
 
-pub invariant_of-self-2 : goal.invariant_of-self-2
-invariant_of-self-2 g c =
+pub invariant_of-self : goal.invariant_of-self
+invariant_of-self g c =
     let names = g.N.Namer.name_of c.self.inside.store.0 in
     let namer = g.met.N.Namer.is_namer c.self.inside.store.0 in
     let r : Records = record { records = c.self.inside.store.1; refs = map shown_ref c.self.inside.refs.items } in

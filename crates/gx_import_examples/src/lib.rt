@@ -15,3 +15,5 @@ mod given;
 mod hostile;
 #[cfg(test)]
 mod imports;
+#[cfg(test)]
+mod ranges;

@@ -64,7 +64,7 @@ __gx_revisions() {
   local -a names=()
   __gx_unquote "${operands[0]}"
   [[ -f $file ]] || return 0
-  if [[ ${words[1]} == log && $last =~ ^(\^|.*\.\.\.?)(.*)$ ]]; then
+  if [[ ${words[1]} =~ ^(log|export)$ && $last =~ ^(\^|.*\.\.\.?)(.*)$ ]]; then
     front=${BASH_REMATCH[1]}
     last=${BASH_REMATCH[2]}
   fi
@@ -106,7 +106,7 @@ __gx_words_of_command() {
   __gx_operands
   case ${words[1]}:${#operands[@]} in
     init:0 | import:0 | drop:0 | export:0 | show:0 | ls:0 | batch:0 | refs:0 | log:0 | rev-parse:0) __gx_files "$last" ;;
-    show:1 | ls:1 | drop:[1-9]* | log:[1-9]* | rev-parse:[1-9]*) __gx_revisions "$last" ;;
+    show:1 | ls:1 | drop:[1-9]* | export:[1-9]* | log:[1-9]* | rev-parse:[1-9]*) __gx_revisions "$last" ;;
   esac
 }
 

@@ -98,7 +98,8 @@ line 'gx drop store refs/heads/main refs/ta' 'refs/tags/\$\(\>ran\)' refs/tags/v
 line 'gx export su' sub
 line 'gx export --' --changes --no-done --help
 line 'gx export --changes st' store
-line 'gx export store '
+line 'gx export --changes store m' main
+line 'gx export --changes store main..t' 'main..topic'
 line 'gx init store '
 line 'gx show store m' main
 line 'gx show store refs/h' refs/heads/main refs/heads/topic

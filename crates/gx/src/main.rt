@@ -81,6 +81,7 @@ fn file_of<'a>(line: &Line<'a>) -> Option<&'a str> {
         | Line::Batch { file, .. }
         | Line::Drop { file, .. }
         | Line::Export { file, .. }
+        | Line::ExportRange { file, .. }
         | Line::Show { file, .. }
         | Line::Ls { file, .. }
         | Line::Refs { file }
@@ -110,7 +111,12 @@ fn run_command(run: &Run<'_>, line: &Line<'_>, state: RandomState) -> Result<(),
         } => refusal(&try_stream(run, line, state)),
         Line::Adapt { drop_signatures } => adapt(run, *drop_signatures),
         Line::Batch { check: _, file } => batch(run, line, file, state),
-        Line::Export { form: _, file } => export(run, line, file, state),
+        Line::Export { form: _, file }
+        | Line::ExportRange {
+            done: _,
+            file,
+            ranges: _,
+        } => export(run, line, file, state),
         Line::Show { file, revision: _ }
         | Line::Ls {
             recursive: _,

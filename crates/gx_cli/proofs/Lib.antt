@@ -14,5 +14,6 @@ pub mod ExportedStores
 pub mod RoundTrips
 pub mod ChangesTrips
 pub mod Gathered
+pub mod SentRanges
 pub mod ServedLines
 pub mod DroppedStores

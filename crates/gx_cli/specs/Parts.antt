@@ -44,9 +44,10 @@ use Rattle.gx_cli.specs.Gathering.{batch_answer}
 use Rattle.gx_cli.specs.FileLines.{path_line}
 use Rattle.gx_cli.specs.Listings.{shown_text, text_of_word, tree_lines}
 use Rattle.gx_blobs.specs.Naming.{NamesBlobs}
+use Rattle.gx_cli.specs.Forms.{SendsRange}
 use Rattle.gx_cli.specs.Sending.{PrintsText}
 use Rattle.gx_cli.specs.Opening.{bytes_of}
-use Rattle.gx_cli.specs.Serving.{AnswersLines, DropsRefs, ExportsStore, ImportsInto, ImportsIntoStored, IsDropped, PrintsStored, Serves, blobs_answer, printed_by, unknown_at}
+use Rattle.gx_cli.specs.Serving.{AnswersLines, DropsRefs, ExportsRangeStored, ExportsStore, ImportsInto, ImportsIntoStored, IsDropped, PrintsStored, Serves, blobs_answer, printed_by, unknown_at}
 use Rattle.gx_cli.specs.Stored.{all_words, commits_listed, file_line, files_of_word, line_of_ref, list_text, log_line, log_text, names_text, texts_of}
 use Rattle.gx_cli.specs.Storing.{Answer, ImportsStored}
 use Rattle.gx_cli.specs.Trying.{ImportsAlone, Shows, Tries}
@@ -169,6 +170,15 @@ module _ {N W : Type 0} (name_of : N → Kind → Bytes → Bytes) (taken : W �
   -- the export in a form of the store of these bytes goes out, and how the command ends
   abbrev pub SendsStored : {A : Type 0} → N → ExportForm → StoreBytes A → W → W → Outcome A → Type 0
   SendsStored namer form store old new o = ExportsStore (name_of namer) form (bytes_of store) (taken old) (taken new) o
+
+  -- the export of what range words give, of the store of these bytes, goes out, and how the command ends
+  abbrev pub SendsRangeOf : {A : Type 0} → N → Bool → List (Bor Bytes) → StoreBytes A → W → W → Outcome A → Type 0
+  SendsRangeOf namer done words store old new o =
+      ExportsRangeStored (name_of namer) done (store_of (name_of namer) (bytes_of store)) (texts_of words) (taken old) (taken new) o
+
+  -- the same of a repository
+  abbrev pub SendsWords : Repository N → Bool → List (Bor Bytes) → W → W → Result (Unit {0}) CliFault → Type 0
+  SendsWords repo done words old new answer = SendsRange (name_of repo.0) done repo.1 (texts_of words) (taken old) (taken new) answer
 
   -- a stream is imported into the store of these bytes, and the next store text is told, and what was imported
   abbrev pub ImportsToStored : {A : Type 0} → N → Features → StoreBytes A → Option Coming → W → W → Outcome A × Option Report → Type 0

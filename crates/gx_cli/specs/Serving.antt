@@ -39,7 +39,7 @@ use Rattle.gx_cli.specs.declared.questions.Question.TheVariants as question
 use Rattle.gx_cli.specs.declared.fault.CliFault.TheVariants.{Blobs, Export, Import, OutOfMemory, Revision, Store}
 use Rattle.gx_cli.specs.declared.serving.Outcome.{Outcome}
 use Rattle.gx_cli.specs.Answers.{Prints}
-use Rattle.gx_cli.specs.Forms.{ExportsAs}
+use Rattle.gx_cli.specs.Forms.{ExportsAs, SendsRange}
 use Rattle.gx_cli.specs.Gathering.{AdaptsStream, batch_answer}
 use Rattle.gx_cli.specs.Placing.{PlacesFrom}
 use Rattle.gx_blobs.specs.Printing.{PrintsBlobs}
@@ -118,6 +118,12 @@ ExportsStored name form (Err f) was now o = IsUnread f was now o
 abbrev pub ExportsStore : {A : Type 0} → (Kind → Bytes → Bytes) → ExportForm → Bytes → Option Taken → Option Taken → Outcome A → Type 0
 ExportsStore name form text was now o = ExportsStored name form (store_of name text) was now o
 
+-- the export of what range words give, of the store that a text was read as
+abbrev pub ExportsRangeStored : {A : Type 0} → (Kind → Bytes → Bytes) → Bool → Stored Records → List Bytes → Option Taken → Option Taken → Outcome A → Type 0
+ExportsRangeStored name done (Ok repository) words was now o =
+    IsUnopened was now o ⊎ ((answer : Result (Unit {0}) CliFault) × SendsRange name done repository words was now answer × IsOutcome answer o)
+ExportsRangeStored name done (Err f) words was now o = IsUnread f was now o
+
 -- what a question prints of a store
 abbrev pub printed_by : (Kind → Bytes → Bytes) → Question → Records → Printed
 printed_by name (question.Show word) r = show_text name (history_of r) word.now
@@ -187,6 +193,7 @@ module _ (name : Kind → Bytes → Bytes) {A : Type 0} where
   Serves (line.Import file done force) store coming was now o = (told : Option Report) × ImportsInto (features_of done force) store coming was now (o, told)
   Serves (line.Drop file words) store coming was now o = DropsRefs (store_of name store) (texts_of words.items) o × (now ≡ was)
   Serves (line.Export form file) store coming was now o = ExportsStore name form store was now o
+  Serves (line.ExportRange done file words) store coming was now o = ExportsRangeStored name done (store_of name store) (texts_of words.items) was now o
   Serves (line.Show file word) store coming was now o = PrintsStored (store_of name store) (λ r. show_text name (history_of r) word.now) was now o
   Serves (line.Ls recursive file word) store coming was now o = PrintsStored (store_of name store) (λ r. list_text name recursive (history_of r) word.now) was now o
   Serves (line.Refs file) store coming was now o = PrintsStored (store_of name store) (λ r. Ok (refs_text r)) was now o

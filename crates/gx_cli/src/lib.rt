@@ -7,6 +7,7 @@ mod batching;
 mod changes_trips;
 mod dropping;
 mod exporting;
+mod exporting_range;
 mod fault;
 mod gathering;
 mod growing;

@@ -55,7 +55,7 @@ fn names_listed<N: Namer, A: Allocator + Copy>(
 }
 
 /// Puts the range words of texts into a list, or tells the first that is none.
-fn read_into<A: Allocator + Copy>(
+pub(crate) fn read_into<A: Allocator + Copy>(
     alloc: A,
     words: &[&str],
     ranges: &mut Vec<Range<A>, A>,

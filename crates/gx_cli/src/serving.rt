@@ -9,6 +9,7 @@ use crate::adapting::adapt_stream;
 use crate::batching::batch_stored;
 use crate::dropping::drop_stored;
 use crate::exporting::export_stored;
+use crate::exporting_range::export_range_stored;
 use crate::importing::{import_stored, init};
 use crate::opening::StoreBytes;
 use crate::placing::print_place;
@@ -120,6 +121,11 @@ fn serve_bytes<N: Namer + Drop, R: Source + Drop, W: Sink, A: Allocator + Copy>(
             batch_stored(alloc, namer, *check, store, source, sink, state)
         }
         Line::Export { form, file: _ } => { export_stored(alloc, namer, *form, store, sink, state) }
+        Line::ExportRange {
+            done,
+            file: _,
+            ranges,
+        } => export_range_stored(alloc, namer, *done, ranges.as_slice(), store, sink, state),
         Line::Drop { file: _, refs } => drop_stored(alloc, namer, store, refs.as_slice(), state),
         Line::Show { file: _, revision } => {
             print_stored(alloc, namer, Question::Show(revision), store, sink, state)

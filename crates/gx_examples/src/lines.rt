@@ -21,6 +21,9 @@ $ drop|f|refs/heads/a|b % Drop { file: \"f\", refs: [\"refs/heads/a\", \"b\"] }
 $ export|f % Export { form: FullTree, file: \"f\" }
 $ export|--changes|f % Export { form: Changes { done: true }, file: \"f\" }
 $ export|f|--no-done|--changes % Export { form: Changes { done: false }, file: \"f\" }
+$ export|--changes|f|a..b % ExportRange { done: true, file: \"f\", ranges: [\"a..b\"] }
+$ export|f|^a|--no-done|b|--changes % ExportRange { done: false, file: \"f\", ranges: [\"^a\", \"b\"] }
+$ export|--changes|--|f|-x|--no-done % ExportRange { done: true, file: \"f\", ranges: [\"-x\", \"--no-done\"] }
 $ show|f|main:a b % Show { file: \"f\", revision: \"main:a b\" }
 $ show|-|x % Show { file: \"-\", revision: \"x\" }
 $ ls|f|x % Ls { recursive: false, file: \"f\", revision: \"x\" }
@@ -75,6 +78,9 @@ $ export % refused
 $ export|--no-done|f % refused
 $ export|--changes|--changes|f % refused
 $ export|--changes=yes|f % refused
+$ export|f|a % refused
+$ export|--no-done|f|a % refused
+$ export|--changes|f|-x % refused
 $ show|f % refused
 $ show|f|a|b % refused
 $ ls|f % refused

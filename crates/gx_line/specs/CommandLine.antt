@@ -14,7 +14,7 @@ use Rattle.clap.specs.declared.error.kind.ErrorKind.TheVariants.{DisplayHelp, Di
 use Rattle.gx_line.specs.declared.command_line.ExportForm.{ExportForm}
 use Rattle.gx_line.specs.declared.command_line.ExportForm.TheVariants.{Changes, FullTree}
 use Rattle.gx_line.specs.declared.command_line.Line.{Line}
-use Rattle.gx_line.specs.declared.command_line.Line.TheVariants.{Blobs, Try, Adapt, Where, Init, Import, Drop, Export, Show, Ls, Batch, Refs, Log, RevParse}
+use Rattle.gx_line.specs.declared.command_line.Line.TheVariants.{Blobs, Try, Adapt, Where, Init, Import, Drop, Export, ExportRange, Show, Ls, Batch, Refs, Log, RevParse}
 use Rattle.gx_line.specs.declared.command_line.LineFault.{LineFault}
 use Rattle.gx_line.specs.declared.command_line.LineFault.TheVariants.{OutOfMemory, Status}
 use Rattle.gx_line.specs.declared.command_line.LogOptions.{LogOptions}
@@ -32,6 +32,10 @@ words id = record (new_rule id) {
   value_names = 1;
   required = true;
 }
+
+-- positional arguments that may be left out
+abbrev pub any_words : Text → Rule
+any_words id = record (words id) { required = false }
 
 -- --ID
 abbrev pub flag : Text → Rule
@@ -81,6 +85,10 @@ changes = flag (codes "changes")
 abbrev pub no_done : Rule
 no_done = record (flag (codes "no-done")) { is_free = false }
 
+-- range words that are refused where they stand without --changes
+abbrev pub sent_ranges : Rule
+sent_ranges = record (any_words (codes "range")) { is_free = false }
+
 abbrev pub reverse : Rule
 reverse = flag (codes "reverse")
 
@@ -120,7 +128,7 @@ abbrev pub drop_command : App
 drop_command = with_rule (file_command (codes "drop")) (words (codes "ref"))
 
 abbrev pub export_command : App
-export_command = with_rule (with_rule (file_command (codes "export")) changes) no_done
+export_command = with_rule (with_rule (with_rule (file_command (codes "export")) changes) no_done) sent_ranges
 
 abbrev pub where_command : App
 where_command = with_rule (new_app (codes "where")) (needed_number (codes "number"))
@@ -218,7 +226,10 @@ Says name rows (Where command) = (name ≡ codes "where") × IsNumber (codes "nu
 Says name rows (Init file) = (name ≡ codes "init") × IsWord (codes "file") rows file
 Says name rows (Import file done force) = (name ≡ codes "import") × (AreFeatures rows done force × IsWord (codes "file") rows file)
 Says name rows (Drop file refs) = (name ≡ codes "drop") × (IsWord (codes "file") rows file × AreWords (codes "ref") rows refs.items)
-Says name rows (Export form file) = (name ≡ codes "export") × (IsForm rows form × IsWord (codes "file") rows file)
+Says name rows (Export form file) = (name ≡ codes "export")
+    × (IsForm rows form × (IsWord (codes "file") rows file × (all_of (codes "range") rows ≡ None)))
+Says name rows (ExportRange done file ranges) = (name ≡ codes "export")
+    × (IsForm rows (Changes done) × (IsWord (codes "file") rows file × AreWords (codes "range") rows ranges.items))
 Says name rows (Show file revision) = (name ≡ codes "show")
     × (IsWord (codes "file") rows file × IsWord (codes "rev") rows revision)
 Says name rows (Ls recursive file revision) = (name ≡ codes "ls") × (IsFlag (codes "recursive") rows recursive

@@ -71,6 +71,13 @@ pub enum Line<'a> {
         form: ExportForm,
         file: &'a str,
     },
+    /// The commits that range words give are exported as a stream, each by what differs from its first parent. With `done`
+    /// it begins with `feature done` and ends with `done`.
+    ExportRange {
+        done: bool,
+        file: &'a str,
+        ranges: Vec<&'a str>,
+    },
     /// What a revision gives is shown.
     Show {
         file: &'a str,
@@ -181,10 +188,7 @@ fn file_line<'a>(
             done: is_set(matches, "done"),
             force: is_set(matches, "force"),
         }),
-        "export" => match form_of(matches) {
-            Some(form) => Ok(Line::Export { form, file }),
-            None => Err(unknown(alloc)),
-        },
+        "export" => export_line(alloc, matches, file),
         "refs" => Ok(Line::Refs { file }),
         "show" => Ok(Line::Show {
             file,
@@ -200,6 +204,32 @@ fn file_line<'a>(
             file,
         }),
         _ => list_line(alloc, name, matches, file),
+    }
+}
+
+/// The line of an export. clap makes sure that `--no-done` and range words stand beside `--changes`.
+#[tactic(auto, unfolding(crate::specs::CommandLine::Says))]
+fn export_line<'a>(
+    alloc: Global,
+    matches: &ArgMatches<'a>,
+    file: &'a str,
+) -> Result<Line<'a>, LineFault>
+    requires { first_of (codes "file") (rows_of (found_of matches.now)) ≡ Some file.now }
+    ensures { IfOk result (λ line. say.Says (codes "export") (rows_of (found_of matches.now)) line) }
+{
+    let Some(form) = form_of(matches) else {
+        return Err(unknown(alloc));
+    };
+    let Some(words) = matches.get_strs("range") else {
+        return Ok(Line::Export { form, file });
+    };
+    match form {
+        ExportForm::Changes { done } => Ok(Line::ExportRange {
+            done,
+            file,
+            ranges: Vec::from_slice(alloc, words)?,
+        }),
+        ExportForm::FullTree => Err(unknown(alloc)),
     }
 }
 

@@ -205,6 +205,11 @@ fn file_of<'a>(line: &Line<'a>) -> Option<&'a str> {
         }
         | Line::Drop { file, refs: _ }
         | Line::Export { form: _, file }
+        | Line::ExportRange {
+            done: _,
+            file,
+            ranges: _,
+        }
         | Line::Refs { file }
         | Line::Batch { check: _, file }
         | Line::Show { file, revision: _ }

@@ -35,6 +35,17 @@ pub(super) fn words<'a>(alloc: Global, id: &'a str, shown: &'a str, help: &'a st
     one_word(alloc, id, shown, help).num_args(1..)
 }
 
+/// Positional arguments that may be left out. Help shows each by `shown`.
+pub(super) fn any_words<'a>(alloc: Global, id: &'a str, shown: &'a str, help: &'a str) -> Arg<'a>
+    ensures rule { rule_of result ≡ say.any_words id.entry.now }
+    ensures local { result.global ≡ false }
+{
+    Arg::new(alloc, id)
+        .value_name(shown)
+        .help(help)
+        .num_args(1..)
+}
+
 /// A flag that is given by its id.
 pub(super) fn flag<'a>(alloc: Global, id: &'a str, help: &'a str) -> Arg<'a>
     ensures rule { rule_of result ≡ say.flag id.entry.now }

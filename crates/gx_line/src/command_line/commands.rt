@@ -6,7 +6,7 @@ ghost use Rattle.clap.specs.Words.{App, app_of, new_app, rule_of};
 ghost use Rattle.clap.specs.declared.builder.command.Command.TheViews.{out-Command as fields_of};
 ghost use Rattle.gx_line.specs.CommandLine as say;
 
-use super::arguments::{flag, number, one_word, revision, words};
+use super::arguments::{any_words, flag, number, one_word, revision, words};
 use super::manual::{self, Page};
 use clap::{Arg, Command};
 use std::alloc::{AllocError, Global};
@@ -121,8 +121,16 @@ fn export_command<'a>(alloc: Global) -> Result<Command<'a>, AllocError>
          know them",
     )
     .requires_arg("changes")?;
+    let ranges = any_words(
+        alloc,
+        "range",
+        "RANGE",
+        "Commits, as gx --help has it: with --changes these alone",
+    )
+    .requires_arg("changes")?;
     let export = with_argument(file_command(alloc, "export", manual::EXPORT), changes);
-    with_argument(export, no_done)
+    let export = with_argument(export, no_done);
+    with_argument(export, ranges)
 }
 
 /// The commands that show objects.

@@ -253,7 +253,10 @@ Writes a store as a stream that gx import and git fast-import take.
 It has the commits that refs reach, each with all of its files, and the refs.
 With --changes it is as long as what changed, and other readers see branches.
 Importing it into an empty store gives the same refs and object names. A store
-that holds a submodule of forty zeros is written, too, but no import takes it.",
+that holds a submodule of forty zeros is written, too, but no import takes it.
+
+With RANGEs, as gx log takes them, it has these commits alone, and the refs at
+what they include or exclude. A store that holds what is excluded takes it.",
     details: "\
 Output:
   The stream, in the manner of git fast-export --full-tree: first
@@ -266,9 +269,11 @@ Output:
 Refusals:
   gx: read failed
   gx: store: KIND       as gx --help has it
+  gx: revision N: KIND  the Nth RANGE, as gx --help has it
   gx: export: KIND      KIND is OutOfMemory or WriteFailed. What was written
                         is a front of the stream
-  gx: write failed",
+  gx: write failed
+  gx: out of memory",
 };
 
 /// The page of `show`.

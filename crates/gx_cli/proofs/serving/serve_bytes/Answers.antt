@@ -2,7 +2,7 @@ use Rattle.std.proofs.Common.{refl, subst, sym}
 use Rattle.gx_model.specs.Records.HistoryOf.{history_of}
 use Rattle.gx_model.specs.Stores.StoreReading.{store_of}
 use Rattle.gx_cli.specs.Opening.{bytes_of}
-use Rattle.gx_cli.specs.Serving.{DropsRefs, ImportsInto, PrintsStored, Serves}
+use Rattle.gx_cli.specs.Serving.{DropsRefs, ExportsRangeStored, ImportsInto, PrintsStored, Serves}
 use Rattle.gx_cli.specs.Stored.{log_text, names_text, texts_of}
 use Rattle.gx_cli.proofs.ServedLines.{import_served}
 use Rattle.gx_cli.proofs.serving.serve_bytes.Goals as goal
@@ -16,11 +16,19 @@ returns-in-Import-clause-served g c =
     let imported = subst (λ asks. ImportsInto name asks (bytes_of c.args.store) coming was now c.import_stored-outcome.result) c.features_of-features-in-Import.ensures c.import_stored-outcome.ensures.imported in
     import_served name c.args.line.now c.in-Import.file c.in-Import.done c.in-Import.force (bytes_of c.args.store) coming was now c.import_stored-outcome.result c.in-Import.is imported
 
+pub returns-in-ExportRange-clause-served : goal.returns-in-ExportRange-clause-served
+returns-in-ExportRange-clause-served g c =
+    let name = g.N.Namer.name_of c.args.namer in
+    let was = g.W.Sink.taken c.args.sink.now in
+    let now = g.W.Sink.taken c.export_range_stored.new.sink in
+    let sent = subst (λ words. ExportsRangeStored name c.in-ExportRange.done (store_of name (bytes_of c.args.store)) (texts_of words) was now c.export_range_stored.result) c.as_slice.ensures.value c.export_range_stored.ensures in
+    subst (λ l. Serves name l (bytes_of c.args.store) (g.R.Source.coming c.args.source) was now c.export_range_stored.result) (sym c.in-ExportRange.is) sent
+
 pub returns-in-Drop-clause-served : goal.returns-in-Drop-clause-served
 returns-in-Drop-clause-served g c =
     let name = g.N.Namer.name_of c.args.namer in
     let was = g.W.Sink.taken c.args.sink.now in
-    let dropped = subst (λ words. DropsRefs name (store_of name (bytes_of c.args.store)) (texts_of words) c.drop_stored.result) c.as_slice.ensures.value c.drop_stored.ensures in
+    let dropped = subst (λ words. DropsRefs name (store_of name (bytes_of c.args.store)) (texts_of words) c.drop_stored.result) c.as_slice-in-Drop.ensures.value c.drop_stored.ensures in
     subst (λ l. Serves name l (bytes_of c.args.store) (g.R.Source.coming c.args.source) was was c.drop_stored.result) (sym c.in-Drop.is) (dropped, refl)
 
 pub returns-in-Show-clause-served : goal.returns-in-Show-clause-served

@@ -3,6 +3,7 @@
 
     scripts/changes.py [STREAM..]      of each stream, and of this repository's history where none is named
     scripts/changes.py --random N      of N histories made at random, each of twenty steps (--steps)
+    scripts/changes.py --ranges N      of such histories, but only by range words
 
 A stream goes into git and into a store, and the store goes out by `gx export --changes`, with and
 without `done`. The text is read here, line by line: each commit has to go out behind the blobs that
@@ -13,7 +14,8 @@ object have to be the same everywhere, commits in their order, and the same text
 
 A history made at random deletes and moves refs, too. After each step the whole store goes out, and
 what is new goes out by range words into a repository of git and a store that hold the steps before.
---seed N gives the seed of the first history, which is printed; the others count on from it.
+So do some refs alone. --seed N gives the seed of the first history, which is printed; the others
+count on from it.
 
 GX: the program, crates/gx/out/gx if it isn't set. It needs git. The status is 1 where something differs.
 """
@@ -21,7 +23,6 @@ GX: the program, crates/gx/out/gx if it isn't set. It needs git. The status is 1
 import argparse
 import random
 import shutil
-import subprocess
 import tempfile
 import time
 from pathlib import Path
@@ -195,14 +196,6 @@ def try_stream(name, stream, folder):
 # ---- histories made at random
 
 
-def takes_ranges(folder):
-    """Whether the program takes range words behind the file."""
-    store = Store(folder / "empty.gx")
-    done = subprocess.run([GX, "export", "--changes", store.path, "--", "^none"], capture_output=True)
-    store.drop_file()
-    return done.returncode != 2
-
-
 class Mirror:
     """A repository of git and a store that are brought up to date by ranges."""
 
@@ -210,6 +203,7 @@ class Mirror:
         self.repository, self.store = Repository(folder / "mirror.git"), Store(folder / "mirror.gx")
         self.chance = chance
         self.told = {}
+        self.texts = 0
 
     def words(self, refs):
         """What is new: of a ref that moved by `OLD..NEW` or by two words, and without all that was told before."""
@@ -231,6 +225,7 @@ class Mirror:
     def bring(self, store, refs, what):
         """All that is new."""
         text = store.changes("--", *self.words(refs))
+        self.texts += 1
         marks = self.repository.take(text, "--done", "--force")
         self.store.take(text, "--done", "--force")
         check_text(text, self.repository, marks, f"{what}, what is new")
@@ -242,6 +237,7 @@ class Mirror:
         known = sorted(set(self.told.values()))
         known = self.chance.sample(known, self.chance.randrange(len(known) + 1))
         text = store.changes("--no-done", "--", *wanted, *[b"^" + name for name in known])
+        self.texts += 1
         copy, again = self.repository.copy("part.git"), self.store.copy("part.gx")
         for place in (copy, again):
             place.take(text, "--force")
@@ -255,8 +251,8 @@ class Mirror:
         again.drop_file()
 
 
-def follow(seed, steps, folder, ranges):
-    """One history, with each of its steps."""
+def follow(seed, steps, folder, with_whole):
+    """One history, with each of its steps: how many commits it has at its end, and how many ranges went out."""
     chance = random.Random(seed)
     history = History(chance)
     origin, store = Repository(folder / "origin.git", folder / "marks"), Store(folder / "origin.gx")
@@ -269,35 +265,35 @@ def follow(seed, steps, folder, ranges):
         store.drop(gone)
         store.take(git_export(origin, "--full-tree"), "--done", "--force")
         same(store.refs(), origin.refs(), f"{what}: refs before")
-        count = whole(origin, store, folder, what)
+        if with_whole:
+            whole(origin, store, folder, what)
         refs = origin.named()
-        if ranges:
-            mirror.forget(refs)
-        if ranges and refs:
+        mirror.forget(refs)
+        if refs:
             mirror.bring_part(origin, store, refs, what)
             mirror.bring(store, refs, what)
             for place in (mirror.repository, mirror.store):
                 same(place.refs(), origin.refs(), f"{what}: refs of {place.path.name}")
                 same(place.holds(origin.objects()), True, f"{what}: objects of {place.path.name}")
-    return count
+    return len(origin.commits()[0]), mirror.texts
 
 
-def try_random(count, steps, seed, folder):
-    ranges = takes_ranges(folder)
-    if not ranges:
-        print("ranges are left out, since this program takes no range words")
-    commits = 0
+def try_random(count, steps, seed, folder, with_whole):
+    commits = texts = 0
     for number in range(seed, seed + count):
         below = folder / str(number)
         below.mkdir()
-        commits += follow(number, steps, below, ranges)
+        more, sent = follow(number, steps, below, with_whole)
+        commits, texts = commits + more, texts + sent
         shutil.rmtree(below)
-    print(f"{count} histories of {steps} steps from seed {seed}, {commits} commits at their ends: the same")
+    told = f"{count} histories of {steps} steps from seed {seed}, {commits} commits at their ends"
+    print(f"{told}, {texts} exports of ranges: the same")
 
 
 def main():
     words = argparse.ArgumentParser(description=__doc__, formatter_class=argparse.RawTextHelpFormatter)
     words.add_argument("--random", type=int, metavar="N")
+    words.add_argument("--ranges", type=int, metavar="N")
     words.add_argument("--steps", type=int, default=20, metavar="N")
     words.add_argument("--seed", type=int, default=time.time_ns() % 1000000, metavar="N")
     words.add_argument("streams", nargs="*", type=Path, metavar="STREAM")
@@ -305,9 +301,10 @@ def main():
     with tempfile.TemporaryDirectory(prefix="changes-") as name:
         folder = Path(name)
         try:
-            if given.random is not None:
+            count = given.random if given.ranges is None else given.ranges
+            if count is not None:
                 print(f"seed {given.seed}", flush=True)
-                try_random(given.random, given.steps, given.seed, folder)
+                try_random(count, given.steps, given.seed, folder, given.ranges is None)
             elif not given.streams:
                 try_stream("this repository", print_of(["git", "-C", TOP, "fast-export", "--all"]), folder)
             for number, stream in enumerate(given.streams):

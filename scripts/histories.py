@@ -32,10 +32,12 @@ class History:
         self.branches = {}
         self.tags = {}
         self.deleted = []
+        self.fresh = set()  # the tags that the step has set
         self.count = 0
 
     def step(self):
         """The refs that are deleted first, and the stream of the step."""
+        self.fresh = set()
         gone = [self.deletion() for _ in range(1) if self.branches and self.chance.random() < 0.3]
         return gone, b"".join(self.command() for _ in range(self.chance.randrange(1, 5)))
 
@@ -145,9 +147,12 @@ class History:
         return b"M %s inline %s\ndata %d\n%s" % (mode, quoted(path), len(content), content)
 
     def tag(self, mark):
-        """A tag of its own or a ref below refs/tags/, new or moved."""
-        old = [tag for tag in sorted(self.tags) if self.chance.random() < 0.1]
+        """A tag of its own or a ref below refs/tags/, new or moved. No stream of git's may have both of one name."""
+        old = [tag for tag in sorted(self.tags) if self.chance.random() < 0.1 and tag not in self.fresh]
         name = old[0] if old else b"refs/tags/v%d" % (len(self.tags) + 100 * self.count)
+        while name in self.fresh:
+            name += b"x"
+        self.fresh.add(name)
         self.tags[name] = mark
         if self.chance.random() < 0.4:
             return b"reset %s\nfrom :%d\n\n" % (name, mark)

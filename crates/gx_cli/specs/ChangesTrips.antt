@@ -30,12 +30,12 @@ module _ (name : Kind → Bytes → Bytes) where
       -- The second repository has the same refs under the same object names, and exactly what they reach.
       pub again : IsBack trip.first.1 trip.again.1
 
-    -- What an import made comes back, with its report; or memory ran out, or the export has more than 2^63 - 1 bytes.
+    -- What an import made comes back, with its report; or OutOfMemory is answered, or the export has more than 2^63 - 1 bytes.
     abbrev pub ChangesComeBackOr : Report → N × Records → Result (ChangesTrip N A) CliFault → Type 0
     ChangesComeBackOr report first (Ok trip) = (trip.first ≡ first) × (trip.report ≡ report) × ChangesComeBack (history_of first.1) trip
     ChangesComeBackOr report first (Err fault) = GivesText {A = A} (changes_text name done (history_of first.1)) (Err fault)
 
-    -- What the commands of a source give when they are replayed comes back; or the import is refused; or memory ran out after
-    -- it, or the export has more than 2^63 - 1 bytes.
+    -- What the commands of a source give when they are replayed comes back; or the import is refused; or OutOfMemory is answered
+    -- after it, or the export has more than 2^63 - 1 bytes.
     abbrev pub TripsByChanges : Option Coming → Option Taken → Option Taken → Result (ChangesTrip N A) CliFault → Type 0
     TripsByChanges = Returns name (λ (trip : ChangesTrip N A). trip.report) ChangesComeBack (changes_text name done)

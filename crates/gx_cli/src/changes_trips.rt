@@ -34,7 +34,7 @@ pub struct ChangesTrip<N: Namer, A: Allocator> {
 /// Lines of `progress` go out as they come. With `done` the export tells its end.
 ///
 /// `Import`: the stream's import is refused. `Export`: the export has more than 2^63 - 1 bytes, which no import reads.
-/// `OutOfMemory`: a growth was refused after the import.
+/// `OutOfMemory`: a growth was refused after the import, or the second import was refused.
 /// Cost: that of the import, of `gx_export::export_changes`, and of the import of what it wrote. Memory: that of both
 /// imports, and the export's text.
 pub fn trip_by_changes<N: Namer + Copy + Drop, A: Allocator + Copy, R: Source + Drop, W: Sink>(

@@ -53,7 +53,7 @@ impl From<AllocError> for ExportFault {
     }
 }
 
-/// Why an export of a range stops.
+/// Why an export of a range stops. A refused word prints as a refused walk, and a stop as its word.
 #[derive(Clone, Copy, Debug, PartialEq, Eq)]
 pub enum RangeFault {
     /// A word is refused, and nothing went out.
@@ -61,6 +61,22 @@ pub enum RangeFault {
     /// The export stops.
     Export(ExportFault),
 }
+
+impl fmt::Display for RangeFault {
+    ghost use Rattle.std.specs.Prelude.{Some};
+    ghost use Rattle.gx_export.specs.Faults.{refusal};
+
+    ghost output = { λ fault. Some (refusal fault) };
+
+    fn fmt<W: fmt::Write>(&self, f: &mut fmt::Formatter<W>) -> fmt::Result {
+        match self {
+            RangeFault::Walk(fault) => write!(f, "{fault}"),
+            RangeFault::Export(fault) => f.write_str(fault.word()),
+        }
+    }
+}
+
+impl Error for RangeFault {}
 
 impl From<WalkFault> for RangeFault {
     ghost from_gives = { λ walk fault. fault ≡ Walk walk };

@@ -1,8 +1,8 @@
 -- Two steps that add values: what they give, and a fault of the first.
-use Rattle.std.proofs.Common.{◌≡◌, Result, Ok, Err, refl}
+use Rattle.std.proofs.Common.{◌≡◌, ◌⊎◌, Result, Ok, Err, inl, inr, refl}
 use Rattle.gx_model.specs.declared.faults.Fault.{Fault}
 use Rattle.gx_model.specs.declared.faults.Fault.TheVariants as fault
-use Rattle.gx_model.specs.Faults.{and_then}
+use Rattle.gx_model.specs.Faults.{IsFaultOf, and_then}
 use Rattle.gx_import.specs.Answers.{AddsAs}
 use Rattle.gx_import.proofs.FaultSteps.{fault_then}
 
@@ -42,3 +42,65 @@ adds_then clash more f Is Be fault.BadRevision given next h = fault_then fault.B
 adds_then clash more f Is Be fault.UnknownRef given next h = fault_then fault.UnknownRef given next h
 adds_then clash more f Is Be fault.Ambiguous given next h = fault_then fault.Ambiguous given next h
 adds_then clash more f Is Be fault.NoParent given next h = fault_then fault.NoParent given next h
+
+-- a refusal is for want of memory, for a clash, or what the definition gives
+pub adds_so : {X Y : Type 0} (clash : Type 0) (Is : Y → X → Type 0) (e : Fault) (given : Result Y Fault) → AddsAs clash Is (Err e) given → (e ≡ fault.OutOfMemory) ⊎ ((e ≡ fault.NameHeld) × clash) ⊎ (given ≡ Err e)
+adds_so clash Is fault.OutOfMemory given h = inl refl
+adds_so clash Is fault.ReadFailed given h = inr (inr h)
+adds_so clash Is fault.WriteFailed given h = inr (inr h)
+adds_so clash Is fault.UnknownCommand given h = inr (inr h)
+adds_so clash Is fault.BadLine given h = inr (inr h)
+adds_so clash Is fault.BadNumber given h = inr (inr h)
+adds_so clash Is fault.TruncatedData given h = inr (inr h)
+adds_so clash Is fault.BadPath given h = inr (inr h)
+adds_so clash Is fault.PathTooLong given h = inr (inr h)
+adds_so clash Is fault.BadMode given h = inr (inr h)
+adds_so clash Is fault.BadIdent given h = inr (inr h)
+adds_so clash Is fault.BadRefName given h = inr (inr h)
+adds_so clash Is fault.UnknownMark given h = inr (inr h)
+adds_so clash Is fault.WrongKind given h = inr (inr h)
+adds_so clash Is fault.UnknownObject given h = inr (inr h)
+adds_so clash Is fault.NoSuchPath given h = inr (inr h)
+adds_so clash Is fault.RootNotTree given h = inr (inr h)
+adds_so clash Is fault.FromItself given h = inr (inr h)
+adds_so clash Is fault.EmptyBranch given h = inr (inr h)
+adds_so clash Is fault.Unsupported given h = inr (inr h)
+adds_so clash Is fault.LateOption given h = inr (inr h)
+adds_so clash Is fault.MissingDone given h = inr (inr h)
+adds_so clash Is fault.NotFastForward given h = inr (inr h)
+adds_so clash Is fault.NameHeld given h = inr (inl (refl, h))
+adds_so clash Is fault.BadRevision given h = inr (inr h)
+adds_so clash Is fault.UnknownRef given h = inr (inr h)
+adds_so clash Is fault.Ambiguous given h = inr (inr h)
+adds_so clash Is fault.NoParent given h = inr (inr h)
+
+-- and with no clash, for want of memory or what the definition gives
+pub fault_so : {Y : Type 0} (e : Fault) (given : Result Y Fault) → IsFaultOf e given → (e ≡ fault.OutOfMemory) ⊎ (given ≡ Err e)
+fault_so fault.OutOfMemory given h = inl refl
+fault_so fault.ReadFailed given h = inr h
+fault_so fault.WriteFailed given h = inr h
+fault_so fault.UnknownCommand given h = inr h
+fault_so fault.BadLine given h = inr h
+fault_so fault.BadNumber given h = inr h
+fault_so fault.TruncatedData given h = inr h
+fault_so fault.BadPath given h = inr h
+fault_so fault.PathTooLong given h = inr h
+fault_so fault.BadMode given h = inr h
+fault_so fault.BadIdent given h = inr h
+fault_so fault.BadRefName given h = inr h
+fault_so fault.UnknownMark given h = inr h
+fault_so fault.WrongKind given h = inr h
+fault_so fault.UnknownObject given h = inr h
+fault_so fault.NoSuchPath given h = inr h
+fault_so fault.RootNotTree given h = inr h
+fault_so fault.FromItself given h = inr h
+fault_so fault.EmptyBranch given h = inr h
+fault_so fault.Unsupported given h = inr h
+fault_so fault.LateOption given h = inr h
+fault_so fault.MissingDone given h = inr h
+fault_so fault.NotFastForward given h = inr h
+fault_so fault.NameHeld given h = inr h
+fault_so fault.BadRevision given h = inr h
+fault_so fault.UnknownRef given h = inr h
+fault_so fault.Ambiguous given h = inr h
+fault_so fault.NoParent given h = inr h

@@ -1,5 +1,5 @@
 -- A commit command run over what an import holds: what its calls answer goes together with the model's step.
-use Rattle.std.proofs.Common.{◌≡◌, List, Option, Result, Ok, Err, sym, ap, subst, ◌∙◌}
+use Rattle.std.proofs.Common.{◌≡◌, List, Option, None, Result, Ok, Err, sym, ap, subst, ◌∙◌}
 use Rattle.std.specs.Prelude.{IfErr, IfOk, OnOk}
 use Rattle.std.specs.List.{AllByRecursion}
 use Rattle.gx_model.specs.declared.objects.Kind.{Kind}
@@ -12,6 +12,7 @@ use Rattle.gx_model.specs.Records.{name_of}
 use Rattle.gx_model.specs.Histories.{Records, with_tree}
 use Rattle.gx_model.specs.Laws.RepositoryLaws.{values_of}
 use Rattle.gx_model.specs.Records.Sound.{Holds, IsNamedMap, IsSound}
+use Rattle.gx_model.specs.Streams.Commands as command
 use Rattle.gx_model.specs.Streams.Commands.{Change, CommitParts}
 use Rattle.gx_model.specs.Replay.{State, added, all_changed, all_committed, committed_to, first_parent, starting_files, step_commit, text_made, with_first_parent}
 use Rattle.gx_object.specs.declared.name.Name.{Name}
@@ -22,6 +23,8 @@ use Rattle.gx_model.specs.declared.faults.Fault.TheVariants.{OutOfMemory}
 use Rattle.gx_import.specs.Additions.{Clash, added_by_commit, blobs_added, commit_added, commit_made}
 use Rattle.gx_import.specs.Answers.{AddsAs}
 use Rattle.gx_import.specs.Calls.{SetsCommit}
+use Rattle.gx_import.specs.Explaining.{Tells}
+use Rattle.gx_import.specs.declared.explanation.Explanation.{Explanation}
 use Rattle.gx_import.specs.Objects.{IsCommitOf}
 use Rattle.gx_import.specs.Rows.{AreAll, AreBoth}
 use Rattle.gx_import.specs.Standing.{Follows, Stands}
@@ -30,6 +33,7 @@ use Rattle.gx_model.proofs.FilesByName.{files_named}
 use Rattle.gx_import.proofs.HeldParts.{commits_hold}
 use Rattle.gx_import.proofs.MadeCommits.{changes_refused, made_refused, parents_after, parents_known, step_made, stepped}
 use Rattle.gx_import.proofs.Standings.{one_has}
+use Rattle.gx_import.proofs.ToldCommits.{adding_told}
 
 -- a call that is refused for want of memory alone
 pub set_or_full : {X Y : Type 0} (clash : Type 0) (Be : Y → X → Type 0) (given : Result Y Fault) (answer : Result X Fault) {P : Type 0} → OnOk answer P → IfErr answer (λ fault. fault ≡ OutOfMemory)
@@ -95,6 +99,11 @@ module _ (name : Kind → Bytes → Bytes) {A : Type 0} (r mid new : Records) (b
         parents_known name s t p.0 p.2 p.1 p.3 (values_of r) Be (Err e)
         (made_refused name s t p.0 p.1 m.0 m.1 (values_of r) (values_of mid) (ap (λ z. z.values) h.history) (ap (λ z. z.values) m.2.0.stands.history)
         (λ (u : State) (called : Name). Follows name new tables m.0.0 u × (called.bytes ≡ name_of name (commit_value v))) Be e (added_as (Err e) adds))
+
+    -- and no change is told
+    pub add_told : {B : Type 0} (e : Fault) → AddGives name A mid new stop parents t (Err e) → (told : Explanation B) → told.change ≡ None → Tells name {X = Unit {0}} s (command.Commit t) (Err e) told
+    add_told e adds told blank = adding_told name {X = Name} {Y = State} s (command.Commit t) told blank (Clash name (values_of mid) (commit_added m.0.1 v))
+        (λ u called. Follows name new tables m.0.0 u × (called.bytes ≡ name_of name (commit_value v))) e (added (commit_value v) m.0.0) (added_as (Err e) adds)
 
     -- it is, and then its mark and its branch are set
     pub commit_done : (called : Name) → AddGives name A mid new stop parents t (Ok called) → (after : NamedTree) → after.files ≡ stop → (now : Tables A) → SetsCommit tables now t.mark t.ref called after

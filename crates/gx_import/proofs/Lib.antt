@@ -26,6 +26,8 @@ pub mod KeptCheckpoints
 pub mod Features
 pub mod AppliedCommands
 pub mod ReachedStates
+pub mod ToldCommits
+pub mod ExplainedRows
 pub mod Publications
 pub mod HeldParts
 pub mod Refusals

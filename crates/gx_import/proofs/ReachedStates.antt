@@ -15,6 +15,9 @@ use Rattle.gx_model.specs.Histories.{History, IsHistory, Record, Records}
 use Rattle.gx_model.specs.Records.HistoryOf.{history_of}
 use Rattle.gx_model.specs.Streams.Commands.{Command, Commands, Progress}
 use Rattle.gx_model.specs.Replay.{Outcome, State, byte_cmp, begun, imported_asked, refused, replayed, replayed_asked, start, step}
+use Rattle.gx_model.specs.Faults.{and_then}
+use Rattle.gx_model.specs.Laws.ExportLaws.{steps}
+use Rattle.gx_model.proofs.CommitSteps.{steps_after}
 use Rattle.gx_model.proofs.GitlinkSteps.{IsFreeState, start_free, step_free}
 use Rattle.gx_model.specs.Texts.Sinks.{FailedWithin, Taken, Took, TookFront}
 use Rattle.gx_text.specs.Devices.{Coming}
@@ -26,6 +29,9 @@ use Rattle.gx_command.specs.declared.fault.CommandFault.{CommandFault}
 use Rattle.gx_import.specs.Additions.{ClashesAt}
 use Rattle.gx_import.specs.Applying.{Applies}
 use Rattle.gx_command.specs.CommandFaults.{fault_of as of_command}
+use Rattle.gx_import.specs.Explaining.{ExplainsFault, HasNoneRefused, HasRefused, Tells, TellsNext}
+use Rattle.gx_import.specs.declared.explanation.Explanation.{Explanation}
+use Rattle.std.specs.Prelude.{MatchOption}
 use Rattle.gx_import.specs.Imports.{Imports, IsCutAt, Leaves, LeavesBefore, Replays, cut_off, last_number, line_of, only, progress_of, replayed_on}
 use Rattle.gx_import.specs.Replaying.{EndsAs, IsLast}
 use Rattle.gx_import.specs.Objects.{IsOf, IsTagOf}
@@ -63,12 +69,13 @@ module _ (asks : Features) (name : Kind → Bytes → Bytes) where
   pub record HasReached (h : History) (before : List Command) (n : ℕ) (s : State) (was now : Option Taken) : Type 0 where
     pub outcome : (left : Commands) → replayed_asked name asks h (behind before left) ≡ replayed name n s left.list left.fault
     pub clashes : (left : List Command) (number : ℕ) → ClashesAt name n s left number → ClashesAt name 0 (begun asks h) (before ++ left) number
+    pub reached : steps name (begun asks h) before ≡ Ok s
     pub count : length before ≡ n
     pub progress : Took was now s.progress
     pub held : s.held ≡ length h.values
 
   reached_start : (h : History) (was : Option Taken) → HasReached h [] 0 (begun asks h) was was
-  reached_start h was = record { outcome = λ left. refl; clashes = λ left number k. k; count = refl; progress = took_nothing was; held = refl }
+  reached_start h was = record { outcome = λ left. refl; clashes = λ left number k. k; reached = refl; count = refl; progress = took_nothing was; held = refl }
 
   -- the state after one command more
   reached_next : (h : History) (before : List Command) (n : ℕ) (s : State) (c : Command) (was mid now : Option Taken) → HasReached h before n s was mid
@@ -79,6 +86,7 @@ module _ (asks : Features) (name : Kind → Bytes → Bytes) where
     clashes = λ left number i.
         let next = subst (λ r. elim r as (λ _. Type 0) [ Ok u ↦ ClashesAt name (n + 1) u left number | Err f ↦ ⊥ ]) (sym e) i in
         subst (λ l. ClashesAt name 0 (begun asks h) l number) (sym (append_assoc before (c ∷ []) left)) (k.clashes (c ∷ left) number (inr next));
+    reached = steps_after name (begun asks h) s before (c ∷ []) k.reached ∙ ap (λ r. and_then r (λ u. steps name u [])) e;
     count = length-append before (c ∷ []) ∙ ap (λ m. m + 1) k.count;
     progress = subst (Took was now) (sym p) (took_both was mid now s.progress text k.progress took);
     held = held ∙ k.held;
@@ -94,6 +102,7 @@ module _ (asks : Features) (name : Kind → Bytes → Bytes) where
   reached_last old before n s was now k = record {
     outcome = ap (λ l. replayed_on asks name old (only l)) (sym (append-nil before)) ∙ k.outcome (only []);
     cut = cut_here old before n s was now k;
+    reached = k.reached;
     count = k.count;
     progress = k.progress;
     held = k.held;
@@ -258,10 +267,51 @@ module _ (asks : Features) (name : Kind → Bytes → Bytes) where
       record {
         outcome = ap (replayed_on asks name old) all ∙ k.4.outcome (stops None);
         cut = ap (λ cs. replayed_on asks name old (cut_off cs.list)) all ∙ k.4.outcome (stops (Some fault.ReadFailed));
+        reached = ap (λ cs. steps name (begun asks (history_of old)) cs.list) all ∙ ap (steps name (begun asks (history_of old))) (append-nil k.0) ∙ k.4.reached;
         count = ap (λ cs. length cs.list) all ∙ ap length (append-nil k.0) ∙ k.4.count;
         progress = k.4.progress;
         held = k.4.held;
       }
+
+  -- ---- what is told of a refusal
+
+  -- of a command that is refused
+  pub told_stopped : {A B : Type 0} (old : Records) (coming : Option Coming) (n : ℕ) (s : State) (c : read.Command A) (ahead later : Option Commands) (was now : Option Taken)
+      → IsAt old coming n s ahead was now → Reads ahead later (Ok (Some c)) → (e : Fault) (explanation : Explanation B) → Tells name {X = Unit {0}} s (shown_command c) (Err e) explanation
+      → (count : ℕ) → ExplainsFault name asks old coming (record { command = n + 1; kind = e; checkpoints = count }) explanation
+  told_stopped old None n s c ahead later was now k reads e explanation h count =
+      (behind k.0 (with_first (shown_command c) (stops None)), tt, record { before = k.0; after = shown_command c ∷ []; all = refl; number = sym (ap (λ m. m + 1) k.1.count); state = s; reached = k.1.reached; tells = h })
+  told_stopped {A} old (Some coming) n s c ahead later was now k reads e explanation h count =
+      let q = subst (λ o. Reads {A = A} o later (Ok (Some c))) k.2 reads in
+      record { before = k.0; after = shown_command c ∷ q.0.list; all = ap (λ cs. cs.list) (k.3 ∙ ap (behind k.0) q.1); number = sym (ap (λ m. m + 1) k.4.count); state = s; reached = k.4.reached; tells = h }
+
+  -- where memory ran out, nothing needs to be told of the next command
+  memory_told : {B : Type 0} (s : State) (left : List Command) (explanation : Explanation B) → explanation.change ≡ None → TellsNext name s left OutOfMemory explanation
+  memory_told s [] explanation blank = blank
+  memory_told s (c ∷ cs) explanation blank = subst (λ o. MatchOption o (HasNoneRefused name s c OutOfMemory) (λ number. HasRefused name s c OutOfMemory number explanation.path)) (sym blank) (inl refl)
+
+  -- of the reader's refusal
+  pub told_refused : (A : Type 0) {B : Type 0} (old : Records) (coming : Option Coming) (n : ℕ) (s : State) (ahead later : Option Commands) (was now : Option Taken) → IsAt old coming n s ahead was now
+      → (f : CommandFault) → Reads {A = A} ahead later (Err f) → (explanation : Explanation B) → explanation.change ≡ None → (count : ℕ)
+      → ExplainsFault name asks old coming (record { command = n + 1; kind = of_command f; checkpoints = count }) explanation
+  told_refused A old None n s ahead later was now k f reads explanation blank count =
+      (behind k.0 (stops (Some (of_command f))), (f, refl), record { before = k.0; after = []; all = refl; number = sym (ap (λ m. m + 1) k.1.count); state = s; reached = k.1.reached; tells = blank })
+  told_refused A old (Some coming) n s ahead later was now k f reads explanation blank count =
+      let q = subst (λ o. Reads {A = A} o later (Err f)) k.2 reads in
+      elim q.1 as (λ _. ExplainsFault name asks old (Some coming) (record { command = n + 1; kind = of_command f; checkpoints = count }) explanation) [
+        | inl e ↦
+            let memory : OutOfMemory ≡ of_command f = sym (ap of_command e) in
+            record { before = k.0; after = k.1.list; all = ap (λ cs. cs.list) k.3; number = sym (ap (λ m. m + 1) k.4.count); state = s; reached = k.4.reached; tells = subst (λ g. TellsNext name s k.1.list g explanation) memory (memory_told s k.1.list explanation blank) }
+        | inr e ↦ record { before = k.0; after = []; all = ap (λ cs. cs.list) (k.3 ∙ ap (behind k.0) e); number = sym (ap (λ m. m + 1) k.4.count); state = s; reached = k.4.reached; tells = blank }
+      ]
+
+  -- of a refusal behind the last command
+  pub told_last : {B : Type 0} (old : Records) (coming : Option Coming) (n : ℕ) (s : State) (was now : Option Taken) → EndsAs asks name old coming n s was now → (kind : Fault) (explanation : Explanation B) → explanation.change ≡ None → (count : ℕ)
+      → ExplainsFault name asks old coming (record { command = n + 1; kind = kind; checkpoints = count }) explanation
+  told_last old None n s was now k kind explanation blank count =
+      (only k.0, tt, record { before = k.0; after = []; all = sym (append-nil k.0); number = sym (ap (λ m. m + 1) k.1.count); state = s; reached = k.1.reached; tells = blank })
+  told_last old (Some coming) n s was now k kind explanation blank count =
+      record { before = (commands_asked_from asks coming).list; after = []; all = sym (append-nil (commands_asked_from asks coming).list); number = sym (ap (λ m. m + 1) k.count); state = s; reached = k.reached; tells = blank }
 
 -- where nothing was replayed, tables that are empty stand
 pub stand_empty : (name : Kind → Bytes → Bytes) {A : Type 0} (r : Records) (tables : Tables A) → AreEmpty tables → Stands name r tables (starting tables.is_forced (history_of r))

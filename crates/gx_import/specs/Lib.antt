@@ -12,6 +12,8 @@ pub mod RefChanges
 pub mod Places
 pub mod Publishing
 pub mod Imports
+pub mod Explaining
+pub mod Telling
 pub mod Keeping
 pub mod Replaying
 pub mod Exported

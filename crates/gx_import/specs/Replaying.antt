@@ -9,7 +9,8 @@ use Rattle.gx_model.specs.Records.HistoryOf.{history_of}
 use Rattle.gx_model.specs.declared.features.Features.{Features}
 use Rattle.gx_model.specs.Streams.Commands as model
 use Rattle.gx_model.specs.Streams.Commands.{Commands}
-use Rattle.gx_model.specs.Replay.{State, ended, refused, replayed_asked}
+use Rattle.gx_model.specs.Replay.{State, begun, ended, refused, replayed_asked}
+use Rattle.gx_model.specs.Laws.ExportLaws.{steps}
 use Rattle.gx_model.specs.Texts.Sinks.{FailedWithin, Taken, Took}
 use Rattle.gx_text.specs.Devices.{Coming}
 use Rattle.gx_command.specs.Reading.{Falls, Reads, commands_asked_from}
@@ -48,6 +49,7 @@ module _ (asks : Features) (name : Kind → Bytes → Bytes) where
   pub record IsLast (old : Records) (commands : Commands) (n : ℕ) (s : State) (was now : Option Taken) : Type 0 where
     pub outcome : replayed_asked name asks (history_of old) commands ≡ ended n s None
     pub cut : replayed_asked name asks (history_of old) (cut_off commands.list) ≡ refused (n + 1) ReadFailed s.progress s.kept
+    pub reached : steps name (begun asks (history_of old)) commands.list ≡ Ok s
     pub count : length commands.list ≡ n
     pub progress : Took was now s.progress
     pub held : s.held ≡ length (history_of old).values

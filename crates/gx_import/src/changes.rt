@@ -1,87 +1,193 @@
 //! The changes of a commit's files. Source: git-fast-import(1), "filemodify" to "filedeleteall".
 
-ghost use Rattle.std.specs.Prelude.{◌≡◌, ◌≢◌, IfOk, IsTrue};
+ghost use Rattle.std.specs.Prelude.{◌≡◌, ◌≢◌, None, Ok, Some, IfOk, IsTrue, OnErr};
+ghost use Rattle.gx_model.specs.Histories.Edits.{copied, removed, renamed};
 ghost use Rattle.gx_model.specs.declared.objects.Mode.TheVariants as modes;
 ghost use Rattle.gx_command.specs.DataRefs.{is_suited};
+ghost use Rattle.gx_command.specs.Views.{shown_change, shown_data};
+ghost use Rattle.gx_tree.specs.Calls.{Becomes};
+ghost use Rattle.gx_tree.specs.Named.{KeepsHome};
 ghost use Rattle.gx_model.specs.Streams.Commands as model;
 ghost use Rattle.gx_import.specs.Standing.{Extends, StayAtHome};
-ghost use Rattle.gx_import.specs.Calls.{AddsContent, Changes, EditsAll, GivesBlob, Modifies, NamesContent};
+ghost use Rattle.gx_import.specs.Calls.{AddsContent, Changes, EditsAll, GivesBlob, MakesChange, Modifies, NamesContent};
+ghost use Rattle.gx_import.specs.Explaining.{TellsPath, path_of};
+ghost use Rattle.gx_import.specs.Telling.{TellsEdits};
 
-use crate::ImportKind;
 use crate::object::{Object, name_of_kind};
 use crate::tables::Tables;
+use crate::{Explanation, ImportKind};
 use gx_command::{Change, DataRef, Digits, Modify};
 use gx_model::repository_laws::puts_add_values;
 use gx_object::{Kind, Mode, Name, Namer};
 use gx_repo::Repo;
-use gx_tree::{PathTree, records_keep_home};
+use gx_text::TreePath;
+use gx_tree::{PathTree, TreeFault, records_keep_home};
 use std::alloc::Allocator;
 
-/// Makes these changes, in their order.
+/// Makes these changes, in their order. A refusal tells the change.
 pub(crate) fn change_all<N: Namer, A: Allocator + Copy>(
     repo: &mut Repo<N, A>,
     tables: &Tables<A>,
     files: &mut PathTree<A>,
     changes: Vec<Change<A>, A>,
+    told: &mut Explanation<A>,
 ) -> Result<(), ImportKind>
+    requires blank { told.now.change ≡ None }
     ensures namer { repo.new.0 ≡ repo.old.0 }
     ensures refs { repo.new.1.refs ≡ repo.old.1.refs }
     ensures extends { Extends repo.old.1.records repo.new.1.records }
     ensures home { IfOk result (λ _. StayAtHome N.name_of repo.old repo.new files.old files.new) }
     ensures steps { EditsAll N.name_of repo.old repo.new tables.now files.old files.new changes result }
+    ensures told { TellsEdits N.name_of repo.old tables.now files.old changes result told.new }
 {
+    let count = changes.len();
+    let mut left = count;
     for change in changes {
-        change_files(repo, tables, files, change)?;
+        left -= 1;
+        if let Err(kind) = change_files(repo, tables, files, change, told) {
+            told.change = Some((count - left) as u64);
+            return Err(kind);
+        }
     }
     Ok(())
 }
 
-/// Makes one change.
+/// Makes one change. A refusal tells its path.
 fn change_files<N: Namer, A: Allocator + Copy>(
     repo: &mut Repo<N, A>,
     tables: &Tables<A>,
     files: &mut PathTree<A>,
     change: Change<A>,
+    told: &mut Explanation<A>,
 ) -> Result<(), ImportKind>
     ensures namer { repo.new.0 ≡ repo.old.0 }
     ensures refs { repo.new.1.refs ≡ repo.old.1.refs }
     ensures extends { Extends repo.old.1.records repo.new.1.records }
     ensures home { IfOk result (λ _. StayAtHome N.name_of repo.old repo.new files.old files.new) }
     ensures steps { Changes N.name_of repo.old repo.new tables.now files.old files.new change result }
+    ensures told { TellsPath (path_of (shown_change change)) result told.old told.new }
 {
     match change {
-        Change::Modify(modify) => modify_files(repo, tables, files, modify)?,
-        Change::Remove(path) => files.remove(&path)?,
+        Change::Modify(modify) => modify_files(repo, tables, files, modify, told)?,
+        Change::Remove(path) => remove_files(files, path, told)?,
         Change::Copy {
             source,
             destination,
-        } => files.copy(&source, &destination)?,
+        } => copy_files(files, source, &destination, told)?,
         Change::Rename {
             source,
             destination,
-        } => files.rename(&source, &destination)?,
+        } => rename_files(files, source, &destination, told)?,
         Change::Clear => files.clear(),
     }
     files.name_map();
     Ok(())
 }
 
-/// Sets a file. What it gets is resolved first.
+/// Removes what stands at or below a path. A refusal tells it.
+fn remove_files<A: Allocator + Copy>(
+    files: &mut PathTree<A>,
+    path: TreePath<A>,
+    told: &mut Explanation<A>,
+) -> Result<(), TreeFault>
+    ensures map { Becomes files.new result (Ok (removed files.old.files path)) }
+    ensures unchanged { OnErr result (files.new ≡ files.old) }
+    ensures home { KeepsHome files.old files.new }
+    ensures told { TellsPath (Some path) result told.old told.new }
+{
+    let done = files.remove(&path);
+    if done.is_err() {
+        told.path = Some(path);
+    }
+    done
+}
+
+/// Copies what stands at or below the source. A refusal tells the source.
+fn copy_files<A: Allocator + Copy>(
+    files: &mut PathTree<A>,
+    source: TreePath<A>,
+    destination: &TreePath<A>,
+    told: &mut Explanation<A>,
+) -> Result<(), TreeFault>
+    ensures map { Becomes files.new result (copied files.old.files source destination.now) }
+    ensures unchanged { OnErr result (files.new ≡ files.old) }
+    ensures home { KeepsHome files.old files.new }
+    ensures told { TellsPath (Some source) result told.old told.new }
+{
+    let done = files.copy(&source, destination);
+    if done.is_err() {
+        told.path = Some(source);
+    }
+    done
+}
+
+/// Moves what stands at or below the source. A refusal tells the source.
+fn rename_files<A: Allocator + Copy>(
+    files: &mut PathTree<A>,
+    source: TreePath<A>,
+    destination: &TreePath<A>,
+    told: &mut Explanation<A>,
+) -> Result<(), TreeFault>
+    ensures map { Becomes files.new result (renamed files.old.files source destination.now) }
+    ensures unchanged { OnErr result (files.new ≡ files.old) }
+    ensures home { KeepsHome files.old files.new }
+    ensures told { TellsPath (Some source) result told.old told.new }
+{
+    let done = files.rename(&source, destination);
+    if done.is_err() {
+        told.path = Some(source);
+    }
+    done
+}
+
+/// Sets a file. A refusal tells its path.
 fn modify_files<N: Namer, A: Allocator + Copy>(
     repo: &mut Repo<N, A>,
     tables: &Tables<A>,
     files: &mut PathTree<A>,
     modify: Modify<A>,
+    told: &mut Explanation<A>,
 ) -> Result<(), ImportKind>
     ensures namer { repo.new.0 ≡ repo.old.0 }
     ensures refs { repo.new.1.refs ≡ repo.old.1.refs }
     ensures extends { Extends repo.old.1.records repo.new.1.records }
     ensures home { IfOk result (λ _. StayAtHome N.name_of repo.old repo.new files.old files.new) }
     ensures steps { Modifies N.name_of repo.old repo.new tables.now files.old files.new modify result }
+    ensures told { TellsPath (Some modify.path) result told.old told.new }
+{
+    let done = set_file(
+        repo,
+        tables,
+        files,
+        modify.mode,
+        modify.data_ref,
+        &modify.path,
+    );
+    if done.is_err() {
+        told.path = Some(modify.path);
+    }
+    done
+}
+
+/// Sets the file at a path. What it gets is resolved first.
+fn set_file<N: Namer, A: Allocator + Copy>(
+    repo: &mut Repo<N, A>,
+    tables: &Tables<A>,
+    files: &mut PathTree<A>,
+    mode: Mode,
+    data_ref: DataRef<A>,
+    path: &TreePath<A>,
+) -> Result<(), ImportKind>
+    requires suits { IsTrue (is_suited mode data_ref) }
+    ensures namer { repo.new.0 ≡ repo.old.0 }
+    ensures refs { repo.new.1.refs ≡ repo.old.1.refs }
+    ensures extends { Extends repo.old.1.records repo.new.1.records }
+    ensures home { IfOk result (λ _. StayAtHome N.name_of repo.old repo.new files.old files.new) }
+    ensures steps { MakesChange N.name_of repo.old repo.new tables.now files.old files.new (model.Modify mode (shown_data data_ref) path.now) result }
 {
     records_keep_home();
-    let name = content(repo, tables, modify.mode, modify.data_ref)?;
-    files.modify(&modify.path, modify.mode, name)?;
+    let name = content(repo, tables, mode, data_ref)?;
+    files.modify(path, mode, name)?;
     files.name_map();
     Ok(())
 }

@@ -1,6 +1,6 @@
 //! Commit commands. Source: git-fast-import(1), "commit".
 
-ghost use Rattle.std.specs.Prelude.{◌≡◌, [], IfErr, IfOk, OnOk};
+ghost use Rattle.std.specs.Prelude.{◌≡◌, [], None, IfErr, IfOk, OnOk};
 ghost use Rattle.std.specs.List.{cons_option};
 ghost use Rattle.gx_model.specs.declared.faults.Fault.TheVariants.{OutOfMemory};
 ghost use Rattle.gx_model.specs.declared.objects.Kind.TheVariants as kinds;
@@ -10,16 +10,17 @@ ghost use Rattle.gx_object.specs.Parts.{commit_parts as shown_parts};
 ghost use Rattle.gx_tree.specs.Named.{IsAtHome};
 ghost use Rattle.gx_import.specs.Objects.{AreHeldCommits, commit_object};
 ghost use Rattle.gx_import.specs.Rows.{IsSorted};
+ghost use Rattle.gx_import.specs.Telling.{TellsCommit, TellsEditsFrom};
 ghost use Rattle.gx_import.specs.Standing.{Extends, HasTipsAtHome, StandsForSome};
 ghost use Rattle.gx_import.specs.Calls.{AddsWithTrees, AddsCommitAlone, AreParentsOf, EditsFrom, IsOwnCommit, IsSomeCommit, KeepsTipsAtHomeWith, MakesCommit, NamesFirstParent, NamesParents, SetsCommit};
 
-use crate::ImportKind;
 use crate::branches::Tip;
 use crate::changes::change_all;
 use crate::commit_ish::committed_for;
 use crate::files::starting_files;
 use crate::object::Object;
 use crate::tables::Tables;
+use crate::{Explanation, ImportKind};
 use gx_command::{Change, Commit, Identity, RefName};
 use gx_model::repository_laws::{puts_add_values, trees_add_file_maps};
 use gx_object::{CommitParts, Kind, Name, Namer};
@@ -29,12 +30,15 @@ use gx_tree::{PathTree, records_keep_home, records_keep_loaded};
 use std::alloc::{AllocError, Allocator};
 use std::mem;
 
-/// Makes a commit: its parents, its changes in their order, its trees, itself, its mark, its branch.
+/// Makes a commit: its parents, its changes in their order, its trees, itself, its mark, its branch. A refusal tells the
+/// change that is refused.
 pub(crate) fn apply_commit<N: Namer, A: Allocator + Copy>(
     repo: &mut Repo<N, A>,
     tables: &mut Tables<A>,
     commit: Commit<A>,
+    told: &mut Explanation<A>,
 ) -> Result<(), ImportKind>
+    requires blank { told.now.change ≡ None }
     requires stands { StandsForSome N.name_of repo.now tables.now }
     requires homes { HasTipsAtHome N.name_of repo.now tables.now }
     ensures homes { IfOk result (λ _. HasTipsAtHome N.name_of (repo.old.0, repo.new.1) tables.new) }
@@ -42,10 +46,11 @@ pub(crate) fn apply_commit<N: Namer, A: Allocator + Copy>(
     ensures refs { repo.new.1.refs ≡ repo.old.1.refs }
     ensures extends { Extends repo.old.1.records repo.new.1.records }
     ensures steps { MakesCommit N.name_of repo.old repo.new tables.old tables.new commit result }
+    ensures told { TellsCommit N.name_of repo.old tables.old commit result told.new }
 {
     let first = first_parent(repo, tables, &commit)?;
     let parents = parents(repo, tables, &commit, first)?;
-    make_commit(repo, tables, commit, first, parents.as_slice())
+    make_commit(repo, tables, commit, first, parents.as_slice(), told)
 }
 
 /// Makes a commit whose parents are known: all of them, and the first, if there is one.
@@ -55,7 +60,9 @@ fn make_commit<N: Namer, A: Allocator + Copy>(
     mut commit: Commit<A>,
     first: Option<Name>,
     parents: &[Name],
+    told: &mut Explanation<A>,
 ) -> Result<(), ImportKind>
+    requires blank { told.now.change ≡ None }
     requires stands { StandsForSome N.name_of repo.now tables.now }
     requires parents { AreParentsOf N.name_of repo.now tables.now commit first parents.now }
     requires homes { HasTipsAtHome N.name_of repo.now tables.now }
@@ -64,12 +71,13 @@ fn make_commit<N: Namer, A: Allocator + Copy>(
     ensures refs { repo.new.1.refs ≡ repo.old.1.refs }
     ensures extends { Extends repo.old.1.records repo.new.1.records }
     ensures steps { MakesCommit N.name_of repo.old repo.new tables.old tables.new commit result }
+    ensures told { TellsCommit N.name_of repo.old tables.old commit result told.new }
 {
     records_keep_home();
     records_keep_loaded();
     let changes = mem::replace(&mut commit.changes, Vec::new(tables.alloc));
     let branch = commit.branch.bytes.as_slice();
-    let mut files = changed_files(repo, tables, branch, first, changes)?;
+    let mut files = changed_files(repo, tables, branch, first, changes, told)?;
     repo.sound();
     let name = add(repo, &mut files, parents, &commit)?;
     set_mark_and_branch(tables, commit.mark, commit.branch, name, files)
@@ -82,7 +90,9 @@ fn changed_files<N: Namer, A: Allocator + Copy>(
     branch: &[u8],
     first: Option<Name>,
     changes: Vec<Change<A>, A>,
+    told: &mut Explanation<A>,
 ) -> Result<PathTree<A>, ImportKind>
+    requires blank { told.now.change ≡ None }
     requires stands { IsSomeCommit N.name_of repo.now tables.now first }
     requires homes { HasTipsAtHome N.name_of repo.now tables.now }
     ensures homes { IfOk result (λ _. HasTipsAtHome N.name_of (repo.old.0, repo.new.1) tables.new) }
@@ -91,13 +101,14 @@ fn changed_files<N: Namer, A: Allocator + Copy>(
     ensures refs { repo.new.1.refs ≡ repo.old.1.refs }
     ensures extends { Extends repo.old.1.records repo.new.1.records }
     ensures steps { EditsFrom N.name_of repo.old repo.new tables.old tables.new first changes result }
+    ensures told { TellsEditsFrom N.name_of repo.old tables.old first changes result told.new }
 {
     repo.sound();
     records_keep_home();
     records_keep_loaded();
     tables.make_room();
     let mut files = starting_files(repo, tables, branch, first)?;
-    change_all(repo, tables, &mut files, changes)?;
+    change_all(repo, tables, &mut files, changes, told)?;
     Ok(files)
 }
 

@@ -1,7 +1,8 @@
 //! Imports of whole streams. Source: git-fast-import(1).
 
-ghost use Rattle.std.specs.Prelude.{◌≡◌, [], IfErr, IsTrue, OnErr, OnOk};
+ghost use Rattle.std.specs.Prelude.{◌≡◌, [], None, IfErr, IsTrue, OnErr, OnOk};
 ghost use Rattle.gx_import.specs.Exported.{ImportsAnyExport, KeepsNoNullGitlink, LeaveExports, RefusesNullGitlink};
+ghost use Rattle.gx_import.specs.Explaining.{ExplainsAsked};
 ghost use Rattle.gx_import.specs.Imports.{ImportsAsked, ImportsStream, StandsAsked, StandsReplayed};
 ghost use Rattle.gx_import.specs.Keeping.{AreNone, IsLeft};
 ghost use Rattle.gx_import.specs.Replaying.{LeavesImport, left_by};
@@ -12,7 +13,7 @@ use crate::checkpoints::Checkpoints;
 use crate::publishing::publish;
 use crate::replay::replay;
 use crate::tables::Tables;
-use crate::{ImportFault, Report};
+use crate::{Explanation, ImportFault, Report};
 use gx_command::Features;
 use gx_model::export_laws::{exports_are_imported, exports_are_readable};
 use gx_model::gitlink_laws::nulls_are_refused;
@@ -85,14 +86,43 @@ pub fn import_asking<N: Namer, A: Allocator + Copy, R: Source + Drop, W: Sink>(
     ensures gitlinks { KeepsNoNullGitlink repo.old.1 repo.new.1 }
     ensures nulls { LeaveExports features → RefusesNullGitlink N.name_of repo.old (R.coming source) result }
 {
+    let mut told = Explanation::none();
+    import_explained(alloc, repo, source, sink, features, &mut told)
+}
+
+/// Imports a stream as `import_asking` does, and tells what a refusal is about: which change of the commit is refused, by its
+/// number and its path. The changes before it are made without a fault. An import that is accepted tells nothing, and neither
+/// does a refusal that no change is the cause of. What was told before is forgotten.
+///
+/// Errors and cost: those of `import`. No path is copied. Source: git-fast-import(1), "filemodify" to "filedeleteall".
+pub fn import_explained<N: Namer, A: Allocator + Copy, R: Source + Drop, W: Sink>(
+    alloc: A,
+    repo: &mut Repo<N, A>,
+    source: R,
+    sink: &mut W,
+    features: Features,
+    told: &mut Explanation<A>,
+) -> Result<Report, ImportFault>
+    ensures namer { repo.new.0 ≡ repo.old.0 }
+    ensures replayed { ImportsAsked N.name_of W.taken features repo.old repo.new (R.coming source) sink.old sink.new result }
+    ensures explained { ExplainsAsked N.name_of features repo.old (R.coming source) result told.new }
+    ensures stands { OnOk result (StandsAsked features N.name_of repo.old repo.new (R.coming source)) }
+    ensures extends { Extends repo.old.1.records repo.new.1.records }
+    ensures sound { IsSound (N.name_of repo.old.0) repo.new.1 }
+    ensures unchanged { IfErr result (λ fault. fault.checkpoints ≡ 0 → repo.new ≡ repo.old) }
+    ensures exported { LeaveExports features → ImportsAnyExport N.name_of repo.old repo.new (R.coming source) result }
+    ensures gitlinks { KeepsNoNullGitlink repo.old.1 repo.new.1 }
+    ensures nulls { LeaveExports features → RefusesNullGitlink N.name_of repo.old (R.coming source) result }
+{
     histories_of_records();
     names_tell_values();
     nulls_are_refused();
     exports_are_readable();
     exports_are_imported();
     features_are_asked();
+    *told = Explanation::none();
     let mut checkpoints = Checkpoints::new(alloc, repo.store().len(), has_no_refs(repo));
-    match replay_and_publish(alloc, repo, &mut checkpoints, source, sink, features) {
+    match replay_and_publish(alloc, repo, &mut checkpoints, source, sink, features, told) {
         Ok(report) => {
             repo.sound();
             Ok(report)
@@ -121,17 +151,20 @@ fn replay_and_publish<N: Namer, A: Allocator + Copy, R: Source + Drop, W: Sink>(
     source: R,
     sink: &mut W,
     features: Features,
+    told: &mut Explanation<A>,
 ) -> Result<Report, ImportFault>
+    requires blank { told.now.change ≡ None }
     requires none { AreNone repo.now.1 checkpoints.now }
     ensures namer { repo.new.0 ≡ repo.old.0 }
     ensures extends { Extends repo.old.1.records repo.new.1.records }
     ensures replayed { LeavesImport N.name_of W.taken features repo.old repo.new checkpoints.new (R.coming source) sink.old sink.new result }
+    ensures explained { ExplainsAsked N.name_of features repo.old (R.coming source) result told.new }
     ensures left { OnErr result (IsLeft repo.old.1 repo.new.1 checkpoints.new) }
     ensures counted { IfErr result (λ fault. fault.checkpoints ≡ checkpoints.new.count) }
     ensures gitlinks { KeepsNoNullGitlink repo.old.1 (left_by result checkpoints.new repo.new.1) }
 {
     let mut tables = Tables::new(alloc, features.force);
-    replay_into(repo, &mut tables, checkpoints, source, sink, features)
+    replay_into(repo, &mut tables, checkpoints, source, sink, features, told)
 }
 
 /// Replays a stream's commands into these tables, and publishes what they made.
@@ -142,20 +175,23 @@ fn replay_into<N: Namer, A: Allocator + Copy, R: Source + Drop, W: Sink>(
     source: R,
     sink: &mut W,
     features: Features,
+    told: &mut Explanation<A>,
 ) -> Result<Report, ImportFault>
+    requires blank { told.now.change ≡ None }
     requires empty { AreEmpty tables.now }
     requires forced { tables.now.is_forced ≡ features.force }
     requires none { AreNone repo.now.1 checkpoints.now }
     ensures namer { repo.new.0 ≡ repo.old.0 }
     ensures extends { Extends repo.old.1.records repo.new.1.records }
     ensures replayed { LeavesImport N.name_of W.taken features repo.old repo.new checkpoints.new (R.coming source) sink.old sink.new result }
+    ensures explained { ExplainsAsked N.name_of features repo.old (R.coming source) result told.new }
     ensures left { OnErr result (IsLeft repo.old.1 repo.new.1 checkpoints.new) }
     ensures counted { IfErr result (λ fault. fault.checkpoints ≡ checkpoints.new.count) }
     ensures gitlinks { KeepsNoNullGitlink repo.old.1 (left_by result checkpoints.new repo.new.1) }
 {
     histories_of_records();
     let held = repo.store().len();
-    let commands = replay(repo, tables, checkpoints, source, sink, features)?;
+    let commands = replay(repo, tables, checkpoints, source, sink, features, told)?;
     if let Err(kind) = publish(repo, tables, &mut checkpoints.refs, checkpoints.has_all) {
         return Err(ImportFault {
             command: commands + 1,

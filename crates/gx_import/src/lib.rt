@@ -10,6 +10,7 @@ mod changes;
 mod checkpoints;
 mod commit;
 mod commit_ish;
+mod explanation;
 mod fault;
 mod files;
 mod importing;
@@ -25,6 +26,7 @@ mod table;
 mod tables;
 mod tag;
 
+pub use explanation::Explanation;
 pub use fault::{ImportFault, ImportKind};
-pub use importing::{import, import_asking};
+pub use importing::{import, import_asking, import_explained};
 pub use report::Report;

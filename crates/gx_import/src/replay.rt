@@ -1,13 +1,15 @@
 //! The commands of a stream, applied one after the other. Source: git-fast-import(1), "Commands".
 
-ghost use Rattle.std.specs.Prelude.{◌≡◌, ◌<◌, ◌≤◌, ◌-◌, ◌^◌, length, ◌+◌, IfErr, IfOk, OnErr, OnOk};
+ghost use Rattle.std.specs.Prelude.{◌≡◌, None, ◌<◌, ◌≤◌, ◌-◌, ◌^◌, length, ◌+◌, IfErr, IfOk, OnErr, OnOk};
 ghost use Rattle.gx_import.specs.Exported.{MakesNoNullGitlink};
 ghost use Rattle.gx_import.specs.Imports.{line_of};
 ghost use Rattle.gx_import.specs.Keeping.{AreNone, AreStill, EntersEach, HoldsAll, IsLeft, IsNext, KeepsInEach, Moves, left_of};
 ghost use Rattle.gx_command.specs.Reading.{ReadsNoNullGitlink};
 ghost use Rattle.gx_import.specs.Replaying.{FallsNext, ReadsNext, ReplaysRead, ReplaysTo, Writes};
 ghost use Rattle.gx_import.specs.Publishing.{PublishesInEach};
+ghost use Rattle.gx_import.specs.Explaining.{ExplainsAsked, ExplainsRead};
 ghost use Rattle.gx_import.specs.Rows.{IsSorted};
+ghost use Rattle.gx_import.specs.Telling.{TellsInEach};
 ghost use Rattle.gx_import.specs.Standing.{AreEmpty, Extends, HasTipsAtHome, StandsForSome};
 ghost use Rattle.gx_import.specs.Calls.{AppliesInEach, AsksFor};
 
@@ -18,7 +20,7 @@ use crate::publishing::publish;
 use crate::reset::apply_reset;
 use crate::tables::Tables;
 use crate::tag::apply_tag;
-use crate::{ImportFault, ImportKind};
+use crate::{Explanation, ImportFault, ImportKind};
 use gx_command::{Command, CommandReader, Feature, Features};
 use gx_object::Namer;
 use gx_repo::Repo;
@@ -34,7 +36,9 @@ pub(crate) fn replay<N: Namer, A: Allocator + Copy, R: Source + Drop, W: Sink>(
     source: R,
     sink: &mut W,
     features: Features,
+    told: &mut Explanation<A>,
 ) -> Result<u64, ImportFault>
+    requires blank { told.now.change ≡ None }
     requires empty { AreEmpty tables.now }
     requires forced { tables.now.is_forced ≡ features.force }
     requires none { AreNone repo.now.1 checkpoints.now }
@@ -42,6 +46,7 @@ pub(crate) fn replay<N: Namer, A: Allocator + Copy, R: Source + Drop, W: Sink>(
     ensures extends { Extends repo.old.1.records repo.new.1.records }
     ensures count { IfOk result (λ commands. commands ≤ 2 ^ 63 - 1) }
     ensures replayed { ReplaysTo N.name_of W.taken features repo.old repo.new tables.new checkpoints.new (R.coming source) sink.old sink.new result }
+    ensures explained { ExplainsAsked N.name_of features repo.old (R.coming source) result told.new }
     ensures left { IsLeft repo.old.1 repo.new.1 checkpoints.new }
     ensures sorted { OnOk result (IsSorted checkpoints.new.refs) }
     ensures has_all { OnOk result (HoldsAll repo.new.1 checkpoints.new) }
@@ -50,7 +55,7 @@ pub(crate) fn replay<N: Namer, A: Allocator + Copy, R: Source + Drop, W: Sink>(
     ensures gitlinks_left { MakesNoNullGitlink repo.old.1 (left_of checkpoints.new repo.new.1) }
 {
     let mut reader = CommandReader::asking(tables.alloc, source, features);
-    replay_commands(repo, tables, checkpoints, &mut reader, sink)
+    replay_commands(repo, tables, checkpoints, &mut reader, sink, told)
 }
 
 /// Applies the commands of a reader that has given none yet, and answers their number.
@@ -60,7 +65,9 @@ fn replay_commands<N: Namer, A: Allocator + Copy, R: Source, W: Sink>(
     checkpoints: &mut Checkpoints<A>,
     reader: &mut CommandReader<R, A>,
     sink: &mut W,
+    told: &mut Explanation<A>,
 ) -> Result<u64, ImportFault>
+    requires blank { told.now.change ≡ None }
     requires empty { AreEmpty tables.now }
     requires none { AreNone repo.now.1 checkpoints.now }
     requires most { reader.now.most ≤ 2 ^ 63 - 1 }
@@ -69,6 +76,7 @@ fn replay_commands<N: Namer, A: Allocator + Copy, R: Source, W: Sink>(
     ensures count { IfOk result (λ commands. commands ≤ 2 ^ 63 - 1) }
     ensures replayed { ReplaysRead N.name_of W.taken repo.old repo.new tables.old.is_forced tables.new checkpoints.new
         reader.old.commands sink.old sink.new result }
+    ensures explained { ExplainsRead N.name_of repo.old tables.old.is_forced reader.old.commands result told.new }
     ensures left { IsLeft repo.old.1 repo.new.1 checkpoints.new }
     ensures sorted { OnOk result (IsSorted checkpoints.new.refs) }
     ensures has_all { OnOk result (HoldsAll repo.new.1 checkpoints.new) }
@@ -80,7 +88,7 @@ fn replay_commands<N: Namer, A: Allocator + Copy, R: Source, W: Sink>(
     repo.sound();
     while let Some(command) = next_command(reader, commands, checkpoints.count)? {
         commands += 1;
-        if let Err(kind) = apply(repo, tables, checkpoints, sink, command) {
+        if let Err(kind) = apply(repo, tables, checkpoints, sink, command, told) {
             return Err(ImportFault {
                 command: commands,
                 kind,
@@ -119,7 +127,9 @@ fn apply<N: Namer, A: Allocator + Copy, W: Sink>(
     checkpoints: &mut Checkpoints<A>,
     sink: &mut W,
     command: Command<A>,
+    told: &mut Explanation<A>,
 ) -> Result<(), ImportKind>
+    requires blank { told.now.change ≡ None }
     requires stands { StandsForSome N.name_of repo.now tables.now }
     requires homes { HasTipsAtHome N.name_of repo.now tables.now }
     requires fits { checkpoints.now.records ≤ length repo.now.1.records }
@@ -134,12 +144,13 @@ fn apply<N: Namer, A: Allocator + Copy, W: Sink>(
     ensures has_all { OnOk result (HoldsAll repo.new.1 checkpoints.new) }
     ensures keeps { KeepsInEach N.name_of repo.old repo.new tables.old checkpoints.old checkpoints.new command result }
     ensures steps { AppliesInEach N.name_of W.taken repo.old repo.new tables.old tables.new command sink.old sink.new result }
+    ensures told { TellsInEach N.name_of repo.old tables.old command result told.new }
 {
     records_keep_home();
     records_keep_loaded();
     match command {
         Command::Blob(blob) => apply_blob(repo, tables, blob),
-        Command::Commit(commit) => apply_commit(repo, tables, commit),
+        Command::Commit(commit) => apply_commit(repo, tables, commit, told),
         Command::Tag(tag) => apply_tag(repo, tables, &tag),
         Command::Reset(reset) => apply_reset(repo, tables, reset),
         Command::Progress(text) => apply_progress(sink, text.as_slice()),

@@ -8,6 +8,8 @@ mod batches;
 #[cfg(test)]
 mod changes;
 #[cfg(test)]
+mod explaining;
+#[cfg(test)]
 mod features;
 #[cfg(test)]
 mod given;

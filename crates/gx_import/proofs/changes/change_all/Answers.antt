@@ -1,5 +1,4 @@
-use Rattle.std.proofs.Common.{arith, length, Err, map, refl, sym, ap, subst, ◌∙◌}
-use Rattle.std.proofs.lemmas.Result.{err_from_is_err_and}
+use Rattle.std.proofs.Common.{◌≡◌, ◌+◌, ◌-◌, arith, length, Err, map, refl, sym, ap, subst, ◌∙◌}
 use Rattle.std.proofs.lemmas.List.{nil_from_length}
 use Rattle.std.specs.Vec.Iter.{into_iter_items}
 use Rattle.gx_model.specs.Texts.{Bytes}
@@ -12,7 +11,7 @@ use Rattle.gx_model.specs.Objects.NameMaps.{AreFiles}
 use Rattle.gx_import.specs.Answers.{AddsAs}
 use Rattle.gx_import.specs.Additions.{Clash, blob_added}
 use Rattle.gx_import.proofs.Extensions.{extends_more, extends_none}
-use Rattle.gx_import.proofs.ChangesSoFar.{AreMade, all_made, next_made, next_refused, none_made}
+use Rattle.gx_import.proofs.ChangesSoFar.{AreMade, all_made, next_made, next_refused, next_told, none_made}
 use Rattle.gx_import.proofs.changes.change_all.Goals as goal
 
 pub loop-change-init : goal.loop-change-init
@@ -28,13 +27,16 @@ loop-change-init g c =
           (none_made name c.args.repo.now.1 c.args.tables.now s h f c.args.files.now.files are given),
       λ h. h,
       omega (arith, all.1, ap length all.0),
+      c.requires.blank,
+      omega (arith, all.1, c.len-count.ensures),
+      omega (arith, c.len-count.ensures),
     )
 
 pub loop-change-preserved : goal.loop-change-preserved
 loop-change-preserved g c =
     let name = g.N.Namer.name_of c.args.repo.now.0 in
     let l = c.loop-change in
-    let v = c.in_ok-change_files.ensures in (
+    let v = c.in_default.ensures in (
       v.namer ∙ l.invariant.0,
       v.refs ∙ l.invariant.1,
       extends_more c.args.repo.now.1.records l.repo.1.records c.change_files.new.repo.1.records l.invariant.2 v.extends,
@@ -43,22 +45,36 @@ loop-change-preserved g c =
           next_made name c.args.repo.now.1 l.repo.1 c.args.tables.now s f c.args.changes.items (into_iter_items l.change-iterator) (into_iter_items c.next.new.self) shown_change c.in-Some.change l.files.files c.in-Some.ensures.steps.0 (l.invariant.3 s f h are) c.change_files.new.repo.1 c.change_files.new.files.files step,
       λ h. (rw l.invariant.0 at v.home) (l.invariant.4 h),
       omega (arith, c.in-Some.ensures.steps.1, l.invariant.5, ap length c.in-Some.ensures.steps.0),
+      ap (λ told. told.change) c.in_default.ensures.told ∙ l.invariant.6,
+      omega (arith, c.in-Some.ensures.steps.1, l.invariant.7),
+      omega (arith, l.invariant.8),
     )
 
-pub returns-in_err-change_files-clause-steps : goal.returns-in_err-change_files-clause-steps
-returns-in_err-change_files-clause-steps g c = λ s f h are.
+pub returns-in-Err-clause-steps : goal.returns-in-Err-clause-steps
+returns-in-Err-clause-steps g c = λ s f h are.
     let name = g.N.Namer.name_of c.args.repo.now.0 in
     let l = c.loop-change in
-    let p = err_from_is_err_and c.from_residual.result c.from_residual.ensures.1 in
-    let v = c.in_err-change_files.ensures in
     let change = shown_change c.in-Some.change in
     let step = subst (λ n. (t : State) (h : FileMap Bytes) → Stands (g.N.Namer.name_of n) l.repo.1 c.args.tables.now t → AreFiles (g.N.Namer.name_of n) t.history.values h l.files.files
     → AddsAs {X = Unit {0}} {Y = State × FileMap Bytes} (Clash (g.N.Namer.name_of n) (values_of l.repo.1) (blob_added change))
     (λ r x. Follows (g.N.Namer.name_of n) c.change_files.new.repo.1 c.args.tables.now t r.0 × AreFiles (g.N.Namer.name_of n) r.0.history.values r.1 c.change_files.new.files.files)
-    (Err c.in_err-change_files.field-0.0) (changed (g.N.Namer.name_of n) t h change)) l.invariant.0 v.steps in
+    (Err c.in-Err.kind) (changed (g.N.Namer.name_of n) t h change)) l.invariant.0 c.in-Err.ensures.steps in
     let Be : State → State × FileMap Bytes → Unit {0} → Type 0 = λ t r x. Follows name c.change_files.new.repo.1 c.args.tables.now t r.0 × AreFiles name r.0.history.values r.1 c.change_files.new.files.files in
-    rw (p.1, p.2)
-    (next_refused name c.args.repo.now.1 l.repo.1 c.args.tables.now s f c.args.changes.items (into_iter_items l.change-iterator) (into_iter_items c.next.new.self) shown_change c.in-Some.change l.files.files c.in-Some.ensures.steps.0 (l.invariant.3 s f h are) Be (Be s) c.in_err-change_files.field-0.0 step)
+    next_refused name c.args.repo.now.1 l.repo.1 c.args.tables.now s f c.args.changes.items (into_iter_items l.change-iterator) (into_iter_items c.next.new.self) shown_change c.in-Some.change l.files.files c.in-Some.ensures.steps.0 (l.invariant.3 s f h are) Be (Be s) c.in-Err.kind step
+
+pub returns-in-Err-clause-told : goal.returns-in-Err-clause-told
+returns-in-Err-clause-told g c = λ s f h are.
+    let name = g.N.Namer.name_of c.args.repo.now.0 in
+    let l = c.loop-change in
+    let change = shown_change c.in-Some.change in
+    let step = subst (λ n. (t : State) (h : FileMap Bytes) → Stands (g.N.Namer.name_of n) l.repo.1 c.args.tables.now t → AreFiles (g.N.Namer.name_of n) t.history.values h l.files.files
+    → AddsAs {X = Unit {0}} {Y = State × FileMap Bytes} (Clash (g.N.Namer.name_of n) (values_of l.repo.1) (blob_added change))
+    (λ r x. Follows (g.N.Namer.name_of n) c.change_files.new.repo.1 c.args.tables.now t r.0 × AreFiles (g.N.Namer.name_of n) r.0.history.values r.1 c.change_files.new.files.files)
+    (Err c.in-Err.kind) (changed (g.N.Namer.name_of n) t h change)) l.invariant.0 c.in-Err.ensures.steps in
+    let Be : State → State × FileMap Bytes → Unit {0} → Type 0 = λ t r x. Follows name c.change_files.new.repo.1 c.args.tables.now t r.0 × AreFiles name r.0.history.values r.1 c.change_files.new.files.files in
+    let number = c.len-count.result - (l.left - 1) in
+    let many : number + length (into_iter_items c.next.new.self) ≡ length c.args.changes.items = omega (arith, c.len-count.ensures, l.invariant.8, l.invariant.7, l.invariant.5, ap length c.in-Some.ensures.steps.0) in
+    next_told name c.args.repo.now.1 l.repo.1 c.args.tables.now s f c.args.changes.items (into_iter_items l.change-iterator) (into_iter_items c.next.new.self) shown_change c.in-Some.change l.files.files c.in-Some.ensures.steps.0 (l.invariant.3 s f h are) Be c.in-Err.kind number c.change_files.new.told.path many c.in-Err.ensures.told.1 step
 
 pub returns-clause-steps : goal.returns-clause-steps
 returns-clause-steps g c = λ s f h are.
@@ -69,6 +85,12 @@ returns-clause-steps g c = λ s f h are.
 pub returns-clause-home : goal.returns-clause-home
 returns-clause-home g c = c.loop-change.invariant.4
 
-pub returns-in_err-change_files-clause-extends : goal.returns-in_err-change_files-clause-extends
-returns-in_err-change_files-clause-extends g c =
-    extends_more c.args.repo.now.1.records c.loop-change.repo.1.records c.change_files.new.repo.1.records c.loop-change.invariant.2 c.in_err-change_files.ensures.extends
+pub returns-in-Err-clause-extends : goal.returns-in-Err-clause-extends
+returns-in-Err-clause-extends g c =
+    extends_more c.args.repo.now.1.records c.loop-change.repo.1.records c.change_files.new.repo.1.records c.loop-change.invariant.2 c.change_files.ensures.extends
+
+pub returns-clause-told : goal.returns-clause-told
+returns-clause-told g c = λ s f h are. c.loop-change.invariant.6
+
+pub overflow_sub-left : goal.overflow_sub-left
+overflow_sub-left g c = omega (arith, c.in-Some.ensures.steps.1, c.loop-change.invariant.7)

@@ -1,4 +1,4 @@
-use Rattle.std.proofs.Common.{◌≡◌, length, map}
+use Rattle.std.proofs.Common.{◌≡◌, ◌≤◌, length, map, None}
 use Rattle.std.specs.Vec.Iter.{into_iter_items, into_iter_len}
 use Rattle.gx_model.specs.Texts.{Bytes}
 use Rattle.gx_model.specs.Histories.Files.{FileMap}
@@ -19,3 +19,6 @@ invariant-loop-change g l =
     → AreMade (g.N.Namer.name_of l.initial.repo.0) l.initial.repo.1 l.repo.1 l.tables s f (map shown_change l.fn.changes.items) (map shown_change (into_iter_items l.change-iterator)) l.files.files)
     × (IsAtHome (g.N.Namer.name_of l.initial.repo.0) l.initial.repo.1.records l.initial.files → IsAtHome (g.N.Namer.name_of l.initial.repo.0) l.repo.1.records l.files)
     × (into_iter_len l.change-iterator ≡ length (into_iter_items l.change-iterator))
+    × (l.told.change ≡ None)
+    × (l.left ≡ into_iter_len l.change-iterator)
+    × (l.left ≤ length l.fn.changes.items)

@@ -17,32 +17,32 @@ use Rattle.gx_import.specs.Standing.{Follows}
 use Rattle.gx_import.proofs.EditedFiles.{cleared_kept, copied_free, copied_names, edit_done, edit_refused, removed_kept, removed_names, renamed_free, renamed_names}
 use Rattle.gx_import.proofs.KeptFiles.{IsKnownLeaf, copied_leaves, renamed_leaves}
 use Rattle.gx_import.proofs.changes.change_files.Goals as goal
-use Rattle.gx_import.proofs.changes.change_files.Goals.{in-Modify+in_ok-modify_files-in-Modify, in-Remove+in_ok-remove-in-Remove, in-Copy+in_ok-copy-in-Copy, in-Rename+in_ok-rename-in-Rename, in-Clear}
+use Rattle.gx_import.proofs.changes.change_files.Goals.{in-Modify+in_ok-modify_files-in-Modify, in-Remove+in_ok-remove_files-in-Remove, in-Copy+in_ok-copy_files-in-Copy, in-Rename+in_ok-rename_files-in-Rename, in-Clear}
 
-pub returns-in_err-copy-in-Copy-clause-steps : goal.returns-in_err-copy-in-Copy-clause-steps
-returns-in_err-copy-in-Copy-clause-steps g c = λ s f h are.
+pub returns-in_err-copy_files-in-Copy-clause-steps : goal.returns-in_err-copy_files-in-Copy-clause-steps
+returns-in_err-copy_files-in-Copy-clause-steps g c = λ s f h are.
     let name = g.N.Namer.name_of c.args.repo.now.0 in
-    let v = c.from_residual-in_err-copy-in-Copy in
+    let v = c.from_residual-in_err-copy_files-in-Copy in
     let p = err_from_is_err_and v.result v.ensures.1 in
-    let e = c.in_err-copy-in-Copy.field-0.0 in
+    let e = c.in_err-copy_files-in-Copy.field-0.0 in
     let from = c.in-Copy.source in
     let to = c.in-Copy.destination in
-    let refused = subst (IsFaultOf (fault_of e)) (copied_names name f c.args.files.now.files from to are.named) c.in_err-copy-in-Copy.ensures.map in
-    let Is : State × FileMap Bytes → Unit {0} → Type 0 = λ r x. Follows name c.args.repo.now.1 c.args.tables.now s r.0 × AreFiles name r.0.history.values r.1 c.copy.new.self.files in
+    let refused = subst (IsFaultOf (fault_of e)) (copied_names name f c.args.files.now.files from to are.named) c.in_err-copy_files-in-Copy.ensures.map in
+    let Is : State × FileMap Bytes → Unit {0} → Type 0 = λ r x. Follows name c.args.repo.now.1 c.args.tables.now s r.0 × AreFiles name r.0.history.values r.1 c.copy_files.new.files.files in
     let answer : AddsAs (Clash name (values_of c.args.repo.now.1) (blob_added (shown_change c.args.change))) Is (Err (of_tree e)) (changed name s f (shown_change c.args.change)) =
     rw c.in-Copy.is (edit_refused name (Clash name (values_of c.args.repo.now.1) []) Is e (copied f from to) s (copied_free f from to) refused)
     in rw (p.1, p.2) answer
 
-pub returns-in_err-rename-in-Rename-clause-steps : goal.returns-in_err-rename-in-Rename-clause-steps
-returns-in_err-rename-in-Rename-clause-steps g c = λ s f h are.
+pub returns-in_err-rename_files-in-Rename-clause-steps : goal.returns-in_err-rename_files-in-Rename-clause-steps
+returns-in_err-rename_files-in-Rename-clause-steps g c = λ s f h are.
     let name = g.N.Namer.name_of c.args.repo.now.0 in
-    let v = c.from_residual-in_err-rename-in-Rename in
+    let v = c.from_residual-in_err-rename_files-in-Rename in
     let p = err_from_is_err_and v.result v.ensures.1 in
-    let e = c.in_err-rename-in-Rename.field-0.0 in
+    let e = c.in_err-rename_files-in-Rename.field-0.0 in
     let from = c.in-Rename.source in
     let to = c.in-Rename.destination in
-    let refused = subst (IsFaultOf (fault_of e)) (renamed_names name f c.args.files.now.files from to are.named) c.in_err-rename-in-Rename.ensures.map in
-    let Is : State × FileMap Bytes → Unit {0} → Type 0 = λ r x. Follows name c.args.repo.now.1 c.args.tables.now s r.0 × AreFiles name r.0.history.values r.1 c.rename.new.self.files in
+    let refused = subst (IsFaultOf (fault_of e)) (renamed_names name f c.args.files.now.files from to are.named) c.in_err-rename_files-in-Rename.ensures.map in
+    let Is : State × FileMap Bytes → Unit {0} → Type 0 = λ r x. Follows name c.args.repo.now.1 c.args.tables.now s r.0 × AreFiles name r.0.history.values r.1 c.rename_files.new.files.files in
     let answer : AddsAs (Clash name (values_of c.args.repo.now.1) (blob_added (shown_change c.args.change))) Is (Err (of_tree e)) (changed name s f (shown_change c.args.change)) =
     rw c.in-Rename.is (edit_refused name (Clash name (values_of c.args.repo.now.1) []) Is e (renamed f from to) s (renamed_free f from to) refused)
     in rw (p.1, p.2) answer
@@ -55,17 +55,17 @@ returns-clause-steps g c = λ s f h are.
     let names = c.args.files.now.files in
     elim c.match-change.branch [
       | in-Modify+in_ok-modify_files-in-Modify w ↦ rw (w.in-Modify.is, w.repo-is, w.files-is) (w.in_ok-modify_files-in-Modify.ensures.steps s f h are)
-      | in-Remove+in_ok-remove-in-Remove w ↦
+      | in-Remove+in_ok-remove_files-in-Remove w ↦
           rw (w.in-Remove.is, w.repo-is, w.files-is)
-          (edit_done name r tables s h f names are (Ok (removed f w.in-Remove.path)) (removed_kept (IsKnownLeaf s.history.values) f w.in-Remove.path) w.remove.new.self.files (sym (removed_names name f names w.in-Remove.path are.named) ∙ w.in_ok-remove-in-Remove.ensures.map) (subst (λ t. IsNameMap t.files) w.files-is c.name_map.ensures))
-      | in-Copy+in_ok-copy-in-Copy w ↦
+          (edit_done name r tables s h f names are (Ok (removed f w.in-Remove.path)) (removed_kept (IsKnownLeaf s.history.values) f w.in-Remove.path) w.remove_files.new.files.files (sym (removed_names name f names w.in-Remove.path are.named) ∙ w.in_ok-remove_files-in-Remove.ensures.map) (subst (λ t. IsNameMap t.files) w.files-is c.name_map.ensures))
+      | in-Copy+in_ok-copy_files-in-Copy w ↦
           rw (w.in-Copy.is, w.repo-is, w.files-is)
-          (edit_done name r tables s h f names are (copied f w.in-Copy.source w.in-Copy.destination) (copied_leaves (IsKnownLeaf s.history.values) f w.in-Copy.source w.in-Copy.destination) w.copy.new.self.files
-          (sym (copied_names name f names w.in-Copy.source w.in-Copy.destination are.named) ∙ w.in_ok-copy-in-Copy.ensures.map) (subst (λ t. IsNameMap t.files) w.files-is c.name_map.ensures))
-      | in-Rename+in_ok-rename-in-Rename w ↦
+          (edit_done name r tables s h f names are (copied f w.in-Copy.source w.in-Copy.destination) (copied_leaves (IsKnownLeaf s.history.values) f w.in-Copy.source w.in-Copy.destination) w.copy_files.new.files.files
+          (sym (copied_names name f names w.in-Copy.source w.in-Copy.destination are.named) ∙ w.in_ok-copy_files-in-Copy.ensures.map) (subst (λ t. IsNameMap t.files) w.files-is c.name_map.ensures))
+      | in-Rename+in_ok-rename_files-in-Rename w ↦
           rw (w.in-Rename.is, w.repo-is, w.files-is)
-          (edit_done name r tables s h f names are (renamed f w.in-Rename.source w.in-Rename.destination) (renamed_leaves (IsKnownLeaf s.history.values) f w.in-Rename.source w.in-Rename.destination) w.rename.new.self.files
-          (sym (renamed_names name f names w.in-Rename.source w.in-Rename.destination are.named) ∙ w.in_ok-rename-in-Rename.ensures.map) (subst (λ t. IsNameMap t.files) w.files-is c.name_map.ensures))
+          (edit_done name r tables s h f names are (renamed f w.in-Rename.source w.in-Rename.destination) (renamed_leaves (IsKnownLeaf s.history.values) f w.in-Rename.source w.in-Rename.destination) w.rename_files.new.files.files
+          (sym (renamed_names name f names w.in-Rename.source w.in-Rename.destination are.named) ∙ w.in_ok-rename_files-in-Rename.ensures.map) (subst (λ t. IsNameMap t.files) w.files-is c.name_map.ensures))
       | in-Clear w ↦ rw (w.in-Clear.is, w.repo-is, w.files-is) (edit_done name r tables s h f names are (Ok []) (cleared_kept (IsKnownLeaf s.history.values) f) w.clear.new.self.files (ap (λ (t : NamedTree). Ok t.files) (sym w.clear.ensures)) (subst (λ t. IsNameMap t.files) w.files-is c.name_map.ensures))
     ]
 
@@ -75,9 +75,9 @@ returns-clause-home g c = λ h.
     let rs = c.args.repo.now.1.records in
     elim c.match-change.branch [
       | in-Modify+in_ok-modify_files-in-Modify w ↦ rw (w.repo-is, w.files-is) (w.in_ok-modify_files-in-Modify.ensures.home h)
-      | in-Remove+in_ok-remove-in-Remove w ↦ rw (w.repo-is, w.files-is) (w.remove.ensures.home name rs h)
-      | in-Copy+in_ok-copy-in-Copy w ↦ rw (w.repo-is, w.files-is) (w.copy.ensures.home name rs h)
-      | in-Rename+in_ok-rename-in-Rename w ↦ rw (w.repo-is, w.files-is) (w.rename.ensures.home name rs h)
+      | in-Remove+in_ok-remove_files-in-Remove w ↦ rw (w.repo-is, w.files-is) (w.remove_files.ensures.home name rs h)
+      | in-Copy+in_ok-copy_files-in-Copy w ↦ rw (w.repo-is, w.files-is) (w.copy_files.ensures.home name rs h)
+      | in-Rename+in_ok-rename_files-in-Rename w ↦ rw (w.repo-is, w.files-is) (w.rename_files.ensures.home name rs h)
       | in-Clear w ↦ rw (w.repo-is, w.files-is) (subst (IsAtHome name rs) (sym w.clear.ensures) tt)
     ]
 

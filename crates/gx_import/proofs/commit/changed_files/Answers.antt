@@ -44,3 +44,23 @@ starting_files-requires g c =
       stands = (s, c.requires.stands.1, taken_stands name c.args.repo.now.1 c.args.tables.now c.make_room.new.self s h c.make_room.ensures.marks c.make_room.ensures.tags c.make_room.ensures.forced c.make_room.ensures.taken c.make_room.ensures.sorted, c.requires.stands.3);
       homes = tips_taken (g.N.Namer.name_of c.args.repo.now.0) c.args.repo.now.1.records c.args.tables.now c.make_room.new.self c.requires.homes c.make_room.ensures.loaded c.make_room.ensures.taken;
     }
+
+pub returns-in_err-change_all-clause-told : goal.returns-in_err-change_all-clause-told
+returns-in_err-change_all-clause-told g c = λ s made h both.
+    let name = g.N.Namer.name_of c.args.repo.now.0 in
+    let p = err_from_is_err_and c.from_residual-in_err-change_all.result c.from_residual-in_err-change_all.ensures.1 in
+    let room = taken_stands name c.args.repo.now.1 c.args.tables.now c.make_room.new.self s h c.make_room.ensures.marks c.make_room.ensures.tags c.make_room.ensures.forced c.make_room.ensures.taken c.make_room.ensures.sorted in
+    let start = first_files name (g.met.N.Namer.is_namer c.args.repo.now.0) c.args.repo.now.1 c.sound.ensures s h.history made c.args.first both c.in_ok-files.files.files (c.in_ok-files.ensures.files s made room both) in
+    rw (p.1, p.2) (c.in_err-change_all.ensures.told s (starting_files made) (c.starting_files.ensures.tables s room) start)
+
+pub returns-in_err-files-clause-told : goal.returns-in_err-files-clause-told
+returns-in_err-files-clause-told g c = λ s made h both.
+    let p = err_from_is_err_and c.from_residual.result c.from_residual.ensures.1 in
+    rw (p.1, p.2, c.requires.blank) c.in_err-files.ensures.fault
+
+pub returns-clause-told : goal.returns-clause-told
+returns-clause-told g c = λ s made h both.
+    let name = g.N.Namer.name_of c.args.repo.now.0 in
+    let room = taken_stands name c.args.repo.now.1 c.args.tables.now c.make_room.new.self s h c.make_room.ensures.marks c.make_room.ensures.tags c.make_room.ensures.forced c.make_room.ensures.taken c.make_room.ensures.sorted in
+    let start = first_files name (g.met.N.Namer.is_namer c.args.repo.now.0) c.args.repo.now.1 c.sound.ensures s h.history made c.args.first both c.in_ok-files.files.files (c.in_ok-files.ensures.files s made room both) in
+    c.in_ok-change_all.ensures.told s (starting_files made) (c.starting_files.ensures.tables s room) start

@@ -1,12 +1,14 @@
 use Rattle.std.proofs.Common.{[], Err, sym, subst}
 use Rattle.std.proofs.lemmas.Result.{err_from_is_err_and}
-use Rattle.gx_command.specs.Views.{commit_parts}
+use Rattle.gx_command.specs.Views.{commit_parts, shown_commit}
 use Rattle.gx_tree.specs.Named.{NamedTree, IsAtHome}
 use Rattle.gx_import.specs.Calls.{EditsFrom}
 use Rattle.gx_import.specs.Standing.{Follows}
 use Rattle.gx_model.specs.Objects.NameMaps.{AreFiles}
-use Rattle.gx_import.proofs.CommitRuns.{AddGives, add_fails, changes_fail, commit_done, named_after, on_ok, parents_held, set_or_full}
+use Rattle.gx_import.proofs.CommitRuns.{AddGives, add_fails, add_told, changes_fail, commit_done, named_after, on_ok, parents_held, set_or_full}
 use Rattle.gx_import.proofs.Extended.{extended_more}
+use Rattle.gx_import.specs.Telling.{TellsEditsFrom}
+use Rattle.gx_import.proofs.ToldCommits.{change_told, late_told}
 use Rattle.gx_import.proofs.TipHomes.{tips_longer}
 use Rattle.gx_import.proofs.commit.make_commit.Goals as goal
 
@@ -88,3 +90,30 @@ returns-clause-steps g c = λ s h.
     let adds = rw c.changed_files.ensures.namer at c.in_ok-name.ensures.steps in
     set_or_full _ (λ t x. Follows name c.add.new.repo.1 tables s t) _ c.set_mark_and_branch.result c.set_mark_and_branch.ensures.steps c.set_mark_and_branch.ensures.fault
     (λ set. let d = commit_done name c.args.repo.now.1 c.changed_files.new.repo.1 c.add.new.repo.1 c.args.tables.now c.changed_files.new.tables c.in_ok-files.files.files s h (commit_parts c.args.commit) c.args.first c.args.parents.now p (steps s p.0 h p.4) c.in_ok-name.name adds c.add.new.files c.add.ensures.files tables set in (d.0, d.1, λ x. d.2))
+
+pub returns-in_err-files-clause-told : goal.returns-in_err-files-clause-told
+returns-in_err-files-clause-told g c = λ s h.
+    let name = g.N.Namer.name_of c.args.repo.now.0 in
+    let f = err_from_is_err_and c.from_residual.result c.from_residual.ensures.1 in
+    let p = c.requires.parents s h in
+    let e = c.in_err-files.field-0.0 in
+    let told = subst (λ cs. TellsEditsFrom g.N.Namer.name_of {X = NamedTree} c.args.repo.now c.args.tables.now c.args.first cs (Err e) c.changed_files.new.told) c.replace-changes.ensures.value c.in_err-files.ensures.told in
+    rw (f.1, f.2) (change_told name s (commit_parts c.args.commit) p.0 p.1 p.2 p.3 c.changed_files.new.told e (told s p.0 h p.4))
+
+-- nothing is told where all changes were made
+pub returns-in_err-name-clause-told : goal.returns-in_err-name-clause-told
+returns-in_err-name-clause-told g c = λ s h.
+    let name = g.N.Namer.name_of c.args.repo.now.0 in
+    let f = err_from_is_err_and c.from_residual-in_err-name.result c.from_residual-in_err-name.ensures.1 in
+    let p = c.requires.parents s h in
+    let steps = rw c.replace-changes.ensures.value at c.in_ok-files.ensures.steps in
+    let e = c.in_err-name.field-0.0 in
+    let blank = c.in_ok-files.ensures.told s p.0 h p.4 in
+    let adds = subst (λ n. AddGives (g.N.Namer.name_of n) g.row.A.Denot c.changed_files.new.repo.1 c.add.new.repo.1 c.in_ok-files.files.files c.args.parents.now (commit_parts c.args.commit) (Err e)) c.changed_files.ensures.namer c.in_err-name.ensures.steps in
+    rw (f.1, f.2) (add_told name c.args.repo.now.1 c.changed_files.new.repo.1 c.add.new.repo.1 c.args.tables.now c.changed_files.new.tables c.in_ok-files.files.files s h (commit_parts c.args.commit) c.args.first c.args.parents.now p (steps s p.0 h p.4) e adds c.changed_files.new.told blank)
+
+pub returns-clause-told : goal.returns-clause-told
+returns-clause-told g c = λ s h.
+    let name = g.N.Namer.name_of c.args.repo.now.0 in
+    let p = c.requires.parents s h in
+    late_told name s (shown_commit c.args.commit) c.changed_files.new.told (c.in_ok-files.ensures.told s p.0 h p.4) c.set_mark_and_branch.result c.set_mark_and_branch.ensures.fault

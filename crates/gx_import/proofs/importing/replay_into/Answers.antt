@@ -12,7 +12,7 @@ use Rattle.gx_import.specs.Rows.{row_of, rows_of}
 use Rattle.gx_import.specs.Standing.{Stands}
 use Rattle.gx_import.proofs.PublishedNames.{as_many}
 use Rattle.gx_import.proofs.Publications.{imports_all, imports_none}
-use Rattle.gx_import.proofs.ReachedStates.{same_records_keep}
+use Rattle.gx_import.proofs.ReachedStates.{same_records_keep, told_last}
 use Rattle.gx_import.proofs.importing.replay_into.Goals as goal
 
 pub publish-requires : goal.publish-requires
@@ -70,3 +70,16 @@ pub returns-in_err-commands-clause-replayed : goal.returns-in_err-commands-claus
 returns-in_err-commands-clause-replayed g c =
     let p = err_from_is_err_and c.from_residual.result c.from_residual.ensures.1 in
     rw (p.1, p.2) c.in_err-commands.ensures.replayed
+
+-- ---- what is told
+
+pub returns-in_err-commands-clause-explained : goal.returns-in_err-commands-clause-explained
+returns-in_err-commands-clause-explained g c =
+    let p = err_from_is_err_and c.from_residual.result c.from_residual.ensures.1 in
+    rw (p.1, p.2) c.in_err-commands.ensures.explained
+
+pub returns-in-Err-clause-explained : goal.returns-in-Err-clause-explained
+returns-in-Err-clause-explained g c =
+    let k = c.in_ok-commands.ensures.replayed in
+    told_last c.args.features (g.N.Namer.name_of c.args.repo.now.0) c.args.repo.now.1 (g.R.Source.coming c.args.source) c.in_ok-commands.commands k.0 (g.W.Sink.taken c.args.sink.now) (g.W.Sink.taken c.replay.new.sink) k.3 c.in-Err.kind c.replay.new.told c.in_ok-commands.ensures.explained
+    c.replay.new.checkpoints.count

@@ -6,7 +6,8 @@ use Rattle.gx_command.specs.Views.{shown_blob, shown_command, shown_commit, show
 use Rattle.gx_import.specs.Additions.{values_added}
 use Rattle.gx_import.proofs.AppliedCommands.{added_as, clash_here, given_as, progress_as, unchanged}
 use Rattle.std.proofs.Common.{refl}
-use Rattle.gx_model.specs.Streams.Commands.{Asks, Progress}
+use Rattle.gx_model.specs.Streams.Commands.{Asks, Checkpoint, Progress}
+use Rattle.gx_import.proofs.ToldCommits.{nothing_told}
 use Rattle.gx_import.specs.Rows.{rows_of}
 use Rattle.gx_import.proofs.KeptCheckpoints.{all_still, checkpoint_as, kept_anew, kept_here, kept_on, moved, same_records, when_ok}
 use Rattle.gx_import.proofs.ProgressTexts.{IsOther}
@@ -199,3 +200,26 @@ returns-in-Feature-clause-homes g c =
     let name = g.N.Namer.name_of c.args.repo.now.0 in
     let records = c.args.repo.now.1.records in
     tips_with name records c.args.tables.now c.apply_feature.new.tables c.requires.homes c.apply_feature.ensures.loaded (subst (λ b. AreHome name records (rows_of b)) (sym c.apply_feature.ensures.branches) c.requires.homes.tips)
+
+-- ---- what is told
+
+pub returns-in-Commit-clause-told : goal.returns-in-Commit-clause-told
+returns-in-Commit-clause-told g c = λ s h. rw c.in-Commit.is (c.apply_commit.ensures.told s h)
+
+pub returns-in-Blob-clause-told : goal.returns-in-Blob-clause-told
+returns-in-Blob-clause-told g c = λ s h. rw c.in-Blob.is (nothing_told (g.N.Namer.name_of c.args.repo.now.0) s (shown_blob c.in-Blob.blob) (λ e number path none. none) c.args.told.now c.requires.blank c.apply_blob.result)
+
+pub returns-in-Tag-clause-told : goal.returns-in-Tag-clause-told
+returns-in-Tag-clause-told g c = λ s h. rw c.in-Tag.is (nothing_told (g.N.Namer.name_of c.args.repo.now.0) s (shown_tag c.in-Tag.tag) (λ e number path none. none) c.args.told.now c.requires.blank c.apply_tag.result)
+
+pub returns-in-Reset-clause-told : goal.returns-in-Reset-clause-told
+returns-in-Reset-clause-told g c = λ s h. rw c.in-Reset.is (nothing_told (g.N.Namer.name_of c.args.repo.now.0) s (shown_reset c.in-Reset.reset) (λ e number path none. none) c.args.told.now c.requires.blank c.apply_reset.result)
+
+pub returns-in-Progress-clause-told : goal.returns-in-Progress-clause-told
+returns-in-Progress-clause-told g c = λ s h. rw c.in-Progress.is (nothing_told (g.N.Namer.name_of c.args.repo.now.0) s (Progress c.in-Progress.text.items) (λ e number path none. none) c.args.told.now c.requires.blank c.apply_progress.result)
+
+pub returns-in-Feature-clause-told : goal.returns-in-Feature-clause-told
+returns-in-Feature-clause-told g c = λ s h. c.requires.blank
+
+pub returns-in-Checkpoint-clause-told : goal.returns-in-Checkpoint-clause-told
+returns-in-Checkpoint-clause-told g c = λ s h. rw c.in-Checkpoint.is (nothing_told (g.N.Namer.name_of c.args.repo.now.0) s Checkpoint (λ e number path none. none) c.args.told.now c.requires.blank c.apply_checkpoint.result)

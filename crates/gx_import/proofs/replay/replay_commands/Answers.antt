@@ -8,6 +8,8 @@ use Rattle.gx_model.proofs.GitlinkSteps.{none_held}
 use Rattle.gx_command.specs.Views.{shown_command}
 use Rattle.gx_command.specs.CommandFaults.{fault_of as of_command}
 use Rattle.gx_import.specs.Applying.{Applies}
+use Rattle.gx_import.specs.Explaining.{ExplainsFault}
+use Rattle.gx_import.specs.declared.fault.ImportFault.{ImportFault}
 use Rattle.gx_import.specs.Imports.{Imports}
 use Rattle.std.specs.Prelude.{IsTrue}
 use Rattle.std.specs.FinMap.Entries.{is_sorted}
@@ -15,7 +17,7 @@ use Rattle.gx_import.specs.Keeping.{Keeps, left_of}
 use Rattle.gx_import.specs.Replaying.{EndsAs}
 use Rattle.gx_import.proofs.KeptCheckpoints.{all_none, counted_next, kept_start, left_next, left_start}
 use Rattle.gx_import.specs.Standing.{AreTipsAtHome, Stands}
-use Rattle.gx_import.proofs.ReachedStates.{IsAt, at_end, at_next, at_refused, at_start, at_stopped, extends_more, stand_empty, starting, starting_free, step_keeps}
+use Rattle.gx_import.proofs.ReachedStates.{IsAt, at_end, at_next, at_refused, at_start, at_stopped, extends_more, stand_empty, starting, starting_free, step_keeps, told_refused, told_stopped}
 use Rattle.gx_import.proofs.TipHomes.{AreHome}
 use Rattle.gx_import.proofs.replay.replay_commands.Goals as goal
 
@@ -25,6 +27,7 @@ loop-command-init g c =
     let kept = kept_start name c.args.repo.now.1 c.args.checkpoints.now c.requires.none in
     record {
       namer = refl;
+      blank = c.requires.blank;
       extends = ([], sym (append-nil c.args.repo.now.1.records));
       homes = record { tips = subst (AreHome name c.args.repo.now.1.records) (sym c.requires.empty.branches) tt; loaded = c.requires.empty.loaded name c.args.repo.now.1.records };
       room = omega (arith, c.requires.most);
@@ -66,7 +69,7 @@ pub overflow_add-commands : goal.overflow_add-commands
 overflow_add-commands g c = omega (arith, c.loop-command.invariant.room)
 
 pub apply-requires : goal.apply-requires
-apply-requires g c = record { stands = (c.loop-command.invariant.stands.0, c.loop-command.invariant.stands.1); homes = c.loop-command.invariant.homes; fits = c.loop-command.invariant.left.fits; room = omega (arith, c.loop-command.invariant.room, c.loop-command.invariant.counted); sorted = c.loop-command.invariant.sorted; has_all = c.loop-command.invariant.has_all }
+apply-requires g c = record { blank = c.loop-command.invariant.blank; stands = (c.loop-command.invariant.stands.0, c.loop-command.invariant.stands.1); homes = c.loop-command.invariant.homes; fits = c.loop-command.invariant.left.fits; room = omega (arith, c.loop-command.invariant.room, c.loop-command.invariant.counted); sorted = c.loop-command.invariant.sorted; has_all = c.loop-command.invariant.has_all }
 
 pub returns-in-Err-clause-namer : goal.returns-in-Err-clause-namer
 returns-in-Err-clause-namer g c = c.apply.ensures.namer ∙ c.loop-command.invariant.namer
@@ -101,6 +104,7 @@ loop-command-preserved g c =
     let h : Applies name c.loop-command.repo.1 c.apply.new.repo.1 c.apply.new.tables inv.stands.0 (shown_command c.in-Some.command) mid now (Ok tt) = c.in_default-apply.ensures.steps inv.stands.0 inv.stands.1 in
     record {
       namer = c.apply.ensures.namer ∙ inv.namer;
+      blank = c.in_default-apply.ensures.told inv.stands.0 inv.stands.1;
       extends = extends_more old.records c.loop-command.repo.1.records c.apply.new.repo.1.records inv.extends c.apply.ensures.extends;
       homes = subst (λ n. AreTipsAtHome (g.N.Namer.name_of n) c.apply.new.repo.1.records c.apply.new.tables) (sym c.apply.ensures.namer) c.in_default-apply.ensures.homes;
       room = omega (arith, inv.room, falls);
@@ -179,3 +183,33 @@ pub returns-clause-gitlinks_left : goal.returns-clause-gitlinks_left
 returns-clause-gitlinks_left g c = λ is none.
     let stands = c.loop-command.invariant.stands in
     subst HoldsNoNullGitlink (sym stands.4.leaves.history) (stands.3 is none).kept
+
+-- ---- what is told
+
+pub returns-in_err-command-clause-explained : goal.returns-in_err-command-clause-explained
+returns-in_err-command-clause-explained g c = λ asks coming same is.
+    let p = err_from_is_err_and c.from_residual.result c.from_residual.ensures.1 in
+    let inv = c.loop-command.invariant in
+    let old = c.args.repo.now.1 in
+    let told = c.loop-command.told in
+    let was = g.W.Sink.taken c.args.sink.now in
+    let now = g.W.Sink.taken c.loop-command.sink in
+    let q = c.in_err-command.ensures.reads in
+    let h = told_refused asks (g.N.Namer.name_of c.loop-command.repo.0) g.row.A.Denot old coming c.loop-command.commands inv.stands.0 c.loop-command.reader.commands c.next_command.new.reader.commands was now (inv.stands.2 asks coming same is) q.0 q.2 told inv.blank c.loop-command.checkpoints.count in
+    let fault : ImportFault = record { command = c.loop-command.commands + 1; kind = of_command q.0; checkpoints = c.loop-command.checkpoints.count } in
+    rw (p.1, p.2) (subst (λ f. ExplainsFault (g.N.Namer.name_of c.args.repo.now.0) asks old coming f told) (sym q.1) (subst (λ n. ExplainsFault (g.N.Namer.name_of n) asks old coming fault told) inv.namer h))
+
+pub returns-in-Err-clause-explained : goal.returns-in-Err-clause-explained
+returns-in-Err-clause-explained g c = λ asks coming same is.
+    let inv = c.loop-command.invariant in
+    let old = c.args.repo.now.1 in
+    let told = c.apply.new.told in
+    let was = g.W.Sink.taken c.args.sink.now in
+    let mid = g.W.Sink.taken c.loop-command.sink in
+    let name = g.N.Namer.name_of c.loop-command.repo.0 in
+    let reads = rw c.in-Some.is at c.in_ok-command.ensures.reads in
+    let h = told_stopped asks name old coming c.loop-command.commands inv.stands.0 c.in-Some.command c.loop-command.reader.commands c.next_command.new.reader.commands was mid (inv.stands.2 asks coming same is) reads c.in-Err.kind told (c.in-Err.ensures.told inv.stands.0 inv.stands.1) c.apply.new.checkpoints.count in
+    subst (λ n. ExplainsFault (g.N.Namer.name_of n) asks old coming (record { command = c.loop-command.commands + 1; kind = c.in-Err.kind; checkpoints = c.apply.new.checkpoints.count }) told) inv.namer h
+
+pub returns-clause-explained : goal.returns-clause-explained
+returns-clause-explained g c = λ asks coming same is. c.loop-command.invariant.blank

@@ -12,14 +12,13 @@ use Rattle.gx_import.specs.Additions.{Clash, content_added}
 use Rattle.gx_import.proofs.TipHomes.{home_longer}
 use Rattle.gx_import.proofs.EditedFiles.{modify_done}
 use Rattle.gx_import.proofs.PartAnswers.{adds_refused}
-use Rattle.gx_import.proofs.changes.modify_files.Goals as goal
+use Rattle.gx_import.proofs.changes.set_file.Goals as goal
 
 pub returns-clause-steps : goal.returns-clause-steps
 returns-clause-steps g c = λ s f h are.
     let name = g.N.Namer.name_of c.args.repo.now.0 in
-    let m = c.args.modify in
     let k = c.in_ok-name.ensures.steps s h in
-    modify_done name c.content.new.repo.1 c.args.tables.now s f c.args.files.now.files are m.mode (shown_data m.data_ref) m.path c.in_ok-name.name k.0 k.1 k.2.0 k.2.1 c.modify.new.self.files c.in_ok-modify.ensures.map c.name_map.ensures
+    modify_done name c.content.new.repo.1 c.args.tables.now s f c.args.files.now.files are c.args.mode (shown_data c.args.data_ref) c.args.path.now c.in_ok-name.name k.0 k.1 k.2.0 k.2.1 c.modify.new.self.files c.in_ok-modify.ensures.map c.name_map.ensures
 
 pub returns-clause-home : goal.returns-clause-home
 returns-clause-home g c = λ h.
@@ -30,8 +29,7 @@ pub returns-in_err-name-clause-steps : goal.returns-in_err-name-clause-steps
 returns-in_err-name-clause-steps g c = λ s f h are.
     let name = g.N.Namer.name_of c.args.repo.now.0 in
     let p = err_from_is_err_and c.from_residual.result c.from_residual.ensures.1 in
-    let m = c.args.modify in
-    let d = shown_data m.data_ref in
+    let d = shown_data c.args.data_ref in
     let clash = Clash name (values_of c.args.repo.now.1) (content_added d) in
-    rw (p.1, p.2) (adds_refused {X = Name} {Y = State × Bytes} {Z = Unit {0}} {W = State × FileMap Bytes} clash clash (λ u x. Unit {0}) (λ u x. Unit {0}) (λ q. q) c.in_err-name.field-0.0 (content name s m.mode d)
-    (λ r. and_then (modified f m.path (m.mode, r.1)) (λ z. Ok (r.0, z))) (c.in_err-name.ensures.steps s h))
+    rw (p.1, p.2) (adds_refused {X = Name} {Y = State × Bytes} {Z = Unit {0}} {W = State × FileMap Bytes} clash clash (λ u x. Unit {0}) (λ u x. Unit {0}) (λ q. q) c.in_err-name.field-0.0 (content name s c.args.mode d)
+    (λ r. and_then (modified f c.args.path.now (c.args.mode, r.1)) (λ z. Ok (r.0, z))) (c.in_err-name.ensures.steps s h))

@@ -1,0 +1,57 @@
+-- What is told of changes and commands, from each state of the replay that the repository and the tables stand for.
+-- Source: git-fast-import(1), "Commands".
+use Rattle.std.specs.Prelude.{◌≡◌, List, map, Option, None, Result, Ok, Err, MatchOption}
+use Rattle.std.specs.declared.vec.Vec.{Vec}
+use Rattle.gx_model.specs.declared.objects.Kind.{Kind}
+use Rattle.gx_model.specs.declared.faults.Fault.{Fault}
+use Rattle.gx_model.specs.declared.faults.Fault.TheVariants.{OutOfMemory}
+use Rattle.gx_model.specs.Texts.{Bytes}
+use Rattle.gx_model.specs.Histories.Files.{FileMap}
+use Rattle.gx_model.specs.Histories.Values.{Commit}
+use Rattle.gx_model.specs.Objects.NameMaps.{AreFiles}
+use Rattle.gx_model.specs.Streams.Commands as model
+use Rattle.gx_model.specs.Replay.{State, starting_files}
+use Rattle.gx_command.specs.Views.{shown_change, shown_command, shown_commit}
+use Rattle.gx_command.specs.declared.commands.Change.{Change}
+use Rattle.gx_command.specs.declared.commands.Command.{Command}
+use Rattle.gx_command.specs.declared.commands.Commit.{Commit as CommitCommand}
+use Rattle.gx_object.specs.declared.name.Name.{Name}
+use Rattle.gx_repo.specs.Repositories.{Repository}
+use Rattle.gx_tree.specs.Named.{NamedTree}
+use Rattle.gx_import.specs.Calls.{InEach}
+use Rattle.gx_import.specs.Explaining.{IsRefusedAt, Tells}
+use Rattle.gx_import.specs.Objects.{IsCommitOf}
+use Rattle.gx_import.specs.Rows.{AreBoth}
+use Rattle.gx_import.specs.Standing.{Stands}
+use Rattle.gx_import.specs.declared.explanation.Explanation.{Explanation}
+use Rattle.gx_import.specs.declared.tables.Tables.{Tables}
+
+-- what is told of changes: the one that is refused, or nothing, where memory ran out before them
+abbrev pub TellsChanges : {X A : Type 0} → (Kind → Bytes → Bytes) → State → FileMap Bytes → List model.Change → Result X Fault → Explanation A → Type 0
+TellsChanges name s files changes (Ok _) told = told.change ≡ None
+TellsChanges name s files changes (Err fault) told = MatchOption told.change (fault ≡ OutOfMemory) (λ number. IsRefusedAt name s files changes fault number told.path)
+
+module _ {N : Type 0} (names : N → Kind → Bytes → Bytes) {X A : Type 0} where
+  -- of all changes of these files
+  abbrev pub TellsEdits : Repository N → Tables A → NamedTree → Vec (Change A) A → Result X Fault → Explanation A → Type 0
+  TellsEdits old tables was changes answer told =
+      (s : State) (files : FileMap Bytes) → Stands (names old.0) old.1 tables s → AreFiles (names old.0) s.history.values files was.files
+      → TellsChanges (names old.0) s files (map shown_change changes.items) answer told
+
+  -- of all changes of the files that a commit with this first parent begins with
+  abbrev pub TellsEditsFrom : Repository N → Tables A → Option Name → Vec (Change A) A → Result X Fault → Explanation A → Type 0
+  TellsEditsFrom old was first changes answer told =
+      (s : State) (made : Option Commit) → Stands (names old.0) old.1 was s → AreBoth (IsCommitOf (names old.0) s.history.values) made first
+      → TellsChanges (names old.0) s (starting_files made) (map shown_change changes.items) answer told
+
+  -- of a command
+  abbrev pub TellsCommand : Repository N → Tables A → model.Command → Result X Fault → Explanation A → Type 0
+  TellsCommand old was command answer told = InEach names old was (λ s. Tells (names old.0) s command answer told)
+
+  -- of a commit as it was read
+  abbrev pub TellsCommit : Repository N → Tables A → CommitCommand A → Result X Fault → Explanation A → Type 0
+  TellsCommit old was command = TellsCommand old was (shown_commit command)
+
+  -- of any command as it was read
+  abbrev pub TellsInEach : Repository N → Tables A → Command A → Result X Fault → Explanation A → Type 0
+  TellsInEach old was command = TellsCommand old was (shown_command command)

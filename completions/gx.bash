@@ -93,7 +93,9 @@ __gx_options() {
     ls) __gx_answer '' "$1" -r --recursive --help ;;
     batch) __gx_answer '' "$1" --check --help ;;
     adapt) __gx_answer '' "$1" --drop-signatures --help ;;
-    import | try) __gx_answer '' "$1" --done --force --help ;;
+    import) __gx_answer '' "$1" --done --force --report --help ;;
+    try) __gx_answer '' "$1" --done --force --help ;;
+    gc) __gx_answer '' "$1" --report --help ;;
     export) __gx_answer '' "$1" --changes --no-done --help ;;
     log) __gx_answer '' "$1" --reverse --max-count --parents --help ;;
     *) __gx_answer '' "$1" --help ;;
@@ -105,13 +107,13 @@ __gx_words_of_command() {
   local -a operands
   __gx_operands
   case ${words[1]}:${#operands[@]} in
-    init:0 | import:0 | drop:0 | export:0 | show:0 | ls:0 | batch:0 | refs:0 | log:0 | rev-parse:0) __gx_files "$last" ;;
+    init:0 | import:0 | drop:0 | gc:0 | export:0 | show:0 | ls:0 | batch:0 | refs:0 | log:0 | rev-parse:0) __gx_files "$last" ;;
     show:1 | ls:1 | drop:[1-9]* | export:[1-9]* | log:[1-9]* | rev-parse:[1-9]*) __gx_revisions "$last" ;;
   esac
 }
 
 _gx() {
-  local -a words commands=(blobs try adapt where init import drop export show ls batch refs log rev-parse)
+  local -a words commands=(blobs try adapt where init import drop gc export show ls batch refs log rev-parse)
   COMPREPLY=()
   # behind < and > bash completes files by itself
   [[ ${COMP_WORDS[COMP_CWORD - 1]} != *[\<\>]* ]] || return 0

@@ -56,7 +56,7 @@ line() {
   fi
 }
 
-line 'gx ' blobs try adapt where init import drop export show ls batch refs log rev-parse help --help
+line 'gx ' blobs try adapt where init import drop gc export show ls batch refs log rev-parse help --help
 line 'gx -' --help --explain --version
 line 'gx --explain im' import
 line 'gx --explain import st' store
@@ -73,7 +73,7 @@ line 'gx adapt -' --drop-signatures --help
 line 'gx w' where
 line 'gx where '
 line 'gx where -' --help
-line 'gx import -' --done --force --help
+line 'gx import -' --done --force --report --help
 line 'gx import --done st' store
 line 'gx import store < st'
 line 'gx export store > st'
@@ -92,6 +92,10 @@ line 'gx init su' sub
 line 'gx ex' export
 line 'gx d' drop
 line 'gx drop su' sub
+line 'gx g' gc
+line 'gx gc -' --report --help
+line 'gx gc --report st' store
+line 'gx gc store '
 line 'gx drop store m'
 line 'gx drop store refs/h' refs/heads/main refs/heads/topic
 line 'gx drop store refs/heads/main refs/ta' 'refs/tags/\$\(\>ran\)' refs/tags/v1

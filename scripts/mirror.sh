@@ -3,6 +3,7 @@
 #   scripts/mirror.sh REPOSITORY FILE
 # GX: the program, gx if it isn't set. FILE is made if it isn't there. A run that was cut off is made good by the next. The status
 # is 1 where refs differ at the end, with the lines that do. Symbolic refs and a HEAD of its own commit are no refs of the store.
+# Standard error tells each ref that was set, as OLD NEW REF, and how much went that no ref reaches any more.
 set -euo pipefail
 [ $# -eq 2 ] || { echo "usage: scripts/mirror.sh REPOSITORY FILE" >&2; exit 2; }
 repository=$1 store=$2 gx=${GX:-gx}
@@ -18,7 +19,7 @@ same() { cmp -s <(here) <(wanted); }
 bring() {
   { wanted | names; printf '%s\n' "$1"; } | git -C "$repository" fast-export --use-done-feature --signed-tags=verbatim --reencode=no \
     --reference-excluded-parents --tag-of-filtered-object=drop --ignore-submodules=none --stdin "${@:2}" |
-    "$gx" import --done --force -- "$store"
+    "$gx" import --done --force --report -- "$store"
 }
 
 # a repository that can't be read ends the run here: the store isn't taken for one whose refs are all gone
@@ -32,4 +33,5 @@ bring "$known"
 # git leaves out a new annotated tag of a commit that the store had, and tells some directories in place of files wrongly
 same || bring ''
 same || bring '' --full-tree
+"$gx" gc --report -- "$store"
 diff <(here) <(wanted)

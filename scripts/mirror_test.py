@@ -5,16 +5,18 @@
 
 Each step makes commits, merges, roots and tags, moves branches and tags to any commit, and deletes
 some, of which a new branch may make a directory; now and then git forgets what no ref reaches. After
-each the store has to have the refs of git, and each object that they reach, and to be a store for
-scripts/check_store.py. At the end git takes what `gx export` writes of it. Then the repository has
-a HEAD of its own commit, a symbolic ref and a commit that is replaced, and then it can't be read:
-the store keeps its refs. The seed is printed.
+each the store has to have the refs of git, just the objects that they reach, and to be a store for
+scripts/check_store.py. What the imports report has to lead from the refs before to those behind. A
+branch then becomes a directory of branches, and git takes what `gx export` writes of the store.
+Then the repository has a HEAD of its own commit, a symbolic ref and a commit that is replaced, and
+then it can't be read: the store keeps its refs. The seed is printed.
 
 GX: the program, crates/gx/out/gx if it isn't set. It needs git. The status is 1 where something differs.
 """
 
 import os
 import random
+import re
 import subprocess
 import sys
 import tempfile
@@ -27,8 +29,30 @@ from places import GX, Differs, Repository, Store, print_of, same
 HERE = Path(__file__).resolve().parent
 
 
+NOTHING = b"0" * 40
+CHANGE = re.compile(rb"^([0-9a-f]{40}) ([0-9a-f]{40}) (refs/.*)$", re.M)
+
+
+def refs_of(store):
+    return {line.split()[1]: line.split()[0] for line in store.refs().splitlines()}
+
+
 def mirror(repository, store):
-    print_of([HERE / "mirror.sh", repository.path, store.path], env={**os.environ, "GX": GX})
+    """Brings the store up to date, and answers what standard error was told."""
+    words = [HERE / "mirror.sh", repository.path, store.path]
+    done = subprocess.run(words, capture_output=True, env={**os.environ, "GX": GX})
+    if done.returncode:
+        raise Differs(f"FAIL mirror.sh: status {done.returncode}\n{done.stderr.decode(errors='replace')}")
+    return done.stderr
+
+
+def same_changes(before, told, after, what):
+    """What was told leads from the refs before, but for those that are gone, to the refs behind."""
+    refs = {name: digits for name, digits in before.items() if name in after}
+    for old, new, name in CHANGE.findall(told):
+        same(refs.get(name, NOTHING), old, f"{what}: what {name} held")
+        refs[name] = new
+    same(refs, after, f"{what}: refs that are told")
 
 
 def forget(repository, history):
@@ -48,15 +72,29 @@ def follow(steps, seed, folder):
         repository.take(text, "--force")
         if chance.random() < 0.2:
             forget(repository, history)
-        mirror(repository, store)
+        before = refs_of(store)
+        told = mirror(repository, store)
+        same_changes(before, told, refs_of(store), what)
         same(store.refs(), repository.refs(), f"{what}: refs")
-        same(store.holds(repository.objects()), True, f"{what}: objects")
+        same(store.all_objects(), repository.objects(), f"{what}: objects")
         print_of([sys.executable, HERE / "check_store.py", store.path])
+    try_directory(repository, store)
     copy = Repository(folder / "copy.git")
     copy.take(print_of([GX, "export", store.path]), "--done")
     same(copy.refs(), repository.refs(), f"seed {seed}: refs of git at the end")
     try_odd(repository, store)
     return repository
+
+
+def try_directory(repository, store):
+    """A branch becomes a directory of branches."""
+    commit = sorted(repository.commits()[0])[0]
+    repository.git("update-ref", "refs/heads/foo", commit)
+    mirror(repository, store)
+    repository.git("update-ref", "-d", "refs/heads/foo")
+    repository.git("update-ref", "refs/heads/foo/bar", commit)
+    mirror(repository, store)
+    same(store.refs(), repository.refs(), "refs where foo became foo/bar")
 
 
 def try_odd(repository, store):
@@ -70,8 +108,7 @@ def try_odd(repository, store):
     mirror(repository, store)
     wanted = repository.named()
     del wanted[b"refs/remotes/origin/HEAD"]
-    found = {line.split()[1]: line.split()[0] for line in store.refs().splitlines()}
-    same(found, wanted, "refs beside what is no ref of a stream")
+    same(refs_of(store), wanted, "refs beside what is no ref of a stream")
     away, refs = repository.path.with_name("away.git"), store.refs()
     repository.path.rename(away)
     try:

@@ -25,6 +25,7 @@ NO_END = "\\ No newline at end of file"
 READ_FAILS = "\\ The next read fails"
 SHORT_NAMES = "\\ Objects have short names"
 HELD = "\\ The store holds "
+TOLD = "\\ Standard error gets "
 ESCAPE = re.compile(rb"\\x([0-9a-f]{2})(?:\{([0-9]+)\})?")
 
 
@@ -58,8 +59,8 @@ def take_answer(step, line):
         step.short = True
     elif line.startswith(HELD):
         step.held = line[len(HELD):]
-    elif line.startswith("gx: "):
-        step.told += line.encode() + b"\n"
+    elif line.startswith((TOLD, "gx: ")):
+        step.told += line.removeprefix(TOLD).encode() + b"\n"
     else:
         step.printed += plain(line) + b"\n"
 
@@ -175,7 +176,7 @@ def run_gx(gx, folder, step, words, source):
         os.write(descriptor, writing)
         os.lseek(descriptor, 0, os.SEEK_SET)
     try:
-        if step.told.startswith(b"gx: commands: "):
+        if "--report" not in words and step.told.startswith((b"gx: commands: ", b"gx: pruned objects: ")):
             return spawn_at_terminal([gx, *words], folder, descriptor)
         return spawn([gx, *words], folder, descriptor, subprocess.PIPE)
     finally:

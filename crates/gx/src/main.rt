@@ -2,10 +2,12 @@
 #![tactic(auto)]
 
 mod claiming;
+mod collecting;
 mod command_count;
 mod devices;
 mod fault;
 mod files;
+mod importing;
 mod limit;
 mod next_text;
 mod printing;
@@ -17,18 +19,17 @@ mod system;
 mod version;
 mod words;
 
+use collecting::collect;
 use devices::Noted;
 use fault::RunFault;
 use files::{want_no_store, want_store};
-use gx_cli::{
-    CliFault, Features, ImportReport, Line, Outcome, Repo, import_store, serve, serve_owned,
-};
+use gx_cli::{CliFault, Features, Line, Outcome, serve, serve_owned};
 use gx_object::Sha1Namer;
 use gx_text::{FromRead, IntoWrite};
+use importing::import;
 use next_text::NextText;
 use printing::{adapt, batch, export, print};
 use progress::{Beside, Metered, ProgressLine};
-use reports::{tell_import, tell_typed_stream};
 use run::Run;
 use std::alloc::Global;
 use std::fs::File;
@@ -80,6 +81,7 @@ fn file_of<'a>(line: &Line<'a>) -> Option<&'a str> {
         | Line::Import { file, .. }
         | Line::Batch { file, .. }
         | Line::Drop { file, .. }
+        | Line::Gc { file, .. }
         | Line::Export { file, .. }
         | Line::ExportRange { file, .. }
         | Line::Show { file, .. }
@@ -95,14 +97,20 @@ fn file_of<'a>(line: &Line<'a>) -> Option<&'a str> {
 fn run_command(run: &Run<'_>, line: &Line<'_>, state: RandomState) -> Result<(), RunFault> {
     let answer = match line {
         Line::Init { file } => return init(run, line, file, state),
-        Line::Import { file, done, force } => {
+        Line::Import {
+            file,
+            done,
+            force,
+            report,
+        } => {
             let features = Features {
                 done: *done,
                 force: *force,
             };
-            return import(run, file, features, state);
+            return import(run, file, features, *report, state);
         }
         Line::Drop { file, refs: _ } => return drop_refs(run, line, file, state),
+        Line::Gc { file, report } => return collect(run, file, *report, state),
         Line::Blobs | Line::Where(_) => refusal(&stream(run, line, state)),
         Line::Try {
             revision: _,
@@ -199,73 +207,6 @@ fn serve_given(
         &mut sink,
         state,
     )
-}
-
-/// Imports standard input into a store file, which a refused import leaves as the last checkpoint made it.
-fn import(
-    run: &Run<'_>,
-    file: &str,
-    features: Features,
-    state: RandomState,
-) -> Result<(), RunFault> {
-    want_store(run, file)?;
-    let mut next = NextText::claim_next(run, file)?;
-    let answer = import_locked(run, &mut next, features, state);
-    next.release(run);
-    tell_import(run, &answer?);
-    Ok(())
-}
-
-/// What another run left while this one waited is what is imported into.
-fn import_locked(
-    run: &Run<'_>,
-    next: &mut NextText,
-    features: Features,
-    state: RandomState,
-) -> Result<ImportReport, RunFault> {
-    let store = next.read_store(run)?;
-    tell_typed_stream(run);
-    let (repo, answer) = import_shown(run, store, features, state);
-    publish_import(run, next, repo.as_ref(), answer)
-}
-
-/// Puts the text of what an import left in its place, where it left anything, also where it is refused.
-fn publish_import(
-    run: &Run<'_>,
-    next: &mut NextText,
-    repo: Option<&Repo<Sha1Namer, Global>>,
-    answer: Result<ImportReport, CliFault>,
-) -> Result<ImportReport, RunFault> {
-    if let Some(repo) = repo {
-        next.publish_store(run, repo)?;
-    }
-    Ok(answer?)
-}
-
-/// Imports standard input, and shows how far it is.
-fn import_shown(
-    run: &Run<'_>,
-    store: Vec<u8>,
-    features: Features,
-    state: RandomState,
-) -> (
-    Option<Repo<Sha1Namer, Global>>,
-    Result<ImportReport, CliFault>,
-) {
-    let progress = ProgressLine::new(run);
-    let source = FromRead::new(Metered::input(&progress));
-    let mut sink = IntoWrite::new(Beside::new(&progress));
-    let imported = import_store(
-        run.rt.alloc(),
-        Sha1Namer,
-        store,
-        source,
-        &mut sink,
-        features,
-        state,
-    );
-    progress.clear();
-    imported
 }
 
 /// Puts a store's next text in its place, where there is one, also where the command is refused.

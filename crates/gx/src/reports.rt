@@ -1,14 +1,27 @@
 //! What a command did, told on standard error. A report that can't be written is left: the command is done.
 
 use crate::run::Run;
-use gx_cli::{AdaptReport, ImportReport};
-use std::io::IsTerminal;
+use gx_cli::{AdaptReport, ImportReport, Pruned};
+use std::io::{IsTerminal, Write};
 
-/// Tells what was imported, where somebody reads it as it comes.
-pub(crate) fn tell_import(run: &Run<'_>, report: &ImportReport) {
-    if run.is_watched() {
+/// Tells the lines of the refs that an import changed, whose names are bytes.
+pub(crate) fn tell_changes(run: &Run<'_>, lines: &[u8]) {
+    let _ = run.rt.stderr().write_all(lines);
+}
+
+/// Tells what was imported, where that is asked for or somebody reads it as it comes.
+pub(crate) fn tell_import(run: &Run<'_>, report: &ImportReport, is_asked: bool) {
+    if is_asked || run.is_watched() {
         let (commands, objects, refs) = (report.commands, report.objects, report.refs);
         let _ = eprintln!(run.rt; "gx: commands: {commands}, objects: {objects}, refs: {refs}");
+    }
+}
+
+/// Tells how much a store lost, where that is asked for or somebody reads it as it comes.
+pub(crate) fn tell_pruned(run: &Run<'_>, gone: &Pruned, is_asked: bool) {
+    if is_asked || run.is_watched() {
+        let (objects, bytes) = (gone.objects, gone.bytes);
+        let _ = eprintln!(run.rt; "gx: pruned objects: {objects}, bytes: {bytes}");
     }
 }
 

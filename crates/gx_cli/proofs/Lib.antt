@@ -17,3 +17,5 @@ pub mod Gathered
 pub mod SentRanges
 pub mod ServedLines
 pub mod DroppedStores
+pub mod CollectedStores
+pub mod ReportedImports

@@ -44,5 +44,5 @@ module _ (name : Kind → Bytes → Bytes) {A : Type 0} where
 
   -- the same of the command, with features that leave it so
   abbrev pub ServesExported : Line → Bytes → Option Coming → Outcome A → Type 0
-  ServesExported (line.Import file done force) store coming o = LeaveExports (features_of done force) → IntoAgain store coming o
+  ServesExported (line.Import file done force report) store coming o = LeaveExports (features_of done force) → IntoAgain store coming o
   ServesExported line store coming o = ⊤

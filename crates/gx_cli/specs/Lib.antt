@@ -15,3 +15,6 @@ pub mod Forms
 pub mod Serving
 pub mod Again
 pub mod Parts
+pub mod Collecting
+pub mod CollectedParts
+pub mod Reporting

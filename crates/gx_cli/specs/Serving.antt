@@ -39,6 +39,7 @@ use Rattle.gx_cli.specs.declared.questions.Question.TheVariants as question
 use Rattle.gx_cli.specs.declared.fault.CliFault.TheVariants.{Blobs, Export, Import, OutOfMemory, Revision, Store}
 use Rattle.gx_cli.specs.declared.serving.Outcome.{Outcome}
 use Rattle.gx_cli.specs.Answers.{Prints}
+use Rattle.gx_cli.specs.Collecting.{IsCollected}
 use Rattle.gx_cli.specs.Forms.{ExportsAs, SendsRange}
 use Rattle.gx_cli.specs.Gathering.{AdaptsStream, batch_answer}
 use Rattle.gx_cli.specs.Placing.{PlacesFrom}
@@ -170,6 +171,12 @@ module _ (name : Kind → Bytes → Bytes) {A : Type 0} where
   DropsRefs (Ok old) words o = IsRefused (Store file.OutOfMemory) o ⊎ IsDropped old (dropped words old.refs) o
   DropsRefs (Err f) words o = IsNoStore f o
 
+  -- The objects that no ref reaches leave the store that a text was read as, and the next store text is that of what is left.
+  abbrev pub CollectsInto : Stored Records → Outcome A → Type 0
+  CollectsInto (Ok old) o =
+      IsRefused (Store file.OutOfMemory) o ⊎ (IsRefused OutOfMemory o ⊎ ((new : Records) × IsCollected name old new × IsWritten name new o))
+  CollectsInto (Err f) o = IsNoStore f o
+
   -- the answers to the lines of a source, of the store that a text was read as
   abbrev pub BatchesStored : Bool → Stored Records → Option Coming → Option Taken → Option Taken → Outcome A → Type 0
   BatchesStored check (Ok repository) coming was now o =
@@ -190,8 +197,9 @@ module _ (name : Kind → Bytes → Bytes) {A : Type 0} where
   Serves (line.Where command) store coming was now o = (answer : Result (Unit {0}) CliFault) × PlacesFrom command coming was now answer × IsOutcome answer o
   Serves (line.Batch check file) store coming was now o = AnswersLines check store coming was now o
   Serves (line.Init file) store coming was now o = IsWritten name nothing o × (now ≡ was)
-  Serves (line.Import file done force) store coming was now o = (told : Option Report) × ImportsInto (features_of done force) store coming was now (o, told)
+  Serves (line.Import file done force report) store coming was now o = (told : Option Report) × ImportsInto (features_of done force) store coming was now (o, told)
   Serves (line.Drop file words) store coming was now o = DropsRefs (store_of name store) (texts_of words.items) o × (now ≡ was)
+  Serves (line.Gc file report) store coming was now o = CollectsInto (store_of name store) o × (now ≡ was)
   Serves (line.Export form file) store coming was now o = ExportsStore name form store was now o
   Serves (line.ExportRange done file words) store coming was now o = ExportsRangeStored name done (store_of name store) (texts_of words.items) was now o
   Serves (line.Show file word) store coming was now o = PrintsStored (store_of name store) (λ r. show_text name (history_of r) word.now) was now o

@@ -7,6 +7,7 @@ ghost use Rattle.gx_cli.specs.Serving.{IsOutcome, IsRefused, Serves, features_of
 
 use crate::adapting::adapt_stream;
 use crate::batching::batch_stored;
+use crate::collecting::collect_stored;
 use crate::dropping::drop_stored;
 use crate::exporting::export_stored;
 use crate::exporting_range::export_range_stored;
@@ -34,8 +35,9 @@ pub struct Outcome<A: Allocator> {
 /// `blobs` reads the source as [`blobs`] does, `adapt` as [`adapt_stream`] does, and `try` as [`try_revision`] does: the source
 /// is read before the revision. `where` reads it whole, and tells where a command begins. These, and `init`, have no use for the
 /// store's bytes. The other commands read the store's text first, then all words, and then evaluate each in its order; `import`
-/// and `batch` read their source then. Only `init`, `import` and `drop` answer a next store text: where they are accepted, and
-/// `import` also where it is refused after a checkpoint.
+/// and `batch` read their source then. Only `init`, `import`, `drop` and `gc` answer a next store text: where they are accepted,
+/// and `import` also where it is refused after a checkpoint. What `import` and `gc` report is told by
+/// [`import_store_reporting`](crate::import_store_reporting) and [`collect_store`](crate::collect_store).
 ///
 /// Importing what was exported with all files makes the repository again, as far as its refs reach: the same refs and object
 /// names. What was exported by its changes does so, too, as [`trip_by_changes`](crate::trip_by_changes) has it.
@@ -112,6 +114,7 @@ fn serve_bytes<N: Namer + Drop, R: Source + Drop, W: Sink, A: Allocator + Copy>(
             file: _,
             done,
             force,
+            report: _,
         } => {
             let features = features_of(*done, *force);
             let (outcome, _) = import_stored(alloc, namer, store, source, sink, features, state);
@@ -127,6 +130,7 @@ fn serve_bytes<N: Namer + Drop, R: Source + Drop, W: Sink, A: Allocator + Copy>(
             ranges,
         } => export_range_stored(alloc, namer, *done, ranges.as_slice(), store, sink, state),
         Line::Drop { file: _, refs } => drop_stored(alloc, namer, store, refs.as_slice(), state),
+        Line::Gc { file: _, report: _ } => collect_stored(alloc, namer, store, state),
         Line::Show { file: _, revision } => {
             print_stored(alloc, namer, Question::Show(revision), store, sink, state)
         }

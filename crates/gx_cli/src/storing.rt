@@ -46,7 +46,7 @@ pub fn import_store<N: Namer + Drop, R: Source + Drop, W: Sink, A: Allocator + C
 }
 
 /// Imports a stream into a repository, and answers that whose text is the next one.
-fn import_opened<N: Namer + Drop, R: Source + Drop, W: Sink, A: Allocator + Copy>(
+pub(crate) fn import_opened<N: Namer + Drop, R: Source + Drop, W: Sink, A: Allocator + Copy>(
     alloc: A,
     repo: Repo<N, A>,
     source: R,

@@ -130,6 +130,7 @@ pub(crate) fn stored(alloc: Global, stream: &[u8], state: RandomState) -> Option
         file: "store",
         done: false,
         force: false,
+        report: false,
     };
     let source = Bytes::new(stream, 4096, false);
     ran(alloc, &line, text("empty"), source, &mut sink, state).store

@@ -15,9 +15,12 @@ $ adapt|--drop-signatures % Adapt { drop_signatures: true }
 $ where|7 % Where(7)
 $ where|18446744073709551615 % Where(18446744073709551615)
 $ init|f % Init { file: \"f\" }
-$ import|f % Import { file: \"f\", done: false, force: false }
-$ import|--force|f|--done % Import { file: \"f\", done: true, force: true }
+$ import|f % Import { file: \"f\", done: false, force: false, report: false }
+$ import|--force|f|--done % Import { file: \"f\", done: true, force: true, report: false }
+$ import|f|--report % Import { file: \"f\", done: false, force: false, report: true }
 $ drop|f|refs/heads/a|b % Drop { file: \"f\", refs: [\"refs/heads/a\", \"b\"] }
+$ gc|f % Gc { file: \"f\", report: false }
+$ gc|--report|f % Gc { file: \"f\", report: true }
 $ export|f % Export { form: FullTree, file: \"f\" }
 $ export|--changes|f % Export { form: Changes { done: true }, file: \"f\" }
 $ export|f|--no-done|--changes % Export { form: Changes { done: false }, file: \"f\" }
@@ -73,7 +76,10 @@ $ where|18446744073709551616 % refused
 $ where|1|f % refused
 $ init % refused
 $ import % refused
+$ import|--report|--report|f % refused
 $ drop|f % refused
+$ gc % refused
+$ gc|f|main % refused
 $ export % refused
 $ export|--no-done|f % refused
 $ export|--changes|--changes|f % refused
@@ -127,10 +133,14 @@ $ init|--help % help %
 Usage: gx init <FILE>
 $ drop|--help % help %
 Usage: gx drop <FILE> <REF>...
+$ gc|--help % help %
+Usage: gx gc [OPTIONS] <FILE>
 $ export|--help % help %
 Usage: gx export [OPTIONS] <FILE>
 $ import|--help % help %
 Usage: gx import [OPTIONS] <FILE>
+$ import|-h % help %
+      --report  Tells the refs that changed%
 $ show|--help % help %
 Usage: gx show <FILE> <REV>
 $ ls|--help % help %

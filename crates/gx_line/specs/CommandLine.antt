@@ -14,7 +14,7 @@ use Rattle.clap.specs.declared.error.kind.ErrorKind.TheVariants.{DisplayHelp, Di
 use Rattle.gx_line.specs.declared.command_line.ExportForm.{ExportForm}
 use Rattle.gx_line.specs.declared.command_line.ExportForm.TheVariants.{Changes, FullTree}
 use Rattle.gx_line.specs.declared.command_line.Line.{Line}
-use Rattle.gx_line.specs.declared.command_line.Line.TheVariants.{Blobs, Try, Adapt, Where, Init, Import, Drop, Export, ExportRange, Show, Ls, Batch, Refs, Log, RevParse}
+use Rattle.gx_line.specs.declared.command_line.Line.TheVariants.{Blobs, Try, Adapt, Where, Init, Import, Drop, Gc, Export, ExportRange, Show, Ls, Batch, Refs, Log, RevParse}
 use Rattle.gx_line.specs.declared.command_line.LineFault.{LineFault}
 use Rattle.gx_line.specs.declared.command_line.LineFault.TheVariants.{OutOfMemory, Status}
 use Rattle.gx_line.specs.declared.command_line.LogOptions.{LogOptions}
@@ -78,6 +78,9 @@ force = flag (codes "force")
 abbrev pub drop_signatures : Rule
 drop_signatures = flag (codes "drop-signatures")
 
+abbrev pub report : Rule
+report = flag (codes "report")
+
 abbrev pub changes : Rule
 changes = flag (codes "changes")
 
@@ -122,10 +125,13 @@ abbrev pub adapt_command : App
 adapt_command = with_rule (new_app (codes "adapt")) drop_signatures
 
 abbrev pub import_command : App
-import_command = with_features (file_command (codes "import"))
+import_command = with_rule (with_features (file_command (codes "import"))) report
 
 abbrev pub drop_command : App
 drop_command = with_rule (file_command (codes "drop")) (words (codes "ref"))
+
+abbrev pub gc_command : App
+gc_command = with_rule (file_command (codes "gc")) report
 
 abbrev pub export_command : App
 export_command = with_rule (with_rule (with_rule (file_command (codes "export")) changes) no_done) sent_ranges
@@ -174,7 +180,7 @@ with_stream_commands a = under (under (under (under a (new_app (codes "blobs")))
 -- the commands on a store as a whole
 abbrev pub with_store_commands : App → App
 with_store_commands a =
-    under (under (under (under (under a (file_command (codes "init"))) import_command) drop_command) export_command) (file_command (codes "refs"))
+    under (under (under (under (under (under a (file_command (codes "init"))) import_command) drop_command) gc_command) export_command) (file_command (codes "refs"))
 
 -- the commands that show objects
 abbrev pub with_tree_commands : App → App
@@ -224,8 +230,10 @@ Says name rows (Try revision done force) = (name ≡ codes "try") × (AreFeature
 Says name rows (Adapt drop_signatures) = (name ≡ codes "adapt") × IsFlag (codes "drop-signatures") rows drop_signatures
 Says name rows (Where command) = (name ≡ codes "where") × IsNumber (codes "number") rows (Some command)
 Says name rows (Init file) = (name ≡ codes "init") × IsWord (codes "file") rows file
-Says name rows (Import file done force) = (name ≡ codes "import") × (AreFeatures rows done force × IsWord (codes "file") rows file)
+Says name rows (Import file done force report) = (name ≡ codes "import") × (AreFeatures rows done force
+    × (IsFlag (codes "report") rows report × IsWord (codes "file") rows file))
 Says name rows (Drop file refs) = (name ≡ codes "drop") × (IsWord (codes "file") rows file × AreWords (codes "ref") rows refs.items)
+Says name rows (Gc file report) = (name ≡ codes "gc") × (IsFlag (codes "report") rows report × IsWord (codes "file") rows file)
 Says name rows (Export form file) = (name ≡ codes "export")
     × (IsForm rows form × (IsWord (codes "file") rows file × (all_of (codes "range") rows ≡ None)))
 Says name rows (ExportRange done file ranges) = (name ≡ codes "export")

@@ -55,16 +55,22 @@ pub enum Line<'a> {
         file: &'a str,
     },
     /// A stream is imported into a store. With `done` it has to end with that command, and with `force` branches may
-    /// lose commits.
+    /// lose commits. With `report` the refs that it changed are told.
     Import {
         file: &'a str,
         done: bool,
         force: bool,
+        report: bool,
     },
     /// Refs are dropped from a store.
     Drop {
         file: &'a str,
         refs: Vec<&'a str>,
+    },
+    /// The objects of a store go that no ref reaches. With `report` it is told how many.
+    Gc {
+        file: &'a str,
+        report: bool,
     },
     /// A store is exported as a stream.
     Export {
@@ -187,6 +193,11 @@ fn file_line<'a>(
             file,
             done: is_set(matches, "done"),
             force: is_set(matches, "force"),
+            report: is_set(matches, "report"),
+        }),
+        "gc" => Ok(Line::Gc {
+            file,
+            report: is_set(matches, "report"),
         }),
         "export" => export_line(alloc, matches, file),
         "refs" => Ok(Line::Refs { file }),

@@ -202,8 +202,10 @@ fn file_of<'a>(line: &Line<'a>) -> Option<&'a str> {
             file,
             done: _,
             force: _,
+            report: _,
         }
         | Line::Drop { file, refs: _ }
+        | Line::Gc { file, report: _ }
         | Line::Export { form: _, file }
         | Line::ExportRange {
             done: _,

@@ -8,6 +8,7 @@ mod command;
 mod folder;
 mod notation;
 mod pass;
+mod reporting;
 mod running;
 mod serving;
 mod shown;

@@ -15,6 +15,9 @@ const SHORT_NAMES: &str = "\\ Objects have short names";
 /// The front of the line that tells how many objects and refs a store has.
 pub(crate) const HELD: &str = "\\ The store holds ";
 
+/// The front of a line that standard error gets, and that doesn't begin as the program's own.
+const TOLD: &str = "\\ Standard error gets ";
+
 /// What a step is.
 #[derive(Clone, Copy, PartialEq, Eq)]
 enum Part {
@@ -92,14 +95,20 @@ impl<'a> Step<'a> {
             self.has_short_names = true;
         } else if let Some(held) = line.strip_prefix(HELD) {
             self.held = held;
+        } else if let Some(told) = line.strip_prefix(TOLD) {
+            self.take_told(told)?;
         } else if line.starts_with("gx: ") {
-            self.told.extend_from_slice(line.as_bytes())?;
-            self.told.push(b'\n')?;
+            self.take_told(line)?;
         } else {
             put_read(&mut self.printed, line)?;
             self.printed.push(b'\n')?;
         }
         Ok(())
+    }
+
+    fn take_told(&mut self, line: &str) -> Result<(), AllocError> {
+        self.told.extend_from_slice(line.as_bytes())?;
+        self.told.push(b'\n')
     }
 
     /// The empty line before a title is none of the answer.

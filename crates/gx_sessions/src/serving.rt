@@ -1,9 +1,10 @@
 //! The commands of `gx_cli`, with what they tell of their work.
 
 use crate::pass::Pass;
+use crate::reporting::{collected, reported};
 use gx_cli::{
-    AdaptReport, CliFault, Features, ImportReport, Line, Outcome, adapt_stream, import_into, serve,
-    serve_owned,
+    AdaptReport, CliFault, Features, ImportReport, Line, Outcome, Pruned, adapt_stream,
+    import_into, serve, serve_owned,
 };
 use gx_object::{Namer, Sha1Namer, ShortNamer};
 use gx_text::{Held, Sink, Source};
@@ -57,18 +58,23 @@ fn makes_text(line: &Line<'_>) -> bool {
             | Line::Import {
                 file: _,
                 done: _,
-                force: _
+                force: _,
+                report: _
             }
             | Line::Drop { file: _, refs: _ }
+            | Line::Gc { file: _, report: _ }
     )
 }
 
 /// What a command tells of its work.
 #[derive(Drop)]
-enum Report {
+pub(crate) enum Report {
     /// It tells nothing, or this way of running it doesn't say.
     Unknown,
     Import(ImportReport),
+    /// The lines of the refs that an import changed, and its counts where it is accepted.
+    Changes(Vec<u8>, Option<ImportReport>),
+    Pruned(Pruned),
     Adapt(AdaptReport, bool),
 }
 
@@ -82,6 +88,19 @@ fn ended<N: Namer + Drop, R: Source + Drop, W: Sink>(
     sink: &mut W,
     pass: Pass,
 ) -> (Outcome<Global>, Report) {
+    if let Line::Import {
+        file: _,
+        done,
+        force,
+        report: true,
+    } = line
+    {
+        let features = Features {
+            done: *done,
+            force: *force,
+        };
+        return reported(alloc, namer, store, source, sink, features, pass.state);
+    }
     if pass.is_given {
         let outcome = serve_owned(alloc, namer, line, store, source, sink, pass.state);
         return (outcome, Report::Unknown);
@@ -91,6 +110,7 @@ fn ended<N: Namer + Drop, R: Source + Drop, W: Sink>(
             file: _,
             done,
             force,
+            report: _,
         } => {
             let features = Features {
                 done: *done,
@@ -98,6 +118,7 @@ fn ended<N: Namer + Drop, R: Source + Drop, W: Sink>(
             };
             imported(alloc, namer, &store, source, sink, features, pass.state)
         }
+        Line::Gc { file: _, report: _ } => collected(alloc, namer, store, pass.state),
         Line::Adapt { drop_signatures } => adapted(alloc, source, sink, *drop_signatures),
         _ => {
             let outcome = serve(alloc, namer, line, &store, source, sink, pass.state);
@@ -147,8 +168,10 @@ fn told_text(
     report: Report,
 ) -> Result<Option<String>, AllocError> {
     let told = match (fault, report) {
+        (fault, Report::Changes(lines, report)) => changes_text(alloc, &lines, fault, report)?,
         (Some(fault), _) => format!(in alloc; "{fault}\n")?,
         (None, Report::Import(report)) => import_text(alloc, &report)?,
+        (None, Report::Pruned(gone)) => pruned_text(alloc, &gone)?,
         (None, Report::Adapt(report, drop_signatures)) => {
             adapt_text(alloc, &report, drop_signatures)?
         }
@@ -161,6 +184,29 @@ fn told_text(
 fn import_text(alloc: Global, report: &ImportReport) -> Result<String, AllocError> {
     let (commands, objects, refs) = (report.commands, report.objects, report.refs);
     format!(in alloc; "gx: commands: {commands}, objects: {objects}, refs: {refs}\n")
+}
+
+/// What is told of an import with a report: the lines, and why it is refused or its counts.
+fn changes_text(
+    alloc: Global,
+    lines: &[u8],
+    fault: Option<CliFault>,
+    report: Option<ImportReport>,
+) -> Result<String, AllocError> {
+    let mut text = String::from_utf8_lossy(alloc, lines)?;
+    if let Some(fault) = fault {
+        text.push_str(format!(in alloc; "{fault}\n")?.as_str())?;
+    }
+    if let Some(report) = report {
+        text.push_str(import_text(alloc, &report)?.as_str())?;
+    }
+    Ok(text)
+}
+
+/// What is told of objects that went.
+fn pruned_text(alloc: Global, gone: &Pruned) -> Result<String, AllocError> {
+    let (objects, bytes) = (gone.objects, gone.bytes);
+    format!(in alloc; "gx: pruned objects: {objects}, bytes: {bytes}\n")
 }
 
 /// What is told of an adapted stream: each count that isn't 0, and how the stream ended.

@@ -91,11 +91,23 @@ fn with_store_commands<'a>(
     ensures { (a : App) → say.Makes gx.entry a → say.Makes result (say.with_store_commands a) }
 {
     let gx = with_command(gx, file_command(alloc, "init", manual::INIT));
-    let import_command = with_features(alloc, file_command(alloc, "import", manual::IMPORT));
-    let gx = with_command(gx, import_command);
+    let gx = with_command(gx, import_command(alloc));
     let gx = with_command(gx, drop_command(alloc));
+    let gx = with_command(gx, gc_command(alloc));
     let gx = with_command(gx, export_command(alloc));
     with_command(gx, file_command(alloc, "refs", manual::REFS))
+}
+
+fn import_command<'a>(alloc: Global) -> Result<Command<'a>, AllocError>
+    ensures { say.Makes result say.import_command }
+{
+    let report = flag(
+        alloc,
+        "report",
+        "Tells the refs that changed, and the counts, on standard error",
+    );
+    let import = with_features(alloc, file_command(alloc, "import", manual::IMPORT));
+    with_argument(import, report)
 }
 
 fn drop_command<'a>(alloc: Global) -> Result<Command<'a>, AllocError>
@@ -103,6 +115,17 @@ fn drop_command<'a>(alloc: Global) -> Result<Command<'a>, AllocError>
 {
     let refs = words(alloc, "ref", "REF", "Names of refs, as gx refs prints them");
     with_argument(file_command(alloc, "drop", manual::DROP), refs)
+}
+
+fn gc_command<'a>(alloc: Global) -> Result<Command<'a>, AllocError>
+    ensures { say.Makes result say.gc_command }
+{
+    let report = flag(
+        alloc,
+        "report",
+        "Tells how many objects and bytes went, on standard error",
+    );
+    with_argument(file_command(alloc, "gc", manual::GC), report)
 }
 
 fn export_command<'a>(alloc: Global) -> Result<Command<'a>, AllocError>

@@ -205,6 +205,12 @@ Output:
   The lines of the stream's progress commands, as they come. What was printed
   stays where a later command is refused.
 
+  With --report standard error gets a line for each ref that changed, in the
+  order of their names' bytes, also behind checkpoints where a later command is
+  refused: 40 digits of what it held, a space, 40 digits of what it holds, a
+  space and its name. 40 zeros stand for nothing. Where the import is accepted,
+  a line tells the numbers of commands, objects and refs, as at a terminal.
+
 Refusals, each of which leaves FILE as it was but for those checkpoints:
   gx: read failed
   gx: lock failed       as gx --help has it
@@ -240,6 +246,28 @@ Refusals, each of which leaves FILE as it was:
   gx: store: KIND       as gx --help has it
   gx: revision N: UnknownRef
                         the Nth REF is no ref's name, or is given before
+  gx: write failed
+  gx: out of memory",
+};
+
+/// The page of `gc`.
+pub(super) const GC: Page = Page {
+    about: "Leaves out of a store what no ref reaches",
+    description: "\
+Leaves out of a store the objects that no ref reaches.
+
+The others keep their order, and the refs stay: what revisions and ranges by
+refs gave, they give. The next store is written to FILE.new, which then takes
+the place of FILE.",
+    details: "\
+Output:
+  None. At a terminal, or with --report, standard error tells how many objects
+  went, and how many bytes their bodies had.
+
+Refusals, each of which leaves FILE as it was:
+  gx: read failed
+  gx: lock failed       as gx --help has it
+  gx: store: KIND       as gx --help has it
   gx: write failed
   gx: out of memory",
 };

@@ -14,7 +14,7 @@ returns-in-Import-clause-served g c =
     let was = g.W.Sink.taken c.args.sink.now in
     let now = g.W.Sink.taken c.import_stored-outcome.new.sink in
     let imported = subst (λ asks. ImportsInto name asks (bytes_of c.args.store) coming was now c.import_stored-outcome.result) c.features_of-features-in-Import.ensures c.import_stored-outcome.ensures.imported in
-    import_served name c.args.line.now c.in-Import.file c.in-Import.done c.in-Import.force (bytes_of c.args.store) coming was now c.import_stored-outcome.result c.in-Import.is imported
+    import_served name c.args.line.now c.in-Import.file c.in-Import.done c.in-Import.force c.in-Import.report (bytes_of c.args.store) coming was now c.import_stored-outcome.result c.in-Import.is imported
 
 pub returns-in-ExportRange-clause-served : goal.returns-in-ExportRange-clause-served
 returns-in-ExportRange-clause-served g c =
@@ -30,6 +30,11 @@ returns-in-Drop-clause-served g c =
     let was = g.W.Sink.taken c.args.sink.now in
     let dropped = subst (λ words. DropsRefs name (store_of name (bytes_of c.args.store)) (texts_of words) c.drop_stored.result) c.as_slice-in-Drop.ensures.value c.drop_stored.ensures in
     subst (λ l. Serves name l (bytes_of c.args.store) (g.R.Source.coming c.args.source) was was c.drop_stored.result) (sym c.in-Drop.is) (dropped, refl)
+
+pub returns-in-Gc-clause-served : goal.returns-in-Gc-clause-served
+returns-in-Gc-clause-served g c =
+    let was = g.W.Sink.taken c.args.sink.now in
+    subst (λ l. Serves (g.N.Namer.name_of c.args.namer) l (bytes_of c.args.store) (g.R.Source.coming c.args.source) was was c.collect_stored.result) (sym c.in-Gc.is) (c.collect_stored.ensures, refl)
 
 pub returns-in-Show-clause-served : goal.returns-in-Show-clause-served
 returns-in-Show-clause-served g c =

@@ -330,6 +330,8 @@ check_refusals() {
   printf 'gitstore 1\n' > "$file"
   run "$folder/stream" import "$file"
   check 'a file that is no store is refused' is_refused_in_silence 'store: BadMagic'
+  run /dev/null gc --report "$file"
+  check 'gc refuses it, too' is_refused_in_silence 'store: BadMagic'
   check 'and stays' [ "$(cat "$file")" = 'gitstore 1' ]
   fresh odd
   run /dev/null show "$file" "$(printf 'main\377')"

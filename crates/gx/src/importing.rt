@@ -69,8 +69,9 @@ fn import_shown(
     let imported = if report {
         import_store_reporting(alloc, Sha1Namer, store, source, &mut sink, features, state)
     } else {
-        let (repo, answer) =
-            import_store(alloc, Sha1Namer, store, source, &mut sink, features, state);
+        let (repo, answer) = import_store(
+            alloc, Sha1Namer, store, source, &mut sink, features, state,
+        );
         (with_no_changes(alloc, repo), answer)
     };
     progress.clear();

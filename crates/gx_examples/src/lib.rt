@@ -21,6 +21,8 @@ mod limits;
 #[cfg(test)]
 mod lines;
 #[cfg(test)]
+mod reporting;
+#[cfg(test)]
 mod round_trips;
 #[cfg(test)]
 mod steps;

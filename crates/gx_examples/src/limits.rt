@@ -27,6 +27,7 @@ $ export store %% export of two branches % 21 % two branches
 $ export store %% export of modes % 21 % modes
 $ export --changes store %% changes of two branches % 21 % two branches
 $ drop store refs/heads/main %%% 9 % root
+$ gc store %%% 8 % root
 $ adapt % rough % mended % 2
 $ where 2 % mended %
 5:22:commit refs/heads/m

@@ -1,7 +1,9 @@
 //! The commands that answer the repository whose text is a store's next one, and what is to be told of it.
 
 use crate::serving::Report;
-use gx_cli::{CliFault, Features, Outcome, Repo, collect_store, import_store_reporting, send_store};
+use gx_cli::{
+    CliFault, Features, Outcome, Repo, collect_store, import_store_reporting, send_store,
+};
 use gx_object::Namer;
 use gx_text::{Held, Sink, Source};
 use std::alloc::Global;
@@ -20,8 +22,7 @@ pub(crate) fn reported<N: Namer + Drop, R: Source + Drop, W: Sink>(
     features: Features,
     state: RandomState,
 ) -> (Outcome<Global>, Report) {
-    let (left, answer) =
-        import_store_reporting(alloc, namer, store, source, sink, features, state);
+    let (left, answer) = import_store_reporting(alloc, namer, store, source, sink, features, state);
     let (text, lines) = match left {
         Some((repo, lines)) => (text_of(alloc, &repo), lines),
         None => (None, Vec::new(alloc)),
@@ -31,7 +32,10 @@ pub(crate) fn reported<N: Namer + Drop, R: Source + Drop, W: Sink>(
             outcome_of(0, None, text),
             Report::Changes(lines, Some(report)),
         ),
-        Err(fault) => (outcome_of(1, Some(fault), text), Report::Changes(lines, None)),
+        Err(fault) => (
+            outcome_of(1, Some(fault), text),
+            Report::Changes(lines, None),
+        ),
     }
 }
 
@@ -51,11 +55,7 @@ pub(crate) fn collected<N: Namer + Drop>(
     }
 }
 
-fn outcome_of(
-    status: u8,
-    fault: Option<CliFault>,
-    store: Option<Vec<u8>>,
-) -> Outcome<Global> {
+fn outcome_of(status: u8, fault: Option<CliFault>, store: Option<Vec<u8>>) -> Outcome<Global> {
     Outcome {
         status,
         fault,

@@ -108,7 +108,8 @@ impl<'a> Step<'a> {
 
     fn take_told(&mut self, line: &str) -> Result<(), AllocError> {
         self.told.extend_from_slice(line.as_bytes())?;
-        self.told.push(b'\n')
+        self.told.push(b'\n')?;
+        Ok(())
     }
 
     /// The empty line before a title is none of the answer.

@@ -1,6 +1,6 @@
 //! Texts that are spelled piece by piece.
 
-use gx_refusing::Refusing;
+use gx_devices::Refusing;
 use gx_text::decimal;
 use std::alloc::Global;
 

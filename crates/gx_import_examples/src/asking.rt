@@ -1,56 +1,16 @@
 //! A source that gives no more than what the answers to its lines allow.
-ghost use Rattle.std.specs.Prelude.{None};
 
 use crate::batches::STORE;
 use crate::given::{opened, refusal_into};
 use gx_batch::batch;
+use gx_devices::{Allowed, Allowing};
 use gx_object::Sha1Namer;
 use gx_repo::Repo;
-use gx_text::{Bytes, Failed, Sink, Source};
+use gx_text::Bytes;
 use std::alloc::{AllocError, Global};
 use std::cell::Cell;
 use std::hash::RandomState;
 use std::test::Fail;
-
-/// A source that fails where no more pulls are allowed.
-#[derive(Drop)]
-struct Asking<'a> {
-    bytes: Bytes<'a>,
-    allowed: &'a Cell<u64>,
-}
-
-impl<'a> Source for Asking<'a> {
-    ghost coming = { λ _. None };
-
-    fn pull(&mut self, buffer: &mut [u8]) -> Result<usize, Failed> {
-        match self.allowed.get().checked_sub(1) {
-            Some(left) => {
-                self.allowed.set(left);
-                self.bytes.pull(buffer)
-            }
-            None => Err(Failed),
-        }
-    }
-}
-
-/// A sink that allows so many pulls more for each text that ends with a line feed.
-#[derive(Drop)]
-struct Answered<'a> {
-    allowed: &'a Cell<u64>,
-    pulls: u64,
-}
-
-impl<'a> Sink for Answered<'a> {
-    ghost taken = { λ _. None };
-
-    fn push(&mut self, bytes: &[u8]) -> Result<usize, Failed> {
-        if bytes.ends_with(b"\n") {
-            self.allowed
-                .set(self.allowed.get().saturating_add(self.pulls));
-        }
-        Ok(bytes.len())
-    }
-}
 
 /// What is asked.
 #[derive(Clone, Copy)]
@@ -68,17 +28,15 @@ fn pulls_left(
     repo: &mut Repo<Sha1Namer, Global>,
     call: Call,
     source: Bytes<'_>,
-    (first, pulls): (u64, u64),
+    (first, more): (u64, u64),
 ) -> Option<u64> {
     let allowed = Cell::new(first);
-    let source = Asking {
+    let pulls = &allowed;
+    let source = Allowed {
         bytes: source,
-        allowed: &allowed,
-    };
-    let mut sink = Answered {
-        allowed: &allowed,
         pulls,
     };
+    let mut sink = Allowing { pulls, more };
     let is_done = match call {
         Call::Batch { check } => batch(alloc, repo, check, source, &mut sink) == Ok(()),
         Call::Import => refusal_into(alloc, repo, source, &mut sink).is_none(),
@@ -126,6 +84,8 @@ fn command_is_applied_before_more_is_read(rt: HostRuntime) -> Result<(), Fail> {
     let text = progress_lines(rt.alloc(), 1000)?;
     let mut repo = Repo::new(rt.alloc(), Sha1Namer, RandomState::new(&rt)?);
     let bytewise = Bytes::new(&text, 1, false);
-    assert!(rt; pulls_left(rt.alloc(), &mut repo, Call::Import, bytewise, (24, 11)).is_some());
+    let left = pulls_left(rt.alloc(), &mut repo, Call::Import, bytewise, (24, 11));
+    // the end takes one, too
+    assert!(rt; left == Some(23));
     Ok(())
 }

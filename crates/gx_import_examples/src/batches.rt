@@ -2,8 +2,8 @@
 
 use crate::given::opened;
 use gx_batch::{BatchFault, batch};
+use gx_devices::Refusing;
 use gx_object::Sha1Namer;
-use gx_refusing::Refusing;
 use gx_repo::Repo;
 use gx_text::{Bytes, Held};
 use std::alloc::{AllocError, Allocator, Global};

@@ -9,12 +9,12 @@
 //! that the source fails behind the stream.
 
 ghost use Rattle.std.specs.Prelude.{◌<◌};
-ghost use Rattle.std.specs.Prelude.{◌<◌};
 
 use crate::given::text_of;
+use gx_devices::ConstantNamer;
 use gx_file::write_to;
 use gx_import::{ImportFault, Report, import};
-use gx_object::{Kind, Name, Namer, Sha1Namer};
+use gx_object::{Namer, Sha1Namer};
 use gx_repo::Repo;
 use gx_text::{Bytes, Held};
 use std::alloc::Global;
@@ -188,22 +188,6 @@ fn lines_go_out_as_they_come_and_lengths_take_no_room(rt: HostRuntime) -> Result
     follow_all(rt.alloc(), Sha1Namer, refused::DEVICES, 2, state)?;
     follow_all(rt.alloc(), Sha1Namer, refused::PROGRESS, 30, state)?;
     follow_all(rt.alloc(), Sha1Namer, refused::LENGTHS, 6, state)
-}
-
-/// Gives all objects one name.
-#[derive(Clone, Copy, Debug)]
-struct ConstantNamer;
-
-impl Namer for ConstantNamer {
-    ghost use Rattle.std.specs.Prelude.{refl, replicate};
-
-    ghost name_of = { λ _ _ _. replicate 20 17 };
-
-    ghost is_namer = { λ _. record { long = λ _ _. refl; bytes = λ _ _. refl } };
-
-    fn name(&self, _kind: Kind, _body: &[u8]) -> Name {
-        Name { bytes: [17; 20] }
-    }
 }
 
 #[test]

@@ -1,20 +1,17 @@
 //! Calls on revisions: their growths, each of which is refused in turn, and what calls answer that no command makes.
 
-ghost use Rattle.std.specs.Prelude.{IsTrue};
-ghost use Rattle.gx_model.specs.declared.objects.Kind.TheVariants as kinds;
-ghost use Rattle.gx_model.specs.Records.Sound.{Holds};
-
 use crate::trees::desk::Heap;
-use gx_object::{Kind, Name, Namer, Sha1Namer};
-use gx_refusing::Refusing;
+use calls::answered;
+use gx_devices::Refusing;
+use gx_object::{Kind, Sha1Namer};
 use gx_repo::{RefChange, Repo};
-use gx_rev::{
-    Range, RevFault, Revision, answers_tell_values, commit, look, reached_from_refs, reaches, walk,
-};
-use gx_text::{TreePath, cut};
-use std::alloc::{AllocError, Allocator, Global};
+use gx_rev::RevFault;
+use gx_text::cut;
+use std::alloc::Global;
 use std::hash::RandomState;
 use std::test::Fail;
+
+mod calls;
 
 /// A repository of Git's names, on a heap that may be told to refuse a growth.
 type Records<'a> = Repo<Sha1Namer, &'a Heap>;
@@ -212,196 +209,4 @@ fn refused_growths<'a>(heap: &'a Heap, repo: &Records<'a>, call: &str) -> u64 {
         }
     }
     0
-}
-
-/// What no call answers that is made here.
-const NO_CALL: RevFault = RevFault::Ambiguous;
-
-/// What a call answers. A growth is refused once the revisions stand that it is given; none is with 0.
-fn answered<'a>(
-    heap: &'a Heap,
-    repo: &Records<'a>,
-    call: &str,
-    growth: u64,
-) -> Result<usize, RevFault> {
-    let (call, words) = call.split_once(' ').unwrap_or((call, ""));
-    match call {
-        "look" => looked(heap, repo, words, growth),
-        "commit" => counted(heap, repo, words),
-        "walk" => listed(heap, repo, words, growth),
-        _ => {
-            heap.arm(growth);
-            told(heap, repo, call, words)
-        }
-    }
-}
-
-/// How many bytes the file at a path of a revision has.
-fn looked<'a>(
-    heap: &'a Heap,
-    repo: &Records<'a>,
-    words: &str,
-    growth: u64,
-) -> Result<usize, RevFault> {
-    let (revision, path) = words.split_once(' ').unwrap_or((words, ""));
-    match Revision::read(heap, revision.as_bytes()) {
-        Ok(revision) => looked_at(heap, repo, &revision, path, growth),
-        Err(_) => Err(NO_CALL),
-    }
-}
-
-/// The same of a revision.
-fn looked_at<'a>(
-    heap: &'a Heap,
-    repo: &Records<'a>,
-    revision: &Revision<&'a Heap>,
-    path: &str,
-    growth: u64,
-) -> Result<usize, RevFault> {
-    match TreePath::read(heap, path.as_bytes()) {
-        Ok(path) => looked_in(heap, repo, revision, &path, growth),
-        Err(_) => Err(NO_CALL),
-    }
-}
-
-/// The same of a path.
-fn looked_in<'a>(
-    heap: &'a Heap,
-    repo: &Records<'a>,
-    revision: &Revision<&'a Heap>,
-    path: &TreePath<&'a Heap>,
-    growth: u64,
-) -> Result<usize, RevFault> {
-    heap.arm(growth);
-    match look(heap, repo, revision, path) {
-        Ok((_, bytes)) => Ok(bytes.len()),
-        Err(fault) => Err(fault),
-    }
-}
-
-/// How many parents a revision's commit has.
-fn counted<'a>(heap: &'a Heap, repo: &Records<'a>, word: &str) -> Result<usize, RevFault> {
-    match Revision::read(heap, word.as_bytes()) {
-        Ok(revision) => match commit(repo, &revision) {
-            Ok(view) => Ok(view.parent_count()),
-            Err(fault) => Err(fault),
-        },
-        Err(_) => Err(NO_CALL),
-    }
-}
-
-/// How many commits a word lists; none where it is empty.
-fn listed<'a>(
-    heap: &'a Heap,
-    repo: &Records<'a>,
-    word: &str,
-    growth: u64,
-) -> Result<usize, RevFault> {
-    let mut ranges = Vec::new(heap);
-    if is_range_put(heap, &mut ranges, word) {
-        heap.arm(growth);
-        walked(heap, repo, &ranges)
-    } else {
-        Err(NO_CALL)
-    }
-}
-
-/// Puts the range of a word into a list, if the word isn't empty. Answers whether that was done.
-fn is_range_put<'a>(
-    heap: &'a Heap,
-    ranges: &mut Vec<Range<&'a Heap>, &'a Heap>,
-    word: &str,
-) -> bool {
-    if word.is_empty() {
-        return true;
-    }
-    match Range::read(heap, word.as_bytes()) {
-        Ok(range) => ranges.push(range).is_ok(),
-        Err(_) => false,
-    }
-}
-
-/// How many commits ranges list. Want of memory is of no word.
-fn walked<'a>(
-    heap: &'a Heap,
-    repo: &Records<'a>,
-    ranges: &[Range<&'a Heap>],
-) -> Result<usize, RevFault> {
-    match walk(heap, repo, ranges) {
-        Ok(names) => Ok(names.len()),
-        Err(fault) if fault.word == 0 => Err(fault.kind),
-        Err(_) => Err(NO_CALL),
-    }
-}
-
-/// What a call answers that is given texts alone.
-fn told<'a>(
-    heap: &'a Heap,
-    repo: &Records<'a>,
-    call: &str,
-    words: &str,
-) -> Result<usize, RevFault> {
-    match call {
-        "read" => read_as_range(heap, words),
-        "revision" => read_as_revision(heap, words),
-        "refs" => counted_marks(heap, repo),
-        "tell" => {
-            answers_tell_values(repo);
-            Ok(0)
-        }
-        "reach" => match reached(heap, repo, words) {
-            Some(Ok(answer)) => Ok(if answer { 1 } else { 0 }),
-            Some(Err(error)) => Err(error.into()),
-            None => Err(NO_CALL),
-        },
-        _ => Err(NO_CALL),
-    }
-}
-
-fn read_as_range(heap: &Heap, word: &str) -> Result<usize, RevFault> {
-    match Range::read(heap, word.as_bytes()) {
-        Ok(_) => Ok(0),
-        Err(fault) => Err(fault),
-    }
-}
-
-fn read_as_revision(heap: &Heap, word: &str) -> Result<usize, RevFault> {
-    match Revision::read(heap, word.as_bytes()) {
-        Ok(_) => Ok(0),
-        Err(fault) => Err(fault),
-    }
-}
-
-/// How many objects the refs reach.
-fn counted_marks<'a>(heap: &'a Heap, repo: &Records<'a>) -> Result<usize, RevFault> {
-    match reached_from_refs(heap, repo) {
-        Ok(marks) => Ok(marks.iter().filter(|mark| **mark).count()),
-        Err(error) => Err(error.into()),
-    }
-}
-
-/// Whether an object of this kind is held under this name.
-fn is_held<N: Namer, A: Allocator + Copy>(repo: &Repo<N, A>, kind: Kind, name: &Name) -> bool
-    ensures { IsTrue result → Holds repo.now.1.records kind name.now.bytes }
-{
-    let Some((held, _body)) = repo.store().get(name) else {
-        return false;
-    };
-    held == kind
-}
-
-/// Whether the first of two commits reaches the second, by the digits of their names; none where one isn't held.
-fn reached<N: Namer, A: Allocator + Copy>(
-    alloc: A,
-    repo: &Repo<N, A>,
-    words: &str,
-) -> Option<Result<bool, AllocError>> {
-    let (from, to) = words.split_once(' ')?;
-    let from = Name::read(from.as_bytes())?;
-    let to = Name::read(to.as_bytes())?;
-    if is_held(repo, Kind::Commit, &from) && is_held(repo, Kind::Commit, &to) {
-        Some(reaches(alloc, repo, &from, &to))
-    } else {
-        None
-    }
 }

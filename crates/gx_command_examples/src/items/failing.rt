@@ -1,40 +1,14 @@
-ghost use Rattle.std.specs.Prelude.{None};
-
 use super::*;
-use gx_text::Failed;
+use gx_devices::Allowed;
 use std::alloc::Global;
+use std::cell::Cell;
 
-/// A source that tells nothing and fails once, behind so many bytes. Whoever asks again gets the bytes behind the failure.
-#[derive(Drop)]
-struct Faltering<'a> {
-    before: Bytes<'a>,
-    after: Bytes<'a>,
-    has_failed: bool,
-}
-
-impl<'a> Source for Faltering<'a> {
-    ghost coming = { λ _. None };
-
-    fn pull(&mut self, buffer: &mut [u8]) -> Result<usize, Failed> {
-        if self.has_failed {
-            return self.after.pull(buffer);
-        }
-        match self.before.pull(buffer) {
-            Err(Failed) => {
-                self.has_failed = true;
-                Err(Failed)
-            }
-            given => given,
-        }
-    }
-}
-
-/// Whether the items before a failure are given, and then the failure alone.
-fn is_failure_kept(alloc: Global, before: &[u8], after: &[u8], items: &[u8]) -> bool {
-    let source = Faltering {
-        before: Bytes::new(before, 7, true),
-        after: Bytes::new(after, 7, false),
-        has_failed: false,
+/// Whether these items are read of a text in pieces of 7 bytes, of which the pull behind so many fails, and then the failure alone.
+fn is_failure_kept(alloc: Global, text: &[u8], pulls: u64, items: &[u8]) -> bool {
+    let pulls = Cell::new(pulls);
+    let source = Allowed {
+        bytes: Bytes::new(text, 7, false),
+        pulls: &pulls,
     };
     let mut reader = ItemReader::new(alloc, source);
     told(&mut reader, items) == Some((Some(StreamFault::ReadFailed), true))
@@ -51,10 +25,10 @@ fn failed_read_is_no_end(rt: HostRuntime) {
         );
     }
     let alloc = rt.alloc();
-    assert!(rt; is_failure_kept(alloc, b"blob\ndata 3\na\nb\n", b"", b"[blob]<a\nb>"));
-    assert!(rt; is_failure_kept(alloc, b"blob\ndata 3\na", b"bcblob\n", b"[blob]"));
-    assert!(rt; is_failure_kept(alloc, b"progress a\nprog", b"ress b\n", b"[progress a]"));
-    assert!(rt; is_failure_kept(alloc, b"", b"progress a\n", b""));
+    assert!(rt; is_failure_kept(alloc, b"blob\ndata 3\na\nb\n", 3, b"[blob]<a\nb>"));
+    assert!(rt; is_failure_kept(alloc, b"blob\ndata 3\nabcblob\n", 2, b"[blob]"));
+    assert!(rt; is_failure_kept(alloc, b"progress a\nprogress b\n", 2, b"[progress a]"));
+    assert!(rt; is_failure_kept(alloc, b"progress a\n", 0, b""));
 }
 
 /// How many growths are refused, one after the other, until the mixed stream is read; none where another answer came.

@@ -1,26 +1,13 @@
-ghost use Rattle.std.specs.Prelude.{◌<◌, None};
+ghost use Rattle.std.specs.Prelude.{◌<◌};
 
 use super::*;
-use gx_text::Failed;
+use gx_devices::Allowed;
 use std::alloc::Global;
 use std::cell::Cell;
 use std::test::Fail;
 
-/// A source that counts its pulls.
-#[derive(Drop)]
-struct Counting<'a> {
-    bytes: Bytes<'a>,
-    pulls: &'a Cell<u64>,
-}
-
-impl<'a> Source for Counting<'a> {
-    ghost coming = { λ _. None };
-
-    fn pull(&mut self, buffer: &mut [u8]) -> Result<usize, Failed> {
-        self.pulls.set(self.pulls.get().saturating_add(1));
-        self.bytes.pull(buffer)
-    }
-}
+/// More pulls than a test makes.
+const MANY: u64 = 10_000;
 
 /// How many pulls are made for these items, which a text in pieces of this size gives so many times, how many with what is behind
 /// them, and whether that is the end; none where it gives others.
@@ -33,10 +20,10 @@ fn pulls_of(
 ) -> Option<(u64, u64, bool)>
     requires { 0 < piece }
 {
-    let pulls = Cell::new(0u64);
-    let source = Counting {
+    let left = Cell::new(MANY);
+    let source = Allowed {
         bytes: Bytes::new(text, piece, false),
-        pulls: &pulls,
+        pulls: &left,
     };
     let mut reader = ItemReader::new(alloc, source);
     for _ in 0..times {
@@ -46,9 +33,9 @@ fn pulls_of(
             }
         }
     }
-    let count = pulls.get();
+    let first = MANY.saturating_sub(left.get());
     let is_end = reader.next() == Ok(None);
-    Some((count, pulls.get(), is_end))
+    Some((first, MANY.saturating_sub(left.get()), is_end))
 }
 
 #[test]

@@ -1,9 +1,9 @@
 //! Memory that is refused at each growth in turn: the store stays as it was or as at a checkpoint, or has all.
 
 use crate::given::{FIRST, MERGED, opened, refusal_of, text_of, text_with};
+use gx_devices::Refusing;
 use gx_import::{ImportFault, ImportKind};
 use gx_object::Sha1Namer;
-use gx_refusing::Refusing;
 use gx_repo::Repo;
 use std::alloc::{Allocator, Global};
 use std::hash::RandomState;

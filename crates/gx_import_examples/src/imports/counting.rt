@@ -1,30 +1,13 @@
 //! How often an import names an object: a commit names the directories that it changed and itself, and no other.
 
 use crate::given::{object_of, refusal_of};
-use gx_object::{Kind, Name, Namer, Sha1Namer};
+use gx_devices::CountingNamer;
+use gx_object::{Kind, Name, Sha1Namer};
 use gx_repo::Repo;
 use std::alloc::Global;
 use std::cell::Cell;
 use std::hash::RandomState;
 use std::test::Fail;
-
-/// Counts how often a namer names an object.
-#[derive(Clone, Copy)]
-struct Counting<'a, N: Namer> {
-    namer: N,
-    named: &'a Cell<u64>,
-}
-
-impl<N: Namer> Namer for Counting<'_, N> {
-    ghost name_of = { λ counting kind body. N.name_of counting.namer kind body };
-
-    ghost is_namer = { λ counting. N.is_namer counting.namer };
-
-    fn name(&self, kind: Kind, body: &[u8]) -> Name {
-        self.named.set(self.named.get().saturating_add(1));
-        self.namer.name(kind, body)
-    }
-}
 
 /// Two blobs, and a commit on main with a blob at many paths.
 const FILES: &str = "\
@@ -81,7 +64,7 @@ from :3
 /// How many objects an import into an empty repository names, and the tree of a revision then.
 fn counted(alloc: Global, state: RandomState, stream: &str, revision: &str) -> Option<(u64, Name)> {
     let named = Cell::new(0);
-    let namer = Counting {
+    let namer = CountingNamer {
         namer: Sha1Namer,
         named: &named,
     };

@@ -1,8 +1,8 @@
 //! Memory that is refused at each growth of an encoder in turn.
 
 use crate::objects::{commits, tags, trees};
+use gx_devices::Refusing;
 use gx_object::Kind;
-use gx_refusing::Refusing;
 use gx_text::Ident;
 use std::alloc::Global;
 

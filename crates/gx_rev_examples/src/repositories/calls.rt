@@ -1,4 +1,4 @@
-//! The calls of a repository, and what each answers.
+//! The calls of a repository and of a tree whose files it holds.
 
 ghost use Rattle.std.specs.Prelude.{◌≡◌, ◌≤◌, IfOk, IsTrue, length, map};
 ghost use Rattle.gx_model.specs.declared.objects.Kind.TheVariants as kinds;
@@ -7,108 +7,16 @@ ghost use Rattle.gx_tree.specs.Named.{IsAtHome};
 ghost use Rattle.gx_repo.specs.Calls.{KeepsAtHome};
 ghost use Rattle.gx_repo.specs.Objects.{HoldsEach};
 
+use super::call::{Answer, Call, added, published, recorded};
 use crate::trees::desk::Heap;
 use gx_object::{CommitParts, Kind, Mode, Name, Namer, TagParts};
-use gx_repo::{AddFault, PublishFault, RefChange, Repo, StoreFault, Text};
+use gx_repo::{RefChange, Repo, StoreFault, Text};
 use gx_text::{Ident, TreePath};
 use gx_tree::{PathTree, records_keep_home};
-use std::alloc::AllocError;
+use std::alloc::{AllocError, Allocator};
 
 /// An author, and a second after 1970.
 const IDENT: &[u8] = b"A <a@x> 1 +0000";
-
-/// What is done to a repository and to a tree whose files it holds, or is asked of them.
-#[derive(Clone, Copy)]
-pub(super) enum Call<'a> {
-    /// A blob is added.
-    Blob(&'a [u8]),
-    /// Bytes are given as a blob.
-    Give(&'a [u8]),
-    /// A record of which nothing is known is added.
-    Record(Kind, &'a [u8]),
-    /// The same of the bytes of a text from a place up to another; the text's other owner goes.
-    Within(Kind, &'a [u8], usize, usize),
-    /// The record of a tree with one entry is added: its mode, the byte that its component repeats, how often, its
-    /// object.
-    Entry(&'a str, u8, usize, Name),
-    /// A commit with this tree and these parents is added: whether it names an encoding, and its message.
-    Commit(Name, &'a [Name], bool, &'a [u8]),
-    /// A tag `v1` of a commit is added, with its message.
-    Tag(Name, &'a [u8]),
-    /// Refs are set.
-    Publish(&'a [RefChange<'a>]),
-    /// The first objects alone are kept, and the tree has no files any more.
-    Truncate(usize),
-    /// What no ref reaches goes, with so many bytes, and the tree has no files any more. How many objects are that?
-    Prune(u128),
-    /// A blob is added, and put at a path of the tree.
-    File(&'a [u8], &'a [u8]),
-    /// The tree is added.
-    Tree,
-    /// The tree has no files any more.
-    Clear,
-    /// How many files has the tree?
-    Files,
-    /// How many objects are held?
-    Objects,
-    /// Is an object of this kind held?
-    Holds(Kind, Name),
-    /// Are these all the refs, in this order?
-    Refs(&'a [RefChange<'a>]),
-    /// Which object does the first ref hold whose name a word stands for?
-    Find(&'a [u8]),
-    /// None of these.
-    Unknown,
-}
-
-/// What is answered.
-#[derive(Clone, Copy, PartialEq, Eq)]
-pub(super) enum Answer {
-    /// It is done, or it is so.
-    Done,
-    Named(Name),
-    Counted(usize),
-    /// There is none, or it isn't so.
-    Nothing,
-    OutOfMemory,
-    NameHeld,
-    BadObject,
-    Dangling,
-    DuplicateObject,
-    BadRefName,
-    UnknownObject,
-    WrongKind,
-    /// What is called for can't be called.
-    NoCall,
-}
-
-fn added(answer: Result<Name, StoreFault>) -> Answer {
-    match answer {
-        Ok(name) => Answer::Named(name),
-        Err(StoreFault::NameHeld) => Answer::NameHeld,
-        Err(StoreFault::OutOfMemory) => Answer::OutOfMemory,
-    }
-}
-
-fn recorded(answer: Result<Name, AddFault>) -> Answer {
-    match answer {
-        Ok(name) => Answer::Named(name),
-        Err(AddFault::OutOfMemory) => Answer::OutOfMemory,
-        Err(AddFault::BadObject) => Answer::BadObject,
-        Err(AddFault::Dangling) => Answer::Dangling,
-        Err(AddFault::DuplicateObject) => Answer::DuplicateObject,
-    }
-}
-
-fn published(answer: Result<(), PublishFault>) -> Answer {
-    match answer {
-        Ok(()) => Answer::Done,
-        Err(PublishFault::OutOfMemory) => Answer::OutOfMemory,
-        Err(PublishFault::BadRefName) => Answer::BadRefName,
-        Err(PublishFault::UnknownObject) => Answer::UnknownObject,
-        Err(PublishFault::WrongKind) => Answer::WrongKind,
-    }
-}
 
 /// Gives bytes as a blob.
 fn give_blob<'a, N: Namer>(heap: &'a Heap, repo: &mut Repo<N, &'a Heap>, body: &[u8]) -> Answer
@@ -203,7 +111,11 @@ fn add_entry<'a, N: Namer>(
 }
 
 /// Whether an object of this kind is held under this name.
-pub(super) fn is_held<'a, N: Namer>(repo: &Repo<N, &'a Heap>, kind: Kind, name: &Name) -> bool
+pub(crate) fn is_held<N: Namer, A: Allocator + Copy>(
+    repo: &Repo<N, A>,
+    kind: Kind,
+    name: &Name,
+) -> bool
     ensures { IsTrue result → Holds repo.now.1.records kind name.now.bytes }
 {
     let Some((held, _body)) = repo.store().get(name) else {

@@ -7,10 +7,11 @@
 
 ghost use Rattle.gx_model.specs.Records.Sound.{IsNamedMap};
 
-use super::calls::{Answer, Call, add_shared, perform};
+use super::call::{Answer, Call};
+use super::calls::{add_shared, perform};
 use crate::trees::desk::{Heap, Outcome, halves};
+use gx_devices::Refusing;
 use gx_object::{Kind, Name, Namer, Sha1Namer, ShortNamer};
-use gx_refusing::Refusing;
 use gx_repo::{RefChange, Repo};
 use gx_text::cut;
 use gx_tree::PathTree;

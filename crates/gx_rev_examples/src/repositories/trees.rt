@@ -4,8 +4,8 @@ ghost use Rattle.gx_model.specs.Records.Sound.{IsNamedMap};
 
 use super::calls::is_held;
 use crate::trees::desk::Heap;
+use gx_devices::Refusing;
 use gx_object::{Kind, Mode, Name, Namer, Sha1Namer};
-use gx_refusing::Refusing;
 use gx_repo::Repo;
 use gx_text::TreePath;
 use gx_tree::PathTree;

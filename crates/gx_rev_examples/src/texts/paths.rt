@@ -2,7 +2,7 @@
 
 ghost use Rattle.std.specs.Prelude.{◌<◌, IfOk, length};
 
-use gx_refusing::Refusing;
+use gx_devices::Refusing;
 use gx_text::{Held, TextFault, TreePath};
 use std::alloc::Global;
 

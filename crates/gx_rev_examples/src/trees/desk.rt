@@ -4,8 +4,8 @@
 //! `:`, the letter of its mode (`f`, `x`, `l` or `g`), and the byte that its name has twenty times, or the name's
 //! digits. The root is `.`, and a path with a `*` and a number is filled up with `b` to so many bytes.
 
+use gx_devices::Refusing;
 use gx_object::{Mode, Name, Sha1Namer};
-use gx_refusing::Refusing;
 use gx_store::Store;
 use gx_text::TreePath;
 use gx_tree::{Found, PathTree, TreeFault};

@@ -1,8 +1,8 @@
 //! Many files, edited as a plain list of them is.
 
 use crate::trees::desk::{Desk, Heap, Outcome, desk_of, done, file_of, halves};
+use gx_devices::Refusing;
 use gx_object::{Mode, Name};
-use gx_refusing::Refusing;
 use gx_tree::PathTree;
 use std::alloc::{AllocError, Global};
 use std::hash::RandomState;

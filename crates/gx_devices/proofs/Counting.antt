@@ -17,7 +17,7 @@ use denote.Steps.{nothing, only}
 use denote.Triple.Statement.{Contract}
 use denote.Triple.Spec.{triple_of}
 use Rattle.std.specs.contracts.cell.Cell as CE
-use Rattle.gx_refusing.specs.contracts.refuses as TK
+use Rattle.gx_devices.specs.contracts.memory.refuses as TK
 
 -- The statements of a body after the first n.
 abbrev rest : Body → Body

@@ -1,6 +1,5 @@
 //! An allocator that refuses one growth, for tests that try each growth of a call in turn.
 //! A test is a helper that is generic over `A: Allocator + Copy`, run with `&heap` for n = 1, 2, .. until it no longer waits.
-#![tactic(auto)]
 
 use std::alloc::{AllocError, Allocator};
 use std::cell::Cell;

@@ -38,11 +38,11 @@ use denote.RawPtr.{Ptr, block_ptr, null_ptr, ptr_val, rawptr_vals, rawptr_Tells}
 use denote.Builtin.{usize, RawPtr, RefOf}
 use denote.Triple.Call.{calls_at}
 use Rattle.std.proofs.alloc.Calls.{Al, α, seen, token, gives_key, Gives, at_gives, Gives-goes, Gives-Gives}
-use Rattle.gx_refusing.specs.contracts.Refusing as wrapper
-use Rattle.gx_refusing.specs.contracts.RefusingAllocator.deallocate as F
-use Rattle.gx_refusing.specs.contracts.RefusingAllocator.deallocate.Key as key
-use Rattle.gx_refusing.proofs.RefusingAllocator.deallocate.Statement as stated
-use Rattle.gx_refusing.proofs.RefusingAllocator.deallocate.Code as code
+use Rattle.gx_devices.specs.contracts.memory.Refusing as wrapper
+use Rattle.gx_devices.specs.contracts.memory.RefusingAllocator.deallocate as F
+use Rattle.gx_devices.specs.contracts.memory.RefusingAllocator.deallocate.Key as key
+use Rattle.gx_devices.proofs.memory.RefusingAllocator.deallocate.Statement as stated
+use Rattle.gx_devices.proofs.memory.RefusingAllocator.deallocate.Code as code
 
 module _ (Z : Al) where
   abbrev args : Args

@@ -6,7 +6,7 @@ A wrong body is an edit of the code that the proof of its crate has to refuse. T
 
     scripts/wrong_bodies.py                   prints how many stand in each folder, a crate a line
     scripts/wrong_bodies.py --check           ends with 1 where docs/ASSURANCE.md tells other numbers
-    scripts/wrong_bodies.py --all [CRATE..]   tries those in wrong/, over what `rt check` proved; ends with 1 where one isn't refused
+    scripts/wrong_bodies.py --all [CRATE..]   tries those in wrong/, over the libraries that stand built; ends with 1 where one isn't refused
 """
 
 import os
@@ -49,12 +49,18 @@ def check():
     return 0 if page == tree else 1
 
 
+def left_out(folder, names):
+    """What of a folder's names a copy goes without: of what was built, all but the libraries."""
+    if Path(folder).name == "out":
+        return [name for name in names if name != "rlib"]
+    return [name for name in names if name == "must-fail"]
+
+
 def copy_for_trying(room):
-    """A copy of the sources in which the bodies of wrong/ stand in the place of those that the gate tries."""
+    """A copy of the sources and of the built libraries, in which the bodies of wrong/ stand in the place of those that the gate tries."""
     for name in ("crates.txt", "HANDLES"):
         shutil.copy2(TOP / name, room / name)
-    leave = shutil.ignore_patterns("out", "must-fail")
-    shutil.copytree(TOP / "crates", room / "crates", ignore=leave, symlinks=True)
+    shutil.copytree(TOP / "crates", room / "crates", ignore=left_out, symlinks=True)
     for folder in room.glob("crates/*/wrong"):
         folder.rename(folder.with_name("must-fail"))
 

@@ -57,7 +57,7 @@ def left_out(folder, names):
 
 
 def copy_for_trying(room):
-    """A copy of the sources and of the built libraries, in which the bodies of wrong/ stand in the place of those that the gate tries."""
+    """A copy of the sources and the built libraries, with the bodies of wrong/ in place of those that the gate tries."""
     for name in ("crates.txt", "HANDLES"):
         shutil.copy2(TOP / name, room / name)
     shutil.copytree(TOP / "crates", room / "crates", ignore=left_out, symlinks=True)

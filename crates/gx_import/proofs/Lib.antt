@@ -9,7 +9,6 @@ pub mod Blobs
 pub mod Parents
 pub mod NamedEdits
 pub mod HeldBlobs
-pub mod PlaceLists
 pub mod ForwardBranches
 pub mod SetRefs
 pub mod PublishedNames

@@ -9,7 +9,6 @@ pub mod Additions
 pub mod Applying
 pub mod Calls
 pub mod RefChanges
-pub mod Places
 pub mod Publishing
 pub mod Imports
 pub mod Explaining

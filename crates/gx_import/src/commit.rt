@@ -16,7 +16,7 @@ ghost use Rattle.gx_import.specs.Calls.{AddsWithTrees, AddsCommitAlone, AreParen
 
 use crate::branches::Tip;
 use crate::changes::change_all;
-use crate::commit_ish::committed_for;
+use crate::commit_ish::{committed_for, committed_with};
 use crate::files::starting_files;
 use crate::object::Object;
 use crate::tables::Tables;
@@ -25,6 +25,7 @@ use gx_command::{Change, Commit, Identity, RefName};
 use gx_model::repository_laws::{puts_add_values, trees_add_file_maps};
 use gx_object::{CommitParts, Kind, Name, Namer};
 use gx_repo::Repo;
+use gx_rev::FirstParents;
 use gx_text::Ident;
 use gx_tree::{PathTree, records_keep_home, records_keep_loaded};
 use std::alloc::{AllocError, Allocator};
@@ -179,8 +180,10 @@ fn parents<N: Namer, A: Allocator + Copy>(
 {
     let branch = commit.branch.bytes.as_slice();
     let mut parents = first_alone(tables.alloc, first)?;
+    // the ancestors of one commit, `merge p~1`, `merge p~2` and so on, are one walk
+    let mut first_parents = FirstParents::new(tables.alloc);
     for merged in &commit.merges {
-        let name = committed_for(repo, tables, branch, merged)?;
+        let name = committed_with(repo, tables, &mut first_parents, branch, merged)?;
         parents.push(name)?;
     }
     Ok(parents)

@@ -2,7 +2,6 @@
 //! An import that is accepted leaves the replayed history, and one that is refused leaves what its last checkpoint published.
 #![tactic(auto)]
 
-mod ancestors;
 mod at_hand;
 mod blob;
 mod branches;

@@ -14,7 +14,6 @@ ghost use Rattle.gx_import.specs.Standing.{StandsForSome};
 ghost use Rattle.gx_model.specs.declared.faults.Fault.TheVariants.{OutOfMemory};
 
 use crate::ImportKind;
-use crate::ancestors::is_ancestor;
 use crate::branches::Tip;
 use crate::new_names::new_names;
 use crate::table::Table;
@@ -22,7 +21,7 @@ use crate::tables::Tables;
 use gx_model::repository_laws::histories_of_records;
 use gx_object::{Name, Namer};
 use gx_repo::{PublishFault, RefChange, Repo};
-use gx_rev::Parents;
+use gx_rev::{Parents, is_ancestor};
 use std::alloc::{AllocError, Allocator};
 
 /// Publishes the branches with a commit, and then the tags, and enters their names among those that were published, which

@@ -13,3 +13,6 @@ pub mod Prefixes
 pub mod RefTips
 pub mod Tips
 pub mod ParentPlaces
+pub mod PlaceLists
+pub mod MeetingWalks
+pub mod FirstParentWalks

@@ -20,8 +20,6 @@ use Rattle.gx_model.proofs.PathTests.{both, first, is_true, left_or, one_of, rig
 use Rattle.gx_model.proofs.ReachedCommits.{closed, itself}
 use Rattle.gx_model.proofs.Standing.{parent_before, same_place}
 use Rattle.gx_rev.specs.Tips.{AddsTips, AreTips}
-use Rattle.gx_rev.specs.Walking.{HaveBoth}
-use Rattle.gx_rev.proofs.WordMarks.{marks_both}
 
 -- ---- what is reached
 
@@ -77,7 +75,7 @@ pub both_more : (r : Records) (P Q : Commit → Bool) (old marks new : List Bool
 both_more r P Q old marks new f g test a = same_tips r (λ c. (test c || P c) || Q c) (λ c. test c || (P c || Q c)) new (λ c. or_assoc (test c) (P c) (Q c)) (g (λ c. test c || P c) (f test a))
 
 -- marks of some commits more, each at a place, that reach the commits that pass
-marks_more : (r : Records) (Among : Commit → Type 0) (Q : Commit → Bool) (old new : List Bool) → length new ≡ length old → Marks r Among old new
+pub marks_more : (r : Records) (Among : Commit → Type 0) (Q : Commit → Bool) (old new : List Bool) → length new ≡ length old → Marks r Among old new
     → ((s d : Commit) → Among s → T (reaches s d) → T (Q d)) → ((d : Commit) → T (Q d) → (s : Commit) × ((i : ℕ) × IsAt r i s) × Among s × T (reaches s d)) → AddsTips r Q old new
 marks_more r Among Q old new l m into from test a = record {
   long = l ∙ a.long;
@@ -93,35 +91,6 @@ marks_more r Among Q old new l m into from test a = record {
 -- one commit more
 pub commit_more : (r : Records) (c : Commit) (i : ℕ) (old new : List Bool) → IsAt r i c → length new ≡ length old → Marks r (λ d. d ≡ c) old new → AddsTips r (reaches c) old new
 commit_more r c i old new e l m = marks_more r (λ d. d ≡ c) (reaches c) old new l m (λ s d f k. subst (λ u. T (reaches u d)) f k) (λ d k. (c, (i, e), refl, k))
-
--- ---- marks that are joined
-
-marked_there : (vs : List Value) (Q : Commit → Bool) (i : ℕ) → IsMarked (marks_of Q vs) i → (c : Commit) × T (Q c) × (slice_get vs i ≡ Some (commit_value c))
-marked_there [] Q i h = absurd cc
-marked_there (blob_value x ∷ vs) Q zero h = absurd cc
-marked_there (tree_value f ∷ vs) Q zero h = absurd cc
-marked_there (tag_value t ∷ vs) Q zero h = absurd cc
-marked_there (commit_value c ∷ vs) Q zero h = (c, passes _ h, refl)
-marked_there (v ∷ vs) Q (suc i) h = marked_there vs Q i h
-
-or_true : (a b : Bool) → b ≡ true → (a || b) ≡ true
-or_true true b h = refl
-or_true false b h = h
-
-marks_joined : (r : Records) (P Q : Commit → Bool) (old new : List Bool) → HaveBoth new old (marks_of P (values_of r)) (marks_of Q (values_of r)) → Marks r (λ c. T (P c && Q c)) old new
-marks_joined r P Q old new h = record {
-  keeps = λ i k. has i ∙ ap (λ b. b || slice_index_or both_marked i false) k;
-  only = λ i k. one_of (slice_index_or old i false) (slice_index_or both_marked i false) (passes _ (sym (has i) ∙ k))
-      (λ l. inl (is_true _ l))
-      (λ l. inr (marked_there (values_of r) (λ c. P c && Q c) i (is_true _ l)));
-  all = λ c q i k. has i ∙ or_true (slice_index_or old i false) (slice_index_or both_marked i false) (mark_tells (values_of r) (λ c. P c && Q c) i (commit_value c) false k ∙ is_true _ q);
-}
-  where
-    both_marked : List Bool
-    both_marked = marks_of (λ c. P c && Q c) (values_of r)
-
-    has : (i : ℕ) → slice_index_or new i false ≡ (slice_index_or old i false || slice_index_or both_marked i false)
-    has i = h i ∙ ap (λ b. slice_index_or old i false || b) (sym (marks_both (values_of r) P Q i))
 
 -- what is marked is what the tips reach, so far: marked commits from a place on have their parents marked
 pub record AreSpread (r : Records) (tips marks : List Bool) (left : ℕ) : Type 0 where
@@ -145,17 +114,6 @@ module _ (name : Kind → List ℕ → List ℕ) (namer : IsNamer name) (r : Rec
   parents_more c i old new e l m =
       marks_more r (λ p. IsParent p (parents_of c)) (some_reaches (parents_of c)) old new l m (λ s d p k. reached_through (parents_of c) s d p k)
       (λ d k. let f = reached_from (parents_of c) d k in let w = parent_before name namer r sound c f.0 i e f.1 in (f.0, (w.0, w.2), f.1, f.2))
-
-  -- what a commit reaches stands at a place
-  reached_place : (c d : Commit) (i : ℕ) → IsAt r i c → T (reaches c d) → (j : ℕ) × IsAt r j d
-  reached_place c d i e h = least (λ b. (j : ℕ) × IsAt r j b) (λ b p q k. let w = parent_before name namer r sound b p q.0 q.1 k in (w.0, w.2)) c d (i, e) h
-
-  -- what both of two commits reach
-  pub common_more : (a b : Commit) (i : ℕ) (old new : List Bool) → IsAt r i a → length new ≡ length old → HaveBoth new old (marks_of (reaches a) (values_of r)) (marks_of (reaches b) (values_of r)) → AddsTips r (λ c. reaches a c && reaches b c) old new
-  common_more a b i old new e l h =
-      marks_more r (λ c. T (reaches a c && reaches b c)) (λ c. reaches a c && reaches b c) old new l (marks_joined r (reaches a) (reaches b) old new h)
-      (λ s d q k. both (reaches a d) (reaches b d) (reaches_on a s d (first (reaches a s) (reaches b s) q) k) (reaches_on b s d (second (reaches a s) (reaches b s) q) k))
-      (λ d k. (d, reached_place a d i e (first (reaches a d) (reaches b d) k), k, itself d))
 
   -- ---- one pass
 

@@ -13,12 +13,6 @@ use Rattle.gx_model.specs.Revisions.Ranges.{commit_of}
 use Rattle.gx_model.specs.Histories.Marks.{holds, marks_of}
 use Rattle.gx_rev.specs.Walking.{AreWithout, names_back}
 
-holds_both : (P Q : Commit → Bool) (v : Value) → (holds P v && holds Q v) ≡ holds (λ c. P c && Q c) v
-holds_both P Q (blob_value x) = refl
-holds_both P Q (tree_value f) = refl
-holds_both P Q (commit_value c) = refl
-holds_both P Q (tag_value t) = refl
-
 holds_without : (P Q : Commit → Bool) (v : Value) → (holds P v && not (holds Q v)) ≡ holds (λ c. P c && not (Q c)) v
 holds_without P Q (blob_value x) = refl
 holds_without P Q (tree_value f) = refl
@@ -34,13 +28,6 @@ marks_without [] P Q zero = refl
 marks_without [] P Q (suc i) = refl
 marks_without (v ∷ vs) P Q zero = sym (holds_without P Q v)
 marks_without (v ∷ vs) P Q (suc i) = marks_without vs P Q i
-
-pub marks_both : (vs : List Value) (P Q : Commit → Bool) (i : ℕ)
-    → slice_index_or (marks_of (λ c. P c && Q c) vs) i false ≡ (slice_index_or (marks_of P vs) i false && slice_index_or (marks_of Q vs) i false)
-marks_both [] P Q zero = refl
-marks_both [] P Q (suc i) = refl
-marks_both (v ∷ vs) P Q zero = sym (holds_both P Q v)
-marks_both (v ∷ vs) P Q (suc i) = marks_both vs P Q i
 
 -- ---- what is listed
 

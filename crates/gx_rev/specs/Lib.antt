@@ -10,3 +10,6 @@ pub mod Answers
 pub mod Tips
 pub mod Walking
 pub mod Calls
+pub mod Ancestors
+pub mod Meetings
+pub mod FirstParents

@@ -29,11 +29,6 @@ MarksWord name repository asked old new (Ok _) = (word : Word) × (word_denoted 
     × AddsTips repository (span word).included old.0 new.0 × AddsTips repository (span word).excluded old.1 new.1
 MarksWord name repository asked old new (Err e) = IsFaultOf (fault_of e) (word_denoted name (history_of repository) asked)
 
--- besides those that were, each place is marked that both the one list and the other mark
-abbrev pub HaveBoth : List Bool → List Bool → List Bool → List Bool → Type 0
-HaveBoth new marks left right =
-    (place : ℕ) → slice_index_or new place false ≡ (slice_index_or marks place false || (slice_index_or left place false && slice_index_or right place false))
-
 -- the places that the one list marks and the other doesn't
 abbrev pub AreWithout : List Bool → List Bool → List Bool → Type 0
 AreWithout new marks others = (place : ℕ) → slice_index_or new place false ≡ (slice_index_or marks place false && not (slice_index_or others place false))

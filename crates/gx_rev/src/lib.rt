@@ -2,8 +2,11 @@
 //! What is answered is what a definition over the repository's history gives.
 #![tactic(auto)]
 
+mod ancestors;
 mod base;
 mod fault;
+mod first_parents;
+mod meetings;
 mod objects;
 mod parents;
 mod places;
@@ -15,7 +18,9 @@ mod shown;
 mod suffix;
 mod walking;
 
+pub use ancestors::is_ancestor;
 pub use fault::{RevFault, WalkFault};
+pub use first_parents::FirstParents;
 pub use objects::{body_at, body_of, entries_of, tag_of, view_of};
 pub use parents::Parents;
 pub use range::Range;

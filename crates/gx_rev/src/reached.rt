@@ -51,40 +51,6 @@ pub(crate) fn reached<N: Namer, A: Allocator + Copy>(
     Ok(marks)
 }
 
-/// The same, where each commit is decoded once for all walks with the same `parents`.
-pub(crate) fn reached_by<N: Namer, A: Allocator + Copy>(
-    alloc: A,
-    repo: &Repo<N, A>,
-    parents: &mut Parents<A>,
-    from: &Name,
-) -> Result<Vec<bool, A>, AllocError>
-    requires held { IsHeldAs kinds.Commit repo.now.1 from.now }
-    requires holds { HoldsParents repo.now.1 parents.old }
-    ensures holds { HoldsParents repo.now.1 parents.new }
-    ensures marks { IfOk result (λ marks. marks.items ≡ marks_from repo.now.1 from.now) }
-{
-    let mut marks = unmarked(alloc, repo)?;
-    mark_reached_by(repo, parents, &mut marks, from)?;
-    Ok(marks)
-}
-
-fn mark_reached_by<N: Namer, A: Allocator + Copy>(
-    repo: &Repo<N, A>,
-    parents: &mut Parents<A>,
-    marks: &mut [bool],
-    from: &Name,
-) -> Result<(), AllocError>
-    requires held { IsHeldAs kinds.Commit repo.now.1 from.now }
-    requires none { AreTips repo.now.1 nothing marks.old }
-    requires holds { HoldsParents repo.now.1 parents.old }
-    ensures holds { HoldsParents repo.now.1 parents.new }
-    ensures marks { OnOk result (marks.new ≡ marks_from repo.now.1 from.now) }
-{
-    mark(repo, marks, from);
-    spread_by(repo, parents, marks)?;
-    Ok(())
-}
-
 /// No marks.
 pub(crate) fn unmarked<N: Namer, A: Allocator + Copy>(
     alloc: A,

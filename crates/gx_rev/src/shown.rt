@@ -7,6 +7,7 @@ ghost use Rattle.gx_model.specs.Revisions.Denotation.{file_shown};
 ghost use Rattle.gx_model.specs.Records.HistoryOf.{bytes_of_blob};
 ghost use Rattle.gx_rev.specs.Answers.{AnswersTell, IsNamed, file_of, shown_as};
 ghost use Rattle.gx_rev.specs.Calls.{Denotes, DenotesParts, GivesBodyOf, GivesCommitOf, GivesObjectOf, GivesTreeOf, ReadsFile, ShowsPathOf, file_in};
+ghost use Rattle.gx_rev.specs.FirstParents.{AreFirstParents};
 ghost use Rattle.gx_rev.specs.Objects.{IsHeld, IsHeldAs, files_at, value_at};
 ghost use Rattle.gx_rev.specs.RevFaults.{FaultsComeFirst, NeedsNoMemory};
 ghost use Rattle.gx_rev.specs.Views.{borrowed};
@@ -14,8 +15,8 @@ ghost use Rattle.gx_rev.specs.Views.{borrowed};
 use crate::base::eval_base;
 use crate::objects::{body_of, commit_of, kind_of, tree_of, view_of};
 use crate::places::walk_down;
-use crate::suffix::{Suffix, eval_all};
-use crate::{RevFault, Revision};
+use crate::suffix::{Suffix, eval_all, eval_all_with};
+use crate::{FirstParents, RevFault, Revision};
 use gx_object::{CommitView, Kind, Mode, Name, Namer};
 use gx_repo::Repo;
 use gx_text::TreePath;
@@ -42,6 +43,29 @@ impl<A: Allocator + Copy> Revision<A> {
     {
         eval_parts(repo, &self.base, &self.suffixes, self.path.as_ref())
     }
+
+    /// Does what `eval` does, where many revisions share walks along first parents: `r~1`, `r~2` and so on, in any order.
+    ///
+    /// OutOfMemory besides. Cost: that of `eval`; but `r~n` costs no step that the last such walk from the same commit took.
+    /// Takes memory for the name of each commit of that walk.
+    pub fn eval_with<N: Namer>(
+        &self,
+        repo: &Repo<N, A>,
+        first_parents: &mut FirstParents<A>,
+    ) -> Result<Shown, RevFault>
+        requires walk { AreFirstParents repo.now.1 first_parents.old }
+        ensures walk { AreFirstParents repo.now.1 first_parents.new }
+        ensures shown { Denotes N.name_of repo.now self.now result }
+        ensures named { IfOk result (IsNamed (N.name_of repo.now.0) repo.now.1) }
+    {
+        eval_parts_with(
+            repo,
+            first_parents,
+            &self.base,
+            &self.suffixes,
+            self.path.as_ref(),
+        )
+    }
 }
 
 /// What a base, suffixes and a path show, from left to right.
@@ -58,6 +82,25 @@ fn eval_parts<N: Namer, A: Allocator + Copy>(
 {
     let base = eval_base(repo, base)?;
     let object = eval_all(repo, &base, suffixes)?;
+    show(repo, &object, path)
+}
+
+/// The same, where walks along first parents are shared.
+#[tactic(auto, unfolding(gx_model::specs::Revisions::Denotation::denoted))]
+fn eval_parts_with<N: Namer, A: Allocator + Copy>(
+    repo: &Repo<N, A>,
+    first_parents: &mut FirstParents<A>,
+    base: &[u8],
+    suffixes: &[Suffix],
+    path: Option<&TreePath<A>>,
+) -> Result<Shown, RevFault>
+    requires walk { AreFirstParents repo.now.1 first_parents.old }
+    ensures walk { AreFirstParents repo.now.1 first_parents.new }
+    ensures shown { DenotesParts N.name_of repo.now base.now suffixes.now path.entry result }
+    ensures named { IfOk result (IsNamed (N.name_of repo.now.0) repo.now.1) }
+{
+    let base = eval_base(repo, base)?;
+    let object = eval_all_with(repo, first_parents, &base, suffixes)?;
     show(repo, &object, path)
 }
 

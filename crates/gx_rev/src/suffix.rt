@@ -9,12 +9,13 @@ ghost use Rattle.gx_model.specs.Revisions as model;
 ghost use Rattle.gx_model.specs.Revisions.{braced_suffixes, number_or_one, suffix_of};
 ghost use Rattle.gx_model.specs.Revisions.Denotation.{peel};
 ghost use Rattle.gx_rev.specs.Calls.{GivesAllSuffixed, GivesOnly, GivesSuffixed};
+ghost use Rattle.gx_rev.specs.FirstParents.{AreFirstParents};
 ghost use Rattle.gx_rev.specs.Objects.{IsHeld, value_at};
 ghost use Rattle.gx_rev.specs.RevFaults.{NeedsNoMemory, fault_of};
 ghost use Rattle.gx_rev.specs.Views.{shown_suffix};
 
-use crate::RevFault;
 use crate::objects::{ancestor_of, commit_of, kind_of, parent_of, tree_of};
+use crate::{FirstParents, RevFault};
 use gx_object::{Kind, Name, Namer};
 use gx_repo::Repo;
 use gx_text::decimal;
@@ -83,6 +84,27 @@ impl Suffix {
     }
 }
 
+impl Suffix {
+    /// Does what `eval` does, where walks along first parents are shared.
+    pub(crate) fn eval_with<N: Namer, A: Allocator + Copy>(
+        self,
+        repo: &Repo<N, A>,
+        first_parents: &mut FirstParents<A>,
+        name: &Name,
+    ) -> Result<Name, RevFault>
+        requires held { IsHeld repo.now.1 name.now }
+        requires walk { AreFirstParents repo.now.1 first_parents.old }
+        ensures walk { AreFirstParents repo.now.1 first_parents.new }
+        ensures value { GivesSuffixed repo.now.1 name.now (shown_suffix self) result }
+        ensures held { IfOk result (IsHeld repo.now.1) }
+    {
+        match self {
+            Suffix::Ancestor(number) => ancestor_with(repo, first_parents, name, number),
+            _ => self.eval(repo, name),
+        }
+    }
+}
+
 /// What suffixes give of a held object, from left to right.
 pub(crate) fn eval_all<N: Namer, A: Allocator + Copy>(
     repo: &Repo<N, A>,
@@ -97,6 +119,26 @@ pub(crate) fn eval_all<N: Namer, A: Allocator + Copy>(
     let mut object = *name;
     for suffix in suffixes {
         object = suffix.eval(repo, &object)?;
+    }
+    Ok(object)
+}
+
+/// Does what `eval_all` does, where walks along first parents are shared.
+pub(crate) fn eval_all_with<N: Namer, A: Allocator + Copy>(
+    repo: &Repo<N, A>,
+    first_parents: &mut FirstParents<A>,
+    name: &Name,
+    suffixes: &[Suffix],
+) -> Result<Name, RevFault>
+    requires held { IsHeld repo.now.1 name.now }
+    requires walk { AreFirstParents repo.now.1 first_parents.old }
+    ensures walk { AreFirstParents repo.now.1 first_parents.new }
+    ensures value { GivesAllSuffixed repo.now.1 name.now suffixes.now result }
+    ensures held { IfOk result (IsHeld repo.now.1) }
+{
+    let mut object = *name;
+    for suffix in suffixes {
+        object = suffix.eval_with(repo, first_parents, &object)?;
     }
     Ok(object)
 }
@@ -130,6 +172,24 @@ fn ancestor<N: Namer, A: Allocator + Copy>(
     repo.sound();
     let commit = commit_of(repo, name)?;
     let ancestor = ancestor_of(repo, &commit, number)?;
+    Ok(ancestor)
+}
+
+fn ancestor_with<N: Namer, A: Allocator + Copy>(
+    repo: &Repo<N, A>,
+    first_parents: &mut FirstParents<A>,
+    name: &Name,
+    number: u64,
+) -> Result<Name, RevFault>
+    requires held { IsHeld repo.now.1 name.now }
+    requires walk { AreFirstParents repo.now.1 first_parents.old }
+    ensures walk { AreFirstParents repo.now.1 first_parents.new }
+    ensures value { GivesSuffixed repo.now.1 name.now (model.ancestor number) result }
+    ensures held { IfOk result (IsHeld repo.now.1) }
+{
+    repo.sound();
+    let commit = commit_of(repo, name)?;
+    let ancestor = first_parents.ancestor(repo, &commit, number)?;
     Ok(ancestor)
 }
 

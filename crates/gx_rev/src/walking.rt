@@ -11,11 +11,12 @@ ghost use Rattle.gx_rev.specs.Objects.{IsHeldAs};
 ghost use Rattle.gx_rev.specs.Parents.{HoldsParents};
 ghost use Rattle.gx_rev.specs.RevFaults.{NeedsNoMemory};
 ghost use Rattle.gx_rev.specs.Views.{shown_range};
-ghost use Rattle.gx_rev.specs.Tips.{AddsCommon, AreTips, HasTips};
-ghost use Rattle.gx_rev.specs.Walking.{AreListed, HaveBoth, MarksOfWords, MarksWords, TipsOfWords, refused_at};
+ghost use Rattle.gx_rev.specs.Tips.{AreTips, HasTips};
+ghost use Rattle.gx_rev.specs.Walking.{AreListed, MarksOfWords, MarksWords, TipsOfWords, refused_at};
 
+use crate::meetings::mark_common;
 use crate::objects::parent_of;
-use crate::reached::{mark, mark_parents, name_at, reached_by, spread_by, unmarked};
+use crate::reached::{mark, mark_parents, name_at, spread_by, unmarked};
 use crate::shown::eval_commit;
 use crate::{Parents, Range, RevFault, Revision, WalkFault};
 use gx_object::{Name, Namer};
@@ -26,9 +27,9 @@ use std::alloc::{AllocError, Allocator};
 ///
 /// The first word that is refused is answered with its number and the fault of its revisions, or NoParent of `r^-n`.
 /// Cost: for each word what its revisions cost. All words share one pass over the records for what they include and one for
-/// what they exclude, and each `a...b` takes two of its own. Each commit that is reached is decoded once, and its parents are
-/// looked up then. Takes a byte for each record and each of up to four sets, two numbers for each record, and one for each
-/// parent.
+/// what they exclude; for `a...b` two walks go down from `a` and `b` until they meet. Each commit that is reached is decoded
+/// once, and its parents are looked up then. Takes a byte for each record and each of two sets, two numbers for each record,
+/// one for each parent, and the places that the two walks have before them.
 /// Source: gitrevisions(7), "Specifying Ranges".
 pub fn walk<N: Namer, A: Allocator + Copy>(
     alloc: A,
@@ -275,7 +276,7 @@ fn mark_without_one<N: Namer, A: Allocator + Copy>(
     Ok(())
 }
 
-/// Marks the tips of `a...b`, and all that both reach, which takes passes of its own.
+/// Marks the tips of `a...b`, and those of what both reach, which takes two walks.
 fn mark_apart<N: Namer, A: Allocator + Copy>(
     alloc: A,
     repo: &Repo<N, A>,
@@ -298,42 +299,6 @@ fn mark_apart<N: Namer, A: Allocator + Copy>(
     mark(repo, included, &left);
     mark(repo, included, &right);
     Ok(())
-}
-
-/// Marks what both of two held commits reach.
-fn mark_common<N: Namer, A: Allocator + Copy>(
-    alloc: A,
-    repo: &Repo<N, A>,
-    parents: &mut Parents<A>,
-    left: &Name,
-    right: &Name,
-    marks: &mut [bool],
-) -> Result<(), AllocError>
-    requires left { IsHeldAs kinds.Commit repo.now.1 left.now }
-    requires right { IsHeldAs kinds.Commit repo.now.1 right.now }
-    requires long { length marks.old ≡ length (values_of repo.now.1) }
-    requires holds { HoldsParents repo.now.1 parents.old }
-    ensures holds { HoldsParents repo.now.1 parents.new }
-    ensures marks { OnOk result (AddsCommon repo.now.1 left.now right.now marks.old marks.new) }
-{
-    repo.sound();
-    let from_left = reached_by(alloc, repo, parents, left)?;
-    let from_right = reached_by(alloc, repo, parents, right)?;
-    mark_both(marks, &from_left, &from_right);
-    Ok(())
-}
-
-/// Marks what both of these mark.
-fn mark_both(marks: &mut [bool], left: &[bool], right: &[bool])
-    requires left { length marks.old ≡ length left.now }
-    requires right { length marks.old ≡ length right.now }
-    ensures { HaveBoth marks.new marks.old left.now right.now }
-{
-    for place in 0..marks.len() {
-        if left[place] && right[place] {
-            marks[place] = true;
-        }
-    }
 }
 
 /// The names of the commits that the included tips reach and the excluded ones don't, the last one first.

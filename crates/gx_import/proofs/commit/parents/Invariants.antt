@@ -2,6 +2,7 @@ use Rattle.std.proofs.Common.{Option, map, drop}
 use Rattle.gx_model.specs.Replay.{State}
 use Rattle.gx_model.specs.Histories.Values as values
 use Rattle.gx_command.specs.Views.{shown_commit_ish}
+use Rattle.gx_rev.specs.FirstParents.{AreFirstParents}
 use Rattle.gx_import.specs.Objects.{IsCommitOf}
 use Rattle.gx_import.specs.Rows.{AreBoth}
 use Rattle.gx_import.specs.Standing.{Stands}
@@ -9,6 +10,8 @@ use Rattle.gx_import.proofs.MergedParents.{ArePartOf}
 use Rattle.gx_import.proofs.commit.parents.Given as goal
 
 abbrev pub invariant-loop-merged : goal.invariant-loop-merged
-invariant-loop-merged g l =
-    (s : State) (made : Option values.Commit) → Stands (g.N.Namer.name_of l.repo.0) l.repo.1 l.tables s → AreBoth (IsCommitOf (g.N.Namer.name_of l.repo.0) s.history.values) made l.fn.first
-    → ArePartOf (g.N.Namer.name_of l.repo.0) l.commit.branch.bytes.items s made (map shown_commit_ish l.commit.merges.items) (map shown_commit_ish (drop l.merged-index l.commit.merges.items)) l.parents.items
+invariant-loop-merged g l = record {
+  walk : AreFirstParents l.repo.1 l.first_parents;
+  named : (s : State) (made : Option values.Commit) → Stands (g.N.Namer.name_of l.repo.0) l.repo.1 l.tables s → AreBoth (IsCommitOf (g.N.Namer.name_of l.repo.0) s.history.values) made l.fn.first
+      → ArePartOf (g.N.Namer.name_of l.repo.0) l.commit.branch.bytes.items s made (map shown_commit_ish l.commit.merges.items) (map shown_commit_ish (drop l.merged-index l.commit.merges.items)) l.parents.items;
+}

@@ -5,8 +5,8 @@ use Rattle.gx_model.specs.Records.HistoryOf.{history_of}
 use Rattle.gx_model.proofs.HeldValues.{held_is}
 use Rattle.gx_import.proofs.commit_ish.revision_object.Goals as goal
 
-pub returns-in-Object : goal.returns-in-Object
-returns-in-Object g c =
+pub returns-in-Object-clause-shows : goal.returns-in-Object-clause-shows
+returns-in-Object-clause-shows g c =
     let name = g.N.Namer.name_of c.args.repo.now.0 in
     let r = c.args.repo.now.1 in
     let shown = rw c.in-Object.is at c.in_ok-kind.ensures.shown in

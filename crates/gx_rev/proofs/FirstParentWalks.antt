@@ -1,6 +1,7 @@
 -- Walks along first parents: how far up each commit of one is.
-use Rattle.std.proofs.Common.{◌≡◌, ℕ, zero, suc, ◌+◌, ◌-◌, ◌<◌, ◌≤◌, refl, sym, ap, subst, ◌∙◌, arith, List, [], ◌∷◌, ◌++◌, length, Some, ◌⊎◌, inl, inr, Ok, Err}
+use Rattle.std.proofs.Common.{◌≡◌, ℕ, zero, suc, ◌+◌, ◌-◌, ◌<◌, refl, sym, ap, subst, ◌∙◌, arith, List, [], ◌∷◌, ◌++◌, length, Some, ◌⊎◌, inl, inr, Ok, Err}
 use Rattle.std.specs.List.{slice_get}
+use Rattle.std.specs.Prelude.{slice_index_or}
 use Rattle.gx_model.specs.declared.objects.Kind.TheVariants as kinds
 use Rattle.gx_model.specs.Faults.{and_then}
 use Rattle.gx_model.specs.Histories.Values.{Commit}
@@ -72,3 +73,18 @@ walk_more r names first last parent n e f long held is walk other called place g
     )
   ]
 ]
+
+-- ---- places in lists
+
+pub got_at : {X : Type 0} (xs : List X) (i : ℕ) (x : X) → i < length xs → x ≡ slice_index_or xs i x → slice_get xs i ≡ Some x
+got_at [] i x l e = absurd (omega (arith, l))
+got_at (y ∷ ys) zero x l e = ap Some (sym e)
+got_at (y ∷ ys) (suc i) x l e = got_at ys i x (omega (arith, l)) e
+
+pub not_empty : {X : Type 0} (xs : List X) (x : X) → slice_get xs 0 ≡ Some x → 0 < length xs
+not_empty [] x e = absurd cc
+not_empty (y ∷ ys) x e = omega arith
+
+pub front_stays : {X : Type 0} (xs : List X) (x y : X) → slice_get xs 0 ≡ Some x → slice_get (xs ++ y ∷ []) 0 ≡ Some x
+front_stays [] x y e = absurd cc
+front_stays (z ∷ zs) x y e = e

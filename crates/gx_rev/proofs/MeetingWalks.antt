@@ -1,13 +1,12 @@
 -- Two walks that meet: how they begin, each of their steps, and what is marked once one of them has come to its end.
-use Rattle.std.proofs.Common.{◌≡◌, ◌≢◌, ℕ, suc, ◌+◌, ◌<◌, ◌≤◌, Bool, true, false, refl, sym, ap, subst, ◌∙◌, arith, List, [], ◌∷◌, ◌++◌, length, length-set, set, Some, ◌⊎◌, inl, inr}
-use Rattle.std.specs.Prelude.{T, IsTrue, ◌&&◌, ◌||◌}
+use Rattle.std.proofs.Common.{◌≡◌, ℕ, suc, ◌<◌, Bool, true, false, refl, sym, ap, subst, ◌∙◌, arith, List, [], ◌∷◌, ◌++◌, length, length-set, set, Some, ◌⊎◌, inl, inr}
+use Rattle.std.specs.Prelude.{T, IsTrue, OnOk, Result, Ok, Err, ◌&&◌, ◌||◌}
 use Rattle.std.specs.Bool.{passes}
-use Rattle.std.specs.List.{AllByRecursion, slice_get}
+use Rattle.std.specs.List.{AllByRecursion}
 use Rattle.std.specs.Ordering.{nat_cmp, match_ordering}
 use Rattle.std.specs.declared.cmp.Ordering.TheVariants.{Less, Equal, Greater}
 use Rattle.std.specs.BTreeSet.{insert_key}
 use Rattle.std.specs.BTreeMap.Range.{IsLtBy}
-use Rattle.std.proofs.Math.Dec.{eqb}
 use Rattle.std.proofs.lemmas.Bool.Decides.{eqb_tells}
 use Rattle.gx_model.specs.declared.objects.Kind.{Kind}
 use Rattle.gx_model.specs.Histories.Values.{Commit, commit_value, parents_of}
@@ -17,7 +16,7 @@ use Rattle.gx_model.specs.Histories.Marks.{IsAt, IsMarked}
 use Rattle.gx_model.specs.Laws.RepositoryLaws.{values_of}
 use Rattle.gx_model.specs.Revisions.Ranges.{reaches, some_reaches}
 use Rattle.gx_model.specs.Records.Sound.{IsSound}
-use Rattle.gx_model.proofs.PathTests.{both, first, is_true, second}
+use Rattle.gx_model.proofs.PathTests.{both, is_true}
 use Rattle.gx_model.proofs.ReachedCommits.{itself}
 use Rattle.gx_model.proofs.Standing.{at_within, same_place}
 use Rattle.gx_rev.specs.Ancestors.{AddsParents, AddsParentsAt, IsCommitBefore, ReachesFrom, SomeReaches, behind_last}
@@ -248,3 +247,7 @@ all_met name namer r sound a b old marks xs ys (inr e) m =
 
     same_more : (r : Records) (P Q : Commit → Bool) (old marks : List Bool) → ((c : Commit) → P c ≡ Q c) → AddsTips r P old marks → AddsTips r Q old marks
     same_more r P Q old marks h f test t = same_tips r (λ c. test c || P c) (λ c. test c || Q c) marks (λ c. ap (λ x. test c || x) (h c)) (f test t)
+
+pub on_ok : {A E X Y : Type 0} (result : Result A E) → (X → Y) → OnOk result X → OnOk result Y
+on_ok (Ok x) f h = f h
+on_ok (Err e) f h = tt

@@ -1,5 +1,5 @@
 -- Lists of places in order: what the commits at them reach, and a walk that goes down by them.
-use Rattle.std.proofs.Common.{◌≡◌, ◌≢◌, ℕ, zero, suc, ◌+◌, ◌<◌, ◌≤◌, Bool, true, false, refl, sym, ap, subst, ◌∙◌, arith, List, [], ◌∷◌, ◌++◌, get_or, length, Some, None, ◌⊎◌, inl, inr}
+use Rattle.std.proofs.Common.{◌≡◌, ◌≢◌, ℕ, zero, suc, ◌+◌, ◌<◌, ◌≤◌, Bool, true, false, refl, sym, ap, subst, ◌∙◌, arith, List, [], ◌∷◌, ◌++◌, length, Some, None, ◌⊎◌, inl, inr}
 use Rattle.std.specs.Prelude.{T, IsTrue, ◌↔◌, ◌==◌, Result, Ok, Err, IfOk}
 use Rattle.std.specs.Bool.{passes}
 use Rattle.std.specs.List.{AllByRecursion, slice_get}
@@ -7,7 +7,6 @@ use Rattle.std.specs.Ordering.{nat_cmp, match_ordering}
 use Rattle.std.specs.declared.cmp.Ordering.TheVariants.{Less, Equal, Greater}
 use Rattle.std.specs.BTreeSet.{insert_key}
 use Rattle.std.specs.BTreeMap.Range.{IsLtBy}
-use Rattle.std.proofs.lemmas.List.{length-map}
 use Rattle.std.proofs.Math.Dec.{eqb}
 use Rattle.std.proofs.lemmas.Bool.Decides.{Decides-eqb, eqb_tells, nat_tests}
 use Rattle.gx_model.specs.declared.objects.Kind.{Kind}
@@ -16,7 +15,6 @@ use Rattle.gx_model.specs.Objects.{IsNamer}
 use Rattle.gx_model.specs.Histories.{Records}
 use Rattle.gx_model.specs.Laws.HistoryLaws.{IsParent}
 use Rattle.gx_model.specs.Histories.Marks.{IsAt}
-use Rattle.gx_model.specs.Laws.RepositoryLaws.{values_of}
 use Rattle.gx_model.specs.Revisions.Ranges.{reaches, some_reaches}
 use Rattle.gx_model.specs.Records.Sound.{AnyByRecursion, IsSound}
 use Rattle.gx_model.proofs.Marking.{IsBefore, least}
@@ -24,7 +22,7 @@ use Rattle.gx_model.proofs.PathTests.{is_true, left_or, one_of, right_or}
 use Rattle.gx_model.proofs.ReachedCommits.{itself}
 use Rattle.gx_model.proofs.SameValues.{commit_is}
 use Rattle.gx_model.proofs.Standing.{parent_before, same_place}
-use Rattle.gx_rev.specs.Parents.{IsCommitPlace, StandAt}
+use Rattle.gx_rev.specs.Parents.{IsCommitPlace}
 use Rattle.gx_rev.specs.Ancestors.{AddsParents, IsCommitBefore, ReachesFrom, SomeReaches, TellsReached, behind_last}
 
 -- ---- a place more, and the last one

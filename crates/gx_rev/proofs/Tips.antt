@@ -1,7 +1,7 @@
 -- Tips that are added, and tips that are spread by one pass over the values from the last to the first.
 use Rattle.std.proofs.Common.{◌≡◌, ◌≢◌, ℕ, zero, suc, ◌+◌, ◌<◌, ◌≤◌, Bool, true, false, refl, sym, ap, subst, ◌∙◌, arith, List, [], ◌∷◌, length, replicate, Some, ◌⊎◌, inl, inr}
 use Rattle.std.proofs.lemmas.List.{length-replicate}
-use Rattle.std.specs.Prelude.{T, ◌||◌, ◌&&◌, slice_index_or}
+use Rattle.std.specs.Prelude.{T, ◌||◌, slice_index_or}
 use Rattle.std.specs.Bool.{passes}
 use Rattle.std.specs.List.{slice_get}
 use Rattle.std.proofs.Math.Dec.{eqb}
@@ -15,8 +15,8 @@ use Rattle.gx_model.specs.Histories.Marks.{IsAt, IsMarked, Marks, holds, marks_o
 use Rattle.gx_model.specs.Revisions.Ranges.{nothing, reaches, some_reaches}
 use Rattle.gx_model.specs.Laws.RepositoryLaws.{values_of}
 use Rattle.gx_model.specs.Records.Sound.{IsSound}
-use Rattle.gx_model.proofs.Marking.{least, mark_tells, marks_are}
-use Rattle.gx_model.proofs.PathTests.{both, first, is_true, left_or, one_of, right_or, second}
+use Rattle.gx_model.proofs.Marking.{least, marks_are}
+use Rattle.gx_model.proofs.PathTests.{is_true, left_or, one_of, right_or}
 use Rattle.gx_model.proofs.ReachedCommits.{closed, itself}
 use Rattle.gx_model.proofs.Standing.{parent_before, same_place}
 use Rattle.gx_rev.specs.Tips.{AddsTips, AreTips}

@@ -39,10 +39,12 @@ pub(crate) fn mark_common<N: Namer, A: Allocator + Copy>(
     ensures marks { OnOk result (AddsCommon repo.now.1 left.now right.now marks.old marks.new) }
 {
     repo.sound();
+    let left = place_of(repo, left);
+    let right = place_of(repo, right);
     let mut lefts = BTreeSet::new(alloc);
-    lefts.insert(place_of(repo, left))?;
+    lefts.insert(left)?;
     let mut rights = BTreeSet::new(alloc);
-    rights.insert(place_of(repo, right))?;
+    rights.insert(right)?;
     mark_meetings(repo, parents, &mut lefts, &mut rights, marks)
 }
 

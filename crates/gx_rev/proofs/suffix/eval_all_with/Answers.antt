@@ -8,6 +8,7 @@ use Rattle.gx_rev.proofs.suffix.eval_all_with.Goals as goal
 pub loop-suffix-preserved : goal.loop-suffix-preserved
 loop-suffix-preserved g c = record {
   held = c.in_ok-object.ensures.held;
+  walk = c.in_ok-object.ensures.walk;
   same = next_suffixed (all_suffixed (value_at c.args.repo.now.1 c.args.name.now) (map shown_suffix c.args.suffixes.now)) _ _ c.args.suffixes.now c.loop-suffix.suffix-index _ c.loop-suffix-test.true c.in_ok-object.ensures.value c.loop-suffix.invariant.same;
 }
 

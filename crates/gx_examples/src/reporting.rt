@@ -4,10 +4,10 @@ use crate::texts::text;
 use gx_cli::{
     CliFault, Features, ImportReport, Repo, collect_store, import_store_reporting, send_store,
 };
+use gx_devices::Refusing;
 use gx_file::FileFault;
 use gx_import::ImportKind;
 use gx_object::Sha1Namer;
-use gx_refusing::Refusing;
 use gx_text::{Bytes, Held};
 use std::alloc::{Allocator, Global};
 use std::hash::RandomState;

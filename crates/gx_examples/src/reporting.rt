@@ -65,12 +65,14 @@ fn is_reported(
     state: RandomState,
 ) -> bool {
     let heap = Refusing::new(alloc, 0);
-    match imported(&heap, store, stream, 0, state) {
-        Some((Some((_, lines)), answer)) => {
-            lines.as_slice() == report && answer.is_ok() == is_accepted
-        }
-        _ => false,
-    }
+    let Some(given) = imported(&heap, store, stream, 0, state) else {
+        return false;
+    };
+    let (left, answer) = given;
+    let Some(left) = left else {
+        return false;
+    };
+    left.1.as_slice() == report && answer.is_ok() == is_accepted
 }
 
 #[test]

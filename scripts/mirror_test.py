@@ -8,8 +8,9 @@ some, of which a new branch may make a directory; now and then git forgets what 
 each the store has to have the refs of git, just the objects that they reach, and to be a store for
 scripts/check_store.py. What the imports report has to lead from the refs before to those behind. A
 branch then becomes a directory of branches, and git takes what `gx export` writes of the store.
-Then the repository has a HEAD of its own commit, a symbolic ref and a commit that is replaced, and
-then it can't be read: the store keeps its refs. The seed is printed.
+Then the repository has a HEAD of its own commit, a symbolic ref and a commit that is replaced. Tags
+of blobs and of tags, and tags under other names, are left out and told. Then the repository can't be
+read: the store keeps its refs. The seed is printed.
 
 GX: the program, crates/gx/out/gx if it isn't set. It needs git. The status is 1 where something differs.
 """
@@ -37,10 +38,14 @@ def refs_of(store):
     return {line.split()[1]: line.split()[0] for line in store.refs().splitlines()}
 
 
+def run_mirror(repository, store):
+    words = [HERE / "mirror.sh", repository.path, store.path]
+    return subprocess.run(words, capture_output=True, env={**os.environ, "GX": GX})
+
+
 def mirror(repository, store):
     """Brings the store up to date, and answers what standard error was told."""
-    words = [HERE / "mirror.sh", repository.path, store.path]
-    done = subprocess.run(words, capture_output=True, env={**os.environ, "GX": GX})
+    done = run_mirror(repository, store)
     if done.returncode:
         raise Differs(f"FAIL mirror.sh: status {done.returncode}\n{done.stderr.decode(errors='replace')}")
     return done.stderr
@@ -83,6 +88,8 @@ def follow(steps, seed, folder):
     copy.take(print_of([GX, "export", store.path]), "--done")
     same(copy.refs(), repository.refs(), f"seed {seed}: refs of git at the end")
     try_odd(repository, store)
+    try_left_out(repository, store)
+    try_away(repository, store)
     return repository
 
 
@@ -98,7 +105,7 @@ def try_directory(repository, store):
 
 
 def try_odd(repository, store):
-    """What is no ref of a stream, or isn't shown as it is, and then a repository that is away."""
+    """What is no ref of a stream, or isn't shown as it is."""
     commits = sorted(repository.commits()[0])
     repository.git("update-ref", "refs/heads/last", commits[0])
     repository.git("update-ref", "--no-deref", "HEAD", commits[-1])
@@ -109,6 +116,36 @@ def try_odd(repository, store):
     wanted = repository.named()
     del wanted[b"refs/remotes/origin/HEAD"]
     same(refs_of(store), wanted, "refs beside what is no ref of a stream")
+
+
+def make_tag(repository, name, kind, digits):
+    """A tag object that no ref has yet."""
+    head = b"object %s\ntype %s\ntag %s\ntagger T <t@example.com> 1 +0000\n\nt\n" % (digits, kind, name)
+    return repository.git("mktag", given=head).strip()
+
+
+def try_left_out(repository, store):
+    """Tags that no store has are told, and the other refs are brought."""
+    commit = sorted(repository.commits()[0])[0]
+    inner = make_tag(repository, b"inner", b"commit", commit)
+    brought = {b"refs/tags/inner": inner, b"refs/heads/beside": commit}
+    blob = repository.git("hash-object", "-w", "--stdin", given=b"key").strip()
+    left_out = {b"refs/tags/blob": make_tag(repository, b"blob", b"blob", blob)}
+    left_out[b"refs/tags/outer"] = make_tag(repository, b"outer", b"tag", inner)
+    left_out.update({b"refs/tags/other": inner, b"refs/other/inner": inner})
+    wanted = {**refs_of(store), **brought}
+    for ref, digits in {**brought, **left_out}.items():
+        repository.git("update-ref", ref, digits)
+    done = run_mirror(repository, store)
+    told = {line.split()[2]: line.split()[1] for line in done.stdout.splitlines() if line.startswith(b"> ")}
+    same((done.returncode, told), (1, left_out), "what is told of tags that no store has")
+    same(refs_of(store), wanted, "refs beside tags that no store has")
+    repository.drop(left_out)
+    mirror(repository, store)
+
+
+def try_away(repository, store):
+    """A repository that can't be read."""
     away, refs = repository.path.with_name("away.git"), store.refs()
     repository.path.rename(away)
     try:

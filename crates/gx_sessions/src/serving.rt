@@ -167,15 +167,15 @@ fn told_text(
     fault: Option<CliFault>,
     report: Report,
 ) -> Result<Option<String>, AllocError> {
-    let told = match (fault, report) {
-        (fault, Report::Changes(lines, report)) => changes_text(alloc, &lines, fault, report)?,
-        (Some(fault), _) => format!(in alloc; "{fault}\n")?,
-        (None, Report::Import(report)) => import_text(alloc, &report)?,
-        (None, Report::Pruned(gone)) => pruned_text(alloc, &gone)?,
-        (None, Report::Adapt(report, drop_signatures)) => {
-            adapt_text(alloc, &report, drop_signatures)?
-        }
-        (None, Report::Unknown) => return Ok(None),
+    let told = match report {
+        Report::Changes(lines, counts) => changes_text(alloc, &lines, fault, counts)?,
+        Report::Import(counts) => import_text(alloc, &counts)?,
+        Report::Pruned(gone) => pruned_text(alloc, &gone)?,
+        Report::Adapt(counts, drop_signatures) => adapt_text(alloc, &counts, drop_signatures)?,
+        Report::Unknown => match fault {
+            Some(fault) => format!(in alloc; "{fault}\n")?,
+            None => return Ok(None),
+        },
     };
     Ok(Some(told))
 }

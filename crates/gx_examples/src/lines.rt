@@ -136,7 +136,7 @@ Usage: gx drop <FILE> <REF>...
 $ gc|--help % help %
 Usage: gx gc [OPTIONS] <FILE>
 $ export|--help % help %
-Usage: gx export [OPTIONS] <FILE>
+Usage: gx export [OPTIONS] <FILE> [RANGE]...
 $ import|--help % help %
 Usage: gx import [OPTIONS] <FILE>
 $ import|-h % help %

@@ -11,11 +11,12 @@ use Rattle.gx_model.specs.Histories.{History}
 use Rattle.gx_model.specs.Streams.Items.{Item, Line, Data, End, Finished, Failed, Stream, items_of, then_comes}
 use Rattle.gx_model.specs.Streams.Commands.{Asks, Command, Commands, Done}
 use Rattle.gx_model.specs.Streams.Grammar.{Read, asked, asks_done, command_at, commands_asked, commands_of, commands_within, is_done, is_option, stops, with_first, words_of}
+use Rattle.gx_model.specs.Changes.{sending_commands}
 use Rattle.gx_model.specs.Export.{command_items, inner_commands, item_text, reached_commits}
 use Rattle.gx_model.specs.Replay.{begun, replayed, replayed_commands}
 use Rattle.gx_model.specs.Streams.Spelling.{taken}
 use Rattle.gx_model.specs.Laws.ExportLaws.{IsItem}
-use Rattle.gx_model.specs.Laws.FeatureLaws.{CommandsAreAsked, ExportsAskOnce, ReplaysAreAsked, asking, behind_asked}
+use Rattle.gx_model.specs.Laws.FeatureLaws.{ChangesAskOnce, CommandsAreAsked, ExportsAskOnce, ReplaysAreAsked, asking, behind_asked}
 use Rattle.gx_model.proofs.Found.{has_reading}
 use Rattle.gx_model.proofs.ItemTexts.{item_spelled}
 use Rattle.gx_model.proofs.Readings.{only_reading}
@@ -124,3 +125,6 @@ text_asks_once f rest =
 
 pub exports_ask_once : ExportsAskOnce
 exports_ask_once f h = text_asks_once f (flat_map item_text (flat_map command_items (inner_commands (reached_commits h) h.refs ++ Done ∷ [])))
+
+pub changes_ask_once : ChangesAskOnce
+changes_ask_once name f h = text_asks_once f (flat_map item_text (flat_map command_items (sending_commands name (reached_commits h) h.refs ++ Done ∷ [])))

@@ -1,6 +1,6 @@
 //! Laws of replays: what commands make of a history is a history.
 ghost use Rattle.gx_model.specs.Laws.ExportLaws.{nothing};
-ghost use Rattle.gx_model.specs.Laws.FeatureLaws.{CommandsAreAsked, ExportsAskOnce, ReplaysAreAsked};
+ghost use Rattle.gx_model.specs.Laws.FeatureLaws.{ChangesAskOnce, CommandsAreAsked, ExportsAskOnce, ReplaysAreAsked};
 ghost use Rattle.gx_model.specs.Histories.{IsHistory};
 ghost use Rattle.gx_model.specs.Replay.ProperReplays.{RefusalsKeepHistories, ReplaysGiveHistories, StreamsAreProper, TextsGiveHistories};
 
@@ -23,11 +23,12 @@ pub fn replays_give_histories()
 
 /// Features that are asked for are those of a stream that begins with their lines: its commands behind these are the same, and
 /// what they make of a history, too. Only the numbers of commands count no such lines. The text of an export asks for `done`
-/// itself, and has the same commands with any features.
+/// itself, and has the same commands with any features. So has the text of an export of changes that has `done`.
 /// Source: git-fast-import(1), "--done" and "--force".
 #[tactic(auto, using(crate::proofs::AskedFeatures::commands_are_asked, crate::proofs::AskedFeatures::replays_are_asked))]
 pub fn features_are_asked()
     ensures commands { CommandsAreAsked }
     ensures replays { ReplaysAreAsked }
     ensures exports { ExportsAskOnce }
+    ensures changes { ChangesAskOnce }
 {}

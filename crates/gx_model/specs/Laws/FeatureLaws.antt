@@ -1,6 +1,6 @@
 -- What it is that features are asked for: as if the stream began with their lines.
 -- Source: git-fast-import(1), "--done" and "--force".
-use Rattle.std.specs.Prelude.{◌≡◌, ◌++◌, false, codes, List, [], ◌∷◌, length, if◌then◌else◌}
+use Rattle.std.specs.Prelude.{◌≡◌, ◌++◌, true, false, codes, List, [], ◌∷◌, length, if◌then◌else◌}
 use Rattle.gx_model.specs.declared.objects.Kind.{Kind}
 use Rattle.gx_model.specs.declared.features.Features.{Features}
 use Rattle.gx_model.specs.Texts.{Bytes}
@@ -9,6 +9,7 @@ use Rattle.gx_model.specs.Streams.Items.{Item, Line, Stream, items_of}
 use Rattle.gx_model.specs.Streams.Commands.{Commands}
 use Rattle.gx_model.specs.Streams.Grammar.{asked, commands_asked, commands_of}
 use Rattle.gx_model.specs.Export.{export_text}
+use Rattle.gx_model.specs.Changes.{changes_text}
 use Rattle.gx_model.specs.Replay.{begun, replayed, replayed_commands}
 
 -- the lines that ask for these features
@@ -36,3 +37,9 @@ ReplaysAreAsked =
 -- The text of an export asks for `done` itself: its commands are the same whatever features are asked for.
 abbrev pub ExportsAskOnce : Type 0
 ExportsAskOnce = (f : Features) (h : History) → commands_asked f (items_of (export_text h) false) ≡ commands_of (items_of (export_text h) false)
+
+-- So does the text of an export of changes with `done`.
+abbrev pub ChangesAskOnce : Type 0
+ChangesAskOnce =
+    (name : Kind → Bytes → Bytes) (f : Features) (h : History)
+    → commands_asked f (items_of (changes_text name true h) false) ≡ commands_of (items_of (changes_text name true h) false)

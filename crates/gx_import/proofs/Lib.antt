@@ -47,3 +47,4 @@ pub mod LoadFaults
 pub mod TipHomes
 pub mod FoundRows
 pub mod MovedChanges
+pub mod StoppedImports

@@ -16,3 +16,4 @@ pub mod Telling
 pub mod Keeping
 pub mod Replaying
 pub mod Exported
+pub mod Stopping

@@ -7,6 +7,7 @@ ghost use Rattle.gx_import.specs.Imports.{ImportsAsked, ImportsStream, StandsAsk
 ghost use Rattle.gx_import.specs.Keeping.{AreNone, IsLeft};
 ghost use Rattle.gx_import.specs.Replaying.{LeavesImport, left_by};
 ghost use Rattle.gx_import.specs.Standing.{AreEmpty, Extends};
+ghost use Rattle.gx_import.specs.Stopping.{StopsAsked, StopsStream};
 ghost use Rattle.gx_model.specs.Records.Sound.{IsSound};
 
 use crate::checkpoints::Checkpoints;
@@ -57,6 +58,7 @@ pub fn import<N: Namer, A: Allocator + Copy, R: Source + Drop, W: Sink>(
     ensures extends { Extends repo.old.1.records repo.new.1.records }
     ensures sound { IsSound (N.name_of repo.old.0) repo.new.1 }
     ensures unchanged { IfErr result (λ fault. fault.checkpoints ≡ 0 → repo.new ≡ repo.old) }
+    ensures stopped { IfErr result (StopsStream N.name_of repo.old (R.coming source)) }
     ensures exported { ImportsAnyExport N.name_of repo.old repo.new (R.coming source) result }
     ensures gitlinks { KeepsNoNullGitlink repo.old.1 repo.new.1 }
     ensures nulls { RefusesNullGitlink N.name_of repo.old (R.coming source) result }
@@ -82,6 +84,7 @@ pub fn import_asking<N: Namer, A: Allocator + Copy, R: Source + Drop, W: Sink>(
     ensures extends { Extends repo.old.1.records repo.new.1.records }
     ensures sound { IsSound (N.name_of repo.old.0) repo.new.1 }
     ensures unchanged { IfErr result (λ fault. fault.checkpoints ≡ 0 → repo.new ≡ repo.old) }
+    ensures stopped { IfErr result (StopsAsked N.name_of features repo.old (R.coming source)) }
     ensures exported { LeaveExports features → ImportsAnyExport N.name_of repo.old repo.new (R.coming source) result }
     ensures gitlinks { KeepsNoNullGitlink repo.old.1 repo.new.1 }
     ensures nulls { LeaveExports features → RefusesNullGitlink N.name_of repo.old (R.coming source) result }
@@ -110,6 +113,7 @@ pub fn import_explained<N: Namer, A: Allocator + Copy, R: Source + Drop, W: Sink
     ensures extends { Extends repo.old.1.records repo.new.1.records }
     ensures sound { IsSound (N.name_of repo.old.0) repo.new.1 }
     ensures unchanged { IfErr result (λ fault. fault.checkpoints ≡ 0 → repo.new ≡ repo.old) }
+    ensures stopped { IfErr result (StopsAsked N.name_of features repo.old (R.coming source)) }
     ensures exported { LeaveExports features → ImportsAnyExport N.name_of repo.old repo.new (R.coming source) result }
     ensures gitlinks { KeepsNoNullGitlink repo.old.1 repo.new.1 }
     ensures nulls { LeaveExports features → RefusesNullGitlink N.name_of repo.old (R.coming source) result }

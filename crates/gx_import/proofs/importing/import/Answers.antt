@@ -1,6 +1,7 @@
 use Rattle.std.proofs.Common.{ap, subst}
-use Rattle.std.specs.Prelude.{OnOk}
+use Rattle.std.specs.Prelude.{IfErr, OnOk}
 use Rattle.gx_import.specs.Imports.{Imports, StandsAsked}
+use Rattle.gx_import.specs.Stopping.{StopsAsked}
 use Rattle.gx_import.proofs.importing.import.Goals as goal
 
 pub returns-clause-replayed : goal.returns-clause-replayed
@@ -19,3 +20,7 @@ returns-clause-exported g c = c.import_asking.ensures.exported (ap (λ f. f.forc
 
 pub returns-clause-nulls : goal.returns-clause-nulls
 returns-clause-nulls g c = c.import_asking.ensures.nulls (ap (λ f. f.force) c.none.ensures)
+
+pub returns-clause-stopped : goal.returns-clause-stopped
+returns-clause-stopped g c =
+    subst (λ asks. IfErr c.import_asking.result (StopsAsked g.N.Namer.name_of asks c.args.repo.now (g.R.Source.coming c.args.source))) c.none.ensures c.import_asking.ensures.stopped

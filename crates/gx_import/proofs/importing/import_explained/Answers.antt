@@ -9,6 +9,7 @@ use Rattle.gx_import.specs.Keeping.{left_of}
 use Rattle.gx_import.specs.Standing.{Extends}
 use Rattle.gx_import.proofs.KeptCheckpoints.{front_left}
 use Rattle.gx_import.proofs.Publications.{as_before, stands_replayed}
+use Rattle.gx_import.proofs.StoppedImports.{cut_short}
 use Rattle.gx_import.proofs.importing.import_explained.Goals as goal
 
 pub replay_and_publish-requires : goal.replay_and_publish-requires
@@ -99,3 +100,10 @@ pub returns-clause-unchanged : goal.returns-clause-unchanged
 returns-clause-unchanged g c = λ zero.
     let none = c.in-Err.ensures.left.none (sym c.in-Err.ensures.counted ∙ zero) in
     as_before c.args.repo.now.0 c.replay_and_publish.new.repo.0 c.args.repo.now.1 c.replay_and_publish.new.repo.1 c.replay_and_publish.new.checkpoints.records c.truncate.new.self c.truncate.ensures none.0 c.replay_and_publish.ensures.extends c.replay_and_publish.ensures.namer none.1
+
+pub returns-clause-stopped : goal.returns-clause-stopped
+returns-clause-stopped g c =
+    let last = left_of c.replay_and_publish.new.checkpoints c.replay_and_publish.new.repo.1 in
+    let was = g.W.Sink.taken c.args.sink.now in
+    let now = g.W.Sink.taken c.replay_and_publish.new.sink in
+    cut_short (g.N.Namer.name_of c.args.repo.now.0) c.args.features c.args.repo.now.1 last (g.R.Source.coming c.args.source) was now c.in-Err.fault c.in-Err.ensures.replayed

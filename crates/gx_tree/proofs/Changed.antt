@@ -35,7 +35,7 @@ pub read_set : {X : Type 0} (xs : List X) (n : ℕ) (x t : X) → n < length xs 
 read_set xs n x t l et = et ∙ set_here xs n x t l
 
 -- what is kept at the entry's component, as far as that reaches
-reach_is : {A : Type 0} (c : Bytes) (r : Entry A) (n : ℕ) → (shown_entry r).0 ≡ c → n ≡ counted (kept_reach (shown_entry r)) → n ≡ counted (kept_reach (c, shown_item r.item))
+pub reach_is : {A : Type 0} (c : Bytes) (r : Entry A) (n : ℕ) → (shown_entry r).0 ≡ c → n ≡ counted (kept_reach (shown_entry r)) → n ≡ counted (kept_reach (c, shown_item r.item))
 reach_is c r n e h = h ∙ ap (λ z. counted (kept_reach (z, shown_item r.item))) e
 
 -- the entry at n, read as r, and as s before, becomes e, which is read as t

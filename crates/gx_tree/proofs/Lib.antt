@@ -26,3 +26,4 @@ pub mod InPlace
 pub mod TakenOut
 pub mod Changed
 pub mod Renamed
+pub mod Parted

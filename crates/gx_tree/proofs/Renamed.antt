@@ -1,5 +1,5 @@
--- Entries where what stood at one of two siblings goes, and an item stands at the other.
-use Rattle.std.proofs.Common.{◌≡◌, ℕ, ◌+◌, ◌<◌, Bool, true, false, cond, not, ◌&&◌, List, [], ◌∷◌, length, get_or, drop, slice_set, Option, Some, None, refl, sym, ap, ◌∙◌, arith, subst}
+-- Entries where what stood at one of two paths that part goes, and an item stands at the other.
+use Rattle.std.proofs.Common.{◌≡◌, ℕ, ◌+◌, ◌<◌, Bool, true, false, cond, not, ◌||◌, List, [], ◌∷◌, length, get_or, drop, slice_set, Option, Some, None, refl, sym, ap, ◌∙◌, arith, subst}
 use Rattle.std.specs.List.{list_all, remove}
 use Rattle.std.proofs.lemmas.Bool.{and_from, and_parts, false≢true, true≢false}
 use Rattle.std.proofs.lemmas.List.{length-drop}
@@ -7,7 +7,7 @@ use Rattle.gx_model.specs.Texts.{Bytes, same_bytes}
 use Rattle.gx_model.specs.Texts.Paths.{Path, begins, is_component}
 use Rattle.gx_model.specs.Histories.Edits.{is_root, removed}
 use Rattle.gx_model.specs.Histories.Files.{FileMap, Leaf, file_at}
-use Rattle.gx_tree.specs.Edits.{are_siblings}
+use Rattle.gx_tree.specs.Edits.{are_apart}
 use Rattle.gx_tree.specs.Nodes.{IsInner, IsKept, IsLevel, Kept, Level, comes_before, file, files, folder, inserted, is_folder, is_inner_path, kept_at, kept_map, mark, others, with_kept}
 use Rattle.gx_tree.specs.Rooms.{Changes, IsReach, counted, kept_reach}
 use Rattle.gx_tree.specs.Searches.{IsEntryAt}
@@ -23,131 +23,99 @@ use Rattle.gx_tree.proofs.InPlace.{others_same, set_at, standing}
 use Rattle.gx_tree.proofs.Levels.{IsInner-files, IsLevel-with_kept, kept_at-others}
 use Rattle.gx_tree.proofs.Lookups.{either, file_at-filter}
 use Rattle.gx_tree.proofs.TakenOut.{set_aside}
-use Rattle.gx_tree.proofs.Texts.{bytes_are, same_bytes_flip, same_itself}
+use Rattle.gx_tree.proofs.Texts.{bytes_are, bytes_same, same_bytes_flip, same_itself}
 
--- ---- siblings
-
-sib_length : (p q : Path) → are_siblings p q ≡ true → length p ≡ length q
-sib_length [] q h = absurd (false≢true h)
-sib_length (c ∷ p) [] h = absurd (false≢true h)
-sib_length (c ∷ []) (d ∷ []) h = refl
-sib_length (c ∷ []) (d ∷ y ∷ q) h = absurd (false≢true h)
-sib_length (c ∷ x ∷ p) (d ∷ []) h = absurd (false≢true h)
-sib_length (c ∷ x ∷ p) (d ∷ y ∷ q) h = omega (arith, sib_length (x ∷ p) (y ∷ q) (and_parts _ _ h).1)
-
-pub sib_some : (p q : Path) → are_siblings p q ≡ true → 0 < length p
-sib_some [] q h = absurd (false≢true h)
-sib_some (c ∷ p) q h = omega arith
-
-pub sib_other : (p q : Path) → are_siblings p q ≡ true → 0 < length q
-sib_other p q h = omega (arith, sib_some p q h, sib_length p q h)
+-- ---- paths that part
 
 differ : (b : Bool) → not b ≡ true → b ≡ false
 differ true h = absurd (false≢true h)
 differ false h = refl
 
-record AtEnd (c d : Bytes) (p q : Path) : Type 0 where
-  source : p ≡ []
-  destination : q ≡ []
-  apart : same_bytes c d ≡ false
+pub apart_some : (p q : Path) → are_apart p q ≡ true → 0 < length p
+apart_some [] q h = absurd (false≢true h)
+apart_some (c ∷ p) q h = omega arith
 
-sib_end : (c d : Bytes) (p q : Path) → are_siblings (c ∷ p) (d ∷ q) ≡ true → length p ≡ 0 → AtEnd c d p q
-sib_end c d [] [] h l = record { source = refl; destination = refl; apart = differ (same_bytes c d) h }
-sib_end c d [] (y ∷ q) h l = absurd (false≢true h)
-sib_end c d (x ∷ p) q h l = absurd (omega (arith, l))
+pub apart_other : (p q : Path) → are_apart p q ≡ true → 0 < length q
+apart_other [] q h = absurd (false≢true h)
+apart_other (c ∷ p) [] h = absurd (false≢true h)
+apart_other (c ∷ p) (d ∷ q) h = omega arith
 
-sib_more : (c d : Bytes) (p q : Path) → are_siblings (c ∷ p) (d ∷ q) ≡ true → 0 < length p → (c ≡ d) × (are_siblings p q ≡ true)
-sib_more c d [] q h l = absurd (omega (arith, l))
-sib_more c d (x ∷ p) [] h l = absurd (false≢true h)
-sib_more c d (x ∷ p) (y ∷ q) h l = (bytes_are c d (and_parts _ _ h).0, (and_parts _ _ h).1)
+no_more : (p : Path) → length p ≡ 0 → p ≡ []
+no_more [] l = refl
+no_more (c ∷ p) l = absurd (omega (arith, l))
+
+part_more : (c d : Bytes) (p q : Path) → c ≡ d → are_apart (c ∷ p) (d ∷ q) ≡ true → are_apart p q ≡ true
+part_more c d p q e h = let g : are_apart p q ≡ true = rw (bytes_same c d e) at h in g
 
 module _ (s d : Path) (i : ℕ) (ls : i < length s) (ld : i < length d) where
-  both_at : are_siblings (drop i s) (drop i d) ≡ are_siblings (get_or s i [] ∷ drop (i + 1) s) (get_or d i [] ∷ drop (i + 1) d)
-  both_at = ap (λ z. are_siblings z (drop i d)) (at_component s i ls refl) ∙ ap (are_siblings (get_or s i [] ∷ drop (i + 1) s)) (at_component d i ld refl)
+  both_at : are_apart (drop i s) (drop i d) ≡ are_apart (get_or s i [] ∷ drop (i + 1) s) (get_or d i [] ∷ drop (i + 1) d)
+  both_at = ap (λ z. are_apart z (drop i d)) (at_component s i ls refl) ∙ ap (are_apart (get_or s i [] ∷ drop (i + 1) s)) (at_component d i ld refl)
 
-  module _ (h : are_siblings (drop i s) (drop i d) ≡ true) where
-    pub siblings_length : length s ≡ length d
-    siblings_length = omega (arith, ls, ld, length-drop i s, length-drop i d, sib_length (drop i s) (drop i d) h)
+  pub apart_here : (not (same_bytes (get_or s i []) (get_or d i [])) || are_apart (drop (i + 1) s) (drop (i + 1) d)) ≡ are_apart (drop i s) (drop i d)
+  apart_here = sym both_at
 
-    siblings_end : i + 1 ≡ length s → AtEnd (get_or s i []) (get_or d i []) (drop (i + 1) s) (drop (i + 1) d)
-    siblings_end l = sib_end (get_or s i []) (get_or d i []) (drop (i + 1) s) (drop (i + 1) d) (sym both_at ∙ h) (omega (arith, l, length-drop (i + 1) s))
+  -- where the first components are the same
+  module _ (h : are_apart (drop i s) (drop i d) ≡ true) (e : get_or s i [] ≡ get_or d i []) where
+    pub apart_below : are_apart (drop (i + 1) s) (drop (i + 1) d) ≡ true
+    apart_below = part_more (get_or s i []) (get_or d i []) (drop (i + 1) s) (drop (i + 1) d) e (sym both_at ∙ h)
 
-    siblings_more : i + 1 < length s → (get_or s i [] ≡ get_or d i []) × (are_siblings (drop (i + 1) s) (drop (i + 1) d) ≡ true)
-    siblings_more l = sib_more (get_or s i []) (get_or d i []) (drop (i + 1) s) (drop (i + 1) d) (sym both_at ∙ h) (omega (arith, l, length-drop (i + 1) s))
+    pub apart_longer : (i + 1 < length s) × (i + 1 < length d)
+    apart_longer = (omega (arith, length-drop (i + 1) s, apart_some (drop (i + 1) s) (drop (i + 1) d) apart_below), omega (arith, length-drop (i + 1) d, apart_other (drop (i + 1) s) (drop (i + 1) d) apart_below))
 
-    pub siblings_first : {c : Bytes} → i + 1 < length s → c ≡ get_or s i [] → c ≡ get_or d i []
-    siblings_first l e = e ∙ (siblings_more l).0
-
-    pub siblings_below : i + 1 < length s → are_siblings (drop (i + 1) s) (drop (i + 1) d) ≡ true
-    siblings_below l = (siblings_more l).1
-
--- whether they are siblings
+-- whether they part
 
 not_so : (b : Bool) → (b ≡ true → ⊥) → false ≡ b
 not_so true h = absurd (h refl)
 not_so false h = refl
 
-pub siblings_none : (s d : Path) (i : ℕ) → i ≡ length s → false ≡ are_siblings (drop i s) (drop i d)
-siblings_none s d i l = not_so (are_siblings (drop i s) (drop i d)) (λ h. omega (arith, l, length-drop i s, sib_some (drop i s) (drop i d) h))
+pub apart_not : (s d : Path) (i : ℕ) → i ≡ length s → false ≡ are_apart (drop i s) (drop i d)
+apart_not s d i l = not_so (are_apart (drop i s) (drop i d)) (λ h. omega (arith, l, length-drop i s, apart_some (drop i s) (drop i d) h))
 
-pub siblings_differ : (s d : Path) (i : ℕ) → i < length s → (length s ≡ length d → ⊥) → false ≡ are_siblings (drop i s) (drop i d)
-siblings_differ s d i l n = not_so (are_siblings (drop i s) (drop i d)) (λ h. n (omega (arith, l, length-drop i s, length-drop i d, sib_length (drop i s) (drop i d) h)))
+pub apart_nor : (s d : Path) (i : ℕ) → i ≡ length d → false ≡ are_apart (drop i s) (drop i d)
+apart_nor s d i l = not_so (are_apart (drop i s) (drop i d)) (λ h. omega (arith, l, length-drop i d, apart_other (drop i s) (drop i d) h))
 
-ends : (c d : Bytes) (p q : Path) → length p ≡ 0 → length q ≡ 0 → not (same_bytes c d) ≡ are_siblings (c ∷ p) (d ∷ q)
-ends c d [] [] l m = refl
-ends c d [] (y ∷ q) l m = absurd (omega (arith, m))
-ends c d (x ∷ p) q l m = absurd (omega (arith, l))
-
-goes_on : (c d : Bytes) (p q : Path) → 0 < length p → 0 < length q → (same_bytes c d && are_siblings p q) ≡ are_siblings (c ∷ p) (d ∷ q)
-goes_on c d [] q l m = absurd (omega (arith, l))
-goes_on c d (x ∷ p) [] l m = absurd (omega (arith, m))
-goes_on c d (x ∷ p) (y ∷ q) l m = refl
-
-pub siblings_last : (s d : Path) (i : ℕ) → i + 1 ≡ length s → length s ≡ length d → not (same_bytes (get_or s i []) (get_or d i [])) ≡ are_siblings (drop i s) (drop i d)
-siblings_last s d i l m = ends (get_or s i []) (get_or d i []) (drop (i + 1) s) (drop (i + 1) d) (omega (arith, l, length-drop (i + 1) s)) (omega (arith, l, m, length-drop (i + 1) d)) ∙ sym (both_at s d i (omega (arith, l)) (omega (arith, l, m)))
-
-pub siblings_further : (s d : Path) (i : ℕ) → i + 1 < length s → length s ≡ length d → (same_bytes (get_or s i []) (get_or d i []) && are_siblings (drop (i + 1) s) (drop (i + 1) d)) ≡ are_siblings (drop i s) (drop i d)
-siblings_further s d i l m = goes_on (get_or s i []) (get_or d i []) (drop (i + 1) s) (drop (i + 1) d) (omega (arith, l, length-drop (i + 1) s)) (omega (arith, l, m, length-drop (i + 1) d)) ∙ sym (both_at s d i (omega (arith, l)) (omega (arith, l, m)))
-
--- ---- in one directory
+-- ---- where they part
 
 comes_or_goes : (gone beside : Bool) (o : Option Path) (g : FileMap Bytes) (x : Option (Leaf Bytes)) → (gone ≡ true → o ≡ None) → cond (not gone) (either (found_in o g) (cond beside x None)) None ≡ either (found_in o g) (cond beside (cond (not gone) x None) None)
 comes_or_goes true beside o g x h = sym (ap (λ z. either (found_in z g) (cond beside None None)) (h refl) ∙ cond_none {X = Leaf Bytes} beside)
 comes_or_goes false beside o g x h = refl
 
-not_both : (a b c : Bytes) (q : Path) → same_bytes a b ≡ false → begins (a ∷ []) (c ∷ q) ≡ true → taken (b ∷ []) (c ∷ q) ≡ None
-not_both a b c q n h =
+not_both : (a b c : Bytes) (s p q : Path) → same_bytes a b ≡ false → begins (a ∷ s) (c ∷ q) ≡ true → taken (b ∷ p) (c ∷ q) ≡ None
+not_both a b c s p q n h =
     let m : same_bytes b c ≡ false = ap (same_bytes b) (sym (bytes_are a c (and_parts _ _ h).0)) ∙ same_bytes_flip b a ∙ n in
     rw m refl
 
--- to put k at one component and to remove another may change places
-exchanged : (a b : Bytes) (k : Kept) (f : FileMap Bytes) → is_component b ≡ true → same_bytes a b ≡ false → IsKept k → IsInner f → removed (grafted (b ∷ []) (kept_map k) f) (a ∷ []) ≡ grafted (b ∷ []) (kept_map k) (removed f (a ∷ []))
-exchanged a b k f hb n hk h =
+-- to put k at one path and to remove another may change places, where their first components differ
+exchanged : (a b : Bytes) (s p : Path) (k : Kept) (f : FileMap Bytes) → is_inner_path (b ∷ p) ≡ true → same_bytes a b ≡ false → IsKept k → IsInner f → removed (grafted (b ∷ p) (kept_map k) f) (a ∷ s) ≡ grafted (b ∷ p) (kept_map k) (removed f (a ∷ s))
+exchanged a b s p k f hb n hk h =
     let g = kept_map k in
-    let inner = kept_below b [] k (and_from _ _ hb refl) hk in
-    let rest = IsInner-removed (a ∷ []) f h in
-    same_files (removed (grafted (b ∷ []) g f) (a ∷ [])) (grafted (b ∷ []) g (removed f (a ∷ [])))
-    (IsInner-removed (a ∷ []) (grafted (b ∷ []) g f) (IsInner-grafted (b ∷ []) g f inner h)) (IsInner-grafted (b ∷ []) g (removed f (a ∷ [])) inner rest)
+    let inner = kept_below b p k hb hk in
+    let rest = IsInner-removed (a ∷ s) f h in
+    same_files (removed (grafted (b ∷ p) g f) (a ∷ s)) (grafted (b ∷ p) g (removed f (a ∷ s)))
+    (IsInner-removed (a ∷ s) (grafted (b ∷ p) g f) (IsInner-grafted (b ∷ p) g f inner h)) (IsInner-grafted (b ∷ p) g (removed f (a ∷ s)) inner rest)
     (λ c q.
-    let is_gone = begins (a ∷ []) (c ∷ q) in
-    let beside = is_beside (b ∷ []) (c ∷ q) in
-    let o = taken (b ∷ []) (c ∷ q) in
-    file_at-filter (λ r. not (begins (a ∷ []) r)) (c ∷ q) (grafted (b ∷ []) g f)
-    ∙ ap (λ z. cond (not is_gone) z None) (file_at-grafted (b ∷ []) (c ∷ q) g f inner h.paths)
-    ∙ comes_or_goes is_gone beside o g (file_at f (c ∷ q)) (not_both a b c q n)
-    ∙ sym (file_at-grafted (b ∷ []) (c ∷ q) g (removed f (a ∷ [])) inner rest.paths ∙ ap (λ z. either (found_in o g) (cond beside z None)) (file_at-filter (λ r. not (begins (a ∷ []) r)) (c ∷ q) f)))
+    let is_gone = begins (a ∷ s) (c ∷ q) in
+    let beside = is_beside (b ∷ p) (c ∷ q) in
+    let o = taken (b ∷ p) (c ∷ q) in
+    file_at-filter (λ r. not (begins (a ∷ s) r)) (c ∷ q) (grafted (b ∷ p) g f)
+    ∙ ap (λ z. cond (not is_gone) z None) (file_at-grafted (b ∷ p) (c ∷ q) g f inner h.paths)
+    ∙ comes_or_goes is_gone beside o g (file_at f (c ∷ q)) (not_both a b c s p q n)
+    ∙ sym (file_at-grafted (b ∷ p) (c ∷ q) g (removed f (a ∷ s)) inner rest.paths ∙ ap (λ z. either (found_in o g) (cond beside z None)) (file_at-filter (λ r. not (begins (a ∷ s) r)) (c ∷ q) f)))
 
--- the last components of the paths: what is put and then removed
-pub renamed_last : {c : Bytes} {first out : FileMap Bytes} (s d : Path) (i : ℕ) (k : Kept) (es : Level) → i < length s → i < length d → i + 1 ≡ length s → are_siblings (drop i s) (drop i d) ≡ true → list_all is_component d ≡ true → IsKept k → IsLevel es → c ≡ get_or s i [] → first ≡ grafted (drop i d) (kept_map k) (files es) → out ≡ removed first (c ∷ []) → out ≡ grafted (drop i d) (kept_map k) (removed (files es) (drop i s))
-renamed_last {c} {first} {out} s d i k es ls ld l h hd hk hes ec ef eo =
-    let at = siblings_end s d i ls ld h l in
+-- what is put and then removed
+pub parted : {first out : FileMap Bytes} (s d : Path) (i : ℕ) (k : Kept) (es : Level) → i < length s → i < length d → same_bytes (get_or s i []) (get_or d i []) ≡ false → list_all is_component d ≡ true → IsKept k → IsLevel es → first ≡ grafted (drop i d) (kept_map k) (files es) → out ≡ removed first (drop i s) → out ≡ grafted (drop i d) (kept_map k) (removed (files es) (drop i s))
+parted {first} {out} s d i k es ls ld n hd hk hes ef eo =
     let a = get_or s i [] in
     let b = get_or d i [] in
-    let from : drop i s ≡ a ∷ [] = at_component s i ls refl ∙ ap (λ z. a ∷ z) at.source in
-    let to : drop i d ≡ b ∷ [] = at_component d i ld refl ∙ ap (λ z. b ∷ z) at.destination in
-    eo ∙ ap (λ z. removed first (z ∷ [])) ec ∙ ap (λ z. removed z (a ∷ [])) (ef ∙ ap (λ z. grafted z (kept_map k) (files es)) to)
-    ∙ exchanged a b k (files es) (and_parts _ _ (inner_at d i ld refl hd)).0 at.apart hk (IsInner-files es hes)
-    ∙ ap (λ z. grafted z (kept_map k) (removed (files es) (a ∷ []))) (sym to) ∙ ap (λ z. grafted (drop i d) (kept_map k) (removed (files es) z)) (sym from)
+    let from : drop i s ≡ a ∷ drop (i + 1) s = at_component s i ls refl in
+    let to : drop i d ≡ b ∷ drop (i + 1) d = at_component d i ld refl in
+    eo ∙ ap (removed first) from ∙ ap (λ z. removed z (a ∷ drop (i + 1) s)) (ef ∙ ap (λ z. grafted z (kept_map k) (files es)) to)
+    ∙ exchanged a b (drop (i + 1) s) (drop (i + 1) d) k (files es) (inner_at d i ld refl hd) n hk (IsInner-files es hes)
+    ∙ ap (λ z. grafted z (kept_map k) (removed (files es) (a ∷ drop (i + 1) s))) (sym to) ∙ ap (λ z. grafted (drop i d) (kept_map k) (removed (files es) z)) (sym from)
+
+-- the path ends at its component at i
+pub ends_at : {c : Bytes} (s : Path) (i : ℕ) → i < length s → i + 1 ≡ length s → c ≡ get_or s i [] → drop i s ≡ c ∷ []
+ends_at {c} s i ls l ec = at_component s i ls ec ∙ ap (λ z. c ∷ z) (no_more (drop (i + 1) s) (omega (arith, l, length-drop (i + 1) s)))
 
 -- what stands at a component is taken out
 pub taken_out : {A : Type 0} (c : Bytes) (n : ℕ) (es out : List (Entry A)) (r : Entry A) → is_component c ≡ true → IsLevel (shown_entries es) → IsEntryAt c es n → r ≡ get_or es n r → out ≡ remove es n → Leaves (removed (files (shown_entries es)) (c ∷ [])) (shown_entries out)
@@ -188,10 +156,10 @@ others_inserted c k (e ∷ es) = elim (comes_before c k e) as (λ b. others c (c
   ]
 ]
 
-others_twice : (c : Bytes) (es : Level) → others c (others c es) ≡ others c es
+pub others_twice : (c : Bytes) (es : Level) → others c (others c es) ≡ others c es
 others_twice c es = others_same c (others c es) (kept_at-others c c es ∙ rw (same_itself c) refl)
 
-others_replaced : (c : Bytes) (o : Option Kept) (es : Level) → others c (replaced c o es) ≡ others c es
+pub others_replaced : (c : Bytes) (o : Option Kept) (es : Level) → others c (replaced c o es) ≡ others c es
 others_replaced c None es = others_twice c es
 others_replaced c (Some k) es = others_inserted c k (others c es) ∙ others_twice c es
 

@@ -160,7 +160,7 @@ taken_less es i =
 -- ---- one entry changes
 
 -- what stands where another took its place
-put_kept : (c : Bytes) (j : Kept) (es : Level) → IsLevel (with_kept c j es) → IsKept j
+pub put_kept : (c : Bytes) (j : Kept) (es : Level) → IsLevel (with_kept c j es) → IsKept j
 put_kept c j es h =
     let is : kept_at c (with_kept c j es) ≡ Some j = kept_at-with_kept c c j es ∙ rw (same_itself c) refl in
     subst IsKeptAt is (IsKeptAt-kept_at c (with_kept c j es) h)

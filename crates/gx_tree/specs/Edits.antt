@@ -1,5 +1,5 @@
 -- What an edit makes of a directory's entries, of what stands at one of them, and of the files below.
-use Rattle.std.specs.Prelude.{◌≡◌, ℕ, Bool, IsTrue, drop, false, not, ◌&&◌, List, [], ◌∷◌, ◌++◌, Option, Some}
+use Rattle.std.specs.Prelude.{◌≡◌, ℕ, Bool, IsTrue, drop, false, not, ◌||◌, List, [], ◌∷◌, ◌++◌, Option, Some}
 use Rattle.std.specs.declared.rc.Rc.{Rc}
 use Rattle.std.specs.declared.vec.Vec.{Vec}
 use Rattle.gx_model.specs.Histories.Edits.{removed}
@@ -83,18 +83,15 @@ RemovesIn p old new = RemovesFiles p old.value.items new.value
 
 -- ---- what is renamed
 
--- two paths differ in their last component alone
-abbrev pub are_siblings : Path → Path → Bool
-are_siblings [] q = false
-are_siblings (c ∷ p) [] = false
-are_siblings (c ∷ []) (d ∷ []) = not (same_bytes c d)
-are_siblings (c ∷ []) (d ∷ y ∷ q) = false
-are_siblings (c ∷ x ∷ p) (d ∷ []) = false
-are_siblings (c ∷ x ∷ p) (d ∷ y ∷ q) = same_bytes c d && are_siblings (x ∷ p) (y ∷ q)
+-- neither of two paths begins with the other
+abbrev pub are_apart : Path → Path → Bool
+are_apart [] q = false
+are_apart (c ∷ p) [] = false
+are_apart (c ∷ p) (d ∷ q) = not (same_bytes c d) || are_apart p q
 
--- what is left of the paths from the component at i on are siblings
-abbrev pub AreBeside : ℕ → Path → Path → Type 0
-AreBeside i s d = IsTrue (are_siblings (drop i s) (drop i d))
+-- the same of what is left of the paths from the component at i on
+abbrev pub AreApart : ℕ → Path → Path → Type 0
+AreApart i s d = IsTrue (are_apart (drop i s) (drop i d))
 
 -- the files without what stood at or below s, and with an item's at d, in place of what is in line with it
 abbrev pub carried : {A : Type 0} → ℕ → Path → Path → Item A → FileMap Bytes → FileMap Bytes

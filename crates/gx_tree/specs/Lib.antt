@@ -17,4 +17,5 @@ pub mod Homes
 pub mod Loaded
 pub mod Written
 pub mod Edits
+pub mod Landings
 pub mod Calls

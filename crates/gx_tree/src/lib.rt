@@ -11,6 +11,8 @@ mod laws;
 mod listing;
 mod loaded;
 mod loading;
+mod moving;
+mod parting;
 mod path_tree;
 mod reach;
 mod removing;

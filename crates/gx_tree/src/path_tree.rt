@@ -225,9 +225,9 @@ impl<A: Allocator + Copy> PathTree<A> {
     /// nothing.
     ///
     /// The errors are those of `copy`, in their order, and each leaves the tree as it was.
-    /// Cost: where both paths are in one directory, as for `modify`, with a move of the entries behind the one that goes.
-    /// Otherwise the entries of the directories on both paths are made anew. No path below the source is looked at. Source:
-    /// git-fast-import(1), "filerename".
+    /// Cost: as for `modify` at both paths. But where one path begins with the other, or where the destination is put among the
+    /// entries of a directory above the source's, the entries of the directories on the ways are made anew.
+    /// No path below the source is looked at. Source: git-fast-import(1), "filerename".
     pub fn rename(
         &mut self,
         source: &TreePath<A>,

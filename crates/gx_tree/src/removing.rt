@@ -67,9 +67,9 @@ fn remove_in<A: Allocator + Copy>(
     }
 }
 
-// Removes it from the entries, and answers their reach.
+/// Removes it from the entries, and answers their reach.
 #[cycle(remove)]
-fn remove_among<A: Allocator + Copy>(
+pub(crate) fn remove_among<A: Allocator + Copy>(
     entries: &mut Vec<Entry<A>, A>,
     reach: usize,
     alloc: A,

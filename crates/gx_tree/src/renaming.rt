@@ -1,10 +1,9 @@
-//! Putting an item beside where it stood: what stands at one path goes, and the item stands at another that differs from it in
-//! its last component alone. The directories above both change, and no other. Where no other tree has their entries, these
-//! change in place; else new ones share them first.
-ghost use Rattle.std.specs.Prelude.{◌≡◌, ◌≢◌, ◌<◌, ◌≤◌, ◌+◌, [], ◌∷◌, IfOk, OnErr, OnOk, IsTrue, drop, false, get_or, length};
-ghost use Rattle.gx_model.specs.Texts.Paths.{is_component};
-ghost use Rattle.gx_tree.specs.Edits.{AreBeside, Carries, CarriesBelow, CarriesAt, CarriesIn, RemovesFiles, are_siblings, files_below, level_in};
-ghost use Rattle.gx_tree.specs.Homes.{AreAtHome, BelowKeepHome, EntriesKeepHome, GraftKeepsHome, IsItemAtHome, ItemKeepsHome, Keeps};
+//! Taking out what stands at one path, and putting an item at another, where neither path begins with the other. The
+//! directories on both change, and no other. Where no other tree has their entries, these change in place; else new ones share
+//! them first.
+ghost use Rattle.std.specs.Prelude.{◌≡◌, ◌≢◌, ◌<◌, ◌≤◌, ◌+◌, [], IfOk, OnErr, OnOk, IsTrue, drop, false, get_or, length};
+ghost use Rattle.gx_tree.specs.Edits.{AreApart, Carries, CarriesBelow, CarriesAt, CarriesIn, are_apart, files_below, level_in};
+ghost use Rattle.gx_tree.specs.Homes.{BelowKeepHome, EntriesKeepHome, GraftKeepsHome, IsItemAtHome, ItemKeepsHome};
 ghost use Rattle.gx_tree.specs.Nodes.{IsKept, IsLevel, files, is_folder, mark};
 ghost use Rattle.gx_tree.specs.Rooms.{IsReach};
 ghost use Rattle.gx_tree.specs.Searches.{IsEntryAt};
@@ -12,31 +11,27 @@ ghost use Rattle.gx_tree.specs.Views.{shown_entries, shown_item};
 
 use crate::directory::{Directory, Entry, Item, shared_entries};
 use crate::grafting::graft_among;
+use crate::parting::rename_apart;
 use crate::reach::reach_after;
-use crate::search::{place_at, place_by};
+use crate::search::place_by;
 use gx_text::TreePath;
 use std::alloc::{AllocError, Allocator};
 use std::rc::Rc;
 
-/// Whether the rests of two paths differ in their last component alone.
-pub(crate) fn are_siblings<A: Allocator + Copy>(
+/// Whether neither of the rests of two paths begins with the other.
+pub(crate) fn are_apart<A: Allocator + Copy>(
     from: &TreePath<A>,
     to: &TreePath<A>,
     depth: usize,
 ) -> bool
     requires from { depth ≤ length from.now }
     requires to { depth ≤ length to.now }
-    ensures { result ≡ are_siblings (drop depth from.now) (drop depth to.now) }
+    ensures { result ≡ are_apart (drop depth from.now) (drop depth to.now) }
 {
-    let length = from.len();
-    if depth == length || length != to.len() {
+    if depth == from.len() || depth == to.len() {
         return false;
     }
-    let is_same = from.component(depth) == to.component(depth);
-    if depth + 1 == length {
-        return !is_same;
-    }
-    is_same && are_siblings(from, to, depth + 1)
+    from.component(depth) != to.component(depth) || are_apart(from, to, depth + 1)
 }
 
 impl<A: Allocator + Copy> Directory<A> {
@@ -52,7 +47,7 @@ impl<A: Allocator + Copy> Directory<A> {
     ) -> Result<(), AllocError>
         requires from { depth < length from.now }
         requires to { depth < length to.now }
-        requires beside { AreBeside depth from.now to.now }
+        requires apart { AreApart depth from.now to.now }
         requires kept { IsKept (shown_item item.now) }
         ensures files { OnOk result (Carries depth from.now to.now item.now self.old self.new) }
         ensures filled { OnOk result (self.new.files ≢ []) }
@@ -79,7 +74,7 @@ fn rename_in<A: Allocator + Copy>(
 ) -> Result<usize, AllocError>
     requires from { depth < length from.now }
     requires to { depth < length to.now }
-    requires beside { AreBeside depth from.now to.now }
+    requires apart { AreApart depth from.now to.now }
     requires kept { IsKept (shown_item item.now) }
     requires level { IsLevel (level_in entries.now) }
     requires reach { IsReach reach (files_below entries.now) }
@@ -113,7 +108,7 @@ fn rename_among<A: Allocator + Copy>(
 ) -> Result<usize, AllocError>
     requires from { depth < length from.now }
     requires to { depth < length to.now }
-    requires beside { AreBeside depth from.now to.now }
+    requires apart { AreApart depth from.now to.now }
     requires kept { IsKept (shown_item item.now) }
     requires level { IsLevel (shown_entries entries.now.items) }
     requires reach { IsReach reach (files (shown_entries entries.now.items)) }
@@ -123,15 +118,16 @@ fn rename_among<A: Allocator + Copy>(
     ensures unchanged { OnErr result (entries.new.items ≡ entries.old.items) }
     ensures home { OnOk result (EntriesKeepHome IsItemAtHome item.now entries.old.items entries.new) }
 {
-    let length = to.len();
+    let length = from.len();
     let component = from.component(depth);
-    if depth + 1 == length {
-        let reach = graft_among(entries, reach, alloc, to, depth, item)?;
-        return Ok(take_out(entries, reach, component));
-    }
-    match place_by(entries, component, true) {
-        Some(place) => rename_at(entries, place, reach, alloc, from, to, depth, item),
+    match place_by(entries, component, depth + 1 < length) {
         None => graft_among(entries, reach, alloc, to, depth, item),
+        Some(place) => {
+            if component == to.component(depth) {
+                return rename_at(entries, place, reach, alloc, from, to, depth, item);
+            }
+            rename_apart(entries, place, reach, alloc, from, to, depth, item)
+        }
     }
 }
 
@@ -149,10 +145,11 @@ fn rename_at<A: Allocator + Copy>(
 ) -> Result<usize, AllocError>
     requires from { depth + 1 < length from.now }
     requires to { depth + 1 < length to.now }
-    requires beside { AreBeside depth from.now to.now }
+    requires apart { AreApart depth from.now to.now }
     requires kept { IsKept (shown_item item.now) }
     requires level { IsLevel (shown_entries entries.now.items) }
     requires reach { IsReach reach (files (shown_entries entries.now.items)) }
+    requires same { get_or from.now depth [] ≡ get_or to.now depth [] }
     requires place { IsEntryAt (get_or from.now depth []) entries.now.items place }
     ensures level { OnOk result (IsLevel (shown_entries entries.new.items)) }
     ensures files { OnOk result (CarriesAt depth from.now to.now item.now entries.old entries.new) }
@@ -185,7 +182,7 @@ impl<A: Allocator + Copy> Item<A> {
     ) -> Result<(), AllocError>
         requires from { depth < length from.now }
         requires to { depth < length to.now }
-        requires beside { AreBeside depth from.now to.now }
+        requires apart { AreApart depth from.now to.now }
         requires folder { IsTrue (is_folder (shown_item self.now)) }
         requires kept { IsKept (shown_item item.now) }
         ensures kept { OnOk result (CarriesBelow depth from.now to.now item.now self.old self.new) }
@@ -197,29 +194,5 @@ impl<A: Allocator + Copy> Item<A> {
             Item::Folder(below) => below.rename(alloc, from, to, depth, item),
             Item::File(_, _) => unreachable!(),
         }
-    }
-}
-
-// Takes out what stands at a component, and answers the reach of what is left.
-fn take_out<A: Allocator + Copy>(
-    entries: &mut Vec<Entry<A>, A>,
-    reach: usize,
-    component: &[u8],
-) -> usize
-    requires component { IsTrue (is_component component.now) }
-    requires level { IsLevel (shown_entries entries.now.items) }
-    requires reach { IsReach reach (files (shown_entries entries.now.items)) }
-    ensures level { IsLevel (shown_entries entries.new.items) }
-    ensures files { RemovesFiles (component.now ∷ []) entries.old.items entries.new }
-    ensures reach { IsReach result (files (shown_entries entries.new.items)) }
-    ensures home { Keeps AreAtHome AreAtHome entries.old.items entries.new.items }
-{
-    match place_at(entries, component) {
-        Some(place) => {
-            let before = entries[place].reach();
-            entries.remove(place);
-            reach_after(entries, reach, before, 0)
-        }
-        None => reach,
     }
 }

@@ -1,5 +1,5 @@
 //! The root of a tree: a directory, and none where there are no files.
-ghost use Rattle.std.specs.Prelude.{◌≡◌, ◌≢◌, ◌<◌, [], IfErr, IfOk, IsOk, IsTrue, None, OnErr, OnOk, length, take};
+ghost use Rattle.std.specs.Prelude.{◌≡◌, ◌<◌, [], IfErr, IfOk, IsOk, IsTrue, None, OnErr, OnOk, length, take};
 ghost use Rattle.std.specs.Option.{option_map};
 ghost use Rattle.gx_model.specs.Histories.Edits.{copied, removed, renamed};
 ghost use Rattle.gx_model.specs.Histories.Files.{sub_map};
@@ -8,7 +8,7 @@ ghost use Rattle.gx_model.specs.Objects.NameMaps.{IsNameMap};
 ghost use Rattle.gx_text.specs.TreePaths.{is_path};
 ghost use Rattle.gx_tree.specs.Calls.{Becomes};
 ghost use Rattle.gx_tree.specs.Copies.{IsCopyFault, IsHeldAt, graft_fault, shown_held, shown_held_if};
-ghost use Rattle.gx_tree.specs.Edits.{AreBeside, Carries, Grafts};
+ghost use Rattle.gx_tree.specs.Edits.{AreApart, Carries, Grafts};
 ghost use Rattle.gx_tree.specs.Faults.{Refuses};
 ghost use Rattle.gx_tree.specs.Homes.{GraftKeepsHome, HoldsIn, IfThere, IsHeldAtHome, Keeps};
 ghost use Rattle.gx_tree.specs.Lists.{AppendsFiles, are_short};
@@ -22,7 +22,7 @@ use crate::copying::Held;
 use crate::directory::{Directory, Entry, Item};
 use crate::fault::TreeFault;
 use crate::path_tree::Found;
-use crate::renaming::are_siblings;
+use crate::renaming::are_apart;
 use crate::writing::put_tree;
 use gx_object::{Mode, Name, Namer};
 use gx_store::Store;
@@ -190,7 +190,7 @@ impl<A: Allocator + Copy> Root<A> {
         Ok(())
     }
 
-    // Takes out what stands at one path, and puts an item at another: in place where both are in one directory.
+    // Takes out what stands at one path, and puts an item at another: in place where neither begins with the other.
     fn carry(
         &mut self,
         alloc: A,
@@ -204,8 +204,8 @@ impl<A: Allocator + Copy> Root<A> {
         ensures unchanged { OnErr result (self.new ≡ self.old) }
         ensures home { OnOk result (GraftKeepsHome item self.old self.new) }
     {
-        if are_siblings(from, to, 0) {
-            return self.carry_within(alloc, from, to, &item);
+        if are_apart(from, to, 0) {
+            return self.carry_apart(alloc, from, to, &item);
         }
         let mut root = self.shared()?;
         root.remove(alloc, from)?;
@@ -214,15 +214,15 @@ impl<A: Allocator + Copy> Root<A> {
         Ok(())
     }
 
-    // The same within one directory.
-    fn carry_within(
+    // The same where neither path begins with the other.
+    fn carry_apart(
         &mut self,
         alloc: A,
         from: &TreePath<A>,
         to: &TreePath<A>,
         item: &Item<A>,
     ) -> Result<(), AllocError>
-        requires beside { AreBeside 0 from.now to.now }
+        requires apart { AreApart 0 from.now to.now }
         requires kept { IsKept (shown_item item.now) }
         ensures files { OnOk result (Carries 0 from.now to.now item.now self.old self.new) }
         ensures unchanged { OnErr result (self.new ≡ self.old) }

@@ -1,4 +1,8 @@
-//! Namers that count, or that give all objects one name.
+//! Namers that count, or that give many objects one name.
+
+ghost use Rattle.std.specs.Prelude.{◌≡◌};
+ghost use Rattle.gx_model.specs.Objects.Naming.{kind_number, short_name};
+ghost use Rattle.gx_devices.specs.Namers.{short_is_namer};
 
 use gx_object::{Kind, Name, Namer};
 use std::cell::Cell;
@@ -16,6 +20,37 @@ impl Namer for ConstantNamer {
 
     fn name(&self, _kind: Kind, _body: &[u8]) -> Name {
         Name { bytes: [0x11; 20] }
+    }
+}
+
+/// Names many objects alike: 18 bytes 0x11, one byte for the kind (a blob 0, a tree 1, a commit 2, a tag 3), and the body's
+/// length modulo 256.
+#[derive(Clone, Copy, Debug)]
+pub struct ShortNamer;
+
+impl Namer for ShortNamer {
+    ghost name_of = { λ _ kind body. short_name kind body };
+
+    ghost is_namer = { λ _. short_is_namer };
+
+    #[tactic(auto, unfolding(gx_model::specs::Objects::Naming::short_name))]
+    fn name(&self, kind: Kind, body: &[u8]) -> Name {
+        let mut bytes = [0x11; 20];
+        bytes[18] = number(kind);
+        bytes[19] = (body.len() % 256) as u8;
+        Name { bytes }
+    }
+}
+
+/// The kind's byte in the names of `ShortNamer`.
+fn number(kind: Kind) -> u8
+    ensures { result ≡ kind_number kind }
+{
+    match kind {
+        Kind::Blob => 0,
+        Kind::Tree => 1,
+        Kind::Commit => 2,
+        Kind::Tag => 3,
     }
 }
 

@@ -1,4 +1,4 @@
--- The names that the two namers give have 20 bytes.
+-- SHA-1 digests, the names that Git gives, have 20 bytes.
 use Rattle.std.specs.Prelude.{◌≡◌, ℕ, zero, suc, ◌*◌, ◌/◌, ◌%◌, true, refl, List, length, nat_lt, slice_index, IsTrue}
 use Rattle.std.specs.List.{list_all}
 use Rattle.std.specs.Int.{to_be_bytes, w32}
@@ -8,9 +8,7 @@ use Rattle.std.proofs.lemmas.List.Folds.{list_all-append}
 use Rattle.sha1.specs.Sha1.{sha1, digest_bytes}
 use Rattle.gx_model.specs.Texts.{Bytes}
 use Rattle.gx_model.specs.Objects.{IsNamer}
-use Rattle.gx_model.specs.Objects.Naming.{kind_number, record_text, short_name}
-use Rattle.gx_model.specs.declared.objects.Kind.{Kind}
-use Rattle.gx_model.specs.declared.objects.Kind.TheVariants.{Blob, Tree, Commit, Tag}
+use Rattle.gx_model.specs.Objects.Naming.{record_text}
 
 abbrev are_bytes : Bytes → Type 0
 are_bytes x = IsTrue (list_all (λ b. nat_lt b 256) x)
@@ -38,13 +36,3 @@ digest_named m = digest_is _ 5
 
 pub sha1_is_namer : IsNamer (λ kind body. sha1 (record_text kind body))
 sha1_is_namer = record { long = λ kind body. (digest_named (record_text kind body)).0; bytes = λ kind body. (digest_named (record_text kind body)).1 }
-
-kind_byte : (kind : Kind) → nat_lt (kind_number kind) 256 ≡ true
-kind_byte Blob = refl
-kind_byte Tree = refl
-kind_byte Commit = refl
-kind_byte Tag = refl
-
-pub short_is_namer : IsNamer short_name
-unfolding short_name
-short_is_namer = record { long = λ kind body. refl; bytes = λ kind body. and_from _ _ (kind_byte kind) (and_from _ _ (is_byte (length body)) refl) }

@@ -18,7 +18,7 @@ pub use entry::{Entry, append_entry};
 pub use fault::BadObject;
 pub use gx_model::{Kind, Mode};
 pub use name::Name;
-pub use namer::{Namer, Sha1Namer, ShortNamer};
+pub use namer::{Namer, Sha1Namer};
 pub use order::{compare_marked, is_canonical};
 pub use tag::{TagParts, TagView, decode_tag, encode_tag};
 pub use tree::{TreeEntries, decode_tree, encode_tree, encode_tree_into, held_tree};

@@ -4,8 +4,8 @@ ghost use Rattle.std.specs.Prelude.{◌≡◌, ℕ, List};
 ghost use Rattle.sha1.specs.Sha1.{sha1};
 ghost use Rattle.gx_model.specs.declared.objects.Kind.{Kind};
 ghost use Rattle.gx_model.specs.Objects.{IsNamer};
-ghost use Rattle.gx_model.specs.Objects.Naming.{kind_number, record_text, short_name};
-ghost use Rattle.gx_object.specs.Namers.{sha1_is_namer, short_is_namer};
+ghost use Rattle.gx_model.specs.Objects.Naming.{record_text};
+ghost use Rattle.gx_object.specs.Namers.{sha1_is_namer};
 
 use crate::{Kind, Name};
 use itoa::Buffer;
@@ -45,36 +45,5 @@ impl Namer for Sha1Namer {
         Name {
             bytes: hasher.finalize(),
         }
-    }
-}
-
-/// Names many objects alike, for tests: 18 bytes 0x11, one byte for the kind (a blob 0, a tree 1, a commit 2, a tag 3),
-/// and the body's length modulo 256.
-#[derive(Clone, Copy, Debug)]
-pub struct ShortNamer;
-
-impl Namer for ShortNamer {
-    ghost name_of = { λ _ kind body. short_name kind body };
-
-    ghost is_namer = { λ _. short_is_namer };
-
-    #[tactic(auto, unfolding(gx_model::specs::Objects::Naming::short_name))]
-    fn name(&self, kind: Kind, body: &[u8]) -> Name {
-        let mut bytes = [0x11; 20];
-        bytes[18] = number(kind);
-        bytes[19] = (body.len() % 256) as u8;
-        Name { bytes }
-    }
-}
-
-/// The kind's byte in the names of `ShortNamer`.
-fn number(kind: Kind) -> u8
-    ensures { result ≡ kind_number kind }
-{
-    match kind {
-        Kind::Blob => 0,
-        Kind::Tree => 1,
-        Kind::Commit => 2,
-        Kind::Tag => 3,
     }
 }

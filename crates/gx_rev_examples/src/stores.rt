@@ -1,7 +1,7 @@
 //! Stores: what is put, found, refused and cut off.
 
-use gx_devices::Refusing;
-use gx_object::{Kind, Name, ShortNamer};
+use gx_devices::{Refusing, ShortNamer};
+use gx_object::{Kind, Name};
 use gx_store::{Prefix, Store, StoreFault, Text};
 use std::alloc::{AllocError, Allocator, Global};
 use std::hash::RandomState;

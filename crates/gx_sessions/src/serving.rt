@@ -6,7 +6,8 @@ use gx_cli::{
     AdaptReport, CliFault, Features, ImportReport, Line, Outcome, Pruned, adapt_stream,
     import_into, serve, serve_owned,
 };
-use gx_object::{Namer, Sha1Namer, ShortNamer};
+use gx_devices::ShortNamer;
+use gx_object::{Namer, Sha1Namer};
 use gx_text::{Held, Sink, Source};
 use std::alloc::{AllocError, Global};
 use std::hash::RandomState;

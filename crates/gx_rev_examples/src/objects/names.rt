@@ -1,6 +1,7 @@
 //! The names of objects: their digits, and how bodies are named.
 
-use gx_object::{Kind, Name, Namer, Sha1Namer, ShortNamer};
+use gx_devices::ShortNamer;
+use gx_object::{Kind, Name, Namer, Sha1Namer};
 
 const EMPTY_TREE: Name = Name {
     bytes: *b"\x4b\x82\x5d\xc6\x42\xcb\x6e\xb9\xa0\x60\xe5\x4b\xf8\xd6\x92\x88\xfb\xee\x49\x04",

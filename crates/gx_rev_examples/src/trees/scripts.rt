@@ -6,8 +6,8 @@
 //! alone, those behind a `+` of one that is done.
 
 use crate::trees::desk::{Desk, Heap, Outcome, desk_of, done, halves};
-use gx_devices::Refusing;
-use gx_object::{Kind, ShortNamer};
+use gx_devices::{Refusing, ShortNamer};
+use gx_object::Kind;
 use gx_store::Store;
 use gx_tree::{PathTree, TreeFault};
 use std::alloc::Global;

@@ -13,10 +13,8 @@ use Rattle.gx_model.specs.Histories.Edits.{modified, removed}
 use Rattle.gx_model.specs.Histories.Values.{Commit, Value, blob_value, commit_value, files_of, is_content, is_leaf, list_of, parents_of}
 use Rattle.gx_model.specs.Histories.{History, IsIn, is_in, with_one, with_value}
 use Rattle.gx_model.specs.Replay.{State, all_changed, committed_for}
-use Rattle.gx_model.specs.Objects.{hex}
-use Rattle.gx_model.specs.Records.{name_of}
 use Rattle.gx_model.specs.Export.{content_in, contents, file_change, marked_in, with_blobs, with_commit}
-use Rattle.gx_model.specs.Changes.{base_files, commit_changes, commit_ref, commit_with_changes, gone_paths, is_this_leaf, named_in, own_files, with_changes}
+use Rattle.gx_model.specs.Changes.{base_files, commit_changes, commit_ref, commit_revision, commit_with_changes, gone_paths, is_this_leaf, named_in, own_files, with_changes}
 use Rattle.gx_model.specs.Laws.ExportLaws.{nothing, steps, values_with_blobs, values_with_commit}
 use Rattle.gx_model.proofs.ChangedFiles.{all_put, all_removed, changes_make, same_leaf}
 use Rattle.gx_model.proofs.CommitSteps.{AreNamed, Branches, Tags, all_still, are_leaves, begun_on, block_replayed, blobs_have, blobs_keep, committed_on, content_given, front_of, leaves_of, map_of, marks_name, rest_of, state_with}
@@ -181,7 +179,7 @@ module _ (name : Kind → Bytes → Bytes) where
   -- ---- the commands of a commit
 
   pub named_by_mark : (ws : List Value) (c : Commit) → IsIn ws (commit_value c) → named_in name ws c ≡ marked_in ws (commit_value c)
-  named_by_mark ws c i = ap (λ t. cond t (marked_in ws (commit_value c)) (Named (hex (name_of name (commit_value c))))) (is_is_in ws (commit_value c) i)
+  named_by_mark ws c i = ap (λ t. cond t (marked_in ws (commit_value c)) (Named (commit_revision name c))) (is_is_in ws (commit_value c) i)
 
   all_named : (h : History) (ts : Tags) (r : Bytes) (ws vs : List Value) (bs : Branches) (ps : List Commit) → AllByRecursion (λ p. IsIn ws (commit_value p)) ps → AreNamed name h ts r (named_in name ws) (state_with h ws vs bs ts) ps
   all_named h ts r ws vs bs ps k = by ps k (marks_name name h ts r ws vs bs ps k) where

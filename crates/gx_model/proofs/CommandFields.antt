@@ -1,5 +1,5 @@
 -- The fields that an export's lines have are read again.
-use Rattle.std.proofs.Common.{◌≡◌, ℕ, ◌<◌, ◌^◌, Bool, true, false, cond, Some, None, Ok, [], ◌∷◌, length, nat_eq, codes, refl, sym, ap, ◌∙◌, arith}
+use Rattle.std.proofs.Common.{◌≡◌, ℕ, ◌<◌, ◌^◌, Bool, true, false, cond, ◌&&◌, Some, None, Ok, [], ◌∷◌, ◌++◌, length, nat_eq, codes, refl, sym, ap, ◌∙◌, arith}
 use Rattle.std.specs.Prelude.{◌==◌}
 use Rattle.std.specs.List.{list_all}
 use Rattle.std.specs.Char.{is_ascii_digit}
@@ -85,12 +85,17 @@ where_link (b ∷ bs) h =
 
 -- ---- a commit's digits
 
-pub commit_ish_digits : (x : Bytes) → IsLink x → commit_ish_of x ≡ Ok (Named x)
+not_zeros : (xs : Bytes) → list_all (λ b. b == 48) (xs ++ codes "^0") ≡ false
+not_zeros [] = refl
+not_zeros (x ∷ xs) = elim (x == 48) as (λ t. (t && list_all (λ b. b == 48) (xs ++ codes "^0")) ≡ false) [ true ↦ not_zeros xs | false ↦ refl ]
+
+pub commit_ish_digits : (x : Bytes) → is_name_text x ≡ true → commit_ish_of (x ++ codes "^0") ≡ Ok (Named (x ++ codes "^0"))
 unfolding commit_ish_of
-commit_ish_digits [] h = absurd (false≢true h.0)
+commit_ish_digits [] h = absurd (false≢true h)
 commit_ish_digits (b ∷ bs) h =
-    let c = hex_no_colon b (and_one (is_hex_digit b) _ (all_hex (b ∷ bs) h.0)) in
-    ap (λ t. commit_ish_by (b ∷ bs) (cond t (Some (mark_number bs)) None)) c ∙ rw h.1 refl
+    let c = hex_no_colon b (and_one (is_hex_digit b) _ (all_hex (b ∷ bs) h)) in
+    let x = (b ∷ bs) ++ codes "^0" in
+    ap (λ t. commit_ish_by x (cond t (Some (mark_number (bs ++ codes "^0"))) None)) c ∙ rw (not_zeros (b ∷ bs)) refl
 
 -- ---- paths
 

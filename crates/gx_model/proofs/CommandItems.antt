@@ -54,7 +54,7 @@ merge_item p = Line (codes "merge" ++ 32 ∷ commit_ish_text p)
 
 marked_read : (c : CommitIsh) → IsNamedCommit c → commit_ish_of (commit_ish_text c) ≡ Ok c
 marked_read (Marked n) h = commit_ish_read n h
-marked_read (Named x) h = commit_ish_digits x h
+marked_read (Named x) h = subst (λ y. commit_ish_of y ≡ Ok (Named y)) (sym h.2) (commit_ish_digits h.0 h.1)
 
 pub merges_read : (n : ℕ) (ms : List CommitIsh) (more : List Item) → length ms ≤ n → AllByRecursion IsNamedCommit ms → next_is (codes "merge") more ≡ false → merges_within n (stream (map merge_item ms ++ more)) ≡ Ok (ms, stream more)
 unfolding merges_within

@@ -35,8 +35,11 @@ second_of true true c d e f h = refl
 second_of true false c d e f h = absurd (false≢true h)
 second_of false b c d e f h = absurd (false≢true h)
 
+pub all_ref_bytes : (n : Bytes) → is_ref_name n ≡ true → list_all is_ref_byte n ≡ true
+all_ref_bytes n h = second_of _ (list_all is_ref_byte n) _ _ _ _ h
+
 pub ref_is_line : (n : Bytes) → is_ref_name n ≡ true → is_line n ≡ true
-ref_is_line n h = line_by is_ref_byte refl n (second_of _ (list_all is_ref_byte n) _ _ _ _ h)
+ref_is_line n h = line_by is_ref_byte refl n (all_ref_bytes n h)
 
 pub tag_is_line : (n : Bytes) → is_tag_name n ≡ true → is_line n ≡ true
 tag_is_line n h = ref_is_line (tag_ref n) h

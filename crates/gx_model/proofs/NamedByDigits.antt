@@ -1,6 +1,6 @@
--- A commit is named by the digits of its name, where its value is held.
+-- A commit is named by the digits of its name and `^0`, where its value is held.
 use Rattle.std.proofs.Common.{◌≡◌, ℕ, ◌*◌, ◌-◌, Bool, true, false, None, Ok, List, [], ◌∷◌, ◌++◌, length, drop, map, codes, refl, sym, ap, ◌∙◌, arith, inl}
-use Rattle.std.specs.Prelude.{◌||◌, ◌==◌, nat_eq}
+use Rattle.std.specs.Prelude.{◌&&◌, ◌||◌, ◌==◌, nat_eq}
 use Rattle.std.specs.Bool.{passes}
 use Rattle.std.specs.List.{filter, onto_first, list_all, ends_with, starts_with, slice_split}
 use Rattle.std.specs.Cmp.Lexicographic.{pointwise}
@@ -12,16 +12,17 @@ use Rattle.std.proofs.lemmas.Slice.Eq.{bytes_eq-Decides}
 use Rattle.gx_model.specs.declared.objects.Kind.{Kind}
 use Rattle.gx_model.specs.Texts.{Bytes, cut_at, has_pair, lacks, same_bytes}
 use Rattle.gx_model.specs.Texts.RefNames.{is_ref_byte, is_ref_component, is_ref_name, ref_components}
-use Rattle.gx_model.specs.Histories.Values.{Value, is_hex_digit, is_name_text}
+use Rattle.gx_model.specs.Histories.Values.{Commit, Value, commit_value, is_hex_digit, is_name_text}
 use Rattle.gx_model.specs.Histories.{IsIn, Target}
 use Rattle.gx_model.specs.Objects.{IsNamer, hex, unhex}
 use Rattle.gx_model.specs.Records.{body_of, kind_of, name_of}
 use Rattle.gx_model.specs.Laws.RangeLaws.{AreToldByName}
-use Rattle.gx_model.specs.Revisions.{base_and_suffixes, base_of, revision_of}
+use Rattle.gx_model.specs.Revisions.{base_and_suffixes, base_of, parent, revision_of}
 use Rattle.gx_model.specs.Revisions.Denotation.{base_value, begins_with_digits, denoted, full_name, is_any_digit, lower, value_denoted}
 use Rattle.gx_model.proofs.Bases.{begins_own, filtered_in, in_filtered, own_begins}
 use Rattle.gx_model.proofs.BodiesReadBack.{unhex_hex}
 use Rattle.gx_model.proofs.Cuts.{lacks-cons}
+use Rattle.gx_model.proofs.LineTexts.{all_ref_bytes}
 use Rattle.gx_model.proofs.LowerDigits.{lower_again}
 use Rattle.gx_model.proofs.NameDigits.{hex_long, hex_lower}
 use Rattle.gx_model.proofs.PathTests.{all_drop, is_true}
@@ -40,16 +41,17 @@ no_cut c (x ∷ xs) h = let p = lacks-cons c x xs h in rw (p.0, no_cut c xs p.1)
 no_colon : (b : ℕ) → is_hex_digit b ≡ true → (b == 58) ≡ false
 no_colon b e = grind (arith, nat_tests)
 
-lacks_colon : (xs : Bytes) → AreDigits xs → lacks 58 xs ≡ true
+-- digits and `^0`
+lacks_colon : (xs : Bytes) → AreDigits xs → lacks 58 (xs ++ codes "^0") ≡ true
 lacks_colon [] h = refl
 lacks_colon (x ∷ xs) h = let p = and_parts (is_hex_digit x) _ h in rw (no_colon x p.0) (lacks_colon xs p.1)
 
 no_suffix_first : (b : ℕ) → is_hex_digit b ≡ true → (b == 94 || b == 126) ≡ false
 no_suffix_first b e = grind (arith, nat_tests)
 
-base_alone : (xs : Bytes) → AreDigits xs → base_and_suffixes xs ≡ (xs, [])
-base_alone [] h = refl
-base_alone (x ∷ xs) h = let p = and_parts (is_hex_digit x) _ h in rw (no_suffix_first x p.0, base_alone xs p.1) refl
+one_suffix : (xs : Bytes) → AreDigits xs → base_and_suffixes (xs ++ codes "^0") ≡ (xs, codes "^0" ∷ [])
+one_suffix [] h = refl
+one_suffix (x ∷ xs) h = let p = and_parts (is_hex_digit x) _ h in rw (no_suffix_first x p.0, one_suffix xs p.1) refl
 
 -- ---- as a ref name
 
@@ -119,12 +121,20 @@ digits_are_ref x h =
 base_is : (x : Bytes) → is_name_text x ≡ true → base_of x ≡ Ok x
 base_is x h = rw (digits_are_ref x h, no_other_text x (codes "@") h refl) refl
 
--- and a revision
-pub digits_are_revision : (x : Bytes) → is_name_text x ≡ true → revision_of x ≡ Ok (record { base = x; suffixes = []; path = None })
+-- with `^0` behind them they are none
+no_ref_bytes : (xs : Bytes) → list_all is_ref_byte (xs ++ codes "^0") ≡ false
+no_ref_bytes [] = refl
+no_ref_bytes (x ∷ xs) = elim (is_ref_byte x) as (λ t. (t && list_all is_ref_byte (xs ++ codes "^0")) ≡ false) [ true ↦ no_ref_bytes xs | false ↦ refl ]
+
+pub no_ref_has_caret : (x : Bytes) → is_ref_name (x ++ codes "^0") ≡ false
+no_ref_has_caret x = false_from_ne_true _ (λ t. false≢true (sym (no_ref_bytes x) ∙ all_ref_bytes (x ++ codes "^0") t))
+
+-- but a revision
+pub digits_are_revision : (x : Bytes) → is_name_text x ≡ true → revision_of (x ++ codes "^0") ≡ Ok (record { base = x; suffixes = parent 0 ∷ []; path = None })
 unfolding revision_of
 digits_are_revision x h =
     let p = parts_of_name x h in
-    rw (no_cut 58 x (lacks_colon x p.1), base_alone x p.1, base_is x h) refl
+    rw (no_cut 58 (x ++ codes "^0") (lacks_colon x p.1), one_suffix x p.1, base_is x h) refl
 
 -- ---- what they name
 
@@ -160,6 +170,7 @@ module _ (name : Kind → Bytes → Bytes) (namer : IsNamer name) where
       by [] f j = absurd j
       by (w ∷ ws) f j = ap Ok (f w (inl refl))
 
-  pub digits_denote : (held new : List Value) (refs : List (Bytes × Target)) (v : Value) → AreToldByName name held → IsIn held v → value_denoted name (record { values = held ++ new; refs = refs }) (record { base = hex (name_of name v); suffixes = []; path = None }) ≡ Ok v
+  pub digits_denote : (held new : List Value) (refs : List (Bytes × Target)) (c : Commit) → AreToldByName name held → IsIn held (commit_value c)
+      → value_denoted name (record { values = held ++ new; refs = refs }) (record { base = hex (name_of name (commit_value c)); suffixes = parent 0 ∷ []; path = None }) ≡ Ok (commit_value c)
   unfolding denoted
-  digits_denote held new refs v told i = rw (digits_give held new refs v told i) refl
+  digits_denote held new refs c told i = rw (digits_give held new refs (commit_value c) told i) refl

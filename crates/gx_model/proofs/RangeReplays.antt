@@ -8,6 +8,7 @@ use Rattle.std.specs.Prelude.{reverse, T, ◌⊎◌}
 use Rattle.gx_model.specs.declared.faults.Fault.TheVariants as faults
 use Rattle.gx_model.specs.declared.objects.Kind.{Kind}
 use Rattle.gx_model.specs.Texts.{Bytes, same_bytes}
+use Rattle.gx_model.specs.Texts.RefNames.{is_ref_name}
 use Rattle.gx_model.specs.Streams.Commands.{Command}
 use Rattle.gx_model.specs.Histories.Values.{Commit, Value, commit_value, is_proper, tag_value}
 use Rattle.gx_model.specs.Histories.{History, IsHistory, IsIn, IsRefOf, IsWhole, Target, at_commit, at_tag, value_at, with_one}
@@ -26,7 +27,7 @@ use Rattle.gx_model.proofs.ExportSteps.{all_replayed, proper_refs}
 use Rattle.gx_model.proofs.KeptCommits.{all_in, any_from, one_of_all, reached_held}
 use Rattle.gx_model.proofs.PathTests.{is_true, same_is}
 use Rattle.gx_model.proofs.PublishedRefs.{Refs, at_branch, branch_set, ref_branches, ref_branches_sorted, ref_tags, ref_values, refs_held, same_refs, set_branch}
-use Rattle.gx_model.proofs.RangeSteps.{ArePlain, IsWrittenOrHeld, commits_replayed, plain_put, refs_replayed, values_sent}
+use Rattle.gx_model.proofs.RangeSteps.{ArePlain, HaveNames, IsWrittenOrHeld, commits_replayed, have_names, plain_put, refs_replayed, values_sent}
 use Rattle.gx_model.proofs.ReachedValues.{target_held}
 use Rattle.gx_model.proofs.ReceivedValues.{FollowsSent, HoldsSent, IsFront, front_one, held_there}
 use Rattle.gx_model.proofs.SentCommits.{excluded_below, follows_sent, is_sent, not_excluded, refs_left, sent_are, sent_or_excluded}
@@ -129,6 +130,9 @@ module _ (name : Kind → Bytes → Bytes) (namer : IsNamer name) (closed : Bool
         | inr gone ↦ inr (receive.rest.holds (peeled_at r.1) there gone)
       ]) h.refs x.held
 
+  set_names : HaveNames set
+  set_names = refs_left (λ r. is_ref_name r.0 ≡ true) (λ r. is_ref_name r.0 ≡ true) (λ r. is_in_range words (peeled_at r.1)) (λ r n _. n) h.refs (have_names h.refs (passes _ x.ref_names))
+
   sorted_set : T (is_sorted byte_cmp set)
   sorted_set = sorted_filter (λ r. is_in_range words (peeled_at r.1)) h.refs (passes _ x.sorted)
 
@@ -166,7 +170,7 @@ module _ (name : Kind → Bytes → Bytes) (namer : IsNamer name) (closed : Bool
       let commands = range_commands name closed h words in
       let ws = all_changes sent in
       let vs = values_sent [] target.values sent in
-      let done = commits_replayed name namer target receive.told set receive.rest.named [] target.values [] [] sent begun_held follows (λ t e. refl) in
+      let done = commits_replayed name namer target receive.told set set_names [] target.values [] [] sent begun_held follows (λ t e. refl) in
       let held = done.held in
       let bs = without_carrier set sent (branches_after set [] sent) in
       let g = go_on_refs set (branches_after set [] sent) sent (all_go set [] [] sent (record { sorted = tt; on = λ q d e. absurd cc })) in
@@ -188,7 +192,7 @@ module _ (name : Kind → Bytes → Bytes) (namer : IsNamer name) (closed : Bool
       let inner : steps name (start target) (sending_commands name sent set) ≡ Ok t =
       steps_after name (start target) (state_with target ws vs (branches_after set [] sent) []) (commits_with_changes name set [] sent) (carrier_reset set sent ++ ref_part) done.steps
       ∙ carrier_replayed ws vs (branches_after set [] sent) ref_part
-      ∙ refs_replayed name namer target receive.told ws vs bs [] set own known receive.rest.named held.front (carrier_plain (branches_after set [] sent) done.plain) in
+      ∙ refs_replayed name namer target receive.told ws vs bs [] set own known set_names held.front (carrier_plain (branches_after set [] sent) done.plain) in
       let all = closed_steps name closed (sending_commands name sent set) (start target) t inner in
       let forward : is_fast_forward t ≡ true = is_true _ (all_forward h target words sorted_set sent apart_sent receive.rest.forward bs g) in
       let same : final_refs t ≡ fold (λ rs r. put byte_cmp r.0 r.1 rs) target.refs set = refs_after target.refs set bs (passes _ receive.history.sorted) sorted_set g.sorted others in

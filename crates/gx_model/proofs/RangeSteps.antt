@@ -2,7 +2,7 @@
 use Rattle.std.proofs.Common.{◌≡◌, Bool, true, false, cond, Option, Some, None, Result, Ok, Err, List, [], ◌∷◌, ◌++◌, map, refl, sym, ap, subst, ◌∙◌, append-nil, append_assoc, inl, inr}
 use Rattle.std.specs.Bool.{passes}
 use Rattle.std.specs.FinMap.Entries.{find, find-put, put}
-use Rattle.std.specs.List.{filter, fold, AllByRecursion}
+use Rattle.std.specs.List.{filter, fold, list_all, AllByRecursion}
 use Rattle.std.specs.Ordering.{eq_by_cmp}
 use Rattle.std.specs.Prelude.{T, ◌⊎◌}
 use Rattle.std.proofs.lemmas.Bool.{false≢true, false_from_ne_true}
@@ -11,18 +11,19 @@ use Rattle.gx_model.specs.declared.faults.Fault.{Fault}
 use Rattle.gx_model.specs.declared.faults.Fault.TheVariants as faults
 use Rattle.gx_model.specs.declared.objects.Kind.{Kind}
 use Rattle.gx_model.specs.Texts.{Bytes, same_bytes}
+use Rattle.gx_model.specs.Texts.RefNames.{is_ref_name}
 use Rattle.gx_model.specs.Faults.{and_then}
 use Rattle.gx_model.specs.Streams.Commands.{Named}
-use Rattle.gx_model.specs.Histories.Values.{Commit, Value, commit_value, files_of, is_content, is_name_text, is_proper_text, list_of, parents_of, tag_value, text_of}
+use Rattle.gx_model.specs.Histories.Values.{Commit, Value, commit_value, files_of, is_content, is_proper_text, list_of, parents_of, tag_value, text_of}
 use Rattle.gx_model.specs.Histories.{History, IsIn, IsRefOf, at_commit, at_tag, is_in, with_one}
 use Rattle.gx_model.specs.Objects.{IsNamer, hex}
 use Rattle.gx_model.specs.Records.{name_of}
-use Rattle.gx_model.specs.Revisions.{revision_of}
+use Rattle.gx_model.specs.Revisions.{parent, revision_of}
 use Rattle.gx_model.specs.Revisions.Denotation.{commit_in, value_denoted}
 use Rattle.gx_model.specs.Revisions.Ranges.{reaches}
 use Rattle.gx_model.specs.Replay.{byte_cmp, commit_alone, committed, committed_for, is_itself, ok_or_mark, or_branch, peeled_at}
 use Rattle.gx_model.specs.Export.{carrier, contents, marked_in, ref_by, with_blobs}
-use Rattle.gx_model.specs.Changes.{commit_changes, commit_ref, commit_with_changes, commits_with_changes, first_or_carrier, is_branch, named_in, own_files, reaching, with_changes}
+use Rattle.gx_model.specs.Changes.{commit_changes, commit_ref, commit_revision, commit_with_changes, commits_with_changes, first_or_carrier, is_branch, named_in, own_files, reaching, with_changes}
 use Rattle.gx_model.specs.Laws.ExportLaws.{steps, values_with_blobs}
 use Rattle.gx_model.specs.Laws.RangeLaws.{AreToldByName}
 use Rattle.gx_model.proofs.AddedValues.{is_in_is}
@@ -31,33 +32,37 @@ use Rattle.gx_model.proofs.ChangeSteps.{changes_replayed}
 use Rattle.gx_model.proofs.CommitSteps.{AreNamed, Branches, Tags, begun_on, block_replayed, blobs_have, blobs_keep, committed_on, number_found, state_with, steps_after}
 use Rattle.gx_model.proofs.GrownRecords.{is_is_in}
 use Rattle.gx_model.proofs.KeptCommits.{each_one, one_of_all}
-use Rattle.gx_model.proofs.NamedByDigits.{digits_are_revision, digits_denote, name_is_text}
-use Rattle.gx_model.proofs.PathTests.{first}
+use Rattle.gx_model.proofs.NamedByDigits.{digits_are_revision, digits_denote, name_is_text, no_ref_has_caret}
+use Rattle.gx_model.proofs.PathTests.{first, is_true, second}
 use Rattle.gx_model.proofs.PublishedRefs.{Refs, ref_branches, ref_tags, ref_values}
 use Rattle.gx_model.proofs.ReceivedValues.{FollowsSent, HoldsSent, IsFront, IsKnown, commit_sent, front_blobs, front_one, held_parts, known_held, values_with_changes}
 use Rattle.gx_model.proofs.TextMaps.{lookup_is, order, same_text, tied}
 
--- ---- names that are no digits
+-- ---- names of branches
 
--- no branch is named by forty digits
+-- what is no ref name names no branch
 abbrev pub ArePlain : Branches → Type 0
-ArePlain bs = (x : Bytes) → is_name_text x ≡ true → find byte_cmp x bs ≡ None
+ArePlain bs = (x : Bytes) → is_ref_name x ≡ false → find byte_cmp x bs ≡ None
 
-pub plain_put : (r : Bytes) (o : Option Commit) (bs : Branches) → is_name_text r ≡ false → ArePlain bs → ArePlain (put byte_cmp r o bs)
+pub plain_put : (r : Bytes) (o : Option Commit) (bs : Branches) → is_ref_name r ≡ true → ArePlain bs → ArePlain (put byte_cmp r o bs)
 plain_put r o bs n h x t =
     find-put byte_cmp order x r o bs
     ∙ elim (eq_by_cmp byte_cmp x r) as (λ b. eq_by_cmp byte_cmp x r ≡ b → cond b (Some o) (find byte_cmp x bs) ≡ None) [
-      | true ↦ λ e. absurd (false≢true (sym n ∙ ap is_name_text (sym (same_text x r (tied x r e))) ∙ t))
+      | true ↦ λ e. absurd (false≢true (sym t ∙ ap is_ref_name (same_text x r (tied x r e)) ∙ n))
       | false ↦ λ e. h x t
     ] refl
 
-pub plain_begun : (r : Bytes) (ps : List Commit) (bs : Branches) → is_name_text r ≡ false → ArePlain bs → ArePlain (begun_on r ps bs)
+pub plain_begun : (r : Bytes) (ps : List Commit) (bs : Branches) → is_ref_name r ≡ true → ArePlain bs → ArePlain (begun_on r ps bs)
 plain_begun r [] bs n h = plain_put r None bs n h
 plain_begun r (p ∷ ps) bs n h = h
 
--- no ref is named by forty digits
+-- refs have ref names
 abbrev pub HaveNames : Refs → Type 0
-HaveNames refs = AllByRecursion (λ r. is_name_text r.0 ≡ false) refs
+HaveNames refs = AllByRecursion (λ r. is_ref_name r.0 ≡ true) refs
+
+pub have_names : (refs : Refs) → T (list_all (λ r. is_ref_name r.0) refs) → HaveNames refs
+have_names [] h = tt
+have_names (r ∷ rs) h = (is_true _ (first (is_ref_name r.0) _ h), have_names rs (second (is_ref_name r.0) _ h))
 
 -- what the carrier and the names of refs pass is passed by the ref that a commit goes out on
 pub ref_passes : (t : Bytes → Bool) (b : Bool) (refs : Refs) (c : Commit) → t carrier ≡ b → AllByRecursion (λ r. t r.0 ≡ b) refs → t (commit_ref refs c) ≡ b
@@ -73,12 +78,12 @@ ref_passes t b refs c e h = by (reaching refs c) (all refs h) where
   by [] g = e
   by (x ∷ ns) g = first_holds (λ n. t n ≡ b) x ns g
 
--- and so no commit goes out on a name of forty digits
-pub plain_ref : (refs : Refs) (c : Commit) → HaveNames refs → is_name_text (commit_ref refs c) ≡ false
-plain_ref refs c h = ref_passes is_name_text false refs c refl h
+-- and so each commit goes out on a ref name
+pub plain_ref : (refs : Refs) (c : Commit) → HaveNames refs → is_ref_name (commit_ref refs c) ≡ true
+plain_ref refs c h = ref_passes is_ref_name true refs c refl h
 
-apart_text : (x y : Bytes) → is_name_text x ≡ false → is_name_text y ≡ true → same_bytes x y ≡ false
-apart_text x y n t = false_from_ne_true _ (λ e. false≢true (sym n ∙ ap is_name_text ((bytes_eq-Decides x y).0 e) ∙ t))
+apart_text : (x y : Bytes) → is_ref_name x ≡ true → is_ref_name y ≡ false → same_bytes x y ≡ false
+apart_text x y n t = false_from_ne_true _ (λ e. false≢true (sym t ∙ ap is_ref_name (sym ((bytes_eq-Decides x y).0 e)) ∙ n))
 
 -- the values after all commits
 abbrev pub values_sent : List Value → List Value → List Commit → List Value
@@ -94,12 +99,13 @@ module _ (name : Kind → Bytes → Bytes) (namer : IsNamer name) (h : History) 
   digits_of p = hex (name_of name (commit_value p))
 
   by_digits : (kind : Value → Result Commit Fault) (p : Commit) → kind (commit_value p) ≡ Ok p → (ws vs : List Value) (bs : Branches) (ts : Tags) → IsFront h.values vs → ArePlain bs → IsIn h.values (commit_value p)
-      → committed name kind (state_with h ws vs bs ts) (Named (digits_of p)) ≡ Ok p
+      → committed name kind (state_with h ws vs bs ts) (Named (commit_revision name p)) ≡ Ok p
   by_digits kind p e ws vs bs ts f plain i =
       let x = digits_of p in
+      let y = commit_revision name p in
       let text = name_is_text name namer (commit_value p) in
-      let denoted = subst (λ (us : List Value). value_denoted name (record { values = us; refs = h.refs }) (record { base = x; suffixes = []; path = None }) ≡ Ok (commit_value p)) (sym f.1) (digits_denote name namer h.values f.0 h.refs (commit_value p) told i) in
-      ap (λ o. or_branch o (and_then (and_then (revision_of x) (λ r. value_denoted name (record { values = vs; refs = h.refs }) r)) kind)) (lookup_is x bs ∙ plain x text)
+      let denoted = subst (λ (us : List Value). value_denoted name (record { values = us; refs = h.refs }) (record { base = x; suffixes = parent 0 ∷ []; path = None }) ≡ Ok (commit_value p)) (sym f.1) (digits_denote name namer h.values f.0 h.refs p told i) in
+      ap (λ o. or_branch o (and_then (and_then (revision_of y) (λ r. value_denoted name (record { values = vs; refs = h.refs }) r)) kind)) (lookup_is y bs ∙ plain y (no_ref_has_caret x))
       ∙ ap (λ r. and_then (and_then r (λ r. value_denoted name (record { values = vs; refs = h.refs }) r)) kind) (digits_are_revision x text)
       ∙ ap (λ r. and_then r kind) denoted ∙ e
 
@@ -107,26 +113,26 @@ module _ (name : Kind → Bytes → Bytes) (namer : IsNamer name) (h : History) 
   pub name_gives : (kind : Value → Result Commit Fault) (p : Commit) → kind (commit_value p) ≡ Ok p → (ws vs : List Value) (bs : Branches) (ts : Tags) → IsFront h.values vs → ArePlain bs → IsWrittenOrHeld ws p
       → committed name kind (state_with h ws vs bs ts) (named_in name ws p) ≡ Ok p
   name_gives kind p e ws vs bs ts f plain k =
-      elim (is_in ws (commit_value p)) as (λ t. is_in ws (commit_value p) ≡ t → committed name kind (state_with h ws vs bs ts) (cond t (marked_in ws (commit_value p)) (Named (digits_of p))) ≡ Ok p) [
+      elim (is_in ws (commit_value p)) as (λ t. is_in ws (commit_value p) ≡ t → committed name kind (state_with h ws vs bs ts) (cond t (marked_in ws (commit_value p)) (Named (commit_revision name p))) ≡ Ok p) [
         | true ↦ λ t. ap (λ o. and_then (ok_or_mark o) kind) (number_found ws (commit_value p) (is_in_is ws (commit_value p) (passes _ t))) ∙ e
         | false ↦ λ t. by_digits kind p e ws vs bs ts f plain (elim k [ inl i ↦ absurd (false≢true (sym t ∙ is_is_in ws (commit_value p) i)) | inr i ↦ i ])
       ] refl
 
-  itself_apart : (r : Bytes) (ws : List Value) (p : Commit) → is_name_text r ≡ false → is_itself r (named_in name ws p) ≡ false
+  itself_apart : (r : Bytes) (ws : List Value) (p : Commit) → is_ref_name r ≡ true → is_itself r (named_in name ws p) ≡ false
   itself_apart r ws p n =
-      elim (is_in ws (commit_value p)) as (λ t. is_itself r (cond t (marked_in ws (commit_value p)) (Named (digits_of p))) ≡ false) [
+      elim (is_in ws (commit_value p)) as (λ t. is_itself r (cond t (marked_in ws (commit_value p)) (Named (commit_revision name p))) ≡ false) [
         | true ↦ refl
-        | false ↦ apart_text r (digits_of p) n (name_is_text name namer (commit_value p))
+        | false ↦ apart_text r (commit_revision name p) n (no_ref_has_caret (digits_of p))
       ]
 
-  -- and so for a command of a branch that isn't named by digits
-  pub name_gives_for : (r : Bytes) (p : Commit) (ws vs : List Value) (bs : Branches) (ts : Tags) → is_name_text r ≡ false → IsFront h.values vs → ArePlain bs → IsWrittenOrHeld ws p
+  -- and so for a command of a branch
+  pub name_gives_for : (r : Bytes) (p : Commit) (ws vs : List Value) (bs : Branches) (ts : Tags) → is_ref_name r ≡ true → IsFront h.values vs → ArePlain bs → IsWrittenOrHeld ws p
       → committed_for name r (state_with h ws vs bs ts) (named_in name ws p) ≡ Ok p
   name_gives_for r p ws vs bs ts n f plain k =
       ap (λ b. cond b (Err faults.FromItself) (committed name commit_in (state_with h ws vs bs ts) (named_in name ws p))) (itself_apart r ws p n)
       ∙ name_gives commit_in p refl ws vs bs ts f plain k
 
-  all_given : (r : Bytes) (ws vs : List Value) (bs : Branches) (ts : Tags) → is_name_text r ≡ false → IsFront h.values vs → ArePlain bs → (ps : List Commit) → AllByRecursion (IsWrittenOrHeld ws) ps → AreNamed name h ts r (named_in name ws) (state_with h ws vs bs ts) ps
+  all_given : (r : Bytes) (ws vs : List Value) (bs : Branches) (ts : Tags) → is_ref_name r ≡ true → IsFront h.values vs → ArePlain bs → (ps : List Commit) → AllByRecursion (IsWrittenOrHeld ws) ps → AreNamed name h ts r (named_in name ws) (state_with h ws vs bs ts) ps
   all_given r ws vs bs ts n f plain [] k = tt
   all_given r ws vs bs ts n f plain (p ∷ ps) k = (name_gives_for r p ws vs bs ts n f plain k.0, all_given r ws vs bs ts n f plain ps k.1)
 

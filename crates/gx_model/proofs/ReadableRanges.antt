@@ -11,7 +11,7 @@ use Rattle.gx_model.specs.Revisions.Ranges.{Word, listing}
 use Rattle.gx_model.specs.Export.{blob_commands, command_items, commit_on, contents, ref_by, reset_before, with_blobs}
 use Rattle.gx_model.specs.Changes.{all_changes, carrier_reset, commit_changes, commit_ref, commit_with_changes, commits_with_changes, named_in, own_files, range_commands, range_text, sending_commands, set_refs, with_changes}
 use Rattle.gx_model.specs.Laws.ExportLaws.{HaveNoNullGitlink, IsNotNull, IsReadableTarget}
-use Rattle.gx_model.specs.Laws.RangeLaws.{HasNoNullName, IsReadableChange, IsReadableRange}
+use Rattle.gx_model.specs.Laws.RangeLaws.{IsReadableChange, IsReadableRange}
 use Rattle.gx_model.proofs.ChangeSteps.{differs}
 use Rattle.gx_model.proofs.CommitSteps.{leaves_of}
 use Rattle.gx_model.proofs.LinkedValues.{proper_in}
@@ -57,8 +57,8 @@ module _ (name : Kind → Bytes → Bytes) (closed : Bool) (h : History) (words 
   refs_read : (ws : List Value) (rs : Refs) → CommandsFit (map (ref_by (named_in name ws)) rs) → AllByRecursion (λ r. IsReadableTarget r.1) rs
   refs_read ws rs g = targets_fit (named_in name ws) rs g
 
-  pub range_readable : HasNoNullName name h → HaveNoNullGitlink (reverse (listing h words)) → length (range_text name closed h words) < 2 ^ 64 → IsReadableRange name h words
-  range_readable n r lt =
+  pub range_readable : HaveNoNullGitlink (reverse (listing h words)) → length (range_text name closed h words) < 2 ^ 64 → IsReadableRange h words
+  range_readable r lt =
       let cs = reverse (listing h words) in
       let set = set_refs h words in
       let inner = sending_commands name cs set in
@@ -75,5 +75,4 @@ module _ (name : Kind → Bytes → Bytes) (closed : Bool) (h : History) (words 
         commits = read.commits;
         refs = refs_read (all_changes cs) set (commands_right (carrier_reset set cs) _ (commands_right commits back g));
         marks = omega (arith, lt, m, a, d, read.count);
-        names = n;
       }

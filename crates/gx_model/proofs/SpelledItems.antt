@@ -1,5 +1,5 @@
 -- The items of an export's commands can be spelled.
-use Rattle.std.proofs.Common.{◌≡◌, ℕ, true, Option, Some, None, List, [], ◌∷◌, ◌++◌, map, codes, refl, sym, subst}
+use Rattle.std.proofs.Common.{◌≡◌, ℕ, true, Option, Some, None, List, [], ◌∷◌, ◌++◌, map, codes, refl, sym, ap, subst, ◌∙◌}
 use Rattle.std.specs.Prelude.{is_some}
 use Rattle.std.specs.List.{list_all, flat_map, AllByRecursion}
 use Rattle.std.specs.Fmt.{decimal}
@@ -13,7 +13,7 @@ use Rattle.gx_model.specs.Texts.Paths.{Path, path_text, printed}
 use Rattle.gx_model.specs.Streams.Items.{Item, Line, Data}
 use Rattle.gx_model.specs.Streams.Commands.{CommitIsh, Marked, Named, DataRef, Mark, Object, Inline, Change, Modify, Remove, Copy, Rename, Clear, Command}
 use Rattle.gx_model.specs.Streams.Commands as command
-use Rattle.gx_model.specs.Histories.Values.{is_hex_digit, is_optional_encoding, is_optional_ident}
+use Rattle.gx_model.specs.Histories.Values.{is_hex_digit, is_name_text, is_optional_encoding, is_optional_ident}
 use Rattle.gx_model.specs.Replay.{or_else}
 use Rattle.gx_model.specs.Export.{mode_digits, dataref_text, commit_ish_text, change_items, command_items, from_line, optional_line, mark_line, reset_items}
 use Rattle.gx_model.specs.Laws.ExportLaws.{IsItemLine, IsItem, IsMark, IsLink, IsDataRef, IsNamedCommit, IsNamedCommitIf, IsSpelledChange, IsSpelled, HasMark, between}
@@ -28,12 +28,15 @@ use Rattle.gx_model.proofs.CommandItems.{merge_item}
 mark_is_line : (n : ℕ) → IsMark n → is_line (58 ∷ decimal n) ≡ true
 mark_is_line n h = digits_are_line (decimal n) (decimal_digits n h.1)
 
+name_is_line : (x : Bytes) → is_name_text x ≡ true → is_line x ≡ true
+name_is_line x h = line_by is_hex_digit refl x (and_two _ (list_all is_hex_digit x) h)
+
 link_is_line : (x : Bytes) → IsLink x → is_line x ≡ true
-link_is_line x h = line_by is_hex_digit refl x (and_two _ (list_all is_hex_digit x) h.0)
+link_is_line x h = name_is_line x h.0
 
 commit_ish_is_line : (c : CommitIsh) → IsNamedCommit c → is_line (commit_ish_text c) ≡ true
 commit_ish_is_line (Marked n) h = mark_is_line n h
-commit_ish_is_line (Named x) h = link_is_line x h
+commit_ish_is_line (Named x) h = ap is_line h.2 ∙ line_append h.0 (codes "^0") (name_is_line h.0 h.1) refl
 
 dataref_is_line : (m : Mode) (s : DataRef) → IsDataRef m s → is_line (dataref_text s) ≡ true
 dataref_is_line File (Mark n) h = mark_is_line n h

@@ -7,7 +7,7 @@ use Rattle.gx_model.specs.declared.objects.Kind.{Kind}
 use Rattle.gx_model.specs.Texts.{Bytes}
 use Rattle.gx_model.specs.Texts.RefNames.{is_ref_name, is_tag_name}
 use Rattle.gx_model.specs.Streams.Commands.{Named}
-use Rattle.gx_model.specs.Streams.Grammar.{commands_of, is_null}
+use Rattle.gx_model.specs.Streams.Grammar.{commands_of}
 use Rattle.gx_model.specs.Histories.Values.{Commit, Value, commit_value, files_of, is_content, is_proper, is_proper_text, list_of, parents_of, text_of}
 use Rattle.gx_model.specs.Histories.{History, IsHistory, IsIn, IsWhole, Records, Target, at_commit, at_tag, is_in, value_at}
 use Rattle.gx_model.specs.Objects.{IsNamer, hex}
@@ -17,9 +17,9 @@ use Rattle.gx_model.specs.Records.Sound.{IsSound}
 use Rattle.gx_model.specs.Revisions.Ranges.{Word, commit_of, listing}
 use Rattle.gx_model.specs.Replay.{finished, peeled_at, replayed, replayed_text, start}
 use Rattle.gx_model.specs.Export.{blob_commands, carrier, command_items, contents, is_reached, marked_in, ref_by, reset_before, to_nothing, with_blobs}
-use Rattle.gx_model.specs.Changes.{all_changes, base_files, carrier_reset, commit_changes, commit_ref, commit_with_changes, commits_with_changes, is_in_range, named_in, own_files, range_commands, range_text, sending_commands, set_refs, with_changes}
+use Rattle.gx_model.specs.Changes.{all_changes, base_files, carrier_reset, commit_changes, commit_ref, commit_revision, commit_with_changes, commits_with_changes, is_in_range, named_in, own_files, range_commands, range_text, sending_commands, set_refs, with_changes}
 use Rattle.gx_model.specs.Laws.ExportLaws.{IsNamedCommit, IsOne, IsReadableTarget}
-use Rattle.gx_model.specs.Laws.RangeLaws.{CanReceive, HasNoNullName, HoldsRest, IsReadableChange, IsReadableRange, IsReceived, SoundRepositoriesReceive, range_report}
+use Rattle.gx_model.specs.Laws.RangeLaws.{CanReceive, HoldsRest, IsReadableChange, IsReadableRange, IsReceived, SoundRepositoriesReceive, range_report}
 use Rattle.gx_model.proofs.AddedValues.{is_in_is}
 use Rattle.gx_model.proofs.CommandEnds.{closed_read, closed_spelled}
 use Rattle.gx_model.proofs.CommitSteps.{blobs_have}
@@ -34,8 +34,8 @@ use Rattle.gx_model.proofs.OneHistory.{told_by_name}
 use Rattle.gx_model.proofs.PathTests.{first, is_true, second}
 use Rattle.gx_model.proofs.PublishedRefs.{Refs}
 use Rattle.gx_model.proofs.RangeReplays.{range_replayed}
-use Rattle.gx_model.proofs.RangeSteps.{ref_passes}
-use Rattle.gx_model.proofs.ReachedValues.{filter_one, one_in, target_held}
+use Rattle.gx_model.proofs.RangeSteps.{have_names, ref_passes}
+use Rattle.gx_model.proofs.ReachedValues.{filter_one, one_in}
 use Rattle.gx_model.proofs.ReceivedValues.{held_parts}
 use Rattle.gx_model.proofs.SentCommits.{is_sent, refs_left, sent_are}
 use Rattle.gx_model.proofs.SpelledChanges.{own_spelled}
@@ -46,27 +46,22 @@ more_changes ws [] = omega arith
 more_changes ws (c ∷ cs) = omega (arith, more_blobs ws (contents (own_files c)), more_changes (with_changes ws c) cs)
 
 module _ (name : Kind → Bytes → Bytes) (namer : IsNamer name) where
-  -- a commit whose name isn't forty zeros
-  abbrev HasName : Commit → Type 0
-  HasName c = is_null (hex (name_of name (commit_value c))) ≡ false
-
-  -- such a commit is named by its mark or its digits
-  is_named : (ws : List Value) (c : Commit) → length ws < 2 ^ 64 → HasName c → IsNamedCommit (named_in name ws c)
-  is_named ws c lt n =
-      elim (is_in ws (commit_value c)) as (λ t. is_in ws (commit_value c) ≡ t → IsNamedCommit (cond t (marked_in ws (commit_value c)) (Named (hex (name_of name (commit_value c)))))) [
+  -- a commit is named by its mark or its digits
+  is_named : (ws : List Value) (c : Commit) → length ws < 2 ^ 64 → IsNamedCommit (named_in name ws c)
+  is_named ws c lt =
+      elim (is_in ws (commit_value c)) as (λ t. is_in ws (commit_value c) ≡ t → IsNamedCommit (cond t (marked_in ws (commit_value c)) (Named (commit_revision name c)))) [
         | true ↦ λ e. is_mark ws (commit_value c) (is_in_is ws (commit_value c) (passes _ e)) lt
-        | false ↦ λ e. (name_is_text name namer (commit_value c), n)
+        | false ↦ λ e. (hex (name_of name (commit_value c)), name_is_text name namer (commit_value c), refl)
       ] refl
 
-  all_named : (ws : List Value) (ps : List Commit) → length ws < 2 ^ 64 → AllByRecursion HasName ps → AllByRecursion (λ p. IsNamedCommit (named_in name ws p)) ps
-  all_named ws [] lt h = tt
-  all_named ws (p ∷ ps) lt h = (is_named ws p lt h.0, all_named ws ps lt h.1)
+  all_named : (ws : List Value) (ps : List Commit) → length ws < 2 ^ 64 → AllByRecursion (λ p. IsNamedCommit (named_in name ws p)) ps
+  all_named ws [] lt = tt
+  all_named ws (p ∷ ps) lt = (is_named ws p lt, all_named ws ps lt)
 
   -- what the parents of a commit are, and that it is proper
   record IsSendable (c : Commit) : Type 0 where
     pub proper : T (is_proper (commit_value c))
     pub base : Parts (base_files (list_of (parents_of c)))
-    pub names : AllByRecursion HasName (list_of (parents_of c))
 
   commits_spelled : (refs : Refs) → AllByRecursion (λ r. is_ref_name r.0 ≡ true) refs → (ws : List Value) (cs : List Commit) → AllByRecursion IsSendable cs → AllByRecursion IsReadableChange cs → length (fold with_changes ws cs) < 2 ^ 64
       → AreSpelled (commits_with_changes name refs ws cs)
@@ -83,19 +78,19 @@ module _ (name : Kind → Bytes → Bytes) (namer : IsNamer name) where
       spelled_append (commit_with_changes name refs ws c) (commits_with_changes name refs (with_changes ws c) cs)
       (spelled_append (blob_commands ws xs) _ (blobs_spelled ws xs (contents_fit (own_files c) r.0.files) (omega arith))
       (spelled_append (reset_before on ps) _ (reset_spelled on ps ref) (
-        commit_spelled on (named_in name us) (commit_changes us c) us c ref fits r.0.message text (all_named us ps (omega arith) s.0.names)
+        commit_spelled on (named_in name us) (commit_changes us c) us c ref fits r.0.message text (all_named us ps (omega arith))
             (own_spelled us c (omega arith) s.0.base content r.0.files (blobs_have ws xs)),
         tt,
       )))
       (commits_spelled refs n (with_changes ws c) cs s.1 r.1 lt)
 
-  refs_spelled : (ws : List Value) (rs : Refs) → length ws < 2 ^ 64 → AllByRecursion (λ r. HasName (peeled_at r.1)) rs → AllByRecursion (λ r. is_ref_name r.0 ≡ true) rs → AllByRecursion (λ r. T (is_proper (value_at r.1))) rs → AllByRecursion (λ r. IsReadableTarget r.1) rs
+  refs_spelled : (ws : List Value) (rs : Refs) → length ws < 2 ^ 64 → AllByRecursion (λ r. is_ref_name r.0 ≡ true) rs → AllByRecursion (λ r. T (is_proper (value_at r.1))) rs → AllByRecursion (λ r. IsReadableTarget r.1) rs
       → AreSpelled (map (ref_by (named_in name ws)) rs)
-  refs_spelled ws [] lt h n p r = tt
-  refs_spelled ws ((q, at_commit c) ∷ rs) lt h n p r = ((n.0, is_named ws c lt h.0), refs_spelled ws rs lt h.1 n.1 p.1 r.1)
-  refs_spelled ws ((q, at_tag t) ∷ rs) lt h n p r = (
-    record { name = is_true _ (first (is_tag_name t.name) _ p.0); mark = refl; target = is_named ws t.target lt h.0; tagger = is_true _ (second (is_tag_name t.name) _ p.0); message = r.0 },
-    refs_spelled ws rs lt h.1 n.1 p.1 r.1,
+  refs_spelled ws [] lt n p r = tt
+  refs_spelled ws ((q, at_commit c) ∷ rs) lt n p r = ((n.0, is_named ws c lt), refs_spelled ws rs lt n.1 p.1 r.1)
+  refs_spelled ws ((q, at_tag t) ∷ rs) lt n p r = (
+    record { name = is_true _ (first (is_tag_name t.name) _ p.0); mark = refl; target = is_named ws t.target lt; tagger = is_true _ (second (is_tag_name t.name) _ p.0); message = r.0 },
+    refs_spelled ws rs lt n.1 p.1 r.1,
   )
 
 -- ---- what a range sends stands in the history
@@ -107,14 +102,6 @@ each_one_of P (c ∷ cs) f = (f c (inl refl), each_one_of P cs (λ d i. f d (inr
 unmapped : (P : Value → Type 0) (ps : List Commit) → AllByRecursion P (map commit_value ps) → AllByRecursion (λ p. P (commit_value p)) ps
 unmapped P [] h = tt
 unmapped P (p ∷ ps) h = (h.0, unmapped P ps h.1)
-
-each_commit : (P Q : Commit → Type 0) → ((c : Commit) → P c → Q c) → (cs : List Commit) → AllByRecursion P cs → AllByRecursion Q cs
-each_commit P Q f [] h = tt
-each_commit P Q f (c ∷ cs) h = (f c h.0, each_commit P Q f cs h.1)
-
-named_refs : (rs : Refs) → T (list_all (λ r. is_ref_name r.0) rs) → AllByRecursion (λ r. is_ref_name r.0 ≡ true) rs
-named_refs [] h = tt
-named_refs (r ∷ rs) h = (is_true _ (first (is_ref_name r.0) _ h), named_refs rs (second (is_ref_name r.0) _ h))
 
 pub carrier_spelled : (refs : Refs) (cs : List Commit) → AreSpelled (carrier_reset refs cs)
 carrier_spelled refs cs = elim (list_all (is_reached refs) cs) as (λ t. AreSpelled (cond t [] (to_nothing carrier ∷ []))) [ true ↦ tt | false ↦ ((carrier_is_ref, tt), tt) ]
@@ -132,33 +119,27 @@ module _ (h : History) (x : IsHistory h) (words : List Word) where
   parents_stand c i = unmapped (IsIn h.values) (list_of (parents_of c)) (parts_in h.values (commit_value c) whole i).1
 
   module _ (name : Kind → Bytes → Bytes) (namer : IsNamer name) where
-    sendable : HasNoNullName name h → AllByRecursion (IsSendable name namer) (reverse (listing h words))
-    sendable n = each_one_of (IsSendable name namer) (reverse (listing h words)) (λ c i.
+    sendable : AllByRecursion (IsSendable name namer) (reverse (listing h words))
+    sendable = each_one_of (IsSendable name namer) (reverse (listing h words)) (λ c i.
         let there = sent_stands c i in
-        let parents = parents_stand c there in
         record {
           proper = proper_in h.values (commit_value c) (passes _ x.proper) there;
-          base = held_parts h.values (list_of (parents_of c)) whole parents;
-          names = each_commit (λ p. IsIn h.values (commit_value p)) (HasName name namer) n (list_of (parents_of c)) parents;
+          base = held_parts h.values (list_of (parents_of c)) whole (parents_stand c there);
         })
 
-    pub range_spelled : IsReadableRange name h words → AreSpelled (sending_commands name (reverse (listing h words)) (set_refs h words))
+    pub range_spelled : IsReadableRange h words → AreSpelled (sending_commands name (reverse (listing h words)) (set_refs h words))
     range_spelled r =
         let cs = reverse (listing h words) in
         let refs = set_refs h words in
         let t = λ (r : Bytes × Target). is_in_range words (peeled_at r.1) in
-        let names = refs_left (λ r. is_ref_name r.0 ≡ true) (λ r. is_ref_name r.0 ≡ true) t (λ r e _. e) h.refs (named_refs h.refs (passes _ x.ref_names)) in
+        let names = refs_left (λ r. is_ref_name r.0 ≡ true) (λ r. is_ref_name r.0 ≡ true) t (λ r e _. e) h.refs (have_names h.refs (passes _ x.ref_names)) in
         let proper = refs_left (λ r. T (is_proper (value_at r.1))) (λ r. T (is_proper (value_at r.1))) t (λ r p _. p) h.refs (proper_refs h x) in
-        let have = refs_left (λ r. IsIn h.values (value_at r.1)) (λ r. HasName name namer (peeled_at r.1)) t (λ r i _. r_names r.1 i) h.refs x.held in
-        spelled_append (commits_with_changes name refs [] cs) _ (commits_spelled name namer refs names [] cs (sendable r.names) r.commits r.marks)
-        (spelled_append (carrier_reset refs cs) _ (carrier_spelled refs cs) (refs_spelled name namer (all_changes cs) refs r.marks have names proper r.refs))
-      where
-        r_names : (y : Target) → IsIn h.values (value_at y) → HasName name namer (peeled_at y)
-        r_names y i = r.names (peeled_at y) (target_held h.values whole y i)
+        spelled_append (commits_with_changes name refs [] cs) _ (commits_spelled name namer refs names [] cs sendable r.commits r.marks)
+        (spelled_append (carrier_reset refs cs) _ (carrier_spelled refs cs) (refs_spelled name namer (all_changes cs) refs r.marks names proper r.refs))
 
     -- ---- the import
 
-    pub range_imported : (closed : Bool) (target : History) → CanReceive name h words target → IsReadableRange name h words
+    pub range_imported : (closed : Bool) (target : History) → CanReceive name h words target → IsReadableRange h words
         → (k : History) × IsReceived h words target k × (replayed_text name target (range_text name closed h words) false ≡ finished k [] (range_report name closed h words target k))
     range_imported closed target receive r =
         let inner = sending_commands name (reverse (listing h words)) (set_refs h words) in

@@ -93,9 +93,13 @@ closed_by false cs = cs
 
 -- the name of values
 module _ (name : Kind → Bytes → Bytes) where
-  -- what names a commit: its mark if it was written, or else the digits of its name
+  -- The digits of a commit's name and `^0`, which is that commit. No ref name has a `^`, so that no ref is read in its place.
+  abbrev pub commit_revision : Commit → Bytes
+  commit_revision c = hex (name_of name (commit_value c)) ++ codes "^0"
+
+  -- what names a commit: its mark if it was written, or else the revision of its name
   abbrev pub named_in : List Value → Commit → CommitIsh
-  named_in ws c = if is_in ws (commit_value c) then marked_in ws (commit_value c) else Named (hex (name_of name (commit_value c)))
+  named_in ws c = if is_in ws (commit_value c) then marked_in ws (commit_value c) else Named (commit_revision c)
 
   -- the commands of a commit: the blobs of its files that differ, the reset before one without parents, and itself
   abbrev pub commit_with_changes : List (Bytes × Target) → List Value → Commit → List Command

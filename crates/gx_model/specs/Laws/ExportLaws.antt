@@ -48,10 +48,14 @@ IsMark n = (0 < n) × (n < 2 ^ 64)
 abbrev pub IsLink : Bytes → Type 0
 IsLink x = IsTrue (is_name_text x) × (is_null x ≡ false)
 
--- a commit that is named by its mark, or by the digits of its name
+-- forty digits and `^0`
+abbrev pub IsCommitRevision : Bytes → Type 0
+IsCommitRevision x = (digits : Bytes) × IsTrue (is_name_text digits) × (x ≡ digits ++ codes "^0")
+
+-- a commit that is named by its mark, or by the revision of its name
 abbrev pub IsNamedCommit : CommitIsh → Type 0
 IsNamedCommit (Marked n) = IsMark n
-IsNamedCommit (Named x) = IsLink x
+IsNamedCommit (Named x) = IsCommitRevision x
 
 -- the same, or none
 abbrev pub IsNamedCommitIf : Option CommitIsh → Type 0

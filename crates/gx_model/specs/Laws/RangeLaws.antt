@@ -5,10 +5,9 @@ use Rattle.std.specs.FinMap.Entries.{put}
 use Rattle.std.specs.List.{AllByRecursion, fold, list_any}
 use Rattle.gx_model.specs.declared.objects.Kind.{Kind}
 use Rattle.gx_model.specs.Texts.{Bytes}
-use Rattle.gx_model.specs.Histories.Values.{Commit, Value, commit_value, is_name_text, text_of}
+use Rattle.gx_model.specs.Histories.Values.{Commit, Value, commit_value, text_of}
 use Rattle.gx_model.specs.Histories.{History, IsHistory, IsIn, IsWhole, Records, Target, at_commit, at_tag, value_at}
-use Rattle.gx_model.specs.Streams.Grammar.{is_null}
-use Rattle.gx_model.specs.Objects.{IsNamer, hex}
+use Rattle.gx_model.specs.Objects.{IsNamer}
 use Rattle.gx_model.specs.Records.{name_of}
 use Rattle.gx_model.specs.Records.HistoryOf.{history_of}
 use Rattle.gx_model.specs.Records.Sound.{IsSound}
@@ -34,11 +33,10 @@ IsForwardRef h target words ref (at_tag t) =
     (ref_at target ref ≡ None) ⊎ (is_excluded words t.target ≡ true) ⊎ (commit_ref (set_refs h words) t.target ≢ ref)
 
 -- What a history holds that receives what range words list of another: each commit that they exclude; and the refs that are set are
--- forward. No ref is named by forty digits, which would be read as an object's name.
+-- forward.
 pub record HoldsRest (h : History) (words : List Word) (target : History) : Type 0 where
   pub holds : (c : Commit) → IsIn h.values (commit_value c) → is_excluded words c ≡ true → IsIn target.values (commit_value c)
   pub forward : AllByRecursion (λ r. IsForwardRef h target words r.0 r.1) (set_refs h words)
-  pub named : AllByRecursion (λ r. is_name_text r.0 ≡ false) (set_refs h words)
 
 -- the same of a history whose values are told by their names
 pub record CanReceive (name : Kind → Bytes → Bytes) (h : History) (words : List Word) (target : History) : Type 0 where
@@ -75,39 +73,34 @@ pub record IsReadableChange (c : Commit) : Type 0 where
   pub message : length (text_of c).message < 2 ^ 64
   pub files : AllByRecursion IsReadableFile (own_files c)
 
--- no commit has the name of forty zeros, which names none
-abbrev pub HasNoNullName : (Kind → Bytes → Bytes) → History → Type 0
-HasNoNullName name h = (c : Commit) → IsIn h.values (commit_value c) → is_null (hex (name_of name (commit_value c))) ≡ false
-
--- What a range sends can be read again: it has no gitlink and no name of forty zeros, and lengths and marks are below 2 ^ 64.
-pub record IsReadableRange (name : Kind → Bytes → Bytes) (h : History) (words : List Word) : Type 0 where
+-- What a range sends can be read again: it has no gitlink of forty zeros, and lengths and marks are below 2 ^ 64.
+pub record IsReadableRange (h : History) (words : List Word) : Type 0 where
   pub commits : AllByRecursion IsReadableChange (reverse (listing h words))
   pub refs : AllByRecursion (λ r. IsReadableTarget r.1) (set_refs h words)
   pub marks : length (all_changes (reverse (listing h words))) < 2 ^ 64
-  pub names : HasNoNullName name h
 
 -- lengths and marks fit where the text does
 abbrev pub ShortRangesAreReadable : Type 0
 ShortRangesAreReadable =
-    (name : Kind → Bytes → Bytes) (closed : Bool) (h : History) (words : List Word) → IsHistory h → HasNoNullName name h → HaveNoNullGitlink (reverse (listing h words))
-    → length (range_text name closed h words) < 2 ^ 64 → IsReadableRange name h words
+    (name : Kind → Bytes → Bytes) (closed : Bool) (h : History) (words : List Word) → IsHistory h → HaveNoNullGitlink (reverse (listing h words))
+    → length (range_text name closed h words) < 2 ^ 64 → IsReadableRange h words
 
 -- the commands of a range that can be read can be spelled
 abbrev pub RangesAreSpelled : Type 0
 RangesAreSpelled =
-    (name : Kind → Bytes → Bytes) → IsNamer name → (h : History) (words : List Word) → IsHistory h → IsReadableRange name h words
+    (name : Kind → Bytes → Bytes) → IsNamer name → (h : History) (words : List Word) → IsHistory h → IsReadableRange h words
     → AllByRecursion IsSpelled (sending_commands name (reverse (listing h words)) (set_refs h words))
 
 -- importing a range's text brings what is sent, and sets the refs
 abbrev pub RangesAreImported : Type 0
 RangesAreImported =
-    (name : Kind → Bytes → Bytes) → IsNamer name → (closed : Bool) (h : History) → IsHistory h → (words : List Word) (target : History) → CanReceive name h words target → IsReadableRange name h words
+    (name : Kind → Bytes → Bytes) → IsNamer name → (closed : Bool) (h : History) → IsHistory h → (words : List Word) (target : History) → CanReceive name h words target → IsReadableRange h words
     → (k : History) × IsReceived h words target k × (replayed_text name target (range_text name closed h words) false ≡ finished k [] (range_report name closed h words target k))
 
 -- so does a sound repository that holds what the range excludes
 abbrev pub SoundRepositoriesReceive : Type 0
 SoundRepositoriesReceive =
     (name : Kind → Bytes → Bytes) → IsNamer name → (closed : Bool) (h : History) → IsHistory h → (words : List Word) (target : Records) → IsSound name target
-    → HoldsRest h words (history_of target) → IsReadableRange name h words
+    → HoldsRest h words (history_of target) → IsReadableRange h words
     → (k : History) × IsReceived h words (history_of target) k
     × (replayed_text name (history_of target) (range_text name closed h words) false ≡ finished k [] (range_report name closed h words (history_of target) k))

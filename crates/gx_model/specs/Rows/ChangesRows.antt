@@ -243,7 +243,7 @@ since =
 abbrev sent_by : History → List Bytes → Result Bytes WordFault
 sent_by h xs = and_then (each_word range_of xs) (λ ws. and_then (words_denoted short_name h ws) (λ ks. Ok (range_text short_name true h ks)))
 
--- the commit that the mirror has is named by its digits
+-- the commit that the mirror has is named by its digits and `^0`
 abbrev sent_since : List Bytes
 sent_since =
     codes "feature done" ∷
@@ -257,7 +257,7 @@ sent_since =
     codes "committer A <a@x> 2 +0000" ∷
     codes "data 1" ∷
     codes "q" ∷
-    codes "from 1111111111111111111111111111111111110261" ∷
+    codes "from 1111111111111111111111111111111111110261^0" ∷
     codes "M 100644 :1 g" ∷
     [] ∷
     codes "commit refs/heads/main" ∷
@@ -273,7 +273,7 @@ sent_since =
     codes "from :3" ∷
     [] ∷
     codes "tag v1" ∷
-    codes "from 1111111111111111111111111111111111110261" ∷
+    codes "from 1111111111111111111111111111111111110261^0" ∷
     codes "tagger A <a@x> 1 +0000" ∷
     codes "data 1" ∷
     codes "t" ∷
@@ -293,12 +293,12 @@ sent_before_last =
     codes "committer A <a@x> 2 +0000" ∷
     codes "data 1" ∷
     codes "q" ∷
-    codes "from 1111111111111111111111111111111111110261" ∷
+    codes "from 1111111111111111111111111111111111110261^0" ∷
     codes "M 100644 :1 g" ∷
     [] ∷
     codes "reset refs/gx/export" ∷
     codes "tag v1" ∷
-    codes "from 1111111111111111111111111111111111110261" ∷
+    codes "from 1111111111111111111111111111111111110261^0" ∷
     codes "tagger A <a@x> 1 +0000" ∷
     codes "data 1" ∷
     codes "t" ∷

@@ -7,6 +7,7 @@ use Rattle.std.proofs.lemmas.List.{length-drop}
 use Rattle.gx_model.specs.Texts.{Bytes}
 use Rattle.gx_model.specs.Texts.Paths.{Path, is_component}
 use Rattle.gx_model.specs.Histories.Edits.{removed}
+use Rattle.gx_tree.specs.Edits.{without_path}
 use Rattle.gx_tree.specs.Nodes.{Kept, Level, IsKept, IsLevel, file, files, folder, inserted, is_folder, kept_at, kept_map, mark, others, with_kept}
 use Rattle.gx_tree.specs.Rooms.{Changes, IsReach, counted, kept_reach}
 use Rattle.gx_tree.specs.Searches.{IsEntryAt}
@@ -53,18 +54,21 @@ grafted_at c p i n k es r e l hp hk h ec at ir ecr em ek =
     grafted_whole p i k (shown_entries es) out l hp hk h (grafted_from c p i k (shown_entries es) out l ec (standing c es n r h at ir) ek (set_at c es n r e h at ir ecr em))
 
 -- what is left of it takes its place
+pub left_is : {A : Type 0} (c : Bytes) (p : Path) (i n : ℕ) (es : List (Entry A)) (r e : Entry A) → i < length p → IsLevel (shown_entries es) → c ≡ get_or p i [] → IsEntryAt c es n → r ≡ get_or es n r → (shown_entry e).0 ≡ (shown_entry r).0 → mark (shown_item e.item) ≡ mark (shown_item r.item) → Some (shown_item e.item) ≡ kept_removed (drop (i + 1) p) (Some (shown_item r.item)) → shown_entries (slice_set es n e) ≡ without_path (drop i p) (shown_entries es)
+left_is c p i n es r e l h ec at ir ecr em ek = removed_from c p i (shown_entries es) (shown_entries (slice_set es n e)) l ec (standing c es n r h at ir) ek (set_at c es n r e h at ir ecr em)
+
 pub left_at : {A : Type 0} (c : Bytes) (p : Path) (i n : ℕ) (es : List (Entry A)) (r e : Entry A) → i < length p → list_all is_component p ≡ true → IsLevel (shown_entries es) → c ≡ get_or p i [] → IsEntryAt c es n → r ≡ get_or es n r → (shown_entry e).0 ≡ (shown_entry r).0 → mark (shown_item e.item) ≡ mark (shown_item r.item) → Some (shown_item e.item) ≡ kept_removed (drop (i + 1) p) (Some (shown_item r.item)) → Leaves (removed (files (shown_entries es)) (drop i p)) (shown_entries (slice_set es n e))
-left_at c p i n es r e l hp h ec at ir ecr em ek =
-    let out = shown_entries (slice_set es n e) in
-    removed_whole p i (shown_entries es) out l hp h (removed_from c p i (shown_entries es) out l ec (standing c es n r h at ir) ek (set_at c es n r e h at ir ecr em))
+left_at c p i n es r e l hp h ec at ir ecr em ek = removed_whole p i (shown_entries es) (shown_entries (slice_set es n e)) l hp h (left_is c p i n es r e l h ec at ir ecr em ek)
 
 gone_is : {A : Type 0} (c : Bytes) (es out : List (Entry A)) (n : ℕ) (e : Entry A) → IsLevel (shown_entries es) → IsEntryAt c es n → out ≡ remove (slice_set es n e) n → shown_entries out ≡ others c (shown_entries es)
 gone_is c es out n e h at eo = ap shown_entries (eo ∙ set_aside es n e) ∙ seen_without c es n h at
 
 -- and where nothing is left, it goes
+pub went_is : {A : Type 0} (c : Bytes) (p : Path) (i n : ℕ) (es out : List (Entry A)) (r e : Entry A) → i < length p → IsLevel (shown_entries es) → c ≡ get_or p i [] → IsEntryAt c es n → r ≡ get_or es n r → None ≡ kept_removed (drop (i + 1) p) (Some (shown_item r.item)) → out ≡ remove (slice_set es n e) n → shown_entries out ≡ without_path (drop i p) (shown_entries es)
+went_is c p i n es out r e l h ec at ir ek eo = removed_from c p i (shown_entries es) (shown_entries out) l ec (standing c es n r h at ir) ek (gone_is c es out n e h at eo)
+
 pub gone_at : {A : Type 0} (c : Bytes) (p : Path) (i n : ℕ) (es out : List (Entry A)) (r e : Entry A) → i < length p → list_all is_component p ≡ true → IsLevel (shown_entries es) → c ≡ get_or p i [] → IsEntryAt c es n → r ≡ get_or es n r → None ≡ kept_removed (drop (i + 1) p) (Some (shown_item r.item)) → out ≡ remove (slice_set es n e) n → Leaves (removed (files (shown_entries es)) (drop i p)) (shown_entries out)
-gone_at c p i n es out r e l hp h ec at ir ek eo =
-    removed_whole p i (shown_entries es) (shown_entries out) l hp h (removed_from c p i (shown_entries es) (shown_entries out) l ec (standing c es n r h at ir) ek (gone_is c es out n e h at eo))
+gone_at c p i n es out r e l hp h ec at ir ek eo = removed_whole p i (shown_entries es) (shown_entries out) l hp h (went_is c p i n es out r e l h ec at ir ek eo)
 
 pub gone_reach : {A : Type 0} {before : ℕ} (c : Bytes) (es out : List (Entry A)) (n : ℕ) (r s e : Entry A) (reach : ℕ) → IsLevel (shown_entries es) → IsEntryAt c es n → r ≡ get_or es n r → s ≡ get_or es n s → out ≡ remove (slice_set es n e) n → IsReach reach (files (shown_entries es)) → before ≡ counted (kept_reach (shown_entry s)) → Changes reach before 0 (files (shown_entries out))
 gone_reach {before = before} c es out n r s e reach h at ir is eo hr eb =

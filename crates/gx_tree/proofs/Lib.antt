@@ -27,3 +27,5 @@ pub mod TakenOut
 pub mod Changed
 pub mod Renamed
 pub mod Parted
+pub mod Above
+pub mod Aligned

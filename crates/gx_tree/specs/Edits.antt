@@ -1,5 +1,5 @@
 -- What an edit makes of a directory's entries, of what stands at one of them, and of the files below.
-use Rattle.std.specs.Prelude.{◌≡◌, ℕ, Bool, IsTrue, drop, false, not, ◌||◌, List, [], ◌∷◌, ◌++◌, Option, Some}
+use Rattle.std.specs.Prelude.{◌≡◌, ℕ, ◌+◌, Bool, IsTrue, drop, false, get_or, not, ◌||◌, List, [], ◌∷◌, ◌++◌, Option, None, Some}
 use Rattle.std.specs.declared.rc.Rc.{Rc}
 use Rattle.std.specs.declared.vec.Vec.{Vec}
 use Rattle.gx_model.specs.Histories.Edits.{removed}
@@ -7,7 +7,7 @@ use Rattle.gx_model.specs.Histories.Files.{FileMap}
 use Rattle.gx_model.specs.Texts.{Bytes, same_bytes}
 use Rattle.gx_model.specs.Texts.Paths.{Path}
 use Rattle.gx_tree.specs.Named.{NamedTree}
-use Rattle.gx_tree.specs.Nodes.{Kept, Level, files, inserted, kept_at, kept_map, with_kept}
+use Rattle.gx_tree.specs.Nodes.{Kept, Level, files, inserted, kept_at, kept_map, others, with_kept}
 use Rattle.gx_tree.specs.Steps.{grafted, kept_grafted, kept_removed, replaced}
 use Rattle.gx_tree.specs.Views.{shown_item, shown_item_if, shown_entries}
 use Rattle.gx_tree.specs.declared.directory.Entry.{Entry}
@@ -30,6 +30,10 @@ ReplacesItem c item old new = shown_entries new.items ≡ with_kept c (shown_ite
 -- the old entries, with the item at the component, at its place in the order
 abbrev pub InsertsItem : {A : Type 0} → Bytes → Item A → Vec (Entry A) A → Vec (Entry A) A → Type 0
 InsertsItem c item old new = shown_entries new.items ≡ inserted c (shown_item item) (shown_entries old.items)
+
+-- the old entries but for that of the component, if there is one
+abbrev pub LeavesOthers : {A : Type 0} → Bytes → List (Entry A) → Vec (Entry A) A → Type 0
+LeavesOthers c old new = shown_entries new.items ≡ others c (shown_entries old)
 
 -- the old entries, with more behind them
 abbrev pub AddsEntries : {A : Type 0} → List (Entry A) → Vec (Entry A) A → Vec (Entry A) A → Type 0
@@ -62,6 +66,10 @@ GraftsFiles p item old new = files (shown_entries new.items) ≡ grafted p (kept
 abbrev pub GraftsIn : {A : Type 0} → Path → Item A → Rc (Vec (Entry A) A) A → Rc (Vec (Entry A) A) A → Type 0
 GraftsIn p item old new = GraftsFiles p item old.value.items new.value
 
+-- what is put at the path, from the component at i on, stands there as where nothing stood at that component
+abbrev pub StandsAnew : {A : Type 0} → ℕ → Path → List (Entry A) → Type 0
+StandsAnew i p es = (k : Kept) → kept_grafted (drop (i + 1) p) k None ≡ kept_grafted (drop (i + 1) p) k (kept_at (get_or p i []) (shown_entries es))
+
 -- ---- what is removed
 
 -- what is left of an item, if anything, without what stands at or below the path in it
@@ -72,6 +80,10 @@ IsLeftOf p old left = shown_item_if left ≡ kept_removed p (Some (shown_item ol
 abbrev pub without_path : Path → Level → Level
 without_path [] es = es
 without_path (c ∷ p) es = replaced c (kept_removed p (kept_at c es)) es
+
+-- the entries are the old ones without what stood at or below the path
+abbrev pub RemovesPath : {A : Type 0} → Path → List (Entry A) → Vec (Entry A) A → Type 0
+RemovesPath p old new = shown_entries new.items ≡ without_path p (shown_entries old)
 
 -- the files below the entries are the old ones, but for what stood at or below the path
 abbrev pub RemovesFiles : {A : Type 0} → Path → List (Entry A) → Vec (Entry A) A → Type 0

@@ -1,9 +1,11 @@
--- How many bytes the paths of a directory's files have.
-use Rattle.std.specs.Prelude.{◌≡◌, ℕ, ◌+◌, ◌-◌, ◌^◌, max, min, Bool, nat_le, [], ◌∷◌, length}
+-- How many bytes the paths of a directory's files have, and whether there is room for one more of its entries.
+use Rattle.std.specs.Prelude.{◌≡◌, ◌<◌, ℕ, ◌+◌, ◌-◌, ◌^◌, max, min, Bool, nat_le, [], ◌∷◌, length, vec_capacity, vec_len}
+use Rattle.std.specs.declared.vec.Vec.{Vec}
 use Rattle.gx_model.specs.Histories.Files.{FileMap, Leaf}
 use Rattle.gx_model.specs.Texts.{Bytes}
 use Rattle.gx_model.specs.Texts.Paths.{Path, path_text}
 use Rattle.gx_tree.specs.Nodes.{Kept, file, folder}
+use Rattle.gx_tree.specs.declared.directory.Entry.{Entry}
 
 -- whether a path has at most so many bytes
 abbrev pub is_within : ℕ → Path × Leaf Bytes → Bool
@@ -37,3 +39,7 @@ pub record Beside (reach before after : ℕ) (f : FileMap Bytes) (part_old part_
 -- the reach of the files was another before that of a part of them became `after` in place of `before`
 abbrev pub Changes : ℕ → ℕ → ℕ → FileMap Bytes → Type 0
 Changes reach before after f = (part_old part_new rest : ℕ) × Beside reach before after f part_old part_new rest
+
+-- one more entry needs no memory
+abbrev pub HasRoom : {A : Type 0} → Vec (Entry A) A → Type 0
+HasRoom v = vec_len v < vec_capacity v

@@ -181,9 +181,9 @@ impl<A: Allocator + Copy> Item<A> {
     }
 }
 
-// What stands at the component at `depth` where no directory did, after an item was put at the path.
+/// What stands at the component at `depth` where no directory did, after an item was put at the path.
 #[cycle(graft)]
-fn new_item<A: Allocator + Copy>(
+pub(crate) fn new_item<A: Allocator + Copy>(
     alloc: A,
     path: &TreePath<A>,
     depth: usize,

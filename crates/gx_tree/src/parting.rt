@@ -1,21 +1,21 @@
 //! Taking out what stands at one path, and putting an item at another, among the entries of the directory at which the paths
 //! part. Nothing changes before the memory for all of it is there.
-ghost use Rattle.std.specs.Prelude.{◌≡◌, ◌<◌, ◌+◌, [], ◌∷◌, IfOk, IfSome, OnErr, OnOk, IsTrue, false, get_or, length, true};
+ghost use Rattle.std.specs.Prelude.{◌≡◌, ◌<◌, ◌+◌, [], ◌∷◌, IfOk, IfSome, IsNone, OnErr, OnOk, IsTrue, false, get_or, length, true};
 ghost use Rattle.gx_model.specs.Texts.{same_bytes};
 ghost use Rattle.gx_model.specs.Texts.Paths.{is_component};
-ghost use Rattle.gx_tree.specs.Edits.{CarriesAt, RemovesFiles};
+ghost use Rattle.gx_tree.specs.Edits.{CarriesAt, LeavesOthers, RemovesFiles, ReplacesItem, StandsAnew};
 ghost use Rattle.gx_tree.specs.Homes.{AreAtHome, EntriesKeepHome, IsItemAtHome, Keeps};
 ghost use Rattle.gx_tree.specs.Nodes.{IsKept, IsLevel, files};
-ghost use Rattle.gx_tree.specs.Rooms.{IsReach};
+ghost use Rattle.gx_tree.specs.Rooms.{HasRoom, IsReach};
 ghost use Rattle.gx_tree.specs.Searches.{IsEntryAt, IsFolderAt};
-ghost use Rattle.gx_tree.specs.Views.{shown_entries, shown_item};
+ghost use Rattle.gx_tree.specs.Views.{shown_entries, shown_entry, shown_item};
 
-use crate::directory::{Entry, Item, shared_entries};
-use crate::grafting::graft_among;
+use crate::directory::{Entry, Item};
+use crate::grafting::{graft_among, new_item};
 use crate::moving::Landing;
 use crate::reach::reach_after;
-use crate::removing::remove_among;
-use crate::search::{place_at, place_by};
+use crate::removing::remove_at;
+use crate::search::{place_at, place_by, place_of};
 use gx_object::{Mode, Name};
 use gx_text::TreePath;
 use std::alloc::{AllocError, Allocator};
@@ -56,7 +56,7 @@ pub(crate) fn rename_apart<A: Allocator + Copy>(
         Some(target) => {
             rename_between(entries, place, target, reach, alloc, from, to, depth, item)
         }
-        None => rename_above(entries, reach, alloc, from, to, depth, item),
+        None => rename_above(entries, place, reach, alloc, from, to, depth, item),
     }
 }
 
@@ -70,6 +70,7 @@ fn folder_on<A: Allocator + Copy>(
     requires level { IsLevel (shown_entries entries.now) }
     ensures within { IfSome result (λ place. depth + 1 < length path.now) }
     ensures found { IfSome result (λ place. IsFolderAt (get_or path.now depth []) entries.now place) }
+    ensures missing { IsNone result → StandsAnew depth path.now entries.now }
 {
     let length = path.len();
     if depth + 1 == length {
@@ -133,9 +134,11 @@ fn rename_between<A: Allocator + Copy>(
     Ok(reach_after(entries, reach, before, after))
 }
 
-// The same where the second path ends here, or doesn't go on in a directory.
+// The same where the second path ends here, or doesn't go on in a directory. What is to stand at its component is made first,
+// with room for it, so that nothing is refused once the first path's is taken out.
 fn rename_above<A: Allocator + Copy>(
     entries: &mut Vec<Entry<A>, A>,
+    place: usize,
     reach: usize,
     alloc: A,
     from: &TreePath<A>,
@@ -145,20 +148,44 @@ fn rename_above<A: Allocator + Copy>(
 ) -> Result<usize, AllocError>
     requires from { depth + 1 < length from.now }
     requires to { depth < length to.now }
+    requires apart { same_bytes (get_or from.now depth []) (get_or to.now depth []) ≡ false }
+    requires anew { StandsAnew depth to.now entries.now.items }
     requires kept { IsKept (shown_item item.now) }
     requires level { IsLevel (shown_entries entries.now.items) }
     requires reach { IsReach reach (files (shown_entries entries.now.items)) }
+    requires place { IsEntryAt (get_or from.now depth []) entries.now.items place }
     ensures level { OnOk result (IsLevel (shown_entries entries.new.items)) }
     ensures files { OnOk result (CarriesAt depth from.now to.now item.now entries.old entries.new) }
     ensures reach { IfOk result (λ n. IsReach n (files (shown_entries entries.new.items))) }
     ensures unchanged { OnErr result (entries.new.items ≡ entries.old.items) }
     ensures home { OnOk result (EntriesKeepHome IsItemAtHome item.now entries.old.items entries.new) }
 {
-    let mut copy = shared_entries(alloc, entries)?;
-    let reach = remove_among(&mut copy, reach, alloc, from, depth)?;
-    let reach = graft_among(&mut copy, reach, alloc, to, depth, item)?;
-    *entries = copy;
-    Ok(reach)
+    let _ = from.len();
+    let made = new_item(alloc, to, depth, item)?;
+    let new = Entry::new(alloc, to.component(depth), made)?;
+    entries.reserve(1)?;
+    let reach = remove_at(entries, place, reach, alloc, from, depth)?;
+    Ok(put(entries, reach, new))
+}
+
+// Puts an entry, for which there is room, in place of what stands at its component. Answers the entries' reach.
+fn put<A: Allocator + Copy>(entries: &mut Vec<Entry<A>, A>, reach: usize, new: Entry<A>) -> usize
+    requires room { HasRoom entries.now }
+    requires component { IsTrue (is_component (shown_entry new).0) }
+    requires kept { IsKept (shown_item new.item) }
+    requires level { IsLevel (shown_entries entries.now.items) }
+    requires reach { IsReach reach (files (shown_entries entries.now.items)) }
+    ensures entries { ReplacesItem (shown_entry new).0 new.item entries.old.items entries.new }
+    ensures reach { IsReach result (files (shown_entries entries.new.items)) }
+    ensures home { EntriesKeepHome IsItemAtHome new.item entries.old.items entries.new }
+{
+    let reach = take_out(entries, reach, new.component());
+    let far = new.reach();
+    let place = place_of(entries, new.component(), new.mark());
+    let Ok(()) = entries.insert(place, new) else {
+        unreachable!();
+    };
+    reach.max(far)
 }
 
 // Takes out what stands at a component, and answers the reach of what is left.
@@ -172,6 +199,8 @@ fn take_out<A: Allocator + Copy>(
     requires reach { IsReach reach (files (shown_entries entries.now.items)) }
     ensures level { IsLevel (shown_entries entries.new.items) }
     ensures files { RemovesFiles (component.now ∷ []) entries.old.items entries.new }
+    ensures others { LeavesOthers component.now entries.old.items entries.new }
+    ensures room { HasRoom entries.old → HasRoom entries.new }
     ensures reach { IsReach result (files (shown_entries entries.new.items)) }
     ensures home { Keeps AreAtHome AreAtHome entries.old.items entries.new.items }
 {

@@ -2,11 +2,11 @@
 //! tree has their entries, these change in place; else new ones share them first.
 ghost use Rattle.std.specs.Prelude.{◌≡◌, ◌<◌, ◌≤◌, [], IfOk, OnErr, OnOk, Ok, None, Some, drop, false, get_or, length, true};
 ghost use Rattle.gx_model.specs.Histories.Edits.{removed};
-ghost use Rattle.gx_tree.specs.Edits.{IsLeftOf, RemovesFiles, RemovesIn, files_below, level_in};
+ghost use Rattle.gx_tree.specs.Edits.{IsLeftOf, RemovesFiles, RemovesIn, RemovesPath, files_below, level_in};
 ghost use Rattle.gx_tree.specs.Homes.{Keeps, AreAtHome, IsItemAtHome};
 ghost use Rattle.gx_tree.specs.Named.{KeepsHome};
 ghost use Rattle.gx_tree.specs.Nodes.{IsLevel, files, mark};
-ghost use Rattle.gx_tree.specs.Rooms.{IsReach};
+ghost use Rattle.gx_tree.specs.Rooms.{HasRoom, IsReach};
 ghost use Rattle.gx_tree.specs.Searches.{IsEntryAt};
 ghost use Rattle.gx_tree.specs.Views.{shown_entries, shown_item};
 
@@ -67,9 +67,9 @@ fn remove_in<A: Allocator + Copy>(
     }
 }
 
-/// Removes it from the entries, and answers their reach.
+// Removes it from the entries, and answers their reach.
 #[cycle(remove)]
-pub(crate) fn remove_among<A: Allocator + Copy>(
+fn remove_among<A: Allocator + Copy>(
     entries: &mut Vec<Entry<A>, A>,
     reach: usize,
     alloc: A,
@@ -92,9 +92,9 @@ pub(crate) fn remove_among<A: Allocator + Copy>(
     }
 }
 
-// The same where something stands at the component, at a place among the entries.
+/// The same where something stands at the component, at a place among the entries. The room behind them is left.
 #[cycle(remove)]
-fn remove_at<A: Allocator + Copy>(
+pub(crate) fn remove_at<A: Allocator + Copy>(
     entries: &mut Vec<Entry<A>, A>,
     place: usize,
     reach: usize,
@@ -108,6 +108,8 @@ fn remove_at<A: Allocator + Copy>(
     requires place { IsEntryAt (get_or path.now depth []) entries.now.items place }
     ensures level { OnOk result (IsLevel (shown_entries entries.new.items)) }
     ensures files { OnOk result (RemovesFiles (drop depth path.now) entries.old.items entries.new) }
+    ensures entries { OnOk result (RemovesPath (drop depth path.now) entries.old.items entries.new) }
+    ensures room { HasRoom entries.old → HasRoom entries.new }
     ensures reach { IfOk result (λ n. IsReach n (files (shown_entries entries.new.items))) }
     ensures unchanged { OnErr result (entries.new.items ≡ entries.old.items) }
     ensures home { Keeps AreAtHome AreAtHome entries.old.items entries.new.items }

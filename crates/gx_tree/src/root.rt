@@ -1,5 +1,5 @@
 //! The root of a tree: a directory, and none where there are no files.
-ghost use Rattle.std.specs.Prelude.{◌≡◌, ◌<◌, [], IfErr, IfOk, IsOk, IsTrue, None, OnErr, OnOk, length, take};
+ghost use Rattle.std.specs.Prelude.{◌≡◌, ◌<◌, [], IfErr, IfOk, IsOk, IsTrue, None, OnErr, OnOk, false, length, take};
 ghost use Rattle.std.specs.Option.{option_map};
 ghost use Rattle.gx_model.specs.Histories.Edits.{copied, removed, renamed};
 ghost use Rattle.gx_model.specs.Histories.Files.{sub_map};
@@ -8,12 +8,12 @@ ghost use Rattle.gx_model.specs.Objects.NameMaps.{IsNameMap};
 ghost use Rattle.gx_text.specs.TreePaths.{is_path};
 ghost use Rattle.gx_tree.specs.Calls.{Becomes};
 ghost use Rattle.gx_tree.specs.Copies.{IsCopyFault, IsHeldAt, graft_fault, shown_held, shown_held_if};
-ghost use Rattle.gx_tree.specs.Edits.{AreApart, Carries, Grafts};
+ghost use Rattle.gx_tree.specs.Edits.{AreApart, Carries, Grafts, are_apart};
 ghost use Rattle.gx_tree.specs.Faults.{Refuses};
 ghost use Rattle.gx_tree.specs.Homes.{GraftKeepsHome, HoldsIn, IfThere, IsHeldAtHome, Keeps};
 ghost use Rattle.gx_tree.specs.Lists.{AppendsFiles, are_short};
 ghost use Rattle.gx_tree.specs.Named.{IsAtHome, KeepsHome, nothing};
-ghost use Rattle.gx_tree.specs.Nodes.{IsKept, IsKeptAt, map_if};
+ghost use Rattle.gx_tree.specs.Nodes.{IsInner, IsKept, IsKeptAt, map_if};
 ghost use Rattle.gx_tree.specs.Standings.{standing_of, standing_at};
 ghost use Rattle.gx_tree.specs.Views.{shown_item};
 ghost use Rattle.gx_tree.specs.Writes.{Extends, IsTreeName, StoresAll};
@@ -190,7 +190,8 @@ impl<A: Allocator + Copy> Root<A> {
         Ok(())
     }
 
-    // Takes out what stands at one path, and puts an item at another: in place where neither begins with the other.
+    // Takes out what stands at one path, and puts an item at another. Where one path begins with the other, all that stands at or
+    // below the shorter goes, so that there is nothing to take out first.
     fn carry(
         &mut self,
         alloc: A,
@@ -207,11 +208,10 @@ impl<A: Allocator + Copy> Root<A> {
         if are_apart(from, to, 0) {
             return self.carry_apart(alloc, from, to, &item);
         }
-        let mut root = self.shared()?;
-        root.remove(alloc, from)?;
-        root.place(alloc, to, item)?;
-        *self = root;
-        Ok(())
+        if to.len() <= from.len() {
+            return self.place(alloc, to, item);
+        }
+        self.carry_below(alloc, from, to, &item)
     }
 
     // The same where neither path begins with the other.
@@ -232,6 +232,41 @@ impl<A: Allocator + Copy> Root<A> {
             return self.graft(alloc, to, item);
         };
         node.rename(alloc, from, to, 0, item)
+    }
+
+    // The same where the second path goes on from the first: the item is all that is left below this one.
+    fn carry_below(
+        &mut self,
+        alloc: A,
+        from: &TreePath<A>,
+        to: &TreePath<A>,
+        item: &Item<A>,
+    ) -> Result<(), AllocError>
+        requires aligned { are_apart from.now to.now ≡ false }
+        requires below { length from.now < length to.now }
+        requires kept { IsKept (shown_item item.now) }
+        ensures files { OnOk result (Carries 0 from.now to.now item.now self.old self.new) }
+        ensures unchanged { OnErr result (self.new ≡ self.old) }
+        ensures home { OnOk result (GraftKeepsHome item.now self.old self.new) }
+    {
+        let _ = to.len();
+        self.order();
+        let below = Directory::of_item(alloc, to, from.len(), item)?;
+        if from.len() == 0 {
+            *self = Root::of(below);
+            return Ok(());
+        }
+        self.graft(alloc, from, &Item::Folder(below))
+    }
+
+    // The files stand in order.
+    fn order(&self)
+        ensures { IsInner self.now.files }
+    {
+        match &self.node {
+            Some(node) => node.order(),
+            None => (),
+        }
     }
 
     // Puts an item at a path that may be the root, in place of what stands there, above it or below it.

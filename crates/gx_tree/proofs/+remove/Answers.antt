@@ -6,7 +6,7 @@ use Rattle.gx_tree.specs.Rooms.{Changes}
 use Rattle.gx_tree.specs.Steps.{kept_removed}
 use Rattle.gx_tree.specs.Views.{shown_entries, shown_item}
 use Rattle.gx_tree.proofs.Below.{no_root_before}
-use Rattle.gx_tree.proofs.Changed.{changed_at, gone_at, gone_reach, left_at, none_gone}
+use Rattle.gx_tree.proofs.Changed.{changed_at, gone_at, gone_reach, left_at, left_is, none_gone, went_is}
 use Rattle.gx_tree.proofs.EditSteps.{kept_removed_file, kept_removed_folder}
 use Rattle.gx_tree.proofs.Homes.{all_at, entries_at_home, items_are_those, made_at_home}
 use Rattle.gx_tree.proofs.InPlace.{all_set}
@@ -56,6 +56,10 @@ pub removing::remove_at-returns-then-branch-clause-files : goal.removing::remove
 removing::remove_at-returns-then-branch-clause-files g t c =
     (left_at (get_or c.args.path.now c.args.depth []) c.args.path.now c.args.depth c.args.place c.args.entries.now.items c.index_mut.result.now _ c.requires.within (and_parts _ _ c.len.ensures.path).0 c.requires.level refl c.requires.place c.index_mut.ensures.value refl (c.in_ok-remove.ensures.mark (ap Ok c.if-branch.true)) (c.in_ok-remove.ensures.left (ap Ok c.if-branch.true))).is
 
+pub removing::remove_at-returns-then-branch-clause-entries : goal.removing::remove_at-returns-then-branch-clause-entries
+removing::remove_at-returns-then-branch-clause-entries g t c =
+    left_is (get_or c.args.path.now c.args.depth []) c.args.path.now c.args.depth c.args.place c.args.entries.now.items c.index_mut.result.now _ c.requires.within c.requires.level refl c.requires.place c.index_mut.ensures.value refl (c.in_ok-remove.ensures.mark (ap Ok c.if-branch.true)) (c.in_ok-remove.ensures.left (ap Ok c.if-branch.true))
+
 pub removing::remove_at-returns-then-branch-clause-home : goal.removing::remove_at-returns-then-branch-clause-home
 removing::remove_at-returns-then-branch-clause-home g t c = λ name rs h.
     let es = c.args.entries.now.items in
@@ -77,6 +81,10 @@ removing::remove_at-returns-clause-level g t c =
 pub removing::remove_at-returns-clause-files : goal.removing::remove_at-returns-clause-files
 removing::remove_at-returns-clause-files g t c =
     (gone_at (get_or c.args.path.now c.args.depth []) c.args.path.now c.args.depth c.args.place c.args.entries.now.items c.remove-2.new.self.items c.index_mut.result.now _ c.requires.within (and_parts _ _ c.len.ensures.path).0 c.requires.level refl c.requires.place c.index_mut.ensures.value (c.in_ok-remove.ensures.gone (ap Ok c.if-branch.false)) c.remove-2.ensures.items).is
+
+pub removing::remove_at-returns-clause-entries : goal.removing::remove_at-returns-clause-entries
+removing::remove_at-returns-clause-entries g t c =
+    went_is (get_or c.args.path.now c.args.depth []) c.args.path.now c.args.depth c.args.place c.args.entries.now.items c.remove-2.new.self.items c.index_mut.result.now _ c.requires.within c.requires.level refl c.requires.place c.index_mut.ensures.value (c.in_ok-remove.ensures.gone (ap Ok c.if-branch.false)) c.remove-2.ensures.items
 
 pub removing::remove_in-returns-in-Some-clause-home : goal.removing::remove_in-returns-in-Some-clause-home
 removing::remove_in-returns-in-Some-clause-home g t c = λ name rs h. c.remove_among.ensures.home name rs (subst (λ v. AreAtHome name rs v.items) (sym c.in-Some.ensures.value) h)

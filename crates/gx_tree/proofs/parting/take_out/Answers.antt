@@ -1,9 +1,11 @@
-use Rattle.std.proofs.Common.{◌≡◌, None, refl, sym, subst}
+use Rattle.std.proofs.Common.{◌≡◌, None, refl, sym, ap, ◌∙◌, subst}
 use Rattle.gx_tree.specs.Nodes.{IsLevel, files, kept_at}
 use Rattle.gx_tree.specs.Rooms.{Changes}
 use Rattle.gx_tree.specs.Searches.{IsEntryAt}
 use Rattle.gx_tree.specs.Views.{shown_entries}
+use Rattle.gx_tree.proofs.InPlace.{others_same}
 use Rattle.gx_tree.proofs.Renamed.{none_taken, taken_out, taken_reach}
+use Rattle.gx_tree.proofs.TakenOut.{seen_without}
 use Rattle.gx_tree.proofs.parting.take_out.Goals as goal
 
 pub reach_after-requires-clause-level : goal.reach_after-requires-clause-level
@@ -25,3 +27,11 @@ returns-in-Some-clause-files g c =
 pub returns-in-None-clause-files : goal.returns-in-None-clause-files
 returns-in-None-clause-files g c =
     none_taken c.args.component.now (shown_entries c.args.entries.now.items) c.requires.component c.requires.level (subst (λ z. kept_at c.args.component.now (shown_entries z) ≡ None) c.deref.ensures.value (c.in-None.ensures.missing refl))
+
+pub returns-in-Some-clause-others : goal.returns-in-Some-clause-others
+returns-in-Some-clause-others g c =
+    ap shown_entries c.remove.ensures.items ∙ seen_without c.args.component.now c.args.entries.now.items c.in-Some.place c.requires.level (subst (λ z. IsEntryAt c.args.component.now z c.in-Some.place) c.deref.ensures.value c.in-Some.ensures.found)
+
+pub returns-in-None-clause-others : goal.returns-in-None-clause-others
+returns-in-None-clause-others g c =
+    sym (others_same c.args.component.now (shown_entries c.args.entries.now.items) (subst (λ z. kept_at c.args.component.now (shown_entries z) ≡ None) c.deref.ensures.value (c.in-None.ensures.missing refl)))

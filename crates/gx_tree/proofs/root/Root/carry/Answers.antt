@@ -1,15 +1,10 @@
-use Rattle.std.proofs.Common.{sym, ap, ◌∙◌, subst}
-use Rattle.gx_model.specs.Histories.Edits.{removed}
-use Rattle.gx_tree.specs.Named.{IsAtHome}
+use Rattle.std.proofs.Common.{sym, ◌∙◌, arith}
+use Rattle.std.proofs.lemmas.Result.{on_ok_weaker}
 use Rattle.gx_tree.specs.Nodes.{kept_map}
-use Rattle.gx_tree.specs.Steps.{grafted}
 use Rattle.gx_tree.specs.Views.{shown_item}
-use Rattle.gx_tree.proofs.Homes.{files_same}
+use Rattle.gx_tree.proofs.Aligned.{put_over}
 use Rattle.gx_tree.proofs.root.Root.carry.Goals as goal
 
-pub returns-clause-files : goal.returns-clause-files
-returns-clause-files g c =
-    c.in_ok-place.ensures.files ∙ ap (grafted c.args.to.now (kept_map (shown_item c.args.item))) (c.in_ok-remove.ensures.files ∙ ap (λ f. removed f c.args.from.now) (files_same c.in_ok-root.ensures))
-
-pub returns-clause-home : goal.returns-clause-home
-returns-clause-home g c name rs h = c.in_ok-place.ensures.home name rs (h.0, c.remove.ensures.home name rs (subst (IsAtHome name rs) (sym c.in_ok-root.ensures) h.1))
+pub returns-then-len-len-clause-files : goal.returns-then-len-len-clause-files
+returns-then-len-len-clause-files g c =
+    on_ok_weaker c.place.result (λ e. e ∙ put_over c.args.from.now c.args.to.now (kept_map (shown_item c.args.item)) c.args.self.now.files (sym c.are_apart.ensures ∙ c.if-are_apart.false) (omega (arith, c.if-len-len.true, c.len.ensures.length, c.len-2.ensures.length))) c.place.ensures.files

@@ -1,15 +1,14 @@
 -- A directory's entries where one is taken out.
-use Rattle.std.proofs.Common.{◌≡◌, ℕ, ◌+◌, ◌-◌, zero, suc, false, List, [], ◌∷◌, ◌++◌, length, drop, take, slice_set, Option, None, refl, sym, ap, ◌∙◌, arith, subst}
-use Rattle.std.specs.Prelude.{IsNone}
+use Rattle.std.proofs.Common.{◌≡◌, ℕ, zero, suc, false, List, [], ◌∷◌, ◌++◌, drop, take, slice_set, refl, sym, ap, ◌∙◌, arith, subst}
 use Rattle.std.specs.List.{remove, AllByRecursion}
-use Rattle.std.proofs.lemmas.List.{map-append, take-append-drop, take_rest}
+use Rattle.std.proofs.lemmas.List.{map-append, take-append-drop}
 use Rattle.gx_model.specs.Texts.{Bytes, same_bytes}
-use Rattle.gx_tree.specs.Nodes.{IsLevel, kept_at, others}
+use Rattle.gx_tree.specs.Nodes.{IsLevel, others}
 use Rattle.gx_tree.specs.Searches.{IsEntryAt}
 use Rattle.gx_tree.specs.Views.{shown_entry, shown_entries}
 use Rattle.gx_tree.specs.declared.directory.Entry.{Entry}
 use Rattle.gx_tree.proofs.Homes.{all_first, all_joined, all_rest}
-use Rattle.gx_tree.proofs.InPlace.{others_after, others_same}
+use Rattle.gx_tree.proofs.InPlace.{others_after}
 use Rattle.gx_tree.proofs.Searches.{after_at}
 use Rattle.gx_tree.proofs.Texts.{same_bytes_flip, same_itself}
 
@@ -21,17 +20,6 @@ others_at c (e ∷ es) (suc i) h at =
     let a = after_at (shown_entry e) es i e h.2 (omega (arith, at.0)) in
     let n : same_bytes c (shown_entry e).0 ≡ false = same_bytes_flip c (shown_entry e).0 ∙ ap (same_bytes (shown_entry e).0) (sym (at.1 e)) ∙ a.0 in
     rw n (ap (λ r. shown_entry e ∷ r) (others_at c es i h.3 (omega (arith, at.0), λ d. at.1 d)))
-
--- shared one part after the other, behind none
-pub both_others : {A : Type 0} (c : Bytes) (es none first both : List (Entry A)) (i : ℕ) → IsLevel (shown_entries es) → IsEntryAt c es i → none ≡ [] → shown_entries first ≡ shown_entries none ++ shown_entries (take i es) → shown_entries both ≡ shown_entries first ++ shown_entries (take (length es - (i + 1)) (drop (i + 1) es)) → shown_entries both ≡ others c (shown_entries es)
-both_others c es none first both i h at en ef eb =
-    let a : shown_entries first ≡ shown_entries (take i es) = ef ∙ ap (λ z. shown_entries z ++ shown_entries (take i es)) en in
-    let next : i + 1 ≡ suc i = omega arith in
-    let b : shown_entries (take (length es - (i + 1)) (drop (i + 1) es)) ≡ shown_entries (drop (suc i) es) = ap shown_entries (take_rest es (i + 1) ∙ ap (λ n. drop n es) next) in
-    eb ∙ ap (λ z. z ++ shown_entries (take (length es - (i + 1)) (drop (i + 1) es))) a ∙ ap (λ z. shown_entries (take i es) ++ z) b ∙ sym (others_at c es i h at)
-
-pub all_others : {A : Type 0} (c : Bytes) (es none all : List (Entry A)) (o : Option ℕ) → None ≡ o → (IsNone o → kept_at c (shown_entries es) ≡ None) → none ≡ [] → shown_entries all ≡ shown_entries none ++ shown_entries es → shown_entries all ≡ others c (shown_entries es)
-all_others c es none all o eo missing en ea = ea ∙ ap (λ z. shown_entries z ++ shown_entries es) en ∙ sym (others_same c (shown_entries es) (missing (subst IsNone eo refl)))
 
 -- what holds of each element holds of the first and of the rest
 module _ {X : Type 0} (P : X → Type 0) where

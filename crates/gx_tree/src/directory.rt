@@ -3,10 +3,10 @@
 ghost use Rattle.std.specs.Prelude.{◌≡◌, ◌<◌, ◌≤◌, [], IsTrue, ◌↔◌, IfOk, OnErr, OnOk, drop, length};
 ghost use Rattle.std.specs.Option.{option_map};
 ghost use Rattle.gx_model.specs.Histories.Files.{sub_map};
-ghost use Rattle.gx_tree.specs.Edits.{AddsEntries, InsertsItem, ReplacesItem};
+ghost use Rattle.gx_tree.specs.Edits.{AddsEntries, InsertsItem};
 ghost use Rattle.gx_tree.specs.Homes.{Keeps, Both, IfThere, Borrowed, AreAtHome, EntriesKeepHome, IsItemAtHome, IsLentAtHome};
 ghost use Rattle.gx_tree.specs.Named.{IsAtHome, nothing};
-ghost use Rattle.gx_tree.specs.Nodes.{IsInner, IsKeptAt, IsLevel, is_folder, map_if, mark, others};
+ghost use Rattle.gx_tree.specs.Nodes.{IsInner, IsKeptAt, IsLevel, is_folder, map_if, mark};
 ghost use Rattle.gx_tree.specs.Rooms.{counted, kept_reach};
 ghost use Rattle.gx_tree.specs.Views.{RemembersBelow, shown_item, shown_lent, option_files, shown_entry, shown_entries, tree_of};
 ghost use Rattle.gx_tree.specs.Standings.{standing_of, standing_at};
@@ -15,7 +15,7 @@ ghost use Rattle.gx_tree.specs.Steps.{files_of};
 use crate::component::Component;
 use crate::path_tree::Found;
 use crate::reach::reach_of;
-use crate::search::{find, place_at, place_of};
+use crate::search::{find, place_of};
 use gx_object::{Mode, Name};
 use gx_text::TreePath;
 use std::alloc::{AllocError, Allocator};
@@ -241,30 +241,6 @@ pub(crate) fn shared_entries<A: Allocator + Copy>(
     Ok(shared)
 }
 
-// The entries but for that of a component. It is looked for, and the others are not looked at.
-fn shared_others<A: Allocator + Copy>(
-    alloc: A,
-    entries: &[Entry<A>],
-    component: &[u8],
-) -> Result<Vec<Entry<A>, A>, AllocError>
-    requires { IsLevel (shown_entries entries.now) }
-    ensures others { IfOk result (λ v. shown_entries v.items ≡ others component.now (shown_entries entries.now)) }
-    ensures home { IfOk result (λ v. Keeps AreAtHome AreAtHome entries.now v.items) }
-{
-    let mut others = Vec::with_capacity(alloc, entries.len() + 1)?;
-    match place_at(entries, component) {
-        Some(place) => {
-            share_into(&mut others, &entries[..place])?;
-            share_into(&mut others, &entries[place + 1..])?;
-            Ok(others)
-        }
-        None => {
-            share_into(&mut others, entries)?;
-            Ok(others)
-        }
-    }
-}
-
 // Puts the entries behind those that are shared already.
 fn share_into<A: Allocator + Copy>(
     shared: &mut Vec<Entry<A>, A>,
@@ -277,22 +253,6 @@ fn share_into<A: Allocator + Copy>(
         shared.push(entry.shared()?)?;
     }
     Ok(())
-}
-
-/// The entries, with an item at the component, in place of what stands there.
-pub(crate) fn with_item<A: Allocator + Copy>(
-    alloc: A,
-    entries: &[Entry<A>],
-    component: &[u8],
-    item: Item<A>,
-) -> Result<Vec<Entry<A>, A>, AllocError>
-    requires { IsLevel (shown_entries entries.now) }
-    ensures entries { IfOk result (ReplacesItem component.now item entries.now) }
-    ensures home { IfOk result (EntriesKeepHome IsItemAtHome item entries.now) }
-{
-    let mut all = shared_others(alloc, entries, component)?;
-    insert_entry(alloc, &mut all, component, item)?;
-    Ok(all)
 }
 
 /// Inserts an entry of a component where it stands in the order, and answers its reach.

@@ -10,8 +10,9 @@ ghost use Rattle.gx_tree.specs.Rooms.{IsReach};
 ghost use Rattle.gx_tree.specs.Searches.{IsEntryAt};
 ghost use Rattle.gx_tree.specs.Views.{shown_entries, shown_item};
 
-use crate::directory::{Directory, Entry, Item, insert_entry, shared_entries, with_item};
-use crate::reach::{reach_after, reach_of};
+use crate::directory::{Directory, Entry, Item, insert_entry, shared_entries};
+use crate::placing::put;
+use crate::reach::reach_after;
 use crate::search::place_by;
 use gx_text::TreePath;
 use std::alloc::{AllocError, Allocator};
@@ -226,6 +227,7 @@ fn replace_at<A: Allocator + Copy>(
         let after = entries[place].reach();
         return Ok(reach_after(entries, reach, before, after));
     }
-    *entries = with_item(alloc, entries.as_slice(), component, item)?;
-    Ok(reach_of(entries))
+    let new = Entry::new(alloc, component, item)?;
+    entries.reserve(1)?;
+    Ok(put(entries, reach, new))
 }

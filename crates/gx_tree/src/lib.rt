@@ -14,6 +14,7 @@ mod loading;
 mod moving;
 mod parting;
 mod path_tree;
+mod placing;
 mod reach;
 mod removing;
 mod renaming;

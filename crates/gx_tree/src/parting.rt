@@ -1,21 +1,21 @@
 //! Taking out what stands at one path, and putting an item at another, among the entries of the directory at which the paths
 //! part. Nothing changes before the memory for all of it is there.
-ghost use Rattle.std.specs.Prelude.{◌≡◌, ◌<◌, ◌+◌, [], ◌∷◌, IfOk, IfSome, IsNone, OnErr, OnOk, IsTrue, false, get_or, length, true};
+ghost use Rattle.std.specs.Prelude.{◌≡◌, ◌<◌, ◌+◌, [], IfOk, IfSome, IsNone, OnErr, OnOk, false, get_or, length, true};
 ghost use Rattle.gx_model.specs.Texts.{same_bytes};
-ghost use Rattle.gx_model.specs.Texts.Paths.{is_component};
-ghost use Rattle.gx_tree.specs.Edits.{CarriesAt, LeavesOthers, RemovesFiles, ReplacesItem, StandsAnew};
-ghost use Rattle.gx_tree.specs.Homes.{AreAtHome, EntriesKeepHome, IsItemAtHome, Keeps};
+ghost use Rattle.gx_tree.specs.Edits.{CarriesAt, StandsAnew};
+ghost use Rattle.gx_tree.specs.Homes.{EntriesKeepHome, IsItemAtHome};
 ghost use Rattle.gx_tree.specs.Nodes.{IsKept, IsLevel, files};
-ghost use Rattle.gx_tree.specs.Rooms.{HasRoom, IsReach};
+ghost use Rattle.gx_tree.specs.Rooms.{IsReach};
 ghost use Rattle.gx_tree.specs.Searches.{IsEntryAt, IsFolderAt};
-ghost use Rattle.gx_tree.specs.Views.{shown_entries, shown_entry, shown_item};
+ghost use Rattle.gx_tree.specs.Views.{shown_entries, shown_item};
 
 use crate::directory::{Entry, Item};
 use crate::grafting::{graft_among, new_item};
 use crate::moving::Landing;
+use crate::placing::{put, take_out};
 use crate::reach::reach_after;
 use crate::removing::remove_at;
-use crate::search::{place_at, place_by, place_of};
+use crate::search::place_by;
 use gx_object::{Mode, Name};
 use gx_text::TreePath;
 use std::alloc::{AllocError, Allocator};
@@ -166,50 +166,4 @@ fn rename_above<A: Allocator + Copy>(
     entries.reserve(1)?;
     let reach = remove_at(entries, place, reach, alloc, from, depth)?;
     Ok(put(entries, reach, new))
-}
-
-// Puts an entry, for which there is room, in place of what stands at its component. Answers the entries' reach.
-fn put<A: Allocator + Copy>(entries: &mut Vec<Entry<A>, A>, reach: usize, new: Entry<A>) -> usize
-    requires room { HasRoom entries.now }
-    requires component { IsTrue (is_component (shown_entry new).0) }
-    requires kept { IsKept (shown_item new.item) }
-    requires level { IsLevel (shown_entries entries.now.items) }
-    requires reach { IsReach reach (files (shown_entries entries.now.items)) }
-    ensures entries { ReplacesItem (shown_entry new).0 new.item entries.old.items entries.new }
-    ensures reach { IsReach result (files (shown_entries entries.new.items)) }
-    ensures home { EntriesKeepHome IsItemAtHome new.item entries.old.items entries.new }
-{
-    let reach = take_out(entries, reach, new.component());
-    let far = new.reach();
-    let place = place_of(entries, new.component(), new.mark());
-    let Ok(()) = entries.insert(place, new) else {
-        unreachable!();
-    };
-    reach.max(far)
-}
-
-// Takes out what stands at a component, and answers the reach of what is left.
-fn take_out<A: Allocator + Copy>(
-    entries: &mut Vec<Entry<A>, A>,
-    reach: usize,
-    component: &[u8],
-) -> usize
-    requires component { IsTrue (is_component component.now) }
-    requires level { IsLevel (shown_entries entries.now.items) }
-    requires reach { IsReach reach (files (shown_entries entries.now.items)) }
-    ensures level { IsLevel (shown_entries entries.new.items) }
-    ensures files { RemovesFiles (component.now ∷ []) entries.old.items entries.new }
-    ensures others { LeavesOthers component.now entries.old.items entries.new }
-    ensures room { HasRoom entries.old → HasRoom entries.new }
-    ensures reach { IsReach result (files (shown_entries entries.new.items)) }
-    ensures home { Keeps AreAtHome AreAtHome entries.old.items entries.new.items }
-{
-    match place_at(entries, component) {
-        Some(place) => {
-            let before = entries[place].reach();
-            entries.remove(place);
-            reach_after(entries, reach, before, 0)
-        }
-        None => reach,
-    }
 }

@@ -1,7 +1,8 @@
-use Rattle.std.proofs.Common.{◌≡◌, refl, sym, ap, ◌∙◌, subst}
+use Rattle.std.proofs.Common.{◌≡◌, true, refl, sym, ap, ◌∙◌, subst}
+use Rattle.gx_model.specs.Texts.Paths.{is_component}
 use Rattle.gx_tree.specs.Homes.{AreAtHome, IsItemAtHome}
-use Rattle.gx_tree.specs.Nodes.{IsLevel, files, is_folder, mark}
-use Rattle.gx_tree.specs.Rooms.{Changes}
+use Rattle.gx_tree.specs.Nodes.{IsKept, IsLevel, files, is_folder, mark, with_kept}
+use Rattle.gx_tree.specs.Rooms.{Changes, IsReach}
 use Rattle.gx_tree.specs.Views.{shown_entries, shown_item}
 use Rattle.gx_tree.proofs.Changed.{changed_at, read_twice, replaced_level, same_bools, same_mark}
 use Rattle.gx_tree.proofs.InPlace.{all_set, set_at}
@@ -35,9 +36,27 @@ reach_after-requires-clause-changes g c =
     let level = replaced_level c.args.component.now (shown_item c.args.item) (shown_entries es) _ c.requires.component c.requires.kept c.requires.level (set_at c.args.component.now es c.args.place r _ c.requires.level c.requires.place c.index_mut.ensures.value refl marks) in
     subst (λ z. Changes c.args.reach c.reach-before.result c.reach-after.result (files (shown_entries z))) (sym c.deref.ensures.value) (changed_at c.args.component.now es c.args.place r c.index.result.now _ c.index-then-is_folder.result.now c.args.reach c.requires.level level c.requires.place c.index_mut.ensures.value c.index.ensures refl marks c.requires.reach c.reach-before.ensures c.index-then-is_folder.ensures c.reach-after.ensures)
 
-pub reach_of-requires : goal.reach_of-requires
-reach_of-requires g c =
-    subst (λ z. IsLevel (shown_entries z)) (sym c.deref-2.ensures.value) (replaced_level c.args.component.now (shown_item c.args.item) (shown_entries c.as_slice.result.now) _ c.requires.component c.requires.kept (subst (λ z. IsLevel (shown_entries z)) (sym c.as_slice.ensures.value) c.requires.level) c.in_ok-entries.ensures.entries)
+pub put-requires-clause-component : goal.put-requires-clause-component
+put-requires-clause-component g c = subst (λ z. is_component z ≡ true) (sym (ap (λ z. z.0) c.in_ok-new.ensures.seen)) c.requires.component
+
+pub put-requires-clause-kept : goal.put-requires-clause-kept
+put-requires-clause-kept g c = subst (λ i. IsKept (shown_item i)) (sym c.in_ok-new.ensures.item) c.requires.kept
+
+pub put-requires-clause-level : goal.put-requires-clause-level
+put-requires-clause-level g c = subst (λ z. IsLevel (shown_entries z)) (sym c.in_ok-reserve.ensures.items) c.requires.level
+
+pub put-requires-clause-reach : goal.put-requires-clause-reach
+put-requires-clause-reach g c = subst (λ z. IsReach c.args.reach (files (shown_entries z))) (sym c.in_ok-reserve.ensures.items) c.requires.reach
+
+pub returns-clause-entries : goal.returns-clause-entries
+returns-clause-entries g c =
+    let b = c.args.component.now in
+    let mid = shown_entries c.reserve.new.self.items in
+    c.put.ensures.entries
+    ∙ ap (λ z. with_kept z (shown_item c.in_ok-new.new.item) mid) (ap (λ z. z.0) c.in_ok-new.ensures.seen)
+    ∙ ap (λ z. with_kept b (shown_item z) mid) c.in_ok-new.ensures.item
+    ∙ ap (λ z. with_kept b (shown_item c.args.item) (shown_entries z)) c.in_ok-reserve.ensures.items
 
 pub returns-clause-home : goal.returns-clause-home
-returns-clause-home g c name rs h = c.in_ok-entries.ensures.home name rs (h.0, subst (AreAtHome name rs) (sym c.as_slice.ensures.value) h.1)
+returns-clause-home g c = λ name rs h.
+    c.put.ensures.home name rs (subst (IsItemAtHome name rs) (sym c.in_ok-new.ensures.item) h.0, subst (AreAtHome name rs) (sym c.in_ok-reserve.ensures.items) h.1)

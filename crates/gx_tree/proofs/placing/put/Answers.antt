@@ -4,7 +4,7 @@ use Rattle.gx_tree.specs.Nodes.{inserted, others}
 use Rattle.gx_tree.specs.Views.{shown_entry, shown_entries, shown_item}
 use Rattle.gx_tree.proofs.Copies.{inserted_is}
 use Rattle.gx_tree.proofs.Homes.{all_inserted}
-use Rattle.gx_tree.proofs.parting.put.Goals as goal
+use Rattle.gx_tree.proofs.placing.put.Goals as goal
 
 pub returns-clause-entries : goal.returns-clause-entries
 returns-clause-entries g c =

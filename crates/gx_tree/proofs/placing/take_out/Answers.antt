@@ -6,7 +6,7 @@ use Rattle.gx_tree.specs.Views.{shown_entries}
 use Rattle.gx_tree.proofs.InPlace.{others_same}
 use Rattle.gx_tree.proofs.Renamed.{none_taken, taken_out, taken_reach}
 use Rattle.gx_tree.proofs.TakenOut.{seen_without}
-use Rattle.gx_tree.proofs.parting.take_out.Goals as goal
+use Rattle.gx_tree.proofs.placing.take_out.Goals as goal
 
 pub reach_after-requires-clause-level : goal.reach_after-requires-clause-level
 reach_after-requires-clause-level g c =

@@ -1,5 +1,5 @@
 -- Renames where one path begins with the other: all that stands at or below the shorter goes.
-use Rattle.std.proofs.Common.{◌≡◌, ◌≢◌, ◌<◌, ◌≤◌, Bool, true, false, cond, not, ◌||◌, List, [], ◌∷◌, ◌++◌, length, drop, Option, None, inl, inr, refl, sym, ap, ◌∙◌, arith, subst}
+use Rattle.std.proofs.Common.{◌≡◌, ◌<◌, ◌≤◌, Bool, true, false, cond, not, ◌||◌, List, [], ◌∷◌, ◌++◌, length, drop, Option, None, inl, inr, refl, sym, ap, ◌∙◌, arith, subst}
 use Rattle.std.specs.List.{filter, list_all}
 use Rattle.std.proofs.lemmas.Bool.{and_from, and_parts, cases_Bool, false≢true, true≢false}
 use Rattle.std.proofs.lemmas.List.{length-drop}
@@ -104,7 +104,7 @@ kept_beside s q r x = elim (cases_Bool (begins s r)) [
 put_below : (s q : Path) (k : Kept) (f : FileMap Bytes) → list_all is_component (s ++ q) ≡ true → IsKept k → IsInner f → 0 < length q → grafted s (grafted q (kept_map k) []) f ≡ grafted (s ++ q) (kept_map k) (removed f s)
 put_below s [] k f hp hk h l = absurd (omega (arith, l))
 put_below [] (b ∷ t) k f hp hk h l =
-    grafted_at_root [] f (grafted (b ∷ t) (kept_map k) []) refl (IsKept-grafted (b ∷ t) k None hp hk tt) ∙ ap (grafted (b ∷ t) (kept_map k)) (sym (removed_root [] f refl))
+    grafted_at_root [] f (grafted (b ∷ t) (kept_map k) []) (omega arith) (IsKept-grafted (b ∷ t) k None hp hk tt) ∙ ap (grafted (b ∷ t) (kept_map k)) (sym (removed_root [] f refl))
 put_below (c ∷ s) (b ∷ t) k f hp hk h l =
     let q : Path = b ∷ t in
     let g = kept_map k in

@@ -13,7 +13,11 @@ use crate::search::{place_at, place_of};
 use std::alloc::Allocator;
 
 /// Puts an entry, for which there is room, in place of what stands at its component. Answers the entries' reach.
-pub(crate) fn put<A: Allocator + Copy>(entries: &mut Vec<Entry<A>, A>, reach: usize, new: Entry<A>) -> usize
+pub(crate) fn put<A: Allocator + Copy>(
+    entries: &mut Vec<Entry<A>, A>,
+    reach: usize,
+    new: Entry<A>,
+) -> usize
     requires room { HasRoom entries.now }
     requires component { IsTrue (is_component (shown_entry new).0) }
     requires kept { IsKept (shown_item new.item) }

@@ -36,7 +36,7 @@ returns-clause-files g c =
     let d = c.args.to.now in
     let i = c.args.depth in
     let k = shown_item c.args.item.now in
-    let mid = shown_entries c.remove_at-reach.new.entries.items in
+    let mid = shown_entries c.remove_at.new.entries.items in
     let gone = c.in_ok-reach.ensures.entries ∙ ap (λ z. without_path (drop i s) (shown_entries z)) c.in_ok-reserve.ensures.items in
     let come = c.put.ensures.entries ∙ ap (λ z. with_kept z (shown_item c.in_ok-new.new.item) mid) (ap (λ z. z.0) c.in_ok-new.ensures.seen ∙ c.component.ensures.component) ∙ ap (λ z. with_kept (get_or d i []) (shown_item z) mid) c.in_ok-new.ensures.item in
     (carried_above s d i k (shown_entries c.args.entries.now.items) mid (shown_entries c.put.new.entries.items) (omega (arith, c.requires.from)) c.requires.to (and_parts _ _ c.len.ensures.path).0 (and_parts _ _ c.component.ensures.path).0 c.requires.apart c.requires.kept c.requires.level (c.requires.anew k) gone c.in_ok-made.ensures.kept come).is
@@ -47,11 +47,11 @@ returns-clause-level g c =
     let d = c.args.to.now in
     let i = c.args.depth in
     let k = shown_item c.args.item.now in
-    let mid = shown_entries c.remove_at-reach.new.entries.items in
+    let mid = shown_entries c.remove_at.new.entries.items in
     let gone = c.in_ok-reach.ensures.entries ∙ ap (λ z. without_path (drop i s) (shown_entries z)) c.in_ok-reserve.ensures.items in
     let come = c.put.ensures.entries ∙ ap (λ z. with_kept z (shown_item c.in_ok-new.new.item) mid) (ap (λ z. z.0) c.in_ok-new.ensures.seen ∙ c.component.ensures.component) ∙ ap (λ z. with_kept (get_or d i []) (shown_item z) mid) c.in_ok-new.ensures.item in
     (carried_above s d i k (shown_entries c.args.entries.now.items) mid (shown_entries c.put.new.entries.items) (omega (arith, c.requires.from)) c.requires.to (and_parts _ _ c.len.ensures.path).0 (and_parts _ _ c.component.ensures.path).0 c.requires.apart c.requires.kept c.requires.level (c.requires.anew k) gone c.in_ok-made.ensures.kept come).level
 
 pub returns-clause-home : goal.returns-clause-home
 returns-clause-home g c = λ name rs h.
-    c.put.ensures.home name rs (subst (IsItemAtHome name rs) (sym c.in_ok-new.ensures.item) (c.in_ok-made.ensures.home name rs h.0), c.remove_at-reach.ensures.home name rs (subst (AreAtHome name rs) (sym c.in_ok-reserve.ensures.items) h.1))
+    c.put.ensures.home name rs (subst (IsItemAtHome name rs) (sym c.in_ok-new.ensures.item) (c.in_ok-made.ensures.home name rs h.0), c.remove_at.ensures.home name rs (subst (AreAtHome name rs) (sym c.in_ok-reserve.ensures.items) h.1))

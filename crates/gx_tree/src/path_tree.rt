@@ -166,9 +166,10 @@ impl<A: Allocator + Copy> PathTree<A> {
     ///
     /// Cost: for each directory on the path, searches by halves among its entries. One that no other tree shares changes in
     /// place: a file that stands takes no memory, and a new one moves the entries behind its place, and takes memory for each
-    /// of its components of more than 24 bytes, for the directories that it needs and where the entries have no room. Of one
-    /// that is shared, or where a file and a directory change places, the entries are made anew; what stands beside the path
-    /// is shared. Where what reached furthest goes, the entries are gone through once, to the first that reaches as far.
+    /// of its components of more than 24 bytes, for the directories that it needs and where the entries have no room. Where a
+    /// file and a directory change places, the entries behind each place move. Of one that is shared the entries are made anew;
+    /// what stands beside the path is shared. Where what reached furthest goes, the entries are gone through once, to the first
+    /// that reaches as far.
     /// Source: git-fast-import(1), "filemodify".
     pub fn modify(&mut self, path: &TreePath<A>, mode: Mode, name: Name) -> Result<(), TreeFault>
         requires { mode ≢ modes.Dir }
@@ -225,9 +226,8 @@ impl<A: Allocator + Copy> PathTree<A> {
     /// nothing.
     ///
     /// The errors are those of `copy`, in their order, and each leaves the tree as it was.
-    /// Cost: as for `modify` at both paths. But where one path begins with the other, or where the destination is put among the
-    /// entries of a directory above the source's, the entries of the directories on the ways are made anew.
-    /// No path below the source is looked at. Source: git-fast-import(1), "filerename".
+    /// Cost: as for `modify` at both paths. No path below the source is looked at.
+    /// Source: git-fast-import(1), "filerename".
     pub fn rename(
         &mut self,
         source: &TreePath<A>,

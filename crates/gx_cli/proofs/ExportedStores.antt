@@ -7,11 +7,11 @@ use Rattle.gx_model.specs.Histories.{Records}
 use Rattle.gx_model.specs.Records.Sound.{IsSound}
 use Rattle.gx_model.specs.Texts.Sinks.{Taken}
 use Rattle.gx_text.specs.Devices.{Coming}
-use Rattle.gx_import.specs.Exported.{ImportsExport, KeepsNoNullGitlink}
+use Rattle.gx_import.specs.Exported.{KeepsNoNullGitlink}
 use Rattle.gx_import.specs.Imports.{Imports}
 use Rattle.gx_import.specs.declared.report.Report.{Report}
 use Rattle.gx_import.specs.declared.fault.ImportFault.{ImportFault}
-use Rattle.gx_cli.specs.Again.{ImportsAgain}
+use Rattle.gx_cli.specs.Again.{ImportsAgain, ImportsForms}
 use Rattle.gx_cli.specs.Serving.{ImportsIntoStored, IsKept, IsLeft, IsRefused, IsWritten}
 use Rattle.gx_cli.specs.declared.fault.CliFault.{CliFault}
 use Rattle.gx_cli.specs.declared.fault.CliFault.TheVariants.{Import}
@@ -35,11 +35,11 @@ module _ {N A : Type 0} (asks : Features) (name_of : N → Kind → Bytes → By
       inr (new.1, Err fault, replayed, keeps, (sound, subst (λ n. IsLeft (name_of n) fault.checkpoints new.1 (Import fault) outcome) kept left, refl))
 
   -- the import of an export into an empty store is refused only for want of memory or by the sink
-  pub refused_again : (fault : ImportFault) (coming : Option Coming) → ImportsExport (name_of old.0) old.1 new.1 coming (Err fault) → IsLeft (name_of new.0) fault.checkpoints new.1 (Import fault) outcome
-      → ImportsAgain (name_of old.0) (Ok old.1) coming outcome
+  pub refused_again : (fault : ImportFault) (coming : Option Coming) → ImportsForms (name_of old.0) asks old.1 new.1 coming (Err fault) → IsLeft (name_of new.0) fault.checkpoints new.1 (Import fault) outcome
+      → ImportsAgain (name_of old.0) asks (Ok old.1) coming outcome
   refused_again fault None h k = tt
-  refused_again fault (Some coming) h k = λ exported is links gives empty.
-      let e = h exported is links gives (cc empty) in
+  refused_again fault (Some coming) h k = λ form exported leaves is links gives empty.
+      let e = h form exported leaves is links gives (cc empty) in
       inl (inr (fault, e.0, subst (λ n. IsLeft (name_of new.0) n new.1 (Import fault) outcome) e.1 k))
 
   -- an accepted import: the new repository was written
@@ -54,6 +54,6 @@ module _ {N A : Type 0} (asks : Features) (name_of : N → Kind → Bytes → By
         → ImportsIntoStored (name_of old.0) asks (Ok old.1) coming was now (outcome, Some report)
     accepted_into coming was now replayed keeps = inr (new.1, Ok report, replayed, keeps, (sound_still, written_still, refl))
 
-    pub accepted_again : (coming : Option Coming) → ImportsExport (name_of old.0) old.1 new.1 coming (Ok report) → ImportsAgain (name_of old.0) (Ok old.1) coming outcome
+    pub accepted_again : (coming : Option Coming) → ImportsForms (name_of old.0) asks old.1 new.1 coming (Ok report) → ImportsAgain (name_of old.0) asks (Ok old.1) coming outcome
     accepted_again None h = tt
-    accepted_again (Some coming) h = λ exported is links gives empty. inr (new.1, h exported is links gives (cc empty), sound_still, written_still)
+    accepted_again (Some coming) h = λ form exported leaves is links gives empty. inr (new.1, h form exported leaves is links gives (cc empty), sound_still, written_still)

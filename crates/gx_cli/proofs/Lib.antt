@@ -19,3 +19,4 @@ pub mod ServedLines
 pub mod DroppedStores
 pub mod CollectedStores
 pub mod ReportedImports
+pub mod FormsAgain

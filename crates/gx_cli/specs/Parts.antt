@@ -133,8 +133,8 @@ module _ {N : Type 0} (name_of : N → Kind → Bytes → Bytes) where
       (all_words (and_then (each_word range_of (texts_of words)) (commits_listed (name_of repo.0) (history_of repo.1))))
 
   -- the import of a sound repository's export into this one, where it is empty, makes that repository again
-  abbrev pub ImportsToAgain : {A : Type 0} → Repository N → Option Coming → Outcome A → Type 0
-  ImportsToAgain repo coming o = ImportsAgain (name_of repo.0) (Ok repo.1) coming o
+  abbrev pub ImportsToAgain : {A : Type 0} → Features → Repository N → Option Coming → Outcome A → Type 0
+  ImportsToAgain asks repo coming o = ImportsAgain (name_of repo.0) asks (Ok repo.1) coming o
 
   -- the import of a sound repository's export, served over the empty store of these bytes, makes that repository again
   abbrev pub ServesAgain : {A : Type 0} → N → Line → StoreBytes A → Option Coming → Outcome A → Type 0

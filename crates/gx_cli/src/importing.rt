@@ -1,6 +1,6 @@
 //! The commands that make a store's next text. Source: git-init(1) and git-fast-import(1).
 
-ghost use Rattle.gx_import.specs.Exported.{LeaveExports, nothing};
+ghost use Rattle.gx_import.specs.Exported.{nothing};
 ghost use Rattle.gx_cli.specs.Again.{IntoAgain};
 ghost use Rattle.gx_cli.specs.Opening.{bytes_of};
 ghost use Rattle.gx_cli.specs.Parts.{ImportsTo, ImportsToAgain, ImportsToStored};
@@ -8,6 +8,7 @@ ghost use Rattle.gx_cli.specs.Serving.{EndsWithText, ImportsInto, IsLeft, IsWrit
 ghost use Rattle.gx_cli.specs.declared.fault.CliFault.TheVariants.{Import};
 
 use crate::CliFault;
+use crate::forms::forms_are_imported;
 use crate::opening::{StoreBytes, open};
 use crate::serving::{Outcome, refused};
 use gx_import::{ImportFault, Report, import_asking};
@@ -46,7 +47,7 @@ pub fn import_into<N: Namer + Drop, R: Source + Drop, W: Sink, A: Allocator + Co
     state: RandomState,
 ) -> (Outcome<A>, Option<Report>)
     ensures imported { ImportsInto (N.name_of namer) features store.now (R.coming source) (W.taken sink.old) (W.taken sink.new) result }
-    ensures again { LeaveExports features → IntoAgain (N.name_of namer) store.now (R.coming source) result.0 }
+    ensures again { IntoAgain (N.name_of namer) features store.now (R.coming source) result.0 }
 {
     let store = StoreBytes::Borrowed(store);
     import_stored(alloc, namer, store, source, sink, features, state)
@@ -63,7 +64,7 @@ pub(crate) fn import_stored<N: Namer + Drop, R: Source + Drop, W: Sink, A: Alloc
     state: RandomState,
 ) -> (Outcome<A>, Option<Report>)
     ensures imported { ImportsToStored N.name_of W.taken namer features store.entry (R.coming source) sink.old sink.new result }
-    ensures again { LeaveExports features → IntoAgain (N.name_of namer) (bytes_of store.entry) (R.coming source) result.0 }
+    ensures again { IntoAgain (N.name_of namer) features (bytes_of store.entry) (R.coming source) result.0 }
 {
     match open(alloc, namer, store, state) {
         Ok(mut repo) => import_opened(alloc, &mut repo, source, sink, features),
@@ -80,8 +81,9 @@ fn import_opened<N: Namer, R: Source + Drop, W: Sink, A: Allocator + Copy>(
     features: Features,
 ) -> (Outcome<A>, Option<Report>)
     ensures into { ImportsTo N.name_of W.taken repo.old features (R.coming source) sink.old sink.new result }
-    ensures again { LeaveExports features → ImportsToAgain N.name_of repo.old (R.coming source) result.0 }
+    ensures again { ImportsToAgain N.name_of features repo.old (R.coming source) result.0 }
 {
+    forms_are_imported();
     match import_asking(alloc, repo, source, sink, features) {
         Ok(report) => {
             repo.sound();

@@ -10,6 +10,7 @@ mod dropping;
 mod exporting;
 mod exporting_range;
 mod fault;
+mod forms;
 mod gathering;
 mod growing;
 mod importing;

@@ -39,8 +39,7 @@ pub struct Outcome<A: Allocator> {
 /// and `import` also where it is refused after a checkpoint. What `import` and `gc` report is told by
 /// [`import_store_reporting`](crate::import_store_reporting) and [`collect_store`](crate::collect_store).
 ///
-/// Importing what was exported with all files makes the repository again, as far as its refs reach: the same refs and object
-/// names. What was exported by its changes does so, too, as [`trip_by_changes`](crate::trip_by_changes) has it.
+/// Importing what was exported, in any form, makes the repository again, as far as its refs reach: the same refs and object names.
 ///
 /// Cost: that of reading the store's text, where one is read; for `import` also that of the import and the next text, and for
 /// `export` that of the export.

@@ -7,10 +7,11 @@ use Rattle.gx_model.specs.Histories.{Records}
 use Rattle.gx_model.specs.Records.Sound.{IsSound}
 use Rattle.gx_model.specs.Texts.Sinks.{Taken}
 use Rattle.gx_text.specs.Devices.{Coming}
-use Rattle.gx_import.specs.Exported.{ImportsExport, KeepsNoNullGitlink}
+use Rattle.gx_import.specs.Exported.{KeepsNoNullGitlink}
 use Rattle.gx_import.specs.Imports.{Imports}
 use Rattle.gx_import.specs.declared.report.Report.{Report}
 use Rattle.gx_import.specs.declared.fault.ImportFault.{ImportFault}
+use Rattle.gx_cli.specs.Again.{ImportsForms}
 use Rattle.gx_cli.specs.Storing.{ImportsStored, ImportsStoredAgain, next_after}
 use Rattle.gx_cli.specs.declared.fault.CliFault.TheVariants.{Import}
 
@@ -39,15 +40,15 @@ module _ {N : Type 0} (asks : Features) (name_of : N → Kind → Bytes → Byte
       inr (new.1, Err fault, replayed, keeps, (sound, ap (λ x. (x, Err (Import fault))) (left ∙ ap (next_after fault.checkpoints) is_new)))
 
   -- an accepted import of an export into the empty store
-  pub accepted_store_again : (report : Report) (coming : Option Coming) → ImportsExport (name_of old.0) old.1 new.1 coming (Ok report) → ImportsStoredAgain name_of old.0 (Ok old.1) coming (Some new, Ok report)
+  pub accepted_store_again : (report : Report) (coming : Option Coming) → ImportsForms (name_of old.0) asks old.1 new.1 coming (Ok report) → ImportsStoredAgain name_of old.0 asks (Ok old.1) coming (Some new, Ok report)
   accepted_store_again report None h = tt
-  accepted_store_again report (Some coming) h = λ exported is links gives empty.
-      inr (new.1, report, h exported is links gives (cc empty), sound, ap (λ x. (Some x, Ok report)) is_new)
+  accepted_store_again report (Some coming) h = λ form exported leaves is links gives empty.
+      inr (new.1, report, h form exported leaves is links gives (cc empty), sound, ap (λ x. (Some x, Ok report)) is_new)
 
   -- a refused one, for want of memory or by the sink
-  pub refused_store_again : (fault : ImportFault) (next : Option (N × Records)) → next ≡ next_after fault.checkpoints new → (coming : Option Coming) → ImportsExport (name_of old.0) old.1 new.1 coming (Err fault)
-      → ImportsStoredAgain name_of old.0 (Ok old.1) coming (next, Err (Import fault))
+  pub refused_store_again : (fault : ImportFault) (next : Option (N × Records)) → next ≡ next_after fault.checkpoints new → (coming : Option Coming) → ImportsForms (name_of old.0) asks old.1 new.1 coming (Err fault)
+      → ImportsStoredAgain name_of old.0 asks (Ok old.1) coming (next, Err (Import fault))
   refused_store_again fault next left None h = tt
-  refused_store_again fault next left (Some coming) h = λ exported is links gives empty.
-      let e = h exported is links gives (cc empty) in
+  refused_store_again fault next left (Some coming) h = λ form exported leaves is links gives empty.
+      let e = h form exported leaves is links gives (cc empty) in
       inl (inr (fault, e.0, ap (λ x. (x, Err (Import fault))) (left ∙ ap (λ n. next_after n new) e.1)))

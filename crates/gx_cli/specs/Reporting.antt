@@ -11,7 +11,6 @@ use Rattle.gx_model.specs.Stores.StoreReading.{Stored, store_of}
 use Rattle.gx_model.specs.Texts.Sinks.{Taken}
 use Rattle.gx_text.specs.Devices.{Coming}
 use Rattle.gx_repo.specs.Reporting.{IsReport}
-use Rattle.gx_import.specs.Exported.{LeaveExports}
 use Rattle.gx_import.specs.declared.report.Report.{Report}
 use Rattle.gx_cli.specs.Storing.{Answer, ImportsStored, ImportsStoredAgain}
 use Rattle.gx_cli.specs.declared.fault.CliFault.{CliFault}
@@ -40,7 +39,7 @@ module _ {N A : Type 0} (name_of : N → Kind → Bytes → Bytes) (namer : N) w
   abbrev pub ReportsStored : Features → Stored Records → Option Coming → Option Taken → Option Taken → Told N A → Type 0
   ReportsStored asks stored coming was now told =
       (answer : Answer N) × ImportsStored name_of namer asks stored coming was now answer
-      × (LeaveExports asks → ImportsStoredAgain name_of namer stored coming answer) × ReportsFrom stored answer told
+      × ImportsStoredAgain name_of namer asks stored coming answer × ReportsFrom stored answer told
 
   -- the same of the store of a text, which is read first
   abbrev pub ReportsStore : Features → Bytes → Option Coming → Option Taken → Option Taken → Told N A → Type 0

@@ -11,13 +11,15 @@ use Rattle.gx_model.specs.Records.Sound.{IsSound}
 use Rattle.gx_model.specs.Stores.StoreReading.{Stored, store_of}
 use Rattle.gx_model.specs.Texts.Sinks.{Taken}
 use Rattle.gx_text.specs.Devices.{Coming}
-use Rattle.gx_import.specs.Exported.{GivesExport, IsExported, KeepsNoNullGitlink, nothing}
+use Rattle.gx_import.specs.Exported.{IsExported, KeepsNoNullGitlink, nothing}
 use Rattle.gx_import.specs.Imports.{Imports}
 use Rattle.gx_import.specs.declared.report.Report.{Report}
 use Rattle.gx_import.specs.declared.fault.ImportFault.{ImportFault}
 use Rattle.gx_model.specs.declared.faults.Fault.TheVariants as kind
 use Rattle.gx_model.specs.declared.store_faults.FileFault.{FileFault}
 use Rattle.gx_model.specs.declared.store_faults.FileFault.TheVariants as file
+use Rattle.gx_line.specs.declared.command_line.ExportForm.{ExportForm}
+use Rattle.gx_cli.specs.Again.{GivesForm, LeaveForm}
 use Rattle.gx_cli.specs.declared.fault.CliFault.{CliFault}
 use Rattle.gx_cli.specs.declared.fault.CliFault.TheVariants.{Import, Store}
 
@@ -51,13 +53,13 @@ module _ {N : Type 0} (name_of : N → Kind → Bytes → Bytes) (namer : N) whe
   ImportsStored asks (Err f) coming was now answer =
       (why : FileFault) × ((why ≡ file.OutOfMemory) ⊎ (f ≡ why)) × (answer ≡ (None, Err (Store why))) × (now ≡ was)
 
-  -- The import of a sound repository's export into an empty store makes that repository again, as far as its refs reach. A
-  -- gitlink of forty zeros is left out, which no import takes and none brings.
-  abbrev pub ImportsStoredAgain : Stored Records → Option Coming → Answer N → Type 0
-  ImportsStoredAgain stored None answer = ⊤
-  ImportsStoredAgain stored (Some coming) answer =
-      (exported : Records) → IsSound (name_of namer) exported → HasNoNullGitlink (history_of exported)
-      → GivesExport exported coming → stored ≡ Ok nothing
+  -- The import of a sound repository's export, in any form, into an empty store makes that repository again, as far as its refs
+  -- reach. A gitlink of forty zeros is left out, which no import takes and none brings.
+  abbrev pub ImportsStoredAgain : Features → Stored Records → Option Coming → Answer N → Type 0
+  ImportsStoredAgain asks stored None answer = ⊤
+  ImportsStoredAgain asks stored (Some coming) answer =
+      (form : ExportForm) (exported : Records) → LeaveForm form asks → IsSound (name_of namer) exported → HasNoNullGitlink (history_of exported)
+      → GivesForm (name_of namer) form exported coming → stored ≡ Ok nothing
       → IsInterrupted answer ⊎ ((new : Records) × (report : Report) × IsExported exported new × IsSound (name_of namer) new × (answer ≡ (Some (namer, new), Ok report)))
 
   -- the import of a stream into the store of a text, which is read first
@@ -65,5 +67,5 @@ module _ {N : Type 0} (name_of : N → Kind → Bytes → Bytes) (namer : N) whe
   ImportsStore asks text coming was now answer = ImportsStored asks (store_of (name_of namer) text) coming was now answer
 
   -- the import of a sound repository's export into the store of a text, where that is an empty store
-  abbrev pub ImportsStoreAgain : Bytes → Option Coming → Answer N → Type 0
-  ImportsStoreAgain text coming answer = ImportsStoredAgain (store_of (name_of namer) text) coming answer
+  abbrev pub ImportsStoreAgain : Features → Bytes → Option Coming → Answer N → Type 0
+  ImportsStoreAgain asks text coming answer = ImportsStoredAgain asks (store_of (name_of namer) text) coming answer

@@ -3,13 +3,13 @@
 ghost use Rattle.std.specs.Prelude.{◌≡◌, IfErr, IfOk, Ok};
 ghost use Rattle.gx_model.specs.declared.store_versions.Version.TheVariants.{Two};
 ghost use Rattle.gx_model.specs.Stores.StoreText.{store_text};
-ghost use Rattle.gx_import.specs.Exported.{LeaveExports};
 ghost use Rattle.gx_cli.specs.Parts.{IsReadBack, LeavesNext};
 ghost use Rattle.gx_cli.specs.Sending.{PrintsText};
 ghost use Rattle.gx_cli.specs.Storing.{ImportsStore, ImportsStoreAgain, ImportsStoredAgain, next_after};
 ghost use Rattle.gx_cli.specs.declared.fault.CliFault.TheVariants.{WriteFailed};
 
 use crate::CliFault;
+use crate::forms::forms_are_imported;
 use crate::opening::{StoreBytes, open};
 use gx_file::write_to;
 use gx_import::{Report, import_asking};
@@ -37,7 +37,7 @@ pub fn import_store<N: Namer + Drop, R: Source + Drop, W: Sink, A: Allocator + C
     state: RandomState,
 ) -> (Option<Repo<N, A>>, Result<Report, CliFault>)
     ensures imported { ImportsStore N.name_of namer features store.items (R.coming source) (W.taken sink.old) (W.taken sink.new) result }
-    ensures again { LeaveExports features → ImportsStoreAgain N.name_of namer store.items (R.coming source) result }
+    ensures again { ImportsStoreAgain N.name_of namer features store.items (R.coming source) result }
 {
     match open(alloc, namer, StoreBytes::Owned(store), state) {
         Ok(repo) => import_opened(alloc, repo, source, sink, features),
@@ -54,8 +54,9 @@ pub(crate) fn import_opened<N: Namer + Drop, R: Source + Drop, W: Sink, A: Alloc
     features: Features,
 ) -> (Option<Repo<N, A>>, Result<Report, CliFault>)
     ensures imported { LeavesNext N.name_of W.taken repo features (R.coming source) sink.old sink.new result }
-    ensures again { LeaveExports features → ImportsStoredAgain N.name_of repo.0 (Ok repo.1) (R.coming source) result }
+    ensures again { ImportsStoredAgain N.name_of repo.0 features (Ok repo.1) (R.coming source) result }
 {
+    forms_are_imported();
     let mut next = repo;
     match import_asking(alloc, &mut next, source, sink, features) {
         Ok(report) => (Some(next), Ok(report)),

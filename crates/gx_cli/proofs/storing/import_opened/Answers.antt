@@ -1,3 +1,4 @@
+use Rattle.std.proofs.Common.{Err, Ok}
 use Rattle.gx_cli.proofs.StoredImports.{accepted_store, accepted_store_again, refused_store, refused_store_again}
 use Rattle.gx_cli.proofs.storing.import_opened.Goals as goal
 
@@ -7,9 +8,11 @@ returns-in-Err-clause-imported g c =
     (g.R.Source.coming c.args.source) (g.W.Sink.taken c.args.sink.now) (g.W.Sink.taken c.import_asking.new.sink) c.in-Err.ensures.replayed c.import_asking.ensures.gitlinks
 
 pub returns-in-Err-clause-again : goal.returns-in-Err-clause-again
-returns-in-Err-clause-again g c = λ leaves.
+returns-in-Err-clause-again g c =
+    let again = c.forms_are_imported.ensures (g.N.Namer.name_of c.args.repo.0) (g.met.N.Namer.is_namer c.args.repo.0) c.args.features c.args.repo.1 c.import_asking.new.repo.1
+    (g.R.Source.coming c.args.source) (g.W.Sink.taken c.args.sink.now) (g.W.Sink.taken c.import_asking.new.sink) (Err c.in-Err.fault) c.import_asking.ensures.sound c.in-Err.ensures.replayed c.in-Err.ensures.stopped c.in-Err.ensures.exported in
     refused_store_again c.args.features g.N.Namer.name_of c.args.repo c.import_asking.new.repo c.import_asking.ensures.namer c.import_asking.ensures.sound c.in-Err.fault c.left.result c.left.ensures
-    (g.R.Source.coming c.args.source) (c.in-Err.ensures.exported leaves)
+    (g.R.Source.coming c.args.source) again
 
 pub returns-in-Ok-clause-imported : goal.returns-in-Ok-clause-imported
 returns-in-Ok-clause-imported g c =
@@ -17,6 +20,8 @@ returns-in-Ok-clause-imported g c =
     (g.R.Source.coming c.args.source) (g.W.Sink.taken c.args.sink.now) (g.W.Sink.taken c.import_asking.new.sink) c.in-Ok.ensures.replayed c.import_asking.ensures.gitlinks
 
 pub returns-in-Ok-clause-again : goal.returns-in-Ok-clause-again
-returns-in-Ok-clause-again g c = λ leaves.
+returns-in-Ok-clause-again g c =
+    let again = c.forms_are_imported.ensures (g.N.Namer.name_of c.args.repo.0) (g.met.N.Namer.is_namer c.args.repo.0) c.args.features c.args.repo.1 c.import_asking.new.repo.1
+    (g.R.Source.coming c.args.source) (g.W.Sink.taken c.args.sink.now) (g.W.Sink.taken c.import_asking.new.sink) (Ok c.in-Ok.report) c.import_asking.ensures.sound c.in-Ok.ensures.replayed tt c.in-Ok.ensures.exported in
     accepted_store_again c.args.features g.N.Namer.name_of c.args.repo c.import_asking.new.repo c.import_asking.ensures.namer c.import_asking.ensures.sound c.in-Ok.report
-    (g.R.Source.coming c.args.source) (c.in-Ok.ensures.exported leaves)
+    (g.R.Source.coming c.args.source) again

@@ -10,7 +10,7 @@ returns-in-Ok-clause-imported g c =
     c.in-Ok.ensures.namer c.in-Ok.ensures.store c.import_opened.ensures.imported
 
 pub returns-in-Ok-clause-again : goal.returns-in-Ok-clause-again
-returns-in-Ok-clause-again g c = λ leaves.
+returns-in-Ok-clause-again g c =
     of_read c.args.namer c.in-Ok.repo (store_of (g.N.Namer.name_of c.args.namer) c.args.store.items)
-    (λ namer stored. ImportsStoredAgain g.N.Namer.name_of namer stored (g.R.Source.coming c.args.source) c.import_opened.result)
-    c.in-Ok.ensures.namer c.in-Ok.ensures.store (c.import_opened.ensures.again leaves)
+    (λ namer stored. ImportsStoredAgain g.N.Namer.name_of namer c.args.features stored (g.R.Source.coming c.args.source) c.import_opened.result)
+    c.in-Ok.ensures.namer c.in-Ok.ensures.store c.import_opened.ensures.again

@@ -1,5 +1,6 @@
 -- An export in memory, and its import into an empty store.
-use Rattle.std.proofs.Common.{◌≡◌, ◌≤◌, ◌<◌, ℕ, Bool, true, false, sym, ap, subst, ◌∙◌, arith, inl, inr, [], length, length-append, Option, None, Some, Result, Ok, Err}
+use Rattle.std.proofs.Common.{◌≡◌, ◌≤◌, ◌<◌, ℕ, Bool, true, false, refl, sym, ap, subst, ◌∙◌, arith, inl, inr, [], length, length-append, Option, None, Some, Result, Ok, Err}
+use Rattle.std.specs.Prelude.{IfErr}
 use Rattle.std.proofs.lemmas.Bool.{false≢true}
 use Rattle.std.proofs.lemmas.Bool.Decides.{nat_tests}
 use Rattle.gx_model.specs.declared.objects.Kind.{Kind}
@@ -18,6 +19,7 @@ use Rattle.gx_text.specs.Devices.{Coming}
 use Rattle.gx_stream.specs.Heard.{heard_upto}
 use Rattle.gx_import.specs.Exported.{ExportedOr, ImportsExport, KeepsNoNullGitlink, nothing}
 use Rattle.gx_import.specs.Imports.{Imports, report_of}
+use Rattle.gx_import.specs.Stopping.{StopsReplay}
 use Rattle.gx_import.specs.declared.report.Report.{Report}
 use Rattle.gx_import.specs.declared.fault.ImportFault.{ImportFault}
 use Rattle.gx_export.specs.Outputs.{StopsAt, most}
@@ -25,6 +27,7 @@ use Rattle.gx_export.specs.declared.fault.ExportFault.{ExportFault}
 use Rattle.gx_export.specs.declared.fault.ExportFault.TheVariants.{WriteFailed}
 use Rattle.gx_line.specs.declared.command_line.ExportForm.{ExportForm}
 use Rattle.gx_line.specs.declared.command_line.ExportForm.TheVariants.{Changes, FullTree}
+use Rattle.gx_cli.specs.Again.{FormsAreImported, LeaveForm}
 use Rattle.gx_cli.specs.Forms.{ExportsAs, text_as}
 use Rattle.gx_cli.specs.Headline.{ComesBack, ComesBackOr, GivesText, Returns, RoundTrips}
 use Rattle.gx_cli.specs.declared.fault.CliFault.{CliFault}
@@ -80,15 +83,24 @@ unfolding heard_upto
 heard_short room c short = grind (arith, nat_tests)
 
 module _ {N : Type 0} (name_of : N → Kind → Bytes → Bytes) (namer : N) where
+  -- no features leave the import of an export in any form as it is
+  none_leave : (form : ExportForm) → LeaveForm form no_features
+  none_leave FullTree = refl
+  none_leave (Changes done) = (refl, inl refl)
+
   -- the import of an export's text into a repository with nothing
-  pub imported_again : (exported old : N × Records) (new : Records) (text : Bytes) (coming : Coming) (answer : Result Report ImportFault)
-      → HoldsTellsHas → old ≡ (namer, nothing) → exported.0 ≡ namer → IsSound (name_of exported.0) exported.1 → HoldsNoNullGitlink (history_of exported.1)
-      → coming ≡ record { bytes = text; fails = false } → text ≡ export_text (history_of exported.1) → length text ≤ most
+  pub imported_again : (form : ExportForm) (exported old : N × Records) (new : Records) (text : Bytes) (coming : Coming) (was now : Option Taken) (answer : Result Report ImportFault)
+      → FormsAreImported (name_of namer) → HoldsTellsHas → old ≡ (namer, nothing) → exported.0 ≡ namer → IsSound (name_of exported.0) exported.1 → HoldsNoNullGitlink (history_of exported.1)
+      → coming ≡ record { bytes = text; fails = false } → text ≡ text_as (name_of namer) form (history_of exported.1) → length text ≤ most
+      → IsSound (name_of old.0) new → Imports no_features (name_of old.0) old.1 new (Some coming) was now answer → IfErr answer (StopsReplay no_features (name_of old.0) old.1 (Some coming))
       → ImportsExport (name_of old.0) old.1 new (Some coming) answer → ExportedOr exported.1 new answer
-  imported_again exported old new text coming answer tells empty same sound none given whole short h =
-      let sound_too = subst (λ n. IsSound (name_of n) exported.1) (same ∙ sym (ap (λ z. z.0) empty)) sound in
-      let heard = ap (heard_upto most) given ∙ heard_short most (record { bytes = text; fails = false }) short ∙ ap (λ z. record { bytes = z; fails = false }) whole in
-      h exported.1 sound_too (tells (history_of exported.1) none) heard (ap (λ z. z.1) empty)
+  imported_again form exported old new text coming was now answer forms tells empty same sound none given whole short stands replayed stops taken =
+      let sound_too = subst (λ n. IsSound (name_of n) exported.1) same sound in
+      let gives = ap (heard_upto most) given ∙ heard_short most (record { bytes = text; fails = false }) short ∙ ap (λ z. record { bytes = z; fails = false }) whole in
+      subst (λ (o : N × Records). IsSound (name_of o.0) new → Imports no_features (name_of o.0) o.1 new (Some coming) was now answer → IfErr answer (StopsReplay no_features (name_of o.0) o.1 (Some coming))
+      → ImportsExport (name_of o.0) o.1 new (Some coming) answer → ExportedOr exported.1 new answer) (sym empty)
+      (λ s r t e. forms no_features nothing new (Some coming) was now answer s r t (λ leaves. e) form exported.1 (none_leave form) sound_too (tells (history_of exported.1) none) gives refl)
+      stands replayed stops taken
 
   -- an import into a repository with nothing brings no gitlink of forty zeros
   pub none_brought : (old : N × Records) (new : Records) → old ≡ (namer, nothing) → HoldsNoNullGitlink (history_of nothing) → KeepsNoNullGitlink old.1 new → HoldsNoNullGitlink (history_of new)

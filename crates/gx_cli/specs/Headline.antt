@@ -24,6 +24,8 @@ use Rattle.gx_import.specs.declared.report.Report.{Report}
 use Rattle.gx_import.specs.declared.fault.ImportFault.{ImportFault}
 use Rattle.gx_model.specs.declared.faults.Fault.TheVariants as kind
 use Rattle.gx_export.specs.Outputs.{most}
+use Rattle.gx_line.specs.declared.command_line.ExportForm.{ExportForm}
+use Rattle.gx_cli.specs.Forms.{text_as}
 use Rattle.gx_cli.specs.Trying.{LooksAs, Refuses, no_history}
 use Rattle.gx_cli.specs.declared.fault.CliFault.{CliFault}
 use Rattle.gx_cli.specs.declared.fault.CliFault.TheVariants.{Export, Import, OutOfMemory}
@@ -45,11 +47,11 @@ abbrev pub ImportsAgainOr : {N : Type 0} → Records → Result (N × Records) I
 ImportsAgainOr exported (Ok again) = IsExported exported again.1
 ImportsAgainOr exported (Err fault) = ((fault.kind ≡ kind.OutOfMemory) ⊎ (fault.kind ≡ kind.WriteFailed)) × (fault.checkpoints ≡ 0)
 
--- the import of a repository's export makes it again, with the text of the export; or memory ran out, or the export has more
--- than 2^63 - 1 bytes
-abbrev pub ExportsAgain : {N A : Type 0} → Records → Result ((N × Records) × Vec ℕ A) CliFault → Type 0
-ExportsAgain first (Ok made) = (made.1.items ≡ export_text (history_of first)) × IsExported first made.0.1
-ExportsAgain {N} {A} first (Err fault) = GivesText {A = A} (export_text (history_of first)) (Err fault)
+-- the import of a repository's export in a form makes it again, with the text of the export; or memory ran out, or the export
+-- has more than 2^63 - 1 bytes
+abbrev pub ExportsAgain : {N A : Type 0} → (Kind → Bytes → Bytes) → ExportForm → Records → Result ((N × Records) × Vec ℕ A) CliFault → Type 0
+ExportsAgain name form first (Ok made) = (made.1.items ≡ text_as name form (history_of first)) × IsExported first made.0.1
+ExportsAgain {N} {A} name form first (Err fault) = GivesText {A = A} (text_as name form (history_of first)) (Err fault)
 
 -- A trip has this report, and such a history comes back by it, whose export is this text.
 module _ (name : Kind → Bytes → Bytes) {T : Type 0} (told : T → Report) (IsBack : History → T → Type 0) (text_of : History → Bytes) where

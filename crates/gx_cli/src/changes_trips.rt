@@ -1,22 +1,18 @@
 //! A stream that is imported, exported by its changes, and imported again.
 
-ghost use Rattle.std.specs.Prelude.{◌≡◌, ◌≤◌, length, IfOk};
-ghost use Rattle.gx_model.specs.Changes.{changes_text};
+ghost use Rattle.std.specs.Prelude.{◌≡◌, IfOk};
 ghost use Rattle.gx_model.specs.Streams.Gitlinks.{HoldsNoNullGitlink};
 ghost use Rattle.gx_model.specs.Records.HistoryOf.{history_of};
-ghost use Rattle.gx_export.specs.Outputs.{most};
-ghost use Rattle.gx_cli.specs.ChangesTrips.{ChangesComeBackOr, IsBack, TripsByChanges};
+ghost use Rattle.gx_cli.specs.ChangesTrips.{ChangesComeBackOr, TripsByChanges};
 
-use crate::growing::Growing;
-use crate::trips::exported;
+use crate::trips::export_again;
 use crate::{CliFault, ExportForm};
-use gx_import::{ImportFault, Report, import};
-use gx_model::changes_laws::{changes_are_imported, changes_are_readable};
+use gx_import::{Report, import};
 use gx_model::gitlink_laws::replays_keep_none;
 use gx_model::repository_laws::histories_of_records;
 use gx_object::Namer;
 use gx_repo::Repo;
-use gx_text::{Bytes, Sink, Source};
+use gx_text::{Sink, Source};
 use std::alloc::Allocator;
 use std::hash::RandomState;
 
@@ -34,7 +30,7 @@ pub struct ChangesTrip<N: Namer, A: Allocator> {
 /// Lines of `progress` go out as they come. With `done` the export tells its end.
 ///
 /// `Import`: the stream's import is refused. `Export`: the export has more than 2^63 - 1 bytes, which no import reads.
-/// `OutOfMemory`: a growth was refused after the import, or the second import was refused.
+/// `OutOfMemory`: a growth was refused after the import. That of the export is refused for no other cause.
 /// Cost: that of the import, of `gx_export::export_changes`, and of the import of what it wrote. Memory: that of both
 /// imports, and the export's text.
 pub fn trip_by_changes<N: Namer + Copy + Drop, A: Allocator + Copy, R: Source + Drop, W: Sink>(
@@ -72,50 +68,14 @@ fn come_back<N: Namer + Copy + Drop, A: Allocator + Copy>(
     ensures again { IfOk result (λ trip. trip.again.0 ≡ namer) }
     ensures back { ChangesComeBackOr (N.name_of namer) done report first result }
 {
-    match exported(alloc, &first, ExportForm::Changes { done }) {
-        Ok(text) => match import_changes(alloc, &first, namer, done, text.as_slice(), state) {
-            Ok(again) => Ok(ChangesTrip {
-                report,
-                first,
-                text,
-                again,
-            }),
-            Err(_) => Err(CliFault::OutOfMemory),
-        },
-        Err(fault) => Err(fault),
-    }
-}
-
-/// The repository that the import of the text of a repository's changes into an empty store makes.
-fn import_changes<N: Namer + Drop, A: Allocator + Copy>(
-    alloc: A,
-    exported: &Repo<N, A>,
-    namer: N,
-    done: bool,
-    text: &[u8],
-    state: RandomState,
-) -> Result<Repo<N, A>, ImportFault>
-    requires namer { exported.now.0 ≡ namer }
-    requires text { text.now ≡ changes_text (N.name_of namer) done (history_of exported.now.1) }
-    requires short { length text.now ≤ most }
-    requires gitlinks { HoldsNoNullGitlink (history_of exported.now.1) }
-    ensures namer { IfOk result (λ again. again.0 ≡ namer) }
-    ensures again { IfOk result (λ again. IsBack (N.name_of namer) exported.now.1 again.1) }
-{
     histories_of_records();
-    replays_keep_none();
-    changes_are_readable();
-    changes_are_imported();
-    exported.sound();
-    let mut again = Repo::new(alloc, namer, state);
-    let mut progress = Growing::new(alloc);
-    match import(
-        alloc,
-        &mut again,
-        Bytes::new(text, 65_536, false),
-        &mut progress,
-    ) {
-        Ok(_) => Ok(again),
+    match export_again(alloc, namer, &first, ExportForm::Changes { done }, state) {
+        Ok((again, text)) => Ok(ChangesTrip {
+            report,
+            first,
+            text,
+            again,
+        }),
         Err(fault) => Err(fault),
     }
 }

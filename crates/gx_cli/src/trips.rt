@@ -1,14 +1,15 @@
 //! A stream that is imported, exported, and imported again.
 
 ghost use Rattle.std.specs.Prelude.{◌≡◌, ◌≤◌, length, IfOk};
-ghost use Rattle.gx_model.specs.Export.{export_text};
 ghost use Rattle.gx_model.specs.Streams.Gitlinks.{HoldsNoNullGitlink};
 ghost use Rattle.gx_model.specs.Records.HistoryOf.{history_of};
+ghost use Rattle.gx_model.specs.Records.Sound.{IsSound};
 ghost use Rattle.gx_export.specs.Outputs.{most};
 ghost use Rattle.gx_cli.specs.Forms.{text_as};
 ghost use Rattle.gx_cli.specs.Headline.{ComesBackOr, ExportsAgain, GivesText, ImportsAgainOr, RoundTrips};
 
 use crate::exporting::export_as;
+use crate::forms::forms_are_imported;
 use crate::growing::Growing;
 use crate::trying::look_in;
 use crate::{CliFault, ExportForm};
@@ -79,7 +80,7 @@ fn come_back<N: Namer + Copy + Drop, A: Allocator + Copy>(
     ensures back { ComesBackOr (N.name_of namer) revision.now path.now report first result }
 {
     let file = look_in(alloc, &first, revision, path);
-    match export_again(alloc, namer, &first, state) {
+    match export_again(alloc, namer, &first, ExportForm::FullTree, state) {
         Ok((again, text)) => Ok(RoundTrip {
             report,
             first,
@@ -91,20 +92,22 @@ fn come_back<N: Namer + Copy + Drop, A: Allocator + Copy>(
     }
 }
 
-/// The repository that the import of a repository's export into an empty store makes, and the text of the export.
-fn export_again<N: Namer + Drop, A: Allocator + Copy>(
+/// The repository that the import of a repository's export in a form into an empty store makes, and the text of the export.
+pub(crate) fn export_again<N: Namer + Drop, A: Allocator + Copy>(
     alloc: A,
     namer: N,
     first: &Repo<N, A>,
+    form: ExportForm,
     state: RandomState,
 ) -> Result<(Repo<N, A>, Vec<u8, A>), CliFault>
     requires namer { first.now.0 ≡ namer }
     requires gitlinks { HoldsNoNullGitlink (history_of first.now.1) }
     ensures namer { IfOk result (λ made. made.0.0 ≡ namer) }
-    ensures made { ExportsAgain first.now.1 result }
+    ensures sound { IfOk result (λ made. IsSound (N.name_of namer) made.0.1) }
+    ensures made { ExportsAgain (N.name_of namer) form first.now.1 result }
 {
-    match exported(alloc, first, ExportForm::FullTree) {
-        Ok(text) => match import_again(alloc, first, namer, text.as_slice(), state) {
+    match exported(alloc, first, form) {
+        Ok(text) => match import_again(alloc, first, namer, form, text.as_slice(), state) {
             Ok(again) => Ok((again, text)),
             Err(_) => Err(CliFault::OutOfMemory),
         },
@@ -113,7 +116,7 @@ fn export_again<N: Namer + Drop, A: Allocator + Copy>(
 }
 
 /// The text that a repository is exported as in this form.
-pub(crate) fn exported<N: Namer, A: Allocator + Copy>(
+fn exported<N: Namer, A: Allocator + Copy>(
     alloc: A,
     repo: &Repo<N, A>,
     form: ExportForm,
@@ -133,21 +136,25 @@ pub(crate) fn exported<N: Namer, A: Allocator + Copy>(
     }
 }
 
-/// The repository that the import of an export's text into an empty store makes. Only memory may be wanting.
+/// The repository that the import of the text of a repository's export in a form into an empty store makes. Only memory may be
+/// wanting.
 fn import_again<N: Namer + Drop, A: Allocator + Copy>(
     alloc: A,
     exported: &Repo<N, A>,
     namer: N,
+    form: ExportForm,
     text: &[u8],
     state: RandomState,
 ) -> Result<Repo<N, A>, ImportFault>
     requires namer { exported.now.0 ≡ namer }
-    requires text { text.now ≡ export_text (history_of exported.now.1) }
+    requires text { text.now ≡ text_as (N.name_of namer) form (history_of exported.now.1) }
     requires short { length text.now ≤ most }
     requires gitlinks { HoldsNoNullGitlink (history_of exported.now.1) }
     ensures namer { IfOk result (λ again. again.0 ≡ namer) }
+    ensures sound { IfOk result (λ again. IsSound (N.name_of namer) again.1) }
     ensures again { ImportsAgainOr exported.now.1 result }
 {
+    forms_are_imported();
     replays_keep_none();
     exported.sound();
     let mut again = Repo::new(alloc, namer, state);

@@ -23,7 +23,7 @@ __gx_operands() {
   operands=()
   for ((i = 2; i < ${#words[@]} - 1; i++)); do
     case ${words[i]} in
-      --max-count) i=$((i + 1)) ;;
+      --max-count | --prefix) i=$((i + 1)) ;;
       -?*) ;;
       *) operands+=("${words[i]}") ;;
     esac
@@ -91,6 +91,7 @@ __gx_cut() {
 __gx_options() {
   case ${words[1]} in
     ls) __gx_answer '' "$1" -r --recursive --help ;;
+    archive) __gx_answer '' "$1" --prefix --help ;;
     batch) __gx_answer '' "$1" --check --help ;;
     adapt) __gx_answer '' "$1" --drop-signatures --help ;;
     import) __gx_answer '' "$1" --done --force --report --help ;;
@@ -107,13 +108,13 @@ __gx_words_of_command() {
   local -a operands
   __gx_operands
   case ${words[1]}:${#operands[@]} in
-    init:0 | import:0 | drop:0 | gc:0 | export:0 | show:0 | ls:0 | batch:0 | refs:0 | log:0 | rev-parse:0) __gx_files "$last" ;;
-    show:1 | ls:1 | drop:[1-9]* | export:[1-9]* | log:[1-9]* | rev-parse:[1-9]*) __gx_revisions "$last" ;;
+    init:0 | import:0 | drop:0 | gc:0 | export:0 | show:0 | ls:0 | archive:0 | batch:0 | refs:0 | log:0 | rev-parse:0) __gx_files "$last" ;;
+    show:1 | ls:1 | archive:1 | drop:[1-9]* | export:[1-9]* | log:[1-9]* | rev-parse:[1-9]*) __gx_revisions "$last" ;;
   esac
 }
 
 _gx() {
-  local -a words commands=(blobs try adapt where init import drop gc export show ls batch refs log rev-parse)
+  local -a words commands=(blobs try adapt where init import drop gc export show ls archive batch refs log rev-parse)
   COMPREPLY=()
   # behind < and > bash completes files by itself
   [[ ${COMP_WORDS[COMP_CWORD - 1]} != *[\<\>]* ]] || return 0
@@ -126,7 +127,7 @@ _gx() {
     __gx_answer '' "$last" "${commands[@]}" help --help
   elif [[ ${words[1]} == help ]]; then
     __gx_answer '' "$last" "${commands[@]}"
-  elif [[ ${words[-2]} == --max-count ]]; then
+  elif [[ ${words[-2]} =~ ^--(max-count|prefix)$ ]]; then
     return
   elif [[ $last == -* ]]; then
     __gx_options "$last"

@@ -18,7 +18,8 @@ from pathlib import Path
 TOP = Path(__file__).resolve().parent.parent
 MANUAL = (TOP / "docs" / "gx.1").read_text()
 LINE = TOP / "crates" / "gx_line" / "src" / "command_line"
-COMMANDS, PAGES = (LINE / "commands.rt").read_text(), (LINE / "manual.rt").read_text()
+COMMANDS = (LINE / "commands.rt").read_text()
+PAGES = "".join(path.read_text() for path in [LINE / "manual.rt", *sorted((LINE / "manual").iterdir())])
 BASH, ZSH = ((TOP / "completions" / name).read_text() for name in ("gx.bash", "_gx"))
 README = (TOP / "README.md").read_text()
 
@@ -75,7 +76,7 @@ def long_names(options):
 def named_by_sources():
     """The commands and the options that the sources of the help name."""
     commands = re.findall(r'\b(?:file_)?command\(\s*alloc,\s*"([\w-]+)"', COMMANDS)
-    options = set(re.findall(r'\bflag\(\s*alloc,\s*"([\w-]+)"', COMMANDS))
+    options = set(re.findall(r'\b(?:flag|text)\(\s*alloc,\s*"([\w-]+)"', COMMANDS))
     options |= set(re.findall(r'\.long\("([\w-]+)"\)', COMMANDS))
     return [name for name in commands if name != "gx"], {f"--{name}" for name in options}
 

@@ -56,7 +56,7 @@ line() {
   fi
 }
 
-line 'gx ' blobs try adapt where init import drop gc export show ls batch refs log rev-parse help --help
+line 'gx ' blobs try adapt where init import drop gc export show ls archive batch refs log rev-parse help --help
 line 'gx -' --help --explain --version
 line 'gx --explain im' import
 line 'gx --explain import st' store
@@ -67,7 +67,7 @@ line 'gx blobs '
 line 'gx try '
 line 'gx try -' --done --force --help
 line 'gx import --f' --force
-line 'gx a' adapt
+line 'gx a' adapt archive
 line 'gx adapt '
 line 'gx adapt -' --drop-signatures --help
 line 'gx w' where
@@ -78,6 +78,10 @@ line 'gx import --done st' store
 line 'gx import store < st'
 line 'gx export store > st'
 line 'gx ls -' -r --recursive --help
+line 'gx archive -' --prefix --help
+line 'gx archive --prefix '
+line 'gx archive --prefix p/ st' store
+line 'gx archive --prefix=p/ store t' topic
 line 'gx batch -' --check --help
 line 'gx batch --check st' store
 line 'gx batch store '

@@ -381,7 +381,7 @@ check_full_disk() {
 
 check_output() {
   fresh output
-  for command in refs 'show main' 'show main:test.txt' 'rev-parse main' 'log main' 'ls main'; do
+  for command in refs 'show main' 'show main:test.txt' 'rev-parse main' 'log main' 'ls main' 'archive main'; do
     # shellcheck disable=SC2086  # the command and its word
     set -- $command
     name=$1

@@ -86,6 +86,7 @@ fn file_of<'a>(line: &Line<'a>) -> Option<&'a str> {
         | Line::ExportRange { file, .. }
         | Line::Show { file, .. }
         | Line::Ls { file, .. }
+        | Line::Archive { file, .. }
         | Line::Refs { file }
         | Line::Log { file, .. }
         | Line::RevParse { file, .. } => Some(*file),
@@ -128,6 +129,11 @@ fn run_command(run: &Run<'_>, line: &Line<'_>, state: RandomState) -> Result<(),
         Line::Show { file, revision: _ }
         | Line::Ls {
             recursive: _,
+            file,
+            revision: _,
+        }
+        | Line::Archive {
+            prefix: _,
             file,
             revision: _,
         }

@@ -4,6 +4,7 @@ pub mod ReadWords
 pub mod RefusedWords
 pub mod ListedCommits
 pub mod ListedFiles
+pub mod ArchivedWords
 pub mod Trials
 pub mod Pieces
 pub mod StoredAnswers

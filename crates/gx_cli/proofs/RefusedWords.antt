@@ -39,7 +39,8 @@ first_refused a f (cli.Revision number why) h = fails_first a f (of_word number 
 first_refused a f cli.OutOfMemory h = tt
 first_refused a f fault h = absurd h
 
-nothing_in_front : (given : Printed) → IsFrontOf given []
+-- nothing is a front of whatever is printed
+pub nothing_in_front : (given : Printed) → IsFrontOf given []
 nothing_in_front (Ok text) = (text, refl)
 nothing_in_front (Err refusal) = refl
 

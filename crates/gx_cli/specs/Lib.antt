@@ -9,6 +9,7 @@ pub mod Words
 pub mod Sending
 pub mod Answers
 pub mod Gathering
+pub mod Archiving
 pub mod Placing
 pub mod Opening
 pub mod Forms

@@ -25,6 +25,7 @@ use Rattle.gx_model.specs.Texts.{Bytes}
 use Rattle.gx_model.specs.Texts.Sinks.{Taken}
 use Rattle.gx_text.specs.Devices.{Coming}
 use Rattle.gx_object.specs.declared.name.Name.{Name}
+use Rattle.gx_archive.specs.Archives.{archive_of}
 use Rattle.gx_batch.specs.Calls.{SendsAnswers}
 use Rattle.gx_batch.specs.declared.fault.BatchFault.{BatchFault}
 use Rattle.gx_import.specs.declared.fault.ImportFault.{ImportFault}
@@ -48,7 +49,7 @@ use Rattle.gx_cli.specs.Forms.{SendsRange}
 use Rattle.gx_cli.specs.Sending.{PrintsText}
 use Rattle.gx_cli.specs.Opening.{bytes_of}
 use Rattle.gx_cli.specs.Serving.{AnswersLines, DropsRefs, ExportsRangeStored, ExportsStore, ImportsInto, ImportsIntoStored, IsDropped, PrintsStored, Serves, blobs_answer, printed_by, unknown_at}
-use Rattle.gx_cli.specs.Stored.{all_words, commits_listed, file_line, files_of_word, line_of_ref, list_text, log_line, log_text, names_text, texts_of}
+use Rattle.gx_cli.specs.Stored.{all_words, commits_listed, file_line, files_of_word, line_of_ref, list_text, log_line, log_text, names_text, only_word, tar_text, texts_of}
 use Rattle.gx_cli.specs.Storing.{Answer, ImportsStored}
 use Rattle.gx_cli.specs.Trying.{ImportsAlone, Shows, Tries}
 use Rattle.gx_cli.specs.Words.{GivesWords}
@@ -228,6 +229,17 @@ module _ {N W : Type 0} (name_of : N → Kind → Bytes → Bytes) (taken : W �
   -- the lines of all files of the tree of this name go out
   abbrev pub ListsFiles : Repository N → Name → W → W → Result (Unit {0}) CliFault → Type 0
   ListsFiles repo tree old new result = PrintsText (flat_map (file_line (name_of repo.0)) (files_at repo.1 tree)) (taken old) (taken new) result
+
+  -- ---- archives
+
+  -- the archive of the tree that a word gives as a revision goes out, or why it gives none is answered
+  abbrev pub ArchivesWord : Repository N → Bytes → Bytes → W → W → Result (Unit {0}) CliFault → Type 0
+  ArchivesWord repo prefix word old new result = Prints (tar_text (name_of repo.0) prefix (history_of repo.1) word) (taken old) (taken new) result
+
+  -- the same of a revision
+  abbrev pub ArchivesRevision : Repository N → Bytes → Revision → W → W → Result (Unit {0}) CliFault → Type 0
+  ArchivesRevision repo prefix revision old new result =
+      Prints (only_word (archive_of (name_of repo.0) (history_of repo.1) revision prefix)) (taken old) (taken new) result
 
   -- ---- several words
 

@@ -44,7 +44,7 @@ use Rattle.gx_cli.specs.Forms.{ExportsAs, SendsRange}
 use Rattle.gx_cli.specs.Gathering.{AdaptsStream, batch_answer}
 use Rattle.gx_cli.specs.Placing.{PlacesFrom}
 use Rattle.gx_blobs.specs.Printing.{PrintsBlobs}
-use Rattle.gx_cli.specs.Stored.{Printed, list_text, log_text, names_text, of_stored, refs_text, show_text, texts_of}
+use Rattle.gx_cli.specs.Stored.{Printed, list_text, log_text, names_text, of_stored, refs_text, show_text, tar_text, texts_of}
 use Rattle.gx_cli.specs.Trying.{Tries}
 
 -- the features that a line asks for
@@ -129,6 +129,7 @@ ExportsRangeStored name done (Err f) words was now o = IsUnread f was now o
 abbrev pub printed_by : (Kind → Bytes → Bytes) → Question → Records → Printed
 printed_by name (question.Show word) r = show_text name (history_of r) word.now
 printed_by name (question.List recursive word) r = list_text name recursive (history_of r) word.now
+printed_by name (question.Archive prefix word) r = tar_text name prefix.now (history_of r) word.now
 printed_by name question.Refs r = Ok (refs_text r)
 printed_by name (question.Log options words) r = log_text name options (history_of r) (texts_of words.now)
 printed_by name (question.Names words) r = names_text name (history_of r) (texts_of words.now)
@@ -204,6 +205,7 @@ module _ (name : Kind → Bytes → Bytes) {A : Type 0} where
   Serves (line.ExportRange done file words) store coming was now o = ExportsRangeStored name done (store_of name store) (texts_of words.items) was now o
   Serves (line.Show file word) store coming was now o = PrintsStored (store_of name store) (λ r. show_text name (history_of r) word.now) was now o
   Serves (line.Ls recursive file word) store coming was now o = PrintsStored (store_of name store) (λ r. list_text name recursive (history_of r) word.now) was now o
+  Serves (line.Archive prefix file word) store coming was now o = PrintsStored (store_of name store) (λ r. tar_text name prefix.now (history_of r) word.now) was now o
   Serves (line.Refs file) store coming was now o = PrintsStored (store_of name store) (λ r. Ok (refs_text r)) was now o
   Serves (line.Log options file words) store coming was now o = PrintsStored (store_of name store) (λ r. log_text name options (history_of r) (texts_of words.items)) was now o
   Serves (line.RevParse file words) store coming was now o = PrintsStored (store_of name store) (λ r. names_text name (history_of r) (texts_of words.items)) was now o

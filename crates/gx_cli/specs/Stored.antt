@@ -1,5 +1,5 @@
 -- What a command prints of a store, or why it is refused.
--- Source: git-cat-file(1), git-ls-tree(1), git-show-ref(1), git-rev-list(1) and git-rev-parse(1).
+-- Source: git-cat-file(1), git-ls-tree(1), git-archive(1), git-show-ref(1), git-rev-list(1) and git-rev-parse(1).
 use Rattle.std.specs.Prelude.{ℕ, Bool, if◌then◌else◌, List, [], ◌∷◌, ◌++◌, map, take, reverse, Option, Some, None, Result, Ok, Err}
 use Rattle.std.specs.List.{flat_map}
 use Rattle.std.specs.Borrow.{Bor}
@@ -20,6 +20,7 @@ use Rattle.gx_model.specs.Revisions.Ranges.{WordFault, each_word, listing, words
 use Rattle.gx_model.specs.Stores.StoreText.{stored_ref}
 use Rattle.gx_model.specs.Stores.StoreReading.{Stored}
 use Rattle.gx_object.specs.declared.name.Name.{Name}
+use Rattle.gx_archive.specs.Archives.{archive_of}
 use Rattle.gx_cli.specs.Listings.{entry_line, text_of_word, tree_lines}
 use Rattle.gx_line.specs.declared.command_line.LogOptions.{LogOptions}
 
@@ -100,6 +101,10 @@ module _ (name : Kind → Bytes → Bytes) where
   -- the lines of a revision's tree
   abbrev pub list_text : Bool → History → Bytes → Printed
   list_text recursive h word = only_word (and_then (files_of_word h word) (λ files. Ok (list_lines recursive files)))
+
+  -- the archive of a revision's tree, with this before each path
+  abbrev pub tar_text : Bytes → History → Bytes → Printed
+  tar_text prefix h word = only_word (and_then (revision_of word) (λ r. archive_of name h r prefix))
 
   -- ---- several revisions
 

@@ -1,11 +1,14 @@
 //! Why a command is refused.
 
 ghost use Rattle.std.specs.Prelude.{◌≡◌};
+ghost use Rattle.gx_cli.specs.Archiving.{of_archive};
 ghost use Rattle.gx_cli.specs.Gathering.{of_batch};
 ghost use Rattle.gx_cli.specs.declared.fault.CliFault.TheVariants.{OutOfMemory};
 
 use crate::BlobsFault;
+use crate::words::refused;
 use gx_adapt::AdaptFault;
+use gx_archive::ArchiveFault;
 use gx_batch::BatchFault;
 use gx_export::ExportFault;
 use gx_file::FileFault;
@@ -57,6 +60,18 @@ impl From<AllocError> for CliFault {
 
     fn from(_error: AllocError) -> CliFault {
         CliFault::OutOfMemory
+    }
+}
+
+impl From<ArchiveFault> for CliFault {
+    ghost from_gives = { λ from fault. fault ≡ of_archive from };
+
+    fn from(fault: ArchiveFault) -> CliFault {
+        match fault {
+            ArchiveFault::Revision(kind) => refused(1, kind),
+            ArchiveFault::WriteFailed => CliFault::WriteFailed,
+            ArchiveFault::OutOfMemory => CliFault::OutOfMemory,
+        }
     }
 }
 

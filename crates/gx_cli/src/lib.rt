@@ -3,6 +3,7 @@
 #![tactic(auto)]
 
 mod adapting;
+mod archiving;
 mod batching;
 mod changes_trips;
 mod collecting;

@@ -2,6 +2,7 @@
 
 ghost use Rattle.gx_cli.specs.Parts.{AsksStore, PrintsOf};
 
+use crate::archiving::print_archive;
 use crate::log::log;
 use crate::ls::list;
 use crate::names::print_names;
@@ -23,6 +24,8 @@ pub(crate) enum Question<'a> {
     Show(&'a str),
     /// The entries of a revision's tree, or all of its files.
     List(bool, &'a str),
+    /// The archive of a revision's tree, with this prefix.
+    Archive(&'a str, &'a str),
     /// The refs.
     Refs,
     /// The commits of range words.
@@ -61,6 +64,9 @@ fn print_answer<N: Namer, W: Sink, A: Allocator + Copy>(
         Question::Show(revision) => show(alloc, repo, revision.as_bytes(), sink),
         Question::List(recursive, revision) => {
             list(alloc, repo, recursive, revision.as_bytes(), sink)
+        }
+        Question::Archive(prefix, revision) => {
+            print_archive(alloc, repo, prefix.as_bytes(), revision.as_bytes(), sink)
         }
         Question::Refs => print_refs(repo, sink),
         Question::Log(options, ranges) => log(alloc, repo, options, ranges, sink),

@@ -141,6 +141,14 @@ fn serve_bytes<N: Namer + Drop, R: Source + Drop, W: Sink, A: Allocator + Copy>(
             let question = Question::List(*recursive, revision);
             print_stored(alloc, namer, question, store, sink, state)
         }
+        Line::Archive {
+            prefix,
+            file: _,
+            revision,
+        } => {
+            let question = Question::Archive(prefix, revision);
+            print_stored(alloc, namer, question, store, sink, state)
+        }
         Line::Refs { file: _ } => print_stored(alloc, namer, Question::Refs, store, sink, state),
         Line::Log {
             options,

@@ -32,6 +32,9 @@ $ show|-|x % Show { file: \"-\", revision: \"x\" }
 $ ls|f|x % Ls { recursive: false, file: \"f\", revision: \"x\" }
 $ ls|-r|f|x % Ls { recursive: true, file: \"f\", revision: \"x\" }
 $ ls|f|x|--recursive % Ls { recursive: true, file: \"f\", revision: \"x\" }
+$ archive|f|x % Archive { prefix: \"\", file: \"f\", revision: \"x\" }
+$ archive|--prefix=p/|f|x % Archive { prefix: \"p/\", file: \"f\", revision: \"x\" }
+$ archive|f|x|--prefix|p % Archive { prefix: \"p\", file: \"f\", revision: \"x\" }
 $ batch|f % Batch { check: false, file: \"f\" }
 $ batch|--check|f % Batch { check: true, file: \"f\" }
 $ refs|f % Refs { file: \"f\" }
@@ -93,6 +96,9 @@ $ ls|f % refused
 $ ls|-r|f % refused
 $ ls|-x|f|a % refused
 $ ls|-r|-r|f|a % refused
+$ archive|f % refused
+$ archive|--prefix|f|a % refused
+$ archive|--prefix=a|--prefix=b|f|a % refused
 $ batch % refused
 $ batch|f|main % refused
 $ refs % refused
@@ -147,6 +153,8 @@ $ ls|--help % help %
 Usage: gx ls [OPTIONS] <FILE> <REV>
 $ ls|--help % help %
   -r, --recursive
+$ archive|--help % help %
+Usage: gx archive [OPTIONS] <FILE> <REV>
 $ batch|--help % help %
 Usage: gx batch [OPTIONS] <FILE>
 $ refs|--help % help %

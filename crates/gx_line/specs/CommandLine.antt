@@ -1,5 +1,5 @@
 -- The command line of gx: what clap is told of it, and what a line says of the words that clap took.
-use Rattle.std.specs.Prelude.{◌≡◌, ⊤, ℕ, Bool, true, false, not, List, [], map, Option, Some, None, Result, IfOk, codes, IsSomeAnd}
+use Rattle.std.specs.Prelude.{◌≡◌, ◌⊎◌, ⊤, ℕ, Bool, true, false, not, List, [], map, Option, Some, None, Result, IfOk, codes, IsSomeAnd}
 use Rattle.std.specs.Borrow.{Bor}
 use Rattle.std.specs.Str.Parse.{ParsesUnsigned}
 use Rattle.std.specs.declared.num.ParseIntError.{ParseIntError}
@@ -14,7 +14,7 @@ use Rattle.clap.specs.declared.error.kind.ErrorKind.TheVariants.{DisplayHelp, Di
 use Rattle.gx_line.specs.declared.command_line.ExportForm.{ExportForm}
 use Rattle.gx_line.specs.declared.command_line.ExportForm.TheVariants.{Changes, FullTree}
 use Rattle.gx_line.specs.declared.command_line.Line.{Line}
-use Rattle.gx_line.specs.declared.command_line.Line.TheVariants.{Blobs, Try, Adapt, Where, Init, Import, Drop, Gc, Export, ExportRange, Show, Ls, Batch, Refs, Log, RevParse}
+use Rattle.gx_line.specs.declared.command_line.Line.TheVariants.{Blobs, Try, Adapt, Where, Init, Import, Drop, Gc, Export, ExportRange, Show, Ls, Archive, Batch, Refs, Log, RevParse}
 use Rattle.gx_line.specs.declared.command_line.LineFault.{LineFault}
 use Rattle.gx_line.specs.declared.command_line.LineFault.TheVariants.{OutOfMemory, Status}
 use Rattle.gx_line.specs.declared.command_line.LogOptions.{LogOptions}
@@ -45,6 +45,10 @@ flag id = record (new_rule id) { long = Some id; action = Some SetTrue }
 abbrev pub letter_flag : Text → ℕ → Rule
 letter_flag id letter = record (flag id) { short = Some letter }
 
+-- --ID and a text
+abbrev pub text : Text → Rule
+text id = record (new_rule id) { long = Some id; value_names = 1 }
+
 -- a whole number below 2^64
 abbrev pub whole_number : Text → Rule
 whole_number id = record (new_rule id) { value_names = 1; parser = Some (parser.Unsigned 0 18446744073709551615) }
@@ -65,6 +69,9 @@ revision = one_word (codes "rev")
 
 abbrev pub recursive : Rule
 recursive = letter_flag (codes "recursive") 114
+
+abbrev pub prefix : Rule
+prefix = text (codes "prefix")
 
 abbrev pub check : Rule
 check = flag (codes "check")
@@ -145,6 +152,9 @@ show_command = with_rule (file_command (codes "show")) revision
 abbrev pub ls_command : App
 ls_command = with_rule (with_rule (file_command (codes "ls")) revision) recursive
 
+abbrev pub archive_command : App
+archive_command = with_rule (with_rule (file_command (codes "archive")) revision) prefix
+
 abbrev pub batch_command : App
 batch_command = with_rule (file_command (codes "batch")) check
 
@@ -184,7 +194,7 @@ with_store_commands a =
 
 -- the commands that show objects
 abbrev pub with_tree_commands : App → App
-with_tree_commands a = under (under (under a show_command) ls_command) batch_command
+with_tree_commands a = under (under (under (under a show_command) ls_command) archive_command) batch_command
 
 -- the commands with a list of words
 abbrev pub with_commit_commands : App → App
@@ -201,6 +211,10 @@ IsWord id rows word = first_of id rows ≡ Some word.now
 
 abbrev pub AreWords : Text → List Row → List (Bor Text) → Type 0
 AreWords id rows words = all_of id rows ≡ Some (map (λ s. s.now) words)
+
+-- the empty text where none is given
+abbrev pub IsText : Text → List Row → Bor Text → Type 0
+IsText id rows text = first_of id rows ≡ Some text.now ⊎ ((first_of id rows ≡ None) × (text.now ≡ []))
 
 -- clap has "true" for a flag that is given, and "false" for one that isn't
 abbrev pub IsFlag : Text → List Row → Bool → Type 0
@@ -241,6 +255,8 @@ Says name rows (ExportRange done file ranges) = (name ≡ codes "export")
 Says name rows (Show file revision) = (name ≡ codes "show")
     × (IsWord (codes "file") rows file × IsWord (codes "rev") rows revision)
 Says name rows (Ls recursive file revision) = (name ≡ codes "ls") × (IsFlag (codes "recursive") rows recursive
+    × (IsWord (codes "file") rows file × IsWord (codes "rev") rows revision))
+Says name rows (Archive prefix file revision) = (name ≡ codes "archive") × (IsText (codes "prefix") rows prefix
     × (IsWord (codes "file") rows file × IsWord (codes "rev") rows revision))
 Says name rows (Batch check file) = (name ≡ codes "batch") × (IsFlag (codes "check") rows check × IsWord (codes "file") rows file)
 Says name rows (Refs file) = (name ≡ codes "refs") × IsWord (codes "file") rows file

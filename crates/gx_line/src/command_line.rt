@@ -95,6 +95,12 @@ pub enum Line<'a> {
         file: &'a str,
         revision: &'a str,
     },
+    /// The tree of a revision is written as an archive. The prefix stands before each path, and is empty where none is given.
+    Archive {
+        prefix: &'a str,
+        file: &'a str,
+        revision: &'a str,
+    },
     /// What the revisions on standard input give is shown, or with `check` no more than its name, kind and size.
     Batch {
         check: bool,
@@ -210,6 +216,11 @@ fn file_line<'a>(
             file,
             revision: word_of(alloc, matches, "rev")?,
         }),
+        "archive" => Ok(Line::Archive {
+            prefix: text_of(matches, "prefix"),
+            file,
+            revision: word_of(alloc, matches, "rev")?,
+        }),
         "batch" => Ok(Line::Batch {
             check: is_set(matches, "check"),
             file,
@@ -320,6 +331,16 @@ fn is_set(matches: &ArgMatches<'_>, id: &str) -> bool
     ensures { say.IsFlag id.now (rows_of (found_of matches.now)) result }
 {
     matches.get_flag(id)
+}
+
+/// The text of an option, which is empty where the option isn't given.
+fn text_of<'a>(matches: &ArgMatches<'a>, id: &str) -> &'a str
+    ensures { say.IsText id.now (rows_of (found_of matches.now)) result }
+{
+    match matches.get_str(id) {
+        Some(text) => text,
+        None => "",
+    }
 }
 
 /// The number of an option, which clap has checked.

@@ -220,6 +220,11 @@ fn file_of<'a>(line: &Line<'a>) -> Option<&'a str> {
             file,
             revision: _,
         }
+        | Line::Archive {
+            prefix: _,
+            file,
+            revision: _,
+        }
         | Line::Log {
             options: _,
             file,

@@ -57,6 +57,14 @@ pub(super) fn flag<'a>(alloc: Global, id: &'a str, help: &'a str) -> Arg<'a>
         .help(help)
 }
 
+/// An option with a text, which is given by its id. Help shows the text by `shown`.
+pub(super) fn text<'a>(alloc: Global, id: &'a str, shown: &'a str, help: &'a str) -> Arg<'a>
+    ensures rule { rule_of result ≡ say.text id.entry.now }
+    ensures local { result.global ≡ false }
+{
+    Arg::new(alloc, id).long(id).value_name(shown).help(help)
+}
+
 /// A whole number below 2^64. Help shows it by `N`.
 pub(super) fn number<'a>(alloc: Global, id: &'a str, help: &'a str) -> Arg<'a>
     ensures rule { rule_of result ≡ say.whole_number id.entry.now }

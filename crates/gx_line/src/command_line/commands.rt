@@ -6,8 +6,8 @@ ghost use Rattle.clap.specs.Words.{App, app_of, new_app, rule_of};
 ghost use Rattle.clap.specs.declared.builder.command.Command.TheViews.{out-Command as fields_of};
 ghost use Rattle.gx_line.specs.CommandLine as say;
 
-use super::arguments::{any_words, flag, number, one_word, revision, words};
-use super::manual::{self, Page};
+use super::arguments::{any_words, flag, number, one_word, revision, text, words};
+use super::manual::{self, Page, commits, objects, stores, streams};
 use clap::{Arg, Command};
 use std::alloc::{AllocError, Global};
 
@@ -38,13 +38,13 @@ fn with_stream_commands<'a>(
 ) -> Result<Command<'a>, AllocError>
     ensures { (a : App) → say.Makes gx.entry a → say.Makes result (say.with_stream_commands a) }
 {
-    let gx = with_command(gx, Ok(command(alloc, "blobs", manual::BLOBS)));
-    let tried = with_argument(Ok(command(alloc, "try", manual::TRY)), revision(alloc));
+    let gx = with_command(gx, Ok(command(alloc, "blobs", streams::BLOBS)));
+    let tried = with_argument(Ok(command(alloc, "try", streams::TRY)), revision(alloc));
     let try_command = with_features(alloc, tried);
     let gx = with_command(gx, try_command);
     let gx = with_command(gx, adapt_command(alloc));
     let number = number(alloc, "number", "The number of a command, from 1").required(true);
-    let where_command = with_argument(Ok(command(alloc, "where", manual::WHERE)), number);
+    let where_command = with_argument(Ok(command(alloc, "where", streams::WHERE)), number);
     with_command(gx, where_command)
 }
 
@@ -57,7 +57,7 @@ fn adapt_command<'a>(alloc: Global) -> Result<Command<'a>, AllocError>
         "Leaves out the signatures of commits, which then have other\n\
          names than in git",
     );
-    with_argument(Ok(command(alloc, "adapt", manual::ADAPT)), drop_signatures)
+    with_argument(Ok(command(alloc, "adapt", streams::ADAPT)), drop_signatures)
 }
 
 /// What a command that imports can be asked for, as if its stream began with it.
@@ -90,12 +90,12 @@ fn with_store_commands<'a>(
 ) -> Result<Command<'a>, AllocError>
     ensures { (a : App) → say.Makes gx.entry a → say.Makes result (say.with_store_commands a) }
 {
-    let gx = with_command(gx, file_command(alloc, "init", manual::INIT));
+    let gx = with_command(gx, file_command(alloc, "init", stores::INIT));
     let gx = with_command(gx, import_command(alloc));
     let gx = with_command(gx, drop_command(alloc));
     let gx = with_command(gx, gc_command(alloc));
     let gx = with_command(gx, export_command(alloc));
-    with_command(gx, file_command(alloc, "refs", manual::REFS))
+    with_command(gx, file_command(alloc, "refs", stores::REFS))
 }
 
 fn import_command<'a>(alloc: Global) -> Result<Command<'a>, AllocError>
@@ -106,7 +106,7 @@ fn import_command<'a>(alloc: Global) -> Result<Command<'a>, AllocError>
         "report",
         "Tells the refs that changed, and the counts, on standard error",
     );
-    let import = with_features(alloc, file_command(alloc, "import", manual::IMPORT));
+    let import = with_features(alloc, file_command(alloc, "import", stores::IMPORT));
     with_argument(import, report)
 }
 
@@ -114,7 +114,7 @@ fn drop_command<'a>(alloc: Global) -> Result<Command<'a>, AllocError>
     ensures { say.Makes result say.drop_command }
 {
     let refs = words(alloc, "ref", "REF", "Names of refs, as gx refs prints them");
-    with_argument(file_command(alloc, "drop", manual::DROP), refs)
+    with_argument(file_command(alloc, "drop", stores::DROP), refs)
 }
 
 fn gc_command<'a>(alloc: Global) -> Result<Command<'a>, AllocError>
@@ -125,7 +125,7 @@ fn gc_command<'a>(alloc: Global) -> Result<Command<'a>, AllocError>
         "report",
         "Tells how many objects and bytes went, on standard error",
     );
-    with_argument(file_command(alloc, "gc", manual::GC), report)
+    with_argument(file_command(alloc, "gc", stores::GC), report)
 }
 
 fn export_command<'a>(alloc: Global) -> Result<Command<'a>, AllocError>
@@ -151,7 +151,7 @@ fn export_command<'a>(alloc: Global) -> Result<Command<'a>, AllocError>
         "Commits, as gx --help has it: with --changes these alone",
     )
     .requires_arg("changes")?;
-    let export = with_argument(file_command(alloc, "export", manual::EXPORT), changes);
+    let export = with_argument(file_command(alloc, "export", stores::EXPORT), changes);
     let export = with_argument(export, no_done);
     with_argument(export, ranges)
 }
@@ -163,15 +163,16 @@ fn with_tree_commands<'a>(
 ) -> Result<Command<'a>, AllocError>
     ensures { (a : App) → say.Makes gx.entry a → say.Makes result (say.with_tree_commands a) }
 {
-    let show = with_argument(file_command(alloc, "show", manual::SHOW), revision(alloc));
+    let show = with_argument(file_command(alloc, "show", objects::SHOW), revision(alloc));
     let gx = with_command(gx, show);
     let gx = with_command(gx, ls_command(alloc));
+    let gx = with_command(gx, archive_command(alloc));
     let check = flag(
         alloc,
         "check",
         "Leaves out the bytes of each object and the line feed behind them",
     );
-    let batch = with_argument(file_command(alloc, "batch", manual::BATCH), check);
+    let batch = with_argument(file_command(alloc, "batch", objects::BATCH), check);
     with_command(gx, batch)
 }
 
@@ -184,9 +185,24 @@ fn ls_command<'a>(alloc: Global) -> Result<Command<'a>, AllocError>
         "Lists all files below the tree by their paths, and no trees",
     )
     .short('r');
-    let ls = file_command(alloc, "ls", manual::LS);
+    let ls = file_command(alloc, "ls", objects::LS);
     let ls = with_argument(ls, revision(alloc));
     with_argument(ls, recursive)
+}
+
+fn archive_command<'a>(alloc: Global) -> Result<Command<'a>, AllocError>
+    ensures { say.Makes result say.archive_command }
+{
+    let prefix = text(
+        alloc,
+        "prefix",
+        "PREFIX",
+        "Stands before each path; one that ends with a slash is a\n\
+         directory of its own",
+    );
+    let archive = file_command(alloc, "archive", objects::ARCHIVE);
+    let archive = with_argument(archive, revision(alloc));
+    with_argument(archive, prefix)
 }
 
 /// The commands with a list of words.
@@ -198,7 +214,7 @@ fn with_commit_commands<'a>(
 {
     let gx = with_command(gx, log_command(alloc));
     let revisions = words(alloc, "rev", "REV", "Revisions, as gx --help has it");
-    let rev_parse = file_command(alloc, "rev-parse", manual::REV_PARSE);
+    let rev_parse = file_command(alloc, "rev-parse", commits::REV_PARSE);
     let rev_parse = with_argument(rev_parse, revisions);
     with_command(gx, rev_parse)
 }
@@ -223,7 +239,7 @@ fn log_command<'a>(alloc: Global) -> Result<Command<'a>, AllocError>
         "parents",
         "Prints the names of its parents behind each commit",
     );
-    let log = with_argument(file_command(alloc, "log", manual::LOG), ranges);
+    let log = with_argument(file_command(alloc, "log", commits::LOG), ranges);
     let log = with_argument(log, reverse);
     let log = with_argument(log, max_count);
     with_argument(log, parents)

@@ -44,6 +44,10 @@ pub returns-in-Ls-clause-served : goal.returns-in-Ls-clause-served
 returns-in-Ls-clause-served g c =
     subst (λ l. Serves (g.N.Namer.name_of c.args.namer) l (bytes_of c.args.store) (g.R.Source.coming c.args.source) (g.W.Sink.taken c.args.sink.now) (g.W.Sink.taken c.print_stored-in-Ls.new.sink) c.print_stored-in-Ls.result) (sym c.in-Ls.is) c.print_stored-in-Ls.ensures
 
+pub returns-in-Archive-clause-served : goal.returns-in-Archive-clause-served
+returns-in-Archive-clause-served g c =
+    subst (λ l. Serves (g.N.Namer.name_of c.args.namer) l (bytes_of c.args.store) (g.R.Source.coming c.args.source) (g.W.Sink.taken c.args.sink.now) (g.W.Sink.taken c.print_stored-in-Archive.new.sink) c.print_stored-in-Archive.result) (sym c.in-Archive.is) c.print_stored-in-Archive.ensures
+
 pub returns-in-Refs-clause-served : goal.returns-in-Refs-clause-served
 returns-in-Refs-clause-served g c =
     subst (λ l. Serves (g.N.Namer.name_of c.args.namer) l (bytes_of c.args.store) (g.R.Source.coming c.args.source) (g.W.Sink.taken c.args.sink.now) (g.W.Sink.taken c.print_stored-in-Refs.new.sink) c.print_stored-in-Refs.result) (sym c.in-Refs.is) c.print_stored-in-Refs.ensures

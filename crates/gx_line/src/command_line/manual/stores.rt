@@ -1,0 +1,153 @@
+//! The pages of the commands on a store as a whole.
+
+use super::Page;
+
+/// The page of `init`.
+pub(crate) const INIT: Page = Page {
+    about: "Makes an empty store",
+    description: "Makes an empty store, which has no objects and no refs.",
+    details: "\
+Output:
+  None.
+
+Refusals:
+  gx: store exists      FILE is there, and stays as it is
+  gx: read failed       whether FILE is there can't be told
+  gx: write failed
+  gx: lock failed       as gx --help has it
+  gx: out of memory",
+};
+
+/// The page of `import`.
+pub(crate) const IMPORT: Page = Page {
+    about: "Imports the stream on standard input into a store",
+    description: "\
+Imports the stream on standard input into a store.
+
+Where a command is refused, what the checkpoints before it published is kept
+and nothing else: without a checkpoint FILE stays as it was. Where the stream
+comes from a pipe, --done shows an end that came too early.
+
+A branch that the store has already only moves forward: its new commit has to be
+the old one or a descendant of it, unless --force is given or the stream has the
+line 'feature force'. Neither outlives the import. The next store is written to
+FILE.new, which then takes the place of FILE.",
+    details: "\
+Output:
+  The lines of the stream's progress commands, as they come. What was printed
+  stays where a later command is refused.
+
+  With --report standard error gets a line for each ref that changed, in the
+  order of their names' bytes, also behind checkpoints where a later command is
+  refused: 40 digits of what it held, a space, 40 digits of what it holds, a
+  space and its name. 40 zeros stand for nothing. Where the import is accepted,
+  a line tells the numbers of commands, objects and refs, as at a terminal.
+
+Refusals, each of which leaves FILE as it was but for those checkpoints:
+  gx: read failed
+  gx: lock failed       as gx --help has it
+  gx: store: KIND       as gx --help has it
+  gx: command N: KIND   the Nth command, or the one that would follow the last.
+                        KIND is OutOfMemory, ReadFailed, WriteFailed,
+                        UnknownCommand, BadLine, BadNumber, TruncatedData,
+                        BadPath, PathTooLong, BadMode, BadIdent, BadRefName,
+                        UnknownMark, WrongKind, UnknownObject, NoSuchPath,
+                        RootNotTree, FromItself, EmptyBranch, Unsupported,
+                        LateOption, MissingDone, NotFastForward, NameHeld,
+                        BadRevision, UnknownRef, Ambiguous or NoParent
+  gx: write failed
+  gx: out of memory",
+};
+
+/// The page of `drop`.
+pub(crate) const DROP: Page = Page {
+    about: "Drops refs from a store",
+    description: "\
+Drops refs from a store: all of these, or none.
+
+Each REF is a whole name, as gx refs prints it. The other refs stay, and so do
+all objects. The next store is written to FILE.new, which then takes the place
+of FILE.",
+    details: "\
+Output:
+  None.
+
+Refusals, each of which leaves FILE as it was:
+  gx: read failed
+  gx: lock failed       as gx --help has it
+  gx: store: KIND       as gx --help has it
+  gx: revision N: UnknownRef
+                        the Nth REF is no ref's name, or is given before
+  gx: write failed
+  gx: out of memory",
+};
+
+/// The page of `gc`.
+pub(crate) const GC: Page = Page {
+    about: "Leaves out of a store what no ref reaches",
+    description: "\
+Leaves out of a store the objects that no ref reaches.
+
+The others keep their order, and the refs stay: what revisions and ranges by
+refs gave, they give. The next store is written to FILE.new, which then takes
+the place of FILE.",
+    details: "\
+Output:
+  None. At a terminal, or with --report, standard error tells how many objects
+  went, and how many bytes their bodies had.
+
+Refusals, each of which leaves FILE as it was:
+  gx: read failed
+  gx: lock failed       as gx --help has it
+  gx: store: KIND       as gx --help has it
+  gx: write failed
+  gx: out of memory",
+};
+
+/// The page of `export`.
+pub(crate) const EXPORT: Page = Page {
+    about: "Writes a store as a stream",
+    description: "\
+Writes a store as a stream that gx import and git fast-import take.
+
+It has the commits that refs reach, each with all of its files, and the refs.
+With --changes it is as long as what changed, and other readers see branches.
+Importing it into an empty store gives the same refs and object names. A store
+that holds a submodule of forty zeros is written, too, but no import takes it.
+
+With RANGEs, as gx log takes them, it has these commits alone, and the refs at
+what they include or exclude. A store that holds what is excluded takes it.",
+    details: "\
+Output:
+  The stream, in the manner of git fast-export --full-tree: first
+  feature done, then the commits in the order in which they were first made,
+  each behind the blobs of its files that weren't written yet, then the refs
+  in the order of their names' bytes, and done. With --changes a commit is on
+  the first branch that reaches it, else on the first such ref, and has D and a
+  path for each file that is gone, and then M for each that is new or another.
+
+Refusals:
+  gx: read failed
+  gx: store: KIND       as gx --help has it
+  gx: revision N: KIND  the Nth RANGE, as gx --help has it
+  gx: export: KIND      KIND is OutOfMemory or WriteFailed. What was written
+                        is a front of the stream
+  gx: write failed
+  gx: out of memory",
+};
+
+/// The page of `refs`.
+pub(crate) const REFS: Page = Page {
+    about: "Lists the refs",
+    description: "Lists the refs, in the order of their names' bytes.",
+    details: "\
+Output:
+  A line for each ref: 40 digits of the name of its commit or tag, a space and
+  the name of the ref.
+
+Refusals:
+  gx: read failed
+  gx: store: KIND       as gx --help has it
+  gx: write failed
+  gx: out of memory",
+};

@@ -5,6 +5,7 @@ pub mod RefusedWords
 pub mod ListedCommits
 pub mod ListedFiles
 pub mod ArchivedWords
+pub mod WalkedFiles
 pub mod Trials
 pub mod Pieces
 pub mod StoredAnswers

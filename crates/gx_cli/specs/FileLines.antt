@@ -1,13 +1,11 @@
 -- The lines of files by the names of their contents. Source: git-ls-tree(1), "OUTPUT FORMAT".
-use Rattle.std.specs.Prelude.{List, [], ◌∷◌, ◌++◌, map}
-use Rattle.std.specs.List.{flat_map}
+use Rattle.std.specs.Prelude.{[], ◌∷◌, ◌++◌}
 use Rattle.gx_model.specs.declared.objects.Mode.{Mode}
 use Rattle.gx_model.specs.Texts.{Bytes}
 use Rattle.gx_model.specs.Texts.Paths.{Path, path_text}
 use Rattle.gx_model.specs.Histories.Files.{Leaf}
 use Rattle.gx_model.specs.Objects.{hex}
 use Rattle.gx_object.specs.declared.name.Name.{Name}
-use Rattle.gx_tree.specs.Lists.{shown_listed}
 use Rattle.gx_cli.specs.Listings.{entry_line, kind_word, mode_digits}
 
 -- a mode and the kind of what an entry of it names, each with a space behind it
@@ -25,7 +23,3 @@ named_line file = entry_line (record { mode = file.1.0; component = path_text fi
 -- the line of the file of this mode at a path, whose content has this name
 abbrev pub path_line : Path → Mode → Name → Bytes
 path_line path mode called = named_line (path, (mode, called.bytes))
-
--- the lines of files, as a tree lists them
-abbrev pub listed_lines : List (Path × Mode × Name) → Bytes
-listed_lines files = flat_map named_line (map shown_listed files)

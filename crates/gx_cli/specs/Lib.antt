@@ -5,6 +5,7 @@ pub mod ChangesTrips
 pub mod Stored
 pub mod Storing
 pub mod FileLines
+pub mod WalkedFiles
 pub mod Words
 pub mod Sending
 pub mod Answers

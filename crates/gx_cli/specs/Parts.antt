@@ -10,13 +10,11 @@ use Rattle.gx_model.specs.declared.objects.Mode.{Mode}
 use Rattle.gx_model.specs.declared.store_versions.Version.TheVariants as version
 use Rattle.gx_model.specs.Revisions.Denotation.{denoted}
 use Rattle.gx_model.specs.Faults.{Gives, and_then}
-use Rattle.gx_model.specs.Histories.Files.{FileMap}
 use Rattle.gx_model.specs.Histories.{Records}
 use Rattle.gx_model.specs.Laws.RepositoryLaws.{with_refs}
 use Rattle.gx_model.specs.Records.HistoryOf.{history_of}
 use Rattle.gx_model.specs.Texts.Paths.{Path}
 use Rattle.gx_model.specs.Revisions.Ranges.{each_word}
-use Rattle.gx_model.specs.Records.{named_map}
 use Rattle.gx_model.specs.Revisions.{Revision, range_of, revision_of}
 use Rattle.gx_model.specs.Stores.StoreReading.{store_of}
 use Rattle.gx_model.specs.Stores.StoreText.{store_text}
@@ -114,10 +112,6 @@ module _ {N : Type 0} (name_of : N → Kind → Bytes → Bytes) where
   -- the tree that a word gives as a revision, by its files
   abbrev pub GivesTree : Repository N → Bytes → Result Name RevFault → Type 0
   GivesTree repo word result = Gives fault_of (files_at repo.1) result (files_of_word (name_of repo.0) (history_of repo.1) word)
-
-  -- the files of the tree of this name, by the names of their contents
-  abbrev pub named_files : Repository N → Name → FileMap Bytes
-  named_files repo tree = named_map (name_of repo.0) (files_at repo.1 tree)
 
   -- the refs with these names leave a repository, and the next store text is that of what is left
   abbrev pub DropsOpened : {A : Type 0} → Repository N → List (Bor Bytes) → Outcome A → Type 0

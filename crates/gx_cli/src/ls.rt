@@ -1,30 +1,28 @@
 //! The entries of a revision's tree, or all of its files. Source: git-ls-tree(1).
 
-ghost use Rattle.std.specs.Prelude.{◌≡◌, IfOk, map};
+ghost use Rattle.std.specs.Prelude.{◌≡◌, IfOk, OnOk};
 ghost use Rattle.gx_model.specs.declared.objects.Kind.TheVariants as kinds;
-ghost use Rattle.gx_tree.specs.Lists.{shown_listed};
+ghost use Rattle.gx_model.specs.Objects.{is_dir};
 ghost use Rattle.gx_rev.specs.Objects.{IsHeldAs};
-ghost use Rattle.gx_cli.specs.FileLines.{listed_lines};
-ghost use Rattle.gx_cli.specs.Parts.{GivesTree, ListsFiles, ListsWord, PrintsFile, named_files};
-ghost use Rattle.gx_cli.specs.Sending.{PrintsText};
+ghost use Rattle.gx_cli.specs.Parts.{GivesTree, ListsFiles, ListsWord, PrintsFile};
+ghost use Rattle.gx_cli.specs.WalkedFiles.{HasPathsBehind, IsEntryBehind, IsPathText, PrintsAt, PrintsBelow, PrintsEntry};
 
 use crate::CliFault;
 use crate::listing::put_file;
 use crate::sending::put_text;
 use crate::showing::print_entries;
 use crate::words::refused;
-use gx_object::{Mode, Name, Namer};
+use gx_object::{Entry, Mode, Name, Namer};
 use gx_repo::Repo;
-use gx_rev::{RevFault, Revision, tree};
-use gx_text::{Sink, TreePath};
-use gx_tree::PathTree;
-use std::alloc::{AllocError, Allocator};
+use gx_rev::{RevFault, Revision, entries_of, tree};
+use gx_text::{Sink, TextFault, TreePath};
+use std::alloc::Allocator;
 
 /// Lists the tree that a word gives as a revision: its entries, or with `recursive` all files by their whole paths. The
 /// lines go out one after the other.
 ///
 /// `Revision`: the word isn't a revision, or it gives no tree. Cost: that of `Revision::eval`, and of the trees that are
-/// listed. Memory: with `recursive` the list of the files, otherwise the lines.
+/// listed. Memory: with `recursive` one path and its line, otherwise the lines.
 pub(crate) fn list<N: Namer, A: Allocator + Copy, W: Sink>(
     alloc: A,
     repo: &Repo<N, A>,
@@ -59,7 +57,7 @@ fn tree_of_word<N: Namer, A: Allocator + Copy>(
     tree(repo, &revision)
 }
 
-/// Prints the lines of all files of a held tree.
+/// Prints the lines of all files of a held tree, each as the walk comes to it.
 fn print_files<N: Namer, A: Allocator + Copy, W: Sink>(
     alloc: A,
     repo: &Repo<N, A>,
@@ -69,43 +67,85 @@ fn print_files<N: Namer, A: Allocator + Copy, W: Sink>(
     requires { IsHeldAs kinds.Tree repo.now.1 tree.now }
     ensures { ListsFiles N.name_of W.taken repo.now tree.now sink.old sink.new result }
 {
-    match files_of(alloc, repo, tree) {
-        Ok(files) => print_listed(alloc, files.as_slice(), sink),
-        Err(_) => Err(CliFault::OutOfMemory),
-    }
+    repo.sound();
+    let mut path = Vec::new(alloc);
+    let mut line = Vec::new(alloc);
+    print_below(alloc, repo, tree, &mut path, &mut line, sink)
 }
 
-/// All files of a held tree, in the byte order of their whole paths.
-fn files_of<N: Namer, A: Allocator + Copy>(
+/// Prints the lines of all files of a held tree, with the path so far before their paths. That path stays.
+#[cycle(walk)]
+fn print_below<N: Namer, A: Allocator + Copy, W: Sink>(
     alloc: A,
     repo: &Repo<N, A>,
     tree: &Name,
-) -> Result<Vec<(TreePath<A>, Mode, Name), A>, AllocError>
-    requires { IsHeldAs kinds.Tree repo.now.1 tree.now }
-    ensures { IfOk result (λ fs. map shown_listed fs.items ≡ named_files N.name_of repo.now tree.now) }
-{
-    let Ok(files) = PathTree::load(alloc, repo.store(), tree) else {
-        return Err(AllocError);
-    };
-    match files.list() {
-        Ok(files) => Ok(files),
-        Err(_) => Err(AllocError),
-    }
-}
-
-/// Prints the lines of files.
-fn print_listed<A: Allocator + Copy, W: Sink>(
-    alloc: A,
-    files: &[(TreePath<A>, Mode, Name)],
+    path: &mut Vec<u8, A>,
+    line: &mut Vec<u8, A>,
     sink: &mut W,
 ) -> Result<(), CliFault>
-    ensures { PrintsText (listed_lines files.now) (W.taken sink.old) (W.taken sink.new) result }
+    requires { HasPathsBehind N.name_of repo.now path.old.items tree.now }
+    ensures lines { PrintsBelow N.name_of W.taken repo.now path.old.items tree.now sink.old
+        sink.new result }
+    ensures path { OnOk result (path.new.items ≡ path.old.items) }
 {
-    let mut line = Vec::new(alloc);
-    for (path, mode, name) in files {
-        print_file(&mut line, path, *mode, name, sink)?;
+    repo.sound();
+    for entry in entries_of(repo, tree) {
+        print_entry(alloc, repo, &entry, path, line, sink)?;
     }
     Ok(())
+}
+
+/// Prints the lines of the files at or below an entry. The path so far stays.
+#[cycle(walk)]
+fn print_entry<N: Namer, A: Allocator + Copy, W: Sink>(
+    alloc: A,
+    repo: &Repo<N, A>,
+    entry: &Entry<'_>,
+    path: &mut Vec<u8, A>,
+    line: &mut Vec<u8, A>,
+    sink: &mut W,
+) -> Result<(), CliFault>
+    requires { IsEntryBehind N.name_of repo.now path.old.items entry.now }
+    ensures lines { PrintsEntry N.name_of W.taken repo.now path.old.items entry.now sink.old
+        sink.new result }
+    ensures path { OnOk result (path.new.items ≡ path.old.items) }
+{
+    repo.sound();
+    let front = path.len();
+    path.extend_from_slice(entry.component)?;
+    if is_dir(entry.mode) {
+        path.push(b'/')?;
+        print_below(alloc, repo, &entry.name, path, line, sink)?;
+    } else {
+        print_at(alloc, path, entry.mode, &entry.name, line, sink)?;
+    }
+    path.truncate(front);
+    Ok(())
+}
+
+fn is_dir(mode: Mode) -> bool
+    ensures { result ≡ is_dir mode }
+{
+    matches!(mode, Mode::Dir)
+}
+
+/// Prints the line of the file at the path of this text.
+fn print_at<A: Allocator + Copy, W: Sink>(
+    alloc: A,
+    path: &[u8],
+    mode: Mode,
+    name: &Name,
+    line: &mut Vec<u8, A>,
+    sink: &mut W,
+) -> Result<(), CliFault>
+    requires { IsPathText path.now }
+    ensures { PrintsAt W.taken path.now mode name.now sink.old sink.new result }
+{
+    match TreePath::read(alloc, path) {
+        Ok(path) => print_file(line, &path, mode, name, sink),
+        Err(TextFault::OutOfMemory) => Err(CliFault::OutOfMemory),
+        Err(_) => unreachable!(),
+    }
 }
 
 /// Prints a file's line, which is made in a buffer.

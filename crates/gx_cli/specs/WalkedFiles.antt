@@ -1,0 +1,82 @@
+-- The files of a held tree, as a walk comes to them, with a text before their paths: the path of the directory, and its slash.
+-- Source: git-ls-tree(1), `-r`.
+use Rattle.std.specs.Prelude.{◌≡◌, ◌≢◌, if◌then◌else◌, [], ◌∷◌, ◌++◌, Option, Result, Ok, IsTrue}
+use Rattle.std.specs.List.{AllByRecursion, flat_map}
+use Rattle.gx_model.specs.declared.objects.Kind.{Kind}
+use Rattle.gx_model.specs.declared.objects.Kind.TheVariants as kinds
+use Rattle.gx_model.specs.declared.objects.Mode.{Mode}
+use Rattle.gx_model.specs.declared.objects.Mode.TheVariants.{Dir}
+use Rattle.gx_model.specs.Histories.Files.{FileMap, Leaf}
+use Rattle.gx_model.specs.Objects.{Entry as TreeEntry, is_dir}
+use Rattle.gx_model.specs.Records.{named_map}
+use Rattle.gx_model.specs.Records.HistoryOf.{files_of_tree, placed, value_of_name}
+use Rattle.gx_model.specs.Records.RecordFaults.{is_held}
+use Rattle.gx_model.specs.Histories.{Records}
+use Rattle.gx_model.specs.Texts.{Bytes}
+use Rattle.gx_model.specs.Texts.Paths.{Path, parts_of, path_of, path_text}
+use Rattle.gx_model.specs.Texts.Sinks.{Taken}
+use Rattle.gx_object.specs.Entries.{shown}
+use Rattle.gx_object.specs.declared.entry.Entry.{Entry}
+use Rattle.gx_object.specs.declared.name.Name.{Name}
+use Rattle.gx_repo.specs.Repositories.{Repository}
+use Rattle.gx_cli.specs.Listings.{entry_line}
+use Rattle.gx_cli.specs.Sending.{PrintsText}
+use Rattle.gx_cli.specs.declared.fault.CliFault.{CliFault}
+
+-- a text is that of a path
+abbrev pub IsPathText : Bytes → Type 0
+IsPathText text = path_of text ≡ Ok (parts_of text)
+
+-- the line of a file of a map of names, with this text before its path
+abbrev pub line_below : Bytes → Path × Leaf Bytes → Bytes
+line_below front file = entry_line (record { mode = file.1.0; component = front ++ path_text file.0; name = file.1.1 })
+
+-- with this text before it, each path of a map is that of a file
+abbrev pub HavePaths : Bytes → FileMap Bytes → Type 0
+HavePaths front files = AllByRecursion (λ file. IsPathText (front ++ path_text file.0)) files
+
+module _ (name : Kind → Bytes → Bytes) (repository : Records) where
+  -- the files of the tree of this name, by the names of their contents
+  abbrev pub files_in : Bytes → FileMap Bytes
+  files_in tree = named_map name (files_of_tree (value_of_name repository.records tree))
+
+  -- what is at or below an entry that is and names this
+  abbrev pub files_named : Leaf Bytes → FileMap Bytes
+  files_named leaf = if is_dir leaf.0 then files_in leaf.1 else ([], leaf) ∷ []
+
+  -- the files at or below an entry of a tree
+  abbrev pub files_of_entry : TreeEntry → FileMap Bytes
+  files_of_entry entry = placed entry.component (files_named (entry.mode, entry.name))
+
+  -- a directory's tree is held; there are files at or below the entry, and with this text before it the path of each is one
+  pub record IsWithin (front : Bytes) (entry : TreeEntry) : Type 0 where
+    pub tree : entry.mode ≡ Dir → IsTrue (is_held repository.records kinds.Tree entry.name)
+    pub some : files_named (entry.mode, entry.name) ≢ []
+    pub paths : HavePaths front (files_of_entry entry)
+
+module _ {N : Type 0} (name_of : N → Kind → Bytes → Bytes) (repo : Repository N) (front : Bytes) where
+  -- a tree of this name is held, and with this text before it each path of its files is one
+  abbrev pub HasPathsBehind : Name → Type 0
+  HasPathsBehind tree = IsTrue (is_held repo.1.records kinds.Tree tree.bytes) × HavePaths front (files_in (name_of repo.0) repo.1 tree.bytes)
+
+  -- the same of an entry
+  abbrev pub IsEntryBehind : Entry → Type 0
+  IsEntryBehind entry = IsWithin (name_of repo.0) repo.1 front (shown entry)
+
+module _ {W : Type 0} (taken : W → Option Taken) where
+  -- the line of the file of this mode at the path of a text goes out
+  abbrev pub PrintsAt : Bytes → Mode → Name → W → W → Result (Unit {0}) CliFault → Type 0
+  PrintsAt path mode called old new result = PrintsText (entry_line (record { mode = mode; component = path; name = called.bytes })) (taken old) (taken new) result
+
+module _ {N W : Type 0} (name_of : N → Kind → Bytes → Bytes) (taken : W → Option Taken) (repo : Repository N) (front : Bytes) where
+  -- the lines of these files go out
+  abbrev pub PrintsLines : FileMap Bytes → W → W → Result (Unit {0}) CliFault → Type 0
+  PrintsLines files old new result = PrintsText (flat_map (line_below front) files) (taken old) (taken new) result
+
+  -- the lines of all files of the tree of this name go out
+  abbrev pub PrintsBelow : Name → W → W → Result (Unit {0}) CliFault → Type 0
+  PrintsBelow tree old new result = PrintsLines (files_in (name_of repo.0) repo.1 tree.bytes) old new result
+
+  -- the lines of the files at or below an entry go out
+  abbrev pub PrintsEntry : Entry → W → W → Result (Unit {0}) CliFault → Type 0
+  PrintsEntry entry old new result = PrintsLines (files_of_entry (name_of repo.0) repo.1 (shown entry)) old new result

@@ -1,0 +1,386 @@
+#!/usr/bin/env python3
+"""Has git use stores as remotes, by scripts/git-remote-gx, beside remotes of its own.
+
+    scripts/remote_test.py [--random N] [--steps N] [--seed N] [CASE..]
+
+A case that a remote of git has an answer to is run over both: what each push tells of each ref, and
+the refs of the remote and of each clone have to be the same behind each command. The other cases
+are of stores alone: what they don't hold, what is missing, and faults in the middle. A push that is
+refused has to leave the bytes of the store as they were.
+
+Then N histories are made at random, one if N isn't given, each of twenty steps. A step is made in
+one of two clones, goes into the store by a push, and comes into the other by a fetch: the refs of
+all three are compared. In the end `git fsck` looks at the clones, and scripts/check_store.py at the
+store. The seed is printed. Names of cases, and `histories`, run these alone.
+
+GX: the program, crates/gx/out/gx if it isn't set. It needs git. The status is 1 where something differs.
+"""
+
+import argparse
+import os
+import shutil
+import subprocess
+import tempfile
+import time
+from concurrent.futures import ThreadPoolExecutor
+from pathlib import Path
+
+from places import GX, Differs, Store, print_of, same
+from remote_world import World, follow, refused, started, wrapped, written
+
+
+# ---- cases that both remotes have
+
+
+def clones(world):
+    """Clones of each kind have the same refs, and files."""
+    started(world)
+    kinds = {"bare": ["--bare"], "mirror": ["--mirror"], "one": ["--single-branch", "-b", "side"], "none": ["--no-tags"]}
+    for name, words in kinds.items():
+        world.see("clone", *words, world.url, name, where=".")
+    same(world.git("status", "--porcelain", where="clone"), "", "what differs from HEAD in the clone")
+    same(world.git("symbolic-ref", "HEAD", where="clone"), "refs/heads/main", "HEAD of the clone")
+    world.git("fsck", "--strict", where="clone")
+    world.see("ls-remote", world.url, where=".")
+    world.see("ls-remote", "--symref", "origin", "HEAD")
+
+
+def empty(world):
+    """A remote that has nothing yet."""
+    if world.remote.suffix == ".gx":
+        print_of([GX, "init", world.remote])
+    world.see("clone", world.url, "clone", where=".")
+    world.commit({"a": "1\n"}, where="clone")
+    world.see("push", "--porcelain", "origin", "HEAD:refs/heads/main", where="clone")
+    world.see("fetch")
+
+
+def fetches(world):
+    """What is new comes, by a remote's name and by its place; what is gone goes by --prune."""
+    started(world)
+    world.commit({"file": "4\n"})
+    world.git("tag", "-m", "Second", "v2")
+    world.git("tag", "-m", "Of old", "old", "side")
+    world.see("push", "--porcelain", "origin", "main", "v2", "old")
+    world.see("-c", "protocol.version=2", "pull", "-q", where="clone")
+    world.see("fetch", where="clone")
+    world.commit({"file": "5\n"})
+    world.git("checkout", "-q", "-b", "topic")
+    world.commit({"file": "6\n"})
+    world.see("push", "--porcelain", "origin", "main", "topic", ":side")
+    world.see("fetch", "-q", world.url, "topic:taken", where="clone")
+    world.see("fetch", "origin", "refs/heads/main:refs/heads/other", where="clone")
+    world.see("fetch", "--prune", where="clone")
+    world.see("pull", "-q", world.url, "topic", where="clone")
+    world.git("fsck", where="clone")
+
+
+def pushes(world):
+    """By each kind of name for what is sent, and to other names."""
+    started(world)
+    first = world.git("rev-parse", "HEAD~1")
+    refs = ["HEAD:refs/heads/from-head", f"{first}:refs/heads/from-digits", "main~1:refs/heads/from-above"]
+    world.see("push", "--porcelain", "origin", *refs)
+    world.see("push", "--porcelain", "-u", "origin", "main:up")
+    world.see("push", "--porcelain", "origin", "main:refs/notes/commits", "main:refs/other/place", "side:refs/tags/place")
+    world.see("push", "--porcelain", world.url, "main~1:refs/heads/by-url")
+    world.see("push", "--porcelain", "origin", "nothing")
+    world.commit({"file": "7\n"})
+    world.see("push", "--porcelain", "--dry-run", "origin", "main")
+    world.see("push", "--porcelain", "origin", "main")
+    world.see("push", "--porcelain", "origin", "main")
+    world.see("push", "--porcelain", "--all", "origin")
+    world.see("fetch", where="clone")
+
+
+def forced(world):
+    """Branches that lose commits, and tags that move."""
+    started(world)
+    world.see("fetch", where="clone")
+    world.git("commit", "-q", "--amend", "-m", "Amended")
+    world.git("tag", "-f", "-m", "Moved", "v1")
+    world.git("tag", "-f", "light", "side")
+    lease = "--force-with-lease"
+    for refs in (["main", "v1", "light"], [f"{lease}=main:side", "main"], [lease, "+light", "main"], ["+v1"]):
+        world.see("push", "--porcelain", "origin", *refs)
+    world.see("fetch", where="clone")
+    world.see("fetch", "--tags", where="clone")
+    world.see("fetch", "--tags", "--force", where="clone")
+    world.commit({"mine": "1\n"}, where="clone")
+    world.see("push", "--porcelain", "origin", "main", where="clone")
+    world.see("push", "--porcelain", "--force", "origin", "main", where="clone")
+    world.git("commit", "-q", "--amend", "-m", "Again")
+    world.see("push", "--porcelain", "--force-with-lease", "origin", "main")
+
+
+def deletions(world):
+    """Refs that go, and names that become directories."""
+    started(world)
+    world.see("push", "--porcelain", "origin", ":side", ":light")
+    world.see("push", "--porcelain", "origin", "--delete", "v1", "nothing")
+    world.see("push", "--porcelain", "origin", "--delete", "v1")
+    world.see("push", "--porcelain", "origin", "main:refs/heads/main/below")
+    world.see("push", "--porcelain", "origin", "main:refs/heads/dir/below", "main:refs/heads/dir2")
+    world.see("push", "--porcelain", "origin", ":refs/heads/dir/below", "main:refs/heads/dir")
+    world.see("fetch", "--prune", where="clone")
+    world.see("push", "--porcelain", "--prune", "origin", "refs/heads/*:refs/heads/*")
+    world.see("fetch", "--prune", "--prune-tags", where="clone")
+
+
+def mirrors(world):
+    """All refs, as they are."""
+    started(world)
+    world.see("push", "--porcelain", "--mirror", "origin")
+    world.git("branch", "-m", "side", "side/below")
+    world.git("tag", "-d", "v1")
+    world.git("commit", "-q", "--amend", "-m", "Amended")
+    world.see("push", "--porcelain", "--mirror", "origin")
+    world.see("clone", "--mirror", world.url, "mirror", where=".")
+    world.commit({"file": "8\n"})
+    world.see("push", "--porcelain", "--mirror", "origin")
+    world.see("remote", "update", "--prune", where="mirror")
+    world.see("push", "--porcelain", "--mirror", "origin", where="mirror")
+
+
+def tags(world):
+    """Tags that come along."""
+    started(world)
+    world.commit({"file": "9\n"})
+    world.git("tag", "-m", "Along\n\nMore of it.", "along")
+    world.git("tag", "-m", "Not reached", "apart", world.git("commit-tree", "-m", "apart", "HEAD^{tree}"))
+    world.see("push", "--porcelain", "--follow-tags", "origin", "main")
+    world.see("fetch", where="clone")
+    world.see("push", "--porcelain", "--tags", "origin")
+    world.see("fetch", where="clone")
+    world.see("fetch", "--tags", where="clone")
+    world.git("tag", "-f", "-m", "Mine", "v1", where="clone")
+    world.see("fetch", where="clone")
+
+
+def contents(world):
+    """Names of files and refs, modes, merges, encodings, and a directory in place of a file."""
+    started(world)
+    world.commit({'q"uote': "1\n", "sp ace/t\tab": "2\n", "\u00e4\u00f6": "3\n", b"l\xe4tin": "4\n", "a": "5\n", "empty": ""})
+    (world.folder / "work/link").symlink_to("q\"uote")
+    (world.folder / "work/a").unlink()
+    world.commit({"a/b": "6\n", "a/c/d": "7\n"})
+    shutil.rmtree(world.folder / "work/a")
+    world.commit({"a": "8\n"})
+    world.git("update-index", "--add", "--cacheinfo", f"160000,{'1' * 40},module")
+    world.git("-c", "i18n.commitEncoding=ISO-8859-1", "commit", "-qm", "Module")
+    world.git("checkout", "-q", "-b", "merged", "side")
+    world.commit({"side": "9\n"})
+    world.git("merge", "-q", "-m", "Merge", "main")
+    world.git("branch", "b\u00e4r")
+    world.git("update-ref", os.fsdecode(b"refs/heads/l\xe4tin"), "HEAD")
+    world.see("push", "--porcelain", "--all", "origin")
+    world.see("fetch", where="clone")
+    world.see("clone", world.url, "again", where=".")
+    world.git("fsck", where="again")
+
+
+def raced(world):
+    """Another push comes between what git was told of the remote and its own push."""
+    started(world)
+    hook = world.folder / "work/.git/hooks/pre-push"
+    hook.parent.mkdir(exist_ok=True)
+    for number, refs in enumerate((["main"], ["--force-with-lease", "main"], ["new"], ["-f", "v1"], [":side"])):
+        world.commit({f"theirs{number}": "1\n"}, where="clone")
+        world.git("tag", "-f", "-m", f"{number}", "v1", where="clone")
+        world.git("branch", "-f", "new", where="clone")
+        theirs = f"git -C {world.folder}/clone push -q -f origin main v1 new main:side"
+        hook.write_text(f"#!/bin/sh\nunset $(git rev-parse --local-env-vars)\nexec {theirs}\n")
+        hook.chmod(0o755)
+        world.commit({f"ours{number}": "1\n"})
+        world.git("branch", "-f", "new")
+        world.see("push", "--porcelain", "origin", *refs)
+        hook.unlink()
+        world.see("fetch")
+        world.git("reset", "-q", "--hard", "origin/main")
+        world.see("push", "-q", "origin", ":new")
+
+
+BOTH = [clones, empty, fetches, pushes, forced, deletions, mirrors, tags, contents, raced]
+
+
+# ---- cases of stores alone
+
+
+def unheld(world):
+    """What no store holds is told by ref, and what stands beside it goes into the store."""
+    started(world)
+    world.commit({"file": "4\n"})
+    signed = written(world, "commit", lambda text: text.replace("\n\n", "\ngpgsig -----BEGIN\n \n -----END\n\n", 1))
+    early = written(world, "commit", lambda text: text.replace("committer A <a@x> 1", "committer A <a@x> -1"))
+    blob = world.git("rev-parse", "main:file")
+    world.git("tag", "-m", "Of a blob", "of-blob", blob)
+    world.git("tag", "-m", "Of a tag", "of-tag", "v1")
+    other = written(world, "tag", lambda text: text.replace("tag v1\n", "tag signed\ngpgsig-sha256 x\n"))
+    push = ["push", "origin"]
+    refused(world, *push, f"{signed}:refs/heads/signed", told=f"signed (Unsupported: gpgsig of commit {signed})")
+    refused(world, *push, f"{early}:refs/heads/early", told="early (gx: command 2: BadIdent)")
+    refused(world, *push, "of-blob", told="of-blob -> of-blob (WrongKind: a tag of a blob)")
+    refused(world, *push, "of-tag", told="of-tag -> of-tag (WrongKind: a tag of a tag)")
+    refused(world, *push, f"{blob}:refs/tags/blob", told="blob (WrongKind: a blob)")
+    refused(world, *push, "v1:refs/tags/v2", told="v1 -> v2 (BadRef:")
+    refused(world, *push, "v1:refs/heads/tag", told="v1 -> tag (BadRef:")
+    refused(world, *push, f"{other}:refs/tags/signed", told="signed (Unsupported: gpgsig-sha256 of the tag signed)")
+    refused(world, *push, "--atomic", "main", told="does not support --atomic")
+    refused(world, *push, "--signed", "main", told="does not support --signed")
+    before = world.remote.read_bytes()
+    world.git(*push, "--dry-run", "main", ":side")
+    same(world.remote.read_bytes() == before, True, "the bytes before and behind --dry-run")
+    done = world.run(*push, f"{signed}:refs/heads/signed", "main", f"{early}:refs/heads/early", "of-tag", ":side", "main:beside")
+    same(done.stderr.count(b"[remote rejected]"), 3, "refs that are refused")
+    wanted = {name: world.git("rev-parse", name) for name in ("light", "main", "v1")}
+    refs = {line.rpartition("/")[2]: line[:40] for line in world.refs().decode().splitlines()}
+    same(refs, {**wanted, "beside": wanted["main"]}, "refs of the store behind a push that is refused in part")
+
+
+def missing(world):
+    """A store that isn't there, or is none; and what else is missing."""
+    refused(world, "clone", world.url, "clone", told=f"git-remote-gx: no such store: {world.remote}")
+    refused(world, "fetch", "origin", told="no such store")
+    world.commit({"file": "1\n"})
+    early = written(world, "commit", lambda text: text.replace("committer A <a@x> 1", "committer A <a@x> -1"))
+    refused(world, "push", "origin", f"{early}:refs/heads/early", told="BadIdent")
+    refused(world, "push", "gx::nowhere/store.gx", "main", told="No such file")
+    refused(world, "fetch", "gx::file", told="gx: store: BadMagic")
+    refused(world, "push", "gx::file", "main", told="gx: store: BadMagic")
+    world.git("push", "origin", "main")
+    refused(world, "fetch", "origin", told="no such program; GX names gx", more={"GX": "/none/gx"})
+    world.git("clone", "--depth", "1", f"file://{world.folder}/work", "shallow", where=".")
+    refused(world, "push", world.url, "main:shallow", where="shallow", told="a shallow repository hasn't the history")
+    world.git("fetch", world.url, "main", where="shallow")
+    world.git("init", "-q", "--object-format=sha256", "long", where=".")
+    world.commit({"file": "1\n"}, where="long")
+    refused(world, "push", world.url, "main", where="long", told="and this repository has sha256")
+    refused(world, "fetch", world.url, where="long", told="and this repository has sha256")
+
+
+def named(world):
+    """Odd names: of the file, of refs that only a store has, and of what gx can't be told."""
+    commit = world.commit({"file": "1\n"})
+    world.git("push", "origin", f"{commit}:refs/heads/topic", f"{commit}:refs/heads/a")
+    same(world.git("ls-remote", "--symref", "origin", "HEAD"), f"ref: refs/heads/a\tHEAD\n{commit}\tHEAD", "HEAD without main")
+    latin = os.fsdecode(b"refs/heads/l\xe4tin")
+    world.git("push", "origin", f"main:{latin}", "main")
+    refused(world, "push", "origin", f":{latin}", told="[remote rejected]")
+    store = Store(world.remote)
+    for ref in (b"main/below", b"HEAD", b"single"):
+        name = ref if ref != b"main/below" else b"refs/heads/main/below"
+        store.take(b"reset %s\nfrom %s^0\n" % (name, commit.encode()))
+    done = world.run("clone", "--single-branch", "--branch", "topic", world.url, "one", where=".")
+    told = (done.returncode, b"single: left out" in done.stderr)
+    same(told, (0, True), "a clone of one branch, and what is told of another ref")
+    shutil.copy(world.remote, world.folder / "it's \"a\" store .gx")
+    store = Store(world.folder / "it's \"a\" store .gx")
+    store.drop([b"refs/heads/main/below"])
+    world.git("clone", "-q", "gx::it's \"a\" store .gx", "odd", where=".")
+    world.commit({"file": "2\n"}, where="odd")
+    world.git("push", "-q", "origin", "HEAD:refs/heads/new", where="odd")
+    world.git("clone", "-q", "--bare", "gx::it's \"a\" store .gx", "odd.git", where=".")
+    world.git("fetch", "-q", "origin", where="odd.git")
+
+
+def broken(world):
+    """Faults in the middle: gx is killed, the disk is full, a stream is cut."""
+    started(world)
+    world.commit({"big": "x" * 200000 + "\n"})
+    world.git("branch", "other", world.commit({"more": "1\n"}))
+    killed = """if [ "$2" = import ]; then
+  exec 3<&0 4> >(exec "$gx" "$@")
+  head -c 1000 <&3 >&4; sleep 0.3; kill -9 $!; wait $!; exit 137
+fi"""
+    push = ["push", "origin", "main", "other"]
+    refused(world, *push, told="main -> main (wrapped ended with status 137)", more=wrapped(world, killed))
+    full = 'if [ "$2" = import ]; then ulimit -f 40; fi'
+    refused(world, *push, told="main -> main (gx: write failed", more=wrapped(world, full))
+    world.git(*push)
+    cut = 'if [ "$2" = export ]; then "$gx" "$@" | head -c 100000; exit 9; fi'
+    before = world.git("for-each-ref", where="clone")
+    refused(world, "fetch", "origin", where="clone", told="git-remote-gx: wrapped ended with status 9", more=wrapped(world, cut))
+    silent = 'if [ "$2" = export ]; then "$gx" "$@" | head -c 100000; exit 0; fi'
+    refused(world, "fetch", "origin", where="clone", told="git-remote-gx: ", more=wrapped(world, silent))
+    same(world.git("for-each-ref", where="clone"), before, "refs behind fetches that were cut")
+    world.git("fetch", "-q", "origin", where="clone")
+    world.git("fsck", where="clone")
+
+
+def spelled(world):
+    """Commits that are left out of a stream may be named by their digits, with or without `^0`."""
+    started(world)
+    for behind in ("", "^0"):
+        world.commit({f"file{behind}": "1\n"})
+        world.git("tag", "-f", "-m", "Of old", "old", "side")
+        world.git("merge", "-q", "-m", "Merge", world.git("commit-tree", "-p", "side", "-m", "Beside", "HEAD^{tree}"))
+        world.git("push", "-q", "-f", "origin", "main", "old")
+        written = f"sed -E 's/^(from|merge) ([0-9a-f]{{40}})(\\^0)?$/\\1 \\2{behind}/'"
+        world.git("fetch", "-q", where="clone", more=wrapped(world, f'[ "$2" != export ] || exec "$gx" "$@" > >({written})'))
+        same(world.git("rev-parse", "origin/main", where="clone"), world.git("rev-parse", "main"), "what was fetched")
+
+
+def at_once(world):
+    """Pushes at the same time: to other branches each comes in, and to the same branch one."""
+    started(world)
+    for number in range(4):
+        world.git("worktree", "add", "-q", "-b", f"topic{number}", f"../tree{number}")
+        world.commit({f"file{number}": "1\n"}, where=f"tree{number}")
+    for refs, wanted in (("HEAD", 4), ("HEAD:main", 1)):
+        words = [["git", "-C", world.folder / f"tree{number}", "push", "-q", world.url, refs] for number in range(4)]
+        running = [subprocess.Popen(line, env=world.environment, stderr=subprocess.DEVNULL) for line in words]
+        same(sum(push.wait() == 0 for push in running), wanted, f"pushes of {refs} at once that succeed")
+    same(world.refs().count(b"refs/heads/topic"), 4, "branches that came in")
+
+
+STORES = [unheld, missing, named, broken, spelled, at_once]
+
+
+# ---- all of them
+
+
+def try_both(case, folder):
+    worlds = [World(folder / name, f"remote.{name}") for name in ("git", "gx") if not (folder / name).mkdir()]
+    for world in worlds:
+        case(world)
+    for plain, by_store in zip(*(world.seen for world in worlds)):
+        same(by_store, plain, f"{case.__name__}: git {plain[0]}")
+    same(len(worlds[0].seen), len(worlds[1].seen), f"{case.__name__}: commands")
+    return len(worlds[0].seen)
+
+
+def run(name, folder, given):
+    """Runs a case, or a history by its seed, in a folder of its own; what is told of it."""
+    below = folder / str(name)
+    below.mkdir()
+    if isinstance(name, int):
+        return f"seed {name}, {given.steps} steps: {follow(name, given.steps, below)} commits, the same"
+    case = next(case for case in BOTH + STORES if case.__name__ == name)
+    if case in BOTH:
+        return f"{name}: {try_both(case, below)} commands, the same"
+    case(World(below, "store.gx"))
+    return f"{name}: as it has to be"
+
+
+def main():
+    words = argparse.ArgumentParser(description=__doc__, formatter_class=argparse.RawTextHelpFormatter)
+    words.add_argument("--random", type=int, default=1, metavar="N")
+    words.add_argument("--steps", type=int, default=20, metavar="N")
+    words.add_argument("--seed", type=int, default=time.time_ns() % 1000000, metavar="N")
+    words.add_argument("cases", nargs="*", metavar="CASE")
+    given = words.parse_args()
+    names = given.cases or [*(case.__name__ for case in BOTH + STORES), "histories"]
+    if "histories" in names:
+        names.remove("histories")
+        names = [*range(given.seed, given.seed + given.random), *names]
+        print(f"seed {given.seed}", flush=True)
+    with tempfile.TemporaryDirectory(prefix="remote-") as name, ThreadPoolExecutor(os.cpu_count()) as pool:
+        try:
+            for told in pool.map(lambda one: run(one, Path(name), given), names):
+                print(told, flush=True)
+        except Differs as fault:
+            raise SystemExit(str(fault)) from None
+
+
+if __name__ == "__main__":
+    main()

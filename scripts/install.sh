@@ -1,5 +1,5 @@
 #!/usr/bin/env bash
-# Installs the built program, its manual and the completions of bash and zsh, or removes these four files again.
+# Installs the built program, git-remote-gx, their manuals and the completions of bash and zsh, or removes these six files again.
 #   scripts/install.sh [--uninstall]
 # Variables of the environment say where, as `scripts/install.sh --help` tells.
 set -euo pipefail
@@ -12,13 +12,14 @@ usage() {
   cat << 'END'
 usage: scripts/install.sh [--uninstall | --help]
 
-Installs the built program gx, its manual and the completions of bash and zsh.
---uninstall removes these four files, and leaves all folders.
+Installs the built program gx, the script git-remote-gx by which git has stores as
+remotes, their manuals and the completions of bash and zsh.
+--uninstall removes these six files, and leaves all folders.
 
 Variables of the environment that say where, each with what it is by itself:
   PREFIX             /usr/local
   BINDIR             PREFIX/bin
-  MANDIR             PREFIX/share/man, with the manual in its folder man1
+  MANDIR             PREFIX/share/man, with the manuals in its folder man1
   BASHCOMPLETIONDIR  PREFIX/share/bash-completion/completions
   ZSHCOMPLETIONDIR   PREFIX/share/zsh/site-functions
   DESTDIR            empty; put in front of all of these, to make a package
@@ -36,7 +37,9 @@ fail() {
 # runs a command on each file: its mode, where it is, and where it goes
 for_each_file() {
   "$1" 755 "${stamped:-$program}" "${BINDIR:-$prefix/bin}/gx"
+  "$1" 755 "$root/scripts/git-remote-gx" "${BINDIR:-$prefix/bin}/git-remote-gx"
   "$1" 644 "$root/docs/gx.1" "${MANDIR:-$prefix/share/man}/man1/gx.1"
+  "$1" 644 "$root/docs/git-remote-gx.1" "${MANDIR:-$prefix/share/man}/man1/git-remote-gx.1"
   "$1" 644 "$root/completions/gx.bash" "${BASHCOMPLETIONDIR:-$prefix/share/bash-completion/completions}/gx"
   "$1" 644 "$root/completions/_gx" "${ZSHCOMPLETIONDIR:-$prefix/share/zsh/site-functions}/_gx"
 }

@@ -1,5 +1,5 @@
 #!/usr/bin/env python3
-"""Looks at the form of the pages: README.md, docs/*.md and the manual docs/gx.1.
+"""Looks at the form of the pages: README.md, docs/*.md and the manuals docs/*.1.
 
     scripts/pages.py           prints of each page its lines, longest line, longest sentence, and the
                                runs of ten words that another page has, too
@@ -21,7 +21,7 @@ KIT = {"START-HERE.md", "CONTRACTS.md"}
 
 
 def pages():
-    return [TOP / "README.md", *sorted((TOP / "docs").glob("*.md")), TOP / "docs" / "gx.1"]
+    return [TOP / "README.md", *sorted((TOP / "docs").glob("*.md")), *sorted((TOP / "docs").glob("*.1"))]
 
 
 def name_of(page):

@@ -41,7 +41,9 @@ PAGES = [
     "docs/ASSURANCE.md",
     "docs/CONVERTING.md",
     "docs/FAULTS.md",
+    "docs/REMOTE.md",
     "docs/STORE.md",
+    "docs/git-remote-gx.1",
     "docs/gx.1",
 ]
 END = "\036"
@@ -262,6 +264,7 @@ def environment_of(gx, folder):
     """A shell's environment with the program as `gx`, and with a git that has no settings."""
     (folder / "bin").mkdir()
     (folder / "bin" / "gx").symlink_to(gx)
+    (folder / "bin" / "git-remote-gx").symlink_to(TOP / "scripts" / "git-remote-gx")
     names = {"NAME": "A", "EMAIL": "a@x", "DATE": "@1 +0000"}
     git = {f"GIT_{who}_{what}": value for who in ("AUTHOR", "COMMITTER") for what, value in names.items()}
     kept = {"HOME": str(folder), "GIT_CONFIG_NOSYSTEM": "1", "TZ": "UTC", "LC_ALL": "C.UTF-8"}

@@ -284,7 +284,7 @@ def named(world):
 
 
 def broken(world):
-    """Faults in the middle: gx is killed, the disk is full, a stream is cut."""
+    """Faults in the middle: gx or git-remote-gx is killed, the disk is full, a stream is cut."""
     started(world)
     world.commit({"big": "x" * 200000 + "\n"})
     world.git("branch", "other", world.commit({"more": "1\n"}))
@@ -294,6 +294,8 @@ def broken(world):
 fi"""
     push = ["push", "origin", "main", "other"]
     refused(world, *push, told="main -> main (wrapped ended with status 137)", more=wrapped(world, killed))
+    alone = 'if [ "$2" = import ]; then kill -9 $PPID; fi'
+    refused(world, *push, told="", more=wrapped(world, alone))
     full = 'if [ "$2" = import ]; then ulimit -f 40; fi'
     refused(world, *push, told="main -> main (gx: write failed", more=wrapped(world, full))
     world.git(*push)

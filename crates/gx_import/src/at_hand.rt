@@ -19,6 +19,8 @@ const MOST: usize = 256;
 #[derive(Drop)]
 pub(crate) struct AtHand<A: Allocator> {
     branches: BTreeMap<Name, Vec<u8, A>, A>,
+    /// The commit that was taken out last to make room.
+    last: Name,
 }
 
 impl<A: Allocator + Copy> AtHand<A> {
@@ -28,6 +30,7 @@ impl<A: Allocator + Copy> AtHand<A> {
     {
         AtHand {
             branches: BTreeMap::new(alloc),
+            last: Name { bytes: [0; 20] },
         }
     }
 
@@ -62,16 +65,24 @@ impl<A: Allocator + Copy> AtHand<A> {
         }
     }
 
-    /// Takes out the first commit by its name, with its branch, where there are as many as may be.
+    /// Takes out a commit with its branch, where there are as many as may be: the next one by name behind the last that was
+    /// taken out, and the first behind all. So names take turns, and no commit stays because of its name.
     ///
     /// Cost: the logarithm of the number of branches. Takes no memory.
     pub(crate) fn pop_if_full(&mut self) -> Option<(Name, Vec<u8, A>)>
-        ensures { IfSome result (λ row. branch_of self.old row.0 ≡ Some row.1.items) }
+        ensures branch { IfSome result (λ row. branch_of self.old row.0 ≡ Some row.1.items) }
+        ensures gone { IfSome result (λ row. branch_of self.new row.0 ≡ None) }
     {
         if self.branches.len() < MOST {
             return None;
         }
-        self.branches.pop_first()
+        let commit = match self.branches.range(self.last..).next() {
+            Some((commit, _)) => *commit,
+            None => *self.branches.first_key_value()?.0,
+        };
+        let branch = self.branches.remove(&commit)?;
+        self.last = commit;
+        Some((commit, branch))
     }
 
     /// Forgets that a branch has the files of a commit. Cost: the logarithm of the number of branches.

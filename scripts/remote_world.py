@@ -22,8 +22,10 @@ class World:
         self.remote = folder / name
         self.url = f"gx::{self.remote}" if name.endswith(".gx") else f"file://{self.remote}"
         place = f"{HERE}:{os.environ['PATH']}"
-        settings = {"HOME": str(folder), "GIT_CONFIG_NOSYSTEM": "1", "PATH": place, "GX": str(Path(GX).resolve())}
-        self.environment = {**os.environ, **WHO, **settings}
+        # what a killed run leaves goes with the folder
+        (folder / "left").mkdir()
+        settings = {"HOME": str(folder), "TMPDIR": str(folder / "left"), "GIT_CONFIG_NOSYSTEM": "1", "PATH": place}
+        self.environment = {**os.environ, **WHO, **settings, "GX": str(Path(GX).resolve())}
         self.time = 1600000000
         (folder / ".gitconfig").write_text("[init]\ndefaultBranch = main\n[advice]\nnestedTag = false\n")
         print_of(["git", "init", "-q", "-b", "main", folder / "work"])

@@ -1,5 +1,5 @@
 -- Whether no branch loses a commit, asked of each branch with what its ref holds.
-use Rattle.std.proofs.Common.{◌≡◌, Bool, true, false, cond, List, [], ◌∷◌, map, Option, Some, None, refl, sym, ap, subst, ◌∙◌}
+use Rattle.std.proofs.Common.{◌≡◌, Bool, true, false, cond, List, [], ◌∷◌, map, Option, Some, None, inl, inr, refl, sym, ap, subst, ◌∙◌}
 use Rattle.std.specs.Prelude.{◌&&◌, ◌||◌, IfSome}
 use Rattle.std.specs.List.{AllByRecursion, list_all}
 use Rattle.std.specs.Bool.{passes}
@@ -14,7 +14,7 @@ use Rattle.gx_model.specs.Objects.{IsNamer}
 use Rattle.gx_model.specs.Histories.{Records, Target}
 use Rattle.gx_model.specs.Records.HistoryOf.{commit_of_value, history_of, target_in, value_of_name}
 use Rattle.gx_model.specs.Laws.RepositoryLaws.{values_of}
-use Rattle.gx_model.specs.Records.Sound.{Holds, IsSound, IsTarget}
+use Rattle.gx_model.specs.Records.Sound.{AnyByRecursion, Holds, IsSound, IsTarget}
 use Rattle.gx_model.specs.Records.Lookups.{commit_named}
 use Rattle.gx_model.specs.Revisions.Denotation.{ref_at}
 use Rattle.gx_model.specs.Revisions.Ranges.{reaches}
@@ -45,11 +45,21 @@ or_true : (a : Bool) → (a || true) ≡ true
 or_true true = refl
 or_true false = refl
 
+-- a branch stands in this state
+abbrev pub IsBranchOf : State → Bytes × Option Commit → Type 0
+IsBranchOf s branch = AnyByRecursion (λ b. b ≡ branch) s.branches
+
+-- each of these does
+all_branches : (P : Bytes × Option Commit → Type 0) (branches : List (Bytes × Option Commit)) → ((b : Bytes × Option Commit) → AnyByRecursion (λ x. x ≡ b) branches → P b) → AllByRecursion P branches
+all_branches P [] h = tt
+all_branches P (b ∷ bs) h = (h b (inl refl), all_branches P bs (λ d i. h d (inr i)))
+
 -- these branches are left to be asked
 abbrev pub AreLeft : (Kind → Bytes → Bytes) → {A : Type 0} → State → List (Bytes × Tip A) → Type 0
 AreLeft name s rows =
     (rest : List (Bytes × Option Commit)) × AreRows (IsTip name s.history.values) rest rows
     × (is_fast_forward s ≡ (s.is_forced || list_all (λ b. is_forward (ref_at s.history b.0) b.1) rest))
+    × AllByRecursion (IsBranchOf s) rest
 
 -- the first of them is asked, and the others are left
 pub record IsAsked (name : Kind → Bytes → Bytes) {A : Type 0} (s : State) (row : Bytes × Tip A) (others : List (Bytes × Tip A)) : Type 0 where
@@ -57,26 +67,30 @@ pub record IsAsked (name : Kind → Bytes → Bytes) {A : Type 0} (s : State) (r
   pub is_made : AreBoth (IsCommitOf name s.history.values) made row.1.commit
   pub rest : List (Bytes × Option Commit)
   pub related : AreRows (IsTip name s.history.values) rest others
+  pub stands : IsBranchOf s (row.0, made)
+  pub rest_stands : AllByRecursion (IsBranchOf s) rest
   pub so : is_fast_forward s ≡ (s.is_forced || (is_forward (ref_at s.history row.0) made && list_all (λ b. is_forward (ref_at s.history b.0) b.1) rest))
 
 module _ (name : Kind → Bytes → Bytes) {A : Type 0} (s : State) where
   pub all_left : (r : Records) (tables : Tables A) → Stands name r tables s → AreLeft name s (rows_of tables.branches)
-  all_left r tables h = (s.branches, h.branches, refl)
+  all_left r tables h = (s.branches, h.branches, refl, all_branches (IsBranchOf s) s.branches (λ b i. i))
 
   pub first_asked : (row : Bytes × Tip A) (rows : List (Bytes × Tip A)) → AreLeft name s (row ∷ rows) → IsAsked name s row rows
-  first_asked row rows ([], related, all) = absurd related
-  first_asked row rows (b ∷ bs, related, all) =
+  first_asked row rows ([], related, all, stand) = absurd related
+  first_asked row rows (b ∷ bs, related, all, stand) =
       record {
         made = b.1;
         is_made = related.1.commit;
         rest = bs;
         related = related.2;
+        stands = subst (λ n. IsBranchOf s (n, b.1)) related.0 stand.0;
+        rest_stands = stand.1;
         so = all ∙ ap (λ n. s.is_forced || (is_forward (ref_at s.history n) b.1 && list_all (λ b. is_forward (ref_at s.history b.0) b.1) bs)) related.0;
       }
 
   -- where it is movable, it is decided by the others
   pub others_left : (row : Bytes × Tip A) (rows : List (Bytes × Tip A)) (asked : IsAsked name s row rows) → (s.is_forced || is_forward (ref_at s.history row.0) asked.made) ≡ true → AreLeft name s rows
-  others_left row rows asked e = (asked.rest, asked.related, asked.so ∙ or_then s.is_forced (is_forward (ref_at s.history row.0) asked.made) (list_all (λ b. is_forward (ref_at s.history b.0) b.1) asked.rest) e)
+  others_left row rows asked e = (asked.rest, asked.related, asked.so ∙ or_then s.is_forced (is_forward (ref_at s.history row.0) asked.made) (list_all (λ b. is_forward (ref_at s.history b.0) b.1) asked.rest) e, asked.rest_stands)
 
   -- and where it isn't, the whole isn't
   pub not_forward : (row : Bytes × Tip A) (rows : List (Bytes × Tip A)) (asked : IsAsked name s row rows) → (s.is_forced || is_forward (ref_at s.history row.0) asked.made) ≡ false → is_fast_forward s ≡ false
@@ -84,8 +98,8 @@ module _ (name : Kind → Bytes → Bytes) {A : Type 0} (s : State) where
 
 -- no branch is left
 pub none_left : (name : Kind → Bytes → Bytes) {A : Type 0} (s : State) → AreLeft name {A = A} s [] → is_fast_forward s ≡ true
-none_left name s ([], related, all) = all ∙ or_true s.is_forced
-none_left name s (b ∷ bs, related, all) = absurd related
+none_left name s ([], related, all, stand) = all ∙ or_true s.is_forced
+none_left name s (b ∷ bs, related, all, stand) = absurd related
 
 -- ---- what the refs hold
 
@@ -119,7 +133,7 @@ module _ (r : Records) (n : Bytes) where
   by_bytes (Some object) = refl
 
   -- and is what the history has there
-  ref_is : (s : State) → history_of r ≡ s.history → (object : Option Name) → option_map (λ o. o.bytes) object ≡ lookup (same_bytes n) r.refs → option_map (target_of r) object ≡ ref_at s.history n
+  pub ref_is : (s : State) → history_of r ≡ s.history → (object : Option Name) → option_map (λ o. o.bytes) object ≡ lookup (same_bytes n) r.refs → option_map (target_of r) object ≡ ref_at s.history n
   ref_is s h object e =
       sym (by_bytes object) ∙ ap (option_map (λ o. target_in (value_of_name r.records o))) e ∙ sym (told_found r.refs) ∙ ap (λ z. ref_at z n) h
 

@@ -10,6 +10,7 @@ pub mod Parents
 pub mod NamedEdits
 pub mod HeldBlobs
 pub mod ForwardBranches
+pub mod Losses
 pub mod SetRefs
 pub mod PublishedNames
 pub mod AddedAnswers

@@ -1,5 +1,5 @@
--- What the explanation of a refusal tells: which change of a commit is refused.
--- Source: git-fast-import(1), "filemodify" to "filedeleteall".
+-- What the explanation of a refusal tells: which change of a commit is refused, or which ref would lose a commit.
+-- Source: git-fast-import(1), "filemodify" to "filedeleteall", and "force".
 use Rattle.std.specs.Prelude.{◌≡◌, ◌⊎◌, ℕ, ◌+◌, Bool, List, [], ◌∷◌, ◌++◌, length, Option, Some, None, Result, Ok, Err, MatchOption}
 use Rattle.std.specs.Option.{option_map}
 use Rattle.gx_model.specs.declared.objects.Kind.{Kind}
@@ -21,6 +21,7 @@ use Rattle.gx_command.specs.Reading.{commands_asked_from}
 use Rattle.gx_repo.specs.Repositories.{Repository}
 use Rattle.gx_import.specs.Additions.{Clash, blob_added}
 use Rattle.gx_import.specs.Imports.{AreRead}
+use Rattle.gx_import.specs.Losing.{TellsLoss, TellsLossBy}
 use Rattle.gx_import.specs.declared.explanation.Explanation.{Explanation}
 use Rattle.gx_import.specs.declared.fault.ImportFault.{ImportFault}
 
@@ -32,10 +33,15 @@ path_of (Copy source destination) = Some source
 path_of (Rename source destination) = Some source
 path_of Clear = None
 
+-- neither a change nor a ref is told
+pub record TellsNothing {A : Type 0} (told : Explanation A) : Type 0 where
+  pub change : told.change ≡ None
+  pub loss : told.loss ≡ None
+
 -- a refusal tells this path, and nothing else
 abbrev pub TellsPath : {X E A : Type 0} → Option Path → Result X E → Explanation A → Explanation A → Type 0
 TellsPath path (Ok _) old new = new ≡ old
-TellsPath path (Err _) old new = (new.change ≡ old.change) × (new.path ≡ path)
+TellsPath path (Err _) old new = (new.change ≡ old.change) × (new.path ≡ path) × (new.loss ≡ old.loss)
 
 module _ (name : Kind → Bytes → Bytes) where
   -- a change is refused with this fault: memory ran out, its blob has the name of another value, or the model refuses it
@@ -79,15 +85,20 @@ module _ (name : Kind → Bytes → Bytes) where
   abbrev pub HasNoneRefused : State → Command → Fault → Type 0
   HasNoneRefused s c fault = (fault ≡ OutOfMemory) ⊎ (fault ≡ NameHeld) ⊎ ((number : ℕ) (path : Option Path) → HasRefused s c fault number path → ⊥)
 
-  -- What is told of a command: nothing, where it is applied; the change that is refused; or nothing, where none is.
+  -- What is told of a command's changes: nothing, where it is applied; the change that is refused; or nothing, where none is.
   abbrev pub Tells : {X A : Type 0} → State → Command → Result X Fault → Explanation A → Type 0
   Tells s c (Ok _) told = told.change ≡ None
   Tells s c (Err fault) told = MatchOption told.change (HasNoneRefused s c fault) (λ number. HasRefused s c fault number told.path)
 
-  -- the same of the next of these commands; behind the last nothing is told
+  -- of a command all is told, the change that is refused and the ref that would lose a commit; or nothing, where it is applied
+  abbrev pub TellsAll : {X A : Type 0} → State → Command → Result X Fault → Explanation A → Type 0
+  TellsAll s c (Ok _) told = TellsNothing told
+  TellsAll s c (Err fault) told = Tells {X = Unit {0}} s c (Err fault) told × TellsLossBy name s c fault told.loss
+
+  -- the same of the next of these commands; behind the last no change is told
   abbrev pub TellsNext : {A : Type 0} → State → List Command → Fault → Explanation A → Type 0
-  TellsNext s [] fault told = told.change ≡ None
-  TellsNext s (c ∷ cs) fault told = Tells {X = Unit {0}} s c (Err fault) told
+  TellsNext s [] fault told = (told.change ≡ None) × TellsLoss name s fault told.loss
+  TellsNext s (c ∷ cs) fault told = TellsAll {X = Unit {0}} s c (Err fault) told
 
   -- the commands before the one with the fault's number are replayed without a fault, and of that one this is told
   pub record Explains {A : Type 0} (asks : Features) (old : Records) (commands : List Command) (fault : ImportFault) (told : Explanation A) : Type 0 where
@@ -107,7 +118,7 @@ module _ (name : Kind → Bytes → Bytes) where
 
   -- an import that is accepted tells nothing
   abbrev pub ExplainsAnswer : {X A : Type 0} → Features → Records → Option Coming → Result X ImportFault → Explanation A → Type 0
-  ExplainsAnswer asks old coming (Ok _) told = told.change ≡ None
+  ExplainsAnswer asks old coming (Ok _) told = TellsNothing told
   ExplainsAnswer asks old coming (Err fault) told = ExplainsFault asks old coming fault told
 
 module _ {N : Type 0} (names : N → Kind → Bytes → Bytes) {X A : Type 0} where

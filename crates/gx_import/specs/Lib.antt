@@ -11,6 +11,7 @@ pub mod Calls
 pub mod RefChanges
 pub mod Publishing
 pub mod Imports
+pub mod Losing
 pub mod Explaining
 pub mod Telling
 pub mod Keeping

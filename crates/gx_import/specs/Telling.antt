@@ -19,7 +19,7 @@ use Rattle.gx_object.specs.declared.name.Name.{Name}
 use Rattle.gx_repo.specs.Repositories.{Repository}
 use Rattle.gx_tree.specs.Named.{NamedTree}
 use Rattle.gx_import.specs.Calls.{InEach}
-use Rattle.gx_import.specs.Explaining.{IsRefusedAt, Tells}
+use Rattle.gx_import.specs.Explaining.{IsRefusedAt, Tells, TellsAll}
 use Rattle.gx_import.specs.Objects.{IsCommitOf}
 use Rattle.gx_import.specs.Rows.{AreBoth}
 use Rattle.gx_import.specs.Standing.{Stands}
@@ -52,6 +52,6 @@ module _ {N : Type 0} (names : N → Kind → Bytes → Bytes) {X A : Type 0} wh
   abbrev pub TellsCommit : Repository N → Tables A → CommitCommand A → Result X Fault → Explanation A → Type 0
   TellsCommit old was command = TellsCommand old was (shown_commit command)
 
-  -- of any command as it was read
+  -- of any command as it was read, all that is told
   abbrev pub TellsInEach : Repository N → Tables A → Command A → Result X Fault → Explanation A → Type 0
-  TellsInEach old was command = TellsCommand old was (shown_command command)
+  TellsInEach old was command answer told = InEach names old was (λ s. TellsAll (names old.0) s (shown_command command) answer told)

@@ -48,6 +48,7 @@ pub(crate) fn apply_commit<N: Namer, A: Allocator + Copy>(
     ensures extends { Extends repo.old.1.records repo.new.1.records }
     ensures steps { MakesCommit N.name_of repo.old repo.new tables.old tables.new commit result }
     ensures told { TellsCommit N.name_of repo.old tables.old commit result told.new }
+    ensures loss { told.new.loss ≡ told.old.loss }
 {
     let first = first_parent(repo, tables, &commit)?;
     let parents = parents(repo, tables, &commit, first)?;
@@ -73,6 +74,7 @@ fn make_commit<N: Namer, A: Allocator + Copy>(
     ensures extends { Extends repo.old.1.records repo.new.1.records }
     ensures steps { MakesCommit N.name_of repo.old repo.new tables.old tables.new commit result }
     ensures told { TellsCommit N.name_of repo.old tables.old commit result told.new }
+    ensures loss { told.new.loss ≡ told.old.loss }
 {
     records_keep_home();
     records_keep_loaded();
@@ -103,6 +105,7 @@ fn changed_files<N: Namer, A: Allocator + Copy>(
     ensures extends { Extends repo.old.1.records repo.new.1.records }
     ensures steps { EditsFrom N.name_of repo.old repo.new tables.old tables.new first changes result }
     ensures told { TellsEditsFrom N.name_of repo.old tables.old first changes result told.new }
+    ensures loss { told.new.loss ≡ told.old.loss }
 {
     repo.sound();
     records_keep_home();

@@ -2,7 +2,7 @@
 
 ghost use Rattle.std.specs.Prelude.{◌≡◌, [], None, IfErr, IsTrue, OnErr, OnOk};
 ghost use Rattle.gx_import.specs.Exported.{ImportsAnyExport, KeepsNoNullGitlink, LeaveExports, RefusesNullGitlink};
-ghost use Rattle.gx_import.specs.Explaining.{ExplainsAsked};
+ghost use Rattle.gx_import.specs.Explaining.{ExplainsAsked, TellsNothing};
 ghost use Rattle.gx_import.specs.Imports.{ImportsAsked, ImportsStream, StandsAsked, StandsReplayed};
 ghost use Rattle.gx_import.specs.Keeping.{AreNone, IsLeft};
 ghost use Rattle.gx_import.specs.Replaying.{LeavesImport, left_by};
@@ -94,10 +94,12 @@ pub fn import_asking<N: Namer, A: Allocator + Copy, R: Source + Drop, W: Sink>(
 }
 
 /// Imports a stream as `import_asking` does, and tells what a refusal is about: which change of the commit is refused, by its
-/// number and its path. The changes before it are made without a fault. An import that is accepted tells nothing, and neither
-/// does a refusal that no change is the cause of. What was told before is forgotten.
+/// number and its path; or of `NotFastForward` which ref would lose a commit, with its commit and the new one. The changes
+/// before it are made without a fault. An import that is accepted tells nothing, and neither does a refusal of another
+/// cause. What was told before is forgotten.
 ///
-/// Errors and cost: those of `import`. No path is copied. Source: git-fast-import(1), "filemodify" to "filedeleteall".
+/// Errors and cost: those of `import`. No path is copied, and the name of one ref is.
+/// Source: git-fast-import(1), "filemodify" to "filedeleteall", and "force".
 pub fn import_explained<N: Namer, A: Allocator + Copy, R: Source + Drop, W: Sink>(
     alloc: A,
     repo: &mut Repo<N, A>,
@@ -157,7 +159,7 @@ fn replay_and_publish<N: Namer, A: Allocator + Copy, R: Source + Drop, W: Sink>(
     features: Features,
     told: &mut Explanation<A>,
 ) -> Result<Report, ImportFault>
-    requires blank { told.now.change ≡ None }
+    requires blank { TellsNothing told.now }
     requires none { AreNone repo.now.1 checkpoints.now }
     ensures namer { repo.new.0 ≡ repo.old.0 }
     ensures extends { Extends repo.old.1.records repo.new.1.records }
@@ -181,7 +183,7 @@ fn replay_into<N: Namer, A: Allocator + Copy, R: Source + Drop, W: Sink>(
     features: Features,
     told: &mut Explanation<A>,
 ) -> Result<Report, ImportFault>
-    requires blank { told.now.change ≡ None }
+    requires blank { TellsNothing told.now }
     requires empty { AreEmpty tables.now }
     requires forced { tables.now.is_forced ≡ features.force }
     requires none { AreNone repo.now.1 checkpoints.now }
@@ -196,7 +198,13 @@ fn replay_into<N: Namer, A: Allocator + Copy, R: Source + Drop, W: Sink>(
     histories_of_records();
     let held = repo.store().len();
     let commands = replay(repo, tables, checkpoints, source, sink, features, told)?;
-    if let Err(kind) = publish(repo, tables, &mut checkpoints.refs, checkpoints.has_all) {
+    if let Err(kind) = publish(
+        repo,
+        tables,
+        &mut checkpoints.refs,
+        checkpoints.has_all,
+        &mut told.loss,
+    ) {
         return Err(ImportFault {
             command: commands + 1,
             kind,

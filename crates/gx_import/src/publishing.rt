@@ -8,16 +8,17 @@ ghost use Rattle.gx_rev.specs.Parents.{HoldsParents};
 ghost use Rattle.gx_import.specs.Calls.{IsCommitIfAny, TellsForward, TellsMovable};
 ghost use Rattle.gx_import.specs.Keeping.{AreMoved, EntersInEach, EntersNames, EntersUpdates, HasAll};
 ghost use Rattle.gx_import.specs.Publishing.{PublishesInEach, TellsFastForward};
+ghost use Rattle.gx_import.specs.Losing.{TellsLossInEach, TellsLossOf, TellsWhoLoses};
 ghost use Rattle.gx_import.specs.RefChanges.{Appends, AppendsBranch, AppendsBranches, AppendsTag, AppendsTags, ChangesRefs, GivesMoved, IsHeldByRef, changes_of, is_at, is_due_by};
 ghost use Rattle.gx_import.specs.Rows.{IsSorted, rows_of};
 ghost use Rattle.gx_import.specs.Standing.{StandsForSome};
 ghost use Rattle.gx_model.specs.declared.faults.Fault.TheVariants.{OutOfMemory};
 
-use crate::ImportKind;
 use crate::branches::Tip;
 use crate::new_names::new_names;
 use crate::table::Table;
 use crate::tables::Tables;
+use crate::{ImportKind, RefLoss};
 use gx_model::repository_laws::histories_of_records;
 use gx_object::{Name, Namer};
 use gx_repo::{PublishFault, RefChange, Repo};
@@ -25,16 +26,18 @@ use gx_rev::{Parents, is_ancestor};
 use std::alloc::{AllocError, Allocator};
 
 /// Publishes the branches with a commit, and then the tags, and enters their names among those that were published, which
-/// may be all refs.
+/// may be all refs. `NotFastForward` tells the first branch that would lose a commit.
 pub(crate) fn publish<N: Namer, A: Allocator + Copy>(
     repo: &mut Repo<N, A>,
     tables: &Tables<A>,
     published: &mut Table<Name, A>,
     has_all: bool,
+    loss: &mut Option<RefLoss<A>>,
 ) -> Result<(), ImportKind>
     requires stands { StandsForSome N.name_of repo.now tables.now }
     requires sorted { IsSorted published.now }
     requires has_all { HasAll has_all repo.now.1.refs (rows_of published.now) }
+    requires blank { loss.now ≡ None }
     ensures namer { repo.new.0 ≡ repo.old.0 }
     ensures records { repo.new.1.records ≡ repo.old.1.records }
     ensures unchanged { OnErr result (repo.new ≡ repo.old) }
@@ -42,10 +45,11 @@ pub(crate) fn publish<N: Namer, A: Allocator + Copy>(
     ensures entered { EntersInEach N.name_of repo.old tables.now published.old published.new result }
     ensures sorted { OnOk result (IsSorted published.new) }
     ensures has_all { OnOk result (HasAll has_all repo.new.1.refs (rows_of published.new)) }
+    ensures loss { TellsLossInEach N.name_of repo.old tables.now result loss.new }
 {
     histories_of_records();
     repo.sound();
-    let Some(changes) = changes(repo, tables)? else {
+    let Some(changes) = changes(repo, tables, loss)? else {
         return Err(ImportKind::NotFastForward);
     };
     enter_names(tables, published, has_all, changes.as_slice())?;
@@ -54,17 +58,20 @@ pub(crate) fn publish<N: Namer, A: Allocator + Copy>(
 }
 
 /// The refs to be set: the branches with a commit that their refs don't hold already, and then the tags that are to be set
-/// behind them. None where a published branch loses a commit, and `force` was not asked for.
+/// behind them. None where a published branch loses a commit, which is told, and `force` was not asked for.
 fn changes<'a, N: Namer, A: Allocator + Copy>(
     repo: &Repo<N, A>,
     tables: &'a Tables<A>,
+    loss: &mut Option<RefLoss<A>>,
 ) -> Result<Option<Vec<RefChange<'a>, A>>, AllocError>
     requires stands { StandsForSome N.name_of repo.now tables.now }
+    requires blank { loss.now ≡ None }
     ensures forward { TellsFastForward N.name_of repo.now tables.now is_some result }
     ensures changes { GivesMoved repo.now.1.refs tables.now result }
+    ensures loss { TellsWhoLoses N.name_of repo.now tables.now is_some result loss.new }
 {
     let mut changes = Vec::new(tables.alloc);
-    if !append_branches(&mut changes, repo, tables)? {
+    if !append_branches(&mut changes, repo, tables, loss)? {
         return Ok(None);
     }
     append_tags(&mut changes, repo, tables)?;
@@ -72,15 +79,18 @@ fn changes<'a, N: Namer, A: Allocator + Copy>(
 }
 
 /// Appends the branches with a commit that their refs don't hold already, and answers whether none of them loses a commit,
-/// or `force` was asked for.
+/// or `force` was asked for. The first that loses one is told.
 fn append_branches<'a, N: Namer, A: Allocator + Copy>(
     changes: &mut Vec<RefChange<'a>, A>,
     repo: &Repo<N, A>,
     tables: &'a Tables<A>,
+    loss: &mut Option<RefLoss<A>>,
 ) -> Result<bool, AllocError>
     requires stands { StandsForSome N.name_of repo.now tables.now }
+    requires blank { loss.now ≡ None }
     ensures forward { TellsFastForward N.name_of repo.now tables.now (λ is_forward. is_forward) result }
     ensures appended { AppendsBranches repo.now.1.refs tables.now changes.old changes.new result }
+    ensures loss { TellsWhoLoses N.name_of repo.now tables.now (λ is_forward. is_forward) result loss.new }
 {
     repo.sound();
     let mut place = 0;
@@ -97,10 +107,37 @@ fn append_branches<'a, N: Namer, A: Allocator + Copy>(
             object,
             tip.commit,
         )? {
+            *loss = loss_of(tables.alloc, repo, name.as_slice(), object, tip.commit)?;
             return Ok(false);
         }
     }
     Ok(true)
+}
+
+/// What a branch loses that would move from this object to this commit: None where there is no such ref or no commit.
+fn loss_of<N: Namer, A: Allocator + Copy>(
+    alloc: A,
+    repo: &Repo<N, A>,
+    name: &[u8],
+    object: Option<Name>,
+    commit: Option<Name>,
+) -> Result<Option<RefLoss<A>>, AllocError>
+    requires target { IfSome object (IsHeldByRef repo.now.1) }
+    requires commit { IsCommitIfAny N.name_of repo.now commit }
+    ensures { TellsLossOf N.name_of repo.now name.now object commit result }
+{
+    repo.sound();
+    let Some(object) = object else {
+        return Ok(None);
+    };
+    let Some(new) = commit else {
+        return Ok(None);
+    };
+    let Some(old) = repo.peel(&object) else {
+        return Ok(None);
+    };
+    let name = Vec::from_slice(alloc, name)?;
+    Ok(Some(RefLoss { name, old, new }))
 }
 
 /// Appends a branch, where it has a commit, and its ref doesn't hold this object. It isn't appended where it loses a commit,

@@ -7,7 +7,8 @@ ghost use Rattle.gx_import.specs.Keeping.{AreNone, AreStill, EntersEach, HoldsAl
 ghost use Rattle.gx_command.specs.Reading.{ReadsNoNullGitlink};
 ghost use Rattle.gx_import.specs.Replaying.{FallsNext, ReadsNext, ReplaysRead, ReplaysTo, Writes};
 ghost use Rattle.gx_import.specs.Publishing.{PublishesInEach};
-ghost use Rattle.gx_import.specs.Explaining.{ExplainsAsked, ExplainsRead};
+ghost use Rattle.gx_import.specs.Explaining.{ExplainsAsked, ExplainsRead, TellsNothing};
+ghost use Rattle.gx_import.specs.Losing.{TellsLossInEach};
 ghost use Rattle.gx_import.specs.Rows.{IsSorted};
 ghost use Rattle.gx_import.specs.Telling.{TellsInEach};
 ghost use Rattle.gx_import.specs.Standing.{AreEmpty, Extends, HasTipsAtHome, StandsForSome};
@@ -20,7 +21,7 @@ use crate::publishing::publish;
 use crate::reset::apply_reset;
 use crate::tables::Tables;
 use crate::tag::apply_tag;
-use crate::{Explanation, ImportFault, ImportKind};
+use crate::{Explanation, ImportFault, ImportKind, RefLoss};
 use gx_command::{Command, CommandReader, Feature, Features};
 use gx_object::Namer;
 use gx_repo::Repo;
@@ -38,7 +39,7 @@ pub(crate) fn replay<N: Namer, A: Allocator + Copy, R: Source + Drop, W: Sink>(
     features: Features,
     told: &mut Explanation<A>,
 ) -> Result<u64, ImportFault>
-    requires blank { told.now.change ≡ None }
+    requires blank { TellsNothing told.now }
     requires empty { AreEmpty tables.now }
     requires forced { tables.now.is_forced ≡ features.force }
     requires none { AreNone repo.now.1 checkpoints.now }
@@ -67,7 +68,7 @@ fn replay_commands<N: Namer, A: Allocator + Copy, R: Source, W: Sink>(
     sink: &mut W,
     told: &mut Explanation<A>,
 ) -> Result<u64, ImportFault>
-    requires blank { told.now.change ≡ None }
+    requires blank { TellsNothing told.now }
     requires empty { AreEmpty tables.now }
     requires none { AreNone repo.now.1 checkpoints.now }
     requires most { reader.now.most ≤ 2 ^ 63 - 1 }
@@ -129,7 +130,7 @@ fn apply<N: Namer, A: Allocator + Copy, W: Sink>(
     command: Command<A>,
     told: &mut Explanation<A>,
 ) -> Result<(), ImportKind>
-    requires blank { told.now.change ≡ None }
+    requires blank { TellsNothing told.now }
     requires stands { StandsForSome N.name_of repo.now tables.now }
     requires homes { HasTipsAtHome N.name_of repo.now tables.now }
     requires fits { checkpoints.now.records ≤ length repo.now.1.records }
@@ -158,21 +159,23 @@ fn apply<N: Namer, A: Allocator + Copy, W: Sink>(
             apply_feature(tables, feature);
             Ok(())
         }
-        Command::Checkpoint => apply_checkpoint(repo, tables, checkpoints),
+        Command::Checkpoint => apply_checkpoint(repo, tables, checkpoints, &mut told.loss),
         Command::OptionLine(_) | Command::Done => Ok(()),
     }
 }
 
-/// Publishes what was made so far: after a later fault it is kept.
+/// Publishes what was made so far: after a later fault it is kept. `NotFastForward` tells the ref that would lose a commit.
 fn apply_checkpoint<N: Namer, A: Allocator + Copy>(
     repo: &mut Repo<N, A>,
     tables: &Tables<A>,
     checkpoints: &mut Checkpoints<A>,
+    loss: &mut Option<RefLoss<A>>,
 ) -> Result<(), ImportKind>
     requires stands { StandsForSome N.name_of repo.now tables.now }
     requires room { checkpoints.now.count < 2 ^ 64 - 1 }
     requires sorted { IsSorted checkpoints.now.refs }
     requires has_all { HoldsAll repo.now.1 checkpoints.now }
+    requires blank { loss.now ≡ None }
     ensures namer { repo.new.0 ≡ repo.old.0 }
     ensures records { repo.new.1.records ≡ repo.old.1.records }
     ensures next { OnOk result (IsNext repo.new.1 checkpoints.old checkpoints.new) }
@@ -181,8 +184,10 @@ fn apply_checkpoint<N: Namer, A: Allocator + Copy>(
     ensures entered { EntersEach N.name_of repo.old tables.now checkpoints.old checkpoints.new result }
     ensures sorted { OnOk result (IsSorted checkpoints.new.refs) }
     ensures has_all { OnOk result (HoldsAll repo.new.1 checkpoints.new) }
+    ensures loss { TellsLossInEach N.name_of repo.old tables.now result loss.new }
 {
-    publish(repo, tables, &mut checkpoints.refs, checkpoints.has_all)?;
+    let has_all = checkpoints.has_all;
+    publish(repo, tables, &mut checkpoints.refs, has_all, loss)?;
     checkpoints.count += 1;
     checkpoints.records = repo.store().len();
     Ok(())

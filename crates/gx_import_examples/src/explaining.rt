@@ -3,7 +3,7 @@
 use crate::given::FIRST;
 use gx_import::{Explanation, import_explained};
 use gx_model::Features;
-use gx_object::Sha1Namer;
+use gx_object::{Name, Sha1Namer};
 use gx_repo::Repo;
 use gx_text::{Bytes, Held};
 use std::alloc::Global;
@@ -26,7 +26,20 @@ const ROOT: &[u8] =
 const PARENT: &[u8] =
     b"commit refs/heads/a\ncommitter A <a@x> 1 +0000\ndata 0\nfrom :7\nM 100644 :9 f\n";
 
-/// The number and the path of the change that is told of the import of a stream into an empty repository.
+/// A branch is published, and then moved to a commit without parents.
+const MOVED: &[u8] =
+    b"commit refs/heads/a\nmark :1\ncommitter A <a@x> 1 +0000\ndata 0\ncheckpoint\ncommit refs/heads/b\nmark :2\ncommitter A <a@x> 2 +0000\ndata 0\nreset refs/heads/a\nfrom :2\n";
+
+/// The same, which is found out at a checkpoint.
+const PUBLISHED: &[u8] =
+    b"commit refs/heads/a\nmark :1\ncommitter A <a@x> 1 +0000\ndata 0\ncheckpoint\ncommit refs/heads/b\nmark :2\ncommitter A <a@x> 2 +0000\ndata 0\nreset refs/heads/a\nfrom :2\n\ncheckpoint\n";
+
+/// The commits of both streams, as git names them.
+const OLD: &[u8] = b"e93f5633c0be6fb3012fdb2b8315937292aa7005";
+
+const NEW: &[u8] = b"2e884416ca1267c7508749948938123767b1ca46";
+
+/// What is told of the import of a stream into an empty repository.
 fn told(alloc: Global, state: RandomState, stream: &[u8]) -> Explanation<Global> {
     let mut repo = Repo::new(alloc, Sha1Namer, state);
     let mut told = Explanation::none();
@@ -70,5 +83,25 @@ fn no_change_is_told_where_none_is_refused(rt: HostRuntime) -> Result<(), Fail> 
     let alloc = rt.alloc();
     assert!(rt; told(alloc, state, FIRST).change.is_none());
     assert!(rt; told(alloc, state, PARENT).change.is_none());
+    Ok(())
+}
+
+#[test]
+fn ref_that_would_lose_a_commit_is_told(rt: HostRuntime) -> Result<(), Fail> {
+    let state = RandomState::new(&rt)?;
+    let alloc = rt.alloc();
+    for stream in [MOVED, PUBLISHED] {
+        let told = told(alloc, state, stream);
+        assert!(rt; told.change.is_none());
+        match &told.loss {
+            Some(loss) => {
+                assert!(rt; loss.name.as_slice() == b"refs/heads/a");
+                assert!(rt; Name::read(OLD) == Some(loss.old));
+                assert!(rt; Name::read(NEW) == Some(loss.new));
+            }
+            None => assert!(rt; false),
+        }
+    }
+    assert!(rt; told(alloc, state, PARENT).loss.is_none());
     Ok(())
 }

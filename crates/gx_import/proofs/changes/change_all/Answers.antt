@@ -30,6 +30,7 @@ loop-change-init g c =
       c.requires.blank,
       omega (arith, all.1, c.len-count.ensures),
       omega (arith, c.len-count.ensures),
+      refl,
     )
 
 pub loop-change-preserved : goal.loop-change-preserved
@@ -48,6 +49,7 @@ loop-change-preserved g c =
       ap (λ told. told.change) c.in_default.ensures.told ∙ l.invariant.6,
       omega (arith, c.in-Some.ensures.steps.1, l.invariant.7),
       omega (arith, l.invariant.8),
+      ap (λ told. told.loss) c.in_default.ensures.told ∙ l.invariant.9,
     )
 
 pub returns-in-Err-clause-steps : goal.returns-in-Err-clause-steps
@@ -91,6 +93,12 @@ returns-in-Err-clause-extends g c =
 
 pub returns-clause-told : goal.returns-clause-told
 returns-clause-told g c = λ s f h are. c.loop-change.invariant.6
+
+pub returns-in-Err-clause-loss : goal.returns-in-Err-clause-loss
+returns-in-Err-clause-loss g c = c.in-Err.ensures.told.2 ∙ c.loop-change.invariant.9
+
+pub returns-clause-loss : goal.returns-clause-loss
+returns-clause-loss g c = c.loop-change.invariant.9
 
 pub overflow_sub-left : goal.overflow_sub-left
 overflow_sub-left g c = omega (arith, c.in-Some.ensures.steps.1, c.loop-change.invariant.7)

@@ -22,3 +22,4 @@ invariant-loop-change g l =
     × (l.told.change ≡ None)
     × (l.left ≡ into_iter_len l.change-iterator)
     × (l.left ≤ length l.fn.changes.items)
+    × (l.told.loss ≡ l.initial.told.loss)

@@ -6,6 +6,8 @@ use Rattle.gx_model.specs.Histories.{Records}
 use Rattle.gx_model.specs.Records.HistoryOf.{history_of}
 use Rattle.gx_model.specs.Replay.{overwritten}
 use Rattle.gx_import.specs.Keeping.{IsLeft, left_of}
+use Rattle.gx_import.specs.Losing.{TellsLoss}
+use Rattle.gx_import.specs.declared.explanation.Explanation.{Explanation}
 use Rattle.std.proofs.lemmas.List.{length-map}
 use Rattle.std.proofs.lemmas.Result.{err_from_is_err_and}
 use Rattle.gx_import.specs.Rows.{row_of, rows_of}
@@ -18,7 +20,7 @@ use Rattle.gx_import.proofs.importing.replay_into.Goals as goal
 pub publish-requires : goal.publish-requires
 publish-requires g c =
     let k = c.in_ok-commands.ensures.replayed in
-    record { sorted = c.in_ok-commands.ensures.sorted; has_all = c.in_ok-commands.ensures.has_all; stands = (k.0, subst (λ n. Stands (g.N.Namer.name_of n) c.replay.new.repo.1 c.replay.new.tables k.0) {y = c.replay.new.repo.0} (sym {a = c.replay.new.repo.0} c.replay.ensures.namer) k.1) }
+    record { blank = c.in_ok-commands.ensures.explained.loss; sorted = c.in_ok-commands.ensures.sorted; has_all = c.in_ok-commands.ensures.has_all; stands = (k.0, subst (λ n. Stands (g.N.Namer.name_of n) c.replay.new.repo.1 c.replay.new.tables k.0) {y = c.replay.new.repo.0} (sym {a = c.replay.new.repo.0} c.replay.ensures.namer) k.1) }
 
 pub returns-in-Err-clause-replayed : goal.returns-in-Err-clause-replayed
 returns-in-Err-clause-replayed g c =
@@ -81,5 +83,14 @@ returns-in_err-commands-clause-explained g c =
 pub returns-in-Err-clause-explained : goal.returns-in-Err-clause-explained
 returns-in-Err-clause-explained g c =
     let k = c.in_ok-commands.ensures.replayed in
-    told_last c.args.features (g.N.Namer.name_of c.args.repo.now.0) c.args.repo.now.1 (g.R.Source.coming c.args.source) c.in_ok-commands.commands k.0 (g.W.Sink.taken c.args.sink.now) (g.W.Sink.taken c.replay.new.sink) k.3 c.in-Err.kind c.replay.new.told c.in_ok-commands.ensures.explained
+    let stands = subst (λ n. Stands (g.N.Namer.name_of n) c.replay.new.repo.1 c.replay.new.tables k.0) {y = c.replay.new.repo.0} (sym {a = c.replay.new.repo.0} c.replay.ensures.namer) k.1 in
+    let told : Explanation g.row.A.Denot = record { change = c.replay.new.told.change; path = c.replay.new.told.path; loss = c.publish.new.loss } in
+    let loss = subst (λ n. TellsLoss (g.N.Namer.name_of n) k.0 c.in-Err.kind c.publish.new.loss) {y = c.args.repo.now.0} c.replay.ensures.namer (c.in-Err.ensures.loss k.0 stands) in
+    told_last c.args.features (g.N.Namer.name_of c.args.repo.now.0) c.args.repo.now.1 (g.R.Source.coming c.args.source) c.in_ok-commands.commands k.0 (g.W.Sink.taken c.args.sink.now) (g.W.Sink.taken c.replay.new.sink) k.3 c.in-Err.kind told (c.in_ok-commands.ensures.explained.change, loss)
     c.replay.new.checkpoints.count
+
+pub returns-clause-explained : goal.returns-clause-explained
+returns-clause-explained g c =
+    let k = c.in_ok-commands.ensures.replayed in
+    let stands = subst (λ n. Stands (g.N.Namer.name_of n) c.replay.new.repo.1 c.replay.new.tables k.0) {y = c.replay.new.repo.0} (sym {a = c.replay.new.repo.0} c.replay.ensures.namer) k.1 in
+    record { change = c.in_ok-commands.ensures.explained.change; loss = c.in_default.ensures.loss k.0 stands }

@@ -1,4 +1,4 @@
-use Rattle.std.proofs.Common.{◌≡◌, ◌++◌, map}
+use Rattle.std.proofs.Common.{◌≡◌, ◌++◌, map, None}
 use Rattle.std.specs.List.{filter}
 use Rattle.gx_model.specs.Replay.{State}
 use Rattle.gx_repo.specs.Refs.{shown_update}
@@ -15,3 +15,4 @@ invariant-loop-name g l =
     ≡ map shown_update l.fn.changes.items ++ filter (is_moved l.repo.1.refs) (branch_changes (rows_of l.tables.branches)))
     × ((s : State) → Stands (g.N.Namer.name_of l.repo.0) l.repo.1 l.tables s → AreLeft (g.N.Namer.name_of l.repo.0) s (map row_of l.name-iterator))
     × HoldsParents l.repo.1 l.parents
+    × (l.loss ≡ None)

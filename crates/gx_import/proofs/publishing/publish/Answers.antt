@@ -1,12 +1,16 @@
-use Rattle.std.proofs.Common.{◌≡◌, IfSome, is_some, map, refl, sym, ap, subst, ◌∙◌}
+use Rattle.std.specs.Prelude.{MatchOption}
+use Rattle.std.proofs.Common.{◌≡◌, true, false, IfSome, is_some, map, refl, sym, ap, subst, ◌∙◌}
 use Rattle.std.proofs.lemmas.Result.{err_from_is_err_and}
 use Rattle.std.specs.List.{filter}
 use Rattle.gx_model.specs.Records.Publishing.{changes_fault, with_changes}
 use Rattle.gx_repo.specs.Refs.{shown_update}
+use Rattle.gx_model.specs.declared.faults.Fault.TheVariants.{OutOfMemory}
 use Rattle.gx_import.specs.Keeping.{AreNames}
+use Rattle.gx_import.specs.Losing.{LosesCommit}
 use Rattle.gx_import.specs.RefChanges.{branch_changes, is_due, is_moved, moved_of, tag_changes}
 use Rattle.gx_import.specs.Rows.{rows_of}
 use Rattle.gx_import.proofs.KeptCheckpoints.{when_refused}
+use Rattle.gx_import.proofs.Losses.{forward_so_none, lost_so, memory_forward, none_lost}
 use Rattle.gx_import.proofs.MovedChanges.{fewer_behind, fewer_free, moved_set}
 use Rattle.gx_import.proofs.PublishedNames.{all_entered}
 use Rattle.gx_import.proofs.SetRefs.{changes_free, final_set}
@@ -66,3 +70,36 @@ pub returns-in_err-enter_names-clause-published : goal.returns-in_err-enter_name
 returns-in_err-enter_names-clause-published g c = λ s h.
     let p = err_from_is_err_and c.from_residual-in_err-enter_names.result c.from_residual-in_err-enter_names.ensures.1 in
     rw (p.1, p.2) refl
+
+-- ---- what is told
+
+pub returns-in_default-clause-loss : goal.returns-in_default-clause-loss
+returns-in_default-clause-loss g c = λ s h.
+    let name = g.N.Namer.name_of c.args.repo.now.0 in
+    let who = subst (λ o. MatchOption c.changes.new.loss (is_some o ≡ true) (λ loss. (is_some o ≡ false) × LosesCommit name s loss)) c.in_default.is (c.in_ok-changes.ensures.loss s h) in
+    lost_so name s c.changes.new.loss who
+
+pub returns-clause-loss : goal.returns-clause-loss
+returns-clause-loss g c = λ s h.
+    let name = g.N.Namer.name_of c.args.repo.now.0 in
+    let who = subst (λ o. MatchOption c.changes.new.loss (is_some o ≡ true) (λ loss. (is_some o ≡ false) × LosesCommit name s loss)) c.in-Some.is (c.in_ok-changes.ensures.loss s h) in
+    forward_so_none name s c.changes.new.loss who
+
+pub returns-in_err-changes-clause-loss : goal.returns-in_err-changes-clause-loss
+returns-in_err-changes-clause-loss g c = λ s h.
+    let p = err_from_is_err_and c.from_residual.result c.from_residual.ensures.1 in
+    rw (p.1, p.2) (none_lost (g.N.Namer.name_of c.args.repo.now.0) s OutOfMemory c.changes.new.loss (c.in_err-changes.ensures.loss s h) memory_forward)
+
+pub returns-in_err-enter_names-clause-loss : goal.returns-in_err-enter_names-clause-loss
+returns-in_err-enter_names-clause-loss g c = λ s h.
+    let name = g.N.Namer.name_of c.args.repo.now.0 in
+    let p = err_from_is_err_and c.from_residual-in_err-enter_names.result c.from_residual-in_err-enter_names.ensures.1 in
+    let who = subst (λ o. MatchOption c.changes.new.loss (is_some o ≡ true) (λ loss. (is_some o ≡ false) × LosesCommit name s loss)) c.in-Some.is (c.in_ok-changes.ensures.loss s h) in
+    rw (p.1, p.2) (none_lost name s OutOfMemory c.changes.new.loss (forward_so_none name s c.changes.new.loss who) memory_forward)
+
+pub returns-in_err-publish_all-clause-loss : goal.returns-in_err-publish_all-clause-loss
+returns-in_err-publish_all-clause-loss g c = λ s h.
+    let name = g.N.Namer.name_of c.args.repo.now.0 in
+    let p = err_from_is_err_and c.from_residual-in_err-publish_all.result c.from_residual-in_err-publish_all.ensures.1 in
+    let who = subst (λ o. MatchOption c.changes.new.loss (is_some o ≡ true) (λ loss. (is_some o ≡ false) × LosesCommit name s loss)) c.in-Some.is (c.in_ok-changes.ensures.loss s h) in
+    rw (p.1, p.2, c.in_err-publish_all.ensures.fault) (none_lost name s OutOfMemory c.changes.new.loss (forward_so_none name s c.changes.new.loss who) memory_forward)

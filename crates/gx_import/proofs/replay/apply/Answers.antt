@@ -1,4 +1,4 @@
-use Rattle.std.proofs.Common.{◌≡◌, Result, Ok, ap, inl, inr, sym, subst}
+use Rattle.std.proofs.Common.{◌≡◌, Result, Ok, ap, inl, inr, sym, subst, ◌∙◌}
 use Rattle.gx_model.specs.declared.faults.Fault.{Fault}
 use Rattle.gx_command.specs.declared.commands.Command.{Command}
 use Rattle.gx_model.specs.Replay.{State, step}
@@ -7,7 +7,9 @@ use Rattle.gx_import.specs.Additions.{values_added}
 use Rattle.gx_import.proofs.AppliedCommands.{added_as, clash_here, given_as, progress_as, unchanged}
 use Rattle.std.proofs.Common.{refl}
 use Rattle.gx_model.specs.Streams.Commands.{Asks, Checkpoint, Progress}
+use Rattle.gx_import.proofs.Losses.{all_told, checkpoint_told}
 use Rattle.gx_import.proofs.ToldCommits.{nothing_told}
+use Rattle.gx_import.specs.declared.explanation.Explanation.{Explanation}
 use Rattle.gx_import.specs.Rows.{rows_of}
 use Rattle.gx_import.proofs.KeptCheckpoints.{all_still, checkpoint_as, kept_anew, kept_here, kept_on, moved, same_records, when_ok}
 use Rattle.gx_import.proofs.ProgressTexts.{IsOther}
@@ -203,23 +205,48 @@ returns-in-Feature-clause-homes g c =
 
 -- ---- what is told
 
+pub apply_commit-requires : goal.apply_commit-requires
+apply_commit-requires g c = record { blank = c.requires.blank.change; stands = c.requires.stands; homes = c.requires.homes }
+
+pub apply_checkpoint-requires : goal.apply_checkpoint-requires
+apply_checkpoint-requires g c = record { stands = c.requires.stands; room = c.requires.room; sorted = c.requires.sorted; has_all = c.requires.has_all; blank = c.requires.blank.loss }
+
 pub returns-in-Commit-clause-told : goal.returns-in-Commit-clause-told
-returns-in-Commit-clause-told g c = λ s h. rw c.in-Commit.is (c.apply_commit.ensures.told s h)
+returns-in-Commit-clause-told g c = λ s h.
+    let name = g.N.Namer.name_of c.args.repo.now.0 in
+    rw c.in-Commit.is (all_told name s (shown_commit c.in-Commit.commit) (λ is. absurd (cc is)) c.apply_commit.new.told c.apply_commit.result (c.apply_commit.ensures.told s h) (c.apply_commit.ensures.loss ∙ c.requires.blank.loss))
 
 pub returns-in-Blob-clause-told : goal.returns-in-Blob-clause-told
-returns-in-Blob-clause-told g c = λ s h. rw c.in-Blob.is (nothing_told (g.N.Namer.name_of c.args.repo.now.0) s (shown_blob c.in-Blob.blob) (λ e number path none. none) c.args.told.now c.requires.blank c.apply_blob.result)
+returns-in-Blob-clause-told g c = λ s h.
+    let name = g.N.Namer.name_of c.args.repo.now.0 in
+    let none = nothing_told name s (shown_blob c.in-Blob.blob) (λ e number path none. none) c.args.told.now c.requires.blank.change c.apply_blob.result in
+    rw c.in-Blob.is (all_told name s (shown_blob c.in-Blob.blob) (λ is. absurd (cc is)) c.args.told.now c.apply_blob.result none c.requires.blank.loss)
 
 pub returns-in-Tag-clause-told : goal.returns-in-Tag-clause-told
-returns-in-Tag-clause-told g c = λ s h. rw c.in-Tag.is (nothing_told (g.N.Namer.name_of c.args.repo.now.0) s (shown_tag c.in-Tag.tag) (λ e number path none. none) c.args.told.now c.requires.blank c.apply_tag.result)
+returns-in-Tag-clause-told g c = λ s h.
+    let name = g.N.Namer.name_of c.args.repo.now.0 in
+    let none = nothing_told name s (shown_tag c.in-Tag.tag) (λ e number path none. none) c.args.told.now c.requires.blank.change c.apply_tag.result in
+    rw c.in-Tag.is (all_told name s (shown_tag c.in-Tag.tag) (λ is. absurd (cc is)) c.args.told.now c.apply_tag.result none c.requires.blank.loss)
 
 pub returns-in-Reset-clause-told : goal.returns-in-Reset-clause-told
-returns-in-Reset-clause-told g c = λ s h. rw c.in-Reset.is (nothing_told (g.N.Namer.name_of c.args.repo.now.0) s (shown_reset c.in-Reset.reset) (λ e number path none. none) c.args.told.now c.requires.blank c.apply_reset.result)
+returns-in-Reset-clause-told g c = λ s h.
+    let name = g.N.Namer.name_of c.args.repo.now.0 in
+    let none = nothing_told name s (shown_reset c.in-Reset.reset) (λ e number path none. none) c.args.told.now c.requires.blank.change c.apply_reset.result in
+    rw c.in-Reset.is (all_told name s (shown_reset c.in-Reset.reset) (λ is. absurd (cc is)) c.args.told.now c.apply_reset.result none c.requires.blank.loss)
 
 pub returns-in-Progress-clause-told : goal.returns-in-Progress-clause-told
-returns-in-Progress-clause-told g c = λ s h. rw c.in-Progress.is (nothing_told (g.N.Namer.name_of c.args.repo.now.0) s (Progress c.in-Progress.text.items) (λ e number path none. none) c.args.told.now c.requires.blank c.apply_progress.result)
+returns-in-Progress-clause-told g c = λ s h.
+    let name = g.N.Namer.name_of c.args.repo.now.0 in
+    let none = nothing_told name s (Progress c.in-Progress.text.items) (λ e number path none. none) c.args.told.now c.requires.blank.change c.apply_progress.result in
+    rw c.in-Progress.is (all_told name s (Progress c.in-Progress.text.items) (λ is. absurd (cc is)) c.args.told.now c.apply_progress.result none c.requires.blank.loss)
 
 pub returns-in-Feature-clause-told : goal.returns-in-Feature-clause-told
 returns-in-Feature-clause-told g c = λ s h. c.requires.blank
 
+pub returns-clause-told : goal.returns-clause-told
+returns-clause-told g c = λ s h. c.requires.blank
+
 pub returns-in-Checkpoint-clause-told : goal.returns-in-Checkpoint-clause-told
-returns-in-Checkpoint-clause-told g c = λ s h. rw c.in-Checkpoint.is (nothing_told (g.N.Namer.name_of c.args.repo.now.0) s Checkpoint (λ e number path none. none) c.args.told.now c.requires.blank c.apply_checkpoint.result)
+returns-in-Checkpoint-clause-told g c = λ s h.
+    let told : Explanation g.row.A.Denot = record { change = c.args.told.now.change; path = c.args.told.now.path; loss = c.apply_checkpoint.new.loss } in
+    rw c.in-Checkpoint.is (checkpoint_told (g.N.Namer.name_of c.args.repo.now.0) s told c.requires.blank.change c.apply_checkpoint.result (c.apply_checkpoint.ensures.loss s h))

@@ -18,3 +18,11 @@ pub returns-in_err-publish-clause-published : goal.returns-in_err-publish-clause
 returns-in_err-publish-clause-published g c =
     let p = err_from_is_err_and c.from_residual.result c.from_residual.ensures.1 in
     rw (p.1, p.2) c.in_err-publish.ensures.published
+
+pub returns-clause-loss : goal.returns-clause-loss
+returns-clause-loss g c = c.in_ok-publish.ensures.loss
+
+pub returns-in_err-publish-clause-loss : goal.returns-in_err-publish-clause-loss
+returns-in_err-publish-clause-loss g c =
+    let p = err_from_is_err_and c.from_residual.result c.from_residual.ensures.1 in
+    rw (p.1, p.2) c.in_err-publish.ensures.loss

@@ -8,8 +8,9 @@ use Rattle.gx_model.specs.Histories.{IsHistory}
 use Rattle.gx_model.specs.Records.HistoryOf.{history_of}
 use Rattle.gx_model.specs.Replay.{State, byte_cmp}
 use Rattle.gx_model.proofs.GitlinkSteps.{IsFreeState}
-use Rattle.std.specs.Prelude.{IsTrue, None, Option}
+use Rattle.std.specs.Prelude.{IsTrue, Option}
 use Rattle.std.specs.FinMap.Entries.{is_sorted}
+use Rattle.gx_import.specs.Explaining.{TellsNothing}
 use Rattle.gx_import.specs.Keeping.{HoldsAll, IsLeft, Keeps}
 use Rattle.gx_import.specs.Rows.{rows_of}
 use Rattle.gx_import.specs.Standing.{AreTipsAtHome, Extends, Stands}
@@ -19,7 +20,7 @@ use Rattle.gx_import.proofs.replay.replay_commands.Given as goal
 abbrev pub invariant-loop-command : goal.invariant-loop-command
 invariant-loop-command g l = record {
   namer : l.repo.0 ≡ l.fn.repo.0;
-  blank : l.told.change ≡ None;
+  blank : TellsNothing l.told;
   extends : Extends l.fn.repo.1.records l.repo.1.records;
   homes : AreTipsAtHome (g.N.Namer.name_of l.repo.0) l.repo.1.records l.tables;
   room : l.commands + l.reader.most ≤ 2 ^ 63 - 1;

@@ -15,7 +15,8 @@ object have to be the same everywhere, commits in their order, and the same text
 A history made at random deletes and moves refs, too. After each step the whole store goes out, and
 what is new goes out by range words into a repository of git and a store that hold the steps before.
 So do some refs alone. --seed N gives the seed of the first history, which is printed; the others
-count on from it.
+count on from it. Before the first, a ref is given a commit's digits for its name, and that commit
+stays out: it must not be taken for the ref.
 
 GX: the program, crates/gx/out/gx if it isn't set. It needs git. The status is 1 where something differs.
 """
@@ -97,6 +98,13 @@ class Check:
         """The name that a mark has, or that is written as digits."""
         return self.marks.get(given, given)
 
+    def commit_name(self, given):
+        """The name of a commit that a mark has, or that is written as digits and `^0`, as no ref can be."""
+        if given in self.marks:
+            return self.marks[given]
+        self.same(given[40:], b"^0", "what stands behind a commit's digits")
+        return given[:40]
+
     def read(self, command):
         if command.word == b"blob":
             self.fresh.append(self.marks[command.mark])
@@ -105,7 +113,7 @@ class Check:
         elif command.start is None:
             self.reset = command.ref
         else:
-            self.tail.append((command.ref, self.name(command.start)))
+            self.tail.append((command.ref, self.commit_name(command.start)))
 
     def read_commit(self, command):
         commit = self.marks[command.mark]
@@ -114,7 +122,7 @@ class Check:
         self.same(self.tail, [], "refs set before it")
         self.same(command.ref, self.branches[commit], "its ref")
         self.same(self.reset, None if parents else command.ref, "the reset before it")
-        named = [parent if parent.startswith(b":") else self.name(parent) for parent in command.parents]
+        named = [parent if parent.startswith(b":") else self.commit_name(parent) for parent in command.parents]
         wanted = [self.given.get(parent, parent) for parent in parents]
         self.same(named, wanted, "its parents, by mark where they were sent")
         changes = [(mode, self.name(given), path) for mode, given, path in command.changes]
@@ -191,6 +199,45 @@ def try_stream(name, stream, folder):
     same(store.refs(), origin.refs(), f"{name}: refs before")
     count = whole(origin, store, folder, name)
     print(f"{name}: {count} commits, the same", flush=True)
+
+
+# ---- a ref with the name of a commit that stays out
+
+BASE = b"""commit refs/heads/main
+committer A <a@x> 1 +0000
+data 1
+p
+"""
+SINCE = b"""commit refs/heads/next
+committer A <a@x> 2 +0000
+data 1
+q
+from refs/heads/main^0
+reset %s
+from refs/heads/next
+reset refs/last
+from refs/heads/next
+"""
+
+
+def try_digits(folder):
+    """A ref that is named by the digits of a commit that stays out isn't read in its place, by git nor by gx."""
+    store = Store(folder / "digits.gx")
+    store.take(BASE)
+    store.take(SINCE % store.refs()[:40])
+    for gone in ([], [b"refs/heads/next"]):
+        store.drop(gone)
+        what = f"a ref named by digits, without {gone}"
+        copy, again = Repository(folder / "digits.git"), Store(folder / "copy.gx")
+        for place in (copy, again):
+            place.take(BASE)
+            place.take(store.changes("--", b"refs/last", b"^refs/heads/main"), "--done")
+        same(again.refs(), store.refs(), f"{what}: refs of the store")
+        wanted = [line for line in store.refs().splitlines() if b" refs/" in line]
+        same(copy.refs().splitlines(), wanted, f"{what}: refs of git")
+        copy.drop_file()
+        again.drop_file()
+    store.drop_file()
 
 
 # ---- histories made at random
@@ -304,6 +351,7 @@ def main():
             count = given.random if given.ranges is None else given.ranges
             if count is not None:
                 print(f"seed {given.seed}", flush=True)
+                try_digits(folder)
                 try_random(count, given.steps, given.seed, folder, given.ranges is None)
             elif not given.streams:
                 try_stream("this repository", print_of(["git", "-C", TOP, "fast-export", "--all"]), folder)

@@ -161,7 +161,7 @@ pub(crate) fn write_parent<W: Sink>(
         }
         CommitIsh::Named(name) => {
             let digits = name.hex();
-            write_all(sink, sent, &[word, b" ", digits.as_slice(), b"\n"])
+            write_all(sink, sent, &[word, b" ", digits.as_slice(), b"^0\n"])
         }
     }
 }

@@ -53,7 +53,8 @@ pub fn export_changes<N: Namer, A: Allocator + Copy, W: Sink>(
 /// Writes the commits that range words list as a stream, each by what differs from its first parent, and then the refs
 /// whose commits some word includes or excludes. A commit goes out on the first branch among these refs that reaches it,
 /// else on the first of them that does, else on `refs/gx/export`, which is then reset to nothing behind the commits. A
-/// commit that isn't sent is named by its digits. So a repository that holds what the words exclude receives the rest.
+/// commit that isn't sent is named by its digits and `^0`, as no ref can be. So a repository that holds what the words
+/// exclude receives the rest.
 ///
 /// RangeFault: Walk where a word is refused, as by `walk`, and nothing went to the sink; Export where the export stops, as
 /// `export_changes` does.

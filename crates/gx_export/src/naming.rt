@@ -1,4 +1,4 @@
-//! How commits are named in a stream: by their marks, or by their digits where they have none in it.
+//! How commits are named in a stream: by their marks, or where they have none in it by their digits and `^0`.
 
 ghost use Rattle.std.specs.Prelude.{◌≡◌, length};
 ghost use Rattle.gx_model.specs.declared.objects.Kind.TheVariants as kinds;
@@ -18,7 +18,7 @@ pub(crate) enum CommitIsh {
     Named(Name),
 }
 
-/// What names a held commit: its mark where it was written, else its digits.
+/// What names a held commit: its mark where it was written, else its name.
 pub(crate) fn commit_ish<N: Namer, A: Allocator + Copy>(
     repo: &Repo<N, A>,
     written: &Written<A>,

@@ -22,11 +22,11 @@ const SINCE: &[u8] =
 /// The two commits, the branch that holds the last of them, and the tag that holds the commit before them. The other branch
 /// holds neither.
 const SENT: &[u8] =
-    b"feature done\nblob\nmark :1\ndata 1\nx\ncommit refs/heads/main\nmark :2\nauthor A <a@x> 2 +0000\ncommitter A <a@x> 2 +0000\ndata 1\nq\nfrom b0070342e395cca3ad13f0aa9a5e3fb1587c605a\nM 100644 :1 g\n\ncommit refs/heads/main\nmark :3\nauthor A <a@x> 3 +0000\ncommitter A <a@x> 3 +0000\ndata 1\nr\nfrom :2\nD f\n\nreset refs/heads/main\nfrom :3\n\ntag v1\nfrom b0070342e395cca3ad13f0aa9a5e3fb1587c605a\ntagger A <a@x> 1 +0000\ndata 1\nt\ndone\n";
+    b"feature done\nblob\nmark :1\ndata 1\nx\ncommit refs/heads/main\nmark :2\nauthor A <a@x> 2 +0000\ncommitter A <a@x> 2 +0000\ndata 1\nq\nfrom b0070342e395cca3ad13f0aa9a5e3fb1587c605a^0\nM 100644 :1 g\n\ncommit refs/heads/main\nmark :3\nauthor A <a@x> 3 +0000\ncommitter A <a@x> 3 +0000\ndata 1\nr\nfrom :2\nD f\n\nreset refs/heads/main\nfrom :3\n\ntag v1\nfrom b0070342e395cca3ad13f0aa9a5e3fb1587c605a^0\ntagger A <a@x> 1 +0000\ndata 1\nt\ndone\n";
 
 /// The first of the two commits, which no ref in range holds.
 const SENT_FIRST: &[u8] =
-    b"blob\nmark :1\ndata 1\nx\ncommit refs/gx/export\nmark :2\nauthor A <a@x> 2 +0000\ncommitter A <a@x> 2 +0000\ndata 1\nq\nfrom b0070342e395cca3ad13f0aa9a5e3fb1587c605a\nM 100644 :1 g\n\nreset refs/gx/export\ntag v1\nfrom b0070342e395cca3ad13f0aa9a5e3fb1587c605a\ntagger A <a@x> 1 +0000\ndata 1\nt\n";
+    b"blob\nmark :1\ndata 1\nx\ncommit refs/gx/export\nmark :2\nauthor A <a@x> 2 +0000\ncommitter A <a@x> 2 +0000\ndata 1\nq\nfrom b0070342e395cca3ad13f0aa9a5e3fb1587c605a^0\nM 100644 :1 g\n\nreset refs/gx/export\ntag v1\nfrom b0070342e395cca3ad13f0aa9a5e3fb1587c605a^0\ntagger A <a@x> 1 +0000\ndata 1\nt\n";
 
 /// The text of what a word gives, or why there is none; an empty one where there is no memory.
 fn sent(

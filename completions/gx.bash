@@ -94,8 +94,8 @@ __gx_options() {
     archive) __gx_answer '' "$1" --prefix --help ;;
     batch) __gx_answer '' "$1" --check --help ;;
     adapt) __gx_answer '' "$1" --drop-signatures --help ;;
-    import) __gx_answer '' "$1" --done --force --report --help ;;
-    try) __gx_answer '' "$1" --done --force --help ;;
+    import) __gx_answer '' "$1" --done --force --report --explain --help ;;
+    try) __gx_answer '' "$1" --done --force --explain --help ;;
     gc) __gx_answer '' "$1" --report --help ;;
     export) __gx_answer '' "$1" --changes --no-done --help ;;
     log) __gx_answer '' "$1" --reverse --max-count --parents --help ;;

@@ -137,7 +137,6 @@ def differences():
     sources, flags = named_by_sources()
     yield "commands: the manual, the sources of the help", names, set(sources)
     top = of_all_commands()
-    flags -= {f"--{name}" for name in top}
     yield "options: the manual, the sources of the help", set().union(*options.values()), flags
     for what, text in (
         ("the sources of the help", COMMANDS + PAGES),

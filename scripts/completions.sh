@@ -65,15 +65,16 @@ line 'gx x'
 line 'gx help l' ls log
 line 'gx blobs '
 line 'gx try '
-line 'gx try -' --done --force --help
+line 'gx try -' --done --force --explain --help
 line 'gx import --f' --force
+line 'gx import --e' --explain
 line 'gx a' adapt archive
 line 'gx adapt '
 line 'gx adapt -' --drop-signatures --help
 line 'gx w' where
 line 'gx where '
 line 'gx where -' --help
-line 'gx import -' --done --force --report --help
+line 'gx import -' --done --force --report --explain --help
 line 'gx import --done st' store
 line 'gx import store < st'
 line 'gx export store > st'

@@ -124,7 +124,10 @@ def try_refused_import():
     fresh()
     pieces = PIECES[:5] + [(b"foo\n", (5, 4))]
     status, seen, printed = run(["import", "store"], pieces)
-    want("a refused import has its line alone", status == 1 and LINE.sub(b"", seen) == CLEAR + b"gx: command 5: UnknownCommand\r\n", seen)
+    before = b"".join(piece for piece, _ in PIECES[:5])
+    place = b"gx: line %d, byte %d: foo\r\n" % (1 + before.count(b"\n"), len(before))
+    told = CLEAR + b"gx: command 5: UnknownCommand\r\n" + place
+    want("a refused import tells its fault, and where that stands", status == 1 and LINE.sub(b"", seen) == told, seen)
     want("a refused import leaves the store", stored() == EMPTY and printed == b"progress a\n", printed)
 
 
@@ -172,6 +175,24 @@ def try_try():
     want("a try tells nothing in a file", plain[:2] == (0, b""), plain)
     want("a try prints the same", status == 0 and printed == plain[2], printed)
     want("a try shows the line, which goes", are_of_pieces(counts(seen)) and LINE.sub(b"", seen) == CLEAR, seen)
+
+
+def try_gc():
+    fresh()
+    run_plain(["import", "store"], STREAM)
+    size = run_plain(["batch", "--check", "store"], b"t\n")[2].split()[2]
+    run_plain(["drop", "store", "refs/tags/t"], b"")
+    text = stored()
+    plain = run_plain(["gc", "store"], b"")
+    left = stored()
+    want("a gc tells nothing in a file", plain == (0, b"", b"") and len(left) < len(text), plain)
+    told = b"gx: pruned objects: 1, bytes: " + size
+    fresh(text)
+    plain = run_plain(["gc", "--report", "store"], b"")
+    want("a gc tells what went in a file that asks for it", plain == (0, told + b"\n", b"") and stored() == left, plain)
+    fresh(text)
+    shown = run(["gc", "store"], [])
+    want("a gc at a terminal tells what went", shown == (0, told + b"\r\n", b"") and stored() == left, shown)
 
 
 def try_adapt():
@@ -282,7 +303,7 @@ def try_closed_pipe():
 def main():
     with tempfile.TemporaryDirectory() as folder:
         os.chdir(folder)
-        for trial in (try_import, try_refused_import, try_one_terminal, try_short_import, try_typed_import, try_try, try_adapt, try_batch, try_export, try_causes, try_waiting, try_closed_pipe):
+        for trial in (try_import, try_refused_import, try_one_terminal, try_short_import, try_typed_import, try_try, try_gc, try_adapt, try_batch, try_export, try_causes, try_waiting, try_closed_pipe):
             trial()
         os.chdir("/")
     failed = results.count(False)

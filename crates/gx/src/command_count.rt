@@ -86,10 +86,23 @@ impl CommandCount {
             if rest.is_empty() {
                 return;
             }
-            rest = match self.place {
-                Place::Counted(left) => self.skip(left, rest),
-                Place::Line | Place::Delimited(_) => self.read(rest),
-            };
+            rest = self.step(rest);
+        }
+    }
+
+    /// Goes on to the end of a line or of a block, as far as it came, and answers what is behind.
+    pub(crate) fn step<'a>(&mut self, bytes: &'a [u8]) -> &'a [u8] {
+        match self.place {
+            Place::Counted(left) => self.skip(left, bytes),
+            Place::Line | Place::Delimited(_) => self.read(bytes),
+        }
+    }
+
+    /// Whether the next byte stands in a block, or right behind one of no bytes.
+    pub(crate) fn is_in_block(&self) -> bool {
+        match self.place {
+            Place::Line => false,
+            Place::Counted(_) | Place::Delimited(_) => true,
         }
     }
 

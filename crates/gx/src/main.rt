@@ -5,6 +5,7 @@ mod claiming;
 mod collecting;
 mod command_count;
 mod devices;
+mod explaining;
 mod fault;
 mod files;
 mod importing;
@@ -16,6 +17,9 @@ mod reports;
 mod rights;
 mod run;
 mod system;
+mod traced;
+mod trail;
+mod trying;
 mod version;
 mod words;
 
@@ -29,13 +33,13 @@ use gx_text::{FromRead, IntoWrite};
 use importing::import;
 use next_text::NextText;
 use printing::{adapt, batch, export, print};
-use progress::{Beside, Metered, ProgressLine};
 use run::Run;
 use std::alloc::Global;
 use std::fs::File;
 use std::hash::RandomState;
 use std::process::ExitCode;
 use std::{env, io};
+use trying::try_stream;
 use words::run_arguments;
 
 fn main(rt: HostRuntime) -> ExitCode {
@@ -103,21 +107,31 @@ fn run_command(run: &Run<'_>, line: &Line<'_>, state: RandomState) -> Result<(),
             done,
             force,
             report,
+            explain,
         } => {
             let features = Features {
                 done: *done,
                 force: *force,
             };
+            run.explain_if(*explain);
             return import(run, file, features, *report, state);
         }
         Line::Drop { file, refs: _ } => return drop_refs(run, line, file, state),
         Line::Gc { file, report } => return collect(run, file, *report, state),
         Line::Blobs | Line::Where(_) => refusal(&stream(run, line, state)),
         Line::Try {
-            revision: _,
-            done: _,
-            force: _,
-        } => refusal(&try_stream(run, line, state)),
+            revision,
+            done,
+            force,
+            explain,
+        } => {
+            let features = Features {
+                done: *done,
+                force: *force,
+            };
+            run.explain_if(*explain);
+            try_stream(run, revision, features, state)
+        }
         Line::Adapt { drop_signatures } => adapt(run, *drop_signatures),
         Line::Batch { check: _, file } => batch(run, line, file, state),
         Line::Export { form: _, file }
@@ -245,22 +259,4 @@ fn stream(run: &Run<'_>, line: &Line<'_>, state: RandomState) -> Outcome<Global>
         &mut sink,
         state,
     )
-}
-
-/// The same of a try, and shows how far its import is.
-fn try_stream(run: &Run<'_>, line: &Line<'_>, state: RandomState) -> Outcome<Global> {
-    let progress = ProgressLine::new(run);
-    let source = FromRead::new(Metered::input(&progress));
-    let mut sink = IntoWrite::new(Beside::new(&progress));
-    let outcome = serve(
-        run.rt.alloc(),
-        Sha1Namer,
-        line,
-        b"",
-        source,
-        &mut sink,
-        state,
-    );
-    progress.clear();
-    outcome
 }

@@ -2,7 +2,7 @@
 
 use crate::fault::RunFault;
 use std::cell::Cell;
-use std::io::{self, ErrorKind, IsTerminal};
+use std::io::{self, ErrorKind, IsTerminal, Write};
 
 /// What a call of the system was about.
 #[derive(Clone, Copy, PartialEq, Eq)]
@@ -25,7 +25,8 @@ struct Cause {
 #[derive(Drop)]
 pub(crate) struct Run<'a> {
     pub(crate) rt: &'a HostRuntime,
-    explains: bool,
+    explains: Cell<bool>,
+    explanation: Cell<Option<Vec<u8>>>,
     cause: Cell<Option<Cause>>,
     has_told_wait: Cell<bool>,
 }
@@ -36,7 +37,8 @@ impl<'a> Run<'a> {
     pub(crate) fn new(rt: &'a HostRuntime, explains: bool) -> Run<'a> {
         Run {
             rt,
-            explains: explains || rt.stderr().is_terminal(),
+            explains: Cell::new(explains || rt.stderr().is_terminal()),
+            explanation: Cell::new(None),
             cause: Cell::new(None),
             has_told_wait: Cell::new(false),
         }
@@ -45,6 +47,23 @@ impl<'a> Run<'a> {
     /// Whether somebody reads standard error as it comes.
     pub(crate) fn is_watched(&self) -> bool {
         self.rt.stderr().is_terminal()
+    }
+
+    /// Whether a refusal is to be explained.
+    pub(crate) fn explains(&self) -> bool {
+        self.explains.get()
+    }
+
+    /// Asks for the explanation of a refusal, where a command's option does.
+    pub(crate) fn explain_if(&self, is_asked: bool) {
+        if is_asked {
+            self.explains.set(true);
+        }
+    }
+
+    /// Keeps the lines that explain the refusal that is to be told.
+    pub(crate) fn explain(&self, lines: Vec<u8>) {
+        self.explanation.set(Some(lines));
     }
 
     /// Keeps why a call failed, in place of what was kept before.
@@ -65,8 +84,8 @@ impl<'a> Run<'a> {
         let _ = eprintln!(self.rt; "gx: {file}: permissions of the group were left out");
     }
 
-    /// Tells why the run is refused, in a line. A second one tells the file and the system's cause of what couldn't be read, written
-    /// or locked. Whoever closed the pipe that is written into isn't told.
+    /// Tells why the run is refused, in a line. Where it is to be explained, further ones tell where the fault of a stream stands and
+    /// what it is about, and the file and the system's cause of what couldn't be read, written or locked. Whoever closed the pipe that is written into isn't told.
     pub(crate) fn tell(&self, fault: &RunFault, file: Option<&str>) {
         let cause = self.cause.get();
         let is_cut_off = has_closed_pipe(&cause);
@@ -74,8 +93,11 @@ impl<'a> Run<'a> {
             return;
         }
         let _ = eprintln!(self.rt; "{fault}");
+        if let Some(lines) = self.explanation.replace(None) {
+            let _ = self.rt.stderr().write_all(&lines);
+        }
         if let Some(cause) = &cause {
-            if self.explains && !is_cut_off {
+            if self.explains.get() && !is_cut_off {
                 self.tell_cause(cause, file.unwrap_or("-"));
             }
         }

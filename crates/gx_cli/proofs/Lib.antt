@@ -22,3 +22,4 @@ pub mod DroppedStores
 pub mod CollectedStores
 pub mod ReportedImports
 pub mod FormsAgain
+pub mod ExplainedImports

@@ -11,6 +11,6 @@ use Rattle.gx_line.specs.declared.command_line.Line.TheVariants as line
 use Rattle.gx_cli.specs.declared.serving.Outcome.{Outcome}
 
 -- an import, as it is served
-pub import_served : (name : Kind → Bytes → Bytes) {A : Type 0} (given : Line) (file : Bor Bytes) (done force report : Bool) (store : Bytes) (coming : Option Coming) (was now : Option Taken) (outcome : Outcome A × Option Report)
-    → given ≡ line.Import file done force report → ImportsInto name (features_of done force) store coming was now outcome → Serves name given store coming was now outcome.0
-import_served name given file done force report store coming was now outcome is h = subst (λ l. Serves name l store coming was now outcome.0) (sym is) (outcome.1, h)
+pub import_served : (name : Kind → Bytes → Bytes) {A : Type 0} (given : Line) (file : Bor Bytes) (done force report explain : Bool) (store : Bytes) (coming : Option Coming) (was now : Option Taken) (outcome : Outcome A × Option Report)
+    → given ≡ line.Import file done force report explain → ImportsInto name (features_of done force) store coming was now outcome → Serves name given store coming was now outcome.0
+import_served name given file done force report explain store coming was now outcome is h = subst (λ l. Serves name l store coming was now outcome.0) (sym is) (outcome.1, h)

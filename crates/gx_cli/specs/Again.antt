@@ -79,5 +79,5 @@ module _ (name : Kind → Bytes → Bytes) {A : Type 0} where
 
   -- the same of the command
   abbrev pub ServesExported : Line → Bytes → Option Coming → Outcome A → Type 0
-  ServesExported (line.Import file done force report) store coming o = IntoAgain (features_of done force) store coming o
+  ServesExported (line.Import file done force report explain) store coming o = IntoAgain (features_of done force) store coming o
   ServesExported line store coming o = ⊤

@@ -20,3 +20,5 @@ pub mod Parts
 pub mod Collecting
 pub mod CollectedParts
 pub mod Reporting
+pub mod ExplainedLines
+pub mod Explained

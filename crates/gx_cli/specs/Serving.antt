@@ -192,13 +192,13 @@ module _ (name : Kind → Bytes → Bytes) {A : Type 0} where
   -- what a command does to the sink, and how it ends
   abbrev pub Serves : Line → Bytes → Option Coming → Option Taken → Option Taken → Outcome A → Type 0
   Serves line.Blobs store coming was now o = (answer : Result ℕ BlobsFault) × PrintsBlobs name (option_map items_from coming) was now answer × IsOutcome (blobs_answer answer) o
-  Serves (line.Try word done force) store coming was now o =
+  Serves (line.Try word done force explain) store coming was now o =
       (answer : Result (Unit {0}) CliFault) × Tries name (features_of done force) coming word.now was now answer × IsOutcome answer o
   Serves (line.Adapt drops) store coming was now o = (answer : Result AdaptReport CliFault) × AdaptsStream drops coming was now answer × IsOutcome answer o
   Serves (line.Where command) store coming was now o = (answer : Result (Unit {0}) CliFault) × PlacesFrom command coming was now answer × IsOutcome answer o
   Serves (line.Batch check file) store coming was now o = AnswersLines check store coming was now o
   Serves (line.Init file) store coming was now o = IsWritten name nothing o × (now ≡ was)
-  Serves (line.Import file done force report) store coming was now o = (told : Option Report) × ImportsInto (features_of done force) store coming was now (o, told)
+  Serves (line.Import file done force report explain) store coming was now o = (told : Option Report) × ImportsInto (features_of done force) store coming was now (o, told)
   Serves (line.Drop file words) store coming was now o = DropsRefs (store_of name store) (texts_of words.items) o × (now ≡ was)
   Serves (line.Gc file report) store coming was now o = CollectsInto (store_of name store) o × (now ≡ was)
   Serves (line.Export form file) store coming was now o = ExportsStore name form store was now o

@@ -1,11 +1,12 @@
 //! An import that tells which refs it changed. Source: git-fast-import(1), and githooks(5), "post-receive".
 
+ghost use Rattle.gx_cli.specs.Explained.{ExplainsOpened, ExplainsStore, KeepsTold};
 ghost use Rattle.gx_cli.specs.Reporting.{Reports, ReportsOpened, ReportsStore};
 
 use crate::CliFault;
 use crate::opening::{StoreBytes, open};
 use crate::storing::import_opened;
-use gx_import::Report;
+use gx_import::{Explanation, Report};
 use gx_model::Features;
 use gx_object::Namer;
 use gx_repo::{RefList, Repo, report_changes};
@@ -16,7 +17,8 @@ use std::hash::RandomState;
 /// Does what [`import_store`](crate::import_store) does. Beside the repository whose text is the store's next one, it answers
 /// the lines of `gx_repo::report_changes` for the refs that this changes.
 ///
-/// The errors are those of `import_store`. `OutOfMemory`: a growth was refused for the report; then there is no next text.
+/// The errors are those of `import_store`. `OutOfMemory`: a growth was refused for the report; then there is no next text, and
+/// nothing is told.
 /// Cost: that of `import_store`, and the refs. Memory: that of it, a copy of the refs, and the lines.
 pub fn import_store_reporting<N: Namer + Drop, R: Source + Drop, W: Sink, A: Allocator + Copy>(
     alloc: A,
@@ -26,12 +28,17 @@ pub fn import_store_reporting<N: Namer + Drop, R: Source + Drop, W: Sink, A: All
     sink: &mut W,
     features: Features,
     state: RandomState,
+    told: &mut Explanation<A>,
 ) -> (Option<(Repo<N, A>, Vec<u8, A>)>, Result<Report, CliFault>)
-    ensures { ReportsStore N.name_of namer features store.items (R.coming source) (W.taken sink.old) (W.taken sink.new) result }
+    ensures explained { ExplainsStore N.name_of namer features store.items (R.coming source) result.1 told.new }
+    ensures reported { ReportsStore N.name_of namer features store.items (R.coming source) (W.taken sink.old) (W.taken sink.new) result }
 {
     match open(alloc, namer, StoreBytes::Owned(store), state) {
-        Ok(repo) => report_opened(alloc, repo, source, sink, features),
-        Err(fault) => (None, Err(CliFault::Store(fault))),
+        Ok(repo) => report_opened(alloc, repo, source, sink, features, told),
+        Err(fault) => {
+            *told = Explanation::none();
+            (None, Err(CliFault::Store(fault)))
+        }
     }
 }
 
@@ -42,15 +49,20 @@ fn report_opened<N: Namer + Drop, R: Source + Drop, W: Sink, A: Allocator + Copy
     source: R,
     sink: &mut W,
     features: Features,
+    told: &mut Explanation<A>,
 ) -> (Option<(Repo<N, A>, Vec<u8, A>)>, Result<Report, CliFault>)
-    ensures { ReportsOpened N.name_of W.taken repo features (R.coming source) sink.old sink.new result }
+    ensures explained { ExplainsOpened N.name_of repo features (R.coming source) result.1 told.new }
+    ensures reported { ReportsOpened N.name_of W.taken repo features (R.coming source) sink.old sink.new result }
 {
     match repo.copy_refs() {
         Ok(before) => {
-            let (next, answer) = import_opened(alloc, repo, source, sink, features);
-            with_report(alloc, &before, next, answer)
+            let (next, answer) = import_opened(alloc, repo, source, sink, features, told);
+            with_report(alloc, &before, next, answer, told)
         }
-        Err(_) => (None, Err(CliFault::OutOfMemory)),
+        Err(_) => {
+            *told = Explanation::none();
+            (None, Err(CliFault::OutOfMemory))
+        }
     }
 }
 
@@ -60,14 +72,19 @@ fn with_report<N: Namer + Drop, A: Allocator + Copy>(
     before: &RefList<A>,
     next: Option<Repo<N, A>>,
     answer: Result<Report, CliFault>,
+    told: &mut Explanation<A>,
 ) -> (Option<(Repo<N, A>, Vec<u8, A>)>, Result<Report, CliFault>)
-    ensures { Reports before.now (next, answer) result }
+    ensures reported { Reports before.now (next, answer) result }
+    ensures told { KeepsTold answer told.old result.1 told.new }
 {
     let Some(repo) = next else {
         return (None, answer);
     };
     match report_changes(alloc, before.refs(), repo.refs()) {
         Ok(report) => (Some((repo, report)), answer),
-        Err(_) => (None, Err(CliFault::OutOfMemory)),
+        Err(_) => {
+            *told = Explanation::none();
+            (None, Err(CliFault::OutOfMemory))
+        }
     }
 }

@@ -16,6 +16,7 @@ use crate::opening::StoreBytes;
 use crate::placing::print_place;
 use crate::questions::{Question, print_stored};
 use crate::{CliFault, Line, blobs, try_revision};
+use gx_import::Explanation;
 use gx_model::Features;
 use gx_object::Namer;
 use gx_text::{Sink, Source};
@@ -99,10 +100,13 @@ fn serve_bytes<N: Namer + Drop, R: Source + Drop, W: Sink, A: Allocator + Copy>(
             revision,
             done,
             force,
+            explain: _,
         } => {
             let features = features_of(*done, *force);
             let word = revision.as_bytes();
-            outcome_of(try_revision(alloc, namer, word, source, sink, features, state))
+            let mut told = Explanation::none();
+            let told = &mut told;
+            outcome_of(try_revision(alloc, namer, word, source, sink, features, state, told))
         }
         Line::Adapt { drop_signatures } => {
             outcome_of(adapt_stream(alloc, source, sink, *drop_signatures))
@@ -114,6 +118,7 @@ fn serve_bytes<N: Namer + Drop, R: Source + Drop, W: Sink, A: Allocator + Copy>(
             done,
             force,
             report: _,
+            explain: _,
         } => {
             let features = features_of(*done, *force);
             let (outcome, _) = import_stored(alloc, namer, store, source, sink, features, state);

@@ -3,6 +3,7 @@
 ghost use Rattle.std.specs.Prelude.{◌≡◌, IfErr, IfOk, Ok};
 ghost use Rattle.gx_model.specs.declared.store_versions.Version.TheVariants.{Two};
 ghost use Rattle.gx_model.specs.Stores.StoreText.{store_text};
+ghost use Rattle.gx_cli.specs.Explained.{ExplainsOpened, ExplainsStore};
 ghost use Rattle.gx_cli.specs.Parts.{IsReadBack, LeavesNext};
 ghost use Rattle.gx_cli.specs.Sending.{PrintsText};
 ghost use Rattle.gx_cli.specs.Storing.{ImportsStore, ImportsStoreAgain, ImportsStoredAgain, next_after};
@@ -12,7 +13,7 @@ use crate::CliFault;
 use crate::forms::forms_are_imported;
 use crate::opening::{StoreBytes, open};
 use gx_file::write_to;
-use gx_import::{Report, import_asking};
+use gx_import::{Explanation, Report, import_explained};
 use gx_model::Features;
 use gx_object::Namer;
 use gx_repo::Repo;
@@ -24,7 +25,8 @@ use std::hash::RandomState;
 /// answers the repository whose text that is, where there is one: [`send_store`] sends it. Lines of `progress` go out as they come.
 ///
 /// The store's text is read first, and what is read of it shares it: no body is copied. After a refused import the next text is
-/// that of the last checkpoint; where there was none, there is none.
+/// that of the last checkpoint; where there was none, there is none. What a refused import is about is told, as
+/// `gx_import::import_explained` does; where the store isn't read, nothing is told. What was told before is forgotten.
 /// Cost: that of reading the store's text, and of the import. Memory: the store's text for as long as one of its records is held,
 /// and what the import takes.
 pub fn import_store<N: Namer + Drop, R: Source + Drop, W: Sink, A: Allocator + Copy>(
@@ -35,13 +37,18 @@ pub fn import_store<N: Namer + Drop, R: Source + Drop, W: Sink, A: Allocator + C
     sink: &mut W,
     features: Features,
     state: RandomState,
+    told: &mut Explanation<A>,
 ) -> (Option<Repo<N, A>>, Result<Report, CliFault>)
     ensures imported { ImportsStore N.name_of namer features store.items (R.coming source) (W.taken sink.old) (W.taken sink.new) result }
+    ensures explained { ExplainsStore N.name_of namer features store.items (R.coming source) result.1 told.new }
     ensures again { ImportsStoreAgain N.name_of namer features store.items (R.coming source) result }
 {
     match open(alloc, namer, StoreBytes::Owned(store), state) {
-        Ok(repo) => import_opened(alloc, repo, source, sink, features),
-        Err(fault) => (None, Err(CliFault::Store(fault))),
+        Ok(repo) => import_opened(alloc, repo, source, sink, features, told),
+        Err(fault) => {
+            *told = Explanation::none();
+            (None, Err(CliFault::Store(fault)))
+        }
     }
 }
 
@@ -52,13 +59,15 @@ pub(crate) fn import_opened<N: Namer + Drop, R: Source + Drop, W: Sink, A: Alloc
     source: R,
     sink: &mut W,
     features: Features,
+    told: &mut Explanation<A>,
 ) -> (Option<Repo<N, A>>, Result<Report, CliFault>)
     ensures imported { LeavesNext N.name_of W.taken repo features (R.coming source) sink.old sink.new result }
+    ensures explained { ExplainsOpened N.name_of repo features (R.coming source) result.1 told.new }
     ensures again { ImportsStoredAgain N.name_of repo.0 features (Ok repo.1) (R.coming source) result }
 {
     forms_are_imported();
     let mut next = repo;
-    match import_asking(alloc, &mut next, source, sink, features) {
+    match import_explained(alloc, &mut next, source, sink, features, told) {
         Ok(report) => (Some(next), Ok(report)),
         Err(fault) => (left(next, fault.checkpoints), Err(CliFault::Import(fault))),
     }

@@ -1,12 +1,13 @@
 //! A stream, imported into an empty store, and what a revision shows there.
 
 ghost use Rattle.std.specs.Prelude.{◌≡◌, IfOk};
+ghost use Rattle.gx_cli.specs.Explained.{ExplainsAlone, ExplainsTry};
 ghost use Rattle.gx_cli.specs.Parts.{ImportsFirst, TriesWord};
 ghost use Rattle.gx_cli.specs.Trying.{LooksIn};
 
 use crate::CliFault;
 use crate::showing::show;
-use gx_import::{ImportFault, import_asking};
+use gx_import::{Explanation, ImportFault, import_explained};
 use gx_model::Features;
 use gx_object::{Mode, Namer};
 use gx_repo::Repo;
@@ -20,6 +21,7 @@ use std::hash::RandomState;
 ///
 /// `Import`: the import is refused, and nothing is shown. `Revision`: the word isn't a revision, or the revision gives
 /// nothing. `WriteFailed`: the sink didn't take all that is shown. `OutOfMemory`: a growth was refused after the import.
+/// What a refused import is about is told, as `gx_import::import_explained` does, and nothing of another refusal.
 /// Cost: that of the import, that of `Revision::eval`, and what is shown.
 pub fn try_revision<N: Namer + Drop, A: Allocator + Copy, R: Source + Drop, W: Sink>(
     alloc: A,
@@ -29,10 +31,12 @@ pub fn try_revision<N: Namer + Drop, A: Allocator + Copy, R: Source + Drop, W: S
     sink: &mut W,
     features: Features,
     state: RandomState,
+    told: &mut Explanation<A>,
 ) -> Result<(), CliFault>
-    ensures { TriesWord N.name_of W.taken namer features (R.coming source) word.now sink.old sink.new result }
+    ensures explained { ExplainsTry (N.name_of namer) features (R.coming source) result told.new }
+    ensures tried { TriesWord N.name_of W.taken namer features (R.coming source) word.now sink.old sink.new result }
 {
-    match import_alone(alloc, namer, source, sink, features, state) {
+    match import_alone(alloc, namer, source, sink, features, state, told) {
         Ok(repo) => show(alloc, &repo, word, sink),
         Err(fault) => Err(CliFault::Import(fault)),
     }
@@ -41,7 +45,7 @@ pub fn try_revision<N: Namer + Drop, A: Allocator + Copy, R: Source + Drop, W: S
 /// The repository that a stream's import into an empty store leaves, where these features are asked for. Its history is that of
 /// the stream's commands, replayed.
 ///
-/// The faults and the cost are those of `import`.
+/// What a refused import is about is told, as `gx_import::import_explained` does. The faults and the cost are those of `import`.
 pub fn import_alone<N: Namer + Drop, A: Allocator + Copy, R: Source + Drop, W: Sink>(
     alloc: A,
     namer: N,
@@ -49,12 +53,14 @@ pub fn import_alone<N: Namer + Drop, A: Allocator + Copy, R: Source + Drop, W: S
     sink: &mut W,
     features: Features,
     state: RandomState,
+    told: &mut Explanation<A>,
 ) -> Result<Repo<N, A>, ImportFault>
+    ensures explained { ExplainsAlone (N.name_of namer) features (R.coming source) result told.new }
     ensures namer { IfOk result (λ repo. repo.0 ≡ namer) }
     ensures replayed { ImportsFirst N.name_of W.taken namer features (R.coming source) sink.old sink.new result }
 {
     let mut repo = Repo::new(alloc, namer, state);
-    match import_asking(alloc, &mut repo, source, sink, features) {
+    match import_explained(alloc, &mut repo, source, sink, features, told) {
         Ok(_) => Ok(repo),
         Err(fault) => Err(fault),
     }

@@ -131,6 +131,7 @@ pub(crate) fn stored(alloc: Global, stream: &[u8], state: RandomState) -> Option
         done: false,
         force: false,
         report: false,
+        explain: false,
     };
     let source = Bytes::new(stream, 4096, false);
     ran(alloc, &line, text("empty"), source, &mut sink, state).store

@@ -76,7 +76,8 @@ fn is_memory(line: &Line<'_>, fault: CliFault) -> bool {
             | Line::Try {
                 revision: _,
                 done: _,
-                force: _
+                force: _,
+                explain: _
             }
             | Line::Adapt { drop_signatures: _ }
             | Line::Where(_)
@@ -102,6 +103,7 @@ fn is_left(line: &Line<'_>, printed: &[u8], whole: &[u8]) -> bool {
             revision: _,
             done: _,
             force: _,
+            explain: _,
         }
         | Line::Adapt { drop_signatures: _ } => whole.starts_with(printed),
         Line::Export { form: _, file: _ } => whole.starts_with(printed),

@@ -168,6 +168,7 @@ fn refusal_at(line: &Line<'_>, printed: &[u8], room: usize) -> CliFault {
             revision: _,
             done: _,
             force: _,
+            explain: _,
         } if room < 11 && printed.starts_with(b"progress x\n") => {
             CliFault::Import(ImportFault {
                 command: 1,

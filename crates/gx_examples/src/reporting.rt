@@ -2,7 +2,8 @@
 
 use crate::texts::text;
 use gx_cli::{
-    CliFault, Features, ImportReport, Repo, collect_store, import_store_reporting, send_store,
+    CliFault, Explanation, Features, ImportReport, Repo, collect_store, import_store_reporting,
+    send_store,
 };
 use gx_devices::Refusing;
 use gx_file::FileFault;
@@ -51,7 +52,16 @@ fn imported<'a, B: Allocator>(
     let source = Bytes::new(stream, 7, false);
     let none = Features::none();
     heap.arm(nth);
-    let answer = import_store_reporting(heap, Sha1Namer, store, source, &mut sink, none, state);
+    let answer = import_store_reporting(
+        heap,
+        Sha1Namer,
+        store,
+        source,
+        &mut sink,
+        none,
+        state,
+        &mut Explanation::none(),
+    );
     heap.arm(0);
     Some(answer)
 }

@@ -5,7 +5,9 @@ ghost use Rattle.std.specs.Prelude.{◌<◌};
 use crate::commands::{has_line, is_text};
 use crate::steps::{Step, step_of};
 use crate::texts::text;
-use gx_cli::{AdaptReport, Features, Repo, adapt_stream, import_into, import_store, send_store};
+use gx_cli::{
+    AdaptReport, Explanation, Features, Repo, adapt_stream, import_into, import_store, send_store,
+};
 use gx_object::Sha1Namer;
 use gx_text::{Bytes, Held};
 use std::alloc::Global;
@@ -69,7 +71,16 @@ fn is_stored(alloc: Global, step: &Step<'_>, state: RandomState) -> bool {
     };
     let source = Bytes::new(step.input, 7, false);
     let none = Features::none();
-    let (repo, told) = import_store(alloc, Sha1Namer, store, source, &mut sink, none, state);
+    let (repo, told) = import_store(
+        alloc,
+        Sha1Namer,
+        store,
+        source,
+        &mut sink,
+        none,
+        state,
+        &mut Explanation::none(),
+    );
     is_next(alloc, repo.as_ref(), step.printed) && has_line(alloc, told.err(), step.line)
 }
 

@@ -88,6 +88,9 @@ drop_signatures = flag (codes "drop-signatures")
 abbrev pub report : Rule
 report = flag (codes "report")
 
+abbrev pub explain : Rule
+explain = flag (codes "explain")
+
 abbrev pub changes : Rule
 changes = flag (codes "changes")
 
@@ -126,13 +129,13 @@ abbrev pub with_features : App → App
 with_features a = with_rule (with_rule a done) force
 
 abbrev pub try_command : App
-try_command = with_features (with_rule (new_app (codes "try")) revision)
+try_command = with_rule (with_features (with_rule (new_app (codes "try")) revision)) explain
 
 abbrev pub adapt_command : App
 adapt_command = with_rule (new_app (codes "adapt")) drop_signatures
 
 abbrev pub import_command : App
-import_command = with_rule (with_features (file_command (codes "import"))) report
+import_command = with_rule (with_rule (with_features (file_command (codes "import"))) report) explain
 
 abbrev pub drop_command : App
 drop_command = with_rule (file_command (codes "drop")) (words (codes "ref"))
@@ -240,12 +243,13 @@ IsForm rows (Changes done) = IsFlag (codes "changes") rows true × IsFlag (codes
 -- the line is the command `name` with the options and words that clap found for it
 unfoldable pub Says : Text → List Row → Line → Type 0
 Says name rows Blobs = name ≡ codes "blobs"
-Says name rows (Try revision done force) = (name ≡ codes "try") × (AreFeatures rows done force × IsWord (codes "rev") rows revision)
+Says name rows (Try revision done force explain) = (name ≡ codes "try") × (AreFeatures rows done force
+    × (IsFlag (codes "explain") rows explain × IsWord (codes "rev") rows revision))
 Says name rows (Adapt drop_signatures) = (name ≡ codes "adapt") × IsFlag (codes "drop-signatures") rows drop_signatures
 Says name rows (Where command) = (name ≡ codes "where") × IsNumber (codes "number") rows (Some command)
 Says name rows (Init file) = (name ≡ codes "init") × IsWord (codes "file") rows file
-Says name rows (Import file done force report) = (name ≡ codes "import") × (AreFeatures rows done force
-    × (IsFlag (codes "report") rows report × IsWord (codes "file") rows file))
+Says name rows (Import file done force report explain) = (name ≡ codes "import") × (AreFeatures rows done force
+    × (IsFlag (codes "report") rows report × (IsFlag (codes "explain") rows explain × IsWord (codes "file") rows file)))
 Says name rows (Drop file refs) = (name ≡ codes "drop") × (IsWord (codes "file") rows file × AreWords (codes "ref") rows refs.items)
 Says name rows (Gc file report) = (name ≡ codes "gc") × (IsFlag (codes "report") rows report × IsWord (codes "file") rows file)
 Says name rows (Export form file) = (name ≡ codes "export")

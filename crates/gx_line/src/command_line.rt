@@ -38,11 +38,12 @@ pub enum ExportForm {
 #[derive(Debug, Drop)]
 pub enum Line<'a> {
     Blobs,
-    /// A stream is tried: the revision is shown once it was imported. `done` and `force` are as in an import.
+    /// A stream is tried: the revision is shown once it was imported. `done`, `force` and `explain` are as in an import.
     Try {
         revision: &'a str,
         done: bool,
         force: bool,
+        explain: bool,
     },
     /// A stream's lines are mended that an import refuses. With `drop_signatures` those of signatures go.
     Adapt {
@@ -55,12 +56,13 @@ pub enum Line<'a> {
         file: &'a str,
     },
     /// A stream is imported into a store. With `done` it has to end with that command, and with `force` branches may
-    /// lose commits. With `report` the refs that it changed are told.
+    /// lose commits. With `report` the refs that it changed are told, and with `explain` what a refusal is about.
     Import {
         file: &'a str,
         done: bool,
         force: bool,
         report: bool,
+        explain: bool,
     },
     /// Refs are dropped from a store.
     Drop {
@@ -170,6 +172,7 @@ fn line_of<'a>(
             revision: word_of(alloc, matches, "rev")?,
             done: is_set(matches, "done"),
             force: is_set(matches, "force"),
+            explain: is_set(matches, "explain"),
         }),
         "adapt" => Ok(Line::Adapt {
             drop_signatures: is_set(matches, "drop-signatures"),
@@ -200,6 +203,7 @@ fn file_line<'a>(
             done: is_set(matches, "done"),
             force: is_set(matches, "force"),
             report: is_set(matches, "report"),
+            explain: is_set(matches, "explain"),
         }),
         "gc" => Ok(Line::Gc {
             file,

@@ -194,6 +194,7 @@ fn file_of<'a>(line: &Line<'a>) -> Option<&'a str> {
             revision: _,
             done: _,
             force: _,
+            explain: _,
         }
         | Line::Adapt { drop_signatures: _ }
         | Line::Where(_) => None,
@@ -203,6 +204,7 @@ fn file_of<'a>(line: &Line<'a>) -> Option<&'a str> {
             done: _,
             force: _,
             report: _,
+            explain: _,
         }
         | Line::Drop { file, refs: _ }
         | Line::Gc { file, report: _ }

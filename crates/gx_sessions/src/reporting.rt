@@ -2,7 +2,8 @@
 
 use crate::serving::Report;
 use gx_cli::{
-    CliFault, Features, Outcome, Repo, collect_store, import_store_reporting, send_store,
+    CliFault, Explanation, Features, Outcome, Repo, collect_store, import_store_reporting,
+    send_store,
 };
 use gx_object::Namer;
 use gx_text::{Held, Sink, Source};
@@ -22,7 +23,10 @@ pub(crate) fn reported<N: Namer + Drop, R: Source + Drop, W: Sink>(
     features: Features,
     state: RandomState,
 ) -> (Outcome<Global>, Report) {
-    let (left, answer) = import_store_reporting(alloc, namer, store, source, sink, features, state);
+    let mut told = Explanation::none();
+    let (left, answer) = import_store_reporting(
+        alloc, namer, store, source, sink, features, state, &mut told,
+    );
     let (text, lines) = match left {
         Some((repo, lines)) => (text_of(alloc, &repo), lines),
         None => (None, Vec::new(alloc)),

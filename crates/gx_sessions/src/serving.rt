@@ -60,7 +60,8 @@ fn makes_text(line: &Line<'_>) -> bool {
                 file: _,
                 done: _,
                 force: _,
-                report: _
+                report: _,
+                explain: _
             }
             | Line::Drop { file: _, refs: _ }
             | Line::Gc { file: _, report: _ }
@@ -94,6 +95,7 @@ fn ended<N: Namer + Drop, R: Source + Drop, W: Sink>(
         done,
         force,
         report: true,
+        explain: _,
     } = line
     {
         let features = Features {
@@ -112,6 +114,7 @@ fn ended<N: Namer + Drop, R: Source + Drop, W: Sink>(
             done,
             force,
             report: _,
+            explain: _,
         } => {
             let features = Features {
                 done: *done,

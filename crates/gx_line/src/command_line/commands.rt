@@ -40,7 +40,7 @@ fn with_stream_commands<'a>(
 {
     let gx = with_command(gx, Ok(command(alloc, "blobs", streams::BLOBS)));
     let tried = with_argument(Ok(command(alloc, "try", streams::TRY)), revision(alloc));
-    let try_command = with_features(alloc, tried);
+    let try_command = with_argument(with_features(alloc, tried), explain(alloc));
     let gx = with_command(gx, try_command);
     let gx = with_command(gx, adapt_command(alloc));
     let number = number(alloc, "number", "The number of a command, from 1").required(true);
@@ -83,6 +83,19 @@ fn with_features<'a>(
     with_argument(with_done, force)
 }
 
+/// What a command that imports can be asked to tell.
+fn explain<'a>(alloc: Global) -> Arg<'a>
+    ensures rule { rule_of result ≡ say.explain }
+    ensures local { result.global ≡ false }
+{
+    flag(
+        alloc,
+        "explain",
+        "Tells, behind a refusal, where its fault stands in the stream,\n\
+         and what it is about, as at a terminal",
+    )
+}
+
 /// The commands on a store as a whole.
 fn with_store_commands<'a>(
     alloc: Global,
@@ -107,7 +120,8 @@ fn import_command<'a>(alloc: Global) -> Result<Command<'a>, AllocError>
         "Tells the refs that changed, and the counts, on standard error",
     );
     let import = with_features(alloc, file_command(alloc, "import", stores::IMPORT));
-    with_argument(import, report)
+    let import = with_argument(import, report);
+    with_argument(import, explain(alloc))
 }
 
 fn drop_command<'a>(alloc: Global) -> Result<Command<'a>, AllocError>

@@ -52,12 +52,13 @@ Operands:
 
 Options before the command:
   --explain  tells the file and the system's cause of gx: read failed,
-             gx: write failed and gx: lock failed in a second line
+             gx: write failed and gx: lock failed in a further line, and of a
+             refused stream what gx import --help has, as at a terminal
   --version  prints the version, where it stands alone
 
 Exit status:
   0  the command was done, or help was asked for
-  1  it was refused, for what standard error says in one line
+  1  it was refused, for what standard error says in a line
   2  the command line isn't accepted
 
 Refusals:

@@ -3,8 +3,8 @@ use Rattle.gx_repo.specs.Reporting.{IsReport}
 use Rattle.gx_cli.proofs.ReportedImports.{with_changes}
 use Rattle.gx_cli.proofs.reporting.with_report.Goals as goal
 
-pub returns-in-Ok : goal.returns-in-Ok
-returns-in-Ok g c =
+pub returns-in-Ok-clause-reported : goal.returns-in-Ok-clause-reported
+returns-in-Ok-clause-reported g c =
     let told = c.in-Ok.report.items in
     let first = subst (λ refs. IsReport refs c.refs-2.result told) c.refs.ensures.held c.in-Ok.ensures in
     let both = subst (λ refs. IsReport c.args.before.now refs told) c.refs-2.ensures.held first in

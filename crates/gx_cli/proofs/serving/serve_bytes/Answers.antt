@@ -14,7 +14,7 @@ returns-in-Import-clause-served g c =
     let was = g.W.Sink.taken c.args.sink.now in
     let now = g.W.Sink.taken c.import_stored-outcome.new.sink in
     let imported = subst (λ asks. ImportsInto name asks (bytes_of c.args.store) coming was now c.import_stored-outcome.result) c.features_of-features-in-Import.ensures c.import_stored-outcome.ensures.imported in
-    import_served name c.args.line.now c.in-Import.file c.in-Import.done c.in-Import.force c.in-Import.report (bytes_of c.args.store) coming was now c.import_stored-outcome.result c.in-Import.is imported
+    import_served name c.args.line.now c.in-Import.file c.in-Import.done c.in-Import.force c.in-Import.report c.in-Import.explain (bytes_of c.args.store) coming was now c.import_stored-outcome.result c.in-Import.is imported
 
 pub returns-in-ExportRange-clause-served : goal.returns-in-ExportRange-clause-served
 returns-in-ExportRange-clause-served g c =

@@ -1,5 +1,7 @@
 use Rattle.gx_model.specs.Stores.StoreReading.{store_of}
+use Rattle.gx_cli.specs.Explained.{ExplainsStored}
 use Rattle.gx_cli.specs.Storing.{ImportsStored, ImportsStoredAgain}
+use Rattle.gx_cli.proofs.ExplainedImports.{unread_told}
 use Rattle.gx_cli.proofs.ReadStores.{of_read}
 use Rattle.gx_cli.proofs.storing.import_store.Goals as goal
 
@@ -14,3 +16,14 @@ returns-in-Ok-clause-again g c =
     of_read c.args.namer c.in-Ok.repo (store_of (g.N.Namer.name_of c.args.namer) c.args.store.items)
     (λ namer stored. ImportsStoredAgain g.N.Namer.name_of namer c.args.features stored (g.R.Source.coming c.args.source) c.import_opened.result)
     c.in-Ok.ensures.namer c.in-Ok.ensures.store c.import_opened.ensures.again
+
+pub returns-in-Ok-clause-explained : goal.returns-in-Ok-clause-explained
+returns-in-Ok-clause-explained g c =
+    of_read c.args.namer c.in-Ok.repo (store_of (g.N.Namer.name_of c.args.namer) c.args.store.items)
+    (λ namer stored. ExplainsStored (g.N.Namer.name_of namer) c.args.features stored (g.R.Source.coming c.args.source) c.import_opened.result.1 c.import_opened.new.told)
+    c.in-Ok.ensures.namer c.in-Ok.ensures.store c.import_opened.ensures.explained
+
+pub returns-in-Err-clause-explained : goal.returns-in-Err-clause-explained
+returns-in-Err-clause-explained g c =
+    unread_told (g.N.Namer.name_of c.args.namer) c.none.result c.args.features (store_of (g.N.Namer.name_of c.args.namer) c.args.store.items) (g.R.Source.coming c.args.source) c.in-Err.fault
+    (record { change = c.none.ensures.change; loss = c.none.ensures.loss })

@@ -43,6 +43,14 @@ Output:
   space and its name. 40 zeros stand for nothing. Where the import is accepted,
   a line tells the numbers of commands, objects and refs, as at a terminal.
 
+  With --explain, or at a terminal, lines behind that of a refused command tell
+  what it is about:
+    gx: line L, byte B: TEXT   where the faulty item stands: the number of its
+                               line, from 1, the byte at which it begins, from
+                               0, and the first 200 bytes of the line
+    gx: change N: PATH         the Nth change of the commit, and its path
+  TEXT and PATH are printed as gx ls prints a path.
+
 Refusals, each of which leaves FILE as it was but for those checkpoints:
   gx: read failed
   gx: lock failed       as gx --help has it

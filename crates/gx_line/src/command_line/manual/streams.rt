@@ -34,7 +34,7 @@ Output:
   gx show prints of the revision.
 
 Refusals:
-  gx: command N: KIND   as gx import --help has it
+  gx: command N: KIND   as gx import --help has it, also with --explain
   gx: revision 1: KIND  as gx --help has it
   gx: write failed
   gx: out of memory",

@@ -1,0 +1,105 @@
+//! What is told of a refused import behind its fault, where that is asked for: where the faulty item stands, and what it is about.
+//! Source: git-fast-import(1), "Commands".
+
+use crate::run::Run;
+use crate::traced::Traced;
+use crate::trail::{Spot, Trail};
+use gx_cli::{CliFault, Explanation, ImportFault, ImportKind, explanation_lines, item_line};
+use std::alloc::{AllocError, Global};
+
+/// The lines that explain why a stream is refused. There are none where they aren't asked for, or there is no memory for them.
+pub(crate) fn explain(
+    run: &Run<'_>,
+    input: &Traced<'_>,
+    fault: &CliFault,
+    told: &Explanation<Global>,
+) -> Vec<u8> {
+    let alloc = run.rt.alloc();
+    match (fault, input.trail()) {
+        (CliFault::Import(fault), Some(trail)) => {
+            lines_of(alloc, trail, fault, told).unwrap_or(Vec::new(alloc))
+        }
+        _ => Vec::new(alloc),
+    }
+}
+
+fn lines_of(
+    alloc: Global,
+    trail: &Trail,
+    fault: &ImportFault,
+    told: &Explanation<Global>,
+) -> Result<Vec<u8>, AllocError> {
+    let mut lines = match item_at_fault(trail, fault, told) {
+        Some(item) => item_line(alloc, item.line, item.byte, trail.text(item))?,
+        None => end_line(alloc, trail, fault)?,
+    };
+    lines.extend_from_slice(explanation_lines(alloc, told)?.as_slice())?;
+    Ok(lines)
+}
+
+/// The line of the stream's end, where that is at fault.
+fn end_line(alloc: Global, trail: &Trail, fault: &ImportFault) -> Result<Vec<u8>, AllocError> {
+    if is_of_end(trail, fault.kind) {
+        item_line(alloc, trail.line(), trail.byte(), b"end of the stream")
+    } else {
+        Ok(Vec::new(alloc))
+    }
+}
+
+/// Whether the stream's end is at fault: the reader wants an item, and there is none.
+fn is_of_end(trail: &Trail, kind: ImportKind) -> bool {
+    kind == ImportKind::MissingDone || (is_of_reading(kind) && trail.has_ended())
+}
+
+/// The item at fault: the line of the change that is told, the last that was read where no command is read, or the first of the
+/// command.
+fn item_at_fault<'a>(
+    trail: &'a Trail,
+    fault: &ImportFault,
+    told: &Explanation<Global>,
+) -> Option<&'a Spot> {
+    let items = trail.items_of(fault.command);
+    if let Some(number) = told.change {
+        let before = number.saturating_sub(1) as usize;
+        return items
+            .iter()
+            .filter(|item| begins_change(trail.text(item)))
+            .nth(before);
+    }
+    if is_of_end(trail, fault.kind) {
+        None
+    } else if is_of_reading(fault.kind) {
+        trail.last()
+    } else {
+        items.first()
+    }
+}
+
+/// Whether a line of a commit is a change, or begins one.
+fn begins_change(line: &[u8]) -> bool {
+    let is_clear = line == b"deleteall".as_slice();
+    is_clear
+        || [b"M ", b"D ", b"C ", b"R "]
+            .iter()
+            .any(|front| line.starts_with(front.as_slice()))
+}
+
+/// Whether a fault is one of a command that isn't read whole, where no change is told.
+fn is_of_reading(kind: ImportKind) -> bool {
+    matches!(
+        kind,
+        ImportKind::ReadFailed
+            | ImportKind::UnknownCommand
+            | ImportKind::BadLine
+            | ImportKind::BadNumber
+            | ImportKind::TruncatedData
+            | ImportKind::BadPath
+            | ImportKind::PathTooLong
+            | ImportKind::BadMode
+            | ImportKind::BadIdent
+            | ImportKind::BadRefName
+            | ImportKind::Unsupported
+            | ImportKind::LateOption
+            | ImportKind::MissingDone
+    )
+}

@@ -1,0 +1,84 @@
+//! Standard input of an import, given out line by line where a refusal is to be explained: what came last then is what the reader
+//! of the stream is at.
+
+use crate::devices::Noted;
+use crate::progress::{Metered, ProgressLine};
+use crate::run::Run;
+use crate::trail::Trail;
+use std::io::{self, Read, Stdin};
+
+/// So many bytes are read at once.
+const BUFFER: usize = 1 << 16;
+
+/// What was read and isn't given out yet, and the trail of what is.
+#[derive(Drop)]
+struct Lines {
+    buffer: Vec<u8>,
+    start: usize,
+    end: usize,
+    trail: Trail,
+}
+
+/// Standard input, with the trail of its items where a refusal is to be explained and there is memory for it.
+#[derive(Drop)]
+pub(crate) struct Traced<'a> {
+    input: Metered<'a, Noted<'a, Stdin>>,
+    lines: Option<Lines>,
+}
+
+impl<'a> Traced<'a> {
+    pub(crate) fn input(run: &Run<'_>, progress: &'a ProgressLine<'a>) -> Traced<'a> {
+        let lines = if run.explains() {
+            Lines::new(run)
+        } else {
+            None
+        };
+        Traced {
+            input: Metered::input(progress),
+            lines,
+        }
+    }
+
+    /// The trail of what was given out.
+    pub(crate) fn trail(&self) -> Option<&Trail> {
+        match &self.lines {
+            Some(lines) => Some(&lines.trail),
+            None => None,
+        }
+    }
+}
+
+impl Lines {
+    fn new(run: &Run<'_>) -> Option<Lines> {
+        let mut buffer = Vec::new(run.rt.alloc());
+        buffer.resize(BUFFER, 0).ok()?;
+        Some(Lines {
+            buffer,
+            start: 0,
+            end: 0,
+            trail: Trail::new(run.rt.alloc()),
+        })
+    }
+}
+
+impl Read for Traced<'_> {
+    fn read(&mut self, buf: &mut [u8]) -> io::Result<usize> {
+        let Some(lines) = &mut self.lines else {
+            return self.input.read(buf);
+        };
+        if lines.start >= lines.end {
+            lines.start = 0;
+            lines.end = 0;
+            lines.end = self.input.read(&mut lines.buffer)?;
+        }
+        let there = &lines.buffer[lines.start..lines.end];
+        if there.is_empty() {
+            lines.trail.end()?;
+            return Ok(0);
+        }
+        let count = lines.trail.pass(&there[..there.len().min(buf.len())])?;
+        buf[..count].copy_from_slice(&there[..count]);
+        lines.start += count;
+        Ok(count)
+    }
+}

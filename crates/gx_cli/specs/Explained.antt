@@ -1,0 +1,52 @@
+-- What imports into a store, and into an empty one, tell of a refusal.
+-- Source: git-fast-import(1), "filemodify" to "filedeleteall".
+use Rattle.std.specs.Prelude.{◌≡◌, ◌⊎◌, Option, None, Result, Ok, Err}
+use Rattle.gx_model.specs.declared.objects.Kind.{Kind}
+use Rattle.gx_model.specs.declared.features.Features.{Features}
+use Rattle.gx_model.specs.Texts.{Bytes}
+use Rattle.gx_model.specs.Histories.{Records}
+use Rattle.gx_model.specs.Stores.StoreReading.{Stored, store_of}
+use Rattle.gx_text.specs.Devices.{Coming}
+use Rattle.gx_repo.specs.Repositories.{Repository}
+use Rattle.gx_import.specs.Explaining.{ExplainsAnswer, ExplainsFault}
+use Rattle.gx_import.specs.Exported.{nothing}
+use Rattle.gx_import.specs.declared.explanation.Explanation.{Explanation}
+use Rattle.gx_import.specs.declared.fault.ImportFault.{ImportFault}
+use Rattle.gx_cli.specs.declared.fault.CliFault.{CliFault}
+use Rattle.gx_cli.specs.declared.fault.CliFault.TheVariants.{Import, OutOfMemory}
+
+-- no change is told
+abbrev pub TellsNothing : {A : Type 0} → Explanation A → Type 0
+TellsNothing told = told.change ≡ None
+
+-- what was told stays beside the answer, unless that is now that memory ran out: then nothing is told
+abbrev pub KeepsTold : {X A : Type 0} → Result X CliFault → Explanation A → Result X CliFault → Explanation A → Type 0
+KeepsTold before old after new = ((after ≡ before) × (new ≡ old)) ⊎ ((after ≡ Err OutOfMemory) × TellsNothing new)
+
+module _ (name : Kind → Bytes → Bytes) {A : Type 0} where
+  -- of a refused import into this repository it is told what that is about, and of all else nothing
+  abbrev pub ExplainsCommand : {X : Type 0} → Features → Records → Option Coming → Result X CliFault → Explanation A → Type 0
+  ExplainsCommand asks old coming (Err (Import fault)) told = ExplainsFault name asks old coming fault told
+  ExplainsCommand asks old coming answer told = TellsNothing told
+
+  -- the same of an import into the store that a text was read as; where none was read, nothing is told
+  abbrev pub ExplainsStored : {X : Type 0} → Features → Stored Records → Option Coming → Result X CliFault → Explanation A → Type 0
+  ExplainsStored asks (Ok old) coming answer told = ExplainsCommand asks old coming answer told
+  ExplainsStored asks (Err f) coming answer told = TellsNothing told
+
+  -- the same of a stream that is tried, which is imported into an empty store
+  abbrev pub ExplainsTry : {X : Type 0} → Features → Option Coming → Result X CliFault → Explanation A → Type 0
+  ExplainsTry asks coming answer told = ExplainsCommand asks nothing coming answer told
+
+  -- and of that import alone
+  abbrev pub ExplainsAlone : {X : Type 0} → Features → Option Coming → Result X ImportFault → Explanation A → Type 0
+  ExplainsAlone asks coming answer told = ExplainsAnswer name asks nothing coming answer told
+
+module _ {N X A : Type 0} (name_of : N → Kind → Bytes → Bytes) where
+  -- the same of an import into the store of a text, which is read first
+  abbrev pub ExplainsStore : N → Features → Bytes → Option Coming → Result X CliFault → Explanation A → Type 0
+  ExplainsStore namer asks text coming answer told = ExplainsStored (name_of namer) asks (store_of (name_of namer) text) coming answer told
+
+  -- and of a repository
+  abbrev pub ExplainsOpened : Repository N → Features → Option Coming → Result X CliFault → Explanation A → Type 0
+  ExplainsOpened repo asks coming answer told = ExplainsCommand (name_of repo.0) asks repo.1 coming answer told

@@ -1,0 +1,33 @@
+-- The lines that explain a refused import.
+-- Source: git-fast-import(1), "filemodify" to "filedeleteall".
+use Rattle.std.specs.Prelude.{ℕ, [], ◌∷◌, ◌++◌, Option, Some, None, codes}
+use Rattle.std.specs.Fmt.{decimal}
+use Rattle.gx_model.specs.Texts.{Bytes}
+use Rattle.gx_model.specs.Texts.Paths.{Path, path_text, printed}
+use Rattle.gx_import.specs.declared.explanation.Explanation.{Explanation}
+
+-- where a change has a path, it stands behind its number as paths are printed
+abbrev pub behind_number : Option Path → Bytes
+behind_number None = 10 ∷ []
+behind_number (Some path) = codes ": " ++ printed (path_text path) ++ 10 ∷ []
+
+-- the number of the change that is refused, and its path
+abbrev pub change_line : ℕ → Option Path → Bytes
+change_line number path = codes "gx: change " ++ decimal number ++ behind_number path
+
+-- the line of a change that is told, if one is
+abbrev pub told_change : Option ℕ → Option Path → Bytes
+told_change None path = []
+told_change (Some number) path = change_line number path
+
+-- what is told of a refusal
+abbrev pub explanation_text : {A : Type 0} → Explanation A → Bytes
+explanation_text told = told_change told.change told.path
+
+-- what stands before the text of a line: its number, from 1, and the byte at which it begins, from 0
+abbrev pub place_head : ℕ → ℕ → Bytes
+place_head line byte = codes "gx: line " ++ decimal line ++ codes ", byte " ++ decimal byte ++ codes ": "
+
+-- where an item of a stream stands
+abbrev pub item_line : ℕ → ℕ → Bytes → Bytes
+item_line line byte text = place_head line byte ++ printed text ++ 10 ∷ []

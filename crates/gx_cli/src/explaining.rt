@@ -1,0 +1,84 @@
+//! What explains a refused import, in lines. Source: git-fast-import(1), "filemodify" to "filedeleteall".
+
+ghost use Rattle.std.specs.Prelude.{◌≡◌, ◌++◌, IfOk, OnOk};
+ghost use Rattle.gx_cli.specs.ExplainedLines.{change_line, explanation_text, item_line, place_head};
+
+use crate::printing::put_printed;
+use gx_import::Explanation;
+use gx_text::TreePath;
+use itoa::Buffer;
+use std::alloc::{AllocError, Allocator};
+
+/// The lines that explain a refused import: the change of the commit that is refused, by its number and its path. There are none
+/// where nothing is told.
+///
+/// Cost: their length, at most four bytes for each of the path's.
+pub fn explanation_lines<A: Allocator + Copy>(
+    alloc: A,
+    told: &Explanation<A>,
+) -> Result<Vec<u8, A>, AllocError>
+    ensures { IfOk result (λ lines. lines.items ≡ explanation_text told.now) }
+{
+    let mut lines = Vec::new(alloc);
+    if let Some(number) = told.change {
+        put_change(&mut lines, number, &told.path)?;
+    }
+    Ok(lines)
+}
+
+/// The line that tells where an item of a stream stands: the number of its line, from 1, the byte at which it begins, from 0,
+/// and this text of the line, as paths are printed.
+///
+/// Cost: its length, at most four bytes for each of the text's.
+pub fn item_line<A: Allocator + Copy>(
+    alloc: A,
+    line: u64,
+    byte: u64,
+    text: &[u8],
+) -> Result<Vec<u8, A>, AllocError>
+    ensures { IfOk result (λ shown. shown.items ≡ item_line line byte text.now) }
+{
+    let mut shown = Vec::new(alloc);
+    put_place(&mut shown, line, byte)?;
+    put_printed(&mut shown, text)?;
+    shown.push(b'\n')?;
+    Ok(shown)
+}
+
+/// Appends what stands before the text of an item.
+fn put_place<A: Allocator + Copy>(
+    shown: &mut Vec<u8, A>,
+    line: u64,
+    byte: u64,
+) -> Result<(), AllocError>
+    ensures { OnOk result (shown.new.items ≡ shown.old.items ++ place_head line byte) }
+{
+    let mut digits = Buffer::new();
+    shown.extend_from_slice(b"gx: line ")?;
+    shown.extend_from_slice(digits.format(line).as_bytes())?;
+    shown.extend_from_slice(b", byte ")?;
+    shown.extend_from_slice(digits.format(byte).as_bytes())?;
+    shown.extend_from_slice(b": ")?;
+    Ok(())
+}
+
+/// Appends the line of a change.
+fn put_change<A: Allocator + Copy>(
+    lines: &mut Vec<u8, A>,
+    number: u64,
+    path: &Option<TreePath<A>>,
+) -> Result<(), AllocError>
+    ensures { OnOk result (lines.new.items ≡ lines.old.items ++ change_line number path.now) }
+{
+    let mut digits = Buffer::new();
+    lines.extend_from_slice(b"gx: change ")?;
+    lines.extend_from_slice(digits.format(number).as_bytes())?;
+    if let Some(path) = path {
+        lines.extend_from_slice(b": ")?;
+        if path.write_quoted(lines).is_err() {
+            return Err(AllocError);
+        }
+    }
+    lines.push(b'\n')?;
+    Ok(())
+}

@@ -71,14 +71,15 @@ impl Read for Traced<'_> {
             lines.end = 0;
             lines.end = self.input.read(&mut lines.buffer)?;
         }
-        let there = &lines.buffer[lines.start..lines.end];
+        let there = lines.buffer.get(lines.start..lines.end).unwrap_or(b"");
         if there.is_empty() {
             lines.trail.end()?;
             return Ok(0);
         }
-        let count = lines.trail.pass(&there[..there.len().min(buf.len())])?;
+        let room = there.len().min(buf.len());
+        let count = lines.trail.pass(&there[..room])?.min(room);
         buf[..count].copy_from_slice(&there[..count]);
-        lines.start += count;
+        lines.start = lines.start.saturating_add(count);
         Ok(count)
     }
 }

@@ -55,24 +55,22 @@ impl Trail {
         if !self.count.is_in_block() {
             return self.pass_line(bytes);
         }
-        let rest = self.count.step(bytes);
-        let count = bytes.len() - rest.len();
+        let passed = without(bytes, self.count.step(bytes));
         self.is_behind_block = !self.count.is_in_block();
-        if count == 0 {
+        if passed.is_empty() {
             return self.pass_line(bytes);
         }
-        self.move_past(&bytes[..count]);
-        Ok(count)
+        self.move_past(passed);
+        Ok(passed.len())
     }
 
     /// Goes on to the end of a line, as far as it came.
     fn pass_line(&mut self, bytes: &[u8]) -> Result<usize, AllocError> {
         let is_behind_block = self.is_behind_block;
         self.is_behind_block = false;
-        let bytes = if is_behind_block { &bytes[..1] } else { bytes };
+        let bytes = if is_behind_block { first(bytes) } else { bytes };
         let commands = self.count.commands();
-        let rest = self.count.step(bytes);
-        let passed = &bytes[..bytes.len() - rest.len()];
+        let passed = without(bytes, self.count.step(bytes));
         // a line feed behind a block belongs to it
         if !(is_behind_block && passed == b"\n".as_slice()) {
             self.keep(passed)?;
@@ -194,4 +192,16 @@ impl Trail {
     pub(crate) fn text(&self, item: &Spot) -> &[u8] {
         self.texts.get(item.start..item.end).unwrap_or(b"")
     }
+}
+
+/// The first of these bytes alone.
+fn first(bytes: &[u8]) -> &[u8] {
+    bytes.get(..1).unwrap_or(bytes)
+}
+
+/// The bytes in front of these last ones.
+fn without<'a>(bytes: &'a [u8], last: &[u8]) -> &'a [u8] {
+    bytes
+        .get(..bytes.len().saturating_sub(last.len()))
+        .unwrap_or(bytes)
 }

@@ -140,15 +140,26 @@ def store_of(stream):
         return file.read()
 
 
-def try_checkpoint():
+def names():
+    listed = subprocess.run([GX, "refs", "store"], capture_output=True, check=True).stdout
+    return dict(reversed(line.split(b" ", 1)) for line in listed.splitlines())
+
+
+def try_losses():
     text = store_of(FRONT)
+    old = names()[b"refs/heads/main"]
     other = b"commit refs/heads/main\n" + WHO + b"data 1\nn\nM 100644 inline f\ndata 0\n"
+    fresh()
+    run(["import", "store"], other, 1000)
+    new = names()[b"refs/heads/main"]
+    loss = b"gx: refs/heads/main: from " + old + b" to " + new + b"\n"
+    fresh(text)
     status, err = run(["import", "--explain", "store"], other, 7)
-    want("what the end is refused for has no line", (status, err) == (1, b"gx: command 2: NotFastForward\n"), err)
+    want("the end tells the ref that would lose a commit", (status, err) == (1, b"gx: command 2: NotFastForward\n" + loss), err)
     fresh(text)
     stream, told = place(other, b"\n@@checkpoint\nblob\ndata 0\n")
     status, err = run(["import", "--explain", "store"], stream, 7)
-    want("a checkpoint has one", (status, err) == (1, b"gx: command 2: NotFastForward\n" + told), err)
+    want("a checkpoint tells it, too", (status, err) == (1, b"gx: command 2: NotFastForward\n" + told + loss), err)
 
 
 def try_others():
@@ -190,7 +201,7 @@ def main():
         os.chdir(folder)
         for kind, text, further in CASES:
             try_case(kind, FRONT, text, further)
-        try_checkpoint()
+        try_losses()
         try_others()
         try_memory()
     failed = results.count(False)

@@ -9,11 +9,11 @@ use Rattle.gx_model.specs.Histories.{Records}
 use Rattle.gx_model.specs.Stores.StoreReading.{Stored}
 use Rattle.gx_model.specs.Texts.Sinks.{Taken}
 use Rattle.gx_text.specs.Devices.{Coming}
-use Rattle.gx_import.specs.Explaining.{ExplainsAnswer, ExplainsFault}
+use Rattle.gx_import.specs.Explaining.{ExplainsAnswer, ExplainsFault, TellsNothing}
 use Rattle.gx_import.specs.Exported.{nothing}
 use Rattle.gx_import.specs.declared.explanation.Explanation.{Explanation}
 use Rattle.gx_import.specs.declared.fault.ImportFault.{ImportFault}
-use Rattle.gx_cli.specs.Explained.{ExplainsAlone, ExplainsCommand, ExplainsStored, ExplainsTry, KeepsTold, TellsNothing}
+use Rattle.gx_cli.specs.Explained.{ExplainsAlone, ExplainsCommand, ExplainsStored, ExplainsTry, KeepsTold}
 use Rattle.gx_cli.specs.Trying.{Shows}
 use Rattle.gx_cli.specs.declared.fault.CliFault.{CliFault}
 use Rattle.gx_cli.specs.declared.fault.CliFault.TheVariants.{Import, OutOfMemory, Store}

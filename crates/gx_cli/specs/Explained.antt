@@ -1,6 +1,6 @@
 -- What imports into a store, and into an empty one, tell of a refusal.
--- Source: git-fast-import(1), "filemodify" to "filedeleteall".
-use Rattle.std.specs.Prelude.{◌≡◌, ◌⊎◌, Option, None, Result, Ok, Err}
+-- Source: git-fast-import(1), "filemodify" to "filedeleteall", and "force".
+use Rattle.std.specs.Prelude.{◌≡◌, ◌⊎◌, Option, Result, Ok, Err}
 use Rattle.gx_model.specs.declared.objects.Kind.{Kind}
 use Rattle.gx_model.specs.declared.features.Features.{Features}
 use Rattle.gx_model.specs.Texts.{Bytes}
@@ -8,16 +8,12 @@ use Rattle.gx_model.specs.Histories.{Records}
 use Rattle.gx_model.specs.Stores.StoreReading.{Stored, store_of}
 use Rattle.gx_text.specs.Devices.{Coming}
 use Rattle.gx_repo.specs.Repositories.{Repository}
-use Rattle.gx_import.specs.Explaining.{ExplainsAnswer, ExplainsFault}
+use Rattle.gx_import.specs.Explaining.{ExplainsAnswer, ExplainsFault, TellsNothing}
 use Rattle.gx_import.specs.Exported.{nothing}
 use Rattle.gx_import.specs.declared.explanation.Explanation.{Explanation}
 use Rattle.gx_import.specs.declared.fault.ImportFault.{ImportFault}
 use Rattle.gx_cli.specs.declared.fault.CliFault.{CliFault}
 use Rattle.gx_cli.specs.declared.fault.CliFault.TheVariants.{Import, OutOfMemory}
-
--- no change is told
-abbrev pub TellsNothing : {A : Type 0} → Explanation A → Type 0
-TellsNothing told = told.change ≡ None
 
 -- what was told stays beside the answer, unless that is now that memory ran out: then nothing is told
 abbrev pub KeepsTold : {X A : Type 0} → Result X CliFault → Explanation A → Result X CliFault → Explanation A → Type 0

@@ -1,10 +1,12 @@
 -- The lines that explain a refused import.
--- Source: git-fast-import(1), "filemodify" to "filedeleteall".
+-- Source: git-fast-import(1), "filemodify" to "filedeleteall", and "force".
 use Rattle.std.specs.Prelude.{ℕ, [], ◌∷◌, ◌++◌, Option, Some, None, codes}
 use Rattle.std.specs.Fmt.{decimal}
 use Rattle.gx_model.specs.Texts.{Bytes}
 use Rattle.gx_model.specs.Texts.Paths.{Path, path_text, printed}
+use Rattle.gx_model.specs.Objects.{hex}
 use Rattle.gx_import.specs.declared.explanation.Explanation.{Explanation}
+use Rattle.gx_import.specs.declared.explanation.RefLoss.{RefLoss}
 
 -- where a change has a path, it stands behind its number as paths are printed
 abbrev pub behind_number : Option Path → Bytes
@@ -15,14 +17,23 @@ behind_number (Some path) = codes ": " ++ printed (path_text path) ++ 10 ∷ []
 abbrev pub change_line : ℕ → Option Path → Bytes
 change_line number path = codes "gx: change " ++ decimal number ++ behind_number path
 
+-- the ref that would lose a commit, the digits of its commit and those of the new one
+abbrev pub loss_line : {A : Type 0} → RefLoss A → Bytes
+loss_line loss = codes "gx: " ++ loss.name.items ++ codes ": from " ++ hex loss.old.bytes ++ codes " to " ++ hex loss.new.bytes ++ 10 ∷ []
+
 -- the line of a change that is told, if one is
 abbrev pub told_change : Option ℕ → Option Path → Bytes
 told_change None path = []
 told_change (Some number) path = change_line number path
 
--- what is told of a refusal
+-- and that of a ref
+abbrev pub told_loss : {A : Type 0} → Option (RefLoss A) → Bytes
+told_loss None = []
+told_loss (Some loss) = loss_line loss
+
+-- what is told of a refusal, one line for each
 abbrev pub explanation_text : {A : Type 0} → Explanation A → Bytes
-explanation_text told = told_change told.change told.path
+explanation_text told = told_change told.change told.path ++ told_loss told.loss
 
 -- what stands before the text of a line: its number, from 1, and the byte at which it begins, from 0
 abbrev pub place_head : ℕ → ℕ → Bytes

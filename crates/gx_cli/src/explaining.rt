@@ -1,18 +1,18 @@
-//! What explains a refused import, in lines. Source: git-fast-import(1), "filemodify" to "filedeleteall".
+//! What explains a refused import, in lines. Source: git-fast-import(1), "filemodify" to "filedeleteall", and "force".
 
 ghost use Rattle.std.specs.Prelude.{◌≡◌, ◌++◌, IfOk, OnOk};
-ghost use Rattle.gx_cli.specs.ExplainedLines.{change_line, explanation_text, item_line, place_head};
+ghost use Rattle.gx_cli.specs.ExplainedLines.{change_line, explanation_text, item_line, loss_line, place_head};
 
 use crate::printing::put_printed;
-use gx_import::Explanation;
+use gx_import::{Explanation, RefLoss};
 use gx_text::TreePath;
 use itoa::Buffer;
 use std::alloc::{AllocError, Allocator};
 
-/// The lines that explain a refused import: the change of the commit that is refused, by its number and its path. There are none
-/// where nothing is told.
+/// The lines that explain a refused import: the change of the commit that is refused, by its number and its path; and the ref that
+/// would lose a commit, with its commit and the new one. There are none where nothing is told.
 ///
-/// Cost: their length, at most four bytes for each of the path's.
+/// Cost: their length, at most four bytes for each of a path's.
 pub fn explanation_lines<A: Allocator + Copy>(
     alloc: A,
     told: &Explanation<A>,
@@ -22,6 +22,9 @@ pub fn explanation_lines<A: Allocator + Copy>(
     let mut lines = Vec::new(alloc);
     if let Some(number) = told.change {
         put_change(&mut lines, number, &told.path)?;
+    }
+    if let Some(loss) = &told.loss {
+        put_loss(&mut lines, loss)?;
     }
     Ok(lines)
 }
@@ -79,6 +82,23 @@ fn put_change<A: Allocator + Copy>(
             return Err(AllocError);
         }
     }
+    lines.push(b'\n')?;
+    Ok(())
+}
+
+/// Appends the line of a ref that would lose a commit.
+fn put_loss<A: Allocator + Copy>(
+    lines: &mut Vec<u8, A>,
+    loss: &RefLoss<A>,
+) -> Result<(), AllocError>
+    ensures { OnOk result (lines.new.items ≡ lines.old.items ++ loss_line loss.now) }
+{
+    lines.extend_from_slice(b"gx: ")?;
+    lines.extend_from_slice(loss.name.as_slice())?;
+    lines.extend_from_slice(b": from ")?;
+    lines.extend_from_slice(loss.old.hex().as_slice())?;
+    lines.extend_from_slice(b" to ")?;
+    lines.extend_from_slice(loss.new.hex().as_slice())?;
     lines.push(b'\n')?;
     Ok(())
 }

@@ -49,6 +49,8 @@ Output:
                                line, from 1, the byte at which it begins, from
                                0, and the first 200 bytes of the line
     gx: change N: PATH         the Nth change of the commit, and its path
+    gx: REF: from OLD to NEW   the ref that would lose a commit, its commit and
+                               the one to which it would move
   TEXT and PATH are printed as gx ls prints a path.
 
 Refusals, each of which leaves FILE as it was but for those checkpoints:

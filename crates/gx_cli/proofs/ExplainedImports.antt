@@ -20,10 +20,10 @@ use Rattle.gx_cli.specs.declared.fault.CliFault.TheVariants.{Import, OutOfMemory
 
 module _ (name : Kind → Bytes → Bytes) {A : Type 0} (told : Explanation A) where
   -- of a store that isn't read nothing is told
-  pub unread_told : {X : Type 0} (asks : Features) (stored : Stored Records) (coming : Option Coming) (why : FileFault) → TellsNothing told
+  pub unread_told : (X : Type 0) (asks : Features) (stored : Stored Records) (coming : Option Coming) (why : FileFault) → TellsNothing told
       → ExplainsStored name {X = X} asks stored coming (Err (Store why)) told
-  unread_told asks (Ok old) coming why h = h
-  unread_told asks (Err f) coming why h = h
+  unread_told X asks (Ok old) coming why h = h
+  unread_told X asks (Err f) coming why h = h
 
   -- the word of an accepted stream is shown, or refused, and nothing is told
   pub shown_told : (asks : Features) (coming : Option Coming) (before : Bytes) (given : Given Bytes) (was now : Option Taken) (answer : Result (Unit {0}) CliFault)
@@ -40,6 +40,6 @@ kept_told name asks old coming before after was now (inl h) k =
 kept_told name asks old coming before after was now (inr h) k = subst (λ a. ExplainsCommand name asks old coming a now) (sym h.0) h.1
 
 -- an import into a repository with nothing, where it is refused
-pub alone_told : {N X A : Type 0} (name_of : N → Kind → Bytes → Bytes) (namer : N) (old : N × Records) (asks : Features) (coming : Option Coming) (fault : ImportFault) (told : Explanation A) → old ≡ (namer, nothing)
+pub alone_told : {N A : Type 0} (X : Type 0) (name_of : N → Kind → Bytes → Bytes) (namer : N) (old : N × Records) (asks : Features) (coming : Option Coming) (fault : ImportFault) (told : Explanation A) → old ≡ (namer, nothing)
     → ExplainsFault (name_of old.0) asks old.1 coming fault told → ExplainsAlone (name_of namer) {X = X} asks coming (Err fault) told
-alone_told name_of namer old asks coming fault told e h = subst (λ o. ExplainsFault (name_of o.0) asks o.1 coming fault told) e h
+alone_told X name_of namer old asks coming fault told e h = subst (λ o. ExplainsFault (name_of o.0) asks o.1 coming fault told) e h

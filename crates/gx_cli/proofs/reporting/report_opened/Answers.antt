@@ -7,5 +7,5 @@ returns-in-Err-clause-reported g c = none_copied g.N.Namer.name_of c.args.repo.0
 
 pub returns-in-Ok-clause-explained : goal.returns-in-Ok-clause-explained
 returns-in-Ok-clause-explained g c =
-    kept_told (g.N.Namer.name_of c.args.repo.0) c.args.features c.args.repo.1 (g.R.Source.coming c.args.source) c.import_opened.result.1 c.with_report.result.1 c.import_opened.new.told c.with_report.new.told
-    c.with_report.ensures.told c.import_opened.ensures.explained
+    kept_told (g.N.Namer.name_of c.args.repo.0) c.args.features c.args.repo.1 (g.R.Source.coming c.args.source) c.import_opened-next.result.1 c.with_report.result.1 c.import_opened-next.new.told c.with_report.new.told
+    c.with_report.ensures.told c.import_opened-next.ensures.explained

@@ -13,7 +13,7 @@ use Rattle.gx_import.specs.Explaining.{ExplainsAnswer, ExplainsFault, TellsNothi
 use Rattle.gx_import.specs.Exported.{nothing}
 use Rattle.gx_import.specs.declared.explanation.Explanation.{Explanation}
 use Rattle.gx_import.specs.declared.fault.ImportFault.{ImportFault}
-use Rattle.gx_cli.specs.Explained.{ExplainsAlone, ExplainsCommand, ExplainsStored, ExplainsTry, KeepsTold}
+use Rattle.gx_cli.specs.Explained.{ExplainsCommand, ExplainsStored, ExplainsTry, KeepsTold}
 use Rattle.gx_cli.specs.Trying.{Shows}
 use Rattle.gx_cli.specs.declared.fault.CliFault.{CliFault}
 use Rattle.gx_cli.specs.declared.fault.CliFault.TheVariants.{Import, OutOfMemory, Store}
@@ -40,6 +40,6 @@ kept_told name asks old coming before after was now (inl h) k =
 kept_told name asks old coming before after was now (inr h) k = subst (λ a. ExplainsCommand name asks old coming a now) (sym h.0) h.1
 
 -- an import into a repository with nothing, where it is refused
-pub alone_told : {N A : Type 0} (X : Type 0) (name_of : N → Kind → Bytes → Bytes) (namer : N) (old : N × Records) (asks : Features) (coming : Option Coming) (fault : ImportFault) (told : Explanation A) → old ≡ (namer, nothing)
-    → ExplainsFault (name_of old.0) asks old.1 coming fault told → ExplainsAlone (name_of namer) {X = X} asks coming (Err fault) told
-alone_told X name_of namer old asks coming fault told e h = subst (λ o. ExplainsFault (name_of o.0) asks o.1 coming fault told) e h
+pub alone_told : {N A : Type 0} (name_of : N → Kind → Bytes → Bytes) (namer : N) (old : N × Records) (asks : Features) (coming : Option Coming) (fault : ImportFault) (told : Explanation A) → old ≡ (namer, nothing)
+    → ExplainsFault (name_of old.0) asks old.1 coming fault told → ExplainsFault (name_of namer) asks nothing coming fault told
+alone_told name_of namer old asks coming fault told e h = subst (λ o. ExplainsFault (name_of o.0) asks o.1 coming fault told) e h

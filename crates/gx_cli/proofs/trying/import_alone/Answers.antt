@@ -12,4 +12,4 @@ returns-in-Err-clause-replayed g c =
 
 pub returns-in-Err-clause-explained : goal.returns-in-Err-clause-explained
 returns-in-Err-clause-explained g c =
-    alone_told _ g.N.Namer.name_of c.args.namer c.new-repo.result c.args.features (g.R.Source.coming c.args.source) c.in-Err.fault c.import_explained.new.told c.new-repo.ensures c.in-Err.ensures.explained
+    alone_told g.N.Namer.name_of c.args.namer c.new-repo.result c.args.features (g.R.Source.coming c.args.source) c.in-Err.fault c.import_explained.new.told c.new-repo.ensures c.in-Err.ensures.explained

@@ -95,7 +95,7 @@ fn ref_that_would_lose_a_commit_is_told(rt: HostRuntime) -> Result<(), Fail> {
         assert!(rt; told.change.is_none());
         match &told.loss {
             Some(loss) => {
-                assert!(rt; loss.name.as_slice() == b"refs/heads/a");
+                assert!(rt; loss.name.as_slice() == b"refs/heads/a".as_slice());
                 assert!(rt; Name::read(OLD) == Some(loss.old));
                 assert!(rt; Name::read(NEW) == Some(loss.new));
             }

@@ -230,8 +230,12 @@ def unheld(world):
     before = world.remote.read_bytes()
     world.git(*push, "--dry-run", "main", ":side")
     same(world.remote.read_bytes() == before, True, "the bytes before and behind --dry-run")
-    done = world.run(*push, f"{signed}:refs/heads/signed", "main", f"{early}:refs/heads/early", "of-tag", ":side", "main:beside")
-    same(done.stderr.count(b"[remote rejected]"), 3, "refs that are refused")
+    unnamed = written(world, "commit", lambda text: text.replace("\ncommitter ", "\nx ", 1))
+    without = written(world, "tag", lambda text: text[text.index("\n") + 1 :].replace("tag v1\n", "tag without\n"))
+    wrong = [f"{signed}:refs/heads/signed", f"{early}:refs/heads/early", f"{unnamed}:refs/heads/unnamed"]
+    wrong += ["of-tag", f"{without}:refs/tags/without"]
+    done = world.run(*push, *wrong[:2], "main", *wrong[2:], ":side", "main:beside")
+    same(done.stderr.count(b"[remote rejected]"), len(wrong), "refs that are refused")
     wanted = {name: world.git("rev-parse", name) for name in ("light", "main", "v1")}
     refs = {line.rpartition("/")[2]: line[:40] for line in world.refs().decode().splitlines()}
     same(refs, {**wanted, "beside": wanted["main"]}, "refs of the store behind a push that is refused in part")
@@ -247,6 +251,8 @@ def missing(world):
     refused(world, "push", "gx::nowhere/store.gx", "main", told="No such file")
     refused(world, "fetch", "gx::file", told="gx: store: BadMagic")
     refused(world, "push", "gx::file", "main", told="gx: store: BadMagic")
+    refused(world, "fetch", "gx::file/store.gx", told="git-remote-gx: [Errno 20] Not a directory")
+    refused(world, "push", "gx::file/store.gx", "main", told="git-remote-gx: [Errno 20] Not a directory")
     world.git("push", "origin", "main")
     refused(world, "fetch", "origin", told="no such program; GX names gx", more={"GX": "/none/gx"})
     world.git("clone", "--depth", "1", f"file://{world.folder}/work", "shallow", where=".")
@@ -281,6 +287,20 @@ def named(world):
     world.git("push", "-q", "origin", "HEAD:refs/heads/new", where="odd")
     world.git("clone", "-q", "--bare", "gx::it's \"a\" store .gx", "odd.git", where=".")
     world.git("fetch", "-q", "origin", where="odd.git")
+
+
+def partial(world):
+    """A clone that git believes to lack some objects, which it would fetch when they are asked for."""
+    started(world)
+    world.git("clone", "-q", "--filter=blob:none", world.url, "partial", where=".")
+    world.commit({"file": "4\n"})
+    world.git("tag", "-m", "Second", "v2")
+    world.git("push", "-q", "origin", "main", "v2")
+    world.git("pull", "-q", where="partial")
+    same(world.git("rev-parse", "HEAD", "v2", where="partial"), world.git("rev-parse", "HEAD", "v2"), "what was pulled")
+    world.commit({"file": "5\n"}, where="partial")
+    world.git("push", "-q", "origin", "HEAD:side", where="partial")
+    world.git("fsck", where="partial")
 
 
 def broken(world):
@@ -335,7 +355,7 @@ def at_once(world):
     same(world.refs().count(b"refs/heads/topic"), 4, "branches that came in")
 
 
-STORES = [unheld, missing, named, broken, spelled, at_once]
+STORES = [unheld, missing, named, partial, broken, spelled, at_once]
 
 
 # ---- all of them

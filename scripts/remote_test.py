@@ -218,7 +218,7 @@ def unheld(world):
     other = written(world, "tag", lambda text: text.replace("tag v1\n", "tag signed\ngpgsig-sha256 x\n"))
     push = ["push", "origin"]
     refused(world, *push, f"{signed}:refs/heads/signed", told=f"signed (Unsupported: gpgsig of commit {signed})")
-    refused(world, *push, f"{early}:refs/heads/early", told="early (gx: command 2: BadIdent)")
+    refused(world, *push, f"{early}:refs/heads/early", told="early (gx: command 2: BadIdent; gx: line ")
     refused(world, *push, "of-blob", told="of-blob -> of-blob (WrongKind: a tag of a blob)")
     refused(world, *push, "of-tag", told="of-tag -> of-tag (WrongKind: a tag of a tag)")
     refused(world, *push, f"{blob}:refs/tags/blob", told="blob (WrongKind: a blob)")

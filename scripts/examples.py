@@ -4,6 +4,7 @@
     GX=PATH scripts/examples.py            runs those of all pages, with the program at PATH
     GX=PATH scripts/examples.py README.md  runs those of one page
     scripts/examples.py                    makes the program first, by scripts/unproved.sh
+    scripts/examples.py --help             prints this
 
 An example is a block of lines that are indented by four spaces, or the manual's lines between .nf
 and .fi. A line `$ COMMAND` is run by bash, in a folder and a shell of its page; a line `> MORE`
@@ -282,6 +283,9 @@ def made_without_proofs():
 
 
 def main():
+    if "--help" in sys.argv:
+        print(__doc__.strip())
+        return
     gx = str(Path(os.environ.get("GX") or made_without_proofs()).resolve())
     commands = failures = 0
     for page in sys.argv[1:] or PAGES:

@@ -8,16 +8,18 @@ use std::alloc::Global;
 /// Words with bars between them, and the line that they give, as it prints for debugging.
 const LINES: &str = "
 $ blobs % Blobs
-$ try|main % Try { revision: \"main\", done: false, force: false }
-$ try|--done|--|-x % Try { revision: \"-x\", done: true, force: false }
+$ try|main % Try { revision: \"main\", done: false, force: false, explain: false }
+$ try|--done|--|-x % Try { revision: \"-x\", done: true, force: false, explain: false }
+$ try|--explain|x % Try { revision: \"x\", done: false, force: false, explain: true }
 $ adapt % Adapt { drop_signatures: false }
 $ adapt|--drop-signatures % Adapt { drop_signatures: true }
 $ where|7 % Where(7)
 $ where|18446744073709551615 % Where(18446744073709551615)
 $ init|f % Init { file: \"f\" }
-$ import|f % Import { file: \"f\", done: false, force: false, report: false }
-$ import|--force|f|--done % Import { file: \"f\", done: true, force: true, report: false }
-$ import|f|--report % Import { file: \"f\", done: false, force: false, report: true }
+$ import|f % Import { file: \"f\", done: false, force: false, report: false, explain: false }
+$ import|--force|f|--done % Import { file: \"f\", done: true, force: true, report: false, explain: false }
+$ import|f|--report % Import { file: \"f\", done: false, force: false, report: true, explain: false }
+$ import|f|--explain % Import { file: \"f\", done: false, force: false, report: false, explain: true }
 $ drop|f|refs/heads/a|b % Drop { file: \"f\", refs: [\"refs/heads/a\", \"b\"] }
 $ gc|f % Gc { file: \"f\", report: false }
 $ gc|--report|f % Gc { file: \"f\", report: true }

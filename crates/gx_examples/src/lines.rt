@@ -148,7 +148,7 @@ Usage: gx export [OPTIONS] <FILE> [RANGE]...
 $ import|--help % help %
 Usage: gx import [OPTIONS] <FILE>
 $ import|-h % help %
-      --report  Tells the refs that changed%
+      --report   Tells the refs that changed%
 $ show|--help % help %
 Usage: gx show <FILE> <REV>
 $ ls|--help % help %

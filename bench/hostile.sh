@@ -257,6 +257,9 @@ measure_stack() {
   python3 bench/hostile.py deep 3 > "$folder/stream"
   input=$folder/stream
   stack_row 'import, 2,048 components' prepare_import "$gx" import "$folder/store"
+  # the last run above may have been on too small a stack
+  prepare_import
+  "$gx" import "$folder/store" < "$folder/stream"
   cp "$folder/store" "$deep"
   python3 bench/hostile.py rename 2000 > "$folder/stream"
   stack_row 'import, 2,000 renames' prepare_import "$gx" import "$folder/store"

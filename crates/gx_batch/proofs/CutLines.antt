@@ -1,48 +1,47 @@
--- The lines of a text: the first ends before the first LF.
+-- The lines of a text that end with a byte: the first stands before the first such byte.
 use Rattle.std.proofs.Common.{◌≡◌, ℕ, Bool, true, false, eqb, [], ◌∷◌, ◌++◌, Option, Some, None, refl, ap, subst, ◌∙◌, arith, length, ◌<◌}
 use Rattle.std.specs.Option.{option_map}
+use Rattle.std.proofs.lemmas.Bool.Decides.{nat_tests}
 use Rattle.gx_model.specs.Texts.{Bytes, cut_at, lacks}
 use Rattle.gx_model.proofs.Cuts.{lacks-cons, map_some, some_is}
 use Rattle.gx_batch.specs.Lines.{begun_with, lines_of}
 
-pub line_past : (b : ℕ) (bs : Bytes) (fails : Bool) → eqb b 10 ≡ false → lines_of (b ∷ bs) fails ≡ begun_with b fails (lines_of bs fails)
-unfolding lines_of
-line_past b bs fails e = rw e refl
+module _ (e : ℕ) where
+  pub line_past : (b : ℕ) (bs : Bytes) (fails : Bool) → eqb b e ≡ false → lines_of e (b ∷ bs) fails ≡ begun_with b fails (lines_of e bs fails)
+  unfolding lines_of
+  line_past b bs fails h = rw h refl
 
-pub line_here : (bs : Bytes) (fails : Bool) → lines_of (10 ∷ bs) fails ≡ [] ∷ lines_of bs fails
-unfolding lines_of
-line_here bs fails = refl
+  pub line_here : (bs : Bytes) (fails : Bool) → lines_of e (e ∷ bs) fails ≡ [] ∷ lines_of e bs fails
+  unfolding lines_of
+  line_here bs fails = let h : eqb e e ≡ true = grind (arith, nat_tests) in rw h refl
 
-none_is : (fails : Bool) → lines_of [] fails ≡ []
-unfolding lines_of
-none_is fails = refl
+  pub no_lines : (fails : Bool) → lines_of e [] fails ≡ []
+  unfolding lines_of
+  no_lines fails = refl
 
--- a line, its LF and more
-pub line_first : (l rest : Bytes) (fails : Bool) → lacks 10 l ≡ true → lines_of (l ++ 10 ∷ rest) fails ≡ l ∷ lines_of rest fails
-line_first [] rest fails h = line_here rest fails
-line_first (b ∷ bs) rest fails h =
-    let p = lacks-cons 10 b bs h in
-    line_past b (bs ++ 10 ∷ rest) fails p.0 ∙ ap (begun_with b fails) (line_first bs rest fails p.1)
+  -- a line, its ending and more
+  pub line_first : (l rest : Bytes) (fails : Bool) → lacks e l ≡ true → lines_of e (l ++ e ∷ rest) fails ≡ l ∷ lines_of e rest fails
+  line_first [] rest fails h = line_here rest fails
+  line_first (b ∷ bs) rest fails h =
+      let p = lacks-cons e b bs h in
+      line_past b (bs ++ e ∷ rest) fails p.0 ∙ ap (begun_with b fails) (line_first bs rest fails p.1)
 
--- no line came whole
-pub line_cut : (l : Bytes) → lacks 10 l ≡ true → lines_of l true ≡ []
-line_cut [] h = none_is true
-line_cut (b ∷ bs) h =
-    let p = lacks-cons 10 b bs h in
-    line_past b bs true p.0 ∙ ap (begun_with b true) (line_cut bs p.1)
+  -- no line came whole
+  pub line_cut : (l : Bytes) → lacks e l ≡ true → lines_of e l true ≡ []
+  line_cut [] h = no_lines true
+  line_cut (b ∷ bs) h =
+      let p = lacks-cons e b bs h in
+      line_past b bs true p.0 ∙ ap (begun_with b true) (line_cut bs p.1)
 
--- the last line, which has no LF
-pub line_last : (l : Bytes) → 0 < length l → lacks 10 l ≡ true → lines_of l false ≡ l ∷ []
-line_last [] some h = absurd (omega arith)
-line_last (b ∷ []) some h =
-    let p = lacks-cons 10 b [] h in
-    line_past b [] false p.0 ∙ ap (begun_with b false) (none_is false)
-line_last (b ∷ c ∷ bs) some h =
-    let p = lacks-cons 10 b (c ∷ bs) h in
-    line_past b (c ∷ bs) false p.0 ∙ ap (begun_with b false) (line_last (c ∷ bs) (omega arith) p.1)
-
-pub no_lines : (fails : Bool) → lines_of [] fails ≡ []
-no_lines fails = none_is fails
+  -- the last line, which has no ending
+  pub line_last : (l : Bytes) → 0 < length l → lacks e l ≡ true → lines_of e l false ≡ l ∷ []
+  line_last [] some h = absurd (omega arith)
+  line_last (b ∷ []) some h =
+      let p = lacks-cons e b [] h in
+      line_past b [] false p.0 ∙ ap (begun_with b false) (no_lines false)
+  line_last (b ∷ c ∷ bs) some h =
+      let p = lacks-cons e b (c ∷ bs) h in
+      line_past b (c ∷ bs) false p.0 ∙ ap (begun_with b false) (line_last (c ∷ bs) (omega arith) p.1)
 
 -- neither of two texts has the byte
 pub lacks_both : (c : ℕ) (xs ys : Bytes) → lacks c xs ≡ true → lacks c ys ≡ true → lacks c (xs ++ ys) ≡ true

@@ -1,6 +1,7 @@
 pub mod Answering
 pub mod Arrivals
 pub mod CutLines
+pub mod Endings
 pub mod LeftOutCrs
 pub mod PassedBytes
 pub mod RestParts

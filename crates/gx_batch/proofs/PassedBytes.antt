@@ -1,16 +1,16 @@
 -- What came and was passed, and what is to come then.
 use Rattle.std.proofs.Common.{◌≡◌, ℕ, ◌<◌, ◌+◌, Bool, true, false, not, eqb, [], ◌∷◌, ◌++◌, Option, Some, None, Ok, Err, refl, sym, ap, subst, ◌∙◌, arith, length, length-append, append_assoc, append-nil}
 use Rattle.std.proofs.lemmas.Bool.Decides.{nat_tests}
-use Rattle.std.specs.Io.BufRead.{strip_last}
 use Rattle.gx_model.specs.Texts.{Bytes, lacks}
 use Rattle.gx_text.specs.Devices.{Coming}
-use Rattle.gx_batch.specs.Lines.{lines_from, lines_of, without_crs}
+use Rattle.gx_batch.specs.Lines.{byte_of, lines_from, lines_of, single_ended, trimmed}
 use Rattle.gx_batch.specs.Reading.{Passes, Reads, TakesPart, behind, shown_coming, shown_most}
+use Rattle.gx_batch.specs.declared.ending.LineEnding.{LineEnding}
 use Rattle.gx_batch.specs.declared.fault.BatchFault.TheVariants.{ReadFailed}
 use Rattle.gx_batch.specs.declared.lines.State.{State}
 use Rattle.gx_batch.specs.declared.lines.State.TheVariants.{Open, Ended, Failed}
 use Rattle.gx_batch.proofs.CutLines.{lacks_both, line_cut, line_first, line_last, no_lines}
-use Rattle.gx_batch.proofs.LeftOutCrs.{crs_first, crs_kept, crs_none, strip_lacks}
+use Rattle.gx_batch.proofs.Endings.{ended_first, ended_kept, ended_none, trimmed_lacks}
 
 -- bytes behind bytes
 behind_both : (a b : Bytes) (c : Coming) → behind (a ++ b) c ≡ behind a (behind b c)
@@ -43,22 +43,24 @@ passes_both a b (Some c) (Some d) z p q =
 pub passes_still : (a : Bytes) (x y z : Option Coming) → Passes a x y → Passes [] y z → Passes a x z
 passes_still a x y z p q = subst (λ bs. Passes bs x z) (append-nil a) (passes_both a [] x y z p q)
 
-lines_left : (was left : Coming) (front : Bytes) → was ≡ behind front left → lines_from was ≡ lines_of (without_crs (front ++ left.bytes)) left.fails
-lines_left was left front e = ap lines_from e
+lines_left : (ending : LineEnding) (was left : Coming) (front : Bytes) → was ≡ behind front left → lines_from ending was ≡ lines_of (byte_of ending) (single_ended ending (front ++ left.bytes)) left.fails
+lines_left ending was left front e = ap (lines_from ending) e
 
 -- nothing has no lines
-none_left : (fails : Bool) → lines_of (without_crs []) fails ≡ []
-none_left fails = ap (λ bs. lines_of bs fails) crs_none ∙ no_lines fails
+none_left : (ending : LineEnding) (fails : Bool) → lines_of (byte_of ending) (single_ended ending []) fails ≡ []
+none_left ending fails = ap (λ bs. lines_of (byte_of ending) bs fails) (ended_none ending) ∙ no_lines (byte_of ending) fails
 
--- a line and its LF were passed
-pub reads_line : (line : Bytes) (was now : Option Coming) → lacks 10 line ≡ true → Passes (line ++ 10 ∷ []) was now → Reads was now (strip_last 13 line) (Ok true)
-reads_line line None now h p = tt
-reads_line line (Some c) now h p =
-    let left = p.0 in (
+-- a line and its ending were passed
+pub reads_line : (ending : LineEnding) (line : Bytes) (was now : Option Coming) → lacks (byte_of ending) line ≡ true → Passes (line ++ byte_of ending ∷ []) was now → Reads ending was now (trimmed ending line) (Ok true)
+reads_line ending line None now h p = tt
+reads_line ending line (Some c) now h p =
+    let left = p.0 in
+    let b = byte_of ending in (
       left,
       p.1,
-      lines_left c left (line ++ 10 ∷ []) p.2 ∙ ap (λ bs. lines_of (without_crs bs) left.fails) (append_assoc line (10 ∷ []) left.bytes)
-          ∙ ap (λ bs. lines_of bs left.fails) (crs_first line left.bytes h) ∙ line_first (strip_last 13 line) (without_crs left.bytes) left.fails (strip_lacks line h),
+      lines_left ending c left (line ++ b ∷ []) p.2 ∙ ap (λ bs. lines_of b (single_ended ending bs) left.fails) (append_assoc line (b ∷ []) left.bytes)
+          ∙ ap (λ bs. lines_of b bs left.fails) (ended_first ending line left.bytes h)
+          ∙ line_first b (trimmed ending line) (single_ended ending left.bytes) left.fails (trimmed_lacks ending line h),
       sym (ap (λ (d : Coming). d.fails) p.2),
     )
 
@@ -71,33 +73,33 @@ has_none [] n empty long e h = refl
 has_none (b ∷ bs) n empty long e h = grind (arith, nat_tests)
 
 -- all was passed, and the source ended
-pub reads_end : (room : ℕ) (coming : Option Coming) (line : Bytes) (was : Option Coming) (answer : Bool) → lacks 10 line ≡ true → Passes line was (shown_coming Ended room coming []) → (answer ≡ true → 0 < length line) → (answer ≡ false → line ≡ []) → Reads was (shown_coming Ended room coming []) line (Ok answer)
-reads_end room coming line None true h p some none = tt
-reads_end room coming line None false h p some none = tt
-reads_end room coming line (Some c) true h p some none =
+pub reads_end : (ending : LineEnding) (room : ℕ) (coming : Option Coming) (line : Bytes) (was : Option Coming) (answer : Bool) → lacks (byte_of ending) line ≡ true → Passes line was (shown_coming Ended room coming []) → (answer ≡ true → 0 < length line) → (answer ≡ false → line ≡ []) → Reads ending was (shown_coming Ended room coming []) line (Ok answer)
+reads_end ending room coming line None true h p some none = tt
+reads_end ending room coming line None false h p some none = tt
+reads_end ending room coming line (Some c) true h p some none =
     let left = p.0 in
     let same = some_same (record { bytes = []; fails = false }) left p.1 in
     let whole = p.2 ∙ ap (behind line) (sym same) in (
       left,
       p.1,
-      lines_left c (record { bytes = []; fails = false }) line whole ∙ ap (λ bs. lines_of (without_crs bs) false) (append-nil line) ∙ ap (λ bs. lines_of bs false) (crs_kept line h)
-          ∙ line_last line (some refl) h ∙ ap (λ ls. line ∷ ls) (sym (ap lines_from (sym same) ∙ none_left false)),
+      lines_left ending c (record { bytes = []; fails = false }) line whole ∙ ap (λ bs. lines_of (byte_of ending) (single_ended ending bs) false) (append-nil line) ∙ ap (λ bs. lines_of (byte_of ending) bs false) (ended_kept ending line h)
+          ∙ line_last (byte_of ending) line (some refl) h ∙ ap (λ ls. line ∷ ls) (sym (ap (lines_from ending) (sym same) ∙ none_left ending false)),
       sym (ap (λ (d : Coming). d.fails) p.2),
     )
-reads_end room coming line (Some c) false h p some none =
+reads_end ending room coming line (Some c) false h p some none =
     let left = p.0 in
     let same = some_same (record { bytes = []; fails = false }) left p.1 in
     let whole = p.2 ∙ ap (behind line) (sym same) in
-    (lines_left c (record { bytes = []; fails = false }) line whole ∙ ap (λ bs. lines_of (without_crs bs) false) (append-nil line ∙ none refl) ∙ none_left false, ap (λ (d : Coming). d.fails) whole)
+    (lines_left ending c (record { bytes = []; fails = false }) line whole ∙ ap (λ bs. lines_of (byte_of ending) (single_ended ending bs) false) (append-nil line ∙ none refl) ∙ none_left ending false, ap (λ (d : Coming). d.fails) whole)
 
 -- all was passed, and the source failed
-pub reads_failure : (room : ℕ) (coming : Option Coming) (line : Bytes) (was : Option Coming) → lacks 10 line ≡ true → Passes line was (shown_coming Failed room coming []) → Reads was (shown_coming Failed room coming []) line (Err ReadFailed)
-reads_failure room coming line None h p = tt
-reads_failure room coming line (Some c) h p =
+pub reads_failure : (ending : LineEnding) (room : ℕ) (coming : Option Coming) (line : Bytes) (was : Option Coming) → lacks (byte_of ending) line ≡ true → Passes line was (shown_coming Failed room coming []) → Reads ending was (shown_coming Failed room coming []) line (Err ReadFailed)
+reads_failure ending room coming line None h p = tt
+reads_failure ending room coming line (Some c) h p =
     let left = p.0 in
     let same = some_same (record { bytes = []; fails = true }) left p.1 in
     let whole = p.2 ∙ ap (behind line) (sym same) in
-    (lines_left c (record { bytes = []; fails = true }) line whole ∙ ap (λ bs. lines_of (without_crs bs) true) (append-nil line) ∙ ap (λ bs. lines_of bs true) (crs_kept line h) ∙ line_cut line h, ap (λ (d : Coming). d.fails) whole)
+    (lines_left ending c (record { bytes = []; fails = true }) line whole ∙ ap (λ bs. lines_of (byte_of ending) (single_ended ending bs) true) (append-nil line) ∙ ap (λ bs. lines_of (byte_of ending) bs true) (ended_kept ending line h) ∙ line_cut (byte_of ending) line h, ap (λ (d : Coming). d.fails) whole)
 
 -- ---- what one part changes
 
@@ -107,29 +109,30 @@ most_less Open room front rest = let long = length-append front rest in omega ar
 most_less Ended room front rest = length-append front rest
 most_less Failed room front rest = length-append front rest
 
-module _ (was coming : Option Coming) (room : ℕ) (rest left line now : Bytes) where
+module _ (ending : LineEnding) (was coming : Option Coming) (room : ℕ) (rest left line now : Bytes) where
   -- a line came whole
-  pub whole_line : (state : State) → lacks 10 line ≡ true → Passes line was (shown_coming state room coming rest) → TakesPart rest left line now true → Reads was (shown_coming state room coming left) (strip_last 13 now) (Ok true)
+  pub whole_line : (state : State) → lacks (byte_of ending) line ≡ true → Passes line was (shown_coming state room coming rest) → TakesPart (byte_of ending) rest left line now true → Reads ending was (shown_coming state room coming left) (trimmed ending now) (Ok true)
   whole_line state h p t =
       let front = t.0 in
-      let ended = front ++ 10 ∷ [] in
-      let parts : rest ≡ ended ++ left = t.2 ∙ sym (append_assoc front (10 ∷ []) left) in
+      let b = byte_of ending in
+      let ended = front ++ b ∷ [] in
+      let parts : rest ≡ ended ++ left = t.2 ∙ sym (append_assoc front (b ∷ []) left) in
       let more = passes_both line ended was (shown_coming state room coming (ended ++ left)) (shown_coming state room coming left) (subst (λ bs. Passes line was (shown_coming state room coming bs)) parts p) (passes_front state room coming ended left) in
-      let joined : line ++ ended ≡ now ++ 10 ∷ [] = sym (append_assoc line front (10 ∷ [])) ∙ ap (λ bs. bs ++ 10 ∷ []) (sym t.3) in
-      reads_line now was (shown_coming state room coming left) (rw t.3 (lacks_both 10 line front h t.1)) (subst (λ bs. Passes bs was (shown_coming state room coming left)) joined more)
+      let joined : line ++ ended ≡ now ++ b ∷ [] = sym (append_assoc line front (b ∷ [])) ∙ ap (λ bs. bs ++ b ∷ []) (sym t.3) in
+      reads_line ending now was (shown_coming state room coming left) (rw t.3 (lacks_both (byte_of ending) line front h t.1)) (subst (λ bs. Passes bs was (shown_coming state room coming left)) joined more)
 
   -- all that came is part of the line
-  pub all_passed : (state : State) → Passes line was (shown_coming state room coming rest) → TakesPart rest left line now false → Passes now was (shown_coming state room coming left)
+  pub all_passed : (state : State) → Passes line was (shown_coming state room coming rest) → TakesPart (byte_of ending) rest left line now false → Passes now was (shown_coming state room coming left)
   all_passed state p t =
       let parts : rest ≡ rest ++ left = sym (append-nil rest) ∙ ap (λ bs. rest ++ bs) (sym t.1) in
       let more = passes_both line rest was (shown_coming state room coming (rest ++ left)) (shown_coming state room coming left) (subst (λ bs. Passes line was (shown_coming state room coming bs)) parts p) (passes_front state room coming rest left) in
       subst (λ bs. Passes bs was (shown_coming state room coming left)) (sym t.2) more
 
-  pub still_lacks : lacks 10 line ≡ true → TakesPart rest left line now false → lacks 10 now ≡ true
-  still_lacks h t = rw t.2 (lacks_both 10 line rest h t.0)
+  pub still_lacks : lacks (byte_of ending) line ≡ true → TakesPart (byte_of ending) rest left line now false → lacks (byte_of ending) now ≡ true
+  still_lacks h t = rw t.2 (lacks_both (byte_of ending) line rest h t.0)
 
   -- the bound and the line's length change alike
-  pub same_most : (state : State) → TakesPart rest left line now false → length now + shown_most state room left ≡ length line + shown_most state room rest
+  pub same_most : (state : State) → TakesPart (byte_of ending) rest left line now false → length now + shown_most state room left ≡ length line + shown_most state room rest
   same_most state t =
       let parts : rest ≡ rest ++ left = sym (append-nil rest) ∙ ap (λ bs. rest ++ bs) (sym t.1) in
       let less = most_less state room rest left in
@@ -139,17 +142,17 @@ module _ (was coming : Option Coming) (room : ℕ) (rest left line now : Bytes) 
       omega arith
 
   -- all passed, and the source ended
-  pub ends_so : (state : State) (answer : Bool) → state ≡ Ended → lacks 10 line ≡ true → Passes line was (shown_coming state room coming rest) → TakesPart rest left line now false → (answer ≡ true → 0 < length now) → (answer ≡ false → now ≡ []) → Reads was (shown_coming state room coming left) now (Ok answer)
+  pub ends_so : (state : State) (answer : Bool) → state ≡ Ended → lacks (byte_of ending) line ≡ true → Passes line was (shown_coming state room coming rest) → TakesPart (byte_of ending) rest left line now false → (answer ≡ true → 0 < length now) → (answer ≡ false → now ≡ []) → Reads ending was (shown_coming state room coming left) now (Ok answer)
   ends_so state answer s h p t some none =
       let passed = all_passed state p t in
       let here = subst (λ (st : State). Passes now was (shown_coming st room coming left)) s passed in
-      let read = reads_end room coming now was answer (still_lacks h t) (subst (λ bs. Passes now was (shown_coming Ended room coming bs)) t.1 here) some none in
-      subst (λ (st : State). Reads was (shown_coming st room coming left) now (Ok answer)) (sym s) (subst (λ bs. Reads was (shown_coming Ended room coming bs) now (Ok answer)) (sym t.1) read)
+      let read = reads_end ending room coming now was answer (still_lacks h t) (subst (λ bs. Passes now was (shown_coming Ended room coming bs)) t.1 here) some none in
+      subst (λ (st : State). Reads ending was (shown_coming st room coming left) now (Ok answer)) (sym s) (subst (λ bs. Reads ending was (shown_coming Ended room coming bs) now (Ok answer)) (sym t.1) read)
 
   -- all passed, and the source failed
-  pub fails_so : (state : State) → state ≡ Failed → lacks 10 line ≡ true → Passes line was (shown_coming state room coming rest) → TakesPart rest left line now false → Reads was (shown_coming state room coming left) now (Err ReadFailed)
+  pub fails_so : (state : State) → state ≡ Failed → lacks (byte_of ending) line ≡ true → Passes line was (shown_coming state room coming rest) → TakesPart (byte_of ending) rest left line now false → Reads ending was (shown_coming state room coming left) now (Err ReadFailed)
   fails_so state s h p t =
       let passed = all_passed state p t in
       let here = subst (λ (st : State). Passes now was (shown_coming st room coming left)) s passed in
-      let read = reads_failure room coming now was (still_lacks h t) (subst (λ bs. Passes now was (shown_coming Failed room coming bs)) t.1 here) in
-      subst (λ (st : State). Reads was (shown_coming st room coming left) now (Err ReadFailed)) (sym s) (subst (λ bs. Reads was (shown_coming Failed room coming bs) now (Err ReadFailed)) (sym t.1) read)
+      let read = reads_failure ending room coming now was (still_lacks h t) (subst (λ bs. Passes now was (shown_coming Failed room coming bs)) t.1 here) in
+      subst (λ (st : State). Reads ending was (shown_coming st room coming left) now (Err ReadFailed)) (sym s) (subst (λ bs. Reads ending was (shown_coming Failed room coming bs) now (Err ReadFailed)) (sym t.1) read)

@@ -7,19 +7,19 @@ use Rattle.gx_model.specs.Texts.{Bytes}
 pub none_left : (piece : Bytes) (end : ℕ) → slice_range piece end end ≡ []
 none_left piece end = let zero : end - end ≡ 0 = omega arith in ap (λ k. take k (drop end piece)) zero
 
--- what stands behind an LF
+-- what stands behind a byte
 pub record IsLeft (piece after : Bytes) (end : ℕ) : Type 0 where
   pub within : length after ≤ end
   pub left : slice_range piece (end - length after) end ≡ after
 
-pub left_behind : (piece front after : Bytes) (at end : ℕ) → at ≤ end → end ≤ length piece → slice_range piece at end ≡ front ++ 10 ∷ after → IsLeft piece after end
-left_behind piece front after at end l m e =
+pub left_behind : (piece front after : Bytes) (b at end : ℕ) → at ≤ end → end ≤ length piece → slice_range piece at end ≡ front ++ b ∷ after → IsLeft piece after end
+left_behind piece front after b at end l m e =
     let n = length front + 1 in
     let more = end - at - n in
-    let lined = front ++ 10 ∷ [] in
-    let whole : slice_range piece at end ≡ lined ++ after = e ∙ sym (append_assoc front (10 ∷ []) after) in
+    let lined = front ++ b ∷ [] in
+    let whole : slice_range piece at end ≡ lined ++ after = e ∙ sym (append_assoc front (b ∷ []) after) in
     let long : length (slice_range piece at end) ≡ end - at = length-take-le (end - at) (drop at piece) (omega (arith, length-drop at piece, m)) in
-    let lines : length lined ≡ n = length-append front (10 ∷ []) in
+    let lines : length lined ≡ n = length-append front (b ∷ []) in
     let joined = length-append lined after in
     let same = ap length whole in
     let parts : n + more ≡ end - at = omega (arith, long, lines, joined, same) in

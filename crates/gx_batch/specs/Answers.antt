@@ -2,19 +2,19 @@
 -- Source: git-cat-file(1), "BATCH OUTPUT", and what git 2.39 does with a `/` behind a path.
 use Rattle.std.specs.Prelude.{ℕ, Bool, nat_eq, if◌then◌else◌, List, [], ◌∷◌, ◌++◌, length, codes, Option, Some, None, Ok, Err}
 use Rattle.std.specs.List.{ends_with, flat_map}
-use Rattle.std.specs.Fmt.{decimal}
 use Rattle.gx_model.specs.declared.objects.Kind.{Kind}
 use Rattle.gx_model.specs.declared.faults.Fault.{Fault}
 use Rattle.gx_model.specs.declared.faults.Fault.TheVariants.{Ambiguous, WrongKind}
 use Rattle.gx_model.specs.Texts.{Bytes, cut_at, same_bytes}
 use Rattle.gx_model.specs.Faults.{Given, and_then}
 use Rattle.gx_model.specs.Histories.Values.{Value, blob_value, commit_value, tag_value, tree_value}
-use Rattle.gx_model.specs.Objects.{hex, line}
+use Rattle.gx_model.specs.Objects.{line}
 use Rattle.gx_model.specs.Records.{body_of, kind_of, name_of}
 use Rattle.gx_model.specs.Histories.{History}
-use Rattle.gx_model.specs.Objects.Naming.{kind_word}
 use Rattle.gx_model.specs.Revisions.{revision_of, without_last}
 use Rattle.gx_model.specs.Revisions.Denotation.{Shown, denoted, object, submodule}
+use Rattle.gx_batch.specs.Formats.{object_line}
+use Rattle.gx_batch.specs.declared.format.Part.{Part}
 
 -- ---- what a line asks for
 
@@ -49,10 +49,6 @@ abbrev pub reason : Fault → Bytes
 reason Ambiguous = codes "ambiguous"
 reason fault = codes "missing"
 
--- the line of an object of this name, kind and length
-abbrev pub line_of_parts : Bytes → Kind → ℕ → Bytes
-line_of_parts called kind size = line (hex called) (kind_word kind ++ 32 ∷ decimal size)
-
 module _ (name : Kind → Bytes → Bytes) where
   -- what a text gives as a revision in a history
   abbrev pub given_by : History → Bytes → Given Shown
@@ -66,24 +62,21 @@ module _ (name : Kind → Bytes → Bytes) where
   abbrev pub asked_for : History → Bytes → Given Shown
   asked_for h asked = asked_by h asked (directory_of asked)
 
-  -- an object's name, kind and length
-  abbrev pub object_line : Value → Bytes
-  object_line value = line_of_parts (name_of name value) (kind_of name value) (length (body_of name value))
-
-  -- the line, and where its bytes are asked for these and an LF
-  abbrev pub object_text : Bool → Value → Bytes
-  object_text check value = object_line value ++ (if check then [] else body_of name value ++ 10 ∷ [])
+  -- an object's line in a format, and where its bytes are asked for these and an LF
+  abbrev pub object_text : Bool → List Part → Value → Bytes
+  object_text check parts value =
+      object_line parts (name_of name value) (kind_of name value) (length (body_of name value)) ++ (if check then [] else body_of name value ++ 10 ∷ [])
 
   -- what is answered where this is shown; a submodule is no object
-  abbrev pub answer_by : Bool → Bytes → Given Shown → Bytes
-  answer_by check asked (Ok (object value)) = object_text check value
-  answer_by check asked (Ok (submodule digits)) = line asked (codes "missing")
-  answer_by check asked (Err fault) = line asked (reason fault)
+  abbrev pub answer_by : Bool → List Part → Bytes → Given Shown → Bytes
+  answer_by check parts asked (Ok (object value)) = object_text check parts value
+  answer_by check parts asked (Ok (submodule digits)) = line asked (codes "missing")
+  answer_by check parts asked (Err fault) = line asked (reason fault)
 
   -- what is answered to a line in a history
-  abbrev pub batch_answer : Bool → History → Bytes → Bytes
-  batch_answer check h asked = answer_by check asked (asked_for h asked)
+  abbrev pub batch_answer : Bool → List Part → History → Bytes → Bytes
+  batch_answer check parts h asked = answer_by check parts asked (asked_for h asked)
 
   -- what is answered to lines
-  abbrev pub batch_text : Bool → History → List Bytes → Bytes
-  batch_text check h = flat_map (batch_answer check h)
+  abbrev pub batch_text : Bool → List Part → History → List Bytes → Bytes
+  batch_text check parts h = flat_map (batch_answer check parts h)

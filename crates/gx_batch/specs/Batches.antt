@@ -1,11 +1,13 @@
 -- What answering the lines of a source gives.
-use Rattle.std.specs.Prelude.{◌≡◌, Bool, true, false, List, ◌++◌, Option, None, Some, Result, Ok, Err}
+use Rattle.std.specs.Prelude.{◌≡◌, ℕ, Bool, true, false, List, ◌++◌, map, Option, None, Some, Result, Ok, Err, ⊤}
+use Rattle.std.specs.declared.vec.Vec.{Vec}
 use Rattle.std.specs.List.{flat_map}
 use Rattle.gx_model.specs.Texts.{Bytes}
 use Rattle.gx_model.specs.Texts.Sinks.{FailedWithin, Taken, Took}
 use Rattle.gx_text.specs.Devices.{Coming}
 use Rattle.gx_stream.specs.Heard.{heard}
 use Rattle.gx_batch.specs.Lines.{lines_from}
+use Rattle.gx_batch.specs.declared.ending.LineEnding.{LineEnding}
 use Rattle.gx_batch.specs.declared.fault.BatchFault.{BatchFault}
 use Rattle.gx_batch.specs.declared.fault.BatchFault.TheVariants.{OutOfMemory, ReadFailed, WriteFailed}
 
@@ -25,6 +27,18 @@ Answered answer lines fails was now (Err WriteFailed) = FailedWithin was now (fl
 Answered answer lines fails was now (Err OutOfMemory) = (front : List Bytes) × (rest : List Bytes) × (lines ≡ front ++ rest) × Took was now (flat_map answer front)
 
 -- The same of the lines of a source. Where it tells nothing, there are lines that it gave.
-abbrev pub Answers : (Bytes → Bytes) → Option Coming → Option Taken → Option Taken → Result (Unit {0}) BatchFault → Type 0
-Answers answer None was now result = (lines : List Bytes) × (fails : Bool) × Answered answer lines fails was now result
-Answers answer (Some coming) was now result = Answered answer (lines_from (heard coming)) (heard coming).fails was now result
+abbrev pub Answers : (Bytes → Bytes) → LineEnding → Option Coming → Option Taken → Option Taken → Result (Unit {0}) BatchFault → Type 0
+Answers answer ending None was now result = (lines : List Bytes) × (fails : Bool) × Answered answer lines fails was now result
+Answers answer ending (Some coming) was now result = Answered answer (lines_from ending (heard coming)) (heard coming).fails was now result
+
+-- All the lines were read, and the source ended, or it failed behind them.
+abbrev pub AreRead : {A : Type 0} → List Bytes → Bool → Result (Vec (Vec ℕ A) A) BatchFault → Type 0
+AreRead lines fails (Ok read) = (fails ≡ false) × (map (λ line. line.items) read.items ≡ lines)
+AreRead lines fails (Err ReadFailed) = fails ≡ true
+AreRead lines fails (Err OutOfMemory) = ⊤
+AreRead lines fails (Err WriteFailed) = ⊥
+
+-- The same of the lines of a source. Where it tells nothing, there are lines that it gave.
+abbrev pub GivesLines : {A : Type 0} → LineEnding → Option Coming → Result (Vec (Vec ℕ A) A) BatchFault → Type 0
+GivesLines ending None result = (lines : List Bytes) × (fails : Bool) × AreRead lines fails result
+GivesLines ending (Some coming) result = AreRead (lines_from ending (heard coming)) (heard coming).fails result

@@ -1,4 +1,5 @@
 pub mod Lines
+pub mod Formats
 pub mod Answers
 pub mod Batches
 pub mod Calls

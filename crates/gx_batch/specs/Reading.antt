@@ -6,6 +6,7 @@ use Rattle.gx_model.specs.Texts.{Bytes, lacks}
 use Rattle.gx_text.specs.Devices.{Coming}
 use Rattle.gx_stream.specs.Heard.{heard, heard_upto}
 use Rattle.gx_batch.specs.Lines.{lines_from}
+use Rattle.gx_batch.specs.declared.ending.LineEnding.{LineEnding}
 use Rattle.gx_batch.specs.declared.fault.BatchFault.{BatchFault}
 use Rattle.gx_batch.specs.declared.fault.BatchFault.TheVariants.{OutOfMemory, ReadFailed, WriteFailed}
 use Rattle.gx_batch.specs.declared.lines.LineReader.{LineReader}
@@ -68,33 +69,33 @@ abbrev pub KeepsComing : {R : Type 0} → (R → Option Coming) → R → R → 
 KeepsComing coming old new before after piece answer =
     Passes [] (shown_coming Open before (coming old) []) (shown_coming answer.0 after (coming new) (take answer.1 piece))
 
--- Of what is left to read, what stands before an LF is put behind a line, with what stands behind the LF left; or all is, and none of
--- it is an LF.
-abbrev pub TakesPart : Bytes → Bytes → Bytes → Bytes → Bool → Type 0
-TakesPart rest left line now true = (front : Bytes) × (lacks 10 front ≡ true) × (rest ≡ front ++ 10 ∷ left) × (now ≡ line ++ front)
-TakesPart rest left line now false = (lacks 10 rest ≡ true) × (left ≡ []) × (now ≡ line ++ rest)
+-- Of what is left to read, what stands before the first such byte is put behind a line, with what stands behind that byte left; or all is,
+-- and has no such byte.
+abbrev pub TakesPart : ℕ → Bytes → Bytes → Bytes → Bytes → Bool → Type 0
+TakesPart e rest left line now true = (front : Bytes) × (lacks e front ≡ true) × (rest ≡ front ++ e ∷ left) × (now ≡ line ++ front)
+TakesPart e rest left line now false = (lacks e rest ≡ true) × (left ≡ []) × (now ≡ line ++ rest)
 
 -- the same of what stands in a piece up to an end, from one place on before and from another then
-abbrev pub TakesPartOf : {A : Type 0} → Bytes → ℕ → ℕ → ℕ → Vec ℕ A → Vec ℕ A → Bool → Type 0
-TakesPartOf piece end before after line now = TakesPart (slice_range piece before end) (slice_range piece after end) line.items now.items
+abbrev pub TakesPartOf : {A : Type 0} → ℕ → Bytes → ℕ → ℕ → ℕ → Vec ℕ A → Vec ℕ A → Bool → Type 0
+TakesPartOf e piece end before after line now = TakesPart e (slice_range piece before end) (slice_range piece after end) line.items now.items
 
 -- Where the lines to come are known, the first is answered, and the others are left. That there is none is answered only where none
 -- is left, with the end or the failure that follows.
-abbrev pub ReadsFrom : Coming → Option Coming → Bytes → Result Bool BatchFault → Type 0
-ReadsFrom was now line (Ok true) = (left : Coming) × (now ≡ Some left) × (lines_from was ≡ line ∷ lines_from left) × (left.fails ≡ was.fails)
-ReadsFrom was now line (Ok false) = (lines_from was ≡ []) × (was.fails ≡ false)
-ReadsFrom was now line (Err ReadFailed) = (lines_from was ≡ []) × (was.fails ≡ true)
-ReadsFrom was now line (Err OutOfMemory) = ⊤
-ReadsFrom was now line (Err WriteFailed) = ⊥
+abbrev pub ReadsFrom : LineEnding → Coming → Option Coming → Bytes → Result Bool BatchFault → Type 0
+ReadsFrom ending was now line (Ok true) = (left : Coming) × (now ≡ Some left) × (lines_from ending was ≡ line ∷ lines_from ending left) × (left.fails ≡ was.fails)
+ReadsFrom ending was now line (Ok false) = (lines_from ending was ≡ []) × (was.fails ≡ false)
+ReadsFrom ending was now line (Err ReadFailed) = (lines_from ending was ≡ []) × (was.fails ≡ true)
+ReadsFrom ending was now line (Err OutOfMemory) = ⊤
+ReadsFrom ending was now line (Err WriteFailed) = ⊥
 
-abbrev pub Reads : Option Coming → Option Coming → Bytes → Result Bool BatchFault → Type 0
-Reads None now line (Err WriteFailed) = ⊥
-Reads None now line answer = ⊤
-Reads (Some was) now line answer = ReadsFrom was now line answer
+abbrev pub Reads : LineEnding → Option Coming → Option Coming → Bytes → Result Bool BatchFault → Type 0
+Reads ending None now line (Err WriteFailed) = ⊥
+Reads ending None now line answer = ⊤
+Reads ending (Some was) now line answer = ReadsFrom ending was now line answer
 
 -- the same of a reader, by what its source gives
-abbrev pub ReadsLine : {R A : Type 0} → (R → Option Coming) → LineReader R A → LineReader R A → Vec ℕ A → Result Bool BatchFault → Type 0
-ReadsLine coming old new line answer = Reads (shown_from coming old) (shown_from coming new) line.items answer
+abbrev pub ReadsLine : {R A : Type 0} → (R → Option Coming) → LineEnding → LineReader R A → LineReader R A → Vec ℕ A → Result Bool BatchFault → Type 0
+ReadsLine coming ending old new line answer = Reads ending (shown_from coming old) (shown_from coming new) line.items answer
 
 -- a line lowers the bound
 abbrev pub Falls : ℕ → ℕ → Result Bool BatchFault → Type 0

@@ -1,41 +1,49 @@
 //! What is answered to a line.
 
-ghost use Rattle.std.specs.Prelude.{◌≡◌, ◌∷◌, ◌++◌, [], IfErr, IfOk, OnOk};
-ghost use Rattle.gx_model.specs.Objects.Naming.{kind_word};
+ghost use Rattle.std.specs.Prelude.{◌≡◌, ◌∷◌, ◌++◌, [], IfErr, IfOk};
 ghost use Rattle.gx_model.specs.Objects.{line};
 ghost use Rattle.gx_rev.specs.Answers.{IsNamed};
 ghost use Rattle.gx_rev.specs.Calls.{DenotesText};
 ghost use Rattle.gx_rev.specs.Views.{borrowed};
 ghost use Rattle.gx_rev.specs.declared.shown.Shown.TheVariants.{Object};
-ghost use Rattle.gx_batch.specs.Answers.{directory_of, line_of_parts};
+ghost use Rattle.gx_batch.specs.Answers.{directory_of};
 ghost use Rattle.gx_batch.specs.Batches.{Sent};
 ghost use Rattle.gx_batch.specs.Calls.{GivesAsked, SendsAnswer, SendsObject};
 ghost use Rattle.gx_batch.specs.declared.fault.BatchFault.TheVariants.{WriteFailed};
 
-use crate::BatchFault;
+use crate::{BatchFault, Format};
 use gx_object::{Kind, Name, Namer};
 use gx_repo::Repo;
 use gx_rev::{RevFault, Revision, Shown, body_of};
 use gx_text::{Sink, cut, send};
-use itoa::Buffer;
-use std::alloc::{AllocError, Allocator};
+use std::alloc::Allocator;
 
 /// An object of fewer bytes goes out at once with its line.
 const SMALL: usize = 0x1_0000;
 
-/// Sends the answer to a line. The text is made in the buffer; nothing is sent where there is no memory for it.
-pub(crate) fn answer<N: Namer, W: Sink, A: Allocator + Copy>(
+/// Sends what is answered to a revision: the line of its object in a format, and unless `check` is asked for the object's bytes
+/// and an LF. Where it gives no object, it is answered itself, and behind it `missing`, or `ambiguous` where it abbreviates the
+/// names of several. Behind the path of a directory one `/` may stand, as in `main:docs/`. The buffer is room for the text: what
+/// stands in it is lost.
+///
+/// `WriteFailed`: the sink didn't take all of the answer. `OutOfMemory`: nothing of it went out.
+/// Cost: that of `Revision::eval`, and what goes out: at once where the object has less than 64 KiB. Memory: the revision, and
+/// what goes out at once. Source: git-cat-file(1), "BATCH OUTPUT", and what git 2.39 does with a `/`.
+pub fn answer_revision<N: Namer, W: Sink, A: Allocator + Copy>(
     alloc: A,
     repo: &Repo<N, A>,
     check: bool,
+    format: &Format<A>,
     asked: &[u8],
     buffer: &mut Vec<u8, A>,
     sink: &mut W,
 ) -> Result<(), BatchFault>
-    ensures { SendsAnswer N.name_of W.taken repo.now check asked.now sink.old sink.new result }
+    ensures { SendsAnswer N.name_of W.taken repo.now check format.now.parts.items asked.now sink.old sink.new result }
 {
     match eval_line(alloc, repo, asked) {
-        Ok(Shown::Object(kind, name)) => answer_object(repo, check, kind, &name, buffer, sink),
+        Ok(Shown::Object(kind, name)) => {
+            answer_object(repo, check, format, kind, &name, buffer, sink)
+        }
         Ok(Shown::Submodule(_)) => answer_refusal(asked, b"missing", buffer, sink),
         Err(RevFault::OutOfMemory) => Err(BatchFault::OutOfMemory),
         Err(RevFault::Ambiguous) => answer_refusal(asked, b"ambiguous", buffer, sink),
@@ -106,16 +114,17 @@ fn answer_refusal<W: Sink, A: Allocator>(
 fn answer_object<N: Namer, W: Sink, A: Allocator + Copy>(
     repo: &Repo<N, A>,
     check: bool,
+    format: &Format<A>,
     kind: Kind,
     name: &Name,
     buffer: &mut Vec<u8, A>,
     sink: &mut W,
 ) -> Result<(), BatchFault>
     requires { IsNamed (N.name_of repo.now.0) repo.now.1 (Object kind name.now) }
-    ensures { SendsObject N.name_of W.taken repo.now check name.now sink.old sink.new result }
+    ensures { SendsObject N.name_of W.taken repo.now check format.now.parts.items name.now sink.old sink.new result }
 {
     let body = body_of(repo, name);
-    make_line(buffer, name, kind, body.len())?;
+    format.make_line(name, kind, body.len(), buffer)?;
     if check {
         put(sink, buffer)
     } else if body.len() < SMALL {
@@ -125,26 +134,6 @@ fn answer_object<N: Namer, W: Sink, A: Allocator + Copy>(
     } else {
         put_parts(sink, buffer, body)
     }
-}
-
-/// Makes the line of an object of this name, kind and size.
-fn make_line<A: Allocator>(
-    buffer: &mut Vec<u8, A>,
-    name: &Name,
-    kind: Kind,
-    size: usize,
-) -> Result<(), AllocError>
-    ensures { OnOk result (buffer.new.items ≡ line_of_parts name.now.bytes kind size) }
-{
-    let mut digits = Buffer::new();
-    buffer.clear();
-    buffer.extend_from_slice(name.hex().as_slice())?;
-    buffer.push(b' ')?;
-    buffer.extend_from_slice(kind.word().as_bytes())?;
-    buffer.push(b' ')?;
-    buffer.extend_from_slice(digits.format(size).as_bytes())?;
-    buffer.push(b'\n')?;
-    Ok(())
 }
 
 /// Sends an object's line, its bytes and an LF, one after the other.

@@ -1,19 +1,48 @@
-//! The lines of a source, each answered before the next one is asked for.
+//! The lines of a source, each answered as a revision.
 
+ghost use Rattle.gx_model.specs.Records.HistoryOf.{history_of};
+ghost use Rattle.gx_batch.specs.Answers.{batch_answer};
 ghost use Rattle.gx_batch.specs.Calls.{SendsAnswers};
+ghost use Rattle.gx_batch.specs.Formats.{default_parts};
+ghost use Rattle.gx_batch.specs.declared.ending.LineEnding.TheVariants.{Lf};
 
-use crate::BatchFault;
-use crate::answers::answer;
-use crate::lines::LineReader;
+use crate::answers::answer_revision;
+use crate::{Answerer, BatchFault, Format, LineEnding, answer_lines};
 use gx_object::Namer;
 use gx_repo::Repo;
 use gx_text::{Sink, Source};
 use std::alloc::Allocator;
 
-/// Answers each line of a source as a revision: the object's name, kind and size in a line, and unless `check` is asked for its
-/// bytes and an LF. Where it gives no object, the line itself is answered, and behind it `missing`, or `ambiguous` where it
-/// abbreviates the names of several. A line ends with LF or CR LF. What stands behind the last LF is a line, too, unless it is
-/// empty. Behind the path of a directory one `/` may stand, as in `main:docs/`.
+/// Answers a line as a revision of a repository, as `answer_revision` does.
+#[derive(Drop)]
+pub struct Revisions<'a, N: Namer, A: Allocator> {
+    /// The allocator that a revision's memory is taken of.
+    pub alloc: A,
+    /// The repository.
+    pub repo: &'a Repo<N, A>,
+    /// Whether an object is told by its line alone.
+    pub check: bool,
+    /// How the line of an object is made.
+    pub format: &'a Format<A>,
+}
+
+impl<'a, N: Namer, A: Allocator + Copy> Answerer<A> for Revisions<'a, N, A> {
+    ghost answer_to = { λ self. batch_answer (N.name_of self.repo.now.0) self.check self.format.now.parts.items (history_of self.repo.now.1) };
+
+    fn answer<W: Sink>(
+        &self,
+        line: &[u8],
+        buffer: &mut Vec<u8, A>,
+        sink: &mut W,
+    ) -> Result<(), BatchFault> {
+        answer_revision(self.alloc, self.repo, self.check, self.format, line, buffer, sink)
+    }
+}
+
+/// Answers each line of a source as a revision, in the usual format: the object's name, kind and size in a line, and unless
+/// `check` is asked for its bytes and an LF. Where it gives no object, the line itself is answered, and behind it `missing`, or
+/// `ambiguous` where it abbreviates the names of several. A line ends with LF or CR LF. What stands behind the last LF is a line,
+/// too, unless it is empty. Behind the path of a directory one `/` may stand, as in `main:docs/`.
 ///
 /// Each answer goes out before more of the source is pulled than its line needs: at once where the object has less than 64 KiB.
 ///
@@ -29,13 +58,14 @@ pub fn batch<N: Namer, R: Source + Drop, W: Sink, A: Allocator + Copy>(
     source: R,
     sink: &mut W,
 ) -> Result<(), BatchFault>
-    ensures { SendsAnswers N.name_of W.taken repo.now check (R.coming source) sink.old sink.new result }
+    ensures { SendsAnswers N.name_of W.taken repo.now check default_parts Lf (R.coming source) sink.old sink.new result }
 {
-    let mut lines = LineReader::new(alloc, source)?;
-    let mut line = Vec::new(alloc);
-    let mut buffer = Vec::new(alloc);
-    while lines.next(&mut line)? {
-        answer(alloc, repo, check, &line, &mut buffer, sink)?;
-    }
-    Ok(())
+    let format = Format::usual(alloc)?;
+    let revisions = Revisions {
+        alloc,
+        repo,
+        check,
+        format: &format,
+    };
+    answer_lines(alloc, &revisions, LineEnding::Lf, source, sink)
 }

@@ -1,7 +1,8 @@
-//! Why no further line is answered.
+//! Why no further line is answered, and why a text is no format.
 
 ghost use Rattle.std.specs.Prelude.{◌≡◌};
 ghost use Rattle.gx_batch.specs.declared.fault.BatchFault.TheVariants.{OutOfMemory};
+ghost use Rattle.gx_batch.specs.declared.fault.FormatFault.TheVariants as format;
 
 use std::alloc::{AllocError, AllocFailed};
 use thiserror::Error;
@@ -33,5 +34,32 @@ impl<T: Drop> From<AllocFailed<T>> for BatchFault {
 
     fn from(_error: AllocFailed<T>) -> BatchFault {
         BatchFault::OutOfMemory
+    }
+}
+
+/// Why a text is no format.
+#[derive(Clone, Copy, Debug, PartialEq, Eq, Drop, Error)]
+pub enum FormatFault {
+    /// A growth was refused.
+    #[error("out of memory")]
+    OutOfMemory,
+    /// Behind `%(` stands a name that isn't known here, or no `)`.
+    #[error("bad format")]
+    BadFormat,
+}
+
+impl From<AllocError> for FormatFault {
+    ghost from_gives = { λ _ fault. fault ≡ format.OutOfMemory };
+
+    fn from(_error: AllocError) -> FormatFault {
+        FormatFault::OutOfMemory
+    }
+}
+
+impl<T: Drop> From<AllocFailed<T>> for FormatFault {
+    ghost from_gives = { λ _ fault. fault ≡ format.OutOfMemory };
+
+    fn from(_error: AllocFailed<T>) -> FormatFault {
+        FormatFault::OutOfMemory
     }
 }

@@ -1,12 +1,21 @@
-//! Answers to many revisions, one after the other, as long as a source gives lines: each answer goes out before the next line is
-//! asked for. What is answered to a line is a definition over the repository's history. Source: git-cat-file(1), "BATCH OUTPUT".
+//! Answers to many lines, one after the other, as long as a source gives lines: each answer goes out before the next line is
+//! asked for. What is answered to a revision is a definition over the repository's history. Source: git-cat-file(1),
+//! "BATCH OUTPUT".
 #![tactic(auto)]
 
+mod answerer;
 mod answers;
 mod batching;
+mod ending;
 mod fault;
+mod format;
 pub mod line_laws;
 mod lines;
 
-pub use batching::batch;
-pub use fault::BatchFault;
+pub use answerer::{Answerer, answer_lines};
+pub use answers::answer_revision;
+pub use batching::{Revisions, batch};
+pub use ending::LineEnding;
+pub use fault::{BatchFault, FormatFault};
+pub use format::Format;
+pub use lines::read_lines;

@@ -2,10 +2,12 @@
 
 ghost use Rattle.std.specs.Prelude.{◌≡◌, ◌<◌, ◌≤◌, ◌+◌, [], length, IfOk};
 ghost use Rattle.std.specs.Io.BufRead.{strip_last};
+ghost use Rattle.gx_batch.specs.Lines.{trimmed};
+ghost use Rattle.gx_batch.specs.Batches.{GivesLines};
 ghost use Rattle.gx_batch.specs.Reading.{Falls, IsReaderOf, IsSound, KeepsComing, Passes, ReadsLine, TakesPartOf, most, pulls_left, rest_of, shown_from};
 ghost use Rattle.gx_batch.specs.declared.lines.State.TheVariants.{Open};
 
-use crate::BatchFault;
+use crate::{BatchFault, LineEnding};
 use gx_text::{Failed, Source, cut};
 use std::alloc::{AllocError, Allocator};
 
@@ -53,20 +55,21 @@ impl<R: Source + Drop, A: Allocator + Copy> LineReader<R, A> {
         })
     }
 
-    /// Reads the next line, without its LF, and without a CR directly before that. Answers whether there is one: what stands
-    /// behind the last LF is one where the source ends, unless it is empty. After `false` and after a fault it is over.
+    /// Reads the next line, without its ending. Answers whether there is one: what stands behind the last ending is one where
+    /// the source ends, unless it is empty. After `false` and after a fault it is over.
     ///
     /// Cost: the line's bytes. Memory: the longest line.
-    pub(crate) fn next(&mut self, line: &mut Vec<u8, A>) -> Result<bool, BatchFault>
+    pub(crate) fn next(&mut self, ending: LineEnding, line: &mut Vec<u8, A>) -> Result<bool, BatchFault>
         requires { IsSound self.old }
         ensures sound { IsSound self.new }
-        ensures reads { ReadsLine R.coming self.old self.new line.new result }
+        ensures reads { ReadsLine R.coming ending self.old self.new line.new result }
         ensures falls { Falls (most self.old) (most self.new) result }
     {
+        let byte = ending.byte();
         line.clear();
         loop {
-            if take_part(&self.piece, &mut self.at, self.end, line)? {
-                drop_cr(line);
+            if take_part(byte, &self.piece, &mut self.at, self.end, line)? {
+                trim(ending, line);
                 return Ok(true);
             }
             match self.state {
@@ -94,8 +97,30 @@ impl<R: Source + Drop, A: Allocator + Copy> LineReader<R, A> {
     }
 }
 
-/// Appends what stands before the next LF, and moves behind it, or appends all that is left. Answers whether there is an LF.
+/// Reads all the lines of a source, without their endings. What stands behind the last ending is a line, too, unless it is empty.
+///
+/// `ReadFailed`: the source failed, or gave more than 2^63 - 1 bytes. `OutOfMemory`: a growth was refused.
+/// Cost: the bytes of the lines, however they are cut. Memory: the lines, the longest one again, and a piece of 64 KiB.
+pub fn read_lines<R: Source + Drop, A: Allocator + Copy>(
+    alloc: A,
+    ending: LineEnding,
+    source: R,
+) -> Result<Vec<Vec<u8, A>, A>, BatchFault>
+    ensures { GivesLines ending (R.coming source) result }
+{
+    let mut reader = LineReader::new(alloc, source)?;
+    let mut lines = Vec::new(alloc);
+    let mut line = Vec::new(alloc);
+    while reader.next(ending, &mut line)? {
+        lines.push(line.clone()?)?;
+    }
+    Ok(lines)
+}
+
+/// Appends what stands before the next such byte, and moves behind it, or appends all that is left. Answers whether there is
+/// one.
 fn take_part<A: Allocator>(
+    byte: u8,
     piece: &[u8],
     at: &mut usize,
     end: usize,
@@ -103,10 +128,10 @@ fn take_part<A: Allocator>(
 ) -> Result<bool, AllocError>
     requires { (at.old ≤ end) × (end ≤ length piece.now) }
     ensures within { at.new ≤ end }
-    ensures takes { IfOk result (TakesPartOf piece.now end at.old at.new line.old line.new) }
+    ensures takes { IfOk result (TakesPartOf byte piece.now end at.old at.new line.old line.new) }
 {
     let rest = &piece[*at..end];
-    match cut(rest, b'\n') {
+    match cut(rest, byte) {
         Some((front, after)) => {
             line.extend_from_slice(front)?;
             *at = end - after.len();
@@ -117,6 +142,16 @@ fn take_part<A: Allocator>(
             *at = end;
             Ok(false)
         }
+    }
+}
+
+/// Takes from a line what belongs to its ending: a CR, where it ends with LF.
+fn trim<A: Allocator>(ending: LineEnding, line: &mut Vec<u8, A>)
+    ensures { line.new.items ≡ trimmed ending line.old.items }
+{
+    match ending {
+        LineEnding::Lf => drop_cr(line),
+        LineEnding::Nul => {}
     }
 }
 

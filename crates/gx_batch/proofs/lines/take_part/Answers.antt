@@ -6,17 +6,17 @@ use Rattle.gx_batch.proofs.lines.take_part.Goals as goal
 
 pub overflow_sub-at : goal.overflow_sub-at
 overflow_sub-at g c =
-    let spelled = cut_spelled 10 _ (c.in-Some.front.now, c.in-Some.after.now) (sym c.in-Some.ensures) in
-    (left_behind c.args.piece.now c.in-Some.front.now c.in-Some.after.now c.args.at.now c.args.end c.requires.0 c.requires.1 spelled).within
+    let spelled = cut_spelled c.args.byte _ (c.in-Some.front.now, c.in-Some.after.now) (sym c.in-Some.ensures) in
+    (left_behind c.args.piece.now c.in-Some.front.now c.in-Some.after.now c.args.byte c.args.at.now c.args.end c.requires.0 c.requires.1 spelled).within
 
 pub returns-in_ok-extend_from_slice-in-Some-clause-takes : goal.returns-in_ok-extend_from_slice-in-Some-clause-takes
 returns-in_ok-extend_from_slice-in-Some-clause-takes g c =
     let front = c.in-Some.front.now in
     let after = c.in-Some.after.now in
-    let spelled = cut_spelled 10 _ (front, after) (sym c.in-Some.ensures) in
-    let left = left_behind c.args.piece.now front after c.args.at.now c.args.end c.requires.0 c.requires.1 spelled in
-    (front, cut_lacks 10 _ (front, after) (sym c.in-Some.ensures), spelled ∙ ap (λ xs. front ++ 10 ∷ xs) (sym left.left), c.in_ok-extend_from_slice-in-Some.ensures.items)
+    let spelled = cut_spelled c.args.byte _ (front, after) (sym c.in-Some.ensures) in
+    let left = left_behind c.args.piece.now front after c.args.byte c.args.at.now c.args.end c.requires.0 c.requires.1 spelled in
+    (front, cut_lacks c.args.byte _ (front, after) (sym c.in-Some.ensures), spelled ∙ ap (λ xs. front ++ c.args.byte ∷ xs) (sym left.left), c.in_ok-extend_from_slice-in-Some.ensures.items)
 
 pub returns-in_ok-extend_from_slice-in-None-clause-takes : goal.returns-in_ok-extend_from_slice-in-None-clause-takes
 returns-in_ok-extend_from_slice-in-None-clause-takes g c =
-    (uncut_lacks 10 _ c.in-None.ensures, none_left c.args.piece.now c.args.end, c.in_ok-extend_from_slice-in-None.ensures.items)
+    (uncut_lacks c.args.byte _ c.in-None.ensures, none_left c.args.piece.now c.args.end, c.in_ok-extend_from_slice-in-None.ensures.items)

@@ -6,24 +6,26 @@ use Rattle.gx_batch.proofs.lines.LineReader.next.Goals as goal
 pub returns-then-branch-clause-reads : goal.returns-then-branch-clause-reads
 returns-then-branch-clause-reads g c =
     let old = c.args.self.now in
+    let byte = c.args.ending in
     let i = c.loop-line.self in
     let line = c.loop-line.line.items in
     let now = c.take_part.new.line.items in
-    let part = subst (λ t. TakesPart (slice_range t i.at i.end) (slice_range t c.take_part.new.at i.end) line now c.in_ok-take_part.field-0) c.deref.ensures.value c.in_ok-take_part.ensures.takes in
-    let read = whole_line (shown_reader old (g.R.Source.coming old.source)) (g.R.Source.coming i.source) i.room (rest_of i) (slice_range i.piece.items c.take_part.new.at i.end) line now i.state c.loop-line.invariant.line c.loop-line.invariant.passes (subst (TakesPart (rest_of i) (slice_range i.piece.items c.take_part.new.at i.end) line now) c.if-branch.true part) in
+    let part = subst (λ t. TakesPart byte (slice_range t i.at i.end) (slice_range t c.take_part.new.at i.end) line now c.in_ok-take_part.field-0) c.deref.ensures.value c.in_ok-take_part.ensures.takes in
+    let read = whole_line (shown_reader old (g.R.Source.coming old.source)) (g.R.Source.coming i.source) i.room (rest_of i) (slice_range i.piece.items c.take_part.new.at i.end) line now i.state c.loop-line.invariant.line c.loop-line.invariant.passes (subst (TakesPart byte (rest_of i) (slice_range i.piece.items c.take_part.new.at i.end) line now) c.if-branch.true part) in
     subst (λ l. Reads (shown_reader old (g.R.Source.coming old.source)) (shown_coming i.state i.room (g.R.Source.coming i.source) (slice_range i.piece.items c.take_part.new.at i.end)) l (Ok true)) (sym c.drop_cr.ensures) read
 
 pub loop-line-preserved : goal.loop-line-preserved
 loop-line-preserved g c =
     let old = c.args.self.now in
+    let byte = c.args.ending in
     let i = c.loop-line.self in
     let line = c.loop-line.line.items in
     let now = c.take_part.new.line.items in
     let was = shown_reader old (g.R.Source.coming old.source) in
     let coming = g.R.Source.coming i.source in
     let left = slice_range i.piece.items c.take_part.new.at i.end in
-    let given = subst (λ t. TakesPart (slice_range t i.at i.end) (slice_range t c.take_part.new.at i.end) line now c.in_ok-take_part.field-0) c.deref.ensures.value c.in_ok-take_part.ensures.takes in
-    let part = subst (TakesPart (rest_of i) left line now) c.if-branch.false given in
+    let given = subst (λ t. TakesPart byte (slice_range t i.at i.end) (slice_range t c.take_part.new.at i.end) line now c.in_ok-take_part.field-0) c.deref.ensures.value c.in_ok-take_part.ensures.takes in
+    let part = subst (TakesPart byte (rest_of i) left line now) c.if-branch.false given in
     let same = same_most was coming i.room (rest_of i) left line now i.state part in
     record {
       sound = c.pull.ensures.sound;
@@ -35,26 +37,28 @@ loop-line-preserved g c =
 pub returns-in-Ended-clause-reads : goal.returns-in-Ended-clause-reads
 returns-in-Ended-clause-reads g c =
     let old = c.args.self.now in
+    let byte = c.args.ending in
     let i = c.loop-line.self in
     let line = c.loop-line.line.items in
     let now = c.take_part.new.line.items in
     let was = shown_reader old (g.R.Source.coming old.source) in
     let coming = g.R.Source.coming i.source in
     let left = slice_range i.piece.items c.take_part.new.at i.end in
-    let given = subst (λ t. TakesPart (slice_range t i.at i.end) (slice_range t c.take_part.new.at i.end) line now c.in_ok-take_part.field-0) c.deref.ensures.value c.in_ok-take_part.ensures.takes in
-    let part = subst (TakesPart (rest_of i) left line now) c.if-branch.false given in
+    let given = subst (λ t. TakesPart byte (slice_range t i.at i.end) (slice_range t c.take_part.new.at i.end) line now c.in_ok-take_part.field-0) c.deref.ensures.value c.in_ok-take_part.ensures.takes in
+    let part = subst (TakesPart byte (rest_of i) left line now) c.if-branch.false given in
     let long : c.take_part.new.line.len ≡ length now = omega (arith, c.take_part.new.line.ok.0) in
     ends_so was coming i.room (rest_of i) left line now i.state _ c.in-Ended.is c.loop-line.invariant.line c.loop-line.invariant.passes part (has_some now c.take_part.new.line.len c.is_empty.result long c.is_empty.ensures) (has_none now c.take_part.new.line.len c.is_empty.result long c.is_empty.ensures)
 
 pub returns-in-Failed-clause-reads : goal.returns-in-Failed-clause-reads
 returns-in-Failed-clause-reads g c =
     let old = c.args.self.now in
+    let byte = c.args.ending in
     let i = c.loop-line.self in
     let line = c.loop-line.line.items in
     let now = c.take_part.new.line.items in
     let was = shown_reader old (g.R.Source.coming old.source) in
     let coming = g.R.Source.coming i.source in
     let left = slice_range i.piece.items c.take_part.new.at i.end in
-    let given = subst (λ t. TakesPart (slice_range t i.at i.end) (slice_range t c.take_part.new.at i.end) line now c.in_ok-take_part.field-0) c.deref.ensures.value c.in_ok-take_part.ensures.takes in
-    let part = subst (TakesPart (rest_of i) left line now) c.if-branch.false given in
+    let given = subst (λ t. TakesPart byte (slice_range t i.at i.end) (slice_range t c.take_part.new.at i.end) line now c.in_ok-take_part.field-0) c.deref.ensures.value c.in_ok-take_part.ensures.takes in
+    let part = subst (TakesPart byte (rest_of i) left line now) c.if-branch.false given in
     fails_so was coming i.room (rest_of i) left line now i.state c.in-Failed.is c.loop-line.invariant.line c.loop-line.invariant.passes part

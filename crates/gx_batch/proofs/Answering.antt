@@ -19,6 +19,23 @@ abbrev pub ArePassed : LineEnding → List Bytes → Option Coming → Option Co
 ArePassed ending front None now = Unit {0}
 ArePassed ending front (Some was) now = (left : Coming) × (now ≡ Some left) × (lines_from ending was ≡ front ++ lines_from ending left) × (left.fails ≡ was.fails)
 
+-- one line more
+pub one_passed : (ending : LineEnding) (start coming next : Option Coming) (front : List Bytes) (line : Bytes) → ArePassed ending front start coming → Reads ending coming next line (Ok true) → ArePassed ending (front ++ line ∷ []) start next
+one_passed ending None coming next front line a r = tt
+one_passed ending (Some c) None next front line a r = absurd (cc a.1)
+one_passed ending (Some c) (Some d) next front line a r =
+    let same : d ≡ a.0 = cc a.1 in (
+      r.0,
+      r.1,
+      a.2 ∙ ap (λ (x : Coming). front ++ lines_from ending x) (sym same) ∙ ap (λ ls. front ++ ls) r.2 ∙ sym (append_assoc front (line ∷ []) (lines_from ending r.0)),
+      r.3 ∙ ap (λ (x : Coming). x.fails) same ∙ a.3,
+    )
+
+-- none yet
+pub none_passed : (ending : LineEnding) (start : Option Coming) → ArePassed ending [] start start
+none_passed ending None = tt
+none_passed ending (Some c) = (c, refl, refl, refl)
+
 -- The same as `Answers`, of what a reader is seen as.
 abbrev pub Runs : (Bytes → Bytes) → LineEnding → Option Coming → Option Taken → Option Taken → Result (Unit {0}) BatchFault → Type 0
 Runs answer ending None was now result = (lines : List Bytes) × (fails : Bool) × Answered answer lines fails was now result
@@ -37,27 +54,15 @@ module _ (answer : Bytes → Bytes) (ending : LineEnding) where
 
   -- nothing was read yet
   pub starts : (start : Option Coming) (was : Option Taken) → Goes start start was was
-  starts None was = record { front = []; read = tt; took = took_nothing was }
-  starts (Some c) was = record { front = []; read = (c, refl, refl, refl); took = took_nothing was }
+  starts start was = record { front = []; read = none_passed ending start; took = took_nothing was }
 
   -- one line more
   pub goes_on : (start coming next : Option Coming) (was mid now : Option Taken) (line : Bytes) → Goes start coming was mid → Reads ending coming next line (Ok true) → Took mid now (answer line) → Goes start next was now
   goes_on start coming next was mid now line g r t = record {
     front = g.front ++ line ∷ [];
-    read = more start coming next g.front line g.read r;
+    read = one_passed ending start coming next g.front line g.read r;
     took = subst (Took was now) (sym (flat_map_both answer g.front (line ∷ []) ∙ ap (λ bs. flat_map answer g.front ++ bs) (append-nil (answer line)))) (took_both was mid now (flat_map answer g.front) (answer line) g.took t);
   }
-    where
-      more : (start coming next : Option Coming) (front : List Bytes) (line : Bytes) → ArePassed ending front start coming → Reads ending coming next line (Ok true) → ArePassed ending (front ++ line ∷ []) start next
-      more None coming next front line a r = tt
-      more (Some c) None next front line a r = absurd (cc a.1)
-      more (Some c) (Some d) next front line a r =
-          let same : d ≡ a.0 = cc a.1 in (
-            r.0,
-            r.1,
-            a.2 ∙ ap (λ (x : Coming). front ++ lines_from ending x) (sym same) ∙ ap (λ ls. front ++ ls) r.2 ∙ sym (append_assoc front (line ∷ []) (lines_from ending r.0)),
-            r.3 ∙ ap (λ (x : Coming). x.fails) same ∙ a.3,
-          )
 
   -- an answer didn't go out whole
   pub unanswered : (start coming next : Option Coming) (was mid now : Option Taken) (line : Bytes) (fault : BatchFault) → Goes start coming was mid → Reads ending coming next line (Ok true) → Sent (answer line) mid now (Err fault) → Runs answer ending start was now (Err fault)

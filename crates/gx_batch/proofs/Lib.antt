@@ -4,6 +4,9 @@ pub mod CutLines
 pub mod Endings
 pub mod LeftOutCrs
 pub mod PassedBytes
+pub mod PlainParts
+pub mod ReadFormats
+pub mod ReadLines
 pub mod RestParts
 pub mod SentTexts
 pub mod SpelledLines

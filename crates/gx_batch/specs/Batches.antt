@@ -31,9 +31,13 @@ abbrev pub Answers : (Bytes → Bytes) → LineEnding → Option Coming → Opti
 Answers answer ending None was now result = (lines : List Bytes) × (fails : Bool) × Answered answer lines fails was now result
 Answers answer ending (Some coming) was now result = Answered answer (lines_from ending (heard coming)) (heard coming).fails was now result
 
+-- the texts of lines
+abbrev pub texts_of : {A : Type 0} → Vec (Vec ℕ A) A → List Bytes
+texts_of lines = map (λ line. line.items) lines.items
+
 -- All the lines were read, and the source ended, or it failed behind them.
 abbrev pub AreRead : {A : Type 0} → List Bytes → Bool → Result (Vec (Vec ℕ A) A) BatchFault → Type 0
-AreRead lines fails (Ok read) = (fails ≡ false) × (map (λ line. line.items) read.items ≡ lines)
+AreRead lines fails (Ok read) = (fails ≡ false) × (texts_of read ≡ lines)
 AreRead lines fails (Err ReadFailed) = fails ≡ true
 AreRead lines fails (Err OutOfMemory) = ⊤
 AreRead lines fails (Err WriteFailed) = ⊥

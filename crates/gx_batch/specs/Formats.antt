@@ -1,6 +1,6 @@
 -- Formats: how the line of an object is made.
 -- Source: git-cat-file(1), "BATCH OUTPUT", and what git 2.39 does with a percent sign.
-use Rattle.std.specs.Prelude.{◌≡◌, ℕ, ◌<◌, Bool, ◌==◌, ◌&&◌, if◌then◌else◌, List, [], ◌∷◌, ◌++◌, length, codes, Option, Some, None, Result, Ok, Err, ⊤}
+use Rattle.std.specs.Prelude.{◌≡◌, ◌≢◌, ℕ, ◌<◌, Bool, ◌==◌, ◌&&◌, if◌then◌else◌, List, [], ◌∷◌, ◌++◌, length, codes, Option, Some, None, Result, Ok, Err, ⊤}
 use Rattle.std.specs.Borrow.{Bor}
 use Rattle.std.specs.Fmt.{decimal}
 use Rattle.std.specs.List.{flat_map}
@@ -89,6 +89,10 @@ abbrev pub GivesFirst : Bytes → Result (Option (Part × Bor Bytes)) FormatFaul
 GivesFirst text (Ok None) = text ≡ []
 GivesFirst text (Ok (Some p)) = GivesPart (format_of text) text (Ok p)
 GivesFirst text (Err fault) = GivesPart (format_of text) text (Err fault)
+
+-- no name begins at the front of a text
+abbrev pub IsPlain : Bytes → Type 0
+IsPlain text = (rest : Bytes) → text ≢ codes "%(" ++ rest
 
 -- the same of a text behind `%(`
 abbrev pub GivesNamed : Bytes → Result (Part × Bor Bytes) FormatFault → Type 0

@@ -1,8 +1,10 @@
 -- Worked rows: lines of texts, and what is answered to lines.
-use Rattle.std.specs.Prelude.{◌≡◌, true, false, List, [], ◌∷◌, ◌++◌, map, replicate, codes, refl, None}
+use Rattle.std.specs.Prelude.{◌≡◌, true, false, List, [], ◌∷◌, ◌++◌, map, replicate, codes, refl, Option, None, Some}
 use Rattle.std.specs.Fmt.{digits}
 use Rattle.gx_model.specs.declared.objects.Mode.TheVariants.{File, Gitlink}
 use Rattle.gx_model.specs.Texts.{Bytes, cut_at}
+use Rattle.gx_text.specs.Devices.{Coming}
+use Rattle.gx_model.specs.declared.objects.Kind.TheVariants as kinds
 use Rattle.gx_model.specs.Histories.Files.{FileMap}
 use Rattle.gx_model.specs.Histories.Values.{Commit, blob_value, commit, commit_value, none, tree_value}
 use Rattle.gx_model.specs.Histories.{History, at_commit}
@@ -10,25 +12,44 @@ use Rattle.gx_model.specs.Objects.Naming.{short_name}
 use Rattle.gx_model.specs.Revisions.{revision_of}
 use Rattle.gx_model.specs.Revisions.Denotation.{denoted}
 use Rattle.gx_batch.specs.Answers.{batch_answer, batch_text}
-use Rattle.gx_batch.specs.Lines.{lines_of, without_crs}
+use Rattle.gx_batch.specs.Formats.{default_format, default_parts, format_of, object_line, parts_behind}
+use Rattle.gx_batch.specs.Lines.{lines_from, lines_of, without_crs}
+use Rattle.gx_batch.specs.declared.ending.LineEnding.TheVariants.{Lf, Nul}
+use Rattle.gx_batch.specs.declared.format.Part.{Part}
+use Rattle.gx_batch.specs.declared.format.Part.TheVariants.{Byte, ObjectName, ObjectSize, ObjectType}
 
 -- ---- lines
 
 abbrev with_lf : Bytes → Bytes
 with_lf l = l ++ 10 ∷ []
 
+abbrev with_cr : Bytes → Bytes
+with_cr l = l ++ 13 ∷ []
+
 pub record LineRows : Type 0 where
-  pub none : lines_of [] false ≡ []
-  pub last_without_lf : lines_of (with_lf (codes "HEAD") ++ with_lf [] ++ codes "main:a b") false ≡ codes "HEAD" ∷ [] ∷ codes "main:a b" ∷ []
-  pub last_with_lf : lines_of (with_lf (codes "HEAD") ++ with_lf (codes "main")) false ≡ codes "HEAD" ∷ codes "main" ∷ []
-  pub cut : lines_of (with_lf (codes "HEAD") ++ codes "mai") true ≡ codes "HEAD" ∷ []
+  pub none : lines_of 10 [] false ≡ []
+  pub last_without_lf : lines_of 10 (with_lf (codes "HEAD") ++ with_lf [] ++ codes "main:a b") false ≡ codes "HEAD" ∷ [] ∷ codes "main:a b" ∷ []
+  pub last_with_lf : lines_of 10 (with_lf (codes "HEAD") ++ with_lf (codes "main")) false ≡ codes "HEAD" ∷ codes "main" ∷ []
+  pub cut : lines_of 10 (with_lf (codes "HEAD") ++ codes "mai") true ≡ codes "HEAD" ∷ []
 
 pub line_rows : LineRows
 unfolding lines_of
 line_rows = record { none = refl; last_without_lf = refl; last_with_lf = refl; cut = refl }
 
-abbrev with_cr : Bytes → Bytes
-with_cr l = l ++ 13 ∷ []
+abbrev with_nul : Bytes → Bytes
+with_nul l = l ++ 0 ∷ []
+
+abbrev coming : Bytes → Coming
+coming text = record { bytes = text; fails = false }
+
+-- where lines end with NUL, an LF and a CR are bytes as others are
+pub record NulRows : Type 0 where
+  pub with_lfs : lines_from Nul (coming (with_nul (codes "HEAD") ++ with_nul (with_cr (codes "main:a")) ++ with_lf (codes "main:b"))) ≡ codes "HEAD" ∷ with_cr (codes "main:a") ∷ with_lf (codes "main:b") ∷ []
+  pub with_nuls : lines_from Lf (coming (with_lf (with_nul (codes "HEAD")) ++ codes "main")) ≡ with_nul (codes "HEAD") ∷ codes "main" ∷ []
+
+pub nul_rows : NulRows
+unfolding lines_of without_crs
+nul_rows = record { with_lfs = refl; with_nuls = refl }
 
 -- one CR goes, and only before an LF
 pub record CrRows : Type 0 where
@@ -41,6 +62,38 @@ pub record CrRows : Type 0 where
 pub cr_rows : CrRows
 unfolding without_crs
 cr_rows = record { with_cr_lf = refl; with_two = refl; alone = refl; without_lf = refl; within = refl }
+
+-- ---- formats
+
+abbrev format_lines : List (Bytes × Option (List Part))
+format_lines =
+    (default_format, Some default_parts)
+    ∷ ([], Some [])
+    ∷ (codes "a%(objectname)b", Some (Byte 97 ∷ ObjectName ∷ Byte 98 ∷ []))
+    ∷ (codes "%(objectsize)%(objecttype)", Some (ObjectSize ∷ ObjectType ∷ []))
+    ∷ (codes "%%(objectname)", Some (map Byte (codes "%(objectname)")))
+    ∷ (codes "%%%(objecttype)", Some (Byte 37 ∷ ObjectType ∷ []))
+    ∷ (codes "%x", Some (Byte 37 ∷ Byte 120 ∷ []))
+    ∷ (codes "%", Some (Byte 37 ∷ []))
+    ∷ (codes "%n%)", Some (map Byte (codes "%n%)")))
+    ∷ (codes "%(rest)", None)
+    ∷ (codes "%(deltabase)", None)
+    ∷ (codes "%(objectsize:disk)", None)
+    ∷ (codes "%(objectname ) ", None)
+    ∷ (codes "%()", None)
+    ∷ (codes "%((objecttype)", None)
+    ∷ (codes "%(objectname", None)
+    ∷ (codes "a%(", None)
+    ∷ []
+
+pub record FormatRows : Type 0 where
+  pub table : map (λ r. format_of r.0) format_lines ≡ map (λ r. r.1) format_lines
+  pub line : object_line (ObjectSize ∷ Byte 124 ∷ ObjectType ∷ []) (replicate 20 17) kinds.Blob 12 ≡ codes "12|blob" ++ 10 ∷ []
+  pub empty : object_line [] (replicate 20 17) kinds.Blob 12 ≡ 10 ∷ []
+
+pub format_rows : FormatRows
+unfolding digits parts_behind
+format_rows = record { table = refl; line = refl; empty = refl }
 
 -- ---- answers
 
@@ -96,11 +149,11 @@ abbrev directory : Bytes
 directory = with_lf (ones ++ codes "011d tree 29")
 
 pub record AnswerRows : Type 0 where
-  pub table : map (λ r. batch_answer short_name false held r.0) answers ≡ map (λ r. r.1) answers
+  pub table : map (λ r. batch_answer short_name false default_parts held r.0) answers ≡ map (λ r. r.1) answers
   -- with the first line alone, one after the other
-  pub checked : batch_text short_name true held (codes "main:" ∷ codes "nope" ∷ codes "main:a" ∷ []) ≡ with_lf (ones ++ codes "013c tree 60") ++ with_lf (codes "nope missing") ++ with_lf (ones ++ codes "0002 blob 2")
+  pub checked : batch_text short_name true default_parts held (codes "main:" ∷ codes "nope" ∷ codes "main:a" ∷ []) ≡ with_lf (ones ++ codes "013c tree 60") ++ with_lf (codes "nope missing") ++ with_lf (ones ++ codes "0002 blob 2")
   -- a slash behind a directory's path
-  pub nested : batch_text short_name true held_nested nested_lines ≡ directory ++ directory ++ directory ++ with_lf (codes "main:d// missing") ++ with_lf (codes "main:/ missing") ++ with_lf (codes "main:d/x/ missing")
+  pub nested : batch_text short_name true default_parts held_nested nested_lines ≡ directory ++ directory ++ directory ++ with_lf (codes "main:d// missing") ++ with_lf (codes "main:/ missing") ++ with_lf (codes "main:d/x/ missing")
 
 pub answer_rows : AnswerRows
 unfolding cut_at digits revision_of denoted short_name

@@ -1,7 +1,8 @@
 //! Formats: how the line of an object is made. Source: git-cat-file(1), "BATCH OUTPUT", and what git 2.39 does with a percent sign.
 
-ghost use Rattle.std.specs.Prelude.{◌≡◌, ◌++◌, IfOk, OnOk};
-ghost use Rattle.gx_batch.specs.Formats.{GivesFirst, GivesFormat, GivesNamed, default_parts, object_line, part_text};
+ghost use Rattle.std.specs.Prelude.{◌≡◌, ◌++◌, IfOk, Ok, OnOk};
+ghost use Rattle.std.specs.List.{flat_map};
+ghost use Rattle.gx_batch.specs.Formats.{GivesFirst, GivesFormat, GivesNamed, IsPlain, default_parts, object_line, part_named, part_text};
 
 use crate::FormatFault;
 use gx_object::{Kind, Name};
@@ -66,9 +67,7 @@ impl<A: Allocator + Copy> Format<A> {
         ensures { OnOk result (line.new.items ≡ object_line self.now.parts.items name.now.bytes kind size) }
     {
         line.clear();
-        for part in &self.parts {
-            add_part(*part, name, kind, size, line)?;
-        }
+        add_parts(&self.parts, name, kind, size, line)?;
         line.push(b'\n')?;
         Ok(())
     }
@@ -78,16 +77,9 @@ impl<A: Allocator + Copy> Format<A> {
 fn first_part(text: &[u8]) -> Result<Option<(Part, &[u8])>, FormatFault>
     ensures { GivesFirst text.now result }
 {
-    if let Some(after) = text.strip_prefix(b"%%") {
-        return Ok(Some((Part::Byte(b'%'), after)));
-    }
-    if let Some(after) = text.strip_prefix(b"%(") {
-        let (part, rest) = named_part(after)?;
-        return Ok(Some((part, rest)));
-    }
-    match text.split_first() {
-        Some((byte, after)) => Ok(Some((Part::Byte(*byte), after))),
-        None => Ok(None),
+    match text.strip_prefix(b"%(") {
+        Some(after) => Ok(Some(named_part(after)?)),
+        None => Ok(plain_part(text)),
     }
 }
 
@@ -98,15 +90,53 @@ fn named_part(text: &[u8]) -> Result<(Part, &[u8]), FormatFault>
     let Some((word, after)) = cut(text, b')') else {
         return Err(FormatFault::BadFormat);
     };
-    if word == b"objectname".as_slice() {
-        Ok((Part::ObjectName, after))
-    } else if word == b"objecttype".as_slice() {
-        Ok((Part::ObjectType, after))
-    } else if word == b"objectsize".as_slice() {
-        Ok((Part::ObjectSize, after))
-    } else {
-        Err(FormatFault::BadFormat)
+    match part_named(word) {
+        Some(part) => Ok((part, after)),
+        None => Err(FormatFault::BadFormat),
     }
+}
+
+/// The part of this name.
+fn part_named(word: &[u8]) -> Option<Part>
+    ensures { result ≡ part_named word.now }
+{
+    if word == b"objectname".as_slice() {
+        Some(Part::ObjectName)
+    } else if word == b"objecttype".as_slice() {
+        Some(Part::ObjectType)
+    } else if word == b"objectsize".as_slice() {
+        Some(Part::ObjectSize)
+    } else {
+        None
+    }
+}
+
+/// The byte at the front of a text that doesn't begin with `%(`, once of two percent signs, and what stands behind it.
+fn plain_part(text: &[u8]) -> Option<(Part, &[u8])>
+    requires { IsPlain text.now }
+    ensures { GivesFirst text.now (Ok result) }
+{
+    if let Some(after) = text.strip_prefix(b"%%") {
+        return Some((Part::Byte(b'%'), after));
+    }
+    let (byte, after) = text.split_first()?;
+    Some((Part::Byte(*byte), after))
+}
+
+/// Appends what parts give of an object, one after the other.
+fn add_parts<A: Allocator>(
+    parts: &[Part],
+    name: &Name,
+    kind: Kind,
+    size: usize,
+    line: &mut Vec<u8, A>,
+) -> Result<(), AllocError>
+    ensures { OnOk result (line.new.items ≡ line.old.items ++ flat_map (part_text name.now.bytes kind size) parts.now) }
+{
+    for part in parts {
+        add_part(*part, name, kind, size, line)?;
+    }
+    Ok(())
 }
 
 /// Appends what a part gives of an object.

@@ -6,7 +6,7 @@ use Rattle.gx_batch.proofs.lines.LineReader.next.Goals as goal
 pub returns-then-branch-clause-reads : goal.returns-then-branch-clause-reads
 returns-then-branch-clause-reads g c =
     let old = c.args.self.now in
-    let byte = c.args.ending in
+    let byte = byte_of c.args.ending in
     let i = c.loop-line.self in
     let line = c.loop-line.line.items in
     let now = c.take_part.new.line.items in
@@ -17,7 +17,7 @@ returns-then-branch-clause-reads g c =
 pub loop-line-preserved : goal.loop-line-preserved
 loop-line-preserved g c =
     let old = c.args.self.now in
-    let byte = c.args.ending in
+    let byte = byte_of c.args.ending in
     let i = c.loop-line.self in
     let line = c.loop-line.line.items in
     let now = c.take_part.new.line.items in
@@ -37,7 +37,7 @@ loop-line-preserved g c =
 pub returns-in-Ended-clause-reads : goal.returns-in-Ended-clause-reads
 returns-in-Ended-clause-reads g c =
     let old = c.args.self.now in
-    let byte = c.args.ending in
+    let byte = byte_of c.args.ending in
     let i = c.loop-line.self in
     let line = c.loop-line.line.items in
     let now = c.take_part.new.line.items in
@@ -52,7 +52,7 @@ returns-in-Ended-clause-reads g c =
 pub returns-in-Failed-clause-reads : goal.returns-in-Failed-clause-reads
 returns-in-Failed-clause-reads g c =
     let old = c.args.self.now in
-    let byte = c.args.ending in
+    let byte = byte_of c.args.ending in
     let i = c.loop-line.self in
     let line = c.loop-line.line.items in
     let now = c.take_part.new.line.items in

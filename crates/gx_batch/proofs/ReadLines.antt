@@ -1,0 +1,47 @@
+-- All the lines of a source are read.
+use Rattle.std.proofs.Common.{◌≡◌, ℕ, Bool, true, false, refl, sym, ap, ◌∙◌, List, [], ◌∷◌, ◌++◌, append-nil, map, Option, None, Some, Ok, Err}
+use Rattle.std.specs.Option.{option_map}
+use Rattle.std.specs.declared.vec.Vec.{Vec}
+use Rattle.std.proofs.lemmas.List.{map-append}
+use Rattle.gx_model.specs.Texts.{Bytes}
+use Rattle.gx_text.specs.Devices.{Coming}
+use Rattle.gx_stream.specs.Heard.{heard}
+use Rattle.gx_batch.specs.Lines.{lines_from}
+use Rattle.gx_batch.specs.Reading.{Reads}
+use Rattle.gx_batch.specs.Batches.{GivesLines, texts_of}
+use Rattle.gx_batch.specs.declared.ending.LineEnding.{LineEnding}
+use Rattle.gx_batch.specs.declared.fault.BatchFault.{BatchFault}
+use Rattle.gx_batch.specs.declared.fault.BatchFault.TheVariants.{OutOfMemory, ReadFailed, WriteFailed}
+use Rattle.gx_batch.proofs.Answering.{ArePassed}
+
+-- the texts of one line more
+pub texts_more : {A : Type 0} (lines : List (Vec ℕ A)) (line : Vec ℕ A) (text : Bytes) → line.items ≡ text → map (λ (l : Vec ℕ A). l.items) (lines ++ line ∷ []) ≡ map (λ (l : Vec ℕ A). l.items) lines ++ text ∷ []
+texts_more {A} lines line text e = map-append (λ (l : Vec ℕ A). l.items) lines (line ∷ []) ∙ ap (λ t. map (λ (l : Vec ℕ A). l.items) lines ++ t ∷ []) e
+
+module _ {A : Type 0} (ending : LineEnding) where
+  -- there is no memory
+  pub lines_unheld : (coming : Option Coming) → GivesLines {A = A} ending coming (Err OutOfMemory)
+  lines_unheld None = ([], false, tt)
+  lines_unheld (Some c) = tt
+
+  -- no line is left
+  pub lines_read : (coming here next : Option Coming) (line : Bytes) (lines : Vec (Vec ℕ A) A) → ArePassed ending (texts_of lines) (option_map heard coming) here → Reads ending here next line (Ok false) → GivesLines ending coming (Ok lines)
+  lines_read None here next line lines a r = (texts_of lines, false, refl, refl)
+  lines_read (Some c) None next line lines a r = absurd (cc a.1)
+  lines_read (Some c) (Some d) next line lines a r =
+      let same : d ≡ a.0 = cc a.1 in
+      let front = texts_of lines in
+      let none = ap (lines_from ending) (sym same) ∙ r.0 in
+      (sym a.3 ∙ ap (λ (x : Coming). x.fails) (sym same) ∙ r.1, sym (a.2 ∙ ap (λ ls. front ++ ls) none ∙ append-nil front))
+
+  -- no line is left, and the source failed
+  pub lines_failed : (coming here next : Option Coming) (line : Bytes) (front : List Bytes) (fault : BatchFault) → ArePassed ending front (option_map heard coming) here → Reads ending here next line (Err fault) → GivesLines {A = A} ending coming (Err fault)
+  lines_failed coming here next line front OutOfMemory a r = lines_unheld coming
+  lines_failed None None next line front ReadFailed a r = ([], true, refl)
+  lines_failed None (Some d) next line front ReadFailed a r = ([], true, refl)
+  lines_failed (Some c) None next line front ReadFailed a r = absurd (cc a.1)
+  lines_failed (Some c) (Some d) next line front ReadFailed a r =
+      let same : d ≡ a.0 = cc a.1 in
+      sym a.3 ∙ ap (λ (x : Coming). x.fails) (sym same) ∙ r.1
+  lines_failed coming None next line front WriteFailed a r = absurd r
+  lines_failed coming (Some d) next line front WriteFailed a r = absurd r

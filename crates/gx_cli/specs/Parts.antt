@@ -25,6 +25,8 @@ use Rattle.gx_text.specs.Devices.{Coming}
 use Rattle.gx_object.specs.declared.name.Name.{Name}
 use Rattle.gx_archive.specs.Archives.{archive_of}
 use Rattle.gx_batch.specs.Calls.{SendsAnswers}
+use Rattle.gx_batch.specs.Formats.{default_parts}
+use Rattle.gx_batch.specs.declared.ending.LineEnding.TheVariants.{Lf}
 use Rattle.gx_batch.specs.declared.fault.BatchFault.{BatchFault}
 use Rattle.gx_import.specs.declared.fault.ImportFault.{ImportFault}
 use Rattle.gx_import.specs.declared.report.Report.{Report}
@@ -190,7 +192,7 @@ module _ {N W : Type 0} (name_of : N → Kind → Bytes → Bytes) (taken : W �
   -- the answers to the lines of a source go out, with their fault among those of the commands
   abbrev pub Batches : Repository N → Bool → Option Coming → W → W → Result (Unit {0}) CliFault → Type 0
   Batches repo check coming old new result =
-      (answer : Result (Unit {0}) BatchFault) × SendsAnswers name_of taken repo check coming old new answer × (result ≡ batch_answer answer)
+      (answer : Result (Unit {0}) BatchFault) × SendsAnswers name_of taken repo check default_parts Lf coming old new answer × (result ≡ batch_answer answer)
 
   -- a stream is imported into a repository, and the next store text is told, and what was imported
   abbrev pub ImportsTo : {A : Type 0} → Repository N → Features → Option Coming → W → W → Outcome A × Option Report → Type 0

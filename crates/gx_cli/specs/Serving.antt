@@ -23,6 +23,8 @@ use Rattle.gx_import.specs.declared.report.Report.{Report}
 use Rattle.gx_adapt.specs.declared.report.Report.{Report as AdaptReport}
 use Rattle.gx_batch.specs.Answers.{batch_answer as answered_by}
 use Rattle.gx_batch.specs.Batches.{Answers}
+use Rattle.gx_batch.specs.Formats.{default_parts}
+use Rattle.gx_batch.specs.declared.ending.LineEnding.TheVariants.{Lf}
 use Rattle.gx_batch.specs.declared.fault.BatchFault.{BatchFault}
 use Rattle.gx_repo.specs.Dropping.{dropped}
 use Rattle.gx_rev.specs.declared.fault.RevFault.TheVariants.{UnknownRef}
@@ -182,7 +184,7 @@ module _ (name : Kind → Bytes → Bytes) {A : Type 0} where
   abbrev pub BatchesStored : Bool → Stored Records → Option Coming → Option Taken → Option Taken → Outcome A → Type 0
   BatchesStored check (Ok repository) coming was now o =
       IsUnopened was now o
-      ⊎ ((answer : Result (Unit {0}) BatchFault) × Answers (answered_by name check (history_of repository)) coming was now answer × IsOutcome (batch_answer answer) o)
+      ⊎ ((answer : Result (Unit {0}) BatchFault) × Answers (answered_by name check default_parts (history_of repository)) Lf coming was now answer × IsOutcome (batch_answer answer) o)
   BatchesStored check (Err f) coming was now o = IsUnread f was now o
 
   -- the same of the store of a text, which is read first

@@ -1,9 +1,8 @@
 -- The parts of a format, read one after the other.
-use Rattle.std.proofs.Common.{◌≡◌, ℕ, suc, ◌+◌, ◌<◌, true, false, eqb, nat_eq, [], ◌∷◌, ◌++◌, List, Option, None, Some, Err, refl, sym, ap, subst, ◌∙◌, arith, length, get_or, take, length-append, append_assoc, append-nil}
+use Rattle.std.proofs.Common.{◌≡◌, ℕ, suc, ◌+◌, ◌<◌, true, false, eqb, nat_eq, [], ◌∷◌, ◌++◌, List, Option, None, Some, Err, refl, sym, ap, subst, ◌∙◌, arith, length, get_or, drop, length-append, append_assoc, append-nil}
 use Rattle.std.specs.List.{flat_map}
 use Rattle.std.specs.Option.{option_map}
-use Rattle.std.proofs.Math.Seq.{take-suc}
-use Rattle.std.proofs.lemmas.Grind.{flat_map-append}
+use Rattle.std.proofs.Math.Seq.{drop-cons}
 use Rattle.gx_model.specs.Texts.{Bytes, cut_at, lacks}
 use Rattle.gx_model.proofs.Cuts.{cut_spelled, lacks-cons}
 use Rattle.gx_batch.specs.Formats.{GivesFormat, GivesPart, format_of, part_named, parts_behind, with_named, with_part}
@@ -83,13 +82,14 @@ module _ (whole : Option (List Part)) (done : List Part) where
   all_done rest r e = e ∙ ap (λ bs. option_map (λ ps. done ++ ps) (format_of bs)) r ∙ ap (option_map (λ ps. done ++ ps)) nothing ∙ ap Some (append-nil done)
 
 -- what is left is no format, and so is all
-pub none_read : {A : Type 0} (text rest : Bytes) (done : List Part) (fault : FormatFault) → format_of text ≡ option_map (λ ps. done ++ ps) (format_of rest) → GivesPart (format_of rest) rest (Err fault) → GivesFormat {A = A} text (Err fault)
-none_read text rest done BadFormat e h = e ∙ ap (option_map (λ ps. done ++ ps)) h
-none_read text rest done OutOfMemory e h = tt
+pub none_read : (A : Type 0) (text rest : Bytes) (done : List Part) (fault : FormatFault) → format_of text ≡ option_map (λ ps. done ++ ps) (format_of rest) → GivesPart (format_of rest) rest (Err fault) → GivesFormat {A = A} text (Err fault)
+none_read A text rest done BadFormat e h = e ∙ ap (option_map (λ ps. done ++ ps)) h
+none_read A text rest done OutOfMemory e h = tt
 
--- what is added to a list's texts, one after the other
-pub texts_next : {X Y : Type 0} (f : X → List Y) (xs : List X) (i : ℕ) (x d : X) (old mid now : List Y) → i < length xs → x ≡ get_or xs i d → mid ≡ old ++ flat_map f (take i xs) → now ≡ mid ++ f x → now ≡ old ++ flat_map f (take (i + 1) xs)
-texts_next f xs i x d old mid now h e m n =
+-- what a list gives, one after the other: one more, and what the others give
+pub parts_next : {X Y : Type 0} (f : X → List Y) (xs : List X) (i : ℕ) (x d : X) (all mid now : List Y) → i < length xs → x ≡ get_or xs i d → mid ++ flat_map f (drop i xs) ≡ all → now ≡ mid ++ f x → now ++ flat_map f (drop (i + 1) xs) ≡ all
+parts_next f xs i x d all mid now h e m n =
     let step : i + 1 ≡ suc i = omega arith in
-    n ∙ ap (λ t. t ++ f x) m ∙ append_assoc old (flat_map f (take i xs)) (f x)
-    ∙ ap (λ t. old ++ t) (ap (λ y. flat_map f (take i xs) ++ f y) e ∙ ap (λ t. flat_map f (take i xs) ++ t) (sym (append-nil (f (get_or xs i d)))) ∙ sym (flat_map-append f (take i xs) (get_or xs i d ∷ [])) ∙ ap (flat_map f) (sym (take-suc xs i d h)) ∙ ap (λ k. flat_map f (take k xs)) (sym step))
+    let left = flat_map f (drop (i + 1) xs) in
+    let first : drop i xs ≡ x ∷ drop (i + 1) xs = drop-cons xs i d h ∙ ap (λ y. y ∷ drop (suc i) xs) (sym e) ∙ ap (λ k. x ∷ drop k xs) (sym step) in
+    ap (λ t. t ++ left) n ∙ append_assoc mid (f x) left ∙ ap (λ ys. mid ++ flat_map f ys) (sym first) ∙ m

@@ -14,11 +14,15 @@ use Rattle.gx_batch.specs.declared.fault.BatchFault.{BatchFault}
 use Rattle.gx_batch.specs.declared.fault.BatchFault.TheVariants.{OutOfMemory, ReadFailed, WriteFailed}
 use Rattle.gx_batch.proofs.Answering.{ArePassed}
 
--- the texts of one line more
-pub texts_more : {A : Type 0} (lines : List (Vec ℕ A)) (line : Vec ℕ A) (text : Bytes) → line.items ≡ text → map (λ (l : Vec ℕ A). l.items) (lines ++ line ∷ []) ≡ map (λ (l : Vec ℕ A). l.items) lines ++ text ∷ []
-texts_more {A} lines line text e = map-append (λ (l : Vec ℕ A). l.items) lines (line ∷ []) ∙ ap (λ t. map (λ (l : Vec ℕ A). l.items) lines ++ t ∷ []) e
+-- the texts of no lines, and of one line more
+pub texts_none : {A : Type 0} (lines : Vec (Vec ℕ A) A) → lines.items ≡ [] → texts_of lines ≡ []
+texts_none {A} lines e = ap (map (λ (l : Vec ℕ A). l.items)) e
 
-module _ {A : Type 0} (ending : LineEnding) where
+pub texts_more : {A : Type 0} (lines more : Vec (Vec ℕ A) A) (line : Vec ℕ A) (text : Bytes) → line.items ≡ text → more.items ≡ lines.items ++ line ∷ [] → texts_of more ≡ texts_of lines ++ text ∷ []
+texts_more {A} lines more line text e m =
+    ap (map (λ (l : Vec ℕ A). l.items)) m ∙ map-append (λ (l : Vec ℕ A). l.items) lines.items (line ∷ []) ∙ ap (λ t. texts_of lines ++ t ∷ []) e
+
+module _ (A : Type 0) (ending : LineEnding) where
   -- there is no memory
   pub lines_unheld : (coming : Option Coming) → GivesLines {A = A} ending coming (Err OutOfMemory)
   lines_unheld None = ([], false, tt)
@@ -26,7 +30,7 @@ module _ {A : Type 0} (ending : LineEnding) where
 
   -- no line is left
   pub lines_read : (coming here next : Option Coming) (line : Bytes) (lines : Vec (Vec ℕ A) A) → ArePassed ending (texts_of lines) (option_map heard coming) here → Reads ending here next line (Ok false) → GivesLines ending coming (Ok lines)
-  lines_read None here next line lines a r = (texts_of lines, false, refl, refl)
+  lines_read None here next line lines a r = (texts_of lines, false, (refl, refl))
   lines_read (Some c) None next line lines a r = absurd (cc a.1)
   lines_read (Some c) (Some d) next line lines a r =
       let same : d ≡ a.0 = cc a.1 in

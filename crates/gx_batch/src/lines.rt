@@ -112,7 +112,7 @@ pub fn read_lines<R: Source + Drop, A: Allocator + Copy>(
     let mut lines = Vec::new(alloc);
     let mut line = Vec::new(alloc);
     while reader.next(ending, &mut line)? {
-        lines.push(line.clone()?)?;
+        lines.push(Vec::from_slice(alloc, &line)?)?;
     }
     Ok(lines)
 }

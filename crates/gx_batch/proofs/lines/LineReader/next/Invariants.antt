@@ -1,12 +1,13 @@
 use Rattle.std.proofs.Common.{◌≡◌, ◌+◌, ◌≤◌, true, length}
 use Rattle.gx_model.specs.Texts.{lacks}
+use Rattle.gx_batch.specs.Lines.{byte_of}
 use Rattle.gx_batch.specs.Reading.{IsSound, Passes, most, pulls_left, shown_reader}
 use Rattle.gx_batch.proofs.lines.LineReader.next.Given as goal
 
 abbrev pub invariant-loop-line : goal.invariant-loop-line
 invariant-loop-line g l = record {
   sound : IsSound l.self;
-  line : lacks 10 l.line.items ≡ true;
+  line : lacks (byte_of l.ending) l.line.items ≡ true;
   passes : Passes l.line.items (shown_reader l.fn.self (g.R.Source.coming l.fn.self.source)) (shown_reader l.self (g.R.Source.coming l.self.source));
   most : length l.line.items + most l.self ≤ most l.fn.self;
 }

@@ -1,5 +1,5 @@
 -- The front of a format: a name, two percent signs, or a byte that stands for itself.
-use Rattle.std.proofs.Common.{◌≡◌, ◌≢◌, ℕ, ◌+◌, ◌<◌, true, false, Bool, eqb, if◌then◌else◌, [], ◌∷◌, ◌++◌, length, Some, Result, Ok, Err, codes, refl, ap, subst, ◌∙◌, arith}
+use Rattle.std.proofs.Common.{◌≡◌, ◌≢◌, ℕ, ◌<◌, true, false, Bool, eqb, if◌then◌else◌, [], ◌∷◌, ◌++◌, length, Some, Result, Ok, Err, codes, refl, ap, subst, ◌∙◌, arith}
 use Rattle.std.specs.Prelude.{◌&&◌}
 use Rattle.std.specs.Borrow.{Bor}
 use Rattle.std.proofs.lemmas.Bool.{eqb-true}

@@ -1,5 +1,5 @@
 -- The parts of a format, read one after the other.
-use Rattle.std.proofs.Common.{◌≡◌, ℕ, suc, ◌+◌, ◌<◌, true, false, eqb, nat_eq, [], ◌∷◌, ◌++◌, List, Option, None, Some, Err, refl, sym, ap, subst, ◌∙◌, arith, length, get_or, drop, length-append, append_assoc, append-nil}
+use Rattle.std.proofs.Common.{◌≡◌, ℕ, suc, ◌+◌, ◌<◌, true, false, eqb, [], ◌∷◌, ◌++◌, List, Option, None, Some, Err, refl, sym, ap, ◌∙◌, arith, length, get_or, drop, length-append, append_assoc, append-nil}
 use Rattle.std.specs.List.{flat_map}
 use Rattle.std.specs.Option.{option_map}
 use Rattle.std.proofs.Math.Seq.{drop-cons}
@@ -9,7 +9,6 @@ use Rattle.gx_batch.specs.Formats.{GivesFormat, GivesPart, format_of, part_named
 use Rattle.gx_batch.specs.declared.fault.FormatFault.{FormatFault}
 use Rattle.gx_batch.specs.declared.fault.FormatFault.TheVariants.{BadFormat, OutOfMemory}
 use Rattle.gx_batch.specs.declared.format.Part.{Part}
-use Rattle.gx_batch.specs.declared.format.Part.TheVariants.{Byte}
 use Rattle.gx_batch.proofs.CutLines.{cut_lacks, uncut_lacks}
 
 -- ---- names

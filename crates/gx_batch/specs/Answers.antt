@@ -1,6 +1,6 @@
 -- What is answered to a line: the object that it names as a revision, or why there is none.
 -- Source: git-cat-file(1), "BATCH OUTPUT", and what git 2.39 does with a `/` behind a path.
-use Rattle.std.specs.Prelude.{ℕ, Bool, nat_eq, if◌then◌else◌, List, [], ◌∷◌, ◌++◌, length, codes, Option, Some, None, Ok, Err}
+use Rattle.std.specs.Prelude.{Bool, nat_eq, if◌then◌else◌, List, [], ◌∷◌, ◌++◌, length, codes, Option, Some, None, Ok, Err}
 use Rattle.std.specs.List.{ends_with, flat_map}
 use Rattle.gx_model.specs.declared.objects.Kind.{Kind}
 use Rattle.gx_model.specs.declared.faults.Fault.{Fault}

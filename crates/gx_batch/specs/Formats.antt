@@ -1,6 +1,6 @@
 -- Formats: how the line of an object is made.
 -- Source: git-cat-file(1), "BATCH OUTPUT", and what git 2.39 does with a percent sign.
-use Rattle.std.specs.Prelude.{◌≡◌, ◌≢◌, ℕ, ◌<◌, Bool, ◌==◌, ◌&&◌, if◌then◌else◌, List, [], ◌∷◌, ◌++◌, length, codes, Option, Some, None, Result, Ok, Err, ⊤}
+use Rattle.std.specs.Prelude.{◌≡◌, ◌≢◌, ℕ, ◌<◌, ◌==◌, ◌&&◌, if◌then◌else◌, List, [], ◌∷◌, ◌++◌, length, codes, Option, Some, None, Result, Ok, Err, ⊤}
 use Rattle.std.specs.Borrow.{Bor}
 use Rattle.std.specs.Fmt.{decimal}
 use Rattle.std.specs.List.{flat_map}
@@ -21,10 +21,10 @@ use Rattle.gx_batch.specs.declared.format.Part.TheVariants.{Byte, ObjectName, Ob
 abbrev pub part_named : Bytes → Option Part
 part_named word =
     if same_bytes word (codes "objectname")
-        then Some ObjectName
-        else if same_bytes word (codes "objecttype")
-            then Some ObjectType
-            else if same_bytes word (codes "objectsize") then Some ObjectSize else None
+    then Some ObjectName
+    else if same_bytes word (codes "objecttype")
+    then Some ObjectType
+    else if same_bytes word (codes "objectsize") then Some ObjectSize else None
 
 -- a part before others
 abbrev pub with_part : Part → Option (List Part) → Option (List Part)
@@ -40,8 +40,8 @@ parts_behind None [] = Some []
 parts_behind None (b ∷ []) = Some (Byte b ∷ [])
 parts_behind None (b ∷ c ∷ bs) =
     if b == 37 && c == 37
-        then with_part (Byte 37) (parts_behind None bs)
-        else if b == 37 && c == 40 then parts_behind (Some []) bs else with_part (Byte b) (parts_behind None (c ∷ bs))
+    then with_part (Byte 37) (parts_behind None bs)
+    else if b == 37 && c == 40 then parts_behind (Some []) bs else with_part (Byte b) (parts_behind None (c ∷ bs))
 parts_behind (Some word) [] = None
 parts_behind (Some word) (b ∷ bs) = if b == 41 then with_named (part_named word) (parts_behind None bs) else parts_behind (Some (word ++ b ∷ [])) bs
 

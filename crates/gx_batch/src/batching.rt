@@ -35,7 +35,15 @@ impl<'a, N: Namer, A: Allocator + Copy> Answerer<A> for Revisions<'a, N, A> {
         buffer: &mut Vec<u8, A>,
         sink: &mut W,
     ) -> Result<(), BatchFault> {
-        answer_revision(self.alloc, self.repo, self.check, self.format, line, buffer, sink)
+        answer_revision(
+            self.alloc,
+            self.repo,
+            self.check,
+            self.format,
+            line,
+            buffer,
+            sink,
+        )
     }
 }
 

@@ -59,7 +59,11 @@ impl<R: Source + Drop, A: Allocator + Copy> LineReader<R, A> {
     /// the source ends, unless it is empty. After `false` and after a fault it is over.
     ///
     /// Cost: the line's bytes. Memory: the longest line.
-    pub(crate) fn next(&mut self, ending: LineEnding, line: &mut Vec<u8, A>) -> Result<bool, BatchFault>
+    pub(crate) fn next(
+        &mut self,
+        ending: LineEnding,
+        line: &mut Vec<u8, A>,
+    ) -> Result<bool, BatchFault>
         requires { IsSound self.old }
         ensures sound { IsSound self.new }
         ensures reads { ReadsLine R.coming ending self.old self.new line.new result }

@@ -1,7 +1,7 @@
 //! Answers where memory fails, and answers of large objects.
 
 use crate::given::opened;
-use gx_batch::{BatchFault, batch};
+use gx_batch::{BatchFault, Format, FormatFault, LineEnding, Revisions, answer_lines, batch, read_lines};
 use gx_devices::Refusing;
 use gx_object::Sha1Namer;
 use gx_repo::Repo;
@@ -111,5 +111,81 @@ fn large_objects_go_out_whole(rt: HostRuntime) -> Result<(), Fail> {
     assert!(rt; is_whole(rt.alloc(), below, 65_535, state)?);
     let above = "dbdcf4b7feebd9fab1c18b1b8c016c8e56f33962";
     assert!(rt; is_whole(rt.alloc(), above, 65_536, state)?);
+    Ok(())
+}
+
+/// Whether these are the answers to lines that end so, in a format, without the objects' bytes.
+fn is_formatted(
+    alloc: Global,
+    repo: &Repo<Sha1Namer, Global>,
+    (format, ending): (&[u8], LineEnding),
+    lines: &[u8],
+    answers: &[u8],
+) -> bool {
+    let (Ok(format), Ok(mut sink)) = (Format::read(alloc, format), Held::new(alloc, 1024)) else {
+        return false;
+    };
+    let revisions = Revisions {
+        alloc,
+        repo,
+        check: true,
+        format: &format,
+    };
+    let source = Bytes::new(lines, 4, false);
+    answer_lines(alloc, &revisions, ending, source, &mut sink) == Ok(()) && sink.bytes() == answers
+}
+
+/// Expected is what `git cat-file --batch-check` of git 2.39 says.
+#[test]
+fn objects_are_told_in_formats(rt: HostRuntime) -> Result<(), Fail> {
+    let state = RandomState::new(&rt)?;
+    let Ok(repo) = opened(rt.alloc(), STORE, state) else {
+        return Err(Fail::new("a store"));
+    };
+    let parts = b"%(objectsize)|%%%(objecttype) %(objectname)%x%".as_slice();
+    let told = b"3|%blob 45b983be36b73c0788dc9cbcb76cbb80fc7bb057%x%\nnope missing\n".as_slice();
+    assert!(rt; is_formatted(rt.alloc(), &repo, (parts, LineEnding::Lf), b"main:a\r\nnope", told));
+    let kind = b"%(objecttype)".as_slice();
+    let lines = b"main:a\0main:a\r\0main\0\0main:a\n".as_slice();
+    let kinds = b"blob\nmain:a\r missing\ncommit\n missing\nmain:a\n missing\n".as_slice();
+    assert!(rt; is_formatted(rt.alloc(), &repo, (kind, LineEnding::Nul), lines, kinds));
+    assert!(rt; is_formatted(rt.alloc(), &repo, (b"", LineEnding::Lf), b"main", b"\n"));
+    Ok(())
+}
+
+#[test]
+fn unknown_names_are_no_format(rt: HostRuntime) -> Result<(), Fail> {
+    for text in ["%(rest)", "a%(", "%(objectname", "%()", "%(objectsize:disk)"] {
+        let refused = Format::read(rt.alloc(), text.as_bytes()).err();
+        assert!(rt; refused == Some(FormatFault::BadFormat), "{text}");
+    }
+    Ok(())
+}
+
+/// The lines of a text that end so, each with a bar behind it; nothing where they aren't all read.
+fn lines_of(
+    alloc: Global,
+    ending: LineEnding,
+    source: Bytes<'_>,
+) -> Result<Vec<u8, Global>, AllocError> {
+    let mut text = Vec::new(alloc);
+    if let Ok(lines) = read_lines(alloc, ending, source) {
+        for line in &lines {
+            text.extend_from_slice(line)?;
+            text.push(b'|')?;
+        }
+    }
+    Ok(text)
+}
+
+#[test]
+fn lines_are_read_as_they_end(rt: HostRuntime) -> Result<(), Fail> {
+    let text = b"main\r\n\nv1\0x".as_slice();
+    let lf = lines_of(rt.alloc(), LineEnding::Lf, Bytes::new(text, 1, false))?;
+    assert!(rt; lf == b"main||v1\0x|".as_slice());
+    let nul = lines_of(rt.alloc(), LineEnding::Nul, Bytes::new(text, 100, false))?;
+    assert!(rt; nul == b"main\r\n\nv1|x|".as_slice());
+    let cut = lines_of(rt.alloc(), LineEnding::Nul, Bytes::new(text, 3, true))?;
+    assert!(rt; cut.is_empty());
     Ok(())
 }
